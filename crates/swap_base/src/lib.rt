@@ -1,0 +1,19 @@
+//! What every crate of the swap stands on: lists and texts that contracts see as lists, want of memory, faults with a reason, and texts put together from pieces.
+//!
+//! Read `specs/Fault.antt` first: `Gives` says that a call answers what a definition answers, unless memory runs out.
+#![tactic(auto)]
+
+mod copy;
+mod fault;
+mod listed;
+mod pieces;
+mod text;
+
+pub use copy::TryCopy;
+pub use fault::{Fault, NoMemory};
+pub use listed::Listed;
+pub use pieces::{Piece, put};
+pub use text::ByteText;
+
+#[cfg(test)]
+mod tests;

@@ -1,0 +1,22 @@
+use super::*;
+use std::test::Fail;
+
+#[test]
+fn copies_are_equal(rt: HostRuntime) -> Result<(), Fail> {
+    let text = ByteText::from_slice(rt.alloc(), b"swap")?;
+    let mut list = Listed::empty(rt.alloc());
+    list.push(text)?;
+    let other = list.copy()?;
+    assert_eq!(rt; other.len(), 1);
+    assert_eq!(rt; other.as_slice()[0].as_slice(), b"swap".as_slice());
+    Ok(())
+}
+
+#[test]
+fn pieces_are_put(rt: HostRuntime) -> Result<(), Fail> {
+    let mut out = Vec::new(rt.alloc());
+    let pieces = [Piece::Text("ledger "), Piece::Number(10), Piece::Bytes(b"!")];
+    put(&mut out, &pieces)?;
+    assert_eq!(rt; out.as_slice(), b"ledger 10!".as_slice());
+    Ok(())
+}
