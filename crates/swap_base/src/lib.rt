@@ -5,12 +5,14 @@
 
 mod copy;
 mod fault;
+mod ids;
 mod listed;
 mod pieces;
 mod text;
 
 pub use copy::TryCopy;
 pub use fault::{Fault, NoMemory};
+pub use ids::{ArcId, Digest, LockId, PartyId};
 pub use listed::Listed;
 pub use pieces::{Piece, put};
 pub use text::ByteText;

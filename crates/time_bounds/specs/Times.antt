@@ -1,0 +1,24 @@
+-- The times of a deal, and the bound on the paths that end in a leader.
+use Rattle.std.specs.Prelude.{ℕ, ◌+◌, ◌-◌, ◌*◌, min}
+
+-- by so many arcs a path to a leader is bounded: n parties, so many leaders, at most h followers in a row
+abbrev pub need : ℕ → ℕ → ℕ → ℕ
+need n leaders h = min (n - 1) (leaders * (h + 1) - 1)
+
+abbrev pub open_by : ℕ → ℕ → ℕ → ℕ
+open_by start delta bound = start + bound * delta
+
+abbrev pub deadline : ℕ → ℕ → ℕ → ℕ → ℕ
+deadline start delta bound k = start + (bound + 1 + k) * delta
+
+abbrev pub last_expiry : ℕ → ℕ → ℕ → ℕ
+last_expiry start delta bound = start + (2 * bound + 1) * delta
+
+abbrev pub own_expiry : ℕ → ℕ → ℕ → ℕ
+own_expiry start delta bound = start + (bound + 1) * delta
+
+abbrev pub horizon : ℕ → ℕ → ℕ → ℕ
+horizon start delta bound = start + (2 * bound + 2) * delta
+
+abbrev pub timelock : ℕ → ℕ → ℕ → ℕ → ℕ
+timelock start delta bound dist = start + (bound + 1 + dist) * delta
