@@ -1,0 +1,4 @@
+pub mod Locks
+pub mod Terms
+pub mod Table
+pub mod Value

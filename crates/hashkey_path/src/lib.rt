@@ -1,0 +1,8 @@
+//! Hashkeys: a secret, the path that it took from a party to its leader, and nested signatures over the suffixes of that path (Herlihy 2018, section 4.1).
+//!
+//! Read `specs/Hashkey.antt` first: `IsValidHashkey` speaks of all suffixes at once, `answer_of` says what `check` answers.
+#![tactic(auto)]
+
+mod hashkey;
+
+pub use hashkey::{Hashkey, HashkeyAnswer, SigList};

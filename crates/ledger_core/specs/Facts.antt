@@ -1,0 +1,40 @@
+-- What is asked of a list of entries.
+use Rattle.std.specs.Prelude.{◌==◌, ℕ, Bool, true, false, List, Option, Some, None, is_some, option_map, position, if◌then◌else◌}
+use Rattle.std.specs.List.{list_any}
+use Rattle.escrow_core.specs.declared.terms.Terms.{Terms}
+use Rattle.escrow_core.specs.Terms.{same_terms}
+use Rattle.ledger_core.specs.declared.entry.Call.{Call}
+use Rattle.ledger_core.specs.declared.entry.Call.TheVariants as calls
+use Rattle.ledger_core.specs.declared.entry.What.{What}
+use Rattle.ledger_core.specs.declared.entry.What.TheVariants.{Call as Made, Tick}
+use Rattle.ledger_core.specs.declared.entry.Entry.{Entry}
+use Rattle.ledger_core.specs.declared.facts.Published.{Published}
+use Rattle.ledger_core.specs.declared.facts.CallKind.{CallKind}
+use Rattle.ledger_core.specs.declared.facts.CallKind.TheVariants.{Publish, Unlock, Claim, Refund}
+use Rattle.ledger_core.specs.History.{Publication, published, opening, accepted, sent_by}
+
+abbrev pub shown_as : Terms → Publication → Published
+shown_as t p = record { height = p.height; correct = same_terms p.terms t }
+
+-- the accepted publish, and whether its terms are t
+abbrev pub published_as : Terms → List Entry → Option Published
+published_as t h = option_map (shown_as t) (published h)
+
+-- the number of the accepted unlock for lock i
+abbrev pub opened_number : List Entry → ℕ → Option ℕ
+opened_number h i = position (λ e. is_some (opening i e.height (accepted e))) h
+
+abbrev pub is_kind : CallKind → Call → Bool
+is_kind Publish (calls.Publish t) = true
+is_kind (Unlock i) (calls.Unlock key) = key.lock == i
+is_kind Claim calls.Claim = true
+is_kind Refund calls.Refund = true
+is_kind _ _ = false
+
+abbrev pub is_of_kind : CallKind → What → Bool
+is_of_kind kind (Made c) = is_kind kind c
+is_of_kind kind (Tick k) = false
+
+-- whether p made a call of that kind, whatever the reply
+abbrev pub has_call : ℕ → CallKind → List Entry → Bool
+has_call p kind h = list_any (λ e. if sent_by p e.sender then is_of_kind kind e.what else false) h
