@@ -1,0 +1,16 @@
+-- Ranges of numbers and lengths, and digests in hexadecimal.
+use Rattle.std.specs.Prelude.{◌&&◌, ℕ, List, nat_le, if◌then◌else◌, Result, Ok, Err}
+use Rattle.hex.specs.Hex.{decode_sized}
+use Rattle.hex.specs.declared.error.FromHexError.{FromHexError}
+use Rattle.offer_fields.specs.declared.reason.Reason.{Reason}
+use Rattle.offer_fields.specs.declared.reason.Reason.TheVariants.{OverLimit, WrongHex}
+
+unfoldable pub within : ℕ → List ℕ → ℕ → ℕ → ℕ → Result (Unit {0}) Reason
+within line field low high n = if nat_le low n && nat_le n high then Ok tt else Err (OverLimit line field n)
+
+abbrev pub decoded : ℕ → List ℕ → Result (List ℕ) FromHexError → Result (List ℕ) Reason
+decoded line field (Ok bytes) = Ok bytes
+decoded line field (Err e) = Err (WrongHex line field)
+
+unfoldable pub digest_of : ℕ → List ℕ → List ℕ → Result (List ℕ) Reason
+digest_of line field text = decoded line field (decode_sized text 32)

@@ -1,0 +1,206 @@
+//! The fields of an object.
+
+ghost use Rattle.std.specs.Prelude.{◌≡◌, ℕ, List, Result, map, option_map};
+ghost use Rattle.std.specs.List.{list_any};
+ghost use Rattle.std.specs.Str.{bytes_eq};
+ghost use Rattle.serde_json.specs.View.{view, items_view, members_view};
+ghost use Rattle.serde_json.specs.Data.{Data};
+ghost use Rattle.swap_base.specs.Fault.{Gives};
+ghost use Rattle.offer_fields.specs.Fields.{needed, number_at, text_at, optional_number_at, optional_text_at, member_text_of, first_unknown as unknown, only, each, array_at, list_at, object_at};
+ghost use Rattle.offer_fields.specs.declared.reason.Reason.{Reason};
+
+use crate::reason::{OfferFault, Reason};
+use crate::refusals::{missing, unknown_field, wrong_kind};
+use serde_json::{Map, Value};
+use std::alloc::Global;
+use swap_base::Listed;
+
+#[tactic(auto, unfolding(crate::specs::Fields::needed))]
+pub fn value_in<'v>(
+    alloc: Global,
+    line: u32,
+    field: &str,
+    object: &'v Value,
+) -> Result<&'v Value, OfferFault>
+    ensures { Gives (λ v. view v.now) result (needed line field.now (view object.now)) }
+{
+    match object.get(field) {
+        Some(value) => Ok(value),
+        None => Err(missing(alloc, line, field.as_bytes())),
+    }
+}
+
+#[tactic(auto, unfolding(crate::specs::Fields::number_at))]
+pub fn number_in(alloc: Global, line: u32, field: &str, object: &Value) -> Result<u64, OfferFault>
+    ensures { Gives (λ n. n) result (number_at line field.now (view object.now)) }
+{
+    match value_in(alloc, line, field, object)?.as_u64() {
+        Some(number) => Ok(number),
+        None => Err(wrong_kind(alloc, line, field.as_bytes())),
+    }
+}
+
+#[tactic(auto, unfolding(crate::specs::Fields::text_at))]
+pub fn text_in<'v>(
+    alloc: Global,
+    line: u32,
+    field: &str,
+    object: &'v Value,
+) -> Result<&'v str, OfferFault>
+    ensures { Gives (λ s. s.now) result (text_at line field.now (view object.now)) }
+{
+    match value_in(alloc, line, field, object)?.as_str() {
+        Some(text) => Ok(text),
+        None => Err(wrong_kind(alloc, line, field.as_bytes())),
+    }
+}
+
+#[tactic(auto, unfolding(crate::specs::Fields::optional_number_at))]
+pub fn optional_number_in(
+    alloc: Global,
+    line: u32,
+    field: &str,
+    object: &Value,
+) -> Result<Option<u64>, OfferFault>
+    ensures { Gives (λ n. n) result (optional_number_at line field.now (view object.now)) }
+{
+    match object.get(field) {
+        None => Ok(None),
+        Some(value) => match value.as_u64() {
+            Some(number) => Ok(Some(number)),
+            None => Err(wrong_kind(alloc, line, field.as_bytes())),
+        },
+    }
+}
+
+#[tactic(auto, unfolding(crate::specs::Fields::array_at))]
+pub fn array_in<'v>(
+    alloc: Global,
+    line: u32,
+    field: &str,
+    object: &'v Value,
+) -> Result<&'v Vec<Value>, OfferFault>
+    ensures { Gives (λ v. items_view v.now.items) result (array_at line field.now (view object.now)) }
+{
+    match value_in(alloc, line, field, object)?.as_array() {
+        Some(values) => Ok(values),
+        None => Err(wrong_kind(alloc, line, field.as_bytes())),
+    }
+}
+
+#[tactic(auto, unfolding(crate::specs::Fields::object_at))]
+pub fn is_object(alloc: Global, line: u32, field: &str, value: &Value) -> Result<(), OfferFault>
+    ensures { Gives (λ u. u) result (object_at line field.now (view value.now)) }
+{
+    if value.is_object() {
+        Ok(())
+    } else {
+        Err(wrong_kind(alloc, line, field.as_bytes()))
+    }
+}
+
+fn is_among(word: &str, words: &[&str]) -> bool
+    ensures { result ≡ list_any (bytes_eq word.now) (map (λ w. w.now) words.now) }
+{
+    for known in words {
+        if word == *known {
+            return true;
+        }
+    }
+    false
+}
+
+fn first_unknown<'v>(members: &'v Map<String, Value>, allowed: &[&str]) -> Option<&'v str>
+    ensures { option_map (λ k. k.now) result ≡ unknown (map (λ w. w.now) allowed.now) (members_view members.now.entries) }
+{
+    for (key, _) in members {
+        if !is_among(key.as_str(), allowed) {
+            return Some(key.as_str());
+        }
+    }
+    None
+}
+
+#[tactic(auto, unfolding(crate::specs::Fields::only))]
+pub fn only_in(alloc: Global, line: u32, allowed: &[&str], object: &Value) -> Result<(), OfferFault>
+    ensures { Gives (λ u. u) result (only line (map (λ w. w.now) allowed.now) (view object.now)) }
+{
+    let Some(members) = object.as_object() else {
+        return Ok(());
+    };
+    match first_unknown(members, allowed) {
+        None => Ok(()),
+        Some(key) => Err(unknown_field(alloc, line, key.as_bytes())),
+    }
+}
+
+/// What a member of a list is read as.
+pub trait Member: Sized {
+    ghost said: { ℕ → Data → Result Self Reason };
+
+    fn read(alloc: Global, line: u32, value: &Value) -> Result<Self, OfferFault>
+        ensures { Gives (λ x. x) result (said line (view value.now)) };
+}
+
+#[tactic(auto, unfolding(crate::specs::Fields::list_at))]
+pub fn list_in<T: Member + Drop>(
+    alloc: Global,
+    line: u32,
+    field: &str,
+    object: &Value,
+) -> Result<Listed<T>, OfferFault>
+    ensures { Gives (λ x. x) result (list_at line field.now (T.said line) (view object.now)) }
+{
+    let values = array_in(alloc, line, field, object)?;
+    each_in(alloc, line, values)
+}
+
+/// The members of a list, each read in turn.
+pub fn each_in<T: Member + Drop>(
+    alloc: Global,
+    line: u32,
+    values: &[Value],
+) -> Result<Listed<T>, OfferFault>
+    ensures { Gives (λ x. x) result (each (T.said line) (items_view values.now)) }
+{
+    let mut list = Vec::new(alloc);
+    for value in values {
+        list.push(T::read(alloc, line, value)?)?;
+    }
+    Ok(Listed::new(list))
+}
+
+/// The text of a field that may be absent.
+#[tactic(auto, unfolding(crate::specs::Fields::optional_text_at))]
+pub fn optional_text_in<'v>(
+    alloc: Global,
+    line: u32,
+    field: &str,
+    object: &'v Value,
+) -> Result<Option<&'v str>, OfferFault>
+    ensures { Gives (λ s. option_map (λ t. t.now) s) result (optional_text_at line field.now (view object.now)) }
+{
+    match object.get(field) {
+        None => Ok(None),
+        Some(value) => match value.as_str() {
+            Some(text) => Ok(Some(text)),
+            None => Err(wrong_kind(alloc, line, field.as_bytes())),
+        },
+    }
+}
+
+/// The text that a member of the list of that name is.
+#[tactic(auto, unfolding(crate::specs::Fields::member_text_of))]
+pub fn member_text<'v>(
+    alloc: Global,
+    line: u32,
+    field: &str,
+    value: &'v Value,
+) -> Result<&'v str, OfferFault>
+    ensures { Gives (λ s. s.now) result (member_text_of line field.now (view value.now)) }
+{
+    match value.as_str() {
+        Some(text) => Ok(text),
+        None => Err(wrong_kind(alloc, line, field.as_bytes())),
+    }
+}

@@ -1,0 +1,22 @@
+//! Readers of the fields of a JSON object (RFC 8259), each with the reason why it refuses.
+//!
+//! Read `specs/Fields.antt` first. Each reader answers what its definition answers, unless memory runs out.
+#![tactic(auto)]
+
+mod fields;
+mod hexadecimal;
+mod object;
+mod reason;
+mod refusals;
+
+pub use fields::{
+    Member, array_in, each_in, is_object, list_in, member_text, number_in, only_in,
+    optional_number_in, optional_text_in, text_in, value_in,
+};
+pub use hexadecimal::{digest_in, within};
+pub use object::object_in;
+pub use reason::{OfferFault, Reason};
+pub use refusals::{
+    bad_name, duplicate, missing, not_built, over_limit, unknown, unknown_field, wrong_hex,
+    wrong_kind,
+};
