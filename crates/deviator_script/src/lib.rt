@@ -6,9 +6,7 @@
 mod event;
 mod job;
 mod moves;
-mod resolve;
 
 pub use event::Event;
 pub use job::{Finish, Job, Purpose, Role};
 pub use moves::{Move, MoveList};
-pub use resolve::resolve;

@@ -32,16 +32,26 @@ pub enum Move {
         onto: ArcId,
     },
     /// An unlock with just this hashkey.
-    Raw { arc: ArcId, key: Hashkey },
-    Claim { arc: ArcId },
-    Refund { arc: ArcId },
+    Raw {
+        arc: ArcId,
+        key: Hashkey,
+    },
+    Claim {
+        arc: ArcId,
+    },
+    Refund {
+        arc: ArcId,
+    },
     Transfer {
         arc: ArcId,
         to: PartyId,
         units: u64,
     },
     /// Waits for a height of the arc's ledger; only in scripts.
-    Wait { arc: ArcId, height: u32 },
+    Wait {
+        arc: ArcId,
+        height: u32,
+    },
 }
 
 /// Moves, in the order in which they are made.

@@ -13,7 +13,7 @@ use crate::reason::{OfferFault, Reason};
 use crate::refusals::{missing, unknown_field, wrong_kind};
 use serde_json::{Map, Value};
 use std::alloc::Global;
-use swap_base::Listed;
+use swap_base::{ByteText, Listed};
 
 #[tactic(auto, unfolding(crate::specs::Fields::needed))]
 pub fn value_in<'v>(
@@ -134,38 +134,64 @@ pub fn only_in(alloc: Global, line: u32, allowed: &[&str], object: &Value) -> Re
     }
 }
 
-/// What a member of a list is read as.
-pub trait Member: Sized {
-    ghost said: { ℕ → Data → Result Self Reason };
+/// What a member of a list is read as, in a context that all members share.
+pub trait Member<C: Copy>: Sized {
+    ghost said: { C → ℕ → Data → Result Self Reason };
 
-    fn read(alloc: Global, line: u32, value: &Value) -> Result<Self, OfferFault>
-        ensures { Gives (λ x. x) result (said line (view value.now)) };
+    fn read(alloc: Global, context: C, line: u32, value: &Value) -> Result<Self, OfferFault>
+        ensures { Gives (λ x. x) result (said context line (view value.now)) };
 }
 
+/// The list of that name, each member read in turn.
 #[tactic(auto, unfolding(crate::specs::Fields::list_at))]
-pub fn list_in<T: Member + Drop>(
+pub fn list_in<C: Copy, T: Member<C> + Drop>(
     alloc: Global,
+    context: C,
     line: u32,
     field: &str,
     object: &Value,
 ) -> Result<Listed<T>, OfferFault>
-    ensures { Gives (λ x. x) result (list_at line field.now (T.said line) (view object.now)) }
+    ensures { Gives (λ x. x) result (list_at line field.now (T.said context line) (view object.now)) }
 {
     let values = array_in(alloc, line, field, object)?;
-    each_in(alloc, line, values)
+    each_in(alloc, context, line, values)
 }
 
 /// The members of a list, each read in turn.
-pub fn each_in<T: Member + Drop>(
+pub fn each_in<C: Copy, T: Member<C> + Drop>(
     alloc: Global,
+    context: C,
     line: u32,
     values: &[Value],
 ) -> Result<Listed<T>, OfferFault>
-    ensures { Gives (λ x. x) result (each (T.said line) (items_view values.now)) }
+    ensures { Gives (λ x. x) result (each (T.said context line) (items_view values.now)) }
 {
     let mut list = Vec::new(alloc);
     for value in values {
-        list.push(T::read(alloc, line, value)?)?;
+        list.push(T::read(alloc, context, line, value)?)?;
+    }
+    Ok(Listed::new(list))
+}
+
+fn owned_text(alloc: Global, line: u32, field: &str, value: &Value) -> Result<ByteText, OfferFault>
+    ensures { Gives (λ x. x) result (member_text_of line field.now (view value.now)) }
+{
+    let text = member_text(alloc, line, field, value)?;
+    Ok(ByteText::from_slice(alloc, text.as_bytes())?)
+}
+
+/// The texts that the members of the list of that name are.
+pub fn texts_in(
+    alloc: Global,
+    line: u32,
+    field: &str,
+    values: &[Value],
+) -> Result<Listed<ByteText>, OfferFault>
+    ensures { Gives (λ x. x) result (each (member_text_of line field.now) (items_view values.now)) }
+{
+    let mut list = Vec::new(alloc);
+    for value in values {
+        list.push(owned_text(alloc, line, field, value)?)?;
     }
     Ok(Listed::new(list))
 }

@@ -11,7 +11,7 @@ mod refusals;
 
 pub use fields::{
     Member, array_in, each_in, is_object, list_in, member_text, number_in, only_in,
-    optional_number_in, optional_text_in, text_in, value_in,
+    optional_number_in, optional_text_in, text_in, texts_in, value_in,
 };
 pub use hexadecimal::{digest_in, within};
 pub use object::object_in;
