@@ -1,0 +1,6 @@
+pub mod Party
+pub mod Conduct
+pub mod Due
+pub mod Outcome
+pub mod Findings
+pub mod Accepted

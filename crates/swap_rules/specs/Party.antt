@@ -1,0 +1,85 @@
+-- What a party reads in a book, or in what it knows of one: one list of entries per arc.
+use Rattle.std.specs.Prelude.{ℕ, Bool, false, not, ◌&&◌, ◌==◌, nat_lt, nat_le, List, [], Option, Some, None, slice_index_or, if◌then◌else◌}
+use Rattle.std.specs.List.{list_any, list_all, flat_map}
+use Rattle.swap_base.specs.Lists.{first_of, greatest}
+use Rattle.time_bounds.specs.Times as times
+use Rattle.swap_digraph.specs.Graph.{entering, is_among}
+use Rattle.swap_digraph.specs.declared.deal.Deal.{Deal}
+use Rattle.swap_digraph.specs.Deal.{locks}
+use Rattle.hashkey_path.specs.declared.hashkey.Hashkey.{Hashkey}
+use Rattle.escrow_core.specs.Terms.{terms_of, same_terms, expiry_in, refund_expiry}
+use Rattle.ledger_core.specs.declared.entry.Call.{Call}
+use Rattle.ledger_core.specs.declared.entry.Call.TheVariants.{Unlock}
+use Rattle.ledger_core.specs.declared.entry.What.{What}
+use Rattle.ledger_core.specs.declared.entry.What.TheVariants.{Call as Made, Tick}
+use Rattle.ledger_core.specs.declared.entry.Entry.{Entry}
+use Rattle.ledger_core.specs.History.{Publication, published, is_open, triggered, sent_by}
+use Rattle.ledger_core.specs.Book.{Histories, history}
+
+-- the deal's hashlock of lock i
+abbrev pub hashlock_of : Deal → ℕ → List ℕ
+hashlock_of d i = slice_index_or d.hashlocks i []
+
+-- whether an accepted publish has the correct terms of arc a
+abbrev pub is_correct_in : Deal → ℕ → Option Publication → Bool
+is_correct_in d a None = false
+is_correct_in d a (Some p) = same_terms p.terms (terms_of d a)
+
+-- arc a is correct: its accepted publish has the correct terms
+abbrev pub is_correct : Deal → Histories → ℕ → Bool
+is_correct d b a = is_correct_in d a (published (history b a))
+
+-- the height of a publish, 0 where there is none
+abbrev pub height_in : Option Publication → ℕ
+height_in None = 0
+height_in (Some p) = p.height
+
+-- arc a is good: correct, and published at most at the height by which contracts open
+abbrev pub is_good : Deal → Histories → ℕ → Bool
+is_good d b a = is_correct d b a && nat_le (height_in (published (history b a))) (times.open_by d.start d.delta d.bound)
+
+-- v is ready: every arc that enters it is good
+unfoldable pub is_ready : Deal → Histories → ℕ → Bool
+is_ready d b v = list_all (is_good d b) (entering d.graph v)
+
+-- the greatest publish height of the arcs that enter v
+unfoldable pub ready_height : Deal → Histories → ℕ → ℕ
+ready_height d b v = greatest (λ a. height_in (published (history b a))) (entering d.graph v)
+
+-- arc a is triggered: every lock is opened
+abbrev pub is_triggered : Deal → Histories → ℕ → Bool
+is_triggered d b a = triggered d (history b a)
+
+-- the height above which lock i is expired on arc a, by the correct terms
+abbrev pub expiry : Deal → ℕ → ℕ → ℕ
+expiry d a i = expiry_in d.mode d a (terms_of d a) i
+
+-- the least expiry of the locks that aren't opened after these entries of arc a
+abbrev pub least_expiry : Deal → ℕ → List Entry → ℕ
+least_expiry d a h = refund_expiry d a (terms_of d a) (is_open h)
+
+-- whether a height is above the expiry of a lock that isn't opened after these entries of arc a
+abbrev pub has_expired : Deal → ℕ → List Entry → ℕ → Bool
+has_expired d a h at = list_any (λ i. not (is_open h i) && nat_lt (expiry d a i) at) (locks d)
+
+-- v is a leader
+abbrev pub leads_one : Deal → ℕ → Bool
+leads_one d v = is_among v d.leaders
+
+-- the call that an entry is, whatever its reply
+abbrev pub call_in : What → Option Call
+call_in (Made c) = Some c
+call_in (Tick k) = None
+
+-- the call of v that an entry is, whatever its reply
+abbrev pub call_of : ℕ → Entry → Option Call
+call_of v e = if sent_by v e.sender then call_in e.what else None
+
+-- the hashkey of an unlock call for lock i
+abbrev pub key_in : ℕ → Option Call → Option Hashkey
+key_in i (Some (Unlock key)) = if key.lock == i then Some key else None
+key_in i _ = None
+
+-- the hashkey of v's first unlock call for lock i, in order of arc and entry
+unfoldable pub first_key : Histories → ℕ → ℕ → Option Hashkey
+first_key b v i = first_of (λ e. key_in i (call_of v e)) (flat_map (λ h. h) b)
