@@ -9,4 +9,4 @@ mod terms;
 
 pub use lock_list::LockList;
 pub use reply::Reply;
-pub use terms::Terms;
+pub use terms::{Terms, terms_of};

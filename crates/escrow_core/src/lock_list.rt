@@ -1,11 +1,11 @@
 //! Up to eight hashlocks, kept in place.
 
-ghost use Rattle.std.specs.Prelude.{◌≡◌, ◌<◌, ◌≤◌, ◌++◌, ◌∷◌, [], length, take, slice_index_or};
+ghost use Rattle.std.specs.Prelude.{◌≡◌, ◌<◌, ◌≤◌, ◌++◌, ◌∷◌, [], length, slice_index_or};
 ghost use Rattle.std.specs.Str.{bytes_eq};
 ghost use Rattle.swap_base.specs.Lists.{same_list};
 
 use std::marker::Model;
-use swap_base::Digest;
+use swap_base::{Digest, LockId};
 
 /// One hashlock per lock, at most eight.
 #[derive(Clone, Copy, Debug)]
@@ -54,5 +54,32 @@ impl LockList {
     {
         self.digests[self.len as usize] = digest;
         self.len += 1;
+    }
+
+    /// The list of these digests.
+    pub fn from_slice(digests: &[Digest]) -> LockList
+        requires { length digests.now ≤ 8 }
+        ensures { result ≡ digests.now }
+    {
+        let mut list = LockList::new();
+        for digest in digests {
+            list.push(*digest);
+        }
+        list
+    }
+
+    /// The hashlock of that lock.
+    pub fn get(&self, lock: LockId) -> Digest
+        requires { lock < length self.now }
+        ensures { result ≡ slice_index_or self.now lock [] }
+    {
+        self.digests[lock as usize]
+    }
+
+    /// Whether both have the same hashlocks in the same places.
+    pub fn same(&self, other: &LockList) -> bool
+        ensures { result ≡ same_list bytes_eq self.now other.now }
+    {
+        self.digests[..self.len as usize] == other.digests[..other.len as usize]
     }
 }

@@ -1,7 +1,12 @@
 //! The terms of a contract.
 
+ghost use Rattle.std.specs.Prelude.{◌≡◌, ◌<◌, length};
+ghost use Rattle.swap_digraph.specs.Deal.{IsWellSized};
+ghost use Rattle.escrow_core.specs.Terms.{same_terms, terms_of};
+
 use crate::lock_list::LockList;
-use swap_base::Digest;
+use swap_base::ArcId;
+use swap_digraph::Deal;
 
 /// What a publish states. The contract's times come from its own terms.
 #[derive(Clone, Copy, Debug)]
@@ -14,4 +19,34 @@ pub struct Terms {
     pub timelock: u32,
     /// Units, at most 10^12 in a call that fits.
     pub amount: u64,
+}
+
+impl Terms {
+    /// Whether both state the same.
+    pub fn same(&self, other: &Terms) -> bool
+        ensures { result ≡ same_terms self.now other.now }
+    {
+        self.locks.same(&other.locks)
+            && self.start == other.start
+            && self.delta == other.delta
+            && self.bound == other.bound
+            && self.timelock == other.timelock
+            && self.amount == other.amount
+    }
+}
+
+/// The correct terms of an arc, which are those of the deal.
+pub fn terms_of(deal: &Deal, arc: ArcId) -> Terms
+    requires sized { IsWellSized deal.now }
+    requires arc { arc < length deal.now.graph.arcs }
+    ensures { result ≡ terms_of deal.now arc }
+{
+    Terms {
+        locks: LockList::from_slice(deal.hashlocks.as_slice()),
+        start: deal.start,
+        delta: deal.delta,
+        bound: deal.bound,
+        timelock: deal.timelocks.as_slice()[arc as usize],
+        amount: deal.amounts.as_slice()[arc as usize],
+    }
 }

@@ -1,5 +1,6 @@
--- One-time signatures of chains of SHA-256 (FIPS 180-4), after the idea of Winternitz (Merkle, "A Certified Digital Signature", 1989). A digest, a seed and a message are lists of 32 bytes. Each kind of hashed text has a leading byte of its own, but for the hashlock.
-use Rattle.std.specs.Prelude.{ℕ, zero, suc, ◌+◌, ◌-◌, ◌*◌, ◌/◌, ◌%◌, Bool, List, [], ◌∷◌, ◌++◌, map, take, drop, slice_index, slice_index_or, sum_by}
+-- The swap's own one-time signatures, of chains of SHA-256 (FIPS 180-4), after Winternitz (R. Merkle, "A Certified Digital Signature", 1989).
+-- A digest, a seed, a secret and a message are lists of 32 bytes. What is hashed begins with a byte that tells its kind, except for the hashlock.
+use Rattle.std.specs.Prelude.{ℕ, zero, suc, ◌+◌, ◌-◌, ◌*◌, ◌/◌, ◌%◌, Bool, List, [], ◌∷◌, ◌++◌, map, take, drop, slice_index, slice_index_or}
 use Rattle.std.specs.Str.{bytes_eq}
 use Rattle.std.specs.List.{range_with_len}
 use Rattle.sha2.specs.Sha256.{sha256}
@@ -39,7 +40,7 @@ abbrev pub digest_of_ends : List (List ℕ) → List ℕ
 digest_of_ends ends = sha256 (3 ∷ joined ends)
 
 -- the public key of a party for a lock
-abbrev pub public_key_of : List ℕ → ℕ → ℕ → List ℕ
+unfoldable pub public_key_of : List ℕ → ℕ → ℕ → List ℕ
 public_key_of seed party lock = digest_of_ends (for_chains (chain_end seed party lock))
 
 -- the digits of 4 bits of each byte, the high half first
@@ -69,7 +70,7 @@ abbrev pub opened : List ℕ → ℕ → ℕ → List ℕ → ℕ → List ℕ
 opened seed party lock message j = chain_after (digit message j) (chain_start seed party lock j)
 
 -- the signature over a message
-abbrev pub signature_of : List ℕ → ℕ → ℕ → List ℕ → List (List ℕ)
+unfoldable pub signature_of : List ℕ → ℕ → ℕ → List ℕ → List (List ℕ)
 signature_of seed party lock message = for_chains (opened seed party lock message)
 
 -- the value of a signature at chain j, carried on to where the chain is to end
@@ -77,7 +78,7 @@ abbrev pub carried_on : List ℕ → List (List ℕ) → ℕ → List ℕ
 carried_on message values j = chain_after (15 - digit message j) (slice_index_or values j [])
 
 -- whether the values are a signature over the message for the public key
-abbrev pub is_valid_signature : List ℕ → List ℕ → List (List ℕ) → Bool
+unfoldable pub is_valid_signature : List ℕ → List ℕ → List (List ℕ) → Bool
 is_valid_signature public message values = bytes_eq (digest_of_ends (for_chains (carried_on message values))) public
 
 -- the value at chain j of a signature whose bytes follow each other
@@ -85,5 +86,5 @@ abbrev pub value_at : List ℕ → ℕ → List ℕ
 value_at bytes j = take 32 (drop (32 * j) bytes)
 
 -- the values of a signature whose bytes follow each other
-abbrev pub values_of : List ℕ → List (List ℕ)
+unfoldable pub values_of : List ℕ → List (List ℕ)
 values_of bytes = for_chains (value_at bytes)

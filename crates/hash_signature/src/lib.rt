@@ -1,8 +1,23 @@
-//! One-time signatures made of chains of SHA-256.
+//! One-time signatures made of chains of SHA-256, secrets and their hashlocks.
 //!
-//! Read `specs/Signature.antt` first.
+//! A signer has one key for each party and lock. Its public key is the digest of the ends of 67 chains, and a signature opens each chain as far as the digit of the message at that chain says. Who signs twice with one key gives others the means to sign.
+//!
+//! Read `specs/Signature.antt` first: `is_valid_signature` says what `verify` answers, and `signature_of` what `sign` does.
 #![tactic(auto)]
 
+mod chain;
+mod digits;
+mod key;
+mod law;
+mod secret;
 mod sig;
 
-pub use sig::Sig;
+pub use chain::CHAINS;
+pub use key::{OneTimeKey, keygen};
+pub use law::checksum_law;
+pub use secret::{hash_of, secret_of};
+pub use sig::{SIGNATURE_BYTES, Sig, verify};
+pub use swap_base::{Digest, LockId, PartyId};
+
+#[cfg(test)]
+mod tests;

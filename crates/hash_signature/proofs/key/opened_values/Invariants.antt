@@ -1,0 +1,10 @@
+use Rattle.std.proofs.Common.{◌≡◌, length, take}
+use Rattle.hash_signature.specs.Signature.{opened}
+use Rattle.hash_signature.proofs.Chains.{first_chains}
+use Rattle.hash_signature.proofs.key.opened_values.Given as goal
+
+abbrev pub invariant-chains : goal.invariant-chains
+invariant-chains l = record {
+  width : length l.values ≡ 67;
+  filled : take l.j l.values ≡ first_chains (opened l.seed l.party l.lock l.message) l.j;
+}

@@ -1,0 +1,9 @@
+use Rattle.std.proofs.Common.{◌∷◌}
+use Rattle.sha2.specs.Hashers.{Holds256}
+use Rattle.swap_base.specs.Text.{joined}
+use Rattle.hash_signature.specs.Signature.{chain_end}
+use Rattle.hash_signature.proofs.Chains.{first_chains}
+use Rattle.hash_signature.proofs.key.public_key.Given as goal
+
+abbrev pub invariant-chains : goal.invariant-chains
+invariant-chains l = Holds256 l.hasher (3 ∷ joined (first_chains (chain_end l.seed l.party l.lock) l.j))

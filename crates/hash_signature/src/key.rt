@@ -1,0 +1,82 @@
+//! Keys, each of which signs once.
+
+ghost use Rattle.std.specs.Prelude.{◌≡◌, IsTrue};
+ghost use Rattle.hash_signature.specs.Key.{KeyParts};
+ghost use Rattle.hash_signature.specs.Signature.{public_key_of, signature_of, is_valid_signature};
+
+use crate::chain::{CHAINS, STEPS, chain_after, chain_start};
+use crate::digits::digits;
+use crate::sig::Sig;
+use crate::{Digest, LockId, PartyId};
+use sha2::{Digest as Hasher, Sha256};
+use std::fmt;
+use std::marker::Model;
+
+/// A party's key for one lock. Signing spends it, and it can't be copied. It may be let go unused.
+#[derive(Drop)]
+pub struct OneTimeKey {
+    seed: Digest,
+    party: PartyId,
+    lock: LockId,
+}
+
+impl Model for OneTimeKey {
+    ghost use Rattle.hash_signature.specs.Key.{KeyParts};
+
+    ghost Value = { KeyParts };
+
+    ghost view = { λ k. record { seed = k.seed; party = k.party; lock = k.lock } };
+}
+
+/// The key that a party's seed gives for a lock, with its public key.
+pub fn keygen(seed: &Digest, party: PartyId, lock: LockId) -> (OneTimeKey, Digest)
+    ensures key { result.0 ≡ record { seed = seed.now; party = party; lock = lock } }
+    ensures public { result.1 ≡ public_key_of seed.now party lock }
+{
+    let key = OneTimeKey {
+        seed: *seed,
+        party,
+        lock,
+    };
+    let public = public_key(seed, party, lock);
+    (key, public)
+}
+
+fn public_key(seed: &Digest, party: PartyId, lock: LockId) -> Digest
+    ensures { result ≡ public_key_of seed.now party lock }
+{
+    let mut hasher = Sha256::new();
+    hasher.update([3u8]);
+    'chains: for j in 0..CHAINS {
+        hasher.update(chain_after(chain_start(seed, party, lock, j as u8), STEPS));
+    }
+    hasher.finalize()
+}
+
+fn opened_values(seed: &Digest, party: PartyId, lock: LockId, message: &Digest) -> [Digest; CHAINS]
+    ensures { result ≡ signature_of seed.now party lock message.now }
+{
+    let wanted = digits(message);
+    let mut values = [[0u8; 32]; CHAINS];
+    'chains: for j in 0..CHAINS {
+        let start = chain_start(seed, party, lock, j as u8);
+        values[j] = chain_after(start, wanted[j]);
+    }
+    values
+}
+
+impl OneTimeKey {
+    /// The key's signature over the message, which spends the key.
+    pub fn sign(self, message: &Digest) -> Sig
+        ensures value { result ≡ signature_of self.seed self.party self.lock message.now }
+        ensures valid { IsTrue (is_valid_signature (public_key_of self.seed self.party self.lock) message.now result) }
+    {
+        Sig::new(opened_values(&self.seed, self.party, self.lock, message))
+    }
+}
+
+impl fmt::Debug for OneTimeKey {
+    fn fmt<W: fmt::Write>(&self, f: &mut fmt::Formatter<W>) -> fmt::Result {
+        f.write_str("OneTimeKey { .. }")
+    }
+}

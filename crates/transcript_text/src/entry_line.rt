@@ -1,0 +1,184 @@
+//! The line of an entry.
+
+ghost use Rattle.std.specs.Prelude.{◌≡◌, ◌++◌, ◌∷◌, OnOk};
+ghost use Rattle.swap_base.specs.Text.{lines};
+ghost use Rattle.transcript_text.specs.Words.{name_at, reply_text, comma_name, path_text, unlock_text, call_text, publish_text, sender_text as sender_of};
+ghost use Rattle.transcript_text.specs.Report.{what_line, entry_line};
+
+use escrow_core::{Reply, Terms};
+use ledger_core::{Call, Entry, Sender, What};
+use swap_base::{ByteText, LockId, NoMemory, PartyId, Piece, put};
+
+/// The name of a party; no text where the number is nobody's.
+pub(crate) fn name_at(names: &[ByteText], p: PartyId) -> &[u8]
+    ensures { result.now ≡ name_at names.now p }
+{
+    match names.get(p as usize) {
+        Some(name) => name.as_slice(),
+        None => &[],
+    }
+}
+
+#[tactic(auto, unfolding(crate::specs::Words::reply_text))]
+pub(crate) fn put_reply(out: &mut Vec<u8>, reply: Reply) -> Result<(), NoMemory>
+    ensures { OnOk result (out.new.items ≡ out.old.items ++ reply_text reply) }
+{
+    match reply {
+        Reply::Accepted => put(out, &[Piece::Text("accepted")]),
+        Reply::Settled => put(out, &[Piece::Text("Settled")]),
+        Reply::NotCounterparty => put(out, &[Piece::Text("NotCounterparty")]),
+        Reply::NotParty => put(out, &[Piece::Text("NotParty")]),
+        Reply::AlreadyUnlocked => put(out, &[Piece::Text("AlreadyUnlocked")]),
+        Reply::WrongSecret => put(out, &[Piece::Text("WrongSecret")]),
+        Reply::WrongPath => put(out, &[Piece::Text("WrongPath")]),
+        Reply::WrongSignature => put(out, &[Piece::Text("WrongSignature")]),
+        Reply::TooLate(last) => put(out, &[Piece::Text("TooLate "), Piece::Number(last)]),
+        Reply::StillLocked(i) => put(out, &[Piece::Text("StillLocked "), Piece::Number(i as u64)]),
+        Reply::NothingLocked => put(out, &[Piece::Text("NothingLocked")]),
+        Reply::NotExpired(first) => put(out, &[Piece::Text("NotExpired "), Piece::Number(first)]),
+        Reply::NoContract => put(out, &[Piece::Text("NoContract")]),
+        Reply::AlreadyPublished => put(out, &[Piece::Text("AlreadyPublished")]),
+        Reply::NoFunds(have) => put(out, &[Piece::Text("NoFunds "), Piece::Number(have)]),
+        Reply::SenderFull => put(out, &[Piece::Text("SenderFull")]),
+        Reply::ClockFull => put(out, &[Piece::Text("ClockFull")]),
+    }
+}
+
+/// The further names of a path, each after a comma.
+#[tactic(auto, using(swap_base::proofs::Lines::lines_on, swap_base::proofs::Lines::lines_done))]
+fn put_further(out: &mut Vec<u8>, names: &[ByteText], path: &[PartyId]) -> Result<(), NoMemory>
+    ensures { OnOk result (out.new.items ≡ out.old.items ++ lines (comma_name names.now) 0 path.now) }
+{
+    for p in path {
+        put(out, &[Piece::Text(","), Piece::Bytes(name_at(names, *p))])?;
+    }
+    Ok(())
+}
+
+#[tactic(auto, unfolding(crate::specs::Words::path_text))]
+fn put_path(
+    out: &mut Vec<u8>,
+    names: &[ByteText],
+    first: PartyId,
+    further: &[PartyId],
+) -> Result<(), NoMemory>
+    ensures { OnOk result (out.new.items ≡ out.old.items ++ path_text names.now (first ∷ further.now)) }
+{
+    put(out, &[Piece::Bytes(name_at(names, first))])?;
+    put_further(out, names, further)?;
+    Ok(())
+}
+
+#[tactic(auto, unfolding(crate::specs::Words::unlock_text))]
+fn put_unlock(
+    out: &mut Vec<u8>,
+    names: &[ByteText],
+    lock: LockId,
+    path: &[PartyId],
+) -> Result<(), NoMemory>
+    ensures { OnOk result (out.new.items ≡ out.old.items ++ unlock_text names.now lock path.now) }
+{
+    match path {
+        [] => put(out, &[Piece::Text("unlock "), Piece::Number(lock as u64)]),
+        [first, further @ ..] => {
+            put(
+                out,
+                &[
+                    Piece::Text("unlock "),
+                    Piece::Number(lock as u64),
+                    Piece::Text(" via "),
+                ],
+            )?;
+            put_path(out, names, *first, further)
+        }
+    }
+}
+
+#[tactic(auto, unfolding(crate::specs::Words::publish_text))]
+fn put_publish(out: &mut Vec<u8>, is_correct: bool) -> Result<(), NoMemory>
+    ensures { OnOk result (out.new.items ≡ out.old.items ++ publish_text is_correct) }
+{
+    if is_correct {
+        put(out, &[Piece::Text("publish correct")])
+    } else {
+        put(out, &[Piece::Text("publish wrong")])
+    }
+}
+
+#[tactic(auto, unfolding(crate::specs::Words::call_text))]
+fn put_call(
+    out: &mut Vec<u8>,
+    names: &[ByteText],
+    correct: &Terms,
+    call: &Call,
+) -> Result<(), NoMemory>
+    ensures { OnOk result (out.new.items ≡ out.old.items ++ call_text names.now correct.now call.now) }
+{
+    match call {
+        Call::Publish(terms) => put_publish(out, terms.same(correct)),
+        Call::Unlock(key) => put_unlock(out, names, key.lock, key.path.as_slice()),
+        Call::Claim => put(out, &[Piece::Text("claim")]),
+        Call::Refund => put(out, &[Piece::Text("refund")]),
+        Call::Transfer(to, units) => put(
+            out,
+            &[
+                Piece::Text("transfer "),
+                Piece::Number(*units),
+                Piece::Text(" to "),
+                Piece::Bytes(name_at(names, *to)),
+            ],
+        ),
+    }
+}
+
+fn sender_text(names: &[ByteText], sender: Sender) -> &[u8]
+    ensures { result.now ≡ sender_of names.now sender }
+{
+    match sender {
+        Sender::Party(p) => name_at(names, p),
+        Sender::Clock => &[],
+    }
+}
+
+#[tactic(auto, unfolding(crate::specs::Report::what_line))]
+fn put_entry(
+    out: &mut Vec<u8>,
+    names: &[ByteText],
+    correct: &Terms,
+    entry: &Entry,
+) -> Result<(), NoMemory>
+    ensures { OnOk result (out.new.items ≡ out.old.items ++ what_line names.now correct.now entry.now entry.now.what) }
+{
+    let What::Call(call) = &entry.what else {
+        return Ok(());
+    };
+    put(
+        out,
+        &[
+            Piece::Number(entry.height as u64),
+            Piece::Text(" "),
+            Piece::Bytes(sender_text(names, entry.sender)),
+            Piece::Text(" "),
+        ],
+    )?;
+    put_call(out, names, correct, call)?;
+    put(out, &[Piece::Text(": ")])?;
+    put_reply(out, entry.reply)?;
+    put(out, &[Piece::Text("\n")])
+}
+
+/// The lines of the entries that aren't ticks.
+#[tactic(auto, using(swap_base::proofs::Lines::lines_on, swap_base::proofs::Lines::lines_done))]
+pub(crate) fn put_entries(
+    out: &mut Vec<u8>,
+    names: &[ByteText],
+    correct: &Terms,
+    entries: &[Entry],
+) -> Result<(), NoMemory>
+    ensures { OnOk result (out.new.items ≡ out.old.items ++ lines (entry_line names.now correct.now) 0 entries.now) }
+{
+    for entry in entries {
+        put_entry(out, names, correct, entry)?;
+    }
+    Ok(())
+}

@@ -1,0 +1,4 @@
+//! The texts of a swap: the report of a book.
+#![tactic(auto)]
+
+mod entry_line;
