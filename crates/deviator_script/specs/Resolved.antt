@@ -33,6 +33,11 @@ terms_with t start delta bound timelock amount locks = record {
   amount = unwrap_or amount t.amount;
 }
 
+-- the terms that a publish states
+abbrev pub publish_of : Deal → Move → Option Terms
+publish_of d (Publish a start delta bound timelock amount locks) = Some (terms_with (terms_of d a) start delta bound timelock amount locks)
+publish_of d _ = None
+
 -- the call of a move, where it stands for one
 abbrev pub call_of : Deal → Move → Option Call
 call_of d (Publish a start delta bound timelock amount locks) = Some (calls.Publish (terms_with (terms_of d a) start delta bound timelock amount locks))

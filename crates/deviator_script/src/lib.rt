@@ -6,7 +6,9 @@
 mod event;
 mod job;
 mod moves;
+mod resolved;
 
 pub use event::Event;
 pub use job::{Finish, Job, Purpose, Role};
 pub use moves::{Move, MoveList};
+pub use resolved::{arc_of_move, resolve};

@@ -136,6 +136,7 @@ impl Digraph {
     ) -> Result<Digraph, DigraphFault>
         requires { length arcs.items ≤ 128 }
         ensures exact { Gives (λ g. g) result (digraph_of n version arcs.items) }
+        ensures parts { IfOk result (λ g. (g.n ≡ n) × (g.arcs ≡ arcs.items)) }
         ensures ends { IfOk result (λ g. HasEnds g) }
     {
         match first_fault(n, version, &arcs) {

@@ -52,11 +52,11 @@ ended_text ended outcome = if ended then outcome_text outcome else codes "open"
 unfoldable pub party_line : List (List ℕ) → List Bool → Bool → ℕ → Outcome → List ℕ
 party_line names conforming ended p outcome = joined (codes "party " ∷ name_at names p ∷ codes " " ∷ role_text (slice_index_or conforming p false) ∷ codes ": " ∷ ended_text ended outcome ∷ codes "\n" ∷ [])
 
-unfoldable pub finding_line : List (List ℕ) → ℕ → Finding → List ℕ
-finding_line names number (Broke v a e) = joined (codes "broke " ∷ name_at names v ∷ codes " on " ∷ decimal a ∷ codes " entry " ∷ decimal e ∷ codes "\n" ∷ [])
-finding_line names number (Late v rule a due) = joined (codes "late " ∷ name_at names v ∷ codes " " ∷ rule_text rule ∷ codes " on " ∷ decimal a ∷ codes " due " ∷ decimal due ∷ codes "\n" ∷ [])
-finding_line names number (Forged v a e) = joined (codes "forged " ∷ name_at names v ∷ codes " on " ∷ decimal a ∷ codes " entry " ∷ decimal e ∷ codes "\n" ∷ [])
-finding_line names number (Unfinished a at) = joined (codes "unfinished " ∷ decimal a ∷ codes " height " ∷ decimal at ∷ codes "\n" ∷ [])
+unfoldable pub finding_line : List (List ℕ) → Finding → List ℕ
+finding_line names (Broke v a e) = joined (codes "broke " ∷ name_at names v ∷ codes " on " ∷ decimal a ∷ codes " entry " ∷ decimal e ∷ codes "\n" ∷ [])
+finding_line names (Late v rule a due) = joined (codes "late " ∷ name_at names v ∷ codes " " ∷ rule_text rule ∷ codes " on " ∷ decimal a ∷ codes " due " ∷ decimal due ∷ codes "\n" ∷ [])
+finding_line names (Forged v a e) = joined (codes "forged " ∷ name_at names v ∷ codes " on " ∷ decimal a ∷ codes " entry " ∷ decimal e ∷ codes "\n" ∷ [])
+finding_line names (Unfinished a at) = joined (codes "unfinished " ∷ decimal a ∷ codes " height " ∷ decimal at ∷ codes "\n" ∷ [])
 
 unfoldable pub count_line : ℕ → List ℕ
 count_line count = joined (codes "findings " ∷ decimal count ∷ codes "\n" ∷ [])
@@ -64,4 +64,4 @@ count_line count = joined (codes "findings " ∷ decimal count ∷ codes "\n" �
 -- the report of a book
 unfoldable pub report : Job → Histories → Report → List ℕ
 report job b r =
-    joined (head_lines job.deal ∷ lines (ledger_lines job.names job.deal) 0 b ∷ lines (party_line job.names job.conforming r.ended) 0 r.outcomes ∷ lines (finding_line job.names) 0 r.findings ∷ count_line (length r.findings) ∷ [])
+    joined (head_lines job.deal ∷ lines (ledger_lines job.names job.deal) 0 b ∷ lines (party_line job.names job.conforming r.ended) 0 r.outcomes ∷ lines (λ _. finding_line job.names) 0 r.findings ∷ count_line (length r.findings) ∷ [])

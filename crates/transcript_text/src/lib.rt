@@ -1,4 +1,5 @@
 //! The texts of a swap: the report of a book.
 #![tactic(auto)]
 
-mod entry_line;
+mod entries;
+mod findings;

@@ -44,13 +44,18 @@ pub(crate) fn put_reply(out: &mut Vec<u8>, reply: Reply) -> Result<(), NoMemory>
     }
 }
 
+fn put_comma_name(out: &mut Vec<u8>, names: &[ByteText], p: PartyId) -> Result<(), NoMemory>
+    ensures { OnOk result (out.new.items ≡ out.old.items ++ comma_name names.now 0 p) }
+{
+    put(out, &[Piece::Text(","), Piece::Bytes(name_at(names, p))])
+}
+
 /// The further names of a path, each after a comma.
-#[tactic(auto, using(swap_base::proofs::Lines::lines_on, swap_base::proofs::Lines::lines_done))]
 fn put_further(out: &mut Vec<u8>, names: &[ByteText], path: &[PartyId]) -> Result<(), NoMemory>
     ensures { OnOk result (out.new.items ≡ out.old.items ++ lines (comma_name names.now) 0 path.now) }
 {
     for p in path {
-        put(out, &[Piece::Text(","), Piece::Bytes(name_at(names, *p))])?;
+        put_comma_name(out, names, *p)?;
     }
     Ok(())
 }
@@ -168,7 +173,6 @@ fn put_entry(
 }
 
 /// The lines of the entries that aren't ticks.
-#[tactic(auto, using(swap_base::proofs::Lines::lines_on, swap_base::proofs::Lines::lines_done))]
 pub(crate) fn put_entries(
     out: &mut Vec<u8>,
     names: &[ByteText],

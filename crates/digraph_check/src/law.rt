@@ -1,0 +1,18 @@
+//! What reaching means.
+
+ghost use Rattle.std.specs.Prelude.{◌≡◌, ◌<◌, ◌≤◌, ◌↔◌, ℕ, List, Some, None, IsTrue};
+ghost use Rattle.swap_digraph.specs.Graph.{HasEnds, IsPathBetween, IsStronglyConnected};
+ghost use Rattle.digraph_check.specs.Reach.{reaches, closed_set};
+ghost use Rattle.digraph_check.specs.Closed.{IsClosedSet};
+
+use swap_digraph::Digraph;
+
+/// Does nothing. Its contract is the law of closed sets: one party reaches another exactly where a path of distinct parties leads there, the set that is named is closed, there is none exactly where the digraph is strongly connected, and a closed set rules that out.
+pub fn paths_tell(graph: &Digraph)
+    ensures paths { (u v : ℕ) → u < graph.now.n → v < graph.now.n
+        → (IsTrue (reaches graph.now u v) ↔ ((p : List ℕ) × IsPathBetween graph.now u v p)) }
+    ensures connected { (closed_set graph.now ≡ None) ↔ IsStronglyConnected graph.now }
+    ensures closed { HasEnds graph.now → 1 ≤ graph.now.n
+        → (set : List ℕ) → closed_set graph.now ≡ Some set → IsClosedSet graph.now set }
+    ensures excluded { (set : List ℕ) → IsClosedSet graph.now set → IsStronglyConnected graph.now → ⊥ }
+{}
