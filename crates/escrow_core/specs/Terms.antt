@@ -1,5 +1,5 @@
 -- The terms of a contract, and the times that they give it.
-use Rattle.std.specs.Prelude.{◌==◌, ◌&&◌, ℕ, min, Bool, false, not, List, [], ◌∷◌, length, filter, map, slice_index, slice_index_or, if◌then◌else◌}
+use Rattle.std.specs.Prelude.{◌==◌, ◌&&◌, ℕ, min, Bool, false, not, List, [], ◌∷◌, filter, map, slice_index, slice_index_or, if◌then◌else◌}
 use Rattle.std.specs.Str.{bytes_eq}
 use Rattle.swap_base.specs.Lists.{same_list}
 use Rattle.time_bounds.specs.Times as times

@@ -3,10 +3,14 @@
 //! Read `specs/Table.antt` first: the rows of the table of replies.
 #![tactic(auto)]
 
+mod contract;
+mod decisions;
 mod lock_list;
 mod reply;
 mod terms;
+mod times;
 
+pub use contract::Contract;
 pub use lock_list::LockList;
 pub use reply::Reply;
 pub use terms::{Terms, terms_of};

@@ -3,6 +3,10 @@
 //! Read `specs/Hashkey.antt` first: `IsValidHashkey` speaks of all suffixes at once, `answer_of` says what `check` answers.
 #![tactic(auto)]
 
+mod answer;
 mod hashkey;
+mod path;
+mod suffix;
 
+pub use answer::check;
 pub use hashkey::{Hashkey, HashkeyAnswer, SigList};

@@ -1,0 +1,5 @@
+pub mod Opened
+pub mod Least
+pub mod KeyRows
+pub mod Rows
+pub mod Views

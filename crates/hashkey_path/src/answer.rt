@@ -1,0 +1,68 @@
+//! Whether a hashkey opens its lock on an arc.
+
+ghost use Rattle.std.specs.Prelude.{◌≡◌, ◌<◌, ◌↔◌, length};
+ghost use Rattle.swap_digraph.specs.Deal.{IsWellSized};
+ghost use Rattle.hashkey_path.specs.Hashkey.{answer_of, is_wrong_path, IsValidHashkey};
+
+use crate::hashkey::{Hashkey, HashkeyAnswer};
+use crate::path::{first_is, is_path, last_is};
+use crate::suffix::wrong_signature;
+use hash_signature::hash_of;
+use swap_base::{ArcId, Digest};
+use swap_digraph::{Deal, Mode};
+
+fn is_wrong_path(deal: &Deal, arc: ArcId, key: &Hashkey) -> bool
+    requires arc { arc < length deal.now.graph.arcs }
+    requires lock { key.now.lock < length deal.now.leaders }
+    ensures { result ≡ is_wrong_path deal.now arc deal.now.mode key.now }
+{
+    let path = key.path.as_slice();
+    match deal.mode {
+        Mode::Timelocks => !(path.is_empty() && key.sigs.is_empty()),
+        Mode::Hashkeys => {
+            let counterparty = deal.graph.arcs()[arc as usize].to;
+            let leader = deal.leaders.as_slice()[key.lock as usize];
+            !(is_path(&deal.graph, path)
+                && first_is(counterparty, path)
+                && last_is(leader, path)
+                && path.len() == key.sigs.len())
+        }
+    }
+}
+
+#[tactic(auto, unfolding(crate::specs::Hashkey::answer_of))]
+fn answer_of(deal: &Deal, arc: ArcId, hashlock: &Digest, key: &Hashkey) -> HashkeyAnswer
+    requires sized { IsWellSized deal.now }
+    requires arc { arc < length deal.now.graph.arcs }
+    requires lock { key.now.lock < length deal.now.leaders }
+    ensures { result ≡ answer_of deal.now arc hashlock.now key.now }
+{
+    if hash_of(&key.secret) != *hashlock {
+        return HashkeyAnswer::WrongSecret;
+    }
+    if is_wrong_path(deal, arc, key) {
+        return HashkeyAnswer::WrongPath;
+    }
+    match deal.mode {
+        Mode::Timelocks => HashkeyAnswer::Valid,
+        Mode::Hashkeys => {
+            let path = key.path.as_slice();
+            let sigs = key.sigs.as_slice();
+            match wrong_signature(0, deal, key.lock, &key.secret, path, sigs) {
+                None => HashkeyAnswer::Valid,
+                Some(place) => HashkeyAnswer::WrongSignature(place),
+            }
+        }
+    }
+}
+
+/// Whether the hashkey is valid on the arc under the hashlock, or the first thing that is wrong with it. It takes no memory.
+pub fn check(deal: &Deal, arc: ArcId, hashlock: &Digest, key: &Hashkey) -> HashkeyAnswer
+    requires sized { IsWellSized deal.now }
+    requires arc { arc < length deal.now.graph.arcs }
+    requires lock { key.now.lock < length deal.now.leaders }
+    ensures first { result ≡ answer_of deal.now arc hashlock.now key.now }
+    ensures valid { (result ≡ HashkeyAnswer.Valid) ↔ IsValidHashkey deal.now arc hashlock.now key.now }
+{
+    answer_of(deal, arc, hashlock, key)
+}

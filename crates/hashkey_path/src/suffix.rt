@@ -1,0 +1,78 @@
+//! The signatures of a hashkey, each over the suffix of the path that begins at its place.
+
+ghost use Rattle.std.specs.Prelude.{◌≡◌, ◌+◌, ◌<◌, All, length};
+ghost use Rattle.swap_digraph.specs.Deal.{HasKeys};
+ghost use Rattle.hashkey_path.specs.Hashkey.{key_of, message_of, wrong_signature};
+
+use hash_signature::{Sig, verify};
+use sha2::{Digest as Hasher, Sha256};
+use swap_base::{Digest, LockId, PartyId};
+use swap_digraph::{Deal, Mode};
+
+/// The public key of a party for a lock.
+pub(crate) fn key_of(deal: &Deal, party: PartyId, lock: LockId) -> Digest
+    requires keys { HasKeys Mode.Hashkeys deal.now }
+    requires party { party < deal.now.graph.n }
+    requires lock { lock < length deal.now.leaders }
+    ensures { result ≡ key_of deal.now party lock }
+{
+    let row = &deal.keys.as_slice()[party as usize];
+    row.as_slice()[lock as usize]
+}
+
+/// What the first vertex of a suffix signs, where `inner` are the signatures of the shorter suffixes.
+#[tactic(auto, unfolding(crate::specs::Hashkey::message_of))]
+pub(crate) fn message_of(
+    id: &Digest,
+    lock: LockId,
+    path: &[PartyId],
+    secret: &Digest,
+    inner: &[Sig],
+) -> Digest
+    requires { length path.now < 256 }
+    ensures { result ≡ message_of id.now lock path.now secret.now inner.now }
+{
+    let mut hasher = Sha256::new();
+    hasher.update([4u8]);
+    hasher.update(id);
+    hasher.update([lock, path.len() as u8]);
+    hasher.update(path);
+    hasher.update(secret);
+    match inner {
+        [] => hasher.finalize(),
+        [next, ..] => {
+            hasher.update(next.to_bytes());
+            hasher.finalize()
+        }
+    }
+}
+
+/// The least place, counted from `place`, whose signature isn't that of its vertex over its suffix. It ends where either list does.
+#[tactic(auto, unfolding(crate::specs::Hashkey::is_signed))]
+pub(crate) fn wrong_signature(
+    place: u8,
+    deal: &Deal,
+    lock: LockId,
+    secret: &Digest,
+    path: &[PartyId],
+    sigs: &[Sig],
+) -> Option<u8>
+    requires keys { HasKeys Mode.Hashkeys deal.now }
+    requires lock { lock < length deal.now.leaders }
+    requires few { place + length path.now < 256 }
+    requires within { All (λ v. v < deal.now.graph.n) path.now }
+    ensures { result ≡ wrong_signature place deal.now lock secret.now path.now sigs.now }
+{
+    match (path, sigs) {
+        ([v, rest @ ..], [sig, inner @ ..]) => {
+            let public = key_of(deal, *v, lock);
+            let message = message_of(&deal.id, lock, path, secret, inner);
+            if verify(&public, &message, sig) {
+                wrong_signature(place + 1, deal, lock, secret, rest, inner)
+            } else {
+                Some(place)
+            }
+        }
+        _ => None,
+    }
+}
