@@ -1,2 +1,4 @@
+pub mod Feeding
 pub mod Paths
+pub mod Signed
 pub mod Validity

@@ -38,7 +38,7 @@ pub each_from_none : (d : Deal) (lock : ℕ) (secret path : List ℕ) (sigs : Li
 each_from_none d lock secret path sigs e past rest v p before inner s l q =
     at_place 0 d lock secret past v rest before s inner l (ap (λ (xs : List ℕ). wrong_signature 0 d lock secret xs (before ++ s ∷ inner)) (sym p) ∙ ap (wrong_signature 0 d lock secret path) (sym q) ∙ e)
 
-signed_both : (b : Bool) (o : Option ℕ) (j : ℕ) → b ≡ true → o ≡ None → cond b o (Some j) ≡ None
+pub signed_both : (b : Bool) (o : Option ℕ) (j : ℕ) → b ≡ true → o ≡ None → cond b o (Some j) ≡ None
 signed_both true o j e n = n
 signed_both false o j e n = absurd (cc e)
 

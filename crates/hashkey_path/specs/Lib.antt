@@ -1,1 +1,3 @@
+pub mod Digest
 pub mod Hashkey
+pub mod Signed

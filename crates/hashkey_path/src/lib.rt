@@ -4,9 +4,16 @@
 #![tactic(auto)]
 
 mod answer;
+mod digest;
 mod hashkey;
 mod path;
+mod sign;
 mod suffix;
 
 pub use answer::check;
+pub use digest::deal_digest;
 pub use hashkey::{Hashkey, HashkeyAnswer, SigList};
+pub use sign::{KeyBack, extend, first};
+
+#[cfg(test)]
+mod tests;

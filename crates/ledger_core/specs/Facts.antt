@@ -1,5 +1,5 @@
 -- What is asked of a list of entries.
-use Rattle.std.specs.Prelude.{◌==◌, ℕ, Bool, true, false, List, Option, Some, None, is_some, option_map, position, if◌then◌else◌}
+use Rattle.std.specs.Prelude.{◌==◌, ℕ, Bool, true, false, List, Option, is_some, option_map, position, if◌then◌else◌}
 use Rattle.std.specs.List.{list_any}
 use Rattle.escrow_core.specs.declared.terms.Terms.{Terms}
 use Rattle.escrow_core.specs.Terms.{same_terms}

@@ -3,6 +3,19 @@
 //! Read `specs/Report.antt` first, then the rules in `swap_rules`.
 #![tactic(auto)]
 
+mod conduct;
+mod ending;
+mod forged;
+mod keys;
+mod late;
+mod listing;
+mod party;
 mod report;
+mod scan;
+mod units;
 
-pub use report::Report;
+pub use ending::outcome;
+pub use listing::{findings, unfinished};
+pub use report::{Report, report_of};
+pub use scan::height_of;
+pub use units::accounts_of;

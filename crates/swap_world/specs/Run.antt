@@ -13,19 +13,23 @@ use Rattle.deviator_script.specs.declared.event.Event.{Event}
 use Rattle.deviator_script.specs.declared.event.Event.TheVariants.{Tick, Look, Act, Call as Made}
 use Rattle.deviator_script.specs.Resolved.{arc_of, call_of}
 
--- whether a reply leaves an entry
-abbrev pub leaves_entry : Reply → Bool
-leaves_entry SenderFull = false
-leaves_entry ClockFull = false
-leaves_entry _ = true
+-- the sender has no room for an entry
+abbrev pub is_sender_full : Reply → Bool
+is_sender_full SenderFull = true
+is_sender_full _ = false
 
--- a history after a tick by k
+-- the clock has no room for an entry
+abbrev pub is_clock_full_reply : Reply → Bool
+is_clock_full_reply ClockFull = true
+is_clock_full_reply _ = false
+
+-- a history after a tick by k, which leaves no entry where the clock is full
 unfoldable pub after_tick : ℕ → List Entry → List Entry
-after_tick k h = if leaves_entry (reply_to_tick h k) then h ++ tick_entry k (height h + k) (reply_to_tick h k) ∷ [] else h
+after_tick k h = if is_clock_full_reply (reply_to_tick h k) then h else h ++ tick_entry k (height h + k) (reply_to_tick h k) ∷ []
 
--- the history of arc a after a call of p
+-- the history of arc a after a call of p, which leaves no entry where the sender is full
 unfoldable pub after_call : Deal → ℕ → ℕ → Call → List Entry → List Entry
-after_call d a p c h = if leaves_entry (reply_to d a h p c) then h ++ call_entry p (height h) c (reply_to d a h p c) ∷ [] else h
+after_call d a p c h = if is_sender_full (reply_to d a h p c) then h else h ++ call_entry p (height h) c (reply_to d a h p c) ∷ []
 
 -- the history of arc a after a move of p, which may stand for no call
 abbrev pub after_move : Deal → ℕ → ℕ → Option Call → List Entry → List Entry

@@ -7,6 +7,3 @@ mod turn;
 mod world;
 
 pub use world::World;
-
-#[cfg(test)]
-mod tests;

@@ -5,7 +5,7 @@ ghost use Rattle.swap_digraph.specs.Deal.{IsWellSized};
 ghost use Rattle.ledger_core.specs.Book.{IsLegalBook};
 ghost use Rattle.deviator_script.specs.Step.{CanStep, CanTick, CanCall};
 ghost use Rattle.swap_world.specs.Run.{step, no_histories};
-ghost use Rattle.swap_world.specs.Inside.{AreLedgersOf};
+ghost use Rattle.swap_world.specs.Inside.{new_ledgers};
 
 use crate::turn;
 use deviator_script::{Event, Move, arc_of_move};
@@ -37,8 +37,7 @@ impl Model for World {
 
 fn ledgers_of(alloc: Global, deal: &Deal) -> Result<Vec<Ledger>, NoMemory>
     requires { IsWellSized deal.now }
-    ensures { IfOk result (λ v. AreLedgersOf deal.now v.items) }
-    ensures empty { IfOk result (λ v. map (λ l. l.history) v.items ≡ no_histories deal.now) }
+    ensures { IfOk result (λ v. v.items ≡ new_ledgers deal.now) }
 {
     let mut ledgers = Vec::new(alloc);
     for arc in 0..deal.graph.arcs().len() as ArcId {
@@ -47,12 +46,12 @@ fn ledgers_of(alloc: Global, deal: &Deal) -> Result<Vec<Ledger>, NoMemory>
     Ok(ledgers)
 }
 
-fn histories_of(alloc: Global, deal: &Deal, ledgers: Vec<Ledger>) -> Result<Listed<EntryList>, NoMemory>
-    requires { AreLedgersOf deal.now ledgers.items }
+fn histories_of(alloc: Global, mut ledgers: Vec<Ledger>) -> Result<Listed<EntryList>, NoMemory>
     ensures { IfOk result (λ v. v ≡ map (λ l. l.history) ledgers.items) }
 {
     let mut histories = Vec::new(alloc);
-    for ledger in ledgers {
+    while !ledgers.is_empty() {
+        let ledger = ledgers.remove(0);
         histories.push(ledger.into_history())?;
     }
     Ok(Listed::new(histories))
@@ -116,8 +115,13 @@ impl World {
         ensures value { IfOk result (λ b. b.histories ≡ self.histories) }
         ensures legal { IsLegalBook self.deal self.histories }
     {
+        let World {
+            deal: _,
+            ledgers,
+            stopped: _,
+        } = self;
         Ok(Book {
-            histories: histories_of(alloc, &self.deal, self.ledgers)?,
+            histories: histories_of(alloc, ledgers)?,
         })
     }
 }

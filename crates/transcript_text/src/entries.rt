@@ -19,8 +19,9 @@ pub(crate) fn name_at(names: &[ByteText], p: PartyId) -> &[u8]
     }
 }
 
+/// Appends a reply as a report writes it.
 #[tactic(auto, unfolding(crate::specs::Words::reply_text))]
-pub(crate) fn put_reply(out: &mut Vec<u8>, reply: Reply) -> Result<(), NoMemory>
+pub fn put_reply(out: &mut Vec<u8>, reply: Reply) -> Result<(), NoMemory>
     ensures { OnOk result (out.new.items ≡ out.old.items ++ reply_text reply) }
 {
     match reply {

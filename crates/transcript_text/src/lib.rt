@@ -1,5 +1,12 @@
 //! The texts of a swap: the report of a book.
+//!
+//! Read `specs/Report.antt` first: the text of a report, line by line.
 #![tactic(auto)]
 
 mod entries;
 mod findings;
+mod ledgers;
+mod report;
+
+pub use entries::put_reply;
+pub use report::report_text;

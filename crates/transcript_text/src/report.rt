@@ -29,11 +29,12 @@ fn mode_text(mode: Mode) -> &'static str
 fn put_head(out: &mut Vec<u8>, deal: &Deal) -> Result<(), NoMemory>
     ensures { OnOk result (out.new.items ≡ out.old.items ++ head_lines deal.now) }
 {
+    let mode = mode_text(deal.mode);
     put(
         out,
         &[
             Piece::Text("swap report 1\nswap "),
-            Piece::Text(mode_text(deal.mode)),
+            Piece::Text(mode),
             Piece::Text(" start "),
             Piece::Number(deal.start as u64),
             Piece::Text(" delta "),

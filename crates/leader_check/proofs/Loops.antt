@@ -1,0 +1,70 @@
+-- Loops over lists and over ranges of numbers.
+use Rattle.std.proofs.Common.{◌≡◌, ℕ, suc, ◌+◌, ◌-◌, ◌<◌, ◌≤◌, max, Bool, true, false, ◌||◌, List, [], ◌∷◌, length, get_or, drop, Option, Some, None, is_some, refl, sym, ap, ◌∙◌, arith, add-one, drop-cons}
+use Rattle.std.specs.List.{list_any, range_with_len}
+use Rattle.std.proofs.lemmas.List.{nil_from_length, length-drop}
+use Rattle.swap_base.specs.Lists.{or_else, first_of, greatest}
+
+drop-next : {A : Type 0} (xs : List A) (i : ℕ) (d : A) → i < length xs → drop i xs ≡ get_or xs i d ∷ drop (i + 1) xs
+drop-next xs i d lt = rw (add-one, drop-cons xs i d) refl
+
+drop-none : {A : Type 0} (xs : List A) (i : ℕ) → length xs ≤ i → drop i xs ≡ []
+drop-none xs i le = nil_from_length (drop i xs) (omega (arith, length-drop i xs))
+
+-- Whether an element passes.
+
+or-false : (a b : Bool) → a ≡ false → (a || b) ≡ b
+or-false true b h = cc h
+or-false false b h = refl
+
+or-true : (a b : Bool) → a ≡ true → (a || b) ≡ true
+or-true true b h = refl
+or-true false b h = cc h
+
+pub any_goes_on : {A : Type 0} (p : A → Bool) (xs : List A) (i : ℕ) (d : A) (total : Bool) → i < length xs → p (get_or xs i d) ≡ false → list_any p (drop i xs) ≡ total → list_any p (drop (i + 1) xs) ≡ total
+any_goes_on p xs i d total lt fails so_far = sym (ap (list_any p) (drop-next xs i d lt) ∙ or-false (p (get_or xs i d)) (list_any p (drop (i + 1) xs)) fails) ∙ so_far
+
+pub any_is_found : {A : Type 0} (p : A → Bool) (xs : List A) (i : ℕ) (d : A) (total : Bool) → i < length xs → p (get_or xs i d) ≡ true → list_any p (drop i xs) ≡ total → true ≡ total
+any_is_found p xs i d total lt passes so_far = sym (ap (list_any p) (drop-next xs i d lt) ∙ or-true (p (get_or xs i d)) (list_any p (drop (i + 1) xs)) passes) ∙ so_far
+
+pub any_is_none : {A : Type 0} (p : A → Bool) (xs : List A) (i : ℕ) (total : Bool) → length xs ≤ i → list_any p (drop i xs) ≡ total → false ≡ total
+any_is_none p xs i total le so_far = sym (ap (list_any p) (drop-none xs i le)) ∙ so_far
+
+-- The greatest value.
+
+pub greatest_goes_on : {A : Type 0} (f : A → ℕ) (xs : List A) (i : ℕ) (d : A) (m n total : ℕ) → i < length xs → n ≡ max m (f (get_or xs i d)) → max m (greatest f (drop i xs)) ≡ total → max n (greatest f (drop (i + 1) xs)) ≡ total
+greatest_goes_on f xs i d m n total lt e so_far =
+    let k : greatest f (drop i xs) ≡ max (f (get_or xs i d)) (greatest f (drop (i + 1) xs)) = ap (greatest f) (drop-next xs i d lt) in
+    omega (arith, k, e, so_far)
+
+pub greatest_is_all : {A : Type 0} (f : A → ℕ) (xs : List A) (i m total : ℕ) → length xs ≤ i → max m (greatest f (drop i xs)) ≡ total → m ≡ total
+greatest_is_all f xs i m total le so_far =
+    let k : greatest f (drop i xs) ≡ 0 = ap (greatest f) (drop-none xs i le) in
+    omega (arith, k, so_far)
+
+pub greatest_none : (m : ℕ) → max 0 m ≡ m
+greatest_none m = omega arith
+
+-- The first answer along a range of numbers.
+
+range-next : (a n : ℕ) → a < n → range_with_len a (n - a) ≡ a ∷ range_with_len (a + 1) (n - (a + 1))
+range-next a n lt = let e : n - a ≡ suc (n - (a + 1)) = omega arith in ap (range_with_len a) e
+
+range-none : (a n : ℕ) → n ≤ a → range_with_len a (n - a) ≡ []
+range-none a n le = let e : n - a ≡ 0 = omega arith in ap (range_with_len a) e
+
+or_else-none : {B : Type 0} (o r : Option B) → is_some o ≡ false → or_else o r ≡ r
+or_else-none None r e = refl
+or_else-none (Some y) r e = cc e
+
+or_else-found : {B : Type 0} (o r : Option B) → is_some o ≡ true → or_else o r ≡ o
+or_else-found None r e = cc e
+or_else-found (Some y) r e = refl
+
+pub first_goes_on : {B : Type 0} (f : ℕ → Option B) (a n : ℕ) (total : Option B) → a < n → is_some (f a) ≡ false → first_of f (range_with_len a (n - a)) ≡ total → first_of f (range_with_len (a + 1) (n - (a + 1))) ≡ total
+first_goes_on f a n total lt none so_far = sym (ap (first_of f) (range-next a n lt) ∙ or_else-none (f a) (first_of f (range_with_len (a + 1) (n - (a + 1)))) none) ∙ so_far
+
+pub first_is_found : {B : Type 0} (f : ℕ → Option B) (a n : ℕ) (total : Option B) → a < n → is_some (f a) ≡ true → first_of f (range_with_len a (n - a)) ≡ total → f a ≡ total
+first_is_found f a n total lt some so_far = sym (ap (first_of f) (range-next a n lt) ∙ or_else-found (f a) (first_of f (range_with_len (a + 1) (n - (a + 1)))) some) ∙ so_far
+
+pub first_is_none : {B : Type 0} (f : ℕ → Option B) (a n : ℕ) (total : Option B) → n ≤ a → first_of f (range_with_len a (n - a)) ≡ total → None ≡ total
+first_is_none f a n total le so_far = sym (ap (first_of f) (range-none a n le)) ∙ so_far

@@ -1,0 +1,16 @@
+use Rattle.std.proofs.Common.{◌∙◌, sym, ap, is_some, arith}
+use Rattle.leader_check.specs.Cycles.{cycle_from, follower_cycle}
+use Rattle.leader_check.proofs.Loops.{first_goes_on, first_is_found, first_is_none}
+use Rattle.leader_check.proofs.cycle.follower_cycle.Goals as goal
+
+pub returns-then-is_some : goal.returns-then-is_some
+unfolding follower_cycle
+returns-then-is_some c =
+    c.in_ok-found.ensures ∙ first_is_found (cycle_from c.args.graph.now c.args.leaders.now) c.loop-v.v c.args.graph.now.n _ (omega arith) (ap is_some (sym c.in_ok-found.ensures) ∙ sym c.is_some.ensures ∙ c.if-is_some.true) c.loop-v.invariant
+
+pub loop-v-preserved : goal.loop-v-preserved
+loop-v-preserved c = first_goes_on (cycle_from c.args.graph.now c.args.leaders.now) c.loop-v.v c.args.graph.now.n _ (omega arith) (ap is_some (sym c.in_ok-found.ensures) ∙ sym c.is_some.ensures ∙ c.if-is_some.false) c.loop-v.invariant
+
+pub returns : goal.returns
+unfolding follower_cycle
+returns c = first_is_none (cycle_from c.args.graph.now c.args.leaders.now) c.loop-v.v c.args.graph.now.n _ (omega arith) c.loop-v.invariant

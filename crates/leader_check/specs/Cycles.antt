@@ -1,0 +1,64 @@
+-- The cycles of followers alone, and which of them an answer shows.
+use Rattle.std.specs.Prelude.{ℕ, zero, suc, ◌≤◌, Bool, true, false, ◌&&◌, ◌==◌, IsTrue, List, [], ◌∷◌, Option, Some, None, unwrap_or, slice_index_or, map}
+use Rattle.std.specs.List.{list_any, range_with_len}
+use Rattle.swap_base.specs.Lists.{first_of, IsIn}
+use Rattle.swap_digraph.specs.Value.{Graph}
+use Rattle.swap_digraph.specs.Graph.{has_arc, are_followers, IsPathBetween}
+use Rattle.leader_check.specs.Followers.{parties, is_follower}
+
+-- x, where the test holds
+abbrev pub only_if : {A : Type 0} → Bool → A → Option A
+only_if true x = Some x
+only_if false x = None
+
+-- whether u has an arc to a vertex at which f holds
+unfoldable pub leads_into : Graph → (ℕ → Bool) → ℕ → Bool
+leads_into g f u = list_any (λ a. (a.from == u) && f a.to) g.arcs
+
+-- the least vertex at which f holds and to which u has an arc
+unfoldable pub first_step : Graph → (ℕ → Bool) → ℕ → ℕ
+first_step g f u = unwrap_or (first_of (λ w. only_if (has_arc g u w && f w) w) (parties g)) 0
+
+-- whether a walk of exactly k arcs leads over followers alone from u to v
+unfoldable pub walks : Graph → List ℕ → ℕ → ℕ → ℕ → Bool
+walks g leaders v zero u = is_follower g leaders u && (u == v)
+walks g leaders v (suc k) u = is_follower g leaders u && leads_into g (walks g leaders v k) u
+
+-- k vertices of a walk that begins with u, where f tells by the number of arcs that are left which vertices may come next, and the least one comes
+unfoldable pub walk_of : Graph → (ℕ → ℕ → Bool) → ℕ → ℕ → List ℕ
+walk_of g f zero u = []
+walk_of g f (suc k) u = u ∷ walk_of g f k (first_step g (f k) u)
+
+-- the cycle of k vertices that begins with v: each next vertex is the least from which a walk leads back to v in the arcs that are left
+abbrev pub cycle_of : Graph → List ℕ → ℕ → ℕ → Option (List ℕ)
+cycle_of g leaders v k = only_if (walks g leaders v k v) (walk_of g (walks g leaders v) k v)
+
+-- a shortest cycle of followers that begins with v
+unfoldable pub cycle_from : Graph → List ℕ → ℕ → Option (List ℕ)
+cycle_from g leaders v = first_of (cycle_of g leaders v) (range_with_len 1 g.n)
+
+-- a shortest cycle of followers through the least follower that lies on any, and of such cycles the least in the order of their vertices
+unfoldable pub follower_cycle : Graph → List ℕ → Option (List ℕ)
+follower_cycle g leaders = first_of (cycle_from g leaders) (parties g)
+
+-- from which parties a walk of exactly k arcs leads over followers alone to v
+abbrev pub walks_to : Graph → List ℕ → ℕ → ℕ → List Bool
+walks_to g leaders v k = map (walks g leaders v k) (parties g)
+
+-- whether the list holds true at that place
+abbrev pub at : List Bool → ℕ → Bool
+at row v = slice_index_or row v false
+
+-- whether the list of that number holds true at that place
+abbrev pub at_row : List (List Bool) → ℕ → ℕ → Bool
+at_row rows k v = at (slice_index_or rows k []) v
+
+-- The list is a cycle of distinct followers, and begins with its least.
+pub record IsFollowerCycle (g : Graph) (leaders list : List ℕ) : Type 0 where
+  pub first : ℕ
+  pub last : ℕ
+  -- distinct vertices, each with an arc to the next
+  pub path : IsPathBetween g first last list
+  pub followers : IsTrue (are_followers leaders list)
+  pub closes : IsTrue (has_arc g last first)
+  pub least : (v : ℕ) → IsIn v list → first ≤ v

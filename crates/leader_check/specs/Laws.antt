@@ -1,0 +1,19 @@
+-- The laws of leaders, as the contracts state them.
+use Rattle.std.specs.Prelude.{◌≡◌, ◌↔◌, ℕ, ◌≤◌, IsTrue, List, length, None}
+use Rattle.swap_digraph.specs.Value.{Graph}
+use Rattle.swap_digraph.specs.Graph.{is_path, is_among, last_is, arcs_of, IsFeedback, IsHeight}
+use Rattle.time_bounds.specs.Times.{need}
+use Rattle.leader_check.specs.Levels.{height_of}
+use Rattle.leader_check.specs.Cycles.{follower_cycle}
+
+-- there is no cycle of followers exactly where the leaders are a feedback vertex set
+abbrev pub NoCycleIsFeedback : Type 0
+NoCycleIsFeedback = (g : Graph) (leaders : List ℕ) → (follower_cycle g leaders ≡ None) ↔ IsFeedback g leaders
+
+-- where the leaders are a feedback vertex set, the greatest level is the most vertices on a path of followers alone
+abbrev pub GreatestLevelIsHeight : Type 0
+GreatestLevelIsHeight = (g : Graph) (leaders : List ℕ) → IsFeedback g leaders → IsHeight g leaders (height_of g leaders)
+
+-- a path that ends in a leader has at most so many arcs
+abbrev pub PathsToLeadersAreBounded : Type 0
+PathsToLeadersAreBounded = (g : Graph) (leaders : List ℕ) (h : ℕ) → IsHeight g leaders h → (p : List ℕ) (leader : ℕ) → IsTrue (is_path g p) → IsTrue (last_is leader p) → IsTrue (is_among leader leaders) → arcs_of p ≤ need g.n (length leaders) h

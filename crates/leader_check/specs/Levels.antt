@@ -1,0 +1,36 @@
+-- The level of a party: how many followers in a row lead up to it.
+use Rattle.std.specs.Prelude.{◌≡◌, ◌⊎◌, ℕ, zero, suc, ◌+◌, ◌≤◌, ◌==◌, if◌then◌else◌, IsTrue, List, length, map}
+use Rattle.swap_base.specs.Lists.{greatest}
+use Rattle.swap_digraph.specs.Value.{Graph}
+use Rattle.swap_digraph.specs.Graph.{is_path, last_is, are_followers}
+use Rattle.leader_check.specs.Followers.{parties, is_follower}
+
+-- the greatest value of f at a vertex with an arc to v, 0 where there is none
+unfoldable pub most_before : Graph → (ℕ → ℕ) → ℕ → ℕ
+most_before g f v = greatest (λ a. if a.to == v then f a.from else 0) g.arcs
+
+-- the level of v, where f is the level of the vertices before it
+unfoldable pub level_after : Graph → List ℕ → (ℕ → ℕ) → ℕ → ℕ
+level_after g leaders f v = if is_follower g leaders v then most_before g f v + 1 else 0
+
+-- the most vertices on a walk of followers that ends in v, of walks with at most so many vertices
+unfoldable pub level_within : Graph → List ℕ → ℕ → ℕ → ℕ
+level_within g leaders zero v = 0
+level_within g leaders (suc most) v = level_after g leaders (level_within g leaders most) v
+
+-- 0 for a leader; for a follower the most vertices on a walk of followers that ends in it, of walks with no more vertices than parties
+unfoldable pub level_of : Graph → List ℕ → ℕ → ℕ
+level_of g leaders v = level_within g leaders g.n v
+
+-- the greatest level
+unfoldable pub height_of : Graph → List ℕ → ℕ
+height_of g leaders = greatest (level_of g leaders) (parties g)
+
+-- the levels of the parties, of walks with at most so many vertices
+abbrev pub levels_within : Graph → List ℕ → ℕ → List ℕ
+levels_within g leaders most = map (level_within g leaders most) (parties g)
+
+-- k is the most vertices on a path of followers alone that ends in v: 0 for a leader
+pub record IsLevel (g : Graph) (leaders : List ℕ) (v k : ℕ) : Type 0 where
+  pub reached : (k ≡ 0) ⊎ ((p : List ℕ) × IsTrue (is_path g p) × IsTrue (last_is v p) × IsTrue (are_followers leaders p) × (length p ≡ k))
+  pub most : (p : List ℕ) → IsTrue (is_path g p) → IsTrue (last_is v p) → IsTrue (are_followers leaders p) → length p ≤ k

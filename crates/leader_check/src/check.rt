@@ -1,0 +1,36 @@
+//! The check of leaders.
+
+ghost use Rattle.std.specs.Prelude.{◌≡◌, ◌≤◌, ◌<◌, ℕ, length, slice_index, IfOk};
+ghost use Rattle.swap_digraph.specs.Graph.{HasEnds, IsFeedback, IsHeight};
+ghost use Rattle.leader_check.specs.Levels.{level_of, height_of, IsLevel};
+ghost use Rattle.leader_check.specs.Cycles.{follower_cycle, IsFollowerCycle};
+ghost use Rattle.leader_check.specs.Answer.{cycle_shown, IfLevels, IfCycle};
+
+use crate::answer::LeaderAnswer;
+use crate::cycle::follower_cycle;
+use crate::rounds::all_levels;
+use std::alloc::Global;
+use swap_base::{NoMemory, PartyId};
+use swap_digraph::Digraph;
+
+/// The levels of the parties where the leaders are a feedback vertex set, and else a cycle of followers: a shortest one through the least follower that lies on any.
+pub fn levels(alloc: Global, graph: &Digraph, leaders: &[PartyId]) -> Result<LeaderAnswer, NoMemory>
+    requires parties { graph.now.n ≤ 32 }
+    requires ends { HasEnds graph.now }
+    ensures exact { IfOk result (λ a. cycle_shown a ≡ follower_cycle graph.now leaders.now) }
+    ensures feedback { IfOk result (λ a. IfLevels a (λ _. IsFeedback graph.now leaders.now)) }
+    ensures not_feedback { IfOk result (λ a. IfCycle a (λ _. IsFeedback graph.now leaders.now → ⊥)) }
+    ensures cycle { IfOk result (λ a. IfCycle a (λ list. IsFollowerCycle graph.now leaders.now list)) }
+    ensures parties { IfOk result (λ a. IfLevels a (λ l. length l.level ≡ graph.now.n)) }
+    ensures level { IfOk result (λ a. IfLevels a (λ l. (v : ℕ) → v < graph.now.n
+        → slice_index l.level v ≡ level_of graph.now leaders.now v)) }
+    ensures longest { IfOk result (λ a. IfLevels a (λ l. (v : ℕ) → v < graph.now.n
+        → IsLevel graph.now leaders.now v (slice_index l.level v))) }
+    ensures greatest { IfOk result (λ a. IfLevels a (λ l. l.h ≡ height_of graph.now leaders.now)) }
+    ensures height { IfOk result (λ a. IfLevels a (λ l. IsHeight graph.now leaders.now l.h)) }
+{
+    match follower_cycle(alloc, graph, leaders)? {
+        Some(cycle) => Ok(LeaderAnswer::Cycle(cycle)),
+        None => Ok(LeaderAnswer::Levels(all_levels(alloc, graph, leaders)?)),
+    }
+}

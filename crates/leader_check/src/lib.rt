@@ -1,0 +1,17 @@
+//! Whether the leaders of a digraph are a feedback vertex set: with the levels of the parties, or with a cycle of followers (Herlihy 2018, section 2).
+//!
+//! Read `specs/Levels.antt` and `specs/Cycles.antt` first: the level of a party, and which cycle is shown.
+#![tactic(auto)]
+
+mod answer;
+mod check;
+mod cycle;
+mod laws;
+mod rounds;
+
+pub use answer::{LeaderAnswer, Levels};
+pub use check::levels;
+pub use laws::{greatest_level_is_height, no_cycle_is_feedback, paths_to_leaders_are_bounded};
+
+#[cfg(test)]
+mod tests;

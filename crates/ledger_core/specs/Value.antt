@@ -1,0 +1,25 @@
+-- What callers see of a ledger and of a scan.
+use Rattle.std.specs.Prelude.{◌<◌, ◌^◌, ℕ, List, length}
+use Rattle.swap_digraph.specs.declared.deal.Deal.{Deal}
+use Rattle.escrow_core.specs.declared.terms.Terms.{Terms}
+use Rattle.ledger_core.specs.declared.entry.Entry.{Entry}
+use Rattle.ledger_core.specs.History.{height}
+
+pub record LedgerState : Type 0 where
+  pub deal : Deal
+  pub arc : ℕ
+  pub history : List Entry
+  -- how many further entries have room already
+  pub spare : ℕ
+
+pub record ScanState : Type 0 where
+  -- the arc's correct terms
+  pub terms : Terms
+  pub entries : List Entry
+  -- how many further entries have room already
+  pub spare : ℕ
+
+-- Entries whose height and whose numbers are numbers of 32 bits, as those of every legal history.
+pub record IsCountable (h : List Entry) : Type 0 where
+  pub height : height h < 2 ^ 32
+  pub count : length h < 2 ^ 32

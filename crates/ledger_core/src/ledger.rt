@@ -1,0 +1,247 @@
+//! The ledger of one arc.
+
+ghost use Rattle.std.specs.Prelude.{◌≡◌, ◌≢◌, ◌<◌, ◌≤◌, ◌+◌, ◌++◌, ◌==◌, ◌||◌, ◌∷◌, [], ℕ, IsTrue, length, drop, OnOk, OnErr, IfOk};
+ghost use Rattle.swap_digraph.specs.Deal.{party, counterparty, IsWellSized};
+ghost use Rattle.ledger_core.specs.History.{height, held, balance, fit, is_full, is_clock_full, reply_to, reply_to_tick, IsLegal};
+ghost use Rattle.ledger_core.specs.Ledger.{call_entry, tick_entry, IsAfter, AreKept, AddUp};
+
+use crate::accounts::Accounts;
+use crate::answer::{accounts_after, answer, one_more_where};
+use crate::entry::{Call, Entry, EntryList, Sender, What};
+use escrow_core::{Contract, Reply};
+use std::alloc::Global;
+use std::marker::Model;
+use swap_base::{ArcId, Listed, NoMemory, PartyId, TryCopy};
+use swap_digraph::{Deal, copy_deal};
+
+/// A ledger: its history, and beside it the height, the accounts, the contract and how many entries each sender has.
+#[derive(Debug, Drop)]
+pub struct Ledger {
+    deal: Deal,
+    arc: ArcId,
+    party: PartyId,
+    counterparty: PartyId,
+    entries: Vec<Entry>,
+    height: u32,
+    accounts: Accounts,
+    contract: Option<Contract>,
+    party_calls: u32,
+    counterparty_calls: u32,
+    ticks: u32,
+}
+
+impl Model for Ledger {
+    ghost use Rattle.ledger_core.specs.Value.{LedgerState};
+
+    ghost Value = { LedgerState };
+
+    ghost use Rattle.ledger_core.specs.Inside.{ledger_of, IsKept};
+
+    ghost view = { ledger_of };
+
+    ghost invariant = { IsKept };
+}
+
+impl Ledger {
+    /// A ledger at height 0 without entries. The arc's party holds the amount. It keeps a copy of the deal.
+    pub fn new(alloc: Global, deal: &Deal, arc: ArcId) -> Result<Ledger, NoMemory>
+        requires sized { IsWellSized deal.now }
+        requires arc { arc < length deal.now.graph.arcs }
+        ensures { IfOk result (λ l. l ≡ record { deal = deal.now; arc = arc; history = []; spare = 0 }) }
+    {
+        let ends = deal.graph.arcs()[arc as usize];
+        let amount = deal.amounts.as_slice()[arc as usize];
+        Ok(Ledger {
+            deal: copy_deal(deal)?,
+            arc,
+            party: ends.from,
+            counterparty: ends.to,
+            entries: Vec::new(alloc),
+            height: 0,
+            accounts: Accounts {
+                party: amount,
+                counterparty: 0,
+                held: 0,
+            },
+            contract: None,
+            party_calls: 0,
+            counterparty_calls: 0,
+            ticks: 0,
+        })
+    }
+
+    /// Makes room for a further entry. Want of memory leaves everything as it was.
+    pub fn reserve(&mut self) -> Result<(), NoMemory>
+        ensures ok { OnOk result (0 < self.new.spare) }
+        ensures err { OnErr result (self.new ≡ self.old) }
+        ensures deal { self.new.deal ≡ self.old.deal }
+        ensures arc { self.new.arc ≡ self.old.arc }
+        ensures history { self.new.history ≡ self.old.history }
+        ensures spare { self.old.spare ≤ self.new.spare }
+    {
+        self.entries.reserve(1)?;
+        Ok(())
+    }
+
+    /// Whether the sender has as many entries as a ledger takes.
+    fn is_full(&self, p: PartyId) -> bool
+        requires { IsTrue ((p == party self.now.deal self.now.arc) || (p == counterparty self.now.deal self.now.arc)) }
+        ensures { result ≡ is_full self.now.history p }
+    {
+        let calls = if p == self.party {
+            self.party_calls
+        } else {
+            self.counterparty_calls
+        };
+        calls >= 32
+    }
+
+    /// Makes a call at the present height, and answers with the reply that the table gives. It takes no memory.
+    pub fn apply(&mut self, sender: PartyId, call: Call) -> Reply
+        requires spare { 0 < self.old.spare }
+        requires of_the_two { IsTrue ((sender == party self.old.deal self.old.arc) || (sender == counterparty self.old.deal self.old.arc)) }
+        requires fits { IsTrue (fit self.old.deal self.old.arc call) }
+        ensures reply { result ≡ reply_to self.old.deal self.old.arc self.old.history sender call }
+        ensures full { result ≡ Reply.SenderFull → self.new ≡ self.old }
+        ensures kept { result ≢ Reply.SenderFull → IsAfter self.old (call_entry sender (height self.old.history) call result) self.new }
+        ensures refused { result ≢ Reply.Accepted → AreKept self.old.deal self.old.arc self.old.history self.new.history }
+        ensures spare { self.old.spare ≤ self.new.spare + 1 }
+        ensures legal { IsLegal self.new.deal self.new.arc self.new.history }
+    {
+        if self.is_full(sender) {
+            return Reply::SenderFull;
+        }
+        let balance = self.balance(sender);
+        let from_party = sender == self.party;
+        let reply = answer(
+            &self.deal,
+            self.arc,
+            &mut self.contract,
+            self.height,
+            balance,
+            sender,
+            &call,
+        );
+        self.accounts = accounts_after(self.party, self.accounts, from_party, &call, reply);
+        self.party_calls = one_more_where(from_party, self.party_calls);
+        self.counterparty_calls = one_more_where(
+            sender == self.counterparty,
+            self.counterparty_calls,
+        );
+        let entry = Entry {
+            sender: Sender::Party(sender),
+            height: self.height,
+            what: What::Call(call),
+            reply,
+        };
+        match self.entries.push(entry) {
+            Ok(()) => reply,
+            Err(_) => unreachable!(),
+        }
+    }
+
+    /// Raises the height by k. It takes no memory.
+    pub fn tick(&mut self, k: u32) -> Reply
+        requires spare { 0 < self.old.spare }
+        requires some { 1 ≤ k }
+        requires below { k ≤ 1000000 }
+        ensures reply { result ≡ reply_to_tick self.old.history k }
+        ensures full { result ≡ Reply.ClockFull → self.new ≡ self.old }
+        ensures kept { result ≡ Reply.Accepted → IsAfter self.old (tick_entry k (height self.old.history + k) Reply.Accepted) self.new }
+        ensures spare { self.old.spare ≤ self.new.spare + 1 }
+        ensures legal { IsLegal self.new.deal self.new.arc self.new.history }
+    {
+        if self.ticks >= 20000 || self.height + k > 1000000 {
+            return Reply::ClockFull;
+        }
+        self.height += k;
+        self.ticks += 1;
+        let entry = Entry {
+            sender: Sender::Clock,
+            height: self.height,
+            what: What::Tick(k),
+            reply: Reply::Accepted,
+        };
+        match self.entries.push(entry) {
+            Ok(()) => Reply::Accepted,
+            Err(_) => unreachable!(),
+        }
+    }
+
+    /// The entries, oldest first.
+    pub fn history(&self) -> &[Entry]
+        ensures value { result.now ≡ self.now.history }
+        ensures legal { IsLegal self.now.deal self.now.arc result.now }
+        ensures units { AddUp self.now.deal self.now.arc result.now }
+    {
+        &self.entries
+    }
+
+    /// The entries, without taking memory.
+    pub fn into_history(self) -> EntryList
+        ensures value { result ≡ self.history }
+        ensures legal { IsLegal self.deal self.arc result }
+    {
+        Listed::new(self.entries)
+    }
+
+    /// The sum of the ticks.
+    pub fn height(&self) -> u32
+        ensures value { result ≡ height self.now.history }
+        ensures low { result ≤ 1000000 }
+    {
+        self.height
+    }
+
+    /// The balance of one of the arc's two parties, in units.
+    pub fn balance(&self, p: PartyId) -> u64
+        requires { IsTrue ((p == party self.now.deal self.now.arc) || (p == counterparty self.now.deal self.now.arc)) }
+        ensures { result ≡ balance self.now.deal self.now.arc self.now.history p }
+    {
+        if p == self.party {
+            self.accounts.party
+        } else {
+            self.accounts.counterparty
+        }
+    }
+
+    /// The units that the contract holds.
+    pub fn held(&self) -> u64
+        ensures { result ≡ held self.now.history }
+    {
+        self.accounts.held
+    }
+
+    pub fn arc(&self) -> ArcId
+        ensures value { result ≡ self.now.arc }
+        ensures below { result < length self.now.deal.graph.arcs }
+    {
+        self.arc
+    }
+
+    /// The deal that the ledger was made for.
+    pub fn deal(&self) -> &Deal
+        ensures value { result.now ≡ self.now.deal }
+        ensures sized { IsWellSized result.now }
+    {
+        &self.deal
+    }
+
+    /// A copy of the entries from k on.
+    pub fn copy_from(&self, k: usize) -> Result<EntryList, NoMemory>
+        requires { k ≤ length self.now.history }
+        ensures { IfOk result (λ l. l ≡ drop k self.now.history) }
+    {
+        copies(*self.entries.allocator(), &self.entries[k..])
+    }
+}
+
+fn copies(alloc: Global, entries: &[Entry]) -> Result<EntryList, NoMemory>
+    ensures { IfOk result (λ l. l ≡ entries.now) }
+{
+    let mut list = Vec::new(alloc);
+    for e in entries {
+        list.push(e.copy()?)?;
+    }
+    Ok(Listed::new(list))
+}

@@ -1,0 +1,217 @@
+-- An event that is answered fits its deal.
+use Rattle.std.proofs.Common.{◌≡◌, ℕ, ◌<◌, ◌≤◌, ◌&&◌, ◌||◌, ◌==◌, Bool, true, length, List, Ok, Option, Some, None, refl, subst, arith, eq-eqb}
+use Rattle.std.specs.Prelude.{unwrap_or, IsTrue, codes}
+use Rattle.std.proofs.lemmas.Bool.{le-leb}
+use Rattle.std.proofs.lemmas.Bool.Decides.{nat_tests}
+use Rattle.swap_base.proofs.Lists.{and_both}
+use Rattle.swap_digraph.specs.declared.deal.Deal.{Deal}
+use Rattle.swap_digraph.specs.Deal.{IsWellSized, party, counterparty, path_limit}
+use Rattle.hashkey_path.specs.declared.hashkey.Hashkey.{Hashkey}
+use Rattle.escrow_core.specs.Terms.{terms_of}
+use Rattle.deviator_script.specs.declared.job.Job.{Job}
+use Rattle.deviator_script.specs.declared.moves.Move.{Move}
+use Rattle.deviator_script.specs.declared.moves.Move.TheVariants.{Publish, Raw, Claim, Refund, Transfer}
+use Rattle.deviator_script.specs.declared.event.Event.{Event}
+use Rattle.deviator_script.specs.declared.event.Event.TheVariants.{Tick, Call}
+use Rattle.deviator_script.specs.Resolved.{arc_of as stands_on, is_built, fits_if, call_of as call_of_move, IsFitting}
+use Rattle.deviator_script.specs.Step.{CanStep}
+use Rattle.offer_fields.specs.declared.reason.Reason.TheVariants.{NotAdjacent}
+use Rattle.offer_fields.specs.Limits.{within, digest_of}
+use Rattle.offer_events.specs.declared.raw.RawTerms.{RawTerms}
+use Rattle.offer_events.specs.declared.raw.RawKey.{RawKey}
+use Rattle.offer_events.specs.declared.raw.RawMove.{RawMove}
+use Rattle.offer_events.specs.declared.raw.RawMove.TheVariants as raw_moves
+use Rattle.offer_events.specs.declared.raw.RawEvent.{RawEvent}
+use Rattle.offer_events.specs.declared.raw.RawEvent.TheVariants as raw_events
+use Rattle.offer_events.specs.Lists.{each_of}
+use Rattle.offer_events.specs.Names.{number_of}
+use Rattle.offer_events.specs.Limits.{below, ranged, optional_most, locks_of, optional_locks, sig_of}
+use Rattle.offer_events.specs.Moves.{arc_of, publish_of, key_of, unlock_of, claim_of, refund_of, transfer_of, move_of}
+use Rattle.offer_events.specs.Event.{tick_of, deviating, adjacent, received, placed, call_of, checked}
+use Rattle.offer_events.proofs.Parts.{parts, passed, within_fits, below_fits, ranged_fits, number_below, each_length, each_below}
+
+-- what a move keeps to before it is known where it stands
+record IsMade (d : Deal) (line : ℕ) (mv : Move) : Type 0 where
+  built : IsTrue (is_built mv)
+  arc : stands_on mv < length d.graph.arcs
+  fits : (u : Unit {0}) → received d line mv ≡ Ok u → IsTrue (fits_if d (stands_on mv) (call_of_move d mv))
+
+arc_fits : (d : Deal) (line : ℕ) (field : List ℕ) (n a : ℕ) → arc_of d line field n ≡ Ok a → a < length d.graph.arcs
+unfolding arc_of
+arc_fits d line field n a e = below_fits line field (length d.graph.arcs) n a e
+
+optional_fits : (line : ℕ) (field : List ℕ) (high : ℕ) (o given : Option ℕ) (own : ℕ) → optional_most line field high o ≡ Ok given → own ≤ high → unwrap_or given own ≤ high
+optional_fits line field high None given own e l = let s : given ≡ None = cc e in rw s l
+optional_fits line field high (Some n) given own e l =
+    let p = parts (ranged line field 0 high n) _ given e in
+    let s : given ≡ Some p.part = cc (p.rest) in
+    rw s (ranged_fits line field 0 high n p.part p.first).1
+
+locks_length : (line count : ℕ) (texts locks : List (List ℕ)) → locks_of line count texts ≡ Ok locks → length locks ≡ count
+unfolding locks_of
+locks_length line count texts locks e =
+    let p = parts (within line (codes "locks") count count (length texts)) _ locks e in
+    let w = within_fits line (codes "locks") count count (length texts) p.part p.first in
+    let l = each_length (digest_of line (codes "locks")) texts locks p.rest in
+    omega arith
+
+optional_length : (line count : ℕ) (o given : Option (List (List ℕ))) (own : List (List ℕ)) → optional_locks line count o ≡ Ok given → length own ≡ count → length (unwrap_or given own) ≡ count
+optional_length line count None given own e l = let s : given ≡ None = cc e in rw s l
+optional_length line count (Some texts) given own e l =
+    let p = parts (locks_of line count texts) _ given e in
+    let s : given ≡ Some p.part = cc (p.rest) in
+    rw s (locks_length line count texts p.part p.first)
+
+and_six : (a b c d e f : Bool) → a ≡ true → b ≡ true → c ≡ true → d ≡ true → e ≡ true → f ≡ true → (a && b && c && d && e && f) ≡ true
+and_six a b c d e f p q r s t u = rw (p, q, r, s, t, u) refl
+
+and_four : (a b c d : Bool) → a ≡ true → b ≡ true → c ≡ true → d ≡ true → (a && b && c && d) ≡ true
+and_four a b c d p q r s = rw (p, q, r, s) refl
+
+publish_made : (d : Deal) (line n : ℕ) (t : RawTerms) (mv : Move) → IsWellSized d → publish_of d line n t ≡ Ok mv → IsMade d line mv
+unfolding publish_of
+publish_made d line n t mv w e =
+    let p = parts (arc_of d line (codes "arc") n) _ mv e in
+    let q = parts (optional_most line (codes "start") 1000000 t.start) _ mv p.rest in
+    let r = parts (optional_most line (codes "delta") 1000000 t.delta) _ mv q.rest in
+    let b = parts (optional_most line (codes "bound") 1000000 t.bound) _ mv r.rest in
+    let k = parts (optional_most line (codes "timelock") 1000000 t.timelock) _ mv b.rest in
+    let m = parts (optional_most line (codes "amount") 1000000000000 t.amount) _ mv k.rest in
+    let l = parts (optional_locks line (length d.leaders) t.locks) _ mv m.rest in
+    let s : Publish p.part q.part r.part b.part k.part m.part l.part ≡ mv = cc (l.rest) in
+    let a : p.part < length d.graph.arcs = arc_fits d line (codes "arc") n p.part p.first in
+    let own = terms_of d p.part in
+    subst (λ x. IsMade d line x) s (record {
+      built = refl;
+      arc = a;
+      fits = λ u h. and_six _ _ _ _ _ _
+          (eq-eqb _ _ (optional_length line (length d.leaders) t.locks l.part own.locks l.first w.hashlocks))
+          (le-leb _ _ (optional_fits line (codes "start") 1000000 t.start q.part own.start q.first (omega (arith, w.start))))
+          (le-leb _ _ (optional_fits line (codes "delta") 1000000 t.delta r.part own.delta r.first (omega (arith, w.delta))))
+          (le-leb _ _ (optional_fits line (codes "bound") 1000000 t.bound b.part own.bound b.first (omega (arith, w.bound))))
+          (le-leb _ _ (optional_fits line (codes "timelock") 1000000 t.timelock k.part own.timelock k.first (w.timelock p.part a)))
+          (le-leb _ _ (optional_fits line (codes "amount") 1000000000000 t.amount m.part own.amount m.first (w.amount p.part a)));
+    })
+
+-- what a hashkey keeps to
+record IsKey (d : Deal) (path : List ℕ) (k : RawKey) (key : Hashkey) : Type 0 where
+  lock : key.lock < length d.leaders
+  same : key.path ≡ path
+  path_few : length k.path ≤ path_limit d
+  sigs_few : length key.sigs ≤ path_limit d
+
+key_fits : (d : Deal) (line : ℕ) (path : List ℕ) (k : RawKey) (key : Hashkey) → key_of d line path k ≡ Ok key → IsKey d path k key
+unfolding key_of
+key_fits d line path k key e =
+    let p = parts (below line (codes "lock") (length d.leaders) k.lock) _ key e in
+    let q = parts (digest_of line (codes "secret") k.secret) _ key p.rest in
+    let r = parts (within line (codes "path") 0 (path_limit d) (length k.path)) _ key q.rest in
+    let b = parts (within line (codes "sigs") 0 (path_limit d) (length k.sigs)) _ key r.rest in
+    let l = parts (each_of (sig_of line) k.sigs) _ key b.rest in
+    let made : Hashkey = record { lock = p.part; secret = q.part; path = path; sigs = l.part } in
+    let s : made ≡ key = cc (l.rest) in
+    let n = each_length (sig_of line) k.sigs l.part l.first in
+    let few = within_fits line (codes "sigs") 0 (path_limit d) (length k.sigs) b.part b.first in
+    subst (λ x. IsKey d path k x) s (record {
+      lock = below_fits line (codes "lock") (length d.leaders) k.lock p.part p.first;
+      same = refl;
+      path_few = (within_fits line (codes "path") 0 (path_limit d) (length k.path) r.part r.first).1;
+      sigs_few = omega (arith, n, few.1);
+    })
+
+unlock_made : (d : Deal) (names : List (List ℕ)) (line n : ℕ) (k : RawKey) (mv : Move) → length names ≡ d.graph.n → unlock_of d names line n k ≡ Ok mv → IsMade d line mv
+unfolding unlock_of
+unlock_made d names line n k mv same e =
+    let p = parts (each_of (number_of line names) k.path) _ mv e in
+    let q = parts (arc_of d line (codes "arc") n) _ mv p.rest in
+    let r = parts (key_of d line p.part k) _ mv q.rest in
+    let s : Raw q.part r.part ≡ mv = cc (r.rest) in
+    let key = key_fits d line p.part k r.part r.first in
+    let len = each_length (number_of line names) k.path p.part p.first in
+    let all = each_below line d.graph.n names k.path p.part same p.first in
+    subst (λ x. IsMade d line x) s (record {
+      built = refl;
+      arc = arc_fits d line (codes "arc") n q.part q.first;
+      fits = λ u h. and_four _ _ _ _
+          (let l : r.part.lock < length d.leaders = key.lock in grind (arith, nat_tests))
+          (le-leb (length r.part.path) (path_limit d) (rw key.same (omega (arith, len, key.path_few))))
+          (le-leb (length r.part.sigs) (path_limit d) key.sigs_few)
+          (rw key.same all);
+    })
+
+claim_made : (d : Deal) (line n : ℕ) (mv : Move) → claim_of d line n ≡ Ok mv → IsMade d line mv
+unfolding claim_of
+claim_made d line n mv e =
+    let p = parts (arc_of d line (codes "arc") n) _ mv e in
+    let s : Claim p.part ≡ mv = cc (p.rest) in
+    subst (λ x. IsMade d line x) s (record { built = refl; arc = arc_fits d line (codes "arc") n p.part p.first; fits = λ u h. refl })
+
+refund_made : (d : Deal) (line n : ℕ) (mv : Move) → refund_of d line n ≡ Ok mv → IsMade d line mv
+unfolding refund_of
+refund_made d line n mv e =
+    let p = parts (arc_of d line (codes "arc") n) _ mv e in
+    let s : Refund p.part ≡ mv = cc (p.rest) in
+    subst (λ x. IsMade d line x) s (record { built = refl; arc = arc_fits d line (codes "arc") n p.part p.first; fits = λ u h. refl })
+
+adjacent_fits : (d : Deal) (line p a : ℕ) (u : Unit {0}) → adjacent d line p a ≡ Ok u → ((p == party d a) || (p == counterparty d a)) ≡ true
+unfolding adjacent
+adjacent_fits d line p a u e = (passed ((p == party d a) || (p == counterparty d a)) tt u (NotAdjacent line) e).0
+
+transfer_made : (d : Deal) (names : List (List ℕ)) (line n : ℕ) (name : List ℕ) (amount : ℕ) (mv : Move) → transfer_of d names line n name amount ≡ Ok mv → IsMade d line mv
+unfolding transfer_of
+transfer_made d names line n name amount mv e =
+    let p = parts (number_of line names name) _ mv e in
+    let q = parts (arc_of d line (codes "arc") n) _ mv p.rest in
+    let r = parts (ranged line (codes "units") 0 1000000000000 amount) _ mv q.rest in
+    let s : Transfer q.part p.part r.part ≡ mv = cc (r.rest) in
+    subst (λ x. IsMade d line x) s (record {
+      built = refl;
+      arc = arc_fits d line (codes "arc") n q.part q.first;
+      fits = λ u h. and_both _ _ (adjacent_fits d line p.part q.part u h) (le-leb _ _ (ranged_fits line (codes "units") 0 1000000000000 amount r.part r.first).1);
+    })
+
+move_made : (d : Deal) (names : List (List ℕ)) (line : ℕ) (raw : RawMove) (mv : Move) → IsWellSized d → length names ≡ d.graph.n → move_of d names line raw ≡ Ok mv → IsMade d line mv
+move_made d names line (raw_moves.Publish n t) mv w same e = publish_made d line n t mv w e
+move_made d names line (raw_moves.Raw n k) mv w same e = unlock_made d names line n k mv same e
+move_made d names line (raw_moves.Claim n) mv w same e = claim_made d line n mv e
+move_made d names line (raw_moves.Refund n) mv w same e = refund_made d line n mv e
+move_made d names line (raw_moves.Transfer n to units) mv w same e = transfer_made d names line n to units mv e
+
+pub move_arc : (d : Deal) (names : List (List ℕ)) (line : ℕ) (raw : RawMove) (mv : Move) → IsWellSized d → length names ≡ d.graph.n → move_of d names line raw ≡ Ok mv → stands_on mv < length d.graph.arcs
+move_arc d names line raw mv w same e = (move_made d names line raw mv w same e).arc
+
+placed_fits : (d : Deal) (line p : ℕ) (mv : Move) (u : Unit {0}) → IsMade d line mv → placed d line p mv ≡ Ok u → IsFitting d p mv
+unfolding placed
+placed_fits d line p mv u made e =
+    let q = parts (adjacent d line p (stands_on mv)) _ u e in
+    record {
+      built = made.built;
+      arc = made.arc;
+      adjacent = adjacent_fits d line p (stands_on mv) q.part q.first;
+      fits = made.fits u q.rest;
+    }
+
+call_fits : (job : Job) (line : ℕ) (name : List ℕ) (raw : RawMove) (event : Event) → IsWellSized job.deal → length job.names ≡ job.deal.graph.n → call_of job line name raw ≡ Ok event → CanStep job.deal event
+unfolding call_of
+call_fits job line name raw event w same e =
+    let p = parts (number_of line job.names name) _ event e in
+    let q = parts (move_of job.deal job.names line raw) _ event p.rest in
+    let r = parts (deviating line _) _ event q.rest in
+    let b = parts (placed job.deal line p.part q.part) _ event r.rest in
+    let s : Call p.part q.part ≡ event = cc (b.rest) in
+    let known : p.part < length job.names = number_below line job.names name p.part p.first in
+    let made = move_made job.deal job.names line raw q.part w same q.first in
+    subst (λ x. CanStep job.deal x) s (record { known = omega (arith, known, same); fits = placed_fits job.deal line p.part q.part b.part made b.first })
+
+tick_fits : (d : Deal) (line n : ℕ) (by : Option ℕ) (event : Event) → tick_of d line n by ≡ Ok event → CanStep d event
+unfolding tick_of
+tick_fits d line n by event e =
+    let p = parts (arc_of d line (codes "tick") n) _ event e in
+    let q = parts (ranged line (codes "by") 1 1000000 (unwrap_or by 1)) _ event p.rest in
+    let s : Tick p.part q.part ≡ event = cc (q.rest) in
+    let k = ranged_fits line (codes "by") 1 1000000 (unwrap_or by 1) q.part q.first in
+    subst (λ x. CanStep d x) s (record { arc = arc_fits d line (codes "tick") n p.part p.first; some = k.0; few = k.1 })
+
+pub checked_fits : (job : Job) (line : ℕ) (raw : RawEvent) (event : Event) → IsWellSized job.deal → length job.names ≡ job.deal.graph.n → checked job line raw ≡ Ok event → CanStep job.deal event
+checked_fits job line (raw_events.Tick n by) event w same e = tick_fits job.deal line n by event e
+checked_fits job line (raw_events.Call name raw) event w same e = call_fits job line name raw event w same e

@@ -1,0 +1,74 @@
+-- The event that a line asks for, or the first reason against it: its text, its fields, its names, its numbers and texts, and where it stands.
+use Rattle.std.specs.Prelude.{◌==◌, ◌||◌, ℕ, Bool, false, List, codes, slice_index_or, unwrap_or, if◌then◌else◌, Option, Result, Ok, Err}
+use Rattle.swap_base.specs.Fault.{◌>>=◌}
+use Rattle.swap_digraph.specs.declared.deal.Deal.{Deal}
+use Rattle.swap_digraph.specs.Deal.{party, counterparty}
+use Rattle.deviator_script.specs.declared.job.Job.{Job}
+use Rattle.deviator_script.specs.declared.job.Purpose.{Purpose}
+use Rattle.deviator_script.specs.declared.job.Purpose.TheVariants.{Race}
+use Rattle.deviator_script.specs.declared.moves.Move.{Move}
+use Rattle.deviator_script.specs.declared.moves.Move.TheVariants.{Transfer}
+use Rattle.deviator_script.specs.declared.event.Event.{Event}
+use Rattle.deviator_script.specs.declared.event.Event.TheVariants.{Tick, Call}
+use Rattle.deviator_script.specs.Resolved.{arc_of as stands_on}
+use Rattle.offer_fields.specs.declared.reason.Reason.{Reason}
+use Rattle.offer_fields.specs.declared.reason.Reason.TheVariants.{NotAdjacent, ConformingCall, EventInRace}
+use Rattle.offer_fields.specs.Fields.{object_of}
+use Rattle.offer_events.specs.declared.raw.RawMove.{RawMove}
+use Rattle.offer_events.specs.declared.raw.RawEvent.{RawEvent}
+use Rattle.offer_events.specs.declared.raw.RawEvent.TheVariants as raws
+use Rattle.offer_events.specs.Reading.{event_at}
+use Rattle.offer_events.specs.Names.{number_of}
+use Rattle.offer_events.specs.Limits.{ranged}
+use Rattle.offer_events.specs.Moves.{arc_of, move_of}
+
+-- a tick is by 1 height where it doesn't say
+unfoldable pub tick_of : Deal → ℕ → ℕ → Option ℕ → Result Event Reason
+tick_of d line n by = do
+  arc ← arc_of d line (codes "tick") n
+  heights ← ranged line (codes "by") 1 1000000 (unwrap_or by 1)
+  Ok (Tick arc heights)
+
+-- a conforming party makes no call of a line
+unfoldable pub deviating : ℕ → Bool → Result (Unit {0}) Reason
+deviating line is_conforming = if is_conforming then Err (ConformingCall line) else Ok tt
+
+-- p is one of the arc's two parties
+unfoldable pub adjacent : Deal → ℕ → ℕ → ℕ → Result (Unit {0}) Reason
+adjacent d line p a = if (p == party d a) || (p == counterparty d a) then Ok tt else Err (NotAdjacent line)
+
+-- who gets units is one of the arc's two parties
+abbrev pub received : Deal → ℕ → Move → Result (Unit {0}) Reason
+received d line (Transfer a to units) = adjacent d line to a
+received d line _ = Ok tt
+
+unfoldable pub placed : Deal → ℕ → ℕ → Move → Result (Unit {0}) Reason
+placed d line p mv = do
+  u ← adjacent d line p (stands_on mv)
+  received d line mv
+
+unfoldable pub call_of : Job → ℕ → List ℕ → RawMove → Result Event Reason
+call_of job line name raw = do
+  p ← number_of line job.names name
+  mv ← move_of job.deal job.names line raw
+  u ← deviating line (slice_index_or job.conforming p false)
+  w ← placed job.deal line p mv
+  Ok (Call p mv)
+
+abbrev pub checked : Job → ℕ → RawEvent → Result Event Reason
+checked job line (raws.Tick n by) = tick_of job.deal line n by
+checked job line (raws.Call name raw) = call_of job line name raw
+
+-- a race has no events of its own
+abbrev pub outside_race : ℕ → Purpose → Result (Unit {0}) Reason
+outside_race line Race = Err (EventInRace line)
+outside_race line _ = Ok tt
+
+-- the event of a line
+unfoldable pub event_of : Job → ℕ → List ℕ → Result Event Reason
+event_of job line text = do
+  d ← object_of line text
+  raw ← event_at line d
+  event ← checked job line raw
+  u ← outside_race line job.purpose
+  Ok event

@@ -1,0 +1,6 @@
+pub mod Reading
+pub mod Lists
+pub mod Names
+pub mod Limits
+pub mod Moves
+pub mod Event

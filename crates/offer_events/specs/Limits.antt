@@ -1,0 +1,44 @@
+-- Numbers in their ranges, and values in hexadecimal.
+use Rattle.std.specs.Prelude.{ℕ, List, length, codes, nat_lt, if◌then◌else◌, Option, Some, None, Result, Ok, Err}
+use Rattle.hex.specs.Hex.{decode_sized}
+use Rattle.swap_base.specs.Fault.{◌>>=◌}
+use Rattle.hash_signature.specs.Signature.{values_of}
+use Rattle.hash_signature.specs.declared.sig.Sig.{Sig}
+use Rattle.offer_fields.specs.declared.reason.Reason.{Reason}
+use Rattle.offer_fields.specs.declared.reason.Reason.TheVariants.{OverLimit}
+use Rattle.offer_fields.specs.Limits.{within, decoded, digest_of}
+use Rattle.offer_events.specs.Lists.{each_of}
+
+-- a number that is below a count
+unfoldable pub below : ℕ → List ℕ → ℕ → ℕ → Result ℕ Reason
+below line field count n = if nat_lt n count then Ok n else Err (OverLimit line field n)
+
+-- a number from low to high
+unfoldable pub ranged : ℕ → List ℕ → ℕ → ℕ → ℕ → Result ℕ Reason
+ranged line field low high n = do
+  u ← within line field low high n
+  Ok n
+
+abbrev pub optional_most : ℕ → List ℕ → ℕ → Option ℕ → Result (Option ℕ) Reason
+optional_most line field high None = Ok None
+optional_most line field high (Some n) = do
+  m ← ranged line field 0 high n
+  Ok (Some m)
+
+-- one digest for each lock
+unfoldable pub locks_of : ℕ → ℕ → List (List ℕ) → Result (List (List ℕ)) Reason
+locks_of line count texts = do
+  u ← within line (codes "locks") count count (length texts)
+  each_of (digest_of line (codes "locks")) texts
+
+abbrev pub optional_locks : ℕ → ℕ → Option (List (List ℕ)) → Result (Option (List (List ℕ))) Reason
+optional_locks line count None = Ok None
+optional_locks line count (Some texts) = do
+  locks ← locks_of line count texts
+  Ok (Some locks)
+
+-- a signature, whose 2,144 bytes are its values in order
+unfoldable pub sig_of : ℕ → List ℕ → Result Sig Reason
+sig_of line text = do
+  bytes ← decoded line (codes "sigs") (decode_sized text 2144)
+  Ok (values_of bytes)

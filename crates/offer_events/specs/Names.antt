@@ -1,0 +1,13 @@
+-- Names by their numbers.
+use Rattle.std.specs.Prelude.{ℕ, List, position, Option, Some, None, Result, Ok, Err}
+use Rattle.std.specs.Str.{bytes_eq}
+use Rattle.offer_fields.specs.declared.reason.Reason.{Reason}
+use Rattle.offer_fields.specs.declared.reason.Reason.TheVariants.{Unknown}
+
+abbrev pub found : ℕ → List ℕ → Option ℕ → Result ℕ Reason
+found line name (Some k) = Ok k
+found line name None = Err (Unknown line name)
+
+-- the number of the party of that name
+unfoldable pub number_of : ℕ → List (List ℕ) → List ℕ → Result ℕ Reason
+number_of line names name = found line name (position (bytes_eq name) names)

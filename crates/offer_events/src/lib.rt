@@ -1,0 +1,13 @@
+//! Reads one event line of an offer: a tick of a ledger, or a call that a party makes.
+//!
+//! Read `specs/Event.antt` first: `event_of` is the event of a line, or the first reason against it.
+#![tactic(auto)]
+
+mod event;
+mod limits;
+mod moves;
+mod names;
+mod raw;
+mod reading;
+
+pub use event::read_event;

@@ -1,0 +1,154 @@
+//! Numbers in their ranges, and values in hexadecimal.
+
+ghost use Rattle.std.specs.Prelude.{◌≡◌, ◌<◌, ◌≤◌, ◌^◌, ℕ, List, length, codes};
+ghost use Rattle.swap_base.specs.Fault.{Gives};
+ghost use Rattle.offer_fields.specs.Limits.{digest_of};
+ghost use Rattle.offer_events.specs.Lists.{each_of};
+ghost use Rattle.offer_events.specs.Limits.{below, ranged, optional_most, locks_of, optional_locks, sig_of};
+
+use escrow_core::LockList;
+use hash_signature::Sig;
+use hashkey_path::SigList;
+use hex::FromHex;
+use offer_fields::{OfferFault, digest_in, over_limit, within, wrong_hex};
+use std::alloc::Global;
+use swap_base::{ByteText, Listed};
+
+/// A number that is below a count.
+#[tactic(auto, unfolding(crate::specs::Limits::below))]
+pub fn below(
+    alloc: Global,
+    line: u32,
+    field: &str,
+    count: usize,
+    number: u64,
+) -> Result<u8, OfferFault>
+    requires { count ≤ 256 }
+    ensures { Gives (λ n. n) result (below line field.now count number) }
+{
+    if number < count as u64 {
+        return Ok(number as u8);
+    }
+    Err(over_limit(alloc, line, field.as_bytes(), number))
+}
+
+/// A number in a range that goes up to a million.
+#[tactic(auto, using(crate::proofs::Parts::within_fits), unfolding(crate::specs::Limits::ranged))]
+pub fn ranged(
+    alloc: Global,
+    line: u32,
+    field: &str,
+    low: u64,
+    number: u64,
+) -> Result<u32, OfferFault>
+    ensures { Gives (λ n. n) result (ranged line field.now low 1000000 number) }
+{
+    within(alloc, line, field, low, 1_000_000, number)?;
+    Ok(number as u32)
+}
+
+/// A number of up to a million, where there is one.
+pub fn optional_most(
+    alloc: Global,
+    line: u32,
+    field: &str,
+    number: Option<u64>,
+) -> Result<Option<u32>, OfferFault>
+    ensures { Gives (λ o. o) result (optional_most line field.now 1000000 number) }
+{
+    match number {
+        None => Ok(None),
+        Some(number) => Ok(Some(ranged(alloc, line, field, 0, number)?)),
+    }
+}
+
+/// Units, at most 10^12.
+#[tactic(auto, unfolding(crate::specs::Limits::ranged))]
+pub fn units(alloc: Global, line: u32, field: &str, number: u64) -> Result<u64, OfferFault>
+    ensures { Gives (λ n. n) result (ranged line field.now 0 1000000000000 number) }
+{
+    within(alloc, line, field, 0, 1_000_000_000_000, number)?;
+    Ok(number)
+}
+
+/// Units, where there are any.
+pub fn optional_units(
+    alloc: Global,
+    line: u32,
+    field: &str,
+    number: Option<u64>,
+) -> Result<Option<u64>, OfferFault>
+    ensures { Gives (λ o. o) result (optional_most line field.now 1000000000000 number) }
+{
+    match number {
+        None => Ok(None),
+        Some(number) => Ok(Some(units(alloc, line, field, number)?)),
+    }
+}
+
+#[tactic(auto, using(crate::proofs::Lists::starts, crate::proofs::Lists::goes_on, crate::proofs::Lists::ends, crate::proofs::Lists::is_done))]
+fn digests_of(alloc: Global, line: u32, texts: &[ByteText]) -> Result<LockList, OfferFault>
+    requires { length texts.now ≤ 8 }
+    ensures { Gives (λ l. l) result (each_of (digest_of line (codes "locks")) texts.now) }
+{
+    let mut locks = LockList::new();
+    for text in texts {
+        locks.push(digest_in(alloc, line, "locks", text.as_slice())?);
+    }
+    Ok(locks)
+}
+
+/// One digest for each lock.
+#[tactic(auto, unfolding(crate::specs::Limits::locks_of))]
+fn locks_of(
+    alloc: Global,
+    line: u32,
+    count: usize,
+    texts: &[ByteText],
+) -> Result<LockList, OfferFault>
+    requires { count ≤ 8 }
+    ensures { Gives (λ l. l) result (locks_of line count texts.now) }
+{
+    let count = count as u64;
+    within(alloc, line, "locks", count, count, texts.len() as u64)?;
+    digests_of(alloc, line, texts)
+}
+
+/// One digest for each lock, where they are given.
+pub fn optional_locks(
+    alloc: Global,
+    line: u32,
+    count: usize,
+    texts: &Option<Listed<ByteText>>,
+) -> Result<Option<LockList>, OfferFault>
+    requires { count ≤ 8 }
+    ensures { Gives (λ o. o) result (optional_locks line count texts.now) }
+{
+    match texts {
+        None => Ok(None),
+        Some(texts) => Ok(Some(locks_of(alloc, line, count, texts.as_slice())?)),
+    }
+}
+
+/// A signature.
+#[tactic(auto, unfolding(crate::specs::Limits::sig_of))]
+fn sig_of(alloc: Global, line: u32, text: &[u8]) -> Result<Sig, OfferFault>
+    ensures { Gives (λ s. s) result (sig_of line text.now) }
+{
+    match <[u8; 2144] as FromHex>::from_hex(text) {
+        Ok(bytes) => Ok(Sig::from_bytes(&bytes)),
+        Err(_) => Err(wrong_hex(alloc, line, b"sigs")),
+    }
+}
+
+/// Signatures.
+#[tactic(auto, using(crate::proofs::Lists::starts, crate::proofs::Lists::goes_on, crate::proofs::Lists::ends, crate::proofs::Lists::is_done))]
+pub fn sigs_of(alloc: Global, line: u32, texts: &[ByteText]) -> Result<SigList, OfferFault>
+    ensures { Gives (λ l. l) result (each_of (sig_of line) texts.now) }
+{
+    let mut sigs = Vec::new(alloc);
+    for text in texts {
+        sigs.push(sig_of(alloc, line, text.as_slice())?)?;
+    }
+    Ok(Listed::new(sigs))
+}

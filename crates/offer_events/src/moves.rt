@@ -1,0 +1,165 @@
+//! Moves, checked: names by their numbers, and numbers and texts in their ranges.
+
+ghost use Rattle.std.specs.Prelude.{◌≡◌, ◌≤◌, ℕ, List, length};
+ghost use Rattle.swap_base.specs.Fault.{Gives};
+ghost use Rattle.swap_digraph.specs.Deal.{IsWellSized};
+ghost use Rattle.offer_events.specs.Moves.{arc_of, publish_of, key_of, unlock_of, claim_of, refund_of, transfer_of, move_of};
+
+use crate::limits::{below, optional_locks, optional_most, optional_units, sigs_of, units};
+use crate::names::{number_of, numbers_of};
+use crate::raw::{RawKey, RawMove, RawTerms};
+use deviator_script::Move;
+use hashkey_path::Hashkey;
+use offer_fields::{OfferFault, digest_in, within};
+use std::alloc::Global;
+use swap_base::{ArcId, ByteText};
+use swap_digraph::{Deal, PathList, path_limit};
+
+/// The arc of that number.
+#[tactic(auto, using(crate::proofs::Sizes::few_arcs), unfolding(crate::specs::Moves::arc_of))]
+pub fn arc_of(
+    alloc: Global,
+    deal: &Deal,
+    line: u32,
+    field: &str,
+    number: u64,
+) -> Result<ArcId, OfferFault>
+    requires sized { IsWellSized deal.now }
+    ensures { Gives (λ a. a) result (arc_of deal.now line field.now number) }
+{
+    below(alloc, line, field, deal.graph.arcs().len(), number)
+}
+
+#[tactic(auto, unfolding(crate::specs::Moves::publish_of))]
+fn publish_of(
+    alloc: Global,
+    deal: &Deal,
+    line: u32,
+    number: u64,
+    terms: &RawTerms,
+) -> Result<Move, OfferFault>
+    requires sized { IsWellSized deal.now }
+    ensures { Gives (λ m. m) result (publish_of deal.now line number terms.now) }
+{
+    let arc = arc_of(alloc, deal, line, "arc", number)?;
+    let start = optional_most(alloc, line, "start", terms.start)?;
+    let delta = optional_most(alloc, line, "delta", terms.delta)?;
+    let bound = optional_most(alloc, line, "bound", terms.bound)?;
+    let timelock = optional_most(alloc, line, "timelock", terms.timelock)?;
+    let amount = optional_units(alloc, line, "amount", terms.amount)?;
+    let locks = optional_locks(alloc, line, deal.leaders.len(), &terms.locks)?;
+    Ok(Move::Publish {
+        arc,
+        start,
+        delta,
+        bound,
+        timelock,
+        amount,
+        locks,
+    })
+}
+
+#[tactic(auto, unfolding(crate::specs::Moves::key_of))]
+fn key_of(
+    alloc: Global,
+    deal: &Deal,
+    line: u32,
+    path: PathList,
+    key: &RawKey,
+) -> Result<Hashkey, OfferFault>
+    requires sized { IsWellSized deal.now }
+    ensures { Gives (λ k. k) result (key_of deal.now line path key.now) }
+{
+    let lock = below(alloc, line, "lock", deal.leaders.len(), key.lock)?;
+    let secret = digest_in(alloc, line, "secret", key.secret.as_slice())?;
+    let most = path_limit(deal) as u64;
+    within(alloc, line, "path", 0, most, key.path.len() as u64)?;
+    within(alloc, line, "sigs", 0, most, key.sigs.len() as u64)?;
+    let sigs = sigs_of(alloc, line, key.sigs.as_slice())?;
+    Ok(Hashkey {
+        lock,
+        secret,
+        path,
+        sigs,
+    })
+}
+
+#[tactic(auto, unfolding(crate::specs::Moves::unlock_of))]
+fn unlock_of(
+    alloc: Global,
+    deal: &Deal,
+    names: &[ByteText],
+    line: u32,
+    number: u64,
+    key: &RawKey,
+) -> Result<Move, OfferFault>
+    requires sized { IsWellSized deal.now }
+    requires names { length names.now ≤ 256 }
+    ensures { Gives (λ m. m) result (unlock_of deal.now names.now line number key.now) }
+{
+    let path = numbers_of(alloc, line, names, key.path.as_slice())?;
+    let arc = arc_of(alloc, deal, line, "arc", number)?;
+    let key = key_of(alloc, deal, line, path, key)?;
+    Ok(Move::Raw { arc, key })
+}
+
+#[tactic(auto, unfolding(crate::specs::Moves::claim_of))]
+fn claim_of(alloc: Global, deal: &Deal, line: u32, number: u64) -> Result<Move, OfferFault>
+    requires sized { IsWellSized deal.now }
+    ensures { Gives (λ m. m) result (claim_of deal.now line number) }
+{
+    let arc = arc_of(alloc, deal, line, "arc", number)?;
+    Ok(Move::Claim { arc })
+}
+
+#[tactic(auto, unfolding(crate::specs::Moves::refund_of))]
+fn refund_of(alloc: Global, deal: &Deal, line: u32, number: u64) -> Result<Move, OfferFault>
+    requires sized { IsWellSized deal.now }
+    ensures { Gives (λ m. m) result (refund_of deal.now line number) }
+{
+    let arc = arc_of(alloc, deal, line, "arc", number)?;
+    Ok(Move::Refund { arc })
+}
+
+#[tactic(auto, unfolding(crate::specs::Moves::transfer_of))]
+fn transfer_of(
+    alloc: Global,
+    deal: &Deal,
+    names: &[ByteText],
+    line: u32,
+    number: u64,
+    name: &ByteText,
+    amount: u64,
+) -> Result<Move, OfferFault>
+    requires sized { IsWellSized deal.now }
+    requires names { length names.now ≤ 256 }
+    ensures { Gives (λ m. m) result (transfer_of deal.now names.now line number name.now amount) }
+{
+    let to = number_of(alloc, line, names, name.as_slice())?;
+    let arc = arc_of(alloc, deal, line, "arc", number)?;
+    let units = units(alloc, line, "units", amount)?;
+    Ok(Move::Transfer { arc, to, units })
+}
+
+/// The move that a line asks for, or the first reason against a name or a limit of it.
+pub fn move_of(
+    alloc: Global,
+    deal: &Deal,
+    names: &[ByteText],
+    line: u32,
+    raw: &RawMove,
+) -> Result<Move, OfferFault>
+    requires sized { IsWellSized deal.now }
+    requires names { length names.now ≤ 256 }
+    ensures { Gives (λ m. m) result (move_of deal.now names.now line raw.now) }
+{
+    match raw {
+        RawMove::Publish { arc, terms } => publish_of(alloc, deal, line, *arc, terms),
+        RawMove::Raw { arc, key } => unlock_of(alloc, deal, names, line, *arc, key),
+        RawMove::Claim { arc } => claim_of(alloc, deal, line, *arc),
+        RawMove::Refund { arc } => refund_of(alloc, deal, line, *arc),
+        RawMove::Transfer { arc, to, units } => {
+            transfer_of(alloc, deal, names, line, *arc, to, *units)
+        }
+    }
+}

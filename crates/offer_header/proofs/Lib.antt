@@ -1,0 +1,5 @@
+pub mod Every
+pub mod Bind
+pub mod Numbered
+pub mod Limited
+pub mod Untimed

@@ -1,0 +1,48 @@
+-- What the header line gives, and what holds of every header.
+use Rattle.std.specs.Prelude.{◌≡◌, ℕ, ◌<◌, ◌≤◌, ◌^◌, List, [], length, slice_index, slice_index_or, Result}
+use Rattle.swap_base.specs.Fault.{◌>>=◌}
+use Rattle.swap_digraph.specs.declared.deal.Mode.{Mode}
+use Rattle.swap_digraph.specs.declared.deal.Mode.TheVariants.{Timelocks, Hashkeys}
+use Rattle.swap_digraph.specs.Graph.{ends_in}
+use Rattle.deviator_script.specs.declared.job.Purpose.{Purpose}
+use Rattle.offer_fields.specs.declared.reason.Reason.{Reason}
+use Rattle.offer_fields.specs.Fields.{object_of}
+use Rattle.offer_header.specs.Raw.{raw_of}
+use Rattle.offer_header.specs.Names.{numbered_of, AreNames, AreLeaders}
+use Rattle.offer_header.specs.Limits.{limited_of}
+use Rattle.offer_header.specs.declared.header.Header.{Header}
+
+-- The header that a line gives, or the first reason why it is refused: all fields come before all names, and all names before all limits.
+unfoldable pub header_of : Purpose → ℕ → List ℕ → Result Header Reason
+header_of purpose line text = do
+  d ← object_of line text
+  raw ← raw_of purpose line d
+  numbered ← numbered_of line raw
+  limited_of purpose line raw numbered
+
+-- The keys have a row per party and a key per lock in hashkeys mode, and are none in timelocks mode.
+abbrev pub HasKeysFor : Mode → ℕ → ℕ → List (List (List ℕ)) → Type 0
+HasKeysFor Timelocks parties locks keys = keys ≡ []
+HasKeysFor Hashkeys parties locks keys = (length keys ≡ parties) × ((p : ℕ) → p < parties → length (slice_index_or keys p []) ≡ locks)
+
+-- A header's lists are as long as its names, arcs and leaders ask, and its numbers are in their ranges.
+pub record IsWithin (h : Header) : Type 0 where
+  pub start : (1 ≤ h.start) × (h.start ≤ 1000)
+  pub delta : (1 ≤ h.delta) × (h.delta ≤ 100)
+  pub bound : (1 ≤ h.bound) × (h.bound ≤ 64)
+  pub parties : (2 ≤ length h.names) × (length h.names ≤ 24)
+  pub names : AreNames h.names
+  pub conforming : length h.conforming ≡ length h.names
+  pub seeds : length h.seeds ≡ length h.names
+  pub arcs : (2 ≤ length h.arcs) × (length h.arcs ≤ 96)
+  pub from : (a : ℕ) → a < length h.arcs → (ends_in h.arcs a).from < length h.names
+  pub to : (a : ℕ) → a < length h.arcs → (ends_in h.arcs a).to < length h.names
+  pub amounts : length h.amounts ≡ length h.arcs
+  pub amount : (a : ℕ) → a < length h.arcs → (1 ≤ slice_index h.amounts a) × (slice_index h.amounts a ≤ 10 ^ 12)
+  pub timelocks : length h.timelocks ≡ length h.arcs
+  pub timelock : (a : ℕ) → a < length h.arcs → slice_index h.timelocks a ≤ 1000000
+  pub untimed : h.mode ≡ Hashkeys → (a : ℕ) → a < length h.arcs → slice_index h.timelocks a ≡ 0
+  pub leaders : (1 ≤ length h.leaders) × (length h.leaders ≤ 8)
+  pub leader : AreLeaders (length h.names) h.leaders
+  pub hashlocks : length h.hashlocks ≡ length h.leaders
+  pub keys : HasKeysFor h.mode (length h.names) (length h.leaders) h.keys

@@ -1,0 +1,5 @@
+pub mod Every
+pub mod Raw
+pub mod Names
+pub mod Limits
+pub mod Header

@@ -1,0 +1,114 @@
+-- The limits of a header's numbers and lists, and its digests.
+use Rattle.std.specs.Prelude.{ℕ, ◌^◌, List, [], Bool, true, false, codes, length, map, Option, Some, None, Result, Ok}
+use Rattle.swap_base.specs.Fault.{◌>>=◌}
+use Rattle.swap_digraph.specs.declared.arc_ends.ArcEnds.{ArcEnds}
+use Rattle.swap_digraph.specs.declared.deal.Mode.{Mode}
+use Rattle.swap_digraph.specs.declared.deal.Mode.TheVariants.{Timelocks, Hashkeys}
+use Rattle.deviator_script.specs.declared.job.Purpose.{Purpose}
+use Rattle.offer_fields.specs.declared.reason.Reason.{Reason}
+use Rattle.offer_fields.specs.Limits.{within, digest_of}
+use Rattle.offer_header.specs.Every.{every}
+use Rattle.offer_header.specs.declared.raw.RawActor.{RawActor}
+use Rattle.offer_header.specs.declared.raw.RawActor.TheVariants.{Conforming, Manual}
+use Rattle.offer_header.specs.declared.raw.RawParty.{RawParty}
+use Rattle.offer_header.specs.declared.raw.RawArc.{RawArc}
+use Rattle.offer_header.specs.declared.raw.RawLeader.{RawLeader}
+use Rattle.offer_header.specs.declared.raw.RawRow.{RawRow}
+use Rattle.offer_header.specs.declared.raw.RawHeader.{RawHeader}
+use Rattle.offer_header.specs.declared.names.Ends.{Ends}
+use Rattle.offer_header.specs.declared.names.Numbered.{Numbered}
+use Rattle.offer_header.specs.declared.limits.ArcTerms.{ArcTerms}
+use Rattle.offer_header.specs.declared.header.Header.{Header}
+
+unfoldable pub number_within : ℕ → List ℕ → ℕ → ℕ → ℕ → Result ℕ Reason
+number_within line field low high n = do
+  u ← within line field low high n
+  Ok n
+
+-- ---- parties
+
+abbrev pub seed_or_none : ℕ → Option (List ℕ) → Result (Option (List ℕ)) Reason
+seed_or_none line None = Ok None
+seed_or_none line (Some text) = digest_of line (codes "seed") text >>= λ seed. Ok (Some seed)
+
+unfoldable pub seed_of : ℕ → RawParty → Result (Option (List ℕ)) Reason
+seed_of line p = seed_or_none line p.seed
+
+unfoldable pub seeds_of : ℕ → List RawParty → Result (List (Option (List ℕ))) Reason
+seeds_of line parties = do
+  u ← within line (codes "parties") 2 24 (length parties)
+  every (seed_of line) parties
+
+abbrev pub conforms : RawActor → Bool
+conforms Conforming = true
+conforms Manual = false
+
+-- ---- arcs
+
+unfoldable pub terms_of : ℕ → RawArc → Result ArcTerms Reason
+terms_of line a = do
+  u ← within line (codes "amount") 1 (10 ^ 12) a.amount
+  timelock ← number_within line (codes "timelock") 0 1000000 a.timelock
+  Ok (record { amount = a.amount; timelock = timelock })
+
+unfoldable pub all_terms_of : ℕ → List RawArc → Result (List ArcTerms) Reason
+all_terms_of line arcs = do
+  u ← within line (codes "arcs") 2 96 (length arcs)
+  every (terms_of line) arcs
+
+abbrev pub arc_ends : Ends → ArcEnds
+arc_ends e = record { from = e.from; to = e.to }
+
+-- ---- leaders and keys
+
+unfoldable pub hashlock_of : ℕ → RawLeader → Result (List ℕ) Reason
+hashlock_of line l = digest_of line (codes "hashlock") l.hashlock
+
+unfoldable pub hashlocks_of : ℕ → List RawLeader → Result (List (List ℕ)) Reason
+hashlocks_of line leaders = do
+  u ← within line (codes "leaders") 1 8 (length leaders)
+  every (hashlock_of line) leaders
+
+unfoldable pub key_of : ℕ → List ℕ → Result (List ℕ) Reason
+key_of line text = digest_of line (codes "keys") text
+
+-- a party's keys, one for each lock
+unfoldable pub party_keys_of : ℕ → ℕ → RawRow → Result (List (List ℕ)) Reason
+party_keys_of locks line row = do
+  u ← within line (codes "keys") locks locks (length row.texts)
+  every (key_of line) row.texts
+
+unfoldable pub keys_of : ℕ → Mode → ℕ → ℕ → List RawRow → Result (List (List (List ℕ))) Reason
+keys_of line Timelocks parties locks rows = Ok []
+keys_of line Hashkeys parties locks rows = do
+  u ← within line (codes "keys") parties parties (length rows)
+  every (party_keys_of locks line) rows
+
+-- ---- the header
+
+unfoldable pub limited_of : Purpose → ℕ → RawHeader → Numbered → Result Header Reason
+limited_of purpose line raw numbered = do
+  start ← number_within line (codes "start") 1 1000 raw.start
+  delta ← number_within line (codes "delta") 1 100 raw.delta
+  bound ← number_within line (codes "bound") 1 64 raw.bound
+  seeds ← seeds_of line raw.parties
+  terms ← all_terms_of line raw.arcs
+  hashlocks ← hashlocks_of line raw.leaders
+  keys ← keys_of line raw.mode (length raw.parties) (length raw.leaders) raw.keys
+  Ok (record {
+    purpose = purpose;
+    mode = raw.mode;
+    start = start;
+    delta = delta;
+    bound = bound;
+    names = numbered.names;
+    conforming = map (λ p. conforms p.actor) raw.parties;
+    seeds = seeds;
+    arcs = map arc_ends numbered.arcs;
+    amounts = map (λ t. t.amount) terms;
+    timelocks = map (λ t. t.timelock) terms;
+    leaders = numbered.leaders;
+    hashlocks = hashlocks;
+    keys = keys;
+    finish = raw.finish;
+  })

@@ -1,0 +1,172 @@
+-- What the fields of a header say, in the order in which they are examined, or the first reason why one is refused.
+use Rattle.std.specs.Prelude.{◌≡◌, ◌==◌, ◌<◌, length, slice_index_or, ℕ, List, [], ◌∷◌, codes, if◌then◌else◌, Option, Some, None, Result, Ok, Err, is_some}
+use Rattle.std.specs.Str.{bytes_eq}
+use Rattle.serde_json.specs.Data.{Data}
+use Rattle.serde_json.specs.Find.{get, as_object, as_array}
+use Rattle.swap_base.specs.Fault.{◌>>=◌}
+use Rattle.swap_digraph.specs.declared.deal.Mode.{Mode}
+use Rattle.swap_digraph.specs.declared.deal.Mode.TheVariants.{Timelocks, Hashkeys}
+use Rattle.deviator_script.specs.declared.job.Purpose.{Purpose}
+use Rattle.deviator_script.specs.declared.job.Purpose.TheVariants.{Check, Audit}
+use Rattle.deviator_script.specs.declared.job.Finish.{Finish}
+use Rattle.deviator_script.specs.declared.job.Finish.TheVariants.{Stop}
+use Rattle.offer_fields.specs.declared.reason.Reason.{Reason}
+use Rattle.offer_fields.specs.declared.reason.Reason.TheVariants.{WrongKind, NotBuilt}
+use Rattle.offer_fields.specs.Fields.{kind, number_at, text_at, word_at, optional_text_at, member_text_of, object_at, list_at, each, only}
+use Rattle.offer_header.specs.declared.raw.Reading.{Reading}
+use Rattle.offer_header.specs.declared.raw.RawActor.{RawActor}
+use Rattle.offer_header.specs.declared.raw.RawActor.TheVariants.{Conforming, Manual}
+use Rattle.offer_header.specs.declared.raw.RawParty.{RawParty}
+use Rattle.offer_header.specs.declared.raw.RawArc.{RawArc}
+use Rattle.offer_header.specs.declared.raw.RawLeader.{RawLeader}
+use Rattle.offer_header.specs.declared.raw.RawRow.{RawRow}
+use Rattle.offer_header.specs.declared.raw.RawHeader.{RawHeader}
+
+-- ---- parties
+
+-- conforming parties are built for checks alone
+abbrev pub conforming_for : ℕ → Purpose → Result RawActor Reason
+conforming_for line Check = Ok Conforming
+conforming_for line _ = Err (NotBuilt line (codes "actor"))
+
+-- scripts and strategies aren't built, and have no place in a transcript
+abbrev pub object_actor : ℕ → Purpose → Result RawActor Reason
+object_actor line Audit = Err (WrongKind line (codes "actor"))
+object_actor line _ = Err (NotBuilt line (codes "actor"))
+
+abbrev pub actor_of_word : ℕ → Purpose → List ℕ → Result RawActor Reason
+actor_of_word line purpose word =
+    if bytes_eq word (codes "conforming") then conforming_for line purpose
+    else if bytes_eq word (codes "manual") then Ok Manual
+    else Err (WrongKind line (codes "actor"))
+
+abbrev pub actor_of : ℕ → Purpose → Data → Result RawActor Reason
+actor_of line purpose d =
+    if is_some (as_object d) then object_actor line purpose
+    else member_text_of line (codes "actor") d >>= λ word. actor_of_word line purpose word
+
+-- an actor that is absent conforms
+abbrev pub actor_or_conforming : ℕ → Purpose → Option Data → Result RawActor Reason
+actor_or_conforming line purpose None = conforming_for line purpose
+actor_or_conforming line purpose (Some d) = actor_of line purpose d
+
+unfoldable pub actor_at : ℕ → Purpose → Data → Result RawActor Reason
+actor_at line purpose d = actor_or_conforming line purpose (get (codes "actor") d)
+
+-- only a manual party with hashkeys has a seed
+abbrev pub kept_seed : ℕ → Mode → RawActor → Data → Result (Option (List ℕ)) Reason
+kept_seed line Hashkeys Manual d = member_text_of line (codes "seed") d >>= λ s. Ok (Some s)
+kept_seed line _ _ d = Err (NotBuilt line (codes "seed"))
+
+abbrev pub seed_or_none : ℕ → Mode → RawActor → Option Data → Result (Option (List ℕ)) Reason
+seed_or_none line mode actor None = Ok None
+seed_or_none line mode actor (Some d) = kept_seed line mode actor d
+
+unfoldable pub seed_at : ℕ → Mode → RawActor → Data → Result (Option (List ℕ)) Reason
+seed_at line mode actor d = seed_or_none line mode actor (get (codes "seed") d)
+
+unfoldable pub party_of : Reading → ℕ → Data → Result RawParty Reason
+party_of reading line d = do
+  o ← object_at line (codes "parties") d
+  name ← text_at line (codes "name") d
+  actor ← actor_at line reading.purpose d
+  seed ← seed_at line reading.mode actor d
+  u ← only line (codes "actor" ∷ codes "name" ∷ codes "seed" ∷ []) d
+  Ok (record { name = name; actor = actor; seed = seed })
+
+-- ---- arcs
+
+-- a timelock stands for nothing with hashkeys
+abbrev pub timelock_at : ℕ → Mode → Data → Result ℕ Reason
+timelock_at line Timelocks d = number_at line (codes "timelock") d
+timelock_at line Hashkeys d = Ok 0
+
+abbrev pub arc_fields : Mode → List (List ℕ)
+arc_fields Timelocks = codes "amount" ∷ codes "from" ∷ codes "timelock" ∷ codes "to" ∷ []
+arc_fields Hashkeys = codes "amount" ∷ codes "from" ∷ codes "to" ∷ []
+
+unfoldable pub arc_of : Reading → ℕ → Data → Result RawArc Reason
+arc_of reading line d = do
+  o ← object_at line (codes "arcs") d
+  from ← text_at line (codes "from") d
+  to ← text_at line (codes "to") d
+  amount ← number_at line (codes "amount") d
+  timelock ← timelock_at line reading.mode d
+  u ← only line (arc_fields reading.mode) d
+  Ok (record { from = from; to = to; amount = amount; timelock = timelock })
+
+-- ---- leaders and keys
+
+unfoldable pub leader_of : ℕ → Data → Result RawLeader Reason
+leader_of line d = do
+  o ← object_at line (codes "leaders") d
+  party ← text_at line (codes "party") d
+  hashlock ← text_at line (codes "hashlock") d
+  u ← only line (codes "hashlock" ∷ codes "party" ∷ []) d
+  Ok (record { party = party; hashlock = hashlock })
+
+unfoldable pub row_of : ℕ → Data → Result RawRow Reason
+row_of line d = do
+  items ← kind line (codes "keys") (as_array d)
+  texts ← each (member_text_of line (codes "keys")) items
+  Ok (record { texts = texts })
+
+abbrev pub keys_at : ℕ → Mode → Data → Result (List RawRow) Reason
+keys_at line Timelocks d = Ok []
+keys_at line Hashkeys d = list_at line (codes "keys") (row_of line) d
+
+-- ---- the header
+
+-- version 1 alone is built
+unfoldable pub version_at : ℕ → Data → Result (Unit {0}) Reason
+version_at line d = do
+  n ← number_at line (codes "swap") d
+  if n == 1 then Ok tt else Err (WrongKind line (codes "swap"))
+
+abbrev pub mode_of : List ℕ → Option Mode
+mode_of word =
+    if bytes_eq word (codes "timelocks") then Some Timelocks
+    else if bytes_eq word (codes "hashkeys") then Some Hashkeys
+    else None
+
+unfoldable pub mode_at : ℕ → Data → Result Mode Reason
+mode_at line d = word_at line (codes "mode") mode_of d
+
+-- a fair finish isn't built
+abbrev pub finish_of_word : ℕ → List ℕ → Result Finish Reason
+finish_of_word line word =
+    if bytes_eq word (codes "stop") then Ok Stop
+    else if bytes_eq word (codes "fair") then Err (NotBuilt line (codes "finish"))
+    else Err (WrongKind line (codes "finish"))
+
+abbrev pub finish_or_stop : ℕ → Option (List ℕ) → Result Finish Reason
+finish_or_stop line None = Ok Stop
+finish_or_stop line (Some word) = finish_of_word line word
+
+unfoldable pub finish_at : ℕ → Data → Result Finish Reason
+finish_at line d = do
+  word ← optional_text_at line (codes "finish") d
+  finish_or_stop line word
+
+abbrev pub header_fields : Mode → List (List ℕ)
+header_fields Timelocks = codes "arcs" ∷ codes "bound" ∷ codes "delta" ∷ codes "finish" ∷ codes "leaders" ∷ codes "mode" ∷ codes "parties" ∷ codes "start" ∷ codes "swap" ∷ []
+header_fields Hashkeys = codes "arcs" ∷ codes "bound" ∷ codes "delta" ∷ codes "finish" ∷ codes "keys" ∷ codes "leaders" ∷ codes "mode" ∷ codes "parties" ∷ codes "start" ∷ codes "swap" ∷ []
+
+unfoldable pub raw_of : Purpose → ℕ → Data → Result RawHeader Reason
+raw_of purpose line d = do
+  version ← version_at line d
+  mode ← mode_at line d
+  start ← number_at line (codes "start") d
+  delta ← number_at line (codes "delta") d
+  bound ← number_at line (codes "bound") d
+  parties ← list_at line (codes "parties") (party_of (record { purpose = purpose; mode = mode }) line) d
+  arcs ← list_at line (codes "arcs") (arc_of (record { purpose = purpose; mode = mode }) line) d
+  leaders ← list_at line (codes "leaders") (leader_of line) d
+  keys ← keys_at line mode d
+  finish ← finish_at line d
+  u ← only line (header_fields mode) d
+  Ok (record { mode = mode; start = start; delta = delta; bound = bound; parties = parties; arcs = arcs; leaders = leaders; keys = keys; finish = finish })
+
+-- With hashkeys no arc has a timelock.
+abbrev pub IsUntimed : RawHeader → Type 0
+IsUntimed h = h.mode ≡ Hashkeys → (a : ℕ) (d : RawArc) → a < length h.arcs → (slice_index_or h.arcs a d).timelock ≡ 0

@@ -1,0 +1,134 @@
+//! The fields of a header, in the order in which they are examined.
+
+ghost use Rattle.std.specs.Prelude.{IfOk};
+ghost use Rattle.serde_json.specs.View.{view};
+ghost use Rattle.swap_base.specs.Fault.{Gives};
+ghost use Rattle.offer_fields.specs.Fields.{only};
+ghost use Rattle.offer_header.specs.Raw.{version_at, mode_at, keys_at, finish_of_word, finish_at, header_fields, raw_of, IsUntimed};
+
+use crate::raw::{RawHeader, RawRow, Reading};
+use deviator_script::{Finish, Purpose};
+use offer_fields::{
+    OfferFault, list_in, not_built, number_in, only_in, optional_text_in, text_in, wrong_kind,
+};
+use serde_json::Value;
+use std::alloc::Global;
+use swap_base::Listed;
+use swap_digraph::Mode;
+
+#[tactic(auto, unfolding(crate::specs::Raw::version_at))]
+fn version_in(alloc: Global, line: u32, object: &Value) -> Result<(), OfferFault>
+    ensures { Gives (λ u. u) result (version_at line (view object.now)) }
+{
+    if number_in(alloc, line, "swap", object)? == 1 {
+        Ok(())
+    } else {
+        Err(wrong_kind(alloc, line, b"swap"))
+    }
+}
+
+#[tactic(auto, unfolding(crate::specs::Raw::mode_at))]
+fn mode_in(alloc: Global, line: u32, object: &Value) -> Result<Mode, OfferFault>
+    ensures { Gives (λ m. m) result (mode_at line (view object.now)) }
+{
+    match text_in(alloc, line, "mode", object)? {
+        "timelocks" => Ok(Mode::Timelocks),
+        "hashkeys" => Ok(Mode::Hashkeys),
+        _ => Err(wrong_kind(alloc, line, b"mode")),
+    }
+}
+
+fn keys_in(
+    alloc: Global,
+    reading: Reading,
+    line: u32,
+    object: &Value,
+) -> Result<Listed<RawRow>, OfferFault>
+    ensures { Gives (λ k. k) result (keys_at line reading.mode (view object.now)) }
+{
+    match reading.mode {
+        Mode::Timelocks => Ok(Listed::empty(alloc)),
+        Mode::Hashkeys => list_in(alloc, reading, line, "keys", object),
+    }
+}
+
+fn finish_of_word(alloc: Global, line: u32, word: &str) -> Result<Finish, OfferFault>
+    ensures { Gives (λ f. f) result (finish_of_word line word.now) }
+{
+    match word {
+        "stop" => Ok(Finish::Stop),
+        "fair" => Err(not_built(alloc, line, b"finish")),
+        _ => Err(wrong_kind(alloc, line, b"finish")),
+    }
+}
+
+#[tactic(auto, unfolding(crate::specs::Raw::finish_at))]
+fn finish_in(alloc: Global, line: u32, object: &Value) -> Result<Finish, OfferFault>
+    ensures { Gives (λ f. f) result (finish_at line (view object.now)) }
+{
+    match optional_text_in(alloc, line, "finish", object)? {
+        None => Ok(Finish::Stop),
+        Some(word) => finish_of_word(alloc, line, word),
+    }
+}
+
+fn only_header_fields(
+    alloc: Global,
+    line: u32,
+    mode: Mode,
+    object: &Value,
+) -> Result<(), OfferFault>
+    ensures { Gives (λ u. u) result (only line (header_fields mode) (view object.now)) }
+{
+    match mode {
+        Mode::Timelocks => {
+            let allowed = [
+                "arcs", "bound", "delta", "finish", "leaders", "mode", "parties", "start", "swap",
+            ];
+            only_in(alloc, line, &allowed, object)
+        }
+        Mode::Hashkeys => {
+            let allowed = [
+                "arcs", "bound", "delta", "finish", "keys", "leaders", "mode", "parties", "start",
+                "swap",
+            ];
+            only_in(alloc, line, &allowed, object)
+        }
+    }
+}
+
+/// The fields of the header, or the first reason why one is refused.
+#[tactic(auto, unfolding(crate::specs::Raw::raw_of))]
+pub(crate) fn raw_in(
+    alloc: Global,
+    purpose: Purpose,
+    line: u32,
+    object: &Value,
+) -> Result<RawHeader, OfferFault>
+    ensures exact { Gives (λ h. h) result (raw_of purpose line (view object.now)) }
+    ensures untimed { IfOk result (λ h. IsUntimed h) }
+{
+    version_in(alloc, line, object)?;
+    let mode = mode_in(alloc, line, object)?;
+    let start = number_in(alloc, line, "start", object)?;
+    let delta = number_in(alloc, line, "delta", object)?;
+    let bound = number_in(alloc, line, "bound", object)?;
+    let reading = Reading { purpose, mode };
+    let parties = list_in(alloc, reading, line, "parties", object)?;
+    let arcs = list_in(alloc, reading, line, "arcs", object)?;
+    let leaders = list_in(alloc, reading, line, "leaders", object)?;
+    let keys = keys_in(alloc, reading, line, object)?;
+    let finish = finish_in(alloc, line, object)?;
+    only_header_fields(alloc, line, mode, object)?;
+    Ok(RawHeader {
+        mode,
+        start,
+        delta,
+        bound,
+        parties,
+        arcs,
+        leaders,
+        keys,
+        finish,
+    })
+}

@@ -1,0 +1,61 @@
+//! A header within its limits.
+
+ghost use Rattle.std.specs.Prelude.{IfOk};
+ghost use Rattle.swap_base.specs.Fault.{Gives};
+ghost use Rattle.offer_header.specs.Header.{header_of, IsWithin};
+
+use crate::fields::raw_in;
+use crate::limits::limited_in;
+use crate::names::numbered_in;
+use deviator_script::{Finish, Purpose};
+use offer_fields::{OfferFault, object_in};
+use std::alloc::Global;
+use swap_base::{ByteText, Digest, Listed, PartyId};
+use swap_digraph::{ArcEnds, Mode};
+
+/// A header whose fields, names and limits are in order, as `IsWithin` says.
+#[derive(Debug, Drop)]
+pub struct Header {
+    pub purpose: Purpose,
+    pub mode: Mode,
+    /// A height, 1 to 1,000.
+    pub start: u32,
+    /// Heights, 1 to 100.
+    pub delta: u32,
+    /// Arcs of a path, 1 to 64.
+    pub bound: u32,
+    /// The name of each party.
+    pub names: Listed<ByteText>,
+    /// Whether each party conforms.
+    pub conforming: Listed<bool>,
+    /// The seed of each party, where it is there.
+    pub seeds: Listed<Option<Digest>>,
+    pub arcs: Listed<ArcEnds>,
+    /// The units of each arc.
+    pub amounts: Listed<u64>,
+    /// The timelock of each arc, a height; all 0 in hashkeys mode.
+    pub timelocks: Listed<u32>,
+    pub leaders: Listed<PartyId>,
+    /// The hashlock of each leader.
+    pub hashlocks: Listed<Digest>,
+    /// The key of each party for each leader's lock; none in timelocks mode.
+    pub keys: Listed<Listed<Digest>>,
+    pub finish: Finish,
+}
+
+/// The header that the line's text gives, or the first reason why it is refused.
+#[tactic(auto, using(crate::proofs::Numbered::is_numbered), unfolding(crate::specs::Header::header_of))]
+pub fn header_in(
+    alloc: Global,
+    purpose: Purpose,
+    line: u32,
+    text: &[u8],
+) -> Result<Header, OfferFault>
+    ensures exact { Gives (λ h. h) result (header_of purpose line text.now) }
+    ensures within { IfOk result (λ h. IsWithin h) }
+{
+    let object = object_in(alloc, line, text)?;
+    let raw = raw_in(alloc, purpose, line, &object)?;
+    let numbered = numbered_in(alloc, line, &raw)?;
+    limited_in(alloc, purpose, line, &raw, numbered)
+}

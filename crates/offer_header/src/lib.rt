@@ -1,0 +1,14 @@
+//! The header of an offer: its fields, its names and its limits, each step with the first reason why it is refused.
+//!
+//! Read `specs/Header.antt` first: `header_of` says what a line gives, and `IsWithin` what holds of every header.
+#![tactic(auto)]
+
+mod fields;
+mod header;
+mod limits;
+mod names;
+mod parts;
+mod raw;
+
+pub use header::{Header, header_in};
+pub use names::number_in;

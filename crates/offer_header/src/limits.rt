@@ -1,0 +1,280 @@
+//! The limits of a header's numbers and lists, and its digests.
+
+ghost use Rattle.std.specs.Prelude.{◌≡◌, ◌<◌, ◌≤◌, ◌^◌, [], ℕ, List, Result, map, length, slice_index, IfOk};
+ghost use Rattle.swap_base.specs.Fault.{Gives};
+ghost use Rattle.offer_fields.specs.declared.reason.Reason.{Reason};
+ghost use Rattle.offer_header.specs.Every.{every};
+ghost use Rattle.offer_header.specs.Limits.{number_within, seed_of, seeds_of, conforms, terms_of, all_terms_of, arc_ends, hashlock_of, hashlocks_of, key_of, party_keys_of, keys_of, limited_of};
+ghost use Rattle.offer_header.specs.Names.{AreEnds, AreLeaders, IsNumbered};
+
+use crate::header::Header;
+use crate::names::{Ends, Numbered};
+use crate::raw::{RawActor, RawArc, RawHeader, RawLeader, RawParty, RawRow};
+use deviator_script::Purpose;
+use offer_fields::{OfferFault, Reason, digest_in, over_limit, within};
+use std::alloc::Global;
+use swap_base::{ByteText, Digest, Listed, NoMemory, PartyId};
+use swap_digraph::{ArcEnds, Mode};
+
+/// The units and the timelock of an arc.
+#[derive(Clone, Copy, Debug, PartialEq, Eq)]
+pub struct ArcTerms {
+    pub amount: u64,
+    pub timelock: u32,
+}
+
+#[tactic(auto, unfolding(crate::specs::Limits::number_within, offer_fields::specs::Limits::within))]
+fn number_within(
+    alloc: Global,
+    line: u32,
+    field: &str,
+    low: u32,
+    high: u32,
+    number: u64,
+) -> Result<u32, OfferFault>
+    ensures exact { Gives (λ n. n) result (number_within line field.now low high number) }
+    ensures within { IfOk result (λ n. (low ≤ n) × (n ≤ high)) }
+{
+    if low as u64 <= number && number <= high as u64 {
+        return Ok(number as u32);
+    }
+    Err(over_limit(alloc, line, field.as_bytes(), number))
+}
+
+/// What a part of the header gives within its limits, in a context that all such parts share.
+trait Limited<C: Copy, B>: Sized {
+    ghost limited_of: { C → ℕ → Self → Result B Reason };
+
+    fn limited(&self, alloc: Global, context: C, line: u32) -> Result<B, OfferFault>
+        ensures { Gives (λ x. x) result (limited_of context line self.now) };
+}
+
+/// What each part gives, or the first reason why one is refused.
+fn every<C: Copy, B: Drop, T: Limited<C, B>>(
+    alloc: Global,
+    context: C,
+    line: u32,
+    parts: &[T],
+) -> Result<Listed<B>, OfferFault>
+    ensures { Gives (λ x. x) result (every (T.limited_of context line) parts.now) }
+{
+    let mut list = Vec::new(alloc);
+    for part in parts {
+        list.push(part.limited(alloc, context, line)?)?;
+    }
+    Ok(Listed::new(list))
+}
+
+impl Limited<(), Option<Digest>> for RawParty {
+    ghost limited_of = { λ _. seed_of };
+
+    #[tactic(auto, unfolding(crate::specs::Limits::seed_of))]
+    fn limited(
+        &self,
+        alloc: Global,
+        _context: (),
+        line: u32,
+    ) -> Result<Option<Digest>, OfferFault> {
+        match &self.seed {
+            None => Ok(None),
+            Some(text) => Ok(Some(digest_in(alloc, line, "seed", text.as_slice())?)),
+        }
+    }
+}
+
+impl Limited<(), ArcTerms> for RawArc {
+    ghost limited_of = { λ _. terms_of };
+
+    #[tactic(auto, unfolding(crate::specs::Limits::terms_of))]
+    fn limited(&self, alloc: Global, _context: (), line: u32) -> Result<ArcTerms, OfferFault> {
+        within(alloc, line, "amount", 1, 1_000_000_000_000, self.amount)?;
+        let timelock = number_within(alloc, line, "timelock", 0, 1_000_000, self.timelock)?;
+        Ok(ArcTerms {
+            amount: self.amount,
+            timelock,
+        })
+    }
+}
+
+impl Limited<(), Digest> for RawLeader {
+    ghost limited_of = { λ _. hashlock_of };
+
+    #[tactic(auto, unfolding(crate::specs::Limits::hashlock_of))]
+    fn limited(&self, alloc: Global, _context: (), line: u32) -> Result<Digest, OfferFault> {
+        digest_in(alloc, line, "hashlock", self.hashlock.as_slice())
+    }
+}
+
+impl Limited<(), Digest> for ByteText {
+    ghost limited_of = { λ _. key_of };
+
+    #[tactic(auto, unfolding(crate::specs::Limits::key_of))]
+    fn limited(&self, alloc: Global, _context: (), line: u32) -> Result<Digest, OfferFault> {
+        digest_in(alloc, line, "keys", self.as_slice())
+    }
+}
+
+impl Limited<usize, Listed<Digest>> for RawRow {
+    ghost limited_of = { party_keys_of };
+
+    #[tactic(auto, unfolding(crate::specs::Limits::party_keys_of))]
+    fn limited(
+        &self,
+        alloc: Global,
+        locks: usize,
+        line: u32,
+    ) -> Result<Listed<Digest>, OfferFault> {
+        let length = self.texts.len() as u64;
+        within(alloc, line, "keys", locks as u64, locks as u64, length)?;
+        every(alloc, (), line, self.texts.as_slice())
+    }
+}
+
+#[tactic(auto, unfolding(crate::specs::Limits::seeds_of))]
+fn seeds_in(
+    alloc: Global,
+    line: u32,
+    parties: &[RawParty],
+) -> Result<Listed<Option<Digest>>, OfferFault>
+    ensures { Gives (λ s. s) result (seeds_of line parties.now) }
+{
+    within(alloc, line, "parties", 2, 24, parties.len() as u64)?;
+    every(alloc, (), line, parties)
+}
+
+#[tactic(auto, unfolding(crate::specs::Limits::all_terms_of))]
+fn terms_in(alloc: Global, line: u32, arcs: &[RawArc]) -> Result<Listed<ArcTerms>, OfferFault>
+    ensures { Gives (λ t. t) result (all_terms_of line arcs.now) }
+{
+    within(alloc, line, "arcs", 2, 96, arcs.len() as u64)?;
+    every(alloc, (), line, arcs)
+}
+
+#[tactic(auto, unfolding(crate::specs::Limits::hashlocks_of))]
+fn hashlocks_in(
+    alloc: Global,
+    line: u32,
+    leaders: &[RawLeader],
+) -> Result<Listed<Digest>, OfferFault>
+    ensures { Gives (λ h. h) result (hashlocks_of line leaders.now) }
+{
+    within(alloc, line, "leaders", 1, 8, leaders.len() as u64)?;
+    every(alloc, (), line, leaders)
+}
+
+#[tactic(auto, unfolding(crate::specs::Limits::keys_of))]
+fn keys_in(
+    alloc: Global,
+    line: u32,
+    mode: Mode,
+    parties: usize,
+    locks: usize,
+    rows: &[RawRow],
+) -> Result<Listed<Listed<Digest>>, OfferFault>
+    ensures { Gives (λ k. k) result (keys_of line mode parties locks rows.now) }
+{
+    match mode {
+        Mode::Timelocks => Ok(Listed::empty(alloc)),
+        Mode::Hashkeys => {
+            let length = rows.len() as u64;
+            within(alloc, line, "keys", parties as u64, parties as u64, length)?;
+            every(alloc, locks, line, rows)
+        }
+    }
+}
+
+fn conforms(actor: RawActor) -> bool
+    ensures { result ≡ conforms actor }
+{
+    matches!(actor, RawActor::Conforming)
+}
+
+fn conforming_in(alloc: Global, parties: &[RawParty]) -> Result<Listed<bool>, NoMemory>
+    ensures { IfOk result (λ l. l ≡ map (λ p. conforms p.actor) parties.now) }
+{
+    let mut list = Vec::new(alloc);
+    for party in parties {
+        list.push(conforms(party.actor))?;
+    }
+    Ok(Listed::new(list))
+}
+
+fn amounts_in(alloc: Global, terms: &[ArcTerms]) -> Result<Listed<u64>, NoMemory>
+    ensures { IfOk result (λ l. l ≡ map (λ t. t.amount) terms.now) }
+{
+    let list: Vec<u64> = terms.iter().map(|t| t.amount).collect(alloc)?;
+    Ok(Listed::new(list))
+}
+
+fn timelocks_in(alloc: Global, terms: &[ArcTerms]) -> Result<Listed<u32>, NoMemory>
+    ensures { IfOk result (λ l. l ≡ map (λ t. t.timelock) terms.now) }
+{
+    let list: Vec<u32> = terms.iter().map(|t| t.timelock).collect(alloc)?;
+    Ok(Listed::new(list))
+}
+
+fn arc_ends_in(alloc: Global, arcs: &[Ends]) -> Result<Listed<ArcEnds>, NoMemory>
+    requires { AreEnds 256 arcs.now }
+    ensures { IfOk result (λ l. l ≡ map arc_ends arcs.now) }
+{
+    let mut list = Vec::new(alloc);
+    for arc in arcs {
+        let from = arc.from as u8;
+        let to = arc.to as u8;
+        list.push(ArcEnds { from, to })?;
+    }
+    Ok(Listed::new(list))
+}
+
+fn leaders_in(alloc: Global, leaders: &[usize]) -> Result<Listed<PartyId>, NoMemory>
+    requires { AreLeaders 256 leaders.now }
+    ensures { IfOk result (λ l. l ≡ leaders.now) }
+{
+    let mut list = Vec::new(alloc);
+    for leader in leaders {
+        list.push(*leader as u8)?;
+    }
+    Ok(Listed::new(list))
+}
+
+/// The header within its limits, or the first reason why a number, a list or a text is refused.
+#[tactic(auto, using(crate::proofs::Limited::small_ends, crate::proofs::Limited::small_leaders), unfolding(crate::specs::Limits::limited_of))]
+pub(crate) fn limited_in(
+    alloc: Global,
+    purpose: Purpose,
+    line: u32,
+    raw: &RawHeader,
+    numbered: Numbered,
+) -> Result<Header, OfferFault>
+    requires { IsNumbered raw.now numbered }
+    ensures { Gives (λ h. h) result (limited_of purpose line raw.now numbered) }
+{
+    let start = number_within(alloc, line, "start", 1, 1000, raw.start)?;
+    let delta = number_within(alloc, line, "delta", 1, 100, raw.delta)?;
+    let bound = number_within(alloc, line, "bound", 1, 64, raw.bound)?;
+    let seeds = seeds_in(alloc, line, raw.parties.as_slice())?;
+    let terms = terms_in(alloc, line, raw.arcs.as_slice())?;
+    let hashlocks = hashlocks_in(alloc, line, raw.leaders.as_slice())?;
+    let (parties, locks) = (raw.parties.len(), raw.leaders.len());
+    let keys = keys_in(alloc, line, raw.mode, parties, locks, raw.keys.as_slice())?;
+    let conforming = conforming_in(alloc, raw.parties.as_slice())?;
+    let arcs = arc_ends_in(alloc, numbered.arcs.as_slice())?;
+    let leaders = leaders_in(alloc, numbered.leaders.as_slice())?;
+    Ok(Header {
+        purpose,
+        mode: raw.mode,
+        start,
+        delta,
+        bound,
+        names: numbered.names,
+        conforming,
+        seeds,
+        arcs,
+        amounts: amounts_in(alloc, terms.as_slice())?,
+        timelocks: timelocks_in(alloc, terms.as_slice())?,
+        leaders,
+        hashlocks,
+        keys,
+        finish: raw.finish,
+    })
+}

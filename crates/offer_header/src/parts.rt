@@ -1,0 +1,209 @@
+//! The parts of a header: its parties, arcs, leaders and rows of keys.
+
+ghost use Rattle.std.specs.Prelude.{◌≡◌};
+ghost use Rattle.serde_json.specs.View.{view};
+ghost use Rattle.swap_base.specs.Fault.{Gives};
+ghost use Rattle.offer_fields.specs.Fields.{only};
+ghost use Rattle.offer_header.specs.Raw.{conforming_for, object_actor, actor_of_word, actor_at, kept_seed, seed_at, party_of, timelock_at, arc_fields, arc_of, leader_of, row_of};
+
+use crate::raw::{RawActor, RawArc, RawLeader, RawParty, RawRow, Reading};
+use deviator_script::Purpose;
+use offer_fields::{
+    Member, OfferFault, is_object, member_text, not_built, number_in, only_in, text_in, texts_in,
+    wrong_kind,
+};
+use serde_json::Value;
+use std::alloc::Global;
+use swap_base::ByteText;
+use swap_digraph::Mode;
+
+fn conforming_for(alloc: Global, line: u32, purpose: Purpose) -> Result<RawActor, OfferFault>
+    ensures { Gives (λ a. a) result (conforming_for line purpose) }
+{
+    match purpose {
+        Purpose::Check => Ok(RawActor::Conforming),
+        _ => Err(not_built(alloc, line, b"actor")),
+    }
+}
+
+fn object_actor(alloc: Global, line: u32, purpose: Purpose) -> Result<RawActor, OfferFault>
+    ensures { Gives (λ a. a) result (object_actor line purpose) }
+{
+    match purpose {
+        Purpose::Audit => Err(wrong_kind(alloc, line, b"actor")),
+        _ => Err(not_built(alloc, line, b"actor")),
+    }
+}
+
+fn actor_of_word(
+    alloc: Global,
+    line: u32,
+    purpose: Purpose,
+    word: &str,
+) -> Result<RawActor, OfferFault>
+    ensures { Gives (λ a. a) result (actor_of_word line purpose word.now) }
+{
+    match word {
+        "conforming" => conforming_for(alloc, line, purpose),
+        "manual" => Ok(RawActor::Manual),
+        _ => Err(wrong_kind(alloc, line, b"actor")),
+    }
+}
+
+#[tactic(auto, unfolding(crate::specs::Raw::actor_at))]
+fn actor_in(
+    alloc: Global,
+    line: u32,
+    purpose: Purpose,
+    object: &Value,
+) -> Result<RawActor, OfferFault>
+    ensures { Gives (λ a. a) result (actor_at line purpose (view object.now)) }
+{
+    let Some(value) = object.get("actor") else {
+        return conforming_for(alloc, line, purpose);
+    };
+    if value.is_object() {
+        return object_actor(alloc, line, purpose);
+    }
+    let word = member_text(alloc, line, "actor", value)?;
+    actor_of_word(alloc, line, purpose, word)
+}
+
+fn kept_seed(
+    alloc: Global,
+    line: u32,
+    mode: Mode,
+    actor: RawActor,
+    value: &Value,
+) -> Result<Option<ByteText>, OfferFault>
+    ensures { Gives (λ s. s) result (kept_seed line mode actor (view value.now)) }
+{
+    match (mode, actor) {
+        (Mode::Hashkeys, RawActor::Manual) => {
+            let seed = member_text(alloc, line, "seed", value)?;
+            Ok(Some(ByteText::from_slice(alloc, seed.as_bytes())?))
+        }
+        _ => Err(not_built(alloc, line, b"seed")),
+    }
+}
+
+#[tactic(auto, unfolding(crate::specs::Raw::seed_at))]
+fn seed_in(
+    alloc: Global,
+    line: u32,
+    mode: Mode,
+    actor: RawActor,
+    object: &Value,
+) -> Result<Option<ByteText>, OfferFault>
+    ensures { Gives (λ s. s) result (seed_at line mode actor (view object.now)) }
+{
+    match object.get("seed") {
+        None => Ok(None),
+        Some(value) => kept_seed(alloc, line, mode, actor, value),
+    }
+}
+
+impl Member<Reading> for RawParty {
+    ghost said = { party_of };
+
+    #[tactic(auto, unfolding(crate::specs::Raw::party_of))]
+    fn read(
+        alloc: Global,
+        reading: Reading,
+        line: u32,
+        value: &Value,
+    ) -> Result<RawParty, OfferFault> {
+        is_object(alloc, line, "parties", value)?;
+        let name = text_in(alloc, line, "name", value)?;
+        let actor = actor_in(alloc, line, reading.purpose, value)?;
+        let seed = seed_in(alloc, line, reading.mode, actor, value)?;
+        only_in(alloc, line, &["actor", "name", "seed"], value)?;
+        Ok(RawParty {
+            name: ByteText::from_slice(alloc, name.as_bytes())?,
+            actor,
+            seed,
+        })
+    }
+}
+
+fn timelock_in(alloc: Global, line: u32, mode: Mode, object: &Value) -> Result<u64, OfferFault>
+    ensures { Gives (λ n. n) result (timelock_at line mode (view object.now)) }
+{
+    match mode {
+        Mode::Timelocks => number_in(alloc, line, "timelock", object),
+        Mode::Hashkeys => Ok(0),
+    }
+}
+
+fn only_arc_fields(alloc: Global, line: u32, mode: Mode, object: &Value) -> Result<(), OfferFault>
+    ensures { Gives (λ u. u) result (only line (arc_fields mode) (view object.now)) }
+{
+    match mode {
+        Mode::Timelocks => only_in(alloc, line, &["amount", "from", "timelock", "to"], object),
+        Mode::Hashkeys => only_in(alloc, line, &["amount", "from", "to"], object),
+    }
+}
+
+impl Member<Reading> for RawArc {
+    ghost said = { arc_of };
+
+    #[tactic(auto, unfolding(crate::specs::Raw::arc_of))]
+    fn read(
+        alloc: Global,
+        reading: Reading,
+        line: u32,
+        value: &Value,
+    ) -> Result<RawArc, OfferFault> {
+        is_object(alloc, line, "arcs", value)?;
+        let from = text_in(alloc, line, "from", value)?;
+        let to = text_in(alloc, line, "to", value)?;
+        let amount = number_in(alloc, line, "amount", value)?;
+        let timelock = timelock_in(alloc, line, reading.mode, value)?;
+        only_arc_fields(alloc, line, reading.mode, value)?;
+        Ok(RawArc {
+            from: ByteText::from_slice(alloc, from.as_bytes())?,
+            to: ByteText::from_slice(alloc, to.as_bytes())?,
+            amount,
+            timelock,
+        })
+    }
+}
+
+impl Member<Reading> for RawLeader {
+    ghost said = { λ _. leader_of };
+
+    #[tactic(auto, unfolding(crate::specs::Raw::leader_of))]
+    fn read(
+        alloc: Global,
+        _reading: Reading,
+        line: u32,
+        value: &Value,
+    ) -> Result<RawLeader, OfferFault> {
+        is_object(alloc, line, "leaders", value)?;
+        let party = text_in(alloc, line, "party", value)?;
+        let hashlock = text_in(alloc, line, "hashlock", value)?;
+        only_in(alloc, line, &["hashlock", "party"], value)?;
+        Ok(RawLeader {
+            party: ByteText::from_slice(alloc, party.as_bytes())?,
+            hashlock: ByteText::from_slice(alloc, hashlock.as_bytes())?,
+        })
+    }
+}
+
+impl Member<Reading> for RawRow {
+    ghost said = { λ _. row_of };
+
+    #[tactic(auto, unfolding(crate::specs::Raw::row_of))]
+    fn read(
+        alloc: Global,
+        _reading: Reading,
+        line: u32,
+        value: &Value,
+    ) -> Result<RawRow, OfferFault> {
+        let Some(values) = value.as_array() else {
+            return Err(wrong_kind(alloc, line, b"keys"));
+        };
+        let texts = texts_in(alloc, line, "keys", values)?;
+        Ok(RawRow { texts })
+    }
+}

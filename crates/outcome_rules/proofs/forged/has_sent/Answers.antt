@@ -1,0 +1,13 @@
+use Rattle.std.proofs.Common.{sym, ◌∙◌, rules}
+use denote.Ref.{Bor}
+use Rattle.std.specs.Str.{bytes_eq}
+use Rattle.std.proofs.lemmas.Iterator.{YieldsList-from_slice}
+use Rattle.std.proofs.lemmas.Iterator.Search.{any_from_yields_List}
+use Rattle.hashkey_path.specs.declared.hashkey.Hashkey.{Hashkey}
+use Rattle.outcome_rules.proofs.Forgery.{sent_secret}
+use Rattle.outcome_rules.proofs.forged.has_sent.Goals as goal
+
+pub returns : goal.returns
+returns c =
+    any_from_yields_List (λ (r : Bor Hashkey). bytes_eq r.now.secret c.args.secret.now) _ _ c.any.result c.any.ensures.ran (YieldsList-from_slice c.args.keys.now cc) (λ x b q k. search rules)
+    ∙ sym (sent_secret c.args.book.now.histories c.args.party c.args.secret.now c.args.keys.now c.requires.keys)

@@ -1,0 +1,21 @@
+use Rattle.std.proofs.Common.{ℕ, sym, ap, ◌∙◌}
+use Rattle.swap_base.specs.Lists.{first_of}
+use Rattle.hashkey_path.specs.declared.hashkey.Hashkey.{Hashkey}
+use Rattle.ledger_core.specs.Book.{history}
+use Rattle.ledger_core.specs.History.{opened}
+use Rattle.swap_rules.specs.Conduct.{key_without}
+use denote.Ref.{Bor}
+use Rattle.outcome_rules.proofs.FirstAnswer.{found_at, none_at}
+use Rattle.outcome_rules.proofs.late.first_seen_key.Goals as goal
+
+pub returns-then-is_some : goal.returns-then-is_some
+returns-then-is_some c =
+    let f = λ (a : ℕ). key_without c.args.party (opened (history c.args.book.now.histories a) c.args.lock) in
+    found_at (λ (r : Bor Hashkey). r.now) f c.leaving-arc-items.result.now c.loop-arc.arc-index 0 c.key_without-found.result c.loop-arc-test.true c.loop-arc.invariant
+    (c.key_without-found.ensures ∙ ap (λ h. key_without c.args.party (opened h c.args.lock)) c.history.ensures) (sym c.is_some.ensures ∙ c.if-is_some.true)
+    ∙ ap (first_of f) c.leaving-arc-items.ensures
+
+pub loop-arc-preserved : goal.loop-arc-preserved
+loop-arc-preserved c =
+    none_at (λ (r : Bor Hashkey). r.now) (λ (a : ℕ). key_without c.args.party (opened (history c.args.book.now.histories a) c.args.lock)) c.leaving-arc-items.result.now c.loop-arc.arc-index 0 c.key_without-found.result c.loop-arc-test.true c.loop-arc.invariant
+    (c.key_without-found.ensures ∙ ap (λ h. key_without c.args.party (opened h c.args.lock)) c.history.ensures) (sym c.is_some.ensures ∙ c.if-is_some.false)

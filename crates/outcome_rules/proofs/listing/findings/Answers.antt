@@ -1,0 +1,13 @@
+use Rattle.std.proofs.Common.{[], if◌then◌else◌}
+use Rattle.swap_rules.specs.Findings.{findings_of}
+use Rattle.outcome_rules.specs.Report.{conforms_in}
+use Rattle.outcome_rules.proofs.Loops.{flat_more}
+use Rattle.outcome_rules.proofs.Legal.{countable_book}
+use Rattle.outcome_rules.proofs.listing.findings.Goals as goal
+
+pub loop-party-preserved : goal.loop-party-preserved
+loop-party-preserved c =
+    flat_more (λ v. if conforms_in c.args.conforming.now v then findings_of c.args.deal.now c.args.book.now.histories v else []) [] c.loop-party.list.items c.put_findings_at.new.out.items c.loop-party.party c.loop-party.invariant c.in_ok-put_findings_at.ensures
+
+pub put_unfinished-requires-clause-countable : goal.put_unfinished-requires-clause-countable
+put_unfinished-requires-clause-countable c = countable_book c.args.deal.now c.args.book.now.histories c.requires.legal

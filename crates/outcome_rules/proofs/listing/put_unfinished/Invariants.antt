@@ -1,0 +1,7 @@
+use Rattle.std.proofs.Common.{◌≡◌, ◌++◌}
+use Rattle.std.specs.List.{flat_map, range_with_len}
+use Rattle.outcome_rules.specs.Parts.{unfinished_at}
+use Rattle.outcome_rules.proofs.listing.put_unfinished.Given as goal
+
+abbrev pub invariant-loop-arc : goal.invariant-loop-arc
+invariant-loop-arc l = l.out.items ≡ l.initial.out.items ++ flat_map (unfinished_at l.horizon l.book.histories) (range_with_len 0 l.arc)

@@ -1,0 +1,297 @@
+-- The distance of a party is the greatest number of arcs on a path from it to the leader.
+use Rattle.std.proofs.Common.{◌≡◌, ◌⊎◌, ℕ, suc, zero, ◌+◌, ◌<◌, ◌≤◌, ◌==◌, Bool, true, false, cond, not, IsTrue, List, [], ◌∷◌, length, get_or, refl, sym, ap, ◌∙◌, subst, inl, inr, arith, eqb-true, eq-eqb, lt-ltb}
+use Rattle.std.proofs.lemmas.Bool.{false≢true}
+use Rattle.swap_base.specs.Lists.{IsIn, greatest}
+use Rattle.swap_base.proofs.Lists.{and_parts, and_both, greatest-in, greatest-below}
+use Rattle.swap_digraph.specs.declared.arc_ends.ArcEnds.{ArcEnds}
+use Rattle.swap_digraph.specs.Value.{Graph}
+use Rattle.swap_digraph.specs.Graph.{is_path, has_arc, is_among, first_is, last_is, arcs_of, are_followers, IsPathBetween, IsStronglyConnected, IsFeedback, IsHeight, IsDist, HasEnds}
+use Rattle.time_bounds.specs.Times.{need}
+use Rattle.leader_check.specs.Followers.{is_follower}
+use Rattle.leader_check.proofs.Followers.{follower_is, arc_of, arc_from, greatest-reached}
+use Rattle.leader_check.proofs.Paths.{is_among-true, in-is_among, Step, path_step, path_more, path_below, path_length}
+use Rattle.leader_check.proofs.Bounds.{paths_to_leaders_are_bounded}
+use Rattle.single_leader.specs.Distance.{most_after, dist_before, dist_within, dist_of}
+
+-- Values after a vertex.
+
+after-arc : (g : Graph) (f : ℕ → ℕ) (v w : ℕ) → has_arc g v w ≡ true → f w ≤ most_after g f v
+unfolding most_after
+after-arc g f v w e =
+    let a = arc_of g v w e in
+    let m = greatest-in (λ b. cond (b.from == v) (f b.to) 0) g.arcs a.arc a.among in
+    let k : cond (a.arc.from == v) (f a.arc.to) 0 ≡ f w = ap (λ b. cond b (f a.arc.to) 0) (eq-eqb a.arc.from v a.from) ∙ ap f a.to in
+    omega (arith, m, k)
+
+-- the greatest value after v is that of some vertex, where it is not 0
+after-reached : (g : Graph) (f : ℕ → ℕ) (v : ℕ) → (most_after g f v ≡ 0) ⊎ ((w : ℕ) × (has_arc g v w ≡ true) × (f w ≡ most_after g f v))
+unfolding most_after
+after-reached g f v = go (greatest-reached (λ b. cond (b.from == v) (f b.to) 0) g.arcs)
+  where
+    by_test : (a : ArcEnds) (b : Bool) (m : ℕ) → IsIn a g.arcs → (a.from == v) ≡ b → cond b (f a.to) 0 ≡ m → (m ≡ 0) ⊎ ((w : ℕ) × (has_arc g v w ≡ true) × (f w ≡ m))
+    by_test a true m i t e = inr (a.to, arc_from g a v a.to i (eqb-true a.from v t) refl, e)
+    by_test a false m i t e = inl (sym e)
+
+    go : (greatest (λ b. cond (b.from == v) (f b.to) 0) g.arcs ≡ 0) ⊎ ((a : ArcEnds) × IsIn a g.arcs × (cond (a.from == v) (f a.to) 0 ≡ greatest (λ b. cond (b.from == v) (f b.to) 0) g.arcs))
+        → (greatest (λ b. cond (b.from == v) (f b.to) 0) g.arcs ≡ 0) ⊎ ((w : ℕ) × (has_arc g v w ≡ true) × (f w ≡ greatest (λ b. cond (b.from == v) (f b.to) 0) g.arcs))
+    go (inl z) = inl z
+    go (inr a) = by_test a.0 (a.0.from == v) (greatest (λ b. cond (b.from == v) (f b.to) 0) g.arcs) a.1 refl a.2
+
+after-below : (g : Graph) (f : ℕ → ℕ) (v m : ℕ) → ((w : ℕ) → f w ≤ m) → most_after g f v ≤ m
+unfolding most_after
+after-below g f v m le = greatest-below (λ b. cond (b.from == v) (f b.to) 0) g.arcs m (λ a i. go (a.from == v) a.to)
+  where
+    go : (b : Bool) (w : ℕ) → cond b (f w) 0 ≤ m
+    go true w = le w
+    go false w = omega arith
+
+pub before-follower : (g : Graph) (l : ℕ) (f : ℕ → ℕ) (v : ℕ) → is_follower g (l ∷ []) v ≡ true → dist_before g l f v ≡ most_after g f v + 1
+unfolding dist_before
+before-follower g l f v e = ap (λ b. cond b (most_after g f v + 1) 0) e
+
+pub before-other : (g : Graph) (l : ℕ) (f : ℕ → ℕ) (v : ℕ) → is_follower g (l ∷ []) v ≡ false → dist_before g l f v ≡ 0
+unfolding dist_before
+before-other g l f v e = ap (λ b. cond b (most_after g f v + 1) 0) e
+
+before-below : (g : Graph) (l : ℕ) (f : ℕ → ℕ) (v m : ℕ) → ((w : ℕ) → f w ≤ m) → dist_before g l f v ≤ suc m
+unfolding dist_before
+before-below g l f v m le = go (is_follower g (l ∷ []) v) (after-below g f v m le)
+  where
+    go : (b : Bool) → most_after g f v ≤ m → cond b (most_after g f v + 1) 0 ≤ suc m
+    go true k = omega arith
+    go false k = omega arith
+
+pub within-suc : (g : Graph) (l k v : ℕ) → dist_within g l (suc k) v ≡ dist_before g l (dist_within g l k) v
+unfolding dist_within
+within-suc g l k v = refl
+
+pub within-below : (g : Graph) (l k v : ℕ) → dist_within g l k v ≤ k
+unfolding dist_within
+within-below g l zero v = omega arith
+within-below g l (suc k) v = before-below g l (dist_within g l k) v k (within-below g l k)
+
+-- Ends of arcs.
+
+place_of : {A : Type 0} (xs : List A) (x d : A) → IsIn x xs → (i : ℕ) × (i < length xs) × (get_or xs i d ≡ x)
+place_of [] x d i = absurd i
+place_of (y ∷ xs) x d (inl e) = (0, omega arith, sym e)
+place_of (y ∷ xs) x d (inr i) = let r = place_of xs x d i in (suc r.0, omega arith, r.2)
+
+arc_below : (g : Graph) (v w : ℕ) → HasEnds g → has_arc g v w ≡ true → w < g.n
+arc_below g v w ends e =
+    let a = arc_of g v w e in
+    let p = place_of g.arcs a.arc (record { from = 0; to = 0 }) a.among in
+    let b = ends.to p.0 p.1 in
+    let s : (get_or g.arcs p.0 (record { from = 0; to = 0 })).to ≡ w = ap (λ (x : ArcEnds). x.to) p.2 ∙ a.to in
+    rw s at b
+
+-- The leader.
+
+leader_among : (l v : ℕ) → not (is_among v (l ∷ [])) ≡ false → v ≡ l
+leader_among l v e = go (is_among-true v (l ∷ []) (no_not (is_among v (l ∷ [])) e))
+  where
+    no_not : (b : Bool) → not b ≡ false → b ≡ true
+    no_not true h = refl
+    no_not false h = cc h
+
+    go : IsIn v (l ∷ []) → v ≡ l
+    go (inl q) = q
+    go (inr i) = absurd i
+
+not_leader : (l v : ℕ) → (v ≡ l → ⊥) → not (is_among v (l ∷ [])) ≡ true
+not_leader l v n = go (not (is_among v (l ∷ []))) (λ e. n (leader_among l v e))
+  where
+    go : (b : Bool) → (b ≡ false → ⊥) → b ≡ true
+    go true h = refl
+    go false h = absurd (h refl)
+
+is_leader_not : (l v : ℕ) → not (is_among v (l ∷ [])) ≡ true → v ≡ l → ⊥
+is_leader_not l v e q = go (is_among v (l ∷ [])) (in-is_among v (l ∷ []) (inl q)) e
+  where
+    go : (b : Bool) → b ≡ true → not b ≡ true → ⊥
+    go true h k = cc k
+    go false h k = cc h
+
+pub leader_follows_not : (g : Graph) (l v : ℕ) → v < g.n → l ≡ v → is_follower g (l ∷ []) v ≡ false
+leader_follows_not g l v b e = follower_is g (l ∷ []) v b ∙ ap not (in-is_among v (l ∷ []) (inl (sym e)))
+
+pub other_follows : (g : Graph) (l v : ℕ) → v < g.n → (l ≡ v → ⊥) → is_follower g (l ∷ []) v ≡ true
+other_follows g l v b n = follower_is g (l ∷ []) v b ∙ not_leader l v (λ e. n (sym e))
+
+last_in : (l : ℕ) (p : List ℕ) → last_is l p ≡ true → IsIn l p
+last_in l [] e = absurd (cc e)
+last_in l (u ∷ []) e = inl (sym (eqb-true u l e))
+last_in l (u ∷ w ∷ p) e = inr (last_in l (w ∷ p) e)
+
+-- a path that ends in the leader, or that meets no leader
+abbrev Meets : ℕ → List ℕ → Type 0
+Meets l p = (last_is l p ≡ true) ⊎ (are_followers (l ∷ []) p ≡ true)
+
+-- but at its end it doesn't meet the leader
+meets_rest : (g : Graph) (l u w : ℕ) (p : List ℕ) → is_path g (u ∷ w ∷ p) ≡ true → Meets l (u ∷ w ∷ p) → (not (is_among u (l ∷ [])) ≡ true) × Meets l (w ∷ p)
+meets_rest g l u w p e (inl last) = (not_leader l u (λ q. (path_step g u w p e).fresh (subst (λ x. IsIn x (w ∷ p)) (sym q) (last_in l (w ∷ p) last))), inl last)
+meets_rest g l u w p e (inr o) = let k = and_parts (not (is_among u (l ∷ []))) (are_followers (l ∷ []) (w ∷ p)) o in (k.0, inr k.1)
+
+module _ (g : Graph) (l : ℕ) where
+  -- the part of a path that leads to a follower on it
+  record Part (u v : ℕ) (p : List ℕ) : Type 0 where
+    part : List ℕ
+    path : is_path g part ≡ true
+    first : first_is u part ≡ true
+    last : last_is v part ≡ true
+    followers : are_followers (l ∷ []) part ≡ true
+    inside : (x : ℕ) → IsIn x part → IsIn x p
+
+  part_to : (u v : ℕ) (p : List ℕ) → is_path g (u ∷ p) ≡ true → Meets l (u ∷ p) → (v ≡ l → ⊥) → IsIn v (u ∷ p) → Part u v (u ∷ p)
+  part_to u v p e m n (inl q) = record {
+    part = u ∷ [];
+    path = lt-ltb u g.n (path_below g (u ∷ p) u e (inl refl));
+    first = eq-eqb u u refl;
+    last = eq-eqb u v (sym q);
+    followers = and_both (not (is_among u (l ∷ []))) true (not_leader l u (λ k. n (q ∙ k))) refl;
+    inside = λ x. elim [ inl k ↦ inl k | inr j ↦ absurd j ];
+  }
+  part_to u v [] e m n (inr i) = absurd i
+  part_to u v (w ∷ p) e m n (inr i) =
+      let s = path_step g u w p e in
+      let k = meets_rest g l u w p e m in
+      go s k.0 (part_to w v p s.rest k.1 n i)
+    where
+      go : Step g u w p → not (is_among u (l ∷ [])) ≡ true → Part w v (w ∷ p) → Part u v (u ∷ w ∷ p)
+      go s a r = more r.part r.path r.first r.last r.followers r.inside
+        where
+          more : (q : List ℕ) → is_path g q ≡ true → first_is w q ≡ true → last_is v q ≡ true → are_followers (l ∷ []) q ≡ true → ((x : ℕ) → IsIn x q → IsIn x (w ∷ p)) → Part u v (u ∷ w ∷ p)
+          more [] k f t o m = absurd (cc k)
+          more (z ∷ q) k f t o m =
+              let same : z ≡ w = eqb-true z w f in
+              record {
+                part = u ∷ z ∷ q;
+                path = path_more g u z q s.below (λ j. s.fresh (m u j)) (ap (has_arc g u) same ∙ s.arc) k;
+                first = eq-eqb u u refl;
+                last = t;
+                followers = and_both (not (is_among u (l ∷ []))) (are_followers (l ∷ []) (z ∷ q)) a o;
+                inside = λ x. elim [ inl j ↦ inl j | inr j ↦ inr (m x j) ];
+              }
+
+  -- every path to the leader is at most as long
+  far-most : (u : ℕ) (p : List ℕ) (m : ℕ) → is_path g (u ∷ p) ≡ true → last_is l (u ∷ p) ≡ true → length p ≤ m → length p ≤ dist_within g l m u
+  far-most u [] m e last le = omega arith
+  far-most u (w ∷ p) zero e last le = absurd (omega arith)
+  far-most u (w ∷ p) (suc m) e last le =
+      let s = path_step g u w p e in
+      let k = meets_rest g l u w p e (inl last) in
+      let r = far-most w p m s.rest last (omega arith) in
+      let follows = follower_is g (l ∷ []) u s.below ∙ k.0 in
+      let x : dist_within g l (suc m) u ≡ most_after g (dist_within g l m) u + 1 = within-suc g l m u ∙ before-follower g l (dist_within g l m) u follows in
+      let y = after-arc g (dist_within g l m) u w s.arc in
+      omega (arith, r, x, y)
+
+module _ (g : Graph) (l : ℕ) (ends : HasEnds g) (strong : IsStronglyConnected g) (leads : l < g.n) (feedback : IsFeedback g (l ∷ [])) where
+  -- a path of so many arcs from v that ends in the leader, or is cut off
+  record Far (v k d : ℕ) : Type 0 where
+    rest : List ℕ
+    path : is_path g (v ∷ rest) ≡ true
+    size : length rest ≡ d
+    end : (last_is l (v ∷ rest) ≡ true) ⊎ ((are_followers (l ∷ []) (v ∷ rest) ≡ true) × (length rest ≡ k))
+
+  -- a follower has an arc
+  has_next : (v : ℕ) → v < g.n → (v ≡ l → ⊥) → (w : ℕ) × (has_arc g v w ≡ true)
+  has_next v b n = let s = strong v l b leads n in go s.0 s.1
+    where
+      go : (p : List ℕ) → IsPathBetween g v l p → (w : ℕ) × (has_arc g v w ≡ true)
+      go [] k = absurd (cc k.0)
+      go (u ∷ []) k = absurd (n (sym (eqb-true u v k.1) ∙ eqb-true u l k.2))
+      go (u ∷ w ∷ p) k = (w, ap (λ x. has_arc g x w) (sym (eqb-true u v k.1)) ∙ (path_step g u w p k.0).arc)
+
+  -- the vertex after v that stands the farthest
+  farthest : (f : ℕ → ℕ) (v : ℕ) → v < g.n → (v ≡ l → ⊥) → (w : ℕ) × (has_arc g v w ≡ true) × (f w ≡ most_after g f v)
+  farthest f v b n = go (after-reached g f v)
+    where
+      go : (most_after g f v ≡ 0) ⊎ ((w : ℕ) × (has_arc g v w ≡ true) × (f w ≡ most_after g f v)) → (w : ℕ) × (has_arc g v w ≡ true) × (f w ≡ most_after g f v)
+      go (inl z) = let w = has_next v b n in let m = after-arc g f v w.0 w.1 in (w.0, w.1, omega (arith, m, z))
+      go (inr w) = w
+
+  at_leader : (v k : ℕ) → v ≡ l → v < g.n → Far v k 0
+  at_leader v k e b = record { rest = []; path = lt-ltb v g.n b; size = refl; end = inl (eq-eqb v l e) }
+
+  further : (v w k d : ℕ) → v < g.n → not (is_among v (l ∷ [])) ≡ true → has_arc g v w ≡ true → Far w k d → Far v (suc k) (d + 1)
+  further v w k d b follows a r =
+      let fresh : IsIn v (w ∷ r.rest) → ⊥ = λ i.
+      let t = part_to g l w v r.rest r.path (elim r.end [ inl x ↦ inl x | inr x ↦ inr x.0 ]) (is_leader_not l v follows) i in
+      false≢true (sym (feedback w v t.part (t.path, t.first, t.last) t.followers) ∙ a) in
+      let s = r.size in
+      record {
+        rest = w ∷ r.rest;
+        path = path_more g v w r.rest b fresh a r.path;
+        size = omega (arith, s);
+        end = elim r.end [ inl x ↦ inl x | inr x ↦ inr (and_both (not (is_among v (l ∷ []))) (are_followers (l ∷ []) (w ∷ r.rest)) follows x.0, ap suc x.1) ];
+      }
+
+  far : (k v : ℕ) → v < g.n → Far v k (dist_within g l k v)
+  unfolding dist_within
+  far zero v b = go (not (is_among v (l ∷ []))) refl
+    where
+      go : (t : Bool) → not (is_among v (l ∷ [])) ≡ t → Far v 0 0
+      go true e = record { rest = []; path = lt-ltb v g.n b; size = refl; end = inr (and_both (not (is_among v (l ∷ []))) true e refl, refl) }
+      go false e = at_leader v 0 (leader_among l v e) b
+  far (suc k) v b = go (far k) (not (is_among v (l ∷ []))) refl
+    where
+      go : ((w : ℕ) → w < g.n → Far w k (dist_within g l k w)) → (t : Bool) → not (is_among v (l ∷ [])) ≡ t → Far v (suc k) (dist_before g l (dist_within g l k) v)
+      go rest true e =
+          let w = farthest (dist_within g l k) v b (is_leader_not l v e) in
+          let r = further v w.0 k (dist_within g l k w.0) b e w.1 (rest w.0 (arc_below g v w.0 ends w.1)) in
+          let s : dist_before g l (dist_within g l k) v ≡ dist_within g l k w.0 + 1 = before-follower g l (dist_within g l k) v (follower_is g (l ∷ []) v b ∙ e) ∙ ap (λ d. d + 1) (sym w.2) in
+          subst (Far v (suc k)) (sym s) r
+      go rest false e =
+          let s : dist_before g l (dist_within g l k) v ≡ 0 = before-other g l (dist_within g l k) v (follower_is g (l ∷ []) v b ∙ e) in
+          subst (Far v (suc k)) (sym s) (at_leader v (suc k) (leader_among l v e) b)
+
+  -- so many arcs are enough
+  pub dist_is : (h k v : ℕ) → IsHeight g (l ∷ []) h → h ≤ k → v < g.n → IsDist g l v (dist_within g l k v)
+  dist_is h k v height le b = record { reached = go (far k v b); most = most }
+    where
+      go : Far v k (dist_within g l k v) → (p : List ℕ) × IsPathBetween g v l p × (arcs_of p ≡ dist_within g l k v)
+      go r = by_end r.end
+        where
+          by_end : (last_is l (v ∷ r.rest) ≡ true) ⊎ ((are_followers (l ∷ []) (v ∷ r.rest) ≡ true) × (length r.rest ≡ k)) → (p : List ℕ) × IsPathBetween g v l p × (arcs_of p ≡ dist_within g l k v)
+          by_end (inl x) = let s = r.size in (v ∷ r.rest, (r.path, eq-eqb v v refl, x), omega (arith, s))
+          by_end (inr x) =
+              let m = height.most (v ∷ r.rest) r.path x.0 in
+              let s = x.1 in
+              absurd (omega (arith, m, s))
+
+      most : (p : List ℕ) → IsPathBetween g v l p → arcs_of p ≤ dist_within g l k v
+      most [] x = absurd (cc x.0)
+      most (u ∷ p) x =
+          let same : u ≡ v = eqb-true u v x.1 in
+          let law = paths_to_leaders_are_bounded g (l ∷ []) h height (u ∷ p) l x.0 x.2 (in-is_among l (l ∷ []) (inl refl)) in
+          let m = far-most g l u p k x.0 x.2 (omega (arith, law, le)) in
+          let s : dist_within g l k u ≡ dist_within g l k v = ap (dist_within g l k) same in
+          omega (arith, m, s)
+
+  pub dist_bounded : (h v d : ℕ) → IsHeight g (l ∷ []) h → IsDist g l v d → d ≤ need g.n 1 h
+  dist_bounded h v d height is =
+      let r = is.reached in
+      let law = paths_to_leaders_are_bounded g (l ∷ []) h height r.0 l r.1.0 r.1.2 (in-is_among l (l ∷ []) (inl refl)) in
+      let e = r.2 in
+      omega (arith, law, e)
+
+  pub dist_one : (v c d : ℕ) → IsDist g l v c → IsDist g l v d → c ≡ d
+  dist_one v c d x y =
+      let a = x.most y.reached.0 y.reached.1 in
+      let b = y.most x.reached.0 x.reached.1 in
+      let m = x.reached.2 in
+      let n = y.reached.2 in
+      omega (arith, a, b, m, n)
+
+  height_below : (h : ℕ) → IsHeight g (l ∷ []) h → h ≤ g.n
+  height_below h k = go k.reached
+    where
+      go : (h ≡ 0) ⊎ ((p : List ℕ) × IsTrue (is_path g p) × IsTrue (are_followers (l ∷ []) p) × (length p ≡ h)) → h ≤ g.n
+      go (inl z) = omega arith
+      go (inr p) = let n = path_length g p.0 p.1 in let e = p.3 in omega (arith, n, e)
+
+  -- h rounds give the distance
+  pub dist_by_rounds : (h v : ℕ) → IsHeight g (l ∷ []) h → v < g.n → dist_within g l h v ≡ dist_of g l v
+  unfolding dist_of
+  dist_by_rounds h v height b = dist_one v (dist_within g l h v) (dist_within g l g.n v) (dist_is h h v height (omega arith) b) (dist_is h g.n v height (height_below h height) b)

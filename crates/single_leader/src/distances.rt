@@ -1,0 +1,90 @@
+//! The distances of the parties from the leader, by rounds over the arcs.
+
+ghost use Rattle.std.specs.Prelude.{◌≡◌, ◌≤◌, ◌<◌, ◌∷◌, [], ℕ, length, map, slice_index, IfOk};
+ghost use Rattle.swap_digraph.specs.Graph.{HasEnds, IsDist, IsFeedback, IsHeight, IsStronglyConnected};
+ghost use Rattle.time_bounds.specs.Times.{need};
+ghost use Rattle.leader_check.specs.Followers.{parties};
+ghost use Rattle.single_leader.specs.Distance.{most_after, dist_before, dist_of};
+
+use leader_check::Levels;
+use std::alloc::Global;
+use swap_base::{Listed, NoMemory, PartyId};
+use swap_digraph::Digraph;
+
+/// The greatest distance in the row of a vertex to which v has an arc.
+fn most_after(graph: &Digraph, row: &[u32], v: PartyId) -> u32
+    requires ends { HasEnds graph.now }
+    requires row { length row.now ≡ graph.now.n }
+    requires low { (v : ℕ) → slice_index row.now v ≤ 255 }
+    ensures most { result ≡ most_after graph.now (slice_index row.now) v }
+    ensures low { result ≤ 255 }
+{
+    let mut most = 0;
+    for arc in graph.arcs() {
+        if arc.from == v {
+            most = most.max(row[arc.to as usize]);
+        }
+    }
+    most
+}
+
+/// The distance of v, by those in the row of the vertices after it.
+fn dist_before(graph: &Digraph, leader: PartyId, row: &[u32], v: PartyId) -> u32
+    requires ends { HasEnds graph.now }
+    requires row { length row.now ≡ graph.now.n }
+    requires low { (v : ℕ) → slice_index row.now v ≤ 255 }
+    requires v { v < graph.now.n }
+    ensures { result ≡ dist_before graph.now leader (slice_index row.now) v }
+{
+    if leader == v {
+        0
+    } else {
+        most_after(graph, row, v) + 1
+    }
+}
+
+/// The distances of a further round.
+fn next_dists(
+    alloc: Global,
+    graph: &Digraph,
+    leader: PartyId,
+    row: &[u32],
+) -> Result<Vec<u32>, NoMemory>
+    requires ends { HasEnds graph.now }
+    requires row { length row.now ≡ graph.now.n }
+    requires low { (v : ℕ) → slice_index row.now v ≤ 255 }
+    ensures { IfOk result (λ l. l.items ≡ map (dist_before graph.now leader (slice_index row.now)) (parties graph.now)) }
+{
+    let mut next = Vec::new(alloc);
+    for v in 0..graph.n() {
+        next.push(dist_before(graph, leader, row, v))?;
+    }
+    Ok(next)
+}
+
+/// For each party the greatest number of arcs on a path from it to the leader.
+pub fn dist(
+    alloc: Global,
+    graph: &Digraph,
+    leader: PartyId,
+    levels: &Levels,
+) -> Result<Listed<u32>, NoMemory>
+    requires ends { HasEnds graph.now }
+    requires strong { IsStronglyConnected graph.now }
+    requires leader { leader < graph.now.n }
+    requires feedback { IsFeedback graph.now (leader ∷ []) }
+    requires levels { IsHeight graph.now (leader ∷ []) levels.now.h }
+    ensures parties { IfOk result (λ l. length l ≡ graph.now.n) }
+    ensures dist { IfOk result (λ l. (v : ℕ) → v < graph.now.n
+        → slice_index l v ≡ dist_of graph.now leader v) }
+    ensures longest { IfOk result (λ l. (v : ℕ) → v < graph.now.n
+        → IsDist graph.now leader v (slice_index l v)) }
+    ensures bounded { IfOk result (λ l. (v : ℕ) → v < graph.now.n
+        → slice_index l v ≤ need graph.now.n 1 levels.now.h) }
+{
+    let mut row = vec![in alloc; 0; graph.n() as usize]?;
+    for _round in 0..levels.h {
+        row = next_dists(alloc, graph, leader, &row)?;
+    }
+    Ok(Listed::new(row))
+}

@@ -1,0 +1,234 @@
+-- A deal that passes the checks is an accepted one.
+use Rattle.std.proofs.Common.{◌≡◌, ℕ, zero, suc, ◌+◌, ◌<◌, ◌≤◌, ◌==◌, nat_lt, Bool, true, false, cond, not, ◌&&◌, List, [], ◌∷◌, ◌++◌, length, get_or, take, slice_index, Option, Some, None, Result, Ok, Err, refl, sym, ap, ◌∙◌, subst, arith, inl, inr, ltb-false, ltb-true, eqb-true, eq-eqb, get_or-take, append-nil, append_assoc, position}
+use Rattle.std.proofs.lemmas.List.{length-take}
+use Rattle.std.proofs.lemmas.Bool.{false≢true}
+use Rattle.std.specs.List.{position_from}
+use Rattle.std.proofs.lemmas.Iterator.Adapters.{position_from-zero}
+use Rattle.swap_base.specs.Fault.{◌>>=◌}
+use Rattle.swap_base.specs.Lists.{or_else, first_of, IsIn}
+use Rattle.swap_base.proofs.Lists.{in_range}
+use Rattle.time_bounds.specs.Times.{need, timelock}
+use Rattle.swap_digraph.specs.Value.{Graph}
+use Rattle.swap_digraph.specs.Graph.{ends, arcs, HasEnds, IsStronglyConnected, IsFeedback, IsHeight, IsDist}
+use Rattle.swap_digraph.specs.Arcs.{fault_at, first_fault, first_fault_after, graph_or, digraph_of, parallel, same_ends}
+use Rattle.swap_digraph.specs.declared.arc_ends.ArcEnds.{ArcEnds}
+use Rattle.swap_digraph.specs.declared.fault.ArcFault.{ArcFault}
+use Rattle.swap_digraph.specs.declared.fault.ArcFault.TheVariants.{OutOfRange, SelfArc}
+use Rattle.swap_digraph.specs.declared.deal.Mode.{Mode}
+use Rattle.swap_digraph.specs.declared.deal.Mode.TheVariants.{Timelocks, Hashkeys}
+use Rattle.swap_digraph.specs.declared.deal.Version.TheVariants.{One}
+use Rattle.digraph_check.specs.Reach.{closed_set}
+use Rattle.digraph_check.proofs.ClosedSets.{connected_of_none}
+use Rattle.leader_check.specs.Cycles.{follower_cycle}
+use Rattle.leader_check.specs.Levels.{height_of}
+use Rattle.leader_check.proofs.Walks as walks
+use Rattle.leader_check.proofs.Heights as heights
+use Rattle.single_leader.specs.Distance.{dist_of}
+use Rattle.single_leader.proofs.Far.{dist_is, dist_by_rounds}
+use Rattle.swap_rules.specs.Accepted.{IsAccepted, IsTimed, HasTimelock}
+use Rattle.offer_fields.specs.declared.reason.Reason.{Reason}
+use Rattle.offer_fields.specs.declared.reason.Reason.TheVariants.{BoundTooSmall, StartTooSoon, ManyLeaders, WrongTimelock}
+use Rattle.offer_header.specs.declared.header.Header.{Header}
+use Rattle.offer_header.specs.Header.{IsWithin}
+use Rattle.swap_offer.specs.Checks.{graph_of, by_arcs, connected, unless_closed, one_leader, led, unless_cycle, bounded, started, timed, unless_wrong, wrong_timelock, checked, unnamed, deal_with}
+use Rattle.swap_offer.proofs.Whole.{is_sized}
+
+-- a chain that ends well began well
+abbrev Went : {A B : Type 0} → Result A Reason → (A → Result B Reason) → B → Type 0
+Went {A} r f y = (x : A) × (r ≡ Ok x) × (f x ≡ Ok y)
+
+went : {A B : Type 0} (r : Result A Reason) (f : A → Result B Reason) (y : B) → (r >>= f) ≡ Ok y → Went r f y
+went (Ok x) f y e = (x, refl, e)
+went (Err r) f y e = absurd (cc e)
+
+is_connected : (g : Graph) (u : Unit {0}) → connected g ≡ Ok u → IsStronglyConnected g
+unfolding connected
+is_connected g u e = go (closed_set g) refl e
+  where
+    go : (o : Option (List ℕ)) → closed_set g ≡ o → unless_closed o ≡ Ok u → IsStronglyConnected g
+    go None h k = connected_of_none g h
+    go (Some set) h k = absurd (cc k)
+
+is_led : (g : Graph) (leaders : List ℕ) (u : Unit {0}) → led g leaders ≡ Ok u → IsFeedback g leaders
+unfolding led
+is_led g leaders u e = go (follower_cycle g leaders) refl e
+  where
+    go : (o : Option (List ℕ)) → follower_cycle g leaders ≡ o → unless_cycle o ≡ Ok u → IsFeedback g leaders
+    go None h k = (walks.no_cycle_is_feedback g leaders).0 h
+    go (Some cycle) h k = absurd (cc k)
+
+not_refused : (t : Bool) (r : Reason) (u : Unit {0}) → cond {A = Result (Unit {0}) Reason} t (Err r) (Ok tt) ≡ Ok u → t ≡ false
+not_refused true r u e = absurd (cc e)
+not_refused false r u e = refl
+
+is_bounded : (bound needed : ℕ) (u : Unit {0}) → bounded bound needed ≡ Ok u → needed ≤ bound
+unfolding bounded
+is_bounded bound needed u e = ltb-false bound needed (not_refused (nat_lt bound needed) (BoundTooSmall bound needed) u e)
+
+is_started : (start delta : ℕ) (u : Unit {0}) → started start delta ≡ Ok u → delta ≤ start
+unfolding started
+is_started start delta u e = ltb-false start delta (not_refused (nat_lt start delta) (StartTooSoon start delta) u e)
+
+has_one : (leaders : List ℕ) (u : Unit {0}) → one_leader Timelocks leaders ≡ Ok u → length leaders ≤ 1
+unfolding one_leader
+has_one leaders u e = ltb-false 1 (length leaders) (not_refused (nat_lt 1 (length leaders)) (ManyLeaders (length leaders)) u e)
+
+-- Timelocks.
+
+none_at : {A B : Type 0} (f : A → Option B) (xs : List A) (x : A) → first_of f xs ≡ None → IsIn x xs → f x ≡ None
+none_at f [] x e i = absurd i
+none_at {A} {B} f (y ∷ xs) x e i = go (f y) refl e i (none_at f xs x)
+  where
+    go : (o : Option B) → f y ≡ o → or_else o (first_of f xs) ≡ None → IsIn x (y ∷ xs) → (first_of f xs ≡ None → IsIn x xs → f x ≡ None) → f x ≡ None
+    go None h k (inl s) rest = ap f s ∙ h
+    go None h k (inr j) rest = rest k j
+    go (Some z) h k j rest = absurd (cc k)
+
+has_timelock : (h : Header) (g : Graph) (leader a : ℕ) → wrong_timelock h g leader a ≡ None → slice_index h.timelocks a ≡ timelock h.start h.delta h.bound (dist_of g leader (ends g a).to)
+has_timelock h g leader a e = go (slice_index h.timelocks a == timelock h.start h.delta h.bound (dist_of g leader (ends g a).to)) refl e
+  where
+    go : (t : Bool) → (slice_index h.timelocks a == timelock h.start h.delta h.bound (dist_of g leader (ends g a).to)) ≡ t → cond t None (Some (WrongTimelock a (slice_index h.timelocks a) (timelock h.start h.delta h.bound (dist_of g leader (ends g a).to)))) ≡ None → slice_index h.timelocks a ≡ timelock h.start h.delta h.bound (dist_of g leader (ends g a).to)
+    go true s k = eqb-true (slice_index h.timelocks a) (timelock h.start h.delta h.bound (dist_of g leader (ends g a).to)) s
+    go false s k = absurd (cc k)
+
+all_timed : (h : Header) (g : Graph) (leader : ℕ) (u : Unit {0}) → timed h g Timelocks (leader ∷ []) ≡ Ok u → (a : ℕ) → a < length g.arcs → wrong_timelock h g leader a ≡ None
+unfolding timed
+all_timed h g leader u e a lt = go (first_of (wrong_timelock h g leader) (arcs g)) refl e
+  where
+    go : (o : Option Reason) → first_of (wrong_timelock h g leader) (arcs g) ≡ o → unless_wrong o ≡ Ok u → wrong_timelock h g leader a ≡ None
+    go None s k = none_at (wrong_timelock h g leader) (arcs g) a s (in_range a (length g.arcs) lt)
+    go (Some r) s k = absurd (cc k)
+
+timed_by : (h : Header) (g : Graph) (id : List ℕ) (leader height : ℕ) (u : Unit {0}) → h.leaders ≡ leader ∷ [] → HasEnds g → IsStronglyConnected g → leader < g.n → IsFeedback g (leader ∷ []) → IsHeight g (leader ∷ []) height
+    → timed h g Timelocks (leader ∷ []) ≡ Ok u → IsTimed Timelocks (unnamed h g id)
+timed_by h g id leader height u e has strong lt feedback tall t = (ap length e, timelocks)
+  where
+    timelocks : (a : ℕ) → a < length g.arcs → HasTimelock (unnamed h g id) a
+    timelocks a b =
+        let v : ℕ = (ends g a).to in
+        let far = dist_is g leader has strong lt feedback height height v tall (omega arith) (has.to a b) in
+        let near = subst (IsDist g leader v) (dist_by_rounds g leader has strong lt feedback height v tall (has.to a b)) far in
+        record {
+          dist = dist_of g leader v;
+          is_dist = rw e near;
+          timelock = has_timelock h g leader a (all_timed h g leader u t a b);
+        }
+
+one_of : (xs : List ℕ) → 1 ≤ length xs → length xs ≤ 1 → xs ≡ get_or xs 0 0 ∷ []
+one_of [] some few = absurd (omega arith)
+one_of (x ∷ []) some few = refl
+one_of (x ∷ y ∷ xs) some few = absurd (omega arith)
+
+is_timed : (m : Mode) (h : Header) (g : Graph) (id : List ℕ) (u v : Unit {0}) → m ≡ h.mode → IsWithin h → g.n ≡ length h.names → g.arcs ≡ h.arcs → HasEnds g → IsStronglyConnected g → IsFeedback g h.leaders
+    → one_leader m h.leaders ≡ Ok u → timed h g m h.leaders ≡ Ok v → IsTimed m (unnamed h g id)
+is_timed Timelocks h g id u v m k n a has strong feedback one t =
+    let e : h.leaders ≡ get_or h.leaders 0 0 ∷ [] = one_of h.leaders k.leaders.0 (has_one h.leaders u one) in
+    let f : IsFeedback g (get_or h.leaders 0 0 ∷ []) = subst (IsFeedback g) e feedback in
+    let few = k.leaders.0 in
+    timed_by h g id (get_or h.leaders 0 0) (height_of g (get_or h.leaders 0 0 ∷ [])) v e has strong (rw n (k.leader.below 0 (omega (arith, few)))) f (heights.greatest_level_is_height g (get_or h.leaders 0 0 ∷ []) f)
+    (subst (λ (ls : List ℕ). timed h g Timelocks ls ≡ Ok v) e t)
+is_timed Hashkeys h g id u v m k n a has strong feedback one t = λ b lt. k.untimed (sym m) b (subst (λ (xs : List ArcEnds). b < length xs) a lt)
+
+-- No two arcs have the same ends.
+
+both_none : (o rest : Option ArcFault) → or_else o rest ≡ None → (o ≡ None) × (rest ≡ None)
+both_none None rest e = (refl, e)
+both_none (Some x) rest e = absurd (cc e)
+
+none_after : (n : ℕ) (before xs : List ArcEnds) (i : ℕ) (d : ArcEnds) → first_fault_after n One before xs ≡ None → i < length xs → (k : ℕ) × (fault_at n One (before ++ take i xs) k (get_or xs i d) ≡ None)
+none_after n before [] i d e lt = absurd (omega arith)
+none_after n before (x ∷ xs) zero d e lt = (length before, subst (λ ys. fault_at n One ys (length before) x ≡ None) (sym (append-nil before)) (both_none _ _ e).0)
+none_after n before (x ∷ xs) (suc i) d e lt =
+    let r = none_after n (before ++ x ∷ []) xs i d (both_none _ _ e).1 (omega arith) in
+    (r.0, subst (λ ys. fault_at n One ys r.0 (get_or xs i d) ≡ None) (append_assoc before (x ∷ []) (take i xs)) r.1)
+
+no_parallel : (n k : ℕ) (before : List ArcEnds) (a : ArcEnds) → fault_at n One before k a ≡ None → position (same_ends a) before ≡ None
+unfolding fault_at
+no_parallel n k before a e = go (nat_lt a.from n && nat_lt a.to n) (a.from == a.to) (position (same_ends a) before) e
+  where
+    go : (w s : Bool) (o : Option ℕ) → cond (not w) (Some (OutOfRange k)) (cond s (Some (SelfArc k)) (parallel One k o)) ≡ None → o ≡ None
+    go true false None h = refl
+    go true false (Some j) h = absurd (cc h)
+    go true true o h = absurd (cc h)
+    go false s o h = absurd (cc h)
+
+not_there : (f : ArcEnds → Bool) (from : ℕ) (xs : List ArcEnds) (j : ℕ) (d : ArcEnds) → position_from f from xs ≡ None → j < length xs → f (get_or xs j d) ≡ false
+not_there f from [] j d e lt = absurd (omega arith)
+not_there f from (x ∷ xs) j d e lt = go (f x) refl j e lt (λ i. not_there f (from + 1) xs i d)
+  where
+    go : (t : Bool) → f x ≡ t → (i : ℕ) → cond t (Some from) (position_from f (from + 1) xs) ≡ None → i < suc (length xs) → ((i : ℕ) → position_from f (from + 1) xs ≡ None → i < length xs → f (get_or xs i d) ≡ false) → f (get_or (x ∷ xs) i d) ≡ false
+    go true h i k l rest = absurd (cc k)
+    go false h zero k l rest = h
+    go false h (suc i) k l rest = rest i k (omega arith)
+
+same_itself : (a : ArcEnds) → same_ends a a ≡ true
+same_itself a = rw (eq-eqb a.from a.from refl, eq-eqb a.to a.to refl) refl
+
+abbrev no_arc : ArcEnds
+no_arc = record { from = 0; to = 0 }
+
+earlier : (n : ℕ) (xs : List ArcEnds) (i j : ℕ) → first_fault n One xs ≡ None → i < length xs → j < i → get_or xs j no_arc ≡ get_or xs i no_arc → ⊥
+unfolding first_fault
+earlier n xs i j e lt less same =
+    let r = none_after n [] xs i no_arc e lt in
+    let p = no_parallel n r.0 (take i xs) (get_or xs i no_arc) r.1 in
+    let m : j < length (take i xs) = omega (arith, length-take i xs) in
+    let f = not_there (same_ends (get_or xs i no_arc)) 0 (take i xs) j no_arc (sym (position_from-zero (same_ends (get_or xs i no_arc)) (take i xs)) ∙ p) m in
+    let q : get_or (take i xs) j no_arc ≡ get_or xs i no_arc = get_or-take i xs j no_arc less ∙ same in
+    absurd (false≢true (sym f ∙ ap (same_ends (get_or xs i no_arc)) q ∙ same_itself (get_or xs i no_arc)))
+
+distinct : (n : ℕ) (xs : List ArcEnds) → first_fault n One xs ≡ None → (a b : ℕ) → a < length xs → b < length xs → get_or xs a no_arc ≡ get_or xs b no_arc → a ≡ b
+distinct n xs e a b la lb same = go (nat_lt a b) (nat_lt b a) refl refl
+  where
+    go : (s t : Bool) → nat_lt a b ≡ s → nat_lt b a ≡ t → a ≡ b
+    go true t h k = absurd (earlier n xs b a e lb (ltb-true a b h) same)
+    go false true h k = absurd (earlier n xs a b e la (ltb-true b a k) (sym same))
+    go false false h k = let p = ltb-false a b h in let q = ltb-false b a k in omega (arith, p, q)
+
+no_fault : (h : Header) (g : Graph) → graph_of h ≡ Ok g → first_fault (length h.names) One h.arcs ≡ None
+unfolding graph_of digraph_of
+no_fault h g e = go (first_fault (length h.names) One h.arcs) refl e
+  where
+    go : (o : Option ArcFault) → first_fault (length h.names) One h.arcs ≡ o → by_arcs (graph_or (length h.names) h.arcs o) ≡ Ok g → first_fault (length h.names) One h.arcs ≡ None
+    go None s k = s
+    go (Some f) s k = absurd (cc k)
+
+all_apart : (g : Graph) (n : ℕ) (xs : List ArcEnds) → g.arcs ≡ xs → first_fault n One xs ≡ None → (a b : ℕ) → a < length g.arcs → b < length g.arcs → ends g a ≡ ends g b → a ≡ b
+all_apart g n xs same e a b la lb s =
+    distinct n xs e a b (subst (λ (ys : List ArcEnds). a < length ys) same la) (subst (λ (ys : List ArcEnds). b < length ys) same lb)
+    (subst (λ (ys : List ArcEnds). get_or ys a no_arc ≡ get_or ys b no_arc) same s)
+
+pub is_accepted : (h : Header) (g : Graph) (u : Unit {0}) → IsWithin h → HasEnds g → g.n ≡ length h.names → g.arcs ≡ h.arcs → graph_of h ≡ Ok g → checked h g ≡ Ok u → IsAccepted (deal_with h g)
+unfolding checked
+is_accepted h g u k has n arcs made e =
+    let c = went (connected g) _ u e in
+    let o = went (one_leader h.mode h.leaders) _ u c.2 in
+    let l = went (led g h.leaders) _ u o.2 in
+    let b = went (bounded h.bound (need g.n (length h.leaders) (height_of g h.leaders))) _ u l.2 in
+    let s = went (started h.start h.delta) _ u b.2 in
+    let sized = is_sized h g (deal_with h g).id k has n arcs in
+    let strong = is_connected g c.0 c.1 in
+    let feedback = is_led g h.leaders l.0 l.1 in
+    let f = no_fault h g made in
+    record {
+      parties = sized.parties;
+      arcs = sized.arcs;
+      ends = has;
+      of_version = all_apart g (length h.names) h.arcs arcs f;
+      strong = strong;
+      leaders = k.leaders;
+      leader = sized.leader;
+      apart = k.leader.apart;
+      feedback = feedback;
+      height = height_of g h.leaders;
+      is_height = heights.greatest_level_is_height g h.leaders feedback;
+      delta = k.delta;
+      start = (is_started h.start h.delta s.0 s.1, k.start.1);
+      bound = (is_bounded h.bound (need g.n (length h.leaders) (height_of g h.leaders)) b.0 b.1, k.bound.1);
+      one_amount_each = sized.amounts;
+      amounts = λ a lt. k.amount a (subst (λ (xs : List ArcEnds). a < length xs) arcs lt);
+      hashlocks = k.hashlocks;
+      keys = sized.keys;
+      one_timelock_each = sized.timelocks;
+      timed = is_timed h.mode h g (deal_with h g).id o.0 u refl k n arcs has strong feedback o.1 s.2;
+    }

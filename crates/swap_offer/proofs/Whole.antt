@@ -1,0 +1,38 @@
+-- The job of a header is whole.
+use Rattle.std.proofs.Common.{◌≡◌, ◌<◌, ◌≤◌, ℕ, List, length, sym, ap, ◌∙◌}
+use Rattle.swap_digraph.specs.Value.{Graph}
+use Rattle.swap_digraph.specs.Graph.{HasEnds}
+use Rattle.swap_digraph.specs.Deal.{IsWellSized, HasKeys}
+use Rattle.swap_digraph.specs.declared.deal.Mode.{Mode}
+use Rattle.swap_digraph.specs.declared.deal.Mode.TheVariants.{Timelocks, Hashkeys}
+use Rattle.offer_header.specs.declared.header.Header.{Header}
+use Rattle.offer_header.specs.Header.{IsWithin, HasKeysFor}
+use Rattle.swap_offer.specs.Checks.{unnamed, deal_with, job_with}
+use Rattle.swap_offer.specs.Job.{IsWhole}
+
+keys_of : (m : Mode) (h : Header) (g : Graph) (id : List ℕ) → g.n ≡ length h.names → HasKeysFor m (length h.names) (length h.leaders) h.keys → HasKeys m (unnamed h g id)
+keys_of Timelocks h g id n k = k
+keys_of Hashkeys h g id n k = (k.0 ∙ sym n, λ p lt. k.1 p (rw n at lt))
+
+pub is_sized : (h : Header) (g : Graph) (id : List ℕ) → IsWithin h → HasEnds g → g.n ≡ length h.names → g.arcs ≡ h.arcs → IsWellSized (unnamed h g id)
+is_sized h g id k e n a =
+    let arcs : length g.arcs ≡ length h.arcs = ap length a in
+    record {
+      ends = e;
+      parties = (rw n k.parties.0, rw n k.parties.1);
+      arcs = (rw arcs k.arcs.0, rw arcs k.arcs.1);
+      leaders = k.leaders;
+      leader = λ i lt. rw n (k.leader.below i lt);
+      start = k.start.1;
+      delta = k.delta.1;
+      bound = k.bound.1;
+      amounts = k.amounts ∙ sym arcs;
+      amount = λ i lt. (k.amount i (rw arcs at lt)).1;
+      hashlocks = k.hashlocks;
+      keys = keys_of h.mode h g id n k.keys;
+      timelocks = k.timelocks ∙ sym arcs;
+      timelock = λ i lt. k.timelock i (rw arcs at lt);
+    }
+
+pub is_whole : (h : Header) (g : Graph) → IsWithin h → HasEnds g → g.n ≡ length h.names → g.arcs ≡ h.arcs → IsWhole (job_with h g)
+is_whole h g k e n a = record { sized = is_sized h g (deal_with h g).id k e n a; names = sym n; conforming = k.conforming ∙ sym n }

@@ -1,0 +1,129 @@
+-- What makes a header's deal an accepted one, check by check in the order of the reasons.
+use Rattle.std.specs.Prelude.{ℕ, ◌==◌, Bool, true, false, nat_lt, List, [], ◌∷◌, length, slice_index, map, replicate, Option, Some, None, Result, Ok, Err, if◌then◌else◌}
+use Rattle.swap_base.specs.Fault.{◌>>=◌}
+use Rattle.swap_base.specs.Lists.{first_of}
+use Rattle.time_bounds.specs.Times.{need, timelock}
+use Rattle.single_leader.specs.Distance.{dist_of}
+use Rattle.swap_digraph.specs.Graph.{arcs, ends}
+use Rattle.swap_digraph.specs.Value.{Graph}
+use Rattle.swap_digraph.specs.Arcs.{digraph_of}
+use Rattle.swap_digraph.specs.declared.fault.ArcFault.{ArcFault}
+use Rattle.swap_digraph.specs.declared.fault.ArcFault.TheVariants as faults
+use Rattle.swap_digraph.specs.declared.deal.Deal.{Deal}
+use Rattle.swap_digraph.specs.declared.deal.Mode.{Mode}
+use Rattle.swap_digraph.specs.declared.deal.Mode.TheVariants.{Timelocks, Hashkeys}
+use Rattle.swap_digraph.specs.declared.deal.Version.TheVariants.{One}
+use Rattle.hashkey_path.specs.Digest.{deal_id}
+use Rattle.digraph_check.specs.Reach.{closed_set}
+use Rattle.leader_check.specs.Cycles.{follower_cycle}
+use Rattle.leader_check.specs.Levels.{height_of}
+use Rattle.deviator_script.specs.declared.job.Role.{Role}
+use Rattle.deviator_script.specs.declared.job.Role.TheVariants.{Conforming, Manual}
+use Rattle.deviator_script.specs.declared.job.Job.{Job}
+use Rattle.offer_fields.specs.declared.reason.Reason.{Reason}
+use Rattle.offer_fields.specs.declared.reason.Reason.TheVariants.{SelfArc, Parallel, NotStrong, ManyLeaders, NotFeedback, BoundTooSmall, StartTooSoon, WrongTimelock}
+use Rattle.offer_header.specs.declared.header.Header.{Header}
+
+-- A fault of the arcs. The ends of a header's arcs are parties, so that the first never comes.
+abbrev pub arc_reason : ArcFault → Reason
+arc_reason (faults.OutOfRange k) = SelfArc k
+arc_reason (faults.SelfArc k) = SelfArc k
+arc_reason (faults.Parallel j k) = Parallel j k
+
+abbrev pub by_arcs : Result Graph ArcFault → Result Graph Reason
+by_arcs (Ok g) = Ok g
+by_arcs (Err fault) = Err (arc_reason fault)
+
+-- the digraph of the header's arcs
+unfoldable pub graph_of : Header → Result Graph Reason
+graph_of h = by_arcs (digraph_of (length h.names) One h.arcs)
+
+abbrev pub unless_closed : Option (List ℕ) → Result (Unit {0}) Reason
+unless_closed None = Ok tt
+unless_closed (Some set) = Err (NotStrong set)
+
+-- the digraph is strongly connected
+unfoldable pub connected : Graph → Result (Unit {0}) Reason
+connected g = unless_closed (closed_set g)
+
+-- with timelocks there is one leader
+unfoldable pub one_leader : Mode → List ℕ → Result (Unit {0}) Reason
+one_leader Timelocks leaders = if nat_lt 1 (length leaders) then Err (ManyLeaders (length leaders)) else Ok tt
+one_leader Hashkeys leaders = Ok tt
+
+abbrev pub unless_cycle : Option (List ℕ) → Result (Unit {0}) Reason
+unless_cycle None = Ok tt
+unless_cycle (Some cycle) = Err (NotFeedback cycle)
+
+-- the leaders are a feedback vertex set
+unfoldable pub led : Graph → List ℕ → Result (Unit {0}) Reason
+led g leaders = unless_cycle (follower_cycle g leaders)
+
+-- the bound is at least the one that is needed
+unfoldable pub bounded : (bound needed : ℕ) → Result (Unit {0}) Reason
+bounded bound needed = if nat_lt bound needed then Err (BoundTooSmall bound needed) else Ok tt
+
+-- the start is at least delta
+unfoldable pub started : (start delta : ℕ) → Result (Unit {0}) Reason
+started start delta = if nat_lt start delta then Err (StartTooSoon start delta) else Ok tt
+
+-- the reason against the timelock of arc a, if any: it goes by the distance of the arc's counterparty from the leader
+abbrev pub wrong_timelock : Header → Graph → ℕ → ℕ → Option Reason
+wrong_timelock h g leader a =
+    let given = slice_index h.timelocks a in
+    let wanted = timelock h.start h.delta h.bound (dist_of g leader (ends g a).to) in
+    if given == wanted then None else Some (WrongTimelock a given wanted)
+
+abbrev pub unless_wrong : Option Reason → Result (Unit {0}) Reason
+unless_wrong None = Ok tt
+unless_wrong (Some reason) = Err reason
+
+-- with timelocks each arc has its timelock
+unfoldable pub timed : Header → Graph → Mode → List ℕ → Result (Unit {0}) Reason
+timed h g Timelocks (leader ∷ []) = unless_wrong (first_of (wrong_timelock h g leader) (arcs g))
+timed h g _ _ = Ok tt
+
+abbrev pub role_of : Bool → Role
+role_of true = Conforming
+role_of false = Manual
+
+-- the deal but for its id
+abbrev pub unnamed : Header → Graph → List ℕ → Deal
+unnamed h g id = record {
+  version = One;
+  graph = g;
+  leaders = h.leaders;
+  start = h.start;
+  delta = h.delta;
+  bound = h.bound;
+  mode = h.mode;
+  amounts = h.amounts;
+  hashlocks = h.hashlocks;
+  keys = h.keys;
+  timelocks = h.timelocks;
+  id = id;
+}
+
+-- the deal, with the digest of what it says as its id
+abbrev pub deal_with : Header → Graph → Deal
+deal_with h g = unnamed h g (deal_id (unnamed h g (replicate 32 0)))
+
+abbrev pub job_with : Header → Graph → Job
+job_with h g = record { purpose = h.purpose; deal = deal_with h g; names = h.names; roles = map role_of h.conforming; conforming = h.conforming; seeds = h.seeds; finish = h.finish }
+
+-- the digraph and its leaders, in order
+unfoldable pub checked : Header → Graph → Result (Unit {0}) Reason
+checked h g = do
+  u ← connected g
+  v ← one_leader h.mode h.leaders
+  w ← led g h.leaders
+  x ← bounded h.bound (need g.n (length h.leaders) (height_of g h.leaders))
+  y ← started h.start h.delta
+  timed h g h.mode h.leaders
+
+-- the job of a header, or the first reason against it
+unfoldable pub accepted_of : Header → Result Job Reason
+accepted_of h = do
+  g ← graph_of h
+  u ← checked h g
+  Ok (job_with h g)

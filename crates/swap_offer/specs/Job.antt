@@ -1,0 +1,42 @@
+-- What the bytes of an offer are: a job with its events, or the first reason against them.
+use Rattle.std.specs.Prelude.{◌≡◌, ◌==◌, ℕ, ◌+◌, ◌<◌, List, [], ◌∷◌, codes, length, Result, Ok, Err, if◌then◌else◌}
+use Rattle.swap_base.specs.Fault.{◌>>=◌}
+use Rattle.swap_digraph.specs.Deal.{IsWellSized}
+use Rattle.deviator_script.specs.declared.job.Purpose.{Purpose}
+use Rattle.deviator_script.specs.declared.job.Job.{Job}
+use Rattle.deviator_script.specs.declared.event.Event.{Event}
+use Rattle.offer_fields.specs.declared.reason.Reason.{Reason}
+use Rattle.offer_fields.specs.declared.reason.Reason.TheVariants.{NotJson, OverLimit}
+use Rattle.offer_header.specs.Header.{header_of}
+use Rattle.offer_events.specs.Event.{event_of}
+use Rattle.swap_offer.specs.Lines.{lines_of, written}
+use Rattle.swap_offer.specs.Checks.{accepted_of}
+
+-- the job of a header line
+unfoldable pub job_header_of : Purpose → ℕ → List ℕ → Result Job Reason
+job_header_of purpose line text = do
+  h ← header_of purpose line text
+  accepted_of h
+
+-- the event of a line, where so many events came before
+unfoldable pub next_of : Job → ℕ → ℕ → List ℕ → Result Event Reason
+next_of job count line text = if count == 200000 then Err (OverLimit line (codes "events") 200001) else event_of job line text
+
+-- the events of lines, where so many came before
+unfoldable pub events_of : Job → ℕ → List (ℕ × List ℕ) → Result (List Event) Reason
+events_of job count [] = Ok []
+events_of job count (l ∷ ls) = next_of job count l.0 l.1 >>= λ e. events_of job (count + 1) ls >>= λ es. Ok (e ∷ es)
+
+abbrev pub of_lines : Purpose → List (ℕ × List ℕ) → Result (Job × List Event) Reason
+of_lines purpose [] = Err (NotJson 1)
+of_lines purpose (l ∷ ls) = job_header_of purpose l.0 l.1 >>= λ job. events_of job 0 ls >>= λ events. Ok (job, events)
+
+-- the job and the events of an offer's bytes
+unfoldable pub job_of : Purpose → List ℕ → Result (Job × List Event) Reason
+job_of purpose bytes = of_lines purpose (written 1 (lines_of bytes))
+
+-- A job whose deal is well sized, with a name and a role per party.
+pub record IsWhole (job : Job) : Type 0 where
+  pub sized : IsWellSized job.deal
+  pub names : length job.names ≡ job.deal.graph.n
+  pub conforming : length job.conforming ≡ job.deal.graph.n

@@ -1,0 +1,228 @@
+//! The checks that make a header's deal an accepted one.
+
+ghost use Rattle.std.specs.Prelude.{◌≡◌, ◌≤◌, ◌<◌, ℕ, length, map, slice_index, IfOk, OnOk};
+ghost use Rattle.swap_base.specs.Lists.{first_of};
+ghost use Rattle.swap_base.specs.Fault.{Gives};
+ghost use Rattle.swap_digraph.specs.Graph.{HasEnds, IsStronglyConnected, IsFeedback, IsHeight, arcs};
+ghost use Rattle.leader_check.specs.Levels.{height_of};
+ghost use Rattle.single_leader.specs.Distance.{dist_of};
+ghost use Rattle.offer_header.specs.Header.{IsWithin};
+ghost use Rattle.swap_offer.specs.Checks.{graph_of, connected, one_leader, led, bounded, started, timed, wrong_timelock, checked, role_of, arc_reason};
+
+use deviator_script::Role;
+use digraph_check::{Strength, strong};
+use leader_check::{LeaderAnswer, Levels, levels};
+use offer_fields::{OfferFault, Reason};
+use offer_header::Header;
+use single_leader::dist;
+use std::alloc::Global;
+use swap_base::{ArcId, Fault, Listed, NoMemory, PartyId, TryCopy};
+use swap_digraph::{ArcFault, Digraph, Mode, Version};
+use time_bounds::{need, timelock};
+
+fn arc_reason(fault: ArcFault) -> Reason
+    ensures { result ≡ arc_reason fault }
+{
+    match fault {
+        ArcFault::OutOfRange(k) => Reason::SelfArc(k),
+        ArcFault::SelfArc(k) => Reason::SelfArc(k),
+        ArcFault::Parallel(j, k) => Reason::Parallel(j, k),
+    }
+}
+
+/// The digraph of the header's arcs, or the first fault of the least arc that has one.
+#[tactic(auto, unfolding(crate::specs::Checks::graph_of))]
+pub(crate) fn graph_in(alloc: Global, header: &Header) -> Result<Digraph, OfferFault>
+    requires { IsWithin header.now }
+    ensures exact { Gives (λ g. g) result (graph_of header.now) }
+    ensures parts { IfOk result (λ g. (g.n ≡ length header.now.names) × (g.arcs ≡ header.now.arcs)) }
+    ensures ends { IfOk result (λ g. HasEnds g) }
+{
+    let arcs = header.arcs.copy()?.into_vec();
+    match Digraph::new(alloc, header.names.len() as u8, arcs, Version::One) {
+        Ok(graph) => Ok(graph),
+        Err(Fault::Refused(fault)) => Err(Fault::Refused(arc_reason(fault))),
+        Err(Fault::NoMemory) => Err(Fault::NoMemory),
+    }
+}
+
+#[tactic(auto, unfolding(crate::specs::Checks::connected))]
+fn connected(alloc: Global, graph: &Digraph) -> Result<(), OfferFault>
+    requires parties { (2 ≤ graph.now.n) × (graph.now.n ≤ 32) }
+    requires few { length graph.now.arcs ≤ 128 }
+    requires ends { HasEnds graph.now }
+    ensures exact { Gives (λ u. u) result (connected graph.now) }
+    ensures strong { OnOk result (IsStronglyConnected graph.now) }
+{
+    match strong(alloc, graph)? {
+        Strength::Strong(_) => Ok(()),
+        Strength::Closed(set) => Err(Fault::Refused(Reason::NotStrong(set))),
+    }
+}
+
+#[tactic(auto, unfolding(crate::specs::Checks::one_leader))]
+fn one_leader(mode: Mode, leaders: &[PartyId]) -> Result<(), OfferFault>
+    requires { length leaders.now ≤ 8 }
+    ensures { Gives (λ u. u) result (one_leader mode leaders.now) }
+{
+    match mode {
+        Mode::Timelocks => {
+            if leaders.len() > 1 {
+                Err(Fault::Refused(Reason::ManyLeaders(leaders.len() as u32)))
+            } else {
+                Ok(())
+            }
+        }
+        Mode::Hashkeys => Ok(()),
+    }
+}
+
+/// The levels of the followers, or a cycle of theirs as the reason.
+#[tactic(auto, unfolding(crate::specs::Checks::led))]
+fn led(alloc: Global, graph: &Digraph, leaders: &[PartyId]) -> Result<Levels, OfferFault>
+    requires parties { graph.now.n ≤ 32 }
+    requires ends { HasEnds graph.now }
+    ensures exact { Gives (λ _. tt) result (led graph.now leaders.now) }
+    ensures feedback { OnOk result (IsFeedback graph.now leaders.now) }
+    ensures height { IfOk result (λ l. IsHeight graph.now leaders.now l.h) }
+    ensures greatest { IfOk result (λ l. l.h ≡ height_of graph.now leaders.now) }
+{
+    match levels(alloc, graph, leaders)? {
+        LeaderAnswer::Levels(levels) => Ok(levels),
+        LeaderAnswer::Cycle(cycle) => Err(Fault::Refused(Reason::NotFeedback(cycle))),
+    }
+}
+
+#[tactic(auto, unfolding(crate::specs::Checks::bounded))]
+fn bounded(bound: u32, needed: u32) -> Result<(), OfferFault>
+    ensures { Gives (λ u. u) result (bounded bound needed) }
+{
+    if bound < needed {
+        Err(Fault::Refused(Reason::BoundTooSmall(bound as u64, needed as u64)))
+    } else {
+        Ok(())
+    }
+}
+
+#[tactic(auto, unfolding(crate::specs::Checks::started))]
+fn started(start: u32, delta: u32) -> Result<(), OfferFault>
+    ensures { Gives (λ u. u) result (started start delta) }
+{
+    if start < delta {
+        Err(Fault::Refused(Reason::StartTooSoon(start as u64, delta as u64)))
+    } else {
+        Ok(())
+    }
+}
+
+fn wrong_timelock(
+    header: &Header,
+    graph: &Digraph,
+    leader: PartyId,
+    dists: &[u32],
+    arc: ArcId,
+) -> Option<Reason>
+    requires within { IsWithin header.now }
+    requires parts { graph.now.arcs ≡ header.now.arcs }
+    requires ends { HasEnds graph.now }
+    requires arc { arc < length graph.now.arcs }
+    requires parties { length dists.now ≡ graph.now.n }
+    requires low { (v : ℕ) → v < graph.now.n → slice_index dists.now v ≤ 1000000 }
+    requires dists { (v : ℕ) → v < graph.now.n → slice_index dists.now v ≡ dist_of graph.now leader v }
+    ensures { result ≡ wrong_timelock header.now graph.now leader arc }
+{
+    let given = header.timelocks.as_slice()[arc as usize] as u64;
+    let counterparty = graph.arcs()[arc as usize].to;
+    let dist = dists[counterparty as usize];
+    let wanted = timelock(header.start, header.delta, header.bound, dist);
+    if given == wanted {
+        None
+    } else {
+        Some(Reason::WrongTimelock(arc, given, wanted))
+    }
+}
+
+fn first_wrong_timelock(
+    header: &Header,
+    graph: &Digraph,
+    leader: PartyId,
+    dists: &[u32],
+) -> Option<Reason>
+    requires within { IsWithin header.now }
+    requires parts { graph.now.arcs ≡ header.now.arcs }
+    requires ends { HasEnds graph.now }
+    requires parties { length dists.now ≡ graph.now.n }
+    requires low { (v : ℕ) → v < graph.now.n → slice_index dists.now v ≤ 1000000 }
+    requires dists { (v : ℕ) → v < graph.now.n → slice_index dists.now v ≡ dist_of graph.now leader v }
+    ensures { result ≡ first_of (wrong_timelock header.now graph.now leader) (arcs graph.now) }
+{
+    for arc in 0..graph.arcs().len() as ArcId {
+        let reason = wrong_timelock(header, graph, leader, dists, arc);
+        if reason.is_some() {
+            return reason;
+        }
+    }
+    None
+}
+
+#[tactic(auto, unfolding(crate::specs::Checks::timed))]
+fn timed(alloc: Global, header: &Header, graph: &Digraph, levels: &Levels) -> Result<(), OfferFault>
+    requires within { IsWithin header.now }
+    requires parts { graph.now.arcs ≡ header.now.arcs }
+    requires parties { graph.now.n ≡ length header.now.names }
+    requires ends { HasEnds graph.now }
+    requires strong { IsStronglyConnected graph.now }
+    requires feedback { IsFeedback graph.now header.now.leaders }
+    requires height { IsHeight graph.now header.now.leaders levels.now.h }
+    ensures { Gives (λ u. u) result (timed header.now graph.now header.now.mode header.now.leaders) }
+{
+    match (header.mode, header.leaders.as_slice()) {
+        (Mode::Timelocks, [leader]) => {
+            let dists = dist(alloc, graph, *leader, levels)?;
+            match first_wrong_timelock(header, graph, *leader, dists.as_slice()) {
+                None => Ok(()),
+                Some(reason) => Err(Fault::Refused(reason)),
+            }
+        }
+        _ => Ok(()),
+    }
+}
+
+/// The checks of a header's digraph, leaders and times, in order.
+#[tactic(auto, unfolding(crate::specs::Checks::checked))]
+pub(crate) fn checked(alloc: Global, header: &Header, graph: &Digraph) -> Result<(), OfferFault>
+    requires within { IsWithin header.now }
+    requires parts { graph.now.arcs ≡ header.now.arcs }
+    requires parties { graph.now.n ≡ length header.now.names }
+    requires ends { HasEnds graph.now }
+    ensures { Gives (λ u. u) result (checked header.now graph.now) }
+{
+    let leaders = header.leaders.as_slice();
+    connected(alloc, graph)?;
+    one_leader(header.mode, leaders)?;
+    let levels = led(alloc, graph, leaders)?;
+    bounded(header.bound, need(graph.n(), leaders.len() as u8, levels.h))?;
+    started(header.start, header.delta)?;
+    timed(alloc, header, graph, &levels)
+}
+
+/// The role of each party.
+pub(crate) fn roles_of(alloc: Global, conforming: &[bool]) -> Result<Listed<Role>, NoMemory>
+    ensures { IfOk result (λ l. l ≡ map role_of conforming.now) }
+{
+    let mut roles = Vec::new(alloc);
+    for conforms in conforming {
+        roles.push(role_of(*conforms))?;
+    }
+    Ok(Listed::new(roles))
+}
+
+fn role_of(conforms: bool) -> Role
+    ensures { result ≡ role_of conforms }
+{
+    if conforms {
+        Role::Conforming
+    } else {
+        Role::Manual
+    }
+}

@@ -1,0 +1,15 @@
+//! Reads an offer: its lines, its header as an accepted deal, and its events.
+//!
+//! Read `specs/Job.antt` first: `job_of` says what the bytes of an offer are, or the first reason against them.
+#![tactic(auto)]
+
+mod checks;
+mod header;
+mod job;
+mod lines;
+
+pub use header::read_header;
+pub use job::next_event;
+pub use lines::written;
+pub use offer_events::read_event;
+pub use offer_fields::{OfferFault, Reason};

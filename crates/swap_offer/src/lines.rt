@@ -1,0 +1,53 @@
+//! The lines of a file.
+
+ghost use Rattle.std.specs.Prelude.{◌≡◌, ◌+◌, ◌<◌, ◌^◌, ℕ, List, length, map, IfOk};
+ghost use Rattle.std.specs.List.{list_all};
+ghost use Rattle.swap_offer.specs.Lines.{before, after, is_blank, is_blank_byte, lines_of, written};
+
+use std::alloc::Global;
+use swap_base::NoMemory;
+
+#[tactic(auto, using(crate::proofs::FirstLines::shorter))]
+fn first_line(bytes: &[u8]) -> (&[u8], &[u8])
+    ensures line { result.0.now ≡ before bytes.now }
+    ensures rest { result.1.now ≡ after bytes.now }
+    ensures shorter { 0 < length bytes.now → length result.1.now < length bytes.now }
+{
+    for (i, b) in bytes.iter().enumerate() {
+        if *b == b'\n' {
+            return (&bytes[..i], &bytes[i + 1..]);
+        }
+    }
+    (bytes, &[])
+}
+
+fn is_blank(line: &[u8]) -> bool
+    ensures { result ≡ is_blank line.now }
+{
+    for b in line {
+        if *b != b' ' && *b != b'\t' && *b != b'\r' {
+            return false;
+        }
+    }
+    true
+}
+
+/// The lines that aren't blank, with their numbers, counted from 1.
+#[tactic(auto, using(crate::proofs::FirstLines::first_any, crate::proofs::FirstLines::written_cons, crate::proofs::FirstLines::written_none, std::proofs::lemmas::List::map_push))]
+pub fn written(alloc: Global, bytes: &[u8]) -> Result<Vec<(u32, &[u8])>, NoMemory>
+    requires { length bytes.now < 2 ^ 31 }
+    ensures { IfOk result (λ v. map (λ p. (p.0, p.1.now)) v.items ≡ written 1 (lines_of bytes.now)) }
+{
+    let mut list = Vec::new(alloc);
+    let mut number: u32 = 0;
+    let mut rest = bytes;
+    while !rest.is_empty() {
+        let (line, others) = first_line(rest);
+        number += 1;
+        if !is_blank(line) {
+            list.push((number, line))?;
+        }
+        rest = others;
+    }
+    Ok(list)
+}

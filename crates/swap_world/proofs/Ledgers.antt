@@ -1,0 +1,101 @@
+-- The ledgers of a world, and their histories.
+use Rattle.std.proofs.Common.{◌≡◌, ℕ, zero, suc, Bool, false, ◌+◌, ◌<◌, ◌≤◌, List, [], ◌∷◌, ◌++◌, length, get_or, map, replicate, refl, sym, ap, subst, ◌∙◌, arith, Result, Ok, Err, OnOk, OnErr, slice_index_or, slice_set}
+use Rattle.std.proofs.lemmas.List.{map-set, length-map, get_or-map, get_or_default}
+use Rattle.std.proofs.Math.Seq.{map-set_same}
+use Rattle.std.proofs.Math.ListN.{set}
+use Rattle.swap_digraph.specs.declared.deal.Deal.{Deal}
+use Rattle.ledger_core.specs.declared.entry.Entry.{Entry}
+use Rattle.ledger_core.specs.Value.{LedgerState}
+use Rattle.ledger_core.specs.Book.{Histories, history, IsLegalBook}
+use Rattle.ledger_core.specs.History.{IsLegal}
+use Rattle.std.specs.List.{range_with_len}
+use Rattle.std.proofs.lemmas.List.FromFn.{length-map-range_with_len}
+use Rattle.swap_digraph.proofs.Ranges.{place_is}
+use Rattle.swap_world.specs.Run.{no_histories, after_move}
+use Rattle.swap_world.specs.Value.{WorldState}
+use Rattle.deviator_script.specs.declared.moves.Move.{Move}
+use Rattle.deviator_script.specs.Resolved.{call_of}
+use Rattle.swap_world.specs.Inside.{AreLedgersOf, IsLedgerOf, new_ledger, new_ledgers}
+
+abbrev pub histories : List LedgerState → Histories
+histories ls = map (λ l. l.history) ls
+
+pub on_ok : {A E : Type 0} {P Q : Type 0} (r : Result A E) → (P → Q) → OnOk r P → OnOk r Q
+on_ok (Ok x) f h = f h
+on_ok (Err e) f h = tt
+
+pub on_err : {A E : Type 0} {P Q : Type 0} (r : Result A E) → (P → Q) → OnErr r P → OnErr r Q
+on_err (Ok x) f h = tt
+on_err (Err e) f h = f h
+
+-- the history of the ledger that was read
+pub history_at : (ls : List LedgerState) (a : ℕ) (l : LedgerState) → a < length ls → l ≡ get_or ls a l → history (histories ls) a ≡ l.history
+history_at ls a l lt is = get_or-map (λ (x : LedgerState). x.history) ls a l [] lt ∙ ap (λ (x : LedgerState). x.history) (sym is)
+
+-- the ledger was changed
+pub changed : (ls : List LedgerState) (a : ℕ) (l : LedgerState) (h : List Entry) → l.history ≡ h → histories (set ls a l) ≡ set (histories ls) a h
+changed ls a l h e = map-set (λ (x : LedgerState). x.history) ls a l ∙ ap (λ (x : List Entry). set (histories ls) a x) e
+
+-- the ledger's history is as before
+pub unchanged : (ls : List LedgerState) (a : ℕ) (old new : LedgerState) → old ≡ get_or ls a old → new.history ≡ old.history → histories (set ls a new) ≡ histories ls
+unchanged ls a old new is e = map-set_same (λ (x : LedgerState). x.history) ls a new old (e ∙ ap (λ (x : LedgerState). x.history) is)
+
+legal_at : (d : Deal) (ls : List LedgerState) (a : ℕ) → AreLedgersOf d ls → a < length ls → IsLegal d a (history (histories ls) a)
+legal_at d [] a k lt = absurd (omega arith)
+legal_at d (x ∷ ls) a k lt =
+    let here : get_or (x ∷ ls) a x ≡ get_or (x ∷ ls) a (get_or (x ∷ ls) a x) = get_or_default (x ∷ ls) a x (get_or (x ∷ ls) a x) lt in
+    rw (history_at (x ∷ ls) a (get_or (x ∷ ls) a x) lt here) ((k.each a (get_or (x ∷ ls) a x) lt here).legal)
+
+pub legal_book : (d : Deal) (ls : List LedgerState) → AreLedgersOf d ls → IsLegalBook d (histories ls)
+legal_book d ls k = record {
+  one_each = length-map ls (λ (x : LedgerState). x.history) ∙ k.one_each;
+  legal = λ a lt. let n = length-map ls (λ (x : LedgerState). x.history) in legal_at d ls a k (omega arith);
+}
+
+no_more : (d : Deal) (a n : ℕ) → histories (map (new_ledger d) (range_with_len a n)) ≡ replicate n []
+no_more d a zero = refl
+no_more d a (suc n) = ap (λ (b : Histories). [] ∷ b) (no_more d (a + 1) n)
+
+-- the histories of new ledgers are empty
+pub none_yet : (d : Deal) → histories (new_ledgers d) ≡ no_histories d
+none_yet d = no_more d 0 (length d.graph.arcs)
+
+new_is : (d : Deal) (a : ℕ) (l : LedgerState) → l ≡ new_ledger d a → IsLedgerOf d a l
+new_is d a l e = record { deal = ap (λ (x : LedgerState). x.deal) e; arc = ap (λ (x : LedgerState). x.arc) e; legal = rw e tt }
+
+pub are_new : (d : Deal) → AreLedgersOf d (new_ledgers d)
+are_new d = record {
+  one_each = length-map-range_with_len (new_ledger d) 0 (length d.graph.arcs);
+  each = λ a l lt is. let n = length-map-range_with_len (new_ledger d) 0 (length d.graph.arcs) in new_is d a l (place_is (new_ledger d) (length d.graph.arcs) a (new_ledgers d) l refl (omega arith) is);
+}
+
+abbrev pub world : Deal → List LedgerState → Bool → WorldState
+world d ls s = record { deal = d; histories = histories ls; stopped = s }
+
+pub step_ok : (d : Deal) (s : Bool) (ls : List LedgerState) (a : ℕ) (old new : LedgerState) (f : List Entry → List Entry) → a < length ls → old ≡ get_or ls a old → new.history ≡ f old.history
+    → world d (set ls a new) s ≡ record { deal = d; histories = set (histories ls) a (f (history (histories ls) a)); stopped = s }
+step_ok d s ls a old new f lt is e =
+    ap (λ (b : Histories). ws d s b) (changed ls a new (f old.history) e ∙ ap (λ (h : List Entry). set (histories ls) a (f h)) (sym (history_at ls a old lt is)))
+  where
+    ws : Deal → Bool → Histories → WorldState
+    ws d' s' b = record { deal = d'; histories = b; stopped = s' }
+
+pub step_err : (d : Deal) (s : Bool) (ls : List LedgerState) (a : ℕ) (old new : LedgerState) → old ≡ get_or ls a old → new.history ≡ old.history → world d (set ls a new) s ≡ world d ls s
+step_err d s ls a old new is e = ap (λ (b : Histories). ws d s b) (unchanged ls a old new is e)
+  where
+    ws : Deal → Bool → Histories → WorldState
+    ws d' s' b = record { deal = d'; histories = b; stopped = s' }
+
+-- what a move makes of the ledger of arc a
+pub made : (d : Deal) (a p : ℕ) (mv : Move) (old new : LedgerState) → IsLedgerOf d a old → new.history ≡ after_move old.deal old.arc p (call_of old.deal mv) old.history → new.history ≡ after_move d a p (call_of d mv) old.history
+made d a p mv old new k e =
+    e ∙ ap (λ (x : Deal). after_move x old.arc p (call_of x mv) old.history) k.deal ∙ ap (λ (x : ℕ). after_move d x p (call_of d mv) old.history) k.arc
+
+pub new_world : (d : Deal) (ls : List LedgerState) → ls ≡ new_ledgers d → world d ls false ≡ record { deal = d; histories = no_histories d; stopped = false }
+new_world d ls e = ap (λ (b : Histories). ws d b) (ap histories e ∙ none_yet d)
+  where
+    ws : Deal → Histories → WorldState
+    ws d' b = record { deal = d'; histories = b; stopped = false }
+
+pub opened : (d d' : Deal) (ls : List LedgerState) → d' ≡ d → ls ≡ new_ledgers d → AreLedgersOf d' ls
+opened d d' ls e f = subst (λ x. AreLedgersOf x ls) (sym e) (subst (λ x. AreLedgersOf d x) (sym f) (are_new d))

@@ -1,0 +1,8 @@
+use Rattle.swap_world.proofs.Ledgers.{legal_book}
+use Rattle.swap_world.proofs.world.World.into_book.Goals as goal
+
+pub returns-in_err-histories_of-clause-legal : goal.returns-in_err-histories_of-clause-legal
+returns-in_err-histories_of-clause-legal c = rw (← c.self.view_is) (legal_book c.self.inside.deal c.self.inside.ledgers.items c.self.invariant.ledgers)
+
+pub returns-clause-legal : goal.returns-clause-legal
+returns-clause-legal c = rw (← c.self.view_is) (legal_book c.self.inside.deal c.self.inside.ledgers.items c.self.invariant.ledgers)
