@@ -15,7 +15,11 @@ fn copies_are_equal(rt: HostRuntime) -> Result<(), Fail> {
 #[test]
 fn pieces_are_put(rt: HostRuntime) -> Result<(), Fail> {
     let mut out = Vec::new(rt.alloc());
-    let pieces = [Piece::Text("ledger "), Piece::Number(10), Piece::Bytes(b"!")];
+    let pieces = [
+        Piece::Text("ledger "),
+        Piece::Number(10),
+        Piece::Bytes(b"!"),
+    ];
     put(&mut out, &pieces)?;
     assert_eq!(rt; out.as_slice(), b"ledger 10!".as_slice());
     Ok(())

@@ -1,6 +1,6 @@
 //! The lines of a file.
 
-ghost use Rattle.std.specs.Prelude.{◌≡◌, ◌+◌, ◌<◌, ◌^◌, ℕ, List, length, map, IfOk};
+ghost use Rattle.std.specs.Prelude.{◌≡◌, ◌+◌, ◌<◌, ◌^◌, ℕ, List, length, map, IfOk, ◌≤◌};
 ghost use Rattle.std.specs.List.{list_all};
 ghost use Rattle.swap_offer.specs.Lines.{before, after, is_blank, is_blank_byte, lines_of, written};
 
@@ -36,7 +36,8 @@ fn is_blank(line: &[u8]) -> bool
 #[tactic(auto, using(crate::proofs::FirstLines::first_any, crate::proofs::FirstLines::written_cons, crate::proofs::FirstLines::written_none, std::proofs::lemmas::List::map_push))]
 pub fn written(alloc: Global, bytes: &[u8]) -> Result<Vec<(u32, &[u8])>, NoMemory>
     requires { length bytes.now < 2 ^ 31 }
-    ensures { IfOk result (λ v. map (λ p. (p.0, p.1.now)) v.items ≡ written 1 (lines_of bytes.now)) }
+    ensures lines { IfOk result (λ v. map (λ p. (p.0, p.1.now)) v.items ≡ written 1 (lines_of bytes.now)) }
+    ensures few { IfOk result (λ v. length v.items ≤ length bytes.now) }
 {
     let mut list = Vec::new(alloc);
     let mut number: u32 = 0;

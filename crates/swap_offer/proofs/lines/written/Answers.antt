@@ -1,4 +1,4 @@
-use Rattle.std.proofs.Common.{◌≡◌, ◌++◌, map, ◌∷◌, [], arith, false, length, ◌<◌, refl}
+use Rattle.std.proofs.Common.{◌≡◌, ◌++◌, map, ◌∷◌, [], arith, false, length, length-append, ◌<◌, refl}
 use Rattle.std.proofs.lemmas.List.{map_push}
 use Rattle.std.proofs.lemmas.Grind.{common_steps}
 use Rattle.swap_offer.specs.Lines.{is_blank, before}
@@ -12,7 +12,8 @@ loop-rest-preserved-in_ok-push c =
     record {
       lines = rw c.first_line.ensures.rest (on_written c.loop-rest.rest.now _ _ _ _ some blank (rw (c.in_ok-push.ensures.items, map_push, c.first_line.ensures.line) refl) c.loop-rest.invariant.lines);
       few = omega (arith, c.first_line.ensures.shorter some);
+      count = rw c.in_ok-push.ensures.items (omega (arith, c.loop-rest.invariant.count, length-append c.loop-rest.list.items));
     }
 
-pub returns : goal.returns
-returns c = ended c.loop-rest.rest.now _ _ _ (grind (arith, common_steps)) c.loop-rest.invariant.lines
+pub returns-clause-lines : goal.returns-clause-lines
+returns-clause-lines c = ended c.loop-rest.rest.now _ _ _ (grind (arith, common_steps)) c.loop-rest.invariant.lines

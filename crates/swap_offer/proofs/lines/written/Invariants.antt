@@ -6,6 +6,7 @@ abbrev pub invariant-loop-rest : goal.invariant-loop-rest
 invariant-loop-rest l = record {
   lines : map (λ p. (p.0, p.1.now)) l.list.items ++ written (l.number + 1) (lines_of l.rest) ≡ written 1 (lines_of l.bytes);
   few : l.number + length l.rest ≤ length l.bytes;
+  count : length l.list.items ≤ l.number;
 }
 
 abbrev pub decreases-loop-rest : goal.decreases-loop-rest

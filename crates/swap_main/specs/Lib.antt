@@ -1,0 +1,4 @@
+pub mod Words
+pub mod Output
+pub mod Top
+pub mod Replay

@@ -1,0 +1,63 @@
+-- What is written for an input.
+use Rattle.std.specs.Prelude.{◌==◌, ℕ, ◌∷◌, [], Bool, false, not, List, length, codes, decimal, Result, Ok, Err}
+use Rattle.swap_base.specs.Fault.{◌>>=◌}
+use Rattle.swap_base.specs.Text.{joined}
+use Rattle.time_bounds.specs.Times as times
+use Rattle.swap_digraph.specs.declared.deal.Deal.{Deal}
+use Rattle.leader_check.specs.Levels.{height_of}
+use Rattle.ledger_core.specs.Book.{Histories}
+use Rattle.deviator_script.specs.declared.event.Event.{Event}
+use Rattle.deviator_script.specs.declared.job.Job.{Job}
+use Rattle.deviator_script.specs.declared.job.Purpose.TheVariants as purposes
+use Rattle.outcome_rules.specs.declared.report.Report.{Report}
+use Rattle.outcome_rules.specs.Report.{report_of}
+use Rattle.transcript_text.specs.Report.{report}
+use Rattle.offer_fields.specs.declared.reason.Reason.{Reason}
+use Rattle.offer_header.specs.Header.{header_of}
+use Rattle.offer_header.specs.declared.header.Header.{Header}
+use Rattle.deviator_script.specs.declared.job.Purpose.{Purpose}
+use Rattle.swap_offer.specs.Lines.{lines_of, written}
+use Rattle.swap_offer.specs.Job.{job_of}
+use Rattle.swap_world.specs.Run.{run}
+use Rattle.swap_main.specs.declared.written.Written.{Written}
+use Rattle.swap_main.specs.declared.words.Command.{Command}
+use Rattle.swap_main.specs.declared.words.Command.TheVariants.{Check, Run}
+
+abbrev pub need_of : Deal → ℕ
+need_of d = times.need d.graph.n (length d.leaders) (height_of d.graph d.leaders)
+
+-- the text of a checked offer
+unfoldable pub check_text : Deal → List ℕ
+check_text d = joined (codes "swap accepted\nneed " ∷ decimal (need_of d) ∷ codes "\nopen by " ∷ decimal (times.open_by d.start d.delta d.bound) ∷ codes "\nexpiry " ∷ decimal (times.last_expiry d.start d.delta d.bound) ∷ codes "\nhorizon " ∷ decimal (times.horizon d.start d.delta d.bound) ∷ codes "\n" ∷ [])
+
+abbrev pub with_report : Job → Histories → Report → Written
+with_report job b r = record { text = report job b r; found = not (length r.findings == 0) }
+
+-- the report of a book
+unfoldable pub reported : Job → Histories → Written
+reported job b = with_report job b (report_of job.deal job.conforming b)
+
+abbrev pub purpose_of : Command → Purpose
+purpose_of Run = purposes.Run
+purpose_of Check = purposes.Check
+
+-- what a command writes for a job and its events
+abbrev pub output_for : Command → Result (Job × List Event) Reason → Result Written Reason
+output_for Run read = read >>= λ j. Ok (reported j.0 (run j.0.deal j.1))
+output_for Check read = read >>= λ j. Ok (record { text = check_text j.0.deal; found = false })
+
+-- what a command writes for an input, or the first reason why the input is refused
+unfoldable pub output_of : Command → List ℕ → Result Written Reason
+output_of command input = output_for command (job_of (purpose_of command) input)
+
+abbrev pub names_or_none : Result Header Reason → List (List ℕ)
+names_or_none (Ok h) = h.names
+names_or_none (Err reason) = []
+
+abbrev pub names_in : Purpose → List (ℕ × List ℕ) → List (List ℕ)
+names_in purpose [] = []
+names_in purpose (l ∷ ls) = names_or_none (header_of purpose l.0 l.1)
+
+-- the names of the parties in the input's header; none where it has no header within its limits
+unfoldable pub names_of : Command → List ℕ → List (List ℕ)
+names_of command input = names_in (purpose_of command) (written 1 (lines_of input))

@@ -1,0 +1,47 @@
+-- What the program's call promises, status by status.
+use Rattle.std.specs.Prelude.{◌≡◌, ◌≤◌, ℕ, Bool, List, length, Option, Some, Result, Ok, Err, if◌then◌else◌}
+use Rattle.std.specs.Io.KnownBytes.{Appends, Consumes, IsAtEnd}
+use Rattle.swap_io.specs.Causes.{AppendsProperPrefix}
+use Rattle.offer_fields.specs.declared.reason.Reason.{Reason}
+use Rattle.swap_main.specs.Words.{command_of}
+use Rattle.swap_main.specs.Output.{output_of, names_of}
+use Rattle.swap_main.specs.declared.written.Written.{Written}
+use Rattle.swap_main.specs.declared.words.Command.{Command}
+use Rattle.swap_main.specs.declared.status.Status.{Status}
+use Rattle.swap_main.specs.declared.status.Status.TheVariants.{Done, Named}
+
+-- the most bytes of an input
+abbrev pub limit : ℕ
+limit = 16777216
+
+-- The words are a command, the whole input was read, and this is the command's output for it.
+pub record Read (words : List (List ℕ)) (left left' : Option (List ℕ)) (output : Result Written Reason) : Type 0 where
+  pub command : Command
+  pub asked : command_of words ≡ Some command
+  pub input : List ℕ
+  pub taken : Consumes left left' input
+  pub ended : IsAtEnd left'
+  pub within : length input ≤ limit
+  pub gives : output_of command input ≡ output
+
+-- The input was read to its end, and its text was written whole.
+pub record IsDone (words : List (List ℕ)) (left left' taken taken' : Option (List ℕ)) (found : Bool) : Type 0 where
+  pub output : Written
+  pub read : Read words left left' (Ok output)
+  pub written : Appends taken taken' output.text
+  pub findings : output.found ≡ found
+
+-- The input was read to its end, and a proper prefix of its text was written.
+pub record IsCut (words : List (List ℕ)) (left left' taken taken' : Option (List ℕ)) : Type 0 where
+  pub output : Written
+  pub read : Read words left left' (Ok output)
+  pub prefix : AppendsProperPrefix taken taken' output.text
+
+-- The input was read to its end and is refused for the reason, and these are the names in its header.
+pub record IsRefused (words : List (List ℕ)) (left left' : Option (List ℕ)) (reason : Reason) (names : List (List ℕ)) : Type 0 where
+  pub read : Read words left left' (Err reason)
+  pub named : names ≡ names_of read.command read.input
+
+-- the status of a run that isn't stopped, by whether something was found
+abbrev pub status_of : Bool → Status
+status_of found = if found then Named else Done

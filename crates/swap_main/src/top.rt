@@ -1,0 +1,88 @@
+//! The whole program over a source and a sink.
+
+ghost use Rattle.std.specs.Prelude.{◌≡◌, ◌<◌, ◌≤◌, ◌+◌, ◌⊎◌, ◌↔◌, ℕ, List, length, map, string_bytes, Some, None, Ok, Err, true, false, ◌^◌};
+ghost use Rattle.std.specs.Io.KnownBytes.{Keeps};
+ghost use Rattle.swap_io.specs.Causes.{Rose, ConsumesSome};
+ghost use Rattle.offer_fields.specs.declared.reason.Reason.{Reason};
+ghost use Rattle.swap_main.specs.declared.words.Command.{Command};
+ghost use Rattle.swap_main.specs.declared.written.Written.{Written};
+ghost use Rattle.swap_main.specs.Words.{command_of};
+ghost use Rattle.swap_main.specs.Output.{output_of, names_of};
+ghost use Rattle.swap_main.specs.Top.{limit, IsDone, IsCut, IsRefused, status_of};
+
+use crate::named;
+use crate::report::answer;
+use crate::status::Status;
+use crate::words::{Command, command_of};
+use offer_fields::Reason;
+use std::alloc::Global;
+use swap_base::Fault;
+use swap_io::{ReadAllFault, Sink, Source, read_all, write_all};
+
+/// The most bytes of an input.
+const LIMIT: usize = 16_777_216;
+
+fn refused(alloc: Global, command: Command, input: &[u8], reason: Reason) -> Status
+    requires { length input.now < 2 ^ 31 }
+    ensures answers { (result ≡ Status.Refused reason (names_of command input.now)) ⊎ (result ≡ Status.NoMemory) }
+    ensures refused { (given : Reason) (names : List (List ℕ)) → result ≡ Status.Refused given names → (given ≡ reason) × (names ≡ names_of command input.now) }
+{
+    match named::names_of(alloc, command, input) {
+        Ok(names) => Status::Refused(reason, names),
+        Err(_) => Status::NoMemory,
+    }
+}
+
+/// Runs the program: the words after its name, its standard input and its standard output.
+pub fn swap_top<S: Source, K: Sink>(
+    alloc: Global,
+    words: &Vec<String>,
+    source: &mut S,
+    sink: &mut K,
+) -> Status
+    // What each status says.
+    ensures words { (result ≡ Status.WrongWords) ↔ (command_of (map string_bytes words.now.items) ≡ None) }
+    ensures done { result ≡ Status.Done → IsDone (map string_bytes words.now.items) (S.left source.old) (S.left source.new) (K.taken sink.old) (K.taken sink.new) false }
+    ensures named { result ≡ Status.Named → IsDone (map string_bytes words.now.items) (S.left source.old) (S.left source.new) (K.taken sink.old) (K.taken sink.new) true }
+    ensures refused { (reason : Reason) (names : List (List ℕ)) → result ≡ Status.Refused reason names → IsRefused (map string_bytes words.now.items) (S.left source.old) (S.left source.new) reason names }
+    ensures read_fault { result ≡ Status.ReadFault → Rose (S.faults source.old) (S.faults source.new) }
+    ensures write_fault { result ≡ Status.WriteFault → Rose (K.faults sink.old) (K.faults sink.new) }
+    ensures cut { result ≡ Status.WriteFault → IsCut (map string_bytes words.now.items) (S.left source.old) (S.left source.new) (K.taken sink.old) (K.taken sink.new) }
+    ensures too_long { result ≡ Status.TooLong → ConsumesSome (S.left source.old) (S.left source.new) (limit + 1) }
+
+    // With any other status nothing is written.
+    ensures silent { ¬ (result ≡ Status.Done) → ¬ (result ≡ Status.Named) → ¬ (result ≡ Status.WriteFault) → Keeps (K.taken sink.old) (K.taken sink.new) }
+
+    // What is answered where the source tells its bytes and no call fails.
+    ensures long { (command : Command) (input : List ℕ) → command_of (map string_bytes words.now.items) ≡ Some command → S.left source.old ≡ Some input → limit < length input
+        → ¬ Rose (S.faults source.old) (S.faults source.new) → (result ≡ Status.TooLong) ⊎ (result ≡ Status.NoMemory) }
+    ensures bad { (command : Command) (input : List ℕ) (reason : Reason) → command_of (map string_bytes words.now.items) ≡ Some command → S.left source.old ≡ Some input → length input ≤ limit
+        → output_of command input ≡ Err reason → ¬ Rose (S.faults source.old) (S.faults source.new) → (result ≡ Status.Refused reason (names_of command input)) ⊎ (result ≡ Status.NoMemory) }
+    ensures good { (command : Command) (input : List ℕ) (output : Written) → command_of (map string_bytes words.now.items) ≡ Some command → S.left source.old ≡ Some input → length input ≤ limit
+        → output_of command input ≡ Ok output → ¬ Rose (S.faults source.old) (S.faults source.new) → ¬ Rose (K.faults sink.old) (K.faults sink.new) → (result ≡ status_of output.found) ⊎ (result ≡ Status.NoMemory) }
+{
+    let Some(command) = command_of(words) else {
+        return Status::WrongWords;
+    };
+    let input = match read_all(alloc, source, LIMIT) {
+        Ok(input) => input,
+        Err(ReadAllFault::ReadFault) => return Status::ReadFault,
+        Err(ReadAllFault::TooLong) => return Status::TooLong,
+        Err(ReadAllFault::NoMemory) => return Status::NoMemory,
+    };
+    let output = match answer(alloc, command, &input) {
+        Ok(output) => output,
+        Err(Fault::Refused(reason)) => return refused(alloc, command, &input, reason),
+        Err(Fault::NoMemory) => return Status::NoMemory,
+    };
+    match write_all(sink, output.text.as_slice()) {
+        Ok(()) => {
+            if output.found {
+                Status::Named
+            } else {
+                Status::Done
+            }
+        }
+        Err(_) => Status::WriteFault,
+    }
+}
