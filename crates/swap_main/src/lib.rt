@@ -17,3 +17,6 @@ pub use refusal::refusal_line;
 pub use status::Status;
 pub use top::swap_top;
 pub use words::Command;
+
+#[cfg(test)]
+mod tests;

@@ -1,0 +1,91 @@
+use super::*;
+use offer_fields::Reason;
+use std::alloc::Global;
+use std::test::Fail;
+use swap_io::{VecSink, VecSource};
+
+/// The swap of three parties that the README runs.
+const JOB: &str =
+    "{\"swap\":1,\"mode\":\"timelocks\",\"start\":10,\"delta\":10,\"bound\":2,\"parties\":[{\"name\":\"alice\",\"actor\":\"manual\"},{\"name\":\"bob\",\"actor\":\"manual\"},{\"name\":\"carol\",\"actor\":\"manual\"}],\"arcs\":[{\"from\":\"alice\",\"to\":\"bob\",\"amount\":100,\"timelock\":60},{\"from\":\"bob\",\"to\":\"carol\",\"amount\":5,\"timelock\":50},{\"from\":\"carol\",\"to\":\"alice\",\"amount\":1,\"timelock\":40}],\"leaders\":[{\"party\":\"alice\",\"hashlock\":\"66687aadf862bd776c8fc18b8e9f8e20089714856ee233b3902a591d0d5f2925\"}]}\n{\"call\":\"alice\",\"move\":{\"do\":\"publish\",\"arc\":0}}\n{\"call\":\"carol\",\"move\":{\"do\":\"publish\",\"arc\":2}}\n{\"tick\":2,\"by\":40}\n{\"call\":\"alice\",\"move\":{\"do\":\"raw\",\"arc\":2,\"lock\":0,\"secret\":\"0000000000000000000000000000000000000000000000000000000000000000\",\"path\":[],\"sigs\":[]}}\n{\"call\":\"alice\",\"move\":{\"do\":\"claim\",\"arc\":2}}\n{\"tick\":0,\"by\":60}\n{\"call\":\"alice\",\"move\":{\"do\":\"refund\",\"arc\":0}}\n{\"tick\":0}\n{\"call\":\"alice\",\"move\":{\"do\":\"refund\",\"arc\":0}}\n{\"tick\":0,\"by\":10}\n{\"tick\":1,\"by\":71}\n{\"tick\":2,\"by\":31}\n";
+
+const REPORT: &str =
+    "swap report 1\nswap timelocks start 10 delta 10 bound 2\nledger 0 alice -> bob amount 100\n0 alice publish correct: accepted\n60 alice refund: NotExpired 61\n61 alice refund: accepted\nend height 71 alice 100 bob 0 held 0\nledger 1 bob -> carol amount 5\nend height 71 bob 5 carol 0 held 0\nledger 2 carol -> alice amount 1\n0 carol publish correct: accepted\n40 alice unlock 0: accepted\n40 alice claim: accepted\nend height 71 carol 0 alice 1 held 0\nparty alice deviator: FreeRide\nparty bob deviator: NoDeal\nparty carol deviator: Underwater\nfindings 0\n";
+
+fn words_of(alloc: Global, word: &str) -> Result<Vec<String>, Fail> {
+    let mut words = Vec::new(alloc);
+    words.push(String::from_str(alloc, word)?)?;
+    Ok(words)
+}
+
+fn source_of(alloc: Global, input: &str, failing: &[u64]) -> Result<VecSource, Fail> {
+    let bytes = Vec::from_slice(alloc, input.as_bytes())?;
+    let failing = Vec::from_slice(alloc, failing)?;
+    Ok(VecSource::new(bytes, 512, failing))
+}
+
+fn sink_of(alloc: Global, room: usize, failing: &[u64]) -> Result<VecSink, Fail> {
+    let failing = Vec::from_slice(alloc, failing)?;
+    Ok(VecSink::new(alloc, room, 100, failing)?)
+}
+
+#[test]
+fn replays_the_swap_of_three(rt: HostRuntime) -> Result<(), Fail> {
+    let words = words_of(rt.alloc(), "run")?;
+    let mut source = source_of(rt.alloc(), JOB, &[])?;
+    let mut sink = sink_of(rt.alloc(), 1000, &[])?;
+    let status = swap_top(rt.alloc(), &words, &mut source, &mut sink);
+    assert!(rt; matches!(status, Status::Done));
+    assert_eq!(rt; sink.taken(), REPORT.as_bytes());
+    Ok(())
+}
+
+#[test]
+fn writes_nothing_after_a_read_fault(rt: HostRuntime) -> Result<(), Fail> {
+    let words = words_of(rt.alloc(), "run")?;
+    for failing in [0, 1, 2] {
+        let mut source = source_of(rt.alloc(), JOB, &[failing])?;
+        let mut sink = sink_of(rt.alloc(), 1000, &[])?;
+        let status = swap_top(rt.alloc(), &words, &mut source, &mut sink);
+        assert!(rt; matches!(status, Status::ReadFault), "read {failing}");
+        assert!(rt; sink.taken().is_empty(), "read {failing}");
+    }
+    Ok(())
+}
+
+#[test]
+fn writes_a_prefix_before_a_write_fault(rt: HostRuntime) -> Result<(), Fail> {
+    let words = words_of(rt.alloc(), "run")?;
+    for failing in [0, 1, 2, 3, 4, 5] {
+        let mut source = source_of(rt.alloc(), JOB, &[])?;
+        let mut sink = sink_of(rt.alloc(), 1000, &[failing])?;
+        let status = swap_top(rt.alloc(), &words, &mut source, &mut sink);
+        assert!(rt; matches!(status, Status::WriteFault), "write {failing}");
+        assert!(rt;
+            REPORT.as_bytes().starts_with(sink.taken()),
+            "write {failing}"
+        );
+        assert!(rt; sink.taken().len() < REPORT.len(), "write {failing}");
+    }
+    Ok(())
+}
+
+#[test]
+fn refuses_an_empty_input(rt: HostRuntime) -> Result<(), Fail> {
+    let words = words_of(rt.alloc(), "check")?;
+    let mut source = source_of(rt.alloc(), "", &[])?;
+    let mut sink = sink_of(rt.alloc(), 1000, &[])?;
+    let status = swap_top(rt.alloc(), &words, &mut source, &mut sink);
+    assert!(rt; matches!(status, Status::Refused(Reason::NotJson(1), _)));
+    assert!(rt; sink.taken().is_empty());
+    Ok(())
+}
+
+#[test]
+fn refuses_other_words(rt: HostRuntime) -> Result<(), Fail> {
+    let words = words_of(rt.alloc(), "nope")?;
+    let mut source = source_of(rt.alloc(), JOB, &[])?;
+    let mut sink = sink_of(rt.alloc(), 1000, &[])?;
+    let status = swap_top(rt.alloc(), &words, &mut source, &mut sink);
+    assert!(rt; matches!(status, Status::WrongWords));
+    Ok(())
+}
