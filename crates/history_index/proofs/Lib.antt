@@ -1,0 +1,3 @@
+pub mod Push
+pub mod Bounds
+pub mod Legal

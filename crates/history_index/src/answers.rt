@@ -1,0 +1,90 @@
+//! The answers over a list of entries, and what one more entry makes of them.
+
+ghost use Rattle.std.specs.Prelude.{◌≡◌, ◌+◌, ◌<◌, ◌^◌, IsTrue, length, option_map};
+ghost use Rattle.escrow_core.specs.declared.terms.Terms.{Terms};
+ghost use Rattle.ledger_core.specs.History.{ticks_in, accepted, publication, settling};
+ghost use Rattle.ledger_core.specs.Facts.{shown_as};
+ghost use Rattle.history_index.specs.Numbers.{names_lock};
+ghost use Rattle.history_index.specs.Kept.{answers_after, no_answers, with_opening};
+
+use escrow_core::{Reply, Terms};
+use ledger_core::{Call, Entry, Published, Settlement, What};
+
+/// What stands in a list of entries.
+#[derive(Clone, Copy, Debug)]
+pub(crate) struct Answers {
+    pub height: u32,
+    pub published: Option<Published>,
+    /// The number of the entry of each lock's accepted unlock.
+    pub unlocked: [Option<u32>; 8],
+    pub settled: Option<Settlement>,
+}
+
+fn ticks_of(e: &Entry) -> u32
+    ensures { result ≡ ticks_in e.now.what }
+{
+    match &e.what {
+        What::Call(_) => 0,
+        What::Tick(k) => *k,
+    }
+}
+
+fn publication_of(terms: &Terms, e: &Entry) -> Option<Published>
+    ensures { result ≡ option_map (shown_as terms.now) (publication e.now.height (accepted e.now)) }
+{
+    match (&e.what, e.reply) {
+        (What::Call(Call::Publish(stated)), Reply::Accepted) => Some(Published {
+            height: e.height,
+            correct: stated.same(terms),
+        }),
+        _ => None,
+    }
+}
+
+fn settlement_of(e: &Entry) -> Option<Settlement>
+    ensures { result ≡ settling (accepted e.now) }
+{
+    match (&e.what, e.reply) {
+        (What::Call(Call::Claim), Reply::Accepted) => Some(Settlement::Claimed),
+        (What::Call(Call::Refund), Reply::Accepted) => Some(Settlement::Refunded),
+        _ => None,
+    }
+}
+
+/// Keeps the number of an accepted unlock, where it is the first for its lock.
+fn add_opening(unlocked: &mut [Option<u32>; 8], number: u32, e: &Entry)
+    requires places { length unlocked.old ≡ 8 }
+    requires lock { IsTrue (names_lock e.now.what) }
+    ensures { unlocked.new ≡ with_opening unlocked.old number (accepted e.now) }
+{
+    if let (What::Call(Call::Unlock(key)), Reply::Accepted) = (&e.what, e.reply) {
+        let kept = unlocked[key.lock as usize];
+        unlocked[key.lock as usize] = kept.or(Some(number));
+    }
+}
+
+impl Answers {
+    pub fn new() -> Answers
+        ensures { result ≡ no_answers }
+    {
+        Answers {
+            height: 0,
+            published: None,
+            unlocked: [None; 8],
+            settled: None,
+        }
+    }
+
+    /// Takes in an entry with its number.
+    pub fn add(&mut self, terms: &Terms, number: u32, entry: &Entry)
+        requires places { length self.old.unlocked ≡ 8 }
+        requires height { self.old.height + ticks_in entry.now.what < 2 ^ 32 }
+        requires lock { IsTrue (names_lock entry.now.what) }
+        ensures { self.new ≡ answers_after terms.now number entry.now self.old }
+    {
+        self.height += ticks_of(entry);
+        self.published = self.published.or(publication_of(terms, entry));
+        add_opening(&mut self.unlocked, number, entry);
+        self.settled = self.settled.or(settlement_of(entry));
+    }
+}
