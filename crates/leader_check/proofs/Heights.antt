@@ -12,7 +12,7 @@ use Rattle.leader_check.specs.Laws.{GreatestLevelIsHeight}
 use Rattle.leader_check.proofs.Followers.{follower_parts, follower_from, arc_of, arc_from, greatest-reached, greatest-more}
 use Rattle.leader_check.proofs.Paths.{path_step, path_below, path_length, path_snoc, suffix_from, followers-append}
 
-before-arc : (g : Graph) (f : ℕ → ℕ) (u v : ℕ) → has_arc g u v ≡ true → f u ≤ most_before g f v
+pub before-arc : (g : Graph) (f : ℕ → ℕ) (u v : ℕ) → has_arc g u v ≡ true → f u ≤ most_before g f v
 unfolding most_before
 before-arc g f u v e =
     let a = arc_of g u v e in
@@ -58,7 +58,7 @@ after-more g ls f h v le = go (is_follower g ls v) (before-more g f h v le)
     go true k = omega arith
     go false k = omega arith
 
-within-suc : (g : Graph) (ls : List ℕ) (k v : ℕ) → level_within g ls (suc k) v ≡ level_after g ls (level_within g ls k) v
+pub within-suc : (g : Graph) (ls : List ℕ) (k v : ℕ) → level_within g ls (suc k) v ≡ level_after g ls (level_within g ls k) v
 unfolding level_within
 within-suc g ls k v = refl
 
@@ -78,7 +78,7 @@ within-grows g ls k (suc m) v h = go (le_split k m h) (within-grows g ls k m v)
     go (inl l) below = let a = below l in let b = within-more g ls m v in omega (arith, a, b)
     go (inr e) below = rw e (omega arith)
 
-before-below : (g : Graph) (f : ℕ → ℕ) (v m : ℕ) → ((u : ℕ) → f u ≤ m) → most_before g f v ≤ m
+pub before-below : (g : Graph) (f : ℕ → ℕ) (v m : ℕ) → ((u : ℕ) → f u ≤ m) → most_before g f v ≤ m
 unfolding most_before
 before-below g f v m le = greatest-below (λ b. cond (b.to == v) (f b.from) 0) g.arcs m (λ a i. go (a.to == v) a.from)
   where
@@ -160,7 +160,7 @@ module _ (g : Graph) (ls : List ℕ) (feedback : IsFeedback g ls) where
       no_not true h = absurd (cc h)
       no_not false h = refl
 
-  within-reached : (k v : ℕ) → (level_within g ls k v ≡ 0) ⊎ Run v (level_within g ls k v)
+  pub within-reached : (k v : ℕ) → (level_within g ls k v ≡ 0) ⊎ Run v (level_within g ls k v)
   unfolding level_within
   within-reached zero v = inl refl
   within-reached (suc k) v = go (within-reached k) (is_follower g ls v) refl

@@ -1,33 +1,14 @@
 -- Loops over lists and over ranges of numbers.
-use Rattle.std.proofs.Common.{◌≡◌, ℕ, suc, ◌+◌, ◌-◌, ◌<◌, ◌≤◌, max, Bool, true, false, ◌||◌, List, [], ◌∷◌, length, get_or, drop, Option, Some, None, is_some, refl, sym, ap, ◌∙◌, arith, add-one, drop-cons}
-use Rattle.std.specs.List.{list_any, range_with_len}
+use Rattle.std.proofs.Common.{◌≡◌, ℕ, suc, ◌+◌, ◌-◌, ◌<◌, ◌≤◌, max, true, false, List, [], ◌∷◌, length, get_or, drop, Option, Some, None, is_some, refl, sym, ap, ◌∙◌, arith, add-one, drop-cons}
+use Rattle.std.specs.List.{range_with_len}
 use Rattle.std.proofs.lemmas.List.{nil_from_length, length-drop}
 use Rattle.swap_base.specs.Lists.{or_else, first_of, greatest}
 
-drop-next : {A : Type 0} (xs : List A) (i : ℕ) (d : A) → i < length xs → drop i xs ≡ get_or xs i d ∷ drop (i + 1) xs
+pub drop-next : {A : Type 0} (xs : List A) (i : ℕ) (d : A) → i < length xs → drop i xs ≡ get_or xs i d ∷ drop (i + 1) xs
 drop-next xs i d lt = rw (add-one, drop-cons xs i d) refl
 
-drop-none : {A : Type 0} (xs : List A) (i : ℕ) → length xs ≤ i → drop i xs ≡ []
+pub drop-none : {A : Type 0} (xs : List A) (i : ℕ) → length xs ≤ i → drop i xs ≡ []
 drop-none xs i le = nil_from_length (drop i xs) (omega (arith, length-drop i xs))
-
--- Whether an element passes.
-
-or-false : (a b : Bool) → a ≡ false → (a || b) ≡ b
-or-false true b h = cc h
-or-false false b h = refl
-
-or-true : (a b : Bool) → a ≡ true → (a || b) ≡ true
-or-true true b h = refl
-or-true false b h = cc h
-
-pub any_goes_on : {A : Type 0} (p : A → Bool) (xs : List A) (i : ℕ) (d : A) (total : Bool) → i < length xs → p (get_or xs i d) ≡ false → list_any p (drop i xs) ≡ total → list_any p (drop (i + 1) xs) ≡ total
-any_goes_on p xs i d total lt fails so_far = sym (ap (list_any p) (drop-next xs i d lt) ∙ or-false (p (get_or xs i d)) (list_any p (drop (i + 1) xs)) fails) ∙ so_far
-
-pub any_is_found : {A : Type 0} (p : A → Bool) (xs : List A) (i : ℕ) (d : A) (total : Bool) → i < length xs → p (get_or xs i d) ≡ true → list_any p (drop i xs) ≡ total → true ≡ total
-any_is_found p xs i d total lt passes so_far = sym (ap (list_any p) (drop-next xs i d lt) ∙ or-true (p (get_or xs i d)) (list_any p (drop (i + 1) xs)) passes) ∙ so_far
-
-pub any_is_none : {A : Type 0} (p : A → Bool) (xs : List A) (i : ℕ) (total : Bool) → length xs ≤ i → list_any p (drop i xs) ≡ total → false ≡ total
-any_is_none p xs i total le so_far = sym (ap (list_any p) (drop-none xs i le)) ∙ so_far
 
 -- The greatest value.
 

@@ -1,14 +1,16 @@
 -- Rows of the parties' values, and what a further round makes of them.
-use Rattle.std.proofs.Common.{◌≡◌, ◌⊎◌, ℕ, suc, zero, ◌+◌, ◌-◌, ◌++◌, append_assoc, append-nil, ◌<◌, ◌≤◌, max, Bool, true, false, ◌&&◌, List, [], ◌∷◌, length, get_or, map, replicate, refl, sym, ap, ◌∙◌, inl, inr, arith, zero-add, slice_index}
+use Rattle.std.proofs.Common.{◌≡◌, ◌⊎◌, ℕ, suc, zero, ◌+◌, ◌-◌, ◌++◌, append_assoc, append-nil, ◌<◌, ◌≤◌, ◌==◌, max, cond, Option, Bool, true, false, ◌&&◌, List, [], ◌∷◌, length, get_or, map, replicate, refl, sym, ap, ◌∙◌, subst, inl, inr, arith, zero-add, slice_index}
 use Rattle.std.proofs.Math.Path.{fun_ext}
+use Rattle.std.specs.Int.{bit_at}
 use Rattle.std.specs.List.{range_with_len}
-use Rattle.std.proofs.lemmas.List.{get_or_past}
+use Rattle.std.proofs.lemmas.List.{get_or_past, get_or_read}
+use Rattle.std.proofs.lemmas.Nat.Bits.{bit_at-zero}
 use Rattle.std.proofs.lemmas.List.FromFn.{get_or-map-range_with_len, length-map-range_with_len}
-use Rattle.swap_base.specs.Lists.{greatest}
+use Rattle.swap_base.specs.Lists.{or_else, first_of, greatest}
 use Rattle.swap_digraph.specs.Value.{Graph}
-use Rattle.leader_check.specs.Followers.{parties, is_follower}
-use Rattle.leader_check.specs.Levels.{level_after, level_within, levels_within, level_of, height_of}
-use Rattle.leader_check.specs.Cycles.{leads_into, first_step, walks, walk_of, walks_to, at, at_row}
+use Rattle.leader_check.specs.Followers.{parties, is_follower, at}
+use Rattle.leader_check.specs.Levels.{most_before, level_after, level_within, levels_within, level_of, height_of}
+use Rattle.leader_check.specs.Cycles.{only_if, leads_into, first_step, walks, walk_of, cycle_of, cycle_from, has_bit, has_bit_in, cycle_by, TellsWalks, TellAllWalks}
 use Rattle.leader_check.proofs.Followers.{follower_parts}
 use Rattle.leader_check.proofs.Heights.{after-other, within-below}
 use Rattle.leader_check.proofs.Walks as on
@@ -49,6 +51,9 @@ walks-outside g ls v k u le = by_test (walks g ls v k u) (λ e. let m = (followe
     by_test true h = absurd (h refl)
     by_test false h = refl
 
+pub follows_at : (g : Graph) (ls : List ℕ) (follows : List Bool) → follows ≡ map (is_follower g ls) (parties g) → at follows ≡ is_follower g ls
+follows_at g ls follows e = fun_ext (row_reads (is_follower g ls) g.n false follows (no_follower g ls) e)
+
 -- The rounds of levels.
 
 pub levels_none : (g : Graph) (ls : List ℕ) → replicate {A = ℕ} g.n 0 ≡ levels_within g ls 0
@@ -59,12 +64,13 @@ levels_none g ls = go 0 g.n
     go a zero = refl
     go a (suc n) = ap (λ xs. 0 ∷ xs) (go (a + 1) n)
 
-pub levels_next : (g : Graph) (ls : List ℕ) (k : ℕ) (row next : List ℕ) → row ≡ levels_within g ls k → next ≡ map (level_after g ls (slice_index row)) (parties g) → next ≡ levels_within g ls (k + 1)
-unfolding level_within
-levels_next g ls k row next e h =
+pub levels_next : (g : Graph) (ls : List ℕ) (k : ℕ) (follows : List Bool) (row next : List ℕ) → follows ≡ map (is_follower g ls) (parties g) → row ≡ levels_within g ls k → next ≡ map (λ v. cond (at follows v) (most_before g (slice_index row) v + 1) 0) (parties g) → next ≡ levels_within g ls (k + 1)
+unfolding level_within level_after
+levels_next g ls k follows row next e is h =
     let s : k + 1 ≡ suc k = omega arith in
-    let f : slice_index row ≡ level_within g ls k = fun_ext (row_reads (level_within g ls k) g.n 0 row (within-outside g ls k) e) in
-    h ∙ ap (λ (t : ℕ → ℕ). map (level_after g ls t) (parties g)) f ∙ ap (levels_within g ls) (sym s)
+    let f : slice_index row ≡ level_within g ls k = fun_ext (row_reads (level_within g ls k) g.n 0 row (within-outside g ls k) is) in
+    h ∙ ap (λ (t : ℕ → Bool). map (λ v. cond (t v) (most_before g (slice_index row) v + 1) 0) (parties g)) (follows_at g ls follows e)
+    ∙ ap (λ (t : ℕ → ℕ). map (λ v. cond (is_follower g ls v) (most_before g t v + 1) 0) (parties g)) f ∙ ap (levels_within g ls) (sym s)
 
 pub levels_low : (g : Graph) (ls : List ℕ) (k : ℕ) (row : List ℕ) → row ≡ levels_within g ls k → k ≤ 32 → (v : ℕ) → slice_index row v ≤ 32
 levels_low g ls k row e le v =
@@ -76,7 +82,7 @@ pub levels_all : (g : Graph) (ls : List ℕ) (k : ℕ) (row : List ℕ) → row 
 unfolding level_of
 levels_all g ls k row e s = e ∙ ap (levels_within g ls) s
 
-greatest-map : (f : ℕ → ℕ) (xs : List ℕ) → greatest (λ x. x) (map f xs) ≡ greatest f xs
+pub greatest-map : (f : ℕ → ℕ) (xs : List ℕ) → greatest (λ x. x) (map f xs) ≡ greatest f xs
 greatest-map f [] = refl
 greatest-map f (x ∷ xs) = ap (max (f x)) (greatest-map f xs)
 
@@ -86,21 +92,84 @@ height_is g ls row e = ap (greatest (λ x. x)) e ∙ greatest-map (level_of g ls
 
 -- The rows of walks.
 
-pub at_walks : (g : Graph) (ls : List ℕ) (v k : ℕ) (row : List Bool) → row ≡ walks_to g ls v k → at row ≡ walks g ls v k
-at_walks g ls v k row e = fun_ext (row_reads (walks g ls v k) g.n false row (walks-outside g ls v k) e)
+no_bit : (row : List ℕ) (v u : ℕ) → length row ≤ u → has_bit row v u ≡ false
+no_bit row v u le = ap (λ x. bit_at x v == 1) (get_or_past row u 0 le) ∙ ap (λ (x : ℕ). x == 1) (bit_at-zero v)
 
-pub walks_next : (g : Graph) (ls : List ℕ) (v k : ℕ) (row next : List Bool) → row ≡ walks_to g ls v k → next ≡ map (λ u. is_follower g ls u && leads_into g (at row) u) (parties g) → next ≡ walks_to g ls v (k + 1)
+-- a row that tells the values of f inside tells them everywhere, where f is false outside
+bits_are : (n v : ℕ) (f : ℕ → Bool) (row : List ℕ) → length row ≡ n → ((u : ℕ) → n ≤ u → f u ≡ false) → ((u : ℕ) → u < n → has_bit row v u ≡ f u) → (u : ℕ) → has_bit row v u ≡ f u
+bits_are n v f row size outside inside u = go (below_or u n)
+  where
+    go : (u < n) ⊎ (n ≤ u) → has_bit row v u ≡ f u
+    go (inl lt) = inside u lt
+    go (inr le) = no_bit row v u (omega (arith, size)) ∙ sym (outside u le)
+
+pub walks_none : (g : Graph) (ls : List ℕ) (follows : List Bool) (row : List ℕ) → follows ≡ map (is_follower g ls) (parties g) → length row ≡ length follows → ((v u : ℕ) → u < length follows → has_bit row v u ≡ (at follows u && (u == v))) → TellsWalks g ls 0 row
 unfolding walks
-walks_next g ls v k row next e h =
-    let s : k + 1 ≡ suc k = omega arith in
-    h ∙ ap (λ (t : ℕ → Bool). map (λ u. is_follower g ls u && leads_into g t u) (parties g)) (at_walks g ls v k row e) ∙ ap (walks_to g ls v) (sym s)
+walks_none g ls follows row e size stays =
+    let s = length-row (is_follower g ls) g.n follows e in
+    record {
+      parties = size ∙ s;
+      tells = λ v. bits_are g.n v (walks g ls v 0) row (size ∙ s) (walks-outside g ls v 0) (λ u lt. stays v u (omega (arith, s)) ∙ ap (λ (t : ℕ → Bool). t u && (u == v)) (follows_at g ls follows e));
+    }
 
--- the row of that number
-pub row_is : (g : Graph) (ls : List ℕ) (v m k : ℕ) (rows : List (List Bool)) → rows ≡ map (walks_to g ls v) (range_with_len 0 m) → k < m → get_or rows k [] ≡ walks_to g ls v k
-row_is g ls v m k rows e lt = ap (λ (ys : List (List Bool)). get_or ys k []) e ∙ get_or-map-range_with_len (walks_to g ls v) 0 m k k [] lt (zero-add k)
+pub walks_next : (g : Graph) (ls : List ℕ) (k : ℕ) (follows : List Bool) (row next : List ℕ) → follows ≡ map (is_follower g ls) (parties g) → TellsWalks g ls k row → length next ≡ g.n → ((v u : ℕ) → u < g.n → has_bit next v u ≡ (at follows u && leads_into g (has_bit row v) u)) → TellsWalks g ls (k + 1) next
+unfolding walks
+walks_next g ls k follows row next e tells size leads =
+    let s : suc k ≡ k + 1 = omega arith in
+    let at_row : (v : ℕ) → has_bit row v ≡ walks g ls v k = λ v. fun_ext (tells.tells v) in
+    let inside : (v u : ℕ) → u < g.n → has_bit next v u ≡ walks g ls v (suc k) u = λ v u lt. leads v u lt ∙ ap (λ (t : ℕ → Bool). t u && leads_into g (has_bit row v) u) (follows_at g ls follows e) ∙ ap (λ (t : ℕ → Bool). is_follower g ls u && leads_into g t u) (at_row v) in
+    subst (λ (j : ℕ). TellsWalks g ls j next) s (record { parties = size; tells = λ v. bits_are g.n v (walks g ls v (suc k)) next size (walks-outside g ls v (suc k)) (inside v) })
 
-pub row_length : (g : Graph) (ls : List ℕ) (v m k : ℕ) (rows : List (List Bool)) → rows ≡ map (walks_to g ls v) (range_with_len 0 m) → k < length rows → length (get_or rows k []) ≡ g.n
-row_length g ls v m k rows e lt = length-row (walks g ls v k) g.n (get_or rows k []) (row_is g ls v m k rows e (let s = length-row (walks_to g ls v) m rows e in omega arith))
+-- the rows up to the k-th
+pub record TellWalks (g : Graph) (ls : List ℕ) (k : ℕ) (rows : List (List ℕ)) : Type 0 where
+  pub size : length rows ≡ k + 1
+  pub row : (j : ℕ) → j ≤ k → TellsWalks g ls j (get_or rows j [])
+
+-- the last row, as the program reads it
+pub row_found : (g : Graph) (ls : List ℕ) (k : ℕ) (rows : List (List ℕ)) (found row : List ℕ) → TellWalks g ls k rows → found ≡ get_or rows k found → row ≡ found → TellsWalks g ls k row
+row_found g ls k rows found row tell is e =
+    let s = tell.size in
+    let q : row ≡ get_or rows k [] = e ∙ get_or_read rows k found (omega (arith, s)) is [] in
+    subst (TellsWalks g ls k) (sym q) (tell.row k (omega arith))
+
+length-push : {A : Type 0} (xs : List A) (x : A) → length (xs ++ x ∷ []) ≡ length xs + 1
+length-push [] x = omega arith
+length-push (y ∷ xs) x = let k = length-push xs x in omega arith
+
+push-before : {A : Type 0} (xs : List A) (x d : A) (j : ℕ) → j < length xs → get_or (xs ++ x ∷ []) j d ≡ get_or xs j d
+push-before [] x d j lt = absurd (omega arith)
+push-before (y ∷ xs) x d zero lt = refl
+push-before (y ∷ xs) x d (suc j) lt = push-before xs x d j (omega arith)
+
+push-last : {A : Type 0} (xs : List A) (x d : A) → get_or (xs ++ x ∷ []) (length xs) d ≡ x
+push-last [] x d = refl
+push-last (y ∷ xs) x d = push-last xs x d
+
+pub rows_first : (g : Graph) (ls : List ℕ) (row : List ℕ) (rows : List (List ℕ)) → rows ≡ row ∷ [] → TellsWalks g ls 0 row → TellWalks g ls 0 rows
+rows_first g ls row rows e tells =
+    subst (TellWalks g ls 0) (sym e) (record { size = refl; row = λ j le. go j le })
+  where
+    go : (j : ℕ) → j ≤ 0 → TellsWalks g ls j (get_or (row ∷ []) j [])
+    go zero le = tells
+    go (suc j) le = absurd (omega arith)
+
+at_or_below : (j k : ℕ) → j ≤ k + 1 → (j ≤ k) ⊎ (j ≡ k + 1)
+at_or_below j k le = grind arith
+
+pub rows_more : (g : Graph) (ls : List ℕ) (k : ℕ) (row : List ℕ) (rows next : List (List ℕ)) → next ≡ rows ++ row ∷ [] → TellWalks g ls k rows → TellsWalks g ls (k + 1) row → TellWalks g ls (k + 1) next
+rows_more g ls k row rows next e tell tells =
+    let s = tell.size in
+    subst (TellWalks g ls (k + 1)) (sym e) (record { size = length-push rows row ∙ ap (λ (m : ℕ). m + 1) s; row = λ j le. go s j (at_or_below j k le) })
+  where
+    go : length rows ≡ k + 1 → (j : ℕ) → (j ≤ k) ⊎ (j ≡ k + 1) → TellsWalks g ls j (get_or (rows ++ row ∷ []) j [])
+    go s j (inl le) = subst (TellsWalks g ls j) (sym (push-before rows row [] j (omega (arith, s)))) (tell.row j le)
+    go s j (inr q) = rw (q, sym s, push-last rows row []) (subst (λ (m : ℕ). TellsWalks g ls m row) (sym s) tells)
+
+pub rows_all : (g : Graph) (ls : List ℕ) (k : ℕ) (rows : List (List ℕ)) → k ≡ g.n → TellWalks g ls k rows → TellAllWalks g ls rows
+rows_all g ls k rows e tell = let s = tell.size in record { size = omega (arith, s); row = λ j le. tell.row j (omega arith) }
+
+pub row_length : (g : Graph) (ls : List ℕ) (rows : List (List ℕ)) (j : ℕ) → TellAllWalks g ls rows → j < length rows → length (get_or rows j []) ≡ g.n
+row_length g ls rows j tell lt = let s = tell.size in (tell.row j (omega (arith, s))).parties
 
 pub same_walk : (g : Graph) (f h : ℕ → ℕ → Bool) (k u : ℕ) → ((j : ℕ) → j < k → f j ≡ h j) → walk_of g f k u ≡ walk_of g h k u
 unfolding walk_of
@@ -109,8 +178,21 @@ same_walk g f h (suc k) u e =
     ap (λ (t : ℕ → Bool). u ∷ walk_of g f k (first_step g t u)) (e k (omega arith))
     ∙ ap (λ (xs : List ℕ). u ∷ xs) (same_walk g f h k (first_step g (h k) u) (λ j lt. e j (omega arith)))
 
-pub walk_is : (g : Graph) (ls : List ℕ) (v m k u : ℕ) (rows : List (List Bool)) → rows ≡ map (walks_to g ls v) (range_with_len 0 m) → k ≤ m → walk_of g (at_row rows) k u ≡ walk_of g (walks g ls v) k u
-walk_is g ls v m k u rows e le = same_walk g (at_row rows) (walks g ls v) k u (λ j lt. at_walks g ls v j (get_or rows j []) (row_is g ls v m j rows e (omega arith)))
+same_cycle : (g : Graph) (f h : ℕ → ℕ → Bool) (v k : ℕ) → ((j : ℕ) → j ≤ k → f j ≡ h j) → cycle_by g f v k ≡ cycle_by g h v k
+same_cycle g f h v k e =
+    ap (λ (t : ℕ → Bool). only_if (t v) (walk_of g f k v)) (e k (omega arith))
+    ∙ ap (λ (xs : List ℕ). only_if (h k v) xs) (same_walk g f h k v (λ j lt. e j (omega arith)))
+
+first_same : {B : Type 0} (f h : ℕ → Option B) (a n : ℕ) → ((k : ℕ) → k < a + n → f k ≡ h k) → first_of f (range_with_len a n) ≡ first_of h (range_with_len a n)
+first_same f h a zero e = refl
+first_same {B = B} f h a (suc n) e =
+    ap (λ (o : Option B). or_else o (first_of f (range_with_len (a + 1) n))) (e a (omega arith))
+    ∙ ap (λ (o : Option B). or_else (h a) o) (first_same f h (a + 1) n (λ k lt. e k (omega arith)))
+
+pub cycle_is_from : (g : Graph) (ls : List ℕ) (rows : List (List ℕ)) (v : ℕ) → TellAllWalks g ls rows → first_of (cycle_by g (has_bit_in rows v) v) (range_with_len 1 g.n) ≡ cycle_from g ls v
+unfolding cycle_from
+cycle_is_from g ls rows v tell =
+    first_same (cycle_by g (has_bit_in rows v) v) (cycle_of g ls v) 1 g.n (λ k lt. same_cycle g (has_bit_in rows v) (walks g ls v) v k (λ j le. fun_ext ((tell.row j (omega arith)).tells v)))
 
 -- The loop that walks.
 

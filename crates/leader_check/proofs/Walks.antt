@@ -61,11 +61,11 @@ not_both false x h e = cc h
 module _ (g : Graph) (ls : List ℕ) where
   -- Steps of a walk.
 
-  walks-zero : (v u : ℕ) → walks g ls v zero u ≡ true → (is_follower g ls u ≡ true) × (u ≡ v)
+  pub walks-zero : (v u : ℕ) → walks g ls v zero u ≡ true → (is_follower g ls u ≡ true) × (u ≡ v)
   unfolding walks
   walks-zero v u e = let k = and_parts (is_follower g ls u) (u == v) e in (k.0, eqb-true u v k.1)
 
-  walks-none : (v : ℕ) → is_follower g ls v ≡ true → walks g ls v zero v ≡ true
+  pub walks-none : (v : ℕ) → is_follower g ls v ≡ true → walks g ls v zero v ≡ true
   unfolding walks
   walks-none v e = and_both (is_follower g ls v) (v == v) e (eq-eqb v v refl)
 
@@ -75,7 +75,7 @@ module _ (g : Graph) (ls : List ℕ) where
     pub arc : has_arc g u next ≡ true
     pub rest : walks g ls v k next ≡ true
 
-  walks-suc : (v k u : ℕ) → walks g ls v (suc k) u ≡ true → Onward v k u
+  pub walks-suc : (v k u : ℕ) → walks g ls v (suc k) u ≡ true → Onward v k u
   unfolding walks leads_into
   walks-suc v k u e =
       let p = and_parts (is_follower g ls u) (list_any (λ a. (a.from == u) && walks g ls v k a.to) g.arcs) e in
@@ -88,7 +88,7 @@ module _ (g : Graph) (ls : List ℕ) where
         rest = q.1;
       }
 
-  walks-step : (v k u w : ℕ) → is_follower g ls u ≡ true → has_arc g u w ≡ true → walks g ls v k w ≡ true → walks g ls v (suc k) u ≡ true
+  pub walks-step : (v k u w : ℕ) → is_follower g ls u ≡ true → has_arc g u w ≡ true → walks g ls v k w ≡ true → walks g ls v (suc k) u ≡ true
   unfolding walks leads_into
   walks-step v k u w f e r =
       let a = arc_of g u w e in
@@ -224,7 +224,7 @@ module _ (g : Graph) (ls : List ℕ) where
     pub is : walk_of g (walks g ls v) size v ≡ c
     pub shortest : Shortest v size v
 
-  closed_from : (v : ℕ) (c : List ℕ) → cycle_from g ls v ≡ Some c → Closed v c
+  pub closed_from : (v : ℕ) (c : List ℕ) → cycle_from g ls v ≡ Some c → Closed v c
   unfolding cycle_from
   closed_from v c e =
       let m = first_in (cycle_of g ls v) 1 g.n c e in

@@ -1,5 +1,6 @@
 -- The cycles of followers alone, and which of them an answer shows.
-use Rattle.std.specs.Prelude.{ℕ, zero, suc, ◌≤◌, Bool, true, false, ◌&&◌, ◌==◌, IsTrue, List, [], ◌∷◌, Option, Some, None, unwrap_or, slice_index_or, map}
+use Rattle.std.specs.Prelude.{◌≡◌, ℕ, zero, suc, ◌+◌, ◌≤◌, Bool, true, false, ◌&&◌, ◌==◌, IsTrue, List, [], ◌∷◌, Option, Some, None, unwrap_or, length, slice_index, slice_index_or}
+use Rattle.std.specs.Int.{bit_at}
 use Rattle.std.specs.List.{list_any, range_with_len}
 use Rattle.swap_base.specs.Lists.{first_of, IsIn}
 use Rattle.swap_digraph.specs.Value.{Graph}
@@ -41,17 +42,27 @@ cycle_from g leaders v = first_of (cycle_of g leaders v) (range_with_len 1 g.n)
 unfoldable pub follower_cycle : Graph → List ℕ → Option (List ℕ)
 follower_cycle g leaders = first_of (cycle_from g leaders) (parties g)
 
--- from which parties a walk of exactly k arcs leads over followers alone to v
-abbrev pub walks_to : Graph → List ℕ → ℕ → ℕ → List Bool
-walks_to g leaders v k = map (walks g leaders v k) (parties g)
+-- whether the number at place u of the list has bit v
+abbrev pub has_bit : List ℕ → ℕ → ℕ → Bool
+has_bit row v u = bit_at (slice_index row u) v == 1
 
--- whether the list holds true at that place
-abbrev pub at : List Bool → ℕ → Bool
-at row v = slice_index_or row v false
+-- whether the number at place u of the k-th list has bit v
+abbrev pub has_bit_in : List (List ℕ) → ℕ → ℕ → ℕ → Bool
+has_bit_in rows v k u = has_bit (slice_index_or rows k []) v u
 
--- whether the list of that number holds true at that place
-abbrev pub at_row : List (List Bool) → ℕ → ℕ → Bool
-at_row rows k v = at (slice_index_or rows k []) v
+-- Bit v of the number at place u tells whether a walk of exactly k arcs leads over followers alone from u to v.
+pub record TellsWalks (g : Graph) (leaders : List ℕ) (k : ℕ) (row : List ℕ) : Type 0 where
+  pub parties : length row ≡ g.n
+  pub tells : (v u : ℕ) → has_bit row v u ≡ walks g leaders v k u
+
+-- The lists, by number of arcs up to that of the parties, tell of the walks.
+pub record TellAllWalks (g : Graph) (leaders : List ℕ) (rows : List (List ℕ)) : Type 0 where
+  pub size : length rows ≡ g.n + 1
+  pub row : (k : ℕ) → k ≤ g.n → TellsWalks g leaders k (slice_index_or rows k [])
+
+-- the cycle of k vertices that begins with v, where f tells by the number of arcs from which vertices a walk leads to v
+abbrev pub cycle_by : Graph → (ℕ → ℕ → Bool) → ℕ → ℕ → Option (List ℕ)
+cycle_by g f v k = only_if (f k v) (walk_of g f k v)
 
 -- The list is a cycle of distinct followers, and begins with its least.
 pub record IsFollowerCycle (g : Graph) (leaders list : List ℕ) : Type 0 where

@@ -1,5 +1,5 @@
 -- The followers of a digraph, which are the parties that don't lead.
-use Rattle.std.specs.Prelude.{ℕ, Bool, not, ◌&&◌, nat_lt, List}
+use Rattle.std.specs.Prelude.{ℕ, Bool, false, not, ◌&&◌, nat_lt, List, slice_index_or}
 use Rattle.std.specs.List.{range_with_len}
 use Rattle.swap_digraph.specs.Value.{Graph}
 use Rattle.swap_digraph.specs.Graph.{is_among}
@@ -10,3 +10,7 @@ parties g = range_with_len 0 g.n
 
 abbrev pub is_follower : Graph → List ℕ → ℕ → Bool
 is_follower g leaders v = nat_lt v g.n && not (is_among v leaders)
+
+-- whether the list holds true at that place
+abbrev pub at : List Bool → ℕ → Bool
+at row v = slice_index_or row v false

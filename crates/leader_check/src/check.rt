@@ -1,17 +1,37 @@
 //! The check of leaders.
 
-ghost use Rattle.std.specs.Prelude.{◌≡◌, ◌≤◌, ◌<◌, ℕ, length, slice_index, IfOk};
+ghost use Rattle.std.specs.Prelude.{◌≡◌, ◌≤◌, ◌<◌, ℕ, length, map, slice_index, IfOk};
 ghost use Rattle.swap_digraph.specs.Graph.{HasEnds, IsFeedback, IsHeight};
+ghost use Rattle.leader_check.specs.Followers.{parties};
 ghost use Rattle.leader_check.specs.Levels.{level_of, height_of, IsLevel};
 ghost use Rattle.leader_check.specs.Cycles.{follower_cycle, IsFollowerCycle};
 ghost use Rattle.leader_check.specs.Answer.{cycle_shown, IfLevels, IfCycle};
 
 use crate::answer::LeaderAnswer;
 use crate::cycle::follower_cycle;
-use crate::rounds::all_levels;
+use crate::rounds::{level_row, rise_on, with_greatest};
 use std::alloc::Global;
 use swap_base::{NoMemory, PartyId};
-use swap_digraph::Digraph;
+use swap_digraph::{Digraph, PathList};
+
+/// The cycle of followers that is shown, if there is one: the levels in the row tell whether to search.
+fn cycle_if_any(
+    alloc: Global,
+    graph: &Digraph,
+    leaders: &[PartyId],
+    row: &[u8],
+) -> Result<Option<PathList>, NoMemory>
+    requires parties { graph.now.n ≤ 32 }
+    requires ends { HasEnds graph.now }
+    requires row { row.now ≡ map (level_of graph.now leaders.now) (parties graph.now) }
+    ensures { IfOk result (λ o. o ≡ follower_cycle graph.now leaders.now) }
+{
+    if rise_on(alloc, graph, leaders, row)? {
+        follower_cycle(alloc, graph, leaders)
+    } else {
+        Ok(None)
+    }
+}
 
 /// The levels of the parties where the leaders are a feedback vertex set, and else a cycle of followers: a shortest one through the least follower that lies on any.
 pub fn levels(alloc: Global, graph: &Digraph, leaders: &[PartyId]) -> Result<LeaderAnswer, NoMemory>
@@ -29,8 +49,9 @@ pub fn levels(alloc: Global, graph: &Digraph, leaders: &[PartyId]) -> Result<Lea
     ensures greatest { IfOk result (λ a. IfLevels a (λ l. l.h ≡ height_of graph.now leaders.now)) }
     ensures height { IfOk result (λ a. IfLevels a (λ l. IsHeight graph.now leaders.now l.h)) }
 {
-    match follower_cycle(alloc, graph, leaders)? {
+    let row = level_row(alloc, graph, leaders)?;
+    match cycle_if_any(alloc, graph, leaders, &row)? {
         Some(cycle) => Ok(LeaderAnswer::Cycle(cycle)),
-        None => Ok(LeaderAnswer::Levels(all_levels(alloc, graph, leaders)?)),
+        None => Ok(LeaderAnswer::Levels(with_greatest(row))),
     }
 }

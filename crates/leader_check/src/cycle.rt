@@ -1,115 +1,140 @@
 //! The search for a cycle of followers.
 
-ghost use Rattle.std.specs.Prelude.{◌≡◌, ◌==◌, ◌≤◌, ◌<◌, ◌+◌, ◌&&◌, not, ℕ, [], length, map, slice_index_or, IfOk};
+ghost use Rattle.std.specs.Prelude.{◌≡◌, ◌==◌, ◌≤◌, ◌<◌, ◌+◌, ◌&&◌, ℕ, [], length, slice_index_or, IfOk};
+ghost use Rattle.std.specs.Int.{bit_at};
 ghost use Rattle.std.specs.List.{range_with_len};
-ghost use Rattle.swap_digraph.specs.Graph.{has_arc, is_among, HasEnds};
-ghost use Rattle.leader_check.specs.Followers.{parties, is_follower};
-ghost use Rattle.leader_check.specs.Cycles.{at, at_row, leads_into, first_step, walks_to, walk_of, cycle_from, follower_cycle};
+ghost use Rattle.swap_base.specs.Lists.{first_of};
+ghost use Rattle.swap_digraph.specs.Graph.{has_arc, HasEnds};
+ghost use Rattle.leader_check.specs.Followers.{parties, is_follower, at};
+ghost use Rattle.leader_check.specs.Cycles.{has_bit, has_bit_in, leads_into, first_step, walk_of, cycle_by, follower_cycle, TellsWalks, TellAllWalks};
 
-use crate::rounds::follows;
+use crate::rounds::followers;
 use std::alloc::Global;
 use swap_base::{Listed, NoMemory, PartyId};
 use swap_digraph::{Digraph, PathList};
 
-fn has_arc(graph: &Digraph, u: PartyId, v: PartyId) -> bool
-    ensures { result ≡ has_arc graph.now u v }
+/// Whether v is among the parties that the bits stand for.
+fn holds(bits: u32, v: PartyId) -> bool
+    requires { v < 32 }
+    ensures { result ≡ (bit_at bits v == 1) }
 {
-    graph.arcs().iter().any(|arc| arc.from == u && arc.to == v)
+    bits >> v & 1 == 1
 }
 
-/// Whether u has an arc to a vertex that the row holds.
-fn leads_into(graph: &Digraph, row: &[bool], u: PartyId) -> bool
-    requires ends { HasEnds graph.now }
-    requires row { length row.now ≡ graph.now.n }
-    ensures { result ≡ leads_into graph.now (at row.now) u }
+/// The bit of v, where it follows.
+fn bit_of(follows: bool, v: PartyId) -> u32
+    requires { v < 32 }
+    ensures { (w : ℕ) → (bit_at result w == 1) ≡ (follows && (v == w)) }
 {
+    if follows { 1 << v } else { 0 }
+}
+
+/// The bits, where the party follows.
+fn bits_if(follows: bool, bits: u32) -> u32
+    ensures { (w : ℕ) → (bit_at result w == 1) ≡ (follows && (bit_at bits w == 1)) }
+{
+    if follows { bits } else { 0 }
+}
+
+/// The vertices to which u has an arc.
+fn heads(graph: &Digraph, u: PartyId) -> u32
+    requires parties { graph.now.n ≤ 32 }
+    requires ends { HasEnds graph.now }
+    ensures { (w : ℕ) → (bit_at result w == 1) ≡ has_arc graph.now u w }
+{
+    let mut bits = 0u32;
     for arc in graph.arcs() {
-        if arc.from == u && row[arc.to as usize] {
-            return true;
+        if arc.from == u {
+            bits |= 1 << arc.to;
         }
     }
-    false
+    bits
 }
 
-/// The least vertex that the row holds and to which u has an arc.
-fn first_step(graph: &Digraph, row: &[bool], u: PartyId) -> PartyId
+/// The least vertex whose bits in the row hold v and to which u has an arc.
+fn first_step(graph: &Digraph, row: &[u32], v: PartyId, u: PartyId) -> PartyId
+    requires parties { graph.now.n ≤ 32 }
+    requires ends { HasEnds graph.now }
     requires row { length row.now ≡ graph.now.n }
-    ensures { result ≡ first_step graph.now (at row.now) u }
+    requires v { v < graph.now.n }
+    ensures { result ≡ first_step graph.now (has_bit row.now v) u }
 {
+    let heads = heads(graph, u);
     for w in 0..graph.n() {
-        if has_arc(graph, u, w) && row[w as usize] {
+        if holds(heads, w) && holds(row[w as usize], v) {
             return w;
         }
     }
     0
 }
 
-/// Whether u follows and has an arc to a vertex that the row holds.
-fn walks_on(graph: &Digraph, leaders: &[PartyId], row: &[bool], u: PartyId) -> bool
+/// For each party what the bits in the row of the vertices to which it has arcs hold.
+fn leads_each(alloc: Global, graph: &Digraph, row: &[u32]) -> Result<Vec<u32>, NoMemory>
     requires ends { HasEnds graph.now }
     requires row { length row.now ≡ graph.now.n }
-    requires u { u < graph.now.n }
-    ensures { result ≡ (is_follower graph.now leaders.now u && leads_into graph.now (at row.now) u) }
+    ensures parties { IfOk result (λ l. length l.items ≡ graph.now.n) }
+    ensures leads { IfOk result (λ l. (v u : ℕ) → u < graph.now.n
+        → has_bit l.items v u ≡ leads_into graph.now (has_bit row.now v) u) }
 {
-    follows(leaders, u) && leads_into(graph, row, u)
+    let mut leads = vec![in alloc; 0u32; graph.n() as usize]?;
+    for arc in graph.arcs() {
+        let from = arc.from as usize;
+        leads[from] |= row[arc.to as usize];
+    }
+    Ok(leads)
 }
 
-/// The followers with an arc to a vertex that the row holds.
+/// By party, where the walks lead that have one more arc than those of the row.
 fn next_row(
     alloc: Global,
     graph: &Digraph,
-    leaders: &[PartyId],
-    row: &[bool],
-) -> Result<Listed<bool>, NoMemory>
+    follows: &[bool],
+    row: &[u32],
+) -> Result<Listed<u32>, NoMemory>
     requires ends { HasEnds graph.now }
+    requires follows { length follows.now ≡ graph.now.n }
     requires row { length row.now ≡ graph.now.n }
-    ensures { IfOk result (λ l. l ≡ map (λ u. is_follower graph.now leaders.now u && leads_into graph.now (at row.now) u) (parties graph.now)) }
+    ensures parties { IfOk result (λ l. length l ≡ graph.now.n) }
+    ensures leads { IfOk result (λ l. (v u : ℕ) → u < graph.now.n
+        → has_bit l v u ≡ (at follows.now u && leads_into graph.now (has_bit row.now v) u)) }
 {
+    let leads = leads_each(alloc, graph, row)?;
     let mut next = Vec::new(alloc);
     for u in 0..graph.n() {
-        next.push(walks_on(graph, leaders, row, u))?;
+        next.push(bits_if(follows[u as usize], leads[u as usize]))?;
     }
     Ok(Listed::new(next))
 }
 
-/// Whether u is v and follows.
-fn stays(leaders: &[PartyId], v: PartyId, u: PartyId) -> bool
-    ensures { result ≡ (not (is_among u leaders.now) && (u == v)) }
-{
-    follows(leaders, u) && u == v
-}
-
-/// The row that holds v alone, if it follows.
-fn first_row(
-    alloc: Global,
-    graph: &Digraph,
-    leaders: &[PartyId],
-    v: PartyId,
-) -> Result<Listed<bool>, NoMemory>
-    ensures { IfOk result (λ l. l ≡ walks_to graph.now leaders.now v 0) }
+/// By party, where the walks without arcs lead: from a follower to itself.
+fn first_row(alloc: Global, follows: &[bool]) -> Result<Listed<u32>, NoMemory>
+    requires { length follows.now ≤ 32 }
+    ensures parties { IfOk result (λ l. length l ≡ length follows.now) }
+    ensures stays { IfOk result (λ l. (v u : ℕ) → u < length follows.now
+        → has_bit l v u ≡ (at follows.now u && (u == v))) }
 {
     let mut row = Vec::new(alloc);
-    for u in 0..graph.n() {
-        row.push(stays(leaders, v, u))?;
+    for u in 0..follows.len() {
+        row.push(bit_of(follows[u], u as u8))?;
     }
     Ok(Listed::new(row))
 }
 
-/// By number of arcs, up to the number of parties, from which followers a walk leads to v.
-fn rows_to(
+/// By number of arcs, up to the number of parties, and by party, where the walks of followers lead.
+fn walk_rows(
     alloc: Global,
     graph: &Digraph,
     leaders: &[PartyId],
-    v: PartyId,
-) -> Result<Vec<Listed<bool>>, NoMemory>
+) -> Result<Vec<Listed<u32>>, NoMemory>
     requires parties { graph.now.n ≤ 32 }
     requires ends { HasEnds graph.now }
-    ensures { IfOk result (λ l. l.items ≡ map (walks_to graph.now leaders.now v) (range_with_len 0 (graph.now.n + 1))) }
+    ensures { IfOk result (λ l. TellAllWalks graph.now leaders.now l.items) }
 {
+    let follows = followers(alloc, graph, leaders)?;
     let mut rows = Vec::new(alloc);
-    rows.push(first_row(alloc, graph, leaders, v)?)?;
+    rows.push(first_row(alloc, &follows)?)?;
     for k in 0..graph.n() {
-        let row = next_row(alloc, graph, leaders, rows[k as usize].as_slice())?;
+        let row = next_row(alloc, graph, &follows, rows[k as usize].as_slice())?;
         rows.push(row)?;
     }
     Ok(rows)
@@ -119,19 +144,22 @@ fn rows_to(
 fn walk_of(
     alloc: Global,
     graph: &Digraph,
-    rows: &[Listed<bool>],
+    rows: &[Listed<u32>],
     v: PartyId,
     k: u8,
 ) -> Result<PathList, NoMemory>
+    requires parties { graph.now.n ≤ 32 }
+    requires ends { HasEnds graph.now }
+    requires v { v < graph.now.n }
     requires k { k ≤ length rows.now }
     requires rows { (j : ℕ) → j < length rows.now → length (slice_index_or rows.now j []) ≡ graph.now.n }
-    ensures { IfOk result (λ l. l ≡ walk_of graph.now (at_row rows.now) k v) }
+    ensures { IfOk result (λ l. l ≡ walk_of graph.now (has_bit_in rows.now v) k v) }
 {
     let mut list = Vec::new(alloc);
     let mut u = v;
     for left in (0..k).rev() {
         list.push(u)?;
-        u = first_step(graph, rows[left as usize].as_slice(), u);
+        u = first_step(graph, rows[left as usize].as_slice(), v, u);
     }
     Ok(Listed::new(list))
 }
@@ -140,18 +168,19 @@ fn walk_of(
 fn cycle_from(
     alloc: Global,
     graph: &Digraph,
-    leaders: &[PartyId],
+    rows: &[Listed<u32>],
     v: PartyId,
 ) -> Result<Option<PathList>, NoMemory>
     requires parties { graph.now.n ≤ 32 }
     requires ends { HasEnds graph.now }
+    requires size { length rows.now ≡ graph.now.n + 1 }
+    requires rows { (j : ℕ) → j < length rows.now → length (slice_index_or rows.now j []) ≡ graph.now.n }
     requires v { v < graph.now.n }
-    ensures { IfOk result (λ o. o ≡ cycle_from graph.now leaders.now v) }
+    ensures { IfOk result (λ o. o ≡ first_of (cycle_by graph.now (has_bit_in rows.now v) v) (range_with_len 1 graph.now.n)) }
 {
-    let rows = rows_to(alloc, graph, leaders, v)?;
     for k in 1..graph.n() + 1 {
-        if rows[k as usize].as_slice()[v as usize] {
-            return Ok(Some(walk_of(alloc, graph, &rows, v, k)?));
+        if holds(rows[k as usize].as_slice()[v as usize], v) {
+            return Ok(Some(walk_of(alloc, graph, rows, v, k)?));
         }
     }
     Ok(None)
@@ -167,8 +196,9 @@ pub fn follower_cycle(
     requires ends { HasEnds graph.now }
     ensures { IfOk result (λ o. o ≡ follower_cycle graph.now leaders.now) }
 {
+    let rows = walk_rows(alloc, graph, leaders)?;
     for v in 0..graph.n() {
-        let found = cycle_from(alloc, graph, leaders, v)?;
+        let found = cycle_from(alloc, graph, &rows, v)?;
         if found.is_some() {
             return Ok(found);
         }

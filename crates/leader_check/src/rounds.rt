@@ -1,83 +1,90 @@
 //! The levels of the parties, by rounds over the arcs.
 
-ghost use Rattle.std.specs.Prelude.{◌≡◌, ◌≤◌, ◌<◌, ℕ, not, length, map, slice_index, IfOk};
+ghost use Rattle.std.specs.Prelude.{◌≡◌, ◌≤◌, ◌<◌, ◌+◌, ℕ, not, length, is_some, map, slice_index, IfOk, if◌then◌else◌};
 ghost use Rattle.swap_base.specs.Lists.{greatest};
 ghost use Rattle.swap_digraph.specs.Graph.{is_among, HasEnds};
-ghost use Rattle.leader_check.specs.Followers.{parties};
-ghost use Rattle.leader_check.specs.Levels.{most_before, level_after, level_of, height_of};
+ghost use Rattle.leader_check.specs.Followers.{parties, is_follower, at};
+ghost use Rattle.leader_check.specs.Levels.{most_before, level_of};
+ghost use Rattle.leader_check.specs.Cycles.{follower_cycle};
 
 use crate::answer::Levels;
 use std::alloc::Global;
 use swap_base::{Listed, NoMemory, PartyId};
 use swap_digraph::Digraph;
 
-pub fn follows(leaders: &[PartyId], v: PartyId) -> bool
+fn follows(leaders: &[PartyId], v: PartyId) -> bool
     ensures { result ≡ not (is_among v leaders.now) }
 {
     !leaders.contains(&v)
 }
 
-/// The greatest level in the row of a vertex with an arc to v.
-fn most_before(graph: &Digraph, row: &[u8], v: PartyId) -> u8
-    requires ends { HasEnds graph.now }
-    requires row { length row.now ≡ graph.now.n }
-    requires low { (v : ℕ) → slice_index row.now v ≤ 32 }
-    ensures most { result ≡ most_before graph.now (slice_index row.now) v }
-    ensures low { result ≤ 32 }
+/// For each party, whether it follows.
+pub fn followers(alloc: Global, graph: &Digraph, leaders: &[PartyId]) -> Result<Vec<bool>, NoMemory>
+    ensures { IfOk result (λ l. l.items ≡ map (is_follower graph.now leaders.now) (parties graph.now)) }
 {
-    let mut most = 0;
-    for arc in graph.arcs() {
-        if arc.to == v {
-            most = most.max(row[arc.from as usize]);
-        }
+    let mut row = Vec::new(alloc);
+    for v in 0..graph.n() {
+        row.push(follows(leaders, v))?;
     }
-    most
+    Ok(row)
 }
 
-/// The level of v, by those in the row of the vertices before it.
-fn level_after(graph: &Digraph, leaders: &[PartyId], row: &[u8], v: PartyId) -> u8
+/// For each party the greatest level in the row of a vertex with an arc to it.
+fn most_before_each(alloc: Global, graph: &Digraph, row: &[u8]) -> Result<Vec<u8>, NoMemory>
     requires ends { HasEnds graph.now }
     requires row { length row.now ≡ graph.now.n }
-    requires low { (v : ℕ) → slice_index row.now v ≤ 32 }
-    requires v { v < graph.now.n }
-    ensures { result ≡ level_after graph.now leaders.now (slice_index row.now) v }
+    ensures parties { IfOk result (λ l. length l.items ≡ graph.now.n) }
+    ensures most { IfOk result (λ l. (v : ℕ) → v < graph.now.n
+        → slice_index l.items v ≡ most_before graph.now (slice_index row.now) v) }
 {
-    if follows(leaders, v) {
-        most_before(graph, row, v) + 1
-    } else {
-        0
+    let mut most = vec![in alloc; 0; graph.n() as usize]?;
+    for arc in graph.arcs() {
+        let to = arc.to as usize;
+        most[to] = most[to].max(row[arc.from as usize]);
     }
+    Ok(most)
+}
+
+/// The level of a party, by the greatest of the vertices before it.
+fn level_over(follows: bool, most: u8) -> u8
+    requires { most ≤ 32 }
+    ensures { result ≡ (if follows then most + 1 else 0) }
+{
+    if follows { most + 1 } else { 0 }
 }
 
 /// The levels of a further round.
 fn next_levels(
     alloc: Global,
     graph: &Digraph,
-    leaders: &[PartyId],
+    follows: &[bool],
     row: &[u8],
 ) -> Result<Vec<u8>, NoMemory>
     requires ends { HasEnds graph.now }
+    requires follows { length follows.now ≡ graph.now.n }
     requires row { length row.now ≡ graph.now.n }
     requires low { (v : ℕ) → slice_index row.now v ≤ 32 }
-    ensures { IfOk result (λ l. l.items ≡ map (level_after graph.now leaders.now (slice_index row.now)) (parties graph.now)) }
+    ensures { IfOk result (λ l. l.items ≡ map (λ v. if at follows.now v then most_before graph.now (slice_index row.now) v + 1 else 0) (parties graph.now)) }
 {
+    let most = most_before_each(alloc, graph, row)?;
     let mut next = Vec::new(alloc);
     for v in 0..graph.n() {
-        next.push(level_after(graph, leaders, row, v))?;
+        next.push(level_over(follows[v as usize], most[v as usize]))?;
     }
     Ok(next)
 }
 
 /// The level of each party.
-fn level_row(alloc: Global, graph: &Digraph, leaders: &[PartyId]) -> Result<Vec<u8>, NoMemory>
+pub fn level_row(alloc: Global, graph: &Digraph, leaders: &[PartyId]) -> Result<Vec<u8>, NoMemory>
     requires parties { graph.now.n ≤ 32 }
     requires ends { HasEnds graph.now }
     ensures { IfOk result (λ l. l.items ≡ map (level_of graph.now leaders.now) (parties graph.now)) }
 {
     let n = graph.n();
+    let follows = followers(alloc, graph, leaders)?;
     let mut row = vec![in alloc; 0; n as usize]?;
     for _round in 0..n {
-        row = next_levels(alloc, graph, leaders, &row)?;
+        row = next_levels(alloc, graph, &follows, &row)?;
     }
     Ok(row)
 }
@@ -92,17 +99,31 @@ fn greatest_of(row: &[u8]) -> u8
     most
 }
 
-/// The level of each party, and the greatest of them.
-pub fn all_levels(alloc: Global, graph: &Digraph, leaders: &[PartyId]) -> Result<Levels, NoMemory>
-    requires parties { graph.now.n ≤ 32 }
-    requires ends { HasEnds graph.now }
-    ensures levels { IfOk result (λ l. l.level ≡ map (level_of graph.now leaders.now) (parties graph.now)) }
-    ensures height { IfOk result (λ l. l.h ≡ height_of graph.now leaders.now) }
+/// The levels of a row, with the greatest.
+pub fn with_greatest(row: Vec<u8>) -> Levels
+    ensures level { result.level ≡ row.items }
+    ensures height { result.h ≡ greatest (λ x. x) row.items }
 {
-    let row = level_row(alloc, graph, leaders)?;
     let h = greatest_of(&row);
-    Ok(Levels {
+    Levels {
         level: Listed::new(row),
         h,
-    })
+    }
+}
+
+/// Whether the levels still rise after as many rounds as there are parties, which they do exactly where followers form a cycle.
+pub fn rise_on(
+    alloc: Global,
+    graph: &Digraph,
+    leaders: &[PartyId],
+    row: &[u8],
+) -> Result<bool, NoMemory>
+    requires parties { graph.now.n ≤ 32 }
+    requires ends { HasEnds graph.now }
+    requires row { row.now ≡ map (level_of graph.now leaders.now) (parties graph.now) }
+    ensures { IfOk result (λ b. b ≡ is_some (follower_cycle graph.now leaders.now)) }
+{
+    let follows = followers(alloc, graph, leaders)?;
+    let next = next_levels(alloc, graph, &follows, row)?;
+    Ok(greatest_of(&next) > graph.n())
 }

@@ -47,6 +47,19 @@ fn onward(alloc: Global, few: u8) -> Result<Vec<(u8, u8)>, Fail>
     Ok(ends)
 }
 
+/// A ring of 24 parties with chords of up to four places, none of which jumps over party 0, and with longer ones from it: 96 arcs.
+fn chorded(alloc: Global) -> Result<Vec<(u8, u8)>, Fail> {
+    let mut ends = Vec::new(alloc);
+    for from in 0..24u8 {
+        for step in 1..11u8 {
+            if from == 0 || (step < 5 && from + step <= 24) {
+                ends.push((from, (from + step) % 24))?;
+            }
+        }
+    }
+    Ok(ends)
+}
+
 #[test]
 fn small_digraphs(rt: HostRuntime) -> Result<(), Fail> {
     let triangle = [(0, 1), (0, 2), (1, 0), (1, 2), (2, 0), (2, 1)];
@@ -100,6 +113,26 @@ fn a_ring_and_a_dense_digraph(rt: HostRuntime) -> Result<(), Fail> {
             &answer(alloc, 24, &dense, &[0, 1, 2, 3])?,
             &behind,
             Some(20)
+        )
+    );
+    Ok(())
+}
+
+#[test]
+fn a_ring_with_chords(rt: HostRuntime) -> Result<(), Fail> {
+    let alloc = rt.alloc();
+    let long = chorded(alloc)?;
+    let along = [
+        0, 1, 2, 3, 4, 5, 6, 7, 8, 9, 10, 11, 12, 13, 14, 15, 16, 17, 18, 19, 20, 21, 22, 23,
+    ];
+    assert_eq!(rt; long.len(), 96);
+    assert!(rt; shows(&answer(alloc, 24, &long, &[0])?, &along, Some(23)));
+    assert!(rt; shows(&answer(alloc, 24, &long, &[12])?, &[0, 9, 13, 16, 20], None));
+    assert!(rt;
+        shows(
+            &answer(alloc, 24, &long, &[1, 2])?,
+            &[0, 8, 12, 16, 20],
+            None
         )
     );
     Ok(())

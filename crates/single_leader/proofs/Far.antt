@@ -37,7 +37,7 @@ after-reached g f v = go (greatest-reached (λ b. cond (b.from == v) (f b.to) 0)
     go (inl z) = inl z
     go (inr a) = by_test a.0 (a.0.from == v) (greatest (λ b. cond (b.from == v) (f b.to) 0) g.arcs) a.1 refl a.2
 
-after-below : (g : Graph) (f : ℕ → ℕ) (v m : ℕ) → ((w : ℕ) → f w ≤ m) → most_after g f v ≤ m
+pub after-below : (g : Graph) (f : ℕ → ℕ) (v m : ℕ) → ((w : ℕ) → f w ≤ m) → most_after g f v ≤ m
 unfolding most_after
 after-below g f v m le = greatest-below (λ b. cond (b.from == v) (f b.to) 0) g.arcs m (λ a i. go (a.from == v) a.to)
   where
@@ -117,6 +117,18 @@ leader_follows_not g l v b e = follower_is g (l ∷ []) v b ∙ ap not (in-is_am
 
 pub other_follows : (g : Graph) (l v : ℕ) → v < g.n → (l ≡ v → ⊥) → is_follower g (l ∷ []) v ≡ true
 other_follows g l v b n = follower_is g (l ∷ []) v b ∙ not_leader l v (λ e. n (sym e))
+
+-- the distance of a party, by a test whether it leads
+pub before_is : (g : Graph) (l : ℕ) (f : ℕ → ℕ) (v : ℕ) → v < g.n → cond (l == v) 0 (most_after g f v + 1) ≡ dist_before g l f v
+before_is g l f v b = go (l == v) refl
+  where
+    no : (t : Bool) → t ≡ false → t ≡ true → ⊥
+    no true h i = cc h
+    no false h i = cc i
+
+    go : (t : Bool) → (l == v) ≡ t → cond t 0 (most_after g f v + 1) ≡ dist_before g l f v
+    go true e = sym (before-other g l f v (leader_follows_not g l v b (eqb-true l v e)))
+    go false e = sym (before-follower g l f v (other_follows g l v b (λ q. no (l == v) e (eq-eqb l v q))))
 
 last_in : (l : ℕ) (p : List ℕ) → last_is l p ≡ true → IsIn l p
 last_in l [] e = absurd (cc e)

@@ -1,6 +1,6 @@
 //! The distances of the parties from the leader, by rounds over the arcs.
 
-ghost use Rattle.std.specs.Prelude.{◌≡◌, ◌≤◌, ◌<◌, ◌∷◌, [], ℕ, length, map, slice_index, IfOk};
+ghost use Rattle.std.specs.Prelude.{◌≡◌, ◌≤◌, ◌<◌, ◌+◌, ◌∷◌, [], ℕ, length, map, slice_index, IfOk, if◌then◌else◌};
 ghost use Rattle.swap_digraph.specs.Graph.{HasEnds, IsDist, IsFeedback, IsHeight, IsStronglyConnected};
 ghost use Rattle.time_bounds.specs.Times.{need};
 ghost use Rattle.leader_check.specs.Followers.{parties};
@@ -11,36 +11,28 @@ use std::alloc::Global;
 use swap_base::{Listed, NoMemory, PartyId};
 use swap_digraph::Digraph;
 
-/// The greatest distance in the row of a vertex to which v has an arc.
-fn most_after(graph: &Digraph, row: &[u32], v: PartyId) -> u32
+/// For each party the greatest distance in the row of a vertex to which it has an arc.
+fn most_after_each(alloc: Global, graph: &Digraph, row: &[u32]) -> Result<Vec<u32>, NoMemory>
     requires ends { HasEnds graph.now }
     requires row { length row.now ≡ graph.now.n }
-    requires low { (v : ℕ) → slice_index row.now v ≤ 255 }
-    ensures most { result ≡ most_after graph.now (slice_index row.now) v }
-    ensures low { result ≤ 255 }
+    ensures parties { IfOk result (λ l. length l.items ≡ graph.now.n) }
+    ensures most { IfOk result (λ l. (v : ℕ) → v < graph.now.n
+        → slice_index l.items v ≡ most_after graph.now (slice_index row.now) v) }
 {
-    let mut most = 0;
+    let mut most = vec![in alloc; 0; graph.n() as usize]?;
     for arc in graph.arcs() {
-        if arc.from == v {
-            most = most.max(row[arc.to as usize]);
-        }
+        let from = arc.from as usize;
+        most[from] = most[from].max(row[arc.to as usize]);
     }
-    most
+    Ok(most)
 }
 
-/// The distance of v, by those in the row of the vertices after it.
-fn dist_before(graph: &Digraph, leader: PartyId, row: &[u32], v: PartyId) -> u32
-    requires ends { HasEnds graph.now }
-    requires row { length row.now ≡ graph.now.n }
-    requires low { (v : ℕ) → slice_index row.now v ≤ 255 }
-    requires v { v < graph.now.n }
-    ensures { result ≡ dist_before graph.now leader (slice_index row.now) v }
+/// The distance of a party, by the greatest of the vertices after it.
+fn dist_over(leads: bool, most: u32) -> u32
+    requires { most ≤ 255 }
+    ensures { result ≡ (if leads then 0 else most + 1) }
 {
-    if leader == v {
-        0
-    } else {
-        most_after(graph, row, v) + 1
-    }
+    if leads { 0 } else { most + 1 }
 }
 
 /// The distances of a further round.
@@ -55,9 +47,10 @@ fn next_dists(
     requires low { (v : ℕ) → slice_index row.now v ≤ 255 }
     ensures { IfOk result (λ l. l.items ≡ map (dist_before graph.now leader (slice_index row.now)) (parties graph.now)) }
 {
+    let most = most_after_each(alloc, graph, row)?;
     let mut next = Vec::new(alloc);
     for v in 0..graph.n() {
-        next.push(dist_before(graph, leader, row, v))?;
+        next.push(dist_over(leader == v, most[v as usize]))?;
     }
     Ok(next)
 }

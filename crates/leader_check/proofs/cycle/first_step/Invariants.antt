@@ -3,9 +3,9 @@ use Rattle.std.specs.List.{range_with_len}
 use Rattle.swap_base.specs.Lists.{first_of}
 use Rattle.swap_digraph.specs.Graph.{has_arc}
 use Rattle.leader_check.specs.Followers.{parties}
-use Rattle.leader_check.specs.Cycles.{at, only_if}
+use Rattle.leader_check.specs.Cycles.{has_bit, only_if}
 use Rattle.leader_check.proofs.cycle.first_step.Given as goal
 
 abbrev pub invariant-loop-w : goal.invariant-loop-w
 invariant-loop-w l =
-    first_of (λ w. only_if (has_arc l.graph l.u w && at l.row w) w) (range_with_len l.w (l.graph.n - l.w)) ≡ first_of (λ w. only_if (has_arc l.graph l.u w && at l.row w) w) (parties l.graph)
+    first_of (λ w. only_if (has_arc l.graph l.u w && has_bit l.row l.v w) w) (range_with_len l.w (l.graph.n - l.w)) ≡ first_of (λ w. only_if (has_arc l.graph l.u w && has_bit l.row l.v w) w) (parties l.graph)

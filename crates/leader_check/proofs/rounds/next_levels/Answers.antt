@@ -1,9 +1,20 @@
-use Rattle.std.proofs.Common.{◌∙◌, ap, ℕ, ◌++◌, ◌∷◌, [], slice_index}
+use Rattle.std.proofs.Common.{◌∙◌, ap, ℕ, cond, ◌+◌, ◌++◌, ◌∷◌, [], slice_index, arith}
+use Rattle.std.proofs.lemmas.Grind.{get_or_default_zero}
 use Rattle.swap_digraph.proofs.Ranges.{map_more}
-use Rattle.leader_check.specs.Levels.{level_after}
+use Rattle.leader_check.specs.Followers.{at}
+use Rattle.leader_check.specs.Levels.{most_before}
+use Rattle.leader_check.proofs.Heights.{before-below}
 use Rattle.leader_check.proofs.rounds.next_levels.Goals as goal
+
+pub level_over-requires : goal.level_over-requires
+level_over-requires c =
+    let s = c.in_ok-most.ensures.parties in
+    let e = c.index.ensures ∙ get_or_default_zero c.in_ok-most.most.items c.loop-v.v c.index.result.now (omega (arith, s)) ∙ c.in_ok-most.ensures.most c.loop-v.v (omega arith) in
+    rw e (before-below c.args.graph.now (slice_index c.args.row.now) c.loop-v.v 32 c.requires.low)
 
 pub loop-v-preserved : goal.loop-v-preserved
 loop-v-preserved c =
-    map_more (level_after c.args.graph.now c.args.leaders.now (slice_index c.args.row.now)) c.loop-v.v c.loop-v.next.items c.push.new.self.items
-    (c.in_ok-push.ensures.items ∙ ap (λ (x : ℕ). c.loop-v.next.items ++ x ∷ []) c.level_after.ensures) c.loop-v.invariant
+    let s = c.in_ok-most.ensures.parties in
+    let e = c.index.ensures ∙ get_or_default_zero c.in_ok-most.most.items c.loop-v.v c.index.result.now (omega (arith, s)) ∙ c.in_ok-most.ensures.most c.loop-v.v (omega arith) in
+    map_more (λ v. cond (at c.args.follows.now v) (most_before c.args.graph.now (slice_index c.args.row.now) v + 1) 0) c.loop-v.v c.loop-v.next.items c.push.new.self.items
+    (c.in_ok-push.ensures.items ∙ ap (λ (x : ℕ). c.loop-v.next.items ++ x ∷ []) (c.level_over.ensures ∙ ap (λ (m : ℕ). cond (at c.args.follows.now c.loop-v.v) (m + 1) 0) e)) c.loop-v.invariant
