@@ -1,5 +1,5 @@
 -- An event that is answered fits its deal.
-use Rattle.std.proofs.Common.{◌≡◌, ℕ, ◌<◌, ◌≤◌, ◌&&◌, ◌||◌, ◌==◌, Bool, true, length, List, Ok, Option, Some, None, refl, subst, arith, eq-eqb}
+use Rattle.std.proofs.Common.{◌≡◌, ℕ, ◌<◌, ◌≤◌, ◌&&◌, ◌||◌, ◌==◌, Bool, true, false, length, slice_index_or, List, Ok, Option, Some, None, refl, subst, arith, eq-eqb}
 use Rattle.std.specs.Prelude.{unwrap_or, IsTrue, codes}
 use Rattle.std.proofs.lemmas.Bool.{le-leb}
 use Rattle.std.proofs.lemmas.Bool.Decides.{nat_tests}
@@ -12,7 +12,7 @@ use Rattle.deviator_script.specs.declared.job.Job.{Job}
 use Rattle.deviator_script.specs.declared.moves.Move.{Move}
 use Rattle.deviator_script.specs.declared.moves.Move.TheVariants.{Publish, Raw, Claim, Refund, Transfer}
 use Rattle.deviator_script.specs.declared.event.Event.{Event}
-use Rattle.deviator_script.specs.declared.event.Event.TheVariants.{Tick, Call}
+use Rattle.deviator_script.specs.declared.event.Event.TheVariants.{Tick, Look, Act, Call}
 use Rattle.deviator_script.specs.Resolved.{arc_of as stands_on, is_built, fits_if, call_of as call_of_move, IsFitting}
 use Rattle.deviator_script.specs.Step.{CanStep}
 use Rattle.offer_fields.specs.declared.reason.Reason.TheVariants.{NotAdjacent}
@@ -27,7 +27,7 @@ use Rattle.offer_events.specs.Lists.{each_of}
 use Rattle.offer_events.specs.Names.{number_of}
 use Rattle.offer_events.specs.Limits.{below, ranged, optional_most, locks_of, optional_locks, sig_of}
 use Rattle.offer_events.specs.Moves.{arc_of, publish_of, key_of, unlock_of, claim_of, refund_of, transfer_of, move_of}
-use Rattle.offer_events.specs.Event.{tick_of, deviating, adjacent, received, placed, call_of, checked}
+use Rattle.offer_events.specs.Event.{tick_of, look_of, act_of, deviating, adjacent, received, placed, call_of, checked}
 use Rattle.offer_events.proofs.Parts.{parts, passed, within_fits, below_fits, ranged_fits, number_below, each_length, each_below}
 
 -- what a move keeps to before it is known where it stands
@@ -36,7 +36,7 @@ record IsMade (d : Deal) (line : ℕ) (mv : Move) : Type 0 where
   arc : stands_on mv < length d.graph.arcs
   fits : (u : Unit {0}) → received d line mv ≡ Ok u → IsTrue (fits_if d (stands_on mv) (call_of_move d mv))
 
-arc_fits : (d : Deal) (line : ℕ) (field : List ℕ) (n a : ℕ) → arc_of d line field n ≡ Ok a → a < length d.graph.arcs
+pub arc_fits : (d : Deal) (line : ℕ) (field : List ℕ) (n a : ℕ) → arc_of d line field n ≡ Ok a → a < length d.graph.arcs
 unfolding arc_of
 arc_fits d line field n a e = below_fits line field (length d.graph.arcs) n a e
 
@@ -191,7 +191,12 @@ placed_fits d line p mv u made e =
       fits = made.fits u q.rest;
     }
 
-call_fits : (job : Job) (line : ℕ) (name : List ℕ) (raw : RawMove) (event : Event) → IsWellSized job.deal → length job.names ≡ job.deal.graph.n → call_of job line name raw ≡ Ok event → CanStep job.deal event
+deviates_of : (line : ℕ) (b : Bool) (u : Unit {0}) → deviating line b ≡ Ok u → b ≡ false
+unfolding deviating
+deviates_of line false u e = refl
+deviates_of line true u e = absurd (cc e)
+
+call_fits : (job : Job) (line : ℕ) (name : List ℕ) (raw : RawMove) (event : Event) → IsWellSized job.deal → length job.names ≡ job.deal.graph.n → call_of job line name raw ≡ Ok event → CanStep job.deal job.conforming event
 unfolding call_of
 call_fits job line name raw event w same e =
     let p = parts (number_of line job.names name) _ event e in
@@ -201,17 +206,38 @@ call_fits job line name raw event w same e =
     let s : Call p.part q.part ≡ event = cc (b.rest) in
     let known : p.part < length job.names = number_below line job.names name p.part p.first in
     let made = move_made job.deal job.names line raw q.part w same q.first in
-    subst (λ x. CanStep job.deal x) s (record { known = omega (arith, known, same); fits = placed_fits job.deal line p.part q.part b.part made b.first })
+    let k = deviates_of line (slice_index_or job.conforming p.part false) r.part r.first in
+    subst (λ x. CanStep job.deal job.conforming x) s (record { known = omega (arith, known, same); deviates = k; fits = placed_fits job.deal line p.part q.part b.part made b.first })
 
-tick_fits : (d : Deal) (line n : ℕ) (by : Option ℕ) (event : Event) → tick_of d line n by ≡ Ok event → CanStep d event
+look_fits : (job : Job) (line : ℕ) (name : List ℕ) (n : ℕ) (event : Event) → IsWellSized job.deal → length job.names ≡ job.deal.graph.n → look_of job line name n ≡ Ok event → CanStep job.deal job.conforming event
+unfolding look_of
+look_fits job line name n event w same e =
+    let p = parts (number_of line job.names name) _ event e in
+    let q = parts (arc_of job.deal line (codes "arc") n) _ event p.rest in
+    let r = parts (adjacent job.deal line p.part q.part) _ event q.rest in
+    let s : Look p.part q.part ≡ event = cc (r.rest) in
+    let known : p.part < length job.names = number_below line job.names name p.part p.first in
+    subst (λ x. CanStep job.deal job.conforming x) s (record { known = omega (arith, known, same); arc = arc_fits job.deal line (codes "arc") n q.part q.first; adjacent = adjacent_fits job.deal line p.part q.part r.part r.first })
+
+act_fits : (job : Job) (line : ℕ) (name : List ℕ) (event : Event) → length job.names ≡ job.deal.graph.n → act_of job line name ≡ Ok event → CanStep job.deal job.conforming event
+unfolding act_of
+act_fits job line name event same e =
+    let p = parts (number_of line job.names name) _ event e in
+    let s : Act p.part ≡ event = cc (p.rest) in
+    let known : p.part < length job.names = number_below line job.names name p.part p.first in
+    subst (λ x. CanStep job.deal job.conforming x) s (omega (arith, known, same))
+
+tick_fits : (d : Deal) (c : List Bool) (line n : ℕ) (by : Option ℕ) (event : Event) → tick_of d line n by ≡ Ok event → CanStep d c event
 unfolding tick_of
-tick_fits d line n by event e =
+tick_fits d c line n by event e =
     let p = parts (arc_of d line (codes "tick") n) _ event e in
     let q = parts (ranged line (codes "by") 1 1000000 (unwrap_or by 1)) _ event p.rest in
     let s : Tick p.part q.part ≡ event = cc (q.rest) in
     let k = ranged_fits line (codes "by") 1 1000000 (unwrap_or by 1) q.part q.first in
-    subst (λ x. CanStep d x) s (record { arc = arc_fits d line (codes "tick") n p.part p.first; some = k.0; few = k.1 })
+    subst (λ x. CanStep d c x) s (record { arc = arc_fits d line (codes "tick") n p.part p.first; some = k.0; few = k.1 })
 
-pub checked_fits : (job : Job) (line : ℕ) (raw : RawEvent) (event : Event) → IsWellSized job.deal → length job.names ≡ job.deal.graph.n → checked job line raw ≡ Ok event → CanStep job.deal event
-checked_fits job line (raw_events.Tick n by) event w same e = tick_fits job.deal line n by event e
+pub checked_fits : (job : Job) (line : ℕ) (raw : RawEvent) (event : Event) → IsWellSized job.deal → length job.names ≡ job.deal.graph.n → checked job line raw ≡ Ok event → CanStep job.deal job.conforming event
+checked_fits job line (raw_events.Tick n by) event w same e = tick_fits job.deal job.conforming line n by event e
+checked_fits job line (raw_events.Look name n) event w same e = look_fits job line name n event w same e
+checked_fits job line (raw_events.Act name) event w same e = act_fits job line name event same e
 checked_fits job line (raw_events.Call name raw) event w same e = call_fits job line name raw event w same e

@@ -9,7 +9,7 @@ use Rattle.deviator_script.specs.declared.job.Purpose.TheVariants.{Race}
 use Rattle.deviator_script.specs.declared.moves.Move.{Move}
 use Rattle.deviator_script.specs.declared.moves.Move.TheVariants.{Transfer}
 use Rattle.deviator_script.specs.declared.event.Event.{Event}
-use Rattle.deviator_script.specs.declared.event.Event.TheVariants.{Tick, Call}
+use Rattle.deviator_script.specs.declared.event.Event.TheVariants.{Tick, Look, Act, Call}
 use Rattle.deviator_script.specs.Resolved.{arc_of as stands_on}
 use Rattle.offer_fields.specs.declared.reason.Reason.{Reason}
 use Rattle.offer_fields.specs.declared.reason.Reason.TheVariants.{NotAdjacent, ConformingCall, EventInRace}
@@ -37,6 +37,20 @@ deviating line is_conforming = if is_conforming then Err (ConformingCall line) e
 unfoldable pub adjacent : Deal → ℕ → ℕ → ℕ → Result (Unit {0}) Reason
 adjacent d line p a = if (p == party d a) || (p == counterparty d a) then Ok tt else Err (NotAdjacent line)
 
+-- a party looks at a ledger of its own arcs
+unfoldable pub look_of : Job → ℕ → List ℕ → ℕ → Result Event Reason
+look_of job line name n = do
+  p ← number_of line job.names name
+  arc ← arc_of job.deal line (codes "arc") n
+  u ← adjacent job.deal line p arc
+  Ok (Look p arc)
+
+-- a party acts as its role says
+unfoldable pub act_of : Job → ℕ → List ℕ → Result Event Reason
+act_of job line name = do
+  p ← number_of line job.names name
+  Ok (Act p)
+
 -- who gets units is one of the arc's two parties
 abbrev pub received : Deal → ℕ → Move → Result (Unit {0}) Reason
 received d line (Transfer a to units) = adjacent d line to a
@@ -57,6 +71,8 @@ call_of job line name raw = do
 
 abbrev pub checked : Job → ℕ → RawEvent → Result Event Reason
 checked job line (raws.Tick n by) = tick_of job.deal line n by
+checked job line (raws.Look name n) = look_of job line name n
+checked job line (raws.Act name) = act_of job line name
 checked job line (raws.Call name raw) = call_of job line name raw
 
 -- a race has no events of its own

@@ -14,7 +14,7 @@ use Rattle.offer_events.specs.declared.raw.MoveKind.TheVariants as kinds
 use Rattle.offer_events.specs.declared.raw.RawMove.{RawMove}
 use Rattle.offer_events.specs.declared.raw.RawMove.TheVariants.{Publish, Raw, Claim, Refund, Transfer}
 use Rattle.offer_events.specs.declared.raw.RawEvent.{RawEvent}
-use Rattle.offer_events.specs.declared.raw.RawEvent.TheVariants.{Tick, Call}
+use Rattle.offer_events.specs.declared.raw.RawEvent.TheVariants.{Tick, Look, Act, Call}
 
 -- the texts of a list
 unfoldable pub texts_of : ℕ → List ℕ → Option Items → Result (List (List ℕ)) Reason
@@ -135,6 +135,19 @@ tick_at line d = do
   u ← only line (codes "by" ∷ codes "tick" ∷ []) d
   Ok (Tick arc by)
 
+unfoldable pub look_at : ℕ → Data → Result RawEvent Reason
+look_at line d = do
+  name ← text_at line (codes "look") d
+  arc ← number_at line (codes "arc") d
+  u ← only line (codes "arc" ∷ codes "look" ∷ []) d
+  Ok (Look name arc)
+
+unfoldable pub act_at : ℕ → Data → Result RawEvent Reason
+act_at line d = do
+  name ← text_at line (codes "act") d
+  u ← only line (codes "act" ∷ []) d
+  Ok (Act name)
+
 unfoldable pub call_at : ℕ → Data → Result RawEvent Reason
 call_at line d = do
   name ← text_at line (codes "call") d
@@ -148,7 +161,7 @@ call_at line d = do
 unfoldable pub event_at : ℕ → Data → Result RawEvent Reason
 event_at line d =
     if is_some (get (codes "tick") d) then tick_at line d
-    else if is_some (get (codes "look") d) then Err (NotBuilt line (codes "look"))
-    else if is_some (get (codes "act") d) then Err (NotBuilt line (codes "act"))
+    else if is_some (get (codes "look") d) then look_at line d
+    else if is_some (get (codes "act") d) then act_at line d
     else if is_some (get (codes "call") d) then call_at line d
     else Err (Missing line (codes "tick"))

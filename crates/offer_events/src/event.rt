@@ -5,7 +5,7 @@ ghost use Rattle.swap_base.specs.Fault.{Gives};
 ghost use Rattle.swap_digraph.specs.Deal.{IsWellSized, party, counterparty};
 ghost use Rattle.deviator_script.specs.Resolved.{arc_of as stands_on};
 ghost use Rattle.deviator_script.specs.Step.{CanStep};
-ghost use Rattle.offer_events.specs.Event.{tick_of, deviating, adjacent, received, placed, call_of, checked, outside_race, event_of};
+ghost use Rattle.offer_events.specs.Event.{tick_of, deviating, adjacent, look_of, act_of, received, placed, call_of, checked, outside_race, event_of};
 
 use crate::limits::ranged;
 use crate::moves::{arc_of, move_of};
@@ -57,6 +57,34 @@ fn adjacent(deal: &Deal, line: u32, p: PartyId, arc: ArcId) -> Result<(), OfferF
     Err(Fault::Refused(Reason::NotAdjacent(line)))
 }
 
+#[tactic(auto, unfolding(crate::specs::Event::look_of))]
+fn look_of(
+    alloc: Global,
+    job: &Job,
+    line: u32,
+    name: &ByteText,
+    number: u64,
+) -> Result<Event, OfferFault>
+    requires sized { IsWellSized job.now.deal }
+    requires names { length job.now.names ≡ job.now.deal.graph.n }
+    ensures { Gives (λ e. e) result (look_of job.now line name.now number) }
+{
+    let p = number_of(alloc, line, job.names.as_slice(), name.as_slice())?;
+    let arc = arc_of(alloc, &job.deal, line, "arc", number)?;
+    adjacent(&job.deal, line, p, arc)?;
+    Ok(Event::Look(p, arc))
+}
+
+#[tactic(auto, unfolding(crate::specs::Event::act_of))]
+fn act_of(alloc: Global, job: &Job, line: u32, name: &ByteText) -> Result<Event, OfferFault>
+    requires sized { IsWellSized job.now.deal }
+    requires names { length job.now.names ≡ job.now.deal.graph.n }
+    ensures { Gives (λ e. e) result (act_of job.now line name.now) }
+{
+    let p = number_of(alloc, line, job.names.as_slice(), name.as_slice())?;
+    Ok(Event::Act(p))
+}
+
 fn received(deal: &Deal, line: u32, mv: &Move) -> Result<(), OfferFault>
     requires arc { stands_on mv.now < length deal.now.graph.arcs }
     ensures { Gives (λ u. u) result (received deal.now line mv.now) }
@@ -105,6 +133,8 @@ fn checked(alloc: Global, job: &Job, line: u32, raw: &RawEvent) -> Result<Event,
 {
     match raw {
         RawEvent::Tick { arc, by } => tick_of(alloc, &job.deal, line, *arc, *by),
+        RawEvent::Look { name, arc } => look_of(alloc, job, line, name, *arc),
+        RawEvent::Act { name } => act_of(alloc, job, line, name),
         RawEvent::Call { name, mv } => call_of(alloc, job, line, name, mv),
     }
 }
@@ -125,7 +155,7 @@ pub fn read_event(alloc: Global, job: &Job, line: u32, text: &[u8]) -> Result<Ev
     requires names { length job.now.names ≡ job.now.deal.graph.n }
     requires conforming { length job.now.conforming ≡ job.now.deal.graph.n }
     ensures exact { Gives (λ e. e) result (event_of job.now line text.now) }
-    ensures fits { IfOk result (λ e. CanStep job.now.deal e) }
+    ensures fits { IfOk result (λ e. CanStep job.now.deal job.now.conforming e) }
 {
     let object = object_in(alloc, line, text)?;
     let raw = event_in(alloc, line, &object)?;

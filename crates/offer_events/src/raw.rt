@@ -46,5 +46,7 @@ pub enum RawMove {
 #[derive(Debug, Drop)]
 pub enum RawEvent {
     Tick { arc: u64, by: Option<u64> },
+    Look { name: ByteText, arc: u64 },
+    Act { name: ByteText },
     Call { name: ByteText, mv: RawMove },
 }

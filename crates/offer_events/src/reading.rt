@@ -5,7 +5,7 @@ ghost use Rattle.serde_json.specs.View.{view};
 ghost use Rattle.serde_json.specs.Find.{as_array};
 ghost use Rattle.swap_base.specs.Fault.{Gives};
 ghost use Rattle.offer_fields.specs.Fields.{only};
-ghost use Rattle.offer_events.specs.Reading.{texts_of, optional_texts_at, texts_at, kind_of, kind_at, terms_at, publish_fields, publish_at, key_at, raw_fields, raw_at, claim_at, refund_at, transfer_at, rest_at, move_at, tick_at, call_at, event_at};
+ghost use Rattle.offer_events.specs.Reading.{texts_of, optional_texts_at, texts_at, kind_of, kind_at, terms_at, publish_fields, publish_at, key_at, raw_fields, raw_at, claim_at, refund_at, transfer_at, rest_at, move_at, tick_at, look_at, act_at, call_at, event_at};
 
 use crate::raw::{MoveKind, RawEvent, RawKey, RawMove, RawTerms};
 use offer_fields::{
@@ -220,6 +220,27 @@ fn tick_in(alloc: Global, line: u32, object: &Value) -> Result<RawEvent, OfferFa
     Ok(RawEvent::Tick { arc, by })
 }
 
+#[tactic(auto, unfolding(crate::specs::Reading::look_at))]
+fn look_in(alloc: Global, line: u32, object: &Value) -> Result<RawEvent, OfferFault>
+    ensures { Gives (λ e. e) result (look_at line (view object.now)) }
+{
+    let name = text_in(alloc, line, "look", object)?;
+    let arc = number_in(alloc, line, "arc", object)?;
+    only_in(alloc, line, &["arc", "look"], object)?;
+    let name = ByteText::from_slice(alloc, name.as_bytes())?;
+    Ok(RawEvent::Look { name, arc })
+}
+
+#[tactic(auto, unfolding(crate::specs::Reading::act_at))]
+fn act_in(alloc: Global, line: u32, object: &Value) -> Result<RawEvent, OfferFault>
+    ensures { Gives (λ e. e) result (act_at line (view object.now)) }
+{
+    let name = text_in(alloc, line, "act", object)?;
+    only_in(alloc, line, &["act"], object)?;
+    let name = ByteText::from_slice(alloc, name.as_bytes())?;
+    Ok(RawEvent::Act { name })
+}
+
 #[tactic(auto, unfolding(crate::specs::Reading::call_at))]
 fn call_in(alloc: Global, line: u32, object: &Value) -> Result<RawEvent, OfferFault>
     ensures { Gives (λ e. e) result (call_at line (view object.now)) }
@@ -242,10 +263,10 @@ pub fn event_in(alloc: Global, line: u32, object: &Value) -> Result<RawEvent, Of
         return tick_in(alloc, line, object);
     }
     if object.get("look").is_some() {
-        return Err(not_built(alloc, line, b"look"));
+        return look_in(alloc, line, object);
     }
     if object.get("act").is_some() {
-        return Err(not_built(alloc, line, b"act"));
+        return act_in(alloc, line, object);
     }
     if object.get("call").is_some() {
         return call_in(alloc, line, object);

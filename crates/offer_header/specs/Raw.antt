@@ -24,53 +24,40 @@ use Rattle.offer_header.specs.declared.raw.RawHeader.{RawHeader}
 
 -- ---- parties
 
--- conforming parties are built for checks alone
-abbrev pub conforming_for : ℕ → Purpose → Result RawActor Reason
-conforming_for line Check = Ok Conforming
-conforming_for line _ = Err (NotBuilt line (codes "actor"))
-
 -- scripts and strategies aren't built, and have no place in a transcript
 abbrev pub object_actor : ℕ → Purpose → Result RawActor Reason
 object_actor line Audit = Err (WrongKind line (codes "actor"))
 object_actor line _ = Err (NotBuilt line (codes "actor"))
 
-abbrev pub actor_of_word : ℕ → Purpose → List ℕ → Result RawActor Reason
-actor_of_word line purpose word =
-    if bytes_eq word (codes "conforming") then conforming_for line purpose
+abbrev pub actor_of_word : ℕ → List ℕ → Result RawActor Reason
+actor_of_word line word =
+    if bytes_eq word (codes "conforming") then Ok Conforming
     else if bytes_eq word (codes "manual") then Ok Manual
     else Err (WrongKind line (codes "actor"))
 
 abbrev pub actor_of : ℕ → Purpose → Data → Result RawActor Reason
 actor_of line purpose d =
     if is_some (as_object d) then object_actor line purpose
-    else member_text_of line (codes "actor") d >>= λ word. actor_of_word line purpose word
+    else member_text_of line (codes "actor") d >>= λ word. actor_of_word line word
 
 -- an actor that is absent conforms
 abbrev pub actor_or_conforming : ℕ → Purpose → Option Data → Result RawActor Reason
-actor_or_conforming line purpose None = conforming_for line purpose
+actor_or_conforming line purpose None = Ok Conforming
 actor_or_conforming line purpose (Some d) = actor_of line purpose d
 
 unfoldable pub actor_at : ℕ → Purpose → Data → Result RawActor Reason
 actor_at line purpose d = actor_or_conforming line purpose (get (codes "actor") d)
 
--- only a manual party with hashkeys has a seed
-abbrev pub kept_seed : ℕ → Mode → RawActor → Data → Result (Option (List ℕ)) Reason
-kept_seed line Hashkeys Manual d = member_text_of line (codes "seed") d >>= λ s. Ok (Some s)
-kept_seed line _ _ d = Err (NotBuilt line (codes "seed"))
-
-abbrev pub seed_or_none : ℕ → Mode → RawActor → Option Data → Result (Option (List ℕ)) Reason
-seed_or_none line mode actor None = Ok None
-seed_or_none line mode actor (Some d) = kept_seed line mode actor d
-
-unfoldable pub seed_at : ℕ → Mode → RawActor → Data → Result (Option (List ℕ)) Reason
-seed_at line mode actor d = seed_or_none line mode actor (get (codes "seed") d)
+-- the text of a seed, where there is one
+unfoldable pub seed_at : ℕ → Data → Result (Option (List ℕ)) Reason
+seed_at line d = optional_text_at line (codes "seed") d
 
 unfoldable pub party_of : Reading → ℕ → Data → Result RawParty Reason
 party_of reading line d = do
   o ← object_at line (codes "parties") d
   name ← text_at line (codes "name") d
   actor ← actor_at line reading.purpose d
-  seed ← seed_at line reading.mode actor d
+  seed ← seed_at line d
   u ← only line (codes "actor" ∷ codes "name" ∷ codes "seed" ∷ []) d
   Ok (record { name = name; actor = actor; seed = seed })
 

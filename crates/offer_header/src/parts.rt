@@ -4,27 +4,18 @@ ghost use Rattle.std.specs.Prelude.{◌≡◌};
 ghost use Rattle.serde_json.specs.View.{view};
 ghost use Rattle.swap_base.specs.Fault.{Gives};
 ghost use Rattle.offer_fields.specs.Fields.{only};
-ghost use Rattle.offer_header.specs.Raw.{conforming_for, object_actor, actor_of_word, actor_at, kept_seed, seed_at, party_of, timelock_at, arc_fields, arc_of, leader_of, row_of};
+ghost use Rattle.offer_header.specs.Raw.{object_actor, actor_of_word, actor_at, seed_at, party_of, timelock_at, arc_fields, arc_of, leader_of, row_of};
 
 use crate::raw::{RawActor, RawArc, RawLeader, RawParty, RawRow, Reading};
 use deviator_script::Purpose;
 use offer_fields::{
-    Member, OfferFault, is_object, member_text, not_built, number_in, only_in, text_in, texts_in,
-    wrong_kind,
+    Member, OfferFault, is_object, member_text, not_built, number_in, only_in, optional_text_in,
+    text_in, texts_in, wrong_kind,
 };
 use serde_json::Value;
 use std::alloc::Global;
 use swap_base::ByteText;
 use swap_digraph::Mode;
-
-fn conforming_for(alloc: Global, line: u32, purpose: Purpose) -> Result<RawActor, OfferFault>
-    ensures { Gives (λ a. a) result (conforming_for line purpose) }
-{
-    match purpose {
-        Purpose::Check => Ok(RawActor::Conforming),
-        _ => Err(not_built(alloc, line, b"actor")),
-    }
-}
 
 fn object_actor(alloc: Global, line: u32, purpose: Purpose) -> Result<RawActor, OfferFault>
     ensures { Gives (λ a. a) result (object_actor line purpose) }
@@ -35,16 +26,11 @@ fn object_actor(alloc: Global, line: u32, purpose: Purpose) -> Result<RawActor, 
     }
 }
 
-fn actor_of_word(
-    alloc: Global,
-    line: u32,
-    purpose: Purpose,
-    word: &str,
-) -> Result<RawActor, OfferFault>
-    ensures { Gives (λ a. a) result (actor_of_word line purpose word.now) }
+fn actor_of_word(alloc: Global, line: u32, word: &str) -> Result<RawActor, OfferFault>
+    ensures { Gives (λ a. a) result (actor_of_word line word.now) }
 {
     match word {
-        "conforming" => conforming_for(alloc, line, purpose),
+        "conforming" => Ok(RawActor::Conforming),
         "manual" => Ok(RawActor::Manual),
         _ => Err(wrong_kind(alloc, line, b"actor")),
     }
@@ -60,46 +46,22 @@ fn actor_in(
     ensures { Gives (λ a. a) result (actor_at line purpose (view object.now)) }
 {
     let Some(value) = object.get("actor") else {
-        return conforming_for(alloc, line, purpose);
+        return Ok(RawActor::Conforming);
     };
     if value.is_object() {
         return object_actor(alloc, line, purpose);
     }
     let word = member_text(alloc, line, "actor", value)?;
-    actor_of_word(alloc, line, purpose, word)
-}
-
-fn kept_seed(
-    alloc: Global,
-    line: u32,
-    mode: Mode,
-    actor: RawActor,
-    value: &Value,
-) -> Result<Option<ByteText>, OfferFault>
-    ensures { Gives (λ s. s) result (kept_seed line mode actor (view value.now)) }
-{
-    match (mode, actor) {
-        (Mode::Hashkeys, RawActor::Manual) => {
-            let seed = member_text(alloc, line, "seed", value)?;
-            Ok(Some(ByteText::from_slice(alloc, seed.as_bytes())?))
-        }
-        _ => Err(not_built(alloc, line, b"seed")),
-    }
+    actor_of_word(alloc, line, word)
 }
 
 #[tactic(auto, unfolding(crate::specs::Raw::seed_at))]
-fn seed_in(
-    alloc: Global,
-    line: u32,
-    mode: Mode,
-    actor: RawActor,
-    object: &Value,
-) -> Result<Option<ByteText>, OfferFault>
-    ensures { Gives (λ s. s) result (seed_at line mode actor (view object.now)) }
+fn seed_in(alloc: Global, line: u32, object: &Value) -> Result<Option<ByteText>, OfferFault>
+    ensures { Gives (λ s. s) result (seed_at line (view object.now)) }
 {
-    match object.get("seed") {
+    match optional_text_in(alloc, line, "seed", object)? {
         None => Ok(None),
-        Some(value) => kept_seed(alloc, line, mode, actor, value),
+        Some(seed) => Ok(Some(ByteText::from_slice(alloc, seed.as_bytes())?)),
     }
 }
 
@@ -116,7 +78,7 @@ impl Member<Reading> for RawParty {
         is_object(alloc, line, "parties", value)?;
         let name = text_in(alloc, line, "name", value)?;
         let actor = actor_in(alloc, line, reading.purpose, value)?;
-        let seed = seed_in(alloc, line, reading.mode, actor, value)?;
+        let seed = seed_in(alloc, line, value)?;
         only_in(alloc, line, &["actor", "name", "seed"], value)?;
         Ok(RawParty {
             name: ByteText::from_slice(alloc, name.as_bytes())?,

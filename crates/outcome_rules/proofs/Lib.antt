@@ -8,3 +8,4 @@ pub mod Base
 pub mod Forgery
 pub mod Failing
 pub mod Lateness
+pub mod Promises

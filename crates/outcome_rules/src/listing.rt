@@ -4,9 +4,13 @@ ghost use Rattle.std.specs.Prelude.{◌≡◌, ◌<◌, ◌++◌, ◌∷◌, [],
 ghost use Rattle.std.specs.List.{flat_map};
 ghost use Rattle.swap_digraph.specs.Deal.{locks, IsWellSized};
 ghost use Rattle.ledger_core.specs.Book.{history, IsLegalBook};
+ghost use Rattle.swap_rules.specs.Accepted.{IsAccepted};
 ghost use Rattle.swap_rules.specs.Conduct.{is_forged, keeps_at};
 ghost use Rattle.swap_rules.specs.Findings.{broken, failing, findings, findings_of, forgeries, late_on, lates, unfinished};
+ghost use Rattle.swap_rules.specs.Outcome.{outcome};
+ghost use Rattle.swap_laws.specs.Laws.{FindsNothing, IsTransferred};
 ghost use Rattle.outcome_rules.specs.Parts.{lates_by, shown, unfinished_at, unlocks_of, AreCountable};
+ghost use Rattle.outcome_rules.specs.Promises.{AllAreConforming, AllHaveRefunds, NoneIsUnderwater};
 ghost use Rattle.outcome_rules.specs.Report.{conforms_in};
 
 use crate::conduct::keeps_at;
@@ -305,7 +309,11 @@ pub fn findings(
     requires sized { IsWellSized deal.now }
     requires conforming { length conforming.now ≡ deal.now.graph.n }
     requires legal { IsLegalBook deal.now book.now.histories }
-    ensures { IfOk result (λ l. l ≡ findings deal.now (conforms_in conforming.now) book.now.histories) }
+    ensures exact { IfOk result (λ l. l ≡ findings deal.now (conforms_in conforming.now) book.now.histories) }
+    ensures safe { IfOk result (λ l. IsAccepted deal.now → NoneIsUnderwater deal.now conforming.now (outcome deal.now book.now.histories) l) }
+    ensures refunds { IfOk result (λ l. IsAccepted deal.now → AllHaveRefunds deal.now conforming.now book.now.histories l) }
+    ensures transfer { IfOk result (λ l. (k : IsAccepted deal.now) → AllAreConforming deal.now conforming.now → l ≡ [] → IsTransferred deal.now book.now.histories k) }
+    ensures nothing_found { IfOk result (λ l. l ≡ [] → FindsNothing deal.now (conforms_in conforming.now) book.now.histories) }
 {
     let mut list = Vec::new(alloc);
     for party in 0..deal.graph.n() {

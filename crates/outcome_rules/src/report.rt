@@ -1,9 +1,12 @@
 //! A report of a book.
 
-ghost use Rattle.std.specs.Prelude.{◌≡◌, ◌≤◌, ◌<◌, ◌++◌, ℕ, false, IfOk, OnOk, length};
+ghost use Rattle.std.specs.Prelude.{◌≡◌, ◌≤◌, ◌<◌, ◌++◌, ℕ, false, [], IfOk, OnOk, length};
 ghost use Rattle.swap_digraph.specs.Deal.{IsWellSized};
 ghost use Rattle.ledger_core.specs.Book.{IsLegalBook};
+ghost use Rattle.swap_rules.specs.Accepted.{IsAccepted};
+ghost use Rattle.swap_laws.specs.Laws.{FindsNothing, IsTransferred};
 ghost use Rattle.outcome_rules.specs.Parts.{AreCountable};
+ghost use Rattle.outcome_rules.specs.Promises.{AllAreConforming, AllAreWhole, AllHaveRefunds, NoneIsUnderwater, shown_outcome};
 ghost use Rattle.outcome_rules.specs.Report.{conforms_in, has_ended, outcomes_of, report_of};
 
 use crate::ending::outcome;
@@ -65,7 +68,12 @@ pub fn report_of(
     requires sized { IsWellSized deal.now }
     requires conforming { length conforming.now ≡ deal.now.graph.n }
     requires legal { IsLegalBook deal.now book.now.histories }
-    ensures { IfOk result (λ r. r ≡ report_of deal.now conforming.now book.now.histories) }
+    ensures exact { IfOk result (λ r. r ≡ report_of deal.now conforming.now book.now.histories) }
+    ensures safe { IfOk result (λ r. IsAccepted deal.now → NoneIsUnderwater deal.now conforming.now (shown_outcome r) r.findings) }
+    ensures refunds { IfOk result (λ r. IsAccepted deal.now → AllHaveRefunds deal.now conforming.now book.now.histories r.findings) }
+    ensures transfer { IfOk result (λ r. (k : IsAccepted deal.now) → AllAreConforming deal.now conforming.now → r.findings ≡ [] → IsTransferred deal.now book.now.histories k) }
+    ensures whole { IfOk result (λ r. IsAccepted deal.now → AllAreConforming deal.now conforming.now → r.findings ≡ [] → AllAreWhole deal.now r) }
+    ensures nothing_found { IfOk result (λ r. r.findings ≡ [] → FindsNothing deal.now (conforms_in conforming.now) book.now.histories) }
 {
     Ok(Report {
         ended: has_ended(deal, book),

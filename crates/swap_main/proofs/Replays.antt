@@ -1,10 +1,9 @@
 -- A replay steps a world line by line.
-use Rattle.std.proofs.Common.{◌≡◌, ℕ, ◌+◌, ◌<◌, ◌≤◌, false, List, [], ◌∷◌, length, get_or, drop, map, Result, Ok, Err, refl, sym, ap, ◌∙◌, arith, add-one, drop-cons}
+use Rattle.std.proofs.Common.{◌≡◌, ℕ, ◌+◌, ◌<◌, ◌≤◌, false, List, [], ◌∷◌, length, get_or, drop, map, Result, Ok, Err, Option, Bool, refl, sym, ap, ap₂, ◌∙◌, arith, add-one, drop-cons, fold}
 use Rattle.std.proofs.lemmas.List.{nil_from_length, length-drop}
 use Rattle.swap_base.specs.Fault.{◌>>=◌, Fails}
 use Rattle.swap_base.specs.declared.fault.Fault.{Fault}
 use Rattle.swap_base.specs.declared.fault.Fault.TheVariants.{Refused, NoMemory}
-use Rattle.ledger_core.specs.Book.{Histories}
 use Rattle.deviator_script.specs.declared.job.Job.{Job}
 use Rattle.deviator_script.specs.declared.event.Event.{Event}
 use Rattle.offer_fields.specs.declared.reason.Reason.{Reason}
@@ -13,73 +12,79 @@ use Rattle.offer_fields.specs.declared.reason.Reason.TheVariants.{NotJson}
 use Rattle.offer_header.specs.Header.{header_of}
 use Rattle.swap_offer.specs.Lines.{lines_of, written}
 use Rattle.swap_offer.specs.Job.{events_of, next_of, job_of, job_header_of, of_lines as lines_read}
-use Rattle.swap_world.specs.Run.{run, run_from, step, no_histories}
+use Rattle.swap_digraph.specs.declared.deal.Deal.{Deal}
+use Rattle.swap_run.specs.Run.{Cast, State, run, step, start}
+use Rattle.swap_world.specs.Cast.{cast_of, cast_with}
+use Rattle.swap_offer.specs.Wallets.{HaveWallets}
+use Rattle.swap_world.specs.Staff.{world_of}
+use Rattle.swap_world.proofs.Team.{world_is_new}
+use Rattle.swap_world.specs.Value.{WorldState, cast_at, new_world}
 use Rattle.swap_main.specs.declared.words.Command.{Command}
 use Rattle.swap_main.specs.declared.words.Command.TheVariants.{Check, Run}
-use Rattle.swap_main.specs.Output.{purpose_of, reported, check_text, output_of, output_for, names_in, names_or_none}
-use Rattle.swap_main.specs.Replay.{replayed, next_histories, of_histories, of_header, of_lines}
+use Rattle.swap_main.specs.Output.{purpose_of, reported, told, output_of, output_for, names_in, names_or_none}
+use Rattle.swap_main.specs.Replay.{replayed, next_by, passed_over, IsOf, of_run, of_check, of_header, of_lines}
 
 -- a line as it stands in the text
 abbrev pub line_of : {B : Type 0} → (B → List ℕ) → ℕ × B → ℕ × List ℕ
 line_of text l = (l.0, text l.1)
 
-regroup : (job : Job) (b : Histories) (next : Result Event Reason) (rest : Result (List Event) Reason) →
-    (next >>= λ e. rest >>= λ es. Ok (e ∷ es)) >>= (λ events. Ok (run_from job.deal b events)) ≡ (next >>= λ e. Ok (step job.deal b e)) >>= λ c. rest >>= λ es. Ok (run_from job.deal c es)
-regroup job b (Ok e) (Ok es) = refl
-regroup job b (Ok e) (Err r) = refl
-regroup job b (Err r) rest = refl
+regroup : {A : Type 0} (f : A → Event → A) (x : A) (next : Result Event Reason) (rest : Result (List Event) Reason) →
+    (next >>= λ e. rest >>= λ es. Ok (e ∷ es)) >>= (λ events. Ok (fold f x events)) ≡ (next >>= λ e. Ok (f x e)) >>= λ y. rest >>= λ es. Ok (fold f y es)
+regroup f x (Ok e) (Ok es) = refl
+regroup f x (Ok e) (Err r) = refl
+regroup f x (Err r) rest = refl
 
-step_of : (job : Job) (n : ℕ) (b : Histories) (line : ℕ) (text : List ℕ) (rest : List (ℕ × List ℕ)) → replayed job n b ((line, text) ∷ rest) ≡ next_histories job n b line text >>= λ c. replayed job (n + 1) c rest
-unfolding replayed next_histories events_of
-step_of job n b line text rest = regroup job b (next_of job n line text) (events_of job (n + 1) rest)
+step_of : {A : Type 0} (f : A → Event → A) (job : Job) (n : ℕ) (x : A) (line : ℕ) (text : List ℕ) (rest : List (ℕ × List ℕ)) → replayed f job n x ((line, text) ∷ rest) ≡ next_by f job n x line text >>= λ y. replayed f job (n + 1) y rest
+unfolding replayed next_by events_of
+step_of f job n x line text rest = regroup f x (next_of job n line text) (events_of job (n + 1) rest)
 
-none_left : (job : Job) (n : ℕ) (b : Histories) → replayed job n b [] ≡ Ok b
+none_left : {A : Type 0} (f : A → Event → A) (job : Job) (n : ℕ) (x : A) → replayed f job n x [] ≡ Ok x
 unfolding replayed events_of
-none_left job n b = refl
+none_left f job n x = refl
 
-module _ {B : Type 0} (text : B → List ℕ) (job : Job) (ls : List (ℕ × B)) (total : Result Histories Reason) where
+module _ {A B : Type 0} (f : A → Event → A) (text : B → List ℕ) (job : Job) (ls : List (ℕ × B)) (total : Result A Reason) where
   -- what is left of the replay
-  abbrev pub left : (i : ℕ) → Histories → Result Histories Reason
-  left i b = replayed job i b (map (line_of text) (drop i ls))
+  abbrev pub left : (i : ℕ) → A → Result A Reason
+  left i x = replayed f job i x (map (line_of text) (drop i ls))
 
-  next : (i : ℕ) (b : Histories) (d : ℕ × B) → i < length ls → left i b ≡ next_histories job i b (get_or ls i d).0 (text (get_or ls i d).1) >>= λ c. left (i + 1) c
-  next i b d lt =
+  next : (i : ℕ) (x : A) (d : ℕ × B) → i < length ls → left i x ≡ next_by f job i x (get_or ls i d).0 (text (get_or ls i d).1) >>= λ y. left (i + 1) y
+  next i x d lt =
       let e : drop i ls ≡ get_or ls i d ∷ drop (i + 1) ls = rw (add-one, drop-cons ls i d) refl in
-      ap (λ (xs : List (ℕ × B)). replayed job i b (map (line_of text) xs)) e ∙ step_of job i b (get_or ls i d).0 (text (get_or ls i d).1) (map (line_of text) (drop (i + 1) ls))
+      ap (λ (xs : List (ℕ × B)). replayed f job i x (map (line_of text) xs)) e ∙ step_of f job i x (get_or ls i d).0 (text (get_or ls i d).1) (map (line_of text) (drop (i + 1) ls))
 
-  pub goes_on : (i : ℕ) (b c : Histories) (d : ℕ × B) → i < length ls → next_histories job i b (get_or ls i d).0 (text (get_or ls i d).1) ≡ Ok c → left i b ≡ total → left (i + 1) c ≡ total
-  goes_on i b c d lt h so_far = sym (next i b d lt ∙ ap (λ (r : Result Histories Reason). r >>= λ d. left (i + 1) d) h) ∙ so_far
+  pub goes_on : (i : ℕ) (x y : A) (d : ℕ × B) → i < length ls → next_by f job i x (get_or ls i d).0 (text (get_or ls i d).1) ≡ Ok y → left i x ≡ total → left (i + 1) y ≡ total
+  goes_on i x y d lt h so_far = sym (next i x d lt ∙ ap (λ (r : Result A Reason). r >>= λ z. left (i + 1) z) h) ∙ so_far
 
-  pub ends : (e : Fault Reason) (i : ℕ) (b : Histories) (d : ℕ × B) → i < length ls → Fails e (next_histories job i b (get_or ls i d).0 (text (get_or ls i d).1)) → left i b ≡ total → Fails e total
-  ends NoMemory i b d lt h so_far = tt
-  ends (Refused r) i b d lt h so_far = sym so_far ∙ next i b d lt ∙ ap (λ (x : Result Histories Reason). x >>= λ d. left (i + 1) d) h
+  pub ends : (e : Fault Reason) (i : ℕ) (x : A) (d : ℕ × B) → i < length ls → Fails e (next_by f job i x (get_or ls i d).0 (text (get_or ls i d).1)) → left i x ≡ total → Fails e total
+  ends NoMemory i x d lt h so_far = tt
+  ends (Refused r) i x d lt h so_far = sym so_far ∙ next i x d lt ∙ ap (λ (r : Result A Reason). r >>= λ z. left (i + 1) z) h
 
-  pub is_done : (i : ℕ) (b : Histories) → length ls ≤ i → left i b ≡ total → total ≡ Ok b
-  is_done i b le so_far =
+  pub is_done : (i : ℕ) (x : A) → length ls ≤ i → left i x ≡ total → total ≡ Ok x
+  is_done i x le so_far =
       let e : drop i ls ≡ [] = nil_from_length (drop i ls) (omega (arith, length-drop i ls)) in
-      sym so_far ∙ ap (λ (xs : List (ℕ × B)). replayed job i b (map (line_of text) xs)) e ∙ none_left job i b
+      sym so_far ∙ ap (λ (xs : List (ℕ × B)). replayed f job i x (map (line_of text) xs)) e ∙ none_left f job i x
 
 -- The lines of an input.
 
--- a job's header, and its events, give what the command writes for the lines
-together : {W : Type 0} (header : Result Job Reason) (events : Job → Result (List Event) Reason) (f : Job → Histories → W) (g : Job × List Event → W) → ((job : Job) (es : List Event) → f job (run_from job.deal (no_histories job.deal) es) ≡ g (job, es))
-    → (header >>= λ job. (events job >>= λ es. Ok (run_from job.deal (no_histories job.deal) es)) >>= λ b. Ok (f job b)) ≡ (header >>= λ job. events job >>= λ es. Ok (job, es)) >>= λ j. Ok (g j)
-together {W = W} (Err r) events f g same = refl
-together {W = W} (Ok job) events f g same = go (events job)
+-- a job's header, and what is made along its events, give what is written for the lines
+together : {A W : Type 0} (header : Result Job Reason) (events : Job → Result (List Event) Reason) (f : Job → A → Event → A) (x : Job → A) (g : Job → A → W) (w : Job × List Event → W) → ((job : Job) (es : List Event) → g job (fold (f job) (x job) es) ≡ w (job, es))
+    → (header >>= λ job. (events job >>= λ es. Ok (fold (f job) (x job) es)) >>= λ y. Ok (g job y)) ≡ (header >>= λ job. events job >>= λ es. Ok (job, es)) >>= λ j. Ok (w j)
+together {A = A} {W = W} (Err r) events f x g w same = refl
+together {A = A} {W = W} (Ok job) events f x g w same = go (events job)
   where
-    go : (r : Result (List Event) Reason) → ((r >>= λ es. Ok (run_from job.deal (no_histories job.deal) es)) >>= λ b. Ok (f job b)) ≡ (r >>= λ es. Ok (job, es)) >>= λ j. Ok (g j)
-    go (Ok es) = ap (λ (w : W). Ok w) (same job es)
+    go : (r : Result (List Event) Reason) → ((r >>= λ es. Ok (fold (f job) (x job) es)) >>= λ y. Ok (g job y)) ≡ (r >>= λ es. Ok (job, es)) >>= λ j. Ok (w j)
+    go (Ok es) = ap (λ (v : W). Ok v) (same job es)
     go (Err r) = refl
 
 of_some : (command : Command) (ls : List (ℕ × List ℕ)) → of_lines command ls ≡ output_for command (lines_read (purpose_of command) ls)
-unfolding of_header replayed
+unfolding of_run of_check replayed
 of_some command [] = by command
   where
     by : (command : Command) → of_lines command [] ≡ output_for command (lines_read (purpose_of command) [])
     by Run = refl
     by Check = refl
-of_some Run (l ∷ ls) = together (job_header_of (purpose_of Run) l.0 l.1) (λ job. events_of job 0 ls) (of_histories Run) (λ j. reported j.0 (run j.0.deal j.1)) (λ job es. refl)
-of_some Check (l ∷ ls) = together (job_header_of (purpose_of Check) l.0 l.1) (λ job. events_of job 0 ls) (of_histories Check) (λ j. record { text = check_text j.0.deal; found = false }) (λ job es. refl)
+of_some Run (l ∷ ls) = together (job_header_of (purpose_of Run) l.0 l.1) (λ job. events_of job 0 ls) (λ job. step (cast_of job)) (λ job. start job.deal) (λ job s. reported job s.book) (λ j. reported j.0 (run (cast_of j.0) j.1).book) (λ job es. refl)
+of_some Check (l ∷ ls) = together (job_header_of (purpose_of Check) l.0 l.1) (λ job. events_of job 0 ls) (λ job. passed_over) (λ job. tt) (λ job u. told job) (λ j. told j.0) (λ job es. refl)
 
 pub of_input : (command : Command) (input : List ℕ) → of_lines command (written 1 (lines_of input)) ≡ output_of command input
 unfolding output_of job_of
@@ -101,3 +106,21 @@ names_first text purpose (x ∷ ls) l some is = rw is refl
 pub names_none : {B : Type 0} (text : B → List ℕ) (purpose : Purpose) (ls : List (ℕ × B)) → length ls ≡ 0 → names_in purpose (map (line_of text) ls) ≡ []
 names_none text purpose [] none = refl
 names_none text purpose (x ∷ ls) none = absurd (omega arith)
+
+-- Worlds.
+
+pub same_cast : (job : Job) (w : WorldState) → IsOf job w → cast_at w ≡ cast_of job
+same_cast job w k = ap (λ (d : Deal). cast_with d w.conforming w.seeds) k.deal ∙ ap₂ (λ (c : List Bool) (s : List (Option (List ℕ))). cast_with job.deal c s) k.conforming k.seeds
+
+-- after the event of a line
+pub stepped : (job : Job) (w new : WorldState) (e : Event) (count line : ℕ) (text : List ℕ) → IsOf job w → next_of job count line text ≡ Ok e → new ≡ record { deal = w.deal; conforming = w.conforming; seeds = w.seeds; state = step (cast_at w) w.state e; stopped = w.stopped }
+    → next_by (step (cast_of job)) job count w.state line text ≡ Ok new.state
+unfolding next_by
+stepped job w new e count line text k n s = ap (λ (r : Result Event Reason). r >>= λ f. Ok (step (cast_of job) w.state f)) n ∙ ap (λ (x : State). Ok x) (ap (λ (c : Cast). step c w.state e) (sym (same_cast job w k)) ∙ sym (ap (λ (x : WorldState). x.state) s))
+
+pub is_of_still : (job : Job) (w new : WorldState) (st : State) → IsOf job w → new ≡ record { deal = w.deal; conforming = w.conforming; seeds = w.seeds; state = st; stopped = w.stopped } → IsOf job new
+is_of_still job w new st k e = record { deal = ap (λ (x : WorldState). x.deal) e ∙ k.deal; conforming = ap (λ (x : WorldState). x.conforming) e ∙ k.conforming; seeds = ap (λ (x : WorldState). x.seeds) e ∙ k.seeds }
+
+-- a job whose conforming parties have their wallets gives a new world
+pub is_new : (job : Job) → HaveWallets job → world_of job ≡ Ok (new_world job)
+is_new job have = world_is_new job (λ p lt t. let h = have p lt t in (h.seed, h.there, h.fits))

@@ -18,7 +18,8 @@ use Rattle.offer_header.specs.declared.header.Header.{Header}
 use Rattle.deviator_script.specs.declared.job.Purpose.{Purpose}
 use Rattle.swap_offer.specs.Lines.{lines_of, written}
 use Rattle.swap_offer.specs.Job.{job_of}
-use Rattle.swap_world.specs.Run.{run}
+use Rattle.swap_run.specs.Run.{run}
+use Rattle.swap_world.specs.Cast.{cast_of}
 use Rattle.swap_main.specs.declared.written.Written.{Written}
 use Rattle.swap_main.specs.declared.words.Command.{Command}
 use Rattle.swap_main.specs.declared.words.Command.TheVariants.{Check, Run}
@@ -37,14 +38,18 @@ with_report job b r = record { text = report job b r; found = not (length r.find
 unfoldable pub reported : Job → Histories → Written
 reported job b = with_report job b (report_of job.deal job.conforming b)
 
+-- what is told of a checked offer
+abbrev pub told : Job → Written
+told job = record { text = check_text job.deal; found = false }
+
 abbrev pub purpose_of : Command → Purpose
 purpose_of Run = purposes.Run
 purpose_of Check = purposes.Check
 
 -- what a command writes for a job and its events
 abbrev pub output_for : Command → Result (Job × List Event) Reason → Result Written Reason
-output_for Run read = read >>= λ j. Ok (reported j.0 (run j.0.deal j.1))
-output_for Check read = read >>= λ j. Ok (record { text = check_text j.0.deal; found = false })
+output_for Run read = read >>= λ j. Ok (reported j.0 (run (cast_of j.0) j.1).book)
+output_for Check read = read >>= λ j. Ok (told j.0)
 
 -- what a command writes for an input, or the first reason why the input is refused
 unfoldable pub output_of : Command → List ℕ → Result Written Reason

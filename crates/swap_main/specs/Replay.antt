@@ -1,41 +1,58 @@
--- A replay that steps a world at each event line.
-use Rattle.std.specs.Prelude.{ℕ, List, [], ◌∷◌, false, Result, Ok, Err}
+-- A replay: something that steps at each event line.
+use Rattle.std.specs.Prelude.{◌≡◌, ℕ, List, [], ◌∷◌, fold, Result, Ok, Err}
 use Rattle.swap_base.specs.Fault.{◌>>=◌}
-use Rattle.ledger_core.specs.Book.{Histories}
 use Rattle.deviator_script.specs.declared.job.Job.{Job}
-use Rattle.offer_fields.specs.declared.reason.Reason.{Reason}
-use Rattle.swap_offer.specs.Job.{events_of, next_of}
-use Rattle.swap_world.specs.Run.{run_from, step, no_histories}
-use Rattle.deviator_script.specs.declared.job.Purpose.{Purpose}
+use Rattle.deviator_script.specs.declared.event.Event.{Event}
 use Rattle.deviator_script.specs.declared.job.Purpose.TheVariants as purposes
+use Rattle.offer_fields.specs.declared.reason.Reason.{Reason}
 use Rattle.offer_fields.specs.declared.reason.Reason.TheVariants.{NotJson}
-use Rattle.swap_offer.specs.Job.{job_header_of}
-use Rattle.swap_main.specs.Output.{reported, check_text}
+use Rattle.swap_offer.specs.Job.{events_of, next_of, job_header_of}
+use Rattle.swap_run.specs.Run.{State, step, start}
+use Rattle.swap_world.specs.Cast.{cast_of}
+use Rattle.swap_world.specs.Value.{WorldState}
+use Rattle.swap_main.specs.Output.{reported, told}
 use Rattle.swap_main.specs.declared.written.Written.{Written}
 use Rattle.swap_main.specs.declared.words.Command.{Command}
 use Rattle.swap_main.specs.declared.words.Command.TheVariants.{Check, Run}
-use Rattle.swap_main.specs.Output.{purpose_of}
 
--- the histories after the events of lines, where so many came before and led to the histories b
-unfoldable pub replayed : Job → ℕ → Histories → List (ℕ × List ℕ) → Result Histories Reason
-replayed job count b lines = events_of job count lines >>= λ events. Ok (run_from job.deal b events)
+-- what f makes of x along the events of lines, where so many came before
+unfoldable pub replayed : {A : Type 0} → (A → Event → A) → Job → ℕ → A → List (ℕ × List ℕ) → Result A Reason
+replayed f job count x lines = events_of job count lines >>= λ events. Ok (fold f x events)
 
--- the histories after the event of a line
-unfoldable pub next_histories : Job → ℕ → Histories → ℕ → List ℕ → Result Histories Reason
-next_histories job count b line text = next_of job count line text >>= λ e. Ok (step job.deal b e)
+-- what f makes of x by the event of a line
+unfoldable pub next_by : {A : Type 0} → (A → Event → A) → Job → ℕ → A → ℕ → List ℕ → Result A Reason
+next_by f job count x line text = next_of job count line text >>= λ e. Ok (f x e)
 
--- what is written of a job and its histories
-abbrev pub of_histories : Command → Job → Histories → Written
-of_histories Run job b = reported job b
-of_histories Check job b = record { text = check_text job.deal; found = false }
+-- The world is of the job: of its deal, with its parties and their seeds.
+pub record IsOf (job : Job) (w : WorldState) : Type 0 where
+  pub deal : w.deal ≡ job.deal
+  pub conforming : w.conforming ≡ job.conforming
+  pub seeds : w.seeds ≡ job.seeds
+
+-- an event is read and passed over
+abbrev pub passed_over : Unit {0} → Event → Unit {0}
+passed_over u e = u
+
+-- what a run writes
+unfoldable pub of_run : ℕ → List ℕ → List (ℕ × List ℕ) → Result Written Reason
+of_run line text ls = do
+  job ← job_header_of purposes.Run line text
+  s ← replayed (step (cast_of job)) job 0 (start job.deal) ls
+  Ok (reported job s.book)
+
+-- what a check writes
+unfoldable pub of_check : ℕ → List ℕ → List (ℕ × List ℕ) → Result Written Reason
+of_check line text ls = do
+  job ← job_header_of purposes.Check line text
+  u ← replayed passed_over job 0 tt ls
+  Ok (told job)
+
+-- what is written for the header and the further lines of an input
+abbrev pub of_header : Command → ℕ → List ℕ → List (ℕ × List ℕ) → Result Written Reason
+of_header Run line text ls = of_run line text ls
+of_header Check line text ls = of_check line text ls
 
 -- what is written for the lines of an input
-unfoldable pub of_header : Command → ℕ → List ℕ → List (ℕ × List ℕ) → Result Written Reason
-of_header command line text ls = do
-  job ← job_header_of (purpose_of command) line text
-  b ← replayed job 0 (no_histories job.deal) ls
-  Ok (of_histories command job b)
-
 abbrev pub of_lines : Command → List (ℕ × List ℕ) → Result Written Reason
 of_lines command [] = Err (NotJson 1)
 of_lines command (l ∷ ls) = of_header command l.0 l.1 ls

@@ -4,6 +4,7 @@
 #![tactic(auto)]
 
 mod check;
+mod escaped;
 mod named;
 mod refusal;
 mod replay;

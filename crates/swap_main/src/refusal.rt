@@ -1,96 +1,75 @@
 //! The line that tells why an input was refused.
 
-ghost use Rattle.std.specs.Prelude.{◌<◌};
+ghost use Rattle.std.specs.Prelude.{◌≡◌, ◌++◌, ◌∷◌, IfOk, OnOk};
+ghost use Rattle.swap_base.specs.Text.{lines};
+ghost use Rattle.offer_fields.specs.declared.reason.Reason.TheVariants.{OverLimit, WrongWallet, WrongTimelock, BadReply};
+ghost use Rattle.swap_main.specs.Refusal.{numbered, numbered_twice, lined, comma_named, all_named, of_party, of_parties, reason_text, line_of};
+ghost use Rattle.transcript_text.specs.Words.{name_at};
 
+use crate::escaped::put_escaped;
+use escrow_core::Reply;
 use offer_fields::Reason;
 use std::alloc::Global;
-use swap_base::{ByteText, NoMemory, PartyId, Piece, put};
+use swap_base::{ArcId, ByteText, LockId, NoMemory, PartyId, Piece, put};
 use transcript_text::put_reply;
 
-/// Appends a text, each control character as `\u{HEX}`.
-fn put_escaped(out: &mut Vec<u8>, text: &[u8]) -> Result<(), NoMemory> {
-    let mut after_c2 = false;
-    for byte in text {
-        let byte = *byte;
-        if after_c2 {
-            after_c2 = false;
-            if (128..160).contains(&byte) {
-                put_code(out, byte)?;
-            } else {
-                out.extend_from_slice(&[0xc2, byte])?;
-            }
-        } else if byte == 0xc2 {
-            after_c2 = true;
-        } else if byte < 32 || byte == 127 {
-            put_code(out, byte)?;
-        } else {
-            out.push(byte)?;
-        }
-    }
-    Ok(())
-}
-
-fn put_code(out: &mut Vec<u8>, code: u8) -> Result<(), NoMemory> {
-    out.extend_from_slice(b"\\u{")?;
-    if code >= 16 {
-        out.push(hexadecimal_digit(code / 16))?;
-    }
-    out.push(hexadecimal_digit(code % 16))?;
-    out.push(b'}')?;
-    Ok(())
-}
-
-fn hexadecimal_digit(digit: u8) -> u8
-    requires { digit < 16 }
+fn name_of(names: &[ByteText], p: PartyId) -> &[u8]
+    ensures { result.now ≡ name_at names.now p }
 {
-    if digit < 10 {
-        b'0' + digit
-    } else {
-        b'a' + (digit - 10)
-    }
-}
-
-fn name_of(names: &[ByteText], p: PartyId) -> &[u8] {
     match names.get(p as usize) {
         Some(name) => name.as_slice(),
         None => &[],
     }
 }
 
-fn put_names(out: &mut Vec<u8>, names: &[ByteText], parties: &[PartyId]) -> Result<(), NoMemory> {
-    let mut first = true;
+fn put_comma_name(out: &mut Vec<u8>, names: &[ByteText], p: PartyId) -> Result<(), NoMemory>
+    ensures { OnOk result (out.new.items ≡ out.old.items ++ comma_named names.now 0 p) }
+{
+    put(out, &[Piece::Text(",")])?;
+    put_escaped(out, name_of(names, p))
+}
+
+/// The further names of a list, each after a comma.
+fn put_further(out: &mut Vec<u8>, names: &[ByteText], parties: &[PartyId]) -> Result<(), NoMemory>
+    ensures { OnOk result (out.new.items ≡ out.old.items ++ lines (comma_named names.now) 0 parties.now) }
+{
     for p in parties {
-        if !first {
-            out.push(b',')?;
-        }
-        first = false;
-        put_escaped(out, name_of(names, *p))?;
+        put_comma_name(out, names, *p)?;
     }
     Ok(())
 }
 
-fn put_lined(out: &mut Vec<u8>, reason: &str, line: u32) -> Result<(), NoMemory> {
+#[tactic(auto, unfolding(crate::specs::Refusal::all_named))]
+fn put_names(out: &mut Vec<u8>, names: &[ByteText], parties: &[PartyId]) -> Result<(), NoMemory>
+    ensures { OnOk result (out.new.items ≡ out.old.items ++ all_named names.now parties.now) }
+{
+    match parties {
+        [] => Ok(()),
+        [first, further @ ..] => {
+            put_escaped(out, name_of(names, *first))?;
+            put_further(out, names, further)
+        }
+    }
+}
+
+#[tactic(auto, unfolding(crate::specs::Refusal::numbered))]
+fn put_numbered(out: &mut Vec<u8>, word: &str, number: u64) -> Result<(), NoMemory>
+    ensures { OnOk result (out.new.items ≡ out.old.items ++ numbered word.now number) }
+{
     put(
         out,
-        &[
-            Piece::Text(reason),
-            Piece::Text(" "),
-            Piece::Number(line as u64),
-        ],
+        &[Piece::Text(word), Piece::Text(" "), Piece::Number(number)],
     )
 }
 
-fn put_texted(out: &mut Vec<u8>, reason: &str, line: u32, text: &ByteText) -> Result<(), NoMemory> {
-    put_lined(out, reason, line)?;
-    out.push(b' ')?;
-    put_escaped(out, text.as_slice())
-}
-
-fn put_numbers(out: &mut Vec<u8>, reason: &str, first: u64, second: u64) -> Result<(), NoMemory> {
+#[tactic(auto, unfolding(crate::specs::Refusal::numbered_twice))]
+fn put_two(out: &mut Vec<u8>, word: &str, first: u64, second: u64) -> Result<(), NoMemory>
+    ensures { OnOk result (out.new.items ≡ out.old.items ++ numbered_twice word.now first second) }
+{
     put(
         out,
         &[
-            Piece::Text(reason),
+            Piece::Text(word),
             Piece::Text(" "),
             Piece::Number(first),
             Piece::Text(" "),
@@ -99,87 +78,151 @@ fn put_numbers(out: &mut Vec<u8>, reason: &str, first: u64, second: u64) -> Resu
     )
 }
 
-fn put_by_line(out: &mut Vec<u8>, reason: &Reason) -> Result<(), NoMemory> {
-    match reason {
-        Reason::NotJson(line) => put_lined(out, "NotJson", *line),
-        Reason::Missing(line, field) => put_texted(out, "Missing", *line, field),
-        Reason::WrongKind(line, field) => put_texted(out, "WrongKind", *line, field),
-        Reason::UnknownField(line, field) => put_texted(out, "UnknownField", *line, field),
-        Reason::BadName(line, name) => put_texted(out, "BadName", *line, name),
-        Reason::Duplicate(line, name) => put_texted(out, "Duplicate", *line, name),
-        Reason::Unknown(line, name) => put_texted(out, "Unknown", *line, name),
-        Reason::OverLimit(line, field, number) => {
-            put_texted(out, "OverLimit", *line, field)?;
-            put(out, &[Piece::Text(" "), Piece::Number(*number)])
-        }
-        Reason::WrongHex(line, field) => put_texted(out, "WrongHex", *line, field),
-        Reason::NotAdjacent(line) => put_lined(out, "NotAdjacent", *line),
-        Reason::ConformingCall(line) => put_lined(out, "ConformingCall", *line),
-        Reason::EventInRace(line) => put_lined(out, "EventInRace", *line),
-        Reason::BadLine(line) => put_lined(out, "BadLine", *line),
-        Reason::NotBuilt(line, field) => put_texted(out, "NotBuilt", *line, field),
-        _ => Ok(()),
-    }
+#[tactic(auto, unfolding(crate::specs::Refusal::lined))]
+fn put_lined(out: &mut Vec<u8>, word: &str, line: u32, text: &ByteText) -> Result<(), NoMemory>
+    ensures { OnOk result (out.new.items ≡ out.old.items ++ lined word.now line text.now) }
+{
+    put_numbered(out, word, line as u64)?;
+    put(out, &[Piece::Text(" ")])?;
+    put_escaped(out, text.as_slice())
 }
 
-fn put_by_party(out: &mut Vec<u8>, reason: &Reason, names: &[ByteText]) -> Result<(), NoMemory> {
-    match reason {
-        Reason::NotStrong(set) => {
-            put(out, &[Piece::Text("NotStrong ")])?;
-            put_names(out, names, set.as_slice())
-        }
-        Reason::NotFeedback(cycle) => {
-            put(out, &[Piece::Text("NotFeedback ")])?;
-            put_names(out, names, cycle.as_slice())
-        }
-        Reason::NoSeed(party) => {
-            put(out, &[Piece::Text("NoSeed ")])?;
-            put_escaped(out, name_of(names, *party))
-        }
-        Reason::WrongWallet(party, lock) => {
-            put(out, &[Piece::Text("WrongWallet ")])?;
-            put_escaped(out, name_of(names, *party))?;
-            put(out, &[Piece::Text(" "), Piece::Number(*lock as u64)])
-        }
-        _ => Ok(()),
-    }
+#[tactic(auto, unfolding(crate::specs::Refusal::of_party))]
+fn put_party(
+    out: &mut Vec<u8>,
+    word: &str,
+    names: &[ByteText],
+    party: PartyId,
+) -> Result<(), NoMemory>
+    ensures { OnOk result (out.new.items ≡ out.old.items ++ of_party word.now names.now party) }
+{
+    put(out, &[Piece::Text(word), Piece::Text(" ")])?;
+    put_escaped(out, name_of(names, party))
 }
 
-fn put_by_number(out: &mut Vec<u8>, reason: &Reason) -> Result<(), NoMemory> {
+#[tactic(auto, unfolding(crate::specs::Refusal::of_parties))]
+fn put_parties(
+    out: &mut Vec<u8>,
+    word: &str,
+    names: &[ByteText],
+    parties: &[PartyId],
+) -> Result<(), NoMemory>
+    ensures { OnOk result (out.new.items ≡ out.old.items ++ of_parties word.now names.now parties.now) }
+{
+    put(out, &[Piece::Text(word), Piece::Text(" ")])?;
+    put_names(out, names, parties)
+}
+
+#[tactic(auto, unfolding(crate::specs::Refusal::reason_text))]
+fn put_limit(
+    out: &mut Vec<u8>,
+    names: &[ByteText],
+    line: u32,
+    field: &ByteText,
+    number: u64,
+) -> Result<(), NoMemory>
+    ensures { OnOk result (out.new.items ≡ out.old.items ++ reason_text names.now (OverLimit line field.now number)) }
+{
+    put_lined(out, "OverLimit", line, field)?;
+    put(out, &[Piece::Text(" "), Piece::Number(number)])
+}
+
+#[tactic(auto, unfolding(crate::specs::Refusal::reason_text))]
+fn put_wallet(
+    out: &mut Vec<u8>,
+    names: &[ByteText],
+    party: PartyId,
+    lock: LockId,
+) -> Result<(), NoMemory>
+    ensures { OnOk result (out.new.items ≡ out.old.items ++ reason_text names.now (WrongWallet party lock)) }
+{
+    put_party(out, "WrongWallet", names, party)?;
+    put(out, &[Piece::Text(" "), Piece::Number(lock as u64)])
+}
+
+#[tactic(auto, unfolding(crate::specs::Refusal::reason_text))]
+fn put_timelock(
+    out: &mut Vec<u8>,
+    names: &[ByteText],
+    arc: ArcId,
+    given: u64,
+    wanted: u64,
+) -> Result<(), NoMemory>
+    ensures { OnOk result (out.new.items ≡ out.old.items ++ reason_text names.now (WrongTimelock arc given wanted)) }
+{
+    put_two(out, "WrongTimelock", arc as u64, given)?;
+    put(out, &[Piece::Text(" "), Piece::Number(wanted)])
+}
+
+#[tactic(auto, unfolding(crate::specs::Refusal::reason_text))]
+fn put_replies(
+    out: &mut Vec<u8>,
+    names: &[ByteText],
+    at: (ArcId, u32),
+    stated: Reply,
+    replayed: Reply,
+) -> Result<(), NoMemory>
+    ensures { OnOk result (out.new.items ≡ out.old.items ++ reason_text names.now (BadReply at.0 at.1 stated replayed)) }
+{
+    put_two(out, "BadReply", at.0 as u64, at.1 as u64)?;
+    put(out, &[Piece::Text(" ")])?;
+    put_reply(out, stated)?;
+    put(out, &[Piece::Text(" ")])?;
+    put_reply(out, replayed)
+}
+
+/// The reason's name and its fields.
+#[tactic(auto, unfolding(crate::specs::Refusal::reason_text))]
+fn put_reason(out: &mut Vec<u8>, names: &[ByteText], reason: &Reason) -> Result<(), NoMemory>
+    ensures { OnOk result (out.new.items ≡ out.old.items ++ reason_text names.now reason.now) }
+{
     match reason {
-        Reason::SelfArc(arc) => put_lined(out, "SelfArc", *arc as u32),
-        Reason::Parallel(first, second) => {
-            put_numbers(out, "Parallel", *first as u64, *second as u64)
-        }
-        Reason::ManyLeaders(count) => put_lined(out, "ManyLeaders", *count),
-        Reason::BoundTooSmall(given, needed) => put_numbers(out, "BoundTooSmall", *given, *needed),
-        Reason::StartTooSoon(start, delta) => put_numbers(out, "StartTooSoon", *start, *delta),
-        Reason::WrongTimelock(arc, given, wanted) => {
-            put_lined(out, "WrongTimelock", *arc as u32)?;
-            put_numbers(out, "", *given, *wanted)
-        }
+        Reason::NotJson(line) => put_numbered(out, "NotJson", *line as u64),
+        Reason::Missing(line, field) => put_lined(out, "Missing", *line, field),
+        Reason::WrongKind(line, field) => put_lined(out, "WrongKind", *line, field),
+        Reason::UnknownField(line, field) => put_lined(out, "UnknownField", *line, field),
+        Reason::BadName(line, name) => put_lined(out, "BadName", *line, name),
+        Reason::Duplicate(line, name) => put_lined(out, "Duplicate", *line, name),
+        Reason::Unknown(line, name) => put_lined(out, "Unknown", *line, name),
+        Reason::OverLimit(line, field, n) => put_limit(out, names, *line, field, *n),
+        Reason::WrongHex(line, field) => put_lined(out, "WrongHex", *line, field),
+        Reason::NotAdjacent(line) => put_numbered(out, "NotAdjacent", *line as u64),
+        Reason::ConformingCall(line) => put_numbered(out, "ConformingCall", *line as u64),
+        Reason::EventInRace(line) => put_numbered(out, "EventInRace", *line as u64),
+        Reason::SelfArc(arc) => put_numbered(out, "SelfArc", *arc as u64),
+        Reason::Parallel(a, b) => put_two(out, "Parallel", *a as u64, *b as u64),
+        Reason::NotStrong(set) => put_parties(out, "NotStrong", names, set.as_slice()),
+        Reason::ManyLeaders(count) => put_numbered(out, "ManyLeaders", *count as u64),
+        Reason::NotFeedback(cycle) => put_parties(out, "NotFeedback", names, cycle.as_slice()),
+        Reason::BoundTooSmall(given, needed) => put_two(out, "BoundTooSmall", *given, *needed),
+        Reason::StartTooSoon(start, delta) => put_two(out, "StartTooSoon", *start, *delta),
+        Reason::WrongTimelock(arc, given, due) => put_timelock(out, names, *arc, *given, *due),
+        Reason::NoSeed(party) => put_party(out, "NoSeed", names, *party),
+        Reason::WrongWallet(party, lock) => put_wallet(out, names, *party, *lock),
+        Reason::BadLine(line) => put_numbered(out, "BadLine", *line as u64),
         Reason::CutShort => put(out, &[Piece::Text("CutShort")]),
-        Reason::BadReply(arc, entry, stated, replayed) => {
-            put_numbers(out, "BadReply", *arc as u64, *entry as u64)?;
-            put(out, &[Piece::Text(" ")])?;
-            put_reply(out, *stated)?;
-            put(out, &[Piece::Text(" ")])?;
-            put_reply(out, *replayed)
-        }
-        _ => Ok(()),
+        Reason::BadReply(arc, entry, old, new) => put_replies(
+            out,
+            names,
+            (*arc, *entry),
+            *old,
+            *new,
+        ),
+        Reason::NotBuilt(line, field) => put_lined(out, "NotBuilt", *line, field),
     }
 }
 
 /// The line that tells the reason, with the parties by their names, and without a line feed.
+#[tactic(auto, unfolding(crate::specs::Refusal::line_of))]
 pub fn refusal_line(
     alloc: Global,
     reason: &Reason,
     names: &[ByteText],
-) -> Result<ByteText, NoMemory> {
+) -> Result<ByteText, NoMemory>
+    ensures text { IfOk result (λ t. t ≡ line_of names.now reason.now) }
+{
     let mut out = Vec::new(alloc);
     put(&mut out, &[Piece::Text("swap: refused: ")])?;
-    put_by_line(&mut out, reason)?;
-    put_by_party(&mut out, reason, names)?;
-    put_by_number(&mut out, reason)?;
+    put_reason(&mut out, names, reason)?;
     Ok(ByteText::new(out))
 }

@@ -2,18 +2,22 @@
 
 ghost use Rattle.std.specs.Prelude.{◌≡◌, ◌≤◌, ◌<◌, length, map, false, ◌^◌, IfOk, OnOk};
 ghost use Rattle.swap_base.specs.Fault.{Gives};
+ghost use Rattle.swap_rules.specs.Accepted.{IsAccepted};
+ghost use Rattle.swap_run.specs.Run.{start, step};
 ghost use Rattle.swap_offer.specs.Job.{IsWhole};
-ghost use Rattle.swap_world.specs.Run.{no_histories};
-ghost use Rattle.swap_main.specs.Replay.{replayed, next_histories};
+ghost use Rattle.swap_offer.specs.Wallets.{HaveWallets};
+ghost use Rattle.swap_world.specs.Cast.{cast_of};
+ghost use Rattle.swap_main.specs.Replay.{replayed, next_by, passed_over, IsOf};
 
 use deviator_script::Job;
 use offer_fields::OfferFault;
 use std::alloc::Global;
+use swap_base::{Fault, NoMemory};
 use swap_offer::next_event;
 use swap_world::World;
 
 /// Steps the world by the event of a line, where so many events came before.
-#[tactic(auto, unfolding(crate::specs::Replay::next_histories))]
+#[tactic(auto, unfolding(crate::specs::Replay::next_by))]
 fn step_line(
     alloc: Global,
     job: &Job,
@@ -23,10 +27,10 @@ fn step_line(
     text: &[u8],
 ) -> Result<(), OfferFault>
     requires whole { IsWhole job.now }
-    requires deal { world.old.deal ≡ job.now.deal }
+    requires of { IsOf job.now world.old }
     requires goes_on { world.old.stopped ≡ false }
-    ensures exact { Gives (λ _. world.new.histories) result (next_histories job.now count world.old.histories line text.now) }
-    ensures deal { OnOk result (world.new.deal ≡ job.now.deal) }
+    ensures exact { Gives (λ _. world.new.state) result (next_by (step (cast_of job.now)) job.now count world.old.state line text.now) }
+    ensures of { OnOk result (IsOf job.now world.new) }
     ensures goes_on { OnOk result (world.new.stopped ≡ false) }
 {
     let event = next_event(alloc, job, count, line, text)?;
@@ -34,16 +38,57 @@ fn step_line(
     Ok(())
 }
 
+/// The world of a job whose conforming parties have their wallets.
+fn new_world(alloc: Global, job: &Job) -> Result<World, NoMemory>
+    requires whole { IsWhole job.now }
+    requires accepted { IsAccepted job.now.deal }
+    requires wallets { HaveWallets job.now }
+    ensures of { IfOk result (λ w. IsOf job.now w) }
+    ensures state { IfOk result (λ w. w.state ≡ start job.now.deal) }
+    ensures goes_on { IfOk result (λ w. w.stopped ≡ false) }
+{
+    match World::new(alloc, job) {
+        Ok(world) => Ok(world),
+        Err(Fault::NoMemory) => Err(NoMemory),
+        Err(Fault::Refused(_)) => unreachable!(),
+    }
+}
+
 /// The world after the events of the lines.
 pub(crate) fn replay(alloc: Global, job: &Job, lines: &[(u32, &[u8])]) -> Result<World, OfferFault>
     requires whole { IsWhole job.now }
+    requires accepted { IsAccepted job.now.deal }
+    requires wallets { HaveWallets job.now }
     requires few { length lines.now < 2 ^ 31 }
-    ensures exact { Gives (λ w. w.histories) result (replayed job.now 0 (no_histories job.now.deal) (map (λ l. (l.0, l.1.now)) lines.now)) }
-    ensures deal { IfOk result (λ w. w.deal ≡ job.now.deal) }
+    ensures exact { Gives (λ w. w.state) result (replayed (step (cast_of job.now)) job.now 0 (start job.now.deal) (map (λ l. (l.0, l.1.now)) lines.now)) }
+    ensures of { IfOk result (λ w. IsOf job.now w) }
+    ensures goes_on { IfOk result (λ w. w.stopped ≡ false) }
 {
-    let mut world = World::new(alloc, &job.deal)?;
+    let mut world = new_world(alloc, job)?;
     'lines: for (count, line) in lines.iter().enumerate() {
         step_line(alloc, job, &mut world, count as u32, line.0, line.1)?;
     }
     Ok(world)
+}
+
+/// Reads the event of a line, where so many events came before.
+#[tactic(auto, unfolding(crate::specs::Replay::next_by))]
+fn pass_line(alloc: Global, job: &Job, count: u32, line: u32, text: &[u8]) -> Result<(), OfferFault>
+    requires { IsWhole job.now }
+    ensures { Gives (λ u. u) result (next_by passed_over job.now count tt line text.now) }
+{
+    next_event(alloc, job, count, line, text)?;
+    Ok(())
+}
+
+/// Reads the events of the lines.
+pub(crate) fn pass_over(alloc: Global, job: &Job, lines: &[(u32, &[u8])]) -> Result<(), OfferFault>
+    requires whole { IsWhole job.now }
+    requires few { length lines.now < 2 ^ 31 }
+    ensures { Gives (λ u. u) result (replayed passed_over job.now 0 tt (map (λ l. (l.0, l.1.now)) lines.now)) }
+{
+    'lines: for (count, line) in lines.iter().enumerate() {
+        pass_line(alloc, job, count as u32, line.0, line.1)?;
+    }
+    Ok(())
 }

@@ -1,26 +1,26 @@
 //! What is written for the lines of an input.
 
-ghost use Rattle.std.specs.Prelude.{◌≡◌, ◌<◌, ◌≤◌, ◌^◌, IfOk, length, map};
+ghost use Rattle.std.specs.Prelude.{◌≡◌, ◌<◌, ◌≤◌, ◌^◌, false, IfOk, length, map};
 ghost use Rattle.swap_base.specs.Fault.{Gives};
 ghost use Rattle.swap_digraph.specs.Deal.{IsWellSized};
 ghost use Rattle.swap_rules.specs.Accepted.{IsAccepted};
 ghost use Rattle.ledger_core.specs.Book.{IsLegalBook};
 ghost use Rattle.swap_offer.specs.Job.{IsWhole};
-ghost use Rattle.swap_main.specs.Output.{reported, output_of};
-ghost use Rattle.swap_main.specs.Replay.{of_histories, of_header, of_lines};
+ghost use Rattle.swap_main.specs.Output.{reported, check_text, output_of};
+ghost use Rattle.swap_main.specs.Replay.{of_run, of_check, of_header, of_lines};
 
 use crate::check::check_text;
-use crate::replay::replay;
-use crate::words::{Command, purpose_of};
+use crate::replay::{pass_over, replay};
+use crate::words::Command;
 use crate::written::Written;
-use deviator_script::Job;
+use deviator_script::{Job, Purpose};
 use ledger_core::Book;
 use offer_fields::{OfferFault, Reason};
 use outcome_rules::report_of;
 use std::alloc::Global;
 use swap_base::{Fault, NoMemory};
+use swap_digraph::Deal;
 use swap_offer::{read_header, written};
-use swap_world::World;
 use transcript_text::report_text;
 
 /// The report of a job's book.
@@ -38,30 +38,51 @@ fn reported(alloc: Global, job: &Job, book: &Book) -> Result<Written, NoMemory>
     })
 }
 
-fn of_histories(
+/// What a run writes for the header and the further lines of an input.
+#[tactic(auto, unfolding(crate::specs::Replay::of_run))]
+fn of_run(
     alloc: Global,
-    command: Command,
-    job: &Job,
-    world: World,
-) -> Result<Written, NoMemory>
-    requires whole { IsWhole job.now }
-    requires accepted { IsAccepted job.now.deal }
-    requires deal { world.deal ≡ job.now.deal }
-    ensures { IfOk result (λ w. w ≡ of_histories command job.now world.histories) }
+    line: u32,
+    text: &[u8],
+    events: &[(u32, &[u8])],
+) -> Result<Written, OfferFault>
+    requires { length events.now < 2 ^ 31 }
+    ensures { Gives (λ w. w) result (of_run line text.now (map (λ l. (l.0, l.1.now)) events.now)) }
 {
-    match command {
-        Command::Run => {
-            let book = world.into_book(alloc)?;
-            reported(alloc, job, &book)
-        }
-        Command::Check => Ok(Written {
-            text: check_text(alloc, &job.deal)?,
-            found: false,
-        }),
-    }
+    let job = read_header(alloc, line, text, Purpose::Run)?;
+    let world = replay(alloc, &job, events)?;
+    let book = world.into_book(alloc)?;
+    Ok(reported(alloc, &job, &book)?)
 }
 
-#[tactic(auto, unfolding(crate::specs::Replay::of_header))]
+fn told(alloc: Global, deal: &Deal) -> Result<Written, NoMemory>
+    requires sized { IsWellSized deal.now }
+    requires accepted { IsAccepted deal.now }
+    ensures text { IfOk result (λ w. w.text ≡ check_text deal.now) }
+    ensures found { IfOk result (λ w. w.found ≡ false) }
+{
+    Ok(Written {
+        text: check_text(alloc, deal)?,
+        found: false,
+    })
+}
+
+/// What a check writes for the header and the further lines of an input.
+#[tactic(auto, unfolding(crate::specs::Replay::of_check))]
+fn of_check(
+    alloc: Global,
+    line: u32,
+    text: &[u8],
+    events: &[(u32, &[u8])],
+) -> Result<Written, OfferFault>
+    requires { length events.now < 2 ^ 31 }
+    ensures { Gives (λ w. w) result (of_check line text.now (map (λ l. (l.0, l.1.now)) events.now)) }
+{
+    let job = read_header(alloc, line, text, Purpose::Check)?;
+    pass_over(alloc, &job, events)?;
+    Ok(told(alloc, &job.deal)?)
+}
+
 fn of_header(
     alloc: Global,
     command: Command,
@@ -72,9 +93,10 @@ fn of_header(
     requires { length events.now < 2 ^ 31 }
     ensures { Gives (λ w. w) result (of_header command line text.now (map (λ l. (l.0, l.1.now)) events.now)) }
 {
-    let job = read_header(alloc, line, text, purpose_of(command))?;
-    let world = replay(alloc, &job, events)?;
-    Ok(of_histories(alloc, command, &job, world)?)
+    match command {
+        Command::Run => of_run(alloc, line, text, events),
+        Command::Check => of_check(alloc, line, text, events),
+    }
 }
 
 fn of_lines(alloc: Global, command: Command, lines: &[(u32, &[u8])]) -> Result<Written, OfferFault>

@@ -2,6 +2,7 @@ use super::*;
 use offer_fields::Reason;
 use std::alloc::Global;
 use std::test::Fail;
+use swap_base::{ByteText, Listed};
 use swap_io::{VecSink, VecSource};
 
 /// The swap of three parties that the README runs.
@@ -87,5 +88,19 @@ fn refuses_other_words(rt: HostRuntime) -> Result<(), Fail> {
     let mut sink = sink_of(rt.alloc(), 1000, &[])?;
     let status = swap_top(rt.alloc(), &words, &mut source, &mut sink);
     assert!(rt; matches!(status, Status::WrongWords));
+    Ok(())
+}
+
+#[test]
+fn tells_of_parties_by_their_names(rt: HostRuntime) -> Result<(), Fail> {
+    let mut names = Vec::new(rt.alloc());
+    names.push(ByteText::from_slice(rt.alloc(), b"alice")?)?;
+    names.push(ByteText::from_slice(rt.alloc(), "b\u{7}o\u{9b}b\u{e9}".as_bytes())?)?;
+    let cycle = Vec::from_slice(rt.alloc(), &[1, 0, 9])?;
+    let line = refusal_line(rt.alloc(), &Reason::NotFeedback(Listed::new(cycle)), &names)?;
+    assert_eq!(rt;
+        line.as_slice(),
+        "swap: refused: NotFeedback b\\u{7}o\\u{9b}b\u{e9},alice,".as_bytes()
+    );
     Ok(())
 }

@@ -1,5 +1,5 @@
 -- A deal that passes the checks is an accepted one.
-use Rattle.std.proofs.Common.{◌≡◌, ℕ, zero, suc, ◌+◌, ◌<◌, ◌≤◌, ◌==◌, nat_lt, Bool, true, false, cond, not, ◌&&◌, List, [], ◌∷◌, ◌++◌, length, get_or, take, slice_index, Option, Some, None, Result, Ok, Err, refl, sym, ap, ◌∙◌, subst, arith, inl, inr, ltb-false, ltb-true, eqb-true, eq-eqb, get_or-take, append-nil, append_assoc, position}
+use Rattle.std.proofs.Common.{◌≡◌, ℕ, zero, suc, ◌+◌, ◌<◌, ◌≤◌, ◌==◌, nat_lt, Bool, true, false, cond, not, ◌&&◌, List, [], ◌∷◌, ◌++◌, length, get_or, take, slice_index, Option, Some, None, Result, Ok, Err, refl, sym, ap, ◌∙◌, subst, arith, inl, inr, ltb-false, ltb-true, eqb-true, eq-eqb, get_or-take, append-nil, append_assoc, position, replicate}
 use Rattle.std.proofs.lemmas.List.{length-take}
 use Rattle.std.proofs.lemmas.Bool.{false≢true}
 use Rattle.std.specs.List.{position_from}
@@ -17,6 +17,7 @@ use Rattle.swap_digraph.specs.declared.fault.ArcFault.TheVariants.{OutOfRange, S
 use Rattle.swap_digraph.specs.declared.deal.Mode.{Mode}
 use Rattle.swap_digraph.specs.declared.deal.Mode.TheVariants.{Timelocks, Hashkeys}
 use Rattle.swap_digraph.specs.declared.deal.Version.TheVariants.{One}
+use Rattle.hashkey_path.proofs.Feeding.{any_id}
 use Rattle.digraph_check.specs.Reach.{closed_set}
 use Rattle.digraph_check.proofs.ClosedSets.{connected_of_none}
 use Rattle.leader_check.specs.Cycles.{follower_cycle}
@@ -34,10 +35,10 @@ use Rattle.swap_offer.specs.Checks.{graph_of, by_arcs, connected, unless_closed,
 use Rattle.swap_offer.proofs.Whole.{is_sized}
 
 -- a chain that ends well began well
-abbrev Went : {A B : Type 0} → Result A Reason → (A → Result B Reason) → B → Type 0
+abbrev pub Went : {A B : Type 0} → Result A Reason → (A → Result B Reason) → B → Type 0
 Went {A} r f y = (x : A) × (r ≡ Ok x) × (f x ≡ Ok y)
 
-went : {A B : Type 0} (r : Result A Reason) (f : A → Result B Reason) (y : B) → (r >>= f) ≡ Ok y → Went r f y
+pub went : {A B : Type 0} (r : Result A Reason) (f : A → Result B Reason) (y : B) → (r >>= f) ≡ Ok y → Went r f y
 went (Ok x) f y e = (x, refl, e)
 went (Err r) f y e = absurd (cc e)
 
@@ -231,4 +232,5 @@ is_accepted h g u k has n arcs made e =
       keys = sized.keys;
       one_timelock_each = sized.timelocks;
       timed = is_timed h.mode h g (deal_with h g).id o.0 u refl k n arcs has strong feedback o.1 s.2;
+      id = sym (any_id (unnamed h g (replicate 32 0)) (deal_with h g).id);
     }

@@ -1,3 +1,5 @@
 pub mod Accepted
 pub mod FirstLines
 pub mod Whole
+pub mod Seeds
+pub mod Purposes

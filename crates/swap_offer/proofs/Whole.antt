@@ -35,4 +35,4 @@ is_sized h g id k e n a =
     }
 
 pub is_whole : (h : Header) (g : Graph) → IsWithin h → HasEnds g → g.n ≡ length h.names → g.arcs ≡ h.arcs → IsWhole (job_with h g)
-is_whole h g k e n a = record { sized = is_sized h g (deal_with h g).id k e n a; names = sym n; conforming = k.conforming ∙ sym n }
+is_whole h g k e n a = record { sized = is_sized h g (deal_with h g).id k e n a; names = sym n; conforming = k.conforming ∙ sym n; seeds = k.seeds ∙ sym n }

@@ -120,10 +120,3 @@ checked h g = do
   x ← bounded h.bound (need g.n (length h.leaders) (height_of g h.leaders))
   y ← started h.start h.delta
   timed h g h.mode h.leaders
-
--- the job of a header, or the first reason against it
-unfoldable pub accepted_of : Header → Result Job Reason
-accepted_of h = do
-  g ← graph_of h
-  u ← checked h g
-  Ok (job_with h g)

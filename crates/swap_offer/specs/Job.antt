@@ -10,7 +10,18 @@ use Rattle.offer_fields.specs.declared.reason.Reason.TheVariants.{NotJson, OverL
 use Rattle.offer_header.specs.Header.{header_of}
 use Rattle.offer_events.specs.Event.{event_of}
 use Rattle.swap_offer.specs.Lines.{lines_of, written}
-use Rattle.swap_offer.specs.Checks.{accepted_of}
+use Rattle.offer_header.specs.declared.header.Header.{Header}
+use Rattle.swap_offer.specs.Checks.{graph_of, checked, job_with}
+use Rattle.swap_offer.specs.Wallets.{seeded, walleted}
+
+-- the job of a header, or the first reason against it: its digraph, its leaders and times, and the seeds of its conforming parties
+unfoldable pub accepted_of : Header → Result Job Reason
+accepted_of h = do
+  g ← graph_of h
+  u ← checked h g
+  v ← seeded (job_with h g)
+  w ← walleted (job_with h g)
+  Ok (job_with h g)
 
 -- the job of a header line
 unfoldable pub job_header_of : Purpose → ℕ → List ℕ → Result Job Reason
@@ -35,8 +46,9 @@ of_lines purpose (l ∷ ls) = job_header_of purpose l.0 l.1 >>= λ job. events_o
 unfoldable pub job_of : Purpose → List ℕ → Result (Job × List Event) Reason
 job_of purpose bytes = of_lines purpose (written 1 (lines_of bytes))
 
--- A job whose deal is well sized, with a name and a role per party.
+-- A job whose deal is well sized, with a name, a role and perhaps a seed per party.
 pub record IsWhole (job : Job) : Type 0 where
   pub sized : IsWellSized job.deal
   pub names : length job.names ≡ job.deal.graph.n
   pub conforming : length job.conforming ≡ job.deal.graph.n
+  pub seeds : length job.seeds ≡ job.deal.graph.n

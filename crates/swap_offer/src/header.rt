@@ -6,10 +6,12 @@ ghost use Rattle.swap_digraph.specs.Deal.{IsWellSized};
 ghost use Rattle.swap_digraph.specs.Graph.{HasEnds};
 ghost use Rattle.swap_rules.specs.Accepted.{IsAccepted};
 ghost use Rattle.offer_header.specs.Header.{IsWithin};
-ghost use Rattle.swap_offer.specs.Checks.{job_with, unnamed, accepted_of};
-ghost use Rattle.swap_offer.specs.Job.{job_header_of, IsWhole};
+ghost use Rattle.swap_offer.specs.Checks.{job_with, unnamed};
+ghost use Rattle.swap_offer.specs.Wallets.{HaveWalletsFor};
+ghost use Rattle.swap_offer.specs.Job.{accepted_of, job_header_of, IsWhole};
 
 use crate::checks::{checked, graph_in, roles_of};
+use crate::wallets::{seeded, walleted};
 use deviator_script::{Job, Purpose};
 use hashkey_path::deal_digest;
 use offer_fields::OfferFault;
@@ -49,16 +51,20 @@ fn job_with(alloc: Global, header: Header, graph: Digraph) -> Result<Job, NoMemo
     })
 }
 
-#[tactic(auto, using(crate::proofs::Whole::is_whole, crate::proofs::Whole::is_sized, crate::proofs::Accepted::is_accepted), unfolding(crate::specs::Checks::accepted_of))]
+#[tactic(auto, using(crate::proofs::Whole::is_whole, crate::proofs::Whole::is_sized), unfolding(crate::specs::Job::accepted_of))]
 fn accepted(alloc: Global, header: Header) -> Result<Job, OfferFault>
     requires { IsWithin header }
     ensures exact { Gives (λ j. j) result (accepted_of header) }
     ensures whole { IfOk result (λ j. IsWhole j) }
     ensures accepted { IfOk result (λ j. IsAccepted j.deal) }
+    ensures wallets { IfOk result (λ j. HaveWalletsFor j.purpose j) }
 {
     let graph = graph_in(alloc, &header)?;
     checked(alloc, &header, &graph)?;
-    Ok(job_with(alloc, header, graph)?)
+    let job = job_with(alloc, header, graph)?;
+    seeded(&job)?;
+    walleted(alloc, &job)?;
+    Ok(job)
 }
 
 /// The job of a header line, or the first reason against it. Lines are counted from 1.
@@ -72,7 +78,9 @@ pub fn read_header(
     ensures exact { Gives (λ j. j) result (job_header_of purpose line text.now) }
     ensures whole { IfOk result (λ j. IsWhole j) }
     ensures accepted { IfOk result (λ j. IsAccepted j.deal) }
+    ensures wallets { IfOk result (λ j. HaveWalletsFor purpose j) }
 {
     let header = header_in(alloc, purpose, line, text)?;
-    accepted(alloc, header)
+    let job = accepted(alloc, header)?;
+    Ok(job)
 }

@@ -24,7 +24,7 @@ pub fn next_event(
 ) -> Result<Event, OfferFault>
     requires { IsWhole job.now }
     ensures exact { Gives (λ e. e) result (next_of job.now count line text.now) }
-    ensures fits { IfOk result (λ e. CanStep job.now.deal e) }
+    ensures fits { IfOk result (λ e. CanStep job.now.deal job.now.conforming e) }
 {
     if count == MOST_EVENTS {
         return Err(over_limit(alloc, line, b"events", MOST_EVENTS as u64 + 1));

@@ -7,6 +7,7 @@ mod checks;
 mod header;
 mod job;
 mod lines;
+mod wallets;
 
 pub use header::read_header;
 pub use job::next_event;

@@ -8,6 +8,7 @@ use Rattle.swap_digraph.specs.declared.deal.Mode.TheVariants.{Timelocks, Hashkey
 use Rattle.swap_digraph.specs.declared.deal.Version.{Version}
 use Rattle.swap_digraph.specs.declared.deal.Version.TheVariants.{One, Two}
 use Rattle.swap_digraph.specs.Deal.{counterparty, leader_of, amount, most_parties, most_arcs, HasKeys}
+use Rattle.hashkey_path.specs.Digest.{deal_id}
 
 -- The timelock of arc a goes by the greatest number of arcs on a path from its counterparty to the leader.
 pub record HasTimelock (d : Deal) (a : ℕ) : Type 0 where
@@ -48,3 +49,5 @@ pub record IsAccepted (d : Deal) : Type 0 where
   pub keys : HasKeys d.mode d
   pub one_timelock_each : length d.timelocks ≡ length d.graph.arcs
   pub timed : IsTimed d.mode d
+  -- the digest of all the rest
+  pub id : d.id ≡ deal_id d

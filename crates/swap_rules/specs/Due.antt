@@ -104,6 +104,11 @@ due_claims d v k = flat_map (λ a. when_due (is_due_claim d v k a) a Claim) (ent
 abbrev pub due_refunds : Deal → ℕ → Histories → List Action
 due_refunds d v k = flat_map (λ a. when_due (is_due_refund d v k a) a Refund) (leaving d.graph v)
 
+-- the first of a list, if any
+abbrev pub first : {A : Type 0} → List A → Option A
+first [] = None
+first (x ∷ xs) = Some x
+
 -- all that is due for v, in its order, where signed gives the hashkey that v signed for each lock
 unfoldable pub due : Deal → ℕ → Wallet → (ℕ → Option Hashkey) → Histories → List Action
 due d v w signed k = due_publishes d v k ++ due_unlocks d v w signed k ++ due_claims d v k ++ due_refunds d v k

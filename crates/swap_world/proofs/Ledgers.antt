@@ -1,6 +1,7 @@
 -- The ledgers of a world, and their histories.
-use Rattle.std.proofs.Common.{◌≡◌, ℕ, zero, suc, Bool, false, ◌+◌, ◌<◌, ◌≤◌, List, [], ◌∷◌, ◌++◌, length, get_or, map, replicate, refl, sym, ap, subst, ◌∙◌, arith, Result, Ok, Err, OnOk, OnErr, slice_index_or, slice_set}
-use Rattle.std.proofs.lemmas.List.{map-set, length-map, get_or-map, get_or_default}
+use Rattle.std.proofs.Common.{◌≡◌, ◌≢◌, ◌⊎◌, inl, inr, ℕ, zero, suc, Bool, false, ◌+◌, ◌<◌, ◌≤◌, List, [], ◌∷◌, ◌++◌, length, get_or, map, replicate, refl, sym, ap, subst, ◌∙◌, arith, Result, Ok, Err, OnOk, OnErr, slice_index_or, slice_set}
+use Rattle.std.proofs.lemmas.List.{map-set, length-map, get_or-map, get_or_default, length-set, get_or-set_same, get_or-set_other}
+use Rattle.swap_laws.proofs.Prefixes.{same_or_not}
 use Rattle.std.proofs.Math.Seq.{map-set_same}
 use Rattle.std.proofs.Math.ListN.{set}
 use Rattle.swap_digraph.specs.declared.deal.Deal.{Deal}
@@ -11,14 +12,11 @@ use Rattle.ledger_core.specs.History.{IsLegal}
 use Rattle.std.specs.List.{range_with_len}
 use Rattle.std.proofs.lemmas.List.FromFn.{length-map-range_with_len}
 use Rattle.swap_digraph.proofs.Ranges.{place_is}
-use Rattle.swap_world.specs.Run.{no_histories, after_move}
-use Rattle.swap_world.specs.Value.{WorldState}
+use Rattle.swap_run.specs.Run.{no_histories, after_move}
 use Rattle.deviator_script.specs.declared.moves.Move.{Move}
 use Rattle.deviator_script.specs.Resolved.{call_of}
+use Rattle.swap_world.specs.Acting.{histories}
 use Rattle.swap_world.specs.Inside.{AreLedgersOf, IsLedgerOf, new_ledger, new_ledgers}
-
-abbrev pub histories : List LedgerState → Histories
-histories ls = map (λ l. l.history) ls
 
 pub on_ok : {A E : Type 0} {P Q : Type 0} (r : Result A E) → (P → Q) → OnOk r P → OnOk r Q
 on_ok (Ok x) f h = f h
@@ -69,33 +67,35 @@ are_new d = record {
   each = λ a l lt is. let n = length-map-range_with_len (new_ledger d) 0 (length d.graph.arcs) in new_is d a l (place_is (new_ledger d) (length d.graph.arcs) a (new_ledgers d) l refl (omega arith) is);
 }
 
-abbrev pub world : Deal → List LedgerState → Bool → WorldState
-world d ls s = record { deal = d; histories = histories ls; stopped = s }
+pub book_ok : (ls : List LedgerState) (a : ℕ) (old new : LedgerState) (f : List Entry → List Entry) → a < length ls → old ≡ get_or ls a old → new.history ≡ f old.history → histories (set ls a new) ≡ set (histories ls) a (f (history (histories ls) a))
+book_ok ls a old new f lt is e = changed ls a new (f old.history) e ∙ ap (λ (h : List Entry). set (histories ls) a (f h)) (sym (history_at ls a old lt is))
 
-pub step_ok : (d : Deal) (s : Bool) (ls : List LedgerState) (a : ℕ) (old new : LedgerState) (f : List Entry → List Entry) → a < length ls → old ≡ get_or ls a old → new.history ≡ f old.history
-    → world d (set ls a new) s ≡ record { deal = d; histories = set (histories ls) a (f (history (histories ls) a)); stopped = s }
-step_ok d s ls a old new f lt is e =
-    ap (λ (b : Histories). ws d s b) (changed ls a new (f old.history) e ∙ ap (λ (h : List Entry). set (histories ls) a (f h)) (sym (history_at ls a old lt is)))
-  where
-    ws : Deal → Bool → Histories → WorldState
-    ws d' s' b = record { deal = d'; histories = b; stopped = s' }
-
-pub step_err : (d : Deal) (s : Bool) (ls : List LedgerState) (a : ℕ) (old new : LedgerState) → old ≡ get_or ls a old → new.history ≡ old.history → world d (set ls a new) s ≡ world d ls s
-step_err d s ls a old new is e = ap (λ (b : Histories). ws d s b) (unchanged ls a old new is e)
-  where
-    ws : Deal → Bool → Histories → WorldState
-    ws d' s' b = record { deal = d'; histories = b; stopped = s' }
+pub book_err : (ls : List LedgerState) (a : ℕ) (old new : LedgerState) → old ≡ get_or ls a old → new.history ≡ old.history → histories (set ls a new) ≡ histories ls
+book_err ls a old new is e = unchanged ls a old new is e
 
 -- what a move makes of the ledger of arc a
 pub made : (d : Deal) (a p : ℕ) (mv : Move) (old new : LedgerState) → IsLedgerOf d a old → new.history ≡ after_move old.deal old.arc p (call_of old.deal mv) old.history → new.history ≡ after_move d a p (call_of d mv) old.history
 made d a p mv old new k e =
     e ∙ ap (λ (x : Deal). after_move x old.arc p (call_of x mv) old.history) k.deal ∙ ap (λ (x : ℕ). after_move d x p (call_of d mv) old.history) k.arc
 
-pub new_world : (d : Deal) (ls : List LedgerState) → ls ≡ new_ledgers d → world d ls false ≡ record { deal = d; histories = no_histories d; stopped = false }
-new_world d ls e = ap (λ (b : Histories). ws d b) (ap histories e ∙ none_yet d)
-  where
-    ws : Deal → Histories → WorldState
-    ws d' b = record { deal = d'; histories = b; stopped = false }
-
 pub opened : (d d' : Deal) (ls : List LedgerState) → d' ≡ d → ls ≡ new_ledgers d → AreLedgersOf d' ls
 opened d d' ls e f = subst (λ x. AreLedgersOf x ls) (sym e) (subst (λ x. AreLedgersOf d x) (sym f) (are_new d))
+
+-- A ledger in the place of another.
+
+pub moved : (d : Deal) (a : ℕ) (old new : LedgerState) → IsLedgerOf d a old → new.deal ≡ old.deal → new.arc ≡ old.arc → IsLegal new.deal new.arc new.history → IsLedgerOf d a new
+moved d a old new k ed ea legal = record {
+  deal = ed ∙ k.deal;
+  arc = ea ∙ k.arc;
+  legal = subst (λ (x : Deal). IsLegal x a new.history) (ed ∙ k.deal) (subst (λ (y : ℕ). IsLegal new.deal y new.history) (ea ∙ k.arc) legal);
+}
+
+pub ledger_set : (d : Deal) (ls : List LedgerState) (a : ℕ) (y : LedgerState) → AreLedgersOf d ls → a < length ls → IsLedgerOf d a y → AreLedgersOf d (set ls a y)
+ledger_set d ls a y k lt i = record {
+  one_each = length-set ls a y ∙ k.one_each;
+  each = λ b x l e. at b x (subst (λ n. b < n) (length-set ls a y) l) e (same_or_not b a);
+}
+  where
+    at : (b : ℕ) (x : LedgerState) → b < length ls → x ≡ get_or (set ls a y) b x → (b ≡ a) ⊎ (b ≢ a) → IsLedgerOf d b x
+    at b x l e (inl s) = subst (λ u. IsLedgerOf d u x) (sym s) (subst (IsLedgerOf d a) (sym (e ∙ (ap (λ u. get_or (set ls a y) u x) s ∙ get_or-set_same ls a y x lt))) i)
+    at b x l e (inr n) = k.each b x l (e ∙ get_or-set_other ls a b y x n)

@@ -1,2 +1,9 @@
 pub mod Turns
 pub mod Ledgers
+pub mod Signed
+pub mod Known
+pub mod States
+pub mod Acts
+pub mod Worlds
+pub mod Team
+pub mod Begun

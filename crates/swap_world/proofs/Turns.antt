@@ -1,14 +1,16 @@
 -- What a call leaves of a history.
-use Rattle.std.proofs.Common.{◌≡◌, ◌≢◌, ℕ, List, [], ◌∷◌, ◌++◌, cond, refl, ap, ◌∙◌}
+use Rattle.std.proofs.Common.{◌≡◌, ◌≢◌, ℕ, Bool, true, false, List, [], ◌∷◌, ◌++◌, cond, refl, ap, ◌∙◌}
 use Rattle.swap_digraph.specs.declared.deal.Deal.{Deal}
 use Rattle.escrow_core.specs.declared.reply.Reply.{Reply}
 use Rattle.escrow_core.specs.declared.reply.Reply.TheVariants.{SenderFull}
 use Rattle.ledger_core.specs.declared.entry.Call.{Call}
 use Rattle.ledger_core.specs.declared.entry.Entry.{Entry}
 use Rattle.ledger_core.specs.Value.{LedgerState}
+use Rattle.swap_laws.specs.Machine.{Begins}
+use Rattle.swap_laws.proofs.Prefixes.{begins_refl}
 use Rattle.ledger_core.specs.History.{height, reply_to}
 use Rattle.ledger_core.specs.Ledger.{IsAfter, call_entry}
-use Rattle.swap_world.specs.Run.{is_sender_full, after_call}
+use Rattle.swap_run.specs.Run.{is_sender_full, after_call}
 
 full_or_kept : (r : Reply) (h h' : List Entry) (e : Entry) → (r ≡ SenderFull → h' ≡ h) → (r ≢ SenderFull → h' ≡ h ++ e ∷ []) → h' ≡ cond (is_sender_full r) h (h ++ e ∷ [])
 full_or_kept SenderFull h h' e full kept = full refl
@@ -29,3 +31,12 @@ called old mid new p c r same reply full kept =
     full_or_kept r mid.history new.history (call_entry p (height mid.history) c r) (λ k. ap (λ (l : LedgerState). l.history) (full k)) (λ k. (kept k).history)
     ∙ ap (λ (h : List Entry). cond (is_sender_full r) h (h ++ call_entry p (height h) c r ∷ [])) same.history
     ∙ ap (λ (x : Reply). cond (is_sender_full x) old.history (old.history ++ call_entry p (height old.history) c x ∷ [])) now
+
+-- a call leaves the entries before it
+pub call_begins : (d : Deal) (a p : ℕ) (c : Call) (h : List Entry) → Begins h (after_call d a p c h)
+unfolding after_call
+call_begins d a p c h = go (is_sender_full (reply_to d a h p c))
+  where
+    go : (b : Bool) → Begins h (cond b h (h ++ call_entry p (height h) c (reply_to d a h p c) ∷ []))
+    go true = begins_refl h
+    go false = (call_entry p (height h) c (reply_to d a h p c) ∷ [], refl)

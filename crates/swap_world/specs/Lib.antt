@@ -1,3 +1,5 @@
-pub mod Run
+pub mod Cast
 pub mod Value
+pub mod Staff
+pub mod Acting
 pub mod Inside

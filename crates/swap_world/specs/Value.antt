@@ -1,10 +1,24 @@
 -- What callers see of a world.
-use Rattle.std.specs.Prelude.{Bool}
+use Rattle.std.specs.Prelude.{ℕ, List, Option, Bool, false}
 use Rattle.swap_digraph.specs.declared.deal.Deal.{Deal}
-use Rattle.ledger_core.specs.Book.{Histories}
+use Rattle.deviator_script.specs.declared.job.Job.{Job}
+use Rattle.swap_run.specs.Run.{Cast, State, start}
+use Rattle.swap_world.specs.Cast.{cast_with}
 
 pub record WorldState : Type 0 where
   pub deal : Deal
-  pub histories : Histories
+  -- which parties conform
+  pub conforming : List Bool
+  -- the seed of each party, where it is there
+  pub seeds : List (Option (List ℕ))
+  pub state : State
   -- memory ran out in an earlier step
   pub stopped : Bool
+
+-- who takes part
+abbrev pub cast_at : WorldState → Cast
+cast_at w = cast_with w.deal w.conforming w.seeds
+
+-- the world of a job before any event
+abbrev pub new_world : Job → WorldState
+new_world job = record { deal = job.deal; conforming = job.conforming; seeds = job.seeds; state = start job.deal; stopped = false }

@@ -1,17 +1,27 @@
-//! What an event does to one ledger.
+//! What an event does to one ledger, and to the machine of a party beside it.
 
-ghost use Rattle.std.specs.Prelude.{◌≡◌, ◌==◌, ◌||◌, ◌<◌, ◌≤◌, IsTrue, OnOk, OnErr, length};
+ghost use Rattle.std.specs.Prelude.{◌≡◌, ◌==◌, ◌||◌, ◌<◌, ◌≤◌, ◌+◌, ◌⊎◌, ℕ, Some, IsTrue, OnOk, OnErr, length, slice_set};
 ghost use Rattle.swap_digraph.specs.Deal.{IsWellSized, party, counterparty};
 ghost use Rattle.ledger_core.specs.History.{IsLegal, fit};
+ghost use Rattle.ledger_core.specs.Book.{history};
 ghost use Rattle.deviator_script.specs.Resolved.{arc_of, call_of, IsFitting};
-ghost use Rattle.swap_world.specs.Run.{after_tick, after_call, after_move};
+ghost use Rattle.swap_laws.specs.Machine.{Begins};
+ghost use Rattle.swap_rules.specs.Due.{Action};
+ghost use Rattle.swap_run.specs.Run.{after_tick, after_call, after_move};
+ghost use Rattle.party_machine.specs.Machine.{next_of};
+ghost use Rattle.swap_world.specs.Acting.{IsMakable, IsSameOwner, histories, book_after, machine_after};
+ghost use Rattle.swap_world.specs.Inside.{AreLedgersOf, IsLedgerOf};
 
 use deviator_script::{Move, resolve};
+use history_index::Steps;
 use ledger_core::{Call, Ledger};
-use swap_base::{NoMemory, PartyId};
+use party_machine::Machine;
+use std::marker::Brand;
+use std::sync::ledger::{Blank, Ledger as Counted};
+use swap_base::{ArcId, NoMemory, PartyId};
 
 /// Ticks a ledger by k heights.
-#[tactic(auto, unfolding(crate::specs::Run::after_tick))]
+#[tactic(auto, unfolding(swap_run::specs::Run::after_tick))]
 pub(crate) fn tick(ledger: &mut Ledger, k: u32) -> Result<(), NoMemory>
     requires some { 1 ≤ k }
     requires below { k ≤ 1000000 }
@@ -28,8 +38,8 @@ pub(crate) fn tick(ledger: &mut Ledger, k: u32) -> Result<(), NoMemory>
 }
 
 /// Makes a call on a ledger.
-#[tactic(auto, unfolding(crate::specs::Run::after_call))]
-fn call(ledger: &mut Ledger, sender: PartyId, call: Call) -> Result<(), NoMemory>
+#[tactic(auto, unfolding(swap_run::specs::Run::after_call))]
+pub(crate) fn call(ledger: &mut Ledger, sender: PartyId, call: Call) -> Result<(), NoMemory>
     requires of_the_two { IsTrue ((sender == party ledger.old.deal ledger.old.arc) || (sender == counterparty ledger.old.deal ledger.old.arc)) }
     requires fits { IsTrue (fit ledger.old.deal ledger.old.arc call) }
     requires legal { IsLegal ledger.old.deal ledger.old.arc ledger.old.history }
@@ -58,5 +68,92 @@ pub(crate) fn make(ledger: &mut Ledger, sender: PartyId, mv: &Move) -> Result<()
     match resolve(ledger.deal(), mv)? {
         Some(made) => call(ledger, sender, made),
         None => Ok(()),
+    }
+}
+
+/// Lets a machine know a ledger up to its end, in as many steps as there are entries that it doesn't know.
+fn learn_in<L: Counted>(
+    machine: &mut Machine,
+    ledger: &Ledger,
+    steps: &mut Steps<L>,
+) -> Result<(), NoMemory>
+    requires same { ledger.now.deal ≡ machine.old.deal }
+    requires legal { IsLegal ledger.now.deal ledger.now.arc ledger.now.history }
+    requires arc { ledger.now.arc < length ledger.now.deal.graph.arcs }
+    requires begins { Begins (history machine.old.known ledger.now.arc) ledger.now.history }
+    ensures ok { OnOk result (machine.new ≡ record machine.old { known = slice_set machine.old.known ledger.now.arc ledger.now.history }) }
+    ensures err { OnErr result (machine.new ≡ machine.old) }
+    ensures counted { OnOk result (steps.new + length (history machine.old.known ledger.now.arc) ≡ steps.old + length ledger.now.history) }
+{
+    let arc = ledger.arc();
+    let fresh = ledger.copy_from(machine.known(arc).len())?;
+    machine.learn(arc, fresh, steps)
+}
+
+fn learn_counted<L: Counted>(
+    machine: &mut Machine,
+    ledger: &Ledger,
+    blank: Blank,
+) -> Result<(), NoMemory>
+    requires name { blank.name ≡ L.name }
+    requires parts { blank.parts ≡ L.parts }
+    requires one { blank.parts ≡ 1 }
+    requires same { ledger.now.deal ≡ machine.old.deal }
+    requires legal { IsLegal ledger.now.deal ledger.now.arc ledger.now.history }
+    requires arc { ledger.now.arc < length ledger.now.deal.graph.arcs }
+    requires begins { Begins (history machine.old.known ledger.now.arc) ledger.now.history }
+    ensures ok { OnOk result (machine.new ≡ record machine.old { known = slice_set machine.old.known ledger.now.arc ledger.now.history }) }
+    ensures err { OnErr result (machine.new ≡ machine.old) }
+{
+    let mut steps = Steps::<L>::new(blank);
+    learn_in(machine, ledger, &mut steps)
+}
+
+/// Lets a machine know a ledger up to its end.
+pub(crate) fn learn(machine: &mut Machine, ledger: &Ledger) -> Result<(), NoMemory>
+    requires same { ledger.now.deal ≡ machine.old.deal }
+    requires legal { IsLegal ledger.now.deal ledger.now.arc ledger.now.history }
+    requires arc { ledger.now.arc < length ledger.now.deal.graph.arcs }
+    requires begins { Begins (history machine.old.known ledger.now.arc) ledger.now.history }
+    ensures ok { OnOk result (machine.new ≡ record machine.old { known = slice_set machine.old.known ledger.now.arc ledger.now.history }) }
+    ensures err { OnErr result (machine.new ≡ machine.old) }
+{
+    learn_counted::<Brand>(machine, ledger, Blank::new(1))
+}
+
+/// Makes a call of a machine, which then knows the ledger up to its end.
+fn make_due(
+    machine: &mut Machine,
+    ledger: &mut Ledger,
+    arc: ArcId,
+    due: Call,
+) -> Result<(), NoMemory>
+    requires ledger { IsLedgerOf machine.old.deal arc ledger.old }
+    requires makable { IsMakable machine.old.deal machine.old.me (record { arc = arc; call = due }) }
+    requires begins { Begins (history machine.old.known arc) ledger.old.history }
+    ensures ok { OnOk result (ledger.new.history ≡ after_call machine.old.deal arc machine.old.me due ledger.old.history) }
+    ensures knows { OnOk result (machine.new ≡ record machine.old { known = slice_set machine.old.known arc (after_call machine.old.deal arc machine.old.me due ledger.old.history) }) }
+    ensures err { OnErr result ((ledger.new.history ≡ ledger.old.history) ⊎ (ledger.new.history ≡ after_call machine.old.deal arc machine.old.me due ledger.old.history)) }
+    ensures ledger { IsLedgerOf machine.old.deal arc ledger.new }
+    ensures owner { IsSameOwner machine.old machine.new }
+{
+    call(ledger, machine.me(), due)?;
+    learn(machine, ledger)
+}
+
+/// Makes the first call that is due for a machine, if any.
+pub(crate) fn act(machine: &mut Machine, ledgers: &mut Vec<Ledger>) -> Result<(), NoMemory>
+    requires ledgers { AreLedgersOf machine.old.deal ledgers.old.items }
+    requires makable { (x : Action) → next_of machine.old ≡ Some x → IsMakable machine.old.deal machine.old.me x }
+    requires begins { (a : ℕ) → Begins (history machine.old.known a) (history (histories ledgers.old.items) a) }
+    ensures ok { OnOk result (histories ledgers.new.items ≡ book_after machine.old (next_of machine.old) (histories ledgers.old.items)) }
+    ensures knows { OnOk result (machine.new ≡ machine_after machine.old (next_of machine.old) (histories ledgers.old.items)) }
+    ensures err { OnErr result ((histories ledgers.new.items ≡ histories ledgers.old.items) ⊎ (histories ledgers.new.items ≡ book_after machine.old (next_of machine.old) (histories ledgers.old.items))) }
+    ensures ledgers { AreLedgersOf machine.old.deal ledgers.new.items }
+    ensures owner { IsSameOwner machine.old machine.new }
+{
+    match machine.next()? {
+        None => Ok(()),
+        Some((arc, due)) => make_due(machine, &mut ledgers[arc as usize], arc, due),
     }
 }

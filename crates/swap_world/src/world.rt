@@ -1,25 +1,35 @@
 //! A world.
 
-ghost use Rattle.std.specs.Prelude.{◌≡◌, ◌<◌, IsTrue, OnOk, OnErr, IfOk, IsErr, false, true, length, map};
+ghost use Rattle.std.specs.Prelude.{◌≡◌, ◌<◌, ◌⊎◌, IsTrue, OnOk, OnErr, IfOk, IsErr, false, true, length, map};
+ghost use Rattle.swap_base.specs.Fault.{Gives};
 ghost use Rattle.swap_digraph.specs.Deal.{IsWellSized};
 ghost use Rattle.ledger_core.specs.Book.{IsLegalBook};
-ghost use Rattle.deviator_script.specs.Step.{CanStep, CanTick, CanCall};
-ghost use Rattle.swap_world.specs.Run.{step, no_histories};
+ghost use Rattle.deviator_script.specs.Step.{CanStep, CanTick, CanLook, CanCall};
+ghost use Rattle.swap_rules.specs.Accepted.{IsAccepted};
+ghost use Rattle.swap_run.specs.Run.{step};
+ghost use Rattle.swap_run.specs.Laws.{IsKept};
+ghost use Rattle.swap_world.specs.Value.{cast_at};
+ghost use Rattle.swap_world.specs.Staff.{world_of, HaveSeeds};
 ghost use Rattle.swap_world.specs.Inside.{new_ledgers};
 
+use crate::actor::Actor;
+use crate::staff::{WorldFault, actors_of};
 use crate::turn;
-use deviator_script::{Event, Move, arc_of_move};
+use deviator_script::{Event, Job, Move, arc_of_move};
 use ledger_core::{Book, EntryList, Ledger};
 use std::alloc::Global;
 use std::marker::Model;
-use swap_base::{ArcId, Listed, NoMemory, PartyId};
+use swap_base::{ArcId, Digest, Listed, NoMemory, PartyId, TryCopy};
 use swap_digraph::{Deal, copy_deal};
 
-/// The ledgers of a job whose parties are manual.
+/// The ledgers of a job, and what acts for its parties.
 #[derive(Drop)]
 pub struct World {
     deal: Deal,
+    conforming: Listed<bool>,
+    seeds: Listed<Option<Digest>>,
     ledgers: Vec<Ledger>,
+    actors: Vec<Actor>,
     stopped: bool,
 }
 
@@ -58,51 +68,86 @@ fn histories_of(alloc: Global, mut ledgers: Vec<Ledger>) -> Result<Listed<EntryL
 }
 
 impl World {
-    /// A world whose histories are empty.
-    pub fn new(alloc: Global, deal: &Deal) -> Result<World, NoMemory>
-        requires { IsWellSized deal.now }
-        ensures { IfOk result (λ w. w ≡ record { deal = deal.now; histories = no_histories deal.now; stopped = false }) }
+    /// A world before any event, or the first conforming party whose seed isn't that of the deal.
+    pub fn new(alloc: Global, job: &Job) -> Result<World, WorldFault>
+        requires accepted { IsAccepted job.now.deal }
+        requires seeds { HaveSeeds job.now }
+        ensures { Gives (λ w. w) result (world_of job.now) }
     {
+        let actors = actors_of(alloc, job)?;
         Ok(World {
-            deal: copy_deal(deal)?,
-            ledgers: ledgers_of(alloc, deal)?,
+            deal: copy_deal(&job.deal)?,
+            conforming: Listed::new(Vec::from_slice(alloc, job.conforming.as_slice())?),
+            seeds: job.seeds.copy()?,
+            ledgers: ledgers_of(alloc, &job.deal)?,
+            actors,
             stopped: false,
         })
     }
 
     fn tick(&mut self, arc: ArcId, k: u32) -> Result<(), NoMemory>
-        requires { CanTick self.old.deal arc k }
-        ensures ok { OnOk result (self.new ≡ record self.old { histories = step self.old.deal self.old.histories (Event.Tick arc k) }) }
+        requires event { CanTick self.old.deal arc k }
+        ensures ok { OnOk result (self.new ≡ record self.old { state = step (cast_at self.old) self.old.state (Event.Tick arc k) }) }
         ensures err { OnErr result (self.new ≡ self.old) }
     {
         let ledger = &mut self.ledgers[arc as usize];
         turn::tick(ledger, k)
     }
 
+    fn look(&mut self, p: PartyId, arc: ArcId) -> Result<(), NoMemory>
+        requires event { CanLook self.old.deal p arc }
+        requires goes_on { self.old.stopped ≡ false }
+        ensures ok { OnOk result (self.new ≡ record self.old { state = step (cast_at self.old) self.old.state (Event.Look p arc) }) }
+        ensures err { OnErr result (self.new ≡ self.old) }
+    {
+        let Actor::Conforming(machine) = &mut self.actors[p as usize] else {
+            return Ok(());
+        };
+        turn::learn(machine, &self.ledgers[arc as usize])
+    }
+
+    fn act(&mut self, p: PartyId) -> Result<(), NoMemory>
+        requires party { p < self.old.deal.graph.n }
+        requires goes_on { self.old.stopped ≡ false }
+        ensures ok { OnOk result (self.new ≡ record self.old { state = step (cast_at self.old) self.old.state (Event.Act p) }) }
+        ensures stopped { OnErr result (self.new.stopped ≡ true) }
+        ensures cast { OnErr result (cast_at self.new ≡ cast_at self.old) }
+        ensures book { OnErr result ((self.new.state.book ≡ self.old.state.book) ⊎ (self.new.state.book ≡ (step (cast_at self.old) self.old.state (Event.Act p)).book)) }
+    {
+        let Actor::Conforming(machine) = &mut self.actors[p as usize] else {
+            return Ok(());
+        };
+        let done = turn::act(machine, &mut self.ledgers);
+        self.stopped = done.is_err();
+        done
+    }
+
     fn make(&mut self, sender: PartyId, mv: &Move) -> Result<(), NoMemory>
-        requires { CanCall self.old.deal sender mv.now }
-        ensures ok { OnOk result (self.new ≡ record self.old { histories = step self.old.deal self.old.histories (Event.Call sender mv.now) }) }
+        requires event { CanCall self.old.deal self.old.conforming sender mv.now }
+        ensures ok { OnOk result (self.new ≡ record self.old { state = step (cast_at self.old) self.old.state (Event.Call sender mv.now) }) }
         ensures err { OnErr result (self.new ≡ self.old) }
     {
         let ledger = &mut self.ledgers[arc_of_move(mv) as usize];
         turn::make(ledger, sender, mv)
     }
 
-    /// Takes one event. After want of memory the histories are as before, and every later step wants memory too.
+    /// Takes one event. After want of memory the histories are those before the event or after it, and every later step wants memory too.
     pub fn step(&mut self, event: &Event) -> Result<(), NoMemory>
-        requires { CanStep self.old.deal event.now }
-        ensures ok { OnOk result (self.new ≡ record self.old { histories = step self.old.deal self.old.histories event.now }) }
-        ensures err { OnErr result (self.new ≡ record self.old { stopped = true }) }
-        ensures stopped { IsTrue self.old.stopped → IsErr result }
+        requires event { CanStep self.old.deal self.old.conforming event.now }
+        ensures ok { OnOk result (self.new ≡ record self.old { state = step (cast_at self.old) self.old.state event.now }) }
+        ensures err { OnErr result (self.new.stopped ≡ true) }
+        ensures cast { OnErr result (cast_at self.new ≡ cast_at self.old) }
+        ensures book { OnErr result ((self.new.state.book ≡ self.old.state.book) ⊎ (self.new.state.book ≡ (step (cast_at self.old) self.old.state event.now).book)) }
+        ensures stopped { IsTrue self.old.stopped → IsErr result × (self.new.state.book ≡ self.old.state.book) }
     {
         if self.stopped {
             return Err(NoMemory);
         }
         let done = match event {
             Event::Tick(arc, k) => self.tick(*arc, *k),
+            Event::Look(p, arc) => self.look(*p, *arc),
+            Event::Act(p) => self.act(*p),
             Event::Call(sender, mv) => self.make(*sender, mv),
-            Event::Look(_, _) => Ok(()),
-            Event::Act(_) => Ok(()),
         };
         if done.is_err() {
             self.stopped = true;
@@ -112,14 +157,12 @@ impl World {
 
     /// The book of the histories so far.
     pub fn into_book(self, alloc: Global) -> Result<Book, NoMemory>
-        ensures value { IfOk result (λ b. b.histories ≡ self.histories) }
-        ensures legal { IsLegalBook self.deal self.histories }
+        ensures value { IfOk result (λ b. b.histories ≡ self.state.book) }
+        ensures legal { IsLegalBook self.deal self.state.book }
+        // Whatever the others do, every conforming party keeps its conduct.
+        ensures kept { self.stopped ≡ false → IsKept (cast_at self) self.state.book }
     {
-        let World {
-            deal: _,
-            ledgers,
-            stopped: _,
-        } = self;
+        let World { ledgers, .. } = self;
         Ok(Book {
             histories: histories_of(alloc, ledgers)?,
         })

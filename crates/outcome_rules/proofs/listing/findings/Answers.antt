@@ -1,8 +1,9 @@
-use Rattle.std.proofs.Common.{[], if◌then◌else◌}
+use Rattle.std.proofs.Common.{rules, [], if◌then◌else◌}
 use Rattle.swap_rules.specs.Findings.{findings_of}
 use Rattle.outcome_rules.specs.Report.{conforms_in}
 use Rattle.outcome_rules.proofs.Loops.{flat_more}
 use Rattle.outcome_rules.proofs.Legal.{countable_book}
+use Rattle.outcome_rules.proofs.Promises as promises
 use Rattle.outcome_rules.proofs.listing.findings.Goals as goal
 
 pub loop-party-preserved : goal.loop-party-preserved
@@ -11,3 +12,18 @@ loop-party-preserved c =
 
 pub put_unfinished-requires-clause-countable : goal.put_unfinished-requires-clause-countable
 put_unfinished-requires-clause-countable c = countable_book c.args.deal.now c.args.book.now.histories c.requires.legal
+
+pub returns-clause-exact : goal.returns-clause-exact
+returns-clause-exact c = search rules
+
+pub returns-clause-safe : goal.returns-clause-safe
+returns-clause-safe c = promises.none_is_underwater c.args.deal.now c.args.conforming.now c.args.book.now.histories c.new.result c.requires.legal (returns-clause-exact c)
+
+pub returns-clause-refunds : goal.returns-clause-refunds
+returns-clause-refunds c = promises.all_have_refunds c.args.deal.now c.args.conforming.now c.args.book.now.histories c.new.result c.requires.legal (returns-clause-exact c)
+
+pub returns-clause-transfer : goal.returns-clause-transfer
+returns-clause-transfer c = promises.is_transferred c.args.deal.now c.args.conforming.now c.args.book.now.histories c.new.result c.requires.legal (returns-clause-exact c)
+
+pub returns-clause-nothing_found : goal.returns-clause-nothing_found
+returns-clause-nothing_found c = promises.finds_nothing c.args.deal.now c.args.conforming.now c.args.book.now.histories c.new.result c.requires.legal (returns-clause-exact c)

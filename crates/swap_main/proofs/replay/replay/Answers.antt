@@ -1,7 +1,8 @@
 use Rattle.std.proofs.Common.{◌≡◌, ℕ, List, [], map, Bor}
 use Rattle.std.proofs.lemmas.Result.{err_from_is_err_and}
 use Rattle.swap_base.specs.Fault.{Gives}
-use Rattle.swap_world.specs.Run.{no_histories}
+use Rattle.swap_run.specs.Run.{start, step}
+use Rattle.swap_world.specs.Cast.{cast_of}
 use Rattle.swap_main.specs.Replay.{replayed}
 use Rattle.swap_main.proofs.Replays.{goes_on, ends, is_done}
 use Rattle.swap_main.proofs.replay.replay.Goals as goal
@@ -14,14 +15,14 @@ pub returns-in_err-step_line-clause-exact : goal.returns-in_err-step_line-clause
 returns-in_err-step_line-clause-exact c =
     let p = err_from_is_err_and c.from_residual-in_err-step_line.result c.from_residual-in_err-step_line.ensures.1 in
     rw (p.1, p.2)
-    (ends (λ x. x.now) c.args.job.now c.args.lines.now _ c.in_err-step_line.field-0.0 c.lines.count c.lines.world.histories no_line c.lines-test.true c.in_err-step_line.ensures.exact c.lines.invariant.so_far)
+    (ends (step (cast_of c.args.job.now)) (λ x. x.now) c.args.job.now c.args.lines.now _ c.in_err-step_line.field-0.0 c.lines.count c.lines.world.state no_line c.lines-test.true c.in_err-step_line.ensures.exact c.lines.invariant.so_far)
 
 pub lines-preserved : goal.lines-preserved
 lines-preserved c = record {
-  so_far = goes_on (λ x. x.now) c.args.job.now c.args.lines.now _ c.lines.count c.lines.world.histories c.step_line.new.world.histories no_line c.lines-test.true c.in_ok-step_line.ensures.exact c.lines.invariant.so_far;
-  deal = c.in_ok-step_line.ensures.deal;
+  so_far = goes_on (step (cast_of c.args.job.now)) (λ x. x.now) c.args.job.now c.args.lines.now _ c.lines.count c.lines.world.state c.step_line.new.world.state no_line c.lines-test.true c.in_ok-step_line.ensures.exact c.lines.invariant.so_far;
+  is_of = c.in_ok-step_line.ensures.of;
   goes_on = c.in_ok-step_line.ensures.goes_on;
 }
 
 pub returns-clause-exact : goal.returns-clause-exact
-returns-clause-exact c = is_done (λ x. x.now) c.args.job.now c.args.lines.now _ c.lines.count c.lines.world.histories c.lines-test.false c.lines.invariant.so_far
+returns-clause-exact c = is_done (step (cast_of c.args.job.now)) (λ x. x.now) c.args.job.now c.args.lines.now _ c.lines.count c.lines.world.state c.lines-test.false c.lines.invariant.so_far

@@ -1,5 +1,5 @@
 use Rattle.std.proofs.Common.{◌≡◌, ◌++◌, vec_len}
-use Rattle.swap_world.proofs.Ledgers.{histories}
+use Rattle.swap_world.specs.Acting.{histories}
 use Rattle.swap_world.proofs.world.histories_of.Given as goal
 
 abbrev pub invariant-loop-ledgers : goal.invariant-loop-ledgers

@@ -1,13 +1,37 @@
-use Rattle.std.proofs.Common.{sym, subst}
-use Rattle.swap_digraph.specs.Deal.{IsWellSized}
-use Rattle.swap_world.proofs.Ledgers.{opened, new_world}
+use Rattle.std.proofs.Common.{◌≡◌, sym, ◌∙◌}
+use Rattle.std.proofs.lemmas.Result.{err_from_is_err_and}
+use Rattle.swap_base.specs.Fault.{Gives}
+use Rattle.swap_laws.proofs.Accepted.{accepted_is_well_sized}
+use Rattle.swap_world.specs.Staff.{actors_of, world_of}
+use Rattle.swap_world.proofs.Begun.{refused, world_is, ready, actors, ledgers, good}
 use Rattle.swap_world.proofs.world.World.new.Goals as goal
 
+pub actors_of-requires-clause-sized : goal.actors_of-requires-clause-sized
+actors_of-requires-clause-sized c = accepted_is_well_sized c.args.job.now.deal c.requires.accepted
+
+pub returns-in_err-actors : goal.returns-in_err-actors
+returns-in_err-actors c =
+    let p = err_from_is_err_and c.from_residual.result c.from_residual.ensures.1 in
+    rw (p.1, p.2) (refused c.args.job.now c.in_err-actors.field-0.0 c.in_err-actors.ensures)
+
+pub ledgers_of-requires : goal.ledgers_of-requires
+ledgers_of-requires c = accepted_is_well_sized c.args.job.now.deal c.requires.accepted
+
 pub invariant_of-result : goal.invariant_of-result
-invariant_of-result c = record {
-  sized = subst (λ d. IsWellSized d) (sym c.in_ok-copy_deal.ensures) c.requires;
-  ledgers = opened c.args.deal.now c.in_ok-copy_deal.field-0 c.in_ok-ledgers_of.field-0.items c.in_ok-copy_deal.ensures c.in_ok-ledgers_of.ensures;
-}
+invariant_of-result c =
+    let job = c.args.job.now in
+    let d = c.in_ok-copy_deal.field-0 in
+    let ec = c.new.ensures ∙ (c.in_ok-from_slice.ensures.items ∙ c.as_slice.ensures) in
+    let ls = c.in_ok-ledgers_of.field-0.items in
+    let ys = c.in_ok-actors.actors.items in
+    record {
+      ready = ready job d c.new.result c.in_ok-copy.field-0 ls ys c.in_ok-copy_deal.ensures ec c.in_ok-copy.ensures c.in_ok-ledgers_of.ensures c.in_ok-actors.ensures c.requires.seeds c.requires.accepted;
+      ledgers = ledgers job d c.new.result c.in_ok-copy.field-0 ls ys c.in_ok-copy_deal.ensures ec c.in_ok-copy.ensures c.in_ok-ledgers_of.ensures c.in_ok-actors.ensures c.requires.seeds;
+      actors = actors job d c.new.result c.in_ok-copy.field-0 ls ys c.in_ok-copy_deal.ensures ec c.in_ok-copy.ensures c.in_ok-ledgers_of.ensures c.in_ok-actors.ensures c.requires.seeds;
+      good = λ g. good job d c.new.result c.in_ok-copy.field-0 ls ys c.in_ok-copy_deal.ensures ec c.in_ok-copy.ensures c.in_ok-ledgers_of.ensures c.in_ok-actors.ensures c.requires.seeds c.requires.accepted;
+    }
 
 pub returns : goal.returns
-returns c = rw c.in_ok-copy_deal.ensures (new_world c.args.deal.now c.in_ok-ledgers_of.field-0.items c.in_ok-ledgers_of.ensures)
+returns c =
+    world_is c.args.job.now c.in_ok-copy_deal.field-0 c.new.result c.in_ok-copy.field-0 c.in_ok-ledgers_of.field-0.items c.in_ok-actors.actors.items c.in_ok-copy_deal.ensures
+    (c.new.ensures ∙ (c.in_ok-from_slice.ensures.items ∙ c.as_slice.ensures)) c.in_ok-copy.ensures c.in_ok-ledgers_of.ensures c.in_ok-actors.ensures c.requires.seeds

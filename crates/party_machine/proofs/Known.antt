@@ -1,0 +1,175 @@
+-- What a machine is made of, as a new one and after more entries of an arc.
+use Rattle.std.proofs.Common.{◌≡◌, ◌≢◌, ◌⊎◌, ℕ, zero, suc, ◌+◌, ◌<◌, ◌++◌, List, [], ◌∷◌, length, map, get_or, set, replicate, Option, Some, None, refl, sym, ap, ◌∙◌, subst, inl, inr, arith, zero-add}
+use Rattle.std.specs.Prelude.{Result, Ok, Err, OnOk, OnErr}
+use Rattle.std.specs.List.{range_with_len}
+use Rattle.std.proofs.Math.Seq.{map-set_same}
+use Rattle.std.proofs.lemmas.List.{map-set, get_or-map, length-map, length-set, length-replicate}
+use Rattle.std.proofs.lemmas.List.FromFn.{get_or-map-range_with_len}
+use Rattle.std.proofs.lemmas.Simd.{map-map}
+use Rattle.swap_digraph.specs.declared.deal.Deal.{Deal}
+use Rattle.swap_digraph.specs.Graph.{arcs}
+use Rattle.swap_digraph.specs.Deal.{party, counterparty, IsWellSized}
+use Rattle.escrow_core.specs.Terms.{terms_of}
+use Rattle.hashkey_path.specs.declared.hashkey.Hashkey.{Hashkey}
+use Rattle.ledger_core.specs.declared.entry.Entry.{Entry}
+use Rattle.ledger_core.specs.History.{IsLegal}
+use Rattle.ledger_core.specs.Book.{Histories, history, IsLegalBook}
+use Rattle.history_index.specs.Value.{IndexState, new_index, IsSameArc}
+use Rattle.history_index.specs.Numbers.{IsIndexable}
+use Rattle.history_index.proofs.Legal.{front_indexable}
+use Rattle.swap_rules.specs.Accepted.{IsAccepted}
+use Rattle.swap_laws.specs.Machine.{IsWallet}
+use Rattle.swap_laws.proofs.Prefixes.{same_or_not}
+use Rattle.swap_laws.proofs.Conducting.{history_same, history_other}
+use Rattle.party_phase_two.specs.Unlocks.{signed_in}
+use Rattle.party_machine.specs.Value.{WalletState}
+use Rattle.party_machine.specs.Keys.{new_wallet, wallet_of}
+use Rattle.party_machine.specs.Fits.{wrong_lock}
+use Rattle.party_machine.specs.Machine.{MachineState, new_machine, machine_or, machine_for, learnt}
+use Rattle.party_machine.specs.Within.{entries_in, machine_in, AreIndexes, IsPartys, IsReady, IsKept}
+use Rattle.party_machine.specs.declared.misfit.Misfit.{Misfit}
+use Rattle.party_machine.specs.declared.machine.Machine.TheInside.{Inside}
+use Rattle.party_machine.proofs.Good.{fitting_is_good}
+
+-- What a machine shows of what it keeps.
+
+abbrev pub IsGoodFor : MachineState → Type 0
+IsGoodFor s = IsAccepted s.deal → IsWallet s.deal s.me (wallet_of s.seed s.me s.deal)
+
+pub is_good : (m : Inside) (s : MachineState) → machine_in m ≡ s → IsKept m → IsGoodFor s
+is_good m s e r = subst IsGoodFor e (λ accepted. fitting_is_good m.deal m.wallet.party m.wallet.seed accepted r.partys.party r.partys.fits)
+
+pub legal_at : (d : Deal) (w : WalletState) (known : List IndexState) (a : ℕ) → IsReady d w known → a < length d.graph.arcs → IsLegal d a (history (entries_in known) a)
+legal_at d w known a r lt = r.legal.legal a (rw r.legal.one_each lt)
+
+pub is_legal : (m : Inside) (s : MachineState) (a : ℕ) → machine_in m ≡ s → IsKept m → a < length s.deal.graph.arcs → IsLegal s.deal a (history s.known a)
+is_legal m s a e r lt = subst (λ (x : MachineState). a < length x.deal.graph.arcs → IsLegal x.deal a (history x.known a)) e (legal_at m.deal m.wallet m.known.items a r) lt
+
+pub one_each : (d : Deal) (w : WalletState) (known : List IndexState) → IsReady d w known → length known ≡ length d.graph.arcs
+one_each d w known r = sym (length-map known (λ x. x.entries)) ∙ r.legal.one_each
+
+-- the entries of an index are the history of its arc
+pub history_of : (known : List IndexState) (a : ℕ) (x : IndexState) → a < length known → x ≡ get_or known a x → history (entries_in known) a ≡ x.entries
+history_of known a x lt e = get_or-map (λ y. y.entries) known a x [] lt ∙ ap (λ (y : IndexState). y.entries) (sym e)
+
+-- A new machine.
+
+nothing_known : (d : Deal) (k n : ℕ) → entries_in (map (new_index d) (range_with_len k n)) ≡ replicate n []
+nothing_known d k zero = refl
+nothing_known d k (suc n) = ap (λ (hs : Histories). [] ∷ hs) (nothing_known d (k + 1) n)
+
+none_of_none : {A : Type 0} (n i : ℕ) (d : A) → get_or (replicate n d) i d ≡ d
+none_of_none zero i d = refl
+none_of_none (suc n) zero d = refl
+none_of_none (suc n) (suc i) d = none_of_none n i d
+
+entries_new : (d : Deal) (known : List IndexState) → known ≡ map (new_index d) (arcs d.graph) → entries_in known ≡ replicate (length d.graph.arcs) []
+entries_new d known e = ap entries_in e ∙ nothing_known d 0 (length d.graph.arcs)
+
+legal_new : (d : Deal) → IsLegalBook d (replicate (length d.graph.arcs) [])
+legal_new d = record {
+  one_each = length-replicate (length d.graph.arcs) [];
+  legal = λ a lt. subst (IsLegal d a) (sym (none_of_none (length d.graph.arcs) a [])) tt;
+}
+
+indexes_new : (d : Deal) → AreIndexes d (map (new_index d) (arcs d.graph))
+indexes_new d = record {
+  terms = map-map (λ x. x.terms) (new_index d) (arcs d.graph);
+  from = map-map (λ x. x.from) (new_index d) (arcs d.graph);
+  to = map-map (λ x. x.to) (new_index d) (arcs d.graph);
+}
+
+partys_new : (d : Deal) (v : ℕ) (seed : List ℕ) → v < d.graph.n → wrong_lock d v seed ≡ None → IsPartys d (new_wallet seed v d)
+partys_new d v seed lt fits = record {
+  party = lt;
+  mode = refl;
+  places = length-replicate (length d.leaders) None;
+  fits = fits;
+  locks = λ i k e. absurd (cc (sym (none_of_none {A = Option Hashkey} (length d.leaders) i None) ∙ e));
+}
+
+pub new_ready : (c d : Deal) (v : ℕ) (w : WalletState) (known : List IndexState) → c ≡ d → w ≡ new_wallet w.seed v d → known ≡ map (new_index d) (arcs d.graph) → IsWellSized d → v < d.graph.n → wrong_lock d v w.seed ≡ None → IsReady c w known
+new_ready c d v w known ec ew ek sized lt fits =
+    subst (λ (x : Deal). IsReady x w known) (sym ec) (record {
+      sized = sized;
+      partys = subst (IsPartys d) (sym ew) (partys_new d v w.seed lt fits);
+      indexes = subst (AreIndexes d) (sym ek) (indexes_new d);
+      legal = subst (IsLegalBook d) (sym (entries_new d known ek)) (legal_new d);
+    })
+
+pub new_is : (c d : Deal) (v : ℕ) (w : WalletState) (known : List IndexState) → c ≡ d → w ≡ new_wallet w.seed v d → known ≡ map (new_index d) (arcs d.graph)
+    → ◌≡◌ {A = MachineState} (record { deal = c; me = w.party; seed = w.seed; known = entries_in known; signed = w.signed }) (new_machine d v w.seed)
+new_is c d v w known ec ew ek =
+    let p : w.party ≡ v = ap (λ (x : WalletState). x.party) ew in
+    let s : w.signed ≡ replicate (length d.leaders) None = ap (λ (x : WalletState). x.signed) ew in
+    let k : entries_in known ≡ replicate (length d.graph.arcs) [] = entries_new d known ek in
+    rw (ec, p, s, k) refl
+
+pub new_shows : (c d : Deal) (v : ℕ) (w : WalletState) (known : List IndexState) → c ≡ d → w ≡ new_wallet w.seed v d → known ≡ map (new_index d) (arcs d.graph) → wrong_lock d v w.seed ≡ None
+    → machine_for d v w.seed ≡ Ok (record { deal = c; me = w.party; seed = w.seed; known = entries_in known; signed = w.signed })
+new_shows c d v w known ec ew ek fits = ap (machine_or d v w.seed) fits ∙ ap (λ (m : MachineState). Ok m) (sym (new_is c d v w known ec ew ek))
+
+-- More entries of an arc.
+
+-- an index in the place of one of the same arc
+pub learnt_ready : (d : Deal) (w : WalletState) (known : List IndexState) (a : ℕ) (x y : IndexState) → IsReady d w known → a < length d.graph.arcs → x ≡ get_or known a x → IsSameArc x y → IsLegal d a y.entries → IsReady d w (set known a y)
+learnt_ready d w known a x y r lt e same legal = record {
+  sized = r.sized;
+  partys = r.partys;
+  indexes = record {
+    terms = map-set_same (λ z. z.terms) known a y x (same.terms ∙ ap (λ (z : IndexState). z.terms) e) ∙ r.indexes.terms;
+    from = map-set_same (λ z. z.from) known a y x (same.from ∙ ap (λ (z : IndexState). z.from) e) ∙ r.indexes.from;
+    to = map-set_same (λ z. z.to) known a y x (same.to ∙ ap (λ (z : IndexState). z.to) e) ∙ r.indexes.to;
+  };
+  legal = subst (IsLegalBook d) (sym (map-set (λ z. z.entries) known a y)) (record {
+    one_each = length-set (entries_in known) a y.entries ∙ r.legal.one_each;
+    legal = λ c l. at c (same_or_not c a) (subst (λ z. c < z) (length-set (entries_in known) a y.entries) l);
+  });
+}
+  where
+    below : a < length (entries_in known)
+    below = rw r.legal.one_each lt
+
+    at : (c : ℕ) → (c ≡ a) ⊎ (c ≢ a) → c < length (entries_in known) → IsLegal d c (history (set (entries_in known) a y.entries) c)
+    at c (inl q) l = subst (λ z. IsLegal d z (history (set (entries_in known) a y.entries) z)) (sym q) (subst (IsLegal d a) (sym (history_same (entries_in known) a y.entries below)) legal)
+    at c (inr n) l = subst (IsLegal d c) (sym (history_other (entries_in known) a c y.entries n)) (r.legal.legal c l)
+
+-- what the call did, by its answer
+legal_by : {A E : Type 0} (d : Deal) (a : ℕ) (x y : IndexState) (more : List Entry) (r : Result A E) → IsLegal d a x.entries → IsLegal d a (x.entries ++ more) → OnOk r (y.entries ≡ x.entries ++ more) → OnErr r (y ≡ x) → IsLegal d a y.entries
+legal_by d a x y more (Ok u) before after ok err = subst (IsLegal d a) (sym ok) after
+legal_by d a x y more (Err u) before after ok err = subst (λ (z : IndexState). IsLegal d a z.entries) (sym err) before
+
+pub called_ready : {A E : Type 0} (d : Deal) (w : WalletState) (known : List IndexState) (a : ℕ) (x y : IndexState) (more : List Entry) (r : Result A E) → IsReady d w known → a < length d.graph.arcs → x ≡ get_or known a x → IsSameArc x y → IsLegal d a (history (entries_in known) a ++ more)
+    → OnOk r (y.entries ≡ x.entries ++ more) → OnErr r (y ≡ x) → IsReady d w (set known a y)
+called_ready d w known a x y more r ready lt e same legal ok err =
+    let h : history (entries_in known) a ≡ x.entries = history_of known a x (rw (one_each d w known ready) lt) e in
+    let before : IsLegal d a x.entries = subst (IsLegal d a) h (legal_at d w known a ready lt) in
+    let after : IsLegal d a (x.entries ++ more) = subst (λ (z : List Entry). IsLegal d a (z ++ more)) h legal in
+    learnt_ready d w known a x y ready lt e same (legal_by d a x y more r before after ok err)
+
+pub called_shows : {A E : Type 0} (d : Deal) (w : WalletState) (known : List IndexState) (a : ℕ) (x y : IndexState) (more : List Entry) (r : Result A E) → IsReady d w known → a < length d.graph.arcs → x ≡ get_or known a x → OnOk r (y.entries ≡ x.entries ++ more)
+    → OnOk r (◌≡◌ {A = MachineState} (record { deal = d; me = w.party; seed = w.seed; known = entries_in (set known a y); signed = w.signed }) (learnt (record { deal = d; me = w.party; seed = w.seed; known = entries_in known; signed = w.signed }) a more))
+called_shows d w known a x y more (Err u) ready lt e ok = tt
+called_shows d w known a x y more (Ok u) ready lt e ok =
+    let h : history (entries_in known) a ≡ x.entries = history_of known a x (rw (one_each d w known ready) lt) e in
+    let k : entries_in (set known a y) ≡ set (entries_in known) a (history (entries_in known) a ++ more) =
+    map-set (λ z. z.entries) known a y ∙ ap (set (entries_in known) a) (ok ∙ ap (λ (z : List Entry). z ++ more) (sym h)) in
+    ap (λ (b : Histories). record { deal = d; me = w.party; seed = w.seed; known = b; signed = w.signed }) k
+
+-- all that comes is indexable
+pub fronts : (d : Deal) (w : WalletState) (known : List IndexState) (a : ℕ) (x : IndexState) (more : List Entry) → IsReady d w known → a < length d.graph.arcs → x ≡ get_or known a x → IsLegal d a (history (entries_in known) a ++ more)
+    → (front rest : List Entry) → x.entries ++ more ≡ front ++ rest → IsIndexable x.from x.to front
+fronts d w known a x more ready lt e legal front rest q =
+    let below : a < length known = rw (one_each d w known ready) lt in
+    let h : history (entries_in known) a ≡ x.entries = history_of known a x below e in
+    let f : x.from ≡ party d a = place_of (λ z. z.from) (party d) ready.indexes.from in
+    let t : x.to ≡ counterparty d a = place_of (λ z. z.to) (counterparty d) ready.indexes.to in
+    let whole : IsLegal d a (front ++ rest) = subst (IsLegal d a) (ap (λ (z : List Entry). z ++ more) h ∙ q) legal in
+    rw (f, t) (front_indexable d a front rest ready.sized whole)
+  where
+    place_of : (g : IndexState → ℕ) (of : ℕ → ℕ) → map g known ≡ map of (arcs d.graph) → g x ≡ of a
+    place_of g of made =
+        ap g e
+        ∙ sym (get_or-map g known a x (g x) (rw (one_each d w known ready) lt))
+        ∙ ap (λ (ts : List ℕ). get_or ts a (g x)) made
+        ∙ get_or-map-range_with_len of 0 (length d.graph.arcs) a a (g x) lt (zero-add a)

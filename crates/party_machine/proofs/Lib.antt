@@ -1,0 +1,11 @@
+pub mod Unspent
+pub mod Digests
+pub mod Least
+pub mod Good
+pub mod Known
+pub mod Opened
+pub mod Onto
+pub mod Signed
+pub mod Next
+pub mod Chosen
+pub mod Step

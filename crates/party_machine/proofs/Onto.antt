@@ -1,0 +1,83 @@
+-- A hashkey that a party saw is one that it can put its signature onto.
+use Rattle.std.proofs.Common.{◌≡◌, ℕ, ◌+◌, ◌<◌, ◌≤◌, ◌==◌, Bool, true, false, cond, List, [], ◌∷◌, length, get_or, Option, Some, None, is_some, option_map, refl, sym, ap, ◌∙◌, subst, inl, inr, arith, eqb-true}
+use Rattle.std.specs.List.{find}
+use Rattle.swap_base.specs.Lists.{IsIn}
+use Rattle.swap_base.proofs.Lists.{and_parts}
+use Rattle.std.proofs.lemmas.Bool.{not-false, not-true}
+use Rattle.swap_digraph.specs.Graph.{leaving, is_among, has_arc}
+use Rattle.swap_digraph.specs.declared.deal.Deal.{Deal}
+use Rattle.swap_digraph.specs.declared.deal.Mode.{Mode}
+use Rattle.swap_digraph.specs.declared.deal.Mode.TheVariants.{Timelocks, Hashkeys}
+use Rattle.swap_digraph.specs.declared.deal.Version.{Version}
+use Rattle.swap_digraph.specs.declared.deal.Version.TheVariants.{One, Two}
+use Rattle.swap_digraph.specs.Deal.{party, counterparty, leader_of, path_limit, path_limit_of, most_parties, IsWellSized}
+use Rattle.hashkey_path.specs.declared.hashkey.Hashkey.{Hashkey}
+use Rattle.hashkey_path.specs.Hashkey.{is_valid, is_wrong_path}
+use Rattle.hashkey_path.proofs.Signed.{leads_on, longer_path}
+use Rattle.escrow_core.specs.Terms.{hashlock_in}
+use Rattle.ledger_core.specs.History.{Opening, opened, IsLegal}
+use Rattle.ledger_core.specs.Book.{Histories, history}
+use Rattle.swap_rules.specs.Conduct.{opens_without}
+use Rattle.swap_laws.proofs.Words.{leaves}
+use Rattle.swap_laws.proofs.Graph.{path_length}
+use Rattle.swap_laws.proofs.Times.{path_of, path_of_valid}
+use Rattle.swap_laws.proofs.History.{opened_done, of_unlock}
+use Rattle.swap_laws.proofs.Entering.{valid_of_unlock}
+use Rattle.party_phase_two.specs.Unlocks.{key_on, seen_on}
+use Rattle.party_machine.specs.Unlocking.{CanPutOnto}
+use Rattle.party_machine.proofs.Good.{valid_of_test}
+
+by_test : {A : Type 0} (p : A → Bool) (x y : A) (b : Bool) (o : Option A) (xs : List A) → p x ≡ b → (o ≡ Some y → IsIn y xs × (p y ≡ true)) → cond b (Some x) o ≡ Some y → IsIn y (x ∷ xs) × (p y ≡ true)
+by_test p x y true o xs t h e = let same : x ≡ y = cc in (inl (sym same), ap p (sym same) ∙ t)
+by_test p x y false o xs t h e = let r = h e in (inr r.0, r.1)
+
+-- what is found is an element that passes
+pub found : {A : Type 0} (p : A → Bool) (xs : List A) (y : A) → find p xs ≡ Some y → IsIn y xs × (p y ≡ true)
+found p [] y e = absurd (cc e)
+found p (x ∷ xs) y e = by_test p x y (p x) (find p xs) xs refl (found p xs y) e
+
+record Seen (v : ℕ) (o : Option Opening) : Type 0 where
+  pub opening : Opening
+  pub is : o ≡ Some opening
+  pub apart : is_among v opening.key.path ≡ false
+
+seen_parts : (v : ℕ) (o : Option Opening) → opens_without v o ≡ true → Seen v o
+seen_parts v None e = absurd (cc e)
+seen_parts v (Some o) e = record { opening = o; is = refl; apart = not-true (is_among v o.key.path) e }
+
+enough : (ver : Version) (n : ℕ) → n ≤ most_parties ver → n ≤ path_limit_of ver
+enough One n h = h
+enough Two n h = h
+
+some_room : (ver : Version) → 0 < path_limit_of ver
+some_room One = omega arith
+some_room Two = omega arith
+
+module _ (d : Deal) (v a : ℕ) (key : Hashkey) (hashlock : List ℕ) (sized : IsWellSized d) (below : v < d.graph.n) (arc : IsIn a (leaving d.graph v)) (valid : is_valid d a hashlock key ≡ true) (apart : is_among v key.path ≡ false) where
+  fits_path : (m : Mode) → d.mode ≡ m → (length key.path < path_limit d) × (length key.sigs ≡ length key.path)
+  fits_path Timelocks e =
+      let w : is_wrong_path d a Timelocks key ≡ false = ap (λ m. is_wrong_path d a m key) (sym e) ∙ path_of_valid d a hashlock key valid in
+      let p = and_parts (length key.path == 0) (length key.sigs == 0) (not-false _ w) in
+      let lp = eqb-true (length key.path) 0 p.0 in
+      let ls = eqb-true (length key.sigs) 0 p.1 in
+      let room = some_room d.version in
+      (omega arith, ls ∙ sym lp)
+  fits_path Hashkeys e =
+      let p = path_of d a key e (path_of_valid d a hashlock key valid) in
+      let l = leaves d v a arc in
+      let leads = subst (λ u. has_arc d.graph u (get_or key.path 0 0) ≡ true) l.1 (leads_on d a hashlock key l.0 e (valid_of_test d a hashlock key valid)) in
+      let longer = longer_path d.graph v (counterparty d a) (leader_of d key.lock) key.path below apart leads (p.path, p.first, p.last) in
+      let most = path_length d.graph (v ∷ key.path) longer.0 in
+      let limit : d.graph.n ≤ path_limit d = enough d.version d.graph.n sized.parties.1 in
+      (omega arith, sym p.lengths)
+
+pub can_put_onto : (d : Deal) (v i a : ℕ) (k : Histories) → IsWellSized d → v < d.graph.n → ((c : ℕ) → c < length d.graph.arcs → IsLegal d c (history k c)) → seen_on d v k i ≡ Some a → CanPutOnto d i (key_on k a i)
+can_put_onto d v i a k sized below legal seen =
+    let f = found (λ c. opens_without v (opened (history k c) i)) (leaving d.graph v) a seen in
+    let l = leaves d v a f.0 in
+    let s = seen_parts v (opened (history k a) i) f.1 in
+    let u = opened_done d a (history k a) i s.opening (legal a l.0) s.is in
+    let of_u = of_unlock d a u.0.past u.0.act.by s.opening.key u.0.clear in
+    let valid = valid_of_unlock d a u.0.past u.0.act.by s.opening.key of_u in
+    let fits = fits_path d v a s.opening.key (hashlock_in of_u.contract.terms s.opening.key.lock) sized below f.0 valid s.apart d.mode refl in
+    subst (λ (o : Option Opening). CanPutOnto d i (option_map (λ x. x.key) o)) (sym s.is) (u.1, fits.0, fits.1)

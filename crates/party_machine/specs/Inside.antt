@@ -1,0 +1,21 @@
+-- What the fields of a wallet mean, and what holds of them.
+use Rattle.std.specs.Prelude.{◌≡◌, ◌<◌, ◌≤◌, ℕ, List, length, Option, None, slice_index_or}
+use Rattle.swap_digraph.specs.declared.deal.Mode.{Mode}
+use Rattle.hashkey_path.specs.declared.hashkey.Hashkey.{Hashkey}
+use Rattle.party_machine.specs.Value.{WalletState}
+use Rattle.party_machine.specs.Keys.{unspent}
+use Rattle.party_machine.specs.declared.wallet_key.WalletKey.{WalletKey}
+use Rattle.party_machine.specs.declared.wallet.Wallet.TheInside.{Inside}
+
+-- what its fields show
+abbrev pub wallet_in : Inside → WalletState
+wallet_in w = record { mode = w.mode; seed = w.seed; party = w.party; signed = w.signed.keys }
+
+-- A lock for which nothing is signed has its key unspent.
+pub record AreUnspent (m : Mode) (seed : List ℕ) (v : ℕ) (keys : List (Option WalletKey)) (signed : List (Option Hashkey)) : Type 0 where
+  pub one_each : length keys ≡ length signed
+  pub few : length signed ≤ 8
+  pub unspent_at : (i : ℕ) → i < length signed → slice_index_or signed i None ≡ None → slice_index_or keys i None ≡ unspent m seed v i
+
+abbrev pub IsKept : Inside → Type 0
+IsKept w = AreUnspent w.mode w.seed w.party w.keys.items w.signed.keys

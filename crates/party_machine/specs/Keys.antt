@@ -1,0 +1,42 @@
+-- What a seed gives a party to sign with.
+use Rattle.std.specs.Prelude.{ℕ, List, [], length, replicate, Option, Some, None, slice_index_or, slice_set}
+use Rattle.swap_digraph.specs.declared.deal.Deal.{Deal}
+use Rattle.swap_digraph.specs.declared.deal.Mode.{Mode}
+use Rattle.swap_digraph.specs.declared.deal.Mode.TheVariants.{Timelocks, Hashkeys}
+use Rattle.hash_signature.specs.Signature.{public_key_of, secret_of}
+use Rattle.hashkey_path.specs.declared.hashkey.Hashkey.{Hashkey}
+use Rattle.hashkey_path.specs.Signed.{first_key, extended_key}
+use Rattle.swap_rules.specs.Due.{Wallet}
+use Rattle.party_machine.specs.Value.{WalletState}
+use Rattle.party_machine.specs.declared.wallet_key.WalletKey.{WalletKey}
+
+-- a secret alone, as timelocks ask for it
+abbrev pub bare_key : ℕ → List ℕ → Hashkey
+bare_key lock secret = record { lock = lock; secret = secret; path = []; sigs = [] }
+
+-- the party's own hashkey for lock i
+abbrev pub own_key : Mode → Deal → ℕ → List ℕ → ℕ → Hashkey
+own_key Timelocks d v seed i = bare_key i (secret_of seed)
+own_key Hashkeys d v seed i = first_key d i (secret_of seed) v seed
+
+-- the party's hashkey that goes on from the inner one
+abbrev pub onto_key : Mode → Deal → ℕ → List ℕ → Hashkey → Hashkey
+onto_key Timelocks d v seed inner = bare_key inner.lock inner.secret
+onto_key Hashkeys d v seed inner = extended_key d inner v seed
+
+-- all that party v signs with the seed
+abbrev pub wallet_of : List ℕ → ℕ → Deal → Wallet
+wallet_of seed v d = record { first = own_key d.mode d v seed; onto = onto_key d.mode d v seed }
+
+-- the key for lock i, before it is spent
+abbrev pub unspent : Mode → List ℕ → ℕ → ℕ → Option WalletKey
+unspent Timelocks seed v i = None
+unspent Hashkeys seed v i = Some (record { key = record { seed = seed; party = v; lock = i }; public = public_key_of seed v i })
+
+-- the wallet of v for a deal, with nothing signed
+abbrev pub new_wallet : List ℕ → ℕ → Deal → WalletState
+new_wallet seed v d = record { mode = d.mode; seed = seed; party = v; signed = replicate (length d.leaders) None }
+
+-- after hashkey k was signed for lock i
+abbrev pub with_signed : WalletState → ℕ → Hashkey → WalletState
+with_signed w i k = record { mode = w.mode; seed = w.seed; party = w.party; signed = slice_set w.signed i (Some k) }

@@ -1,0 +1,11 @@
+-- What fits a deal is a good wallet.
+use Rattle.std.specs.Prelude.{◌≡◌, ℕ, ◌<◌, List, None}
+use Rattle.swap_digraph.specs.declared.deal.Deal.{Deal}
+use Rattle.swap_rules.specs.Accepted.{IsAccepted}
+use Rattle.swap_laws.specs.Machine.{IsWallet}
+use Rattle.party_machine.specs.Keys.{wallet_of}
+use Rattle.party_machine.specs.Fits.{wrong_lock}
+
+-- where a seed has what an accepted deal states of v, what v signs with it is valid on every arc that enters v, and has the origin that conduct asks for
+abbrev pub FittingIsGood : Type 0
+FittingIsGood = (d : Deal) (v : ℕ) (seed : List ℕ) → IsAccepted d → v < d.graph.n → wrong_lock d v seed ≡ None → IsWallet d v (wallet_of seed v d)

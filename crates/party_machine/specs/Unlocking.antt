@@ -1,0 +1,38 @@
+-- The hashkey of an unlock that is due.
+use Rattle.std.specs.Prelude.{◌≡◌, ℕ, ◌<◌, List, length, Option, Some, None, option_map}
+use Rattle.swap_base.specs.Lists.{or_else}
+use Rattle.swap_digraph.specs.declared.deal.Deal.{Deal}
+use Rattle.swap_digraph.specs.Deal.{path_limit}
+use Rattle.hashkey_path.specs.declared.hashkey.Hashkey.{Hashkey}
+use Rattle.ledger_core.specs.declared.entry.Call.TheVariants.{Unlock}
+use Rattle.ledger_core.specs.declared.entry.What.{What}
+use Rattle.ledger_core.specs.declared.entry.What.TheVariants.{Call as Made}
+use Rattle.ledger_core.specs.declared.entry.Entry.{Entry}
+use Rattle.ledger_core.specs.History.{opened}
+use Rattle.ledger_core.specs.Book.{Histories}
+use Rattle.party_phase_two.specs.Unlocks.{signed_in, key_from}
+use Rattle.party_phase_two.specs.declared.unlock_due.UnlockDue.{UnlockDue}
+use Rattle.party_machine.specs.Value.{WalletState}
+use Rattle.party_machine.specs.Keys.{wallet_of}
+
+-- the hashkey of an unlock, if it is one
+abbrev pub key_carried : What → Option Hashkey
+key_carried (Made (Unlock key)) = Some key
+key_carried _ = None
+
+-- the hashkey that opened lock i
+abbrev pub opened_key : List Entry → ℕ → Option Hashkey
+opened_key h i = option_map (λ o. o.key) (opened h i)
+
+-- A hashkey for lock i that the party can put its signature onto.
+abbrev pub CanPutOnto : Deal → ℕ → Option Hashkey → Type 0
+CanPutOnto d i None = ⊥
+CanPutOnto d i (Some k) = (k.lock ≡ i) × (length k.path < path_limit d) × (length k.sigs ≡ length k.path)
+
+-- where a due unlock's hashkey comes from, over what is known
+abbrev pub base_key : Deal → WalletState → Histories → UnlockDue → Option Hashkey
+base_key d w k u = key_from (wallet_of w.seed w.party d) (signed_in w.signed) k u.lock u.base
+
+-- the hashkey that was signed for the lock, or else that one
+abbrev pub due_hashkey : Deal → WalletState → Histories → UnlockDue → Option Hashkey
+due_hashkey d w k u = or_else (signed_in w.signed u.lock) (base_key d w k u)

@@ -1,0 +1,46 @@
+-- What the fields of a machine mean, and what holds of them.
+use Rattle.std.specs.Prelude.{◌≡◌, ◌<◌, ℕ, List, length, map, Some, None}
+use Rattle.swap_digraph.specs.Graph.{arcs}
+use Rattle.swap_digraph.specs.Deal.{party, counterparty, IsWellSized}
+use Rattle.swap_digraph.specs.declared.deal.Deal.{Deal}
+use Rattle.hashkey_path.specs.declared.hashkey.Hashkey.{Hashkey}
+use Rattle.escrow_core.specs.Terms.{terms_of}
+use Rattle.ledger_core.specs.Book.{Histories, IsLegalBook}
+use Rattle.history_index.specs.Value.{IndexState}
+use Rattle.party_phase_two.specs.Unlocks.{signed_in}
+use Rattle.party_machine.specs.Value.{WalletState}
+use Rattle.party_machine.specs.Fits.{wrong_lock}
+use Rattle.party_machine.specs.Machine.{MachineState}
+use Rattle.party_machine.specs.declared.machine.Machine.TheInside.{Inside}
+
+-- the entries of each index
+abbrev pub entries_in : List IndexState → Histories
+entries_in known = map (λ x. x.entries) known
+
+-- what its fields show
+abbrev pub machine_in : Inside → MachineState
+machine_in m = record { deal = m.deal; me = m.wallet.party; seed = m.wallet.seed; known = entries_in m.known.items; signed = m.wallet.signed }
+
+-- One index per arc, made for the arc.
+pub record AreIndexes (d : Deal) (known : List IndexState) : Type 0 where
+  pub terms : map (λ x. x.terms) known ≡ map (terms_of d) (arcs d.graph)
+  pub from : map (λ x. x.from) known ≡ map (party d) (arcs d.graph)
+  pub to : map (λ x. x.to) known ≡ map (counterparty d) (arcs d.graph)
+
+-- The wallet has what the deal states of its party, and each hashkey in it is for its lock.
+pub record IsPartys (d : Deal) (w : WalletState) : Type 0 where
+  pub party : w.party < d.graph.n
+  pub mode : w.mode ≡ d.mode
+  pub places : length w.signed ≡ length d.leaders
+  pub fits : wrong_lock d w.party w.seed ≡ None
+  pub locks : (i : ℕ) (k : Hashkey) → signed_in w.signed i ≡ Some k → k.lock ≡ i
+
+-- The wallet is the party's, and what is known is a legal book.
+pub record IsReady (d : Deal) (w : WalletState) (known : List IndexState) : Type 0 where
+  pub sized : IsWellSized d
+  pub partys : IsPartys d w
+  pub indexes : AreIndexes d known
+  pub legal : IsLegalBook d (entries_in known)
+
+abbrev pub IsKept : Inside → Type 0
+IsKept m = IsReady m.deal m.wallet m.known.items

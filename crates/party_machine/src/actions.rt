@@ -1,0 +1,48 @@
+//! The calls that are due and carry no hashkey.
+
+ghost use Rattle.std.specs.Prelude.{◌≡◌, ◌<◌, ◌++◌, ℕ, Option, option_map};
+ghost use Rattle.hashkey_path.specs.declared.hashkey.Hashkey.{Hashkey};
+ghost use Rattle.swap_digraph.specs.Deal.{IsWellSized};
+ghost use Rattle.swap_rules.specs.Due.{due_publishes, due_claims, due_refunds, first};
+ghost use Rattle.party_machine.specs.Machine.{action_of, noted_for};
+ghost use Rattle.party_machine.specs.Within.{entries_in, AreIndexes};
+
+use escrow_core::terms_of;
+use history_index::Index;
+use ledger_core::Call;
+use party_phase_one::due_publish;
+use party_phase_two::{due_claim, due_refund};
+use swap_base::{ArcId, PartyId};
+use swap_digraph::Deal;
+
+/// The first publish that is due.
+pub(crate) fn due_first(deal: &Deal, me: PartyId, known: &[Index]) -> Option<(ArcId, Call)>
+    requires sized { IsWellSized deal.now }
+    requires me { me < deal.now.graph.n }
+    requires known { AreIndexes deal.now known.now }
+    ensures first { option_map action_of result ≡ first (due_publishes deal.now me (entries_in known.now)) }
+    ensures no_key { (signed : ℕ → Option Hashkey) → noted_for signed result ≡ signed }
+{
+    match due_publish(deal, me, known) {
+        Some(arc) => Some((arc, Call::Publish(terms_of(deal, arc)))),
+        None => None,
+    }
+}
+
+/// The first claim that is due, or else the first refund.
+pub(crate) fn due_last(deal: &Deal, me: PartyId, known: &[Index]) -> Option<(ArcId, Call)>
+    requires sized { IsWellSized deal.now }
+    requires me { me < deal.now.graph.n }
+    requires known { AreIndexes deal.now known.now }
+    ensures first { option_map action_of result ≡ first (due_claims deal.now me (entries_in known.now) ++ due_refunds deal.now me (entries_in known.now)) }
+    ensures no_key { (signed : ℕ → Option Hashkey) → noted_for signed result ≡ signed }
+{
+    match due_claim(deal, me, known) {
+        Some(arc) => return Some((arc, Call::Claim)),
+        None => {}
+    }
+    match due_refund(deal, me, known) {
+        Some(arc) => Some((arc, Call::Refund)),
+        None => None,
+    }
+}

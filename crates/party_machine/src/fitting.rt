@@ -1,0 +1,79 @@
+//! Whether a wallet's keys are those that a deal states.
+
+ghost use Rattle.std.specs.Prelude.{◌≡◌, ◌<◌, length};
+ghost use Rattle.swap_digraph.specs.Deal.{IsWellSized};
+ghost use Rattle.party_machine.specs.Keys.{unspent};
+ghost use Rattle.party_machine.specs.Fits.{has_key, opens_own, fits_lock};
+
+use crate::wallet_key::WalletKey;
+use hash_signature::{hash_of, secret_of};
+use swap_base::{Digest, LockId, PartyId};
+use swap_digraph::{Deal, Mode};
+
+/// Whether the key is the one that the deal states.
+fn is_stated(
+    deal: &Deal,
+    party: PartyId,
+    seed: &Digest,
+    lock: LockId,
+    slot: &Option<WalletKey>,
+) -> bool
+    requires sized { IsWellSized deal.now }
+    requires mode { deal.now.mode ≡ Mode.Hashkeys }
+    requires party { party < deal.now.graph.n }
+    requires lock { lock < length deal.now.leaders }
+    requires unspent { slot.now ≡ unspent Mode.Hashkeys seed.now party lock }
+    ensures { result ≡ has_key Mode.Hashkeys deal.now party seed.now lock }
+{
+    match slot {
+        Some(key) => {
+            key.public == deal.keys.as_slice()[party as usize].as_slice()[lock as usize]
+        }
+        None => false,
+    }
+}
+
+fn has_key(
+    deal: &Deal,
+    party: PartyId,
+    seed: &Digest,
+    lock: LockId,
+    slot: &Option<WalletKey>,
+) -> bool
+    requires sized { IsWellSized deal.now }
+    requires party { party < deal.now.graph.n }
+    requires lock { lock < length deal.now.leaders }
+    requires unspent { slot.now ≡ unspent deal.now.mode seed.now party lock }
+    ensures { result ≡ has_key deal.now.mode deal.now party seed.now lock }
+{
+    match deal.mode {
+        Mode::Timelocks => true,
+        Mode::Hashkeys => is_stated(deal, party, seed, lock, slot),
+    }
+}
+
+fn opens_own(deal: &Deal, party: PartyId, seed: &Digest, lock: LockId) -> bool
+    requires sized { IsWellSized deal.now }
+    requires lock { lock < length deal.now.leaders }
+    ensures { result ≡ opens_own deal.now party seed.now lock }
+{
+    deal.leaders.as_slice()[lock as usize] != party
+        || hash_of(&secret_of(seed)) == deal.hashlocks.as_slice()[lock as usize]
+}
+
+/// Whether the wallet has what the deal states of its party for the lock.
+pub(crate) fn fits_lock(
+    deal: &Deal,
+    party: PartyId,
+    seed: &Digest,
+    lock: LockId,
+    slot: &Option<WalletKey>,
+) -> bool
+    requires sized { IsWellSized deal.now }
+    requires party { party < deal.now.graph.n }
+    requires lock { lock < length deal.now.leaders }
+    requires unspent { slot.now ≡ unspent deal.now.mode seed.now party lock }
+    ensures { result ≡ fits_lock deal.now party seed.now lock }
+{
+    has_key(deal, party, seed, lock, slot) && opens_own(deal, party, seed, lock)
+}

@@ -1,0 +1,140 @@
+//! A party that acts on what it knows.
+
+ghost use Rattle.std.specs.Prelude.{◌≡◌, ◌<◌, ◌+◌, ◌++◌, ℕ, length, Some, option_map, IfOk, OnOk, OnErr};
+ghost use Rattle.swap_base.specs.Fault.{Gives};
+ghost use Rattle.swap_digraph.specs.Deal.{IsWellSized};
+ghost use Rattle.hashkey_path.specs.declared.hashkey.Hashkey.{Hashkey};
+ghost use Rattle.ledger_core.specs.Book.{history};
+ghost use Rattle.ledger_core.specs.History.{IsLegal};
+ghost use Rattle.swap_rules.specs.Accepted.{IsAccepted};
+ghost use Rattle.swap_laws.specs.Machine.{IsWallet};
+ghost use Rattle.party_phase_two.specs.Unlocks.{signed_in};
+ghost use Rattle.party_machine.specs.Keys.{new_wallet, wallet_of};
+ghost use Rattle.party_machine.specs.Machine.{machine_for, new_machine, learnt, action_of, next_of, noted_for, IsOfSame};
+
+use crate::actions::{due_first, due_last};
+use crate::knowledge::{add_all, indexes_of};
+use crate::misfit::{MachineFault, Misfit};
+use crate::signing::hashkey_for;
+use crate::wallet::Wallet;
+use history_index::{Index, Steps};
+use ledger_core::{Call, Entry, EntryList};
+use party_phase_two::due_unlock;
+use std::alloc::Global;
+use std::marker::Model;
+use std::sync::ledger::Ledger;
+use swap_base::{ArcId, Fault, NoMemory, PartyId};
+use swap_digraph::{Deal, copy_deal};
+
+/// A conforming party: its deal, its wallet, and what it knows of each arc.
+#[derive(Drop)]
+pub struct Machine {
+    deal: Deal,
+    wallet: Wallet,
+    known: Vec<Index>,
+}
+
+impl Model for Machine {
+    ghost use Rattle.party_machine.specs.Machine.{MachineState};
+
+    ghost Value = { MachineState };
+
+    ghost use Rattle.party_machine.specs.Within.{machine_in, IsKept};
+
+    ghost view = { machine_in };
+
+    ghost invariant = { IsKept };
+}
+
+impl Machine {
+    /// A party that knows nothing and signed nothing, or the least lock for which its new wallet lacks what the deal states. It keeps a copy of the deal.
+    pub fn new(
+        alloc: Global,
+        deal: &Deal,
+        me: PartyId,
+        wallet: Wallet,
+    ) -> Result<Machine, MachineFault>
+        requires sized { IsWellSized deal.now }
+        requires party { me < deal.now.graph.n }
+        requires wallet { wallet ≡ new_wallet wallet.seed me deal.now }
+        ensures exact { Gives (λ m. m) result (machine_for deal.now me wallet.seed) }
+        ensures new { IfOk result (λ m. m ≡ new_machine deal.now me wallet.seed) }
+        ensures good { IfOk result (λ m. IsAccepted deal.now → IsWallet deal.now me (wallet_of wallet.seed me deal.now)) }
+    {
+        match wallet.wrong_lock(deal) {
+            Some(lock) => return Err(Fault::Refused(Misfit::WrongWallet(lock))),
+            None => {}
+        }
+        let known = indexes_of(alloc, deal)?;
+        Ok(Machine {
+            deal: copy_deal(deal)?,
+            wallet,
+            known,
+        })
+    }
+
+    /// Adds entries to what is known of an arc, a step each. Want of memory leaves everything as it was, in no step.
+    pub fn learn<L: Ledger>(
+        &mut self,
+        arc: ArcId,
+        entries: EntryList,
+        steps: &mut Steps<L>,
+    ) -> Result<(), NoMemory>
+        requires arc { arc < length self.old.deal.graph.arcs }
+        requires legal { IsLegal self.old.deal arc (history self.old.known arc ++ entries) }
+        ensures ok { OnOk result (self.new ≡ learnt self.old arc entries) }
+        ensures steps { OnOk result (steps.new ≡ steps.old + length entries) }
+        ensures err { OnErr result (self.new ≡ self.old) }
+        ensures no_step { OnErr result (steps.new ≡ steps.old) }
+    {
+        let index = &mut self.known[arc as usize];
+        add_all(index, entries, steps)
+    }
+
+    /// The first call that is due, with its arc. It signs a hashkey only for the call that it answers, and keeps it.
+    pub fn next(&mut self) -> Result<Option<(ArcId, Call)>, NoMemory>
+        ensures due { IfOk result (λ o. option_map action_of o ≡ next_of self.old) }
+        ensures signed { IfOk result (λ o. signed_in self.new.signed ≡ noted_for (signed_in self.old.signed) o) }
+        ensures once { (i : ℕ) (k : Hashkey) → signed_in self.old.signed i ≡ Some k → signed_in self.new.signed i ≡ Some k }
+        ensures same { IsOfSame self.old self.new }
+        ensures err { OnErr result (self.new ≡ self.old) }
+    {
+        let me = self.wallet.party();
+        let first = due_first(&self.deal, me, &self.known);
+        if first.is_some() {
+            return Ok(first);
+        }
+        match due_unlock(&self.deal, me, &self.known, self.wallet.signed()) {
+            Some(due) => {
+                let alloc = *self.known.allocator();
+                let key = hashkey_for(alloc, &mut self.wallet, &self.deal, &self.known, due)?;
+                Ok(Some((due.arc, Call::Unlock(key))))
+            }
+            None => Ok(due_last(&self.deal, me, &self.known)),
+        }
+    }
+
+    pub fn me(&self) -> PartyId
+        ensures { result ≡ self.now.me }
+    {
+        self.wallet.party()
+    }
+
+    /// The deal. What the party signs under an accepted one is good.
+    pub fn deal(&self) -> &Deal
+        ensures value { result.now ≡ self.now.deal }
+        ensures sized { IsWellSized result.now }
+        ensures wallet { IsAccepted self.now.deal → IsWallet self.now.deal self.now.me (wallet_of self.now.seed self.now.me self.now.deal) }
+    {
+        &self.deal
+    }
+
+    /// What is known of an arc, oldest first.
+    pub fn known(&self, arc: ArcId) -> &[Entry]
+        requires { arc < length self.now.deal.graph.arcs }
+        ensures value { result.now ≡ history self.now.known arc }
+        ensures legal { IsLegal self.now.deal arc result.now }
+    {
+        self.known[arc as usize].entries()
+    }
+}

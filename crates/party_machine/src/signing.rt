@@ -1,0 +1,90 @@
+//! The hashkey of an unlock that is due: the one that was signed, or a new one.
+
+ghost use Rattle.std.specs.Prelude.{◌≡◌, ◌<◌, None, length, IfOk, OnErr, IsSome};
+ghost use Rattle.party_phase_two.specs.Unlocks.{signed_in, IsSeenOn};
+ghost use Rattle.party_machine.specs.Keys.{onto_key, with_signed};
+ghost use Rattle.party_machine.specs.Within.{entries_in, IsReady};
+ghost use Rattle.party_machine.specs.Unlocking.{base_key, due_hashkey, opened_key, CanPutOnto};
+ghost use Rattle.std.specs.Prelude.{Some, option_map};
+ghost use Rattle.swap_rules.specs.Due.{extended};
+ghost use Rattle.party_machine.specs.Keys.{wallet_of};
+
+use crate::reading::opened_key;
+use crate::wallet::Wallet;
+use hashkey_path::Hashkey;
+use history_index::Index;
+use party_phase_two::{Base, UnlockDue};
+use std::alloc::Global;
+use swap_base::{LockId, NoMemory};
+use swap_digraph::Deal;
+
+/// Puts the party's signature onto the hashkey that opened the lock on that arc.
+fn sign_onto(
+    alloc: Global,
+    wallet: &mut Wallet,
+    deal: &Deal,
+    index: &Index,
+    lock: LockId,
+) -> Result<Hashkey, NoMemory>
+    requires mode { wallet.old.mode ≡ deal.now.mode }
+    requires party { wallet.old.party < deal.now.graph.n }
+    requires lock { lock < length wallet.old.signed }
+    requires unsigned { signed_in wallet.old.signed lock ≡ None }
+    requires known { lock < length index.now.terms.locks }
+    requires onto { CanPutOnto deal.now lock (opened_key index.now.entries lock) }
+    ensures value { IfOk result (λ k. extended (wallet_of wallet.old.seed wallet.old.party deal.now) (opened_key index.now.entries lock) ≡ Some k) }
+    ensures kept { IfOk result (λ k. wallet.new ≡ with_signed wallet.old lock k) }
+    ensures err { OnErr result (wallet.new ≡ wallet.old) }
+{
+    match opened_key(index, lock) {
+        Some(inner) => wallet.sign_onto(alloc, deal, inner),
+        None => unreachable!(),
+    }
+}
+
+/// Signs a hashkey for the lock, for which none was signed.
+fn sign_new(
+    alloc: Global,
+    wallet: &mut Wallet,
+    deal: &Deal,
+    known: &[Index],
+    due: UnlockDue,
+) -> Result<Hashkey, NoMemory>
+    requires ready { IsReady deal.now wallet.old known.now }
+    requires lock { due.lock < length deal.now.leaders }
+    requires base { IsSeenOn deal.now wallet.old.party (entries_in known.now) due.lock due.base }
+    requires from { IsSome (base_key deal.now wallet.old (entries_in known.now) due) }
+    requires unsigned { signed_in wallet.old.signed due.lock ≡ None }
+    ensures value { IfOk result (λ k. base_key deal.now wallet.old (entries_in known.now) due ≡ Some k) }
+    ensures kept { IfOk result (λ k. wallet.new ≡ with_signed wallet.old due.lock k) }
+    ensures err { OnErr result (wallet.new ≡ wallet.old) }
+{
+    match due.base {
+        Base::Own => wallet.sign_own(alloc, deal, due.lock),
+        Base::Onto(arc) => sign_onto(alloc, wallet, deal, &known[arc as usize], due.lock),
+        Base::Signed => unreachable!(),
+    }
+}
+
+/// A copy of the hashkey of an unlock that is due, which is signed where none was for its lock. Want of memory leaves everything as it was.
+pub(crate) fn hashkey_for(
+    alloc: Global,
+    wallet: &mut Wallet,
+    deal: &Deal,
+    known: &[Index],
+    due: UnlockDue,
+) -> Result<Hashkey, NoMemory>
+    requires ready { IsReady deal.now wallet.old known.now }
+    requires lock { due.lock < length deal.now.leaders }
+    requires base { IsSeenOn deal.now wallet.old.party (entries_in known.now) due.lock due.base }
+    requires from { IsSome (base_key deal.now wallet.old (entries_in known.now) due) }
+    ensures value { IfOk result (λ k. due_hashkey deal.now wallet.old (entries_in known.now) due ≡ Some k) }
+    ensures kept { IfOk result (λ k. wallet.new ≡ with_signed wallet.old due.lock k) }
+    ensures err { OnErr result (wallet.new ≡ wallet.old) }
+{
+    if wallet.is_signed(due.lock) {
+        wallet.copy_signed(due.lock)
+    } else {
+        sign_new(alloc, wallet, deal, known, due)
+    }
+}

@@ -1,0 +1,201 @@
+//! What a party signs with.
+
+ghost use Rattle.std.specs.Prelude.{◌≡◌, ◌<◌, ℕ, map, length, replicate, slice_set, Some, None, IfOk, OnErr, IsSome, is_some};
+ghost use Rattle.std.specs.List.{range_with_len};
+ghost use Rattle.swap_digraph.specs.Deal.{IsWellSized};
+ghost use Rattle.swap_digraph.specs.Deal.{path_limit};
+ghost use Rattle.party_phase_two.specs.Unlocks.{signed_in};
+ghost use Rattle.party_machine.specs.Fits.{wrong_lock};
+ghost use Rattle.party_machine.specs.Keys.{new_wallet, unspent, own_key, onto_key, with_signed};
+
+use crate::fitting::fits_lock;
+use crate::hashkeys::{onto_hashkey, own_hashkey};
+use crate::room::Room;
+use crate::wallet_key::{WalletKey, unspent};
+use hashkey_path::Hashkey;
+use party_phase_two::Signed;
+use std::alloc::Global;
+use std::marker::Model;
+use std::mem;
+use swap_base::{Digest, Listed, LockId, NoMemory, PartyId, TryCopy};
+use swap_digraph::{Deal, Mode};
+
+/// A party's keys, one for each lock of a deal with hashkeys, and the hashkeys that it made. A lock's key is spent by the one hashkey that is made for it, which stays.
+#[derive(Drop)]
+pub struct Wallet {
+    mode: Mode,
+    seed: Digest,
+    party: PartyId,
+    keys: Vec<Option<WalletKey>>,
+    signed: Signed,
+}
+
+impl Model for Wallet {
+    ghost use Rattle.party_machine.specs.Value.{WalletState};
+
+    ghost Value = { WalletState };
+
+    ghost use Rattle.party_machine.specs.Inside.{wallet_in, IsKept};
+
+    ghost view = { wallet_in };
+
+    ghost invariant = { IsKept };
+}
+
+fn keys_of(
+    alloc: Global,
+    mode: Mode,
+    seed: &Digest,
+    party: PartyId,
+    locks: u8,
+) -> Result<Vec<Option<WalletKey>>, NoMemory>
+    ensures { IfOk result (λ v. v.items ≡ map (unspent mode seed.now party) (range_with_len 0 locks)) }
+{
+    let mut keys = Vec::new(alloc);
+    'locks: for lock in 0..locks {
+        keys.push(unspent(mode, seed, party, lock))?;
+    }
+    Ok(keys)
+}
+
+fn none_signed(alloc: Global, locks: u8) -> Result<Signed, NoMemory>
+    ensures { IfOk result (λ s. s.keys ≡ replicate locks None) }
+{
+    let mut keys = Vec::new(alloc);
+    'locks: for _lock in 0..locks {
+        keys.push(None)?;
+    }
+    Ok(Signed {
+        keys: Listed::new(keys),
+    })
+}
+
+/// Notes the hashkey that was signed for a lock. It takes no memory.
+fn keep(signed: &mut Signed, alloc: Global, lock: LockId, hashkey: Hashkey)
+    requires { lock < length signed.old.keys }
+    ensures { signed.new.keys ≡ slice_set signed.old.keys lock (Some hashkey) }
+{
+    let mut keys = mem::replace(&mut signed.keys, Listed::empty(alloc)).into_vec();
+    keys[lock as usize] = Some(hashkey);
+    signed.keys = Listed::new(keys);
+}
+
+impl Wallet {
+    /// The keys that a party's seed gives it for a deal, with nothing signed.
+    pub fn of(alloc: Global, seed: &Digest, me: PartyId, deal: &Deal) -> Result<Wallet, NoMemory>
+        requires { IsWellSized deal.now }
+        ensures { IfOk result (λ w. w ≡ new_wallet seed.now me deal.now) }
+    {
+        let locks = deal.leaders.len() as u8;
+        Ok(Wallet {
+            mode: deal.mode,
+            seed: *seed,
+            party: me,
+            keys: keys_of(alloc, deal.mode, seed, me, locks)?,
+            signed: none_signed(alloc, locks)?,
+        })
+    }
+
+    /// The least lock for which a new wallet lacks what the deal states of its party.
+    pub fn wrong_lock(&self, deal: &Deal) -> Option<LockId>
+        requires sized { IsWellSized deal.now }
+        requires party { self.now.party < deal.now.graph.n }
+        requires new { self.now ≡ new_wallet self.now.seed self.now.party deal.now }
+        ensures { result ≡ wrong_lock deal.now self.now.party self.now.seed }
+    {
+        let count = deal.leaders.len() as u8;
+        'locks: for lock in 0..count {
+            if !fits_lock(
+                deal,
+                self.party,
+                &self.seed,
+                lock,
+                &self.keys[lock as usize],
+            ) {
+                return Some(lock);
+            }
+        }
+        None
+    }
+
+    pub(crate) fn party(&self) -> PartyId
+        ensures { result ≡ self.now.party }
+    {
+        self.party
+    }
+
+    /// The hashkeys that were signed, by lock.
+    pub fn signed(&self) -> &Signed
+        ensures { result.now.keys ≡ self.now.signed }
+    {
+        &self.signed
+    }
+
+    /// Whether a hashkey was signed for a lock.
+    pub(crate) fn is_signed(&self, lock: LockId) -> bool
+        requires { lock < length self.now.signed }
+        ensures { result ≡ is_some (signed_in self.now.signed lock) }
+    {
+        self.signed.keys.as_slice()[lock as usize].is_some()
+    }
+
+    /// A copy of the hashkey that was signed for a lock.
+    pub(crate) fn copy_signed(&self, lock: LockId) -> Result<Hashkey, NoMemory>
+        requires lock { lock < length self.now.signed }
+        requires signed { IsSome (signed_in self.now.signed lock) }
+        ensures { IfOk result (λ k. signed_in self.now.signed lock ≡ Some k) }
+    {
+        match &self.signed.keys.as_slice()[lock as usize] {
+            Some(hashkey) => hashkey.copy(),
+            None => unreachable!(),
+        }
+    }
+
+    /// Makes the party's own hashkey for a lock that it leads, keeps it, and answers a copy. Want of memory leaves everything as it was.
+    pub(crate) fn sign_own(
+        &mut self,
+        alloc: Global,
+        deal: &Deal,
+        lock: LockId,
+    ) -> Result<Hashkey, NoMemory>
+        requires mode { self.old.mode ≡ deal.now.mode }
+        requires party { self.old.party < deal.now.graph.n }
+        requires lock { lock < length self.old.signed }
+        requires unsigned { signed_in self.old.signed lock ≡ None }
+        ensures value { IfOk result (λ k. k ≡ own_key deal.now.mode deal.now self.old.party self.old.seed lock) }
+        ensures kept { IfOk result (λ k. self.new ≡ with_signed self.old lock k) }
+        ensures err { OnErr result (self.new ≡ self.old) }
+    {
+        let room = Room::new(alloc, 1)?;
+        let slot = &mut self.keys[lock as usize];
+        let made = own_hashkey(alloc, deal, self.party, &self.seed, lock, slot)?;
+        let copy = room.copy_of(&made);
+        keep(&mut self.signed, alloc, lock, made);
+        Ok(copy)
+    }
+
+    /// Makes the party's hashkey that goes on from another, keeps it, and answers a copy. Want of memory leaves everything as it was.
+    pub(crate) fn sign_onto(
+        &mut self,
+        alloc: Global,
+        deal: &Deal,
+        inner: &Hashkey,
+    ) -> Result<Hashkey, NoMemory>
+        requires mode { self.old.mode ≡ deal.now.mode }
+        requires party { self.old.party < deal.now.graph.n }
+        requires lock { inner.now.lock < length self.old.signed }
+        requires unsigned { signed_in self.old.signed inner.now.lock ≡ None }
+        requires few { length inner.now.path < path_limit deal.now }
+        requires paired { length inner.now.sigs ≡ length inner.now.path }
+        ensures value { IfOk result (λ k. k ≡ onto_key deal.now.mode deal.now self.old.party self.old.seed inner.now) }
+        ensures kept { IfOk result (λ k. self.new ≡ with_signed self.old inner.now.lock k) }
+        ensures err { OnErr result (self.new ≡ self.old) }
+    {
+        let room = Room::new(alloc, inner.path.len() + 1)?;
+        let slot = &mut self.keys[inner.lock as usize];
+        let made = onto_hashkey(alloc, deal, self.party, inner, slot)?;
+        let copy = room.copy_of(&made);
+        keep(&mut self.signed, alloc, inner.lock, made);
+        Ok(copy)
+    }
+}

@@ -1,0 +1,3 @@
+pub mod Unlocks
+pub mod Settling
+pub mod Parts

@@ -1,0 +1,84 @@
+-- A history after a tick or a call is as before, or has one legal entry more; a call leaves what the laws of machines say.
+use Rattle.std.proofs.Common.{◌≡◌, ℕ, ◌+◌, ◌≤◌, ◌==◌, Bool, true, false, cond, not, ◌||◌, IsTrue, List, [], ◌∷◌, ◌++◌, Option, Some, None, refl, sym, ap, ◌∙◌, subst}
+use Rattle.std.specs.List.{list_all}
+use Rattle.swap_base.proofs.Lists.{and_parts}
+use Rattle.swap_digraph.specs.declared.deal.Deal.{Deal}
+use Rattle.swap_digraph.specs.Deal.{party, counterparty}
+use Rattle.escrow_core.specs.declared.reply.Reply.{Reply}
+use Rattle.escrow_core.specs.declared.reply.Reply.TheVariants.{Accepted, ClockFull}
+use Rattle.escrow_core.specs.Table.{first_row}
+use Rattle.ledger_core.specs.declared.entry.Call.{Call}
+use Rattle.ledger_core.specs.declared.entry.Call.TheVariants.{Publish, Unlock, Claim, Refund, Transfer}
+use Rattle.ledger_core.specs.declared.entry.Sender.TheVariants.{Party, Clock}
+use Rattle.ledger_core.specs.declared.entry.What.TheVariants.{Call as Made, Tick}
+use Rattle.ledger_core.specs.declared.entry.Entry.{Entry}
+use Rattle.ledger_core.specs.History.{height, rows, reply_to, fit, is_full, is_clock_full}
+use Rattle.ledger_core.specs.Ledger.{tick_entry}
+use Rattle.deviator_script.specs.Resolved.{fits_if}
+use Rattle.swap_laws.specs.Machine.{called, entry_of}
+use Rattle.swap_laws.proofs.History.{full_reply, not-true-of}
+use Rattle.swap_laws.proofs.Conducting.{Next, Still, Pushed, next_call}
+use Rattle.swap_run.specs.Run.{is_sender_full, is_clock_full_reply, after_tick, after_call, after_move}
+
+-- Ticks.
+
+pub tick_full : (k : ℕ) (h : List Entry) → is_clock_full h k ≡ true → after_tick k h ≡ h
+unfolding after_tick
+tick_full k h e = ap (λ x. cond (is_clock_full_reply (cond x ClockFull Accepted)) h (h ++ tick_entry k (height h + k) (cond x ClockFull Accepted) ∷ [])) e
+
+pub tick_room : (k : ℕ) (h : List Entry) → is_clock_full h k ≡ false → after_tick k h ≡ h ++ tick_entry k (height h + k) Accepted ∷ []
+unfolding after_tick
+tick_room k h e = ap (λ x. cond (is_clock_full_reply (cond x ClockFull Accepted)) h (h ++ tick_entry k (height h + k) (cond x ClockFull Accepted) ∷ [])) e
+
+pub next_tick : (d : Deal) (a : ℕ) (h : List Entry) (k : ℕ) → 1 ≤ k → k ≤ 1000000 → Next d a h (after_tick k h) Clock (Tick k)
+next_tick d a h k some below = go (is_clock_full h k) refl
+  where
+    go : (x : Bool) → is_clock_full h k ≡ x → Next d a h (after_tick k h) Clock (Tick k)
+    go true e = Still (tick_full k h e)
+    go false e = Pushed (tick_entry k (height h + k) Accepted) (tick_room k h e) refl refl (record { some = some; below = below; height = refl; reply = sym (ap (λ x. cond x ClockFull Accepted) e); room = λ q. cc q })
+
+-- Calls.
+
+first_row-not : (rs : List (Bool × Reply)) → list_all (λ row. not (is_sender_full row.1)) rs ≡ true → is_sender_full (first_row rs) ≡ false
+first_row-not [] h = refl
+first_row-not (row ∷ rs) h = let k = and_parts (not (is_sender_full row.1)) _ h in go row.0 row.1 k.0 (first_row-not rs k.1)
+  where
+    go : (x : Bool) (r : Reply) → not (is_sender_full r) ≡ true → is_sender_full (first_row rs) ≡ false → is_sender_full (cond x r (first_row rs)) ≡ false
+    go true r n f = not-true-of _ n
+    go false r n f = f
+
+tail : {A : Type 0} → List A → List A
+tail [] = []
+tail (x ∷ xs) = xs
+
+-- where the sender's entries aren't full, no row says that they are
+pub has_room : (d : Deal) (a : ℕ) (past : List Entry) (p : ℕ) (c : Call) → is_full past p ≡ false → is_sender_full (reply_to d a past p c) ≡ false
+unfolding rows tail
+has_room d a past p (Publish t) f = rw f (first_row-not (tail (rows d a past p (Publish t))) refl)
+has_room d a past p (Unlock key) f = rw f (first_row-not (tail (rows d a past p (Unlock key))) refl)
+has_room d a past p Claim f = rw f (first_row-not (tail (rows d a past p Claim)) refl)
+has_room d a past p Refund f = rw f (first_row-not (tail (rows d a past p Refund)) refl)
+has_room d a past p (Transfer to units) f = rw f (first_row-not (tail (rows d a past p (Transfer to units))) refl)
+
+same_full : (d : Deal) (a : ℕ) (h : List Entry) (p : ℕ) (c : Call) → is_sender_full (reply_to d a h p c) ≡ is_full h p
+same_full d a h p c = go (is_full h p) refl
+  where
+    go : (x : Bool) → is_full h p ≡ x → is_sender_full (reply_to d a h p c) ≡ is_full h p
+    go true e = ap is_sender_full (full_reply d a h p c e) ∙ sym e
+    go false e = has_room d a h p c e ∙ sym e
+
+pub call_is : (d : Deal) (a : ℕ) (h : List Entry) (p : ℕ) (c : Call) → after_call d a p c h ≡ called d a h p c
+unfolding after_call
+call_is d a h p c = ap (λ x. cond x h (h ++ entry_of d a h p c ∷ [])) (same_full d a h p c)
+
+pub next_of_call : (d : Deal) (a : ℕ) (h : List Entry) (p : ℕ) (c : Call) → IsTrue ((p == party d a) || (p == counterparty d a)) → IsTrue (fit d a c) → Next d a h (after_call d a p c h) (Party p) (Made c)
+next_of_call d a h p c two fits = subst (λ k. Next d a h k (Party p) (Made c)) (sym (call_is d a h p c)) (next_call d a h p c two fits)
+
+-- the call of a move, any call where it stands for none
+abbrev pub or_claim : Option Call → Call
+or_claim None = Claim
+or_claim (Some c) = c
+
+pub next_move : (d : Deal) (a : ℕ) (h : List Entry) (p : ℕ) (o : Option Call) → IsTrue ((p == party d a) || (p == counterparty d a)) → IsTrue (fits_if d a o) → Next d a h (after_move d a p o h) (Party p) (Made (or_claim o))
+next_move d a h p None two fits = Still refl
+next_move d a h p (Some c) two fits = next_of_call d a h p c two fits

@@ -1,0 +1,175 @@
+-- A fair finish from the start, where every party conforms, is rounds of one tick each, in which every party acts at the height at which the round began; so it deals.
+use Rattle.std.proofs.Common.{◌≡◌, ◌≢◌, ◌⊎◌, ℕ, suc, zero, ◌+◌, ◌*◌, ◌<◌, ◌≤◌, nat_lt, nat_le, Bool, true, false, cond, [], length, None, fold, slice_index_or, refl, sym, ap, ◌∙◌, subst, inl, inr, arith, le-leb, lt-ltb, ltb-true}
+use Rattle.std.specs.List.{range_with_len}
+use Rattle.std.proofs.lemmas.Bool.{false≢true}
+use Rattle.swap_base.proofs.Lists.{list_all-in, in_range, from_range}
+use Rattle.swap_digraph.specs.Graph.{arcs}
+use Rattle.ledger_core.specs.History.{height}
+use Rattle.ledger_core.specs.Book.{history}
+use Rattle.swap_rules.specs.Due.{due}
+use Rattle.swap_laws.specs.Machine.{Begins, Knows}
+use Rattle.swap_laws.specs.Rounds.{IsNear, IsTurn, IsRounds}
+use Rattle.swap_laws.specs.Laws.{IsDealt}
+use Rattle.swap_laws.proofs.History.{not-true}
+use Rattle.swap_laws.proofs.Words.{past_end}
+use Rattle.swap_laws.proofs.Prefixes.{begins_more, begins_height, same_or_not}
+use Rattle.swap_laws.proofs.Growth.{Grows}
+use Rattle.swap_laws.proofs.Rounds.{rounds_on_time}
+use Rattle.swap_laws.proofs.Dealing.{all_dealt}
+use Rattle.swap_run.specs.Run.{Cast, State, conforms, notes_of, signed_in, next_of, start}
+use Rattle.swap_run.specs.Laws.{IsReadyCast, IsGood}
+use Rattle.swap_run.specs.Fair.{repeat, turn, turns, the_horizon, raised, round, has_ended, round_unless_ended, finish}
+use Rattle.swap_run.specs.FairLaws.{FairIsDealt}
+use Rattle.swap_run.proofs.Good.{start_is_good, good_is_kept, empty_at}
+use Rattle.swap_run.proofs.Acts.{first_none}
+use Rattle.swap_run.proofs.Turns.{Calm, calm_more, Rests, rested, turned}
+use Rattle.swap_run.proofs.Rounds.{rounded}
+use Rattle.swap_run.proofs.Finish.{round_goes_on}
+
+-- The turn of v among the turns of a round.
+record TurnIn (c : Cast) (v : ℕ) (s t : State) : Type 0 where
+  mid : State
+  good : IsGood c mid
+  calm : Calm s.book mid.book
+  seen : (a : ℕ) → IsNear c.deal v a → Begins (history s.book a) (history (notes_of mid v).known a)
+  rest : next_of c mid v ≡ None
+  same : notes_of t v ≡ notes_of mid v
+
+-- A good state whose ledgers are all at one height.
+record Level (c : Cast) (s : State) (r : ℕ) : Type 0 where
+  good : IsGood c s
+  at : (a : ℕ) → a < length c.deal.graph.arcs → height (history s.book a) ≡ r
+
+-- What a round leaves of it.
+record Leveled (c : Cast) (r : ℕ) (s t : State) : Type 0 where
+  level : Level c t (suc r)
+  grows : Grows s.book t.book
+  turn_of : (v : ℕ) → v < c.deal.graph.n → IsTurn c.deal v (c.wallet v) s.book t.book r
+
+raised_low : (m r : ℕ) → r ≤ m → cond {A = ℕ} (nat_le r m) (r + 1) r ≡ suc r
+raised_low m r l = ap (λ y. cond {A = ℕ} y (r + 1) r) (le-leb r m l) ∙ next r
+  where
+    next : (r : ℕ) → r + 1 ≡ suc r
+    next r = omega arith
+
+module _ (c : Cast) (ready : IsReadyCast c) (all : (v : ℕ) → v < c.deal.graph.n → conforms c v ≡ true) where
+  later_turns : (m k : ℕ) (s : State) → k + m ≤ c.deal.graph.n → IsGood c s → (v : ℕ) → v < k → notes_of (fold (turn c) s (range_with_len k m)) v ≡ notes_of s v
+  later_turns zero k s l g v b = refl
+  later_turns (suc m) k s l g v b =
+      let t = turned c ready k (omega arith) s g in
+      later_turns m (k + 1) (turn c s k) (omega arith) t.good v (omega arith) ∙ t.others v (λ e. let q : ◌≡◌ {A = ℕ} v k = e in omega arith)
+
+  turn_in : (m k : ℕ) (s : State) → k + m ≤ c.deal.graph.n → IsGood c s → (v : ℕ) → k ≤ v → v < k + m → TurnIn c v s (fold (turn c) s (range_with_len k m))
+  turn_in zero k s l g v low high = absurd (omega arith)
+  turn_in (suc m) k s l g v low high =
+      let x = rested c ready k (omega arith) (all k (omega arith)) s g in
+      go x (same_or_not v k) (λ n. turn_in m (k + 1) (turn c s k) (omega arith) x.turned.good v n (omega arith))
+    where
+      go : Rests c k s (turn c s k) → (v ≡ k) ⊎ (v ≢ k) → (k + 1 ≤ v → TurnIn c v (turn c s k) (fold (turn c) (turn c s k) (range_with_len (k + 1) m))) → TurnIn c v s (fold (turn c) (turn c s k) (range_with_len (k + 1) m))
+      go x (inl e) again = record {
+        mid = turn c s k;
+        good = x.turned.good;
+        calm = x.turned.calm;
+        seen = λ a i. subst (λ u. Begins (history s.book a) (history (notes_of (turn c s k) u).known a)) (sym e) (x.seen a (subst (λ u. IsNear c.deal u a) e i));
+        rest = subst (λ u. next_of c (turn c s k) u ≡ None) (sym e) x.rest;
+        same = later_turns m (k + 1) (turn c s k) (omega arith) x.turned.good v (let q : ◌≡◌ {A = ℕ} v k = e in omega arith);
+      }
+      go x (inr n) again =
+          let y = again (let q : ◌≢◌ {A = ℕ} v k = n in omega arith) in
+          record {
+            mid = y.mid;
+            good = y.good;
+            calm = calm_more s.book (turn c s k).book y.mid.book x.turned.calm y.calm;
+            seen = λ a i. begins_more (history s.book a) (history (turn c s k).book a) (history (notes_of y.mid v).known a) (x.turned.calm.grows a) (y.seen a i);
+            rest = y.rest;
+            same = y.same;
+          }
+
+  turn_of_round : (s : State) → IsGood c s → (v : ℕ) → v < c.deal.graph.n → TurnIn c v s (turns c s)
+  unfolding turns
+  turn_of_round s g v lv = turn_in c.deal.graph.n 0 s (omega arith) g v (omega arith) (omega arith)
+
+  -- nothing that v knows is above the height of the round
+  known_low : (r : ℕ) (s mid : State) (v a : ℕ) → Level c s r → Calm s.book mid.book → Knows v (history (notes_of mid v).known a) (history mid.book a) → height (history (notes_of mid v).known a) ≤ r
+  known_low r s mid v a x calm n = go (nat_lt a (length c.deal.graph.arcs)) refl
+    where
+      below : height (history (notes_of mid v).known a) ≤ height (history s.book a)
+      below =
+          let h = begins_height (history (notes_of mid v).known a) (history mid.book a) (n.rest, n.whole) in
+          let e : height (history mid.book a) ≡ height (history s.book a) = calm.heights a in
+          omega arith
+
+      go : (y : Bool) → nat_lt a (length c.deal.graph.arcs) ≡ y → height (history (notes_of mid v).known a) ≤ r
+      go true e = let l = below in let o : height (history s.book a) ≡ r = x.at a (ltb-true _ _ e) in omega arith
+      go false e =
+          let l = below in
+          let none : history s.book a ≡ [] = past_end s.book a (λ q. false≢true (sym e ∙ lt-ltb _ _ (subst (λ z. a < z) x.good.legal.one_each q))) in
+          let z : ◌≡◌ {A = ℕ} (height (history s.book a)) 0 = ap height none in
+          omega arith
+
+  leveled : (r : ℕ) (s : State) → r ≤ the_horizon c.deal → Level c s r → Leveled c r s (round c s)
+  leveled r s l x =
+      let k = rounded c ready s x.good in
+      record {
+        level = record { good = k.good; at = λ a la. k.raises a la ∙ (ap (raised c.deal) (x.at a la) ∙ raised_low (the_horizon c.deal) r l) };
+        grows = k.grows;
+        turn_of = λ v lv.
+            let m = turn_of_round s x.good v lv in
+            let known_is : notes_of (round c s) v ≡ notes_of m.mid v = ap (λ ns. slice_index_or ns v (record { known = []; signed = [] })) k.notes_same ∙ (ap (λ z. notes_of z v) k.mid_is ∙ m.same) in
+            let new = k.good.notes v lv (all v lv) in
+            let old = m.good.notes v lv (all v lv) in
+            record {
+              known = (notes_of m.mid v).known;
+              signed = signed_in (notes_of m.mid v).signed;
+              seen = m.seen;
+              knows = λ a. subst (λ n. Knows v (history n.known a) (history (round c s).book a)) known_is (new.knows a);
+              done = first_none (due c.deal v (c.wallet v) (signed_in (notes_of m.mid v).signed) (notes_of m.mid v).known) m.rest;
+              top = λ a. known_low r s m.mid v a x m.calm (old.knows a);
+            };
+      }
+
+  not_ended : (r : ℕ) (s : State) → r ≤ the_horizon c.deal → Level c s r → has_ended c.deal s.book ≡ false
+  not_ended r s l x = not-true _ (λ e.
+      let n : 2 ≤ length c.deal.graph.arcs = ready.accepted.arcs.0 in
+      let z = list_all-in (λ a. nat_lt (the_horizon c.deal) (height (history s.book a))) (arcs c.deal.graph) 0 e (in_range 0 (length c.deal.graph.arcs) (omega arith)) in
+      let o : height (history s.book 0) ≡ r = x.at 0 (omega arith) in
+      let q = ltb-true _ _ z in
+      omega arith)
+
+  stepped : (r : ℕ) (s : State) → r ≤ the_horizon c.deal → Level c s r → Leveled c r s (round_unless_ended c s)
+  stepped r s l x = subst (Leveled c r s) (sym (round_goes_on c s (not_ended r s l x))) (leveled r s l x)
+
+  abbrev after : ℕ → State
+  after r = repeat r (round_unless_ended c) (start c.deal)
+
+  levels : (r : ℕ) → r ≤ the_horizon c.deal + 1 → Level c (after r) r
+  levels zero l = record { good = start_is_good c ready; at = λ a la. ap height (empty_at c.deal a) }
+  levels (suc r) l = Leveled.level (stepped r (after r) (omega arith) (levels r (omega arith)))
+
+  fair_rounds : (v : ℕ) → v < c.deal.graph.n → IsRounds c.deal v (c.wallet v) 1 0 (the_horizon c.deal + 1) (λ r. (after r).book)
+  fair_rounds v lv = record {
+    legal = λ r l. (Level.good (levels r l)).legal;
+    conducted = (good_is_kept c (after (the_horizon c.deal + 1)) ready (Level.good (levels (the_horizon c.deal + 1) (omega arith)))).conducted v lv (all v lv);
+    grows = λ r a l. subst (λ q. Begins (history (after r).book a) (history (after q).book a)) (next r) (Leveled.grows (stepped r (after r) (omega arith) (levels r (omega arith))) a);
+    at = λ r a l i. let o : height (history (after r).book a) ≡ r = Level.at (levels r l) a (from_range a (length c.deal.graph.arcs) i) in omega arith;
+    turn = λ r l. subst (λ q. IsTurn c.deal v (c.wallet v) (after r).book (after q).book (r * 1 + 0)) (next r)
+        (subst (IsTurn c.deal v (c.wallet v) (after r).book (after (suc r)).book) (same r) (Leveled.turn_of (stepped r (after r) (omega arith) (levels r (omega arith))) v lv));
+  }
+    where
+      next : (r : ℕ) → suc r ≡ r + 1
+      next r = omega arith
+
+      same : (r : ℕ) → r ≡ r * 1 + 0
+      same r = omega arith
+
+  fair : IsDealt c.deal (conforms c) (finish c (start c.deal)).book
+  unfolding finish
+  fair =
+      let last = levels (the_horizon c.deal + 1) (omega arith) in
+      all_dealt c.deal (conforms c) (after (the_horizon c.deal + 1)).book ready.accepted last.good.legal
+      (λ a l. let o : height (history (after (the_horizon c.deal + 1)).book a) ≡ the_horizon c.deal + 1 = last.at a l in omega arith)
+      (λ v l. (good_is_kept c (after (the_horizon c.deal + 1)) ready last.good).conducted v l (all v l))
+      (λ v l. let d : 1 ≤ c.deal.delta = ready.accepted.delta.0 in rounds_on_time c.deal v (c.wallet v) 1 0 (the_horizon c.deal + 1) (λ r. (after r).book) ready.accepted (omega arith) (omega arith) (fair_rounds v l))
+
+pub fair_is_dealt : FairIsDealt
+fair_is_dealt c ready all = fair c ready all

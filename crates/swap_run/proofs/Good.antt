@@ -1,0 +1,188 @@
+-- A run begins in a good state, each event leaves the state good, and in a good state the book is legal and every conforming party is conducted.
+use Rattle.std.proofs.Common.{◌≡◌, ◌≢◌, ◌⊎◌, ℕ, suc, ◌<◌, ◌≤◌, ◌==◌, nat_lt, Bool, true, false, cond, List, [], ◌∷◌, ◌++◌, length, fold, Option, Some, None, refl, sym, ap, ◌∙◌, subst, inl, inr, arith, eqb-true, ltb-true, ltb-false, set, slice_set, replicate, get_or, All}
+use Rattle.std.proofs.lemmas.Bool.{false≢true}
+use Rattle.std.proofs.lemmas.List.{get_or-set_same, get_or-set_other, length-set, length-replicate, get_or-replicate}
+use Rattle.std.proofs.Math.ListN.{get_or-eq_default}
+use Rattle.swap_base.specs.Lists.{IsIn, IsMoment}
+use Rattle.swap_digraph.specs.declared.deal.Deal.{Deal}
+use Rattle.ledger_core.specs.declared.entry.Sender.{Sender}
+use Rattle.ledger_core.specs.declared.entry.Sender.TheVariants.{Party, Clock}
+use Rattle.ledger_core.specs.declared.entry.What.{What}
+use Rattle.ledger_core.specs.declared.entry.What.TheVariants.{Call as Made, Tick as Ticks}
+use Rattle.ledger_core.specs.declared.entry.Entry.{Entry}
+use Rattle.ledger_core.specs.History.{sent_by, IsLegal}
+use Rattle.ledger_core.specs.Book.{Histories, history, IsLegalBook}
+use Rattle.deviator_script.specs.declared.moves.Move.{Move}
+use Rattle.deviator_script.specs.declared.event.Event.{Event}
+use Rattle.deviator_script.specs.declared.event.Event.TheVariants.{Tick, Look, Act, Call as Calls}
+use Rattle.deviator_script.specs.Step.{CanStep, CanTick, CanCall}
+use Rattle.deviator_script.specs.Resolved.{arc_of, call_of}
+use Rattle.swap_rules.specs.Due.{Action, due, first}
+use Rattle.swap_laws.proofs.History.{not-true}
+use Rattle.swap_laws.proofs.Prefixes.{same_or_not}
+use Rattle.swap_laws.proofs.Machines.{knowledge_conducts}
+use Rattle.swap_laws.proofs.Conducting.{Next, next_legal, knows_all}
+use Rattle.swap_run.specs.Run.{Cast, Notes, State, conforms, notes_of, signed_in, signed_after, after_tick, after_call, after_move, known_up_to, look, make, next_of, act, step, no_histories, no_notes, start, run}
+use Rattle.swap_run.specs.Laws.{IsReadyCast, AreGoodNotes, IsGood, StartIsGood, StepsAreGood, GoodIsKept, RunsAreKept}
+use Rattle.swap_run.proofs.Entries.{next_tick, next_of_call, next_move, or_claim}
+use Rattle.swap_run.proofs.Noted.{Holds, hold_other, hold_look, hold_act, due_now}
+
+-- Notes.
+
+pub holds : (c : Cast) (s : State) (v : ℕ) → AreGoodNotes c s v → Holds c.deal s.book (notes_of s v) v
+holds c s v g = record { one_each = g.one_each; places = g.places; knows = g.knows; sound = g.sound }
+
+pub good_notes : (c : Cast) (s : State) (v : ℕ) (n : Notes) → notes_of s v ≡ n → Holds c.deal s.book n v → AreGoodNotes c s v
+good_notes c s v n e h =
+    let k = subst (λ m. Holds c.deal s.book m v) (sym e) h in
+    record { one_each = k.one_each; places = k.places; knows = k.knows; sound = k.sound }
+
+no_note : Notes
+no_note = record { known = []; signed = [] }
+
+pub note_same : (s : State) (b : Histories) (v : ℕ) (n : Notes) → v < length s.notes → notes_of (record { book = b; notes = slice_set s.notes v n }) v ≡ n
+note_same s b v n below = get_or-set_same s.notes v n (record { known = []; signed = [] }) below
+
+pub note_other : (s : State) (b : Histories) (v u : ℕ) (n : Notes) → u ≢ v → notes_of (record { book = b; notes = slice_set s.notes v n }) u ≡ notes_of s u
+note_other s b v u n apart = get_or-set_other s.notes v u n (record { known = []; signed = [] }) apart
+
+-- The steps.
+
+pub in_book : (c : Cast) (s : State) (a : ℕ) → IsGood c s → a < length c.deal.graph.arcs → a < length s.book
+in_book c s a g l = subst (λ m. a < m) (sym g.legal.one_each) l
+
+-- an entry of nobody who conforms
+pub good_other : (c : Cast) (s : State) (a : ℕ) (k : List Entry) (by : Sender) (w : What) → a < length c.deal.graph.arcs → Next c.deal a (history s.book a) k by w → ((v : ℕ) → conforms c v ≡ true → sent_by v by ≡ false) → IsGood c s
+    → IsGood c (record { book = set s.book a k; notes = s.notes })
+good_other c s a k by w below n others g = record {
+  legal = next_legal c.deal s.book a k by w (in_book c s a g below) n g.legal;
+  one_each = g.one_each;
+  notes = λ v l cv. good_notes c _ v (notes_of s v) refl (hold_other c.deal s.book (notes_of s v) v a k by w (in_book c s a g below) n (others v cv) (holds c s v (g.notes v l cv)));
+}
+
+pub good_tick : (c : Cast) (s : State) (a k : ℕ) → CanTick c.deal a k → IsGood c s → IsGood c (step c s (Tick a k))
+good_tick c s a k can g = good_other c s a (after_tick k (history s.book a)) Clock (Ticks k) can.arc (next_tick c.deal a (history s.book a) k can.some can.few) (λ v cv. refl) g
+
+good_call : (c : Cast) (s : State) (p : ℕ) (mv : Move) → CanCall c.deal c.conforming p mv → IsGood c s → IsGood c (step c s (Calls p mv))
+good_call c s p mv can g = good_other c s (arc_of mv) (after_move c.deal (arc_of mv) p (call_of c.deal mv) (history s.book (arc_of mv))) (Party p) (Made (or_claim (call_of c.deal mv))) can.fits.arc
+    (next_move c.deal (arc_of mv) (history s.book (arc_of mv)) p (call_of c.deal mv) can.fits.adjacent can.fits.fits)
+    (λ v cv. not-true (p == v) (λ e. false≢true (sym can.deviates ∙ (ap (conforms c) (eqb-true p v e) ∙ cv)))) g
+
+pub good_look : (c : Cast) (s : State) (v a : ℕ) → v < c.deal.graph.n → a < length c.deal.graph.arcs → IsGood c s → IsGood c (look s v a)
+good_look c s v a lv below g = record {
+  legal = g.legal;
+  one_each = length-set s.notes v (known_up_to (notes_of s v) a (history s.book a)) ∙ g.one_each;
+  notes = λ u l cu. go u l cu (same_or_not u v);
+}
+  where
+    go : (u : ℕ) → u < c.deal.graph.n → conforms c u ≡ true → (u ≡ v) ⊎ (u ≢ v) → AreGoodNotes c (look s v a) u
+    go u l cu (inl e) = subst (AreGoodNotes c (look s v a)) (sym e)
+        (good_notes c (look s v a) v (known_up_to (notes_of s v) a (history s.book a)) (note_same s s.book v (known_up_to (notes_of s v) a (history s.book a)) (subst (λ m. v < m) (sym g.one_each) lv))
+        (hold_look c.deal s.book (notes_of s v) v a below g.legal (holds c s v (g.notes v lv (ap (conforms c) (sym e) ∙ cu)))))
+    go u l cu (inr n) = good_notes c (look s v a) u (notes_of s u) (note_other s s.book v u (known_up_to (notes_of s v) a (history s.book a)) n) (holds c s u (g.notes u l cu))
+
+-- a due call of v
+pub good_make : (c : Cast) (s : State) (v : ℕ) (x : Action) → IsReadyCast c → v < c.deal.graph.n → conforms c v ≡ true → IsIn x (due c.deal v (c.wallet v) (signed_in (notes_of s v).signed) (notes_of s v).known) → IsGood c s → IsGood c (make c.deal s v (Some x))
+good_make c s v x ready lv cv i g =
+    let hv = holds c s v (g.notes v lv cv) in
+    let is = due_now c.deal s.book (notes_of s v) v (c.wallet v) x (ready.wallets v lv cv) ready.accepted i hv in
+    let n = next_of_call c.deal x.arc (history s.book x.arc) v x.call is.of_the_two is.fits in
+    let below = in_book c s x.arc g is.below in
+    record {
+      legal = next_legal c.deal s.book x.arc (after_call c.deal x.arc v x.call (history s.book x.arc)) (Party v) (Made x.call) below n g.legal;
+      one_each = length-set s.notes v _ ∙ g.one_each;
+      notes = λ u l cu. go u l cu below n (same_or_not u v);
+    }
+  where
+    go : (u : ℕ) → u < c.deal.graph.n → conforms c u ≡ true → x.arc < length s.book → Next c.deal x.arc (history s.book x.arc) (after_call c.deal x.arc v x.call (history s.book x.arc)) (Party v) (Made x.call) → (u ≡ v) ⊎ (u ≢ v) → AreGoodNotes c (make c.deal s v (Some x)) u
+    go u l cu below n (inl e) = subst (AreGoodNotes c (make c.deal s v (Some x))) (sym e)
+        (good_notes c (make c.deal s v (Some x)) v (record { known = set (notes_of s v).known x.arc (after_call c.deal x.arc v x.call (history s.book x.arc)); signed = signed_after (notes_of s v).signed x.call })
+        (note_same s (set s.book x.arc (after_call c.deal x.arc v x.call (history s.book x.arc))) v _ (subst (λ m. v < m) (sym g.one_each) lv))
+        (hold_act c.deal s.book (notes_of s v) v (c.wallet v) x (ready.wallets v lv cv) ready.accepted g.legal i (holds c s v (g.notes v lv cv))))
+    go u l cu below n (inr apart) = good_notes c (make c.deal s v (Some x)) u (notes_of s u) (note_other s (set s.book x.arc (after_call c.deal x.arc v x.call (history s.book x.arc))) v u _ apart)
+        (hold_other c.deal s.book (notes_of s u) u x.arc (after_call c.deal x.arc v x.call (history s.book x.arc)) (Party v) (Made x.call) below n (not-true (v == u) (λ e. apart (sym (eqb-true v u e)))) (holds c s u (g.notes u l cu)))
+
+-- the first of a list stands in it
+pub first_in : {A : Type 0} (xs : List A) (x : A) → first xs ≡ Some x → IsIn x xs
+first_in [] x e = absurd (cc e)
+first_in (y ∷ ys) x e = inl (cc)
+
+pub good_act : (c : Cast) (s : State) (v : ℕ) → IsReadyCast c → v < c.deal.graph.n → conforms c v ≡ true → IsGood c s → IsGood c (act c s v)
+good_act c s v ready lv cv g = go (next_of c s v) refl
+  where
+    go : (o : Option Action) → next_of c s v ≡ o → IsGood c (make c.deal s v o)
+    go None e = g
+    go (Some x) e = good_make c s v x ready lv cv (first_in (due c.deal v (c.wallet v) (signed_in (notes_of s v).signed) (notes_of s v).known) x e) g
+
+pub steps_are_good : StepsAreGood
+steps_are_good c s (Tick a k) ready can g = good_tick c s a k can g
+steps_are_good c s (Look v a) ready can g = go (conforms c v)
+  where
+    go : (x : Bool) → IsGood c (cond x (look s v a) s)
+    go true = good_look c s v a can.known can.arc g
+    go false = g
+steps_are_good c s (Act v) ready can g = go (conforms c v) refl
+  where
+    go : (x : Bool) → conforms c v ≡ x → IsGood c (cond x (act c s v) s)
+    go true e = good_act c s v ready can e g
+    go false e = g
+steps_are_good c s (Calls p mv) ready can g = good_call c s p mv can g
+
+-- The beginning.
+
+pub replicated : {A : Type 0} (n i : ℕ) (x : A) → get_or (replicate n x) i x ≡ x
+replicated n i x = go (nat_lt i n) refl
+  where
+    go : (y : Bool) → nat_lt i n ≡ y → get_or (replicate n x) i x ≡ x
+    go true e = get_or-replicate n i x x (ltb-true i n e)
+    go false e = get_or-eq_default (replicate n x) x (subst (λ m. m ≤ i) (sym (length-replicate n x)) (above i n e))
+      where
+        above : (i n : ℕ) → nat_lt i n ≡ false → n ≤ i
+        above i n e = omega (arith, ltb-false i n e)
+
+pub empty_at : (d : Deal) (a : ℕ) → history (no_histories d) a ≡ []
+empty_at d a = replicated (length d.graph.arcs) a []
+
+no_moment : (h past : List Entry) (e : Entry) → h ≡ [] → IsMoment h past e → ⊥
+no_moment h [] e q m = let z : e ∷ m.0 ≡ [] = sym m.1 ∙ q in cc z
+no_moment h (x ∷ past) e q m = let z : x ∷ (past ++ e ∷ m.0) ≡ [] = sym m.1 ∙ q in cc z
+
+empty_legal : (d : Deal) → IsLegalBook d (no_histories d)
+empty_legal d = record { one_each = length-replicate (length d.graph.arcs) []; legal = λ a l. subst (IsLegal d a) (sym (empty_at d a)) tt }
+
+pub start_is_good : StartIsGood
+start_is_good c ready = record {
+  legal = empty_legal c.deal;
+  one_each = length-replicate c.deal.graph.n (no_notes c.deal);
+  notes = λ v l cv. good_notes c (start c.deal) v (no_notes c.deal) (get_or-replicate c.deal.graph.n v (no_notes c.deal) (record { known = []; signed = [] }) l)
+      (record {
+        one_each = length-replicate (length c.deal.graph.arcs) [];
+        places = length-replicate (length c.deal.leaders) None;
+        knows = λ a. knows_all v (history (no_histories c.deal) a);
+        sound = record {
+          legal = empty_legal c.deal;
+          rules = record {
+            own = λ a past e call m q. absurd (no_moment _ past e (empty_at c.deal a) m);
+            keys = λ i key q. absurd (none i key q);
+          };
+        };
+      });
+}
+  where
+    none : (i : ℕ) (key : _) → signed_in (no_notes c.deal).signed i ≡ Some key → ⊥
+    none i key q = cc (sym (replicated (length c.deal.leaders) i None) ∙ q)
+
+-- Runs.
+
+pub good_is_kept : GoodIsKept
+good_is_kept c s ready g = record {
+  legal = g.legal;
+  conducted = λ v l cv. let n = g.notes v l cv in knowledge_conducts c.deal (notes_of s v).known s.book (signed_in (notes_of s v).signed) v g.legal n.knows n.sound.rules;
+}
+
+pub runs_are_good : (c : Cast) (events : List Event) (s : State) → IsReadyCast c → All (CanStep c.deal c.conforming) events → IsGood c s → IsGood c (fold (step c) s events)
+runs_are_good c [] s ready all g = g
+runs_are_good c (e ∷ events) s ready all g = runs_are_good c events (step c s e) ready (λ k d l. all (suc k) d (omega arith)) (steps_are_good c s e ready (all 0 e (omega arith)) g)
+
+pub runs_are_kept : RunsAreKept
+runs_are_kept c events ready all = good_is_kept c (run c events) ready (runs_are_good c events (start c.deal) ready all (start_is_good c ready))

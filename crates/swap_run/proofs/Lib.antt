@@ -1,0 +1,18 @@
+-- Lemmas, each file above those that it stands on.
+
+-- steps and runs
+pub mod Entries
+pub mod Noted
+pub mod Good
+-- turns
+pub mod Repeats
+pub mod Counts
+pub mod Slots
+pub mod Acts
+pub mod Turns
+-- rounds and the finish
+pub mod Ticks
+pub mod Rounds
+pub mod Finish
+pub mod Fair
+pub mod Reached

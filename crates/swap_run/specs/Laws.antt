@@ -1,0 +1,64 @@
+-- The laws of runs.
+use Rattle.std.specs.Prelude.{◌≡◌, ◌≢◌, ◌==◌, ◌||◌, ℕ, ◌<◌, true, IsTrue, List, length, All, Some}
+use Rattle.swap_digraph.specs.Deal.{party, counterparty}
+use Rattle.escrow_core.specs.declared.reply.Reply.TheVariants.{SenderFull}
+use Rattle.ledger_core.specs.History.{fit, reply_to}
+use Rattle.swap_rules.specs.Due.{Action}
+use Rattle.ledger_core.specs.Book.{Histories, history, IsLegalBook}
+use Rattle.deviator_script.specs.declared.event.Event.{Event}
+use Rattle.deviator_script.specs.Step.{CanStep}
+use Rattle.swap_rules.specs.Accepted.{IsAccepted}
+use Rattle.swap_rules.specs.Conduct.{IsConducted}
+use Rattle.swap_laws.specs.Machine.{IsWallet, IsSound, Knows}
+use Rattle.swap_run.specs.Run.{Cast, State, conforms, notes_of, signed_in, next_of, step, start, run}
+
+-- What a run asks of its cast: the deal is accepted, and each conforming party has a wallet of its own.
+pub record IsReadyCast (c : Cast) : Type 0 where
+  pub accepted : IsAccepted c.deal
+  pub one_each : length c.conforming ≡ c.deal.graph.n
+  pub wallets : (v : ℕ) → v < c.deal.graph.n → conforms c v ≡ true → IsWallet c.deal v (c.wallet v)
+
+-- What a conforming party's notes keep: they are of this book, up to some entry of each ledger and past all calls of its own, and its calls keep its rules.
+pub record AreGoodNotes (c : Cast) (s : State) (v : ℕ) : Type 0 where
+  pub one_each : length (notes_of s v).known ≡ length c.deal.graph.arcs
+  pub places : length (notes_of s v).signed ≡ length c.deal.leaders
+  pub knows : (a : ℕ) → Knows v (history (notes_of s v).known a) (history s.book a)
+  pub sound : IsSound c.deal (notes_of s v).known (signed_in (notes_of s v).signed) v
+
+-- What every state of a run keeps.
+pub record IsGood (c : Cast) (s : State) : Type 0 where
+  pub legal : IsLegalBook c.deal s.book
+  pub one_each : length s.notes ≡ c.deal.graph.n
+  pub notes : (v : ℕ) → v < c.deal.graph.n → conforms c v ≡ true → AreGoodNotes c s v
+
+-- a run begins well
+abbrev pub StartIsGood : Type 0
+StartIsGood = (c : Cast) → IsReadyCast c → IsGood c (start c.deal)
+
+-- and each event leaves it so
+abbrev pub StepsAreGood : Type 0
+StepsAreGood = (c : Cast) (s : State) (e : Event) → IsReadyCast c → CanStep c.deal c.conforming e → IsGood c s → IsGood c (step c s e)
+
+-- A call of v that the ledger of its arc takes.
+pub record CanBeMade (c : Cast) (s : State) (v : ℕ) (x : Action) : Type 0 where
+  pub arc : x.arc < length c.deal.graph.arcs
+  pub adjacent : IsTrue ((v == party c.deal x.arc) || (v == counterparty c.deal x.arc))
+  pub fits : IsTrue (fit c.deal x.arc x.call)
+  pub room : reply_to c.deal x.arc (history s.book x.arc) v x.call ≢ SenderFull
+
+-- what a conforming party makes in a good state can be made
+abbrev pub DueCallsCanBeMade : Type 0
+DueCallsCanBeMade = (c : Cast) (s : State) (v : ℕ) (x : Action) → IsReadyCast c → IsGood c s → v < c.deal.graph.n → conforms c v ≡ true → next_of c s v ≡ Some x → CanBeMade c s v x
+
+-- What a run promises of its book, whatever the other parties do.
+pub record IsKept (c : Cast) (b : Histories) : Type 0 where
+  pub legal : IsLegalBook c.deal b
+  pub conducted : (v : ℕ) → v < c.deal.graph.n → conforms c v ≡ true → IsConducted c.deal b v
+
+-- in a good state the book is legal and every conforming party is conducted
+abbrev pub GoodIsKept : Type 0
+GoodIsKept = (c : Cast) (s : State) → IsReadyCast c → IsGood c s → IsKept c s.book
+
+-- after every list of events the book is legal and every conforming party is conducted
+abbrev pub RunsAreKept : Type 0
+RunsAreKept = (c : Cast) (events : List Event) → IsReadyCast c → All (CanStep c.deal c.conforming) events → IsKept c (run c events).book

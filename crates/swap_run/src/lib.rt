@@ -1,0 +1,50 @@
+//! The run of a schedule, as a definition, and its laws: whatever the others do, every conforming party keeps its conduct. Each law is a function without a body; its contract is the law.
+//!
+//! Read `specs/Run.antt` first, then `specs/Laws.antt`; `specs/Fair.antt` has the fair finish of a run, and `specs/FairLaws.antt` its laws.
+#![tactic(auto)]
+
+ghost use Rattle.swap_run.specs.FairLaws.{FinishesAreRuns, FinishesEnd, FinishesAreGood, FinishHeights, FairIsDealt, ActsComeToRest, ActsAreEnough, OthersRest, TurnsAreGood, RoundsAreGood, RoundsRaise, RoundsCountDown, FinishStops, FinishGoesOn};
+ghost use Rattle.swap_run.specs.Laws.{StartIsGood, StepsAreGood, DueCallsCanBeMade, GoodIsKept, RunsAreKept};
+
+/// What every state of a run keeps: the book is legal, and each conforming party knows some prefix of each ledger that holds all its own calls, which keep its rules. What it makes, the ledger takes.
+pub fn every_state_is_good()
+    ensures start { StartIsGood }
+    ensures steps { StepsAreGood }
+    ensures calls { DueCallsCanBeMade }
+{}
+
+/// After every list of events the book is legal and every conforming party is conducted.
+pub fn every_run_is_kept()
+    ensures states { GoodIsKept }
+    ensures runs { RunsAreKept }
+{}
+
+/// A turn ends: a conforming party acts until nothing is due, for which as many acts are enough as there are calls that it may make. Any other party does nothing.
+pub fn every_turn_ends()
+    ensures rest { ActsComeToRest }
+    ensures enough { ActsAreEnough }
+    ensures others { OthersRest }
+    ensures good { TurnsAreGood }
+{}
+
+/// A round raises each ledger that isn't above the horizon by one height, so that the rounds that are left count down.
+pub fn every_round_raises()
+    ensures raise { RoundsRaise }
+    ensures down { RoundsCountDown }
+    ensures good { RoundsAreGood }
+{}
+
+/// A fair finish ends with each ledger above the horizon, and keeps what every run keeps: it is made of events of a run. It is rounds until no ledger is low.
+pub fn every_finish_ends()
+    ensures end { FinishesEnd }
+    ensures run { FinishesAreRuns }
+    ensures good { FinishesAreGood }
+    ensures heights { FinishHeights }
+    ensures stops { FinishStops }
+    ensures goes_on { FinishGoesOn }
+{}
+
+/// Where every party conforms and no event comes before, a fair finish deals: nothing is found, and every outcome is the whole deal.
+pub fn a_fair_finish_is_dealt()
+    ensures { FairIsDealt }
+{}

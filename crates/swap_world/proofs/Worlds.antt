@@ -1,0 +1,92 @@
+-- What a world keeps at each event.
+use Rattle.std.proofs.Common.{◌≡◌, ◌⊎◌, inl, inr, Result, Ok, Err, OnOk, OnErr, ℕ, ◌<◌, Bool, true, false, List, length, get_or, set, slice_index_or, map, Option, Some, None, refl, sym, ap, ap₂, ◌∙◌, subst}
+use Rattle.std.specs.Result.{is_err}
+use Rattle.std.proofs.lemmas.Bool.{false≢true}
+use Rattle.swap_digraph.specs.declared.deal.Deal.{Deal}
+use Rattle.ledger_core.specs.declared.entry.Entry.{Entry}
+use Rattle.ledger_core.specs.Value.{LedgerState}
+use Rattle.ledger_core.specs.Book.{Histories, history}
+use Rattle.swap_laws.specs.Machine.{Begins}
+use Rattle.swap_rules.specs.Due.{Action, due}
+use Rattle.deviator_script.specs.declared.event.Event.{Event}
+use Rattle.deviator_script.specs.Step.{CanStep}
+use Rattle.swap_run.specs.Run.{Cast, Notes, State, notes_of, signed_in, next_of, step}
+use Rattle.swap_run.specs.Laws.{IsReadyCast, IsGood}
+use Rattle.swap_run.proofs.Noted.{due_now}
+use Rattle.swap_run.proofs.Good.{holds, first_in, steps_are_good}
+use Rattle.party_machine.specs.Machine as machines
+use Rattle.party_machine.specs.Machine.{MachineState}
+use Rattle.swap_world.specs.Value.{WorldState}
+use Rattle.swap_world.specs.Inside.{IsActorOf}
+use Rattle.swap_world.specs.Acting.{IsMakable, IsSameOwner, histories}
+use Rattle.swap_world.specs.declared.actor.Actor.{Actor}
+use Rattle.swap_world.specs.declared.actor.Actor.TheVariants.{Conforming, Manual}
+use Rattle.swap_world.proofs.Ledgers.{history_at}
+use Rattle.swap_world.proofs.States.{IsAt, c, s, notes_at, next_is}
+
+abbrev pub Seeds : Type 0
+Seeds = List (Option (List ℕ))
+
+-- a world with that state
+abbrev pub world : Deal → List Bool → Seeds → Bool → State → WorldState
+world d conforming seeds stopped st = record { deal = d; conforming = conforming; seeds = seeds; state = st; stopped = stopped }
+
+abbrev pub state : Histories → List Notes → State
+state b ns = record { book = b; notes = ns }
+
+-- an actor that was found is a conforming one
+pub found : (xs : List Actor) (p : ℕ) (x : Actor) (m : MachineState) → x ≡ Conforming m → x ≡ get_or xs p x → Conforming m ≡ get_or xs p (Conforming m)
+found xs p x m e h = subst (λ y. y ≡ get_or xs p y) e h
+
+-- what a machine learnt of a ledger
+pub know : (m new : MachineState) (ls : List LedgerState) (a : ℕ) (l : LedgerState) → l.arc ≡ a → a < length ls → l ≡ get_or ls a l → new ≡ record { deal = m.deal; me = m.me; seed = m.seed; known = set m.known l.arc l.history; signed = m.signed }
+    → new ≡ record { deal = m.deal; me = m.me; seed = m.seed; known = set m.known a (history (histories ls) a); signed = m.signed }
+know m new ls a l ea lt is e = e ∙ ap₂ (λ (x : ℕ) (h : List Entry). after x h) ea (sym (history_at ls a l lt is))
+  where
+    after : ℕ → List Entry → MachineState
+    after x h = record { deal = m.deal; me = m.me; seed = m.seed; known = set m.known x h; signed = m.signed }
+
+-- a machine after a look is of the same owner, whether memory ran out or not
+pub same_owner : {A E : Type 0} (r : Result A E) (m new : MachineState) (k : Histories) → OnOk r (new ≡ record { deal = m.deal; me = m.me; seed = m.seed; known = k; signed = m.signed }) → OnErr r (new ≡ m) → IsSameOwner m new
+same_owner (Ok x) m new k ok err = record { deal = ap (λ y. y.deal) ok; me = ap (λ y. y.me) ok; seed = ap (λ y. y.seed) ok }
+same_owner (Err e) m new k ok err = record { deal = ap (λ y. y.deal) err; me = ap (λ y. y.me) err; seed = ap (λ y. y.seed) err }
+
+pub owned : (d : Deal) (conforms : Bool) (seed : Option (List ℕ)) (p : ℕ) (m new : MachineState) → IsSameOwner m new → IsActorOf d conforms seed p (Conforming m) → IsActorOf d conforms seed p (Conforming new)
+owned d conforms seed p m new k i = (i.0, k.deal ∙ i.1, k.me ∙ i.2, i.3 ∙ ap (λ (z : List ℕ). Some z) (sym k.seed))
+
+-- the state after an event, or as before where memory ran out, is good
+pub good_on : {A E : Type 0} (r : Result A E) (cast : Cast) (old new : State) (e : Event) → OnOk r (new ≡ step cast old e) → OnErr r (new ≡ old) → IsReadyCast cast → CanStep cast.deal cast.conforming e → IsGood cast old → IsGood cast new
+good_on (Ok x) cast old new e ok err ready can g = subst (IsGood cast) (sym ok) (steps_are_good cast old e ready can g)
+good_on (Err x) cast old new e ok err ready can g = subst (IsGood cast) (sym err) g
+
+-- what follows from two facts that stand where memory sufficed
+pub both : {A E : Type 0} {P Q R : Type 0} (r : Result A E) → (P → Q → R) → OnOk r P → OnOk r Q → OnOk r R
+both (Ok x) f p q = f p q
+both (Err e) f p q = tt
+
+-- the state after an act that didn't run out of memory is good
+pub good_unless : {A E : Type 0} (r : Result A E) (stopped : Bool) (cast : Cast) (old new : State) (e : Event) → stopped ≡ is_err r → stopped ≡ false → OnOk r (new ≡ step cast old e) → IsReadyCast cast → CanStep cast.deal cast.conforming e → IsGood cast old → IsGood cast new
+good_unless (Ok x) stopped cast old new e is goes_on ok ready can g = subst (IsGood cast) (sym ok) (steps_are_good cast old e ready can g)
+good_unless (Err x) stopped cast old new e is goes_on ok ready can g = absurd (false≢true (sym goes_on ∙ is))
+
+-- an act that didn't run out of memory leaves the world going on
+pub acted_on : {A E : Type 0} (r : Result A E) (d : Deal) (conforming : List Bool) (seeds : Seeds) (before after : Bool) (old new : State) → after ≡ is_err r → before ≡ false → OnOk r (new ≡ old) → OnOk r (world d conforming seeds after new ≡ world d conforming seeds before old)
+acted_on (Ok x) d conforming seeds before after old new is goes_on ok = ap₂ (λ (b : Bool) (st : State). world d conforming seeds b st) (is ∙ sym goes_on) ok
+acted_on (Err x) d conforming seeds before after old new is goes_on ok = tt
+
+module _ (d : Deal) (conforming : List Bool) (seeds : List (Option (List ℕ))) (ls : List LedgerState) (xs : List Actor) (ready : IsReadyCast (c d conforming seeds ls xs)) (good : IsGood (c d conforming seeds ls xs) (s d conforming seeds ls xs))
+    (p : ℕ) (below : p < d.graph.n) (m : MachineState) (i : IsAt d conforming seeds ls xs p m) where
+  -- what the machine knows is the beginning of each history
+  pub begins : (a : ℕ) → Begins (history m.known a) (history (histories ls) a)
+  begins a =
+      let k = (good.notes p below i.is.0).knows a in
+      subst (λ n. Begins (history n.known a) (history (histories ls) a)) (notes_at d conforming seeds ls xs p m i) (k.rest, k.whole)
+
+  -- its next call fits
+  pub makable : (x : Action) → machines.next_of m ≡ Some x → IsMakable m.deal m.me x
+  makable x e =
+      let cast = c d conforming seeds ls xs in
+      let state = s d conforming seeds ls xs in
+      let next : next_of cast state p ≡ Some x = next_is d conforming seeds ls xs p m i ∙ e in
+      let is = due_now d state.book (notes_of state p) p (cast.wallet p) x (ready.wallets p below i.is.0) ready.accepted (first_in (due d p (cast.wallet p) (signed_in (notes_of state p).signed) (notes_of state p).known) x next) (holds cast state p (good.notes p below i.is.0)) in
+      subst (λ e. IsMakable e m.me x) (sym i.is.1) (subst (λ v. IsMakable d v x) (sym i.is.2) (record { arc = is.below; of_the_two = is.of_the_two; fits = is.fits }))

@@ -1,0 +1,20 @@
+use Rattle.std.proofs.Common.{◌≡◌, ◌++◌, List, sym, subst}
+use Rattle.ledger_core.specs.declared.entry.Entry.{Entry}
+use Rattle.ledger_core.specs.Book.{history}
+use Rattle.swap_laws.specs.Machine.{Begins}
+use Rattle.swap_laws.proofs.Prefixes.{begins_more}
+use Rattle.swap_world.proofs.Turns.{call_begins}
+use Rattle.swap_world.proofs.turn.make_due.Goals as goal
+
+pub call-requires-clause-of_the_two : goal.call-requires-clause-of_the_two
+call-requires-clause-of_the_two c = rw (c.me.ensures, c.requires.ledger.deal, c.requires.ledger.arc) c.requires.makable.of_the_two
+
+pub call-requires-clause-fits : goal.call-requires-clause-fits
+call-requires-clause-fits c = rw (c.requires.ledger.deal, c.requires.ledger.arc) c.requires.makable.fits
+
+pub learn-requires-clause-begins : goal.learn-requires-clause-begins
+learn-requires-clause-begins c =
+    let l = c.args.ledger.now in
+    let k = history c.args.machine.now.known c.args.arc in
+    rw (c.in_ok-call.ensures.arc, c.requires.ledger.arc, c.in_ok-call.ensures.ok)
+    (begins_more k l.history _ c.requires.begins (call_begins l.deal l.arc c.me.result c.args.due l.history))

@@ -1,0 +1,42 @@
+-- What the act of a machine makes of the histories and of the machine.
+use Rattle.std.specs.Prelude.{◌≡◌, ◌==◌, ◌||◌, ◌<◌, ℕ, IsTrue, List, length, map, slice_set, Option, Some, None}
+use Rattle.swap_digraph.specs.declared.deal.Deal.{Deal}
+use Rattle.swap_digraph.specs.Deal.{party, counterparty}
+use Rattle.ledger_core.specs.Value.{LedgerState}
+use Rattle.ledger_core.specs.History.{fit}
+use Rattle.ledger_core.specs.Book.{Histories, history}
+use Rattle.swap_rules.specs.Due.{Action}
+use Rattle.swap_run.specs.Run.{after_call, signed_after}
+use Rattle.party_machine.specs.Machine.{MachineState}
+
+-- The call fits, and stands on an arc that touches party v.
+pub record IsMakable (d : Deal) (v : ℕ) (x : Action) : Type 0 where
+  pub arc : x.arc < length d.graph.arcs
+  pub of_the_two : IsTrue ((v == party d x.arc) || (v == counterparty d x.arc))
+  pub fits : IsTrue (fit d x.arc x.call)
+
+-- Both machines are of one party and one deal, with one seed.
+pub record IsSameOwner (old new : MachineState) : Type 0 where
+  pub deal : new.deal ≡ old.deal
+  pub me : new.me ≡ old.me
+  pub seed : new.seed ≡ old.seed
+
+-- the histories of ledgers
+abbrev pub histories : List LedgerState → Histories
+histories ls = map (λ l. l.history) ls
+
+-- the histories after a call of the machine, if any
+abbrev pub book_after : MachineState → Option Action → Histories → Histories
+book_after m None b = b
+book_after m (Some x) b = slice_set b x.arc (after_call m.deal x.arc m.me x.call (history b x.arc))
+
+-- the machine after its call, if any: it notes what it signed, and knows the ledger up to its end
+abbrev pub machine_after : MachineState → Option Action → Histories → MachineState
+machine_after m None b = m
+machine_after m (Some x) b = record {
+  deal = m.deal;
+  me = m.me;
+  seed = m.seed;
+  known = slice_set m.known x.arc (after_call m.deal x.arc m.me x.call (history b x.arc));
+  signed = signed_after m.signed x.call;
+}

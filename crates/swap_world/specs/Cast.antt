@@ -1,0 +1,20 @@
+-- Who takes part in a job's run.
+use Rattle.std.specs.Prelude.{ℕ, Bool, List, [], slice_index_or, Option, Some, None}
+use Rattle.swap_digraph.specs.declared.deal.Deal.{Deal}
+use Rattle.deviator_script.specs.declared.job.Job.{Job}
+use Rattle.swap_rules.specs.Due.{Wallet}
+use Rattle.party_machine.specs.Keys.{wallet_of}
+use Rattle.swap_run.specs.Run.{Cast}
+
+-- what party v signs with; that of a party without a seed is never used
+abbrev pub wallet_with : Option (List ℕ) → ℕ → Deal → Wallet
+wallet_with (Some seed) v d = wallet_of seed v d
+wallet_with None v d = wallet_of [] v d
+
+-- the parties that conform sign with their seeds
+abbrev pub cast_with : Deal → List Bool → List (Option (List ℕ)) → Cast
+cast_with d conforming seeds = record { deal = d; conforming = conforming; wallet = λ v. wallet_with (slice_index_or seeds v None) v d }
+
+-- who takes part in a job's run
+abbrev pub cast_of : Job → Cast
+cast_of job = cast_with job.deal job.conforming job.seeds

@@ -1,0 +1,84 @@
+//! The actors of a job.
+
+ghost use Rattle.std.specs.Prelude.{◌≡◌, ◌<◌};
+ghost use Rattle.swap_base.specs.Fault.{Gives};
+ghost use Rattle.swap_digraph.specs.Deal.{IsWellSized};
+ghost use Rattle.swap_world.specs.Staff.{conforming_of, actor_of, actor_step, actors_of, HaveSeeds};
+
+use crate::actor::Actor;
+use deviator_script::Job;
+use party_machine::{Machine, Misfit, Wallet};
+use std::alloc::Global;
+use swap_base::{Digest, Fault, LockId, PartyId};
+use swap_digraph::Deal;
+
+/// The seed of a conforming party doesn't give what the deal states of it for that lock.
+#[derive(Clone, Copy, Debug, PartialEq, Eq)]
+pub struct WrongWallet {
+    pub party: PartyId,
+    pub lock: LockId,
+}
+
+/// Why a job gives no world: a wallet, or want of memory.
+pub type WorldFault = Fault<WrongWallet>;
+
+/// A conforming party with that seed, by its machine.
+fn conforming(alloc: Global, deal: &Deal, p: PartyId, seed: &Digest) -> Result<Actor, WorldFault>
+    requires sized { IsWellSized deal.now }
+    requires party { p < deal.now.graph.n }
+    ensures { Gives (λ x. x) result (conforming_of deal.now p seed.now) }
+{
+    let wallet = Wallet::of(alloc, seed, p, deal)?;
+    match Machine::new(alloc, deal, p, wallet) {
+        Ok(machine) => Ok(Actor::Conforming(machine)),
+        Err(Fault::Refused(Misfit::WrongWallet(lock))) => {
+            Err(Fault::Refused(WrongWallet { party: p, lock }))
+        }
+        Err(Fault::NoMemory) => Err(Fault::NoMemory),
+    }
+}
+
+/// What acts for a party of the job.
+fn actor_of(alloc: Global, job: &Job, p: PartyId) -> Result<Actor, WorldFault>
+    requires sized { IsWellSized job.now.deal }
+    requires seeds { HaveSeeds job.now }
+    requires party { p < job.now.deal.graph.n }
+    ensures { Gives (λ x. x) result (actor_of job.now p) }
+{
+    if !job.conforming.as_slice()[p as usize] {
+        return Ok(Actor::Manual);
+    }
+    match &job.seeds.as_slice()[p as usize] {
+        Some(seed) => conforming(alloc, &job.deal, p, seed),
+        None => unreachable!(),
+    }
+}
+
+#[tactic(auto, unfolding(crate::specs::Staff::actor_step))]
+fn add_actor(
+    alloc: Global,
+    job: &Job,
+    actors: &mut Vec<Actor>,
+    p: PartyId,
+) -> Result<(), WorldFault>
+    requires sized { IsWellSized job.now.deal }
+    requires seeds { HaveSeeds job.now }
+    requires party { p < job.now.deal.graph.n }
+    ensures { Gives (λ _. actors.new.items) result (actor_step job.now actors.old.items p) }
+{
+    actors.push(actor_of(alloc, job, p)?)?;
+    Ok(())
+}
+
+/// What acts for each party, or the first conforming party whose seed isn't that of the deal.
+pub(crate) fn actors_of(alloc: Global, job: &Job) -> Result<Vec<Actor>, WorldFault>
+    requires sized { IsWellSized job.now.deal }
+    requires seeds { HaveSeeds job.now }
+    ensures { Gives (λ v. v.items) result (actors_of job.now) }
+{
+    let mut actors = Vec::new(alloc);
+    'parties: for p in 0..job.deal.graph.n() {
+        add_actor(alloc, job, &mut actors, p)?;
+    }
+    Ok(actors)
+}
