@@ -34,7 +34,7 @@ module _ (c : Cast) where
   fold_events f [] s h = no_event s
   fold_events f (x ∷ xs) s h = more_events s (f s x) (fold f (f s x) xs) (h s x (inl refl)) (fold_events f xs (f s x) (λ s y i. h s y (inr i)))
 
-  repeat_events : (n : ℕ) (f : State → State) (s : State) → ((s : State) → IsReached c s (f s)) → IsReached c s (repeat n f s)
+  pub repeat_events : (n : ℕ) (f : State → State) (s : State) → ((s : State) → IsReached c s (f s)) → IsReached c s (repeat n f s)
   repeat_events zero f s h = no_event s
   repeat_events (suc n) f s h = more_events s (repeat n f s) (f (repeat n f s)) (repeat_events n f s h) (h (repeat n f s))
 

@@ -18,7 +18,7 @@ repeat_plus zero k f x e = let z : 0 + k ≡ k = omega arith in ap (λ j. repeat
 repeat_plus (suc m) k f x e = let z : suc m + k ≡ suc (m + k) = omega arith in ap (λ j. repeat j f x) z ∙ (ap f (repeat_plus m k f x e) ∙ e)
 
 -- what rests after k times is the same after more
-rest_more : {A : Type 0} (k m : ℕ) (f : A → A) (x : A) → f (repeat k f x) ≡ repeat k f x → k ≤ m → repeat m f x ≡ repeat k f x
+pub rest_more : {A : Type 0} (k m : ℕ) (f : A → A) (x : A) → f (repeat k f x) ≡ repeat k f x → k ≤ m → repeat m f x ≡ repeat k f x
 rest_more k m f x e l = let z : m ≡ (m - k) + k = omega arith in ap (λ j. repeat j f x) z ∙ repeat_plus (m - k) k f x e
 
 -- what rests after k times and after m is the same

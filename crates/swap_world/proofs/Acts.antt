@@ -1,5 +1,5 @@
 -- What an act of a machine makes of the ledgers and of the machine.
-use Rattle.std.proofs.Common.{◌≡◌, ◌⊎◌, inl, inr, ℕ, ◌<◌, List, length, get_or, set, Option, Some, None, option_map, refl, sym, ap, ap₂, ◌∙◌, subst}
+use Rattle.std.proofs.Common.{◌≡◌, ◌⊎◌, inl, inr, ℕ, ◌<◌, List, length, get_or, set, Option, Some, None, option_map, refl, sym, ap, ap₂, ◌∙◌}
 use Rattle.swap_digraph.specs.declared.deal.Deal.{Deal}
 use Rattle.hashkey_path.specs.declared.hashkey.Hashkey.{Hashkey}
 use Rattle.ledger_core.specs.declared.entry.Entry.{Entry}
@@ -8,7 +8,7 @@ use Rattle.ledger_core.specs.Value.{LedgerState}
 use Rattle.ledger_core.specs.Book.{Histories, history}
 use Rattle.swap_laws.specs.Machine.{noted}
 use Rattle.swap_rules.specs.Due.{Action}
-use Rattle.swap_run.specs.Run.{after_call, signed_after}
+use Rattle.swap_run.specs.Run.{after_call}
 use Rattle.party_phase_two.specs.Unlocks.{signed_in}
 use Rattle.party_machine.specs.Machine.{MachineState, IsOfSame, action_of, next_of, noted_for}
 use Rattle.swap_world.specs.Acting.{histories, book_after, machine_after}

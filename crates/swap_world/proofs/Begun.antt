@@ -1,5 +1,5 @@
 -- A world before any event.
-use Rattle.std.proofs.Common.{◌≡◌, ℕ, Bool, false, List, [], length, map, replicate, Option, Result, Ok, Err, refl, sym, ap, ap₂, ◌∙◌, subst}
+use Rattle.std.proofs.Common.{◌≡◌, Bool, false, List, map, Result, Ok, sym, ap, ap₂, ◌∙◌, subst}
 use Rattle.swap_base.specs.Fault.{◌>>=◌, Fails}
 use Rattle.swap_base.specs.declared.fault.Fault.{Fault}
 use Rattle.swap_base.specs.declared.fault.Fault.TheVariants.{Refused, NoMemory}
@@ -8,7 +8,7 @@ use Rattle.ledger_core.specs.Value.{LedgerState}
 use Rattle.ledger_core.specs.Book.{Histories}
 use Rattle.deviator_script.specs.declared.job.Job.{Job}
 use Rattle.swap_rules.specs.Accepted.{IsAccepted}
-use Rattle.swap_run.specs.Run.{Cast, Notes, State, start, no_histories}
+use Rattle.swap_run.specs.Run.{Cast, Notes, State, start}
 use Rattle.swap_run.specs.Laws.{IsReadyCast, IsGood}
 use Rattle.swap_run.proofs.Good.{start_is_good}
 use Rattle.swap_world.specs.Cast.{cast_with, cast_of}

@@ -1,5 +1,5 @@
 -- The ledgers of a world, and their histories.
-use Rattle.std.proofs.Common.{◌≡◌, ◌≢◌, ◌⊎◌, inl, inr, ℕ, zero, suc, Bool, false, ◌+◌, ◌<◌, ◌≤◌, List, [], ◌∷◌, ◌++◌, length, get_or, map, replicate, refl, sym, ap, subst, ◌∙◌, arith, Result, Ok, Err, OnOk, OnErr, slice_index_or, slice_set}
+use Rattle.std.proofs.Common.{◌≡◌, ◌≢◌, ◌⊎◌, inl, inr, ℕ, zero, suc, ◌+◌, ◌<◌, List, [], ◌∷◌, length, get_or, map, replicate, refl, sym, ap, subst, ◌∙◌, arith, Result, Ok, Err, OnOk, OnErr}
 use Rattle.std.proofs.lemmas.List.{map-set, length-map, get_or-map, get_or_default, length-set, get_or-set_same, get_or-set_other}
 use Rattle.swap_laws.proofs.Prefixes.{same_or_not}
 use Rattle.std.proofs.Math.Seq.{map-set_same}

@@ -7,3 +7,6 @@ pub mod Acts
 pub mod Worlds
 pub mod Team
 pub mod Begun
+pub mod Ways
+pub mod Loops
+pub mod Finishes

@@ -1,6 +1,5 @@
 -- The hashkeys that a machine has signed, after its call.
-use Rattle.std.proofs.Common.{◌≡◌, ◌≢◌, ◌⊎◌, inl, inr, ℕ, ◌<◌, ◌≤◌, ◌==◌, nat_lt, Bool, true, false, cond, List, [], ◌∷◌, length, get_or, slice_set, slice_index_or, Option, Some, None, refl, sym, ap, ◌∙◌, subst, arith, eq-eqb, eqb-true, ltb-true, ltb-false}
-use Rattle.std.proofs.Math.ListN.{get_or-eq_default}
+use Rattle.std.proofs.Common.{◌≡◌, ◌≢◌, ◌⊎◌, inl, inr, ℕ, ◌<◌, ◌==◌, cond, List, length, slice_set, Option, Some, None, sym, ap, ◌∙◌, subst, eq-eqb, eqb-true}
 use Rattle.std.proofs.lemmas.List.{same_lists, get_or_default, get_or-set_same, get_or-set_other, length-set}
 use Rattle.swap_laws.proofs.Prefixes.{same_or_not}
 use Rattle.swap_laws.proofs.History.{not-true}

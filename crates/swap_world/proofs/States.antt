@@ -1,11 +1,10 @@
 -- The state that ledgers and actors show, after a look and after an act.
-use Rattle.std.proofs.Common.{◌≡◌, ◌≢◌, ◌⊎◌, inl, inr, ℕ, ◌<◌, Bool, true, false, cond, List, [], ◌∷◌, length, get_or, set, slice_index_or, map, Option, Some, None, refl, sym, ap, ap₂, ◌∙◌, subst}
-use Rattle.std.proofs.lemmas.List.{map-set, get_or-map, set-get_or, get_or-set_same, get_or-set_other, length-set, get_or_default}
+use Rattle.std.proofs.Common.{◌≡◌, ◌≢◌, ◌⊎◌, inl, inr, ℕ, ◌<◌, Bool, true, false, cond, List, [], length, get_or, set, slice_index_or, map, Option, Some, None, sym, ap, ap₂, ◌∙◌, subst}
+use Rattle.std.proofs.lemmas.List.{map-set, get_or-map, set-get_or, get_or-set_same, get_or-set_other, length-set}
 use Rattle.swap_laws.proofs.Prefixes.{same_or_not}
 use Rattle.swap_digraph.specs.declared.deal.Deal.{Deal}
 use Rattle.hashkey_path.specs.declared.hashkey.Hashkey.{Hashkey}
 use Rattle.ledger_core.specs.declared.entry.Entry.{Entry}
-use Rattle.ledger_core.specs.declared.entry.Call.{Call}
 use Rattle.ledger_core.specs.Value.{LedgerState}
 use Rattle.ledger_core.specs.Book.{Histories, history}
 use Rattle.deviator_script.specs.declared.event.Event.TheVariants.{Look, Act}
@@ -18,7 +17,7 @@ use Rattle.swap_world.specs.Cast.{cast_with, wallet_with}
 use Rattle.swap_world.specs.Acting.{histories, book_after, machine_after}
 use Rattle.swap_world.specs.Inside.{notes_in, IsActorOf, AreActorsOf}
 use Rattle.swap_world.specs.declared.actor.Actor.{Actor}
-use Rattle.swap_world.specs.declared.actor.Actor.TheVariants.{Conforming, Manual}
+use Rattle.swap_world.specs.declared.actor.Actor.TheVariants.{Conforming}
 
 -- An actor in the place of another.
 

@@ -7,19 +7,17 @@ use Rattle.swap_base.specs.Fault.{◌>>=◌, steps, Fails}
 use Rattle.swap_base.specs.declared.fault.Fault.{Fault}
 use Rattle.swap_base.specs.declared.fault.Fault.TheVariants.{Refused, NoMemory}
 use Rattle.swap_laws.proofs.Prefixes.{same_or_not}
-use Rattle.swap_digraph.specs.declared.deal.Deal.{Deal}
 use Rattle.deviator_script.specs.declared.job.Job.{Job}
 use Rattle.swap_rules.specs.Accepted.{IsAccepted}
 use Rattle.swap_laws.specs.Machine.{IsWallet}
-use Rattle.swap_run.specs.Run.{Notes, conforms, no_notes}
+use Rattle.swap_run.specs.Run.{Notes, no_notes}
 use Rattle.swap_run.specs.Laws.{IsReadyCast}
 use Rattle.party_machine.specs.Fits.{wrong_lock}
-use Rattle.party_machine.specs.Keys.{wallet_of}
 use Rattle.party_machine.specs.Machine.{new_machine}
 use Rattle.party_machine.proofs.Good.{fitting_is_good}
 use Rattle.swap_world.specs.Cast.{cast_of, wallet_with}
-use Rattle.swap_world.specs.Value.{new_world}
-use Rattle.swap_world.specs.Staff.{by_lock, conforming_of, with_seed, actor_of, actor_step, actors_of, world_of, HaveSeeds}
+use Rattle.swap_world.specs.Value.{WorldState, new_world}
+use Rattle.swap_world.specs.Staff.{by_lock, with_seed, actor_of, actor_step, actors_of, world_of, HaveSeeds}
 use Rattle.swap_world.specs.Inside.{notes_in, IsActorOf, AreActorsOf}
 use Rattle.swap_world.specs.declared.actor.Actor.{Actor}
 use Rattle.swap_world.specs.declared.actor.Actor.TheVariants.{Conforming, Manual}
@@ -177,3 +175,12 @@ unfolding world_of
 world_is_new job staffed =
     let r = any_from job 0 job.deal.graph.n [] staffed (omega arith) in
     ap (λ (o : Result (List Actor) WrongWallet). o >>= λ xs. Ok (new_world job)) r.1
+
+-- a job's world is new
+pub world_of_new : (job : Job) (w : WorldState) → world_of job ≡ Ok w → w ≡ new_world job
+unfolding world_of
+world_of_new job w e = go (actors_of job) e
+  where
+    go : (o : Result (List Actor) WrongWallet) → (o >>= λ xs. Ok (new_world job)) ≡ Ok w → w ≡ new_world job
+    go (Ok xs) h = cc h
+    go (Err r) h = absurd (cc h)

@@ -1,5 +1,5 @@
 -- What a world keeps at each event.
-use Rattle.std.proofs.Common.{◌≡◌, ◌⊎◌, inl, inr, Result, Ok, Err, OnOk, OnErr, ℕ, ◌<◌, Bool, true, false, List, length, get_or, set, slice_index_or, map, Option, Some, None, refl, sym, ap, ap₂, ◌∙◌, subst}
+use Rattle.std.proofs.Common.{◌≡◌, Result, Ok, Err, OnOk, OnErr, ℕ, ◌<◌, Bool, false, List, length, get_or, set, Option, Some, sym, ap, ap₂, ◌∙◌, subst}
 use Rattle.std.specs.Result.{is_err}
 use Rattle.std.proofs.lemmas.Bool.{false≢true}
 use Rattle.swap_digraph.specs.declared.deal.Deal.{Deal}
@@ -20,7 +20,7 @@ use Rattle.swap_world.specs.Value.{WorldState}
 use Rattle.swap_world.specs.Inside.{IsActorOf}
 use Rattle.swap_world.specs.Acting.{IsMakable, IsSameOwner, histories}
 use Rattle.swap_world.specs.declared.actor.Actor.{Actor}
-use Rattle.swap_world.specs.declared.actor.Actor.TheVariants.{Conforming, Manual}
+use Rattle.swap_world.specs.declared.actor.Actor.TheVariants.{Conforming}
 use Rattle.swap_world.proofs.Ledgers.{history_at}
 use Rattle.swap_world.proofs.States.{IsAt, c, s, notes_at, next_is}
 

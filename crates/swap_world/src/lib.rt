@@ -4,6 +4,8 @@
 #![tactic(auto)]
 
 mod actor;
+mod fair;
+mod many;
 mod staff;
 mod turn;
 mod world;

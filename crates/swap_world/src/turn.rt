@@ -1,6 +1,6 @@
 //! What an event does to one ledger, and to the machine of a party beside it.
 
-ghost use Rattle.std.specs.Prelude.{◌≡◌, ◌==◌, ◌||◌, ◌<◌, ◌≤◌, ◌+◌, ◌⊎◌, ℕ, Some, IsTrue, OnOk, OnErr, length, slice_set};
+ghost use Rattle.std.specs.Prelude.{◌≡◌, ◌==◌, ◌||◌, ◌<◌, ◌≤◌, ◌+◌, ◌⊎◌, ℕ, Some, None, false, IsTrue, OnOk, OnErr, IfOk, length, slice_set};
 ghost use Rattle.swap_digraph.specs.Deal.{IsWellSized, party, counterparty};
 ghost use Rattle.ledger_core.specs.History.{IsLegal, fit};
 ghost use Rattle.ledger_core.specs.Book.{history};
@@ -141,19 +141,23 @@ fn make_due(
     learn(machine, ledger)
 }
 
-/// Makes the first call that is due for a machine, if any.
-pub(crate) fn act(machine: &mut Machine, ledgers: &mut Vec<Ledger>) -> Result<(), NoMemory>
+/// Makes the first call that is due for a machine, and answers whether there was one.
+pub(crate) fn act(machine: &mut Machine, ledgers: &mut Vec<Ledger>) -> Result<bool, NoMemory>
     requires ledgers { AreLedgersOf machine.old.deal ledgers.old.items }
     requires makable { (x : Action) → next_of machine.old ≡ Some x → IsMakable machine.old.deal machine.old.me x }
     requires begins { (a : ℕ) → Begins (history machine.old.known a) (history (histories ledgers.old.items) a) }
     ensures ok { OnOk result (histories ledgers.new.items ≡ book_after machine.old (next_of machine.old) (histories ledgers.old.items)) }
     ensures knows { OnOk result (machine.new ≡ machine_after machine.old (next_of machine.old) (histories ledgers.old.items)) }
+    ensures idle { IfOk result (λ made. made ≡ false → next_of machine.old ≡ None) }
     ensures err { OnErr result ((histories ledgers.new.items ≡ histories ledgers.old.items) ⊎ (histories ledgers.new.items ≡ book_after machine.old (next_of machine.old) (histories ledgers.old.items))) }
     ensures ledgers { AreLedgersOf machine.old.deal ledgers.new.items }
     ensures owner { IsSameOwner machine.old machine.new }
 {
     match machine.next()? {
-        None => Ok(()),
-        Some((arc, due)) => make_due(machine, &mut ledgers[arc as usize], arc, due),
+        None => Ok(false),
+        Some((arc, due)) => {
+            make_due(machine, &mut ledgers[arc as usize], arc, due)?;
+            Ok(true)
+        }
     }
 }

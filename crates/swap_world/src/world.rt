@@ -1,20 +1,25 @@
 //! A world.
 
-ghost use Rattle.std.specs.Prelude.{◌≡◌, ◌<◌, ◌⊎◌, IsTrue, OnOk, OnErr, IfOk, IsErr, false, true, length, map};
+ghost use Rattle.std.specs.Prelude.{◌≡◌, ◌<◌, ◌⊎◌, IsTrue, OnOk, OnErr, IfOk, IsErr, false, true, length, map, All};
 ghost use Rattle.swap_base.specs.Fault.{Gives};
 ghost use Rattle.swap_digraph.specs.Deal.{IsWellSized};
-ghost use Rattle.ledger_core.specs.Book.{IsLegalBook};
+ghost use Rattle.ledger_core.specs.History.{height};
+ghost use Rattle.ledger_core.specs.Book.{IsLegalBook, history};
 ghost use Rattle.deviator_script.specs.Step.{CanStep, CanTick, CanLook, CanCall};
 ghost use Rattle.swap_rules.specs.Accepted.{IsAccepted};
-ghost use Rattle.swap_run.specs.Run.{step};
+ghost use Rattle.swap_rules.specs.Outcome.{IsEnded};
+ghost use Rattle.swap_laws.specs.Laws.{IsDealt};
+ghost use Rattle.swap_run.specs.Run.{conforms, start, step, run_from};
+ghost use Rattle.swap_run.specs.Fair.{finish};
 ghost use Rattle.swap_run.specs.Laws.{IsKept};
-ghost use Rattle.swap_world.specs.Value.{cast_at};
+ghost use Rattle.swap_world.specs.Stopped.{IsStopped, AllConform};
+ghost use Rattle.swap_world.specs.Value.{cast_at, new_world};
 ghost use Rattle.swap_world.specs.Staff.{world_of, HaveSeeds};
 ghost use Rattle.swap_world.specs.Inside.{new_ledgers};
 
 use crate::actor::Actor;
 use crate::staff::{WorldFault, actors_of};
-use crate::turn;
+use crate::{fair, many, turn};
 use deviator_script::{Event, Job, Move, arc_of_move};
 use ledger_core::{Book, EntryList, Ledger};
 use std::alloc::Global;
@@ -72,7 +77,8 @@ impl World {
     pub fn new(alloc: Global, job: &Job) -> Result<World, WorldFault>
         requires accepted { IsAccepted job.now.deal }
         requires seeds { HaveSeeds job.now }
-        ensures { Gives (λ w. w) result (world_of job.now) }
+        ensures exact { Gives (λ w. w) result (world_of job.now) }
+        ensures new { IfOk result (λ w. w ≡ new_world job.now) }
     {
         let actors = actors_of(alloc, job)?;
         Ok(World {
@@ -106,6 +112,24 @@ impl World {
         turn::learn(machine, &self.ledgers[arc as usize])
     }
 
+    /// Lets a party act, and answers whether it may have more to do: after `false` the act changed nothing.
+    pub(crate) fn act_if_due(&mut self, p: PartyId) -> Result<bool, NoMemory>
+        requires party { p < self.old.deal.graph.n }
+        requires goes_on { self.old.stopped ≡ false }
+        ensures ok { OnOk result (self.new ≡ record self.old { state = step (cast_at self.old) self.old.state (Event.Act p) }) }
+        ensures idle { IfOk result (λ made. made ≡ false → step (cast_at self.old) self.old.state (Event.Act p) ≡ self.old.state) }
+        ensures stopped { OnErr result (self.new.stopped ≡ true) }
+        ensures cast { OnErr result (cast_at self.new ≡ cast_at self.old) }
+        ensures book { OnErr result ((self.new.state.book ≡ self.old.state.book) ⊎ (self.new.state.book ≡ (step (cast_at self.old) self.old.state (Event.Act p)).book)) }
+    {
+        let Actor::Conforming(machine) = &mut self.actors[p as usize] else {
+            return Ok(false);
+        };
+        let done = turn::act(machine, &mut self.ledgers);
+        self.stopped = done.is_err();
+        done
+    }
+
     fn act(&mut self, p: PartyId) -> Result<(), NoMemory>
         requires party { p < self.old.deal.graph.n }
         requires goes_on { self.old.stopped ≡ false }
@@ -114,12 +138,8 @@ impl World {
         ensures cast { OnErr result (cast_at self.new ≡ cast_at self.old) }
         ensures book { OnErr result ((self.new.state.book ≡ self.old.state.book) ⊎ (self.new.state.book ≡ (step (cast_at self.old) self.old.state (Event.Act p)).book)) }
     {
-        let Actor::Conforming(machine) = &mut self.actors[p as usize] else {
-            return Ok(());
-        };
-        let done = turn::act(machine, &mut self.ledgers);
-        self.stopped = done.is_err();
-        done
+        self.act_if_due(p)?;
+        Ok(())
     }
 
     fn make(&mut self, sender: PartyId, mv: &Move) -> Result<(), NoMemory>
@@ -153,6 +173,50 @@ impl World {
             self.stopped = true;
         }
         done
+    }
+
+    /// Takes events in their order. After want of memory every later step wants memory too.
+    pub fn run(&mut self, events: &[Event]) -> Result<(), NoMemory>
+        requires events { All (CanStep self.old.deal self.old.conforming) events.now }
+        ensures ok { OnOk result (self.new ≡ record self.old { state = run_from (cast_at self.old) self.old.state events.now }) }
+        ensures err { OnErr result (IsStopped self.old (run_from (cast_at self.old) self.old.state events.now) self.new) }
+        ensures stopped { IsTrue self.old.stopped → IsErr result × (self.new.state.book ≡ self.old.state.book) }
+    {
+        if self.stopped {
+            return Err(NoMemory);
+        }
+        many::run(self, events)
+    }
+
+    /// The fair finish: rounds until each ledger is above the horizon. In a round each party in its order looks at each arc that touches it and acts until nothing is due, and then each ledger that isn't above the horizon ticks by one height. After want of memory every later step wants memory too.
+    pub fn finish_fair(&mut self) -> Result<(), NoMemory>
+        ensures ok { OnOk result (self.new ≡ record self.old { state = finish (cast_at self.old) self.old.state }) }
+        ensures ended { OnOk result (IsEnded self.old.deal self.new.state.book) }
+        // Where every party conforms and nothing came before, everything moves.
+        ensures dealt { OnOk result (AllConform self.old → self.old.state ≡ start self.old.deal → IsDealt self.old.deal (conforms (cast_at self.old)) self.new.state.book) }
+        ensures err { OnErr result (IsStopped self.old (finish (cast_at self.old) self.old.state) self.new) }
+        ensures stopped { IsTrue self.old.stopped → IsErr result × (self.new.state.book ≡ self.old.state.book) }
+    {
+        if self.stopped {
+            return Err(NoMemory);
+        }
+        fair::finish(self)
+    }
+
+    /// The deal.
+    pub fn deal(&self) -> &Deal
+        ensures value { result.now ≡ self.now.deal }
+        ensures sized { IsWellSized result.now }
+    {
+        &self.deal
+    }
+
+    /// The height of an arc's ledger.
+    pub fn height(&self, arc: ArcId) -> u32
+        requires { arc < length self.now.deal.graph.arcs }
+        ensures { result ≡ height (history self.now.state.book arc) }
+    {
+        self.ledgers[arc as usize].height()
     }
 
     /// The book of the histories so far.

@@ -1,5 +1,4 @@
 use Rattle.std.proofs.lemmas.Result.{err_from_is_err_and}
-use Rattle.swap_base.specs.Fault.{Gives}
 use Rattle.swap_world.specs.Staff.{actors_of}
 use Rattle.swap_world.proofs.Team.{goes_on, ends, is_done}
 use Rattle.swap_world.proofs.staff.actors_of.Goals as goal

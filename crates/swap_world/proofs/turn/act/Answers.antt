@@ -1,9 +1,8 @@
-use Rattle.std.proofs.Common.{◌≡◌, ◌<◌, ℕ, List, length, Option, Some, arith, sym, ap, ◌∙◌, subst, get_or}
+use Rattle.std.proofs.Common.{◌<◌, ℕ, length, Option, arith, sym, ap, subst}
 use Rattle.hashkey_path.specs.declared.hashkey.Hashkey.{Hashkey}
-use Rattle.ledger_core.specs.Book.{history}
-use Rattle.swap_laws.specs.Machine.{noted}
 use Rattle.swap_world.specs.Inside.{IsLedgerOf}
-use Rattle.swap_world.proofs.Ledgers.{on_ok, on_err, history_at}
+use Rattle.swap_world.proofs.Ledgers.{history_at}
+use Rattle.swap_world.proofs.Ways.{if_err}
 use Rattle.swap_world.proofs.Acts.{action, answered, still, book_is, book_or, machine_is}
 use Rattle.swap_world.proofs.turn.act.Goals as goal
 
@@ -32,22 +31,22 @@ make_due-requires-clause-begins c =
 pub returns-in-None-clause-knows : goal.returns-in-None-clause-knows
 returns-in-None-clause-knows c = still c.args.machine.now c.next.new.self c.in_ok-next.field-0 _ c.in-None.is c.in_ok-next.ensures.due c.in_ok-next.ensures.same (λ i. ap (λ (f : ℕ → Option Hashkey). f i) c.in_ok-next.ensures.signed)
 
-pub returns-in-Some-clause-ok : goal.returns-in-Some-clause-ok
-returns-in-Some-clause-ok c =
+pub returns-in_ok-make_due-in-Some-clause-ok : goal.returns-in_ok-make_due-in-Some-clause-ok
+returns-in_ok-make_due-in-Some-clause-ok c =
     let next = answered c.args.machine.now c.in_ok-next.field-0 c.in-Some.arc c.in-Some.due c.in-Some.is c.in_ok-next.ensures.due in
     let below = subst (λ n. c.in-Some.arc < n) (sym c.requires.ledgers.one_each) (c.requires.makable (action c.in-Some.arc c.in-Some.due) next).arc in
-    on_ok c.make_due.result (book_is c.args.machine.now c.next.new.self c.args.ledgers.now.items c.in-Some.arc c.in-Some.due c.index_mut.result.now c.in_ok-next.ensures.same below c.index_mut.ensures.value next c.make_due.new.ledger) c.make_due.ensures.ok
+    book_is c.args.machine.now c.next.new.self c.args.ledgers.now.items c.in-Some.arc c.in-Some.due c.index_mut.result.now c.in_ok-next.ensures.same below c.index_mut.ensures.value next c.make_due.new.ledger c.in_ok-make_due-in-Some.ensures.ok
 
-pub returns-in-Some-clause-knows : goal.returns-in-Some-clause-knows
-returns-in-Some-clause-knows c =
+pub returns-in_ok-make_due-in-Some-clause-knows : goal.returns-in_ok-make_due-in-Some-clause-knows
+returns-in_ok-make_due-in-Some-clause-knows c =
     let m = c.args.machine.now in
     let next = answered m c.in_ok-next.field-0 c.in-Some.arc c.in-Some.due c.in-Some.is c.in_ok-next.ensures.due in
     let below = subst (λ n. c.in-Some.arc < n) (sym c.requires.ledgers.one_each) (c.requires.makable (action c.in-Some.arc c.in-Some.due) next).arc in
-    on_ok c.make_due.result (machine_is m c.next.new.self c.args.ledgers.now.items c.in-Some.arc c.in-Some.due c.index_mut.result.now c.in_ok-next.ensures.same below c.index_mut.ensures.value next c.make_due.new.machine
-    (λ i. ap (λ (f : ℕ → Option Hashkey). f i) (rw c.in-Some.is at c.in_ok-next.ensures.signed))) c.make_due.ensures.knows
+    machine_is m c.next.new.self c.args.ledgers.now.items c.in-Some.arc c.in-Some.due c.index_mut.result.now c.in_ok-next.ensures.same below c.index_mut.ensures.value next c.make_due.new.machine
+    (λ i. ap (λ (f : ℕ → Option Hashkey). f i) (rw c.in-Some.is at c.in_ok-next.ensures.signed)) c.in_ok-make_due-in-Some.ensures.knows
 
-pub returns-in-Some-clause-err : goal.returns-in-Some-clause-err
-returns-in-Some-clause-err c =
+pub returns-in_err-make_due-in-Some-clause-err : goal.returns-in_err-make_due-in-Some-clause-err
+returns-in_err-make_due-in-Some-clause-err c =
     let next = answered c.args.machine.now c.in_ok-next.field-0 c.in-Some.arc c.in-Some.due c.in-Some.is c.in_ok-next.ensures.due in
     let below = subst (λ n. c.in-Some.arc < n) (sym c.requires.ledgers.one_each) (c.requires.makable (action c.in-Some.arc c.in-Some.due) next).arc in
-    on_err c.make_due.result (book_or c.args.machine.now c.next.new.self c.args.ledgers.now.items c.in-Some.arc c.in-Some.due c.index_mut.result.now c.in_ok-next.ensures.same below c.index_mut.ensures.value next c.make_due.new.ledger) c.make_due.ensures.err
+    if_err _ (book_or c.args.machine.now c.next.new.self c.args.ledgers.now.items c.in-Some.arc c.in-Some.due c.index_mut.result.now c.in_ok-next.ensures.same below c.index_mut.ensures.value next c.make_due.new.ledger c.in_err-make_due-in-Some.ensures.err)

@@ -1,6 +1,4 @@
-use Rattle.std.proofs.Common.{◌≡◌, ◌++◌, List, length, drop, sym, ap, ◌∙◌, subst}
-use Rattle.ledger_core.specs.declared.entry.Entry.{Entry}
-use Rattle.ledger_core.specs.History.{IsLegal}
+use Rattle.std.proofs.Common.{◌≡◌, length, drop, sym}
 use Rattle.ledger_core.specs.Book.{history}
 use Rattle.swap_world.proofs.Known.{whole}
 use Rattle.swap_world.proofs.turn.learn_in.Goals as goal

@@ -1,7 +1,4 @@
-use Rattle.std.proofs.Common.{◌≡◌, ◌++◌, List, sym, subst}
-use Rattle.ledger_core.specs.declared.entry.Entry.{Entry}
 use Rattle.ledger_core.specs.Book.{history}
-use Rattle.swap_laws.specs.Machine.{Begins}
 use Rattle.swap_laws.proofs.Prefixes.{begins_more}
 use Rattle.swap_world.proofs.Turns.{call_begins}
 use Rattle.swap_world.proofs.turn.make_due.Goals as goal

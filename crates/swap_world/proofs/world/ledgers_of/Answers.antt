@@ -1,4 +1,4 @@
-use Rattle.std.proofs.Common.{◌∙◌, ap, List, ◌++◌, ◌∷◌, []}
+use Rattle.std.proofs.Common.{◌∙◌, ap, ◌++◌, ◌∷◌, []}
 use Rattle.swap_digraph.proofs.Ranges.{map_more}
 use Rattle.ledger_core.specs.Value.{LedgerState}
 use Rattle.swap_world.specs.Inside.{new_ledger}

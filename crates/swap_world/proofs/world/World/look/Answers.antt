@@ -1,5 +1,4 @@
-use Rattle.std.proofs.Common.{◌≡◌, ◌<◌, ℕ, List, length, map, set, slice_index_or, false, true, None, sym, ap, ◌∙◌, subst, arith}
-use Rattle.ledger_core.specs.declared.entry.Entry.{Entry}
+use Rattle.std.proofs.Common.{◌<◌, map, set, slice_index_or, false, None, sym, ap, subst}
 use Rattle.ledger_core.specs.Book.{history}
 use Rattle.deviator_script.specs.declared.event.Event.TheVariants.{Look}
 use Rattle.swap_laws.specs.Machine.{Begins}

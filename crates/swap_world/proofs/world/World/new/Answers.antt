@@ -1,16 +1,15 @@
-use Rattle.std.proofs.Common.{◌≡◌, sym, ◌∙◌}
+use Rattle.std.proofs.Common.{◌∙◌}
 use Rattle.std.proofs.lemmas.Result.{err_from_is_err_and}
-use Rattle.swap_base.specs.Fault.{Gives}
 use Rattle.swap_laws.proofs.Accepted.{accepted_is_well_sized}
-use Rattle.swap_world.specs.Staff.{actors_of, world_of}
+use Rattle.swap_world.proofs.Team.{world_of_new}
 use Rattle.swap_world.proofs.Begun.{refused, world_is, ready, actors, ledgers, good}
 use Rattle.swap_world.proofs.world.World.new.Goals as goal
 
 pub actors_of-requires-clause-sized : goal.actors_of-requires-clause-sized
 actors_of-requires-clause-sized c = accepted_is_well_sized c.args.job.now.deal c.requires.accepted
 
-pub returns-in_err-actors : goal.returns-in_err-actors
-returns-in_err-actors c =
+pub returns-in_err-actors-clause-exact : goal.returns-in_err-actors-clause-exact
+returns-in_err-actors-clause-exact c =
     let p = err_from_is_err_and c.from_residual.result c.from_residual.ensures.1 in
     rw (p.1, p.2) (refused c.args.job.now c.in_err-actors.field-0.0 c.in_err-actors.ensures)
 
@@ -31,7 +30,12 @@ invariant_of-result c =
       good = λ g. good job d c.new.result c.in_ok-copy.field-0 ls ys c.in_ok-copy_deal.ensures ec c.in_ok-copy.ensures c.in_ok-ledgers_of.ensures c.in_ok-actors.ensures c.requires.seeds c.requires.accepted;
     }
 
-pub returns : goal.returns
-returns c =
+pub returns-clause-exact : goal.returns-clause-exact
+returns-clause-exact c =
     world_is c.args.job.now c.in_ok-copy_deal.field-0 c.new.result c.in_ok-copy.field-0 c.in_ok-ledgers_of.field-0.items c.in_ok-actors.actors.items c.in_ok-copy_deal.ensures
     (c.new.ensures ∙ (c.in_ok-from_slice.ensures.items ∙ c.as_slice.ensures)) c.in_ok-copy.ensures c.in_ok-ledgers_of.ensures c.in_ok-actors.ensures c.requires.seeds
+
+pub returns-clause-new : goal.returns-clause-new
+returns-clause-new c = world_of_new c.args.job.now _ (
+    world_is c.args.job.now c.in_ok-copy_deal.field-0 c.new.result c.in_ok-copy.field-0 c.in_ok-ledgers_of.field-0.items c.in_ok-actors.actors.items c.in_ok-copy_deal.ensures
+    (c.new.ensures ∙ (c.in_ok-from_slice.ensures.items ∙ c.as_slice.ensures)) c.in_ok-copy.ensures c.in_ok-ledgers_of.ensures c.in_ok-actors.ensures c.requires.seeds)

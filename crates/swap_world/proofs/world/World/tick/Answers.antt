@@ -1,5 +1,4 @@
-use Rattle.std.proofs.Common.{◌≡◌, ◌<◌, ℕ, List, length, map, set, sym, ap, ◌∙◌, subst, arith}
-use Rattle.ledger_core.specs.Book.{history}
+use Rattle.std.proofs.Common.{◌<◌, map, set, sym, ap, subst}
 use Rattle.deviator_script.specs.declared.event.Event.TheVariants.{Tick}
 use Rattle.swap_run.specs.Run.{after_tick}
 use Rattle.swap_world.specs.Acting.{histories}

@@ -1,11 +1,11 @@
-use Rattle.std.proofs.Common.{◌≡◌, ◌<◌, ℕ, List, length, map, set, slice_index_or, false, true, None, sym, ap, ◌∙◌, subst, arith}
+use Rattle.std.proofs.Common.{◌≡◌, ◌<◌, map, set, slice_index_or, false, None, sym, subst}
 use Rattle.deviator_script.specs.declared.event.Event.TheVariants.{Act}
 use Rattle.swap_world.specs.Acting.{histories}
 use Rattle.swap_world.specs.Inside.{notes_in, cast_in, state_in, AreLedgersOf}
 use Rattle.swap_world.specs.declared.actor.Actor.TheVariants.{Conforming}
 use Rattle.swap_world.proofs.States.{IsAt, actor_set, acted}
-use Rattle.swap_world.proofs.Worlds.{world, state, good_unless, acted_on, both, found, owned, begins, makable}
-use Rattle.swap_world.proofs.world.World.act.Goals as goal
+use Rattle.swap_world.proofs.Worlds.{state, good_unless, acted_on, both, found, owned, begins, makable}
+use Rattle.swap_world.proofs.world.World.act_if_due.Goals as goal
 
 pub act-done-requires-clause-makable : goal.act-done-requires-clause-makable
 act-done-requires-clause-makable c =

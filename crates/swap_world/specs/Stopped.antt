@@ -1,0 +1,29 @@
+-- What want of memory leaves of a world, and where all parties conform.
+use Rattle.std.specs.Prelude.{◌≡◌, ◌<◌, ◌==◌, ◌||◌, ℕ, true, if◌then◌else◌}
+use Rattle.swap_digraph.specs.Deal.{party, counterparty}
+use Rattle.ledger_core.specs.Book.{Histories}
+use Rattle.deviator_script.specs.declared.event.Event.TheVariants.{Look}
+use Rattle.swap_run.specs.Run.{Cast, State, conforms, step}
+use Rattle.swap_run.specs.FairLaws.{IsReached}
+use Rattle.swap_world.specs.Value.{WorldState, cast_at}
+
+-- The histories b are those of a state on the way from s to t, which events of a run lead to and from.
+pub record IsOnTheWay (c : Cast) (s t : State) (b : Histories) : Type 0 where
+  pub there : State
+  pub before : IsReached c s there
+  pub after : IsReached c there t
+  pub book : b ≡ there.book
+
+-- The world has stopped on its way to the state t.
+pub record IsStopped (old : WorldState) (t : State) (new : WorldState) : Type 0 where
+  pub stopped : new.stopped ≡ true
+  pub cast : cast_at new ≡ cast_at old
+  pub book : IsOnTheWay (cast_at old) old.state t new.state.book
+
+-- every party conforms
+abbrev pub AllConform : WorldState → Type 0
+AllConform w = (v : ℕ) → v < w.deal.graph.n → conforms (cast_at w) v ≡ true
+
+-- v looks at arc a, where the arc touches it
+abbrev pub look_near : Cast → ℕ → State → ℕ → State
+look_near c v s a = if (v == party c.deal a) || (v == counterparty c.deal a) then step c s (Look v a) else s
