@@ -9,7 +9,7 @@ use Rattle.swap_digraph.specs.declared.deal.Mode.TheVariants.{Timelocks, Hashkey
 use Rattle.deviator_script.specs.declared.job.Purpose.{Purpose}
 use Rattle.deviator_script.specs.declared.job.Purpose.TheVariants.{Check, Audit}
 use Rattle.deviator_script.specs.declared.job.Finish.{Finish}
-use Rattle.deviator_script.specs.declared.job.Finish.TheVariants.{Stop}
+use Rattle.deviator_script.specs.declared.job.Finish.TheVariants.{Stop, Fair}
 use Rattle.offer_fields.specs.declared.reason.Reason.{Reason}
 use Rattle.offer_fields.specs.declared.reason.Reason.TheVariants.{WrongKind, NotBuilt}
 use Rattle.offer_fields.specs.Fields.{kind, number_at, text_at, word_at, optional_text_at, member_text_of, object_at, list_at, each, only}
@@ -119,11 +119,11 @@ mode_of word =
 unfoldable pub mode_at : ℕ → Data → Result Mode Reason
 mode_at line d = word_at line (codes "mode") mode_of d
 
--- a fair finish isn't built
+-- what a run does after its last event: it stops, or it goes on to a fair finish
 abbrev pub finish_of_word : ℕ → List ℕ → Result Finish Reason
 finish_of_word line word =
     if bytes_eq word (codes "stop") then Ok Stop
-    else if bytes_eq word (codes "fair") then Err (NotBuilt line (codes "finish"))
+    else if bytes_eq word (codes "fair") then Ok Fair
     else Err (WrongKind line (codes "finish"))
 
 abbrev pub finish_or_stop : ℕ → Option (List ℕ) → Result Finish Reason

@@ -9,7 +9,7 @@ ghost use Rattle.offer_header.specs.Raw.{version_at, mode_at, keys_at, finish_of
 use crate::raw::{RawHeader, RawRow, Reading};
 use deviator_script::{Finish, Purpose};
 use offer_fields::{
-    OfferFault, list_in, not_built, number_in, only_in, optional_text_in, text_in, wrong_kind,
+    OfferFault, list_in, number_in, only_in, optional_text_in, text_in, wrong_kind,
 };
 use serde_json::Value;
 use std::alloc::Global;
@@ -57,7 +57,7 @@ fn finish_of_word(alloc: Global, line: u32, word: &str) -> Result<Finish, OfferF
 {
     match word {
         "stop" => Ok(Finish::Stop),
-        "fair" => Err(not_built(alloc, line, b"finish")),
+        "fair" => Ok(Finish::Fair),
         _ => Err(wrong_kind(alloc, line, b"finish")),
     }
 }

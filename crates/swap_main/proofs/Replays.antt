@@ -21,7 +21,7 @@ use Rattle.swap_world.proofs.Team.{world_is_new}
 use Rattle.swap_world.specs.Value.{WorldState, cast_at, new_world}
 use Rattle.swap_main.specs.declared.words.Command.{Command}
 use Rattle.swap_main.specs.declared.words.Command.TheVariants.{Check, Run}
-use Rattle.swap_main.specs.Output.{purpose_of, reported, told, output_of, output_for, names_in, names_or_none}
+use Rattle.swap_main.specs.Output.{purpose_of, finished, book_of, reported, told, output_of, output_for, names_in, names_or_none}
 use Rattle.swap_main.specs.Replay.{replayed, next_by, passed_over, IsOf, of_run, of_check, of_header, of_lines}
 
 -- a line as it stands in the text
@@ -83,7 +83,7 @@ of_some command [] = by command
     by : (command : Command) → of_lines command [] ≡ output_for command (lines_read (purpose_of command) [])
     by Run = refl
     by Check = refl
-of_some Run (l ∷ ls) = together (job_header_of (purpose_of Run) l.0 l.1) (λ job. events_of job 0 ls) (λ job. step (cast_of job)) (λ job. start job.deal) (λ job s. reported job s.book) (λ j. reported j.0 (run (cast_of j.0) j.1).book) (λ job es. refl)
+of_some Run (l ∷ ls) = together (job_header_of (purpose_of Run) l.0 l.1) (λ job. events_of job 0 ls) (λ job. step (cast_of job)) (λ job. start job.deal) (λ job s. reported job (finished job.finish (cast_of job) s).book) (λ j. reported j.0 (book_of j.0 j.1)) (λ job es. refl)
 of_some Check (l ∷ ls) = together (job_header_of (purpose_of Check) l.0 l.1) (λ job. events_of job 0 ls) (λ job. passed_over) (λ job. tt) (λ job u. told job) (λ j. told j.0) (λ job es. refl)
 
 pub of_input : (command : Command) (input : List ℕ) → of_lines command (written 1 (lines_of input)) ≡ output_of command input

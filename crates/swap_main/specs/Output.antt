@@ -18,7 +18,10 @@ use Rattle.offer_header.specs.declared.header.Header.{Header}
 use Rattle.deviator_script.specs.declared.job.Purpose.{Purpose}
 use Rattle.swap_offer.specs.Lines.{lines_of, written}
 use Rattle.swap_offer.specs.Job.{job_of}
-use Rattle.swap_run.specs.Run.{run}
+use Rattle.deviator_script.specs.declared.job.Finish.{Finish}
+use Rattle.deviator_script.specs.declared.job.Finish.TheVariants.{Stop, Fair}
+use Rattle.swap_run.specs.Run.{Cast, State, run}
+use Rattle.swap_run.specs.Fair.{finish}
 use Rattle.swap_world.specs.Cast.{cast_of}
 use Rattle.swap_main.specs.declared.written.Written.{Written}
 use Rattle.swap_main.specs.declared.words.Command.{Command}
@@ -34,9 +37,22 @@ check_text d = joined (codes "swap accepted\nneed " ∷ decimal (need_of d) ∷ 
 abbrev pub with_report : Job → Histories → Report → Written
 with_report job b r = record { text = report job b r; found = not (length r.findings == 0) }
 
--- the report of a book
+-- the report of a job's book
+abbrev pub report_for : Job → Histories → Report
+report_for job b = report_of job.deal job.conforming b
+
+-- what is written of a job's book
 unfoldable pub reported : Job → Histories → Written
-reported job b = with_report job b (report_of job.deal job.conforming b)
+reported job b = with_report job b (report_for job b)
+
+-- what a finish makes of a state: nothing more is done, or the fair finish is
+abbrev pub finished : Finish → Cast → State → State
+finished Stop c s = s
+finished Fair c s = finish c s
+
+-- the histories of a job's run: after its events, and then after its finish
+abbrev pub book_of : Job → List Event → Histories
+book_of job events = (finished job.finish (cast_of job) (run (cast_of job) events)).book
 
 -- what is told of a checked offer
 abbrev pub told : Job → Written
@@ -48,7 +64,7 @@ purpose_of Check = purposes.Check
 
 -- what a command writes for a job and its events
 abbrev pub output_for : Command → Result (Job × List Event) Reason → Result Written Reason
-output_for Run read = read >>= λ j. Ok (reported j.0 (run (cast_of j.0) j.1).book)
+output_for Run read = read >>= λ j. Ok (reported j.0 (book_of j.0 j.1))
 output_for Check read = read >>= λ j. Ok (told j.0)
 
 -- what a command writes for an input, or the first reason why the input is refused

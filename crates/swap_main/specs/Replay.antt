@@ -10,7 +10,7 @@ use Rattle.swap_offer.specs.Job.{events_of, next_of, job_header_of}
 use Rattle.swap_run.specs.Run.{State, step, start}
 use Rattle.swap_world.specs.Cast.{cast_of}
 use Rattle.swap_world.specs.Value.{WorldState}
-use Rattle.swap_main.specs.Output.{reported, told}
+use Rattle.swap_main.specs.Output.{finished, reported, told}
 use Rattle.swap_main.specs.declared.written.Written.{Written}
 use Rattle.swap_main.specs.declared.words.Command.{Command}
 use Rattle.swap_main.specs.declared.words.Command.TheVariants.{Check, Run}
@@ -38,7 +38,7 @@ unfoldable pub of_run : ℕ → List ℕ → List (ℕ × List ℕ) → Result W
 of_run line text ls = do
   job ← job_header_of purposes.Run line text
   s ← replayed (step (cast_of job)) job 0 (start job.deal) ls
-  Ok (reported job s.book)
+  Ok (reported job (finished job.finish (cast_of job) s).book)
 
 -- what a check writes
 unfoldable pub of_check : ℕ → List ℕ → List (ℕ × List ℕ) → Result Written Reason

@@ -1,10 +1,11 @@
 //! The program's one call: words, a source and a sink.
 //!
-//! Read `specs/Top.antt` first: what each status promises; then `specs/Output.antt`: what is written for an input.
+//! Read `specs/Top.antt` first: what each status promises; then `specs/Output.antt`: what is written for an input; then `specs/Promised.antt`: what is promised of the histories that a report shows.
 #![tactic(auto)]
 
 mod check;
 mod escaped;
+mod finish;
 mod named;
 mod refusal;
 mod replay;

@@ -1,15 +1,17 @@
 //! What is written for the lines of an input.
 
-ghost use Rattle.std.specs.Prelude.{◌≡◌, ◌<◌, ◌≤◌, ◌^◌, false, IfOk, length, map};
+ghost use Rattle.std.specs.Prelude.{◌≡◌, ◌<◌, ◌≤◌, ◌^◌, ◌∷◌, false, IfOk, length, map};
 ghost use Rattle.swap_base.specs.Fault.{Gives};
 ghost use Rattle.swap_digraph.specs.Deal.{IsWellSized};
 ghost use Rattle.swap_rules.specs.Accepted.{IsAccepted};
 ghost use Rattle.ledger_core.specs.Book.{IsLegalBook};
-ghost use Rattle.swap_offer.specs.Job.{IsWhole};
-ghost use Rattle.swap_main.specs.Output.{reported, check_text, output_of};
+ghost use Rattle.swap_offer.specs.Job.{IsWhole, of_lines as lines_read};
+ghost use Rattle.swap_main.specs.Output.{reported, check_text, output_of, purpose_of};
+ghost use Rattle.swap_main.specs.Promised.{AsPromised, AsRead, IsCheck, IsRun};
 ghost use Rattle.swap_main.specs.Replay.{of_run, of_check, of_header, of_lines};
 
 use crate::check::check_text;
+use crate::finish::finish;
 use crate::replay::{pass_over, replay};
 use crate::words::Command;
 use crate::written::Written;
@@ -47,10 +49,12 @@ fn of_run(
     events: &[(u32, &[u8])],
 ) -> Result<Written, OfferFault>
     requires { length events.now < 2 ^ 31 }
-    ensures { Gives (λ w. w) result (of_run line text.now (map (λ l. (l.0, l.1.now)) events.now)) }
+    ensures exact { Gives (λ w. w) result (of_run line text.now (map (λ l. (l.0, l.1.now)) events.now)) }
+    ensures promised { IfOk result (λ w. IsRun (lines_read Purpose.Run ((line, text.now) ∷ map (λ l. (l.0, l.1.now)) events.now)) w) }
 {
     let job = read_header(alloc, line, text, Purpose::Run)?;
-    let world = replay(alloc, &job, events)?;
+    let mut world = replay(alloc, &job, events)?;
+    finish(&mut world, &job)?;
     let book = world.into_book(alloc)?;
     Ok(reported(alloc, &job, &book)?)
 }
@@ -76,7 +80,8 @@ fn of_check(
     events: &[(u32, &[u8])],
 ) -> Result<Written, OfferFault>
     requires { length events.now < 2 ^ 31 }
-    ensures { Gives (λ w. w) result (of_check line text.now (map (λ l. (l.0, l.1.now)) events.now)) }
+    ensures exact { Gives (λ w. w) result (of_check line text.now (map (λ l. (l.0, l.1.now)) events.now)) }
+    ensures promised { IfOk result (λ w. IsCheck (lines_read Purpose.Check ((line, text.now) ∷ map (λ l. (l.0, l.1.now)) events.now)) w) }
 {
     let job = read_header(alloc, line, text, Purpose::Check)?;
     pass_over(alloc, &job, events)?;
@@ -91,7 +96,8 @@ fn of_header(
     events: &[(u32, &[u8])],
 ) -> Result<Written, OfferFault>
     requires { length events.now < 2 ^ 31 }
-    ensures { Gives (λ w. w) result (of_header command line text.now (map (λ l. (l.0, l.1.now)) events.now)) }
+    ensures exact { Gives (λ w. w) result (of_header command line text.now (map (λ l. (l.0, l.1.now)) events.now)) }
+    ensures promised { IfOk result (λ w. AsRead command (lines_read (purpose_of command) ((line, text.now) ∷ map (λ l. (l.0, l.1.now)) events.now)) w) }
 {
     match command {
         Command::Run => of_run(alloc, line, text, events),
@@ -101,7 +107,8 @@ fn of_header(
 
 fn of_lines(alloc: Global, command: Command, lines: &[(u32, &[u8])]) -> Result<Written, OfferFault>
     requires { length lines.now < 2 ^ 31 }
-    ensures { Gives (λ w. w) result (of_lines command (map (λ l. (l.0, l.1.now)) lines.now)) }
+    ensures exact { Gives (λ w. w) result (of_lines command (map (λ l. (l.0, l.1.now)) lines.now)) }
+    ensures promised { IfOk result (λ w. AsRead command (lines_read (purpose_of command) (map (λ l. (l.0, l.1.now)) lines.now)) w) }
 {
     if lines.is_empty() {
         return Err(Fault::Refused(Reason::NotJson(1)));
@@ -113,7 +120,8 @@ fn of_lines(alloc: Global, command: Command, lines: &[(u32, &[u8])]) -> Result<W
 /// What a command writes for an input, or the first reason why the input is refused.
 pub(crate) fn answer(alloc: Global, command: Command, input: &[u8]) -> Result<Written, OfferFault>
     requires { length input.now < 2 ^ 31 }
-    ensures { Gives (λ w. w) result (output_of command input.now) }
+    ensures exact { Gives (λ w. w) result (output_of command input.now) }
+    ensures promised { IfOk result (λ w. AsPromised command input.now w) }
 {
     let lines = written(alloc, input)?;
     of_lines(alloc, command, &lines)

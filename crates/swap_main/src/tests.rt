@@ -12,6 +12,10 @@ const JOB: &str =
 const REPORT: &str =
     "swap report 1\nswap timelocks start 10 delta 10 bound 2\nledger 0 alice -> bob amount 100\n0 alice publish correct: accepted\n60 alice refund: NotExpired 61\n61 alice refund: accepted\nend height 71 alice 100 bob 0 held 0\nledger 1 bob -> carol amount 5\nend height 71 bob 5 carol 0 held 0\nledger 2 carol -> alice amount 1\n0 carol publish correct: accepted\n40 alice unlock 0: accepted\n40 alice claim: accepted\nend height 71 carol 0 alice 1 held 0\nparty alice deviator: FreeRide\nparty bob deviator: NoDeal\nparty carol deviator: Underwater\nfindings 0\n";
 
+/// The same swap of three parties that conform, with a fair finish and no event before it.
+const FAIR: &str =
+    "{\"swap\":1,\"mode\":\"timelocks\",\"start\":10,\"delta\":10,\"bound\":2,\"finish\":\"fair\",\"parties\":[{\"name\":\"alice\",\"seed\":\"0101010101010101010101010101010101010101010101010101010101010101\"},{\"name\":\"bob\",\"seed\":\"0202020202020202020202020202020202020202020202020202020202020202\"},{\"name\":\"carol\",\"seed\":\"0303030303030303030303030303030303030303030303030303030303030303\"}],\"arcs\":[{\"from\":\"alice\",\"to\":\"bob\",\"amount\":100,\"timelock\":60},{\"from\":\"bob\",\"to\":\"carol\",\"amount\":5,\"timelock\":50},{\"from\":\"carol\",\"to\":\"alice\",\"amount\":1,\"timelock\":40}],\"leaders\":[{\"party\":\"alice\",\"hashlock\":\"7b77e8fe0af1512f2a8b3250678a08e367a926613f44707cd4a0d964e9feb69d\"}]}\n";
+
 fn words_of(alloc: Global, word: &str) -> Result<Vec<String>, Fail> {
     let mut words = Vec::new(alloc);
     words.push(String::from_str(alloc, word)?)?;
@@ -37,6 +41,25 @@ fn replays_the_swap_of_three(rt: HostRuntime) -> Result<(), Fail> {
     let status = swap_top(rt.alloc(), &words, &mut source, &mut sink);
     assert!(rt; matches!(status, Status::Done));
     assert_eq!(rt; sink.taken(), REPORT.as_bytes());
+    Ok(())
+}
+
+#[test]
+fn finishes_fairly(rt: HostRuntime) -> Result<(), Fail> {
+    let words = words_of(rt.alloc(), "run")?;
+    let mut source = source_of(rt.alloc(), FAIR, &[])?;
+    let mut sink = sink_of(rt.alloc(), 2000, &[])?;
+    let status = swap_top(rt.alloc(), &words, &mut source, &mut sink);
+    assert!(rt; matches!(status, Status::Done));
+    for line in [
+        "\nparty alice conforming: Deal\n",
+        "\nparty bob conforming: Deal\n",
+        "\nparty carol conforming: Deal\n",
+        "\nfindings 0\n",
+    ] {
+        let text = str::from_utf8(sink.taken()).unwrap_or("");
+        assert!(rt; text.contains(line), "line {line}");
+    }
     Ok(())
 }
 

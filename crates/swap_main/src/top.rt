@@ -8,7 +8,7 @@ ghost use Rattle.swap_main.specs.declared.words.Command.{Command};
 ghost use Rattle.swap_main.specs.declared.written.Written.{Written};
 ghost use Rattle.swap_main.specs.Words.{command_of};
 ghost use Rattle.swap_main.specs.Output.{output_of, names_of};
-ghost use Rattle.swap_main.specs.Top.{limit, IsDone, IsCut, IsRefused, status_of};
+ghost use Rattle.swap_main.specs.Top.{limit, AsksFairRun, IsDone, IsCut, IsRefused, status_of};
 
 use crate::named;
 use crate::report::answer;
@@ -60,6 +60,8 @@ pub fn swap_top<S: Source, K: Sink>(
         → output_of command input ≡ Err reason → ¬ Rose (S.faults source.old) (S.faults source.new) → (result ≡ Status.Refused reason (names_of command input)) ⊎ (result ≡ Status.NoMemory) }
     ensures good { (command : Command) (input : List ℕ) (output : Written) → command_of (map string_bytes words.now.items) ≡ Some command → S.left source.old ≡ Some input → length input ≤ limit
         → output_of command input ≡ Ok output → ¬ Rose (S.faults source.old) (S.faults source.new) → ¬ Rose (K.faults sink.old) (K.faults sink.new) → (result ≡ status_of output.found) ⊎ (result ≡ Status.NoMemory) }
+    ensures fair { AsksFairRun (map string_bytes words.now.items) (S.left source.old) → ¬ Rose (S.faults source.old) (S.faults source.new) → ¬ Rose (K.faults sink.old) (K.faults sink.new)
+        → (result ≡ Status.Done) ⊎ (result ≡ Status.NoMemory) }
 {
     let Some(command) = command_of(words) else {
         return Status::WrongWords;

@@ -1,26 +1,18 @@
 use Rattle.std.proofs.Common.{◌≡◌, Ok, Err, sym, ap, ◌∙◌}
 use Rattle.swap_offer.specs.Wallets.{HaveWallets}
-use Rattle.swap_world.specs.Staff.{world_of}
-use Rattle.swap_world.specs.Value.{new_world}
 use Rattle.swap_main.proofs.Replays.{is_new}
 use Rattle.swap_main.proofs.replay.new_world.Goals as goal
 
 pub unreachable-requires : goal.unreachable-requires
 unreachable-requires c =
-    let e = rw c.in-Err-Refused.field-0-is at c.in-Err-Refused.ensures in
+    let e = rw c.in-Err-Refused.field-0-is at c.in-Err-Refused.ensures.exact in
     absurd (cc (sym (is_new c.args.job.now c.requires.wallets) ∙ e))
 
 pub returns-in-Ok-clause-of : goal.returns-in-Ok-clause-of
-returns-in-Ok-clause-of c =
-    let e : c.in-Ok.world ≡ new_world c.args.job.now = cc (sym c.in-Ok.ensures ∙ is_new c.args.job.now c.requires.wallets) in
-    record { deal = ap (λ w. w.deal) e; conforming = ap (λ w. w.conforming) e; seeds = ap (λ w. w.seeds) e }
+returns-in-Ok-clause-of c = let e = c.in-Ok.ensures.new in record { deal = ap (λ w. w.deal) e; conforming = ap (λ w. w.conforming) e; seeds = ap (λ w. w.seeds) e }
 
 pub returns-in-Ok-clause-state : goal.returns-in-Ok-clause-state
-returns-in-Ok-clause-state c =
-    let e : c.in-Ok.world ≡ new_world c.args.job.now = cc (sym c.in-Ok.ensures ∙ is_new c.args.job.now c.requires.wallets) in
-    ap (λ w. w.state) e
+returns-in-Ok-clause-state c = ap (λ w. w.state) c.in-Ok.ensures.new
 
 pub returns-in-Ok-clause-goes_on : goal.returns-in-Ok-clause-goes_on
-returns-in-Ok-clause-goes_on c =
-    let e : c.in-Ok.world ≡ new_world c.args.job.now = cc (sym c.in-Ok.ensures ∙ is_new c.args.job.now c.requires.wallets) in
-    ap (λ w. w.stopped) e
+returns-in-Ok-clause-goes_on c = ap (λ w. w.stopped) c.in-Ok.ensures.new

@@ -1,0 +1,118 @@
+-- What a run and a check promise of what they wrote.
+use Rattle.std.proofs.Common.{◌≡◌, ◌<◌, ◌==◌, ℕ, Bool, true, false, not, List, [], ◌∷◌, ◌++◌, length, fold, Option, Some, Result, Ok, Err, IfOk, refl, sym, ap, ap₂, ◌∙◌, subst, arith}
+use Rattle.swap_base.specs.Fault.{◌>>=◌}
+use Rattle.ledger_core.specs.declared.entry.Entry.{Entry}
+use Rattle.ledger_core.specs.History.{IsLegal}
+use Rattle.ledger_core.specs.Book.{Histories, history}
+use Rattle.deviator_script.specs.declared.event.Event.{Event}
+use Rattle.deviator_script.specs.declared.job.Job.{Job}
+use Rattle.deviator_script.specs.declared.job.Finish.TheVariants.{Fair}
+use Rattle.deviator_script.specs.declared.job.Purpose.TheVariants as purposes
+use Rattle.swap_rules.specs.declared.finding.Finding.{Finding}
+use Rattle.swap_rules.specs.Accepted.{IsAccepted}
+use Rattle.swap_rules.specs.Findings.{findings}
+use Rattle.swap_rules.specs.Outcome.{IsEnded}
+use Rattle.swap_laws.specs.Laws.{IsDealt}
+use Rattle.swap_laws.proofs.Units as units
+use Rattle.swap_run.specs.Run.{State, start, step, run}
+use Rattle.swap_run.specs.Laws.{IsKept}
+use Rattle.swap_world.specs.Cast.{cast_of}
+use Rattle.outcome_rules.specs.declared.report.Report.{Report}
+use Rattle.outcome_rules.specs.Report.{conforms_in, outcomes_of, report_of}
+use Rattle.outcome_rules.specs.Promises.{AllAreConforming}
+use Rattle.outcome_rules.proofs.Promises as laws
+use Rattle.offer_fields.specs.declared.reason.Reason.{Reason}
+use Rattle.swap_offer.specs.Job.{events_of, job_header_of, job_of, of_lines as lines_read}
+use Rattle.swap_offer.specs.Lines.{lines_of, written}
+use Rattle.swap_offer.proofs.Accepted.{went}
+use Rattle.swap_main.specs.declared.written.Written.{Written}
+use Rattle.swap_main.specs.declared.words.Command.{Command}
+use Rattle.swap_main.specs.Output.{book_of, check_text, finished, purpose_of, report_for, reported, told}
+use Rattle.swap_main.specs.Promised.{AsPromised, AsRead, IsPromised, IsRun, IsCheck}
+use Rattle.swap_main.specs.Replay.{passed_over, replayed}
+
+-- The laws of a legal book, of the report that is shown of it.
+
+pub is_promised : (job : Job) (b : Histories) → IsAccepted job.deal → IsKept (cast_of job) b → IsPromised job b (report_for job b)
+unfolding report_of
+is_promised job b k kept =
+    let found : List Finding = findings job.deal (conforms_in job.conforming) b in
+    record {
+      accepted = k;
+      kept = kept;
+      units = λ a h rest few e. let same = kept.legal.one_each in units.units_are_kept job.deal a h rest (subst (λ (xs : List Entry). IsLegal job.deal a xs) e (kept.legal.legal a (omega (arith, few, same))));
+      safe = laws.none_is_shown_underwater job.deal b (outcomes_of job.deal b) refl job.conforming found (laws.none_is_underwater job.deal job.conforming b found kept.legal refl k);
+      refunds = laws.all_have_refunds job.deal job.conforming b found kept.legal refl k;
+      transfer = laws.is_transferred job.deal job.conforming b found kept.legal refl k;
+      whole = λ all none. laws.all_are_whole job.deal b (outcomes_of job.deal b) refl k (laws.is_transferred job.deal job.conforming b found kept.legal refl k all none);
+      nothing = laws.finds_nothing job.deal job.conforming b found kept.legal refl;
+    }
+
+-- What was read.
+
+abbrev paired : Job → List Event → Result (Job × List Event) Reason
+paired job es = Ok (job, es)
+
+read_of : (header : Result Job Reason) (events : Job → Result (List Event) Reason) (job : Job) (es : List Event) → header ≡ Ok job → events job ≡ Ok es → (header >>= λ j. events j >>= λ es. paired j es) ≡ paired job es
+read_of header events job es h e = rw h (rw e refl)
+
+-- The events that a replay stepped through.
+record Replayed {A : Type 0} (f : A → Event → A) (job : Job) (x y : A) (ls : List (ℕ × List ℕ)) : Type 0 where
+  events : List Event
+  read : events_of job 0 ls ≡ Ok events
+  leads : y ≡ fold f x events
+
+replayed_by : {A : Type 0} (f : A → Event → A) (job : Job) (x y : A) (ls : List (ℕ × List ℕ)) → replayed f job 0 x ls ≡ Ok y → Replayed f job x y ls
+unfolding replayed
+replayed_by f job x y ls e =
+    let w = went (events_of job 0 ls) (λ events. Ok (fold f x events)) y e in
+    record { events = w.0; read = w.1; leads = cc (w.2) }
+
+-- A run.
+
+-- what was read, the book that is shown, and what the world promised of it
+run_of : (job : Job) (events : List Event) (read : Result (Job × List Event) Reason) (b : Histories) (output : Written) → read ≡ Ok (job, events) → b ≡ book_of job events → output ≡ reported job b → IsAccepted job.deal → IsKept (cast_of job) b
+    → (job.finish ≡ Fair → IsEnded job.deal b) → (job.finish ≡ Fair → events ≡ [] → AllAreConforming job.deal job.conforming → IsDealt job.deal (conforms_in job.conforming) b) → IsRun read output
+unfolding report_of
+run_of job events read b output r same shown k kept ended dealt = record {
+  job = job;
+  events = events;
+  is_read = r;
+  shown = shown ∙ ap (λ (b : Histories). reported job b) same;
+  promised = is_promised job (book_of job events) k (subst (λ (b : Histories). IsKept (cast_of job) b) same kept);
+  ended = λ fair. subst (λ (b : Histories). IsEnded job.deal b) same (ended fair);
+  fair = λ fair none all. subst (λ (b : Histories). findings job.deal (conforms_in job.conforming) b ≡ []) same (dealt fair none all).nothing;
+}
+
+pub is_run : (line : ℕ) (text : List ℕ) (ls : List (ℕ × List ℕ)) (job : Job) (s : State) (b : Histories) (output : Written) → job_header_of purposes.Run line text ≡ Ok job → replayed (step (cast_of job)) job 0 (start job.deal) ls ≡ Ok s
+    → b ≡ (finished job.finish (cast_of job) s).book → output ≡ reported job b → IsAccepted job.deal → IsKept (cast_of job) b → (job.finish ≡ Fair → IsEnded job.deal b)
+    → (job.finish ≡ Fair → s ≡ start job.deal → AllAreConforming job.deal job.conforming → IsDealt job.deal (conforms_in job.conforming) b) → IsRun (lines_read purposes.Run ((line, text) ∷ ls)) output
+is_run line text ls job s b output h r same shown k kept ended dealt =
+    let p = replayed_by (step (cast_of job)) job (start job.deal) s ls r in
+    run_of job p.events (lines_read purposes.Run ((line, text) ∷ ls)) b output (read_of (job_header_of purposes.Run line text) (λ j. events_of j 0 ls) job p.events h p.read) (same ∙ ap (λ (s : State). (finished job.finish (cast_of job) s).book) p.leads) shown k kept ended
+    (λ fair none. dealt fair (p.leads ∙ ap (λ (es : List Event). fold (step (cast_of job)) (start job.deal) es) none))
+
+-- A check.
+
+abbrev with_text : List ℕ → Bool → Written
+with_text t f = record { text = t; found = f }
+
+pub is_told : (job : Job) (w : Written) → w.text ≡ check_text job.deal → w.found ≡ false → w ≡ told job
+is_told job w t f = ap₂ with_text t f
+
+pub is_check : (line : ℕ) (text : List ℕ) (ls : List (ℕ × List ℕ)) (job : Job) (u : Unit {0}) (output : Written) → job_header_of purposes.Check line text ≡ Ok job → replayed passed_over job 0 tt ls ≡ Ok u → output ≡ told job → IsAccepted job.deal
+    → IsCheck (lines_read purposes.Check ((line, text) ∷ ls)) output
+is_check line text ls job u output h r shown k =
+    let p = replayed_by passed_over job tt u ls r in
+    record {
+      job = job;
+      events = p.events;
+      is_read = read_of (job_header_of purposes.Check line text) (λ j. events_of j 0 ls) job p.events h p.read;
+      shown = shown;
+      accepted = k;
+    }
+
+-- What is promised of lines is promised of the input.
+pub promised_lines : {E : Type 0} (command : Command) (input : List ℕ) (result : Result Written E) → IfOk result (λ w. AsRead command (lines_read (purpose_of command) (written 1 (lines_of input))) w) → IfOk result (λ w. AsPromised command input w)
+unfolding job_of
+promised_lines command input result p = p
