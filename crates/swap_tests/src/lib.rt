@@ -1,0 +1,23 @@
+//! Tests of the program from an input's bytes to what is written, as tables.
+#![tactic(auto)]
+
+#[cfg(test)]
+mod checks;
+#[cfg(test)]
+mod conforming;
+#[cfg(test)]
+mod deals;
+#[cfg(test)]
+mod fair;
+#[cfg(test)]
+mod inputs;
+#[cfg(test)]
+mod reasons;
+#[cfg(test)]
+mod replies;
+#[cfg(test)]
+mod replies_to_keys;
+#[cfg(test)]
+mod runner;
+#[cfg(test)]
+mod signatures;
