@@ -1,4 +1,4 @@
-//! Tests of the program from an input's bytes to what is written, as tables.
+//! Tests of the program from an input's bytes to what is written, and of a ledger by itself, as tables.
 #![tactic(auto)]
 
 #[cfg(test)]
@@ -11,6 +11,8 @@ mod deals;
 mod fair;
 #[cfg(test)]
 mod inputs;
+#[cfg(test)]
+mod ledgers;
 #[cfg(test)]
 mod reasons;
 #[cfg(test)]

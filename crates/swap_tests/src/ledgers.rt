@@ -1,0 +1,70 @@
+//! A ledger with timelocks by itself: its replies to unlocks of another secret, and of the right one with a path.
+
+use crate::deals::TIMELOCKS;
+use deviator_script::Purpose;
+use escrow_core::{Reply, terms_of};
+use hashkey_path::Hashkey;
+use hex::FromHex;
+use ledger_core::{Call, Ledger, fits, is_adjacent};
+use std::alloc::Global;
+use std::process::Abort;
+use std::test::Fail;
+use swap_base::{Listed, PartyId};
+use swap_offer::read_header;
+
+/// The leader's secret, and another one.
+const SECRET: &str = "3cfd91ab364b217387def1b512b03962bc945b8b9cd6a3119bda13d7a525735c";
+
+const ANOTHER: &str = "0000000000000000000000000000000000000000000000000000000000000000";
+
+fn unlock(alloc: Global, secret: &str, path: &[PartyId]) -> Result<Call, Fail> {
+    Ok(Call::Unlock(Hashkey {
+        lock: 0,
+        secret: <[u8; 32] as FromHex>::from_hex(secret)?,
+        path: Listed::new(Vec::from_slice(alloc, path)?),
+        sigs: Listed::empty(alloc),
+    }))
+}
+
+fn make(rt: &impl Abort, ledger: &mut Ledger, by: PartyId, call: Call) -> Result<Reply, Fail> {
+    let arc = ledger.arc();
+    assert!(rt; is_adjacent(ledger.deal(), arc, by));
+    assert!(rt; fits(ledger.deal(), arc, &call));
+    ledger.reserve()?;
+    Ok(ledger.apply(by, call))
+}
+
+/// The ledger of the first arc, on which its contract is published.
+fn published(rt: &impl Abort, alloc: Global) -> Result<Ledger, Fail> {
+    let job = read_header(alloc, 1, TIMELOCKS.as_bytes(), Purpose::Run)?;
+    assert!(rt; !job.deal.graph.arcs().is_empty());
+    let mut ledger = Ledger::new(alloc, &job.deal, 0)?;
+    let reply = make(rt, &mut ledger, 0, Call::Publish(terms_of(&job.deal, 0)))?;
+    assert_eq!(rt; reply, Reply::Accepted);
+    Ok(ledger)
+}
+
+fn follows(
+    rt: &impl Abort,
+    alloc: Global,
+    ledger: &mut Ledger,
+    table: &[(&str, &[PartyId], Reply)],
+) -> Result<(), Fail> {
+    for (secret, path, wanted) in table {
+        let call = unlock(alloc, secret, path)?;
+        assert_eq!(rt; make(rt, ledger, 1, call)?, *wanted, "{secret}");
+    }
+    Ok(())
+}
+
+#[test]
+fn refuses_wrong_unlocks(rt: HostRuntime) -> Result<(), Fail> {
+    let mut ledger = published(&rt, rt.alloc())?;
+    let table: [(&str, &[PartyId], Reply); 4] = [
+        (ANOTHER, &[], Reply::WrongSecret),
+        (ANOTHER, &[1], Reply::WrongSecret),
+        (SECRET, &[1], Reply::WrongPath),
+        (SECRET, &[], Reply::Accepted),
+    ];
+    follows(&rt, rt.alloc(), &mut ledger, &table)
+}
