@@ -10,8 +10,8 @@ use ledger_core::{Call, Ledger, fits, is_adjacent};
 use std::alloc::Global;
 use std::process::Abort;
 use std::test::Fail;
-use swap_base::{ArcId, PartyId, TryCopy};
-use swap_offer::{next_event, read_header};
+use swap_base::{ArcId, PartyId, Shared, TryCopy};
+use swap_offer::{Prepared, next_event, read_header};
 
 /// The units of the arc's party, those of its counterparty, and those held.
 type Units = (u64, u64, u64);
@@ -21,9 +21,13 @@ type Row = (&'static str, Reply, Units);
 
 /// The call that a move stands for.
 fn call_of(ledger: &Ledger, mv: &Move) -> Result<Call, Fail> {
+    let alloc = ledger.deal().amounts.allocator();
     match mv {
-        Move::Publish { .. } => Ok(Call::Publish(terms_of(ledger.deal(), ledger.arc()))),
-        Move::Raw { key, .. } => Ok(Call::Unlock(key.copy()?)),
+        Move::Publish { .. } => {
+            let terms = terms_of(ledger.deal(), ledger.arc());
+            Ok(Call::Publish(Shared::new(alloc, terms)?))
+        }
+        Move::Raw { key, .. } => Ok(Call::Unlock(Shared::new(alloc, key.copy()?)?)),
         Move::Claim { .. } => Ok(Call::Claim),
         Move::Refund { .. } => Ok(Call::Refund),
         Move::Transfer { to, units, .. } => Ok(Call::Transfer(*to, *units)),
@@ -36,7 +40,7 @@ fn make(rt: &impl Abort, ledger: &mut Ledger, by: PartyId, mv: &Move) -> Result<
     assert!(rt; is_adjacent(ledger.deal(), ledger.arc(), by));
     assert!(rt; fits(ledger.deal(), ledger.arc(), &call));
     ledger.reserve()?;
-    Ok(ledger.apply(by, call))
+    Ok(ledger.apply(by, call, 0))
 }
 
 fn tick(rt: &impl Abort, ledger: &mut Ledger, k: u32) -> Result<Reply, Fail> {
@@ -87,7 +91,7 @@ fn follow_on(
     arc: ArcId,
     rows: &[Row],
 ) -> Result<Ledger, Fail> {
-    let job = read_header(alloc, 1, header.as_bytes(), Purpose::Run)?;
+    let Prepared { job, .. } = read_header(alloc, 1, header.as_bytes(), Purpose::Run)?;
     assert!(rt; (arc as usize) < job.deal.graph.arcs().len());
     let mut ledger = Ledger::new(alloc, &job.deal, arc)?;
     for (words, reply, units) in rows {
@@ -251,7 +255,7 @@ fn unlocks_and_refunds_in_time(rt: HostRuntime) -> Result<(), Fail> {
 fn ends_at_the_last_height(rt: HostRuntime) -> Result<(), Fail> {
     let ledger = follow(&rt, rt.alloc(), 3, &LAST_HEIGHT)?;
     assert_eq!(rt; ledger.height(), 1_000_000);
-    assert_eq!(rt; ledger.history().len(), 3);
+    assert_eq!(rt; ledger.len(), 3);
     Ok(())
 }
 
@@ -267,7 +271,7 @@ fn takes_so_many_calls_and_no_more(rt: HostRuntime) -> Result<(), Fail> {
         };
         assert_eq!(rt; reply, wanted, "claim {number}");
     }
-    assert_eq!(rt; ledger.history().len(), 32);
+    assert_eq!(rt; ledger.len(), 32);
     let refund = make(&rt, &mut ledger, 0, &Move::Refund { arc: 0 })?;
     assert_eq!(rt; refund, Reply::NoContract);
     assert_eq!(rt; units_of(&rt, &ledger), (100, 0, 0));

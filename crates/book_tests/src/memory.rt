@@ -13,7 +13,7 @@ use std::alloc::Global;
 use std::process::Abort;
 use std::test::Fail;
 use swap_digraph::Deal;
-use swap_offer::read_header;
+use swap_offer::{Prepared, read_header};
 
 fn count_unfinished(alloc: Global, deal: &Deal, book: &Book) -> Result<usize, Fail>
     requires sized { IsWellSized deal.now }
@@ -42,8 +42,8 @@ fn reserve(rt: &impl Abort, alloc: Global, deal: &Deal) -> Result<(), Fail>
 
 /// The calls over a book of which one ledger is above the horizon, and nobody conforms.
 fn succeed(rt: &impl Abort, alloc: Global, header: &str) -> Result<(), Fail> {
-    let job = read_header(alloc, 1, header.as_bytes(), Purpose::Run)?;
-    let book = book_of(rt, alloc, &job, "tick 0 by 71;")?;
+    let Prepared { job, wallets } = read_header(alloc, 1, header.as_bytes(), Purpose::Run)?;
+    let book = book_of(rt, alloc, &job, wallets, "tick 0 by 71;")?;
     assert_eq!(rt; count_unfinished(alloc, &job.deal, &book)?, 3);
     assert_eq!(rt; count_findings(alloc, &job, &book)?, 3);
     reserve(rt, alloc, &job.deal)

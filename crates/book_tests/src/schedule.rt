@@ -1,9 +1,10 @@
 //! Schedules in words, and what is found of the books that they make.
 
-ghost use Rattle.std.specs.Prelude.{IfOk, All};
+ghost use Rattle.std.specs.Prelude.{◌≡◌, IfOk, All};
 ghost use Rattle.deviator_script.specs.Step.{CanStep};
 ghost use Rattle.swap_rules.specs.Accepted.{IsAccepted};
 ghost use Rattle.ledger_core.specs.Book.{IsLegalBook};
+ghost use Rattle.party_machine.specs.Wallets.{wallets_of};
 ghost use Rattle.swap_offer.specs.Job.{IsWhole};
 ghost use Rattle.swap_offer.specs.Wallets.{HaveWallets};
 
@@ -11,11 +12,12 @@ use crate::words::lines_of;
 use deviator_script::{Event, Job, Purpose};
 use ledger_core::Book;
 use outcome_rules::report_of;
+use party_machine::Wallet;
 use std::alloc::Global;
 use std::process::Abort;
 use std::test::Fail;
 use swap_base::{ByteText, Listed};
-use swap_offer::{next_event, read_header, written};
+use swap_offer::{Prepared, next_event, read_header, written};
 use swap_world::World;
 use transcript_text::report_text;
 
@@ -40,18 +42,20 @@ pub(crate) fn book_of(
     rt: &impl Abort,
     alloc: Global,
     job: &Job,
+    wallets: Vec<Option<Wallet>>,
     schedule: &str,
 ) -> Result<Book, Fail>
     requires whole { IsWhole job.now }
     requires accepted { IsAccepted job.now.deal }
     requires wallets { HaveWallets job.now }
+    requires made { wallets.items ≡ wallets_of job.now.deal job.now.conforming job.now.seeds }
     ensures { IfOk result (λ b. IsLegalBook job.now.deal b.histories) }
 {
     let text = lines_of(alloc, schedule)?;
     assert!(rt; text.len() < 1_000_000);
     let lines = written(alloc, text.as_bytes())?;
     let events = events_of(alloc, job, &lines)?;
-    let mut world = World::new(alloc, job)?;
+    let mut world = World::new(alloc, job, wallets)?;
     world.run(&events)?;
     Ok(world.into_book(alloc)?)
 }
@@ -74,8 +78,8 @@ fn told(
     schedule: &str,
     taken: &str,
 ) -> Result<ByteText, Fail> {
-    let mut job = read_header(alloc, 1, header.as_bytes(), Purpose::Run)?;
-    let book = book_of(rt, alloc, &job, schedule)?;
+    let Prepared { mut job, wallets } = read_header(alloc, 1, header.as_bytes(), Purpose::Run)?;
+    let book = book_of(rt, alloc, &job, wallets, schedule)?;
     job.conforming = named(alloc, job.names.as_slice(), taken)?;
     assert_eq!(rt; job.conforming.len(), job.deal.graph.n() as usize);
     let report = report_of(alloc, &job.deal, &job.conforming, &book)?;

@@ -7,7 +7,7 @@ ghost use Rattle.deviator_script.specs.Resolved.{call_of, publish_of, is_built, 
 use crate::moves::Move;
 use escrow_core::{Terms, terms_of};
 use ledger_core::Call;
-use swap_base::{ArcId, NoMemory, TryCopy};
+use swap_base::{ArcId, NoMemory, Shared, TryCopy};
 use swap_digraph::Deal;
 
 /// The arc on which a move stands.
@@ -62,12 +62,13 @@ pub fn resolve(deal: &Deal, mv: &Move) -> Result<Option<Call>, NoMemory>
     requires built { IsTrue (is_built mv.now) }
     ensures { IfOk result (λ c. c ≡ call_of deal.now mv.now) }
 {
+    let alloc = deal.amounts.allocator();
     match mv {
         Move::Publish { .. } => match publish_of(deal, mv) {
-            Some(terms) => Ok(Some(Call::Publish(terms))),
+            Some(terms) => Ok(Some(Call::Publish(Shared::new(alloc, terms)?))),
             None => Ok(None),
         },
-        Move::Raw { key, .. } => Ok(Some(Call::Unlock(key.copy()?))),
+        Move::Raw { key, .. } => Ok(Some(Call::Unlock(Shared::new(alloc, key.copy()?)?))),
         Move::Claim { .. } => Ok(Some(Call::Claim)),
         Move::Refund { .. } => Ok(Some(Call::Refund)),
         Move::Transfer { to, units, .. } => Ok(Some(Call::Transfer(*to, *units))),

@@ -1,8 +1,9 @@
 //! The contract of an arc.
 
-ghost use Rattle.std.specs.Prelude.{◌≡◌, ◌≢◌, ◌≤◌, ◌<◌, length};
+ghost use Rattle.std.specs.Prelude.{◌≡◌, ◌≢◌, ◌≤◌, ◌<◌, IsTrue, length};
 ghost use Rattle.swap_digraph.specs.declared.deal.Deal.{Deal};
 ghost use Rattle.swap_digraph.specs.Deal.{IsWellSized};
+ghost use Rattle.hashkey_path.specs.Known.{is_last_signed};
 ghost use Rattle.escrow_core.specs.Table.{first_row, unlock_rows, claim_rows, refund_rows};
 ghost use Rattle.escrow_core.specs.Value.{AreFitting, IsFor, is_open_in, new_contract, with_opened, with_settled};
 ghost use Rattle.escrow_core.specs.Parts.{own_claim_rows};
@@ -100,10 +101,18 @@ impl Contract {
         &self.opened[..self.terms.locks.len() as usize]
     }
 
-    fn unlock_reply(&self, deal: &Deal, height: u32, sender: PartyId, key: &Hashkey) -> Reply
+    fn unlock_reply(
+        &self,
+        deal: &Deal,
+        height: u32,
+        sender: PartyId,
+        key: &Hashkey,
+        known: usize,
+    ) -> Reply
         requires sized { IsWellSized deal.now }
         requires of_the_deal { IsFor deal.now self.now }
         requires lock { key.now.lock < length deal.now.leaders }
+        requires known { IsTrue (is_last_signed known deal.now key.now) }
         ensures { result ≡ first_row (unlock_rows deal.now self.now.arc self.now.terms (is_open_in self.now) self.now.settled height sender key.now) }
     {
         if self.is_settled() {
@@ -115,7 +124,7 @@ impl Contract {
         if self.is_open(key.lock) {
             return Reply::AlreadyUnlocked;
         }
-        key_reply(deal, self.arc(), self.terms(), height, key)
+        key_reply(deal, self.arc(), self.terms(), height, key, known)
     }
 
     fn claim_reply(&self, sender: PartyId) -> Reply
@@ -168,17 +177,25 @@ impl Contract {
         self.to
     }
 
-    /// Opens the hashkey's lock, where the table accepts it.
-    pub fn unlock(&mut self, deal: &Deal, height: u32, sender: PartyId, key: &Hashkey) -> Reply
+    /// Opens the hashkey's lock, where the table accepts it. The last `known` signatures are known to be valid, and aren't verified.
+    pub fn unlock(
+        &mut self,
+        deal: &Deal,
+        height: u32,
+        sender: PartyId,
+        key: &Hashkey,
+        known: usize,
+    ) -> Reply
         requires sized { IsWellSized deal.now }
         requires of_the_deal { IsFor deal.now self.old }
         requires lock { key.now.lock < length deal.now.leaders }
+        requires known { IsTrue (is_last_signed known deal.now key.now) }
         ensures reply { result ≡ first_row (unlock_rows deal.now self.old.arc self.old.terms (is_open_in self.old) self.old.settled height sender key.now) }
         ensures accepted { result ≡ Reply.Accepted → self.new ≡ with_opened self.old key.now.lock }
         ensures refused { result ≢ Reply.Accepted → self.new ≡ self.old }
         ensures kept { IsFor deal.now self.new }
     {
-        let reply = self.unlock_reply(deal, height, sender, key);
+        let reply = self.unlock_reply(deal, height, sender, key, known);
         match reply {
             Reply::Accepted => self.opened[key.lock as usize] = true,
             _ => {}

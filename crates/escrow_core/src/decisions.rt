@@ -1,8 +1,9 @@
 //! Parts of the table of replies that are decided over several lines.
 
-ghost use Rattle.std.specs.Prelude.{◌≡◌, ◌≤◌, ◌<◌, length, not, IfSome};
+ghost use Rattle.std.specs.Prelude.{◌≡◌, ◌≤◌, ◌<◌, length, not, IfSome, IsTrue};
 ghost use Rattle.std.specs.List.{position_from};
 ghost use Rattle.swap_digraph.specs.Deal.{IsWellSized};
+ghost use Rattle.hashkey_path.specs.Known.{is_last_signed};
 ghost use Rattle.escrow_core.specs.Table.{first_row};
 ghost use Rattle.escrow_core.specs.Value.{AreFitting};
 ghost use Rattle.escrow_core.specs.Parts.{key_rows};
@@ -23,15 +24,23 @@ pub(crate) fn first_closed(opened: &[bool]) -> Option<usize>
 }
 
 /// What is wrong with a hashkey, or whether it comes too late.
-pub(crate) fn key_reply(deal: &Deal, arc: ArcId, terms: &Terms, height: u32, key: &Hashkey) -> Reply
+pub(crate) fn key_reply(
+    deal: &Deal,
+    arc: ArcId,
+    terms: &Terms,
+    height: u32,
+    key: &Hashkey,
+    known: usize,
+) -> Reply
     requires sized { IsWellSized deal.now }
     requires arc { arc < length deal.now.graph.arcs }
     requires fitting { AreFitting deal.now terms.now }
     requires lock { key.now.lock < length deal.now.leaders }
+    requires known { IsTrue (is_last_signed known deal.now key.now) }
     ensures { result ≡ first_row (key_rows deal.now arc terms.now height key.now) }
 {
     let hashlock = terms.locks.get(key.lock);
-    match check(deal, arc, &hashlock, key) {
+    match check(deal, arc, &hashlock, key, known) {
         HashkeyAnswer::WrongSecret => Reply::WrongSecret,
         HashkeyAnswer::WrongPath => Reply::WrongPath,
         HashkeyAnswer::WrongSignature(_) => Reply::WrongSignature,

@@ -1,5 +1,5 @@
 -- Chains: steps in a row, and lists with a value for each chain.
-use Rattle.std.proofs.Common.{◌≡◌, ℕ, zero, suc, ◌+◌, ◌<◌, List, [], ◌∷◌, ◌++◌, map, take, length, get_or, refl, sym, ap, ◌∙◌, subst, arith, add-one, append_assoc}
+use Rattle.std.proofs.Common.{◌≡◌, ℕ, zero, suc, ◌+◌, ◌<◌, List, [], ◌∷◌, ◌++◌, map, take, length, get_or, refl, sym, ap, ◌∙◌, subst, arith, append_assoc}
 use Rattle.std.specs.List.{range_with_len}
 use Rattle.std.proofs.Math.ListN.{set}
 use Rattle.std.proofs.lemmas.List.{append-nil, take_all, take_more_set}
@@ -7,15 +7,8 @@ use Rattle.std.proofs.lemmas.List.FromFn.{get_or-map-range_with_len, map-range_w
 use Rattle.sha2.specs.Hashers.{Holds256}
 use Rattle.sha2.specs.declared.Sha256.{Sha256}
 use Rattle.swap_base.specs.Text.{joined}
-use Rattle.hash_signature.specs.Signature.{chain_step, chain_after, for_chains}
-
-pub one_step_more : (n : ℕ) (y : List ℕ) → chain_after (n + 1) y ≡ chain_step (chain_after n y)
-unfolding chain_after
-one_step_more n y = rw add-one refl
-
-pub no_steps : (y : List ℕ) → chain_after 0 y ≡ y
-unfolding chain_after
-no_steps y = refl
+use Rattle.hash_chains.specs.Chains.{chain_step, chain_after}
+use Rattle.hash_signature.specs.Signature.{for_chains}
 
 -- steps after steps
 pub chain_after-sum : (n k : ℕ) (y : List ℕ) → chain_after n (chain_after k y) ≡ chain_after (n + k) y

@@ -1,10 +1,12 @@
 -- The swap's own one-time signatures, of chains of SHA-256 (FIPS 180-4), after Winternitz (R. Merkle, "A Certified Digital Signature", 1989).
+-- The chains themselves stand in hash_chains.
 -- A digest, a seed, a secret and a message are lists of 32 bytes. What is hashed begins with a byte that tells its kind, except for the hashlock.
-use Rattle.std.specs.Prelude.{ℕ, zero, suc, ◌+◌, ◌-◌, ◌*◌, ◌/◌, ◌%◌, Bool, List, [], ◌∷◌, ◌++◌, map, take, drop, slice_index, slice_index_or}
+use Rattle.std.specs.Prelude.{ℕ, ◌+◌, ◌-◌, ◌*◌, ◌/◌, ◌%◌, Bool, List, [], ◌∷◌, ◌++◌, map, take, drop, slice_index, slice_index_or}
 use Rattle.std.specs.Str.{bytes_eq}
 use Rattle.std.specs.List.{range_with_len}
 use Rattle.sha2.specs.Sha256.{sha256}
 use Rattle.swap_base.specs.Text.{joined}
+pub use Rattle.hash_chains.specs.Chains.{chain_start, chain_step, chain_after}
 
 -- the hashlock of a secret
 abbrev pub hash_of : List ℕ → List ℕ
@@ -13,19 +15,6 @@ hash_of secret = sha256 secret
 -- the secret made from a seed
 abbrev pub secret_of : List ℕ → List ℕ
 secret_of seed = sha256 (5 ∷ seed)
-
--- the start of chain j of a party's key for a lock
-abbrev pub chain_start : List ℕ → ℕ → ℕ → ℕ → List ℕ
-chain_start seed party lock j = sha256 (1 ∷ seed ++ party ∷ lock ∷ j ∷ [])
-
--- one step of a chain, from the value y
-abbrev pub chain_step : List ℕ → List ℕ
-chain_step y = sha256 (2 ∷ y)
-
--- the value that n steps lead to from y
-unfoldable pub chain_after : ℕ → List ℕ → List ℕ
-chain_after zero y = y
-chain_after (suc n) y = chain_step (chain_after n y)
 
 -- the end of chain j: its start after 15 steps
 abbrev pub chain_end : List ℕ → ℕ → ℕ → ℕ → List ℕ

@@ -1,10 +1,10 @@
 //! The digits of a message: one for each chain.
 
-ghost use Rattle.std.specs.Prelude.{◌≡◌, ◌<◌, ◌≤◌, ℕ, slice_index};
+ghost use Rattle.std.specs.Prelude.{◌≡◌, ◌-◌, ◌<◌, ◌≤◌, ℕ, slice_index};
 ghost use Rattle.hash_signature.specs.Signature.{digits};
 
-use crate::Digest;
-use crate::chain::CHAINS;
+use crate::{CHAINS, Digest};
+use hash_chains::STEPS;
 
 /// The 64 digits of 4 bits of a message and the three of its checksum.
 pub(crate) fn digits(message: &Digest) -> [u8; CHAINS]
@@ -24,4 +24,16 @@ pub(crate) fn digits(message: &Digest) -> [u8; CHAINS]
     out[65] = (sum / 16 % 16) as u8;
     out[66] = (sum % 16) as u8;
     out
+}
+
+/// How many steps are left of each chain after so many.
+pub(crate) fn rests(steps: &[u8; CHAINS]) -> [u8; CHAINS]
+    requires { (j : ℕ) → slice_index steps.now j ≤ 15 }
+    ensures { (j : ℕ) → j < 67 → slice_index result j ≡ 15 - slice_index steps.now j }
+{
+    let mut rests = [0u8; CHAINS];
+    'chains: for j in 0..CHAINS {
+        rests[j] = STEPS - steps[j];
+    }
+    rests
 }

@@ -4,20 +4,20 @@ ghost use Rattle.std.specs.Prelude.{◌≡◌, IsTrue};
 ghost use Rattle.hash_signature.specs.Key.{KeyParts};
 ghost use Rattle.hash_signature.specs.Signature.{public_key_of, signature_of, is_valid_signature};
 
-use crate::chain::{CHAINS, STEPS, chain_after, chain_start};
 use crate::digits::digits;
 use crate::sig::Sig;
-use crate::{Digest, LockId, PartyId};
+use crate::{CHAINS, Digest, LockId, PartyId};
+use hash_chains::{Chains, STEPS};
 use sha2::{Digest as Hasher, Sha256};
 use std::fmt;
 use std::marker::Model;
 
 /// A party's key for one lock. Signing spends it, and it can't be copied. It may be let go unused.
+///
+/// It keeps each value of its chains, 34 KB in all, so that signing only picks one of each chain.
 #[derive(Drop)]
 pub struct OneTimeKey {
-    seed: Digest,
-    party: PartyId,
-    lock: LockId,
+    chains: Chains,
 }
 
 impl Model for OneTimeKey {
@@ -25,7 +25,7 @@ impl Model for OneTimeKey {
 
     ghost Value = { KeyParts };
 
-    ghost view = { λ k. record { seed = k.seed; party = k.party; lock = k.lock } };
+    ghost view = { λ k. k.chains };
 }
 
 /// The key that a party's seed gives for a lock, with its public key.
@@ -33,34 +33,29 @@ pub fn keygen(seed: &Digest, party: PartyId, lock: LockId) -> (OneTimeKey, Diges
     ensures key { result.0 ≡ record { seed = seed.now; party = party; lock = lock } }
     ensures public { result.1 ≡ public_key_of seed.now party lock }
 {
-    let key = OneTimeKey {
-        seed: *seed,
-        party,
-        lock,
-    };
-    let public = public_key(seed, party, lock);
-    (key, public)
+    let chains = Chains::new(seed, party, lock);
+    let public = public_key(&chains);
+    (OneTimeKey { chains }, public)
 }
 
-fn public_key(seed: &Digest, party: PartyId, lock: LockId) -> Digest
-    ensures { result ≡ public_key_of seed.now party lock }
+fn public_key(chains: &Chains) -> Digest
+    ensures { result ≡ public_key_of chains.now.seed chains.now.party chains.now.lock }
 {
     let mut hasher = Sha256::new();
     hasher.update([3u8]);
     'chains: for j in 0..CHAINS {
-        hasher.update(chain_after(chain_start(seed, party, lock, j as u8), STEPS));
+        hasher.update(chains.value(j, STEPS));
     }
     hasher.finalize()
 }
 
-fn opened_values(seed: &Digest, party: PartyId, lock: LockId, message: &Digest) -> [Digest; CHAINS]
-    ensures { result ≡ signature_of seed.now party lock message.now }
+fn opened_values(chains: &Chains, message: &Digest) -> [Digest; CHAINS]
+    ensures { result ≡ signature_of chains.now.seed chains.now.party chains.now.lock message.now }
 {
     let wanted = digits(message);
     let mut values = [[0u8; 32]; CHAINS];
     'chains: for j in 0..CHAINS {
-        let start = chain_start(seed, party, lock, j as u8);
-        values[j] = chain_after(start, wanted[j]);
+        values[j] = *chains.value(j, wanted[j]);
     }
     values
 }
@@ -71,7 +66,7 @@ impl OneTimeKey {
         ensures value { result ≡ signature_of self.seed self.party self.lock message.now }
         ensures valid { IsTrue (is_valid_signature (public_key_of self.seed self.party self.lock) message.now result) }
     {
-        Sig::new(opened_values(&self.seed, self.party, self.lock, message))
+        Sig::new(opened_values(&self.chains, message))
     }
 }
 

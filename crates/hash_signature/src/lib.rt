@@ -5,14 +5,13 @@
 //! Read `specs/Signature.antt` first: `is_valid_signature` says what `verify` answers, and `signature_of` what `sign` does.
 #![tactic(auto)]
 
-mod chain;
 mod digits;
 mod key;
 mod law;
 mod secret;
 mod sig;
 
-pub use chain::CHAINS;
+pub use hash_chains::CHAINS;
 pub use key::{OneTimeKey, keygen};
 pub use law::checksum_law;
 pub use secret::{hash_of, secret_of};

@@ -4,9 +4,9 @@ ghost use Rattle.std.specs.Prelude.{◌≡◌, ◌<◌, List, ℕ};
 ghost use Rattle.swap_base.specs.Text.{joined};
 ghost use Rattle.hash_signature.specs.Signature.{carried_on, digest_of_ends, for_chains, is_valid_signature, value_at, values_of};
 
-use crate::Digest;
-use crate::chain::{CHAINS, STEPS, chain_after};
-use crate::digits::digits;
+use crate::digits::{digits, rests};
+use crate::{CHAINS, Digest};
+use hash_chains::carried;
 use sha2::{Digest as Hasher, Sha256};
 use std::marker::Model;
 use swap_base::{NoMemory, TryCopy};
@@ -99,11 +99,11 @@ impl TryCopy for Sig {
 fn digest_of_carried(message: &Digest, values: &[Digest; CHAINS]) -> Digest
     ensures { result ≡ digest_of_ends (for_chains (carried_on message.now values.now)) }
 {
-    let wanted = digits(message);
+    let ends = carried(values, &rests(&digits(message)));
     let mut hasher = Sha256::new();
     hasher.update([3u8]);
     'chains: for j in 0..CHAINS {
-        hasher.update(chain_after(values[j], STEPS - wanted[j]));
+        hasher.update(ends[j]);
     }
     hasher.finalize()
 }

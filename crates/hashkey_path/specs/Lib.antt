@@ -1,3 +1,4 @@
 pub mod Digest
 pub mod Hashkey
+pub mod Known
 pub mod Signed

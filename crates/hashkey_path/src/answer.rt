@@ -1,8 +1,9 @@
 //! Whether a hashkey opens its lock on an arc.
 
-ghost use Rattle.std.specs.Prelude.{◌≡◌, ◌<◌, ◌↔◌, length};
+ghost use Rattle.std.specs.Prelude.{◌≡◌, ◌<◌, ◌↔◌, IsTrue, length};
 ghost use Rattle.swap_digraph.specs.Deal.{IsWellSized};
 ghost use Rattle.hashkey_path.specs.Hashkey.{answer_of, is_wrong_path, IsValidHashkey};
+ghost use Rattle.hashkey_path.specs.Known.{is_last_signed};
 
 use crate::hashkey::{Hashkey, HashkeyAnswer};
 use crate::path::{first_is, is_path, last_is};
@@ -31,10 +32,17 @@ fn is_wrong_path(deal: &Deal, arc: ArcId, key: &Hashkey) -> bool
 }
 
 #[tactic(auto, unfolding(crate::specs::Hashkey::answer_of))]
-fn answer_of(deal: &Deal, arc: ArcId, hashlock: &Digest, key: &Hashkey) -> HashkeyAnswer
+fn answer_of(
+    deal: &Deal,
+    arc: ArcId,
+    hashlock: &Digest,
+    key: &Hashkey,
+    known: usize,
+) -> HashkeyAnswer
     requires sized { IsWellSized deal.now }
     requires arc { arc < length deal.now.graph.arcs }
     requires lock { key.now.lock < length deal.now.leaders }
+    requires known { IsTrue (is_last_signed known deal.now key.now) }
     ensures { result ≡ answer_of deal.now arc hashlock.now key.now }
 {
     if hash_of(&key.secret) != *hashlock {
@@ -48,7 +56,7 @@ fn answer_of(deal: &Deal, arc: ArcId, hashlock: &Digest, key: &Hashkey) -> Hashk
         Mode::Hashkeys => {
             let path = key.path.as_slice();
             let sigs = key.sigs.as_slice();
-            match wrong_signature(0, deal, key.lock, &key.secret, path, sigs) {
+            match wrong_signature(0, deal, key.lock, &key.secret, path, sigs, known) {
                 None => HashkeyAnswer::Valid,
                 Some(place) => HashkeyAnswer::WrongSignature(place),
             }
@@ -56,13 +64,20 @@ fn answer_of(deal: &Deal, arc: ArcId, hashlock: &Digest, key: &Hashkey) -> Hashk
     }
 }
 
-/// Whether the hashkey is valid on the arc under the hashlock, or the first thing that is wrong with it. It takes no memory.
-pub fn check(deal: &Deal, arc: ArcId, hashlock: &Digest, key: &Hashkey) -> HashkeyAnswer
+/// Whether the hashkey is valid on the arc under the hashlock, or the first thing that is wrong with it. The last `known` signatures are known to be valid, and aren't verified: all are where it is at least their number. It takes no memory.
+pub fn check(
+    deal: &Deal,
+    arc: ArcId,
+    hashlock: &Digest,
+    key: &Hashkey,
+    known: usize,
+) -> HashkeyAnswer
     requires sized { IsWellSized deal.now }
     requires arc { arc < length deal.now.graph.arcs }
     requires lock { key.now.lock < length deal.now.leaders }
+    requires known { IsTrue (is_last_signed known deal.now key.now) }
     ensures first { result ≡ answer_of deal.now arc hashlock.now key.now }
     ensures valid { (result ≡ HashkeyAnswer.Valid) ↔ IsValidHashkey deal.now arc hashlock.now key.now }
 {
-    answer_of(deal, arc, hashlock, key)
+    answer_of(deal, arc, hashlock, key, known)
 }

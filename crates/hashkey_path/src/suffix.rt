@@ -1,8 +1,9 @@
 //! The signatures of a hashkey, each over the suffix of the path that begins at its place.
 
-ghost use Rattle.std.specs.Prelude.{◌≡◌, ◌+◌, ◌<◌, All, length};
+ghost use Rattle.std.specs.Prelude.{◌≡◌, ◌+◌, ◌<◌, All, IsTrue, length};
 ghost use Rattle.swap_digraph.specs.Deal.{HasKeys};
 ghost use Rattle.hashkey_path.specs.Hashkey.{key_of, message_of, wrong_signature};
+ghost use Rattle.hashkey_path.specs.Known.{are_last_signed};
 
 use hash_signature::{Sig, verify};
 use sha2::{Digest as Hasher, Sha256};
@@ -47,7 +48,7 @@ pub(crate) fn message_of(
     }
 }
 
-/// The least place, counted from `place`, whose signature isn't that of its vertex over its suffix. It ends where either list does.
+/// The least place, counted from `place`, whose signature isn't that of its vertex over its suffix. It ends where either list does, and verifies none of the last `known` signatures.
 #[tactic(auto, unfolding(crate::specs::Hashkey::is_signed))]
 pub(crate) fn wrong_signature(
     place: u8,
@@ -56,19 +57,24 @@ pub(crate) fn wrong_signature(
     secret: &Digest,
     path: &[PartyId],
     sigs: &[Sig],
+    known: usize,
 ) -> Option<u8>
     requires keys { HasKeys Mode.Hashkeys deal.now }
     requires lock { lock < length deal.now.leaders }
     requires few { place + length path.now < 256 }
     requires within { All (λ v. v < deal.now.graph.n) path.now }
+    requires known { IsTrue (are_last_signed known deal.now lock secret.now path.now sigs.now) }
     ensures { result ≡ wrong_signature place deal.now lock secret.now path.now sigs.now }
 {
     match (path, sigs) {
         ([v, rest @ ..], [sig, inner @ ..]) => {
+            if sigs.len() <= known {
+                return None;
+            }
             let public = key_of(deal, *v, lock);
             let message = message_of(&deal.id, lock, path, secret, inner);
             if verify(&public, &message, sig) {
-                wrong_signature(place + 1, deal, lock, secret, rest, inner)
+                wrong_signature(place + 1, deal, lock, secret, rest, inner, known)
             } else {
                 Some(place)
             }

@@ -119,7 +119,7 @@ fn answer(rt: &impl Abort, deal: &Deal, arc: ArcId, key: &Hashkey) -> HashkeyAns
 {
     assert!(rt; (arc as usize) < deal.graph.arcs().len());
     assert!(rt; (key.lock as usize) < deal.leaders.len());
-    check(deal, arc, &hash_of(&SECRET), key)
+    check(deal, arc, &hash_of(&SECRET), key, 0)
 }
 
 fn longer(

@@ -1,9 +1,10 @@
 -- What is kept beside a list of entries stays what its scans give, entry by entry.
-use Rattle.std.proofs.Common.{◌≡◌, ℕ, ◌+◌, ◌<◌, ◌≤◌, ◌==◌, nat_lt, Bool, true, false, cond, not, ◌&&◌, ◌||◌, IsTrue, List, [], ◌∷◌, ◌++◌, length, Option, Some, None, is_some, option_map, slice_set, slice_index_or, refl, sym, ap, ap₂, ◌∙◌, subst, arith, eqb-true, eq-eqb, ltb-true, length-append}
+use Rattle.std.proofs.Common.{◌≡◌, ℕ, ◌+◌, ◌-◌, ◌<◌, ◌≤◌, ◌==◌, nat_lt, Bool, true, false, cond, not, ◌&&◌, ◌||◌, IsTrue, List, [], ◌∷◌, ◌++◌, length, Option, Some, None, is_some, option_map, slice_set, slice_index_or, refl, sym, ap, ap₂, ◌∙◌, subst, arith, eqb-true, eq-eqb, ltb-true, length-append}
 use Rattle.std.specs.Prelude.{position}
 use Rattle.std.specs.List.{list_all, position_or_len}
 use Rattle.std.proofs.lemmas.Bool.{false≢true}
 use Rattle.std.proofs.lemmas.List.{append-nil, get_or-set_same, get_or-set_other}
+use Rattle.std.proofs.lemmas.Grind.{flat_map-append}
 use Rattle.std.proofs.Math.ListN.{length-set}
 use Rattle.std.proofs.lemmas.List.Folds.{list_any-append, list_all-append, position_or_len_push}
 use Rattle.std.proofs.lemmas.List.Sums.{prefix_len-le-length}
@@ -24,12 +25,16 @@ use Rattle.ledger_core.specs.declared.facts.CallKind.{CallKind}
 use Rattle.ledger_core.specs.declared.facts.CallKind.TheVariants.{Publish, Unlock, Claim, Refund}
 use Rattle.ledger_core.specs.History.{ticks_in, accepted_in, accepted, publication, Opening, opening, settling, sent_by}
 use Rattle.ledger_core.specs.Facts.{shown_as, is_of_kind, has_call}
+use Rattle.ledger_core.specs.declared.runs.Item.{Item}
+use Rattle.ledger_core.specs.Runs.{entries_of, expand}
 use Rattle.ledger_core.proofs.Bounds.{height-push}
 use Rattle.history_index.specs.declared.kinds.Kinds.{Kinds}
-use Rattle.history_index.specs.declared.caller.Caller.{Caller}
 use Rattle.history_index.specs.declared.answers.Answers.{Answers}
+use Rattle.history_index.specs.declared.made.Made as made
 use Rattle.history_index.specs.Numbers.{numbers_from, call_numbers, is_among, names_lock, IsIndexable}
-use Rattle.history_index.specs.Kept.{has_kind, with_call, caller_after, with_opening, answers_after, AreAnswers, AreCalls}
+use Rattle.ledger_core.specs.Facts.{is_call}
+use Rattle.history_index.specs.Made.{made_from, made_in, made_after}
+use Rattle.history_index.specs.Kept.{has_kind, with_call, numbers_after, kinds_after, with_opening, answers_after, AreAnswers, AreCalls}
 
 or-false : (b : Bool) → (b || false) ≡ b
 or-false true = refl
@@ -39,7 +44,7 @@ or-true : (b : Bool) → (b || true) ≡ true
 or-true true = refl
 or-true false = refl
 
-or_else-none : {B : Type 0} (o : Option B) → or_else o None ≡ o
+pub or_else-none : {B : Type 0} (o : Option B) → or_else o None ≡ o
 or_else-none None = refl
 or_else-none (Some x) = refl
 
@@ -67,15 +72,6 @@ pub call_numbers_push : (p : ℕ) (h : List Entry) (e : Entry) → call_numbers 
 call_numbers_push p h e =
     let k : 0 + length h ≡ length h = omega arith in
     numbers_push 0 p h e ∙ ap (λ m. call_numbers p h ++ number_where (sent_by p e.sender) m) k
-
--- a party with one more number has room for it
-pub has_room : (p : ℕ) (h : List Entry) (e : Entry) (numbers : List ℕ) → numbers ≡ call_numbers p h → length (call_numbers p (h ++ e ∷ [])) ≤ 32 → IsTrue (sent_by p e.sender) → length numbers < 32
-has_room p h e numbers en few sent =
-    let k : call_numbers p (h ++ e ∷ []) ≡ call_numbers p h ++ length h ∷ [] = call_numbers_push p h e ∙ ap (λ b. call_numbers p h ++ number_where b (length h)) sent in
-    let m : length (call_numbers p h ++ length h ∷ []) ≡ length (call_numbers p h) + 1 = length-append (call_numbers p h) (length h ∷ []) in
-    let o : length (call_numbers p (h ++ e ∷ [])) ≡ length (call_numbers p h ++ length h ∷ []) = ap length k in
-    let q : length numbers ≡ length (call_numbers p h) = ap length en in
-    omega arith
 
 -- The kinds of call.
 
@@ -113,19 +109,19 @@ places_set ks (Made calls.Refund) = refl
 places_set ks (Made (calls.Transfer to units)) = refl
 places_set ks (Tick m) = refl
 
-pub calls_push : (h : List Entry) (e : Entry) (c : Caller) → IsTrue (names_lock e.what) → AreCalls h c → AreCalls (h ++ e ∷ []) (caller_after (length h) e c)
-calls_push h e c l a = go (sent_by c.party e.sender) refl
+pub calls_push : (p : ℕ) (h : List Entry) (e : Entry) (ns : List ℕ) (ks : Kinds) → IsTrue (names_lock e.what) → AreCalls p h ns ks → AreCalls p (h ++ e ∷ []) (numbers_after (length h) p e ns) (kinds_after p e ks)
+calls_push p h e ns ks l a = go (sent_by p e.sender) refl
   where
-    go : (b : Bool) → sent_by c.party e.sender ≡ b → AreCalls (h ++ e ∷ []) (cond b (record { party = c.party; numbers = c.numbers ++ length h ∷ []; kinds = with_call c.kinds e.what }) c)
+    go : (b : Bool) → sent_by p e.sender ≡ b → AreCalls p (h ++ e ∷ []) (cond b (ns ++ length h ∷ []) ns) (cond b (with_call ks e.what) ks)
     go true s = record {
-      numbers = ap (λ ns. ns ++ length h ∷ []) a.numbers ∙ sym (call_numbers_push c.party h e ∙ ap (λ b. call_numbers c.party h ++ number_where b (length h)) s);
-      places = places_set c.kinds e.what ∙ a.places;
-      kinds = λ k. kind_set c.kinds e.what k a.places l ∙ (ap (λ b. b || is_of_kind k e.what) (a.kinds k) ∙ sym (has_call_push c.party k h e ∙ ap (λ b. has_call c.party k h || cond b (is_of_kind k e.what) false) s));
+      numbers = ap (λ xs. xs ++ length h ∷ []) a.numbers ∙ sym (call_numbers_push p h e ∙ ap (λ b. call_numbers p h ++ number_where b (length h)) s);
+      places = places_set ks e.what ∙ a.places;
+      kinds = λ k. kind_set ks e.what k a.places l ∙ (ap (λ b. b || is_of_kind k e.what) (a.kinds k) ∙ sym (has_call_push p k h e ∙ ap (λ b. has_call p k h || cond b (is_of_kind k e.what) false) s));
     }
     go false s = record {
-      numbers = a.numbers ∙ sym (call_numbers_push c.party h e ∙ (ap (λ b. call_numbers c.party h ++ number_where b (length h)) s ∙ append-nil (call_numbers c.party h)));
+      numbers = a.numbers ∙ sym (call_numbers_push p h e ∙ (ap (λ b. call_numbers p h ++ number_where b (length h)) s ∙ append-nil (call_numbers p h)));
       places = a.places;
-      kinds = λ k. a.kinds k ∙ sym (has_call_push c.party k h e ∙ (ap (λ b. has_call c.party k h || cond b (is_of_kind k e.what) false) s ∙ or-false (has_call c.party k h)));
+      kinds = λ k. a.kinds k ∙ sym (has_call_push p k h e ∙ (ap (λ b. has_call p k h || cond b (is_of_kind k e.what) false) s ∙ or-false (has_call p k h)));
     }
 
 -- The answers.
@@ -165,6 +161,7 @@ pub answers_push : (t : Terms) (h : List Entry) (e : Entry) (a : Answers) → Is
 answers_push t h e a l k = record {
   height = ap (λ n. n + ticks_in e.what) k.height ∙ sym (height-push h e);
   published = ap (λ o. or_else o (option_map (shown_as t) (publication e.height (accepted e)))) k.published ∙ sym (ap (option_map (shown_as t)) (first_push (λ x. publication x.height (accepted x)) h e) ∙ map_or_else (shown_as t) _ _);
+  number = ap (λ o. or_else o (cond (is_some (publication e.height (accepted e))) (Some (length h)) None)) k.number ∙ sym (position_push (λ x. is_some (publication x.height (accepted x))) h e);
   places = places_opening a.unlocked (length h) (accepted e) ∙ k.places;
   unlocked = λ i.
       opening_set a.unlocked (length h) i e.height (accepted e) (λ key s. let lt = accepted_lock e.what e.reply key l s in let places = k.places in omega arith)
@@ -173,48 +170,131 @@ answers_push t h e a l k = record {
   settled = ap (λ o. or_else o (settling (accepted e))) k.settled ∙ sym (first_push (λ x. settling (accepted x)) h e);
 }
 
--- A party that sent nothing made no call.
+-- The calls.
 
-not_sent : (from to p : ℕ) (s : Sender) → is_among from to s ≡ true → (p ≡ from → ⊥) → (p ≡ to → ⊥) → sent_by p s ≡ false
-not_sent from to p (Party q) h nf nt = go (q == p) (q == from) (q == to) refl refl refl h
+call_front : (b : Bool) (m : made.Made) (xs ys zs : List made.Made) → xs ≡ ys ++ zs → cond b (m ∷ xs) xs ≡ cond b (m ∷ ys) ys ++ zs
+call_front true m xs ys zs e = ap (λ l. m ∷ l) e
+call_front false m xs ys zs e = e
+
+made_last : ℕ → Entry → List made.Made
+made_last n e = cond (is_call e.what) (record { number = n; entry = e } ∷ []) []
+
+made_push : (n : ℕ) (h : List Entry) (e : Entry) → made_from n (h ++ e ∷ []) ≡ made_from n h ++ made_last (n + length h) e
+unfolding made_last
+made_push n [] e = ap (λ k. made_last k e) (omega arith)
+made_push n (x ∷ h) e =
+    let rest = made_push (n + 1) h e in
+    let k : n + 1 + length h ≡ n + length (x ∷ h) = omega arith in
+    call_front (is_call x.what) (record { number = n; entry = x }) _ _ _ (rest ∙ ap (λ m. made_from (n + 1) h ++ made_last m e) k)
+
+last_or_not : {A : Type 0} (b : Bool) (xs ys : List A) → cond b (xs ++ ys) xs ≡ xs ++ cond b ys []
+last_or_not true xs ys = refl
+last_or_not false xs ys = sym (append-nil xs)
+
+pub made_in_push : (h : List Entry) (e : Entry) → made_after (length h) e (made_in h) ≡ made_in (h ++ e ∷ [])
+unfolding made_last
+made_in_push h e =
+    let k : length h ≡ 0 + length h = omega arith in
+    last_or_not (is_call e.what) (made_in h) (record { number = length h; entry = e } ∷ []) ∙ ap (λ n. made_in h ++ made_last n e) k ∙ sym (made_push 0 h e)
+
+-- Who sent what.
+
+sent_of_two : (from to : ℕ) (s : Sender) (w : What) → is_among from to s w ≡ true → is_call w ≡ true → (sent_by from s || sent_by to s) ≡ true
+sent_of_two from to (Party p) (Made c) a k = a
+sent_of_two from to (Party p) (Tick n) a k = absurd (false≢true a)
+sent_of_two from to Clock (Made c) a k = absurd (false≢true a)
+sent_of_two from to Clock (Tick n) a k = absurd (false≢true k)
+
+sent_call : (from to p : ℕ) (s : Sender) (w : What) → is_among from to s w ≡ true → sent_by p s ≡ true → is_call w ≡ true
+sent_call from to p (Party q) (Made c) a k = refl
+sent_call from to p (Party q) (Tick n) a k = absurd (false≢true a)
+sent_call from to p Clock w a k = absurd (false≢true k)
+
+few_more : (c f t : Bool) (m : made.Made) (n : ℕ) (ms : List made.Made) (xs ys : List ℕ) → (c ≡ true → (f || t) ≡ true) → length ms ≤ length xs + length ys → length (cond c (m ∷ ms) ms) ≤ length (cond f (n ∷ xs) xs) + length (cond t (n ∷ ys) ys)
+few_more true true true m n ms xs ys h l = omega arith
+few_more true true false m n ms xs ys h l = omega arith
+few_more true false true m n ms xs ys h l = omega arith
+few_more true false false m n ms xs ys h l = absurd (false≢true (h refl))
+few_more false true true m n ms xs ys h l = omega arith
+few_more false true false m n ms xs ys h l = omega arith
+few_more false false true m n ms xs ys h l = omega arith
+few_more false false false m n ms xs ys h l = l
+
+made_few : (from to n : ℕ) (h : List Entry) → IsTrue (list_all (λ e. is_among from to e.sender e.what) h) → length (made_from n h) ≤ length (numbers_from n from h) + length (numbers_from n to h)
+made_few from to n [] a = omega arith
+made_few from to n (e ∷ h) a =
+    let parts = and_parts (is_among from to e.sender e.what) (list_all (λ x. is_among from to x.sender x.what) h) a in
+    few_more (is_call e.what) (sent_by from e.sender) (sent_by to e.sender) (record { number = n; entry = e }) n _ _ _ (sent_of_two from to e.sender e.what parts.0) (made_few from to (n + 1) h parts.1)
+
+-- there are at most 64 calls
+pub few_made : (from to : ℕ) (h : List Entry) (ms : List made.Made) → IsIndexable from to h → ms ≡ made_in h → length ms ≤ 64
+few_made from to h ms i e =
+    let n : length ms ≡ length (made_in h) = ap length e in
+    let few = made_few from to 0 h i.senders in
+    let from_few = i.from_few in
+    let to_few = i.to_few in
+    omega arith
+
+not_sent : (from to p : ℕ) (s : Sender) (w : What) → is_among from to s w ≡ true → (p ≡ from → ⊥) → (p ≡ to → ⊥) → sent_by p s ≡ false
+not_sent from to p (Party q) (Made c) h nf nt = go (q == p) (q == from) (q == to) refl refl refl h
   where
     go : (b x y : Bool) → (q == p) ≡ b → (q == from) ≡ x → (q == to) ≡ y → (x || y) ≡ true → (q == p) ≡ false
     go false x y e k m o = e
     go true true y e k m o = absurd (nf (sym (eqb-true q p e) ∙ eqb-true q from k))
     go true false y e k m o = absurd (nt (sym (eqb-true q p e) ∙ eqb-true q to (m ∙ o)))
-not_sent from to p Clock h nf nt = refl
+not_sent from to p (Party q) (Tick k) h nf nt = absurd (false≢true h)
+not_sent from to p Clock w h nf nt = refl
 
-pub nothing_called : (from to p : ℕ) (k : CallKind) (h : List Entry) → IsTrue (list_all (λ e. is_among from to e.sender) h) → (p ≡ from → ⊥) → (p ≡ to → ⊥) → has_call p k h ≡ false
+-- a party that sent nothing made no call
+pub nothing_called : (from to p : ℕ) (k : CallKind) (h : List Entry) → IsTrue (list_all (λ e. is_among from to e.sender e.what) h) → (p ≡ from → ⊥) → (p ≡ to → ⊥) → has_call p k h ≡ false
 nothing_called from to p k [] a nf nt = refl
 nothing_called from to p k (e ∷ h) a nf nt =
-    let parts = and_parts (is_among from to e.sender) (list_all (λ x. is_among from to x.sender) h) a in
-    ap (λ b. cond b (is_of_kind k e.what) false || has_call p k h) (not_sent from to p e.sender parts.0 nf nt) ∙ nothing_called from to p k h parts.1 nf nt
+    let parts = and_parts (is_among from to e.sender e.what) (list_all (λ x. is_among from to x.sender x.what) h) a in
+    ap (λ b. cond b (is_of_kind k e.what) false || has_call p k h) (not_sent from to p e.sender e.what parts.0 nf nt) ∙ nothing_called from to p k h parts.1 nf nt
 
--- What is kept after a push: the entries xs are h and e, which has number n, and a' and c' are what was kept, with e.
+-- Room.
 
-pub last_lock : (h : List Entry) (e : Entry) → IsTrue (list_all (λ x. names_lock x.what) (h ++ e ∷ [])) → IsTrue (names_lock e.what)
-last_lock h e a =
-    let both = and_parts (list_all (λ x. names_lock x.what) h) (names_lock e.what && true) (sym (list_all-append (λ x. names_lock x.what) h (e ∷ [])) ∙ a) in
-    (and_parts (names_lock e.what) true both.1).0
+last_passes : (f : Entry → Bool) (h : List Entry) (e : Entry) → IsTrue (list_all f (h ++ e ∷ [])) → IsTrue (f e)
+last_passes f h e a =
+    let both = and_parts (list_all f h) (f e && true) (sym (list_all-append f h (e ∷ [])) ∙ a) in
+    (and_parts (f e) true both.1).0
+
+pub last_lock : (from to : ℕ) (h : List Entry) (e : Entry) → IsIndexable from to (h ++ e ∷ []) → IsTrue (names_lock e.what)
+last_lock from to h e i = last_passes (λ x. names_lock x.what) h e i.locks
+
+pub last_sent : (from to p : ℕ) (h : List Entry) (e : Entry) → IsIndexable from to (h ++ e ∷ []) → sent_by p e.sender ≡ true → is_call e.what ≡ true
+last_sent from to p h e i = sent_call from to p e.sender e.what (last_passes (λ x. is_among from to x.sender x.what) h e i.senders)
+
+-- so many further elements have room after one more, where s, which takes one of the places only where b
+pub room_kept : {A : Type 0} (b s : Bool) (x : A) (xs xs' : List A) (room room' cap cap' : ℕ) → xs' ≡ cond s (xs ++ x ∷ []) xs → (s ≡ true → b ≡ true) → (IsTrue b → 0 < room) → room' ≡ room - cond b 1 0 → length xs + room ≤ cap → cap ≤ cap' → length xs' + room' ≤ cap'
+room_kept true true x xs xs' room room' cap cap' e h r k l m =
+    let n : length xs' ≡ length xs + 1 = ap length e ∙ length-append xs (x ∷ []) in
+    let some = r refl in
+    omega arith
+room_kept true false x xs xs' room room' cap cap' e h r k l m = let n : length xs' ≡ length xs = ap length e in omega arith
+room_kept false true x xs xs' room room' cap cap' e h r k l m = absurd (false≢true (h refl))
+room_kept false false x xs xs' room room' cap cap' e h r k l m = let n : length xs' ≡ length xs = ap length e in omega arith
+
+-- What is kept after a push: the entries xs are h and e, which has number n, and what is marked is what was kept, with e.
+
+pub expand_push : (items : List Item) (x : Item) → expand (items ++ x ∷ []) ≡ expand items ++ entries_of x
+expand_push items x = flat_map-append entries_of items (x ∷ []) ∙ ap (λ l. expand items ++ l) (append-nil (entries_of x))
 
 pub answers_kept : (t : Terms) (h xs : List Entry) (e : Entry) (n : ℕ) (a a' : Answers) → xs ≡ h ++ e ∷ [] → n ≡ length h → a' ≡ answers_after t n e a → IsTrue (names_lock e.what) → AreAnswers t h a → AreAnswers t xs a'
 answers_kept t h xs e n a a' ex en ea l k =
     subst (λ ys. AreAnswers t ys a') (sym ex) (subst (AreAnswers t (h ++ e ∷ [])) (sym (ea ∙ ap (λ m. answers_after t m e a) en)) (answers_push t h e a l k))
 
-pub calls_kept : (h xs : List Entry) (e : Entry) (n : ℕ) (c c' : Caller) → xs ≡ h ++ e ∷ [] → n ≡ length h → c' ≡ caller_after n e c → IsTrue (names_lock e.what) → AreCalls h c → AreCalls xs c'
-calls_kept h xs e n c c' ex en ec l k =
-    subst (λ ys. AreCalls ys c') (sym ex) (subst (AreCalls (h ++ e ∷ [])) (sym (ec ∙ ap (λ m. caller_after m e c) en)) (calls_push h e c l k))
+pub calls_kept : (p p' : ℕ) (h xs : List Entry) (e : Entry) (n : ℕ) (ns ns' : List ℕ) (ks ks' : Kinds) → p' ≡ p → xs ≡ h ++ e ∷ [] → n ≡ length h → ns' ≡ numbers_after n p e ns → ks' ≡ kinds_after p e ks → IsTrue (names_lock e.what) → AreCalls p h ns ks → AreCalls p' xs ns' ks'
+calls_kept p p' h xs e n ns ns' ks ks' ep ex en ens eks l k =
+    subst (λ q. AreCalls q xs ns' ks') (sym ep)
+    (subst (λ ys. AreCalls p ys ns' ks') (sym ex)
+    (subst (λ ms. AreCalls p (h ++ e ∷ []) ms ks') (sym (ens ∙ ap (λ m. numbers_after m p e ns) en))
+    (subst (λ ms. AreCalls p (h ++ e ∷ []) (numbers_after (length h) p e ns) ms) (sym eks) (calls_push p h e ns ks l k))))
 
-same_party : (n : ℕ) (e : Entry) (c : Caller) → (caller_after n e c).party ≡ c.party
-same_party n e c = go (sent_by c.party e.sender)
-  where
-    go : (b : Bool) → (cond b (record { party = c.party; numbers = c.numbers ++ n ∷ []; kinds = with_call c.kinds e.what }) c).party ≡ c.party
-    go true = refl
-    go false = refl
+pub made_kept : (h xs : List Entry) (e : Entry) (n : ℕ) (ms ms' : List made.Made) → xs ≡ h ++ e ∷ [] → n ≡ length h → ms' ≡ made_after n e ms → ms ≡ made_in h → ms' ≡ made_in xs
+made_kept h xs e n ms ms' ex en em k =
+    em ∙ (ap (λ m. made_after m e ms) en ∙ (ap (λ l. made_after (length h) e l) k ∙ (made_in_push h e ∙ ap made_in (sym ex))))
 
-pub party_kept : (n : ℕ) (e : Entry) (c c' : Caller) → c' ≡ caller_after n e c → c'.party ≡ c.party
-party_kept n e c c' ec = ap (λ x. x.party) ec ∙ same_party n e c
-
-pub indexable_kept : (from to from' to' : ℕ) (h xs : List Entry) (e : Entry) → from' ≡ from → to' ≡ to → xs ≡ h ++ e ∷ [] → IsIndexable from to (h ++ e ∷ []) → IsIndexable from' to' xs
-indexable_kept from to from' to' h xs e ef et ex k =
+pub indexable_kept : (from to from' to' : ℕ) (h xs : List Entry) → from' ≡ from → to' ≡ to → xs ≡ h → IsIndexable from to h → IsIndexable from' to' xs
+indexable_kept from to from' to' h xs ef et ex k =
     subst (λ p. IsIndexable p to' xs) (sym ef) (subst (λ p. IsIndexable from p xs) (sym et) (subst (IsIndexable from to) (sym ex) k))

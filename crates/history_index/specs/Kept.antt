@@ -1,5 +1,5 @@
 -- What an index keeps beside its entries, and what one more entry makes of it.
-use Rattle.std.specs.Prelude.{◌≡◌, ◌+◌, ℕ, Bool, true, false, List, [], ◌∷◌, ◌++◌, Option, Some, None, length, option_map, replicate, slice_index_or, slice_set, if◌then◌else◌}
+use Rattle.std.specs.Prelude.{◌≡◌, ◌+◌, ℕ, Bool, true, false, List, [], ◌∷◌, ◌++◌, Option, Some, None, is_some, length, option_map, replicate, slice_index_or, slice_set, if◌then◌else◌}
 use Rattle.swap_base.specs.Lists.{or_else}
 use Rattle.escrow_core.specs.declared.terms.Terms.{Terms}
 use Rattle.ledger_core.specs.declared.entry.Call.{Call}
@@ -11,9 +11,8 @@ use Rattle.ledger_core.specs.declared.facts.CallKind.{CallKind}
 use Rattle.ledger_core.specs.declared.facts.CallKind.TheVariants.{Publish, Unlock, Claim, Refund}
 use Rattle.ledger_core.specs.History.{ticks_in, accepted, publication, settling, sent_by, height, settled}
 use Rattle.ledger_core.specs.Facts.{shown_as, published_as, opened_number, has_call}
-use Rattle.history_index.specs.Numbers.{call_numbers}
+use Rattle.history_index.specs.Numbers.{call_numbers, published_number}
 use Rattle.history_index.specs.declared.kinds.Kinds.{Kinds}
-use Rattle.history_index.specs.declared.caller.Caller.{Caller}
 use Rattle.history_index.specs.declared.answers.Answers.{Answers}
 
 -- no call yet
@@ -35,17 +34,17 @@ with_call k (Made calls.Claim) = record k { claim = true }
 with_call k (Made calls.Refund) = record k { refund = true }
 with_call k _ = k
 
--- a party without entries
-abbrev pub new_caller : ℕ → Caller
-new_caller p = record { party = p; numbers = []; kinds = no_kinds }
+-- the numbers of p's entries after an entry with number n
+abbrev pub numbers_after : (n p : ℕ) → Entry → List ℕ → List ℕ
+numbers_after n p e ns = if sent_by p e.sender then ns ++ n ∷ [] else ns
 
--- after an entry with number n
-abbrev pub caller_after : ℕ → Entry → Caller → Caller
-caller_after n e c = if sent_by c.party e.sender then record { party = c.party; numbers = c.numbers ++ n ∷ []; kinds = with_call c.kinds e.what } else c
+-- the kinds of p's calls after an entry
+abbrev pub kinds_after : ℕ → Entry → Kinds → Kinds
+kinds_after p e ks = if sent_by p e.sender then with_call ks e.what else ks
 
 -- over no entries
 abbrev pub no_answers : Answers
-no_answers = record { height = 0; published = None; unlocked = replicate 8 None; settled = None }
+no_answers = record { height = 0; published = None; published_number = None; unlocked = replicate 8 None; settled = None }
 
 -- with the number of an accepted unlock, where it is the first of its lock
 abbrev pub with_opening : List (Option ℕ) → ℕ → Option Call → List (Option ℕ)
@@ -57,6 +56,7 @@ abbrev pub answers_after : Terms → ℕ → Entry → Answers → Answers
 answers_after t n e a = record {
   height = a.height + ticks_in e.what;
   published = or_else a.published (option_map (shown_as t) (publication e.height (accepted e)));
+  published_number = or_else a.published_number (if is_some (publication e.height (accepted e)) then Some n else None);
   unlocked = with_opening a.unlocked n (accepted e);
   settled = or_else a.settled (settling (accepted e));
 }
@@ -65,12 +65,13 @@ answers_after t n e a = record {
 pub record AreAnswers (t : Terms) (h : List Entry) (a : Answers) : Type 0 where
   pub height : a.height ≡ height h
   pub published : a.published ≡ published_as t h
+  pub number : a.published_number ≡ published_number h
   pub places : length a.unlocked ≡ 8
   pub unlocked : (i : ℕ) → slice_index_or a.unlocked i None ≡ opened_number h i
   pub settled : a.settled ≡ settled h
 
--- The numbers and kinds are those of the party's entries.
-pub record AreCalls (h : List Entry) (c : Caller) : Type 0 where
-  pub numbers : c.numbers ≡ call_numbers c.party h
-  pub places : length c.kinds.unlock ≡ 8
-  pub kinds : (k : CallKind) → has_kind c.kinds k ≡ has_call c.party k h
+-- The numbers and kinds are those of p's entries.
+pub record AreCalls (p : ℕ) (h : List Entry) (ns : List ℕ) (ks : Kinds) : Type 0 where
+  pub numbers : ns ≡ call_numbers p h
+  pub places : length ks.unlock ≡ 8
+  pub kinds : (k : CallKind) → has_kind ks k ≡ has_call p k h

@@ -1,13 +1,13 @@
 -- The numbers of a party's entries, and the lists that an index takes.
-use Rattle.std.specs.Prelude.{◌==◌, ◌||◌, ◌≤◌, ◌+◌, ℕ, Bool, true, nat_lt, IsTrue, List, [], ◌∷◌, length, if◌then◌else◌}
+use Rattle.std.specs.Prelude.{◌==◌, ◌||◌, ◌≤◌, ◌+◌, ℕ, Bool, true, false, nat_lt, IsTrue, List, [], ◌∷◌, length, Option, Some, None, is_some, position, if◌then◌else◌}
 use Rattle.std.specs.List.{list_all}
 use Rattle.ledger_core.specs.declared.entry.Call.TheVariants.{Unlock}
 use Rattle.ledger_core.specs.declared.entry.Sender.{Sender}
 use Rattle.ledger_core.specs.declared.entry.Sender.TheVariants.{Party, Clock}
 use Rattle.ledger_core.specs.declared.entry.What.{What}
-use Rattle.ledger_core.specs.declared.entry.What.TheVariants.{Call as Made}
+use Rattle.ledger_core.specs.declared.entry.What.TheVariants.{Call as Made, Tick}
 use Rattle.ledger_core.specs.declared.entry.Entry.{Entry}
-use Rattle.ledger_core.specs.History.{sent_by}
+use Rattle.ledger_core.specs.History.{sent_by, publication, accepted}
 use Rattle.ledger_core.specs.Value.{IsCountable}
 
 -- the numbers, counted from n, of the entries that p sent
@@ -19,10 +19,21 @@ numbers_from n p (e ∷ h) = if sent_by p e.sender then n ∷ numbers_from (n + 
 abbrev pub call_numbers : ℕ → List Entry → List ℕ
 call_numbers p h = numbers_from 0 p h
 
--- the clock, or one of the two parties
-abbrev pub is_among : (from to : ℕ) → Sender → Bool
-is_among from to (Party p) = (p == from) || (p == to)
-is_among from to Clock = true
+-- the number of the accepted publish
+abbrev pub published_number : List Entry → Option ℕ
+published_number h = position (λ e. is_some (publication e.height (accepted e))) h
+
+-- whether there is a number, and it is below n
+abbrev pub is_before : Option ℕ → ℕ → Bool
+is_before None n = false
+is_before (Some k) n = nat_lt k n
+
+-- a call is of one of the two parties, and a tick of the clock
+abbrev pub is_among : (from to : ℕ) → Sender → What → Bool
+is_among from to (Party p) (Made c) = (p == from) || (p == to)
+is_among from to Clock (Tick k) = true
+is_among from to (Party p) (Tick k) = false
+is_among from to Clock (Made c) = false
 
 -- an unlock is of one of at most eight locks
 abbrev pub names_lock : What → Bool
@@ -32,7 +43,7 @@ names_lock _ = true
 -- Entries that an index of an arc between these two parties takes, as those of every legal history of the arc.
 pub record IsIndexable (from to : ℕ) (h : List Entry) : Type 0 where
   pub countable : IsCountable h
-  pub senders : IsTrue (list_all (λ e. is_among from to e.sender) h)
+  pub senders : IsTrue (list_all (λ e. is_among from to e.sender e.what) h)
   pub locks : IsTrue (list_all (λ e. names_lock e.what) h)
   pub from_few : length (call_numbers from h) ≤ 32
   pub to_few : length (call_numbers to h) ≤ 32

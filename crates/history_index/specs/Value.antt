@@ -14,7 +14,7 @@ pub record IndexState : Type 0 where
   -- the arc's correct terms
   pub terms : Terms
   pub entries : List Entry
-  -- how many further entries have room already
+  -- how many further calls have room
   pub spare : ℕ
 
 -- the index of arc a without entries

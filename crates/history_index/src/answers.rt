@@ -1,6 +1,6 @@
 //! The answers over a list of entries, and what one more entry makes of them.
 
-ghost use Rattle.std.specs.Prelude.{◌≡◌, ◌+◌, ◌<◌, ◌^◌, IsTrue, length, option_map};
+ghost use Rattle.std.specs.Prelude.{◌≡◌, ◌+◌, ◌<◌, ◌^◌, IsTrue, length, is_some, option_map, if◌then◌else◌};
 ghost use Rattle.escrow_core.specs.declared.terms.Terms.{Terms};
 ghost use Rattle.ledger_core.specs.History.{ticks_in, accepted, publication, settling};
 ghost use Rattle.ledger_core.specs.Facts.{shown_as};
@@ -15,6 +15,8 @@ use ledger_core::{Call, Entry, Published, Settlement, What};
 pub(crate) struct Answers {
     pub height: u32,
     pub published: Option<Published>,
+    /// The number of the entry of the accepted publish.
+    pub published_number: Option<u32>,
     /// The number of the entry of each lock's accepted unlock.
     pub unlocked: [Option<u32>; 8],
     pub settled: Option<Settlement>,
@@ -37,6 +39,16 @@ fn publication_of(terms: &Terms, e: &Entry) -> Option<Published>
             height: e.height,
             correct: stated.same(terms),
         }),
+        _ => None,
+    }
+}
+
+/// The entry's number, where it is an accepted publish.
+fn publication_number(number: u32, e: &Entry) -> Option<u32>
+    ensures { result ≡ (if is_some (publication e.now.height (accepted e.now)) then Some number else None) }
+{
+    match (&e.what, e.reply) {
+        (What::Call(Call::Publish(_)), Reply::Accepted) => Some(number),
         _ => None,
     }
 }
@@ -70,6 +82,7 @@ impl Answers {
         Answers {
             height: 0,
             published: None,
+            published_number: None,
             unlocked: [None; 8],
             settled: None,
         }
@@ -84,6 +97,7 @@ impl Answers {
     {
         self.height += ticks_of(entry);
         self.published = self.published.or(publication_of(terms, entry));
+        self.published_number = self.published_number.or(publication_number(number, entry));
         add_opening(&mut self.unlocked, number, entry);
         self.settled = self.settled.or(settlement_of(entry));
     }

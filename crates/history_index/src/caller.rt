@@ -1,50 +1,54 @@
 //! One of the arc's two parties.
 
-ghost use Rattle.std.specs.Prelude.{◌≡◌, ◌<◌, IsTrue, IfOk, length};
+ghost use Rattle.std.specs.Prelude.{◌≡◌, ◌<◌, ◌≤◌, ◌+◌, [], IsTrue, length, vec_capacity};
 ghost use Rattle.ledger_core.specs.History.{sent_by};
 ghost use Rattle.history_index.specs.Numbers.{names_lock};
-ghost use Rattle.history_index.specs.Kept.{caller_after, new_caller};
+ghost use Rattle.history_index.specs.Kept.{no_kinds, numbers_after, kinds_after};
 
 use crate::kinds::Kinds;
-use crate::numbers::NumberList;
 use ledger_core::{Entry, Sender};
 use std::alloc::Global;
-use swap_base::{NoMemory, PartyId};
+use swap_base::PartyId;
 
 /// A party with the numbers of its entries, and the kinds of call among them.
 #[derive(Debug, Drop)]
 pub(crate) struct Caller {
     pub party: PartyId,
-    pub numbers: NumberList,
+    pub numbers: Vec<u32>,
     pub kinds: Kinds,
 }
 
 impl Caller {
-    pub fn new(alloc: Global, party: PartyId) -> Result<Caller, NoMemory>
-        ensures { IfOk result (λ c. c ≡ new_caller party) }
+    /// A party without entries.
+    pub fn new(alloc: Global, party: PartyId) -> Caller
+        ensures party { result.party ≡ party }
+        ensures numbers { result.numbers.items ≡ [] }
+        ensures kinds { result.kinds ≡ no_kinds }
     {
-        Ok(Caller {
+        Caller {
             party,
-            numbers: NumberList::new(alloc)?,
+            numbers: Vec::new(alloc),
             kinds: Kinds::new(),
-        })
+        }
     }
 
-    /// Takes in an entry with its number, where the party sent it.
+    /// Takes in an entry with its number, where the party sent it. It takes no memory.
     pub fn add(&mut self, number: u32, entry: &Entry)
         requires places { length self.old.kinds.unlock ≡ 8 }
-        requires room { IsTrue (sent_by self.old.party entry.now.sender) → length self.old.numbers < 32 }
+        requires room { IsTrue (sent_by self.old.party entry.now.sender) → length self.old.numbers.items < vec_capacity self.old.numbers }
         requires lock { IsTrue (names_lock entry.now.what) }
-        ensures { self.new ≡ caller_after number entry.now self.old }
+        ensures party { self.new.party ≡ self.old.party }
+        ensures numbers { self.new.numbers.items ≡ numbers_after number self.old.party entry.now self.old.numbers.items }
+        ensures kinds { self.new.kinds ≡ kinds_after self.old.party entry.now self.old.kinds }
+        ensures capacity { vec_capacity self.old.numbers ≤ vec_capacity self.new.numbers }
     {
-        match entry.sender {
-            Sender::Party(sender) => {
-                if sender == self.party {
-                    self.numbers.push(number);
-                    self.kinds.add(&entry.what);
-                }
-            }
-            Sender::Clock => {}
+        if entry.sender != Sender::Party(self.party) {
+            return;
         }
+        match self.numbers.push(number) {
+            Ok(()) => {}
+            Err(_) => unreachable!(),
+        }
+        self.kinds.add(&entry.what);
     }
 }

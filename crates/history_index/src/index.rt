@@ -1,34 +1,45 @@
 //! A list of entries with the answers over it.
 
-ghost use Rattle.std.specs.Prelude.{◌≡◌, ◌==◌, ◌||◌, ◌<◌, ◌≤◌, ◌+◌, ◌++◌, ◌∷◌, [], ℕ, List, length, slice_index, IsTrue, OnOk, OnErr, IsOk, IfOk};
+ghost use Rattle.std.specs.Prelude.{◌≡◌, ◌==◌, ◌||◌, ◌<◌, ◌≤◌, ◌+◌, ◌++◌, ◌∷◌, [], ℕ, List, length, slice_index, option_map, false, IsTrue, OnOk, OnErr, IsOk, IfOk};
 ghost use Rattle.swap_digraph.specs.Deal.{IsWellSized};
 ghost use Rattle.escrow_core.specs.declared.terms.Terms.{Terms};
 ghost use Rattle.ledger_core.specs.declared.entry.Entry.{Entry};
+ghost use Rattle.ledger_core.specs.declared.runs.Item.TheVariants.{One};
+ghost use Rattle.ledger_core.specs.History.{opened};
+ghost use Rattle.ledger_core.specs.Runs.{ticks_of, IsRightRun};
 ghost use Rattle.history_index.specs.Value.{new_index, IsSameArc};
-ghost use Rattle.history_index.specs.Numbers.{call_numbers, IsIndexable};
+ghost use Rattle.history_index.specs.Numbers.{call_numbers, published_number, IsIndexable};
+ghost use Rattle.ledger_core.specs.Facts.{is_call};
+ghost use Rattle.history_index.specs.Made.{made_in, opening_of};
 ghost use Rattle.history_index.specs.Kept.{AreCalls};
 
 use crate::answers::Answers;
 use crate::caller::Caller;
-use crate::numbers::NumberList;
+use crate::made::{Made, Opened, calls_in, keep, opened_in};
 use crate::steps::Steps;
 use escrow_core::{Terms, terms_of};
-use ledger_core::{CallKind, Entry, Facts, Published, Settlement};
+use hashkey_path::Hashkey;
+use ledger_core::{CallKind, Entry, Facts, Item, Published, Run, Settlement};
 use std::alloc::Global;
 use std::marker::Model;
 use std::sync::ledger::Ledger;
-use swap_base::{ArcId, LockId, NoMemory, PartyId};
+use swap_base::{ArcId, LockId, NoMemory, PartyId, Past};
 use swap_digraph::Deal;
 
-/// Entries of an arc's ledger, oldest first, with the answers over them.
+/// The calls of an arc's ledger, with the answers over all its entries, oldest first. Of ticks it keeps their number and their sum.
 #[derive(Debug, Drop)]
 pub struct Index {
     arc: ArcId,
     terms: Terms,
     from: Caller,
     to: Caller,
-    entries: Vec<Entry>,
+    /// What was pushed, which only clauses read.
+    past: Past<Item>,
+    count: u32,
     answers: Answers,
+    made: Vec<Made>,
+    /// How many further calls have room.
+    room: usize,
 }
 
 impl Model for Index {
@@ -44,7 +55,7 @@ impl Model for Index {
 }
 
 impl Index {
-    /// No entries yet, for that arc of the deal.
+    /// No entries yet, for that arc of the deal. It takes no memory.
     pub fn new(alloc: Global, deal: &Deal, arc: ArcId) -> Result<Index, NoMemory>
         requires sized { IsWellSized deal.now }
         requires arc { arc < length deal.now.graph.arcs }
@@ -54,14 +65,17 @@ impl Index {
         Ok(Index {
             arc,
             terms: terms_of(deal, arc),
-            from: Caller::new(alloc, ends.from)?,
-            to: Caller::new(alloc, ends.to)?,
-            entries: Vec::new(alloc),
+            from: Caller::new(alloc, ends.from),
+            to: Caller::new(alloc, ends.to),
+            past: Past::new(),
+            count: 0,
             answers: Answers::new(),
+            made: Vec::new(alloc),
+            room: 0,
         })
     }
 
-    /// Makes room for so many further entries. Want of memory leaves everything as it was.
+    /// Makes room for so many further calls. Want of memory leaves everything as it was.
     pub fn reserve(&mut self, more: usize) -> Result<(), NoMemory>
         ensures ok { OnOk result (more ≤ self.new.spare) }
         ensures room { more ≤ self.old.spare → IsOk result }
@@ -70,36 +84,82 @@ impl Index {
         ensures entries { self.new.entries ≡ self.old.entries }
         ensures spare { self.old.spare ≤ self.new.spare }
     {
-        self.entries.reserve(more)?;
+        if more <= self.room {
+            return Ok(());
+        }
+        self.made.reserve(more)?;
+        self.from.numbers.reserve(more)?;
+        self.to.numbers.reserve(more)?;
+        self.room = more;
         Ok(())
     }
 
-    /// Adds an entry, in one step. Want of memory leaves everything as it was, in none.
-    pub fn push<L: Ledger>(&mut self, entry: Entry, steps: &mut Steps<L>) -> Result<(), NoMemory>
+    /// Adds an entry, in one step. It takes no memory, and keeps the entry where it is a call.
+    pub fn push<L: Ledger>(&mut self, entry: Entry, steps: &mut Steps<L>)
         // Every legal history of the arc is indexable, and so is each prefix of one.
-        requires { IsIndexable self.old.from self.old.to (self.old.entries ++ entry ∷ []) }
-        ensures room { 0 < self.old.spare → IsOk result }
-        ensures ok { OnOk result (self.new.entries ≡ self.old.entries ++ entry ∷ []) }
-        ensures step { OnOk result (steps.new ≡ steps.old + 1) }
-        ensures err { OnErr result (self.new ≡ self.old) }
-        ensures no_step { OnErr result (steps.new ≡ steps.old) }
+        requires indexable { IsIndexable self.old.from self.old.to (self.old.entries ++ entry ∷ []) }
+        requires room { IsTrue (is_call entry.what) → 0 < self.old.spare }
+        ensures entries { self.new.entries ≡ self.old.entries ++ entry ∷ [] }
+        ensures step { steps.new ≡ steps.old + 1 }
         ensures arc { IsSameArc self.old self.new }
         ensures spare { self.old.spare ≤ self.new.spare + 1 }
+        ensures tick { is_call entry.what ≡ false → self.old.spare ≤ self.new.spare }
     {
-        self.entries.reserve(1)?;
-        let number = self.entries.len() as u32;
+        let number = self.count;
         self.answers.add(&self.terms, number, &entry);
         self.from.add(number, &entry);
         self.to.add(number, &entry);
+        self.count += 1;
+        self.room -= calls_in(&entry);
+        let (past, entry) = with_entry(&self.past, entry);
+        self.past = past;
+        keep(&mut self.made, number, entry);
         steps.count();
-        match self.entries.push(entry) {
-            Ok(()) => Ok(()),
-            Err(_) => unreachable!(),
+    }
+
+    /// Adds ticks, in one step each. It takes no memory, and as long for many as for one.
+    pub fn push_ticks<L: Ledger>(&mut self, run: Run, steps: &mut Steps<L>)
+        requires right { IsRightRun run }
+        requires indexable { IsIndexable self.old.from self.old.to (self.old.entries ++ ticks_of run) }
+        ensures entries { self.new.entries ≡ self.old.entries ++ ticks_of run }
+        ensures steps { steps.new ≡ steps.old + run.count }
+        ensures arc { IsSameArc self.old self.new }
+        ensures spare { self.old.spare ≤ self.new.spare }
+    {
+        self.answers.height += run.last - run.above;
+        self.count += run.count;
+        self.past = self.past.and(&Item::Ticks(run));
+        steps.count_many(run.count);
+    }
+
+    /// The calls, oldest first.
+    pub fn made(&self) -> &[Made]
+        ensures value { result.now ≡ made_in self.now.entries }
+        ensures few { length result.now ≤ 64 }
+    {
+        &self.made
+    }
+
+    /// The number of the entry of the accepted publish.
+    pub fn published_number(&self) -> Option<u32>
+        ensures { result ≡ published_number self.now.entries }
+    {
+        self.answers.published_number
+    }
+
+    /// The accepted unlock of the lock.
+    pub fn opened(&self, lock: LockId) -> Option<Opened<'_>>
+        requires { lock < length self.now.terms.locks }
+        ensures { option_map opening_of result ≡ opened self.now.entries lock }
+    {
+        if self.answers.unlocked[lock as usize].is_none() {
+            return None;
         }
+        opened_in(&self.made, lock)
     }
 
     /// The numbers of the entries that one of the arc's two parties sent, ascending.
-    pub fn calls(&self, by: PartyId) -> &NumberList
+    pub fn calls(&self, by: PartyId) -> &[u32]
         requires { IsTrue ((by == self.now.from) || (by == self.now.to)) }
         ensures value { result.now ≡ call_numbers by self.now.entries }
         ensures few { length result.now ≤ 32 }
@@ -111,8 +171,8 @@ impl Index {
     fn caller(&self, by: PartyId) -> &Caller
         requires { IsTrue ((by == self.now.from) || (by == self.now.to)) }
         ensures party { result.now.party ≡ by }
-        ensures calls { AreCalls self.now.entries result.now }
-        ensures few { length result.now.numbers ≤ 32 }
+        ensures calls { AreCalls by self.now.entries result.now.numbers.items result.now.kinds }
+        ensures few { length result.now.numbers.items ≤ 32 }
     {
         if by == self.from.party {
             &self.from
@@ -134,12 +194,24 @@ impl Index {
         &self.terms
     }
 
-    /// The entries, oldest first.
-    pub fn entries(&self) -> &[Entry]
-        ensures value { result.now ≡ self.now.entries }
-        ensures indexable { IsIndexable self.now.from self.now.to result.now }
+    /// How many entries there are.
+    pub fn count(&self) -> u32
+        ensures { result ≡ length self.now.entries }
     {
-        &self.entries
+        self.count
+    }
+}
+
+/// What was pushed with one more entry, and that entry again.
+fn with_entry(past: &Past<Item>, entry: Entry) -> (Past<Item>, Entry)
+    ensures past { result.0.items ≡ past.now.items ++ One entry ∷ [] }
+    ensures entry { result.1 ≡ entry }
+{
+    let item = Item::One(entry);
+    let past = past.and(&item);
+    match item {
+        Item::One(entry) => (past, entry),
+        Item::Ticks(_) => unreachable!(),
     }
 }
 
@@ -171,7 +243,10 @@ impl Facts for Index {
         self.caller(by).kinds.has(kind)
     }
 
-    fn entry(&self, number: u32) -> &Entry {
-        &self.entries[number as usize]
+    fn opened_key(&self, lock: LockId) -> Option<&Hashkey> {
+        match self.opened(lock) {
+            Some(found) => Some(found.key),
+            None => None,
+        }
     }
 }

@@ -1,17 +1,18 @@
 //! The answers over a list of entries, kept beside it entry by entry, so that none of them reads the list again.
 //!
-//! Read `specs/Numbers.antt` first: the lists that an index takes. What each answer is stands in `ledger_core`, at the trait `Facts`.
+//! Read `specs/Numbers.antt` first: the lists that an index takes; then `specs/Made.antt`: the calls that it keeps of them, and `proofs/Calls.antt`: what may be asked of these alone. What each answer is stands in `ledger_core`, at the trait `Facts`.
 #![tactic(auto)]
 
 mod answers;
 mod caller;
+mod extend;
 mod index;
 mod kinds;
-mod numbers;
+mod made;
 mod steps;
 
 pub use index::Index;
-pub use numbers::NumberList;
+pub use made::{Made, Opened};
 pub use steps::Steps;
 
 #[cfg(test)]

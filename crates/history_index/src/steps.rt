@@ -5,7 +5,7 @@ ghost use Rattle.std.specs.Prelude.{◌≡◌, ◌+◌};
 use std::marker::Model;
 use std::sync::ledger::{Blank, Book, Ledger, Share};
 
-/// How many entries were put into an index. It takes no bytes, and only `Index::push` raises it.
+/// How many entries were put into an index. It takes no bytes, and only `Index::push` and `Index::push_ticks` raise it.
 #[derive(Drop)]
 pub struct Steps<L: Ledger> {
     book: Book<L>,
@@ -38,6 +38,13 @@ impl<L: Ledger> Steps<L> {
     pub(crate) fn count(&mut self)
         ensures { self.new ≡ self.old + 1 }
     {
-        self.book.add(&mut self.share, 1);
+        self.count_many(1);
+    }
+
+    /// So many more steps.
+    pub(crate) fn count_many(&mut self, steps: u32)
+        ensures { self.new ≡ self.old + steps }
+    {
+        self.book.add(&mut self.share, steps as u64);
     }
 }

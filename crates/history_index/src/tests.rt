@@ -7,14 +7,14 @@ use super::*;
 use escrow_core::{LockList, Terms};
 use hashkey_path::Hashkey;
 use ledger_core::{
-    Call, CallKind, Entry, Facts, Ledger, Scan, Sender, Settlement, fits, is_adjacent,
+    Call, CallKind, Entry, Facts, Ledger, Run, Scan, Sender, Settlement, fits, is_adjacent,
 };
 use std::alloc::Global;
 use std::marker::Brand;
 use std::process::Abort;
 use std::sync::ledger::{Blank, Ledger as Counted};
 use std::test::Fail;
-use swap_base::{ArcId, Digest, Listed, LockId, PartyId, TryCopy};
+use swap_base::{ArcId, Digest, Listed, LockId, NoMemory, PartyId, Shared, TryCopy};
 use swap_digraph::{ArcEnds, Deal, Digraph, Mode, Version};
 
 /// SHA-256 of 32 bytes of 0, and of 32 bytes of 1.
@@ -92,36 +92,38 @@ fn small_deal(alloc: Global) -> Result<Deal, Fail>
     })
 }
 
-fn publish(amount: u64) -> Call {
-    Call::Publish(Terms {
+fn publish(alloc: Global, amount: u64) -> Result<Call, NoMemory> {
+    let terms = Terms {
         locks: LockList::from_slice(&HASHLOCKS),
         start: 10,
         delta: 10,
         bound: 2,
         timelock: 60,
         amount,
-    })
+    };
+    Ok(Call::Publish(Shared::new(alloc, terms)?))
 }
 
-fn unlock(alloc: Global, lock: LockId, secret: u8) -> Call {
-    Call::Unlock(Hashkey {
+fn unlock(alloc: Global, lock: LockId, secret: u8) -> Result<Call, NoMemory> {
+    let key = Hashkey {
         lock,
         secret: [secret; 32],
         path: Listed::empty(alloc),
         sigs: Listed::empty(alloc),
-    })
+    };
+    Ok(Call::Unlock(Shared::new(alloc, key)?))
 }
 
-fn some_call(alloc: Global, random: &mut Random) -> Call {
+fn some_call(alloc: Global, random: &mut Random) -> Result<Call, NoMemory> {
     match random.below(8) {
-        0 => publish(100),
-        1 => publish(99),
+        0 => publish(alloc, 100),
+        1 => publish(alloc, 99),
         2 => unlock(alloc, 0, 0),
         3 => unlock(alloc, 1, 1),
         4 => unlock(alloc, 1, 0),
-        5 => Call::Claim,
-        6 => Call::Refund,
-        _ => Call::Transfer(1, 1),
+        5 => Ok(Call::Claim),
+        6 => Ok(Call::Refund),
+        _ => Ok(Call::Transfer(1, 1)),
     }
 }
 
@@ -137,10 +139,10 @@ fn act(
         return Ok(());
     }
     let by = random.below(2) as PartyId;
-    let call = some_call(alloc, random);
+    let call = some_call(alloc, random)?;
     assert!(rt; is_adjacent(ledger.deal(), ledger.arc(), by));
     assert!(rt; fits(ledger.deal(), ledger.arc(), &call));
-    let _reply = ledger.apply(by, call);
+    let _reply = ledger.apply(by, call, 0);
     Ok(())
 }
 
@@ -155,10 +157,15 @@ fn count_of(entries: &[Entry], by: PartyId) -> usize {
 fn compare(rt: &impl Abort, index: &Index, scan: &Scan) {
     assert_eq!(rt; index.height(), scan.height());
     assert_eq!(rt; index.published(), scan.published());
+    assert_eq!(rt;
+        index.published_number().is_some(),
+        scan.published().is_some()
+    );
     assert_eq!(rt; index.settled(), scan.settled());
     for lock in 0..2 {
         assert!(rt; lock < index.terms().locks.len() && lock < scan.terms().locks.len());
         assert_eq!(rt; index.unlocked(lock), scan.unlocked(lock));
+        assert_eq!(rt; index.opened(lock).is_some(), scan.unlocked(lock).is_some());
     }
     for by in 0..4 {
         for kind in KINDS {
@@ -193,22 +200,38 @@ fn follow<L: Counted>(
     let mut scan = Scan::new(alloc, deal, arc);
     index.reserve(history.len())?;
     for entry in history {
-        match index.push(entry.copy()?, &mut steps) {
-            Ok(()) => {}
-            Err(_) => unreachable!(),
-        }
+        index.push(entry.copy()?, &mut steps);
         scan.push(entry.copy()?)?;
         compare(rt, &index, &scan);
     }
     Ok(index)
 }
 
-fn compare_calls(rt: &impl Abort, index: &Index, ledger: &Ledger, by: PartyId)
+/// The entries of a ledger, one by one.
+fn entries_of(alloc: Global, ledger: &Ledger) -> Result<Vec<Entry>, Fail>
+    ensures { IfOk result (λ v. IsLegal ledger.now.deal ledger.now.arc v.items) }
+{
+    let _history = ledger.history();
+    Ok(ledger.copy_from(0)?.to_vec(alloc)?)
+}
+
+fn compare_calls(rt: &impl Abort, index: &Index, ledger: &Ledger, entries: &[Entry], by: PartyId)
     requires from { index.now.from ≡ party ledger.now.deal ledger.now.arc }
     requires to { index.now.to ≡ counterparty ledger.now.deal ledger.now.arc }
 {
     assert!(rt; is_adjacent(ledger.deal(), ledger.arc(), by));
-    assert_eq!(rt; index.calls(by).len(), count_of(ledger.history(), by));
+    assert_eq!(rt; index.calls(by).len(), count_of(entries, by));
+}
+
+fn compare_made(rt: &impl Abort, index: &Index, entries: &[Entry]) {
+    let calls = entries.iter().filter(|e| e.sender != Sender::Clock).count();
+    assert_eq!(rt; index.made().len(), calls);
+    for call in index.made() {
+        let number = call.number as usize;
+        assert!(rt; number < entries.len());
+        assert_eq!(rt; entries[number].sender, call.entry.sender);
+        assert_eq!(rt; entries[number].height, call.entry.height);
+    }
 }
 
 #[test]
@@ -221,20 +244,55 @@ fn answers_as_a_scan(rt: HostRuntime) -> Result<(), Fail> {
         for _ in 0..40 {
             act(&rt, rt.alloc(), &mut ledger, &mut random)?;
         }
+        let entries = entries_of(rt.alloc(), &ledger)?;
         let blank = Blank::new(1);
         let index = follow::<Brand>(
             &rt,
             rt.alloc(),
             ledger.deal(),
             ledger.arc(),
-            ledger.history(),
+            &entries,
             blank,
         )?;
-        compare_calls(&rt, &index, &ledger, 0);
-        compare_calls(&rt, &index, &ledger, 1);
+        compare_calls(&rt, &index, &ledger, &entries, 0);
+        compare_calls(&rt, &index, &ledger, &entries, 1);
+        compare_made(&rt, &index, &entries);
         claimed = claimed || index.settled() == Some(Settlement::Claimed);
         refunded = refunded || index.settled() == Some(Settlement::Refunded);
     }
     assert!(rt; claimed && refunded);
     Ok(())
+}
+
+fn take_ticks<L: Counted>(
+    rt: &impl Abort,
+    alloc: Global,
+    deal: &Deal,
+    blank: Blank,
+) -> Result<(), Fail>
+    requires sized { IsWellSized deal.now }
+    requires arcs { 0 < length deal.now.graph.arcs }
+    requires name { blank.name ≡ L.name }
+    requires parts { blank.parts ≡ L.parts }
+    requires one { blank.parts ≡ 1 }
+{
+    let mut steps = Steps::<L>::new(blank);
+    let mut index = Index::new(alloc, deal, 0)?;
+    let run = Run {
+        above: 0,
+        by: 2,
+        count: 3,
+        last: 6,
+    };
+    index.push_ticks(run, &mut steps);
+    assert_eq!(rt; index.height(), 6);
+    assert_eq!(rt; index.count(), 3);
+    assert!(rt; index.made().is_empty());
+    Ok(())
+}
+
+#[test]
+fn takes_ticks_at_once(rt: HostRuntime) -> Result<(), Fail> {
+    let deal = small_deal(rt.alloc())?;
+    take_ticks::<Brand>(&rt, rt.alloc(), &deal, Blank::new(1))
 }

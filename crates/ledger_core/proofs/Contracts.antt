@@ -66,7 +66,7 @@ or_else-none : {B : Type 0} (o : Option B) → or_else o None ≡ o
 or_else-none None = refl
 or_else-none (Some x) = refl
 
-is_some-map : {A B : Type 0} (f : A → B) (o : Option A) → is_some (option_map f o) ≡ is_some o
+pub is_some-map : {A B : Type 0} (f : A → B) (o : Option A) → is_some (option_map f o) ≡ is_some o
 is_some-map f None = refl
 is_some-map f (Some x) = refl
 

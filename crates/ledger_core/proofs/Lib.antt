@@ -1,6 +1,9 @@
 pub mod History
+pub mod Known
 pub mod Units
 pub mod Bounds
 pub mod Contracts
 pub mod Scans
 pub mod FirstAnswer
+pub mod Ticks
+pub mod Funds

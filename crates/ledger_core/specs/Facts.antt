@@ -11,7 +11,8 @@ use Rattle.ledger_core.specs.declared.entry.Entry.{Entry}
 use Rattle.ledger_core.specs.declared.facts.Published.{Published}
 use Rattle.ledger_core.specs.declared.facts.CallKind.{CallKind}
 use Rattle.ledger_core.specs.declared.facts.CallKind.TheVariants.{Publish, Unlock, Claim, Refund}
-use Rattle.ledger_core.specs.History.{Publication, published, opening, accepted, sent_by}
+use Rattle.hashkey_path.specs.declared.hashkey.Hashkey.{Hashkey}
+use Rattle.ledger_core.specs.History.{Publication, published, opening, opened, accepted, sent_by}
 
 abbrev pub shown_as : Terms → Publication → Published
 shown_as t p = record { height = p.height; correct = same_terms p.terms t }
@@ -24,12 +25,21 @@ published_as t h = option_map (shown_as t) (published h)
 abbrev pub opened_number : List Entry → ℕ → Option ℕ
 opened_number h i = position (λ e. is_some (opening i e.height (accepted e))) h
 
+-- the hashkey of the accepted unlock for lock i
+abbrev pub opened_key : List Entry → ℕ → Option Hashkey
+opened_key h i = option_map (λ o. o.key) (opened h i)
+
 abbrev pub is_kind : CallKind → Call → Bool
 is_kind Publish (calls.Publish t) = true
 is_kind (Unlock i) (calls.Unlock key) = key.lock == i
 is_kind Claim calls.Claim = true
 is_kind Refund calls.Refund = true
 is_kind _ _ = false
+
+-- whether an entry is a call, and no tick
+abbrev pub is_call : What → Bool
+is_call (Made c) = true
+is_call (Tick k) = false
 
 abbrev pub is_of_kind : CallKind → What → Bool
 is_of_kind kind (Made c) = is_kind kind c

@@ -12,7 +12,7 @@ use Rattle.ledger_core.specs.declared.ledger.Ledger.TheInside as ledger
 use Rattle.ledger_core.specs.declared.scan.Scan.TheInside as scan
 
 abbrev pub ledger_of : ledger.Inside → LedgerState
-ledger_of l = record { deal = l.deal; arc = l.arc; history = l.entries.items; spare = vec_capacity l.entries - vec_len l.entries }
+ledger_of l = record { deal = l.deal; arc = l.arc; history = l.history.list; spare = l.history.spare }
 
 -- The history is legal, and what is kept beside it is what the scans of it give.
 pub record AreScans (d : Deal) (a : ℕ) (h : List Entry) (at : ℕ) (now : Accounts) (state : Option ContractState) (party_calls counterparty_calls clock_calls : ℕ) : Type 0 where
@@ -29,7 +29,7 @@ pub record IsKept (l : ledger.Inside) : Type 0 where
   pub arc : l.arc < length l.deal.graph.arcs
   pub party : l.party ≡ party l.deal l.arc
   pub counterparty : l.counterparty ≡ counterparty l.deal l.arc
-  pub scans : AreScans l.deal l.arc l.entries.items l.height l.accounts l.contract l.party_calls l.counterparty_calls l.ticks
+  pub scans : AreScans l.deal l.arc l.history.list l.height l.accounts l.contract l.party_calls l.counterparty_calls l.ticks
 
 abbrev pub scan_of : scan.Inside → ScanState
 scan_of s = record { terms = s.terms; entries = s.entries.items; spare = vec_capacity s.entries - vec_len s.entries }

@@ -4,3 +4,6 @@ pub mod Book
 pub mod Value
 pub mod Ledger
 pub mod Inside
+pub mod Known
+pub mod Runs
+pub mod Parts

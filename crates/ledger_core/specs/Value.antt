@@ -1,9 +1,14 @@
--- What callers see of a ledger and of a scan.
+-- What callers see of a history, of a ledger and of a scan.
 use Rattle.std.specs.Prelude.{◌<◌, ◌^◌, ℕ, List, length}
 use Rattle.swap_digraph.specs.declared.deal.Deal.{Deal}
 use Rattle.escrow_core.specs.declared.terms.Terms.{Terms}
 use Rattle.ledger_core.specs.declared.entry.Entry.{Entry}
 use Rattle.ledger_core.specs.History.{height}
+
+pub record HistoryState : Type 0 where
+  pub list : List Entry
+  -- how many further entries have room already
+  pub spare : ℕ
 
 pub record LedgerState : Type 0 where
   pub deal : Deal

@@ -3,6 +3,7 @@
 ghost use Rattle.std.specs.Prelude.{◌≡◌, ◌+◌, ◌<◌, ◌≤◌, ◌==◌, IsTrue, length, nat_lt, if◌then◌else◌};
 ghost use Rattle.swap_digraph.specs.Deal.{IsWellSized};
 ghost use Rattle.ledger_core.specs.History.{accepted_in, moved_by, transferred, fit};
+ghost use Rattle.ledger_core.specs.Known.{is_known_in};
 ghost use Rattle.ledger_core.specs.Ledger.{answer_of, contract_after, CanMove, IsContractIn};
 
 use crate::accounts::Accounts;
@@ -58,11 +59,13 @@ pub(crate) fn answer(
     balance: u64,
     sender: PartyId,
     call: &Call,
+    known: usize,
 ) -> Reply
     requires sized { IsWellSized deal.now }
     requires arc { arc < length deal.now.graph.arcs }
     requires contract { IsContractIn deal.now arc contract.old }
     requires fits { IsTrue (fit deal.now arc call.now) }
+    requires known { IsTrue (is_known_in known deal.now call.now) }
     ensures reply { result ≡ answer_of deal.now arc contract.old height balance sender call.now }
     ensures contract { contract.new ≡ contract_after deal.now arc contract.old (accepted_in (What.Call call.now) result) }
 {
@@ -70,7 +73,7 @@ pub(crate) fn answer(
         Call::Publish(terms) => publish(deal, arc, contract, balance, sender, terms),
         Call::Unlock(key) => match contract {
             None => Reply::NoContract,
-            Some(contract) => contract.unlock(deal, height, sender, key),
+            Some(contract) => contract.unlock(deal, height, sender, key, known),
         },
         Call::Claim => match contract {
             None => Reply::NoContract,

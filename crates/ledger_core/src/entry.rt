@@ -1,14 +1,15 @@
 //! What stands in a history.
 
+use crate::entry_list::EntryList;
 use escrow_core::{Reply, Terms};
 use hashkey_path::Hashkey;
-use swap_base::{Listed, NoMemory, PartyId, TryCopy};
+use swap_base::{Listed, NoMemory, PartyId, Shared, TryCopy};
 
-/// What a party asks of a ledger.
+/// What a party asks of a ledger. Terms and hashkeys are shared, so that a copy of a call copies neither.
 #[derive(Debug, Drop)]
 pub enum Call {
-    Publish(Terms),
-    Unlock(Hashkey),
+    Publish(Shared<Terms>),
+    Unlock(Shared<Hashkey>),
     Claim,
     Refund,
     /// To whom, and how many units.
@@ -18,7 +19,7 @@ pub enum Call {
 impl TryCopy for Call {
     fn copy(&self) -> Result<Call, NoMemory> {
         match self {
-            Call::Publish(terms) => Ok(Call::Publish(*terms)),
+            Call::Publish(terms) => Ok(Call::Publish(terms.copy()?)),
             Call::Unlock(key) => Ok(Call::Unlock(key.copy()?)),
             Call::Claim => Ok(Call::Claim),
             Call::Refund => Ok(Call::Refund),
@@ -69,9 +70,6 @@ impl TryCopy for Entry {
         })
     }
 }
-
-/// Entries, oldest first.
-pub type EntryList = Listed<Entry>;
 
 /// The histories of a swap, one per arc in arc order.
 #[derive(Debug, Drop)]

@@ -1,12 +1,12 @@
 //! Questions over one list of entries.
 
-ghost use Rattle.std.specs.Prelude.{◌≡◌, ◌<◌, List, length, slice_get, Some};
+ghost use Rattle.std.specs.Prelude.{◌≡◌, ◌<◌, List, length, option_copied};
 ghost use Rattle.escrow_core.specs.declared.terms.Terms.{Terms};
 ghost use Rattle.ledger_core.specs.declared.entry.Entry.{Entry};
 ghost use Rattle.ledger_core.specs.History.{height, settled};
-ghost use Rattle.ledger_core.specs.Facts.{published_as, opened_number, has_call};
+ghost use Rattle.ledger_core.specs.Facts.{published_as, opened_number, opened_key, has_call};
 
-use crate::entry::Entry;
+use hashkey_path::Hashkey;
 use swap_base::{LockId, PartyId};
 
 /// The accepted publish: its height, and whether its terms are the arc's correct ones.
@@ -58,7 +58,8 @@ pub trait Facts {
     fn called(&self, by: PartyId, kind: CallKind) -> bool
         ensures { result ≡ has_call by kind (entries self.now) };
 
-    fn entry(&self, number: u32) -> &Entry
-        requires { number < length (entries self.now) }
-        ensures { slice_get (entries self.now) number ≡ Some result.now };
+    /// The hashkey of the lock's accepted unlock.
+    fn opened_key(&self, lock: LockId) -> Option<&Hashkey>
+        requires { lock < length (terms self.now).locks }
+        ensures { option_copied result ≡ opened_key (entries self.now) lock };
 }

@@ -3,15 +3,18 @@
 ghost use Rattle.std.specs.Prelude.{◌≡◌, ◌≢◌, ◌<◌, ◌≤◌, ◌+◌, ◌++◌, ◌==◌, ◌||◌, ◌∷◌, [], ℕ, IsTrue, length, drop, OnOk, OnErr, IfOk};
 ghost use Rattle.swap_digraph.specs.Deal.{party, counterparty, IsWellSized};
 ghost use Rattle.ledger_core.specs.History.{height, held, balance, fit, is_full, is_clock_full, reply_to, reply_to_tick, IsLegal};
+ghost use Rattle.ledger_core.specs.Known.{is_known_in};
 ghost use Rattle.ledger_core.specs.Ledger.{call_entry, tick_entry, IsAfter, AreKept, AddUp};
 
 use crate::accounts::Accounts;
 use crate::answer::{accounts_after, answer, one_more_where};
-use crate::entry::{Call, Entry, EntryList, Sender, What};
+use crate::entry::{Call, Entry, Sender, What};
+use crate::entry_list::EntryList;
+use crate::ledger_history::LedgerHistory;
 use escrow_core::{Contract, Reply};
 use std::alloc::Global;
 use std::marker::Model;
-use swap_base::{ArcId, Listed, NoMemory, PartyId, TryCopy};
+use swap_base::{ArcId, NoMemory, PartyId};
 use swap_digraph::{Deal, copy_deal};
 
 /// A ledger: its history, and beside it the height, the accounts, the contract and how many entries each sender has.
@@ -21,7 +24,7 @@ pub struct Ledger {
     arc: ArcId,
     party: PartyId,
     counterparty: PartyId,
-    entries: Vec<Entry>,
+    history: LedgerHistory,
     height: u32,
     accounts: Accounts,
     contract: Option<Contract>,
@@ -56,7 +59,7 @@ impl Ledger {
             arc,
             party: ends.from,
             counterparty: ends.to,
-            entries: Vec::new(alloc),
+            history: LedgerHistory::new(alloc),
             height: 0,
             accounts: Accounts {
                 party: amount,
@@ -79,7 +82,7 @@ impl Ledger {
         ensures history { self.new.history ≡ self.old.history }
         ensures spare { self.old.spare ≤ self.new.spare }
     {
-        self.entries.reserve(1)?;
+        self.history.reserve()?;
         Ok(())
     }
 
@@ -96,11 +99,12 @@ impl Ledger {
         calls >= 32
     }
 
-    /// Makes a call at the present height, and answers with the reply that the table gives. It takes no memory.
-    pub fn apply(&mut self, sender: PartyId, call: Call) -> Reply
+    /// Makes a call at the present height, and answers with the reply that the table gives. The last `known` signatures of its hashkey are known to be valid, and aren't verified. It takes no memory.
+    pub fn apply(&mut self, sender: PartyId, call: Call, known: usize) -> Reply
         requires spare { 0 < self.old.spare }
         requires of_the_two { IsTrue ((sender == party self.old.deal self.old.arc) || (sender == counterparty self.old.deal self.old.arc)) }
         requires fits { IsTrue (fit self.old.deal self.old.arc call) }
+        requires known { IsTrue (is_known_in known self.old.deal call) }
         ensures reply { result ≡ reply_to self.old.deal self.old.arc self.old.history sender call }
         ensures full { result ≡ Reply.SenderFull → self.new ≡ self.old }
         ensures kept { result ≢ Reply.SenderFull → IsAfter self.old (call_entry sender (height self.old.history) call result) self.new }
@@ -121,6 +125,7 @@ impl Ledger {
             balance,
             sender,
             &call,
+            known,
         );
         self.accounts = accounts_after(self.party, self.accounts, from_party, &call, reply);
         self.party_calls = one_more_where(from_party, self.party_calls);
@@ -134,10 +139,8 @@ impl Ledger {
             what: What::Call(call),
             reply,
         };
-        match self.entries.push(entry) {
-            Ok(()) => reply,
-            Err(_) => unreachable!(),
-        }
+        self.history.push(entry);
+        reply
     }
 
     /// Raises the height by k. It takes no memory.
@@ -156,25 +159,24 @@ impl Ledger {
         }
         self.height += k;
         self.ticks += 1;
-        let entry = Entry {
-            sender: Sender::Clock,
-            height: self.height,
-            what: What::Tick(k),
-            reply: Reply::Accepted,
-        };
-        match self.entries.push(entry) {
-            Ok(()) => Reply::Accepted,
-            Err(_) => unreachable!(),
-        }
+        self.history.tick(k, self.height);
+        Reply::Accepted
     }
 
     /// The entries, oldest first.
-    pub fn history(&self) -> &[Entry]
-        ensures value { result.now ≡ self.now.history }
-        ensures legal { IsLegal self.now.deal self.now.arc result.now }
-        ensures units { AddUp self.now.deal self.now.arc result.now }
+    pub fn history(&self) -> &LedgerHistory
+        ensures value { result.now.list ≡ self.now.history }
+        ensures legal { IsLegal self.now.deal self.now.arc result.now.list }
+        ensures units { AddUp self.now.deal self.now.arc result.now.list }
     {
-        &self.entries
+        &self.history
+    }
+
+    /// How many entries there are.
+    pub fn len(&self) -> u32
+        ensures { result ≡ length self.now.history }
+    {
+        self.history.len() as u32
     }
 
     /// The entries, without taking memory.
@@ -182,7 +184,7 @@ impl Ledger {
         ensures value { result ≡ self.history }
         ensures legal { IsLegal self.deal self.arc result }
     {
-        Listed::new(self.entries)
+        EntryList::of(self.history)
     }
 
     /// The sum of the ticks.
@@ -232,16 +234,6 @@ impl Ledger {
         requires { k ≤ length self.now.history }
         ensures { IfOk result (λ l. l ≡ drop k self.now.history) }
     {
-        copies(*self.entries.allocator(), &self.entries[k..])
+        Ok(EntryList::of(self.history.copy_from(k)?))
     }
-}
-
-fn copies(alloc: Global, entries: &[Entry]) -> Result<EntryList, NoMemory>
-    ensures { IfOk result (λ l. l ≡ entries.now) }
-{
-    let mut list = Vec::new(alloc);
-    for e in entries {
-        list.push(e.copy()?)?;
-    }
-    Ok(Listed::new(list))
 }

@@ -1,15 +1,16 @@
 //! Answers over a list of entries, by reading it.
 
-ghost use Rattle.std.specs.Prelude.{◌≡◌, ◌<◌, ◌≤◌, ◌+◌, ◌++◌, ◌∷◌, ◌^◌, [], ℕ, List, length, position, is_some, option_map, if◌then◌else◌, false, OnOk, OnErr, IsOk, IfErr};
+ghost use Rattle.std.specs.Prelude.{◌≡◌, ◌<◌, ◌≤◌, ◌+◌, ◌++◌, ◌∷◌, ◌^◌, [], ℕ, List, length, position, is_some, option_map, if◌then◌else◌, false, OnOk, OnErr, IsOk, IfErr, option_copied};
 ghost use Rattle.swap_digraph.specs.Deal.{IsWellSized};
 ghost use Rattle.escrow_core.specs.Terms.{terms_of, same_terms};
 ghost use Rattle.ledger_core.specs.History.{height, ticks_in, accepted, publication, opening, settling, settled, sent_by};
-ghost use Rattle.ledger_core.specs.Facts.{shown_as, published_as, opened_number, is_of_kind, has_call};
+ghost use Rattle.ledger_core.specs.Facts.{shown_as, published_as, opened_number, opened_key, is_of_kind, has_call};
 ghost use Rattle.ledger_core.specs.Value.{IsCountable};
 
 use crate::entry::{Call, Entry, Sender, What};
 use crate::facts::{CallKind, Facts, Published, Settlement};
 use escrow_core::{Reply, Terms, terms_of};
+use hashkey_path::Hashkey;
 use std::alloc::Global;
 use std::marker::Model;
 use swap_base::{ArcId, LockId, NoMemory, PartyId};
@@ -94,6 +95,31 @@ fn opened_at(entries: &[Entry], lock: LockId) -> Option<usize>
     ensures { result ≡ opened_number entries.now lock }
 {
     entries.iter().position(|e| is_opening(e, lock))
+}
+
+/// The hashkey that an accepted unlock for the lock presents.
+fn key_of(e: &Entry, lock: LockId) -> Option<&Hashkey>
+    ensures { option_copied result ≡ option_map (λ o. o.key) (opening lock e.now.height (accepted e.now)) }
+{
+    match (&e.what, e.reply) {
+        (What::Call(Call::Unlock(key)), Reply::Accepted) => {
+            if key.lock == lock { Some(key) } else { None }
+        }
+        _ => None,
+    }
+}
+
+/// The hashkey of the accepted unlock for the lock.
+fn key_in(entries: &[Entry], lock: LockId) -> Option<&Hashkey>
+    ensures { option_copied result ≡ opened_key entries.now lock }
+{
+    for e in entries {
+        let found = key_of(e, lock);
+        if found.is_some() {
+            return found;
+        }
+    }
+    None
 }
 
 fn settlement_of(e: &Entry) -> Option<Settlement>
@@ -236,7 +262,7 @@ impl Facts for Scan {
         has_call(&self.entries, by, kind)
     }
 
-    fn entry(&self, number: u32) -> &Entry {
-        &self.entries[number as usize]
+    fn opened_key(&self, lock: LockId) -> Option<&Hashkey> {
+        key_in(&self.entries, lock)
     }
 }

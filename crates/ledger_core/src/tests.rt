@@ -8,7 +8,7 @@ use hashkey_path::Hashkey;
 use std::alloc::Global;
 use std::process::Abort;
 use std::test::Fail;
-use swap_base::{ArcId, Digest, Listed, PartyId};
+use swap_base::{ArcId, Digest, Listed, NoMemory, PartyId, Shared, TryCopy};
 use swap_digraph::{ArcEnds, Deal, Digraph, Mode, Version};
 
 /// SHA-256 of 32 zero bytes.
@@ -55,26 +55,28 @@ fn first_ledger(alloc: Global) -> Result<Ledger, Fail> {
     Ok(Ledger::new(alloc, &deal, 0)?)
 }
 
-fn publish(timelock: u32, amount: u64) -> Call {
+fn publish(alloc: Global, timelock: u32, amount: u64) -> Result<Call, Fail> {
     let mut locks = LockList::new();
     locks.push(HASHLOCK);
-    Call::Publish(Terms {
+    let terms = Terms {
         locks,
         start: 10,
         delta: 10,
         bound: 2,
         timelock,
         amount,
-    })
+    };
+    Ok(Call::Publish(Shared::new(alloc, terms)?))
 }
 
-fn unlock(alloc: Global) -> Call {
-    Call::Unlock(Hashkey {
+fn unlock(alloc: Global) -> Result<Call, Fail> {
+    let key = Hashkey {
         lock: 0,
         secret: [0; 32],
         path: Listed::empty(alloc),
         sigs: Listed::empty(alloc),
-    })
+    };
+    Ok(Call::Unlock(Shared::new(alloc, key)?))
 }
 
 /// What is asked of the ledger.
@@ -94,7 +96,7 @@ fn make(rt: &impl Abort, ledger: &mut Ledger, by: PartyId, call: Call) -> Result
     assert!(rt; is_adjacent(ledger.deal(), arc, by));
     assert!(rt; fits(ledger.deal(), arc, &call));
     ledger.reserve()?;
-    Ok(ledger.apply(by, call))
+    Ok(ledger.apply(by, call, 0))
 }
 
 fn tick(rt: &impl Abort, ledger: &mut Ledger, k: u32) -> Result<Reply, Fail> {
@@ -105,8 +107,8 @@ fn tick(rt: &impl Abort, ledger: &mut Ledger, k: u32) -> Result<Reply, Fail> {
 
 fn done(rt: &impl Abort, alloc: Global, ledger: &mut Ledger, act: Act) -> Result<Reply, Fail> {
     match act {
-        Act::Publish(by, amount) => make(rt, ledger, by, publish(60, amount)),
-        Act::Unlock(by) => make(rt, ledger, by, unlock(alloc)),
+        Act::Publish(by, amount) => make(rt, ledger, by, publish(alloc, 60, amount)?),
+        Act::Unlock(by) => make(rt, ledger, by, unlock(alloc)?),
         Act::Claim(by) => make(rt, ledger, by, Call::Claim),
         Act::Refund(by) => make(rt, ledger, by, Call::Refund),
         Act::Transfer(by, to, units) => make(rt, ledger, by, Call::Transfer(to, units)),
@@ -135,6 +137,13 @@ fn has(rt: &impl Abort, ledger: &Ledger, party: u64, counterparty: u64, held: u6
     assert_eq!(rt; ledger.held(), held);
 }
 
+/// The accounts by the entries.
+fn accounts_read(ledger: &Ledger) -> Result<Accounts, NoMemory> {
+    let _ = ledger.history();
+    let list = ledger.copy_from(0)?;
+    Ok(accounts_of(ledger.deal(), ledger.arc(), &list))
+}
+
 #[test]
 fn refunds(rt: HostRuntime) -> Result<(), Fail> {
     let mut ledger = first_ledger(rt.alloc())?;
@@ -159,7 +168,7 @@ fn refunds(rt: HostRuntime) -> Result<(), Fail> {
     follow(&rt, rt.alloc(), &mut ledger, &after)?;
     has(&rt, &ledger, 100, 0, 0);
     assert_eq!(rt; ledger.height(), 61);
-    assert_eq!(rt; ledger.history().len(), 12);
+    assert_eq!(rt; ledger.len(), 12);
     assert_eq!(rt; ledger.copy_from(10)?.len(), 2);
     Ok(())
 }
@@ -227,7 +236,7 @@ fn fills_up(rt: HostRuntime) -> Result<(), Fail> {
         (Act::Publish(0, 100), Reply::Accepted),
     ];
     follow(&rt, rt.alloc(), &mut ledger, &table)?;
-    assert_eq!(rt; ledger.history().len(), 20_033);
+    assert_eq!(rt; ledger.len(), 20_033);
     Ok(())
 }
 
@@ -242,7 +251,7 @@ fn ends_at_the_last_height(rt: HostRuntime) -> Result<(), Fail> {
     ];
     follow(&rt, rt.alloc(), &mut ledger, &table)?;
     assert_eq!(rt; ledger.height(), 1_000_000);
-    assert_eq!(rt; ledger.history().len(), 2);
+    assert_eq!(rt; ledger.len(), 2);
     Ok(())
 }
 
@@ -263,8 +272,8 @@ fn scans(rt: HostRuntime) -> Result<(), Fail> {
     let mut scan = Scan::new(rt.alloc(), &deal, 0);
     assert_eq!(rt; scan.published(), None);
     scan.push(accepted(Sender::Clock, What::Tick(3)))?;
-    scan.push(accepted(Sender::Party(0), What::Call(publish(60, 99))))?;
-    scan.push(accepted(Sender::Party(1), What::Call(unlock(rt.alloc()))))?;
+    scan.push(accepted(Sender::Party(0), What::Call(publish(rt.alloc(), 60, 99)?)))?;
+    scan.push(accepted(Sender::Party(1), What::Call(unlock(rt.alloc())?)))?;
     assert_eq!(rt; scan.settled(), None);
     scan.push(accepted(Sender::Party(1), What::Call(Call::Claim)))?;
     assert_eq!(rt; scan.height(), 3);
@@ -279,5 +288,145 @@ fn scans(rt: HostRuntime) -> Result<(), Fail> {
     assert_eq!(rt; scan.settled(), Some(Settlement::Claimed));
     assert!(rt; scan.called(1, CallKind::Unlock(0)));
     assert!(rt; !scan.called(0, CallKind::Claim));
+    Ok(())
+}
+
+#[test]
+fn entries_are_small(rt: HostRuntime) {
+    assert!(rt; size_of::<Entry>() <= 48);
+}
+
+/// Adds the text of each tick of a run.
+fn show_ticks(alloc: Global, texts: &mut Vec<String>, run: Run) -> Result<(), Fail> {
+    let mut height = run.above;
+    for _ in 0..run.count {
+        height = height.wrapping_add(run.by);
+        let entry = Entry {
+            sender: Sender::Clock,
+            height,
+            what: What::Tick(run.by),
+            reply: Reply::Accepted,
+        };
+        texts.push(format!(in alloc; "{entry:?}")?)?;
+    }
+    Ok(())
+}
+
+/// The text of each entry.
+fn shown(alloc: Global, list: &EntryList) -> Result<Vec<String>, Fail> {
+    let (items, open) = list.parts();
+    let mut texts = Vec::new(alloc);
+    for item in items {
+        match item {
+            Item::One(entry) => texts.push(format!(in alloc; "{entry:?}")?)?,
+            Item::Ticks(run) => show_ticks(alloc, &mut texts, *run)?,
+        }
+    }
+    show_ticks(alloc, &mut texts, open)?;
+    Ok(texts)
+}
+
+fn are_same(rt: &impl Abort, texts: &[String], others: &[String]) {
+    assert_eq!(rt; texts.len(), others.len());
+    for (text, other) in texts.iter().zip(others) {
+        assert_eq!(rt; text, other);
+    }
+}
+
+fn runs_apart(rt: &impl Abort, alloc: Global) -> Result<Ledger, Fail> {
+    let mut ledger = first_ledger(alloc)?;
+    let table = [
+        (Act::Tick(1), Reply::Accepted),
+        (Act::Tick(1), Reply::Accepted),
+        (Act::Tick(2), Reply::Accepted),
+        (Act::Tick(2), Reply::Accepted),
+        (Act::Claim(1), Reply::NoContract),
+        (Act::Tick(2), Reply::Accepted),
+        (Act::Transfer(0, 1, 1), Reply::Accepted),
+        (Act::Claim(1), Reply::NoContract),
+        (Act::Tick(1), Reply::Accepted),
+        (Act::Tick(2), Reply::Accepted),
+        (Act::Tick(2), Reply::Accepted),
+        (Act::Tick(2), Reply::Accepted),
+    ];
+    follow(rt, alloc, &mut ledger, &table)?;
+    Ok(ledger)
+}
+
+/// Compares a copy from k on with the whole.
+fn copies_from(
+    rt: &impl Abort,
+    alloc: Global,
+    ledger: &Ledger,
+    whole: &[String],
+    k: usize,
+) -> Result<(), Fail> {
+    assert!(rt; k <= ledger.len() as usize);
+    let fresh = ledger.copy_from(k)?;
+    assert!(rt; k <= whole.len());
+    are_same(rt, &shown(alloc, &fresh)?, &whole[k..]);
+    Ok(())
+}
+
+fn copies_from_each(
+    rt: &impl Abort,
+    alloc: Global,
+    ledger: &Ledger,
+    whole: &[String],
+) -> Result<(), Fail> {
+    for k in 0..13 {
+        copies_from(rt, alloc, ledger, whole, k)?;
+    }
+    Ok(())
+}
+
+#[test]
+fn copies_from_each_entry(rt: HostRuntime) -> Result<(), Fail> {
+    let ledger = runs_apart(&rt, rt.alloc())?;
+    let list = ledger.copy_from(0)?;
+    let whole = shown(rt.alloc(), &list)?;
+    assert_eq!(rt; whole.len(), 12);
+    copies_from_each(&rt, rt.alloc(), &ledger, &whole)
+}
+
+#[test]
+fn reads_accounts(rt: HostRuntime) -> Result<(), Fail> {
+    let ledger = runs_apart(&rt, rt.alloc())?;
+    let read = Accounts {
+        party: 99,
+        counterparty: 1,
+        held: 0,
+    };
+    assert_eq!(rt; accounts_read(&ledger)?, read);
+    Ok(())
+}
+
+#[test]
+fn ticks_are_runs(rt: HostRuntime) -> Result<(), Fail> {
+    let list = runs_apart(&rt, rt.alloc())?.into_history();
+    assert_eq!(rt; list.calls(), 3);
+    let (items, open) = list.into_parts();
+    assert_eq!(rt; items.len(), 7);
+    let last = Run {
+        above: 9,
+        by: 2,
+        count: 3,
+        last: 15,
+    };
+    assert_eq!(rt; open, last);
+    Ok(())
+}
+
+#[test]
+fn lists_entries(rt: HostRuntime) -> Result<(), Fail> {
+    let mut list = EntryList::empty(rt.alloc());
+    assert!(rt; list.is_empty());
+    list.push(accepted(Sender::Clock, What::Tick(3)))?;
+    list.push(accepted(Sender::Party(1), What::Call(Call::Claim)))?;
+    assert_eq!(rt; list.height(), 3);
+    assert_eq!(rt; list.copy()?.len(), 2);
+    let (items, open) = list.parts();
+    assert_eq!(rt; items.len(), 2);
+    assert_eq!(rt; open.count, 0);
     Ok(())
 }

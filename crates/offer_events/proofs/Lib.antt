@@ -2,3 +2,5 @@ pub mod Sizes
 pub mod Lists
 pub mod Parts
 pub mod Fits
+pub mod Scanned
+pub mod PlainText

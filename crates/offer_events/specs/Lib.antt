@@ -4,3 +4,4 @@ pub mod Names
 pub mod Limits
 pub mod Moves
 pub mod Event
+pub mod Plain

@@ -6,10 +6,12 @@ ghost use Rattle.swap_digraph.specs.Deal.{IsWellSized, party, counterparty};
 ghost use Rattle.deviator_script.specs.Resolved.{arc_of as stands_on};
 ghost use Rattle.deviator_script.specs.Step.{CanStep};
 ghost use Rattle.offer_events.specs.Event.{tick_of, deviating, adjacent, look_of, act_of, received, placed, call_of, checked, outside_race, event_of};
+ghost use Rattle.offer_events.specs.Plain.{raw_of, asked};
 
 use crate::limits::ranged;
 use crate::moves::{arc_of, move_of};
 use crate::names::number_of;
+use crate::plain::{PlainEvent, plain_event};
 use crate::raw::{RawEvent, RawMove};
 use crate::reading::event_in;
 use deviator_script::{Event, Job, Move, Purpose, arc_of_move};
@@ -62,26 +64,26 @@ fn look_of(
     alloc: Global,
     job: &Job,
     line: u32,
-    name: &ByteText,
+    name: &[u8],
     number: u64,
 ) -> Result<Event, OfferFault>
     requires sized { IsWellSized job.now.deal }
     requires names { length job.now.names ≡ job.now.deal.graph.n }
     ensures { Gives (λ e. e) result (look_of job.now line name.now number) }
 {
-    let p = number_of(alloc, line, job.names.as_slice(), name.as_slice())?;
+    let p = number_of(alloc, line, job.names.as_slice(), name)?;
     let arc = arc_of(alloc, &job.deal, line, "arc", number)?;
     adjacent(&job.deal, line, p, arc)?;
     Ok(Event::Look(p, arc))
 }
 
 #[tactic(auto, unfolding(crate::specs::Event::act_of))]
-fn act_of(alloc: Global, job: &Job, line: u32, name: &ByteText) -> Result<Event, OfferFault>
+fn act_of(alloc: Global, job: &Job, line: u32, name: &[u8]) -> Result<Event, OfferFault>
     requires sized { IsWellSized job.now.deal }
     requires names { length job.now.names ≡ job.now.deal.graph.n }
     ensures { Gives (λ e. e) result (act_of job.now line name.now) }
 {
-    let p = number_of(alloc, line, job.names.as_slice(), name.as_slice())?;
+    let p = number_of(alloc, line, job.names.as_slice(), name)?;
     Ok(Event::Act(p))
 }
 
@@ -133,9 +135,26 @@ fn checked(alloc: Global, job: &Job, line: u32, raw: &RawEvent) -> Result<Event,
 {
     match raw {
         RawEvent::Tick { arc, by } => tick_of(alloc, &job.deal, line, *arc, *by),
-        RawEvent::Look { name, arc } => look_of(alloc, job, line, name, *arc),
-        RawEvent::Act { name } => act_of(alloc, job, line, name),
+        RawEvent::Look { name, arc } => look_of(alloc, job, line, name.as_slice(), *arc),
+        RawEvent::Act { name } => act_of(alloc, job, line, name.as_slice()),
         RawEvent::Call { name, mv } => call_of(alloc, job, line, name, mv),
+    }
+}
+
+fn checked_plain(
+    alloc: Global,
+    job: &Job,
+    line: u32,
+    event: PlainEvent<'_>,
+) -> Result<Event, OfferFault>
+    requires sized { IsWellSized job.now.deal }
+    requires names { length job.now.names ≡ job.now.deal.graph.n }
+    ensures { Gives (λ e. e) result (checked job.now line (raw_of event.entry)) }
+{
+    match event {
+        PlainEvent::Tick { arc, by } => tick_of(alloc, &job.deal, line, arc, by),
+        PlainEvent::Look { name, arc } => look_of(alloc, job, line, name, arc),
+        PlainEvent::Act { name } => act_of(alloc, job, line, name),
     }
 }
 
@@ -148,9 +167,27 @@ fn outside_race(line: u32, purpose: Purpose) -> Result<(), OfferFault>
     }
 }
 
-/// The event of a line of a job's offer, or the first reason against the line. Lines are counted from 1.
+/// The event that a plain line asks for.
+#[tactic(auto, unfolding(crate::specs::Plain::asked))]
+fn read_plain(
+    alloc: Global,
+    job: &Job,
+    line: u32,
+    plain: PlainEvent<'_>,
+) -> Result<Event, OfferFault>
+    requires sized { IsWellSized job.now.deal }
+    requires names { length job.now.names ≡ job.now.deal.graph.n }
+    ensures exact { Gives (λ e. e) result (asked job.now line (raw_of plain.entry)) }
+    ensures fits { IfOk result (λ e. CanStep job.now.deal job.now.conforming e) }
+{
+    let event = checked_plain(alloc, job, line, plain)?;
+    outside_race(line, job.purpose)?;
+    Ok(event)
+}
+
+/// The event of a line of any form.
 #[tactic(auto, unfolding(crate::specs::Event::event_of))]
-pub fn read_event(alloc: Global, job: &Job, line: u32, text: &[u8]) -> Result<Event, OfferFault>
+fn read_object(alloc: Global, job: &Job, line: u32, text: &[u8]) -> Result<Event, OfferFault>
     requires sized { IsWellSized job.now.deal }
     requires names { length job.now.names ≡ job.now.deal.graph.n }
     requires conforming { length job.now.conforming ≡ job.now.deal.graph.n }
@@ -162,4 +199,18 @@ pub fn read_event(alloc: Global, job: &Job, line: u32, text: &[u8]) -> Result<Ev
     let event = checked(alloc, job, line, &raw)?;
     outside_race(line, job.purpose)?;
     Ok(event)
+}
+
+/// The event of a line of a job's offer, or the first reason against the line. Lines are counted from 1.
+pub fn read_event(alloc: Global, job: &Job, line: u32, text: &[u8]) -> Result<Event, OfferFault>
+    requires sized { IsWellSized job.now.deal }
+    requires names { length job.now.names ≡ job.now.deal.graph.n }
+    requires conforming { length job.now.conforming ≡ job.now.deal.graph.n }
+    ensures exact { Gives (λ e. e) result (event_of job.now line text.now) }
+    ensures fits { IfOk result (λ e. CanStep job.now.deal job.now.conforming e) }
+{
+    match plain_event(text) {
+        Some(plain) => read_plain(alloc, job, line, plain),
+        None => read_object(alloc, job, line, text),
+    }
 }

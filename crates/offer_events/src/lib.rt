@@ -7,6 +7,7 @@ mod event;
 mod limits;
 mod moves;
 mod names;
+mod plain;
 mod raw;
 mod reading;
 

@@ -1,11 +1,3 @@
-pub mod FirstAnswer
 pub mod Loops
-pub mod Legal
-pub mod Least
-pub mod Sent
-pub mod Valid
-pub mod Base
-pub mod Forgery
-pub mod Failing
-pub mod Lateness
+pub mod Indexed
 pub mod Promises

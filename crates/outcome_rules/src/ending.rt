@@ -1,56 +1,66 @@
 //! How a book ended for a party.
 
-ghost use Rattle.std.specs.Prelude.{◌≡◌, ◌<◌, length};
+ghost use Rattle.std.specs.Prelude.{◌≡◌, ◌<◌};
 ghost use Rattle.swap_digraph.specs.Deal.{IsWellSized};
-ghost use Rattle.swap_rules.specs.Outcome.{got, lost, outcome};
+ghost use Rattle.ledger_core.specs.Book.{history};
+ghost use Rattle.ledger_core.specs.History.{settled};
+ghost use Rattle.history_index.specs.Indexes.{entries_in, AreIndexes};
+ghost use Rattle.swap_rules.specs.Outcome.{got, is_claim, lost, outcome};
 
-use crate::party::{history, is_correct, is_triggered};
-use crate::scan::settled;
-use ledger_core::{Book, Settlement};
-use swap_base::PartyId;
+use book_reading::{is_correct, is_triggered};
+use history_index::Index;
+use ledger_core::{Facts, Settlement};
+use swap_base::{ArcId, PartyId};
 use swap_digraph::Deal;
 use swap_rules::Outcome;
 
+/// Whether the arc has an accepted claim.
+fn is_claimed(known: &[Index], arc: ArcId) -> bool
+    ensures { result ≡ is_claim (settled (history (entries_in known.now) arc)) }
+{
+    match known.get(arc as usize) {
+        Some(index) => index.settled() == Some(Settlement::Claimed),
+        None => false,
+    }
+}
+
 /// How many arcs that enter the party have the correct terms and an accepted claim.
-fn got(deal: &Deal, book: &Book, party: PartyId) -> usize
-    requires sized { IsWellSized deal.now }
-    requires one_each { length book.now.histories ≡ length deal.now.graph.arcs }
+fn got(deal: &Deal, known: &[Index], party: PartyId) -> usize
+    requires known { AreIndexes deal.now known.now }
     requires party { party < deal.now.graph.n }
-    ensures { result ≡ got deal.now book.now.histories party }
+    ensures { result ≡ got deal.now (entries_in known.now) party }
 {
     let entering = deal.graph.entering(party);
     entering
         .iter()
-        .filter(|arc| {
-            is_correct(deal, book, **arc)
-                && settled(history(book, **arc)) == Some(Settlement::Claimed)
-        })
+        .filter(|arc| is_correct(deal, known, **arc) && is_claimed(known, **arc))
         .count()
 }
 
 /// How many arcs that leave the party are triggered.
-fn lost(deal: &Deal, book: &Book, party: PartyId) -> usize
+fn lost(deal: &Deal, known: &[Index], party: PartyId) -> usize
     requires sized { IsWellSized deal.now }
+    requires known { AreIndexes deal.now known.now }
     requires party { party < deal.now.graph.n }
-    ensures { result ≡ lost deal.now book.now.histories party }
+    ensures { result ≡ lost deal.now (entries_in known.now) party }
 {
     let leaving = deal.graph.leaving(party);
     leaving
         .iter()
-        .filter(|arc| is_triggered(deal, book, **arc))
+        .filter(|arc| is_triggered(deal, known, **arc))
         .count()
 }
 
 /// How the book ended for the party (Herlihy 2018, section 3). It takes no memory.
 #[tactic(auto, unfolding(swap_rules::specs::Outcome::outcome))]
-pub fn outcome(deal: &Deal, book: &Book, party: PartyId) -> Outcome
+pub fn outcome(deal: &Deal, known: &[Index], party: PartyId) -> Outcome
     requires sized { IsWellSized deal.now }
-    requires one_each { length book.now.histories ≡ length deal.now.graph.arcs }
+    requires known { AreIndexes deal.now known.now }
     requires party { party < deal.now.graph.n }
-    ensures { result ≡ outcome deal.now book.now.histories party }
+    ensures { result ≡ outcome deal.now (entries_in known.now) party }
 {
-    let lost = lost(deal, book, party);
-    let got = got(deal, book, party);
+    let lost = lost(deal, known, party);
+    let got = got(deal, known, party);
     if lost == 0 {
         if got == 0 {
             Outcome::NoDeal

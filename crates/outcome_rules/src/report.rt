@@ -1,18 +1,21 @@
 //! A report of a book.
 
-ghost use Rattle.std.specs.Prelude.{◌≡◌, ◌≤◌, ◌<◌, ◌++◌, ℕ, false, [], IfOk, OnOk, length};
+ghost use Rattle.std.specs.Prelude.{◌≡◌, [], nat_lt, IfOk, length};
+ghost use Rattle.std.specs.List.{list_all};
 ghost use Rattle.swap_digraph.specs.Deal.{IsWellSized};
+ghost use Rattle.ledger_core.specs.History.{height as height_of};
 ghost use Rattle.ledger_core.specs.Book.{IsLegalBook};
+ghost use Rattle.history_index.specs.Indexes.{entries_in, AreIndexes};
 ghost use Rattle.swap_rules.specs.Accepted.{IsAccepted};
 ghost use Rattle.swap_laws.specs.Laws.{FindsNothing, IsTransferred};
-ghost use Rattle.outcome_rules.specs.Parts.{AreCountable};
 ghost use Rattle.outcome_rules.specs.Promises.{AllAreConforming, AllAreWhole, AllHaveRefunds, NoneIsUnderwater, shown_outcome};
 ghost use Rattle.outcome_rules.specs.Report.{conforms_in, has_ended, outcomes_of, report_of};
 
 use crate::ending::outcome;
-use crate::listing::findings;
-use crate::scan::height_of;
-use ledger_core::Book;
+use crate::indexes::indexes_of;
+use crate::listing::findings_indexed;
+use history_index::Index;
+use ledger_core::{Book, Facts};
 use std::alloc::Global;
 use swap_base::{Listed, NoMemory};
 use swap_digraph::Deal;
@@ -28,37 +31,62 @@ pub struct Report {
     pub findings: Listed<Finding>,
 }
 
-/// Whether each ledger's height is above the horizon.
-fn has_ended(deal: &Deal, book: &Book) -> bool
-    requires sized { IsWellSized deal.now }
-    requires legal { IsLegalBook deal.now book.now.histories }
-    ensures { result ≡ has_ended deal.now book.now.histories }
+/// Whether each ledger's height is above this one.
+fn are_above(known: &[Index], height: u64) -> bool
+    ensures { result ≡ list_all (λ x. nat_lt height (height_of x.entries)) known.now }
 {
-    let horizon = horizon(deal.start, deal.delta, deal.bound);
-    for entries in book.histories.as_slice() {
-        if height_of(entries.as_slice()) as u64 <= horizon {
-            return false;
-        }
-    }
-    true
+    known.iter().all(|index| height < index.height() as u64)
+}
+
+/// Whether each ledger's height is above the horizon.
+fn has_ended(deal: &Deal, known: &[Index]) -> bool
+    requires { IsWellSized deal.now }
+    ensures { result ≡ has_ended deal.now (entries_in known.now) }
+{
+    are_above(known, horizon(deal.start, deal.delta, deal.bound))
 }
 
 /// How each party ended.
 #[tactic(auto, using(crate::proofs::Loops::map_one_more))]
-fn outcomes_of(alloc: Global, deal: &Deal, book: &Book) -> Result<Listed<Outcome>, NoMemory>
+fn outcomes_of(alloc: Global, deal: &Deal, known: &[Index]) -> Result<Listed<Outcome>, NoMemory>
     requires sized { IsWellSized deal.now }
-    requires one_each { length book.now.histories ≡ length deal.now.graph.arcs }
-    ensures { IfOk result (λ l. l ≡ outcomes_of deal.now book.now.histories) }
+    requires known { AreIndexes deal.now known.now }
+    ensures { IfOk result (λ l. l ≡ outcomes_of deal.now (entries_in known.now)) }
 {
     let mut list = Vec::new(alloc);
     for party in 0..deal.graph.n() {
-        list.push(outcome(deal, book, party))?;
+        list.push(outcome(deal, known, party))?;
     }
     Ok(Listed::new(list))
 }
 
-/// The report of a book. Findings are those of the parties that conform, and of ledgers that aren't above the horizon.
+/// The report of what the indexes hold.
 #[tactic(auto, unfolding(crate::specs::Report::report_of))]
+fn report_indexed(
+    alloc: Global,
+    deal: &Deal,
+    conforming: &Listed<bool>,
+    known: &[Index],
+) -> Result<Report, NoMemory>
+    requires sized { IsWellSized deal.now }
+    requires conforming { length conforming.now ≡ deal.now.graph.n }
+    requires known { AreIndexes deal.now known.now }
+    requires legal { IsLegalBook deal.now (entries_in known.now) }
+    ensures exact { IfOk result (λ r. r ≡ report_of deal.now conforming.now (entries_in known.now)) }
+    ensures safe { IfOk result (λ r. IsAccepted deal.now → NoneIsUnderwater deal.now conforming.now (shown_outcome r) r.findings) }
+    ensures refunds { IfOk result (λ r. IsAccepted deal.now → AllHaveRefunds deal.now conforming.now (entries_in known.now) r.findings) }
+    ensures transfer { IfOk result (λ r. (k : IsAccepted deal.now) → AllAreConforming deal.now conforming.now → r.findings ≡ [] → IsTransferred deal.now (entries_in known.now) k) }
+    ensures whole { IfOk result (λ r. IsAccepted deal.now → AllAreConforming deal.now conforming.now → r.findings ≡ [] → AllAreWhole deal.now r) }
+    ensures nothing_found { IfOk result (λ r. r.findings ≡ [] → FindsNothing deal.now (conforms_in conforming.now) (entries_in known.now)) }
+{
+    Ok(Report {
+        ended: has_ended(deal, known),
+        outcomes: outcomes_of(alloc, deal, known)?,
+        findings: findings_indexed(alloc, deal, conforming, known)?,
+    })
+}
+
+/// The report of a book. Findings are those of the parties that conform, and of ledgers that aren't above the horizon.
 pub fn report_of(
     alloc: Global,
     deal: &Deal,
@@ -75,9 +103,6 @@ pub fn report_of(
     ensures whole { IfOk result (λ r. IsAccepted deal.now → AllAreConforming deal.now conforming.now → r.findings ≡ [] → AllAreWhole deal.now r) }
     ensures nothing_found { IfOk result (λ r. r.findings ≡ [] → FindsNothing deal.now (conforms_in conforming.now) book.now.histories) }
 {
-    Ok(Report {
-        ended: has_ended(deal, book),
-        outcomes: outcomes_of(alloc, deal, book)?,
-        findings: findings(alloc, deal, conforming, book)?,
-    })
+    let known = indexes_of(alloc, deal, book)?;
+    report_indexed(alloc, deal, conforming, &known)
 }

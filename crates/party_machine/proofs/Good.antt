@@ -18,7 +18,7 @@ use Rattle.hashkey_path.specs.Hashkey.{key_of, message_of, is_valid, is_wrong_se
 use Rattle.hashkey_path.specs.Signed.{suffix_signature, first_key, extended_key, hashlock_of, IsLeadersOwn, CanExtend, IsValidInto}
 use Rattle.hashkey_path.proofs.Validity.{valid_from, to_valid}
 use Rattle.hashkey_path.proofs.Signed.{first_is_valid, extended_is_valid, leads_on}
-use Rattle.outcome_rules.proofs.Valid.{says_valid, valid_answer}
+use Rattle.hashkey_path.proofs.Answered.{says_valid, valid_answer}
 use Rattle.ledger_core.specs.declared.entry.Call.TheVariants.{Unlock}
 use Rattle.swap_rules.specs.Accepted.{IsAccepted}
 use Rattle.swap_laws.specs.Machine.{IsGoodKey, IsOwn, IsOnto, IsWallet}

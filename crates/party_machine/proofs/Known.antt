@@ -1,5 +1,5 @@
 -- What a machine is made of, as a new one and after more entries of an arc.
-use Rattle.std.proofs.Common.{◌≡◌, ◌≢◌, ◌⊎◌, ℕ, zero, suc, ◌+◌, ◌<◌, ◌++◌, List, [], ◌∷◌, length, map, get_or, set, replicate, Option, Some, None, refl, sym, ap, ◌∙◌, subst, inl, inr, arith, zero-add}
+use Rattle.std.proofs.Common.{◌≡◌, ◌≢◌, ◌⊎◌, ℕ, zero, suc, ◌+◌, ◌<◌, ◌++◌, List, [], ◌∷◌, length, map, get_or, set, replicate, Option, None, refl, sym, ap, ◌∙◌, subst, inl, inr, zero-add}
 use Rattle.std.specs.Prelude.{Result, Ok, Err, OnOk, OnErr}
 use Rattle.std.specs.List.{range_with_len}
 use Rattle.std.proofs.Math.Seq.{map-set_same}
@@ -9,7 +9,6 @@ use Rattle.std.proofs.lemmas.Simd.{map-map}
 use Rattle.swap_digraph.specs.declared.deal.Deal.{Deal}
 use Rattle.swap_digraph.specs.Graph.{arcs}
 use Rattle.swap_digraph.specs.Deal.{party, counterparty, IsWellSized}
-use Rattle.escrow_core.specs.Terms.{terms_of}
 use Rattle.hashkey_path.specs.declared.hashkey.Hashkey.{Hashkey}
 use Rattle.ledger_core.specs.declared.entry.Entry.{Entry}
 use Rattle.ledger_core.specs.History.{IsLegal}
@@ -21,13 +20,11 @@ use Rattle.swap_rules.specs.Accepted.{IsAccepted}
 use Rattle.swap_laws.specs.Machine.{IsWallet}
 use Rattle.swap_laws.proofs.Prefixes.{same_or_not}
 use Rattle.swap_laws.proofs.Conducting.{history_same, history_other}
-use Rattle.party_phase_two.specs.Unlocks.{signed_in}
 use Rattle.party_machine.specs.Value.{WalletState}
 use Rattle.party_machine.specs.Keys.{new_wallet, wallet_of}
 use Rattle.party_machine.specs.Fits.{wrong_lock}
 use Rattle.party_machine.specs.Machine.{MachineState, new_machine, machine_or, machine_for, learnt}
 use Rattle.party_machine.specs.Within.{entries_in, machine_in, AreIndexes, IsPartys, IsReady, IsKept}
-use Rattle.party_machine.specs.declared.misfit.Misfit.{Misfit}
 use Rattle.party_machine.specs.declared.machine.Machine.TheInside.{Inside}
 use Rattle.party_machine.proofs.Good.{fitting_is_good}
 
@@ -37,13 +34,13 @@ abbrev pub IsGoodFor : MachineState → Type 0
 IsGoodFor s = IsAccepted s.deal → IsWallet s.deal s.me (wallet_of s.seed s.me s.deal)
 
 pub is_good : (m : Inside) (s : MachineState) → machine_in m ≡ s → IsKept m → IsGoodFor s
-is_good m s e r = subst IsGoodFor e (λ accepted. fitting_is_good m.deal m.wallet.party m.wallet.seed accepted r.partys.party r.partys.fits)
+is_good m s e r = subst IsGoodFor e (λ accepted. fitting_is_good m.deal m.wallet.party m.wallet.seed accepted r.ready.partys.party r.ready.partys.fits)
 
 pub legal_at : (d : Deal) (w : WalletState) (known : List IndexState) (a : ℕ) → IsReady d w known → a < length d.graph.arcs → IsLegal d a (history (entries_in known) a)
 legal_at d w known a r lt = r.legal.legal a (rw r.legal.one_each lt)
 
 pub is_legal : (m : Inside) (s : MachineState) (a : ℕ) → machine_in m ≡ s → IsKept m → a < length s.deal.graph.arcs → IsLegal s.deal a (history s.known a)
-is_legal m s a e r lt = subst (λ (x : MachineState). a < length x.deal.graph.arcs → IsLegal x.deal a (history x.known a)) e (legal_at m.deal m.wallet m.known.items a r) lt
+is_legal m s a e r lt = subst (λ (x : MachineState). a < length x.deal.graph.arcs → IsLegal x.deal a (history x.known a)) e (legal_at m.deal m.wallet m.known.items a r.ready) lt
 
 pub one_each : (d : Deal) (w : WalletState) (known : List IndexState) → IsReady d w known → length known ≡ length d.graph.arcs
 one_each d w known r = sym (length-map known (λ x. x.entries)) ∙ r.legal.one_each

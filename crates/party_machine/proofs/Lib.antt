@@ -3,9 +3,9 @@ pub mod Digests
 pub mod Least
 pub mod Good
 pub mod Known
-pub mod Opened
 pub mod Onto
 pub mod Signed
 pub mod Next
 pub mod Chosen
 pub mod Step
+pub mod Resting

@@ -10,7 +10,7 @@ use Rattle.hashkey_path.specs.declared.hashkey.Hashkey.{Hashkey}
 use Rattle.ledger_core.specs.declared.entry.Call.{Call}
 use Rattle.ledger_core.specs.declared.entry.Call.TheVariants.{Unlock}
 use Rattle.history_index.specs.Value.{IndexState}
-use Rattle.swap_rules.specs.Due.{Wallet, Action, due_publishes, due_unlocks, due_claims, due_refunds, extended, first}
+use Rattle.swap_rules.specs.Due.{Wallet, due_publishes, due_unlocks, due_claims, due_refunds, extended, first}
 use Rattle.swap_laws.specs.Machine.{noted}
 use Rattle.party_phase_two.specs.Unlocks.{signed_in, key_on, key_from, IsFirstUnlock, IsSeenOn}
 use Rattle.party_phase_two.specs.declared.unlock_due.Base.{Base}
@@ -24,7 +24,7 @@ use Rattle.party_machine.specs.Unlocking.{CanPutOnto, base_key, due_hashkey}
 use Rattle.party_machine.proofs.Known.{legal_at}
 use Rattle.party_machine.proofs.Onto.{can_put_onto}
 use Rattle.party_machine.proofs.Signed.{signed_ready, is_noted, stays}
-use Rattle.party_machine.proofs.Next.{at_once, later, last_of, unlocks_of}
+use Rattle.party_machine.proofs.Next.{later, last_of, unlocks_of}
 use Rattle.party_machine.proofs.Chosen.{IsForLocks, chosen}
 
 -- Each hashkey of a wallet is for its lock.
@@ -111,12 +111,12 @@ module _ (d : Deal) (w : WalletState) (known : List IndexState) (ready : IsReady
   pub unlocks_next : (o : Option (ℕ × Call)) (u : UnlockDue) (k : Hashkey) → option_map action_of o ≡ first (due_publishes d w.party (entries_in known)) → is_some o ≡ false → first (unlocks_of state) ≡ Some (record { arc = u.arc; call = Unlock k }) → Some (record { arc = u.arc; call = Unlock k }) ≡ next_of state
   unlocks_next o u k e s f = later state o (Some (record { arc = u.arc; call = Unlock k })) e s (ap (λ z. or_else z (first (due_claims d w.party (entries_in known) ++ due_refunds d w.party (entries_in known)))) f)
 
-  pub settles_next : (v : ℕ) (xs : List IndexState) (s : List (Option Hashkey)) (o l : Option (ℕ × Call)) → v ≡ w.party → xs ≡ known → s ≡ w.signed → option_map action_of o ≡ first (due_publishes d w.party (entries_in known)) → is_some o ≡ false
-      → ((x : Wallet) → due_unlocks d v x (signed_in s) (entries_in xs) ≡ []) → option_map action_of l ≡ first (due_claims d v (entries_in xs) ++ due_refunds d v (entries_in xs)) → option_map action_of l ≡ next_of state
-  settles_next v xs s o l ev ek es e n none h =
+  pub settles_next : (v : ℕ) (xs ys : List IndexState) (s : List (Option Hashkey)) (o l : Option (ℕ × Call)) → v ≡ w.party → xs ≡ known → ys ≡ known → s ≡ w.signed → option_map action_of o ≡ first (due_publishes d w.party (entries_in known)) → is_some o ≡ false
+      → ((x : Wallet) → due_unlocks d v x (signed_in s) (entries_in xs) ≡ []) → option_map action_of l ≡ first (due_claims d v (entries_in ys) ++ due_refunds d v (entries_in ys)) → option_map action_of l ≡ next_of state
+  settles_next v xs ys s o l ev ek ey es e n none h =
       let nothing : unlocks_of state ≡ [] =
       subst (λ (y : ℕ). due_unlocks d y (wallet_of w.seed w.party d) (signed_in w.signed) (entries_in known) ≡ []) ev
-      (subst (λ (ys : List IndexState). due_unlocks d v (wallet_of w.seed w.party d) (signed_in w.signed) (entries_in ys) ≡ []) ek
+      (subst (λ (zs : List IndexState). due_unlocks d v (wallet_of w.seed w.party d) (signed_in w.signed) (entries_in zs) ≡ []) ek
       (subst (λ (z : List (Option Hashkey)). due_unlocks d v (wallet_of w.seed w.party d) (signed_in z) (entries_in xs) ≡ []) es (none (wallet_of w.seed w.party d)))) in
-      let last : option_map action_of l ≡ first (due_claims d w.party (entries_in known) ++ due_refunds d w.party (entries_in known)) = h ∙ ap₂ (λ (y : ℕ) (ys : List IndexState). first (due_claims d y (entries_in ys) ++ due_refunds d y (entries_in ys))) ev ek in
+      let last : option_map action_of l ≡ first (due_claims d w.party (entries_in known) ++ due_refunds d w.party (entries_in known)) = h ∙ ap₂ (λ (y : ℕ) (zs : List IndexState). first (due_claims d y (entries_in zs) ++ due_refunds d y (entries_in zs))) ev ey in
       later state o (option_map action_of l) e n (last_of (unlocks_of state) (due_claims d w.party (entries_in known) ++ due_refunds d w.party (entries_in known)) nothing last)

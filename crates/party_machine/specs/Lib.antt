@@ -1,8 +1,10 @@
 pub mod Value
 pub mod Keys
+pub mod Wallets
 pub mod Fits
 pub mod Inside
 pub mod Machine
+pub mod Rest
 pub mod Within
 pub mod Unlocking
 pub mod Law

@@ -1,31 +1,21 @@
 -- What the fields of a machine mean, and what holds of them.
-use Rattle.std.specs.Prelude.{◌≡◌, ◌<◌, ℕ, List, length, map, Some, None}
-use Rattle.swap_digraph.specs.Graph.{arcs}
-use Rattle.swap_digraph.specs.Deal.{party, counterparty, IsWellSized}
+use Rattle.std.specs.Prelude.{◌≡◌, ◌<◌, ℕ, List, length, Some, None}
+use Rattle.swap_digraph.specs.Deal.{IsWellSized}
 use Rattle.swap_digraph.specs.declared.deal.Deal.{Deal}
 use Rattle.hashkey_path.specs.declared.hashkey.Hashkey.{Hashkey}
-use Rattle.escrow_core.specs.Terms.{terms_of}
-use Rattle.ledger_core.specs.Book.{Histories, IsLegalBook}
+use Rattle.ledger_core.specs.Book.{IsLegalBook}
 use Rattle.history_index.specs.Value.{IndexState}
+pub use Rattle.history_index.specs.Indexes.{entries_in, AreIndexes}
 use Rattle.party_phase_two.specs.Unlocks.{signed_in}
 use Rattle.party_machine.specs.Value.{WalletState}
 use Rattle.party_machine.specs.Fits.{wrong_lock}
 use Rattle.party_machine.specs.Machine.{MachineState}
+use Rattle.party_machine.specs.Rest.{MayRest}
 use Rattle.party_machine.specs.declared.machine.Machine.TheInside.{Inside}
-
--- the entries of each index
-abbrev pub entries_in : List IndexState → Histories
-entries_in known = map (λ x. x.entries) known
 
 -- what its fields show
 abbrev pub machine_in : Inside → MachineState
 machine_in m = record { deal = m.deal; me = m.wallet.party; seed = m.wallet.seed; known = entries_in m.known.items; signed = m.wallet.signed }
-
--- One index per arc, made for the arc.
-pub record AreIndexes (d : Deal) (known : List IndexState) : Type 0 where
-  pub terms : map (λ x. x.terms) known ≡ map (terms_of d) (arcs d.graph)
-  pub from : map (λ x. x.from) known ≡ map (party d) (arcs d.graph)
-  pub to : map (λ x. x.to) known ≡ map (counterparty d) (arcs d.graph)
 
 -- The wallet has what the deal states of its party, and each hashkey in it is for its lock.
 pub record IsPartys (d : Deal) (w : WalletState) : Type 0 where
@@ -42,5 +32,7 @@ pub record IsReady (d : Deal) (w : WalletState) (known : List IndexState) : Type
   pub indexes : AreIndexes d known
   pub legal : IsLegalBook d (entries_in known)
 
-abbrev pub IsKept : Inside → Type 0
-IsKept m = IsReady m.deal m.wallet m.known.items
+-- The machine is ready, and where it rests, it may.
+pub record IsKept (m : Inside) : Type 0 where
+  pub ready : IsReady m.deal m.wallet m.known.items
+  pub rests : MayRest m.rest (machine_in m)

@@ -1,6 +1,6 @@
 //! The calls that are due and carry no hashkey.
 
-ghost use Rattle.std.specs.Prelude.{◌≡◌, ◌<◌, ◌++◌, ℕ, Option, option_map};
+ghost use Rattle.std.specs.Prelude.{◌≡◌, ◌<◌, ◌++◌, ℕ, Option, option_map, IfOk};
 ghost use Rattle.hashkey_path.specs.declared.hashkey.Hashkey.{Hashkey};
 ghost use Rattle.swap_digraph.specs.Deal.{IsWellSized};
 ghost use Rattle.swap_rules.specs.Due.{due_publishes, due_claims, due_refunds, first};
@@ -12,20 +12,29 @@ use history_index::Index;
 use ledger_core::Call;
 use party_phase_one::due_publish;
 use party_phase_two::{due_claim, due_refund};
-use swap_base::{ArcId, PartyId};
+use std::alloc::Global;
+use swap_base::{ArcId, NoMemory, PartyId, Shared};
 use swap_digraph::Deal;
 
 /// The first publish that is due.
-pub(crate) fn due_first(deal: &Deal, me: PartyId, known: &[Index]) -> Option<(ArcId, Call)>
+pub(crate) fn due_first(
+    alloc: Global,
+    deal: &Deal,
+    me: PartyId,
+    known: &[Index],
+) -> Result<Option<(ArcId, Call)>, NoMemory>
     requires sized { IsWellSized deal.now }
     requires me { me < deal.now.graph.n }
     requires known { AreIndexes deal.now known.now }
-    ensures first { option_map action_of result ≡ first (due_publishes deal.now me (entries_in known.now)) }
-    ensures no_key { (signed : ℕ → Option Hashkey) → noted_for signed result ≡ signed }
+    ensures first { IfOk result (λ o. option_map action_of o ≡ first (due_publishes deal.now me (entries_in known.now))) }
+    ensures no_key { IfOk result (λ o. (signed : ℕ → Option Hashkey) → noted_for signed o ≡ signed) }
 {
     match due_publish(deal, me, known) {
-        Some(arc) => Some((arc, Call::Publish(terms_of(deal, arc)))),
-        None => None,
+        Some(arc) => {
+            let terms = Shared::new(alloc, terms_of(deal, arc))?;
+            Ok(Some((arc, Call::Publish(terms))))
+        }
+        None => Ok(None),
     }
 }
 

@@ -9,7 +9,7 @@ mod law;
 mod machine;
 mod misfit;
 mod reading;
-mod room;
+mod rest;
 mod signing;
 mod wallet;
 mod wallet_key;

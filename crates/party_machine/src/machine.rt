@@ -13,25 +13,27 @@ ghost use Rattle.party_machine.specs.Keys.{new_wallet, wallet_of};
 ghost use Rattle.party_machine.specs.Machine.{machine_for, new_machine, learnt, action_of, next_of, noted_for, IsOfSame};
 
 use crate::actions::{due_first, due_last};
-use crate::knowledge::{add_all, indexes_of};
+use crate::knowledge::indexes_of;
 use crate::misfit::{MachineFault, Misfit};
+use crate::rest::{Rest, are_ticks};
 use crate::signing::hashkey_for;
 use crate::wallet::Wallet;
 use history_index::{Index, Steps};
-use ledger_core::{Call, Entry, EntryList};
-use party_phase_two::due_unlock;
+use ledger_core::{Call, EntryList, Facts};
+use party_phase_two::{due_unlock, rest_until};
 use std::alloc::Global;
 use std::marker::Model;
 use std::sync::ledger::Ledger;
 use swap_base::{ArcId, Fault, NoMemory, PartyId};
 use swap_digraph::{Deal, copy_deal};
 
-/// A conforming party: its deal, its wallet, and what it knows of each arc.
+/// A conforming party: its deal, its wallet, and what it knows of each arc. It rests while it has nothing to do.
 #[derive(Drop)]
 pub struct Machine {
     deal: Deal,
     wallet: Wallet,
     known: Vec<Index>,
+    rest: Rest,
 }
 
 impl Model for Machine {
@@ -70,6 +72,7 @@ impl Machine {
             deal: copy_deal(deal)?,
             wallet,
             known,
+            rest: Rest::Awake,
         })
     }
 
@@ -87,11 +90,16 @@ impl Machine {
         ensures err { OnErr result (self.new ≡ self.old) }
         ensures no_step { OnErr result (steps.new ≡ steps.old) }
     {
+        let ticks = are_ticks(&entries);
         let index = &mut self.known[arc as usize];
-        add_all(index, entries, steps)
+        let added = index.extend(entries, steps);
+        let height = index.height();
+        self.rest = self.rest.after(ticks, height);
+        added
     }
 
     /// The first call that is due, with its arc. It signs a hashkey only for the call that it answers, and keeps it.
+    /// Once nothing is due it rests: it looks again only after it has learnt a call, or a tick above an expiry that it waits for.
     pub fn next(&mut self) -> Result<Option<(ArcId, Call)>, NoMemory>
         ensures due { IfOk result (λ o. option_map action_of o ≡ next_of self.old) }
         ensures signed { IfOk result (λ o. signed_in self.new.signed ≡ noted_for (signed_in self.old.signed) o) }
@@ -99,18 +107,28 @@ impl Machine {
         ensures same { IsOfSame self.old self.new }
         ensures err { OnErr result (self.new ≡ self.old) }
     {
+        match self.rest {
+            Rest::Until(_) => return Ok(None),
+            Rest::Awake => {}
+        }
         let me = self.wallet.party();
-        let first = due_first(&self.deal, me, &self.known);
+        let alloc = *self.known.allocator();
+        let first = due_first(alloc, &self.deal, me, &self.known)?;
         if first.is_some() {
             return Ok(first);
         }
         match due_unlock(&self.deal, me, &self.known, self.wallet.signed()) {
             Some(due) => {
-                let alloc = *self.known.allocator();
                 let key = hashkey_for(alloc, &mut self.wallet, &self.deal, &self.known, due)?;
                 Ok(Some((due.arc, Call::Unlock(key))))
             }
-            None => Ok(due_last(&self.deal, me, &self.known)),
+            None => {
+                let last = due_last(&self.deal, me, &self.known);
+                if last.is_none() {
+                    self.rest = Rest::Until(rest_until(&self.deal, me, &self.known));
+                }
+                Ok(last)
+            }
         }
     }
 
@@ -129,12 +147,11 @@ impl Machine {
         &self.deal
     }
 
-    /// What is known of an arc, oldest first.
-    pub fn known(&self, arc: ArcId) -> &[Entry]
+    /// How many entries are known of an arc.
+    pub fn known(&self, arc: ArcId) -> u32
         requires { arc < length self.now.deal.graph.arcs }
-        ensures value { result.now ≡ history self.now.known arc }
-        ensures legal { IsLegal self.now.deal arc result.now }
+        ensures { result ≡ length (history self.now.known arc) }
     {
-        self.known[arc as usize].entries()
+        self.known[arc as usize].count()
     }
 }

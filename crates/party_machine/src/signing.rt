@@ -15,7 +15,7 @@ use hashkey_path::Hashkey;
 use history_index::Index;
 use party_phase_two::{Base, UnlockDue};
 use std::alloc::Global;
-use swap_base::{LockId, NoMemory};
+use swap_base::{LockId, NoMemory, Shared};
 use swap_digraph::Deal;
 
 /// Puts the party's signature onto the hashkey that opened the lock on that arc.
@@ -25,7 +25,7 @@ fn sign_onto(
     deal: &Deal,
     index: &Index,
     lock: LockId,
-) -> Result<Hashkey, NoMemory>
+) -> Result<Shared<Hashkey>, NoMemory>
     requires mode { wallet.old.mode ≡ deal.now.mode }
     requires party { wallet.old.party < deal.now.graph.n }
     requires lock { lock < length wallet.old.signed }
@@ -49,7 +49,7 @@ fn sign_new(
     deal: &Deal,
     known: &[Index],
     due: UnlockDue,
-) -> Result<Hashkey, NoMemory>
+) -> Result<Shared<Hashkey>, NoMemory>
     requires ready { IsReady deal.now wallet.old known.now }
     requires lock { due.lock < length deal.now.leaders }
     requires base { IsSeenOn deal.now wallet.old.party (entries_in known.now) due.lock due.base }
@@ -73,7 +73,7 @@ pub(crate) fn hashkey_for(
     deal: &Deal,
     known: &[Index],
     due: UnlockDue,
-) -> Result<Hashkey, NoMemory>
+) -> Result<Shared<Hashkey>, NoMemory>
     requires ready { IsReady deal.now wallet.old known.now }
     requires lock { due.lock < length deal.now.leaders }
     requires base { IsSeenOn deal.now wallet.old.party (entries_in known.now) due.lock due.base }

@@ -10,14 +10,13 @@ ghost use Rattle.party_machine.specs.Keys.{new_wallet, unspent, own_key, onto_ke
 
 use crate::fitting::fits_lock;
 use crate::hashkeys::{onto_hashkey, own_hashkey};
-use crate::room::Room;
 use crate::wallet_key::{WalletKey, unspent};
 use hashkey_path::Hashkey;
 use party_phase_two::Signed;
 use std::alloc::Global;
 use std::marker::Model;
 use std::mem;
-use swap_base::{Digest, Listed, LockId, NoMemory, PartyId, TryCopy};
+use swap_base::{Digest, Listed, LockId, NoMemory, PartyId, Shared, TryCopy};
 use swap_digraph::{Deal, Mode};
 
 /// A party's keys, one for each lock of a deal with hashkeys, and the hashkeys that it made. A lock's key is spent by the one hashkey that is made for it, which stays.
@@ -71,13 +70,23 @@ fn none_signed(alloc: Global, locks: u8) -> Result<Signed, NoMemory>
 }
 
 /// Notes the hashkey that was signed for a lock. It takes no memory.
-fn keep(signed: &mut Signed, alloc: Global, lock: LockId, hashkey: Hashkey)
+fn keep(signed: &mut Signed, alloc: Global, lock: LockId, hashkey: Shared<Hashkey>)
     requires { lock < length signed.old.keys }
     ensures { signed.new.keys ≡ slice_set signed.old.keys lock (Some hashkey) }
 {
     let mut keys = mem::replace(&mut signed.keys, Listed::empty(alloc)).into_vec();
     keys[lock as usize] = Some(hashkey);
     signed.keys = Listed::new(keys);
+}
+
+/// A hashkey with two holders.
+fn held_twice(alloc: Global, made: Hashkey) -> Result<(Shared<Hashkey>, Shared<Hashkey>), NoMemory>
+    ensures one { IfOk result (λ p. p.0 ≡ made) }
+    ensures other { IfOk result (λ p. p.1 ≡ made) }
+{
+    let one = Shared::new(alloc, made)?;
+    let other = one.copy()?;
+    Ok((one, other))
 }
 
 impl Wallet {
@@ -140,7 +149,7 @@ impl Wallet {
     }
 
     /// A copy of the hashkey that was signed for a lock.
-    pub(crate) fn copy_signed(&self, lock: LockId) -> Result<Hashkey, NoMemory>
+    pub(crate) fn copy_signed(&self, lock: LockId) -> Result<Shared<Hashkey>, NoMemory>
         requires lock { lock < length self.now.signed }
         requires signed { IsSome (signed_in self.now.signed lock) }
         ensures { IfOk result (λ k. signed_in self.now.signed lock ≡ Some k) }
@@ -157,7 +166,7 @@ impl Wallet {
         alloc: Global,
         deal: &Deal,
         lock: LockId,
-    ) -> Result<Hashkey, NoMemory>
+    ) -> Result<Shared<Hashkey>, NoMemory>
         requires mode { self.old.mode ≡ deal.now.mode }
         requires party { self.old.party < deal.now.graph.n }
         requires lock { lock < length self.old.signed }
@@ -166,12 +175,19 @@ impl Wallet {
         ensures kept { IfOk result (λ k. self.new ≡ with_signed self.old lock k) }
         ensures err { OnErr result (self.new ≡ self.old) }
     {
-        let room = Room::new(alloc, 1)?;
         let slot = &mut self.keys[lock as usize];
         let made = own_hashkey(alloc, deal, self.party, &self.seed, lock, slot)?;
-        let copy = room.copy_of(&made);
-        keep(&mut self.signed, alloc, lock, made);
-        Ok(copy)
+        match held_twice(alloc, made) {
+            Ok((kept, answer)) => {
+                keep(&mut self.signed, alloc, lock, kept);
+                Ok(answer)
+            }
+            Err(_) => {
+                // What the key signed was shown to nobody, and is gone.
+                self.keys[lock as usize] = unspent(self.mode, &self.seed, self.party, lock);
+                Err(NoMemory)
+            }
+        }
     }
 
     /// Makes the party's hashkey that goes on from another, keeps it, and answers a copy. Want of memory leaves everything as it was.
@@ -180,7 +196,7 @@ impl Wallet {
         alloc: Global,
         deal: &Deal,
         inner: &Hashkey,
-    ) -> Result<Hashkey, NoMemory>
+    ) -> Result<Shared<Hashkey>, NoMemory>
         requires mode { self.old.mode ≡ deal.now.mode }
         requires party { self.old.party < deal.now.graph.n }
         requires lock { inner.now.lock < length self.old.signed }
@@ -191,11 +207,20 @@ impl Wallet {
         ensures kept { IfOk result (λ k. self.new ≡ with_signed self.old inner.now.lock k) }
         ensures err { OnErr result (self.new ≡ self.old) }
     {
-        let room = Room::new(alloc, inner.path.len() + 1)?;
         let slot = &mut self.keys[inner.lock as usize];
         let made = onto_hashkey(alloc, deal, self.party, inner, slot)?;
-        let copy = room.copy_of(&made);
-        keep(&mut self.signed, alloc, inner.lock, made);
-        Ok(copy)
+        match held_twice(alloc, made) {
+            Ok((kept, answer)) => {
+                keep(&mut self.signed, alloc, inner.lock, kept);
+                Ok(answer)
+            }
+            Err(_) => {
+                // What the key signed was shown to nobody, and is gone.
+                self.keys[inner.lock as usize] = unspent(
+                    self.mode, &self.seed, self.party, inner.lock,
+                );
+                Err(NoMemory)
+            }
+        }
     }
 }

@@ -2,11 +2,9 @@
 //!
 //! What the party knows is one `ledger_core::Facts` per arc. Nothing here takes memory, and each arc is asked a question or two.
 //!
-//! Read `specs/Known.antt` first, and in `swap_rules` the definitions `is_good`, `is_ready` and `due_publishes`.
+//! Read in `swap_rules` the definitions `is_good`, `is_ready` and `due_publishes`.
 #![tactic(auto)]
 
 mod publish;
-mod readings;
 
 pub use publish::due_publish;
-pub use readings::{is_correct, is_good, is_ready};

@@ -8,20 +8,13 @@ ghost use Rattle.swap_rules.specs.Party.{is_ready, leads_one};
 ghost use Rattle.swap_rules.specs.Conduct.{is_publish};
 ghost use Rattle.swap_rules.specs.Due.{due_publishes, first, has_called, is_due_publish};
 ghost use Rattle.ledger_core.specs.Book.{history};
-ghost use Rattle.party_phase_one.specs.Known.{AreMadeFor};
+ghost use Rattle.book_reading.specs.Known.{AreMadeFor};
 ghost use Rattle.party_phase_one.specs.Publish.{publish_on};
 
-use crate::readings::is_ready;
+use book_reading::{is_ready, leads_one};
 use ledger_core::{CallKind, Facts};
 use swap_base::{ArcId, PartyId};
 use swap_digraph::Deal;
-
-/// Whether the party leads a lock.
-fn leads_one(deal: &Deal, me: PartyId) -> bool
-    ensures { result ≡ leads_one deal.now me }
-{
-    deal.leaders.as_slice().iter().any(|leader| *leader == me)
-}
 
 /// Whether the party made a publish on the arc, whatever the reply.
 fn has_published<F: Facts>(me: PartyId, known: &[F], arc: ArcId) -> bool

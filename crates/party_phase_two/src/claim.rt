@@ -6,12 +6,11 @@ ghost use Rattle.swap_digraph.specs.Graph.{entering};
 ghost use Rattle.swap_digraph.specs.Deal.{IsWellSized};
 ghost use Rattle.swap_rules.specs.Due.{due_claims, first, has_called, is_claiming, is_due_claim};
 ghost use Rattle.ledger_core.specs.Book.{history};
-ghost use Rattle.party_phase_one.specs.Known.{AreMadeFor};
+ghost use Rattle.book_reading.specs.Known.{AreMadeFor};
 ghost use Rattle.party_phase_two.specs.Settling.{claim_on};
 
-use crate::locks::is_triggered;
+use book_reading::{is_correct, is_triggered};
 use ledger_core::{CallKind, Facts};
-use party_phase_one::is_correct;
 use swap_base::{ArcId, PartyId};
 use swap_digraph::Deal;
 

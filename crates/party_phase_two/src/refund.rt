@@ -7,16 +7,16 @@ ghost use Rattle.swap_digraph.specs.Deal.{IsWellSized};
 ghost use Rattle.swap_rules.specs.Due.{due_refunds, first, has_called, is_due_refund, is_refunding};
 ghost use Rattle.ledger_core.specs.Book.{history};
 ghost use Rattle.ledger_core.specs.History.{height, published, settled};
-ghost use Rattle.party_phase_one.specs.Known.{AreMadeFor};
+ghost use Rattle.book_reading.specs.Known.{AreMadeFor};
 ghost use Rattle.party_phase_two.specs.Settling.{refund_on};
 
-use crate::locks::{has_expired, is_triggered};
+use book_reading::{has_expired, height_on, is_triggered};
 use ledger_core::{CallKind, Facts};
 use swap_base::{ArcId, PartyId};
 use swap_digraph::Deal;
 
 /// Whether the arc carries an accepted publish and isn't settled.
-fn is_held<F: Facts>(known: &[F], arc: ArcId) -> bool
+pub(crate) fn is_held<F: Facts>(known: &[F], arc: ArcId) -> bool
     ensures exact { result ≡ (is_some (published (history (map F.entries known.now) arc)) && is_none (settled (history (map F.entries known.now) arc))) }
     ensures within { result ≡ true → arc < length known.now }
 {
@@ -26,18 +26,8 @@ fn is_held<F: Facts>(known: &[F], arc: ArcId) -> bool
     }
 }
 
-/// The height of the arc's ledger, 0 where nothing is known of it.
-fn height_on<F: Facts>(known: &[F], arc: ArcId) -> u32
-    ensures { result ≡ height (history (map F.entries known.now) arc) }
-{
-    match known.get(arc as usize) {
-        Some(fact) => fact.height(),
-        None => 0,
-    }
-}
-
 /// Whether the party made a refund on the arc, whatever the reply.
-fn has_refunded<F: Facts>(me: PartyId, known: &[F], arc: ArcId) -> bool
+pub(crate) fn has_refunded<F: Facts>(me: PartyId, known: &[F], arc: ArcId) -> bool
     ensures { result ≡ has_called me is_refunding (history (map F.entries known.now) arc) }
 {
     match known.get(arc as usize) {

@@ -7,17 +7,15 @@ ghost use Rattle.swap_digraph.specs.Deal.{locks, IsWellSized};
 ghost use Rattle.swap_rules.specs.Conduct.{opens_without};
 ghost use Rattle.swap_rules.specs.Due.{due_unlocks, has_called, is_unlock_for, Wallet};
 ghost use Rattle.ledger_core.specs.Book.{history};
-ghost use Rattle.ledger_core.specs.History.{accepted, opened, opening};
-ghost use Rattle.party_phase_one.specs.Known.{AreMadeFor};
+ghost use Rattle.ledger_core.specs.History.{opened};
+ghost use Rattle.book_reading.specs.Known.{AreMadeFor};
 ghost use Rattle.party_phase_two.specs.Parts.{due_base, first_closed, unlock_for};
 ghost use Rattle.party_phase_two.specs.Unlocks.{seen_on, signed_in, IsFirstUnlock, IsSeenOn};
 
-use crate::locks::leads;
 use crate::signed::Signed;
 use crate::unlock_due::{Base, UnlockDue};
-use escrow_core::Reply;
-use ledger_core::{Call, CallKind, Entry, Facts, What};
-use party_phase_one::is_ready;
+use book_reading::{is_ready, leads};
+use ledger_core::{CallKind, Facts};
 use swap_base::{ArcId, LockId, PartyId};
 use swap_digraph::Deal;
 
@@ -28,22 +26,6 @@ fn is_among(party: PartyId, path: &[PartyId]) -> bool
     path.iter().any(|other| *other == party)
 }
 
-/// Whether the entry was accepted and opened the lock by a path without the party.
-fn opens_without(me: PartyId, lock: LockId, entry: &Entry) -> bool
-    ensures { result ≡ opens_without me (opening lock entry.now.height (accepted entry.now)) }
-{
-    match (&entry.what, entry.reply) {
-        (What::Call(Call::Unlock(key)), Reply::Accepted) => {
-            if key.lock == lock {
-                !is_among(me, key.path.as_slice())
-            } else {
-                false
-            }
-        }
-        _ => false,
-    }
-}
-
 /// Whether a path without the party opened the lock on the arc.
 fn is_seen<F: Facts>(deal: &Deal, me: PartyId, known: &[F], lock: LockId, arc: ArcId) -> bool
     requires sized { IsWellSized deal.now }
@@ -52,8 +34,8 @@ fn is_seen<F: Facts>(deal: &Deal, me: PartyId, known: &[F], lock: LockId, arc: A
     ensures { result ≡ opens_without me (opened (history (map F.entries known.now) arc) lock) }
 {
     match known.get(arc as usize) {
-        Some(fact) => match fact.unlocked(lock) {
-            Some(number) => opens_without(me, lock, fact.entry(number)),
+        Some(fact) => match fact.opened_key(lock) {
+            Some(key) => !is_among(me, key.path.as_slice()),
             None => false,
         },
         None => false,

@@ -7,14 +7,18 @@ mod copy;
 mod fault;
 mod ids;
 mod listed;
+mod past;
 mod pieces;
+mod shared;
 mod text;
 
 pub use copy::TryCopy;
 pub use fault::{Fault, NoMemory};
 pub use ids::{ArcId, Digest, LockId, PartyId};
 pub use listed::Listed;
+pub use past::Past;
 pub use pieces::{Piece, put};
+pub use shared::Shared;
 pub use text::ByteText;
 
 #[cfg(test)]

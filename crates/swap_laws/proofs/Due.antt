@@ -13,9 +13,10 @@ use Rattle.hashkey_path.specs.declared.hashkey.Hashkey.{Hashkey}
 use Rattle.hashkey_path.specs.Hashkey.{is_valid}
 use Rattle.escrow_core.specs.Terms.{hashlock_in, terms_of}
 use Rattle.ledger_core.specs.declared.entry.Call.{Call}
-use Rattle.ledger_core.specs.declared.entry.Call.TheVariants.{Publish, Unlock, Claim, Refund}
+use Rattle.ledger_core.specs.declared.entry.Call.TheVariants.{Publish, Unlock, Claim, Refund, Transfer}
 use Rattle.ledger_core.specs.declared.entry.Entry.{Entry}
 use Rattle.ledger_core.specs.History.{height, accepted, Publication, published, opened, settled, fit, IsLegal}
+use Rattle.ledger_core.specs.Known.{presents_valid}
 use Rattle.ledger_core.specs.Book.{Histories, history, IsLegalBook}
 use Rattle.swap_rules.specs.Party.{hashlock_of, has_expired, is_correct, is_ready, is_triggered, leads_one, call_of}
 use Rattle.swap_rules.specs.Conduct.{first_seen_key, key_without, is_publish, has_origin, carries, extends, is_alone}
@@ -45,6 +46,14 @@ pub record IsDue (d : Deal) (v : ℕ) (w : Wallet) (signed : ℕ → Option Hash
   pub rule : KeepsOwn d b (noted signed c) v a (history b a) c
   pub keeps_signed : (i : ℕ) (key : Hashkey) → signed i ≡ Some key → noted signed c i ≡ Some key
   pub keys : (i : ℕ) (key : Hashkey) → noted signed c i ≡ Some key → KeepsKey d b v i key
+
+-- what is due presents a valid hashkey, or none
+pub due_is_valid : (d : Deal) (v : ℕ) (w : Wallet) (signed : ℕ → Option Hashkey) (b known : Histories) (a : ℕ) (c : Call) → IsDue d v w signed b known a c → presents_valid d a c ≡ true
+due_is_valid d v w signed b known a (Unlock key) i = (i.keys key.lock key i.rule.2).good.valid a i.rule.3
+due_is_valid d v w signed b known a (Publish t) i = refl
+due_is_valid d v w signed b known a Claim i = refl
+due_is_valid d v w signed b known a Refund i = refl
+due_is_valid d v w signed b known a (Transfer to units) i = refl
 
 -- whatever v called on a ledger, it knows of
 pub knows_call : (v : ℕ) (test : Option Call → Bool) (k h : List Entry) → test None ≡ false → Knows v k h → has_called v test k ≡ false → has_called v test h ≡ false

@@ -33,3 +33,5 @@ pub mod Machines
 pub mod Room
 pub mod Rounds
 pub mod Dealing
+-- rest
+pub mod Rest

@@ -87,7 +87,7 @@ least-in x (y ∷ xs) = elim (min_cases x (least (y ∷ xs))) [ inl e ↦ inl e 
     min_cases : (m n : ℕ) → (min m n ≡ m) ⊎ (min m n ≡ n)
     min_cases m n = grind arith
 
-least-below : (xs : List ℕ) (x : ℕ) → IsIn x xs → least xs ≤ x
+pub least-below : (xs : List ℕ) (x : ℕ) → IsIn x xs → least xs ≤ x
 least-below [] x i = absurd i
 least-below (y ∷ []) x (inl e) = omega arith
 least-below (y ∷ []) x (inr i) = absurd i
@@ -99,7 +99,7 @@ from_map f [] y i = absurd i
 from_map f (x ∷ xs) y (inl e) = (x, inl refl, sym e)
 from_map f (x ∷ xs) y (inr i) = let r = from_map f xs y i in (r.0, inr r.1, r.2)
 
-in_image : {A B : Type 0} (f : A → B) (xs : List A) (x : A) → IsIn x xs → IsIn (f x) (map f xs)
+pub in_image : {A B : Type 0} (f : A → B) (xs : List A) (x : A) → IsIn x xs → IsIn (f x) (map f xs)
 in_image f [] x i = i
 in_image f (y ∷ xs) x (inl e) = inl (ap f e)
 in_image f (y ∷ xs) x (inr i) = inr (in_image f xs x i)

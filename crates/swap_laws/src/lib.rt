@@ -5,6 +5,7 @@
 
 ghost use Rattle.swap_laws.specs.Laws.{UnitsAreKept, AcceptedIsWellSized, EveryBookIsSafe, AllIsTransferred, WithoutFindingsAllIsTransferred, NothingFound, UnnamedIsSafe};
 ghost use Rattle.swap_laws.specs.Laws.{NothingIsForged, KnowledgeConducts, LearningIsSound, DueIsSound, RulesLeaveRoom, RoundsAreInTime, RoundsAreOnTime, RacesAreInTime, AllIsDealt, RacesAreDealt};
+ghost use Rattle.swap_laws.specs.Rest.{TicksMakeNothingDue};
 
 /// At every prefix of a legal history each unit stands in one place: in the party's balance, the counterparty's or the contract.
 pub fn units_are_kept()
@@ -61,4 +62,9 @@ pub fn rounds_are_in_time()
 pub fn all_is_dealt()
     ensures books { AllIsDealt }
     ensures races { RacesAreDealt }
+{}
+
+/// A party for which nothing is due may rest: ticks make nothing due for it up to the least expiry of a refund that it waits for.
+pub fn ticks_make_nothing_due()
+    ensures { TicksMakeNothingDue }
 {}

@@ -4,6 +4,7 @@ ghost use Rattle.std.specs.Prelude.{◌≡◌, ◌≤◌, ◌<◌, length, map, 
 ghost use Rattle.swap_base.specs.Fault.{Gives};
 ghost use Rattle.swap_rules.specs.Accepted.{IsAccepted};
 ghost use Rattle.swap_run.specs.Run.{start, step};
+ghost use Rattle.party_machine.specs.Wallets.{wallets_of};
 ghost use Rattle.swap_offer.specs.Job.{IsWhole};
 ghost use Rattle.swap_offer.specs.Wallets.{HaveWallets};
 ghost use Rattle.swap_world.specs.Cast.{cast_of};
@@ -11,6 +12,7 @@ ghost use Rattle.swap_main.specs.Replay.{replayed, next_by, passed_over, IsOf};
 
 use deviator_script::Job;
 use offer_fields::OfferFault;
+use party_machine::Wallet;
 use std::alloc::Global;
 use swap_base::{Fault, NoMemory};
 use swap_offer::next_event;
@@ -39,15 +41,16 @@ fn step_line(
 }
 
 /// The world of a job whose conforming parties have their wallets.
-fn new_world(alloc: Global, job: &Job) -> Result<World, NoMemory>
+fn new_world(alloc: Global, job: &Job, wallets: Vec<Option<Wallet>>) -> Result<World, NoMemory>
     requires whole { IsWhole job.now }
     requires accepted { IsAccepted job.now.deal }
     requires wallets { HaveWallets job.now }
+    requires made { wallets.items ≡ wallets_of job.now.deal job.now.conforming job.now.seeds }
     ensures of { IfOk result (λ w. IsOf job.now w) }
     ensures state { IfOk result (λ w. w.state ≡ start job.now.deal) }
     ensures goes_on { IfOk result (λ w. w.stopped ≡ false) }
 {
-    match World::new(alloc, job) {
+    match World::new(alloc, job, wallets) {
         Ok(world) => Ok(world),
         Err(Fault::NoMemory) => Err(NoMemory),
         Err(Fault::Refused(_)) => unreachable!(),
@@ -55,16 +58,22 @@ fn new_world(alloc: Global, job: &Job) -> Result<World, NoMemory>
 }
 
 /// The world after the events of the lines.
-pub(crate) fn replay(alloc: Global, job: &Job, lines: &[(u32, &[u8])]) -> Result<World, OfferFault>
+pub(crate) fn replay(
+    alloc: Global,
+    job: &Job,
+    wallets: Vec<Option<Wallet>>,
+    lines: &[(u32, &[u8])],
+) -> Result<World, OfferFault>
     requires whole { IsWhole job.now }
     requires accepted { IsAccepted job.now.deal }
     requires wallets { HaveWallets job.now }
+    requires made { wallets.items ≡ wallets_of job.now.deal job.now.conforming job.now.seeds }
     requires few { length lines.now < 2 ^ 31 }
     ensures exact { Gives (λ w. w.state) result (replayed (step (cast_of job.now)) job.now 0 (start job.now.deal) (map (λ l. (l.0, l.1.now)) lines.now)) }
     ensures of { IfOk result (λ w. IsOf job.now w) }
     ensures goes_on { IfOk result (λ w. w.stopped ≡ false) }
 {
-    let mut world = new_world(alloc, job)?;
+    let mut world = new_world(alloc, job, wallets)?;
     'lines: for (count, line) in lines.iter().enumerate() {
         step_line(alloc, job, &mut world, count as u32, line.0, line.1)?;
     }

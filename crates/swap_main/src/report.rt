@@ -22,7 +22,7 @@ use outcome_rules::report_of;
 use std::alloc::Global;
 use swap_base::{Fault, NoMemory};
 use swap_digraph::Deal;
-use swap_offer::{read_header, written};
+use swap_offer::{Prepared, read_header, written};
 use transcript_text::report_text;
 
 /// The report of a job's book.
@@ -52,8 +52,8 @@ fn of_run(
     ensures exact { Gives (λ w. w) result (of_run line text.now (map (λ l. (l.0, l.1.now)) events.now)) }
     ensures promised { IfOk result (λ w. IsRun (lines_read Purpose.Run ((line, text.now) ∷ map (λ l. (l.0, l.1.now)) events.now)) w) }
 {
-    let job = read_header(alloc, line, text, Purpose::Run)?;
-    let mut world = replay(alloc, &job, events)?;
+    let Prepared { job, wallets } = read_header(alloc, line, text, Purpose::Run)?;
+    let mut world = replay(alloc, &job, wallets, events)?;
     finish(&mut world, &job)?;
     let book = world.into_book(alloc)?;
     Ok(reported(alloc, &job, &book)?)
@@ -83,7 +83,7 @@ fn of_check(
     ensures exact { Gives (λ w. w) result (of_check line text.now (map (λ l. (l.0, l.1.now)) events.now)) }
     ensures promised { IfOk result (λ w. IsCheck (lines_read Purpose.Check ((line, text.now) ∷ map (λ l. (l.0, l.1.now)) events.now)) w) }
 {
-    let job = read_header(alloc, line, text, Purpose::Check)?;
+    let Prepared { job, .. } = read_header(alloc, line, text, Purpose::Check)?;
     pass_over(alloc, &job, events)?;
     Ok(told(alloc, &job.deal)?)
 }

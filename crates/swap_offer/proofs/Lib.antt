@@ -3,3 +3,4 @@ pub mod FirstLines
 pub mod Whole
 pub mod Seeds
 pub mod Purposes
+pub mod Firsts

@@ -1,5 +1,5 @@
 -- The seeds that a job needs, and whether they are those of its deal.
-use Rattle.std.specs.Prelude.{◌≡◌, ℕ, ◌<◌, ◌&&◌, Bool, true, false, List, is_none, slice_index_or, option_map, if◌then◌else◌, Option, Some, None, Result, Ok}
+use Rattle.std.specs.Prelude.{◌≡◌, ℕ, ◌<◌, ◌&&◌, Bool, true, false, List, [], is_none, slice_index_or, option_map, if◌then◌else◌, Option, Some, None, Result, Ok}
 use Rattle.std.specs.List.{range_with_len}
 use Rattle.swap_base.specs.Lists.{first_of}
 use Rattle.deviator_script.specs.declared.job.Job.{Job}
@@ -8,6 +8,8 @@ use Rattle.deviator_script.specs.declared.job.Purpose.TheVariants.{Run, Race}
 use Rattle.offer_fields.specs.declared.reason.Reason.{Reason}
 use Rattle.offer_fields.specs.declared.reason.Reason.TheVariants.{NoSeed, WrongWallet}
 use Rattle.party_machine.specs.Fits.{wrong_lock}
+use Rattle.party_machine.specs.Value.{WalletState}
+use Rattle.party_machine.specs.Wallets.{wallets_of}
 use Rattle.swap_offer.specs.Checks.{unless_wrong}
 
 -- party p conforms
@@ -44,6 +46,12 @@ wrong_wallet job p = if conforms job p then wrong_seed job p (seed_of job p) els
 -- the seeds of conforming parties that are there are those of the deal
 unfoldable pub walleted : Job → Result (Unit {0}) Reason
 walleted job = unless_wrong (first_of (wrong_wallet job) (range_with_len 0 job.deal.graph.n))
+
+-- the wallets that a purpose needs: for a run and a race those of the parties
+abbrev pub wallets_for : Purpose → Job → List (Option WalletState)
+wallets_for Run job = wallets_of job.deal job.conforming job.seeds
+wallets_for Race job = wallets_of job.deal job.conforming job.seeds
+wallets_for _ job = []
 
 -- A party's seed is there, and gives it what the deal states for each lock.
 pub record HasWallet (job : Job) (p : ℕ) : Type 0 where

@@ -1,4 +1,4 @@
-//! The job of a header line.
+//! The job of a header line, with its wallets.
 
 ghost use Rattle.std.specs.Prelude.{◌≡◌, ℕ, List, IfOk, length};
 ghost use Rattle.swap_base.specs.Fault.{Gives};
@@ -7,11 +7,12 @@ ghost use Rattle.swap_digraph.specs.Graph.{HasEnds};
 ghost use Rattle.swap_rules.specs.Accepted.{IsAccepted};
 ghost use Rattle.offer_header.specs.Header.{IsWithin};
 ghost use Rattle.swap_offer.specs.Checks.{job_with, unnamed};
-ghost use Rattle.swap_offer.specs.Wallets.{HaveWalletsFor};
+ghost use Rattle.swap_offer.specs.Wallets.{HaveWalletsFor, wallets_for};
 ghost use Rattle.swap_offer.specs.Job.{accepted_of, job_header_of, IsWhole};
 
 use crate::checks::{checked, graph_in, roles_of};
-use crate::wallets::{seeded, walleted};
+use crate::prepared::Prepared;
+use crate::wallets::{seeded, wallets_for};
 use deviator_script::{Job, Purpose};
 use hashkey_path::deal_digest;
 use offer_fields::OfferFault;
@@ -52,35 +53,39 @@ fn job_with(alloc: Global, header: Header, graph: Digraph) -> Result<Job, NoMemo
 }
 
 #[tactic(auto, using(crate::proofs::Whole::is_whole, crate::proofs::Whole::is_sized), unfolding(crate::specs::Job::accepted_of))]
-fn accepted(alloc: Global, header: Header) -> Result<Job, OfferFault>
+fn accepted(alloc: Global, header: Header) -> Result<Prepared, OfferFault>
     requires { IsWithin header }
-    ensures exact { Gives (λ j. j) result (accepted_of header) }
-    ensures whole { IfOk result (λ j. IsWhole j) }
-    ensures accepted { IfOk result (λ j. IsAccepted j.deal) }
-    ensures wallets { IfOk result (λ j. HaveWalletsFor j.purpose j) }
+    ensures exact { Gives (λ p. p.job) result (accepted_of header) }
+    ensures whole { IfOk result (λ p. IsWhole p.job) }
+    ensures accepted { IfOk result (λ p. IsAccepted p.job.deal) }
+    ensures wallets { IfOk result (λ p. HaveWalletsFor p.job.purpose p.job) }
+    ensures made { IfOk result (λ p. p.wallets.items ≡ wallets_for p.job.purpose p.job) }
 {
     let graph = graph_in(alloc, &header)?;
     checked(alloc, &header, &graph)?;
     let job = job_with(alloc, header, graph)?;
     seeded(&job)?;
-    walleted(alloc, &job)?;
-    Ok(job)
+    let wallets = wallets_for(alloc, &job)?;
+    Ok(Prepared { job, wallets })
 }
 
-/// The job of a header line, or the first reason against it. Lines are counted from 1.
+/// The job of a header line with the wallets that its purpose needs, or the first reason against it. Lines are counted from 1.
+///
+/// For a run and a race there is one place per party: the wallet of a party that conforms and has a seed. For any other purpose there is none, since each wallet is let go once it was examined.
 #[tactic(auto, unfolding(crate::specs::Job::job_header_of))]
 pub fn read_header(
     alloc: Global,
     line: u32,
     text: &[u8],
     purpose: Purpose,
-) -> Result<Job, OfferFault>
-    ensures exact { Gives (λ j. j) result (job_header_of purpose line text.now) }
-    ensures whole { IfOk result (λ j. IsWhole j) }
-    ensures accepted { IfOk result (λ j. IsAccepted j.deal) }
-    ensures wallets { IfOk result (λ j. HaveWalletsFor purpose j) }
+) -> Result<Prepared, OfferFault>
+    ensures exact { Gives (λ p. p.job) result (job_header_of purpose line text.now) }
+    ensures whole { IfOk result (λ p. IsWhole p.job) }
+    ensures accepted { IfOk result (λ p. IsAccepted p.job.deal) }
+    ensures wallets { IfOk result (λ p. HaveWalletsFor purpose p.job) }
+    ensures made { IfOk result (λ p. p.wallets.items ≡ wallets_for purpose p.job) }
 {
     let header = header_in(alloc, purpose, line, text)?;
-    let job = accepted(alloc, header)?;
-    Ok(job)
+    let prepared = accepted(alloc, header)?;
+    Ok(prepared)
 }

@@ -7,6 +7,7 @@ mod checks;
 mod header;
 mod job;
 mod lines;
+mod prepared;
 mod wallets;
 
 pub use header::read_header;
@@ -14,3 +15,4 @@ pub use job::next_event;
 pub use lines::written;
 pub use offer_events::read_event;
 pub use offer_fields::{OfferFault, Reason};
+pub use prepared::Prepared;

@@ -1,19 +1,23 @@
-//! The seeds of conforming parties.
+//! The seeds and the wallets of conforming parties.
 
-ghost use Rattle.std.specs.Prelude.{◌≡◌, ◌<◌, IfOk};
+ghost use Rattle.std.specs.Prelude.{◌≡◌, ◌<◌, IfOk, option_map};
 ghost use Rattle.std.specs.List.{range_with_len};
 ghost use Rattle.swap_base.specs.Lists.{first_of};
 ghost use Rattle.swap_base.specs.Fault.{Gives};
 ghost use Rattle.swap_digraph.specs.Deal.{IsWellSized};
+ghost use Rattle.offer_fields.specs.declared.reason.Reason.TheVariants.{WrongWallet};
 ghost use Rattle.party_machine.specs.Fits.{wrong_lock};
+ghost use Rattle.party_machine.specs.Keys.{new_wallet};
+ghost use Rattle.party_machine.specs.Wallets.{wallet_for, wallets_of};
+ghost use Rattle.swap_offer.specs.Checks.{unless_wrong};
 ghost use Rattle.swap_offer.specs.Job.{IsWhole};
-ghost use Rattle.swap_offer.specs.Wallets.{no_seed, seeded, wrong_wallet, walleted};
+ghost use Rattle.swap_offer.specs.Wallets.{no_seed, seeded, wrong_wallet, walleted, wallets_for};
 
 use deviator_script::{Job, Purpose};
 use offer_fields::{OfferFault, Reason};
 use party_machine::Wallet;
 use std::alloc::Global;
-use swap_base::{Digest, Fault, LockId, NoMemory, PartyId};
+use swap_base::{Digest, Fault, PartyId};
 use swap_digraph::Deal;
 
 fn no_seed(job: &Job, p: PartyId) -> Option<Reason>
@@ -57,60 +61,74 @@ pub(crate) fn seeded(job: &Job) -> Result<(), OfferFault>
     }
 }
 
-/// The least lock for which the seed lacks what the deal states of the party.
-fn wrong_lock(
-    alloc: Global,
-    deal: &Deal,
-    p: PartyId,
-    seed: &Digest,
-) -> Result<Option<LockId>, NoMemory>
+/// The wallet that a seed gives a party, or the reason against it.
+fn with_seed(alloc: Global, deal: &Deal, p: PartyId, seed: &Digest) -> Result<Wallet, OfferFault>
     requires sized { IsWellSized deal.now }
     requires known { p < deal.now.graph.n }
-    ensures { IfOk result (λ o. o ≡ wrong_lock deal.now p seed.now) }
+    ensures fits { Gives (λ _. tt) result (unless_wrong (option_map (WrongWallet p) (wrong_lock deal.now p seed.now))) }
+    ensures made { IfOk result (λ w. w ≡ new_wallet seed.now p deal.now) }
 {
     let wallet = Wallet::of(alloc, seed, p, deal)?;
-    Ok(wallet.wrong_lock(deal))
+    match wallet.wrong_lock(deal) {
+        None => Ok(wallet),
+        Some(lock) => Err(Fault::Refused(Reason::WrongWallet(p, lock))),
+    }
 }
 
-fn wrong_wallet(alloc: Global, job: &Job, p: PartyId) -> Result<Option<Reason>, NoMemory>
+/// The wallet of a party that conforms and has a seed, or the reason against it.
+fn wallet_for(alloc: Global, job: &Job, p: PartyId) -> Result<Option<Wallet>, OfferFault>
     requires whole { IsWhole job.now }
     requires known { p < job.now.deal.graph.n }
-    ensures { IfOk result (λ o. o ≡ wrong_wallet job.now p) }
+    ensures fits { Gives (λ _. tt) result (unless_wrong (wrong_wallet job.now p)) }
+    ensures made { IfOk result (λ o. o ≡ wallet_for job.now.deal job.now.conforming job.now.seeds p) }
 {
     if !job.conforming.as_slice()[p as usize] {
         return Ok(None);
     }
     match &job.seeds.as_slice()[p as usize] {
         None => Ok(None),
-        Some(seed) => match wrong_lock(alloc, &job.deal, p, seed)? {
-            None => Ok(None),
-            Some(lock) => Ok(Some(Reason::WrongWallet(p, lock))),
-        },
+        Some(seed) => Ok(Some(with_seed(alloc, &job.deal, p, seed)?)),
     }
 }
 
-/// The reason against the first conforming party whose seed isn't that of the deal.
-fn first_wrong_wallet(alloc: Global, job: &Job) -> Result<Option<Reason>, NoMemory>
-    requires whole { IsWhole job.now }
-    ensures { IfOk result (λ o. o ≡ first_of (wrong_wallet job.now) (range_with_len 0 job.now.deal.graph.n)) }
-{
-    for p in 0..job.deal.graph.n() {
-        let reason = wrong_wallet(alloc, job, p)?;
-        if reason.is_some() {
-            return Ok(reason);
-        }
-    }
-    Ok(None)
-}
-
-/// The seeds of conforming parties that are there are those of the deal.
+/// The wallet of each party that conforms and has a seed, or the reason against the first that isn't that of the deal.
 #[tactic(auto, unfolding(crate::specs::Wallets::walleted))]
-pub(crate) fn walleted(alloc: Global, job: &Job) -> Result<(), OfferFault>
+fn wallets_of(alloc: Global, job: &Job) -> Result<Vec<Option<Wallet>>, OfferFault>
+    requires whole { IsWhole job.now }
+    ensures fit { Gives (λ _. tt) result (walleted job.now) }
+    ensures made { IfOk result (λ v. v.items ≡ wallets_of job.now.deal job.now.conforming job.now.seeds) }
+{
+    let mut wallets = Vec::new(alloc);
+    'parties: for p in 0..job.deal.graph.n() {
+        let wallet = wallet_for(alloc, job, p)?;
+        wallets.push(wallet)?;
+    }
+    Ok(wallets)
+}
+
+/// Makes the wallet of each party that conforms and has a seed, one at a time, and lets it go.
+#[tactic(auto, unfolding(crate::specs::Wallets::walleted))]
+fn walleted(alloc: Global, job: &Job) -> Result<(), OfferFault>
     requires whole { IsWhole job.now }
     ensures { Gives (λ u. u) result (walleted job.now) }
 {
-    match first_wrong_wallet(alloc, job)? {
-        None => Ok(()),
-        Some(reason) => Err(Fault::Refused(reason)),
+    'parties: for p in 0..job.deal.graph.n() {
+        wallet_for(alloc, job, p)?;
+    }
+    Ok(())
+}
+
+/// The wallets that the job's purpose needs, where the seeds of conforming parties that are there are those of the deal.
+pub(crate) fn wallets_for(alloc: Global, job: &Job) -> Result<Vec<Option<Wallet>>, OfferFault>
+    requires whole { IsWhole job.now }
+    ensures fit { Gives (λ _. tt) result (walleted job.now) }
+    ensures made { IfOk result (λ v. v.items ≡ wallets_for job.now.purpose job.now) }
+{
+    match job.purpose {
+        Purpose::Run | Purpose::Race => wallets_of(alloc, job),
+        _ => {
+            walleted(alloc, job)?;
+            Ok(Vec::new(alloc))
+        }
     }
 }

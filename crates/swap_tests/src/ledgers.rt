@@ -9,8 +9,8 @@ use ledger_core::{Call, Ledger, fits, is_adjacent};
 use std::alloc::Global;
 use std::process::Abort;
 use std::test::Fail;
-use swap_base::{Listed, PartyId};
-use swap_offer::read_header;
+use swap_base::{Listed, PartyId, Shared};
+use swap_offer::{Prepared, read_header};
 
 /// The leader's secret, and another one.
 const SECRET: &str = "3cfd91ab364b217387def1b512b03962bc945b8b9cd6a3119bda13d7a525735c";
@@ -18,12 +18,13 @@ const SECRET: &str = "3cfd91ab364b217387def1b512b03962bc945b8b9cd6a3119bda13d7a5
 const ANOTHER: &str = "0000000000000000000000000000000000000000000000000000000000000000";
 
 fn unlock(alloc: Global, secret: &str, path: &[PartyId]) -> Result<Call, Fail> {
-    Ok(Call::Unlock(Hashkey {
+    let key = Hashkey {
         lock: 0,
         secret: <[u8; 32] as FromHex>::from_hex(secret)?,
         path: Listed::new(Vec::from_slice(alloc, path)?),
         sigs: Listed::empty(alloc),
-    }))
+    };
+    Ok(Call::Unlock(Shared::new(alloc, key)?))
 }
 
 fn make(rt: &impl Abort, ledger: &mut Ledger, by: PartyId, call: Call) -> Result<Reply, Fail> {
@@ -31,15 +32,16 @@ fn make(rt: &impl Abort, ledger: &mut Ledger, by: PartyId, call: Call) -> Result
     assert!(rt; is_adjacent(ledger.deal(), arc, by));
     assert!(rt; fits(ledger.deal(), arc, &call));
     ledger.reserve()?;
-    Ok(ledger.apply(by, call))
+    Ok(ledger.apply(by, call, 0))
 }
 
 /// The ledger of the first arc, on which its contract is published.
 fn published(rt: &impl Abort, alloc: Global) -> Result<Ledger, Fail> {
-    let job = read_header(alloc, 1, TIMELOCKS.as_bytes(), Purpose::Run)?;
+    let Prepared { job, .. } = read_header(alloc, 1, TIMELOCKS.as_bytes(), Purpose::Run)?;
     assert!(rt; !job.deal.graph.arcs().is_empty());
     let mut ledger = Ledger::new(alloc, &job.deal, 0)?;
-    let reply = make(rt, &mut ledger, 0, Call::Publish(terms_of(&job.deal, 0)))?;
+    let terms = Shared::new(alloc, terms_of(&job.deal, 0))?;
+    let reply = make(rt, &mut ledger, 0, Call::Publish(terms))?;
     assert_eq!(rt; reply, Reply::Accepted);
     Ok(ledger)
 }

@@ -12,6 +12,7 @@ use Rattle.deviator_script.specs.declared.event.Event.{Event}
 use Rattle.deviator_script.specs.Step.{CanStep}
 use Rattle.swap_run.specs.Run.{Cast, Notes, State, notes_of, signed_in, next_of, step}
 use Rattle.swap_run.specs.Laws.{IsReadyCast, IsGood}
+use Rattle.swap_laws.proofs.Due.{due_is_valid}
 use Rattle.swap_run.proofs.Noted.{due_now}
 use Rattle.swap_run.proofs.Good.{holds, first_in, steps_are_good}
 use Rattle.party_machine.specs.Machine as machines
@@ -89,4 +90,4 @@ module _ (d : Deal) (conforming : List Bool) (seeds : List (Option (List ℕ))) 
       let state = s d conforming seeds ls xs in
       let next : next_of cast state p ≡ Some x = next_is d conforming seeds ls xs p m i ∙ e in
       let is = due_now d state.book (notes_of state p) p (cast.wallet p) x (ready.wallets p below i.is.0) ready.accepted (first_in (due d p (cast.wallet p) (signed_in (notes_of state p).signed) (notes_of state p).known) x next) (holds cast state p (good.notes p below i.is.0)) in
-      subst (λ e. IsMakable e m.me x) (sym i.is.1) (subst (λ v. IsMakable d v x) (sym i.is.2) (record { arc = is.below; of_the_two = is.of_the_two; fits = is.fits }))
+      subst (λ e. IsMakable e m.me x) (sym i.is.1) (subst (λ v. IsMakable d v x) (sym i.is.2) (record { arc = is.below; of_the_two = is.of_the_two; fits = is.fits; valid = due_is_valid d p (cast.wallet p) _ _ _ x.arc x.call is }))

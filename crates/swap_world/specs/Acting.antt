@@ -1,19 +1,21 @@
 -- What the act of a machine makes of the histories and of the machine.
-use Rattle.std.specs.Prelude.{◌≡◌, ◌==◌, ◌||◌, ◌<◌, ℕ, IsTrue, List, length, map, slice_set, Option, Some, None}
+use Rattle.std.specs.Prelude.{◌≡◌, ◌==◌, ◌||◌, ◌<◌, ℕ, true, IsTrue, List, length, map, slice_set, Option, Some, None}
 use Rattle.swap_digraph.specs.declared.deal.Deal.{Deal}
 use Rattle.swap_digraph.specs.Deal.{party, counterparty}
 use Rattle.ledger_core.specs.Value.{LedgerState}
 use Rattle.ledger_core.specs.History.{fit}
+use Rattle.ledger_core.specs.Known.{presents_valid}
 use Rattle.ledger_core.specs.Book.{Histories, history}
 use Rattle.swap_rules.specs.Due.{Action}
 use Rattle.swap_run.specs.Run.{after_call, signed_after}
 use Rattle.party_machine.specs.Machine.{MachineState}
 
--- The call fits, and stands on an arc that touches party v.
+-- The call fits, stands on an arc that touches party v, and presents no hashkey that isn't valid.
 pub record IsMakable (d : Deal) (v : ℕ) (x : Action) : Type 0 where
   pub arc : x.arc < length d.graph.arcs
   pub of_the_two : IsTrue ((v == party d x.arc) || (v == counterparty d x.arc))
   pub fits : IsTrue (fit d x.arc x.call)
+  pub valid : presents_valid d x.arc x.call ≡ true
 
 -- Both machines are of one party and one deal, with one seed.
 pub record IsSameOwner (old new : MachineState) : Type 0 where

@@ -3,13 +3,15 @@
 ghost use Rattle.std.specs.Prelude.{◌≡◌, ◌<◌};
 ghost use Rattle.swap_base.specs.Fault.{Gives};
 ghost use Rattle.swap_digraph.specs.Deal.{IsWellSized};
-ghost use Rattle.swap_world.specs.Staff.{conforming_of, actor_of, actor_step, actors_of, HaveSeeds};
+ghost use Rattle.party_machine.specs.Keys.{new_wallet};
+ghost use Rattle.party_machine.specs.Wallets.{wallet_for, wallets_of};
+ghost use Rattle.swap_world.specs.Staff.{conforming_of, actor_of, actor_step, actors_of};
 
 use crate::actor::Actor;
 use deviator_script::Job;
 use party_machine::{Machine, Misfit, Wallet};
 use std::alloc::Global;
-use swap_base::{Digest, Fault, LockId, PartyId};
+use swap_base::{Fault, LockId, PartyId};
 use swap_digraph::Deal;
 
 /// The seed of a conforming party doesn't give what the deal states of it for that lock.
@@ -22,13 +24,13 @@ pub struct WrongWallet {
 /// Why a job gives no world: a wallet, or want of memory.
 pub type WorldFault = Fault<WrongWallet>;
 
-/// A conforming party with that seed, by its machine.
-fn conforming(alloc: Global, deal: &Deal, p: PartyId, seed: &Digest) -> Result<Actor, WorldFault>
+/// A conforming party with that wallet, by its machine.
+fn conforming(alloc: Global, deal: &Deal, p: PartyId, wallet: Wallet) -> Result<Actor, WorldFault>
     requires sized { IsWellSized deal.now }
     requires party { p < deal.now.graph.n }
-    ensures { Gives (λ x. x) result (conforming_of deal.now p seed.now) }
+    requires wallet { wallet ≡ new_wallet wallet.seed p deal.now }
+    ensures { Gives (λ x. x) result (conforming_of deal.now p wallet.seed) }
 {
-    let wallet = Wallet::of(alloc, seed, p, deal)?;
     match Machine::new(alloc, deal, p, wallet) {
         Ok(machine) => Ok(Actor::Conforming(machine)),
         Err(Fault::Refused(Misfit::WrongWallet(lock))) => {
@@ -38,19 +40,21 @@ fn conforming(alloc: Global, deal: &Deal, p: PartyId, seed: &Digest) -> Result<A
     }
 }
 
-/// What acts for a party of the job.
-fn actor_of(alloc: Global, job: &Job, p: PartyId) -> Result<Actor, WorldFault>
+/// What acts for a party of the job, by its wallet.
+fn actor_of(
+    alloc: Global,
+    job: &Job,
+    p: PartyId,
+    wallet: Option<Wallet>,
+) -> Result<Actor, WorldFault>
     requires sized { IsWellSized job.now.deal }
-    requires seeds { HaveSeeds job.now }
     requires party { p < job.now.deal.graph.n }
+    requires wallet { wallet ≡ wallet_for job.now.deal job.now.conforming job.now.seeds p }
     ensures { Gives (λ x. x) result (actor_of job.now p) }
 {
-    if !job.conforming.as_slice()[p as usize] {
-        return Ok(Actor::Manual);
-    }
-    match &job.seeds.as_slice()[p as usize] {
-        Some(seed) => conforming(alloc, &job.deal, p, seed),
-        None => unreachable!(),
+    match wallet {
+        Some(wallet) => conforming(alloc, &job.deal, p, wallet),
+        None => Ok(Actor::Manual),
     }
 }
 
@@ -60,25 +64,31 @@ fn add_actor(
     job: &Job,
     actors: &mut Vec<Actor>,
     p: PartyId,
+    wallet: Option<Wallet>,
 ) -> Result<(), WorldFault>
     requires sized { IsWellSized job.now.deal }
-    requires seeds { HaveSeeds job.now }
     requires party { p < job.now.deal.graph.n }
+    requires wallet { wallet ≡ wallet_for job.now.deal job.now.conforming job.now.seeds p }
     ensures { Gives (λ _. actors.new.items) result (actor_step job.now actors.old.items p) }
 {
-    actors.push(actor_of(alloc, job, p)?)?;
+    actors.push(actor_of(alloc, job, p, wallet)?)?;
     Ok(())
 }
 
-/// What acts for each party, or the first conforming party whose seed isn't that of the deal.
-pub(crate) fn actors_of(alloc: Global, job: &Job) -> Result<Vec<Actor>, WorldFault>
+/// What acts for each party by its wallet, or the first conforming party whose seed isn't that of the deal.
+pub(crate) fn actors_of(
+    alloc: Global,
+    job: &Job,
+    mut wallets: Vec<Option<Wallet>>,
+) -> Result<Vec<Actor>, WorldFault>
     requires sized { IsWellSized job.now.deal }
-    requires seeds { HaveSeeds job.now }
+    requires wallets { wallets.items ≡ wallets_of job.now.deal job.now.conforming job.now.seeds }
     ensures { Gives (λ v. v.items) result (actors_of job.now) }
 {
     let mut actors = Vec::new(alloc);
     'parties: for p in 0..job.deal.graph.n() {
-        add_actor(alloc, job, &mut actors, p)?;
+        let wallet = wallets[p as usize].take();
+        add_actor(alloc, job, &mut actors, p, wallet)?;
     }
     Ok(actors)
 }

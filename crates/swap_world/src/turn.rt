@@ -2,6 +2,7 @@
 
 ghost use Rattle.std.specs.Prelude.{◌≡◌, ◌==◌, ◌||◌, ◌<◌, ◌≤◌, ◌+◌, ◌⊎◌, ℕ, Some, None, false, IsTrue, OnOk, OnErr, IfOk, length, slice_set};
 ghost use Rattle.swap_digraph.specs.Deal.{IsWellSized, party, counterparty};
+ghost use Rattle.ledger_core.specs.Known.{is_known_in};
 ghost use Rattle.ledger_core.specs.History.{IsLegal, fit};
 ghost use Rattle.ledger_core.specs.Book.{history};
 ghost use Rattle.deviator_script.specs.Resolved.{arc_of, call_of, IsFitting};
@@ -39,9 +40,15 @@ pub(crate) fn tick(ledger: &mut Ledger, k: u32) -> Result<(), NoMemory>
 
 /// Makes a call on a ledger.
 #[tactic(auto, unfolding(swap_run::specs::Run::after_call))]
-pub(crate) fn call(ledger: &mut Ledger, sender: PartyId, call: Call) -> Result<(), NoMemory>
+pub(crate) fn call(
+    ledger: &mut Ledger,
+    sender: PartyId,
+    call: Call,
+    known: usize,
+) -> Result<(), NoMemory>
     requires of_the_two { IsTrue ((sender == party ledger.old.deal ledger.old.arc) || (sender == counterparty ledger.old.deal ledger.old.arc)) }
     requires fits { IsTrue (fit ledger.old.deal ledger.old.arc call) }
+    requires known { IsTrue (is_known_in known ledger.old.deal call) }
     requires legal { IsLegal ledger.old.deal ledger.old.arc ledger.old.history }
     ensures ok { OnOk result (ledger.new.history ≡ after_call ledger.old.deal ledger.old.arc sender call ledger.old.history) }
     ensures err { OnErr result (ledger.new.history ≡ ledger.old.history) }
@@ -50,7 +57,7 @@ pub(crate) fn call(ledger: &mut Ledger, sender: PartyId, call: Call) -> Result<(
     ensures legal { IsLegal ledger.new.deal ledger.new.arc ledger.new.history }
 {
     ledger.reserve()?;
-    let _ = ledger.apply(sender, call);
+    let _ = ledger.apply(sender, call, known);
     Ok(())
 }
 
@@ -66,7 +73,7 @@ pub(crate) fn make(ledger: &mut Ledger, sender: PartyId, mv: &Move) -> Result<()
     ensures legal { IsLegal ledger.new.deal ledger.new.arc ledger.new.history }
 {
     match resolve(ledger.deal(), mv)? {
-        Some(made) => call(ledger, sender, made),
+        Some(made) => call(ledger, sender, made, 0),
         None => Ok(()),
     }
 }
@@ -86,7 +93,7 @@ fn learn_in<L: Counted>(
     ensures counted { OnOk result (steps.new + length (history machine.old.known ledger.now.arc) ≡ steps.old + length ledger.now.history) }
 {
     let arc = ledger.arc();
-    let fresh = ledger.copy_from(machine.known(arc).len())?;
+    let fresh = ledger.copy_from(machine.known(arc) as usize)?;
     machine.learn(arc, fresh, steps)
 }
 
@@ -121,7 +128,8 @@ pub(crate) fn learn(machine: &mut Machine, ledger: &Ledger) -> Result<(), NoMemo
     learn_counted::<Brand>(machine, ledger, Blank::new(1))
 }
 
-/// Makes a call of a machine, which then knows the ledger up to its end.
+/// Makes a call of a machine, which then knows the ledger up to its end. It verifies none of its signatures.
+#[tactic(auto, using(ledger_core::proofs::Known::valid_is_known_in))]
 fn make_due(
     machine: &mut Machine,
     ledger: &mut Ledger,
@@ -137,7 +145,7 @@ fn make_due(
     ensures ledger { IsLedgerOf machine.old.deal arc ledger.new }
     ensures owner { IsSameOwner machine.old machine.new }
 {
-    call(ledger, machine.me(), due)?;
+    call(ledger, machine.me(), due, usize::MAX)?;
     learn(machine, ledger)
 }
 

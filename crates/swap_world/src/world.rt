@@ -12,6 +12,7 @@ ghost use Rattle.swap_laws.specs.Laws.{IsDealt};
 ghost use Rattle.swap_run.specs.Run.{conforms, start, step, run_from};
 ghost use Rattle.swap_run.specs.Fair.{finish};
 ghost use Rattle.swap_run.specs.Laws.{IsKept};
+ghost use Rattle.party_machine.specs.Wallets.{wallets_of};
 ghost use Rattle.swap_world.specs.Stopped.{IsStopped, AllConform};
 ghost use Rattle.swap_world.specs.Value.{cast_at, new_world};
 ghost use Rattle.swap_world.specs.Staff.{world_of, HaveSeeds};
@@ -22,6 +23,7 @@ use crate::staff::{WorldFault, actors_of};
 use crate::{fair, many, turn};
 use deviator_script::{Event, Job, Move, arc_of_move};
 use ledger_core::{Book, EntryList, Ledger};
+use party_machine::Wallet;
 use std::alloc::Global;
 use std::marker::Model;
 use swap_base::{ArcId, Digest, Listed, NoMemory, PartyId, TryCopy};
@@ -73,14 +75,15 @@ fn histories_of(alloc: Global, mut ledgers: Vec<Ledger>) -> Result<Listed<EntryL
 }
 
 impl World {
-    /// A world before any event, or the first conforming party whose seed isn't that of the deal.
-    pub fn new(alloc: Global, job: &Job) -> Result<World, WorldFault>
+    /// A world before any event, or the first conforming party whose seed isn't that of the deal. Each conforming party signs with its wallet.
+    pub fn new(alloc: Global, job: &Job, wallets: Vec<Option<Wallet>>) -> Result<World, WorldFault>
         requires accepted { IsAccepted job.now.deal }
         requires seeds { HaveSeeds job.now }
+        requires wallets { wallets.items ≡ wallets_of job.now.deal job.now.conforming job.now.seeds }
         ensures exact { Gives (λ w. w) result (world_of job.now) }
         ensures new { IfOk result (λ w. w ≡ new_world job.now) }
     {
-        let actors = actors_of(alloc, job)?;
+        let actors = actors_of(alloc, job, wallets)?;
         Ok(World {
             deal: copy_deal(&job.deal)?,
             conforming: Listed::new(Vec::from_slice(alloc, job.conforming.as_slice())?),

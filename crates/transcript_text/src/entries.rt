@@ -1,12 +1,13 @@
 //! The line of an entry.
 
-ghost use Rattle.std.specs.Prelude.{◌≡◌, ◌++◌, ◌∷◌, OnOk};
+ghost use Rattle.std.specs.Prelude.{◌≡◌, ◌++◌, ◌∷◌, ℕ, OnOk};
 ghost use Rattle.swap_base.specs.Text.{lines};
 ghost use Rattle.transcript_text.specs.Words.{name_at, reply_text, comma_name, path_text, unlock_text, call_text, publish_text, sender_text as sender_of};
 ghost use Rattle.transcript_text.specs.Report.{what_line, entry_line};
+ghost use Rattle.transcript_text.specs.Items.{item_line};
 
 use escrow_core::{Reply, Terms};
-use ledger_core::{Call, Entry, Sender, What};
+use ledger_core::{Call, Entry, EntryList, Item, Sender, What};
 use swap_base::{ByteText, LockId, NoMemory, PartyId, Piece, put};
 
 /// The name of a party; no text where the number is nobody's.
@@ -173,17 +174,43 @@ fn put_entry(
     put(out, &[Piece::Text("\n")])
 }
 
+fn put_item(
+    out: &mut Vec<u8>,
+    names: &[ByteText],
+    correct: &Terms,
+    item: &Item,
+) -> Result<(), NoMemory>
+    ensures { (number : ℕ) → OnOk result (out.new.items ≡ out.old.items ++ item_line names.now correct.now number item.now) }
+{
+    match item {
+        Item::One(entry) => put_entry(out, names, correct, entry),
+        Item::Ticks(_) => Ok(()),
+    }
+}
+
+fn put_items(
+    out: &mut Vec<u8>,
+    names: &[ByteText],
+    correct: &Terms,
+    items: &[Item],
+) -> Result<(), NoMemory>
+    ensures { OnOk result (out.new.items ≡ out.old.items ++ lines (item_line names.now correct.now) 0 items.now) }
+{
+    for item in items {
+        put_item(out, names, correct, item)?;
+    }
+    Ok(())
+}
+
 /// The lines of the entries that aren't ticks.
 pub(crate) fn put_entries(
     out: &mut Vec<u8>,
     names: &[ByteText],
     correct: &Terms,
-    entries: &[Entry],
+    entries: &EntryList,
 ) -> Result<(), NoMemory>
     ensures { OnOk result (out.new.items ≡ out.old.items ++ lines (entry_line names.now correct.now) 0 entries.now) }
 {
-    for entry in entries {
-        put_entry(out, names, correct, entry)?;
-    }
-    Ok(())
+    let (items, _) = entries.parts();
+    put_items(out, names, correct, items)
 }

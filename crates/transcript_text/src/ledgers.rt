@@ -9,8 +9,7 @@ ghost use Rattle.transcript_text.specs.Report.{ledger_head, ledger_end, ledger_l
 
 use crate::entries::{name_at, put_entries};
 use escrow_core::terms_of;
-use ledger_core::{Accounts, Book, Entry};
-use outcome_rules::{accounts_of, height_of};
+use ledger_core::{Accounts, Book, EntryList, accounts_of};
 use swap_base::{ArcId, ByteText, NoMemory, Piece, put};
 use swap_digraph::{ArcEnds, Deal};
 
@@ -76,7 +75,7 @@ fn put_ledger(
     names: &[ByteText],
     deal: &Deal,
     number: ArcId,
-    entries: &[Entry],
+    entries: &EntryList,
 ) -> Result<(), NoMemory>
     requires sized { IsWellSized deal.now }
     requires arc { number < length deal.now.graph.arcs }
@@ -91,7 +90,7 @@ fn put_ledger(
         out,
         names,
         arc,
-        height_of(entries),
+        entries.height(),
         accounts_of(deal, number, entries),
     )
 }
@@ -108,7 +107,7 @@ pub(crate) fn put_ledgers(
     ensures { OnOk result (out.new.items ≡ out.old.items ++ lines (ledger_lines names.now deal.now) 0 book.now.histories) }
 {
     for (number, entries) in book.histories.as_slice().iter().enumerate() {
-        put_ledger(out, names, deal, number as ArcId, entries.as_slice())?;
+        put_ledger(out, names, deal, number as ArcId, entries)?;
     }
     Ok(())
 }

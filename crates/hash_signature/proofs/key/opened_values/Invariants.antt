@@ -6,5 +6,5 @@ use Rattle.hash_signature.proofs.key.opened_values.Given as goal
 abbrev pub invariant-chains : goal.invariant-chains
 invariant-chains l = record {
   width : length l.values ≡ 67;
-  filled : take l.j l.values ≡ first_chains (opened l.seed l.party l.lock l.message) l.j;
+  filled : take l.j l.values ≡ first_chains (opened l.chains.seed l.chains.party l.chains.lock l.message) l.j;
 }

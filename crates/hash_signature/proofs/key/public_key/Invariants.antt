@@ -6,4 +6,4 @@ use Rattle.hash_signature.proofs.Chains.{first_chains}
 use Rattle.hash_signature.proofs.key.public_key.Given as goal
 
 abbrev pub invariant-chains : goal.invariant-chains
-invariant-chains l = Holds256 l.hasher (3 ∷ joined (first_chains (chain_end l.seed l.party l.lock) l.j))
+invariant-chains l = Holds256 l.hasher (3 ∷ joined (first_chains (chain_end l.chains.seed l.chains.party l.chains.lock) l.j))

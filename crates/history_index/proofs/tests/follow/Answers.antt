@@ -14,8 +14,8 @@ next d a from to h es i x y s l lt e ey ees ef et =
     (subst (λ p. IsIndexable (party d a) p (es ++ y ∷ [])) (sym et)
     (subst (IsIndexable (party d a) (counterparty d a)) (sym same) (next_indexable d a h i x s l lt e)))
 
-pub push-requires : goal.push-requires
-push-requires g c =
+pub push-requires-clause-indexable : goal.push-requires-clause-indexable
+push-requires-clause-indexable g c =
     let i = c.loop-entry.invariant in
     next c.args.deal.now c.args.arc c.loop-entry.index.from c.loop-entry.index.to c.args.history.now c.loop-entry.index.entries c.loop-entry.entry-index c.entry-item.result c.in_ok-copy.field-0
     c.requires.sized c.requires.legal c.loop-entry-test.true c.entry-item.is c.in_ok-copy.ensures i.0 i.2 i.3

@@ -1,5 +1,6 @@
-use Rattle.offer_events.proofs.Fits.{checked_fits}
+use Rattle.offer_events.specs.Plain.{raw_of}
+use Rattle.offer_events.proofs.PlainText.{asked_by}
 use Rattle.offer_events.proofs.event.read_event.Goals as goal
 
-pub returns-clause-fits : goal.returns-clause-fits
-returns-clause-fits c = checked_fits c.args.job.now c.args.line c.in_ok-raw.raw c.in_ok-event.event c.requires.sized c.requires.names c.in_ok-event.ensures
+pub returns-in-Some-clause-exact : goal.returns-in-Some-clause-exact
+returns-in-Some-clause-exact c = rw (asked_by c.args.job.now c.args.line c.args.text.now (raw_of c.in-Some.plain) (c.in-Some.ensures c.args.line)) c.read_plain.ensures.exact

@@ -1,29 +1,22 @@
-use Rattle.std.proofs.Common.{rules, [], if◌then◌else◌}
-use Rattle.swap_rules.specs.Findings.{findings_of}
+use Rattle.std.proofs.Common.{◌≡◌, IfOk, ap, ◌∙◌, subst}
+use Rattle.ledger_core.specs.Book.{Histories}
+use Rattle.history_index.specs.Indexes.{entries_in}
+use Rattle.swap_rules.specs.Findings.{findings}
 use Rattle.outcome_rules.specs.Report.{conforms_in}
-use Rattle.outcome_rules.proofs.Loops.{flat_more}
-use Rattle.outcome_rules.proofs.Legal.{countable_book}
-use Rattle.outcome_rules.proofs.Promises as promises
 use Rattle.outcome_rules.proofs.listing.findings.Goals as goal
 
-pub loop-party-preserved : goal.loop-party-preserved
-loop-party-preserved c =
-    flat_more (λ v. if conforms_in c.args.conforming.now v then findings_of c.args.deal.now c.args.book.now.histories v else []) [] c.loop-party.list.items c.put_findings_at.new.out.items c.loop-party.party c.loop-party.invariant c.in_ok-put_findings_at.ensures
-
-pub put_unfinished-requires-clause-countable : goal.put_unfinished-requires-clause-countable
-put_unfinished-requires-clause-countable c = countable_book c.args.deal.now c.args.book.now.histories c.requires.legal
-
 pub returns-clause-exact : goal.returns-clause-exact
-returns-clause-exact c = search rules
+returns-clause-exact c =
+    subst (λ (b : Histories). IfOk c.findings_indexed.result (λ l. l ≡ findings c.args.deal.now (conforms_in c.args.conforming.now) b)) (ap entries_in c.deref.ensures.value ∙ c.in_ok-known.ensures.entries) c.findings_indexed.ensures.exact
 
 pub returns-clause-safe : goal.returns-clause-safe
-returns-clause-safe c = promises.none_is_underwater c.args.deal.now c.args.conforming.now c.args.book.now.histories c.new.result c.requires.legal (returns-clause-exact c)
+returns-clause-safe c = rw (ap entries_in c.deref.ensures.value ∙ c.in_ok-known.ensures.entries) at c.findings_indexed.ensures.safe
 
 pub returns-clause-refunds : goal.returns-clause-refunds
-returns-clause-refunds c = promises.all_have_refunds c.args.deal.now c.args.conforming.now c.args.book.now.histories c.new.result c.requires.legal (returns-clause-exact c)
+returns-clause-refunds c = rw (ap entries_in c.deref.ensures.value ∙ c.in_ok-known.ensures.entries) at c.findings_indexed.ensures.refunds
 
 pub returns-clause-transfer : goal.returns-clause-transfer
-returns-clause-transfer c = promises.is_transferred c.args.deal.now c.args.conforming.now c.args.book.now.histories c.new.result c.requires.legal (returns-clause-exact c)
+returns-clause-transfer c = rw (ap entries_in c.deref.ensures.value ∙ c.in_ok-known.ensures.entries) at c.findings_indexed.ensures.transfer
 
 pub returns-clause-nothing_found : goal.returns-clause-nothing_found
-returns-clause-nothing_found c = promises.finds_nothing c.args.deal.now c.args.conforming.now c.args.book.now.histories c.new.result c.requires.legal (returns-clause-exact c)
+returns-clause-nothing_found c = rw (ap entries_in c.deref.ensures.value ∙ c.in_ok-known.ensures.entries) at c.findings_indexed.ensures.nothing_found

@@ -1,10 +1,10 @@
-use Rattle.std.proofs.Common.{◌<◌, ◌^◌, sym, subst}
+use Rattle.std.proofs.Common.{ℕ, nat_lt, sym, ap, ◌∙◌}
+use Rattle.std.specs.List.{list_all}
 use Rattle.ledger_core.specs.History.{height}
-use Rattle.outcome_rules.specs.Parts.{AreCountable}
-use Rattle.outcome_rules.proofs.Legal.{countable_at, countable_book}
+use Rattle.history_index.specs.Indexes.{entries_in}
+use Rattle.outcome_rules.proofs.Indexed.{above_in}
 use Rattle.outcome_rules.proofs.report.has_ended.Goals as goal
 
-pub height_of-requires : goal.height_of-requires
-height_of-requires c =
-    let k = subst AreCountable (sym c.as_slice-entries-items.ensures) (countable_book c.args.deal.now c.args.book.now.histories c.requires.legal) in
-    subst (λ h. height h < 2 ^ 32) (sym c.as_slice.ensures) (countable_at c.as_slice-entries-items.result.now c.loop-entries.entries-index c.entries-item.result k c.loop-entries-test.true c.entries-item.is).height
+pub returns : goal.returns
+returns c =
+    c.are_above.ensures ∙ sym (above_in c.horizon.result c.args.known.now) ∙ ap (λ (n : ℕ). list_all (λ h. nat_lt n (height h)) (entries_in c.args.known.now)) c.horizon.ensures

@@ -1,8 +1,18 @@
-use Rattle.outcome_rules.proofs.Promises as promises
+use Rattle.std.proofs.Common.{◌≡◌, IfOk, ap, ◌∙◌, subst}
+use Rattle.ledger_core.specs.Book.{Histories}
+use Rattle.history_index.specs.Indexes.{entries_in}
+use Rattle.outcome_rules.specs.Report.{report_of}
 use Rattle.outcome_rules.proofs.report.report_of.Goals as goal
 
-pub returns-clause-safe : goal.returns-clause-safe
-returns-clause-safe c = λ k. promises.none_is_shown_underwater c.args.deal.now c.args.book.now.histories _ c.in_ok-outcomes_of.ensures c.args.conforming.now _ (c.in_ok-findings.ensures.safe k)
+pub returns-clause-exact : goal.returns-clause-exact
+returns-clause-exact c =
+    subst (λ (b : Histories). IfOk c.report_indexed.result (λ r. r ≡ report_of c.args.deal.now c.args.conforming.now b)) (ap entries_in c.deref.ensures.value ∙ c.in_ok-known.ensures.entries) c.report_indexed.ensures.exact
 
-pub returns-clause-whole : goal.returns-clause-whole
-returns-clause-whole c = λ k all none. promises.all_are_whole c.args.deal.now c.args.book.now.histories _ c.in_ok-outcomes_of.ensures k (c.in_ok-findings.ensures.transfer k all none)
+pub returns-clause-refunds : goal.returns-clause-refunds
+returns-clause-refunds c = rw (ap entries_in c.deref.ensures.value ∙ c.in_ok-known.ensures.entries) at c.report_indexed.ensures.refunds
+
+pub returns-clause-transfer : goal.returns-clause-transfer
+returns-clause-transfer c = rw (ap entries_in c.deref.ensures.value ∙ c.in_ok-known.ensures.entries) at c.report_indexed.ensures.transfer
+
+pub returns-clause-nothing_found : goal.returns-clause-nothing_found
+returns-clause-nothing_found c = rw (ap entries_in c.deref.ensures.value ∙ c.in_ok-known.ensures.entries) at c.report_indexed.ensures.nothing_found

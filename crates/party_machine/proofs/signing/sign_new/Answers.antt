@@ -2,7 +2,7 @@ use Rattle.std.proofs.Common.{◌≡◌, ◌∙◌, ◌<◌, List, length, Optio
 use Rattle.ledger_core.specs.declared.entry.Entry.{Entry}
 use Rattle.party_phase_two.specs.Unlocks.{IsSeenOn}
 use Rattle.party_phase_two.specs.declared.unlock_due.Base.{Base}
-use Rattle.party_phase_two.proofs.Openings.{has_lock}
+use Rattle.book_reading.proofs.Openings.{has_lock}
 use Rattle.party_machine.specs.Within.{entries_in}
 use Rattle.party_machine.specs.Unlocking.{opened_key, CanPutOnto}
 use Rattle.party_machine.proofs.Known.{one_each, legal_at, history_of}

@@ -1,6 +1,6 @@
 use Rattle.std.proofs.Common.{arith, sym, ◌∙◌}
 use Rattle.std.proofs.lemmas.Bool.{false≢true}
-use Rattle.party_phase_one.proofs.Known.{one_each}
+use Rattle.book_reading.proofs.Known.{one_each}
 use Rattle.party_phase_two.proofs.refund.is_due_refund.Goals as goal
 use Rattle.party_phase_two.proofs.refund.is_due_refund.Goals.{then-is_held, else-is_held}
 

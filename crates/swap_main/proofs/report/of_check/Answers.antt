@@ -4,5 +4,5 @@ use Rattle.swap_main.proofs.report.of_check.Goals as goal
 
 pub returns-clause-promised : goal.returns-clause-promised
 returns-clause-promised c =
-    let shown = is_told c.in_ok-job.job c.in_ok-told.field-0 c.in_ok-told.ensures.text c.in_ok-told.ensures.found in
-    is_check c.args.line c.args.text.now (map (λ l. (l.0, l.1.now)) c.args.events.now) c.in_ok-job.job tt c.in_ok-told.field-0 c.in_ok-job.ensures.exact c.in_ok-pass_over.ensures shown c.in_ok-job.ensures.accepted
+    let shown = is_told c.in_ok-job.field-0.job c.in_ok-told.field-0 c.in_ok-told.ensures.text c.in_ok-told.ensures.found in
+    is_check c.args.line c.args.text.now (map (λ l. (l.0, l.1.now)) c.args.events.now) c.in_ok-job.field-0.job tt c.in_ok-told.field-0 c.in_ok-job.ensures.exact c.in_ok-pass_over.ensures shown c.in_ok-job.ensures.accepted

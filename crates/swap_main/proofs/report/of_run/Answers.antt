@@ -12,7 +12,7 @@ use Rattle.swap_main.proofs.report.of_run.Goals as goal
 
 pub returns-clause-promised : goal.returns-clause-promised
 returns-clause-promised c =
-    let job = c.in_ok-job.job in
+    let job = c.in_ok-job.field-0.job in
     let w = c.finish.new.world in
     let same = c.in_ok-book.ensures.value in
     is_run c.args.line c.args.text.now (map (λ l. (l.0, l.1.now)) c.args.events.now) job c.in_ok-world.world.state c.in_ok-book.book.histories c.in_ok-reported.field-0 c.in_ok-job.ensures.exact c.in_ok-world.ensures.exact

@@ -7,5 +7,5 @@ pub learn-requires-clause-legal : goal.learn-requires-clause-legal
 learn-requires-clause-legal g c =
     let m = c.args.machine.now in
     let l = c.args.ledger.now in
-    let fresh : c.in_ok-fresh.fresh ≡ drop (length (history m.known l.arc)) l.history = rw (c.known.ensures.value, c.arc-arc.ensures.value) at c.in_ok-fresh.ensures in
+    let fresh : c.in_ok-fresh.fresh ≡ drop (length (history m.known l.arc)) l.history = rw (c.known.ensures, c.arc-arc.ensures.value) at c.in_ok-fresh.ensures in
     rw (c.arc-arc.ensures.value, fresh, whole (history m.known l.arc) l.history c.requires.begins, sym c.requires.same) c.requires.legal

@@ -1,10 +1,14 @@
-use Rattle.std.proofs.Common.{refl}
-use Rattle.swap_base.proofs.Lines.{lines_on, lines_done}
+use Rattle.std.proofs.Common.{◌≡◌, ◌++◌, ◌∙◌, sym, ap, subst}
+use Rattle.std.specs.Prelude.{OnOk}
+use Rattle.swap_base.specs.Text.{lines}
 use Rattle.transcript_text.specs.Report.{entry_line}
+use Rattle.transcript_text.proofs.ItemLines.{of_items}
 use Rattle.transcript_text.proofs.entries.put_entries.Goals as goal
 
-pub loop-entry-preserved : goal.loop-entry-preserved
-loop-entry-preserved c = lines_on (entry_line c.args.names.now c.args.correct.now) c.loop-entry.out.items c.put_entry.new.out.items _ c.loop-entry.entry-index c.args.entries.now c.loop-entry.entry-index c.entry-item.result c.entry-item.result c.loop-entry-test.true c.entry-item.is c.in_ok-put_entry.ensures c.loop-entry.invariant
-
 pub returns : goal.returns
-returns c = lines_done (entry_line c.args.names.now c.args.correct.now) c.loop-entry.out.items _ c.loop-entry.entry-index c.args.entries.now c.loop-entry.entry-index c.loop-entry-test.false c.loop-entry.invariant
+returns c =
+    let names = c.args.names.now in
+    let t = c.args.correct.now in
+    let p = c.parts in
+    subst (λ text. OnOk c.put_items.result (c.put_items.new.out.items ≡ c.args.out.now.items ++ text))
+    (sym (ap (lines (entry_line names t) 0) p.ensures.list ∙ of_items names t 0 0 p.result.0.now p.result.1)) c.put_items.ensures

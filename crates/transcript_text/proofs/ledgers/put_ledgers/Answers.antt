@@ -9,7 +9,7 @@ loop-number-preserved c =
     let lt : c.loop-number.number < length c.args.book.now.histories = rw c.as_slice-entries-items.ensures at c.loop-number-test.true in
     let is : c.entries-item.result ≡ get_or c.args.book.now.histories c.loop-number.number c.entries-item.result = c.entries-item.is ∙ ap (λ (b : List (List Entry)). get_or b c.loop-number.number c.entries-item.result) c.as_slice-entries-items.ensures in
     lines_on (ledger_lines c.args.names.now c.args.deal.now) c.loop-number.out.items c.put_ledger.new.out.items _ c.loop-number.number c.args.book.now.histories c.loop-number.number c.entries-item.result c.entries-item.result lt is
-    (c.in_ok-put_ledger.ensures ∙ ap (λ (h : List Entry). c.loop-number.out.items ++ ledger_lines c.args.names.now c.args.deal.now c.loop-number.number h) c.as_slice.ensures)
+    c.in_ok-put_ledger.ensures
     c.loop-number.invariant
 
 pub returns : goal.returns

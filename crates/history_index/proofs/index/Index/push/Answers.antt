@@ -1,37 +1,42 @@
-use Rattle.std.proofs.Common.{◌≡◌, ◌++◌, ◌∷◌, [], length, ap, ◌∙◌}
-use Rattle.history_index.proofs.Push.{has_room, last_lock, answers_kept, calls_kept, party_kept, indexable_kept}
+use Rattle.std.proofs.Common.{◌≡◌, ℕ, ◌+◌, ◌-◌, ◌++◌, ◌∷◌, [], cond, length, ap, sym, ◌∙◌, length-append}
+use Rattle.ledger_core.specs.declared.entry.Entry.{Entry}
+use Rattle.ledger_core.specs.declared.runs.Item.TheVariants.{One}
+use Rattle.ledger_core.specs.History.{sent_by}
+use Rattle.ledger_core.specs.Runs.{expand}
+use Rattle.history_index.specs.declared.made.Made.{Made}
+use Rattle.ledger_core.specs.Facts.{is_call}
+use Rattle.history_index.specs.Made.{made_after}
+use Rattle.history_index.proofs.Push.{last_lock, last_sent, expand_push, answers_kept, calls_kept, made_kept, indexable_kept, room_kept}
 use Rattle.history_index.proofs.index.Index.push.Goals as goal
 
-pub add-requires-2-clause-room : goal.add-requires-2-clause-room
-add-requires-2-clause-room g c =
-    let i = c.self.inside in
-    let fits = rw (← c.self.view_is) at c.requires in
-    has_room i.from.party i.entries.items c.args.entry i.from.numbers c.self.invariant.from.numbers fits.from_few
+made_of : ℕ → Entry → Made
+made_of n e = record { number = n; entry = e }
 
-pub add-requires-3-clause-room : goal.add-requires-3-clause-room
-add-requires-3-clause-room g c =
-    let i = c.self.inside in
-    let fits = rw (← c.self.view_is) at c.requires in
-    has_room i.to.party i.entries.items c.args.entry i.to.numbers c.self.invariant.to.numbers fits.to_few
-
-pub invariant_of-self-2 : goal.invariant_of-self-2
-invariant_of-self-2 g c =
+pub invariant_of-self : goal.invariant_of-self
+unfolding made_of
+invariant_of-self g c =
     let i = c.self.inside in
     let k = c.self.invariant in
-    let h = i.entries.items in
     let e = c.args.entry in
-    let fits = rw (← c.self.view_is) at c.requires in
-    let number : c.len-number.result ≡ length i.entries.items = c.len-number.ensures ∙ (c.reserve.ensures.len ∙ i.entries.ok.0) in
-    let items : c.push.new.self.items ≡ i.entries.items ++ c.args.entry ∷ [] = c.in-Ok.ensures.items ∙ ap (λ xs. xs ++ c.args.entry ∷ []) c.reserve.ensures.items in
-    let lock = last_lock h e fits.locks in
+    let h = expand i.past.items in
+    let xs = expand c.with_entry-past.result.0.items in
+    let fits = rw (← c.self.view_is) at c.requires.indexable in
+    let some = rw (← c.self.view_is) at c.requires.room in
+    let from = c.add-2.new.self in
+    let to = c.add-3.new.self in
+    let items : xs ≡ h ++ e ∷ [] = ap expand c.with_entry-past.ensures.past ∙ expand_push i.past.items (One e) in
+    let lock = last_lock i.from.party i.to.party h e fits in
+    let made : c.keep.new.made.items ≡ made_after i.count e i.made.items = c.keep.ensures.made ∙ ap (λ z. made_after i.count z i.made.items) c.with_entry-past.ensures.entry in
+    let room : i.room - c.calls_in.result ≡ i.room - cond (is_call e.what) 1 0 = ap (λ n. i.room - n) c.calls_in.ensures in
     record {
       locks = k.locks;
-      indexable =
-          indexable_kept i.from.party i.to.party c.add-2.new.self.party c.add-3.new.self.party h c.push.new.self.items e
-          (party_kept c.len-number.result e i.from c.add-2.new.self c.add-2.ensures)
-          (party_kept c.len-number.result e i.to c.add-3.new.self c.add-3.ensures)
-          items fits;
-      answers = answers_kept i.terms h c.push.new.self.items e c.len-number.result i.answers c.add.new.self items number c.add.ensures lock k.answers;
-      from = calls_kept h c.push.new.self.items e c.len-number.result i.from c.add-2.new.self items number c.add-2.ensures lock k.from;
-      to = calls_kept h c.push.new.self.items e c.len-number.result i.to c.add-3.new.self items number c.add-3.ensures lock k.to;
+      indexable = indexable_kept i.from.party i.to.party from.party to.party (h ++ e ∷ []) xs c.add-2.ensures.party c.add-3.ensures.party items fits;
+      count = ap (λ n. n + 1) k.count ∙ sym (ap length items ∙ length-append h (e ∷ []));
+      answers = answers_kept i.terms h xs e i.count i.answers c.add.new.self items k.count c.add.ensures lock k.answers;
+      made = made_kept h xs e i.count i.made.items c.keep.new.made.items items k.count made k.made;
+      from = calls_kept i.from.party from.party h xs e i.count i.from.numbers.items from.numbers.items i.from.kinds from.kinds c.add-2.ensures.party items k.count c.add-2.ensures.numbers c.add-2.ensures.kinds lock k.from;
+      to = calls_kept i.to.party to.party h xs e i.count i.to.numbers.items to.numbers.items i.to.kinds to.kinds c.add-3.ensures.party items k.count c.add-3.ensures.numbers c.add-3.ensures.kinds lock k.to;
+      room = room_kept (is_call e.what) (is_call e.what) (made_of i.count e) i.made.items c.keep.new.made.items i.room _ _ _ made (λ s. s) some room k.room c.keep.ensures.capacity;
+      from_room = room_kept (is_call e.what) (sent_by i.from.party e.sender) i.count i.from.numbers.items from.numbers.items i.room _ _ _ c.add-2.ensures.numbers (last_sent i.from.party i.to.party i.from.party h e fits) some room k.from_room c.add-2.ensures.capacity;
+      to_room = room_kept (is_call e.what) (sent_by i.to.party e.sender) i.count i.to.numbers.items to.numbers.items i.room _ _ _ c.add-3.ensures.numbers (last_sent i.from.party i.to.party i.to.party h e fits) some room k.to_room c.add-3.ensures.capacity;
     }

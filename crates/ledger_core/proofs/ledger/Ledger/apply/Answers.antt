@@ -1,7 +1,8 @@
-use Rattle.std.proofs.Common.{◌+◌, ◌==◌, cond, sym, ap, ◌∙◌}
+use Rattle.std.proofs.Common.{◌+◌, ◌==◌, cond, sym, ap, ◌∙◌, arith}
 use Rattle.ledger_core.specs.declared.entry.What.TheVariants.{Call as Made}
 use Rattle.ledger_core.specs.History.{accepted_in, moved_by}
 use Rattle.ledger_core.proofs.History.{full_reply}
+use Rattle.ledger_core.proofs.Bounds.{countable}
 use Rattle.ledger_core.proofs.Contracts.{contract_in}
 use Rattle.ledger_core.proofs.Scans.{bounded, reply_is, has_room, kept_call, call_scans}
 use Rattle.ledger_core.proofs.ledger.Ledger.apply.Goals as goal
@@ -13,13 +14,19 @@ pub answer-reply-requires-clause-contract : goal.answer-reply-requires-clause-co
 answer-reply-requires-clause-contract c =
     let l = c.self.inside in
     let i = c.self.invariant in
-    rw i.scans.contract (contract_in l.deal l.arc l.entries.items i.arc i.scans.legal)
+    rw i.scans.contract (contract_in l.deal l.arc l.history.list i.arc i.scans.legal)
 
 pub accounts_after-self-inside-requires-clause-bound : goal.accounts_after-self-inside-requires-clause-bound
 accounts_after-self-inside-requires-clause-bound c =
     let l = c.self.inside in
     let i = c.self.invariant in
-    bounded l.deal l.arc l.entries.items l.accounts i.scans.legal i.sized i.arc i.scans.accounts
+    bounded l.deal l.arc l.history.list l.accounts i.scans.legal i.sized i.arc i.scans.accounts
+
+pub push-requires-clause-few : goal.push-requires-clause-few
+push-requires-clause-few c =
+    let l = c.self.inside in
+    let few = (countable l.deal l.arc l.history.list c.self.invariant.scans.legal).count in
+    omega arith
 
 pub invariant_of-self : goal.invariant_of-self
 invariant_of-self c =
@@ -29,18 +36,18 @@ invariant_of-self c =
     let fits = rw (← c.self.view_is) at c.requires.fits in
     let unfull = rw (← c.self.view_is) at (sym c.is_full.ensures ∙ c.if-is_full.false) in
     let have = rw (← c.self.view_is) at c.balance-balance.ensures in
-    let reply = reply_is l.deal l.arc l.entries.items l.height l.accounts l.contract l.party_calls l.counterparty_calls l.ticks c.balance-balance.result c.args.sender c.args.call c.answer-reply.result i.scans unfull have c.answer-reply.ensures.reply in
+    let reply = reply_is l.deal l.arc l.history.list l.height l.accounts l.contract l.party_calls l.counterparty_calls l.ticks c.balance-balance.result c.args.sender c.args.call c.answer-reply.result i.scans unfull have c.answer-reply.ensures.reply in
     record {
       sized = i.sized;
       arc = i.arc;
       party = i.party;
       counterparty = i.counterparty;
       scans =
-          rw c.in-Ok.ensures.items
-          (call_scans l.deal l.arc l.entries.items l.height l.accounts c.accounts_after-self-inside.result l.contract c.answer-reply.new.contract
+          rw c.push.ensures.list
+          (call_scans l.deal l.arc l.history.list l.height l.accounts c.accounts_after-self-inside.result l.contract c.answer-reply.new.contract
           l.party_calls c.one_more_where-self-inside.result l.counterparty_calls c.one_more_where-self-inside-2.result l.ticks c.args.sender c.args.call c.answer-reply.result
           i.scans
-          (record { of_the_two = two; fits = fits; height = i.scans.height; reply = reply; room = has_room l.deal l.arc l.entries.items c.args.sender c.args.call c.answer-reply.result unfull reply })
+          (record { of_the_two = two; fits = fits; height = i.scans.height; reply = reply; room = has_room l.deal l.arc l.history.list c.args.sender c.args.call c.answer-reply.result unfull reply })
           (c.accounts_after-self-inside.ensures ∙ ap (λ p. moved_by p l.accounts (c.args.sender == p) (accepted_in (Made c.args.call) c.answer-reply.result)) i.party)
           c.answer-reply.ensures.contract
           (c.one_more_where-self-inside.ensures ∙ ap (λ p. l.party_calls + cond (c.args.sender == p) 1 0) i.party)
@@ -54,13 +61,13 @@ returns-clause-reply c =
     let unfull = rw (← c.self.view_is) at (sym c.is_full.ensures ∙ c.if-is_full.false) in
     let have = rw (← c.self.view_is) at c.balance-balance.ensures in
     rw (← c.self.view_is)
-    (reply_is l.deal l.arc l.entries.items l.height l.accounts l.contract l.party_calls l.counterparty_calls l.ticks c.balance-balance.result c.args.sender c.args.call c.answer-reply.result i.scans unfull have c.answer-reply.ensures.reply)
+    (reply_is l.deal l.arc l.history.list l.height l.accounts l.contract l.party_calls l.counterparty_calls l.ticks c.balance-balance.result c.args.sender c.args.call c.answer-reply.result i.scans unfull have c.answer-reply.ensures.reply)
 
 pub returns-clause-refused : goal.returns-clause-refused
 returns-clause-refused c = λ n.
     let l = c.self.inside in
-    rw (c.in-Ok.ensures.items, ← c.self.view_is)
-    (kept_call l.deal l.arc l.entries.items c.args.sender l.height c.args.call c.answer-reply.result n)
+    rw (c.push.ensures.list, ← c.self.view_is)
+    (kept_call l.deal l.arc l.history.list c.args.sender l.height c.args.call c.answer-reply.result n)
 
 pub returns-clause-legal : goal.returns-clause-legal
 returns-clause-legal c = (invariant_of-self c).scans.legal

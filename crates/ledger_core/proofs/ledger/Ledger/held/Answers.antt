@@ -5,4 +5,4 @@ pub returns : goal.returns
 returns c =
     let l = c.self.inside in
     let k = c.self.invariant.scans in
-    rw (← c.self.view_is) (held_is l.deal l.arc l.entries.items l.accounts k.legal k.accounts)
+    rw (← c.self.view_is) (held_is l.deal l.arc l.history.list l.accounts k.legal k.accounts)

@@ -5,5 +5,5 @@ pub returns-clause-units : goal.returns-clause-units
 returns-clause-units c =
     let l = c.self.inside in
     let i = c.self.invariant in
-    rw (c.deref.ensures.value, ← c.self.view_is)
-    (add_up l.deal l.arc l.entries.items i.scans.legal (i.sized.ends.apart l.arc i.arc))
+    rw (← c.self.view_is)
+    (add_up l.deal l.arc l.history.list i.scans.legal (i.sized.ends.apart l.arc i.arc))

@@ -23,7 +23,7 @@ returns c =
     let two = rw (← c.self.view_is) at c.requires in
     rw (← c.self.view_is)
     (elim c.if-p-self.branch [
-      | then-p-self w ↦ count_at l.entries.items c.if-p-self.calls c.args.p (party l.deal l.arc) (w.calls-is ∙ i.scans.by_party) (w.if-p-self.true ∙ i.party)
-      | else-p-self w ↦ count_at l.entries.items c.if-p-self.calls c.args.p (counterparty l.deal l.arc) (w.calls-is ∙ i.scans.by_counterparty)
+      | then-p-self w ↦ count_at l.history.list c.if-p-self.calls c.args.p (party l.deal l.arc) (w.calls-is ∙ i.scans.by_party) (w.if-p-self.true ∙ i.party)
+      | else-p-self w ↦ count_at l.history.list c.if-p-self.calls c.args.p (counterparty l.deal l.arc) (w.calls-is ∙ i.scans.by_counterparty)
           (other c.args.p (party l.deal l.arc) (counterparty l.deal l.arc) two (λ e. w.if-p-self.false (e ∙ sym i.party)))
     ])

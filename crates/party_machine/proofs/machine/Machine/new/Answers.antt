@@ -10,7 +10,10 @@ fits_party c = ap (λ (p : ℕ). wrong_lock c.args.deal.now p c.args.wallet.seed
 
 pub invariant_of-result : goal.invariant_of-result
 invariant_of-result c =
-    new_ready c.in_ok-copy_deal.field-0 c.args.deal.now c.args.me c.args.wallet c.in_ok-known.known.items c.in_ok-copy_deal.ensures c.requires.wallet c.in_ok-known.ensures c.requires.sized c.requires.party (fits_party c)
+    record {
+      ready = new_ready c.in_ok-copy_deal.field-0 c.args.deal.now c.args.me c.args.wallet c.in_ok-known.known.items c.in_ok-copy_deal.ensures c.requires.wallet c.in_ok-known.ensures c.requires.sized c.requires.party (fits_party c);
+      rests = tt;
+    }
 
 pub returns-clause-exact : goal.returns-clause-exact
 returns-clause-exact c =

@@ -1,0 +1,147 @@
+-- What a legal book gives to the programs that read it.
+use Rattle.std.proofs.Common.{◌≡◌, ℕ, ◌<◌, List, [], ◌∷◌, ◌++◌, length, get_or, refl, sym, ap, ◌∙◌, subst, arith, Bool, true, false, cond, not, nat_lt, nat_le, ◌&&◌, ◌||◌, IsTrue, Option, Some, None, lt-ltb, ltb-true}
+use Rattle.std.specs.Prelude.{filter_map, if◌then◌else◌}
+use Rattle.std.specs.List.{list_all, list_any, cons_option, AllByRecursion}
+use Rattle.std.proofs.lemmas.Bool.{not-false}
+use Rattle.swap_base.specs.Lists.{moments_after}
+use Rattle.swap_base.proofs.Lists.{and_parts}
+use Rattle.swap_digraph.specs.declared.deal.Deal.{Deal}
+use Rattle.swap_digraph.specs.declared.deal.Mode.{Mode}
+use Rattle.swap_digraph.specs.declared.deal.Mode.TheVariants.{Timelocks, Hashkeys}
+use Rattle.swap_digraph.specs.Deal.{path_limit}
+use Rattle.escrow_core.specs.declared.reply.Reply.{Reply}
+use Rattle.escrow_core.specs.declared.reply.Reply.TheVariants.{Accepted}
+use Rattle.ledger_core.specs.declared.entry.Call.{Call}
+use Rattle.ledger_core.specs.declared.entry.Call.TheVariants.{Publish, Unlock, Claim, Refund, Transfer}
+use Rattle.ledger_core.specs.declared.entry.Sender.{Sender}
+use Rattle.ledger_core.specs.declared.entry.Sender.TheVariants.{Party, Clock}
+use Rattle.ledger_core.specs.declared.entry.What.{What}
+use Rattle.ledger_core.specs.declared.entry.What.TheVariants.{Call as Made, Tick}
+use Rattle.ledger_core.specs.declared.entry.Entry.{Entry}
+use Rattle.ledger_core.specs.History.{accepted, accepted_in, fit, sent_by, IsLegal, IsLegalEntry, IsLegalMoment}
+use Rattle.ledger_core.specs.Book.{Histories, history, IsLegalBook}
+use Rattle.history_index.specs.declared.made.Made.{Made as Numbered}
+use Rattle.history_index.specs.Made.{made_in}
+use Rattle.swap_rules.specs.Party.{call_in, call_of}
+use Rattle.swap_rules.specs.declared.finding.Finding.TheVariants.{Broke}
+use Rattle.swap_rules.specs.Conduct.{forges, is_forged, keeps, keeps_at}
+use Rattle.swap_rules.specs.Findings.{failing}
+use Rattle.conduct_check.specs.Parts.{IsWithin}
+use Rattle.sent_keys.specs.Sent.{touches}
+use Rattle.sent_keys.proofs.Own.{unsent}
+use Rattle.sent_keys.proofs.Unlocks.{sent_of_tick}
+use Rattle.conduct_check.proofs.Asked.{accepted_of_tick, made_fails}
+
+pub legal_of : (d : Deal) (b : Histories) (a : ℕ) → IsLegalBook d b → a < length d.graph.arcs → IsLegal d a (history b a)
+legal_of d b a l lt = let n = l.one_each in l.legal a (omega arith)
+
+-- Every call of a legal history is for a lock of the deal.
+
+fits_within : (d : Deal) (a : ℕ) (c : Call) → IsTrue (fit d a c) → IsWithin d (Some c)
+fits_within d a (Publish t) f = tt
+fits_within d a (Unlock key) f =
+    let p = and_parts (nat_lt key.lock (length d.leaders) && nat_le (length key.path) (path_limit d) && nat_le (length key.sigs) (path_limit d)) (list_all (λ v. nat_lt v d.graph.n) key.path) f in
+    let q = and_parts (nat_lt key.lock (length d.leaders) && nat_le (length key.path) (path_limit d)) (nat_le (length key.sigs) (path_limit d)) p.0 in
+    let r = and_parts (nat_lt key.lock (length d.leaders)) (nat_le (length key.path) (path_limit d)) q.0 in
+    ltb-true key.lock (length d.leaders) r.0
+fits_within d a Claim f = tt
+fits_within d a Refund f = tt
+fits_within d a (Transfer to units) f = tt
+
+within_what : (d : Deal) (a : ℕ) (past : List Entry) (s : Sender) (w : What) (at : ℕ) (r : Reply) → IsLegalEntry d a past s w at r → IsWithin d (call_in w)
+within_what d a past (Party p) (Made c) at r l = fits_within d a c l.fits
+within_what d a past s (Tick k) at r l = tt
+within_what d a past Clock (Made c) at r l = absurd l
+
+within_sent : (d : Deal) (w : What) (b : Bool) → IsWithin d (call_in w) → IsWithin d (cond b (call_in w) None)
+within_sent d w true h = h
+within_sent d w false h = tt
+
+within_accepted : (d : Deal) (w : What) (r : Reply) → IsWithin d (call_in w) → IsWithin d (accepted_in w r)
+within_accepted d (Made c) Accepted h = h
+within_accepted d (Made c) _ h = tt
+within_accepted d (Tick k) r h = tt
+
+-- the same as a test
+
+is_within : Deal → Option Call → Bool
+is_within d (Some (Unlock key)) = nat_lt key.lock (length d.leaders)
+is_within d _ = true
+
+passes : (d : Deal) (o : Option Call) → IsWithin d o → is_within d o ≡ true
+unfolding is_within
+passes d None h = refl
+passes d (Some (Publish t)) h = refl
+passes d (Some (Unlock key)) h = lt-ltb key.lock (length d.leaders) h
+passes d (Some Claim) h = refl
+passes d (Some Refund) h = refl
+passes d (Some (Transfer to units)) h = refl
+
+from_passed : (d : Deal) (o : Option Call) → is_within d o ≡ true → IsWithin d o
+unfolding is_within
+from_passed d None h = tt
+from_passed d (Some (Publish t)) h = tt
+from_passed d (Some (Unlock key)) h = ltb-true key.lock (length d.leaders) h
+from_passed d (Some Claim) h = tt
+from_passed d (Some Refund) h = tt
+from_passed d (Some (Transfer to units)) h = tt
+
+is_outside : Deal → Entry → Bool
+is_outside d e = not (is_within d (call_in e.what))
+
+no_tick_outside : (d : Deal) (e : Entry) (k : ℕ) → e.what ≡ Tick k → is_outside d e ≡ false
+unfolding is_outside is_within
+no_tick_outside d e k is = ap (λ w. not (is_within d (call_in w))) is
+
+none_outside : (d : Deal) (a : ℕ) (past h : List Entry) → AllByRecursion (IsLegalMoment d a) (moments_after past h) → list_any (is_outside d) h ≡ false
+unfolding is_outside
+none_outside d a past [] l = refl
+none_outside d a past (e ∷ h) l =
+    ap (λ b. not b || list_any (is_outside d) h) (passes d (call_in e.what) (within_what d a past e.sender e.what e.height e.reply l.0)) ∙ none_outside d a (past ++ e ∷ []) h l.1
+
+inside : (d : Deal) (e : Entry) → is_outside d e ≡ false → IsWithin d (call_in e.what)
+unfolding is_outside
+inside d e h = from_passed d (call_in e.what) (not-false (is_within d (call_in e.what)) h)
+
+within_at : (d : Deal) (b : Histories) (a i : ℕ) (ms : List Numbered) (x : Numbered) → IsLegalBook d b → a < length d.graph.arcs → ms ≡ made_in (history b a) → i < length ms → x ≡ get_or ms i x → IsWithin d (call_in x.entry.what)
+within_at d b a i ms x l arc is lt at =
+    let h = history b a in
+    let small : i < length (made_in h) = subst (λ (z : List Numbered). i < length z) is lt in
+    let same : get_or (made_in h) i x ≡ x = sym (at ∙ ap (λ (z : List Numbered). get_or z i x) is) in
+    subst (λ (z : Numbered). IsWithin d (call_in z.entry.what)) same (inside d (get_or (made_in h) i x).entry (made_fails (is_outside d) h i x (no_tick_outside d) small (none_outside d a [] h (legal_of d b a l arc))))
+
+-- so is each call of the arc's index
+pub call_within : (d : Deal) (b : Histories) (a i v : ℕ) (ms : List Numbered) (x : Numbered) → IsLegalBook d b → a < length d.graph.arcs → ms ≡ made_in (history b a) → i < length ms → x ≡ get_or ms i x → IsWithin d (call_of v x.entry)
+call_within d b a i v ms x l arc is lt at = within_sent d x.entry.what (sent_by v x.entry.sender) (within_at d b a i ms x l arc is lt at)
+
+pub accepted_within : (d : Deal) (b : Histories) (a i : ℕ) (ms : List Numbered) (x : Numbered) → IsLegalBook d b → a < length d.graph.arcs → ms ≡ made_in (history b a) → i < length ms → x ≡ get_or ms i x → IsWithin d (accepted x.entry)
+accepted_within d b a i ms x l arc is lt at = within_accepted d x.entry.what x.entry.reply (within_at d b a i ms x l arc is lt at)
+
+-- A party that isn't one of the arc's two has no call on it.
+
+kept : (d : Deal) (b : Histories) (v a : ℕ) (past : List Entry) (at : ℕ) (o : Option Call) → o ≡ None → keeps d b v a past at o ≡ true
+unfolding keeps
+kept d b v a past at o e = ap (keeps d b v a past at) e
+
+none_fails : (d : Deal) (b : Histories) (v a : ℕ) (past h : List Entry) → AllByRecursion (IsLegalMoment d a) (moments_after past h) → touches d v a ≡ false → filter_map (λ m. if keeps_at d b v a m then None else Some (Broke v a (length m.past))) (moments_after past h) ≡ []
+none_fails d b v a past [] l t = refl
+none_fails d b v a past (e ∷ h) l t =
+    ap (λ x. cons_option (cond x None (Some (Broke v a (length past)))) (filter_map (λ m. if keeps_at d b v a m then None else Some (Broke v a (length m.past))) (moments_after (past ++ e ∷ []) h)))
+    (kept d b v a past e.height (call_of v e) (unsent d a v past e.sender e.what e.height e.reply l.0 t))
+    ∙ none_fails d b v a (past ++ e ∷ []) h l.1 t
+
+pub untouched : (d : Deal) (b : Histories) (v a : ℕ) → IsLegalBook d b → a < length d.graph.arcs → touches d v a ≡ false → failing (Broke v a) (keeps_at d b v a) (history b a) ≡ []
+untouched d b v a l arc t = none_fails d b v a [] (history b a) (legal_of d b a l arc) t
+
+-- Ticks keep the rules of conduct.
+pub tick_keeps : (d : Deal) (b : Histories) (v a : ℕ) (past : List Entry) (e : Entry) (k : ℕ) → e.what ≡ Tick k → keeps_at d b v a (record { past = past; now = e }) ≡ true
+tick_keeps d b v a past e k is = kept d b v a past e.height (call_of v e) (sent_of_tick v e k is)
+
+unforged : (m : Mode) (d : Deal) (b : Histories) (v : ℕ) (o : Option Call) → o ≡ None → not (forges m d b v o) ≡ true
+unfolding forges
+unforged Timelocks d b v o e = ap (λ z. not (forges Timelocks d b v z)) e
+unforged Hashkeys d b v o e = ap (λ z. not (forges Hashkeys d b v z)) e
+
+-- No tick is forged.
+pub tick_is_made : (d : Deal) (b : Histories) (v : ℕ) (e : Entry) (k : ℕ) → e.what ≡ Tick k → not (is_forged d b v e) ≡ true
+tick_is_made d b v e k is = unforged d.mode d b v (accepted e) (accepted_of_tick e k is)

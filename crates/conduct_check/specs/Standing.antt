@@ -1,0 +1,41 @@
+-- What is read once of a party, for all of its calls.
+use Rattle.std.specs.Prelude.{◌≡◌, ℕ, ◌<◌, Bool, false, List, ◌∷◌, Option, Some, None, length, slice_index_or}
+use Rattle.swap_digraph.specs.declared.deal.Deal.{Deal}
+use Rattle.swap_digraph.specs.Graph.{entering}
+use Rattle.hashkey_path.specs.declared.hashkey.Hashkey.{Hashkey}
+use Rattle.hashkey_path.specs.Hashkey.{same_key, is_valid}
+use Rattle.ledger_core.specs.History.{Opening}
+use Rattle.ledger_core.specs.Book.{Histories}
+use Rattle.swap_rules.specs.Party.{first_key, hashlock_of, is_ready, leads_one}
+use Rattle.swap_rules.specs.Conduct.{has_origin}
+use Rattle.conduct_check.specs.declared.standing.Standing.{Standing}
+
+-- whether the accepted unlock is with the hashkey
+abbrev pub is_opened_by : Hashkey → Option Opening → Bool
+is_opened_by key None = false
+is_opened_by key (Some o) = same_key o.key key
+
+-- whether the hashkey is well come by
+abbrev pub origin_of : Deal → Histories → ℕ → Option Hashkey → Bool
+origin_of d b v None = false
+origin_of d b v (Some key) = has_origin d.mode d b v key
+
+-- whether v's first hashkey for lock i is
+abbrev pub first_origin : Deal → Histories → ℕ → ℕ → Bool
+first_origin d b v i = origin_of d b v (first_key b v i)
+
+-- whether the hashkey is valid on the first of the arcs
+abbrev pub valid_on : Deal → List ℕ → Option Hashkey → Bool
+valid_on d (a ∷ rest) (Some key) = is_valid d a (hashlock_of d key.lock) key
+valid_on d _ _ = false
+
+-- whether v's first hashkey for lock i is valid on the arcs that enter v, which is the same of all of them
+abbrev pub first_valid : Deal → Histories → ℕ → ℕ → Bool
+first_valid d b v i = valid_on d (entering d.graph v) (first_key b v i)
+
+-- What is read of v in the book.
+pub record IsStanding (d : Deal) (b : Histories) (v : ℕ) (s : Standing) : Type 0 where
+  pub leads : s.leads ≡ leads_one d v
+  pub ready : s.ready ≡ is_ready d b v
+  pub origins : (i : ℕ) → i < length d.leaders → slice_index_or s.origins i false ≡ first_origin d b v i
+  pub valid : (i : ℕ) → i < length d.leaders → slice_index_or s.valid i false ≡ first_valid d b v i

@@ -1,0 +1,200 @@
+//! Whether a party's call keeps the rules of conduct.
+
+ghost use Rattle.std.specs.Prelude.{◌≡◌, ◌==◌, ◌<◌, ℕ, Some, true, length, count_by, option_copied};
+ghost use Rattle.swap_digraph.specs.Deal.{IsWellSized};
+ghost use Rattle.ledger_core.specs.Book.{history};
+ghost use Rattle.swap_rules.specs.Party.{call_of};
+ghost use Rattle.swap_rules.specs.Conduct.{is_publish, keeps};
+ghost use Rattle.history_index.specs.Indexes.{entries_in, AreIndexes};
+ghost use Rattle.sent_keys.specs.Sent.{shown, unlocks_of};
+ghost use Rattle.conduct_check.specs.Standing.{IsStanding};
+ghost use Rattle.conduct_check.specs.Parts.{is_first, is_good_key, is_valid_at, keeps_call, keeps_made, IsWithin};
+
+use crate::past::{had_expired, made_on, was_published, was_triggered};
+use crate::standing::Standing;
+use crate::validity::is_valid;
+use escrow_core::{Terms, terms_of};
+use hashkey_path::Hashkey;
+use history_index::{Index, Made};
+use ledger_core::Call;
+use sent_keys::{call_of, first_key, is_first_key};
+use swap_base::{ArcId, PartyId};
+use swap_digraph::Deal;
+
+fn is_publish(call: Option<&Call>) -> bool
+    ensures { result ≡ is_publish (option_copied call.entry) }
+{
+    match call {
+        Some(Call::Publish(_)) => true,
+        _ => false,
+    }
+}
+
+/// How many publishes of the party are among the calls.
+fn count_publishes(calls: &[Made], party: PartyId) -> usize
+    ensures { result ≡ count_by (λ m. is_publish (call_of party m.entry)) calls.now }
+{
+    calls
+        .iter()
+        .filter(|made| is_publish(call_of(party, &made.entry)))
+        .count()
+}
+
+/// Whether the party has exactly one publish on the arc.
+fn publishes_once(known: &[Index], party: PartyId, arc: ArcId) -> bool
+    ensures { result ≡ (count_by (λ e. is_publish (call_of party e)) (history (entries_in known.now) arc) == 1) }
+{
+    count_publishes(made_on(known, arc), party) == 1
+}
+
+/// Whether a publish has the correct terms and is the party's only one on the arc, and the party leads or is ready.
+#[tactic(auto, unfolding(swap_rules::specs::Conduct::keeps))]
+fn keeps_publish(
+    deal: &Deal,
+    known: &[Index],
+    party: PartyId,
+    standing: &Standing,
+    arc: ArcId,
+    terms: &Terms,
+) -> bool
+    requires sized { IsWellSized deal.now }
+    requires standing { IsStanding deal.now (entries_in known.now) party standing.now }
+    requires arc { arc < length deal.now.graph.arcs }
+    ensures { (past : _) (at : ℕ) → result ≡ keeps deal.now (entries_in known.now) party arc past at (Some (Call.Publish terms.now)) }
+{
+    terms.same(&terms_of(deal, arc))
+        && publishes_once(known, party, arc)
+        && (standing.leads || standing.ready)
+}
+
+/// Whether the hashkey is valid on the arc, where it is the party's first one for its lock. On an arc that doesn't enter the party it verifies signatures anew.
+fn is_valid_on(
+    deal: &Deal,
+    known: &[Index],
+    party: PartyId,
+    standing: &Standing,
+    arc: ArcId,
+    key: &Hashkey,
+) -> bool
+    requires sized { IsWellSized deal.now }
+    requires standing { IsStanding deal.now (entries_in known.now) party standing.now }
+    requires arc { arc < length deal.now.graph.arcs }
+    requires lock { key.now.lock < length deal.now.leaders }
+    ensures { is_first (entries_in known.now) party key.now ≡ true → result ≡ is_valid_at deal.now arc key.now }
+{
+    if deal.graph.arcs()[arc as usize].to == party {
+        standing.valid[key.lock as usize]
+    } else {
+        is_valid(deal, arc, key, 0)
+    }
+}
+
+/// Whether the hashkey is valid on the arc and well come by, where it is the party's first one for its lock.
+///
+/// Whence it comes is asked first: one that is well come by begins at the party, so that no signature is verified for an arc that doesn't enter it.
+fn keeps_first(
+    deal: &Deal,
+    known: &[Index],
+    party: PartyId,
+    standing: &Standing,
+    arc: ArcId,
+    key: &Hashkey,
+) -> bool
+    requires sized { IsWellSized deal.now }
+    requires standing { IsStanding deal.now (entries_in known.now) party standing.now }
+    requires arc { arc < length deal.now.graph.arcs }
+    requires lock { key.now.lock < length deal.now.leaders }
+    ensures { is_first (entries_in known.now) party key.now ≡ true → result ≡ is_good_key deal.now (entries_in known.now) party arc key.now }
+{
+    standing.origins[key.lock as usize] && is_valid_on(deal, known, party, standing, arc, key)
+}
+
+/// Whether an unlock stands after its arc's accepted publish, the party is ready, and the hashkey is its first one for the lock, valid and well come by.
+#[tactic(auto, unfolding(swap_rules::specs::Conduct::keeps))]
+fn keeps_unlock(
+    deal: &Deal,
+    known: &[Index],
+    party: PartyId,
+    keys: &[&Hashkey],
+    standing: &Standing,
+    arc: ArcId,
+    number: u32,
+    key: &Hashkey,
+) -> bool
+    requires sized { IsWellSized deal.now }
+    requires keys { shown keys.now ≡ unlocks_of (entries_in known.now) party }
+    requires standing { IsStanding deal.now (entries_in known.now) party standing.now }
+    requires arc { arc < length deal.now.graph.arcs }
+    requires lock { key.now.lock < length deal.now.leaders }
+    ensures { (at : ℕ) → result ≡ keeps_call deal.now (entries_in known.now) party arc number at (Call.Unlock key.now) }
+{
+    was_published(known, arc, number)
+        && standing.ready
+        && is_first_key(first_key(known, party, keys, key.lock), key)
+        && keeps_first(deal, known, party, standing, arc, key)
+}
+
+/// Whether a call of the party on the arc, made at a height as the entry with that number, keeps the rules of conduct.
+#[tactic(auto, unfolding(swap_rules::specs::Conduct::keeps))]
+fn keeps(
+    deal: &Deal,
+    known: &[Index],
+    party: PartyId,
+    keys: &[&Hashkey],
+    standing: &Standing,
+    arc: ArcId,
+    number: u32,
+    at: u32,
+    call: &Call,
+) -> bool
+    requires sized { IsWellSized deal.now }
+    requires known { AreIndexes deal.now known.now }
+    requires keys { shown keys.now ≡ unlocks_of (entries_in known.now) party }
+    requires standing { IsStanding deal.now (entries_in known.now) party standing.now }
+    requires arc { arc < length deal.now.graph.arcs }
+    requires within { IsWithin deal.now (Some call.now) }
+    ensures { result ≡ keeps_call deal.now (entries_in known.now) party arc number at call.now }
+{
+    match call {
+        Call::Publish(terms) => keeps_publish(deal, known, party, standing, arc, terms),
+        Call::Unlock(key) => keeps_unlock(deal, known, party, keys, standing, arc, number, key),
+        Call::Claim => was_triggered(deal, known, arc, number),
+        Call::Refund => had_expired(deal, known, arc, number, at),
+        Call::Transfer(_, _) => false,
+    }
+}
+
+/// Whether the call on the arc, where it is the party's, keeps the rules of conduct.
+#[tactic(auto, unfolding(swap_rules::specs::Conduct::keeps))]
+pub(crate) fn keeps_at(
+    deal: &Deal,
+    known: &[Index],
+    party: PartyId,
+    keys: &[&Hashkey],
+    standing: &Standing,
+    arc: ArcId,
+    made: &Made,
+) -> bool
+    requires sized { IsWellSized deal.now }
+    requires known { AreIndexes deal.now known.now }
+    requires keys { shown keys.now ≡ unlocks_of (entries_in known.now) party }
+    requires standing { IsStanding deal.now (entries_in known.now) party standing.now }
+    requires arc { arc < length deal.now.graph.arcs }
+    requires within { IsWithin deal.now (call_of party made.now.entry) }
+    ensures { result ≡ keeps_made deal.now (entries_in known.now) party arc made.now }
+{
+    match call_of(party, &made.entry) {
+        Some(call) => keeps(
+            deal,
+            known,
+            party,
+            keys,
+            standing,
+            arc,
+            made.number,
+            made.entry.height,
+            call,
+        ),
+        None => true,
+    }
+}

@@ -1,0 +1,117 @@
+//! Whether an entry was accepted with a signature or a secret that a party never sent.
+
+ghost use Rattle.std.specs.Prelude.{◌≡◌, ◌<◌, length};
+ghost use Rattle.swap_digraph.specs.Deal.{IsWellSized};
+ghost use Rattle.ledger_core.specs.History.{accepted};
+ghost use Rattle.swap_rules.specs.Conduct.{has_forged_suffix, is_forged};
+ghost use Rattle.history_index.specs.Indexes.{entries_in};
+ghost use Rattle.sent_keys.specs.Sent.{shown, unlocks_of};
+ghost use Rattle.conduct_check.specs.Parts.{has_made_parts, has_sent, is_forged_secret, IsWithin};
+
+use book_reading::leads;
+use hash_signature::{Sig, hash_of};
+use hashkey_path::Hashkey;
+use history_index::Index;
+use ledger_core::{Call, Entry};
+use sent_keys::{accepted, has_parts};
+use swap_base::{Digest, LockId, PartyId};
+use swap_digraph::{Deal, Mode};
+
+/// Whether an unlock call of the party carries a hashkey of these parts.
+fn has_made(
+    known: &[Index],
+    party: PartyId,
+    keys: &[&Hashkey],
+    lock: LockId,
+    secret: &Digest,
+    path: &[PartyId],
+    sigs: &[Sig],
+) -> bool
+    requires keys { shown keys.now ≡ unlocks_of (entries_in known.now) party }
+    ensures { result ≡ has_made_parts (entries_in known.now) party lock secret.now path.now sigs.now }
+{
+    keys.iter()
+        .any(|sent| has_parts(*sent, lock, secret, path, sigs))
+}
+
+/// Whether an unlock call of the party carries the secret.
+fn has_sent(known: &[Index], party: PartyId, keys: &[&Hashkey], secret: &Digest) -> bool
+    requires keys { shown keys.now ≡ unlocks_of (entries_in known.now) party }
+    ensures { result ≡ has_sent (entries_in known.now) party secret.now }
+{
+    keys.iter().any(|sent| sent.secret == *secret)
+}
+
+/// Whether a suffix of the hashkey, whose path and signatures from some place on are these, begins with the party,
+/// and no unlock call of it carries that suffix.
+fn has_forged_suffix(
+    known: &[Index],
+    party: PartyId,
+    keys: &[&Hashkey],
+    key: &Hashkey,
+    path: &[PartyId],
+    sigs: &[Sig],
+) -> bool
+    requires keys { shown keys.now ≡ unlocks_of (entries_in known.now) party }
+    ensures { result ≡ has_forged_suffix (entries_in known.now) party key.now path.now sigs.now }
+{
+    match path {
+        [first, rest @ ..] => match sigs {
+            [_, inner @ ..] => {
+                (*first == party
+                    && !has_made(known, party, keys, key.lock, &key.secret, path, sigs))
+                    || has_forged_suffix(known, party, keys, key, rest, inner)
+            }
+            [] => false,
+        },
+        [] => false,
+    }
+}
+
+/// Whether the secret opens a lock that the party leads, and no unlock call of it carries that secret.
+#[tactic(auto, using(crate::proofs::Chains::secret_chain))]
+fn is_forged_secret(
+    deal: &Deal,
+    known: &[Index],
+    party: PartyId,
+    keys: &[&Hashkey],
+    key: &Hashkey,
+) -> bool
+    requires sized { IsWellSized deal.now }
+    requires party { party < deal.now.graph.n }
+    requires keys { shown keys.now ≡ unlocks_of (entries_in known.now) party }
+    requires lock { key.now.lock < length deal.now.leaders }
+    ensures { result ≡ is_forged_secret deal.now (entries_in known.now) party key.now }
+{
+    leads(deal, party, key.lock)
+        && !has_sent(known, party, keys, &key.secret)
+        && hash_of(&key.secret) == deal.hashlocks.as_slice()[key.lock as usize]
+}
+
+/// Whether the entry is forged in the party's name.
+#[tactic(auto, unfolding(swap_rules::specs::Conduct::forges))]
+pub(crate) fn is_forged(
+    deal: &Deal,
+    known: &[Index],
+    party: PartyId,
+    keys: &[&Hashkey],
+    entry: &Entry,
+) -> bool
+    requires sized { IsWellSized deal.now }
+    requires party { party < deal.now.graph.n }
+    requires keys { shown keys.now ≡ unlocks_of (entries_in known.now) party }
+    requires within { IsWithin deal.now (accepted entry.now) }
+    ensures { result ≡ is_forged deal.now (entries_in known.now) party entry.now }
+{
+    match accepted(entry) {
+        Some(Call::Unlock(key)) => match deal.mode {
+            Mode::Timelocks => is_forged_secret(deal, known, party, keys, key),
+            Mode::Hashkeys => {
+                let path = key.path.as_slice();
+                let sigs = key.sigs.as_slice();
+                has_forged_suffix(known, party, keys, key, path, sigs)
+            }
+        },
+        _ => false,
+    }
+}

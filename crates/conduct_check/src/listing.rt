@@ -1,0 +1,150 @@
+//! What is found, in its order.
+
+ghost use Rattle.std.specs.Prelude.{◌≡◌, ◌<◌, ◌++◌, ◌∷◌, [], OnOk, length, if◌then◌else◌};
+ghost use Rattle.swap_digraph.specs.Deal.{IsWellSized};
+ghost use Rattle.ledger_core.specs.Book.{IsLegalBook};
+ghost use Rattle.swap_rules.specs.Findings.{broken, forgeries};
+ghost use Rattle.history_index.specs.Indexes.{entries_in, AreIndexes};
+ghost use Rattle.sent_keys.specs.Sent.{shown, unlocks_of};
+ghost use Rattle.conduct_check.specs.Standing.{IsStanding};
+ghost use Rattle.conduct_check.specs.Parts.{broken_on, forged_on};
+
+use crate::conduct::keeps_at;
+use crate::forged::is_forged;
+use crate::past::made_on;
+use crate::standing::{Standing, standing_of};
+use hashkey_path::Hashkey;
+use history_index::Index;
+use sent_keys::touches;
+use swap_base::{ArcId, NoMemory, PartyId};
+use swap_digraph::Deal;
+use swap_rules::Finding;
+
+/// Adds the finding where the test holds.
+fn put_if(out: &mut Vec<Finding>, test: bool, finding: Finding) -> Result<(), NoMemory>
+    ensures { OnOk result (out.new.items ≡ out.old.items ++ (if test then finding ∷ [] else [])) }
+{
+    if test {
+        out.push(finding)?;
+    }
+    Ok(())
+}
+
+/// Adds the calls on the arc by which the party broke a rule of conduct.
+fn put_broken_calls(
+    out: &mut Vec<Finding>,
+    deal: &Deal,
+    known: &[Index],
+    party: PartyId,
+    keys: &[&Hashkey],
+    standing: &Standing,
+    arc: ArcId,
+) -> Result<(), NoMemory>
+    requires sized { IsWellSized deal.now }
+    requires known { AreIndexes deal.now known.now }
+    requires legal { IsLegalBook deal.now (entries_in known.now) }
+    requires keys { shown keys.now ≡ unlocks_of (entries_in known.now) party }
+    requires standing { IsStanding deal.now (entries_in known.now) party standing.now }
+    requires arc { arc < length deal.now.graph.arcs }
+    ensures { OnOk result (out.new.items ≡ out.old.items ++ broken_on deal.now (entries_in known.now) party arc) }
+{
+    let calls = made_on(known, arc);
+    for made in calls {
+        let kept = keeps_at(deal, known, party, keys, standing, arc, made);
+        put_if(out, !kept, Finding::Broke(party, arc, made.number))?;
+    }
+    Ok(())
+}
+
+/// Adds the entries of the arc by which the party broke a rule of conduct. There is none where the arc isn't the party's.
+fn put_broken_on(
+    out: &mut Vec<Finding>,
+    deal: &Deal,
+    known: &[Index],
+    party: PartyId,
+    keys: &[&Hashkey],
+    standing: &Standing,
+    arc: ArcId,
+) -> Result<(), NoMemory>
+    requires sized { IsWellSized deal.now }
+    requires known { AreIndexes deal.now known.now }
+    requires legal { IsLegalBook deal.now (entries_in known.now) }
+    requires keys { shown keys.now ≡ unlocks_of (entries_in known.now) party }
+    requires standing { IsStanding deal.now (entries_in known.now) party standing.now }
+    requires arc { arc < length deal.now.graph.arcs }
+    ensures { OnOk result (out.new.items ≡ out.old.items ++ broken_on deal.now (entries_in known.now) party arc) }
+{
+    if touches(deal, party, arc) {
+        put_broken_calls(out, deal, known, party, keys, standing, arc)?;
+    }
+    Ok(())
+}
+
+/// Adds where the party broke a rule of conduct, by arc and entry. `keys` are the hashkeys of its unlock calls.
+#[tactic(auto, using(sent_keys::proofs::Loops::flat_more))]
+pub fn put_broken(
+    out: &mut Vec<Finding>,
+    deal: &Deal,
+    known: &[Index],
+    party: PartyId,
+    keys: &[&Hashkey],
+) -> Result<(), NoMemory>
+    requires sized { IsWellSized deal.now }
+    requires known { AreIndexes deal.now known.now }
+    requires legal { IsLegalBook deal.now (entries_in known.now) }
+    requires party { party < deal.now.graph.n }
+    requires keys { shown keys.now ≡ unlocks_of (entries_in known.now) party }
+    ensures { OnOk result (out.new.items ≡ out.old.items ++ broken deal.now (entries_in known.now) party) }
+{
+    let standing = standing_of(deal, known, party, keys);
+    for arc in 0..deal.graph.arcs().len() as u8 {
+        put_broken_on(out, deal, known, party, keys, &standing, arc)?;
+    }
+    Ok(())
+}
+
+/// Adds the entries of the arc that are forged in the party's name.
+fn put_forged_on(
+    out: &mut Vec<Finding>,
+    deal: &Deal,
+    known: &[Index],
+    party: PartyId,
+    keys: &[&Hashkey],
+    arc: ArcId,
+) -> Result<(), NoMemory>
+    requires sized { IsWellSized deal.now }
+    requires legal { IsLegalBook deal.now (entries_in known.now) }
+    requires party { party < deal.now.graph.n }
+    requires keys { shown keys.now ≡ unlocks_of (entries_in known.now) party }
+    requires arc { arc < length deal.now.graph.arcs }
+    ensures { OnOk result (out.new.items ≡ out.old.items ++ forged_on deal.now (entries_in known.now) party arc) }
+{
+    let calls = made_on(known, arc);
+    for made in calls {
+        let forged = is_forged(deal, known, party, keys, &made.entry);
+        put_if(out, forged, Finding::Forged(party, arc, made.number))?;
+    }
+    Ok(())
+}
+
+/// Adds where an entry is forged in the party's name, by arc and entry. `keys` are the hashkeys of its unlock calls.
+#[tactic(auto, using(sent_keys::proofs::Loops::flat_more))]
+pub fn put_forgeries(
+    out: &mut Vec<Finding>,
+    deal: &Deal,
+    known: &[Index],
+    party: PartyId,
+    keys: &[&Hashkey],
+) -> Result<(), NoMemory>
+    requires sized { IsWellSized deal.now }
+    requires known { AreIndexes deal.now known.now }
+    requires legal { IsLegalBook deal.now (entries_in known.now) }
+    requires party { party < deal.now.graph.n }
+    requires keys { shown keys.now ≡ unlocks_of (entries_in known.now) party }
+    ensures { OnOk result (out.new.items ≡ out.old.items ++ forgeries deal.now (entries_in known.now) party) }
+{
+    for arc in 0..deal.graph.arcs().len() as u8 {
+        put_forged_on(out, deal, known, party, keys, arc)?;
+    }
+    Ok(())
+}

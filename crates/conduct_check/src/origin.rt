@@ -1,0 +1,105 @@
+//! Where a hashkey comes from.
+
+ghost use Rattle.std.specs.Prelude.{◌≡◌, ◌<◌, length, option_copied};
+ghost use Rattle.std.specs.List.{list_any};
+ghost use Rattle.ledger_core.specs.Book.{history};
+ghost use Rattle.ledger_core.specs.History.{accepted};
+ghost use Rattle.swap_rules.specs.Conduct.{carries, extends, has_origin, has_seen, is_alone};
+ghost use Rattle.history_index.specs.Indexes.{entries_in};
+
+use crate::past::made_on;
+use book_reading::leads;
+use hashkey_path::Hashkey;
+use history_index::{Index, Made};
+use ledger_core::Call;
+use sent_keys::{accepted, extends};
+use swap_base::{ArcId, Digest, PartyId};
+use swap_digraph::{Deal, Mode};
+
+/// Whether the call is an unlock with that secret.
+fn carries(secret: &Digest, call: Option<&Call>) -> bool
+    ensures { result ≡ carries secret.now (option_copied call.entry) }
+{
+    match call {
+        Some(Call::Unlock(key)) => key.secret == *secret,
+        _ => false,
+    }
+}
+
+fn is_alone(party: PartyId, path: &[PartyId]) -> bool
+    ensures { result ≡ is_alone party path.now }
+{
+    match path {
+        [only] => *only == party,
+        _ => false,
+    }
+}
+
+/// Whether an unlock with that secret was accepted among the calls.
+fn has_secret(calls: &[Made], secret: &Digest) -> bool
+    ensures { result ≡ list_any (λ m. carries secret.now (accepted m.entry)) calls.now }
+{
+    calls
+        .iter()
+        .any(|made| carries(secret, accepted(&made.entry)))
+}
+
+/// Whether an unlock with a hashkey was accepted among the calls that this one extends by the party.
+fn has_inner(calls: &[Made], party: PartyId, key: &Hashkey) -> bool
+    ensures { result ≡ list_any (λ m. extends party key.now (accepted m.entry)) calls.now }
+{
+    calls
+        .iter()
+        .any(|made| extends(party, key, accepted(&made.entry)))
+}
+
+/// Whether an unlock with that secret was accepted on the arc.
+fn has_secret_on(known: &[Index], arc: ArcId, secret: &Digest) -> bool
+    ensures { result ≡ list_any (λ e. carries secret.now (accepted e)) (history (entries_in known.now) arc) }
+{
+    has_secret(made_on(known, arc), secret)
+}
+
+/// Whether an unlock with a hashkey was accepted on the arc that this one extends by the party.
+fn has_inner_on(known: &[Index], arc: ArcId, party: PartyId, key: &Hashkey) -> bool
+    ensures { result ≡ list_any (λ e. extends party key.now (accepted e)) (history (entries_in known.now) arc) }
+{
+    has_inner(made_on(known, arc), party, key)
+}
+
+fn has_seen_secret(deal: &Deal, known: &[Index], party: PartyId, secret: &Digest) -> bool
+    requires { party < deal.now.graph.n }
+    ensures { result ≡ has_seen deal.now (entries_in known.now) party (carries secret.now) }
+{
+    let leaving = deal.graph.leaving(party);
+    leaving.iter().any(|arc| has_secret_on(known, *arc, secret))
+}
+
+/// Whether a hashkey was accepted on an arc that leaves the party, which this one extends by the party.
+pub(crate) fn has_seen_inner(deal: &Deal, known: &[Index], party: PartyId, key: &Hashkey) -> bool
+    requires { party < deal.now.graph.n }
+    ensures { result ≡ has_seen deal.now (entries_in known.now) party (extends party key.now) }
+{
+    let leaving = deal.graph.leaving(party);
+    leaving
+        .iter()
+        .any(|arc| has_inner_on(known, *arc, party, key))
+}
+
+/// Whether the hashkey is the party's own where it leads the lock, and else comes from an arc that leaves it.
+pub(crate) fn has_origin(deal: &Deal, known: &[Index], party: PartyId, key: &Hashkey) -> bool
+    requires { party < deal.now.graph.n }
+    ensures { result ≡ has_origin deal.now.mode deal.now (entries_in known.now) party key.now }
+{
+    let own = leads(deal, party, key.lock);
+    match deal.mode {
+        Mode::Timelocks => own || has_seen_secret(deal, known, party, &key.secret),
+        Mode::Hashkeys => {
+            if own {
+                is_alone(party, key.path.as_slice())
+            } else {
+                has_seen_inner(deal, known, party, key)
+            }
+        }
+    }
+}

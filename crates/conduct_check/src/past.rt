@@ -1,0 +1,108 @@
+//! What stood on an arc before the entry with a number.
+
+ghost use Rattle.std.specs.Prelude.{◌≡◌, ◌<◌, ◌&&◌, nat_lt, not, is_some, length, take};
+ghost use Rattle.swap_digraph.specs.Deal.{IsWellSized};
+ghost use Rattle.ledger_core.specs.Book.{history};
+ghost use Rattle.ledger_core.specs.History.{is_open, published, triggered};
+ghost use Rattle.swap_rules.specs.Party.{expiry, has_expired};
+ghost use Rattle.history_index.specs.Indexes.{entries_in, AreIndexes};
+ghost use Rattle.history_index.specs.Made.{made_in};
+ghost use Rattle.history_index.specs.Numbers.{is_before, published_number};
+ghost use Rattle.ledger_core.specs.Facts.{opened_number};
+
+use book_reading::expiry;
+use history_index::{Index, Made};
+use ledger_core::Facts;
+use swap_base::{ArcId, LockId};
+use swap_digraph::Deal;
+
+/// The calls on the arc, with their numbers.
+pub(crate) fn made_on<'a>(known: &'a [Index], arc: ArcId) -> &'a [Made]
+    ensures { result.now ≡ made_in (history (entries_in known.now) arc) }
+{
+    match known.get(arc as usize) {
+        Some(index) => index.made(),
+        None => &[],
+    }
+}
+
+fn is_before(at: Option<u32>, number: u32) -> bool
+    ensures { result ≡ is_before at number }
+{
+    match at {
+        None => false,
+        Some(n) => n < number,
+    }
+}
+
+/// The number of the accepted publish on the arc.
+fn published_number(known: &[Index], arc: ArcId) -> Option<u32>
+    ensures { result ≡ published_number (history (entries_in known.now) arc) }
+{
+    match known.get(arc as usize) {
+        Some(index) => index.published_number(),
+        None => None,
+    }
+}
+
+/// The number of the accepted unlock of the lock on the arc.
+fn opened_number(deal: &Deal, known: &[Index], arc: ArcId, lock: LockId) -> Option<u32>
+    requires sized { IsWellSized deal.now }
+    requires known { AreIndexes deal.now known.now }
+    requires lock { lock < length deal.now.leaders }
+    ensures { result ≡ opened_number (history (entries_in known.now) arc) lock }
+{
+    match known.get(arc as usize) {
+        Some(index) => index.unlocked(lock),
+        None => None,
+    }
+}
+
+/// Whether a publish was accepted on the arc before.
+#[tactic(auto, using(history_index::proofs::Calls::published_before))]
+pub(crate) fn was_published(known: &[Index], arc: ArcId, number: u32) -> bool
+    ensures { result ≡ is_some (published (take number (history (entries_in known.now) arc))) }
+{
+    is_before(published_number(known, arc), number)
+}
+
+/// Whether the lock was opened on the arc before.
+#[tactic(auto, using(history_index::proofs::Calls::open_before))]
+fn was_open(deal: &Deal, known: &[Index], arc: ArcId, number: u32, lock: LockId) -> bool
+    requires sized { IsWellSized deal.now }
+    requires known { AreIndexes deal.now known.now }
+    requires lock { lock < length deal.now.leaders }
+    ensures { result ≡ is_open (take number (history (entries_in known.now) arc)) lock }
+{
+    is_before(opened_number(deal, known, arc, lock), number)
+}
+
+/// Whether every lock was opened on the arc before.
+pub(crate) fn was_triggered(deal: &Deal, known: &[Index], arc: ArcId, number: u32) -> bool
+    requires sized { IsWellSized deal.now }
+    requires known { AreIndexes deal.now known.now }
+    ensures { result ≡ triggered deal.now (take number (history (entries_in known.now) arc)) }
+{
+    (0..deal.leaders.len() as u8).all(|lock| was_open(deal, known, arc, number, lock))
+}
+
+/// Whether the lock wasn't opened on the arc before, and the height is above its expiry.
+fn was_expired(deal: &Deal, known: &[Index], arc: ArcId, number: u32, at: u32, lock: LockId) -> bool
+    requires sized { IsWellSized deal.now }
+    requires known { AreIndexes deal.now known.now }
+    requires arc { arc < length deal.now.graph.arcs }
+    requires lock { lock < length deal.now.leaders }
+    ensures { result ≡ (not (is_open (take number (history (entries_in known.now) arc)) lock) && nat_lt (expiry deal.now arc lock) at) }
+{
+    !was_open(deal, known, arc, number, lock) && expiry(deal, arc, lock) < at as u64
+}
+
+/// Whether the height is above the expiry of a lock that wasn't opened on the arc before.
+pub(crate) fn had_expired(deal: &Deal, known: &[Index], arc: ArcId, number: u32, at: u32) -> bool
+    requires sized { IsWellSized deal.now }
+    requires known { AreIndexes deal.now known.now }
+    requires arc { arc < length deal.now.graph.arcs }
+    ensures { result ≡ has_expired deal.now arc (take number (history (entries_in known.now) arc)) at }
+{
+    (0..deal.leaders.len() as u8).any(|lock| was_expired(deal, known, arc, number, at, lock))
+}

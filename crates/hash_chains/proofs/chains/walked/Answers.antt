@@ -1,0 +1,31 @@
+use Rattle.std.proofs.Common.{◌≡◌, ℕ, ◌+◌, ◌<◌, [], get_or, refl, ◌∙◌, arith}
+use Rattle.std.proofs.Math.ListN.{length-set}
+use Rattle.sha2.specs.Sha256.{digest_bytes}
+use Rattle.hash_chains.specs.Chains.{chain_after}
+use Rattle.hash_chains.specs.Fours.{no_row}
+use Rattle.hash_chains.specs.Lanes.{lane}
+use Rattle.hash_chains.specs.declared.chains.Row.{Row}
+use Rattle.hash_chains.proofs.Lanes.{no_steps, words_more}
+use Rattle.hash_chains.proofs.Written.{each_written}
+use Rattle.hash_chains.proofs.chains.walked.Goals as goal
+
+pub steps-init : goal.steps-init
+steps-init c = record {
+  long = refl;
+  here = λ i lt. no_steps _;
+  each = λ n below i lt.
+      let e : n ≡ 0 = omega arith in
+      rw e (c.four_values.ensures i lt ∙ no_steps _);
+}
+
+pub steps-preserved : goal.steps-preserved
+steps-preserved c =
+    let n : ℕ = c.steps.n in
+    let here : (i : ℕ) → i < 4 → digest_bytes (lane c.chain_step-next.result i) 8 ≡ chain_after (n + 1) (digest_bytes (lane c.args.start i) 8) =
+    λ i lt. words_more (lane c.steps.reached i) _ _ n (c.chain_step-next.ensures i lt) (c.steps.invariant.here i lt) in
+    record {
+      long = length-set _ _ _ ∙ c.steps.invariant.long;
+      here = here;
+      each = each_written (λ (k : ℕ) (row : Row). (i : ℕ) → i < 4 → get_or row.values i [] ≡ chain_after k (digest_bytes (lane c.args.start i) 8))
+          c.steps.rows (n + 1) _ no_row (omega arith) c.steps.invariant.each (λ i lt. c.four_values-in-steps.ensures i lt ∙ here i lt);
+    }

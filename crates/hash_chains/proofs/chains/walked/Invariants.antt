@@ -1,0 +1,13 @@
+use Rattle.std.proofs.Common.{◌≡◌, ℕ, ◌+◌, ◌<◌, length}
+use Rattle.sha2.specs.Sha256.{digest_bytes}
+use Rattle.hash_chains.specs.Chains.{chain_after}
+use Rattle.hash_chains.specs.Fours.{HasRow}
+use Rattle.hash_chains.specs.Lanes.{lane}
+use Rattle.hash_chains.proofs.chains.walked.Given as goal
+
+abbrev pub invariant-steps : goal.invariant-steps
+invariant-steps l = record {
+  long : length l.rows ≡ 16;
+  here : (i : ℕ) → i < 4 → digest_bytes (lane l.reached i) 8 ≡ chain_after l.n (digest_bytes (lane l.fn.start i) 8);
+  each : (n : ℕ) → n < l.n + 1 → HasRow (λ k i. chain_after k (digest_bytes (lane l.fn.start i) 8)) n l.rows;
+}

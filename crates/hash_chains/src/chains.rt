@@ -1,0 +1,109 @@
+//! All values of a key's chains.
+
+ghost use Rattle.std.specs.Prelude.{◌≡◌, ℕ, ◌+◌, ◌*◌, ◌<◌, ◌≤◌};
+ghost use Rattle.sha2.specs.Sha256.{digest_bytes};
+ghost use Rattle.hash_chains.specs.Chains.{KeyParts, chain_after, chain_start};
+ghost use Rattle.hash_chains.specs.Fours.{AreFourChains, HasRow};
+ghost use Rattle.hash_chains.specs.Lanes.{lane};
+
+use crate::blocks::{chain_step, four_starts};
+use crate::ops::V;
+use crate::values::{four_values, lanes_of};
+use std::marker::Model;
+use swap_base::{Digest, LockId, PartyId};
+
+/// The number of chains of a key: one for each digit of a message and of its checksum.
+pub const CHAINS: usize = 67;
+
+/// The greatest digit, and so the number of steps of a whole chain.
+pub const STEPS: u8 = 15;
+
+/// How many fours hold all chains. The last of them has one chain that isn't the key's.
+pub(crate) const FOURS: usize = 17;
+
+/// What four chains have reached after a number of steps.
+#[derive(Clone, Copy)]
+struct Row {
+    values: [Digest; 4],
+}
+
+/// Four chains, with a row for each number of steps from 0 to 15.
+#[derive(Clone, Copy)]
+struct Four {
+    rows: [Row; 16],
+}
+
+/// Each value of each chain of a party's key for one lock: 34 KB.
+#[derive(Drop)]
+pub struct Chains {
+    seed: Digest,
+    party: PartyId,
+    lock: LockId,
+    fours: [Four; FOURS],
+}
+
+impl Model for Chains {
+    ghost use Rattle.hash_chains.specs.Chains.{KeyParts};
+
+    ghost Value = { KeyParts };
+
+    ghost use Rattle.hash_chains.specs.Fours.{AreChains};
+
+    ghost view = { λ c. record { seed = c.seed; party = c.party; lock = c.lock } };
+
+    ghost invariant = { λ c. AreChains c.seed c.party c.lock c.fours };
+}
+
+// The row for each number of steps from the values in the lanes.
+fn walked(start: [V; 8]) -> [Row; 16]
+    ensures { (n : ℕ) → n < 16 → HasRow (λ k i. chain_after k (digest_bytes (lane start i) 8)) n result }
+{
+    let mut reached = start;
+    let first = Row {
+        values: four_values(&reached),
+    };
+    let mut rows = [first; 16];
+    'steps: for n in 0..15 {
+        let next = chain_step(reached);
+        reached = next;
+        rows[n + 1].values = four_values(&reached);
+    }
+    rows
+}
+
+fn four_chains(seed: &Digest, party: PartyId, lock: LockId, first: u8) -> Four
+    requires { first < 250 }
+    ensures { AreFourChains seed.now party lock first result }
+{
+    let words = lanes_of(&[*seed, *seed, *seed, *seed]);
+    Four {
+        rows: walked(four_starts(words, party, lock, first)),
+    }
+}
+
+impl Chains {
+    /// The chains of a party's key for a lock.
+    pub fn new(seed: &Digest, party: PartyId, lock: LockId) -> Chains
+        ensures { result ≡ record { seed = seed.now; party = party; lock = lock } }
+    {
+        let mut fours = [four_chains(seed, party, lock, 0); FOURS];
+        'fours: for g in 1..FOURS {
+            fours[g] = four_chains(seed, party, lock, 4 * g as u8);
+        }
+        Chains {
+            seed: *seed,
+            party,
+            lock,
+            fours,
+        }
+    }
+
+    /// The value that so many steps lead to from the start of a chain.
+    pub fn value(&self, chain: usize, steps: u8) -> &Digest
+        requires chain { chain < 67 }
+        requires steps { steps ≤ 15 }
+        ensures { result.now ≡ chain_after steps (chain_start self.now.seed self.now.party self.now.lock chain) }
+    {
+        &self.fours[chain / 4].rows[steps as usize].values[chain % 4]
+    }
+}

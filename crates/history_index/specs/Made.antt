@@ -1,0 +1,24 @@
+-- The calls that stand in a list of entries.
+use Rattle.std.specs.Prelude.{◌+◌, ℕ, List, [], ◌∷◌, ◌++◌, if◌then◌else◌}
+use Rattle.ledger_core.specs.declared.entry.Entry.{Entry}
+use Rattle.ledger_core.specs.Facts.{is_call}
+use Rattle.ledger_core.specs.History.{Opening}
+use Rattle.history_index.specs.declared.made.Made.{Made}
+use Rattle.history_index.specs.declared.made.Opened.{Opened}
+
+-- the calls, with their numbers among all entries, which are counted from n
+abbrev pub made_from : ℕ → List Entry → List Made
+made_from n [] = []
+made_from n (e ∷ h) = if is_call e.what then record { number = n; entry = e } ∷ made_from (n + 1) h else made_from (n + 1) h
+
+-- the calls, with their numbers among all entries
+abbrev pub made_in : List Entry → List Made
+made_in h = made_from 0 h
+
+-- the calls after an entry with number n
+abbrev pub made_after : ℕ → Entry → List Made → List Made
+made_after n e ms = if is_call e.what then ms ++ record { number = n; entry = e } ∷ [] else ms
+
+-- the unlock, whose hashkey lies in the index
+abbrev pub opening_of : Opened → Opening
+opening_of o = record { height = o.height; key = o.key.now }

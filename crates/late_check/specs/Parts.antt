@@ -1,0 +1,86 @@
+-- What the parts of lateness stand for.
+use Rattle.std.specs.Prelude.{◌≡◌, ℕ, ◌+◌, max, Bool, true, false, not, ◌&&◌, ◌||◌, ◌==◌, nat_lt, nat_le, List, Option, Some, None, is_some, option_copied, if◌then◌else◌}
+use Rattle.std.specs.List.{list_any, flat_map}
+use Rattle.swap_base.specs.Lists.{greatest}
+use Rattle.swap_digraph.specs.Graph.{arcs, leaving}
+use Rattle.swap_digraph.specs.Deal.{leads}
+use Rattle.swap_digraph.specs.declared.deal.Deal.{Deal}
+use Rattle.hashkey_path.specs.declared.hashkey.Hashkey.{Hashkey}
+use Rattle.ledger_core.specs.declared.entry.Call.{Call}
+use Rattle.ledger_core.specs.declared.entry.Call.TheVariants.{Publish, Unlock, Claim, Refund}
+use Rattle.ledger_core.specs.declared.entry.Entry.{Entry}
+use Rattle.ledger_core.specs.History.{height, accepted, opened, published}
+use Rattle.ledger_core.specs.Book.{Histories, history}
+use Rattle.swap_rules.specs.declared.finding.Rule.{Rule}
+use Rattle.swap_rules.specs.declared.finding.Finding.{Finding}
+use Rattle.swap_rules.specs.Party.{call_of, first_key, is_correct, is_ready, is_triggered, least_expiry, leads_one, ready_height}
+use Rattle.swap_rules.specs.Conduct.{base_of, counts, extends, height_if, is_carried, is_first_key, opens_without, ref_of, trigger_height, when}
+use Rattle.swap_rules.specs.Findings.{late_on}
+use Rattle.late_check.specs.declared.counting.Counted.{Counted}
+use Rattle.late_check.specs.declared.counting.Counted.TheVariants as counted
+
+-- the height from which v is to publish on the arcs that leave it
+abbrev pub publish_from : Deal → Histories → ℕ → Option ℕ
+publish_from d b v = when (leads_one d v || is_ready d b v) (if leads_one d v then 0 else ready_height d b v)
+
+-- the height from which v is to unlock lock i on the arcs that enter it
+abbrev pub unlock_from : Deal → Histories → ℕ → ℕ → Option ℕ
+unlock_from d b v i =
+    when (is_ready d b v && (leads d v i || is_some (first_key b v i) || list_any (λ c. opens_without v (opened (history b c) i)) (leaving d.graph v)))
+    (if leads d v i then ready_height d b v else max (ready_height d b v) (base_of d.mode d b v i (first_key b v i)))
+
+-- the height from which the counterparty is to claim on arc a
+abbrev pub claim_from : Deal → Histories → ℕ → Option ℕ
+claim_from d b a = when (is_correct d b a && is_triggered d b a) (trigger_height d (history b a))
+
+-- the height from which the party is to refund on arc a
+abbrev pub refund_from : Deal → Histories → ℕ → Option ℕ
+refund_from d b a = when (is_some (published (history b a)) && not (is_triggered d b a)) (least_expiry d a (history b a))
+
+-- whether a call made at a height counts
+abbrev pub counts_as : Counted → ℕ → Option Call → Bool
+counts_as counted.Publish at (Some (Publish t)) = true
+counts_as (counted.Unlock i first) at (Some (Unlock key)) = (key.lock == i) && is_first_key (option_copied first) key
+counts_as counted.Claim at (Some Claim) = true
+counts_as (counted.Refund least) at (Some Refund) = nat_lt least at
+counts_as _ at _ = false
+
+-- whether the entry is a call of v that counts, at a height of at most due
+unfoldable pub counts_by : Counted → ℕ → ℕ → Entry → Bool
+counts_by c v due e = counts_as c e.height (call_of v e) && nat_le e.height due
+
+-- whether v made a call that counts at a height of at most due
+abbrev pub is_done_in : Counted → ℕ → ℕ → List Entry → Bool
+is_done_in c v due h = list_any (counts_by c v due) h
+
+-- the entry was accepted with the hashkey that v's first one extends, or else with the one that was seen
+abbrev pub is_used_with : ℕ → Option Hashkey → Option Hashkey → Entry → Bool
+is_used_with v (Some key) seen e = extends v key (accepted e)
+is_used_with v None seen e = is_carried seen (accepted e)
+
+-- the greatest height at which an entry was accepted with that hashkey
+unfoldable pub greatest_used_in : ℕ → Option Hashkey → Option Hashkey → List Entry → ℕ
+greatest_used_in v first seen h = greatest (λ e. height_if (is_used_with v first seen e) e.height) h
+
+-- the height by which an action was to be done, where the test says that it is late
+abbrev pub due_if : Bool → ℕ → Option ℕ → Option ℕ
+due_if late delta None = None
+due_if late delta (Some from) = if late then Some (from + delta) else None
+
+-- whether the ledger stands above the due height, which is delta above from, and nothing that counts was done by then
+abbrev pub is_overdue : ℕ → Counted → ℕ → Option ℕ → List Entry → Bool
+is_overdue delta c v None h = false
+is_overdue delta c v (Some from) h = nat_lt (from + delta) (height h) && not (is_done_in c v (from + delta) h)
+
+-- the height by which the action of v was to be done, where it wasn't
+abbrev pub overdue : ℕ → Counted → ℕ → Option ℕ → List Entry → Option ℕ
+overdue delta c v from h = due_if (is_overdue delta c v from h) delta from
+
+-- The rule's action of v on arc a is to be done from that height on, and these calls count for it.
+pub record IsAsked (d : Deal) (b : Histories) (v : ℕ) (rule : Rule) (a : ℕ) (from : Option ℕ) (c : Counted) : Type 0 where
+  pub height : from ≡ ref_of d b v rule a
+  pub calls : (at : ℕ) (o : Option Call) → counts_as c at o ≡ counts d b v rule a at o
+
+-- where v is late by the rule, by arc
+abbrev pub lates_by : Deal → Histories → ℕ → Rule → List Finding
+lates_by d b v rule = flat_map (late_on d b v rule) (arcs d.graph)

@@ -1,0 +1,71 @@
+//! Which calls of a party count for a rule.
+
+ghost use Rattle.std.specs.Prelude.{◌≡◌, option_copied};
+ghost use Rattle.std.specs.List.{list_any};
+ghost use Rattle.ledger_core.specs.Book.{history};
+ghost use Rattle.history_index.specs.Indexes.{entries_in};
+ghost use Rattle.late_check.specs.Parts.{counts_as, counts_by, is_done_in};
+
+use hashkey_path::Hashkey;
+use history_index::{Index, Made};
+use ledger_core::{Call, Entry};
+use sent_keys::{call_of, is_first_key};
+use swap_base::{ArcId, LockId, PartyId};
+
+/// The calls that count for a rule: a refund above the arc's least expiry, and an unlock of the lock with the party's first hashkey for it.
+#[derive(Clone, Copy)]
+pub(crate) enum Counted<'a> {
+    Publish,
+    Unlock(LockId, Option<&'a Hashkey>),
+    Claim,
+    Refund(u64),
+}
+
+/// Whether a call, made at a height, counts.
+fn counts(counted: &Counted, at: u32, call: Option<&Call>) -> bool
+    ensures { result ≡ counts_as counted.now at (option_copied call.entry) }
+{
+    match (counted, call) {
+        (Counted::Publish, Some(Call::Publish(_))) => true,
+        (Counted::Unlock(lock, first), Some(Call::Unlock(key))) => {
+            key.lock == *lock && is_first_key(*first, key)
+        }
+        (Counted::Claim, Some(Call::Claim)) => true,
+        (Counted::Refund(least), Some(Call::Refund)) => *least < at as u64,
+        _ => false,
+    }
+}
+
+/// Whether the entry is a call of the party that counts, at a height of at most due.
+#[tactic(auto, unfolding(crate::specs::Parts::counts_by))]
+fn counts_by(counted: &Counted, party: PartyId, due: u64, entry: &Entry) -> bool
+    ensures { result ≡ counts_by counted.now party due entry.now }
+{
+    counts(counted, entry.height, call_of(party, entry)) && entry.height as u64 <= due
+}
+
+/// Whether one of the calls is of the party and counts, at a height of at most due.
+fn any_counts(calls: &[Made], party: PartyId, counted: &Counted, due: u64) -> bool
+    ensures { result ≡ list_any (λ m. counts_by counted.now party due m.entry) calls.now }
+{
+    calls
+        .iter()
+        .any(|made| counts_by(counted, party, due, &made.entry))
+}
+
+/// Whether a call of the party that counts stands on the arc at a height of at most due.
+#[tactic(auto, using(crate::proofs::Made::done_made))]
+pub(crate) fn is_done(
+    known: &[Index],
+    party: PartyId,
+    counted: &Counted,
+    arc: ArcId,
+    due: u64,
+) -> bool
+    ensures { result ≡ is_done_in counted.now party due (history (entries_in known.now) arc) }
+{
+    match known.get(arc as usize) {
+        Some(index) => any_counts(index.made(), party, counted, due),
+        None => false,
+    }
+}

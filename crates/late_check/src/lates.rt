@@ -1,0 +1,327 @@
+//! Where a party was late, in order.
+
+ghost use Rattle.std.specs.Prelude.{◌≡◌, ◌<◌, ◌^◌, ◌++◌, IfSome, OnOk, length, option_copied};
+ghost use Rattle.std.specs.List.{flat_map};
+ghost use Rattle.swap_digraph.specs.Graph.{entering, is_among, leaving};
+ghost use Rattle.swap_digraph.specs.Deal.{locks, IsWellSized};
+ghost use Rattle.ledger_core.specs.Book.{history};
+ghost use Rattle.history_index.specs.Indexes.{entries_in, AreIndexes};
+ghost use Rattle.swap_rules.specs.Party.{first_key};
+ghost use Rattle.swap_rules.specs.Findings.{late_on, lates};
+ghost use Rattle.sent_keys.specs.Sent.{shown, unlocks_of};
+ghost use Rattle.late_check.specs.Parts.{lates_by, overdue, publish_from, unlock_from, IsAsked};
+
+use crate::counting::{Counted, is_done};
+use crate::froms::{claim_from, publish_from, refund_from, unlock_from};
+use book_reading::{height_on, least_expiry};
+use hashkey_path::Hashkey;
+use history_index::Index;
+use sent_keys::first_key;
+use swap_base::{ArcId, LockId, NoMemory, PartyId};
+use swap_digraph::Deal;
+use swap_rules::{Finding, Rule};
+
+fn leaves(deal: &Deal, party: PartyId, arc: ArcId) -> bool
+    requires arc { arc < length deal.now.graph.arcs }
+    ensures { result ≡ is_among arc (leaving deal.now.graph party) }
+{
+    deal.graph.arcs()[arc as usize].from == party
+}
+
+fn enters(deal: &Deal, party: PartyId, arc: ArcId) -> bool
+    requires arc { arc < length deal.now.graph.arcs }
+    ensures { result ≡ is_among arc (entering deal.now.graph party) }
+{
+    deal.graph.arcs()[arc as usize].to == party
+}
+
+/// The height by which the action was to be done on the arc, where it wasn't.
+fn overdue(
+    deal: &Deal,
+    known: &[Index],
+    party: PartyId,
+    arc: ArcId,
+    from: Option<u64>,
+    counted: &Counted,
+) -> Option<u64>
+    requires { IfSome from (λ n. n < 2 ^ 62) }
+    ensures { result ≡ overdue deal.now.delta counted.now party from (history (entries_in known.now) arc) }
+{
+    match from {
+        Some(from) => {
+            let due = from + deal.delta as u64;
+            if due < height_on(known, arc) as u64 && !is_done(known, party, counted, arc, due) {
+                Some(due)
+            } else {
+                None
+            }
+        }
+        None => None,
+    }
+}
+
+/// Adds that the party is late by the rule on the arc, where it is.
+fn put_late_on(
+    out: &mut Vec<Finding>,
+    deal: &Deal,
+    known: &[Index],
+    party: PartyId,
+    rule: Rule,
+    arc: ArcId,
+    from: Option<u64>,
+    counted: &Counted,
+) -> Result<(), NoMemory>
+    requires small { IfSome from (λ n. n < 2 ^ 62) }
+    requires asked { IsAsked deal.now (entries_in known.now) party rule arc from counted.now }
+    ensures { OnOk result (out.new.items ≡ out.old.items ++ late_on deal.now (entries_in known.now) party rule arc) }
+{
+    match overdue(deal, known, party, arc, from, counted) {
+        Some(due) => out.push(Finding::Late(party, rule, arc, due))?,
+        None => {}
+    }
+    Ok(())
+}
+
+/// Adds that the party is late by a publish on the arc, where it is.
+fn put_late_publish(
+    out: &mut Vec<Finding>,
+    deal: &Deal,
+    known: &[Index],
+    party: PartyId,
+    arc: ArcId,
+    from: Option<u64>,
+) -> Result<(), NoMemory>
+    requires arc { arc < length deal.now.graph.arcs }
+    requires from { from ≡ publish_from deal.now (entries_in known.now) party }
+    requires small { IfSome from (λ n. n < 2 ^ 62) }
+    ensures { OnOk result (out.new.items ≡ out.old.items ++ late_on deal.now (entries_in known.now) party Rule.Publish arc) }
+{
+    if !leaves(deal, party, arc) {
+        return Ok(());
+    }
+    put_late_on(
+        out,
+        deal,
+        known,
+        party,
+        Rule::Publish,
+        arc,
+        from,
+        &Counted::Publish,
+    )
+}
+
+/// Adds where the party is late by a publish, by arc.
+#[tactic(auto, using(sent_keys::proofs::Loops::flat_more))]
+fn put_late_publishes(
+    out: &mut Vec<Finding>,
+    deal: &Deal,
+    known: &[Index],
+    party: PartyId,
+) -> Result<(), NoMemory>
+    requires sized { IsWellSized deal.now }
+    requires known { AreIndexes deal.now known.now }
+    requires party { party < deal.now.graph.n }
+    ensures { OnOk result (out.new.items ≡ out.old.items ++ lates_by deal.now (entries_in known.now) party Rule.Publish) }
+{
+    let from = publish_from(deal, known, party);
+    for arc in 0..deal.graph.arcs().len() as u8 {
+        put_late_publish(out, deal, known, party, arc, from)?;
+    }
+    Ok(())
+}
+
+/// Adds that the party is late by an unlock of the lock on the arc, where it is.
+fn put_late_unlock(
+    out: &mut Vec<Finding>,
+    deal: &Deal,
+    known: &[Index],
+    party: PartyId,
+    lock: LockId,
+    first: Option<&Hashkey>,
+    arc: ArcId,
+    from: Option<u64>,
+) -> Result<(), NoMemory>
+    requires arc { arc < length deal.now.graph.arcs }
+    requires first { option_copied first ≡ first_key (entries_in known.now) party lock }
+    requires from { from ≡ unlock_from deal.now (entries_in known.now) party lock }
+    requires small { IfSome from (λ n. n < 2 ^ 62) }
+    ensures { OnOk result (out.new.items ≡ out.old.items ++ late_on deal.now (entries_in known.now) party (Rule.Unlock lock) arc) }
+{
+    if !enters(deal, party, arc) {
+        return Ok(());
+    }
+    let counted = Counted::Unlock(lock, first);
+    put_late_on(
+        out,
+        deal,
+        known,
+        party,
+        Rule::Unlock(lock),
+        arc,
+        from,
+        &counted,
+    )
+}
+
+/// Adds where the party is late by an unlock of the lock, by arc.
+#[tactic(auto, using(sent_keys::proofs::Loops::flat_more))]
+fn put_late_unlocks_of(
+    out: &mut Vec<Finding>,
+    deal: &Deal,
+    known: &[Index],
+    party: PartyId,
+    keys: &[&Hashkey],
+    lock: LockId,
+) -> Result<(), NoMemory>
+    requires sized { IsWellSized deal.now }
+    requires known { AreIndexes deal.now known.now }
+    requires party { party < deal.now.graph.n }
+    requires keys { shown keys.now ≡ unlocks_of (entries_in known.now) party }
+    requires lock { lock < length deal.now.leaders }
+    ensures { OnOk result (out.new.items ≡ out.old.items ++ lates_by deal.now (entries_in known.now) party (Rule.Unlock lock)) }
+{
+    let first = first_key(known, party, keys, lock);
+    let from = unlock_from(deal, known, party, lock, first);
+    for arc in 0..deal.graph.arcs().len() as u8 {
+        put_late_unlock(out, deal, known, party, lock, first, arc, from)?;
+    }
+    Ok(())
+}
+
+/// Adds where the party is late by an unlock, by lock and arc.
+#[tactic(auto, using(sent_keys::proofs::Loops::flat_more))]
+fn put_late_unlocks(
+    out: &mut Vec<Finding>,
+    deal: &Deal,
+    known: &[Index],
+    party: PartyId,
+    keys: &[&Hashkey],
+) -> Result<(), NoMemory>
+    requires sized { IsWellSized deal.now }
+    requires known { AreIndexes deal.now known.now }
+    requires party { party < deal.now.graph.n }
+    requires keys { shown keys.now ≡ unlocks_of (entries_in known.now) party }
+    ensures { OnOk result (out.new.items ≡ out.old.items ++ flat_map (λ i. lates_by deal.now (entries_in known.now) party (Rule.Unlock i)) (locks deal.now)) }
+{
+    for lock in 0..deal.leaders.len() as u8 {
+        put_late_unlocks_of(out, deal, known, party, keys, lock)?;
+    }
+    Ok(())
+}
+
+/// Adds that the party is late by a claim on the arc, where it is.
+fn put_late_claim(
+    out: &mut Vec<Finding>,
+    deal: &Deal,
+    known: &[Index],
+    party: PartyId,
+    arc: ArcId,
+) -> Result<(), NoMemory>
+    requires sized { IsWellSized deal.now }
+    requires known { AreIndexes deal.now known.now }
+    requires arc { arc < length deal.now.graph.arcs }
+    ensures { OnOk result (out.new.items ≡ out.old.items ++ late_on deal.now (entries_in known.now) party Rule.Claim arc) }
+{
+    if !enters(deal, party, arc) {
+        return Ok(());
+    }
+    let from = claim_from(deal, known, arc);
+    put_late_on(
+        out,
+        deal,
+        known,
+        party,
+        Rule::Claim,
+        arc,
+        from,
+        &Counted::Claim,
+    )
+}
+
+/// Adds where the party is late by a claim, by arc.
+#[tactic(auto, using(sent_keys::proofs::Loops::flat_more))]
+fn put_late_claims(
+    out: &mut Vec<Finding>,
+    deal: &Deal,
+    known: &[Index],
+    party: PartyId,
+) -> Result<(), NoMemory>
+    requires sized { IsWellSized deal.now }
+    requires known { AreIndexes deal.now known.now }
+    ensures { OnOk result (out.new.items ≡ out.old.items ++ lates_by deal.now (entries_in known.now) party Rule.Claim) }
+{
+    for arc in 0..deal.graph.arcs().len() as u8 {
+        put_late_claim(out, deal, known, party, arc)?;
+    }
+    Ok(())
+}
+
+/// Adds that the party is late by a refund on the arc, where it is.
+fn put_late_refund(
+    out: &mut Vec<Finding>,
+    deal: &Deal,
+    known: &[Index],
+    party: PartyId,
+    arc: ArcId,
+) -> Result<(), NoMemory>
+    requires sized { IsWellSized deal.now }
+    requires known { AreIndexes deal.now known.now }
+    requires arc { arc < length deal.now.graph.arcs }
+    ensures { OnOk result (out.new.items ≡ out.old.items ++ late_on deal.now (entries_in known.now) party Rule.Refund arc) }
+{
+    if !leaves(deal, party, arc) {
+        return Ok(());
+    }
+    let least = least_expiry(deal, known, arc);
+    let from = refund_from(deal, known, arc, least);
+    put_late_on(
+        out,
+        deal,
+        known,
+        party,
+        Rule::Refund,
+        arc,
+        from,
+        &Counted::Refund(least),
+    )
+}
+
+/// Adds where the party is late by a refund, by arc.
+#[tactic(auto, using(sent_keys::proofs::Loops::flat_more))]
+fn put_late_refunds(
+    out: &mut Vec<Finding>,
+    deal: &Deal,
+    known: &[Index],
+    party: PartyId,
+) -> Result<(), NoMemory>
+    requires sized { IsWellSized deal.now }
+    requires known { AreIndexes deal.now known.now }
+    ensures { OnOk result (out.new.items ≡ out.old.items ++ lates_by deal.now (entries_in known.now) party Rule.Refund) }
+{
+    for arc in 0..deal.graph.arcs().len() as u8 {
+        put_late_refund(out, deal, known, party, arc)?;
+    }
+    Ok(())
+}
+
+/// Adds where the party is late, by rule, lock and arc, where these are the hashkeys that it sent.
+pub fn put_lates(
+    out: &mut Vec<Finding>,
+    deal: &Deal,
+    known: &[Index],
+    party: PartyId,
+    keys: &[&Hashkey],
+) -> Result<(), NoMemory>
+    requires sized { IsWellSized deal.now }
+    requires known { AreIndexes deal.now known.now }
+    requires party { party < deal.now.graph.n }
+    requires keys { shown keys.now ≡ unlocks_of (entries_in known.now) party }
+    ensures { OnOk result (out.new.items ≡ out.old.items ++ lates deal.now (entries_in known.now) party) }
+{
+    put_late_publishes(out, deal, known, party)?;
+    put_late_unlocks(out, deal, known, party, keys)?;
+    put_late_claims(out, deal, known, party)?;
+    put_late_refunds(out, deal, known, party)?;
+    Ok(())
+}

@@ -1,0 +1,103 @@
+//! How a lock was opened on an arc.
+
+ghost use Rattle.std.specs.Prelude.{◌≡◌, ◌<◌, length, option_copied, option_map};
+ghost use Rattle.swap_base.specs.Lists.{first_of};
+ghost use Rattle.swap_digraph.specs.Deal.{IsWellSized};
+ghost use Rattle.ledger_core.specs.Book.{history};
+ghost use Rattle.ledger_core.specs.History.{opened};
+ghost use Rattle.history_index.specs.Indexes.{entries_in, AreIndexes};
+ghost use Rattle.history_index.specs.Made.{opening_of};
+ghost use Rattle.swap_rules.specs.Conduct.{first_seen_key, height_of_opening, key_without, trigger_height};
+
+use hashkey_path::Hashkey;
+use history_index::{Index, Opened};
+use sent_keys::is_among;
+use swap_base::{ArcId, LockId, PartyId};
+use swap_digraph::Deal;
+
+/// The accepted unlock of the lock on the arc.
+fn opened<'a>(deal: &Deal, known: &'a [Index], arc: ArcId, lock: LockId) -> Option<Opened<'a>>
+    requires sized { IsWellSized deal.now }
+    requires known { AreIndexes deal.now known.now }
+    requires lock { lock < length deal.now.leaders }
+    ensures { option_map opening_of result ≡ opened (history (entries_in known.now) arc) lock }
+{
+    match known.get(arc as usize) {
+        Some(index) => index.opened(lock),
+        None => None,
+    }
+}
+
+/// The height at which the lock was opened on the arc, 0 where it wasn't.
+pub(crate) fn opening_height(deal: &Deal, known: &[Index], arc: ArcId, lock: LockId) -> u32
+    requires sized { IsWellSized deal.now }
+    requires known { AreIndexes deal.now known.now }
+    requires lock { lock < length deal.now.leaders }
+    ensures { result ≡ height_of_opening (opened (history (entries_in known.now) arc) lock) }
+{
+    match opened(deal, known, arc, lock) {
+        Some(unlock) => unlock.height,
+        None => 0,
+    }
+}
+
+/// The hashkey that opened the lock on the arc, where its path lacks the party.
+fn key_without<'a>(
+    deal: &Deal,
+    known: &'a [Index],
+    party: PartyId,
+    arc: ArcId,
+    lock: LockId,
+) -> Option<&'a Hashkey>
+    requires sized { IsWellSized deal.now }
+    requires known { AreIndexes deal.now known.now }
+    requires lock { lock < length deal.now.leaders }
+    ensures { option_copied result ≡ key_without party (opened (history (entries_in known.now) arc) lock) }
+{
+    match opened(deal, known, arc, lock) {
+        Some(unlock) => {
+            if is_among(party, unlock.key.path.as_slice()) {
+                None
+            } else {
+                Some(unlock.key)
+            }
+        }
+        None => None,
+    }
+}
+
+/// The hashkey by which a path without the party opened the lock, on the least-numbered of the arcs that leave it.
+pub(crate) fn first_seen_key<'a>(
+    deal: &Deal,
+    known: &'a [Index],
+    party: PartyId,
+    lock: LockId,
+) -> Option<&'a Hashkey>
+    requires sized { IsWellSized deal.now }
+    requires known { AreIndexes deal.now known.now }
+    requires party { party < deal.now.graph.n }
+    requires lock { lock < length deal.now.leaders }
+    ensures { option_copied result ≡ first_seen_key deal.now (entries_in known.now) party lock }
+{
+    for arc in deal.graph.leaving(party) {
+        let found = key_without(deal, known, party, *arc, lock);
+        if found.is_some() {
+            return found;
+        }
+    }
+    None
+}
+
+/// The height of the last opened lock of the arc.
+#[tactic(auto, using(crate::proofs::Loops::greatest_more))]
+pub(crate) fn trigger_height(deal: &Deal, known: &[Index], arc: ArcId) -> u32
+    requires sized { IsWellSized deal.now }
+    requires known { AreIndexes deal.now known.now }
+    ensures { result ≡ trigger_height deal.now (history (entries_in known.now) arc) }
+{
+    let mut last = 0;
+    for lock in 0..deal.leaders.len() as u8 {
+        last = last.max(opening_height(deal, known, arc, lock));
+    }
+    last
+}

@@ -1,0 +1,35 @@
+-- Entries, where ticks that follow each other by the same number are one item.
+use Rattle.std.specs.Prelude.{◌≡◌, ◌+◌, ◌*◌, ℕ, zero, suc, List, [], ◌∷◌, ◌++◌}
+use Rattle.std.specs.List.{flat_map}
+use Rattle.escrow_core.specs.declared.reply.Reply.TheVariants.{Accepted}
+use Rattle.ledger_core.specs.declared.entry.Entry.{Entry}
+use Rattle.ledger_core.specs.Ledger.{tick_entry}
+use Rattle.ledger_core.specs.declared.runs.Run.{Run}
+use Rattle.ledger_core.specs.declared.runs.Item.{Item}
+use Rattle.ledger_core.specs.declared.runs.Item.TheVariants.{One, Ticks}
+
+-- so many ticks by k, above a height
+abbrev pub ticks_above : (at k count : ℕ) → List Entry
+ticks_above at k zero = []
+ticks_above at k (suc n) = ticks_above at k n ++ tick_entry k (at + k * suc n) Accepted ∷ []
+
+-- the ticks of a run
+abbrev pub ticks_of : Run → List Entry
+ticks_of r = ticks_above r.above r.by r.count
+
+-- the entries of an item
+abbrev pub entries_of : Item → List Entry
+entries_of (One e) = e ∷ []
+entries_of (Ticks r) = ticks_of r
+
+-- the entries of the items, oldest first
+abbrev pub expand : List Item → List Entry
+expand items = flat_map entries_of items
+
+-- the run's last height is that of its last tick
+abbrev pub IsRightRun : Run → Type 0
+IsRightRun r = r.last ≡ r.above + r.by * r.count
+
+abbrev pub IsRight : Item → Type 0
+IsRight (One e) = Unit {0}
+IsRight (Ticks r) = IsRightRun r

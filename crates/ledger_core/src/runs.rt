@@ -1,0 +1,168 @@
+//! Ticks by the same number, as one.
+
+ghost use Rattle.std.specs.Prelude.{◌≡◌, ◌<◌, ◌≤◌, ◌-◌, ◌+◌, ◌++◌, ◌∷◌, ◌^◌, [], IfOk, IfSome, length, drop, count_by};
+ghost use Rattle.ledger_core.specs.Facts.{is_call};
+ghost use Rattle.ledger_core.specs.History.{height};
+ghost use Rattle.ledger_core.specs.Ledger.{tick_entry};
+ghost use Rattle.ledger_core.specs.Runs.{ticks_of, entries_of, IsRight, IsRightRun};
+
+use crate::entry::{Entry, What};
+use escrow_core::Reply;
+use swap_base::{NoMemory, TryCopy};
+
+/// Ticks by the same number of heights, one after another.
+#[derive(Clone, Copy, Debug, PartialEq, Eq)]
+pub struct Run {
+    /// The height before the first.
+    pub above: u32,
+    /// By how many heights each of them raises the ledger.
+    pub by: u32,
+    /// How many there are.
+    pub count: u32,
+    /// The height after the last.
+    pub last: u32,
+}
+
+/// An entry, or ticks that follow each other by the same number.
+#[derive(Debug, Drop)]
+pub enum Item {
+    One(Entry),
+    Ticks(Run),
+}
+
+impl TryCopy for Item {
+    fn copy(&self) -> Result<Item, NoMemory> {
+        match self {
+            Item::One(entry) => Ok(Item::One(entry.copy()?)),
+            Item::Ticks(run) => Ok(Item::Ticks(*run)),
+        }
+    }
+}
+
+/// A run without ticks.
+pub(crate) fn no_ticks() -> Run
+    ensures ticks { ticks_of result ≡ [] }
+    ensures right { IsRightRun result }
+    ensures count { result.count ≡ 0 }
+{
+    Run {
+        above: 0,
+        by: 0,
+        count: 0,
+        last: 0,
+    }
+}
+
+/// A run of one tick by k, after which the height is `height`.
+pub(crate) fn single(k: u32, height: u32) -> Run
+    requires { k ≤ height }
+    ensures ticks { ticks_of result ≡ tick_entry k height Reply.Accepted ∷ [] }
+    ensures right { IsRightRun result }
+{
+    Run {
+        above: height - k,
+        by: k,
+        count: 1,
+        last: height,
+    }
+}
+
+/// The run with one more tick, where that goes on from it.
+pub(crate) fn longer(run: Run, k: u32, height: u32) -> Option<Run>
+    requires low { k ≤ height }
+    requires right { IsRightRun run }
+    ensures ticks { IfSome result (λ r. ticks_of r ≡ ticks_of run ++ tick_entry k height Reply.Accepted ∷ []) }
+    ensures right { IfSome result IsRightRun }
+{
+    if run.by == k && run.last == height - k && run.count < u32::MAX {
+        Some(Run {
+            above: run.above,
+            by: k,
+            count: run.count + 1,
+            last: height,
+        })
+    } else {
+        None
+    }
+}
+
+/// The last n ticks of a run.
+#[tactic(auto, using(crate::proofs::Ticks::last_ticks, crate::proofs::Ticks::below_last))]
+pub(crate) fn last_of(run: Run, n: usize) -> Run
+    requires within { n ≤ run.count }
+    requires right { IsRightRun run }
+    ensures ticks { ticks_of result ≡ drop (run.count - n) (ticks_of run) }
+    ensures right { IsRightRun result }
+{
+    let count = n as u32;
+    Run {
+        above: run.last - run.by * count,
+        by: run.by,
+        count,
+        last: run.last,
+    }
+}
+
+/// How many entries an item stands for.
+#[tactic(auto, using(crate::proofs::Ticks::length_ticks))]
+pub(crate) fn entries_in(item: &Item) -> usize
+    ensures { result ≡ length (entries_of item.now) }
+{
+    match item {
+        Item::One(_) => 1,
+        Item::Ticks(run) => run.count as usize,
+    }
+}
+
+/// A copy of the last n entries of an item.
+#[tactic(auto, using(crate::proofs::Ticks::length_ticks))]
+pub(crate) fn ending(item: &Item, n: usize) -> Result<Item, NoMemory>
+    requires some { 0 < n }
+    requires within { n ≤ length (entries_of item.now) }
+    requires right { IsRight item.now }
+    ensures entries { IfOk result (λ i. entries_of i ≡ drop (length (entries_of item.now) - n) (entries_of item.now)) }
+    ensures right { IfOk result IsRight }
+{
+    match item {
+        Item::One(entry) => Ok(Item::One(entry.copy()?)),
+        Item::Ticks(run) => Ok(Item::Ticks(last_of(*run, n))),
+    }
+}
+
+/// By how many heights a run raises the ledger.
+#[tactic(auto, using(crate::proofs::Ticks::height_ticks))]
+pub(crate) fn rise_of(run: Run) -> u32
+    requires { height (ticks_of run) < 2 ^ 32 }
+    ensures { result ≡ height (ticks_of run) }
+{
+    run.by * run.count
+}
+
+/// By how many heights an item raises the ledger.
+pub(crate) fn rise_in(item: &Item) -> u32
+    requires { height (entries_of item.now) < 2 ^ 32 }
+    ensures { result ≡ height (entries_of item.now) }
+{
+    match item {
+        Item::One(entry) => match &entry.what {
+            What::Call(_) => 0,
+            What::Tick(k) => *k,
+        },
+        Item::Ticks(run) => rise_of(*run),
+    }
+}
+
+/// How many calls an item stands for.
+#[tactic(auto, using(crate::proofs::Ticks::calls_ticks))]
+pub(crate) fn calls_in(item: &Item) -> usize
+    ensures value { result ≡ count_by (λ e. is_call e.what) (entries_of item.now) }
+    ensures few { result ≤ 1 }
+{
+    match item {
+        Item::One(entry) => match &entry.what {
+            What::Call(_) => 1,
+            What::Tick(_) => 0,
+        },
+        Item::Ticks(_) => 0,
+    }
+}

@@ -1,5 +1,0 @@
-use Rattle.std.proofs.Common.{length}
-use Rattle.outcome_rules.proofs.forged.+has_forged_suffix.Given as goal
-
-abbrev pub decreases-has_forged_suffix : goal.decreases-has_forged_suffix
-decreases-has_forged_suffix l = length l.path.now

@@ -1,9 +1,0 @@
-use Rattle.std.proofs.Common.{◌≡◌}
-use Rattle.std.specs.List.{range_with_len}
-use Rattle.swap_base.specs.Lists.{greatest}
-use Rattle.ledger_core.specs.History.{opened}
-use Rattle.swap_rules.specs.Conduct.{height_of_opening}
-use Rattle.outcome_rules.proofs.late.trigger_height.Given as goal
-
-abbrev pub invariant-loop-lock : goal.invariant-loop-lock
-invariant-loop-lock l = l.last ≡ greatest (λ i. height_of_opening (opened l.entries i)) (range_with_len 0 l.lock)

@@ -1,8 +1,0 @@
-use Rattle.std.proofs.Common.{◌≡◌, [], if◌then◌else◌}
-use Rattle.std.specs.List.{flat_map, range_with_len}
-use Rattle.swap_rules.specs.Findings.{findings_of}
-use Rattle.outcome_rules.specs.Report.{conforms_in}
-use Rattle.outcome_rules.proofs.listing.findings.Given as goal
-
-abbrev pub invariant-loop-party : goal.invariant-loop-party
-invariant-loop-party l = l.list.items ≡ flat_map (λ v. if conforms_in l.conforming v then findings_of l.deal l.book.histories v else []) (range_with_len 0 l.party)

@@ -1,0 +1,119 @@
+-- A machine that rests may: nothing is due when it begins to, and it ends with what could make something due.
+use Rattle.std.proofs.Common.{◌≡◌, ℕ, ◌+◌, ◌==◌, ◌&&◌, count_by, zero-add, ◌≤◌, nat_le, Bool, true, false, cond, List, [], ◌∷◌, ◌++◌, get_or, set, Option, Some, None, is_some, option_map, refl, sym, ap, ◌∙◌, subst, leb-true, arith, ◌<◌, length}
+use Rattle.std.specs.Prelude.{Result, Ok, Err, OnOk, OnErr}
+use Rattle.std.proofs.Math.Seq.{map-set_same}
+use Rattle.std.proofs.lemmas.Bool.{ne_eqb}
+use Rattle.std.proofs.lemmas.List.Sums.{sum_by-cons}
+use Rattle.swap_digraph.specs.declared.deal.Deal.{Deal}
+use Rattle.ledger_core.specs.declared.entry.Call.{Call}
+use Rattle.ledger_core.specs.declared.entry.What.{What}
+use Rattle.ledger_core.specs.declared.entry.What.TheVariants.{Call as Made, Tick}
+use Rattle.ledger_core.specs.declared.entry.Entry.{Entry}
+use Rattle.ledger_core.specs.Facts.{is_call}
+use Rattle.ledger_core.specs.History.{height}
+use Rattle.ledger_core.specs.Book.{Histories, history}
+use Rattle.history_index.specs.Value.{IndexState}
+use Rattle.swap_rules.specs.Party.{least_expiry}
+use Rattle.swap_rules.specs.Due.{Action, due, first}
+use Rattle.swap_laws.specs.Rest.{are_ticks, is_ticking, rest_until}
+use Rattle.swap_laws.proofs.Rest.{reads, same_waiting, same_expiry, rests_below, ticks_make_nothing_due}
+use Rattle.party_phase_two.specs.Unlocks.{signed_in}
+use Rattle.party_machine.specs.Value.{WalletState}
+use Rattle.party_machine.specs.Keys.{wallet_of}
+use Rattle.party_machine.specs.Machine.{MachineState, action_of, learnt, next_of}
+use Rattle.party_machine.specs.Rest.{rest_after, EndsBy, IsAtRest, MayRest}
+use Rattle.party_machine.specs.Within.{entries_in, IsReady}
+use Rattle.party_machine.specs.declared.rest.Rest.{Rest}
+use Rattle.party_machine.specs.declared.rest.Rest.TheVariants.{Awake, Until}
+use Rattle.party_machine.proofs.Known.{one_each, history_of, called_shows}
+
+-- what is awake may be
+pub awake : (r : Rest) (s : MachineState) → r ≡ Awake → MayRest r s
+awake r s e = subst (λ x. MayRest x s) (sym e) tt
+
+-- Rest begins.
+
+none_of : (o : Option (ℕ × Call)) (r : Option Action) → option_map action_of o ≡ r → is_some o ≡ false → r ≡ None
+none_of None r e n = sym e
+none_of (Some x) r e n = absurd (cc n)
+
+pub begins : (s : MachineState) (o : Option (ℕ × Call)) (until : Option ℕ) → option_map action_of o ≡ next_of s → is_some o ≡ false → until ≡ rest_until s.deal s.me s.known
+    → IsAtRest until s
+begins s o until e n u = record {
+  nothing = none_of o (next_of s) e n;
+  ends = λ a i waits.
+      let b = rests_below s.deal s.me s.known a i waits in
+      subst (λ t. EndsBy t (least_expiry s.deal a (history s.known a))) (sym (u ∙ b.1)) b.2;
+}
+
+-- Rest goes on.
+
+first_none : (xs : List Action) → first xs ≡ None → xs ≡ []
+first_none [] e = refl
+first_none (x ∷ xs) e = absurd (cc e)
+
+still : (until : Option ℕ) (s : MachineState) (a : ℕ) (more : List Entry) → are_ticks more ≡ true → ((e : ℕ) → EndsBy until e → height (history s.known a ++ more) ≤ e)
+    → IsAtRest until s → IsAtRest until (learnt s a more)
+still until s a more ticks low r =
+    let w = wallet_of s.seed s.me s.deal in
+    let signed = signed_in s.signed in
+    let before = s.known in
+    let after = set s.known a (history s.known a ++ more) in
+    let same = reads s.deal s.me w signed before a more ticks in
+    let none = first_none (due s.deal s.me w signed before) r.nothing in
+    record {
+      nothing = ap first (ticks_make_nothing_due s.deal s.me w signed before a more ticks none (λ i waits. low (least_expiry s.deal a (history before a)) (r.ends a i waits)));
+      ends = λ c i waits. subst (EndsBy until) (sym (same_expiry s.deal s.me before after same c)) (r.ends c i (sym (same_waiting s.deal s.me before after same c) ∙ waits));
+    }
+
+pub goes_on : (r : Rest) (s : MachineState) (a : ℕ) (more : List Entry) (ticks : Bool) (at : ℕ) → ticks ≡ are_ticks more → at ≡ height (history s.known a ++ more) → MayRest r s → MayRest (rest_after r ticks at) (learnt s a more)
+goes_on Awake s a more true at t h m = tt
+goes_on Awake s a more false at t h m = tt
+goes_on (Until None) s a more false at t h m = tt
+goes_on (Until (Some until)) s a more false at t h m = tt
+goes_on (Until None) s a more true at t h m = still None s a more (sym t) (λ e b. absurd b) m
+goes_on (Until (Some until)) s a more true at t h m = go (nat_le at until) refl
+  where
+    go : (b : Bool) → nat_le at until ≡ b → MayRest (cond b (Until (Some until)) Awake) (learnt s a more)
+    go false q = tt
+    go true q = still (Some until) s a more (sym t) (λ e b. let below : at ≤ until = leb-true at until q in omega arith) m
+
+-- where nothing was learnt
+pub stays : (r : Rest) (s : MachineState) (ticks : Bool) (at : ℕ) → MayRest r s → MayRest (rest_after r ticks at) s
+stays Awake s true at m = tt
+stays Awake s false at m = tt
+stays (Until None) s false at m = tt
+stays (Until (Some until)) s false at m = tt
+stays (Until None) s true at m = m
+stays (Until (Some until)) s true at m = go (nat_le at until)
+  where
+    go : (b : Bool) → MayRest (cond b (Until (Some until)) Awake) s
+    go false = tt
+    go true = m
+
+-- what a machine of these parts shows
+abbrev pub shown : Deal → WalletState → List IndexState → MachineState
+shown d w known = record { deal = d; me = w.party; seed = w.seed; known = entries_in known; signed = w.signed }
+
+pub learns : {A E : Type 0} (rest : Rest) (d : Deal) (w : WalletState) (known : List IndexState) (a : ℕ) (x y : IndexState) (more : List Entry) (r : Result A E) (ticks : Bool) (at : ℕ)
+    → IsReady d w known → MayRest rest (shown d w known) → a < length d.graph.arcs → x ≡ get_or known a x → OnOk r (y.entries ≡ x.entries ++ more) → OnErr r (y ≡ x)
+    → ticks ≡ are_ticks more → at ≡ height y.entries → MayRest (rest_after rest ticks at) (shown d w (set known a y))
+learns {A = A} {E = E} rest d w known a x y more (Ok u) ticks at ready m lt e ok err t h =
+    let here : history (entries_in known) a ≡ x.entries = history_of known a x (rw (one_each d w known ready) lt) e in
+    let up : at ≡ height (history (entries_in known) a ++ more) = h ∙ ap height (ok ∙ ap (λ (z : List Entry). z ++ more) (sym here)) in
+    let after = called_shows {A = A} {E = E} d w known a x y more (Ok u) ready lt e ok in
+    subst (MayRest (rest_after rest ticks at)) (sym after) (goes_on rest (shown d w known) a more ticks at t up m)
+learns rest d w known a x y more (Err u) ticks at ready m lt e ok err t h =
+    let same : entries_in (set known a y) ≡ entries_in known = map-set_same (λ z. z.entries) known a y x (ap (λ (z : IndexState). z.entries) (err ∙ e)) in
+    let at_known = λ (b : Histories). MayRest (rest_after rest ticks at) (record { deal = d; me = w.party; seed = w.seed; known = b; signed = w.signed }) in
+    subst at_known (sym same) (stays rest (shown d w known) ticks at m)
+
+-- Entries without a call are ticks.
+
+first_no_call : (w : What) (n : ℕ) (b : Bool) → (n == 0) ≡ b → ((cond (is_call w) 1 0 + n) == 0) ≡ (is_ticking w && b)
+first_no_call (Made c) n b e = ne_eqb (1 + n) 0 (λ z. omega arith)
+first_no_call (Tick k) n b e = ap (λ m. m == 0) (zero-add n) ∙ e
+
+pub no_calls : (h : List Entry) → (count_by (λ e. is_call e.what) h == 0) ≡ are_ticks h
+no_calls [] = refl
+no_calls (e ∷ h) = ap (λ n. n == 0) (sum_by-cons (λ x. cond (is_call x.what) 1 0) e h) ∙ first_no_call e.what (count_by (λ e. is_call e.what) h) (are_ticks h) (no_calls h)

@@ -1,0 +1,32 @@
+-- When a machine that has nothing to do may rest.
+use Rattle.std.specs.Prelude.{◌≡◌, ℕ, ◌≤◌, Bool, true, nat_le, Option, Some, None, if◌then◌else◌}
+use Rattle.swap_base.specs.Lists.{IsIn}
+use Rattle.swap_digraph.specs.Graph.{leaving}
+use Rattle.ledger_core.specs.Book.{history}
+use Rattle.swap_rules.specs.Party.{least_expiry}
+use Rattle.swap_laws.specs.Rest.{is_waiting}
+use Rattle.party_machine.specs.Machine.{MachineState, next_of}
+use Rattle.party_machine.specs.declared.rest.Rest.{Rest}
+use Rattle.party_machine.specs.declared.rest.Rest.TheVariants.{Awake, Until}
+
+-- what is left of rest after more entries, which are all ticks or not, that bring a ledger to that height
+abbrev pub rest_after : Rest → (ticks : Bool) → ℕ → Rest
+rest_after (Until None) true height = Until None
+rest_after (Until (Some t)) true height = if nat_le height t then Until (Some t) else Awake
+rest_after _ _ height = Awake
+
+-- rest up to that height, if any, ends with the height of an expiry or before
+abbrev pub EndsBy : Option ℕ → ℕ → Type 0
+EndsBy None expiry = ⊥
+EndsBy (Some t) expiry = t ≤ expiry
+
+-- Nothing is due, and rest ends by the least expiry of each refund that the machine waits for.
+pub record IsAtRest (until : Option ℕ) (m : MachineState) : Type 0 where
+  pub nothing : next_of m ≡ None
+  pub ends : (a : ℕ) → IsIn a (leaving m.deal.graph m.me) → is_waiting m.deal m.me m.known a ≡ true
+      → EndsBy until (least_expiry m.deal a (history m.known a))
+
+-- a machine that rests may
+abbrev pub MayRest : Rest → MachineState → Type 0
+MayRest Awake m = Unit {0}
+MayRest (Until until) m = IsAtRest until m

@@ -1,0 +1,14 @@
+-- The wallets of a deal's parties before anything is signed.
+use Rattle.std.specs.Prelude.{ℕ, Bool, false, List, map, slice_index_or, option_map, Option, None, if◌then◌else◌}
+use Rattle.std.specs.List.{range_with_len}
+use Rattle.swap_digraph.specs.declared.deal.Deal.{Deal}
+use Rattle.party_machine.specs.Value.{WalletState}
+use Rattle.party_machine.specs.Keys.{new_wallet}
+
+-- the wallet of party p, where it conforms and has a seed
+abbrev pub wallet_for : Deal → List Bool → List (Option (List ℕ)) → ℕ → Option WalletState
+wallet_for d conforming seeds p = if slice_index_or conforming p false then option_map (λ seed. new_wallet seed p d) (slice_index_or seeds p None) else None
+
+-- the wallet of each party that conforms and has a seed
+abbrev pub wallets_of : Deal → List Bool → List (Option (List ℕ)) → List (Option WalletState)
+wallets_of d conforming seeds = map (wallet_for d conforming seeds) (range_with_len 0 d.graph.n)

@@ -1,0 +1,33 @@
+//! Hashkeys that a party extends.
+
+ghost use Rattle.std.specs.Prelude.{◌≡◌, option_copied};
+ghost use Rattle.swap_digraph.specs.Graph.{is_among};
+ghost use Rattle.swap_rules.specs.Conduct.{extends};
+
+use crate::keys::has_parts;
+use hashkey_path::Hashkey;
+use ledger_core::Call;
+use swap_base::PartyId;
+
+/// Whether the vertex is on the path.
+pub fn is_among(v: PartyId, path: &[PartyId]) -> bool
+    ensures { result ≡ is_among v path.now }
+{
+    path.iter().any(|w| *w == v)
+}
+
+/// Whether the call is an unlock with a hashkey that this one extends by the party.
+pub fn extends(party: PartyId, key: &Hashkey, call: Option<&Call>) -> bool
+    ensures { result ≡ extends party key.now (option_copied call.entry) }
+{
+    let path = key.path.as_slice();
+    let sigs = key.sigs.as_slice();
+    match (call, path, sigs) {
+        (Some(Call::Unlock(inner)), [first, rest @ ..], [_, inner_sigs @ ..]) => {
+            *first == party
+                && !is_among(party, inner.path.as_slice())
+                && has_parts(inner, key.lock, &key.secret, rest, inner_sigs)
+        }
+        _ => false,
+    }
+}

@@ -1,0 +1,12 @@
+//! The hashkeys of a party's unlock calls, read once of the indexes of a swap, and what is asked of them.
+//!
+//! Read `specs/Sent.antt` first: the hashkeys that a party sent, in order of arc and entry.
+#![tactic(auto)]
+
+mod calls;
+mod extending;
+mod keys;
+
+pub use calls::{accepted, call_of, touches};
+pub use extending::{extends, is_among};
+pub use keys::{first_key, has_parts, is_first_key, same_key, unlocks_of, unlocks_on_own_arcs};

@@ -1,8 +1,0 @@
-use Rattle.std.proofs.Common.{◌≡◌, ◌-◌}
-use Rattle.std.specs.List.{range_with_len}
-use Rattle.swap_base.specs.Lists.{first_of}
-use Rattle.swap_offer.specs.Wallets.{wrong_wallet}
-use Rattle.swap_offer.proofs.wallets.first_wrong_wallet.Given as goal
-
-abbrev pub invariant-loop-p : goal.invariant-loop-p
-invariant-loop-p l = first_of (wrong_wallet l.job) (range_with_len l.p (l.job.deal.graph.n - l.p)) ≡ first_of (wrong_wallet l.job) (range_with_len 0 l.job.deal.graph.n)

@@ -1,0 +1,12 @@
+//! A job with its wallets.
+
+use deviator_script::Job;
+use party_machine::Wallet;
+
+/// An accepted job, with the wallets that its purpose needs.
+#[derive(Drop)]
+pub struct Prepared {
+    pub job: Job,
+    /// One place per party, where the purpose needs wallets: that of a party that conforms and has a seed.
+    pub wallets: Vec<Option<Wallet>>,
+}
