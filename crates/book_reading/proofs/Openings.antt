@@ -12,7 +12,7 @@ use Rattle.escrow_core.specs.declared.terms.Terms.{Terms}
 use Rattle.ledger_core.specs.declared.entry.Entry.{Entry}
 use Rattle.swap_digraph.specs.Graph.{is_among}
 use Rattle.hashkey_path.specs.declared.hashkey.Hashkey.{Hashkey}
-use Rattle.swap_rules.specs.Conduct.{opens_without}
+use Rattle.swap_rules.specs.Party.{opens_without}
 use Rattle.ledger_core.specs.History.{accepted, Opening, opening, opened, is_open}
 use Rattle.ledger_core.specs.Facts.{opened_number}
 use Rattle.book_reading.specs.Known.{AreMadeFor}

@@ -5,7 +5,7 @@ use Rattle.ledger_core.specs.declared.entry.Call.{Call}
 use Rattle.ledger_core.specs.declared.entry.What.TheVariants.{Tick}
 use Rattle.ledger_core.specs.declared.entry.Entry.{Entry}
 use Rattle.ledger_core.specs.History.{accepted, accepted_in}
-use Rattle.swap_rules.specs.Party.{call_of}
+use Rattle.swap_rules.specs.Party.{call_by}
 use Rattle.history_index.specs.declared.made.Made.{Made}
 use Rattle.history_index.specs.Made.{made_in}
 use Rattle.history_index.proofs.Calls.{any_made, count_made, SaysNothing}
@@ -17,8 +17,8 @@ accepted_of_tick e k is = ap (λ w. accepted_in w e.reply) is
 pub any_accepted : (q : Option Call → Bool) (h : List Entry) → q None ≡ false → list_any (λ m. q (accepted m.entry)) (made_in h) ≡ list_any (λ e. q (accepted e)) h
 any_accepted q h none = sym (any_made (λ e. q (accepted e)) h (λ e k is. ap q (accepted_of_tick e k is) ∙ none))
 
-pub count_calls : (q : Option Call → Bool) (v : ℕ) (h : List Entry) → q None ≡ false → count_by (λ m. q (call_of v m.entry)) (made_in h) ≡ count_by (λ e. q (call_of v e)) h
-count_calls q v h none = sym (count_made (λ e. q (call_of v e)) h (λ e k is. ap q (sent_of_tick v e k is) ∙ none))
+pub count_calls : (q : Option Call → Bool) (v : ℕ) (h : List Entry) → q None ≡ false → count_by (λ m. q (call_by v m.entry)) (made_in h) ≡ count_by (λ e. q (call_by v e)) h
+count_calls q v h none = sym (count_made (λ e. q (call_by v e)) h (λ e k is. ap q (sent_of_tick v e k is) ∙ none))
 
 none_head : (a b : Bool) → (a || b) ≡ false → (a ≡ false) × (b ≡ false)
 none_head true b e = absurd (cc e)

@@ -22,9 +22,10 @@ use Rattle.ledger_core.specs.History.{accepted, accepted_in, fit, sent_by, IsLeg
 use Rattle.ledger_core.specs.Book.{Histories, history, IsLegalBook}
 use Rattle.history_index.specs.declared.made.Made.{Made as Numbered}
 use Rattle.history_index.specs.Made.{made_in}
-use Rattle.swap_rules.specs.Party.{call_in, call_of}
+use Rattle.swap_rules.specs.Party.{call_in, call_by}
 use Rattle.swap_rules.specs.declared.finding.Finding.TheVariants.{Broke}
-use Rattle.swap_rules.specs.Conduct.{forges, is_forged, keeps, keeps_at}
+use Rattle.swap_rules.specs.Conduct.{keeps, keeps_at}
+use Rattle.swap_rules.specs.Forged.{forges, is_forged}
 use Rattle.swap_rules.specs.Findings.{failing}
 use Rattle.conduct_check.specs.Parts.{IsWithin}
 use Rattle.sent_keys.specs.Sent.{touches}
@@ -111,7 +112,7 @@ within_at d b a i ms x l arc is lt at =
     subst (λ (z : Numbered). IsWithin d (call_in z.entry.what)) same (inside d (get_or (made_in h) i x).entry (made_fails (is_outside d) h i x (no_tick_outside d) small (none_outside d a [] h (legal_of d b a l arc))))
 
 -- so is each call of the arc's index
-pub call_within : (d : Deal) (b : Histories) (a i v : ℕ) (ms : List Numbered) (x : Numbered) → IsLegalBook d b → a < length d.graph.arcs → ms ≡ made_in (history b a) → i < length ms → x ≡ get_or ms i x → IsWithin d (call_of v x.entry)
+pub call_within : (d : Deal) (b : Histories) (a i v : ℕ) (ms : List Numbered) (x : Numbered) → IsLegalBook d b → a < length d.graph.arcs → ms ≡ made_in (history b a) → i < length ms → x ≡ get_or ms i x → IsWithin d (call_by v x.entry)
 call_within d b a i v ms x l arc is lt at = within_sent d x.entry.what (sent_by v x.entry.sender) (within_at d b a i ms x l arc is lt at)
 
 pub accepted_within : (d : Deal) (b : Histories) (a i : ℕ) (ms : List Numbered) (x : Numbered) → IsLegalBook d b → a < length d.graph.arcs → ms ≡ made_in (history b a) → i < length ms → x ≡ get_or ms i x → IsWithin d (accepted x.entry)
@@ -127,7 +128,7 @@ none_fails : (d : Deal) (b : Histories) (v a : ℕ) (past h : List Entry) → Al
 none_fails d b v a past [] l t = refl
 none_fails d b v a past (e ∷ h) l t =
     ap (λ x. cons_option (cond x None (Some (Broke v a (length past)))) (filter_map (λ m. if keeps_at d b v a m then None else Some (Broke v a (length m.past))) (moments_after (past ++ e ∷ []) h)))
-    (kept d b v a past e.height (call_of v e) (unsent d a v past e.sender e.what e.height e.reply l.0 t))
+    (kept d b v a past e.height (call_by v e) (unsent d a v past e.sender e.what e.height e.reply l.0 t))
     ∙ none_fails d b v a (past ++ e ∷ []) h l.1 t
 
 pub untouched : (d : Deal) (b : Histories) (v a : ℕ) → IsLegalBook d b → a < length d.graph.arcs → touches d v a ≡ false → failing (Broke v a) (keeps_at d b v a) (history b a) ≡ []
@@ -135,7 +136,7 @@ untouched d b v a l arc t = none_fails d b v a [] (history b a) (legal_of d b a 
 
 -- Ticks keep the rules of conduct.
 pub tick_keeps : (d : Deal) (b : Histories) (v a : ℕ) (past : List Entry) (e : Entry) (k : ℕ) → e.what ≡ Tick k → keeps_at d b v a (record { past = past; now = e }) ≡ true
-tick_keeps d b v a past e k is = kept d b v a past e.height (call_of v e) (sent_of_tick v e k is)
+tick_keeps d b v a past e k is = kept d b v a past e.height (call_by v e) (sent_of_tick v e k is)
 
 unforged : (m : Mode) (d : Deal) (b : Histories) (v : ℕ) (o : Option Call) → o ≡ None → not (forges m d b v o) ≡ true
 unfolding forges

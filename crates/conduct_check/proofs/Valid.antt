@@ -4,7 +4,7 @@ use Rattle.std.specs.List.{flat_map, list_any}
 use Rattle.swap_base.specs.Lists.{IsIn}
 use Rattle.swap_base.proofs.Lists.{any_at, and_both, first_at, in_from_moment, in_filter, in_range, and_parts}
 use Rattle.swap_digraph.specs.Graph.{arcs, ends, entering, is_path, first_is, last_is, is_among, leaving}
-use Rattle.swap_digraph.specs.Deal.{counterparty, leader_of}
+use Rattle.swap_digraph.specs.Deal.{counterparty, leader_of, hashlock_of}
 use Rattle.swap_digraph.specs.declared.deal.Mode.{Mode}
 use Rattle.swap_digraph.specs.declared.deal.Mode.TheVariants.{Timelocks, Hashkeys}
 use Rattle.swap_digraph.specs.declared.deal.Deal.{Deal}
@@ -23,8 +23,8 @@ use Rattle.ledger_core.proofs.History.{opened_done, of_unlock, clear_at, AreClea
 use Rattle.hash_signature.specs.declared.sig.Sig.{Sig}
 use Rattle.ledger_core.specs.declared.entry.Call.{Call}
 use Rattle.ledger_core.specs.declared.entry.Call.TheVariants.{Unlock}
-use Rattle.swap_rules.specs.Party.{call_of, first_key, hashlock_of, key_in}
-use Rattle.swap_rules.specs.Conduct.{is_first_key, extends, extends_with, has_seen}
+use Rattle.swap_rules.specs.Party.{call_by, first_key, key_in}
+use Rattle.swap_rules.specs.Conduct.{is_first_key, extends_with, extends_without, has_seen}
 use Rattle.swap_laws.proofs.Words.{enters, key_parts, same_key-true, leaves}
 use Rattle.conduct_check.specs.Standing.{is_opened_by, valid_on}
 use Rattle.conduct_check.proofs.Legal.{legal_of}
@@ -70,19 +70,19 @@ extended d v key inner [] sigs e h = absurd (cc e)
 extended d v key inner (u ∷ p) [] e h = absurd (cc e)
 extended d v key inner (u ∷ p) (s ∷ sigs) e h =
     let tail : Hashkey = record { lock = key.lock; secret = key.secret; path = p; sigs = sigs } in
-    let same : inner ≡ tail = same_key-true inner tail (and_parts ((u == v) && not (is_among v inner.path)) (same_key inner tail) e).1 in
+    let same : inner ≡ tail = same_key-true inner tail (and_parts (u == v) (same_key inner tail) e).1 in
     let known : is_last_signed (length sigs) d tail ≡ true = subst (λ (z : Hashkey). is_last_signed (length sigs) d z ≡ true) same (h (length sigs)) in
     let less : length (s ∷ sigs) - 1 ≡ length sigs = omega arith in
     (omega arith, subst (λ (n : ℕ). are_last_signed n d key.lock key.secret (u ∷ p) (s ∷ sigs) ≡ true) (sym less) (tail_known d key.lock key.secret u p s sigs known))
 
-from_call : (d : Deal) (v : ℕ) (key : Hashkey) (o : Option Call) → extends v key o ≡ true → ((inner : Hashkey) → o ≡ Some (Unlock inner) → (n : ℕ) → is_last_signed n d inner ≡ true) → AllButFirst d key key.path key.sigs
-from_call d v key (Some (Unlock inner)) e h = extended d v key inner key.path key.sigs e (h inner refl)
+from_call : (d : Deal) (v : ℕ) (key : Hashkey) (o : Option Call) → extends_without v key o ≡ true → ((inner : Hashkey) → o ≡ Some (Unlock inner) → (n : ℕ) → is_last_signed n d inner ≡ true) → AllButFirst d key key.path key.sigs
+from_call d v key (Some (Unlock inner)) e h = extended d v key inner key.path key.sigs (and_parts (not (is_among v inner.path)) (extends_with v inner key.path key.sigs key) e).1 (h inner refl)
 from_call d v key _ e h = absurd (cc e)
 
-pub known_seen : (d : Deal) (b : Histories) (v : ℕ) (key : Hashkey) → IsLegalBook d b → has_seen d b v (extends v key) ≡ true → AllButFirst d key key.path key.sigs
+pub known_seen : (d : Deal) (b : Histories) (v : ℕ) (key : Hashkey) → IsLegalBook d b → has_seen d b v (extends_without v key) ≡ true → AllButFirst d key key.path key.sigs
 known_seen d b v key l e =
-    let f = any_at (λ a. list_any (λ x. extends v key (accepted x)) (history b a)) (leaving d.graph v) e in
-    let g = any_at (λ x. extends v key (accepted x)) (history b f.now) f.passes in
+    let f = any_at (λ a. list_any (λ x. extends_without v key (accepted x)) (history b a)) (leaving d.graph v) e in
+    let g = any_at (λ x. extends_without v key (accepted x)) (history b f.now) f.passes in
     let i : IsIn f.now (leaving d.graph v) = subst (IsIn f.now) (sym f.stands.1) (in_from_moment f.past f.now f.stands.0) in
     from_call d v key (accepted g.now) g.passes (λ inner k n. let c = clear_at d f.now (history b f.now) g.past g.now (Unlock inner) (legal_of d b f.now l (leaves d v f.now i).0) g.stands k in accepted_signed n d f.now g.past c.0.by inner c.1)
 
@@ -111,7 +111,7 @@ first_is_key (Some k) key e = ap (λ (z : Hashkey). Some z) (same_key-true k key
 
 pub first_lock : (b : Histories) (v i : ℕ) (key : Hashkey) → first_key b v i ≡ Some key → key.lock ≡ i
 unfolding first_key
-first_lock b v i key e = let f = first_at (λ x. key_in i (call_of v x)) (flat_map (λ h. h) b) key e in (key_parts i (call_of v f.now) key f.gives).1
+first_lock b v i key e = let f = first_at (λ x. key_in i (call_by v x)) (flat_map (λ h. h) b) key e in (key_parts i (call_by v f.now) key f.gives).1
 
 -- the first of the arcs that enter v is an arc
 pub first_entering : (d : Deal) (v : ℕ) (cs : List ℕ) → cs ≡ entering d.graph v → 0 < length cs → get_or cs 0 0 < length d.graph.arcs

@@ -3,7 +3,7 @@ use Rattle.std.specs.Prelude.{ℕ, ◌<◌, Bool, not, ◌&&◌, length, take, L
 use Rattle.std.specs.List.{flat_map, list_any}
 use Rattle.std.specs.Str.{bytes_eq}
 use Rattle.swap_digraph.specs.declared.deal.Deal.{Deal}
-use Rattle.swap_digraph.specs.Deal.{leads}
+use Rattle.swap_digraph.specs.Deal.{leads, hashlock_of}
 use Rattle.hash_signature.specs.declared.sig.Sig.{Sig}
 use Rattle.hash_signature.specs.Signature.{hash_of}
 use Rattle.hashkey_path.specs.declared.hashkey.Hashkey.{Hashkey}
@@ -14,8 +14,9 @@ use Rattle.ledger_core.specs.Book.{Histories, history}
 use Rattle.history_index.specs.declared.made.Made.{Made}
 use Rattle.swap_rules.specs.declared.finding.Finding.{Finding}
 use Rattle.swap_rules.specs.declared.finding.Finding.TheVariants.{Broke, Forged}
-use Rattle.swap_rules.specs.Party.{call_of, first_key, hashlock_of}
-use Rattle.swap_rules.specs.Conduct.{carries, has_made, has_origin, is_first_key, is_forged, keeps, keeps_at}
+use Rattle.swap_rules.specs.Party.{call_by, first_key}
+use Rattle.swap_rules.specs.Conduct.{carries, has_origin, is_first_key, keeps, keeps_at}
+use Rattle.swap_rules.specs.Forged.{has_made, is_forged}
 use Rattle.swap_rules.specs.Findings.{failing}
 
 -- an unlock is for a lock of the deal
@@ -29,7 +30,7 @@ has_made_parts b v lock secret path sigs = has_made b v (record { lock = lock; s
 
 -- whether an unlock call of v carries the secret
 abbrev pub has_sent : Histories → ℕ → List ℕ → Bool
-has_sent b v secret = list_any (λ e. carries secret (call_of v e)) (flat_map (λ h. h) b)
+has_sent b v secret = list_any (λ e. carries secret (call_by v e)) (flat_map (λ h. h) b)
 
 -- whether the secret opens a lock that v leads, and no unlock call of v carries it
 abbrev pub is_forged_secret : Deal → Histories → ℕ → Hashkey → Bool

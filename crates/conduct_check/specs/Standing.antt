@@ -6,7 +6,8 @@ use Rattle.hashkey_path.specs.declared.hashkey.Hashkey.{Hashkey}
 use Rattle.hashkey_path.specs.Hashkey.{same_key, is_valid}
 use Rattle.ledger_core.specs.History.{Opening}
 use Rattle.ledger_core.specs.Book.{Histories}
-use Rattle.swap_rules.specs.Party.{first_key, hashlock_of, is_ready, leads_one}
+use Rattle.swap_digraph.specs.Deal.{hashlock_of}
+use Rattle.swap_rules.specs.Party.{first_key, is_ready, leads_one}
 use Rattle.swap_rules.specs.Conduct.{has_origin}
 use Rattle.conduct_check.specs.declared.standing.Standing.{Standing}
 

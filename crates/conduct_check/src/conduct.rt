@@ -3,7 +3,7 @@
 ghost use Rattle.std.specs.Prelude.{◌≡◌, ◌==◌, ◌<◌, ℕ, Some, true, length, count_by, option_copied};
 ghost use Rattle.swap_digraph.specs.Deal.{IsWellSized};
 ghost use Rattle.ledger_core.specs.Book.{history};
-ghost use Rattle.swap_rules.specs.Party.{call_of};
+ghost use Rattle.swap_rules.specs.Party.{call_by};
 ghost use Rattle.swap_rules.specs.Conduct.{is_publish, keeps};
 ghost use Rattle.history_index.specs.Indexes.{entries_in, AreIndexes};
 ghost use Rattle.sent_keys.specs.Sent.{shown, unlocks_of};
@@ -17,7 +17,7 @@ use escrow_core::{Terms, terms_of};
 use hashkey_path::Hashkey;
 use history_index::{Index, Made};
 use ledger_core::Call;
-use sent_keys::{call_of, first_key, is_first_key};
+use sent_keys::{call_by, first_key, is_first_key};
 use swap_base::{ArcId, PartyId};
 use swap_digraph::Deal;
 
@@ -32,17 +32,17 @@ fn is_publish(call: Option<&Call>) -> bool
 
 /// How many publishes of the party are among the calls.
 fn count_publishes(calls: &[Made], party: PartyId) -> usize
-    ensures { result ≡ count_by (λ m. is_publish (call_of party m.entry)) calls.now }
+    ensures { result ≡ count_by (λ m. is_publish (call_by party m.entry)) calls.now }
 {
     calls
         .iter()
-        .filter(|made| is_publish(call_of(party, &made.entry)))
+        .filter(|made| is_publish(call_by(party, &made.entry)))
         .count()
 }
 
 /// Whether the party has exactly one publish on the arc.
 fn publishes_once(known: &[Index], party: PartyId, arc: ArcId) -> bool
-    ensures { result ≡ (count_by (λ e. is_publish (call_of party e)) (history (entries_in known.now) arc) == 1) }
+    ensures { result ≡ (count_by (λ e. is_publish (call_by party e)) (history (entries_in known.now) arc) == 1) }
 {
     count_publishes(made_on(known, arc), party) == 1
 }
@@ -180,10 +180,10 @@ pub(crate) fn keeps_at(
     requires keys { shown keys.now ≡ unlocks_of (entries_in known.now) party }
     requires standing { IsStanding deal.now (entries_in known.now) party standing.now }
     requires arc { arc < length deal.now.graph.arcs }
-    requires within { IsWithin deal.now (call_of party made.now.entry) }
+    requires within { IsWithin deal.now (call_by party made.now.entry) }
     ensures { result ≡ keeps_made deal.now (entries_in known.now) party arc made.now }
 {
-    match call_of(party, &made.entry) {
+    match call_by(party, &made.entry) {
         Some(call) => keeps(
             deal,
             known,

@@ -3,7 +3,7 @@
 ghost use Rattle.std.specs.Prelude.{◌≡◌, ◌<◌, length};
 ghost use Rattle.swap_digraph.specs.Deal.{IsWellSized};
 ghost use Rattle.ledger_core.specs.History.{accepted};
-ghost use Rattle.swap_rules.specs.Conduct.{has_forged_suffix, is_forged};
+ghost use Rattle.swap_rules.specs.Forged.{has_forged_suffix, is_forged};
 ghost use Rattle.history_index.specs.Indexes.{entries_in};
 ghost use Rattle.sent_keys.specs.Sent.{shown, unlocks_of};
 ghost use Rattle.conduct_check.specs.Parts.{has_made_parts, has_sent, is_forged_secret, IsWithin};
@@ -89,7 +89,7 @@ fn is_forged_secret(
 }
 
 /// Whether the entry is forged in the party's name.
-#[tactic(auto, unfolding(swap_rules::specs::Conduct::forges))]
+#[tactic(auto, unfolding(swap_rules::specs::Forged::forges))]
 pub(crate) fn is_forged(
     deal: &Deal,
     known: &[Index],

@@ -4,7 +4,7 @@ ghost use Rattle.std.specs.Prelude.{◌≡◌, ◌<◌, length, option_copied};
 ghost use Rattle.std.specs.List.{list_any};
 ghost use Rattle.ledger_core.specs.Book.{history};
 ghost use Rattle.ledger_core.specs.History.{accepted};
-ghost use Rattle.swap_rules.specs.Conduct.{carries, extends, has_origin, has_seen, is_alone};
+ghost use Rattle.swap_rules.specs.Conduct.{carries, extends_without, has_origin, has_seen, is_alone};
 ghost use Rattle.history_index.specs.Indexes.{entries_in};
 
 use crate::past::made_on;
@@ -12,7 +12,7 @@ use book_reading::leads;
 use hashkey_path::Hashkey;
 use history_index::{Index, Made};
 use ledger_core::Call;
-use sent_keys::{accepted, extends};
+use sent_keys::{accepted, extends_without};
 use swap_base::{ArcId, Digest, PartyId};
 use swap_digraph::{Deal, Mode};
 
@@ -44,13 +44,13 @@ fn has_secret(calls: &[Made], secret: &Digest) -> bool
         .any(|made| carries(secret, accepted(&made.entry)))
 }
 
-/// Whether an unlock with a hashkey was accepted among the calls that this one extends by the party.
+/// Whether an unlock was accepted among the calls with a hashkey that this one extends by the party, and whose path lacks it.
 fn has_inner(calls: &[Made], party: PartyId, key: &Hashkey) -> bool
-    ensures { result ≡ list_any (λ m. extends party key.now (accepted m.entry)) calls.now }
+    ensures { result ≡ list_any (λ m. extends_without party key.now (accepted m.entry)) calls.now }
 {
     calls
         .iter()
-        .any(|made| extends(party, key, accepted(&made.entry)))
+        .any(|made| extends_without(party, key, accepted(&made.entry)))
 }
 
 /// Whether an unlock with that secret was accepted on the arc.
@@ -60,9 +60,9 @@ fn has_secret_on(known: &[Index], arc: ArcId, secret: &Digest) -> bool
     has_secret(made_on(known, arc), secret)
 }
 
-/// Whether an unlock with a hashkey was accepted on the arc that this one extends by the party.
+/// Whether an unlock was accepted on the arc with a hashkey that this one extends by the party, and whose path lacks it.
 fn has_inner_on(known: &[Index], arc: ArcId, party: PartyId, key: &Hashkey) -> bool
-    ensures { result ≡ list_any (λ e. extends party key.now (accepted e)) (history (entries_in known.now) arc) }
+    ensures { result ≡ list_any (λ e. extends_without party key.now (accepted e)) (history (entries_in known.now) arc) }
 {
     has_inner(made_on(known, arc), party, key)
 }
@@ -75,10 +75,10 @@ fn has_seen_secret(deal: &Deal, known: &[Index], party: PartyId, secret: &Digest
     leaving.iter().any(|arc| has_secret_on(known, *arc, secret))
 }
 
-/// Whether a hashkey was accepted on an arc that leaves the party, which this one extends by the party.
+/// Whether a hashkey was accepted on an arc that leaves the party, which this one extends by the party, and whose path lacks it.
 pub(crate) fn has_seen_inner(deal: &Deal, known: &[Index], party: PartyId, key: &Hashkey) -> bool
     requires { party < deal.now.graph.n }
-    ensures { result ≡ has_seen deal.now (entries_in known.now) party (extends party key.now) }
+    ensures { result ≡ has_seen deal.now (entries_in known.now) party (extends_without party key.now) }
 {
     let leaving = deal.graph.leaving(party);
     leaving

@@ -2,13 +2,12 @@
 
 ghost use Rattle.std.specs.Prelude.{◌≡◌, ◌<◌, Some, IsTrue, length};
 ghost use Rattle.std.specs.List.{list_any};
-ghost use Rattle.swap_digraph.specs.Deal.{IsWellSized};
+ghost use Rattle.swap_digraph.specs.Deal.{IsWellSized, hashlock_of};
 ghost use Rattle.swap_digraph.specs.Graph.{entering};
 ghost use Rattle.hashkey_path.specs.Hashkey.{is_valid};
 ghost use Rattle.hashkey_path.specs.Known.{is_last_signed};
 ghost use Rattle.ledger_core.specs.Book.{history, IsLegalBook};
 ghost use Rattle.ledger_core.specs.History.{opened};
-ghost use Rattle.swap_rules.specs.Party.{hashlock_of};
 ghost use Rattle.history_index.specs.Indexes.{entries_in, AreIndexes};
 ghost use Rattle.conduct_check.specs.Standing.{is_opened_by, valid_on};
 

@@ -3,7 +3,8 @@ use Rattle.std.proofs.Common.{◌≡◌, ℕ, ◌<◌, true, false, not, List, l
 use Rattle.std.specs.List.{range_with_len, list_all}
 use Rattle.swap_base.proofs.Lists.{from_range}
 use Rattle.swap_digraph.specs.Value.{Graph}
-use Rattle.digraph_check.specs.Reach.{parties, reaches, closed_set, reversed}
+use Rattle.swap_digraph.specs.Graph.{parties}
+use Rattle.digraph_check.specs.Reach.{reaches, closed_set, reversed}
 use Rattle.digraph_check.specs.Tree.{is_entered, all_entered, IsSearch}
 use Rattle.digraph_check.proofs.ListTests.{filter-same, list_all-same}
 use Rattle.digraph_check.proofs.Turned.{reaches-reversed}

@@ -4,8 +4,8 @@ use Rattle.std.proofs.lemmas.Bool.{eqb-false, both_ways, not-true}
 use Rattle.std.specs.List.{range_with_len, list_all}
 use Rattle.swap_base.proofs.Lists.{list_all-in, list_all-from, in_range, from_range}
 use Rattle.swap_digraph.specs.Value.{Graph}
-use Rattle.swap_digraph.specs.Graph.{ends, is_among, HasEnds, IsStronglyConnected}
-use Rattle.digraph_check.specs.Reach.{parties, reaches_in, reaches, reached, stranded, closed_set}
+use Rattle.swap_digraph.specs.Graph.{parties, ends, is_among, HasEnds, IsStronglyConnected}
+use Rattle.digraph_check.specs.Reach.{reaches_in, reaches, reached, stranded, closed_set}
 use Rattle.digraph_check.specs.Closed.{IsClosedSet}
 use Rattle.digraph_check.proofs.ListTests.{failing, among_where, where_among, where_ascends}
 use Rattle.digraph_check.proofs.Walks.{Along, goes_on, at_once, stays, snoc, along, two_walks, arc_at, arc_number}

@@ -8,8 +8,8 @@ use Rattle.std.specs.List.{IsDistinct, AllByRecursion}
 use Rattle.std.specs.Set.{is_member}
 use Rattle.swap_base.proofs.Lists.{list_any-in, and_parts, and_both, in_range}
 use Rattle.swap_digraph.specs.Value.{Graph}
-use Rattle.swap_digraph.specs.Graph.{has_arc, is_path, first_is, last_is, is_among, IsPathBetween}
-use Rattle.digraph_check.specs.Reach.{parties, reaches_in, reaches}
+use Rattle.swap_digraph.specs.Graph.{parties, has_arc, is_path, first_is, last_is, is_among, IsPathBetween}
+use Rattle.digraph_check.specs.Reach.{reaches_in, reaches}
 use Rattle.digraph_check.proofs.ListTests.{or_split, or_neither}
 use Rattle.digraph_check.proofs.Walks.{Along, goes_on, is_there, at_once, along, at_most}
 

@@ -4,8 +4,8 @@ use Rattle.std.specs.List.{list_any}
 use Rattle.swap_base.proofs.Lists.{list_any-in, or-right, and_parts, and_both, in_range, from_range}
 use Rattle.swap_digraph.specs.declared.arc_ends.ArcEnds.{ArcEnds}
 use Rattle.swap_digraph.specs.Value.{Graph}
-use Rattle.swap_digraph.specs.Graph.{has_arc, ends_in}
-use Rattle.digraph_check.specs.Reach.{parties, reaches_in}
+use Rattle.swap_digraph.specs.Graph.{parties, has_arc, ends_in}
+use Rattle.digraph_check.specs.Reach.{reaches_in}
 use Rattle.digraph_check.proofs.ListTests.{or_split, or-left, passing}
 
 -- a walk that goes on along an arc, by at most k more

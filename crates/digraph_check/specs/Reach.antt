@@ -1,13 +1,9 @@
 -- Which parties reach which, by walks along arcs, and the closed set that is answered.
 use Rattle.std.specs.Prelude.{ℕ, zero, suc, Bool, not, ◌==◌, ◌&&◌, ◌||◌, List, map, filter, Option, Some, None, if◌then◌else◌}
-use Rattle.std.specs.List.{list_any, list_all, range_with_len}
+use Rattle.std.specs.List.{list_any, list_all}
 use Rattle.swap_digraph.specs.declared.arc_ends.ArcEnds.{ArcEnds}
 use Rattle.swap_digraph.specs.Value.{Graph}
-use Rattle.swap_digraph.specs.Graph.{has_arc}
-
--- the parties, ascending
-abbrev pub parties : Graph → List ℕ
-parties g = range_with_len 0 g.n
+use Rattle.swap_digraph.specs.Graph.{parties, has_arc}
 
 -- whether a walk of at most k arcs leads from u to v: u is v, or an arc leads from u to a party from which a walk of fewer does
 unfoldable pub reaches_in : Graph → ℕ → ℕ → ℕ → Bool

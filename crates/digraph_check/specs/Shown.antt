@@ -1,8 +1,8 @@
 -- What an answer shows.
 use Rattle.std.specs.Prelude.{ℕ, List, Option, Some, None}
-use Rattle.digraph_check.specs.declared.answer.Trees.{Trees}
-use Rattle.digraph_check.specs.declared.answer.Strength.{Strength}
-use Rattle.digraph_check.specs.declared.answer.Strength.TheVariants.{Strong, Closed}
+use Rattle.digraph_check.specs.declared.certificate.Trees.{Trees}
+use Rattle.digraph_check.specs.declared.certificate.Strength.{Strength}
+use Rattle.digraph_check.specs.declared.certificate.Strength.TheVariants.{Strong, Closed}
 
 -- the closed set that the answer names, if any
 abbrev pub set_shown : Strength → Option (List ℕ)

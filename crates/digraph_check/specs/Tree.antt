@@ -5,15 +5,15 @@ use Rattle.swap_digraph.specs.declared.arc_ends.ArcEnds.{ArcEnds}
 use Rattle.swap_digraph.specs.Value.{Graph}
 use Rattle.swap_digraph.specs.Graph.{ends, ends_in}
 use Rattle.digraph_check.specs.Reach.{reaches, reversed}
-use Rattle.digraph_check.specs.declared.answer.Trees.{Trees}
+use Rattle.digraph_check.specs.declared.certificate.Trees.{Trees}
 
 -- the arc of the tree that enters v, if any
-abbrev pub entry_of : List (Option ℕ) → ℕ → Option ℕ
-entry_of tree v = slice_index_or tree v None
+abbrev pub tree_arc : List (Option ℕ) → ℕ → Option ℕ
+tree_arc tree v = slice_index_or tree v None
 
 -- v is party 0, or an arc of the tree enters it
 abbrev pub is_entered : List (Option ℕ) → ℕ → Bool
-is_entered tree v = (v == 0) || is_some (entry_of tree v)
+is_entered tree v = (v == 0) || is_some (tree_arc tree v)
 
 abbrev pub all_entered : List (Option ℕ) → Bool
 all_entered tree = list_all (λ v. is_entered tree v) (range_with_len 0 (length tree))
@@ -23,20 +23,20 @@ abbrev pub IsCrossing : List ArcEnds → List (Option ℕ) → ℕ → Type 0
 IsCrossing arcs tree a = IsTrue (is_entered tree (ends_in arcs a).from) × (is_entered tree (ends_in arcs a).to ≡ false)
 
 -- where the arc came from, and v itself where there is none
-abbrev pub before : Graph → ℕ → Option ℕ → ℕ
-before g v None = v
-before g v (Some a) = (ends g a).from
+abbrev pub parent_of : Graph → ℕ → Option ℕ → ℕ
+parent_of g v None = v
+parent_of g v (Some a) = (ends g a).from
 
 -- where one stands after k steps back from v, against the arcs of the tree; party 0 has none and ends the walk
 unfoldable pub walked_back : Graph → List (Option ℕ) → ℕ → ℕ → ℕ
 walked_back g tree zero v = v
-walked_back g tree (suc k) v = walked_back g tree k (before g v (entry_of tree v))
+walked_back g tree (suc k) v = walked_back g tree k (parent_of g v (tree_arc tree v))
 
 -- Every party but 0 has an arc that enters it, and these arcs, walked back, lead to party 0.
 pub record IsTree (g : Graph) (tree : List (Option ℕ)) : Type 0 where
   pub entries : length tree ≡ g.n
-  pub root : entry_of tree 0 ≡ None
-  pub entered : (v : ℕ) → v < g.n → v ≢ 0 → (a : ℕ) × (entry_of tree v ≡ Some a) × (a < length g.arcs) × ((ends g a).to ≡ v)
+  pub root : tree_arc tree 0 ≡ None
+  pub entered : (v : ℕ) → v < g.n → v ≢ 0 → (a : ℕ) × (tree_arc tree v ≡ Some a) × (a < length g.arcs) × ((ends g a).to ≡ v)
   pub back : (v : ℕ) → v < g.n → walked_back g tree g.n v ≡ 0
 
 -- The tree enters exactly the parties that party 0 reaches.

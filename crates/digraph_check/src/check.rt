@@ -7,7 +7,7 @@ ghost use Rattle.digraph_check.specs.Closed.{IsClosedSet};
 ghost use Rattle.digraph_check.specs.Tree.{AreTrees, IsSearch};
 ghost use Rattle.digraph_check.specs.Shown.{set_shown, IfStrong, IfClosed};
 
-use crate::answer::{Strength, Trees};
+use crate::certificate::{Strength, Trees};
 use crate::search::{entered_parties, enters_all, missed_parties, reversed, tree_from_zero};
 use std::alloc::Global;
 use swap_base::{ArcId, Listed, NoMemory};

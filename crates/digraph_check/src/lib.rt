@@ -3,12 +3,12 @@
 //! Read `specs/Reach.antt` first: which party reaches which, and the closed set that is answered. `paths_tell` says that reaching is by paths.
 #![tactic(auto)]
 
-mod answer;
+mod certificate;
 mod check;
 mod law;
 mod search;
 
-pub use answer::{Strength, Trees};
+pub use certificate::{Strength, Trees};
 pub use check::strong;
 pub use law::paths_tell;
 pub use swap_digraph::{ArcEnds, ArcId, Digraph, Listed, NoMemory, PartyId, PathList};

@@ -33,15 +33,15 @@ impl Model for Contract {
 
     ghost Value = { ContractState };
 
-    ghost use Rattle.escrow_core.specs.Inside.{state_of, HasPlaces, contract_of, contract_of_ok};
+    ghost use Rattle.escrow_core.specs.Inside.{state_of, HasPlaces, inside_of, inside_of_ok};
 
     ghost view = { state_of };
 
     ghost invariant = { HasPlaces };
 
-    ghost inverse = { contract_of };
+    ghost inverse = { inside_of };
 
-    ghost inverse_ok = { contract_of_ok };
+    ghost inverse_ok = { inside_of_ok };
 }
 
 impl Contract {

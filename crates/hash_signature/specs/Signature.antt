@@ -55,12 +55,12 @@ abbrev pub digit : List ℕ → ℕ → ℕ
 digit message j = slice_index (digits message) j
 
 -- the value of a signature at chain j: the start of the chain after as many steps as the digit says
-abbrev pub opened : List ℕ → ℕ → ℕ → List ℕ → ℕ → List ℕ
-opened seed party lock message j = chain_after (digit message j) (chain_start seed party lock j)
+abbrev pub signed_value : List ℕ → ℕ → ℕ → List ℕ → ℕ → List ℕ
+signed_value seed party lock message j = chain_after (digit message j) (chain_start seed party lock j)
 
 -- the signature over a message
 unfoldable pub signature_of : List ℕ → ℕ → ℕ → List ℕ → List (List ℕ)
-signature_of seed party lock message = for_chains (opened seed party lock message)
+signature_of seed party lock message = for_chains (signed_value seed party lock message)
 
 -- the value of a signature at chain j, carried on to where the chain is to end
 abbrev pub carried_on : List ℕ → List (List ℕ) → ℕ → List ℕ

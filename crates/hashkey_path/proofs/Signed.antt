@@ -10,12 +10,12 @@ use Rattle.swap_digraph.specs.declared.deal.Deal.{Deal}
 use Rattle.swap_digraph.specs.declared.deal.Mode.{Mode}
 use Rattle.swap_digraph.specs.declared.deal.Mode.TheVariants.{Timelocks, Hashkeys}
 use Rattle.swap_digraph.specs.Graph.{is_path, is_among, ends_in, has_arc, first_is, IsPathBetween}
-use Rattle.swap_digraph.specs.Deal.{party, counterparty, leader_of}
+use Rattle.swap_digraph.specs.Deal.{party, counterparty, leader_of, hashlock_of}
 use Rattle.hash_signature.specs.declared.sig.Sig.{Sig}
 use Rattle.hash_signature.specs.Signature.{is_valid_signature, public_key_of, signature_of}
 use Rattle.hashkey_path.specs.declared.hashkey.Hashkey.{Hashkey}
 use Rattle.hashkey_path.specs.Hashkey.{key_of, message_of, is_signed, wrong_signature, HasPath, IsValidHashkey}
-use Rattle.hashkey_path.specs.Signed.{suffix_signature, first_key, extended_key, hashlock_of, IsLeadersOwn, CanExtend, IsValidInto}
+use Rattle.hashkey_path.specs.Signed.{suffix_signature, leaders_key, extended_key, IsLeadersOwn, CanExtend, IsValidInto}
 use Rattle.hashkey_path.proofs.Validity.{SignsEach, signed_both, each_from_none, none_from_each}
 
 -- a signature of the deal's key for the party is the right one at its place
@@ -47,12 +47,12 @@ same_leader (w ∷ leaders) (suc i) n v lt e = same_leader leaders i n v lt e
 is_self : (u v : ℕ) → u ≡ v → (u == v) ≡ true
 is_self u v e = eq-eqb u v e
 
-pub first_is_valid : (d : Deal) (lock : ℕ) (secret : List ℕ) (party : ℕ) (seed : List ℕ) → party < d.graph.n → IsLeadersOwn d lock secret party seed → IsTrue (is_valid_signature (public_key_of seed party lock) (message_of d.id lock (party ∷ []) secret []) (suffix_signature d lock secret party seed [] [])) → IsValidInto d party (hashlock_of d lock) (first_key d lock secret party seed)
+pub first_is_valid : (d : Deal) (lock : ℕ) (secret : List ℕ) (party : ℕ) (seed : List ℕ) → party < d.graph.n → IsLeadersOwn d lock secret party seed → IsTrue (is_valid_signature (public_key_of seed party lock) (message_of d.id lock (party ∷ []) secret []) (suffix_signature d lock secret party seed [] [])) → IsValidInto d party (hashlock_of d lock) (leaders_key d lock secret party seed)
 first_is_valid d lock secret party seed lt own valid a in_range enters =
     let leader : party ≡ leader_of d lock = sym (same_leader d.leaders lock d.graph.n party lt own.leads) in
     record {
       secret = own.opens;
-      path = has_path_in d.mode d a (first_key d lock secret party seed) own.mode (
+      path = has_path_in d.mode d a (leaders_key d lock secret party seed) own.mode (
         (lt-ltb party d.graph.n lt, is_self party (counterparty d a) (sym enters), is_self party (leader_of d lock) leader),
         refl,
         one_more d lock secret party [] (suffix_signature d lock secret party seed [] []) [] (signed_by d lock secret party seed [] [] own.key valid) (each_from_none d lock secret [] [] refl),

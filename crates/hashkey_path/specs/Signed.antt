@@ -1,9 +1,9 @@
 -- The hashkeys that a party makes with its key, and where they are valid.
-use Rattle.std.specs.Prelude.{◌≡◌, ℕ, ◌<◌, IsTrue, not, List, [], ◌∷◌, length, slice_index, slice_index_or}
+use Rattle.std.specs.Prelude.{◌≡◌, ℕ, ◌<◌, IsTrue, not, List, [], ◌∷◌, length, slice_index}
 use Rattle.swap_digraph.specs.declared.deal.Deal.{Deal}
 use Rattle.swap_digraph.specs.declared.deal.Mode.TheVariants.{Hashkeys}
 use Rattle.swap_digraph.specs.Graph.{is_among, has_arc}
-use Rattle.swap_digraph.specs.Deal.{counterparty, leads}
+use Rattle.swap_digraph.specs.Deal.{counterparty, leads, hashlock_of}
 use Rattle.hash_signature.specs.declared.sig.Sig.{Sig}
 use Rattle.hash_signature.specs.Signature.{hash_of, public_key_of, signature_of}
 use Rattle.hashkey_path.specs.declared.hashkey.Hashkey.{Hashkey}
@@ -14,8 +14,8 @@ abbrev pub suffix_signature : Deal → ℕ → List ℕ → ℕ → List ℕ →
 suffix_signature d lock secret party seed rest inner = signature_of seed party lock (message_of d.id lock (party ∷ rest) secret inner)
 
 -- the hashkey whose path is the party alone, signed with the key of its seed
-abbrev pub first_key : Deal → ℕ → List ℕ → ℕ → List ℕ → Hashkey
-first_key d lock secret party seed =
+abbrev pub leaders_key : Deal → ℕ → List ℕ → ℕ → List ℕ → Hashkey
+leaders_key d lock secret party seed =
     record {
       lock = lock;
       secret = secret;
@@ -32,10 +32,6 @@ extended_key d inner party seed =
       path = party ∷ inner.path;
       sigs = suffix_signature d inner.lock inner.secret party seed inner.path inner.sigs ∷ inner.sigs;
     }
-
--- the hashlock of lock i
-abbrev pub hashlock_of : Deal → ℕ → List ℕ
-hashlock_of d i = slice_index_or d.hashlocks i []
 
 -- The party leads the lock, and the secret and the key of the seed are those that the deal states.
 pub record IsLeadersOwn (d : Deal) (lock : ℕ) (secret : List ℕ) (party : ℕ) (seed : List ℕ) : Type 0 where

@@ -3,14 +3,14 @@
 //! Read `specs/Hashkey.antt` first: `IsValidHashkey` speaks of all suffixes at once, `answer_of` says what `check` answers. `specs/Signed.antt` says what `first` and `extend` make, and `specs/Digest.antt` what a deal's id is taken of.
 #![tactic(auto)]
 
-mod answer;
+mod checking;
 mod digest;
 mod hashkey;
 mod path;
 mod sign;
 mod suffix;
 
-pub use answer::check;
+pub use checking::check;
 pub use digest::deal_digest;
 pub use hashkey::{Hashkey, HashkeyAnswer, SigList};
 pub use sign::{KeyBack, extend, first};

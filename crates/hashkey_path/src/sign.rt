@@ -2,10 +2,10 @@
 
 ghost use Rattle.std.specs.Prelude.{◌≡◌, ◌∷◌, ℕ, List, ◌+◌, ◌<◌, IfOk, IfErr, IsTrue, length, vec_len};
 ghost use Rattle.std.specs.Vec.{vec_capacity};
-ghost use Rattle.swap_digraph.specs.Deal.{path_limit};
+ghost use Rattle.swap_digraph.specs.Deal.{path_limit, hashlock_of};
 ghost use Rattle.hashkey_path.specs.Hashkey.{message_of, IsValidHashkey};
 ghost use Rattle.hash_signature.specs.Signature.{is_valid_signature, public_key_of, signature_of};
-ghost use Rattle.hashkey_path.specs.Signed.{first_key, extended_key, hashlock_of, CanExtend, IsLeadersOwn, IsValidInto};
+ghost use Rattle.hashkey_path.specs.Signed.{leaders_key, extended_key, CanExtend, IsLeadersOwn, IsValidInto};
 
 use crate::hashkey::Hashkey;
 use crate::suffix::message_of;
@@ -104,7 +104,7 @@ pub fn first(
     requires party { party < deal.now.graph.n }
     requires of_party { key.party ≡ party }
     requires of_lock { key.lock ≡ lock }
-    ensures value { IfOk result (λ k. k ≡ first_key deal.now lock secret.now party key.seed) }
+    ensures value { IfOk result (λ k. k ≡ leaders_key deal.now lock secret.now party key.seed) }
     ensures valid { IfOk result (λ k. IsLeadersOwn deal.now lock secret.now party key.seed → IsValidInto deal.now party (hashlock_of deal.now lock) k) }
     ensures back { IfErr result (λ b. b.key ≡ key) }
 {

@@ -31,7 +31,7 @@ use Rattle.ledger_core.proofs.Bounds.{height-push}
 use Rattle.history_index.specs.declared.kinds.Kinds.{Kinds}
 use Rattle.history_index.specs.declared.answers.Answers.{Answers}
 use Rattle.history_index.specs.declared.made.Made as made
-use Rattle.history_index.specs.Numbers.{numbers_from, call_numbers, is_among, names_lock, IsIndexable}
+use Rattle.history_index.specs.Numbers.{numbers_from, call_numbers, comes_from, names_lock, IsIndexable}
 use Rattle.ledger_core.specs.Facts.{is_call}
 use Rattle.history_index.specs.Made.{made_from, made_in, made_after}
 use Rattle.history_index.specs.Kept.{has_kind, with_call, numbers_after, kinds_after, with_opening, answers_after, AreAnswers, AreCalls}
@@ -199,13 +199,13 @@ made_in_push h e =
 
 -- Who sent what.
 
-sent_of_two : (from to : ℕ) (s : Sender) (w : What) → is_among from to s w ≡ true → is_call w ≡ true → (sent_by from s || sent_by to s) ≡ true
+sent_of_two : (from to : ℕ) (s : Sender) (w : What) → comes_from from to s w ≡ true → is_call w ≡ true → (sent_by from s || sent_by to s) ≡ true
 sent_of_two from to (Party p) (Made c) a k = a
 sent_of_two from to (Party p) (Tick n) a k = absurd (false≢true a)
 sent_of_two from to Clock (Made c) a k = absurd (false≢true a)
 sent_of_two from to Clock (Tick n) a k = absurd (false≢true k)
 
-sent_call : (from to p : ℕ) (s : Sender) (w : What) → is_among from to s w ≡ true → sent_by p s ≡ true → is_call w ≡ true
+sent_call : (from to p : ℕ) (s : Sender) (w : What) → comes_from from to s w ≡ true → sent_by p s ≡ true → is_call w ≡ true
 sent_call from to p (Party q) (Made c) a k = refl
 sent_call from to p (Party q) (Tick n) a k = absurd (false≢true a)
 sent_call from to p Clock w a k = absurd (false≢true k)
@@ -220,10 +220,10 @@ few_more false true false m n ms xs ys h l = omega arith
 few_more false false true m n ms xs ys h l = omega arith
 few_more false false false m n ms xs ys h l = l
 
-made_few : (from to n : ℕ) (h : List Entry) → IsTrue (list_all (λ e. is_among from to e.sender e.what) h) → length (made_from n h) ≤ length (numbers_from n from h) + length (numbers_from n to h)
+made_few : (from to n : ℕ) (h : List Entry) → IsTrue (list_all (λ e. comes_from from to e.sender e.what) h) → length (made_from n h) ≤ length (numbers_from n from h) + length (numbers_from n to h)
 made_few from to n [] a = omega arith
 made_few from to n (e ∷ h) a =
-    let parts = and_parts (is_among from to e.sender e.what) (list_all (λ x. is_among from to x.sender x.what) h) a in
+    let parts = and_parts (comes_from from to e.sender e.what) (list_all (λ x. comes_from from to x.sender x.what) h) a in
     few_more (is_call e.what) (sent_by from e.sender) (sent_by to e.sender) (record { number = n; entry = e }) n _ _ _ (sent_of_two from to e.sender e.what parts.0) (made_few from to (n + 1) h parts.1)
 
 -- there are at most 64 calls
@@ -235,7 +235,7 @@ few_made from to h ms i e =
     let to_few = i.to_few in
     omega arith
 
-not_sent : (from to p : ℕ) (s : Sender) (w : What) → is_among from to s w ≡ true → (p ≡ from → ⊥) → (p ≡ to → ⊥) → sent_by p s ≡ false
+not_sent : (from to p : ℕ) (s : Sender) (w : What) → comes_from from to s w ≡ true → (p ≡ from → ⊥) → (p ≡ to → ⊥) → sent_by p s ≡ false
 not_sent from to p (Party q) (Made c) h nf nt = go (q == p) (q == from) (q == to) refl refl refl h
   where
     go : (b x y : Bool) → (q == p) ≡ b → (q == from) ≡ x → (q == to) ≡ y → (x || y) ≡ true → (q == p) ≡ false
@@ -246,10 +246,10 @@ not_sent from to p (Party q) (Tick k) h nf nt = absurd (false≢true h)
 not_sent from to p Clock w h nf nt = refl
 
 -- a party that sent nothing made no call
-pub nothing_called : (from to p : ℕ) (k : CallKind) (h : List Entry) → IsTrue (list_all (λ e. is_among from to e.sender e.what) h) → (p ≡ from → ⊥) → (p ≡ to → ⊥) → has_call p k h ≡ false
+pub nothing_called : (from to p : ℕ) (k : CallKind) (h : List Entry) → IsTrue (list_all (λ e. comes_from from to e.sender e.what) h) → (p ≡ from → ⊥) → (p ≡ to → ⊥) → has_call p k h ≡ false
 nothing_called from to p k [] a nf nt = refl
 nothing_called from to p k (e ∷ h) a nf nt =
-    let parts = and_parts (is_among from to e.sender e.what) (list_all (λ x. is_among from to x.sender x.what) h) a in
+    let parts = and_parts (comes_from from to e.sender e.what) (list_all (λ x. comes_from from to x.sender x.what) h) a in
     ap (λ b. cond b (is_of_kind k e.what) false || has_call p k h) (not_sent from to p e.sender e.what parts.0 nf nt) ∙ nothing_called from to p k h parts.1 nf nt
 
 -- Room.
@@ -263,7 +263,7 @@ pub last_lock : (from to : ℕ) (h : List Entry) (e : Entry) → IsIndexable fro
 last_lock from to h e i = last_passes (λ x. names_lock x.what) h e i.locks
 
 pub last_sent : (from to p : ℕ) (h : List Entry) (e : Entry) → IsIndexable from to (h ++ e ∷ []) → sent_by p e.sender ≡ true → is_call e.what ≡ true
-last_sent from to p h e i = sent_call from to p e.sender e.what (last_passes (λ x. is_among from to x.sender x.what) h e i.senders)
+last_sent from to p h e i = sent_call from to p e.sender e.what (last_passes (λ x. comes_from from to x.sender x.what) h e i.senders)
 
 -- so many further elements have room after one more, where s, which takes one of the places only where b
 pub room_kept : {A : Type 0} (b s : Bool) (x : A) (xs xs' : List A) (room room' cap cap' : ℕ) → xs' ≡ cond s (xs ++ x ∷ []) xs → (s ≡ true → b ≡ true) → (IsTrue b → 0 < room) → room' ≡ room - cond b 1 0 → length xs + room ≤ cap → cap ≤ cap' → length xs' + room' ≤ cap'

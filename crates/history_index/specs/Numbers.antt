@@ -29,11 +29,11 @@ is_before None n = false
 is_before (Some k) n = nat_lt k n
 
 -- a call is of one of the two parties, and a tick of the clock
-abbrev pub is_among : (from to : ℕ) → Sender → What → Bool
-is_among from to (Party p) (Made c) = (p == from) || (p == to)
-is_among from to Clock (Tick k) = true
-is_among from to (Party p) (Tick k) = false
-is_among from to Clock (Made c) = false
+abbrev pub comes_from : (from to : ℕ) → Sender → What → Bool
+comes_from from to (Party p) (Made c) = (p == from) || (p == to)
+comes_from from to Clock (Tick k) = true
+comes_from from to (Party p) (Tick k) = false
+comes_from from to Clock (Made c) = false
 
 -- an unlock is of one of at most eight locks
 abbrev pub names_lock : What → Bool
@@ -43,7 +43,7 @@ names_lock _ = true
 -- Entries that an index of an arc between these two parties takes, as those of every legal history of the arc.
 pub record IsIndexable (from to : ℕ) (h : List Entry) : Type 0 where
   pub countable : IsCountable h
-  pub senders : IsTrue (list_all (λ e. is_among from to e.sender e.what) h)
+  pub senders : IsTrue (list_all (λ e. comes_from from to e.sender e.what) h)
   pub locks : IsTrue (list_all (λ e. names_lock e.what) h)
   pub from_few : length (call_numbers from h) ≤ 32
   pub to_few : length (call_numbers to h) ≤ 32

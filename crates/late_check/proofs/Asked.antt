@@ -13,8 +13,9 @@ use Rattle.ledger_core.specs.declared.entry.Call.TheVariants.{Publish, Unlock, C
 use Rattle.ledger_core.specs.Book.{Histories, history}
 use Rattle.ledger_core.specs.History.{opened, published}
 use Rattle.swap_rules.specs.declared.finding.Rule.TheVariants.{Publish as ToPublish, Unlock as ToUnlock, Claim as ToClaim, Refund as ToRefund}
-use Rattle.swap_rules.specs.Party.{first_key, is_correct, is_ready, is_triggered, least_expiry, leads_one, ready_height}
-use Rattle.swap_rules.specs.Conduct.{base_of, counts, is_first_key, opens_without, ref_of, trigger_height, when}
+use Rattle.swap_rules.specs.Party.{first_key, is_correct, is_ready, is_triggered, least_expiry, leads_one, ready_height, opens_without}
+use Rattle.swap_rules.specs.Conduct.{is_first_key}
+use Rattle.swap_rules.specs.Late.{base_of, counts, ref_of, trigger_height, when}
 use Rattle.swap_laws.proofs.Words.{is_among-true, in-is_among}
 use Rattle.late_check.specs.declared.counting.Counted.TheVariants as counted
 use Rattle.late_check.specs.Parts.{claim_from, counts_as, publish_from, refund_from, unlock_from, IsAsked}

@@ -8,7 +8,8 @@ use Rattle.swap_digraph.specs.declared.deal.Mode.TheVariants.{Hashkeys}
 use Rattle.hashkey_path.specs.declared.hashkey.Hashkey.{Hashkey}
 use Rattle.ledger_core.specs.History.{Opening, opened}
 use Rattle.ledger_core.specs.Book.{Histories, history}
-use Rattle.swap_rules.specs.Conduct.{base_of, first_seen_key, key_without, opens_without}
+use Rattle.swap_rules.specs.Party.{first_seen_key, key_without, opens_without}
+use Rattle.swap_rules.specs.Late.{base_of}
 use Rattle.late_check.specs.Parts.{greatest_used_in}
 use Rattle.late_check.proofs.FirstAnswer.{some_first}
 

@@ -13,8 +13,8 @@ use Rattle.swap_rules.specs.declared.finding.Rule.{Rule}
 use Rattle.swap_rules.specs.declared.finding.Rule.TheVariants.{Publish as ToPublish, Unlock as ToUnlock, Claim as ToClaim, Refund as ToRefund}
 use Rattle.swap_rules.specs.declared.finding.Finding.{Finding}
 use Rattle.swap_rules.specs.declared.finding.Finding.TheVariants.{Late}
-use Rattle.swap_rules.specs.Conduct.{counts, is_done, late_at, ref_of}
-use Rattle.swap_rules.specs.Party.{call_of}
+use Rattle.swap_rules.specs.Late.{counts, is_done, late_at, ref_of}
+use Rattle.swap_rules.specs.Party.{call_by}
 use Rattle.swap_rules.specs.Findings.{late_on, lates, or_zero}
 use Rattle.late_check.specs.declared.counting.Counted.{Counted}
 use Rattle.late_check.specs.Parts.{counts_as, counts_by, is_done_in, is_overdue, lates_by, overdue, IsAsked}
@@ -28,16 +28,16 @@ by_test : (v : ℕ) (rule : Rule) (a from delta : ℕ) (late : Bool) → cond la
 by_test v rule a from delta true = refl
 by_test v rule a from delta false = refl
 
-counts_same : (d : Deal) (b : Histories) (v : ℕ) (rule : Rule) (a : ℕ) (c : Counted) (due : ℕ) → ((at : ℕ) (o : Option Call) → counts_as c at o ≡ counts d b v rule a at o) → (e : Entry) → (counts d b v rule a e.height (call_of v e) && nat_le e.height due) ≡ counts_by c v due e
+counts_same : (d : Deal) (b : Histories) (v : ℕ) (rule : Rule) (a : ℕ) (c : Counted) (due : ℕ) → ((at : ℕ) (o : Option Call) → counts_as c at o ≡ counts d b v rule a at o) → (e : Entry) → (counts d b v rule a e.height (call_by v e) && nat_le e.height due) ≡ counts_by c v due e
 unfolding counts_by
-counts_same d b v rule a c due same e = ap (λ x. x && nat_le e.height due) (sym (same e.height (call_of v e)))
+counts_same d b v rule a c due same e = ap (λ x. x && nat_le e.height due) (sym (same e.height (call_by v e)))
 
 by_ref : (d : Deal) (b : Histories) (v : ℕ) (rule : Rule) (a : ℕ) (c : Counted) → ((at : ℕ) (o : Option Call) → counts_as c at o ≡ counts d b v rule a at o) → (ref : Option ℕ)
     → cond (late_at d b v rule a ref) (Late v rule a (or_zero ref + d.delta) ∷ []) [] ≡ listed v rule a (overdue d.delta c v ref (history b a))
 by_ref d b v rule a c same None = refl
 by_ref d b v rule a c same (Some from) =
     let due = from + d.delta in
-    let done : is_done d b v rule a due ≡ is_done_in c v due (history b a) = any_same (λ e. counts d b v rule a e.height (call_of v e) && nat_le e.height due) (counts_by c v due) (history b a) (counts_same d b v rule a c due same) in
+    let done : is_done d b v rule a due ≡ is_done_in c v due (history b a) = any_same (λ e. counts d b v rule a e.height (call_by v e) && nat_le e.height due) (counts_by c v due) (history b a) (counts_same d b v rule a c due same) in
     ap (λ x. cond (nat_lt due (height (history b a)) && not x) (Late v rule a due ∷ []) []) done
     ∙ by_test v rule a from d.delta (is_overdue d.delta c v (Some from) (history b a))
 

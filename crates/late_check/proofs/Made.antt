@@ -9,8 +9,9 @@ use Rattle.ledger_core.specs.declared.entry.Entry.{Entry}
 use Rattle.ledger_core.specs.History.{accepted_in, sent_by}
 use Rattle.history_index.specs.Made.{made_in}
 use Rattle.history_index.proofs.Calls.{any_made, greatest_made}
-use Rattle.swap_rules.specs.Party.{call_in, call_of}
-use Rattle.swap_rules.specs.Conduct.{extends, height_if, is_carried}
+use Rattle.swap_rules.specs.Party.{call_in, call_by}
+use Rattle.swap_rules.specs.Conduct.{extends}
+use Rattle.swap_rules.specs.Late.{height_if, is_carried}
 use Rattle.late_check.specs.declared.counting.Counted.{Counted}
 use Rattle.late_check.specs.declared.counting.Counted.TheVariants as counted
 use Rattle.late_check.specs.Parts.{counts_as, counts_by, greatest_used_in, is_done_in, is_used_with}
@@ -30,7 +31,7 @@ none_counts (counted.Refund least) at = refl
 none_counts_by : (c : Counted) (v due : ℕ) (e : Entry) (k : ℕ) → e.what ≡ Tick k → counts_by c v due e ≡ false
 unfolding counts_by
 none_counts_by c v due e k w =
-    let none : call_of v e ≡ None = ap (λ x. cond (sent_by v e.sender) (call_in x) None) w ∙ no_call (sent_by v e.sender) in
+    let none : call_by v e ≡ None = ap (λ x. cond (sent_by v e.sender) (call_in x) None) w ∙ no_call (sent_by v e.sender) in
     ap (λ o. counts_as c e.height o && nat_le e.height due) none ∙ ap (λ x. x && nat_le e.height due) (none_counts c e.height)
 
 pub done_made : (c : Counted) (v due : ℕ) (h : List Entry) → is_done_in c v due h ≡ list_any (λ m. counts_by c v due m.entry) (made_in h)

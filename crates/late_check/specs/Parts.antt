@@ -13,8 +13,9 @@ use Rattle.ledger_core.specs.History.{height, accepted, opened, published}
 use Rattle.ledger_core.specs.Book.{Histories, history}
 use Rattle.swap_rules.specs.declared.finding.Rule.{Rule}
 use Rattle.swap_rules.specs.declared.finding.Finding.{Finding}
-use Rattle.swap_rules.specs.Party.{call_of, first_key, is_correct, is_ready, is_triggered, least_expiry, leads_one, ready_height}
-use Rattle.swap_rules.specs.Conduct.{base_of, counts, extends, height_if, is_carried, is_first_key, opens_without, ref_of, trigger_height, when}
+use Rattle.swap_rules.specs.Party.{call_by, first_key, is_correct, is_ready, is_triggered, least_expiry, leads_one, ready_height, opens_without}
+use Rattle.swap_rules.specs.Conduct.{extends, is_first_key}
+use Rattle.swap_rules.specs.Late.{base_of, counts, height_if, is_carried, ref_of, trigger_height, when}
 use Rattle.swap_rules.specs.Findings.{late_on}
 use Rattle.late_check.specs.declared.counting.Counted.{Counted}
 use Rattle.late_check.specs.declared.counting.Counted.TheVariants as counted
@@ -47,7 +48,7 @@ counts_as _ at _ = false
 
 -- whether the entry is a call of v that counts, at a height of at most due
 unfoldable pub counts_by : Counted → ℕ → ℕ → Entry → Bool
-counts_by c v due e = counts_as c e.height (call_of v e) && nat_le e.height due
+counts_by c v due e = counts_as c e.height (call_by v e) && nat_le e.height due
 
 -- whether v made a call that counts at a height of at most due
 abbrev pub is_done_in : Counted → ℕ → ℕ → List Entry → Bool

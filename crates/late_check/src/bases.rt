@@ -7,7 +7,7 @@ ghost use Rattle.swap_digraph.specs.Deal.{IsWellSized};
 ghost use Rattle.ledger_core.specs.Book.{history};
 ghost use Rattle.ledger_core.specs.History.{opened};
 ghost use Rattle.history_index.specs.Indexes.{entries_in, AreIndexes};
-ghost use Rattle.swap_rules.specs.Conduct.{base_of, height_of_opening, is_carried};
+ghost use Rattle.swap_rules.specs.Late.{base_of, height_of_opening, is_carried};
 ghost use Rattle.late_check.specs.Parts.{greatest_used_in, is_used_with};
 
 use crate::openings::{first_seen_key, opening_height};

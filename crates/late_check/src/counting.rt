@@ -9,7 +9,7 @@ ghost use Rattle.late_check.specs.Parts.{counts_as, counts_by, is_done_in};
 use hashkey_path::Hashkey;
 use history_index::{Index, Made};
 use ledger_core::{Call, Entry};
-use sent_keys::{call_of, is_first_key};
+use sent_keys::{call_by, is_first_key};
 use swap_base::{ArcId, LockId, PartyId};
 
 /// The calls that count for a rule: a refund above the arc's least expiry, and an unlock of the lock with the party's first hashkey for it.
@@ -41,7 +41,7 @@ fn counts(counted: &Counted, at: u32, call: Option<&Call>) -> bool
 fn counts_by(counted: &Counted, party: PartyId, due: u64, entry: &Entry) -> bool
     ensures { result ≡ counts_by counted.now party due entry.now }
 {
-    counts(counted, entry.height, call_of(party, entry)) && entry.height as u64 <= due
+    counts(counted, entry.height, call_by(party, entry)) && entry.height as u64 <= due
 }
 
 /// Whether one of the calls is of the party and counts, at a height of at most due.

@@ -7,8 +7,7 @@ ghost use Rattle.swap_digraph.specs.Deal.{leads, IsWellSized};
 ghost use Rattle.ledger_core.specs.Book.{history};
 ghost use Rattle.ledger_core.specs.History.{opened};
 ghost use Rattle.history_index.specs.Indexes.{entries_in, AreIndexes};
-ghost use Rattle.swap_rules.specs.Party.{first_key, least_expiry};
-ghost use Rattle.swap_rules.specs.Conduct.{opens_without};
+ghost use Rattle.swap_rules.specs.Party.{first_key, least_expiry, opens_without};
 ghost use Rattle.late_check.specs.Parts.{claim_from, publish_from, refund_from, unlock_from};
 
 use crate::bases::base_of;

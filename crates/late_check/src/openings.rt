@@ -7,7 +7,8 @@ ghost use Rattle.ledger_core.specs.Book.{history};
 ghost use Rattle.ledger_core.specs.History.{opened};
 ghost use Rattle.history_index.specs.Indexes.{entries_in, AreIndexes};
 ghost use Rattle.history_index.specs.Made.{opening_of};
-ghost use Rattle.swap_rules.specs.Conduct.{first_seen_key, height_of_opening, key_without, trigger_height};
+ghost use Rattle.swap_rules.specs.Party.{first_seen_key, key_without};
+ghost use Rattle.swap_rules.specs.Late.{height_of_opening, trigger_height};
 
 use hashkey_path::Hashkey;
 use history_index::{Index, Opened};

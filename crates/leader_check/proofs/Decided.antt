@@ -3,8 +3,8 @@ use Rattle.std.proofs.Common.{◌≡◌, ◌⊎◌, inl, inr, ℕ, zero, suc, �
 use Rattle.swap_base.specs.Lists.{greatest}
 use Rattle.swap_base.proofs.Lists.{greatest-in, greatest-below, in_range}
 use Rattle.swap_digraph.specs.Value.{Graph}
-use Rattle.swap_digraph.specs.Graph.{has_arc, IsFeedback}
-use Rattle.leader_check.specs.Followers.{parties, is_follower}
+use Rattle.swap_digraph.specs.Graph.{parties, has_arc, IsFeedback}
+use Rattle.leader_check.specs.Followers.{is_follower}
 use Rattle.leader_check.specs.Levels.{level_within, most_before}
 use Rattle.leader_check.specs.Cycles.{walks, cycle_from, follower_cycle}
 use Rattle.leader_check.proofs.Followers.{follower_parts}

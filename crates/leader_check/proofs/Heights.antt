@@ -5,8 +5,8 @@ use Rattle.swap_base.specs.Lists.{IsIn, greatest}
 use Rattle.swap_base.proofs.Lists.{and_parts, and_both, greatest-in, greatest-below, in_range}
 use Rattle.swap_digraph.specs.declared.arc_ends.ArcEnds.{ArcEnds}
 use Rattle.swap_digraph.specs.Value.{Graph}
-use Rattle.swap_digraph.specs.Graph.{is_path, has_arc, is_among, last_is, are_followers, IsFeedback, IsHeight}
-use Rattle.leader_check.specs.Followers.{parties, is_follower}
+use Rattle.swap_digraph.specs.Graph.{parties, is_path, has_arc, is_among, last_is, are_followers, IsFeedback, IsHeight}
+use Rattle.leader_check.specs.Followers.{is_follower}
 use Rattle.leader_check.specs.Levels.{most_before, level_after, level_within, level_of, height_of, IsLevel}
 use Rattle.leader_check.specs.Laws.{GreatestLevelIsHeight}
 use Rattle.leader_check.proofs.Followers.{follower_parts, follower_from, arc_of, arc_from, greatest-reached, greatest-more}

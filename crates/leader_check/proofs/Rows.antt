@@ -8,7 +8,8 @@ use Rattle.std.proofs.lemmas.Nat.Bits.{bit_at-zero}
 use Rattle.std.proofs.lemmas.List.FromFn.{get_or-map-range_with_len, length-map-range_with_len}
 use Rattle.swap_base.specs.Lists.{or_else, first_of, greatest}
 use Rattle.swap_digraph.specs.Value.{Graph}
-use Rattle.leader_check.specs.Followers.{parties, is_follower, at}
+use Rattle.swap_digraph.specs.Graph.{parties}
+use Rattle.leader_check.specs.Followers.{is_follower, at}
 use Rattle.leader_check.specs.Levels.{most_before, level_after, level_within, levels_within, level_of, height_of}
 use Rattle.leader_check.specs.Cycles.{only_if, leads_into, first_step, walks, walk_of, cycle_of, cycle_from, has_bit, has_bit_in, cycle_by, TellsWalks, TellAllWalks}
 use Rattle.leader_check.proofs.Followers.{follower_parts}

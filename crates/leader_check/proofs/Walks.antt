@@ -4,8 +4,8 @@ use Rattle.std.specs.List.{list_any, range_with_len}
 use Rattle.swap_base.specs.Lists.{or_else, first_of, IsIn}
 use Rattle.swap_base.proofs.Lists.{and_parts, and_both, any_at, list_any-in, in_from_moment, in_range, in_range_from, first_at, first_of-in}
 use Rattle.swap_digraph.specs.Value.{Graph}
-use Rattle.swap_digraph.specs.Graph.{is_path, has_arc, is_among, first_is, last_is, are_followers, IsPathBetween, IsFeedback}
-use Rattle.leader_check.specs.Followers.{parties, is_follower}
+use Rattle.swap_digraph.specs.Graph.{parties, is_path, has_arc, is_among, first_is, last_is, are_followers, IsPathBetween, IsFeedback}
+use Rattle.leader_check.specs.Followers.{is_follower}
 use Rattle.leader_check.specs.Cycles.{only_if, leads_into, first_step, walks, walk_of, cycle_of, cycle_from, follower_cycle, IsFollowerCycle}
 use Rattle.leader_check.specs.Laws.{NoCycleIsFeedback}
 use Rattle.leader_check.proofs.Followers.{follower_parts, follower_from, arc_of, arc_from}

@@ -4,8 +4,8 @@ use Rattle.std.specs.Int.{bit_at}
 use Rattle.std.specs.List.{list_any, range_with_len}
 use Rattle.swap_base.specs.Lists.{first_of, IsIn}
 use Rattle.swap_digraph.specs.Value.{Graph}
-use Rattle.swap_digraph.specs.Graph.{has_arc, are_followers, IsPathBetween}
-use Rattle.leader_check.specs.Followers.{parties, is_follower}
+use Rattle.swap_digraph.specs.Graph.{parties, has_arc, are_followers, IsPathBetween}
+use Rattle.leader_check.specs.Followers.{is_follower}
 
 -- x, where the test holds
 abbrev pub only_if : {A : Type 0} → Bool → A → Option A

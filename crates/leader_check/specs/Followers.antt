@@ -1,12 +1,7 @@
 -- The followers of a digraph, which are the parties that don't lead.
 use Rattle.std.specs.Prelude.{ℕ, Bool, false, not, ◌&&◌, nat_lt, List, slice_index_or}
-use Rattle.std.specs.List.{range_with_len}
 use Rattle.swap_digraph.specs.Value.{Graph}
 use Rattle.swap_digraph.specs.Graph.{is_among}
-
--- the parties, by number
-abbrev pub parties : Graph → List ℕ
-parties g = range_with_len 0 g.n
 
 abbrev pub is_follower : Graph → List ℕ → ℕ → Bool
 is_follower g leaders v = nat_lt v g.n && not (is_among v leaders)

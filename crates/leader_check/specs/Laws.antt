@@ -14,6 +14,10 @@ NoCycleIsFeedback = (g : Graph) (leaders : List ℕ) → (follower_cycle g leade
 abbrev pub GreatestLevelIsHeight : Type 0
 GreatestLevelIsHeight = (g : Graph) (leaders : List ℕ) → IsFeedback g leaders → IsHeight g leaders (height_of g leaders)
 
--- a path that ends in a leader has at most so many arcs
+-- every path that ends in a leader has at most so many arcs
+abbrev pub EndWithin : Graph → List ℕ → ℕ → Type 0
+EndWithin g leaders most = (p : List ℕ) (leader : ℕ) → IsTrue (is_path g p) → IsTrue (last_is leader p) → IsTrue (is_among leader leaders) → arcs_of p ≤ most
+
+-- where h is the most vertices on a path of followers alone, a path that ends in a leader has at most need arcs
 abbrev pub PathsToLeadersAreBounded : Type 0
-PathsToLeadersAreBounded = (g : Graph) (leaders : List ℕ) (h : ℕ) → IsHeight g leaders h → (p : List ℕ) (leader : ℕ) → IsTrue (is_path g p) → IsTrue (last_is leader p) → IsTrue (is_among leader leaders) → arcs_of p ≤ need g.n (length leaders) h
+PathsToLeadersAreBounded = (g : Graph) (leaders : List ℕ) (h : ℕ) → IsHeight g leaders h → EndWithin g leaders (need g.n (length leaders) h)

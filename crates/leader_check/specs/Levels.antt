@@ -2,8 +2,8 @@
 use Rattle.std.specs.Prelude.{◌≡◌, ◌⊎◌, ℕ, zero, suc, ◌+◌, ◌≤◌, ◌==◌, if◌then◌else◌, IsTrue, List, length, map}
 use Rattle.swap_base.specs.Lists.{greatest}
 use Rattle.swap_digraph.specs.Value.{Graph}
-use Rattle.swap_digraph.specs.Graph.{is_path, last_is, are_followers}
-use Rattle.leader_check.specs.Followers.{parties, is_follower}
+use Rattle.swap_digraph.specs.Graph.{parties, is_path, last_is, are_followers}
+use Rattle.leader_check.specs.Followers.{is_follower}
 
 -- the greatest value of f at a vertex with an arc to v, 0 where there is none
 unfoldable pub most_before : Graph → (ℕ → ℕ) → ℕ → ℕ

@@ -1,5 +1,5 @@
 pub mod Followers
 pub mod Levels
 pub mod Cycles
-pub mod Answer
+pub mod Shown
 pub mod Laws

@@ -1,13 +1,14 @@
 //! The check of leaders.
 
 ghost use Rattle.std.specs.Prelude.{◌≡◌, ◌≤◌, ◌<◌, ℕ, length, map, slice_index, IfOk};
-ghost use Rattle.swap_digraph.specs.Graph.{HasEnds, IsFeedback, IsHeight};
-ghost use Rattle.leader_check.specs.Followers.{parties};
+ghost use Rattle.swap_digraph.specs.Graph.{parties, HasEnds, IsFeedback, IsHeight};
 ghost use Rattle.leader_check.specs.Levels.{level_of, height_of, IsLevel};
 ghost use Rattle.leader_check.specs.Cycles.{follower_cycle, IsFollowerCycle};
-ghost use Rattle.leader_check.specs.Answer.{cycle_shown, IfLevels, IfCycle};
+ghost use Rattle.leader_check.specs.Laws.{EndWithin};
+ghost use Rattle.time_bounds.specs.Times.{need};
+ghost use Rattle.leader_check.specs.Shown.{cycle_shown, IfLevels, IfCycle};
 
-use crate::answer::LeaderAnswer;
+use crate::leader_answer::LeaderAnswer;
 use crate::cycle::follower_cycle;
 use crate::rounds::{level_row, rise_on, with_greatest};
 use std::alloc::Global;
@@ -33,7 +34,8 @@ fn cycle_if_any(
     }
 }
 
-/// The levels of the parties where the leaders are a feedback vertex set, and else a cycle of followers: a shortest one through the least follower that lies on any.
+/// The levels of the parties where the leaders are a feedback vertex set, and else a cycle of followers: a shortest one through the least follower
+/// that lies on any.
 pub fn levels(alloc: Global, graph: &Digraph, leaders: &[PartyId]) -> Result<LeaderAnswer, NoMemory>
     requires parties { graph.now.n ≤ 32 }
     requires ends { HasEnds graph.now }
@@ -48,6 +50,7 @@ pub fn levels(alloc: Global, graph: &Digraph, leaders: &[PartyId]) -> Result<Lea
         → IsLevel graph.now leaders.now v (slice_index l.level v))) }
     ensures greatest { IfOk result (λ a. IfLevels a (λ l. l.h ≡ height_of graph.now leaders.now)) }
     ensures height { IfOk result (λ a. IfLevels a (λ l. IsHeight graph.now leaders.now l.h)) }
+    ensures paths { IfOk result (λ a. IfLevels a (λ l. EndWithin graph.now leaders.now (need graph.now.n (length leaders.now) l.h))) }
 {
     let row = level_row(alloc, graph, leaders)?;
     match cycle_if_any(alloc, graph, leaders, &row)? {

@@ -4,8 +4,8 @@ ghost use Rattle.std.specs.Prelude.{◌≡◌, ◌==◌, ◌≤◌, ◌<◌, ◌
 ghost use Rattle.std.specs.Int.{bit_at};
 ghost use Rattle.std.specs.List.{range_with_len};
 ghost use Rattle.swap_base.specs.Lists.{first_of};
-ghost use Rattle.swap_digraph.specs.Graph.{has_arc, HasEnds};
-ghost use Rattle.leader_check.specs.Followers.{parties, is_follower, at};
+ghost use Rattle.swap_digraph.specs.Graph.{parties, has_arc, HasEnds};
+ghost use Rattle.leader_check.specs.Followers.{is_follower, at};
 ghost use Rattle.leader_check.specs.Cycles.{has_bit, has_bit_in, leads_into, first_step, walk_of, cycle_by, follower_cycle, TellsWalks, TellAllWalks};
 
 use crate::rounds::followers;

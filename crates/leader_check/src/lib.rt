@@ -3,15 +3,15 @@
 //! Read `specs/Levels.antt` and `specs/Cycles.antt` first: the level of a party, and which cycle is shown.
 #![tactic(auto)]
 
-mod answer;
 mod check;
 mod cycle;
 mod laws;
+mod leader_answer;
 mod rounds;
 
-pub use answer::{LeaderAnswer, Levels};
 pub use check::levels;
 pub use laws::{greatest_level_is_height, no_cycle_is_feedback, paths_to_leaders_are_bounded};
+pub use leader_answer::{LeaderAnswer, Levels};
 
 #[cfg(test)]
 mod tests;

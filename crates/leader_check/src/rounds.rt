@@ -2,12 +2,12 @@
 
 ghost use Rattle.std.specs.Prelude.{◌≡◌, ◌≤◌, ◌<◌, ◌+◌, ℕ, not, length, is_some, map, slice_index, IfOk, if◌then◌else◌};
 ghost use Rattle.swap_base.specs.Lists.{greatest};
-ghost use Rattle.swap_digraph.specs.Graph.{is_among, HasEnds};
-ghost use Rattle.leader_check.specs.Followers.{parties, is_follower, at};
+ghost use Rattle.swap_digraph.specs.Graph.{parties, is_among, HasEnds};
+ghost use Rattle.leader_check.specs.Followers.{is_follower, at};
 ghost use Rattle.leader_check.specs.Levels.{most_before, level_of};
 ghost use Rattle.leader_check.specs.Cycles.{follower_cycle};
 
-use crate::answer::Levels;
+use crate::leader_answer::Levels;
 use std::alloc::Global;
 use swap_base::{Listed, NoMemory, PartyId};
 use swap_digraph::Digraph;

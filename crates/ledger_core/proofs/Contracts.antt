@@ -20,7 +20,7 @@ use Rattle.ledger_core.specs.declared.entry.Entry.{Entry}
 use Rattle.ledger_core.specs.declared.facts.Settlement.{Settlement}
 use Rattle.ledger_core.specs.declared.facts.Settlement.TheVariants.{Claimed, Refunded}
 use Rattle.ledger_core.specs.History.{height, accepted, Publication, publication, published, Opening, opening, opened, settling, settled, is_open, terms_in, is_full, rows, reply_to, fit, balance, IsLegal}
-use Rattle.ledger_core.specs.Ledger.{contract_with, contract_of, contract_after, IsContractIn, by_contract, answer_of}
+use Rattle.ledger_core.specs.Ledger.{contract_with, contract_of, contract_after, IsContractIn, by_contract, reply_by}
 use Rattle.ledger_core.proofs.History.{published_done, opened_done, of_publish, of_unlock, of_claim, of_refund, clear_at, published-past, lock-below}
 use Rattle.ledger_core.proofs.Units.{settled-published}
 
@@ -209,7 +209,7 @@ module _ (d : Deal) (a : ℕ) where
   by_settled_rows h None l rs = refl
   by_settled_rows h (Some p) l rs = ap (λ f. first_row (rs p.terms f (is_some (settled h)))) (open_in h l p)
 
-  pub answer_is : (h : List Entry) (p : ℕ) (c : Call) → IsLegal d a h → is_full h p ≡ false → answer_of d a (contract_of d a h) (height h) (balance d a h p) p c ≡ reply_to d a h p c
+  pub answer_is : (h : List Entry) (p : ℕ) (c : Call) → IsLegal d a h → is_full h p ≡ false → reply_by d a (contract_of d a h) (height h) (balance d a h p) p c ≡ reply_to d a h p c
   unfolding rows
   answer_is h p (Publish t) l f = rw (f, is_some-map (contract_with d a h) (published h)) refl
   answer_is h p (Unlock key) l f = by_settled_rows h (published h) l (λ t g s. unlock_rows d a t g s (height h) p key) ∙ rw f refl

@@ -1,7 +1,7 @@
 -- Signatures of a call that are known to be valid.
 use Rattle.std.proofs.Common.{◌≡◌, ℕ, zero, suc, true, refl}
 use Rattle.swap_digraph.specs.declared.deal.Deal.{Deal}
-use Rattle.hashkey_path.specs.Signed.{hashlock_of}
+use Rattle.swap_digraph.specs.Deal.{hashlock_of}
 use Rattle.hashkey_path.proofs.Known.{valid_is_known}
 use Rattle.ledger_core.specs.declared.entry.Call.{Call}
 use Rattle.ledger_core.specs.declared.entry.Call.TheVariants.{Publish, Unlock, Claim, Refund, Transfer}

@@ -17,7 +17,7 @@ use Rattle.ledger_core.specs.declared.entry.Call.TheVariants.{Publish, Unlock, C
 use Rattle.ledger_core.specs.declared.entry.What.TheVariants.{Call as Made}
 use Rattle.ledger_core.specs.declared.entry.Entry.{Entry}
 use Rattle.ledger_core.specs.History.{height, accepted_in, accepted, publication, published, opening, opened, settling, settled, accounts, balance, held, moved_by, terms_in, rows, reply_to, is_full, IsLegal, IsLegalMoment, IsLegalCall, IsLegalTick}
-use Rattle.ledger_core.specs.Ledger.{call_entry, tick_entry, AreKept, AddUp, contract_of, contract_after, answer_of, CanMove}
+use Rattle.ledger_core.specs.Ledger.{call_entry, tick_entry, AreKept, AddUp, contract_of, contract_after, reply_by, CanMove}
 use Rattle.ledger_core.specs.Inside.{AreScans}
 use Rattle.ledger_core.proofs.History.{accepted_clear, of_publish, of_transfer, not-true}
 use Rattle.ledger_core.proofs.Units.{units, accounts-push}
@@ -139,9 +139,9 @@ kept_call d a h p at c r n = kept_entry d a h (call_entry p at c r) (not_accepte
 
 -- the reply by what is kept is that of the table
 pub reply_is : (d : Deal) (a : ℕ) (h : List Entry) (at : ℕ) (b : Accounts) (o : Option ContractState) (pc cc ticks have p : ℕ) (c : Call) (r : Reply)
-    → AreScans d a h at b o pc cc ticks → is_full h p ≡ false → have ≡ balance d a h p → r ≡ answer_of d a o at have p c → r ≡ reply_to d a h p c
+    → AreScans d a h at b o pc cc ticks → is_full h p ≡ false → have ≡ balance d a h p → r ≡ reply_by d a o at have p c → r ≡ reply_to d a h p c
 reply_is d a h at b o pc cc ticks have p c r k f eh e =
-    e ∙ (ap (λ x. answer_of d a x at have p c) k.contract ∙ (ap (λ x. answer_of d a (contract_of d a h) x have p c) k.height ∙ (ap (λ x. answer_of d a (contract_of d a h) (height h) x p c) eh ∙ answer_is d a h p c k.legal f)))
+    e ∙ (ap (λ x. reply_by d a x at have p c) k.contract ∙ (ap (λ x. reply_by d a (contract_of d a h) x have p c) k.height ∙ (ap (λ x. reply_by d a (contract_of d a h) (height h) x p c) eh ∙ answer_is d a h p c k.legal f)))
 
 -- One more call.
 pub call_scans : (d : Deal) (a : ℕ) (h : List Entry) (at : ℕ) (b b' : Accounts) (o o' : Option ContractState) (pc pc' cc cc' ticks p : ℕ) (c : Call) (r : Reply)

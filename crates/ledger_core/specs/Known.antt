@@ -3,7 +3,7 @@ use Rattle.std.specs.Prelude.{ℕ, zero, suc, Bool, true}
 use Rattle.swap_digraph.specs.declared.deal.Deal.{Deal}
 use Rattle.hashkey_path.specs.Hashkey.{is_valid}
 use Rattle.hashkey_path.specs.Known.{is_last_signed}
-use Rattle.hashkey_path.specs.Signed.{hashlock_of}
+use Rattle.swap_digraph.specs.Deal.{hashlock_of}
 use Rattle.ledger_core.specs.declared.entry.Call.{Call}
 use Rattle.ledger_core.specs.declared.entry.Call.TheVariants.{Unlock}
 

@@ -73,12 +73,12 @@ by_contract None rows = NoContract
 by_contract (Some c) rows = first_row (rows c)
 
 -- the reply to a call of p whose entries aren't too many, by the contract, the height and the balance of p
-abbrev pub answer_of : Deal → ℕ → Option ContractState → (height have p : ℕ) → Call → Reply
-answer_of d a o t have p (Publish terms) = first_row ((not (p == party d a), NotParty) ∷ (is_some o, AlreadyPublished) ∷ (nat_lt have terms.amount, NoFunds have) ∷ [])
-answer_of d a o t have p (Unlock key) = by_contract o (λ c. unlock_rows d a c.terms (is_open_in c) c.settled t p key)
-answer_of d a o t have p Claim = by_contract o (λ c. claim_rows d a (is_open_in c) c.settled p)
-answer_of d a o t have p Refund = by_contract o (λ c. refund_rows d a c.terms (is_open_in c) c.settled t p)
-answer_of d a o t have p (Transfer to units) = first_row ((nat_lt have units, NoFunds have) ∷ [])
+abbrev pub reply_by : Deal → ℕ → Option ContractState → (height have p : ℕ) → Call → Reply
+reply_by d a o t have p (Publish terms) = first_row ((not (p == party d a), NotParty) ∷ (is_some o, AlreadyPublished) ∷ (nat_lt have terms.amount, NoFunds have) ∷ [])
+reply_by d a o t have p (Unlock key) = by_contract o (λ c. unlock_rows d a c.terms (is_open_in c) c.settled t p key)
+reply_by d a o t have p Claim = by_contract o (λ c. claim_rows d a (is_open_in c) c.settled p)
+reply_by d a o t have p Refund = by_contract o (λ c. refund_rows d a c.terms (is_open_in c) c.settled t p)
+reply_by d a o t have p (Transfer to units) = first_row ((nat_lt have units, NoFunds have) ∷ [])
 
 -- The sender of an accepted call has what it moves.
 abbrev pub CanMove : Accounts → Bool → Option Call → Type 0

@@ -7,7 +7,7 @@ ghost use Rattle.ledger_core.specs.Ledger.{CanMove};
 ghost use Rattle.ledger_core.specs.Runs.{expand};
 
 use crate::accounts::Accounts;
-use crate::answer::accounts_after;
+use crate::reply_of::accounts_after;
 use crate::entry::{Entry, Sender, What};
 use crate::entry_list::EntryList;
 use crate::runs::Item;

@@ -7,7 +7,7 @@ ghost use Rattle.ledger_core.specs.Known.{is_known_in};
 ghost use Rattle.ledger_core.specs.Ledger.{call_entry, tick_entry, IsAfter, AreKept, AddUp};
 
 use crate::accounts::Accounts;
-use crate::answer::{accounts_after, answer, one_more_where};
+use crate::reply_of::{accounts_after, one_more_where, reply_of};
 use crate::entry::{Call, Entry, Sender, What};
 use crate::entry_list::EntryList;
 use crate::ledger_history::LedgerHistory;
@@ -117,7 +117,7 @@ impl Ledger {
         }
         let balance = self.balance(sender);
         let from_party = sender == self.party;
-        let reply = answer(
+        let reply = reply_of(
             &self.deal,
             self.arc,
             &mut self.contract,

@@ -6,7 +6,6 @@
 #![tactic(auto)]
 
 mod accounts;
-mod answer;
 mod balances;
 mod entry;
 mod entry_list;
@@ -14,6 +13,7 @@ mod facts;
 mod fitting;
 mod ledger;
 mod ledger_history;
+mod reply_of;
 mod runs;
 mod scan;
 mod spread;

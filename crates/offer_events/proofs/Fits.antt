@@ -13,7 +13,7 @@ use Rattle.deviator_script.specs.declared.moves.Move.{Move}
 use Rattle.deviator_script.specs.declared.moves.Move.TheVariants.{Publish, Raw, Claim, Refund, Transfer}
 use Rattle.deviator_script.specs.declared.event.Event.{Event}
 use Rattle.deviator_script.specs.declared.event.Event.TheVariants.{Tick, Look, Act, Call}
-use Rattle.deviator_script.specs.Resolved.{arc_of as stands_on, is_built, fits_if, call_of as call_of_move, IsFitting}
+use Rattle.deviator_script.specs.Resolved.{arc_of as stands_on, is_built, fits_if, call_of, IsFitting}
 use Rattle.deviator_script.specs.Step.{CanStep}
 use Rattle.offer_fields.specs.declared.reason.Reason.TheVariants.{NotAdjacent}
 use Rattle.offer_fields.specs.Limits.{within, digest_of}
@@ -27,14 +27,14 @@ use Rattle.offer_events.specs.Lists.{each_of}
 use Rattle.offer_events.specs.Names.{number_of}
 use Rattle.offer_events.specs.Limits.{below, ranged, optional_most, locks_of, optional_locks, sig_of}
 use Rattle.offer_events.specs.Moves.{arc_of, publish_of, key_of, unlock_of, claim_of, refund_of, transfer_of, move_of}
-use Rattle.offer_events.specs.Event.{tick_of, look_of, act_of, deviating, adjacent, received, placed, call_of, checked}
+use Rattle.offer_events.specs.Event.{event_of_tick, event_of_look, event_of_act, deviating, adjacent, received, placed, event_of_call, checked}
 use Rattle.offer_events.proofs.Parts.{parts, passed, within_fits, below_fits, ranged_fits, number_below, each_length, each_below}
 
 -- what a move keeps to before it is known where it stands
 record IsMade (d : Deal) (line : ℕ) (mv : Move) : Type 0 where
   built : IsTrue (is_built mv)
   arc : stands_on mv < length d.graph.arcs
-  fits : (u : Unit {0}) → received d line mv ≡ Ok u → IsTrue (fits_if d (stands_on mv) (call_of_move d mv))
+  fits : (u : Unit {0}) → received d line mv ≡ Ok u → IsTrue (fits_if d (stands_on mv) (call_of d mv))
 
 pub arc_fits : (d : Deal) (line : ℕ) (field : List ℕ) (n a : ℕ) → arc_of d line field n ≡ Ok a → a < length d.graph.arcs
 unfolding arc_of
@@ -196,8 +196,8 @@ unfolding deviating
 deviates_of line false u e = refl
 deviates_of line true u e = absurd (cc e)
 
-call_fits : (job : Job) (line : ℕ) (name : List ℕ) (raw : RawMove) (event : Event) → IsWellSized job.deal → length job.names ≡ job.deal.graph.n → call_of job line name raw ≡ Ok event → CanStep job.deal job.conforming event
-unfolding call_of
+call_fits : (job : Job) (line : ℕ) (name : List ℕ) (raw : RawMove) (event : Event) → IsWellSized job.deal → length job.names ≡ job.deal.graph.n → event_of_call job line name raw ≡ Ok event → CanStep job.deal job.conforming event
+unfolding event_of_call
 call_fits job line name raw event w same e =
     let p = parts (number_of line job.names name) _ event e in
     let q = parts (move_of job.deal job.names line raw) _ event p.rest in
@@ -209,8 +209,8 @@ call_fits job line name raw event w same e =
     let k = deviates_of line (slice_index_or job.conforming p.part false) r.part r.first in
     subst (λ x. CanStep job.deal job.conforming x) s (record { known = omega (arith, known, same); deviates = k; fits = placed_fits job.deal line p.part q.part b.part made b.first })
 
-look_fits : (job : Job) (line : ℕ) (name : List ℕ) (n : ℕ) (event : Event) → IsWellSized job.deal → length job.names ≡ job.deal.graph.n → look_of job line name n ≡ Ok event → CanStep job.deal job.conforming event
-unfolding look_of
+look_fits : (job : Job) (line : ℕ) (name : List ℕ) (n : ℕ) (event : Event) → IsWellSized job.deal → length job.names ≡ job.deal.graph.n → event_of_look job line name n ≡ Ok event → CanStep job.deal job.conforming event
+unfolding event_of_look
 look_fits job line name n event w same e =
     let p = parts (number_of line job.names name) _ event e in
     let q = parts (arc_of job.deal line (codes "arc") n) _ event p.rest in
@@ -219,16 +219,16 @@ look_fits job line name n event w same e =
     let known : p.part < length job.names = number_below line job.names name p.part p.first in
     subst (λ x. CanStep job.deal job.conforming x) s (record { known = omega (arith, known, same); arc = arc_fits job.deal line (codes "arc") n q.part q.first; adjacent = adjacent_fits job.deal line p.part q.part r.part r.first })
 
-act_fits : (job : Job) (line : ℕ) (name : List ℕ) (event : Event) → length job.names ≡ job.deal.graph.n → act_of job line name ≡ Ok event → CanStep job.deal job.conforming event
-unfolding act_of
+act_fits : (job : Job) (line : ℕ) (name : List ℕ) (event : Event) → length job.names ≡ job.deal.graph.n → event_of_act job line name ≡ Ok event → CanStep job.deal job.conforming event
+unfolding event_of_act
 act_fits job line name event same e =
     let p = parts (number_of line job.names name) _ event e in
     let s : Act p.part ≡ event = cc (p.rest) in
     let known : p.part < length job.names = number_below line job.names name p.part p.first in
     subst (λ x. CanStep job.deal job.conforming x) s (omega (arith, known, same))
 
-tick_fits : (d : Deal) (c : List Bool) (line n : ℕ) (by : Option ℕ) (event : Event) → tick_of d line n by ≡ Ok event → CanStep d c event
-unfolding tick_of
+tick_fits : (d : Deal) (c : List Bool) (line n : ℕ) (by : Option ℕ) (event : Event) → event_of_tick d line n by ≡ Ok event → CanStep d c event
+unfolding event_of_tick
 tick_fits d c line n by event e =
     let p = parts (arc_of d line (codes "tick") n) _ event e in
     let q = parts (ranged line (codes "by") 1 1000000 (unwrap_or by 1)) _ event p.rest in

@@ -23,8 +23,8 @@ use Rattle.offer_events.specs.Limits.{ranged}
 use Rattle.offer_events.specs.Moves.{arc_of, move_of}
 
 -- a tick is by 1 height where it doesn't say
-unfoldable pub tick_of : Deal → ℕ → ℕ → Option ℕ → Result Event Reason
-tick_of d line n by = do
+unfoldable pub event_of_tick : Deal → ℕ → ℕ → Option ℕ → Result Event Reason
+event_of_tick d line n by = do
   arc ← arc_of d line (codes "tick") n
   heights ← ranged line (codes "by") 1 1000000 (unwrap_or by 1)
   Ok (Tick arc heights)
@@ -38,16 +38,16 @@ unfoldable pub adjacent : Deal → ℕ → ℕ → ℕ → Result (Unit {0}) Rea
 adjacent d line p a = if (p == party d a) || (p == counterparty d a) then Ok tt else Err (NotAdjacent line)
 
 -- a party looks at a ledger of its own arcs
-unfoldable pub look_of : Job → ℕ → List ℕ → ℕ → Result Event Reason
-look_of job line name n = do
+unfoldable pub event_of_look : Job → ℕ → List ℕ → ℕ → Result Event Reason
+event_of_look job line name n = do
   p ← number_of line job.names name
   arc ← arc_of job.deal line (codes "arc") n
   u ← adjacent job.deal line p arc
   Ok (Look p arc)
 
 -- a party acts as its role says
-unfoldable pub act_of : Job → ℕ → List ℕ → Result Event Reason
-act_of job line name = do
+unfoldable pub event_of_act : Job → ℕ → List ℕ → Result Event Reason
+event_of_act job line name = do
   p ← number_of line job.names name
   Ok (Act p)
 
@@ -61,8 +61,8 @@ placed d line p mv = do
   u ← adjacent d line p (stands_on mv)
   received d line mv
 
-unfoldable pub call_of : Job → ℕ → List ℕ → RawMove → Result Event Reason
-call_of job line name raw = do
+unfoldable pub event_of_call : Job → ℕ → List ℕ → RawMove → Result Event Reason
+event_of_call job line name raw = do
   p ← number_of line job.names name
   mv ← move_of job.deal job.names line raw
   u ← deviating line (slice_index_or job.conforming p false)
@@ -70,10 +70,10 @@ call_of job line name raw = do
   Ok (Call p mv)
 
 abbrev pub checked : Job → ℕ → RawEvent → Result Event Reason
-checked job line (raws.Tick n by) = tick_of job.deal line n by
-checked job line (raws.Look name n) = look_of job line name n
-checked job line (raws.Act name) = act_of job line name
-checked job line (raws.Call name raw) = call_of job line name raw
+checked job line (raws.Tick n by) = event_of_tick job.deal line n by
+checked job line (raws.Look name n) = event_of_look job line name n
+checked job line (raws.Act name) = event_of_act job line name
+checked job line (raws.Call name raw) = event_of_call job line name raw
 
 -- a race has no events of its own
 abbrev pub outside_race : ℕ → Purpose → Result (Unit {0}) Reason

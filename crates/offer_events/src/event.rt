@@ -5,7 +5,7 @@ ghost use Rattle.swap_base.specs.Fault.{Gives};
 ghost use Rattle.swap_digraph.specs.Deal.{IsWellSized, party, counterparty};
 ghost use Rattle.deviator_script.specs.Resolved.{arc_of as stands_on};
 ghost use Rattle.deviator_script.specs.Step.{CanStep};
-ghost use Rattle.offer_events.specs.Event.{tick_of, deviating, adjacent, look_of, act_of, received, placed, call_of, checked, outside_race, event_of};
+ghost use Rattle.offer_events.specs.Event.{event_of_tick, deviating, adjacent, event_of_look, event_of_act, received, placed, event_of_call, checked, outside_race, event_of};
 ghost use Rattle.offer_events.specs.Plain.{raw_of, asked};
 
 use crate::limits::ranged;
@@ -20,8 +20,8 @@ use std::alloc::Global;
 use swap_base::{ArcId, ByteText, Fault, PartyId};
 use swap_digraph::Deal;
 
-#[tactic(auto, unfolding(crate::specs::Event::tick_of))]
-fn tick_of(
+#[tactic(auto, unfolding(crate::specs::Event::event_of_tick))]
+fn event_of_tick(
     alloc: Global,
     deal: &Deal,
     line: u32,
@@ -29,7 +29,7 @@ fn tick_of(
     by: Option<u64>,
 ) -> Result<Event, OfferFault>
     requires sized { IsWellSized deal.now }
-    ensures { Gives (λ e. e) result (tick_of deal.now line number by) }
+    ensures { Gives (λ e. e) result (event_of_tick deal.now line number by) }
 {
     let arc = arc_of(alloc, deal, line, "tick", number)?;
     let heights = ranged(alloc, line, "by", 1, by.unwrap_or(1))?;
@@ -59,8 +59,8 @@ fn adjacent(deal: &Deal, line: u32, p: PartyId, arc: ArcId) -> Result<(), OfferF
     Err(Fault::Refused(Reason::NotAdjacent(line)))
 }
 
-#[tactic(auto, unfolding(crate::specs::Event::look_of))]
-fn look_of(
+#[tactic(auto, unfolding(crate::specs::Event::event_of_look))]
+fn event_of_look(
     alloc: Global,
     job: &Job,
     line: u32,
@@ -69,7 +69,7 @@ fn look_of(
 ) -> Result<Event, OfferFault>
     requires sized { IsWellSized job.now.deal }
     requires names { length job.now.names ≡ job.now.deal.graph.n }
-    ensures { Gives (λ e. e) result (look_of job.now line name.now number) }
+    ensures { Gives (λ e. e) result (event_of_look job.now line name.now number) }
 {
     let p = number_of(alloc, line, job.names.as_slice(), name)?;
     let arc = arc_of(alloc, &job.deal, line, "arc", number)?;
@@ -77,11 +77,11 @@ fn look_of(
     Ok(Event::Look(p, arc))
 }
 
-#[tactic(auto, unfolding(crate::specs::Event::act_of))]
-fn act_of(alloc: Global, job: &Job, line: u32, name: &[u8]) -> Result<Event, OfferFault>
+#[tactic(auto, unfolding(crate::specs::Event::event_of_act))]
+fn event_of_act(alloc: Global, job: &Job, line: u32, name: &[u8]) -> Result<Event, OfferFault>
     requires sized { IsWellSized job.now.deal }
     requires names { length job.now.names ≡ job.now.deal.graph.n }
-    ensures { Gives (λ e. e) result (act_of job.now line name.now) }
+    ensures { Gives (λ e. e) result (event_of_act job.now line name.now) }
 {
     let p = number_of(alloc, line, job.names.as_slice(), name)?;
     Ok(Event::Act(p))
@@ -106,8 +106,8 @@ fn placed(deal: &Deal, line: u32, p: PartyId, mv: &Move) -> Result<(), OfferFaul
     received(deal, line, mv)
 }
 
-#[tactic(auto, unfolding(crate::specs::Event::call_of))]
-fn call_of(
+#[tactic(auto, unfolding(crate::specs::Event::event_of_call))]
+fn event_of_call(
     alloc: Global,
     job: &Job,
     line: u32,
@@ -117,7 +117,7 @@ fn call_of(
     requires sized { IsWellSized job.now.deal }
     requires names { length job.now.names ≡ job.now.deal.graph.n }
     requires conforming { length job.now.conforming ≡ job.now.deal.graph.n }
-    ensures { Gives (λ e. e) result (call_of job.now line name.now raw.now) }
+    ensures { Gives (λ e. e) result (event_of_call job.now line name.now raw.now) }
 {
     let names = job.names.as_slice();
     let p = number_of(alloc, line, names, name.as_slice())?;
@@ -134,10 +134,10 @@ fn checked(alloc: Global, job: &Job, line: u32, raw: &RawEvent) -> Result<Event,
     ensures { Gives (λ e. e) result (checked job.now line raw.now) }
 {
     match raw {
-        RawEvent::Tick { arc, by } => tick_of(alloc, &job.deal, line, *arc, *by),
-        RawEvent::Look { name, arc } => look_of(alloc, job, line, name.as_slice(), *arc),
-        RawEvent::Act { name } => act_of(alloc, job, line, name.as_slice()),
-        RawEvent::Call { name, mv } => call_of(alloc, job, line, name, mv),
+        RawEvent::Tick { arc, by } => event_of_tick(alloc, &job.deal, line, *arc, *by),
+        RawEvent::Look { name, arc } => event_of_look(alloc, job, line, name.as_slice(), *arc),
+        RawEvent::Act { name } => event_of_act(alloc, job, line, name.as_slice()),
+        RawEvent::Call { name, mv } => event_of_call(alloc, job, line, name, mv),
     }
 }
 
@@ -152,9 +152,9 @@ fn checked_plain(
     ensures { Gives (λ e. e) result (checked job.now line (raw_of event.entry)) }
 {
     match event {
-        PlainEvent::Tick { arc, by } => tick_of(alloc, &job.deal, line, arc, by),
-        PlainEvent::Look { name, arc } => look_of(alloc, job, line, name, arc),
-        PlainEvent::Act { name } => act_of(alloc, job, line, name),
+        PlainEvent::Tick { arc, by } => event_of_tick(alloc, &job.deal, line, arc, by),
+        PlainEvent::Look { name, arc } => event_of_look(alloc, job, line, name, arc),
+        PlainEvent::Act { name } => event_of_act(alloc, job, line, name),
     }
 }
 

@@ -11,8 +11,8 @@ use Rattle.hashkey_path.specs.declared.hashkey.Hashkey.{Hashkey}
 use Rattle.ledger_core.specs.declared.entry.Call.TheVariants.{Unlock}
 use Rattle.ledger_core.specs.History.{opened, IsLegal}
 use Rattle.ledger_core.specs.Book.{Histories, history}
-use Rattle.swap_rules.specs.Conduct.{key_without, first_seen_key}
-use Rattle.swap_rules.specs.Due.{Wallet, Action, seen_key, extended, due_key, present, may_unlock, due_unlock_on, due_unlocks, first}
+use Rattle.swap_rules.specs.Party.{key_without, first_seen_key}
+use Rattle.swap_rules.specs.Due.{Wallet, Action, seen_key, extended, due_key, presented, may_unlock, due_unlock_on, due_unlocks, first}
 use Rattle.swap_laws.proofs.Prefixes.{from_flat_map}
 use Rattle.swap_laws.proofs.Words.{leaves, key_without_parts}
 use Rattle.swap_laws.proofs.History.{opened_done}
@@ -25,7 +25,7 @@ if_in : (test : Bool) (xs : List Action) (x : Action) → IsIn x (cond test xs [
 if_in true xs x i = i
 if_in false xs x i = absurd i
 
-present_in : (a : ℕ) (o : Option Hashkey) (x : Action) → IsIn x (present a o) → (key : Hashkey) × (o ≡ Some key) × (x.call ≡ Unlock key)
+present_in : (a : ℕ) (o : Option Hashkey) (x : Action) → IsIn x (presented a o) → (key : Hashkey) × (o ≡ Some key) × (x.call ≡ Unlock key)
 present_in a None x i = absurd i
 present_in a (Some key) x (inl e) = (key, refl, ap (λ y. y.call) e)
 present_in a (Some key) x (inr i) = absurd i
@@ -65,7 +65,7 @@ module _ (d : Deal) (v : ℕ) (w : Wallet) (signed : ℕ → Option Hashkey) (k 
   comes x i =
       let a = from_flat_map (λ i. flat_map (due_unlock_on d v w (signed i) k i) (entering d.graph v)) (locks d) x i in
       let b = from_flat_map (due_unlock_on d v w (signed a.0) k a.0) (entering d.graph v) x a.2 in
-      let p = present_in b.0 (due_key d v w (signed a.0) k a.0) x (if_in (may_unlock d v k a.0 b.0) (present b.0 (due_key d v w (signed a.0) k a.0)) x b.2) in
+      let p = present_in b.0 (due_key d v w (signed a.0) k a.0) x (if_in (may_unlock d v k a.0 b.0) (presented b.0 (due_key d v w (signed a.0) k a.0)) x b.2) in
       record { lock = a.0; key = p.0; call = p.2; due = p.1 }
 
   -- what was signed for the lock of the first due unlock is its hashkey

@@ -9,13 +9,13 @@ use Rattle.swap_digraph.specs.Graph.{entering, leaving, has_arc, is_among}
 use Rattle.swap_digraph.specs.declared.deal.Deal.{Deal}
 use Rattle.swap_digraph.specs.declared.deal.Mode.{Mode}
 use Rattle.swap_digraph.specs.declared.deal.Mode.TheVariants.{Timelocks, Hashkeys}
-use Rattle.swap_digraph.specs.Deal.{party, counterparty, leads, locks}
+use Rattle.swap_digraph.specs.Deal.{party, counterparty, leads, locks, hashlock_of}
 use Rattle.hash_signature.specs.Signature.{hash_of, secret_of, public_key_of, is_valid_signature}
 use Rattle.hashkey_path.specs.declared.hashkey.Hashkey.{Hashkey}
 use Rattle.hashkey_path.specs.declared.hashkey.HashkeyAnswer.{HashkeyAnswer}
 use Rattle.hashkey_path.specs.declared.hashkey.HashkeyAnswer.TheVariants.{Valid, WrongSecret, WrongPath}
 use Rattle.hashkey_path.specs.Hashkey.{key_of, message_of, is_valid, is_wrong_secret, is_wrong_path, answer_of, HasPath, IsValidHashkey}
-use Rattle.hashkey_path.specs.Signed.{suffix_signature, first_key, extended_key, hashlock_of, IsLeadersOwn, CanExtend, IsValidInto}
+use Rattle.hashkey_path.specs.Signed.{suffix_signature, leaders_key, extended_key, IsLeadersOwn, CanExtend, IsValidInto}
 use Rattle.hashkey_path.proofs.Validity.{valid_from, to_valid}
 use Rattle.hashkey_path.proofs.Signed.{first_is_valid, extended_is_valid, leads_on}
 use Rattle.hashkey_path.proofs.Answered.{says_valid, valid_answer}
@@ -84,7 +84,7 @@ own_good Timelocks d v seed i m lt fits l =
     (record { lock = refl; valid = λ a w. bare_valid d a i (hashlock_of d i) (secret_of seed) m (opens_of d v seed i fits l) }, tt)
 own_good Hashkeys d v seed i m lt fits l =
     let own : IsLeadersOwn d i (secret_of seed) v seed = record { mode = m; leads = l; opens = opens_of d v seed i fits l; key = key_is d v seed i m fits } in (
-      record { lock = refl; valid = into d v (hashlock_of d i) (first_key d i (secret_of seed) v seed) (first_is_valid d i (secret_of seed) v seed lt own (signature_is d i (secret_of seed) v seed [] [])) },
+      record { lock = refl; valid = into d v (hashlock_of d i) (leaders_key d i (secret_of seed) v seed) (first_is_valid d i (secret_of seed) v seed lt own (signature_is d i (secret_of seed) v seed [] [])) },
       and_both (v == v) true (eq-eqb v v refl) refl,
     )
 
@@ -99,7 +99,7 @@ onto_good Hashkeys d v seed c inner m lt fits w valid apart =
     let arc = subst (λ u. has_arc d.graph u (get_or inner.path 0 0) ≡ true) l.1 (leads_on d c (hashlock_of d inner.lock) inner l.0 m right) in
     let can : CanExtend d inner v seed = record { mode = m; apart = ap not apart; arc = arc; key = key_is d v seed inner.lock m fits } in (
       record { lock = refl; valid = into d v (hashlock_of d inner.lock) (extended_key d inner v seed) (extended_is_valid d inner v seed c (hashlock_of d inner.lock) lt right can (signature_is d inner.lock inner.secret v seed inner.path inner.sigs)) },
-      and_both ((v == v) && not (is_among v inner.path)) _ (and_both (v == v) (not (is_among v inner.path)) (eq-eqb v v refl) (ap not apart)) (same_key-refl inner),
+      and_both (not (is_among v inner.path)) _ (ap not apart) (and_both (v == v) _ (eq-eqb v v refl) (same_key-refl inner)),
     )
 
 pub fitting_is_good : FittingIsGood

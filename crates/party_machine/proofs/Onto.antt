@@ -17,7 +17,7 @@ use Rattle.hashkey_path.proofs.Signed.{leads_on, longer_path}
 use Rattle.escrow_core.specs.Terms.{hashlock_in}
 use Rattle.ledger_core.specs.History.{Opening, opened, IsLegal}
 use Rattle.ledger_core.specs.Book.{Histories, history}
-use Rattle.swap_rules.specs.Conduct.{opens_without}
+use Rattle.swap_rules.specs.Party.{opens_without}
 use Rattle.swap_laws.proofs.Words.{leaves}
 use Rattle.swap_laws.proofs.Graph.{path_length}
 use Rattle.swap_laws.proofs.Times.{path_of, path_of_valid}

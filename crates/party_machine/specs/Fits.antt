@@ -5,10 +5,9 @@ use Rattle.std.specs.List.{find}
 use Rattle.swap_digraph.specs.declared.deal.Deal.{Deal}
 use Rattle.swap_digraph.specs.declared.deal.Mode.{Mode}
 use Rattle.swap_digraph.specs.declared.deal.Mode.TheVariants.{Timelocks, Hashkeys}
-use Rattle.swap_digraph.specs.Deal.{locks, leads}
+use Rattle.swap_digraph.specs.Deal.{locks, leads, hashlock_of}
 use Rattle.hash_signature.specs.Signature.{hash_of, secret_of, public_key_of}
 use Rattle.hashkey_path.specs.Hashkey.{key_of}
-use Rattle.hashkey_path.specs.Signed.{hashlock_of}
 
 -- with hashkeys, the seed's public key of v for lock i is the deal's
 abbrev pub has_key : Mode → Deal → ℕ → List ℕ → ℕ → Bool

@@ -5,7 +5,7 @@ use Rattle.swap_digraph.specs.declared.deal.Mode.{Mode}
 use Rattle.swap_digraph.specs.declared.deal.Mode.TheVariants.{Timelocks, Hashkeys}
 use Rattle.hash_signature.specs.Signature.{public_key_of, secret_of}
 use Rattle.hashkey_path.specs.declared.hashkey.Hashkey.{Hashkey}
-use Rattle.hashkey_path.specs.Signed.{first_key, extended_key}
+use Rattle.hashkey_path.specs.Signed.{leaders_key, extended_key}
 use Rattle.swap_rules.specs.Due.{Wallet}
 use Rattle.party_machine.specs.Value.{WalletState}
 use Rattle.party_machine.specs.declared.wallet_key.WalletKey.{WalletKey}
@@ -17,7 +17,7 @@ bare_key lock secret = record { lock = lock; secret = secret; path = []; sigs = 
 -- the party's own hashkey for lock i
 abbrev pub own_key : Mode → Deal → ℕ → List ℕ → ℕ → Hashkey
 own_key Timelocks d v seed i = bare_key i (secret_of seed)
-own_key Hashkeys d v seed i = first_key d i (secret_of seed) v seed
+own_key Hashkeys d v seed i = leaders_key d i (secret_of seed) v seed
 
 -- the party's hashkey that goes on from the inner one
 abbrev pub onto_key : Mode → Deal → ℕ → List ℕ → Hashkey → Hashkey

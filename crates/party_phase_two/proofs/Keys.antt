@@ -8,7 +8,7 @@ use Rattle.swap_digraph.specs.Deal.{leads}
 use Rattle.hashkey_path.specs.declared.hashkey.Hashkey.{Hashkey}
 use Rattle.ledger_core.specs.History.{Opening, opened}
 use Rattle.ledger_core.specs.Book.{Histories, history}
-use Rattle.swap_rules.specs.Conduct.{opens_without, key_without, first_seen_key}
+use Rattle.swap_rules.specs.Party.{opens_without, key_without, first_seen_key}
 use Rattle.swap_rules.specs.Due.{Wallet, due_key, seen_key, extended}
 use Rattle.party_phase_two.specs.Unlocks.{key_from, seen_on}
 use Rattle.party_phase_two.specs.Parts.{due_base}

@@ -10,7 +10,7 @@ use Rattle.hashkey_path.specs.declared.hashkey.Hashkey.{Hashkey}
 use Rattle.ledger_core.specs.declared.entry.Call.TheVariants.{Unlock}
 use Rattle.ledger_core.specs.Book.{Histories}
 use Rattle.swap_rules.specs.Party.{is_ready}
-use Rattle.swap_rules.specs.Due.{Wallet, Action, due_key, due_unlock_on, due_unlocks, present, first}
+use Rattle.swap_rules.specs.Due.{Wallet, Action, due_key, due_unlock_on, due_unlocks, presented, first}
 use Rattle.party_phase_one.proofs.First.{call_on, first_find}
 use Rattle.party_phase_two.specs.Unlocks.{key_from, IsFirstUnlock}
 use Rattle.party_phase_two.specs.Parts.{not_called, due_base, first_closed, unlock_due, unlock_for}
@@ -38,7 +38,7 @@ abbrev unlock_with : Option Hashkey → Option ℕ → Option Action
 unlock_with None a = None
 unlock_with (Some key) a = option_map (call_on (λ a. Unlock key)) a
 
-first_present : (test : ℕ → Bool) (key : Option Hashkey) (xs : List ℕ) → first (flat_map (λ a. cond (test a) (present a key) []) xs) ≡ unlock_with key (find test xs)
+first_present : (test : ℕ → Bool) (key : Option Hashkey) (xs : List ℕ) → first (flat_map (λ a. cond (test a) (presented a key) []) xs) ≡ unlock_with key (find test xs)
 first_present test None xs = ap first (empty_flat (λ a. cond (test a) [] []) xs (λ a. same_branches (test a) []))
 first_present test (Some key) xs = first_find (λ a. Unlock key) test xs
 
@@ -56,7 +56,7 @@ unfolding unlock_for due_unlock_on
 on_lock d v w signed k ready i =
     let key = due_key d v w (signed i) k i in
     let same : first (flat_map (due_unlock_on d v w (signed i) k i) (entering d.graph v)) ≡ unlock_with key (first_closed d v k i) =
-    ap (λ b. first (flat_map (λ a. cond (b && not_called v k i a) (present a key) []) (entering d.graph v))) ready ∙ first_present (not_called v k i) key (entering d.graph v) in
+    ap (λ b. first (flat_map (λ a. cond (b && not_called v k i a) (presented a key) []) (entering d.graph v))) ready ∙ first_present (not_called v k i) key (entering d.graph v) in
     subst (Means w signed k (unlock_for d v signed k i)) (sym same) (on_arc w signed k i (first_closed d v k i) (due_base d v (signed i) k i) key (comes_from d v w signed k i))
 
 -- On all locks.
@@ -101,4 +101,4 @@ pub not_ready : (d : Deal) (v : ℕ) (w : Wallet) (signed : ℕ → Option Hashk
 unfolding due_unlock_on
 not_ready d v w signed k e =
     empty_flat (λ i. flat_map (due_unlock_on d v w (signed i) k i) (entering d.graph v)) (locks d)
-    (λ i. empty_flat (due_unlock_on d v w (signed i) k i) (entering d.graph v) (λ a. ap (λ b. cond (b && not_called v k i a) (present a (due_key d v w (signed i) k i)) []) e))
+    (λ i. empty_flat (due_unlock_on d v w (signed i) k i) (entering d.graph v) (λ a. ap (λ b. cond (b && not_called v k i a) (presented a (due_key d v w (signed i) k i)) []) e))

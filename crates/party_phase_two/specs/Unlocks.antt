@@ -7,7 +7,7 @@ use Rattle.hashkey_path.specs.declared.hashkey.Hashkey.{Hashkey}
 use Rattle.ledger_core.specs.declared.entry.Call.TheVariants.{Unlock}
 use Rattle.ledger_core.specs.History.{opened}
 use Rattle.ledger_core.specs.Book.{Histories, history}
-use Rattle.swap_rules.specs.Conduct.{opens_without}
+use Rattle.swap_rules.specs.Party.{opens_without}
 use Rattle.swap_rules.specs.Due.{Wallet, due_unlocks, extended, first}
 use Rattle.party_phase_two.specs.declared.unlock_due.Base.{Base}
 use Rattle.party_phase_two.specs.declared.unlock_due.Base.TheVariants.{Signed, Own, Onto}

@@ -4,7 +4,7 @@ ghost use Rattle.std.specs.Prelude.{◌≡◌, ◌<◌, [], ℕ, None, IfSome, i
 ghost use Rattle.swap_base.specs.Lists.{first_of};
 ghost use Rattle.swap_digraph.specs.Graph.{is_among};
 ghost use Rattle.swap_digraph.specs.Deal.{locks, IsWellSized};
-ghost use Rattle.swap_rules.specs.Conduct.{opens_without};
+ghost use Rattle.swap_rules.specs.Party.{opens_without};
 ghost use Rattle.swap_rules.specs.Due.{due_unlocks, has_called, is_unlock_for, Wallet};
 ghost use Rattle.ledger_core.specs.Book.{history};
 ghost use Rattle.ledger_core.specs.History.{opened};

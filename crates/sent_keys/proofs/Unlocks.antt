@@ -13,7 +13,7 @@ use Rattle.ledger_core.specs.declared.entry.What.TheVariants.{Tick}
 use Rattle.ledger_core.specs.declared.entry.Entry.{Entry}
 use Rattle.ledger_core.specs.History.{sent_by}
 use Rattle.ledger_core.specs.Book.{Histories}
-use Rattle.swap_rules.specs.Party.{call_in, call_of, key_in, first_key}
+use Rattle.swap_rules.specs.Party.{call_in, call_by, key_in, first_key}
 use Rattle.history_index.specs.declared.made.Made.{Made}
 use Rattle.history_index.specs.Made.{made_in}
 use Rattle.history_index.proofs.Calls.{filter_map_made}
@@ -27,11 +27,11 @@ for_lock i r = if_lock i r.now
 
 -- The walk that collects them.
 
-pub sent_more : (old now new : List (Bor Hashkey)) (ms : List Made) (v i : ℕ) (x : Made) → i < length ms → x ≡ get_or ms i x → shown now ≡ shown old ++ unlocks_made (take i ms) v → shown new ≡ shown now ++ cons_option (unlock_in (call_of v x.entry)) [] → shown new ≡ shown old ++ unlocks_made (take (i + 1) ms) v
+pub sent_more : (old now new : List (Bor Hashkey)) (ms : List Made) (v i : ℕ) (x : Made) → i < length ms → x ≡ get_or ms i x → shown now ≡ shown old ++ unlocks_made (take i ms) v → shown new ≡ shown now ++ cons_option (unlock_in (call_by v x.entry)) [] → shown new ≡ shown old ++ unlocks_made (take (i + 1) ms) v
 sent_more old now new ms v i x l is e k =
-    let one : unlocks_made (take (i + 1) ms) v ≡ unlocks_made (take i ms) v ++ cons_option (unlock_in (call_of v x.entry)) [] =
-    ap (λ z. unlocks_made z v) (take_more ms i x l ∙ ap (λ z. take i ms ++ z ∷ []) (sym is)) ∙ filter_map-append (λ (m : Made). unlock_in (call_of v m.entry)) (take i ms) (x ∷ []) in
-    k ∙ (ap (λ z. z ++ cons_option (unlock_in (call_of v x.entry)) []) e ∙ (append_assoc (shown old) (unlocks_made (take i ms) v) (cons_option (unlock_in (call_of v x.entry)) []) ∙ ap (λ z. shown old ++ z) (sym one)))
+    let one : unlocks_made (take (i + 1) ms) v ≡ unlocks_made (take i ms) v ++ cons_option (unlock_in (call_by v x.entry)) [] =
+    ap (λ z. unlocks_made z v) (take_more ms i x l ∙ ap (λ z. take i ms ++ z ∷ []) (sym is)) ∙ filter_map-append (λ (m : Made). unlock_in (call_by v m.entry)) (take i ms) (x ∷ []) in
+    k ∙ (ap (λ z. z ++ cons_option (unlock_in (call_by v x.entry)) []) e ∙ (append_assoc (shown old) (unlocks_made (take i ms) v) (cons_option (unlock_in (call_by v x.entry)) []) ∙ ap (λ z. shown old ++ z) (sym one)))
 
 pub sent_one : (now new : List (Bor Hashkey)) (r : Bor Hashkey) (o : Option Hashkey) → new ≡ now ++ r ∷ [] → Some r.now ≡ o → shown new ≡ shown now ++ cons_option o []
 sent_one now new r o e k = ap shown e ∙ (map_push (λ (z : Bor Hashkey). z.now) now r ∙ ap (λ z. shown now ++ cons_option z []) k)
@@ -41,7 +41,7 @@ sent_none now new o e k = ap shown e ∙ (sym (append-nil (shown now)) ∙ ap (�
 
 -- The calls alone hold the unlocks.
 
-pub sent_of_tick : (v : ℕ) (e : Entry) (k : ℕ) → e.what ≡ Tick k → call_of v e ≡ None
+pub sent_of_tick : (v : ℕ) (e : Entry) (k : ℕ) → e.what ≡ Tick k → call_by v e ≡ None
 sent_of_tick v e k is = ap (λ w. cond (sent_by v e.sender) (call_in w) None) is ∙ none_either (sent_by v e.sender)
   where
     none_either : (b : Bool) → ◌≡◌ {A = Option Call} (cond b None None) None
@@ -49,7 +49,7 @@ sent_of_tick v e k is = ap (λ w. cond (sent_by v e.sender) (call_in w) None) is
     none_either false = refl
 
 pub made_unlocks : (v : ℕ) (h : List Entry) → unlocks_made (made_in h) v ≡ unlocks_in h v
-made_unlocks v h = sym (filter_map_made (λ e. unlock_in (call_of v e)) h (λ e k is. ap unlock_in (sent_of_tick v e k is)))
+made_unlocks v h = sym (filter_map_made (λ e. unlock_in (call_by v e)) h (λ e k is. ap unlock_in (sent_of_tick v e k is)))
 
 -- The first for a lock.
 
@@ -65,15 +65,15 @@ first_head i (Some Claim) r ks e = e
 first_head i (Some Refund) r ks e = e
 first_head i (Some (Transfer to units)) r ks e = e
 
-first_unlock : (i v : ℕ) (h : List Entry) → first_of (λ e. key_in i (call_of v e)) h ≡ first_of (if_lock i) (unlocks_in h v)
+first_unlock : (i v : ℕ) (h : List Entry) → first_of (λ e. key_in i (call_by v e)) h ≡ first_of (if_lock i) (unlocks_in h v)
 first_unlock i v [] = refl
-first_unlock i v (e ∷ h) = first_head i (call_of v e) (first_of (λ e. key_in i (call_of v e)) h) (unlocks_in h v) (first_unlock i v h)
+first_unlock i v (e ∷ h) = first_head i (call_by v e) (first_of (λ e. key_in i (call_by v e)) h) (unlocks_in h v) (first_unlock i v h)
 
-first_in_book : (i v : ℕ) (b : Histories) → first_of (λ e. key_in i (call_of v e)) (flat_map (λ h. h) b) ≡ first_of (if_lock i) (unlocks_of b v)
+first_in_book : (i v : ℕ) (b : Histories) → first_of (λ e. key_in i (call_by v e)) (flat_map (λ h. h) b) ≡ first_of (if_lock i) (unlocks_of b v)
 first_in_book i v [] = refl
 first_in_book i v (h ∷ b) =
-    first_of-append (λ e. key_in i (call_of v e)) h (flat_map (λ h. h) b)
-    ∙ (ap (λ o. or_else o (first_of (λ e. key_in i (call_of v e)) (flat_map (λ h. h) b))) (first_unlock i v h)
+    first_of-append (λ e. key_in i (call_by v e)) h (flat_map (λ h. h) b)
+    ∙ (ap (λ o. or_else o (first_of (λ e. key_in i (call_by v e)) (flat_map (λ h. h) b))) (first_unlock i v h)
     ∙ (ap (or_else (first_of (if_lock i) (unlocks_in h v))) (first_in_book i v b) ∙ sym (first_of-append (if_lock i) (unlocks_in h v) (unlocks_of b v))))
 
 -- the first hashkey for a lock is found among those that were sent
@@ -113,17 +113,17 @@ module _ (test : Option Call → Bool) (p : Hashkey → Bool) (u : OfUnlocks tes
   any_head (Some Refund) r ks e = ap (λ b. b || r) u.refund ∙ e
   any_head (Some (Transfer to units)) r ks e = ap (λ b. b || r) (u.transfer to units) ∙ e
 
-  any_unlock : (v : ℕ) (h : List Entry) → list_any (λ e. test (call_of v e)) h ≡ list_any p (unlocks_in h v)
+  any_unlock : (v : ℕ) (h : List Entry) → list_any (λ e. test (call_by v e)) h ≡ list_any p (unlocks_in h v)
   any_unlock v [] = refl
-  any_unlock v (e ∷ h) = any_head (call_of v e) (list_any (λ e. test (call_of v e)) h) (unlocks_in h v) (any_unlock v h)
+  any_unlock v (e ∷ h) = any_head (call_by v e) (list_any (λ e. test (call_by v e)) h) (unlocks_in h v) (any_unlock v h)
 
-  any_in_book : (v : ℕ) (b : Histories) → list_any (λ e. test (call_of v e)) (flat_map (λ h. h) b) ≡ list_any p (unlocks_of b v)
+  any_in_book : (v : ℕ) (b : Histories) → list_any (λ e. test (call_by v e)) (flat_map (λ h. h) b) ≡ list_any p (unlocks_of b v)
   any_in_book v [] = refl
   any_in_book v (h ∷ b) =
-      any_append (λ e. test (call_of v e)) h (flat_map (λ h. h) b)
-      ∙ (ap (λ x. x || list_any (λ e. test (call_of v e)) (flat_map (λ h. h) b)) (any_unlock v h)
+      any_append (λ e. test (call_by v e)) h (flat_map (λ h. h) b)
+      ∙ (ap (λ x. x || list_any (λ e. test (call_by v e)) (flat_map (λ h. h) b)) (any_unlock v h)
       ∙ (ap (λ x. list_any p (unlocks_in h v) || x) (any_in_book v b) ∙ sym (any_append p (unlocks_in h v) (unlocks_of b v))))
 
   -- whether some call passes is told by the hashkeys that were sent
-  pub any_sent : (v : ℕ) (b : Histories) (rs : List (Bor Hashkey)) → shown rs ≡ unlocks_of b v → list_any (λ e. test (call_of v e)) (flat_map (λ h. h) b) ≡ list_any (λ r. p r.now) rs
+  pub any_sent : (v : ℕ) (b : Histories) (rs : List (Bor Hashkey)) → shown rs ≡ unlocks_of b v → list_any (λ e. test (call_by v e)) (flat_map (λ h. h) b) ≡ list_any (λ r. p r.now) rs
   any_sent v b rs e = any_in_book v b ∙ (ap (list_any p) (sym e) ∙ sym (any_refs p rs))

@@ -10,7 +10,7 @@ use Rattle.ledger_core.specs.declared.entry.Call.TheVariants.{Unlock}
 use Rattle.ledger_core.specs.declared.entry.Entry.{Entry}
 use Rattle.ledger_core.specs.Book.{Histories}
 use Rattle.history_index.specs.declared.made.Made.{Made}
-use Rattle.swap_rules.specs.Party.{call_of}
+use Rattle.swap_rules.specs.Party.{call_by}
 
 -- v is one of the two parties of arc a
 abbrev pub touches : Deal → ℕ → ℕ → Bool
@@ -23,11 +23,11 @@ unlock_in _ = None
 
 -- the hashkeys of v's unlock calls in a history
 abbrev pub unlocks_in : List Entry → ℕ → List Hashkey
-unlocks_in h v = filter_map (λ e. unlock_in (call_of v e)) h
+unlocks_in h v = filter_map (λ e. unlock_in (call_by v e)) h
 
 -- the hashkeys of v's unlock calls among these calls
 abbrev pub unlocks_made : List Made → ℕ → List Hashkey
-unlocks_made ms v = filter_map (λ m. unlock_in (call_of v m.entry)) ms
+unlocks_made ms v = filter_map (λ m. unlock_in (call_by v m.entry)) ms
 
 -- the hashkeys of v's unlock calls, in order of arc and entry
 abbrev pub unlocks_of : Histories → ℕ → List Hashkey

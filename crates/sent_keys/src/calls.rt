@@ -2,7 +2,7 @@
 
 ghost use Rattle.std.specs.Prelude.{◌≡◌, ◌<◌, length, option_copied};
 ghost use Rattle.ledger_core.specs.History.{accepted};
-ghost use Rattle.swap_rules.specs.Party.{call_of};
+ghost use Rattle.swap_rules.specs.Party.{call_by};
 ghost use Rattle.sent_keys.specs.Sent.{touches};
 
 use escrow_core::Reply;
@@ -30,8 +30,8 @@ pub fn accepted<'a>(e: &'a Entry) -> Option<&'a Call>
 }
 
 /// The call of the party that an entry is, whatever its reply.
-pub fn call_of<'a>(party: PartyId, e: &'a Entry) -> Option<&'a Call>
-    ensures { option_copied result ≡ call_of party e.now }
+pub fn call_by<'a>(party: PartyId, e: &'a Entry) -> Option<&'a Call>
+    ensures { option_copied result ≡ call_by party e.now }
 {
     match (e.sender, &e.what) {
         (Sender::Party(sender), What::Call(call)) => {

@@ -2,7 +2,7 @@
 
 ghost use Rattle.std.specs.Prelude.{◌≡◌, option_copied};
 ghost use Rattle.swap_digraph.specs.Graph.{is_among};
-ghost use Rattle.swap_rules.specs.Conduct.{extends};
+ghost use Rattle.swap_rules.specs.Conduct.{extends, extends_without};
 
 use crate::keys::has_parts;
 use hashkey_path::Hashkey;
@@ -24,9 +24,19 @@ pub fn extends(party: PartyId, key: &Hashkey, call: Option<&Call>) -> bool
     let sigs = key.sigs.as_slice();
     match (call, path, sigs) {
         (Some(Call::Unlock(inner)), [first, rest @ ..], [_, inner_sigs @ ..]) => {
-            *first == party
-                && !is_among(party, inner.path.as_slice())
-                && has_parts(inner, key.lock, &key.secret, rest, inner_sigs)
+            *first == party && has_parts(inner, key.lock, &key.secret, rest, inner_sigs)
+        }
+        _ => false,
+    }
+}
+
+/// Whether the call is an unlock with a hashkey that this one extends by the party, and whose path lacks the party.
+pub fn extends_without(party: PartyId, key: &Hashkey, call: Option<&Call>) -> bool
+    ensures { result ≡ extends_without party key.now (option_copied call.entry) }
+{
+    match call {
+        Some(Call::Unlock(inner)) => {
+            !is_among(party, inner.path.as_slice()) && extends(party, key, call)
         }
         _ => false,
     }

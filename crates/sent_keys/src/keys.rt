@@ -9,7 +9,7 @@ ghost use Rattle.swap_rules.specs.Conduct.{is_first_key};
 ghost use Rattle.history_index.specs.Indexes.{entries_in, AreIndexes};
 ghost use Rattle.sent_keys.specs.Sent.{shown, unlock_in, unlocks_made, unlocks_in, unlocks_of};
 
-use crate::calls::{call_of, touches};
+use crate::calls::{call_by, touches};
 use hash_signature::Sig;
 use hashkey_path::Hashkey;
 use history_index::{Index, Made};
@@ -76,7 +76,7 @@ fn put_unlocks<'a>(
     ensures { OnOk result (shown keys.new.items ≡ shown keys.old.items ++ unlocks_made calls.now party) }
 {
     for made in calls {
-        match unlock_in(call_of(party, &made.entry)) {
+        match unlock_in(call_by(party, &made.entry)) {
             Some(key) => keys.push(key)?,
             None => {}
         }

@@ -3,8 +3,7 @@ use Rattle.std.proofs.Common.{◌≡◌, ◌⊎◌, inl, inr, ℕ, suc, zero, �
 use Rattle.std.proofs.Math.Path.{fun_ext}
 use Rattle.std.specs.List.{range_with_len}
 use Rattle.swap_digraph.specs.Value.{Graph}
-use Rattle.swap_digraph.specs.Graph.{IsDist}
-use Rattle.leader_check.specs.Followers.{parties}
+use Rattle.swap_digraph.specs.Graph.{parties, IsDist}
 use Rattle.leader_check.proofs.Rows.{row_reads, no_follower}
 use Rattle.single_leader.specs.Distance.{dist_before, dist_within, dists_within, dist_of}
 use Rattle.single_leader.specs.Laws.{DistancesFollowArcs}

@@ -2,7 +2,8 @@
 use Rattle.std.specs.Prelude.{ℕ, zero, suc, ◌+◌, ◌==◌, if◌then◌else◌, List, [], ◌∷◌, map}
 use Rattle.swap_base.specs.Lists.{greatest}
 use Rattle.swap_digraph.specs.Value.{Graph}
-use Rattle.leader_check.specs.Followers.{parties, is_follower}
+use Rattle.swap_digraph.specs.Graph.{parties}
+use Rattle.leader_check.specs.Followers.{is_follower}
 
 -- the greatest value of f at a vertex to which v has an arc, 0 where there is none
 unfoldable pub most_after : Graph → (ℕ → ℕ) → ℕ → ℕ

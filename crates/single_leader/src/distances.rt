@@ -1,9 +1,8 @@
 //! The distances of the parties from the leader, by rounds over the arcs.
 
 ghost use Rattle.std.specs.Prelude.{◌≡◌, ◌≤◌, ◌<◌, ◌+◌, ◌∷◌, [], ℕ, length, map, slice_index, IfOk, if◌then◌else◌};
-ghost use Rattle.swap_digraph.specs.Graph.{HasEnds, IsDist, IsFeedback, IsHeight, IsStronglyConnected};
+ghost use Rattle.swap_digraph.specs.Graph.{parties, HasEnds, IsDist, IsFeedback, IsHeight, IsStronglyConnected};
 ghost use Rattle.time_bounds.specs.Times.{need};
-ghost use Rattle.leader_check.specs.Followers.{parties};
 ghost use Rattle.single_leader.specs.Distance.{most_after, dist_before, dist_of};
 
 use leader_check::Levels;

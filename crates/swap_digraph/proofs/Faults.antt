@@ -71,7 +71,7 @@ sound_at : (n : ℕ) (v : Version) (before : List ArcEnds) (k : ℕ) (a : ArcEnd
 unfolding fault_at
 sound_at n v before k a e = by_tests n k a (nat_lt a.from n && nat_lt a.to n) (a.from == a.to) (parallel v k (position (same_ends a) before)) refl refl e
 
-both_none : (o rest : Option ArcFault) → or_else o rest ≡ None → (o ≡ None) × (rest ≡ None)
+pub both_none : (o rest : Option ArcFault) → or_else o rest ≡ None → (o ≡ None) × (rest ≡ None)
 both_none None rest e = (refl, e)
 both_none (Some x) rest e = cc e
 

@@ -33,6 +33,10 @@ leads d v i = slice_index_or d.leaders i d.graph.n == v
 abbrev pub leader_of : Deal → ℕ → ℕ
 leader_of d i = slice_index d.leaders i
 
+-- the hashlock of lock i
+abbrev pub hashlock_of : Deal → ℕ → List ℕ
+hashlock_of d i = slice_index_or d.hashlocks i []
+
 abbrev pub path_limit_of : Version → ℕ
 path_limit_of One = 24
 path_limit_of Two = 32

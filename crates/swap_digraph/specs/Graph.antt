@@ -17,6 +17,10 @@ entering_among arcs v = filter (λ a. (ends_in arcs a).to == v) (range_with_len 
 abbrev pub ends : Graph → ℕ → ArcEnds
 ends g a = ends_in g.arcs a
 
+-- the parties, by number
+abbrev pub parties : Graph → List ℕ
+parties g = range_with_len 0 g.n
+
 -- the arcs, by number
 abbrev pub arcs : Graph → List ℕ
 arcs g = range_with_len 0 (length g.arcs)
@@ -78,6 +82,10 @@ pub record IsHeight (g : Graph) (leaders : List ℕ) (h : ℕ) : Type 0 where
 pub record IsDist (g : Graph) (leader v d : ℕ) : Type 0 where
   pub reached : (p : List ℕ) × IsPathBetween g v leader p × (arcs_of p ≡ d)
   pub most : (p : List ℕ) → IsPathBetween g v leader p → arcs_of p ≤ d
+
+-- No two arcs have the same ends.
+abbrev pub HasDistinctEnds : Graph → Type 0
+HasDistinctEnds g = (a b : ℕ) → a < length g.arcs → b < length g.arcs → ends g a ≡ ends g b → a ≡ b
 
 -- Every arc leads from one party to another.
 pub record HasEnds (g : Graph) : Type 0 where

@@ -4,7 +4,7 @@ ghost use Rattle.std.specs.Prelude.{◌≡◌, ◌==◌, ◌<◌, ◌≤◌, ◌
 ghost use Rattle.std.specs.List.{range_with_len};
 ghost use Rattle.swap_base.specs.Fault.{Gives};
 ghost use Rattle.swap_digraph.specs.Value.{Graph};
-ghost use Rattle.swap_digraph.specs.Graph.{entering, entering_among, leaving, leaving_among, HasEnds};
+ghost use Rattle.swap_digraph.specs.Graph.{entering, entering_among, leaving, leaving_among, HasDistinctEnds, HasEnds};
 ghost use Rattle.swap_digraph.specs.Arcs.{digraph_of, fault_at, first_fault, same_ends};
 
 use crate::arc_ends::ArcEnds;
@@ -126,7 +126,8 @@ fn first_fault(n: u8, version: Version, arcs: &[ArcEnds]) -> Option<ArcFault>
 }
 
 impl Digraph {
-    /// The digraph of n parties with these arcs, or the first fault of the least arc that has one.
+    /// The digraph of n parties with these arcs, or the first fault of the least arc that has one. In version 1 no two arcs have the same ends;
+    /// in version 2 they may.
     #[tactic(auto, unfolding(crate::specs::Arcs::digraph_of))]
     pub fn new(
         alloc: Global,
@@ -138,6 +139,7 @@ impl Digraph {
         ensures exact { Gives (λ g. g) result (digraph_of n version arcs.items) }
         ensures parts { IfOk result (λ g. (g.n ≡ n) × (g.arcs ≡ arcs.items)) }
         ensures ends { IfOk result (λ g. HasEnds g) }
+        ensures distinct { version ≡ Version.One → IfOk result (λ g. HasDistinctEnds g) }
     {
         match first_fault(n, version, &arcs) {
             Some(fault) => return Err(Fault::Refused(fault)),

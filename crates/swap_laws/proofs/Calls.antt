@@ -16,16 +16,17 @@ use Rattle.ledger_core.specs.History.{height, Publication, published, IsLegal}
 use Rattle.ledger_core.specs.Book.{Histories, history, IsLegalBook}
 use Rattle.swap_rules.specs.declared.finding.Rule.{Rule}
 use Rattle.swap_rules.specs.declared.finding.Rule.TheVariants.{Publish as ToPublish, Unlock as ToUnlock, Claim as ToClaim, Refund as ToRefund}
-use Rattle.swap_rules.specs.Party.{is_correct_in, is_correct, is_ready, leads_one, call_of, first_key}
-use Rattle.swap_rules.specs.Conduct.{is_first_key, keeps, keeps_at, IsConducted, ref_of, counts, is_done, late_at}
+use Rattle.swap_rules.specs.Party.{is_correct_in, is_correct, is_ready, leads_one, call_by, first_key}
+use Rattle.swap_rules.specs.Conduct.{is_first_key, keeps, keeps_at, IsConducted}
+use Rattle.swap_rules.specs.Late.{ref_of, counts, is_done, late_at}
 use Rattle.swap_rules.specs.Findings.{rules_of}
-use Rattle.swap_laws.proofs.Words.{and_three, and_five, same_terms-true, leaves, call_of-act}
+use Rattle.swap_laws.proofs.Words.{and_three, and_five, same_terms-true, leaves, call_by-act}
 use Rattle.swap_laws.proofs.History.{published_done, of_publish, published-past}
 use Rattle.swap_laws.specs.Laws.{IsOnTime}
 
 module _ (d : Deal) (b : Histories) (v : ℕ) (conducted : IsConducted d b v) where
   -- each call of v keeps the rules
-  pub kept : (a : ℕ) (past : List Entry) (e : Entry) (c : Call) → IsMoment (history b a) past e → call_of v e ≡ Some c → keeps d b v a past e.height (Some c) ≡ true
+  pub kept : (a : ℕ) (past : List Entry) (e : Entry) (c : Call) → IsMoment (history b a) past e → call_by v e ≡ Some c → keeps d b v a past e.height (Some c) ≡ true
   kept a past e c m k =
       ap (keeps d b v a past e.height) (sym k)
       ∙ at_moment (λ m. keeps_at d b v a m ≡ true) (history b a) past e (all_from_list_all (keeps_at d b v a) (moments (history b a)) (conducted a)) m
@@ -45,7 +46,7 @@ module _ (d : Deal) (b : Histories) (v : ℕ) (conducted : IsConducted d b v) wh
         let l = leaves d v a i in
         let done = published_done d a (history b a) p (legal_at a l.0) e in
         let by : done.act.by ≡ v = (of_publish d a done.past done.act.by p.terms done.clear).party ∙ l.1 in
-        let k = kept a done.past done.now (Publish p.terms) done.stands (call_of-act d a done.past done.now (Publish p.terms) v done.act by) in
+        let k = kept a done.past done.now (Publish p.terms) done.stands (call_by-act d a done.past done.now (Publish p.terms) v done.act by) in
         let parts = and_three (same_terms p.terms (terms_of d a)) _ (leads_one d v || is_ready d b v) k in
         record { correct = same_terms-true p.terms (terms_of d a) parts.0; may = parts.2 }
 
@@ -54,7 +55,7 @@ module _ (d : Deal) (b : Histories) (v : ℕ) (conducted : IsConducted d b v) wh
     or-left_false false y h k = k
 
     -- an unlock call of v anywhere shows that v is ready
-    pub unlock_ready : (e : Entry) (key : Hashkey) → IsIn e (flat_map (λ h. h) b) → call_of v e ≡ Some (Unlock key) → is_ready d b v ≡ true
+    pub unlock_ready : (e : Entry) (key : Hashkey) → IsIn e (flat_map (λ h. h) b) → call_by v e ≡ Some (Unlock key) → is_ready d b v ≡ true
     unfolding keeps
     unlock_ready e key i k =
         let w = from_whole b e i in
@@ -68,7 +69,7 @@ module _ (d : Deal) (b : Histories) (v : ℕ) (conducted : IsConducted d b v) wh
         pub now : Entry
         pub call : Call
         pub stands : IsMoment (history b a) past now
-        pub called : call_of v now ≡ Some call
+        pub called : call_by v now ≡ Some call
         pub counted : counts d b v rule a now.height (Some call) ≡ true
         pub in_time : now.height ≤ due
 
@@ -90,9 +91,9 @@ module _ (d : Deal) (b : Histories) (v : ℕ) (conducted : IsConducted d b v) wh
       done_in_time rule a r_in a_in r enabled passed =
           let e : (nat_lt (r + d.delta) (height (history b a)) && not (is_done d b v rule a (r + d.delta))) ≡ false = ap (late_at d b v rule a) (sym enabled) ∙ on_time rule a r_in a_in in
           let k : is_done d b v rule a (r + d.delta) ≡ true = late_parts (nat_lt (r + d.delta) (height (history b a))) _ e (lt-ltb _ _ passed) in
-          let f = any_at (λ e. counts d b v rule a e.height (call_of v e) && nat_le e.height (r + d.delta)) (history b a) k in
-          let parts = and_parts (counts d b v rule a f.now.height (call_of v f.now)) (nat_le f.now.height (r + d.delta)) f.passes in
-          let c = some_call rule a f.now.height (call_of v f.now) parts.0 in
+          let f = any_at (λ e. counts d b v rule a e.height (call_by v e) && nat_le e.height (r + d.delta)) (history b a) k in
+          let parts = and_parts (counts d b v rule a f.now.height (call_by v f.now)) (nat_le f.now.height (r + d.delta)) f.passes in
+          let c = some_call rule a f.now.height (call_by v f.now) parts.0 in
           record {
             past = f.past;
             now = f.now;

@@ -8,7 +8,7 @@ use Rattle.std.proofs.lemmas.List.Sums.{sum_by-append, sum_by-cons}
 use Rattle.swap_base.specs.Lists.{first_of, IsIn, Moment, moments, IsMoment, moments_after}
 use Rattle.swap_base.proofs.Lists.{first_at, first_of-in, all_moments_push, list_all-from, list_any-at, and_parts, and_both, in_from_moment, moment_from_in, in_whole, from_whole}
 use Rattle.swap_digraph.specs.declared.deal.Deal.{Deal}
-use Rattle.swap_digraph.specs.Deal.{party, counterparty}
+use Rattle.swap_digraph.specs.Deal.{party, counterparty, hashlock_of}
 use Rattle.hashkey_path.specs.declared.hashkey.Hashkey.{Hashkey}
 use Rattle.hashkey_path.specs.Hashkey.{same_key, is_valid}
 use Rattle.escrow_core.specs.declared.reply.Reply.{Reply}
@@ -24,7 +24,7 @@ use Rattle.ledger_core.specs.declared.entry.What.TheVariants.{Call as Made}
 use Rattle.ledger_core.specs.declared.entry.Entry.{Entry}
 use Rattle.ledger_core.specs.History.{height, published, rows, reply_to, fit, is_full, IsLegal, IsLegalMoment, sent_by}
 use Rattle.ledger_core.specs.Book.{Histories, history, IsLegalBook}
-use Rattle.swap_rules.specs.Party.{hashlock_of, has_expired, is_ready, call_in, call_of, key_in, first_key}
+use Rattle.swap_rules.specs.Party.{has_expired, is_ready, call_in, call_by, key_in, first_key}
 use Rattle.swap_rules.specs.Conduct.{is_publish, is_first_key, keeps, keeps_at, IsConducted}
 use Rattle.swap_laws.specs.Machine.{KeepsOwn, KeepsKey, KeepsRules, Begins, Knows, entry_of, called}
 use Rattle.swap_laws.proofs.Words.{past_end, call_of_parts, act_of, key_parts, same_key-refl}
@@ -88,14 +88,14 @@ module _ (d : Deal) (b : Histories) (signed : ℕ → Option Hashkey) (v : ℕ) 
   legal_here : (a : ℕ) (past : List Entry) (e : Entry) → IsMoment (history b a) past e → IsLegal d a (history b a)
   legal_here a past e m = legal.legal a (below_of b a past e m)
 
-  first_signed : (key : Hashkey) (a : ℕ) (past : List Entry) (e : Entry) → IsMoment (history b a) past e → call_of v e ≡ Some (Unlock key) → is_first_key (first_key b v key.lock) key ≡ true
+  first_signed : (key : Hashkey) (a : ℕ) (past : List Entry) (e : Entry) → IsMoment (history b a) past e → call_by v e ≡ Some (Unlock key) → is_first_key (first_key b v key.lock) key ≡ true
   unfolding first_key
   first_signed key a past e m k =
-      let key_is : key_in key.lock (call_of v e) ≡ Some key = ap (key_in key.lock) k ∙ ap (λ x. cond x (Some key) None) (eq-eqb key.lock key.lock refl) in
+      let key_is : key_in key.lock (call_by v e) ≡ Some key = ap (key_in key.lock) k ∙ ap (λ x. cond x (Some key) None) (eq-eqb key.lock key.lock refl) in
       let stands : IsIn e (flat_map (λ h. h) b) = in_whole b a e (subst (IsIn e) (sym m.1) (in_from_moment past e m.0)) in
-      let s = is_some-of (first_of (λ e. key_in key.lock (call_of v e)) (flat_map (λ h. h) b)) (first_of-in (λ e. key_in key.lock (call_of v e)) (flat_map (λ h. h) b) e key stands key_is) in
-      let f = first_at (λ e. key_in key.lock (call_of v e)) (flat_map (λ h. h) b) s.0 s.1 in
-      let p = key_parts key.lock (call_of v f.now) s.0 f.gives in
+      let s = is_some-of (first_of (λ e. key_in key.lock (call_by v e)) (flat_map (λ h. h) b)) (first_of-in (λ e. key_in key.lock (call_by v e)) (flat_map (λ h. h) b) e key stands key_is) in
+      let f = first_at (λ e. key_in key.lock (call_by v e)) (flat_map (λ h. h) b) s.0 s.1 in
+      let p = key_parts key.lock (call_by v f.now) s.0 f.gives in
       let w = from_whole b f.now (subst (IsIn f.now) (sym f.stands.1) (in_from_moment f.past f.now f.stands.0)) in
       let n = moment_from_in (history b w.0) f.now w.2 in
       let r1 = rules.own w.0 n.0 f.now (Unlock s.0) n.1 p.0 in
@@ -103,14 +103,14 @@ module _ (d : Deal) (b : Histories) (signed : ℕ → Option Hashkey) (v : ℕ) 
       let same : s.0 ≡ key = same_Some s.0 key (sym (ap signed (sym p.1) ∙ r1.2) ∙ r2.2) in
       ap (λ o. is_first_key o key) s.1 ∙ (ap (λ x. same_key x key) same ∙ same_key-refl key)
 
-  keep_call : (a : ℕ) (past : List Entry) (e : Entry) (c : Call) → IsMoment (history b a) past e → call_of v e ≡ Some c → KeepsOwn d b signed v a past c → keeps d b v a past e.height (Some c) ≡ true
+  keep_call : (a : ℕ) (past : List Entry) (e : Entry) (c : Call) → IsMoment (history b a) past e → call_by v e ≡ Some c → KeepsOwn d b signed v a past c → keeps d b v a past e.height (Some c) ≡ true
   unfolding keeps
   keep_call a past e (Publish t) m k r =
-      let one = count_single (λ e. is_publish (call_of v e)) (history b a) past e m (ap is_publish k) (λ q y n p. publish_first q y n (call_of v y) refl p) in
-      and_both (same_terms t (terms_of d a) && (count_by (λ e. is_publish (call_of v e)) (history b a) == 1)) _
+      let one = count_single (λ e. is_publish (call_by v e)) (history b a) past e m (ap is_publish k) (λ q y n p. publish_first q y n (call_by v y) refl p) in
+      and_both (same_terms t (terms_of d a) && (count_by (λ e. is_publish (call_by v e)) (history b a) == 1)) _
       (and_both (same_terms t (terms_of d a)) _ r.0 (eq-eqb _ 1 one)) r.1
     where
-      publish_first : (q : List Entry) (y : Entry) → IsMoment (history b a) q y → (o : Option Call) → call_of v y ≡ o → is_publish (call_of v y) ≡ true → list_any (λ e. is_publish (call_of v e)) q ≡ false
+      publish_first : (q : List Entry) (y : Entry) → IsMoment (history b a) q y → (o : Option Call) → call_by v y ≡ o → is_publish (call_by v y) ≡ true → list_any (λ e. is_publish (call_by v e)) q ≡ false
       publish_first q y n None h p = absurd (false≢true (sym (ap is_publish h) ∙ p))
       publish_first q y n (Some (Publish u)) h p = (rules.own a q y (Publish u) n h).2
       publish_first q y n (Some (Unlock u)) h p = absurd (false≢true (sym (ap is_publish h) ∙ p))
@@ -133,13 +133,13 @@ module _ (d : Deal) (b : Histories) (signed : ℕ → Option Hashkey) (v : ℕ) 
       subst (λ n. has_expired d a past n ≡ true) (sym at) r.0
   keep_call a past e (Transfer to units) m k r = absurd r
 
-  keep_at : (a : ℕ) (past : List Entry) (e : Entry) → IsMoment (history b a) past e → (o : Option Call) → call_of v e ≡ o → keeps d b v a past e.height o ≡ true
+  keep_at : (a : ℕ) (past : List Entry) (e : Entry) → IsMoment (history b a) past e → (o : Option Call) → call_by v e ≡ o → keeps d b v a past e.height o ≡ true
   unfolding keeps
   keep_at a past e m None k = refl
   keep_at a past e m (Some c) k = keep_call a past e c m k (rules.own a past e c m k)
 
   pub rules_conduct : IsConducted d b v
-  rules_conduct a = list_all-from (keeps_at d b v a) (moments (history b a)) (λ m i. keep_at a m.past m.now (from_moments (history b a) m i) (call_of v m.now) refl)
+  rules_conduct a = list_all-from (keeps_at d b v a) (moments (history b a)) (λ m i. keep_at a m.past m.now (from_moments (history b a) m i) (call_by v m.now) refl)
 
 -- A history's next entry, if any.
 
@@ -235,20 +235,20 @@ rules_next d b a k s w signed more v below n r keep keys own = record {
   keys = λ i key q. key_more d b (set b a k) v i key (next_grows d b a k s w below n) (keys i key q);
 }
   where
-    old : (c : ℕ) (past : List Entry) (e : Entry) (call : Call) → IsMoment (history b c) past e → call_of v e ≡ Some call → KeepsOwn d b more v c past call
+    old : (c : ℕ) (past : List Entry) (e : Entry) (call : Call) → IsMoment (history b c) past e → call_by v e ≡ Some call → KeepsOwn d b more v c past call
     old c past e call m q = own_more d b b signed more v c past call (λ z. begins_refl (history b z)) keep (r.own c past e call m q)
 
-    here : (past : List Entry) (e : Entry) (call : Call) → Next d a (history b a) k s w → IsMoment k past e → call_of v e ≡ Some call → KeepsOwn d b more v a past call
+    here : (past : List Entry) (e : Entry) (call : Call) → Next d a (history b a) k s w → IsMoment k past e → call_by v e ≡ Some call → KeepsOwn d b more v a past call
     here past e call (Still z) m q = old a past e call (subst (λ l. IsMoment l past e) z m) q
     here past e call (Pushed x z es ew le) m q = new (at_end (history b a) x past e (subst (λ l. IsMoment l past e) z m))
       where
         new : IsMoment (history b a) past e ⊎ ((past ≡ history b a) × (e ≡ x)) → KeepsOwn d b more v a past call
         new (inl i) = old a past e call i q
         new (inr p) =
-            let parts = call_of_parts v x call (ap (call_of v) (sym p.1) ∙ q) in
+            let parts = call_of_parts v x call (ap (call_by v) (sym p.1) ∙ q) in
             subst (λ l. KeepsOwn d b more v a l call) (sym p.0) (own call (ap (sent_by v) (sym es) ∙ parts.0) (ap call_in (sym ew) ∙ parts.1))
 
-    at : (c : ℕ) (past : List Entry) (e : Entry) (call : Call) → IsMoment (history (set b a k) c) past e → call_of v e ≡ Some call → (c ≡ a) ⊎ (c ≢ a) → KeepsOwn d b more v c past call
+    at : (c : ℕ) (past : List Entry) (e : Entry) (call : Call) → IsMoment (history (set b a k) c) past e → call_by v e ≡ Some call → (c ≡ a) ⊎ (c ≢ a) → KeepsOwn d b more v c past call
     at c past e call m q (inl z) =
         subst (λ y. KeepsOwn d b more v y past call) (sym z) (here past e call n (subst (λ l. IsMoment l past e) (history_same b a k below) (subst (λ y. IsMoment (history (set b a k) y) past e) z m)) q)
     at c past e call m q (inr z) = old c past e call (subst (λ l. IsMoment l past e) (history_other b a c k z) m) q

@@ -8,7 +8,9 @@ use Rattle.swap_digraph.specs.Graph.{arcs}
 use Rattle.ledger_core.specs.declared.entry.Entry.{Entry}
 use Rattle.ledger_core.specs.History.{height}
 use Rattle.ledger_core.specs.Book.{history}
-use Rattle.swap_rules.specs.Conduct.{keeps_at, ref_of, is_forged}
+use Rattle.swap_rules.specs.Conduct.{keeps_at}
+use Rattle.swap_rules.specs.Late.{ref_of}
+use Rattle.swap_rules.specs.Forged.{is_forged}
 use Rattle.swap_rules.specs.Findings.{or_zero, rules_of, failing, broken, late_on, lates, forgeries, findings_of, unfinished}
 use Rattle.swap_rules.specs.declared.finding.Finding.{Finding}
 use Rattle.swap_rules.specs.declared.finding.Finding.TheVariants.{Broke, Late, Forged, Unfinished}

@@ -8,7 +8,7 @@ use Rattle.swap_digraph.specs.declared.deal.Mode.{Mode}
 use Rattle.swap_digraph.specs.declared.deal.Mode.TheVariants.{Timelocks, Hashkeys}
 use Rattle.swap_digraph.specs.declared.deal.Deal.{Deal}
 use Rattle.swap_digraph.specs.Graph.{leaving, entering}
-use Rattle.swap_digraph.specs.Deal.{party, counterparty, locks, leads}
+use Rattle.swap_digraph.specs.Deal.{party, counterparty, locks, leads, hashlock_of}
 use Rattle.hashkey_path.specs.declared.hashkey.Hashkey.{Hashkey}
 use Rattle.hashkey_path.specs.Hashkey.{is_valid}
 use Rattle.escrow_core.specs.Terms.{hashlock_in, terms_of}
@@ -18,16 +18,16 @@ use Rattle.ledger_core.specs.declared.entry.Entry.{Entry}
 use Rattle.ledger_core.specs.History.{height, accepted, Publication, published, opened, settled, fit, IsLegal}
 use Rattle.ledger_core.specs.Known.{presents_valid}
 use Rattle.ledger_core.specs.Book.{Histories, history, IsLegalBook}
-use Rattle.swap_rules.specs.Party.{hashlock_of, has_expired, is_correct, is_ready, is_triggered, leads_one, call_of}
-use Rattle.swap_rules.specs.Conduct.{first_seen_key, key_without, is_publish, has_origin, carries, extends, is_alone}
+use Rattle.swap_rules.specs.Party.{has_expired, is_correct, is_ready, is_triggered, leads_one, call_by, first_seen_key, key_without}
+use Rattle.swap_rules.specs.Conduct.{is_publish, has_origin, carries, extends_without, is_alone}
 use Rattle.swap_rules.specs.declared.finding.Rule.{Rule}
 use Rattle.swap_rules.specs.declared.finding.Rule.TheVariants.{Publish as ToPublish, Unlock as ToUnlock, Claim as ToClaim, Refund as ToRefund}
 use Rattle.swap_rules.specs.Findings.{rules_of}
 use Rattle.swap_rules.specs.Accepted.{IsAccepted}
-use Rattle.swap_rules.specs.Due.{Wallet, Action, is_unlock_for, is_claiming, is_refunding, has_called, is_due_publish, seen_key, extended, due_key, present, may_unlock, due_unlock_on, is_due_claim, is_due_refund, when_due, due_publishes, due_unlocks, due_claims, due_refunds, due}
+use Rattle.swap_rules.specs.Due.{Wallet, Action, is_unlock_for, is_claiming, is_refunding, has_called, is_due_publish, seen_key, extended, due_key, presented, may_unlock, due_unlock_on, is_due_claim, is_due_refund, when_due, due_publishes, due_unlocks, due_claims, due_refunds, due}
 use Rattle.swap_laws.specs.Machine.{KeepsOwn, KeepsKey, KeepsRules, test_of, Knows, IsGoodKey, IsWallet, IsOwn, IsOnto, noted}
 use Rattle.swap_laws.proofs.Entering.{valid_of_unlock}
-use Rattle.swap_laws.proofs.Words.{same_terms-refl, key_without_parts, and_three, and_five, same_terms-true, enters, leaves, call_of-act, publish_rule, unlock_rule, claim_rule, refund_rule, or-left}
+use Rattle.swap_laws.proofs.Words.{same_terms-refl, key_without_parts, and_three, and_five, same_terms-true, enters, leaves, call_by-act, publish_rule, unlock_rule, claim_rule, refund_rule, or-left}
 use Rattle.swap_laws.proofs.Expiry.{still_expired}
 use Rattle.swap_laws.proofs.Accepted.{times_law}
 use Rattle.swap_laws.proofs.History.{published_done, opened_done, of_publish, of_unlock, published-past, not-true-of, lock-below}
@@ -57,10 +57,10 @@ due_is_valid d v w signed b known a (Transfer to units) i = refl
 
 -- whatever v called on a ledger, it knows of
 pub knows_call : (v : ℕ) (test : Option Call → Bool) (k h : List Entry) → test None ≡ false → Knows v k h → has_called v test k ≡ false → has_called v test h ≡ false
-knows_call v test k h n kn e = list_any-none (λ x. test (call_of v x)) h (λ x i. go x (from_append k kn.rest x (subst (IsIn x) kn.whole i)))
+knows_call v test k h n kn e = list_any-none (λ x. test (call_by v x)) h (λ x i. go x (from_append k kn.rest x (subst (IsIn x) kn.whole i)))
   where
-    go : (x : Entry) → IsIn x k ⊎ IsIn x kn.rest → test (call_of v x) ≡ false
-    go x (inl i) = not_any-in (λ x. test (call_of v x)) k x e i
+    go : (x : Entry) → IsIn x k ⊎ IsIn x kn.rest → test (call_by v x) ≡ false
+    go x (inl i) = not_any-in (λ x. test (call_by v x)) k x e i
     go x (inr i) = ap test (none_called v x (kn.others x i)) ∙ n
 
 when_due_in : (test : Bool) (a : ℕ) (c : Call) (x : Action) → IsIn x (when_due test a c) → (test ≡ true) × (x.arc ≡ a) × (x.call ≡ c)
@@ -68,7 +68,7 @@ when_due_in true a c x (inl e) = (refl, ap (λ y. y.arc) e, ap (λ y. y.call) e)
 when_due_in true a c x (inr i) = absurd i
 when_due_in false a c x i = absurd i
 
-present_in : (a : ℕ) (o : Option Hashkey) (x : Action) → IsIn x (present a o) → (key : Hashkey) × (o ≡ Some key) × (x.arc ≡ a) × (x.call ≡ Unlock key)
+present_in : (a : ℕ) (o : Option Hashkey) (x : Action) → IsIn x (presented a o) → (key : Hashkey) × (o ≡ Some key) × (x.arc ≡ a) × (x.call ≡ Unlock key)
 present_in a None x i = absurd i
 present_in a (Some key) x (inl e) = (key, refl, ap (λ y. y.arc) e, ap (λ y. y.call) e)
 present_in a (Some key) x (inr i) = absurd i
@@ -98,7 +98,7 @@ module _ (d : Deal) (v : ℕ) (w : Wallet) (signed : ℕ → Option Hashkey) (b 
       let l = leaves d v c i in
       let done = published_done d c (history b c) p (legal_on c l.0) e in
       let by : done.act.by ≡ v = (of_publish d c done.past done.act.by p.terms done.clear).party ∙ l.1 in
-      let r = rules.own c done.past done.now (Publish p.terms) done.stands (call_of-act d c done.past done.now (Publish p.terms) v done.act by) in
+      let r = rules.own c done.past done.now (Publish p.terms) done.stands (call_by-act d c done.past done.now (Publish p.terms) v done.act by) in
       same_terms-true p.terms (terms_of d c) r.0
 
   onto_origin : (m : Mode) → d.mode ≡ m → (c : ℕ) (inner key : Hashkey) (e : Entry) → IsIn c (leaving d.graph v) → IsIn e (history b c) → accepted e ≡ Some (Unlock inner) → leads d v key.lock ≡ false → IsOnto m v inner key → has_origin m d b v key ≡ true
@@ -106,13 +106,13 @@ module _ (d : Deal) (v : ℕ) (w : Wallet) (signed : ℕ → Option Hashkey) (b 
       or-right (leads d v key.lock) _ (list_any-in (λ a. list_any (λ e. carries key.secret (accepted e)) (history b a)) (leaving d.graph v) c
       (list_any-in (λ e. carries key.secret (accepted e)) (history b c) e (ap (carries key.secret) took ∙ o) j) i)
   onto_origin Hashkeys em c inner key e i j took f o =
-      ap (λ x. cond x (is_alone v key.path) (list_any (λ a. list_any (λ e. extends v key (accepted e)) (history b a)) (leaving d.graph v))) f
-      ∙ list_any-in (λ a. list_any (λ e. extends v key (accepted e)) (history b a)) (leaving d.graph v) c
-      (list_any-in (λ e. extends v key (accepted e)) (history b c) e (ap (extends v key) took ∙ o) j) i
+      ap (λ x. cond x (is_alone v key.path) (list_any (λ a. list_any (λ e. extends_without v key (accepted e)) (history b a)) (leaving d.graph v))) f
+      ∙ list_any-in (λ a. list_any (λ e. extends_without v key (accepted e)) (history b a)) (leaving d.graph v) c
+      (list_any-in (λ e. extends_without v key (accepted e)) (history b c) e (ap (extends_without v key) took ∙ o) j) i
 
   own_origin : (m : Mode) → (key : Hashkey) → leads d v key.lock ≡ true → IsOwn m v key → has_origin m d b v key ≡ true
   own_origin Timelocks key l o = or-left (leads d v key.lock) _ l
-  own_origin Hashkeys key l o = ap (λ x. cond x (is_alone v key.path) (list_any (λ a. list_any (λ e. extends v key (accepted e)) (history b a)) (leaving d.graph v))) l ∙ o
+  own_origin Hashkeys key l o = ap (λ x. cond x (is_alone v key.path) (list_any (λ a. list_any (λ e. extends_without v key (accepted e)) (history b a)) (leaving d.graph v))) l ∙ o
 
   -- the hashkey that is due for a lock keeps the rules
   key_rule : (i : ℕ) (key : Hashkey) → i < length d.leaders → due_key d v w (signed i) known i ≡ Some key → KeepsKey d b v i key
@@ -267,7 +267,7 @@ module _ (d : Deal) (v : ℕ) (w : Wallet) (signed : ℕ → Option Hashkey) (b 
       inner (inr j) =
           let f = from_flat_map (λ i. flat_map (due_unlock_on d v w (signed i) known i) (entering d.graph v)) (locks d) x j in
           let g = from_flat_map (due_unlock_on d v w (signed f.0) known f.0) (entering d.graph v) x f.2 in
-          let t = if_in (may_unlock d v known f.0 g.0) (present g.0 (due_key d v w (signed f.0) known f.0)) x g.2 in
+          let t = if_in (may_unlock d v known f.0 g.0) (presented g.0 (due_key d v w (signed f.0) known f.0)) x g.2 in
           let p = present_in g.0 (due_key d v w (signed f.0) known f.0) x t.1 in
           to x g.0 (Unlock p.0) p.2 p.3 (unlock_due g.0 f.0 p.0 g.1 (from_range f.0 (length d.leaders) f.1) t.0 p.1)
 

@@ -5,7 +5,7 @@ use Rattle.swap_base.specs.Lists.{IsIn, IsMoment}
 use Rattle.swap_base.proofs.Lists.{Order, moments_in_order, list_all-in, list_all-from, in_range, from_range, and_parts, and_both, greatest-below, Earlier, Same, Later}
 use Rattle.swap_digraph.specs.declared.deal.Deal.{Deal}
 use Rattle.swap_digraph.specs.Graph.{entering, is_among}
-use Rattle.swap_digraph.specs.Deal.{counterparty, locks, leads}
+use Rattle.swap_digraph.specs.Deal.{counterparty, locks, leads, hashlock_of}
 use Rattle.hashkey_path.specs.declared.hashkey.Hashkey.{Hashkey}
 use Rattle.hashkey_path.specs.Hashkey.{is_wrong_secret, is_wrong_path, is_wrong_signature, is_valid}
 use Rattle.escrow_core.specs.Terms.{terms_of, last_in, hashlock_in, refund_expiry}
@@ -15,8 +15,9 @@ use Rattle.ledger_core.specs.History.{height, accepted, published, Opening, open
 use Rattle.ledger_core.specs.declared.facts.Settlement.TheVariants.{Refunded}
 use Rattle.ledger_core.specs.Book.{Histories, history, IsLegalBook}
 use Rattle.swap_rules.specs.declared.finding.Rule.TheVariants.{Unlock as ToUnlock, Claim as ToClaim}
-use Rattle.swap_rules.specs.Party.{is_correct, height_in, is_good, is_ready, ready_height, is_triggered, expiry, call_of, first_key, hashlock_of, least_expiry}
-use Rattle.swap_rules.specs.Conduct.{is_first_key, keeps, IsConducted, height_of_opening, base_of, trigger_height, when, ref_of}
+use Rattle.swap_rules.specs.Party.{is_correct, height_in, is_good, is_ready, ready_height, is_triggered, expiry, call_by, first_key, least_expiry}
+use Rattle.swap_rules.specs.Conduct.{is_first_key, keeps, IsConducted}
+use Rattle.swap_rules.specs.Late.{height_of_opening, base_of, trigger_height, when, ref_of}
 use Rattle.swap_rules.specs.Outcome.{is_claim, is_got, IsEnded}
 use Rattle.swap_laws.proofs.Words.{and_five, in-is_among, unlock_rule, claim_rule, enters, act_of}
 use Rattle.swap_laws.proofs.Times.{TimesLaw}
@@ -114,7 +115,7 @@ module _ (d : Deal) (b : Histories) (v : ℕ) (legal : IsLegalBook d b) (ended :
       let passed : due.ref + d.delta < height (history b a) = omega arith in
       let done = done_in_time d b v conducted legal on_time (ToUnlock i) a (unlock_rule d i due.within) (in_range a (length d.graph.arcs) in_arc.0) due.ref due.enabled passed in
       let u = counted_unlock d b v i a done.now.height done.call done.counted in
-      let called : call_of v done.now ≡ Some (Unlock u.key) = done.called ∙ ap Some u.call in
+      let called : call_by v done.now ≡ Some (Unlock u.key) = done.called ∙ ap Some u.call in
       let l = legal_at d b v conducted legal a in_arc.0 in
       let act = act_of d a (history b a) done.past done.now (Unlock u.key) v l done.stands called in
       let k = and_five (is_some (published done.past)) (is_ready d b v) (is_first_key (first_key b v u.key.lock) u.key) (is_valid d a (hashlock_of d u.key.lock) u.key) _ (kept d b v conducted a done.past done.now (Unlock u.key) done.stands called) in
@@ -197,7 +198,7 @@ module _ (d : Deal) (b : Histories) (v : ℕ) (legal : IsLegalBook d b) (ended :
       let ends = trigger_ends a w in
       let passed : trigger_height d (history b a) + d.delta < height (history b a) = omega arith in
       let done = done_in_time d b v conducted legal on_time ToClaim a (claim_rule d) (in_range a (length d.graph.arcs) in_arc.0) (trigger_height d (history b a)) (claim_enabled a w t) passed in
-      let called : call_of v done.now ≡ Some Claim = done.called ∙ ap Some (counted_claim d b v a done.now.height done.call done.counted) in
+      let called : call_by v done.now ≡ Some Claim = done.called ∙ ap Some (counted_claim d b v a done.now.height done.call done.counted) in
       let act = act_of d a (history b a) done.past done.now Claim v l done.stands called in
       let all_open : triggered d done.past ≡ true = kept d b v conducted a done.past done.now Claim done.stands called in
       let o = is_some-of (opened done.past 0) (list_all-in (is_open done.past) (locks d) 0 all_open (in_range 0 (length d.leaders) law.lock)) in

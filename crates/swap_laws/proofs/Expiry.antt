@@ -6,7 +6,8 @@ use Rattle.hashkey_path.specs.Hashkey.{is_valid}
 use Rattle.escrow_core.specs.Terms.{hashlock_in, terms_of, last_in}
 use Rattle.ledger_core.specs.declared.entry.Entry.{Entry}
 use Rattle.ledger_core.specs.History.{height, Publication, published, Opening, opened, is_open, IsLegal}
-use Rattle.swap_rules.specs.Party.{hashlock_of, has_expired, expiry}
+use Rattle.swap_digraph.specs.Deal.{hashlock_of}
+use Rattle.swap_rules.specs.Party.{has_expired, expiry}
 use Rattle.swap_laws.proofs.Entering.{valid_of_unlock}
 use Rattle.swap_laws.proofs.Times.{TimesLaw}
 use Rattle.swap_laws.proofs.Openings.{expired_lock, has_expired-lock}

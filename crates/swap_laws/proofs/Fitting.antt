@@ -2,7 +2,7 @@
 use Rattle.std.proofs.Common.{le-leb, ◌≡◌, ℕ, ◌<◌, ◌≤◌, ◌==◌, nat_lt, nat_le, Bool, true, false, slice_index, ◌&&◌, IsTrue, [], length, refl, sym, ap, ◌∙◌, arith, eqb-true, eq-eqb, lt-ltb, ◌^◌}
 use Rattle.std.specs.List.{list_all}
 use Rattle.swap_base.proofs.Lists.{list_all-from, and_parts}
-use Rattle.swap_digraph.specs.Deal.{path_limit, path_limit_of, most_parties, amount}
+use Rattle.swap_digraph.specs.Deal.{path_limit, path_limit_of, most_parties, amount, hashlock_of}
 use Rattle.swap_digraph.specs.declared.deal.Version.{Version}
 use Rattle.swap_digraph.specs.declared.deal.Version.TheVariants.{One, Two}
 use Rattle.swap_digraph.specs.declared.deal.Mode.{Mode}
@@ -13,7 +13,6 @@ use Rattle.hashkey_path.specs.Hashkey.{is_wrong_path, is_valid}
 use Rattle.escrow_core.specs.Terms.{terms_of}
 use Rattle.ledger_core.specs.declared.entry.Call.TheVariants.{Publish, Unlock}
 use Rattle.ledger_core.specs.History.{fit}
-use Rattle.swap_rules.specs.Party.{hashlock_of}
 use Rattle.swap_rules.specs.Accepted.{IsAccepted}
 use Rattle.swap_laws.proofs.Times.{no_path, path_of, path_of_valid}
 use Rattle.swap_laws.proofs.Accepted.{accepted_is_well_sized}

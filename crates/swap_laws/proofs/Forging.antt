@@ -10,7 +10,7 @@ use Rattle.swap_digraph.specs.declared.deal.Mode.{Mode}
 use Rattle.swap_digraph.specs.declared.deal.Mode.TheVariants.{Timelocks, Hashkeys}
 use Rattle.swap_digraph.specs.declared.deal.Deal.{Deal}
 use Rattle.swap_digraph.specs.Graph.{is_path, first_is, last_is, leaving, is_among, are_followers, has_arc}
-use Rattle.swap_digraph.specs.Deal.{counterparty, leads, leader_of}
+use Rattle.swap_digraph.specs.Deal.{counterparty, leads, leader_of, hashlock_of}
 use Rattle.hash_signature.specs.declared.sig.Sig.{Sig}
 use Rattle.hash_signature.specs.Signature.{hash_of}
 use Rattle.hashkey_path.specs.declared.hashkey.Hashkey.{Hashkey}
@@ -20,11 +20,12 @@ use Rattle.ledger_core.specs.declared.entry.Call.TheVariants.{Publish, Unlock, C
 use Rattle.ledger_core.specs.declared.entry.Entry.{Entry}
 use Rattle.ledger_core.specs.History.{accepted, published}
 use Rattle.ledger_core.specs.Book.{Histories, history, IsLegalBook}
-use Rattle.swap_rules.specs.Party.{hashlock_of, is_ready, call_of, key_in, first_key}
-use Rattle.swap_rules.specs.Conduct.{is_first_key, has_origin, carries, keeps, IsConducted, forges, has_made, has_forged_suffix, extends, is_alone}
+use Rattle.swap_rules.specs.Party.{is_ready, call_by, key_in, first_key}
+use Rattle.swap_rules.specs.Conduct.{is_first_key, has_origin, carries, keeps, IsConducted, extends_without, is_alone}
+use Rattle.swap_rules.specs.Forged.{forges, has_made, has_forged_suffix}
 use Rattle.swap_rules.specs.Accepted.{IsAccepted, IsTimed}
-use Rattle.swap_laws.proofs.Words.{bytes_eq-true, bytes_eq-refl, same_key-true, same_key-refl, and_three, and_five, is_among-true, leaves, call_of-act}
-use Rattle.swap_laws.proofs.SafeHashkeys.{extended_key}
+use Rattle.swap_laws.proofs.Words.{bytes_eq-true, bytes_eq-refl, same_key-true, same_key-refl, and_three, and_five, is_among-true, leaves, call_by-act}
+use Rattle.swap_laws.proofs.SafeHashkeys.{extended_without}
 use Rattle.swap_laws.proofs.Calls.{kept}
 use Rattle.swap_laws.proofs.History.{of_unlock, clear_at, not-false, not-true, lock-below}
 use Rattle.swap_laws.proofs.Accepted.{one_leader, arc_has}
@@ -43,7 +44,7 @@ pub record Taken (d : Deal) (b : Histories) (key : Hashkey) : Type 0 where
 
 -- what its sender kept
 pub record Taker (d : Deal) (b : Histories) (key : Hashkey) (t : Taken d b key) : Type 0 where
-  pub called : call_of (counterparty d t.arc) t.now ≡ Some (Unlock key)
+  pub called : call_by (counterparty d t.arc) t.now ≡ Some (Unlock key)
   pub path : is_wrong_path d t.arc d.mode key ≡ false
   pub origin : has_origin d.mode d b (counterparty d t.arc) key ≡ true
   pub lock : key.lock < length d.leaders
@@ -63,7 +64,7 @@ module _ (d : Deal) (b : Histories) (k : IsAccepted d) (legal : IsLegalBook d b)
       let l = legal.legal t.arc (rw legal.one_each t.below) in
       let c = clear_at d t.arc (history b t.arc) t.past t.now (Unlock key) l t.stands t.took in
       let u = of_unlock d t.arc t.past c.0.by key c.1 in
-      let called = call_of-act d t.arc t.past t.now (Unlock key) (counterparty d t.arc) c.0 u.counterparty in
+      let called = call_by-act d t.arc t.past t.now (Unlock key) (counterparty d t.arc) c.0 u.counterparty in
       let q = and_five (is_some (published t.past)) (is_ready d b (counterparty d t.arc)) (is_first_key (first_key b (counterparty d t.arc) key.lock) key) (is_valid d t.arc (hashlock_of d key.lock) key) _
       (kept d b (counterparty d t.arc) (all (counterparty d t.arc) (k.ends.to t.arc t.below)) t.arc t.past t.now (Unlock key) t.stands called) in
       record { called = called; path = u.path; origin = q.4; lock = lock-below d t.arc key c.0.fits }
@@ -76,7 +77,7 @@ module _ (d : Deal) (b : Histories) (k : IsAccepted d) (legal : IsLegalBook d b)
   made : (key : Hashkey) (t : Taken d b key) → has_made b (counterparty d t.arc) key ≡ true
   made key t =
       let r = taker key t in
-      list_any-in (λ e. is_first_key (key_in key.lock (call_of (counterparty d t.arc) e)) key) (flat_map (λ h. h) b) t.now
+      list_any-in (λ e. is_first_key (key_in key.lock (call_by (counterparty d t.arc) e)) key) (flat_map (λ h. h) b) t.now
       (ap (λ o. is_first_key (key_in key.lock o) key) r.called ∙ (ap (λ z. is_first_key (cond z (Some key) None) key) (eq-eqb key.lock key.lock refl) ∙ same_key-refl key)) (entry_in key t)
 
   first_of_path : (key : Hashkey) (t : Taken d b key) → d.mode ≡ Hashkeys → first_is (counterparty d t.arc) key.path ≡ true
@@ -89,13 +90,13 @@ module _ (d : Deal) (b : Histories) (k : IsAccepted d) (legal : IsLegalBook d b)
   alone_rest u x p e = same_list-true (λ x y. x == y) eqb-true p [] (and_parts (x == u) (same_list (λ x y. x == y) p []) e).1
 
   -- the hashkey that an extension extends was taken too
-  inner_taken : (u x : ℕ) (p : List ℕ) (s : Sig) (sigs : List Sig) (key : Hashkey) → list_any (λ a. list_any (λ e. extends u (record { lock = key.lock; secret = key.secret; path = x ∷ p; sigs = s ∷ sigs }) (accepted e)) (history b a)) (leaving d.graph u) ≡ true
+  inner_taken : (u x : ℕ) (p : List ℕ) (s : Sig) (sigs : List Sig) (key : Hashkey) → list_any (λ a. list_any (λ e. extends_without u (record { lock = key.lock; secret = key.secret; path = x ∷ p; sigs = s ∷ sigs }) (accepted e)) (history b a)) (leaving d.graph u) ≡ true
       → Taken d b (record { lock = key.lock; secret = key.secret; path = p; sigs = sigs })
   inner_taken u x p s sigs key e =
-      let y = in_any (λ a. list_any (λ e. extends u (record { lock = key.lock; secret = key.secret; path = x ∷ p; sigs = s ∷ sigs }) (accepted e)) (history b a)) (leaving d.graph u) e in
-      let z = in_any (λ e. extends u (record { lock = key.lock; secret = key.secret; path = x ∷ p; sigs = s ∷ sigs }) (accepted e)) (history b y.0) y.2 in
-      let i = extended_key u (record { lock = key.lock; secret = key.secret; path = x ∷ p; sigs = s ∷ sigs }) (accepted z.0) z.2 in
-      let q = and_parts ((x == u) && not (is_among u i.0.path)) (same_key i.0 (record { lock = key.lock; secret = key.secret; path = p; sigs = sigs })) i.2 in
+      let y = in_any (λ a. list_any (λ e. extends_without u (record { lock = key.lock; secret = key.secret; path = x ∷ p; sigs = s ∷ sigs }) (accepted e)) (history b a)) (leaving d.graph u) e in
+      let z = in_any (λ e. extends_without u (record { lock = key.lock; secret = key.secret; path = x ∷ p; sigs = s ∷ sigs }) (accepted e)) (history b y.0) y.2 in
+      let i = extended_without u (record { lock = key.lock; secret = key.secret; path = x ∷ p; sigs = s ∷ sigs }) (accepted z.0) z.2 in
+      let q = and_parts (x == u) (same_key i.0 (record { lock = key.lock; secret = key.secret; path = p; sigs = sigs })) i.3 in
       let m = moment_from_in (history b y.0) z.0 z.1 in
       record { arc = y.0; below = (leaves d u y.0 y.1).0; past = m.0; now = z.0; stands = m.1; took = i.1 ∙ ap (λ h. Some (Unlock h)) (same_key-true i.0 (record { lock = key.lock; secret = key.secret; path = p; sigs = sigs }) q.1) }
 
@@ -111,10 +112,10 @@ module _ (d : Deal) (b : Histories) (k : IsAccepted d) (legal : IsLegalBook d b)
       both (x == v) refl m (rest (leads d (counterparty d t.arc) key.lock) refl (ap (λ m. has_origin m d b (counterparty d t.arc) (record { lock = key.lock; secret = key.secret; path = x ∷ p; sigs = s ∷ sigs })) (sym mode) ∙ r.origin) (λ y. unforged_suffix v mode p sigs key y))
     where
       rest : (y : Bool) → leads d (counterparty d t.arc) key.lock ≡ y
-          → cond (leads d (counterparty d t.arc) key.lock) (is_alone (counterparty d t.arc) (x ∷ p)) (list_any (λ a. list_any (λ e. extends (counterparty d t.arc) (record { lock = key.lock; secret = key.secret; path = x ∷ p; sigs = s ∷ sigs }) (accepted e)) (history b a)) (leaving d.graph (counterparty d t.arc))) ≡ true
+          → cond (leads d (counterparty d t.arc) key.lock) (is_alone (counterparty d t.arc) (x ∷ p)) (list_any (λ a. list_any (λ e. extends_without (counterparty d t.arc) (record { lock = key.lock; secret = key.secret; path = x ∷ p; sigs = s ∷ sigs }) (accepted e)) (history b a)) (leaving d.graph (counterparty d t.arc))) ≡ true
           → (Taken d b (record { lock = key.lock; secret = key.secret; path = p; sigs = sigs }) → has_forged_suffix b v key p sigs ≡ false) → has_forged_suffix b v key p sigs ≡ false
-      rest true e o again = ap (λ l. has_forged_suffix b v key l sigs) (alone_rest (counterparty d t.arc) x p (ap (λ z. cond z (is_alone (counterparty d t.arc) (x ∷ p)) (list_any (λ a. list_any (λ e. extends (counterparty d t.arc) (record { lock = key.lock; secret = key.secret; path = x ∷ p; sigs = s ∷ sigs }) (accepted e)) (history b a)) (leaving d.graph (counterparty d t.arc)))) (sym e) ∙ o))
-      rest false e o again = again (inner_taken (counterparty d t.arc) x p s sigs key (ap (λ z. cond z (is_alone (counterparty d t.arc) (x ∷ p)) (list_any (λ a. list_any (λ e. extends (counterparty d t.arc) (record { lock = key.lock; secret = key.secret; path = x ∷ p; sigs = s ∷ sigs }) (accepted e)) (history b a)) (leaving d.graph (counterparty d t.arc)))) (sym e) ∙ o))
+      rest true e o again = ap (λ l. has_forged_suffix b v key l sigs) (alone_rest (counterparty d t.arc) x p (ap (λ z. cond z (is_alone (counterparty d t.arc) (x ∷ p)) (list_any (λ a. list_any (λ e. extends_without (counterparty d t.arc) (record { lock = key.lock; secret = key.secret; path = x ∷ p; sigs = s ∷ sigs }) (accepted e)) (history b a)) (leaving d.graph (counterparty d t.arc)))) (sym e) ∙ o))
+      rest false e o again = again (inner_taken (counterparty d t.arc) x p s sigs key (ap (λ z. cond z (is_alone (counterparty d t.arc) (x ∷ p)) (list_any (λ a. list_any (λ e. extends_without (counterparty d t.arc) (record { lock = key.lock; secret = key.secret; path = x ∷ p; sigs = s ∷ sigs }) (accepted e)) (history b a)) (leaving d.graph (counterparty d t.arc)))) (sym e) ∙ o))
 
       both : (y : Bool) → (x == v) ≡ y → has_made b x (record { lock = key.lock; secret = key.secret; path = x ∷ p; sigs = s ∷ sigs }) ≡ true → has_forged_suffix b v key p sigs ≡ false
           → ((y && not (has_made b v (record { lock = key.lock; secret = key.secret; path = x ∷ p; sigs = s ∷ sigs }))) || has_forged_suffix b v key p sigs) ≡ false
@@ -128,7 +129,7 @@ module _ (d : Deal) (b : Histories) (k : IsAccepted d) (legal : IsLegalBook d b)
     one = (subst (λ m. IsTimed m d) mode k.timed).0
 
     abbrev IsShown : Type 0
-    IsShown = list_any (λ e. carries secret (call_of v e)) (flat_map (λ h. h) b) ≡ true
+    IsShown = list_any (λ e. carries secret (call_by v e)) (flat_map (λ h. h) b) ≡ true
 
     follower : (u : ℕ) → leads d u 0 ≡ false → is_among u d.leaders ≡ false
     follower u f = not-true _ (λ e.
@@ -143,7 +144,7 @@ module _ (d : Deal) (b : Histories) (k : IsAccepted d) (legal : IsLegalBook d b)
     by_leader key t s l =
         let same : counterparty d t.arc ≡ v = sym (eqb-true _ (counterparty d t.arc) l) ∙ eqb-true _ v lead in
         let r = taker key t in
-        list_any-in (λ e. carries secret (call_of v e)) (flat_map (λ h. h) b) t.now (ap (λ z. carries secret (call_of z t.now)) (sym same) ∙ (ap (carries secret) r.called ∙ s)) (entry_in key t)
+        list_any-in (λ e. carries secret (call_by v e)) (flat_map (λ h. h) b) t.now (ap (λ z. carries secret (call_by z t.now)) (sym same) ∙ (ap (carries secret) r.called ∙ s)) (entry_in key t)
 
     abbrev Again : ℕ → Type 0
     Again m = (q : List ℕ) (inner : Hashkey) (y : Taken d b inner) → bytes_eq inner.secret secret ≡ true → leads d (counterparty d y.arc) 0 ≡ false → is_path d.graph q ≡ true → last_is (counterparty d y.arc) q ≡ true → are_followers d.leaders q ≡ true → length q + m ≡ suc d.graph.n → IsShown
@@ -202,8 +203,8 @@ module _ (d : Deal) (b : Histories) (k : IsAccepted d) (legal : IsLegalBook d b)
       and_last true false z h = refl
       and_last false y z h = refl
 
-      go : (x : Bool) → leads d v key.lock ≡ x → (bytes_eq (hash_of key.secret) (slice_index_or d.hashlocks key.lock []) && leads d v key.lock && not (list_any (λ e. carries key.secret (call_of v e)) (flat_map (λ h. h) b))) ≡ false
-      go x l = and_last (bytes_eq (hash_of key.secret) (slice_index_or d.hashlocks key.lock [])) (leads d v key.lock) (list_any (λ e. carries key.secret (call_of v e)) (flat_map (λ h. h) b)) (λ h.
+      go : (x : Bool) → leads d v key.lock ≡ x → (bytes_eq (hash_of key.secret) (slice_index_or d.hashlocks key.lock []) && leads d v key.lock && not (list_any (λ e. carries key.secret (call_by v e)) (flat_map (λ h. h) b))) ≡ false
+      go x l = and_last (bytes_eq (hash_of key.secret) (slice_index_or d.hashlocks key.lock [])) (leads d v key.lock) (list_any (λ e. carries key.secret (call_by v e)) (flat_map (λ h. h) b)) (λ h.
           let lock : key.lock ≡ 0 = (let z = Taker.lock (taker key t) in let q : length d.leaders ≡ 1 = (subst (λ m. IsTimed m d) e k.timed).0 in omega arith) in
           shown e v (ap (leads d v) (sym lock) ∙ h) key.secret key t (bytes_eq-refl key.secret))
 

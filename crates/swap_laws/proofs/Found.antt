@@ -11,7 +11,9 @@ use Rattle.swap_digraph.specs.Graph.{arcs}
 use Rattle.ledger_core.specs.History.{height}
 use Rattle.ledger_core.specs.Book.{Histories, history, IsLegalBook}
 use Rattle.swap_rules.specs.Findings.{findings, or_zero, failing, broken, rules_of, late_on, lates, forgeries, findings_of, unfinished}
-use Rattle.swap_rules.specs.Conduct.{IsConducted, keeps_at, ref_of, is_late, is_forged}
+use Rattle.swap_rules.specs.Conduct.{IsConducted, keeps_at}
+use Rattle.swap_rules.specs.Late.{ref_of, is_late}
+use Rattle.swap_rules.specs.Forged.{is_forged}
 use Rattle.swap_rules.specs.Outcome.{IsEnded}
 use Rattle.swap_rules.specs.declared.finding.Finding.{Finding}
 use Rattle.swap_rules.specs.declared.finding.Finding.TheVariants.{Broke, Late, Forged, Unfinished}

@@ -13,7 +13,7 @@ use Rattle.ledger_core.specs.declared.entry.Entry.{Entry}
 use Rattle.ledger_core.specs.History.{accepted, Publication, publication, published, Opening, opening, opened, is_open, triggered}
 use Rattle.ledger_core.specs.Book.{Histories, history}
 use Rattle.swap_rules.specs.Party.{is_correct_in, is_correct, height_in, is_good, is_ready, leads_one}
-use Rattle.swap_rules.specs.Conduct.{has_seen, has_origin, carries, extends, is_alone}
+use Rattle.swap_rules.specs.Conduct.{has_seen, has_origin, carries, extends_without, is_alone}
 use Rattle.swap_laws.proofs.History.{is_some-of}
 use Rattle.swap_laws.proofs.Prefixes.{list_any-more, in_any}
 use Rattle.swap_laws.specs.Machine.{Begins}
@@ -85,9 +85,9 @@ origin-more Timelocks d b c v key g e = go (leads d v key.lock) e
     go false e = any-more b c (λ e. carries key.secret (accepted e)) (leaving d.graph v) g e
 origin-more Hashkeys d b c v key g e = go (leads d v key.lock) e
   where
-    go : (x : Bool) → cond x (is_alone v key.path) (has_seen d b v (extends v key)) ≡ true → cond x (is_alone v key.path) (has_seen d c v (extends v key)) ≡ true
+    go : (x : Bool) → cond x (is_alone v key.path) (has_seen d b v (extends_without v key)) ≡ true → cond x (is_alone v key.path) (has_seen d c v (extends_without v key)) ≡ true
     go true e = e
-    go false e = any-more b c (λ e. extends v key (accepted e)) (leaving d.graph v) g e
+    go false e = any-more b c (λ e. extends_without v key (accepted e)) (leaving d.graph v) g e
 
 pub has_origin-more : (d : Deal) (b c : Histories) (v : ℕ) (key : Hashkey) → Grows b c → has_origin d.mode d b v key ≡ true → has_origin d.mode d c v key ≡ true
 has_origin-more d b c v key g e = origin-more d.mode d b c v key g e

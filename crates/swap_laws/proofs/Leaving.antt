@@ -8,7 +8,7 @@ use Rattle.swap_base.proofs.Lists.{any_at, list_all-in, in_range, some_passes, s
 use Rattle.swap_digraph.specs.declared.deal.Deal.{Deal}
 use Rattle.swap_digraph.specs.declared.deal.Mode.TheVariants.{Timelocks}
 use Rattle.swap_digraph.specs.Graph.{leaving, entering}
-use Rattle.swap_digraph.specs.Deal.{locks, leads}
+use Rattle.swap_digraph.specs.Deal.{locks, leads, hashlock_of}
 use Rattle.hash_signature.specs.Signature.{hash_of}
 use Rattle.hashkey_path.specs.declared.hashkey.Hashkey.{Hashkey}
 use Rattle.hashkey_path.specs.Hashkey.{is_wrong_secret, is_wrong_path, is_valid}
@@ -19,8 +19,9 @@ use Rattle.ledger_core.specs.declared.entry.Entry.{Entry}
 use Rattle.ledger_core.specs.History.{height, accepted, Publication, published, Opening, opened, is_open}
 use Rattle.ledger_core.specs.Book.{Histories, history, IsLegalBook}
 use Rattle.swap_rules.specs.declared.outcome.Outcome.TheVariants.{NoDeal, FreeRide, Underwater, Deal as WholeDeal, Discount}
-use Rattle.swap_rules.specs.Party.{is_ready, is_triggered, leads_one, call_of, first_key, hashlock_of}
-use Rattle.swap_rules.specs.Conduct.{IsConducted, opens_without, carries, forges}
+use Rattle.swap_rules.specs.Party.{is_ready, is_triggered, leads_one, call_by, first_key, opens_without}
+use Rattle.swap_rules.specs.Conduct.{IsConducted, carries}
+use Rattle.swap_rules.specs.Forged.{forges}
 use Rattle.swap_rules.specs.Outcome.{is_got, got, lost, outcome}
 use Rattle.swap_laws.proofs.Entering.{DueUnlock, valid_of_unlock}
 use Rattle.swap_laws.proofs.Words.{is_among-true, leaves}
@@ -75,14 +76,14 @@ pub record Shown (b : Histories) (v : ℕ) : Type 0 where
   pub entry : Entry
   pub key : Hashkey
   pub stands : IsIn entry (flat_map (λ h. h) b)
-  pub called : call_of v entry ≡ Some (Unlock key)
+  pub called : call_by v entry ≡ Some (Unlock key)
 
 pub shown_timelocks : (d : Deal) (b : Histories) (v : ℕ) (key : Hashkey) → forges Timelocks d b v (Some (Unlock key)) ≡ false → is_wrong_secret (hashlock_of d key.lock) key ≡ false → leads d v key.lock ≡ true → Shown b v
 unfolding forges
 shown_timelocks d b v key f s l =
     let any = not-forged (bytes_eq (hash_of key.secret) (slice_index_or d.hashlocks key.lock [])) (leads d v key.lock) _ f (not-false _ s) l in
-    let e = any_at (λ e. carries key.secret (call_of v e)) (flat_map (λ h. h) b) any in
-    let c = carried key.secret (call_of v e.now) e.passes in
+    let e = any_at (λ e. carries key.secret (call_by v e)) (flat_map (λ h. h) b) any in
+    let c = carried key.secret (call_by v e.now) e.passes in
     record { entry = e.now; key = c.0; stands = subst (IsIn e.now) (sym e.stands.1) (in_from_moment e.past e.now e.stands.0); called = c.1 }
 
 module _ (d : Deal) (b : Histories) (v : ℕ) (legal : IsLegalBook d b) (conducted : IsConducted d b v) (unforged : IsUnforged d b v) (some_lock : 0 < length d.leaders) where

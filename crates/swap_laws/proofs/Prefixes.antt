@@ -6,7 +6,7 @@ use Rattle.swap_base.specs.Lists.{IsIn, IsMoment}
 use Rattle.swap_base.proofs.Lists.{Order, moments_in_order, Earlier, Same, Later, any_at, list_any-in, in_from_moment, in_append, from_append}
 use Rattle.ledger_core.specs.declared.entry.Entry.{Entry}
 use Rattle.ledger_core.specs.History.{height, sent_by}
-use Rattle.swap_rules.specs.Party.{call_in, call_of}
+use Rattle.swap_rules.specs.Party.{call_in, call_by}
 use Rattle.swap_laws.proofs.History.{height-append, not-true}
 use Rattle.swap_laws.specs.Machine.{Begins}
 
@@ -85,5 +85,5 @@ not_any-in p xs x e i = not-true (p x) (λ q. false≢true (sym e ∙ list_any-i
 
 -- Calls of v.
 
-pub none_called : (v : ℕ) (e : Entry) → sent_by v e.sender ≡ false → call_of v e ≡ None
+pub none_called : (v : ℕ) (e : Entry) → sent_by v e.sender ≡ false → call_by v e ≡ None
 none_called v e s = ap (λ b. cond b (call_in e.what) None) s

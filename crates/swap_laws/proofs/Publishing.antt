@@ -14,8 +14,9 @@ use Rattle.ledger_core.specs.declared.entry.Entry.{Entry}
 use Rattle.ledger_core.specs.History.{height, accepted, Publication, publication, published, settled, rows, IsLegal, accounts, held, balance, the_terms, terms_in}
 use Rattle.ledger_core.specs.Book.{Histories, history, IsLegalBook}
 use Rattle.swap_rules.specs.declared.finding.Rule.TheVariants.{Publish as ToPublish}
-use Rattle.swap_rules.specs.Party.{is_correct_in, is_correct, height_in, is_good, is_ready, ready_height, leads_one, call_of}
-use Rattle.swap_rules.specs.Conduct.{is_publish, keeps, when, ref_of}
+use Rattle.swap_rules.specs.Party.{is_correct_in, is_correct, height_in, is_good, is_ready, ready_height, leads_one, call_by}
+use Rattle.swap_rules.specs.Conduct.{is_publish, keeps}
+use Rattle.swap_rules.specs.Late.{when, ref_of}
 use Rattle.swap_rules.specs.Outcome.{is_claim, IsEnded}
 use Rattle.swap_rules.specs.Accepted.{IsAccepted}
 use Rattle.swap_laws.proofs.Words.{same_terms-refl, publish_rule, same_terms-true, enters, act_of, and_three, in-is_among, leaves}
@@ -93,9 +94,9 @@ module _ (d : Deal) (b : Histories) (k : IsAccepted d) (legal : IsLegalBook d b)
       let passed : r + d.delta < height (history b a) = omega arith in
       let x = done_in_time d b u c.conducted legal c.on_time ToPublish a (publish_rule d) (in_range a (length d.graph.arcs) out.0) r enabled passed in
       let pb = counted_publish d b u a x.now.height x.call x.counted in
-      let called : call_of u x.now ≡ Some (Publish pb.0) = x.called ∙ ap Some pb.1 in
+      let called : call_by u x.now ≡ Some (Publish pb.0) = x.called ∙ ap Some pb.1 in
       let act = act_of d a (history b a) x.past x.now (Publish pb.0) u l x.stands called in
-      let q = and_three (same_terms pb.0 (terms_of d a)) (count_by (λ e. is_publish (call_of u e)) (history b a) == 1) (leads_one d u || is_ready d b u) (kept d b u c.conducted a x.past x.now (Publish pb.0) x.stands called) in
+      let q = and_three (same_terms pb.0 (terms_of d a)) (count_by (λ e. is_publish (call_by u e)) (history b a) == 1) (leads_one d u || is_ready d b u) (kept d b u c.conducted a x.past x.now (Publish pb.0) x.stands called) in
       let terms : pb.0 ≡ terms_of d a = same_terms-true pb.0 (terms_of d a) q.0 in
       let own = no_own_transfer d b u legal ended c.conducted c.on_time law a w in
       let got = publish_takes d a (history b a) x.past x.now pb.0 l x.stands act.0 (act.1 ∙ sym out.1) (ap (λ z. z.amount) terms) own in

@@ -22,8 +22,9 @@ use Rattle.ledger_core.specs.Book.{Histories, history, IsLegalBook}
 use Rattle.ledger_core.specs.declared.accounts.Accounts.{Accounts}
 use Rattle.swap_rules.specs.declared.finding.Rule.TheVariants.{Publish as ToPublish, Refund as ToRefund}
 use Rattle.swap_rules.specs.declared.outcome.Outcome.TheVariants.{Underwater}
-use Rattle.swap_rules.specs.Party.{is_ready, ready_height, is_triggered, leads_one, call_of, least_expiry}
-use Rattle.swap_rules.specs.Conduct.{is_publish, keeps, IsConducted, when, ref_of, counts}
+use Rattle.swap_rules.specs.Party.{is_ready, ready_height, is_triggered, leads_one, call_by, least_expiry}
+use Rattle.swap_rules.specs.Conduct.{is_publish, keeps, IsConducted}
+use Rattle.swap_rules.specs.Late.{when, ref_of, counts}
 use Rattle.swap_rules.specs.Outcome.{is_claim, outcome, IsEnded}
 use Rattle.swap_laws.specs.Laws.{IsOnTime, IsUnforged, HasRefunds, EveryBookIsSafe}
 use Rattle.swap_laws.proofs.Times.{TimeLaw, OfTimelocks, OfHashkeys, TimesLaw}
@@ -35,7 +36,7 @@ use Rattle.swap_laws.proofs.SafeTimelocks.{timelocks_are_safe}
 use Rattle.swap_laws.proofs.SafeHashkeys.{hashkeys_are_safe}
 use Rattle.swap_laws.proofs.Accepted.{times_law, time_law}
 use Rattle.swap_laws.proofs.Units.{units, after}
-use Rattle.swap_laws.proofs.Words.{publish_rule, refund_rule, act_of, call_of-act, and_three, in-is_among, leaves}
+use Rattle.swap_laws.proofs.Words.{publish_rule, refund_rule, act_of, call_by-act, and_three, in-is_among, leaves}
 use Rattle.time_bounds.specs.Times as times
 
 -- The counterparty has nothing until it claims.
@@ -43,7 +44,7 @@ use Rattle.time_bounds.specs.Times as times
 module _ (d : Deal) (a : ℕ) where
   -- no call of the arc's party is a transfer
   abbrev pub NoOwnTransfer : List Entry → Type 0
-  NoOwnTransfer h = (e : Entry) (to units : ℕ) → IsIn e h → call_of (party d a) e ≡ Some (Transfer to units) → ⊥
+  NoOwnTransfer h = (e : Entry) (to units : ℕ) → IsIn e h → call_by (party d a) e ≡ Some (Transfer to units) → ⊥
 
   abbrev pub Empty : List Entry → Type 0
   Empty h = IsLegal d a h → NoOwnTransfer h → is_claim (settled h) ≡ false → (accounts d a h).counterparty ≡ 0
@@ -73,7 +74,7 @@ module _ (d : Deal) (a : ℕ) where
       let q = clear_at d a (h ++ e ∷ []) h e (Transfer to units) l ([], refl) k in
       let f = of_transfer d a h q.0.by to units q.1 in
       from_moved h e (Party q.0.by) (Some (Transfer to units)) q.0.sender k
-      (go (q.0.by == party d a) (to == party d a) (λ same. n e to units (in_append h (e ∷ []) e (inr (inl refl))) (call_of-act d a h e (Transfer to units) (party d a) q.0 (eqb-true _ _ same))) f)
+      (go (q.0.by == party d a) (to == party d a) (λ same. n e to units (in_append h (e ∷ []) e (inr (inl refl))) (call_by-act d a h e (Transfer to units) (party d a) q.0 (eqb-true _ _ same))) f)
     where
       b : Accounts
       b = accounts d a h
@@ -176,8 +177,8 @@ module _ (d : Deal) (b : Histories) (v : ℕ) (legal : IsLegalBook d b) (ended :
       let own = own_publish d b v conducted legal a p w e in
       let done = published_done d a (history b a) p l e in
       let by : done.act.by ≡ v = (of_publish d a done.past done.act.by p.terms done.clear).party ∙ out.1 in
-      let called = call_of-act d a done.past done.now (Publish p.terms) v done.act by in
-      let k = and_three (same_terms p.terms (terms_of d a)) (count_by (λ e. is_publish (call_of v e)) (history b a) == 1) (leads_one d v || is_ready d b v) (kept d b v conducted a done.past done.now (Publish p.terms) done.stands called) in
+      let called = call_by-act d a done.past done.now (Publish p.terms) v done.act by in
+      let k = and_three (same_terms p.terms (terms_of d a)) (count_by (λ e. is_publish (call_by v e)) (history b a) == 1) (leads_one d v || is_ready d b v) (kept d b v conducted a done.past done.now (Publish p.terms) done.stands called) in
       let r = publish_ref a w own.may in
       let now_ended : times.horizon d.start d.delta d.bound < height (history b a) = ended a out.0 in
       let t1 = law.opens a 0 out.0 in
@@ -186,7 +187,7 @@ module _ (d : Deal) (b : Histories) (v : ℕ) (legal : IsLegalBook d b) (ended :
       let passed : r.0 + d.delta < height (history b a) = omega arith in
       let x = done_in_time d b v conducted legal on_time ToPublish a (publish_rule d) (in_range a (length d.graph.arcs) out.0) r.0 r.1 passed in
       let c = counted_publish d b v a x.now.height x.call x.counted in
-      let one = count_one (λ e. is_publish (call_of v e)) (history b a) done.past x.past done.now x.now (eqb-true _ _ k.1) done.stands x.stands (ap is_publish called) (ap is_publish x.called ∙ ap (λ z. is_publish (Some z)) c.1) in
+      let one = count_one (λ e. is_publish (call_by v e)) (history b a) done.past x.past done.now x.now (eqb-true _ _ k.1) done.stands x.stands (ap is_publish called) (ap is_publish x.called ∙ ap (λ z. is_publish (Some z)) c.1) in
       let t4 : p.height ≡ height done.past = done.at in
       let t5 : done.now.height ≡ height done.past = done.act.at in
       let t6 : done.now.height ≡ x.now.height = ap (λ z. z.height) one.1 in
@@ -198,7 +199,7 @@ module _ (d : Deal) (b : Histories) (v : ℕ) (legal : IsLegalBook d b) (ended :
   no_own_transfer a w e to units i k =
       let out = leaves d v a w in
       let m = moment_from_in (history b a) e i in
-      false≢true (kept d b v conducted a m.0 e (Transfer to units) m.1 (ap (λ x. call_of x e) (sym out.1) ∙ k))
+      false≢true (kept d b v conducted a m.0 e (Transfer to units) m.1 (ap (λ x. call_by x e) (sym out.1) ∙ k))
 
   unsettled-late : (a : ℕ) (p : Publication) → IsIn a (leaving d.graph v) → is_triggered d b a ≡ false → published (history b a) ≡ Some p → settled (history b a) ≡ None → ⊥
   unfolding ref_of
@@ -216,7 +217,7 @@ module _ (d : Deal) (b : Histories) (v : ℕ) (legal : IsLegalBook d b) (ended :
       and_both (is_among a (leaving d.graph v) && is_some (published (history b a))) _ (and_both (is_among a (leaving d.graph v)) _ (in-is_among a (leaving d.graph v) w) (ap is_some e)) (ap not shut) in
       let y = done_in_time d b v conducted legal on_time ToRefund a (refund_rule d) (in_range a (length d.graph.arcs) out.0) (least_expiry d a (history b a)) (ap (λ x. when x (least_expiry d a (history b a))) on) passed in
       let c = counted_refund d b v a y.now.height y.call y.counted in
-      let called : call_of v y.now ≡ Some Refund = y.called ∙ ap Some c.0 in
+      let called : call_by v y.now ≡ Some Refund = y.called ∙ ap Some c.0 in
       let act = act_of d a (history b a) y.past y.now Refund v l y.stands called in
       let done = published_done d a (history b a) p l e in
       let early = published_early a p w e in
@@ -227,7 +228,7 @@ module _ (d : Deal) (b : Histories) (v : ℕ) (legal : IsLegalBook d b) (ended :
       go done y.past y.now y.stands act called own.correct apart (moments_in_order (history b a) done.past y.past done.now y.now done.stands y.stands)
       (let z : least_expiry d a (history b a) < height y.past = omega arith in z)
     where
-      go : {t : ℕ} (done : Done d a (history b a) (Publish p.terms) t) (past : List Entry) (now : Entry) → IsMoment (history b a) past now → (act : (act : Act d a past now Refund) × (act.by ≡ v)) → call_of v now ≡ Some Refund
+      go : {t : ℕ} (done : Done d a (history b a) (Publish p.terms) t) (past : List Entry) (now : Entry) → IsMoment (history b a) past now → (act : (act : Act d a past now Refund) × (act.by ≡ v)) → call_by v now ≡ Some Refund
           → p.terms ≡ terms_of d a → height done.past < height past → Order done.past done.now past now → least_expiry d a (history b a) < height past → ⊥
       go done past now stands act called terms apart (Same q n) expired = let z : height done.past ≡ height past = ap height q in omega arith
       go done past now stands act called terms apart (Later m) expired = let z = height-past done.past past now m in omega arith

@@ -18,9 +18,9 @@ use Rattle.ledger_core.specs.declared.entry.What.TheVariants.{Call as Made, Tick
 use Rattle.ledger_core.specs.declared.entry.Entry.{Entry}
 use Rattle.ledger_core.specs.History.{height, accepted, accepted_in, publication, published, opening, opened, settling, settled, triggered, sent_by}
 use Rattle.ledger_core.specs.Book.{Histories, history}
-use Rattle.swap_rules.specs.Party.{is_correct_in, height_in, is_ready, is_triggered, least_expiry, has_expired, leads_one, call_in, call_of}
-use Rattle.swap_rules.specs.Conduct.{is_publish, key_without, first_seen_key}
-use Rattle.swap_rules.specs.Due.{Wallet, is_unlock_for, is_claiming, is_refunding, has_called, is_due_publish, seen_key, extended, due_key, present, due_unlock_on, is_due_claim, is_due_refund, when_due, due_publishes, due_unlocks, due_claims, due_refunds, due}
+use Rattle.swap_rules.specs.Party.{is_correct_in, height_in, is_ready, is_triggered, least_expiry, has_expired, leads_one, call_in, call_by, key_without, first_seen_key}
+use Rattle.swap_rules.specs.Conduct.{is_publish}
+use Rattle.swap_rules.specs.Due.{Wallet, is_unlock_for, is_claiming, is_refunding, has_called, is_due_publish, seen_key, extended, due_key, presented, due_unlock_on, is_due_claim, is_due_refund, when_due, due_publishes, due_unlocks, due_claims, due_refunds, due}
 use Rattle.swap_laws.specs.Rest.{is_ticking, are_ticks, is_waiting, least_of, rest_until, StaysLow, TicksMakeNothingDue}
 use Rattle.swap_laws.proofs.History.{not-true}
 use Rattle.swap_laws.proofs.Words.{append_empty}
@@ -36,7 +36,7 @@ no_call : (w : What) (x : _) → is_ticking w ≡ true → accepted_in w x ≡ N
 no_call (Made c) x t = absurd (false≢true t)
 no_call (Tick k) x t = refl
 
-not_called : (v : ℕ) (e : Entry) → is_ticking e.what ≡ true → call_of v e ≡ None
+not_called : (v : ℕ) (e : Entry) → is_ticking e.what ≡ true → call_by v e ≡ None
 not_called v e t = go (sent_by v e.sender) e.what t
   where
     go : (b : Bool) (w : What) → is_ticking w ≡ true → cond b (call_in w) None ≡ None
@@ -76,7 +76,7 @@ reads_on v h more t = record {
   publish = first_past (λ e. publication e.height (accepted e)) (λ e s. ap (publication e.height) (no_call e.what e.reply s)) h more t;
   open_at = λ i. first_past (λ e. opening i e.height (accepted e)) (λ e s. ap (opening i e.height) (no_call e.what e.reply s)) h more t;
   settle = first_past (λ e. settling (accepted e)) (λ e s. ap settling (no_call e.what e.reply s)) h more t;
-  calls = λ test n. any_past (λ e. test (call_of v e)) (λ e s. ap test (not_called v e s) ∙ n) h more t;
+  calls = λ test n. any_past (λ e. test (call_by v e)) (λ e s. ap test (not_called v e s) ∙ n) h more t;
 }
 
 -- Two books in which a party reads the same, heights apart.
@@ -111,7 +111,7 @@ module _ (d : Deal) (v : ℕ) (b c : Histories) (same : (a : ℕ) → ReadsSame 
   pub same_unlocks : (w : Wallet) (signed : ℕ → Option Hashkey) → due_unlocks d v w signed c ≡ due_unlocks d v w signed b
   unfolding due_unlock_on due_key seen_key
   same_unlocks w signed = λ j. flat_map (λ i. flat_map (λ a. cond (ready_on j && not (called_on (is_unlock_for i) a refl j))
-      (present a (or_else (signed i) (cond (leads d v i) (Some (w.first i)) (extended w (seen_on i j))))) []) (entering d.graph v)) (locks d)
+      (presented a (or_else (signed i) (cond (leads d v i) (Some (w.first i)) (extended w (seen_on i j))))) []) (entering d.graph v)) (locks d)
 
   pub same_claims : due_claims d v c ≡ due_claims d v b
   unfolding is_due_claim

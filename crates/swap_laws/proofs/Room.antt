@@ -20,7 +20,7 @@ use Rattle.ledger_core.specs.History.{is_full, IsLegalMoment, IsLegalEntry, sent
 use Rattle.ledger_core.specs.Book.{Histories, history, IsLegalBook}
 use Rattle.swap_rules.specs.declared.finding.Rule.{Rule}
 use Rattle.swap_rules.specs.declared.finding.Rule.TheVariants.{Publish as ToPublish, Unlock as ToUnlock, Claim as ToClaim, Refund as ToRefund}
-use Rattle.swap_rules.specs.Party.{call_in, call_of}
+use Rattle.swap_rules.specs.Party.{call_in, call_by}
 use Rattle.swap_rules.specs.Conduct.{is_publish}
 use Rattle.swap_rules.specs.Findings.{rules_of}
 use Rattle.swap_rules.specs.Accepted.{IsAccepted}
@@ -83,7 +83,7 @@ count_push p xs x =
 -- Each entry of v is the first of its rule.
 
 abbrev Fresh : Deal → ℕ → List Entry → Type 0
-Fresh d v h = (past : List Entry) (e : Entry) → IsMoment h past e → sent_by v e.sender ≡ true → (r : Rule) × IsIn r (rules_of d) × (test_of r (call_of v e) ≡ true) × (has_called v (test_of r) past ≡ false)
+Fresh d v h = (past : List Entry) (e : Entry) → IsMoment h past e → sent_by v e.sender ≡ true → (r : Rule) × IsIn r (rules_of d) × (test_of r (call_by v e) ≡ true) × (has_called v (test_of r) past ≡ false)
 
 abbrev waits : ℕ → List Entry → Rule → Bool
 waits v h r = not (has_called v (test_of r) h)
@@ -104,13 +104,13 @@ own_count d v h f = grow (λ h. Fresh d v h → count_by (λ e. sent_by v e.send
         go before (count_push (λ e. sent_by v e.sender) xs x) (sent_by v x.sender) refl
       where
         drops : (r : Rule) → waits v (xs ++ x ∷ []) r ≡ true → waits v xs r ≡ true
-        drops r e = not-mono (has_called v (test_of r) xs) (has_called v (test_of r) (xs ++ x ∷ [])) (λ q. list_any-more (λ y. test_of r (call_of v y)) xs (x ∷ []) q) e
+        drops r e = not-mono (has_called v (test_of r) xs) (has_called v (test_of r) (xs ++ x ∷ [])) (λ q. list_any-more (λ y. test_of r (call_by v y)) xs (x ∷ []) q) e
 
         go : count_by (λ e. sent_by v e.sender) xs + count_by (waits v xs) (rules_of d) ≤ length (rules_of d) → count_by (λ e. sent_by v e.sender) (xs ++ x ∷ []) ≡ count_by (λ e. sent_by v e.sender) xs + cond (sent_by v x.sender) 1 0
             → (y : Bool) → sent_by v x.sender ≡ y → count_by (λ e. sent_by v e.sender) (xs ++ x ∷ []) + count_by (waits v (xs ++ x ∷ [])) (rules_of d) ≤ length (rules_of d)
         go before c true e =
             let r = f xs x ([], refl) e in
-            let here : has_called v (test_of r.0) (xs ++ x ∷ []) ≡ true = list_any-in (λ y. test_of r.0 (call_of v y)) (xs ++ x ∷ []) x r.2 (in_append xs (x ∷ []) x (inr (inl refl))) in
+            let here : has_called v (test_of r.0) (xs ++ x ∷ []) ≡ true = list_any-in (λ y. test_of r.0 (call_by v y)) (xs ++ x ∷ []) x r.2 (in_append xs (x ∷ []) x (inr (inl refl))) in
             let less = count_less (waits v xs) (waits v (xs ++ x ∷ [])) (rules_of d) drops r.0 r.1 (ap not r.3) (ap not here) in
             let b : ◌≡◌ {A = ℕ} (cond (sent_by v x.sender) 1 0) 1 = ap (λ z. cond {A = ℕ} z 1 0) e in
             omega arith
@@ -145,10 +145,10 @@ module _ (d : Deal) (b : Histories) (signed : ℕ → Option Hashkey) (v : ℕ) 
   fresh : (a : ℕ) → Fresh d v (history b a)
   fresh a past e m s =
       let c = own_call d a past v e.sender e.what e.height e.reply (at_moment (IsLegalMoment d a) (history b a) past e (legal.legal a (below_of b a past e m)) m) s in
-      let q : call_of v e ≡ Some c.0 = ap (λ z. cond z (call_in e.what) None) s ∙ c.1 in
+      let q : call_by v e ≡ Some c.0 = ap (λ z. cond z (call_in e.what) None) s ∙ c.1 in
       go c.0 q (rules.own a past e c.0 m q)
     where
-      go : (c : Call) → call_of v e ≡ Some c → KeepsOwn d b signed v a past c → (r : Rule) × IsIn r (rules_of d) × (test_of r (call_of v e) ≡ true) × (has_called v (test_of r) past ≡ false)
+      go : (c : Call) → call_by v e ≡ Some c → KeepsOwn d b signed v a past c → (r : Rule) × IsIn r (rules_of d) × (test_of r (call_by v e) ≡ true) × (has_called v (test_of r) past ≡ false)
       go (Publish t) q r = (ToPublish, publish_rule d, ap is_publish q, r.2)
       go (Unlock key) q r =
           let low = (rules.keys key.lock key r.2).below in

@@ -9,7 +9,7 @@ use Rattle.swap_digraph.specs.declared.deal.Mode.{Mode}
 use Rattle.swap_digraph.specs.declared.deal.Mode.TheVariants.{Timelocks, Hashkeys}
 use Rattle.swap_digraph.specs.declared.deal.Deal.{Deal}
 use Rattle.swap_digraph.specs.Graph.{arcs, leaving, entering, is_among}
-use Rattle.swap_digraph.specs.Deal.{locks, leads}
+use Rattle.swap_digraph.specs.Deal.{locks, leads, hashlock_of}
 use Rattle.hash_signature.specs.declared.sig.Sig.{Sig}
 use Rattle.hashkey_path.specs.declared.hashkey.Hashkey.{Hashkey}
 use Rattle.hashkey_path.specs.Hashkey.{same_key, is_valid}
@@ -22,19 +22,20 @@ use Rattle.ledger_core.specs.History.{height, accepted, Publication, publication
 use Rattle.ledger_core.specs.declared.facts.Settlement.{Settlement}
 use Rattle.ledger_core.specs.declared.facts.Settlement.TheVariants.{Claimed, Refunded}
 use Rattle.ledger_core.specs.Book.{Histories, history, IsLegalBook}
-use Rattle.swap_rules.specs.Party.{hashlock_of, has_expired, least_expiry, is_correct_in, is_correct, height_in, is_good, is_ready, ready_height, is_triggered, leads_one, call_of, key_in, first_key}
-use Rattle.swap_rules.specs.Conduct.{first_seen_key, key_without, is_carried, is_used, greatest_used, is_publish, is_first_key, has_origin, carries, keeps, IsConducted, height_of_opening, opens_without, base_of, trigger_height, when, ref_of, counts, is_done, late_at, extends, extends_with, is_alone}
+use Rattle.swap_rules.specs.Party.{has_expired, least_expiry, is_correct_in, is_correct, height_in, is_good, is_ready, ready_height, is_triggered, leads_one, call_by, key_in, first_key, first_seen_key, key_without, opens_without}
+use Rattle.swap_rules.specs.Conduct.{is_publish, is_first_key, has_origin, carries, keeps, IsConducted, extends, extends_without, is_alone}
+use Rattle.swap_rules.specs.Late.{is_carried, is_used, greatest_used, height_of_opening, base_of, trigger_height, when, ref_of, counts, is_done, late_at}
 use Rattle.swap_rules.specs.declared.finding.Rule.{Rule}
 use Rattle.swap_rules.specs.declared.finding.Rule.TheVariants.{Publish as ToPublish, Unlock as ToUnlock, Claim as ToClaim, Refund as ToRefund}
 use Rattle.swap_rules.specs.Findings.{rules_of}
 use Rattle.swap_rules.specs.Accepted.{IsAccepted, IsTimed}
-use Rattle.swap_rules.specs.Due.{Wallet, is_unlock_for, is_claiming, is_refunding, has_called, is_due_publish, seen_key, extended, due_key, present, may_unlock, due_unlock_on, is_due_claim, is_due_refund, when_due, due_publishes, due_unlocks, due_claims, due_refunds, due}
-use Rattle.swap_laws.proofs.Words.{past_end, key_without_parts, and_three, and_five, is_among-true, enters, leaves, call_of-act, act_of, key_parts, append_empty, flat_map_none, or-left, same_key-refl}
+use Rattle.swap_rules.specs.Due.{Wallet, is_unlock_for, is_claiming, is_refunding, has_called, is_due_publish, seen_key, extended, due_key, presented, may_unlock, due_unlock_on, is_due_claim, is_due_refund, when_due, due_publishes, due_unlocks, due_claims, due_refunds, due}
+use Rattle.swap_laws.proofs.Words.{past_end, key_without_parts, and_three, and_five, is_among-true, enters, leaves, call_by-act, act_of, key_parts, append_empty, flat_map_none, or-left, same_key-refl}
 use Rattle.swap_laws.proofs.Times.{no_path}
 use Rattle.swap_laws.proofs.Openings.{first_expiry, has_expired-lock, expired-least}
 use Rattle.swap_laws.proofs.Expiry.{still_expired}
 use Rattle.swap_laws.proofs.Calls.{correct, own_publish, OwnPublish, kept}
-use Rattle.swap_laws.proofs.SafeHashkeys.{longer, Extended, used_in, extended_of}
+use Rattle.swap_laws.proofs.SafeHashkeys.{longer, Extended, extended_without, used_in}
 use Rattle.swap_laws.proofs.Growth.{is_open-more, Grows, opened-more, triggered-more, ready_good, same_published}
 use Rattle.swap_laws.proofs.Accepted.{times_law}
 use Rattle.swap_laws.proofs.History.{Done, done_at, published_done, opened_done, claimed_done, refunded_done, of_publish, of_unlock, of_claim, of_refund, clear_at, height-past, published-past, opened-now, triggered-past, is_some-of, not-true, not-true-of, lock-below}
@@ -51,7 +52,7 @@ when_due_none : (test : Bool) (a : ℕ) (c : Call) → when_due test a c ≡ [] 
 when_due_none true a c e = absurd (cc e)
 when_due_none false a c e = refl
 
-present_none : (test : Bool) (a : ℕ) (o : Option Hashkey) → cond test (present a o) [] ≡ [] → test ≡ true → o ≡ None
+present_none : (test : Bool) (a : ℕ) (o : Option Hashkey) → cond test (presented a o) [] ≡ [] → test ≡ true → o ≡ None
 present_none true a None e t = refl
 present_none true a (Some key) e t = absurd (cc e)
 present_none false a o e t = absurd (false≢true t)
@@ -129,13 +130,13 @@ pub record Called (v : ℕ) (h : List Entry) (test : Option Call → Bool) : Typ
   pub now : Entry
   pub call : Call
   pub stands : IsMoment h past now
-  pub called : call_of v now ≡ Some call
+  pub called : call_by v now ≡ Some call
   pub passes : test (Some call) ≡ true
 
 called_at : (v : ℕ) (h : List Entry) (test : Option Call → Bool) → test None ≡ false → has_called v test h ≡ true → Called v h test
-called_at v h test n e = let f = any_at (λ x. test (call_of v x)) h e in go f (call_of v f.now) refl
+called_at v h test n e = let f = any_at (λ x. test (call_by v x)) h e in go f (call_by v f.now) refl
   where
-    go : (f : AnyAt (λ x. test (call_of v x)) h) → (o : Option Call) → call_of v f.now ≡ o → Called v h test
+    go : (f : AnyAt (λ x. test (call_by v x)) h) → (o : Option Call) → call_by v f.now ≡ o → Called v h test
     go f None q = absurd (false≢true (sym n ∙ (ap test (sym q) ∙ f.passes)))
     go f (Some c) q = record { past = f.past; now = f.now; call = c; stands = f.stands; called = q; passes = ap test (sym q) ∙ f.passes }
 
@@ -208,15 +209,15 @@ module _ (d : Deal) (b : Histories) (v : ℕ) (w : Wallet) (ref due : ℕ) (k : 
       good_known a (inr i) (ready_good d b v a r i) (omega arith))
 
   -- a known call of v that counts is in time
-  done_by : (rule : Rule) (a : ℕ) (past : List Entry) (e : Entry) (c : Call) → a < length d.graph.arcs → IsMoment (history x.known a) past e → call_of v e ≡ Some c → counts d b v rule a e.height (Some c) ≡ true → is_done d b v rule a due ≡ true
+  done_by : (rule : Rule) (a : ℕ) (past : List Entry) (e : Entry) (c : Call) → a < length d.graph.arcs → IsMoment (history x.known a) past e → call_by v e ≡ Some c → counts d b v rule a e.height (Some c) ≡ true → is_done d b v rule a due ≡ true
   done_by rule a past e c l m called counted =
       let m2 = moment_more (history x.known a) (history b a) past e (x.grows a) m in
       let act = act_of d a (history b a) past e c v (legal_on a l) m2 called in
       let at : e.height ≡ height past = act.0.at in
       let h1 = height-past (history x.known a) past e m in
       let h2 = x.high a in
-      list_any-in (λ e. counts d b v rule a e.height (call_of v e) && nat_le e.height due) (history b a) e
-      (and_both (counts d b v rule a e.height (call_of v e)) _ (ap (counts d b v rule a e.height) called ∙ counted) (le-leb e.height due (omega arith)))
+      list_any-in (λ e. counts d b v rule a e.height (call_by v e) && nat_le e.height due) (history b a) e
+      (and_both (counts d b v rule a e.height (call_by v e)) _ (ap (counts d b v rule a e.height) called ∙ counted) (le-leb e.height due (omega arith)))
       (subst (IsIn e) (sym m2.1) (in_from_moment past e m2.0))
 
   -- Publish.
@@ -295,7 +296,7 @@ module _ (d : Deal) (b : Histories) (v : ℕ) (w : Wallet) (ref due : ℕ) (k : 
   refund_is (Transfer to units) e = absurd (cc e)
 
   -- a refund call of v counts: the lock that was closed and expired then stays closed
-  refund_counts : (a : ℕ) (past : List Entry) (e : Entry) → IsIn a (leaving d.graph v) → IsMoment (history x.known a) past e → call_of v e ≡ Some Refund → is_done d b v ToRefund a due ≡ true
+  refund_counts : (a : ℕ) (past : List Entry) (e : Entry) → IsIn a (leaving d.graph v) → IsMoment (history x.known a) past e → call_by v e ≡ Some Refund → is_done d b v ToRefund a due ≡ true
   unfolding counts keeps
   refund_counts a past e i m called =
       let l = (leaves d v a i).0 in
@@ -312,14 +313,14 @@ module _ (d : Deal) (b : Histories) (v : ℕ) (w : Wallet) (ref due : ℕ) (k : 
       let out = leaves d v a i in
       let done = published_done d a (history b a) p (legal_on a out.0) e in
       let by : done.act.by ≡ v = (of_publish d a done.past done.act.by p.terms done.clear).party ∙ out.1 in
-      let called = call_of-act d a done.past done.now (Publish p.terms) v done.act by in
-      let r = and_three (same_terms p.terms (terms_of d a)) (count_by (λ e. is_publish (call_of v e)) (history b a) == 1) (leads_one d v || is_ready d b v) (kept d b v conducted a done.past done.now (Publish p.terms) done.stands called) in
+      let called = call_by-act d a done.past done.now (Publish p.terms) v done.act by in
+      let r = and_three (same_terms p.terms (terms_of d a)) (count_by (λ e. is_publish (call_by v e)) (history b a) == 1) (leads_one d v || is_ready d b v) (kept d b v conducted a done.past done.now (Publish p.terms) done.stands called) in
       let c = called_at v (history x.known a) is_publish refl (publish_known a i r.2 (λ f.
       let ready : is_ready d b v ≡ true = ap (λ y. y || is_ready d b v) (sym f) ∙ r.2 in
       let h : ready_height d b v ≤ times.open_by d.start d.delta d.bound = greatest-below (λ a. height_in (published (history b a))) (entering d.graph v) (times.open_by d.start d.delta d.bound)
       (λ c w. leb-true _ _ (and_parts (is_correct d b c) _ (ready_good d b v c ready w)).1) in
       omega arith)) in
-      let one = count_one (λ e. is_publish (call_of v e)) (history b a) done.past c.past done.now c.now (eqb-true _ 1 r.1) done.stands (moment_more (history x.known a) (history b a) c.past c.now (x.grows a) c.stands) (ap is_publish called) (ap is_publish c.called ∙ c.passes) in
+      let one = count_one (λ e. is_publish (call_by v e)) (history b a) done.past c.past done.now c.now (eqb-true _ 1 r.1) done.stands (moment_more (history x.known a) (history b a) c.past c.now (x.grows a) c.stands) (ap is_publish called) (ap is_publish c.called ∙ c.passes) in
       first_of-now (λ e. publication e.height (accepted e)) (history x.known a) c.past c.now (record { height = c.now.height; terms = p.terms }) c.stands (ap (publication c.now.height) (ap accepted (sym one.1) ∙ done.took))
 
   refund_done : (a : ℕ) → ref_of d b v ToRefund a ≡ Some ref → is_done d b v ToRefund a due ≡ true
@@ -353,7 +354,7 @@ module _ (d : Deal) (b : Histories) (v : ℕ) (w : Wallet) (ref due : ℕ) (k : 
           let lk : IsLegal d a (history x.known a) = all_moments_front (IsLegalMoment d a) (history x.known a) (x.grows a).0 (subst (IsLegal d a) (x.grows a).1 (legal_on a l)) in
           let c = (refunded_done d a (history x.known a) lk z).1 in
           let by : c.act.by ≡ v = (of_refund d a c.past c.act.by c.clear).party ∙ (leaves d v a i).1 in
-          refund_counts a c.past c.now i c.stands (call_of-act d a c.past c.now Refund v c.act by)
+          refund_counts a c.past c.now i c.stands (call_by-act d a c.past c.now Refund v c.act by)
 
   -- Unlock.
 
@@ -373,13 +374,6 @@ module _ (d : Deal) (b : Histories) (v : ℕ) (w : Wallet) (ref due : ℕ) (k : 
       first_of-in (λ a. key_without v (opened (history x.known a) i)) (leaving d.graph v) s.arc s.opening.key s.leaves
       (ap (key_without v) o ∙ ap (λ z. cond z None (Some s.opening.key)) s.without)
 
-  extended_parts : (inner : Hashkey) (p : List ℕ) (sigs : List Sig) (key : Hashkey) → extends_with v inner p sigs key ≡ true → is_among v inner.path ≡ false
-  extended_parts inner [] sigs key e = absurd (cc e)
-  extended_parts inner (u ∷ p) [] key e = absurd (cc e)
-  extended_parts inner (u ∷ p) (s ∷ sigs) key e =
-      let q = and_parts ((u == v) && not (is_among v inner.path)) _ e in
-      not-true-of _ (and_parts (u == v) (not (is_among v inner.path)) q.0).1
-
   opens_without_parts : (o : Option Opening) → opens_without v o ≡ true → (z : Opening) × (o ≡ Some z) × (is_among v z.key.path ≡ false)
   opens_without_parts None e = absurd (cc e)
   opens_without_parts (Some z) e = (z, refl, not-true-of _ e)
@@ -388,8 +382,8 @@ module _ (d : Deal) (b : Histories) (v : ℕ) (w : Wallet) (ref due : ℕ) (k : 
   first_rules : (i : ℕ) (key : Hashkey) → first_key b v i ≡ Some key → (key.lock ≡ i) × (has_origin d.mode d b v key ≡ true)
   unfolding first_key keeps
   first_rules i key e =
-      let f = first_at (λ e. key_in i (call_of v e)) (flat_map (λ h. h) b) key e in
-      let parts = key_parts i (call_of v f.now) key f.gives in
+      let f = first_at (λ e. key_in i (call_by v e)) (flat_map (λ h. h) b) key e in
+      let parts = key_parts i (call_by v f.now) key f.gives in
       let y = from_whole b f.now (subst (IsIn f.now) (sym f.stands.1) (in_from_moment f.past f.now f.stands.0)) in
       let m = moment_from_in (history b y.0) f.now y.2 in
       let q = and_five (is_some (published m.0)) (is_ready d b v) (is_first_key (first_key b v key.lock) key) (is_valid d y.0 (hashlock_of d key.lock) key) _ (kept d b v conducted y.0 m.0 f.now (Unlock key) m.1 parts.0) in
@@ -397,8 +391,8 @@ module _ (d : Deal) (b : Histories) (v : ℕ) (w : Wallet) (ref due : ℕ) (k : 
 
   -- Hashkeys.
 
-  seen_extended : (i t : ℕ) (key : Hashkey) → key.lock ≡ i → Extended d b v key t → t ≤ ref → Seen i
-  seen_extended i t key lock y low =
+  seen_extended : (i t : ℕ) (key : Hashkey) → key.lock ≡ i → (y : Extended d b v key t) → is_among v y.inner.path ≡ false → t ≤ ref → Seen i
+  seen_extended i t key lock y apart low =
       let out = leaves d v y.arc y.leaves in
       let done = done_at d y.arc (history b y.arc) y.past y.now (Unlock y.inner) t (legal_on y.arc out.0) y.stands y.took y.height in
       let long = longer key v y.inner key.path key.sigs key y.extends in
@@ -412,18 +406,21 @@ module _ (d : Deal) (b : Histories) (v : ℕ) (w : Wallet) (ref due : ℕ) (k : 
         leaves = y.leaves;
         opening = o.0;
         opened = o.1;
-        without = ap (λ z. is_among v z.path) one.0 ∙ extended_parts y.inner key.path key.sigs key y.extends;
+        without = ap (λ z. is_among v z.path) one.0 ∙ apart;
         early = omega arith;
       }
 
   -- the hashkey that v extended
-  by_extended : (i : ℕ) (key : Hashkey) → key.lock ≡ i → list_any (λ a. list_any (λ e. extends v key (accepted e)) (history b a)) (leaving d.graph v) ≡ true → greatest_used d b v (is_used d b v i (Some key)) ≤ ref → Seen i
+  by_extended : (i : ℕ) (key : Hashkey) → key.lock ≡ i → list_any (λ a. list_any (λ e. extends_without v key (accepted e)) (history b a)) (leaving d.graph v) ≡ true → greatest_used d b v (is_used d b v i (Some key)) ≤ ref → Seen i
   by_extended i key lock e low =
-      let y = in_any (λ a. list_any (λ e. extends v key (accepted e)) (history b a)) (leaving d.graph v) e in
-      let z = in_any (λ e. extends v key (accepted e)) (history b y.0) y.2 in
+      let y = in_any (λ a. list_any (λ e. extends_without v key (accepted e)) (history b a)) (leaving d.graph v) e in
+      let z = in_any (λ e. extends_without v key (accepted e)) (history b y.0) y.2 in
       let m = moment_from_in (history b y.0) z.0 z.1 in
-      let h = used_in d b v (is_used d b v i (Some key)) y.0 z.0 y.1 z.1 z.2 in
-      seen_extended i z.0.height key lock (extended_of d b v key y.0 m.0 z.0 y.1 m.1 z.2) (omega arith)
+      let p = extended_without v key (accepted z.0) z.2 in
+      let used : is_used d b v i (Some key) z.0 ≡ true = ap (extends v key) p.1 ∙ p.3 in
+      let h = used_in d b v (is_used d b v i (Some key)) y.0 z.0 y.1 z.1 used in
+      let extended : Extended d b v key z.0.height = record { arc = y.0; leaves = y.1; past = m.0; now = z.0; stands = m.1; inner = p.0; took = p.1; height = refl; extends = p.3 } in
+      seen_extended i z.0.height key lock extended p.2 (omega arith)
 
   -- the hashkey that v would extend
   by_without : (i : ℕ) → list_any (λ c. opens_without v (opened (history b c) i)) (leaving d.graph v) ≡ true → greatest_used d b v (is_used d b v i None) ≤ ref → Seen i
@@ -487,8 +484,8 @@ module _ (d : Deal) (b : Histories) (v : ℕ) (w : Wallet) (ref due : ℕ) (k : 
       go : (m : Mode) → d.mode ≡ m → (o : Option Hashkey) → first_key b v i ≡ o → Seen i
       go Hashkeys em (Some key) eo =
           let r = first_rules i key eo in
-          let origin : list_any (λ a. list_any (λ e. extends v key (accepted e)) (history b a)) (leaving d.graph v) ≡ true =
-          ap (λ z. cond z (is_alone v key.path) (list_any (λ a. list_any (λ e. extends v key (accepted e)) (history b a)) (leaving d.graph v))) (sym (ap (leads d v) r.0 ∙ f)) ∙ (ap (λ m. has_origin m d b v key) (sym em) ∙ r.1) in
+          let origin : list_any (λ a. list_any (λ e. extends_without v key (accepted e)) (history b a)) (leaving d.graph v) ≡ true =
+          ap (λ z. cond z (is_alone v key.path) (list_any (λ a. list_any (λ e. extends_without v key (accepted e)) (history b a)) (leaving d.graph v))) (sym (ap (leads d v) r.0 ∙ f)) ∙ (ap (λ m. has_origin m d b v key) (sym em) ∙ r.1) in
           by_extended i key r.0 origin
           (subst (λ n. n ≤ ref) (ap (λ m. base_of m d b v i (first_key b v i)) em ∙ ap (base_of Hashkeys d b v i) eo) low)
       go Hashkeys em None eo =
@@ -529,7 +526,7 @@ module _ (d : Deal) (b : Histories) (v : ℕ) (w : Wallet) (ref due : ℕ) (k : 
       let l = (enters d v a z).0 in
       let c = called_at v (history x.known a) (is_unlock_for i) refl h in
       let u = unlock_is i c.call c.passes in
-      let called : call_of v c.now ≡ Some (Unlock u.0) = c.called ∙ ap Some u.1 in
+      let called : call_by v c.now ≡ Some (Unlock u.0) = c.called ∙ ap Some u.1 in
       let m = moment_more (history x.known a) (history b a) c.past c.now (x.grows a) c.stands in
       let q = and_five (is_some (published c.past)) (is_ready d b v) (is_first_key (first_key b v u.0.lock) u.0) (is_valid d a (hashlock_of d u.0.lock) u.0) _ (kept d b v conducted a c.past c.now (Unlock u.0) m called) in
       done_by (ToUnlock i) a c.past c.now (Unlock u.0) l c.stands called
@@ -606,10 +603,10 @@ rounds_in_time d v w ticks slack rounds books k some x rule a ref i j e = in_tim
 
 done_more : (d : Deal) (b : Histories) (v : ℕ) (rule : Rule) (a s t : ℕ) → s ≤ t → is_done d b v rule a s ≡ true → is_done d b v rule a t ≡ true
 done_more d b v rule a s t l h =
-    let y = in_any (λ e. counts d b v rule a e.height (call_of v e) && nat_le e.height s) (history b a) h in
-    let p = and_parts (counts d b v rule a y.0.height (call_of v y.0)) (nat_le y.0.height s) y.2 in
+    let y = in_any (λ e. counts d b v rule a e.height (call_by v e) && nat_le e.height s) (history b a) h in
+    let p = and_parts (counts d b v rule a y.0.height (call_by v y.0)) (nat_le y.0.height s) y.2 in
     let low = leb-true y.0.height s p.1 in
-    list_any-in (λ e. counts d b v rule a e.height (call_of v e) && nat_le e.height t) (history b a) y.0 (and_both (counts d b v rule a y.0.height (call_of v y.0)) _ p.0 (le-leb y.0.height t (omega arith))) y.1
+    list_any-in (λ e. counts d b v rule a e.height (call_by v e) && nat_le e.height t) (history b a) y.0 (and_both (counts d b v rule a y.0.height (call_by v y.0)) _ p.0 (le-leb y.0.height t (omega arith))) y.1
 
 pub rounds_on_time : RoundsAreOnTime
 rounds_on_time d v w ticks slack rounds books k some fast x rule a i j = go (ref_of d (books rounds) v rule a) refl

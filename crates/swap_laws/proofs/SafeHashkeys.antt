@@ -17,13 +17,15 @@ use Rattle.ledger_core.specs.declared.entry.Entry.{Entry}
 use Rattle.ledger_core.specs.History.{height, accepted, Opening, opened, is_open}
 use Rattle.ledger_core.specs.Book.{Histories, history, IsLegalBook}
 use Rattle.swap_rules.specs.declared.outcome.Outcome.TheVariants.{Underwater}
-use Rattle.swap_rules.specs.Party.{is_ready, ready_height, is_triggered, call_of, key_in, first_key}
-use Rattle.swap_rules.specs.Conduct.{is_carried, is_used, height_if, greatest_used, is_first_key, IsConducted, opens_without, base_of, when, ref_of, forges, has_made, has_forged_suffix, extends, extends_with, first_seen_key}
+use Rattle.swap_rules.specs.Party.{is_ready, ready_height, is_triggered, call_by, key_in, first_key, opens_without, first_seen_key}
+use Rattle.swap_rules.specs.Conduct.{is_first_key, IsConducted, extends, extends_with, extends_without}
+use Rattle.swap_rules.specs.Late.{is_carried, is_used, height_if, greatest_used, base_of, when, ref_of}
+use Rattle.swap_rules.specs.Forged.{forges, has_made, has_forged_suffix}
 use Rattle.swap_rules.specs.Outcome.{outcome, IsEnded}
 use Rattle.swap_laws.proofs.Entering.{DueUnlock, ready_below, gets_all}
 use Rattle.swap_laws.proofs.Words.{in-is_among, leaves, or-left, or-first, key_parts, last_among, same_key-path, some_length, leader_reads}
 use Rattle.swap_laws.proofs.Times.{HashkeyLaw, below_horizon, deadline_mono, deadline_next, deadline_first, deadline_last, path_of, times_of_hashkeys}
-use Rattle.swap_laws.proofs.History.{done_at, of_unlock, published-past, is_some-of, lock-below}
+use Rattle.swap_laws.proofs.History.{done_at, of_unlock, published-past, is_some-of, not-true-of, lock-below}
 use Rattle.swap_laws.specs.Laws.{IsOnTime, IsUnforged}
 use Rattle.swap_laws.proofs.Calls.{legal_at, OwnPublish, own_publish}
 use Rattle.swap_laws.proofs.Leaving.{underwater_lost, underwater_missing, Shown, Opener, opener_at, triggered_ready, is_known, Passing}
@@ -34,17 +36,17 @@ pub record MadeFor (b : Histories) (v i : ℕ) : Type 0 where
   pub entry : Entry
   pub key : Hashkey
   pub stands : IsIn entry (flat_map (λ h. h) b)
-  pub called : call_of v entry ≡ Some (Unlock key)
+  pub called : call_by v entry ≡ Some (Unlock key)
   pub lock : key.lock ≡ i
 
 made_for : (b : Histories) (v : ℕ) (key : Hashkey) → has_made b v key ≡ true → MadeFor b v key.lock
 made_for b v key h =
-    let e = any_at (λ e. is_first_key (key_in key.lock (call_of v e)) key) (flat_map (λ h. h) b) h in
-    go e.now (subst (IsIn e.now) (sym e.stands.1) (in_from_moment e.past e.now e.stands.0)) (key_in key.lock (call_of v e.now)) refl e.passes
+    let e = any_at (λ e. is_first_key (key_in key.lock (call_by v e)) key) (flat_map (λ h. h) b) h in
+    go e.now (subst (IsIn e.now) (sym e.stands.1) (in_from_moment e.past e.now e.stands.0)) (key_in key.lock (call_by v e.now)) refl e.passes
   where
-    go : (e : Entry) → IsIn e (flat_map (λ h. h) b) → (o : Option Hashkey) → key_in key.lock (call_of v e) ≡ o → is_first_key o key ≡ true → MadeFor b v key.lock
+    go : (e : Entry) → IsIn e (flat_map (λ h. h) b) → (o : Option Hashkey) → key_in key.lock (call_by v e) ≡ o → is_first_key o key ≡ true → MadeFor b v key.lock
     go e i None k q = absurd (cc q)
-    go e i (Some k') k q = let parts = key_parts key.lock (call_of v e) k' k in record { entry = e; key = k'; stands = i; called = parts.0; lock = parts.1 }
+    go e i (Some k') k q = let parts = key_parts key.lock (call_by v e) k' k in record { entry = e; key = k'; stands = i; called = parts.0; lock = parts.1 }
 
 -- a hashkey that isn't forged in v's name, with v on its path, shows a call of v for its lock
 suffix_made : (b : Histories) (v : ℕ) (key : Hashkey) (p : List ℕ) (sigs : List Sig) → has_forged_suffix b v key p sigs ≡ false → length p ≡ length sigs → is_among v p ≡ true → MadeFor b v key.lock
@@ -84,6 +86,18 @@ extended_key v key (Some Claim) e = absurd (cc e)
 extended_key v key (Some Refund) e = absurd (cc e)
 extended_key v key (Some (Transfer to units)) e = absurd (cc e)
 
+-- what an extension of a hashkey without v says of that hashkey
+pub extended_without : (v : ℕ) (key : Hashkey) (o : Option Call) → extends_without v key o ≡ true
+    → (inner : Hashkey) × (o ≡ Some (Unlock inner)) × (is_among v inner.path ≡ false) × (extends_with v inner key.path key.sigs key ≡ true)
+extended_without v key (Some (Unlock inner)) e =
+    let k = and_parts (not (is_among v inner.path)) (extends_with v inner key.path key.sigs key) e in
+    (inner, refl, not-true-of _ k.0, k.1)
+extended_without v key None e = absurd (cc e)
+extended_without v key (Some (Publish t)) e = absurd (cc e)
+extended_without v key (Some Claim) e = absurd (cc e)
+extended_without v key (Some Refund) e = absurd (cc e)
+extended_without v key (Some (Transfer to units)) e = absurd (cc e)
+
 pub used_below : (d : Deal) (b : Histories) (v : ℕ) (test : Entry → Bool) (n : ℕ) → ((a : ℕ) (past : List Entry) (e : Entry) → IsIn a (leaving d.graph v) → IsMoment (history b a) past e → test e ≡ true → e.height ≤ n) → greatest_used d b v test ≤ n
 used_below d b v test n h = greatest-below (λ a. greatest (λ e. height_if (test e) e.height) (history b a)) (leaving d.graph v) n
     (λ a w. greatest-below (λ e. height_if (test e) e.height) (history b a) n (λ e i. let m = moment_from_in (history b a) e i in go (test e) e (h a m.0 e w m.1)))
@@ -118,7 +132,7 @@ pub longer : (g : Hashkey) (v : ℕ) (inner : Hashkey) (p : List ℕ) (sigs : Li
 longer g v inner [] sigs key e = absurd (cc e)
 longer g v inner (u ∷ p) [] key e = absurd (cc e)
 longer g v inner (u ∷ p) (s ∷ sigs) key e =
-    let k = and_parts ((u == v) && not (is_among v inner.path)) _ e in
+    let k = and_parts (u == v) _ e in
     let q = same_key-path inner (record { lock = key.lock; secret = key.secret; path = p; sigs = sigs }) k.1 in
     (ap (λ x. suc (length x)) (sym q.1), q.0)
 
@@ -261,8 +275,8 @@ module _ (d : Deal) (b : Histories) (v : ℕ) (legal : IsLegalBook d b) (ended :
       go : (x : Bool) → is_among v o.0.key.path ≡ x → is_known d b v i ≡ true
       go true e =
           let m = made_of c i z o.0 u e in
-          let key_is : key_in i (call_of v m.entry) ≡ Some m.key = ap (key_in i) m.called ∙ ap (λ x. cond x (Some m.key) None) (eq-eqb m.key.lock i m.lock) in
-          or-first (leads d v i) (is_some (first_key b v i)) _ (or-left (is_some (first_key b v i)) _ (first_of-in (λ e. key_in i (call_of v e)) (flat_map (λ h. h) b) m.entry m.key m.stands key_is))
+          let key_is : key_in i (call_by v m.entry) ≡ Some m.key = ap (key_in i) m.called ∙ ap (λ x. cond x (Some m.key) None) (eq-eqb m.key.lock i m.lock) in
+          or-first (leads d v i) (is_some (first_key b v i)) _ (or-left (is_some (first_key b v i)) _ (first_of-in (λ e. key_in i (call_by v e)) (flat_map (λ h. h) b) m.entry m.key m.stands key_is))
       go false e = or-right (leads d v i || is_some (first_key b v i)) _ (list_any-in (λ c. opens_without v (opened (history b c) i)) (leaving d.graph v) c (ap (opens_without v) o.1 ∙ ap not e) z)
 
   pub passing_hashkeys : Passing d b v

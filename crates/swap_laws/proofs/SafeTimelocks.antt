@@ -13,8 +13,10 @@ use Rattle.ledger_core.specs.declared.entry.Call.TheVariants.{Unlock}
 use Rattle.ledger_core.specs.History.{Opening, opened, is_open}
 use Rattle.ledger_core.specs.Book.{Histories, history, IsLegalBook}
 use Rattle.swap_rules.specs.declared.outcome.Outcome.TheVariants.{Underwater}
-use Rattle.swap_rules.specs.Party.{is_ready, ready_height, is_triggered, first_key}
-use Rattle.swap_rules.specs.Conduct.{IsConducted, height_of_opening, opens_without, base_of, when, ref_of, forges}
+use Rattle.swap_rules.specs.Party.{is_ready, ready_height, is_triggered, first_key, opens_without}
+use Rattle.swap_rules.specs.Conduct.{IsConducted}
+use Rattle.swap_rules.specs.Late.{height_of_opening, base_of, when, ref_of}
+use Rattle.swap_rules.specs.Forged.{forges}
 use Rattle.swap_rules.specs.Outcome.{outcome, IsEnded}
 use Rattle.swap_laws.proofs.Entering.{DueUnlock, ready_below, gets_all}
 use Rattle.swap_laws.proofs.Words.{in-is_among, enters}

@@ -8,12 +8,12 @@ use Rattle.swap_digraph.specs.declared.deal.Version.TheVariants.{One, Two}
 use Rattle.swap_digraph.specs.declared.deal.Deal.{Deal}
 use Rattle.swap_digraph.specs.declared.deal.Mode.TheVariants.{Timelocks, Hashkeys}
 use Rattle.swap_digraph.specs.Graph.{is_path, first_is, last_is, arcs_of, leaving, entering}
-use Rattle.swap_digraph.specs.Deal.{counterparty, leads, leader_of}
+use Rattle.swap_digraph.specs.Deal.{counterparty, leads, leader_of, hashlock_of}
 use Rattle.hashkey_path.specs.declared.hashkey.Hashkey.{Hashkey}
 use Rattle.hashkey_path.specs.Hashkey.{is_wrong_secret, is_wrong_path, is_wrong_signature, is_valid}
 use Rattle.escrow_core.specs.declared.terms.Terms.{Terms}
 use Rattle.escrow_core.specs.Terms.{is_own, terms_of, expiry_in, last_in}
-use Rattle.swap_rules.specs.Party.{hashlock_of, expiry}
+use Rattle.swap_rules.specs.Party.{expiry}
 use Rattle.swap_laws.proofs.Words.{leader_reads}
 use Rattle.swap_laws.proofs.Graph.{alone}
 use Rattle.swap_laws.proofs.History.{not-false, not-true-of}

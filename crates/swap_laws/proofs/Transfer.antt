@@ -14,7 +14,7 @@ use Rattle.swap_digraph.specs.declared.deal.Deal.{Deal}
 use Rattle.swap_digraph.specs.Value.{Graph}
 use Rattle.swap_digraph.specs.declared.deal.Mode.TheVariants.{Timelocks, Hashkeys}
 use Rattle.swap_digraph.specs.Graph.{ends, leaving, entering, IsPathBetween, has_arc, IsFeedback}
-use Rattle.swap_digraph.specs.Deal.{party, counterparty, locks, leads, leader_of, amount}
+use Rattle.swap_digraph.specs.Deal.{party, counterparty, locks, leads, leader_of, amount, hashlock_of}
 use Rattle.hashkey_path.specs.declared.hashkey.Hashkey.{Hashkey}
 use Rattle.hashkey_path.specs.Hashkey.{same_key, is_valid}
 use Rattle.ledger_core.specs.declared.entry.Call.{Call}
@@ -25,8 +25,9 @@ use Rattle.ledger_core.specs.declared.facts.Settlement.TheVariants.{Refunded}
 use Rattle.ledger_core.specs.Book.{Histories, history, IsLegalBook}
 use Rattle.swap_rules.specs.declared.finding.Rule.TheVariants.{Claim as ToClaim}
 use Rattle.swap_rules.specs.declared.outcome.Outcome.TheVariants.{NoDeal, FreeRide, Underwater, Deal as WholeDeal, Discount}
-use Rattle.swap_rules.specs.Party.{is_correct, height_in, is_good, is_ready, ready_height, is_triggered, call_of, key_in, first_key, hashlock_of}
-use Rattle.swap_rules.specs.Conduct.{is_used, is_first_key, keeps, IsConducted, height_of_opening, opens_without, base_of, trigger_height}
+use Rattle.swap_rules.specs.Party.{is_correct, height_in, is_good, is_ready, ready_height, is_triggered, call_by, key_in, first_key, opens_without}
+use Rattle.swap_rules.specs.Conduct.{is_first_key, keeps, IsConducted}
+use Rattle.swap_rules.specs.Late.{is_used, height_of_opening, base_of, trigger_height}
 use Rattle.swap_rules.specs.Outcome.{is_claim, is_got, got, lost, outcome, IsEnded}
 use Rattle.swap_rules.specs.Accepted.{IsAccepted, HasTimelock, IsTimed}
 use Rattle.swap_laws.specs.Laws.{IsOnTime, AllConform, IsClaimedBy, AllIsTransferred}
@@ -39,7 +40,7 @@ use Rattle.swap_laws.proofs.SafeHashkeys.{passing_hashkeys, longer, used_below, 
 use Rattle.swap_laws.proofs.Calls.{counted_claim, kept, legal_at, done_in_time}
 use Rattle.swap_laws.proofs.Openings.{IsOpenBy, open_by_more, claim_claims_by, opened_once}
 use Rattle.swap_laws.proofs.Publishing.{every_good, enters_own, leaves_own, from_below, good_of, height_low}
-use Rattle.swap_laws.proofs.Words.{claim_rule, same_key-path, some_length, key_parts, and_five, enters, act_of, call_of-act, leaves}
+use Rattle.swap_laws.proofs.Words.{claim_rule, same_key-path, some_length, key_parts, and_five, enters, act_of, call_by-act, leaves}
 use Rattle.swap_laws.proofs.Units.{units, after, settled-published}
 use Rattle.swap_laws.proofs.History.{done_at, opened_done, of_unlock, of_publish, of_claim, of_refund, clear_at, published-past, legal-past, is_some-of}
 use Rattle.swap_laws.proofs.Refunds.{counterparty_empty, NoOwnTransfer, no_own_transfer}
@@ -78,7 +79,7 @@ module _ (d : Deal) (b : Histories) (v : ℕ) (legal : IsLegalBook d b) (ended :
       let ends = trigger_ends d b v legal ended conducted on_time law ready a w in
       let passed : trigger_height d (history b a) + d.delta < height (history b a) = omega arith in
       let done = done_in_time d b v conducted legal on_time ToClaim a (claim_rule d) (in_range a (length d.graph.arcs) in_arc.0) (trigger_height d (history b a)) (claim_enabled d b v legal ended conducted on_time law ready a w open_all) passed in
-      let called : call_of v done.now ≡ Some Claim = done.called ∙ ap Some (counted_claim d b v a done.now.height done.call done.counted) in
+      let called : call_by v done.now ≡ Some Claim = done.called ∙ ap Some (counted_claim d b v a done.now.height done.call done.counted) in
       let act = act_of d a (history b a) done.past done.now Claim v l done.stands called in
       let shown : triggered d done.past ≡ true = kept d b v conducted a done.past done.now Claim done.stands called in
       let o = is_some-of (opened done.past 0) (list_all-in (is_open done.past) (locks d) 0 shown (in_range 0 (length d.leaders) law.lock)) in
@@ -294,14 +295,14 @@ module _ (d : Deal) (b : Histories) (k : IsAccepted d) (legal : IsLegalBook d b)
   unfolding first_key keeps
   first_key_path mode v below i key e =
       let c = all v below in
-      let f = first_at (λ e. key_in i (call_of v e)) (flat_map (λ h. h) b) key e in
-      let parts = key_parts i (call_of v f.now) key f.gives in
+      let f = first_at (λ e. key_in i (call_by v e)) (flat_map (λ h. h) b) key e in
+      let parts = key_parts i (call_by v f.now) key f.gives in
       let w = from_whole b f.now (subst (IsIn f.now) (sym f.stands.1) (in_from_moment f.past f.now f.stands.0)) in
       let m = moment_from_in (history b w.0) f.now w.2 in
       let q = and_five (is_some (published m.0)) (is_ready d b v) (is_first_key (first_key b v key.lock) key) (is_valid d w.0 (hashlock_of d key.lock) key) _ (kept d b v c.conducted w.0 m.0 f.now (Unlock key) m.1 parts.0) in
       (w.0, path_of d w.0 key mode (path_of_valid d w.0 (hashlock_of d key.lock) key q.3), parts.1)
 
-  first_kept : (v : ℕ) → v < d.graph.n → (a : ℕ) (past : List Entry) (e : Entry) (key : Hashkey) → IsMoment (history b a) past e → call_of v e ≡ Some (Unlock key) → is_first_key (first_key b v key.lock) key ≡ true
+  first_kept : (v : ℕ) → v < d.graph.n → (a : ℕ) (past : List Entry) (e : Entry) (key : Hashkey) → IsMoment (history b a) past e → call_by v e ≡ Some (Unlock key) → is_first_key (first_key b v key.lock) key ≡ true
   unfolding keeps
   first_kept v below a past e key m called =
       let c = all v below in
@@ -333,7 +334,7 @@ module _ (d : Deal) (b : Histories) (k : IsAccepted d) (legal : IsLegalBook d b)
           let done = done_at d x.arc (history b x.arc) x.past x.now (Unlock x.inner) t la x.stands x.took x.height in
           let of_u = of_unlock d x.arc done.past done.act.by x.inner done.clear in
           let y = counterparty d x.arc in
-          let called = call_of-act d x.arc done.past done.now (Unlock x.inner) (counterparty d x.arc) done.act of_u.counterparty in
+          let called = call_by-act d x.arc done.past done.now (Unlock x.inner) (counterparty d x.arc) done.act of_u.counterparty in
           let rule = first_kept (counterparty d x.arc) (to_below x.arc out.0) x.arc done.past done.now x.inner done.stands called in
           let first = some_first (first_key b (counterparty d x.arc) x.inner.lock) x.inner rule in
           let same = same_key-path first.0 x.inner first.2 in
@@ -390,7 +391,7 @@ module _ (d : Deal) (b : Histories) (k : IsAccepted d) (legal : IsLegalBook d b)
       let act = (clear_at d a (history b a) past e (Transfer to units) (legal.legal a (rw legal.one_each la)) m q).0 in
       let below : act.by < d.graph.n = by_below act.by act.of_the_two in
       let c = all act.by below in
-      false≢true (kept d b act.by c.conducted a past e (Transfer to units) m (call_of-act d a past e (Transfer to units) act.by act refl))
+      false≢true (kept d b act.by c.conducted a past e (Transfer to units) m (call_by-act d a past e (Transfer to units) act.by act refl))
     where
       by_below : (p : ℕ) → IsTrue ((p == party d a) || (p == counterparty d a)) → p < d.graph.n
       by_below p h = go (p == party d a) refl h

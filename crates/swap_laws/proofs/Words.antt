@@ -21,9 +21,8 @@ use Rattle.ledger_core.specs.History.{Opening, IsLegal, sent_by}
 use Rattle.ledger_core.specs.declared.entry.Call.{Call}
 use Rattle.ledger_core.specs.declared.entry.Call.TheVariants.{Publish, Unlock, Claim, Refund, Transfer}
 use Rattle.ledger_core.specs.declared.entry.Entry.{Entry}
-use Rattle.swap_rules.specs.Conduct.{key_without}
 use Rattle.swap_rules.specs.declared.finding.Rule.TheVariants.{Publish as ToPublish, Unlock as ToUnlock, Claim as ToClaim, Refund as ToRefund}
-use Rattle.swap_rules.specs.Party.{call_in, call_of, key_in}
+use Rattle.swap_rules.specs.Party.{call_in, call_by, key_in, key_without}
 use Rattle.swap_rules.specs.Findings.{rules_of}
 use Rattle.swap_laws.proofs.History.{Act, act_at}
 
@@ -99,11 +98,11 @@ enters d v a i = let k = from_filter (λ a. (ends d.graph a).to == v) a (arcs d.
 pub leaves : (d : Deal) (v a : ℕ) → IsIn a (leaving d.graph v) → (a < length d.graph.arcs) × (party d a ≡ v)
 leaves d v a i = let k = from_filter (λ a. (ends d.graph a).from == v) a (arcs d.graph) i in (from_range a (length d.graph.arcs) k.0, eqb-true (ends d.graph a).from v k.1)
 
-pub call_of-act : (d : Deal) (a : ℕ) (past : List Entry) (e : Entry) (c : Call) (v : ℕ) (act : Act d a past e c) → act.by ≡ v → call_of v e ≡ Some c
-call_of-act d a past e c v act by =
+pub call_by-act : (d : Deal) (a : ℕ) (past : List Entry) (e : Entry) (c : Call) (v : ℕ) (act : Act d a past e c) → act.by ≡ v → call_by v e ≡ Some c
+call_by-act d a past e c v act by =
     ap (λ s. cond (sent_by v s) (call_in e.what) None) act.sender ∙ (ap (λ b. cond b (call_in e.what) None) (eq-eqb act.by v by) ∙ ap call_in act.what)
 
-pub call_of_parts : (v : ℕ) (e : Entry) (c : Call) → call_of v e ≡ Some c → (sent_by v e.sender ≡ true) × (call_in e.what ≡ Some c)
+pub call_of_parts : (v : ℕ) (e : Entry) (c : Call) → call_by v e ≡ Some c → (sent_by v e.sender ≡ true) × (call_in e.what ≡ Some c)
 call_of_parts v e c k = go (sent_by v e.sender) refl k
   where
     go : (b : Bool) → sent_by v e.sender ≡ b → cond b (call_in e.what) None ≡ Some c → (sent_by v e.sender ≡ true) × (call_in e.what ≡ Some c)
@@ -111,7 +110,7 @@ call_of_parts v e c k = go (sent_by v e.sender) refl k
     go false h k = absurd (cc k)
 
 -- a call of v in a legal history, with its sender
-pub act_of : (d : Deal) (a : ℕ) (h past : List Entry) (e : Entry) (c : Call) (v : ℕ) → IsLegal d a h → IsMoment h past e → call_of v e ≡ Some c → (act : Act d a past e c) × (act.by ≡ v)
+pub act_of : (d : Deal) (a : ℕ) (h past : List Entry) (e : Entry) (c : Call) (v : ℕ) → IsLegal d a h → IsMoment h past e → call_by v e ≡ Some c → (act : Act d a past e c) × (act.by ≡ v)
 act_of d a h past e c v l m k =
     let parts = call_of_parts v e c k in
     let act = act_at d a h past e c l m parts.1 in

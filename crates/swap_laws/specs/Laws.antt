@@ -17,7 +17,9 @@ use Rattle.swap_rules.specs.declared.finding.Finding.TheVariants.{Broke, Late, F
 use Rattle.swap_rules.specs.declared.outcome.Outcome.TheVariants.{Underwater, Deal as WholeDeal}
 use Rattle.swap_rules.specs.Accepted.{IsAccepted}
 use Rattle.swap_rules.specs.Party.{is_triggered}
-use Rattle.swap_rules.specs.Conduct.{IsConducted, ref_of, is_late, is_forged}
+use Rattle.swap_rules.specs.Conduct.{IsConducted}
+use Rattle.swap_rules.specs.Late.{ref_of, is_late}
+use Rattle.swap_rules.specs.Forged.{is_forged}
 use Rattle.swap_rules.specs.Due.{Wallet, Action, due}
 use Rattle.swap_rules.specs.Findings.{findings, rules_of}
 use Rattle.swap_rules.specs.Outcome.{outcome, IsEnded}

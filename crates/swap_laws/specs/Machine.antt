@@ -6,7 +6,7 @@ use Rattle.swap_digraph.specs.Graph.{leaving, entering, is_among}
 use Rattle.swap_digraph.specs.declared.deal.Mode.{Mode}
 use Rattle.swap_digraph.specs.declared.deal.Mode.TheVariants.{Timelocks, Hashkeys}
 use Rattle.swap_digraph.specs.declared.deal.Deal.{Deal}
-use Rattle.swap_digraph.specs.Deal.{leads}
+use Rattle.swap_digraph.specs.Deal.{leads, hashlock_of}
 use Rattle.hashkey_path.specs.declared.hashkey.Hashkey.{Hashkey}
 use Rattle.hashkey_path.specs.Hashkey.{is_valid}
 use Rattle.escrow_core.specs.Terms.{terms_of, same_terms}
@@ -19,8 +19,8 @@ use Rattle.ledger_core.specs.History.{height, published, triggered, sent_by, is_
 use Rattle.ledger_core.specs.Book.{Histories, history, IsLegalBook}
 use Rattle.swap_rules.specs.declared.finding.Rule.{Rule}
 use Rattle.swap_rules.specs.declared.finding.Rule.TheVariants.{Publish as ToPublish, Unlock as ToUnlock, Claim as ToClaim, Refund as ToRefund}
-use Rattle.swap_rules.specs.Party.{hashlock_of, is_ready, has_expired, leads_one, call_of}
-use Rattle.swap_rules.specs.Conduct.{is_publish, is_alone, extends, has_origin}
+use Rattle.swap_rules.specs.Party.{is_ready, has_expired, leads_one, call_by}
+use Rattle.swap_rules.specs.Conduct.{is_publish, is_alone, extends_without, has_origin}
 use Rattle.swap_rules.specs.Due.{Wallet, is_unlock_for, is_claiming, is_refunding, has_called}
 
 -- Knowledge.
@@ -50,10 +50,10 @@ abbrev pub IsOwn : Mode → ℕ → Hashkey → Type 0
 IsOwn Timelocks v key = Unit {0}
 IsOwn Hashkeys v key = IsTrue (is_alone v key.path)
 
--- a hashkey put on another: with hashkeys it extends that one by v, with timelocks it has that one's secret
+-- a hashkey put on another: with hashkeys it extends that one by v, whose path lacks v, with timelocks it has that one's secret
 abbrev pub IsOnto : Mode → ℕ → Hashkey → Hashkey → Type 0
 IsOnto Timelocks v inner key = IsTrue (bytes_eq inner.secret key.secret)
-IsOnto Hashkeys v inner key = IsTrue (extends v key (Some (Unlock inner)))
+IsOnto Hashkeys v inner key = IsTrue (extends_without v key (Some (Unlock inner)))
 
 -- A hashkey for lock i that opens it on every arc that enters v.
 pub record IsGoodKey (d : Deal) (v i : ℕ) (key : Hashkey) : Type 0 where
@@ -96,7 +96,7 @@ pub record KeepsKey (d : Deal) (b : Histories) (v i : ℕ) (key : Hashkey) : Typ
 
 -- What all calls and hashkeys of v keep.
 pub record KeepsRules (d : Deal) (b : Histories) (signed : ℕ → Option Hashkey) (v : ℕ) : Type 0 where
-  pub own : (a : ℕ) (past : List Entry) (e : Entry) (c : Call) → IsMoment (history b a) past e → call_of v e ≡ Some c → KeepsOwn d b signed v a past c
+  pub own : (a : ℕ) (past : List Entry) (e : Entry) (c : Call) → IsMoment (history b a) past e → call_by v e ≡ Some c → KeepsOwn d b signed v a past c
   pub keys : (i : ℕ) (key : Hashkey) → signed i ≡ Some key → KeepsKey d b v i key
 
 -- A machine's state is sound: what it knows is legal, and its calls there keep its rules.

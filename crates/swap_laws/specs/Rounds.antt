@@ -8,7 +8,8 @@ use Rattle.ledger_core.specs.History.{height}
 use Rattle.ledger_core.specs.Book.{Histories, history, IsLegalBook}
 use Rattle.swap_rules.specs.declared.finding.Rule.{Rule}
 use Rattle.swap_rules.specs.Party.{first_key}
-use Rattle.swap_rules.specs.Conduct.{IsConducted, is_done}
+use Rattle.swap_rules.specs.Conduct.{IsConducted}
+use Rattle.swap_rules.specs.Late.{is_done}
 use Rattle.swap_rules.specs.Due.{Wallet, due}
 use Rattle.swap_laws.specs.Machine.{Begins, Knows}
 

@@ -1,22 +1,18 @@
 -- A deal that passes the checks is an accepted one.
-use Rattle.std.proofs.Common.{◌≡◌, ℕ, zero, suc, ◌+◌, ◌<◌, ◌≤◌, ◌==◌, nat_lt, Bool, true, false, cond, not, ◌&&◌, List, [], ◌∷◌, ◌++◌, length, get_or, take, slice_index, Option, Some, None, Result, Ok, Err, refl, sym, ap, ◌∙◌, subst, arith, inl, inr, ltb-false, ltb-true, eqb-true, eq-eqb, get_or-take, append-nil, append_assoc, position, replicate}
-use Rattle.std.proofs.lemmas.List.{length-take}
-use Rattle.std.proofs.lemmas.Bool.{false≢true}
-use Rattle.std.specs.List.{position_from}
-use Rattle.std.proofs.lemmas.Iterator.Adapters.{position_from-zero}
+use Rattle.std.proofs.Common.{◌≡◌, ℕ, ◌<◌, ◌≤◌, ◌==◌, nat_lt, Bool, true, false, cond, List, [], ◌∷◌, length, get_or, slice_index, Option, Some, None, Result, Ok, Err, refl, sym, ap, ◌∙◌, subst, arith, inl, inr, ltb-false, eqb-true, replicate}
 use Rattle.swap_base.specs.Fault.{◌>>=◌}
 use Rattle.swap_base.specs.Lists.{or_else, first_of, IsIn}
 use Rattle.swap_base.proofs.Lists.{in_range}
 use Rattle.time_bounds.specs.Times.{need, timelock}
 use Rattle.swap_digraph.specs.Value.{Graph}
-use Rattle.swap_digraph.specs.Graph.{ends, arcs, HasEnds, IsStronglyConnected, IsFeedback, IsHeight, IsDist}
-use Rattle.swap_digraph.specs.Arcs.{fault_at, first_fault, first_fault_after, graph_or, digraph_of, parallel, same_ends}
+use Rattle.swap_digraph.specs.Graph.{ends, ends_in, arcs, HasEnds, HasDistinctEnds, IsStronglyConnected, IsFeedback, IsHeight, IsDist}
+use Rattle.swap_digraph.specs.Arcs.{first_fault, graph_or, digraph_of}
 use Rattle.swap_digraph.specs.declared.arc_ends.ArcEnds.{ArcEnds}
 use Rattle.swap_digraph.specs.declared.fault.ArcFault.{ArcFault}
-use Rattle.swap_digraph.specs.declared.fault.ArcFault.TheVariants.{OutOfRange, SelfArc}
 use Rattle.swap_digraph.specs.declared.deal.Mode.{Mode}
 use Rattle.swap_digraph.specs.declared.deal.Mode.TheVariants.{Timelocks, Hashkeys}
 use Rattle.swap_digraph.specs.declared.deal.Version.TheVariants.{One}
+use Rattle.swap_digraph.proofs.Distinct.{distinct}
 use Rattle.hashkey_path.proofs.Feeding.{any_id}
 use Rattle.digraph_check.specs.Reach.{closed_set}
 use Rattle.digraph_check.proofs.ClosedSets.{connected_of_none}
@@ -132,60 +128,6 @@ is_timed Hashkeys h g id u v m k n a has strong feedback one t = λ b lt. k.unti
 
 -- No two arcs have the same ends.
 
-both_none : (o rest : Option ArcFault) → or_else o rest ≡ None → (o ≡ None) × (rest ≡ None)
-both_none None rest e = (refl, e)
-both_none (Some x) rest e = absurd (cc e)
-
-none_after : (n : ℕ) (before xs : List ArcEnds) (i : ℕ) (d : ArcEnds) → first_fault_after n One before xs ≡ None → i < length xs → (k : ℕ) × (fault_at n One (before ++ take i xs) k (get_or xs i d) ≡ None)
-none_after n before [] i d e lt = absurd (omega arith)
-none_after n before (x ∷ xs) zero d e lt = (length before, subst (λ ys. fault_at n One ys (length before) x ≡ None) (sym (append-nil before)) (both_none _ _ e).0)
-none_after n before (x ∷ xs) (suc i) d e lt =
-    let r = none_after n (before ++ x ∷ []) xs i d (both_none _ _ e).1 (omega arith) in
-    (r.0, subst (λ ys. fault_at n One ys r.0 (get_or xs i d) ≡ None) (append_assoc before (x ∷ []) (take i xs)) r.1)
-
-no_parallel : (n k : ℕ) (before : List ArcEnds) (a : ArcEnds) → fault_at n One before k a ≡ None → position (same_ends a) before ≡ None
-unfolding fault_at
-no_parallel n k before a e = go (nat_lt a.from n && nat_lt a.to n) (a.from == a.to) (position (same_ends a) before) e
-  where
-    go : (w s : Bool) (o : Option ℕ) → cond (not w) (Some (OutOfRange k)) (cond s (Some (SelfArc k)) (parallel One k o)) ≡ None → o ≡ None
-    go true false None h = refl
-    go true false (Some j) h = absurd (cc h)
-    go true true o h = absurd (cc h)
-    go false s o h = absurd (cc h)
-
-not_there : (f : ArcEnds → Bool) (from : ℕ) (xs : List ArcEnds) (j : ℕ) (d : ArcEnds) → position_from f from xs ≡ None → j < length xs → f (get_or xs j d) ≡ false
-not_there f from [] j d e lt = absurd (omega arith)
-not_there f from (x ∷ xs) j d e lt = go (f x) refl j e lt (λ i. not_there f (from + 1) xs i d)
-  where
-    go : (t : Bool) → f x ≡ t → (i : ℕ) → cond t (Some from) (position_from f (from + 1) xs) ≡ None → i < suc (length xs) → ((i : ℕ) → position_from f (from + 1) xs ≡ None → i < length xs → f (get_or xs i d) ≡ false) → f (get_or (x ∷ xs) i d) ≡ false
-    go true h i k l rest = absurd (cc k)
-    go false h zero k l rest = h
-    go false h (suc i) k l rest = rest i k (omega arith)
-
-same_itself : (a : ArcEnds) → same_ends a a ≡ true
-same_itself a = rw (eq-eqb a.from a.from refl, eq-eqb a.to a.to refl) refl
-
-abbrev no_arc : ArcEnds
-no_arc = record { from = 0; to = 0 }
-
-earlier : (n : ℕ) (xs : List ArcEnds) (i j : ℕ) → first_fault n One xs ≡ None → i < length xs → j < i → get_or xs j no_arc ≡ get_or xs i no_arc → ⊥
-unfolding first_fault
-earlier n xs i j e lt less same =
-    let r = none_after n [] xs i no_arc e lt in
-    let p = no_parallel n r.0 (take i xs) (get_or xs i no_arc) r.1 in
-    let m : j < length (take i xs) = omega (arith, length-take i xs) in
-    let f = not_there (same_ends (get_or xs i no_arc)) 0 (take i xs) j no_arc (sym (position_from-zero (same_ends (get_or xs i no_arc)) (take i xs)) ∙ p) m in
-    let q : get_or (take i xs) j no_arc ≡ get_or xs i no_arc = get_or-take i xs j no_arc less ∙ same in
-    absurd (false≢true (sym f ∙ ap (same_ends (get_or xs i no_arc)) q ∙ same_itself (get_or xs i no_arc)))
-
-distinct : (n : ℕ) (xs : List ArcEnds) → first_fault n One xs ≡ None → (a b : ℕ) → a < length xs → b < length xs → get_or xs a no_arc ≡ get_or xs b no_arc → a ≡ b
-distinct n xs e a b la lb same = go (nat_lt a b) (nat_lt b a) refl refl
-  where
-    go : (s t : Bool) → nat_lt a b ≡ s → nat_lt b a ≡ t → a ≡ b
-    go true t h k = absurd (earlier n xs b a e lb (ltb-true a b h) same)
-    go false true h k = absurd (earlier n xs a b e la (ltb-true b a k) (sym same))
-    go false false h k = let p = ltb-false a b h in let q = ltb-false b a k in omega (arith, p, q)
-
 no_fault : (h : Header) (g : Graph) → graph_of h ≡ Ok g → first_fault (length h.names) One h.arcs ≡ None
 unfolding graph_of digraph_of
 no_fault h g e = go (first_fault (length h.names) One h.arcs) refl e
@@ -194,10 +136,10 @@ no_fault h g e = go (first_fault (length h.names) One h.arcs) refl e
     go None s k = s
     go (Some f) s k = absurd (cc k)
 
-all_apart : (g : Graph) (n : ℕ) (xs : List ArcEnds) → g.arcs ≡ xs → first_fault n One xs ≡ None → (a b : ℕ) → a < length g.arcs → b < length g.arcs → ends g a ≡ ends g b → a ≡ b
+all_apart : (g : Graph) (n : ℕ) (xs : List ArcEnds) → g.arcs ≡ xs → first_fault n One xs ≡ None → HasDistinctEnds g
 all_apart g n xs same e a b la lb s =
     distinct n xs e a b (subst (λ (ys : List ArcEnds). a < length ys) same la) (subst (λ (ys : List ArcEnds). b < length ys) same lb)
-    (subst (λ (ys : List ArcEnds). get_or ys a no_arc ≡ get_or ys b no_arc) same s)
+    (subst (λ (ys : List ArcEnds). ends_in ys a ≡ ends_in ys b) same s)
 
 pub is_accepted : (h : Header) (g : Graph) (u : Unit {0}) → IsWithin h → HasEnds g → g.n ≡ length h.names → g.arcs ≡ h.arcs → graph_of h ≡ Ok g → checked h g ≡ Ok u → IsAccepted (deal_with h g)
 unfolding checked

@@ -1,7 +1,7 @@
 -- The deals that are accepted (Herlihy 2018, sections 2 and 4, with limits on every number).
 use Rattle.std.specs.Prelude.{◌≡◌, ℕ, ◌<◌, ◌≤◌, ◌^◌, length, slice_index}
 use Rattle.time_bounds.specs.Times as times
-use Rattle.swap_digraph.specs.Graph.{ends, HasEnds, IsStronglyConnected, IsFeedback, IsHeight, IsDist}
+use Rattle.swap_digraph.specs.Graph.{HasEnds, HasDistinctEnds, IsStronglyConnected, IsFeedback, IsHeight, IsDist}
 use Rattle.swap_digraph.specs.declared.deal.Deal.{Deal}
 use Rattle.swap_digraph.specs.declared.deal.Mode.{Mode}
 use Rattle.swap_digraph.specs.declared.deal.Mode.TheVariants.{Timelocks, Hashkeys}
@@ -23,7 +23,7 @@ IsTimed Hashkeys d = (a : ℕ) → a < length d.graph.arcs → slice_index d.tim
 
 -- In version 1 no two arcs have the same ends, and in version 2 the mode is hashkeys.
 abbrev pub IsOfVersion : Version → Deal → Type 0
-IsOfVersion One d = (a b : ℕ) → a < length d.graph.arcs → b < length d.graph.arcs → ends d.graph a ≡ ends d.graph b → a ≡ b
+IsOfVersion One d = HasDistinctEnds d.graph
 IsOfVersion Two d = d.mode ≡ Hashkeys
 
 -- An accepted deal.

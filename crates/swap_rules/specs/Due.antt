@@ -12,8 +12,8 @@ use Rattle.ledger_core.specs.declared.entry.Call.TheVariants.{Publish, Unlock, C
 use Rattle.ledger_core.specs.declared.entry.Entry.{Entry}
 use Rattle.ledger_core.specs.History.{height, published, settled}
 use Rattle.ledger_core.specs.Book.{Histories, history}
-use Rattle.swap_rules.specs.Party.{is_ready, is_correct, is_triggered, has_expired, leads_one, call_of}
-use Rattle.swap_rules.specs.Conduct.{is_publish, first_seen_key}
+use Rattle.swap_rules.specs.Party.{is_ready, is_correct, is_triggered, has_expired, leads_one, call_by, first_seen_key}
+use Rattle.swap_rules.specs.Conduct.{is_publish}
 
 -- What a party signs with: a hashkey of its own for a lock that it leads, and one put before a hashkey that it saw.
 pub record Wallet : Type 0 where
@@ -42,7 +42,7 @@ is_refunding _ = false
 
 -- whether v has a call that passes the test in the list, whatever the reply
 abbrev pub has_called : ℕ → (Option Call → Bool) → List Entry → Bool
-has_called v test h = list_any (λ e. test (call_of v e)) h
+has_called v test h = list_any (λ e. test (call_by v e)) h
 
 -- v, a leader or ready, has no publish entry on arc a
 unfoldable pub is_due_publish : Deal → ℕ → Histories → ℕ → Bool
@@ -62,9 +62,9 @@ unfoldable pub due_key : Deal → ℕ → Wallet → Option Hashkey → Historie
 due_key d v w signed k i = or_else signed (if leads d v i then Some (w.first i) else extended w (seen_key d v k i))
 
 -- an unlock on arc a with the hashkey, where there is one
-abbrev pub present : ℕ → Option Hashkey → List Action
-present a None = []
-present a (Some key) = record { arc = a; call = Unlock key } ∷ []
+abbrev pub presented : ℕ → Option Hashkey → List Action
+presented a None = []
+presented a (Some key) = record { arc = a; call = Unlock key } ∷ []
 
 -- v is ready and has no unlock entry for lock i on arc a
 abbrev pub may_unlock : Deal → ℕ → Histories → ℕ → ℕ → Bool
@@ -72,7 +72,7 @@ may_unlock d v k i a = is_ready d k v && not (has_called v (is_unlock_for i) (hi
 
 -- the unlock for lock i that is due on arc a, if any
 unfoldable pub due_unlock_on : Deal → ℕ → Wallet → Option Hashkey → Histories → ℕ → ℕ → List Action
-due_unlock_on d v w signed k i a = if may_unlock d v k i a then present a (due_key d v w signed k i) else []
+due_unlock_on d v w signed k i a = if may_unlock d v k i a then presented a (due_key d v w signed k i) else []
 
 -- arc a is correct and triggered, and v has no claim entry there
 unfoldable pub is_due_claim : Deal → ℕ → Histories → ℕ → Bool

@@ -13,7 +13,9 @@ use Rattle.swap_rules.specs.declared.finding.Rule.{Rule}
 use Rattle.swap_rules.specs.declared.finding.Rule.TheVariants.{Publish as ToPublish, Unlock as ToUnlock, Claim as ToClaim, Refund as ToRefund}
 use Rattle.swap_rules.specs.declared.finding.Finding.{Finding}
 use Rattle.swap_rules.specs.declared.finding.Finding.TheVariants.{Broke, Late, Forged, Unfinished}
-use Rattle.swap_rules.specs.Conduct.{keeps_at, is_late, ref_of, is_forged}
+use Rattle.swap_rules.specs.Conduct.{keeps_at}
+use Rattle.swap_rules.specs.Late.{is_late, ref_of}
+use Rattle.swap_rules.specs.Forged.{is_forged}
 
 -- what is said of each entry that fails the test, by its number
 abbrev pub failing : (ℕ → Finding) → (Moment Entry → Bool) → List Entry → List Finding

@@ -1,9 +1,9 @@
 -- What a party reads in a book, or in what it knows of one: one list of entries per arc.
-use Rattle.std.specs.Prelude.{ℕ, Bool, false, not, ◌&&◌, ◌==◌, nat_lt, nat_le, List, [], Option, Some, None, slice_index_or, if◌then◌else◌}
+use Rattle.std.specs.Prelude.{ℕ, Bool, false, not, ◌&&◌, ◌==◌, nat_lt, nat_le, List, [], Option, Some, None, if◌then◌else◌}
 use Rattle.std.specs.List.{list_any, list_all, flat_map}
 use Rattle.swap_base.specs.Lists.{first_of, greatest}
 use Rattle.time_bounds.specs.Times as times
-use Rattle.swap_digraph.specs.Graph.{entering, is_among}
+use Rattle.swap_digraph.specs.Graph.{leaving, entering, is_among}
 use Rattle.swap_digraph.specs.declared.deal.Deal.{Deal}
 use Rattle.swap_digraph.specs.Deal.{locks}
 use Rattle.hashkey_path.specs.declared.hashkey.Hashkey.{Hashkey}
@@ -13,12 +13,8 @@ use Rattle.ledger_core.specs.declared.entry.Call.TheVariants.{Unlock}
 use Rattle.ledger_core.specs.declared.entry.What.{What}
 use Rattle.ledger_core.specs.declared.entry.What.TheVariants.{Call as Made, Tick}
 use Rattle.ledger_core.specs.declared.entry.Entry.{Entry}
-use Rattle.ledger_core.specs.History.{Publication, published, is_open, triggered, sent_by}
+use Rattle.ledger_core.specs.History.{Publication, published, Opening, opened, is_open, triggered, sent_by}
 use Rattle.ledger_core.specs.Book.{Histories, history}
-
--- the deal's hashlock of lock i
-abbrev pub hashlock_of : Deal → ℕ → List ℕ
-hashlock_of d i = slice_index_or d.hashlocks i []
 
 -- whether an accepted publish has the correct terms of arc a
 abbrev pub is_correct_in : Deal → ℕ → Option Publication → Bool
@@ -72,8 +68,8 @@ call_in (Made c) = Some c
 call_in (Tick k) = None
 
 -- the call of v that an entry is, whatever its reply
-abbrev pub call_of : ℕ → Entry → Option Call
-call_of v e = if sent_by v e.sender then call_in e.what else None
+abbrev pub call_by : ℕ → Entry → Option Call
+call_by v e = if sent_by v e.sender then call_in e.what else None
 
 -- the hashkey of an unlock call for lock i
 abbrev pub key_in : ℕ → Option Call → Option Hashkey
@@ -82,4 +78,18 @@ key_in i _ = None
 
 -- the hashkey of v's first unlock call for lock i, in order of arc and entry
 unfoldable pub first_key : Histories → ℕ → ℕ → Option Hashkey
-first_key b v i = first_of (λ e. key_in i (call_of v e)) (flat_map (λ h. h) b)
+first_key b v i = first_of (λ e. key_in i (call_by v e)) (flat_map (λ h. h) b)
+
+-- the lock was opened by a path without v
+abbrev pub opens_without : ℕ → Option Opening → Bool
+opens_without v None = false
+opens_without v (Some o) = not (is_among v o.key.path)
+
+-- the hashkey that opened the lock, where its path lacks v
+abbrev pub key_without : ℕ → Option Opening → Option Hashkey
+key_without v None = None
+key_without v (Some o) = if is_among v o.key.path then None else Some o.key
+
+-- the hashkey that opened lock i on the least-numbered arc that leaves v whose opening path lacks v
+abbrev pub first_seen_key : Deal → Histories → ℕ → ℕ → Option Hashkey
+first_seen_key d b v i = first_of (λ a. key_without v (opened (history b a) i)) (leaving d.graph v)

@@ -12,7 +12,7 @@ use Rattle.ledger_core.specs.declared.entry.Entry.{Entry}
 use Rattle.ledger_core.specs.Book.{Histories, history}
 use Rattle.swap_rules.specs.declared.finding.Rule.{Rule}
 use Rattle.swap_rules.specs.declared.finding.Rule.TheVariants.{Publish as ToPublish, Unlock as ToUnlock, Claim as ToClaim, Refund as ToRefund}
-use Rattle.swap_rules.specs.Party.{call_of}
+use Rattle.swap_rules.specs.Party.{call_by}
 use Rattle.swap_rules.specs.Due.{has_called}
 use Rattle.swap_rules.specs.Findings.{rules_of}
 use Rattle.swap_laws.specs.Machine.{Begins, test_of}
@@ -82,14 +82,14 @@ slot_in d r a i l = in_flat_map (slots_of d) (rules_of d) r (record { rule = r; 
 
 -- a call that is the first of its rule leaves one slot less
 pub left_less : (d : Deal) (v : ℕ) (known : Histories) (h book : List Entry) (a : ℕ) (e : Entry) (r : Rule) → history (set known a h) a ≡ book ++ e ∷ [] → Begins (history known a) book → IsIn r (rules_of d) → a < length d.graph.arcs
-    → has_called v (test_of r) (history known a) ≡ false → test_of r (call_of v e) ≡ true → left d v (set known a h) + 1 ≤ left d v known
+    → has_called v (test_of r) (history known a) ≡ false → test_of r (call_by v e) ≡ true → left d v (set known a h) + 1 ≤ left d v known
 left_less d v known h book a e r there b i l f p = count_less (open_slot v known) (open_slot v (set known a h)) (slots d)
     (λ z q. not-mono (has_called v (test_of z.rule) (history known z.arc)) (has_called v (test_of z.rule) (history (set known a h) z.arc)) (λ y. more z y (same_or_not z.arc a)) q)
     (record { rule = r; arc = a }) (slot_in d r a i l) (ap not f)
-    (ap not (ap (has_called v (test_of r)) there ∙ list_any-in (λ y. test_of r (call_of v y)) (book ++ e ∷ []) e p (in_append book (e ∷ []) e (inr (inl refl)))))
+    (ap not (ap (has_called v (test_of r)) there ∙ list_any-in (λ y. test_of r (call_by v y)) (book ++ e ∷ []) e p (in_append book (e ∷ []) e (inr (inl refl)))))
   where
     more : (z : Slot) → has_called v (test_of z.rule) (history known z.arc) ≡ true → (z.arc ≡ a) ⊎ (z.arc ≢ a) → has_called v (test_of z.rule) (history (set known a h) z.arc) ≡ true
     more z y (inl q) =
         ap (λ c. has_called v (test_of z.rule) (history (set known a h) c)) q ∙ (ap (has_called v (test_of z.rule)) (there ∙ (ap (λ l. l ++ e ∷ []) b.1 ∙ append_assoc (history known a) b.0 (e ∷ [])))
-        ∙ list_any-more (λ y. test_of z.rule (call_of v y)) (history known a) (b.0 ++ e ∷ []) (ap (λ c. has_called v (test_of z.rule) (history known c)) (sym q) ∙ y))
+        ∙ list_any-more (λ y. test_of z.rule (call_by v y)) (history known a) (b.0 ++ e ∷ []) (ap (λ c. has_called v (test_of z.rule) (history known c)) (sym q) ∙ y))
     more z y (inr q) = ap (has_called v (test_of z.rule)) (history_other known a z.arc h q) ∙ y

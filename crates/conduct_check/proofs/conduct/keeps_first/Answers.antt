@@ -1,7 +1,8 @@
 use Rattle.std.proofs.Common.{◌∙◌, ap, sym, true}
 use Rattle.hashkey_path.specs.Hashkey.{is_valid}
 use Rattle.history_index.specs.Indexes.{entries_in}
-use Rattle.swap_rules.specs.Party.{first_key, hashlock_of}
+use Rattle.swap_digraph.specs.Deal.{hashlock_of}
+use Rattle.swap_rules.specs.Party.{first_key}
 use Rattle.swap_rules.specs.Conduct.{has_origin}
 use Rattle.conduct_check.specs.Standing.{origin_of}
 use Rattle.conduct_check.proofs.Chains.{in_turn, stops}

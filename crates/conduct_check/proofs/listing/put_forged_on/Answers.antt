@@ -2,7 +2,7 @@ use Rattle.std.proofs.Common.{◌++◌, [], ◌∷◌, not, cond, sym, ap, ◌�
 use Rattle.ledger_core.specs.Book.{history}
 use Rattle.history_index.specs.Indexes.{entries_in}
 use Rattle.swap_rules.specs.declared.finding.Finding.TheVariants.{Forged}
-use Rattle.swap_rules.specs.Conduct.{is_forged}
+use Rattle.swap_rules.specs.Forged.{is_forged}
 use Rattle.hashkey_path.proofs.Answered.{not-not}
 use Rattle.conduct_check.proofs.Failing.{said_more, said_done}
 use Rattle.conduct_check.proofs.Legal.{accepted_within, tick_is_made}

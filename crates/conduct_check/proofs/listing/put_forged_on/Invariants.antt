@@ -3,7 +3,7 @@ use Rattle.std.specs.Prelude.{filter_map}
 use Rattle.ledger_core.specs.Book.{history}
 use Rattle.history_index.specs.Indexes.{entries_in}
 use Rattle.swap_rules.specs.declared.finding.Finding.TheVariants.{Forged}
-use Rattle.swap_rules.specs.Conduct.{is_forged}
+use Rattle.swap_rules.specs.Forged.{is_forged}
 use Rattle.conduct_check.proofs.Failing.{said}
 use Rattle.conduct_check.proofs.listing.put_forged_on.Given as goal
 

@@ -3,7 +3,7 @@ use Rattle.std.specs.List.{flat_map, range_with_len}
 use Rattle.ledger_core.specs.Book.{history}
 use Rattle.history_index.specs.Indexes.{entries_in}
 use Rattle.swap_rules.specs.declared.finding.Finding.TheVariants.{Forged}
-use Rattle.swap_rules.specs.Conduct.{is_forged}
+use Rattle.swap_rules.specs.Forged.{is_forged}
 use Rattle.swap_rules.specs.Findings.{failing}
 use Rattle.conduct_check.proofs.listing.put_forgeries.Given as goal
 

@@ -3,11 +3,11 @@ use Rattle.std.specs.List.{list_any}
 use Rattle.ledger_core.specs.Book.{history}
 use Rattle.ledger_core.specs.History.{accepted}
 use Rattle.history_index.specs.Indexes.{entries_in}
-use Rattle.swap_rules.specs.Conduct.{extends}
+use Rattle.swap_rules.specs.Conduct.{extends_without}
 use Rattle.conduct_check.proofs.Asked.{any_accepted}
 use Rattle.conduct_check.proofs.origin.has_inner_on.Goals as goal
 
 pub returns : goal.returns
 returns c =
-    c.has_inner.ensures ∙ ap (list_any (λ m. extends c.args.party c.args.key.now (accepted m.entry))) c.made_on.ensures
-    ∙ any_accepted (extends c.args.party c.args.key.now) (history (entries_in c.args.known.now) c.args.arc) refl
+    c.has_inner.ensures ∙ ap (list_any (λ m. extends_without c.args.party c.args.key.now (accepted m.entry))) c.made_on.ensures
+    ∙ any_accepted (extends_without c.args.party c.args.key.now) (history (entries_in c.args.known.now) c.args.arc) refl

@@ -3,7 +3,7 @@ use Rattle.swap_base.specs.Lists.{greatest}
 use Rattle.swap_digraph.specs.Graph.{leaving}
 use Rattle.ledger_core.specs.Book.{history}
 use Rattle.history_index.specs.Indexes.{entries_in}
-use Rattle.swap_rules.specs.Conduct.{base_of}
+use Rattle.swap_rules.specs.Late.{base_of}
 use Rattle.late_check.specs.Parts.{greatest_used_in}
 use Rattle.late_check.proofs.Base.{base_with}
 use Rattle.late_check.proofs.bases.base_of.Goals as goal

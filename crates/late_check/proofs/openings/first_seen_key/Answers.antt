@@ -5,7 +5,7 @@ use Rattle.hashkey_path.specs.declared.hashkey.Hashkey.{Hashkey}
 use Rattle.ledger_core.specs.Book.{history}
 use Rattle.ledger_core.specs.History.{opened}
 use Rattle.history_index.specs.Indexes.{entries_in}
-use Rattle.swap_rules.specs.Conduct.{key_without}
+use Rattle.swap_rules.specs.Party.{key_without}
 use Rattle.late_check.proofs.FirstAnswer.{found_at, none_at}
 use Rattle.late_check.proofs.openings.first_seen_key.Goals as goal
 

@@ -3,7 +3,7 @@ use Rattle.swap_base.specs.Lists.{first_of}
 use Rattle.ledger_core.specs.Book.{history}
 use Rattle.ledger_core.specs.History.{opened}
 use Rattle.history_index.specs.Indexes.{entries_in}
-use Rattle.swap_rules.specs.Conduct.{key_without}
+use Rattle.swap_rules.specs.Party.{key_without}
 use Rattle.late_check.proofs.openings.first_seen_key.Given as goal
 
 abbrev pub invariant-loop-arc : goal.invariant-loop-arc

@@ -4,7 +4,7 @@ use Rattle.swap_base.specs.Lists.{greatest}
 use Rattle.ledger_core.specs.Book.{history}
 use Rattle.ledger_core.specs.History.{opened}
 use Rattle.history_index.specs.Indexes.{entries_in}
-use Rattle.swap_rules.specs.Conduct.{height_of_opening}
+use Rattle.swap_rules.specs.Late.{height_of_opening}
 use Rattle.late_check.proofs.openings.trigger_height.Given as goal
 
 abbrev pub invariant-loop-lock : goal.invariant-loop-lock

@@ -2,6 +2,7 @@ use Rattle.std.proofs.Common.{◌≡◌, ◌∙◌, sym}
 use Rattle.leader_check.specs.Levels.{level_of, height_of}
 use Rattle.leader_check.proofs.Heights.{is_level, is_height}
 use Rattle.leader_check.proofs.Walks.{cycle_is, cycle_no_feedback, none_feedback}
+use Rattle.leader_check.proofs.Bounds as bounds
 use Rattle.leader_check.proofs.Rows.{length-row, row_at, height_is}
 use Rattle.leader_check.proofs.check.levels.Goals as goal
 
@@ -32,3 +33,6 @@ pub returns-in-None-clause-height : goal.returns-in-None-clause-height
 returns-in-None-clause-height c =
     let e : c.with_greatest.result.h ≡ height_of c.args.graph.now c.args.leaders.now = c.with_greatest.ensures.height ∙ height_is c.args.graph.now c.args.leaders.now _ c.in_ok-row.ensures in
     rw e (is_height c.args.graph.now c.args.leaders.now (none_feedback c.args.graph.now c.args.leaders.now (sym c.in_ok-cycle.ensures ∙ c.in-None.is)))
+
+pub returns-in-None-clause-paths : goal.returns-in-None-clause-paths
+returns-in-None-clause-paths c = bounds.paths_to_leaders_are_bounded c.args.graph.now c.args.leaders.now c.with_greatest.result.h (returns-in-None-clause-height c)

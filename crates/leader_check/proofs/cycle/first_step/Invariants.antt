@@ -1,8 +1,7 @@
 use Rattle.std.proofs.Common.{◌≡◌, ◌-◌, ◌&&◌}
 use Rattle.std.specs.List.{range_with_len}
 use Rattle.swap_base.specs.Lists.{first_of}
-use Rattle.swap_digraph.specs.Graph.{has_arc}
-use Rattle.leader_check.specs.Followers.{parties}
+use Rattle.swap_digraph.specs.Graph.{parties, has_arc}
 use Rattle.leader_check.specs.Cycles.{has_bit, only_if}
 use Rattle.leader_check.proofs.cycle.first_step.Given as goal
 

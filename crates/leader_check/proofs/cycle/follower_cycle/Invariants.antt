@@ -2,7 +2,7 @@ use Rattle.std.proofs.Common.{◌≡◌, ◌-◌}
 use Rattle.std.specs.List.{range_with_len}
 use Rattle.swap_base.specs.Lists.{first_of}
 use Rattle.leader_check.specs.Cycles.{cycle_from}
-use Rattle.leader_check.specs.Followers.{parties}
+use Rattle.swap_digraph.specs.Graph.{parties}
 use Rattle.leader_check.proofs.cycle.follower_cycle.Given as goal
 
 abbrev pub invariant-loop-v : goal.invariant-loop-v

@@ -1,6 +1,7 @@
 use Rattle.std.proofs.Common.{◌≡◌, ◌∙◌, ap, ◌+◌, nat_lt, ℕ, List}
 use Rattle.swap_base.specs.Lists.{greatest}
-use Rattle.leader_check.specs.Followers.{parties, is_follower}
+use Rattle.swap_digraph.specs.Graph.{parties}
+use Rattle.leader_check.specs.Followers.{is_follower}
 use Rattle.leader_check.specs.Levels.{level_of, level_within}
 use Rattle.leader_check.proofs.Rows.{length-row, levels_next, levels_low, greatest-map}
 use Rattle.leader_check.proofs.Decided.{decided}

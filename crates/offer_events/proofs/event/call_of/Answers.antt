@@ -1,7 +1,7 @@
 use Rattle.std.proofs.Common.{◌<◌, length, arith}
 use Rattle.offer_events.proofs.Parts.{number_below}
 use Rattle.offer_events.proofs.Fits.{move_arc}
-use Rattle.offer_events.proofs.event.call_of.Goals as goal
+use Rattle.offer_events.proofs.event.event_of_call.Goals as goal
 
 pub bounds-as_slice-p : goal.bounds-as_slice-p
 bounds-as_slice-p c =

@@ -1,6 +1,6 @@
 use Rattle.std.specs.Prelude.{codes}
 use Rattle.offer_events.proofs.Fits.{arc_fits}
-use Rattle.offer_events.proofs.event.look_of.Goals as goal
+use Rattle.offer_events.proofs.event.event_of_look.Goals as goal
 
 pub adjacent-requires : goal.adjacent-requires
 adjacent-requires c = record { arc = arc_fits c.args.job.now.deal c.args.line (codes "arc") c.args.number c.in_ok-arc.arc c.in_ok-arc.ensures }

@@ -2,7 +2,7 @@ use Rattle.std.proofs.Common.{not, ◌∙◌, ap, sym}
 use Rattle.std.specs.Option.{option_copied}
 use Rattle.swap_digraph.specs.Graph.{is_among}
 use Rattle.ledger_core.specs.History.{opened}
-use Rattle.swap_rules.specs.Conduct.{opens_without}
+use Rattle.swap_rules.specs.Party.{opens_without}
 use Rattle.book_reading.proofs.Known.{history_at}
 use Rattle.book_reading.proofs.Openings.{has_lock, opens_by_key, opens_by_none}
 use Rattle.party_phase_two.proofs.unlock.is_seen.Goals as goal

@@ -1,8 +1,8 @@
 -- What the check of leaders answers.
 use Rattle.std.specs.Prelude.{ℕ, List, Option, Some, None}
-use Rattle.leader_check.specs.declared.answer.Levels.{Levels as LevelsOf}
-use Rattle.leader_check.specs.declared.answer.LeaderAnswer.{LeaderAnswer}
-use Rattle.leader_check.specs.declared.answer.LeaderAnswer.TheVariants.{Levels, Cycle}
+use Rattle.leader_check.specs.declared.leader_answer.Levels.{Levels as LevelsOf}
+use Rattle.leader_check.specs.declared.leader_answer.LeaderAnswer.{LeaderAnswer}
+use Rattle.leader_check.specs.declared.leader_answer.LeaderAnswer.TheVariants.{Levels, Cycle}
 
 -- the cycle that the answer shows
 abbrev pub cycle_shown : LeaderAnswer → Option (List ℕ)

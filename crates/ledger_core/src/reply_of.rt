@@ -4,7 +4,7 @@ ghost use Rattle.std.specs.Prelude.{◌≡◌, ◌+◌, ◌<◌, ◌≤◌, ◌=
 ghost use Rattle.swap_digraph.specs.Deal.{IsWellSized};
 ghost use Rattle.ledger_core.specs.History.{accepted_in, moved_by, transferred, fit};
 ghost use Rattle.ledger_core.specs.Known.{is_known_in};
-ghost use Rattle.ledger_core.specs.Ledger.{answer_of, contract_after, CanMove, IsContractIn};
+ghost use Rattle.ledger_core.specs.Ledger.{reply_by, contract_after, CanMove, IsContractIn};
 
 use crate::accounts::Accounts;
 use crate::entry::{Call, What};
@@ -24,7 +24,7 @@ fn publish(
     requires sized { IsWellSized deal.now }
     requires arc { arc < length deal.now.graph.arcs }
     requires fits { IsTrue (fit deal.now arc (Call.Publish terms.now)) }
-    ensures reply { result ≡ answer_of deal.now arc contract.old 0 balance sender (Call.Publish terms.now) }
+    ensures reply { result ≡ reply_by deal.now arc contract.old 0 balance sender (Call.Publish terms.now) }
     ensures contract { contract.new ≡ contract_after deal.now arc contract.old (accepted_in (What.Call (Call.Publish terms.now)) result) }
 {
     if sender != deal.graph.arcs()[arc as usize].from {
@@ -51,7 +51,7 @@ fn transfer(balance: u64, units: u64) -> Reply
 }
 
 /// The reply to a call of a sender that hasn't too many entries. Where it is accepted, the contract changes with it.
-pub(crate) fn answer(
+pub(crate) fn reply_of(
     deal: &Deal,
     arc: ArcId,
     contract: &mut Option<Contract>,
@@ -66,7 +66,7 @@ pub(crate) fn answer(
     requires contract { IsContractIn deal.now arc contract.old }
     requires fits { IsTrue (fit deal.now arc call.now) }
     requires known { IsTrue (is_known_in known deal.now call.now) }
-    ensures reply { result ≡ answer_of deal.now arc contract.old height balance sender call.now }
+    ensures reply { result ≡ reply_by deal.now arc contract.old height balance sender call.now }
     ensures contract { contract.new ≡ contract_after deal.now arc contract.old (accepted_in (What.Call call.now) result) }
 {
     match call {

@@ -1,6 +1,6 @@
 use Rattle.std.proofs.Common.{sym, length}
 use Rattle.hashkey_path.proofs.Paths.{right_path_fits, place_is_byte}
-use Rattle.hashkey_path.proofs.answer.answer_of.Goals as goal
+use Rattle.hashkey_path.proofs.checking.answer_of.Goals as goal
 
 pub wrong_signature-requires-clause-few : goal.wrong_signature-requires-clause-few
 wrong_signature-requires-clause-few c =

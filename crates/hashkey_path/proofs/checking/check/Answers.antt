@@ -1,6 +1,6 @@
 use Rattle.std.proofs.Common.{sym, ◌∙◌}
 use Rattle.hashkey_path.proofs.Validity.{valid_from, to_valid}
-use Rattle.hashkey_path.proofs.answer.check.Goals as goal
+use Rattle.hashkey_path.proofs.checking.check.Goals as goal
 
 pub returns-clause-valid : goal.returns-clause-valid
 returns-clause-valid c = (
