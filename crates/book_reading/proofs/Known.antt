@@ -14,7 +14,8 @@ use Rattle.book_reading.specs.Known.{AreMadeFor}
 pub one_each : {A : Type 0} (terms : A → Terms) (d : Deal) (known : List A) → AreMadeFor terms d known → length known ≡ length d.graph.arcs
 one_each terms d known made = sym (length-map known terms) ∙ (ap length made ∙ length-map-range_with_len (terms_of d) 0 (length d.graph.arcs))
 
-pub terms_at : {A : Type 0} (terms : A → Terms) (d : Deal) (known : List A) (a : ℕ) (x : A) → AreMadeFor terms d known → a < length known → x ≡ get_or known a x → terms x ≡ terms_of d a
+pub terms_at : {A : Type 0} (terms : A → Terms) (d : Deal) (known : List A) (a : ℕ) (x : A) → AreMadeFor terms d known → a < length known
+    → x ≡ get_or known a x → terms x ≡ terms_of d a
 terms_at terms d known a x made within is =
     let one = one_each terms d known made in
     let below : a < length d.graph.arcs = omega (arith, one) in
@@ -23,10 +24,12 @@ terms_at terms d known a x made within is =
     ∙ ap (λ ts. get_or ts a (terms x)) made
     ∙ get_or-map-range_with_len (terms_of d) 0 (length d.graph.arcs) a a (terms x) below (zero-add a)
 
-pub history_at : {A : Type 0} (entries : A → List Entry) (known : List A) (a : ℕ) (x : A) → a < length known → x ≡ get_or known a x → entries x ≡ history (map entries known) a
+pub history_at : {A : Type 0} (entries : A → List Entry) (known : List A) (a : ℕ) (x : A) → a < length known → x ≡ get_or known a x
+    → entries x ≡ history (map entries known) a
 history_at entries known a x within is = ap entries is ∙ sym (get_or-map entries known a x [] within)
 
 -- the accepted publish of the arc
-pub published_at : {A : Type 0} (terms : A → Terms) (entries : A → List Entry) (d : Deal) (known : List A) (a : ℕ) (x : A) → AreMadeFor terms d known → a < length known → x ≡ get_or known a x
+pub published_at : {A : Type 0} (terms : A → Terms) (entries : A → List Entry) (d : Deal) (known : List A) (a : ℕ) (x : A) → AreMadeFor terms d known
+    → a < length known → x ≡ get_or known a x
     → published_as (terms x) (entries x) ≡ published_as (terms_of d a) (history (map entries known) a)
 published_at terms entries d known a x made within is = ap₂ published_as (terms_at terms d known a x made within is) (history_at entries known a x within is)

@@ -1,5 +1,6 @@
 -- The accepted unlock of a lock, found by the number of its entry.
-use Rattle.std.proofs.Common.{◌≡◌, ℕ, ◌<◌, Bool, true, false, cond, nat_lt, List, [], ◌∷◌, length, get_or, Option, Some, None, is_some, option_map, not, refl, sym, ap, ◌∙◌, arith, ltb-true}
+use Rattle.std.proofs.Common.{◌≡◌, ℕ, ◌<◌, Bool, true, false, cond, nat_lt, List, [], ◌∷◌, length, get_or, Option, Some, None, is_some, option_map, not}
+use Rattle.std.proofs.Common.{refl, sym, ap, ◌∙◌, arith, ltb-true}
 use Rattle.std.specs.Prelude.{position, slice_get}
 use Rattle.std.specs.List.{find, position_or_len}
 use Rattle.std.proofs.lemmas.Option.{slice_get_past, slice_get-get_or}
@@ -31,7 +32,8 @@ skipped (Some z) r s = absurd (cc s)
 same_some : {C : Type 0} (z u : C) → Some z ≡ Some u → z ≡ u
 same_some z u e = cc e
 
-found_by : {A B : Type 0} (f : A → Option B) (b : Bool) (x y : A) (o : Option A) (rest : Option B) → is_some (f x) ≡ b → cond b (Some x) o ≡ Some y → (o ≡ Some y → rest ≡ f y) → or_else (f x) rest ≡ f y
+found_by : {A B : Type 0} (f : A → Option B) (b : Bool) (x y : A) (o : Option A) (rest : Option B) → is_some (f x) ≡ b → cond b (Some x) o ≡ Some y
+    → (o ≡ Some y → rest ≡ f y) → or_else (f x) rest ≡ f y
 found_by f true x y o rest s e h = whole (f x) rest s ∙ ap f (same_some x y e)
 found_by f false x y o rest s e h = skipped (f x) rest s ∙ h e
 
@@ -39,7 +41,8 @@ pub first_of_found : {A B : Type 0} (f : A → Option B) (xs : List A) (y : A) �
 first_of_found f [] y e = absurd (cc e)
 first_of_found f (x ∷ xs) y e = found_by f (is_some (f x)) x y (find (λ z. is_some (f z)) xs) (first_of f xs) refl e (first_of_found f xs y)
 
-is_some_by : {A B : Type 0} (o : Option B) (x : A) (rest : Option B) (r : Option A) → is_some r ≡ is_some rest → is_some (cond (is_some o) (Some x) r) ≡ is_some (or_else o rest)
+is_some_by : {A B : Type 0} (o : Option B) (x : A) (rest : Option B) (r : Option A) → is_some r ≡ is_some rest
+    → is_some (cond (is_some o) (Some x) r) ≡ is_some (or_else o rest)
 is_some_by None x rest r e = e
 is_some_by (Some y) x rest r e = refl
 
@@ -84,7 +87,8 @@ pub not_opened : (h : List Entry) (i : ℕ) → opened_number h i ≡ None → o
 not_opened h i e = none_of (opened h i) (opened_number h i) (open_number h i) e
 
 -- a lock of the deal is a lock of the arc's correct terms
-pub has_lock : {A : Type 0} (terms : A → Terms) (d : Deal) (known : List A) (a i : ℕ) (x : A) → IsWellSized d → AreMadeFor terms d known → a < length known → x ≡ get_or known a x → i < length d.leaders → i < length (terms x).locks
+pub has_lock : {A : Type 0} (terms : A → Terms) (d : Deal) (known : List A) (a i : ℕ) (x : A) → IsWellSized d → AreMadeFor terms d known
+    → a < length known → x ≡ get_or known a x → i < length d.leaders → i < length (terms x).locks
 has_lock terms d known a i x sized made within is l =
     let e : length (terms x).locks ≡ length d.hashlocks = ap (λ t. length t.locks) (terms_at terms d known a x made within is) in
     let h : length d.hashlocks ≡ length d.leaders = sized.hashlocks in

@@ -1,4 +1,5 @@
-//! What is read in a book, or in what a party knows of one: whether arcs are correct, good and triggered, whether a party is ready, and what has expired (Herlihy 2018, section 4.2).
+//! What is read in a book, or in what a party knows of one: whether arcs are correct, good and triggered, whether a party is ready, and what has
+//! expired (Herlihy 2018, section 4.2).
 //!
 //! What is read is one `ledger_core::Facts` per arc. Nothing here takes memory, and each answer asks a few questions per arc and lock.
 //!

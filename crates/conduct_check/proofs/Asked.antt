@@ -14,10 +14,12 @@ use Rattle.sent_keys.proofs.Unlocks.{sent_of_tick}
 pub accepted_of_tick : (e : Entry) (k : ℕ) → e.what ≡ Tick k → accepted e ≡ None
 accepted_of_tick e k is = ap (λ w. accepted_in w e.reply) is
 
-pub any_accepted : (q : Option Call → Bool) (h : List Entry) → q None ≡ false → list_any (λ m. q (accepted m.entry)) (made_in h) ≡ list_any (λ e. q (accepted e)) h
+pub any_accepted : (q : Option Call → Bool) (h : List Entry) → q None ≡ false
+    → list_any (λ m. q (accepted m.entry)) (made_in h) ≡ list_any (λ e. q (accepted e)) h
 any_accepted q h none = sym (any_made (λ e. q (accepted e)) h (λ e k is. ap q (accepted_of_tick e k is) ∙ none))
 
-pub count_calls : (q : Option Call → Bool) (v : ℕ) (h : List Entry) → q None ≡ false → count_by (λ m. q (call_by v m.entry)) (made_in h) ≡ count_by (λ e. q (call_by v e)) h
+pub count_calls : (q : Option Call → Bool) (v : ℕ) (h : List Entry) → q None ≡ false
+    → count_by (λ m. q (call_by v m.entry)) (made_in h) ≡ count_by (λ e. q (call_by v e)) h
 count_calls q v h none = sym (count_made (λ e. q (call_by v e)) h (λ e k is. ap q (sent_of_tick v e k is) ∙ none))
 
 none_head : (a b : Bool) → (a || b) ≡ false → (a ≡ false) × (b ≡ false)
@@ -30,5 +32,6 @@ none_at p (x ∷ xs) zero d l e = (none_head (p x) (list_any p xs) e).0
 none_at p (x ∷ xs) (suc i) d l e = none_at p xs i d (omega arith) (none_head (p x) (list_any p xs) e).1
 
 -- what no entry passes, no call does
-pub made_fails : (p : Entry → Bool) (h : List Entry) (i : ℕ) (d : Made) → SaysNothing false p → i < length (made_in h) → list_any p h ≡ false → p (get_or (made_in h) i d).entry ≡ false
+pub made_fails : (p : Entry → Bool) (h : List Entry) (i : ℕ) (d : Made) → SaysNothing false p → i < length (made_in h) → list_any p h ≡ false
+    → p (get_or (made_in h) i d).entry ≡ false
 made_fails p h i d tick l e = none_at (λ (m : Made). p m.entry) (made_in h) i d l (sym (any_made p h tick) ∙ e)

@@ -17,7 +17,8 @@ and_swap false true = refl
 and_swap false false = refl
 
 -- the last test needs only be right where those before it hold
-pub unlock_chain : (published ready first kept valid origin : Bool) → (first ≡ true → kept ≡ (valid && origin)) → (published && ready && first && kept) ≡ (published && ready && first && valid && origin)
+pub unlock_chain : (published ready first kept valid origin : Bool) → (first ≡ true → kept ≡ (valid && origin))
+    → (published && ready && first && kept) ≡ (published && ready && first && valid && origin)
 unlock_chain true true true kept valid origin h = h refl
 unlock_chain true true false kept valid origin h = refl
 unlock_chain true false first kept valid origin h = refl

@@ -16,18 +16,31 @@ use Rattle.conduct_check.specs.Parts.{has_made_parts, has_sent}
 
 by_lock : (b : Bool) (sent key : Hashkey) → (sent.lock == key.lock) ≡ b → is_first_key (cond b (Some sent) None) key ≡ same_key sent key
 by_lock true sent key e = refl
-by_lock false sent key e = sym (ap (λ b. b && bytes_eq sent.secret key.secret && same_list (λ x y. x == y) sent.path key.path && same_list (λ s t. same_list bytes_eq s t) sent.sigs key.sigs) e)
+by_lock false sent key e =
+    sym (ap (λ b. b && bytes_eq sent.secret key.secret && same_list (λ x y. x == y) sent.path key.path
+    && same_list (λ s t. same_list bytes_eq s t) sent.sigs key.sigs) e)
 
 of_key : (key : Hashkey) → OfUnlocks (λ o. is_first_key (key_in key.lock o) key) (λ sent. same_key sent key)
-of_key key = record { none = refl; publish = λ t. refl; unlock = λ sent. by_lock (sent.lock == key.lock) sent key refl; claim = refl; refund = refl; transfer = λ to units. refl }
+of_key key =
+    record {
+      none = refl;
+      publish = λ t. refl;
+      unlock = λ sent. by_lock (sent.lock == key.lock) sent key refl;
+      claim = refl;
+      refund = refl;
+      transfer =
+          λ to units. refl;
+    }
 
 of_secret : (secret : List ℕ) → OfUnlocks (carries secret) (λ sent. bytes_eq sent.secret secret)
 of_secret secret = record { none = refl; publish = λ t. refl; unlock = λ sent. refl; claim = refl; refund = refl; transfer = λ to units. refl }
 
-pub made_by_parts : (b : Histories) (v lock : ℕ) (secret path : List ℕ) (sigs : List Sig) (rs : List (Bor Hashkey)) → shown rs ≡ unlocks_of b v → has_made_parts b v lock secret path sigs ≡ list_any (λ r. same_key r.now (record { lock = lock; secret = secret; path = path; sigs = sigs })) rs
+pub made_by_parts : (b : Histories) (v lock : ℕ) (secret path : List ℕ) (sigs : List Sig) (rs : List (Bor Hashkey)) → shown rs ≡ unlocks_of b v
+    → has_made_parts b v lock secret path sigs ≡ list_any (λ r. same_key r.now (record { lock = lock; secret = secret; path = path; sigs = sigs })) rs
 made_by_parts b v lock secret path sigs rs e =
     let key : Hashkey = record { lock = lock; secret = secret; path = path; sigs = sigs } in
     any_sent (λ o. is_first_key (key_in lock o) key) (λ sent. same_key sent key) (of_key key) v b rs e
 
-pub sent_secret : (b : Histories) (v : ℕ) (secret : List ℕ) (rs : List (Bor Hashkey)) → shown rs ≡ unlocks_of b v → has_sent b v secret ≡ list_any (λ r. bytes_eq r.now.secret secret) rs
+pub sent_secret : (b : Histories) (v : ℕ) (secret : List ℕ) (rs : List (Bor Hashkey)) → shown rs ≡ unlocks_of b v
+    → has_sent b v secret ≡ list_any (λ r. bytes_eq r.now.secret secret) rs
 sent_secret b v secret rs e = any_sent (carries secret) (λ sent. bytes_eq sent.secret secret) (of_secret secret) v b rs e

@@ -1,5 +1,6 @@
 -- What a legal book gives to the programs that read it.
-use Rattle.std.proofs.Common.{◌≡◌, ℕ, ◌<◌, List, [], ◌∷◌, ◌++◌, length, get_or, refl, sym, ap, ◌∙◌, subst, arith, Bool, true, false, cond, not, nat_lt, nat_le, ◌&&◌, ◌||◌, IsTrue, Option, Some, None, lt-ltb, ltb-true}
+use Rattle.std.proofs.Common.{◌≡◌, ℕ, ◌<◌, List, [], ◌∷◌, ◌++◌, length, get_or, refl, sym, ap, ◌∙◌, subst, arith, Bool, true, false, cond, not, nat_lt}
+use Rattle.std.proofs.Common.{nat_le, ◌&&◌, ◌||◌, IsTrue, Option, Some, None, lt-ltb, ltb-true}
 use Rattle.std.specs.Prelude.{filter_map, if◌then◌else◌}
 use Rattle.std.specs.List.{list_all, list_any, cons_option, AllByRecursion}
 use Rattle.std.proofs.lemmas.Bool.{not-false}
@@ -41,7 +42,9 @@ legal_of d b a l lt = let n = l.one_each in l.legal a (omega arith)
 fits_within : (d : Deal) (a : ℕ) (c : Call) → IsTrue (fit d a c) → IsWithin d (Some c)
 fits_within d a (Publish t) f = tt
 fits_within d a (Unlock key) f =
-    let p = and_parts (nat_lt key.lock (length d.leaders) && nat_le (length key.path) (path_limit d) && nat_le (length key.sigs) (path_limit d)) (list_all (λ v. nat_lt v d.graph.n) key.path) f in
+    let p =
+    and_parts (nat_lt key.lock (length d.leaders) && nat_le (length key.path) (path_limit d) && nat_le (length key.sigs) (path_limit d))
+    (list_all (λ v. nat_lt v d.graph.n) key.path) f in
     let q = and_parts (nat_lt key.lock (length d.leaders) && nat_le (length key.path) (path_limit d)) (nat_le (length key.sigs) (path_limit d)) p.0 in
     let r = and_parts (nat_lt key.lock (length d.leaders)) (nat_le (length key.path) (path_limit d)) q.0 in
     ltb-true key.lock (length d.leaders) r.0
@@ -98,24 +101,30 @@ none_outside : (d : Deal) (a : ℕ) (past h : List Entry) → AllByRecursion (Is
 unfolding is_outside
 none_outside d a past [] l = refl
 none_outside d a past (e ∷ h) l =
-    ap (λ b. not b || list_any (is_outside d) h) (passes d (call_in e.what) (within_what d a past e.sender e.what e.height e.reply l.0)) ∙ none_outside d a (past ++ e ∷ []) h l.1
+    ap (λ b. not b || list_any (is_outside d) h) (passes d (call_in e.what) (within_what d a past e.sender e.what e.height e.reply l.0))
+    ∙ none_outside d a (past ++ e ∷ []) h l.1
 
 inside : (d : Deal) (e : Entry) → is_outside d e ≡ false → IsWithin d (call_in e.what)
 unfolding is_outside
 inside d e h = from_passed d (call_in e.what) (not-false (is_within d (call_in e.what)) h)
 
-within_at : (d : Deal) (b : Histories) (a i : ℕ) (ms : List Numbered) (x : Numbered) → IsLegalBook d b → a < length d.graph.arcs → ms ≡ made_in (history b a) → i < length ms → x ≡ get_or ms i x → IsWithin d (call_in x.entry.what)
+within_at : (d : Deal) (b : Histories) (a i : ℕ) (ms : List Numbered) (x : Numbered) → IsLegalBook d b → a < length d.graph.arcs
+    → ms ≡ made_in (history b a) → i < length ms → x ≡ get_or ms i x → IsWithin d (call_in x.entry.what)
 within_at d b a i ms x l arc is lt at =
     let h = history b a in
     let small : i < length (made_in h) = subst (λ (z : List Numbered). i < length z) is lt in
     let same : get_or (made_in h) i x ≡ x = sym (at ∙ ap (λ (z : List Numbered). get_or z i x) is) in
-    subst (λ (z : Numbered). IsWithin d (call_in z.entry.what)) same (inside d (get_or (made_in h) i x).entry (made_fails (is_outside d) h i x (no_tick_outside d) small (none_outside d a [] h (legal_of d b a l arc))))
+    subst (λ (z : Numbered). IsWithin d (call_in z.entry.what)) same
+    (inside d (get_or (made_in h) i x).entry (made_fails (is_outside d) h i x (no_tick_outside d) small
+    (none_outside d a [] h (legal_of d b a l arc))))
 
 -- so is each call of the arc's index
-pub call_within : (d : Deal) (b : Histories) (a i v : ℕ) (ms : List Numbered) (x : Numbered) → IsLegalBook d b → a < length d.graph.arcs → ms ≡ made_in (history b a) → i < length ms → x ≡ get_or ms i x → IsWithin d (call_by v x.entry)
+pub call_within : (d : Deal) (b : Histories) (a i v : ℕ) (ms : List Numbered) (x : Numbered) → IsLegalBook d b → a < length d.graph.arcs
+    → ms ≡ made_in (history b a) → i < length ms → x ≡ get_or ms i x → IsWithin d (call_by v x.entry)
 call_within d b a i v ms x l arc is lt at = within_sent d x.entry.what (sent_by v x.entry.sender) (within_at d b a i ms x l arc is lt at)
 
-pub accepted_within : (d : Deal) (b : Histories) (a i : ℕ) (ms : List Numbered) (x : Numbered) → IsLegalBook d b → a < length d.graph.arcs → ms ≡ made_in (history b a) → i < length ms → x ≡ get_or ms i x → IsWithin d (accepted x.entry)
+pub accepted_within : (d : Deal) (b : Histories) (a i : ℕ) (ms : List Numbered) (x : Numbered) → IsLegalBook d b → a < length d.graph.arcs
+    → ms ≡ made_in (history b a) → i < length ms → x ≡ get_or ms i x → IsWithin d (accepted x.entry)
 accepted_within d b a i ms x l arc is lt at = within_accepted d x.entry.what x.entry.reply (within_at d b a i ms x l arc is lt at)
 
 -- A party that isn't one of the arc's two has no call on it.
@@ -124,18 +133,22 @@ kept : (d : Deal) (b : Histories) (v a : ℕ) (past : List Entry) (at : ℕ) (o 
 unfolding keeps
 kept d b v a past at o e = ap (keeps d b v a past at) e
 
-none_fails : (d : Deal) (b : Histories) (v a : ℕ) (past h : List Entry) → AllByRecursion (IsLegalMoment d a) (moments_after past h) → touches d v a ≡ false → filter_map (λ m. if keeps_at d b v a m then None else Some (Broke v a (length m.past))) (moments_after past h) ≡ []
+none_fails : (d : Deal) (b : Histories) (v a : ℕ) (past h : List Entry) → AllByRecursion (IsLegalMoment d a) (moments_after past h)
+    → touches d v a ≡ false → filter_map (λ m. if keeps_at d b v a m then None else Some (Broke v a (length m.past))) (moments_after past h) ≡ []
 none_fails d b v a past [] l t = refl
 none_fails d b v a past (e ∷ h) l t =
-    ap (λ x. cons_option (cond x None (Some (Broke v a (length past)))) (filter_map (λ m. if keeps_at d b v a m then None else Some (Broke v a (length m.past))) (moments_after (past ++ e ∷ []) h)))
+    ap (λ x. cons_option (cond x None (Some (Broke v a (length past))))
+    (filter_map (λ m. if keeps_at d b v a m then None else Some (Broke v a (length m.past))) (moments_after (past ++ e ∷ []) h)))
     (kept d b v a past e.height (call_by v e) (unsent d a v past e.sender e.what e.height e.reply l.0 t))
     ∙ none_fails d b v a (past ++ e ∷ []) h l.1 t
 
-pub untouched : (d : Deal) (b : Histories) (v a : ℕ) → IsLegalBook d b → a < length d.graph.arcs → touches d v a ≡ false → failing (Broke v a) (keeps_at d b v a) (history b a) ≡ []
+pub untouched : (d : Deal) (b : Histories) (v a : ℕ) → IsLegalBook d b → a < length d.graph.arcs → touches d v a ≡ false
+    → failing (Broke v a) (keeps_at d b v a) (history b a) ≡ []
 untouched d b v a l arc t = none_fails d b v a [] (history b a) (legal_of d b a l arc) t
 
 -- Ticks keep the rules of conduct.
-pub tick_keeps : (d : Deal) (b : Histories) (v a : ℕ) (past : List Entry) (e : Entry) (k : ℕ) → e.what ≡ Tick k → keeps_at d b v a (record { past = past; now = e }) ≡ true
+pub tick_keeps : (d : Deal) (b : Histories) (v a : ℕ) (past : List Entry) (e : Entry) (k : ℕ) → e.what ≡ Tick k
+    → keeps_at d b v a (record { past = past; now = e }) ≡ true
 tick_keeps d b v a past e k is = kept d b v a past e.height (call_by v e) (sent_of_tick v e k is)
 
 unforged : (m : Mode) (d : Deal) (b : Histories) (v : ℕ) (o : Option Call) → o ≡ None → not (forges m d b v o) ≡ true

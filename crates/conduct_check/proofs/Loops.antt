@@ -7,7 +7,8 @@ split : (i n : ℕ) → i < n + 1 → (i < n) ⊎ (i ≡ n)
 split i n l = grind arith
 
 -- one more of eight places is written
-pub each_more : (f : ℕ → Bool) (xs : List Bool) (n : ℕ) (x : Bool) → length xs ≡ 8 → n < 8 → ((i : ℕ) → i < n → get_or xs i false ≡ f i) → x ≡ f n → (length (set xs n x) ≡ 8) × ((i : ℕ) → i < n + 1 → get_or (set xs n x) i false ≡ f i)
+pub each_more : (f : ℕ → Bool) (xs : List Bool) (n : ℕ) (x : Bool) → length xs ≡ 8 → n < 8 → ((i : ℕ) → i < n → get_or xs i false ≡ f i) → x ≡ f n
+    → (length (set xs n x) ≡ 8) × ((i : ℕ) → i < n + 1 → get_or (set xs n x) i false ≡ f i)
 each_more f xs n x long lt h e = (length-set xs n x ∙ long, each)
   where
     each : (i : ℕ) → i < n + 1 → get_or (set xs n x) i false ≡ f i

@@ -1,5 +1,6 @@
 -- When a hashkey is valid, and which of its signatures need no verifying.
-use Rattle.std.proofs.Common.{◌≡◌, ℕ, ◌<◌, ◌==◌, Bool, true, false, cond, not, ◌&&◌, List, [], ◌∷◌, length, get_or, Option, Some, None, is_none, refl, sym, ap, subst, ◌∙◌, eq-eqb, inl, arith, suc, ◌-◌}
+use Rattle.std.proofs.Common.{◌≡◌, ℕ, ◌<◌, ◌==◌, Bool, true, false, cond, not, ◌&&◌, List, [], ◌∷◌, length, get_or, Option, Some, None, is_none, refl}
+use Rattle.std.proofs.Common.{sym, ap, subst, ◌∙◌, eq-eqb, inl, arith, suc, ◌-◌}
 use Rattle.std.specs.List.{flat_map, list_any}
 use Rattle.swap_base.specs.Lists.{IsIn}
 use Rattle.swap_base.proofs.Lists.{any_at, and_both, first_at, in_from_moment, in_filter, in_range, and_parts}
@@ -11,7 +12,8 @@ use Rattle.swap_digraph.specs.declared.deal.Deal.{Deal}
 use Rattle.hashkey_path.specs.declared.hashkey.Hashkey.{Hashkey}
 use Rattle.hashkey_path.specs.declared.hashkey.HashkeyAnswer.{HashkeyAnswer}
 use Rattle.hashkey_path.specs.declared.hashkey.HashkeyAnswer.TheVariants.{Valid, WrongSecret, WrongPath}
-use Rattle.hashkey_path.specs.Hashkey.{same_key, is_wrong_secret, is_wrong_path, is_wrong_signature, wrong_signature, are_signed, of_signatures, answer_of, is_valid}
+use Rattle.hashkey_path.specs.Hashkey.{same_key, is_wrong_secret, is_wrong_path, is_wrong_signature, wrong_signature, are_signed, of_signatures}
+use Rattle.hashkey_path.specs.Hashkey.{answer_of, is_valid}
 use Rattle.hashkey_path.specs.Known.{is_last_signed, are_last_signed}
 use Rattle.hashkey_path.proofs.Validity.{are_signed-is_none, bytes_eq_self}
 use Rattle.hashkey_path.proofs.Known.{valid_is_known}
@@ -32,7 +34,8 @@ use Rattle.conduct_check.proofs.Legal.{legal_of}
 -- A hashkey that opened a lock has valid signatures, whatever the terms.
 
 -- what its rows say of an accepted unlock
-accepted_signed : (n : ℕ) (d : Deal) (a : ℕ) (past : List Entry) (by : ℕ) (key : Hashkey) → AreClear (rows d a past by (Unlock key)) → is_last_signed n d key ≡ true
+accepted_signed : (n : ℕ) (d : Deal) (a : ℕ) (past : List Entry) (by : ℕ) (key : Hashkey) → AreClear (rows d a past by (Unlock key))
+    → is_last_signed n d key ≡ true
 accepted_signed n d a past by key k =
     let c = of_unlock d a past by key k in
     let s = hash_of key.secret in
@@ -41,13 +44,15 @@ accepted_signed n d a past by key k =
     (and_both (not (is_wrong_secret s key) && not (is_wrong_path d a d.mode key)) (not (is_wrong_signature d d.mode key))
     (and_both (not (is_wrong_secret s key)) (not (is_wrong_path d a d.mode key)) secret (ap not c.path)) (ap not c.signature))
 
-opened_signed : (n : ℕ) (d : Deal) (a : ℕ) (h : List Entry) (key : Hashkey) (o : Option Opening) → IsLegal d a h → opened h key.lock ≡ o → is_opened_by key o ≡ true → is_last_signed n d key ≡ true
+opened_signed : (n : ℕ) (d : Deal) (a : ℕ) (h : List Entry) (key : Hashkey) (o : Option Opening) → IsLegal d a h → opened h key.lock ≡ o
+    → is_opened_by key o ≡ true → is_last_signed n d key ≡ true
 opened_signed n d a h key None l e k = absurd (cc k)
 opened_signed n d a h key (Some o) l e k =
     let u = opened_done d a h key.lock o l e in
     subst (λ (z : Hashkey). is_last_signed n d z ≡ true) (same_key-true o.key key k) (accepted_signed n d a u.0.past u.0.act.by o.key u.0.clear)
 
-pub known_opened : (n : ℕ) (d : Deal) (b : Histories) (v : ℕ) (key : Hashkey) → IsLegalBook d b → list_any (λ a. is_opened_by key (opened (history b a) key.lock)) (entering d.graph v) ≡ true → is_last_signed n d key ≡ true
+pub known_opened : (n : ℕ) (d : Deal) (b : Histories) (v : ℕ) (key : Hashkey) → IsLegalBook d b
+    → list_any (λ a. is_opened_by key (opened (history b a) key.lock)) (entering d.graph v) ≡ true → is_last_signed n d key ≡ true
 known_opened n d b v key l e =
     let f = any_at (λ a. is_opened_by key (opened (history b a) key.lock)) (entering d.graph v) e in
     let i : IsIn f.now (entering d.graph v) = subst (IsIn f.now) (sym f.stands.1) (in_from_moment f.past f.now f.stands.0) in
@@ -55,7 +60,8 @@ known_opened n d b v key l e =
 
 -- A hashkey that extends an accepted one has valid signatures but for its first.
 
-tail_known : (d : Deal) (lock : ℕ) (secret : List ℕ) (u : ℕ) (p : List ℕ) (s : Sig) (sigs : List Sig) → are_last_signed (length sigs) d lock secret p sigs ≡ true → are_last_signed (length sigs) d lock secret (u ∷ p) (s ∷ sigs) ≡ true
+tail_known : (d : Deal) (lock : ℕ) (secret : List ℕ) (u : ℕ) (p : List ℕ) (s : Sig) (sigs : List Sig)
+    → are_last_signed (length sigs) d lock secret p sigs ≡ true → are_last_signed (length sigs) d lock secret (u ∷ p) (s ∷ sigs) ≡ true
 tail_known d lock secret u p s [] h = refl
 tail_known d lock secret u p s (t ∷ ts) h =
     let whole : length (t ∷ ts) - suc (length ts) ≡ 0 = omega arith in
@@ -65,39 +71,52 @@ tail_known d lock secret u p s (t ∷ ts) h =
 abbrev AllButFirst : Deal → Hashkey → List ℕ → List Sig → Type 0
 AllButFirst d key path sigs = (0 < length sigs) × (are_last_signed (length sigs - 1) d key.lock key.secret path sigs ≡ true)
 
-extended : (d : Deal) (v : ℕ) (key inner : Hashkey) (path : List ℕ) (sigs : List Sig) → extends_with v inner path sigs key ≡ true → ((n : ℕ) → is_last_signed n d inner ≡ true) → AllButFirst d key path sigs
+extended : (d : Deal) (v : ℕ) (key inner : Hashkey) (path : List ℕ) (sigs : List Sig) → extends_with v inner path sigs key ≡ true
+    → ((n : ℕ) → is_last_signed n d inner ≡ true) → AllButFirst d key path sigs
 extended d v key inner [] sigs e h = absurd (cc e)
 extended d v key inner (u ∷ p) [] e h = absurd (cc e)
 extended d v key inner (u ∷ p) (s ∷ sigs) e h =
     let tail : Hashkey = record { lock = key.lock; secret = key.secret; path = p; sigs = sigs } in
     let same : inner ≡ tail = same_key-true inner tail (and_parts (u == v) (same_key inner tail) e).1 in
     let known : is_last_signed (length sigs) d tail ≡ true = subst (λ (z : Hashkey). is_last_signed (length sigs) d z ≡ true) same (h (length sigs)) in
-    let less : length (s ∷ sigs) - 1 ≡ length sigs = omega arith in
-    (omega arith, subst (λ (n : ℕ). are_last_signed n d key.lock key.secret (u ∷ p) (s ∷ sigs) ≡ true) (sym less) (tail_known d key.lock key.secret u p s sigs known))
+    let less : length (s ∷ sigs) - 1 ≡ length sigs = omega arith in (
+      omega arith,
+      subst (λ (n : ℕ). are_last_signed n d key.lock key.secret (u ∷ p) (s ∷ sigs) ≡ true) (sym less)
+          (tail_known d key.lock key.secret u p s sigs known),
+    )
 
-from_call : (d : Deal) (v : ℕ) (key : Hashkey) (o : Option Call) → extends_without v key o ≡ true → ((inner : Hashkey) → o ≡ Some (Unlock inner) → (n : ℕ) → is_last_signed n d inner ≡ true) → AllButFirst d key key.path key.sigs
-from_call d v key (Some (Unlock inner)) e h = extended d v key inner key.path key.sigs (and_parts (not (is_among v inner.path)) (extends_with v inner key.path key.sigs key) e).1 (h inner refl)
+from_call : (d : Deal) (v : ℕ) (key : Hashkey) (o : Option Call) → extends_without v key o ≡ true
+    → ((inner : Hashkey) → o ≡ Some (Unlock inner) → (n : ℕ) → is_last_signed n d inner ≡ true) → AllButFirst d key key.path key.sigs
+from_call d v key (Some (Unlock inner)) e h =
+    extended d v key inner key.path key.sigs (and_parts (not (is_among v inner.path)) (extends_with v inner key.path key.sigs key) e).1 (h inner refl)
 from_call d v key _ e h = absurd (cc e)
 
-pub known_seen : (d : Deal) (b : Histories) (v : ℕ) (key : Hashkey) → IsLegalBook d b → has_seen d b v (extends_without v key) ≡ true → AllButFirst d key key.path key.sigs
+pub known_seen : (d : Deal) (b : Histories) (v : ℕ) (key : Hashkey) → IsLegalBook d b → has_seen d b v (extends_without v key) ≡ true
+    → AllButFirst d key key.path key.sigs
 known_seen d b v key l e =
     let f = any_at (λ a. list_any (λ x. extends_without v key (accepted x)) (history b a)) (leaving d.graph v) e in
     let g = any_at (λ x. extends_without v key (accepted x)) (history b f.now) f.passes in
     let i : IsIn f.now (leaving d.graph v) = subst (IsIn f.now) (sym f.stands.1) (in_from_moment f.past f.now f.stands.0) in
-    from_call d v key (accepted g.now) g.passes (λ inner k n. let c = clear_at d f.now (history b f.now) g.past g.now (Unlock inner) (legal_of d b f.now l (leaves d v f.now i).0) g.stands k in accepted_signed n d f.now g.past c.0.by inner c.1)
+    from_call d v key (accepted g.now) g.passes (λ inner k n. let c =
+    clear_at d f.now (history b f.now) g.past g.now (Unlock inner) (legal_of d b f.now l (leaves d v f.now i).0) g.stands k in
+    accepted_signed n d f.now g.past c.0.by inner c.1)
 
 -- Validity is the same on all arcs to one party.
 
 same_path : (m : Mode) (d : Deal) (a c : ℕ) (key : Hashkey) → counterparty d a ≡ counterparty d c → is_wrong_path d a m key ≡ is_wrong_path d c m key
 same_path Timelocks d a c key e = refl
-same_path Hashkeys d a c key e = ap (λ v. not (is_path d.graph key.path && first_is v key.path && last_is (leader_of d key.lock) key.path && (length key.path == length key.sigs))) e
+same_path Hashkeys d a c key e =
+    ap (λ v. not (is_path d.graph key.path && first_is v key.path && last_is (leader_of d key.lock) key.path && (length key.path == length key.sigs))) e
 
-same_valid : (d : Deal) (a c : ℕ) (hashlock : List ℕ) (key : Hashkey) → counterparty d a ≡ counterparty d c → is_valid d a hashlock key ≡ is_valid d c hashlock key
+same_valid : (d : Deal) (a c : ℕ) (hashlock : List ℕ) (key : Hashkey) → counterparty d a ≡ counterparty d c
+    → is_valid d a hashlock key ≡ is_valid d c hashlock key
 same_valid d a c hashlock key e = ap (λ p. not (is_wrong_secret hashlock key) && not p && not (is_wrong_signature d d.mode key)) (same_path d.mode d a c key e)
 
-pub valid_into : (d : Deal) (v a : ℕ) (key : Hashkey) → a < length d.graph.arcs → counterparty d a ≡ v → valid_on d (entering d.graph v) (Some key) ≡ is_valid d a (hashlock_of d key.lock) key
+pub valid_into : (d : Deal) (v a : ℕ) (key : Hashkey) → a < length d.graph.arcs → counterparty d a ≡ v
+    → valid_on d (entering d.graph v) (Some key) ≡ is_valid d a (hashlock_of d key.lock) key
 valid_into d v a key l e =
-    go (entering d.graph v) refl (in_filter (λ a. (ends d.graph a).to == v) a (arcs d.graph) (in_range a (length d.graph.arcs) l) (eq-eqb (ends d.graph a).to v e))
+    go (entering d.graph v) refl (in_filter (λ a. (ends d.graph a).to == v) a (arcs d.graph) (in_range a (length d.graph.arcs) l)
+    (eq-eqb (ends d.graph a).to v e))
   where
     go : (cs : List ℕ) → entering d.graph v ≡ cs → IsIn a cs → valid_on d cs (Some key) ≡ is_valid d a (hashlock_of d key.lock) key
     go [] q i = absurd i

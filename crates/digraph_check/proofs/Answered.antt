@@ -27,15 +27,21 @@ all_reach g t some h =
     ap (λ (vs : List ℕ). list_all (λ v. is_entered t v) vs) (range_same (reversed g) t h)
     ∙ list_all-same (λ v. is_entered t v) (λ v. reaches g v 0) (parties g) (λ v i. entered_back g t v some h (from_range v g.n i))
 
-pub shows_reached : (g : Graph) (t : List (Option ℕ)) (set : List ℕ) → IsSearch g t → all_entered t ≡ false → set ≡ filter (is_entered t) (range_with_len 0 (length t)) → Some set ≡ closed_set g
+pub shows_reached : (g : Graph) (t : List (Option ℕ)) (set : List ℕ) → IsSearch g t → all_entered t ≡ false
+    → set ≡ filter (is_entered t) (range_with_len 0 (length t)) → Some set ≡ closed_set g
 shows_reached g t set h all e =
-    ap Some (e ∙ ap (λ (vs : List ℕ). filter (is_entered t) vs) (range_same g t h) ∙ filter-same (is_entered t) (λ v. reaches g 0 v) (parties g) (λ v i. h.reached v (from_range v g.n i)))
+    ap Some (e ∙ ap (λ (vs : List ℕ). filter (is_entered t) vs) (range_same g t h)
+    ∙ filter-same (is_entered t) (λ v. reaches g 0 v) (parties g) (λ v i. h.reached v (from_range v g.n i)))
     ∙ sym (closed_set-reached g (sym (all_reached g t h) ∙ all))
 
-pub shows_stranded : (g : Graph) (t s : List (Option ℕ)) (set : List ℕ) → 0 < g.n → IsSearch g t → all_entered t ≡ true → IsSearch (reversed g) s → all_entered s ≡ false → set ≡ filter (λ v. not (is_entered s v)) (range_with_len 0 (length s)) → Some set ≡ closed_set g
+pub shows_stranded : (g : Graph) (t s : List (Option ℕ)) (set : List ℕ) → 0 < g.n → IsSearch g t → all_entered t ≡ true → IsSearch (reversed g) s
+    → all_entered s ≡ false → set ≡ filter (λ v. not (is_entered s v)) (range_with_len 0 (length s)) → Some set ≡ closed_set g
 shows_stranded g t s set some h all k missing e =
-    ap Some (e ∙ ap (λ (vs : List ℕ). filter (λ v. not (is_entered s v)) vs) (range_same (reversed g) s k) ∙ filter-same (λ v. not (is_entered s v)) (λ v. not (reaches g v 0)) (parties g) (λ v i. ap not (entered_back g s v some k (from_range v g.n i))))
+    ap Some (e ∙ ap (λ (vs : List ℕ). filter (λ v. not (is_entered s v)) vs) (range_same (reversed g) s k)
+    ∙ filter-same (λ v. not (is_entered s v)) (λ v. not (reaches g v 0)) (parties g) (λ v i.
+    ap not (entered_back g s v some k (from_range v g.n i))))
     ∙ sym (closed_set-stranded g (sym (all_reached g t h) ∙ all) (sym (all_reach g s some k) ∙ missing))
 
-pub shows_none : (g : Graph) (t s : List (Option ℕ)) → 0 < g.n → IsSearch g t → all_entered t ≡ true → IsSearch (reversed g) s → all_entered s ≡ true → None ≡ closed_set g
+pub shows_none : (g : Graph) (t s : List (Option ℕ)) → 0 < g.n → IsSearch g t → all_entered t ≡ true → IsSearch (reversed g) s → all_entered s ≡ true
+    → None ≡ closed_set g
 shows_none g t s some h all k both = sym (closed_set-none g (sym (all_reached g t h) ∙ all) (sym (all_reach g s some k) ∙ both))

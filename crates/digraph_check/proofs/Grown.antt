@@ -1,5 +1,7 @@
 -- A tree that grows by an arc from a party that it enters to one that it doesn't.
-use Rattle.std.proofs.Common.{◌≡◌, ◌≢◌, ◌⊎◌, ℕ, zero, suc, ◌+◌, ◌-◌, ◌<◌, ◌≤◌, ◌==◌, Bool, true, false, ◌||◌, List, [], ◌∷◌, length, replicate, set, Option, Some, None, is_some, refl, sym, ap, ◌∙◌, subst, inl, inr, arith, eqb-true, length-set, get_or-set_same, get_or-set_other}
+use Rattle.std.proofs.Common.{◌≡◌, ◌≢◌, ◌⊎◌, ℕ, zero, suc, ◌+◌, ◌-◌, ◌<◌, ◌≤◌, ◌==◌, Bool, true, false, ◌||◌, List, [], ◌∷◌, length, replicate, set}
+use Rattle.std.proofs.Common.{Option, Some, None, is_some, refl, sym, ap, ◌∙◌, subst, inl, inr, arith, eqb-true, length-set, get_or-set_same}
+use Rattle.std.proofs.Common.{get_or-set_other}
 use Rattle.std.proofs.lemmas.Bool.{eqb-false, both_ways, ne_eqb}
 use Rattle.std.proofs.lemmas.List.{length-replicate}
 use Rattle.std.specs.List.{range_with_len}
@@ -57,7 +59,13 @@ grown_first g tree is = subst (λ (t : List (Option ℕ)). IsGrown g t) (sym is)
   entries = length-replicate g.n None;
   root = none_in g.n 0;
   arc = λ v a e. absurd (let k : None ≡ Some a = sym (none_in g.n v) ∙ e in cc k);
-  back = λ v lt h. record { steps = 0; few = (let c : open_count (replicate g.n None) ≡ g.n = all_open g.n in omega arith); ends = steps_none g (replicate g.n None) v (root_only g.n v h) };
+  back =
+      λ v lt h. record {
+        steps = 0;
+        few = (let c : open_count (replicate g.n None) ≡ g.n = all_open g.n in omega arith);
+        ends =
+            steps_none g (replicate g.n None) v (root_only g.n v h);
+      };
 })
 
 -- One more arc.
@@ -96,26 +104,30 @@ kept_at g tree k w a v false e apart none h rest =
     ap (λ (o : Option ℕ). walked_back g (set tree w (Some a)) k (parent_of g v o)) (get_or-set_other tree w v (Some a) None (eqb-false v w e))
     ∙ rest (parent_of g v (tree_arc tree v)) h
 
-kept : (g : Graph) (tree : List (Option ℕ)) (k w a v : ℕ) → w ≢ 0 → tree_arc tree w ≡ None → walked_back g tree k v ≡ 0 → walked_back g (set tree w (Some a)) k v ≡ 0
+kept : (g : Graph) (tree : List (Option ℕ)) (k w a v : ℕ) → w ≢ 0 → tree_arc tree w ≡ None → walked_back g tree k v ≡ 0
+    → walked_back g (set tree w (Some a)) k v ≡ 0
 unfolding walked_back
 kept g tree zero w a v apart none h = h
 kept g tree (suc k) w a v apart none h = kept_at g tree k w a v (v == w) refl apart none h (λ u r. kept g tree k w a u apart none r)
 
-step_back : (g : Graph) (tree : List (Option ℕ)) (k a v : ℕ) → tree_arc tree v ≡ Some a → walked_back g tree k (ends g a).from ≡ 0 → walked_back g tree (suc k) v ≡ 0
+step_back : (g : Graph) (tree : List (Option ℕ)) (k a v : ℕ) → tree_arc tree v ≡ Some a → walked_back g tree k (ends g a).from ≡ 0
+    → walked_back g tree (suc k) v ≡ 0
 unfolding walked_back
 step_back g tree k a v e h = ap (λ (o : Option ℕ). walked_back g tree k (parent_of g v o)) e ∙ h
 
 some_is : (a b : ℕ) → Some a ≡ Some b → a ≡ b
 some_is a b e = cc e
 
-arc_kept : (g : Graph) (tree : List (Option ℕ)) (w a : ℕ) → IsGrown g tree → w < length tree → a < length g.arcs → (ends g a).to ≡ w → (v b : ℕ) (t : Bool) → (v == w) ≡ t → tree_arc (set tree w (Some a)) v ≡ Some b → (b < length g.arcs) × ((ends g b).to ≡ v)
+arc_kept : (g : Graph) (tree : List (Option ℕ)) (w a : ℕ) → IsGrown g tree → w < length tree → a < length g.arcs → (ends g a).to ≡ w
+    → (v b : ℕ) (t : Bool) → (v == w) ≡ t → tree_arc (set tree w (Some a)) v ≡ Some b → (b < length g.arcs) × ((ends g b).to ≡ v)
 arc_kept g tree w a grown within lt to v b true e h =
     let same : v ≡ w = eqb-true v w e in
     let is : a ≡ b = some_is a b (sym (get_or-set_same tree w (Some a) None within) ∙ subst (λ (u : ℕ). tree_arc (set tree w (Some a)) u ≡ Some b) same h) in
     (omega arith, subst (λ (c : ℕ). (ends g c).to ≡ v) is (to ∙ sym same))
 arc_kept g tree w a grown within lt to v b false e h = grown.arc v b (sym (get_or-set_other tree w v (Some a) None (eqb-false v w e)) ∙ h)
 
-back_kept : (g : Graph) (tree : List (Option ℕ)) (w a : ℕ) → IsGrown g tree → HasEnds g → w < length tree → a < length g.arcs → w ≢ 0 → tree_arc tree w ≡ None → is_entered tree (ends g a).from ≡ true
+back_kept : (g : Graph) (tree : List (Option ℕ)) (w a : ℕ) → IsGrown g tree → HasEnds g → w < length tree → a < length g.arcs → w ≢ 0
+    → tree_arc tree w ≡ None → is_entered tree (ends g a).from ≡ true
     → (v : ℕ) (t : Bool) → (v == w) ≡ t → v < g.n → is_entered (set tree w (Some a)) v ≡ true → StepsBack g (set tree w (Some a)) v
 back_kept g tree w a grown has within lt apart none from v true e below h =
     let same : v ≡ w = eqb-true v w e in
@@ -125,7 +137,9 @@ back_kept g tree w a grown has within lt apart none from v true e below h =
     record {
       steps = suc r.steps;
       few = omega arith;
-      ends = step_back g (set tree w (Some a)) r.steps a v (ap (tree_arc (set tree w (Some a))) same ∙ get_or-set_same tree w (Some a) None within) (kept g tree r.steps w a (ends g a).from apart none r.ends);
+      ends =
+          step_back g (set tree w (Some a)) r.steps a v (ap (tree_arc (set tree w (Some a))) same
+          ∙ get_or-set_same tree w (Some a) None within) (kept g tree r.steps w a (ends g a).from apart none r.ends);
     }
 back_kept g tree w a grown has within lt apart none from v false e below h =
     let r = grown.back v below (ap (λ (o : Option ℕ). (v == 0) || is_some o) (sym (get_or-set_other tree w v (Some a) None (eqb-false v w e))) ∙ h) in
@@ -133,7 +147,8 @@ back_kept g tree w a grown has within lt apart none from v false e below h =
     let c : suc (open_count (set tree w (Some a))) ≡ open_count tree = open_set tree w a within none in
     record { steps = r.steps; few = omega arith; ends = kept g tree r.steps w a v apart none r.ends }
 
-pub grown_more : (g : Graph) (tree new : List (Option ℕ)) (a : ℕ) → HasEnds g → IsGrown g tree → a < length g.arcs → IsCrossing g.arcs tree a → new ≡ set tree (ends g a).to (Some a) → IsGrown g new
+pub grown_more : (g : Graph) (tree new : List (Option ℕ)) (a : ℕ) → HasEnds g → IsGrown g tree → a < length g.arcs → IsCrossing g.arcs tree a
+    → new ≡ set tree (ends g a).to (Some a) → IsGrown g new
 grown_more g tree new a has grown lt crossing is =
     let t = not_entered tree (ends g a).to crossing.1 in
     let size : length tree ≡ g.n = grown.entries in
@@ -146,7 +161,8 @@ grown_more g tree new a has grown lt crossing is =
       back = λ v below h. back_kept g tree (ends g a).to a grown has within lt t.0 t.1 crossing.0 v (v == (ends g a).to) refl below h;
     })
 
-pub grown_smaller : (g : Graph) (tree new : List (Option ℕ)) (a : ℕ) → HasEnds g → IsGrown g tree → a < length g.arcs → IsCrossing g.arcs tree a → new ≡ set tree (ends g a).to (Some a) → open_count new < open_count tree
+pub grown_smaller : (g : Graph) (tree new : List (Option ℕ)) (a : ℕ) → HasEnds g → IsGrown g tree → a < length g.arcs → IsCrossing g.arcs tree a
+    → new ≡ set tree (ends g a).to (Some a) → open_count new < open_count tree
 grown_smaller g tree new a has grown lt crossing is =
     let t = not_entered tree (ends g a).to crossing.1 in
     let size : length tree ≡ g.n = grown.entries in
@@ -157,7 +173,9 @@ grown_smaller g tree new a has grown lt crossing is =
 
 -- The last tree enters what party 0 reaches.
 
-by_entry : (g : Graph) (tree : List (Option ℕ)) (k v : ℕ) → HasEnds g → IsGrown g tree → v < g.n → (o : Option ℕ) → tree_arc tree v ≡ o → walked_back g tree k (parent_of g v o) ≡ 0 → ((u : ℕ) → u < g.n → walked_back g tree k u ≡ 0 → reaches_in g k 0 u ≡ true) → reaches_in g (suc k) 0 v ≡ true
+by_entry : (g : Graph) (tree : List (Option ℕ)) (k v : ℕ) → HasEnds g → IsGrown g tree → v < g.n → (o : Option ℕ) → tree_arc tree v ≡ o
+    → walked_back g tree k (parent_of g v o) ≡ 0 → ((u : ℕ) → u < g.n → walked_back g tree k u ≡ 0 → reaches_in g k 0 u ≡ true)
+    → reaches_in g (suc k) 0 v ≡ true
 by_entry g tree k v has grown lt None e h rest = more g k 0 v (rest v lt h)
 by_entry g tree k v has grown lt (Some a) e h rest =
     let t = grown.arc v a e in
@@ -168,17 +186,20 @@ unfolding walked_back
 walk_of_steps g tree zero v has grown lt h = is_there g 0 0 v (sym h)
 walk_of_steps g tree (suc k) v has grown lt h = by_entry g tree k v has grown lt (tree_arc tree v) refl h (λ u l r. walk_of_steps g tree k u has grown l r)
 
-enters_next : (g : Graph) (tree : List (Option ℕ)) (u w : ℕ) → ((a : ℕ) → a < length g.arcs → IsCrossing g.arcs tree a → ⊥) → has_arc g u w ≡ true → is_entered tree u ≡ true → (b : Bool) → is_entered tree w ≡ b → b ≡ true
+enters_next : (g : Graph) (tree : List (Option ℕ)) (u w : ℕ) → ((a : ℕ) → a < length g.arcs → IsCrossing g.arcs tree a → ⊥) → has_arc g u w ≡ true
+    → is_entered tree u ≡ true → (b : Bool) → is_entered tree w ≡ b → b ≡ true
 enters_next g tree u w none arc h true e = refl
 enters_next g tree u w none arc h false e =
     let r = arc_number g.arcs u w arc in
     absurd (none r.number r.stands (ap (is_entered tree) r.from ∙ h, ap (is_entered tree) r.to ∙ e))
 
-enters_on : (g : Graph) (tree : List (Option ℕ)) (k u v : ℕ) → ((a : ℕ) → a < length g.arcs → IsCrossing g.arcs tree a → ⊥) → is_entered tree u ≡ true → (u ≡ v) ⊎ Along g k u v → ((w : ℕ) → is_entered tree w ≡ true → reaches_in g k w v ≡ true → is_entered tree v ≡ true) → is_entered tree v ≡ true
+enters_on : (g : Graph) (tree : List (Option ℕ)) (k u v : ℕ) → ((a : ℕ) → a < length g.arcs → IsCrossing g.arcs tree a → ⊥) → is_entered tree u ≡ true
+    → (u ≡ v) ⊎ Along g k u v → ((w : ℕ) → is_entered tree w ≡ true → reaches_in g k w v ≡ true → is_entered tree v ≡ true) → is_entered tree v ≡ true
 enters_on g tree k u v none h (inl e) rest = subst (λ (w : ℕ). is_entered tree w ≡ true) e h
 enters_on g tree k u v none h (inr a) rest = rest a.next (enters_next g tree u a.next none a.arc h (is_entered tree a.next) refl) a.rest
 
-enters : (g : Graph) (tree : List (Option ℕ)) (k u v : ℕ) → ((a : ℕ) → a < length g.arcs → IsCrossing g.arcs tree a → ⊥) → is_entered tree u ≡ true → reaches_in g k u v ≡ true → is_entered tree v ≡ true
+enters : (g : Graph) (tree : List (Option ℕ)) (k u v : ℕ) → ((a : ℕ) → a < length g.arcs → IsCrossing g.arcs tree a → ⊥) → is_entered tree u ≡ true
+    → reaches_in g k u v ≡ true → is_entered tree v ≡ true
 enters g tree zero u v none h r = subst (λ (w : ℕ). is_entered tree w ≡ true) (at_once g u v r) h
 enters g tree (suc k) u v none h r = enters_on g tree k u v none h (goes_on g k u v r) (λ w i s. enters g tree k w v none i s)
 
@@ -191,14 +212,16 @@ back_by : (g : Graph) (tree : List (Option ℕ)) (j k n v : ℕ) → j + k ≡ n
 back_by g tree zero k n v e root h = let same : k ≡ n = omega arith in subst (λ (m : ℕ). walked_back g tree m v ≡ 0) same h
 back_by g tree (suc j) k n v e root h = back_by g tree j (suc k) n v (omega arith) root (still_back g tree k v root h)
 
-entered_arc : (g : Graph) (tree : List (Option ℕ)) (v : ℕ) → IsGrown g tree → v ≢ 0 → (o : Option ℕ) → tree_arc tree v ≡ o → is_entered tree v ≡ true → (a : ℕ) × (tree_arc tree v ≡ Some a) × (a < length g.arcs) × ((ends g a).to ≡ v)
+entered_arc : (g : Graph) (tree : List (Option ℕ)) (v : ℕ) → IsGrown g tree → v ≢ 0 → (o : Option ℕ) → tree_arc tree v ≡ o → is_entered tree v ≡ true
+    → (a : ℕ) × (tree_arc tree v ≡ Some a) × (a < length g.arcs) × ((ends g a).to ≡ v)
 entered_arc g tree v grown apart (Some a) e h = let t = grown.arc v a e in (a, e, t.0, t.1)
 entered_arc g tree v grown apart None e h = absurd (both_ways ((v == 0) || is_some (tree_arc tree v)) (rw (e, ne_eqb v 0 apart) refl) h)
 
 spans : (g : Graph) (tree : List (Option ℕ)) → IsGrown g tree → all_entered tree ≡ true → IsTree g tree
 spans g tree grown all =
     let size : length tree ≡ g.n = grown.entries in
-    let each : (v : ℕ) → v < g.n → is_entered tree v ≡ true = λ v lt. list_all-in (λ w. is_entered tree w) (range_with_len 0 (length tree)) v all (in_range v (length tree) (omega arith)) in
+    let each : (v : ℕ) → v < g.n → is_entered tree v ≡ true =
+    λ v lt. list_all-in (λ w. is_entered tree w) (range_with_len 0 (length tree)) v all (in_range v (length tree) (omega arith)) in
     record {
       entries = grown.entries;
       root = grown.root;
@@ -211,7 +234,8 @@ spans g tree grown all =
         let few : r.steps + open_count tree ≤ g.n = r.few in
         back_by g tree (g.n - r.steps) r.steps g.n v (omega arith) grown.root r.ends
 
-pub searched : (g : Graph) (tree : List (Option ℕ)) → HasEnds g → IsGrown g tree → ((a : ℕ) → a < length g.arcs → IsCrossing g.arcs tree a → ⊥) → IsSearch g tree
+pub searched : (g : Graph) (tree : List (Option ℕ)) → HasEnds g → IsGrown g tree → ((a : ℕ) → a < length g.arcs → IsCrossing g.arcs tree a → ⊥)
+    → IsSearch g tree
 unfolding reaches
 searched g tree has grown none = record {
   entries = grown.entries;

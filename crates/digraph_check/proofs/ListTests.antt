@@ -1,5 +1,6 @@
 -- Tests of lists, and of the numbers below n.
-use Rattle.std.proofs.Common.{◌≡◌, ◌⊎◌, ℕ, ◌+◌, ◌<◌, ◌==◌, Bool, true, false, cond, ◌||◌, List, [], ◌∷◌, filter, refl, sym, ap, ◌∙◌, inl, inr, arith, eqb-true, eq-eqb, get_or, length}
+use Rattle.std.proofs.Common.{◌≡◌, ◌⊎◌, ℕ, ◌+◌, ◌<◌, ◌==◌, Bool, true, false, cond, ◌||◌, List, [], ◌∷◌, filter, refl, sym, ap, ◌∙◌, inl, inr, arith}
+use Rattle.std.proofs.Common.{eqb-true, eq-eqb, get_or, length}
 use Rattle.std.proofs.lemmas.Bool.{both_ways}
 use Rattle.std.proofs.lemmas.List.FromFn.{length-range_with_len, get_or-range_with_len}
 use Rattle.std.proofs.lemmas.List.Kept.{IsStrictlyIncreasing-filter}
@@ -33,7 +34,8 @@ pub record Passing {A : Type 0} (p : A → Bool) (xs : List A) : Type 0 where
   pub stands : IsIn one xs
   pub passes : p one ≡ true
 
-passing_head : {A : Type 0} (p : A → Bool) (x : A) (xs : List A) → (p x ≡ true) ⊎ (list_any p xs ≡ true) → (list_any p xs ≡ true → Passing p xs) → Passing p (x ∷ xs)
+passing_head : {A : Type 0} (p : A → Bool) (x : A) (xs : List A) → (p x ≡ true) ⊎ (list_any p xs ≡ true) → (list_any p xs ≡ true → Passing p xs)
+    → Passing p (x ∷ xs)
 passing_head p x xs (inl e) rest = record { one = x; stands = inl refl; passes = e }
 passing_head p x xs (inr e) rest = let r = rest e in record { one = r.one; stands = inr r.stands; passes = r.passes }
 
@@ -47,7 +49,8 @@ pub record Failing {A : Type 0} (p : A → Bool) (xs : List A) : Type 0 where
   pub stands : IsIn one xs
   pub fails : p one ≡ false
 
-failing_head : {A : Type 0} (p : A → Bool) (x : A) (xs : List A) (b : Bool) → p x ≡ b → list_all p (x ∷ xs) ≡ false → (list_all p xs ≡ false → Failing p xs) → Failing p (x ∷ xs)
+failing_head : {A : Type 0} (p : A → Bool) (x : A) (xs : List A) (b : Bool) → p x ≡ b → list_all p (x ∷ xs) ≡ false
+    → (list_all p xs ≡ false → Failing p xs) → Failing p (x ∷ xs)
 failing_head p x xs false e h rest = record { one = x; stands = inl refl; fails = e }
 failing_head p x xs true e h rest = let r = rest (rw e at h) in record { one = r.one; stands = inr r.stands; fails = r.fails }
 

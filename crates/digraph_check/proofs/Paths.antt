@@ -1,5 +1,6 @@
 -- A walk is shortened to a path of distinct parties, which is no longer than there are parties.
-use Rattle.std.proofs.Common.{◌≡◌, ◌⊎◌, ℕ, zero, suc, ◌<◌, ◌≤◌, ◌==◌, nat_eq, nat_lt, Bool, true, false, not, ◌&&◌, List, [], ◌∷◌, length, refl, sym, ap, subst, inl, inr, arith, eqb-true, eq-eqb, ltb-true}
+use Rattle.std.proofs.Common.{◌≡◌, ◌⊎◌, ℕ, zero, suc, ◌<◌, ◌≤◌, ◌==◌, nat_eq, nat_lt, Bool, true, false, not, ◌&&◌, List, [], ◌∷◌, length, refl, sym}
+use Rattle.std.proofs.Common.{ap, subst, inl, inr, arith, eqb-true, eq-eqb, ltb-true}
 use Rattle.std.proofs.lemmas.Bool.{lt-ltb, not-true, eqb-false, ne_eqb}
 use Rattle.std.proofs.lemmas.List.FromFn.{length-range_with_len}
 use Rattle.std.proofs.lemmas.Map.Made.{length-le_from_is_member}
@@ -20,7 +21,8 @@ pub record PathBetween (g : Graph) (u v : ℕ) : Type 0 where
 -- From a walk to a path.
 
 -- the part of a path from u on
-suffix_head : (g : Graph) (u v x y : ℕ) (p : List ℕ) → is_path g (x ∷ y ∷ p) ≡ true → last_is v (y ∷ p) ≡ true → ((x == u) ≡ true) ⊎ (is_among u (y ∷ p) ≡ true) → (is_among u (y ∷ p) ≡ true → PathBetween g u v) → PathBetween g u v
+suffix_head : (g : Graph) (u v x y : ℕ) (p : List ℕ) → is_path g (x ∷ y ∷ p) ≡ true → last_is v (y ∷ p) ≡ true
+    → ((x == u) ≡ true) ⊎ (is_among u (y ∷ p) ≡ true) → (is_among u (y ∷ p) ≡ true → PathBetween g u v) → PathBetween g u v
 suffix_head g u v x y p path last (inl e) rest = record { vertices = x ∷ y ∷ p; between = (path, e, last) }
 suffix_head g u v x y p path last (inr e) rest = rest e
 
@@ -35,11 +37,22 @@ suffix g u v (x ∷ y ∷ p) path last among =
     suffix_head g u v x y p path last (or_split (x == u) (is_among u (y ∷ p)) among)
     (suffix g u v (y ∷ p) (and_parts (nat_lt x g.n && not (is_among x (y ∷ p)) && has_arc g x y) (is_path g (y ∷ p)) path).1 last)
 
-put_first : (g : Graph) (u w v : ℕ) (p : List ℕ) (b : Bool) → u < g.n → has_arc g u w ≡ true → is_path g p ≡ true → first_is w p ≡ true → last_is v p ≡ true → is_among u p ≡ b → PathBetween g u v
+put_first : (g : Graph) (u w v : ℕ) (p : List ℕ) (b : Bool) → u < g.n → has_arc g u w ≡ true → is_path g p ≡ true → first_is w p ≡ true
+    → last_is v p ≡ true → is_among u p ≡ b → PathBetween g u v
 put_first g u w v [] b lt arc path first last e = absurd (cc path)
 put_first g u w v (x ∷ p) true lt arc path first last e = suffix g u v (x ∷ p) path last e
 put_first g u w v (x ∷ p) false lt arc path first last e =
-    record { vertices = u ∷ x ∷ p; between = (and_both (nat_lt u g.n && not (is_among u (x ∷ p)) && has_arc g u x) (is_path g (x ∷ p)) (and_both (nat_lt u g.n && not (is_among u (x ∷ p))) (has_arc g u x) (and_both (nat_lt u g.n) (not (is_among u (x ∷ p))) (lt-ltb u g.n lt) (ap not e)) (subst (λ (y : ℕ). has_arc g u y ≡ true) (sym (eqb-true x w first)) arc)) path, eq-eqb u u refl, last) }
+    record {
+      vertices = u ∷ x ∷ p;
+      between = (
+        and_both (nat_lt u g.n && not (is_among u (x ∷ p)) && has_arc g u x) (is_path g (x ∷ p))
+            (and_both (nat_lt u g.n && not (is_among u (x ∷ p))) (has_arc g u x)
+            (and_both (nat_lt u g.n) (not (is_among u (x ∷ p))) (lt-ltb u g.n lt) (ap not e))
+            (subst (λ (y : ℕ). has_arc g u y ≡ true) (sym (eqb-true x w first)) arc)) path,
+        eq-eqb u u refl,
+        last,
+      );
+    }
 
 path_here : (g : Graph) (u v : ℕ) → u < g.n → u ≡ v → PathBetween g u v
 path_here g u v lt e = record { vertices = u ∷ []; between = (lt-ltb u g.n lt, eq-eqb u u refl, eq-eqb u v e) }
@@ -99,7 +112,9 @@ all_below g (x ∷ y ∷ p) q h m =
 
 pub length_path : (g : Graph) (p : List ℕ) → is_path g p ≡ true → length p ≤ g.n
 length_path g p h =
-    let le : length p ≤ length (parties g) = length-le_from_is_member nat_eq_equiv p (parties g) (distinct g p h) (λ q m. list_any-in (nat_eq q) (parties g) q (eq-eqb q q refl) (in_range q g.n (all_below g p q h m))) in
+    let le : length p ≤ length (parties g) =
+    length-le_from_is_member nat_eq_equiv p (parties g) (distinct g p h) (λ q m.
+    list_any-in (nat_eq q) (parties g) q (eq-eqb q q refl) (in_range q g.n (all_below g p q h m))) in
     let e : length (parties g) ≡ g.n = length-range_with_len 0 g.n in
     omega arith
 

@@ -1,5 +1,6 @@
 -- Turned round, a walk leads back.
-use Rattle.std.proofs.Common.{◌≡◌, ◌⊎◌, ℕ, zero, suc, ◌<◌, ◌==◌, Bool, true, false, ◌&&◌, ◌||◌, List, [], ◌∷◌, length, map, refl, sym, ap, ◌∙◌, subst, inl, inr, arith}
+use Rattle.std.proofs.Common.{◌≡◌, ◌⊎◌, ℕ, zero, suc, ◌<◌, ◌==◌, Bool, true, false, ◌&&◌, ◌||◌, List, [], ◌∷◌, length, map, refl, sym, ap, ◌∙◌, subst}
+use Rattle.std.proofs.Common.{inl, inr, arith}
 use Rattle.std.proofs.lemmas.List.{length-map}
 use Rattle.std.specs.List.{list_any}
 use Rattle.swap_digraph.specs.declared.arc_ends.ArcEnds.{ArcEnds}
@@ -15,19 +16,23 @@ and_turned true false = refl
 and_turned false true = refl
 and_turned false false = refl
 
-arc_turned : (arcs : List ArcEnds) (u w : ℕ) → list_any (λ a. (a.from == w) && (a.to == u)) (map reversed_ends arcs) ≡ list_any (λ a. (a.from == u) && (a.to == w)) arcs
+arc_turned : (arcs : List ArcEnds) (u w : ℕ)
+    → list_any (λ a. (a.from == w) && (a.to == u)) (map reversed_ends arcs) ≡ list_any (λ a. (a.from == u) && (a.to == w)) arcs
 arc_turned [] u w = refl
 arc_turned (x ∷ arcs) u w =
     ap (λ (b : Bool). b || list_any (λ a. (a.from == w) && (a.to == u)) (map reversed_ends arcs)) (and_turned (x.to == w) (x.from == u))
     ∙ ap (λ (b : Bool). ((x.from == u) && (x.to == w)) || b) (arc_turned arcs u w)
 
-turn_along : (g h : Graph) (k u v : ℕ) → u < h.n → ((x y : ℕ) → has_arc g x y ≡ true → has_arc h y x ≡ true) → (u ≡ v) ⊎ Along g k u v → ((w : ℕ) → w < g.n → reaches_in g k w v ≡ true → reaches_in h k v w ≡ true) → reaches_in h (suc k) v u ≡ true
+turn_along : (g h : Graph) (k u v : ℕ) → u < h.n → ((x y : ℕ) → has_arc g x y ≡ true → has_arc h y x ≡ true) → (u ≡ v) ⊎ Along g k u v
+    → ((w : ℕ) → w < g.n → reaches_in g k w v ≡ true → reaches_in h k v w ≡ true) → reaches_in h (suc k) v u ≡ true
 turn_along g h k u v lt turned (inl e) rest = is_there h (suc k) v u (sym e)
 turn_along g h k u v lt turned (inr a) rest = snoc h k v a.next u lt (turned u a.next a.arc) (rest a.next a.party a.rest)
 
-turn : (g h : Graph) (k u v : ℕ) → g.n ≡ h.n → ((x y : ℕ) → has_arc g x y ≡ true → has_arc h y x ≡ true) → u < h.n → reaches_in g k u v ≡ true → reaches_in h k v u ≡ true
+turn : (g h : Graph) (k u v : ℕ) → g.n ≡ h.n → ((x y : ℕ) → has_arc g x y ≡ true → has_arc h y x ≡ true) → u < h.n → reaches_in g k u v ≡ true
+    → reaches_in h k v u ≡ true
 turn g h zero u v same turned lt r = is_there h 0 v u (sym (at_once g u v r))
-turn g h (suc k) u v same turned lt r = turn_along g h k u v lt turned (goes_on g k u v r) (λ w l s. turn g h k w v same turned (subst (λ (n : ℕ). w < n) same l) s)
+turn g h (suc k) u v same turned lt r =
+    turn_along g h k u v lt turned (goes_on g k u v r) (λ w l s. turn g h k w v same turned (subst (λ (n : ℕ). w < n) same l) s)
 
 pub reaches-reversed : (g : Graph) (u v : ℕ) → u < g.n → v < g.n → reaches (reversed g) u v ≡ reaches g v u
 unfolding reaches

@@ -1,5 +1,6 @@
 -- Walks: `reaches_in` step by step, at their beginning and at their end, and the arcs by number.
-use Rattle.std.proofs.Common.{◌≡◌, ◌⊎◌, ℕ, zero, suc, ◌+◌, ◌-◌, ◌<◌, ◌≤◌, ◌==◌, true, ◌&&◌, List, [], ◌∷◌, length, refl, sym, subst, inl, inr, arith, eqb-true, eq-eqb}
+use Rattle.std.proofs.Common.{◌≡◌, ◌⊎◌, ℕ, zero, suc, ◌+◌, ◌-◌, ◌<◌, ◌≤◌, ◌==◌, true, ◌&&◌, List, [], ◌∷◌, length, refl, sym, subst, inl, inr, arith}
+use Rattle.std.proofs.Common.{eqb-true, eq-eqb}
 use Rattle.std.specs.List.{list_any}
 use Rattle.swap_base.proofs.Lists.{list_any-in, or-right, and_parts, and_both, in_range, from_range}
 use Rattle.swap_digraph.specs.declared.arc_ends.ArcEnds.{ArcEnds}
@@ -46,7 +47,8 @@ along g k u w v lt arc rest =
 
 -- One more arc is allowed.
 
-more_along : (g : Graph) (k u v : ℕ) → (u ≡ v) ⊎ Along g k u v → ((w : ℕ) → reaches_in g k w v ≡ true → reaches_in g (suc k) w v ≡ true) → reaches_in g (suc (suc k)) u v ≡ true
+more_along : (g : Graph) (k u v : ℕ) → (u ≡ v) ⊎ Along g k u v → ((w : ℕ) → reaches_in g k w v ≡ true → reaches_in g (suc k) w v ≡ true)
+    → reaches_in g (suc (suc k)) u v ≡ true
 more_along g k u v (inl e) rest = is_there g (suc (suc k)) u v e
 more_along g k u v (inr a) rest = along g (suc k) u a.next v a.party a.arc (rest a.next a.rest)
 
@@ -63,7 +65,8 @@ at_most g k n u v le h = more_by g (n - k) k n u v (omega arith) h
 
 -- One more arc at the end.
 
-snoc_along : (g : Graph) (k u w v : ℕ) → v < g.n → has_arc g w v ≡ true → (u ≡ w) ⊎ Along g k u w → ((x : ℕ) → reaches_in g k x w ≡ true → reaches_in g (suc k) x v ≡ true) → reaches_in g (suc (suc k)) u v ≡ true
+snoc_along : (g : Graph) (k u w v : ℕ) → v < g.n → has_arc g w v ≡ true → (u ≡ w) ⊎ Along g k u w
+    → ((x : ℕ) → reaches_in g k x w ≡ true → reaches_in g (suc k) x v ≡ true) → reaches_in g (suc (suc k)) u v ≡ true
 snoc_along g k u w v lt arc (inl e) rest = along g (suc k) u v v lt (subst (λ (x : ℕ). has_arc g x v ≡ true) (sym e) arc) (stays g (suc k) v)
 snoc_along g k u w v lt arc (inr a) rest = along g (suc k) u a.next v a.party a.arc (rest a.next a.rest)
 
@@ -77,7 +80,8 @@ pub record SomeWalk (g : Graph) (u v : ℕ) : Type 0 where
   pub most : ℕ
   pub walk : reaches_in g most u v ≡ true
 
-two_along : (g : Graph) (k m u w v : ℕ) → (u ≡ w) ⊎ Along g k u w → reaches_in g m w v ≡ true → ((x : ℕ) → reaches_in g k x w ≡ true → SomeWalk g x v) → SomeWalk g u v
+two_along : (g : Graph) (k m u w v : ℕ) → (u ≡ w) ⊎ Along g k u w → reaches_in g m w v ≡ true → ((x : ℕ) → reaches_in g k x w ≡ true → SomeWalk g x v)
+    → SomeWalk g u v
 two_along g k m u w v (inl e) h rest = record { most = m; walk = subst (λ (x : ℕ). reaches_in g m x v ≡ true) (sym e) h }
 two_along g k m u w v (inr a) h rest = let r = rest a.next a.rest in record { most = suc r.most; walk = along g r.most u a.next v a.party a.arc r.walk }
 
@@ -89,9 +93,12 @@ two_walks g (suc k) m u w v h r = two_along g k m u w v (goes_on g k u w h) r (�
 
 pub arc_at : (arcs : List ArcEnds) (a : ℕ) → a < length arcs → list_any (λ b. (b.from == (ends_in arcs a).from) && (b.to == (ends_in arcs a).to)) arcs ≡ true
 arc_at [] a lt = absurd (omega arith)
-arc_at (x ∷ arcs) zero lt = or-left ((x.from == x.from) && (x.to == x.to)) (list_any (λ b. (b.from == x.from) && (b.to == x.to)) arcs) (and_both (x.from == x.from) (x.to == x.to) (eq-eqb x.from x.from refl) (eq-eqb x.to x.to refl))
+arc_at (x ∷ arcs) zero lt =
+    or-left ((x.from == x.from) && (x.to == x.to)) (list_any (λ b. (b.from == x.from) && (b.to == x.to)) arcs)
+    (and_both (x.from == x.from) (x.to == x.to) (eq-eqb x.from x.from refl) (eq-eqb x.to x.to refl))
 arc_at (x ∷ arcs) (suc a) lt =
-    or-right ((x.from == (ends_in arcs a).from) && (x.to == (ends_in arcs a).to)) (list_any (λ b. (b.from == (ends_in arcs a).from) && (b.to == (ends_in arcs a).to)) arcs)
+    or-right ((x.from == (ends_in arcs a).from) && (x.to == (ends_in arcs a).to))
+    (list_any (λ b. (b.from == (ends_in arcs a).from) && (b.to == (ends_in arcs a).to)) arcs)
     (arc_at arcs a (omega arith))
 
 -- an arc with these ends
@@ -101,7 +108,9 @@ pub record ArcFrom (arcs : List ArcEnds) (u w : ℕ) : Type 0 where
   pub from : (ends_in arcs number).from ≡ u
   pub to : (ends_in arcs number).to ≡ w
 
-arc_head : (x : ArcEnds) (arcs : List ArcEnds) (u w : ℕ) → (((x.from == u) && (x.to == w)) ≡ true) ⊎ (list_any (λ b. (b.from == u) && (b.to == w)) arcs ≡ true) → (list_any (λ b. (b.from == u) && (b.to == w)) arcs ≡ true → ArcFrom arcs u w) → ArcFrom (x ∷ arcs) u w
+arc_head : (x : ArcEnds) (arcs : List ArcEnds) (u w : ℕ) → (((x.from == u) && (x.to == w)) ≡ true)
+    ⊎ (list_any (λ b. (b.from == u) && (b.to == w)) arcs ≡ true) → (list_any (λ b. (b.from == u) && (b.to == w)) arcs ≡ true → ArcFrom arcs u w)
+    → ArcFrom (x ∷ arcs) u w
 arc_head x arcs u w (inl e) rest =
     let t = and_parts (x.from == u) (x.to == w) e in
     record { number = 0; stands = omega arith; from = eqb-true x.from u t.0; to = eqb-true x.to w t.1 }
@@ -111,4 +120,5 @@ arc_head x arcs u w (inr e) rest =
 
 pub arc_number : (arcs : List ArcEnds) (u w : ℕ) → list_any (λ b. (b.from == u) && (b.to == w)) arcs ≡ true → ArcFrom arcs u w
 arc_number [] u w h = absurd (cc h)
-arc_number (x ∷ arcs) u w h = arc_head x arcs u w (or_split ((x.from == u) && (x.to == w)) (list_any (λ b. (b.from == u) && (b.to == w)) arcs) h) (arc_number arcs u w)
+arc_number (x ∷ arcs) u w h =
+    arc_head x arcs u w (or_split ((x.from == u) && (x.to == w)) (list_any (λ b. (b.from == u) && (b.to == w)) arcs) h) (arc_number arcs u w)

@@ -34,7 +34,8 @@ fn tree_against(alloc: Global, graph: &Digraph) -> Result<Listed<Option<ArcId>>,
     tree_from_zero(alloc, graph.n(), &turned)
 }
 
-/// Whether the digraph is strongly connected, with what shows it: two trees where it is, and where it isn't what party 0 reaches, or, if that is everything, the parties that don't reach party 0.
+/// Whether the digraph is strongly connected, with what shows it: two trees where it is, and where it isn't what party 0 reaches, or, if that is
+/// everything, the parties that don't reach party 0.
 pub fn strong(alloc: Global, graph: &Digraph) -> Result<Strength, NoMemory>
     requires parties { (2 ≤ graph.now.n) × (graph.now.n ≤ 32) }
     requires few { length graph.now.arcs ≤ 128 }

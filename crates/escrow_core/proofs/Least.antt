@@ -28,7 +28,8 @@ map_push g [] n = refl
 map_push g (x ∷ xs) n = ap (λ (ys : List ℕ). g x ∷ ys) (map_push g xs n)
 
 -- the next number counts
-pub least_on : (p : ℕ → Bool) (g : ℕ → ℕ) (n : ℕ) (old : Option ℕ) → p n ≡ true → old ≡ least_of (map g (filter p (range_with_len 0 n))) → Some (lesser old (g n)) ≡ least_of (map g (filter p (range_with_len 0 (n + 1))))
+pub least_on : (p : ℕ → Bool) (g : ℕ → ℕ) (n : ℕ) (old : Option ℕ) → p n ≡ true → old ≡ least_of (map g (filter p (range_with_len 0 n)))
+    → Some (lesser old (g n)) ≡ least_of (map g (filter p (range_with_len 0 (n + 1))))
 least_on p g n old t h =
     ap (λ (o : Option ℕ). Some (lesser o (g n))) h
     ∙ sym (least_of-push (map g (filter p (range_with_len 0 n))) (g n))
@@ -36,7 +37,8 @@ least_on p g n old t h =
     ∙ ap (λ (xs : List ℕ). least_of (map g xs)) (filter_on p n (filter p (range_with_len 0 n)) (filter p (range_with_len 0 n) ++ n ∷ []) t refl refl)
 
 -- the next number doesn't count
-pub least_off : (p : ℕ → Bool) (g : ℕ → ℕ) (n : ℕ) (old : Option ℕ) → p n ≡ false → old ≡ least_of (map g (filter p (range_with_len 0 n))) → old ≡ least_of (map g (filter p (range_with_len 0 (n + 1))))
+pub least_off : (p : ℕ → Bool) (g : ℕ → ℕ) (n : ℕ) (old : Option ℕ) → p n ≡ false → old ≡ least_of (map g (filter p (range_with_len 0 n)))
+    → old ≡ least_of (map g (filter p (range_with_len 0 (n + 1))))
 least_off p g n old t h = h ∙ ap (λ (xs : List ℕ). least_of (map g xs)) (filter_off p n (filter p (range_with_len 0 n)) t refl)
 
 pub lesser_below : (o : Option ℕ) (n b : ℕ) → IfSome o (λ m. m < b) → n < b → lesser o n < b

@@ -7,4 +7,5 @@ use Rattle.escrow_core.specs.Value.{ContractState, with_opened}
 use Rattle.escrow_core.specs.Inside.{state_of}
 
 pub state_of-opened : (c : Inside) (i : ℕ) → i < length c.terms.locks → state_of (record c { opened = slice_set c.opened i true }) ≡ with_opened (state_of c) i
-state_of-opened c i lt = ap (λ (bs : List Bool). let s : ContractState = record (state_of c) { opened = bs } in s) (take-set-lt (length c.terms.locks) c.opened i true lt)
+state_of-opened c i lt =
+    ap (λ (bs : List Bool). let s : ContractState = record (state_of c) { opened = bs } in s) (take-set-lt (length c.terms.locks) c.opened i true lt)

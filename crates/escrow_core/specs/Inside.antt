@@ -18,7 +18,9 @@ inside_of s = record { arc = s.arc; from = s.from; to = s.to; terms = s.terms; o
 
 pub inside_of_ok : (c : Inside) → HasPlaces c → inside_of (state_of c) ≡ c
 inside_of_ok c p =
-    let n : length (take (length c.terms.locks) c.opened) ≡ length c.terms.locks = (let z = length-take (length c.terms.locks) c.opened in let a = p.places in let b = p.within in omega arith) in
+    let n : length (take (length c.terms.locks) c.opened) ≡ length c.terms.locks =
+    (let z = length-take (length c.terms.locks) c.opened in let a = p.places in let b = p.within in omega arith) in
     let m : take (length c.terms.locks) c.opened ++ replicate (8 - length (take (length c.terms.locks) c.opened)) false ≡ c.opened =
-    ap (λ k. take (length c.terms.locks) c.opened ++ replicate (8 - k) false) n ∙ (ap (λ x. take (length c.terms.locks) c.opened ++ x) (sym p.padded) ∙ take-append-drop (length c.terms.locks) c.opened) in
+    ap (λ k. take (length c.terms.locks) c.opened ++ replicate (8 - k) false) n
+    ∙ (ap (λ x. take (length c.terms.locks) c.opened ++ x) (sym p.padded) ∙ take-append-drop (length c.terms.locks) c.opened) in
     λ i. record { arc = c.arc; from = c.from; to = c.to; terms = c.terms; opened = m i; settled = c.settled }

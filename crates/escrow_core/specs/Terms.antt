@@ -18,7 +18,9 @@ abbrev pub terms_of : Deal → ℕ → Terms
 terms_of d a = record { locks = d.hashlocks; start = d.start; delta = d.delta; bound = d.bound; timelock = slice_index d.timelocks a; amount = amount d a }
 
 abbrev pub same_terms : Terms → Terms → Bool
-same_terms t u = same_list bytes_eq t.locks u.locks && (t.start == u.start) && (t.delta == u.delta) && (t.bound == u.bound) && (t.timelock == u.timelock) && (t.amount == u.amount)
+same_terms t u =
+    same_list bytes_eq t.locks u.locks && (t.start == u.start) && (t.delta == u.delta) && (t.bound == u.bound) && (t.timelock == u.timelock)
+    && (t.amount == u.amount)
 
 -- the hashlock of lock i
 abbrev pub hashlock_in : Terms → ℕ → List ℕ

@@ -1,5 +1,6 @@
 -- Reading and writing lanes.
-use Rattle.std.proofs.Common.{◌≡◌, ℕ, List, [], ◌∷◌, ◌++◌, take, zero, suc, ap, length, get_or, slice_index, slice_set, refl, ◌+◌, ◌*◌, ◌/◌, ◌%◌, ◌^◌, ◌<◌, arith, add-one, sym, ◌∙◌}
+use Rattle.std.proofs.Common.{◌≡◌, ℕ, List, [], ◌∷◌, ◌++◌, take, zero, suc, ap, length, get_or, slice_index, slice_set, refl, ◌+◌, ◌*◌, ◌/◌, ◌%◌, ◌^◌}
+use Rattle.std.proofs.Common.{◌<◌, arith, add-one, sym, ◌∙◌}
 use Rattle.std.specs.Int.{w32, to_be_bytes}
 use Rattle.sha2.specs.Sha256.{digest_bytes, first_words, hash_after, sha256}
 use Rattle.hash_chains.specs.Chains.{chain_after, chain_start, chain_step}
@@ -55,8 +56,11 @@ pub start_is : (words h : List ℕ) (tail party lock j : ℕ) → words ≡ word
 start_is words h tail party lock j is e =
     ap (λ (l : List ℕ). digest_bytes l 8) is ∙ sym (start_bytes h tail) ∙ ap (λ (l : List ℕ). sha256 (1 ∷ digest_bytes h 8 ++ l)) e
 
-pub lane_of_sixteen : (x0 x1 x2 x3 x4 x5 x6 x7 x8 x9 x10 x11 x12 x13 x14 x15 : List ℕ) (j : ℕ) → lane (x0 ∷ x1 ∷ x2 ∷ x3 ∷ x4 ∷ x5 ∷ x6 ∷ x7 ∷ x8 ∷ x9 ∷ x10 ∷ x11 ∷ x12 ∷ x13 ∷ x14 ∷ x15 ∷ []) j
-    ≡ slice_index x0 j ∷ slice_index x1 j ∷ slice_index x2 j ∷ slice_index x3 j ∷ slice_index x4 j ∷ slice_index x5 j ∷ slice_index x6 j ∷ slice_index x7 j ∷ slice_index x8 j ∷ slice_index x9 j ∷ slice_index x10 j ∷ slice_index x11 j ∷ slice_index x12 j ∷ slice_index x13 j ∷ slice_index x14 j ∷ slice_index x15 j ∷ []
+pub lane_of_sixteen : (x0 x1 x2 x3 x4 x5 x6 x7 x8 x9 x10 x11 x12 x13 x14 x15 : List ℕ) (j : ℕ)
+    → lane (x0 ∷ x1 ∷ x2 ∷ x3 ∷ x4 ∷ x5 ∷ x6 ∷ x7 ∷ x8 ∷ x9 ∷ x10 ∷ x11 ∷ x12 ∷ x13 ∷ x14 ∷ x15 ∷ []) j
+    ≡ slice_index x0 j ∷ slice_index x1 j ∷ slice_index x2 j ∷ slice_index x3 j ∷ slice_index x4 j ∷ slice_index x5 j ∷ slice_index x6 j
+    ∷ slice_index x7 j ∷ slice_index x8 j ∷ slice_index x9 j ∷ slice_index x10 j ∷ slice_index x11 j ∷ slice_index x12 j ∷ slice_index x13 j
+    ∷ slice_index x14 j ∷ slice_index x15 j ∷ []
 unfolding lane
 lane_of_sixteen x0 x1 x2 x3 x4 x5 x6 x7 x8 x9 x10 x11 x12 x13 x14 x15 j = refl
 

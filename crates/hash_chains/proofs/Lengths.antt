@@ -1,5 +1,6 @@
 -- Values in lanes, and chains of different lengths.
-use Rattle.std.proofs.Common.{◌≡◌, ℕ, zero, suc, ◌+◌, ◌*◌, ◌<◌, ◌≤◌, min, List, [], ◌∷◌, ◌++◌, Bool, true, false, cond, nat_lt, inl, inr, take, drop, length, slice_index, refl, sym, ap, ◌∙◌, arith}
+use Rattle.std.proofs.Common.{◌≡◌, ℕ, zero, suc, ◌+◌, ◌*◌, ◌<◌, ◌≤◌, min, List, [], ◌∷◌, ◌++◌, Bool, true, false, cond, nat_lt, inl, inr, take, drop}
+use Rattle.std.proofs.Common.{length, slice_index, refl, sym, ap, ◌∙◌, arith}
 use Rattle.std.specs.Int.{w32, to_be_bytes}
 use Rattle.std.proofs.Math.Seq.{take-add}
 use Rattle.std.proofs.lemmas.List.{take_all}
@@ -23,7 +24,8 @@ eight_cases P a b c d e f g h (suc (suc zero)) lt = c
 eight_cases P a b c d e f g h (suc (suc (suc zero))) lt = d
 eight_cases P a b c d e f g h (suc (suc (suc (suc j)))) lt = four_cases (λ k. P (suc (suc (suc (suc k))))) e f g h j (omega arith)
 
-digest_upto : (h a : List ℕ) → ((i : ℕ) → i < 8 → to_be_bytes w32 (slice_index h i) ≡ take 4 (drop (4 * i) a)) → (n : ℕ) → n ≤ 8 → digest_bytes h n ≡ take (4 * n) a
+digest_upto : (h a : List ℕ) → ((i : ℕ) → i < 8 → to_be_bytes w32 (slice_index h i) ≡ take 4 (drop (4 * i) a)) → (n : ℕ) → n ≤ 8
+    → digest_bytes h n ≡ take (4 * n) a
 unfolding digest_bytes
 digest_upto h a each zero le = refl
 digest_upto h a each (suc n) le =

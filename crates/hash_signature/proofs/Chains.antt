@@ -53,7 +53,8 @@ pub for_chains_same : {X : Type 0} (f g : ℕ → X) → ((j : ℕ) → j < 67 �
 for_chains_same f g h = sym (all_chains f 67 refl) ∙ (same_first f g 0 67 (λ j lt. h j (omega arith)) ∙ all_chains g 67 refl)
 
 -- a hasher that is fed with one end more
-pub held_more : (f : ℕ → List ℕ) (n : ℕ) (x : List ℕ) (s : Sha256) → x ≡ f n → Holds256 s ((3 ∷ joined (first_chains f n)) ++ x) → Holds256 s (3 ∷ joined (first_chains f (n + 1)))
+pub held_more : (f : ℕ → List ℕ) (n : ℕ) (x : List ℕ) (s : Sha256) → x ≡ f n → Holds256 s ((3 ∷ joined (first_chains f n)) ++ x)
+    → Holds256 s (3 ∷ joined (first_chains f (n + 1)))
 held_more f n x s e h =
     let P : List ℕ → Type 0 = λ m. Holds256 s m in
     let same : (3 ∷ joined (first_chains f n)) ++ x ≡ 3 ∷ joined (first_chains f (n + 1)) = rw (joined_more f n, e) refl in
@@ -66,7 +67,8 @@ held_all f n s e h =
     subst P (ap (λ l. 3 ∷ joined l) (all_chains f n e)) h
 
 -- a list with a value for each chain, one value more of which is written
-pub filled_more : {X : Type 0} (f : ℕ → X) (xs : List X) (n : ℕ) (x : X) → length xs ≡ 67 → n < 67 → x ≡ f n → take n xs ≡ first_chains f n → take (n + 1) (set xs n x) ≡ first_chains f (n + 1)
+pub filled_more : {X : Type 0} (f : ℕ → X) (xs : List X) (n : ℕ) (x : X) → length xs ≡ 67 → n < 67 → x ≡ f n → take n xs ≡ first_chains f n
+    → take (n + 1) (set xs n x) ≡ first_chains f (n + 1)
 filled_more f xs n x len lt e so_far =
     rw (take_more_set xs n x (omega arith), so_far, e, first_chains_more f n) refl
 

@@ -71,14 +71,27 @@ get_or-front (x ∷ xs) ys (suc j) lt = get_or-front xs ys j (omega arith)
 get_or-back : (xs ys : List ℕ) (n k : ℕ) → length xs ≡ n → get_or (xs ++ ys) (n + k) 0 ≡ get_or ys k 0
 get_or-back xs ys n k e = ap (λ (i : ℕ). get_or (xs ++ ys) (i + k) 0) (sym e) ∙ get_or-append-add xs ys k 0
 
-from_compared : (m n : List ℕ) → length (half_bytes m) ≡ 64 → length (half_bytes n) ≡ 64 → (m ≡ n → ⊥) → Compared (half_bytes m) (half_bytes n) → (j : ℕ) × (j < 67) × (digit m j < digit n j)
+from_compared : (m n : List ℕ) → length (half_bytes m) ≡ 64 → length (half_bytes n) ≡ 64 → (m ≡ n → ⊥) → Compared (half_bytes m) (half_bytes n)
+    → (j : ℕ) × (j < 67) × (digit m j < digit n j)
 unfolding digits
-from_compared m n lm ln differ (inl r) =
-    (r.0, omega arith, rw (get_or-front (half_bytes m) (three_digits (checksum (half_bytes m))) r.0 r.1, get_or-front (half_bytes n) (three_digits (checksum (half_bytes n))) r.0 (omega arith)) r.2)
+from_compared m n lm ln differ (inl r) = (
+  r.0,
+  omega arith,
+  rw (
+    get_or-front (half_bytes m) (three_digits (checksum (half_bytes m))) r.0 r.1,
+    get_or-front (half_bytes n) (three_digits (checksum (half_bytes n))) r.0 (omega arith),
+  ) r.2,
+)
 from_compared m n lm ln differ (inr (inl r)) = absurd (differ (half_bytes-injective m n r))
 from_compared m n lm ln differ (inr (inr r)) =
-    let low = lower_digit (checksum (half_bytes m)) (checksum (half_bytes n)) r in
-    (64 + low.0, omega arith, rw (get_or-back (half_bytes m) (three_digits (checksum (half_bytes m))) 64 low.0 lm, get_or-back (half_bytes n) (three_digits (checksum (half_bytes n))) 64 low.0 ln) low.2)
+    let low = lower_digit (checksum (half_bytes m)) (checksum (half_bytes n)) r in (
+      64 + low.0,
+      omega arith,
+      rw (
+        get_or-back (half_bytes m) (three_digits (checksum (half_bytes m))) 64 low.0 lm,
+        get_or-back (half_bytes n) (three_digits (checksum (half_bytes n))) 64 low.0 ln,
+      ) low.2,
+    )
 
 pub two_messages : ChecksumLaw
 two_messages m n p q differ =

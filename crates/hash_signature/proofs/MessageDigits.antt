@@ -1,5 +1,6 @@
 -- The digits of a message: how they are written, and that each is at most 15.
-use Rattle.std.proofs.Common.{◌≡◌, ℕ, zero, suc, ◌+◌, ◌-◌, ◌*◌, ◌/◌, ◌%◌, ◌<◌, ◌≤◌, List, [], ◌∷◌, ◌++◌, take, length, get_or, refl, sym, ap, ◌∙◌, inl, inr, arith, append_assoc}
+use Rattle.std.proofs.Common.{◌≡◌, ℕ, zero, suc, ◌+◌, ◌-◌, ◌*◌, ◌/◌, ◌%◌, ◌<◌, ◌≤◌, List, [], ◌∷◌, ◌++◌, take, length, get_or, refl, sym, ap, ◌∙◌, inl}
+use Rattle.std.proofs.Common.{inr, arith, append_assoc}
 use Rattle.std.proofs.Math.ListN.{set, length-set}
 use Rattle.std.proofs.lemmas.Bool.{cases_lt}
 use Rattle.std.proofs.lemmas.List.{get_or_past, take_more, take_more_set, take_all}
@@ -21,7 +22,8 @@ half_bytes_more : (m : List ℕ) (i : ℕ) → i < length m → half_bytes (take
 half_bytes_more m i lt = rw (take_more m i 0) (half_bytes-append (take i m) (get_or m i 0 ∷ []))
 
 -- two digits more are written
-pub written_more : (out m : List ℕ) (i : ℕ) → length out ≡ 67 → length m ≡ 32 → i < 32 → take (2 * i) out ≡ half_bytes (take i m) → take (2 * (i + 1)) (set (set out (2 * i) (get_or m i 0 / 16)) (2 * i + 1) (get_or m i 0 % 16)) ≡ half_bytes (take (i + 1) m)
+pub written_more : (out m : List ℕ) (i : ℕ) → length out ≡ 67 → length m ≡ 32 → i < 32 → take (2 * i) out ≡ half_bytes (take i m)
+    → take (2 * (i + 1)) (set (set out (2 * i) (get_or m i 0 / 16)) (2 * i + 1) (get_or m i 0 % 16)) ≡ half_bytes (take (i + 1) m)
 written_more out m i lo lm lt so_far =
     let high = get_or m i 0 / 16 in
     let low = get_or m i 0 % 16 in
@@ -32,7 +34,8 @@ written_more out m i lo lm lt so_far =
     rw (e, a, b, so_far, half_bytes_more m i (omega arith)) (append_assoc (half_bytes (take i m)) (high ∷ []) (low ∷ []))
 
 -- the sum of two digits more
-pub sum_more : (m : List ℕ) (i : ℕ) → i < length m → checksum (half_bytes (take (i + 1) m)) ≡ checksum (half_bytes (take i m)) + ((15 - get_or m i 0 / 16) + (15 - get_or m i 0 % 16))
+pub sum_more : (m : List ℕ) (i : ℕ) → i < length m
+    → checksum (half_bytes (take (i + 1) m)) ≡ checksum (half_bytes (take i m)) + ((15 - get_or m i 0 / 16) + (15 - get_or m i 0 % 16))
 sum_more m i lt =
     let e = checksum-append (half_bytes (take i m)) (get_or m i 0 / 16 ∷ get_or m i 0 % 16 ∷ []) in
     rw (half_bytes_more m i) (omega arith)
@@ -52,7 +55,8 @@ three_written out a b c e =
     sym (take_all 67 (set y 66 c) (omega arith)) ∙ (r ∙ (one ∙ simp append_assoc))
 
 -- all digits are written
-pub all_written : (out m : List ℕ) (i sum : ℕ) → length out ≡ 67 → length m ≡ 32 → i ≡ 32 → take (2 * i) out ≡ half_bytes (take i m) → sum ≡ checksum (half_bytes (take i m)) → set (set (set out 64 (sum / 256)) 65 (sum / 16 % 16)) 66 (sum % 16) ≡ digits m
+pub all_written : (out m : List ℕ) (i sum : ℕ) → length out ≡ 67 → length m ≡ 32 → i ≡ 32 → take (2 * i) out ≡ half_bytes (take i m)
+    → sum ≡ checksum (half_bytes (take i m)) → set (set (set out 64 (sum / 256)) 65 (sum / 16 % 16)) 66 (sum % 16) ≡ digits m
 unfolding digits
 all_written out m i sum lo lm e written sum_is =
     let whole : take i m ≡ m = take_all i m (omega arith) in

@@ -1,6 +1,7 @@
 //! One-time signatures made of chains of SHA-256, secrets and their hashlocks.
 //!
-//! A signer has one key for each party and lock. Its public key is the digest of the ends of 67 chains, and a signature opens each chain as far as the digit of the message at that chain says. Who signs twice with one key gives others the means to sign.
+//! A signer has one key for each party and lock. Its public key is the digest of the ends of 67 chains, and a signature opens each chain as far as the
+//! digit of the message at that chain says. Who signs twice with one key gives others the means to sign.
 //!
 //! Read `specs/Signature.antt` first: `is_valid_signature` says what `verify` answers, and `signature_of` what `sign` does.
 #![tactic(auto)]

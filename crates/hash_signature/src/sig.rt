@@ -108,7 +108,8 @@ fn digest_of_carried(message: &Digest, values: &[Digest; CHAINS]) -> Digest
     hasher.finalize()
 }
 
-/// Whether the signature is valid for the public key and the message: its values, each carried on by 15 steps less the digit at its chain, are the ends whose digest is the public key.
+/// Whether the signature is valid for the public key and the message: its values, each carried on by 15 steps less the digit at its chain, are the ends
+/// whose digest is the public key.
 #[tactic(auto, unfolding(crate::specs::Signature::is_valid_signature))]
 pub fn verify(public: &Digest, message: &Digest, sig: &Sig) -> bool
     ensures { result ≡ is_valid_signature public.now message.now sig.now }

@@ -21,7 +21,8 @@ by_place : (o : Option ℕ) → is_none o ≡ says_valid (of_signatures Hashkeys
 by_place None = refl
 by_place (Some j) = refl
 
-by_mode : (m : Mode) (d : Deal) (key : Hashkey) → not (is_wrong_signature d m key) ≡ says_valid (of_signatures m (wrong_signature 0 d key.lock key.secret key.path key.sigs))
+by_mode : (m : Mode) (d : Deal) (key : Hashkey)
+    → not (is_wrong_signature d m key) ≡ says_valid (of_signatures m (wrong_signature 0 d key.lock key.secret key.path key.sigs))
 by_mode Timelocks d key = refl
 by_mode Hashkeys d key =
     not-not (are_signed d key.lock key.secret key.path key.sigs)
@@ -35,4 +36,6 @@ by_tests false false o b e = e
 pub valid_answer : (d : Deal) (a : ℕ) (hashlock : List ℕ) (key : Hashkey) → is_valid d a hashlock key ≡ says_valid (answer_of d a hashlock key)
 unfolding answer_of
 valid_answer d a hashlock key =
-    by_tests (is_wrong_secret hashlock key) (is_wrong_path d a d.mode key) (of_signatures d.mode (wrong_signature 0 d key.lock key.secret key.path key.sigs)) (not (is_wrong_signature d d.mode key)) (by_mode d.mode d key)
+    by_tests (is_wrong_secret hashlock key) (is_wrong_path d a d.mode key)
+    (of_signatures d.mode (wrong_signature 0 d key.lock key.secret key.path key.sigs)) (not (is_wrong_signature d d.mode key))
+    (by_mode d.mode d key)

@@ -24,15 +24,20 @@ feeds_both a b c x y f g m h =
 pub each_more : (f : ℕ → List ℕ) (n : ℕ) → flat_map f (range_with_len 0 (n + 1)) ≡ flat_map f (range_with_len 0 n) ++ f n
 each_more f n =
     let before : flat_map (λ xs. xs) (map f (range_with_len 0 n)) ≡ flat_map f (range_with_len 0 n) = flat_map-map (λ xs. xs) f (range_with_len 0 n) in
-    let after : flat_map (λ xs. xs) (map f (range_with_len 0 (n + 1))) ≡ flat_map f (range_with_len 0 (n + 1)) = flat_map-map (λ xs. xs) f (range_with_len 0 (n + 1)) in
+    let after : flat_map (λ xs. xs) (map f (range_with_len 0 (n + 1))) ≡ flat_map f (range_with_len 0 (n + 1)) =
+    flat_map-map (λ xs. xs) f (range_with_len 0 (n + 1)) in
     let more : map f (range_with_len 0 (n + 1)) ≡ map f (range_with_len 0 n) ++ f n ∷ [] = map-range_with_len_more f 0 n n (omega arith) in
-    let apart : flat_map (λ xs. xs) (map f (range_with_len 0 n) ++ f n ∷ []) ≡ flat_map (λ xs. xs) (map f (range_with_len 0 n)) ++ (f n ++ []) = flat_map-append (λ xs. xs) (map f (range_with_len 0 n)) (f n ∷ []) in
-    sym after ∙ (ap (flat_map (λ xs. xs)) more ∙ (apart ∙ (ap (λ z. z ++ (f n ++ [])) before ∙ ap (λ z. flat_map f (range_with_len 0 n) ++ z) (append-nil (f n)))))
+    let apart : flat_map (λ xs. xs) (map f (range_with_len 0 n) ++ f n ∷ []) ≡ flat_map (λ xs. xs) (map f (range_with_len 0 n)) ++ (f n ++ []) =
+    flat_map-append (λ xs. xs) (map f (range_with_len 0 n)) (f n ∷ []) in
+    sym after ∙ (ap (flat_map (λ xs. xs)) more
+    ∙ (apart ∙ (ap (λ z. z ++ (f n ++ [])) before ∙ ap (λ z. flat_map f (range_with_len 0 n) ++ z) (append-nil (f n)))))
 
 -- The digest of a deal.
 
 -- the pieces of a deal, after the byte 6
-pub deal_fed : (d : Deal) (s₀ s₁ s₂ s₃ s₄ s₅ s₆ s₇ : Sha256) → Holds256 s₀ [] → Feeds s₀ s₁ (6 ∷ []) → Feeds s₁ s₂ (head_bytes d) → Feeds s₂ s₃ (flat_map (arc_bytes d) (arcs d.graph)) → Feeds s₃ s₄ (leader_bytes d) → Feeds s₄ s₅ (time_bytes d) → Feeds s₅ s₆ (joined d.hashlocks) → Feeds s₆ s₇ (key_bytes d.mode d.keys) → Holds256 s₇ (6 ∷ deal_bytes d)
+pub deal_fed : (d : Deal) (s₀ s₁ s₂ s₃ s₄ s₅ s₆ s₇ : Sha256) → Holds256 s₀ [] → Feeds s₀ s₁ (6 ∷ []) → Feeds s₁ s₂ (head_bytes d)
+    → Feeds s₂ s₃ (flat_map (arc_bytes d) (arcs d.graph)) → Feeds s₃ s₄ (leader_bytes d) → Feeds s₄ s₅ (time_bytes d) → Feeds s₅ s₆ (joined d.hashlocks)
+    → Feeds s₆ s₇ (key_bytes d.mode d.keys) → Holds256 s₇ (6 ∷ deal_bytes d)
 unfolding deal_bytes
 deal_fed d s₀ s₁ s₂ s₃ s₄ s₅ s₆ s₇ empty kind head each leaders times hashlocks keys =
     feeds_both s₀ s₁ s₇ (6 ∷ []) _ kind

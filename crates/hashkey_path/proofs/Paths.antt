@@ -1,5 +1,6 @@
 -- Facts on paths.
-use Rattle.std.proofs.Common.{◌≡◌, ℕ, zero, suc, ◌+◌, ◌-◌, ◌<◌, ◌≤◌, Bool, true, false, not, ◌&&◌, ◌||◌, ◌==◌, List, [], ◌∷◌, length, get_or, refl, ap, ◌∙◌, arith, nat_eq, nat_lt, ltb-true, eqb-true, eqb}
+use Rattle.std.proofs.Common.{◌≡◌, ℕ, zero, suc, ◌+◌, ◌-◌, ◌<◌, ◌≤◌, Bool, true, false, not, ◌&&◌, ◌||◌, ◌==◌, List, [], ◌∷◌, length, get_or, refl, ap}
+use Rattle.std.proofs.Common.{◌∙◌, arith, nat_eq, nat_lt, ltb-true, eqb-true, eqb}
 use Rattle.std.proofs.lemmas.Bool.{not-true, not-false, false_from_ne_true}
 use Rattle.std.proofs.lemmas.Map.Steps.{length-le_from_distinct_below}
 use Rattle.std.specs.Prelude.{All}
@@ -93,7 +94,9 @@ path_fits g p h =
 pub right_path_fits : (m : Mode) (d : Deal) (a : ℕ) (key : Hashkey) → m ≡ Hashkeys → is_wrong_path d a m key ≡ false → FitsGraph d.graph key.path
 right_path_fits Timelocks d a key e h = absurd (cc e)
 right_path_fits Hashkeys d a key e h =
-    let one = and_parts (is_path d.graph key.path && first_is (counterparty d a) key.path && last_is (leader_of d key.lock) key.path) (length key.path == length key.sigs) (not-false _ h) in
+    let one =
+    and_parts (is_path d.graph key.path && first_is (counterparty d a) key.path && last_is (leader_of d key.lock) key.path)
+    (length key.path == length key.sigs) (not-false _ h) in
     let two = and_parts (is_path d.graph key.path && first_is (counterparty d a) key.path) (last_is (leader_of d key.lock) key.path) one.0 in
     let three = and_parts (is_path d.graph key.path) (first_is (counterparty d a) key.path) two.0 in
     path_fits d.graph key.path three.0

@@ -1,5 +1,6 @@
 -- Where the hashkeys that a party makes are valid.
-use Rattle.std.proofs.Common.{◌≡◌, ℕ, zero, suc, ◌<◌, true, false, ◌&&◌, ◌==◌, not, nat_lt, IsTrue, List, [], ◌∷◌, length, get_or, Bool, refl, sym, ap, ◌∙◌, arith, eq-eqb, eqb-true, lt-ltb}
+use Rattle.std.proofs.Common.{◌≡◌, ℕ, zero, suc, ◌<◌, true, false, ◌&&◌, ◌==◌, not, nat_lt, IsTrue, List, [], ◌∷◌, length, get_or, Bool, refl, sym, ap}
+use Rattle.std.proofs.Common.{◌∙◌, arith, eq-eqb, eqb-true, lt-ltb}
 use Rattle.std.proofs.lemmas.Bool.{not-true}
 use Rattle.std.specs.Prelude.{◌||◌}
 use Rattle.std.specs.List.{list_any}
@@ -19,16 +20,23 @@ use Rattle.hashkey_path.specs.Signed.{suffix_signature, leaders_key, extended_ke
 use Rattle.hashkey_path.proofs.Validity.{SignsEach, signed_both, each_from_none, none_from_each}
 
 -- a signature of the deal's key for the party is the right one at its place
-pub signed_by : (d : Deal) (lock : ℕ) (secret : List ℕ) (party : ℕ) (seed rest : List ℕ) (inner : List Sig) → key_of d party lock ≡ public_key_of seed party lock → IsTrue (is_valid_signature (public_key_of seed party lock) (message_of d.id lock (party ∷ rest) secret inner) (suffix_signature d lock secret party seed rest inner)) → is_signed d lock secret party rest (suffix_signature d lock secret party seed rest inner) inner ≡ true
+pub signed_by : (d : Deal) (lock : ℕ) (secret : List ℕ) (party : ℕ) (seed rest : List ℕ) (inner : List Sig)
+    → key_of d party lock ≡ public_key_of seed party lock
+    → IsTrue (is_valid_signature (public_key_of seed party lock) (message_of d.id lock (party ∷ rest) secret inner)
+    (suffix_signature d lock secret party seed rest inner))
+    → is_signed d lock secret party rest (suffix_signature d lock secret party seed rest inner) inner ≡ true
 unfolding is_signed
 signed_by d lock secret party seed rest inner key valid =
-    ap (λ (public : List ℕ). is_valid_signature public (message_of d.id lock (party ∷ rest) secret inner) (suffix_signature d lock secret party seed rest inner)) key ∙ valid
+    ap (λ (public : List ℕ). is_valid_signature public (message_of d.id lock (party ∷ rest) secret inner)
+    (suffix_signature d lock secret party seed rest inner)) key ∙ valid
 
 -- one signature more before right ones
-pub one_more : (d : Deal) (lock : ℕ) (secret : List ℕ) (v : ℕ) (rest : List ℕ) (s : Sig) (inner : List Sig) → is_signed d lock secret v rest s inner ≡ true → SignsEach d lock secret rest inner → SignsEach d lock secret (v ∷ rest) (s ∷ inner)
+pub one_more : (d : Deal) (lock : ℕ) (secret : List ℕ) (v : ℕ) (rest : List ℕ) (s : Sig) (inner : List Sig)
+    → is_signed d lock secret v rest s inner ≡ true → SignsEach d lock secret rest inner → SignsEach d lock secret (v ∷ rest) (s ∷ inner)
 one_more d lock secret v rest s inner signed each =
     each_from_none d lock secret (v ∷ rest) (s ∷ inner)
-    (signed_both (is_signed d lock secret v rest s inner) (wrong_signature 1 d lock secret rest inner) 0 signed (none_from_each 1 d lock secret rest inner each))
+    (signed_both (is_signed d lock secret v rest s inner) (wrong_signature 1 d lock secret rest inner) 0 signed
+    (none_from_each 1 d lock secret rest inner each))
 
 has_path_in : (m : Mode) (d : Deal) (a : ℕ) (key : Hashkey) → m ≡ Hashkeys → HasPath Hashkeys d a key → HasPath m d a key
 has_path_in Hashkeys d a key e h = h
@@ -47,7 +55,9 @@ same_leader (w ∷ leaders) (suc i) n v lt e = same_leader leaders i n v lt e
 is_self : (u v : ℕ) → u ≡ v → (u == v) ≡ true
 is_self u v e = eq-eqb u v e
 
-pub first_is_valid : (d : Deal) (lock : ℕ) (secret : List ℕ) (party : ℕ) (seed : List ℕ) → party < d.graph.n → IsLeadersOwn d lock secret party seed → IsTrue (is_valid_signature (public_key_of seed party lock) (message_of d.id lock (party ∷ []) secret []) (suffix_signature d lock secret party seed [] [])) → IsValidInto d party (hashlock_of d lock) (leaders_key d lock secret party seed)
+pub first_is_valid : (d : Deal) (lock : ℕ) (secret : List ℕ) (party : ℕ) (seed : List ℕ) → party < d.graph.n → IsLeadersOwn d lock secret party seed
+    → IsTrue (is_valid_signature (public_key_of seed party lock) (message_of d.id lock (party ∷ []) secret [])
+    (suffix_signature d lock secret party seed [] [])) → IsValidInto d party (hashlock_of d lock) (leaders_key d lock secret party seed)
 first_is_valid d lock secret party seed lt own valid a in_range enters =
     let leader : party ≡ leader_of d lock = sym (same_leader d.leaders lock d.graph.n party lt own.leads) in
     record {
@@ -55,17 +65,27 @@ first_is_valid d lock secret party seed lt own valid a in_range enters =
       path = has_path_in d.mode d a (leaders_key d lock secret party seed) own.mode (
         (lt-ltb party d.graph.n lt, is_self party (counterparty d a) (sym enters), is_self party (leader_of d lock) leader),
         refl,
-        one_more d lock secret party [] (suffix_signature d lock secret party seed [] []) [] (signed_by d lock secret party seed [] [] own.key valid) (each_from_none d lock secret [] [] refl),
+        one_more d lock secret party [] (suffix_signature d lock secret party seed [] []) [] (signed_by d lock secret party seed [] [] own.key valid)
+            (each_from_none d lock secret [] [] refl),
       );
     }
 
 -- a vertex that isn't on a path, with an arc to its first vertex, goes before it
-pub longer_path : (g : Graph) (u w v : ℕ) (p : List ℕ) → u < g.n → is_among u p ≡ false → has_arc g u (get_or p 0 0) ≡ true → IsPathBetween g w v p → IsPathBetween g u v (u ∷ p)
+pub longer_path : (g : Graph) (u w v : ℕ) (p : List ℕ) → u < g.n → is_among u p ≡ false → has_arc g u (get_or p 0 0) ≡ true → IsPathBetween g w v p
+    → IsPathBetween g u v (u ∷ p)
 longer_path g u w v [] lt apart arc h = absurd (cc h.0)
-longer_path g u w v (x ∷ p) lt apart arc h =
-    (and_both (nat_lt u g.n && not (is_among u (x ∷ p)) && has_arc g u x) (is_path g (x ∷ p)) (and_both (nat_lt u g.n && not (is_among u (x ∷ p))) (has_arc g u x) (and_both (nat_lt u g.n) (not (is_among u (x ∷ p))) (lt-ltb u g.n lt) (ap not apart)) arc) h.0, is_self u u refl, h.2)
+longer_path g u w v (x ∷ p) lt apart arc h = (
+  and_both (nat_lt u g.n && not (is_among u (x ∷ p)) && has_arc g u x) (is_path g (x ∷ p))
+      (and_both (nat_lt u g.n && not (is_among u (x ∷ p))) (has_arc g u x)
+      (and_both (nat_lt u g.n) (not (is_among u (x ∷ p))) (lt-ltb u g.n lt) (ap not apart)) arc) h.0,
+  is_self u u refl,
+  h.2,
+)
 
-pub extended_is_valid : (d : Deal) (inner : Hashkey) (party : ℕ) (seed : List ℕ) (b : ℕ) (hashlock : List ℕ) → party < d.graph.n → IsValidHashkey d b hashlock inner → CanExtend d inner party seed → IsTrue (is_valid_signature (public_key_of seed party inner.lock) (message_of d.id inner.lock (party ∷ inner.path) inner.secret inner.sigs) (suffix_signature d inner.lock inner.secret party seed inner.path inner.sigs)) → IsValidInto d party hashlock (extended_key d inner party seed)
+pub extended_is_valid : (d : Deal) (inner : Hashkey) (party : ℕ) (seed : List ℕ) (b : ℕ) (hashlock : List ℕ) → party < d.graph.n
+    → IsValidHashkey d b hashlock inner → CanExtend d inner party seed
+    → IsTrue (is_valid_signature (public_key_of seed party inner.lock) (message_of d.id inner.lock (party ∷ inner.path) inner.secret inner.sigs)
+    (suffix_signature d inner.lock inner.secret party seed inner.path inner.sigs)) → IsValidInto d party hashlock (extended_key d inner party seed)
 extended_is_valid d inner party seed b hashlock lt right can valid a in_range enters =
     let h : HasPath Hashkeys d b inner = has_path_out d.mode d b inner can.mode right.path in
     let p = longer_path d.graph party (counterparty d b) (leader_of d inner.lock) inner.path lt (not-true (is_among party inner.path) can.apart) can.arc h.0 in
@@ -74,17 +94,24 @@ extended_is_valid d inner party seed b hashlock lt right can valid a in_range en
       path = has_path_in d.mode d a (extended_key d inner party seed) can.mode (
         (p.0, is_self party (counterparty d a) (sym enters), p.2),
         ap (λ (k : ℕ). suc k) h.1,
-        one_more d inner.lock inner.secret party inner.path (suffix_signature d inner.lock inner.secret party seed inner.path inner.sigs) inner.sigs (signed_by d inner.lock inner.secret party seed inner.path inner.sigs can.key valid) h.2,
+        one_more d inner.lock inner.secret party inner.path (suffix_signature d inner.lock inner.secret party seed inner.path inner.sigs) inner.sigs
+            (signed_by d inner.lock inner.secret party seed inner.path inner.sigs can.key valid) h.2,
       );
     }
 
 -- the signature of a key that is the party's for the lock, over lists that are known
-pub signed_as : (id : List ℕ) (lock : ℕ) (secret : List ℕ) (party : ℕ) (seed rest : List ℕ) (inner : List Sig) (p l : ℕ) (path : List ℕ) (sigs : List Sig) → p ≡ party → l ≡ lock → path ≡ party ∷ rest → sigs ≡ inner → IsTrue (is_valid_signature (public_key_of seed p l) (message_of id lock path secret sigs) (signature_of seed p l (message_of id lock path secret sigs))) → IsTrue (is_valid_signature (public_key_of seed party lock) (message_of id lock (party ∷ rest) secret inner) (signature_of seed party lock (message_of id lock (party ∷ rest) secret inner)))
+pub signed_as : (id : List ℕ) (lock : ℕ) (secret : List ℕ) (party : ℕ) (seed rest : List ℕ) (inner : List Sig) (p l : ℕ) (path : List ℕ)
+    (sigs : List Sig) → p ≡ party → l ≡ lock → path ≡ party ∷ rest → sigs ≡ inner
+    → IsTrue (is_valid_signature (public_key_of seed p l) (message_of id lock path secret sigs)
+    (signature_of seed p l (message_of id lock path secret sigs)))
+    → IsTrue (is_valid_signature (public_key_of seed party lock) (message_of id lock (party ∷ rest) secret inner)
+    (signature_of seed party lock (message_of id lock (party ∷ rest) secret inner)))
 signed_as id lock secret party seed rest inner p l path sigs e₁ e₂ e₃ e₄ h = rw (e₁, e₂, e₃, e₄) at h
 
 -- For the crates above: a hashkey that is valid on an arc leads on from the party that the arc leaves.
 
-ends_among : (u v : ℕ) (arcs : List ArcEnds) (a : ℕ) → a < length arcs → (ends_in arcs a).from ≡ u → (ends_in arcs a).to ≡ v → list_any (λ e. (e.from == u) && (e.to == v)) arcs ≡ true
+ends_among : (u v : ℕ) (arcs : List ArcEnds) (a : ℕ) → a < length arcs → (ends_in arcs a).from ≡ u → (ends_in arcs a).to ≡ v
+    → list_any (λ e. (e.from == u) && (e.to == v)) arcs ≡ true
 ends_among u v [] a lt from to = absurd (omega arith)
 ends_among u v (e ∷ arcs) zero lt from to =
     by_head (e.from == u) (e.to == v) (list_any (λ k. (k.from == u) && (k.to == v)) arcs) (is_self e.from u from) (is_self e.to v to)
@@ -101,7 +128,8 @@ first_vertex v [] h = absurd (cc h)
 first_vertex v (u ∷ p) h = sym (eqb-true u v h)
 
 -- the arc that CanExtend asks for, where the arc leaves the party that extends
-pub leads_on : (d : Deal) (b : ℕ) (hashlock : List ℕ) (key : Hashkey) → b < length d.graph.arcs → d.mode ≡ Hashkeys → IsValidHashkey d b hashlock key → has_arc d.graph (party d b) (get_or key.path 0 0) ≡ true
+pub leads_on : (d : Deal) (b : ℕ) (hashlock : List ℕ) (key : Hashkey) → b < length d.graph.arcs → d.mode ≡ Hashkeys → IsValidHashkey d b hashlock key
+    → has_arc d.graph (party d b) (get_or key.path 0 0) ≡ true
 leads_on d b hashlock key lt mode right =
     let h : HasPath Hashkeys d b key = has_path_out d.mode d b key mode right.path in
     ends_among (party d b) (get_or key.path 0 0) d.graph.arcs b lt refl (first_vertex (counterparty d b) key.path h.0.1)

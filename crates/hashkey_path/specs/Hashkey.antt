@@ -1,5 +1,6 @@
 -- What a hashkey is, and when it is valid on an arc.
-use Rattle.std.specs.Prelude.{◌≡◌, ◌==◌, ◌&&◌, ℕ, ◌+◌, Bool, true, false, not, IsTrue, List, [], ◌∷◌, ◌++◌, length, slice_index_or, Option, Some, None, if◌then◌else◌}
+use Rattle.std.specs.Prelude.{◌≡◌, ◌==◌, ◌&&◌, ℕ, ◌+◌, Bool, true, false, not, IsTrue, List, [], ◌∷◌, ◌++◌, length, slice_index_or, Option, Some, None}
+use Rattle.std.specs.Prelude.{if◌then◌else◌}
 use Rattle.std.specs.Str.{bytes_eq}
 use Rattle.sha2.specs.Sha256.{sha256}
 use Rattle.swap_base.specs.Lists.{same_list}
@@ -17,7 +18,9 @@ use Rattle.hashkey_path.specs.declared.hashkey.HashkeyAnswer.TheVariants.{Valid,
 
 -- whether two hashkeys have the same lock, secret, path and signatures
 abbrev pub same_key : Hashkey → Hashkey → Bool
-same_key k l = (k.lock == l.lock) && bytes_eq k.secret l.secret && same_list (λ x y. x == y) k.path l.path && same_list (λ s t. same_list bytes_eq s t) k.sigs l.sigs
+same_key k l =
+    (k.lock == l.lock) && bytes_eq k.secret l.secret && same_list (λ x y. x == y) k.path l.path
+    && same_list (λ s t. same_list bytes_eq s t) k.sigs l.sigs
 
 -- the public key of party p for lock i
 abbrev pub key_of : Deal → ℕ → ℕ → List ℕ
@@ -43,7 +46,8 @@ are_signed d lock secret _ _ = true
 
 -- the least place, counted from j, whose signature isn't that of its vertex over its suffix
 abbrev pub wrong_signature : ℕ → Deal → ℕ → List ℕ → List ℕ → List Sig → Option ℕ
-wrong_signature j d lock secret (v ∷ rest) (s ∷ inner) = if is_signed d lock secret v rest s inner then wrong_signature (j + 1) d lock secret rest inner else Some j
+wrong_signature j d lock secret (v ∷ rest) (s ∷ inner) =
+    if is_signed d lock secret v rest s inner then wrong_signature (j + 1) d lock secret rest inner else Some j
 wrong_signature j d lock secret _ _ = None
 
 abbrev pub is_wrong_secret : List ℕ → Hashkey → Bool
@@ -77,12 +81,15 @@ answer_of d a hashlock key =
 
 -- Each signature is that of its vertex over the suffix that begins there, all suffixes at once.
 abbrev pub SignsEachSuffix : Deal → Hashkey → Type 0
-SignsEachSuffix d key = (past rest : List ℕ) (v : ℕ) → key.path ≡ past ++ v ∷ rest → (before inner : List Sig) (s : Sig) → length before ≡ length past → key.sigs ≡ before ++ s ∷ inner → IsTrue (is_signed d key.lock key.secret v rest s inner)
+SignsEachSuffix d key =
+    (past rest : List ℕ) (v : ℕ) → key.path ≡ past ++ v ∷ rest → (before inner : List Sig) (s : Sig) → length before ≡ length past
+    → key.sigs ≡ before ++ s ∷ inner → IsTrue (is_signed d key.lock key.secret v rest s inner)
 
 -- The parts of a valid hashkey but for its secret, by mode.
 abbrev pub HasPath : Mode → Deal → ℕ → Hashkey → Type 0
 HasPath Timelocks d a key = (key.path ≡ []) × (key.sigs ≡ [])
-HasPath Hashkeys d a key = IsPathBetween d.graph (counterparty d a) (leader_of d key.lock) key.path × (length key.sigs ≡ length key.path) × SignsEachSuffix d key
+HasPath Hashkeys d a key =
+    IsPathBetween d.graph (counterparty d a) (leader_of d key.lock) key.path × (length key.sigs ≡ length key.path) × SignsEachSuffix d key
 
 -- A hashkey that is valid on arc a under the hashlock.
 pub record IsValidHashkey (d : Deal) (a : ℕ) (hashlock : List ℕ) (key : Hashkey) : Type 0 where

@@ -64,7 +64,8 @@ fn answer_of(
     }
 }
 
-/// Whether the hashkey is valid on the arc under the hashlock, or the first thing that is wrong with it. The last `known` signatures are known to be valid, and aren't verified: all are where it is at least their number. It takes no memory.
+/// Whether the hashkey is valid on the arc under the hashlock, or the first thing that is wrong with it. The last `known` signatures are known to be
+/// valid, and aren't verified: all are where it is at least their number. It takes no memory.
 pub fn check(
     deal: &Deal,
     arc: ArcId,

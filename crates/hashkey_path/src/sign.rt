@@ -128,7 +128,8 @@ pub fn extend(
     requires few { length inner.now.path < path_limit deal.now }
     requires paired { length inner.now.sigs ≡ length inner.now.path }
     ensures value { IfOk result (λ k. k ≡ extended_key deal.now inner.now party key.seed) }
-    ensures valid { IfOk result (λ k. (a : ℕ) (hashlock : List ℕ) → IsValidHashkey deal.now a hashlock inner.now → CanExtend deal.now inner.now party key.seed → IsValidInto deal.now party hashlock k) }
+    ensures valid { IfOk result (λ k. (a : ℕ) (hashlock : List ℕ) → IsValidHashkey deal.now a hashlock inner.now
+        → CanExtend deal.now inner.now party key.seed → IsValidInto deal.now party hashlock k) }
     ensures back { IfErr result (λ b. b.key ≡ key) }
 {
     match Unsigned::new(alloc, party, inner.path.as_slice(), inner.sigs.as_slice()) {

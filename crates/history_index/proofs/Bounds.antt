@@ -4,7 +4,8 @@ use Rattle.ledger_core.specs.declared.entry.Entry.{Entry}
 use Rattle.ledger_core.specs.History.{sent_by}
 use Rattle.history_index.specs.Numbers.{numbers_from, call_numbers}
 
-below_head : (b : Bool) (n len : ℕ) (ns : List ℕ) (d : ℕ) → ((k : ℕ) → k < length ns → get_or ns k d < n + 1 + len) → (k : ℕ) → k < length (cond b (n ∷ ns) ns) → get_or (cond b (n ∷ ns) ns) k d < n + suc len
+below_head : (b : Bool) (n len : ℕ) (ns : List ℕ) (d : ℕ) → ((k : ℕ) → k < length ns → get_or ns k d < n + 1 + len) → (k : ℕ)
+    → k < length (cond b (n ∷ ns) ns) → get_or (cond b (n ∷ ns) ns) k d < n + suc len
 below_head true n len ns d rest zero lt = omega arith
 below_head true n len ns d rest (suc k) lt = let m = rest k (omega arith) in omega arith
 below_head false n len ns d rest k lt = let m = rest k lt in omega arith

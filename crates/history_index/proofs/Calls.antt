@@ -1,5 +1,6 @@
 -- What may be asked of the calls of a list of entries in place of all its entries.
-use Rattle.std.proofs.Common.{◌≡◌, ℕ, zero, suc, ◌+◌, nat_lt, max, Bool, true, false, cond, not, ◌||◌, List, [], ◌∷◌, ◌++◌, length, take, count_by, Option, Some, None, is_some, option_map, refl, sym, ap, ◌∙◌, arith, length-append}
+use Rattle.std.proofs.Common.{◌≡◌, ℕ, zero, suc, ◌+◌, nat_lt, max, Bool, true, false, cond, not, ◌||◌, List, [], ◌∷◌, ◌++◌, length, take, count_by}
+use Rattle.std.proofs.Common.{Option, Some, None, is_some, option_map, refl, sym, ap, ◌∙◌, arith, length-append}
 use Rattle.std.proofs.lemmas.Bool.{false≢true}
 use Rattle.std.proofs.lemmas.List.{append_assoc}
 use Rattle.std.proofs.lemmas.List.Sums.{sum_by-cons}
@@ -18,7 +19,8 @@ use Rattle.history_index.specs.Made.{made_from, made_in}
 
 -- The number of the first answer says which prefixes hold it.
 
-place_head : (b : Bool) (k len : ℕ) → cond (nat_lt (cond (not b) (1 + k) 0) (suc len)) (Some (cond (not b) (1 + k) 0)) None ≡ cond b (Some 0) (option_map (λ i. suc i) (cond (nat_lt k len) (Some k) None))
+place_head : (b : Bool) (k len : ℕ) → cond (nat_lt (cond (not b) (1 + k) 0) (suc len)) (Some (cond (not b) (1 + k) 0)) None
+    ≡ cond b (Some 0) (option_map (λ i. suc i) (cond (nat_lt k len) (Some k) None))
 place_head true k len = grind arith
 place_head false k len = go (nat_lt k len) refl
   where
@@ -37,7 +39,8 @@ before_none : (o : Option ℕ) → is_before o 0 ≡ false
 before_none None = refl
 before_none (Some k) = grind arith
 
-before_head : {B : Type 0} (o r : Option B) (k : Option ℕ) (n : ℕ) → is_some r ≡ is_before k n → is_some (or_else o r) ≡ is_before (cond (is_some o) (Some 0) (option_map (λ i. suc i) k)) (suc n)
+before_head : {B : Type 0} (o r : Option B) (k : Option ℕ) (n : ℕ) → is_some r ≡ is_before k n
+    → is_some (or_else o r) ≡ is_before (cond (is_some o) (Some 0) (option_map (λ i. suc i) k)) (suc n)
 before_head None r k n h = h ∙ sym (before_next k n)
 before_head (Some x) r k n h = grind arith
 
@@ -45,7 +48,8 @@ pub some_before : {A B : Type 0} (f : A → Option B) (xs : List A) (n : ℕ) �
 some_before f xs zero = sym (before_none (position (λ x. is_some (f x)) xs))
 some_before f [] (suc n) = refl
 some_before f (x ∷ xs) (suc n) =
-    before_head (f x) (first_of f (take n xs)) (position (λ y. is_some (f y)) xs) n (some_before f xs n) ∙ ap (λ o. is_before o (suc n)) (sym (position_head (λ y. is_some (f y)) x xs))
+    before_head (f x) (first_of f (take n xs)) (position (λ y. is_some (f y)) xs) n (some_before f xs n)
+    ∙ ap (λ o. is_before o (suc n)) (sym (position_head (λ y. is_some (f y)) x xs))
 
 -- a prefix holds the accepted publish where its number is below the prefix's length
 pub published_before : (h : List Entry) (n : ℕ) → is_some (published (take n h)) ≡ is_before (published_number h) n
@@ -55,7 +59,8 @@ published_before h n = some_before (λ e. publication e.height (accepted e)) h n
 pub open_before : (h : List Entry) (i n : ℕ) → is_open (take n h) i ≡ is_before (opened_number h i) n
 open_before h i n = some_before (λ e. opening i e.height (accepted e)) h n
 
-some_head : {B : Type 0} (o r : Option B) (k : Option ℕ) → is_some r ≡ is_some k → is_some (or_else o r) ≡ is_some (cond (is_some o) (Some 0) (option_map (λ i. suc i) k))
+some_head : {B : Type 0} (o r : Option B) (k : Option ℕ) → is_some r ≡ is_some k
+    → is_some (or_else o r) ≡ is_some (cond (is_some o) (Some 0) (option_map (λ i. suc i) k))
 some_head None r None h = h
 some_head None r (Some k) h = h
 some_head (Some x) r k h = refl
@@ -72,7 +77,8 @@ abbrev pub SaysNothing : {B : Type 0} → B → (Entry → B) → Type 0
 SaysNothing d f = (e : Entry) (k : ℕ) → e.what ≡ Tick k → f e ≡ d
 
 -- a step of a recursion over the entries, which a tick leaves as it is
-step_made : {B : Type 0} (w : What) (m : Made) (n : ℕ) (h : List Entry) (g : List Made → B) (all rest : B) → ((k : ℕ) → w ≡ Tick k → all ≡ rest) → rest ≡ g (made_from n h) → (all ≡ g (m ∷ made_from n h)) → all ≡ g (cond (is_call w) (m ∷ made_from n h) (made_from n h))
+step_made : {B : Type 0} (w : What) (m : Made) (n : ℕ) (h : List Entry) (g : List Made → B) (all rest : B) → ((k : ℕ) → w ≡ Tick k → all ≡ rest)
+    → rest ≡ g (made_from n h) → (all ≡ g (m ∷ made_from n h)) → all ≡ g (cond (is_call w) (m ∷ made_from n h) (made_from n h))
 step_made (Call c) m n h g all rest tick e call = call
 step_made (Tick k) m n h g all rest tick e call = tick k refl ∙ e
 
@@ -80,7 +86,8 @@ any_from : (f : Entry → Bool) (n : ℕ) (h : List Entry) → SaysNothing false
 any_from f n [] s = refl
 any_from f n (e ∷ h) s =
     let rest = any_from f (n + 1) h s in
-    step_made e.what (record { number = n; entry = e }) (n + 1) h (λ ms. list_any (λ m. f m.entry) ms) _ _ (λ k w. ap (λ b. b || list_any f h) (s e k w)) rest (ap (λ b. f e || b) rest)
+    step_made e.what (record { number = n; entry = e }) (n + 1) h (λ ms. list_any (λ m. f m.entry) ms) _ _ (λ k w.
+    ap (λ b. b || list_any f h) (s e k w)) rest (ap (λ b. f e || b) rest)
 
 pub any_made : (f : Entry → Bool) (h : List Entry) → SaysNothing false f → list_any f h ≡ list_any (λ m. f m.entry) (made_in h)
 any_made f h s = any_from f 0 h s
@@ -89,7 +96,8 @@ first_from : {B : Type 0} (f : Entry → Option B) (n : ℕ) (h : List Entry) �
 first_from f n [] s = refl
 first_from f n (e ∷ h) s =
     let rest = first_from f (n + 1) h s in
-    step_made e.what (record { number = n; entry = e }) (n + 1) h (λ ms. first_of (λ m. f m.entry) ms) _ _ (λ k w. ap (λ o. or_else o (first_of f h)) (s e k w)) rest (ap (λ o. or_else (f e) o) rest)
+    step_made e.what (record { number = n; entry = e }) (n + 1) h (λ ms. first_of (λ m. f m.entry) ms) _ _ (λ k w.
+    ap (λ o. or_else o (first_of f h)) (s e k w)) rest (ap (λ o. or_else (f e) o) rest)
 
 pub first_made : {B : Type 0} (f : Entry → Option B) (h : List Entry) → SaysNothing None f → first_of f h ≡ first_of (λ m. f m.entry) (made_in h)
 first_made f h s = first_from f 0 h s
@@ -113,16 +121,19 @@ greatest_from : (f : Entry → ℕ) (n : ℕ) (h : List Entry) → SaysNothing 0
 greatest_from f n [] s = refl
 greatest_from f n (e ∷ h) s =
     let rest = greatest_from f (n + 1) h s in
-    step_made e.what (record { number = n; entry = e }) (n + 1) h (λ ms. greatest (λ m. f m.entry) ms) _ _ (λ k w. ap (λ z. max z (greatest f h)) (s e k w) ∙ omega arith) rest (ap (λ z. max (f e) z) rest)
+    step_made e.what (record { number = n; entry = e }) (n + 1) h (λ ms. greatest (λ m. f m.entry) ms) _ _ (λ k w.
+    ap (λ z. max z (greatest f h)) (s e k w) ∙ omega arith) rest (ap (λ z. max (f e) z) rest)
 
 pub greatest_made : (f : Entry → ℕ) (h : List Entry) → SaysNothing 0 f → greatest f h ≡ greatest (λ m. f m.entry) (made_in h)
 greatest_made f h s = greatest_from f 0 h s
 
-filter_map_from : {B : Type 0} (f : Entry → Option B) (n : ℕ) (h : List Entry) → SaysNothing None f → filter_map f h ≡ filter_map (λ m. f m.entry) (made_from n h)
+filter_map_from : {B : Type 0} (f : Entry → Option B) (n : ℕ) (h : List Entry) → SaysNothing None f
+    → filter_map f h ≡ filter_map (λ m. f m.entry) (made_from n h)
 filter_map_from f n [] s = refl
 filter_map_from f n (e ∷ h) s =
     let rest = filter_map_from f (n + 1) h s in
-    step_made e.what (record { number = n; entry = e }) (n + 1) h (λ ms. filter_map (λ m. f m.entry) ms) _ _ (λ k w. ap (λ o. cons_option o (filter_map f h)) (s e k w)) rest (ap (λ l. cons_option (f e) l) rest)
+    step_made e.what (record { number = n; entry = e }) (n + 1) h (λ ms. filter_map (λ m. f m.entry) ms) _ _ (λ k w.
+    ap (λ o. cons_option o (filter_map f h)) (s e k w)) rest (ap (λ l. cons_option (f e) l) rest)
 
 pub filter_map_made : {B : Type 0} (f : Entry → Option B) (h : List Entry) → SaysNothing None f → filter_map f h ≡ filter_map (λ m. f m.entry) (made_in h)
 filter_map_made f h s = filter_map_from f 0 h s
@@ -137,8 +148,10 @@ take_past : (past : List Entry) (h : List Entry) → take (length past) (past ++
 take_past [] h = refl
 take_past (x ∷ past) h = ap (λ l. x ∷ l) (take_past past h)
 
-failing_from : {B : Type 0} (test : Moment Entry → Bool) (say : ℕ → B) (whole past h : List Entry) (n : ℕ) → ((m : Moment Entry) (k : ℕ) → m.now.what ≡ Tick k → test m ≡ true) → whole ≡ past ++ h → n ≡ length past
-    → filter_map (λ m. cond (test m) None (Some (say (length m.past)))) (moments_after past h) ≡ filter_map (λ m. cond (test (moment_of whole m)) None (Some (say m.number))) (made_from n h)
+failing_from : {B : Type 0} (test : Moment Entry → Bool) (say : ℕ → B) (whole past h : List Entry) (n : ℕ)
+    → ((m : Moment Entry) (k : ℕ) → m.now.what ≡ Tick k → test m ≡ true) → whole ≡ past ++ h → n ≡ length past
+    → filter_map (λ m. cond (test m) None (Some (say (length m.past)))) (moments_after past h)
+    ≡ filter_map (λ m. cond (test (moment_of whole m)) None (Some (say m.number))) (made_from n h)
 failing_from test say whole past [] n s ew en = refl
 failing_from test say whole past (e ∷ h) n s ew en =
     let m : Made = record { number = n; entry = e } in
@@ -150,14 +163,16 @@ failing_from test say whole past (e ∷ h) n s ew en =
     let here : cond (test now) None (Some (say (length past))) ≡ cond (test (moment_of whole m)) None (Some (say n)) =
     ap (λ k. cond (test now) None (Some (say k))) (sym en) ∙ ap (λ p. cond (test (record { past = p; now = e })) None (Some (say n))) (sym before) in
     step_made e.what m (n + 1) h (λ ms. filter_map (λ x. cond (test (moment_of whole x)) None (Some (say x.number))) ms) _ _
-    (λ k w. ap (λ b. cons_option (cond b None (Some (say (length past)))) (filter_map (λ x. cond (test x) None (Some (say (length x.past)))) (moments_after (past ++ e ∷ []) h))) (s now k w))
+    (λ k w. ap (λ b. cons_option (cond b None (Some (say (length past))))
+    (filter_map (λ x. cond (test x) None (Some (say (length x.past)))) (moments_after (past ++ e ∷ []) h))) (s now k w))
     rest
     (ap (λ o. cons_option o (filter_map (λ x. cond (test x) None (Some (say (length x.past)))) (moments_after (past ++ e ∷ []) h))) here
     ∙ ap (λ l. cons_option (cond (test (moment_of whole m)) None (Some (say n))) l) rest)
 
 -- where a test passes at every tick, what is said of each entry that fails it is said of calls
 pub failing_made : {B : Type 0} (test : Moment Entry → Bool) (say : ℕ → B) (h : List Entry) → ((m : Moment Entry) (k : ℕ) → m.now.what ≡ Tick k → test m ≡ true)
-    → filter_map (λ m. cond (test m) None (Some (say (length m.past)))) (moments h) ≡ filter_map (λ m. cond (test (moment_of h m)) None (Some (say m.number))) (made_in h)
+    → filter_map (λ m. cond (test m) None (Some (say (length m.past)))) (moments h)
+    ≡ filter_map (λ m. cond (test (moment_of h m)) None (Some (say m.number))) (made_in h)
 failing_made test say h s = failing_from test say h [] h 0 s refl refl
 
 -- The accepted unlock.

@@ -1,5 +1,6 @@
 -- Every legal history is one that an index takes.
-use Rattle.std.proofs.Common.{◌≡◌, ℕ, ◌+◌, ◌<◌, Bool, true, false, cond, List, [], ◌∷◌, ◌++◌, length, get_or, take, drop, refl, sym, ap, ◌∙◌, subst, arith, lt-ltb, take-append-drop}
+use Rattle.std.proofs.Common.{◌≡◌, ℕ, ◌+◌, ◌<◌, Bool, true, false, cond, List, [], ◌∷◌, ◌++◌, length, get_or, take, drop, refl, sym, ap, ◌∙◌, subst}
+use Rattle.std.proofs.Common.{arith, lt-ltb, take-append-drop}
 use Rattle.std.proofs.lemmas.List.{take_more}
 use Rattle.std.proofs.lemmas.List.Sums.{sum_by-cons}
 use Rattle.swap_base.proofs.Lists.{list_all-from, moment_from_in, at_moment, all_moments_front}
@@ -23,7 +24,8 @@ one_more false n xs m e = omega arith
 length-numbers : (n p : ℕ) (h : List Entry) → length (numbers_from n p h) ≡ calls_of p h
 length-numbers n p [] = refl
 length-numbers n p (e ∷ h) =
-    one_more (sent_by p e.sender) n (numbers_from (n + 1) p h) (calls_of p h) (length-numbers (n + 1) p h) ∙ sym (sum_by-cons (λ x. cond (sent_by p x.sender) 1 0) e h)
+    one_more (sent_by p e.sender) n (numbers_from (n + 1) p h) (calls_of p h) (length-numbers (n + 1) p h)
+    ∙ sym (sum_by-cons (λ x. cond (sent_by p x.sender) 1 0) e h)
 
 module _ (d : Deal) (a : ℕ) where
   among : (past : List Entry) (s : Sender) (w : What) (at : ℕ) (r : _) → IsLegalEntry d a past s w at r → comes_from (party d a) (counterparty d a) s w ≡ true
@@ -60,7 +62,9 @@ module _ (d : Deal) (a : ℕ) where
   front_indexable xs ys s l = indexable xs s (all_moments_front (IsLegalMoment d a) xs ys l)
 
   -- the entries of one up to place i
-  pub next_indexable : (h : List Entry) (i : ℕ) (x : Entry) → IsWellSized d → IsLegal d a h → i < length h → x ≡ get_or h i x → IsIndexable (party d a) (counterparty d a) (take i h ++ x ∷ [])
+  pub next_indexable : (h : List Entry) (i : ℕ) (x : Entry) → IsWellSized d → IsLegal d a h → i < length h → x ≡ get_or h i x
+      → IsIndexable (party d a) (counterparty d a) (take i h ++ x ∷ [])
   next_indexable h i x s l lt e =
       let front : take i h ++ x ∷ [] ≡ take (i + 1) h = ap (λ z. take i h ++ z ∷ []) e ∙ sym (take_more h i x lt) in
-      subst (IsIndexable (party d a) (counterparty d a)) (sym front) (front_indexable (take (i + 1) h) (drop (i + 1) h) s (subst (IsLegal d a) (sym (take-append-drop (i + 1) h)) l))
+      subst (IsIndexable (party d a) (counterparty d a)) (sym front)
+      (front_indexable (take (i + 1) h) (drop (i + 1) h) s (subst (IsLegal d a) (sym (take-append-drop (i + 1) h)) l))

@@ -1,5 +1,7 @@
 -- What is kept beside a list of entries stays what its scans give, entry by entry.
-use Rattle.std.proofs.Common.{◌≡◌, ℕ, ◌+◌, ◌-◌, ◌<◌, ◌≤◌, ◌==◌, nat_lt, Bool, true, false, cond, not, ◌&&◌, ◌||◌, IsTrue, List, [], ◌∷◌, ◌++◌, length, Option, Some, None, is_some, option_map, slice_set, slice_index_or, refl, sym, ap, ap₂, ◌∙◌, subst, arith, eqb-true, eq-eqb, ltb-true, length-append}
+use Rattle.std.proofs.Common.{◌≡◌, ℕ, ◌+◌, ◌-◌, ◌<◌, ◌≤◌, ◌==◌, nat_lt, Bool, true, false, cond, not, ◌&&◌, ◌||◌, IsTrue, List, [], ◌∷◌, ◌++◌, length}
+use Rattle.std.proofs.Common.{Option, Some, None, is_some, option_map, slice_set, slice_index_or, refl, sym, ap, ap₂, ◌∙◌, subst, arith, eqb-true}
+use Rattle.std.proofs.Common.{eq-eqb, ltb-true, length-append}
 use Rattle.std.specs.Prelude.{position}
 use Rattle.std.specs.List.{list_all, position_or_len}
 use Rattle.std.proofs.lemmas.Bool.{false≢true}
@@ -57,7 +59,8 @@ cond_front : (b : Bool) (n : ℕ) (xs ys zs : List ℕ) → xs ≡ ys ++ zs → 
 cond_front true n xs ys zs e = ap (λ l. n ∷ l) e
 cond_front false n xs ys zs e = e
 
-pub numbers_push : (n p : ℕ) (h : List Entry) (e : Entry) → numbers_from n p (h ++ e ∷ []) ≡ numbers_from n p h ++ number_where (sent_by p e.sender) (n + length h)
+pub numbers_push : (n p : ℕ) (h : List Entry) (e : Entry)
+    → numbers_from n p (h ++ e ∷ []) ≡ numbers_from n p h ++ number_where (sent_by p e.sender) (n + length h)
 numbers_push n p [] e = go (sent_by p e.sender)
   where
     go : (b : Bool) → cond b (n ∷ []) [] ≡ number_where b (n + 0)
@@ -75,18 +78,23 @@ call_numbers_push p h e =
 
 -- The kinds of call.
 
-has_call_push : (p : ℕ) (k : CallKind) (h : List Entry) (e : Entry) → has_call p k (h ++ e ∷ []) ≡ (has_call p k h || cond (sent_by p e.sender) (is_of_kind k e.what) false)
+has_call_push : (p : ℕ) (k : CallKind) (h : List Entry) (e : Entry)
+    → has_call p k (h ++ e ∷ []) ≡ (has_call p k h || cond (sent_by p e.sender) (is_of_kind k e.what) false)
 has_call_push p k h e =
-    list_any-append (λ x. cond (sent_by p x.sender) (is_of_kind k x.what) false) h (e ∷ []) ∙ ap (λ b. has_call p k h || b) (or-false (cond (sent_by p e.sender) (is_of_kind k e.what) false))
+    list_any-append (λ x. cond (sent_by p x.sender) (is_of_kind k x.what) false) h (e ∷ [])
+    ∙ ap (λ b. has_call p k h || b) (or-false (cond (sent_by p e.sender) (is_of_kind k e.what) false))
 
 lock_set : (xs : List Bool) (l i : ℕ) → l < length xs → slice_index_or (slice_set xs l true) i false ≡ (slice_index_or xs i false || (l == i))
 lock_set xs l i lt = go (l == i) refl
   where
     go : (b : Bool) → (l == i) ≡ b → slice_index_or (slice_set xs l true) i false ≡ (slice_index_or xs i false || b)
-    go true e = subst (λ j. slice_index_or (slice_set xs l true) j false ≡ (slice_index_or xs j false || true)) (eqb-true l i e) (get_or-set_same xs l true false lt ∙ sym (or-true (slice_index_or xs l false)))
+    go true e =
+        subst (λ j. slice_index_or (slice_set xs l true) j false ≡ (slice_index_or xs j false || true)) (eqb-true l i e)
+        (get_or-set_same xs l true false lt ∙ sym (or-true (slice_index_or xs l false)))
     go false e = get_or-set_other xs l i true false (λ k. false≢true (sym e ∙ eq-eqb l i (sym k))) ∙ sym (or-false (slice_index_or xs i false))
 
-kind_set : (ks : Kinds) (w : What) (k : CallKind) → length ks.unlock ≡ 8 → IsTrue (names_lock w) → has_kind (with_call ks w) k ≡ (has_kind ks k || is_of_kind k w)
+kind_set : (ks : Kinds) (w : What) (k : CallKind) → length ks.unlock ≡ 8 → IsTrue (names_lock w)
+    → has_kind (with_call ks w) k ≡ (has_kind ks k || is_of_kind k w)
 kind_set ks (Made (calls.Publish t)) Publish n l = sym (or-true ks.publish)
 kind_set ks (Made (calls.Unlock key)) (Unlock i) n l = let lt : key.lock < 8 = ltb-true key.lock 8 l in lock_set ks.unlock key.lock i (omega arith)
 kind_set ks (Made calls.Claim) Claim n l = sym (or-true ks.claim)
@@ -109,14 +117,17 @@ places_set ks (Made calls.Refund) = refl
 places_set ks (Made (calls.Transfer to units)) = refl
 places_set ks (Tick m) = refl
 
-pub calls_push : (p : ℕ) (h : List Entry) (e : Entry) (ns : List ℕ) (ks : Kinds) → IsTrue (names_lock e.what) → AreCalls p h ns ks → AreCalls p (h ++ e ∷ []) (numbers_after (length h) p e ns) (kinds_after p e ks)
+pub calls_push : (p : ℕ) (h : List Entry) (e : Entry) (ns : List ℕ) (ks : Kinds) → IsTrue (names_lock e.what) → AreCalls p h ns ks
+    → AreCalls p (h ++ e ∷ []) (numbers_after (length h) p e ns) (kinds_after p e ks)
 calls_push p h e ns ks l a = go (sent_by p e.sender) refl
   where
     go : (b : Bool) → sent_by p e.sender ≡ b → AreCalls p (h ++ e ∷ []) (cond b (ns ++ length h ∷ []) ns) (cond b (with_call ks e.what) ks)
     go true s = record {
       numbers = ap (λ xs. xs ++ length h ∷ []) a.numbers ∙ sym (call_numbers_push p h e ∙ ap (λ b. call_numbers p h ++ number_where b (length h)) s);
       places = places_set ks e.what ∙ a.places;
-      kinds = λ k. kind_set ks e.what k a.places l ∙ (ap (λ b. b || is_of_kind k e.what) (a.kinds k) ∙ sym (has_call_push p k h e ∙ ap (λ b. has_call p k h || cond b (is_of_kind k e.what) false) s));
+      kinds =
+          λ k. kind_set ks e.what k a.places l ∙ (ap (λ b. b || is_of_kind k e.what) (a.kinds k)
+          ∙ sym (has_call_push p k h e ∙ ap (λ b. has_call p k h || cond b (is_of_kind k e.what) false) s));
     }
     go false s = record {
       numbers = a.numbers ∙ sym (call_numbers_push p h e ∙ (ap (λ b. call_numbers p h ++ number_where b (length h)) s ∙ append-nil (call_numbers p h)));
@@ -133,35 +144,50 @@ map_or_else : {B C : Type 0} (g : B → C) (o r : Option B) → option_map g (or
 map_or_else g None r = refl
 map_or_else g (Some x) r = refl
 
-place_push : (n len : ℕ) (b : Bool) → n ≤ len → cond (nat_lt (cond (n == len) (len + cond b 0 1) n) (len + 1)) (Some (cond (n == len) (len + cond b 0 1) n)) None ≡ or_else (cond (nat_lt n len) (Some n) None) (cond b (Some len) None)
+place_push : (n len : ℕ) (b : Bool) → n ≤ len
+    → cond (nat_lt (cond (n == len) (len + cond b 0 1) n) (len + 1)) (Some (cond (n == len) (len + cond b 0 1) n)) None
+    ≡ or_else (cond (nat_lt n len) (Some n) None) (cond b (Some len) None)
 place_push n len b le = grind arith
 
 position_push : {X : Type 0} (p : X → Bool) (xs : List X) (y : X) → position p (xs ++ y ∷ []) ≡ or_else (position p xs) (cond (p y) (Some (length xs)) None)
 position_push p xs y =
-    ap₂ (λ n len. cond (nat_lt n len) (Some n) None) (position_or_len_push p xs y) (length-append xs (y ∷ [])) ∙ place_push (position_or_len p xs) (length xs) (p y) (prefix_len-le-length (λ x. not (p x)) xs)
+    ap₂ (λ n len. cond (nat_lt n len) (Some n) None) (position_or_len_push p xs y) (length-append xs (y ∷ []))
+    ∙ place_push (position_or_len p xs) (length xs) (p y) (prefix_len-le-length (λ x. not (p x)) xs)
 
 accepted_lock : (w : What) (r : Reply) (key : Hashkey) → IsTrue (names_lock w) → accepted_in w r ≡ Some (calls.Unlock key) → key.lock < 8
 accepted_lock (Made (calls.Unlock k)) Accepted key l e = let same : k ≡ key = cc in subst (λ x. x.lock < 8) same (ltb-true k.lock 8 l)
 accepted_lock (Made c) Accepted key l e = absurd (cc e)
 accepted_lock _ _ key l e = absurd (cc e)
 
-opening_set : (us : List (Option ℕ)) (n i t : ℕ) (o : Option Call) → ((key : Hashkey) → o ≡ Some (calls.Unlock key) → key.lock < length us) → slice_index_or (with_opening us n o) i None ≡ or_else (slice_index_or us i None) (cond (is_some (opening i t o)) (Some n) None)
+opening_set : (us : List (Option ℕ)) (n i t : ℕ) (o : Option Call) → ((key : Hashkey) → o ≡ Some (calls.Unlock key) → key.lock < length us)
+    → slice_index_or (with_opening us n o) i None ≡ or_else (slice_index_or us i None) (cond (is_some (opening i t o)) (Some n) None)
 opening_set us n i t (Some (calls.Unlock key)) lt = go (key.lock == i) refl
   where
-    go : (b : Bool) → (key.lock == i) ≡ b → slice_index_or (slice_set us key.lock (or_else (slice_index_or us key.lock None) (Some n))) i None ≡ or_else (slice_index_or us i None) (cond (is_some {T = Opening} (cond b (Some (record { height = t; key = key })) None)) (Some n) None)
-    go true e = subst (λ j. slice_index_or (slice_set us key.lock (or_else (slice_index_or us key.lock None) (Some n))) j None ≡ or_else (slice_index_or us j None) (Some n)) (eqb-true key.lock i e) (get_or-set_same us key.lock (or_else (slice_index_or us key.lock None) (Some n)) None (lt key refl))
-    go false e = get_or-set_other us key.lock i (or_else (slice_index_or us key.lock None) (Some n)) None (λ k. false≢true (sym e ∙ eq-eqb key.lock i (sym k))) ∙ sym (or_else-none (slice_index_or us i None))
+    go : (b : Bool) → (key.lock == i) ≡ b → slice_index_or (slice_set us key.lock (or_else (slice_index_or us key.lock None) (Some n))) i None
+        ≡ or_else (slice_index_or us i None) (cond (is_some {T = Opening} (cond b (Some (record { height = t; key = key })) None)) (Some n) None)
+    go true e =
+        subst (λ j. slice_index_or (slice_set us key.lock (or_else (slice_index_or us key.lock None) (Some n))) j None
+        ≡ or_else (slice_index_or us j None) (Some n)) (eqb-true key.lock i e)
+        (get_or-set_same us key.lock (or_else (slice_index_or us key.lock None) (Some n)) None (lt key refl))
+    go false e =
+        get_or-set_other us key.lock i (or_else (slice_index_or us key.lock None) (Some n)) None (λ k. false≢true (sym e ∙ eq-eqb key.lock i (sym k)))
+        ∙ sym (or_else-none (slice_index_or us i None))
 opening_set us n i t _ lt = sym (or_else-none (slice_index_or us i None))
 
 places_opening : (us : List (Option ℕ)) (n : ℕ) (o : Option Call) → length (with_opening us n o) ≡ length us
 places_opening us n (Some (calls.Unlock key)) = length-set us key.lock (or_else (slice_index_or us key.lock None) (Some n))
 places_opening us n _ = refl
 
-pub answers_push : (t : Terms) (h : List Entry) (e : Entry) (a : Answers) → IsTrue (names_lock e.what) → AreAnswers t h a → AreAnswers t (h ++ e ∷ []) (answers_after t (length h) e a)
+pub answers_push : (t : Terms) (h : List Entry) (e : Entry) (a : Answers) → IsTrue (names_lock e.what) → AreAnswers t h a
+    → AreAnswers t (h ++ e ∷ []) (answers_after t (length h) e a)
 answers_push t h e a l k = record {
   height = ap (λ n. n + ticks_in e.what) k.height ∙ sym (height-push h e);
-  published = ap (λ o. or_else o (option_map (shown_as t) (publication e.height (accepted e)))) k.published ∙ sym (ap (option_map (shown_as t)) (first_push (λ x. publication x.height (accepted x)) h e) ∙ map_or_else (shown_as t) _ _);
-  number = ap (λ o. or_else o (cond (is_some (publication e.height (accepted e))) (Some (length h)) None)) k.number ∙ sym (position_push (λ x. is_some (publication x.height (accepted x))) h e);
+  published =
+      ap (λ o. or_else o (option_map (shown_as t) (publication e.height (accepted e)))) k.published
+      ∙ sym (ap (option_map (shown_as t)) (first_push (λ x. publication x.height (accepted x)) h e) ∙ map_or_else (shown_as t) _ _);
+  number =
+      ap (λ o. or_else o (cond (is_some (publication e.height (accepted e))) (Some (length h)) None)) k.number
+      ∙ sym (position_push (λ x. is_some (publication x.height (accepted x))) h e);
   places = places_opening a.unlocked (length h) (accepted e) ∙ k.places;
   unlocked = λ i.
       opening_set a.unlocked (length h) i e.height (accepted e) (λ key s. let lt = accepted_lock e.what e.reply key l s in let places = k.places in omega arith)
@@ -210,7 +236,8 @@ sent_call from to p (Party q) (Made c) a k = refl
 sent_call from to p (Party q) (Tick n) a k = absurd (false≢true a)
 sent_call from to p Clock w a k = absurd (false≢true k)
 
-few_more : (c f t : Bool) (m : made.Made) (n : ℕ) (ms : List made.Made) (xs ys : List ℕ) → (c ≡ true → (f || t) ≡ true) → length ms ≤ length xs + length ys → length (cond c (m ∷ ms) ms) ≤ length (cond f (n ∷ xs) xs) + length (cond t (n ∷ ys) ys)
+few_more : (c f t : Bool) (m : made.Made) (n : ℕ) (ms : List made.Made) (xs ys : List ℕ) → (c ≡ true → (f || t) ≡ true)
+    → length ms ≤ length xs + length ys → length (cond c (m ∷ ms) ms) ≤ length (cond f (n ∷ xs) xs) + length (cond t (n ∷ ys) ys)
 few_more true true true m n ms xs ys h l = omega arith
 few_more true true false m n ms xs ys h l = omega arith
 few_more true false true m n ms xs ys h l = omega arith
@@ -220,11 +247,16 @@ few_more false true false m n ms xs ys h l = omega arith
 few_more false false true m n ms xs ys h l = omega arith
 few_more false false false m n ms xs ys h l = l
 
-made_few : (from to n : ℕ) (h : List Entry) → IsTrue (list_all (λ e. comes_from from to e.sender e.what) h) → length (made_from n h) ≤ length (numbers_from n from h) + length (numbers_from n to h)
+made_few : (from to n : ℕ) (h : List Entry) → IsTrue (list_all (λ e. comes_from from to e.sender e.what) h)
+    → length (made_from n h) ≤ length (numbers_from n from h) + length (numbers_from n to h)
 made_few from to n [] a = omega arith
 made_few from to n (e ∷ h) a =
     let parts = and_parts (comes_from from to e.sender e.what) (list_all (λ x. comes_from from to x.sender x.what) h) a in
-    few_more (is_call e.what) (sent_by from e.sender) (sent_by to e.sender) (record { number = n; entry = e }) n _ _ _ (sent_of_two from to e.sender e.what parts.0) (made_few from to (n + 1) h parts.1)
+    few_more (is_call e.what) (sent_by from e.sender) (sent_by to e.sender) (record {
+      number = n;
+      entry =
+          e;
+    }) n _ _ _ (sent_of_two from to e.sender e.what parts.0) (made_few from to (n + 1) h parts.1)
 
 -- there are at most 64 calls
 pub few_made : (from to : ℕ) (h : List Entry) (ms : List made.Made) → IsIndexable from to h → ms ≡ made_in h → length ms ≤ 64
@@ -246,11 +278,13 @@ not_sent from to p (Party q) (Tick k) h nf nt = absurd (false≢true h)
 not_sent from to p Clock w h nf nt = refl
 
 -- a party that sent nothing made no call
-pub nothing_called : (from to p : ℕ) (k : CallKind) (h : List Entry) → IsTrue (list_all (λ e. comes_from from to e.sender e.what) h) → (p ≡ from → ⊥) → (p ≡ to → ⊥) → has_call p k h ≡ false
+pub nothing_called : (from to p : ℕ) (k : CallKind) (h : List Entry) → IsTrue (list_all (λ e. comes_from from to e.sender e.what) h) → (p ≡ from → ⊥)
+    → (p ≡ to → ⊥) → has_call p k h ≡ false
 nothing_called from to p k [] a nf nt = refl
 nothing_called from to p k (e ∷ h) a nf nt =
     let parts = and_parts (comes_from from to e.sender e.what) (list_all (λ x. comes_from from to x.sender x.what) h) a in
-    ap (λ b. cond b (is_of_kind k e.what) false || has_call p k h) (not_sent from to p e.sender e.what parts.0 nf nt) ∙ nothing_called from to p k h parts.1 nf nt
+    ap (λ b. cond b (is_of_kind k e.what) false || has_call p k h) (not_sent from to p e.sender e.what parts.0 nf nt)
+    ∙ nothing_called from to p k h parts.1 nf nt
 
 -- Room.
 
@@ -266,7 +300,8 @@ pub last_sent : (from to p : ℕ) (h : List Entry) (e : Entry) → IsIndexable f
 last_sent from to p h e i = sent_call from to p e.sender e.what (last_passes (λ x. comes_from from to x.sender x.what) h e i.senders)
 
 -- so many further elements have room after one more, where s, which takes one of the places only where b
-pub room_kept : {A : Type 0} (b s : Bool) (x : A) (xs xs' : List A) (room room' cap cap' : ℕ) → xs' ≡ cond s (xs ++ x ∷ []) xs → (s ≡ true → b ≡ true) → (IsTrue b → 0 < room) → room' ≡ room - cond b 1 0 → length xs + room ≤ cap → cap ≤ cap' → length xs' + room' ≤ cap'
+pub room_kept : {A : Type 0} (b s : Bool) (x : A) (xs xs' : List A) (room room' cap cap' : ℕ) → xs' ≡ cond s (xs ++ x ∷ []) xs → (s ≡ true → b ≡ true)
+    → (IsTrue b → 0 < room) → room' ≡ room - cond b 1 0 → length xs + room ≤ cap → cap ≤ cap' → length xs' + room' ≤ cap'
 room_kept true true x xs xs' room room' cap cap' e h r k l m =
     let n : length xs' ≡ length xs + 1 = ap length e ∙ length-append xs (x ∷ []) in
     let some = r refl in
@@ -280,18 +315,21 @@ room_kept false false x xs xs' room room' cap cap' e h r k l m = let n : length 
 pub expand_push : (items : List Item) (x : Item) → expand (items ++ x ∷ []) ≡ expand items ++ entries_of x
 expand_push items x = flat_map-append entries_of items (x ∷ []) ∙ ap (λ l. expand items ++ l) (append-nil (entries_of x))
 
-pub answers_kept : (t : Terms) (h xs : List Entry) (e : Entry) (n : ℕ) (a a' : Answers) → xs ≡ h ++ e ∷ [] → n ≡ length h → a' ≡ answers_after t n e a → IsTrue (names_lock e.what) → AreAnswers t h a → AreAnswers t xs a'
+pub answers_kept : (t : Terms) (h xs : List Entry) (e : Entry) (n : ℕ) (a a' : Answers) → xs ≡ h ++ e ∷ [] → n ≡ length h → a' ≡ answers_after t n e a
+    → IsTrue (names_lock e.what) → AreAnswers t h a → AreAnswers t xs a'
 answers_kept t h xs e n a a' ex en ea l k =
     subst (λ ys. AreAnswers t ys a') (sym ex) (subst (AreAnswers t (h ++ e ∷ [])) (sym (ea ∙ ap (λ m. answers_after t m e a) en)) (answers_push t h e a l k))
 
-pub calls_kept : (p p' : ℕ) (h xs : List Entry) (e : Entry) (n : ℕ) (ns ns' : List ℕ) (ks ks' : Kinds) → p' ≡ p → xs ≡ h ++ e ∷ [] → n ≡ length h → ns' ≡ numbers_after n p e ns → ks' ≡ kinds_after p e ks → IsTrue (names_lock e.what) → AreCalls p h ns ks → AreCalls p' xs ns' ks'
+pub calls_kept : (p p' : ℕ) (h xs : List Entry) (e : Entry) (n : ℕ) (ns ns' : List ℕ) (ks ks' : Kinds) → p' ≡ p → xs ≡ h ++ e ∷ [] → n ≡ length h
+    → ns' ≡ numbers_after n p e ns → ks' ≡ kinds_after p e ks → IsTrue (names_lock e.what) → AreCalls p h ns ks → AreCalls p' xs ns' ks'
 calls_kept p p' h xs e n ns ns' ks ks' ep ex en ens eks l k =
     subst (λ q. AreCalls q xs ns' ks') (sym ep)
     (subst (λ ys. AreCalls p ys ns' ks') (sym ex)
     (subst (λ ms. AreCalls p (h ++ e ∷ []) ms ks') (sym (ens ∙ ap (λ m. numbers_after m p e ns) en))
     (subst (λ ms. AreCalls p (h ++ e ∷ []) (numbers_after (length h) p e ns) ms) (sym eks) (calls_push p h e ns ks l k))))
 
-pub made_kept : (h xs : List Entry) (e : Entry) (n : ℕ) (ms ms' : List made.Made) → xs ≡ h ++ e ∷ [] → n ≡ length h → ms' ≡ made_after n e ms → ms ≡ made_in h → ms' ≡ made_in xs
+pub made_kept : (h xs : List Entry) (e : Entry) (n : ℕ) (ms ms' : List made.Made) → xs ≡ h ++ e ∷ [] → n ≡ length h → ms' ≡ made_after n e ms
+    → ms ≡ made_in h → ms' ≡ made_in xs
 made_kept h xs e n ms ms' ex en em k =
     em ∙ (ap (λ m. made_after m e ms) en ∙ (ap (λ l. made_after (length h) e l) k ∙ (made_in_push h e ∙ ap made_in (sym ex))))
 

@@ -1,5 +1,6 @@
 -- Ticks leave what is kept as it is, but for the sum of the ticks.
-use Rattle.std.proofs.Common.{◌≡◌, ℕ, zero, suc, ◌+◌, ◌-◌, ◌*◌, ◌<◌, ◌^◌, List, [], ◌∷◌, ◌++◌, length, Option, None, refl, sym, ap, ◌∙◌, subst, arith, length-append}
+use Rattle.std.proofs.Common.{◌≡◌, ℕ, zero, suc, ◌+◌, ◌-◌, ◌*◌, ◌<◌, ◌^◌, List, [], ◌∷◌, ◌++◌, length, Option, None, refl, sym, ap, ◌∙◌, subst, arith}
+use Rattle.std.proofs.Common.{length-append}
 use Rattle.std.proofs.lemmas.List.{append-nil, append_assoc}
 use Rattle.std.proofs.Math.Nat.{mul-suc}
 use Rattle.swap_base.specs.Lists.{or_else}
@@ -54,7 +55,8 @@ answers_tick t n k at a =
     ∙ (ap (λ m. answers_of (a.height + k) a.published m a.unlocked (or_else a.settled None)) (or_else-none a.published_number)
     ∙ ap (λ s. answers_of (a.height + k) a.published a.published_number a.unlocked s) (or_else-none a.settled))
 
-answers_ticks : (t : Terms) (h : List Entry) (at k n : ℕ) (a : Answers) → AreAnswers t h a → AreAnswers t (h ++ ticks_above at k n) (record a { height = a.height + k * n })
+answers_ticks : (t : Terms) (h : List Entry) (at k n : ℕ) (a : Answers) → AreAnswers t h a
+    → AreAnswers t (h ++ ticks_above at k n) (record a { height = a.height + k * n })
 answers_ticks t h at k zero a i =
     let e : a.height ≡ a.height + k * 0 = omega arith in
     subst (λ xs. AreAnswers t xs (record a { height = a.height + k * 0 })) (sym (append-nil h)) (subst (λ m. AreAnswers t h (record a { height = m })) e i)
@@ -64,13 +66,17 @@ answers_ticks t h at k (suc n) a i =
     let so_far : Answers = record a { height = a.height + k * n } in
     let m = mul-suc k n in
     let e : a.height + k * n + k ≡ a.height + k * suc n = omega arith in
-    let step = subst (AreAnswers t (past ++ tick ∷ [])) (answers_tick t (length past) k (at + k * suc n) so_far) (answers_push t past tick so_far refl (answers_ticks t h at k n a i)) in
-    subst (λ xs. AreAnswers t xs (record a { height = a.height + k * suc n })) (one_more h at k n) (subst (λ z. AreAnswers t (past ++ tick ∷ []) (record a { height = z })) e step)
+    let step =
+    subst (AreAnswers t (past ++ tick ∷ [])) (answers_tick t (length past) k (at + k * suc n) so_far)
+    (answers_push t past tick so_far refl (answers_ticks t h at k n a i)) in
+    subst (λ xs. AreAnswers t xs (record a { height = a.height + k * suc n })) (one_more h at k n)
+    (subst (λ z. AreAnswers t (past ++ tick ∷ []) (record a { height = z })) e step)
 
 calls_ticks : (p : ℕ) (h : List Entry) (at k n : ℕ) (ns : List ℕ) (ks : Kinds) → AreCalls p h ns ks → AreCalls p (h ++ ticks_above at k n) ns ks
 calls_ticks p h at k zero ns ks c = subst (λ xs. AreCalls p xs ns ks) (sym (append-nil h)) c
 calls_ticks p h at k (suc n) ns ks c =
-    subst (λ xs. AreCalls p xs ns ks) (one_more h at k n) (calls_push p (h ++ ticks_above at k n) (tick_entry k (at + k * suc n) Accepted) ns ks refl (calls_ticks p h at k n ns ks c))
+    subst (λ xs. AreCalls p xs ns ks) (one_more h at k n)
+    (calls_push p (h ++ ticks_above at k n) (tick_entry k (at + k * suc n) Accepted) ns ks refl (calls_ticks p h at k n ns ks c))
 
 made_ticks : (h : List Entry) (at k n : ℕ) → made_in h ≡ made_in (h ++ ticks_above at k n)
 made_ticks h at k zero = ap made_in (sym (append-nil h))
@@ -97,7 +103,8 @@ count_run h xs r n n' ex en e =
     let l : length xs ≡ length (h ++ ticks_of r) = ap length ex in
     omega arith
 
-pub answers_run : (t : Terms) (h xs : List Entry) (r : Run) (a : Answers) → xs ≡ h ++ ticks_of r → IsRightRun r → AreAnswers t h a → AreAnswers t xs (record a { height = a.height + (r.last - r.above) })
+pub answers_run : (t : Terms) (h xs : List Entry) (r : Run) (a : Answers) → xs ≡ h ++ ticks_of r → IsRightRun r → AreAnswers t h a
+    → AreAnswers t xs (record a { height = a.height + (r.last - r.above) })
 answers_run t h xs r a ex right i =
     let e : a.height + r.by * r.count ≡ a.height + (r.last - r.above) = omega arith in
     subst (λ ys. AreAnswers t ys (record a { height = a.height + (r.last - r.above) })) (sym ex)

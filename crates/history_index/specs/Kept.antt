@@ -1,5 +1,6 @@
 -- What an index keeps beside its entries, and what one more entry makes of it.
-use Rattle.std.specs.Prelude.{◌≡◌, ◌+◌, ℕ, Bool, true, false, List, [], ◌∷◌, ◌++◌, Option, Some, None, is_some, length, option_map, replicate, slice_index_or, slice_set, if◌then◌else◌}
+use Rattle.std.specs.Prelude.{◌≡◌, ◌+◌, ℕ, Bool, true, false, List, [], ◌∷◌, ◌++◌, Option, Some, None, is_some, length, option_map, replicate}
+use Rattle.std.specs.Prelude.{slice_index_or, slice_set, if◌then◌else◌}
 use Rattle.swap_base.specs.Lists.{or_else}
 use Rattle.escrow_core.specs.declared.terms.Terms.{Terms}
 use Rattle.ledger_core.specs.declared.entry.Call.{Call}

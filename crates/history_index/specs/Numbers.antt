@@ -1,5 +1,6 @@
 -- The numbers of a party's entries, and the lists that an index takes.
-use Rattle.std.specs.Prelude.{◌==◌, ◌||◌, ◌≤◌, ◌+◌, ℕ, Bool, true, false, nat_lt, IsTrue, List, [], ◌∷◌, length, Option, Some, None, is_some, position, if◌then◌else◌}
+use Rattle.std.specs.Prelude.{◌==◌, ◌||◌, ◌≤◌, ◌+◌, ℕ, Bool, true, false, nat_lt, IsTrue, List, [], ◌∷◌, length, Option, Some, None, is_some, position}
+use Rattle.std.specs.Prelude.{if◌then◌else◌}
 use Rattle.std.specs.List.{list_all}
 use Rattle.ledger_core.specs.declared.entry.Call.TheVariants.{Unlock}
 use Rattle.ledger_core.specs.declared.entry.Sender.{Sender}

@@ -1,5 +1,6 @@
 -- What a rule asks of a party on an arc.
-use Rattle.std.proofs.Common.{◌≡◌, ℕ, ◌<◌, ◌==◌, Bool, true, false, ◌&&◌, ◌||◌, not, nat_lt, cond, max, filter, length, Option, Some, None, is_some, option_copied, refl, sym, ap, ◌∙◌}
+use Rattle.std.proofs.Common.{◌≡◌, ℕ, ◌<◌, ◌==◌, Bool, true, false, ◌&&◌, ◌||◌, not, nat_lt, cond, max, filter, length, Option, Some, None, is_some}
+use Rattle.std.proofs.Common.{option_copied, refl, sym, ap, ◌∙◌}
 use Rattle.std.specs.List.{list_any, range_with_len}
 use denote.Ref.{Bor}
 use Rattle.swap_base.proofs.Lists.{in_filter, from_filter, in_range}
@@ -43,7 +44,8 @@ module _ (d : Deal) (b : Histories) (v a : ℕ) where
   pub no_unlock : (i : ℕ) → is_among a (entering d.graph v) ≡ false → ref_of d b v (ToUnlock i) a ≡ None
   unfolding ref_of
   no_unlock i e =
-      ap (λ x. when (x && is_ready d b v && (leads d v i || is_some (first_key b v i) || list_any (λ c. opens_without v (opened (history b c) i)) (leaving d.graph v)))
+      ap (λ x. when (x && is_ready d b v && (leads d v i || is_some (first_key b v i)
+      || list_any (λ c. opens_without v (opened (history b c) i)) (leaving d.graph v)))
       (cond (leads d v i) (ready_height d b v) (max (ready_height d b v) (base_of d.mode d b v i (first_key b v i))))) e
 
   pub no_claim : is_among a (entering d.graph v) ≡ false → ref_of d b v ToClaim a ≡ None
@@ -63,7 +65,8 @@ module _ (d : Deal) (b : Histories) (v a : ℕ) where
   publish_calls at (Some Refund) = refl
   publish_calls at (Some (Transfer to units)) = refl
 
-  unlock_calls : (i : ℕ) (first : Option (Bor Hashkey)) → option_copied first ≡ first_key b v i → (at : ℕ) (o : Option Call) → counts_as (counted.Unlock i first) at o ≡ counts d b v (ToUnlock i) a at o
+  unlock_calls : (i : ℕ) (first : Option (Bor Hashkey)) → option_copied first ≡ first_key b v i → (at : ℕ) (o : Option Call)
+      → counts_as (counted.Unlock i first) at o ≡ counts d b v (ToUnlock i) a at o
   unfolding counts
   unlock_calls i first e at None = refl
   unlock_calls i first e at (Some (Publish t)) = refl
@@ -81,7 +84,8 @@ module _ (d : Deal) (b : Histories) (v a : ℕ) where
   claim_calls at (Some Refund) = refl
   claim_calls at (Some (Transfer to units)) = refl
 
-  refund_calls : (least : ℕ) → least ≡ least_expiry d a (history b a) → (at : ℕ) (o : Option Call) → counts_as (counted.Refund least) at o ≡ counts d b v ToRefund a at o
+  refund_calls : (least : ℕ) → least ≡ least_expiry d a (history b a) → (at : ℕ) (o : Option Call)
+      → counts_as (counted.Refund least) at o ≡ counts d b v ToRefund a at o
   unfolding counts
   refund_calls least e at None = refl
   refund_calls least e at (Some (Publish t)) = refl
@@ -97,12 +101,14 @@ module _ (d : Deal) (b : Histories) (v a : ℕ) where
     calls = publish_calls;
   }
 
-  pub unlock_asked : (i : ℕ) (first : Option (Bor Hashkey)) (from : Option ℕ) → option_copied first ≡ first_key b v i → from ≡ unlock_from d b v i → is_among a (entering d.graph v) ≡ true → IsAsked d b v (ToUnlock i) a from (counted.Unlock i first)
+  pub unlock_asked : (i : ℕ) (first : Option (Bor Hashkey)) (from : Option ℕ) → option_copied first ≡ first_key b v i → from ≡ unlock_from d b v i
+      → is_among a (entering d.graph v) ≡ true → IsAsked d b v (ToUnlock i) a from (counted.Unlock i first)
   unfolding ref_of
   unlock_asked i first from k e t = record {
     height =
         e
-        ∙ ap (λ x. when (x && is_ready d b v && (leads d v i || is_some (first_key b v i) || list_any (λ c. opens_without v (opened (history b c) i)) (leaving d.graph v)))
+        ∙ ap (λ x. when (x && is_ready d b v && (leads d v i || is_some (first_key b v i)
+        || list_any (λ c. opens_without v (opened (history b c) i)) (leaving d.graph v)))
         (cond (leads d v i) (ready_height d b v) (max (ready_height d b v) (base_of d.mode d b v i (first_key b v i))))) (sym t);
     calls = unlock_calls i first k;
   }
@@ -114,7 +120,8 @@ module _ (d : Deal) (b : Histories) (v a : ℕ) where
     calls = claim_calls;
   }
 
-  pub refund_asked : (least : ℕ) (from : Option ℕ) → least ≡ least_expiry d a (history b a) → from ≡ refund_from d b a → is_among a (leaving d.graph v) ≡ true → IsAsked d b v ToRefund a from (counted.Refund least)
+  pub refund_asked : (least : ℕ) (from : Option ℕ) → least ≡ least_expiry d a (history b a) → from ≡ refund_from d b a
+      → is_among a (leaving d.graph v) ≡ true → IsAsked d b v ToRefund a from (counted.Refund least)
   unfolding ref_of
   refund_asked least from k e t = record {
     height = e ∙ ap (λ x. when (x && is_some (published (history b a)) && not (is_triggered d b a)) (least_expiry d a (history b a))) (sym t);

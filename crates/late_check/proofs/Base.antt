@@ -13,7 +13,8 @@ use Rattle.swap_rules.specs.Late.{base_of}
 use Rattle.late_check.specs.Parts.{greatest_used_in}
 use Rattle.late_check.proofs.FirstAnswer.{some_first}
 
-pub base_with : (d : Deal) (b : Histories) (v i : ℕ) (first : Option Hashkey) → base_of Hashkeys d b v i first ≡ greatest (λ a. greatest_used_in v first (first_seen_key d b v i) (history b a)) (leaving d.graph v)
+pub base_with : (d : Deal) (b : Histories) (v i : ℕ) (first : Option Hashkey)
+    → base_of Hashkeys d b v i first ≡ greatest (λ a. greatest_used_in v first (first_seen_key d b v i) (history b a)) (leaving d.graph v)
 unfolding greatest_used_in
 base_with d b v i None = refl
 base_with d b v i (Some key) = refl
@@ -31,7 +32,9 @@ by_opening v None = refl
 by_opening v (Some o) = by_path (is_among v o.key.path) o.key
 
 -- a path without v opened the lock where there is a first hashkey that it did
-pub seen_some : (d : Deal) (b : Histories) (v i : ℕ) → list_any (λ c. opens_without v (opened (history b c) i)) (leaving d.graph v) ≡ is_some (first_seen_key d b v i)
+pub seen_some : (d : Deal) (b : Histories) (v i : ℕ)
+    → list_any (λ c. opens_without v (opened (history b c) i)) (leaving d.graph v) ≡ is_some (first_seen_key d b v i)
 seen_some d b v i =
-    any_same (λ c. opens_without v (opened (history b c) i)) (λ c. is_some (key_without v (opened (history b c) i))) (leaving d.graph v) (λ c. by_opening v (opened (history b c) i))
+    any_same (λ c. opens_without v (opened (history b c) i)) (λ c. is_some (key_without v (opened (history b c) i))) (leaving d.graph v) (λ c.
+    by_opening v (opened (history b c) i))
     ∙ sym (some_first (λ c. key_without v (opened (history b c) i)) (leaving d.graph v))

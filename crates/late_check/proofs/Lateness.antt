@@ -1,5 +1,6 @@
 -- Where a party is late, in the parts in which a program lists it.
-use Rattle.std.proofs.Common.{◌≡◌, ℕ, ◌+◌, Bool, true, false, cond, not, ◌&&◌, nat_lt, nat_le, List, [], ◌∷◌, ◌++◌, Option, Some, None, refl, sym, ap, ◌∙◌, append-nil, append_assoc}
+use Rattle.std.proofs.Common.{◌≡◌, ℕ, ◌+◌, Bool, true, false, cond, not, ◌&&◌, nat_lt, nat_le, List, [], ◌∷◌, ◌++◌, Option, Some, None, refl, sym, ap}
+use Rattle.std.proofs.Common.{◌∙◌, append-nil, append_assoc}
 use Rattle.std.specs.Prelude.{map}
 use Rattle.std.specs.List.{flat_map}
 use Rattle.std.proofs.lemmas.List.Concat.{flat_map-append}
@@ -24,25 +25,32 @@ abbrev pub listed : ℕ → Rule → ℕ → Option ℕ → List Finding
 listed v rule a None = []
 listed v rule a (Some due) = Late v rule a due ∷ []
 
-by_test : (v : ℕ) (rule : Rule) (a from delta : ℕ) (late : Bool) → cond late (Late v rule a (from + delta) ∷ []) [] ≡ listed v rule a (cond late (Some (from + delta)) None)
+by_test : (v : ℕ) (rule : Rule) (a from delta : ℕ) (late : Bool)
+    → cond late (Late v rule a (from + delta) ∷ []) [] ≡ listed v rule a (cond late (Some (from + delta)) None)
 by_test v rule a from delta true = refl
 by_test v rule a from delta false = refl
 
-counts_same : (d : Deal) (b : Histories) (v : ℕ) (rule : Rule) (a : ℕ) (c : Counted) (due : ℕ) → ((at : ℕ) (o : Option Call) → counts_as c at o ≡ counts d b v rule a at o) → (e : Entry) → (counts d b v rule a e.height (call_by v e) && nat_le e.height due) ≡ counts_by c v due e
+counts_same : (d : Deal) (b : Histories) (v : ℕ) (rule : Rule) (a : ℕ) (c : Counted) (due : ℕ)
+    → ((at : ℕ) (o : Option Call) → counts_as c at o ≡ counts d b v rule a at o) → (e : Entry)
+    → (counts d b v rule a e.height (call_by v e) && nat_le e.height due) ≡ counts_by c v due e
 unfolding counts_by
 counts_same d b v rule a c due same e = ap (λ x. x && nat_le e.height due) (sym (same e.height (call_by v e)))
 
-by_ref : (d : Deal) (b : Histories) (v : ℕ) (rule : Rule) (a : ℕ) (c : Counted) → ((at : ℕ) (o : Option Call) → counts_as c at o ≡ counts d b v rule a at o) → (ref : Option ℕ)
+by_ref : (d : Deal) (b : Histories) (v : ℕ) (rule : Rule) (a : ℕ) (c : Counted)
+    → ((at : ℕ) (o : Option Call) → counts_as c at o ≡ counts d b v rule a at o) → (ref : Option ℕ)
     → cond (late_at d b v rule a ref) (Late v rule a (or_zero ref + d.delta) ∷ []) [] ≡ listed v rule a (overdue d.delta c v ref (history b a))
 by_ref d b v rule a c same None = refl
 by_ref d b v rule a c same (Some from) =
     let due = from + d.delta in
-    let done : is_done d b v rule a due ≡ is_done_in c v due (history b a) = any_same (λ e. counts d b v rule a e.height (call_by v e) && nat_le e.height due) (counts_by c v due) (history b a) (counts_same d b v rule a c due same) in
+    let done : is_done d b v rule a due ≡ is_done_in c v due (history b a) =
+    any_same (λ e. counts d b v rule a e.height (call_by v e) && nat_le e.height due) (counts_by c v due) (history b a)
+    (counts_same d b v rule a c due same) in
     ap (λ x. cond (nat_lt due (height (history b a)) && not x) (Late v rule a due ∷ []) []) done
     ∙ by_test v rule a from d.delta (is_overdue d.delta c v (Some from) (history b a))
 
 -- where v is late, by the height from which the rule asks and the calls that count
-pub late_listed : (d : Deal) (b : Histories) (v : ℕ) (rule : Rule) (a : ℕ) (from : Option ℕ) (c : Counted) → IsAsked d b v rule a from c → late_on d b v rule a ≡ listed v rule a (overdue d.delta c v from (history b a))
+pub late_listed : (d : Deal) (b : Histories) (v : ℕ) (rule : Rule) (a : ℕ) (from : Option ℕ) (c : Counted) → IsAsked d b v rule a from c
+    → late_on d b v rule a ≡ listed v rule a (overdue d.delta c v from (history b a))
 late_listed d b v rule a from c k =
     by_ref d b v rule a c k.calls (ref_of d b v rule a) ∙ ap (λ r. listed v rule a (overdue d.delta c v r (history b a))) (sym k.height)
 
@@ -55,12 +63,16 @@ flat_map-map : {A B C : Type 0} (f : B → List C) (g : A → B) (xs : List A) �
 flat_map-map f g [] = refl
 flat_map-map f g (x ∷ xs) = ap (λ l. f (g x) ++ l) (flat_map-map f g xs)
 
-pub lates_in_parts : (d : Deal) (b : Histories) (v : ℕ) → lates d b v ≡ ((lates_by d b v ToPublish ++ flat_map (λ i. lates_by d b v (ToUnlock i)) (locks d)) ++ lates_by d b v ToClaim) ++ lates_by d b v ToRefund
+pub lates_in_parts : (d : Deal) (b : Histories) (v : ℕ)
+    → lates d b v ≡ ((lates_by d b v ToPublish ++ flat_map (λ i. lates_by d b v (ToUnlock i)) (locks d)) ++ lates_by d b v ToClaim)
+    ++ lates_by d b v ToRefund
 lates_in_parts d b v =
     let f : Rule → List Finding = lates_by d b v in
     let us = flat_map (λ i. f (ToUnlock i)) (locks d) in
     let middle : flat_map f (map ToUnlock (locks d) ++ ToClaim ∷ ToRefund ∷ []) ≡ us ++ (f ToClaim ++ f ToRefund) =
-    flat_map-append f (map ToUnlock (locks d)) (ToClaim ∷ ToRefund ∷ []) ∙ ap (λ l. l ++ (f ToClaim ++ (f ToRefund ++ []))) (flat_map-map f ToUnlock (locks d)) ∙ ap (λ l. us ++ (f ToClaim ++ l)) (append-nil (f ToRefund)) in
+    flat_map-append f (map ToUnlock (locks d)) (ToClaim ∷ ToRefund ∷ [])
+    ∙ ap (λ l. l ++ (f ToClaim ++ (f ToRefund ++ []))) (flat_map-map f ToUnlock (locks d))
+    ∙ ap (λ l. us ++ (f ToClaim ++ l)) (append-nil (f ToRefund)) in
     ap (λ l. f ToPublish ++ l) middle
     ∙ sym (append_assoc (f ToPublish) us (f ToClaim ++ f ToRefund))
     ∙ sym (append_assoc (f ToPublish ++ us) (f ToClaim) (f ToRefund))
@@ -72,6 +84,9 @@ added o a b c e w x y z p q r s =
     s ∙ ap (λ l. l ++ e) three ∙ append_assoc o ((a ++ b) ++ c) e
 
 -- the four parts, added one after another
-pub lates_added : (d : Deal) (b : Histories) (v : ℕ) (o w x y z : List Finding) → w ≡ o ++ lates_by d b v ToPublish → x ≡ w ++ flat_map (λ i. lates_by d b v (ToUnlock i)) (locks d) → y ≡ x ++ lates_by d b v ToClaim → z ≡ y ++ lates_by d b v ToRefund → z ≡ o ++ lates d b v
+pub lates_added : (d : Deal) (b : Histories) (v : ℕ) (o w x y z : List Finding) → w ≡ o ++ lates_by d b v ToPublish
+    → x ≡ w ++ flat_map (λ i. lates_by d b v (ToUnlock i)) (locks d) → y ≡ x ++ lates_by d b v ToClaim → z ≡ y ++ lates_by d b v ToRefund
+    → z ≡ o ++ lates d b v
 lates_added d b v o w x y z p q r s =
-    added o (lates_by d b v ToPublish) (flat_map (λ i. lates_by d b v (ToUnlock i)) (locks d)) (lates_by d b v ToClaim) (lates_by d b v ToRefund) w x y z p q r s ∙ ap (λ l. o ++ l) (sym (lates_in_parts d b v))
+    added o (lates_by d b v ToPublish) (flat_map (λ i. lates_by d b v (ToUnlock i)) (locks d)) (lates_by d b v ToClaim) (lates_by d b v ToRefund) w x y
+    z p q r s ∙ ap (λ l. o ++ l) (sym (lates_in_parts d b v))

@@ -42,6 +42,8 @@ none_used v (Some key) seen e k w = ap (λ x. extends v key (accepted_in x e.rep
 none_used v None None e k w = ap (λ x. is_carried None (accepted_in x e.reply)) w
 none_used v None (Some key) e k w = ap (λ x. is_carried (Some key) (accepted_in x e.reply)) w
 
-pub used_made : (v : ℕ) (first seen : Option Hashkey) (h : List Entry) → greatest_used_in v first seen h ≡ greatest (λ m. height_if (is_used_with v first seen m.entry) m.entry.height) (made_in h)
+pub used_made : (v : ℕ) (first seen : Option Hashkey) (h : List Entry)
+    → greatest_used_in v first seen h ≡ greatest (λ m. height_if (is_used_with v first seen m.entry) m.entry.height) (made_in h)
 unfolding greatest_used_in
-used_made v first seen h = greatest_made (λ e. height_if (is_used_with v first seen e) e.height) h (λ e k w. ap (λ x. height_if x e.height) (none_used v first seen e k w))
+used_made v first seen h =
+    greatest_made (λ e. height_if (is_used_with v first seen e) e.height) h (λ e k w. ap (λ x. height_if x e.height) (none_used v first seen e k w))

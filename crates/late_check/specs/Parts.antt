@@ -1,5 +1,6 @@
 -- What the parts of lateness stand for.
-use Rattle.std.specs.Prelude.{◌≡◌, ℕ, ◌+◌, max, Bool, true, false, not, ◌&&◌, ◌||◌, ◌==◌, nat_lt, nat_le, List, Option, Some, None, is_some, option_copied, if◌then◌else◌}
+use Rattle.std.specs.Prelude.{◌≡◌, ℕ, ◌+◌, max, Bool, true, false, not, ◌&&◌, ◌||◌, ◌==◌, nat_lt, nat_le, List, Option, Some, None, is_some}
+use Rattle.std.specs.Prelude.{option_copied, if◌then◌else◌}
 use Rattle.std.specs.List.{list_any, flat_map}
 use Rattle.swap_base.specs.Lists.{greatest}
 use Rattle.swap_digraph.specs.Graph.{arcs, leaving}

@@ -85,7 +85,8 @@ fn base_by_key(
     seen: Option<&Hashkey>,
 ) -> u32
     requires { party < deal.now.graph.n }
-    ensures { result ≡ greatest (λ a. greatest_used_in party (option_copied first.entry) (option_copied seen.entry) (history (entries_in known.now) a)) (leaving deal.now.graph party) }
+    ensures { result ≡ greatest (λ a. greatest_used_in party (option_copied first.entry) (option_copied seen.entry) (history (entries_in known.now) a))
+        (leaving deal.now.graph party) }
 {
     let leaving = deal.graph.leaving(party);
     leaving

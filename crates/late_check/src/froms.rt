@@ -47,7 +47,8 @@ fn has_key(
     requires known { AreIndexes deal.now known.now }
     requires party { party < deal.now.graph.n }
     requires lock { lock < length deal.now.leaders }
-    ensures { result ≡ (leads deal.now party lock || is_some (option_copied first.entry) || list_any (λ c. opens_without party (opened (history (entries_in known.now) c) lock)) (leaving deal.now.graph party)) }
+    ensures { result ≡ (leads deal.now party lock || is_some (option_copied first.entry)
+        || list_any (λ c. opens_without party (opened (history (entries_in known.now) c) lock)) (leaving deal.now.graph party)) }
 {
     leads(deal, party, lock)
         || first.is_some()

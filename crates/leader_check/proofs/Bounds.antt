@@ -1,5 +1,6 @@
 -- A path that ends in a leader is as long as the vertices, the leaders and the paths of followers allow.
-use Rattle.std.proofs.Common.{◌≡◌, ◌⊎◌, ℕ, suc, ◌+◌, ◌*◌, ◌<◌, ◌≤◌, Bool, true, false, cond, not, List, [], ◌∷◌, length, filter, refl, sym, ap, ◌∙◌, subst, inl, inr, arith, eqb-true, eq-eqb, lt-ltb, mul-le-mul_right}
+use Rattle.std.proofs.Common.{◌≡◌, ◌⊎◌, ℕ, suc, ◌+◌, ◌*◌, ◌<◌, ◌≤◌, Bool, true, false, cond, not, List, [], ◌∷◌, length, filter, refl, sym, ap, ◌∙◌}
+use Rattle.std.proofs.Common.{subst, inl, inr, arith, eqb-true, eq-eqb, lt-ltb, mul-le-mul_right}
 use Rattle.swap_base.specs.Lists.{IsIn}
 use Rattle.swap_base.proofs.Lists.{and_both, from_filter}
 use Rattle.swap_digraph.specs.Value.{Graph}
@@ -27,13 +28,17 @@ module _ (g : Graph) (leaders : List ℕ) (h : ℕ) (height : IsHeight g leaders
     path : (length run ≡ 0) ⊎ ((is_path g run ≡ true) × (first_is u run ≡ true) × (are_followers leaders run ≡ true))
     bound : length p + h ≤ led p * (h + 1) + length run
 
-  longer : (u v : ℕ) (q : List ℕ) → u < g.n → has_arc g u v ≡ true → is_among u leaders ≡ false → (IsIn u q → ⊥) → (length q ≡ 0) ⊎ ((is_path g q ≡ true) × (first_is v q ≡ true) × (are_followers leaders q ≡ true))
+  longer : (u v : ℕ) (q : List ℕ) → u < g.n → has_arc g u v ≡ true → is_among u leaders ≡ false → (IsIn u q → ⊥)
+      → (length q ≡ 0) ⊎ ((is_path g q ≡ true) × (first_is v q ≡ true) × (are_followers leaders q ≡ true))
       → (is_path g (u ∷ q) ≡ true) × (first_is u (u ∷ q) ≡ true) × (are_followers leaders (u ∷ q) ≡ true)
   longer u v [] b a l f k = (lt-ltb u g.n b, eq-eqb u u refl, and_both (not (is_among u leaders)) true (ap not l) refl)
   longer u v (w ∷ q) b a l f (inl z) = absurd (omega arith)
   longer u v (w ∷ q) b a l f (inr k) =
-      let same : w ≡ v = eqb-true w v k.1 in
-      (path_more g u w q b f (ap (has_arc g u) same ∙ a) k.0, eq-eqb u u refl, and_both (not (is_among u leaders)) (are_followers leaders (w ∷ q)) (ap not l) k.2)
+      let same : w ≡ v = eqb-true w v k.1 in (
+        path_more g u w q b f (ap (has_arc g u) same ∙ a) k.0,
+        eq-eqb u u refl,
+        and_both (not (is_among u leaders)) (are_followers leaders (w ∷ q)) (ap not l) k.2,
+      )
 
   runs : (u : ℕ) (p : List ℕ) (l : ℕ) → is_path g (u ∷ p) ≡ true → last_is l (u ∷ p) ≡ true → IsIn l leaders → Run u (u ∷ p)
   runs u [] l e last i =
@@ -67,7 +72,9 @@ module _ (g : Graph) (leaders : List ℕ) (h : ℕ) (height : IsHeight g leaders
       let r = runs u p l e last i in
       let b = r.bound in
       let sh = r.short in
-      let few : led (u ∷ p) ≤ length leaders = subset_length (filter (λ v. is_among v leaders) (u ∷ p)) leaders (distinct_filter (λ v. is_among v leaders) (u ∷ p) (path_distinct g (u ∷ p) e))
+      let few : led (u ∷ p) ≤ length leaders =
+      subset_length (filter (λ v. is_among v leaders) (u ∷ p)) leaders
+      (distinct_filter (λ v. is_among v leaders) (u ∷ p) (path_distinct g (u ∷ p) e))
       (λ x j. is_among-true x leaders (from_filter (λ v. is_among v leaders) x (u ∷ p) j).1) in
       let m : led (u ∷ p) * (h + 1) ≤ length leaders * (h + 1) = mul-le-mul_right (h + 1) few in
       let n : suc (length p) ≤ g.n = path_length g (u ∷ p) e in

@@ -1,5 +1,6 @@
 -- A round more than there are parties raises a level above their number exactly where followers form a cycle.
-use Rattle.std.proofs.Common.{◌≡◌, ◌⊎◌, inl, inr, ℕ, zero, suc, ◌+◌, ◌-◌, ◌≤◌, true, nat_lt, List, Option, Some, None, is_some, refl, sym, ap, ◌∙◌, arith, lt-ltb, le-ltb}
+use Rattle.std.proofs.Common.{◌≡◌, ◌⊎◌, inl, inr, ℕ, zero, suc, ◌+◌, ◌-◌, ◌≤◌, true, nat_lt, List, Option, Some, None, is_some, refl, sym, ap, ◌∙◌}
+use Rattle.std.proofs.Common.{arith, lt-ltb, le-ltb}
 use Rattle.swap_base.specs.Lists.{greatest}
 use Rattle.swap_base.proofs.Lists.{greatest-in, greatest-below, in_range}
 use Rattle.swap_digraph.specs.Value.{Graph}
@@ -39,7 +40,8 @@ module _ (g : Graph) (ls : List ℕ) where
       let l = last_arc u m u e in
       let r = cycle_rises k l.last m (on.walks-step g ls l.last m l.last u (walk_ends_in l.last m u l.before) l.arc l.before) in
       let b = before-arc g (level_within g ls k) l.last u l.arc in
-      let s : level_within g ls (suc k) u ≡ most_before g (level_within g ls k) u + 1 = within-suc g ls k u ∙ after-follower g ls (level_within g ls k) u (on.walks-follower g ls u (suc m) u e) in
+      let s : level_within g ls (suc k) u ≡ most_before g (level_within g ls k) u + 1 =
+      within-suc g ls k u ∙ after-follower g ls (level_within g ls k) u (on.walks-follower g ls u (suc m) u e) in
       omega (arith, r, b, s)
 
   raised_by : (u m n : ℕ) → n ≡ m + 1 → walks g ls u n u ≡ true → g.n + 1 ≤ greatest (level_within g ls (g.n + 1)) (parties g)

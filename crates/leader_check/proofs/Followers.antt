@@ -1,5 +1,6 @@
 -- Followers and arcs, in the words of lists.
-use Rattle.std.proofs.Common.{◌≡◌, ◌⊎◌, ℕ, ◌<◌, ◌≤◌, ◌==◌, max, true, not, ◌&&◌, List, [], ◌∷◌, refl, sym, ap, ◌∙◌, subst, inl, inr, arith, eqb-true, eq-eqb, ltb-true, lt-ltb, nat_lt}
+use Rattle.std.proofs.Common.{◌≡◌, ◌⊎◌, ℕ, ◌<◌, ◌≤◌, ◌==◌, max, true, not, ◌&&◌, List, [], ◌∷◌, refl, sym, ap, ◌∙◌, subst, inl, inr, arith, eqb-true}
+use Rattle.std.proofs.Common.{eq-eqb, ltb-true, lt-ltb, nat_lt}
 use Rattle.swap_base.specs.Lists.{IsIn, greatest}
 use Rattle.swap_base.proofs.Lists.{and_parts, and_both, any_at, list_any-in, in_from_moment}
 use Rattle.swap_digraph.specs.declared.arc_ends.ArcEnds.{ArcEnds}
@@ -46,12 +47,15 @@ greatest-reached {A = A} f (x ∷ xs) = go (greatest-reached f xs)
     larger : (m n : ℕ) → (max m n ≡ m) ⊎ (max m n ≡ n)
     larger m n = grind arith
 
-    pick : (max (f x) (greatest f xs) ≡ f x) ⊎ (max (f x) (greatest f xs) ≡ greatest f xs) → (greatest f xs ≡ 0) ⊎ ((y : A) × IsIn y xs × (f y ≡ greatest f xs)) → (max (f x) (greatest f xs) ≡ 0) ⊎ ((y : A) × IsIn y (x ∷ xs) × (f y ≡ max (f x) (greatest f xs)))
+    pick : (max (f x) (greatest f xs) ≡ f x) ⊎ (max (f x) (greatest f xs) ≡ greatest f xs)
+        → (greatest f xs ≡ 0) ⊎ ((y : A) × IsIn y xs × (f y ≡ greatest f xs))
+        → (max (f x) (greatest f xs) ≡ 0) ⊎ ((y : A) × IsIn y (x ∷ xs) × (f y ≡ max (f x) (greatest f xs)))
     pick (inl e) r = inr (x, inl refl, sym e)
     pick (inr e) (inl z) = inl (e ∙ z)
     pick (inr e) (inr y) = inr (y.0, inr y.1, y.2 ∙ sym e)
 
-    go : (greatest f xs ≡ 0) ⊎ ((y : A) × IsIn y xs × (f y ≡ greatest f xs)) → (max (f x) (greatest f xs) ≡ 0) ⊎ ((y : A) × IsIn y (x ∷ xs) × (f y ≡ max (f x) (greatest f xs)))
+    go : (greatest f xs ≡ 0) ⊎ ((y : A) × IsIn y xs × (f y ≡ greatest f xs))
+        → (max (f x) (greatest f xs) ≡ 0) ⊎ ((y : A) × IsIn y (x ∷ xs) × (f y ≡ max (f x) (greatest f xs)))
     go r = pick (larger (f x) (greatest f xs)) r
 
 pub greatest-more : {A : Type 0} (f h : A → ℕ) (xs : List A) → ((x : A) → f x ≤ h x) → greatest f xs ≤ greatest h xs

@@ -1,5 +1,6 @@
 -- The level of a party is the most vertices on a path of followers that ends in it.
-use Rattle.std.proofs.Common.{◌≡◌, ◌⊎◌, ℕ, suc, zero, ◌+◌, ◌<◌, ◌≤◌, ◌==◌, Bool, true, false, cond, not, IsTrue, List, [], ◌∷◌, ◌++◌, length, refl, sym, ap, ◌∙◌, subst, inl, inr, arith, eqb-true, eq-eqb, ltb-true, lt-ltb}
+use Rattle.std.proofs.Common.{◌≡◌, ◌⊎◌, ℕ, suc, zero, ◌+◌, ◌<◌, ◌≤◌, ◌==◌, Bool, true, false, cond, not, IsTrue, List, [], ◌∷◌, ◌++◌, length, refl, sym}
+use Rattle.std.proofs.Common.{ap, ◌∙◌, subst, inl, inr, arith, eqb-true, eq-eqb, ltb-true, lt-ltb}
 use Rattle.std.proofs.lemmas.Bool.{false≢true}
 use Rattle.swap_base.specs.Lists.{IsIn, greatest}
 use Rattle.swap_base.proofs.Lists.{and_parts, and_both, greatest-in, greatest-below, in_range}
@@ -33,12 +34,15 @@ before-reached : (g : Graph) (f : ℕ → ℕ) (v : ℕ) → (most_before g f v 
 unfolding most_before
 before-reached g f v = go (greatest-reached (λ b. cond (b.to == v) (f b.from) 0) g.arcs)
   where
-    by_test : (a : ArcEnds) (b : Bool) (m : ℕ) → IsIn a g.arcs → (a.to == v) ≡ b → cond b (f a.from) 0 ≡ m → (m ≡ 0) ⊎ ((u : ℕ) × (has_arc g u v ≡ true) × (f u ≡ m))
+    by_test : (a : ArcEnds) (b : Bool) (m : ℕ) → IsIn a g.arcs → (a.to == v) ≡ b → cond b (f a.from) 0 ≡ m
+        → (m ≡ 0) ⊎ ((u : ℕ) × (has_arc g u v ≡ true) × (f u ≡ m))
     by_test a true m i t e = inr (a.from, arc_from g a a.from v i refl (eqb-true a.to v t), e)
     by_test a false m i t e = inl (sym e)
 
-    go : (greatest (λ b. cond (b.to == v) (f b.from) 0) g.arcs ≡ 0) ⊎ ((a : ArcEnds) × IsIn a g.arcs × (cond (a.to == v) (f a.from) 0 ≡ greatest (λ b. cond (b.to == v) (f b.from) 0) g.arcs))
-        → (greatest (λ b. cond (b.to == v) (f b.from) 0) g.arcs ≡ 0) ⊎ ((u : ℕ) × (has_arc g u v ≡ true) × (f u ≡ greatest (λ b. cond (b.to == v) (f b.from) 0) g.arcs))
+    go : (greatest (λ b. cond (b.to == v) (f b.from) 0) g.arcs ≡ 0)
+        ⊎ ((a : ArcEnds) × IsIn a g.arcs × (cond (a.to == v) (f a.from) 0 ≡ greatest (λ b. cond (b.to == v) (f b.from) 0) g.arcs))
+        → (greatest (λ b. cond (b.to == v) (f b.from) 0) g.arcs ≡ 0)
+        ⊎ ((u : ℕ) × (has_arc g u v ≡ true) × (f u ≡ greatest (λ b. cond (b.to == v) (f b.from) 0) g.arcs))
     go (inl z) = inl z
     go (inr a) = by_test a.0 (a.0.to == v) (greatest (λ b. cond (b.to == v) (f b.from) 0) g.arcs) a.1 refl a.2
 
@@ -100,7 +104,8 @@ within-below g ls zero v = omega arith
 within-below g ls (suc k) v = after-below g ls (level_within g ls k) v k (within-below g ls k)
 
 -- along a path of followers the level rises
-rises : (g : Graph) (ls : List ℕ) (u : ℕ) (q : List ℕ) (v m t : ℕ) → is_path g (u ∷ q) ≡ true → last_is v (u ∷ q) ≡ true → are_followers ls (u ∷ q) ≡ true → t ≡ m + length q → level_within g ls m u + length q ≤ level_within g ls t v
+rises : (g : Graph) (ls : List ℕ) (u : ℕ) (q : List ℕ) (v m t : ℕ) → is_path g (u ∷ q) ≡ true → last_is v (u ∷ q) ≡ true
+    → are_followers ls (u ∷ q) ≡ true → t ≡ m + length q → level_within g ls m u + length q ≤ level_within g ls t v
 rises g ls u [] v m t e last o s =
     let a : t ≡ m = omega arith in
     let b : u ≡ v = eqb-true u v last in
@@ -111,11 +116,13 @@ rises g ls u (w ∷ q) v m t e last o s =
     let l = and_parts (not (is_among w ls)) (are_followers ls q) k.1 in
     let r = rises g ls w q v (suc m) t p.rest last k.1 (omega arith) in
     let follows = follower_from g ls w (path_below g (w ∷ q) w p.rest (inl refl)) l.0 in
-    let x : level_within g ls (suc m) w ≡ most_before g (level_within g ls m) w + 1 = within-suc g ls m w ∙ after-follower g ls (level_within g ls m) w follows in
+    let x : level_within g ls (suc m) w ≡ most_before g (level_within g ls m) w + 1 =
+    within-suc g ls m w ∙ after-follower g ls (level_within g ls m) w follows in
     let y = before-arc g (level_within g ls m) u w p.arc in
     omega (arith, r, x, y)
 
-pub level-most : (g : Graph) (ls : List ℕ) (v : ℕ) (p : List ℕ) → is_path g p ≡ true → last_is v p ≡ true → are_followers ls p ≡ true → length p ≤ level_of g ls v
+pub level-most : (g : Graph) (ls : List ℕ) (v : ℕ) (p : List ℕ) → is_path g p ≡ true → last_is v p ≡ true → are_followers ls p ≡ true
+    → length p ≤ level_of g ls v
 unfolding level_of
 level-most g ls v [] e last o = absurd (cc e)
 level-most g ls v (u ∷ q) e last o =
@@ -154,7 +161,14 @@ module _ (g : Graph) (ls : List ℕ) (feedback : IsFeedback g ls) where
       let p = path_snoc g r.run u v r.path r.last a f.0 fresh in
       let z = r.size in
       let q = length-push r.run v in
-      record { run = r.run ++ v ∷ []; path = p.0; last = p.1; followers = followers-append ls r.run v r.followers (no_not (is_among v ls) f.1); size = omega arith }
+      record {
+        run = r.run ++ v ∷ [];
+        path = p.0;
+        last = p.1;
+        followers = followers-append ls r.run v r.followers (no_not (is_among v ls) f.1);
+        size =
+            omega arith;
+      }
     where
       no_not : (b : Bool) → not b ≡ true → b ≡ false
       no_not true h = absurd (cc h)
@@ -165,15 +179,19 @@ module _ (g : Graph) (ls : List ℕ) (feedback : IsFeedback g ls) where
   within-reached zero v = inl refl
   within-reached (suc k) v = go (within-reached k) (is_follower g ls v) refl
     where
-      by_before : ((u : ℕ) → (level_within g ls k u ≡ 0) ⊎ Run u (level_within g ls k u)) → is_follower g ls v ≡ true → (most_before g (level_within g ls k) v ≡ 0) ⊎ ((u : ℕ) × (has_arc g u v ≡ true) × (level_within g ls k u ≡ most_before g (level_within g ls k) v)) → Run v (most_before g (level_within g ls k) v + 1)
+      by_before : ((u : ℕ) → (level_within g ls k u ≡ 0) ⊎ Run u (level_within g ls k u)) → is_follower g ls v ≡ true
+          → (most_before g (level_within g ls k) v ≡ 0) ⊎ ((u : ℕ) × (has_arc g u v ≡ true)
+          × (level_within g ls k u ≡ most_before g (level_within g ls k) v)) → Run v (most_before g (level_within g ls k) v + 1)
       by_before rest e (inl z) = rw z (alone v e)
       by_before rest e (inr r) = by_run r.0 r.1 r.2 (rest r.0)
         where
-          by_run : (u : ℕ) → has_arc g u v ≡ true → level_within g ls k u ≡ most_before g (level_within g ls k) v → (level_within g ls k u ≡ 0) ⊎ Run u (level_within g ls k u) → Run v (most_before g (level_within g ls k) v + 1)
+          by_run : (u : ℕ) → has_arc g u v ≡ true → level_within g ls k u ≡ most_before g (level_within g ls k) v
+              → (level_within g ls k u ≡ 0) ⊎ Run u (level_within g ls k u) → Run v (most_before g (level_within g ls k) v + 1)
           by_run u a s (inl z) = let y : most_before g (level_within g ls k) v ≡ 0 = sym s ∙ z in rw y (alone v e)
           by_run u a s (inr q) = further u v (most_before g (level_within g ls k) v) e a (subst (Run u) s q)
 
-      go : ((u : ℕ) → (level_within g ls k u ≡ 0) ⊎ Run u (level_within g ls k u)) → (b : Bool) → is_follower g ls v ≡ b → (level_after g ls (level_within g ls k) v ≡ 0) ⊎ Run v (level_after g ls (level_within g ls k) v)
+      go : ((u : ℕ) → (level_within g ls k u ≡ 0) ⊎ Run u (level_within g ls k u)) → (b : Bool) → is_follower g ls v ≡ b
+          → (level_after g ls (level_within g ls k) v ≡ 0) ⊎ Run v (level_after g ls (level_within g ls k) v)
       go rest true e = inr (rw (after-follower g ls (level_within g ls k) v e) (by_before rest e (before-reached g (level_within g ls k) v)))
       go rest false e = inl (after-other g ls (level_within g ls k) v e)
 
@@ -184,7 +202,8 @@ module _ (g : Graph) (ls : List ℕ) (feedback : IsFeedback g ls) where
   pub is_level : (v : ℕ) → IsLevel g ls v (level_of g ls v)
   is_level v = record { reached = go (level-reached v); most = level-most g ls v }
     where
-      go : (level_of g ls v ≡ 0) ⊎ Run v (level_of g ls v) → (level_of g ls v ≡ 0) ⊎ ((p : List ℕ) × IsTrue (is_path g p) × IsTrue (last_is v p) × IsTrue (are_followers ls p) × (length p ≡ level_of g ls v))
+      go : (level_of g ls v ≡ 0) ⊎ Run v (level_of g ls v) → (level_of g ls v ≡ 0)
+          ⊎ ((p : List ℕ) × IsTrue (is_path g p) × IsTrue (last_is v p) × IsTrue (are_followers ls p) × (length p ≡ level_of g ls v))
       go (inl z) = inl z
       go (inr r) = inr (r.run, r.path, r.last, r.followers, r.size)
 
@@ -205,12 +224,14 @@ module _ (g : Graph) (ls : List ℕ) (feedback : IsFeedback g ls) where
   unfolding height_of
   height-reached = go (greatest-reached (level_of g ls) (parties g))
     where
-      by_run : (v h : ℕ) → level_of g ls v ≡ h → (level_of g ls v ≡ 0) ⊎ Run v (level_of g ls v) → (h ≡ 0) ⊎ ((p : List ℕ) × IsTrue (is_path g p) × IsTrue (are_followers ls p) × (length p ≡ h))
+      by_run : (v h : ℕ) → level_of g ls v ≡ h → (level_of g ls v ≡ 0) ⊎ Run v (level_of g ls v)
+          → (h ≡ 0) ⊎ ((p : List ℕ) × IsTrue (is_path g p) × IsTrue (are_followers ls p) × (length p ≡ h))
       by_run v h e (inl z) = inl (sym e ∙ z)
       by_run v h e (inr r) = inr (r.run, r.path, r.followers, r.size ∙ e)
 
       go : (greatest (level_of g ls) (parties g) ≡ 0) ⊎ ((v : ℕ) × IsIn v (parties g) × (level_of g ls v ≡ greatest (level_of g ls) (parties g)))
-          → (greatest (level_of g ls) (parties g) ≡ 0) ⊎ ((p : List ℕ) × IsTrue (is_path g p) × IsTrue (are_followers ls p) × (length p ≡ greatest (level_of g ls) (parties g)))
+          → (greatest (level_of g ls) (parties g) ≡ 0) ⊎ ((p : List ℕ) × IsTrue (is_path g p) × IsTrue (are_followers ls p)
+          × (length p ≡ greatest (level_of g ls) (parties g)))
       go (inl z) = inl z
       go (inr r) = by_run r.0 (greatest (level_of g ls) (parties g)) r.2 (level-reached r.0)
 

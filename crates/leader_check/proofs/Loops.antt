@@ -1,5 +1,6 @@
 -- Loops over lists and over ranges of numbers.
-use Rattle.std.proofs.Common.{◌≡◌, ℕ, suc, ◌+◌, ◌-◌, ◌<◌, ◌≤◌, max, true, false, List, [], ◌∷◌, length, get_or, drop, Option, Some, None, is_some, refl, sym, ap, ◌∙◌, arith, add-one, drop-cons}
+use Rattle.std.proofs.Common.{◌≡◌, ℕ, suc, ◌+◌, ◌-◌, ◌<◌, ◌≤◌, max, true, false, List, [], ◌∷◌, length, get_or, drop, Option, Some, None, is_some, refl}
+use Rattle.std.proofs.Common.{sym, ap, ◌∙◌, arith, add-one, drop-cons}
 use Rattle.std.specs.List.{range_with_len}
 use Rattle.std.proofs.lemmas.List.{nil_from_length, length-drop}
 use Rattle.swap_base.specs.Lists.{or_else, first_of, greatest}
@@ -12,7 +13,8 @@ drop-none xs i le = nil_from_length (drop i xs) (omega (arith, length-drop i xs)
 
 -- The greatest value.
 
-pub greatest_goes_on : {A : Type 0} (f : A → ℕ) (xs : List A) (i : ℕ) (d : A) (m n total : ℕ) → i < length xs → n ≡ max m (f (get_or xs i d)) → max m (greatest f (drop i xs)) ≡ total → max n (greatest f (drop (i + 1) xs)) ≡ total
+pub greatest_goes_on : {A : Type 0} (f : A → ℕ) (xs : List A) (i : ℕ) (d : A) (m n total : ℕ) → i < length xs → n ≡ max m (f (get_or xs i d))
+    → max m (greatest f (drop i xs)) ≡ total → max n (greatest f (drop (i + 1) xs)) ≡ total
 greatest_goes_on f xs i d m n total lt e so_far =
     let k : greatest f (drop i xs) ≡ max (f (get_or xs i d)) (greatest f (drop (i + 1) xs)) = ap (greatest f) (drop-next xs i d lt) in
     omega (arith, k, e, so_far)
@@ -41,11 +43,15 @@ or_else-found : {B : Type 0} (o r : Option B) → is_some o ≡ true → or_else
 or_else-found None r e = cc e
 or_else-found (Some y) r e = refl
 
-pub first_goes_on : {B : Type 0} (f : ℕ → Option B) (a n : ℕ) (total : Option B) → a < n → is_some (f a) ≡ false → first_of f (range_with_len a (n - a)) ≡ total → first_of f (range_with_len (a + 1) (n - (a + 1))) ≡ total
-first_goes_on f a n total lt none so_far = sym (ap (first_of f) (range-next a n lt) ∙ or_else-none (f a) (first_of f (range_with_len (a + 1) (n - (a + 1)))) none) ∙ so_far
+pub first_goes_on : {B : Type 0} (f : ℕ → Option B) (a n : ℕ) (total : Option B) → a < n → is_some (f a) ≡ false
+    → first_of f (range_with_len a (n - a)) ≡ total → first_of f (range_with_len (a + 1) (n - (a + 1))) ≡ total
+first_goes_on f a n total lt none so_far =
+    sym (ap (first_of f) (range-next a n lt) ∙ or_else-none (f a) (first_of f (range_with_len (a + 1) (n - (a + 1)))) none) ∙ so_far
 
-pub first_is_found : {B : Type 0} (f : ℕ → Option B) (a n : ℕ) (total : Option B) → a < n → is_some (f a) ≡ true → first_of f (range_with_len a (n - a)) ≡ total → f a ≡ total
-first_is_found f a n total lt some so_far = sym (ap (first_of f) (range-next a n lt) ∙ or_else-found (f a) (first_of f (range_with_len (a + 1) (n - (a + 1)))) some) ∙ so_far
+pub first_is_found : {B : Type 0} (f : ℕ → Option B) (a n : ℕ) (total : Option B) → a < n → is_some (f a) ≡ true
+    → first_of f (range_with_len a (n - a)) ≡ total → f a ≡ total
+first_is_found f a n total lt some so_far =
+    sym (ap (first_of f) (range-next a n lt) ∙ or_else-found (f a) (first_of f (range_with_len (a + 1) (n - (a + 1)))) some) ∙ so_far
 
 pub first_is_none : {B : Type 0} (f : ℕ → Option B) (a n : ℕ) (total : Option B) → n ≤ a → first_of f (range_with_len a (n - a)) ≡ total → None ≡ total
 first_is_none f a n total le so_far = sym (ap (first_of f) (range-none a n le)) ∙ so_far

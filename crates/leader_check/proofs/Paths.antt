@@ -1,5 +1,6 @@
 -- Paths are as long as the vertices allow, and how paths of followers go on.
-use Rattle.std.proofs.Common.{◌≡◌, ◌⊎◌, ℕ, suc, zero, ◌+◌, ◌<◌, ◌≤◌, ◌==◌, Bool, true, false, cond, not, ◌&&◌, ◌||◌, List, [], ◌∷◌, ◌++◌, length, filter, refl, sym, ap, ◌∙◌, subst, inl, inr, arith, eqb-true, eq-eqb, ltb-true, lt-ltb, nat_lt}
+use Rattle.std.proofs.Common.{◌≡◌, ◌⊎◌, ℕ, suc, zero, ◌+◌, ◌<◌, ◌≤◌, ◌==◌, Bool, true, false, cond, not, ◌&&◌, ◌||◌, List, [], ◌∷◌, ◌++◌, length}
+use Rattle.std.proofs.Common.{filter, refl, sym, ap, ◌∙◌, subst, inl, inr, arith, eqb-true, eq-eqb, ltb-true, lt-ltb, nat_lt}
 use Rattle.std.specs.List.{range_with_len}
 use Rattle.swap_base.specs.Lists.{IsIn}
 use Rattle.swap_base.proofs.Lists.{and_parts, and_both, list_any-in, from_filter, in_range, from_append}
@@ -45,10 +46,12 @@ not_among u p h = go (is_among u p) refl
     go true e = absurd (h (is_among-true u p e))
     go false e = refl
 
-pub path_more : (g : Graph) (u v : ℕ) (p : List ℕ) → u < g.n → (IsIn u (v ∷ p) → ⊥) → has_arc g u v ≡ true → is_path g (v ∷ p) ≡ true → is_path g (u ∷ v ∷ p) ≡ true
+pub path_more : (g : Graph) (u v : ℕ) (p : List ℕ) → u < g.n → (IsIn u (v ∷ p) → ⊥) → has_arc g u v ≡ true → is_path g (v ∷ p) ≡ true
+    → is_path g (u ∷ v ∷ p) ≡ true
 path_more g u v p b f a r =
     and_both (nat_lt u g.n && not (is_among u (v ∷ p)) && has_arc g u v) (is_path g (v ∷ p))
-    (and_both (nat_lt u g.n && not (is_among u (v ∷ p))) (has_arc g u v) (and_both (nat_lt u g.n) (not (is_among u (v ∷ p))) (lt-ltb u g.n b) (not_among u (v ∷ p) f)) a) r
+    (and_both (nat_lt u g.n && not (is_among u (v ∷ p))) (has_arc g u v)
+    (and_both (nat_lt u g.n) (not (is_among u (v ∷ p))) (lt-ltb u g.n b) (not_among u (v ∷ p) f)) a) r
 
 pub path_distinct : (g : Graph) (p : List ℕ) → is_path g p ≡ true → AreDistinct p
 path_distinct g [] e = tt
@@ -102,7 +105,8 @@ distinct_filter f (x ∷ p) d = go (f x) (distinct_filter f p d.1)
 
 -- Paths of followers that go on.
 
-pub path_snoc : (g : Graph) (p : List ℕ) (x u : ℕ) → is_path g p ≡ true → last_is x p ≡ true → has_arc g x u ≡ true → u < g.n → (IsIn u p → ⊥) → (is_path g (p ++ u ∷ []) ≡ true) × (last_is u (p ++ u ∷ []) ≡ true)
+pub path_snoc : (g : Graph) (p : List ℕ) (x u : ℕ) → is_path g p ≡ true → last_is x p ≡ true → has_arc g x u ≡ true → u < g.n → (IsIn u p → ⊥)
+    → (is_path g (p ++ u ∷ []) ≡ true) × (last_is u (p ++ u ∷ []) ≡ true)
 path_snoc g [] x u e last a b f = absurd (cc e)
 path_snoc g (w ∷ []) x u e last a b f =
     let same : w ≡ x = eqb-true w x last in
@@ -126,7 +130,8 @@ pub suffix_from : (g : Graph) (ls p : List ℕ) (u x : ℕ) → is_path g p ≡ 
 suffix_from g ls [] u x e last o i = absurd i
 suffix_from g ls (w ∷ p) u x e last o (inl q) = record { part = w ∷ p; between = (e, eq-eqb w u (sym q), last); followers = o }
 suffix_from g ls (w ∷ []) u x e last o (inr i) = absurd i
-suffix_from g ls (w ∷ y ∷ p) u x e last o (inr i) = suffix_from g ls (y ∷ p) u x (path_step g w y p e).rest last (and_parts (not (is_among w ls)) (are_followers ls (y ∷ p)) o).1 i
+suffix_from g ls (w ∷ y ∷ p) u x e last o (inr i) =
+    suffix_from g ls (y ∷ p) u x (path_step g w y p e).rest last (and_parts (not (is_among w ls)) (are_followers ls (y ∷ p)) o).1 i
 
 pub followers-append : (ls p : List ℕ) (u : ℕ) → are_followers ls p ≡ true → is_among u ls ≡ false → are_followers ls (p ++ u ∷ []) ≡ true
 followers-append ls [] u o f = and_both (not (is_among u ls)) true (ap not f) refl

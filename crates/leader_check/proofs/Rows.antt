@@ -1,5 +1,6 @@
 -- Rows of the parties' values, and what a further round makes of them.
-use Rattle.std.proofs.Common.{◌≡◌, ◌⊎◌, ℕ, suc, zero, ◌+◌, ◌-◌, ◌++◌, append_assoc, append-nil, ◌<◌, ◌≤◌, ◌==◌, max, cond, Option, Bool, true, false, ◌&&◌, List, [], ◌∷◌, length, get_or, map, replicate, refl, sym, ap, ◌∙◌, subst, inl, inr, arith, zero-add, slice_index}
+use Rattle.std.proofs.Common.{◌≡◌, ◌⊎◌, ℕ, suc, zero, ◌+◌, ◌-◌, ◌++◌, append_assoc, append-nil, ◌<◌, ◌≤◌, ◌==◌, max, cond, Option, Bool, true, false}
+use Rattle.std.proofs.Common.{◌&&◌, List, [], ◌∷◌, length, get_or, map, replicate, refl, sym, ap, ◌∙◌, subst, inl, inr, arith, zero-add, slice_index}
 use Rattle.std.proofs.Math.Path.{fun_ext}
 use Rattle.std.specs.Int.{bit_at}
 use Rattle.std.specs.List.{range_with_len}
@@ -11,7 +12,8 @@ use Rattle.swap_digraph.specs.Value.{Graph}
 use Rattle.swap_digraph.specs.Graph.{parties}
 use Rattle.leader_check.specs.Followers.{is_follower, at}
 use Rattle.leader_check.specs.Levels.{most_before, level_after, level_within, levels_within, level_of, height_of}
-use Rattle.leader_check.specs.Cycles.{only_if, leads_into, first_step, walks, walk_of, cycle_of, cycle_from, has_bit, has_bit_in, cycle_by, TellsWalks, TellAllWalks}
+use Rattle.leader_check.specs.Cycles.{only_if, leads_into, first_step, walks, walk_of, cycle_of, cycle_from, has_bit, has_bit_in, cycle_by, TellsWalks}
+use Rattle.leader_check.specs.Cycles.{TellAllWalks}
 use Rattle.leader_check.proofs.Followers.{follower_parts}
 use Rattle.leader_check.proofs.Heights.{after-other, within-below}
 use Rattle.leader_check.proofs.Walks as on
@@ -23,7 +25,8 @@ below_or : (m n : ℕ) → (m < n) ⊎ (n ≤ m)
 below_or m n = grind arith
 
 -- a row of values reads as their function, where the function is the default outside
-pub row_reads : {X : Type 0} (f : ℕ → X) (n : ℕ) (d : X) (xs : List X) → ((v : ℕ) → n ≤ v → f v ≡ d) → xs ≡ map f (range_with_len 0 n) → (v : ℕ) → get_or xs v d ≡ f v
+pub row_reads : {X : Type 0} (f : ℕ → X) (n : ℕ) (d : X) (xs : List X) → ((v : ℕ) → n ≤ v → f v ≡ d) → xs ≡ map f (range_with_len 0 n) → (v : ℕ)
+    → get_or xs v d ≡ f v
 row_reads {X = X} f n d xs outside e v = ap (λ (ys : List X). get_or ys v d) e ∙ go (below_or v n)
   where
     go : (v < n) ⊎ (n ≤ v) → get_or (map f (range_with_len 0 n)) v d ≡ f v
@@ -65,7 +68,9 @@ levels_none g ls = go 0 g.n
     go a zero = refl
     go a (suc n) = ap (λ xs. 0 ∷ xs) (go (a + 1) n)
 
-pub levels_next : (g : Graph) (ls : List ℕ) (k : ℕ) (follows : List Bool) (row next : List ℕ) → follows ≡ map (is_follower g ls) (parties g) → row ≡ levels_within g ls k → next ≡ map (λ v. cond (at follows v) (most_before g (slice_index row) v + 1) 0) (parties g) → next ≡ levels_within g ls (k + 1)
+pub levels_next : (g : Graph) (ls : List ℕ) (k : ℕ) (follows : List Bool) (row next : List ℕ) → follows ≡ map (is_follower g ls) (parties g)
+    → row ≡ levels_within g ls k → next ≡ map (λ v. cond (at follows v) (most_before g (slice_index row) v + 1) 0) (parties g)
+    → next ≡ levels_within g ls (k + 1)
 unfolding level_within level_after
 levels_next g ls k follows row next e is h =
     let s : k + 1 ≡ suc k = omega arith in
@@ -97,29 +102,41 @@ no_bit : (row : List ℕ) (v u : ℕ) → length row ≤ u → has_bit row v u �
 no_bit row v u le = ap (λ x. bit_at x v == 1) (get_or_past row u 0 le) ∙ ap (λ (x : ℕ). x == 1) (bit_at-zero v)
 
 -- a row that tells the values of f inside tells them everywhere, where f is false outside
-bits_are : (n v : ℕ) (f : ℕ → Bool) (row : List ℕ) → length row ≡ n → ((u : ℕ) → n ≤ u → f u ≡ false) → ((u : ℕ) → u < n → has_bit row v u ≡ f u) → (u : ℕ) → has_bit row v u ≡ f u
+bits_are : (n v : ℕ) (f : ℕ → Bool) (row : List ℕ) → length row ≡ n → ((u : ℕ) → n ≤ u → f u ≡ false) → ((u : ℕ) → u < n → has_bit row v u ≡ f u)
+    → (u : ℕ) → has_bit row v u ≡ f u
 bits_are n v f row size outside inside u = go (below_or u n)
   where
     go : (u < n) ⊎ (n ≤ u) → has_bit row v u ≡ f u
     go (inl lt) = inside u lt
     go (inr le) = no_bit row v u (omega (arith, size)) ∙ sym (outside u le)
 
-pub walks_none : (g : Graph) (ls : List ℕ) (follows : List Bool) (row : List ℕ) → follows ≡ map (is_follower g ls) (parties g) → length row ≡ length follows → ((v u : ℕ) → u < length follows → has_bit row v u ≡ (at follows u && (u == v))) → TellsWalks g ls 0 row
+pub walks_none : (g : Graph) (ls : List ℕ) (follows : List Bool) (row : List ℕ) → follows ≡ map (is_follower g ls) (parties g)
+    → length row ≡ length follows → ((v u : ℕ) → u < length follows → has_bit row v u ≡ (at follows u && (u == v))) → TellsWalks g ls 0 row
 unfolding walks
 walks_none g ls follows row e size stays =
     let s = length-row (is_follower g ls) g.n follows e in
     record {
       parties = size ∙ s;
-      tells = λ v. bits_are g.n v (walks g ls v 0) row (size ∙ s) (walks-outside g ls v 0) (λ u lt. stays v u (omega (arith, s)) ∙ ap (λ (t : ℕ → Bool). t u && (u == v)) (follows_at g ls follows e));
+      tells =
+          λ v. bits_are g.n v (walks g ls v 0) row (size ∙ s) (walks-outside g ls v 0) (λ u lt. stays v u (omega (arith, s))
+          ∙ ap (λ (t : ℕ → Bool). t u && (u == v)) (follows_at g ls follows e));
     }
 
-pub walks_next : (g : Graph) (ls : List ℕ) (k : ℕ) (follows : List Bool) (row next : List ℕ) → follows ≡ map (is_follower g ls) (parties g) → TellsWalks g ls k row → length next ≡ g.n → ((v u : ℕ) → u < g.n → has_bit next v u ≡ (at follows u && leads_into g (has_bit row v) u)) → TellsWalks g ls (k + 1) next
+pub walks_next : (g : Graph) (ls : List ℕ) (k : ℕ) (follows : List Bool) (row next : List ℕ) → follows ≡ map (is_follower g ls) (parties g)
+    → TellsWalks g ls k row → length next ≡ g.n → ((v u : ℕ) → u < g.n → has_bit next v u ≡ (at follows u && leads_into g (has_bit row v) u))
+    → TellsWalks g ls (k + 1) next
 unfolding walks
 walks_next g ls k follows row next e tells size leads =
     let s : suc k ≡ k + 1 = omega arith in
     let at_row : (v : ℕ) → has_bit row v ≡ walks g ls v k = λ v. fun_ext (tells.tells v) in
-    let inside : (v u : ℕ) → u < g.n → has_bit next v u ≡ walks g ls v (suc k) u = λ v u lt. leads v u lt ∙ ap (λ (t : ℕ → Bool). t u && leads_into g (has_bit row v) u) (follows_at g ls follows e) ∙ ap (λ (t : ℕ → Bool). is_follower g ls u && leads_into g t u) (at_row v) in
-    subst (λ (j : ℕ). TellsWalks g ls j next) s (record { parties = size; tells = λ v. bits_are g.n v (walks g ls v (suc k)) next size (walks-outside g ls v (suc k)) (inside v) })
+    let inside : (v u : ℕ) → u < g.n → has_bit next v u ≡ walks g ls v (suc k) u =
+    λ v u lt. leads v u lt ∙ ap (λ (t : ℕ → Bool). t u && leads_into g (has_bit row v) u) (follows_at g ls follows e)
+    ∙ ap (λ (t : ℕ → Bool). is_follower g ls u && leads_into g t u) (at_row v) in
+    subst (λ (j : ℕ). TellsWalks g ls j next) s (record {
+      parties = size;
+      tells =
+          λ v. bits_are g.n v (walks g ls v (suc k)) next size (walks-outside g ls v (suc k)) (inside v);
+    })
 
 -- the rows up to the k-th
 pub record TellWalks (g : Graph) (ls : List ℕ) (k : ℕ) (rows : List (List ℕ)) : Type 0 where
@@ -127,7 +144,8 @@ pub record TellWalks (g : Graph) (ls : List ℕ) (k : ℕ) (rows : List (List �
   pub row : (j : ℕ) → j ≤ k → TellsWalks g ls j (get_or rows j [])
 
 -- the last row, as the program reads it
-pub row_found : (g : Graph) (ls : List ℕ) (k : ℕ) (rows : List (List ℕ)) (found row : List ℕ) → TellWalks g ls k rows → found ≡ get_or rows k found → row ≡ found → TellsWalks g ls k row
+pub row_found : (g : Graph) (ls : List ℕ) (k : ℕ) (rows : List (List ℕ)) (found row : List ℕ) → TellWalks g ls k rows → found ≡ get_or rows k found
+    → row ≡ found → TellsWalks g ls k row
 row_found g ls k rows found row tell is e =
     let s = tell.size in
     let q : row ≡ get_or rows k [] = e ∙ get_or_read rows k found (omega (arith, s)) is [] in
@@ -157,7 +175,8 @@ rows_first g ls row rows e tells =
 at_or_below : (j k : ℕ) → j ≤ k + 1 → (j ≤ k) ⊎ (j ≡ k + 1)
 at_or_below j k le = grind arith
 
-pub rows_more : (g : Graph) (ls : List ℕ) (k : ℕ) (row : List ℕ) (rows next : List (List ℕ)) → next ≡ rows ++ row ∷ [] → TellWalks g ls k rows → TellsWalks g ls (k + 1) row → TellWalks g ls (k + 1) next
+pub rows_more : (g : Graph) (ls : List ℕ) (k : ℕ) (row : List ℕ) (rows next : List (List ℕ)) → next ≡ rows ++ row ∷ [] → TellWalks g ls k rows
+    → TellsWalks g ls (k + 1) row → TellWalks g ls (k + 1) next
 rows_more g ls k row rows next e tell tells =
     let s = tell.size in
     subst (TellWalks g ls (k + 1)) (sym e) (record { size = length-push rows row ∙ ap (λ (m : ℕ). m + 1) s; row = λ j le. go s j (at_or_below j k le) })
@@ -190,18 +209,22 @@ first_same {B = B} f h a (suc n) e =
     ap (λ (o : Option B). or_else o (first_of f (range_with_len (a + 1) n))) (e a (omega arith))
     ∙ ap (λ (o : Option B). or_else (h a) o) (first_same f h (a + 1) n (λ k lt. e k (omega arith)))
 
-pub cycle_is_from : (g : Graph) (ls : List ℕ) (rows : List (List ℕ)) (v : ℕ) → TellAllWalks g ls rows → first_of (cycle_by g (has_bit_in rows v) v) (range_with_len 1 g.n) ≡ cycle_from g ls v
+pub cycle_is_from : (g : Graph) (ls : List ℕ) (rows : List (List ℕ)) (v : ℕ) → TellAllWalks g ls rows
+    → first_of (cycle_by g (has_bit_in rows v) v) (range_with_len 1 g.n) ≡ cycle_from g ls v
 unfolding cycle_from
 cycle_is_from g ls rows v tell =
-    first_same (cycle_by g (has_bit_in rows v) v) (cycle_of g ls v) 1 g.n (λ k lt. same_cycle g (has_bit_in rows v) (walks g ls v) v k (λ j le. fun_ext ((tell.row j (omega arith)).tells v)))
+    first_same (cycle_by g (has_bit_in rows v) v) (cycle_of g ls v) 1 g.n (λ k lt.
+    same_cycle g (has_bit_in rows v) (walks g ls v) v k (λ j le. fun_ext ((tell.row j (omega arith)).tells v)))
 
 -- The loop that walks.
 
-pub walk_goes_on : (g : Graph) (f : ℕ → ℕ → Bool) (left u w : ℕ) (list total : List ℕ) → 0 < left → w ≡ first_step g (f (left - 1)) u → list ++ walk_of g f left u ≡ total → (list ++ u ∷ []) ++ walk_of g f (left - 1) w ≡ total
+pub walk_goes_on : (g : Graph) (f : ℕ → ℕ → Bool) (left u w : ℕ) (list total : List ℕ) → 0 < left → w ≡ first_step g (f (left - 1)) u
+    → list ++ walk_of g f left u ≡ total → (list ++ u ∷ []) ++ walk_of g f (left - 1) w ≡ total
 unfolding walk_of
 walk_goes_on g f left u w list total some e so_far =
     let s : left ≡ suc (left - 1) = omega arith in
-    append_assoc list (u ∷ []) (walk_of g f (left - 1) w) ∙ ap (λ (x : ℕ). list ++ (u ∷ walk_of g f (left - 1) x)) e ∙ sym (ap (λ (k : ℕ). list ++ walk_of g f k u) s) ∙ so_far
+    append_assoc list (u ∷ []) (walk_of g f (left - 1) w) ∙ ap (λ (x : ℕ). list ++ (u ∷ walk_of g f (left - 1) x)) e
+    ∙ sym (ap (λ (k : ℕ). list ++ walk_of g f k u) s) ∙ so_far
 
 pub walk_ends : (g : Graph) (f : ℕ → ℕ → Bool) (left u : ℕ) (list total : List ℕ) → left ≤ 0 → list ++ walk_of g f left u ≡ total → list ≡ total
 unfolding walk_of

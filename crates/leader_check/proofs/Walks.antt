@@ -1,5 +1,6 @@
 -- Walks of followers, and the cycles that they close to.
-use Rattle.std.proofs.Common.{◌≡◌, ◌⊎◌, ℕ, suc, zero, ◌+◌, ◌<◌, ◌≤◌, ◌==◌, Bool, true, false, not, ◌&&◌, List, [], ◌∷◌, length, Option, Some, None, is_some, unwrap_or, refl, sym, ap, ◌∙◌, subst, inl, inr, arith, eqb-true, eq-eqb, lt-ltb}
+use Rattle.std.proofs.Common.{◌≡◌, ◌⊎◌, ℕ, suc, zero, ◌+◌, ◌<◌, ◌≤◌, ◌==◌, Bool, true, false, not, ◌&&◌, List, [], ◌∷◌, length, Option, Some, None}
+use Rattle.std.proofs.Common.{is_some, unwrap_or, refl, sym, ap, ◌∙◌, subst, inl, inr, arith, eqb-true, eq-eqb, lt-ltb}
 use Rattle.std.specs.List.{list_any, range_with_len}
 use Rattle.swap_base.specs.Lists.{or_else, first_of, IsIn}
 use Rattle.swap_base.proofs.Lists.{and_parts, and_both, any_at, list_any-in, in_from_moment, in_range, in_range_from, first_at, first_of-in}
@@ -23,7 +24,8 @@ pub record FirstIn {B : Type 0} (f : ℕ → Option B) (a m : ℕ) (y : B) : Typ
 at_or_after : (a j : ℕ) → a ≤ j → (j ≡ a) ⊎ (a + 1 ≤ j)
 at_or_after a j h = grind arith
 
-first_in_head : {B : Type 0} (f : ℕ → Option B) (a m : ℕ) (y : B) (o : Option B) → f a ≡ o → or_else o (first_of f (range_with_len (a + 1) m)) ≡ Some y → (first_of f (range_with_len (a + 1) m) ≡ Some y → FirstIn f (a + 1) m y) → FirstIn f a (suc m) y
+first_in_head : {B : Type 0} (f : ℕ → Option B) (a m : ℕ) (y : B) (o : Option B) → f a ≡ o → or_else o (first_of f (range_with_len (a + 1) m)) ≡ Some y
+    → (first_of f (range_with_len (a + 1) m) ≡ Some y → FirstIn f (a + 1) m y) → FirstIn f a (suc m) y
 first_in_head f a m y None h e rest =
     let r = rest e in
     let l = r.from in
@@ -84,7 +86,9 @@ module _ (g : Graph) (ls : List ℕ) where
       record {
         follows = p.0;
         next = m.now.to;
-        arc = arc_from g m.now u m.now.to (subst (λ xs. IsIn m.now xs) (sym m.stands.1) (in_from_moment m.past m.now m.stands.0)) (eqb-true m.now.from u q.0) refl;
+        arc =
+            arc_from g m.now u m.now.to (subst (λ xs. IsIn m.now xs) (sym m.stands.1) (in_from_moment m.past m.now m.stands.0))
+            (eqb-true m.now.from u q.0) refl;
         rest = q.1;
       }
 
@@ -93,7 +97,8 @@ module _ (g : Graph) (ls : List ℕ) where
   walks-step v k u w f e r =
       let a = arc_of g u w e in
       and_both (is_follower g ls u) (list_any (λ b. (b.from == u) && walks g ls v k b.to) g.arcs) f
-      (list_any-in (λ b. (b.from == u) && walks g ls v k b.to) g.arcs a.arc (and_both (a.arc.from == u) (walks g ls v k a.arc.to) (eq-eqb a.arc.from u a.from) (ap (walks g ls v k) a.to ∙ r)) a.among)
+      (list_any-in (λ b. (b.from == u) && walks g ls v k b.to) g.arcs a.arc
+      (and_both (a.arc.from == u) (walks g ls v k a.arc.to) (eq-eqb a.arc.from u a.from) (ap (walks g ls v k) a.to ∙ r)) a.among)
 
   pub walks-follower : (v k u : ℕ) → walks g ls v k u ≡ true → is_follower g ls u ≡ true
   walks-follower v zero u e = (walks-zero v u e).0
@@ -115,7 +120,8 @@ module _ (g : Graph) (ls : List ℕ) where
     pub arc : has_arc g u s ≡ true
     pub holds : f s ≡ true
 
-  least_of : (f : ℕ → Bool) (u : ℕ) (o : Option ℕ) → first_of (λ w. only_if (has_arc g u w && f w) w) (parties g) ≡ o → is_some o ≡ true → Least f u (unwrap_or o 0)
+  least_of : (f : ℕ → Bool) (u : ℕ) (o : Option ℕ) → first_of (λ w. only_if (has_arc g u w && f w) w) (parties g) ≡ o → is_some o ≡ true
+      → Least f u (unwrap_or o 0)
   least_of f u None e s = absurd (cc s)
   least_of f u (Some y) e s =
       let m = first_at (λ w. only_if (has_arc g u w && f w) w) (parties g) y e in
@@ -230,12 +236,22 @@ module _ (g : Graph) (ls : List ℕ) where
       let m = first_in (cycle_of g ls v) 1 g.n c e in
       let k = only_if-some (walks g ls v m.now v) (walk_of g (walks g ls v) m.now v) c m.gives in
       let t = m.to in
-      record { size = m.now; low = m.from; high = omega arith; walk = k.0; is = k.1; shortest = λ j low below w. not_both (walks g ls v j v) (walk_of g (walks g ls v) j v) w (m.below j low below) }
+      record {
+        size = m.now;
+        low = m.from;
+        high = omega arith;
+        walk = k.0;
+        is = k.1;
+        shortest =
+            λ j low below w. not_both (walks g ls v j v) (walk_of g (walks g ls v) j v) w (m.below j low below);
+      }
 
   -- a closed walk from v is found
   walk_found : (v k : ℕ) → 1 ≤ k → k ≤ g.n → walks g ls v k v ≡ true → cycle_from g ls v ≡ None → ⊥
   unfolding cycle_from
-  walk_found v k low high w e = not_both (walks g ls v k v) (walk_of g (walks g ls v) k v) w (none_in (cycle_of g ls v) (range_with_len 1 g.n) k e (in_range_from 1 k g.n low (omega arith)))
+  walk_found v k low high w e =
+      not_both (walks g ls v k v) (walk_of g (walks g ls v) k v) w
+      (none_in (cycle_of g ls v) (range_with_len 1 g.n) k e (in_range_from 1 k g.n low (omega arith)))
 
   below_or : (m n : ℕ) → (m < n) ⊎ (n ≤ m)
   below_or m n = grind arith
@@ -273,7 +289,8 @@ module _ (g : Graph) (ls : List ℕ) where
       false_true false e h = cc h
 
   -- a path of followers is a walk
-  path_walks : (u : ℕ) (q : List ℕ) (v t : ℕ) → is_path g (u ∷ q) ≡ true → last_is v (u ∷ q) ≡ true → are_followers ls (u ∷ q) ≡ true → has_arc g v t ≡ true → is_follower g ls t ≡ true → walks g ls t (suc (length q)) u ≡ true
+  path_walks : (u : ℕ) (q : List ℕ) (v t : ℕ) → is_path g (u ∷ q) ≡ true → last_is v (u ∷ q) ≡ true → are_followers ls (u ∷ q) ≡ true
+      → has_arc g v t ≡ true → is_follower g ls t ≡ true → walks g ls t (suc (length q)) u ≡ true
   path_walks u [] v t e last o a f =
       let k = and_parts (not (is_among u ls)) true o in
       let same : u ≡ v = eqb-true u v last in

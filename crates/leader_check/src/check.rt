@@ -8,8 +8,8 @@ ghost use Rattle.leader_check.specs.Laws.{EndWithin};
 ghost use Rattle.time_bounds.specs.Times.{need};
 ghost use Rattle.leader_check.specs.Shown.{cycle_shown, IfLevels, IfCycle};
 
-use crate::leader_answer::LeaderAnswer;
 use crate::cycle::follower_cycle;
+use crate::leader_answer::LeaderAnswer;
 use crate::rounds::{level_row, rise_on, with_greatest};
 use std::alloc::Global;
 use swap_base::{NoMemory, PartyId};

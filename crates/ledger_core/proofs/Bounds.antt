@@ -1,5 +1,6 @@
 -- A legal history has few entries, and its height is at most 1,000,000.
-use Rattle.std.proofs.Common.{◌≡◌, ◌≢◌, ℕ, ◌+◌, ◌<◌, ◌≤◌, ◌==◌, nat_lt, nat_le, Bool, true, false, cond, ◌||◌, List, [], ◌∷◌, ◌++◌, length, count_by, refl, sym, ap, ◌∙◌, arith, eqb-true, leb-false, ltb-false, length-append}
+use Rattle.std.proofs.Common.{◌≡◌, ◌≢◌, ℕ, ◌+◌, ◌<◌, ◌≤◌, ◌==◌, nat_lt, nat_le, Bool, true, false, cond, ◌||◌, List, [], ◌∷◌, ◌++◌, length, count_by}
+use Rattle.std.proofs.Common.{refl, sym, ap, ◌∙◌, arith, eqb-true, leb-false, ltb-false, length-append}
 use Rattle.std.proofs.lemmas.Bool.{false≢true}
 use Rattle.std.proofs.lemmas.List.Sums.{sum_by_push}
 use Rattle.swap_base.proofs.Lists.{grow, all_moments_front, at_moment}
@@ -71,14 +72,17 @@ module _ (d : Deal) (a : ℕ) where
   some_of_two false true h = omega arith
   some_of_two false false h = absurd (false≢true h)
 
-  step : (h : List Entry) (e : Entry) (s : Sender) (w : What) → e.sender ≡ s → e.what ≡ w → IsLegalEntry d a h s w e.height e.reply → Bounds h → Bounds (h ++ e ∷ [])
+  step : (h : List Entry) (e : Entry) (s : Sender) (w : What) → e.sender ≡ s → e.what ≡ w → IsLegalEntry d a h s w e.height e.reply → Bounds h
+      → Bounds (h ++ e ∷ [])
   step h e (Party p) (Made c) es ew l b =
       let room : calls_of p h < 32 = room_of d a h p c e.reply l.reply l.room in
       let one = one_call h p (party d a) (p == party d a) refl room b.by_party in
       let two = one_call h p (counterparty d a) (p == counterparty d a) refl room b.by_counterparty in
       let some = some_of_two (p == party d a) (p == counterparty d a) l.of_the_two in
-      let at_party : calls_of (party d a) (h ++ e ∷ []) ≡ calls_of (party d a) h + cond (p == party d a) 1 0 = calls-push h e (party d a) ∙ ap (λ z. calls_of (party d a) h + cond (sent_by (party d a) z) 1 0) es in
-      let at_counterparty : calls_of (counterparty d a) (h ++ e ∷ []) ≡ calls_of (counterparty d a) h + cond (p == counterparty d a) 1 0 = calls-push h e (counterparty d a) ∙ ap (λ z. calls_of (counterparty d a) h + cond (sent_by (counterparty d a) z) 1 0) es in
+      let at_party : calls_of (party d a) (h ++ e ∷ []) ≡ calls_of (party d a) h + cond (p == party d a) 1 0 =
+      calls-push h e (party d a) ∙ ap (λ z. calls_of (party d a) h + cond (sent_by (party d a) z) 1 0) es in
+      let at_counterparty : calls_of (counterparty d a) (h ++ e ∷ []) ≡ calls_of (counterparty d a) h + cond (p == counterparty d a) 1 0 =
+      calls-push h e (counterparty d a) ∙ ap (λ z. calls_of (counterparty d a) h + cond (sent_by (counterparty d a) z) 1 0) es in
       let clock : ticks_of (h ++ e ∷ []) ≡ ticks_of h + 0 = ticks-push h e ∙ ap (λ z. ticks_of h + cond (is_tick z) 1 0) es in
       let at : height (h ++ e ∷ []) ≡ height h + 0 = height-push h e ∙ ap (λ z. height h + ticks_in z) ew in
       let long : length (h ++ e ∷ []) ≡ length h + 1 = length-append h (e ∷ []) in
@@ -90,8 +94,10 @@ module _ (d : Deal) (a : ℕ) where
       let room = tick_room h k e.reply l.reply l.room in
       let before = room.ticks in
       let below = room.height in
-      let at_party : calls_of (party d a) (h ++ e ∷ []) ≡ calls_of (party d a) h + 0 = calls-push h e (party d a) ∙ ap (λ z. calls_of (party d a) h + cond (sent_by (party d a) z) 1 0) es in
-      let at_counterparty : calls_of (counterparty d a) (h ++ e ∷ []) ≡ calls_of (counterparty d a) h + 0 = calls-push h e (counterparty d a) ∙ ap (λ z. calls_of (counterparty d a) h + cond (sent_by (counterparty d a) z) 1 0) es in
+      let at_party : calls_of (party d a) (h ++ e ∷ []) ≡ calls_of (party d a) h + 0 =
+      calls-push h e (party d a) ∙ ap (λ z. calls_of (party d a) h + cond (sent_by (party d a) z) 1 0) es in
+      let at_counterparty : calls_of (counterparty d a) (h ++ e ∷ []) ≡ calls_of (counterparty d a) h + 0 =
+      calls-push h e (counterparty d a) ∙ ap (λ z. calls_of (counterparty d a) h + cond (sent_by (counterparty d a) z) 1 0) es in
       let clock : ticks_of (h ++ e ∷ []) ≡ ticks_of h + 1 = ticks-push h e ∙ ap (λ z. ticks_of h + cond (is_tick z) 1 0) es in
       let at : height (h ++ e ∷ []) ≡ height h + k = height-push h e ∙ ap (λ z. height h + ticks_in z) ew in
       let long : length (h ++ e ∷ []) ≡ length h + 1 = length-append h (e ∷ []) in
@@ -103,9 +109,19 @@ module _ (d : Deal) (a : ℕ) where
   step h e Clock (Made c) es ew l b = absurd l
 
   pub bounds : (h : List Entry) → IsLegal d a h → Bounds h
-  bounds h = grow (λ x. IsLegal d a x → Bounds x) h (λ l. record { low = omega arith; ticks = omega arith; by_party = omega arith; by_counterparty = omega arith; few = omega arith })
-      (λ xs x rest l. step xs x x.sender x.what refl refl (at_moment (IsLegalMoment d a) (xs ++ x ∷ []) xs x l ([], refl)) (rest (all_moments_front (IsLegalMoment d a) xs (x ∷ []) l)))
+  bounds h =
+      grow (λ x. IsLegal d a x → Bounds x) h (λ l. record {
+        low = omega arith;
+        ticks = omega arith;
+        by_party = omega arith;
+        by_counterparty =
+            omega arith;
+        few = omega arith;
+      })
+      (λ xs x rest l. step xs x x.sender x.what refl refl (at_moment (IsLegalMoment d a) (xs ++ x ∷ []) xs x l ([], refl))
+      (rest (all_moments_front (IsLegalMoment d a) xs (x ∷ []) l)))
 
   -- every legal history is countable
   pub countable : (h : List Entry) → IsLegal d a h → IsCountable h
-  countable h l = let b = bounds h l in let low = b.low in let few = b.ticks in let one = b.by_party in let two = b.by_counterparty in let count = b.few in record { height = omega arith; count = omega arith }
+  countable h l = let b = bounds h l in let low = b.low in let few = b.ticks in let one = b.by_party in let two = b.by_counterparty in let count =
+      b.few in record { height = omega arith; count = omega arith }

@@ -1,5 +1,7 @@
 -- The contract that a legal history leaves, and its replies.
-use Rattle.std.proofs.Common.{◌≡◌, ℕ, zero, suc, ◌+◌, ◌<◌, ◌≤◌, ◌==◌, nat_lt, nat_le, Bool, true, false, cond, ◌&&◌, ◌||◌, IsTrue, List, [], ◌∷◌, ◌++◌, length, map, replicate, slice_set, get_or, Option, Some, None, is_some, is_none, option_map, refl, sym, ap, ap₂, ◌∙◌, arith, eqb-true, eq-eqb, leb-true, ltb-true, ltb-false}
+use Rattle.std.proofs.Common.{◌≡◌, ℕ, zero, suc, ◌+◌, ◌<◌, ◌≤◌, ◌==◌, nat_lt, nat_le, Bool, true, false, cond, ◌&&◌, ◌||◌, IsTrue, List, [], ◌∷◌, ◌++◌}
+use Rattle.std.proofs.Common.{length, map, replicate, slice_set, get_or, Option, Some, None, is_some, is_none, option_map, refl, sym, ap, ap₂, ◌∙◌}
+use Rattle.std.proofs.Common.{arith, eqb-true, eq-eqb, leb-true, ltb-true, ltb-false}
 use Rattle.std.specs.List.{range_with_len}
 use Rattle.std.proofs.lemmas.Option.{none-some}
 use Rattle.std.proofs.lemmas.List.FromFn.{get_or-map-range_with_len, length-map-range_with_len}
@@ -19,7 +21,8 @@ use Rattle.ledger_core.specs.declared.entry.Call.TheVariants.{Publish, Unlock, C
 use Rattle.ledger_core.specs.declared.entry.Entry.{Entry}
 use Rattle.ledger_core.specs.declared.facts.Settlement.{Settlement}
 use Rattle.ledger_core.specs.declared.facts.Settlement.TheVariants.{Claimed, Refunded}
-use Rattle.ledger_core.specs.History.{height, accepted, Publication, publication, published, Opening, opening, opened, settling, settled, is_open, terms_in, is_full, rows, reply_to, fit, balance, IsLegal}
+use Rattle.ledger_core.specs.History.{height, accepted, Publication, publication, published, Opening, opening, opened, settling, settled, is_open}
+use Rattle.ledger_core.specs.History.{terms_in, is_full, rows, reply_to, fit, balance, IsLegal}
 use Rattle.ledger_core.specs.Ledger.{contract_with, contract_of, contract_after, IsContractIn, by_contract, reply_by}
 use Rattle.ledger_core.proofs.History.{published_done, opened_done, of_publish, of_unlock, of_claim, of_refund, clear_at, published-past, lock-below}
 use Rattle.ledger_core.proofs.Units.{settled-published}
@@ -73,8 +76,12 @@ is_some-map f (Some x) = refl
 -- the terms of a publish that fits
 fitting : (d : Deal) (a : ℕ) (t : Terms) → IsTrue (fit d a (Publish t)) → AreFitting d t
 fitting d a t f =
-    let k = and_parts ((length t.locks == length d.leaders) && nat_le t.start 1000000 && nat_le t.delta 1000000 && nat_le t.bound 1000000 && nat_le t.timelock 1000000) (nat_le t.amount 1000000000000) f in
-    let k2 = and_parts ((length t.locks == length d.leaders) && nat_le t.start 1000000 && nat_le t.delta 1000000 && nat_le t.bound 1000000) (nat_le t.timelock 1000000) k.0 in
+    let k =
+    and_parts ((length t.locks == length d.leaders) && nat_le t.start 1000000 && nat_le t.delta 1000000 && nat_le t.bound 1000000
+    && nat_le t.timelock 1000000) (nat_le t.amount 1000000000000) f in
+    let k2 =
+    and_parts ((length t.locks == length d.leaders) && nat_le t.start 1000000 && nat_le t.delta 1000000 && nat_le t.bound 1000000)
+    (nat_le t.timelock 1000000) k.0 in
     let k3 = and_parts ((length t.locks == length d.leaders) && nat_le t.start 1000000 && nat_le t.delta 1000000) (nat_le t.bound 1000000) k2.0 in
     let k4 = and_parts ((length t.locks == length d.leaders) && nat_le t.start 1000000) (nat_le t.delta 1000000) k3.0 in
     let k5 = and_parts (length t.locks == length d.leaders) (nat_le t.start 1000000) k4.0 in
@@ -128,7 +135,8 @@ module _ (d : Deal) (a : ℕ) where
   abbrev shown : Option Publication → (ℕ → Bool) → Option Settlement → Option ContractState
   shown o f s = option_map (λ p. record { arc = a; from = party d a; to = counterparty d a; terms = p.terms; opened = map f (locks d); settled = is_some s }) o
 
-  same_shown : (o o' : Option Publication) (f f' : ℕ → Bool) (s s' : Option Settlement) → o ≡ o' → ((i : ℕ) → f i ≡ f' i) → s ≡ s' → shown o f s ≡ shown o' f' s'
+  same_shown : (o o' : Option Publication) (f f' : ℕ → Bool) (s s' : Option Settlement) → o ≡ o' → ((i : ℕ) → f i ≡ f' i) → s ≡ s'
+      → shown o f s ≡ shown o' f' s'
   same_shown o o' f f' s s' eo ef es = λ j. shown (eo j) (λ i. ef i j) (es j)
 
   settled_shown : (o : Option Publication) (f : ℕ → Bool) → shown o f (Some Claimed) ≡ option_map with_settled (shown o f None)
@@ -139,24 +147,31 @@ module _ (d : Deal) (a : ℕ) where
   refunded_shown None f = refl
   refunded_shown (Some p) f = refl
 
-  opened_shown : (o : Option Publication) (f : ℕ → Bool) (s : Option Settlement) (i : ℕ) → shown o (opened_too f i) s ≡ option_map (λ c. with_opened c i) (shown o f s)
+  opened_shown : (o : Option Publication) (f : ℕ → Bool) (s : Option Settlement) (i : ℕ)
+      → shown o (opened_too f i) s ≡ option_map (λ c. with_opened c i) (shown o f s)
   opened_shown None f s i = refl
-  opened_shown (Some p) f s i = ap (λ os. Some (record { arc = a; from = party d a; to = counterparty d a; terms = p.terms; opened = os; settled = is_some s })) (opened_in f 0 (length d.leaders) i i (omega arith))
+  opened_shown (Some p) f s i =
+      ap (λ os. Some (record { arc = a; from = party d a; to = counterparty d a; terms = p.terms; opened = os; settled = is_some s }))
+      (opened_in f 0 (length d.leaders) i i (omega arith))
 
-  open_more : (o : Option Opening) (i j t : ℕ) (key : Hashkey) → key.lock ≡ i → is_some (or_else o (or_else (opening j t (Some (Unlock key))) None)) ≡ (is_some o || (i == j))
+  open_more : (o : Option Opening) (i j t : ℕ) (key : Hashkey) → key.lock ≡ i
+      → is_some (or_else o (or_else (opening j t (Some (Unlock key))) None)) ≡ (is_some o || (i == j))
   open_more (Some w) i j t key e = refl
   open_more None i j t key e = go (key.lock == j) refl
     where
-      go : (b : Bool) → (key.lock == j) ≡ b → is_some (or_else (cond b (let w : Option Opening = Some (record { height = t; key = key }) in w) None) None) ≡ (i == j)
+      go : (b : Bool) → (key.lock == j) ≡ b
+          → is_some (or_else (cond b (let w : Option Opening = Some (record { height = t; key = key }) in w) None) None) ≡ (i == j)
       go true k = sym (eq-eqb i j (sym e ∙ eqb-true key.lock j k))
       go false k = sym k ∙ ap (λ x. x == j) e
 
   after_push : (h : List Entry) (e : Entry) (o : Option Call) → accepted e ≡ o → contract_of d a (h ++ e ∷ [])
-      ≡ shown (or_else (published h) (or_else (publication e.height o) None)) (λ i. is_some (or_else (opened h i) (or_else (opening i e.height o) None))) (or_else (settled h) (or_else (settling o) None))
+      ≡ shown (or_else (published h) (or_else (publication e.height o) None)) (λ i.
+      is_some (or_else (opened h i) (or_else (opening i e.height o) None))) (or_else (settled h) (or_else (settling o) None))
   after_push h e o k =
       same_shown _ _ _ _ _ _
       (first_of-append (λ x. publication x.height (accepted x)) h (e ∷ []) ∙ ap (λ z. or_else (published h) (or_else (publication e.height z) None)) k)
-      (λ i. ap is_some (first_of-append (λ x. opening i x.height (accepted x)) h (e ∷ []) ∙ ap (λ z. or_else (opened h i) (or_else (opening i e.height z) None)) k))
+      (λ i. ap is_some (first_of-append (λ x. opening i x.height (accepted x)) h (e ∷ [])
+      ∙ ap (λ z. or_else (opened h i) (or_else (opening i e.height z) None)) k))
       (first_of-append (λ x. settling (accepted x)) h (e ∷ []) ∙ ap (λ z. or_else (settled h) (or_else (settling z) None)) k)
 
   -- an entry that publishes, opens and settles nothing
@@ -164,7 +179,8 @@ module _ (d : Deal) (a : ℕ) where
   stays h = same_shown _ _ _ _ _ _ (or_else-none (published h)) (λ i. ap is_some (or_else-none (opened h i))) (or_else-none (settled h))
 
   -- one more entry changes the contract as its call says
-  pub contract-push : (h : List Entry) (e : Entry) (o : Option Call) → accepted e ≡ o → IsLegal d a (h ++ e ∷ []) → IsLegal d a h → contract_of d a (h ++ e ∷ []) ≡ contract_after d a (contract_of d a h) o
+  pub contract-push : (h : List Entry) (e : Entry) (o : Option Call) → accepted e ≡ o → IsLegal d a (h ++ e ∷ []) → IsLegal d a h
+      → contract_of d a (h ++ e ∷ []) ≡ contract_after d a (contract_of d a h) o
   contract-push h e None k l l0 = after_push h e None k ∙ stays h
   contract-push h e (Some (Transfer to units)) k l l0 = after_push h e (Some (Transfer to units)) k ∙ stays h
   contract-push h e (Some (Publish t)) k l l0 =
@@ -175,23 +191,27 @@ module _ (d : Deal) (a : ℕ) where
       (ap (λ z. or_else z (Some (record { height = e.height; terms = t }))) p.first)
       (λ i. ap (λ z. is_some (or_else z None)) (opened-published h l0 p.first i))
       (ap (λ z. or_else z None) (settled-published d a h l0 p.first))
-      ∙ ap (λ os. Some (record { arc = a; from = party d a; to = counterparty d a; terms = t; opened = os; settled = false })) (map_const false 0 (length d.leaders))
+      ∙ ap (λ os. Some (record { arc = a; from = party d a; to = counterparty d a; terms = t; opened = os; settled = false }))
+      (map_const false 0 (length d.leaders))
   contract-push h e (Some (Unlock key)) k l l0 =
       after_push h e (Some (Unlock key)) k
-      ∙ same_shown _ _ _ (opened_too (is_open h) key.lock) _ _ (or_else-none (published h)) (λ i. open_more (opened h i) key.lock i e.height key refl) (or_else-none (settled h))
+      ∙ same_shown _ _ _ (opened_too (is_open h) key.lock) _ _ (or_else-none (published h)) (λ i.
+      open_more (opened h i) key.lock i e.height key refl) (or_else-none (settled h))
       ∙ opened_shown (published h) (is_open h) (settled h) key.lock
   contract-push h e (Some Claim) k l l0 =
       let c = clear_at d a (h ++ e ∷ []) h e Claim l ([], refl) k in
       let p = of_claim d a h c.0.by c.1 in
       after_push h e (Some Claim) k
-      ∙ same_shown _ _ _ (is_open h) _ (Some Claimed) (or_else-none (published h)) (λ i. ap is_some (or_else-none (opened h i))) (ap (λ z. or_else z (Some Claimed)) p.unsettled)
+      ∙ same_shown _ _ _ (is_open h) _ (Some Claimed) (or_else-none (published h)) (λ i.
+      ap is_some (or_else-none (opened h i))) (ap (λ z. or_else z (Some Claimed)) p.unsettled)
       ∙ settled_shown (published h) (is_open h)
       ∙ ap (λ s. option_map with_settled (shown (published h) (is_open h) s)) (sym p.unsettled)
   contract-push h e (Some Refund) k l l0 =
       let c = clear_at d a (h ++ e ∷ []) h e Refund l ([], refl) k in
       let p = of_refund d a h c.0.by c.1 in
       after_push h e (Some Refund) k
-      ∙ same_shown _ _ _ (is_open h) _ (Some Refunded) (or_else-none (published h)) (λ i. ap is_some (or_else-none (opened h i))) (ap (λ z. or_else z (Some Refunded)) p.unsettled)
+      ∙ same_shown _ _ _ (is_open h) _ (Some Refunded) (or_else-none (published h)) (λ i.
+      ap is_some (or_else-none (opened h i))) (ap (λ z. or_else z (Some Refunded)) p.unsettled)
       ∙ refunded_shown (published h) (is_open h)
       ∙ ap (λ s. option_map with_settled (shown (published h) (is_open h) s)) (sym p.unsettled)
 
@@ -201,15 +221,29 @@ module _ (d : Deal) (a : ℕ) where
     where
       go : (o : Option Publication) → published h ≡ o → IsContractIn d a (option_map (contract_with d a h) o)
       go None e = tt
-      go (Some p) e = record { arc = refl; kept = record { arc = lt; from = refl; to = refl; terms = fitting d a p.terms (published_done d a h p l e).act.fits; opened = length-map-range_with_len (is_open h) 0 (length d.leaders) } }
+      go (Some p) e =
+          record {
+            arc = refl;
+            kept = record {
+              arc = lt;
+              from = refl;
+              to = refl;
+              terms =
+                  fitting d a p.terms (published_done d a h p l e).act.fits;
+              opened = length-map-range_with_len (is_open h) 0 (length d.leaders);
+            };
+          }
 
   -- The contract's replies are those of the table.
 
-  by_settled_rows : (h : List Entry) (o : Option Publication) → IsLegal d a h → (rs : Terms → (ℕ → Bool) → Bool → List (Bool × Reply)) → by_contract (option_map (contract_with d a h) o) (λ c. rs c.terms (is_open_in c) c.settled) ≡ cond (is_none o) NoContract (first_row (rs (terms_in o) (is_open h) (is_some (settled h))))
+  by_settled_rows : (h : List Entry) (o : Option Publication) → IsLegal d a h → (rs : Terms → (ℕ → Bool) → Bool → List (Bool × Reply))
+      → by_contract (option_map (contract_with d a h) o) (λ c. rs c.terms (is_open_in c) c.settled)
+      ≡ cond (is_none o) NoContract (first_row (rs (terms_in o) (is_open h) (is_some (settled h))))
   by_settled_rows h None l rs = refl
   by_settled_rows h (Some p) l rs = ap (λ f. first_row (rs p.terms f (is_some (settled h)))) (open_in h l p)
 
-  pub answer_is : (h : List Entry) (p : ℕ) (c : Call) → IsLegal d a h → is_full h p ≡ false → reply_by d a (contract_of d a h) (height h) (balance d a h p) p c ≡ reply_to d a h p c
+  pub answer_is : (h : List Entry) (p : ℕ) (c : Call) → IsLegal d a h → is_full h p ≡ false
+      → reply_by d a (contract_of d a h) (height h) (balance d a h p) p c ≡ reply_to d a h p c
   unfolding rows
   answer_is h p (Publish t) l f = rw (f, is_some-map (contract_with d a h) (published h)) refl
   answer_is h p (Unlock key) l f = by_settled_rows h (published h) l (λ t g s. unlock_rows d a t g s (height h) p key) ∙ rw f refl

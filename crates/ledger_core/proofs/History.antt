@@ -1,10 +1,13 @@
 -- What an accepted call of a legal history shows of the entries before it, and what makes a call accepted.
-use Rattle.std.proofs.Common.{◌≡◌, ◌≢◌, ℕ, ◌+◌, ◌<◌, ◌≤◌, ◌==◌, nat_lt, nat_le, Bool, true, false, cond, not, ◌&&◌, ◌||◌, IsTrue, List, [], ◌∷◌, ◌++◌, length, Option, Some, None, is_some, is_none, refl, sym, ap, ap₂, ◌∙◌, subst, arith, eqb-true, eq-eqb, ltb-true, ltb-false}
+use Rattle.std.proofs.Common.{◌≡◌, ◌≢◌, ℕ, ◌+◌, ◌<◌, ◌≤◌, ◌==◌, nat_lt, nat_le, Bool, true, false, cond, not, ◌&&◌, ◌||◌, IsTrue, List, [], ◌∷◌, ◌++◌}
+use Rattle.std.proofs.Common.{length, Option, Some, None, is_some, is_none, refl, sym, ap, ap₂, ◌∙◌, subst, arith, eqb-true, eq-eqb, ltb-true}
+use Rattle.std.proofs.Common.{ltb-false}
 use Rattle.std.specs.List.{list_all, AllByRecursion}
 use Rattle.std.proofs.lemmas.Bool.{false≢true}
 use Rattle.std.proofs.lemmas.List.Sums.{sum_by-append}
 use Rattle.swap_base.specs.Lists.{IsMoment}
-use Rattle.swap_base.proofs.Lists.{first_at, first_of-past, first_of-now, at_moment, all_moments_front, Order, Earlier, Same, Later, moments_in_order, list_all-in, list_all-from, some_fails_all, and_parts}
+use Rattle.swap_base.proofs.Lists.{first_at, first_of-past, first_of-now, at_moment, all_moments_front, Order, Earlier, Same, Later, moments_in_order}
+use Rattle.swap_base.proofs.Lists.{list_all-in, list_all-from, some_fails_all, and_parts}
 use Rattle.swap_digraph.specs.declared.deal.Deal.{Deal}
 use Rattle.escrow_core.specs.declared.terms.Terms.{Terms}
 use Rattle.hashkey_path.specs.declared.hashkey.Hashkey.{Hashkey}
@@ -23,7 +26,9 @@ use Rattle.escrow_core.specs.Table.{first_row}
 use Rattle.escrow_core.specs.Terms.{hashlock_in, last_in, refund_expiry}
 use Rattle.ledger_core.specs.declared.facts.Settlement.{Settlement}
 use Rattle.ledger_core.specs.declared.facts.Settlement.TheVariants.{Claimed, Refunded}
-use Rattle.ledger_core.specs.History.{ticks_in, height, accepted_in, accepted, Publication, publication, published, Opening, opening, opened, settling, settled, is_open, triggered, the_terms, terms_in, is_full, rows, reply_to, fit, IsLegalEntry, IsLegalMoment, IsLegal, balance}
+use Rattle.ledger_core.specs.History.{ticks_in, height, accepted_in, accepted, Publication, publication, published, Opening, opening, opened, settling}
+use Rattle.ledger_core.specs.History.{settled, is_open, triggered, the_terms, terms_in, is_full, rows, reply_to, fit, IsLegalEntry, IsLegalMoment}
+use Rattle.ledger_core.specs.History.{IsLegal, balance}
 
 abbrev pub call_in : What → Option Call
 call_in (Made c) = Some c
@@ -38,7 +43,8 @@ is_refusal _ = true
 abbrev pub AreClear : List (Bool × Reply) → Type 0
 AreClear rs = AllByRecursion (λ row. row.0 ≡ false) rs
 
-clear_head : (b : Bool) (r : Reply) (rs : List (Bool × Reply)) → is_refusal r ≡ true → cond b r (first_row rs) ≡ Accepted → (first_row rs ≡ Accepted → AreClear rs) → (b ≡ false) × AreClear rs
+clear_head : (b : Bool) (r : Reply) (rs : List (Bool × Reply)) → is_refusal r ≡ true → cond b r (first_row rs) ≡ Accepted
+    → (first_row rs ≡ Accepted → AreClear rs) → (b ≡ false) × AreClear rs
 clear_head true r rs h e rest = absurd (false≢true (ap is_refusal (sym e) ∙ h))
 clear_head false r rs h e rest = (refl, rest e)
 
@@ -74,7 +80,8 @@ pub record Act (d : Deal) (a : ℕ) (past : List Entry) (e : Entry) (c : Call) :
   pub reply : e.reply ≡ reply_to d a past by c
   pub room : e.reply ≢ SenderFull
 
-made : (d : Deal) (a : ℕ) (past : List Entry) (e : Entry) (c : Call) (s : Sender) (w : What) → e.sender ≡ s → e.what ≡ w → call_in w ≡ Some c → IsLegalEntry d a past s w e.height e.reply → Act d a past e c
+made : (d : Deal) (a : ℕ) (past : List Entry) (e : Entry) (c : Call) (s : Sender) (w : What) → e.sender ≡ s → e.what ≡ w → call_in w ≡ Some c
+    → IsLegalEntry d a past s w e.height e.reply → Act d a past e c
 made d a past e c (Party p) (Made c') es ew k l =
     let same : c' ≡ c = cc in
     record {
@@ -99,7 +106,8 @@ accepted_parts (Made c') Accepted c e = (e, refl)
 accepted_parts _ _ c e = absurd (cc e)
 
 -- an accepted call is clear of its rows
-pub clear_at : (d : Deal) (a : ℕ) (h past : List Entry) (e : Entry) (c : Call) → IsLegal d a h → IsMoment h past e → accepted e ≡ Some c → (act : Act d a past e c) × AreClear (rows d a past act.by c)
+pub clear_at : (d : Deal) (a : ℕ) (h past : List Entry) (e : Entry) (c : Call) → IsLegal d a h → IsMoment h past e → accepted e ≡ Some c
+    → (act : Act d a past e c) × AreClear (rows d a past act.by c)
 clear_at d a h past e c l m k =
     let parts = accepted_parts e.what e.reply c k in
     let act = act_at d a h past e c l m parts.0 in
@@ -115,7 +123,8 @@ pub record Done (d : Deal) (a : ℕ) (h : List Entry) (c : Call) (t : ℕ) : Typ
   pub at : t ≡ height past
   pub clear : AreClear (rows d a past act.by c)
 
-pub done_at : (d : Deal) (a : ℕ) (h past : List Entry) (e : Entry) (c : Call) (t : ℕ) → IsLegal d a h → IsMoment h past e → accepted e ≡ Some c → e.height ≡ t → Done d a h c t
+pub done_at : (d : Deal) (a : ℕ) (h past : List Entry) (e : Entry) (c : Call) (t : ℕ) → IsLegal d a h → IsMoment h past e → accepted e ≡ Some c
+    → e.height ≡ t → Done d a h c t
 done_at d a h past e c t l m k te =
     let k' = clear_at d a h past e c l m k in
     record {
@@ -141,12 +150,14 @@ published_done d a h p l e =
 opening_parts : (i t : ℕ) (o : Option Call) (w : Opening) → opening i t o ≡ Some w → (o ≡ Some (Unlock w.key)) × (t ≡ w.height) × (w.key.lock ≡ i)
 opening_parts i t (Some (Unlock key)) w e = go (key.lock == i) refl e
   where
-    go : (b : Bool) → (key.lock == i) ≡ b → cond b (Some (record { height = t; key = key })) None ≡ Some w → (Some (Unlock key) ≡ Some (Unlock w.key)) × (t ≡ w.height) × (w.key.lock ≡ i)
+    go : (b : Bool) → (key.lock == i) ≡ b → cond b (Some (record { height = t; key = key })) None ≡ Some w
+        → (Some (Unlock key) ≡ Some (Unlock w.key)) × (t ≡ w.height) × (w.key.lock ≡ i)
     go true h k = (cc, cc, let same : key ≡ w.key = cc in ap (λ x. x.lock) (sym same) ∙ eqb-true key.lock i h)
     go false h k = absurd (cc k)
 opening_parts i t _ w e = absurd (cc e)
 
-pub opened_done : (d : Deal) (a : ℕ) (h : List Entry) (i : ℕ) (w : Opening) → IsLegal d a h → opened h i ≡ Some w → Done d a h (Unlock w.key) w.height × (w.key.lock ≡ i)
+pub opened_done : (d : Deal) (a : ℕ) (h : List Entry) (i : ℕ) (w : Opening) → IsLegal d a h → opened h i ≡ Some w
+    → Done d a h (Unlock w.key) w.height × (w.key.lock ≡ i)
 opened_done d a h i w l e =
     let f = first_at (λ e. opening i e.height (accepted e)) h w e in
     let parts = opening_parts i f.now.height (accepted f.now) w f.gives in
@@ -259,7 +270,8 @@ unfolding rows
 of_refund d a past by k =
     let c = some_of (published past) k.1.0 in
     let same : the_terms past ≡ c.0.terms = ap terms_in c.1 in
-    let late : refund_expiry d a (the_terms past) (is_open past) + 1 ≤ height past = ltb-false (height past) (refund_expiry d a (the_terms past) (is_open past) + 1) k.1.1.1.1.1.0 in
+    let late : refund_expiry d a (the_terms past) (is_open past) + 1 ≤ height past =
+    ltb-false (height past) (refund_expiry d a (the_terms past) (is_open past) + 1) k.1.1.1.1.1.0 in
     record {
       contract = c.0;
       published = c.1;
@@ -309,7 +321,11 @@ opening-now i t o key e l = ap (opening i t) e ∙ ap (λ b. cond b (Some (recor
 
 pub opened-now : (h past : List Entry) (e : Entry) (key : Hashkey) → IsMoment h past e → accepted e ≡ Some (Unlock key) → is_open h key.lock ≡ true
 opened-now h past e key m k =
-    first_of-now (λ x. opening key.lock x.height (accepted x)) h past e (record { height = e.height; key = key }) m (opening-now key.lock e.height (accepted e) key k refl)
+    first_of-now (λ x. opening key.lock x.height (accepted x)) h past e (record {
+      height = e.height;
+      key =
+          key;
+    }) m (opening-now key.lock e.height (accepted e) key k refl)
 
 pub settled-now : (h past : List Entry) (e : Entry) (s : Settlement) → IsMoment h past e → settling (accepted e) ≡ Some s → is_some (settled h) ≡ true
 settled-now h past e s m k = first_of-now (λ x. settling (accepted x)) h past e s m k
@@ -326,7 +342,8 @@ refunded-untriggered d a h l s t =
     let of_u = of_unlock d a u.0.past u.0.act.by o.0.key u.0.clear in
     go r u.0 of_u (u.1) shut.2 (moments_in_order h u.0.past r.past u.0.now r.now u.0.stands r.stands)
   where
-    go : {i t t' : ℕ} {key : Hashkey} (r : Done d a h Refund t) (u : Done d a h (Unlock key) t') → OfUnlock d a u.past u.act.by key → key.lock ≡ i → is_open r.past i ≡ false → Order u.past u.now r.past r.now → ⊥
+    go : {i t t' : ℕ} {key : Hashkey} (r : Done d a h Refund t) (u : Done d a h (Unlock key) t') → OfUnlock d a u.past u.act.by key → key.lock ≡ i
+        → is_open r.past i ≡ false → Order u.past u.now r.past r.now → ⊥
     go {key = key} r u of_u e shut (Earlier m) = false≢true (sym shut ∙ (ap (is_open r.past) (sym e) ∙ opened-now r.past u.past u.now key m u.took))
     go r u of_u e shut (Same p n) =
         let k : Some (Unlock _) ≡ Some Refund = sym u.took ∙ (ap accepted n ∙ r.took) in
@@ -362,7 +379,9 @@ legal-past d a h past e l m = all_moments_front (IsLegalMoment d a) past (e ∷ 
 
 pub lock-below : (d : Deal) (a : ℕ) (key : Hashkey) → IsTrue (fit d a (Unlock key)) → key.lock < length d.leaders
 lock-below d a key f =
-    let k = and_parts (nat_lt key.lock (length d.leaders) && nat_le (length key.path) (path_limit d) && nat_le (length key.sigs) (path_limit d)) (list_all (λ v. nat_lt v d.graph.n) key.path) f in
+    let k =
+    and_parts (nat_lt key.lock (length d.leaders) && nat_le (length key.path) (path_limit d) && nat_le (length key.sigs) (path_limit d))
+    (list_all (λ v. nat_lt v d.graph.n) key.path) f in
     let k2 = and_parts (nat_lt key.lock (length d.leaders) && nat_le (length key.path) (path_limit d)) (nat_le (length key.sigs) (path_limit d)) k.0 in
     let k3 = and_parts (nat_lt key.lock (length d.leaders)) (nat_le (length key.path) (path_limit d)) k2.0 in
     ltb-true key.lock (length d.leaders) k3.0

@@ -1,5 +1,6 @@
 -- Entries of items and of runs of ticks.
-use Rattle.std.proofs.Common.{◌≡◌, ℕ, zero, suc, ◌+◌, ◌-◌, ◌*◌, ◌<◌, ◌≤◌, cond, List, [], ◌∷◌, ◌++◌, length, take, drop, get_or, count_by, refl, sym, ap, ap₂, ◌∙◌, subst, arith, append_assoc, append-nil, length-append}
+use Rattle.std.proofs.Common.{◌≡◌, ℕ, zero, suc, ◌+◌, ◌-◌, ◌*◌, ◌<◌, ◌≤◌, cond, List, [], ◌∷◌, ◌++◌, length, take, drop, get_or, count_by, refl, sym}
+use Rattle.std.proofs.Common.{ap, ap₂, ◌∙◌, subst, arith, append_assoc, append-nil, length-append}
 use Rattle.std.specs.List.{AllByRecursion}
 use Rattle.std.proofs.Math.ListN.{drop_of_length-le}
 use Rattle.std.proofs.Math.Nat.{mul-le-mul_left}
@@ -61,7 +62,8 @@ pub calls_ticks : (at k n : ℕ) → count_by (λ e. is_call e.what) (ticks_abov
 calls_ticks at k zero = refl
 calls_ticks at k (suc n) =
     let h : count_by (λ e. is_call e.what) (ticks_above at k n) ≡ 0 = calls_ticks at k n in
-    let e : count_by (λ e. is_call e.what) (ticks_above at k (suc n)) ≡ count_by (λ e. is_call e.what) (ticks_above at k n) + 0 = calls-push (ticks_above at k n) (tick_entry k (at + k * suc n) Accepted) in
+    let e : count_by (λ e. is_call e.what) (ticks_above at k (suc n)) ≡ count_by (λ e. is_call e.what) (ticks_above at k n) + 0 =
+    calls-push (ticks_above at k n) (tick_entry k (at + k * suc n) Accepted) in
     omega arith
 
 -- ticks move no units
@@ -102,7 +104,8 @@ pub expand_more : (xs : List Item) (i : ℕ) (x : Item) → i < length xs → x 
 expand_more xs i x l e = ap expand (take_more xs i x l ∙ ap (λ z. take i xs ++ z ∷ []) (sym e)) ∙ expand_push (take i xs) x
 
 -- those before an item, its own, and those after it
-pub expand_split : (xs : List Item) (i : ℕ) (x : Item) → i < length xs → x ≡ get_or xs i x → expand xs ≡ expand (take i xs) ++ (entries_of x ++ expand (drop (i + 1) xs))
+pub expand_split : (xs : List Item) (i : ℕ) (x : Item) → i < length xs → x ≡ get_or xs i x
+    → expand xs ≡ expand (take i xs) ++ (entries_of x ++ expand (drop (i + 1) xs))
 expand_split xs i x l e =
     ap expand (sym (take-append-drop i xs)) ∙ expand_append (take i xs) (drop i xs)
     ∙ ap (λ ys. expand (take i xs) ++ ys) (ap expand (drop_more xs i x l ∙ ap (λ z. z ∷ drop (i + 1) xs) (sym e)) ∙ expand_cons x (drop (i + 1) xs))
@@ -111,10 +114,12 @@ pub height_append : (xs ys : List Entry) → height (xs ++ ys) ≡ height xs + h
 height_append xs ys = sum_by-append (λ e. ticks_in e.what) xs ys
 
 -- what an item raises the height to is at most what all items do
-pub height_to : (xs : List Item) (i : ℕ) (x : Item) → i < length xs → x ≡ get_or xs i x → height (expand (take i xs)) + height (entries_of x) ≤ height (expand xs)
+pub height_to : (xs : List Item) (i : ℕ) (x : Item) → i < length xs → x ≡ get_or xs i x
+    → height (expand (take i xs)) + height (entries_of x) ≤ height (expand xs)
 height_to xs i x l e =
     let after = expand (drop (i + 1) xs) in
-    let a : height (expand xs) ≡ height (expand (take i xs)) + height (entries_of x ++ after) = ap height (expand_split xs i x l e) ∙ height_append (expand (take i xs)) (entries_of x ++ after) in
+    let a : height (expand xs) ≡ height (expand (take i xs)) + height (entries_of x ++ after) =
+    ap height (expand_split xs i x l e) ∙ height_append (expand (take i xs)) (entries_of x ++ after) in
     let b : height (entries_of x ++ after) ≡ height (entries_of x) + height after = height_append (entries_of x) after in
     omega arith
 
@@ -123,7 +128,8 @@ calls_append xs ys = sum_by-append (λ e. cond (is_call e.what) 1 0) xs ys
 
 -- The last entries.
 
-pub drop_middle : (xs ys zs : List Entry) (m n : ℕ) → m ≤ length ys → m + length zs ≡ n → drop (length (xs ++ (ys ++ zs)) - n) (xs ++ (ys ++ zs)) ≡ drop (length ys - m) ys ++ zs
+pub drop_middle : (xs ys zs : List Entry) (m n : ℕ) → m ≤ length ys → m + length zs ≡ n
+    → drop (length (xs ++ (ys ++ zs)) - n) (xs ++ (ys ++ zs)) ≡ drop (length ys - m) ys ++ zs
 drop_middle xs ys zs m n l e =
     let a : length (xs ++ (ys ++ zs)) ≡ length xs + length (ys ++ zs) = length-append xs (ys ++ zs) in
     let b : length (ys ++ zs) ≡ length ys + length zs = length-append ys zs in
@@ -135,11 +141,14 @@ next_some xs zero m n s e l = absurd (omega arith)
 next_some xs (suc j) m n s e l = omega arith
 
 -- the last n entries begin m entries before the end of an item
-pub last_from : (xs : List Item) (j m n : ℕ) (x : Item) → 0 < j → j ≤ length xs → x ≡ get_or xs (j - 1) x → m ≤ length (entries_of x) → m + length (expand (drop j xs)) ≡ n → drop (length (entries_of x) - m) (entries_of x) ++ expand (drop j xs) ≡ drop (length (expand xs) - n) (expand xs)
+pub last_from : (xs : List Item) (j m n : ℕ) (x : Item) → 0 < j → j ≤ length xs → x ≡ get_or xs (j - 1) x → m ≤ length (entries_of x)
+    → m + length (expand (drop j xs)) ≡ n → drop (length (entries_of x) - m) (entries_of x) ++ expand (drop j xs)
+    ≡ drop (length (expand xs) - n) (expand xs)
 last_from xs j m n x some l k b e =
     let after : ℕ → List Entry = λ i. expand (drop i xs) in
     let i : j - 1 + 1 ≡ j = omega arith in
-    let split : expand xs ≡ expand (take (j - 1) xs) ++ (entries_of x ++ after j) = expand_split xs (j - 1) x (omega arith) k ∙ ap (λ z. expand (take (j - 1) xs) ++ (entries_of x ++ after z)) i in
+    let split : expand xs ≡ expand (take (j - 1) xs) ++ (entries_of x ++ after j) =
+    expand_split xs (j - 1) x (omega arith) k ∙ ap (λ z. expand (take (j - 1) xs) ++ (entries_of x ++ after z)) i in
     sym (ap (λ z. drop (length z - n) z) split ∙ drop_middle (expand (take (j - 1) xs)) (entries_of x) (after j) m n b e)
 
 -- what is left after k entries lies in the second list

@@ -1,5 +1,6 @@
 -- The history of one ledger: what was published, opened and settled, the balances, and the table of replies.
-use Rattle.std.specs.Prelude.{◌≡◌, ◌≢◌, ℕ, ◌+◌, ◌-◌, ◌≤◌, Bool, true, false, not, ◌&&◌, ◌||◌, ◌==◌, nat_lt, nat_le, IsTrue, List, [], ◌∷◌, length, count_by, sum_by, fold, Option, Some, None, is_some, is_none, if◌then◌else◌}
+use Rattle.std.specs.Prelude.{◌≡◌, ◌≢◌, ℕ, ◌+◌, ◌-◌, ◌≤◌, Bool, true, false, not, ◌&&◌, ◌||◌, ◌==◌, nat_lt, nat_le, IsTrue, List, [], ◌∷◌, length}
+use Rattle.std.specs.Prelude.{count_by, sum_by, fold, Option, Some, None, is_some, is_none, if◌then◌else◌}
 use Rattle.std.specs.List.{list_all, AllByRecursion}
 use Rattle.swap_base.specs.Lists.{first_of, Moment, moments}
 use Rattle.swap_digraph.specs.declared.deal.Deal.{Deal}
@@ -176,8 +177,12 @@ reply_to_tick past k = first_row ((is_clock_full past k, ClockFull) ∷ [])
 -- A call that fits the deal and its arc.
 
 abbrev pub fit : Deal → ℕ → Call → Bool
-fit d a (Publish t) = (length t.locks == length d.leaders) && nat_le t.start 1000000 && nat_le t.delta 1000000 && nat_le t.bound 1000000 && nat_le t.timelock 1000000 && nat_le t.amount 1000000000000
-fit d a (Unlock key) = nat_lt key.lock (length d.leaders) && nat_le (length key.path) (path_limit d) && nat_le (length key.sigs) (path_limit d) && list_all (λ v. nat_lt v d.graph.n) key.path
+fit d a (Publish t) =
+    (length t.locks == length d.leaders) && nat_le t.start 1000000 && nat_le t.delta 1000000 && nat_le t.bound 1000000 && nat_le t.timelock 1000000
+    && nat_le t.amount 1000000000000
+fit d a (Unlock key) =
+    nat_lt key.lock (length d.leaders) && nat_le (length key.path) (path_limit d) && nat_le (length key.sigs) (path_limit d)
+    && list_all (λ v. nat_lt v d.graph.n) key.path
 fit d a Claim = true
 fit d a Refund = true
 fit d a (Transfer to units) = ((to == party d a) || (to == counterparty d a)) && nat_le units 1000000000000

@@ -15,7 +15,8 @@ abbrev pub ledger_of : ledger.Inside → LedgerState
 ledger_of l = record { deal = l.deal; arc = l.arc; history = l.history.list; spare = l.history.spare }
 
 -- The history is legal, and what is kept beside it is what the scans of it give.
-pub record AreScans (d : Deal) (a : ℕ) (h : List Entry) (at : ℕ) (now : Accounts) (state : Option ContractState) (party_calls counterparty_calls clock_calls : ℕ) : Type 0 where
+pub record AreScans (d : Deal) (a : ℕ) (h : List Entry) (at : ℕ) (now : Accounts) (state : Option ContractState)
+    (party_calls counterparty_calls clock_calls : ℕ) : Type 0 where
   pub legal : IsLegal d a h
   pub height : at ≡ height h
   pub accounts : now ≡ accounts d a h

@@ -44,7 +44,8 @@ AddUp d a h = (past rest : List Entry) → h ≡ past ++ rest → balance d a pa
 -- The contract that a history leaves.
 
 abbrev pub contract_with : Deal → ℕ → List Entry → Publication → ContractState
-contract_with d a h p = record { arc = a; from = party d a; to = counterparty d a; terms = p.terms; opened = map (is_open h) (locks d); settled = is_some (settled h) }
+contract_with d a h p =
+    record { arc = a; from = party d a; to = counterparty d a; terms = p.terms; opened = map (is_open h) (locks d); settled = is_some (settled h) }
 
 abbrev pub contract_of : Deal → ℕ → List Entry → Option ContractState
 contract_of d a h = option_map (contract_with d a h) (published h)
@@ -74,7 +75,8 @@ by_contract (Some c) rows = first_row (rows c)
 
 -- the reply to a call of p whose entries aren't too many, by the contract, the height and the balance of p
 abbrev pub reply_by : Deal → ℕ → Option ContractState → (height have p : ℕ) → Call → Reply
-reply_by d a o t have p (Publish terms) = first_row ((not (p == party d a), NotParty) ∷ (is_some o, AlreadyPublished) ∷ (nat_lt have terms.amount, NoFunds have) ∷ [])
+reply_by d a o t have p (Publish terms) =
+    first_row ((not (p == party d a), NotParty) ∷ (is_some o, AlreadyPublished) ∷ (nat_lt have terms.amount, NoFunds have) ∷ [])
 reply_by d a o t have p (Unlock key) = by_contract o (λ c. unlock_rows d a c.terms (is_open_in c) c.settled t p key)
 reply_by d a o t have p Claim = by_contract o (λ c. claim_rows d a (is_open_in c) c.settled p)
 reply_by d a o t have p Refund = by_contract o (λ c. refund_rows d a c.terms (is_open_in c) c.settled t p)

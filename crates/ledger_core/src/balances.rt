@@ -7,9 +7,9 @@ ghost use Rattle.ledger_core.specs.Ledger.{CanMove};
 ghost use Rattle.ledger_core.specs.Runs.{expand};
 
 use crate::accounts::Accounts;
-use crate::reply_of::accounts_after;
 use crate::entry::{Entry, Sender, What};
 use crate::entry_list::EntryList;
+use crate::reply_of::accounts_after;
 use crate::runs::Item;
 use swap_base::ArcId;
 use swap_digraph::Deal;

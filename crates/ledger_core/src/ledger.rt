@@ -7,10 +7,10 @@ ghost use Rattle.ledger_core.specs.Known.{is_known_in};
 ghost use Rattle.ledger_core.specs.Ledger.{call_entry, tick_entry, IsAfter, AreKept, AddUp};
 
 use crate::accounts::Accounts;
-use crate::reply_of::{accounts_after, one_more_where, reply_of};
 use crate::entry::{Call, Entry, Sender, What};
 use crate::entry_list::EntryList;
 use crate::ledger_history::LedgerHistory;
+use crate::reply_of::{accounts_after, one_more_where, reply_of};
 use escrow_core::{Contract, Reply};
 use std::alloc::Global;
 use std::marker::Model;
@@ -99,7 +99,8 @@ impl Ledger {
         calls >= 32
     }
 
-    /// Makes a call at the present height, and answers with the reply that the table gives. The last `known` signatures of its hashkey are known to be valid, and aren't verified. It takes no memory.
+    /// Makes a call at the present height, and answers with the reply that the table gives. The last `known` signatures of its hashkey are known to be
+    /// valid, and aren't verified. It takes no memory.
     pub fn apply(&mut self, sender: PartyId, call: Call, known: usize) -> Reply
         requires spare { 0 < self.old.spare }
         requires of_the_two { IsTrue ((sender == party self.old.deal self.old.arc) || (sender == counterparty self.old.deal self.old.arc)) }

@@ -1,6 +1,7 @@
 //! Answers over a list of entries, by reading it.
 
-ghost use Rattle.std.specs.Prelude.{◌≡◌, ◌<◌, ◌≤◌, ◌+◌, ◌++◌, ◌∷◌, ◌^◌, [], ℕ, List, length, position, is_some, option_map, if◌then◌else◌, false, OnOk, OnErr, IsOk, IfErr, option_copied};
+ghost use Rattle.std.specs.Prelude.{◌≡◌, ◌<◌, ◌≤◌, ◌+◌, ◌++◌, ◌∷◌, ◌^◌, [], ℕ, List, length, position, is_some, option_map, if◌then◌else◌, false, OnOk};
+ghost use Rattle.std.specs.Prelude.{OnErr, IsOk, IfErr, option_copied};
 ghost use Rattle.swap_digraph.specs.Deal.{IsWellSized};
 ghost use Rattle.escrow_core.specs.Terms.{terms_of, same_terms};
 ghost use Rattle.ledger_core.specs.History.{height, ticks_in, accepted, publication, opening, settling, settled, sent_by};

@@ -1,5 +1,6 @@
 -- What one more index brings, and what the indexes say of the book.
-use Rattle.std.proofs.Common.{◌≡◌, ℕ, ◌+◌, ◌<◌, ◌&&◌, nat_lt, List, [], ◌∷◌, ◌++◌, length, get_or, map, take, drop, refl, sym, ap, ◌∙◌, arith, append_assoc, take-append-drop}
+use Rattle.std.proofs.Common.{◌≡◌, ℕ, ◌+◌, ◌<◌, ◌&&◌, nat_lt, List, [], ◌∷◌, ◌++◌, length, get_or, map, take, drop, refl, sym, ap, ◌∙◌, arith}
+use Rattle.std.proofs.Common.{append_assoc, take-append-drop}
 use Rattle.std.specs.List.{list_all, range_with_len}
 use Rattle.std.proofs.lemmas.List.{take_more, take_all, map_push}
 use Rattle.swap_digraph.specs.declared.deal.Deal.{Deal}
@@ -20,11 +21,13 @@ pub record AreFirst (d : Deal) (b : Histories) (n : ℕ) (known : List IndexStat
   pub to : map (λ x. x.to) known ≡ map (counterparty d) (range_with_len 0 n)
   pub entries : entries_in known ≡ take n b
 
-one_more : {A : Type 0} (f : ℕ → A) (g : IndexState → A) (n : ℕ) (old new : List IndexState) (x : IndexState) → new ≡ old ++ x ∷ [] → g x ≡ f n → map g old ≡ map f (range_with_len 0 n) → map g new ≡ map f (range_with_len 0 (n + 1))
+one_more : {A : Type 0} (f : ℕ → A) (g : IndexState → A) (n : ℕ) (old new : List IndexState) (x : IndexState) → new ≡ old ++ x ∷ [] → g x ≡ f n
+    → map g old ≡ map f (range_with_len 0 n) → map g new ≡ map f (range_with_len 0 (n + 1))
 one_more f g n old new x e k so_far =
     map_more f n (map g old) (map g new) (ap (map g) e ∙ map_push g old x ∙ ap (λ y. map g old ++ y ∷ []) k) so_far
 
-pub first_more : (d : Deal) (b : Histories) (n : ℕ) (old new : List IndexState) (x : IndexState) (h : List Entry) → n < length b → h ≡ get_or b n h → IsIndexOf d n h x → new ≡ old ++ x ∷ [] → AreFirst d b n old → AreFirst d b (n + 1) new
+pub first_more : (d : Deal) (b : Histories) (n : ℕ) (old new : List IndexState) (x : IndexState) (h : List Entry) → n < length b → h ≡ get_or b n h
+    → IsIndexOf d n h x → new ≡ old ++ x ∷ [] → AreFirst d b n old → AreFirst d b (n + 1) new
 first_more d b n old new x h lt is i e k = record {
   terms = one_more (terms_of d) (λ z. z.terms) n old new x e i.arc.terms k.terms;
   from = one_more (party d) (λ z. z.from) n old new x e i.arc.from k.from;

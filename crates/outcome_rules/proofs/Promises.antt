@@ -15,7 +15,8 @@ use Rattle.swap_laws.proofs.Found as found
 use Rattle.outcome_rules.specs.Report.{conforms_in, outcomes_of}
 use Rattle.outcome_rules.specs.Promises.{AllAreConforming, AllHaveRefunds, NoneIsUnderwater}
 
-module _ (d : Deal) (conforming : List Bool) (b : Histories) (l : List Finding) (legal : IsLegalBook d b) (exact : l ≡ findings d (conforms_in conforming) b) where
+module _ (d : Deal) (conforming : List Bool) (b : Histories) (l : List Finding) (legal : IsLegalBook d b)
+    (exact : l ≡ findings d (conforms_in conforming) b) where
   pub none_is_underwater : IsAccepted d → NoneIsUnderwater d conforming (outcome d b) l
   none_is_underwater k v c none =
       (found.unnamed_is_safe d (conforms_in conforming) b v k legal c.party c.conforms (subst (λ l. list_any (is_against v) l ≡ false) exact c.clear)).0
@@ -37,7 +38,8 @@ module _ (d : Deal) (b : Histories) (shown : List Outcome) (exact : shown ≡ ou
       let z : ◌≡◌ {A = ℕ} (0 + v) v = omega arith in
       ap (λ os. slice_index_or os v Underwater) exact ∙ get_or-map-range_with_len (outcome d b) 0 d.graph.n v v Underwater l z
 
-  pub none_is_shown_underwater : (conforming : List Bool) (l : List Finding) → NoneIsUnderwater d conforming (outcome d b) l → NoneIsUnderwater d conforming (λ v. slice_index_or shown v Underwater) l
+  pub none_is_shown_underwater : (conforming : List Bool) (l : List Finding) → NoneIsUnderwater d conforming (outcome d b) l
+      → NoneIsUnderwater d conforming (λ v. slice_index_or shown v Underwater) l
   none_is_shown_underwater conforming l safe v c none under = safe v c none (sym (outcome_shown v c.party) ∙ under)
 
   pub all_are_whole : (k : IsAccepted d) → IsTransferred d b k → (v : ℕ) → v < d.graph.n → slice_index_or shown v Underwater ≡ WholeDeal

@@ -60,7 +60,8 @@ fn put_findings_at(
     requires known { AreIndexes deal.now known.now }
     requires legal { IsLegalBook deal.now (entries_in known.now) }
     requires party { party < deal.now.graph.n }
-    ensures { OnOk result (out.new.items ≡ out.old.items ++ (if conforms_in conforming.now party then findings_of deal.now (entries_in known.now) party else [])) }
+    ensures { OnOk result (out.new.items ≡ out.old.items
+        ++ (if conforms_in conforming.now party then findings_of deal.now (entries_in known.now) party else [])) }
 {
     if conforming.as_slice()[party as usize] {
         put_findings_of(alloc, out, deal, known, party)?;
@@ -123,7 +124,8 @@ pub fn findings_indexed(
     ensures exact { IfOk result (λ l. l ≡ findings deal.now (conforms_in conforming.now) (entries_in known.now)) }
     ensures safe { IfOk result (λ l. IsAccepted deal.now → NoneIsUnderwater deal.now conforming.now (outcome deal.now (entries_in known.now)) l) }
     ensures refunds { IfOk result (λ l. IsAccepted deal.now → AllHaveRefunds deal.now conforming.now (entries_in known.now) l) }
-    ensures transfer { IfOk result (λ l. (k : IsAccepted deal.now) → AllAreConforming deal.now conforming.now → l ≡ [] → IsTransferred deal.now (entries_in known.now) k) }
+    ensures transfer { IfOk result (λ l. (k : IsAccepted deal.now) → AllAreConforming deal.now conforming.now → l ≡ []
+        → IsTransferred deal.now (entries_in known.now) k) }
     ensures nothing_found { IfOk result (λ l. l ≡ [] → FindsNothing deal.now (conforms_in conforming.now) (entries_in known.now)) }
 {
     let mut list = Vec::new(alloc);
@@ -134,7 +136,8 @@ pub fn findings_indexed(
     Ok(Listed::new(list))
 }
 
-/// What is found of each conforming party, ascending, and then of the ledgers: by which entries it broke a rule of conduct, where it was late, and which entries are forged in its name.
+/// What is found of each conforming party, ascending, and then of the ledgers: by which entries it broke a rule of conduct, where it was late, and
+/// which entries are forged in its name.
 pub fn findings(
     alloc: Global,
     deal: &Deal,
@@ -147,7 +150,8 @@ pub fn findings(
     ensures exact { IfOk result (λ l. l ≡ findings deal.now (conforms_in conforming.now) book.now.histories) }
     ensures safe { IfOk result (λ l. IsAccepted deal.now → NoneIsUnderwater deal.now conforming.now (outcome deal.now book.now.histories) l) }
     ensures refunds { IfOk result (λ l. IsAccepted deal.now → AllHaveRefunds deal.now conforming.now book.now.histories l) }
-    ensures transfer { IfOk result (λ l. (k : IsAccepted deal.now) → AllAreConforming deal.now conforming.now → l ≡ [] → IsTransferred deal.now book.now.histories k) }
+    ensures transfer { IfOk result (λ l. (k : IsAccepted deal.now) → AllAreConforming deal.now conforming.now → l ≡ []
+        → IsTransferred deal.now book.now.histories k) }
     ensures nothing_found { IfOk result (λ l. l ≡ [] → FindsNothing deal.now (conforms_in conforming.now) book.now.histories) }
 {
     let known = indexes_of(alloc, deal, book)?;

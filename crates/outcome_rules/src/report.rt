@@ -75,7 +75,8 @@ fn report_indexed(
     ensures exact { IfOk result (λ r. r ≡ report_of deal.now conforming.now (entries_in known.now)) }
     ensures safe { IfOk result (λ r. IsAccepted deal.now → NoneIsUnderwater deal.now conforming.now (shown_outcome r) r.findings) }
     ensures refunds { IfOk result (λ r. IsAccepted deal.now → AllHaveRefunds deal.now conforming.now (entries_in known.now) r.findings) }
-    ensures transfer { IfOk result (λ r. (k : IsAccepted deal.now) → AllAreConforming deal.now conforming.now → r.findings ≡ [] → IsTransferred deal.now (entries_in known.now) k) }
+    ensures transfer { IfOk result (λ r. (k : IsAccepted deal.now) → AllAreConforming deal.now conforming.now → r.findings ≡ []
+        → IsTransferred deal.now (entries_in known.now) k) }
     ensures whole { IfOk result (λ r. IsAccepted deal.now → AllAreConforming deal.now conforming.now → r.findings ≡ [] → AllAreWhole deal.now r) }
     ensures nothing_found { IfOk result (λ r. r.findings ≡ [] → FindsNothing deal.now (conforms_in conforming.now) (entries_in known.now)) }
 {
@@ -99,7 +100,8 @@ pub fn report_of(
     ensures exact { IfOk result (λ r. r ≡ report_of deal.now conforming.now book.now.histories) }
     ensures safe { IfOk result (λ r. IsAccepted deal.now → NoneIsUnderwater deal.now conforming.now (shown_outcome r) r.findings) }
     ensures refunds { IfOk result (λ r. IsAccepted deal.now → AllHaveRefunds deal.now conforming.now book.now.histories r.findings) }
-    ensures transfer { IfOk result (λ r. (k : IsAccepted deal.now) → AllAreConforming deal.now conforming.now → r.findings ≡ [] → IsTransferred deal.now book.now.histories k) }
+    ensures transfer { IfOk result (λ r. (k : IsAccepted deal.now) → AllAreConforming deal.now conforming.now → r.findings ≡ []
+        → IsTransferred deal.now book.now.histories k) }
     ensures whole { IfOk result (λ r. IsAccepted deal.now → AllAreConforming deal.now conforming.now → r.findings ≡ [] → AllAreWhole deal.now r) }
     ensures nothing_found { IfOk result (λ r. r.findings ≡ [] → FindsNothing deal.now (conforms_in conforming.now) book.now.histories) }
 {

@@ -1,5 +1,6 @@
 -- The first of what is due on some arcs is the call on the first arc that passes the test.
-use Rattle.std.proofs.Common.{◌≡◌, ◌==◌, ℕ, ◌<◌, Bool, true, false, cond, List, [], ◌∷◌, ◌++◌, length, option_map, Option, Some, None, refl, sym, ap, ◌∙◌, inl, inr}
+use Rattle.std.proofs.Common.{◌≡◌, ◌==◌, ℕ, ◌<◌, Bool, true, false, cond, List, [], ◌∷◌, ◌++◌, length, option_map, Option, Some, None, refl, sym, ap}
+use Rattle.std.proofs.Common.{◌∙◌, inl, inr}
 use Rattle.std.specs.Prelude.{IfSome}
 use Rattle.std.specs.List.{find, flat_map}
 use Rattle.swap_base.specs.Lists.{IsIn}
@@ -13,11 +14,13 @@ use Rattle.swap_rules.specs.Due.{Action, when_due, first}
 abbrev pub call_on : (ℕ → Call) → ℕ → Action
 call_on call a = record { arc = a; call = call a }
 
-first_when : (call : ℕ → Call) (test : Bool) (x : ℕ) (rest : List Action) (o : Option ℕ) → first rest ≡ option_map (call_on call) o → first (when_due test x (call x) ++ rest) ≡ option_map (call_on call) (cond test (Some x) o)
+first_when : (call : ℕ → Call) (test : Bool) (x : ℕ) (rest : List Action) (o : Option ℕ) → first rest ≡ option_map (call_on call) o
+    → first (when_due test x (call x) ++ rest) ≡ option_map (call_on call) (cond test (Some x) o)
 first_when call true x rest o e = refl
 first_when call false x rest o e = e
 
-pub first_find : (call : ℕ → Call) (test : ℕ → Bool) (xs : List ℕ) → first (flat_map (λ a. when_due (test a) a (call a)) xs) ≡ option_map (call_on call) (find test xs)
+pub first_find : (call : ℕ → Call) (test : ℕ → Bool) (xs : List ℕ)
+    → first (flat_map (λ a. when_due (test a) a (call a)) xs) ≡ option_map (call_on call) (find test xs)
 first_find call test [] = refl
 first_find call test (x ∷ xs) = first_when call (test x) x (flat_map (λ a. when_due (test a) a (call a)) xs) (find test xs) (first_find call test xs)
 
@@ -40,7 +43,11 @@ some_below n (Some a) h = h a refl
 
 -- an arc that is found is an arc of the digraph
 pub leaving_below : (test : ℕ → Bool) (arcs : List ArcEnds) (v : ℕ) (o : Option ℕ) → o ≡ find test (leaving_among arcs v) → IfSome o (λ a. a < length arcs)
-leaving_below test arcs v o e = some_below (length arcs) o (λ a h. from_range a (length arcs) (from_filter (λ a. (ends_in arcs a).from == v) a _ (find_in test (leaving_among arcs v) a (sym e ∙ h))).0)
+leaving_below test arcs v o e =
+    some_below (length arcs) o (λ a h. from_range a (length arcs)
+    (from_filter (λ a. (ends_in arcs a).from == v) a _ (find_in test (leaving_among arcs v) a (sym e ∙ h))).0)
 
 pub entering_below : (test : ℕ → Bool) (arcs : List ArcEnds) (v : ℕ) (o : Option ℕ) → o ≡ find test (entering_among arcs v) → IfSome o (λ a. a < length arcs)
-entering_below test arcs v o e = some_below (length arcs) o (λ a h. from_range a (length arcs) (from_filter (λ a. (ends_in arcs a).to == v) a _ (find_in test (entering_among arcs v) a (sym e ∙ h))).0)
+entering_below test arcs v o e =
+    some_below (length arcs) o (λ a h. from_range a (length arcs)
+    (from_filter (λ a. (ends_in arcs a).to == v) a _ (find_in test (entering_among arcs v) a (sym e ∙ h))).0)

@@ -16,7 +16,8 @@ none_of None e = refl
 none_of (Some x) e = absurd (cc e)
 
 -- number n has no answer
-pub none_more : {B : Type 0} (f : ℕ → Option B) (n : ℕ) (r : Option B) → first_of f (range_with_len 0 n) ≡ None → r ≡ f n → is_some r ≡ false → first_of f (range_with_len 0 (n + 1)) ≡ None
+pub none_more : {B : Type 0} (f : ℕ → Option B) (n : ℕ) (r : Option B) → first_of f (range_with_len 0 n) ≡ None → r ≡ f n → is_some r ≡ false
+    → first_of f (range_with_len 0 (n + 1)) ≡ None
 none_more f n r e h s =
     let z : ◌≡◌ {A = ℕ} (0 + n) n = omega arith in
     ap (first_of f) (range_push 0 n ∙ ap (λ y. range_with_len 0 n ++ y ∷ []) z)
@@ -28,14 +29,17 @@ found_head : {B : Type 0} (o r s : Option B) (y : B) → or_else o r ≡ None �
 found_head None r s y e h = h e
 found_head (Some x) r s y e h = absurd (cc e)
 
-found_from : {B : Type 0} (f : ℕ → Option B) (k n m : ℕ) (y : B) → first_of f (range_with_len k n) ≡ None → f (k + n) ≡ Some y → n < m → first_of f (range_with_len k m) ≡ Some y
+found_from : {B : Type 0} (f : ℕ → Option B) (k n m : ℕ) (y : B) → first_of f (range_with_len k n) ≡ None → f (k + n) ≡ Some y → n < m
+    → first_of f (range_with_len k m) ≡ Some y
 found_from f k n zero y e h l = absurd (omega arith)
 found_from f k zero (suc m) y e h l = let z : k + zero ≡ k = omega arith in ap (λ o. or_else o (first_of f (range_with_len (k + 1) m))) (ap f (sym z) ∙ h)
 found_from f k (suc n) (suc m) y e h l =
     let z : k + suc n ≡ (k + 1) + n = omega arith in
-    found_head (f k) (first_of f (range_with_len (k + 1) n)) (first_of f (range_with_len (k + 1) m)) y e (λ q. found_from f (k + 1) n m y q (ap f (sym z) ∙ h) (omega arith))
+    found_head (f k) (first_of f (range_with_len (k + 1) n)) (first_of f (range_with_len (k + 1) m)) y e (λ q.
+    found_from f (k + 1) n m y q (ap f (sym z) ∙ h) (omega arith))
 
 -- number n has the first
-pub is_found : {B : Type 0} (f : ℕ → Option B) (n m : ℕ) (r : Option B) → n < m → first_of f (range_with_len 0 n) ≡ None → r ≡ f n → is_some r ≡ true → r ≡ first_of f (range_with_len 0 m)
+pub is_found : {B : Type 0} (f : ℕ → Option B) (n m : ℕ) (r : Option B) → n < m → first_of f (range_with_len 0 n) ≡ None → r ≡ f n → is_some r ≡ true
+    → r ≡ first_of f (range_with_len 0 m)
 is_found f n m None l e h s = absurd (cc s)
 is_found f n m (Some y) l e h s = let z : ◌≡◌ {A = ℕ} (0 + n) n = omega arith in sym (found_from f 0 n m y e (ap f z ∙ sym h) l)

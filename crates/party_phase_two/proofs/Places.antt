@@ -27,7 +27,12 @@ same_some x y e = cc e
 module _ (d : Deal) (v : ℕ) (k : Histories) (i : ℕ) where
   by_arc : (o : Option ℕ) (base : Base) → seen_on d v k i ≡ o → option_map Onto o ≡ Some base → IsSeenOn d v k i base
   by_arc None base e h = absurd (cc h)
-  by_arc (Some a) base e h = subst (IsSeenOn d v k i) (same_some (Onto a) base h) (leaving_below (λ a. opens_without v (opened (history k a) i)) d.graph.arcs v (Some a) (sym e), e)
+  by_arc (Some a) base e h =
+      subst (IsSeenOn d v k i) (same_some (Onto a) base h) (
+        leaving_below (λ a.
+            opens_without v (opened (history k a) i)) d.graph.arcs v (Some a) (sym e),
+        e,
+      )
 
   by_lead : (b : Bool) (base : Base) → cond b (Some Own) (option_map Onto (seen_on d v k i)) ≡ Some base → IsSeenOn d v k i base
   by_lead true base h = subst (IsSeenOn d v k i) (same_some Own base h) tt
@@ -38,7 +43,8 @@ module _ (d : Deal) (v : ℕ) (k : Histories) (i : ℕ) where
   by_signed (Some key) base h = subst (IsSeenOn d v k i) (same_some Signed base h) tt
   by_signed None base h = by_lead (leads d v i) base h
 
-  by_parts : (signed : Option Hashkey) (a : Option ℕ) (b : Option Base) (u : UnlockDue) → i < length d.leaders → first_closed d v k i ≡ a → due_base d v signed k i ≡ b → unlock_due i a b ≡ Some u → IsPlaced d v k u
+  by_parts : (signed : Option Hashkey) (a : Option ℕ) (b : Option Base) (u : UnlockDue) → i < length d.leaders → first_closed d v k i ≡ a
+      → due_base d v signed k i ≡ b → unlock_due i a b ≡ Some u → IsPlaced d v k u
   by_parts signed None b u l e f h = absurd (cc h)
   by_parts signed (Some a) None u l e f h = absurd (cc h)
   by_parts signed (Some a) (Some base) u l e f h = subst (IsPlaced d v k) (same_some (record { arc = a; lock = i; base = base }) u h) (record {
@@ -47,11 +53,13 @@ module _ (d : Deal) (v : ℕ) (k : Histories) (i : ℕ) where
     lock = l;
   })
 
-in_lock : (d : Deal) (v : ℕ) (signed : ℕ → Option Hashkey) (k : Histories) (i : ℕ) (u : UnlockDue) → i < length d.leaders → unlock_for d v signed k i ≡ Some u → IsPlaced d v k u
+in_lock : (d : Deal) (v : ℕ) (signed : ℕ → Option Hashkey) (k : Histories) (i : ℕ) (u : UnlockDue) → i < length d.leaders
+    → unlock_for d v signed k i ≡ Some u → IsPlaced d v k u
 unfolding unlock_for
 in_lock d v signed k i u l h = by_parts d v k i (signed i) (first_closed d v k i) (due_base d v (signed i) k i) u l refl refl h
 
-pub placed : (d : Deal) (v : ℕ) (signed : ℕ → Option Hashkey) (k : Histories) (r : Option UnlockDue) → r ≡ first_of (unlock_for d v signed k) (locks d) → IfSome r (IsPlaced d v k)
+pub placed : (d : Deal) (v : ℕ) (signed : ℕ → Option Hashkey) (k : Histories) (r : Option UnlockDue) → r ≡ first_of (unlock_for d v signed k) (locks d)
+    → IfSome r (IsPlaced d v k)
 placed d v signed k None e = tt
 placed d v signed k (Some u) e =
     let x = first_at (unlock_for d v signed k) (locks d) u (sym e) in

@@ -1,5 +1,6 @@
 -- The least of what counts along a list, by a walk over it.
-use Rattle.std.proofs.Common.{◌≡◌, ℕ, ◌+◌, ◌<◌, Bool, true, false, cond, filter, map, take, get_or, List, [], ◌∷◌, ◌++◌, length, Option, Some, sym, ap, ◌∙◌, append-nil}
+use Rattle.std.proofs.Common.{◌≡◌, ℕ, ◌+◌, ◌<◌, Bool, true, false, cond, filter, map, take, get_or, List, [], ◌∷◌, ◌++◌, length, Option, Some, sym, ap}
+use Rattle.std.proofs.Common.{◌∙◌, append-nil}
 use Rattle.std.proofs.lemmas.List.{map-append}
 use Rattle.std.proofs.lemmas.List.Elements.{filter_more}
 use Rattle.escrow_core.specs.Parts.{lesser}
@@ -7,7 +8,8 @@ use Rattle.escrow_core.proofs.Least.{least_of-push}
 use Rattle.swap_laws.specs.Rest.{least_of}
 
 -- the next of them counts
-pub counts_on : (p : ℕ → Bool) (f : ℕ → ℕ) (xs : List ℕ) (i : ℕ) (old : Option ℕ) → i < length xs → p (get_or xs i 0) ≡ true → old ≡ least_of (map f (filter p (take i xs))) → Some (lesser old (f (get_or xs i 0))) ≡ least_of (map f (filter p (take (i + 1) xs)))
+pub counts_on : (p : ℕ → Bool) (f : ℕ → ℕ) (xs : List ℕ) (i : ℕ) (old : Option ℕ) → i < length xs → p (get_or xs i 0) ≡ true
+    → old ≡ least_of (map f (filter p (take i xs))) → Some (lesser old (f (get_or xs i 0))) ≡ least_of (map f (filter p (take (i + 1) xs)))
 counts_on p f xs i old lt t h =
     let x = get_or xs i 0 in
     let front = filter p (take i xs) in
@@ -16,7 +18,9 @@ counts_on p f xs i old lt t h =
     ∙ ap least_of (sym (map-append f front (x ∷ [])) ∙ ap (map f) (ap (λ b. front ++ cond b (x ∷ []) []) (sym t) ∙ sym (filter_more p xs i 0 lt))))
 
 -- the next of them doesn't count
-pub counts_off : (p : ℕ → Bool) (f : ℕ → ℕ) (xs : List ℕ) (i : ℕ) (old : Option ℕ) → i < length xs → p (get_or xs i 0) ≡ false → old ≡ least_of (map f (filter p (take i xs))) → old ≡ least_of (map f (filter p (take (i + 1) xs)))
+pub counts_off : (p : ℕ → Bool) (f : ℕ → ℕ) (xs : List ℕ) (i : ℕ) (old : Option ℕ) → i < length xs → p (get_or xs i 0) ≡ false
+    → old ≡ least_of (map f (filter p (take i xs))) → old ≡ least_of (map f (filter p (take (i + 1) xs)))
 counts_off p f xs i old lt t h =
     let front = filter p (take i xs) in
-    h ∙ ap (λ (ys : List ℕ). least_of (map f ys)) (sym (append-nil front) ∙ (ap (λ b. front ++ cond b (get_or xs i 0 ∷ []) []) (sym t) ∙ sym (filter_more p xs i 0 lt)))
+    h ∙ ap (λ (ys : List ℕ). least_of (map f ys)) (sym (append-nil front)
+    ∙ (ap (λ b. front ++ cond b (get_or xs i 0 ∷ []) []) (sym t) ∙ sym (filter_more p xs i 0 lt)))

@@ -1,4 +1,5 @@
-//! The second phase of a conforming party: once every arc that enters it is good it reveals hashkeys on those arcs, it claims where every lock is opened, and it takes back what has expired (Herlihy 2018, section 4.2).
+//! The second phase of a conforming party: once every arc that enters it is good it reveals hashkeys on those arcs, it claims where every lock is
+//! opened, and it takes back what has expired (Herlihy 2018, section 4.2).
 //!
 //! What the party knows is one `ledger_core::Facts` per arc. Nothing here takes memory, and each answer asks a few questions per arc and lock.
 //!

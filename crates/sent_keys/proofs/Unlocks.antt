@@ -1,5 +1,6 @@
 -- What is asked of the hashkeys that a party sent.
-use Rattle.std.proofs.Common.{◌≡◌, ℕ, ◌+◌, ◌<◌, ◌==◌, Bool, true, false, cond, ◌||◌, List, [], ◌∷◌, ◌++◌, length, take, get_or, Option, Some, None, refl, sym, ap, ◌∙◌, append-nil, append_assoc}
+use Rattle.std.proofs.Common.{◌≡◌, ℕ, ◌+◌, ◌<◌, ◌==◌, Bool, true, false, cond, ◌||◌, List, [], ◌∷◌, ◌++◌, length, take, get_or, Option, Some, None}
+use Rattle.std.proofs.Common.{refl, sym, ap, ◌∙◌, append-nil, append_assoc}
 use denote.Ref.{Bor}
 use Rattle.std.specs.List.{list_any, flat_map, cons_option}
 use Rattle.std.proofs.lemmas.List.{take_more, map_push}
@@ -27,13 +28,18 @@ for_lock i r = if_lock i r.now
 
 -- The walk that collects them.
 
-pub sent_more : (old now new : List (Bor Hashkey)) (ms : List Made) (v i : ℕ) (x : Made) → i < length ms → x ≡ get_or ms i x → shown now ≡ shown old ++ unlocks_made (take i ms) v → shown new ≡ shown now ++ cons_option (unlock_in (call_by v x.entry)) [] → shown new ≡ shown old ++ unlocks_made (take (i + 1) ms) v
+pub sent_more : (old now new : List (Bor Hashkey)) (ms : List Made) (v i : ℕ) (x : Made) → i < length ms → x ≡ get_or ms i x
+    → shown now ≡ shown old ++ unlocks_made (take i ms) v → shown new ≡ shown now ++ cons_option (unlock_in (call_by v x.entry)) []
+    → shown new ≡ shown old ++ unlocks_made (take (i + 1) ms) v
 sent_more old now new ms v i x l is e k =
     let one : unlocks_made (take (i + 1) ms) v ≡ unlocks_made (take i ms) v ++ cons_option (unlock_in (call_by v x.entry)) [] =
-    ap (λ z. unlocks_made z v) (take_more ms i x l ∙ ap (λ z. take i ms ++ z ∷ []) (sym is)) ∙ filter_map-append (λ (m : Made). unlock_in (call_by v m.entry)) (take i ms) (x ∷ []) in
-    k ∙ (ap (λ z. z ++ cons_option (unlock_in (call_by v x.entry)) []) e ∙ (append_assoc (shown old) (unlocks_made (take i ms) v) (cons_option (unlock_in (call_by v x.entry)) []) ∙ ap (λ z. shown old ++ z) (sym one)))
+    ap (λ z. unlocks_made z v) (take_more ms i x l ∙ ap (λ z. take i ms ++ z ∷ []) (sym is))
+    ∙ filter_map-append (λ (m : Made). unlock_in (call_by v m.entry)) (take i ms) (x ∷ []) in
+    k ∙ (ap (λ z. z ++ cons_option (unlock_in (call_by v x.entry)) []) e
+    ∙ (append_assoc (shown old) (unlocks_made (take i ms) v) (cons_option (unlock_in (call_by v x.entry)) []) ∙ ap (λ z. shown old ++ z) (sym one)))
 
-pub sent_one : (now new : List (Bor Hashkey)) (r : Bor Hashkey) (o : Option Hashkey) → new ≡ now ++ r ∷ [] → Some r.now ≡ o → shown new ≡ shown now ++ cons_option o []
+pub sent_one : (now new : List (Bor Hashkey)) (r : Bor Hashkey) (o : Option Hashkey) → new ≡ now ++ r ∷ [] → Some r.now ≡ o
+    → shown new ≡ shown now ++ cons_option o []
 sent_one now new r o e k = ap shown e ∙ (map_push (λ (z : Bor Hashkey). z.now) now r ∙ ap (λ z. shown now ++ cons_option z []) k)
 
 pub sent_none : (now new : List (Bor Hashkey)) (o : Option Hashkey) → new ≡ now → None ≡ o → shown new ≡ shown now ++ cons_option o []
@@ -57,7 +63,8 @@ first_refs : {A B : Type 0} (f : A → Option B) (rs : List (Bor A)) → first_o
 first_refs f [] = refl
 first_refs f (r ∷ rs) = ap (or_else (f r.now)) (first_refs f rs)
 
-first_head : (i : ℕ) (o : Option Call) (r : Option Hashkey) (ks : List Hashkey) → r ≡ first_of (if_lock i) ks → or_else (key_in i o) r ≡ first_of (if_lock i) (cons_option (unlock_in o) ks)
+first_head : (i : ℕ) (o : Option Call) (r : Option Hashkey) (ks : List Hashkey) → r ≡ first_of (if_lock i) ks
+    → or_else (key_in i o) r ≡ first_of (if_lock i) (cons_option (unlock_in o) ks)
 first_head i None r ks e = e
 first_head i (Some (Publish t)) r ks e = e
 first_head i (Some (Unlock key)) r ks e = ap (or_else (if_lock i key)) e
@@ -125,5 +132,6 @@ module _ (test : Option Call → Bool) (p : Hashkey → Bool) (u : OfUnlocks tes
       ∙ (ap (λ x. list_any p (unlocks_in h v) || x) (any_in_book v b) ∙ sym (any_append p (unlocks_in h v) (unlocks_of b v))))
 
   -- whether some call passes is told by the hashkeys that were sent
-  pub any_sent : (v : ℕ) (b : Histories) (rs : List (Bor Hashkey)) → shown rs ≡ unlocks_of b v → list_any (λ e. test (call_by v e)) (flat_map (λ h. h) b) ≡ list_any (λ r. p r.now) rs
+  pub any_sent : (v : ℕ) (b : Histories) (rs : List (Bor Hashkey)) → shown rs ≡ unlocks_of b v
+      → list_any (λ e. test (call_by v e)) (flat_map (λ h. h) b) ≡ list_any (λ r. p r.now) rs
   any_sent v b rs e = any_in_book v b ∙ (ap (list_any p) (sym e) ∙ sym (any_refs p rs))

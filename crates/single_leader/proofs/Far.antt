@@ -1,11 +1,13 @@
 -- The distance of a party is the greatest number of arcs on a path from it to the leader.
-use Rattle.std.proofs.Common.{◌≡◌, ◌⊎◌, ℕ, suc, zero, ◌+◌, ◌<◌, ◌≤◌, ◌==◌, Bool, true, false, cond, not, IsTrue, List, [], ◌∷◌, length, get_or, refl, sym, ap, ◌∙◌, subst, inl, inr, arith, eqb-true, eq-eqb, lt-ltb}
+use Rattle.std.proofs.Common.{◌≡◌, ◌⊎◌, ℕ, suc, zero, ◌+◌, ◌<◌, ◌≤◌, ◌==◌, Bool, true, false, cond, not, IsTrue, List, [], ◌∷◌, length, get_or, refl}
+use Rattle.std.proofs.Common.{sym, ap, ◌∙◌, subst, inl, inr, arith, eqb-true, eq-eqb, lt-ltb}
 use Rattle.std.proofs.lemmas.Bool.{false≢true}
 use Rattle.swap_base.specs.Lists.{IsIn, greatest}
 use Rattle.swap_base.proofs.Lists.{and_parts, and_both, greatest-in, greatest-below}
 use Rattle.swap_digraph.specs.declared.arc_ends.ArcEnds.{ArcEnds}
 use Rattle.swap_digraph.specs.Value.{Graph}
-use Rattle.swap_digraph.specs.Graph.{is_path, has_arc, is_among, first_is, last_is, arcs_of, are_followers, IsPathBetween, IsStronglyConnected, IsFeedback, IsHeight, IsDist, HasEnds}
+use Rattle.swap_digraph.specs.Graph.{is_path, has_arc, is_among, first_is, last_is, arcs_of, are_followers, IsPathBetween, IsStronglyConnected}
+use Rattle.swap_digraph.specs.Graph.{IsFeedback, IsHeight, IsDist, HasEnds}
 use Rattle.time_bounds.specs.Times.{need}
 use Rattle.leader_check.specs.Followers.{is_follower}
 use Rattle.leader_check.proofs.Followers.{follower_is, arc_of, arc_from, greatest-reached}
@@ -28,12 +30,15 @@ after-reached : (g : Graph) (f : ℕ → ℕ) (v : ℕ) → (most_after g f v �
 unfolding most_after
 after-reached g f v = go (greatest-reached (λ b. cond (b.from == v) (f b.to) 0) g.arcs)
   where
-    by_test : (a : ArcEnds) (b : Bool) (m : ℕ) → IsIn a g.arcs → (a.from == v) ≡ b → cond b (f a.to) 0 ≡ m → (m ≡ 0) ⊎ ((w : ℕ) × (has_arc g v w ≡ true) × (f w ≡ m))
+    by_test : (a : ArcEnds) (b : Bool) (m : ℕ) → IsIn a g.arcs → (a.from == v) ≡ b → cond b (f a.to) 0 ≡ m
+        → (m ≡ 0) ⊎ ((w : ℕ) × (has_arc g v w ≡ true) × (f w ≡ m))
     by_test a true m i t e = inr (a.to, arc_from g a v a.to i (eqb-true a.from v t) refl, e)
     by_test a false m i t e = inl (sym e)
 
-    go : (greatest (λ b. cond (b.from == v) (f b.to) 0) g.arcs ≡ 0) ⊎ ((a : ArcEnds) × IsIn a g.arcs × (cond (a.from == v) (f a.to) 0 ≡ greatest (λ b. cond (b.from == v) (f b.to) 0) g.arcs))
-        → (greatest (λ b. cond (b.from == v) (f b.to) 0) g.arcs ≡ 0) ⊎ ((w : ℕ) × (has_arc g v w ≡ true) × (f w ≡ greatest (λ b. cond (b.from == v) (f b.to) 0) g.arcs))
+    go : (greatest (λ b. cond (b.from == v) (f b.to) 0) g.arcs ≡ 0)
+        ⊎ ((a : ArcEnds) × IsIn a g.arcs × (cond (a.from == v) (f a.to) 0 ≡ greatest (λ b. cond (b.from == v) (f b.to) 0) g.arcs))
+        → (greatest (λ b. cond (b.from == v) (f b.to) 0) g.arcs ≡ 0)
+        ⊎ ((w : ℕ) × (has_arc g v w ≡ true) × (f w ≡ greatest (λ b. cond (b.from == v) (f b.to) 0) g.arcs))
     go (inl z) = inl z
     go (inr a) = by_test a.0 (a.0.from == v) (greatest (λ b. cond (b.from == v) (f b.to) 0) g.arcs) a.1 refl a.2
 
@@ -172,7 +177,8 @@ module _ (g : Graph) (l : ℕ) where
       go : Step g u w p → not (is_among u (l ∷ [])) ≡ true → Part w v (w ∷ p) → Part u v (u ∷ w ∷ p)
       go s a r = more r.part r.path r.first r.last r.followers r.inside
         where
-          more : (q : List ℕ) → is_path g q ≡ true → first_is w q ≡ true → last_is v q ≡ true → are_followers (l ∷ []) q ≡ true → ((x : ℕ) → IsIn x q → IsIn x (w ∷ p)) → Part u v (u ∷ w ∷ p)
+          more : (q : List ℕ) → is_path g q ≡ true → first_is w q ≡ true → last_is v q ≡ true → are_followers (l ∷ []) q ≡ true
+              → ((x : ℕ) → IsIn x q → IsIn x (w ∷ p)) → Part u v (u ∷ w ∷ p)
           more [] k f t o m = absurd (cc k)
           more (z ∷ q) k f t o m =
               let same : z ≡ w = eqb-true z w f in
@@ -248,11 +254,13 @@ module _ (g : Graph) (l : ℕ) (ends : HasEnds g) (strong : IsStronglyConnected 
       go false e = at_leader v 0 (leader_among l v e) b
   far (suc k) v b = go (far k) (not (is_among v (l ∷ []))) refl
     where
-      go : ((w : ℕ) → w < g.n → Far w k (dist_within g l k w)) → (t : Bool) → not (is_among v (l ∷ [])) ≡ t → Far v (suc k) (dist_before g l (dist_within g l k) v)
+      go : ((w : ℕ) → w < g.n → Far w k (dist_within g l k w)) → (t : Bool) → not (is_among v (l ∷ [])) ≡ t
+          → Far v (suc k) (dist_before g l (dist_within g l k) v)
       go rest true e =
           let w = farthest (dist_within g l k) v b (is_leader_not l v e) in
           let r = further v w.0 k (dist_within g l k w.0) b e w.1 (rest w.0 (arc_below g v w.0 ends w.1)) in
-          let s : dist_before g l (dist_within g l k) v ≡ dist_within g l k w.0 + 1 = before-follower g l (dist_within g l k) v (follower_is g (l ∷ []) v b ∙ e) ∙ ap (λ d. d + 1) (sym w.2) in
+          let s : dist_before g l (dist_within g l k) v ≡ dist_within g l k w.0 + 1 =
+          before-follower g l (dist_within g l k) v (follower_is g (l ∷ []) v b ∙ e) ∙ ap (λ d. d + 1) (sym w.2) in
           subst (Far v (suc k)) (sym s) r
       go rest false e =
           let s : dist_before g l (dist_within g l k) v ≡ 0 = before-other g l (dist_within g l k) v (follower_is g (l ∷ []) v b ∙ e) in
@@ -265,7 +273,8 @@ module _ (g : Graph) (l : ℕ) (ends : HasEnds g) (strong : IsStronglyConnected 
       go : Far v k (dist_within g l k v) → (p : List ℕ) × IsPathBetween g v l p × (arcs_of p ≡ dist_within g l k v)
       go r = by_end r.end
         where
-          by_end : (last_is l (v ∷ r.rest) ≡ true) ⊎ ((are_followers (l ∷ []) (v ∷ r.rest) ≡ true) × (length r.rest ≡ k)) → (p : List ℕ) × IsPathBetween g v l p × (arcs_of p ≡ dist_within g l k v)
+          by_end : (last_is l (v ∷ r.rest) ≡ true) ⊎ ((are_followers (l ∷ []) (v ∷ r.rest) ≡ true) × (length r.rest ≡ k))
+              → (p : List ℕ) × IsPathBetween g v l p × (arcs_of p ≡ dist_within g l k v)
           by_end (inl x) = let s = r.size in (v ∷ r.rest, (r.path, eq-eqb v v refl, x), omega (arith, s))
           by_end (inr x) =
               let m = height.most (v ∷ r.rest) r.path x.0 in
@@ -306,4 +315,5 @@ module _ (g : Graph) (l : ℕ) (ends : HasEnds g) (strong : IsStronglyConnected 
   -- h rounds give the distance
   pub dist_by_rounds : (h v : ℕ) → IsHeight g (l ∷ []) h → v < g.n → dist_within g l h v ≡ dist_of g l v
   unfolding dist_of
-  dist_by_rounds h v height b = dist_one v (dist_within g l h v) (dist_within g l g.n v) (dist_is h h v height (omega arith) b) (dist_is h g.n v height (height_below h height) b)
+  dist_by_rounds h v height b =
+      dist_one v (dist_within g l h v) (dist_within g l g.n v) (dist_is h h v height (omega arith) b) (dist_is h g.n v height (height_below h height) b)

@@ -28,7 +28,8 @@ dists_none g l = go 0 g.n
     go a zero = refl
     go a (suc n) = ap (λ xs. 0 ∷ xs) (go (a + 1) n)
 
-pub dists_next : (g : Graph) (l k : ℕ) (row next : List ℕ) → row ≡ dists_within g l k → next ≡ map (dist_before g l (slice_index row)) (parties g) → next ≡ dists_within g l (k + 1)
+pub dists_next : (g : Graph) (l k : ℕ) (row next : List ℕ) → row ≡ dists_within g l k → next ≡ map (dist_before g l (slice_index row)) (parties g)
+    → next ≡ dists_within g l (k + 1)
 unfolding dist_within
 dists_next g l k row next e h =
     let s : k + 1 ≡ suc k = omega arith in
@@ -53,8 +54,10 @@ distances_follow_arcs g l v ends strong leads feedback b =
     let same : dist_within g l h ≡ dist_of g l = fun_ext (λ w. go w (below_or w g.n) (λ lt. dist_by_rounds g l ends strong leads feedback h w height lt)) in
     let once : IsDist g l v (dist_within g l h v) = dist_is g l ends strong leads feedback h h v height (omega arith) b in
     let more : IsDist g l v (dist_within g l (suc h) v) = dist_is g l ends strong leads feedback h (suc h) v height (omega arith) b in
-    ap (λ (t : ℕ → ℕ). t v) (sym same) ∙ dist_one g l ends strong leads feedback v (dist_within g l h v) (dist_within g l (suc h) v) once more ∙ within-suc g l h v ∙ ap (λ (t : ℕ → ℕ). dist_before g l t v) same
+    ap (λ (t : ℕ → ℕ). t v) (sym same) ∙ dist_one g l ends strong leads feedback v (dist_within g l h v) (dist_within g l (suc h) v) once more
+    ∙ within-suc g l h v ∙ ap (λ (t : ℕ → ℕ). dist_before g l t v) same
   where
-    go : (w : ℕ) → (w < g.n) ⊎ (g.n ≤ w) → (w < g.n → dist_within g l (height_of g (l ∷ [])) w ≡ dist_of g l w) → dist_within g l (height_of g (l ∷ [])) w ≡ dist_of g l w
+    go : (w : ℕ) → (w < g.n) ⊎ (g.n ≤ w) → (w < g.n → dist_within g l (height_of g (l ∷ [])) w ≡ dist_of g l w)
+        → dist_within g l (height_of g (l ∷ [])) w ≡ dist_of g l w
     go w (inl lt) inside = inside lt
     go w (inr le) inside = within-outside g l (height_of g (l ∷ [])) w le ∙ sym (of-outside g l w le)

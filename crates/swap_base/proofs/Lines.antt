@@ -3,14 +3,16 @@ use Rattle.std.proofs.Common.{◌≡◌, ℕ, ◌+◌, ◌<◌, ◌≤◌, ◌++
 use Rattle.std.proofs.lemmas.List.{nil_from_length, length-drop, append-nil}
 use Rattle.swap_base.specs.Text.{lines}
 
-pub lines_on : {A : Type 0} (f : ℕ → A → List ℕ) (old new total : List ℕ) (n : ℕ) (xs : List A) (i : ℕ) (x d : A) → i < length xs → x ≡ get_or xs i d → new ≡ old ++ f n x → old ++ lines f n (drop i xs) ≡ total → new ++ lines f (n + 1) (drop (i + 1) xs) ≡ total
+pub lines_on : {A : Type 0} (f : ℕ → A → List ℕ) (old new total : List ℕ) (n : ℕ) (xs : List A) (i : ℕ) (x d : A) → i < length xs → x ≡ get_or xs i d
+    → new ≡ old ++ f n x → old ++ lines f n (drop i xs) ≡ total → new ++ lines f (n + 1) (drop (i + 1) xs) ≡ total
 unfolding lines
 lines_on f old new total n xs i x d lt is wrote so_far =
     let e : drop i xs ≡ x ∷ drop (i + 1) xs = rw (add-one, drop-cons xs i d, ← is) in
     let one : old ++ lines f n (drop i xs) ≡ old ++ (f n x ++ lines f (n + 1) (drop (i + 1) xs)) = rw e refl in
     rw wrote (append_assoc old (f n x) (lines f (n + 1) (drop (i + 1) xs)) ∙ sym one ∙ so_far)
 
-pub lines_done : {A : Type 0} (f : ℕ → A → List ℕ) (old total : List ℕ) (n : ℕ) (xs : List A) (i : ℕ) → length xs ≤ i → old ++ lines f n (drop i xs) ≡ total → old ≡ total
+pub lines_done : {A : Type 0} (f : ℕ → A → List ℕ) (old total : List ℕ) (n : ℕ) (xs : List A) (i : ℕ) → length xs ≤ i
+    → old ++ lines f n (drop i xs) ≡ total → old ≡ total
 unfolding lines
 lines_done f old total n xs i le so_far =
     let e : drop i xs ≡ [] = nil_from_length (drop i xs) (omega (arith, length-drop i xs)) in

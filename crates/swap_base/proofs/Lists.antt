@@ -1,5 +1,7 @@
 -- Facts on the words of specs/Lists, by induction on the lists.
-use Rattle.std.proofs.Common.{◌≡◌, ◌⊎◌, ℕ, suc, zero, ◌+◌, ◌<◌, ◌≤◌, ◌==◌, max, Bool, true, false, cond, not, ◌&&◌, ◌||◌, List, [], ◌∷◌, ◌++◌, length, filter, count_by, Option, Some, None, is_some, is_none, refl, sym, ap, ◌∙◌, subst, inl, inr, ⊎_elim, arith, get_or, append_assoc, append-nil, eqb-true, eq-eqb}
+use Rattle.std.proofs.Common.{◌≡◌, ◌⊎◌, ℕ, suc, zero, ◌+◌, ◌<◌, ◌≤◌, ◌==◌, max, Bool, true, false, cond, not, ◌&&◌, ◌||◌, List, [], ◌∷◌, ◌++◌, length}
+use Rattle.std.proofs.Common.{filter, count_by, Option, Some, None, is_some, is_none, refl, sym, ap, ◌∙◌, subst, inl, inr, ⊎_elim, arith, get_or}
+use Rattle.std.proofs.Common.{append_assoc, append-nil, eqb-true, eq-eqb}
 use Rattle.std.proofs.lemmas.Bool.{false≢true}
 use Rattle.std.proofs.lemmas.List.Sums.{sum_by-cons}
 use Rattle.std.specs.List.{list_any, list_all, range_with_len, AllByRecursion, flat_map}
@@ -23,7 +25,8 @@ pub record FirstAt {A B : Type 0} (f : A → Option B) (xs : List A) (y : B) : T
   pub gives : f now ≡ Some y
   pub none : first_of f past ≡ None
 
-first_at_head : {A B : Type 0} (f : A → Option B) (x : A) (xs : List A) (y : B) (o : Option B) → f x ≡ o → or_else o (first_of f xs) ≡ Some y → (first_of f xs ≡ Some y → FirstAt f xs y) → FirstAt f (x ∷ xs) y
+first_at_head : {A B : Type 0} (f : A → Option B) (x : A) (xs : List A) (y : B) (o : Option B) → f x ≡ o → or_else o (first_of f xs) ≡ Some y
+    → (first_of f xs ≡ Some y → FirstAt f xs y) → FirstAt f (x ∷ xs) y
 first_at_head f x xs y None h e rest =
     let r = rest e in
     record { past = x ∷ r.past; now = r.now; stands = (r.stands.0, ap (λ l. x ∷ l) r.stands.1); gives = r.gives; none = rw h r.none }
@@ -41,7 +44,8 @@ or_else-some : {B : Type 0} (o r : Option B) → is_some r ≡ true → is_some 
 or_else-some None r h = h
 or_else-some (Some y) r h = refl
 
-pub first_of-past : {A B : Type 0} (f : A → Option B) (xs past : List A) (x : A) (y : B) → IsMoment xs past x → first_of f past ≡ Some y → first_of f xs ≡ Some y
+pub first_of-past : {A B : Type 0} (f : A → Option B) (xs past : List A) (x : A) (y : B) → IsMoment xs past x → first_of f past ≡ Some y
+    → first_of f xs ≡ Some y
 first_of-past f xs past x y m e = ap (first_of f) m.1 ∙ first_of-front f past (x ∷ m.0) y e
 
 pub first_of-now : {A B : Type 0} (f : A → Option B) (xs past : List A) (x : A) (y : B) → IsMoment xs past x → f x ≡ Some y → is_some (first_of f xs) ≡ true
@@ -51,12 +55,14 @@ first_of-now f xs past x y m e =
 
 -- Moments.
 
-moment_after : {A : Type 0} (P : Moment A → Type 0) (before past rest : List A) (x : A) → AllByRecursion P (moments_after before (past ++ x ∷ rest)) → P (record { past = before ++ past; now = x })
+moment_after : {A : Type 0} (P : Moment A → Type 0) (before past rest : List A) (x : A) → AllByRecursion P (moments_after before (past ++ x ∷ rest))
+    → P (record { past = before ++ past; now = x })
 moment_after P before [] rest x h = rw append-nil h.0
 moment_after P before (z ∷ past) rest x h = rw append_assoc at (moment_after P (before ++ z ∷ []) past rest x h.1)
 
 -- what holds at every moment holds at this one
-pub at_moment : {A : Type 0} (P : Moment A → Type 0) (xs past : List A) (x : A) → AllByRecursion P (moments xs) → IsMoment xs past x → P (record { past = past; now = x })
+pub at_moment : {A : Type 0} (P : Moment A → Type 0) (xs past : List A) (x : A) → AllByRecursion P (moments xs) → IsMoment xs past x
+    → P (record { past = past; now = x })
 at_moment P xs past x h m = moment_after P [] past m.0 x (subst (λ l. AllByRecursion P (moments l)) m.1 h)
 
 pub and_parts : (a b : Bool) → (a && b) ≡ true → (a ≡ true) × (b ≡ true)
@@ -69,14 +75,17 @@ all_from_list_all p (x ∷ xs) h = let e = and_parts (p x) (list_all p xs) h in 
 
 -- One more entry at the end.
 
-pub all_moments_after_push : {A : Type 0} (P : Moment A → Type 0) (before xs : List A) (x : A) → AllByRecursion P (moments_after before xs) → P (record { past = before ++ xs; now = x }) → AllByRecursion P (moments_after before (xs ++ x ∷ []))
+pub all_moments_after_push : {A : Type 0} (P : Moment A → Type 0) (before xs : List A) (x : A) → AllByRecursion P (moments_after before xs)
+    → P (record { past = before ++ xs; now = x }) → AllByRecursion P (moments_after before (xs ++ x ∷ []))
 all_moments_after_push P before [] x h p = (rw append-nil at p, tt)
 all_moments_after_push P before (y ∷ ys) x h p = (h.0, all_moments_after_push P (before ++ y ∷ []) ys x h.1 (rw append_assoc p))
 
-pub all_moments_push : {A : Type 0} (P : Moment A → Type 0) (xs : List A) (x : A) → AllByRecursion P (moments xs) → P (record { past = xs; now = x }) → AllByRecursion P (moments (xs ++ x ∷ []))
+pub all_moments_push : {A : Type 0} (P : Moment A → Type 0) (xs : List A) (x : A) → AllByRecursion P (moments xs) → P (record { past = xs; now = x })
+    → AllByRecursion P (moments (xs ++ x ∷ []))
 all_moments_push P xs x h p = all_moments_after_push P [] xs x h p
 
-all_moments_after_front : {A : Type 0} (P : Moment A → Type 0) (before xs ys : List A) → AllByRecursion P (moments_after before (xs ++ ys)) → AllByRecursion P (moments_after before xs)
+all_moments_after_front : {A : Type 0} (P : Moment A → Type 0) (before xs ys : List A) → AllByRecursion P (moments_after before (xs ++ ys))
+    → AllByRecursion P (moments_after before xs)
 all_moments_after_front P before [] ys h = tt
 all_moments_after_front P before (x ∷ xs) ys h = (h.0, all_moments_after_front P (before ++ x ∷ []) xs ys h.1)
 
@@ -125,9 +134,11 @@ pub record AnyAt {A : Type 0} (p : A → Bool) (xs : List A) : Type 0 where
   pub stands : IsMoment xs past now
   pub passes : p now ≡ true
 
-any_at_head : {A : Type 0} (p : A → Bool) (x : A) (xs : List A) (b : Bool) → p x ≡ b → (b || list_any p xs) ≡ true → (list_any p xs ≡ true → AnyAt p xs) → AnyAt p (x ∷ xs)
+any_at_head : {A : Type 0} (p : A → Bool) (x : A) (xs : List A) (b : Bool) → p x ≡ b → (b || list_any p xs) ≡ true → (list_any p xs ≡ true → AnyAt p xs)
+    → AnyAt p (x ∷ xs)
 any_at_head p x xs true h e rest = record { past = []; now = x; stands = (xs, refl); passes = h }
-any_at_head p x xs false h e rest = let r = rest e in record { past = x ∷ r.past; now = r.now; stands = (r.stands.0, ap (λ l. x ∷ l) r.stands.1); passes = r.passes }
+any_at_head p x xs false h e rest = let r =
+    rest e in record { past = x ∷ r.past; now = r.now; stands = (r.stands.0, ap (λ l. x ∷ l) r.stands.1); passes = r.passes }
 
 pub any_at : {A : Type 0} (p : A → Bool) (xs : List A) → list_any p xs ≡ true → AnyAt p xs
 any_at p [] e = absurd (cc e)
@@ -173,7 +184,8 @@ greatest-below f (x ∷ xs) n h =
     let b : greatest f xs ≤ n = greatest-below f xs n (λ y i. h y (inr i)) in
     omega arith
 
-in_filter_head : {A : Type 0} (p : A → Bool) (x y : A) (xs : List A) (b : Bool) → p y ≡ b → (x ≡ y) ⊎ IsIn x (filter p xs) → p x ≡ true → IsIn x (cond b (y ∷ filter p xs) (filter p xs))
+in_filter_head : {A : Type 0} (p : A → Bool) (x y : A) (xs : List A) (b : Bool) → p y ≡ b → (x ≡ y) ⊎ IsIn x (filter p xs) → p x ≡ true
+    → IsIn x (cond b (y ∷ filter p xs) (filter p xs))
 in_filter_head p x y xs true h i k = i
 in_filter_head p x y xs false h (inl e) k = absurd (false≢true (sym h ∙ (ap p (sym e) ∙ k)))
 in_filter_head p x y xs false h (inr i) k = i
@@ -183,7 +195,8 @@ in_filter p x [] i k = i
 in_filter p x (y ∷ xs) (inl e) k = in_filter_head p x y xs (p y) refl (inl e) k
 in_filter p x (y ∷ xs) (inr i) k = in_filter_head p x y xs (p y) refl (inr (in_filter p x xs i k)) k
 
-from_filter_head : {A : Type 0} (p : A → Bool) (x y : A) (xs : List A) (b : Bool) → p y ≡ b → IsIn x (cond b (y ∷ filter p xs) (filter p xs)) → (IsIn x (filter p xs) → IsIn x xs × (p x ≡ true)) → IsIn x (y ∷ xs) × (p x ≡ true)
+from_filter_head : {A : Type 0} (p : A → Bool) (x y : A) (xs : List A) (b : Bool) → p y ≡ b → IsIn x (cond b (y ∷ filter p xs) (filter p xs))
+    → (IsIn x (filter p xs) → IsIn x xs × (p x ≡ true)) → IsIn x (y ∷ xs) × (p x ≡ true)
 from_filter_head p x y xs true h (inl e) rest = (inl e, ap p e ∙ h)
 from_filter_head p x y xs true h (inr i) rest = (inr (rest i).0, (rest i).1)
 from_filter_head p x y xs false h i rest = (inr (rest i).0, (rest i).1)
@@ -211,7 +224,8 @@ pub from_range : (i n : ℕ) → IsIn i (range_with_len 0 n) → i < n
 from_range i n h = let r = from_range_from 0 i n h in omega arith
 
 -- a count above 0 has an element that passes
-some_passes_head : {A : Type 0} (p : A → Bool) (x : A) (xs : List A) (b : Bool) → p x ≡ b → (0 < count_by p xs → (y : A) × IsIn y xs × (p y ≡ true)) → 0 < cond b 1 0 + count_by p xs → (y : A) × IsIn y (x ∷ xs) × (p y ≡ true)
+some_passes_head : {A : Type 0} (p : A → Bool) (x : A) (xs : List A) (b : Bool) → p x ≡ b → (0 < count_by p xs → (y : A) × IsIn y xs × (p y ≡ true))
+    → 0 < cond b 1 0 + count_by p xs → (y : A) × IsIn y (x ∷ xs) × (p y ≡ true)
 some_passes_head p x xs true h rest l = (x, inl refl, h)
 some_passes_head p x xs false h rest l = let r = rest (omega arith) in (r.0, inr r.1, r.2)
 
@@ -220,7 +234,9 @@ some_passes p [] l = absurd (omega arith)
 some_passes p (x ∷ xs) l = some_passes_head p x xs (p x) refl (some_passes p xs) (subst (λ n. 0 < n) (sum_by-cons (λ y. cond (p y) 1 0) x xs) l)
 
 -- a count below the length has an element that doesn't
-some_fails_head : {A : Type 0} (p : A → Bool) (x : A) (xs : List A) (b : Bool) → p x ≡ b → (count_by p xs < length xs → (y : A) × IsIn y xs × (p y ≡ false)) → cond b 1 0 + count_by p xs < suc (length xs) → (y : A) × IsIn y (x ∷ xs) × (p y ≡ false)
+some_fails_head : {A : Type 0} (p : A → Bool) (x : A) (xs : List A) (b : Bool) → p x ≡ b
+    → (count_by p xs < length xs → (y : A) × IsIn y xs × (p y ≡ false)) → cond b 1 0 + count_by p xs < suc (length xs)
+    → (y : A) × IsIn y (x ∷ xs) × (p y ≡ false)
 some_fails_head p x xs true h rest l = let r = rest (omega arith) in (r.0, inr r.1, r.2)
 some_fails_head p x xs false h rest l = (x, inl refl, h)
 
@@ -242,7 +258,8 @@ pub same_list-refl : {A : Type 0} (same : A → A → Bool) → ((x : A) → sam
 same_list-refl same h [] = refl
 same_list-refl same h (x ∷ xs) = and_both (same x x) (same_list same xs xs) (h x) (same_list-refl same h xs)
 
-some_fails_all_head : {A : Type 0} (p : A → Bool) (x : A) (xs : List A) (b : Bool) → p x ≡ b → (b && list_all p xs) ≡ false → (list_all p xs ≡ false → (y : A) × IsIn y xs × (p y ≡ false)) → (y : A) × IsIn y (x ∷ xs) × (p y ≡ false)
+some_fails_all_head : {A : Type 0} (p : A → Bool) (x : A) (xs : List A) (b : Bool) → p x ≡ b → (b && list_all p xs) ≡ false
+    → (list_all p xs ≡ false → (y : A) × IsIn y xs × (p y ≡ false)) → (y : A) × IsIn y (x ∷ xs) × (p y ≡ false)
 some_fails_all_head p x xs true h e rest = let r = rest e in (r.0, inr r.1, r.2)
 some_fails_all_head p x xs false h e rest = (x, inl refl, h)
 
@@ -280,7 +297,8 @@ in_whole (h ∷ b) (suc a) x i = in_append h (flat_map (λ h. h) b) x (inr (in_w
 
 pub from_whole : {A : Type 0} (b : List (List A)) (x : A) → IsIn x (flat_map (λ h. h) b) → (a : ℕ) × (a < length b) × IsIn x (get_or b a [])
 from_whole [] x i = absurd i
-from_whole (h ∷ b) x i = elim (from_append h (flat_map (λ h. h) b) x i) [ inl j ↦ (0, omega arith, j) | inr j ↦ (let r = from_whole b x j in (suc r.0, omega arith, r.2)) ]
+from_whole (h ∷ b) x i =
+    elim (from_append h (flat_map (λ h. h) b) x i) [ inl j ↦ (0, omega arith, j) | inr j ↦ (let r = from_whole b x j in (suc r.0, omega arith, r.2)) ]
 
 pub first_of-in : {A B : Type 0} (f : A → Option B) (xs : List A) (x : A) (y : B) → IsIn x xs → f x ≡ Some y → is_some (first_of f xs) ≡ true
 first_of-in f xs x y i e = let m = moment_from_in xs x i in first_of-now f xs m.0 x y m.1 e

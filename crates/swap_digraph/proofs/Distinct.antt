@@ -1,5 +1,6 @@
 -- In version 1 arcs without a fault have distinct ends.
-use Rattle.std.proofs.Common.{◌≡◌, ℕ, zero, suc, ◌+◌, ◌<◌, Bool, true, false, cond, not, ◌&&◌, ◌==◌, nat_lt, List, [], ◌∷◌, ◌++◌, length, get_or, get_or-take, take, Option, Some, None}
+use Rattle.std.proofs.Common.{◌≡◌, ℕ, zero, suc, ◌+◌, ◌<◌, Bool, true, false, cond, not, ◌&&◌, ◌==◌, nat_lt, List, [], ◌∷◌, ◌++◌, length, get_or}
+use Rattle.std.proofs.Common.{get_or-take, take, Option, Some, None}
 use Rattle.std.proofs.Common.{refl, sym, ap, subst, ◌∙◌, arith, append_assoc, append-nil, eq-eqb, ltb-true, ltb-false, position}
 use Rattle.std.proofs.lemmas.List.{length-take}
 use Rattle.std.proofs.lemmas.Bool.{false≢true}
@@ -14,9 +15,11 @@ use Rattle.swap_digraph.specs.declared.deal.Version.{Version}
 use Rattle.swap_digraph.specs.declared.deal.Version.TheVariants.{One}
 use Rattle.swap_digraph.proofs.Faults.{both_none}
 
-none_after : (n : ℕ) (before xs : List ArcEnds) (i : ℕ) (d : ArcEnds) → first_fault_after n One before xs ≡ None → i < length xs → (k : ℕ) × (fault_at n One (before ++ take i xs) k (get_or xs i d) ≡ None)
+none_after : (n : ℕ) (before xs : List ArcEnds) (i : ℕ) (d : ArcEnds) → first_fault_after n One before xs ≡ None → i < length xs
+    → (k : ℕ) × (fault_at n One (before ++ take i xs) k (get_or xs i d) ≡ None)
 none_after n before [] i d e lt = absurd (omega arith)
-none_after n before (x ∷ xs) zero d e lt = (length before, subst (λ ys. fault_at n One ys (length before) x ≡ None) (sym (append-nil before)) (both_none _ _ e).0)
+none_after n before (x ∷ xs) zero d e lt =
+    (length before, subst (λ ys. fault_at n One ys (length before) x ≡ None) (sym (append-nil before)) (both_none _ _ e).0)
 none_after n before (x ∷ xs) (suc i) d e lt =
     let r = none_after n (before ++ x ∷ []) xs i d (both_none _ _ e).1 (omega arith) in
     (r.0, subst (λ ys. fault_at n One ys r.0 (get_or xs i d) ≡ None) (append_assoc before (x ∷ []) (take i xs)) r.1)
@@ -31,11 +34,13 @@ no_parallel n k before a e = go (nat_lt a.from n && nat_lt a.to n) (a.from == a.
     go true true o h = absurd (cc h)
     go false s o h = absurd (cc h)
 
-not_there : (f : ArcEnds → Bool) (from : ℕ) (xs : List ArcEnds) (j : ℕ) (d : ArcEnds) → position_from f from xs ≡ None → j < length xs → f (get_or xs j d) ≡ false
+not_there : (f : ArcEnds → Bool) (from : ℕ) (xs : List ArcEnds) (j : ℕ) (d : ArcEnds) → position_from f from xs ≡ None → j < length xs
+    → f (get_or xs j d) ≡ false
 not_there f from [] j d e lt = absurd (omega arith)
 not_there f from (x ∷ xs) j d e lt = go (f x) refl j e lt (λ i. not_there f (from + 1) xs i d)
   where
-    go : (t : Bool) → f x ≡ t → (i : ℕ) → cond t (Some from) (position_from f (from + 1) xs) ≡ None → i < suc (length xs) → ((i : ℕ) → position_from f (from + 1) xs ≡ None → i < length xs → f (get_or xs i d) ≡ false) → f (get_or (x ∷ xs) i d) ≡ false
+    go : (t : Bool) → f x ≡ t → (i : ℕ) → cond t (Some from) (position_from f (from + 1) xs) ≡ None → i < suc (length xs)
+        → ((i : ℕ) → position_from f (from + 1) xs ≡ None → i < length xs → f (get_or xs i d) ≡ false) → f (get_or (x ∷ xs) i d) ≡ false
     go true h i k l rest = absurd (cc k)
     go false h zero k l rest = h
     go false h (suc i) k l rest = rest i k (omega arith)
@@ -49,7 +54,12 @@ earlier n xs i j e lt less same =
     let r = none_after n [] xs i (record { from = 0; to = 0 }) e lt in
     let p = no_parallel n r.0 (take i xs) (ends_in xs i) r.1 in
     let m : j < length (take i xs) = omega (arith, length-take i xs) in
-    let f = not_there (same_ends (ends_in xs i)) 0 (take i xs) j (record { from = 0; to = 0 }) (sym (position_from-zero (same_ends (ends_in xs i)) (take i xs)) ∙ p) m in
+    let f =
+    not_there (same_ends (ends_in xs i)) 0 (take i xs) j (record {
+      from = 0;
+      to =
+          0;
+    }) (sym (position_from-zero (same_ends (ends_in xs i)) (take i xs)) ∙ p) m in
     let q : ends_in (take i xs) j ≡ ends_in xs i = get_or-take i xs j (record { from = 0; to = 0 }) less ∙ same in
     absurd (false≢true (sym f ∙ ap (same_ends (ends_in xs i)) q ∙ same_itself (ends_in xs i)))
 

@@ -1,5 +1,7 @@
 -- The least arc that has a fault, by a walk over the arcs.
-use Rattle.std.proofs.Common.{◌≡◌, ◌≢◌, ℕ, zero, suc, ◌+◌, ◌<◌, ◌≤◌, Bool, true, false, cond, not, ◌&&◌, ◌==◌, nat_lt, List, [], ◌∷◌, ◌++◌, length, get_or, take, drop, Option, Some, None, is_some, refl, sym, ap, ◌∙◌, arith, add-one, drop-cons, length-take, eqb-true, ltb-true, position}
+use Rattle.std.proofs.Common.{◌≡◌, ◌≢◌, ℕ, zero, suc, ◌+◌, ◌<◌, ◌≤◌, Bool, true, false, cond, not, ◌&&◌, ◌==◌, nat_lt, List, [], ◌∷◌, ◌++◌, length}
+use Rattle.std.proofs.Common.{get_or, take, drop, Option, Some, None, is_some, refl, sym, ap, ◌∙◌, arith, add-one, drop-cons, length-take, eqb-true}
+use Rattle.std.proofs.Common.{ltb-true, position}
 use Rattle.std.proofs.lemmas.List.{nil_from_length, length-drop, take_more}
 use Rattle.swap_base.specs.Lists.{or_else}
 use Rattle.swap_digraph.specs.declared.arc_ends.ArcEnds.{ArcEnds}
@@ -21,7 +23,8 @@ step n v arcs before i d lt e =
     let c : drop i arcs ≡ get_or arcs i d ∷ drop (i + 1) arcs = rw (add-one, drop-cons arcs i d) refl in
     let m : take (i + 1) arcs ≡ take i arcs ++ get_or arcs i d ∷ [] = take_more arcs i d lt in
     ap (λ (xs : List ArcEnds). first_fault_after n v (take i arcs) xs) c
-    ∙ ap (λ (xs : List ArcEnds). or_else (fault_at n v xs (length xs) (get_or arcs i d)) (first_fault_after n v (take i arcs ++ get_or arcs i d ∷ []) (drop (i + 1) arcs))) (sym e)
+    ∙ ap (λ (xs : List ArcEnds). or_else (fault_at n v xs (length xs) (get_or arcs i d))
+    (first_fault_after n v (take i arcs ++ get_or arcs i d ∷ []) (drop (i + 1) arcs))) (sym e)
     ∙ ap (λ (xs : List ArcEnds). or_else (fault_at n v before (length before) (get_or arcs i d)) (first_fault_after n v xs (drop (i + 1) arcs))) (sym m)
 
 or_else_none : (r : Option ArcFault) (rest : Option ArcFault) → is_some r ≡ false → or_else r rest ≡ rest
@@ -33,16 +36,20 @@ or_else_some None rest e = cc e
 or_else_some (Some x) rest e = refl
 
 -- this arc has none
-pub goes_on : (n : ℕ) (v : Version) (arcs before : List ArcEnds) (i : ℕ) (d : ArcEnds) (r total : Option ArcFault) → i < length arcs → before ≡ take i arcs → r ≡ fault_at n v before (length before) (get_or arcs i d) → is_some r ≡ false
+pub goes_on : (n : ℕ) (v : Version) (arcs before : List ArcEnds) (i : ℕ) (d : ArcEnds) (r total : Option ArcFault) → i < length arcs
+    → before ≡ take i arcs → r ≡ fault_at n v before (length before) (get_or arcs i d) → is_some r ≡ false
     → fault_from n v arcs i ≡ total → fault_from n v arcs (i + 1) ≡ total
 goes_on n v arcs before i d r total lt e h none so_far =
-    sym (step n v arcs before i d lt e ∙ ap (λ (o : Option ArcFault). or_else o (fault_from n v arcs (i + 1))) (sym h) ∙ or_else_none r (fault_from n v arcs (i + 1)) none) ∙ so_far
+    sym (step n v arcs before i d lt e ∙ ap (λ (o : Option ArcFault). or_else o (fault_from n v arcs (i + 1))) (sym h)
+    ∙ or_else_none r (fault_from n v arcs (i + 1)) none) ∙ so_far
 
 -- this arc has the first
-pub is_found : (n : ℕ) (v : Version) (arcs before : List ArcEnds) (i : ℕ) (d : ArcEnds) (r total : Option ArcFault) → i < length arcs → before ≡ take i arcs → r ≡ fault_at n v before (length before) (get_or arcs i d) → is_some r ≡ true
+pub is_found : (n : ℕ) (v : Version) (arcs before : List ArcEnds) (i : ℕ) (d : ArcEnds) (r total : Option ArcFault) → i < length arcs
+    → before ≡ take i arcs → r ≡ fault_at n v before (length before) (get_or arcs i d) → is_some r ≡ true
     → fault_from n v arcs i ≡ total → r ≡ total
 is_found n v arcs before i d r total lt e h some so_far =
-    sym (step n v arcs before i d lt e ∙ ap (λ (o : Option ArcFault). or_else o (fault_from n v arcs (i + 1))) (sym h) ∙ or_else_some r (fault_from n v arcs (i + 1)) some) ∙ so_far
+    sym (step n v arcs before i d lt e ∙ ap (λ (o : Option ArcFault). or_else o (fault_from n v arcs (i + 1))) (sym h)
+    ∙ or_else_some r (fault_from n v arcs (i + 1)) some) ∙ so_far
 
 pub is_none : (n : ℕ) (v : Version) (arcs : List ArcEnds) (i : ℕ) (total : Option ArcFault) → length arcs ≤ i → fault_from n v arcs i ≡ total → None ≡ total
 is_none n v arcs i total le so_far =
@@ -75,7 +82,8 @@ pub both_none : (o rest : Option ArcFault) → or_else o rest ≡ None → (o �
 both_none None rest e = (refl, e)
 both_none (Some x) rest e = cc e
 
-sound_after : (n : ℕ) (v : Version) (before arcs : List ArcEnds) (i : ℕ) (d : ArcEnds) → first_fault_after n v before arcs ≡ None → i < length arcs → IsSound n (get_or arcs i d)
+sound_after : (n : ℕ) (v : Version) (before arcs : List ArcEnds) (i : ℕ) (d : ArcEnds) → first_fault_after n v before arcs ≡ None → i < length arcs
+    → IsSound n (get_or arcs i d)
 sound_after n v before [] i d e lt = absurd (omega arith)
 sound_after n v before (a ∷ arcs) zero d e lt = sound_at n v before (length before) a (both_none _ _ e).0
 sound_after n v before (a ∷ arcs) (suc i) d e lt = sound_after n v (before ++ a ∷ []) arcs i d (both_none _ _ e).1 (omega arith)

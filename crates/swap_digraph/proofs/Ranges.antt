@@ -1,5 +1,6 @@
 -- Lists made for each number below n.
-use Rattle.std.proofs.Common.{◌≡◌, ℕ, zero, suc, ◌+◌, ◌<◌, Bool, true, false, cond, List, [], ◌∷◌, ◌++◌, length, get_or, filter, map, refl, sym, ap, ◌∙◌, arith, zero-add, append_assoc, append-nil}
+use Rattle.std.proofs.Common.{◌≡◌, ℕ, zero, suc, ◌+◌, ◌<◌, Bool, true, false, cond, List, [], ◌∷◌, ◌++◌, length, get_or, filter, map, refl, sym, ap}
+use Rattle.std.proofs.Common.{◌∙◌, arith, zero-add, append_assoc, append-nil}
 use Rattle.std.specs.List.{range_with_len}
 use Rattle.std.proofs.lemmas.List.FromFn.{get_or-map-range_with_len, length-map-range_with_len}
 
@@ -27,20 +28,24 @@ filter_more : (p : ℕ → Bool) (n : ℕ) → filter p (range_with_len 0 (n + 1
 filter_more p n =
     let e : n + 1 ≡ suc n = omega arith in
     let z : 0 + n ≡ n = zero-add n in
-    ap (λ (k : ℕ). filter p (range_with_len 0 k)) e ∙ ap (filter p) (range_more 0 n) ∙ ap (λ (k : ℕ). filter p (range_with_len 0 n ++ k ∷ [])) z ∙ filter_one p n (range_with_len 0 n)
+    ap (λ (k : ℕ). filter p (range_with_len 0 k)) e ∙ ap (filter p) (range_more 0 n) ∙ ap (λ (k : ℕ). filter p (range_with_len 0 n ++ k ∷ [])) z
+    ∙ filter_one p n (range_with_len 0 n)
 
-pub filter_on : (p : ℕ → Bool) (n : ℕ) (old new : List ℕ) → p n ≡ true → new ≡ old ++ n ∷ [] → old ≡ filter p (range_with_len 0 n) → new ≡ filter p (range_with_len 0 (n + 1))
+pub filter_on : (p : ℕ → Bool) (n : ℕ) (old new : List ℕ) → p n ≡ true → new ≡ old ++ n ∷ [] → old ≡ filter p (range_with_len 0 n)
+    → new ≡ filter p (range_with_len 0 (n + 1))
 filter_on p n old new t e so_far = e ∙ ap (λ (xs : List ℕ). xs ++ n ∷ []) so_far ∙ sym (filter_more p n ∙ rw t refl)
 
 pub filter_off : (p : ℕ → Bool) (n : ℕ) (old : List ℕ) → p n ≡ false → old ≡ filter p (range_with_len 0 n) → old ≡ filter p (range_with_len 0 (n + 1))
 filter_off p n old t so_far = so_far ∙ sym (filter_more p n ∙ rw t (append-nil (filter p (range_with_len 0 n))))
 
-pub map_more : {X : Type 0} (f : ℕ → X) (n : ℕ) (old new : List X) → new ≡ old ++ f n ∷ [] → old ≡ map f (range_with_len 0 n) → new ≡ map f (range_with_len 0 (n + 1))
+pub map_more : {X : Type 0} (f : ℕ → X) (n : ℕ) (old new : List X) → new ≡ old ++ f n ∷ [] → old ≡ map f (range_with_len 0 n)
+    → new ≡ map f (range_with_len 0 (n + 1))
 map_more {X = X} f n old new e so_far =
     let k : n + 1 ≡ suc n = omega arith in
     let z : 0 + n ≡ n = zero-add n in
     e ∙ ap (λ (xs : List X). xs ++ f n ∷ []) so_far
-    ∙ sym (ap (λ (j : ℕ). map f (range_with_len 0 j)) k ∙ ap (map f) (range_more 0 n) ∙ ap (λ (j : ℕ). map f (range_with_len 0 n ++ j ∷ [])) z ∙ map_one f n (range_with_len 0 n))
+    ∙ sym (ap (λ (j : ℕ). map f (range_with_len 0 j)) k ∙ ap (map f) (range_more 0 n) ∙ ap (λ (j : ℕ). map f (range_with_len 0 n ++ j ∷ [])) z
+    ∙ map_one f n (range_with_len 0 n))
   where
     map_one : {Y : Type 0} (g : ℕ → Y) (m : ℕ) (xs : List ℕ) → map g (xs ++ m ∷ []) ≡ map g xs ++ g m ∷ []
     map_one g m [] = refl

@@ -1,5 +1,6 @@
 -- An accepted deal has the times that safety needs.
-use Rattle.std.proofs.Common.{◌≡◌, ℕ, suc, zero, ◌+◌, ◌*◌, ◌<◌, ◌≤◌, ◌==◌, true, ◌&&◌, List, [], ◌∷◌, length, get_or, slice_index, refl, sym, ◌∙◌, subst, inl, inr, arith, eq-eqb, mul-le-mul_right}
+use Rattle.std.proofs.Common.{◌≡◌, ℕ, suc, zero, ◌+◌, ◌*◌, ◌<◌, ◌≤◌, ◌==◌, true, ◌&&◌, List, [], ◌∷◌, length, get_or, slice_index, refl, sym, ◌∙◌}
+use Rattle.std.proofs.Common.{subst, inl, inr, arith, eq-eqb, mul-le-mul_right}
 use Rattle.std.proofs.lemmas.Bool.{false≢true}
 use Rattle.std.proofs.lemmas.List.{get_or_default}
 use Rattle.swap_base.specs.Lists.{IsIn}
@@ -25,12 +26,14 @@ get_in (x ∷ xs) (suc i) z l = inr (get_in xs i z (omega arith))
 
 pub arc_has : (g : Graph) (c u v : ℕ) → c < length g.arcs → (ends g c).from ≡ u → (ends g c).to ≡ v → has_arc g u v ≡ true
 arc_has g c u v l e f =
-    list_any-in (λ a. (a.from == u) && (a.to == v)) g.arcs (ends g c) (and_both ((ends g c).from == u) ((ends g c).to == v) (eq-eqb _ _ e) (eq-eqb _ _ f)) (get_in g.arcs c (record { from = 0; to = 0 }) l)
+    list_any-in (λ a. (a.from == u) && (a.to == v)) g.arcs (ends g c)
+    (and_both ((ends g c).from == u) ((ends g c).to == v) (eq-eqb _ _ e) (eq-eqb _ _ f)) (get_in g.arcs c (record { from = 0; to = 0 }) l)
 
 leader_in : (d : Deal) (i : ℕ) → i < length d.leaders → IsIn (leader_of d i) d.leaders
 leader_in d i l = get_in d.leaders i 0 l
 
-pub bounded_path : (d : Deal) → IsAccepted d → (p : List ℕ) (i : ℕ) → i < length d.leaders → is_path d.graph p ≡ true → last_is (leader_of d i) p ≡ true → arcs_of p ≤ d.bound
+pub bounded_path : (d : Deal) → IsAccepted d → (p : List ℕ) (i : ℕ) → i < length d.leaders → is_path d.graph p ≡ true → last_is (leader_of d i) p ≡ true
+    → arcs_of p ≤ d.bound
 bounded_path d k p i l e f =
     let n = path_law d.graph d.leaders k.height k.is_height p (leader_of d i) e f (leader_in d i l) in
     let m = k.bound.0 in omega arith
@@ -64,7 +67,9 @@ timelock_law d k m = record {
       let y = timed.1 c out.0 in
       let below : v < d.graph.n = subst (λ u. u < d.graph.n) in_arc.1 (k.ends.to a in_arc.0) in
       let follower : v ≡ leader_of d 0 → ⊥ = λ e. false≢true (sym f ∙ eq-eqb _ v (get_or_default d.leaders 0 d.graph.n 0 k.leaders.0 ∙ sym e)) in
-      let fall = dist_falls d.graph (leader_of d 0) (subst (IsFeedback d.graph) (one_leader d.leaders timed.0) k.feedback) v (counterparty d c) x.dist y.dist below
+      let fall =
+      dist_falls d.graph (leader_of d 0) (subst (IsFeedback d.graph) (one_leader d.leaders timed.0) k.feedback) v (counterparty d c) x.dist y.dist
+      below
       (arc_has d.graph c v (counterparty d c) out.0 out.1 refl) follower (subst (λ u. IsDist d.graph (leader_of d 0) u x.dist) in_arc.1 x.is_dist) y.is_dist in
       let more : (y.dist + 1) * d.delta ≤ x.dist * d.delta = mul-le-mul_right d.delta fall in
       let tx = x.timelock in

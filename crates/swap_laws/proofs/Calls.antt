@@ -1,5 +1,6 @@
 -- What its conduct and its being on time say of a party's calls.
-use Rattle.std.proofs.Common.{◌≡◌, ℕ, ◌+◌, ◌<◌, ◌≤◌, ◌==◌, nat_lt, nat_le, Bool, true, false, not, ◌&&◌, ◌||◌, List, length, Option, Some, None, is_some, refl, sym, ap, ◌∙◌, eqb-true, lt-ltb, leb-true}
+use Rattle.std.proofs.Common.{◌≡◌, ℕ, ◌+◌, ◌<◌, ◌≤◌, ◌==◌, nat_lt, nat_le, Bool, true, false, not, ◌&&◌, ◌||◌, List, length, Option, Some, None}
+use Rattle.std.proofs.Common.{is_some, refl, sym, ap, ◌∙◌, eqb-true, lt-ltb, leb-true}
 use Rattle.std.specs.List.{flat_map}
 use Rattle.std.proofs.lemmas.Option.{same_Some}
 use Rattle.swap_base.specs.Lists.{IsIn, moments, IsMoment}
@@ -26,7 +27,8 @@ use Rattle.swap_laws.specs.Laws.{IsOnTime}
 
 module _ (d : Deal) (b : Histories) (v : ℕ) (conducted : IsConducted d b v) where
   -- each call of v keeps the rules
-  pub kept : (a : ℕ) (past : List Entry) (e : Entry) (c : Call) → IsMoment (history b a) past e → call_by v e ≡ Some c → keeps d b v a past e.height (Some c) ≡ true
+  pub kept : (a : ℕ) (past : List Entry) (e : Entry) (c : Call) → IsMoment (history b a) past e → call_by v e ≡ Some c
+      → keeps d b v a past e.height (Some c) ≡ true
   kept a past e c m k =
       ap (keeps d b v a past e.height) (sym k)
       ∙ at_moment (λ m. keeps_at d b v a m ≡ true) (history b a) past e (all_from_list_all (keeps_at d b v a) (moments (history b a)) (conducted a)) m
@@ -87,9 +89,11 @@ module _ (d : Deal) (b : Histories) (v : ℕ) (conducted : IsConducted d b v) wh
       late_parts false false e h = absurd (cc h)
 
       -- an enabled action whose due height the ledger has passed was done in time
-      pub done_in_time : (rule : Rule) (a : ℕ) → IsIn rule (rules_of d) → IsIn a (arcs d.graph) → (r : ℕ) → ref_of d b v rule a ≡ Some r → r + d.delta < height (history b a) → DoneInTime a rule (r + d.delta)
+      pub done_in_time : (rule : Rule) (a : ℕ) → IsIn rule (rules_of d) → IsIn a (arcs d.graph) → (r : ℕ) → ref_of d b v rule a ≡ Some r
+          → r + d.delta < height (history b a) → DoneInTime a rule (r + d.delta)
       done_in_time rule a r_in a_in r enabled passed =
-          let e : (nat_lt (r + d.delta) (height (history b a)) && not (is_done d b v rule a (r + d.delta))) ≡ false = ap (late_at d b v rule a) (sym enabled) ∙ on_time rule a r_in a_in in
+          let e : (nat_lt (r + d.delta) (height (history b a)) && not (is_done d b v rule a (r + d.delta))) ≡ false =
+          ap (late_at d b v rule a) (sym enabled) ∙ on_time rule a r_in a_in in
           let k : is_done d b v rule a (r + d.delta) ≡ true = late_parts (nat_lt (r + d.delta) (height (history b a))) _ e (lt-ltb _ _ passed) in
           let f = any_at (λ e. counts d b v rule a e.height (call_by v e) && nat_le e.height (r + d.delta)) (history b a) k in
           let parts = and_parts (counts d b v rule a f.now.height (call_by v f.now)) (nat_le f.now.height (r + d.delta)) f.passes in
@@ -145,7 +149,8 @@ pub correct : (d : Deal) (b : Histories) (a : ℕ) → is_correct d b a ≡ true
 correct d b a k = correct_of d b a (published (history b a)) refl k
 
 -- on a correct arc a prefix that has a publish has the correct terms
-pub correct_past : (d : Deal) (b : Histories) (a : ℕ) (past : List Entry) (e : Entry) (p : Publication) → Correct d b a → IsMoment (history b a) past e → published past ≡ Some p → p.terms ≡ terms_of d a
+pub correct_past : (d : Deal) (b : Histories) (a : ℕ) (past : List Entry) (e : Entry) (p : Publication) → Correct d b a → IsMoment (history b a) past e
+    → published past ≡ Some p → p.terms ≡ terms_of d a
 correct_past d b a past e p c m k =
     let one : p ≡ c.contract = same_Some p c.contract (sym (published-past (history b a) past e p m k) ∙ c.published) in
     ap (λ q. q.terms) one ∙ c.terms

@@ -1,5 +1,6 @@
 -- What is due is sound: each due call keeps the rules of conduct.
-use Rattle.std.proofs.Common.{◌≡◌, ◌⊎◌, ℕ, ◌<◌, ◌==◌, Bool, true, false, cond, not, ◌||◌, IsTrue, List, [], ◌++◌, length, Option, Some, None, is_some, is_none, refl, sym, ap, ◌∙◌, subst, inl, inr, arith, eqb-true, eq-eqb}
+use Rattle.std.proofs.Common.{◌≡◌, ◌⊎◌, ℕ, ◌<◌, ◌==◌, Bool, true, false, cond, not, ◌||◌, IsTrue, List, [], ◌++◌, length, Option, Some, None, is_some}
+use Rattle.std.proofs.Common.{is_none, refl, sym, ap, ◌∙◌, subst, inl, inr, arith, eqb-true, eq-eqb}
 use Rattle.std.specs.List.{list_any, flat_map}
 use Rattle.std.proofs.lemmas.Option.{same_Some}
 use Rattle.swap_base.specs.Lists.{or_else, IsIn}
@@ -24,10 +25,13 @@ use Rattle.swap_rules.specs.declared.finding.Rule.{Rule}
 use Rattle.swap_rules.specs.declared.finding.Rule.TheVariants.{Publish as ToPublish, Unlock as ToUnlock, Claim as ToClaim, Refund as ToRefund}
 use Rattle.swap_rules.specs.Findings.{rules_of}
 use Rattle.swap_rules.specs.Accepted.{IsAccepted}
-use Rattle.swap_rules.specs.Due.{Wallet, Action, is_unlock_for, is_claiming, is_refunding, has_called, is_due_publish, seen_key, extended, due_key, presented, may_unlock, due_unlock_on, is_due_claim, is_due_refund, when_due, due_publishes, due_unlocks, due_claims, due_refunds, due}
+use Rattle.swap_rules.specs.Due.{Wallet, Action, is_unlock_for, is_claiming, is_refunding, has_called, is_due_publish, seen_key, extended, due_key}
+use Rattle.swap_rules.specs.Due.{presented, may_unlock, due_unlock_on, is_due_claim, is_due_refund, when_due, due_publishes, due_unlocks, due_claims}
+use Rattle.swap_rules.specs.Due.{due_refunds, due}
 use Rattle.swap_laws.specs.Machine.{KeepsOwn, KeepsKey, KeepsRules, test_of, Knows, IsGoodKey, IsWallet, IsOwn, IsOnto, noted}
 use Rattle.swap_laws.proofs.Entering.{valid_of_unlock}
-use Rattle.swap_laws.proofs.Words.{same_terms-refl, key_without_parts, and_three, and_five, same_terms-true, enters, leaves, call_by-act, publish_rule, unlock_rule, claim_rule, refund_rule, or-left}
+use Rattle.swap_laws.proofs.Words.{same_terms-refl, key_without_parts, and_three, and_five, same_terms-true, enters, leaves, call_by-act, publish_rule}
+use Rattle.swap_laws.proofs.Words.{unlock_rule, claim_rule, refund_rule, or-left}
 use Rattle.swap_laws.proofs.Expiry.{still_expired}
 use Rattle.swap_laws.proofs.Accepted.{times_law}
 use Rattle.swap_laws.proofs.History.{published_done, opened_done, of_publish, of_unlock, published-past, not-true-of, lock-below}
@@ -48,7 +52,8 @@ pub record IsDue (d : Deal) (v : ℕ) (w : Wallet) (signed : ℕ → Option Hash
   pub keys : (i : ℕ) (key : Hashkey) → noted signed c i ≡ Some key → KeepsKey d b v i key
 
 -- what is due presents a valid hashkey, or none
-pub due_is_valid : (d : Deal) (v : ℕ) (w : Wallet) (signed : ℕ → Option Hashkey) (b known : Histories) (a : ℕ) (c : Call) → IsDue d v w signed b known a c → presents_valid d a c ≡ true
+pub due_is_valid : (d : Deal) (v : ℕ) (w : Wallet) (signed : ℕ → Option Hashkey) (b known : Histories) (a : ℕ) (c : Call)
+    → IsDue d v w signed b known a c → presents_valid d a c ≡ true
 due_is_valid d v w signed b known a (Unlock key) i = (i.keys key.lock key i.rule.2).good.valid a i.rule.3
 due_is_valid d v w signed b known a (Publish t) i = refl
 due_is_valid d v w signed b known a Claim i = refl
@@ -56,7 +61,8 @@ due_is_valid d v w signed b known a Refund i = refl
 due_is_valid d v w signed b known a (Transfer to units) i = refl
 
 -- whatever v called on a ledger, it knows of
-pub knows_call : (v : ℕ) (test : Option Call → Bool) (k h : List Entry) → test None ≡ false → Knows v k h → has_called v test k ≡ false → has_called v test h ≡ false
+pub knows_call : (v : ℕ) (test : Option Call → Bool) (k h : List Entry) → test None ≡ false → Knows v k h → has_called v test k ≡ false
+    → has_called v test h ≡ false
 knows_call v test k h n kn e = list_any-none (λ x. test (call_by v x)) h (λ x i. go x (from_append k kn.rest x (subst (IsIn x) kn.whole i)))
   where
     go : (x : Entry) → IsIn x k ⊎ IsIn x kn.rest → test (call_by v x) ≡ false
@@ -101,7 +107,8 @@ module _ (d : Deal) (v : ℕ) (w : Wallet) (signed : ℕ → Option Hashkey) (b 
       let r = rules.own c done.past done.now (Publish p.terms) done.stands (call_by-act d c done.past done.now (Publish p.terms) v done.act by) in
       same_terms-true p.terms (terms_of d c) r.0
 
-  onto_origin : (m : Mode) → d.mode ≡ m → (c : ℕ) (inner key : Hashkey) (e : Entry) → IsIn c (leaving d.graph v) → IsIn e (history b c) → accepted e ≡ Some (Unlock inner) → leads d v key.lock ≡ false → IsOnto m v inner key → has_origin m d b v key ≡ true
+  onto_origin : (m : Mode) → d.mode ≡ m → (c : ℕ) (inner key : Hashkey) (e : Entry) → IsIn c (leaving d.graph v) → IsIn e (history b c)
+      → accepted e ≡ Some (Unlock inner) → leads d v key.lock ≡ false → IsOnto m v inner key → has_origin m d b v key ≡ true
   onto_origin Timelocks em c inner key e i j took f o =
       or-right (leads d v key.lock) _ (list_any-in (λ a. list_any (λ e. carries key.secret (accepted e)) (history b a)) (leaving d.graph v) c
       (list_any-in (λ e. carries key.secret (accepted e)) (history b c) e (ap (carries key.secret) took ∙ o) j) i)
@@ -112,7 +119,9 @@ module _ (d : Deal) (v : ℕ) (w : Wallet) (signed : ℕ → Option Hashkey) (b 
 
   own_origin : (m : Mode) → (key : Hashkey) → leads d v key.lock ≡ true → IsOwn m v key → has_origin m d b v key ≡ true
   own_origin Timelocks key l o = or-left (leads d v key.lock) _ l
-  own_origin Hashkeys key l o = ap (λ x. cond x (is_alone v key.path) (list_any (λ a. list_any (λ e. extends_without v key (accepted e)) (history b a)) (leaving d.graph v))) l ∙ o
+  own_origin Hashkeys key l o =
+      ap (λ x. cond x (is_alone v key.path) (list_any (λ a. list_any (λ e. extends_without v key (accepted e)) (history b a)) (leaving d.graph v))) l
+      ∙ o
 
   -- the hashkey that is due for a lock keeps the rules
   key_rule : (i : ℕ) (key : Hashkey) → i < length d.leaders → due_key d v w (signed i) known i ≡ Some key → KeepsKey d b v i key
@@ -129,8 +138,11 @@ module _ (d : Deal) (v : ℕ) (w : Wallet) (signed : ℕ → Option Hashkey) (b 
           let o : opened (history b x.now) i ≡ Some p.0 = opened-more (history known x.now) (history b x.now) i p.0 (grows x.now) p.1 in
           let u = opened_done d x.now (history b x.now) i p.0 (legal_on x.now l.0) o in
           let of_u = of_unlock d x.now u.0.past u.0.act.by p.0.key u.0.clear in
-          let terms : of_u.contract.terms ≡ terms_of d x.now = own_terms x.now of_u.contract c (published-past (history b x.now) u.0.past u.0.now of_u.contract u.0.stands of_u.published) in
-          let valid : is_valid d x.now (hashlock_of d p.0.key.lock) p.0.key ≡ true = subst (λ t. is_valid d x.now (hashlock_in t p.0.key.lock) p.0.key ≡ true) terms (valid_of_unlock d x.now u.0.past u.0.act.by p.0.key of_u) in
+          let terms : of_u.contract.terms ≡ terms_of d x.now =
+          own_terms x.now of_u.contract c (published-past (history b x.now) u.0.past u.0.now of_u.contract u.0.stands of_u.published) in
+          let valid : is_valid d x.now (hashlock_of d p.0.key.lock) p.0.key ≡ true =
+          subst (λ t. is_valid d x.now (hashlock_in t p.0.key.lock) p.0.key ≡ true) terms (valid_of_unlock d x.now u.0.past u.0.act.by p.0.key of_u)
+          in
           let good = wallet.onto x.now p.0.key c (lock-below d x.now p.0.key u.0.act.fits) valid p.3 in
           let key_is : w.onto p.0.key ≡ key = ap w.onto p.2 ∙ same_Some (w.onto inner) key e in
           let lock_is : p.0.key.lock ≡ i = u.1 in
@@ -139,7 +151,9 @@ module _ (d : Deal) (v : ℕ) (w : Wallet) (signed : ℕ → Option Hashkey) (b 
           record {
             below = below;
             good = g1;
-            origin = onto_origin d.mode refl x.now p.0.key key u.0.now c (subst (IsIn u.0.now) (sym u.0.stands.1) (in_from_moment u.0.past u.0.now u.0.stands.0)) u.0.took (ap (leads d v) g1.lock ∙ f) g2;
+            origin =
+                onto_origin d.mode refl x.now p.0.key key u.0.now c
+                (subst (IsIn u.0.now) (sym u.0.stands.1) (in_from_moment u.0.past u.0.now u.0.stands.0)) u.0.took (ap (leads d v) g1.lock ∙ f) g2;
           }
 
       fresh : (x : Bool) → leads d v i ≡ x → cond x (Some (w.first i)) (extended w (first_seen_key d known v i)) ≡ Some key → KeepsKey d b v i key
@@ -150,7 +164,8 @@ module _ (d : Deal) (v : ℕ) (w : Wallet) (signed : ℕ → Option Hashkey) (b 
           record { below = below; good = g1; origin = own_origin d.mode key (ap (leads d v) g1.lock ∙ l) (subst (λ z. IsOwn d.mode v z) key_is f.1) }
       fresh false l e = onto (first_seen_key d known v i) refl l e
 
-      go : (s : Option Hashkey) → signed i ≡ s → or_else s (cond (leads d v i) (Some (w.first i)) (extended w (first_seen_key d known v i))) ≡ Some key → KeepsKey d b v i key
+      go : (s : Option Hashkey) → signed i ≡ s → or_else s (cond (leads d v i) (Some (w.first i)) (extended w (first_seen_key d known v i))) ≡ Some key
+          → KeepsKey d b v i key
       go (Some k) q e = rules.keys i key (q ∙ e)
       go None q e = fresh (leads d v i) refl e
 
@@ -166,7 +181,11 @@ module _ (d : Deal) (v : ℕ) (w : Wallet) (signed : ℕ → Option Hashkey) (b 
         below = (leaves d v a i).0;
         of_the_two = leaving_two a i;
         fits = terms_fit d accepted_deal a (leaves d v a i).0;
-        rule = (same_terms-refl (terms_of d a), may-more d known b v grows k.0, knows_call v is_publish (history known a) (history b a) refl (knows a) (not-true-of _ k.1));
+        rule = (
+          same_terms-refl (terms_of d a),
+          may-more d known b v grows k.0,
+          knows_call v is_publish (history known a) (history b a) refl (knows a) (not-true-of _ k.1),
+        );
         keeps_signed = λ i key q. q;
         keys = rules.keys;
       }
@@ -183,7 +202,10 @@ module _ (d : Deal) (v : ℕ) (w : Wallet) (signed : ℕ → Option Hashkey) (b 
         below = (enters d v a i).0;
         of_the_two = entering_two a i;
         fits = refl;
-        rule = (triggered-more d (history known a) (history b a) (grows a) k.1, knows_call v is_claiming (history known a) (history b a) refl (knows a) (not-true-of _ k.2));
+        rule = (
+          triggered-more d (history known a) (history b a) (grows a) k.1,
+          knows_call v is_claiming (history known a) (history b a) refl (knows a) (not-true-of _ k.2),
+        );
         keeps_signed = λ i key q. q;
         keys = rules.keys;
       }
@@ -191,10 +213,14 @@ module _ (d : Deal) (v : ℕ) (w : Wallet) (signed : ℕ → Option Hashkey) (b 
   refund_due : (a : ℕ) → IsIn a (leaving d.graph v) → is_due_refund d v known a ≡ true → IsDue d v w signed b known a Refund
   unfolding is_due_refund
   refund_due a i e =
-      let k = and_five (is_some (published (history known a))) (is_none (settled (history known a))) (not (is_triggered d known a)) (has_expired d a (history known a) (height (history known a))) _ e in
+      let k =
+      and_five (is_some (published (history known a))) (is_none (settled (history known a))) (not (is_triggered d known a))
+      (has_expired d a (history known a) (height (history known a))) _ e in
       let out = leaves d v a i in
       let m = begins_height (history known a) (history b a) (grows a) in
-      let up = still_expired d (times_law d accepted_deal) a out.0 (history known a) (history b a) (legal_on a out.0) (grows a) (λ p q. own_terms a p i q) (height (history known a)) (height (history b a)) k.3 (omega arith) m in
+      let up =
+      still_expired d (times_law d accepted_deal) a out.0 (history known a) (history b a) (legal_on a out.0) (grows a) (λ p q.
+      own_terms a p i q) (height (history known a)) (height (history b a)) k.3 (omega arith) m in
       record {
         slot = ToRefund;
         slot_in = refund_rule d;
@@ -208,7 +234,8 @@ module _ (d : Deal) (v : ℕ) (w : Wallet) (signed : ℕ → Option Hashkey) (b 
         keys = rules.keys;
       }
 
-  unlock_due : (a i : ℕ) (key : Hashkey) → IsIn a (entering d.graph v) → i < length d.leaders → may_unlock d v known i a ≡ true → due_key d v w (signed i) known i ≡ Some key → IsDue d v w signed b known a (Unlock key)
+  unlock_due : (a i : ℕ) (key : Hashkey) → IsIn a (entering d.graph v) → i < length d.leaders → may_unlock d v known i a ≡ true
+      → due_key d v w (signed i) known i ≡ Some key → IsDue d v w signed b known a (Unlock key)
   unfolding due_key
   unlock_due a i key w_in below may e =
       let k = and_parts (is_ready d known v) (not (has_called v (is_unlock_for i) (history known a))) may in
@@ -223,11 +250,13 @@ module _ (d : Deal) (v : ℕ) (w : Wallet) (signed : ℕ → Option Hashkey) (b 
         of_the_two = entering_two a w_in;
         fits = key_fits d accepted_deal a key (subst (λ j. j < length d.leaders) (sym lock) below) (r.good.valid a w_in);
         rule = (
-          is_published-more (history known a) (history b a) (grows a) (correct_published d known a (and_parts (is_correct d known a) _ (ready_good d known v a k.0 w_in)).0),
+          is_published-more (history known a) (history b a) (grows a)
+              (correct_published d known a (and_parts (is_correct d known a) _ (ready_good d known v a k.0 w_in)).0),
           is_ready-more d known b v grows k.0,
           ap (λ x. cond x (Some key) (signed key.lock)) (eq-eqb key.lock key.lock refl),
           w_in,
-          subst (λ j. has_called v (is_unlock_for j) (history b a) ≡ false) (sym lock) (knows_call v (is_unlock_for i) (history known a) (history b a) refl (knows a) (not-true-of _ k.1)),
+          subst (λ j. has_called v (is_unlock_for j) (history b a) ≡ false) (sym lock)
+              (knows_call v (is_unlock_for i) (history known a) (history b a) refl (knows a) (not-true-of _ k.1)),
         );
         keeps_signed = λ j old q. keep j old q (j == key.lock) refl;
         keys = λ j new q. at j new (j == key.lock) refl q;
@@ -278,7 +307,8 @@ module _ (d : Deal) (v : ℕ) (w : Wallet) (signed : ℕ → Option Hashkey) (b 
           let t = when_due_in (is_due_claim d v known f.0) f.0 Claim x f.2 in
           to x f.0 Claim t.1 t.2 (claim_due f.0 f.1 t.0)
 
-      outer : IsIn x (due_publishes d v known ++ due_unlocks d v w signed known ++ due_claims d v known) ⊎ IsIn x (due_refunds d v known) → IsDue d v w signed b known x.arc x.call
+      outer : IsIn x (due_publishes d v known ++ due_unlocks d v w signed known ++ due_claims d v known) ⊎ IsIn x (due_refunds d v known)
+          → IsDue d v w signed b known x.arc x.call
       outer (inl j) = middle (from_append (due_publishes d v known ++ due_unlocks d v w signed known) (due_claims d v known) x j)
       outer (inr j) =
           let f = from_flat_map (λ a. when_due (is_due_refund d v known a) a Refund) (leaving d.graph v) x j in

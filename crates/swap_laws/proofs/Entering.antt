@@ -1,8 +1,10 @@
 -- A party that is ready, conducted and on time opens and claims every arc that enters it.
-use Rattle.std.proofs.Common.{◌≡◌, ℕ, ◌+◌, ◌<◌, ◌≤◌, true, cond, not, ◌-◌, if◌then◌else◌, max, ◌&&◌, List, length, Option, Some, None, is_some, refl, sym, ap, ◌∙◌, subst, inl, inr, arith, leb-true}
+use Rattle.std.proofs.Common.{◌≡◌, ℕ, ◌+◌, ◌<◌, ◌≤◌, true, cond, not, ◌-◌, if◌then◌else◌, max, ◌&&◌, List, length, Option, Some, None, is_some, refl}
+use Rattle.std.proofs.Common.{sym, ap, ◌∙◌, subst, inl, inr, arith, leb-true}
 use Rattle.std.proofs.lemmas.Bool.{false≢true}
 use Rattle.swap_base.specs.Lists.{IsIn, IsMoment}
-use Rattle.swap_base.proofs.Lists.{Order, moments_in_order, list_all-in, list_all-from, in_range, from_range, and_parts, and_both, greatest-below, Earlier, Same, Later}
+use Rattle.swap_base.proofs.Lists.{Order, moments_in_order, list_all-in, list_all-from, in_range, from_range, and_parts, and_both, greatest-below}
+use Rattle.swap_base.proofs.Lists.{Earlier, Same, Later}
 use Rattle.swap_digraph.specs.declared.deal.Deal.{Deal}
 use Rattle.swap_digraph.specs.Graph.{entering, is_among}
 use Rattle.swap_digraph.specs.Deal.{counterparty, locks, leads, hashlock_of}
@@ -21,7 +23,8 @@ use Rattle.swap_rules.specs.Late.{height_of_opening, base_of, trigger_height, wh
 use Rattle.swap_rules.specs.Outcome.{is_claim, is_got, IsEnded}
 use Rattle.swap_laws.proofs.Words.{and_five, in-is_among, unlock_rule, claim_rule, enters, act_of}
 use Rattle.swap_laws.proofs.Times.{TimesLaw}
-use Rattle.swap_laws.proofs.History.{refunded_done, of_refund, opened-now, Done, opened_done, OfUnlock, of_unlock, height-past, published-past, legal-past, claim_claims, is_some-of, lock-below}
+use Rattle.swap_laws.proofs.History.{refunded_done, of_refund, opened-now, Done, opened_done, OfUnlock, of_unlock, height-past, published-past}
+use Rattle.swap_laws.proofs.History.{legal-past, claim_claims, is_some-of, lock-below}
 use Rattle.swap_laws.proofs.Openings.{IsOpenBy, open_by_more, is_open_by, unlock_opens_by, Expired, expired_lock, least-expired, moment_within}
 use Rattle.swap_laws.specs.Laws.{IsOnTime}
 use Rattle.swap_laws.proofs.Calls.{kept, legal_at, correct, done_in_time, counted_unlock, counted_claim, correct_past}
@@ -34,9 +37,11 @@ pub record DueUnlock (d : Deal) (b : Histories) (v a i : ℕ) : Type 0 where
   pub enabled : ref_of d b v (ToUnlock i) a ≡ Some ref
   pub value : ref ≡ (if leads d v i then ready_height d b v else max (ready_height d b v) (base_of d.mode d b v i (first_key b v i)))
   pub ends : ref + d.delta ≤ times.horizon d.start d.delta d.bound
-  pub early : (key : Hashkey) → is_valid d a (hashlock_of d key.lock) key ≡ true → is_first_key (first_key b v i) key ≡ true → ref + d.delta ≤ last_in d.mode (terms_of d a) key
+  pub early : (key : Hashkey) → is_valid d a (hashlock_of d key.lock) key ≡ true → is_first_key (first_key b v i) key ≡ true
+      → ref + d.delta ≤ last_in d.mode (terms_of d a) key
 
-pub valid_of_unlock : (d : Deal) (a : ℕ) (past : List Entry) (by : ℕ) (key : Hashkey) (u : OfUnlock d a past by key) → is_valid d a (hashlock_in u.contract.terms key.lock) key ≡ true
+pub valid_of_unlock : (d : Deal) (a : ℕ) (past : List Entry) (by : ℕ) (key : Hashkey) (u : OfUnlock d a past by key)
+    → is_valid d a (hashlock_in u.contract.terms key.lock) key ≡ true
 valid_of_unlock d a past by key u =
     and_both (not (is_wrong_secret (hashlock_in u.contract.terms key.lock) key) && not (is_wrong_path d a d.mode key)) (not (is_wrong_signature d d.mode key))
     (and_both (not (is_wrong_secret (hashlock_in u.contract.terms key.lock) key)) (not (is_wrong_path d a d.mode key)) (ap not u.secret) (ap not u.path))
@@ -72,12 +77,15 @@ module _ (d : Deal) (b : Histories) (v : ℕ) (legal : IsLegalBook d b) (ended :
     pub took : accepted now ≡ Some Refund
     pub expired : Expired d a before (height before)
 
-  pub refund_in : (a : ℕ) (past : List Entry) (e : Entry) → IsIn a (entering d.graph v) → IsMoment (history b a) past e → settled past ≡ Some Refunded → RefundIn a past
+  pub refund_in : (a : ℕ) (past : List Entry) (e : Entry) → IsIn a (entering d.graph v) → IsMoment (history b a) past e → settled past ≡ Some Refunded
+      → RefundIn a past
   refund_in a past e w m s =
       let in_arc = enters d v a w in
       let r = (refunded_done d a past (legal-past d a (history b a) past e (legal_at d b v conducted legal a in_arc.0) m) s).1 in
       let of_r = of_refund d a r.past r.act.by r.clear in
-      let terms : of_r.contract.terms ≡ terms_of d a = correct_past d b a past e of_r.contract (correct d b a (correct_entering a w)) m (published-past past r.past r.now of_r.contract r.stands of_r.published) in
+      let terms : of_r.contract.terms ≡ terms_of d a =
+      correct_past d b a past e of_r.contract (correct d b a (correct_entering a w)) m
+      (published-past past r.past r.now of_r.contract r.stands of_r.published) in
       let above : least_expiry d a r.past < height r.past = subst (λ t. refund_expiry d a t (is_open r.past) < height r.past) terms of_r.expired in
       record {
         before = r.past;
@@ -97,34 +105,44 @@ module _ (d : Deal) (b : Histories) (v : ℕ) (legal : IsLegalBook d b) (ended :
           let in_arc = enters d v a w in
           let u = opened_done d a (history b a) i o (legal_at d b v conducted legal a in_arc.0) e in
           let of_u = of_unlock d a u.0.past u.0.act.by o.key u.0.clear in
-          let terms : of_u.contract.terms ≡ terms_of d a = correct_past d b a u.0.past u.0.now of_u.contract (correct d b a (correct_entering a w)) u.0.stands of_u.published in
-          let valid : is_valid d a (hashlock_of d o.key.lock) o.key ≡ true = subst (λ t. is_valid d a (hashlock_in t o.key.lock) o.key ≡ true) terms (valid_of_unlock d a u.0.past u.0.act.by o.key of_u) in
-          let last : last_in d.mode (terms_of d a) o.key ≤ expiry d a i = subst (λ j. last_in d.mode (terms_of d a) o.key ≤ expiry d a j) u.1 (law.last a o.key in_arc.0 (lock-below d a o.key u.0.act.fits) valid) in
+          let terms : of_u.contract.terms ≡ terms_of d a =
+          correct_past d b a u.0.past u.0.now of_u.contract (correct d b a (correct_entering a w)) u.0.stands of_u.published in
+          let valid : is_valid d a (hashlock_of d o.key.lock) o.key ≡ true =
+          subst (λ t. is_valid d a (hashlock_in t o.key.lock) o.key ≡ true) terms (valid_of_unlock d a u.0.past u.0.act.by o.key of_u) in
+          let last : last_in d.mode (terms_of d a) o.key ≤ expiry d a i =
+          subst (λ j. last_in d.mode (terms_of d a) o.key ≤ expiry d a j) u.1 (law.last a o.key in_arc.0 (lock-below d a o.key u.0.act.fits) valid)
+          in
           let in_time : height u.0.past ≤ last_in d.mode (terms_of d a) o.key = subst (λ t. height u.0.past ≤ last_in d.mode t o.key) terms of_u.in_time in
           let at : o.height ≡ height u.0.past = u.0.at in
           omega arith
 
   -- a due unlock opens its lock by its due height, where no refund came before it
   pub opens_unless : (a i : ℕ) → IsIn a (entering d.graph v) → (due : DueUnlock d b v a i)
-      → ((past : List Entry) (e : Entry) → IsMoment (history b a) past e → height past ≤ due.ref + d.delta → height past ≤ expiry d a i → RefundIn a past → ⊥) → Unlocked d b v a i (due.ref + d.delta)
+      → ((past : List Entry) (e : Entry) → IsMoment (history b a) past e → height past ≤ due.ref + d.delta → height past ≤ expiry d a i
+      → RefundIn a past → ⊥) → Unlocked d b v a i (due.ref + d.delta)
   unfolding keeps
   opens_unless a i w due unrefunded =
       let in_arc = enters d v a w in
       let now_ended : times.horizon d.start d.delta d.bound < height (history b a) = ended a in_arc.0 in
       let ends : due.ref + d.delta ≤ times.horizon d.start d.delta d.bound = due.ends in
       let passed : due.ref + d.delta < height (history b a) = omega arith in
-      let done = done_in_time d b v conducted legal on_time (ToUnlock i) a (unlock_rule d i due.within) (in_range a (length d.graph.arcs) in_arc.0) due.ref due.enabled passed in
+      let done =
+      done_in_time d b v conducted legal on_time (ToUnlock i) a (unlock_rule d i due.within) (in_range a (length d.graph.arcs) in_arc.0) due.ref
+      due.enabled passed in
       let u = counted_unlock d b v i a done.now.height done.call done.counted in
       let called : call_by v done.now ≡ Some (Unlock u.key) = done.called ∙ ap Some u.call in
       let l = legal_at d b v conducted legal a in_arc.0 in
       let act = act_of d a (history b a) done.past done.now (Unlock u.key) v l done.stands called in
-      let k = and_five (is_some (published done.past)) (is_ready d b v) (is_first_key (first_key b v u.key.lock) u.key) (is_valid d a (hashlock_of d u.key.lock) u.key) _ (kept d b v conducted a done.past done.now (Unlock u.key) done.stands called) in
+      let k =
+      and_five (is_some (published done.past)) (is_ready d b v) (is_first_key (first_key b v u.key.lock) u.key)
+      (is_valid d a (hashlock_of d u.key.lock) u.key) _ (kept d b v conducted a done.past done.now (Unlock u.key) done.stands called) in
       let p = is_some-of (published done.past) k.0 in
       let terms : p.0.terms ≡ terms_of d a = correct_past d b a done.past done.now p.0 (correct d b a (correct_entering a w)) done.stands p.1 in
       let by : act.0.by ≡ counterparty d a = act.1 ∙ sym in_arc.1 in
       let at : done.now.height ≡ height done.past = act.0.at in
       let early : due.ref + d.delta ≤ last_in d.mode (terms_of d a) u.key = due.early u.key k.3 u.first in
-      let last : last_in d.mode (terms_of d a) u.key ≤ expiry d a i = subst (λ j. last_in d.mode (terms_of d a) u.key ≤ expiry d a j) u.lock (law.last a u.key in_arc.0 (lock-below d a u.key act.0.fits) k.3) in
+      let last : last_in d.mode (terms_of d a) u.key ≤ expiry d a i =
+      subst (λ j. last_in d.mode (terms_of d a) u.key ≤ expiry d a j) u.lock (law.last a u.key in_arc.0 (lock-below d a u.key act.0.fits) k.3) in
       let in_time : done.now.height ≤ due.ref + d.delta = done.in_time in
       let t0 : height done.past ≤ due.ref + d.delta = omega arith in
       let t1 : height done.past ≤ last_in d.mode (terms_of d a) u.key = omega arith in
@@ -145,7 +163,8 @@ module _ (d : Deal) (b : Histories) (v : ℕ) (legal : IsLegalBook d b) (ended :
   pub opens_own : (a i : ℕ) → IsIn a (entering d.graph v) → leads d v i ≡ true → (due : DueUnlock d b v a i) → Unlocked d b v a i (due.ref + d.delta)
   opens_own a i w lead due = opens_unless a i w due (λ past e m low low2 r.
       let in_arc = enters d v a w in
-      let value : due.ref ≡ ready_height d b v = due.value ∙ ap (λ x. cond x (ready_height d b v) (max (ready_height d b v) (base_of d.mode d b v i (first_key b v i)))) lead in
+      let value : due.ref ≡ ready_height d b v =
+      due.value ∙ ap (λ x. cond x (ready_height d b v) (max (ready_height d b v) (base_of d.mode d b v i (first_key b v i)))) lead in
       let g = ready_below in
       let x = law.opens a r.expired.lock in_arc.0 in
       let y = r.expired.above in
@@ -153,7 +172,8 @@ module _ (d : Deal) (b : Histories) (v : ℕ) (legal : IsLegalBook d b) (ended :
       absurd (omega arith))
 
   -- a due unlock opens its lock: no refund comes before it, since v opened its own locks before these expired
-  pub opens : (a i : ℕ) → IsIn a (entering d.graph v) → ((j : ℕ) → j < length d.leaders → leads d v j ≡ true → DueUnlock d b v a j) → (due : DueUnlock d b v a i) → Unlocked d b v a i (due.ref + d.delta)
+  pub opens : (a i : ℕ) → IsIn a (entering d.graph v) → ((j : ℕ) → j < length d.leaders → leads d v j ≡ true → DueUnlock d b v a j)
+      → (due : DueUnlock d b v a i) → Unlocked d b v a i (due.ref + d.delta)
   opens a i w owns due = opens_unless a i w due (λ past e m low low2 r.
       let in_arc = enters d v a w in
       let y = r.expired.above in
@@ -167,24 +187,30 @@ module _ (d : Deal) (b : Histories) (v : ℕ) (legal : IsLegalBook d b) (ended :
             let before : height_of_opening (opened (history b a) r.expired.lock) ≤ expiry d a r.expired.lock = opened_by_expiry a r.expired.lock w in
             let same : height_of_opening (opened (history b a) r.expired.lock) ≡ own.open_by.opening.height = ap height_of_opening own.open_by.opened in
             let at = u.0.at in
-            in_order a past r own.open_by.opening.key u.1 u.0 (omega arith) (moments_in_order (history b a) u.0.past r.before u.0.now r.now u.0.stands (moment_within (history b a) past r.before e r.now m r.stands))
+            in_order a past r own.open_by.opening.key u.1 u.0 (omega arith)
+            (moments_in_order (history b a) u.0.past r.before u.0.now r.now u.0.stands
+            (moment_within (history b a) past r.before e r.now m r.stands))
       ])
     where
-      in_order : (a : ℕ) (past : List Entry) (r : RefundIn a past) {t : ℕ} (key : Hashkey) → key.lock ≡ r.expired.lock → (u : Done d a (history b a) (Unlock key) t) → height u.past < height r.before → Order u.past u.now r.before r.now → ⊥
-      in_order a past r key e u l (Earlier n) = false≢true (sym r.expired.closed ∙ (ap (is_open r.before) (sym e) ∙ opened-now r.before u.past u.now key n u.took))
+      in_order : (a : ℕ) (past : List Entry) (r : RefundIn a past) {t : ℕ} (key : Hashkey) → key.lock ≡ r.expired.lock
+          → (u : Done d a (history b a) (Unlock key) t) → height u.past < height r.before → Order u.past u.now r.before r.now → ⊥
+      in_order a past r key e u l (Earlier n) =
+          false≢true (sym r.expired.closed ∙ (ap (is_open r.before) (sym e) ∙ opened-now r.before u.past u.now key n u.took))
       in_order a past r key e u l (Same p q) = let k : Some (Unlock key) ≡ Some Refund = sym u.took ∙ (ap accepted q ∙ r.took) in cc k
       in_order a past r key e u l (Later n) = let z = height-past u.past r.before r.now n in absurd (omega arith)
 
   pub claim_enabled : (a : ℕ) → IsIn a (entering d.graph v) → is_triggered d b a ≡ true → ref_of d b v ToClaim a ≡ Some (trigger_height d (history b a))
   unfolding ref_of
   claim_enabled a w t = ap (λ x. when x (trigger_height d (history b a)))
-      (and_both (is_among a (entering d.graph v) && is_correct d b a) (is_triggered d b a) (and_both (is_among a (entering d.graph v)) (is_correct d b a) (in-is_among a (entering d.graph v) w) (correct_entering a w)) t)
+      (and_both (is_among a (entering d.graph v) && is_correct d b a) (is_triggered d b a)
+      (and_both (is_among a (entering d.graph v)) (is_correct d b a) (in-is_among a (entering d.graph v) w) (correct_entering a w)) t)
 
   pub trigger_ends : (a : ℕ) → IsIn a (entering d.graph v) → trigger_height d (history b a) + d.delta ≤ times.horizon d.start d.delta d.bound
   trigger_ends a w =
       let in_arc = enters d v a w in
       let some = law.ends a 0 in_arc.0 in
-      let low : trigger_height d (history b a) ≤ times.horizon d.start d.delta d.bound - d.delta = greatest-below (λ i. height_of_opening (opened (history b a) i)) (locks d) (times.horizon d.start d.delta d.bound - d.delta)
+      let low : trigger_height d (history b a) ≤ times.horizon d.start d.delta d.bound - d.delta =
+      greatest-below (λ i. height_of_opening (opened (history b a) i)) (locks d) (times.horizon d.start d.delta d.bound - d.delta)
       (λ i z. let x = opened_by_expiry a i w in let y = law.ends a i in_arc.0 in omega arith) in
       omega arith
 
@@ -197,7 +223,9 @@ module _ (d : Deal) (b : Histories) (v : ℕ) (legal : IsLegalBook d b) (ended :
       let now_ended : times.horizon d.start d.delta d.bound < height (history b a) = ended a in_arc.0 in
       let ends = trigger_ends a w in
       let passed : trigger_height d (history b a) + d.delta < height (history b a) = omega arith in
-      let done = done_in_time d b v conducted legal on_time ToClaim a (claim_rule d) (in_range a (length d.graph.arcs) in_arc.0) (trigger_height d (history b a)) (claim_enabled a w t) passed in
+      let done =
+      done_in_time d b v conducted legal on_time ToClaim a (claim_rule d) (in_range a (length d.graph.arcs) in_arc.0)
+      (trigger_height d (history b a)) (claim_enabled a w t) passed in
       let called : call_by v done.now ≡ Some Claim = done.called ∙ ap Some (counted_claim d b v a done.now.height done.call done.counted) in
       let act = act_of d a (history b a) done.past done.now Claim v l done.stands called in
       let all_open : triggered d done.past ≡ true = kept d b v conducted a done.past done.now Claim done.stands called in
@@ -210,5 +238,8 @@ module _ (d : Deal) (b : Histories) (v : ℕ) (legal : IsLegalBook d b) (ended :
       (ap is_claim (claim_claims d a (history b a) done.past done.now of_u.contract l done.stands act.0 by pub_past all_open))
 
   -- where v's unlocks are due on every entering arc, it gets them all
-  pub gets_all : (dues : (a i : ℕ) → IsIn a (entering d.graph v) → IsIn i (locks d) → DueUnlock d b v a i) → (a : ℕ) → IsIn a (entering d.graph v) → is_got d b a ≡ true
-  gets_all dues a w = claims a w (list_all-from (is_open (history b a)) (locks d) (λ i z. is_open_by (history b a) i _ (opens a i w (λ j l e. dues a j w (in_range j (length d.leaders) l)) (dues a i w z)).open_by))
+  pub gets_all : (dues : (a i : ℕ) → IsIn a (entering d.graph v) → IsIn i (locks d) → DueUnlock d b v a i) → (a : ℕ) → IsIn a (entering d.graph v)
+      → is_got d b a ≡ true
+  gets_all dues a w =
+      claims a w (list_all-from (is_open (history b a)) (locks d) (λ i z.
+      is_open_by (history b a) i _ (opens a i w (λ j l e. dues a j w (in_range j (length d.leaders) l)) (dues a i w z)).open_by))

@@ -1,5 +1,6 @@
 -- Correct terms and valid hashkeys fit.
-use Rattle.std.proofs.Common.{le-leb, ◌≡◌, ℕ, ◌<◌, ◌≤◌, ◌==◌, nat_lt, nat_le, Bool, true, false, slice_index, ◌&&◌, IsTrue, [], length, refl, sym, ap, ◌∙◌, arith, eqb-true, eq-eqb, lt-ltb, ◌^◌}
+use Rattle.std.proofs.Common.{le-leb, ◌≡◌, ℕ, ◌<◌, ◌≤◌, ◌==◌, nat_lt, nat_le, Bool, true, false, slice_index, ◌&&◌, IsTrue, [], length, refl, sym, ap}
+use Rattle.std.proofs.Common.{◌∙◌, arith, eqb-true, eq-eqb, lt-ltb, ◌^◌}
 use Rattle.std.specs.List.{list_all}
 use Rattle.swap_base.proofs.Lists.{list_all-from, and_parts}
 use Rattle.swap_digraph.specs.Deal.{path_limit, path_limit_of, most_parties, amount, hashlock_of}
@@ -29,10 +30,12 @@ terms_fit d k a l =
     let b : d.bound ≤ 64 = k.bound.1 in
     let m : amount d a ≤ 10 ^ 12 = (k.amounts a l).1 in
     let t : slice_index d.timelocks a ≤ 1000000 = (accepted_is_well_sized d k).timelock a l in
-    six (length d.hashlocks == length d.leaders) (nat_le d.start 1000000) (nat_le d.delta 1000000) (nat_le d.bound 1000000) (nat_le (slice_index d.timelocks a) 1000000) (nat_le (amount d a) 1000000000000)
+    six (length d.hashlocks == length d.leaders) (nat_le d.start 1000000) (nat_le d.delta 1000000) (nat_le d.bound 1000000)
+    (nat_le (slice_index d.timelocks a) 1000000) (nat_le (amount d a) 1000000000000)
     (eq-eqb _ _ k.hashlocks) (le-leb _ _ (omega arith)) (le-leb _ _ (omega arith)) (le-leb _ _ (omega arith)) (le-leb _ _ t) (le-leb _ _ m)
 
-pub key_fits : (d : Deal) → IsAccepted d → (a : ℕ) (key : Hashkey) → key.lock < length d.leaders → is_valid d a (hashlock_of d key.lock) key ≡ true → IsTrue (fit d a (Unlock key))
+pub key_fits : (d : Deal) → IsAccepted d → (a : ℕ) (key : Hashkey) → key.lock < length d.leaders → is_valid d a (hashlock_of d key.lock) key ≡ true
+    → IsTrue (fit d a (Unlock key))
 key_fits d k a key low valid = go d.mode refl
   where
     wrong : is_wrong_path d a d.mode key ≡ false
@@ -55,12 +58,15 @@ key_fits d k a key low valid = go d.mode refl
         let n = short in
         let h = path_length d.graph key.path p.path in
         let same : length key.path ≡ length key.sigs = p.lengths in
-        four (nat_lt key.lock (length d.leaders)) (nat_le (length key.path) (path_limit d)) (nat_le (length key.sigs) (path_limit d)) (list_all (λ v. nat_lt v d.graph.n) key.path)
-        (lt-ltb _ _ low) (le-leb _ _ (omega arith)) (le-leb _ _ (omega arith)) (list_all-from (λ v. nat_lt v d.graph.n) key.path (λ v i. lt-ltb _ _ (path_below d.graph key.path v p.path i)))
+        four (nat_lt key.lock (length d.leaders)) (nat_le (length key.path) (path_limit d)) (nat_le (length key.sigs) (path_limit d))
+        (list_all (λ v. nat_lt v d.graph.n) key.path)
+        (lt-ltb _ _ low) (le-leb _ _ (omega arith)) (le-leb _ _ (omega arith))
+        (list_all-from (λ v. nat_lt v d.graph.n) key.path (λ v i. lt-ltb _ _ (path_below d.graph key.path v p.path i)))
     go Timelocks e =
         let p = and_parts (length key.path == 0) (length key.sigs == 0) (not-false _ (ap (λ m. is_wrong_path d a m key) (sym e) ∙ wrong)) in
         let none : key.path ≡ [] = no_path d a key e wrong in
         let l1 : ◌≡◌ {A = ℕ} (length key.path) 0 = ap length none in
         let l2 = eqb-true (length key.sigs) 0 p.1 in
-        four (nat_lt key.lock (length d.leaders)) (nat_le (length key.path) (path_limit d)) (nat_le (length key.sigs) (path_limit d)) (list_all (λ v. nat_lt v d.graph.n) key.path)
+        four (nat_lt key.lock (length d.leaders)) (nat_le (length key.path) (path_limit d)) (nat_le (length key.sigs) (path_limit d))
+        (list_all (λ v. nat_lt v d.graph.n) key.path)
         (lt-ltb _ _ low) (le-leb _ _ (omega arith)) (le-leb _ _ (omega arith)) (ap (list_all (λ v. nat_lt v d.graph.n)) none)

@@ -1,5 +1,6 @@
 -- Where all parties are conducted, nothing is forged.
-use Rattle.std.proofs.Common.{length-append, ◌≡◌, ℕ, suc, zero, ◌+◌, ◌<◌, ◌==◌, Bool, true, false, cond, not, ◌&&◌, ◌||◌, List, [], ◌∷◌, ◌++◌, length, Option, Some, None, is_some, refl, sym, ap, ◌∙◌, subst, inl, inr, arith, eqb-true, eq-eqb, lt-ltb, get_or, slice_index_or}
+use Rattle.std.proofs.Common.{length-append, ◌≡◌, ℕ, suc, zero, ◌+◌, ◌<◌, ◌==◌, Bool, true, false, cond, not, ◌&&◌, ◌||◌, List, [], ◌∷◌, ◌++◌, length}
+use Rattle.std.proofs.Common.{Option, Some, None, is_some, refl, sym, ap, ◌∙◌, subst, inl, inr, arith, eqb-true, eq-eqb, lt-ltb, get_or, slice_index_or}
 use Rattle.std.specs.List.{list_any, flat_map}
 use Rattle.std.proofs.lemmas.Bool.{false≢true}
 use Rattle.std.proofs.lemmas.List.{get_or_default}
@@ -65,7 +66,9 @@ module _ (d : Deal) (b : Histories) (k : IsAccepted d) (legal : IsLegalBook d b)
       let c = clear_at d t.arc (history b t.arc) t.past t.now (Unlock key) l t.stands t.took in
       let u = of_unlock d t.arc t.past c.0.by key c.1 in
       let called = call_by-act d t.arc t.past t.now (Unlock key) (counterparty d t.arc) c.0 u.counterparty in
-      let q = and_five (is_some (published t.past)) (is_ready d b (counterparty d t.arc)) (is_first_key (first_key b (counterparty d t.arc) key.lock) key) (is_valid d t.arc (hashlock_of d key.lock) key) _
+      let q =
+      and_five (is_some (published t.past)) (is_ready d b (counterparty d t.arc)) (is_first_key (first_key b (counterparty d t.arc) key.lock) key)
+      (is_valid d t.arc (hashlock_of d key.lock) key) _
       (kept d b (counterparty d t.arc) (all (counterparty d t.arc) (k.ends.to t.arc t.below)) t.arc t.past t.now (Unlock key) t.stands called) in
       record { called = called; path = u.path; origin = q.4; lock = lock-below d t.arc key c.0.fits }
 
@@ -78,48 +81,101 @@ module _ (d : Deal) (b : Histories) (k : IsAccepted d) (legal : IsLegalBook d b)
   made key t =
       let r = taker key t in
       list_any-in (λ e. is_first_key (key_in key.lock (call_by (counterparty d t.arc) e)) key) (flat_map (λ h. h) b) t.now
-      (ap (λ o. is_first_key (key_in key.lock o) key) r.called ∙ (ap (λ z. is_first_key (cond z (Some key) None) key) (eq-eqb key.lock key.lock refl) ∙ same_key-refl key)) (entry_in key t)
+      (ap (λ o. is_first_key (key_in key.lock o) key) r.called
+      ∙ (ap (λ z. is_first_key (cond z (Some key) None) key) (eq-eqb key.lock key.lock refl) ∙ same_key-refl key)) (entry_in key t)
 
   first_of_path : (key : Hashkey) (t : Taken d b key) → d.mode ≡ Hashkeys → first_is (counterparty d t.arc) key.path ≡ true
   first_of_path key t m =
       let h = not-false _ (ap (λ x. is_wrong_path d t.arc x key) (sym m) ∙ Taker.path (taker key t)) in
-      let k1 = and_parts (is_path d.graph key.path && first_is (counterparty d t.arc) key.path && last_is (leader_of d key.lock) key.path) (length key.path == length key.sigs) h in
+      let k1 =
+      and_parts (is_path d.graph key.path && first_is (counterparty d t.arc) key.path && last_is (leader_of d key.lock) key.path)
+      (length key.path == length key.sigs) h in
       (and_three (is_path d.graph key.path) (first_is (counterparty d t.arc) key.path) (last_is (leader_of d key.lock) key.path) k1.0).1
 
   alone_rest : (u x : ℕ) (p : List ℕ) → is_alone u (x ∷ p) ≡ true → p ≡ []
   alone_rest u x p e = same_list-true (λ x y. x == y) eqb-true p [] (and_parts (x == u) (same_list (λ x y. x == y) p []) e).1
 
   -- the hashkey that an extension extends was taken too
-  inner_taken : (u x : ℕ) (p : List ℕ) (s : Sig) (sigs : List Sig) (key : Hashkey) → list_any (λ a. list_any (λ e. extends_without u (record { lock = key.lock; secret = key.secret; path = x ∷ p; sigs = s ∷ sigs }) (accepted e)) (history b a)) (leaving d.graph u) ≡ true
+  inner_taken : (u x : ℕ) (p : List ℕ) (s : Sig) (sigs : List Sig) (key : Hashkey)
+      → list_any (λ a. list_any (λ e. extends_without u (record { lock = key.lock; secret = key.secret; path = x ∷ p; sigs = s ∷ sigs }) (accepted e))
+      (history b a)) (leaving d.graph u) ≡ true
       → Taken d b (record { lock = key.lock; secret = key.secret; path = p; sigs = sigs })
   inner_taken u x p s sigs key e =
-      let y = in_any (λ a. list_any (λ e. extends_without u (record { lock = key.lock; secret = key.secret; path = x ∷ p; sigs = s ∷ sigs }) (accepted e)) (history b a)) (leaving d.graph u) e in
-      let z = in_any (λ e. extends_without u (record { lock = key.lock; secret = key.secret; path = x ∷ p; sigs = s ∷ sigs }) (accepted e)) (history b y.0) y.2 in
+      let y =
+      in_any (λ a. list_any (λ e. extends_without u (record { lock = key.lock; secret = key.secret; path = x ∷ p; sigs = s ∷ sigs }) (accepted e))
+      (history b a)) (leaving d.graph u) e in
+      let z =
+      in_any (λ e. extends_without u (record { lock = key.lock; secret = key.secret; path = x ∷ p; sigs = s ∷ sigs }) (accepted e)) (history b y.0)
+      y.2 in
       let i = extended_without u (record { lock = key.lock; secret = key.secret; path = x ∷ p; sigs = s ∷ sigs }) (accepted z.0) z.2 in
       let q = and_parts (x == u) (same_key i.0 (record { lock = key.lock; secret = key.secret; path = p; sigs = sigs })) i.3 in
       let m = moment_from_in (history b y.0) z.0 z.1 in
-      record { arc = y.0; below = (leaves d u y.0 y.1).0; past = m.0; now = z.0; stands = m.1; took = i.1 ∙ ap (λ h. Some (Unlock h)) (same_key-true i.0 (record { lock = key.lock; secret = key.secret; path = p; sigs = sigs }) q.1) }
+      record {
+        arc = y.0;
+        below = (leaves d u y.0 y.1).0;
+        past = m.0;
+        now = z.0;
+        stands = m.1;
+        took =
+            i.1 ∙ ap (λ h. Some (Unlock h)) (same_key-true i.0 (record { lock = key.lock; secret = key.secret; path = p; sigs = sigs }) q.1);
+      }
 
-  unforged_suffix : (v : ℕ) → d.mode ≡ Hashkeys → (p : List ℕ) (sigs : List Sig) (key : Hashkey) → Taken d b (record { lock = key.lock; secret = key.secret; path = p; sigs = sigs }) → has_forged_suffix b v key p sigs ≡ false
+  unforged_suffix : (v : ℕ) → d.mode ≡ Hashkeys → (p : List ℕ) (sigs : List Sig) (key : Hashkey)
+      → Taken d b (record { lock = key.lock; secret = key.secret; path = p; sigs = sigs }) → has_forged_suffix b v key p sigs ≡ false
   unforged_suffix v mode [] sigs key t = refl
   unforged_suffix v mode (x ∷ p) [] key t = refl
   unforged_suffix v mode (x ∷ p) (s ∷ sigs) key t =
       let whole : Hashkey = record { lock = key.lock; secret = key.secret; path = x ∷ p; sigs = s ∷ sigs } in
       let u = counterparty d t.arc in
-      let is_u : x ≡ counterparty d t.arc = eqb-true x (counterparty d t.arc) (first_of_path (record { lock = key.lock; secret = key.secret; path = x ∷ p; sigs = s ∷ sigs }) t mode) in
-      let m : has_made b x (record { lock = key.lock; secret = key.secret; path = x ∷ p; sigs = s ∷ sigs }) ≡ true = subst (λ z. has_made b z (record { lock = key.lock; secret = key.secret; path = x ∷ p; sigs = s ∷ sigs }) ≡ true) (sym is_u) (made (record { lock = key.lock; secret = key.secret; path = x ∷ p; sigs = s ∷ sigs }) t) in
+      let is_u : x ≡ counterparty d t.arc =
+      eqb-true x (counterparty d t.arc) (first_of_path (record { lock = key.lock; secret = key.secret; path = x ∷ p; sigs = s ∷ sigs }) t mode) in
+      let m : has_made b x (record { lock = key.lock; secret = key.secret; path = x ∷ p; sigs = s ∷ sigs }) ≡ true =
+      subst (λ z. has_made b z (record { lock = key.lock; secret = key.secret; path = x ∷ p; sigs = s ∷ sigs }) ≡ true) (sym is_u)
+      (made (record { lock = key.lock; secret = key.secret; path = x ∷ p; sigs = s ∷ sigs }) t) in
       let r = taker (record { lock = key.lock; secret = key.secret; path = x ∷ p; sigs = s ∷ sigs }) t in
-      both (x == v) refl m (rest (leads d (counterparty d t.arc) key.lock) refl (ap (λ m. has_origin m d b (counterparty d t.arc) (record { lock = key.lock; secret = key.secret; path = x ∷ p; sigs = s ∷ sigs })) (sym mode) ∙ r.origin) (λ y. unforged_suffix v mode p sigs key y))
+      both (x == v) refl m (rest (leads d (counterparty d t.arc) key.lock) refl
+      (ap (λ m. has_origin m d b (counterparty d t.arc) (record { lock = key.lock; secret = key.secret; path = x ∷ p; sigs = s ∷ sigs })) (sym mode)
+      ∙ r.origin) (λ y. unforged_suffix v mode p sigs key y))
     where
       rest : (y : Bool) → leads d (counterparty d t.arc) key.lock ≡ y
-          → cond (leads d (counterparty d t.arc) key.lock) (is_alone (counterparty d t.arc) (x ∷ p)) (list_any (λ a. list_any (λ e. extends_without (counterparty d t.arc) (record { lock = key.lock; secret = key.secret; path = x ∷ p; sigs = s ∷ sigs }) (accepted e)) (history b a)) (leaving d.graph (counterparty d t.arc))) ≡ true
-          → (Taken d b (record { lock = key.lock; secret = key.secret; path = p; sigs = sigs }) → has_forged_suffix b v key p sigs ≡ false) → has_forged_suffix b v key p sigs ≡ false
-      rest true e o again = ap (λ l. has_forged_suffix b v key l sigs) (alone_rest (counterparty d t.arc) x p (ap (λ z. cond z (is_alone (counterparty d t.arc) (x ∷ p)) (list_any (λ a. list_any (λ e. extends_without (counterparty d t.arc) (record { lock = key.lock; secret = key.secret; path = x ∷ p; sigs = s ∷ sigs }) (accepted e)) (history b a)) (leaving d.graph (counterparty d t.arc)))) (sym e) ∙ o))
-      rest false e o again = again (inner_taken (counterparty d t.arc) x p s sigs key (ap (λ z. cond z (is_alone (counterparty d t.arc) (x ∷ p)) (list_any (λ a. list_any (λ e. extends_without (counterparty d t.arc) (record { lock = key.lock; secret = key.secret; path = x ∷ p; sigs = s ∷ sigs }) (accepted e)) (history b a)) (leaving d.graph (counterparty d t.arc)))) (sym e) ∙ o))
+          → cond (leads d (counterparty d t.arc) key.lock) (is_alone (counterparty d t.arc) (x ∷ p))
+          (list_any (λ a. list_any (λ e. extends_without (counterparty d t.arc) (record {
+            lock = key.lock;
+            secret = key.secret;
+            path = x ∷ p;
+            sigs =
+                s ∷ sigs;
+          }) (accepted e)) (history b a)) (leaving d.graph (counterparty d t.arc))) ≡ true
+          → (Taken d b (record { lock = key.lock; secret = key.secret; path = p; sigs = sigs }) → has_forged_suffix b v key p sigs ≡ false)
+          → has_forged_suffix b v key p sigs ≡ false
+      rest true e o again =
+          ap (λ l. has_forged_suffix b v key l sigs) (alone_rest (counterparty d t.arc) x p
+          (ap (λ z. cond z (is_alone (counterparty d t.arc) (x ∷ p))
+          (list_any (λ a. list_any (λ e. extends_without (counterparty d t.arc) (record {
+            lock = key.lock;
+            secret = key.secret;
+            path = x ∷ p;
+            sigs =
+                s ∷ sigs;
+          }) (accepted e)) (history b a)) (leaving d.graph (counterparty d t.arc)))) (sym e) ∙ o))
+      rest false e o again =
+          again (inner_taken (counterparty d t.arc) x p s sigs key
+          (ap (λ z. cond z (is_alone (counterparty d t.arc) (x ∷ p))
+          (list_any (λ a. list_any (λ e. extends_without (counterparty d t.arc) (record {
+            lock = key.lock;
+            secret = key.secret;
+            path = x ∷ p;
+            sigs =
+                s ∷ sigs;
+          }) (accepted e)) (history b a)) (leaving d.graph (counterparty d t.arc)))) (sym e) ∙ o))
 
-      both : (y : Bool) → (x == v) ≡ y → has_made b x (record { lock = key.lock; secret = key.secret; path = x ∷ p; sigs = s ∷ sigs }) ≡ true → has_forged_suffix b v key p sigs ≡ false
-          → ((y && not (has_made b v (record { lock = key.lock; secret = key.secret; path = x ∷ p; sigs = s ∷ sigs }))) || has_forged_suffix b v key p sigs) ≡ false
-      both true e m f = ap (λ z. not z || has_forged_suffix b v key p sigs) (subst (λ z. has_made b z (record { lock = key.lock; secret = key.secret; path = x ∷ p; sigs = s ∷ sigs }) ≡ true) (eqb-true x v e) m) ∙ f
+      both : (y : Bool) → (x == v) ≡ y → has_made b x (record { lock = key.lock; secret = key.secret; path = x ∷ p; sigs = s ∷ sigs }) ≡ true
+          → has_forged_suffix b v key p sigs ≡ false
+          → ((y && not (has_made b v (record { lock = key.lock; secret = key.secret; path = x ∷ p; sigs = s ∷ sigs })))
+          || has_forged_suffix b v key p sigs) ≡ false
+      both true e m f =
+          ap (λ z. not z || has_forged_suffix b v key p sigs) (subst (λ z.
+          has_made b z (record { lock = key.lock; secret = key.secret; path = x ∷ p; sigs = s ∷ sigs }) ≡ true) (eqb-true x v e) m) ∙ f
       both false e m f = f
 
   -- Timelocks.
@@ -144,10 +200,13 @@ module _ (d : Deal) (b : Histories) (k : IsAccepted d) (legal : IsLegalBook d b)
     by_leader key t s l =
         let same : counterparty d t.arc ≡ v = sym (eqb-true _ (counterparty d t.arc) l) ∙ eqb-true _ v lead in
         let r = taker key t in
-        list_any-in (λ e. carries secret (call_by v e)) (flat_map (λ h. h) b) t.now (ap (λ z. carries secret (call_by z t.now)) (sym same) ∙ (ap (carries secret) r.called ∙ s)) (entry_in key t)
+        list_any-in (λ e. carries secret (call_by v e)) (flat_map (λ h. h) b) t.now (ap (λ z. carries secret (call_by z t.now)) (sym same)
+        ∙ (ap (carries secret) r.called ∙ s)) (entry_in key t)
 
     abbrev Again : ℕ → Type 0
-    Again m = (q : List ℕ) (inner : Hashkey) (y : Taken d b inner) → bytes_eq inner.secret secret ≡ true → leads d (counterparty d y.arc) 0 ≡ false → is_path d.graph q ≡ true → last_is (counterparty d y.arc) q ≡ true → are_followers d.leaders q ≡ true → length q + m ≡ suc d.graph.n → IsShown
+    Again m =
+        (q : List ℕ) (inner : Hashkey) (y : Taken d b inner) → bytes_eq inner.secret secret ≡ true → leads d (counterparty d y.arc) 0 ≡ false
+        → is_path d.graph q ≡ true → last_is (counterparty d y.arc) q ≡ true → are_followers d.leaders q ≡ true → length q + m ≡ suc d.graph.n → IsShown
 
     chase : (m : ℕ) (p : List ℕ) (key : Hashkey) (t : Taken d b key) → bytes_eq key.secret secret ≡ true → leads d (counterparty d t.arc) 0 ≡ false
         → is_path d.graph p ≡ true → last_is (counterparty d t.arc) p ≡ true → are_followers d.leaders p ≡ true → length p + m ≡ suc d.graph.n → IsShown
@@ -155,9 +214,12 @@ module _ (d : Deal) (b : Histories) (k : IsAccepted d) (legal : IsLegalBook d b)
     chase (suc m) p key t s f path last fs e =
         let r = taker key t in
         let lock : key.lock ≡ 0 = (let z = r.lock in let q = one in omega arith) in
-        let o : (leads d (counterparty d t.arc) key.lock || list_any (λ a. list_any (λ e. carries key.secret (accepted e)) (history b a)) (leaving d.graph (counterparty d t.arc))) ≡ true = ap (λ m. has_origin m d b (counterparty d t.arc) key) (sym mode) ∙ r.origin in
+        let o : (leads d (counterparty d t.arc) key.lock || list_any (λ a.
+        list_any (λ e. carries key.secret (accepted e)) (history b a)) (leaving d.graph (counterparty d t.arc))) ≡ true =
+        ap (λ m. has_origin m d b (counterparty d t.arc) key) (sym mode) ∙ r.origin in
         let shown : list_any (λ a. list_any (λ e. carries key.secret (accepted e)) (history b a)) (leaving d.graph (counterparty d t.arc)) ≡ true =
-        ap (λ z. z || list_any (λ a. list_any (λ e. carries key.secret (accepted e)) (history b a)) (leaving d.graph (counterparty d t.arc))) (sym (ap (leads d (counterparty d t.arc)) lock ∙ f)) ∙ o in
+        ap (λ z. z || list_any (λ a. list_any (λ e. carries key.secret (accepted e)) (history b a)) (leaving d.graph (counterparty d t.arc)))
+        (sym (ap (leads d (counterparty d t.arc)) lock ∙ f)) ∙ o in
         let y = in_any (λ a. list_any (λ e. carries key.secret (accepted e)) (history b a)) (leaving d.graph (counterparty d t.arc)) shown in
         let z = in_any (λ e. carries key.secret (accepted e)) (history b y.0) y.2 in
         let i = revealed key.secret (accepted z.0) z.2 in
@@ -168,7 +230,8 @@ module _ (d : Deal) (b : Histories) (k : IsAccepted d) (legal : IsLegalBook d b)
         (arc_has d.graph y.0 (counterparty d t.arc) (counterparty d y.0) out.0 out.1 refl)
         (λ q inner y sy l path last fs e. chase m q inner y sy l path last fs e)
       where
-        next : (inner : Hashkey) (y : Taken d b inner) → bytes_eq inner.secret secret ≡ true → has_arc d.graph (counterparty d t.arc) (counterparty d y.arc) ≡ true → Again m → IsShown
+        next : (inner : Hashkey) (y : Taken d b inner) → bytes_eq inner.secret secret ≡ true
+            → has_arc d.graph (counterparty d t.arc) (counterparty d y.arc) ≡ true → Again m → IsShown
         next inner y sy arc again = go (leads d (counterparty d y.arc) 0) refl
           where
             apart : IsIn (counterparty d y.arc) p → ⊥
@@ -180,8 +243,10 @@ module _ (d : Deal) (b : Histories) (k : IsAccepted d) (legal : IsLegalBook d b)
             go true l = by_leader inner y sy l
             go false l =
                 let more = path_snoc d.graph p (counterparty d t.arc) (counterparty d y.arc) path last arc (k.ends.to y.arc y.below) apart in
-                let long : length (p ++ counterparty d y.arc ∷ []) ≡ length p + length (counterparty d y.arc ∷ []) = length-append p (counterparty d y.arc ∷ []) in
-                again (p ++ counterparty d y.arc ∷ []) inner y sy l more.0 more.1 (followers-append d.leaders p (counterparty d y.arc) fs (follower (counterparty d y.arc) l)) (omega arith)
+                let long : length (p ++ counterparty d y.arc ∷ []) ≡ length p + length (counterparty d y.arc ∷ []) =
+                length-append p (counterparty d y.arc ∷ []) in
+                again (p ++ counterparty d y.arc ∷ []) inner y sy l more.0 more.1
+                (followers-append d.leaders p (counterparty d y.arc) fs (follower (counterparty d y.arc) l)) (omega arith)
 
     shown : (key : Hashkey) (t : Taken d b key) → bytes_eq key.secret secret ≡ true → IsShown
     shown key t s = go (leads d (counterparty d t.arc) 0) refl
@@ -189,7 +254,8 @@ module _ (d : Deal) (b : Histories) (k : IsAccepted d) (legal : IsLegalBook d b)
         go : (x : Bool) → leads d (counterparty d t.arc) 0 ≡ x → IsShown
         go true l = by_leader key t s l
         go false l =
-            chase d.graph.n (counterparty d t.arc ∷ []) key t s l (lt-ltb (counterparty d t.arc) d.graph.n (k.ends.to t.arc t.below)) (eq-eqb (counterparty d t.arc) (counterparty d t.arc) refl)
+            chase d.graph.n (counterparty d t.arc ∷ []) key t s l (lt-ltb (counterparty d t.arc) d.graph.n (k.ends.to t.arc t.below))
+            (eq-eqb (counterparty d t.arc) (counterparty d t.arc) refl)
             (and_both (not (is_among (counterparty d t.arc) d.leaders)) true (ap not (follower (counterparty d t.arc) l)) refl) (omega arith)
 
   forges_none : (m : Mode) → d.mode ≡ m → (v : ℕ) (key : Hashkey) → Taken d b key → forges m d b v (Some (Unlock key)) ≡ false
@@ -203,12 +269,18 @@ module _ (d : Deal) (b : Histories) (k : IsAccepted d) (legal : IsLegalBook d b)
       and_last true false z h = refl
       and_last false y z h = refl
 
-      go : (x : Bool) → leads d v key.lock ≡ x → (bytes_eq (hash_of key.secret) (slice_index_or d.hashlocks key.lock []) && leads d v key.lock && not (list_any (λ e. carries key.secret (call_by v e)) (flat_map (λ h. h) b))) ≡ false
-      go x l = and_last (bytes_eq (hash_of key.secret) (slice_index_or d.hashlocks key.lock [])) (leads d v key.lock) (list_any (λ e. carries key.secret (call_by v e)) (flat_map (λ h. h) b)) (λ h.
-          let lock : key.lock ≡ 0 = (let z = Taker.lock (taker key t) in let q : length d.leaders ≡ 1 = (subst (λ m. IsTimed m d) e k.timed).0 in omega arith) in
+      go : (x : Bool) → leads d v key.lock ≡ x
+          → (bytes_eq (hash_of key.secret) (slice_index_or d.hashlocks key.lock []) && leads d v key.lock
+          && not (list_any (λ e. carries key.secret (call_by v e)) (flat_map (λ h. h) b))) ≡ false
+      go x l =
+          and_last (bytes_eq (hash_of key.secret) (slice_index_or d.hashlocks key.lock [])) (leads d v key.lock)
+          (list_any (λ e. carries key.secret (call_by v e)) (flat_map (λ h. h) b)) (λ h.
+          let lock : key.lock ≡ 0 =
+          (let z = Taker.lock (taker key t) in let q : length d.leaders ≡ 1 = (subst (λ m. IsTimed m d) e k.timed).0 in omega arith) in
           shown e v (ap (leads d v) (sym lock) ∙ h) key.secret key t (bytes_eq-refl key.secret))
 
-  forges_other : (v a : ℕ) (past : List Entry) (e : Entry) → a < length d.graph.arcs → IsMoment (history b a) past e → (o : Option Call) → accepted e ≡ o → forges d.mode d b v o ≡ false
+  forges_other : (v a : ℕ) (past : List Entry) (e : Entry) → a < length d.graph.arcs → IsMoment (history b a) past e → (o : Option Call)
+      → accepted e ≡ o → forges d.mode d b v o ≡ false
   unfolding forges
   forges_other v a past e l m (Some (Unlock key)) q = forges_none d.mode refl v key (record { arc = a; below = l; past = past; now = e; stands = m; took = q })
   forges_other v a past e l m None q = by_mode d.mode

@@ -1,5 +1,6 @@
 -- Paths are as long as the vertices, the leaders and the paths of followers allow.
-use Rattle.std.proofs.Common.{◌≡◌, ◌⊎◌, ℕ, suc, zero, ◌+◌, ◌*◌, ◌<◌, ◌≤◌, Bool, true, false, cond, not, ◌&&◌, IsTrue, List, [], ◌∷◌, ◌++◌, length, filter, refl, sym, ap, ◌∙◌, subst, inl, inr, arith, eqb-true, eq-eqb, ltb-true, lt-ltb, mul-le-mul_right, nat_lt}
+use Rattle.std.proofs.Common.{◌≡◌, ◌⊎◌, ℕ, suc, zero, ◌+◌, ◌*◌, ◌<◌, ◌≤◌, Bool, true, false, cond, not, ◌&&◌, IsTrue, List, [], ◌∷◌, ◌++◌, length}
+use Rattle.std.proofs.Common.{filter, refl, sym, ap, ◌∙◌, subst, inl, inr, arith, eqb-true, eq-eqb, ltb-true, lt-ltb, mul-le-mul_right, nat_lt}
 use Rattle.std.specs.List.{range_with_len}
 use Rattle.std.proofs.lemmas.Bool.{false≢true}
 use Rattle.swap_base.specs.Lists.{IsIn}
@@ -37,10 +38,12 @@ not_among u p h = go (is_among u p) refl
     go true e = absurd (h (is_among-true u p e))
     go false e = refl
 
-pub path_more : (g : Graph) (u v : ℕ) (p : List ℕ) → u < g.n → (IsIn u (v ∷ p) → ⊥) → has_arc g u v ≡ true → is_path g (v ∷ p) ≡ true → is_path g (u ∷ v ∷ p) ≡ true
+pub path_more : (g : Graph) (u v : ℕ) (p : List ℕ) → u < g.n → (IsIn u (v ∷ p) → ⊥) → has_arc g u v ≡ true → is_path g (v ∷ p) ≡ true
+    → is_path g (u ∷ v ∷ p) ≡ true
 path_more g u v p b f a r =
     and_both (nat_lt u g.n && not (is_among u (v ∷ p)) && has_arc g u v) (is_path g (v ∷ p))
-    (and_both (nat_lt u g.n && not (is_among u (v ∷ p))) (has_arc g u v) (and_both (nat_lt u g.n) (not (is_among u (v ∷ p))) (lt-ltb u g.n b) (not_among u (v ∷ p) f)) a) r
+    (and_both (nat_lt u g.n && not (is_among u (v ∷ p))) (has_arc g u v)
+    (and_both (nat_lt u g.n) (not (is_among u (v ∷ p))) (lt-ltb u g.n b) (not_among u (v ∷ p) f)) a) r
 
 pub path_distinct : (g : Graph) (p : List ℕ) → is_path g p ≡ true → AreDistinct p
 path_distinct g [] e = tt
@@ -113,13 +116,17 @@ module _ (g : Graph) (leaders : List ℕ) (h : ℕ) (height : IsHeight g leaders
     path : (length run ≡ 0) ⊎ ((is_path g run ≡ true) × (first_is u run ≡ true) × (are_followers leaders run ≡ true))
     bound : length p + h ≤ led p * (h + 1) + length run
 
-  longer : (u v : ℕ) (q : List ℕ) → u < g.n → has_arc g u v ≡ true → is_among u leaders ≡ false → (IsIn u q → ⊥) → (length q ≡ 0) ⊎ ((is_path g q ≡ true) × (first_is v q ≡ true) × (are_followers leaders q ≡ true))
+  longer : (u v : ℕ) (q : List ℕ) → u < g.n → has_arc g u v ≡ true → is_among u leaders ≡ false → (IsIn u q → ⊥)
+      → (length q ≡ 0) ⊎ ((is_path g q ≡ true) × (first_is v q ≡ true) × (are_followers leaders q ≡ true))
       → (is_path g (u ∷ q) ≡ true) × (first_is u (u ∷ q) ≡ true) × (are_followers leaders (u ∷ q) ≡ true)
   longer u v [] b a l f k = (lt-ltb u g.n b, eq-eqb u u refl, and_both (not (is_among u leaders)) true (ap not l) refl)
   longer u v (w ∷ q) b a l f (inl z) = absurd (omega arith)
   longer u v (w ∷ q) b a l f (inr k) =
-      let same : w ≡ v = eqb-true w v k.1 in
-      (path_more g u w q b f (ap (has_arc g u) same ∙ a) k.0, eq-eqb u u refl, and_both (not (is_among u leaders)) (are_followers leaders (w ∷ q)) (ap not l) k.2)
+      let same : w ≡ v = eqb-true w v k.1 in (
+        path_more g u w q b f (ap (has_arc g u) same ∙ a) k.0,
+        eq-eqb u u refl,
+        and_both (not (is_among u leaders)) (are_followers leaders (w ∷ q)) (ap not l) k.2,
+      )
 
   runs : (u : ℕ) (p : List ℕ) (l : ℕ) → is_path g (u ∷ p) ≡ true → last_is l (u ∷ p) ≡ true → IsIn l leaders → Run u (u ∷ p)
   runs u [] l e last i =
@@ -153,7 +160,9 @@ module _ (g : Graph) (leaders : List ℕ) (h : ℕ) (height : IsHeight g leaders
       let r = runs u p l e last i in
       let b = r.bound in
       let sh = r.short in
-      let few : led (u ∷ p) ≤ length leaders = subset_length (filter (λ v. is_among v leaders) (u ∷ p)) leaders (distinct_filter (λ v. is_among v leaders) (u ∷ p) (path_distinct g (u ∷ p) e))
+      let few : led (u ∷ p) ≤ length leaders =
+      subset_length (filter (λ v. is_among v leaders) (u ∷ p)) leaders
+      (distinct_filter (λ v. is_among v leaders) (u ∷ p) (path_distinct g (u ∷ p) e))
       (λ x j. is_among-true x leaders (from_filter (λ v. is_among v leaders) x (u ∷ p) j).1) in
       let m : led (u ∷ p) * (h + 1) ≤ length leaders * (h + 1) = mul-le-mul_right (h + 1) few in
       let n : suc (length p) ≤ g.n = path_length g (u ∷ p) e in
@@ -161,7 +170,8 @@ module _ (g : Graph) (leaders : List ℕ) (h : ℕ) (height : IsHeight g leaders
 
 -- Paths of followers that go on.
 
-pub path_snoc : (g : Graph) (p : List ℕ) (x u : ℕ) → is_path g p ≡ true → last_is x p ≡ true → has_arc g x u ≡ true → u < g.n → (IsIn u p → ⊥) → (is_path g (p ++ u ∷ []) ≡ true) × (last_is u (p ++ u ∷ []) ≡ true)
+pub path_snoc : (g : Graph) (p : List ℕ) (x u : ℕ) → is_path g p ≡ true → last_is x p ≡ true → has_arc g x u ≡ true → u < g.n → (IsIn u p → ⊥)
+    → (is_path g (p ++ u ∷ []) ≡ true) × (last_is u (p ++ u ∷ []) ≡ true)
 path_snoc g [] x u e last a b f = absurd (cc e)
 path_snoc g (w ∷ []) x u e last a b f =
     let same : w ≡ x = eqb-true w x last in
@@ -185,7 +195,8 @@ pub suffix_from : (g : Graph) (ls p : List ℕ) (u x : ℕ) → is_path g p ≡ 
 suffix_from g ls [] u x e last o i = absurd i
 suffix_from g ls (w ∷ p) u x e last o (inl q) = record { part = w ∷ p; between = (e, eq-eqb w u (sym q), last); followers = o }
 suffix_from g ls (w ∷ []) u x e last o (inr i) = absurd i
-suffix_from g ls (w ∷ y ∷ p) u x e last o (inr i) = suffix_from g ls (y ∷ p) u x (path_step g w y p e).rest last (and_parts (not (is_among w ls)) (are_followers ls (y ∷ p)) o).1 i
+suffix_from g ls (w ∷ y ∷ p) u x e last o (inr i) =
+    suffix_from g ls (y ∷ p) u x (path_step g w y p e).rest last (and_parts (not (is_among w ls)) (are_followers ls (y ∷ p)) o).1 i
 
 pub followers-append : (ls p : List ℕ) (u : ℕ) → are_followers ls p ≡ true → is_among u ls ≡ false → are_followers ls (p ++ u ∷ []) ≡ true
 followers-append ls [] u o f = and_both (not (is_among u ls)) true (ap not f) refl
@@ -201,7 +212,9 @@ height_below g ls l h i b (k) = go k.reached
     go (inl e) = omega arith
     go (inr p) =
         let fresh : IsIn l p.0 → ⊥ = λ j. both (is_among l ls) (in-is_among l ls i) (list_all-in (λ v. not (is_among v ls)) p.0 l p.2 j) in
-        let n = subset_length (l ∷ p.0) (range_with_len 0 g.n) (fresh, path_distinct g p.0 p.1) (λ x. elim [ inl q ↦ in_range x g.n (subst (λ z. z < g.n) (sym q) b) | inr j ↦ in_range x g.n (path_below g p.0 x p.1 j) ]) in
+        let n =
+        subset_length (l ∷ p.0) (range_with_len 0 g.n) (fresh, path_distinct g p.0 p.1) (λ x.
+        elim [ inl q ↦ in_range x g.n (subst (λ z. z < g.n) (sym q) b) | inr j ↦ in_range x g.n (path_below g p.0 x p.1 j) ]) in
         let z = length-range 0 g.n in
         let e = p.3 in omega arith
       where
@@ -244,7 +257,8 @@ module _ (g : Graph) (l : ℕ) (feedback : IsFeedback g (l ∷ [])) where
       go : Step g u w p → Part w v (w ∷ p) → Part u v (u ∷ w ∷ p)
       go s r = more r.part r.path r.first r.last r.followers r.inside
         where
-          more : (q : List ℕ) → is_path g q ≡ true → first_is w q ≡ true → last_is v q ≡ true → are_followers (l ∷ []) q ≡ true → ((x : ℕ) → IsIn x q → IsIn x (w ∷ p)) → Part u v (u ∷ w ∷ p)
+          more : (q : List ℕ) → is_path g q ≡ true → first_is w q ≡ true → last_is v q ≡ true → are_followers (l ∷ []) q ≡ true
+              → ((x : ℕ) → IsIn x q → IsIn x (w ∷ p)) → Part u v (u ∷ w ∷ p)
           more [] k f t o m = absurd (cc k)
           more (z ∷ q) k f t o m =
               let same : z ≡ w = eqb-true z w f in
@@ -253,7 +267,9 @@ module _ (g : Graph) (l : ℕ) (feedback : IsFeedback g (l ∷ [])) where
                 path = path_more g u z q s.below (λ j. s.fresh (m u j)) (ap (has_arc g u) same ∙ s.arc) k;
                 first = eq-eqb u u refl;
                 last = t;
-                followers = and_both (not (is_among u (l ∷ []))) (are_followers (l ∷ []) (z ∷ q)) (not_leader u (λ e. s.fresh (subst (λ y. IsIn y (w ∷ p)) (sym e) (last_in_path l (w ∷ p) last)))) o;
+                followers =
+                    and_both (not (is_among u (l ∷ []))) (are_followers (l ∷ []) (z ∷ q))
+                    (not_leader u (λ e. s.fresh (subst (λ y. IsIn y (w ∷ p)) (sym e) (last_in_path l (w ∷ p) last)))) o;
                 inside = λ x. elim [ inl j ↦ inl j | inr j ↦ inr (m x j) ];
               }
 

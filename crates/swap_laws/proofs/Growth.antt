@@ -45,7 +45,8 @@ pub correct_published : (d : Deal) (b : Histories) (a : ℕ) → is_correct d b 
 correct_published d b a e = is_correct_some d a (published (history b a)) e
 
 -- a correct arc's publish stays the same
-pub same_published : (d : Deal) (b c : Histories) (a : ℕ) → Grows b c → is_some (published (history b a)) ≡ true → published (history c a) ≡ published (history b a)
+pub same_published : (d : Deal) (b c : Histories) (a : ℕ) → Grows b c → is_some (published (history b a)) ≡ true
+    → published (history c a) ≡ published (history b a)
 same_published d b c a g e = let p = is_some-of (published (history b a)) e in published-more (history b a) (history c a) p.0 (g a) p.1 ∙ sym p.1
 
 pub is_correct-more : (d : Deal) (b c : Histories) (a : ℕ) → Grows b c → is_correct d b a ≡ true → is_correct d c a ≡ true
@@ -59,7 +60,8 @@ is_good-more d b c a g e =
 
 pub is_ready-more : (d : Deal) (b c : Histories) (v : ℕ) → Grows b c → is_ready d b v ≡ true → is_ready d c v ≡ true
 unfolding is_ready
-is_ready-more d b c v g e = list_all-from (is_good d c) (entering d.graph v) (λ a w. is_good-more d b c a g (list_all-in (is_good d b) (entering d.graph v) a e w))
+is_ready-more d b c v g e =
+    list_all-from (is_good d c) (entering d.graph v) (λ a w. is_good-more d b c a g (list_all-in (is_good d b) (entering d.graph v) a e w))
 
 pub ready_good : (d : Deal) (b : Histories) (v a : ℕ) → is_ready d b v ≡ true → IsIn a (entering d.graph v) → is_good d b a ≡ true
 unfolding is_ready
@@ -72,7 +74,8 @@ may-more d b c v g e = go (leads_one d v) e
     go true e = refl
     go false e = is_ready-more d b c v g e
 
-any-more : (b c : Histories) (p : Entry → Bool) (xs : List ℕ) → Grows b c → list_any (λ a. list_any p (history b a)) xs ≡ true → list_any (λ a. list_any p (history c a)) xs ≡ true
+any-more : (b c : Histories) (p : Entry → Bool) (xs : List ℕ) → Grows b c → list_any (λ a. list_any p (history b a)) xs ≡ true
+    → list_any (λ a. list_any p (history c a)) xs ≡ true
 any-more b c p xs g e =
     let x = in_any (λ a. list_any p (history b a)) xs e in
     list_any-in (λ a. list_any p (history c a)) xs x.0 (ap (list_any p) (g x.0).1 ∙ list_any-more p (history b x.0) (g x.0).0 x.2) x.1
@@ -85,7 +88,8 @@ origin-more Timelocks d b c v key g e = go (leads d v key.lock) e
     go false e = any-more b c (λ e. carries key.secret (accepted e)) (leaving d.graph v) g e
 origin-more Hashkeys d b c v key g e = go (leads d v key.lock) e
   where
-    go : (x : Bool) → cond x (is_alone v key.path) (has_seen d b v (extends_without v key)) ≡ true → cond x (is_alone v key.path) (has_seen d c v (extends_without v key)) ≡ true
+    go : (x : Bool) → cond x (is_alone v key.path) (has_seen d b v (extends_without v key)) ≡ true
+        → cond x (is_alone v key.path) (has_seen d c v (extends_without v key)) ≡ true
     go true e = e
     go false e = any-more b c (λ e. extends_without v key (accepted e)) (leaving d.graph v) g e
 

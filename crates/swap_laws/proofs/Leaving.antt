@@ -1,5 +1,6 @@
 -- What a triggered arc that leaves a party says of it: it is ready, and it knows every lock.
-use Rattle.std.proofs.Common.{◌≡◌, ℕ, suc, ◌<◌, ◌≤◌, ◌==◌, nat_lt, Bool, true, false, cond, not, ◌&&◌, ◌||◌, List, [], ◌∷◌, length, Option, Some, None, is_some, refl, sym, subst, inl, inr, arith, eq-eqb, ltb-true, get_or, slice_index_or}
+use Rattle.std.proofs.Common.{◌≡◌, ℕ, suc, ◌<◌, ◌≤◌, ◌==◌, nat_lt, Bool, true, false, cond, not, ◌&&◌, ◌||◌, List, [], ◌∷◌, length, Option, Some, None}
+use Rattle.std.proofs.Common.{is_some, refl, sym, subst, inl, inr, arith, eq-eqb, ltb-true, get_or, slice_index_or}
 use Rattle.std.specs.List.{list_any, flat_map}
 use Rattle.std.proofs.lemmas.Bool.Decides.{nat_tests}
 use Rattle.std.specs.Str.{bytes_eq}
@@ -41,13 +42,17 @@ underwater_parts false y false false e = absurd (cc e)
 pub underwater_lost : (d : Deal) (b : Histories) (v : ℕ) → outcome d b v ≡ Underwater → (a : ℕ) × IsIn a (leaving d.graph v) × (is_triggered d b a ≡ true)
 unfolding outcome
 underwater_lost d b v e =
-    let k = underwater_parts (lost d b v == 0) (got d b v == 0) (nat_lt (got d b v) (length (entering d.graph v))) (lost d b v == length (leaving d.graph v)) e in
+    let k =
+    underwater_parts (lost d b v == 0) (got d b v == 0) (nat_lt (got d b v) (length (entering d.graph v)))
+    (lost d b v == length (leaving d.graph v)) e in
     some_passes (is_triggered d b) (leaving d.graph v) (grind (arith, nat_tests))
 
 pub underwater_missing : (d : Deal) (b : Histories) (v : ℕ) → outcome d b v ≡ Underwater → (a : ℕ) × IsIn a (entering d.graph v) × (is_got d b a ≡ false)
 unfolding outcome
 underwater_missing d b v e =
-    let k = underwater_parts (lost d b v == 0) (got d b v == 0) (nat_lt (got d b v) (length (entering d.graph v))) (lost d b v == length (leaving d.graph v)) e in
+    let k =
+    underwater_parts (lost d b v == 0) (got d b v == 0) (nat_lt (got d b v) (length (entering d.graph v)))
+    (lost d b v == length (leaving d.graph v)) e in
     some_fails (is_got d b) (entering d.graph v) (ltb-true (got d b v) (length (entering d.graph v)) k.1)
 
 -- A party with a triggered leaving arc is ready.
@@ -78,7 +83,8 @@ pub record Shown (b : Histories) (v : ℕ) : Type 0 where
   pub stands : IsIn entry (flat_map (λ h. h) b)
   pub called : call_by v entry ≡ Some (Unlock key)
 
-pub shown_timelocks : (d : Deal) (b : Histories) (v : ℕ) (key : Hashkey) → forges Timelocks d b v (Some (Unlock key)) ≡ false → is_wrong_secret (hashlock_of d key.lock) key ≡ false → leads d v key.lock ≡ true → Shown b v
+pub shown_timelocks : (d : Deal) (b : Histories) (v : ℕ) (key : Hashkey) → forges Timelocks d b v (Some (Unlock key)) ≡ false
+    → is_wrong_secret (hashlock_of d key.lock) key ≡ false → leads d v key.lock ≡ true → Shown b v
 unfolding forges
 shown_timelocks d b v key f s l =
     let any = not-forged (bytes_eq (hash_of key.secret) (slice_index_or d.hashlocks key.lock [])) (leads d v key.lock) _ f (not-false _ s) l in
@@ -86,7 +92,8 @@ shown_timelocks d b v key f s l =
     let c = carried key.secret (call_by v e.now) e.passes in
     record { entry = e.now; key = c.0; stands = subst (IsIn e.now) (sym e.stands.1) (in_from_moment e.past e.now e.stands.0); called = c.1 }
 
-module _ (d : Deal) (b : Histories) (v : ℕ) (legal : IsLegalBook d b) (conducted : IsConducted d b v) (unforged : IsUnforged d b v) (some_lock : 0 < length d.leaders) where
+module _ (d : Deal) (b : Histories) (v : ℕ) (legal : IsLegalBook d b) (conducted : IsConducted d b v) (unforged : IsUnforged d b v)
+    (some_lock : 0 < length d.leaders) where
   -- the accepted unlock of an open lock of an arc that leaves v, under the correct terms
   pub record Opener (a i : ℕ) (opening : Opening) : Type 0 where
     pub opened : opened (history b a) i ≡ Some opening
@@ -134,7 +141,8 @@ module _ (d : Deal) (b : Histories) (v : ℕ) (legal : IsLegalBook d b) (conduct
       (o.0, opener_at a i w o.0 o.1)
 
   -- a follower by the rule of its publish, a leader by its own lock, which nobody opens without it
-  pub triggered_ready : (shown : (a i : ℕ) → i < length d.leaders → IsIn a (leaving d.graph v) → leads d v i ≡ true → (o : Opening) → Opener a i o → Shown b v) → (a : ℕ) → IsIn a (leaving d.graph v) → is_triggered d b a ≡ true → is_ready d b v ≡ true
+  pub triggered_ready : (shown : (a i : ℕ) → i < length d.leaders → IsIn a (leaving d.graph v) → leads d v i ≡ true → (o : Opening) → Opener a i o
+      → Shown b v) → (a : ℕ) → IsIn a (leaving d.graph v) → is_triggered d b a ≡ true → is_ready d b v ≡ true
   triggered_ready shown a w t = go (leads_one d v) refl
     where
       go : (x : Bool) → leads_one d v ≡ x → is_ready d b v ≡ true

@@ -1,5 +1,6 @@
 -- Words on lists: pieces, prefixes and their moments.
-use Rattle.std.proofs.Common.{append_assoc, length-append, ◌≡◌, ◌≢◌, ◌⊎◌, ℕ, ◌+◌, ◌<◌, ◌≤◌, ◌==◌, Bool, true, false, cond, List, [], ◌∷◌, ◌++◌, length, None, refl, sym, ap, ◌∙◌, subst, inl, inr, arith, eqb-true, eq-eqb, append-nil}
+use Rattle.std.proofs.Common.{append_assoc, length-append, ◌≡◌, ◌≢◌, ◌⊎◌, ℕ, ◌+◌, ◌<◌, ◌≤◌, ◌==◌, Bool, true, false, cond, List, [], ◌∷◌, ◌++◌, length}
+use Rattle.std.proofs.Common.{None, refl, sym, ap, ◌∙◌, subst, inl, inr, arith, eqb-true, eq-eqb, append-nil}
 use Rattle.std.specs.List.{list_any, flat_map}
 use Rattle.std.proofs.lemmas.Bool.{false≢true}
 use Rattle.swap_base.specs.Lists.{IsIn, IsMoment}
@@ -13,7 +14,8 @@ use Rattle.swap_laws.specs.Machine.{Begins}
 -- what stands in the whole stands in a piece
 pub from_flat_map : {A B : Type 0} (f : A → List B) (xs : List A) (y : B) → IsIn y (flat_map f xs) → (x : A) × IsIn x xs × IsIn y (f x)
 from_flat_map f [] y i = absurd i
-from_flat_map f (x ∷ xs) y i = elim (from_append (f x) (flat_map f xs) y i) [ inl j ↦ (x, inl refl, j) | inr j ↦ (let r = from_flat_map f xs y j in (r.0, inr r.1, r.2)) ]
+from_flat_map f (x ∷ xs) y i =
+    elim (from_append (f x) (flat_map f xs) y i) [ inl j ↦ (x, inl refl, j) | inr j ↦ (let r = from_flat_map f xs y j in (r.0, inr r.1, r.2)) ]
 
 pub same_or_not : (m n : ℕ) → (m ≡ n) ⊎ (m ≢ n)
 same_or_not m n = go (m == n) refl
@@ -75,7 +77,9 @@ list_any-more p xs ys e =
     list_any-in p (xs ++ ys) f.now f.passes (in_append xs ys f.now (inl (subst (IsIn f.now) (sym f.stands.1) (in_from_moment f.past f.now f.stands.0))))
 
 pub list_any-none : {A : Type 0} (p : A → Bool) (xs : List A) → ((x : A) → IsIn x xs → p x ≡ false) → list_any p xs ≡ false
-list_any-none p xs h = not-true (list_any p xs) (λ e. let f = any_at p xs e in false≢true (sym (h f.now (subst (IsIn f.now) (sym f.stands.1) (in_from_moment f.past f.now f.stands.0))) ∙ f.passes))
+list_any-none p xs h =
+    not-true (list_any p xs) (λ e. let f = any_at p xs e in
+    false≢true (sym (h f.now (subst (IsIn f.now) (sym f.stands.1) (in_from_moment f.past f.now f.stands.0))) ∙ f.passes))
 
 pub in_any : {A : Type 0} (p : A → Bool) (xs : List A) → list_any p xs ≡ true → (x : A) × IsIn x xs × (p x ≡ true)
 in_any p xs e = let f = any_at p xs e in (f.now, subst (IsIn f.now) (sym f.stands.1) (in_from_moment f.past f.now f.stands.0), f.passes)

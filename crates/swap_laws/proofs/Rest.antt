@@ -1,5 +1,6 @@
 -- A party for which nothing is due rests: ticks change only the heights that refunds are tested at.
-use Rattle.std.proofs.Common.{◌≡◌, ◌≢◌, ◌⊎◌, ℕ, ◌≤◌, nat_lt, nat_le, Bool, true, false, cond, not, ◌&&◌, ◌||◌, List, [], ◌∷◌, ◌++◌, length, map, filter, set, Option, Some, None, is_some, is_none, refl, sym, ap, ◌∙◌, subst, inl, inr, arith, ltb-true, ltb-false}
+use Rattle.std.proofs.Common.{◌≡◌, ◌≢◌, ◌⊎◌, ℕ, ◌≤◌, nat_lt, nat_le, Bool, true, false, cond, not, ◌&&◌, ◌||◌, List, [], ◌∷◌, ◌++◌, length, map, filter}
+use Rattle.std.proofs.Common.{set, Option, Some, None, is_some, is_none, refl, sym, ap, ◌∙◌, subst, inl, inr, arith, ltb-true, ltb-false}
 use Rattle.std.specs.List.{list_any, list_all, flat_map}
 use Rattle.std.proofs.lemmas.Bool.{false≢true}
 use Rattle.std.proofs.lemmas.List.{set_past}
@@ -18,9 +19,11 @@ use Rattle.ledger_core.specs.declared.entry.What.TheVariants.{Call as Made, Tick
 use Rattle.ledger_core.specs.declared.entry.Entry.{Entry}
 use Rattle.ledger_core.specs.History.{height, accepted, accepted_in, publication, published, opening, opened, settling, settled, triggered, sent_by}
 use Rattle.ledger_core.specs.Book.{Histories, history}
-use Rattle.swap_rules.specs.Party.{is_correct_in, height_in, is_ready, is_triggered, least_expiry, has_expired, leads_one, call_in, call_by, key_without, first_seen_key}
+use Rattle.swap_rules.specs.Party.{is_correct_in, height_in, is_ready, is_triggered, least_expiry, has_expired, leads_one, call_in, call_by}
+use Rattle.swap_rules.specs.Party.{key_without, first_seen_key}
 use Rattle.swap_rules.specs.Conduct.{is_publish}
-use Rattle.swap_rules.specs.Due.{Wallet, is_unlock_for, is_claiming, is_refunding, has_called, is_due_publish, seen_key, extended, due_key, presented, due_unlock_on, is_due_claim, is_due_refund, when_due, due_publishes, due_unlocks, due_claims, due_refunds, due}
+use Rattle.swap_rules.specs.Due.{Wallet, is_unlock_for, is_claiming, is_refunding, has_called, is_due_publish, seen_key, extended, due_key, presented}
+use Rattle.swap_rules.specs.Due.{due_unlock_on, is_due_claim, is_due_refund, when_due, due_publishes, due_unlocks, due_claims, due_refunds, due}
 use Rattle.swap_laws.specs.Rest.{is_ticking, are_ticks, is_waiting, least_of, rest_until, StaysLow, TicksMakeNothingDue}
 use Rattle.swap_laws.proofs.History.{not-true}
 use Rattle.swap_laws.proofs.Words.{append_empty}
@@ -44,19 +47,23 @@ not_called v e t = go (sent_by v e.sender) e.what t
     go true (Tick k) t = refl
     go false w t = refl
 
-none_first : {B : Type 0} (f : Entry → Option B) → ((e : Entry) → is_ticking e.what ≡ true → f e ≡ None) → (more : List Entry) → are_ticks more ≡ true → first_of f more ≡ None
+none_first : {B : Type 0} (f : Entry → Option B) → ((e : Entry) → is_ticking e.what ≡ true → f e ≡ None) → (more : List Entry) → are_ticks more ≡ true
+    → first_of f more ≡ None
 none_first f h [] t = refl
-none_first f h (e ∷ more) t = let p = and_parts (is_ticking e.what) (are_ticks more) t in ap (λ o. or_else o (first_of f more)) (h e p.0) ∙ none_first f h more p.1
+none_first f h (e ∷ more) t = let p =
+    and_parts (is_ticking e.what) (are_ticks more) t in ap (λ o. or_else o (first_of f more)) (h e p.0) ∙ none_first f h more p.1
 
 or_none : {B : Type 0} (o : Option B) → or_else o None ≡ o
 or_none None = refl
 or_none (Some x) = refl
 
 -- a first answer that no tick gives is the same
-pub first_past : {B : Type 0} (f : Entry → Option B) → ((e : Entry) → is_ticking e.what ≡ true → f e ≡ None) → (h more : List Entry) → are_ticks more ≡ true → first_of f (h ++ more) ≡ first_of f h
+pub first_past : {B : Type 0} (f : Entry → Option B) → ((e : Entry) → is_ticking e.what ≡ true → f e ≡ None) → (h more : List Entry)
+    → are_ticks more ≡ true → first_of f (h ++ more) ≡ first_of f h
 first_past f n h more t = first_of-append f h more ∙ (ap (or_else (first_of f h)) (none_first f n more t) ∙ or_none (first_of f h))
 
-any_past : (p : Entry → Bool) → ((e : Entry) → is_ticking e.what ≡ true → p e ≡ false) → (h more : List Entry) → are_ticks more ≡ true → list_any p (h ++ more) ≡ list_any p h
+any_past : (p : Entry → Bool) → ((e : Entry) → is_ticking e.what ≡ true → p e ≡ false) → (h more : List Entry) → are_ticks more ≡ true
+    → list_any p (h ++ more) ≡ list_any p h
 any_past p n [] [] t = refl
 any_past p n [] (e ∷ more) t = let q = and_parts (is_ticking e.what) (are_ticks more) t in ap (λ b. b || list_any p more) (n e q.0) ∙ any_past p n [] more q.1
 any_past p n (e ∷ h) more t = ap (λ b. p e || b) (any_past p n h more t)
@@ -99,14 +106,18 @@ module _ (d : Deal) (v : ℕ) (b c : Histories) (same : (a : ℕ) → ReadsSame 
 
   ready_on : is_ready d c v ≡ is_ready d b v
   unfolding is_ready
-  ready_on = λ j. list_all (λ a. is_correct_in d a (published_on a j) && nat_le (height_in (published_on a j)) (times.open_by d.start d.delta d.bound)) (entering d.graph v)
+  ready_on =
+      λ j. list_all (λ a. is_correct_in d a (published_on a j) && nat_le (height_in (published_on a j)) (times.open_by d.start d.delta d.bound))
+      (entering d.graph v)
 
   seen_on : (i : ℕ) → first_seen_key d c v i ≡ first_seen_key d b v i
   seen_on i = λ j. first_of (λ a. key_without v (opened_on a i j)) (leaving d.graph v)
 
   pub same_publishes : due_publishes d v c ≡ due_publishes d v b
   unfolding is_due_publish
-  same_publishes = λ j. flat_map (λ a. when_due ((leads_one d v || ready_on j) && not (called_on is_publish a refl j)) a (Publish (terms_of d a))) (leaving d.graph v)
+  same_publishes =
+      λ j. flat_map (λ a. when_due ((leads_one d v || ready_on j) && not (called_on is_publish a refl j)) a (Publish (terms_of d a)))
+      (leaving d.graph v)
 
   pub same_unlocks : (w : Wallet) (signed : ℕ → Option Hashkey) → due_unlocks d v w signed c ≡ due_unlocks d v w signed b
   unfolding due_unlock_on due_key seen_key
@@ -115,7 +126,9 @@ module _ (d : Deal) (v : ℕ) (b c : Histories) (same : (a : ℕ) → ReadsSame 
 
   pub same_claims : due_claims d v c ≡ due_claims d v b
   unfolding is_due_claim
-  same_claims = λ j. flat_map (λ a. when_due (is_correct_in d a (published_on a j) && triggered_on a j && not (called_on is_claiming a refl j)) a Claim) (entering d.graph v)
+  same_claims =
+      λ j. flat_map (λ a. when_due (is_correct_in d a (published_on a j) && triggered_on a j && not (called_on is_claiming a refl j)) a Claim)
+      (entering d.graph v)
 
   pub same_waiting : (a : ℕ) → is_waiting d v c a ≡ is_waiting d v b a
   same_waiting a = λ j. is_some (published_on a j) && is_none (settled_on a j) && not (triggered_on a j) && not (called_on is_refunding a refl j)
@@ -162,7 +175,8 @@ module _ (d : Deal) (v : ℕ) (k : Histories) (a : ℕ) where
   by_wait false e low = not_due_by carries unsettled closed expired unasked e
   by_wait true e low =
       let under : height (history k a) ≤ least_expiry d a (history k a) = low e in
-      unexpired carries unsettled closed expired unasked (not-true expired (λ x. let above = expired-least d a (history k a) (height (history k a)) x in omega arith))
+      unexpired carries unsettled closed expired unasked (not-true expired (λ x. let above = expired-least d a (history k a) (height (history k a)) x in
+      omega arith))
 
   -- no refund is due on an arc on which v doesn't wait, or whose ledger isn't above the least expiry
   no_refund : IsLow → is_due_refund d v k a ≡ false
@@ -171,11 +185,14 @@ module _ (d : Deal) (v : ℕ) (k : Histories) (a : ℕ) where
 
 same_refund : (d : Deal) (v : ℕ) (b c : Histories) (a : ℕ) → history c a ≡ history b a → is_due_refund d v c a ≡ is_due_refund d v b a
 unfolding is_due_refund
-same_refund d v b c a e = λ j. is_some (published (e j)) && is_none (settled (e j)) && not (triggered d (e j)) && has_expired d a (e j) (height (e j)) && not (has_called v is_refunding (e j))
+same_refund d v b c a e =
+    λ j. is_some (published (e j)) && is_none (settled (e j)) && not (triggered d (e j)) && has_expired d a (e j) (height (e j))
+    && not (has_called v is_refunding (e j))
 
 no_refunds : (test : ℕ → Bool) (arcs : List ℕ) → ((a : ℕ) → IsIn a arcs → test a ≡ false) → flat_map (λ a. when_due (test a) a Refund) arcs ≡ []
 no_refunds test [] h = refl
-no_refunds test (a ∷ arcs) h = ap (λ b. when_due b a Refund ++ flat_map (λ a. when_due (test a) a Refund) arcs) (h a (inl refl)) ∙ no_refunds test arcs (λ c i. h c (inr i))
+no_refunds test (a ∷ arcs) h =
+    ap (λ b. when_due b a Refund ++ flat_map (λ a. when_due (test a) a Refund) arcs) (h a (inl refl)) ∙ no_refunds test arcs (λ c i. h c (inr i))
 
 -- The height of rest.
 
@@ -225,7 +242,8 @@ module _ (d : Deal) (v : ℕ) (w : Wallet) (signed : ℕ → Option Hashkey) (k 
           let here : IsIn a (leaving d.graph v) = subst (λ z. IsIn z (leaving d.graph v)) e.0 i in
           let waited : is_waiting d v k a ≡ true = ap (is_waiting d v k) (sym e.0) ∙ (sym (same_waiting d v k after reads c) ∙ waits) in
           let high : height (history after c) ≡ height (history k a ++ more) = ap height e.1 in
-          let same : least_expiry d c (history after c) ≡ least_expiry d a (history k a) = same_expiry d v k after reads c ∙ ap (λ z. least_expiry d z (history k z)) e.0 in
+          let same : least_expiry d c (history after c) ≡ least_expiry d a (history k a) =
+          same_expiry d v k after reads c ∙ ap (λ z. least_expiry d z (history k z)) e.0 in
           let under = low here waited in
           omega arith)
 

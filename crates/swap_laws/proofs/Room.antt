@@ -1,5 +1,6 @@
 -- The entries of a party that keeps its rules never fill a ledger.
-use Rattle.std.proofs.Common.{length-append, count_by, ◌≡◌, ◌⊎◌, ℕ, suc, zero, ◌+◌, ◌≤◌, Bool, true, false, cond, not, List, [], ◌∷◌, ◌++◌, length, Option, Some, None, refl, sym, ap, ◌∙◌, inl, inr, arith, eq-eqb, leb-true, map}
+use Rattle.std.proofs.Common.{length-append, count_by, ◌≡◌, ◌⊎◌, ℕ, suc, zero, ◌+◌, ◌≤◌, Bool, true, false, cond, not, List, [], ◌∷◌, ◌++◌, length}
+use Rattle.std.proofs.Common.{Option, Some, None, refl, sym, ap, ◌∙◌, inl, inr, arith, eq-eqb, leb-true, map}
 use Rattle.std.specs.List.{range_with_len}
 use Rattle.std.proofs.lemmas.Bool.{false≢true}
 use Rattle.std.proofs.lemmas.List.Sums.{sum_by-append, sum_by-cons}
@@ -47,14 +48,16 @@ count_le p q (x ∷ xs) h =
     let e4 = count_le p q xs h in
     omega arith
 
-count_less : {A : Type 0} (p q : A → Bool) (xs : List A) → ((x : A) → q x ≡ true → p x ≡ true) → (y : A) → IsIn y xs → p y ≡ true → q y ≡ false → count_by q xs + 1 ≤ count_by p xs
+count_less : {A : Type 0} (p q : A → Bool) (xs : List A) → ((x : A) → q x ≡ true → p x ≡ true) → (y : A) → IsIn y xs → p y ≡ true → q y ≡ false
+    → count_by q xs + 1 ≤ count_by p xs
 count_less p q [] h y i py qy = absurd i
 count_less p q (x ∷ xs) h y i py qy =
     let e1 : count_by p (x ∷ xs) ≡ cond (p x) 1 0 + count_by p xs = sum_by-cons (λ z. cond (p z) 1 0) x xs in
     let e2 : count_by q (x ∷ xs) ≡ cond (q x) 1 0 + count_by q xs = sum_by-cons (λ z. cond (q z) 1 0) x xs in
     go i e1 e2 (λ j. count_less p q xs h y j py qy)
   where
-    go : (y ≡ x) ⊎ IsIn y xs → count_by p (x ∷ xs) ≡ cond (p x) 1 0 + count_by p xs → count_by q (x ∷ xs) ≡ cond (q x) 1 0 + count_by q xs → (IsIn y xs → count_by q xs + 1 ≤ count_by p xs) → count_by q (x ∷ xs) + 1 ≤ count_by p (x ∷ xs)
+    go : (y ≡ x) ⊎ IsIn y xs → count_by p (x ∷ xs) ≡ cond (p x) 1 0 + count_by p xs → count_by q (x ∷ xs) ≡ cond (q x) 1 0 + count_by q xs
+        → (IsIn y xs → count_by q xs + 1 ≤ count_by p xs) → count_by q (x ∷ xs) + 1 ≤ count_by p (x ∷ xs)
     go (inl e) e1 e2 again =
         let b1 : ◌≡◌ {A = ℕ} (cond (p x) 1 0) 1 = ap (λ z. cond {A = ℕ} z 1 0) (ap p (sym e) ∙ py) in
         let b2 : ◌≡◌ {A = ℕ} (cond (q x) 1 0) 0 = ap (λ z. cond {A = ℕ} z 1 0) (ap q (sym e) ∙ qy) in
@@ -83,7 +86,9 @@ count_push p xs x =
 -- Each entry of v is the first of its rule.
 
 abbrev Fresh : Deal → ℕ → List Entry → Type 0
-Fresh d v h = (past : List Entry) (e : Entry) → IsMoment h past e → sent_by v e.sender ≡ true → (r : Rule) × IsIn r (rules_of d) × (test_of r (call_by v e) ≡ true) × (has_called v (test_of r) past ≡ false)
+Fresh d v h =
+    (past : List Entry) (e : Entry) → IsMoment h past e → sent_by v e.sender ≡ true
+    → (r : Rule) × IsIn r (rules_of d) × (test_of r (call_by v e) ≡ true) × (has_called v (test_of r) past ≡ false)
 
 abbrev waits : ℕ → List Entry → Rule → Bool
 waits v h r = not (has_called v (test_of r) h)
@@ -98,19 +103,26 @@ own_count d v h f = grow (λ h. Fresh d v h → count_by (λ e. sent_by v e.send
     start : Fresh d v [] → count_by (λ (e : Entry). sent_by v e.sender) [] + count_by (waits v []) (rules_of d) ≤ length (rules_of d)
     start f = let c = count_top (waits v []) (rules_of d) in let z : count_by (λ (e : Entry). sent_by v e.sender) [] ≡ 0 = refl in omega arith
 
-    more : (xs : List Entry) (x : Entry) → (Fresh d v xs → count_by (λ e. sent_by v e.sender) xs + count_by (waits v xs) (rules_of d) ≤ length (rules_of d)) → Fresh d v (xs ++ x ∷ []) → count_by (λ e. sent_by v e.sender) (xs ++ x ∷ []) + count_by (waits v (xs ++ x ∷ [])) (rules_of d) ≤ length (rules_of d)
+    more : (xs : List Entry) (x : Entry)
+        → (Fresh d v xs → count_by (λ e. sent_by v e.sender) xs + count_by (waits v xs) (rules_of d) ≤ length (rules_of d)) → Fresh d v (xs ++ x ∷ [])
+        → count_by (λ e. sent_by v e.sender) (xs ++ x ∷ []) + count_by (waits v (xs ++ x ∷ [])) (rules_of d) ≤ length (rules_of d)
     more xs x rest f =
         let before = rest (λ past e m s. f past e (moment_more xs (xs ++ x ∷ []) past e (x ∷ [], refl) m) s) in
         go before (count_push (λ e. sent_by v e.sender) xs x) (sent_by v x.sender) refl
       where
         drops : (r : Rule) → waits v (xs ++ x ∷ []) r ≡ true → waits v xs r ≡ true
-        drops r e = not-mono (has_called v (test_of r) xs) (has_called v (test_of r) (xs ++ x ∷ [])) (λ q. list_any-more (λ y. test_of r (call_by v y)) xs (x ∷ []) q) e
+        drops r e =
+            not-mono (has_called v (test_of r) xs) (has_called v (test_of r) (xs ++ x ∷ [])) (λ q.
+            list_any-more (λ y. test_of r (call_by v y)) xs (x ∷ []) q) e
 
-        go : count_by (λ e. sent_by v e.sender) xs + count_by (waits v xs) (rules_of d) ≤ length (rules_of d) → count_by (λ e. sent_by v e.sender) (xs ++ x ∷ []) ≡ count_by (λ e. sent_by v e.sender) xs + cond (sent_by v x.sender) 1 0
-            → (y : Bool) → sent_by v x.sender ≡ y → count_by (λ e. sent_by v e.sender) (xs ++ x ∷ []) + count_by (waits v (xs ++ x ∷ [])) (rules_of d) ≤ length (rules_of d)
+        go : count_by (λ e. sent_by v e.sender) xs + count_by (waits v xs) (rules_of d) ≤ length (rules_of d)
+            → count_by (λ e. sent_by v e.sender) (xs ++ x ∷ []) ≡ count_by (λ e. sent_by v e.sender) xs + cond (sent_by v x.sender) 1 0
+            → (y : Bool) → sent_by v x.sender ≡ y → count_by (λ e. sent_by v e.sender) (xs ++ x ∷ []) + count_by (waits v (xs ++ x ∷ [])) (rules_of d)
+            ≤ length (rules_of d)
         go before c true e =
             let r = f xs x ([], refl) e in
-            let here : has_called v (test_of r.0) (xs ++ x ∷ []) ≡ true = list_any-in (λ y. test_of r.0 (call_by v y)) (xs ++ x ∷ []) x r.2 (in_append xs (x ∷ []) x (inr (inl refl))) in
+            let here : has_called v (test_of r.0) (xs ++ x ∷ []) ≡ true =
+            list_any-in (λ y. test_of r.0 (call_by v y)) (xs ++ x ∷ []) x r.2 (in_append xs (x ∷ []) x (inr (inl refl))) in
             let less = count_less (waits v xs) (waits v (xs ++ x ∷ [])) (rules_of d) drops r.0 r.1 (ap not r.3) (ap not here) in
             let b : ◌≡◌ {A = ℕ} (cond (sent_by v x.sender) 1 0) 1 = ap (λ z. cond {A = ℕ} z 1 0) e in
             omega arith
@@ -119,7 +131,8 @@ own_count d v h f = grow (λ h. Fresh d v h → count_by (λ e. sent_by v e.send
             let b : ◌≡◌ {A = ℕ} (cond (sent_by v x.sender) 1 0) 0 = ap (λ z. cond {A = ℕ} z 1 0) e in
             omega arith
 
-own_call : (d : Deal) (a : ℕ) (past : List Entry) (v : ℕ) (s : Sender) (w : What) (at : ℕ) (r : Reply) → IsLegalEntry d a past s w at r → sent_by v s ≡ true → (c : Call) × (call_in w ≡ Some c)
+own_call : (d : Deal) (a : ℕ) (past : List Entry) (v : ℕ) (s : Sender) (w : What) (at : ℕ) (r : Reply) → IsLegalEntry d a past s w at r
+    → sent_by v s ≡ true → (c : Call) × (call_in w ≡ Some c)
 own_call d a past v (Party p) (Made c) at r l e = (c, refl)
 own_call d a past v (Party p) (Tick k) at r l e = absurd l
 own_call d a past v Clock w at r l e = absurd (cc e)
@@ -134,7 +147,8 @@ length-range k (suc n) = ap suc (length-range (k + 1) n)
 
 number_of_rules : (d : Deal) → length (rules_of d) ≡ length d.leaders + 3
 number_of_rules d =
-    let e1 : length (rules_of d) ≡ length (ToPublish ∷ [] ++ map ToUnlock (locks d)) + length (ToClaim ∷ ToRefund ∷ []) = length-append (ToPublish ∷ [] ++ map ToUnlock (locks d)) (ToClaim ∷ ToRefund ∷ []) in
+    let e1 : length (rules_of d) ≡ length (ToPublish ∷ [] ++ map ToUnlock (locks d)) + length (ToClaim ∷ ToRefund ∷ []) =
+    length-append (ToPublish ∷ [] ++ map ToUnlock (locks d)) (ToClaim ∷ ToRefund ∷ []) in
     let e2 : length (map ToUnlock (locks d)) ≡ length (locks d) = length-map-to ToUnlock (locks d) in
     let e3 : length (locks d) ≡ length d.leaders = length-range 0 (length d.leaders) in
     let e4 : length (ToPublish ∷ [] ++ map ToUnlock (locks d)) ≡ suc (length (map ToUnlock (locks d))) = refl in
@@ -144,11 +158,14 @@ number_of_rules d =
 module _ (d : Deal) (b : Histories) (signed : ℕ → Option Hashkey) (v : ℕ) (k : IsAccepted d) (legal : IsLegalBook d b) (rules : KeepsRules d b signed v) where
   fresh : (a : ℕ) → Fresh d v (history b a)
   fresh a past e m s =
-      let c = own_call d a past v e.sender e.what e.height e.reply (at_moment (IsLegalMoment d a) (history b a) past e (legal.legal a (below_of b a past e m)) m) s in
+      let c =
+      own_call d a past v e.sender e.what e.height e.reply
+      (at_moment (IsLegalMoment d a) (history b a) past e (legal.legal a (below_of b a past e m)) m) s in
       let q : call_by v e ≡ Some c.0 = ap (λ z. cond z (call_in e.what) None) s ∙ c.1 in
       go c.0 q (rules.own a past e c.0 m q)
     where
-      go : (c : Call) → call_by v e ≡ Some c → KeepsOwn d b signed v a past c → (r : Rule) × IsIn r (rules_of d) × (test_of r (call_by v e) ≡ true) × (has_called v (test_of r) past ≡ false)
+      go : (c : Call) → call_by v e ≡ Some c → KeepsOwn d b signed v a past c
+          → (r : Rule) × IsIn r (rules_of d) × (test_of r (call_by v e) ≡ true) × (has_called v (test_of r) past ≡ false)
       go (Publish t) q r = (ToPublish, publish_rule d, ap is_publish q, r.2)
       go (Unlock key) q r =
           let low = (rules.keys key.lock key r.2).below in

@@ -1,9 +1,11 @@
 -- With hashkeys, no conducted party that is never late, and in whose name nothing is forged, ends underwater.
-use Rattle.std.proofs.Common.{◌≡◌, ◌≢◌, ℕ, suc, ◌+◌, ◌<◌, ◌≤◌, ◌==◌, Bool, true, false, cond, not, ◌-◌, if◌then◌else◌, max, ◌&&◌, ◌||◌, List, [], ◌∷◌, length, Option, Some, None, is_some, refl, sym, ap, ◌∙◌, subst, arith, eq-eqb}
+use Rattle.std.proofs.Common.{◌≡◌, ◌≢◌, ℕ, suc, ◌+◌, ◌<◌, ◌≤◌, ◌==◌, Bool, true, false, cond, not, ◌-◌, if◌then◌else◌, max, ◌&&◌, ◌||◌, List, [], ◌∷◌}
+use Rattle.std.proofs.Common.{length, Option, Some, None, is_some, refl, sym, ap, ◌∙◌, subst, arith, eq-eqb}
 use Rattle.std.specs.List.{flat_map}
 use Rattle.std.proofs.lemmas.Bool.{false≢true}
 use Rattle.swap_base.specs.Lists.{IsIn, IsMoment, greatest}
-use Rattle.swap_base.proofs.Lists.{first_of-in, any_at, list_all-in, list_any-in, or-right, from_range, and_parts, and_both, greatest-in, greatest-below, in_from_moment, moment_from_in}
+use Rattle.swap_base.proofs.Lists.{first_of-in, any_at, list_all-in, list_any-in, or-right, from_range, and_parts, and_both, greatest-in}
+use Rattle.swap_base.proofs.Lists.{greatest-below, in_from_moment, moment_from_in}
 use Rattle.swap_digraph.specs.declared.deal.Deal.{Deal}
 use Rattle.swap_digraph.specs.declared.deal.Mode.TheVariants.{Hashkeys}
 use Rattle.swap_digraph.specs.Graph.{last_is, arcs_of, leaving, entering, is_among}
@@ -44,12 +46,14 @@ made_for b v key h =
     let e = any_at (λ e. is_first_key (key_in key.lock (call_by v e)) key) (flat_map (λ h. h) b) h in
     go e.now (subst (IsIn e.now) (sym e.stands.1) (in_from_moment e.past e.now e.stands.0)) (key_in key.lock (call_by v e.now)) refl e.passes
   where
-    go : (e : Entry) → IsIn e (flat_map (λ h. h) b) → (o : Option Hashkey) → key_in key.lock (call_by v e) ≡ o → is_first_key o key ≡ true → MadeFor b v key.lock
+    go : (e : Entry) → IsIn e (flat_map (λ h. h) b) → (o : Option Hashkey) → key_in key.lock (call_by v e) ≡ o → is_first_key o key ≡ true
+        → MadeFor b v key.lock
     go e i None k q = absurd (cc q)
     go e i (Some k') k q = let parts = key_parts key.lock (call_by v e) k' k in record { entry = e; key = k'; stands = i; called = parts.0; lock = parts.1 }
 
 -- a hashkey that isn't forged in v's name, with v on its path, shows a call of v for its lock
-suffix_made : (b : Histories) (v : ℕ) (key : Hashkey) (p : List ℕ) (sigs : List Sig) → has_forged_suffix b v key p sigs ≡ false → length p ≡ length sigs → is_among v p ≡ true → MadeFor b v key.lock
+suffix_made : (b : Histories) (v : ℕ) (key : Hashkey) (p : List ℕ) (sigs : List Sig) → has_forged_suffix b v key p sigs ≡ false → length p ≡ length sigs
+    → is_among v p ≡ true → MadeFor b v key.lock
 suffix_made b v key [] sigs f l i = absurd (cc i)
 suffix_made b v key (u ∷ p) [] f l i = absurd (cc l)
 suffix_made b v key (u ∷ p) (s ∷ sigs) f l i =
@@ -57,12 +61,14 @@ suffix_made b v key (u ∷ p) (s ∷ sigs) f l i =
     (made_for b v (record { lock = key.lock; secret = key.secret; path = u ∷ p; sigs = s ∷ sigs }))
     (λ g j. suffix_made b v key p sigs g (omega arith) j)
   where
-    go : (x y z : Bool) → ((x && not y) || z) ≡ false → (x || is_among v p) ≡ true → (y ≡ true → MadeFor b v key.lock) → (z ≡ false → is_among v p ≡ true → MadeFor b v key.lock) → MadeFor b v key.lock
+    go : (x y z : Bool) → ((x && not y) || z) ≡ false → (x || is_among v p) ≡ true → (y ≡ true → MadeFor b v key.lock)
+        → (z ≡ false → is_among v p ≡ true → MadeFor b v key.lock) → MadeFor b v key.lock
     go true true z f i m rest = m refl
     go true false z f i m rest = absurd (cc f)
     go false y z f i m rest = rest f i
 
-forges_hashkeys : (b : Histories) (d : Deal) (v : ℕ) (key : Hashkey) → forges Hashkeys d b v (Some (Unlock key)) ≡ false → has_forged_suffix b v key key.path key.sigs ≡ false
+forges_hashkeys : (b : Histories) (d : Deal) (v : ℕ) (key : Hashkey) → forges Hashkeys d b v (Some (Unlock key)) ≡ false
+    → has_forged_suffix b v key key.path key.sigs ≡ false
 unfolding forges
 forges_hashkeys b d v key h = h
 
@@ -78,7 +84,8 @@ pub record Extended (d : Deal) (b : Histories) (v : ℕ) (key : Hashkey) (t : �
   pub height : now.height ≡ t
   pub extends : extends_with v inner key.path key.sigs key ≡ true
 
-pub extended_key : (v : ℕ) (key : Hashkey) (o : Option Call) → extends v key o ≡ true → (inner : Hashkey) × (o ≡ Some (Unlock inner)) × (extends_with v inner key.path key.sigs key ≡ true)
+pub extended_key : (v : ℕ) (key : Hashkey) (o : Option Call) → extends v key o ≡ true
+    → (inner : Hashkey) × (o ≡ Some (Unlock inner)) × (extends_with v inner key.path key.sigs key ≡ true)
 extended_key v key (Some (Unlock inner)) e = (inner, refl, e)
 extended_key v key None e = absurd (cc e)
 extended_key v key (Some (Publish t)) e = absurd (cc e)
@@ -98,22 +105,27 @@ extended_without v key (Some Claim) e = absurd (cc e)
 extended_without v key (Some Refund) e = absurd (cc e)
 extended_without v key (Some (Transfer to units)) e = absurd (cc e)
 
-pub used_below : (d : Deal) (b : Histories) (v : ℕ) (test : Entry → Bool) (n : ℕ) → ((a : ℕ) (past : List Entry) (e : Entry) → IsIn a (leaving d.graph v) → IsMoment (history b a) past e → test e ≡ true → e.height ≤ n) → greatest_used d b v test ≤ n
+pub used_below : (d : Deal) (b : Histories) (v : ℕ) (test : Entry → Bool) (n : ℕ)
+    → ((a : ℕ) (past : List Entry) (e : Entry) → IsIn a (leaving d.graph v) → IsMoment (history b a) past e → test e ≡ true → e.height ≤ n)
+    → greatest_used d b v test ≤ n
 used_below d b v test n h = greatest-below (λ a. greatest (λ e. height_if (test e) e.height) (history b a)) (leaving d.graph v) n
-    (λ a w. greatest-below (λ e. height_if (test e) e.height) (history b a) n (λ e i. let m = moment_from_in (history b a) e i in go (test e) e (h a m.0 e w m.1)))
+    (λ a w. greatest-below (λ e. height_if (test e) e.height) (history b a) n (λ e i. let m = moment_from_in (history b a) e i in
+    go (test e) e (h a m.0 e w m.1)))
   where
     go : (x : Bool) (e : Entry) → (x ≡ true → e.height ≤ n) → height_if x e.height ≤ n
     go true e f = f refl
     go false e f = omega arith
 
-pub used_in : (d : Deal) (b : Histories) (v : ℕ) (test : Entry → Bool) (a : ℕ) (e : Entry) → IsIn a (leaving d.graph v) → IsIn e (history b a) → test e ≡ true → e.height ≤ greatest_used d b v test
+pub used_in : (d : Deal) (b : Histories) (v : ℕ) (test : Entry → Bool) (a : ℕ) (e : Entry) → IsIn a (leaving d.graph v) → IsIn e (history b a)
+    → test e ≡ true → e.height ≤ greatest_used d b v test
 used_in d b v test a e w i t =
     let h1 = greatest-in (λ a. greatest (λ e. height_if (test e) e.height) (history b a)) (leaving d.graph v) a w in
     let h2 = greatest-in (λ e. height_if (test e) e.height) (history b a) e i in
     let h3 : ◌≡◌ {A = ℕ} (height_if (test e) e.height) e.height = ap (λ x. height_if x e.height) t in
     omega arith
 
-pub extended_of : (d : Deal) (b : Histories) (v : ℕ) (key : Hashkey) (a : ℕ) (past : List Entry) (e : Entry) → IsIn a (leaving d.graph v) → IsMoment (history b a) past e → extends v key (accepted e) ≡ true → Extended d b v key e.height
+pub extended_of : (d : Deal) (b : Histories) (v : ℕ) (key : Hashkey) (a : ℕ) (past : List Entry) (e : Entry) → IsIn a (leaving d.graph v)
+    → IsMoment (history b a) past e → extends v key (accepted e) ≡ true → Extended d b v key e.height
 extended_of d b v key a past e w m h =
     let k = extended_key v key (accepted e) h in
     record { arc = a; leaves = w; past = past; now = e; stands = m; inner = k.0; took = k.1; height = refl; extends = k.2 }
@@ -128,7 +140,8 @@ carried_key (Some inner) (Some (Transfer to units)) e = absurd (cc e)
 carried_key None c e = absurd (cc e)
 
 -- an extension's path has one arc more
-pub longer : (g : Hashkey) (v : ℕ) (inner : Hashkey) (p : List ℕ) (sigs : List Sig) (key : Hashkey) → extends_with v inner p sigs key ≡ true → (length p ≡ suc (length inner.path)) × (inner.lock ≡ key.lock)
+pub longer : (g : Hashkey) (v : ℕ) (inner : Hashkey) (p : List ℕ) (sigs : List Sig) (key : Hashkey) → extends_with v inner p sigs key ≡ true
+    → (length p ≡ suc (length inner.path)) × (inner.lock ≡ key.lock)
 longer g v inner [] sigs key e = absurd (cc e)
 longer g v inner (u ∷ p) [] key e = absurd (cc e)
 longer g v inner (u ∷ p) (s ∷ sigs) key e =
@@ -142,14 +155,16 @@ module _ (d : Deal) (b : Histories) (v : ℕ) (legal : IsLegalBook d b) (ended :
   last_is_deadline a key = ap (λ m. last_in m (terms_of d a) key) law.mode
 
   -- v's calls that an open lock of a leaving arc shows
-  made_of : (a i : ℕ) → IsIn a (leaving d.graph v) → (o : Opening) → Opener d b v legal conducted unforged law.lock a i o → is_among v o.key.path ≡ true → MadeFor b v i
+  made_of : (a i : ℕ) → IsIn a (leaving d.graph v) → (o : Opening) → Opener d b v legal conducted unforged law.lock a i o → is_among v o.key.path ≡ true
+      → MadeFor b v i
   made_of a i w o u among =
       let f : forges Hashkeys d b v (Some (Unlock o.key)) ≡ false =
       ap (λ m. forges m d b v (Some (Unlock o.key))) (sym law.mode) ∙ (ap (forges d.mode d b v) (sym u.took) ∙ unforged a u.past u.now w u.stands) in
       let p = path_of d a o.key law.mode u.path in
       subst (λ j. MadeFor b v j) u.lock (suffix_made b v o.key o.key.path o.key.sigs (forges_hashkeys b d v o.key f) p.lengths among)
 
-  shown_hashkeys : (a i : ℕ) → i < length d.leaders → IsIn a (leaving d.graph v) → leads d v i ≡ true → (o : Opening) → Opener d b v legal conducted unforged law.lock a i o → Shown b v
+  shown_hashkeys : (a i : ℕ) → i < length d.leaders → IsIn a (leaving d.graph v) → leads d v i ≡ true → (o : Opening)
+      → Opener d b v legal conducted unforged law.lock a i o → Shown b v
   shown_hashkeys a i below w l o u =
       let p = path_of d a o.key law.mode u.path in
       let last : last_is v o.key.path ≡ true = subst (λ x. last_is x o.key.path ≡ true) (ap (leader_of d) u.lock ∙ leader_reads d v i below l) p.last in
@@ -177,7 +192,8 @@ module _ (d : Deal) (b : Histories) (v : ℕ) (legal : IsLegalBook d b) (ended :
         }
 
     -- an unlock that was accepted on a leaving arc was in time
-    taken_in_time : (a : ℕ) (past : List Entry) (e : Entry) (key : Hashkey) → IsIn a (leaving d.graph v) → IsMoment (history b a) past e → accepted e ≡ Some (Unlock key)
+    taken_in_time : (a : ℕ) (past : List Entry) (e : Entry) (key : Hashkey) → IsIn a (leaving d.graph v) → IsMoment (history b a) past e
+        → accepted e ≡ Some (Unlock key)
         → (e.height ≤ times.deadline d.start d.delta d.bound (arcs_of key.path)) × (arcs_of key.path ≤ d.bound) × (0 < length key.path)
     taken_in_time a past e key w m took =
         let out = leaves d v a w in
@@ -192,7 +208,8 @@ module _ (d : Deal) (b : Histories) (v : ℕ) (legal : IsLegalBook d b) (ended :
         let e3 : e.height ≡ height done.past = done.at in
         (omega arith, k, some_length d.graph key.path p.path)
 
-    taken_ends : (a : ℕ) (past : List Entry) (e : Entry) (key : Hashkey) → IsIn a (leaving d.graph v) → IsMoment (history b a) past e → accepted e ≡ Some (Unlock key) → e.height ≤ times.last_expiry d.start d.delta d.bound
+    taken_ends : (a : ℕ) (past : List Entry) (e : Entry) (key : Hashkey) → IsIn a (leaving d.graph v) → IsMoment (history b a) past e
+        → accepted e ≡ Some (Unlock key) → e.height ≤ times.last_expiry d.start d.delta d.bound
     taken_ends a past e key w m took =
         let t = taken_in_time a past e key w m took in
         let x : e.height ≤ times.deadline d.start d.delta d.bound (arcs_of key.path) = t.0 in
@@ -202,11 +219,15 @@ module _ (d : Deal) (b : Histories) (v : ℕ) (legal : IsLegalBook d b) (ended :
 
     base_in_time : (i : ℕ) → i < length d.leaders → (o : Option Hashkey) → InTime o (base_of Hashkeys d b v i o)
     base_in_time i below None =
-        let h = used_below d b v (is_used d b v i None) (times.last_expiry d.start d.delta d.bound) (λ a past e w m t. let k = carried_key (first_seen_key d b v i) (accepted e) t in taken_ends a past e k.0 w m k.1) in
+        let h =
+        used_below d b v (is_used d b v i None) (times.last_expiry d.start d.delta d.bound) (λ a past e w m t.
+        let k = carried_key (first_seen_key d b v i) (accepted e) t in taken_ends a past e k.0 w m k.1) in
         let f = below_horizon d.start d.bound d.delta in
         record { ends = omega arith; early = λ key q. absurd (cc q) }
     base_in_time i below (Some first) =
-        let h = used_below d b v (is_used d b v i (Some first)) (times.last_expiry d.start d.delta d.bound) (λ a past e w m t. let k = extended_key v first (accepted e) t in taken_ends a past e k.0 w m k.1) in
+        let h =
+        used_below d b v (is_used d b v i (Some first)) (times.last_expiry d.start d.delta d.bound) (λ a past e w m t.
+        let k = extended_key v first (accepted e) t in taken_ends a past e k.0 w m k.1) in
         let f = below_horizon d.start d.bound d.delta in
         record {
           ends = omega arith;
@@ -224,7 +245,8 @@ module _ (d : Deal) (b : Histories) (v : ℕ) (legal : IsLegalBook d b) (ended :
               let l2 : length first.path ≡ length key.path = ap length same.1 in
               let l3 : arcs_of x.0.path + 1 ≡ arcs_of key.path = omega arith in
               let n = deadline_next d.start d.delta d.bound (arcs_of x.0.path) in
-              let n2 : times.deadline d.start d.delta d.bound (arcs_of x.0.path + 1) ≡ times.deadline d.start d.delta d.bound (arcs_of key.path) = ap (times.deadline d.start d.delta d.bound) l3 in
+              let n2 : times.deadline d.start d.delta d.bound (arcs_of x.0.path + 1) ≡ times.deadline d.start d.delta d.bound (arcs_of key.path) =
+              ap (times.deadline d.start d.delta d.bound) l3 in
               omega arith) in
               omega arith;
         }
@@ -240,14 +262,19 @@ module _ (d : Deal) (b : Histories) (v : ℕ) (legal : IsLegalBook d b) (ended :
     due_known_hashkeys a i w below known = go (leads d v i) refl
       where
         on : (is_among a (entering d.graph v) && is_ready d b v && is_known d b v i) ≡ true
-        on = and_both (is_among a (entering d.graph v) && is_ready d b v) _ (and_both (is_among a (entering d.graph v)) (is_ready d b v) (in-is_among a (entering d.graph v) w) ready) known
+        on =
+            and_both (is_among a (entering d.graph v) && is_ready d b v) _
+            (and_both (is_among a (entering d.graph v)) (is_ready d b v) (in-is_among a (entering d.graph v) w) ready) known
 
-        due_at : (r : ℕ) → (if leads d v i then ready_height d b v else max (ready_height d b v) (base_of d.mode d b v i (first_key b v i))) ≡ r → InTime (first_key b v i) r → DueUnlock d b v a i
+        due_at : (r : ℕ) → (if leads d v i then ready_height d b v else max (ready_height d b v) (base_of d.mode d b v i (first_key b v i))) ≡ r
+            → InTime (first_key b v i) r → DueUnlock d b v a i
         due_at r e in_time = record {
           within = below;
           ref = r;
           value = sym e;
-          enabled = ap (λ x. when x (if leads d v i then ready_height d b v else max (ready_height d b v) (base_of d.mode d b v i (first_key b v i)))) on ∙ ap Some e;
+          enabled =
+              ap (λ x. when x (if leads d v i then ready_height d b v else max (ready_height d b v) (base_of d.mode d b v i (first_key b v i)))) on
+              ∙ ap Some e;
           ends = in_time.ends;
           early = λ key valid first. let e1 = in_time.early key first in let e2 = last_is_deadline a key in omega arith;
         }
@@ -257,7 +284,8 @@ module _ (d : Deal) (b : Histories) (v : ℕ) (legal : IsLegalBook d b) (ended :
             due_at (ready_height d b v) (ap (λ x. cond x (ready_height d b v) (max (ready_height d b v) (base_of d.mode d b v i (first_key b v i)))) e)
             (first_in_time (ready_height d b v) g_low_hashkeys (first_key b v i))
         go false e =
-            due_at (max (ready_height d b v) (base_of d.mode d b v i (first_key b v i))) (ap (λ x. cond x (ready_height d b v) (max (ready_height d b v) (base_of d.mode d b v i (first_key b v i)))) e)
+            due_at (max (ready_height d b v) (base_of d.mode d b v i (first_key b v i)))
+            (ap (λ x. cond x (ready_height d b v) (max (ready_height d b v) (base_of d.mode d b v i (first_key b v i)))) e)
             (max_in_time (first_key b v i) (ready_height d b v) (base_of d.mode d b v i (first_key b v i))
             (first_in_time (ready_height d b v) g_low_hashkeys (first_key b v i))
             (subst (λ m. InTime (first_key b v i) (base_of m d b v i (first_key b v i))) (sym law.mode) (base_in_time i below (first_key b v i))))
@@ -276,8 +304,11 @@ module _ (d : Deal) (b : Histories) (v : ℕ) (legal : IsLegalBook d b) (ended :
       go true e =
           let m = made_of c i z o.0 u e in
           let key_is : key_in i (call_by v m.entry) ≡ Some m.key = ap (key_in i) m.called ∙ ap (λ x. cond x (Some m.key) None) (eq-eqb m.key.lock i m.lock) in
-          or-first (leads d v i) (is_some (first_key b v i)) _ (or-left (is_some (first_key b v i)) _ (first_of-in (λ e. key_in i (call_by v e)) (flat_map (λ h. h) b) m.entry m.key m.stands key_is))
-      go false e = or-right (leads d v i || is_some (first_key b v i)) _ (list_any-in (λ c. opens_without v (opened (history b c) i)) (leaving d.graph v) c (ap (opens_without v) o.1 ∙ ap not e) z)
+          or-first (leads d v i) (is_some (first_key b v i)) _
+          (or-left (is_some (first_key b v i)) _ (first_of-in (λ e. key_in i (call_by v e)) (flat_map (λ h. h) b) m.entry m.key m.stands key_is))
+      go false e =
+          or-right (leads d v i || is_some (first_key b v i)) _ (list_any-in (λ c.
+          opens_without v (opened (history b c) i)) (leaving d.graph v) c (ap (opens_without v) o.1 ∙ ap not e) z)
 
   pub passing_hashkeys : Passing d b v
   passing_hashkeys = record { ready = ready_hashkeys; known = known_open_hashkeys; due = due_known_hashkeys }
@@ -288,8 +319,11 @@ module _ (d : Deal) (b : Histories) (v : ℕ) (legal : IsLegalBook d b) (ended :
       let missing = underwater_missing d b v e in
       let ready = ready_hashkeys lost.0 lost.1 lost.2 in
       let has = gets_all d b v legal ended conducted on_time (times_of_hashkeys d law) ready
-      (λ a i w k. let below = from_range i (length d.leaders) k in due_known_hashkeys ready a i w below (known_open_hashkeys lost.0 i lost.1 (list_all-in (is_open (history b lost.0)) (locks d) i lost.2 k))) missing.0 missing.1 in
+      (λ a i w k. let below = from_range i (length d.leaders) k in
+      due_known_hashkeys ready a i w below (known_open_hashkeys lost.0 i lost.1 (list_all-in (is_open (history b lost.0)) (locks d) i lost.2 k)))
+      missing.0 missing.1 in
       false≢true (sym missing.2 ∙ has)
 
-pub hashkeys_are_safe : (d : Deal) (b : Histories) (v : ℕ) → HashkeyLaw d → IsLegalBook d b → IsEnded d b → IsConducted d b v → IsOnTime d b v → IsUnforged d b v → outcome d b v ≢ Underwater
+pub hashkeys_are_safe : (d : Deal) (b : Histories) (v : ℕ) → HashkeyLaw d → IsLegalBook d b → IsEnded d b → IsConducted d b v → IsOnTime d b v
+    → IsUnforged d b v → outcome d b v ≢ Underwater
 hashkeys_are_safe d b v law legal ended conducted on_time unforged = safety_hashkeys d b v legal ended conducted on_time unforged law

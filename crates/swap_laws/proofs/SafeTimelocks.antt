@@ -1,5 +1,6 @@
 -- With timelocks, no conducted party that is never late, and in whose name nothing is forged, ends underwater.
-use Rattle.std.proofs.Common.{◌≡◌, ◌≢◌, ℕ, ◌+◌, ◌<◌, ◌≤◌, Bool, true, false, cond, not, slice_index, ◌-◌, if◌then◌else◌, max, ◌&&◌, ◌||◌, length, Option, Some, None, is_some, refl, sym, ap, ◌∙◌, subst, arith}
+use Rattle.std.proofs.Common.{◌≡◌, ◌≢◌, ℕ, ◌+◌, ◌<◌, ◌≤◌, Bool, true, false, cond, not, slice_index, ◌-◌, if◌then◌else◌, max, ◌&&◌, ◌||◌, length}
+use Rattle.std.proofs.Common.{Option, Some, None, is_some, refl, sym, ap, ◌∙◌, subst, arith}
 use Rattle.std.proofs.lemmas.Bool.{false≢true}
 use Rattle.swap_base.specs.Lists.{IsIn, greatest}
 use Rattle.swap_base.proofs.Lists.{list_all-in, list_any-in, or-right, from_range, and_both, greatest-below}
@@ -31,7 +32,8 @@ module _ (d : Deal) (b : Histories) (v : ℕ) (legal : IsLegalBook d b) (ended :
   some_lock : 0 < length d.leaders
   some_lock = (times_of_timelocks d law).lock
 
-  shown : (a i : ℕ) → i < length d.leaders → IsIn a (leaving d.graph v) → leads d v i ≡ true → (o : Opening) → Opener d b v legal conducted unforged some_lock a i o → Shown b v
+  shown : (a i : ℕ) → i < length d.leaders → IsIn a (leaving d.graph v) → leads d v i ≡ true → (o : Opening)
+      → Opener d b v legal conducted unforged some_lock a i o → Shown b v
   shown a i below w l o u =
       let f : forges Timelocks d b v (Some (Unlock o.key)) ≡ false =
       ap (λ m. forges m d b v (Some (Unlock o.key))) (sym law.mode) ∙ (ap (forges d.mode d b v) (sym u.took) ∙ unforged a u.past u.now w u.stands) in
@@ -45,15 +47,19 @@ module _ (d : Deal) (b : Histories) (v : ℕ) (legal : IsLegalBook d b) (ended :
     g_low = ready_below d b v legal ended conducted on_time (times_of_timelocks d law) ready
 
     -- what was opened on a leaving arc can be passed on in time
-    base_low : (a : ℕ) → IsIn a (entering d.graph v) → leads d v 0 ≡ false → (o : Option Hashkey) → base_of d.mode d b v 0 o + d.delta ≤ slice_index d.timelocks a
+    base_low : (a : ℕ) → IsIn a (entering d.graph v) → leads d v 0 ≡ false → (o : Option Hashkey)
+        → base_of d.mode d b v 0 o + d.delta ≤ slice_index d.timelocks a
     base_low a w l o =
         let early : times.open_by d.start d.delta d.bound + d.delta ≤ slice_index d.timelocks a = law.opens a (enters d v a w).0 in
-        let k : base_of d.mode d b v 0 o ≡ greatest (λ c. height_of_opening (opened (history b c) 0)) (leaving d.graph v) = ap (λ m. base_of m d b v 0 o) law.mode in
+        let k : base_of d.mode d b v 0 o ≡ greatest (λ c. height_of_opening (opened (history b c) 0)) (leaving d.graph v) =
+        ap (λ m. base_of m d b v 0 o) law.mode in
         let low : greatest (λ c. height_of_opening (opened (history b c) 0)) (leaving d.graph v) ≤ slice_index d.timelocks a - d.delta =
-        greatest-below (λ c. height_of_opening (opened (history b c) 0)) (leaving d.graph v) (slice_index d.timelocks a - d.delta) (λ c z. go c z (opened (history b c) 0) refl) in
+        greatest-below (λ c. height_of_opening (opened (history b c) 0)) (leaving d.graph v) (slice_index d.timelocks a - d.delta) (λ c z.
+        go c z (opened (history b c) 0) refl) in
         omega arith
       where
-        go : (c : ℕ) → IsIn c (leaving d.graph v) → (o : Option Opening) → opened (history b c) 0 ≡ o → height_of_opening o ≤ slice_index d.timelocks a - d.delta
+        go : (c : ℕ) → IsIn c (leaving d.graph v) → (o : Option Opening) → opened (history b c) 0 ≡ o
+            → height_of_opening o ≤ slice_index d.timelocks a - d.delta
         go c z None e = omega arith
         go c z (Some x) e =
             let u = opener_at d b v legal conducted unforged some_lock c 0 z x e in
@@ -68,9 +74,12 @@ module _ (d : Deal) (b : Histories) (v : ℕ) (legal : IsLegalBook d b) (ended :
     due_known_zero a w known = go (leads d v 0) refl
       where
         on : (is_among a (entering d.graph v) && is_ready d b v && is_known d b v 0) ≡ true
-        on = and_both (is_among a (entering d.graph v) && is_ready d b v) _ (and_both (is_among a (entering d.graph v)) (is_ready d b v) (in-is_among a (entering d.graph v) w) ready) known
+        on =
+            and_both (is_among a (entering d.graph v) && is_ready d b v) _
+            (and_both (is_among a (entering d.graph v)) (is_ready d b v) (in-is_among a (entering d.graph v) w) ready) known
 
-        due_at : (r : ℕ) → (if leads d v 0 then ready_height d b v else max (ready_height d b v) (base_of d.mode d b v 0 (first_key b v 0))) ≡ r → r + d.delta ≤ slice_index d.timelocks a → DueUnlock d b v a 0
+        due_at : (r : ℕ) → (if leads d v 0 then ready_height d b v else max (ready_height d b v) (base_of d.mode d b v 0 (first_key b v 0))) ≡ r
+            → r + d.delta ≤ slice_index d.timelocks a → DueUnlock d b v a 0
         due_at r e low =
             let last : slice_index d.timelocks a ≤ times.last_expiry d.start d.delta d.bound = law.ends a (enters d v a w).0 in
             let more = below_horizon d.start d.bound d.delta in
@@ -78,21 +87,26 @@ module _ (d : Deal) (b : Histories) (v : ℕ) (legal : IsLegalBook d b) (ended :
               within = some_lock;
               ref = r;
               value = sym e;
-              enabled = ap (λ x. when x (if leads d v 0 then ready_height d b v else max (ready_height d b v) (base_of d.mode d b v 0 (first_key b v 0)))) on ∙ ap Some e;
+              enabled =
+                  ap (λ x. when x (if leads d v 0 then ready_height d b v else max (ready_height d b v) (base_of d.mode d b v 0 (first_key b v 0)))) on
+                  ∙ ap Some e;
               ends = omega arith;
-              early = λ key valid first. let same : last_in d.mode (terms_of d a) key ≡ slice_index d.timelocks a = last-timelock d (terms_of d a) key law.mode in omega arith;
+              early = λ key valid first. let same : last_in d.mode (terms_of d a) key ≡ slice_index d.timelocks a =
+                  last-timelock d (terms_of d a) key law.mode in omega arith;
             }
 
         go : (x : Bool) → leads d v 0 ≡ x → DueUnlock d b v a 0
         go true e =
             let g = g_low in
             let early : times.open_by d.start d.delta d.bound + d.delta ≤ slice_index d.timelocks a = law.opens a (enters d v a w).0 in
-            due_at (ready_height d b v) (ap (λ x. cond x (ready_height d b v) (max (ready_height d b v) (base_of d.mode d b v 0 (first_key b v 0)))) e) (omega arith)
+            due_at (ready_height d b v) (ap (λ x. cond x (ready_height d b v) (max (ready_height d b v) (base_of d.mode d b v 0 (first_key b v 0)))) e)
+            (omega arith)
         go false e =
             let g = g_low in
             let early : times.open_by d.start d.delta d.bound + d.delta ≤ slice_index d.timelocks a = law.opens a (enters d v a w).0 in
             let base = base_low a w e (first_key b v 0) in
-            due_at (max (ready_height d b v) (base_of d.mode d b v 0 (first_key b v 0))) (ap (λ x. cond x (ready_height d b v) (max (ready_height d b v) (base_of d.mode d b v 0 (first_key b v 0)))) e) (omega arith)
+            due_at (max (ready_height d b v) (base_of d.mode d b v 0 (first_key b v 0)))
+            (ap (λ x. cond x (ready_height d b v) (max (ready_height d b v) (base_of d.mode d b v 0 (first_key b v 0)))) e) (omega arith)
 
     due_known : (a i : ℕ) → IsIn a (entering d.graph v) → i < length d.leaders → is_known d b v i ≡ true → DueUnlock d b v a i
     due_known a i w below known =
@@ -118,8 +132,11 @@ module _ (d : Deal) (b : Histories) (v : ℕ) (legal : IsLegalBook d b) (ended :
       let missing = underwater_missing d b v e in
       let ready = ready_once lost.0 lost.1 lost.2 in
       let has = gets_all d b v legal ended conducted on_time (times_of_timelocks d law) ready
-      (λ a i w k. let below = from_range i (length d.leaders) k in due_known ready a i w below (known_open lost.0 i lost.1 (list_all-in (is_open (history b lost.0)) (locks d) i lost.2 k))) missing.0 missing.1 in
+      (λ a i w k. let below = from_range i (length d.leaders) k in
+      due_known ready a i w below (known_open lost.0 i lost.1 (list_all-in (is_open (history b lost.0)) (locks d) i lost.2 k))) missing.0 missing.1
+      in
       false≢true (sym missing.2 ∙ has)
 
-pub timelocks_are_safe : (d : Deal) (b : Histories) (v : ℕ) → TimelockLaw d → IsLegalBook d b → IsEnded d b → IsConducted d b v → IsOnTime d b v → IsUnforged d b v → outcome d b v ≢ Underwater
+pub timelocks_are_safe : (d : Deal) (b : Histories) (v : ℕ) → TimelockLaw d → IsLegalBook d b → IsEnded d b → IsConducted d b v → IsOnTime d b v
+    → IsUnforged d b v → outcome d b v ≢ Underwater
 timelocks_are_safe d b v law legal ended conducted on_time unforged = safety_timelocks d b v legal ended conducted on_time unforged law

@@ -1,5 +1,6 @@
 -- The times of an accepted deal, as the proofs use them.
-use Rattle.std.proofs.Common.{◌≡◌, ◌⊎◌, ℕ, ◌+◌, ◌<◌, ◌≤◌, ◌==◌, Bool, true, false, not, slice_index, if◌then◌else◌, ◌&&◌, List, [], length, refl, sym, ap, ◌∙◌, subst, inl, inr, arith, eqb-true, mul-le-mul_right, ◌*◌}
+use Rattle.std.proofs.Common.{◌≡◌, ◌⊎◌, ℕ, ◌+◌, ◌<◌, ◌≤◌, ◌==◌, Bool, true, false, not, slice_index, if◌then◌else◌, ◌&&◌, List, [], length, refl, sym}
+use Rattle.std.proofs.Common.{ap, ◌∙◌, subst, inl, inr, arith, eqb-true, mul-le-mul_right, ◌*◌}
 use Rattle.std.proofs.lemmas.List.{nil_from_length}
 use Rattle.swap_base.specs.Lists.{IsIn}
 use Rattle.swap_base.proofs.Lists.{and_parts}
@@ -25,7 +26,8 @@ pub record TimelockLaw (d : Deal) : Type 0 where
   pub one : length d.leaders ≡ 1
   pub opens : (a : ℕ) → a < length d.graph.arcs → times.open_by d.start d.delta d.bound + d.delta ≤ slice_index d.timelocks a
   pub ends : (a : ℕ) → a < length d.graph.arcs → slice_index d.timelocks a ≤ times.last_expiry d.start d.delta d.bound
-  pub steps : (v a c : ℕ) → IsIn a (entering d.graph v) → IsIn c (leaving d.graph v) → leads d v 0 ≡ false → slice_index d.timelocks c + d.delta ≤ slice_index d.timelocks a
+  pub steps : (v a c : ℕ) → IsIn a (entering d.graph v) → IsIn c (leaving d.graph v) → leads d v 0 ≡ false
+      → slice_index d.timelocks c + d.delta ≤ slice_index d.timelocks a
 
 -- What an accepted deal in hashkeys mode says of its times: no path to a leader has more arcs than the bound.
 pub record HashkeyLaw (d : Deal) : Type 0 where
@@ -46,7 +48,8 @@ pub record ExpiresEarly (d : Deal) (a j : ℕ) : Type 0 where
 -- The times of a deal, as the proofs of safety and refunds use them, in both modes and versions.
 pub record TimesLaw (d : Deal) : Type 0 where
   pub lock : 0 < length d.leaders
-  pub last : (a : ℕ) (key : Hashkey) → a < length d.graph.arcs → key.lock < length d.leaders → is_valid d a (hashlock_of d key.lock) key ≡ true → last_in d.mode (terms_of d a) key ≤ expiry d a key.lock
+  pub last : (a : ℕ) (key : Hashkey) → a < length d.graph.arcs → key.lock < length d.leaders → is_valid d a (hashlock_of d key.lock) key ≡ true
+      → last_in d.mode (terms_of d a) key ≤ expiry d a key.lock
   pub opens : (a i : ℕ) → a < length d.graph.arcs → times.open_by d.start d.delta d.bound + d.delta ≤ expiry d a i
   pub ends : (a i : ℕ) → a < length d.graph.arcs → expiry d a i + d.delta ≤ times.horizon d.start d.delta d.bound
   pub early : (a i j : ℕ) → a < length d.graph.arcs → (expiry d a i ≤ expiry d a j) ⊎ ExpiresEarly d a j
@@ -108,7 +111,9 @@ pub record PathOf (d : Deal) (a : ℕ) (key : Hashkey) : Type 0 where
 pub path_of : (d : Deal) (a : ℕ) (key : Hashkey) → d.mode ≡ Hashkeys → is_wrong_path d a d.mode key ≡ false → PathOf d a key
 path_of d a key m k =
     let h = not-false _ (ap (λ x. is_wrong_path d a x key) (sym m) ∙ k) in
-    let k1 = and_parts (is_path d.graph key.path && first_is (counterparty d a) key.path && last_is (leader_of d key.lock) key.path) (length key.path == length key.sigs) h in
+    let k1 =
+    and_parts (is_path d.graph key.path && first_is (counterparty d a) key.path && last_is (leader_of d key.lock) key.path)
+    (length key.path == length key.sigs) h in
     let k2 = and_parts (is_path d.graph key.path && first_is (counterparty d a) key.path) (last_is (leader_of d key.lock) key.path) k1.0 in
     let k3 = and_parts (is_path d.graph key.path) (first_is (counterparty d a) key.path) k2.0 in
     record { path = k3.0; first = k3.1; last = k2.1; lengths = eqb-true _ _ k1.1 }
@@ -140,7 +145,8 @@ own_above d true = omega arith
 own_above d false = let k : d.bound * d.delta ≤ 2 * d.bound * d.delta = mul-le-mul_right d.delta (omega arith) in omega arith
 
 -- on an arc that enters the lock's leader the only path is that leader alone
-own_alone : (d : Deal) (a : ℕ) (key : Hashkey) → key.lock < length d.leaders → PathOf d a key → leads d (counterparty d a) key.lock ≡ true → arcs_of key.path ≡ 0
+own_alone : (d : Deal) (a : ℕ) (key : Hashkey) → key.lock < length d.leaders → PathOf d a key → leads d (counterparty d a) key.lock ≡ true
+    → arcs_of key.path ≡ 0
 own_alone d a key below p lead =
     let same : leader_of d key.lock ≡ counterparty d a = leader_reads d (counterparty d a) key.lock below lead in
     let one = alone d.graph (counterparty d a) key.path p.path p.first (subst (λ v. last_is v key.path ≡ true) same p.last) in
@@ -160,9 +166,11 @@ times_of_hashkeys d law = record {
   early = λ a i j l. early a i j (is_own d.version d a j) refl;
 }
   where
-    last : (a : ℕ) (key : Hashkey) → key.lock < length d.leaders → PathOf d a key → (own : Bool) → is_own d.version d a key.lock ≡ own → last_in d.mode (terms_of d a) key ≤ expiry d a key.lock
+    last : (a : ℕ) (key : Hashkey) → key.lock < length d.leaders → PathOf d a key → (own : Bool) → is_own d.version d a key.lock ≡ own
+        → last_in d.mode (terms_of d a) key ≤ expiry d a key.lock
     last a key below p own o =
-        let e : last_in d.mode (terms_of d a) key ≡ times.deadline d.start d.delta d.bound (arcs_of key.path) = ap (λ m. last_in m (terms_of d a) key) law.mode in
+        let e : last_in d.mode (terms_of d a) key ≡ times.deadline d.start d.delta d.bound (arcs_of key.path) =
+        ap (λ m. last_in m (terms_of d a) key) law.mode in
         let f = expiry-hashkeys d a key.lock law.mode own o in
         let g : times.deadline d.start d.delta d.bound (arcs_of key.path) ≤ expiry_if d own = go own o in
         omega arith

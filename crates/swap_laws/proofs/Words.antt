@@ -1,5 +1,6 @@
 -- Small facts on the words of the rules: tests, elements, senders.
-use Rattle.std.proofs.Common.{get_or, zero, suc, length, arith, ◌<◌, ◌++◌, ◌≡◌, ℕ, ◌==◌, Bool, true, false, cond, ◌&&◌, ◌||◌, List, [], ◌∷◌, Option, Some, None, refl, sym, ap, ◌∙◌, inl, inr, eqb-true, eq-eqb}
+use Rattle.std.proofs.Common.{get_or, zero, suc, length, arith, ◌<◌, ◌++◌, ◌≡◌, ℕ, ◌==◌, Bool, true, false, cond, ◌&&◌, ◌||◌, List, [], ◌∷◌, Option}
+use Rattle.std.proofs.Common.{Some, None, refl, sym, ap, ◌∙◌, inl, inr, eqb-true, eq-eqb}
 use Rattle.std.specs.List.{flat_map}
 use Rattle.std.proofs.lemmas.Option.{same_Some}
 use Rattle.std.proofs.lemmas.List.{get_or_default}
@@ -49,7 +50,9 @@ bytes_eq-true x y e = (bytes_eq-Decides x y).0 e
 
 pub same_terms-true : (t u : Terms) → same_terms t u ≡ true → t ≡ u
 same_terms-true t u e =
-    let k = and_six (same_list bytes_eq t.locks u.locks) (t.start == u.start) (t.delta == u.delta) (t.bound == u.bound) (t.timelock == u.timelock) (t.amount == u.amount) e in
+    let k =
+    and_six (same_list bytes_eq t.locks u.locks) (t.start == u.start) (t.delta == u.delta) (t.bound == u.bound) (t.timelock == u.timelock)
+    (t.amount == u.amount) e in
     let locks_same : t.locks ≡ u.locks = same_list-true bytes_eq bytes_eq-true t.locks u.locks k.0 in
     λ i. record {
       locks = locks_same i;
@@ -82,7 +85,9 @@ pub publish_rule : (d : Deal) → IsIn ToPublish (rules_of d)
 publish_rule d = inl refl
 
 pub unlock_rule : (d : Deal) (i : ℕ) → i < length d.leaders → IsIn (ToUnlock i) (rules_of d)
-unlock_rule d i l = inr (in_append (map ToUnlock (locks d)) (ToClaim ∷ ToRefund ∷ []) (ToUnlock i) (inl (in_map ToUnlock (locks d) i (in_range i (length d.leaders) l))))
+unlock_rule d i l =
+    inr (in_append (map ToUnlock (locks d)) (ToClaim ∷ ToRefund ∷ []) (ToUnlock i)
+    (inl (in_map ToUnlock (locks d) i (in_range i (length d.leaders) l))))
 
 pub claim_rule : (d : Deal) → IsIn ToClaim (rules_of d)
 claim_rule d = inr (in_append (map ToUnlock (locks d)) (ToClaim ∷ ToRefund ∷ []) ToClaim (inr (inl refl)))
@@ -93,10 +98,12 @@ refund_rule d = inr (in_append (map ToUnlock (locks d)) (ToClaim ∷ ToRefund �
 -- A book, its parties and their calls.
 
 pub enters : (d : Deal) (v a : ℕ) → IsIn a (entering d.graph v) → (a < length d.graph.arcs) × (counterparty d a ≡ v)
-enters d v a i = let k = from_filter (λ a. (ends d.graph a).to == v) a (arcs d.graph) i in (from_range a (length d.graph.arcs) k.0, eqb-true (ends d.graph a).to v k.1)
+enters d v a i = let k =
+    from_filter (λ a. (ends d.graph a).to == v) a (arcs d.graph) i in (from_range a (length d.graph.arcs) k.0, eqb-true (ends d.graph a).to v k.1)
 
 pub leaves : (d : Deal) (v a : ℕ) → IsIn a (leaving d.graph v) → (a < length d.graph.arcs) × (party d a ≡ v)
-leaves d v a i = let k = from_filter (λ a. (ends d.graph a).from == v) a (arcs d.graph) i in (from_range a (length d.graph.arcs) k.0, eqb-true (ends d.graph a).from v k.1)
+leaves d v a i = let k =
+    from_filter (λ a. (ends d.graph a).from == v) a (arcs d.graph) i in (from_range a (length d.graph.arcs) k.0, eqb-true (ends d.graph a).from v k.1)
 
 pub call_by-act : (d : Deal) (a : ℕ) (past : List Entry) (e : Entry) (c : Call) (v : ℕ) (act : Act d a past e c) → act.by ≡ v → call_by v e ≡ Some c
 call_by-act d a past e c v act by =
@@ -110,7 +117,8 @@ call_of_parts v e c k = go (sent_by v e.sender) refl k
     go false h k = absurd (cc k)
 
 -- a call of v in a legal history, with its sender
-pub act_of : (d : Deal) (a : ℕ) (h past : List Entry) (e : Entry) (c : Call) (v : ℕ) → IsLegal d a h → IsMoment h past e → call_by v e ≡ Some c → (act : Act d a past e c) × (act.by ≡ v)
+pub act_of : (d : Deal) (a : ℕ) (h past : List Entry) (e : Entry) (c : Call) (v : ℕ) → IsLegal d a h → IsMoment h past e → call_by v e ≡ Some c
+    → (act : Act d a past e c) × (act.by ≡ v)
 act_of d a h past e c v l m k =
     let parts = call_of_parts v e c k in
     let act = act_at d a h past e c l m parts.1 in
@@ -161,7 +169,14 @@ bytes_eq-refl x = (bytes_eq-Decides x x).1 refl
 pub same_terms-refl : (t : Terms) → same_terms t t ≡ true
 same_terms-refl t =
     let k1 = same_list-refl bytes_eq bytes_eq-refl t.locks in
-    rw (k1, eq-eqb t.start t.start refl, eq-eqb t.delta t.delta refl, eq-eqb t.bound t.bound refl, eq-eqb t.timelock t.timelock refl, eq-eqb t.amount t.amount refl) refl
+    rw (
+      k1,
+      eq-eqb t.start t.start refl,
+      eq-eqb t.delta t.delta refl,
+      eq-eqb t.bound t.bound refl,
+      eq-eqb t.timelock t.timelock refl,
+      eq-eqb t.amount t.amount refl,
+    ) refl
 
 pub same_key-refl : (k : Hashkey) → same_key k k ≡ true
 same_key-refl k =
@@ -171,12 +186,15 @@ same_key-refl k =
 
 pub same_key-true : (k l : Hashkey) → same_key k l ≡ true → k ≡ l
 same_key-true k l e =
-    let k1 = and_parts ((k.lock == l.lock) && bytes_eq k.secret l.secret && same_list (λ x y. x == y) k.path l.path) (same_list (λ (s t : Sig). same_list bytes_eq s t) k.sigs l.sigs) e in
+    let k1 =
+    and_parts ((k.lock == l.lock) && bytes_eq k.secret l.secret && same_list (λ x y. x == y) k.path l.path)
+    (same_list (λ (s t : Sig). same_list bytes_eq s t) k.sigs l.sigs) e in
     let k2 = and_three (k.lock == l.lock) (bytes_eq k.secret l.secret) (same_list (λ x y. x == y) k.path l.path) k1.0 in
     let e1 : k.lock ≡ l.lock = eqb-true k.lock l.lock k2.0 in
     let e2 : k.secret ≡ l.secret = bytes_eq-true k.secret l.secret k2.1 in
     let e3 : k.path ≡ l.path = same_list-true (λ x y. x == y) eqb-true k.path l.path k2.2 in
-    let e4 : k.sigs ≡ l.sigs = same_list-true (λ (s t : Sig). same_list bytes_eq s t) (λ s t q. same_list-true bytes_eq bytes_eq-true s t q) k.sigs l.sigs k1.1 in
+    let e4 : k.sigs ≡ l.sigs =
+    same_list-true (λ (s t : Sig). same_list bytes_eq s t) (λ s t q. same_list-true bytes_eq bytes_eq-true s t q) k.sigs l.sigs k1.1 in
     λ i. record { lock = e1 i; secret = e2 i; path = e3 i; sigs = e4 i }
 
 pub past_end : {A : Type 0} (xs : List (List A)) (i : ℕ) → (i < length xs → ⊥) → get_or xs i [] ≡ []
@@ -194,10 +212,12 @@ flat_map_none f [] x e i = absurd i
 flat_map_none f (y ∷ xs) x e (inl q) = ap f q ∙ (append_empty (f y) (flat_map f xs) e).0
 flat_map_none f (y ∷ xs) x e (inr i) = flat_map_none f xs x (append_empty (f y) (flat_map f xs) e).1 i
 
-pub key_without_parts : (v : ℕ) (o : Option Opening) (key : Hashkey) → key_without v o ≡ Some key → (w : Opening) × (o ≡ Some w) × (w.key ≡ key) × (is_among v w.key.path ≡ false)
+pub key_without_parts : (v : ℕ) (o : Option Opening) (key : Hashkey) → key_without v o ≡ Some key
+    → (w : Opening) × (o ≡ Some w) × (w.key ≡ key) × (is_among v w.key.path ≡ false)
 key_without_parts v None key e = absurd (cc e)
 key_without_parts v (Some w) key e = go (is_among v w.key.path) refl e
   where
-    go : (x : Bool) → is_among v w.key.path ≡ x → cond x None (Some w.key) ≡ Some key → (w' : Opening) × (Some w ≡ Some w') × (w'.key ≡ key) × (is_among v w'.key.path ≡ false)
+    go : (x : Bool) → is_among v w.key.path ≡ x → cond x None (Some w.key) ≡ Some key
+        → (w' : Opening) × (Some w ≡ Some w') × (w'.key ≡ key) × (is_among v w'.key.path ≡ false)
     go true h q = absurd (cc q)
     go false h q = (w, refl, same_Some w.key key q, h)

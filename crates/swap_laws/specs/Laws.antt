@@ -98,7 +98,9 @@ NothingFound = (d : Deal) (conforming : ℕ → Bool) (b : Histories) → IsLega
 
 -- where all parties conform and nothing is found of a legal book of an accepted deal, all is transferred
 abbrev pub WithoutFindingsAllIsTransferred : Type 0
-WithoutFindingsAllIsTransferred = (d : Deal) (conforming : ℕ → Bool) (b : Histories) (k : IsAccepted d) → IsLegalBook d b → ((v : ℕ) → v < d.graph.n → conforming v ≡ true) → findings d conforming b ≡ [] → IsTransferred d b k
+WithoutFindingsAllIsTransferred =
+    (d : Deal) (conforming : ℕ → Bool) (b : Histories) (k : IsAccepted d) → IsLegalBook d b → ((v : ℕ) → v < d.graph.n → conforming v ≡ true)
+    → findings d conforming b ≡ [] → IsTransferred d b k
 
 -- the finding says that v broke a rule of conduct or was late, or that a ledger is unfinished
 abbrev pub is_against : ℕ → Finding → Bool
@@ -114,9 +116,12 @@ is_in_name_of d v (Broke u a e) = false
 is_in_name_of d v (Late u rule a due) = false
 is_in_name_of d v (Unfinished a h) = false
 
--- of a legal book of an accepted deal: a conforming party against which no finding stands has its refunds, and where none stands in its name it isn't underwater
+-- of a legal book of an accepted deal: a conforming party against which no finding stands has its refunds, and where none stands in its name it isn't
+-- underwater
 abbrev pub UnnamedIsSafe : Type 0
-UnnamedIsSafe = (d : Deal) (conforming : ℕ → Bool) (b : Histories) (v : ℕ) → IsAccepted d → IsLegalBook d b → v < d.graph.n → conforming v ≡ true → list_any (is_against v) (findings d conforming b) ≡ false
+UnnamedIsSafe =
+    (d : Deal) (conforming : ℕ → Bool) (b : Histories) (v : ℕ) → IsAccepted d → IsLegalBook d b → v < d.graph.n → conforming v ≡ true
+    → list_any (is_against v) (findings d conforming b) ≡ false
     → (list_any (is_in_name_of d v) (findings d conforming b) ≡ false → outcome d b v ≢ Underwater) × HasRefunds d b v
 
 -- in a legal book of an accepted deal in which every party is conducted, no entry is forged in anybody's name
@@ -126,37 +131,52 @@ NothingIsForged = (d : Deal) (b : Histories) → IsAccepted d → IsLegalBook d 
 
 -- conduct in a legal book from a party's knowledge alone, where the book holds it and no further call of the party
 abbrev pub KnowledgeConducts : Type 0
-KnowledgeConducts = (d : Deal) (known b : Histories) (signed : ℕ → Option Hashkey) (v : ℕ) → IsLegalBook d b → ((a : ℕ) → Knows v (history known a) (history b a)) → KeepsRules d known signed v → IsConducted d b v
+KnowledgeConducts =
+    (d : Deal) (known b : Histories) (signed : ℕ → Option Hashkey) (v : ℕ) → IsLegalBook d b → ((a : ℕ) → Knows v (history known a) (history b a))
+    → KeepsRules d known signed v → IsConducted d b v
 
 -- a machine that learns entries of others stays sound
 abbrev pub LearningIsSound : Type 0
-LearningIsSound = (d : Deal) (known : Histories) (signed : ℕ → Option Hashkey) (v a : ℕ) (more : List Entry) → a < length known → ((e : Entry) → IsIn e more → sent_by v e.sender ≡ false) → IsLegal d a (history known a ++ more)
+LearningIsSound =
+    (d : Deal) (known : Histories) (signed : ℕ → Option Hashkey) (v a : ℕ) (more : List Entry) → a < length known
+    → ((e : Entry) → IsIn e more → sent_by v e.sender ≡ false) → IsLegal d a (history known a ++ more)
     → IsSound d known signed v → IsSound d (set known a (history known a ++ more)) signed v
 
 -- a machine that makes a due call stays sound, where entries of others may come before the call's entry
 abbrev pub DueIsSound : Type 0
-DueIsSound = (d : Deal) (v : ℕ) (w : Wallet) (known : Histories) (signed : ℕ → Option Hashkey) (x : Action) (fresh : List Entry) → IsWallet d v w → IsAccepted d → IsIn x (due d v w signed known)
-    → x.arc < length known → ((e : Entry) → IsIn e fresh → sent_by v e.sender ≡ false) → IsLegal d x.arc (history known x.arc ++ fresh) → IsSound d known signed v
+DueIsSound =
+    (d : Deal) (v : ℕ) (w : Wallet) (known : Histories) (signed : ℕ → Option Hashkey) (x : Action) (fresh : List Entry) → IsWallet d v w → IsAccepted d
+    → IsIn x (due d v w signed known)
+    → x.arc < length known → ((e : Entry) → IsIn e fresh → sent_by v e.sender ≡ false) → IsLegal d x.arc (history known x.arc ++ fresh)
+    → IsSound d known signed v
     → IsSound d (set (set known x.arc (history known x.arc ++ fresh)) x.arc (called d x.arc (history known x.arc ++ fresh) v x.call)) (noted signed x.call) v
 
 -- a party that keeps its rules never fills a ledger
 abbrev pub RulesLeaveRoom : Type 0
-RulesLeaveRoom = (d : Deal) (b : Histories) (signed : ℕ → Option Hashkey) (v a : ℕ) → IsAccepted d → IsLegalBook d b → KeepsRules d b signed v → is_full (history b a) v ≡ false
+RulesLeaveRoom =
+    (d : Deal) (b : Histories) (signed : ℕ → Option Hashkey) (v a : ℕ) → IsAccepted d → IsLegalBook d b → KeepsRules d b signed v
+    → is_full (history b a) v ≡ false
 
 -- in rounds each action of v that is enabled in the last book is done within a round's ticks and the slack, or its ledger isn't past that
 abbrev pub RoundsAreInTime : Type 0
-RoundsAreInTime = (d : Deal) (v : ℕ) (w : Wallet) (ticks slack rounds : ℕ) (books : ℕ → Histories) → IsAccepted d → 1 ≤ ticks → IsRounds d v w ticks slack rounds books
-    → (rule : Rule) (a ref : ℕ) → IsIn rule (rules_of d) → IsIn a (arcs d.graph) → ref_of d (books rounds) v rule a ≡ Some ref → IsDoneBy d (books rounds) v rule a (ref + ticks + slack)
+RoundsAreInTime =
+    (d : Deal) (v : ℕ) (w : Wallet) (ticks slack rounds : ℕ) (books : ℕ → Histories) → IsAccepted d → 1 ≤ ticks
+    → IsRounds d v w ticks slack rounds books
+    → (rule : Rule) (a ref : ℕ) → IsIn rule (rules_of d) → IsIn a (arcs d.graph) → ref_of d (books rounds) v rule a ≡ Some ref
+    → IsDoneBy d (books rounds) v rule a (ref + ticks + slack)
 
 -- where that is within delta, v is nowhere late
 abbrev pub RoundsAreOnTime : Type 0
-RoundsAreOnTime = (d : Deal) (v : ℕ) (w : Wallet) (ticks slack rounds : ℕ) (books : ℕ → Histories) → IsAccepted d → 1 ≤ ticks → ticks + slack ≤ d.delta → IsRounds d v w ticks slack rounds books
+RoundsAreOnTime =
+    (d : Deal) (v : ℕ) (w : Wallet) (ticks slack rounds : ℕ) (books : ℕ → Histories) → IsAccepted d → 1 ≤ ticks → ticks + slack ≤ d.delta
+    → IsRounds d v w ticks slack rounds books
     → IsOnTime d (books rounds) v
 
 -- in a race an enabled action is done within two rounds' ticks, so that with two ticks within delta nobody conforming is late
 abbrev pub RacesAreInTime : Type 0
 RacesAreInTime = (d : Deal) (v : ℕ) (w : Wallet) (ticks rounds : ℕ) (books : List Histories) → IsAccepted d → 1 ≤ ticks → IsRaced d v w ticks rounds books
-    → ((rule : Rule) (a ref : ℕ) → IsIn rule (rules_of d) → IsIn a (arcs d.graph) → ref_of d (book_at books rounds) v rule a ≡ Some ref → IsDoneBy d (book_at books rounds) v rule a (ref + 2 * ticks))
+    → ((rule : Rule) (a ref : ℕ) → IsIn rule (rules_of d) → IsIn a (arcs d.graph) → ref_of d (book_at books rounds) v rule a ≡ Some ref
+    → IsDoneBy d (book_at books rounds) v rule a (ref + 2 * ticks))
     × (2 * ticks ≤ d.delta → IsOnTime d (book_at books rounds) v)
 
 -- Nothing is found, and every outcome is the whole deal.
@@ -166,9 +186,13 @@ pub record IsDealt (d : Deal) (conforming : ℕ → Bool) (b : Histories) : Type
 
 -- a legal and ended book of an accepted deal, whose parties are all conducted and nowhere late, is dealt
 abbrev pub AllIsDealt : Type 0
-AllIsDealt = (d : Deal) (conforming : ℕ → Bool) (b : Histories) → IsAccepted d → IsLegalBook d b → IsEnded d b → ((v : ℕ) → v < d.graph.n → IsConducted d b v) → ((v : ℕ) → v < d.graph.n → IsOnTime d b v) → IsDealt d conforming b
+AllIsDealt =
+    (d : Deal) (conforming : ℕ → Bool) (b : Histories) → IsAccepted d → IsLegalBook d b → IsEnded d b → ((v : ℕ) → v < d.graph.n → IsConducted d b v)
+    → ((v : ℕ) → v < d.graph.n → IsOnTime d b v) → IsDealt d conforming b
 
 -- a race of parties that all conform is dealt, where two rounds' ticks are within delta and its rounds pass the horizon
 abbrev pub RacesAreDealt : Type 0
-RacesAreDealt = (d : Deal) (conforming : ℕ → Bool) (ticks rounds : ℕ) (books : List Histories) → IsAccepted d → 1 ≤ ticks → 2 * ticks ≤ d.delta → times.horizon d.start d.delta d.bound < rounds * ticks
+RacesAreDealt =
+    (d : Deal) (conforming : ℕ → Bool) (ticks rounds : ℕ) (books : List Histories) → IsAccepted d → 1 ≤ ticks → 2 * ticks ≤ d.delta
+    → times.horizon d.start d.delta d.bound < rounds * ticks
     → ((v : ℕ) → v < d.graph.n → (w : Wallet) × IsRaced d v w ticks rounds books) → IsDealt d conforming (book_at books rounds)

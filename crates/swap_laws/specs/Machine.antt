@@ -63,7 +63,8 @@ pub record IsGoodKey (d : Deal) (v i : ℕ) (key : Hashkey) : Type 0 where
 -- A wallet of v: its own hashkeys for the locks that v leads, and hashkeys put on valid ones whose path lacks v.
 pub record IsWallet (d : Deal) (v : ℕ) (w : Wallet) : Type 0 where
   pub first : (i : ℕ) → i < length d.leaders → leads d v i ≡ true → IsGoodKey d v i (w.first i) × IsOwn d.mode v (w.first i)
-  pub onto : (c : ℕ) (inner : Hashkey) → IsIn c (leaving d.graph v) → inner.lock < length d.leaders → is_valid d c (hashlock_of d inner.lock) inner ≡ true → is_among v inner.path ≡ false
+  pub onto : (c : ℕ) (inner : Hashkey) → IsIn c (leaving d.graph v) → inner.lock < length d.leaders
+      → is_valid d c (hashlock_of d inner.lock) inner ≡ true → is_among v inner.path ≡ false
       → IsGoodKey d v inner.lock (w.onto inner) × IsOnto d.mode v inner (w.onto inner)
 
 -- the hashkeys that were signed, after a call
@@ -82,8 +83,11 @@ test_of ToRefund = is_refunding
 
 -- what a call of v on arc a keeps, over the book, the entries before it and what v has signed: it is allowed, and the first of its kind
 abbrev pub KeepsOwn : Deal → Histories → (ℕ → Option Hashkey) → ℕ → ℕ → List Entry → Call → Type 0
-KeepsOwn d b signed v a past (Publish t) = (same_terms t (terms_of d a) ≡ true) × ((leads_one d v || is_ready d b v) ≡ true) × (has_called v is_publish past ≡ false)
-KeepsOwn d b signed v a past (Unlock key) = (is_some (published past) ≡ true) × (is_ready d b v ≡ true) × (signed key.lock ≡ Some key) × IsIn a (entering d.graph v) × (has_called v (is_unlock_for key.lock) past ≡ false)
+KeepsOwn d b signed v a past (Publish t) =
+    (same_terms t (terms_of d a) ≡ true) × ((leads_one d v || is_ready d b v) ≡ true) × (has_called v is_publish past ≡ false)
+KeepsOwn d b signed v a past (Unlock key) =
+    (is_some (published past) ≡ true) × (is_ready d b v ≡ true) × (signed key.lock ≡ Some key) × IsIn a (entering d.graph v)
+    × (has_called v (is_unlock_for key.lock) past ≡ false)
 KeepsOwn d b signed v a past Claim = (triggered d past ≡ true) × (has_called v is_claiming past ≡ false)
 KeepsOwn d b signed v a past Refund = (has_expired d a past (height past) ≡ true) × (has_called v is_refunding past ≡ false)
 KeepsOwn d b signed v a past (Transfer to units) = ⊥

@@ -17,7 +17,8 @@ use Rattle.swap_laws.specs.Machine.{Begins, Knows}
 abbrev pub IsNear : Deal → ℕ → ℕ → Type 0
 IsNear d v a = IsIn a (leaving d.graph v) ⊎ IsIn a (entering d.graph v)
 
--- A turn of v in a round that begins with the book old and ends with the book new: it ends with a knowledge over which nothing is due, and of which nothing is above the height most.
+-- A turn of v in a round that begins with the book old and ends with the book new: it ends with a knowledge over which nothing is due, and of which
+-- nothing is above the height most.
 pub record IsTurn (d : Deal) (v : ℕ) (w : Wallet) (old new : Histories) (most : ℕ) : Type 0 where
   pub known : Histories
   pub signed : ℕ → Option Hashkey

@@ -1,10 +1,13 @@
-//! The laws of a swap: what holds of every book that keeps the rules, whatever the others do (Herlihy 2018, section 3). Each is a function without a body; its contract is the law.
+//! The laws of a swap: what holds of every book that keeps the rules, whatever the others do (Herlihy 2018, section 3). Each is a function without a
+//! body; its contract is the law.
 //!
 //! Read `specs/Laws.antt` first.
 #![tactic(auto)]
 
-ghost use Rattle.swap_laws.specs.Laws.{UnitsAreKept, AcceptedIsWellSized, EveryBookIsSafe, AllIsTransferred, WithoutFindingsAllIsTransferred, NothingFound, UnnamedIsSafe};
-ghost use Rattle.swap_laws.specs.Laws.{NothingIsForged, KnowledgeConducts, LearningIsSound, DueIsSound, RulesLeaveRoom, RoundsAreInTime, RoundsAreOnTime, RacesAreInTime, AllIsDealt, RacesAreDealt};
+ghost use Rattle.swap_laws.specs.Laws.{UnitsAreKept, AcceptedIsWellSized, EveryBookIsSafe, AllIsTransferred, WithoutFindingsAllIsTransferred};
+ghost use Rattle.swap_laws.specs.Laws.{NothingFound, UnnamedIsSafe};
+ghost use Rattle.swap_laws.specs.Laws.{NothingIsForged, KnowledgeConducts, LearningIsSound, DueIsSound, RulesLeaveRoom, RoundsAreInTime};
+ghost use Rattle.swap_laws.specs.Laws.{RoundsAreOnTime, RacesAreInTime, AllIsDealt, RacesAreDealt};
 ghost use Rattle.swap_laws.specs.Rest.{TicksMakeNothingDue};
 
 /// At every prefix of a legal history each unit stands in one place: in the party's balance, the counterparty's or the contract.
@@ -17,12 +20,14 @@ pub fn accepted_is_well_sized()
     ensures { AcceptedIsWellSized }
 {}
 
-/// A party that is conducted and nowhere late has the whole amount of each leaving arc that isn't triggered, and, where nothing is forged in its name there, doesn't end underwater, whatever the others do.
+/// A party that is conducted and nowhere late has the whole amount of each leaving arc that isn't triggered, and, where nothing is forged in its name
+/// there, doesn't end underwater, whatever the others do.
 pub fn every_book_is_safe()
     ensures { EveryBookIsSafe }
 {}
 
-/// Where all parties conform, nobody is late and nothing is forged, every arc is claimed in time, every counterparty has the arc's amount, and every outcome is the whole deal.
+/// Where all parties conform, nobody is late and nothing is forged, every arc is claimed in time, every counterparty has the arc's amount, and every
+/// outcome is the whole deal.
 pub fn all_is_transferred()
     ensures conforms { AllIsTransferred }
     ensures found { WithoutFindingsAllIsTransferred }
@@ -43,7 +48,8 @@ pub fn nothing_is_forged()
     ensures { NothingIsForged }
 {}
 
-/// A party that acts on what it knows is conducted in every book that holds its knowledge and no further call of it; learning and due calls keep it so, and its entries never fill a ledger.
+/// A party that acts on what it knows is conducted in every book that holds its knowledge and no further call of it; learning and due calls keep it so,
+/// and its entries never fill a ledger.
 pub fn knowledge_conducts()
     ensures conducts { KnowledgeConducts }
     ensures learns { LearningIsSound }

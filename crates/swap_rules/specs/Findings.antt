@@ -52,7 +52,9 @@ findings_of d b v = broken d b v ++ lates d b v ++ forgeries d b v
 
 -- the ledgers that aren't above the horizon, by arc, with their heights
 abbrev pub unfinished : Deal → Histories → List Finding
-unfinished d b = flat_map (λ a. if nat_lt (times.horizon d.start d.delta d.bound) (height (history b a)) then [] else Unfinished a (height (history b a)) ∷ []) (arcs d.graph)
+unfinished d b =
+    flat_map (λ a. if nat_lt (times.horizon d.start d.delta d.bound) (height (history b a)) then [] else Unfinished a (height (history b a)) ∷ [])
+    (arcs d.graph)
 
 -- what is found of each conforming party, and then of the ledgers
 abbrev pub findings : Deal → (ℕ → Bool) → Histories → List Finding

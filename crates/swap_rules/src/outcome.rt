@@ -1,6 +1,7 @@
 //! How a book ended for a party.
 
-/// By what a party lost, which is the leaving arcs that were triggered, and what it got, which is the entering arcs that were correct and claimed (Herlihy 2018, section 3).
+/// By what a party lost, which is the leaving arcs that were triggered, and what it got, which is the entering arcs that were correct and claimed
+/// (Herlihy 2018, section 3).
 #[derive(Clone, Copy, Debug, PartialEq, Eq)]
 pub enum Outcome {
     /// It lost nothing and got nothing.

@@ -17,11 +17,16 @@ loop-lock-preserved g c =
           record {
             exact =
                 is ∙ ap (λ (n : ℕ). Some (lesser c.loop-lock.least n)) w.expiry.ensures.exact
-                ∙ least_on closed (expiry c.args.deal.now c.args.arc) c.loop-lock.lock c.loop-lock.least (ap not (sym c.is_open.ensures ∙ w.if-not-is_open.true)) c.loop-lock.invariant.exact;
-            small = subst (λ (o : Option ℕ). IfSome o (λ n. n < 2 ^ 62)) (sym is) (lesser_below c.loop-lock.least w.expiry.result (2 ^ 62) c.loop-lock.invariant.small w.expiry.ensures.small);
+                ∙ least_on closed (expiry c.args.deal.now c.args.arc) c.loop-lock.lock c.loop-lock.least (ap not (sym c.is_open.ensures
+                ∙ w.if-not-is_open.true)) c.loop-lock.invariant.exact;
+            small =
+                subst (λ (o : Option ℕ). IfSome o (λ n. n < 2 ^ 62)) (sym is)
+                (lesser_below c.loop-lock.least w.expiry.result (2 ^ 62) c.loop-lock.invariant.small w.expiry.ensures.small);
           })
       | else-not-is_open w ↦ record {
-        exact = w.least-is ∙ least_off closed (expiry c.args.deal.now c.args.arc) c.loop-lock.lock c.loop-lock.least (ap not (sym c.is_open.ensures ∙ w.if-not-is_open.false)) c.loop-lock.invariant.exact;
+        exact =
+            w.least-is ∙ least_off closed (expiry c.args.deal.now c.args.arc) c.loop-lock.lock c.loop-lock.least (ap not (sym c.is_open.ensures
+            ∙ w.if-not-is_open.false)) c.loop-lock.invariant.exact;
         small = subst (λ (o : Option ℕ). IfSome o (λ n. n < 2 ^ 62)) (sym w.least-is) c.loop-lock.invariant.small;
       }
     ]

@@ -9,6 +9,7 @@ use Rattle.book_reading.proofs.heights.least_expiry.Given as goal
 
 abbrev pub invariant-loop-lock : goal.invariant-loop-lock
 invariant-loop-lock g l = record {
-  exact : l.least ≡ least_of (map (expiry l.deal l.arc) (filter (λ i. not (is_open (history (map g.F.Facts.entries l.known) l.arc) i)) (range_with_len 0 l.lock)));
+  exact : l.least ≡ least_of (map (expiry l.deal l.arc) (filter (λ i.
+      not (is_open (history (map g.F.Facts.entries l.known) l.arc) i)) (range_with_len 0 l.lock)));
   small : IfSome l.least (λ n. n < 2 ^ 62);
 }

@@ -7,7 +7,8 @@ use Rattle.book_reading.proofs.locks.is_open.Goals as goal
 pub unlocked-requires : goal.unlocked-requires
 unlocked-requires g c =
     let l = c.in-Some.ensures.lookup in
-    has_lock g.F.Facts.terms c.args.deal.now c.args.known.now c.args.arc c.args.lock c.in-Some.fact.now c.requires.sized c.requires.known l.3.0 l.1 c.requires.lock
+    has_lock g.F.Facts.terms c.args.deal.now c.args.known.now c.args.arc c.args.lock c.in-Some.fact.now c.requires.sized c.requires.known l.3.0 l.1
+    c.requires.lock
 
 pub returns-in-Some : goal.returns-in-Some
 returns-in-Some g c =

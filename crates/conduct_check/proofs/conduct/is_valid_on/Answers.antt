@@ -9,5 +9,7 @@ use Rattle.conduct_check.proofs.conduct.is_valid_on.Goals as goal
 pub returns-then-arcs-arc : goal.returns-then-arcs-arc
 returns-then-arcs-arc c = λ first.
     c.requires.standing.valid c.args.key.now.lock c.requires.lock
-    ∙ ap (valid_on c.args.deal.now (entering c.args.deal.now.graph c.args.party)) (first_is_key (first_key (entries_in c.args.known.now) c.args.party c.args.key.now.lock) c.args.key.now first)
-    ∙ valid_into c.args.deal.now c.args.party c.args.arc c.args.key.now c.requires.arc (ap (λ arcs. (ends_in arcs c.args.arc).to) (sym c.arcs.ensures) ∙ c.if-arcs-arc.true)
+    ∙ ap (valid_on c.args.deal.now (entering c.args.deal.now.graph c.args.party))
+    (first_is_key (first_key (entries_in c.args.known.now) c.args.party c.args.key.now.lock) c.args.key.now first)
+    ∙ valid_into c.args.deal.now c.args.party c.args.arc c.args.key.now c.requires.arc (ap (λ arcs. (ends_in arcs c.args.arc).to) (sym c.arcs.ensures)
+    ∙ c.if-arcs-arc.true)

@@ -8,11 +8,15 @@ use Rattle.conduct_check.proofs.conduct.keeps.Goals as goal
 pub returns-in-Publish : goal.returns-in-Publish
 returns-in-Publish c =
     c.keeps_publish.ensures (take c.args.number (history (entries_in c.args.known.now) c.args.arc)) c.args.at
-    ∙ ap (λ x. keeps c.args.deal.now (entries_in c.args.known.now) c.args.party c.args.arc (take c.args.number (history (entries_in c.args.known.now) c.args.arc)) c.args.at (Some (Publish x))) c.deref.ensures
-    ∙ ap (λ x. keeps c.args.deal.now (entries_in c.args.known.now) c.args.party c.args.arc (take c.args.number (history (entries_in c.args.known.now) c.args.arc)) c.args.at (Some x)) (sym c.in-Publish.is)
+    ∙ ap (λ x. keeps c.args.deal.now (entries_in c.args.known.now) c.args.party c.args.arc
+    (take c.args.number (history (entries_in c.args.known.now) c.args.arc)) c.args.at (Some (Publish x))) c.deref.ensures
+    ∙ ap (λ x. keeps c.args.deal.now (entries_in c.args.known.now) c.args.party c.args.arc
+    (take c.args.number (history (entries_in c.args.known.now) c.args.arc)) c.args.at (Some x)) (sym c.in-Publish.is)
 
 pub returns-in-Unlock : goal.returns-in-Unlock
 returns-in-Unlock c =
     c.keeps_unlock.ensures c.args.at
-    ∙ ap (λ x. keeps c.args.deal.now (entries_in c.args.known.now) c.args.party c.args.arc (take c.args.number (history (entries_in c.args.known.now) c.args.arc)) c.args.at (Some (Unlock x))) c.deref-in-Unlock.ensures
-    ∙ ap (λ x. keeps c.args.deal.now (entries_in c.args.known.now) c.args.party c.args.arc (take c.args.number (history (entries_in c.args.known.now) c.args.arc)) c.args.at (Some x)) (sym c.in-Unlock.is)
+    ∙ ap (λ x. keeps c.args.deal.now (entries_in c.args.known.now) c.args.party c.args.arc
+    (take c.args.number (history (entries_in c.args.known.now) c.args.arc)) c.args.at (Some (Unlock x))) c.deref-in-Unlock.ensures
+    ∙ ap (λ x. keeps c.args.deal.now (entries_in c.args.known.now) c.args.party c.args.arc
+    (take c.args.number (history (entries_in c.args.known.now) c.args.arc)) c.args.at (Some x)) (sym c.in-Unlock.is)

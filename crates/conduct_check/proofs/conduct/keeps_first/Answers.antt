@@ -11,14 +11,18 @@ use Rattle.conduct_check.proofs.conduct.keeps_first.Goals as goal
 
 pub returns-then-standing-key : goal.returns-then-standing-key
 returns-then-standing-key c = λ first.
-    in_turn (has_origin c.args.deal.now.mode c.args.deal.now (entries_in c.args.known.now) c.args.party c.args.key.now) (is_valid c.args.deal.now c.args.arc (hashlock_of c.args.deal.now c.args.key.now.lock) c.args.key.now) true c.is_valid_on.result
+    in_turn (has_origin c.args.deal.now.mode c.args.deal.now (entries_in c.args.known.now) c.args.party c.args.key.now)
+    (is_valid c.args.deal.now c.args.arc (hashlock_of c.args.deal.now c.args.key.now.lock) c.args.key.now) true c.is_valid_on.result
     (sym c.if-standing-key.true ∙ c.requires.standing.origins c.args.key.now.lock c.requires.lock
-    ∙ ap (origin_of c.args.deal.now (entries_in c.args.known.now) c.args.party) (first_is_key (first_key (entries_in c.args.known.now) c.args.party c.args.key.now.lock) c.args.key.now first))
+    ∙ ap (origin_of c.args.deal.now (entries_in c.args.known.now) c.args.party)
+    (first_is_key (first_key (entries_in c.args.known.now) c.args.party c.args.key.now.lock) c.args.key.now first))
     (c.is_valid_on.ensures first)
 
 pub returns-else-standing-key : goal.returns-else-standing-key
 returns-else-standing-key c = λ first.
-    stops (has_origin c.args.deal.now.mode c.args.deal.now (entries_in c.args.known.now) c.args.party c.args.key.now) (is_valid c.args.deal.now c.args.arc (hashlock_of c.args.deal.now c.args.key.now.lock) c.args.key.now) _
+    stops (has_origin c.args.deal.now.mode c.args.deal.now (entries_in c.args.known.now) c.args.party c.args.key.now)
+    (is_valid c.args.deal.now c.args.arc (hashlock_of c.args.deal.now c.args.key.now.lock) c.args.key.now) _
     (c.requires.standing.origins c.args.key.now.lock c.requires.lock
-    ∙ ap (origin_of c.args.deal.now (entries_in c.args.known.now) c.args.party) (first_is_key (first_key (entries_in c.args.known.now) c.args.party c.args.key.now.lock) c.args.key.now first))
+    ∙ ap (origin_of c.args.deal.now (entries_in c.args.known.now) c.args.party)
+    (first_is_key (first_key (entries_in c.args.known.now) c.args.party c.args.key.now.lock) c.args.key.now first))
     c.if-standing-key.false

@@ -9,4 +9,5 @@ use Rattle.conduct_check.proofs.conduct.publishes_once.Goals as goal
 pub returns : goal.returns
 returns c =
     ap (λ n. n == 1)
-    (c.count_publishes.ensures ∙ ap (count_by (λ m. is_publish (call_by c.args.party m.entry))) c.made_on.ensures ∙ count_calls is_publish c.args.party (history (entries_in c.args.known.now) c.args.arc) refl)
+    (c.count_publishes.ensures ∙ ap (count_by (λ m. is_publish (call_by c.args.party m.entry))) c.made_on.ensures
+    ∙ count_calls is_publish c.args.party (history (entries_in c.args.known.now) c.args.arc) refl)

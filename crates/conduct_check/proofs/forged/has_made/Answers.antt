@@ -10,5 +10,12 @@ use Rattle.conduct_check.proofs.forged.has_made.Goals as goal
 
 pub returns : goal.returns
 returns c =
-    any_from_yields_List (λ (r : Bor Hashkey). same_key r.now (record { lock = c.args.lock; secret = c.args.secret.now; path = c.args.path.now; sigs = c.args.sigs.now })) _ _ c.any.result c.any.ensures.ran (YieldsList-from_slice c.args.keys.now cc) (λ x b q k. search rules)
-    ∙ sym (made_by_parts (entries_in c.args.known.now) c.args.party c.args.lock c.args.secret.now c.args.path.now c.args.sigs.now c.args.keys.now c.requires.keys)
+    any_from_yields_List (λ (r : Bor Hashkey). same_key r.now (record {
+      lock = c.args.lock;
+      secret = c.args.secret.now;
+      path = c.args.path.now;
+      sigs =
+          c.args.sigs.now;
+    })) _ _ c.any.result c.any.ensures.ran (YieldsList-from_slice c.args.keys.now cc) (λ x b q k. search rules)
+    ∙ sym (made_by_parts (entries_in c.args.known.now) c.args.party c.args.lock c.args.secret.now c.args.path.now c.args.sigs.now c.args.keys.now
+    c.requires.keys)

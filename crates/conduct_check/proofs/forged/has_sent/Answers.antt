@@ -10,5 +10,6 @@ use Rattle.conduct_check.proofs.forged.has_sent.Goals as goal
 
 pub returns : goal.returns
 returns c =
-    any_from_yields_List (λ (r : Bor Hashkey). bytes_eq r.now.secret c.args.secret.now) _ _ c.any.result c.any.ensures.ran (YieldsList-from_slice c.args.keys.now cc) (λ x b q k. search rules)
+    any_from_yields_List (λ (r : Bor Hashkey). bytes_eq r.now.secret c.args.secret.now) _ _ c.any.result c.any.ensures.ran
+    (YieldsList-from_slice c.args.keys.now cc) (λ x b q k. search rules)
     ∙ sym (sent_secret (entries_in c.args.known.now) c.args.party c.args.secret.now c.args.keys.now c.requires.keys)

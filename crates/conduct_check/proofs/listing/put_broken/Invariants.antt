@@ -8,4 +8,6 @@ use Rattle.swap_rules.specs.Findings.{failing}
 use Rattle.conduct_check.proofs.listing.put_broken.Given as goal
 
 abbrev pub invariant-loop-arc : goal.invariant-loop-arc
-invariant-loop-arc l = l.out.items ≡ l.initial.out.items ++ flat_map (λ a. failing (Broke l.party a) (keeps_at l.deal (entries_in l.known) l.party a) (history (entries_in l.known) a)) (range_with_len 0 l.arc)
+invariant-loop-arc l =
+    l.out.items ≡ l.initial.out.items ++ flat_map (λ a.
+    failing (Broke l.party a) (keeps_at l.deal (entries_in l.known) l.party a) (history (entries_in l.known) a)) (range_with_len 0 l.arc)

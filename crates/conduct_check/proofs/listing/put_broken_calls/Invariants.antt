@@ -8,4 +8,6 @@ use Rattle.conduct_check.proofs.Failing.{said}
 use Rattle.conduct_check.proofs.listing.put_broken_calls.Given as goal
 
 abbrev pub invariant-loop-made : goal.invariant-loop-made
-invariant-loop-made l = l.out.items ≡ l.initial.out.items ++ filter_map (said (Broke l.party l.arc) (keeps_at l.deal (entries_in l.known) l.party l.arc) (history (entries_in l.known) l.arc)) (take l.made-index l.calls)
+invariant-loop-made l =
+    l.out.items ≡ l.initial.out.items ++ filter_map (said (Broke l.party l.arc) (keeps_at l.deal (entries_in l.known) l.party l.arc)
+    (history (entries_in l.known) l.arc)) (take l.made-index l.calls)

@@ -8,4 +8,6 @@ use Rattle.conduct_check.proofs.Failing.{said}
 use Rattle.conduct_check.proofs.listing.put_forged_on.Given as goal
 
 abbrev pub invariant-loop-made : goal.invariant-loop-made
-invariant-loop-made l = l.out.items ≡ l.initial.out.items ++ filter_map (said (Forged l.party l.arc) (λ m. not (is_forged l.deal (entries_in l.known) l.party m.now)) (history (entries_in l.known) l.arc)) (take l.made-index l.calls)
+invariant-loop-made l =
+    l.out.items ≡ l.initial.out.items ++ filter_map (said (Forged l.party l.arc) (λ m.
+    not (is_forged l.deal (entries_in l.known) l.party m.now)) (history (entries_in l.known) l.arc)) (take l.made-index l.calls)

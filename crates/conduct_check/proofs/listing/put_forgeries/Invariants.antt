@@ -8,4 +8,7 @@ use Rattle.swap_rules.specs.Findings.{failing}
 use Rattle.conduct_check.proofs.listing.put_forgeries.Given as goal
 
 abbrev pub invariant-loop-arc : goal.invariant-loop-arc
-invariant-loop-arc l = l.out.items ≡ l.initial.out.items ++ flat_map (λ a. failing (Forged l.party a) (λ m. not (is_forged l.deal (entries_in l.known) l.party m.now)) (history (entries_in l.known) a)) (range_with_len 0 l.arc)
+invariant-loop-arc l =
+    l.out.items ≡ l.initial.out.items ++ flat_map (λ a.
+    failing (Forged l.party a) (λ m. not (is_forged l.deal (entries_in l.known) l.party m.now)) (history (entries_in l.known) a))
+    (range_with_len 0 l.arc)

@@ -5,4 +5,5 @@ use Rattle.conduct_check.proofs.standing.is_first_valid.Goals as goal
 
 pub is_valid_into-requires-clause-lock : goal.is_valid_into-requires-clause-lock
 is_valid_into-requires-clause-lock c =
-    subst (λ (n : ℕ). n < length c.args.deal.now.leaders) (sym (first_lock (entries_in c.args.known.now) c.args.party c.args.lock c.in-Some.key.now (sym c.in-Some.ensures))) c.requires.lock
+    subst (λ (n : ℕ). n < length c.args.deal.now.leaders)
+    (sym (first_lock (entries_in c.args.known.now) c.args.party c.args.lock c.in-Some.key.now (sym c.in-Some.ensures))) c.requires.lock

@@ -6,4 +6,7 @@ use Rattle.conduct_check.proofs.Loops.{each_more}
 use Rattle.conduct_check.proofs.standing.origins_of.Goals as goal
 
 pub loop-lock-preserved : goal.loop-lock-preserved
-loop-lock-preserved c = each_more (λ i. origin_of c.args.deal.now (entries_in c.args.known.now) c.args.party (first_key (entries_in c.args.known.now) c.args.party i)) c.loop-lock.origins c.loop-lock.lock c.has_first_origin.result c.loop-lock.invariant.0 (omega (arith, c.requires.sized.leaders.1)) c.loop-lock.invariant.1 c.has_first_origin.ensures
+loop-lock-preserved c =
+    each_more (λ i. origin_of c.args.deal.now (entries_in c.args.known.now) c.args.party (first_key (entries_in c.args.known.now) c.args.party i))
+    c.loop-lock.origins c.loop-lock.lock c.has_first_origin.result c.loop-lock.invariant.0 (omega (arith, c.requires.sized.leaders.1))
+    c.loop-lock.invariant.1 c.has_first_origin.ensures

@@ -7,4 +7,7 @@ use Rattle.conduct_check.proofs.Loops.{each_more}
 use Rattle.conduct_check.proofs.standing.valid_of.Goals as goal
 
 pub loop-lock-preserved : goal.loop-lock-preserved
-loop-lock-preserved c = each_more (λ i. valid_on c.args.deal.now (entering c.args.deal.now.graph c.args.party) (first_key (entries_in c.args.known.now) c.args.party i)) c.loop-lock.valid c.loop-lock.lock c.is_first_valid.result c.loop-lock.invariant.0 (omega (arith, c.requires.sized.leaders.1)) c.loop-lock.invariant.1 c.is_first_valid.ensures
+loop-lock-preserved c =
+    each_more (λ i. valid_on c.args.deal.now (entering c.args.deal.now.graph c.args.party) (first_key (entries_in c.args.known.now) c.args.party i))
+    c.loop-lock.valid c.loop-lock.lock c.is_first_valid.result c.loop-lock.invariant.0 (omega (arith, c.requires.sized.leaders.1))
+    c.loop-lock.invariant.1 c.is_first_valid.ensures

@@ -6,4 +6,6 @@ use Rattle.conduct_check.specs.Standing.{valid_on}
 use Rattle.conduct_check.proofs.standing.valid_of.Given as goal
 
 abbrev pub invariant-loop-lock : goal.invariant-loop-lock
-invariant-loop-lock l = (length l.valid ≡ 8) × ((i : ℕ) → i < l.lock → get_or l.valid i false ≡ valid_on l.deal (entering l.deal.graph l.party) (first_key (entries_in l.known) l.party i))
+invariant-loop-lock l =
+    (length l.valid ≡ 8) × ((i : ℕ) → i < l.lock
+    → get_or l.valid i false ≡ valid_on l.deal (entering l.deal.graph l.party) (first_key (entries_in l.known) l.party i))

@@ -12,7 +12,8 @@ returns-then-not-enters_all-clause-exact c =
     (c.in_ok-reached.ensures ∙ ap (λ (t : List (Option ℕ)). filter (is_entered t) (range_with_len 0 (length t))) c.as_slice-then-not-enters_all.ensures)
 
 pub returns-then-not-enters_all-clause-closed : goal.returns-then-not-enters_all-clause-closed
-returns-then-not-enters_all-clause-closed c = closed_of_set c.args.graph.now c.in_ok-reached.reached c.requires.ends (omega arith) (returns-then-not-enters_all-clause-exact c)
+returns-then-not-enters_all-clause-closed c =
+    closed_of_set c.args.graph.now c.in_ok-reached.reached c.requires.ends (omega arith) (returns-then-not-enters_all-clause-exact c)
 
 pub returns-then-not-enters_all-clause-not_connected : goal.returns-then-not-enters_all-clause-not_connected
 returns-then-not-enters_all-clause-not_connected c = excluded c.args.graph.now c.in_ok-reached.reached (returns-then-not-enters_all-clause-closed c)
@@ -23,10 +24,12 @@ returns-then-not-enters_all-2-clause-exact c =
     (sym (c.enters_all.ensures ∙ ap all_entered c.as_slice.ensures) ∙ c.if-not-enters_all.false)
     c.in_ok-to_zero.ensures
     (sym (c.enters_all-2.ensures ∙ ap all_entered c.as_slice-2.ensures) ∙ c.if-not-enters_all-2.true)
-    (c.in_ok-stranded.ensures ∙ ap (λ (t : List (Option ℕ)). filter (λ v. not (is_entered t v)) (range_with_len 0 (length t))) c.as_slice-then-not-enters_all-2.ensures)
+    (c.in_ok-stranded.ensures ∙ ap (λ (t : List (Option ℕ)). filter (λ v. not (is_entered t v)) (range_with_len 0 (length t)))
+    c.as_slice-then-not-enters_all-2.ensures)
 
 pub returns-then-not-enters_all-2-clause-closed : goal.returns-then-not-enters_all-2-clause-closed
-returns-then-not-enters_all-2-clause-closed c = closed_of_set c.args.graph.now c.in_ok-stranded.stranded c.requires.ends (omega arith) (returns-then-not-enters_all-2-clause-exact c)
+returns-then-not-enters_all-2-clause-closed c =
+    closed_of_set c.args.graph.now c.in_ok-stranded.stranded c.requires.ends (omega arith) (returns-then-not-enters_all-2-clause-exact c)
 
 pub returns-then-not-enters_all-2-clause-not_connected : goal.returns-then-not-enters_all-2-clause-not_connected
 returns-then-not-enters_all-2-clause-not_connected c = excluded c.args.graph.now c.in_ok-stranded.stranded (returns-then-not-enters_all-2-clause-closed c)

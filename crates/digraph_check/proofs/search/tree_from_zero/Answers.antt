@@ -4,16 +4,20 @@ use Rattle.digraph_check.proofs.Grown.{grown_first, grown_more, grown_smaller, s
 use Rattle.digraph_check.proofs.search.tree_from_zero.Goals as goal
 
 pub loop-number-init : goal.loop-number-init
-loop-number-init c = grown_first (record { n = c.args.n; arcs = c.args.arcs.now }) c.in_ok-tree.tree.items (c.in_ok-tree.ensures.items_if_clones_equal (λ y h. search rules))
+loop-number-init c =
+    grown_first (record { n = c.args.n; arcs = c.args.arcs.now }) c.in_ok-tree.tree.items
+    (c.in_ok-tree.ensures.items_if_clones_equal (λ y h. search rules))
 
 pub loop-number-smaller : goal.loop-number-smaller
 loop-number-smaller c =
-    grown_smaller (record { n = c.args.n; arcs = c.args.arcs.now }) c.loop-number.tree.items _ c.in-Some.number c.requires.ends c.loop-number.invariant c.in-Some.ensures.some.0
+    grown_smaller (record { n = c.args.n; arcs = c.args.arcs.now }) c.loop-number.tree.items _ c.in-Some.number c.requires.ends c.loop-number.invariant
+    c.in-Some.ensures.some.0
     (subst (λ (t : List (Option ℕ)). IsCrossing c.args.arcs.now t c.in-Some.number) c.deref.ensures.value c.in-Some.ensures.some.1) refl
 
 pub loop-number-preserved : goal.loop-number-preserved
 loop-number-preserved c =
-    grown_more (record { n = c.args.n; arcs = c.args.arcs.now }) c.loop-number.tree.items _ c.in-Some.number c.requires.ends c.loop-number.invariant c.in-Some.ensures.some.0
+    grown_more (record { n = c.args.n; arcs = c.args.arcs.now }) c.loop-number.tree.items _ c.in-Some.number c.requires.ends c.loop-number.invariant
+    c.in-Some.ensures.some.0
     (subst (λ (t : List (Option ℕ)). IsCrossing c.args.arcs.now t c.in-Some.number) c.deref.ensures.value c.in-Some.ensures.some.1) refl
 
 pub returns : goal.returns

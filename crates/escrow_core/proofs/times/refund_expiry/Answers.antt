@@ -17,7 +17,9 @@ loop-lock-preserved c =
             exact =
                 is ∙ ap (λ (n : ℕ). Some (lesser c.loop-lock.least n)) w.expiry_in.ensures.exact
                 ∙ least_on closed expiry c.loop-lock.lock c.loop-lock.least (ap not w.if-not-opened-lock.true) c.loop-lock.invariant.exact;
-            small = subst (λ (o : Option ℕ). IfSome o (λ n. n < 2 ^ 62)) (sym is) (lesser_below c.loop-lock.least w.expiry_in.result (2 ^ 62) c.loop-lock.invariant.small w.expiry_in.ensures.small);
+            small =
+                subst (λ (o : Option ℕ). IfSome o (λ n. n < 2 ^ 62)) (sym is)
+                (lesser_below c.loop-lock.least w.expiry_in.result (2 ^ 62) c.loop-lock.invariant.small w.expiry_in.ensures.small);
           })
       | else-not-opened-lock w ↦ record {
         exact = w.least-is ∙ least_off closed expiry c.loop-lock.lock c.loop-lock.least (ap not w.if-not-opened-lock.false) c.loop-lock.invariant.exact;

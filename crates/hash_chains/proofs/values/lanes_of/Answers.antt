@@ -9,7 +9,9 @@ unfolding lane
 returns c = λ j lt.
     let a : List ℕ = get_or c.args.values.now j [] in
     digest_of_words _ a (c.column.ensures.long j lt)
-    (eight_cases (λ i. to_be_bytes w32 (slice_index (lane (c.column.result ∷ c.column-2.result ∷ c.column-3.result ∷ c.column-4.result ∷ c.column-5.result ∷ c.column-6.result ∷ c.column-7.result ∷ c.column-8.result ∷ []) j) i) ≡ take 4 (drop (4 * i) a))
+    (eight_cases (λ i. to_be_bytes w32
+    (slice_index (lane (c.column.result ∷ c.column-2.result ∷ c.column-3.result ∷ c.column-4.result ∷ c.column-5.result ∷ c.column-6.result
+    ∷ c.column-7.result ∷ c.column-8.result ∷ []) j) i) ≡ take 4 (drop (4 * i) a))
     (c.column.ensures.bytes j lt)
     (c.column-2.ensures.bytes j lt)
     (c.column-3.ensures.bytes j lt)

@@ -17,10 +17,12 @@ bytes-preserved c =
 pub returns-clause-value : goal.returns-clause-value
 returns-clause-value c =
     let message : length c.args.message.now ≡ 32 = search rules in
-    all_written c.bytes.out c.args.message.now c.bytes.i c.bytes.sum c.bytes.invariant.width message (omega arith) c.bytes.invariant.written c.bytes.invariant.sum_is
+    all_written c.bytes.out c.args.message.now c.bytes.i c.bytes.sum c.bytes.invariant.width message (omega arith) c.bytes.invariant.written
+    c.bytes.invariant.sum_is
 
 pub returns-clause-small : goal.returns-clause-small
 returns-clause-small c = λ j.
     let message : length c.args.message.now ≡ 32 = search rules in
     let bytes : (k : ℕ) → get_or c.args.message.now k 0 < 256 = bytes_to_end c.args.message.now c.bytes.i (omega arith) c.bytes.invariant.bytes in
-    rw (all_written c.bytes.out c.args.message.now c.bytes.i c.bytes.sum c.bytes.invariant.width message (omega arith) c.bytes.invariant.written c.bytes.invariant.sum_is) (digits_small c.args.message.now message bytes j)
+    rw (all_written c.bytes.out c.args.message.now c.bytes.i c.bytes.sum c.bytes.invariant.width message (omega arith) c.bytes.invariant.written
+    c.bytes.invariant.sum_is) (digits_small c.args.message.now message bytes j)

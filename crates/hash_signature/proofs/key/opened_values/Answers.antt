@@ -7,10 +7,13 @@ use Rattle.hash_signature.proofs.key.opened_values.Goals as goal
 pub chains-preserved : goal.chains-preserved
 chains-preserved c = record {
   width = length-set _ _ _ ∙ c.chains.invariant.width;
-  filled = filled_more (signed_value c.args.chains.now.seed c.args.chains.now.party c.args.chains.now.lock c.args.message.now) c.chains.values c.chains.j _ c.chains.invariant.width (omega arith) (search rules) c.chains.invariant.filled;
+  filled =
+      filled_more (signed_value c.args.chains.now.seed c.args.chains.now.party c.args.chains.now.lock c.args.message.now) c.chains.values c.chains.j _
+      c.chains.invariant.width (omega arith) (search rules) c.chains.invariant.filled;
 }
 
 pub returns : goal.returns
 unfolding signature_of
 returns c =
-    filled_all (signed_value c.args.chains.now.seed c.args.chains.now.party c.args.chains.now.lock c.args.message.now) c.chains.values c.chains.j c.chains.invariant.width (omega arith) c.chains.invariant.filled
+    filled_all (signed_value c.args.chains.now.seed c.args.chains.now.party c.args.chains.now.lock c.args.message.now) c.chains.values c.chains.j
+    c.chains.invariant.width (omega arith) c.chains.invariant.filled

@@ -5,9 +5,11 @@ use Rattle.hash_signature.proofs.key.public_key.Goals as goal
 
 pub chains-preserved : goal.chains-preserved
 chains-preserved c =
-    held_more (chain_end c.args.chains.now.seed c.args.chains.now.party c.args.chains.now.lock) c.chains.j _ _ (search rules) (c.update-in-chains.ensures _ c.chains.invariant)
+    held_more (chain_end c.args.chains.now.seed c.args.chains.now.party c.args.chains.now.lock) c.chains.j _ _ (search rules)
+    (c.update-in-chains.ensures _ c.chains.invariant)
 
 pub returns : goal.returns
 unfolding public_key_of
 returns c =
-    c.finalize.ensures _ (held_all (chain_end c.args.chains.now.seed c.args.chains.now.party c.args.chains.now.lock) c.chains.j _ (omega arith) c.chains.invariant)
+    c.finalize.ensures _ (held_all (chain_end c.args.chains.now.seed c.args.chains.now.party c.args.chains.now.lock) c.chains.j _ (omega arith)
+    c.chains.invariant)

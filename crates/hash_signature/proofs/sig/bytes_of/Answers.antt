@@ -10,7 +10,9 @@ values-preserved c =
     record {
       width = grind (arith, places);
       widths = below_more _ _ c.values.invariant.widths (ap length (sym c.copy_from_slice.ensures.after) ∙ width);
-      filled = bytes_more c.values.bytes c.args.values.now c.values.i c.copy_from_slice.new.self c.values.invariant.width c.told-values (omega arith) c.copy_from_slice.ensures.after width c.values.invariant.filled;
+      filled =
+          bytes_more c.values.bytes c.args.values.now c.values.i c.copy_from_slice.new.self c.values.invariant.width c.told-values (omega arith)
+          c.copy_from_slice.ensures.after width c.values.invariant.filled;
     }
 
 pub returns-clause-bytes : goal.returns-clause-bytes
@@ -18,5 +20,6 @@ returns-clause-bytes c = bytes_filled c.values.bytes c.args.values.now c.values.
 
 pub returns-clause-values : goal.returns-clause-values
 returns-clause-values c =
-    let bytes : c.values.bytes ≡ joined c.args.values.now = bytes_filled c.values.bytes c.args.values.now c.values.i c.values.invariant.width c.told-values (omega arith) c.values.invariant.filled in
+    let bytes : c.values.bytes ≡ joined c.args.values.now =
+    bytes_filled c.values.bytes c.args.values.now c.values.i c.values.invariant.width c.told-values (omega arith) c.values.invariant.filled in
     rw bytes (values_of-joined c.args.values.now c.told-values (λ k lt. c.values.invariant.widths k (omega arith)))

@@ -6,7 +6,8 @@ use Rattle.hashkey_path.proofs.digest.deal_digest.Goals as goal
 pub returns-clause-value : goal.returns-clause-value
 returns-clause-value c =
     c.finalize.ensures _
-    (deal_fed c.args.deal.now _ _ _ _ _ _ _ _ c.new-hasher.ensures c.update.ensures c.feed_head.ensures c.feed_arcs.ensures c.feed_leaders.ensures c.feed_times.ensures (feeds_as _ _ _ _ (ap joined c.as_slice.ensures) c.feed_digests.ensures) c.feed_keys.ensures)
+    (deal_fed c.args.deal.now _ _ _ _ _ _ _ _ c.new-hasher.ensures c.update.ensures c.feed_head.ensures c.feed_arcs.ensures c.feed_leaders.ensures
+    c.feed_times.ensures (feeds_as _ _ _ _ (ap joined c.as_slice.ensures) c.feed_digests.ensures) c.feed_keys.ensures)
     ∙ id_of_bytes c.args.deal.now
 
 pub returns-clause-any_id : goal.returns-clause-any_id

@@ -10,4 +10,5 @@ returns-in-Ok-clause-valid c = λ a hashlock right can.
     let P : Hashkey → Type 0 = λ k. IsValidInto c.args.deal.now c.args.party hashlock k in
     subst P (sym is)
     (extended_is_valid c.args.deal.now c.args.inner.now c.args.party c.args.key.seed a hashlock c.requires.party right can
-    (signed_as c.args.deal.now.id c.args.inner.now.lock c.args.inner.now.secret c.args.party c.args.key.seed c.args.inner.now.path c.args.inner.now.sigs _ _ _ _ c.requires.of_party c.requires.of_lock (search rules) (search rules) c.sign.ensures.valid))
+    (signed_as c.args.deal.now.id c.args.inner.now.lock c.args.inner.now.secret c.args.party c.args.key.seed c.args.inner.now.path c.args.inner.now.sigs
+    _ _ _ _ c.requires.of_party c.requires.of_lock (search rules) (search rules) c.sign.ensures.valid))

@@ -11,4 +11,5 @@ returns-in-Ok-clause-valid c = λ own.
     let P : Hashkey → Type 0 = λ k. IsValidInto c.args.deal.now c.args.party (hashlock_of c.args.deal.now c.args.lock) k in
     subst P (sym is)
     (first_is_valid c.args.deal.now c.args.lock c.args.secret.now c.args.party c.args.key.seed c.requires.party own
-    (signed_as c.args.deal.now.id c.args.lock c.args.secret.now c.args.party c.args.key.seed [] [] _ _ _ _ c.requires.of_party c.requires.of_lock c.in-Ok.ensures.path c.in-Ok.ensures.sigs c.sign.ensures.valid))
+    (signed_as c.args.deal.now.id c.args.lock c.args.secret.now c.args.party c.args.key.seed [] [] _ _ _ _ c.requires.of_party c.requires.of_lock
+    c.in-Ok.ensures.path c.in-Ok.ensures.sigs c.sign.ensures.valid))

@@ -32,7 +32,11 @@ leader_within leaders n i e some = let P : List ℕ → Type 0 = λ l. get_or l 
     at_zero zero = omega arith
     at_zero (suc k) = omega arith
 
-sized : (n : ℕ) (graph : Graph) (leaders amounts : List ℕ) (hashlocks : List (List ℕ)) (keys : List (List (List ℕ))) (timelocks id : List ℕ) → 2 ≤ n → n ≤ 24 → HasEnds graph → graph.n ≡ n → length graph.arcs ≡ n → leaders ≡ 0 ∷ [] → length amounts ≡ n → ((a : ℕ) → a < n → get_or amounts a 0 ≤ 10 ^ 12) → length hashlocks ≡ 1 → length keys ≡ n → ((p : ℕ) → p < n → length (get_or keys p []) ≡ 1) → length timelocks ≡ n → ((a : ℕ) → a < n → get_or timelocks a 0 ≤ 1000000) → IsWellSized (deal_of graph leaders amounts hashlocks keys timelocks id)
+sized : (n : ℕ) (graph : Graph) (leaders amounts : List ℕ) (hashlocks : List (List ℕ)) (keys : List (List (List ℕ))) (timelocks id : List ℕ) → 2 ≤ n
+    → n ≤ 24 → HasEnds graph → graph.n ≡ n → length graph.arcs ≡ n → leaders ≡ 0 ∷ [] → length amounts ≡ n
+    → ((a : ℕ) → a < n → get_or amounts a 0 ≤ 10 ^ 12) → length hashlocks ≡ 1 → length keys ≡ n → ((p : ℕ) → p < n → length (get_or keys p []) ≡ 1)
+    → length timelocks ≡ n → ((a : ℕ) → a < n → get_or timelocks a 0 ≤ 1000000)
+    → IsWellSized (deal_of graph leaders amounts hashlocks keys timelocks id)
 sized n graph leaders amounts hashlocks keys timelocks id some few ends parties arcs leader units unit locks rows row times time =
     let one : length leaders ≡ 1 = ap length leader in
     record {
@@ -54,7 +58,8 @@ sized n graph leaders amounts hashlocks keys timelocks id some few ends parties 
 
 pub returns-clause-sized : goal.returns-clause-sized
 returns-clause-sized c =
-    sized c.args.n c.in_ok-around.field-0 c.new.result c.in_ok-same_units.field-0 c.new-2.result c.in_ok-public_keys.field-0 c.in_ok-no_timelocks.field-0 _ c.requires.some c.requires.few
+    sized c.args.n c.in_ok-around.field-0 c.new.result c.in_ok-same_units.field-0 c.new-2.result c.in_ok-public_keys.field-0
+    c.in_ok-no_timelocks.field-0 _ c.requires.some c.requires.few
     c.in_ok-around.ensures.0 c.in_ok-around.ensures.1 c.in_ok-around.ensures.2 (c.new.ensures ∙ c.in_ok-from_slice.ensures.items)
     c.in_ok-same_units.ensures.count c.in_ok-same_units.ensures.small (ap length (c.new-2.ensures ∙ c.in_ok-from_slice-2.ensures.items))
     c.in_ok-public_keys.ensures.rows c.in_ok-public_keys.ensures.row c.in_ok-no_timelocks.ensures.count c.in_ok-no_timelocks.ensures.small

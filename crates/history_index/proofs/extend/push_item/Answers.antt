@@ -12,7 +12,8 @@ push-requires-clause-indexable g c =
 pub push_ticks-requires-clause-indexable : goal.push_ticks-requires-clause-indexable
 push_ticks-requires-clause-indexable g c =
     let i = c.args.index.now in
-    subst (λ x. IsIndexable i.from i.to (i.entries ++ entries_of x)) c.in-Ticks.is (takes_all i.from i.to i.entries (entries_of c.args.item) c.requires.indexable)
+    subst (λ x. IsIndexable i.from i.to (i.entries ++ entries_of x)) c.in-Ticks.is
+    (takes_all i.from i.to i.entries (entries_of c.args.item) c.requires.indexable)
 
 pub returns-in-Ticks-clause-steps : goal.returns-in-Ticks-clause-steps
 returns-in-Ticks-clause-steps g c =

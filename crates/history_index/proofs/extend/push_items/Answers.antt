@@ -7,6 +7,8 @@ use Rattle.history_index.proofs.extend.push_items.Goals as goal
 pub push_item-requires-clause-indexable : goal.push_item-requires-clause-indexable
 push_item-requires-clause-indexable g c =
     let m = c.items.index in
-    let e : expand (into_iter_items c.items.item-iterator) ≡ entries_of c.in-Some.item ++ expand (into_iter_items c.next.new.self) = ap expand c.in-Some.ensures.steps.0 in
+    let e : expand (into_iter_items c.items.item-iterator) ≡ entries_of c.in-Some.item ++ expand (into_iter_items c.next.new.self) =
+    ap expand c.in-Some.ensures.steps.0 in
     takes_first m.from m.to m.entries (expand (into_iter_items c.items.item-iterator)) (entries_of c.in-Some.item) (expand (into_iter_items c.next.new.self)) e
-    (takes_rest c.args.index.now m (expand c.args.items.items) (expand (into_iter_items c.items.item-iterator)) c.items.invariant.same c.items.invariant.entries c.requires.indexable)
+    (takes_rest c.args.index.now m (expand c.args.items.items) (expand (into_iter_items c.items.item-iterator)) c.items.invariant.same
+    c.items.invariant.entries c.requires.indexable)

@@ -10,10 +10,14 @@ shown g (Some x) = refl
 
 pub returns-then-is_some : goal.returns-then-is_some
 returns-then-is_some c =
-    found_first (λ m. opening c.args.lock m.entry.height (accepted m.entry)) c.args.made.now c.loop-call.call-index c.call-item.result (option_map opening_of c.opening-found.result)
-    c.loop-call-test.true c.call-item.is c.loop-call.invariant c.opening-found.ensures (shown opening_of c.opening-found.result ∙ (sym c.is_some.ensures ∙ c.if-is_some.true))
+    found_first (λ m. opening c.args.lock m.entry.height (accepted m.entry)) c.args.made.now c.loop-call.call-index c.call-item.result
+    (option_map opening_of c.opening-found.result)
+    c.loop-call-test.true c.call-item.is c.loop-call.invariant c.opening-found.ensures (shown opening_of c.opening-found.result
+    ∙ (sym c.is_some.ensures ∙ c.if-is_some.true))
 
 pub loop-call-preserved : goal.loop-call-preserved
 loop-call-preserved c =
-    none_first (λ m. opening c.args.lock m.entry.height (accepted m.entry)) c.args.made.now c.loop-call.call-index c.call-item.result (option_map opening_of c.opening-found.result)
-    c.loop-call-test.true c.call-item.is c.loop-call.invariant c.opening-found.ensures (shown opening_of c.opening-found.result ∙ (sym c.is_some.ensures ∙ c.if-is_some.false))
+    none_first (λ m. opening c.args.lock m.entry.height (accepted m.entry)) c.args.made.now c.loop-call.call-index c.call-item.result
+    (option_map opening_of c.opening-found.result)
+    c.loop-call-test.true c.call-item.is c.loop-call.invariant c.opening-found.ensures (shown opening_of c.opening-found.result
+    ∙ (sym c.is_some.ensures ∙ c.if-is_some.false))

@@ -4,4 +4,5 @@ use Rattle.history_index.proofs.tests.follow.Given as goal
 
 abbrev pub invariant-loop-entry : goal.invariant-loop-entry
 invariant-loop-entry g l =
-    (l.index.entries ≡ take l.entry-index l.history) × (l.scan.entries ≡ take l.entry-index l.history) × (l.index.from ≡ party l.deal l.arc) × (l.index.to ≡ counterparty l.deal l.arc) × (length l.history ≤ l.index.spare + l.entry-index)
+    (l.index.entries ≡ take l.entry-index l.history) × (l.scan.entries ≡ take l.entry-index l.history) × (l.index.from ≡ party l.deal l.arc)
+    × (l.index.to ≡ counterparty l.deal l.arc) × (length l.history ≤ l.index.spare + l.entry-index)

@@ -7,4 +7,5 @@ use Rattle.late_check.proofs.bases.greatest_used_on.Goals as goal
 pub returns-in-Some : goal.returns-in-Some
 returns-in-Some c =
     let l = c.in-Some.ensures.lookup in
-    c.greatest_used_in.ensures ∙ ap (greatest_used_in c.args.party (option_copied c.args.first) (option_copied c.args.seen)) (history_at (λ (x : IndexState). x.entries) c.args.known.now c.args.arc c.in-Some.index.now l.3.0 l.1)
+    c.greatest_used_in.ensures ∙ ap (greatest_used_in c.args.party (option_copied c.args.first) (option_copied c.args.seen))
+    (history_at (λ (x : IndexState). x.entries) c.args.known.now c.args.arc c.in-Some.index.now l.3.0 l.1)

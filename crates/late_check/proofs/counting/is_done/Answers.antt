@@ -11,5 +11,6 @@ pub returns-in-Some : goal.returns-in-Some
 returns-in-Some c =
     let l = c.in-Some.ensures.lookup in
     let counted = c.args.counted.now in
-    c.any_counts.ensures ∙ ap (list_any (λ (m : Made). counts_by counted c.args.party c.args.due m.entry)) c.made.ensures.value ∙ sym (done_made counted c.args.party c.args.due c.in-Some.index.now.entries)
+    c.any_counts.ensures ∙ ap (list_any (λ (m : Made). counts_by counted c.args.party c.args.due m.entry)) c.made.ensures.value
+    ∙ sym (done_made counted c.args.party c.args.due c.in-Some.index.now.entries)
     ∙ ap (is_done_in counted c.args.party c.args.due) (history_at (λ (x : IndexState). x.entries) c.args.known.now c.args.arc c.in-Some.index.now l.3.0 l.1)

@@ -4,4 +4,6 @@ use Rattle.late_check.proofs.Asked.{enters_by_end}
 use Rattle.late_check.proofs.lates.enters.Goals as goal
 
 pub returns : goal.returns
-returns c = ap (λ arcs. (ends_in arcs c.args.arc).to == c.args.party) c.arcs.ensures ∙ enters_by_end c.args.deal.now.graph c.args.party c.args.arc c.requires.arc
+returns c =
+    ap (λ arcs. (ends_in arcs c.args.arc).to == c.args.party) c.arcs.ensures
+    ∙ enters_by_end c.args.deal.now.graph c.args.party c.args.arc c.requires.arc

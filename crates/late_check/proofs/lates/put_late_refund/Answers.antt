@@ -15,4 +15,5 @@ pub put_late_on-requires-clause-asked : goal.put_late_on-requires-clause-asked
 put_late_on-requires-clause-asked c =
     let d = c.args.deal.now in
     let b = entries_in c.args.known.now in
-    refund_asked d b c.args.party c.args.arc c.least_expiry-least.result c.refund_from-from.result c.least_expiry-least.ensures.exact c.refund_from-from.ensures.exact (sym c.leaves.ensures ∙ c.if-not-leaves.false)
+    refund_asked d b c.args.party c.args.arc c.least_expiry-least.result c.refund_from-from.result c.least_expiry-least.ensures.exact
+    c.refund_from-from.ensures.exact (sym c.leaves.ensures ∙ c.if-not-leaves.false)

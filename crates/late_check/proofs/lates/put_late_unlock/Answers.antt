@@ -9,10 +9,12 @@ pub returns-then-not-enters : goal.returns-then-not-enters
 returns-then-not-enters c =
     let d = c.args.deal.now in
     let b = entries_in c.args.known.now in
-    none_late d b c.args.party (Unlock c.args.lock) c.args.arc c.args.out.now.items (no_unlock d b c.args.party c.args.arc c.args.lock (sym c.enters.ensures ∙ c.if-not-enters.true))
+    none_late d b c.args.party (Unlock c.args.lock) c.args.arc c.args.out.now.items
+    (no_unlock d b c.args.party c.args.arc c.args.lock (sym c.enters.ensures ∙ c.if-not-enters.true))
 
 pub put_late_on-requires-clause-asked : goal.put_late_on-requires-clause-asked
 put_late_on-requires-clause-asked c =
     let d = c.args.deal.now in
     let b = entries_in c.args.known.now in
-    unlock_asked d b c.args.party c.args.arc c.args.lock c.args.first c.args.from c.requires.first c.requires.from (sym c.enters.ensures ∙ c.if-not-enters.false)
+    unlock_asked d b c.args.party c.args.arc c.args.lock c.args.first c.args.from c.requires.first c.requires.from (sym c.enters.ensures
+    ∙ c.if-not-enters.false)

@@ -4,5 +4,6 @@ use Rattle.late_check.proofs.lates.put_lates.Goals as goal
 
 pub returns : goal.returns
 returns c =
-    lates_added c.args.deal.now (entries_in c.args.known.now) c.args.party c.args.out.now.items c.put_late_publishes.new.out.items c.put_late_unlocks.new.out.items c.put_late_claims.new.out.items c.put_late_refunds.new.out.items
+    lates_added c.args.deal.now (entries_in c.args.known.now) c.args.party c.args.out.now.items c.put_late_publishes.new.out.items
+    c.put_late_unlocks.new.out.items c.put_late_claims.new.out.items c.put_late_refunds.new.out.items
     c.in_ok-put_late_publishes.ensures c.in_ok-put_late_unlocks.ensures c.in_ok-put_late_claims.ensures c.in_ok-put_late_refunds.ensures

@@ -12,11 +12,13 @@ use Rattle.late_check.proofs.openings.first_seen_key.Goals as goal
 pub returns-then-is_some : goal.returns-then-is_some
 returns-then-is_some c =
     let f = λ (a : ℕ). key_without c.args.party (opened (history (entries_in c.args.known.now) a) c.args.lock) in
-    found_at (λ (r : Bor Hashkey). r.now) f c.leaving-arc-items.result.now c.loop-arc.arc-index 0 c.key_without-found.result c.loop-arc-test.true c.loop-arc.invariant
+    found_at (λ (r : Bor Hashkey). r.now) f c.leaving-arc-items.result.now c.loop-arc.arc-index 0 c.key_without-found.result c.loop-arc-test.true
+    c.loop-arc.invariant
     c.key_without-found.ensures (sym c.is_some.ensures ∙ c.if-is_some.true)
     ∙ ap (first_of f) c.leaving-arc-items.ensures
 
 pub loop-arc-preserved : goal.loop-arc-preserved
 loop-arc-preserved c =
-    none_at (λ (r : Bor Hashkey). r.now) (λ (a : ℕ). key_without c.args.party (opened (history (entries_in c.args.known.now) a) c.args.lock)) c.leaving-arc-items.result.now c.loop-arc.arc-index 0 c.key_without-found.result c.loop-arc-test.true c.loop-arc.invariant
+    none_at (λ (r : Bor Hashkey). r.now) (λ (a : ℕ). key_without c.args.party (opened (history (entries_in c.args.known.now) a) c.args.lock))
+    c.leaving-arc-items.result.now c.loop-arc.arc-index 0 c.key_without-found.result c.loop-arc-test.true c.loop-arc.invariant
     c.key_without-found.ensures (sym c.is_some.ensures ∙ c.if-is_some.false)

@@ -8,7 +8,8 @@ use Rattle.late_check.proofs.openings.opened.Goals as goal
 pub opened-requires : goal.opened-requires
 opened-requires c =
     let l = c.in-Some.ensures.lookup in
-    has_lock (λ (x : IndexState). x.terms) c.args.deal.now c.args.known.now c.args.arc c.args.lock c.in-Some.index.now c.requires.sized c.requires.known.terms l.3.0 l.1 c.requires.lock
+    has_lock (λ (x : IndexState). x.terms) c.args.deal.now c.args.known.now c.args.arc c.args.lock c.in-Some.index.now c.requires.sized
+    c.requires.known.terms l.3.0 l.1 c.requires.lock
 
 pub returns-in-Some : goal.returns-in-Some
 returns-in-Some c =

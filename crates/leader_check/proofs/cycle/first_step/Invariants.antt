@@ -7,4 +7,5 @@ use Rattle.leader_check.proofs.cycle.first_step.Given as goal
 
 abbrev pub invariant-loop-w : goal.invariant-loop-w
 invariant-loop-w l =
-    first_of (λ w. only_if (has_arc l.graph l.u w && has_bit l.row l.v w) w) (range_with_len l.w (l.graph.n - l.w)) ≡ first_of (λ w. only_if (has_arc l.graph l.u w && has_bit l.row l.v w) w) (parties l.graph)
+    first_of (λ w. only_if (has_arc l.graph l.u w && has_bit l.row l.v w) w) (range_with_len l.w (l.graph.n - l.w))
+    ≡ first_of (λ w. only_if (has_arc l.graph l.u w && has_bit l.row l.v w) w) (parties l.graph)

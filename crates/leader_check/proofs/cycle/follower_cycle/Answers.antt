@@ -9,13 +9,15 @@ unfolding follower_cycle
 returns-then-is_some c =
     let tell = subst (TellAllWalks c.args.graph.now c.args.leaders.now) (sym c.deref.ensures.value) c.in_ok-rows.ensures in
     let is = c.in_ok-found.ensures ∙ cycle_is_from c.args.graph.now c.args.leaders.now c.deref.result.now c.loop-v.v tell in
-    is ∙ first_is_found (cycle_from c.args.graph.now c.args.leaders.now) c.loop-v.v c.args.graph.now.n _ (omega arith) (ap is_some (sym is) ∙ sym c.is_some.ensures ∙ c.if-is_some.true) c.loop-v.invariant
+    is ∙ first_is_found (cycle_from c.args.graph.now c.args.leaders.now) c.loop-v.v c.args.graph.now.n _ (omega arith) (ap is_some (sym is)
+    ∙ sym c.is_some.ensures ∙ c.if-is_some.true) c.loop-v.invariant
 
 pub loop-v-preserved : goal.loop-v-preserved
 loop-v-preserved c =
     let tell = subst (TellAllWalks c.args.graph.now c.args.leaders.now) (sym c.deref.ensures.value) c.in_ok-rows.ensures in
     let is = c.in_ok-found.ensures ∙ cycle_is_from c.args.graph.now c.args.leaders.now c.deref.result.now c.loop-v.v tell in
-    first_goes_on (cycle_from c.args.graph.now c.args.leaders.now) c.loop-v.v c.args.graph.now.n _ (omega arith) (ap is_some (sym is) ∙ sym c.is_some.ensures ∙ c.if-is_some.false) c.loop-v.invariant
+    first_goes_on (cycle_from c.args.graph.now c.args.leaders.now) c.loop-v.v c.args.graph.now.n _ (omega arith) (ap is_some (sym is)
+    ∙ sym c.is_some.ensures ∙ c.if-is_some.false) c.loop-v.invariant
 
 pub returns : goal.returns
 unfolding follower_cycle

@@ -15,12 +15,22 @@ loop-arc-preserved c =
     record {
       size = length-set _ _ _ ∙ s;
       leads = λ v u.
-          unite (λ a. a.from) (λ a. slice_index c.args.row.now a.to) c.arcs-arc-items.result.now c.loop-arc.arc-index (record { from = 0; to = 0 }) c.loop-arc.leads.items _ v u _ c.loop-arc-test.true (omega (arith, s, place))
-          (ap (λ (x : ℕ). bit_or x (slice_index c.args.row.now (get_or c.arcs-arc-items.result.now c.loop-arc.arc-index (record { from = 0; to = 0 })).to)) (c.index_mut.ensures.value ∙ get_or_default_zero c.loop-arc.leads.items _ _ (omega (arith, s, place)))) (c.loop-arc.invariant.leads v u);
+          unite (λ a. a.from) (λ a. slice_index c.args.row.now a.to) c.arcs-arc-items.result.now c.loop-arc.arc-index (record {
+            from = 0;
+            to =
+                0;
+          }) c.loop-arc.leads.items _ v u _ c.loop-arc-test.true (omega (arith, s, place))
+          (ap (λ (x : ℕ). bit_or x (slice_index c.args.row.now (get_or c.arcs-arc-items.result.now c.loop-arc.arc-index (record {
+            from = 0;
+            to =
+                0;
+          })).to)) (c.index_mut.ensures.value ∙ get_or_default_zero c.loop-arc.leads.items _ _ (omega (arith, s, place))))
+          (c.loop-arc.invariant.leads v u);
     }
 
 pub returns-clause-leads : goal.returns-clause-leads
 unfolding leads_into
 returns-clause-leads c v u lt =
-    any_ends (λ a. (a.from == u) && has_bit c.args.row.now v a.to) c.arcs-arc-items.result.now c.loop-arc.arc-index (has_bit c.loop-arc.leads.items v u) _ c.loop-arc-test.false (c.loop-arc.invariant.leads v u)
+    any_ends (λ a. (a.from == u) && has_bit c.args.row.now v a.to) c.arcs-arc-items.result.now c.loop-arc.arc-index (has_bit c.loop-arc.leads.items v u)
+    _ c.loop-arc-test.false (c.loop-arc.invariant.leads v u)
     ∙ ap (λ (xs : List ArcEnds). list_any (λ a. (a.from == u) && has_bit c.args.row.now v a.to) xs) c.arcs-arc-items.ensures

@@ -7,5 +7,6 @@ abbrev pub invariant-loop-arc : goal.invariant-loop-arc
 invariant-loop-arc l =
     record {
       size : length l.leads.items ≡ l.graph.n;
-      leads : (v u : ℕ) → (has_bit l.leads.items v u || list_any (λ a. (a.from == u) && has_bit l.row v a.to) (drop l.arc-index l.arc-items)) ≡ list_any (λ a. (a.from == u) && has_bit l.row v a.to) l.arc-items;
+      leads : (v u : ℕ) → (has_bit l.leads.items v u || list_any (λ a. (a.from == u) && has_bit l.row v a.to) (drop l.arc-index l.arc-items))
+          ≡ list_any (λ a. (a.from == u) && has_bit l.row v a.to) l.arc-items;
     }

@@ -9,11 +9,16 @@ loop-left-preserved c =
     record {
       in_range = omega arith;
       walk =
-          ap (λ (xs : List ℕ). xs ++ walk_of c.args.graph.now (has_bit_in c.args.rows.now c.args.v) (c.loop-left.left - 1) c.first_step-u.result) c.in_ok-push.ensures.items
-          ∙ walk_goes_on c.args.graph.now (has_bit_in c.args.rows.now c.args.v) c.loop-left.left c.loop-left.u c.first_step-u.result c.loop-left.list.items _ (omega arith)
-          (c.first_step-u.ensures ∙ ap (λ (row : List ℕ). first_step c.args.graph.now (has_bit row c.args.v) c.loop-left.u) (c.as_slice.ensures ∙ get_or_read c.args.rows.now (c.loop-left.left - 1) c.index-rows-left.result (omega arith) c.index-rows-left.is []))
+          ap (λ (xs : List ℕ). xs ++ walk_of c.args.graph.now (has_bit_in c.args.rows.now c.args.v) (c.loop-left.left - 1) c.first_step-u.result)
+          c.in_ok-push.ensures.items
+          ∙ walk_goes_on c.args.graph.now (has_bit_in c.args.rows.now c.args.v) c.loop-left.left c.loop-left.u c.first_step-u.result
+          c.loop-left.list.items _ (omega arith)
+          (c.first_step-u.ensures ∙ ap (λ (row : List ℕ). first_step c.args.graph.now (has_bit row c.args.v) c.loop-left.u) (c.as_slice.ensures
+          ∙ get_or_read c.args.rows.now (c.loop-left.left - 1) c.index-rows-left.result (omega arith) c.index-rows-left.is []))
           c.loop-left.invariant.walk;
     }
 
 pub returns : goal.returns
-returns c = c.new.ensures ∙ walk_ends c.args.graph.now (has_bit_in c.args.rows.now c.args.v) c.loop-left.left c.loop-left.u c.loop-left.list.items _ (omega arith) c.loop-left.invariant.walk
+returns c =
+    c.new.ensures ∙ walk_ends c.args.graph.now (has_bit_in c.args.rows.now c.args.v) c.loop-left.left c.loop-left.u c.loop-left.list.items _
+    (omega arith) c.loop-left.invariant.walk

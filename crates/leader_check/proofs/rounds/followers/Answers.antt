@@ -7,4 +7,5 @@ use Rattle.leader_check.proofs.rounds.followers.Goals as goal
 pub loop-v-preserved : goal.loop-v-preserved
 loop-v-preserved c =
     map_more (is_follower c.args.graph.now c.args.leaders.now) c.loop-v.v c.loop-v.row.items c.push.new.self.items
-    (c.in_ok-push.ensures.items ∙ ap (λ (x : Bool). c.loop-v.row.items ++ x ∷ []) (c.follows.ensures ∙ sym (follower_is c.args.graph.now c.args.leaders.now c.loop-v.v (omega arith)))) c.loop-v.invariant
+    (c.in_ok-push.ensures.items ∙ ap (λ (x : Bool). c.loop-v.row.items ++ x ∷ []) (c.follows.ensures
+    ∙ sym (follower_is c.args.graph.now c.args.leaders.now c.loop-v.v (omega arith)))) c.loop-v.invariant

@@ -10,16 +10,23 @@ loop-round-init c =
     zeros ∙ ap (λ n. replicate {A = ℕ} n 0) c.n-n.ensures ∙ levels_none c.args.graph.now c.args.leaders.now
 
 pub next_levels-requires-clause-follows : goal.next_levels-requires-clause-follows
-next_levels-requires-clause-follows c = length-row (is_follower c.args.graph.now c.args.leaders.now) c.args.graph.now.n c.deref.result.now (c.deref.ensures.value ∙ c.in_ok-follows.ensures)
+next_levels-requires-clause-follows c =
+    length-row (is_follower c.args.graph.now c.args.leaders.now) c.args.graph.now.n c.deref.result.now (c.deref.ensures.value ∙ c.in_ok-follows.ensures)
 
 pub next_levels-requires-clause-row : goal.next_levels-requires-clause-row
-next_levels-requires-clause-row c = length-row (level_within c.args.graph.now c.args.leaders.now c.loop-round._round) c.args.graph.now.n c.deref-in-loop-round.result.now (c.deref-in-loop-round.ensures.value ∙ c.loop-round.invariant)
+next_levels-requires-clause-row c =
+    length-row (level_within c.args.graph.now c.args.leaders.now c.loop-round._round) c.args.graph.now.n c.deref-in-loop-round.result.now
+    (c.deref-in-loop-round.ensures.value ∙ c.loop-round.invariant)
 
 pub next_levels-requires-clause-low : goal.next_levels-requires-clause-low
-next_levels-requires-clause-low c = levels_low c.args.graph.now c.args.leaders.now c.loop-round._round c.deref-in-loop-round.result.now (c.deref-in-loop-round.ensures.value ∙ c.loop-round.invariant) (omega arith)
+next_levels-requires-clause-low c =
+    levels_low c.args.graph.now c.args.leaders.now c.loop-round._round c.deref-in-loop-round.result.now (c.deref-in-loop-round.ensures.value
+    ∙ c.loop-round.invariant) (omega arith)
 
 pub loop-round-preserved : goal.loop-round-preserved
-loop-round-preserved c = levels_next c.args.graph.now c.args.leaders.now c.loop-round._round c.deref.result.now c.deref-in-loop-round.result.now c.in_ok-row-2.row.items (c.deref.ensures.value ∙ c.in_ok-follows.ensures) (c.deref-in-loop-round.ensures.value ∙ c.loop-round.invariant) c.in_ok-row-2.ensures
+loop-round-preserved c =
+    levels_next c.args.graph.now c.args.leaders.now c.loop-round._round c.deref.result.now c.deref-in-loop-round.result.now c.in_ok-row-2.row.items
+    (c.deref.ensures.value ∙ c.in_ok-follows.ensures) (c.deref-in-loop-round.ensures.value ∙ c.loop-round.invariant) c.in_ok-row-2.ensures
 
 pub returns : goal.returns
 returns c = levels_all c.args.graph.now c.args.leaders.now c.loop-round._round c.loop-round.row.items c.loop-round.invariant (omega arith)

@@ -6,5 +6,6 @@ abbrev pub invariant-loop-arc : goal.invariant-loop-arc
 invariant-loop-arc l =
     record {
       size : length l.most.items ≡ l.graph.n;
-      most : (v : ℕ) → max (slice_index l.most.items v) (greatest (λ a. cond (a.to == v) (slice_index l.row a.from) 0) (drop l.arc-index l.arc-items)) ≡ greatest (λ a. cond (a.to == v) (slice_index l.row a.from) 0) l.arc-items;
+      most : (v : ℕ) → max (slice_index l.most.items v) (greatest (λ a. cond (a.to == v) (slice_index l.row a.from) 0) (drop l.arc-index l.arc-items))
+          ≡ greatest (λ a. cond (a.to == v) (slice_index l.row a.from) 0) l.arc-items;
     }

@@ -6,18 +6,24 @@ use Rattle.ledger_core.proofs.balances.accounts_in.Goals.{in-One, in-Ticks}
 pub accounts_with-accounts-requires-clause-funds : goal.accounts_with-accounts-requires-clause-funds
 accounts_with-accounts-requires-clause-funds c =
     let l = c.loop-item in
-    funds_at c.args.deal.now c.args.arc c.args.items.now l.item-index c.item-item.result c.in-One.entry l.accounts c.loop-item-test.true c.item-item.is c.in-One.is c.requires.legal l.invariant
+    funds_at c.args.deal.now c.args.arc c.args.items.now l.item-index c.item-item.result c.in-One.entry l.accounts c.loop-item-test.true c.item-item.is
+    c.in-One.is c.requires.legal l.invariant
 
 pub accounts_with-accounts-requires-clause-bound : goal.accounts_with-accounts-requires-clause-bound
 accounts_with-accounts-requires-clause-bound c =
     let l = c.loop-item in
-    bounded_at c.args.deal.now c.args.arc c.args.items.now l.item-index c.item-item.result l.accounts c.loop-item-test.true c.item-item.is c.requires.legal c.requires.sized c.requires.arc l.invariant
+    bounded_at c.args.deal.now c.args.arc c.args.items.now l.item-index c.item-item.result l.accounts c.loop-item-test.true c.item-item.is
+    c.requires.legal c.requires.sized c.requires.arc l.invariant
 
 pub loop-item-preserved : goal.loop-item-preserved
 loop-item-preserved c =
     let d = c.args.deal.now in
     let l = c.loop-item in
     elim c.match-item.branch [
-      | in-One w ↦ w.accounts-is ∙ (w.accounts_with-accounts.ensures ∙ accounts_one d c.args.arc c.args.items.now l.item-index c.item-item.result w.in-One.entry l.accounts c.loop-item-test.true c.item-item.is w.in-One.is l.invariant)
-      | in-Ticks w ↦ w.accounts-is ∙ accounts_run d c.args.arc c.args.items.now l.item-index c.item-item.result w.in-Ticks.field-0 l.accounts c.loop-item-test.true c.item-item.is w.in-Ticks.is l.invariant
+      | in-One w ↦ w.accounts-is ∙ (w.accounts_with-accounts.ensures
+          ∙ accounts_one d c.args.arc c.args.items.now l.item-index c.item-item.result w.in-One.entry l.accounts c.loop-item-test.true c.item-item.is
+          w.in-One.is l.invariant)
+      | in-Ticks w ↦ w.accounts-is
+          ∙ accounts_run d c.args.arc c.args.items.now l.item-index c.item-item.result w.in-Ticks.field-0 l.accounts c.loop-item-test.true
+          c.item-item.is w.in-Ticks.is l.invariant
     ]

@@ -15,4 +15,5 @@ pub returns : goal.returns
 returns c =
     let d = c.args.deal.now in
     let run = c.parts.result.1 in
-    c.accounts_in.ensures ∙ sym (ap (accounts d c.args.arc) c.parts.ensures.list ∙ accounts_ticks d c.args.arc (expand c.parts.result.0.now) run.above run.by run.count)
+    c.accounts_in.ensures ∙ sym (ap (accounts d c.args.arc) c.parts.ensures.list
+    ∙ accounts_ticks d c.args.arc (expand c.parts.result.0.now) run.above run.by run.count)

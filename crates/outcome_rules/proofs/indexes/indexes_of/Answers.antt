@@ -9,5 +9,6 @@ loop-arc-preserved c =
     let n = c.loop-arc.arc in
     let read = c.as_slice-list-items.result.now in
     subst (λ (b : Histories). AreFirst d b (n + 1) c.push.new.self.items) c.as_slice-list-items.ensures
-    (first_more d read n c.loop-arc.known.items c.push.new.self.items c.in_ok-index_of.field-0 c.list-item.result c.loop-arc-test.true c.list-item.is c.in_ok-index_of.ensures c.in_ok-push.ensures.items
+    (first_more d read n c.loop-arc.known.items c.push.new.self.items c.in_ok-index_of.field-0 c.list-item.result c.loop-arc-test.true c.list-item.is
+    c.in_ok-index_of.ensures c.in_ok-push.ensures.items
     (subst (λ (b : Histories). AreFirst d b n c.loop-arc.known.items) (sym c.as_slice-list-items.ensures) c.loop-arc.invariant))

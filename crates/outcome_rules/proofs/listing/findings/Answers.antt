@@ -7,7 +7,8 @@ use Rattle.outcome_rules.proofs.listing.findings.Goals as goal
 
 pub returns-clause-exact : goal.returns-clause-exact
 returns-clause-exact c =
-    subst (λ (b : Histories). IfOk c.findings_indexed.result (λ l. l ≡ findings c.args.deal.now (conforms_in c.args.conforming.now) b)) (ap entries_in c.deref.ensures.value ∙ c.in_ok-known.ensures.entries) c.findings_indexed.ensures.exact
+    subst (λ (b : Histories). IfOk c.findings_indexed.result (λ l. l ≡ findings c.args.deal.now (conforms_in c.args.conforming.now) b))
+    (ap entries_in c.deref.ensures.value ∙ c.in_ok-known.ensures.entries) c.findings_indexed.ensures.exact
 
 pub returns-clause-safe : goal.returns-clause-safe
 returns-clause-safe c = rw (ap entries_in c.deref.ensures.value ∙ c.in_ok-known.ensures.entries) at c.findings_indexed.ensures.safe

@@ -6,4 +6,5 @@ use Rattle.history_index.specs.Indexes.{entries_in}
 use Rattle.outcome_rules.proofs.listing.findings_indexed.Given as goal
 
 abbrev pub invariant-loop-party : goal.invariant-loop-party
-invariant-loop-party l = l.list.items ≡ flat_map (λ v. if conforms_in l.conforming v then findings_of l.deal (entries_in l.known) v else []) (range_with_len 0 l.party)
+invariant-loop-party l =
+    l.list.items ≡ flat_map (λ v. if conforms_in l.conforming v then findings_of l.deal (entries_in l.known) v else []) (range_with_len 0 l.party)

@@ -7,4 +7,5 @@ use Rattle.outcome_rules.proofs.report.has_ended.Goals as goal
 
 pub returns : goal.returns
 returns c =
-    c.are_above.ensures ∙ sym (above_in c.horizon.result c.args.known.now) ∙ ap (λ (n : ℕ). list_all (λ h. nat_lt n (height h)) (entries_in c.args.known.now)) c.horizon.ensures
+    c.are_above.ensures ∙ sym (above_in c.horizon.result c.args.known.now)
+    ∙ ap (λ (n : ℕ). list_all (λ h. nat_lt n (height h)) (entries_in c.args.known.now)) c.horizon.ensures

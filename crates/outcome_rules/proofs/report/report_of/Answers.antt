@@ -6,7 +6,8 @@ use Rattle.outcome_rules.proofs.report.report_of.Goals as goal
 
 pub returns-clause-exact : goal.returns-clause-exact
 returns-clause-exact c =
-    subst (λ (b : Histories). IfOk c.report_indexed.result (λ r. r ≡ report_of c.args.deal.now c.args.conforming.now b)) (ap entries_in c.deref.ensures.value ∙ c.in_ok-known.ensures.entries) c.report_indexed.ensures.exact
+    subst (λ (b : Histories). IfOk c.report_indexed.result (λ r. r ≡ report_of c.args.deal.now c.args.conforming.now b))
+    (ap entries_in c.deref.ensures.value ∙ c.in_ok-known.ensures.entries) c.report_indexed.ensures.exact
 
 pub returns-clause-refunds : goal.returns-clause-refunds
 returns-clause-refunds c = rw (ap entries_in c.deref.ensures.value ∙ c.in_ok-known.ensures.entries) at c.report_indexed.ensures.refunds

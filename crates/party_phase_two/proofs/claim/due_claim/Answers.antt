@@ -9,4 +9,6 @@ pub returns-clause-first : goal.returns-clause-first
 returns-clause-first g c = ap (option_map claim_on) c.first_claim.ensures ∙ sym (first_claim c.args.deal.now c.args.me (map g.F.Facts.entries c.args.known.now))
 
 pub returns-clause-arc : goal.returns-clause-arc
-returns-clause-arc g c = entering_below (is_due_claim c.args.deal.now c.args.me (map g.F.Facts.entries c.args.known.now)) c.args.deal.now.graph.arcs c.args.me c.first_claim.result c.first_claim.ensures
+returns-clause-arc g c =
+    entering_below (is_due_claim c.args.deal.now c.args.me (map g.F.Facts.entries c.args.known.now)) c.args.deal.now.graph.arcs c.args.me
+    c.first_claim.result c.first_claim.ensures

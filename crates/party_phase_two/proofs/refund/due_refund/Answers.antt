@@ -6,7 +6,10 @@ use Rattle.party_phase_two.proofs.Settling.{first_refund}
 use Rattle.party_phase_two.proofs.refund.due_refund.Goals as goal
 
 pub returns-clause-first : goal.returns-clause-first
-returns-clause-first g c = ap (option_map refund_on) c.first_refund.ensures ∙ sym (first_refund c.args.deal.now c.args.me (map g.F.Facts.entries c.args.known.now))
+returns-clause-first g c =
+    ap (option_map refund_on) c.first_refund.ensures ∙ sym (first_refund c.args.deal.now c.args.me (map g.F.Facts.entries c.args.known.now))
 
 pub returns-clause-arc : goal.returns-clause-arc
-returns-clause-arc g c = leaving_below (is_due_refund c.args.deal.now c.args.me (map g.F.Facts.entries c.args.known.now)) c.args.deal.now.graph.arcs c.args.me c.first_refund.result c.first_refund.ensures
+returns-clause-arc g c =
+    leaving_below (is_due_refund c.args.deal.now c.args.me (map g.F.Facts.entries c.args.known.now)) c.args.deal.now.graph.arcs c.args.me
+    c.first_refund.result c.first_refund.ensures

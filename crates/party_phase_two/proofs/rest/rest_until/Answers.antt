@@ -24,6 +24,8 @@ arcs-preserved g c =
       | then-is_waiting w ↦ (
           let is : c.if-is_waiting.until ≡ Some (lesser c.arcs.until w.least_expiry.result) = w.until-is ∙ ap (λ (n : ℕ). Some n) w.lesser.ensures in
           is ∙ ap (λ (n : ℕ). Some (lesser c.arcs.until n)) w.least_expiry.ensures.exact
-          ∙ counts_on waits expiries arcs c.arcs.arc-index c.arcs.until c.arcs-test.true (sym c.is_waiting.ensures.exact ∙ w.if-is_waiting.true) c.arcs.invariant)
-      | else-is_waiting w ↦ w.until-is ∙ counts_off waits expiries arcs c.arcs.arc-index c.arcs.until c.arcs-test.true (sym c.is_waiting.ensures.exact ∙ w.if-is_waiting.false) c.arcs.invariant
+          ∙ counts_on waits expiries arcs c.arcs.arc-index c.arcs.until c.arcs-test.true (sym c.is_waiting.ensures.exact
+          ∙ w.if-is_waiting.true) c.arcs.invariant)
+      | else-is_waiting w ↦ w.until-is ∙ counts_off waits expiries arcs c.arcs.arc-index c.arcs.until c.arcs-test.true (sym c.is_waiting.ensures.exact
+          ∙ w.if-is_waiting.false) c.arcs.invariant
     ]

@@ -5,4 +5,6 @@ use Rattle.swap_laws.specs.Rest.{is_waiting, least_of}
 use Rattle.party_phase_two.proofs.rest.rest_until.Given as goal
 
 abbrev pub invariant-arcs : goal.invariant-arcs
-invariant-arcs g l = l.until ≡ least_of (map (λ a. least_expiry l.deal a (history (map g.F.Facts.entries l.known) a)) (filter (is_waiting l.deal l.me (map g.F.Facts.entries l.known)) (take l.arc-index l.arc-items)))
+invariant-arcs g l =
+    l.until ≡ least_of (map (λ a. least_expiry l.deal a (history (map g.F.Facts.entries l.known) a))
+    (filter (is_waiting l.deal l.me (map g.F.Facts.entries l.known)) (take l.arc-index l.arc-items)))

@@ -7,8 +7,11 @@ use Rattle.party_phase_two.proofs.unlock.first_unlock.Goals as goal
 pub returns-then-is_some : goal.returns-then-is_some
 returns-then-is_some g c =
     let e = c.len-lock-end.ensures in
-    is_found (unlock_for c.args.deal.now c.args.me (signed_in c.args.signed.now.keys) (map g.F.Facts.entries c.args.known.now)) c.loop-lock.lock (length c.args.deal.now.leaders) c.unlock_for-found.result (omega (arith, e, c.loop-lock-test.true)) c.loop-lock.invariant c.unlock_for-found.ensures (sym c.is_some.ensures ∙ c.if-is_some.true)
+    is_found (unlock_for c.args.deal.now c.args.me (signed_in c.args.signed.now.keys) (map g.F.Facts.entries c.args.known.now)) c.loop-lock.lock
+    (length c.args.deal.now.leaders) c.unlock_for-found.result (omega (arith, e, c.loop-lock-test.true)) c.loop-lock.invariant
+    c.unlock_for-found.ensures (sym c.is_some.ensures ∙ c.if-is_some.true)
 
 pub loop-lock-preserved : goal.loop-lock-preserved
 loop-lock-preserved g c =
-    none_more (unlock_for c.args.deal.now c.args.me (signed_in c.args.signed.now.keys) (map g.F.Facts.entries c.args.known.now)) c.loop-lock.lock c.unlock_for-found.result c.loop-lock.invariant c.unlock_for-found.ensures (sym c.is_some.ensures ∙ c.if-is_some.false)
+    none_more (unlock_for c.args.deal.now c.args.me (signed_in c.args.signed.now.keys) (map g.F.Facts.entries c.args.known.now)) c.loop-lock.lock
+    c.unlock_for-found.result c.loop-lock.invariant c.unlock_for-found.ensures (sym c.is_some.ensures ∙ c.if-is_some.false)

@@ -10,7 +10,8 @@ use Rattle.party_phase_two.proofs.unlock.is_seen.Goals as goal
 pub opened_key-requires : goal.opened_key-requires
 opened_key-requires g c =
     let l = c.in-Some.ensures.lookup in
-    has_lock g.F.Facts.terms c.args.deal.now c.args.known.now c.args.arc c.args.lock c.in-Some.fact.now c.requires.sized c.requires.known l.3.0 l.1 c.requires.lock
+    has_lock g.F.Facts.terms c.args.deal.now c.args.known.now c.args.arc c.args.lock c.in-Some.fact.now c.requires.sized c.requires.known l.3.0 l.1
+    c.requires.lock
 
 pub returns-in-Some-opened_key : goal.returns-in-Some-opened_key
 returns-in-Some-opened_key g c =

@@ -10,13 +10,15 @@ use Rattle.sent_keys.proofs.keys.first_key.Goals as goal
 pub returns-then-key-lock : goal.returns-then-key-lock
 returns-then-key-lock c =
     let k = c.key-item.result in
-    found_first (for_lock c.args.lock) c.args.keys.now c.loop-key.key-index k (Some k.now) c.loop-key-test.true c.key-item.is c.loop-key.invariant (sym (ap (λ b. cond b (Some k.now) None) (eq-eqb k.now.lock c.args.lock c.if-key-lock.true))) refl
+    found_first (for_lock c.args.lock) c.args.keys.now c.loop-key.key-index k (Some k.now) c.loop-key-test.true c.key-item.is c.loop-key.invariant
+    (sym (ap (λ b. cond b (Some k.now) None) (eq-eqb k.now.lock c.args.lock c.if-key-lock.true))) refl
     ∙ first_sent c.args.lock c.args.party (entries_in c.args.known.now) c.args.keys.now c.requires.keys
 
 pub loop-key-preserved : goal.loop-key-preserved
 loop-key-preserved c =
     let k = c.key-item.result in
-    none_first (for_lock c.args.lock) c.args.keys.now c.loop-key.key-index k None c.loop-key-test.true c.key-item.is c.loop-key.invariant (sym (ap (λ b. cond b (Some k.now) None) (ne_eqb k.now.lock c.args.lock c.if-key-lock.false))) refl
+    none_first (for_lock c.args.lock) c.args.keys.now c.loop-key.key-index k None c.loop-key-test.true c.key-item.is c.loop-key.invariant
+    (sym (ap (λ b. cond b (Some k.now) None) (ne_eqb k.now.lock c.args.lock c.if-key-lock.false))) refl
 
 pub returns : goal.returns
 returns c =

@@ -6,5 +6,6 @@ use Rattle.sent_keys.proofs.keys.put_own_unlocks.Goals as goal
 
 pub returns-else-touches : goal.returns-else-touches
 returns-else-touches c =
-    sym (ap (λ l. shown c.args.keys.now.items ++ l) (no_unlocks c.args.deal.now (entries_in c.args.known.now) c.args.arc c.args.party c.requires.legal c.requires.arc (sym c.touches.ensures ∙ c.if-touches.false))
+    sym (ap (λ l. shown c.args.keys.now.items ++ l) (no_unlocks c.args.deal.now (entries_in c.args.known.now) c.args.arc c.args.party c.requires.legal
+    c.requires.arc (sym c.touches.ensures ∙ c.if-touches.false))
     ∙ append-nil (shown c.args.keys.now.items))

@@ -9,7 +9,8 @@ use Rattle.sent_keys.proofs.keys.unlocks_on_own_arcs.Goals as goal
 
 pub loop-arc-preserved : goal.loop-arc-preserved
 loop-arc-preserved c =
-    flat_more (λ a. unlocks_in (history (entries_in c.args.known.now) a) c.args.party) [] (shown c.loop-arc.keys.items) (shown c.put_own_unlocks.new.keys.items) c.loop-arc.arc c.loop-arc.invariant c.in_ok-put_own_unlocks.ensures
+    flat_more (λ a. unlocks_in (history (entries_in c.args.known.now) a) c.args.party) [] (shown c.loop-arc.keys.items)
+    (shown c.put_own_unlocks.new.keys.items) c.loop-arc.arc c.loop-arc.invariant c.in_ok-put_own_unlocks.ensures
 
 pub returns : goal.returns
 returns c =

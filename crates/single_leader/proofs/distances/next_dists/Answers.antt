@@ -8,12 +8,18 @@ use Rattle.single_leader.proofs.distances.next_dists.Goals as goal
 pub dist_over-requires : goal.dist_over-requires
 dist_over-requires c =
     let s = c.in_ok-most.ensures.parties in
-    let e = c.index.ensures ∙ get_or_default_zero c.in_ok-most.most.items c.loop-v.v c.index.result.now (omega (arith, s)) ∙ c.in_ok-most.ensures.most c.loop-v.v (omega arith) in
+    let e =
+    c.index.ensures ∙ get_or_default_zero c.in_ok-most.most.items c.loop-v.v c.index.result.now (omega (arith, s))
+    ∙ c.in_ok-most.ensures.most c.loop-v.v (omega arith) in
     rw e (after-below c.args.graph.now (slice_index c.args.row.now) c.loop-v.v 255 c.requires.low)
 
 pub loop-v-preserved : goal.loop-v-preserved
 loop-v-preserved c =
     let s = c.in_ok-most.ensures.parties in
-    let e = c.index.ensures ∙ get_or_default_zero c.in_ok-most.most.items c.loop-v.v c.index.result.now (omega (arith, s)) ∙ c.in_ok-most.ensures.most c.loop-v.v (omega arith) in
+    let e =
+    c.index.ensures ∙ get_or_default_zero c.in_ok-most.most.items c.loop-v.v c.index.result.now (omega (arith, s))
+    ∙ c.in_ok-most.ensures.most c.loop-v.v (omega arith) in
     map_more (dist_before c.args.graph.now c.args.leader (slice_index c.args.row.now)) c.loop-v.v c.loop-v.next.items c.push.new.self.items
-    (c.in_ok-push.ensures.items ∙ ap (λ (x : ℕ). c.loop-v.next.items ++ x ∷ []) (c.dist_over.ensures ∙ ap (λ (m : ℕ). cond (c.args.leader == c.loop-v.v) 0 (m + 1)) e ∙ before_is c.args.graph.now c.args.leader (slice_index c.args.row.now) c.loop-v.v (omega arith))) c.loop-v.invariant
+    (c.in_ok-push.ensures.items ∙ ap (λ (x : ℕ). c.loop-v.next.items ++ x ∷ []) (c.dist_over.ensures
+    ∙ ap (λ (m : ℕ). cond (c.args.leader == c.loop-v.v) 0 (m + 1)) e
+    ∙ before_is c.args.graph.now c.args.leader (slice_index c.args.row.now) c.loop-v.v (omega arith))) c.loop-v.invariant

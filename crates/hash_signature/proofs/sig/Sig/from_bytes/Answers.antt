@@ -9,7 +9,9 @@ use Rattle.hash_signature.proofs.sig.Sig.from_bytes.Goals as goal
 pub values-preserved : goal.values-preserved
 values-preserved c = record {
   width = length-set _ _ _ ∙ c.values.invariant.width;
-  filled = filled_more (value_at c.args.bytes.now) c.values.values c.values.i _ c.values.invariant.width (omega arith) c.value_at.ensures c.values.invariant.filled;
+  filled =
+      filled_more (value_at c.args.bytes.now) c.values.values c.values.i _ c.values.invariant.width (omega arith) c.value_at.ensures
+      c.values.invariant.filled;
 }
 
 pub returns-clause-values : goal.returns-clause-values
@@ -20,5 +22,6 @@ returns-clause-values c =
 pub returns-clause-bytes : goal.returns-clause-bytes
 unfolding values_of
 returns-clause-bytes c =
-    let e : c.values.values ≡ values_of c.args.bytes.now = filled_all (value_at c.args.bytes.now) c.values.values c.values.i c.values.invariant.width (omega arith) c.values.invariant.filled in
+    let e : c.values.values ≡ values_of c.args.bytes.now =
+    filled_all (value_at c.args.bytes.now) c.values.values c.values.i c.values.invariant.width (omega arith) c.values.invariant.filled in
     ap joined e ∙ joined-values_of c.args.bytes.now (omega arith)

@@ -31,7 +31,8 @@ pub returns-clause-steps : goal.returns-clause-steps
 returns-clause-steps g c =
     let p = c.into_parts-items in
     let l : length c.args.entries ≡ length (expand p.result.0.items) + p.result.1.count =
-    ap length p.ensures.list ∙ length-append (expand p.result.0.items) (ticks_of p.result.1) ∙ ap (λ n. length (expand p.result.0.items) + n) (length_run p.result.1) in
+    ap length p.ensures.list ∙ length-append (expand p.result.0.items) (ticks_of p.result.1)
+    ∙ ap (λ n. length (expand p.result.0.items) + n) (length_run p.result.1) in
     let one = c.push_items.ensures.steps in
     let two = c.push_ticks.ensures.steps in
     omega arith

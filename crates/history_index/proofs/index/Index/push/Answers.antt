@@ -26,7 +26,8 @@ invariant_of-self g c =
     let to = c.add-3.new.self in
     let items : xs ≡ h ++ e ∷ [] = ap expand c.with_entry-past.ensures.past ∙ expand_push i.past.items (One e) in
     let lock = last_lock i.from.party i.to.party h e fits in
-    let made : c.keep.new.made.items ≡ made_after i.count e i.made.items = c.keep.ensures.made ∙ ap (λ z. made_after i.count z i.made.items) c.with_entry-past.ensures.entry in
+    let made : c.keep.new.made.items ≡ made_after i.count e i.made.items =
+    c.keep.ensures.made ∙ ap (λ z. made_after i.count z i.made.items) c.with_entry-past.ensures.entry in
     let room : i.room - c.calls_in.result ≡ i.room - cond (is_call e.what) 1 0 = ap (λ n. i.room - n) c.calls_in.ensures in
     record {
       locks = k.locks;
@@ -34,9 +35,19 @@ invariant_of-self g c =
       count = ap (λ n. n + 1) k.count ∙ sym (ap length items ∙ length-append h (e ∷ []));
       answers = answers_kept i.terms h xs e i.count i.answers c.add.new.self items k.count c.add.ensures lock k.answers;
       made = made_kept h xs e i.count i.made.items c.keep.new.made.items items k.count made k.made;
-      from = calls_kept i.from.party from.party h xs e i.count i.from.numbers.items from.numbers.items i.from.kinds from.kinds c.add-2.ensures.party items k.count c.add-2.ensures.numbers c.add-2.ensures.kinds lock k.from;
-      to = calls_kept i.to.party to.party h xs e i.count i.to.numbers.items to.numbers.items i.to.kinds to.kinds c.add-3.ensures.party items k.count c.add-3.ensures.numbers c.add-3.ensures.kinds lock k.to;
-      room = room_kept (is_call e.what) (is_call e.what) (made_of i.count e) i.made.items c.keep.new.made.items i.room _ _ _ made (λ s. s) some room k.room c.keep.ensures.capacity;
-      from_room = room_kept (is_call e.what) (sent_by i.from.party e.sender) i.count i.from.numbers.items from.numbers.items i.room _ _ _ c.add-2.ensures.numbers (last_sent i.from.party i.to.party i.from.party h e fits) some room k.from_room c.add-2.ensures.capacity;
-      to_room = room_kept (is_call e.what) (sent_by i.to.party e.sender) i.count i.to.numbers.items to.numbers.items i.room _ _ _ c.add-3.ensures.numbers (last_sent i.from.party i.to.party i.to.party h e fits) some room k.to_room c.add-3.ensures.capacity;
+      from =
+          calls_kept i.from.party from.party h xs e i.count i.from.numbers.items from.numbers.items i.from.kinds from.kinds c.add-2.ensures.party items
+          k.count c.add-2.ensures.numbers c.add-2.ensures.kinds lock k.from;
+      to =
+          calls_kept i.to.party to.party h xs e i.count i.to.numbers.items to.numbers.items i.to.kinds to.kinds c.add-3.ensures.party items k.count
+          c.add-3.ensures.numbers c.add-3.ensures.kinds lock k.to;
+      room =
+          room_kept (is_call e.what) (is_call e.what) (made_of i.count e) i.made.items c.keep.new.made.items i.room _ _ _ made (λ s.
+          s) some room k.room c.keep.ensures.capacity;
+      from_room =
+          room_kept (is_call e.what) (sent_by i.from.party e.sender) i.count i.from.numbers.items from.numbers.items i.room _ _ _
+          c.add-2.ensures.numbers (last_sent i.from.party i.to.party i.from.party h e fits) some room k.from_room c.add-2.ensures.capacity;
+      to_room =
+          room_kept (is_call e.what) (sent_by i.to.party e.sender) i.count i.to.numbers.items to.numbers.items i.room _ _ _ c.add-3.ensures.numbers
+          (last_sent i.from.party i.to.party i.to.party h e fits) some room k.to_room c.add-3.ensures.capacity;
     }

@@ -7,4 +7,5 @@ pub returns-then-by-self-2 : goal.returns-then-by-self-2
 returns-then-by-self-2 c =
     let i = c.self.inside in
     rw (← c.self.view_is)
-    (sym (nothing_called i.from.party i.to.party c.args.by c.args.kind (expand i.past.items) c.self.invariant.indexable.senders c.if-by-self.true c.if-by-self-2.true))
+    (sym (nothing_called i.from.party i.to.party c.args.by c.args.kind (expand i.past.items) c.self.invariant.indexable.senders c.if-by-self.true
+    c.if-by-self-2.true))

@@ -8,7 +8,9 @@ use Rattle.ledger_core.proofs.Scans.{bounded, reply_is, has_room, kept_call, cal
 use Rattle.ledger_core.proofs.ledger.Ledger.apply.Goals as goal
 
 pub returns-then-is_full-clause-reply : goal.returns-then-is_full-clause-reply
-returns-then-is_full-clause-reply c = sym (full_reply c.args.self.now.deal c.args.self.now.arc c.args.self.now.history c.args.sender c.args.call (sym c.is_full.ensures ∙ c.if-is_full.true))
+returns-then-is_full-clause-reply c =
+    sym (full_reply c.args.self.now.deal c.args.self.now.arc c.args.self.now.history c.args.sender c.args.call (sym c.is_full.ensures
+    ∙ c.if-is_full.true))
 
 pub reply_of-reply-requires-clause-contract : goal.reply_of-reply-requires-clause-contract
 reply_of-reply-requires-clause-contract c =
@@ -36,7 +38,9 @@ invariant_of-self c =
     let fits = rw (← c.self.view_is) at c.requires.fits in
     let unfull = rw (← c.self.view_is) at (sym c.is_full.ensures ∙ c.if-is_full.false) in
     let have = rw (← c.self.view_is) at c.balance-balance.ensures in
-    let reply = reply_is l.deal l.arc l.history.list l.height l.accounts l.contract l.party_calls l.counterparty_calls l.ticks c.balance-balance.result c.args.sender c.args.call c.reply_of-reply.result i.scans unfull have c.reply_of-reply.ensures.reply in
+    let reply =
+    reply_is l.deal l.arc l.history.list l.height l.accounts l.contract l.party_calls l.counterparty_calls l.ticks c.balance-balance.result
+    c.args.sender c.args.call c.reply_of-reply.result i.scans unfull have c.reply_of-reply.ensures.reply in
     record {
       sized = i.sized;
       arc = i.arc;
@@ -45,10 +49,19 @@ invariant_of-self c =
       scans =
           rw c.push.ensures.list
           (call_scans l.deal l.arc l.history.list l.height l.accounts c.accounts_after-self-inside.result l.contract c.reply_of-reply.new.contract
-          l.party_calls c.one_more_where-self-inside.result l.counterparty_calls c.one_more_where-self-inside-2.result l.ticks c.args.sender c.args.call c.reply_of-reply.result
+          l.party_calls c.one_more_where-self-inside.result l.counterparty_calls c.one_more_where-self-inside-2.result l.ticks c.args.sender c.args.call
+          c.reply_of-reply.result
           i.scans
-          (record { of_the_two = two; fits = fits; height = i.scans.height; reply = reply; room = has_room l.deal l.arc l.history.list c.args.sender c.args.call c.reply_of-reply.result unfull reply })
-          (c.accounts_after-self-inside.ensures ∙ ap (λ p. moved_by p l.accounts (c.args.sender == p) (accepted_in (Made c.args.call) c.reply_of-reply.result)) i.party)
+          (record {
+            of_the_two = two;
+            fits = fits;
+            height = i.scans.height;
+            reply = reply;
+            room =
+                has_room l.deal l.arc l.history.list c.args.sender c.args.call c.reply_of-reply.result unfull reply;
+          })
+          (c.accounts_after-self-inside.ensures
+          ∙ ap (λ p. moved_by p l.accounts (c.args.sender == p) (accepted_in (Made c.args.call) c.reply_of-reply.result)) i.party)
           c.reply_of-reply.ensures.contract
           (c.one_more_where-self-inside.ensures ∙ ap (λ p. l.party_calls + cond (c.args.sender == p) 1 0) i.party)
           (c.one_more_where-self-inside-2.ensures ∙ ap (λ p. l.counterparty_calls + cond (c.args.sender == p) 1 0) i.counterparty));
@@ -61,7 +74,8 @@ returns-clause-reply c =
     let unfull = rw (← c.self.view_is) at (sym c.is_full.ensures ∙ c.if-is_full.false) in
     let have = rw (← c.self.view_is) at c.balance-balance.ensures in
     rw (← c.self.view_is)
-    (reply_is l.deal l.arc l.history.list l.height l.accounts l.contract l.party_calls l.counterparty_calls l.ticks c.balance-balance.result c.args.sender c.args.call c.reply_of-reply.result i.scans unfull have c.reply_of-reply.ensures.reply)
+    (reply_is l.deal l.arc l.history.list l.height l.accounts l.contract l.party_calls l.counterparty_calls l.ticks c.balance-balance.result
+    c.args.sender c.args.call c.reply_of-reply.result i.scans unfull have c.reply_of-reply.ensures.reply)
 
 pub returns-clause-refused : goal.returns-clause-refused
 returns-clause-refused c = λ n.

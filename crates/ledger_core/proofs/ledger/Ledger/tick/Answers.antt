@@ -29,8 +29,10 @@ invariant_of-self c =
       counterparty = i.counterparty;
       scans =
           rw c.tick.ensures.list
-          (tick_scans l.deal l.arc l.history.list l.height (l.height + c.args.k) l.accounts l.contract l.party_calls l.counterparty_calls l.ticks (l.ticks + 1) c.args.k i.scans
-          (legal_tick l.history.list l.height l.ticks c.args.k i.scans.height i.scans.ticks c.requires.some c.requires.below c.if-self-ge20000.false c.if-self-k-gt1000000.false) refl);
+          (tick_scans l.deal l.arc l.history.list l.height (l.height + c.args.k) l.accounts l.contract l.party_calls l.counterparty_calls l.ticks
+          (l.ticks + 1) c.args.k i.scans
+          (legal_tick l.history.list l.height l.ticks c.args.k i.scans.height i.scans.ticks c.requires.some c.requires.below c.if-self-ge20000.false
+          c.if-self-k-gt1000000.false) refl);
     }
 
 pub returns-clause-legal : goal.returns-clause-legal

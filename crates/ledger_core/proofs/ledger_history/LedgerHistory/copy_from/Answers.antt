@@ -8,14 +8,16 @@ use Rattle.ledger_core.proofs.Ticks.{drop_within, drop_before, length_left, leng
 use Rattle.ledger_core.proofs.ledger_history.LedgerHistory.copy_from.Goals as goal
 
 -- the fresh entries are ticks of the run
-in_run : (xs ys : List Item) (r s : Run) (k n : ℕ) → ys ≡ [] → n ≤ r.count → k + n ≡ length (expand xs ++ ticks_of r) → ticks_of s ≡ drop (r.count - n) (ticks_of r) → expand ys ++ ticks_of s ≡ drop k (expand xs ++ ticks_of r)
+in_run : (xs ys : List Item) (r s : Run) (k n : ℕ) → ys ≡ [] → n ≤ r.count → k + n ≡ length (expand xs ++ ticks_of r)
+    → ticks_of s ≡ drop (r.count - n) (ticks_of r) → expand ys ++ ticks_of s ≡ drop k (expand xs ++ ticks_of r)
 in_run xs ys r s k n none l e ts =
     let long : length (ticks_of r) ≡ r.count = length_ticks r.above r.by r.count in
     ap₂ (λ a b. expand a ++ b) none (ts ∙ ap (λ z. drop (z - n) (ticks_of r)) (sym long))
     ∙ sym (drop_within (expand xs) (ticks_of r) k n (omega arith) e)
 
 -- they begin in an item
-in_items : (xs ys : List Item) (r : Run) (k n : ℕ) → r.count ≤ n → k + n ≡ length (expand xs ++ ticks_of r) → expand ys ≡ drop (length (expand xs) - (n - r.count)) (expand xs) → expand ys ++ ticks_of r ≡ drop k (expand xs ++ ticks_of r)
+in_items : (xs ys : List Item) (r : Run) (k n : ℕ) → r.count ≤ n → k + n ≡ length (expand xs ++ ticks_of r)
+    → expand ys ≡ drop (length (expand xs) - (n - r.count)) (expand xs) → expand ys ++ ticks_of r ≡ drop k (expand xs ++ ticks_of r)
 in_items xs ys r k n l e is =
     let long : length (ticks_of r) ≡ r.count = length_ticks r.above r.by r.count in
     ap (λ z. z ++ ticks_of r) (is ∙ ap (λ z. drop (length (expand xs) - (n - z)) (expand xs)) (sym long))

@@ -7,8 +7,10 @@ use Rattle.swap_digraph.proofs.digraph.Digraph.new.Goals as goal
 
 pub returns-clause-ends : goal.returns-clause-ends
 returns-clause-ends c =
-    rw c.new.ensures (has_ends c.args.n c.args.version c.args.arcs.items (c.in-None.ensures ∙ ap (λ (xs : List ArcEnds). first_fault c.args.n c.args.version xs) c.deref.ensures.value))
+    rw c.new.ensures (has_ends c.args.n c.args.version c.args.arcs.items (c.in-None.ensures
+    ∙ ap (λ (xs : List ArcEnds). first_fault c.args.n c.args.version xs) c.deref.ensures.value))
 
 pub returns-clause-distinct : goal.returns-clause-distinct
 returns-clause-distinct c one =
-    rw c.new.ensures (has_distinct_ends c.args.n c.args.version c.args.arcs.items (c.in-None.ensures ∙ ap (λ (xs : List ArcEnds). first_fault c.args.n c.args.version xs) c.deref.ensures.value) one)
+    rw c.new.ensures (has_distinct_ends c.args.n c.args.version c.args.arcs.items (c.in-None.ensures
+    ∙ ap (λ (xs : List ArcEnds). first_fault c.args.n c.args.version xs) c.deref.ensures.value) one)
