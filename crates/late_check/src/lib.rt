@@ -3,7 +3,7 @@
 //! Each arc is read through its index. What a rule asks is found once per party, lock or arc, and only then the party's calls on the arc are gone over,
 //! so the ticks of a history cost nothing.
 //!
-//! Read the part on lateness in `Conduct.antt` of `swap_rules` first: the contracts cite its definitions.
+//! Read `Late.antt` of `swap_rules` first: the contracts cite its definitions.
 #![tactic(auto)]
 
 mod bases;
