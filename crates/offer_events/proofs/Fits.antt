@@ -15,7 +15,7 @@ use Rattle.deviator_script.specs.declared.event.Event.{Event}
 use Rattle.deviator_script.specs.declared.event.Event.TheVariants.{Tick, Look, Act, Call}
 use Rattle.deviator_script.specs.Resolved.{arc_of as stands_on, is_built, fits_if, call_of, IsFitting}
 use Rattle.deviator_script.specs.Step.{CanStep}
-use Rattle.offer_fields.specs.declared.reason.Reason.TheVariants.{NotAdjacent}
+use Rattle.refusals.specs.declared.reason.Reason.TheVariants.{NotAdjacent}
 use Rattle.offer_fields.specs.Limits.{within, digest_of}
 use Rattle.offer_events.specs.declared.raw.RawTerms.{RawTerms}
 use Rattle.offer_events.specs.declared.raw.RawKey.{RawKey}

@@ -8,7 +8,7 @@ use Rattle.std.proofs.lemmas.Bool.Decides.{nat_tests}
 use Rattle.std.proofs.lemmas.List.Quantifiers.{position-Some}
 use Rattle.swap_base.specs.Fault.{◌>>=◌}
 use Rattle.swap_base.proofs.Lists.{and_parts, and_both}
-use Rattle.offer_fields.specs.declared.reason.Reason.TheVariants.{OverLimit}
+use Rattle.refusals.specs.declared.reason.Reason.TheVariants.{OverLimit}
 use Rattle.offer_fields.specs.Limits.{within}
 use Rattle.offer_events.specs.Lists.{each_of}
 use Rattle.offer_events.specs.Names.{found, number_of}

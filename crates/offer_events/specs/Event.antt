@@ -11,8 +11,8 @@ use Rattle.deviator_script.specs.declared.moves.Move.TheVariants.{Transfer}
 use Rattle.deviator_script.specs.declared.event.Event.{Event}
 use Rattle.deviator_script.specs.declared.event.Event.TheVariants.{Tick, Look, Act, Call}
 use Rattle.deviator_script.specs.Resolved.{arc_of as stands_on}
-use Rattle.offer_fields.specs.declared.reason.Reason.{Reason}
-use Rattle.offer_fields.specs.declared.reason.Reason.TheVariants.{NotAdjacent, ConformingCall, EventInRace}
+use Rattle.refusals.specs.declared.reason.Reason.{Reason}
+use Rattle.refusals.specs.declared.reason.Reason.TheVariants.{NotAdjacent, ConformingCall, EventInRace}
 use Rattle.offer_fields.specs.Fields.{object_of}
 use Rattle.offer_events.specs.declared.raw.RawMove.{RawMove}
 use Rattle.offer_events.specs.declared.raw.RawEvent.{RawEvent}

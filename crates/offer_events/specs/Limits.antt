@@ -4,8 +4,8 @@ use Rattle.hex.specs.Hex.{decode_sized}
 use Rattle.swap_base.specs.Fault.{◌>>=◌}
 use Rattle.hash_signature.specs.Signature.{values_of}
 use Rattle.hash_signature.specs.declared.sig.Sig.{Sig}
-use Rattle.offer_fields.specs.declared.reason.Reason.{Reason}
-use Rattle.offer_fields.specs.declared.reason.Reason.TheVariants.{OverLimit}
+use Rattle.refusals.specs.declared.reason.Reason.{Reason}
+use Rattle.refusals.specs.declared.reason.Reason.TheVariants.{OverLimit}
 use Rattle.offer_fields.specs.Limits.{within, decoded, digest_of}
 use Rattle.offer_events.specs.Lists.{each_of}
 

@@ -6,7 +6,7 @@ use Rattle.swap_digraph.specs.Deal.{path_limit}
 use Rattle.hashkey_path.specs.declared.hashkey.Hashkey.{Hashkey}
 use Rattle.deviator_script.specs.declared.moves.Move.{Move}
 use Rattle.deviator_script.specs.declared.moves.Move.TheVariants.{Publish, Raw, Claim, Refund, Transfer}
-use Rattle.offer_fields.specs.declared.reason.Reason.{Reason}
+use Rattle.refusals.specs.declared.reason.Reason.{Reason}
 use Rattle.offer_fields.specs.Limits.{within, digest_of}
 use Rattle.offer_events.specs.declared.raw.RawTerms.{RawTerms}
 use Rattle.offer_events.specs.declared.raw.RawKey.{RawKey}

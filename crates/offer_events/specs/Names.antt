@@ -1,8 +1,8 @@
 -- Names by their numbers.
 use Rattle.std.specs.Prelude.{ℕ, List, position, Option, Some, None, Result, Ok, Err}
 use Rattle.std.specs.Str.{bytes_eq}
-use Rattle.offer_fields.specs.declared.reason.Reason.{Reason}
-use Rattle.offer_fields.specs.declared.reason.Reason.TheVariants.{Unknown}
+use Rattle.refusals.specs.declared.reason.Reason.{Reason}
+use Rattle.refusals.specs.declared.reason.Reason.TheVariants.{Unknown}
 
 abbrev pub found : ℕ → List ℕ → Option ℕ → Result ℕ Reason
 found line name (Some k) = Ok k

@@ -4,8 +4,8 @@ use Rattle.std.specs.Str.{bytes_eq}
 use Rattle.serde_json.specs.Data.{Data, Items}
 use Rattle.serde_json.specs.Find.{get, as_array}
 use Rattle.swap_base.specs.Fault.{◌>>=◌}
-use Rattle.offer_fields.specs.declared.reason.Reason.{Reason}
-use Rattle.offer_fields.specs.declared.reason.Reason.TheVariants.{Missing, WrongKind, NotBuilt}
+use Rattle.refusals.specs.declared.reason.Reason.{Reason}
+use Rattle.refusals.specs.declared.reason.Reason.TheVariants.{Missing, WrongKind, NotBuilt}
 use Rattle.offer_fields.specs.Fields.{kind, needed, number_at, text_at, optional_number_at, object_at, only, each, list_at, member_text_of}
 use Rattle.offer_events.specs.declared.raw.RawTerms.{RawTerms}
 use Rattle.offer_events.specs.declared.raw.RawKey.{RawKey}

@@ -10,7 +10,8 @@ use escrow_core::LockList;
 use hash_signature::Sig;
 use hashkey_path::SigList;
 use hex::FromHex;
-use offer_fields::{OfferFault, digest_in, over_limit, within, wrong_hex};
+use offer_fields::{digest_in, within};
+use refusals::{OfferFault, over_limit, wrong_hex};
 use std::alloc::Global;
 use swap_base::{ByteText, Listed};
 

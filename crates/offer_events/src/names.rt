@@ -6,7 +6,7 @@ ghost use Rattle.swap_base.specs.Fault.{Gives};
 ghost use Rattle.offer_events.specs.Lists.{each_of};
 ghost use Rattle.offer_events.specs.Names.{number_of};
 
-use offer_fields::{OfferFault, unknown};
+use refusals::{OfferFault, unknown};
 use std::alloc::Global;
 use swap_base::{ByteText, Listed, PartyId};
 use swap_digraph::PathList;

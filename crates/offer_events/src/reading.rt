@@ -9,9 +9,10 @@ ghost use Rattle.offer_events.specs.Reading.{texts_of, optional_texts_at, texts_
 
 use crate::raw::{MoveKind, RawEvent, RawKey, RawMove, RawTerms};
 use offer_fields::{
-    OfferFault, array_in, is_object, missing, not_built, number_in, only_in, optional_number_in,
-    text_in, texts_in as members_in, value_in, wrong_kind,
+    array_in, is_object, number_in, only_in, optional_number_in, text_in, texts_in as members_in,
+    value_in,
 };
+use refusals::{OfferFault, missing, not_built, wrong_kind};
 use serde_json::Value;
 use std::alloc::Global;
 use swap_base::{ByteText, Listed};

@@ -6,8 +6,8 @@ use Rattle.serde_json.specs.Data.{Data}
 use Rattle.serde_json.specs.Read.{read}
 use Rattle.serde_json.specs.Find.{as_object}
 use Rattle.std.specs.Prelude.{is_some}
-use Rattle.offer_fields.specs.declared.reason.Reason.{Reason}
-use Rattle.offer_fields.specs.declared.reason.Reason.TheVariants.{NotJson}
+use Rattle.refusals.specs.declared.reason.Reason.{Reason}
+use Rattle.refusals.specs.declared.reason.Reason.TheVariants.{NotJson}
 use Rattle.offer_fields.specs.Fields.{object_or, object_of}
 
 read_as : (line : ℕ) (text : List ℕ) (d : Data) → IsUtf8 text → read text ≡ Some d → object_of line text ≡ object_or line (Some d)

@@ -6,7 +6,7 @@ use Rattle.serde_json.specs.View.{view, items_view}
 use Rattle.serde_json.specs.declared.value.Value.{Value}
 use Rattle.swap_base.specs.Fault.{◌>>=◌, Fails}
 use Rattle.offer_fields.specs.Fields.{each}
-use Rattle.offer_fields.specs.declared.reason.Reason.{Reason}
+use Rattle.refusals.specs.declared.reason.Reason.{Reason}
 use Rattle.swap_base.specs.declared.fault.Fault.{Fault}
 use Rattle.swap_base.specs.declared.fault.Fault.TheVariants.{Refused, NoMemory}
 

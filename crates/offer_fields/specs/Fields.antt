@@ -6,8 +6,8 @@ use Rattle.serde_json.specs.Data.{Data, Items, no_items, item, Members, no_membe
 use Rattle.serde_json.specs.Read.{read}
 use Rattle.serde_json.specs.Find.{get, as_number, as_u64, as_str, as_array, as_object}
 use Rattle.swap_base.specs.Fault.{◌>>=◌}
-use Rattle.offer_fields.specs.declared.reason.Reason.{Reason}
-use Rattle.offer_fields.specs.declared.reason.Reason.TheVariants.{NotJson, Missing, WrongKind, UnknownField}
+use Rattle.refusals.specs.declared.reason.Reason.{Reason}
+use Rattle.refusals.specs.declared.reason.Reason.TheVariants.{NotJson, Missing, WrongKind, UnknownField}
 
 abbrev pub object_or : ℕ → Option Data → Result Data Reason
 object_or line (Some d) = if is_some (as_object d) then Ok d else Err (NotJson line)

@@ -2,8 +2,8 @@
 use Rattle.std.specs.Prelude.{◌&&◌, ℕ, List, nat_le, if◌then◌else◌, Result, Ok, Err}
 use Rattle.hex.specs.Hex.{decode_sized}
 use Rattle.hex.specs.declared.error.FromHexError.{FromHexError}
-use Rattle.offer_fields.specs.declared.reason.Reason.{Reason}
-use Rattle.offer_fields.specs.declared.reason.Reason.TheVariants.{OverLimit, WrongHex}
+use Rattle.refusals.specs.declared.reason.Reason.{Reason}
+use Rattle.refusals.specs.declared.reason.Reason.TheVariants.{OverLimit, WrongHex}
 
 unfoldable pub within : ℕ → List ℕ → ℕ → ℕ → ℕ → Result (Unit {0}) Reason
 within line field low high n = if nat_le low n && nat_le n high then Ok tt else Err (OverLimit line field n)

@@ -7,10 +7,9 @@ ghost use Rattle.serde_json.specs.View.{view, items_view, members_view};
 ghost use Rattle.serde_json.specs.Data.{Data};
 ghost use Rattle.swap_base.specs.Fault.{Gives};
 ghost use Rattle.offer_fields.specs.Fields.{needed, number_at, text_at, optional_number_at, optional_text_at, member_text_of, first_unknown as unknown, only, each, array_at, list_at, object_at};
-ghost use Rattle.offer_fields.specs.declared.reason.Reason.{Reason};
+ghost use Rattle.refusals.specs.declared.reason.Reason.{Reason};
 
-use crate::reason::{OfferFault, Reason};
-use crate::refusals::{missing, unknown_field, wrong_kind};
+use refusals::{OfferFault, Reason, missing, unknown_field, wrong_kind};
 use serde_json::{Map, Value};
 use std::alloc::Global;
 use swap_base::{ByteText, Listed};

@@ -3,9 +3,8 @@
 ghost use Rattle.swap_base.specs.Fault.{Gives};
 ghost use Rattle.offer_fields.specs.Limits.{within, digest_of};
 
-use crate::reason::OfferFault;
-use crate::refusals::{over_limit, wrong_hex};
 use hex::FromHex;
+use refusals::{OfferFault, over_limit, wrong_hex};
 use std::alloc::Global;
 use swap_base::Digest;
 

@@ -6,8 +6,6 @@
 mod fields;
 mod hexadecimal;
 mod object;
-mod reason;
-mod refusals;
 
 pub use fields::{
     Member, array_in, each_in, is_object, list_in, member_text, number_in, only_in,
@@ -15,8 +13,3 @@ pub use fields::{
 };
 pub use hexadecimal::{digest_in, within};
 pub use object::object_in;
-pub use reason::{OfferFault, Reason};
-pub use refusals::{
-    bad_name, duplicate, missing, not_built, over_limit, unknown, unknown_field, wrong_hex,
-    wrong_kind,
-};

@@ -6,7 +6,7 @@ ghost use Rattle.serde_json.specs.Errors.{IsMemory};
 ghost use Rattle.swap_base.specs.Fault.{Gives};
 ghost use Rattle.offer_fields.specs.Fields.{object_of};
 
-use crate::reason::{OfferFault, Reason};
+use refusals::{OfferFault, Reason};
 use serde_json::{Error, Value};
 use std::alloc::Global;
 use swap_base::Fault;

@@ -6,8 +6,8 @@ use Rattle.std.specs.Prelude.{nat_le, IfOk}
 use Rattle.swap_base.specs.Fault.{◌>>=◌, Gives}
 use Rattle.swap_base.specs.declared.fault.Fault.{Fault}
 use Rattle.swap_base.proofs.Lists.{and_parts}
-use Rattle.offer_fields.specs.declared.reason.Reason.{Reason}
-use Rattle.offer_fields.specs.declared.reason.Reason.TheVariants.{OverLimit}
+use Rattle.refusals.specs.declared.reason.Reason.{Reason}
+use Rattle.refusals.specs.declared.reason.Reason.TheVariants.{OverLimit}
 use Rattle.offer_fields.specs.Limits.{within}
 use Rattle.offer_header.specs.Every.{every}
 use Rattle.offer_header.specs.Names.{AreLeaders, AreEnds, IsNumbered}

@@ -13,8 +13,8 @@ use Rattle.std.specs.Str.{bytes_eq}
 use Rattle.std.specs.List.{list_any, list_all}
 use Rattle.swap_base.specs.Fault.{◌>>=◌, steps}
 use Rattle.swap_base.proofs.Lists.{and_parts}
-use Rattle.offer_fields.specs.declared.reason.Reason.{Reason}
-use Rattle.offer_fields.specs.declared.reason.Reason.TheVariants.{BadName, Duplicate}
+use Rattle.refusals.specs.declared.reason.Reason.{Reason}
+use Rattle.refusals.specs.declared.reason.Reason.TheVariants.{BadName, Duplicate}
 use Rattle.offer_header.specs.Every.{every}
 use Rattle.offer_header.specs.Names.{is_name_byte, is_name, name_step, found, number_of, ends_of, leader_step, numbered_of, IsName, AreNames, AreLeaders, AreEnds, IsNumbered}
 use Rattle.offer_header.specs.declared.raw.RawParty.{RawParty}

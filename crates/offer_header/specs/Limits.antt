@@ -5,7 +5,7 @@ use Rattle.swap_digraph.specs.declared.arc_ends.ArcEnds.{ArcEnds}
 use Rattle.swap_digraph.specs.declared.deal.Mode.{Mode}
 use Rattle.swap_digraph.specs.declared.deal.Mode.TheVariants.{Timelocks, Hashkeys}
 use Rattle.deviator_script.specs.declared.job.Purpose.{Purpose}
-use Rattle.offer_fields.specs.declared.reason.Reason.{Reason}
+use Rattle.refusals.specs.declared.reason.Reason.{Reason}
 use Rattle.offer_fields.specs.Limits.{within, digest_of}
 use Rattle.offer_header.specs.Every.{every}
 use Rattle.offer_header.specs.declared.raw.RawActor.{RawActor}

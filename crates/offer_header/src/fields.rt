@@ -8,9 +8,8 @@ ghost use Rattle.offer_header.specs.Raw.{version_at, mode_at, keys_at, finish_of
 
 use crate::raw::{RawHeader, RawRow, Reading};
 use deviator_script::{Finish, Purpose};
-use offer_fields::{
-    OfferFault, list_in, number_in, only_in, optional_text_in, text_in, wrong_kind,
-};
+use offer_fields::{list_in, number_in, only_in, optional_text_in, text_in};
+use refusals::{OfferFault, wrong_kind};
 use serde_json::Value;
 use std::alloc::Global;
 use swap_base::Listed;

@@ -1,6 +1,6 @@
 //! A header within its limits.
 
-ghost use Rattle.std.specs.Prelude.{IfOk};
+ghost use Rattle.std.specs.Prelude.{◌≡◌, IfOk};
 ghost use Rattle.swap_base.specs.Fault.{Gives};
 ghost use Rattle.offer_header.specs.Header.{header_of, IsWithin};
 
@@ -8,7 +8,8 @@ use crate::fields::raw_in;
 use crate::limits::limited_in;
 use crate::names::numbered_in;
 use deviator_script::{Finish, Purpose};
-use offer_fields::{OfferFault, object_in};
+use offer_fields::object_in;
+use refusals::OfferFault;
 use std::alloc::Global;
 use swap_base::{ByteText, Digest, Listed, PartyId};
 use swap_digraph::{ArcEnds, Mode};
@@ -52,6 +53,7 @@ pub fn header_in(
     text: &[u8],
 ) -> Result<Header, OfferFault>
     ensures exact { Gives (λ h. h) result (header_of purpose line text.now) }
+    ensures purpose { IfOk result (λ h. h.purpose ≡ purpose) }
     ensures within { IfOk result (λ h. IsWithin h) }
 {
     let object = object_in(alloc, line, text)?;

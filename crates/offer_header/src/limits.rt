@@ -2,7 +2,7 @@
 
 ghost use Rattle.std.specs.Prelude.{◌≡◌, ◌<◌, ◌≤◌, ◌^◌, [], ℕ, List, Result, map, length, slice_index, IfOk};
 ghost use Rattle.swap_base.specs.Fault.{Gives};
-ghost use Rattle.offer_fields.specs.declared.reason.Reason.{Reason};
+ghost use Rattle.refusals.specs.declared.reason.Reason.{Reason};
 ghost use Rattle.offer_header.specs.Every.{every};
 ghost use Rattle.offer_header.specs.Limits.{number_within, seed_of, seeds_of, conforms, terms_of, all_terms_of, arc_ends, hashlock_of, hashlocks_of, key_of, party_keys_of, keys_of, limited_of};
 ghost use Rattle.offer_header.specs.Names.{AreEnds, AreLeaders, IsNumbered};
@@ -11,7 +11,8 @@ use crate::header::Header;
 use crate::names::{Ends, Numbered};
 use crate::raw::{RawActor, RawArc, RawHeader, RawLeader, RawParty, RawRow};
 use deviator_script::Purpose;
-use offer_fields::{OfferFault, Reason, digest_in, over_limit, within};
+use offer_fields::{digest_in, within};
+use refusals::{OfferFault, Reason, over_limit};
 use std::alloc::Global;
 use swap_base::{ByteText, Digest, Listed, NoMemory, PartyId};
 use swap_digraph::{ArcEnds, Mode};
@@ -247,7 +248,8 @@ pub(crate) fn limited_in(
     numbered: Numbered,
 ) -> Result<Header, OfferFault>
     requires { IsNumbered raw.now numbered }
-    ensures { Gives (λ h. h) result (limited_of purpose line raw.now numbered) }
+    ensures exact { Gives (λ h. h) result (limited_of purpose line raw.now numbered) }
+    ensures purpose { IfOk result (λ h. h.purpose ≡ purpose) }
 {
     let start = number_within(alloc, line, "start", 1, 1000, raw.start)?;
     let delta = number_within(alloc, line, "delta", 1, 100, raw.delta)?;

@@ -9,7 +9,7 @@ ghost use Rattle.offer_header.specs.Names.{is_name, is_name_byte, name_step, num
 
 use crate::raw::{RawArc, RawHeader, RawLeader, RawParty};
 use indexmap::IndexSet;
-use offer_fields::{OfferFault, bad_name, duplicate, unknown};
+use refusals::{OfferFault, bad_name, duplicate, unknown};
 use std::alloc::Global;
 use swap_base::{ByteText, Listed, NoMemory, PartyId};
 

@@ -9,9 +9,9 @@ ghost use Rattle.offer_header.specs.Raw.{object_actor, actor_of_word, actor_at, 
 use crate::raw::{RawActor, RawArc, RawLeader, RawParty, RawRow, Reading};
 use deviator_script::Purpose;
 use offer_fields::{
-    Member, OfferFault, is_object, member_text, not_built, number_in, only_in, optional_text_in,
-    text_in, texts_in, wrong_kind,
+    Member, is_object, member_text, number_in, only_in, optional_text_in, text_in, texts_in,
 };
+use refusals::{OfferFault, not_built, wrong_kind};
 use serde_json::Value;
 use std::alloc::Global;
 use swap_base::ByteText;

@@ -23,8 +23,8 @@ use Rattle.leader_check.proofs.Heights as heights
 use Rattle.single_leader.specs.Distance.{dist_of}
 use Rattle.single_leader.proofs.Far.{dist_is, dist_by_rounds}
 use Rattle.swap_rules.specs.Accepted.{IsAccepted, IsTimed, HasTimelock}
-use Rattle.offer_fields.specs.declared.reason.Reason.{Reason}
-use Rattle.offer_fields.specs.declared.reason.Reason.TheVariants.{BoundTooSmall, StartTooSoon, ManyLeaders, WrongTimelock}
+use Rattle.refusals.specs.declared.reason.Reason.{Reason}
+use Rattle.refusals.specs.declared.reason.Reason.TheVariants.{BoundTooSmall, StartTooSoon, ManyLeaders, WrongTimelock}
 use Rattle.offer_header.specs.declared.header.Header.{Header}
 use Rattle.offer_header.specs.Header.{IsWithin}
 use Rattle.swap_offer.specs.Checks.{graph_of, by_arcs, connected, unless_closed, one_leader, led, unless_cycle, bounded, started, timed, unless_wrong, wrong_timelock, checked, unnamed, deal_with}

@@ -2,5 +2,4 @@ pub mod Accepted
 pub mod FirstLines
 pub mod Whole
 pub mod Seeds
-pub mod Purposes
 pub mod Firsts

@@ -1,14 +1,16 @@
 -- A job that passes has the wallets that its purpose needs.
-use Rattle.std.proofs.Common.{◌≡◌, ℕ, ◌<◌, ◌&&◌, Bool, true, false, cond, List, Option, Some, None, is_none, option_map, Ok, refl, sym, ap, subst, ◌∙◌}
+use Rattle.std.proofs.Common.{◌≡◌, ℕ, ◌<◌, ◌&&◌, Bool, true, false, cond, List, Option, Some, None, is_none, option_map, OnOk, Result, Ok, Err, refl, sym, ap, subst, ◌∙◌}
 use Rattle.std.specs.List.{range_with_len}
+use Rattle.swap_base.specs.Fault.{Gives}
 use Rattle.swap_base.specs.Lists.{first_of}
+use Rattle.swap_base.specs.declared.fault.Fault.{Fault}
 use Rattle.swap_base.proofs.Lists.{in_range}
 use Rattle.leader_check.proofs.Walks.{none_in}
 use Rattle.deviator_script.specs.declared.job.Job.{Job}
 use Rattle.deviator_script.specs.declared.job.Purpose.{Purpose}
 use Rattle.deviator_script.specs.declared.job.Purpose.TheVariants.{Check, Run, Race, Make, Audit}
-use Rattle.offer_fields.specs.declared.reason.Reason.{Reason}
-use Rattle.offer_fields.specs.declared.reason.Reason.TheVariants.{NoSeed, WrongWallet}
+use Rattle.refusals.specs.declared.reason.Reason.{Reason}
+use Rattle.refusals.specs.declared.reason.Reason.TheVariants.{NoSeed, WrongWallet}
 use Rattle.party_machine.specs.Fits.{wrong_lock}
 use Rattle.swap_offer.specs.Checks.{unless_wrong}
 use Rattle.swap_offer.specs.Wallets.{conforms, seed_of, no_seed, seeded_for, seeded, wrong_seed, wrong_wallet, walleted, HasWallet, HaveWallets, HaveWalletsFor}
@@ -43,7 +45,7 @@ have job none wrong p lt c =
       fits = fits_is job p s.0 (conforms job p) (seed_of job p) c s.1 (none_in (wrong_wallet job) (range_with_len 0 job.deal.graph.n) p wrong k);
     }
 
-pub have_for : (job : Job) (u w : Unit {0}) → seeded job ≡ Ok u → walleted job ≡ Ok w → HaveWalletsFor job.purpose job
+have_for : (job : Job) (u w : Unit {0}) → seeded job ≡ Ok u → walleted job ≡ Ok w → HaveWalletsFor job.purpose job
 unfolding seeded walleted
 have_for job u w s f = by job.purpose s
   where
@@ -53,3 +55,7 @@ have_for job u w s f = by job.purpose s
     by Race e = have job (passed _ u e) (passed _ w f)
     by Make e = tt
     by Audit e = tt
+
+pub have_on : {X : Type 0} (job : Job) (u : Unit {0}) (result : Result X (Fault Reason)) → seeded job ≡ Ok u → Gives (λ _. tt) result (walleted job) → OnOk result (HaveWalletsFor job.purpose job)
+have_on job u (Ok x) s f = have_for job u tt s f
+have_on job u (Err e) s f = tt

@@ -20,8 +20,8 @@ use Rattle.leader_check.specs.Levels.{height_of}
 use Rattle.deviator_script.specs.declared.job.Role.{Role}
 use Rattle.deviator_script.specs.declared.job.Role.TheVariants.{Conforming, Manual}
 use Rattle.deviator_script.specs.declared.job.Job.{Job}
-use Rattle.offer_fields.specs.declared.reason.Reason.{Reason}
-use Rattle.offer_fields.specs.declared.reason.Reason.TheVariants.{SelfArc, Parallel, NotStrong, ManyLeaders, NotFeedback, BoundTooSmall, StartTooSoon, WrongTimelock}
+use Rattle.refusals.specs.declared.reason.Reason.{Reason}
+use Rattle.refusals.specs.declared.reason.Reason.TheVariants.{SelfArc, Parallel, NotStrong, ManyLeaders, NotFeedback, BoundTooSmall, StartTooSoon, WrongTimelock}
 use Rattle.offer_header.specs.declared.header.Header.{Header}
 
 -- A fault of the arcs. The ends of a header's arcs are parties, so that the first never comes.

@@ -1,12 +1,13 @@
 -- What the bytes of an offer are: a job with its events, or the first reason against them.
 use Rattle.std.specs.Prelude.{◌≡◌, ◌==◌, ℕ, ◌+◌, ◌<◌, List, [], ◌∷◌, codes, length, Result, Ok, Err, if◌then◌else◌}
 use Rattle.swap_base.specs.Fault.{◌>>=◌}
+use Rattle.swap_digraph.specs.Value.{Graph}
 use Rattle.swap_digraph.specs.Deal.{IsWellSized}
 use Rattle.deviator_script.specs.declared.job.Purpose.{Purpose}
 use Rattle.deviator_script.specs.declared.job.Job.{Job}
 use Rattle.deviator_script.specs.declared.event.Event.{Event}
-use Rattle.offer_fields.specs.declared.reason.Reason.{Reason}
-use Rattle.offer_fields.specs.declared.reason.Reason.TheVariants.{NotJson, OverLimit}
+use Rattle.refusals.specs.declared.reason.Reason.{Reason}
+use Rattle.refusals.specs.declared.reason.Reason.TheVariants.{NotJson, OverLimit}
 use Rattle.offer_header.specs.Header.{header_of}
 use Rattle.offer_events.specs.Event.{event_of}
 use Rattle.swap_offer.specs.Lines.{lines_of, written}
@@ -14,13 +15,24 @@ use Rattle.offer_header.specs.declared.header.Header.{Header}
 use Rattle.swap_offer.specs.Checks.{graph_of, checked, job_with}
 use Rattle.swap_offer.specs.Wallets.{seeded, walleted}
 
+-- the digraph of a header, where its digraph, its leaders and its times pass their checks
+unfoldable pub admitted : Header → Result Graph Reason
+admitted h = do
+  g ← graph_of h
+  u ← checked h g
+  Ok g
+
+-- a job has the seeds that it needs
+unfoldable pub provided : Job → Result (Unit {0}) Reason
+provided job = do
+  u ← seeded job
+  walleted job
+
 -- the job of a header, or the first reason against it: its digraph, its leaders and times, and the seeds of its conforming parties
 unfoldable pub accepted_of : Header → Result Job Reason
 accepted_of h = do
-  g ← graph_of h
-  u ← checked h g
-  v ← seeded (job_with h g)
-  w ← walleted (job_with h g)
+  g ← admitted h
+  u ← provided (job_with h g)
   Ok (job_with h g)
 
 -- the job of a header line
@@ -28,6 +40,19 @@ unfoldable pub job_header_of : Purpose → ℕ → List ℕ → Result Job Reaso
 job_header_of purpose line text = do
   h ← header_of purpose line text
   accepted_of h
+
+abbrev pub names_or_none : Result Header Reason → List (List ℕ)
+names_or_none (Ok h) = h.names
+names_or_none (Err reason) = []
+
+-- the names of the parties in a header line; none where it has no header within its limits
+unfoldable pub names_at : Purpose → ℕ → List ℕ → List (List ℕ)
+names_at purpose line text = names_or_none (header_of purpose line text)
+
+-- the names of the parties that an offer's lines speak of
+abbrev pub names_in : Purpose → List (ℕ × List ℕ) → List (List ℕ)
+names_in purpose [] = []
+names_in purpose (l ∷ ls) = names_at purpose l.0 l.1
 
 -- the event of a line, where so many events came before
 unfoldable pub next_of : Job → ℕ → ℕ → List ℕ → Result Event Reason

@@ -5,8 +5,8 @@ use Rattle.swap_base.specs.Lists.{first_of}
 use Rattle.deviator_script.specs.declared.job.Job.{Job}
 use Rattle.deviator_script.specs.declared.job.Purpose.{Purpose}
 use Rattle.deviator_script.specs.declared.job.Purpose.TheVariants.{Run, Race}
-use Rattle.offer_fields.specs.declared.reason.Reason.{Reason}
-use Rattle.offer_fields.specs.declared.reason.Reason.TheVariants.{NoSeed, WrongWallet}
+use Rattle.refusals.specs.declared.reason.Reason.{Reason}
+use Rattle.refusals.specs.declared.reason.Reason.TheVariants.{NoSeed, WrongWallet}
 use Rattle.party_machine.specs.Fits.{wrong_lock}
 use Rattle.party_machine.specs.Value.{WalletState}
 use Rattle.party_machine.specs.Wallets.{wallets_of}

@@ -12,8 +12,8 @@ ghost use Rattle.swap_offer.specs.Checks.{graph_of, connected, one_leader, led, 
 use deviator_script::Role;
 use digraph_check::{Strength, strong};
 use leader_check::{LeaderAnswer, Levels, levels};
-use offer_fields::{OfferFault, Reason};
 use offer_header::Header;
+use refusals::{OfferFault, Reason};
 use single_leader::dist;
 use std::alloc::Global;
 use swap_base::{ArcId, Fault, Listed, NoMemory, PartyId, TryCopy};
@@ -190,7 +190,11 @@ fn timed(alloc: Global, header: &Header, graph: &Digraph, levels: &Levels) -> Re
 
 /// The checks of a header's digraph, leaders and times, in order.
 #[tactic(auto, unfolding(crate::specs::Checks::checked))]
-pub(crate) fn checked(alloc: Global, header: &Header, graph: &Digraph) -> Result<(), OfferFault>
+pub(crate) fn check_header(
+    alloc: Global,
+    header: &Header,
+    graph: &Digraph,
+) -> Result<(), OfferFault>
     requires within { IsWithin header.now }
     requires parts { graph.now.arcs ≡ header.now.arcs }
     requires parties { graph.now.n ≡ length header.now.names }

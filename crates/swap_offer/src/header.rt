@@ -1,24 +1,26 @@
 //! The job of a header line, with its wallets.
 
-ghost use Rattle.std.specs.Prelude.{◌≡◌, ℕ, List, IfOk, length};
+ghost use Rattle.std.specs.Prelude.{◌≡◌, ℕ, List, IfOk, OnOk, length};
 ghost use Rattle.swap_base.specs.Fault.{Gives};
 ghost use Rattle.swap_digraph.specs.Deal.{IsWellSized};
 ghost use Rattle.swap_digraph.specs.Graph.{HasEnds};
 ghost use Rattle.swap_rules.specs.Accepted.{IsAccepted};
+ghost use Rattle.refusals.specs.Refusal.{named};
 ghost use Rattle.offer_header.specs.Header.{IsWithin};
-ghost use Rattle.swap_offer.specs.Checks.{job_with, unnamed};
+ghost use Rattle.swap_offer.specs.Checks.{deal_with, job_with, unnamed};
 ghost use Rattle.swap_offer.specs.Wallets.{HaveWalletsFor, wallets_for};
-ghost use Rattle.swap_offer.specs.Job.{accepted_of, job_header_of, IsWhole};
+ghost use Rattle.swap_offer.specs.Job.{accepted_of, admitted, job_header_of, names_at, provided, IsWhole};
 
-use crate::checks::{checked, graph_in, roles_of};
+use crate::checks::{check_header, graph_in, roles_of};
 use crate::prepared::Prepared;
-use crate::wallets::{seeded, wallets_for};
+use crate::wallets::{check_seeds, wallets_for};
 use deviator_script::{Job, Purpose};
 use hashkey_path::deal_digest;
-use offer_fields::OfferFault;
 use offer_header::{Header, header_in};
+use party_machine::Wallet;
+use refusals::{HeaderFault, OfferFault, with_names};
 use std::alloc::Global;
-use swap_base::NoMemory;
+use swap_base::{Listed, NoMemory};
 use swap_digraph::{Deal, Digraph, Version};
 
 fn job_with(alloc: Global, header: Header, graph: Digraph) -> Result<Job, NoMemory>
@@ -52,40 +54,74 @@ fn job_with(alloc: Global, header: Header, graph: Digraph) -> Result<Job, NoMemo
     })
 }
 
-#[tactic(auto, using(crate::proofs::Whole::is_whole, crate::proofs::Whole::is_sized), unfolding(crate::specs::Job::accepted_of))]
-fn accepted(alloc: Global, header: Header) -> Result<Prepared, OfferFault>
-    requires { IsWithin header }
-    ensures exact { Gives (λ p. p.job) result (accepted_of header) }
-    ensures whole { IfOk result (λ p. IsWhole p.job) }
-    ensures accepted { IfOk result (λ p. IsAccepted p.job.deal) }
-    ensures wallets { IfOk result (λ p. HaveWalletsFor p.job.purpose p.job) }
-    ensures made { IfOk result (λ p. p.wallets.items ≡ wallets_for p.job.purpose p.job) }
+/// The digraph of a header whose digraph, leaders and times pass their checks.
+#[tactic(auto, unfolding(crate::specs::Job::admitted))]
+fn admit(alloc: Global, header: &Header) -> Result<Digraph, OfferFault>
+    requires { IsWithin header.now }
+    ensures exact { Gives (λ g. g) result (admitted header.now) }
+    ensures parts { IfOk result (λ g. (g.n ≡ length header.now.names) × (g.arcs ≡ header.now.arcs)) }
+    ensures ends { IfOk result (λ g. HasEnds g) }
+    ensures accepted { IfOk result (λ g. IsAccepted (deal_with header.now g)) }
 {
-    let graph = graph_in(alloc, &header)?;
-    checked(alloc, &header, &graph)?;
-    let job = job_with(alloc, header, graph)?;
-    seeded(&job)?;
-    let wallets = wallets_for(alloc, &job)?;
-    Ok(Prepared { job, wallets })
+    let graph = graph_in(alloc, header)?;
+    check_header(alloc, header, &graph)?;
+    Ok(graph)
 }
 
-/// The job of a header line with the wallets that its purpose needs, or the first reason against it. Lines are counted from 1.
+/// The wallets that a job's purpose needs, where it has the seeds that it needs.
+#[tactic(auto, unfolding(crate::specs::Job::provided))]
+fn provide(alloc: Global, job: &Job) -> Result<Vec<Option<Wallet>>, OfferFault>
+    requires whole { IsWhole job.now }
+    ensures exact { Gives (λ _. tt) result (provided job.now) }
+    ensures wallets { OnOk result (HaveWalletsFor job.now.purpose job.now) }
+    ensures made { IfOk result (λ v. v.items ≡ wallets_for job.now.purpose job.now) }
+{
+    check_seeds(job)?;
+    wallets_for(alloc, job)
+}
+
+/// The job of a header within its limits, with its wallets. A reason against it takes the header's names.
+#[tactic(auto, using(crate::proofs::Whole::is_whole, crate::proofs::Whole::is_sized, refusals::proofs::Named::still_fails), unfolding(crate::specs::Job::accepted_of))]
+fn accept(alloc: Global, header: Header) -> Result<Prepared, HeaderFault>
+    requires { IsWithin header }
+    ensures exact { Gives (λ p. p.job) result (named header.names (accepted_of header)) }
+    ensures names { IfOk result (λ p. p.job.names ≡ header.names) }
+    ensures whole { IfOk result (λ p. IsWhole p.job) }
+    ensures accepted { IfOk result (λ p. IsAccepted p.job.deal) }
+    ensures wallets { IfOk result (λ p. HaveWalletsFor header.purpose p.job) }
+    ensures made { IfOk result (λ p. p.wallets.items ≡ wallets_for header.purpose p.job) }
+{
+    let graph = match admit(alloc, &header) {
+        Ok(graph) => graph,
+        Err(fault) => return Err(with_names(fault, header.names)),
+    };
+    let job = job_with(alloc, header, graph)?;
+    match provide(alloc, &job) {
+        Ok(wallets) => Ok(Prepared { job, wallets }),
+        Err(fault) => Err(with_names(fault, job.names)),
+    }
+}
+
+/// The job of a header line with the wallets that its purpose needs, or the first reason against it with the names in the header. Lines are counted from 1.
 ///
-/// For a run and a race there is one place per party: the wallet of a party that conforms and has a seed. For any other purpose there is none, since each wallet is let go once it was examined.
-#[tactic(auto, unfolding(crate::specs::Job::job_header_of))]
+/// For a run and a race there is one place per party: the wallet of a party that conforms and has a seed. For any other purpose there is none, since each wallet is let go once it was examined. A reason against a later line takes the names of the job.
+#[tactic(auto, using(refusals::proofs::Named::still_fails), unfolding(crate::specs::Job::job_header_of, crate::specs::Job::names_at))]
 pub fn read_header(
     alloc: Global,
     line: u32,
     text: &[u8],
     purpose: Purpose,
-) -> Result<Prepared, OfferFault>
-    ensures exact { Gives (λ p. p.job) result (job_header_of purpose line text.now) }
+) -> Result<Prepared, HeaderFault>
+    ensures exact { Gives (λ p. p.job) result (named (names_at purpose line text.now) (job_header_of purpose line text.now)) }
+    ensures names { IfOk result (λ p. p.job.names ≡ names_at purpose line text.now) }
     ensures whole { IfOk result (λ p. IsWhole p.job) }
     ensures accepted { IfOk result (λ p. IsAccepted p.job.deal) }
     ensures wallets { IfOk result (λ p. HaveWalletsFor purpose p.job) }
     ensures made { IfOk result (λ p. p.wallets.items ≡ wallets_for purpose p.job) }
 {
-    let header = header_in(alloc, purpose, line, text)?;
-    let prepared = accepted(alloc, header)?;
-    Ok(prepared)
+    let header = match header_in(alloc, purpose, line, text) {
+        Ok(header) => header,
+        Err(fault) => return Err(with_names(fault, Listed::empty(alloc))),
+    };
+    accept(alloc, header)
 }

@@ -7,7 +7,7 @@ ghost use Rattle.swap_offer.specs.Job.{next_of, IsWhole};
 
 use deviator_script::{Event, Job};
 use offer_events::read_event;
-use offer_fields::{OfferFault, over_limit};
+use refusals::{OfferFault, over_limit};
 use std::alloc::Global;
 
 /// The most events of an offer.

@@ -14,5 +14,5 @@ pub use header::read_header;
 pub use job::next_event;
 pub use lines::written;
 pub use offer_events::read_event;
-pub use offer_fields::{OfferFault, Reason};
 pub use prepared::Prepared;
+pub use refusals::{HeaderFault, OfferFault, Reason};

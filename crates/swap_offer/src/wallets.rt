@@ -5,7 +5,7 @@ ghost use Rattle.std.specs.List.{range_with_len};
 ghost use Rattle.swap_base.specs.Lists.{first_of};
 ghost use Rattle.swap_base.specs.Fault.{Gives};
 ghost use Rattle.swap_digraph.specs.Deal.{IsWellSized};
-ghost use Rattle.offer_fields.specs.declared.reason.Reason.TheVariants.{WrongWallet};
+ghost use Rattle.refusals.specs.declared.reason.Reason.TheVariants.{WrongWallet};
 ghost use Rattle.party_machine.specs.Fits.{wrong_lock};
 ghost use Rattle.party_machine.specs.Keys.{new_wallet};
 ghost use Rattle.party_machine.specs.Wallets.{wallet_for, wallets_of};
@@ -14,8 +14,8 @@ ghost use Rattle.swap_offer.specs.Job.{IsWhole};
 ghost use Rattle.swap_offer.specs.Wallets.{no_seed, seeded, wrong_wallet, walleted, wallets_for};
 
 use deviator_script::{Job, Purpose};
-use offer_fields::{OfferFault, Reason};
 use party_machine::Wallet;
+use refusals::{OfferFault, Reason};
 use std::alloc::Global;
 use swap_base::{Digest, Fault, PartyId};
 use swap_digraph::Deal;
@@ -48,7 +48,7 @@ fn first_without_seed(job: &Job) -> Option<Reason>
 
 /// The seeds that the job's purpose needs are there.
 #[tactic(auto, unfolding(crate::specs::Wallets::seeded))]
-pub(crate) fn seeded(job: &Job) -> Result<(), OfferFault>
+pub(crate) fn check_seeds(job: &Job) -> Result<(), OfferFault>
     requires whole { IsWhole job.now }
     ensures { Gives (λ u. u) result (seeded job.now) }
 {

@@ -1,7 +1,7 @@
 //! Refusals that carry a text.
 
 ghost use Rattle.swap_base.specs.Fault.{Is};
-ghost use Rattle.offer_fields.specs.declared.reason.Reason.TheVariants.{Missing, WrongKind, UnknownField, BadName, Duplicate, Unknown, OverLimit, WrongHex, NotBuilt};
+ghost use Rattle.refusals.specs.declared.reason.Reason.TheVariants.{Missing, WrongKind, UnknownField, BadName, Duplicate, Unknown, OverLimit, WrongHex, NotBuilt};
 
 use crate::reason::{OfferFault, Reason};
 use std::alloc::Global;

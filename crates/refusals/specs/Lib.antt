@@ -1,0 +1,4 @@
+pub mod Words
+pub mod Escaped
+pub mod Refusal
+pub mod Line

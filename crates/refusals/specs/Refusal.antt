@@ -1,0 +1,18 @@
+-- Reasons with the names of the parties that they may speak of.
+use Rattle.std.specs.Prelude.{ℕ, List, Result, Ok, Err}
+use Rattle.swap_base.specs.declared.fault.Fault.{Fault}
+use Rattle.swap_base.specs.declared.fault.Fault.TheVariants.{Refused, NoMemory}
+use Rattle.refusals.specs.declared.reason.Reason.{Reason}
+use Rattle.refusals.specs.declared.refusal.Refusal.{Refusal}
+
+abbrev pub refusal : List (List ℕ) → Reason → Refusal
+refusal names reason = record { reason = reason; names = names }
+
+abbrev pub fault_with : List (List ℕ) → Fault Reason → Fault Refusal
+fault_with names (Refused reason) = Refused (refusal names reason)
+fault_with names NoMemory = NoMemory
+
+-- what was read, or the reason against it with the names
+abbrev pub named : {A : Type 0} → List (List ℕ) → Result A Reason → Result A Refusal
+named names (Ok x) = Ok x
+named names (Err reason) = Err (refusal names reason)

@@ -1,0 +1,20 @@
+//! Why an input is refused: the reason, the names of the parties that it may speak of, and the line that tells it.
+//!
+//! Read `specs/Line.antt` first: the line of each reason.
+#![tactic(auto)]
+
+mod escaped;
+mod line;
+mod makers;
+mod reason;
+mod refusal;
+mod words;
+
+pub use line::refusal_line;
+pub use makers::{
+    bad_name, duplicate, missing, not_built, over_limit, unknown, unknown_field, wrong_hex,
+    wrong_kind,
+};
+pub use reason::{OfferFault, Reason};
+pub use refusal::{HeaderFault, Refusal, with_names};
+pub use words::{name_at, put_reply};
