@@ -8,7 +8,7 @@ use Rattle.deviator_script.specs.declared.job.Finish.TheVariants.{Fair}
 use Rattle.deviator_script.specs.declared.job.Purpose.TheVariants as purposes
 use Rattle.swap_rules.specs.declared.finding.Finding.{Finding}
 use Rattle.outcome_rules.specs.Promises.{AllAreConforming}
-use Rattle.offer_fields.specs.declared.reason.Reason.{Reason}
+use Rattle.refusals.specs.declared.reason.Reason.{Reason}
 use Rattle.swap_offer.specs.Job.{job_of}
 use Rattle.swap_main.specs.declared.written.Written.{Written}
 use Rattle.swap_main.specs.declared.words.Command.{Command}

@@ -21,7 +21,7 @@ use Rattle.outcome_rules.specs.declared.report.Report.{Report}
 use Rattle.outcome_rules.specs.Report.{conforms_in, outcomes_of, report_of}
 use Rattle.outcome_rules.specs.Promises.{AllAreConforming}
 use Rattle.outcome_rules.proofs.Promises as laws
-use Rattle.offer_fields.specs.declared.reason.Reason.{Reason}
+use Rattle.refusals.specs.declared.reason.Reason.{Reason}
 use Rattle.swap_offer.specs.Job.{events_of, job_header_of, job_of, of_lines as lines_read}
 use Rattle.swap_offer.specs.Lines.{lines_of, written}
 use Rattle.swap_offer.proofs.Accepted.{went}

@@ -6,10 +6,9 @@ use Rattle.swap_base.specs.declared.fault.Fault.{Fault}
 use Rattle.swap_base.specs.declared.fault.Fault.TheVariants.{Refused, NoMemory}
 use Rattle.deviator_script.specs.declared.job.Job.{Job}
 use Rattle.deviator_script.specs.declared.event.Event.{Event}
-use Rattle.offer_fields.specs.declared.reason.Reason.{Reason}
+use Rattle.refusals.specs.declared.reason.Reason.{Reason}
 use Rattle.deviator_script.specs.declared.job.Purpose.{Purpose}
-use Rattle.offer_fields.specs.declared.reason.Reason.TheVariants.{NotJson}
-use Rattle.offer_header.specs.Header.{header_of}
+use Rattle.refusals.specs.declared.reason.Reason.TheVariants.{NotJson}
 use Rattle.swap_offer.specs.Lines.{lines_of, written}
 use Rattle.swap_offer.specs.Job.{events_of, next_of, job_of, job_header_of, of_lines as lines_read}
 use Rattle.swap_digraph.specs.declared.deal.Deal.{Deal}
@@ -21,7 +20,7 @@ use Rattle.swap_world.proofs.Team.{world_is_new}
 use Rattle.swap_world.specs.Value.{WorldState, cast_at, new_world}
 use Rattle.swap_main.specs.declared.words.Command.{Command}
 use Rattle.swap_main.specs.declared.words.Command.TheVariants.{Check, Run}
-use Rattle.swap_main.specs.Output.{purpose_of, finished, book_of, reported, told, output_of, output_for, names_in, names_or_none}
+use Rattle.swap_main.specs.Output.{purpose_of, finished, book_of, reported, told, output_of, output_for}
 use Rattle.swap_main.specs.Replay.{replayed, next_by, passed_over, IsOf, of_run, of_check, of_header, of_lines}
 
 -- a line as it stands in the text
@@ -98,14 +97,6 @@ of_first text command (x ∷ ls) rest l some is left = rw (is, left) refl
 pub of_none : {B : Type 0} (text : B → List ℕ) (command : Command) (ls : List (ℕ × B)) → length ls ≡ 0 → of_lines command (map (line_of text) ls) ≡ Err (NotJson 1)
 of_none text command [] none = refl
 of_none text command (x ∷ ls) none = absurd (omega arith)
-
-pub names_first : {B : Type 0} (text : B → List ℕ) (purpose : Purpose) (ls : List (ℕ × B)) (l : ℕ × B) → 0 < length ls → l ≡ get_or ls 0 l → names_in purpose (map (line_of text) ls) ≡ names_or_none (header_of purpose l.0 (text l.1))
-names_first text purpose [] l some is = absurd (omega arith)
-names_first text purpose (x ∷ ls) l some is = rw is refl
-
-pub names_none : {B : Type 0} (text : B → List ℕ) (purpose : Purpose) (ls : List (ℕ × B)) → length ls ≡ 0 → names_in purpose (map (line_of text) ls) ≡ []
-names_none text purpose [] none = refl
-names_none text purpose (x ∷ ls) none = absurd (omega arith)
 
 -- Worlds.
 

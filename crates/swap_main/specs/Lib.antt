@@ -3,5 +3,3 @@ pub mod Output
 pub mod Promised
 pub mod Top
 pub mod Replay
-pub mod Escaped
-pub mod Refusal

@@ -12,12 +12,10 @@ use Rattle.deviator_script.specs.declared.job.Purpose.TheVariants as purposes
 use Rattle.outcome_rules.specs.declared.report.Report.{Report}
 use Rattle.outcome_rules.specs.Report.{report_of}
 use Rattle.transcript_text.specs.Report.{report}
-use Rattle.offer_fields.specs.declared.reason.Reason.{Reason}
-use Rattle.offer_header.specs.Header.{header_of}
-use Rattle.offer_header.specs.declared.header.Header.{Header}
+use Rattle.refusals.specs.declared.reason.Reason.{Reason}
 use Rattle.deviator_script.specs.declared.job.Purpose.{Purpose}
 use Rattle.swap_offer.specs.Lines.{lines_of, written}
-use Rattle.swap_offer.specs.Job.{job_of}
+use Rattle.swap_offer.specs.Job.{job_of, names_in}
 use Rattle.deviator_script.specs.declared.job.Finish.{Finish}
 use Rattle.deviator_script.specs.declared.job.Finish.TheVariants.{Stop, Fair}
 use Rattle.swap_run.specs.Run.{Cast, State, run}
@@ -70,14 +68,6 @@ output_for Check read = read >>= λ j. Ok (told j.0)
 -- what a command writes for an input, or the first reason why the input is refused
 unfoldable pub output_of : Command → List ℕ → Result Written Reason
 output_of command input = output_for command (job_of (purpose_of command) input)
-
-abbrev pub names_or_none : Result Header Reason → List (List ℕ)
-names_or_none (Ok h) = h.names
-names_or_none (Err reason) = []
-
-abbrev pub names_in : Purpose → List (ℕ × List ℕ) → List (List ℕ)
-names_in purpose [] = []
-names_in purpose (l ∷ ls) = names_or_none (header_of purpose l.0 l.1)
 
 -- the names of the parties in the input's header; none where it has no header within its limits
 unfoldable pub names_of : Command → List ℕ → List (List ℕ)

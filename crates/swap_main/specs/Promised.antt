@@ -14,7 +14,7 @@ use Rattle.swap_world.specs.Cast.{cast_of}
 use Rattle.outcome_rules.specs.declared.report.Report.{Report}
 use Rattle.outcome_rules.specs.Report.{conforms_in}
 use Rattle.outcome_rules.specs.Promises.{AllAreConforming, AllAreWhole, AllHaveRefunds, NoneIsUnderwater, shown_outcome}
-use Rattle.offer_fields.specs.declared.reason.Reason.{Reason}
+use Rattle.refusals.specs.declared.reason.Reason.{Reason}
 use Rattle.swap_offer.specs.Job.{job_of}
 use Rattle.swap_main.specs.Output.{book_of, purpose_of, report_for, reported, told}
 use Rattle.swap_main.specs.declared.written.Written.{Written}

@@ -4,8 +4,8 @@ use Rattle.swap_base.specs.Fault.{◌>>=◌}
 use Rattle.deviator_script.specs.declared.job.Job.{Job}
 use Rattle.deviator_script.specs.declared.event.Event.{Event}
 use Rattle.deviator_script.specs.declared.job.Purpose.TheVariants as purposes
-use Rattle.offer_fields.specs.declared.reason.Reason.{Reason}
-use Rattle.offer_fields.specs.declared.reason.Reason.TheVariants.{NotJson}
+use Rattle.refusals.specs.declared.reason.Reason.{Reason}
+use Rattle.refusals.specs.declared.reason.Reason.TheVariants.{NotJson}
 use Rattle.swap_offer.specs.Job.{events_of, next_of, job_header_of}
 use Rattle.swap_run.specs.Run.{State, step, start}
 use Rattle.swap_world.specs.Cast.{cast_of}

@@ -2,7 +2,7 @@
 use Rattle.std.specs.Prelude.{◌≡◌, ◌≤◌, ℕ, Bool, List, [], length, Option, Some, Result, Ok, Err, if◌then◌else◌}
 use Rattle.std.specs.Io.KnownBytes.{Appends, Consumes, IsAtEnd}
 use Rattle.swap_io.specs.Causes.{AppendsProperPrefix}
-use Rattle.offer_fields.specs.declared.reason.Reason.{Reason}
+use Rattle.refusals.specs.declared.reason.Reason.{Reason}
 use Rattle.deviator_script.specs.declared.job.Job.{Job}
 use Rattle.deviator_script.specs.declared.job.Purpose.TheVariants as purposes
 use Rattle.deviator_script.specs.declared.job.Finish.TheVariants.{Fair}

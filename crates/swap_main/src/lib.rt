@@ -4,10 +4,7 @@
 #![tactic(auto)]
 
 mod check;
-mod escaped;
 mod finish;
-mod named;
-mod refusal;
 mod replay;
 mod report;
 mod status;
@@ -15,7 +12,7 @@ mod top;
 mod words;
 mod written;
 
-pub use refusal::refusal_line;
+pub use refusals::refusal_line;
 pub use status::Status;
 pub use top::swap_top;
 pub use words::Command;

@@ -11,8 +11,8 @@ ghost use Rattle.swap_world.specs.Cast.{cast_of};
 ghost use Rattle.swap_main.specs.Replay.{replayed, next_by, passed_over, IsOf};
 
 use deviator_script::Job;
-use offer_fields::OfferFault;
 use party_machine::Wallet;
+use refusals::OfferFault;
 use std::alloc::Global;
 use swap_base::{Fault, NoMemory};
 use swap_offer::next_event;

@@ -5,8 +5,9 @@ ghost use Rattle.swap_base.specs.Fault.{Gives};
 ghost use Rattle.swap_digraph.specs.Deal.{IsWellSized};
 ghost use Rattle.swap_rules.specs.Accepted.{IsAccepted};
 ghost use Rattle.ledger_core.specs.Book.{IsLegalBook};
-ghost use Rattle.swap_offer.specs.Job.{IsWhole, of_lines as lines_read};
-ghost use Rattle.swap_main.specs.Output.{reported, check_text, output_of, purpose_of};
+ghost use Rattle.refusals.specs.Refusal.{named};
+ghost use Rattle.swap_offer.specs.Job.{IsWhole, names_at, names_in, of_lines as lines_read};
+ghost use Rattle.swap_main.specs.Output.{reported, check_text, names_of, output_of, purpose_of};
 ghost use Rattle.swap_main.specs.Promised.{AsPromised, AsRead, IsCheck, IsRun};
 ghost use Rattle.swap_main.specs.Replay.{of_run, of_check, of_header, of_lines};
 
@@ -17,10 +18,10 @@ use crate::words::Command;
 use crate::written::Written;
 use deviator_script::{Job, Purpose};
 use ledger_core::Book;
-use offer_fields::{OfferFault, Reason};
 use outcome_rules::report_of;
+use refusals::{HeaderFault, Reason, Refusal, with_names};
 use std::alloc::Global;
-use swap_base::{Fault, NoMemory};
+use swap_base::{Fault, Listed, NoMemory};
 use swap_digraph::Deal;
 use swap_offer::{Prepared, read_header, written};
 use transcript_text::report_text;
@@ -41,19 +42,22 @@ fn reported(alloc: Global, job: &Job, book: &Book) -> Result<Written, NoMemory>
 }
 
 /// What a run writes for the header and the further lines of an input.
-#[tactic(auto, unfolding(crate::specs::Replay::of_run))]
+#[tactic(auto, using(refusals::proofs::Named::still_fails), unfolding(crate::specs::Replay::of_run))]
 fn of_run(
     alloc: Global,
     line: u32,
     text: &[u8],
     events: &[(u32, &[u8])],
-) -> Result<Written, OfferFault>
+) -> Result<Written, HeaderFault>
     requires { length events.now < 2 ^ 31 }
-    ensures exact { Gives (λ w. w) result (of_run line text.now (map (λ l. (l.0, l.1.now)) events.now)) }
+    ensures exact { Gives (λ w. w) result (named (names_at Purpose.Run line text.now) (of_run line text.now (map (λ l. (l.0, l.1.now)) events.now))) }
     ensures promised { IfOk result (λ w. IsRun (lines_read Purpose.Run ((line, text.now) ∷ map (λ l. (l.0, l.1.now)) events.now)) w) }
 {
     let Prepared { job, wallets } = read_header(alloc, line, text, Purpose::Run)?;
-    let mut world = replay(alloc, &job, wallets, events)?;
+    let mut world = match replay(alloc, &job, wallets, events) {
+        Ok(world) => world,
+        Err(fault) => return Err(with_names(fault, job.names)),
+    };
     finish(&mut world, &job)?;
     let book = world.into_book(alloc)?;
     Ok(reported(alloc, &job, &book)?)
@@ -72,19 +76,21 @@ fn told(alloc: Global, deal: &Deal) -> Result<Written, NoMemory>
 }
 
 /// What a check writes for the header and the further lines of an input.
-#[tactic(auto, unfolding(crate::specs::Replay::of_check))]
+#[tactic(auto, using(refusals::proofs::Named::still_fails), unfolding(crate::specs::Replay::of_check))]
 fn of_check(
     alloc: Global,
     line: u32,
     text: &[u8],
     events: &[(u32, &[u8])],
-) -> Result<Written, OfferFault>
+) -> Result<Written, HeaderFault>
     requires { length events.now < 2 ^ 31 }
-    ensures exact { Gives (λ w. w) result (of_check line text.now (map (λ l. (l.0, l.1.now)) events.now)) }
+    ensures exact { Gives (λ w. w) result (named (names_at Purpose.Check line text.now) (of_check line text.now (map (λ l. (l.0, l.1.now)) events.now))) }
     ensures promised { IfOk result (λ w. IsCheck (lines_read Purpose.Check ((line, text.now) ∷ map (λ l. (l.0, l.1.now)) events.now)) w) }
 {
     let Prepared { job, .. } = read_header(alloc, line, text, Purpose::Check)?;
-    pass_over(alloc, &job, events)?;
+    if let Err(fault) = pass_over(alloc, &job, events) {
+        return Err(with_names(fault, job.names));
+    }
     Ok(told(alloc, &job.deal)?)
 }
 
@@ -94,9 +100,9 @@ fn of_header(
     line: u32,
     text: &[u8],
     events: &[(u32, &[u8])],
-) -> Result<Written, OfferFault>
+) -> Result<Written, HeaderFault>
     requires { length events.now < 2 ^ 31 }
-    ensures exact { Gives (λ w. w) result (of_header command line text.now (map (λ l. (l.0, l.1.now)) events.now)) }
+    ensures exact { Gives (λ w. w) result (named (names_at (purpose_of command) line text.now) (of_header command line text.now (map (λ l. (l.0, l.1.now)) events.now))) }
     ensures promised { IfOk result (λ w. AsRead command (lines_read (purpose_of command) ((line, text.now) ∷ map (λ l. (l.0, l.1.now)) events.now)) w) }
 {
     match command {
@@ -105,22 +111,24 @@ fn of_header(
     }
 }
 
-fn of_lines(alloc: Global, command: Command, lines: &[(u32, &[u8])]) -> Result<Written, OfferFault>
+fn of_lines(alloc: Global, command: Command, lines: &[(u32, &[u8])]) -> Result<Written, HeaderFault>
     requires { length lines.now < 2 ^ 31 }
-    ensures exact { Gives (λ w. w) result (of_lines command (map (λ l. (l.0, l.1.now)) lines.now)) }
+    ensures exact { Gives (λ w. w) result (named (names_in (purpose_of command) (map (λ l. (l.0, l.1.now)) lines.now)) (of_lines command (map (λ l. (l.0, l.1.now)) lines.now))) }
     ensures promised { IfOk result (λ w. AsRead command (lines_read (purpose_of command) (map (λ l. (l.0, l.1.now)) lines.now)) w) }
 {
     if lines.is_empty() {
-        return Err(Fault::Refused(Reason::NotJson(1)));
+        let names = Listed::empty(alloc);
+        let reason = Reason::NotJson(1);
+        return Err(Fault::Refused(Refusal { reason, names }));
     }
     let (line, text) = lines[0];
     of_header(alloc, command, line, text, &lines[1..])
 }
 
 /// What a command writes for an input, or the first reason why the input is refused.
-pub(crate) fn answer(alloc: Global, command: Command, input: &[u8]) -> Result<Written, OfferFault>
+pub(crate) fn answer(alloc: Global, command: Command, input: &[u8]) -> Result<Written, HeaderFault>
     requires { length input.now < 2 ^ 31 }
-    ensures exact { Gives (λ w. w) result (output_of command input.now) }
+    ensures exact { Gives (λ w. w) result (named (names_of command input.now) (output_of command input.now)) }
     ensures promised { IfOk result (λ w. AsPromised command input.now w) }
 {
     let lines = written(alloc, input)?;

@@ -1,6 +1,6 @@
 //! What the program ends with.
 
-use offer_fields::Reason;
+use refusals::Reason;
 use swap_base::{ByteText, Listed};
 
 /// How a run of the program ended.

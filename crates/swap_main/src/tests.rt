@@ -1,5 +1,5 @@
 use super::*;
-use offer_fields::Reason;
+use refusals::Reason;
 use std::alloc::Global;
 use std::test::Fail;
 use swap_base::{ByteText, Listed};

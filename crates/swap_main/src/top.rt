@@ -3,35 +3,22 @@
 ghost use Rattle.std.specs.Prelude.{◌≡◌, ◌<◌, ◌≤◌, ◌+◌, ◌⊎◌, ◌↔◌, ℕ, List, length, map, string_bytes, Some, None, Ok, Err, true, false, ◌^◌};
 ghost use Rattle.std.specs.Io.KnownBytes.{Keeps};
 ghost use Rattle.swap_io.specs.Causes.{Rose, ConsumesSome};
-ghost use Rattle.offer_fields.specs.declared.reason.Reason.{Reason};
+ghost use Rattle.refusals.specs.declared.reason.Reason.{Reason};
 ghost use Rattle.swap_main.specs.declared.words.Command.{Command};
 ghost use Rattle.swap_main.specs.declared.written.Written.{Written};
 ghost use Rattle.swap_main.specs.Words.{command_of};
 ghost use Rattle.swap_main.specs.Output.{output_of, names_of};
 ghost use Rattle.swap_main.specs.Top.{limit, AsksFairRun, IsDone, IsCut, IsRefused, status_of};
 
-use crate::named;
 use crate::report::answer;
 use crate::status::Status;
-use crate::words::{Command, command_of};
-use offer_fields::Reason;
+use crate::words::command_of;
 use std::alloc::Global;
 use swap_base::Fault;
 use swap_io::{ReadAllFault, Sink, Source, read_all, write_all};
 
 /// The most bytes of an input.
 const LIMIT: usize = 16_777_216;
-
-fn refused(alloc: Global, command: Command, input: &[u8], reason: Reason) -> Status
-    requires { length input.now < 2 ^ 31 }
-    ensures answers { (result ≡ Status.Refused reason (names_of command input.now)) ⊎ (result ≡ Status.NoMemory) }
-    ensures refused { (given : Reason) (names : List (List ℕ)) → result ≡ Status.Refused given names → (given ≡ reason) × (names ≡ names_of command input.now) }
-{
-    match named::names_of(alloc, command, input) {
-        Ok(names) => Status::Refused(reason, names),
-        Err(_) => Status::NoMemory,
-    }
-}
 
 /// Runs the program: the words after its name, its standard input and its standard output.
 pub fn swap_top<S: Source, K: Sink>(
@@ -74,7 +61,7 @@ pub fn swap_top<S: Source, K: Sink>(
     };
     let output = match answer(alloc, command, &input) {
         Ok(output) => output,
-        Err(Fault::Refused(reason)) => return refused(alloc, command, &input, reason),
+        Err(Fault::Refused(refusal)) => return Status::Refused(refusal.reason, refusal.names),
         Err(Fault::NoMemory) => return Status::NoMemory,
     };
     match write_all(sink, output.text.as_slice()) {

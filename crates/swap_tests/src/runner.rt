@@ -1,7 +1,7 @@
 //! One run of the program over a text, and the runners of the tables.
 
 use crate::signatures::signed;
-use offer_fields::Reason;
+use refusals::Reason;
 use std::alloc::Global;
 use std::process::Abort;
 use std::test::Fail;

@@ -20,7 +20,8 @@ use Rattle.swap_rules.specs.declared.outcome.Outcome.TheVariants.{NoDeal}
 use Rattle.swap_rules.specs.declared.finding.Finding.{Finding}
 use Rattle.swap_rules.specs.declared.finding.Finding.TheVariants.{Broke, Late, Forged, Unfinished}
 use Rattle.outcome_rules.specs.declared.report.Report.{Report}
-use Rattle.transcript_text.specs.Words.{name_at, mode_text, reply_text, call_text, sender_text, outcome_text, rule_text}
+use Rattle.refusals.specs.Words.{name_at, reply_text}
+use Rattle.transcript_text.specs.Words.{mode_text, call_text, sender_text, outcome_text, rule_text}
 
 -- the line of an entry; a tick has none
 unfoldable pub what_line : List (List ℕ) → Terms → Entry → What → List ℕ

@@ -1,48 +1,24 @@
 -- The words of a report's lines. Every number is in decimal.
-use Rattle.std.specs.Prelude.{ℕ, Bool, true, false, List, [], ◌∷◌, codes, decimal, slice_index_or, if◌then◌else◌}
+use Rattle.std.specs.Prelude.{ℕ, Bool, true, false, List, [], ◌∷◌, codes, decimal, if◌then◌else◌}
 use Rattle.swap_base.specs.Text.{joined, lines}
 use Rattle.swap_digraph.specs.declared.deal.Mode.{Mode}
 use Rattle.swap_digraph.specs.declared.deal.Mode.TheVariants.{Timelocks, Hashkeys}
 use Rattle.hashkey_path.specs.declared.hashkey.Hashkey.{Hashkey}
 use Rattle.escrow_core.specs.declared.terms.Terms.{Terms}
 use Rattle.escrow_core.specs.Terms.{same_terms}
-use Rattle.escrow_core.specs.declared.reply.Reply.{Reply}
-use Rattle.escrow_core.specs.declared.reply.Reply.TheVariants.{Accepted, Settled, NotCounterparty, NotParty, AlreadyUnlocked, WrongSecret, WrongPath, WrongSignature, TooLate, StillLocked, NothingLocked, NotExpired, NoContract, AlreadyPublished, NoFunds, SenderFull, ClockFull}
 use Rattle.ledger_core.specs.declared.entry.Call.{Call}
 use Rattle.ledger_core.specs.declared.entry.Call.TheVariants.{Publish, Unlock, Claim, Refund, Transfer}
 use Rattle.ledger_core.specs.declared.entry.Sender.{Sender}
 use Rattle.ledger_core.specs.declared.entry.Sender.TheVariants.{Party, Clock}
+use Rattle.refusals.specs.Words.{name_at}
 use Rattle.swap_rules.specs.declared.outcome.Outcome.{Outcome}
 use Rattle.swap_rules.specs.declared.outcome.Outcome.TheVariants.{NoDeal, FreeRide, Underwater, Deal as WholeDeal, Discount}
 use Rattle.swap_rules.specs.declared.finding.Rule.{Rule}
 use Rattle.swap_rules.specs.declared.finding.Rule.TheVariants.{Publish as ToPublish, Unlock as ToUnlock, Claim as ToClaim, Refund as ToRefund}
 
--- the name of party p
-abbrev pub name_at : List (List ℕ) → ℕ → List ℕ
-name_at names p = slice_index_or names p []
-
 unfoldable pub mode_text : Mode → List ℕ
 mode_text Timelocks = codes "timelocks"
 mode_text Hashkeys = codes "hashkeys"
-
-unfoldable pub reply_text : Reply → List ℕ
-reply_text Accepted = codes "accepted"
-reply_text Settled = codes "Settled"
-reply_text NotCounterparty = codes "NotCounterparty"
-reply_text NotParty = codes "NotParty"
-reply_text AlreadyUnlocked = codes "AlreadyUnlocked"
-reply_text WrongSecret = codes "WrongSecret"
-reply_text WrongPath = codes "WrongPath"
-reply_text WrongSignature = codes "WrongSignature"
-reply_text (TooLate last) = joined (codes "TooLate " ∷ decimal last ∷ [])
-reply_text (StillLocked i) = joined (codes "StillLocked " ∷ decimal i ∷ [])
-reply_text NothingLocked = codes "NothingLocked"
-reply_text (NotExpired first) = joined (codes "NotExpired " ∷ decimal first ∷ [])
-reply_text NoContract = codes "NoContract"
-reply_text AlreadyPublished = codes "AlreadyPublished"
-reply_text (NoFunds have) = joined (codes "NoFunds " ∷ decimal have ∷ [])
-reply_text SenderFull = codes "SenderFull"
-reply_text ClockFull = codes "ClockFull"
 
 -- a further name of a path
 abbrev pub comma_name : List (List ℕ) → ℕ → ℕ → List ℕ

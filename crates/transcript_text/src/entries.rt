@@ -2,49 +2,14 @@
 
 ghost use Rattle.std.specs.Prelude.{◌≡◌, ◌++◌, ◌∷◌, ℕ, OnOk};
 ghost use Rattle.swap_base.specs.Text.{lines};
-ghost use Rattle.transcript_text.specs.Words.{name_at, reply_text, comma_name, path_text, unlock_text, call_text, publish_text, sender_text as sender_of};
+ghost use Rattle.transcript_text.specs.Words.{comma_name, path_text, unlock_text, call_text, publish_text, sender_text as sender_of};
 ghost use Rattle.transcript_text.specs.Report.{what_line, entry_line};
 ghost use Rattle.transcript_text.specs.Items.{item_line};
 
-use escrow_core::{Reply, Terms};
+use escrow_core::Terms;
 use ledger_core::{Call, Entry, EntryList, Item, Sender, What};
+use refusals::{name_at, put_reply};
 use swap_base::{ByteText, LockId, NoMemory, PartyId, Piece, put};
-
-/// The name of a party; no text where the number is nobody's.
-pub(crate) fn name_at(names: &[ByteText], p: PartyId) -> &[u8]
-    ensures { result.now ≡ name_at names.now p }
-{
-    match names.get(p as usize) {
-        Some(name) => name.as_slice(),
-        None => &[],
-    }
-}
-
-/// Appends a reply as a report writes it.
-#[tactic(auto, unfolding(crate::specs::Words::reply_text))]
-pub fn put_reply(out: &mut Vec<u8>, reply: Reply) -> Result<(), NoMemory>
-    ensures { OnOk result (out.new.items ≡ out.old.items ++ reply_text reply) }
-{
-    match reply {
-        Reply::Accepted => put(out, &[Piece::Text("accepted")]),
-        Reply::Settled => put(out, &[Piece::Text("Settled")]),
-        Reply::NotCounterparty => put(out, &[Piece::Text("NotCounterparty")]),
-        Reply::NotParty => put(out, &[Piece::Text("NotParty")]),
-        Reply::AlreadyUnlocked => put(out, &[Piece::Text("AlreadyUnlocked")]),
-        Reply::WrongSecret => put(out, &[Piece::Text("WrongSecret")]),
-        Reply::WrongPath => put(out, &[Piece::Text("WrongPath")]),
-        Reply::WrongSignature => put(out, &[Piece::Text("WrongSignature")]),
-        Reply::TooLate(last) => put(out, &[Piece::Text("TooLate "), Piece::Number(last)]),
-        Reply::StillLocked(i) => put(out, &[Piece::Text("StillLocked "), Piece::Number(i as u64)]),
-        Reply::NothingLocked => put(out, &[Piece::Text("NothingLocked")]),
-        Reply::NotExpired(first) => put(out, &[Piece::Text("NotExpired "), Piece::Number(first)]),
-        Reply::NoContract => put(out, &[Piece::Text("NoContract")]),
-        Reply::AlreadyPublished => put(out, &[Piece::Text("AlreadyPublished")]),
-        Reply::NoFunds(have) => put(out, &[Piece::Text("NoFunds "), Piece::Number(have)]),
-        Reply::SenderFull => put(out, &[Piece::Text("SenderFull")]),
-        Reply::ClockFull => put(out, &[Piece::Text("ClockFull")]),
-    }
-}
 
 fn put_comma_name(out: &mut Vec<u8>, names: &[ByteText], p: PartyId) -> Result<(), NoMemory>
     ensures { OnOk result (out.new.items ≡ out.old.items ++ comma_name names.now 0 p) }

@@ -5,7 +5,7 @@ ghost use Rattle.swap_base.specs.Text.{lines};
 ghost use Rattle.transcript_text.specs.Words.{outcome_text as outcome_of, rule_text};
 ghost use Rattle.transcript_text.specs.Report.{role_text as role_of, ended_text as ended_of, party_line, finding_line, count_line};
 
-use crate::entries::name_at;
+use refusals::name_at;
 use swap_base::{ByteText, NoMemory, PartyId, Piece, put};
 use swap_rules::{Finding, Outcome, Rule};
 

@@ -7,9 +7,10 @@ ghost use Rattle.ledger_core.specs.History.{IsLegal};
 ghost use Rattle.ledger_core.specs.Book.{IsLegalBook, Histories, history};
 ghost use Rattle.transcript_text.specs.Report.{ledger_head, ledger_end, ledger_lines};
 
-use crate::entries::{name_at, put_entries};
+use crate::entries::put_entries;
 use escrow_core::terms_of;
 use ledger_core::{Accounts, Book, EntryList, accounts_of};
+use refusals::name_at;
 use swap_base::{ArcId, ByteText, NoMemory, Piece, put};
 use swap_digraph::{ArcEnds, Deal};
 

@@ -8,5 +8,4 @@ mod findings;
 mod ledgers;
 mod report;
 
-pub use entries::put_reply;
 pub use report::report_text;

@@ -6,6 +6,7 @@ use Rattle.swap_rules.specs.Outcome.{IsEnded}
 use Rattle.swap_laws.specs.Laws.{IsDealt}
 use Rattle.outcome_rules.specs.Report.{conforms_in}
 use Rattle.swap_world.specs.Cast.{cast_of}
+use Rattle.refusals.proofs.Named.{named_ok}
 use Rattle.swap_main.proofs.Replays.{same_cast}
 use Rattle.swap_main.proofs.Promises.{is_run}
 use Rattle.swap_main.proofs.report.of_run.Goals as goal
@@ -15,7 +16,7 @@ returns-clause-promised c =
     let job = c.in_ok-job.field-0.job in
     let w = c.finish.new.world in
     let same = c.in_ok-book.ensures.value in
-    is_run c.args.line c.args.text.now (map (λ l. (l.0, l.1.now)) c.args.events.now) job c.in_ok-world.world.state c.in_ok-book.book.histories c.in_ok-reported.field-0 c.in_ok-job.ensures.exact c.in_ok-world.ensures.exact
+    is_run c.args.line c.args.text.now (map (λ l. (l.0, l.1.now)) c.args.events.now) job c.in-Ok.world.state c.in_ok-book.book.histories c.in_ok-reported.field-0 (named_ok _ _ job c.in_ok-job.ensures.exact) c.in-Ok.ensures.exact
     (same ∙ ap (λ s. s.book) c.in_ok-finish.ensures.state)
     c.in_ok-reported.ensures
     c.in_ok-job.ensures.accepted
