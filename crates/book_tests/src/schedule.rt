@@ -4,7 +4,7 @@ ghost use Rattle.std.specs.Prelude.{◌≡◌, IfOk, All};
 ghost use Rattle.deviator_script.specs.Step.{CanStep};
 ghost use Rattle.swap_rules.specs.Accepted.{IsAccepted};
 ghost use Rattle.ledger_core.specs.Book.{IsLegalBook};
-ghost use Rattle.party_machine.specs.Wallets.{wallets_of};
+ghost use Rattle.party_wallet.specs.Wallets.{wallets_of};
 ghost use Rattle.swap_offer.specs.Job.{IsWhole};
 ghost use Rattle.swap_offer.specs.Wallets.{HaveWallets};
 
@@ -12,7 +12,7 @@ use crate::words::lines_of;
 use deviator_script::{Event, Job, Purpose};
 use ledger_core::Book;
 use outcome_rules::report_of;
-use party_machine::Wallet;
+use party_wallet::Wallet;
 use std::alloc::Global;
 use std::process::Abort;
 use std::test::Fail;

@@ -1,5 +1,5 @@
 -- What a seed signs is valid on every arc that enters its party, where the seed has what the deal states.
-use Rattle.std.proofs.Common.{◌≡◌, ℕ, ◌<◌, ◌==◌, Bool, true, false, cond, not, ◌&&◌, ◌||◌, List, [], ◌∷◌, length, Option, Some, None, refl, sym, ap, ◌∙◌, subst, eq-eqb, arith, get_or, inl, inr}
+use Rattle.std.proofs.Common.{◌≡◌, ℕ, ◌<◌, ◌==◌, Bool, true, false, not, ◌&&◌, ◌||◌, List, [], ◌∷◌, length, None, refl, sym, ap, ◌∙◌, subst, eq-eqb, get_or}
 use Rattle.std.specs.Prelude.{IsTrue}
 use Rattle.std.specs.Str.{bytes_eq}
 use Rattle.std.proofs.lemmas.Bool.{not-false}
@@ -9,25 +9,23 @@ use Rattle.swap_digraph.specs.Graph.{entering, leaving, has_arc, is_among}
 use Rattle.swap_digraph.specs.declared.deal.Deal.{Deal}
 use Rattle.swap_digraph.specs.declared.deal.Mode.{Mode}
 use Rattle.swap_digraph.specs.declared.deal.Mode.TheVariants.{Timelocks, Hashkeys}
-use Rattle.swap_digraph.specs.Deal.{party, counterparty, leads, locks, hashlock_of}
+use Rattle.swap_digraph.specs.Deal.{leads, locks, hashlock_of}
 use Rattle.hash_signature.specs.Signature.{hash_of, secret_of, public_key_of, is_valid_signature}
 use Rattle.hashkey_path.specs.declared.hashkey.Hashkey.{Hashkey}
 use Rattle.hashkey_path.specs.declared.hashkey.HashkeyAnswer.{HashkeyAnswer}
 use Rattle.hashkey_path.specs.declared.hashkey.HashkeyAnswer.TheVariants.{Valid, WrongSecret, WrongPath}
-use Rattle.hashkey_path.specs.Hashkey.{key_of, message_of, is_valid, is_wrong_secret, is_wrong_path, answer_of, HasPath, IsValidHashkey}
+use Rattle.hashkey_path.specs.Hashkey.{key_of, message_of, is_valid, answer_of, HasPath, IsValidHashkey}
 use Rattle.hashkey_path.specs.Signed.{suffix_signature, leaders_key, extended_key, IsLeadersOwn, CanExtend, IsValidInto}
 use Rattle.hashkey_path.proofs.Validity.{valid_from, to_valid}
 use Rattle.hashkey_path.proofs.Signed.{first_is_valid, extended_is_valid, leads_on}
 use Rattle.hashkey_path.proofs.Answered.{says_valid, valid_answer}
-use Rattle.ledger_core.specs.declared.entry.Call.TheVariants.{Unlock}
-use Rattle.swap_rules.specs.Accepted.{IsAccepted}
-use Rattle.swap_laws.specs.Machine.{IsGoodKey, IsOwn, IsOnto, IsWallet}
+use Rattle.swap_laws.specs.Machine.{IsGoodKey, IsOwn, IsOnto}
 use Rattle.swap_laws.proofs.Words.{bytes_eq-true, bytes_eq-refl, same_key-refl, enters, leaves}
-use Rattle.party_machine.specs.Keys.{bare_key, own_key, onto_key, wallet_of}
-use Rattle.party_machine.specs.Fits.{has_key, opens_own, fits_lock, wrong_lock}
+use Rattle.party_wallet.specs.Keys.{bare_key, own_key, onto_key}
+use Rattle.party_wallet.specs.Fits.{has_key, opens_own, fits_lock, wrong_lock}
 use Rattle.party_machine.specs.Law.{FittingIsGood}
 use Rattle.party_machine.proofs.Digests.{digest_signed}
-use Rattle.party_machine.proofs.Least.{none_in}
+use Rattle.party_wallet.proofs.Least.{none_in}
 
 -- Validity, as a test and as a fact.
 

@@ -10,6 +10,7 @@ use Rattle.swap_digraph.specs.declared.deal.Deal.{Deal}
 use Rattle.swap_digraph.specs.Graph.{arcs}
 use Rattle.swap_digraph.specs.Deal.{party, counterparty, IsWellSized}
 use Rattle.hashkey_path.specs.declared.hashkey.Hashkey.{Hashkey}
+use Rattle.escrow_core.specs.Terms.{terms_of}
 use Rattle.ledger_core.specs.declared.entry.Entry.{Entry}
 use Rattle.ledger_core.specs.History.{IsLegal}
 use Rattle.ledger_core.specs.Book.{Histories, history, IsLegalBook}
@@ -20,9 +21,10 @@ use Rattle.swap_rules.specs.Accepted.{IsAccepted}
 use Rattle.swap_laws.specs.Machine.{IsWallet}
 use Rattle.swap_laws.proofs.Prefixes.{same_or_not}
 use Rattle.swap_laws.proofs.Conducting.{history_same, history_other}
-use Rattle.party_machine.specs.Value.{WalletState}
-use Rattle.party_machine.specs.Keys.{new_wallet, wallet_of}
-use Rattle.party_machine.specs.Fits.{wrong_lock}
+use Rattle.party_wallet.specs.Value.{WalletState}
+use Rattle.party_wallet.specs.Keys.{new_wallet}
+use Rattle.party_machine.specs.Wallet.{wallet_of}
+use Rattle.party_wallet.specs.Fits.{wrong_lock}
 use Rattle.party_machine.specs.Machine.{MachineState, new_machine, machine_or, machine_for, learnt}
 use Rattle.party_machine.specs.Within.{entries_in, machine_in, AreIndexes, IsPartys, IsReady, IsKept}
 use Rattle.party_machine.specs.declared.machine.Machine.TheInside.{Inside}
@@ -49,6 +51,30 @@ one_each d w known r = sym (length-map known (λ x. x.entries)) ∙ r.legal.one_
 pub history_of : (known : List IndexState) (a : ℕ) (x : IndexState) → a < length known → x ≡ get_or known a x → history (entries_in known) a ≡ x.entries
 history_of known a x lt e = get_or-map (λ y. y.entries) known a x [] lt ∙ ap (λ (y : IndexState). y.entries) (sym e)
 
+-- what holds of each index, at its place
+place_of : (d : Deal) (w : WalletState) (known : List IndexState) (a : ℕ) (x : IndexState) → IsReady d w known → a < length d.graph.arcs → x ≡ get_or known a x
+    → {B : Type 0} (g : IndexState → B) (of : ℕ → B) → map g known ≡ map of (arcs d.graph) → g x ≡ of a
+place_of d w known a x ready lt e {B} g of made =
+    ap g e
+    ∙ sym (get_or-map g known a x (g x) (rw (one_each d w known ready) lt))
+    ∙ ap (λ (ts : List B). get_or ts a (g x)) made
+    ∙ get_or-map-range_with_len of 0 (length d.graph.arcs) a a (g x) lt (zero-add a)
+
+same_numbers : (xs : List ℕ) → map (λ n. n) xs ≡ xs
+same_numbers [] = refl
+same_numbers (x ∷ xs) = ap (λ (ys : List ℕ). x ∷ ys) (same_numbers xs)
+
+-- it was made for its arc
+pub made_for : (d : Deal) (w : WalletState) (known : List IndexState) (a : ℕ) (x : IndexState) → IsReady d w known → a < length d.graph.arcs → x ≡ get_or known a x
+    → IsSameArc (new_index d a) x
+made_for d w known a x ready lt e =
+    record {
+      arc = place_of d w known a x ready lt e (λ z. z.arc) (λ n. n) (ready.arcs ∙ sym (same_numbers (arcs d.graph)));
+      from = place_of d w known a x ready lt e (λ z. z.from) (party d) ready.indexes.from;
+      to = place_of d w known a x ready lt e (λ z. z.to) (counterparty d) ready.indexes.to;
+      terms = place_of d w known a x ready lt e (λ z. z.terms) (terms_of d) ready.indexes.terms;
+    }
+
 -- A new machine.
 
 nothing_known : (d : Deal) (k n : ℕ) → entries_in (map (new_index d) (range_with_len k n)) ≡ replicate n []
@@ -68,6 +94,10 @@ legal_new d = record {
   one_each = length-replicate (length d.graph.arcs) [];
   legal = λ a lt. subst (IsLegal d a) (sym (none_of_none (length d.graph.arcs) a [])) tt;
 }
+
+arcs_from : (d : Deal) (k n : ℕ) → map (λ x. x.arc) (map (new_index d) (range_with_len k n)) ≡ range_with_len k n
+arcs_from d k zero = refl
+arcs_from d k (suc n) = ap (λ (ns : List ℕ). k ∷ ns) (arcs_from d (k + 1) n)
 
 indexes_new : (d : Deal) → AreIndexes d (map (new_index d) (arcs d.graph))
 indexes_new d = record {
@@ -91,6 +121,7 @@ new_ready c d v w known ec ew ek sized lt fits =
       sized = sized;
       partys = subst (IsPartys d) (sym ew) (partys_new d v w.seed lt fits);
       indexes = subst (AreIndexes d) (sym ek) (indexes_new d);
+      arcs = ap (map (λ x. x.arc)) ek ∙ arcs_from d 0 (length d.graph.arcs);
       legal = subst (IsLegalBook d) (sym (entries_new d known ek)) (legal_new d);
     })
 
@@ -118,6 +149,7 @@ learnt_ready d w known a x y r lt e same legal = record {
     from = map-set_same (λ z. z.from) known a y x (same.from ∙ ap (λ (z : IndexState). z.from) e) ∙ r.indexes.from;
     to = map-set_same (λ z. z.to) known a y x (same.to ∙ ap (λ (z : IndexState). z.to) e) ∙ r.indexes.to;
   };
+  arcs = map-set_same (λ z. z.arc) known a y x (same.arc ∙ ap (λ (z : IndexState). z.arc) e) ∙ r.arcs;
   legal = subst (IsLegalBook d) (sym (map-set (λ z. z.entries) known a y)) (record {
     one_each = length-set (entries_in known) a y.entries ∙ r.legal.one_each;
     legal = λ c l. at c (same_or_not c a) (subst (λ z. c < z) (length-set (entries_in known) a y.entries) l);
@@ -159,14 +191,8 @@ pub fronts : (d : Deal) (w : WalletState) (known : List IndexState) (a : ℕ) (x
 fronts d w known a x more ready lt e legal front rest q =
     let below : a < length known = rw (one_each d w known ready) lt in
     let h : history (entries_in known) a ≡ x.entries = history_of known a x below e in
-    let f : x.from ≡ party d a = place_of (λ z. z.from) (party d) ready.indexes.from in
-    let t : x.to ≡ counterparty d a = place_of (λ z. z.to) (counterparty d) ready.indexes.to in
+    let made = made_for d w known a x ready lt e in
+    let f : x.from ≡ party d a = made.from in
+    let t : x.to ≡ counterparty d a = made.to in
     let whole : IsLegal d a (front ++ rest) = subst (IsLegal d a) (ap (λ (z : List Entry). z ++ more) h ∙ q) legal in
     rw (f, t) (front_indexable d a front rest ready.sized whole)
-  where
-    place_of : (g : IndexState → ℕ) (of : ℕ → ℕ) → map g known ≡ map of (arcs d.graph) → g x ≡ of a
-    place_of g of made =
-        ap g e
-        ∙ sym (get_or-map g known a x (g x) (rw (one_each d w known ready) lt))
-        ∙ ap (λ (ts : List ℕ). get_or ts a (g x)) made
-        ∙ get_or-map-range_with_len of 0 (length d.graph.arcs) a a (g x) lt (zero-add a)

@@ -1,6 +1,4 @@
-pub mod Unspent
 pub mod Digests
-pub mod Least
 pub mod Good
 pub mod Known
 pub mod Onto

@@ -1,10 +1,10 @@
 -- The first of what is due: a publish, else an unlock, else a claim, else a refund.
-use Rattle.std.proofs.Common.{◌≡◌, ℕ, Bool, true, false, cond, List, [], ◌∷◌, ◌++◌, Option, Some, None, is_some, option_map, refl, sym, ap, ap₂, ◌∙◌}
+use Rattle.std.proofs.Common.{◌≡◌, ℕ, true, false, List, [], ◌∷◌, ◌++◌, Option, Some, None, is_some, option_map, refl, sym, ap, ap₂, ◌∙◌}
 use Rattle.swap_base.specs.Lists.{or_else}
 use Rattle.ledger_core.specs.declared.entry.Call.{Call}
 use Rattle.swap_rules.specs.Due.{Action, due, due_publishes, due_unlocks, due_claims, due_refunds, first}
-use Rattle.party_phase_two.specs.Unlocks.{signed_in}
-use Rattle.party_machine.specs.Keys.{wallet_of}
+use Rattle.party_wallet.specs.Value.{signed_in}
+use Rattle.party_machine.specs.Wallet.{wallet_of}
 use Rattle.party_machine.specs.Machine.{MachineState, action_of, next_of}
 
 pub first_append : (xs ys : List Action) → first (xs ++ ys) ≡ or_else (first xs) (first ys)

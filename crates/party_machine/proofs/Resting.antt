@@ -17,9 +17,9 @@ use Rattle.swap_rules.specs.Party.{least_expiry}
 use Rattle.swap_rules.specs.Due.{Action, due, first}
 use Rattle.swap_laws.specs.Rest.{are_ticks, is_ticking, rest_until}
 use Rattle.swap_laws.proofs.Rest.{reads, same_waiting, same_expiry, rests_below, ticks_make_nothing_due}
-use Rattle.party_phase_two.specs.Unlocks.{signed_in}
-use Rattle.party_machine.specs.Value.{WalletState}
-use Rattle.party_machine.specs.Keys.{wallet_of}
+use Rattle.party_wallet.specs.Value.{signed_in}
+use Rattle.party_wallet.specs.Value.{WalletState}
+use Rattle.party_machine.specs.Wallet.{wallet_of}
 use Rattle.party_machine.specs.Machine.{MachineState, action_of, learnt, next_of}
 use Rattle.party_machine.specs.Rest.{rest_after, EndsBy, IsAtRest, MayRest}
 use Rattle.party_machine.specs.Within.{entries_in, IsReady}

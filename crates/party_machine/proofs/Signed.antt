@@ -1,5 +1,5 @@
 -- A wallet after a hashkey was signed: the rest of it is as before.
-use Rattle.std.proofs.Common.{◌≡◌, ◌≢◌, ◌⊎◌, ℕ, zero, suc, ◌<◌, ◌==◌, Bool, true, false, cond, List, [], ◌∷◌, length, get_or, set, Option, Some, None, refl, sym, ap, ◌∙◌, subst, inl, inr, arith, eqb-true, eq-eqb}
+use Rattle.std.proofs.Common.{◌≡◌, ◌≢◌, ◌⊎◌, ℕ, zero, suc, ◌<◌, ◌==◌, Bool, true, false, cond, List, [], ◌∷◌, length, set, Option, Some, None, refl, sym, ap, ◌∙◌, inl, inr, eqb-true, eq-eqb}
 use Rattle.std.proofs.lemmas.List.{length-set, get_or-set_same, get_or-set_other}
 use Rattle.std.proofs.lemmas.Bool.{false≢true}
 use Rattle.std.proofs.lemmas.Option.{same_Some}
@@ -10,10 +10,10 @@ use Rattle.ledger_core.specs.declared.entry.Call.TheVariants.{Unlock}
 use Rattle.history_index.specs.Value.{IndexState}
 use Rattle.swap_laws.specs.Machine.{noted}
 use Rattle.swap_laws.proofs.Prefixes.{same_or_not}
-use Rattle.party_phase_two.specs.Unlocks.{signed_in}
-use Rattle.party_machine.specs.Value.{WalletState}
-use Rattle.party_machine.specs.Keys.{with_signed}
-use Rattle.party_machine.specs.Within.{IsPartys, IsReady}
+use Rattle.party_wallet.specs.Value.{signed_in}
+use Rattle.party_wallet.specs.Value.{WalletState}
+use Rattle.party_wallet.specs.Keys.{with_signed}
+use Rattle.party_machine.specs.Within.{IsReady}
 
 same_place : (s : List (Option Hashkey)) (i : ℕ) (k : Hashkey) → i < length s → signed_in (set s i (Some k)) i ≡ Some k
 same_place s i k lt = get_or-set_same s i (Some k) None lt
@@ -57,6 +57,7 @@ signed_ready d w known i k r lt e = record {
     locks = λ j l h. at j l h (same_or_not j i);
   };
   indexes = r.indexes;
+  arcs = r.arcs;
   legal = r.legal;
 }
   where

@@ -12,12 +12,14 @@ use Rattle.ledger_core.specs.declared.entry.Call.TheVariants.{Unlock}
 use Rattle.history_index.specs.Value.{IndexState}
 use Rattle.swap_rules.specs.Due.{Wallet, due_publishes, due_unlocks, due_claims, due_refunds, extended, first}
 use Rattle.swap_laws.specs.Machine.{noted}
-use Rattle.party_phase_two.specs.Unlocks.{signed_in, key_on, key_from, IsFirstUnlock, IsSeenOn}
+use Rattle.party_wallet.specs.Value.{signed_in}
+use Rattle.party_phase_two.specs.Unlocks.{key_on, key_from, IsFirstUnlock, IsSeenOn}
 use Rattle.party_phase_two.specs.declared.unlock_due.Base.{Base}
 use Rattle.party_phase_two.specs.declared.unlock_due.Base.TheVariants.{Signed, Own, Onto}
 use Rattle.party_phase_two.specs.declared.unlock_due.UnlockDue.{UnlockDue}
-use Rattle.party_machine.specs.Value.{WalletState}
-use Rattle.party_machine.specs.Keys.{own_key, onto_key, wallet_of, with_signed}
+use Rattle.party_wallet.specs.Value.{WalletState}
+use Rattle.party_wallet.specs.Keys.{own_key, onto_key, with_signed}
+use Rattle.party_machine.specs.Wallet.{wallet_of}
 use Rattle.party_machine.specs.Machine.{MachineState, action_of, next_of}
 use Rattle.party_machine.specs.Within.{entries_in, IsReady}
 use Rattle.party_machine.specs.Unlocking.{CanPutOnto, base_key, due_hashkey}

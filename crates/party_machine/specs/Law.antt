@@ -3,8 +3,8 @@ use Rattle.std.specs.Prelude.{◌≡◌, ℕ, ◌<◌, List, None}
 use Rattle.swap_digraph.specs.declared.deal.Deal.{Deal}
 use Rattle.swap_rules.specs.Accepted.{IsAccepted}
 use Rattle.swap_laws.specs.Machine.{IsWallet}
-use Rattle.party_machine.specs.Keys.{wallet_of}
-use Rattle.party_machine.specs.Fits.{wrong_lock}
+use Rattle.party_machine.specs.Wallet.{wallet_of}
+use Rattle.party_wallet.specs.Fits.{wrong_lock}
 
 -- where a seed has what an accepted deal states of v, what v signs with it is valid on every arc that enters v, and has the origin that conduct asks for
 abbrev pub FittingIsGood : Type 0

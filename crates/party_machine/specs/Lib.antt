@@ -1,8 +1,4 @@
-pub mod Value
-pub mod Keys
-pub mod Wallets
-pub mod Fits
-pub mod Inside
+pub mod Wallet
 pub mod Machine
 pub mod Rest
 pub mod Within

@@ -10,10 +10,11 @@ use Rattle.ledger_core.specs.declared.entry.What.TheVariants.{Call as Made}
 use Rattle.ledger_core.specs.declared.entry.Entry.{Entry}
 use Rattle.ledger_core.specs.History.{opened}
 use Rattle.ledger_core.specs.Book.{Histories}
-use Rattle.party_phase_two.specs.Unlocks.{signed_in, key_from}
+use Rattle.party_wallet.specs.Value.{signed_in}
+use Rattle.party_phase_two.specs.Unlocks.{key_from}
 use Rattle.party_phase_two.specs.declared.unlock_due.UnlockDue.{UnlockDue}
-use Rattle.party_machine.specs.Value.{WalletState}
-use Rattle.party_machine.specs.Keys.{wallet_of}
+use Rattle.party_wallet.specs.Value.{WalletState}
+use Rattle.party_machine.specs.Wallet.{wallet_of}
 
 -- the hashkey of an unlock, if it is one
 abbrev pub key_carried : What → Option Hashkey

@@ -1,14 +1,15 @@
 -- What the fields of a machine mean, and what holds of them.
-use Rattle.std.specs.Prelude.{◌≡◌, ◌<◌, ℕ, List, length, Some, None}
+use Rattle.std.specs.Prelude.{◌≡◌, ◌<◌, ℕ, List, length, map, Some, None}
+use Rattle.swap_digraph.specs.Graph.{arcs}
 use Rattle.swap_digraph.specs.Deal.{IsWellSized}
 use Rattle.swap_digraph.specs.declared.deal.Deal.{Deal}
 use Rattle.hashkey_path.specs.declared.hashkey.Hashkey.{Hashkey}
 use Rattle.ledger_core.specs.Book.{IsLegalBook}
 use Rattle.history_index.specs.Value.{IndexState}
 pub use Rattle.history_index.specs.Indexes.{entries_in, AreIndexes}
-use Rattle.party_phase_two.specs.Unlocks.{signed_in}
-use Rattle.party_machine.specs.Value.{WalletState}
-use Rattle.party_machine.specs.Fits.{wrong_lock}
+use Rattle.party_wallet.specs.Value.{signed_in}
+use Rattle.party_wallet.specs.Value.{WalletState}
+use Rattle.party_wallet.specs.Fits.{wrong_lock}
 use Rattle.party_machine.specs.Machine.{MachineState}
 use Rattle.party_machine.specs.Rest.{MayRest}
 use Rattle.party_machine.specs.declared.machine.Machine.TheInside.{Inside}
@@ -30,6 +31,7 @@ pub record IsReady (d : Deal) (w : WalletState) (known : List IndexState) : Type
   pub sized : IsWellSized d
   pub partys : IsPartys d w
   pub indexes : AreIndexes d known
+  pub arcs : map (λ x. x.arc) known ≡ arcs d.graph
   pub legal : IsLegalBook d (entries_in known)
 
 -- The machine is ready, and where it rests, it may.

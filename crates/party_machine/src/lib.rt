@@ -1,9 +1,9 @@
-//! A conforming party of the swap: what it signs with, what it knows, and what it does next.
+//! A conforming party of the swap: what it knows, what is due for it, and the call that it makes next.
+//!
+//! Read `specs/Machine.antt` first: `next_of` is the first of what is due.
 #![tactic(auto)]
 
 mod actions;
-mod fitting;
-mod hashkeys;
 mod knowledge;
 mod law;
 mod machine;
@@ -11,10 +11,7 @@ mod misfit;
 mod reading;
 mod rest;
 mod signing;
-mod wallet;
-mod wallet_key;
 
 pub use law::fitting_is_good;
 pub use machine::Machine;
 pub use misfit::{MachineFault, Misfit};
-pub use wallet::Wallet;

@@ -6,10 +6,12 @@ ghost use Rattle.swap_digraph.specs.Deal.{IsWellSized};
 ghost use Rattle.hashkey_path.specs.declared.hashkey.Hashkey.{Hashkey};
 ghost use Rattle.ledger_core.specs.Book.{history};
 ghost use Rattle.ledger_core.specs.History.{IsLegal};
+ghost use Rattle.history_index.specs.Value.{new_index, IsSameArc};
 ghost use Rattle.swap_rules.specs.Accepted.{IsAccepted};
 ghost use Rattle.swap_laws.specs.Machine.{IsWallet};
-ghost use Rattle.party_phase_two.specs.Unlocks.{signed_in};
-ghost use Rattle.party_machine.specs.Keys.{new_wallet, wallet_of};
+ghost use Rattle.party_wallet.specs.Value.{signed_in};
+ghost use Rattle.party_wallet.specs.Keys.{new_wallet};
+ghost use Rattle.party_machine.specs.Wallet.{wallet_of};
 ghost use Rattle.party_machine.specs.Machine.{machine_for, new_machine, learnt, action_of, next_of, noted_for, IsOfSame};
 
 use crate::actions::{due_first, due_last};
@@ -17,10 +19,10 @@ use crate::knowledge::indexes_of;
 use crate::misfit::{MachineFault, Misfit};
 use crate::rest::{Rest, are_ticks};
 use crate::signing::hashkey_for;
-use crate::wallet::Wallet;
 use history_index::{Index, Steps};
 use ledger_core::{Call, EntryList, Facts};
 use party_phase_two::{due_unlock, rest_until};
+use party_wallet::Wallet;
 use std::alloc::Global;
 use std::marker::Model;
 use std::sync::ledger::Ledger;
@@ -147,11 +149,12 @@ impl Machine {
         &self.deal
     }
 
-    /// How many entries are known of an arc.
-    pub fn known(&self, arc: ArcId) -> u32
+    /// What is known of an arc, as an index that was made for it.
+    pub fn known(&self, arc: ArcId) -> &Index
         requires { arc < length self.now.deal.graph.arcs }
-        ensures { result ≡ length (history self.now.known arc) }
+        ensures entries { result.now.entries ≡ history self.now.known arc }
+        ensures made { IsSameArc (new_index self.now.deal arc) result.now }
     {
-        self.known[arc as usize].count()
+        &self.known[arc as usize]
     }
 }

@@ -1,19 +1,20 @@
 //! The hashkey of an unlock that is due: the one that was signed, or a new one.
 
 ghost use Rattle.std.specs.Prelude.{◌≡◌, ◌<◌, None, length, IfOk, OnErr, IsSome};
-ghost use Rattle.party_phase_two.specs.Unlocks.{signed_in, IsSeenOn};
-ghost use Rattle.party_machine.specs.Keys.{onto_key, with_signed};
+ghost use Rattle.party_wallet.specs.Value.{signed_in};
+ghost use Rattle.party_phase_two.specs.Unlocks.{IsSeenOn};
+ghost use Rattle.party_wallet.specs.Keys.{onto_key, with_signed};
 ghost use Rattle.party_machine.specs.Within.{entries_in, IsReady};
 ghost use Rattle.party_machine.specs.Unlocking.{base_key, due_hashkey, opened_key, CanPutOnto};
 ghost use Rattle.std.specs.Prelude.{Some, option_map};
 ghost use Rattle.swap_rules.specs.Due.{extended};
-ghost use Rattle.party_machine.specs.Keys.{wallet_of};
+ghost use Rattle.party_machine.specs.Wallet.{wallet_of};
 
 use crate::reading::opened_key;
-use crate::wallet::Wallet;
 use hashkey_path::Hashkey;
 use history_index::Index;
 use party_phase_two::{Base, UnlockDue};
+use party_wallet::Wallet;
 use std::alloc::Global;
 use swap_base::{LockId, NoMemory, Shared};
 use swap_digraph::Deal;

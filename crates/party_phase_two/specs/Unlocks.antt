@@ -1,5 +1,5 @@
 -- What a due unlock stands for: a call with the hashkey that was signed, with one of the party's own, or with one put onto a hashkey that it saw.
-use Rattle.std.specs.Prelude.{◌≡◌, ◌<◌, ℕ, List, length, option_map, Option, Some, None, slice_index_or}
+use Rattle.std.specs.Prelude.{◌≡◌, ◌<◌, ℕ, length, option_map, Option, Some}
 use Rattle.std.specs.List.{find}
 use Rattle.swap_digraph.specs.Graph.{leaving}
 use Rattle.swap_digraph.specs.declared.deal.Deal.{Deal}
@@ -12,10 +12,6 @@ use Rattle.swap_rules.specs.Due.{Wallet, due_unlocks, extended, first}
 use Rattle.party_phase_two.specs.declared.unlock_due.Base.{Base}
 use Rattle.party_phase_two.specs.declared.unlock_due.Base.TheVariants.{Signed, Own, Onto}
 use Rattle.party_phase_two.specs.declared.unlock_due.UnlockDue.{UnlockDue}
-
--- the hashkey that was signed for lock i, if any
-abbrev pub signed_in : List (Option Hashkey) → ℕ → Option Hashkey
-signed_in keys i = slice_index_or keys i None
 
 -- the hashkey that opened lock i on arc a, if any
 abbrev pub key_on : Histories → ℕ → ℕ → Option Hashkey

@@ -9,13 +9,11 @@
 mod claim;
 mod refund;
 mod rest;
-mod signed;
 mod unlock;
 mod unlock_due;
 
 pub use claim::due_claim;
 pub use refund::due_refund;
 pub use rest::rest_until;
-pub use signed::Signed;
 pub use unlock::due_unlock;
 pub use unlock_due::{Base, UnlockDue};

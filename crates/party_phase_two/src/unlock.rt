@@ -10,12 +10,13 @@ ghost use Rattle.ledger_core.specs.Book.{history};
 ghost use Rattle.ledger_core.specs.History.{opened};
 ghost use Rattle.book_reading.specs.Known.{AreMadeFor};
 ghost use Rattle.party_phase_two.specs.Parts.{due_base, first_closed, unlock_for};
-ghost use Rattle.party_phase_two.specs.Unlocks.{seen_on, signed_in, IsFirstUnlock, IsSeenOn};
+ghost use Rattle.party_phase_two.specs.Unlocks.{seen_on, IsFirstUnlock, IsSeenOn};
+ghost use Rattle.party_wallet.specs.Value.{signed_in};
 
-use crate::signed::Signed;
 use crate::unlock_due::{Base, UnlockDue};
 use book_reading::{is_ready, leads};
 use ledger_core::{CallKind, Facts};
+use party_wallet::Signed;
 use swap_base::{ArcId, LockId, PartyId};
 use swap_digraph::Deal;
 

@@ -4,14 +4,14 @@ ghost use Rattle.std.specs.Prelude.{◌≡◌, ◌≤◌, ◌<◌, length, map, 
 ghost use Rattle.swap_base.specs.Fault.{Gives};
 ghost use Rattle.swap_rules.specs.Accepted.{IsAccepted};
 ghost use Rattle.swap_run.specs.Run.{start, step};
-ghost use Rattle.party_machine.specs.Wallets.{wallets_of};
+ghost use Rattle.party_wallet.specs.Wallets.{wallets_of};
 ghost use Rattle.swap_offer.specs.Job.{IsWhole};
 ghost use Rattle.swap_offer.specs.Wallets.{HaveWallets};
 ghost use Rattle.swap_world.specs.Cast.{cast_of};
 ghost use Rattle.swap_main.specs.Replay.{replayed, next_by, passed_over, IsOf};
 
 use deviator_script::Job;
-use party_machine::Wallet;
+use party_wallet::Wallet;
 use refusals::OfferFault;
 use std::alloc::Global;
 use swap_base::{Fault, NoMemory};

@@ -11,7 +11,7 @@ use Rattle.deviator_script.specs.declared.job.Purpose.{Purpose}
 use Rattle.deviator_script.specs.declared.job.Purpose.TheVariants.{Check, Run, Race, Make, Audit}
 use Rattle.refusals.specs.declared.reason.Reason.{Reason}
 use Rattle.refusals.specs.declared.reason.Reason.TheVariants.{NoSeed, WrongWallet}
-use Rattle.party_machine.specs.Fits.{wrong_lock}
+use Rattle.party_wallet.specs.Fits.{wrong_lock}
 use Rattle.swap_offer.specs.Checks.{unless_wrong}
 use Rattle.swap_offer.specs.Wallets.{conforms, seed_of, no_seed, seeded_for, seeded, wrong_seed, wrong_wallet, walleted, HasWallet, HaveWallets, HaveWalletsFor}
 

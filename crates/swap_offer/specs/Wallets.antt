@@ -7,9 +7,9 @@ use Rattle.deviator_script.specs.declared.job.Purpose.{Purpose}
 use Rattle.deviator_script.specs.declared.job.Purpose.TheVariants.{Run, Race}
 use Rattle.refusals.specs.declared.reason.Reason.{Reason}
 use Rattle.refusals.specs.declared.reason.Reason.TheVariants.{NoSeed, WrongWallet}
-use Rattle.party_machine.specs.Fits.{wrong_lock}
-use Rattle.party_machine.specs.Value.{WalletState}
-use Rattle.party_machine.specs.Wallets.{wallets_of}
+use Rattle.party_wallet.specs.Fits.{wrong_lock}
+use Rattle.party_wallet.specs.Value.{WalletState}
+use Rattle.party_wallet.specs.Wallets.{wallets_of}
 use Rattle.swap_offer.specs.Checks.{unless_wrong}
 
 -- party p conforms

@@ -1,7 +1,7 @@
 //! A job with its wallets.
 
 use deviator_script::Job;
-use party_machine::Wallet;
+use party_wallet::Wallet;
 
 /// An accepted job, with the wallets that its purpose needs.
 #[derive(Drop)]

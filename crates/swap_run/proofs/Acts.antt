@@ -10,7 +10,8 @@ use Rattle.swap_laws.specs.Machine.{entry_of, test_of}
 use Rattle.swap_laws.proofs.Machines.{rules_transfer}
 use Rattle.swap_laws.proofs.Room.{rules_leave_room}
 use Rattle.swap_laws.proofs.Conducting.{history_same}
-use Rattle.swap_run.specs.Run.{is_sender_full, Cast, State, conforms, notes_of, signed_in, signed_after, after_call, make, next_of, act, step}
+use Rattle.party_wallet.specs.Value.{signed_in}
+use Rattle.swap_run.specs.Run.{is_sender_full, Cast, State, conforms, notes_of, signed_after, after_call, make, next_of, act, step}
 use Rattle.swap_run.specs.Laws.{IsReadyCast, IsGood, CanBeMade, DueCallsCanBeMade}
 use Rattle.swap_run.specs.Fair.{acts, most_acts}
 use Rattle.swap_run.specs.FairLaws.{ActsComeToRest, ActsAreEnough}

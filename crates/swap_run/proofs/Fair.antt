@@ -16,7 +16,8 @@ use Rattle.swap_laws.proofs.Prefixes.{begins_more, begins_height, same_or_not}
 use Rattle.swap_laws.proofs.Growth.{Grows}
 use Rattle.swap_laws.proofs.Rounds.{rounds_on_time}
 use Rattle.swap_laws.proofs.Dealing.{all_dealt}
-use Rattle.swap_run.specs.Run.{Cast, State, conforms, notes_of, signed_in, next_of, start}
+use Rattle.party_wallet.specs.Value.{signed_in}
+use Rattle.swap_run.specs.Run.{Cast, State, conforms, notes_of, next_of, start}
 use Rattle.swap_run.specs.Laws.{IsReadyCast, IsGood}
 use Rattle.swap_run.specs.Fair.{repeat, turn, turns, the_horizon, raised, round, has_ended, round_unless_ended, finish}
 use Rattle.swap_run.specs.FairLaws.{FairIsDealt}

@@ -22,7 +22,8 @@ use Rattle.swap_laws.proofs.History.{not-true}
 use Rattle.swap_laws.proofs.Prefixes.{same_or_not}
 use Rattle.swap_laws.proofs.Machines.{knowledge_conducts}
 use Rattle.swap_laws.proofs.Conducting.{Next, next_legal, knows_all}
-use Rattle.swap_run.specs.Run.{Cast, Notes, State, conforms, notes_of, signed_in, signed_after, after_tick, after_call, after_move, known_up_to, look, make, next_of, act, step, no_histories, no_notes, start, run}
+use Rattle.party_wallet.specs.Value.{signed_in}
+use Rattle.swap_run.specs.Run.{Cast, Notes, State, conforms, notes_of, signed_after, after_tick, after_call, after_move, known_up_to, look, make, next_of, act, step, no_histories, no_notes, start, run}
 use Rattle.swap_run.specs.Laws.{IsReadyCast, AreGoodNotes, IsGood, StartIsGood, StepsAreGood, GoodIsKept, RunsAreKept}
 use Rattle.swap_run.proofs.Entries.{next_tick, next_of_call, next_move, or_claim}
 use Rattle.swap_run.proofs.Noted.{Holds, hold_other, hold_look, hold_act, due_now}

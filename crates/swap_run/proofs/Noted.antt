@@ -20,7 +20,8 @@ use Rattle.swap_laws.proofs.Prefixes.{same_or_not}
 use Rattle.swap_laws.proofs.Machines.{learn_sound, call_sound}
 use Rattle.swap_laws.proofs.Due.{IsDue, is_due}
 use Rattle.swap_laws.proofs.Conducting.{Next, Still, Pushed, history_same, history_other, knows_all}
-use Rattle.swap_run.specs.Run.{Notes, signed_in, signed_after, after_call, known_up_to}
+use Rattle.party_wallet.specs.Value.{signed_in}
+use Rattle.swap_run.specs.Run.{Notes, signed_after, after_call, known_up_to}
 use Rattle.swap_run.proofs.Entries.{call_is}
 
 -- The hashkeys that a call signs, in a list and as a function.

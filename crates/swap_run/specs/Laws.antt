@@ -10,7 +10,8 @@ use Rattle.deviator_script.specs.Step.{CanStep}
 use Rattle.swap_rules.specs.Accepted.{IsAccepted}
 use Rattle.swap_rules.specs.Conduct.{IsConducted}
 use Rattle.swap_laws.specs.Machine.{IsWallet, IsSound, Knows}
-use Rattle.swap_run.specs.Run.{Cast, State, conforms, notes_of, signed_in, next_of, step, start, run}
+use Rattle.party_wallet.specs.Value.{signed_in}
+use Rattle.swap_run.specs.Run.{Cast, State, conforms, notes_of, next_of, step, start, run}
 
 -- What a run asks of its cast: the deal is accepted, and each conforming party has a wallet of its own.
 pub record IsReadyCast (c : Cast) : Type 0 where

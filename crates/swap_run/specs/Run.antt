@@ -10,6 +10,7 @@ use Rattle.ledger_core.specs.declared.entry.Entry.{Entry}
 use Rattle.ledger_core.specs.History.{height, reply_to, reply_to_tick}
 use Rattle.ledger_core.specs.Ledger.{call_entry, tick_entry}
 use Rattle.ledger_core.specs.Book.{Histories, history}
+use Rattle.party_wallet.specs.Value.{signed_in}
 use Rattle.deviator_script.specs.declared.event.Event.{Event}
 use Rattle.deviator_script.specs.declared.event.Event.TheVariants.{Tick, Look, Act, Call as Made}
 use Rattle.deviator_script.specs.Resolved.{arc_of, call_of}
@@ -38,10 +39,6 @@ conforms c v = slice_index_or c.conforming v false
 -- the notes of party v
 abbrev pub notes_of : State → ℕ → Notes
 notes_of s v = slice_index_or s.notes v (record { known = []; signed = [] })
-
--- the hashkey that was signed for lock i, if any
-abbrev pub signed_in : List (Option Hashkey) → ℕ → Option Hashkey
-signed_in signed i = slice_index_or signed i None
 
 -- the hashkeys that were signed, after a call
 abbrev pub signed_after : List (Option Hashkey) → Call → List (Option Hashkey)

@@ -9,7 +9,7 @@ use Rattle.ledger_core.specs.Book.{Histories, history}
 use Rattle.swap_laws.specs.Machine.{noted}
 use Rattle.swap_rules.specs.Due.{Action}
 use Rattle.swap_run.specs.Run.{after_call}
-use Rattle.party_phase_two.specs.Unlocks.{signed_in}
+use Rattle.party_wallet.specs.Value.{signed_in}
 use Rattle.party_machine.specs.Machine.{MachineState, IsOfSame, action_of, next_of, noted_for}
 use Rattle.swap_world.specs.Acting.{histories, book_after, machine_after}
 use Rattle.swap_world.proofs.Ledgers.{history_at, book_ok, book_err}

@@ -26,6 +26,10 @@ pub on_err : {A E : Type 0} {P Q : Type 0} (r : Result A E) → (P → Q) → On
 on_err (Ok x) f h = tt
 on_err (Err e) f h = f h
 
+pub either : {P Q R S : Type 0} → (P → R) → (Q → S) → P ⊎ Q → R ⊎ S
+either f g (inl p) = inl (f p)
+either f g (inr q) = inr (g q)
+
 -- the history of the ledger that was read
 pub history_at : (ls : List LedgerState) (a : ℕ) (l : LedgerState) → a < length ls → l ≡ get_or ls a l → history (histories ls) a ≡ l.history
 history_at ls a l lt is = get_or-map (λ (x : LedgerState). x.history) ls a l [] lt ∙ ap (λ (x : LedgerState). x.history) (sym is)

@@ -8,7 +8,7 @@ use Rattle.ledger_core.specs.declared.entry.Call.{Call}
 use Rattle.ledger_core.specs.declared.entry.Call.TheVariants.{Publish, Unlock, Claim, Refund, Transfer}
 use Rattle.swap_laws.specs.Machine.{noted}
 use Rattle.swap_run.specs.Run.{signed_after}
-use Rattle.party_phase_two.specs.Unlocks.{signed_in}
+use Rattle.party_wallet.specs.Value.{signed_in}
 
 -- lists of one length that give the same hashkey for each lock are the same
 same_for : (new old : List (Option Hashkey)) → length new ≡ length old → ((i : ℕ) → i < length new → signed_in new i ≡ signed_in old i) → new ≡ old

@@ -1,5 +1,5 @@
 -- The state that ledgers and actors show, after a look and after an act.
-use Rattle.std.proofs.Common.{◌≡◌, ◌≢◌, ◌⊎◌, inl, inr, ℕ, ◌<◌, Bool, true, false, cond, List, [], length, get_or, set, slice_index_or, map, Option, Some, None, sym, ap, ap₂, ◌∙◌, subst}
+use Rattle.std.proofs.Common.{◌≡◌, ◌≢◌, ◌⊎◌, inl, inr, ℕ, ◌<◌, Bool, true, false, cond, List, [], length, get_or, set, slice_index_or, map, Option, Some, None, refl, sym, ap, ap₂, ◌∙◌, subst}
 use Rattle.std.proofs.lemmas.List.{map-set, get_or-map, set-get_or, get_or-set_same, get_or-set_other, length-set}
 use Rattle.swap_laws.proofs.Prefixes.{same_or_not}
 use Rattle.swap_digraph.specs.declared.deal.Deal.{Deal}
@@ -9,8 +9,9 @@ use Rattle.ledger_core.specs.Value.{LedgerState}
 use Rattle.ledger_core.specs.Book.{Histories, history}
 use Rattle.deviator_script.specs.declared.event.Event.TheVariants.{Look, Act}
 use Rattle.swap_rules.specs.Due.{Wallet, Action, due, first}
-use Rattle.swap_run.specs.Run.{Cast, Notes, State, conforms, notes_of, signed_in, signed_after, after_call, known_up_to, look, make, next_of, act, step}
-use Rattle.party_machine.specs.Keys.{wallet_of}
+use Rattle.party_wallet.specs.Value.{signed_in}
+use Rattle.swap_run.specs.Run.{Cast, Notes, State, conforms, notes_of, signed_after, after_call, known_up_to, look, make, next_of, act, step}
+use Rattle.party_machine.specs.Wallet.{wallet_of}
 use Rattle.party_machine.specs.Machine as machines
 use Rattle.party_machine.specs.Machine.{MachineState}
 use Rattle.swap_world.specs.Cast.{cast_with, wallet_with}
@@ -110,3 +111,9 @@ module _ (d : Deal) (conforming : List Bool) (seeds : List (Option (List ℕ))) 
       → record { book = b; notes = notes_with p new } ≡ step c s (Act p)
   acted p m new b i eb en =
       made p m new b (machines.next_of m) i eb en ∙ (ap (λ (o : Option Action). make d s p o) (sym (next_is p m i)) ∙ where_it_conforms p (act c s p) i.is.0)
+
+  -- the histories after it, whatever became of the machine
+  pub acted_book : (p : ℕ) (m : MachineState) → IsAt p m → book_after m (machines.next_of m) (histories ls) ≡ (step c s (Act p)).book
+  acted_book p m i =
+      ap (λ (t : State). t.book)
+      (acted p m (machine_after m (machines.next_of m) (histories ls)) (book_after m (machines.next_of m) (histories ls)) i refl refl)

@@ -12,7 +12,7 @@ use Rattle.swap_rules.specs.Accepted.{IsAccepted}
 use Rattle.swap_laws.specs.Machine.{IsWallet}
 use Rattle.swap_run.specs.Run.{Notes, no_notes}
 use Rattle.swap_run.specs.Laws.{IsReadyCast}
-use Rattle.party_machine.specs.Fits.{wrong_lock}
+use Rattle.party_wallet.specs.Fits.{wrong_lock}
 use Rattle.party_machine.specs.Machine.{new_machine}
 use Rattle.party_machine.proofs.Good.{fitting_is_good}
 use Rattle.swap_world.specs.Cast.{cast_of, wallet_with}

@@ -1,6 +1,8 @@
 -- What a world keeps at each event.
-use Rattle.std.proofs.Common.{◌≡◌, Result, Ok, Err, OnOk, OnErr, ℕ, ◌<◌, Bool, false, List, length, get_or, set, Option, Some, sym, ap, ap₂, ◌∙◌, subst}
+use Rattle.std.proofs.Common.{◌≡◌, Result, Ok, Err, OnOk, OnErr, ◌⊎◌, inl, inr, ℕ, ◌<◌, Bool, false, List, [], ◌∷◌, length, get_or, set, Option, Some, sym, ap, ap₂, ◌∙◌, subst}
 use Rattle.std.specs.Result.{is_err}
+use Rattle.std.specs.List.{All}
+use Rattle.std.proofs.lemmas.List.Elements.{All-head, All-tail}
 use Rattle.std.proofs.lemmas.Bool.{false≢true}
 use Rattle.swap_digraph.specs.declared.deal.Deal.{Deal}
 use Rattle.ledger_core.specs.declared.entry.Entry.{Entry}
@@ -10,18 +12,22 @@ use Rattle.swap_laws.specs.Machine.{Begins}
 use Rattle.swap_rules.specs.Due.{Action, due}
 use Rattle.deviator_script.specs.declared.event.Event.{Event}
 use Rattle.deviator_script.specs.Step.{CanStep}
-use Rattle.swap_run.specs.Run.{Cast, Notes, State, notes_of, signed_in, next_of, step}
-use Rattle.swap_run.specs.Laws.{IsReadyCast, IsGood}
+use Rattle.swap_run.specs.Run.{Cast, Notes, State, notes_of, next_of, step, run_from}
+use Rattle.swap_run.specs.Laws.{IsReadyCast, IsGood, IsKept}
+use Rattle.swap_run.specs.FairLaws.{IsReached}
+use Rattle.party_wallet.specs.Value.{signed_in}
 use Rattle.swap_laws.proofs.Due.{due_is_valid}
 use Rattle.swap_run.proofs.Noted.{due_now}
-use Rattle.swap_run.proofs.Good.{holds, first_in, steps_are_good}
+use Rattle.swap_run.proofs.Good.{holds, first_in, steps_are_good, good_is_kept}
 use Rattle.party_machine.specs.Machine as machines
 use Rattle.party_machine.specs.Machine.{MachineState}
-use Rattle.swap_world.specs.Value.{WorldState}
+use Rattle.swap_world.specs.Value.{WorldState, cast_at}
+use Rattle.swap_world.specs.Stopped.{IsStopped}
 use Rattle.swap_world.specs.Inside.{IsActorOf}
 use Rattle.swap_world.specs.Acting.{IsMakable, IsSameOwner, histories}
 use Rattle.swap_world.specs.declared.actor.Actor.{Actor}
 use Rattle.swap_world.specs.declared.actor.Actor.TheVariants.{Conforming}
+use Rattle.swap_world.proofs.Ways.{at}
 use Rattle.swap_world.proofs.Ledgers.{history_at}
 use Rattle.swap_world.proofs.States.{IsAt, c, s, notes_at, next_is}
 
@@ -59,6 +65,48 @@ owned d conforms seed p m new k i = (i.0, k.deal ∙ i.1, k.me ∙ i.2, i.3 ∙ 
 pub good_on : {A E : Type 0} (r : Result A E) (cast : Cast) (old new : State) (e : Event) → OnOk r (new ≡ step cast old e) → OnErr r (new ≡ old) → IsReadyCast cast → CanStep cast.deal cast.conforming e → IsGood cast old → IsGood cast new
 good_on (Ok x) cast old new e ok err ready can g = subst (IsGood cast) (sym ok) (steps_are_good cast old e ready can g)
 good_on (Err x) cast old new e ok err ready can g = subst (IsGood cast) (sym err) g
+
+-- before an event and after it every conforming party has kept its conduct
+kept_either : (cast : Cast) (old : State) (b : Histories) (e : Event) → (b ≡ old.book) ⊎ (b ≡ (step cast old e).book)
+    → IsReadyCast cast → CanStep cast.deal cast.conforming e → IsGood cast old → IsKept cast b
+kept_either cast old b e (inl h) ready can g = subst (IsKept cast) (sym h) (good_is_kept cast old ready g)
+kept_either cast old b e (inr h) ready can g =
+    subst (IsKept cast) (sym h) (good_is_kept cast (step cast old e) ready (steps_are_good cast old e ready can g))
+
+-- whether memory ran out or not, every conforming party has kept its conduct
+pub kept_on : {A E : Type 0} (r : Result A E) (cast : Cast) (old new : State) (e : Event) → OnOk r (new ≡ step cast old e)
+    → OnErr r ((new.book ≡ old.book) ⊎ (new.book ≡ (step cast old e).book)) → IsReadyCast cast → CanStep cast.deal cast.conforming e → IsGood cast old
+    → IsKept cast new.book
+kept_on (Ok x) cast old new e ok err ready can g = good_is_kept cast new ready (subst (IsGood cast) (sym ok) (steps_are_good cast old e ready can g))
+kept_on (Err x) cast old new e ok err ready can g = kept_either cast old new.book e err ready can g
+
+-- the same of a world after a step
+pub kept_by : {A E : Type 0} (r : Result A E) (old new : WorldState) (e : Event) → OnOk r (new ≡ at old (step (cast_at old) old.state e))
+    → OnErr r (cast_at new ≡ cast_at old) → OnErr r ((new.state.book ≡ old.state.book) ⊎ (new.state.book ≡ (step (cast_at old) old.state e).book))
+    → IsReadyCast (cast_at old) → CanStep old.deal old.conforming e → IsGood (cast_at old) old.state → IsKept (cast_at new) new.state.book
+kept_by (Ok x) old new e ok cast book ready can g =
+    subst (λ w. IsKept (cast_at w) w.state.book) (sym ok)
+    (good_is_kept (cast_at old) (step (cast_at old) old.state e) ready (steps_are_good (cast_at old) old.state e ready can g))
+kept_by (Err x) old new e ok cast book ready can g =
+    subst (λ c. IsKept c new.state.book) (sym cast) (kept_either (cast_at old) old.state new.state.book e book ready can g)
+
+-- every state that events lead to from a good one is good
+reached_good : (c : Cast) (s : State) (events : List Event) → IsReadyCast c → All (CanStep c.deal c.conforming) events → IsGood c s → IsGood c (run_from c s events)
+reached_good c s [] ready can g = g
+reached_good c s (e ∷ events) ready can g =
+    reached_good c (step c s e) events ready (All-tail (CanStep c.deal c.conforming) e events can)
+    (steps_are_good c s e ready (All-head (CanStep c.deal c.conforming) e events can) g)
+
+reached_kept : (c : Cast) (s t : State) → IsReadyCast c → IsGood c s → IsReached c s t → IsKept c t.book
+reached_kept c s t ready g r = good_is_kept c t ready (subst (IsGood c) (sym r.state) (reached_good c s r.events ready r.can g))
+
+-- the same of a world that came to a state, or stopped on its way there
+pub kept_to : {A E : Type 0} (r : Result A E) (old new : WorldState) (t : State) → OnOk r (new ≡ at old t) → OnErr r (IsStopped old t new) → IsReached (cast_at old) old.state t
+    → IsReadyCast (cast_at old) → IsGood (cast_at old) old.state → IsKept (cast_at new) new.state.book
+kept_to (Ok x) old new t ok err r ready g = subst (λ w. IsKept (cast_at w) w.state.book) (sym ok) (reached_kept (cast_at old) old.state t ready g r)
+kept_to (Err x) old new t ok err r ready g =
+    subst (λ c. IsKept c new.state.book) (sym err.cast)
+    (subst (IsKept (cast_at old)) (sym err.book.book) (reached_kept (cast_at old) old.state err.book.there ready g err.book.before))
 
 -- what follows from two facts that stand where memory sufficed
 pub both : {A E : Type 0} {P Q R : Type 0} (r : Result A E) → (P → Q → R) → OnOk r P → OnOk r Q → OnOk r R

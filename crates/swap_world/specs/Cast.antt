@@ -3,7 +3,7 @@ use Rattle.std.specs.Prelude.{ℕ, Bool, List, [], slice_index_or, Option, Some,
 use Rattle.swap_digraph.specs.declared.deal.Deal.{Deal}
 use Rattle.deviator_script.specs.declared.job.Job.{Job}
 use Rattle.swap_rules.specs.Due.{Wallet}
-use Rattle.party_machine.specs.Keys.{wallet_of}
+use Rattle.party_machine.specs.Wallet.{wallet_of}
 use Rattle.swap_run.specs.Run.{Cast}
 
 -- what party v signs with; that of a party without a seed is never used

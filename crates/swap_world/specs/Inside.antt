@@ -5,7 +5,7 @@ use Rattle.swap_digraph.specs.declared.deal.Deal.{Deal}
 use Rattle.ledger_core.specs.Value.{LedgerState}
 use Rattle.ledger_core.specs.History.{IsLegal}
 use Rattle.swap_run.specs.Run.{Cast, Notes, State, no_notes}
-use Rattle.swap_run.specs.Laws.{IsReadyCast, IsGood}
+use Rattle.swap_run.specs.Laws.{IsReadyCast, IsGood, IsKept}
 use Rattle.swap_world.specs.Cast.{cast_with}
 use Rattle.swap_world.specs.Value.{WorldState}
 use Rattle.swap_world.specs.declared.actor.Actor.{Actor}
@@ -59,3 +59,5 @@ pub record Holds (w : Inside) : Type 0 where
   pub ledgers : AreLedgersOf w.deal w.ledgers.items
   pub actors : AreActorsOf w.deal w.conforming w.seeds w.actors.items
   pub good : w.stopped ≡ false → IsGood (cast_in w) (state_in w)
+  -- also where memory ran out
+  pub kept : IsKept (cast_in w) (state_in w).book

@@ -4,7 +4,7 @@ use Rattle.std.specs.List.{range_with_len}
 use Rattle.swap_base.specs.Fault.{◌>>=◌, steps}
 use Rattle.swap_digraph.specs.declared.deal.Deal.{Deal}
 use Rattle.deviator_script.specs.declared.job.Job.{Job}
-use Rattle.party_machine.specs.Fits.{wrong_lock}
+use Rattle.party_wallet.specs.Fits.{wrong_lock}
 use Rattle.party_machine.specs.Machine.{new_machine}
 use Rattle.swap_world.specs.declared.actor.Actor.{Actor}
 use Rattle.swap_world.specs.declared.actor.Actor.TheVariants.{Conforming, Manual}

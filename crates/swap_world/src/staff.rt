@@ -3,13 +3,14 @@
 ghost use Rattle.std.specs.Prelude.{◌≡◌, ◌<◌};
 ghost use Rattle.swap_base.specs.Fault.{Gives};
 ghost use Rattle.swap_digraph.specs.Deal.{IsWellSized};
-ghost use Rattle.party_machine.specs.Keys.{new_wallet};
-ghost use Rattle.party_machine.specs.Wallets.{wallet_for, wallets_of};
+ghost use Rattle.party_wallet.specs.Keys.{new_wallet};
+ghost use Rattle.party_wallet.specs.Wallets.{wallet_for, wallets_of};
 ghost use Rattle.swap_world.specs.Staff.{conforming_of, actor_of, actor_step, actors_of};
 
 use crate::actor::Actor;
 use deviator_script::Job;
-use party_machine::{Machine, Misfit, Wallet};
+use party_machine::{Machine, Misfit};
+use party_wallet::Wallet;
 use std::alloc::Global;
 use swap_base::{Fault, LockId, PartyId};
 use swap_digraph::Deal;

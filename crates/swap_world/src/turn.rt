@@ -93,7 +93,7 @@ fn learn_in<L: Counted>(
     ensures counted { OnOk result (steps.new + length (history machine.old.known ledger.now.arc) ≡ steps.old + length ledger.now.history) }
 {
     let arc = ledger.arc();
-    let fresh = ledger.copy_from(machine.known(arc) as usize)?;
+    let fresh = ledger.copy_from(machine.known(arc).count() as usize)?;
     machine.learn(arc, fresh, steps)
 }
 

@@ -12,7 +12,7 @@ ghost use Rattle.swap_laws.specs.Laws.{IsDealt};
 ghost use Rattle.swap_run.specs.Run.{conforms, start, step, run_from};
 ghost use Rattle.swap_run.specs.Fair.{finish};
 ghost use Rattle.swap_run.specs.Laws.{IsKept};
-ghost use Rattle.party_machine.specs.Wallets.{wallets_of};
+ghost use Rattle.party_wallet.specs.Wallets.{wallets_of};
 ghost use Rattle.swap_world.specs.Stopped.{IsStopped, AllConform};
 ghost use Rattle.swap_world.specs.Value.{cast_at, new_world};
 ghost use Rattle.swap_world.specs.Staff.{world_of, HaveSeeds};
@@ -23,7 +23,7 @@ use crate::staff::{WorldFault, actors_of};
 use crate::{fair, many, turn};
 use deviator_script::{Event, Job, Move, arc_of_move};
 use ledger_core::{Book, EntryList, Ledger};
-use party_machine::Wallet;
+use party_wallet::Wallet;
 use std::alloc::Global;
 use std::marker::Model;
 use swap_base::{ArcId, Digest, Listed, NoMemory, PartyId, TryCopy};
@@ -63,12 +63,11 @@ fn ledgers_of(alloc: Global, deal: &Deal) -> Result<Vec<Ledger>, NoMemory>
     Ok(ledgers)
 }
 
-fn histories_of(alloc: Global, mut ledgers: Vec<Ledger>) -> Result<Listed<EntryList>, NoMemory>
+fn histories_of(alloc: Global, ledgers: Vec<Ledger>) -> Result<Listed<EntryList>, NoMemory>
     ensures { IfOk result (λ v. v ≡ map (λ l. l.history) ledgers.items) }
 {
     let mut histories = Vec::new(alloc);
-    while !ledgers.is_empty() {
-        let ledger = ledgers.remove(0);
+    for ledger in ledgers {
         histories.push(ledger.into_history())?;
     }
     Ok(Listed::new(histories))
@@ -96,6 +95,7 @@ impl World {
 
     fn tick(&mut self, arc: ArcId, k: u32) -> Result<(), NoMemory>
         requires event { CanTick self.old.deal arc k }
+        requires goes_on { self.old.stopped ≡ false }
         ensures ok { OnOk result (self.new ≡ record self.old { state = step (cast_at self.old) self.old.state (Event.Tick arc k) }) }
         ensures err { OnErr result (self.new ≡ self.old) }
     {
@@ -147,6 +147,7 @@ impl World {
 
     fn make(&mut self, sender: PartyId, mv: &Move) -> Result<(), NoMemory>
         requires event { CanCall self.old.deal self.old.conforming sender mv.now }
+        requires goes_on { self.old.stopped ≡ false }
         ensures ok { OnOk result (self.new ≡ record self.old { state = step (cast_at self.old) self.old.state (Event.Call sender mv.now) }) }
         ensures err { OnErr result (self.new ≡ self.old) }
     {
@@ -154,18 +155,15 @@ impl World {
         turn::make(ledger, sender, mv)
     }
 
-    /// Takes one event. After want of memory the histories are those before the event or after it, and every later step wants memory too.
-    pub fn step(&mut self, event: &Event) -> Result<(), NoMemory>
+    /// Takes an event, where memory never ran out.
+    fn take(&mut self, event: &Event) -> Result<(), NoMemory>
         requires event { CanStep self.old.deal self.old.conforming event.now }
+        requires goes_on { self.old.stopped ≡ false }
         ensures ok { OnOk result (self.new ≡ record self.old { state = step (cast_at self.old) self.old.state event.now }) }
         ensures err { OnErr result (self.new.stopped ≡ true) }
         ensures cast { OnErr result (cast_at self.new ≡ cast_at self.old) }
         ensures book { OnErr result ((self.new.state.book ≡ self.old.state.book) ⊎ (self.new.state.book ≡ (step (cast_at self.old) self.old.state event.now).book)) }
-        ensures stopped { IsTrue self.old.stopped → IsErr result × (self.new.state.book ≡ self.old.state.book) }
     {
-        if self.stopped {
-            return Err(NoMemory);
-        }
         let done = match event {
             Event::Tick(arc, k) => self.tick(*arc, *k),
             Event::Look(p, arc) => self.look(*p, *arc),
@@ -178,12 +176,30 @@ impl World {
         done
     }
 
+    /// Takes one event. After want of memory the histories are those before the event or after it, and every later step wants memory too.
+    pub fn step(&mut self, event: &Event) -> Result<(), NoMemory>
+        requires event { CanStep self.old.deal self.old.conforming event.now }
+        ensures ok { OnOk result (self.new ≡ record self.old { state = step (cast_at self.old) self.old.state event.now }) }
+        ensures err { OnErr result (self.new.stopped ≡ true) }
+        ensures cast { OnErr result (cast_at self.new ≡ cast_at self.old) }
+        ensures book { OnErr result ((self.new.state.book ≡ self.old.state.book) ⊎ (self.new.state.book ≡ (step (cast_at self.old) self.old.state event.now).book)) }
+        ensures stopped { IsTrue self.old.stopped → IsErr result × (self.new.state.book ≡ self.old.state.book) }
+        // Whatever the others do, and whether memory ran out or not, every conforming party has kept its conduct.
+        ensures kept { IsKept (cast_at self.new) self.new.state.book }
+    {
+        if self.stopped {
+            return Err(NoMemory);
+        }
+        self.take(event)
+    }
+
     /// Takes events in their order. After want of memory every later step wants memory too.
     pub fn run(&mut self, events: &[Event]) -> Result<(), NoMemory>
         requires events { All (CanStep self.old.deal self.old.conforming) events.now }
         ensures ok { OnOk result (self.new ≡ record self.old { state = run_from (cast_at self.old) self.old.state events.now }) }
         ensures err { OnErr result (IsStopped self.old (run_from (cast_at self.old) self.old.state events.now) self.new) }
         ensures stopped { IsTrue self.old.stopped → IsErr result × (self.new.state.book ≡ self.old.state.book) }
+        ensures kept { IsKept (cast_at self.new) self.new.state.book }
     {
         if self.stopped {
             return Err(NoMemory);
@@ -199,6 +215,7 @@ impl World {
         ensures dealt { OnOk result (AllConform self.old → self.old.state ≡ start self.old.deal → IsDealt self.old.deal (conforms (cast_at self.old)) self.new.state.book) }
         ensures err { OnErr result (IsStopped self.old (finish (cast_at self.old) self.old.state) self.new) }
         ensures stopped { IsTrue self.old.stopped → IsErr result × (self.new.state.book ≡ self.old.state.book) }
+        ensures kept { IsKept (cast_at self.new) self.new.state.book }
     {
         if self.stopped {
             return Err(NoMemory);
@@ -222,12 +239,12 @@ impl World {
         self.ledgers[arc as usize].height()
     }
 
-    /// The book of the histories so far.
+    /// The book of the histories so far, also where memory ran out on the way.
     pub fn into_book(self, alloc: Global) -> Result<Book, NoMemory>
         ensures value { IfOk result (λ b. b.histories ≡ self.state.book) }
         ensures legal { IsLegalBook self.deal self.state.book }
         // Whatever the others do, every conforming party keeps its conduct.
-        ensures kept { self.stopped ≡ false → IsKept (cast_at self) self.state.book }
+        ensures kept { IsKept (cast_at self) self.state.book }
     {
         let World { ledgers, .. } = self;
         Ok(Book {

@@ -1,4 +1,4 @@
-use Rattle.std.proofs.Common.{◌≡◌, ◌∙◌, ap, ◌++◌, ◌∷◌, []}
+use Rattle.std.proofs.Common.{◌∙◌, ap, ◌++◌, ◌∷◌, []}
 use Rattle.swap_digraph.proofs.Ranges.{map_more}
 use Rattle.history_index.specs.Value.{IndexState, new_index}
 use Rattle.party_machine.proofs.knowledge.indexes_of.Goals as goal

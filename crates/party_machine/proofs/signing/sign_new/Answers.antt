@@ -1,7 +1,6 @@
-use Rattle.std.proofs.Common.{◌≡◌, ◌∙◌, ◌<◌, List, length, Option, sym, ap, subst}
+use Rattle.std.proofs.Common.{◌<◌, List, length, subst}
 use Rattle.ledger_core.specs.declared.entry.Entry.{Entry}
 use Rattle.party_phase_two.specs.Unlocks.{IsSeenOn}
-use Rattle.party_phase_two.specs.declared.unlock_due.Base.{Base}
 use Rattle.book_reading.proofs.Openings.{has_lock}
 use Rattle.party_machine.specs.Within.{entries_in}
 use Rattle.party_machine.specs.Unlocking.{opened_key, CanPutOnto}

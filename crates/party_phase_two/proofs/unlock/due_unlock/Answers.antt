@@ -1,5 +1,6 @@
 use Rattle.std.proofs.Common.{◌<◌, map, length, sym, ◌∙◌}
-use Rattle.party_phase_two.specs.Unlocks.{signed_in, IsSeenOn}
+use Rattle.party_wallet.specs.Value.{signed_in}
+use Rattle.party_phase_two.specs.Unlocks.{IsSeenOn}
 use Rattle.party_phase_two.proofs.Unlocking.{some, none, not_ready}
 use Rattle.party_phase_two.proofs.Places.{IsPlaced, placed, some_more}
 use Rattle.party_phase_two.proofs.unlock.due_unlock.Goals as goal

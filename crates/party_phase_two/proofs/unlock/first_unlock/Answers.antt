@@ -1,6 +1,6 @@
 use Rattle.std.proofs.Common.{map, length, sym, ◌∙◌, arith}
 use Rattle.party_phase_two.specs.Parts.{unlock_for}
-use Rattle.party_phase_two.specs.Unlocks.{signed_in}
+use Rattle.party_wallet.specs.Value.{signed_in}
 use Rattle.party_phase_two.proofs.Numbers.{none_more, is_found}
 use Rattle.party_phase_two.proofs.unlock.first_unlock.Goals as goal
 

@@ -2,7 +2,7 @@ use Rattle.std.proofs.Common.{◌≡◌, None, map}
 use Rattle.std.specs.List.{range_with_len}
 use Rattle.swap_base.specs.Lists.{first_of}
 use Rattle.party_phase_two.specs.Parts.{unlock_for}
-use Rattle.party_phase_two.specs.Unlocks.{signed_in}
+use Rattle.party_wallet.specs.Value.{signed_in}
 use Rattle.party_phase_two.proofs.unlock.first_unlock.Given as goal
 
 abbrev pub invariant-loop-lock : goal.invariant-loop-lock

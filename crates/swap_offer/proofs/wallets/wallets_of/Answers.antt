@@ -1,8 +1,8 @@
 use Rattle.std.proofs.Common.{◌∙◌, ap, ◌++◌, ◌∷◌, [], Option}
 use Rattle.std.proofs.lemmas.Result.{err_from_is_err_and}
 use Rattle.swap_digraph.proofs.Ranges.{map_more}
-use Rattle.party_machine.specs.Value.{WalletState}
-use Rattle.party_machine.specs.Wallets.{wallet_for}
+use Rattle.party_wallet.specs.Value.{WalletState}
+use Rattle.party_wallet.specs.Wallets.{wallet_for}
 use Rattle.swap_offer.specs.Wallets.{wrong_wallet, walleted}
 use Rattle.swap_offer.proofs.Firsts.{goes_on, ends}
 use Rattle.swap_offer.proofs.wallets.wallets_of.Goals as goal

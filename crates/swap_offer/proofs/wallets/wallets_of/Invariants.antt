@@ -1,6 +1,6 @@
 use Rattle.std.proofs.Common.{◌≡◌, map}
 use Rattle.std.specs.List.{range_with_len}
-use Rattle.party_machine.specs.Wallets.{wallet_for}
+use Rattle.party_wallet.specs.Wallets.{wallet_for}
 use Rattle.swap_offer.specs.Wallets.{wrong_wallet, walleted}
 use Rattle.swap_offer.proofs.Firsts.{left}
 use Rattle.swap_offer.proofs.wallets.wallets_of.Given as goal

@@ -3,7 +3,7 @@ use Rattle.std.proofs.Math.ListN.{length-set}
 use Rattle.std.proofs.lemmas.Grind.{common_steps}
 use Rattle.std.proofs.lemmas.Result.{err_from_is_err_and}
 use Rattle.std.proofs.lemmas.List.FromFn.{get_or-map-range_with_len, length-map-range_with_len}
-use Rattle.party_machine.specs.Wallets.{wallet_for}
+use Rattle.party_wallet.specs.Wallets.{wallet_for}
 use Rattle.swap_world.specs.Staff.{actors_of}
 use Rattle.swap_world.proofs.Team.{goes_on, ends, is_done}
 use Rattle.swap_world.proofs.staff.actors_of.Goals as goal

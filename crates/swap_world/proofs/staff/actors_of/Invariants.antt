@@ -1,5 +1,5 @@
 use Rattle.std.proofs.Common.{◌≡◌, ℕ, ◌<◌, ◌≤◌, length, get_or, None}
-use Rattle.party_machine.specs.Wallets.{wallet_for}
+use Rattle.party_wallet.specs.Wallets.{wallet_for}
 use Rattle.swap_world.specs.Staff.{actors_of}
 use Rattle.swap_world.proofs.Team.{left}
 use Rattle.swap_world.proofs.staff.actors_of.Given as goal

@@ -1,6 +1,6 @@
 use Rattle.std.proofs.Common.{◌≡◌, ◌∙◌, sym, ap, None, ℕ}
-use Rattle.party_machine.specs.Value.{WalletState}
-use Rattle.party_machine.specs.Fits.{wrong_lock}
+use Rattle.party_wallet.specs.Value.{WalletState}
+use Rattle.party_wallet.specs.Fits.{wrong_lock}
 use Rattle.party_machine.proofs.Good.{fitting_is_good}
 use Rattle.party_machine.proofs.Known.{new_ready, new_is, new_shows}
 use Rattle.party_machine.proofs.machine.Machine.new.Goals as goal

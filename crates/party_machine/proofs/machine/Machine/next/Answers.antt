@@ -2,7 +2,7 @@ use Rattle.std.proofs.Common.{◌≡◌, ◌∙◌, ℕ, not, Some, List, refl, 
 use Rattle.ledger_core.specs.declared.entry.Call.TheVariants.{Unlock}
 use Rattle.swap_laws.specs.Rest.{rest_until}
 use Rattle.swap_laws.specs.Machine.{noted}
-use Rattle.party_phase_two.specs.Unlocks.{signed_in}
+use Rattle.party_wallet.specs.Value.{signed_in}
 use Rattle.history_index.specs.Value.{IndexState}
 use Rattle.party_machine.specs.Machine.{MachineState, next_of}
 use Rattle.party_machine.specs.Within.{entries_in}

@@ -1,10 +1,11 @@
-use Rattle.std.proofs.Common.{◌≡◌, ◌<◌, map, set, slice_index_or, false, None, sym, subst}
+use Rattle.std.proofs.Common.{◌≡◌, ◌<◌, map, set, slice_index_or, false, None, sym, ◌∙◌, subst}
 use Rattle.deviator_script.specs.declared.event.Event.TheVariants.{Act}
 use Rattle.swap_world.specs.Acting.{histories}
 use Rattle.swap_world.specs.Inside.{notes_in, cast_in, state_in, AreLedgersOf}
 use Rattle.swap_world.specs.declared.actor.Actor.TheVariants.{Conforming}
-use Rattle.swap_world.proofs.States.{IsAt, actor_set, acted}
-use Rattle.swap_world.proofs.Worlds.{state, good_unless, acted_on, both, found, owned, begins, makable}
+use Rattle.swap_world.proofs.States.{IsAt, actor_set, acted, acted_book}
+use Rattle.swap_world.proofs.Ledgers.{on_err, either}
+use Rattle.swap_world.proofs.Worlds.{state, good_unless, kept_on, acted_on, both, found, owned, begins, makable}
 use Rattle.swap_world.proofs.world.World.act_if_due.Goals as goal
 
 pub act-done-requires-clause-makable : goal.act-done-requires-clause-makable
@@ -53,6 +54,10 @@ invariant_of-self-2 c =
           (owned i.deal (slice_index_or i.conforming c.args.p false) (slice_index_or i.seeds c.args.p None) c.args.p m new c.act-done.ensures.owner place.is);
       good = λ g. good_unless c.act-done.result c.is_err-self-inside.result (cast_in i) (state_in i) (state b (map (notes_in i.deal) (set xs c.args.p (Conforming new)))) (Act c.args.p) c.is_err-self-inside.ensures.value g
           (both c.act-done.result (acted i.deal i.conforming i.seeds ls xs c.args.p m c.act-done.new.machine (histories c.act-done.new.ledgers.items) place) c.act-done.ensures.ok c.act-done.ensures.knows)
+          c.self.invariant.ready known (c.self.invariant.good goes_on);
+      kept = kept_on c.act-done.result (cast_in i) (state_in i) (state b (map (notes_in i.deal) (set xs c.args.p (Conforming new)))) (Act c.args.p)
+          (both c.act-done.result (acted i.deal i.conforming i.seeds ls xs c.args.p m new b place) c.act-done.ensures.ok c.act-done.ensures.knows)
+          (on_err c.act-done.result (either (λ e. e) (λ e. e ∙ acted_book i.deal i.conforming i.seeds ls xs c.args.p m place)) c.act-done.ensures.err)
           c.self.invariant.ready known (c.self.invariant.good goes_on);
     }
 

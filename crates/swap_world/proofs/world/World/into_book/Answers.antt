@@ -1,4 +1,3 @@
-use Rattle.swap_run.proofs.Good.{good_is_kept}
 use Rattle.swap_world.proofs.Ledgers.{legal_book}
 use Rattle.swap_world.proofs.world.World.into_book.Goals as goal
 
@@ -6,10 +5,10 @@ pub returns-in_err-histories_of-clause-legal : goal.returns-in_err-histories_of-
 returns-in_err-histories_of-clause-legal c = rw (← c.self.view_is) (legal_book c.self.inside.deal c.self.inside.ledgers.items c.self.invariant.ledgers)
 
 pub returns-in_err-histories_of-clause-kept : goal.returns-in_err-histories_of-clause-kept
-returns-in_err-histories_of-clause-kept c = rw (← c.self.view_is) (λ e. good_is_kept _ _ c.self.invariant.ready (c.self.invariant.good e))
+returns-in_err-histories_of-clause-kept c = rw (← c.self.view_is) c.self.invariant.kept
 
 pub returns-clause-legal : goal.returns-clause-legal
 returns-clause-legal c = rw (← c.self.view_is) (legal_book c.self.inside.deal c.self.inside.ledgers.items c.self.invariant.ledgers)
 
 pub returns-clause-kept : goal.returns-clause-kept
-returns-clause-kept c = rw (← c.self.view_is) (λ e. good_is_kept _ _ c.self.invariant.ready (c.self.invariant.good e))
+returns-clause-kept c = rw (← c.self.view_is) c.self.invariant.kept

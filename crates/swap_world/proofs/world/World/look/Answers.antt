@@ -52,6 +52,7 @@ invariant_of-self-2 c =
           (on_ok c.learn.result (λ e. looked i.deal i.conforming i.seeds ls xs c.args.p c.args.arc m new place (know m new ls c.args.arc l k.arc below c.index.ensures e)) c.learn.ensures.ok)
           (on_err c.learn.result (λ e. ap (λ x. state (histories ls) x) (same_notes i.deal i.conforming i.seeds ls xs c.args.p m new place e)) c.learn.ensures.err)
           c.self.invariant.ready can (c.self.invariant.good g);
+      kept = c.self.invariant.kept;
     }
 
 pub returns-clause-ok : goal.returns-clause-ok

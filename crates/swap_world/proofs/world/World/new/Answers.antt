@@ -1,5 +1,6 @@
 use Rattle.std.proofs.Common.{◌∙◌}
 use Rattle.std.proofs.lemmas.Result.{err_from_is_err_and}
+use Rattle.swap_run.proofs.Good.{good_is_kept}
 use Rattle.swap_laws.proofs.Accepted.{accepted_is_well_sized}
 use Rattle.swap_world.proofs.Team.{world_of_new}
 use Rattle.swap_world.proofs.Begun.{refused, world_is, ready, actors, ledgers, good}
@@ -28,6 +29,8 @@ invariant_of-result c =
       ledgers = ledgers job d c.new.result c.in_ok-copy.field-0 ls ys c.in_ok-copy_deal.ensures ec c.in_ok-copy.ensures c.in_ok-ledgers_of.ensures c.in_ok-actors.ensures c.requires.seeds;
       actors = actors job d c.new.result c.in_ok-copy.field-0 ls ys c.in_ok-copy_deal.ensures ec c.in_ok-copy.ensures c.in_ok-ledgers_of.ensures c.in_ok-actors.ensures c.requires.seeds;
       good = λ g. good job d c.new.result c.in_ok-copy.field-0 ls ys c.in_ok-copy_deal.ensures ec c.in_ok-copy.ensures c.in_ok-ledgers_of.ensures c.in_ok-actors.ensures c.requires.seeds c.requires.accepted;
+      kept = good_is_kept _ _ (ready job d c.new.result c.in_ok-copy.field-0 ls ys c.in_ok-copy_deal.ensures ec c.in_ok-copy.ensures c.in_ok-ledgers_of.ensures c.in_ok-actors.ensures c.requires.seeds c.requires.accepted)
+          (good job d c.new.result c.in_ok-copy.field-0 ls ys c.in_ok-copy_deal.ensures ec c.in_ok-copy.ensures c.in_ok-ledgers_of.ensures c.in_ok-actors.ensures c.requires.seeds c.requires.accepted);
     }
 
 pub returns-clause-exact : goal.returns-clause-exact

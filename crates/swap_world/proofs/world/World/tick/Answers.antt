@@ -1,10 +1,10 @@
-use Rattle.std.proofs.Common.{◌<◌, map, set, sym, ap, subst}
+use Rattle.std.proofs.Common.{◌<◌, map, set, sym, ap, subst, inl}
 use Rattle.deviator_script.specs.declared.event.Event.TheVariants.{Tick}
 use Rattle.swap_run.specs.Run.{after_tick}
 use Rattle.swap_world.specs.Acting.{histories}
 use Rattle.swap_world.specs.Inside.{notes_in, cast_in, state_in}
 use Rattle.swap_world.proofs.Ledgers.{on_ok, on_err, book_ok, book_err, moved, ledger_set}
-use Rattle.swap_world.proofs.Worlds.{world, state, good_on}
+use Rattle.swap_world.proofs.Worlds.{world, state, good_on, kept_on}
 use Rattle.swap_world.proofs.world.World.tick.Goals as goal
 
 pub invariant_of-self : goal.invariant_of-self
@@ -24,6 +24,10 @@ invariant_of-self c =
           (on_ok c.tick.result (λ e. ap (λ b. state b ns) (book_ok ls c.args.arc l c.tick.new.ledger (after_tick c.args.k) below c.index_mut-ledger.ensures.value e)) c.tick.ensures.ok)
           (on_err c.tick.result (λ e. ap (λ b. state b ns) (book_err ls c.args.arc l c.tick.new.ledger c.index_mut-ledger.ensures.value e)) c.tick.ensures.err)
           c.self.invariant.ready can (c.self.invariant.good goes_on);
+      kept = kept_on c.tick.result (cast_in i) (state_in i) (state (histories (set ls c.args.arc c.tick.new.ledger)) ns) (Tick c.args.arc c.args.k)
+          (on_ok c.tick.result (λ e. ap (λ b. state b ns) (book_ok ls c.args.arc l c.tick.new.ledger (after_tick c.args.k) below c.index_mut-ledger.ensures.value e)) c.tick.ensures.ok)
+          (on_err c.tick.result (λ e. inl (book_err ls c.args.arc l c.tick.new.ledger c.index_mut-ledger.ensures.value e)) c.tick.ensures.err)
+          c.self.invariant.ready can (c.self.invariant.good (rw (← c.self.view_is) at c.requires.goes_on));
     }
 
 pub returns-clause-ok : goal.returns-clause-ok

@@ -2,8 +2,8 @@
 use Rattle.std.specs.Prelude.{ℕ, Bool, false, List, map, slice_index_or, option_map, Option, None, if◌then◌else◌}
 use Rattle.std.specs.List.{range_with_len}
 use Rattle.swap_digraph.specs.declared.deal.Deal.{Deal}
-use Rattle.party_machine.specs.Value.{WalletState}
-use Rattle.party_machine.specs.Keys.{new_wallet}
+use Rattle.party_wallet.specs.Value.{WalletState}
+use Rattle.party_wallet.specs.Keys.{new_wallet}
 
 -- the wallet of party p, where it conforms and has a seed
 abbrev pub wallet_for : Deal → List Bool → List (Option (List ℕ)) → ℕ → Option WalletState

@@ -1,7 +1,7 @@
 use Rattle.std.proofs.Common.{◌≡◌, map}
 use Rattle.std.specs.List.{range_with_len}
-use Rattle.party_machine.specs.Keys.{unspent}
-use Rattle.party_machine.proofs.wallet.keys_of.Given as goal
+use Rattle.party_wallet.specs.Keys.{unspent}
+use Rattle.party_wallet.proofs.wallet.keys_of.Given as goal
 
 abbrev pub invariant-locks : goal.invariant-locks
 invariant-locks l = l.keys.items ≡ map (unspent l.mode l.seed l.party) (range_with_len 0 l.lock)

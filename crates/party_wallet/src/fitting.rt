@@ -2,8 +2,8 @@
 
 ghost use Rattle.std.specs.Prelude.{◌≡◌, ◌<◌, length};
 ghost use Rattle.swap_digraph.specs.Deal.{IsWellSized};
-ghost use Rattle.party_machine.specs.Keys.{unspent};
-ghost use Rattle.party_machine.specs.Fits.{has_key, opens_own, fits_lock};
+ghost use Rattle.party_wallet.specs.Keys.{unspent};
+ghost use Rattle.party_wallet.specs.Fits.{has_key, opens_own, fits_lock};
 
 use crate::wallet_key::WalletKey;
 use hash_signature::{hash_of, secret_of};

@@ -1,6 +1,6 @@
-use Rattle.std.proofs.Common.{◌∙◌, arith}
-use Rattle.party_machine.proofs.Unspent.{new_unspent}
-use Rattle.party_machine.proofs.wallet.Wallet.of.Goals as goal
+use Rattle.std.proofs.Common.{arith}
+use Rattle.party_wallet.proofs.Unspent.{new_unspent}
+use Rattle.party_wallet.proofs.wallet.Wallet.of.Goals as goal
 
 pub invariant_of-result : goal.invariant_of-result
 invariant_of-result c =

@@ -4,15 +4,15 @@ ghost use Rattle.std.specs.Prelude.{◌≡◌, ◌<◌, ℕ, map, length, replic
 ghost use Rattle.std.specs.List.{range_with_len};
 ghost use Rattle.swap_digraph.specs.Deal.{IsWellSized};
 ghost use Rattle.swap_digraph.specs.Deal.{path_limit};
-ghost use Rattle.party_phase_two.specs.Unlocks.{signed_in};
-ghost use Rattle.party_machine.specs.Fits.{wrong_lock};
-ghost use Rattle.party_machine.specs.Keys.{new_wallet, unspent, own_key, onto_key, with_signed};
+ghost use Rattle.party_wallet.specs.Value.{signed_in};
+ghost use Rattle.party_wallet.specs.Fits.{wrong_lock};
+ghost use Rattle.party_wallet.specs.Keys.{new_wallet, unspent, own_key, onto_key, with_signed};
 
 use crate::fitting::fits_lock;
 use crate::hashkeys::{onto_hashkey, own_hashkey};
+use crate::signed::Signed;
 use crate::wallet_key::{WalletKey, unspent};
 use hashkey_path::Hashkey;
-use party_phase_two::Signed;
 use std::alloc::Global;
 use std::marker::Model;
 use std::mem;
@@ -30,11 +30,11 @@ pub struct Wallet {
 }
 
 impl Model for Wallet {
-    ghost use Rattle.party_machine.specs.Value.{WalletState};
+    ghost use Rattle.party_wallet.specs.Value.{WalletState};
 
     ghost Value = { WalletState };
 
-    ghost use Rattle.party_machine.specs.Inside.{wallet_in, IsKept};
+    ghost use Rattle.party_wallet.specs.Inside.{wallet_in, IsKept};
 
     ghost view = { wallet_in };
 
@@ -127,7 +127,7 @@ impl Wallet {
         None
     }
 
-    pub(crate) fn party(&self) -> PartyId
+    pub fn party(&self) -> PartyId
         ensures { result ≡ self.now.party }
     {
         self.party
@@ -141,7 +141,7 @@ impl Wallet {
     }
 
     /// Whether a hashkey was signed for a lock.
-    pub(crate) fn is_signed(&self, lock: LockId) -> bool
+    pub fn is_signed(&self, lock: LockId) -> bool
         requires { lock < length self.now.signed }
         ensures { result ≡ is_some (signed_in self.now.signed lock) }
     {
@@ -149,7 +149,7 @@ impl Wallet {
     }
 
     /// A copy of the hashkey that was signed for a lock.
-    pub(crate) fn copy_signed(&self, lock: LockId) -> Result<Shared<Hashkey>, NoMemory>
+    pub fn copy_signed(&self, lock: LockId) -> Result<Shared<Hashkey>, NoMemory>
         requires lock { lock < length self.now.signed }
         requires signed { IsSome (signed_in self.now.signed lock) }
         ensures { IfOk result (λ k. signed_in self.now.signed lock ≡ Some k) }
@@ -161,7 +161,7 @@ impl Wallet {
     }
 
     /// Makes the party's own hashkey for a lock that it leads, keeps it, and answers a copy. Want of memory leaves everything as it was.
-    pub(crate) fn sign_own(
+    pub fn sign_own(
         &mut self,
         alloc: Global,
         deal: &Deal,
@@ -191,7 +191,7 @@ impl Wallet {
     }
 
     /// Makes the party's hashkey that goes on from another, keeps it, and answers a copy. Want of memory leaves everything as it was.
-    pub(crate) fn sign_onto(
+    pub fn sign_onto(
         &mut self,
         alloc: Global,
         deal: &Deal,

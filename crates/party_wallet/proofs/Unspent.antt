@@ -1,14 +1,13 @@
 -- The keys of a wallet that aren't spent, in a new wallet and after a signature.
-use Rattle.std.proofs.Common.{◌≡◌, ◌≢◌, ◌⊎◌, ℕ, ◌<◌, ◌≤◌, List, length, get_or, map, replicate, set, Option, Some, None, sym, ap, ◌∙◌, inl, inr, arith, zero-add, length-set}
+use Rattle.std.proofs.Common.{◌≡◌, ℕ, ◌≤◌, List, length, get_or, map, replicate, Option, None, sym, ap, ◌∙◌, arith, zero-add}
 use Rattle.std.specs.List.{range_with_len}
 use Rattle.std.proofs.lemmas.List.{length-replicate}
 use Rattle.std.proofs.lemmas.List.FromFn.{get_or-map-range_with_len, length-map-range_with_len}
 use Rattle.swap_digraph.specs.declared.deal.Mode.{Mode}
-use Rattle.swap_digraph.specs.declared.deal.Mode.TheVariants.{Timelocks, Hashkeys}
 use Rattle.hashkey_path.specs.declared.hashkey.Hashkey.{Hashkey}
-use Rattle.party_machine.specs.Keys.{unspent}
-use Rattle.party_machine.specs.Inside.{AreUnspent}
-use Rattle.party_machine.specs.declared.wallet_key.WalletKey.{WalletKey}
+use Rattle.party_wallet.specs.Keys.{unspent}
+use Rattle.party_wallet.specs.Inside.{AreUnspent}
+use Rattle.party_wallet.specs.declared.wallet_key.WalletKey.{WalletKey}
 
 pub new_unspent : (m : Mode) (seed : List ℕ) (v n : ℕ) (keys : List (Option WalletKey)) (signed : List (Option Hashkey)) → n ≤ 8 → keys ≡ map (unspent m seed v) (range_with_len 0 n) → signed ≡ replicate n None → AreUnspent m seed v keys signed
 new_unspent m seed v n keys signed few ek es =

@@ -1,14 +1,13 @@
 -- What a seed gives a party to sign with.
-use Rattle.std.specs.Prelude.{ℕ, List, [], length, replicate, Option, Some, None, slice_index_or, slice_set}
+use Rattle.std.specs.Prelude.{ℕ, List, [], length, replicate, Option, Some, None, slice_set}
 use Rattle.swap_digraph.specs.declared.deal.Deal.{Deal}
 use Rattle.swap_digraph.specs.declared.deal.Mode.{Mode}
 use Rattle.swap_digraph.specs.declared.deal.Mode.TheVariants.{Timelocks, Hashkeys}
 use Rattle.hash_signature.specs.Signature.{public_key_of, secret_of}
 use Rattle.hashkey_path.specs.declared.hashkey.Hashkey.{Hashkey}
 use Rattle.hashkey_path.specs.Signed.{leaders_key, extended_key}
-use Rattle.swap_rules.specs.Due.{Wallet}
-use Rattle.party_machine.specs.Value.{WalletState}
-use Rattle.party_machine.specs.declared.wallet_key.WalletKey.{WalletKey}
+use Rattle.party_wallet.specs.Value.{WalletState}
+use Rattle.party_wallet.specs.declared.wallet_key.WalletKey.{WalletKey}
 
 -- a secret alone, as timelocks ask for it
 abbrev pub bare_key : ℕ → List ℕ → Hashkey
@@ -23,10 +22,6 @@ own_key Hashkeys d v seed i = leaders_key d i (secret_of seed) v seed
 abbrev pub onto_key : Mode → Deal → ℕ → List ℕ → Hashkey → Hashkey
 onto_key Timelocks d v seed inner = bare_key inner.lock inner.secret
 onto_key Hashkeys d v seed inner = extended_key d inner v seed
-
--- all that party v signs with the seed
-abbrev pub wallet_of : List ℕ → ℕ → Deal → Wallet
-wallet_of seed v d = record { first = own_key d.mode d v seed; onto = onto_key d.mode d v seed }
 
 -- the key for lock i, before it is spent
 abbrev pub unspent : Mode → List ℕ → ℕ → ℕ → Option WalletKey

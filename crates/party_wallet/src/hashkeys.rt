@@ -2,7 +2,7 @@
 
 ghost use Rattle.std.specs.Prelude.{◌≡◌, ◌<◌, ℕ, List, length, IfOk, OnErr};
 ghost use Rattle.swap_digraph.specs.Deal.{path_limit};
-ghost use Rattle.party_machine.specs.Keys.{bare_key, own_key, onto_key, unspent};
+ghost use Rattle.party_wallet.specs.Keys.{bare_key, own_key, onto_key, unspent};
 
 use crate::wallet_key::WalletKey;
 use hash_signature::secret_of;

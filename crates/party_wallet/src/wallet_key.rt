@@ -1,7 +1,7 @@
 //! The key for one lock.
 
 ghost use Rattle.std.specs.Prelude.{◌≡◌};
-ghost use Rattle.party_machine.specs.Keys.{unspent};
+ghost use Rattle.party_wallet.specs.Keys.{unspent};
 
 use hash_signature::{OneTimeKey, keygen};
 use swap_base::{Digest, LockId, PartyId};

@@ -2,10 +2,10 @@
 use Rattle.std.specs.Prelude.{◌≡◌, ◌<◌, ◌≤◌, ℕ, List, length, Option, None, slice_index_or}
 use Rattle.swap_digraph.specs.declared.deal.Mode.{Mode}
 use Rattle.hashkey_path.specs.declared.hashkey.Hashkey.{Hashkey}
-use Rattle.party_machine.specs.Value.{WalletState}
-use Rattle.party_machine.specs.Keys.{unspent}
-use Rattle.party_machine.specs.declared.wallet_key.WalletKey.{WalletKey}
-use Rattle.party_machine.specs.declared.wallet.Wallet.TheInside.{Inside}
+use Rattle.party_wallet.specs.Value.{WalletState}
+use Rattle.party_wallet.specs.Keys.{unspent}
+use Rattle.party_wallet.specs.declared.wallet_key.WalletKey.{WalletKey}
+use Rattle.party_wallet.specs.declared.wallet.Wallet.TheInside.{Inside}
 
 -- what its fields show
 abbrev pub wallet_in : Inside → WalletState

@@ -1,8 +1,8 @@
-use Rattle.std.proofs.Common.{◌≡◌, ◌∙◌, ap, Option, ◌++◌, ◌∷◌, []}
+use Rattle.std.proofs.Common.{◌∙◌, ap, Option, ◌++◌, ◌∷◌, []}
 use Rattle.swap_digraph.proofs.Ranges.{map_more}
-use Rattle.party_machine.specs.Keys.{unspent}
-use Rattle.party_machine.specs.declared.wallet_key.WalletKey.{WalletKey}
-use Rattle.party_machine.proofs.wallet.keys_of.Goals as goal
+use Rattle.party_wallet.specs.Keys.{unspent}
+use Rattle.party_wallet.specs.declared.wallet_key.WalletKey.{WalletKey}
+use Rattle.party_wallet.proofs.wallet.keys_of.Goals as goal
 
 pub locks-preserved : goal.locks-preserved
 locks-preserved c =

@@ -1,8 +1,8 @@
-use Rattle.std.proofs.Common.{◌≡◌, ◌∙◌, sym, ap, not, ℕ}
-use Rattle.party_machine.specs.Value.{WalletState}
-use Rattle.party_machine.specs.Fits.{fits_lock, wrong_lock}
-use Rattle.party_machine.proofs.Least.{goes_on, is_found}
-use Rattle.party_machine.proofs.wallet.Wallet.wrong_lock.Goals as goal
+use Rattle.std.proofs.Common.{◌∙◌, sym, ap, not}
+use Rattle.party_wallet.specs.Value.{WalletState}
+use Rattle.party_wallet.specs.Fits.{fits_lock, wrong_lock}
+use Rattle.party_wallet.proofs.Least.{goes_on, is_found}
+use Rattle.party_wallet.proofs.wallet.Wallet.wrong_lock.Goals as goal
 
 pub returns-then-not-fits_lock : goal.returns-then-not-fits_lock
 returns-then-not-fits_lock c =

@@ -1,0 +1,2 @@
+pub mod Unspent
+pub mod Least

@@ -1,0 +1,5 @@
+pub mod Value
+pub mod Keys
+pub mod Fits
+pub mod Wallets
+pub mod Inside
