@@ -17,7 +17,7 @@ use crate::wallets::{check_seeds, wallets_for};
 use deviator_script::{Job, Purpose};
 use hashkey_path::deal_digest;
 use offer_header::{Header, header_in};
-use party_machine::Wallet;
+use party_wallet::Wallet;
 use refusals::{HeaderFault, OfferFault, with_names};
 use std::alloc::Global;
 use swap_base::{Listed, NoMemory};
