@@ -39,7 +39,9 @@ pub(crate) const TWO_LEADERS: &str = r#"{"swap":1,"mode":"hashkeys","start":10,"
 "arcs":[
     {"from":"alice","to":"bob","amount":100},
     {"from":"bob","to":"alice","amount":7}],
-"leaders":[{"party":"alice","hashlock":"7b77e8fe0af1512f2a8b3250678a08e367a926613f44707cd4a0d964e9feb69d"},{"party":"bob","hashlock":"410088568cd6f96b820d62de17a993bd9f189e7aec52584b508f4dddb6e45898"}],
+"leaders":[
+    {"party":"alice","hashlock":"7b77e8fe0af1512f2a8b3250678a08e367a926613f44707cd4a0d964e9feb69d"},
+    {"party":"bob","hashlock":"410088568cd6f96b820d62de17a993bd9f189e7aec52584b508f4dddb6e45898"}],
 "keys":[
     ["01e4bb31d57e896732c801a565690a67fb10e7a6b3bd83704c0980979826deaf","ec4a6a261b89f4f3afc955da2463a345f5331d10fb278772b13c3b623750dc37"],
     ["63047eaaa58738fe99519d50e12ad1f1969dc8f910bf4a7ce1acc910f9c75129","b639035b45e4dbdce4a9479a741b080249db0b22f7d79cf6445b244574f43274"]]}"#;

@@ -4,7 +4,13 @@
 #[cfg(test)]
 mod conduct;
 #[cfg(test)]
+mod entries;
+#[cfg(test)]
 mod forgeries;
+#[cfg(test)]
+mod hashkeys;
+#[cfg(test)]
+mod index;
 #[cfg(test)]
 mod jobs;
 #[cfg(test)]
@@ -15,6 +21,8 @@ mod ledgers;
 mod memory;
 #[cfg(test)]
 mod outcomes;
+#[cfg(test)]
+mod rings;
 #[cfg(test)]
 mod schedule;
 #[cfg(test)]

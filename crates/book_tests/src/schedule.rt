@@ -60,12 +60,14 @@ pub(crate) fn book_of(
     Ok(world.into_book(alloc)?)
 }
 
-/// Whether each party is named.
-fn named(alloc: Global, names: &[ByteText], taken: &str) -> Result<Listed<bool>, Fail> {
+/// The names of the parties of each job here, in their order.
+const NAMES: [&str; 3] = ["alice", "bob", "carol"];
+
+/// Whether each of the first n parties is named.
+fn named(alloc: Global, n: u8, taken: &str) -> Result<Listed<bool>, Fail> {
     let mut list = Vec::new(alloc);
-    for name in names {
-        let text = str::from_utf8(name.as_slice()).unwrap_or("?");
-        list.push(taken.contains(text))?;
+    for name in &NAMES[..n.min(3) as usize] {
+        list.push(taken.contains(*name))?;
     }
     Ok(Listed::new(list))
 }
@@ -80,7 +82,7 @@ fn told(
 ) -> Result<ByteText, Fail> {
     let Prepared { mut job, wallets } = read_header(alloc, 1, header.as_bytes(), Purpose::Run)?;
     let book = book_of(rt, alloc, &job, wallets, schedule)?;
-    job.conforming = named(alloc, job.names.as_slice(), taken)?;
+    job.conforming = named(alloc, job.deal.graph.n(), taken)?;
     assert_eq!(rt; job.conforming.len(), job.deal.graph.n() as usize);
     let report = report_of(alloc, &job.deal, &job.conforming, &book)?;
     assert!(rt; report.outcomes.len() <= 256);
@@ -96,7 +98,7 @@ pub(crate) fn finds(
 ) -> Result<(), Fail> {
     for (schedule, taken, found) in rows {
         let report = told(rt, alloc, header, schedule, taken)?;
-        let text = str::from_utf8(report.as_slice()).unwrap_or("");
+        let text = str::from_utf8(report.as_slice())?;
         let part = format!(in alloc; "open\n{found}unfinished ")?;
         assert!(rt; text.contains(part.as_str()), "{schedule}\n{text}");
     }
@@ -107,7 +109,7 @@ pub(crate) fn finds(
 pub(crate) fn ends(rt: &impl Abort, alloc: Global, header: &str, rows: &[Row]) -> Result<(), Fail> {
     for (schedule, taken, end) in rows {
         let report = told(rt, alloc, header, schedule, taken)?;
-        let text = str::from_utf8(report.as_slice()).unwrap_or("");
+        let text = str::from_utf8(report.as_slice())?;
         assert!(rt; text.ends_with(*end), "{schedule}\n{text}");
     }
     Ok(())

@@ -12,6 +12,3 @@ pub use certificate::{Strength, Trees};
 pub use check::strong;
 pub use law::paths_tell;
 pub use swap_digraph::{ArcEnds, ArcId, Digraph, Listed, NoMemory, PartyId, PathList};
-
-#[cfg(test)]
-mod tests;

@@ -18,6 +18,3 @@ pub use law::checksum_law;
 pub use secret::{hash_of, secret_of};
 pub use sig::{SIGNATURE_BYTES, Sig, verify};
 pub use swap_base::{Digest, LockId, PartyId};
-
-#[cfg(test)]
-mod tests;

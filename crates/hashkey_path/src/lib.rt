@@ -15,6 +15,3 @@ pub use checking::check;
 pub use digest::deal_digest;
 pub use hashkey::{Hashkey, HashkeyAnswer, SigList};
 pub use sign::{KeyBack, extend, first};
-
-#[cfg(test)]
-mod tests;

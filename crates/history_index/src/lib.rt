@@ -15,6 +15,3 @@ mod steps;
 pub use index::Index;
 pub use made::{Made, Opened};
 pub use steps::Steps;
-
-#[cfg(test)]
-mod tests;

@@ -12,6 +12,3 @@ mod rounds;
 pub use check::levels;
 pub use laws::{greatest_level_is_height, no_cycle_is_feedback, paths_to_leaders_are_bounded};
 pub use leader_answer::{LeaderAnswer, Levels};
-
-#[cfg(test)]
-mod tests;

@@ -30,6 +30,3 @@ pub use ledger::Ledger;
 pub use ledger_history::LedgerHistory;
 pub use runs::{Item, Run};
 pub use scan::Scan;
-
-#[cfg(test)]
-mod tests;

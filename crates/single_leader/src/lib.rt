@@ -10,6 +10,3 @@ mod timelocks;
 pub use distances::dist;
 pub use laws::distances_follow_arcs;
 pub use timelocks::timelock_of;
-
-#[cfg(test)]
-mod tests;

@@ -21,6 +21,3 @@ pub use past::Past;
 pub use pieces::{Piece, put};
 pub use shared::Shared;
 pub use text::ByteText;
-
-#[cfg(test)]
-mod tests;

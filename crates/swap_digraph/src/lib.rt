@@ -16,6 +16,3 @@ pub use swap_base::{ArcId, ByteText, Digest, Listed, LockId, NoMemory, PartyId, 
 
 /// Parties, in the order of a path, or ascending as a set.
 pub type PathList = Listed<PartyId>;
-
-#[cfg(test)]
-mod tests;

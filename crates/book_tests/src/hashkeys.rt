@@ -1,0 +1,189 @@
+//! Hashkeys around rings, the first fault of a hashkey, and the digests of deals.
+
+ghost use Rattle.std.specs.Prelude.{IfOk};
+ghost use Rattle.swap_digraph.specs.Deal.{IsWellSized};
+
+use crate::{jobs, rings};
+use deviator_script::{Job, Purpose};
+use hash_signature::{Sig, keygen};
+use hashkey_path::{Hashkey, HashkeyAnswer, check, deal_digest, extend, first};
+use hex::FromHex;
+use std::alloc::Global;
+use std::process::Abort;
+use std::test::Fail;
+use swap_base::{ArcId, Digest, Listed, PartyId, TryCopy};
+use swap_digraph::{Deal, path_limit};
+use swap_offer::{Prepared, read_header};
+
+/// The secret of the rings' leader.
+const SECRET: Digest = [9; 32];
+
+fn deal_of(alloc: Global, header: &str) -> Result<Deal, Fail>
+    ensures { IfOk result (λ d. IsWellSized d) }
+{
+    let Prepared { job, .. } = read_header(alloc, 1, header.as_bytes(), Purpose::Run)?;
+    let Job { deal, .. } = job;
+    Ok(deal)
+}
+
+fn answer(rt: &impl Abort, deal: &Deal, arc: ArcId, key: &Hashkey) -> HashkeyAnswer
+    requires { IsWellSized deal.now }
+{
+    assert!(rt; (arc as usize) < deal.graph.arcs().len());
+    assert!(rt; (key.lock as usize) < deal.leaders.len());
+    check(
+        deal,
+        arc,
+        &deal.hashlocks.as_slice()[key.lock as usize],
+        key,
+        0,
+    )
+}
+
+fn longer(
+    rt: &impl Abort,
+    alloc: Global,
+    deal: &Deal,
+    inner: &Hashkey,
+    party: PartyId,
+) -> Result<Hashkey, Fail> {
+    assert!(rt; party < deal.graph.n());
+    assert!(rt; inner.path.len() < path_limit(deal) as usize);
+    assert!(rt; inner.sigs.len() == inner.path.len());
+    let (key, _public) = keygen(&[party; 32], party, inner.lock);
+    Ok(
+        extend(alloc, deal, inner, party, key)
+            .ok()
+            .ok_or("no memory")?,
+    )
+}
+
+/// The hashkey of the ring's leader, extended around the ring back to the party `until`.
+fn chain(rt: &impl Abort, alloc: Global, deal: &Deal, until: PartyId) -> Result<Hashkey, Fail>
+    requires { IsWellSized deal.now }
+{
+    let (key, _public) = keygen(&[0; 32], 0, 0);
+    let mut hashkey = first(alloc, deal, 0, &SECRET, 0, key)
+        .ok()
+        .ok_or("no memory")?;
+    for party in (until..deal.graph.n()).rev() {
+        hashkey = longer(rt, alloc, deal, &hashkey, party)?;
+    }
+    Ok(hashkey)
+}
+
+/// The signature with a byte changed.
+fn changed(sig: &Sig) -> Sig {
+    let mut values = *sig.values();
+    values[20][5] ^= 1;
+    Sig::new(values)
+}
+
+/// The same signatures, of which the one at that place is changed.
+fn with_change(alloc: Global, sigs: &[Sig], place: usize) -> Result<Vec<Sig>, Fail> {
+    let mut list = Vec::new(alloc);
+    for (number, sig) in sigs.iter().enumerate() {
+        let sig = if number == place {
+            changed(sig)
+        } else {
+            sig.copy()?
+        };
+        list.push(sig)?;
+    }
+    Ok(list)
+}
+
+fn with_changed_signature(key: &Hashkey, place: usize) -> Result<Hashkey, Fail> {
+    let sigs = with_change(key.sigs.allocator(), key.sigs.as_slice(), place)?;
+    Ok(Hashkey {
+        lock: key.lock,
+        secret: key.secret,
+        path: key.path.copy()?,
+        sigs: Listed::new(sigs),
+    })
+}
+
+fn without_last_signature(key: &Hashkey) -> Result<Hashkey, Fail> {
+    let Hashkey {
+        lock,
+        secret,
+        path,
+        sigs,
+    } = key.copy()?;
+    let mut sigs = sigs.into_vec();
+    let _last = sigs.pop();
+    Ok(Hashkey {
+        lock,
+        secret,
+        path,
+        sigs: Listed::new(sigs),
+    })
+}
+
+/// The hashkey that went around to the party `until` has so many signatures, and is valid on the arc that enters that party.
+fn is_valid_around(
+    rt: &impl Abort,
+    alloc: Global,
+    deal: &Deal,
+    until: PartyId,
+    length: usize,
+) -> Result<(), Fail>
+    requires { IsWellSized deal.now }
+{
+    let key = chain(rt, alloc, deal, until)?;
+    assert_eq!(rt; key.path.len(), length);
+    assert!(rt; 0 < until);
+    assert_eq!(rt; answer(rt, deal, until - 1, &key), HashkeyAnswer::Valid);
+    Ok(())
+}
+
+#[test]
+fn hashkeys_go_around(rt: HostRuntime) -> Result<(), Fail> {
+    let deal = deal_of(rt.alloc(), rings::three())?;
+    is_valid_around(&rt, rt.alloc(), &deal, 3, 1)?;
+    is_valid_around(&rt, rt.alloc(), &deal, 2, 2)?;
+    is_valid_around(&rt, rt.alloc(), &deal, 1, 3)?;
+    let long = deal_of(rt.alloc(), rings::twenty_four())?;
+    is_valid_around(&rt, rt.alloc(), &long, 1, 24)
+}
+
+#[test]
+fn the_first_fault_is_named(rt: HostRuntime) -> Result<(), Fail> {
+    let deal = deal_of(rt.alloc(), rings::three())?;
+    let key = chain(&rt, rt.alloc(), &deal, 1)?;
+    let mut other = key.copy()?;
+    other.secret[31] = 8;
+    let around = longer(&rt, rt.alloc(), &deal, &key, 0)?;
+    let short = without_last_signature(&key)?;
+    assert_eq!(rt; answer(&rt, &deal, 0, &other), HashkeyAnswer::WrongSecret);
+    assert_eq!(rt; answer(&rt, &deal, 1, &key), HashkeyAnswer::WrongPath);
+    assert_eq!(rt; answer(&rt, &deal, 2, &around), HashkeyAnswer::WrongPath);
+    assert_eq!(rt; answer(&rt, &deal, 0, &short), HashkeyAnswer::WrongPath);
+    // A signature is part of what the one before it signs.
+    for (place, least) in [(0, 0), (1, 0), (2, 1)] {
+        let changed = with_changed_signature(&key, place)?;
+        assert_eq!(rt;
+            answer(&rt, &deal, 0, &changed),
+            HashkeyAnswer::WrongSignature(least)
+        );
+    }
+    Ok(())
+}
+
+/// What another program gives.
+#[test]
+fn digests_of_deals(rt: HostRuntime) -> Result<(), Fail> {
+    let timelocks = "2ce3d3136bbeaefb32c182bd9065429cfa6dba80a175ff6587e4d9419f6f1aa8";
+    let hashkeys = "f9c2c81c2fb42fd1ac0938069fecd63a5c984c3f4ed0c3e941f7d04c8441043d";
+    let around = deal_of(rt.alloc(), jobs::AROUND)?;
+    let ring = deal_of(rt.alloc(), rings::three())?;
+    assert_eq!(rt;
+        deal_digest(&around),
+        <[u8; 32] as FromHex>::from_hex(timelocks)?
+    );
+    assert_eq!(rt;
+        deal_digest(&ring),
+        <[u8; 32] as FromHex>::from_hex(hashkeys)?
+    );
+    Ok(())
+}

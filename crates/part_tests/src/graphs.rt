@@ -1,0 +1,87 @@
+//! The digraphs of the tables.
+
+ghost use Rattle.std.specs.Prelude.{◌≤◌, IfOk, length};
+ghost use Rattle.swap_digraph.specs.Graph.{HasEnds};
+
+use std::alloc::Global;
+use std::test::Fail;
+use swap_base::TryCopy;
+use swap_digraph::{ArcEnds, Digraph, Version};
+
+/// From each of n parties the arcs to the next few.
+fn onward(alloc: Global, n: u8, few: u8) -> Result<Vec<ArcEnds>, Fail>
+    requires parties { n ≤ 24 }
+    requires few { few ≤ 8 }
+{
+    let mut arcs = Vec::new(alloc);
+    for from in 0..n {
+        for step in 0..few {
+            let to = (from + step + 1) % n;
+            arcs.push(ArcEnds { from, to })?;
+        }
+    }
+    Ok(arcs)
+}
+
+/// A ring of 24 parties with chords of up to four places, none of which jumps over party 0, and with longer ones from it: 96 arcs.
+fn chorded(alloc: Global) -> Result<Vec<ArcEnds>, Fail> {
+    let mut arcs = Vec::new(alloc);
+    for from in 0..24u8 {
+        for step in 1..11u8 {
+            if from == 0 || (step < 5 && from + step <= 24) {
+                let to = (from + step) % 24;
+                arcs.push(ArcEnds { from, to })?;
+            }
+        }
+    }
+    Ok(arcs)
+}
+
+/// The arcs of a text, such as `0>1 1>0`.
+fn listed(alloc: Global, text: &str) -> Result<Vec<ArcEnds>, Fail> {
+    let mut arcs = Vec::new(alloc);
+    for word in text.split(" ") {
+        let (from, to) = word.split_once(">").ok_or("no arc")?;
+        let (from, to): (u8, u8) = (from.parse()?, to.parse()?);
+        arcs.push(ArcEnds { from, to })?;
+    }
+    Ok(arcs)
+}
+
+/// The arcs that a text stands for.
+fn arcs_of(alloc: Global, text: &str) -> Result<Vec<ArcEnds>, Fail> {
+    match text {
+        "a pair" => onward(alloc, 2, 1),
+        "a triangle" => onward(alloc, 3, 1),
+        "all of three" => onward(alloc, 3, 2),
+        "all of four" => onward(alloc, 4, 3),
+        "a ring" => onward(alloc, 24, 1),
+        "a dense ring" => onward(alloc, 24, 4),
+        "a ring with chords" => chorded(alloc),
+        _ => listed(alloc, text),
+    }
+}
+
+/// The least number of parties that the arcs name.
+fn parties_of(arcs: &[ArcEnds]) -> u8 {
+    let mut n: u8 = 0;
+    for arc in arcs {
+        n = n.max(arc.from.max(arc.to).saturating_add(1));
+    }
+    n
+}
+
+/// A copy of the digraph with the arcs that a text stands for.
+pub(crate) fn graph_of(alloc: Global, text: &str) -> Result<Digraph, Fail>
+    ensures parties { IfOk result (λ g. (2 ≤ g.n) × (g.n ≤ 32)) }
+    ensures few { IfOk result (λ g. length g.arcs ≤ 128) }
+    ensures ends { IfOk result (λ g. HasEnds g) }
+{
+    let arcs = arcs_of(alloc, text)?;
+    let n = parties_of(&arcs);
+    if n < 2 || n > 32 || arcs.len() > 128 {
+        return Err("too few or too many".into());
+    }
+    let graph = Digraph::new(alloc, n, arcs, Version::One)?;
+    Ok(graph.copy()?)
+}

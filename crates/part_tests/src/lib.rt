@@ -1,0 +1,11 @@
+//! Tests of digraphs, signatures and lists, as tables.
+#![tactic(auto)]
+
+#[cfg(test)]
+mod graphs;
+#[cfg(test)]
+mod lists;
+#[cfg(test)]
+mod signatures;
+#[cfg(test)]
+mod told;
