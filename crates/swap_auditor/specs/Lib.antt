@@ -1,0 +1,5 @@
+pub mod WellFormed
+pub mod Replies
+pub mod Audit
+pub mod Found
+pub mod Accepted

@@ -1,0 +1,58 @@
+//! The audit of a book.
+
+ghost use Rattle.std.specs.Prelude.{◌≡◌, [], IfOk, OnOk, length};
+ghost use Rattle.swap_base.specs.Fault.{Gives};
+ghost use Rattle.swap_digraph.specs.Deal.{IsWellSized};
+ghost use Rattle.ledger_core.specs.Book.{IsLegalBook};
+ghost use Rattle.swap_rules.specs.Accepted.{IsAccepted};
+ghost use Rattle.swap_laws.specs.Laws.{FindsNothing, IsTransferred};
+ghost use Rattle.outcome_rules.specs.Promises.{AllAreConforming, AllAreWhole, AllHaveRefunds, NoneIsUnderwater, shown_outcome};
+ghost use Rattle.outcome_rules.specs.Report.{conforms_in};
+ghost use Rattle.swap_auditor.specs.Audit.{audited, replay_from, UnitsAddUp};
+ghost use Rattle.swap_auditor.specs.WellFormed.{IsWellFormed};
+
+use crate::found::Found;
+use crate::replay::{AuditFault, replay};
+use ledger_core::{Book, EntryList};
+use outcome_rules::{Report, report_of};
+use std::alloc::Global;
+use swap_base::{ArcId, Listed};
+use swap_digraph::Deal;
+
+/// Replays each history of a book.
+fn replay_book(alloc: Global, deal: &Deal, book: &Book) -> Result<(), AuditFault>
+    requires sized { IsWellSized deal.now }
+    requires formed { IsWellFormed deal.now book.now.histories }
+    ensures exact { Gives (λ u. u) result (replay_from deal.now 0 book.now.histories) }
+    ensures legal { OnOk result (IsLegalBook deal.now book.now.histories) }
+{
+    let mut found = Found::new(alloc, deal)?;
+    for (arc, list) in book.histories.as_slice().iter().enumerate() {
+        replay(alloc, deal, arc as ArcId, &mut found, list)?;
+    }
+    Ok(())
+}
+
+/// The report of a book whose every stated reply is that of the replayed ledgers, or the first, in order of arc and entry, that isn't. Each signature is verified once.
+pub fn audit(
+    alloc: Global,
+    deal: &Deal,
+    conforming: &Listed<bool>,
+    book: &Book,
+) -> Result<Report, AuditFault>
+    requires accepted { IsAccepted deal.now }
+    requires conforming { length conforming.now ≡ deal.now.graph.n }
+    requires formed { IsWellFormed deal.now book.now.histories }
+    ensures exact { Gives (λ r. r) result (audited deal.now conforming.now book.now.histories) }
+    ensures legal { OnOk result (IsLegalBook deal.now book.now.histories) }
+    ensures units { OnOk result (UnitsAddUp deal.now book.now.histories) }
+    ensures safe { IfOk result (λ r. NoneIsUnderwater deal.now conforming.now (shown_outcome r) r.findings) }
+    ensures refunds { IfOk result (λ r. AllHaveRefunds deal.now conforming.now book.now.histories r.findings) }
+    ensures transfer { IfOk result (λ r. (k : IsAccepted deal.now) → AllAreConforming deal.now conforming.now → r.findings ≡ [] → IsTransferred deal.now book.now.histories k) }
+    ensures whole { IfOk result (λ r. AllAreConforming deal.now conforming.now → r.findings ≡ [] → AllAreWhole deal.now r) }
+    ensures nothing_found { IfOk result (λ r. r.findings ≡ [] → FindsNothing deal.now (conforms_in conforming.now) book.now.histories) }
+{
+    replay_book(alloc, deal, book)?;
+    let report = report_of(alloc, deal, conforming, book)?;
+    Ok(report)
+}
