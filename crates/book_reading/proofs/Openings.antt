@@ -7,6 +7,7 @@ use Rattle.std.proofs.lemmas.Option.{slice_get_past, slice_get-get_or}
 use Rattle.std.proofs.lemmas.List.Folds.{find_at}
 use Rattle.std.proofs.lemmas.Bool.{ltb-false}
 use Rattle.swap_base.specs.Lists.{or_else, first_of}
+use Rattle.swap_base.proofs.Lists.{or_else-stays, or_else-skips}
 use Rattle.swap_digraph.specs.declared.deal.Deal.{Deal}
 use Rattle.swap_digraph.specs.Deal.{IsWellSized}
 use Rattle.escrow_core.specs.declared.terms.Terms.{Terms}
@@ -21,21 +22,13 @@ use Rattle.book_reading.proofs.Known.{terms_at}
 
 -- the first answer is that of the first element with an answer
 
-whole : {C : Type 0} (o r : Option C) → is_some o ≡ true → or_else o r ≡ o
-whole (Some z) r s = refl
-whole None r s = absurd (cc s)
-
-skipped : {C : Type 0} (o r : Option C) → is_some o ≡ false → or_else o r ≡ r
-skipped None r s = refl
-skipped (Some z) r s = absurd (cc s)
-
 same_some : {C : Type 0} (z u : C) → Some z ≡ Some u → z ≡ u
 same_some z u e = cc e
 
 found_by : {A B : Type 0} (f : A → Option B) (b : Bool) (x y : A) (o : Option A) (rest : Option B) → is_some (f x) ≡ b → cond b (Some x) o ≡ Some y
     → (o ≡ Some y → rest ≡ f y) → or_else (f x) rest ≡ f y
-found_by f true x y o rest s e h = whole (f x) rest s ∙ ap f (same_some x y e)
-found_by f false x y o rest s e h = skipped (f x) rest s ∙ h e
+found_by f true x y o rest s e h = or_else-stays (f x) rest s ∙ ap f (same_some x y e)
+found_by f false x y o rest s e h = or_else-skips (f x) rest s ∙ h e
 
 pub first_of_found : {A B : Type 0} (f : A → Option B) (xs : List A) (y : A) → find (λ x. is_some (f x)) xs ≡ Some y → first_of f xs ≡ f y
 first_of_found f [] y e = absurd (cc e)

@@ -5,11 +5,11 @@ ghost use Rattle.swap_digraph.specs.Deal.{IsWellSized};
 ghost use Rattle.ledger_core.specs.Book.{history};
 ghost use Rattle.ledger_core.specs.History.{height, published};
 ghost use Rattle.swap_rules.specs.Party.{height_in, least_expiry, ready_height};
-ghost use Rattle.escrow_core.specs.Parts.{lesser};
 ghost use Rattle.book_reading.specs.Known.{AreMadeFor};
 
 use crate::locks::{expiry, is_open};
 use crate::readings::published;
+use escrow_core::lesser;
 use ledger_core::Facts;
 use swap_base::{ArcId, PartyId};
 use swap_digraph::Deal;
@@ -47,16 +47,6 @@ pub fn ready_height<F: Facts>(deal: &Deal, me: PartyId, known: &[F]) -> u32
         .iter()
         .map(|arc| publish_height(deal, known, *arc))
         .fold(0, |most, height| most.max(height))
-}
-
-/// The lesser of a height that may be none yet and another.
-pub fn lesser(least: Option<u64>, other: u64) -> u64
-    ensures { result ≡ lesser least other }
-{
-    match least {
-        None => other,
-        Some(n) => n.min(other),
-    }
 }
 
 /// The least expiry of the locks that aren't opened on the arc, 0 where all are.

@@ -10,6 +10,6 @@ mod heights;
 mod locks;
 mod readings;
 
-pub use heights::{height_on, least_expiry, lesser, publish_height, ready_height};
+pub use heights::{height_on, least_expiry, publish_height, ready_height};
 pub use locks::{expiry, has_expired, is_open, is_triggered, leads};
 pub use readings::{is_correct, is_good, is_ready, leads_one, published};

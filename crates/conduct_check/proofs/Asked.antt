@@ -1,6 +1,7 @@
 -- What is asked of entries and says nothing of ticks, asked of the calls alone.
 use Rattle.std.proofs.Common.{◌≡◌, ℕ, zero, suc, ◌<◌, Bool, true, false, ◌||◌, List, [], ◌∷◌, length, get_or, count_by, Option, None, refl, sym, ap, ◌∙◌, arith}
 use Rattle.std.specs.List.{list_any}
+use Rattle.swap_base.proofs.Lists.{or_neither}
 use Rattle.ledger_core.specs.declared.entry.Call.{Call}
 use Rattle.ledger_core.specs.declared.entry.What.TheVariants.{Tick}
 use Rattle.ledger_core.specs.declared.entry.Entry.{Entry}
@@ -22,14 +23,10 @@ pub count_calls : (q : Option Call → Bool) (v : ℕ) (h : List Entry) → q No
     → count_by (λ m. q (call_by v m.entry)) (made_in h) ≡ count_by (λ e. q (call_by v e)) h
 count_calls q v h none = sym (count_made (λ e. q (call_by v e)) h (λ e k is. ap q (sent_of_tick v e k is) ∙ none))
 
-none_head : (a b : Bool) → (a || b) ≡ false → (a ≡ false) × (b ≡ false)
-none_head true b e = absurd (cc e)
-none_head false b e = (refl, e)
-
 none_at : {A : Type 0} (p : A → Bool) (xs : List A) (i : ℕ) (d : A) → i < length xs → list_any p xs ≡ false → p (get_or xs i d) ≡ false
 none_at p [] i d l e = absurd (omega arith)
-none_at p (x ∷ xs) zero d l e = (none_head (p x) (list_any p xs) e).0
-none_at p (x ∷ xs) (suc i) d l e = none_at p xs i d (omega arith) (none_head (p x) (list_any p xs) e).1
+none_at p (x ∷ xs) zero d l e = (or_neither (p x) (list_any p xs) e).0
+none_at p (x ∷ xs) (suc i) d l e = none_at p xs i d (omega arith) (or_neither (p x) (list_any p xs) e).1
 
 -- what no entry passes, no call does
 pub made_fails : (p : Entry → Bool) (h : List Entry) (i : ℕ) (d : Made) → SaysNothing false p → i < length (made_in h) → list_any p h ≡ false

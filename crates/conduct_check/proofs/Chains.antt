@@ -1,5 +1,6 @@
 -- Tests in another order.
 use Rattle.std.proofs.Common.{◌≡◌, Bool, true, false, ◌&&◌, refl, sym, ap, ◌∙◌}
+use Rattle.swap_base.proofs.Lists.{and_swap}
 
 -- where the first two tests are dear
 pub secret_chain : (hash leads fresh : Bool) → (leads && fresh && hash) ≡ (hash && leads && fresh)
@@ -9,12 +10,6 @@ secret_chain true false fresh = refl
 secret_chain false true true = refl
 secret_chain false true false = refl
 secret_chain false false fresh = refl
-
-and_swap : (a b : Bool) → (a && b) ≡ (b && a)
-and_swap true true = refl
-and_swap true false = refl
-and_swap false true = refl
-and_swap false false = refl
 
 -- the last test needs only be right where those before it hold
 pub unlock_chain : (published ready first kept valid origin : Bool) → (first ≡ true → kept ≡ (valid && origin))

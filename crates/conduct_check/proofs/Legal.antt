@@ -9,7 +9,7 @@ use Rattle.swap_base.proofs.Lists.{and_parts}
 use Rattle.swap_digraph.specs.declared.deal.Deal.{Deal}
 use Rattle.swap_digraph.specs.declared.deal.Mode.{Mode}
 use Rattle.swap_digraph.specs.declared.deal.Mode.TheVariants.{Timelocks, Hashkeys}
-use Rattle.swap_digraph.specs.Deal.{path_limit}
+use Rattle.swap_digraph.specs.Deal.{path_limit, touches}
 use Rattle.escrow_core.specs.declared.reply.Reply.{Reply}
 use Rattle.escrow_core.specs.declared.reply.Reply.TheVariants.{Accepted}
 use Rattle.ledger_core.specs.declared.entry.Call.{Call}
@@ -19,17 +19,16 @@ use Rattle.ledger_core.specs.declared.entry.Sender.TheVariants.{Party, Clock}
 use Rattle.ledger_core.specs.declared.entry.What.{What}
 use Rattle.ledger_core.specs.declared.entry.What.TheVariants.{Call as Made, Tick}
 use Rattle.ledger_core.specs.declared.entry.Entry.{Entry}
-use Rattle.ledger_core.specs.History.{accepted, accepted_in, fit, sent_by, IsLegal, IsLegalEntry, IsLegalMoment}
+use Rattle.ledger_core.specs.History.{accepted, accepted_in, fit, sent_by, IsLegal, IsLegalEntry, IsLegalMoment, call_in}
 use Rattle.ledger_core.specs.Book.{Histories, history, IsLegalBook}
 use Rattle.history_index.specs.declared.made.Made.{Made as Numbered}
 use Rattle.history_index.specs.Made.{made_in}
-use Rattle.swap_rules.specs.Party.{call_in, call_by}
+use Rattle.swap_rules.specs.Party.{call_by}
 use Rattle.swap_rules.specs.declared.finding.Finding.TheVariants.{Broke}
 use Rattle.swap_rules.specs.Conduct.{keeps, keeps_at}
 use Rattle.swap_rules.specs.Forged.{forges, is_forged}
 use Rattle.swap_rules.specs.Findings.{failing}
 use Rattle.conduct_check.specs.Parts.{IsWithin}
-use Rattle.sent_keys.specs.Sent.{touches}
 use Rattle.sent_keys.proofs.Own.{unsent}
 use Rattle.sent_keys.proofs.Unlocks.{sent_of_tick}
 use Rattle.conduct_check.proofs.Asked.{accepted_of_tick, made_fails}

@@ -15,7 +15,7 @@ use crate::past::made_on;
 use crate::standing::{Standing, standing_of};
 use hashkey_path::Hashkey;
 use history_index::Index;
-use sent_keys::touches;
+use ledger_core::is_adjacent;
 use swap_base::{ArcId, NoMemory, PartyId};
 use swap_digraph::Deal;
 use swap_rules::Finding;
@@ -74,7 +74,7 @@ fn put_broken_on(
     requires arc { arc < length deal.now.graph.arcs }
     ensures { OnOk result (out.new.items ≡ out.old.items ++ broken_on deal.now (entries_in known.now) party arc) }
 {
-    if touches(deal, party, arc) {
+    if is_adjacent(deal, arc, party) {
         put_broken_calls(out, deal, known, party, keys, standing, arc)?;
     }
     Ok(())

@@ -5,12 +5,12 @@ use Rattle.std.proofs.Common.{get_or-set_other}
 use Rattle.std.proofs.lemmas.Bool.{eqb-false, both_ways, ne_eqb}
 use Rattle.std.proofs.lemmas.List.{length-replicate}
 use Rattle.std.specs.List.{range_with_len}
-use Rattle.swap_base.proofs.Lists.{list_all-in, in_range}
+use Rattle.swap_base.proofs.Lists.{list_all-in, in_range, or_neither}
 use Rattle.swap_digraph.specs.Value.{Graph}
 use Rattle.swap_digraph.specs.Graph.{ends, has_arc, HasEnds}
 use Rattle.digraph_check.specs.Reach.{reaches_in, reaches}
 use Rattle.digraph_check.specs.Tree.{tree_arc, is_entered, all_entered, parent_of, walked_back, IsCrossing, IsTree, IsSearch}
-use Rattle.digraph_check.proofs.ListTests.{or_neither, or_split, same_test}
+use Rattle.digraph_check.proofs.ListTests.{or_split, same_test}
 use Rattle.digraph_check.proofs.Walks.{Along, goes_on, is_there, at_once, snoc, at_most, more, arc_at, arc_number}
 
 -- how many parties have no arc

@@ -7,11 +7,12 @@ use Rattle.std.proofs.lemmas.Map.Made.{length-le_from_is_member}
 use Rattle.std.specs.Cmp.{nat_eq_equiv}
 use Rattle.std.specs.List.{IsDistinct, AllByRecursion}
 use Rattle.std.specs.Set.{is_member}
-use Rattle.swap_base.proofs.Lists.{list_any-in, and_parts, and_both, in_range}
+use Rattle.swap_base.proofs.Lists.{list_any-in, and_parts, and_both, in_range, or_neither}
 use Rattle.swap_digraph.specs.Value.{Graph}
 use Rattle.swap_digraph.specs.Graph.{parties, has_arc, is_path, first_is, last_is, is_among, IsPathBetween}
+use Rattle.swap_digraph.proofs.Paths.{path_length}
 use Rattle.digraph_check.specs.Reach.{reaches_in, reaches}
-use Rattle.digraph_check.proofs.ListTests.{or_split, or_neither}
+use Rattle.digraph_check.proofs.ListTests.{or_split}
 use Rattle.digraph_check.proofs.Walks.{Along, goes_on, is_there, at_once, along, at_most}
 
 pub record PathBetween (g : Graph) (u v : ℕ) : Type 0 where
@@ -82,48 +83,12 @@ along_path g u v (w ∷ p) path last =
     let a = and_parts (nat_lt u g.n && not (is_among u (w ∷ p)) && has_arc g u w) (is_path g (w ∷ p)) path in
     along g (length p) u w v (head_below g w p a.1) (and_parts (nat_lt u g.n && not (is_among u (w ∷ p))) (has_arc g u w) a.0).1 (along_path g w v p a.1 last)
 
--- A path has no more vertices than there are parties.
-
-apart_from : (x : ℕ) (p : List ℕ) → is_among x p ≡ false → AllByRecursion (λ y. nat_eq x y ≡ false) p
-apart_from x [] h = tt
-apart_from x (y ∷ p) h =
-    let t = or_neither (y == x) (is_among x p) h in
-    (ne_eqb x y (λ e. eqb-false y x t.0 (sym e)), apart_from x p t.1)
-
-distinct : (g : Graph) (p : List ℕ) → is_path g p ≡ true → IsDistinct nat_eq p
-unfolding IsDistinct
-distinct g [] h = absurd (cc h)
-distinct g (x ∷ []) h = (tt, tt)
-distinct g (x ∷ y ∷ p) h =
-    let a = and_parts (nat_lt x g.n && not (is_among x (y ∷ p)) && has_arc g x y) (is_path g (y ∷ p)) h in
-    let b = and_parts (nat_lt x g.n && not (is_among x (y ∷ p))) (has_arc g x y) a.0 in
-    (apart_from x (y ∷ p) (not-true (is_among x (y ∷ p)) (and_parts (nat_lt x g.n) (not (is_among x (y ∷ p))) b.0).1), distinct g (y ∷ p) a.1)
-
-below_head : (n q x : ℕ) (p : List ℕ) → x < n → ((q == x) ≡ true) ⊎ (is_member nat_eq p q ≡ true) → (is_member nat_eq p q ≡ true → q < n) → q < n
-below_head n q x p lt (inl e) rest = let same : q ≡ x = eqb-true q x e in omega arith
-below_head n q x p lt (inr e) rest = rest e
-
-all_below : (g : Graph) (p : List ℕ) (q : ℕ) → is_path g p ≡ true → is_member nat_eq p q ≡ true → q < g.n
-all_below g [] q h m = absurd (cc m)
-all_below g (x ∷ []) q h m = below_head g.n q x [] (head_below g x [] h) (or_split (q == x) false m) (λ e. absurd (cc e))
-all_below g (x ∷ y ∷ p) q h m =
-    below_head g.n q x (y ∷ p) (head_below g x (y ∷ p) h) (or_split (q == x) (is_member nat_eq (y ∷ p) q) m)
-    (all_below g (y ∷ p) q (and_parts (nat_lt x g.n && not (is_among x (y ∷ p)) && has_arc g x y) (is_path g (y ∷ p)) h).1)
-
-pub length_path : (g : Graph) (p : List ℕ) → is_path g p ≡ true → length p ≤ g.n
-length_path g p h =
-    let le : length p ≤ length (parties g) =
-    length-le_from_is_member nat_eq_equiv p (parties g) (distinct g p h) (λ q m.
-    list_any-in (nat_eq q) (parties g) q (eq-eqb q q refl) (in_range q g.n (all_below g p q h m))) in
-    let e : length (parties g) ≡ g.n = length-range_with_len 0 g.n in
-    omega arith
-
 -- The law.
 
 path_walk : (g : Graph) (u v : ℕ) (p : List ℕ) → is_path g p ≡ true → first_is u p ≡ true → last_is v p ≡ true → reaches_in g g.n u v ≡ true
 path_walk g u v [] path first last = absurd (cc path)
 path_walk g u v (x ∷ p) path first last =
-    let le : length (x ∷ p) ≤ g.n = length_path g (x ∷ p) path in
+    let le : length (x ∷ p) ≤ g.n = path_length g (x ∷ p) path in
     subst (λ (y : ℕ). reaches_in g g.n y v ≡ true) (eqb-true x u first) (at_most g (length p) g.n x v (omega arith) (along_path g x v p path last))
 
 pub path_reaches : (g : Graph) (u v : ℕ) (p : List ℕ) → IsPathBetween g u v p → reaches g u v ≡ true

@@ -3,6 +3,7 @@ use Rattle.std.proofs.Common.{◌≡◌, ◌⊎◌, ℕ, zero, suc, ◌<◌, ◌
 use Rattle.std.proofs.Common.{inl, inr, arith}
 use Rattle.std.proofs.lemmas.List.{length-map}
 use Rattle.std.specs.List.{list_any}
+use Rattle.swap_base.proofs.Lists.{and_swap}
 use Rattle.swap_digraph.specs.declared.arc_ends.ArcEnds.{ArcEnds}
 use Rattle.swap_digraph.specs.Value.{Graph}
 use Rattle.swap_digraph.specs.Graph.{has_arc, HasEnds, ends_in}
@@ -10,17 +11,11 @@ use Rattle.digraph_check.specs.Reach.{reaches_in, reaches, reversed, reversed_en
 use Rattle.digraph_check.proofs.ListTests.{same_test}
 use Rattle.digraph_check.proofs.Walks.{Along, goes_on, is_there, at_once, snoc}
 
-and_turned : (a b : Bool) → (a && b) ≡ (b && a)
-and_turned true true = refl
-and_turned true false = refl
-and_turned false true = refl
-and_turned false false = refl
-
 arc_turned : (arcs : List ArcEnds) (u w : ℕ)
     → list_any (λ a. (a.from == w) && (a.to == u)) (map reversed_ends arcs) ≡ list_any (λ a. (a.from == u) && (a.to == w)) arcs
 arc_turned [] u w = refl
 arc_turned (x ∷ arcs) u w =
-    ap (λ (b : Bool). b || list_any (λ a. (a.from == w) && (a.to == u)) (map reversed_ends arcs)) (and_turned (x.to == w) (x.from == u))
+    ap (λ (b : Bool). b || list_any (λ a. (a.from == w) && (a.to == u)) (map reversed_ends arcs)) (and_swap (x.to == w) (x.from == u))
     ∙ ap (λ (b : Bool). ((x.from == u) && (x.to == w)) || b) (arc_turned arcs u w)
 
 turn_along : (g h : Graph) (k u v : ℕ) → u < h.n → ((x y : ℕ) → has_arc g x y ≡ true → has_arc h y x ≡ true) → (u ≡ v) ⊎ Along g k u v

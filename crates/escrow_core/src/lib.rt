@@ -14,3 +14,4 @@ pub use contract::Contract;
 pub use lock_list::LockList;
 pub use reply::Reply;
 pub use terms::{Terms, terms_of};
+pub use times::lesser;

@@ -63,8 +63,8 @@ pub(crate) fn last_in(mode: Mode, terms: &Terms, key: &Hashkey) -> u64
     }
 }
 
-// The lesser of a number that may be none yet and another.
-fn lesser(least: Option<u64>, other: u64) -> u64
+/// The lesser of a number that may be none yet and another.
+pub fn lesser(least: Option<u64>, other: u64) -> u64
     ensures { result ≡ lesser least other }
 {
     match least {

@@ -4,3 +4,4 @@ pub mod Known
 pub mod Paths
 pub mod Signed
 pub mod Validity
+pub mod Apart

@@ -7,6 +7,7 @@
 mod checking;
 mod digest;
 mod hashkey;
+mod law;
 mod path;
 mod sign;
 mod suffix;
@@ -14,4 +15,5 @@ mod suffix;
 pub use checking::check;
 pub use digest::deal_digest;
 pub use hashkey::{Hashkey, HashkeyAnswer, SigList};
+pub use law::deal_bytes_tell_apart;
 pub use sign::{KeyBack, extend, first};

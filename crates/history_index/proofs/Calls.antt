@@ -7,6 +7,7 @@ use Rattle.std.proofs.lemmas.List.Sums.{sum_by-cons}
 use Rattle.std.specs.Prelude.{position, filter_map}
 use Rattle.std.specs.List.{list_any, prefix_len, cons_option}
 use Rattle.swap_base.specs.Lists.{or_else, first_of, greatest, Moment, moments_after, moments}
+use Rattle.swap_base.proofs.Lists.{none_of}
 use Rattle.ledger_core.specs.declared.entry.What.{What}
 use Rattle.ledger_core.specs.declared.entry.What.TheVariants.{Call, Tick}
 use Rattle.ledger_core.specs.declared.entry.Entry.{Entry}
@@ -183,9 +184,5 @@ opening_ticks i e k w = rw w refl
 pub opened_made : (h : List Entry) (i : ℕ) → opened h i ≡ first_of (λ m. opening i m.entry.height (accepted m.entry)) (made_in h)
 opened_made h i = first_made (λ e. opening i e.height (accepted e)) h (opening_ticks i)
 
-none_from : {B : Type 0} (o : Option B) → is_some o ≡ false → o ≡ None
-none_from None h = refl
-none_from (Some x) h = absurd (false≢true (sym h))
-
 pub not_opened : (h : List Entry) (i : ℕ) → is_some (opened_number h i) ≡ false → opened h i ≡ None
-not_opened h i e = none_from (opened h i) (some_position (λ x. opening i x.height (accepted x)) h ∙ e)
+not_opened h i e = none_of (opened h i) (some_position (λ x. opening i x.height (accepted x)) h ∙ e)

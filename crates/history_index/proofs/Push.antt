@@ -11,7 +11,7 @@ use Rattle.std.proofs.Math.ListN.{length-set}
 use Rattle.std.proofs.lemmas.List.Folds.{list_any-append, list_all-append, position_or_len_push}
 use Rattle.std.proofs.lemmas.List.Sums.{prefix_len-le-length}
 use Rattle.swap_base.specs.Lists.{or_else, first_of}
-use Rattle.swap_base.proofs.Lists.{first_of-append, and_parts}
+use Rattle.swap_base.proofs.Lists.{first_of-append, and_parts, or_else-none, or-false, or-true}
 use Rattle.hashkey_path.specs.declared.hashkey.Hashkey.{Hashkey}
 use Rattle.escrow_core.specs.declared.terms.Terms.{Terms}
 use Rattle.escrow_core.specs.declared.reply.Reply.{Reply}
@@ -37,18 +37,6 @@ use Rattle.history_index.specs.Numbers.{numbers_from, call_numbers, comes_from, 
 use Rattle.ledger_core.specs.Facts.{is_call}
 use Rattle.history_index.specs.Made.{made_from, made_in, made_after}
 use Rattle.history_index.specs.Kept.{has_kind, with_call, numbers_after, kinds_after, with_opening, answers_after, AreAnswers, AreCalls}
-
-or-false : (b : Bool) → (b || false) ≡ b
-or-false true = refl
-or-false false = refl
-
-or-true : (b : Bool) → (b || true) ≡ true
-or-true true = refl
-or-true false = refl
-
-pub or_else-none : {B : Type 0} (o : Option B) → or_else o None ≡ o
-or_else-none None = refl
-or_else-none (Some x) = refl
 
 -- The numbers of a party's entries.
 

@@ -20,7 +20,8 @@ use Rattle.history_index.specs.declared.made.Made.{Made}
 use Rattle.history_index.specs.Numbers.{IsIndexable}
 use Rattle.history_index.specs.Made.{made_in}
 use Rattle.history_index.specs.Kept.{answers_after, AreAnswers, AreCalls}
-use Rattle.history_index.proofs.Push.{or_else-none, answers_push, calls_push, made_in_push}
+use Rattle.swap_base.proofs.Lists.{or_else-none}
+use Rattle.history_index.proofs.Push.{answers_push, calls_push, made_in_push}
 
 -- with one more tick by k
 one_more : (h : List Entry) (at k n : ℕ) → h ++ ticks_above at k n ++ tick_entry k (at + k * suc n) Accepted ∷ [] ≡ h ++ ticks_above at k (suc n)

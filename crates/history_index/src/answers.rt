@@ -8,7 +8,7 @@ ghost use Rattle.history_index.specs.Numbers.{names_lock};
 ghost use Rattle.history_index.specs.Kept.{answers_after, no_answers, with_opening};
 
 use escrow_core::{Reply, Terms};
-use ledger_core::{Call, Entry, Published, Settlement, What};
+use ledger_core::{Call, Entry, Published, Settlement, What, publication_of, settlement_of, ticks_in};
 
 /// What stands in a list of entries.
 #[derive(Clone, Copy, Debug)]
@@ -22,43 +22,12 @@ pub(crate) struct Answers {
     pub settled: Option<Settlement>,
 }
 
-fn ticks_of(e: &Entry) -> u32
-    ensures { result ≡ ticks_in e.now.what }
-{
-    match &e.what {
-        What::Call(_) => 0,
-        What::Tick(k) => *k,
-    }
-}
-
-fn publication_of(terms: &Terms, e: &Entry) -> Option<Published>
-    ensures { result ≡ option_map (shown_as terms.now) (publication e.now.height (accepted e.now)) }
-{
-    match (&e.what, e.reply) {
-        (What::Call(Call::Publish(stated)), Reply::Accepted) => Some(Published {
-            height: e.height,
-            correct: stated.same(terms),
-        }),
-        _ => None,
-    }
-}
-
 /// The entry's number, where it is an accepted publish.
 fn publication_number(number: u32, e: &Entry) -> Option<u32>
     ensures { result ≡ (if is_some (publication e.now.height (accepted e.now)) then Some number else None) }
 {
     match (&e.what, e.reply) {
         (What::Call(Call::Publish(_)), Reply::Accepted) => Some(number),
-        _ => None,
-    }
-}
-
-fn settlement_of(e: &Entry) -> Option<Settlement>
-    ensures { result ≡ settling (accepted e.now) }
-{
-    match (&e.what, e.reply) {
-        (What::Call(Call::Claim), Reply::Accepted) => Some(Settlement::Claimed),
-        (What::Call(Call::Refund), Reply::Accepted) => Some(Settlement::Refunded),
         _ => None,
     }
 }
@@ -95,7 +64,7 @@ impl Answers {
         requires lock { IsTrue (names_lock entry.now.what) }
         ensures { self.new ≡ answers_after terms.now number entry.now self.old }
     {
-        self.height += ticks_of(entry);
+        self.height += ticks_in(entry);
         self.published = self.published.or(publication_of(terms, entry));
         self.published_number = self.published_number.or(publication_number(number, entry));
         add_opening(&mut self.unlocked, number, entry);

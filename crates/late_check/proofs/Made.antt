@@ -6,10 +6,10 @@ use Rattle.hashkey_path.specs.declared.hashkey.Hashkey.{Hashkey}
 use Rattle.ledger_core.specs.declared.entry.Call.{Call}
 use Rattle.ledger_core.specs.declared.entry.What.TheVariants.{Tick}
 use Rattle.ledger_core.specs.declared.entry.Entry.{Entry}
-use Rattle.ledger_core.specs.History.{accepted_in, sent_by}
+use Rattle.ledger_core.specs.History.{accepted_in, sent_by, call_in}
 use Rattle.history_index.specs.Made.{made_in}
 use Rattle.history_index.proofs.Calls.{any_made, greatest_made}
-use Rattle.swap_rules.specs.Party.{call_in, call_by}
+use Rattle.swap_rules.specs.Party.{call_by}
 use Rattle.swap_rules.specs.Conduct.{extends}
 use Rattle.swap_rules.specs.Late.{height_if, is_carried}
 use Rattle.late_check.specs.declared.counting.Counted.{Counted}

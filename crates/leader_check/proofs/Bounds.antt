@@ -7,7 +7,7 @@ use Rattle.swap_digraph.specs.Value.{Graph}
 use Rattle.swap_digraph.specs.Graph.{is_path, is_among, has_arc, first_is, last_is, arcs_of, are_followers, IsHeight}
 use Rattle.time_bounds.specs.Times.{need}
 use Rattle.leader_check.specs.Laws.{PathsToLeadersAreBounded}
-use Rattle.leader_check.proofs.Paths.{is_among-true, in-is_among, Step, path_step, path_more, path_distinct, path_length, subset_length, distinct_filter}
+use Rattle.swap_digraph.proofs.Paths.{is_among-true, in-is_among, Step, path_step, path_more, path_distinct, path_length, subset_length, distinct_filter}
 
 module _ (g : Graph) (leaders : List ℕ) (h : ℕ) (height : IsHeight g leaders h) where
   abbrev led : List ℕ → ℕ

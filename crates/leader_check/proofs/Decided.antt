@@ -9,7 +9,7 @@ use Rattle.leader_check.specs.Followers.{is_follower}
 use Rattle.leader_check.specs.Levels.{level_within, most_before}
 use Rattle.leader_check.specs.Cycles.{walks, cycle_from, follower_cycle}
 use Rattle.leader_check.proofs.Followers.{follower_parts}
-use Rattle.leader_check.proofs.Paths.{path_length}
+use Rattle.swap_digraph.proofs.Paths.{path_length}
 use Rattle.leader_check.proofs.Heights.{before-arc, after-follower, within-suc, within-reached, Run}
 use Rattle.leader_check.proofs.Walks as on
 

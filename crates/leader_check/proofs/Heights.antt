@@ -11,7 +11,7 @@ use Rattle.leader_check.specs.Followers.{is_follower}
 use Rattle.leader_check.specs.Levels.{most_before, level_after, level_within, level_of, height_of, IsLevel}
 use Rattle.leader_check.specs.Laws.{GreatestLevelIsHeight}
 use Rattle.leader_check.proofs.Followers.{follower_parts, follower_from, arc_of, arc_from, greatest-reached, greatest-more}
-use Rattle.leader_check.proofs.Paths.{path_step, path_below, path_length, path_snoc, suffix_from, followers-append}
+use Rattle.swap_digraph.proofs.Paths.{path_step, path_below, path_length, path_snoc, suffix_from, followers-append}
 
 pub before-arc : (g : Graph) (f : ℕ → ℕ) (u v : ℕ) → has_arc g u v ≡ true → f u ≤ most_before g f v
 unfolding most_before

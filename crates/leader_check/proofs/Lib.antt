@@ -1,4 +1,3 @@
-pub mod Paths
 pub mod Bounds
 pub mod Followers
 pub mod Heights

@@ -8,6 +8,7 @@ use Rattle.std.proofs.lemmas.List.{get_or_past, get_or_read}
 use Rattle.std.proofs.lemmas.Nat.Bits.{bit_at-zero}
 use Rattle.std.proofs.lemmas.List.FromFn.{get_or-map-range_with_len, length-map-range_with_len}
 use Rattle.swap_base.specs.Lists.{or_else, first_of, greatest}
+use Rattle.swap_base.proofs.Lists.{below_or}
 use Rattle.swap_digraph.specs.Value.{Graph}
 use Rattle.swap_digraph.specs.Graph.{parties}
 use Rattle.leader_check.specs.Followers.{is_follower, at}
@@ -20,9 +21,6 @@ use Rattle.leader_check.proofs.Walks as on
 
 pub length-row : {X : Type 0} (f : ℕ → X) (n : ℕ) (xs : List X) → xs ≡ map f (range_with_len 0 n) → length xs ≡ n
 length-row f n xs e = ap length e ∙ length-map-range_with_len f 0 n
-
-below_or : (m n : ℕ) → (m < n) ⊎ (n ≤ m)
-below_or m n = grind arith
 
 -- a row of values reads as their function, where the function is the default outside
 pub row_reads : {X : Type 0} (f : ℕ → X) (n : ℕ) (d : X) (xs : List X) → ((v : ℕ) → n ≤ v → f v ≡ d) → xs ≡ map f (range_with_len 0 n) → (v : ℕ)

@@ -4,13 +4,14 @@ use Rattle.std.proofs.Common.{is_some, unwrap_or, refl, sym, ap, ◌∙◌, subs
 use Rattle.std.specs.List.{list_any, range_with_len}
 use Rattle.swap_base.specs.Lists.{or_else, first_of, IsIn}
 use Rattle.swap_base.proofs.Lists.{and_parts, and_both, any_at, list_any-in, in_from_moment, in_range, in_range_from, first_at, first_of-in}
+use Rattle.swap_base.proofs.Lists.{none_in, below_or}
 use Rattle.swap_digraph.specs.Value.{Graph}
 use Rattle.swap_digraph.specs.Graph.{parties, is_path, has_arc, is_among, first_is, last_is, are_followers, IsPathBetween, IsFeedback}
 use Rattle.leader_check.specs.Followers.{is_follower}
 use Rattle.leader_check.specs.Cycles.{only_if, leads_into, first_step, walks, walk_of, cycle_of, cycle_from, follower_cycle, IsFollowerCycle}
 use Rattle.leader_check.specs.Laws.{NoCycleIsFeedback}
 use Rattle.leader_check.proofs.Followers.{follower_parts, follower_from, arc_of, arc_from}
-use Rattle.leader_check.proofs.Paths.{path_step, path_more, path_below, path_length}
+use Rattle.swap_digraph.proofs.Paths.{path_step, path_more, path_below, path_length}
 
 -- The first answer along a range.
 
@@ -42,15 +43,6 @@ first_in_head f a m y (Some z) h e rest = record { now = a; from = omega arith; 
 pub first_in : {B : Type 0} (f : ℕ → Option B) (a m : ℕ) (y : B) → first_of f (range_with_len a m) ≡ Some y → FirstIn f a m y
 first_in f a zero y e = absurd (cc e)
 first_in f a (suc m) y e = first_in_head f a m y (f a) refl e (first_in f (a + 1) m y)
-
-none_head : {B : Type 0} (o r : Option B) → or_else o r ≡ None → (o ≡ None) × (r ≡ None)
-none_head None r e = (refl, e)
-none_head (Some y) r e = absurd (cc e)
-
-pub none_in : {A B : Type 0} (f : A → Option B) (xs : List A) (x : A) → first_of f xs ≡ None → IsIn x xs → f x ≡ None
-none_in f [] x e i = absurd i
-none_in f (y ∷ xs) x e (inl q) = ap f q ∙ (none_head (f y) (first_of f xs) e).0
-none_in f (y ∷ xs) x e (inr i) = none_in f xs x (none_head (f y) (first_of f xs) e).1 i
 
 pub only_if-some : {A : Type 0} (b : Bool) (x y : A) → only_if b x ≡ Some y → (b ≡ true) × (x ≡ y)
 only_if-some true x y e = (refl, cc e)
@@ -252,9 +244,6 @@ module _ (g : Graph) (ls : List ℕ) where
   walk_found v k low high w e =
       not_both (walks g ls v k v) (walk_of g (walks g ls v) k v) w
       (none_in (cycle_of g ls v) (range_with_len 1 g.n) k e (in_range_from 1 k g.n low (omega arith)))
-
-  below_or : (m n : ℕ) → (m < n) ⊎ (n ≤ m)
-  below_or m n = grind arith
 
   least_first : (v : ℕ) (c : List ℕ) → ((j : ℕ) → 0 ≤ j → j < v → cycle_from g ls j ≡ None) → Closed v c → (x : ℕ) → IsIn x c → v ≤ x
   least_first v c none k x i = go (below_or x v)

@@ -3,7 +3,7 @@ use Rattle.std.proofs.Common.{◌≡◌, ◌≢◌, ℕ, ◌+◌, ◌<◌, ◌�
 use Rattle.std.proofs.Common.{refl, sym, ap, ◌∙◌, arith, eqb-true, leb-false, ltb-false, length-append}
 use Rattle.std.proofs.lemmas.Bool.{false≢true}
 use Rattle.std.proofs.lemmas.List.Sums.{sum_by_push}
-use Rattle.swap_base.proofs.Lists.{grow, all_moments_front, at_moment}
+use Rattle.swap_base.proofs.Lists.{grow, all_moments_front, at_moment, or_neither}
 use Rattle.swap_digraph.specs.declared.deal.Deal.{Deal}
 use Rattle.swap_digraph.specs.Deal.{party, counterparty}
 use Rattle.escrow_core.specs.declared.reply.Reply.{Reply}
@@ -39,10 +39,6 @@ room_of d a h p c r e n =
     let k : is_full h p ≡ false = not-true (is_full h p) (λ t. n (e ∙ full_reply d a h p c t)) in
     leb-false 32 (calls_of p h) k
 
-or_false : (a b : Bool) → (a || b) ≡ false → (a ≡ false) × (b ≡ false)
-or_false true b h = absurd (false≢true (sym h))
-or_false false b h = (refl, h)
-
 pub record HasRoomFor (h : List Entry) (k : ℕ) : Type 0 where
   pub ticks : ticks_of h < 20000
   pub height : height h + k ≤ 1000000
@@ -51,7 +47,7 @@ pub record HasRoomFor (h : List Entry) (k : ℕ) : Type 0 where
 pub tick_room : (h : List Entry) (k : ℕ) (r : Reply) → r ≡ reply_to_tick h k → r ≢ ClockFull → HasRoomFor h k
 tick_room h k r e n =
     let open_clock : is_clock_full h k ≡ false = not-true (is_clock_full h k) (λ t. n (e ∙ ap (λ b. cond b ClockFull Accepted) t)) in
-    let parts = or_false (nat_le 20000 (ticks_of h)) (nat_lt 1000000 (height h + k)) open_clock in
+    let parts = or_neither (nat_le 20000 (ticks_of h)) (nat_lt 1000000 (height h + k)) open_clock in
     record { ticks = leb-false 20000 (ticks_of h) parts.0; height = ltb-false 1000000 (height h + k) parts.1 }
 
 module _ (d : Deal) (a : ℕ) where

@@ -7,7 +7,7 @@ use Rattle.std.proofs.lemmas.Option.{none-some}
 use Rattle.std.proofs.lemmas.List.FromFn.{get_or-map-range_with_len, length-map-range_with_len}
 use Rattle.std.proofs.Math.ListN.{get_or-eq_default}
 use Rattle.swap_base.specs.Lists.{or_else}
-use Rattle.swap_base.proofs.Lists.{first_of-append, and_parts}
+use Rattle.swap_base.proofs.Lists.{first_of-append, and_parts, or_else-none}
 use Rattle.swap_digraph.specs.declared.deal.Deal.{Deal}
 use Rattle.swap_digraph.specs.Deal.{party, counterparty, locks}
 use Rattle.hashkey_path.specs.declared.hashkey.Hashkey.{Hashkey}
@@ -64,10 +64,6 @@ opened_in : (f : ℕ → Bool) (k n j i : ℕ) → i ≡ k + j → map (opened_t
 opened_in f k zero j i e = refl
 opened_in f k (suc n) zero i e = ap₂ (λ y ys. y ∷ ys) (or-true (f k) (i == k) (eq-eqb i k (omega arith))) (opened_below f i (k + 1) n (omega arith))
 opened_in f k (suc n) (suc j) i e = ap₂ (λ y ys. y ∷ ys) (or-false (f k) (i == k) (apart i k (λ z. omega arith))) (opened_in f (k + 1) n j i (omega arith))
-
-or_else-none : {B : Type 0} (o : Option B) → or_else o None ≡ o
-or_else-none None = refl
-or_else-none (Some x) = refl
 
 pub is_some-map : {A B : Type 0} (f : A → B) (o : Option A) → is_some (option_map f o) ≡ is_some o
 is_some-map f None = refl

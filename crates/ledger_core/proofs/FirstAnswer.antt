@@ -15,7 +15,7 @@ first_none_more f xs i x l e n h =
 or_else_some : {B : Type 0} (o r : Option B) (y : B) → o ≡ Some y → or_else o r ≡ Some y
 or_else_some o r y e = ap (λ z. or_else z r) e
 
-found_head : {B : Type 0} (o r s : Option B) (y : B) → or_else o r ≡ None → (r ≡ None → s ≡ Some y) → or_else o s ≡ Some y
+pub found_head : {B : Type 0} (o r s : Option B) (y : B) → or_else o r ≡ None → (r ≡ None → s ≡ Some y) → or_else o s ≡ Some y
 found_head None r s y e h = h e
 found_head (Some x) r s y e h = absurd (cc e)
 

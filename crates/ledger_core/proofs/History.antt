@@ -20,19 +20,16 @@ use Rattle.ledger_core.specs.declared.entry.What.TheVariants.{Call as Made, Tick
 use Rattle.escrow_core.specs.declared.reply.Reply.{Reply}
 use Rattle.escrow_core.specs.declared.reply.Reply.TheVariants.{Accepted, SenderFull}
 use Rattle.ledger_core.specs.declared.entry.Entry.{Entry}
-use Rattle.swap_digraph.specs.Deal.{party, counterparty, locks, path_limit}
+use Rattle.swap_digraph.specs.Deal.{party, counterparty, locks, path_limit, touches}
 use Rattle.hashkey_path.specs.Hashkey.{is_wrong_secret, is_wrong_path, is_wrong_signature}
 use Rattle.escrow_core.specs.Table.{first_row}
 use Rattle.escrow_core.specs.Terms.{hashlock_in, last_in, refund_expiry}
 use Rattle.ledger_core.specs.declared.facts.Settlement.{Settlement}
 use Rattle.ledger_core.specs.declared.facts.Settlement.TheVariants.{Claimed, Refunded}
+use Rattle.ledger_core.specs.History.{call_in}
 use Rattle.ledger_core.specs.History.{ticks_in, height, accepted_in, accepted, Publication, publication, published, Opening, opening, opened, settling}
 use Rattle.ledger_core.specs.History.{settled, is_open, triggered, the_terms, terms_in, is_full, rows, reply_to, fit, IsLegalEntry, IsLegalMoment}
 use Rattle.ledger_core.specs.History.{IsLegal, balance}
-
-abbrev pub call_in : What → Option Call
-call_in (Made c) = Some c
-call_in (Tick k) = None
 
 -- The table of replies.
 
@@ -75,7 +72,7 @@ pub record Act (d : Deal) (a : ℕ) (past : List Entry) (e : Entry) (c : Call) :
   pub sender : e.sender ≡ Party by
   pub what : e.what ≡ Made c
   pub at : e.height ≡ height past
-  pub of_the_two : IsTrue ((by == party d a) || (by == counterparty d a))
+  pub of_the_two : IsTrue (touches d by a)
   pub fits : IsTrue (fit d a c)
   pub reply : e.reply ≡ reply_to d a past by c
   pub room : e.reply ≢ SenderFull
@@ -287,12 +284,12 @@ of_transfer d a past by to units k = ltb-false (balance d a past by) units k.1.0
 
 -- Heights only grow.
 
-pub height-append : (xs ys : List Entry) → height (xs ++ ys) ≡ height xs + height ys
-height-append xs ys = sum_by-append (λ e. ticks_in e.what) xs ys
+pub height_append : (xs ys : List Entry) → height (xs ++ ys) ≡ height xs + height ys
+height_append xs ys = sum_by-append (λ e. ticks_in e.what) xs ys
 
 pub height-past : (h past : List Entry) (e : Entry) → IsMoment h past e → height past ≤ height h
 height-past h past e m =
-    let k : height h ≡ height past + height (e ∷ m.0) = ap height m.1 ∙ height-append past (e ∷ m.0) in
+    let k : height h ≡ height past + height (e ∷ m.0) = ap height m.1 ∙ height_append past (e ∷ m.0) in
     omega arith
 
 -- What stands in a prefix stands in the whole.

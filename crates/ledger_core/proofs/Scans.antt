@@ -4,7 +4,7 @@ use Rattle.std.proofs.Common.{Some, None, is_some, refl, sym, ap, ap₂, ◌∙�
 use Rattle.std.specs.List.{list_all}
 use Rattle.std.proofs.lemmas.Bool.{false≢true, lt-leb}
 use Rattle.swap_base.specs.Lists.{or_else}
-use Rattle.swap_base.proofs.Lists.{all_moments_push, all_moments_front, first_of-append, and_parts}
+use Rattle.swap_base.proofs.Lists.{all_moments_push, all_moments_front, first_of-append, and_parts, or_else-none}
 use Rattle.swap_digraph.specs.declared.deal.Deal.{Deal}
 use Rattle.swap_digraph.specs.Deal.{party, counterparty, amount, IsWellSized}
 use Rattle.escrow_core.specs.declared.terms.Terms.{Terms}
@@ -118,10 +118,6 @@ has_room d a h p c r f e k = false≢true (ap is_other (sym k ∙ e) ∙ has_oth
 not_accepted : (c : Call) (r : Reply) → r ≢ Accepted → accepted_in (Made c) r ≡ None
 not_accepted c Accepted n = absurd (n refl)
 not_accepted c _ n = refl
-
-or_else-none : {B : Type 0} (o : Option B) → or_else o None ≡ o
-or_else-none None = refl
-or_else-none (Some x) = refl
 
 pub kept_self : (d : Deal) (a : ℕ) (h h' : List Entry) → h' ≡ h → AreKept d a h h'
 kept_self d a h h' e = record {

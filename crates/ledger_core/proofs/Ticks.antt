@@ -9,6 +9,7 @@ use Rattle.std.proofs.lemmas.Grind.{flat_map-append}
 use Rattle.std.proofs.lemmas.List.{drop-append-le, drop_more, length-drop, take_more, take-append-drop}
 use Rattle.std.proofs.lemmas.List.Concat.{flat_map-cons}
 use Rattle.std.proofs.lemmas.List.Sums.{sum_by-append, sum_by_push}
+use Rattle.ledger_core.proofs.History.{height_append}
 use Rattle.swap_digraph.specs.declared.deal.Deal.{Deal}
 use Rattle.escrow_core.specs.declared.reply.Reply.TheVariants.{Accepted}
 use Rattle.ledger_core.specs.declared.entry.Entry.{Entry}
@@ -109,9 +110,6 @@ pub expand_split : (xs : List Item) (i : ℕ) (x : Item) → i < length xs → x
 expand_split xs i x l e =
     ap expand (sym (take-append-drop i xs)) ∙ expand_append (take i xs) (drop i xs)
     ∙ ap (λ ys. expand (take i xs) ++ ys) (ap expand (drop_more xs i x l ∙ ap (λ z. z ∷ drop (i + 1) xs) (sym e)) ∙ expand_cons x (drop (i + 1) xs))
-
-pub height_append : (xs ys : List Entry) → height (xs ++ ys) ≡ height xs + height ys
-height_append xs ys = sum_by-append (λ e. ticks_in e.what) xs ys
 
 -- what an item raises the height to is at most what all items do
 pub height_to : (xs : List Item) (i : ℕ) (x : Item) → i < length xs → x ≡ get_or xs i x

@@ -4,7 +4,7 @@ use Rattle.std.specs.Prelude.{count_by, sum_by, fold, Option, Some, None, is_som
 use Rattle.std.specs.List.{list_all, AllByRecursion}
 use Rattle.swap_base.specs.Lists.{first_of, Moment, moments}
 use Rattle.swap_digraph.specs.declared.deal.Deal.{Deal}
-use Rattle.swap_digraph.specs.Deal.{party, counterparty, amount, path_limit}
+use Rattle.swap_digraph.specs.Deal.{party, counterparty, amount, path_limit, touches}
 use Rattle.hashkey_path.specs.declared.hashkey.Hashkey.{Hashkey}
 use Rattle.escrow_core.specs.declared.terms.Terms.{Terms}
 use Rattle.escrow_core.specs.declared.reply.Reply.{Reply}
@@ -30,6 +30,11 @@ ticks_in (Tick k) = k
 -- the sum of its ticks
 abbrev pub height : List Entry → ℕ
 height h = sum_by (λ e. ticks_in e.what) h
+
+-- the call that an entry is, whatever its reply
+abbrev pub call_in : What → Option Call
+call_in (Made c) = Some c
+call_in (Tick k) = None
 
 -- the call that an entry is, where it was accepted
 abbrev pub accepted_in : What → Reply → Option Call
@@ -185,10 +190,10 @@ fit d a (Unlock key) =
     && list_all (λ v. nat_lt v d.graph.n) key.path
 fit d a Claim = true
 fit d a Refund = true
-fit d a (Transfer to units) = ((to == party d a) || (to == counterparty d a)) && nat_le units 1000000000000
+fit d a (Transfer to units) = touches d to a && nat_le units 1000000000000
 
 pub record IsLegalCall (d : Deal) (a : ℕ) (past : List Entry) (p : ℕ) (c : Call) (at : ℕ) (answer : Reply) : Type 0 where
-  pub of_the_two : IsTrue ((p == party d a) || (p == counterparty d a))
+  pub of_the_two : IsTrue (touches d p a)
   pub fits : IsTrue (fit d a c)
   pub height : at ≡ height past
   pub reply : answer ≡ reply_to d a past p c

@@ -79,7 +79,7 @@ impl EntryList {
     }
 
     /// The sum of the ticks.
-    #[tactic(auto, using(crate::proofs::Ticks::height_append))]
+    #[tactic(auto, using(crate::proofs::History::height_append))]
     pub fn height(&self) -> u32
         requires { height self.now < 2 ^ 32 }
         ensures { result ≡ height self.now }

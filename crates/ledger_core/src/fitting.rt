@@ -2,7 +2,7 @@
 
 ghost use Rattle.std.specs.Prelude.{◌≡◌, ◌==◌, ◌||◌, ◌<◌, nat_lt, length};
 ghost use Rattle.std.specs.List.{list_all};
-ghost use Rattle.swap_digraph.specs.Deal.{party, counterparty};
+ghost use Rattle.swap_digraph.specs.Deal.{party, counterparty, touches};
 ghost use Rattle.ledger_core.specs.History.{fit};
 
 use crate::entry::Call;
@@ -18,7 +18,7 @@ const MOST_UNITS: u64 = 1_000_000_000_000;
 /// Whether p is one of the arc's two parties.
 pub fn is_adjacent(deal: &Deal, arc: ArcId, p: PartyId) -> bool
     requires { arc < length deal.now.graph.arcs }
-    ensures { result ≡ ((p == party deal.now arc) || (p == counterparty deal.now arc)) }
+    ensures { result ≡ touches deal.now p arc }
 {
     let ends = deal.graph.arcs()[arc as usize];
     p == ends.from || p == ends.to

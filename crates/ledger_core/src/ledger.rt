@@ -1,7 +1,7 @@
 //! The ledger of one arc.
 
 ghost use Rattle.std.specs.Prelude.{◌≡◌, ◌≢◌, ◌<◌, ◌≤◌, ◌+◌, ◌++◌, ◌==◌, ◌||◌, ◌∷◌, [], ℕ, IsTrue, length, drop, OnOk, OnErr, IfOk};
-ghost use Rattle.swap_digraph.specs.Deal.{party, counterparty, IsWellSized};
+ghost use Rattle.swap_digraph.specs.Deal.{party, counterparty, IsWellSized, touches};
 ghost use Rattle.ledger_core.specs.History.{height, held, balance, fit, is_full, is_clock_full, reply_to, reply_to_tick, IsLegal};
 ghost use Rattle.ledger_core.specs.Known.{is_known_in};
 ghost use Rattle.ledger_core.specs.Ledger.{call_entry, tick_entry, IsAfter, AreKept, AddUp};
@@ -88,7 +88,7 @@ impl Ledger {
 
     /// Whether the sender has as many entries as a ledger takes.
     fn is_full(&self, p: PartyId) -> bool
-        requires { IsTrue ((p == party self.now.deal self.now.arc) || (p == counterparty self.now.deal self.now.arc)) }
+        requires { IsTrue (touches self.now.deal p self.now.arc) }
         ensures { result ≡ is_full self.now.history p }
     {
         let calls = if p == self.party {
@@ -103,7 +103,7 @@ impl Ledger {
     /// valid, and aren't verified. It takes no memory.
     pub fn apply(&mut self, sender: PartyId, call: Call, known: usize) -> Reply
         requires spare { 0 < self.old.spare }
-        requires of_the_two { IsTrue ((sender == party self.old.deal self.old.arc) || (sender == counterparty self.old.deal self.old.arc)) }
+        requires of_the_two { IsTrue (touches self.old.deal sender self.old.arc) }
         requires fits { IsTrue (fit self.old.deal self.old.arc call) }
         requires known { IsTrue (is_known_in known self.old.deal call) }
         ensures reply { result ≡ reply_to self.old.deal self.old.arc self.old.history sender call }
@@ -198,7 +198,7 @@ impl Ledger {
 
     /// The balance of one of the arc's two parties, in units.
     pub fn balance(&self, p: PartyId) -> u64
-        requires { IsTrue ((p == party self.now.deal self.now.arc) || (p == counterparty self.now.deal self.now.arc)) }
+        requires { IsTrue (touches self.now.deal p self.now.arc) }
         ensures { result ≡ balance self.now.deal self.now.arc self.now.history p }
     {
         if p == self.party {

@@ -10,6 +10,7 @@
 mod accounts;
 mod balances;
 mod entry;
+mod entry_facts;
 mod entry_list;
 mod facts;
 mod fitting;
@@ -23,6 +24,7 @@ mod spread;
 pub use accounts::Accounts;
 pub use balances::accounts_of;
 pub use entry::{Book, Call, Entry, Sender, What};
+pub use entry_facts::{publication_of, settlement_of, ticks_in};
 pub use entry_list::EntryList;
 pub use facts::{CallKind, Facts, Published, Settlement};
 pub use fitting::{fits, is_adjacent};

@@ -9,6 +9,7 @@ ghost use Rattle.ledger_core.specs.Facts.{shown_as, published_as, opened_number,
 ghost use Rattle.ledger_core.specs.Value.{IsCountable};
 
 use crate::entry::{Call, Entry, Sender, What};
+use crate::entry_facts::{publication_of, settlement_of, ticks_in};
 use crate::facts::{CallKind, Facts, Published, Settlement};
 use escrow_core::{Reply, Terms, terms_of};
 use hashkey_path::Hashkey;
@@ -36,15 +37,6 @@ impl Model for Scan {
     ghost invariant = { CanCount };
 }
 
-fn ticks_of(e: &Entry) -> u32
-    ensures { result ≡ ticks_in e.now.what }
-{
-    match &e.what {
-        What::Call(_) => 0,
-        What::Tick(k) => *k,
-    }
-}
-
 /// The sum of the ticks.
 fn height_of(entries: &[Entry]) -> u32
     requires { height entries.now < 2 ^ 32 }
@@ -52,21 +44,9 @@ fn height_of(entries: &[Entry]) -> u32
 {
     let mut sum: u32 = 0;
     for e in entries {
-        sum += ticks_of(e);
+        sum += ticks_in(e);
     }
     sum
-}
-
-fn publication_of(terms: &Terms, e: &Entry) -> Option<Published>
-    ensures { result ≡ option_map (shown_as terms.now) (publication e.now.height (accepted e.now)) }
-{
-    match (&e.what, e.reply) {
-        (What::Call(Call::Publish(stated)), Reply::Accepted) => Some(Published {
-            height: e.height,
-            correct: stated.same(terms),
-        }),
-        _ => None,
-    }
 }
 
 /// The accepted publish.
@@ -121,16 +101,6 @@ fn key_in(entries: &[Entry], lock: LockId) -> Option<&Hashkey>
         }
     }
     None
-}
-
-fn settlement_of(e: &Entry) -> Option<Settlement>
-    ensures { result ≡ settling (accepted e.now) }
-{
-    match (&e.what, e.reply) {
-        (What::Call(Call::Claim), Reply::Accepted) => Some(Settlement::Claimed),
-        (What::Call(Call::Refund), Reply::Accepted) => Some(Settlement::Refunded),
-        _ => None,
-    }
 }
 
 /// The accepted claim or refund.

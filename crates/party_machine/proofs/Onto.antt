@@ -19,9 +19,9 @@ use Rattle.ledger_core.specs.History.{Opening, opened, IsLegal}
 use Rattle.ledger_core.specs.Book.{Histories, history}
 use Rattle.swap_rules.specs.Party.{opens_without}
 use Rattle.swap_laws.proofs.Words.{leaves}
-use Rattle.swap_laws.proofs.Graph.{path_length}
+use Rattle.swap_digraph.proofs.Paths.{path_length}
 use Rattle.swap_laws.proofs.Times.{path_of, path_of_valid}
-use Rattle.swap_laws.proofs.History.{opened_done, of_unlock}
+use Rattle.ledger_core.proofs.History.{opened_done, of_unlock}
 use Rattle.swap_laws.proofs.Entering.{valid_of_unlock}
 use Rattle.party_phase_two.specs.Unlocks.{key_on, seen_on}
 use Rattle.party_machine.specs.Unlocking.{CanPutOnto}

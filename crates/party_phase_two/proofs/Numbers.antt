@@ -2,7 +2,8 @@
 use Rattle.std.proofs.Common.{◌≡◌, ℕ, zero, suc, ◌+◌, ◌<◌, true, false, [], ◌∷◌, ◌++◌, Option, Some, None, is_some, refl, sym, ap, ◌∙◌, arith}
 use Rattle.std.specs.List.{range_with_len}
 use Rattle.swap_base.specs.Lists.{or_else, first_of}
-use Rattle.swap_base.proofs.Lists.{first_of-append}
+use Rattle.swap_base.proofs.Lists.{first_of-append, none_of}
+use Rattle.ledger_core.proofs.FirstAnswer.{found_head}
 
 range_push : (k n : ℕ) → range_with_len k (n + 1) ≡ range_with_len k n ++ (k + n) ∷ []
 range_push k zero = ap (λ z. z ∷ []) (omega arith)
@@ -10,10 +11,6 @@ range_push k (suc n) =
     let e : suc n + 1 ≡ suc (n + 1) = omega arith in
     let f : (k + 1) + n ≡ k + suc n = omega arith in
     ap (range_with_len k) e ∙ ap (λ l. k ∷ l) (range_push (k + 1) n ∙ ap (λ z. range_with_len (k + 1) n ++ z ∷ []) f)
-
-none_of : {B : Type 0} (o : Option B) → is_some o ≡ false → o ≡ None
-none_of None e = refl
-none_of (Some x) e = absurd (cc e)
 
 -- number n has no answer
 pub none_more : {B : Type 0} (f : ℕ → Option B) (n : ℕ) (r : Option B) → first_of f (range_with_len 0 n) ≡ None → r ≡ f n → is_some r ≡ false
@@ -24,10 +21,6 @@ none_more f n r e h s =
     ∙ first_of-append f (range_with_len 0 n) (n ∷ [])
     ∙ ap (λ o. or_else o (or_else (f n) None)) e
     ∙ ap (λ o. or_else o None) (sym h ∙ none_of r s)
-
-found_head : {B : Type 0} (o r s : Option B) (y : B) → or_else o r ≡ None → (r ≡ None → s ≡ Some y) → or_else o s ≡ Some y
-found_head None r s y e h = h e
-found_head (Some x) r s y e h = absurd (cc e)
 
 found_from : {B : Type 0} (f : ℕ → Option B) (k n m : ℕ) (y : B) → first_of f (range_with_len k n) ≡ None → f (k + n) ≡ Some y → n < m
     → first_of f (range_with_len k m) ≡ Some y

@@ -6,7 +6,8 @@ ghost use Rattle.swap_laws.specs.Rest.{is_waiting, rest_until};
 ghost use Rattle.book_reading.specs.Known.{AreMadeFor};
 
 use crate::refund::{has_refunded, is_held};
-use book_reading::{is_triggered, least_expiry, lesser};
+use book_reading::{is_triggered, least_expiry};
+use escrow_core::lesser;
 use ledger_core::Facts;
 use swap_base::{ArcId, PartyId};
 use swap_digraph::Deal;

@@ -11,10 +11,10 @@ use Rattle.ledger_core.specs.declared.entry.Sender.TheVariants.{Party, Clock}
 use Rattle.ledger_core.specs.declared.entry.What.{What}
 use Rattle.ledger_core.specs.declared.entry.What.TheVariants.{Call as Made, Tick}
 use Rattle.ledger_core.specs.declared.entry.Entry.{Entry}
-use Rattle.ledger_core.specs.History.{sent_by, IsLegalEntry, IsLegalMoment}
+use Rattle.ledger_core.specs.History.{sent_by, IsLegalEntry, IsLegalMoment, call_in}
 use Rattle.ledger_core.specs.Book.{Histories, history, IsLegalBook}
-use Rattle.swap_rules.specs.Party.{call_in}
-use Rattle.sent_keys.specs.Sent.{touches, unlock_in, unlocks_in, unlocks_of}
+use Rattle.swap_digraph.specs.Deal.{touches}
+use Rattle.sent_keys.specs.Sent.{unlock_in, unlocks_in, unlocks_of}
 
 pub unsent : (d : Deal) (a v : ℕ) (past : List Entry) (s : Sender) (w : What) (at : ℕ) (r : Reply) → IsLegalEntry d a past s w at r
     → touches d v a ≡ false → cond (sent_by v s) (call_in w) None ≡ None

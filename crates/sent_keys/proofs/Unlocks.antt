@@ -12,9 +12,9 @@ use Rattle.ledger_core.specs.declared.entry.Call.{Call}
 use Rattle.ledger_core.specs.declared.entry.Call.TheVariants.{Publish, Unlock, Claim, Refund, Transfer}
 use Rattle.ledger_core.specs.declared.entry.What.TheVariants.{Tick}
 use Rattle.ledger_core.specs.declared.entry.Entry.{Entry}
-use Rattle.ledger_core.specs.History.{sent_by}
+use Rattle.ledger_core.specs.History.{sent_by, call_in}
 use Rattle.ledger_core.specs.Book.{Histories}
-use Rattle.swap_rules.specs.Party.{call_in, call_by, key_in, first_key}
+use Rattle.swap_rules.specs.Party.{call_by, key_in, first_key}
 use Rattle.history_index.specs.declared.made.Made.{Made}
 use Rattle.history_index.specs.Made.{made_in}
 use Rattle.history_index.proofs.Calls.{filter_map_made}

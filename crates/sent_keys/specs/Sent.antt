@@ -1,9 +1,7 @@
 -- The hashkeys that a party sent.
-use Rattle.std.specs.Prelude.{ℕ, Bool, ◌||◌, ◌==◌, List, Option, Some, None, map, filter_map}
+use Rattle.std.specs.Prelude.{ℕ, List, Option, Some, None, map, filter_map}
 use denote.Ref.{Bor}
 use Rattle.std.specs.List.{flat_map}
-use Rattle.swap_digraph.specs.declared.deal.Deal.{Deal}
-use Rattle.swap_digraph.specs.Deal.{party, counterparty}
 use Rattle.hashkey_path.specs.declared.hashkey.Hashkey.{Hashkey}
 use Rattle.ledger_core.specs.declared.entry.Call.{Call}
 use Rattle.ledger_core.specs.declared.entry.Call.TheVariants.{Unlock}
@@ -11,10 +9,6 @@ use Rattle.ledger_core.specs.declared.entry.Entry.{Entry}
 use Rattle.ledger_core.specs.Book.{Histories}
 use Rattle.history_index.specs.declared.made.Made.{Made}
 use Rattle.swap_rules.specs.Party.{call_by}
-
--- v is one of the two parties of arc a
-abbrev pub touches : Deal → ℕ → ℕ → Bool
-touches d v a = (v == party d a) || (v == counterparty d a)
 
 -- the hashkey that a call carries
 abbrev pub unlock_in : Option Call → Option Hashkey

@@ -1,23 +1,12 @@
-//! Whose calls stand on an arc, and the call that an entry is.
+//! The call that an entry is.
 
-ghost use Rattle.std.specs.Prelude.{◌≡◌, ◌<◌, length, option_copied};
+ghost use Rattle.std.specs.Prelude.{◌≡◌, option_copied};
 ghost use Rattle.ledger_core.specs.History.{accepted};
 ghost use Rattle.swap_rules.specs.Party.{call_by};
-ghost use Rattle.sent_keys.specs.Sent.{touches};
 
 use escrow_core::Reply;
 use ledger_core::{Call, Entry, Sender, What};
-use swap_base::{ArcId, PartyId};
-use swap_digraph::Deal;
-
-/// Whether the party is one of the arc's two. In a legal book nobody else has calls on it.
-pub fn touches(deal: &Deal, party: PartyId, arc: ArcId) -> bool
-    requires { arc < length deal.now.graph.arcs }
-    ensures { result ≡ touches deal.now party arc }
-{
-    let ends = deal.graph.arcs()[arc as usize];
-    party == ends.from || party == ends.to
-}
+use swap_base::PartyId;
 
 /// The call that an entry is, where it was accepted.
 pub fn accepted<'a>(e: &'a Entry) -> Option<&'a Call>

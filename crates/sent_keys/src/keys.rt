@@ -9,11 +9,11 @@ ghost use Rattle.swap_rules.specs.Conduct.{is_first_key};
 ghost use Rattle.history_index.specs.Indexes.{entries_in, AreIndexes};
 ghost use Rattle.sent_keys.specs.Sent.{shown, unlock_in, unlocks_made, unlocks_in, unlocks_of};
 
-use crate::calls::{call_by, touches};
+use crate::calls::call_by;
 use hash_signature::Sig;
 use hashkey_path::Hashkey;
 use history_index::{Index, Made};
-use ledger_core::Call;
+use ledger_core::{Call, is_adjacent};
 use std::alloc::Global;
 use swap_base::{ArcId, Digest, LockId, NoMemory, PartyId};
 use swap_digraph::Deal;
@@ -124,7 +124,7 @@ fn put_own_unlocks<'a>(
     requires arc { arc < length deal.now.graph.arcs }
     ensures { OnOk result (shown keys.new.items ≡ shown keys.old.items ++ unlocks_in (history (entries_in known.now) arc) party) }
 {
-    if touches(deal, party, arc) {
+    if is_adjacent(deal, arc, party) {
         put_unlocks_on(keys, &known[arc as usize], party)?;
     }
     Ok(())

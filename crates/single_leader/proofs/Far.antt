@@ -11,7 +11,8 @@ use Rattle.swap_digraph.specs.Graph.{IsFeedback, IsHeight, IsDist, HasEnds}
 use Rattle.time_bounds.specs.Times.{need}
 use Rattle.leader_check.specs.Followers.{is_follower}
 use Rattle.leader_check.proofs.Followers.{follower_is, arc_of, arc_from, greatest-reached}
-use Rattle.leader_check.proofs.Paths.{is_among-true, in-is_among, Step, path_step, path_more, path_below, path_length}
+use Rattle.swap_digraph.proofs.Paths.{in-is_among, path_step, path_more, path_length}
+use Rattle.swap_digraph.proofs.Parts.{leader_among, not_leader, is_leader_not, meets_rest, part_to}
 use Rattle.leader_check.proofs.Bounds.{paths_to_leaders_are_bounded}
 use Rattle.single_leader.specs.Distance.{most_after, dist_before, dist_within, dist_of}
 
@@ -92,31 +93,6 @@ arc_below g v w ends e =
 
 -- The leader.
 
-leader_among : (l v : ℕ) → not (is_among v (l ∷ [])) ≡ false → v ≡ l
-leader_among l v e = go (is_among-true v (l ∷ []) (no_not (is_among v (l ∷ [])) e))
-  where
-    no_not : (b : Bool) → not b ≡ false → b ≡ true
-    no_not true h = refl
-    no_not false h = cc h
-
-    go : IsIn v (l ∷ []) → v ≡ l
-    go (inl q) = q
-    go (inr i) = absurd i
-
-not_leader : (l v : ℕ) → (v ≡ l → ⊥) → not (is_among v (l ∷ [])) ≡ true
-not_leader l v n = go (not (is_among v (l ∷ []))) (λ e. n (leader_among l v e))
-  where
-    go : (b : Bool) → (b ≡ false → ⊥) → b ≡ true
-    go true h = refl
-    go false h = absurd (h refl)
-
-is_leader_not : (l v : ℕ) → not (is_among v (l ∷ [])) ≡ true → v ≡ l → ⊥
-is_leader_not l v e q = go (is_among v (l ∷ [])) (in-is_among v (l ∷ []) (inl q)) e
-  where
-    go : (b : Bool) → b ≡ true → not b ≡ true → ⊥
-    go true h k = cc k
-    go false h k = cc h
-
 pub leader_follows_not : (g : Graph) (l v : ℕ) → v < g.n → l ≡ v → is_follower g (l ∷ []) v ≡ false
 leader_follows_not g l v b e = follower_is g (l ∷ []) v b ∙ ap not (in-is_among v (l ∷ []) (inl (sym e)))
 
@@ -135,62 +111,7 @@ before_is g l f v b = go (l == v) refl
     go true e = sym (before-other g l f v (leader_follows_not g l v b (eqb-true l v e)))
     go false e = sym (before-follower g l f v (other_follows g l v b (λ q. no (l == v) e (eq-eqb l v q))))
 
-last_in : (l : ℕ) (p : List ℕ) → last_is l p ≡ true → IsIn l p
-last_in l [] e = absurd (cc e)
-last_in l (u ∷ []) e = inl (sym (eqb-true u l e))
-last_in l (u ∷ w ∷ p) e = inr (last_in l (w ∷ p) e)
-
--- a path that ends in the leader, or that meets no leader
-abbrev Meets : ℕ → List ℕ → Type 0
-Meets l p = (last_is l p ≡ true) ⊎ (are_followers (l ∷ []) p ≡ true)
-
--- but at its end it doesn't meet the leader
-meets_rest : (g : Graph) (l u w : ℕ) (p : List ℕ) → is_path g (u ∷ w ∷ p) ≡ true → Meets l (u ∷ w ∷ p) → (not (is_among u (l ∷ [])) ≡ true) × Meets l (w ∷ p)
-meets_rest g l u w p e (inl last) = (not_leader l u (λ q. (path_step g u w p e).fresh (subst (λ x. IsIn x (w ∷ p)) (sym q) (last_in l (w ∷ p) last))), inl last)
-meets_rest g l u w p e (inr o) = let k = and_parts (not (is_among u (l ∷ []))) (are_followers (l ∷ []) (w ∷ p)) o in (k.0, inr k.1)
-
 module _ (g : Graph) (l : ℕ) where
-  -- the part of a path that leads to a follower on it
-  record Part (u v : ℕ) (p : List ℕ) : Type 0 where
-    part : List ℕ
-    path : is_path g part ≡ true
-    first : first_is u part ≡ true
-    last : last_is v part ≡ true
-    followers : are_followers (l ∷ []) part ≡ true
-    inside : (x : ℕ) → IsIn x part → IsIn x p
-
-  part_to : (u v : ℕ) (p : List ℕ) → is_path g (u ∷ p) ≡ true → Meets l (u ∷ p) → (v ≡ l → ⊥) → IsIn v (u ∷ p) → Part u v (u ∷ p)
-  part_to u v p e m n (inl q) = record {
-    part = u ∷ [];
-    path = lt-ltb u g.n (path_below g (u ∷ p) u e (inl refl));
-    first = eq-eqb u u refl;
-    last = eq-eqb u v (sym q);
-    followers = and_both (not (is_among u (l ∷ []))) true (not_leader l u (λ k. n (q ∙ k))) refl;
-    inside = λ x. elim [ inl k ↦ inl k | inr j ↦ absurd j ];
-  }
-  part_to u v [] e m n (inr i) = absurd i
-  part_to u v (w ∷ p) e m n (inr i) =
-      let s = path_step g u w p e in
-      let k = meets_rest g l u w p e m in
-      go s k.0 (part_to w v p s.rest k.1 n i)
-    where
-      go : Step g u w p → not (is_among u (l ∷ [])) ≡ true → Part w v (w ∷ p) → Part u v (u ∷ w ∷ p)
-      go s a r = more r.part r.path r.first r.last r.followers r.inside
-        where
-          more : (q : List ℕ) → is_path g q ≡ true → first_is w q ≡ true → last_is v q ≡ true → are_followers (l ∷ []) q ≡ true
-              → ((x : ℕ) → IsIn x q → IsIn x (w ∷ p)) → Part u v (u ∷ w ∷ p)
-          more [] k f t o m = absurd (cc k)
-          more (z ∷ q) k f t o m =
-              let same : z ≡ w = eqb-true z w f in
-              record {
-                part = u ∷ z ∷ q;
-                path = path_more g u z q s.below (λ j. s.fresh (m u j)) (ap (has_arc g u) same ∙ s.arc) k;
-                first = eq-eqb u u refl;
-                last = t;
-                followers = and_both (not (is_among u (l ∷ []))) (are_followers (l ∷ []) (z ∷ q)) a o;
-                inside = λ x. elim [ inl j ↦ inl j | inr j ↦ inr (m x j) ];
-              }
-
   -- every path to the leader is at most as long
   far-most : (u : ℕ) (p : List ℕ) (m : ℕ) → is_path g (u ∷ p) ≡ true → last_is l (u ∷ p) ≡ true → length p ≤ m → length p ≤ dist_within g l m u
   far-most u [] m e last le = omega arith

@@ -2,6 +2,7 @@
 use Rattle.std.proofs.Common.{◌≡◌, ◌⊎◌, inl, inr, ℕ, suc, zero, ◌+◌, ◌<◌, ◌≤◌, List, [], ◌∷◌, map, replicate, refl, sym, ap, ◌∙◌, arith, slice_index}
 use Rattle.std.proofs.Math.Path.{fun_ext}
 use Rattle.std.specs.List.{range_with_len}
+use Rattle.swap_base.proofs.Lists.{below_or}
 use Rattle.swap_digraph.specs.Value.{Graph}
 use Rattle.swap_digraph.specs.Graph.{parties, IsDist}
 use Rattle.leader_check.proofs.Rows.{row_reads, no_follower}
@@ -43,9 +44,6 @@ dists_low g l k row e le v =
     omega (arith, a, b)
 
 -- A further round changes nothing.
-
-below_or : (m n : ℕ) → (m < n) ⊎ (n ≤ m)
-below_or m n = grind arith
 
 pub distances_follow_arcs : DistancesFollowArcs
 distances_follow_arcs g l v ends strong leads feedback b =

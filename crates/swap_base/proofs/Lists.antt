@@ -1,6 +1,6 @@
 -- Facts on the words of specs/Lists, by induction on the lists.
-use Rattle.std.proofs.Common.{◌≡◌, ◌⊎◌, ℕ, suc, zero, ◌+◌, ◌<◌, ◌≤◌, ◌==◌, max, Bool, true, false, cond, not, ◌&&◌, ◌||◌, List, [], ◌∷◌, ◌++◌, length}
-use Rattle.std.proofs.Common.{filter, count_by, Option, Some, None, is_some, is_none, refl, sym, ap, ◌∙◌, subst, inl, inr, ⊎_elim, arith, get_or}
+use Rattle.std.proofs.Common.{◌≡◌, ◌⊎◌, ℕ, suc, zero, ◌+◌, ◌-◌, ◌<◌, ◌≤◌, ◌==◌, max, Bool, true, false, cond, not, ◌&&◌, ◌||◌, List, [], ◌∷◌, ◌++◌, length}
+use Rattle.std.proofs.Common.{filter, map, count_by, Option, Some, None, is_some, is_none, refl, sym, ap, ◌∙◌, subst, inl, inr, ⊎_elim, arith, get_or}
 use Rattle.std.proofs.Common.{append_assoc, append-nil, eqb-true, eq-eqb}
 use Rattle.std.proofs.lemmas.Bool.{false≢true}
 use Rattle.std.proofs.lemmas.List.Sums.{sum_by-cons}
@@ -302,3 +302,85 @@ from_whole (h ∷ b) x i =
 
 pub first_of-in : {A B : Type 0} (f : A → Option B) (xs : List A) (x : A) (y : B) → IsIn x xs → f x ≡ Some y → is_some (first_of f xs) ≡ true
 first_of-in f xs x y i e = let m = moment_from_in xs x i in first_of-now f xs m.0 x y m.1 e
+
+-- Tests.
+
+pub or_neither : (a b : Bool) → (a || b) ≡ false → (a ≡ false) × (b ≡ false)
+or_neither true b h = absurd (cc h)
+or_neither false b h = (refl, h)
+
+pub or-false : (b : Bool) → (b || false) ≡ b
+or-false true = refl
+or-false false = refl
+
+pub or-true : (b : Bool) → (b || true) ≡ true
+or-true true = refl
+or-true false = refl
+
+pub and_swap : (a b : Bool) → (a && b) ≡ (b && a)
+and_swap true true = refl
+and_swap true false = refl
+and_swap false true = refl
+and_swap false false = refl
+
+pub bool_or : (x : Bool) → (x ≡ true) ⊎ (x ≡ false)
+bool_or true = inl refl
+bool_or false = inr refl
+
+pub below_or : (m n : ℕ) → (m < n) ⊎ (n ≤ m)
+below_or m n = grind arith
+
+-- First answers.
+
+pub or_else-none : {B : Type 0} (o : Option B) → or_else o None ≡ o
+or_else-none None = refl
+or_else-none (Some x) = refl
+
+-- an answer leaves out what comes after it
+pub or_else-stays : {B : Type 0} (o r : Option B) → is_some o ≡ true → or_else o r ≡ o
+or_else-stays None r e = absurd (cc e)
+or_else-stays (Some x) r e = refl
+
+pub or_else-skips : {B : Type 0} (o r : Option B) → is_some o ≡ false → or_else o r ≡ r
+or_else-skips None r e = refl
+or_else-skips (Some x) r e = absurd (cc e)
+
+pub none_of : {B : Type 0} (o : Option B) → is_some o ≡ false → o ≡ None
+none_of None e = refl
+none_of (Some x) e = absurd (cc e)
+
+pub none_both : {B : Type 0} (o r : Option B) → or_else o r ≡ None → (o ≡ None) × (r ≡ None)
+none_both None r e = (refl, e)
+none_both (Some y) r e = absurd (cc e)
+
+pub none_in : {A B : Type 0} (f : A → Option B) (xs : List A) (x : A) → first_of f xs ≡ None → IsIn x xs → f x ≡ None
+none_in f [] x e i = absurd i
+none_in f (y ∷ xs) x e (inl q) = ap f q ∙ (none_both (f y) (first_of f xs) e).0
+none_in f (y ∷ xs) x e (inr i) = none_in f xs x (none_both (f y) (first_of f xs) e).1 i
+
+-- Images, places and ranges.
+
+pub in_place : {A : Type 0} (xs : List A) (k : ℕ) (d : A) → k < length xs → IsIn (get_or xs k d) xs
+in_place [] k d lt = absurd (omega arith)
+in_place (x ∷ xs) zero d lt = inl refl
+in_place (x ∷ xs) (suc k) d lt = inr (in_place xs k d (omega arith))
+
+pub in_map : {A B : Type 0} (f : A → B) (xs : List A) (x : A) → IsIn x xs → IsIn (f x) (map f xs)
+in_map f [] x i = i
+in_map f (y ∷ xs) x (inl e) = inl (ap f e)
+in_map f (y ∷ xs) x (inr i) = inr (in_map f xs x i)
+
+pub in_flat_map : {A B : Type 0} (f : A → List B) (xs : List A) (x : A) (y : B) → IsIn x xs → IsIn y (f x) → IsIn y (flat_map f xs)
+in_flat_map f [] x y i j = absurd i
+in_flat_map f (z ∷ xs) x y (inl e) j = in_append (f z) (flat_map f xs) y (inl (subst (λ w. IsIn y (f w)) e j))
+in_flat_map f (z ∷ xs) x y (inr i) j = in_append (f z) (flat_map f xs) y (inr (in_flat_map f xs x y i j))
+
+pub length-range : (k n : ℕ) → length (range_with_len k n) ≡ n
+length-range k zero = refl
+length-range k (suc n) = ap suc (length-range (k + 1) n)
+
+pub range-next : (a n : ℕ) → a < n → range_with_len a (n - a) ≡ a ∷ range_with_len (a + 1) (n - (a + 1))
+range-next a n lt = let e : n - a ≡ suc (n - (a + 1)) = omega arith in ap (range_with_len a) e
+
+pub range-none : (a n : ℕ) → n ≤ a → range_with_len a (n - a) ≡ []
+range-none a n le = let e : n - a ≡ 0 = omega arith in ap (range_with_len a) e

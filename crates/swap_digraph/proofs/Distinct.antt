@@ -6,6 +6,7 @@ use Rattle.std.proofs.lemmas.List.{length-take}
 use Rattle.std.proofs.lemmas.Bool.{false≢true}
 use Rattle.std.specs.List.{position_from}
 use Rattle.std.proofs.lemmas.Iterator.Adapters.{position_from-zero}
+use Rattle.swap_base.proofs.Lists.{none_both}
 use Rattle.swap_digraph.specs.Graph.{ends_in, HasDistinctEnds}
 use Rattle.swap_digraph.specs.Arcs.{fault_at, first_fault, first_fault_after, parallel, same_ends}
 use Rattle.swap_digraph.specs.declared.arc_ends.ArcEnds.{ArcEnds}
@@ -13,15 +14,14 @@ use Rattle.swap_digraph.specs.declared.fault.ArcFault.{ArcFault}
 use Rattle.swap_digraph.specs.declared.fault.ArcFault.TheVariants.{OutOfRange, SelfArc}
 use Rattle.swap_digraph.specs.declared.deal.Version.{Version}
 use Rattle.swap_digraph.specs.declared.deal.Version.TheVariants.{One}
-use Rattle.swap_digraph.proofs.Faults.{both_none}
 
 none_after : (n : ℕ) (before xs : List ArcEnds) (i : ℕ) (d : ArcEnds) → first_fault_after n One before xs ≡ None → i < length xs
     → (k : ℕ) × (fault_at n One (before ++ take i xs) k (get_or xs i d) ≡ None)
 none_after n before [] i d e lt = absurd (omega arith)
 none_after n before (x ∷ xs) zero d e lt =
-    (length before, subst (λ ys. fault_at n One ys (length before) x ≡ None) (sym (append-nil before)) (both_none _ _ e).0)
+    (length before, subst (λ ys. fault_at n One ys (length before) x ≡ None) (sym (append-nil before)) (none_both _ _ e).0)
 none_after n before (x ∷ xs) (suc i) d e lt =
-    let r = none_after n (before ++ x ∷ []) xs i d (both_none _ _ e).1 (omega arith) in
+    let r = none_after n (before ++ x ∷ []) xs i d (none_both _ _ e).1 (omega arith) in
     (r.0, subst (λ ys. fault_at n One ys r.0 (get_or xs i d) ≡ None) (append_assoc before (x ∷ []) (take i xs)) r.1)
 
 no_parallel : (n k : ℕ) (before : List ArcEnds) (a : ArcEnds) → fault_at n One before k a ≡ None → position (same_ends a) before ≡ None

@@ -4,6 +4,7 @@ use Rattle.std.proofs.Common.{get_or, take, drop, Option, Some, None, is_some, r
 use Rattle.std.proofs.Common.{ltb-true, position}
 use Rattle.std.proofs.lemmas.List.{nil_from_length, length-drop, take_more}
 use Rattle.swap_base.specs.Lists.{or_else}
+use Rattle.swap_base.proofs.Lists.{or_else-skips, or_else-stays, and_parts, none_both}
 use Rattle.swap_digraph.specs.declared.arc_ends.ArcEnds.{ArcEnds}
 use Rattle.swap_digraph.specs.declared.fault.ArcFault.{ArcFault}
 use Rattle.swap_digraph.specs.declared.fault.ArcFault.TheVariants.{OutOfRange, SelfArc}
@@ -27,21 +28,13 @@ step n v arcs before i d lt e =
     (first_fault_after n v (take i arcs ++ get_or arcs i d ∷ []) (drop (i + 1) arcs))) (sym e)
     ∙ ap (λ (xs : List ArcEnds). or_else (fault_at n v before (length before) (get_or arcs i d)) (first_fault_after n v xs (drop (i + 1) arcs))) (sym m)
 
-or_else_none : (r : Option ArcFault) (rest : Option ArcFault) → is_some r ≡ false → or_else r rest ≡ rest
-or_else_none None rest e = refl
-or_else_none (Some x) rest e = cc e
-
-or_else_some : (r : Option ArcFault) (rest : Option ArcFault) → is_some r ≡ true → or_else r rest ≡ r
-or_else_some None rest e = cc e
-or_else_some (Some x) rest e = refl
-
 -- this arc has none
 pub goes_on : (n : ℕ) (v : Version) (arcs before : List ArcEnds) (i : ℕ) (d : ArcEnds) (r total : Option ArcFault) → i < length arcs
     → before ≡ take i arcs → r ≡ fault_at n v before (length before) (get_or arcs i d) → is_some r ≡ false
     → fault_from n v arcs i ≡ total → fault_from n v arcs (i + 1) ≡ total
 goes_on n v arcs before i d r total lt e h none so_far =
     sym (step n v arcs before i d lt e ∙ ap (λ (o : Option ArcFault). or_else o (fault_from n v arcs (i + 1))) (sym h)
-    ∙ or_else_none r (fault_from n v arcs (i + 1)) none) ∙ so_far
+    ∙ or_else-skips r (fault_from n v arcs (i + 1)) none) ∙ so_far
 
 -- this arc has the first
 pub is_found : (n : ℕ) (v : Version) (arcs before : List ArcEnds) (i : ℕ) (d : ArcEnds) (r total : Option ArcFault) → i < length arcs
@@ -49,7 +42,7 @@ pub is_found : (n : ℕ) (v : Version) (arcs before : List ArcEnds) (i : ℕ) (d
     → fault_from n v arcs i ≡ total → r ≡ total
 is_found n v arcs before i d r total lt e h some so_far =
     sym (step n v arcs before i d lt e ∙ ap (λ (o : Option ArcFault). or_else o (fault_from n v arcs (i + 1))) (sym h)
-    ∙ or_else_some r (fault_from n v arcs (i + 1)) some) ∙ so_far
+    ∙ or_else-stays r (fault_from n v arcs (i + 1)) some) ∙ so_far
 
 pub is_none : (n : ℕ) (v : Version) (arcs : List ArcEnds) (i : ℕ) (total : Option ArcFault) → length arcs ≤ i → fault_from n v arcs i ≡ total → None ≡ total
 is_none n v arcs i total le so_far =
@@ -62,14 +55,10 @@ pub record IsSound (n : ℕ) (a : ArcEnds) : Type 0 where
   pub to : a.to < n
   pub apart : a.from ≢ a.to
 
-and_true : (a b : Bool) → (a && b) ≡ true → (a ≡ true) × (b ≡ true)
-and_true true b h = (refl, h)
-and_true false b h = absurd (cc h)
-
 by_tests : (n k : ℕ) (a : ArcEnds) (within same : Bool) (rest : Option ArcFault) → (nat_lt a.from n && nat_lt a.to n) ≡ within → (a.from == a.to) ≡ same
     → cond (not within) (Some (OutOfRange k)) (cond same (Some (SelfArc k)) rest) ≡ None → IsSound n a
 by_tests n k a true false rest w s e =
-    let t = and_true (nat_lt a.from n) (nat_lt a.to n) w in
+    let t = and_parts (nat_lt a.from n) (nat_lt a.to n) w in
     record { from = ltb-true a.from n t.0; to = ltb-true a.to n t.1; apart = eqb-false a.from a.to s }
 by_tests n k a true true rest w s e = cc e
 by_tests n k a false same rest w s e = cc e
@@ -78,15 +67,11 @@ sound_at : (n : ℕ) (v : Version) (before : List ArcEnds) (k : ℕ) (a : ArcEnd
 unfolding fault_at
 sound_at n v before k a e = by_tests n k a (nat_lt a.from n && nat_lt a.to n) (a.from == a.to) (parallel v k (position (same_ends a) before)) refl refl e
 
-pub both_none : (o rest : Option ArcFault) → or_else o rest ≡ None → (o ≡ None) × (rest ≡ None)
-both_none None rest e = (refl, e)
-both_none (Some x) rest e = cc e
-
 sound_after : (n : ℕ) (v : Version) (before arcs : List ArcEnds) (i : ℕ) (d : ArcEnds) → first_fault_after n v before arcs ≡ None → i < length arcs
     → IsSound n (get_or arcs i d)
 sound_after n v before [] i d e lt = absurd (omega arith)
-sound_after n v before (a ∷ arcs) zero d e lt = sound_at n v before (length before) a (both_none _ _ e).0
-sound_after n v before (a ∷ arcs) (suc i) d e lt = sound_after n v (before ++ a ∷ []) arcs i d (both_none _ _ e).1 (omega arith)
+sound_after n v before (a ∷ arcs) zero d e lt = sound_at n v before (length before) a (none_both _ _ e).0
+sound_after n v before (a ∷ arcs) (suc i) d e lt = sound_after n v (before ++ a ∷ []) arcs i d (none_both _ _ e).1 (omega arith)
 
 pub has_ends : (n : ℕ) (v : Version) (arcs : List ArcEnds) → None ≡ first_fault n v arcs → HasEnds (record { n = n; arcs = arcs })
 unfolding first_fault

@@ -1,3 +1,5 @@
 pub mod Ranges
 pub mod Faults
 pub mod Distinct
+pub mod Paths
+pub mod Parts

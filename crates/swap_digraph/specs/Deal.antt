@@ -1,5 +1,5 @@
 -- Words on a deal, and the sizes of its parts.
-use Rattle.std.specs.Prelude.{◌≡◌, ◌==◌, ◌&&◌, ◌<◌, ◌≤◌, ◌^◌, ℕ, Bool, List, [], length, slice_index, slice_index_or}
+use Rattle.std.specs.Prelude.{◌≡◌, ◌==◌, ◌&&◌, ◌||◌, ◌<◌, ◌≤◌, ◌^◌, ℕ, Bool, List, [], length, slice_index, slice_index_or}
 use Rattle.std.specs.List.{range_with_len}
 use Rattle.swap_digraph.specs.Graph.{ends, HasEnds}
 use Rattle.swap_digraph.specs.Value.{Graph}
@@ -16,6 +16,10 @@ party d a = (ends d.graph a).from
 -- the counterparty of arc a, which it enters
 abbrev pub counterparty : Deal → ℕ → ℕ
 counterparty d a = (ends d.graph a).to
+
+-- v is one of the two parties of arc a
+abbrev pub touches : Deal → ℕ → ℕ → Bool
+touches d v a = (v == party d a) || (v == counterparty d a)
 
 -- the units of arc a
 abbrev pub amount : Deal → ℕ → ℕ

@@ -15,7 +15,8 @@ use Rattle.swap_digraph.specs.Deal.{leader_of, counterparty}
 use Rattle.swap_rules.specs.Accepted.{IsTimed, IsAccepted}
 use Rattle.swap_laws.proofs.Times.{TimelockLaw, HashkeyLaw, TimeLaw, OfTimelocks, OfHashkeys, TimesLaw, times_of}
 use Rattle.swap_laws.proofs.Words.{enters, leaves}
-use Rattle.swap_laws.proofs.Graph.{path_law, dist_falls}
+use Rattle.leader_check.proofs.Bounds.{path_law}
+use Rattle.swap_laws.proofs.Graph.{dist_falls}
 use Rattle.swap_laws.specs.Laws.{AcceptedIsWellSized}
 use Rattle.time_bounds.specs.Times as times
 

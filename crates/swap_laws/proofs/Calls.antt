@@ -22,7 +22,7 @@ use Rattle.swap_rules.specs.Conduct.{is_first_key, keeps, keeps_at, IsConducted}
 use Rattle.swap_rules.specs.Late.{ref_of, counts, is_done, late_at}
 use Rattle.swap_rules.specs.Findings.{rules_of}
 use Rattle.swap_laws.proofs.Words.{and_three, and_five, same_terms-true, leaves, call_by-act}
-use Rattle.swap_laws.proofs.History.{published_done, of_publish, published-past}
+use Rattle.ledger_core.proofs.History.{published_done, of_publish, published-past}
 use Rattle.swap_laws.specs.Laws.{IsOnTime}
 
 module _ (d : Deal) (b : Histories) (v : ℕ) (conducted : IsConducted d b v) where

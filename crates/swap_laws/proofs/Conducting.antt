@@ -11,7 +11,7 @@ use Rattle.swap_base.specs.Lists.{first_of, IsIn, Moment, moments, IsMoment, mom
 use Rattle.swap_base.proofs.Lists.{first_at, first_of-in, all_moments_push, list_all-from, list_any-at, and_parts, and_both, in_from_moment}
 use Rattle.swap_base.proofs.Lists.{moment_from_in, in_whole, from_whole}
 use Rattle.swap_digraph.specs.declared.deal.Deal.{Deal}
-use Rattle.swap_digraph.specs.Deal.{party, counterparty, hashlock_of}
+use Rattle.swap_digraph.specs.Deal.{party, counterparty, hashlock_of, touches}
 use Rattle.hashkey_path.specs.declared.hashkey.Hashkey.{Hashkey}
 use Rattle.hashkey_path.specs.Hashkey.{same_key, is_valid}
 use Rattle.escrow_core.specs.declared.reply.Reply.{Reply}
@@ -25,13 +25,13 @@ use Rattle.ledger_core.specs.declared.entry.Sender.TheVariants.{Party}
 use Rattle.ledger_core.specs.declared.entry.What.{What}
 use Rattle.ledger_core.specs.declared.entry.What.TheVariants.{Call as Made}
 use Rattle.ledger_core.specs.declared.entry.Entry.{Entry}
-use Rattle.ledger_core.specs.History.{height, published, rows, reply_to, fit, is_full, IsLegal, IsLegalMoment, sent_by}
+use Rattle.ledger_core.specs.History.{height, published, rows, reply_to, fit, is_full, IsLegal, IsLegalMoment, sent_by, call_in}
 use Rattle.ledger_core.specs.Book.{Histories, history, IsLegalBook}
-use Rattle.swap_rules.specs.Party.{has_expired, is_ready, call_in, call_by, key_in, first_key}
+use Rattle.swap_rules.specs.Party.{has_expired, is_ready, call_by, key_in, first_key}
 use Rattle.swap_rules.specs.Conduct.{is_publish, is_first_key, keeps, keeps_at, IsConducted}
 use Rattle.swap_laws.specs.Machine.{KeepsOwn, KeepsKey, KeepsRules, Begins, Knows, entry_of, called}
 use Rattle.swap_laws.proofs.Words.{past_end, call_of_parts, act_of, key_parts, same_key-refl}
-use Rattle.swap_laws.proofs.History.{is_some-of, not-true-of}
+use Rattle.ledger_core.proofs.History.{is_some-of, not-true-of}
 use Rattle.swap_laws.proofs.Prefixes.{begins_refl, not_any-in, same_or_not, at_end}
 use Rattle.swap_laws.proofs.Growth.{Grows, is_ready-more, may-more, has_origin-more}
 
@@ -185,7 +185,7 @@ has_room d a past p c f e = false≢true (sym (go c) ∙ ap is_sender_full e)
     go Refund = rw f (first_row-not (tail (rows d a past p Refund)) refl)
     go (Transfer to units) = rw f (first_row-not (tail (rows d a past p (Transfer to units))) refl)
 
-pub next_call : (d : Deal) (a : ℕ) (h : List Entry) (p : ℕ) (c : Call) → IsTrue ((p == party d a) || (p == counterparty d a)) → IsTrue (fit d a c)
+pub next_call : (d : Deal) (a : ℕ) (h : List Entry) (p : ℕ) (c : Call) → IsTrue (touches d p a) → IsTrue (fit d a c)
     → Next d a h (called d a h p c) (Party p) (Made c)
 next_call d a h p c two fits = go (is_full h p) refl
   where

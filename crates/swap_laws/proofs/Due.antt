@@ -9,7 +9,7 @@ use Rattle.swap_digraph.specs.declared.deal.Mode.{Mode}
 use Rattle.swap_digraph.specs.declared.deal.Mode.TheVariants.{Timelocks, Hashkeys}
 use Rattle.swap_digraph.specs.declared.deal.Deal.{Deal}
 use Rattle.swap_digraph.specs.Graph.{leaving, entering}
-use Rattle.swap_digraph.specs.Deal.{party, counterparty, locks, leads, hashlock_of}
+use Rattle.swap_digraph.specs.Deal.{party, counterparty, locks, leads, hashlock_of, touches}
 use Rattle.hashkey_path.specs.declared.hashkey.Hashkey.{Hashkey}
 use Rattle.hashkey_path.specs.Hashkey.{is_valid}
 use Rattle.escrow_core.specs.Terms.{hashlock_in, terms_of}
@@ -34,7 +34,7 @@ use Rattle.swap_laws.proofs.Words.{same_terms-refl, key_without_parts, and_three
 use Rattle.swap_laws.proofs.Words.{unlock_rule, claim_rule, refund_rule, or-left}
 use Rattle.swap_laws.proofs.Expiry.{still_expired}
 use Rattle.swap_laws.proofs.Accepted.{times_law}
-use Rattle.swap_laws.proofs.History.{published_done, opened_done, of_publish, of_unlock, published-past, not-true-of, lock-below}
+use Rattle.ledger_core.proofs.History.{published_done, opened_done, of_publish, of_unlock, published-past, not-true-of, lock-below}
 use Rattle.swap_laws.proofs.Fitting.{terms_fit, key_fits}
 use Rattle.swap_laws.proofs.Prefixes.{begins_height, from_flat_map, list_any-none, not_any-in, none_called}
 use Rattle.swap_laws.proofs.Growth.{Grows, opened-more, triggered-more, is_published-more, correct_published, is_ready-more, ready_good, may-more}
@@ -45,7 +45,7 @@ pub record IsDue (d : Deal) (v : ℕ) (w : Wallet) (signed : ℕ → Option Hash
   pub passes : test_of slot (Some c) ≡ true
   pub fresh : has_called v (test_of slot) (history known a) ≡ false
   pub below : a < length d.graph.arcs
-  pub of_the_two : IsTrue ((v == party d a) || (v == counterparty d a))
+  pub of_the_two : IsTrue (touches d v a)
   pub fits : IsTrue (fit d a c)
   pub rule : KeepsOwn d b (noted signed c) v a (history b a) c
   pub keeps_signed : (i : ℕ) (key : Hashkey) → signed i ≡ Some key → noted signed c i ≡ Some key
@@ -92,10 +92,10 @@ module _ (d : Deal) (v : ℕ) (w : Wallet) (signed : ℕ → Option Hashkey) (b 
   legal_on : (a : ℕ) → a < length d.graph.arcs → IsLegal d a (history b a)
   legal_on a l = legal.legal a (rw legal.one_each l)
 
-  leaving_two : (a : ℕ) → IsIn a (leaving d.graph v) → IsTrue ((v == party d a) || (v == counterparty d a))
+  leaving_two : (a : ℕ) → IsIn a (leaving d.graph v) → IsTrue (touches d v a)
   leaving_two a i = or-left (v == party d a) _ (eq-eqb v (party d a) (sym (leaves d v a i).1))
 
-  entering_two : (a : ℕ) → IsIn a (entering d.graph v) → IsTrue ((v == party d a) || (v == counterparty d a))
+  entering_two : (a : ℕ) → IsIn a (entering d.graph v) → IsTrue (touches d v a)
   entering_two a i = or-right (v == party d a) _ (eq-eqb v (counterparty d a) (sym (enters d v a i).1))
 
   -- what v published on a leaving arc is correct

@@ -21,10 +21,12 @@ use Rattle.swap_rules.specs.Party.{is_correct, height_in, is_good, is_ready, rea
 use Rattle.swap_rules.specs.Conduct.{is_first_key, keeps, IsConducted}
 use Rattle.swap_rules.specs.Late.{height_of_opening, base_of, trigger_height, when, ref_of}
 use Rattle.swap_rules.specs.Outcome.{is_claim, is_got, IsEnded}
-use Rattle.swap_laws.proofs.Words.{and_five, in-is_among, unlock_rule, claim_rule, enters, act_of}
+use Rattle.swap_digraph.proofs.Paths.{in-is_among}
+use Rattle.swap_laws.proofs.Words.{and_five, unlock_rule, claim_rule, enters, act_of}
 use Rattle.swap_laws.proofs.Times.{TimesLaw}
-use Rattle.swap_laws.proofs.History.{refunded_done, of_refund, opened-now, Done, opened_done, OfUnlock, of_unlock, height-past, published-past}
-use Rattle.swap_laws.proofs.History.{legal-past, claim_claims, is_some-of, lock-below}
+use Rattle.ledger_core.proofs.History.{refunded_done, of_refund, opened-now, Done, opened_done, OfUnlock, of_unlock, height-past, published-past}
+use Rattle.swap_laws.proofs.Effects.{claim_claims}
+use Rattle.ledger_core.proofs.History.{legal-past, is_some-of, lock-below}
 use Rattle.swap_laws.proofs.Openings.{IsOpenBy, open_by_more, is_open_by, unlock_opens_by, Expired, expired_lock, least-expired, moment_within}
 use Rattle.swap_laws.specs.Laws.{IsOnTime}
 use Rattle.swap_laws.proofs.Calls.{kept, legal_at, correct, done_in_time, counted_unlock, counted_claim, correct_past}

@@ -12,7 +12,7 @@ use Rattle.swap_laws.proofs.Entering.{valid_of_unlock}
 use Rattle.swap_laws.proofs.Times.{TimesLaw}
 use Rattle.swap_laws.proofs.Openings.{expired_lock, has_expired-lock}
 use Rattle.swap_laws.proofs.Prefixes.{in_front}
-use Rattle.swap_laws.proofs.History.{opened_done, of_unlock, published-past, opened-now, is_some-of, not-true, lock-below}
+use Rattle.ledger_core.proofs.History.{opened_done, of_unlock, published-past, opened-now, is_some-of, not-true, lock-below}
 use Rattle.swap_laws.specs.Machine.{Begins}
 
 module _ (d : Deal) (law : TimesLaw d) (a : ℕ) (l : a < length d.graph.arcs) (k h : List Entry) (legal : IsLegal d a h) (b : Begins k h)

@@ -17,8 +17,8 @@ use Rattle.ledger_core.specs.History.{fit}
 use Rattle.swap_rules.specs.Accepted.{IsAccepted}
 use Rattle.swap_laws.proofs.Times.{no_path, path_of, path_of_valid}
 use Rattle.swap_laws.proofs.Accepted.{accepted_is_well_sized}
-use Rattle.swap_laws.proofs.History.{not-false}
-use Rattle.swap_laws.proofs.Graph.{path_length, path_below}
+use Rattle.ledger_core.proofs.History.{not-false}
+use Rattle.swap_digraph.proofs.Paths.{path_length, path_below}
 
 six : (a b c e f g : Bool) → a ≡ true → b ≡ true → c ≡ true → e ≡ true → f ≡ true → g ≡ true → (a && b && c && e && f && g) ≡ true
 six a b c e f g ha hb hc he hf hg = rw (ha, hb, hc, he, hf, hg) refl

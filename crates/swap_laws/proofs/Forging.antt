@@ -25,12 +25,12 @@ use Rattle.swap_rules.specs.Party.{is_ready, call_by, key_in, first_key}
 use Rattle.swap_rules.specs.Conduct.{is_first_key, has_origin, carries, keeps, IsConducted, extends_without, is_alone}
 use Rattle.swap_rules.specs.Forged.{forges, has_made, has_forged_suffix}
 use Rattle.swap_rules.specs.Accepted.{IsAccepted, IsTimed}
-use Rattle.swap_laws.proofs.Words.{bytes_eq-true, bytes_eq-refl, same_key-true, same_key-refl, and_three, and_five, is_among-true, leaves, call_by-act}
+use Rattle.swap_laws.proofs.Words.{bytes_eq-true, bytes_eq-refl, same_key-true, same_key-refl, and_three, and_five, leaves, call_by-act}
 use Rattle.swap_laws.proofs.SafeHashkeys.{extended_without}
 use Rattle.swap_laws.proofs.Calls.{kept}
-use Rattle.swap_laws.proofs.History.{of_unlock, clear_at, not-false, not-true, lock-below}
+use Rattle.ledger_core.proofs.History.{of_unlock, clear_at, not-false, not-true, lock-below}
 use Rattle.swap_laws.proofs.Accepted.{one_leader, arc_has}
-use Rattle.swap_laws.proofs.Graph.{path_length, path_snoc, suffix_from, followers-append}
+use Rattle.swap_digraph.proofs.Paths.{path_length, path_snoc, suffix_from, followers-append, is_among-true}
 use Rattle.swap_laws.proofs.Prefixes.{in_any}
 use Rattle.swap_laws.specs.Laws.{NothingIsForged}
 

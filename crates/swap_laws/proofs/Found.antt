@@ -5,7 +5,7 @@ use Rattle.std.specs.List.{list_any, list_all, range_with_len, flat_map, cons_op
 use Rattle.std.proofs.lemmas.Bool.{false≢true}
 use Rattle.std.specs.Prelude.{filter_map}
 use Rattle.swap_base.specs.Lists.{IsIn, moments}
-use Rattle.swap_base.proofs.Lists.{list_any-in, list_all-from, and_both, in_append, at_moment, all_from_list_all, in_range}
+use Rattle.swap_base.proofs.Lists.{list_any-in, list_all-from, and_both, in_append, at_moment, all_from_list_all, in_range, in_flat_map}
 use Rattle.swap_digraph.specs.Deal.{party}
 use Rattle.swap_digraph.specs.declared.deal.Deal.{Deal}
 use Rattle.swap_digraph.specs.Graph.{arcs}
@@ -99,11 +99,6 @@ nothing_found d conforming b legal e =
     }
 
 -- What is found of a party stands in the list.
-
-in_flat_map : {A B : Type 0} (f : A → List B) (xs : List A) (x : A) (y : B) → IsIn x xs → IsIn y (f x) → IsIn y (flat_map f xs)
-in_flat_map f [] x y i j = absurd i
-in_flat_map f (z ∷ xs) x y (inl e) j = in_append (f z) (flat_map f xs) y (inl (subst (λ w. IsIn y (f w)) e j))
-in_flat_map f (z ∷ xs) x y (inr i) j = in_append (f z) (flat_map f xs) y (inr (in_flat_map f xs x y i j))
 
 failing_in : {A : Type 0} (say : A → Finding) (test : A → Bool) (xs : List A) (x : A) → IsIn x xs → test x ≡ false
     → IsIn (say x) (filter_map (λ m. if test m then None else Some (say m)) xs)

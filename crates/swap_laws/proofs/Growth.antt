@@ -14,7 +14,7 @@ use Rattle.ledger_core.specs.History.{accepted, Publication, publication, publis
 use Rattle.ledger_core.specs.Book.{Histories, history}
 use Rattle.swap_rules.specs.Party.{is_correct_in, is_correct, height_in, is_good, is_ready, leads_one}
 use Rattle.swap_rules.specs.Conduct.{has_seen, has_origin, carries, extends_without, is_alone}
-use Rattle.swap_laws.proofs.History.{is_some-of}
+use Rattle.ledger_core.proofs.History.{is_some-of}
 use Rattle.swap_laws.proofs.Prefixes.{list_any-more, in_any}
 use Rattle.swap_laws.specs.Machine.{Begins}
 use Rattle.time_bounds.specs.Times as times

@@ -25,8 +25,9 @@ use Rattle.swap_rules.specs.Conduct.{IsConducted, carries}
 use Rattle.swap_rules.specs.Forged.{forges}
 use Rattle.swap_rules.specs.Outcome.{is_got, got, lost, outcome}
 use Rattle.swap_laws.proofs.Entering.{DueUnlock, valid_of_unlock}
-use Rattle.swap_laws.proofs.Words.{is_among-true, leaves}
-use Rattle.swap_laws.proofs.History.{opened_done, of_unlock, published-past, is_some-of, not-false}
+use Rattle.swap_digraph.proofs.Paths.{is_among-true}
+use Rattle.swap_laws.proofs.Words.{leaves}
+use Rattle.ledger_core.proofs.History.{opened_done, of_unlock, published-past, is_some-of, not-false}
 use Rattle.swap_laws.specs.Laws.{IsUnforged}
 use Rattle.swap_laws.proofs.Calls.{legal_at, OwnPublish, own_publish, or-left_false, unlock_ready}
 

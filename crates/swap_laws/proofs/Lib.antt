@@ -2,7 +2,7 @@
 
 -- words and single histories
 pub mod Words
-pub mod History
+pub mod Effects
 pub mod Units
 -- the digraph and the times of a deal
 pub mod Graph

@@ -6,7 +6,7 @@ use Rattle.std.proofs.lemmas.List.Sums.{sum_by_push}
 use Rattle.std.specs.Prelude.{map}
 use Rattle.swap_base.specs.Lists.{IsIn, IsMoment}
 use Rattle.swap_base.proofs.Lists.{Order, moments_in_order, any_at, list_any-in, in_filter, from_filter, some_fails_all, and_parts, and_both}
-use Rattle.swap_base.proofs.Lists.{in_from_moment, all_moments_front, first_of-front, Earlier, Same, Later}
+use Rattle.swap_base.proofs.Lists.{in_from_moment, all_moments_front, first_of-front, Earlier, Same, Later, in_map}
 use Rattle.swap_digraph.specs.declared.deal.Deal.{Deal}
 use Rattle.swap_digraph.specs.Deal.{counterparty, locks}
 use Rattle.hashkey_path.specs.declared.hashkey.Hashkey.{Hashkey}
@@ -21,8 +21,8 @@ use Rattle.ledger_core.specs.History.{IsLegal, IsLegalMoment}
 use Rattle.ledger_core.specs.declared.facts.Settlement.TheVariants.{Refunded}
 use Rattle.swap_rules.specs.Party.{expiry, has_expired, least_expiry}
 use Rattle.swap_laws.specs.Laws.{IsClaimedBy}
-use Rattle.swap_laws.proofs.History.{not-true-of, Act, Done, opened_done, claimed_done, of_unlock, height-past, opened-now, is_some-of, unlock_opens}
-use Rattle.swap_laws.proofs.History.{claim_claims}
+use Rattle.swap_laws.proofs.Effects.{unlock_opens, claim_claims}
+use Rattle.ledger_core.proofs.History.{not-true-of, Act, Done, opened_done, claimed_done, of_unlock, height-past, opened-now, is_some-of}
 
 -- A lock that is open at a height of at most t.
 pub record IsOpenBy (h : List Entry) (i t : ℕ) : Type 0 where
@@ -122,11 +122,6 @@ from_map f [] y i = absurd i
 from_map f (x ∷ xs) y (inl e) = (x, inl refl, sym e)
 from_map f (x ∷ xs) y (inr i) = let r = from_map f xs y i in (r.0, inr r.1, r.2)
 
-pub in_image : {A B : Type 0} (f : A → B) (xs : List A) (x : A) → IsIn x xs → IsIn (f x) (map f xs)
-in_image f [] x i = i
-in_image f (y ∷ xs) x (inl e) = inl (ap f e)
-in_image f (y ∷ xs) x (inr i) = inr (in_image f xs x i)
-
 -- the closed lock with the least expiry
 pub record FirstExpiry (d : Deal) (a : ℕ) (t : Terms) (o : ℕ → Bool) : Type 0 where
   pub lock : ℕ
@@ -151,7 +146,7 @@ pub refund_expiry-low : (d : Deal) (a : ℕ) (t : Terms) (o : ℕ → Bool) (i :
     → refund_expiry d a t o ≤ expiry_in d.mode d a t i
 refund_expiry-low d a t o i w h =
     least-below (map (expiry_in d.mode d a t) (closed_locks d o)) (expiry_in d.mode d a t i)
-    (in_image (expiry_in d.mode d a t) (closed_locks d o) i (in_filter (λ i. not (o i)) i (locks d) w (ap not h)))
+    (in_map (expiry_in d.mode d a t) (closed_locks d o) i (in_filter (λ i. not (o i)) i (locks d) w (ap not h)))
 
 -- a closed lock that is expired at a height
 pub record Expired (d : Deal) (a : ℕ) (h : List Entry) (at : ℕ) : Type 0 where

@@ -6,9 +6,9 @@ use Rattle.std.proofs.lemmas.Bool.{false≢true}
 use Rattle.swap_base.specs.Lists.{IsIn, IsMoment}
 use Rattle.swap_base.proofs.Lists.{Order, moments_in_order, Earlier, Same, Later, any_at, list_any-in, in_from_moment, in_append, from_append}
 use Rattle.ledger_core.specs.declared.entry.Entry.{Entry}
-use Rattle.ledger_core.specs.History.{height, sent_by}
-use Rattle.swap_rules.specs.Party.{call_in, call_by}
-use Rattle.swap_laws.proofs.History.{height-append, not-true}
+use Rattle.ledger_core.specs.History.{height, sent_by, call_in}
+use Rattle.swap_rules.specs.Party.{call_by}
+use Rattle.ledger_core.proofs.History.{height_append, not-true}
 use Rattle.swap_laws.specs.Machine.{Begins}
 
 -- what stands in the whole stands in a piece
@@ -44,7 +44,7 @@ pub moment_more : {A : Type 0} (k h past : List A) (x : A) → Begins k h → Is
 moment_more k h past x b m = (m.0 ++ b.0, b.1 ∙ (ap (λ l. l ++ b.0) m.1 ∙ append_assoc past (x ∷ m.0) b.0))
 
 pub begins_height : (k h : List Entry) → Begins k h → height k ≤ height h
-begins_height k h b = let e : height h ≡ height k + height b.0 = ap height b.1 ∙ height-append k b.0 in omega arith
+begins_height k h b = let e : height h ≡ height k + height b.0 = ap height b.1 ∙ height_append k b.0 in omega arith
 
 -- what stands below the height of a prefix stands in the prefix
 pub in_front : (k h past : List Entry) (x : Entry) → Begins k h → IsMoment h past x → height past < height k → IsMoment k past x

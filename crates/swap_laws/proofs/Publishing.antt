@@ -4,7 +4,7 @@ use Rattle.std.proofs.Common.{not, if◌then◌else◌, ◌&&◌, ◌||◌, List
 use Rattle.std.proofs.Common.{inr, arith, eq-eqb, lt-ltb, le-ltb, mul-le-mul_right, ◌*◌}
 use Rattle.std.proofs.lemmas.Bool.{false≢true}
 use Rattle.swap_base.specs.Lists.{or_else, IsIn, IsMoment}
-use Rattle.swap_base.proofs.Lists.{list_all-from, in_range, in_filter, and_both, greatest-below, first_of-append, in_append}
+use Rattle.swap_base.proofs.Lists.{list_all-from, in_range, in_filter, and_both, greatest-below, first_of-append, in_append, bool_or}
 use Rattle.time_bounds.specs.Times.{need}
 use Rattle.swap_digraph.specs.declared.deal.Deal.{Deal}
 use Rattle.swap_digraph.specs.Graph.{is_path, last_is, ends, arcs, leaving, entering, is_among, are_followers}
@@ -22,13 +22,14 @@ use Rattle.swap_rules.specs.Conduct.{is_publish, keeps}
 use Rattle.swap_rules.specs.Late.{when, ref_of}
 use Rattle.swap_rules.specs.Outcome.{is_claim, IsEnded}
 use Rattle.swap_rules.specs.Accepted.{IsAccepted}
-use Rattle.swap_laws.proofs.Words.{same_terms-refl, publish_rule, same_terms-true, enters, act_of, and_three, in-is_among, leaves}
+use Rattle.swap_laws.proofs.Words.{same_terms-refl, publish_rule, same_terms-true, enters, act_of, and_three, leaves}
 use Rattle.swap_laws.proofs.Times.{TimesLaw}
 use Rattle.swap_laws.proofs.Accepted.{times_law, arc_has, get_in}
-use Rattle.swap_laws.proofs.Units.{units, settled-published}
-use Rattle.swap_laws.proofs.History.{Act, published_done, height-past, published-past, legal-past, not-full, from_clear, accepted-now}
+use Rattle.ledger_core.proofs.Units.{units, settled-published}
+use Rattle.ledger_core.proofs.History.{Act, published_done, height-past, published-past, legal-past, not-full, from_clear, accepted-now}
 use Rattle.swap_laws.proofs.Refunds.{counterparty_empty, NoOwnTransfer, no_own_transfer, counted_publish}
-use Rattle.swap_laws.proofs.Graph.{path_snoc, suffix_from, followers-append, height_below}
+use Rattle.swap_digraph.proofs.Paths.{path_snoc, suffix_from, followers-append, in-is_among}
+use Rattle.swap_laws.proofs.Graph.{height_below}
 use Rattle.swap_laws.proofs.Calls.{kept, legal_at, own_publish, OwnPublish, done_in_time}
 use Rattle.swap_laws.specs.Laws.{AllConform}
 use Rattle.time_bounds.specs.Times as times
@@ -183,13 +184,9 @@ module _ (d : Deal) (b : Histories) (k : IsAccepted d) (legal : IsLegalBook d b)
       let early = g.early in
       record { contract = g.contract; published = g.published; correct = g.correct; early = omega arith }
 
-  bool_split : (x : Bool) → (x ≡ true) ⊎ (x ≡ false)
-  bool_split true = inl refl
-  bool_split false = inr refl
-
   good_by : (m : ℕ) → m ≤ k.height → (u : ℕ) → u < d.graph.n → Reach m u → (a : ℕ) → IsIn a (leaving d.graph u) → IsGoodBy d b a ((m + 1) * d.delta)
   good_by zero h u below r a w =
-      elim (bool_split (leads_one d u)) [
+      elim (bool_or (leads_one d u)) [
         | inl lead ↦ leader_by zero u below lead a w
         | inr lead ↦ absurd (not_reached u below lead r)
       ]
@@ -199,7 +196,7 @@ module _ (d : Deal) (b : Histories) (k : IsAccepted d) (legal : IsLegalBook d b)
           let z : length (u ∷ []) ≤ 0 =
           r (u ∷ []) (lt-ltb u d.graph.n below) (and_both (not (is_among u d.leaders)) true (ap not lead) refl) (eq-eqb u u refl) in omega arith
   good_by (suc m) h u below r a w =
-      elim (bool_split (leads_one d u)) [
+      elim (bool_or (leads_one d u)) [
         | inl lead ↦ leader_by (suc m) u below lead a w
         | inr lead ↦
             let low : (m + 1) * d.delta ≤ times.open_by d.start d.delta d.bound = (let z = height_low m (omega arith) in omega arith) in

@@ -33,16 +33,17 @@ use Rattle.swap_rules.specs.Outcome.{is_claim, outcome, IsEnded}
 use Rattle.swap_laws.specs.Laws.{IsOnTime, IsUnforged, HasRefunds, EveryBookIsSafe}
 use Rattle.swap_laws.proofs.Times.{TimeLaw, OfTimelocks, OfHashkeys, TimesLaw}
 use Rattle.swap_laws.proofs.Openings.{first_expiry, refund_expiry-low}
-use Rattle.swap_laws.proofs.History.{opened-past, Act, Done, published_done, claimed_done, of_publish, of_claim, of_transfer, clear_at, height-past}
-use Rattle.swap_laws.proofs.History.{published-past, settled-past, triggered-past, settled-now, is_some-of, not-true, not-full, from_clear}
-use Rattle.swap_laws.proofs.History.{accepted-now}
+use Rattle.ledger_core.proofs.History.{opened-past, Act, Done, published_done, claimed_done, of_publish, of_claim, of_transfer, clear_at, height-past}
+use Rattle.ledger_core.proofs.History.{published-past, settled-past, triggered-past, settled-now, is_some-of, not-true, not-full, from_clear}
+use Rattle.ledger_core.proofs.History.{accepted-now}
 use Rattle.swap_laws.proofs.Entering.{ready_below}
 use Rattle.swap_laws.proofs.Calls.{kept, legal_at, own_publish, done_in_time}
 use Rattle.swap_laws.proofs.SafeTimelocks.{timelocks_are_safe}
 use Rattle.swap_laws.proofs.SafeHashkeys.{hashkeys_are_safe}
 use Rattle.swap_laws.proofs.Accepted.{times_law, time_law}
-use Rattle.swap_laws.proofs.Units.{units, after}
-use Rattle.swap_laws.proofs.Words.{publish_rule, refund_rule, act_of, call_by-act, and_three, in-is_among, leaves}
+use Rattle.ledger_core.proofs.Units.{units, after}
+use Rattle.swap_digraph.proofs.Paths.{in-is_among}
+use Rattle.swap_laws.proofs.Words.{publish_rule, refund_rule, act_of, call_by-act, and_three, leaves}
 use Rattle.time_bounds.specs.Times as times
 
 -- The counterparty has nothing until it claims.

@@ -5,7 +5,7 @@ use Rattle.std.specs.List.{list_any, list_all, flat_map}
 use Rattle.std.proofs.lemmas.Bool.{false≢true}
 use Rattle.std.proofs.lemmas.List.{set_past}
 use Rattle.swap_base.specs.Lists.{or_else, first_of, IsIn}
-use Rattle.swap_base.proofs.Lists.{first_of-append, and_parts, in_filter}
+use Rattle.swap_base.proofs.Lists.{first_of-append, and_parts, in_filter, or_else-none, in_map}
 use Rattle.swap_digraph.specs.declared.deal.Deal.{Deal}
 use Rattle.swap_digraph.specs.Graph.{leaving, entering}
 use Rattle.swap_digraph.specs.Deal.{locks, leads}
@@ -19,16 +19,17 @@ use Rattle.ledger_core.specs.declared.entry.What.TheVariants.{Call as Made, Tick
 use Rattle.ledger_core.specs.declared.entry.Entry.{Entry}
 use Rattle.ledger_core.specs.History.{height, accepted, accepted_in, publication, published, opening, opened, settling, settled, triggered, sent_by}
 use Rattle.ledger_core.specs.Book.{Histories, history}
-use Rattle.swap_rules.specs.Party.{is_correct_in, height_in, is_ready, is_triggered, least_expiry, has_expired, leads_one, call_in, call_by}
+use Rattle.ledger_core.specs.History.{call_in}
+use Rattle.swap_rules.specs.Party.{is_correct_in, height_in, is_ready, is_triggered, least_expiry, has_expired, leads_one, call_by}
 use Rattle.swap_rules.specs.Party.{key_without, first_seen_key}
 use Rattle.swap_rules.specs.Conduct.{is_publish}
 use Rattle.swap_rules.specs.Due.{Wallet, is_unlock_for, is_claiming, is_refunding, has_called, is_due_publish, seen_key, extended, due_key, presented}
 use Rattle.swap_rules.specs.Due.{due_unlock_on, is_due_claim, is_due_refund, when_due, due_publishes, due_unlocks, due_claims, due_refunds, due}
 use Rattle.swap_laws.specs.Rest.{is_ticking, are_ticks, is_waiting, least_of, rest_until, StaysLow, TicksMakeNothingDue}
-use Rattle.swap_laws.proofs.History.{not-true}
+use Rattle.ledger_core.proofs.History.{not-true}
 use Rattle.swap_laws.proofs.Words.{append_empty}
 use Rattle.swap_laws.proofs.Prefixes.{same_or_not}
-use Rattle.swap_laws.proofs.Openings.{expired-least, least-below, in_image}
+use Rattle.swap_laws.proofs.Openings.{expired-least, least-below}
 use Rattle.swap_laws.proofs.Conducting.{history_same, history_other}
 use Rattle.swap_laws.proofs.Rounds.{nothing_due}
 use Rattle.time_bounds.specs.Times as times
@@ -53,14 +54,10 @@ none_first f h [] t = refl
 none_first f h (e ∷ more) t = let p =
     and_parts (is_ticking e.what) (are_ticks more) t in ap (λ o. or_else o (first_of f more)) (h e p.0) ∙ none_first f h more p.1
 
-or_none : {B : Type 0} (o : Option B) → or_else o None ≡ o
-or_none None = refl
-or_none (Some x) = refl
-
 -- a first answer that no tick gives is the same
 pub first_past : {B : Type 0} (f : Entry → Option B) → ((e : Entry) → is_ticking e.what ≡ true → f e ≡ None) → (h more : List Entry)
     → are_ticks more ≡ true → first_of f (h ++ more) ≡ first_of f h
-first_past f n h more t = first_of-append f h more ∙ (ap (or_else (first_of f h)) (none_first f n more t) ∙ or_none (first_of f h))
+first_past f n h more t = first_of-append f h more ∙ (ap (or_else (first_of f h)) (none_first f n more t) ∙ or_else-none (first_of f h))
 
 any_past : (p : Entry → Bool) → ((e : Entry) → is_ticking e.what ≡ true → p e ≡ false) → (h more : List Entry) → are_ticks more ≡ true
     → list_any p (h ++ more) ≡ list_any p h
@@ -206,7 +203,7 @@ pub rests_below : (d : Deal) (v : ℕ) (k : Histories) (a : ℕ) → IsIn a (lea
 rests_below d v k a i w =
     let expiries = λ (c : ℕ). least_expiry d c (history k c) in
     let waited = filter (is_waiting d v k) (leaving d.graph v) in
-    least_below (map expiries waited) (expiries a) (in_image expiries waited a (in_filter (is_waiting d v k) a (leaving d.graph v) i w))
+    least_below (map expiries waited) (expiries a) (in_map expiries waited a (in_filter (is_waiting d v k) a (leaving d.graph v) i w))
 
 -- The law.
 

@@ -5,7 +5,7 @@ use Rattle.std.specs.List.{range_with_len}
 use Rattle.std.proofs.lemmas.Bool.{false≢true}
 use Rattle.std.proofs.lemmas.List.Sums.{sum_by-append, sum_by-cons}
 use Rattle.swap_base.specs.Lists.{IsIn, IsMoment}
-use Rattle.swap_base.proofs.Lists.{at_moment, list_any-in, in_append, grow}
+use Rattle.swap_base.proofs.Lists.{at_moment, list_any-in, in_append, grow, length-range}
 use Rattle.swap_digraph.specs.declared.deal.Deal.{Deal}
 use Rattle.swap_digraph.specs.Deal.{locks}
 use Rattle.hashkey_path.specs.declared.hashkey.Hashkey.{Hashkey}
@@ -17,18 +17,18 @@ use Rattle.ledger_core.specs.declared.entry.Sender.TheVariants.{Party, Clock}
 use Rattle.ledger_core.specs.declared.entry.What.{What}
 use Rattle.ledger_core.specs.declared.entry.What.TheVariants.{Call as Made, Tick}
 use Rattle.ledger_core.specs.declared.entry.Entry.{Entry}
-use Rattle.ledger_core.specs.History.{is_full, IsLegalMoment, IsLegalEntry, sent_by}
+use Rattle.ledger_core.specs.History.{is_full, IsLegalMoment, IsLegalEntry, sent_by, call_in}
 use Rattle.ledger_core.specs.Book.{Histories, history, IsLegalBook}
 use Rattle.swap_rules.specs.declared.finding.Rule.{Rule}
 use Rattle.swap_rules.specs.declared.finding.Rule.TheVariants.{Publish as ToPublish, Unlock as ToUnlock, Claim as ToClaim, Refund as ToRefund}
-use Rattle.swap_rules.specs.Party.{call_in, call_by}
+use Rattle.swap_rules.specs.Party.{call_by}
 use Rattle.swap_rules.specs.Conduct.{is_publish}
 use Rattle.swap_rules.specs.Findings.{rules_of}
 use Rattle.swap_rules.specs.Accepted.{IsAccepted}
 use Rattle.swap_rules.specs.Due.{is_unlock_for, is_claiming, is_refunding, has_called}
 use Rattle.swap_laws.specs.Machine.{KeepsOwn, KeepsRules, test_of}
 use Rattle.swap_laws.specs.Laws.{RulesLeaveRoom}
-use Rattle.swap_laws.proofs.History.{not-true, not-true-of}
+use Rattle.ledger_core.proofs.History.{not-true, not-true-of}
 use Rattle.swap_laws.proofs.Words.{publish_rule, unlock_rule, claim_rule, refund_rule}
 use Rattle.swap_laws.proofs.Prefixes.{moment_more, list_any-more}
 use Rattle.swap_laws.proofs.Conducting.{below_of}
@@ -140,10 +140,6 @@ own_call d a past v Clock w at r l e = absurd (cc e)
 length-map-to : (f : ℕ → Rule) (xs : List ℕ) → length (map f xs) ≡ length xs
 length-map-to f [] = refl
 length-map-to f (x ∷ xs) = ap suc (length-map-to f xs)
-
-length-range : (k n : ℕ) → length (range_with_len k n) ≡ n
-length-range k zero = refl
-length-range k (suc n) = ap suc (length-range (k + 1) n)
 
 number_of_rules : (d : Deal) → length (rules_of d) ≡ length d.leaders + 3
 number_of_rules d =

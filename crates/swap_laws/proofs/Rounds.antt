@@ -8,7 +8,7 @@ use Rattle.std.proofs.lemmas.Option.{same_Some}
 use Rattle.swap_base.specs.Lists.{or_else, IsIn, IsMoment, greatest}
 use Rattle.swap_base.proofs.Lists.{first_at, first_of-now, first_of-in, all_moments_front, Order, moments_in_order, Earlier, Same, Later, AnyAt, any_at}
 use Rattle.swap_base.proofs.Lists.{list_all-in, list_all-from, list_any-in, or-right, in_range, from_range, and_parts, and_both, greatest-in}
-use Rattle.swap_base.proofs.Lists.{greatest-below, in_from_moment, moment_from_in, from_append, from_whole}
+use Rattle.swap_base.proofs.Lists.{greatest-below, in_from_moment, moment_from_in, from_append, from_whole, bool_or}
 use Rattle.swap_digraph.specs.declared.deal.Mode.{Mode}
 use Rattle.swap_digraph.specs.declared.deal.Mode.TheVariants.{Timelocks, Hashkeys}
 use Rattle.swap_digraph.specs.declared.deal.Deal.{Deal}
@@ -38,7 +38,8 @@ use Rattle.swap_rules.specs.Accepted.{IsAccepted, IsTimed}
 use Rattle.swap_rules.specs.Due.{Wallet, is_unlock_for, is_claiming, is_refunding, has_called, is_due_publish, seen_key, extended, due_key, presented}
 use Rattle.swap_rules.specs.Due.{may_unlock, due_unlock_on, is_due_claim, is_due_refund, when_due, due_publishes, due_unlocks, due_claims, due_refunds}
 use Rattle.swap_rules.specs.Due.{due}
-use Rattle.swap_laws.proofs.Words.{past_end, key_without_parts, and_three, and_five, is_among-true, enters, leaves, call_by-act, act_of, key_parts}
+use Rattle.swap_digraph.proofs.Paths.{is_among-true}
+use Rattle.swap_laws.proofs.Words.{past_end, key_without_parts, and_three, and_five, enters, leaves, call_by-act, act_of, key_parts}
 use Rattle.swap_laws.proofs.Words.{append_empty, flat_map_none, or-left, same_key-refl}
 use Rattle.swap_laws.proofs.Times.{no_path}
 use Rattle.swap_laws.proofs.Openings.{first_expiry, has_expired-lock, expired-least}
@@ -47,9 +48,9 @@ use Rattle.swap_laws.proofs.Calls.{correct, own_publish, OwnPublish, kept}
 use Rattle.swap_laws.proofs.SafeHashkeys.{longer, Extended, extended_without, used_in}
 use Rattle.swap_laws.proofs.Growth.{is_open-more, Grows, opened-more, triggered-more, ready_good, same_published}
 use Rattle.swap_laws.proofs.Accepted.{times_law}
-use Rattle.swap_laws.proofs.History.{Done, done_at, published_done, opened_done, claimed_done, refunded_done, of_publish, of_unlock, of_claim}
-use Rattle.swap_laws.proofs.History.{of_refund, clear_at, height-past, published-past, opened-now, triggered-past, is_some-of, not-true, not-true-of}
-use Rattle.swap_laws.proofs.History.{lock-below}
+use Rattle.ledger_core.proofs.History.{Done, done_at, published_done, opened_done, claimed_done, refunded_done, of_publish, of_unlock, of_claim}
+use Rattle.ledger_core.proofs.History.{of_refund, clear_at, height-past, published-past, opened-now, triggered-past, is_some-of, not-true, not-true-of}
+use Rattle.ledger_core.proofs.History.{lock-below}
 use Rattle.swap_laws.proofs.Refunds.{count_one}
 use Rattle.swap_laws.proofs.Prefixes.{begins_refl, begins_more, moment_more, begins_height, in_front, in_any}
 use Rattle.swap_laws.specs.Laws.{RoundsAreInTime, RoundsAreOnTime, RacesAreInTime}
@@ -108,10 +109,6 @@ next_round ticks some (suc ref) =
     go q low high false e =
         let h : q * ticks ≤ suc ref = ltb-false (suc ref) (q * ticks) e in
         (suc q, omega arith, omega arith)
-
-bool_or : (x : Bool) → (x ≡ true) ⊎ (x ≡ false)
-bool_or true = inl refl
-bool_or false = inr refl
 
 and_not : (x y : Bool) → (x && not y) ≡ false → x ≡ true → y ≡ true
 and_not true true e h = refl

@@ -20,9 +20,10 @@ use Rattle.swap_rules.specs.Late.{height_of_opening, base_of, when, ref_of}
 use Rattle.swap_rules.specs.Forged.{forges}
 use Rattle.swap_rules.specs.Outcome.{outcome, IsEnded}
 use Rattle.swap_laws.proofs.Entering.{DueUnlock, ready_below, gets_all}
-use Rattle.swap_laws.proofs.Words.{in-is_among, enters}
+use Rattle.swap_digraph.proofs.Paths.{in-is_among}
+use Rattle.swap_laws.proofs.Words.{enters}
 use Rattle.swap_laws.proofs.Times.{TimelockLaw, last-timelock, below_horizon, times_of_timelocks, no_path}
-use Rattle.swap_laws.proofs.History.{is_some-of}
+use Rattle.ledger_core.proofs.History.{is_some-of}
 use Rattle.swap_laws.specs.Laws.{IsOnTime, IsUnforged}
 use Rattle.swap_laws.proofs.Leaving.{underwater_lost, underwater_missing, Shown, shown_timelocks, Opener, opener_at, triggered_ready, is_known, Passing}
 use Rattle.time_bounds.specs.Times as times

@@ -16,8 +16,8 @@ use Rattle.escrow_core.specs.declared.terms.Terms.{Terms}
 use Rattle.escrow_core.specs.Terms.{is_own, terms_of, expiry_in, last_in}
 use Rattle.swap_rules.specs.Party.{expiry}
 use Rattle.swap_laws.proofs.Words.{leader_reads}
-use Rattle.swap_laws.proofs.Graph.{alone}
-use Rattle.swap_laws.proofs.History.{not-false, not-true-of}
+use Rattle.swap_digraph.proofs.Paths.{alone}
+use Rattle.ledger_core.proofs.History.{not-false, not-true-of}
 use Rattle.time_bounds.specs.Times as times
 
 -- What an accepted deal in timelocks mode says of its times.

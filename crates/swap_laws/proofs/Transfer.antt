@@ -17,7 +17,7 @@ use Rattle.swap_digraph.specs.declared.deal.Deal.{Deal}
 use Rattle.swap_digraph.specs.Value.{Graph}
 use Rattle.swap_digraph.specs.declared.deal.Mode.TheVariants.{Timelocks, Hashkeys}
 use Rattle.swap_digraph.specs.Graph.{ends, leaving, entering, IsPathBetween, has_arc, IsFeedback}
-use Rattle.swap_digraph.specs.Deal.{party, counterparty, locks, leads, leader_of, amount, hashlock_of}
+use Rattle.swap_digraph.specs.Deal.{party, counterparty, locks, leads, leader_of, amount, hashlock_of, touches}
 use Rattle.hashkey_path.specs.declared.hashkey.Hashkey.{Hashkey}
 use Rattle.hashkey_path.specs.Hashkey.{same_key, is_valid}
 use Rattle.ledger_core.specs.declared.entry.Call.{Call}
@@ -44,11 +44,13 @@ use Rattle.swap_laws.proofs.SafeHashkeys.{passing_hashkeys, longer, used_below, 
 use Rattle.swap_laws.proofs.Calls.{counted_claim, kept, legal_at, done_in_time}
 use Rattle.swap_laws.proofs.Openings.{IsOpenBy, open_by_more, claim_claims_by, opened_once}
 use Rattle.swap_laws.proofs.Publishing.{every_good, enters_own, leaves_own, from_below, good_of, height_low}
-use Rattle.swap_laws.proofs.Words.{claim_rule, same_key-path, some_length, key_parts, and_five, enters, act_of, call_by-act, leaves}
-use Rattle.swap_laws.proofs.Units.{units, after, settled-published}
-use Rattle.swap_laws.proofs.History.{done_at, opened_done, of_unlock, of_publish, of_claim, of_refund, clear_at, published-past, legal-past, is_some-of}
+use Rattle.swap_laws.proofs.Words.{claim_rule, same_key-path, key_parts, and_five, enters, act_of, call_by-act, leaves}
+use Rattle.ledger_core.proofs.Units.{units, after, settled-published}
+use Rattle.ledger_core.proofs.History.{done_at, opened_done, of_unlock, of_publish, of_claim, of_refund, clear_at, published-past, legal-past, is_some-of}
 use Rattle.swap_laws.proofs.Refunds.{counterparty_empty, NoOwnTransfer, no_own_transfer}
-use Rattle.swap_laws.proofs.Graph.{path_step, path_law, dist_falls}
+use Rattle.swap_digraph.proofs.Paths.{path_step, some_length}
+use Rattle.leader_check.proofs.Bounds.{path_law}
+use Rattle.swap_laws.proofs.Graph.{dist_falls}
 use Rattle.time_bounds.specs.Times as times
 
 -- an arc of the digraph from its ends
@@ -453,7 +455,7 @@ module _ (d : Deal) (b : Histories) (k : IsAccepted d) (legal : IsLegalBook d b)
       let c = all act.by below in
       false≢true (kept d b act.by c.conducted a past e (Transfer to units) m (call_by-act d a past e (Transfer to units) act.by act refl))
     where
-      by_below : (p : ℕ) → IsTrue ((p == party d a) || (p == counterparty d a)) → p < d.graph.n
+      by_below : (p : ℕ) → IsTrue (touches d p a) → p < d.graph.n
       by_below p h = go (p == party d a) refl h
         where
           go : (x : Bool) → (p == party d a) ≡ x → (x || (p == counterparty d a)) ≡ true → p < d.graph.n

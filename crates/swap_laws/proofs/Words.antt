@@ -8,6 +8,7 @@ use Rattle.std.proofs.lemmas.Slice.Eq.{bytes_eq-Decides}
 use Rattle.std.specs.Str.{bytes_eq}
 use Rattle.std.specs.Prelude.{map}
 use Rattle.swap_base.proofs.Lists.{same_list-refl, same_list-true, and_parts, list_any-in, or-right, in_range, from_range, from_filter, in_append}
+use Rattle.swap_base.proofs.Lists.{in_map}
 use Rattle.swap_base.specs.Lists.{IsIn, IsMoment, same_list}
 use Rattle.swap_digraph.specs.declared.deal.Deal.{Deal}
 use Rattle.swap_digraph.specs.Value.{Graph}
@@ -18,14 +19,14 @@ use Rattle.hashkey_path.specs.declared.hashkey.Hashkey.{Hashkey}
 use Rattle.hashkey_path.specs.Hashkey.{same_key}
 use Rattle.escrow_core.specs.declared.terms.Terms.{Terms}
 use Rattle.escrow_core.specs.Terms.{same_terms}
-use Rattle.ledger_core.specs.History.{Opening, IsLegal, sent_by}
+use Rattle.ledger_core.specs.History.{Opening, IsLegal, sent_by, call_in}
 use Rattle.ledger_core.specs.declared.entry.Call.{Call}
 use Rattle.ledger_core.specs.declared.entry.Call.TheVariants.{Publish, Unlock, Claim, Refund, Transfer}
 use Rattle.ledger_core.specs.declared.entry.Entry.{Entry}
 use Rattle.swap_rules.specs.declared.finding.Rule.TheVariants.{Publish as ToPublish, Unlock as ToUnlock, Claim as ToClaim, Refund as ToRefund}
-use Rattle.swap_rules.specs.Party.{call_in, call_by, key_in, key_without}
+use Rattle.swap_rules.specs.Party.{call_by, key_in, key_without}
 use Rattle.swap_rules.specs.Findings.{rules_of}
-use Rattle.swap_laws.proofs.History.{Act, act_at}
+use Rattle.ledger_core.proofs.History.{Act, act_at}
 
 -- Equal parts, equal values.
 
@@ -63,23 +64,7 @@ same_terms-true t u e =
       amount = eqb-true t.amount u.amount k.5 i;
     }
 
-is_among-head : (v w : ℕ) (vs : List ℕ) (b : Bool) → (w == v) ≡ b → (b || is_among v vs) ≡ true → (is_among v vs ≡ true → IsIn v vs) → IsIn v (w ∷ vs)
-is_among-head v w vs true h k rest = inl (sym (eqb-true w v h))
-is_among-head v w vs false h k rest = inr (rest k)
-
-pub is_among-true : (v : ℕ) (vs : List ℕ) → is_among v vs ≡ true → IsIn v vs
-is_among-true v [] e = absurd (cc e)
-is_among-true v (w ∷ vs) e = is_among-head v w vs (w == v) refl e (is_among-true v vs)
-
-pub in-is_among : (v : ℕ) (vs : List ℕ) → IsIn v vs → is_among v vs ≡ true
-in-is_among v vs i = list_any-in (λ w. w == v) vs v (eq-eqb v v refl) i
-
 -- The rules of a deal.
-
-in_map : {A B : Type 0} (f : A → B) (xs : List A) (x : A) → IsIn x xs → IsIn (f x) (map f xs)
-in_map f [] x i = i
-in_map f (y ∷ xs) x (inl e) = inl (ap f e)
-in_map f (y ∷ xs) x (inr i) = inr (in_map f xs x i)
 
 pub publish_rule : (d : Deal) → IsIn ToPublish (rules_of d)
 publish_rule d = inl refl
@@ -144,21 +129,12 @@ key_parts i (Some Claim) key e = absurd (cc e)
 key_parts i (Some Refund) key e = absurd (cc e)
 key_parts i (Some (Transfer to units)) key e = absurd (cc e)
 
-pub last_among : (v : ℕ) (p : List ℕ) → last_is v p ≡ true → is_among v p ≡ true
-last_among v [] e = absurd (cc e)
-last_among v (u ∷ []) e = rw e refl
-last_among v (u ∷ w ∷ p) e = or-right (u == v) (is_among v (w ∷ p)) (last_among v (w ∷ p) e)
-
 pub same_key-path : (k l : Hashkey) → same_key k l ≡ true → (k.lock ≡ l.lock) × (k.path ≡ l.path)
 same_key-path k l e =
     let k1 = and_parts ((k.lock == l.lock) && bytes_eq k.secret l.secret && same_list (λ x y. x == y) k.path l.path) _ e in
     let k2 = and_parts ((k.lock == l.lock) && bytes_eq k.secret l.secret) (same_list (λ x y. x == y) k.path l.path) k1.0 in
     let k3 = and_parts (k.lock == l.lock) (bytes_eq k.secret l.secret) k2.0 in
     (eqb-true _ _ k3.0, same_list-true (λ x y. x == y) eqb-true k.path l.path k2.1)
-
-pub some_length : (g : Graph) (p : List ℕ) → is_path g p ≡ true → 0 < length p
-some_length g [] e = absurd (cc e)
-some_length g (u ∷ p) e = omega arith
 
 pub leader_reads : (d : Deal) (v i : ℕ) → i < length d.leaders → leads d v i ≡ true → leader_of d i ≡ v
 leader_reads d v i l e = get_or_default d.leaders i 0 d.graph.n l ∙ eqb-true _ _ e

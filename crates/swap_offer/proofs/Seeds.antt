@@ -4,8 +4,7 @@ use Rattle.std.specs.List.{range_with_len}
 use Rattle.swap_base.specs.Fault.{Gives}
 use Rattle.swap_base.specs.Lists.{first_of}
 use Rattle.swap_base.specs.declared.fault.Fault.{Fault}
-use Rattle.swap_base.proofs.Lists.{in_range}
-use Rattle.leader_check.proofs.Walks.{none_in}
+use Rattle.swap_base.proofs.Lists.{in_range, none_in}
 use Rattle.deviator_script.specs.declared.job.Job.{Job}
 use Rattle.deviator_script.specs.declared.job.Purpose.{Purpose}
 use Rattle.deviator_script.specs.declared.job.Purpose.TheVariants.{Check, Run, Race, Make, Audit}

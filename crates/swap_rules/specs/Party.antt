@@ -10,10 +10,8 @@ use Rattle.hashkey_path.specs.declared.hashkey.Hashkey.{Hashkey}
 use Rattle.escrow_core.specs.Terms.{terms_of, same_terms, expiry_in, refund_expiry}
 use Rattle.ledger_core.specs.declared.entry.Call.{Call}
 use Rattle.ledger_core.specs.declared.entry.Call.TheVariants.{Unlock}
-use Rattle.ledger_core.specs.declared.entry.What.{What}
-use Rattle.ledger_core.specs.declared.entry.What.TheVariants.{Call as Made, Tick}
 use Rattle.ledger_core.specs.declared.entry.Entry.{Entry}
-use Rattle.ledger_core.specs.History.{Publication, published, Opening, opened, is_open, triggered, sent_by}
+use Rattle.ledger_core.specs.History.{Publication, published, Opening, opened, is_open, triggered, sent_by, call_in}
 use Rattle.ledger_core.specs.Book.{Histories, history}
 
 -- whether an accepted publish has the correct terms of arc a
@@ -61,11 +59,6 @@ has_expired d a h at = list_any (λ i. not (is_open h i) && nat_lt (expiry d a i
 -- v is a leader
 abbrev pub leads_one : Deal → ℕ → Bool
 leads_one d v = is_among v d.leaders
-
--- the call that an entry is, whatever its reply
-abbrev pub call_in : What → Option Call
-call_in (Made c) = Some c
-call_in (Tick k) = None
 
 -- the call of v that an entry is, whatever its reply
 abbrev pub call_by : ℕ → Entry → Option Call

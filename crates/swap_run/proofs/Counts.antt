@@ -3,7 +3,7 @@ use Rattle.std.proofs.Common.{count_by, ◌≡◌, ◌⊎◌, ℕ, ◌+◌, ◌�
 use Rattle.std.proofs.lemmas.Bool.{false≢true}
 use Rattle.std.proofs.lemmas.List.Sums.{sum_by-cons}
 use Rattle.swap_base.specs.Lists.{IsIn}
-use Rattle.swap_laws.proofs.History.{not-true-of}
+use Rattle.ledger_core.proofs.History.{not-true-of}
 
 bit_le : (a b : Bool) → (a ≡ true → b ≡ true) → ◌≤◌ (cond {A = ℕ} a 1 0) (cond {A = ℕ} b 1 0)
 bit_le true b h = rw (h refl) (omega arith)

@@ -16,7 +16,7 @@ use Rattle.ledger_core.specs.History.{height, rows, reply_to, fit, is_full, is_c
 use Rattle.ledger_core.specs.Ledger.{tick_entry}
 use Rattle.deviator_script.specs.Resolved.{fits_if}
 use Rattle.swap_laws.specs.Machine.{called, entry_of}
-use Rattle.swap_laws.proofs.History.{full_reply, not-true-of}
+use Rattle.ledger_core.proofs.History.{full_reply, not-true-of}
 use Rattle.swap_laws.proofs.Conducting.{Next, Still, Pushed, next_call}
 use Rattle.swap_run.specs.Run.{is_sender_full, is_clock_full_reply, after_tick, after_call, after_move}
 

@@ -10,7 +10,7 @@ use Rattle.swap_rules.specs.Due.{due}
 use Rattle.swap_laws.specs.Machine.{Begins, Knows}
 use Rattle.swap_laws.specs.Rounds.{IsNear, IsTurn, IsRounds}
 use Rattle.swap_laws.specs.Laws.{IsDealt}
-use Rattle.swap_laws.proofs.History.{not-true}
+use Rattle.ledger_core.proofs.History.{not-true}
 use Rattle.swap_laws.proofs.Words.{past_end}
 use Rattle.swap_laws.proofs.Prefixes.{begins_more, begins_height, same_or_not}
 use Rattle.swap_laws.proofs.Growth.{Grows}

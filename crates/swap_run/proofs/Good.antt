@@ -18,7 +18,7 @@ use Rattle.deviator_script.specs.declared.event.Event.TheVariants.{Tick, Look, A
 use Rattle.deviator_script.specs.Step.{CanStep, CanTick, CanCall}
 use Rattle.deviator_script.specs.Resolved.{arc_of, call_of}
 use Rattle.swap_rules.specs.Due.{Action, due, first}
-use Rattle.swap_laws.proofs.History.{not-true}
+use Rattle.ledger_core.proofs.History.{not-true}
 use Rattle.swap_laws.proofs.Prefixes.{same_or_not}
 use Rattle.swap_laws.proofs.Machines.{knowledge_conducts}
 use Rattle.swap_laws.proofs.Conducting.{Next, next_legal, knows_all}

@@ -16,7 +16,7 @@ use Rattle.ledger_core.specs.Ledger.{tick_entry}
 use Rattle.ledger_core.specs.Book.{history}
 use Rattle.deviator_script.specs.declared.event.Event.TheVariants.{Tick}
 use Rattle.swap_rules.specs.Accepted.{IsAccepted}
-use Rattle.swap_laws.proofs.History.{not-true}
+use Rattle.ledger_core.proofs.History.{not-true}
 use Rattle.swap_laws.proofs.Prefixes.{begins_refl, begins_more, same_or_not}
 use Rattle.swap_laws.proofs.Growth.{Grows}
 use Rattle.swap_laws.proofs.Conducting.{next_grows, history_same, history_other}

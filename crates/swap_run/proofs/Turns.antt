@@ -16,7 +16,7 @@ use Rattle.deviator_script.specs.declared.event.Event.TheVariants.{Look, Act}
 use Rattle.swap_rules.specs.Due.{Action}
 use Rattle.swap_laws.specs.Machine.{Begins}
 use Rattle.swap_laws.specs.Rounds.{IsNear}
-use Rattle.swap_laws.proofs.History.{height-append}
+use Rattle.ledger_core.proofs.History.{height_append}
 use Rattle.swap_laws.proofs.Words.{enters, leaves, or-left}
 use Rattle.swap_laws.proofs.Prefixes.{begins_refl, begins_more, same_or_not}
 use Rattle.swap_laws.proofs.Growth.{Grows}
@@ -33,7 +33,7 @@ use Rattle.swap_run.proofs.Acts.{act_is, all_due, acts_good, at_rest}
 
 pub height_push : (h : List Entry) (e : Entry) → height (h ++ e ∷ []) ≡ height h + ticks_in e.what
 height_push h e =
-    let e1 = height-append h (e ∷ []) in
+    let e1 = height_append h (e ∷ []) in
     let e2 : height (e ∷ []) ≡ ticks_in e.what + height [] = sum_by-cons (λ e. ticks_in e.what) e [] in
     let e3 : height [] ≡ 0 = refl in
     omega arith

@@ -3,8 +3,8 @@ use Rattle.history_index.specs.Indexes.{entries_in}
 use Rattle.conduct_check.proofs.Legal.{untouched}
 use Rattle.conduct_check.proofs.listing.put_broken_on.Goals as goal
 
-pub returns-else-touches : goal.returns-else-touches
-returns-else-touches c =
+pub returns-else-is_adjacent : goal.returns-else-is_adjacent
+returns-else-is_adjacent c =
     sym (ap (λ l. c.args.out.now.items ++ l) (untouched c.args.deal.now (entries_in c.args.known.now) c.args.party c.args.arc c.requires.legal
-    c.requires.arc (sym c.touches.ensures ∙ c.if-touches.false))
+    c.requires.arc (sym c.is_adjacent.ensures ∙ c.if-is_adjacent.false))
     ∙ append-nil c.args.out.now.items)

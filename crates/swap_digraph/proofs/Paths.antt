@@ -3,9 +3,9 @@ use Rattle.std.proofs.Common.{◌≡◌, ◌⊎◌, ℕ, suc, zero, ◌+◌, ◌
 use Rattle.std.proofs.Common.{filter, refl, sym, ap, ◌∙◌, subst, inl, inr, arith, eqb-true, eq-eqb, ltb-true, lt-ltb, nat_lt}
 use Rattle.std.specs.List.{range_with_len}
 use Rattle.swap_base.specs.Lists.{IsIn}
-use Rattle.swap_base.proofs.Lists.{and_parts, and_both, list_any-in, from_filter, in_range, from_append}
+use Rattle.swap_base.proofs.Lists.{and_parts, and_both, list_any-in, from_filter, in_range, from_append, length-range}
 use Rattle.swap_digraph.specs.Value.{Graph}
-use Rattle.swap_digraph.specs.Graph.{is_path, is_among, has_arc, last_is, are_followers, IsPathBetween}
+use Rattle.swap_digraph.specs.Graph.{is_path, is_among, has_arc, first_is, last_is, are_followers, IsPathBetween}
 
 is_among-head : (v w : ℕ) (vs : List ℕ) (b : Bool) → (w == v) ≡ b → (b || is_among v vs) ≡ true → (is_among v vs ≡ true → IsIn v vs) → IsIn v (w ∷ vs)
 is_among-head v w vs true h k rest = inl (sym (eqb-true w v h))
@@ -39,7 +39,7 @@ path_step g u v p e =
     no_not true h k = cc h
     no_not false h k = cc k
 
-not_among : (u : ℕ) (p : List ℕ) → (IsIn u p → ⊥) → not (is_among u p) ≡ true
+pub not_among : (u : ℕ) (p : List ℕ) → (IsIn u p → ⊥) → not (is_among u p) ≡ true
 not_among u p h = go (is_among u p) refl
   where
     go : (b : Bool) → is_among u p ≡ b → not b ≡ true
@@ -65,6 +65,23 @@ path_below g (u ∷ []) x e (inr i) = absurd i
 path_below g (u ∷ v ∷ p) x e (inl q) = rw q (path_step g u v p e).below
 path_below g (u ∷ v ∷ p) x e (inr i) = path_below g (v ∷ p) x (path_step g u v p e).rest i
 
+pub last_in : (l : ℕ) (p : List ℕ) → last_is l p ≡ true → IsIn l p
+last_in l [] e = absurd (cc e)
+last_in l (u ∷ []) e = inl (sym (eqb-true u l e))
+last_in l (u ∷ w ∷ p) e = inr (last_in l (w ∷ p) e)
+
+-- the only path from a vertex to itself is that vertex alone
+pub alone : (g : Graph) (v : ℕ) (p : List ℕ) → is_path g p ≡ true → first_is v p ≡ true → last_is v p ≡ true → length p ≡ 1
+alone g v [] e f l = absurd (cc e)
+alone g v (u ∷ []) e f l = refl
+alone g v (u ∷ w ∷ p) e f l =
+    let s = path_step g u w p e in
+    absurd (s.fresh (subst (λ x. IsIn x (w ∷ p)) (sym (eqb-true u v f)) (last_in v (w ∷ p) l)))
+
+pub some_length : (g : Graph) (p : List ℕ) → is_path g p ≡ true → 0 < length p
+some_length g [] e = absurd (cc e)
+some_length g (u ∷ p) e = omega arith
+
 -- Distinct elements of a list are at most as many as the list has.
 
 pub record Without (x : ℕ) (ls : List ℕ) : Type 0 where
@@ -85,10 +102,6 @@ subset_length (x ∷ p) ls d h =
     let w = without x ls (h x (inl refl)) in
     let k = subset_length p w.rest d.1 (λ y i. w.others y (λ e. d.0 (subst (λ z. IsIn z p) e i)) (h y (inr i))) in
     let s = w.shorter in omega arith
-
-length-range : (k n : ℕ) → length (range_with_len k n) ≡ n
-length-range k zero = refl
-length-range k (suc n) = ap suc (length-range (k + 1) n)
 
 pub path_length : (g : Graph) (p : List ℕ) → is_path g p ≡ true → length p ≤ g.n
 path_length g p e =

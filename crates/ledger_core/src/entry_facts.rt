@@ -1,0 +1,43 @@
+//! What one entry says.
+
+ghost use Rattle.std.specs.Prelude.{◌≡◌, option_map};
+ghost use Rattle.ledger_core.specs.History.{accepted, publication, settling, ticks_in};
+ghost use Rattle.ledger_core.specs.Facts.{shown_as};
+
+use crate::entry::{Call, Entry, What};
+use crate::facts::{Published, Settlement};
+use escrow_core::{Reply, Terms};
+
+/// By how many heights the entry raised its ledger.
+pub fn ticks_in(e: &Entry) -> u32
+    ensures { result ≡ ticks_in e.now.what }
+{
+    match &e.what {
+        What::Call(_) => 0,
+        What::Tick(k) => *k,
+    }
+}
+
+/// The publish that the entry is, where it was accepted.
+pub fn publication_of(terms: &Terms, e: &Entry) -> Option<Published>
+    ensures { result ≡ option_map (shown_as terms.now) (publication e.now.height (accepted e.now)) }
+{
+    match (&e.what, e.reply) {
+        (What::Call(Call::Publish(stated)), Reply::Accepted) => Some(Published {
+            height: e.height,
+            correct: stated.same(terms),
+        }),
+        _ => None,
+    }
+}
+
+/// The settlement that the entry is, where it was accepted.
+pub fn settlement_of(e: &Entry) -> Option<Settlement>
+    ensures { result ≡ settling (accepted e.now) }
+{
+    match (&e.what, e.reply) {
+        (What::Call(Call::Claim), Reply::Accepted) => Some(Settlement::Claimed),
+        (What::Call(Call::Refund), Reply::Accepted) => Some(Settlement::Refunded),
+        _ => None,
+    }
+}
