@@ -3,7 +3,7 @@ use Rattle.std.specs.Prelude.{◌≡◌, ◌+◌, ◌==◌, ◌≤◌, ℕ, Bool
 use Rattle.swap_digraph.specs.declared.deal.Deal.{Deal}
 use Rattle.swap_digraph.specs.Deal.{party, counterparty, amount, locks}
 use Rattle.escrow_core.specs.declared.reply.Reply.{Reply}
-use Rattle.escrow_core.specs.declared.reply.Reply.TheVariants.{NotParty, NoContract, AlreadyPublished, NoFunds}
+use Rattle.escrow_core.specs.declared.reply.Reply.TheVariants.{NotParty, NoContract, AlreadyPublished, NoFunds, SenderFull}
 use Rattle.escrow_core.specs.Table.{first_row, unlock_rows, claim_rows, refund_rows}
 use Rattle.escrow_core.specs.Value.{ContractState, IsFor, is_open_in, new_contract, with_opened, with_settled}
 use Rattle.ledger_core.specs.declared.entry.Call.{Call}
@@ -12,12 +12,21 @@ use Rattle.ledger_core.specs.declared.entry.Sender.TheVariants.{Party, Clock}
 use Rattle.ledger_core.specs.declared.entry.What.TheVariants.{Call as Made, Tick}
 use Rattle.ledger_core.specs.declared.entry.Entry.{Entry}
 use Rattle.ledger_core.specs.declared.accounts.Accounts.{Accounts}
-use Rattle.ledger_core.specs.History.{Publication, published, opened, settled, is_open, balance, held}
+use Rattle.ledger_core.specs.History.{Publication, published, opened, settled, is_open, balance, held, height, reply_to}
 use Rattle.ledger_core.specs.Value.{LedgerState}
 
 -- the entry of a call of p, at a height
 abbrev pub call_entry : (p at : ℕ) → Call → Reply → Entry
 call_entry p at c r = record { sender = Party p; height = at; what = Made c; reply = r }
+
+-- the sender has no room for an entry
+abbrev pub is_sender_full : Reply → Bool
+is_sender_full SenderFull = true
+is_sender_full _ = false
+
+-- the history of arc a after a call of p, which leaves no entry where the sender is full
+unfoldable pub after_call : Deal → ℕ → ℕ → Call → List Entry → List Entry
+after_call d a p c h = if is_sender_full (reply_to d a h p c) then h else h ++ call_entry p (height h) c (reply_to d a h p c) ∷ []
 
 -- the entry of a tick by k, with the height after it
 abbrev pub tick_entry : (k at : ℕ) → Reply → Entry

@@ -29,7 +29,8 @@ use Rattle.ledger_core.specs.History.{height, published, rows, reply_to, fit, is
 use Rattle.ledger_core.specs.Book.{Histories, history, IsLegalBook}
 use Rattle.swap_rules.specs.Party.{has_expired, is_ready, call_by, key_in, first_key}
 use Rattle.swap_rules.specs.Conduct.{is_publish, is_first_key, keeps, keeps_at, IsConducted}
-use Rattle.swap_laws.specs.Machine.{KeepsOwn, KeepsKey, KeepsRules, Begins, Knows, entry_of, called}
+use Rattle.ledger_core.specs.Ledger.{after_call, is_sender_full}
+use Rattle.swap_laws.specs.Machine.{KeepsOwn, KeepsKey, KeepsRules, Begins, Knows, entry_of}
 use Rattle.swap_laws.proofs.Words.{past_end, call_of_parts, act_of, key_parts, same_key-refl}
 use Rattle.ledger_core.proofs.History.{is_some-of, not-true-of}
 use Rattle.swap_laws.proofs.Prefixes.{begins_refl, not_any-in, same_or_not, at_end}
@@ -158,40 +159,14 @@ pub data Next (d : Deal) (a : ℕ) (h k : List Entry) (s : Sender) (w : What) : 
   Still : k ≡ h → Next d a h k s w
   Pushed : (e : Entry) → k ≡ h ++ e ∷ [] → e.sender ≡ s → e.what ≡ w → IsLegalMoment d a (record { past = h; now = e }) → Next d a h k s w
 
-abbrev is_sender_full : Reply → Bool
-is_sender_full SenderFull = true
-is_sender_full _ = false
-
-first_row-not : (rs : List (Bool × Reply)) → list_all (λ row. not (is_sender_full row.1)) rs ≡ true → is_sender_full (first_row rs) ≡ false
-first_row-not [] h = refl
-first_row-not (row ∷ rs) h = let k = and_parts (not (is_sender_full row.1)) _ h in go row.0 row.1 k.0 (first_row-not rs k.1)
-  where
-    go : (x : Bool) (r : Reply) → not (is_sender_full r) ≡ true → is_sender_full (first_row rs) ≡ false → is_sender_full (cond x r (first_row rs)) ≡ false
-    go true r n f = not-true-of _ n
-    go false r n f = f
-
-tail : {A : Type 0} → List A → List A
-tail [] = []
-tail (x ∷ xs) = xs
-
-has_room : (d : Deal) (a : ℕ) (past : List Entry) (p : ℕ) (c : Call) → is_full past p ≡ false → reply_to d a past p c ≢ SenderFull
-unfolding rows tail
-has_room d a past p c f e = false≢true (sym (go c) ∙ ap is_sender_full e)
-  where
-    go : (c : Call) → is_sender_full (reply_to d a past p c) ≡ false
-    go (Publish t) = rw f (first_row-not (tail (rows d a past p (Publish t))) refl)
-    go (Unlock key) = rw f (first_row-not (tail (rows d a past p (Unlock key))) refl)
-    go Claim = rw f (first_row-not (tail (rows d a past p Claim)) refl)
-    go Refund = rw f (first_row-not (tail (rows d a past p Refund)) refl)
-    go (Transfer to units) = rw f (first_row-not (tail (rows d a past p (Transfer to units))) refl)
-
 pub next_call : (d : Deal) (a : ℕ) (h : List Entry) (p : ℕ) (c : Call) → IsTrue (touches d p a) → IsTrue (fit d a c)
-    → Next d a h (called d a h p c) (Party p) (Made c)
-next_call d a h p c two fits = go (is_full h p) refl
+    → Next d a h (after_call d a p c h) (Party p) (Made c)
+unfolding after_call
+next_call d a h p c two fits = go (is_sender_full (reply_to d a h p c)) refl
   where
-    go : (x : Bool) → is_full h p ≡ x → Next d a h (cond x h (h ++ entry_of d a h p c ∷ [])) (Party p) (Made c)
+    go : (x : Bool) → is_sender_full (reply_to d a h p c) ≡ x → Next d a h (cond x h (h ++ entry_of d a h p c ∷ [])) (Party p) (Made c)
     go true e = Still refl
-    go false e = Pushed (entry_of d a h p c) refl refl refl (record { of_the_two = two; fits = fits; height = refl; reply = refl; room = has_room d a h p c e })
+    go false e = Pushed (entry_of d a h p c) refl refl refl (record { of_the_two = two; fits = fits; height = refl; reply = refl; room = λ q. false≢true (sym e ∙ ap is_sender_full q) })
 
 -- The book after it.
 

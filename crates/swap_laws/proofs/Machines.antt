@@ -13,7 +13,8 @@ use Rattle.ledger_core.specs.declared.entry.Entry.{Entry}
 use Rattle.ledger_core.specs.History.{IsLegal}
 use Rattle.ledger_core.specs.Book.{Histories, history}
 use Rattle.swap_rules.specs.Party.{call_by}
-use Rattle.swap_laws.specs.Machine.{KeepsOwn, KeepsRules, Begins, Knows, noted, called}
+use Rattle.ledger_core.specs.Ledger.{after_call}
+use Rattle.swap_laws.specs.Machine.{KeepsOwn, KeepsRules, Begins, Knows, noted}
 use Rattle.swap_laws.specs.Laws.{KnowledgeConducts, LearningIsSound, DueIsSound}
 use Rattle.swap_laws.proofs.Prefixes.{split, none_called, same_or_not}
 use Rattle.swap_laws.proofs.Growth.{Grows}
@@ -92,14 +93,14 @@ call_sound d v w known signed x fresh wallet fits i below others legal s =
     let below1 : x.arc < length (set known x.arc (history known x.arc ++ fresh)) =
     subst (λ z. x.arc < z) (sym (length-set known x.arc (history known x.arc ++ fresh))) below in
     let n =
-    subst (λ h. Next d x.arc h (called d x.arc (history known x.arc ++ fresh) v x.call) (Party v) (Made x.call)) (sym here)
+    subst (λ h. Next d x.arc h (after_call d x.arc v x.call (history known x.arc ++ fresh)) (Party v) (Made x.call)) (sym here)
     (next_call d x.arc (history known x.arc ++ fresh) v x.call is.of_the_two is.fits) in
     record {
       legal =
-          next_legal d (set known x.arc (history known x.arc ++ fresh)) x.arc (called d x.arc (history known x.arc ++ fresh) v x.call) (Party v)
+          next_legal d (set known x.arc (history known x.arc ++ fresh)) x.arc (after_call d x.arc v x.call (history known x.arc ++ fresh)) (Party v)
           (Made x.call) below1 n s1.legal;
       rules =
-          rules_next d (set known x.arc (history known x.arc ++ fresh)) x.arc (called d x.arc (history known x.arc ++ fresh) v x.call) (Party v)
+          rules_next d (set known x.arc (history known x.arc ++ fresh)) x.arc (after_call d x.arc v x.call (history known x.arc ++ fresh)) (Party v)
           (Made x.call) signed (noted signed x.call) v below1 n s1.rules is.keeps_signed is.keys
           (λ c q z. subst (λ y. KeepsOwn d (set known x.arc (history known x.arc ++ fresh)) (noted signed x.call) v x.arc
           (history (set known x.arc (history known x.arc ++ fresh)) x.arc) y) (same_Some x.call c z) is.rule);

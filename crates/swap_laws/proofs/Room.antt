@@ -6,6 +6,7 @@ use Rattle.std.proofs.lemmas.Bool.{false≢true}
 use Rattle.std.proofs.lemmas.List.Sums.{sum_by-append, sum_by-cons}
 use Rattle.swap_base.specs.Lists.{IsIn, IsMoment}
 use Rattle.swap_base.proofs.Lists.{at_moment, list_any-in, in_append, grow, length-range}
+use Rattle.swap_base.proofs.Lists.{bit_le, count_less, not-mono}
 use Rattle.swap_digraph.specs.declared.deal.Deal.{Deal}
 use Rattle.swap_digraph.specs.Deal.{locks}
 use Rattle.hashkey_path.specs.declared.hashkey.Hashkey.{Hashkey}
@@ -35,39 +36,6 @@ use Rattle.swap_laws.proofs.Conducting.{below_of}
 
 -- Counts.
 
-bit_le : (a b : Bool) → (a ≡ true → b ≡ true) → ◌≤◌ (cond {A = ℕ} a 1 0) (cond {A = ℕ} b 1 0)
-bit_le true b h = rw (h refl) (omega arith)
-bit_le false b h = omega arith
-
-count_le : {A : Type 0} (p q : A → Bool) (xs : List A) → ((x : A) → q x ≡ true → p x ≡ true) → count_by q xs ≤ count_by p xs
-count_le p q [] h = omega arith
-count_le p q (x ∷ xs) h =
-    let e1 : count_by p (x ∷ xs) ≡ cond (p x) 1 0 + count_by p xs = sum_by-cons (λ z. cond (p z) 1 0) x xs in
-    let e2 : count_by q (x ∷ xs) ≡ cond (q x) 1 0 + count_by q xs = sum_by-cons (λ z. cond (q z) 1 0) x xs in
-    let e3 = bit_le (q x) (p x) (h x) in
-    let e4 = count_le p q xs h in
-    omega arith
-
-count_less : {A : Type 0} (p q : A → Bool) (xs : List A) → ((x : A) → q x ≡ true → p x ≡ true) → (y : A) → IsIn y xs → p y ≡ true → q y ≡ false
-    → count_by q xs + 1 ≤ count_by p xs
-count_less p q [] h y i py qy = absurd i
-count_less p q (x ∷ xs) h y i py qy =
-    let e1 : count_by p (x ∷ xs) ≡ cond (p x) 1 0 + count_by p xs = sum_by-cons (λ z. cond (p z) 1 0) x xs in
-    let e2 : count_by q (x ∷ xs) ≡ cond (q x) 1 0 + count_by q xs = sum_by-cons (λ z. cond (q z) 1 0) x xs in
-    go i e1 e2 (λ j. count_less p q xs h y j py qy)
-  where
-    go : (y ≡ x) ⊎ IsIn y xs → count_by p (x ∷ xs) ≡ cond (p x) 1 0 + count_by p xs → count_by q (x ∷ xs) ≡ cond (q x) 1 0 + count_by q xs
-        → (IsIn y xs → count_by q xs + 1 ≤ count_by p xs) → count_by q (x ∷ xs) + 1 ≤ count_by p (x ∷ xs)
-    go (inl e) e1 e2 again =
-        let b1 : ◌≡◌ {A = ℕ} (cond (p x) 1 0) 1 = ap (λ z. cond {A = ℕ} z 1 0) (ap p (sym e) ∙ py) in
-        let b2 : ◌≡◌ {A = ℕ} (cond (q x) 1 0) 0 = ap (λ z. cond {A = ℕ} z 1 0) (ap q (sym e) ∙ qy) in
-        let b3 = count_le p q xs h in
-        omega arith
-    go (inr j) e1 e2 again =
-        let b1 = bit_le (q x) (p x) (h x) in
-        let b2 = again j in
-        omega arith
-
 count_top : {A : Type 0} (p : A → Bool) (xs : List A) → count_by p xs ≤ length xs
 count_top p [] = omega arith
 count_top p (x ∷ xs) =
@@ -92,10 +60,6 @@ Fresh d v h =
 
 abbrev waits : ℕ → List Entry → Rule → Bool
 waits v h r = not (has_called v (test_of r) h)
-
-not-mono : (a b : Bool) → (a ≡ true → b ≡ true) → not b ≡ true → not a ≡ true
-not-mono true b h e = absurd (false≢true (sym (not-true-of b e) ∙ h refl))
-not-mono false b h e = refl
 
 own_count : (d : Deal) (v : ℕ) (h : List Entry) → Fresh d v h → count_by (λ e. sent_by v e.sender) h + count_by (waits v h) (rules_of d) ≤ length (rules_of d)
 own_count d v h f = grow (λ h. Fresh d v h → count_by (λ e. sent_by v e.sender) h + count_by (waits v h) (rules_of d) ≤ length (rules_of d)) h start more f
@@ -141,7 +105,7 @@ length-map-to : (f : ℕ → Rule) (xs : List ℕ) → length (map f xs) ≡ len
 length-map-to f [] = refl
 length-map-to f (x ∷ xs) = ap suc (length-map-to f xs)
 
-number_of_rules : (d : Deal) → length (rules_of d) ≡ length d.leaders + 3
+pub number_of_rules : (d : Deal) → length (rules_of d) ≡ length d.leaders + 3
 number_of_rules d =
     let e1 : length (rules_of d) ≡ length (ToPublish ∷ [] ++ map ToUnlock (locks d)) + length (ToClaim ∷ ToRefund ∷ []) =
     length-append (ToPublish ∷ [] ++ map ToUnlock (locks d)) (ToClaim ∷ ToRefund ∷ []) in

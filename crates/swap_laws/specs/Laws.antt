@@ -23,7 +23,8 @@ use Rattle.swap_rules.specs.Forged.{is_forged}
 use Rattle.swap_rules.specs.Due.{Wallet, Action, due}
 use Rattle.swap_rules.specs.Findings.{findings, rules_of}
 use Rattle.swap_rules.specs.Outcome.{outcome, IsEnded}
-use Rattle.swap_laws.specs.Machine.{Knows, IsWallet, KeepsRules, IsSound, called, noted}
+use Rattle.ledger_core.specs.Ledger.{after_call}
+use Rattle.swap_laws.specs.Machine.{Knows, IsWallet, KeepsRules, IsSound, noted}
 use Rattle.swap_laws.specs.Rounds.{IsRounds, IsDoneBy, IsRaced, book_at}
 
 -- the balances and the held amount add up to the amount of arc a
@@ -149,7 +150,7 @@ DueIsSound =
     → IsIn x (due d v w signed known)
     → x.arc < length known → ((e : Entry) → IsIn e fresh → sent_by v e.sender ≡ false) → IsLegal d x.arc (history known x.arc ++ fresh)
     → IsSound d known signed v
-    → IsSound d (set (set known x.arc (history known x.arc ++ fresh)) x.arc (called d x.arc (history known x.arc ++ fresh) v x.call)) (noted signed x.call) v
+    → IsSound d (set (set known x.arc (history known x.arc ++ fresh)) x.arc (after_call d x.arc v x.call (history known x.arc ++ fresh))) (noted signed x.call) v
 
 -- a party that keeps its rules never fills a ledger
 abbrev pub RulesLeaveRoom : Type 0

@@ -16,6 +16,7 @@ use Rattle.ledger_core.specs.declared.entry.Sender.TheVariants.{Party}
 use Rattle.ledger_core.specs.declared.entry.What.TheVariants.{Call as Made}
 use Rattle.ledger_core.specs.declared.entry.Entry.{Entry}
 use Rattle.ledger_core.specs.History.{height, published, triggered, sent_by, is_full, reply_to}
+use Rattle.ledger_core.specs.Ledger.{call_entry}
 use Rattle.ledger_core.specs.Book.{Histories, history, IsLegalBook}
 use Rattle.swap_rules.specs.declared.finding.Rule.{Rule}
 use Rattle.swap_rules.specs.declared.finding.Rule.TheVariants.{Publish as ToPublish, Unlock as ToUnlock, Claim as ToClaim, Refund as ToRefund}
@@ -37,11 +38,7 @@ pub record Knows (v : ℕ) (k h : List Entry) : Type 0 where
 
 -- the entry of a call of p at the end of the history
 abbrev pub entry_of : Deal → ℕ → List Entry → ℕ → Call → Entry
-entry_of d a h p c = record { sender = Party p; height = height h; what = Made c; reply = reply_to d a h p c }
-
--- the history after a call of p, as before where p's entries are full
-abbrev pub called : Deal → ℕ → List Entry → ℕ → Call → List Entry
-called d a h p c = if is_full h p then h else h ++ entry_of d a h p c ∷ []
+entry_of d a h p c = call_entry p (height h) c (reply_to d a h p c)
 
 -- What a wallet of v signs: hashkeys that are valid on every arc that enters v, with the origin that conduct asks for.
 

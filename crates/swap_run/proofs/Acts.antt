@@ -10,12 +10,13 @@ use Rattle.swap_laws.specs.Machine.{entry_of, test_of}
 use Rattle.swap_laws.proofs.Machines.{rules_transfer}
 use Rattle.swap_laws.proofs.Room.{rules_leave_room}
 use Rattle.swap_laws.proofs.Conducting.{history_same}
+use Rattle.ledger_core.specs.Ledger.{is_sender_full, after_call}
 use Rattle.party_wallet.specs.Value.{signed_in}
-use Rattle.swap_run.specs.Run.{is_sender_full, Cast, State, conforms, notes_of, signed_after, after_call, make, next_of, act, step}
+use Rattle.swap_run.specs.Run.{Cast, State, conforms, notes_of, signed_after, make, next_of, act, step}
 use Rattle.swap_run.specs.Laws.{IsReadyCast, IsGood, CanBeMade, DueCallsCanBeMade}
 use Rattle.swap_run.specs.Fair.{acts, most_acts}
 use Rattle.swap_run.specs.FairLaws.{ActsComeToRest, ActsAreEnough}
-use Rattle.swap_run.proofs.Entries.{call_is, has_room}
+use Rattle.swap_run.proofs.Entries.{call_pushes, has_room}
 use Rattle.swap_run.proofs.Noted.{due_now}
 use Rattle.swap_run.proofs.Good.{holds, note_same, first_in, steps_are_good}
 use Rattle.swap_run.proofs.Repeats.{rest_same}
@@ -68,7 +69,7 @@ module _ (c : Cast) (ready : IsReadyCast c) (v : ℕ) (lv : v < c.deal.graph.n) 
       let kn = hv.knows x.arc in
       let room = has_space s x.arc g in
       let new : after_call c.deal x.arc v x.call (history s.book x.arc) ≡ history s.book x.arc ++ entry_of c.deal x.arc (history s.book x.arc) v x.call ∷ [] =
-      call_is c.deal x.arc (history s.book x.arc) v x.call ∙ ap (λ z. cond z (history s.book x.arc) (history s.book x.arc ++ entry_of c.deal x.arc (history s.book x.arc) v x.call ∷ [])) room in
+      call_pushes c.deal x.arc (history s.book x.arc) v x.call room in
       let there : history (set (known s) x.arc (after_call c.deal x.arc v x.call (history s.book x.arc))) x.arc ≡ history s.book x.arc ++ entry_of c.deal x.arc (history s.book x.arc) v x.call ∷ [] =
       history_same (known s) x.arc (after_call c.deal x.arc v x.call (history s.book x.arc)) below ∙ new in
       subst (λ n. left c.deal v n.known + 1 ≤ left c.deal v (known s))

@@ -13,12 +13,12 @@ use Rattle.ledger_core.specs.declared.entry.Sender.TheVariants.{Party, Clock}
 use Rattle.ledger_core.specs.declared.entry.What.TheVariants.{Call as Made, Tick}
 use Rattle.ledger_core.specs.declared.entry.Entry.{Entry}
 use Rattle.ledger_core.specs.History.{height, rows, reply_to, fit, is_full, is_clock_full}
-use Rattle.ledger_core.specs.Ledger.{tick_entry}
+use Rattle.ledger_core.specs.Ledger.{tick_entry, is_sender_full, after_call}
 use Rattle.deviator_script.specs.Resolved.{fits_if}
-use Rattle.swap_laws.specs.Machine.{called, entry_of}
+use Rattle.swap_laws.specs.Machine.{entry_of}
 use Rattle.ledger_core.proofs.History.{full_reply, not-true-of}
 use Rattle.swap_laws.proofs.Conducting.{Next, Still, Pushed, next_call}
-use Rattle.swap_run.specs.Run.{is_sender_full, is_clock_full_reply, after_tick, after_call, after_move}
+use Rattle.swap_run.specs.Run.{is_clock_full_reply, after_tick, after_move}
 
 -- Ticks.
 
@@ -60,19 +60,10 @@ has_room d a past p Claim f = rw f (first_row-not (tail (rows d a past p Claim))
 has_room d a past p Refund f = rw f (first_row-not (tail (rows d a past p Refund)) refl)
 has_room d a past p (Transfer to units) f = rw f (first_row-not (tail (rows d a past p (Transfer to units))) refl)
 
-same_full : (d : Deal) (a : ℕ) (h : List Entry) (p : ℕ) (c : Call) → is_sender_full (reply_to d a h p c) ≡ is_full h p
-same_full d a h p c = go (is_full h p) refl
-  where
-    go : (x : Bool) → is_full h p ≡ x → is_sender_full (reply_to d a h p c) ≡ is_full h p
-    go true e = ap is_sender_full (full_reply d a h p c e) ∙ sym e
-    go false e = has_room d a h p c e ∙ sym e
-
-pub call_is : (d : Deal) (a : ℕ) (h : List Entry) (p : ℕ) (c : Call) → after_call d a p c h ≡ called d a h p c
+-- a call of a sender that has room leaves an entry
+pub call_pushes : (d : Deal) (a : ℕ) (h : List Entry) (p : ℕ) (c : Call) → is_full h p ≡ false → after_call d a p c h ≡ h ++ entry_of d a h p c ∷ []
 unfolding after_call
-call_is d a h p c = ap (λ x. cond x h (h ++ entry_of d a h p c ∷ [])) (same_full d a h p c)
-
-pub next_of_call : (d : Deal) (a : ℕ) (h : List Entry) (p : ℕ) (c : Call) → IsTrue ((p == party d a) || (p == counterparty d a)) → IsTrue (fit d a c) → Next d a h (after_call d a p c h) (Party p) (Made c)
-next_of_call d a h p c two fits = subst (λ k. Next d a h k (Party p) (Made c)) (sym (call_is d a h p c)) (next_call d a h p c two fits)
+call_pushes d a h p c f = ap (λ x. cond x h (h ++ entry_of d a h p c ∷ [])) (has_room d a h p c f)
 
 -- the call of a move, any call where it stands for none
 abbrev pub or_claim : Option Call → Call
@@ -81,4 +72,4 @@ or_claim (Some c) = c
 
 pub next_move : (d : Deal) (a : ℕ) (h : List Entry) (p : ℕ) (o : Option Call) → IsTrue ((p == party d a) || (p == counterparty d a)) → IsTrue (fits_if d a o) → Next d a h (after_move d a p o h) (Party p) (Made (or_claim o))
 next_move d a h p None two fits = Still refl
-next_move d a h p (Some c) two fits = next_of_call d a h p c two fits
+next_move d a h p (Some c) two fits = next_call d a h p c two fits

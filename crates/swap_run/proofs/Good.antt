@@ -21,11 +21,12 @@ use Rattle.swap_rules.specs.Due.{Action, due, first}
 use Rattle.ledger_core.proofs.History.{not-true}
 use Rattle.swap_laws.proofs.Prefixes.{same_or_not}
 use Rattle.swap_laws.proofs.Machines.{knowledge_conducts}
-use Rattle.swap_laws.proofs.Conducting.{Next, next_legal, knows_all}
+use Rattle.swap_laws.proofs.Conducting.{Next, next_legal, knows_all, next_call}
+use Rattle.ledger_core.specs.Ledger.{after_call}
 use Rattle.party_wallet.specs.Value.{signed_in}
-use Rattle.swap_run.specs.Run.{Cast, Notes, State, conforms, notes_of, signed_after, after_tick, after_call, after_move, known_up_to, look, make, next_of, act, step, no_histories, no_notes, start, run}
+use Rattle.swap_run.specs.Run.{Cast, Notes, State, conforms, notes_of, signed_after, after_tick, after_move, known_up_to, look, make, next_of, act, step, no_histories, no_notes, start, run}
 use Rattle.swap_run.specs.Laws.{IsReadyCast, AreGoodNotes, IsGood, StartIsGood, StepsAreGood, GoodIsKept, RunsAreKept}
-use Rattle.swap_run.proofs.Entries.{next_tick, next_of_call, next_move, or_claim}
+use Rattle.swap_run.proofs.Entries.{next_tick, next_move, or_claim}
 use Rattle.swap_run.proofs.Noted.{Holds, hold_other, hold_look, hold_act, due_now}
 
 -- Notes.
@@ -87,7 +88,7 @@ pub good_make : (c : Cast) (s : State) (v : ℕ) (x : Action) → IsReadyCast c 
 good_make c s v x ready lv cv i g =
     let hv = holds c s v (g.notes v lv cv) in
     let is = due_now c.deal s.book (notes_of s v) v (c.wallet v) x (ready.wallets v lv cv) ready.accepted i hv in
-    let n = next_of_call c.deal x.arc (history s.book x.arc) v x.call is.of_the_two is.fits in
+    let n = next_call c.deal x.arc (history s.book x.arc) v x.call is.of_the_two is.fits in
     let below = in_book c s x.arc g is.below in
     record {
       legal = next_legal c.deal s.book x.arc (after_call c.deal x.arc v x.call (history s.book x.arc)) (Party v) (Made x.call) below n g.legal;

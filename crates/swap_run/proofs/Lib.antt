@@ -6,7 +6,6 @@ pub mod Noted
 pub mod Good
 -- turns
 pub mod Repeats
-pub mod Counts
 pub mod Slots
 pub mod Acts
 pub mod Turns

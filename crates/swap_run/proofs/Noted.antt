@@ -15,14 +15,14 @@ use Rattle.ledger_core.specs.History.{sent_by, IsLegal}
 use Rattle.ledger_core.specs.Book.{Histories, history, IsLegalBook}
 use Rattle.swap_rules.specs.Accepted.{IsAccepted}
 use Rattle.swap_rules.specs.Due.{Wallet, Action, due}
-use Rattle.swap_laws.specs.Machine.{Knows, IsWallet, IsSound, called, noted}
+use Rattle.swap_laws.specs.Machine.{Knows, IsWallet, IsSound, noted}
 use Rattle.swap_laws.proofs.Prefixes.{same_or_not}
 use Rattle.swap_laws.proofs.Machines.{learn_sound, call_sound}
 use Rattle.swap_laws.proofs.Due.{IsDue, is_due}
 use Rattle.swap_laws.proofs.Conducting.{Next, Still, Pushed, history_same, history_other, knows_all}
+use Rattle.ledger_core.specs.Ledger.{after_call}
 use Rattle.party_wallet.specs.Value.{signed_in}
-use Rattle.swap_run.specs.Run.{Notes, signed_after, after_call, known_up_to}
-use Rattle.swap_run.proofs.Entries.{call_is}
+use Rattle.swap_run.specs.Run.{Notes, signed_after, known_up_to}
 
 -- The hashkeys that a call signs, in a list and as a function.
 
@@ -111,18 +111,16 @@ hold_act d b n v w x wallet accepted legal i h =
     let here : x.arc < length n.known = subst (λ m. x.arc < m) (sym h.one_each) is.below in
     let there : x.arc < length b = subst (λ m. x.arc < m) (sym legal.one_each) is.below in
     let sound = call_sound d v w n.known (signed_in n.signed) x kn.rest wallet accepted i here kn.others (subst (IsLegal d x.arc) kn.whole (legal.legal x.arc there)) h.sound in
-    let one : IsSound d (set n.known x.arc (called d x.arc (history n.known x.arc ++ kn.rest) v x.call)) (noted (signed_in n.signed) x.call) v =
-    subst (λ l. IsSound d l (noted (signed_in n.signed) x.call) v) (set-set n.known x.arc (history n.known x.arc ++ kn.rest) (called d x.arc (history n.known x.arc ++ kn.rest) v x.call)) sound in
-    let two : IsSound d (set n.known x.arc (called d x.arc (history b x.arc) v x.call)) (noted (signed_in n.signed) x.call) v =
-    subst (λ l. IsSound d (set n.known x.arc (called d x.arc l v x.call)) (noted (signed_in n.signed) x.call) v) (sym kn.whole) one in
-    let three : IsSound d (set n.known x.arc (after_call d x.arc v x.call (history b x.arc))) (noted (signed_in n.signed) x.call) v =
-    subst (λ l. IsSound d (set n.known x.arc l) (noted (signed_in n.signed) x.call) v) (sym (call_is d x.arc (history b x.arc) v x.call)) two in
+    let one : IsSound d (set n.known x.arc (after_call d x.arc v x.call (history n.known x.arc ++ kn.rest))) (noted (signed_in n.signed) x.call) v =
+    subst (λ l. IsSound d l (noted (signed_in n.signed) x.call) v) (set-set n.known x.arc (history n.known x.arc ++ kn.rest) (after_call d x.arc v x.call (history n.known x.arc ++ kn.rest))) sound in
+    let two : IsSound d (set n.known x.arc (after_call d x.arc v x.call (history b x.arc))) (noted (signed_in n.signed) x.call) v =
+    subst (λ l. IsSound d (set n.known x.arc (after_call d x.arc v x.call l)) (noted (signed_in n.signed) x.call) v) (sym kn.whole) one in
     record {
       one_each = length-set n.known x.arc (after_call d x.arc v x.call (history b x.arc)) ∙ h.one_each;
       places = signed_length n.signed x.call ∙ h.places;
       knows = knows_end v b n.known (set b x.arc (after_call d x.arc v x.call (history b x.arc))) x.arc (after_call d x.arc v x.call (history b x.arc)) here (history_same b x.arc (after_call d x.arc v x.call (history b x.arc)) there)
           (λ z e. subst (Knows v (history n.known z)) (sym (history_other b x.arc z (after_call d x.arc v x.call (history b x.arc)) e)) (h.knows z));
-      sound = subst (λ f. IsSound d (set n.known x.arc (after_call d x.arc v x.call (history b x.arc))) f v) (sym (signed_is n.signed x.call (low is))) three;
+      sound = subst (λ f. IsSound d (set n.known x.arc (after_call d x.arc v x.call (history b x.arc))) f v) (sym (signed_is n.signed x.call (low is))) two;
     }
   where
     low : IsDue d v w (signed_in n.signed) n.known n.known x.arc x.call → (key : Hashkey) → x.call ≡ Unlock key → key.lock < length n.signed

@@ -19,7 +19,8 @@ use Rattle.swap_laws.specs.Machine.{Begins, test_of}
 use Rattle.swap_laws.proofs.Prefixes.{same_or_not, list_any-more}
 use Rattle.swap_laws.proofs.Conducting.{history_other}
 use Rattle.swap_run.specs.Fair.{most_acts}
-use Rattle.swap_run.proofs.Counts.{count_less, not-mono}
+use Rattle.swap_base.proofs.Lists.{count_less, not-mono, in_map, in_flat_map}
+use Rattle.swap_laws.proofs.Room.{number_of_rules}
 
 -- A rule on an arc.
 pub record Slot : Type 0 where
@@ -33,14 +34,6 @@ abbrev pub slots : Deal → List Slot
 slots d = flat_map (slots_of d) (rules_of d)
 
 -- How many there are.
-
-number_of_rules : (d : Deal) → length (rules_of d) ≡ length d.leaders + 3
-number_of_rules d =
-    let e1 : length (rules_of d) ≡ length (ToPublish ∷ [] ++ map ToUnlock (locks d)) + length (ToClaim ∷ ToRefund ∷ []) = length-append (ToPublish ∷ [] ++ map ToUnlock (locks d)) (ToClaim ∷ ToRefund ∷ []) in
-    let e2 : length (map ToUnlock (locks d)) ≡ length d.leaders = length-map-range_with_len ToUnlock 0 (length d.leaders) in
-    let e3 : length (ToPublish ∷ [] ++ map ToUnlock (locks d)) ≡ suc (length (map ToUnlock (locks d))) = refl in
-    let e4 : length (ToClaim ∷ ToRefund ∷ []) ≡ 2 = refl in
-    omega arith
 
 one_more : (n m x y z : ℕ) → z ≡ x + y → x ≡ n → y ≡ m * n → z ≡ suc m * n
 one_more n m x y z e f g = omega arith
@@ -66,16 +59,6 @@ left d v known = count_by (open_slot v known) (slots d)
 
 pub left_most : (d : Deal) (v : ℕ) (known : Histories) → left d v known ≤ most_acts d
 left_most d v known = subst (λ n. left d v known ≤ n) (number_of_slots d) (count_by-le-length (open_slot v known) (slots d))
-
-in_map : {A B : Type 0} (f : A → B) (xs : List A) (x : A) → IsIn x xs → IsIn (f x) (map f xs)
-in_map f [] x i = i
-in_map f (y ∷ xs) x (inl e) = inl (ap f e)
-in_map f (y ∷ xs) x (inr i) = inr (in_map f xs x i)
-
-in_flat_map : {A B : Type 0} (f : A → List B) (xs : List A) (x : A) (y : B) → IsIn x xs → IsIn y (f x) → IsIn y (flat_map f xs)
-in_flat_map f [] x y i j = absurd i
-in_flat_map f (z ∷ xs) x y (inl e) j = in_append (f z) (flat_map f xs) y (inl (subst (λ w. IsIn y (f w)) e j))
-in_flat_map f (z ∷ xs) x y (inr i) j = in_append (f z) (flat_map f xs) y (inr (in_flat_map f xs x y i j))
 
 slot_in : (d : Deal) (r : Rule) (a : ℕ) → IsIn r (rules_of d) → a < length d.graph.arcs → IsIn (record { rule = r; arc = a }) (slots d)
 slot_in d r a i l = in_flat_map (slots_of d) (rules_of d) r (record { rule = r; arc = a }) i (in_map (λ (a : ℕ). let s : Slot = record { rule = r; arc = a } in s) (arcs d.graph) a (in_range a (length d.graph.arcs) l))

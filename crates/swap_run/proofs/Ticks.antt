@@ -25,7 +25,7 @@ use Rattle.swap_run.specs.Laws.{IsReadyCast, IsGood}
 use Rattle.swap_run.specs.Fair.{the_horizon, raised, tick_low}
 use Rattle.swap_run.proofs.Entries.{tick_room, next_tick}
 use Rattle.swap_run.proofs.Good.{in_book, steps_are_good}
-use Rattle.swap_run.proofs.Turns.{height_push}
+use Rattle.ledger_core.proofs.Bounds.{height-push}
 
 -- In a legal history each tick adds to the height.
 
@@ -51,7 +51,7 @@ clocks_low d a h l = grow (λ h. IsLegal d a h → clocks h ≤ height h) h (λ 
     let l0 = rest (all_moments_front (IsLegalMoment d a) xs (x ∷ []) l) in
     let e = at_moment (IsLegalMoment d a) (xs ++ x ∷ []) xs x l ([], refl) in
     let t = tick_some d a xs x.sender x.what x.height x.reply e in
-    let h1 = height_push xs x in
+    let h1 = height-push xs x in
     let h2 = clocks_push xs x in
     omega arith) l
 
@@ -75,7 +75,7 @@ has_room d a h k l low =
     ap₂ (λ x y. x || y) a1 a2
 
 tick_raises : (d : Deal) (a : ℕ) (h : List Entry) → IsAccepted d → IsLegal d a h → height h ≤ the_horizon d → height (after_tick 1 h) ≡ height h + 1
-tick_raises d a h k l low = ap height (tick_room 1 h (has_room d a h k l low)) ∙ height_push h (tick_entry 1 (height h + 1) Accepted)
+tick_raises d a h k l low = ap height (tick_room 1 h (has_room d a h k l low)) ∙ height-push h (tick_entry 1 (height h + 1) Accepted)
 
 -- What a tick of the ledger of arc a leaves, where it is low.
 record TickedOne (c : Cast) (a : ℕ) (s t : State) : Type 0 where

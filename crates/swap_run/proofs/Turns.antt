@@ -3,6 +3,7 @@ use Rattle.std.proofs.Common.{◌≡◌, ◌≢◌, ◌⊎◌, ℕ, suc, zero, �
 use Rattle.std.proofs.lemmas.List.Sums.{sum_by-cons}
 use Rattle.swap_base.specs.Lists.{IsIn}
 use Rattle.swap_base.proofs.Lists.{in_filter, from_filter, from_range, or-right}
+use Rattle.ledger_core.proofs.Bounds.{height-push}
 use Rattle.swap_digraph.specs.declared.deal.Deal.{Deal}
 use Rattle.swap_digraph.specs.Deal.{party, counterparty}
 use Rattle.swap_digraph.specs.Graph.{arcs}
@@ -20,23 +21,16 @@ use Rattle.ledger_core.proofs.History.{height_append}
 use Rattle.swap_laws.proofs.Words.{enters, leaves, or-left}
 use Rattle.swap_laws.proofs.Prefixes.{begins_refl, begins_more, same_or_not}
 use Rattle.swap_laws.proofs.Growth.{Grows}
-use Rattle.swap_laws.proofs.Conducting.{Next, Still, Pushed, next_grows, history_same, history_other}
-use Rattle.swap_run.specs.Run.{Cast, State, conforms, notes_of, signed_after, after_call, known_up_to, look, make, next_of, act, step}
+use Rattle.swap_laws.proofs.Conducting.{Next, Still, Pushed, next_grows, history_same, history_other, next_call}
+use Rattle.ledger_core.specs.Ledger.{after_call}
+use Rattle.swap_run.specs.Run.{Cast, State, conforms, notes_of, signed_after, known_up_to, look, make, next_of, act, step}
 use Rattle.swap_run.specs.Laws.{IsReadyCast, IsGood}
 use Rattle.swap_run.specs.Fair.{adjacent, looks, acts, most_acts, turn}
 use Rattle.swap_run.specs.FairLaws.{OthersRest, TurnsAreGood}
-use Rattle.swap_run.proofs.Entries.{next_of_call}
 use Rattle.swap_run.proofs.Noted.{due_now}
 use Rattle.swap_run.proofs.Good.{holds, note_same, note_other, in_book, first_in, good_look}
 use Rattle.swap_run.proofs.Repeats.{repeat_fixed, fold_fixed}
 use Rattle.swap_run.proofs.Acts.{act_is, all_due, acts_good, at_rest}
-
-pub height_push : (h : List Entry) (e : Entry) → height (h ++ e ∷ []) ≡ height h + ticks_in e.what
-height_push h e =
-    let e1 = height_append h (e ∷ []) in
-    let e2 : height (e ∷ []) ≡ ticks_in e.what + height [] = sum_by-cons (λ e. ticks_in e.what) e [] in
-    let e3 : height [] ≡ 0 = refl in
-    omega arith
 
 -- Steps that tick nothing.
 pub record Calm (b c : Histories) : Type 0 where
@@ -58,7 +52,7 @@ calm_next d b a k v c below n = record { grows = next_grows d b a k (Party v) (M
     flat : Next d a (history b a) k (Party v) (Made c) → height k ≡ height (history b a)
     flat (Still e) = ap height e
     flat (Pushed e q es ew le) =
-        let e1 = height_push (history b a) e in
+        let e1 = height-push (history b a) e in
         let e2 : ticks_in e.what ≡ 0 = ap ticks_in ew in
         let e3 : ◌≡◌ {A = ℕ} (height k) (height (history b a ++ e ∷ [])) = ap height q in
         omega arith
@@ -159,7 +153,7 @@ module _ (c : Cast) (ready : IsReadyCast c) (v : ℕ) (lv : v < c.deal.graph.n) 
       let hv = holds c s v (g.notes v lv cv) in
       let is = due_now c.deal s.book (notes_of s v) v (c.wallet v) x (ready.wallets v lv cv) ready.accepted i hv in
       let below : x.arc < length s.book = in_book c s x.arc g is.below in
-      let n = next_of_call c.deal x.arc (history s.book x.arc) v x.call is.of_the_two is.fits in
+      let n = next_call c.deal x.arc (history s.book x.arc) v x.call is.of_the_two is.fits in
       record {
         calm = calm_next c.deal s.book x.arc (after_call c.deal x.arc v x.call (history s.book x.arc)) v x.call below n;
         others = λ u m. note_other s (set s.book x.arc after) v u (record { known = set (notes_of s v).known x.arc after; signed = signed_after (notes_of s v).signed x.call }) m;

@@ -3,12 +3,12 @@ use Rattle.std.specs.Prelude.{ℕ, ◌+◌, Bool, true, false, List, [], ◌∷�
 use Rattle.swap_digraph.specs.declared.deal.Deal.{Deal}
 use Rattle.hashkey_path.specs.declared.hashkey.Hashkey.{Hashkey}
 use Rattle.escrow_core.specs.declared.reply.Reply.{Reply}
-use Rattle.escrow_core.specs.declared.reply.Reply.TheVariants.{SenderFull, ClockFull}
+use Rattle.escrow_core.specs.declared.reply.Reply.TheVariants.{ClockFull}
 use Rattle.ledger_core.specs.declared.entry.Call.{Call}
 use Rattle.ledger_core.specs.declared.entry.Call.TheVariants as calls
 use Rattle.ledger_core.specs.declared.entry.Entry.{Entry}
-use Rattle.ledger_core.specs.History.{height, reply_to, reply_to_tick}
-use Rattle.ledger_core.specs.Ledger.{call_entry, tick_entry}
+use Rattle.ledger_core.specs.History.{height, reply_to_tick}
+use Rattle.ledger_core.specs.Ledger.{after_call, tick_entry}
 use Rattle.ledger_core.specs.Book.{Histories, history}
 use Rattle.party_wallet.specs.Value.{signed_in}
 use Rattle.deviator_script.specs.declared.event.Event.{Event}
@@ -47,11 +47,6 @@ signed_after signed _ = signed
 
 -- What calls and ticks do to a history.
 
--- the sender has no room for an entry
-abbrev pub is_sender_full : Reply → Bool
-is_sender_full SenderFull = true
-is_sender_full _ = false
-
 -- the clock has no room for an entry
 abbrev pub is_clock_full_reply : Reply → Bool
 is_clock_full_reply ClockFull = true
@@ -60,10 +55,6 @@ is_clock_full_reply _ = false
 -- a history after a tick by k, which leaves no entry where the clock is full
 unfoldable pub after_tick : ℕ → List Entry → List Entry
 after_tick k h = if is_clock_full_reply (reply_to_tick h k) then h else h ++ tick_entry k (height h + k) (reply_to_tick h k) ∷ []
-
--- the history of arc a after a call of p, which leaves no entry where the sender is full
-unfoldable pub after_call : Deal → ℕ → ℕ → Call → List Entry → List Entry
-after_call d a p c h = if is_sender_full (reply_to d a h p c) then h else h ++ call_entry p (height h) c (reply_to d a h p c) ∷ []
 
 -- the history of arc a after a move of p, which may stand for no call
 abbrev pub after_move : Deal → ℕ → ℕ → Option Call → List Entry → List Entry

@@ -8,7 +8,7 @@ use Rattle.ledger_core.specs.Value.{LedgerState}
 use Rattle.ledger_core.specs.Book.{Histories, history}
 use Rattle.swap_laws.specs.Machine.{noted}
 use Rattle.swap_rules.specs.Due.{Action}
-use Rattle.swap_run.specs.Run.{after_call}
+use Rattle.ledger_core.specs.Ledger.{after_call}
 use Rattle.party_wallet.specs.Value.{signed_in}
 use Rattle.party_machine.specs.Machine.{MachineState, IsOfSame, action_of, next_of, noted_for}
 use Rattle.swap_world.specs.Acting.{histories, book_after, machine_after}

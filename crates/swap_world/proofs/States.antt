@@ -9,8 +9,9 @@ use Rattle.ledger_core.specs.Value.{LedgerState}
 use Rattle.ledger_core.specs.Book.{Histories, history}
 use Rattle.deviator_script.specs.declared.event.Event.TheVariants.{Look, Act}
 use Rattle.swap_rules.specs.Due.{Wallet, Action, due, first}
+use Rattle.ledger_core.specs.Ledger.{after_call}
 use Rattle.party_wallet.specs.Value.{signed_in}
-use Rattle.swap_run.specs.Run.{Cast, Notes, State, conforms, notes_of, signed_after, after_call, known_up_to, look, make, next_of, act, step}
+use Rattle.swap_run.specs.Run.{Cast, Notes, State, conforms, notes_of, signed_after, known_up_to, look, make, next_of, act, step}
 use Rattle.party_machine.specs.Wallet.{wallet_of}
 use Rattle.party_machine.specs.Machine as machines
 use Rattle.party_machine.specs.Machine.{MachineState}

@@ -9,8 +9,7 @@ use Rattle.ledger_core.specs.Value.{LedgerState}
 use Rattle.swap_laws.specs.Machine.{Begins}
 use Rattle.swap_laws.proofs.Prefixes.{begins_refl}
 use Rattle.ledger_core.specs.History.{height, reply_to}
-use Rattle.ledger_core.specs.Ledger.{IsAfter, call_entry}
-use Rattle.swap_run.specs.Run.{is_sender_full, after_call}
+use Rattle.ledger_core.specs.Ledger.{IsAfter, call_entry, is_sender_full, after_call}
 
 full_or_kept : (r : Reply) (h h' : List Entry) (e : Entry) → (r ≡ SenderFull → h' ≡ h) → (r ≢ SenderFull → h' ≡ h ++ e ∷ []) → h' ≡ cond (is_sender_full r) h (h ++ e ∷ [])
 full_or_kept SenderFull h h' e full kept = full refl

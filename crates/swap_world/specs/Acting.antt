@@ -7,7 +7,8 @@ use Rattle.ledger_core.specs.History.{fit}
 use Rattle.ledger_core.specs.Known.{presents_valid}
 use Rattle.ledger_core.specs.Book.{Histories, history}
 use Rattle.swap_rules.specs.Due.{Action}
-use Rattle.swap_run.specs.Run.{after_call, signed_after}
+use Rattle.ledger_core.specs.Ledger.{after_call}
+use Rattle.swap_run.specs.Run.{signed_after}
 use Rattle.party_machine.specs.Machine.{MachineState}
 
 -- The call fits, stands on an arc that touches party v, and presents no hashkey that isn't valid.

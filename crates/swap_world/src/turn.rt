@@ -8,7 +8,8 @@ ghost use Rattle.ledger_core.specs.Book.{history};
 ghost use Rattle.deviator_script.specs.Resolved.{arc_of, call_of, IsFitting};
 ghost use Rattle.swap_laws.specs.Machine.{Begins};
 ghost use Rattle.swap_rules.specs.Due.{Action};
-ghost use Rattle.swap_run.specs.Run.{after_tick, after_call, after_move};
+ghost use Rattle.ledger_core.specs.Ledger.{after_call};
+ghost use Rattle.swap_run.specs.Run.{after_tick, after_move};
 ghost use Rattle.party_machine.specs.Machine.{next_of};
 ghost use Rattle.swap_world.specs.Acting.{IsMakable, IsSameOwner, histories, book_after, machine_after};
 ghost use Rattle.swap_world.specs.Inside.{AreLedgersOf, IsLedgerOf};
@@ -39,7 +40,7 @@ pub(crate) fn tick(ledger: &mut Ledger, k: u32) -> Result<(), NoMemory>
 }
 
 /// Makes a call on a ledger.
-#[tactic(auto, unfolding(swap_run::specs::Run::after_call))]
+#[tactic(auto, unfolding(ledger_core::specs::Ledger::after_call))]
 pub(crate) fn call(
     ledger: &mut Ledger,
     sender: PartyId,
