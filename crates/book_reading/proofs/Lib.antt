@@ -1,3 +1,4 @@
+pub mod First
 pub mod Greatest
 pub mod Known
 pub mod Openings

@@ -10,7 +10,7 @@ use Rattle.swap_rules.specs.Party.{is_ready, leads_one}
 use Rattle.swap_rules.specs.Conduct.{is_publish}
 use Rattle.swap_rules.specs.Due.{has_called, is_due_publish, due_publishes, first}
 use Rattle.party_phase_one.specs.Publish.{publish_on}
-use Rattle.party_phase_one.proofs.First.{first_find, find_none}
+use Rattle.book_reading.proofs.First.{first_find, find_none}
 
 -- the party has no publish on the arc
 abbrev pub unpublished : ℕ → Histories → ℕ → Bool

@@ -9,7 +9,7 @@ use Rattle.hashkey_path.specs.declared.hashkey.Hashkey.{Hashkey}
 use Rattle.ledger_core.specs.History.{opened}
 use Rattle.ledger_core.specs.Book.{Histories, history}
 use Rattle.swap_rules.specs.Party.{opens_without}
-use Rattle.party_phase_one.proofs.First.{leaving_below, entering_below}
+use Rattle.book_reading.proofs.First.{leaving_below, entering_below}
 use Rattle.party_phase_two.specs.Unlocks.{seen_on, IsSeenOn}
 use Rattle.party_phase_two.specs.Parts.{not_called, due_base, first_closed, unlock_due, unlock_for}
 use Rattle.party_phase_two.specs.declared.unlock_due.Base.{Base}

@@ -6,7 +6,7 @@ use Rattle.swap_digraph.specs.Graph.{entering, leaving}
 use Rattle.ledger_core.specs.declared.entry.Call.TheVariants.{Claim, Refund}
 use Rattle.ledger_core.specs.Book.{Histories}
 use Rattle.swap_rules.specs.Due.{is_due_claim, is_due_refund, due_claims, due_refunds, first}
-use Rattle.party_phase_one.proofs.First.{first_find}
+use Rattle.book_reading.proofs.First.{first_find}
 use Rattle.party_phase_two.specs.Settling.{claim_on, refund_on}
 
 pub first_claim : (d : Deal) (v : ℕ) (k : Histories) → first (due_claims d v k) ≡ option_map claim_on (find (is_due_claim d v k) (entering d.graph v))

@@ -11,7 +11,7 @@ use Rattle.ledger_core.specs.declared.entry.Call.TheVariants.{Unlock}
 use Rattle.ledger_core.specs.Book.{Histories}
 use Rattle.swap_rules.specs.Party.{is_ready}
 use Rattle.swap_rules.specs.Due.{Wallet, Action, due_key, due_unlock_on, due_unlocks, presented, first}
-use Rattle.party_phase_one.proofs.First.{call_on, first_find}
+use Rattle.book_reading.proofs.First.{call_on, first_find}
 use Rattle.party_phase_two.specs.Unlocks.{key_from, IsFirstUnlock}
 use Rattle.party_phase_two.specs.Parts.{not_called, due_base, first_closed, unlock_due, unlock_for}
 use Rattle.party_phase_two.specs.declared.unlock_due.Base.{Base}

@@ -1,5 +1,5 @@
 -- A loop that makes one step for each of a list.
-use Rattle.std.proofs.Common.{◌≡◌, ℕ, ◌+◌, ◌<◌, ◌≤◌, length, get_or, drop, map, List, [], ◌∷◌, Bool, true, false, Option, Some, None, Result, Ok, Err}
+use Rattle.std.proofs.Common.{◌≡◌, ℕ, ◌+◌, ◌<◌, ◌≤◌, length, get_or, drop, map, List, [], ◌∷◌, Bool, Result, Ok, Err}
 use Rattle.std.proofs.Common.{refl, sym, ap, ◌∙◌, arith, add-one, drop-cons, cond}
 use Rattle.std.proofs.lemmas.List.{nil_from_length, length-drop, length-map}
 use Rattle.std.specs.Prelude.{position, not, ◌||◌}

@@ -1,5 +1,5 @@
 use Rattle.std.proofs.Common.{map}
-use Rattle.party_phase_one.proofs.First.{leaving_below}
+use Rattle.book_reading.proofs.First.{leaving_below}
 use Rattle.party_phase_one.proofs.Publishing.{unpublished, may, may_not}
 use Rattle.party_phase_one.proofs.publish.due_publish.Goals as goal
 

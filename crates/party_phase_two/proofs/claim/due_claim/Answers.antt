@@ -1,6 +1,6 @@
 use Rattle.std.proofs.Common.{map, option_map, sym, ap, ◌∙◌}
 use Rattle.swap_rules.specs.Due.{is_due_claim}
-use Rattle.party_phase_one.proofs.First.{entering_below}
+use Rattle.book_reading.proofs.First.{entering_below}
 use Rattle.party_phase_two.specs.Settling.{claim_on}
 use Rattle.party_phase_two.proofs.Settling.{first_claim}
 use Rattle.party_phase_two.proofs.claim.due_claim.Goals as goal

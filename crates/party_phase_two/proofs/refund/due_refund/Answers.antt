@@ -1,6 +1,6 @@
 use Rattle.std.proofs.Common.{map, option_map, sym, ap, ◌∙◌}
 use Rattle.swap_rules.specs.Due.{is_due_refund}
-use Rattle.party_phase_one.proofs.First.{leaving_below}
+use Rattle.book_reading.proofs.First.{leaving_below}
 use Rattle.party_phase_two.specs.Settling.{refund_on}
 use Rattle.party_phase_two.proofs.Settling.{first_refund}
 use Rattle.party_phase_two.proofs.refund.due_refund.Goals as goal
