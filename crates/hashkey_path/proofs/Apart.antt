@@ -179,9 +179,36 @@ alike d e s =
       id = e.id;
     }
 
-same_parts : (d e : Deal) → IsWritten d → IsWritten e → deal_bytes d ≡ deal_bytes e → AreSame d e
+-- what follows the arcs
+abbrev after_arcs : Deal → List ℕ
+after_arcs d =
+    leader_bytes d ++ (to_be_bytes w32 d.start ++ (to_be_bytes w32 d.delta ++ (to_be_bytes w32 d.bound ++ (joined d.hashlocks ++ key_bytes d.mode d.keys))))
+
+nested : (h f l s t b j k : List ℕ) → h ++ f ++ l ++ (s ++ t ++ b) ++ j ++ k ≡ h ++ (f ++ (l ++ (s ++ (t ++ (b ++ (j ++ k))))))
+nested h f l s t b j k =
+    append_assoc (h ++ f ++ l ++ (s ++ t ++ b)) j k
+    ∙ (append_assoc (h ++ f ++ l) (s ++ t ++ b) (j ++ k)
+    ∙ (append_assoc (h ++ f) l (s ++ t ++ b ++ (j ++ k))
+    ∙ (append_assoc h f (l ++ (s ++ t ++ b ++ (j ++ k)))
+    ∙ ap (λ x. h ++ (f ++ (l ++ x))) (append_assoc (s ++ t) b (j ++ k) ∙ append_assoc s t (b ++ (j ++ k))))))
+
+written : (d : Deal) → deal_bytes d ≡ head_bytes d ++ (flat_map (arc_bytes d) (arcs d.graph) ++ after_arcs d)
 unfolding deal_bytes
-same_parts d e s t q =
+written d =
+    nested (head_bytes d) (flat_map (arc_bytes d) (arcs d.graph)) (leader_bytes d) (to_be_bytes w32 d.start) (to_be_bytes w32 d.delta)
+    (to_be_bytes w32 d.bound) (joined d.hashlocks) (key_bytes d.mode d.keys)
+
+same_arcs : (d e : Deal) → length d.graph.arcs ≡ length e.graph.arcs
+    → flat_map (arc_bytes d) (arcs d.graph) ++ after_arcs d ≡ flat_map (arc_bytes e) (arcs e.graph) ++ after_arcs e
+    → ((a : ℕ) → 0 ≤ a → a < 0 + length e.graph.arcs → arc_bytes d a ≡ arc_bytes e a) × (after_arcs d ≡ after_arcs e)
+same_arcs d e count q =
+    each (arc_bytes d) (arc_bytes e) 0 (length e.graph.arcs) (after_arcs d) (after_arcs e) (λ a. refl)
+    (subst (λ k. flat_map (arc_bytes d) (range_with_len 0 k) ++ after_arcs d ≡ flat_map (arc_bytes e) (arcs e.graph) ++ after_arcs e) count q)
+
+same_parts : (d e : Deal) → IsWritten d → IsWritten e → deal_bytes d ≡ deal_bytes e → AreSame d e
+same_parts d e s t same =
+    let q : head_bytes d ++ (flat_map (arc_bytes d) (arcs d.graph) ++ after_arcs d) ≡ head_bytes e ++ (flat_map (arc_bytes e) (arcs e.graph) ++ after_arcs e) =
+    sym (written d) ∙ (same ∙ written e) in
     let version = same_version d.version e.version (head_is _ _ _ _ q) in
     let q1 = tail_is _ _ _ _ q in
     let mode = same_mode d.mode e.mode (head_is _ _ _ _ q1) in
@@ -190,18 +217,17 @@ same_parts d e s t q =
     let q3 = tail_is _ _ _ _ q2 in
     let count : length d.graph.arcs ≡ length e.graph.arcs = head_is _ _ _ _ q3 in
     let q4 = tail_is _ _ _ _ q3 in
-    let a =
-    each (arc_bytes d) (arc_bytes e) 0 (length e.graph.arcs) _ _ (λ a. refl) (ap (λ k. flat_map (arc_bytes d) (range_with_len 0 k) ++ _) (sym count) ∙ q4)
-    in
+    let a = same_arcs d e count q4 in
     let few : length d.leaders ≡ length e.leaders = head_is _ _ _ _ a.1 in
     let q5 = tail_is _ _ _ _ a.1 in
     let l = parts d.leaders e.leaders _ _ few q5 in
-    let start = fronts (to_be_bytes w32 d.start) (to_be_bytes w32 e.start) _ _ _ _ refl l.1 in
-    let delta = fronts (to_be_bytes w32 d.delta) (to_be_bytes w32 e.delta) _ _ _ _ refl start.1 in
+    let start = parts (to_be_bytes w32 d.start) (to_be_bytes w32 e.start) _ _ refl l.1 in
+    let delta = parts (to_be_bytes w32 d.delta) (to_be_bytes w32 e.delta) _ _ refl start.1 in
     let bound = parts (to_be_bytes w32 d.bound) (to_be_bytes w32 e.bound) _ _ refl delta.1 in
     let locks : length d.hashlocks ≡ length e.hashlocks = s.sized.hashlocks ∙ (few ∙ sym t.sized.hashlocks) in
     let h = same_digests d.hashlocks e.hashlocks (key_bytes d.mode d.keys) (key_bytes e.mode e.keys) locks s.hashlocks t.hashlocks bound.1 in
-    let arc = λ b (low : b < length d.graph.arcs). same_arc d e b s.sized t.sized low (omega (arith, low, count)) (a.0 b (omega arith) (omega (arith, low, count))) in
+    let arc : (b : ℕ) → b < length d.graph.arcs → IsSameArc d e b =
+    λ b low. same_arc d e b s.sized t.sized low (omega (arith, low, count)) (a.0 b (omega arith) (omega (arith, low, count))) in
     let d1 = s.sized.start in
     let e1 = t.sized.start in
     let d2 = s.sized.delta in
