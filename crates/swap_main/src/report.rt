@@ -88,10 +88,10 @@ fn of_check(
     ensures promised { IfOk result (λ w. IsCheck (lines_read Purpose.Check ((line, text.now) ∷ map (λ l. (l.0, l.1.now)) events.now)) w) }
 {
     let Prepared { job, .. } = read_header(alloc, line, text, Purpose::Check)?;
-    if let Err(fault) = pass_over(alloc, &job, events) {
-        return Err(with_names(fault, job.names));
+    match pass_over(alloc, &job, events) {
+        Ok(()) => Ok(told(alloc, &job.deal)?),
+        Err(fault) => Err(with_names(fault, job.names)),
     }
-    Ok(told(alloc, &job.deal)?)
 }
 
 fn of_header(
