@@ -1,5 +1,6 @@
 -- An event that is answered fits its deal.
-use Rattle.std.proofs.Common.{◌≡◌, ℕ, ◌<◌, ◌≤◌, ◌&&◌, ◌||◌, ◌==◌, Bool, true, false, length, slice_index_or, List, Ok, Option, Some, None, refl, subst, arith, eq-eqb}
+use Rattle.std.proofs.Common.{◌≡◌, ℕ, ◌<◌, ◌≤◌, ◌&&◌, ◌||◌, ◌==◌, Bool, true, false, length, slice_index_or, List, Ok, Option, Some, None, refl, subst, arith}
+use Rattle.std.proofs.Common.{eq-eqb}
 use Rattle.std.specs.Prelude.{unwrap_or, IsTrue, codes}
 use Rattle.std.proofs.lemmas.Bool.{le-leb}
 use Rattle.std.proofs.lemmas.Bool.Decides.{nat_tests}
@@ -16,19 +17,21 @@ use Rattle.deviator_script.specs.declared.event.Event.TheVariants.{Tick, Look, A
 use Rattle.deviator_script.specs.Resolved.{arc_of as stands_on, is_built, fits_if, call_of, IsFitting}
 use Rattle.deviator_script.specs.Step.{CanStep}
 use Rattle.refusals.specs.declared.reason.Reason.TheVariants.{NotAdjacent}
-use Rattle.offer_fields.specs.Limits.{within, digest_of}
+use Rattle.offer_fields.specs.Lists.{each_of}
+use Rattle.offer_fields.specs.Limits.{number_within, within, digest_of}
+use Rattle.offer_fields.specs.Names.{party_of_name}
 use Rattle.offer_events.specs.declared.raw.RawTerms.{RawTerms}
 use Rattle.offer_events.specs.declared.raw.RawKey.{RawKey}
 use Rattle.offer_events.specs.declared.raw.RawMove.{RawMove}
 use Rattle.offer_events.specs.declared.raw.RawMove.TheVariants as raw_moves
 use Rattle.offer_events.specs.declared.raw.RawEvent.{RawEvent}
 use Rattle.offer_events.specs.declared.raw.RawEvent.TheVariants as raw_events
-use Rattle.offer_events.specs.Lists.{each_of}
-use Rattle.offer_events.specs.Names.{number_of}
-use Rattle.offer_events.specs.Limits.{below, ranged, optional_most, locks_of, optional_locks, sig_of}
+use Rattle.offer_events.specs.Limits.{number_below, optional_most, locks_of, optional_locks, sig_of}
 use Rattle.offer_events.specs.Moves.{arc_of, publish_of, key_of, unlock_of, claim_of, refund_of, transfer_of, move_of}
 use Rattle.offer_events.specs.Event.{event_of_tick, event_of_look, event_of_act, deviating, adjacent, received, placed, event_of_call, checked}
-use Rattle.offer_events.proofs.Parts.{parts, passed, within_fits, below_fits, ranged_fits, number_below, each_length, each_below}
+use Rattle.offer_fields.proofs.Chains.{went, each_length}
+use Rattle.offer_fields.proofs.Ranges.{passed, within_ok, number_within_ok, party_below}
+use Rattle.offer_events.proofs.Parts.{number_below_ok, each_below}
 
 -- what a move keeps to before it is known where it stands
 record IsMade (d : Deal) (line : ℕ) (mv : Move) : Type 0 where
@@ -38,29 +41,31 @@ record IsMade (d : Deal) (line : ℕ) (mv : Move) : Type 0 where
 
 pub arc_fits : (d : Deal) (line : ℕ) (field : List ℕ) (n a : ℕ) → arc_of d line field n ≡ Ok a → a < length d.graph.arcs
 unfolding arc_of
-arc_fits d line field n a e = below_fits line field (length d.graph.arcs) n a e
+arc_fits d line field n a e = number_below_ok line field (length d.graph.arcs) n a e
 
-optional_fits : (line : ℕ) (field : List ℕ) (high : ℕ) (o given : Option ℕ) (own : ℕ) → optional_most line field high o ≡ Ok given → own ≤ high → unwrap_or given own ≤ high
+optional_fits : (line : ℕ) (field : List ℕ) (high : ℕ) (o given : Option ℕ) (own : ℕ) → optional_most line field high o ≡ Ok given → own ≤ high
+    → unwrap_or given own ≤ high
 optional_fits line field high None given own e l = let s : given ≡ None = cc e in rw s l
 optional_fits line field high (Some n) given own e l =
-    let p = parts (ranged line field 0 high n) _ given e in
-    let s : given ≡ Some p.part = cc (p.rest) in
-    rw s (ranged_fits line field 0 high n p.part p.first).1
+    let p = went (number_within line field 0 high n) _ given e in
+    let s : given ≡ Some p.0 = cc (p.2) in
+    rw s (number_within_ok line field 0 high n p.0 p.1).1
 
 locks_length : (line count : ℕ) (texts locks : List (List ℕ)) → locks_of line count texts ≡ Ok locks → length locks ≡ count
 unfolding locks_of
 locks_length line count texts locks e =
-    let p = parts (within line (codes "locks") count count (length texts)) _ locks e in
-    let w = within_fits line (codes "locks") count count (length texts) p.part p.first in
-    let l = each_length (digest_of line (codes "locks")) texts locks p.rest in
+    let p = went (within line (codes "locks") count count (length texts)) _ locks e in
+    let w = within_ok line (codes "locks") count count (length texts) p.0 p.1 in
+    let l = each_length (digest_of line (codes "locks")) texts locks p.2 in
     omega arith
 
-optional_length : (line count : ℕ) (o given : Option (List (List ℕ))) (own : List (List ℕ)) → optional_locks line count o ≡ Ok given → length own ≡ count → length (unwrap_or given own) ≡ count
+optional_length : (line count : ℕ) (o given : Option (List (List ℕ))) (own : List (List ℕ)) → optional_locks line count o ≡ Ok given → length own ≡ count
+    → length (unwrap_or given own) ≡ count
 optional_length line count None given own e l = let s : given ≡ None = cc e in rw s l
 optional_length line count (Some texts) given own e l =
-    let p = parts (locks_of line count texts) _ given e in
-    let s : given ≡ Some p.part = cc (p.rest) in
-    rw s (locks_length line count texts p.part p.first)
+    let p = went (locks_of line count texts) _ given e in
+    let s : given ≡ Some p.0 = cc (p.2) in
+    rw s (locks_length line count texts p.0 p.1)
 
 and_six : (a b c d e f : Bool) → a ≡ true → b ≡ true → c ≡ true → d ≡ true → e ≡ true → f ≡ true → (a && b && c && d && e && f) ≡ true
 and_six a b c d e f p q r s t u = rw (p, q, r, s, t, u) refl
@@ -71,26 +76,26 @@ and_four a b c d p q r s = rw (p, q, r, s) refl
 publish_made : (d : Deal) (line n : ℕ) (t : RawTerms) (mv : Move) → IsWellSized d → publish_of d line n t ≡ Ok mv → IsMade d line mv
 unfolding publish_of
 publish_made d line n t mv w e =
-    let p = parts (arc_of d line (codes "arc") n) _ mv e in
-    let q = parts (optional_most line (codes "start") 1000000 t.start) _ mv p.rest in
-    let r = parts (optional_most line (codes "delta") 1000000 t.delta) _ mv q.rest in
-    let b = parts (optional_most line (codes "bound") 1000000 t.bound) _ mv r.rest in
-    let k = parts (optional_most line (codes "timelock") 1000000 t.timelock) _ mv b.rest in
-    let m = parts (optional_most line (codes "amount") 1000000000000 t.amount) _ mv k.rest in
-    let l = parts (optional_locks line (length d.leaders) t.locks) _ mv m.rest in
-    let s : Publish p.part q.part r.part b.part k.part m.part l.part ≡ mv = cc (l.rest) in
-    let a : p.part < length d.graph.arcs = arc_fits d line (codes "arc") n p.part p.first in
-    let own = terms_of d p.part in
+    let p = went (arc_of d line (codes "arc") n) _ mv e in
+    let q = went (optional_most line (codes "start") 1000000 t.start) _ mv p.2 in
+    let r = went (optional_most line (codes "delta") 1000000 t.delta) _ mv q.2 in
+    let b = went (optional_most line (codes "bound") 1000000 t.bound) _ mv r.2 in
+    let k = went (optional_most line (codes "timelock") 1000000 t.timelock) _ mv b.2 in
+    let m = went (optional_most line (codes "amount") 1000000000000 t.amount) _ mv k.2 in
+    let l = went (optional_locks line (length d.leaders) t.locks) _ mv m.2 in
+    let s : Publish p.0 q.0 r.0 b.0 k.0 m.0 l.0 ≡ mv = cc (l.2) in
+    let a : p.0 < length d.graph.arcs = arc_fits d line (codes "arc") n p.0 p.1 in
+    let own = terms_of d p.0 in
     subst (λ x. IsMade d line x) s (record {
       built = refl;
       arc = a;
       fits = λ u h. and_six _ _ _ _ _ _
-          (eq-eqb _ _ (optional_length line (length d.leaders) t.locks l.part own.locks l.first w.hashlocks))
-          (le-leb _ _ (optional_fits line (codes "start") 1000000 t.start q.part own.start q.first (omega (arith, w.start))))
-          (le-leb _ _ (optional_fits line (codes "delta") 1000000 t.delta r.part own.delta r.first (omega (arith, w.delta))))
-          (le-leb _ _ (optional_fits line (codes "bound") 1000000 t.bound b.part own.bound b.first (omega (arith, w.bound))))
-          (le-leb _ _ (optional_fits line (codes "timelock") 1000000 t.timelock k.part own.timelock k.first (w.timelock p.part a)))
-          (le-leb _ _ (optional_fits line (codes "amount") 1000000000000 t.amount m.part own.amount m.first (w.amount p.part a)));
+          (eq-eqb _ _ (optional_length line (length d.leaders) t.locks l.0 own.locks l.1 w.hashlocks))
+          (le-leb _ _ (optional_fits line (codes "start") 1000000 t.start q.0 own.start q.1 (omega (arith, w.start))))
+          (le-leb _ _ (optional_fits line (codes "delta") 1000000 t.delta r.0 own.delta r.1 (omega (arith, w.delta))))
+          (le-leb _ _ (optional_fits line (codes "bound") 1000000 t.bound b.0 own.bound b.1 (omega (arith, w.bound))))
+          (le-leb _ _ (optional_fits line (codes "timelock") 1000000 t.timelock k.0 own.timelock k.1 (w.timelock p.0 a)))
+          (le-leb _ _ (optional_fits line (codes "amount") 1000000000000 t.amount m.0 own.amount m.1 (w.amount p.0 a)));
     })
 
 -- what a hashkey keeps to
@@ -103,92 +108,96 @@ record IsKey (d : Deal) (path : List ℕ) (k : RawKey) (key : Hashkey) : Type 0 
 key_fits : (d : Deal) (line : ℕ) (path : List ℕ) (k : RawKey) (key : Hashkey) → key_of d line path k ≡ Ok key → IsKey d path k key
 unfolding key_of
 key_fits d line path k key e =
-    let p = parts (below line (codes "lock") (length d.leaders) k.lock) _ key e in
-    let q = parts (digest_of line (codes "secret") k.secret) _ key p.rest in
-    let r = parts (within line (codes "path") 0 (path_limit d) (length k.path)) _ key q.rest in
-    let b = parts (within line (codes "sigs") 0 (path_limit d) (length k.sigs)) _ key r.rest in
-    let l = parts (each_of (sig_of line) k.sigs) _ key b.rest in
-    let made : Hashkey = record { lock = p.part; secret = q.part; path = path; sigs = l.part } in
-    let s : made ≡ key = cc (l.rest) in
-    let n = each_length (sig_of line) k.sigs l.part l.first in
-    let few = within_fits line (codes "sigs") 0 (path_limit d) (length k.sigs) b.part b.first in
+    let p = went (number_below line (codes "lock") (length d.leaders) k.lock) _ key e in
+    let q = went (digest_of line (codes "secret") k.secret) _ key p.2 in
+    let r = went (within line (codes "path") 0 (path_limit d) (length k.path)) _ key q.2 in
+    let b = went (within line (codes "sigs") 0 (path_limit d) (length k.sigs)) _ key r.2 in
+    let l = went (each_of (sig_of line) k.sigs) _ key b.2 in
+    let made : Hashkey = record { lock = p.0; secret = q.0; path = path; sigs = l.0 } in
+    let s : made ≡ key = cc (l.2) in
+    let n = each_length (sig_of line) k.sigs l.0 l.1 in
+    let few = within_ok line (codes "sigs") 0 (path_limit d) (length k.sigs) b.0 b.1 in
     subst (λ x. IsKey d path k x) s (record {
-      lock = below_fits line (codes "lock") (length d.leaders) k.lock p.part p.first;
+      lock = number_below_ok line (codes "lock") (length d.leaders) k.lock p.0 p.1;
       same = refl;
-      path_few = (within_fits line (codes "path") 0 (path_limit d) (length k.path) r.part r.first).1;
+      path_few = (within_ok line (codes "path") 0 (path_limit d) (length k.path) r.0 r.1).1;
       sigs_few = omega (arith, n, few.1);
     })
 
-unlock_made : (d : Deal) (names : List (List ℕ)) (line n : ℕ) (k : RawKey) (mv : Move) → length names ≡ d.graph.n → unlock_of d names line n k ≡ Ok mv → IsMade d line mv
+unlock_made : (d : Deal) (names : List (List ℕ)) (line n : ℕ) (k : RawKey) (mv : Move) → length names ≡ d.graph.n → unlock_of d names line n k ≡ Ok mv
+    → IsMade d line mv
 unfolding unlock_of
 unlock_made d names line n k mv same e =
-    let p = parts (each_of (number_of line names) k.path) _ mv e in
-    let q = parts (arc_of d line (codes "arc") n) _ mv p.rest in
-    let r = parts (key_of d line p.part k) _ mv q.rest in
-    let s : Raw q.part r.part ≡ mv = cc (r.rest) in
-    let key = key_fits d line p.part k r.part r.first in
-    let len = each_length (number_of line names) k.path p.part p.first in
-    let all = each_below line d.graph.n names k.path p.part same p.first in
+    let p = went (each_of (party_of_name line names) k.path) _ mv e in
+    let q = went (arc_of d line (codes "arc") n) _ mv p.2 in
+    let r = went (key_of d line p.0 k) _ mv q.2 in
+    let s : Raw q.0 r.0 ≡ mv = cc (r.2) in
+    let key = key_fits d line p.0 k r.0 r.1 in
+    let len = each_length (party_of_name line names) k.path p.0 p.1 in
+    let all = each_below line d.graph.n names k.path p.0 same p.1 in
     subst (λ x. IsMade d line x) s (record {
       built = refl;
-      arc = arc_fits d line (codes "arc") n q.part q.first;
+      arc = arc_fits d line (codes "arc") n q.0 q.1;
       fits = λ u h. and_four _ _ _ _
-          (let l : r.part.lock < length d.leaders = key.lock in grind (arith, nat_tests))
-          (le-leb (length r.part.path) (path_limit d) (rw key.same (omega (arith, len, key.path_few))))
-          (le-leb (length r.part.sigs) (path_limit d) key.sigs_few)
+          (let l : r.0.lock < length d.leaders = key.lock in grind (arith, nat_tests))
+          (le-leb (length r.0.path) (path_limit d) (rw key.same (omega (arith, len, key.path_few))))
+          (le-leb (length r.0.sigs) (path_limit d) key.sigs_few)
           (rw key.same all);
     })
 
 claim_made : (d : Deal) (line n : ℕ) (mv : Move) → claim_of d line n ≡ Ok mv → IsMade d line mv
 unfolding claim_of
 claim_made d line n mv e =
-    let p = parts (arc_of d line (codes "arc") n) _ mv e in
-    let s : Claim p.part ≡ mv = cc (p.rest) in
-    subst (λ x. IsMade d line x) s (record { built = refl; arc = arc_fits d line (codes "arc") n p.part p.first; fits = λ u h. refl })
+    let p = went (arc_of d line (codes "arc") n) _ mv e in
+    let s : Claim p.0 ≡ mv = cc (p.2) in
+    subst (λ x. IsMade d line x) s (record { built = refl; arc = arc_fits d line (codes "arc") n p.0 p.1; fits = λ u h. refl })
 
 refund_made : (d : Deal) (line n : ℕ) (mv : Move) → refund_of d line n ≡ Ok mv → IsMade d line mv
 unfolding refund_of
 refund_made d line n mv e =
-    let p = parts (arc_of d line (codes "arc") n) _ mv e in
-    let s : Refund p.part ≡ mv = cc (p.rest) in
-    subst (λ x. IsMade d line x) s (record { built = refl; arc = arc_fits d line (codes "arc") n p.part p.first; fits = λ u h. refl })
+    let p = went (arc_of d line (codes "arc") n) _ mv e in
+    let s : Refund p.0 ≡ mv = cc (p.2) in
+    subst (λ x. IsMade d line x) s (record { built = refl; arc = arc_fits d line (codes "arc") n p.0 p.1; fits = λ u h. refl })
 
 adjacent_fits : (d : Deal) (line p a : ℕ) (u : Unit {0}) → adjacent d line p a ≡ Ok u → ((p == party d a) || (p == counterparty d a)) ≡ true
 unfolding adjacent
 adjacent_fits d line p a u e = (passed ((p == party d a) || (p == counterparty d a)) tt u (NotAdjacent line) e).0
 
-transfer_made : (d : Deal) (names : List (List ℕ)) (line n : ℕ) (name : List ℕ) (amount : ℕ) (mv : Move) → transfer_of d names line n name amount ≡ Ok mv → IsMade d line mv
+transfer_made : (d : Deal) (names : List (List ℕ)) (line n : ℕ) (name : List ℕ) (amount : ℕ) (mv : Move) → transfer_of d names line n name amount ≡ Ok mv
+    → IsMade d line mv
 unfolding transfer_of
 transfer_made d names line n name amount mv e =
-    let p = parts (number_of line names name) _ mv e in
-    let q = parts (arc_of d line (codes "arc") n) _ mv p.rest in
-    let r = parts (ranged line (codes "units") 0 1000000000000 amount) _ mv q.rest in
-    let s : Transfer q.part p.part r.part ≡ mv = cc (r.rest) in
+    let p = went (party_of_name line names name) _ mv e in
+    let q = went (arc_of d line (codes "arc") n) _ mv p.2 in
+    let r = went (number_within line (codes "units") 0 1000000000000 amount) _ mv q.2 in
+    let s : Transfer q.0 p.0 r.0 ≡ mv = cc (r.2) in
     subst (λ x. IsMade d line x) s (record {
       built = refl;
-      arc = arc_fits d line (codes "arc") n q.part q.first;
-      fits = λ u h. and_both _ _ (adjacent_fits d line p.part q.part u h) (le-leb _ _ (ranged_fits line (codes "units") 0 1000000000000 amount r.part r.first).1);
+      arc = arc_fits d line (codes "arc") n q.0 q.1;
+      fits = λ u h. and_both _ _ (adjacent_fits d line p.0 q.0 u h) (le-leb _ _ (number_within_ok line (codes "units") 0 1000000000000 amount r.0 r.1).1);
     })
 
-move_made : (d : Deal) (names : List (List ℕ)) (line : ℕ) (raw : RawMove) (mv : Move) → IsWellSized d → length names ≡ d.graph.n → move_of d names line raw ≡ Ok mv → IsMade d line mv
+move_made : (d : Deal) (names : List (List ℕ)) (line : ℕ) (raw : RawMove) (mv : Move) → IsWellSized d → length names ≡ d.graph.n
+    → move_of d names line raw ≡ Ok mv → IsMade d line mv
 move_made d names line (raw_moves.Publish n t) mv w same e = publish_made d line n t mv w e
 move_made d names line (raw_moves.Raw n k) mv w same e = unlock_made d names line n k mv same e
 move_made d names line (raw_moves.Claim n) mv w same e = claim_made d line n mv e
 move_made d names line (raw_moves.Refund n) mv w same e = refund_made d line n mv e
 move_made d names line (raw_moves.Transfer n to units) mv w same e = transfer_made d names line n to units mv e
 
-pub move_arc : (d : Deal) (names : List (List ℕ)) (line : ℕ) (raw : RawMove) (mv : Move) → IsWellSized d → length names ≡ d.graph.n → move_of d names line raw ≡ Ok mv → stands_on mv < length d.graph.arcs
+pub move_arc : (d : Deal) (names : List (List ℕ)) (line : ℕ) (raw : RawMove) (mv : Move) → IsWellSized d → length names ≡ d.graph.n
+    → move_of d names line raw ≡ Ok mv → stands_on mv < length d.graph.arcs
 move_arc d names line raw mv w same e = (move_made d names line raw mv w same e).arc
 
 placed_fits : (d : Deal) (line p : ℕ) (mv : Move) (u : Unit {0}) → IsMade d line mv → placed d line p mv ≡ Ok u → IsFitting d p mv
 unfolding placed
 placed_fits d line p mv u made e =
-    let q = parts (adjacent d line p (stands_on mv)) _ u e in
+    let q = went (adjacent d line p (stands_on mv)) _ u e in
     record {
       built = made.built;
       arc = made.arc;
-      adjacent = adjacent_fits d line p (stands_on mv) q.part q.first;
-      fits = made.fits u q.rest;
+      adjacent = adjacent_fits d line p (stands_on mv) q.0 q.1;
+      fits = made.fits u q.2;
     }
 
 deviates_of : (line : ℕ) (b : Bool) (u : Unit {0}) → deviating line b ≡ Ok u → b ≡ false
@@ -196,47 +205,60 @@ unfolding deviating
 deviates_of line false u e = refl
 deviates_of line true u e = absurd (cc e)
 
-call_fits : (job : Job) (line : ℕ) (name : List ℕ) (raw : RawMove) (event : Event) → IsWellSized job.deal → length job.names ≡ job.deal.graph.n → event_of_call job line name raw ≡ Ok event → CanStep job.deal job.conforming event
-unfolding event_of_call
+call_fits : (job : Job) (line : ℕ) (name : List ℕ) (raw : RawMove) (event : Event) → IsWellSized job.deal → length job.names ≡ job.deal.graph.n
+    → event_of_call job line name raw ≡ Ok event → CanStep job.deal job.conforming event
+unfolding call_of
 call_fits job line name raw event w same e =
-    let p = parts (number_of line job.names name) _ event e in
-    let q = parts (move_of job.deal job.names line raw) _ event p.rest in
-    let r = parts (deviating line _) _ event q.rest in
-    let b = parts (placed job.deal line p.part q.part) _ event r.rest in
-    let s : Call p.part q.part ≡ event = cc (b.rest) in
-    let known : p.part < length job.names = number_below line job.names name p.part p.first in
-    let made = move_made job.deal job.names line raw q.part w same q.first in
-    let k = deviates_of line (slice_index_or job.conforming p.part false) r.part r.first in
-    subst (λ x. CanStep job.deal job.conforming x) s (record { known = omega (arith, known, same); deviates = k; fits = placed_fits job.deal line p.part q.part b.part made b.first })
+    let p = went (party_of_name line job.names name) _ event e in
+    let q = went (move_of job.deal job.names line raw) _ event p.2 in
+    let r = went (deviating line _) _ event q.2 in
+    let b = went (placed job.deal line p.0 q.0) _ event r.2 in
+    let s : Call p.0 q.0 ≡ event = cc (b.2) in
+    let known : p.0 < length job.names = party_below line job.names name p.0 p.1 in
+    let made = move_made job.deal job.names line raw q.0 w same q.1 in
+    let k = deviates_of line (slice_index_or job.conforming p.0 false) r.0 r.1 in
+    subst (λ x. CanStep job.deal job.conforming x) s (record {
+      known = omega (arith, known, same);
+      deviates = k;
+      fits =
+          placed_fits job.deal line p.0 q.0 b.0 made b.1;
+    })
 
-look_fits : (job : Job) (line : ℕ) (name : List ℕ) (n : ℕ) (event : Event) → IsWellSized job.deal → length job.names ≡ job.deal.graph.n → event_of_look job line name n ≡ Ok event → CanStep job.deal job.conforming event
+look_fits : (job : Job) (line : ℕ) (name : List ℕ) (n : ℕ) (event : Event) → IsWellSized job.deal → length job.names ≡ job.deal.graph.n
+    → event_of_look job line name n ≡ Ok event → CanStep job.deal job.conforming event
 unfolding event_of_look
 look_fits job line name n event w same e =
-    let p = parts (number_of line job.names name) _ event e in
-    let q = parts (arc_of job.deal line (codes "arc") n) _ event p.rest in
-    let r = parts (adjacent job.deal line p.part q.part) _ event q.rest in
-    let s : Look p.part q.part ≡ event = cc (r.rest) in
-    let known : p.part < length job.names = number_below line job.names name p.part p.first in
-    subst (λ x. CanStep job.deal job.conforming x) s (record { known = omega (arith, known, same); arc = arc_fits job.deal line (codes "arc") n q.part q.first; adjacent = adjacent_fits job.deal line p.part q.part r.part r.first })
+    let p = went (party_of_name line job.names name) _ event e in
+    let q = went (arc_of job.deal line (codes "arc") n) _ event p.2 in
+    let r = went (adjacent job.deal line p.0 q.0) _ event q.2 in
+    let s : Look p.0 q.0 ≡ event = cc (r.2) in
+    let known : p.0 < length job.names = party_below line job.names name p.0 p.1 in
+    subst (λ x. CanStep job.deal job.conforming x) s (record {
+      known = omega (arith, known, same);
+      arc = arc_fits job.deal line (codes "arc") n q.0 q.1;
+      adjacent = adjacent_fits job.deal line p.0 q.0 r.0 r.1;
+    })
 
-act_fits : (job : Job) (line : ℕ) (name : List ℕ) (event : Event) → length job.names ≡ job.deal.graph.n → event_of_act job line name ≡ Ok event → CanStep job.deal job.conforming event
+act_fits : (job : Job) (line : ℕ) (name : List ℕ) (event : Event) → length job.names ≡ job.deal.graph.n → event_of_act job line name ≡ Ok event
+    → CanStep job.deal job.conforming event
 unfolding event_of_act
 act_fits job line name event same e =
-    let p = parts (number_of line job.names name) _ event e in
-    let s : Act p.part ≡ event = cc (p.rest) in
-    let known : p.part < length job.names = number_below line job.names name p.part p.first in
+    let p = went (party_of_name line job.names name) _ event e in
+    let s : Act p.0 ≡ event = cc (p.2) in
+    let known : p.0 < length job.names = party_below line job.names name p.0 p.1 in
     subst (λ x. CanStep job.deal job.conforming x) s (omega (arith, known, same))
 
 tick_fits : (d : Deal) (c : List Bool) (line n : ℕ) (by : Option ℕ) (event : Event) → event_of_tick d line n by ≡ Ok event → CanStep d c event
 unfolding event_of_tick
 tick_fits d c line n by event e =
-    let p = parts (arc_of d line (codes "tick") n) _ event e in
-    let q = parts (ranged line (codes "by") 1 1000000 (unwrap_or by 1)) _ event p.rest in
-    let s : Tick p.part q.part ≡ event = cc (q.rest) in
-    let k = ranged_fits line (codes "by") 1 1000000 (unwrap_or by 1) q.part q.first in
-    subst (λ x. CanStep d c x) s (record { arc = arc_fits d line (codes "tick") n p.part p.first; some = k.0; few = k.1 })
+    let p = went (arc_of d line (codes "tick") n) _ event e in
+    let q = went (number_within line (codes "by") 1 1000000 (unwrap_or by 1)) _ event p.2 in
+    let s : Tick p.0 q.0 ≡ event = cc (q.2) in
+    let k = number_within_ok line (codes "by") 1 1000000 (unwrap_or by 1) q.0 q.1 in
+    subst (λ x. CanStep d c x) s (record { arc = arc_fits d line (codes "tick") n p.0 p.1; some = k.0; few = k.1 })
 
-pub checked_fits : (job : Job) (line : ℕ) (raw : RawEvent) (event : Event) → IsWellSized job.deal → length job.names ≡ job.deal.graph.n → checked job line raw ≡ Ok event → CanStep job.deal job.conforming event
+pub checked_fits : (job : Job) (line : ℕ) (raw : RawEvent) (event : Event) → IsWellSized job.deal → length job.names ≡ job.deal.graph.n
+    → checked job line raw ≡ Ok event → CanStep job.deal job.conforming event
 checked_fits job line (raw_events.Tick n by) event w same e = tick_fits job.deal job.conforming line n by event e
 checked_fits job line (raw_events.Look name n) event w same e = look_fits job line name n event w same e
 checked_fits job line (raw_events.Act name) event w same e = act_fits job line name event same e

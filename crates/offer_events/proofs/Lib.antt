@@ -1,5 +1,4 @@
 pub mod Sizes
-pub mod Lists
 pub mod Parts
 pub mod Fits
 pub mod Scanned

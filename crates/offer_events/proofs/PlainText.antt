@@ -1,5 +1,6 @@
 -- What a line in a plain form says.
-use Rattle.std.proofs.Common.{◌≡◌, ◌==◌, not, suc, nat_le, ℕ, ◌^◌, ◌<◌, ◌≤◌, ◌&&◌, true, nat_lt, List, [], ◌∷◌, ◌++◌, Some, None, Ok, decimal, refl, sym, ap, ap₂, ◌∙◌, arith, append_assoc, append-nil, lt-ltb}
+use Rattle.std.proofs.Common.{◌≡◌, ◌==◌, not, suc, nat_le, ℕ, ◌^◌, ◌<◌, ◌≤◌, ◌&&◌, true, nat_lt, List, [], ◌∷◌, ◌++◌, Some, None, Ok, decimal, refl, sym, ap}
+use Rattle.std.proofs.Common.{ap₂, ◌∙◌, arith, append_assoc, append-nil, lt-ltb}
 use Rattle.std.specs.Prelude.{codes}
 use Rattle.std.specs.List.{list_all}
 use Rattle.std.specs.Str.{IsAscii}
@@ -24,13 +25,14 @@ use Rattle.offer_events.specs.declared.raw.RawEvent.{RawEvent}
 use Rattle.offer_events.specs.declared.raw.RawEvent.TheVariants.{Tick, Look, Act}
 use Rattle.offer_events.specs.Reading.{event_at, tick_at, look_at, act_at}
 use Rattle.swap_base.proofs.Lists.{and_both}
-use Rattle.offer_events.specs.Event.{event_of}
-use Rattle.offer_events.specs.Plain.{is_plain, Says, asked}
+use Rattle.offer_events.specs.Event.{asked, event_of}
+use Rattle.offer_events.specs.Plain.{is_plain, Says}
 
 -- the text that a tree of printable tokens is printed as is read as that tree
 reads : (j : json.Json) (text : List ℕ) → HasNumbers j → depth j ≤ max_depth → text ≡ print (json_tokens j) → read text ≡ of_json j
 reads j text numbers shallow same =
-    let lexed : tokens text ≡ json_tokens j ++ [] = ap tokens same ∙ tokens-print (json_tokens j) (ArePrintable-json_tokens j numbers) ∙ sym (append-nil (json_tokens j)) in
+    let lexed : tokens text ≡ json_tokens j ++ [] = ap tokens same ∙ tokens-print (json_tokens j) (ArePrintable-json_tokens j numbers)
+    ∙ sym (append-nil (json_tokens j)) in
     rw (lexed, value-json_tokens j max_depth [] shallow) refl
 
 ascii_append : (xs ys : List ℕ) → are_ascii xs ≡ true → are_ascii ys ≡ true → are_ascii (xs ++ ys) ≡ true
@@ -56,16 +58,22 @@ plain_byte x e =
 
 ascii_plain : (s rest : List ℕ) → list_all is_plain s ≡ true → are_ascii rest ≡ true → are_ascii (s ++ rest) ≡ true
 ascii_plain [] rest h k = k
-ascii_plain (x ∷ xs) rest h k = let p = and_parts (is_plain x) (list_all is_plain xs) h in and_both (nat_lt x 128) (are_ascii (xs ++ rest)) (plain_byte x p.0).0 (ascii_plain xs rest p.1 k)
+ascii_plain (x ∷ xs) rest h k = let p = and_parts (is_plain x) (list_all is_plain xs) h in
+    and_both (nat_lt x 128) (are_ascii (xs ++ rest)) (plain_byte x p.0).0 (ascii_plain xs rest p.1 k)
 
 escape_plain : (s : List ℕ) → list_all is_plain s ≡ true → escape s ≡ s
 escape_plain [] h = refl
 escape_plain (x ∷ xs) h = let p = and_parts (is_plain x) (list_all is_plain xs) h in ap₂ (λ (a b : List ℕ). a ++ b) (plain_byte x p.0).1 (escape_plain xs p.1)
 
 -- a line of ASCII that reads as an object which says an event
-says : (line : ℕ) (text : List ℕ) (ms : Members) (raw : RawEvent) → are_ascii text ≡ true → read text ≡ Some (object ms) → event_at line (object ms) ≡ Ok raw → Says line text raw
+says : (line : ℕ) (text : List ℕ) (ms : Members) (raw : RawEvent) → are_ascii text ≡ true → read text ≡ Some (object ms)
+    → event_at line (object ms) ≡ Ok raw → Says line text raw
 unfolding object_of
-says line text ms raw ascii is fields = record { object = object ms; is_object = rw (is_utf8-from_IsUtf8 text (IsUtf8-are_ascii text ascii), is) refl; says = fields }
+says line text ms raw ascii is fields = record {
+  object = object ms;
+  is_object = rw (is_utf8-from_IsUtf8 text (IsUtf8-are_ascii text ascii), is) refl;
+  says = fields;
+}
 
 -- a plain name between quotes
 quoted_plain : (name rest : List ℕ) → list_all is_plain name ≡ true → quoted name ++ rest ≡ 34 ∷ (name ++ 34 ∷ rest)
@@ -111,47 +119,60 @@ tick_alone line n text rest h same closed =
     let is : read text ≡ Some (object members) = reads tree text (IsNumber-decimal n h, tt) (omega arith) whole ∙ rw (number_of-decimal n h) refl in
     says line text members (Tick n None) (rw whole (ascii_number n (125 ∷ []) h refl)) is refl
 
-pub tick_then_by : (line n k : ℕ) (text rest end : List ℕ) → n < 2 ^ 64 → k < 2 ^ 64 → text ≡ tick_key ++ (decimal n ++ rest) → rest ≡ next_by_key ++ (decimal k ++ end) → end ≡ 125 ∷ [] → Says line text (Tick n (Some k))
+pub tick_then_by : (line n k : ℕ) (text rest end : List ℕ) → n < 2 ^ 64 → k < 2 ^ 64 → text ≡ tick_key ++ (decimal n ++ rest)
+    → rest ≡ next_by_key ++ (decimal k ++ end) → end ≡ 125 ∷ [] → Says line text (Tick n (Some k))
 unfolding print_from escape_byte event_at tick_at number_at optional_number_at needed only
 tick_then_by line n k text rest end h g same next closed =
     let whole : text ≡ tick_key ++ (decimal n ++ (next_by_key ++ (decimal k ++ 125 ∷ []))) = cc in
-    let tree : json.Json = json.object (json.member (codes "tick") (json.number (decimal n)) (json.member (codes "by") (json.number (decimal k)) json.no_members)) in
+    let tree : json.Json = json.object (json.member (codes "tick") (json.number (decimal n))
+    (json.member (codes "by") (json.number (decimal k)) json.no_members)) in
     let members : Members = member (codes "by") (number (unsigned k)) (member (codes "tick") (number (unsigned n)) no_members) in
-    let is : read text ≡ Some (object members) = reads tree text (IsNumber-decimal n h, (IsNumber-decimal k g, tt)) (omega arith) whole ∙ rw (number_of-decimal n h, number_of-decimal k g) refl in
+    let is : read text ≡ Some (object members) = reads tree text (IsNumber-decimal n h, (IsNumber-decimal k g, tt)) (omega arith) whole
+    ∙ rw (number_of-decimal n h, number_of-decimal k g) refl in
     says line text members (Tick n (Some k)) (rw whole (ascii_number n (next_by_key ++ (decimal k ++ 125 ∷ [])) h (ascii_number k (125 ∷ []) g refl))) is refl
 
-pub by_then_tick : (line n k : ℕ) (text rest end : List ℕ) → n < 2 ^ 64 → k < 2 ^ 64 → text ≡ by_key ++ (decimal k ++ rest) → rest ≡ next_tick_key ++ (decimal n ++ end) → end ≡ 125 ∷ [] → Says line text (Tick n (Some k))
+pub by_then_tick : (line n k : ℕ) (text rest end : List ℕ) → n < 2 ^ 64 → k < 2 ^ 64 → text ≡ by_key ++ (decimal k ++ rest)
+    → rest ≡ next_tick_key ++ (decimal n ++ end) → end ≡ 125 ∷ [] → Says line text (Tick n (Some k))
 unfolding print_from escape_byte event_at tick_at number_at optional_number_at needed only
 by_then_tick line n k text rest end h g same next closed =
     let whole : text ≡ by_key ++ (decimal k ++ (next_tick_key ++ (decimal n ++ 125 ∷ []))) = cc in
-    let tree : json.Json = json.object (json.member (codes "by") (json.number (decimal k)) (json.member (codes "tick") (json.number (decimal n)) json.no_members)) in
+    let tree : json.Json = json.object (json.member (codes "by") (json.number (decimal k))
+    (json.member (codes "tick") (json.number (decimal n)) json.no_members)) in
     let members : Members = member (codes "by") (number (unsigned k)) (member (codes "tick") (number (unsigned n)) no_members) in
-    let is : read text ≡ Some (object members) = reads tree text (IsNumber-decimal k g, (IsNumber-decimal n h, tt)) (omega arith) whole ∙ rw (number_of-decimal k g, number_of-decimal n h) refl in
-    says line text members (Tick n (Some k)) (rw whole (ascii_number k (next_tick_key ++ (decimal n ++ 125 ∷ [])) g (ascii_number n (125 ∷ []) h refl))) is refl
+    let is : read text ≡ Some (object members) = reads tree text (IsNumber-decimal k g, (IsNumber-decimal n h, tt)) (omega arith) whole
+    ∙ rw (number_of-decimal k g, number_of-decimal n h) refl in
+    says line text members (Tick n (Some k)) (rw whole (ascii_number k (next_tick_key ++ (decimal n ++ 125 ∷ [])) g (ascii_number n (125 ∷ []) h refl)))
+    is refl
 
-pub look_then_arc : (line n : ℕ) (name text rest end : List ℕ) → n < 2 ^ 64 → list_all is_plain name ≡ true → text ≡ look_key ++ (34 ∷ (name ++ 34 ∷ rest)) → rest ≡ next_arc_key ++ (decimal n ++ end) → end ≡ 125 ∷ [] → Says line text (Look name n)
+pub look_then_arc : (line n : ℕ) (name text rest end : List ℕ) → n < 2 ^ 64 → list_all is_plain name ≡ true → text ≡ look_key ++ (34 ∷ (name ++ 34 ∷ rest))
+    → rest ≡ next_arc_key ++ (decimal n ++ end) → end ≡ 125 ∷ [] → Says line text (Look name n)
 unfolding print_from escape_byte event_at look_at number_at text_at needed only
 look_then_arc line n name text rest end h plain same next closed =
     let after : List ℕ = next_arc_key ++ (decimal n ++ 125 ∷ []) in
     let whole : text ≡ look_key ++ (34 ∷ (name ++ 34 ∷ (next_arc_key ++ (decimal n ++ 125 ∷ [])))) = cc in
-    let tree : json.Json = json.object (json.member (codes "look") (json.string name) (json.member (codes "arc") (json.number (decimal n)) json.no_members)) in
+    let tree : json.Json = json.object (json.member (codes "look") (json.string name) (json.member (codes "arc") (json.number (decimal n)) json.no_members))
+    in
     let members : Members = member (codes "arc") (number (unsigned n)) (member (codes "look") (string name) no_members) in
     let printed : text ≡ print (json_tokens tree) = whole ∙ ap (λ (l : List ℕ). look_key ++ l) (sym (quoted_plain name after plain)) in
     let is : read text ≡ Some (object members) = reads tree text (tt, (IsNumber-decimal n h, tt)) (omega arith) printed ∙ rw (number_of-decimal n h) refl in
     says line text members (Look name n) (rw whole (ascii_plain name (34 ∷ after) plain (ascii_number n (125 ∷ []) h refl))) is refl
 
-pub arc_then_look : (line n : ℕ) (name text rest end : List ℕ) → n < 2 ^ 64 → list_all is_plain name ≡ true → text ≡ arc_key ++ (decimal n ++ rest) → rest ≡ next_look_key ++ (34 ∷ (name ++ 34 ∷ end)) → end ≡ 125 ∷ [] → Says line text (Look name n)
+pub arc_then_look : (line n : ℕ) (name text rest end : List ℕ) → n < 2 ^ 64 → list_all is_plain name ≡ true → text ≡ arc_key ++ (decimal n ++ rest)
+    → rest ≡ next_look_key ++ (34 ∷ (name ++ 34 ∷ end)) → end ≡ 125 ∷ [] → Says line text (Look name n)
 unfolding print_from escape_byte event_at look_at number_at text_at needed only
 arc_then_look line n name text rest end h plain same next closed =
     let after : List ℕ = next_look_key ++ (34 ∷ (name ++ 34 ∷ 125 ∷ [])) in
     let whole : text ≡ arc_key ++ (decimal n ++ (next_look_key ++ (34 ∷ (name ++ 34 ∷ 125 ∷ [])))) = cc in
-    let tree : json.Json = json.object (json.member (codes "arc") (json.number (decimal n)) (json.member (codes "look") (json.string name) json.no_members)) in
+    let tree : json.Json = json.object (json.member (codes "arc") (json.number (decimal n)) (json.member (codes "look") (json.string name) json.no_members))
+    in
     let members : Members = member (codes "arc") (number (unsigned n)) (member (codes "look") (string name) no_members) in
-    let printed : text ≡ print (json_tokens tree) = whole ∙ ap (λ (l : List ℕ). arc_key ++ (decimal n ++ (next_look_key ++ l))) (sym (quoted_plain name (125 ∷ []) plain)) in
+    let printed : text ≡ print (json_tokens tree) = whole ∙ ap (λ (l : List ℕ). arc_key ++ (decimal n ++ (next_look_key ++ l)))
+    (sym (quoted_plain name (125 ∷ []) plain)) in
     let is : read text ≡ Some (object members) = reads tree text (IsNumber-decimal n h, (tt, tt)) (omega arith) printed ∙ rw (number_of-decimal n h) refl in
     says line text members (Look name n) (rw whole (ascii_number n after h (ascii_plain name (34 ∷ 125 ∷ []) plain refl))) is refl
 
-pub act_alone : (line : ℕ) (name text end : List ℕ) → list_all is_plain name ≡ true → text ≡ act_key ++ (34 ∷ (name ++ 34 ∷ end)) → end ≡ 125 ∷ [] → Says line text (Act name)
+pub act_alone : (line : ℕ) (name text end : List ℕ) → list_all is_plain name ≡ true → text ≡ act_key ++ (34 ∷ (name ++ 34 ∷ end)) → end ≡ 125 ∷ []
+    → Says line text (Act name)
 unfolding print_from escape_byte event_at act_at text_at needed only
 act_alone line name text end plain same closed =
     let whole : text ≡ act_key ++ (34 ∷ (name ++ 34 ∷ 125 ∷ [])) = cc in
@@ -162,5 +183,5 @@ act_alone line name text end plain same closed =
     says line text members (Act name) (rw whole (ascii_plain name (34 ∷ 125 ∷ []) plain refl)) is refl
 
 pub asked_by : (job : Job) (line : ℕ) (text : List ℕ) (raw : RawEvent) → Says line text raw → event_of job line text ≡ asked job line raw
-unfolding event_of asked
+unfolding event_of
 asked_by job line text raw said = rw (said.is_object, said.says) refl

@@ -14,19 +14,19 @@ use Rattle.deviator_script.specs.Resolved.{arc_of as stands_on}
 use Rattle.refusals.specs.declared.reason.Reason.{Reason}
 use Rattle.refusals.specs.declared.reason.Reason.TheVariants.{NotAdjacent, ConformingCall, EventInRace}
 use Rattle.offer_fields.specs.Fields.{object_of}
+use Rattle.offer_fields.specs.Limits.{number_within}
+use Rattle.offer_fields.specs.Names.{party_of_name}
 use Rattle.offer_events.specs.declared.raw.RawMove.{RawMove}
 use Rattle.offer_events.specs.declared.raw.RawEvent.{RawEvent}
 use Rattle.offer_events.specs.declared.raw.RawEvent.TheVariants as raws
 use Rattle.offer_events.specs.Reading.{event_at}
-use Rattle.offer_events.specs.Names.{number_of}
-use Rattle.offer_events.specs.Limits.{ranged}
 use Rattle.offer_events.specs.Moves.{arc_of, move_of}
 
 -- a tick is by 1 height where it doesn't say
 unfoldable pub event_of_tick : Deal → ℕ → ℕ → Option ℕ → Result Event Reason
 event_of_tick d line n by = do
   arc ← arc_of d line (codes "tick") n
-  heights ← ranged line (codes "by") 1 1000000 (unwrap_or by 1)
+  heights ← number_within line (codes "by") 1 1000000 (unwrap_or by 1)
   Ok (Tick arc heights)
 
 -- a conforming party makes no call of a line
@@ -40,7 +40,7 @@ adjacent d line p a = if (p == party d a) || (p == counterparty d a) then Ok tt 
 -- a party looks at a ledger of its own arcs
 unfoldable pub event_of_look : Job → ℕ → List ℕ → ℕ → Result Event Reason
 event_of_look job line name n = do
-  p ← number_of line job.names name
+  p ← party_of_name line job.names name
   arc ← arc_of job.deal line (codes "arc") n
   u ← adjacent job.deal line p arc
   Ok (Look p arc)
@@ -48,7 +48,7 @@ event_of_look job line name n = do
 -- a party acts as its role says
 unfoldable pub event_of_act : Job → ℕ → List ℕ → Result Event Reason
 event_of_act job line name = do
-  p ← number_of line job.names name
+  p ← party_of_name line job.names name
   Ok (Act p)
 
 -- who gets units is one of the arc's two parties
@@ -61,14 +61,16 @@ placed d line p mv = do
   u ← adjacent d line p (stands_on mv)
   received d line mv
 
+-- a party that deviates makes a call
 unfoldable pub event_of_call : Job → ℕ → List ℕ → RawMove → Result Event Reason
 event_of_call job line name raw = do
-  p ← number_of line job.names name
+  p ← party_of_name line job.names name
   mv ← move_of job.deal job.names line raw
   u ← deviating line (slice_index_or job.conforming p false)
   w ← placed job.deal line p mv
   Ok (Call p mv)
 
+-- the event of what a line says
 abbrev pub checked : Job → ℕ → RawEvent → Result Event Reason
 checked job line (raws.Tick n by) = event_of_tick job.deal line n by
 checked job line (raws.Look name n) = event_of_look job line name n
@@ -80,11 +82,16 @@ abbrev pub outside_race : ℕ → Purpose → Result (Unit {0}) Reason
 outside_race line Race = Err (EventInRace line)
 outside_race line _ = Ok tt
 
+-- the event that a line asks for by what it says
+unfoldable pub asked : Job → ℕ → RawEvent → Result Event Reason
+asked job line raw = do
+  event ← checked job line raw
+  u ← outside_race line job.purpose
+  Ok event
+
 -- the event of a line
 unfoldable pub event_of : Job → ℕ → List ℕ → Result Event Reason
 event_of job line text = do
   d ← object_of line text
   raw ← event_at line d
-  event ← checked job line raw
-  u ← outside_race line job.purpose
-  Ok event
+  asked job line raw

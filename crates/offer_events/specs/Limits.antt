@@ -6,23 +6,17 @@ use Rattle.hash_signature.specs.Signature.{values_of}
 use Rattle.hash_signature.specs.declared.sig.Sig.{Sig}
 use Rattle.refusals.specs.declared.reason.Reason.{Reason}
 use Rattle.refusals.specs.declared.reason.Reason.TheVariants.{OverLimit}
-use Rattle.offer_fields.specs.Limits.{within, decoded, digest_of}
-use Rattle.offer_events.specs.Lists.{each_of}
+use Rattle.offer_fields.specs.Limits.{number_within, within, decoded, digest_of}
+use Rattle.offer_fields.specs.Lists.{each_of}
 
 -- a number that is below a count
-unfoldable pub below : ℕ → List ℕ → ℕ → ℕ → Result ℕ Reason
-below line field count n = if nat_lt n count then Ok n else Err (OverLimit line field n)
-
--- a number from low to high
-unfoldable pub ranged : ℕ → List ℕ → ℕ → ℕ → ℕ → Result ℕ Reason
-ranged line field low high n = do
-  u ← within line field low high n
-  Ok n
+unfoldable pub number_below : ℕ → List ℕ → ℕ → ℕ → Result ℕ Reason
+number_below line field count n = if nat_lt n count then Ok n else Err (OverLimit line field n)
 
 abbrev pub optional_most : ℕ → List ℕ → ℕ → Option ℕ → Result (Option ℕ) Reason
 optional_most line field high None = Ok None
 optional_most line field high (Some n) = do
-  m ← ranged line field 0 high n
+  m ← number_within line field 0 high n
   Ok (Some m)
 
 -- one digest for each lock

@@ -7,18 +7,18 @@ use Rattle.hashkey_path.specs.declared.hashkey.Hashkey.{Hashkey}
 use Rattle.deviator_script.specs.declared.moves.Move.{Move}
 use Rattle.deviator_script.specs.declared.moves.Move.TheVariants.{Publish, Raw, Claim, Refund, Transfer}
 use Rattle.refusals.specs.declared.reason.Reason.{Reason}
-use Rattle.offer_fields.specs.Limits.{within, digest_of}
+use Rattle.offer_fields.specs.Lists.{each_of}
+use Rattle.offer_fields.specs.Limits.{number_within, within, digest_of}
+use Rattle.offer_fields.specs.Names.{party_of_name}
 use Rattle.offer_events.specs.declared.raw.RawTerms.{RawTerms}
 use Rattle.offer_events.specs.declared.raw.RawKey.{RawKey}
 use Rattle.offer_events.specs.declared.raw.RawMove.{RawMove}
 use Rattle.offer_events.specs.declared.raw.RawMove.TheVariants as raws
-use Rattle.offer_events.specs.Lists.{each_of}
-use Rattle.offer_events.specs.Names.{number_of}
-use Rattle.offer_events.specs.Limits.{below, ranged, optional_most, optional_locks, sig_of}
+use Rattle.offer_events.specs.Limits.{number_below, optional_most, optional_locks, sig_of}
 
 -- the arc of that number
 unfoldable pub arc_of : Deal → ℕ → List ℕ → ℕ → Result ℕ Reason
-arc_of d line field n = below line field (length d.graph.arcs) n
+arc_of d line field n = number_below line field (length d.graph.arcs) n
 
 unfoldable pub publish_of : Deal → ℕ → ℕ → RawTerms → Result Move Reason
 publish_of d line n t = do
@@ -33,7 +33,7 @@ publish_of d line n t = do
 
 unfoldable pub key_of : Deal → ℕ → List ℕ → RawKey → Result Hashkey Reason
 key_of d line path k = do
-  lock ← below line (codes "lock") (length d.leaders) k.lock
+  lock ← number_below line (codes "lock") (length d.leaders) k.lock
   secret ← digest_of line (codes "secret") k.secret
   u ← within line (codes "path") 0 (path_limit d) (length k.path)
   w ← within line (codes "sigs") 0 (path_limit d) (length k.sigs)
@@ -42,7 +42,7 @@ key_of d line path k = do
 
 unfoldable pub unlock_of : Deal → List (List ℕ) → ℕ → ℕ → RawKey → Result Move Reason
 unlock_of d names line n k = do
-  path ← each_of (number_of line names) k.path
+  path ← each_of (party_of_name line names) k.path
   arc ← arc_of d line (codes "arc") n
   key ← key_of d line path k
   Ok (Raw arc key)
@@ -59,9 +59,9 @@ refund_of d line n = do
 
 unfoldable pub transfer_of : Deal → List (List ℕ) → ℕ → ℕ → List ℕ → ℕ → Result Move Reason
 transfer_of d names line n name m = do
-  to ← number_of line names name
+  to ← party_of_name line names name
   arc ← arc_of d line (codes "arc") n
-  units ← ranged line (codes "units") 0 1000000000000 m
+  units ← number_within line (codes "units") 0 1000000000000 m
   Ok (Transfer arc to units)
 
 abbrev pub move_of : Deal → List (List ℕ) → ℕ → RawMove → Result Move Reason

@@ -2,22 +2,22 @@
 
 ghost use Rattle.std.specs.Prelude.{◌≡◌, ◌<◌, ◌≤◌, ◌^◌, ℕ, List, length, codes};
 ghost use Rattle.swap_base.specs.Fault.{Gives};
-ghost use Rattle.offer_fields.specs.Limits.{digest_of};
-ghost use Rattle.offer_events.specs.Lists.{each_of};
-ghost use Rattle.offer_events.specs.Limits.{below, ranged, optional_most, locks_of, optional_locks, sig_of};
+ghost use Rattle.offer_fields.specs.Limits.{digest_of, number_within};
+ghost use Rattle.offer_fields.specs.Lists.{each_of};
+ghost use Rattle.offer_events.specs.Limits.{number_below, optional_most, locks_of, optional_locks, sig_of};
 
 use escrow_core::LockList;
 use hash_signature::Sig;
 use hashkey_path::SigList;
 use hex::FromHex;
-use offer_fields::{digest_in, within};
+use offer_fields::{TextRef, digest_in, number_within, within};
 use refusals::{OfferFault, over_limit, wrong_hex};
 use std::alloc::Global;
-use swap_base::{ByteText, Listed};
+use swap_base::Listed;
 
 /// A number that is below a count.
-#[tactic(auto, unfolding(crate::specs::Limits::below))]
-pub fn below(
+#[tactic(auto, unfolding(crate::specs::Limits::number_below))]
+pub fn number_below(
     alloc: Global,
     line: u32,
     field: &str,
@@ -25,27 +25,12 @@ pub fn below(
     number: u64,
 ) -> Result<u8, OfferFault>
     requires { count ≤ 256 }
-    ensures { Gives (λ n. n) result (below line field.now count number) }
+    ensures { Gives (λ n. n) result (number_below line field.now count number) }
 {
     if number < count as u64 {
         return Ok(number as u8);
     }
     Err(over_limit(alloc, line, field.as_bytes(), number))
-}
-
-/// A number in a range that goes up to a million.
-#[tactic(auto, using(crate::proofs::Parts::within_fits), unfolding(crate::specs::Limits::ranged))]
-pub fn ranged(
-    alloc: Global,
-    line: u32,
-    field: &str,
-    low: u64,
-    number: u64,
-) -> Result<u32, OfferFault>
-    ensures { Gives (λ n. n) result (ranged line field.now low 1000000 number) }
-{
-    within(alloc, line, field, low, 1_000_000, number)?;
-    Ok(number as u32)
 }
 
 /// A number of up to a million, where there is one.
@@ -59,14 +44,14 @@ pub fn optional_most(
 {
     match number {
         None => Ok(None),
-        Some(number) => Ok(Some(ranged(alloc, line, field, 0, number)?)),
+        Some(number) => Ok(Some(number_within(alloc, line, field, 0, 1_000_000, number)?)),
     }
 }
 
 /// Units, at most 10^12.
-#[tactic(auto, unfolding(crate::specs::Limits::ranged))]
+#[tactic(auto, unfolding(offer_fields::specs::Limits::number_within))]
 pub fn units(alloc: Global, line: u32, field: &str, number: u64) -> Result<u64, OfferFault>
-    ensures { Gives (λ n. n) result (ranged line field.now 0 1000000000000 number) }
+    ensures { Gives (λ n. n) result (number_within line field.now 0 1000000000000 number) }
 {
     within(alloc, line, field, 0, 1_000_000_000_000, number)?;
     Ok(number)
@@ -87,8 +72,8 @@ pub fn optional_units(
     }
 }
 
-#[tactic(auto, using(crate::proofs::Lists::starts, crate::proofs::Lists::goes_on, crate::proofs::Lists::ends, crate::proofs::Lists::is_done))]
-fn digests_of(alloc: Global, line: u32, texts: &[ByteText]) -> Result<LockList, OfferFault>
+#[tactic(auto, using(offer_fields::proofs::Lists::goes_on, offer_fields::proofs::Lists::ends, offer_fields::proofs::Lists::is_done))]
+fn digests_of(alloc: Global, line: u32, texts: &[TextRef<'_>]) -> Result<LockList, OfferFault>
     requires { length texts.now ≤ 8 }
     ensures { Gives (λ l. l) result (each_of (digest_of line (codes "locks")) texts.now) }
 {
@@ -105,7 +90,7 @@ fn locks_of(
     alloc: Global,
     line: u32,
     count: usize,
-    texts: &[ByteText],
+    texts: &[TextRef<'_>],
 ) -> Result<LockList, OfferFault>
     requires { count ≤ 8 }
     ensures { Gives (λ l. l) result (locks_of line count texts.now) }
@@ -120,7 +105,7 @@ pub fn optional_locks(
     alloc: Global,
     line: u32,
     count: usize,
-    texts: &Option<Listed<ByteText>>,
+    texts: &Option<Listed<TextRef<'_>>>,
 ) -> Result<Option<LockList>, OfferFault>
     requires { count ≤ 8 }
     ensures { Gives (λ o. o) result (optional_locks line count texts.now) }
@@ -143,8 +128,8 @@ fn sig_of(alloc: Global, line: u32, text: &[u8]) -> Result<Sig, OfferFault>
 }
 
 /// Signatures.
-#[tactic(auto, using(crate::proofs::Lists::starts, crate::proofs::Lists::goes_on, crate::proofs::Lists::ends, crate::proofs::Lists::is_done))]
-pub fn sigs_of(alloc: Global, line: u32, texts: &[ByteText]) -> Result<SigList, OfferFault>
+#[tactic(auto, using(offer_fields::proofs::Lists::goes_on, offer_fields::proofs::Lists::ends, offer_fields::proofs::Lists::is_done))]
+pub fn sigs_of(alloc: Global, line: u32, texts: &[TextRef<'_>]) -> Result<SigList, OfferFault>
     ensures { Gives (λ l. l) result (each_of (sig_of line) texts.now) }
 {
     let mut sigs = Vec::new(alloc);

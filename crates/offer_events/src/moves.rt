@@ -5,12 +5,12 @@ ghost use Rattle.swap_base.specs.Fault.{Gives};
 ghost use Rattle.swap_digraph.specs.Deal.{IsWellSized};
 ghost use Rattle.offer_events.specs.Moves.{arc_of, publish_of, key_of, unlock_of, claim_of, refund_of, transfer_of, move_of};
 
-use crate::limits::{below, optional_locks, optional_most, optional_units, sigs_of, units};
-use crate::names::{number_of, numbers_of};
+use crate::limits::{number_below, optional_locks, optional_most, optional_units, sigs_of, units};
+use crate::names::numbers_of;
 use crate::raw::{RawKey, RawMove, RawTerms};
 use deviator_script::Move;
 use hashkey_path::Hashkey;
-use offer_fields::{digest_in, within};
+use offer_fields::{TextRef, digest_in, party_of_name, within};
 use refusals::OfferFault;
 use std::alloc::Global;
 use swap_base::{ArcId, ByteText};
@@ -28,7 +28,7 @@ pub fn arc_of(
     requires sized { IsWellSized deal.now }
     ensures { Gives (λ a. a) result (arc_of deal.now line field.now number) }
 {
-    below(alloc, line, field, deal.graph.arcs().len(), number)
+    number_below(alloc, line, field, deal.graph.arcs().len(), number)
 }
 
 #[tactic(auto, unfolding(crate::specs::Moves::publish_of))]
@@ -37,7 +37,7 @@ fn publish_of(
     deal: &Deal,
     line: u32,
     number: u64,
-    terms: &RawTerms,
+    terms: &RawTerms<'_>,
 ) -> Result<Move, OfferFault>
     requires sized { IsWellSized deal.now }
     ensures { Gives (λ m. m) result (publish_of deal.now line number terms.now) }
@@ -66,12 +66,12 @@ fn key_of(
     deal: &Deal,
     line: u32,
     path: PathList,
-    key: &RawKey,
+    key: &RawKey<'_>,
 ) -> Result<Hashkey, OfferFault>
     requires sized { IsWellSized deal.now }
     ensures { Gives (λ k. k) result (key_of deal.now line path key.now) }
 {
-    let lock = below(alloc, line, "lock", deal.leaders.len(), key.lock)?;
+    let lock = number_below(alloc, line, "lock", deal.leaders.len(), key.lock)?;
     let secret = digest_in(alloc, line, "secret", key.secret.as_slice())?;
     let most = path_limit(deal) as u64;
     within(alloc, line, "path", 0, most, key.path.len() as u64)?;
@@ -92,7 +92,7 @@ fn unlock_of(
     names: &[ByteText],
     line: u32,
     number: u64,
-    key: &RawKey,
+    key: &RawKey<'_>,
 ) -> Result<Move, OfferFault>
     requires sized { IsWellSized deal.now }
     requires names { length names.now ≤ 256 }
@@ -129,14 +129,14 @@ fn transfer_of(
     names: &[ByteText],
     line: u32,
     number: u64,
-    name: &ByteText,
+    name: &TextRef<'_>,
     amount: u64,
 ) -> Result<Move, OfferFault>
     requires sized { IsWellSized deal.now }
     requires names { length names.now ≤ 256 }
     ensures { Gives (λ m. m) result (transfer_of deal.now names.now line number name.now amount) }
 {
-    let to = number_of(alloc, line, names, name.as_slice())?;
+    let to = party_of_name(alloc, line, names, name.as_slice())?;
     let arc = arc_of(alloc, deal, line, "arc", number)?;
     let units = units(alloc, line, "units", amount)?;
     Ok(Move::Transfer { arc, to, units })
@@ -148,7 +148,7 @@ pub fn move_of(
     deal: &Deal,
     names: &[ByteText],
     line: u32,
-    raw: &RawMove,
+    raw: &RawMove<'_>,
 ) -> Result<Move, OfferFault>
     requires sized { IsWellSized deal.now }
     requires names { length names.now ≤ 256 }

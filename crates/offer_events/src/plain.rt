@@ -2,15 +2,10 @@
 
 ghost use Rattle.std.specs.Prelude.{◌≡◌, ◌≢◌, ◌<◌, ◌≤◌, ◌^◌, ℕ, true, not, List, [], ◌∷◌, ◌++◌, position, decimal, MatchOption, IsTrue};
 ghost use Rattle.std.specs.List.{list_all};
-ghost use Rattle.offer_events.specs.Plain.{is_plain, raw_of, Says};
+ghost use Rattle.offer_events.specs.Plain.{is_plain, Says};
 
-/// A tick, a look or an act, as a plain line says it.
-#[derive(Clone, Copy, Debug)]
-pub(crate) enum PlainEvent<'a> {
-    Tick { arc: u64, by: Option<u64> },
-    Look { name: &'a [u8], arc: u64 },
-    Act { name: &'a [u8] },
-}
+use crate::raw::RawEvent;
+use offer_fields::TextRef;
 
 fn after<'a>(text: &'a [u8], prefix: &[u8]) -> Option<&'a [u8]>
     ensures { MatchOption result ((rest : List ℕ) → text.now ≢ prefix.now ++ rest) (λ rest. text.now ≡ prefix.now ++ rest.now) }
@@ -93,24 +88,24 @@ fn name_after<'a>(text: &'a [u8], prefix: &[u8]) -> Option<(&'a [u8], &'a [u8])>
 }
 
 /// `{"tick":N}` and `{"tick":N,"by":N}`.
-fn tick_first(text: &[u8]) -> Option<PlainEvent<'_>>
-    ensures { MatchOption result (Unit {0}) (λ e. (line : ℕ) → Says line text.now (raw_of e)) }
+fn tick_first(text: &[u8]) -> Option<RawEvent<'_>>
+    ensures { MatchOption result (Unit {0}) (λ e. (line : ℕ) → Says line text.now e) }
 {
     let (arc, rest) = number_after(text, b"{\"tick\":")?;
     if is_closed(rest) {
-        return Some(PlainEvent::Tick { arc, by: None });
+        return Some(RawEvent::Tick { arc, by: None });
     }
     let (heights, end) = number_after(rest, b",\"by\":")?;
     if !is_closed(end) {
         return None;
     }
     let by = Some(heights);
-    Some(PlainEvent::Tick { arc, by })
+    Some(RawEvent::Tick { arc, by })
 }
 
 /// `{"by":N,"tick":N}`.
-fn by_first(text: &[u8]) -> Option<PlainEvent<'_>>
-    ensures { MatchOption result (Unit {0}) (λ e. (line : ℕ) → Says line text.now (raw_of e)) }
+fn by_first(text: &[u8]) -> Option<RawEvent<'_>>
+    ensures { MatchOption result (Unit {0}) (λ e. (line : ℕ) → Says line text.now e) }
 {
     let (heights, rest) = number_after(text, b"{\"by\":")?;
     let (arc, end) = number_after(rest, b",\"tick\":")?;
@@ -118,47 +113,55 @@ fn by_first(text: &[u8]) -> Option<PlainEvent<'_>>
         return None;
     }
     let by = Some(heights);
-    Some(PlainEvent::Tick { arc, by })
+    Some(RawEvent::Tick { arc, by })
 }
 
 /// `{"look":"NAME","arc":N}`.
-fn look_first(text: &[u8]) -> Option<PlainEvent<'_>>
-    ensures { MatchOption result (Unit {0}) (λ e. (line : ℕ) → Says line text.now (raw_of e)) }
+fn look_first(text: &[u8]) -> Option<RawEvent<'_>>
+    ensures { MatchOption result (Unit {0}) (λ e. (line : ℕ) → Says line text.now e) }
 {
     let (name, rest) = name_after(text, b"{\"look\":\"")?;
     let (arc, end) = number_after(rest, b",\"arc\":")?;
     if !is_closed(end) {
         return None;
     }
-    Some(PlainEvent::Look { name, arc })
+    Some(RawEvent::Look {
+        name: TextRef::new(name),
+        arc,
+    })
 }
 
 /// `{"arc":N,"look":"NAME"}`.
-fn arc_first(text: &[u8]) -> Option<PlainEvent<'_>>
-    ensures { MatchOption result (Unit {0}) (λ e. (line : ℕ) → Says line text.now (raw_of e)) }
+fn arc_first(text: &[u8]) -> Option<RawEvent<'_>>
+    ensures { MatchOption result (Unit {0}) (λ e. (line : ℕ) → Says line text.now e) }
 {
     let (arc, rest) = number_after(text, b"{\"arc\":")?;
     let (name, end) = name_after(rest, b",\"look\":\"")?;
     if !is_closed(end) {
         return None;
     }
-    Some(PlainEvent::Look { name, arc })
+    Some(RawEvent::Look {
+        name: TextRef::new(name),
+        arc,
+    })
 }
 
 /// `{"act":"NAME"}`.
-fn act_alone(text: &[u8]) -> Option<PlainEvent<'_>>
-    ensures { MatchOption result (Unit {0}) (λ e. (line : ℕ) → Says line text.now (raw_of e)) }
+fn act_alone(text: &[u8]) -> Option<RawEvent<'_>>
+    ensures { MatchOption result (Unit {0}) (λ e. (line : ℕ) → Says line text.now e) }
 {
     let (name, end) = name_after(text, b"{\"act\":\"")?;
     if !is_closed(end) {
         return None;
     }
-    Some(PlainEvent::Act { name })
+    Some(RawEvent::Act {
+        name: TextRef::new(name),
+    })
 }
 
 /// The event of a line in a plain form: no blanks, no escapes, and numbers of up to 19 digits. `None` says nothing of the line.
-pub(crate) fn plain_event(text: &[u8]) -> Option<PlainEvent<'_>>
-    ensures { MatchOption result (Unit {0}) (λ e. (line : ℕ) → Says line text.now (raw_of e)) }
+pub(crate) fn plain_event(text: &[u8]) -> Option<RawEvent<'_>>
+    ensures { MatchOption result (Unit {0}) (λ e. (line : ℕ) → Says line text.now e) }
 {
     match text.get(3)? {
         b'i' => tick_first(text),

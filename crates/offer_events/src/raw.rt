@@ -1,25 +1,26 @@
-//! An event line as it is written: names are texts, and numbers are of any size.
+//! An event line as it stands: names are texts that lie in the line, and numbers are of any size.
 
-use swap_base::{ByteText, Listed};
+use offer_fields::TextRef;
+use swap_base::Listed;
 
 /// The terms that a publish states in place of the correct ones.
 #[derive(Debug, Drop)]
-pub struct RawTerms {
+pub struct RawTerms<'v> {
     pub start: Option<u64>,
     pub delta: Option<u64>,
     pub bound: Option<u64>,
     pub timelock: Option<u64>,
     pub amount: Option<u64>,
-    pub locks: Option<Listed<ByteText>>,
+    pub locks: Option<Listed<TextRef<'v>>>,
 }
 
 /// The hashkey that a raw move presents.
 #[derive(Debug, Drop)]
-pub struct RawKey {
+pub struct RawKey<'v> {
     pub lock: u64,
-    pub secret: ByteText,
-    pub path: Listed<ByteText>,
-    pub sigs: Listed<ByteText>,
+    pub secret: TextRef<'v>,
+    pub path: Listed<TextRef<'v>>,
+    pub sigs: Listed<TextRef<'v>>,
 }
 
 /// The moves that are built.
@@ -34,19 +35,33 @@ pub enum MoveKind {
 
 /// A move on an arc.
 #[derive(Debug, Drop)]
-pub enum RawMove {
-    Publish { arc: u64, terms: RawTerms },
-    Raw { arc: u64, key: RawKey },
-    Claim { arc: u64 },
-    Refund { arc: u64 },
-    Transfer { arc: u64, to: ByteText, units: u64 },
+pub enum RawMove<'v> {
+    Publish {
+        arc: u64,
+        terms: RawTerms<'v>,
+    },
+    Raw {
+        arc: u64,
+        key: RawKey<'v>,
+    },
+    Claim {
+        arc: u64,
+    },
+    Refund {
+        arc: u64,
+    },
+    Transfer {
+        arc: u64,
+        to: TextRef<'v>,
+        units: u64,
+    },
 }
 
 /// An event.
 #[derive(Debug, Drop)]
-pub enum RawEvent {
+pub enum RawEvent<'v> {
     Tick { arc: u64, by: Option<u64> },
-    Look { name: ByteText, arc: u64 },
-    Act { name: ByteText },
-    Call { name: ByteText, mv: RawMove },
+    Look { name: TextRef<'v>, arc: u64 },
+    Act { name: TextRef<'v> },
+    Call { name: TextRef<'v>, mv: RawMove<'v> },
 }

@@ -5,26 +5,28 @@ ghost use Rattle.serde_json.specs.View.{view};
 ghost use Rattle.serde_json.specs.Find.{as_array};
 ghost use Rattle.swap_base.specs.Fault.{Gives};
 ghost use Rattle.offer_fields.specs.Fields.{only};
-ghost use Rattle.offer_events.specs.Reading.{texts_of, optional_texts_at, texts_at, kind_of, kind_at, terms_at, publish_fields, publish_at, key_at, raw_fields, raw_at, claim_at, refund_at, transfer_at, rest_at, move_at, tick_at, look_at, act_at, call_at, event_at};
+ghost use Rattle.offer_events.specs.Reading.{texts_of, optional_texts_at, texts_at, kind_of, kind_at, terms_at, publish_fields, publish_at, key_at};
+ghost use Rattle.offer_events.specs.Reading.{raw_fields, raw_at, claim_at, refund_at, transfer_at, rest_at, move_at, tick_at, look_at, act_at, call_at};
+ghost use Rattle.offer_events.specs.Reading.{event_at};
 
 use crate::raw::{MoveKind, RawEvent, RawKey, RawMove, RawTerms};
 use offer_fields::{
-    array_in, is_object, number_in, only_in, optional_number_in, text_in, texts_in as members_in,
-    value_in,
+    TextRef, array_in, is_object, number_in, only_in, optional_number_in, text_in,
+    texts_in as members_in, value_in,
 };
 use refusals::{OfferFault, missing, not_built, wrong_kind};
 use serde_json::Value;
 use std::alloc::Global;
-use swap_base::{ByteText, Listed};
+use swap_base::Listed;
 
 /// The texts that a list holds.
 #[tactic(auto, unfolding(crate::specs::Reading::texts_of))]
-fn texts_of(
+fn texts_of<'v>(
     alloc: Global,
     line: u32,
     field: &str,
-    list: &Value,
-) -> Result<Listed<ByteText>, OfferFault>
+    list: &'v Value,
+) -> Result<Listed<TextRef<'v>>, OfferFault>
     ensures { Gives (λ x. x) result (texts_of line field.now (as_array (view list.now))) }
 {
     match list.as_array() {
@@ -35,12 +37,12 @@ fn texts_of(
 
 /// The texts of a list that may be absent.
 #[tactic(auto, unfolding(crate::specs::Reading::optional_texts_at))]
-fn optional_texts_in(
+fn optional_texts_in<'v>(
     alloc: Global,
     line: u32,
     field: &str,
-    object: &Value,
-) -> Result<Option<Listed<ByteText>>, OfferFault>
+    object: &'v Value,
+) -> Result<Option<Listed<TextRef<'v>>>, OfferFault>
     ensures { Gives (λ x. x) result (optional_texts_at line field.now (view object.now)) }
 {
     match object.get(field) {
@@ -51,12 +53,12 @@ fn optional_texts_in(
 
 /// The texts of a list.
 #[tactic(auto, unfolding(crate::specs::Reading::texts_at, offer_fields::specs::Fields::list_at))]
-fn texts_in(
+fn texts_in<'v>(
     alloc: Global,
     line: u32,
     field: &str,
-    object: &Value,
-) -> Result<Listed<ByteText>, OfferFault>
+    object: &'v Value,
+) -> Result<Listed<TextRef<'v>>, OfferFault>
     ensures { Gives (λ x. x) result (texts_at line field.now (view object.now)) }
 {
     let values = array_in(alloc, line, field, object)?;
@@ -87,7 +89,7 @@ fn kind_in(alloc: Global, line: u32, object: &Value) -> Result<MoveKind, OfferFa
 }
 
 #[tactic(auto, unfolding(crate::specs::Reading::terms_at))]
-fn terms_in(alloc: Global, line: u32, object: &Value) -> Result<RawTerms, OfferFault>
+fn terms_in<'v>(alloc: Global, line: u32, object: &'v Value) -> Result<RawTerms<'v>, OfferFault>
     ensures { Gives (λ t. t) result (terms_at line (view object.now)) }
 {
     let start = optional_number_in(alloc, line, "start", object)?;
@@ -116,7 +118,12 @@ fn only_publish(alloc: Global, line: u32, object: &Value) -> Result<(), OfferFau
 }
 
 #[tactic(auto, unfolding(crate::specs::Reading::publish_at))]
-fn publish_in(alloc: Global, line: u32, arc: u64, object: &Value) -> Result<RawMove, OfferFault>
+fn publish_in<'v>(
+    alloc: Global,
+    line: u32,
+    arc: u64,
+    object: &'v Value,
+) -> Result<RawMove<'v>, OfferFault>
     ensures { Gives (λ m. m) result (publish_at line arc (view object.now)) }
 {
     let terms = terms_in(alloc, line, object)?;
@@ -125,7 +132,7 @@ fn publish_in(alloc: Global, line: u32, arc: u64, object: &Value) -> Result<RawM
 }
 
 #[tactic(auto, unfolding(crate::specs::Reading::key_at))]
-fn key_in(alloc: Global, line: u32, object: &Value) -> Result<RawKey, OfferFault>
+fn key_in<'v>(alloc: Global, line: u32, object: &'v Value) -> Result<RawKey<'v>, OfferFault>
     ensures { Gives (λ k. k) result (key_at line (view object.now)) }
 {
     let lock = number_in(alloc, line, "lock", object)?;
@@ -134,7 +141,7 @@ fn key_in(alloc: Global, line: u32, object: &Value) -> Result<RawKey, OfferFault
     let sigs = texts_in(alloc, line, "sigs", object)?;
     Ok(RawKey {
         lock,
-        secret: ByteText::from_slice(alloc, secret.as_bytes())?,
+        secret: TextRef::new(secret.as_bytes()),
         path,
         sigs,
     })
@@ -148,7 +155,12 @@ fn only_raw(alloc: Global, line: u32, object: &Value) -> Result<(), OfferFault>
 }
 
 #[tactic(auto, unfolding(crate::specs::Reading::raw_at))]
-fn raw_in(alloc: Global, line: u32, arc: u64, object: &Value) -> Result<RawMove, OfferFault>
+fn raw_in<'v>(
+    alloc: Global,
+    line: u32,
+    arc: u64,
+    object: &'v Value,
+) -> Result<RawMove<'v>, OfferFault>
     ensures { Gives (λ m. m) result (raw_at line arc (view object.now)) }
 {
     let key = key_in(alloc, line, object)?;
@@ -157,7 +169,12 @@ fn raw_in(alloc: Global, line: u32, arc: u64, object: &Value) -> Result<RawMove,
 }
 
 #[tactic(auto, unfolding(crate::specs::Reading::claim_at))]
-fn claim_in(alloc: Global, line: u32, arc: u64, object: &Value) -> Result<RawMove, OfferFault>
+fn claim_in<'v>(
+    alloc: Global,
+    line: u32,
+    arc: u64,
+    object: &'v Value,
+) -> Result<RawMove<'v>, OfferFault>
     ensures { Gives (λ m. m) result (claim_at line arc (view object.now)) }
 {
     only_in(alloc, line, &["arc", "do"], object)?;
@@ -165,7 +182,12 @@ fn claim_in(alloc: Global, line: u32, arc: u64, object: &Value) -> Result<RawMov
 }
 
 #[tactic(auto, unfolding(crate::specs::Reading::refund_at))]
-fn refund_in(alloc: Global, line: u32, arc: u64, object: &Value) -> Result<RawMove, OfferFault>
+fn refund_in<'v>(
+    alloc: Global,
+    line: u32,
+    arc: u64,
+    object: &'v Value,
+) -> Result<RawMove<'v>, OfferFault>
     ensures { Gives (λ m. m) result (refund_at line arc (view object.now)) }
 {
     only_in(alloc, line, &["arc", "do"], object)?;
@@ -173,24 +195,29 @@ fn refund_in(alloc: Global, line: u32, arc: u64, object: &Value) -> Result<RawMo
 }
 
 #[tactic(auto, unfolding(crate::specs::Reading::transfer_at))]
-fn transfer_in(alloc: Global, line: u32, arc: u64, object: &Value) -> Result<RawMove, OfferFault>
+fn transfer_in<'v>(
+    alloc: Global,
+    line: u32,
+    arc: u64,
+    object: &'v Value,
+) -> Result<RawMove<'v>, OfferFault>
     ensures { Gives (λ m. m) result (transfer_at line arc (view object.now)) }
 {
     let to = text_in(alloc, line, "to", object)?;
     let units = number_in(alloc, line, "units", object)?;
     only_in(alloc, line, &["arc", "do", "to", "units"], object)?;
-    let to = ByteText::from_slice(alloc, to.as_bytes())?;
+    let to = TextRef::new(to.as_bytes());
     Ok(RawMove::Transfer { arc, to, units })
 }
 
 /// The further fields of a move.
-fn rest_in(
+fn rest_in<'v>(
     alloc: Global,
     line: u32,
     kind: MoveKind,
     arc: u64,
-    object: &Value,
-) -> Result<RawMove, OfferFault>
+    object: &'v Value,
+) -> Result<RawMove<'v>, OfferFault>
     ensures { Gives (λ m. m) result (rest_at line kind arc (view object.now)) }
 {
     match kind {
@@ -203,7 +230,7 @@ fn rest_in(
 }
 
 #[tactic(auto, unfolding(crate::specs::Reading::move_at))]
-fn move_in(alloc: Global, line: u32, object: &Value) -> Result<RawMove, OfferFault>
+fn move_in<'v>(alloc: Global, line: u32, object: &'v Value) -> Result<RawMove<'v>, OfferFault>
     ensures { Gives (λ m. m) result (move_at line (view object.now)) }
 {
     let kind = kind_in(alloc, line, object)?;
@@ -212,7 +239,7 @@ fn move_in(alloc: Global, line: u32, object: &Value) -> Result<RawMove, OfferFau
 }
 
 #[tactic(auto, unfolding(crate::specs::Reading::tick_at))]
-fn tick_in(alloc: Global, line: u32, object: &Value) -> Result<RawEvent, OfferFault>
+fn tick_in<'v>(alloc: Global, line: u32, object: &'v Value) -> Result<RawEvent<'v>, OfferFault>
     ensures { Gives (λ e. e) result (tick_at line (view object.now)) }
 {
     let arc = number_in(alloc, line, "tick", object)?;
@@ -222,28 +249,28 @@ fn tick_in(alloc: Global, line: u32, object: &Value) -> Result<RawEvent, OfferFa
 }
 
 #[tactic(auto, unfolding(crate::specs::Reading::look_at))]
-fn look_in(alloc: Global, line: u32, object: &Value) -> Result<RawEvent, OfferFault>
+fn look_in<'v>(alloc: Global, line: u32, object: &'v Value) -> Result<RawEvent<'v>, OfferFault>
     ensures { Gives (λ e. e) result (look_at line (view object.now)) }
 {
     let name = text_in(alloc, line, "look", object)?;
     let arc = number_in(alloc, line, "arc", object)?;
     only_in(alloc, line, &["arc", "look"], object)?;
-    let name = ByteText::from_slice(alloc, name.as_bytes())?;
+    let name = TextRef::new(name.as_bytes());
     Ok(RawEvent::Look { name, arc })
 }
 
 #[tactic(auto, unfolding(crate::specs::Reading::act_at))]
-fn act_in(alloc: Global, line: u32, object: &Value) -> Result<RawEvent, OfferFault>
+fn act_in<'v>(alloc: Global, line: u32, object: &'v Value) -> Result<RawEvent<'v>, OfferFault>
     ensures { Gives (λ e. e) result (act_at line (view object.now)) }
 {
     let name = text_in(alloc, line, "act", object)?;
     only_in(alloc, line, &["act"], object)?;
-    let name = ByteText::from_slice(alloc, name.as_bytes())?;
+    let name = TextRef::new(name.as_bytes());
     Ok(RawEvent::Act { name })
 }
 
 #[tactic(auto, unfolding(crate::specs::Reading::call_at))]
-fn call_in(alloc: Global, line: u32, object: &Value) -> Result<RawEvent, OfferFault>
+fn call_in<'v>(alloc: Global, line: u32, object: &'v Value) -> Result<RawEvent<'v>, OfferFault>
     ensures { Gives (λ e. e) result (call_at line (view object.now)) }
 {
     let name = text_in(alloc, line, "call", object)?;
@@ -251,13 +278,13 @@ fn call_in(alloc: Global, line: u32, object: &Value) -> Result<RawEvent, OfferFa
     is_object(alloc, line, "move", value)?;
     let mv = move_in(alloc, line, value)?;
     only_in(alloc, line, &["call", "move"], object)?;
-    let name = ByteText::from_slice(alloc, name.as_bytes())?;
+    let name = TextRef::new(name.as_bytes());
     Ok(RawEvent::Call { name, mv })
 }
 
 /// The event of a line as its fields say it, or the first reason against a field.
 #[tactic(auto, unfolding(crate::specs::Reading::event_at))]
-pub fn event_in(alloc: Global, line: u32, object: &Value) -> Result<RawEvent, OfferFault>
+pub fn event_in<'v>(alloc: Global, line: u32, object: &'v Value) -> Result<RawEvent<'v>, OfferFault>
     ensures { Gives (λ e. e) result (event_at line (view object.now)) }
 {
     if object.get("tick").is_some() {

@@ -1,2 +1,4 @@
 pub mod Lines
 pub mod Lists
+pub mod Chains
+pub mod Ranges

@@ -25,5 +25,6 @@ refused line text h = by_test line (is_utf8 text) (read text) (λ b. h (IsUtf8-f
 pub is_read : (line : ℕ) (text : List ℕ) (d : Data) → IsUtf8 text × (read text ≡ Some d) → is_some (as_object d) ≡ true → object_of line text ≡ Ok d
 is_read line text d h e = read_as line text d h.0 h.1 ∙ rw e refl
 
-pub is_no_object : (line : ℕ) (text : List ℕ) (d : Data) → IsUtf8 text × (read text ≡ Some d) → is_some (as_object d) ≡ false → object_of line text ≡ Err (NotJson line)
+pub is_no_object : (line : ℕ) (text : List ℕ) (d : Data) → IsUtf8 text × (read text ≡ Some d) → is_some (as_object d) ≡ false
+    → object_of line text ≡ Err (NotJson line)
 is_no_object line text d h e = read_as line text d h.0 h.1 ∙ rw e refl

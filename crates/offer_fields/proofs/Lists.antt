@@ -1,48 +1,70 @@
--- Reading the members of a list one after the other, as a loop does.
-use Rattle.std.proofs.Common.{◌≡◌, ℕ, suc, ◌+◌, ◌<◌, ◌≤◌, length, get_or, drop, List, [], ◌∷◌, ◌++◌, Result, Ok, Err, refl, sym, ap, ◌∙◌, append_assoc, arith, add-one, drop-cons}
+-- Reading the members of a list one after the other, as a loop does, and what a list that was read says of each.
+use Rattle.std.proofs.Common.{◌≡◌, ℕ, ◌+◌, ◌<◌, ◌≤◌, length, get_or, drop, List, [], ◌∷◌, ◌++◌, Result, Ok, Err, refl, sym, ap, ◌∙◌, append_assoc, arith}
+use Rattle.std.proofs.Common.{add-one, drop-cons}
 use Rattle.std.proofs.lemmas.List.{append-nil, nil_from_length, length-drop}
+use Rattle.swap_base.specs.declared.fault.Fault.{Fault}
+use Rattle.swap_base.specs.declared.fault.Fault.TheVariants.{Refused, NoMemory}
+use Rattle.swap_base.specs.Fault.{◌>>=◌, Fails}
 use Rattle.serde_json.specs.Data.{Data}
 use Rattle.serde_json.specs.View.{view, items_view}
 use Rattle.serde_json.specs.declared.value.Value.{Value}
-use Rattle.swap_base.specs.Fault.{◌>>=◌, Fails}
-use Rattle.offer_fields.specs.Fields.{each}
 use Rattle.refusals.specs.declared.reason.Reason.{Reason}
-use Rattle.swap_base.specs.declared.fault.Fault.{Fault}
-use Rattle.swap_base.specs.declared.fault.Fault.TheVariants.{Refused, NoMemory}
+use Rattle.offer_fields.specs.Lists.{each_of}
+use Rattle.offer_fields.specs.Fields.{each}
 
 -- what was read before, and what is still read
-abbrev pub with_front : {A : Type 0} → List A → Result (List A) Reason → Result (List A) Reason
-with_front front read = read >>= λ xs. Ok (front ++ xs)
+abbrev pub with_front : {B R : Type 0} → List B → Result (List B) R → Result (List B) R
+with_front front read = read >>= λ ys. Ok (front ++ ys)
 
-regroup : {A : Type 0} (front : List A) (x : A) (read : Result (List A) Reason) → with_front front (read >>= λ xs. Ok (x ∷ xs)) ≡ with_front (front ++ x ∷ []) read
-regroup {A = A} front x (Ok xs) = ap (λ (ys : List A). Ok ys) (simp append_assoc)
-regroup front x (Err e) = refl
+regroup : {B R : Type 0} (front : List B) (y : B) (read : Result (List B) R)
+    → with_front front (read >>= λ ys. Ok (y ∷ ys)) ≡ with_front (front ++ y ∷ []) read
+regroup {B = B} {R = R} front y (Ok ys) = ap (λ (zs : List B). let r : Result (List B) R = Ok zs in r) (simp append_assoc)
+regroup front y (Err e) = refl
 
-each-cons : {A : Type 0} (f : Data → Result A Reason) (v : Value) (vs : List Value) → each f (items_view (v ∷ vs)) ≡ f (view v) >>= (λ x. each f (items_view vs) >>= λ xs. Ok (x ∷ xs))
-unfolding each
-each-cons f v vs = refl
+each_of-cons : {A B R : Type 0} (f : A → Result B R) (x : A) (xs : List A) → each_of f (x ∷ xs) ≡ f x >>= (λ y. each_of f xs >>= λ ys. Ok (y ∷ ys))
+unfolding each_of
+each_of-cons f x xs = refl
 
-each-nil : {A : Type 0} (f : Data → Result A Reason) → each f (items_view []) ≡ Ok []
-unfolding each
-each-nil f = refl
+each_of-nil : {A B R : Type 0} (f : A → Result B R) → each_of f [] ≡ Ok []
+unfolding each_of
+each_of-nil f = refl
 
-pub goes_on : {A : Type 0} (f : Data → Result A Reason) (front : List A) (vs : List Value) (i : ℕ) (v : Value) (x : A) (total : Result (List A) Reason) → i < length vs → v ≡ get_or vs i v → f (view v) ≡ Ok x
-    → with_front front (each f (items_view (drop i vs))) ≡ total → with_front (front ++ x ∷ []) (each f (items_view (drop (i + 1) vs))) ≡ total
-goes_on f front vs i v x total lt is h so_far =
-    let e : drop i vs ≡ v ∷ drop (i + 1) vs = rw (add-one, drop-cons vs i v, ← is) in
-    let one : with_front front (each f (items_view (drop i vs))) ≡ with_front (front ++ x ∷ []) (each f (items_view (drop (i + 1) vs))) = rw (e, each-cons f v (drop (i + 1) vs), h) (regroup front x (each f (items_view (drop (i + 1) vs)))) in
+pub starts : {A B R : Type 0} (f : A → Result B R) (xs : List A) → with_front [] (each_of f xs) ≡ each_of f xs
+starts f xs = unit_left (each_of f xs)
+  where
+    unit_left : {B R : Type 0} (read : Result (List B) R) → with_front [] read ≡ read
+    unit_left (Ok ys) = refl
+    unit_left (Err e) = refl
+
+pub goes_on : {A B R : Type 0} (f : A → Result B R) (front : List B) (xs : List A) (i : ℕ) (x : A) (y : B) (total : Result (List B) R) → i < length xs
+    → x ≡ get_or xs i x → f x ≡ Ok y
+    → with_front front (each_of f (drop i xs)) ≡ total → with_front (front ++ y ∷ []) (each_of f (drop (i + 1) xs)) ≡ total
+goes_on f front xs i x y total lt is h so_far =
+    let e : drop i xs ≡ x ∷ drop (i + 1) xs = rw (add-one, drop-cons xs i x, ← is) in
+    let one : with_front front (each_of f (drop i xs)) ≡ with_front (front ++ y ∷ []) (each_of f (drop (i + 1) xs)) =
+    rw (e, each_of-cons f x (drop (i + 1) xs), h) (regroup front y (each_of f (drop (i + 1) xs))) in
     sym one ∙ so_far
 
-pub ends : {A : Type 0} (f : Data → Result A Reason) (e : Fault Reason) (front : List A) (vs : List Value) (i : ℕ) (v : Value) (total : Result (List A) Reason) → i < length vs → v ≡ get_or vs i v → Fails e (f (view v))
-    → with_front front (each f (items_view (drop i vs))) ≡ total → Fails e total
-ends f NoMemory front vs i v total lt is h so_far = tt
-ends f (Refused reason) front vs i v total lt is h so_far =
-    let e : drop i vs ≡ v ∷ drop (i + 1) vs = rw (add-one, drop-cons vs i v, ← is) in
-    let one : with_front front (each f (items_view (drop i vs))) ≡ Err reason = rw (e, each-cons f v (drop (i + 1) vs), h) refl in
+pub ends : {A B R : Type 0} (f : A → Result B R) (e : Fault R) (front : List B) (xs : List A) (i : ℕ) (x : A) (total : Result (List B) R) → i < length xs
+    → x ≡ get_or xs i x → Fails e (f x)
+    → with_front front (each_of f (drop i xs)) ≡ total → Fails e total
+ends f NoMemory front xs i x total lt is h so_far = tt
+ends f (Refused reason) front xs i x total lt is h so_far =
+    let e : drop i xs ≡ x ∷ drop (i + 1) xs = rw (add-one, drop-cons xs i x, ← is) in
+    let one : with_front front (each_of f (drop i xs)) ≡ Err reason = rw (e, each_of-cons f x (drop (i + 1) xs), h) refl in
     sym so_far ∙ one
 
-pub is_done : {A : Type 0} (f : Data → Result A Reason) (front : List A) (vs : List Value) (i : ℕ) (total : Result (List A) Reason) → length vs ≤ i → with_front front (each f (items_view (drop i vs))) ≡ total → total ≡ Ok front
-is_done {A = A} f front vs i total le so_far =
-    let e : drop i vs ≡ [] = nil_from_length (drop i vs) (omega (arith, length-drop i vs)) in
-    let one : with_front front (each f (items_view (drop i vs))) ≡ Ok front = rw (e, each-nil f) (ap (λ (ys : List A). Ok ys) (append-nil front)) in
+pub is_done : {A B R : Type 0} (f : A → Result B R) (front : List B) (xs : List A) (i : ℕ) (total : Result (List B) R) → length xs ≤ i
+    → with_front front (each_of f (drop i xs)) ≡ total → total ≡ Ok front
+is_done {B = B} {R = R} f front xs i total le so_far =
+    let e : drop i xs ≡ [] = nil_from_length (drop i xs) (omega (arith, length-drop i xs)) in
+    let one : with_front front (each_of f (drop i xs)) ≡ Ok front = rw (e, each_of-nil f)
+    (ap (λ (ys : List B). let r : Result (List B) R = Ok ys in r) (append-nil front)) in
     sym so_far ∙ one
+
+-- The values of a list of JSON.
+
+pub of_values : {A : Type 0} (f : Data → Result A Reason) (vs : List Value) → each f (items_view vs) ≡ each_of (λ v. f (view v)) vs
+unfolding each each_of
+of_values f [] = refl
+of_values {A = A} f (v ∷ vs) = ap (λ (read : Result (List A) Reason). f (view v) >>= λ x. read >>= λ xs. Ok (x ∷ xs)) (of_values f vs)

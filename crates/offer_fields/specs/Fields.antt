@@ -6,6 +6,7 @@ use Rattle.serde_json.specs.Data.{Data, Items, no_items, item, Members, no_membe
 use Rattle.serde_json.specs.Read.{read}
 use Rattle.serde_json.specs.Find.{get, as_number, as_u64, as_str, as_array, as_object}
 use Rattle.swap_base.specs.Fault.{◌>>=◌}
+use Rattle.offer_fields.specs.Lists.{each_of}
 use Rattle.refusals.specs.declared.reason.Reason.{Reason}
 use Rattle.refusals.specs.declared.reason.Reason.TheVariants.{NotJson, Missing, WrongKind, UnknownField}
 
@@ -65,12 +66,12 @@ no_unknown line None = Ok tt
 unfoldable pub only : ℕ → List (List ℕ) → Data → Result (Unit {0}) Reason
 only line allowed d = no_unknown line (option_and_then (first_unknown allowed) (as_object d))
 
+abbrev pub listed : Items → List Data
+listed no_items = []
+listed (item d ds) = d ∷ listed ds
+
 unfoldable pub each : {A : Type 0} → (Data → Result A Reason) → Items → Result (List A) Reason
-each f no_items = Ok []
-each f (item d ds) = do
-  x ← f d
-  xs ← each f ds
-  Ok (x ∷ xs)
+each f ds = each_of f (listed ds)
 
 unfoldable pub array_at : ℕ → List ℕ → Data → Result Items Reason
 array_at line field d = do

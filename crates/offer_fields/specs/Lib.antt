@@ -1,2 +1,4 @@
+pub mod Lists
 pub mod Fields
 pub mod Limits
+pub mod Names

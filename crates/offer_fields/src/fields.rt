@@ -6,13 +6,15 @@ ghost use Rattle.std.specs.Str.{bytes_eq};
 ghost use Rattle.serde_json.specs.View.{view, items_view, members_view};
 ghost use Rattle.serde_json.specs.Data.{Data};
 ghost use Rattle.swap_base.specs.Fault.{Gives};
-ghost use Rattle.offer_fields.specs.Fields.{needed, number_at, text_at, optional_number_at, optional_text_at, member_text_of, first_unknown as unknown, only, each, array_at, list_at, object_at};
+ghost use Rattle.offer_fields.specs.Fields.{needed, number_at, text_at, optional_number_at, optional_text_at, member_text_of, first_unknown as unknown, only};
+ghost use Rattle.offer_fields.specs.Fields.{each, array_at, list_at, object_at};
 ghost use Rattle.refusals.specs.declared.reason.Reason.{Reason};
 
+use crate::text::TextRef;
 use refusals::{OfferFault, Reason, missing, unknown_field, wrong_kind};
 use serde_json::{Map, Value};
 use std::alloc::Global;
-use swap_base::{ByteText, Listed};
+use swap_base::Listed;
 
 #[tactic(auto, unfolding(crate::specs::Fields::needed))]
 pub fn value_in<'v>(
@@ -134,21 +136,21 @@ pub fn only_in(alloc: Global, line: u32, allowed: &[&str], object: &Value) -> Re
 }
 
 /// What a member of a list is read as, in a context that all members share.
-pub trait Member<C: Copy>: Sized {
+pub trait Member<'v, C: Copy>: Sized {
     ghost said: { C → ℕ → Data → Result Self Reason };
 
-    fn read(alloc: Global, context: C, line: u32, value: &Value) -> Result<Self, OfferFault>
+    fn read(alloc: Global, context: C, line: u32, value: &'v Value) -> Result<Self, OfferFault>
         ensures { Gives (λ x. x) result (said context line (view value.now)) };
 }
 
 /// The list of that name, each member read in turn.
 #[tactic(auto, unfolding(crate::specs::Fields::list_at))]
-pub fn list_in<C: Copy, T: Member<C> + Drop>(
+pub fn list_in<'v, C: Copy, T: Member<'v, C> + Drop>(
     alloc: Global,
     context: C,
     line: u32,
     field: &str,
-    object: &Value,
+    object: &'v Value,
 ) -> Result<Listed<T>, OfferFault>
     ensures { Gives (λ x. x) result (list_at line field.now (T.said context line) (view object.now)) }
 {
@@ -157,11 +159,11 @@ pub fn list_in<C: Copy, T: Member<C> + Drop>(
 }
 
 /// The members of a list, each read in turn.
-pub fn each_in<C: Copy, T: Member<C> + Drop>(
+fn each_in<'v, C: Copy, T: Member<'v, C> + Drop>(
     alloc: Global,
     context: C,
     line: u32,
-    values: &[Value],
+    values: &'v [Value],
 ) -> Result<Listed<T>, OfferFault>
     ensures { Gives (λ x. x) result (each (T.said context line) (items_view values.now)) }
 {
@@ -172,25 +174,31 @@ pub fn each_in<C: Copy, T: Member<C> + Drop>(
     Ok(Listed::new(list))
 }
 
-fn owned_text(alloc: Global, line: u32, field: &str, value: &Value) -> Result<ByteText, OfferFault>
-    ensures { Gives (λ x. x) result (member_text_of line field.now (view value.now)) }
-{
-    let text = member_text(alloc, line, field, value)?;
-    Ok(ByteText::from_slice(alloc, text.as_bytes())?)
-}
-
-/// The texts that the members of the list of that name are.
-pub fn texts_in(
+#[tactic(auto, unfolding(crate::specs::Fields::member_text_of))]
+fn text_ref<'v>(
     alloc: Global,
     line: u32,
     field: &str,
-    values: &[Value],
-) -> Result<Listed<ByteText>, OfferFault>
+    value: &'v Value,
+) -> Result<TextRef<'v>, OfferFault>
+    ensures { Gives (λ x. x) result (member_text_of line field.now (view value.now)) }
+{
+    let text = member_text(alloc, line, field, value)?;
+    Ok(TextRef::new(text.as_bytes()))
+}
+
+/// The texts that the members of the list of that name are.
+pub fn texts_in<'v>(
+    alloc: Global,
+    line: u32,
+    field: &str,
+    values: &'v [Value],
+) -> Result<Listed<TextRef<'v>>, OfferFault>
     ensures { Gives (λ x. x) result (each (member_text_of line field.now) (items_view values.now)) }
 {
     let mut list = Vec::new(alloc);
     for value in values {
-        list.push(owned_text(alloc, line, field, value)?)?;
+        list.push(text_ref(alloc, line, field, value)?)?;
     }
     Ok(Listed::new(list))
 }

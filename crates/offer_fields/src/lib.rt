@@ -5,11 +5,17 @@
 
 mod fields;
 mod hexadecimal;
+mod limits;
+mod names;
 mod object;
+mod text;
 
 pub use fields::{
-    Member, array_in, each_in, is_object, list_in, member_text, number_in, only_in,
-    optional_number_in, optional_text_in, text_in, texts_in, value_in,
+    Member, array_in, is_object, list_in, member_text, number_in, only_in, optional_number_in,
+    optional_text_in, text_in, texts_in, value_in,
 };
-pub use hexadecimal::{digest_in, within};
+pub use hexadecimal::digest_in;
+pub use limits::{number_within, within};
+pub use names::party_of_name;
 pub use object::object_in;
+pub use text::TextRef;

@@ -1,5 +1,4 @@
-pub mod Every
-pub mod Bind
+pub mod Walked
 pub mod Numbered
 pub mod Limited
 pub mod Untimed

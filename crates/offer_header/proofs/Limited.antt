@@ -1,5 +1,6 @@
 -- A header's lists are as long as they have to be, and its numbers are in their ranges.
-use Rattle.std.proofs.Common.{◌≡◌, ℕ, ◌<◌, ◌≤◌, ◌^◌, length, get_or, map, List, [], Bool, true, false, ◌&&◌, cond, Option, Result, Ok, Err, refl, sym, ◌∙◌, subst, arith, codes}
+use Rattle.std.proofs.Common.{◌≡◌, ℕ, ◌<◌, ◌≤◌, ◌^◌, length, get_or, map, List, [], Bool, true, false, ◌&&◌, cond, Option, Result, Ok, Err, refl, sym, ◌∙◌}
+use Rattle.std.proofs.Common.{subst, arith, codes}
 use Rattle.std.proofs.lemmas.Bool.{leb-true}
 use Rattle.std.proofs.lemmas.List.{get_or-map, length-map}
 use Rattle.std.specs.Prelude.{nat_le, IfOk}
@@ -8,11 +9,12 @@ use Rattle.swap_base.specs.declared.fault.Fault.{Fault}
 use Rattle.swap_base.proofs.Lists.{and_parts}
 use Rattle.refusals.specs.declared.reason.Reason.{Reason}
 use Rattle.refusals.specs.declared.reason.Reason.TheVariants.{OverLimit}
-use Rattle.offer_fields.specs.Limits.{within}
-use Rattle.offer_header.specs.Every.{every}
+use Rattle.offer_fields.specs.Limits.{number_within, within}
+use Rattle.offer_fields.specs.Lists.{each_of}
 use Rattle.offer_header.specs.Names.{AreLeaders, AreEnds, IsNumbered}
 use Rattle.offer_header.specs.Raw.{IsUntimed}
-use Rattle.offer_header.specs.Limits.{number_within, seed_of, seeds_of, conforms, terms_of, all_terms_of, arc_ends, hashlock_of, hashlocks_of, key_of, keys_of, party_keys_of, limited_of}
+use Rattle.offer_header.specs.Limits.{seed_of, seeds_of, conforms, terms_of, all_terms_of, arc_ends, hashlock_of, hashlocks_of, key_of, keys_of}
+use Rattle.offer_header.specs.Limits.{party_keys_of, limited_of}
 use Rattle.offer_header.specs.Header.{HasKeysFor, IsWithin}
 use Rattle.offer_header.specs.declared.raw.RawParty.{RawParty}
 use Rattle.offer_header.specs.declared.raw.RawArc.{RawArc}
@@ -27,34 +29,18 @@ use Rattle.deviator_script.specs.declared.job.Purpose.{Purpose}
 use Rattle.offer_header.specs.declared.header.Header.{Header}
 use Rattle.offer_header.specs.declared.names.Ends.{Ends}
 use Rattle.offer_header.specs.declared.names.Numbered.{Numbered}
-use Rattle.offer_header.proofs.Bind.{bind_ok, every_length, every_at}
-
-within_test : (b : Bool) (x : Reason) (u : Unit {0}) → cond b (Ok tt) (Err x) ≡ Ok u → b ≡ true
-within_test true x u h = refl
-within_test false x u h = absurd (cc h)
-
-pub within_ok : (line : ℕ) (field : List ℕ) (low high n : ℕ) (u : Unit {0}) → within line field low high n ≡ Ok u → (low ≤ n) × (n ≤ high)
-unfolding within
-within_ok line field low high n u h =
-    let both = and_parts (nat_le low n) (nat_le n high) (within_test (nat_le low n && nat_le n high) (OverLimit line field n) u h) in
-    (leb-true low n both.0, leb-true n high both.1)
-
-pub number_within_ok : (line : ℕ) (field : List ℕ) (low high n m : ℕ) → number_within line field low high n ≡ Ok m → (low ≤ m) × (m ≤ high) × (m ≡ n)
-unfolding number_within
-number_within_ok line field low high n m h =
-    let one = bind_ok (within line field low high n) (λ u. Ok n) m h in
-    let r = within_ok line field low high n one.0 one.1 in
-    let same : n ≡ m = cc (one.2) in
-    (omega arith, omega arith, sym same)
+use Rattle.offer_fields.proofs.Chains.{went, each_length, each_at}
+use Rattle.offer_fields.proofs.Ranges.{within_ok, number_within_ok}
 
 -- ---- parties
 
-pub seeds_ok : (line : ℕ) (parties : List RawParty) (seeds : List (Option (List ℕ))) → seeds_of line parties ≡ Ok seeds → (2 ≤ length parties) × (length parties ≤ 24) × (length seeds ≡ length parties)
+pub seeds_ok : (line : ℕ) (parties : List RawParty) (seeds : List (Option (List ℕ))) → seeds_of line parties ≡ Ok seeds
+    → (2 ≤ length parties) × (length parties ≤ 24) × (length seeds ≡ length parties)
 unfolding seeds_of
 seeds_ok line parties seeds h =
-    let one = bind_ok (within line (codes "parties") 2 24 (length parties)) (λ u. every (seed_of line) parties) seeds h in
+    let one = went (within line (codes "parties") 2 24 (length parties)) (λ u. each_of (seed_of line) parties) seeds h in
     let r = within_ok line (codes "parties") 2 24 (length parties) one.0 one.1 in
-    (r.0, r.1, every_length (seed_of line) parties seeds one.2)
+    (r.0, r.1, each_length (seed_of line) parties seeds one.2)
 
 wider_ends : (n : ℕ) (ends : List Ends) → n ≤ 256 → AreEnds n ends → AreEnds 256 ends
 wider_ends n ends le h = record {
@@ -65,13 +51,15 @@ wider_ends n ends le h = record {
 wider_leaders : (n : ℕ) (leaders : List ℕ) → n ≤ 256 → AreLeaders n leaders → AreLeaders 256 leaders
 wider_leaders n leaders le h = record { below = λ i lt. let k = h.below i lt in omega arith; apart = h.apart }
 
-pub small_ends : (line : ℕ) (raw : RawHeader) (n : Numbered) (seeds : List (Option (List ℕ))) → IsNumbered raw n → seeds_of line raw.parties ≡ Ok seeds → AreEnds 256 n.arcs
+pub small_ends : (line : ℕ) (raw : RawHeader) (n : Numbered) (seeds : List (Option (List ℕ))) → IsNumbered raw n → seeds_of line raw.parties ≡ Ok seeds
+    → AreEnds 256 n.arcs
 small_ends line raw n seeds is h =
     let r = seeds_ok line raw.parties seeds h in
     let e = is.parties in
     wider_ends (length n.names) n.arcs (omega arith) is.ends
 
-pub small_leaders : (line : ℕ) (raw : RawHeader) (n : Numbered) (seeds : List (Option (List ℕ))) → IsNumbered raw n → seeds_of line raw.parties ≡ Ok seeds → AreLeaders 256 n.leaders
+pub small_leaders : (line : ℕ) (raw : RawHeader) (n : Numbered) (seeds : List (Option (List ℕ))) → IsNumbered raw n → seeds_of line raw.parties ≡ Ok seeds
+    → AreLeaders 256 n.leaders
 small_leaders line raw n seeds is h =
     let r = seeds_ok line raw.parties seeds h in
     let e = is.parties in
@@ -79,11 +67,14 @@ small_leaders line raw n seeds is h =
 
 -- ---- arcs
 
-terms_ok : (line : ℕ) (a : RawArc) (t : ArcTerms) → terms_of line a ≡ Ok t → ((1 ≤ t.amount) × (t.amount ≤ 10 ^ 12)) × (t.timelock ≤ 1000000) × (t.timelock ≡ a.timelock)
+terms_ok : (line : ℕ) (a : RawArc) (t : ArcTerms) → terms_of line a ≡ Ok t
+    → ((1 ≤ t.amount) × (t.amount ≤ 10 ^ 12)) × (t.timelock ≤ 1000000) × (t.timelock ≡ a.timelock)
 unfolding terms_of
 terms_ok line a t h =
-    let one = bind_ok (within line (codes "amount") 1 (10 ^ 12) a.amount) (λ u. number_within line (codes "timelock") 0 1000000 a.timelock >>= λ timelock. Ok (record { amount = a.amount; timelock = timelock })) t h in
-    let two = bind_ok (number_within line (codes "timelock") 0 1000000 a.timelock) (λ timelock. Ok (record { amount = a.amount; timelock = timelock })) t one.2 in
+    let one = went (within line (codes "amount") 1 (10 ^ 12) a.amount) (λ u. number_within line (codes "timelock") 0 1000000 a.timelock >>= λ timelock.
+    Ok (record { amount = a.amount; timelock = timelock })) t h in
+    let two = went (number_within line (codes "timelock") 0 1000000 a.timelock)
+    (λ timelock. Ok (record { amount = a.amount; timelock = timelock })) t one.2 in
     let same : record { amount = a.amount; timelock = two.0 } ≡ t = cc (two.2) in
     let r = within_ok line (codes "amount") 1 (10 ^ 12) a.amount one.0 one.1 in
     let q = number_within_ok line (codes "timelock") 0 1000000 a.timelock two.0 two.1 in
@@ -106,11 +97,13 @@ record AreTerms (arcs : List RawArc) (terms : List ArcTerms) : Type 0 where
 are_terms : (line : ℕ) (arcs : List RawArc) (terms : List ArcTerms) → all_terms_of line arcs ≡ Ok terms → AreTerms arcs terms
 unfolding all_terms_of
 are_terms line arcs terms h =
-    let one = bind_ok (within line (codes "arcs") 2 96 (length arcs)) (λ u. every (terms_of line) arcs) terms h in
+    let one = went (within line (codes "arcs") 2 96 (length arcs)) (λ u. each_of (terms_of line) arcs) terms h in
     let r = within_ok line (codes "arcs") 2 96 (length arcs) one.0 one.1 in
-    let l : length terms ≡ length arcs = every_length (terms_of line) arcs terms one.2 in
-    let at : (a : ℕ) → a < length terms → ((1 ≤ (get_or terms a zero_terms).amount) × ((get_or terms a zero_terms).amount ≤ 10 ^ 12)) × ((get_or terms a zero_terms).timelock ≤ 1000000) × ((get_or terms a zero_terms).timelock ≡ (get_or arcs a zero_arc).timelock) =
-    λ a lt. terms_ok line (get_or arcs a zero_arc) (get_or terms a zero_terms) (every_at (terms_of line) arcs terms zero_arc zero_terms one.2 a (omega arith)) in
+    let l : length terms ≡ length arcs = each_length (terms_of line) arcs terms one.2 in
+    let at : (a : ℕ) → a < length terms → ((1 ≤ (get_or terms a zero_terms).amount) × ((get_or terms a zero_terms).amount ≤ 10 ^ 12))
+    × ((get_or terms a zero_terms).timelock ≤ 1000000) × ((get_or terms a zero_terms).timelock ≡ (get_or arcs a zero_arc).timelock) =
+    λ a lt. terms_ok line (get_or arcs a zero_arc) (get_or terms a zero_terms)
+    (each_at (terms_of line) arcs terms zero_arc zero_terms one.2 a (omega arith)) in
     record {
       few = (omega arith, omega arith);
       each = l;
@@ -121,32 +114,37 @@ are_terms line arcs terms h =
 
 -- ---- leaders and keys
 
-hashlocks_ok : (line : ℕ) (leaders : List RawLeader) (hashlocks : List (List ℕ)) → hashlocks_of line leaders ≡ Ok hashlocks → (1 ≤ length leaders) × (length leaders ≤ 8) × (length hashlocks ≡ length leaders)
+hashlocks_ok : (line : ℕ) (leaders : List RawLeader) (hashlocks : List (List ℕ)) → hashlocks_of line leaders ≡ Ok hashlocks
+    → (1 ≤ length leaders) × (length leaders ≤ 8) × (length hashlocks ≡ length leaders)
 unfolding hashlocks_of
 hashlocks_ok line leaders hashlocks h =
-    let one = bind_ok (within line (codes "leaders") 1 8 (length leaders)) (λ u. every (hashlock_of line) leaders) hashlocks h in
+    let one = went (within line (codes "leaders") 1 8 (length leaders)) (λ u. each_of (hashlock_of line) leaders) hashlocks h in
     let r = within_ok line (codes "leaders") 1 8 (length leaders) one.0 one.1 in
-    (r.0, r.1, every_length (hashlock_of line) leaders hashlocks one.2)
+    (r.0, r.1, each_length (hashlock_of line) leaders hashlocks one.2)
 
 party_keys_ok : (locks line : ℕ) (row : RawRow) (keys : List (List ℕ)) → party_keys_of locks line row ≡ Ok keys → length keys ≡ locks
 unfolding party_keys_of
 party_keys_ok locks line row keys h =
-    let one = bind_ok (within line (codes "keys") locks locks (length row.texts)) (λ u. every (key_of line) row.texts) keys h in
+    let one = went (within line (codes "keys") locks locks (length row.texts)) (λ u. each_of (key_of line) row.texts) keys h in
     let r = within_ok line (codes "keys") locks locks (length row.texts) one.0 one.1 in
-    let l : length keys ≡ length row.texts = every_length (key_of line) row.texts keys one.2 in
+    let l : length keys ≡ length row.texts = each_length (key_of line) row.texts keys one.2 in
     omega arith
 
 abbrev no_row : RawRow
 no_row = record { texts = [] }
 
-keys_ok : (line : ℕ) (mode : Mode) (parties locks : ℕ) (rows : List RawRow) (keys : List (List (List ℕ))) → keys_of line mode parties locks rows ≡ Ok keys → HasKeysFor mode parties locks keys
+keys_ok : (line : ℕ) (mode : Mode) (parties locks : ℕ) (rows : List RawRow) (keys : List (List (List ℕ))) → keys_of line mode parties locks rows ≡ Ok keys
+    → HasKeysFor mode parties locks keys
 unfolding keys_of
 keys_ok line Timelocks parties locks rows keys h = cc h
 keys_ok line Hashkeys parties locks rows keys h =
-    let one = bind_ok (within line (codes "keys") parties parties (length rows)) (λ u. every (party_keys_of locks line) rows) keys h in
+    let one = went (within line (codes "keys") parties parties (length rows)) (λ u. each_of (party_keys_of locks line) rows) keys h in
     let r = within_ok line (codes "keys") parties parties (length rows) one.0 one.1 in
-    let l : length keys ≡ length rows = every_length (party_keys_of locks line) rows keys one.2 in
-    (omega arith, λ p lt. party_keys_ok locks line (get_or rows p no_row) (get_or keys p []) (every_at (party_keys_of locks line) rows keys no_row [] one.2 p (omega arith)))
+    let l : length keys ≡ length rows = each_length (party_keys_of locks line) rows keys one.2 in (
+      omega arith,
+      λ p lt. party_keys_ok locks line (get_or rows p no_row) (get_or keys p [])
+          (each_at (party_keys_of locks line) rows keys no_row [] one.2 p (omega arith)),
+    )
 
 -- ---- the header
 
@@ -175,11 +173,14 @@ header_with purpose raw n start delta bound seeds terms hashlocks keys = record 
   finish = raw.finish;
 }
 
-all_within : (purpose : Purpose) (raw : RawHeader) (n : Numbered) (start delta bound : ℕ) (seeds : List (Option (List ℕ))) (terms : List ArcTerms) (hashlocks : List (List ℕ)) (keys : List (List (List ℕ)))
+all_within : (purpose : Purpose) (raw : RawHeader) (n : Numbered) (start delta bound : ℕ) (seeds : List (Option (List ℕ))) (terms : List ArcTerms)
+    (hashlocks : List (List ℕ)) (keys : List (List (List ℕ)))
     → IsNumbered raw n → IsUntimed raw
-    → (1 ≤ start) × (start ≤ 1000) × (start ≡ raw.start) → (1 ≤ delta) × (delta ≤ 100) × (delta ≡ raw.delta) → (1 ≤ bound) × (bound ≤ 64) × (bound ≡ raw.bound)
+    → (1 ≤ start) × (start ≤ 1000) × (start ≡ raw.start) → (1 ≤ delta) × (delta ≤ 100) × (delta ≡ raw.delta)
+    → (1 ≤ bound) × (bound ≤ 64) × (bound ≡ raw.bound)
     → (2 ≤ length raw.parties) × (length raw.parties ≤ 24) × (length seeds ≡ length raw.parties) → AreTerms raw.arcs terms
-    → (1 ≤ length raw.leaders) × (length raw.leaders ≤ 8) × (length hashlocks ≡ length raw.leaders) → HasKeysFor raw.mode (length raw.parties) (length raw.leaders) keys
+    → (1 ≤ length raw.leaders) × (length raw.leaders ≤ 8) × (length hashlocks ≡ length raw.leaders)
+    → HasKeysFor raw.mode (length raw.parties) (length raw.leaders) keys
     → IsWithin (header_with purpose raw n start delta bound seeds terms hashlocks keys)
 all_within purpose raw n start delta bound seeds terms hashlocks keys is untimed s d b ps ts ls ks =
     let lp : length n.names ≡ length raw.parties = is.parties in
@@ -206,7 +207,8 @@ all_within purpose raw n start delta bound seeds terms hashlocks keys is untimed
       amount = λ a l. rw (get_or-map (λ (t : ArcTerms). t.amount) terms a zero_terms 0 (omega arith)) (ts.amount a (omega arith));
       timelocks = omega arith;
       timelock = λ a l. rw (get_or-map (λ (t : ArcTerms). t.timelock) terms a zero_terms 0 (omega arith)) (ts.timelock a (omega arith));
-      untimed = λ m a l. rw (get_or-map (λ (t : ArcTerms). t.timelock) terms a zero_terms 0 (omega arith)) (ts.stated a (omega arith) ∙ untimed m a zero_arc (omega arith));
+      untimed = λ m a l. rw (get_or-map (λ (t : ArcTerms). t.timelock) terms a zero_terms 0 (omega arith))
+          (ts.stated a (omega arith) ∙ untimed m a zero_arc (omega arith));
       leaders = (omega arith, omega arith);
       leader = is.leader;
       hashlocks = ls.2 ∙ sym ll;
@@ -216,18 +218,35 @@ all_within purpose raw n start delta bound seeds terms hashlocks keys is untimed
 within_along : (h k : Header) → h ≡ k → IsWithin h → IsWithin k
 within_along h k e w = subst (λ x. IsWithin x) e w
 
-is_within : (line : ℕ) (purpose : Purpose) (raw : RawHeader) (n : Numbered) (h : Header) → IsNumbered raw n → IsUntimed raw → limited_of purpose line raw n ≡ Ok h → IsWithin h
+is_within : (line : ℕ) (purpose : Purpose) (raw : RawHeader) (n : Numbered) (h : Header) → IsNumbered raw n → IsUntimed raw
+    → limited_of purpose line raw n ≡ Ok h → IsWithin h
 unfolding limited_of
 is_within line purpose raw n h is untimed e =
-    let one = bind_ok (number_within line (codes "start") 1 1000 raw.start) (λ start. number_within line (codes "delta") 1 100 raw.delta >>= λ delta. number_within line (codes "bound") 1 64 raw.bound >>= λ bound. seeds_of line raw.parties >>= λ seeds. all_terms_of line raw.arcs >>= λ terms. hashlocks_of line raw.leaders >>= λ hashlocks. keys_of line raw.mode (length raw.parties) (length raw.leaders) raw.keys >>= λ keys. Ok (header_with purpose raw n start delta bound seeds terms hashlocks keys)) h e in
-    let two = bind_ok (number_within line (codes "delta") 1 100 raw.delta) (λ delta. number_within line (codes "bound") 1 64 raw.bound >>= λ bound. seeds_of line raw.parties >>= λ seeds. all_terms_of line raw.arcs >>= λ terms. hashlocks_of line raw.leaders >>= λ hashlocks. keys_of line raw.mode (length raw.parties) (length raw.leaders) raw.keys >>= λ keys. Ok (header_with purpose raw n one.0 delta bound seeds terms hashlocks keys)) h one.2 in
-    let three = bind_ok (number_within line (codes "bound") 1 64 raw.bound) (λ bound. seeds_of line raw.parties >>= λ seeds. all_terms_of line raw.arcs >>= λ terms. hashlocks_of line raw.leaders >>= λ hashlocks. keys_of line raw.mode (length raw.parties) (length raw.leaders) raw.keys >>= λ keys. Ok (header_with purpose raw n one.0 two.0 bound seeds terms hashlocks keys)) h two.2 in
-    let four = bind_ok (seeds_of line raw.parties) (λ seeds. all_terms_of line raw.arcs >>= λ terms. hashlocks_of line raw.leaders >>= λ hashlocks. keys_of line raw.mode (length raw.parties) (length raw.leaders) raw.keys >>= λ keys. Ok (header_with purpose raw n one.0 two.0 three.0 seeds terms hashlocks keys)) h three.2 in
-    let five = bind_ok (all_terms_of line raw.arcs) (λ terms. hashlocks_of line raw.leaders >>= λ hashlocks. keys_of line raw.mode (length raw.parties) (length raw.leaders) raw.keys >>= λ keys. Ok (header_with purpose raw n one.0 two.0 three.0 four.0 terms hashlocks keys)) h four.2 in
-    let six = bind_ok (hashlocks_of line raw.leaders) (λ hashlocks. keys_of line raw.mode (length raw.parties) (length raw.leaders) raw.keys >>= λ keys. Ok (header_with purpose raw n one.0 two.0 three.0 four.0 five.0 hashlocks keys)) h five.2 in
-    let seven = bind_ok (keys_of line raw.mode (length raw.parties) (length raw.leaders) raw.keys) (λ keys. Ok (header_with purpose raw n one.0 two.0 three.0 four.0 five.0 six.0 keys)) h six.2 in
+    let one = went (number_within line (codes "start") 1 1000 raw.start) (λ start. number_within line (codes "delta") 1 100 raw.delta >>= λ delta.
+    number_within line (codes "bound") 1 64 raw.bound >>= λ bound. seeds_of line raw.parties >>= λ seeds. all_terms_of line raw.arcs >>= λ terms.
+    hashlocks_of line raw.leaders >>= λ hashlocks. keys_of line raw.mode (length raw.parties) (length raw.leaders) raw.keys >>= λ keys.
+    Ok (header_with purpose raw n start delta bound seeds terms hashlocks keys)) h e in
+    let two = went (number_within line (codes "delta") 1 100 raw.delta) (λ delta. number_within line (codes "bound") 1 64 raw.bound >>= λ bound.
+    seeds_of line raw.parties >>= λ seeds. all_terms_of line raw.arcs >>= λ terms. hashlocks_of line raw.leaders >>= λ hashlocks.
+    keys_of line raw.mode (length raw.parties) (length raw.leaders) raw.keys >>= λ keys.
+    Ok (header_with purpose raw n one.0 delta bound seeds terms hashlocks keys)) h one.2 in
+    let three = went (number_within line (codes "bound") 1 64 raw.bound) (λ bound. seeds_of line raw.parties >>= λ seeds.
+    all_terms_of line raw.arcs >>= λ terms. hashlocks_of line raw.leaders >>= λ hashlocks.
+    keys_of line raw.mode (length raw.parties) (length raw.leaders) raw.keys >>= λ keys.
+    Ok (header_with purpose raw n one.0 two.0 bound seeds terms hashlocks keys)) h two.2 in
+    let four = went (seeds_of line raw.parties) (λ seeds. all_terms_of line raw.arcs >>= λ terms. hashlocks_of line raw.leaders >>= λ hashlocks.
+    keys_of line raw.mode (length raw.parties) (length raw.leaders) raw.keys >>= λ keys.
+    Ok (header_with purpose raw n one.0 two.0 three.0 seeds terms hashlocks keys)) h three.2 in
+    let five = went (all_terms_of line raw.arcs) (λ terms. hashlocks_of line raw.leaders >>= λ hashlocks.
+    keys_of line raw.mode (length raw.parties) (length raw.leaders) raw.keys >>= λ keys.
+    Ok (header_with purpose raw n one.0 two.0 three.0 four.0 terms hashlocks keys)) h four.2 in
+    let six = went (hashlocks_of line raw.leaders) (λ hashlocks. keys_of line raw.mode (length raw.parties) (length raw.leaders) raw.keys >>= λ keys.
+    Ok (header_with purpose raw n one.0 two.0 three.0 four.0 five.0 hashlocks keys)) h five.2 in
+    let seven = went (keys_of line raw.mode (length raw.parties) (length raw.leaders) raw.keys)
+    (λ keys. Ok (header_with purpose raw n one.0 two.0 three.0 four.0 five.0 six.0 keys)) h six.2 in
     let same : header_with purpose raw n one.0 two.0 three.0 four.0 five.0 six.0 seven.0 ≡ h = cc (seven.2) in
-    within_along (header_with purpose raw n one.0 two.0 three.0 four.0 five.0 six.0 seven.0) h same (all_within purpose raw n one.0 two.0 three.0 four.0 five.0 six.0 seven.0 is untimed
+    within_along (header_with purpose raw n one.0 two.0 three.0 four.0 five.0 six.0 seven.0) h same
+    (all_within purpose raw n one.0 two.0 three.0 four.0 five.0 six.0 seven.0 is untimed
     (number_within_ok line (codes "start") 1 1000 raw.start one.0 one.1)
     (number_within_ok line (codes "delta") 1 100 raw.delta two.0 two.1)
     (number_within_ok line (codes "bound") 1 64 raw.bound three.0 three.1)
@@ -236,6 +255,7 @@ is_within line purpose raw n h is untimed e =
     (hashlocks_ok line raw.leaders six.0 six.1)
     (keys_ok line raw.mode (length raw.parties) (length raw.leaders) raw.keys seven.0 seven.1))
 
-pub within_from_gives : (line : ℕ) (purpose : Purpose) (raw : RawHeader) (n : Numbered) (r : Result Header (Fault Reason)) → IsNumbered raw n → IsUntimed raw → Gives (λ (h : Header). h) r (limited_of purpose line raw n) → IfOk r (λ h. IsWithin h)
+pub within_from_gives : (line : ℕ) (purpose : Purpose) (raw : RawHeader) (n : Numbered) (r : Result Header (Fault Reason)) → IsNumbered raw n
+    → IsUntimed raw → Gives (λ (h : Header). h) r (limited_of purpose line raw n) → IfOk r (λ h. IsWithin h)
 within_from_gives line purpose raw n (Ok h) is untimed e = is_within line purpose raw n h is untimed e
 within_from_gives line purpose raw n (Err f) is untimed e = tt

@@ -1,5 +1,6 @@
 -- The names are well formed and distinct, and every number is below their number.
-use Rattle.std.proofs.Common.{◌≡◌, ◌≢◌, ◌⊎◌, inl, inr, ℕ, ◌+◌, ◌<◌, length, get_or, List, [], ◌∷◌, ◌++◌, Bool, true, false, ◌&&◌, cond, Option, Some, None, Ok, Err, refl, sym, ap, ◌∙◌, subst, arith}
+use Rattle.std.proofs.Common.{◌≡◌, ◌≢◌, ◌⊎◌, inl, inr, ℕ, ◌+◌, ◌<◌, length, get_or, List, [], ◌∷◌, ◌++◌, Bool, true, false, ◌&&◌, cond, Option, Some, None}
+use Rattle.std.proofs.Common.{Ok, Err, refl, sym, ap, ◌∙◌, subst, arith}
 use Rattle.std.proofs.Math.ListN.{get_or-append}
 use Rattle.std.proofs.Math.Seq.{get_or-append_seam}
 use Rattle.std.proofs.lemmas.Bool.Decides.{nat_tests, Decides-eqb}
@@ -15,15 +16,18 @@ use Rattle.swap_base.specs.Fault.{◌>>=◌, steps}
 use Rattle.swap_base.proofs.Lists.{and_parts}
 use Rattle.refusals.specs.declared.reason.Reason.{Reason}
 use Rattle.refusals.specs.declared.reason.Reason.TheVariants.{BadName, Duplicate}
-use Rattle.offer_header.specs.Every.{every}
-use Rattle.offer_header.specs.Names.{is_name_byte, is_name, name_step, found, number_of, ends_of, leader_step, numbered_of, IsName, AreNames, AreLeaders, AreEnds, IsNumbered}
+use Rattle.offer_fields.specs.Lists.{each_of}
+use Rattle.offer_fields.specs.Names.{party_of_name}
+use Rattle.offer_header.specs.Names.{is_name_byte, is_name, name_step, ends_of, leader_step, numbered_of, IsName, AreNames, AreLeaders, AreEnds, IsNumbered}
 use Rattle.offer_header.specs.declared.raw.RawParty.{RawParty}
 use Rattle.offer_header.specs.declared.raw.RawArc.{RawArc}
 use Rattle.offer_header.specs.declared.raw.RawLeader.{RawLeader}
 use Rattle.offer_header.specs.declared.raw.RawHeader.{RawHeader}
 use Rattle.offer_header.specs.declared.names.Ends.{Ends}
 use Rattle.offer_header.specs.declared.names.Numbered.{Numbered}
-use Rattle.offer_header.proofs.Bind.{bind_ok, every_length, every_at, steps_keep, steps_length}
+use Rattle.offer_fields.proofs.Chains.{went, each_length, each_at}
+use Rattle.offer_fields.proofs.Ranges.{party_below}
+use Rattle.offer_header.proofs.Walked.{steps_keep, steps_length}
 
 -- ---- one more at the end of a list
 
@@ -33,7 +37,8 @@ end_or_before i n lt = grind arith
 length_push : {A : Type 0} (xs : List A) (y : A) → length (xs ++ y ∷ []) ≡ length xs + 1
 length_push {A = A} xs y = length-append xs (y ∷ [])
 
-all_push : {A : Type 0} (P : A → Type 0) (xs : List A) (y d : A) → ((i : ℕ) → i < length xs → P (get_or xs i d)) → P y → (i : ℕ) → i < length (xs ++ y ∷ []) → P (get_or (xs ++ y ∷ []) i d)
+all_push : {A : Type 0} (P : A → Type 0) (xs : List A) (y d : A) → ((i : ℕ) → i < length xs → P (get_or xs i d)) → P y → (i : ℕ) → i < length (xs ++ y ∷ [])
+    → P (get_or (xs ++ y ∷ []) i d)
 all_push P xs y d all p i lt =
     elim (end_or_before i (length xs) (subst (λ n. i < n) (length_push xs y) lt)) [
       | inl before ↦ subst P (sym (get_or-append xs (y ∷ []) d i before)) (all i before)
@@ -73,7 +78,8 @@ is_name_lem name h =
     let inner = and_parts (nat_le 1 (length name)) (nat_le (length name) 16) outer.0 in
     record {
       size = (leb-true 1 (length name) inner.0, leb-true (length name) 16 inner.1);
-      ascii = λ i lt. ascii_byte (get_or name i 0) (not_false (is_name_byte (get_or name i 0)) (λ no. let k : list_all is_name_byte name ≡ false = list_all_at is_name_byte name i 0 lt no in cc (sym outer.1 ∙ k)));
+      ascii = λ i lt. ascii_byte (get_or name i 0) (not_false (is_name_byte (get_or name i 0))
+          (λ no. let k : list_all is_name_byte name ≡ false = list_all_at is_name_byte name i 0 lt no in cc (sym outer.1 ∙ k)));
     }
 
 two_tests : {X : Type 0} (a b : Bool) (x y : Reason) (z t : X) → cond a (cond b (Err x) (Ok z)) (Err y) ≡ Ok t → (a ≡ true) × (b ≡ false) × (z ≡ t)
@@ -85,9 +91,11 @@ one_test : {X : Type 0} (b : Bool) (x : Reason) (z t : X) → cond b (Err x) (Ok
 one_test true x z t h = absurd (cc h)
 one_test false x z t h = (refl, cc h)
 
-name_step_ok : (line : ℕ) (seen : List (List ℕ)) (p : RawParty) (t : List (List ℕ)) → name_step line seen p ≡ Ok t → (is_name p.name ≡ true) × (list_any (bytes_eq p.name) seen ≡ false) × (seen ++ p.name ∷ [] ≡ t)
+name_step_ok : (line : ℕ) (seen : List (List ℕ)) (p : RawParty) (t : List (List ℕ)) → name_step line seen p ≡ Ok t
+    → (is_name p.name ≡ true) × (list_any (bytes_eq p.name) seen ≡ false) × (seen ++ p.name ∷ [] ≡ t)
 unfolding name_step
-name_step_ok line seen p t h = two_tests (is_name p.name) (list_any (bytes_eq p.name) seen) (Duplicate line p.name) (BadName line p.name) (seen ++ p.name ∷ []) t h
+name_step_ok line seen p t h = two_tests (is_name p.name) (list_any (bytes_eq p.name) seen) (Duplicate line p.name) (BadName line p.name)
+    (seen ++ p.name ∷ []) t h
 
 fresh_name : (name : List ℕ) (seen : List (List ℕ)) → list_any (bytes_eq name) seen ≡ false → (i : ℕ) → i < length seen → get_or seen i [] ≢ name
 fresh_name name seen none i lt e =
@@ -103,20 +111,17 @@ keeps_names line seen p t names h =
       apart = apart_push seen p.name [] names.apart (fresh_name p.name seen r.1);
     })
 
-pub are_names : (line : ℕ) (parties : List RawParty) (names : List (List ℕ)) → steps (name_step line) [] parties ≡ Ok names → (length names ≡ length parties) × AreNames names
+pub are_names : (line : ℕ) (parties : List RawParty) (names : List (List ℕ)) → steps (name_step line) [] parties ≡ Ok names
+    → (length names ≡ length parties) × AreNames names
 are_names line parties names h =
-    let l : length names ≡ 0 + length parties = steps_length (name_step line) (λ s x t e. sym (ap length (name_step_ok line s x t e).2) ∙ (length_push s x.name ∙ omega arith)) [] parties names h in
-    (omega arith, steps_keep (λ l. AreNames l) (name_step line) (keeps_names line) [] parties names (record { name = λ p lt. absurd (omega arith); apart = λ p q a b e. absurd (omega arith) }) h)
+    let l : length names ≡ 0 + length parties = steps_length (name_step line)
+    (λ s x t e. sym (ap length (name_step_ok line s x t e).2) ∙ (length_push s x.name ∙ omega arith)) [] parties names h in (
+      omega arith,
+      steps_keep (λ l. AreNames l) (name_step line) (keeps_names line) [] parties names
+          (record { name = λ p lt. absurd (omega arith); apart = λ p q a b e. absurd (omega arith) }) h,
+    )
 
 -- ---- numbers
-
-found_ok : (line : ℕ) (name : List ℕ) (o : Option ℕ) (k : ℕ) → found line name o ≡ Ok k → o ≡ Some k
-found_ok line name (Some j) k h = cc h
-found_ok line name None k h = absurd (cc h)
-
-pub number_below : (line : ℕ) (names : List (List ℕ)) (name : List ℕ) (k : ℕ) → number_of line names name ≡ Ok k → k < length names
-unfolding number_of
-number_below line names name k h = (position-Some (bytes_eq name) names k [] (found_ok line name (position (bytes_eq name) names) k h)).0
 
 abbrev EndsBelow : ℕ → Ends → Type 0
 EndsBelow n e = (e.from < n) × (e.to < n)
@@ -124,10 +129,10 @@ EndsBelow n e = (e.from < n) × (e.to < n)
 ends_below : (line : ℕ) (names : List (List ℕ)) (a : RawArc) (e : Ends) → ends_of line names a ≡ Ok e → EndsBelow (length names) e
 unfolding ends_of
 ends_below line names a e h =
-    let one = bind_ok (number_of line names a.from) (λ from. number_of line names a.to >>= λ to. Ok (record { from = from; to = to })) e h in
-    let two = bind_ok (number_of line names a.to) (λ to. Ok (record { from = one.0; to = to })) e one.2 in
-    let p : one.0 < length names = number_below line names a.from one.0 one.1 in
-    let q : two.0 < length names = number_below line names a.to two.0 two.1 in
+    let one = went (party_of_name line names a.from) (λ from. party_of_name line names a.to >>= λ to. Ok (record { from = from; to = to })) e h in
+    let two = went (party_of_name line names a.to) (λ to. Ok (record { from = one.0; to = to })) e one.2 in
+    let p : one.0 < length names = party_below line names a.from one.0 one.1 in
+    let q : two.0 < length names = party_below line names a.to two.0 two.1 in
     let same : record { from = one.0; to = two.0 } ≡ e = cc (two.2) in
     subst (EndsBelow (length names)) same (p, q)
 
@@ -137,20 +142,25 @@ zero_arc = record { from = []; to = []; amount = 0; timelock = 0 }
 abbrev zero_ends : Ends
 zero_ends = record { from = 0; to = 0 }
 
-pub are_ends : (line : ℕ) (names : List (List ℕ)) (arcs : List RawArc) (ends : List Ends) → every (ends_of line names) arcs ≡ Ok ends → (length ends ≡ length arcs) × AreEnds (length names) ends
+pub are_ends : (line : ℕ) (names : List (List ℕ)) (arcs : List RawArc) (ends : List Ends) → each_of (ends_of line names) arcs ≡ Ok ends
+    → (length ends ≡ length arcs) × AreEnds (length names) ends
 are_ends line names arcs ends h =
-    let l : length ends ≡ length arcs = every_length (ends_of line names) arcs ends h in
-    let at : (i : ℕ) → i < length ends → EndsBelow (length names) (get_or ends i zero_ends) = λ i lt. ends_below line names (get_or arcs i zero_arc) (get_or ends i zero_ends) (every_at (ends_of line names) arcs ends zero_arc zero_ends h i (omega arith)) in
+    let l : length ends ≡ length arcs = each_length (ends_of line names) arcs ends h in
+    let at : (i : ℕ) → i < length ends → EndsBelow (length names) (get_or ends i zero_ends) = λ i lt.
+    ends_below line names (get_or arcs i zero_arc) (get_or ends i zero_ends)
+    (each_at (ends_of line names) arcs ends zero_arc zero_ends h i (omega arith)) in
     (l, record { from = λ i lt. (at i lt).0; to = λ i lt. (at i lt).1 })
 
 -- ---- leaders
 
-leader_step_ok : (line : ℕ) (names : List (List ℕ)) (seen : List ℕ) (l : RawLeader) (t : List ℕ) → leader_step line names seen l ≡ Ok t → (k : ℕ) × (k < length names) × (list_any (λ n. nat_eq n k) seen ≡ false) × (seen ++ k ∷ [] ≡ t)
+leader_step_ok : (line : ℕ) (names : List (List ℕ)) (seen : List ℕ) (l : RawLeader) (t : List ℕ) → leader_step line names seen l ≡ Ok t
+    → (k : ℕ) × (k < length names) × (list_any (λ n. nat_eq n k) seen ≡ false) × (seen ++ k ∷ [] ≡ t)
 unfolding leader_step
 leader_step_ok line names seen l t h =
-    let one = bind_ok (number_of line names l.party) (λ k. cond (list_any (λ n. nat_eq n k) seen) (Err (Duplicate line l.party)) (Ok (seen ++ k ∷ []))) t h in
+    let one = went (party_of_name line names l.party) (λ k. cond (list_any (λ n. nat_eq n k) seen) (Err (Duplicate line l.party)) (Ok (seen ++ k ∷ [])))
+    t h in
     let two = one_test (list_any (λ n. nat_eq n one.0) seen) (Duplicate line l.party) (seen ++ one.0 ∷ []) t one.2 in
-    (one.0, number_below line names l.party one.0 one.1, two.0, two.1)
+    (one.0, party_below line names l.party one.0 one.1, two.0, two.1)
 
 fresh_leader : (k : ℕ) (seen : List ℕ) → list_any (λ n. nat_eq n k) seen ≡ false → (i : ℕ) → i < length seen → get_or seen i 0 ≢ k
 fresh_leader k seen none i lt e =
@@ -158,7 +168,8 @@ fresh_leader k seen none i lt e =
     let some : list_any (λ n. nat_eq n k) seen ≡ true = list_any_at (λ n. nat_eq n k) seen i 0 lt same in
     cc (sym none ∙ some)
 
-keeps_leaders : (line : ℕ) (names : List (List ℕ)) (seen : List ℕ) (l : RawLeader) (t : List ℕ) → AreLeaders (length names) seen → leader_step line names seen l ≡ Ok t → AreLeaders (length names) t
+keeps_leaders : (line : ℕ) (names : List (List ℕ)) (seen : List ℕ) (l : RawLeader) (t : List ℕ) → AreLeaders (length names) seen
+    → leader_step line names seen l ≡ Ok t → AreLeaders (length names) t
 keeps_leaders line names seen l t leaders h =
     let r = leader_step_ok line names seen l t h in
     subst (λ l. AreLeaders (length names) l) r.3 (record {
@@ -166,10 +177,15 @@ keeps_leaders line names seen l t leaders h =
       apart = apart_push seen r.0 0 leaders.apart (fresh_leader r.0 seen r.2);
     })
 
-pub are_leaders : (line : ℕ) (names : List (List ℕ)) (leaders : List RawLeader) (numbers : List ℕ) → steps (leader_step line names) [] leaders ≡ Ok numbers → (length numbers ≡ length leaders) × AreLeaders (length names) numbers
+pub are_leaders : (line : ℕ) (names : List (List ℕ)) (leaders : List RawLeader) (numbers : List ℕ) → steps (leader_step line names) [] leaders ≡ Ok numbers
+    → (length numbers ≡ length leaders) × AreLeaders (length names) numbers
 are_leaders line names leaders numbers h =
-    let l : length numbers ≡ 0 + length leaders = steps_length (leader_step line names) (λ s x t e. let r = leader_step_ok line names s x t e in sym (ap length r.3) ∙ (length_push s r.0 ∙ omega arith)) [] leaders numbers h in
-    (omega arith, steps_keep (λ l. AreLeaders (length names) l) (leader_step line names) (keeps_leaders line names) [] leaders numbers (record { below = λ p lt. absurd (omega arith); apart = λ p q a b e. absurd (omega arith) }) h)
+    let l : length numbers ≡ 0 + length leaders = steps_length (leader_step line names)
+    (λ s x t e. let r = leader_step_ok line names s x t e in sym (ap length r.3) ∙ (length_push s r.0 ∙ omega arith)) [] leaders numbers h in (
+      omega arith,
+      steps_keep (λ l. AreLeaders (length names) l) (leader_step line names) (keeps_leaders line names) [] leaders numbers
+          (record { below = λ p lt. absurd (omega arith); apart = λ p q a b e. absurd (omega arith) }) h,
+    )
 
 -- ---- all together
 
@@ -179,11 +195,14 @@ numbered_along raw m n e is = subst (λ k. IsNumbered raw k) e is
 pub is_numbered : (line : ℕ) (raw : RawHeader) (n : Numbered) → numbered_of line raw ≡ Ok n → IsNumbered raw n
 unfolding numbered_of
 is_numbered line raw n h =
-    let one = bind_ok (steps (name_step line) [] raw.parties) (λ names. every (ends_of line names) raw.arcs >>= λ arcs. steps (leader_step line names) [] raw.leaders >>= λ leaders. Ok (record { names = names; arcs = arcs; leaders = leaders })) n h in
-    let two = bind_ok (every (ends_of line one.0) raw.arcs) (λ arcs. steps (leader_step line one.0) [] raw.leaders >>= λ leaders. Ok (record { names = one.0; arcs = arcs; leaders = leaders })) n one.2 in
-    let three = bind_ok (steps (leader_step line one.0) [] raw.leaders) (λ leaders. Ok (record { names = one.0; arcs = two.0; leaders = leaders })) n two.2 in
+    let one = went (steps (name_step line) [] raw.parties) (λ names. each_of (ends_of line names) raw.arcs >>= λ arcs.
+    steps (leader_step line names) [] raw.leaders >>= λ leaders. Ok (record { names = names; arcs = arcs; leaders = leaders })) n h in
+    let two = went (each_of (ends_of line one.0) raw.arcs) (λ arcs. steps (leader_step line one.0) [] raw.leaders >>= λ leaders.
+    Ok (record { names = one.0; arcs = arcs; leaders = leaders })) n one.2 in
+    let three = went (steps (leader_step line one.0) [] raw.leaders) (λ leaders. Ok (record { names = one.0; arcs = two.0; leaders = leaders })) n two.2 in
     let same : record { names = one.0; arcs = two.0; leaders = three.0 } ≡ n = cc (three.2) in
     let a = are_names line raw.parties one.0 one.1 in
     let b = are_ends line one.0 raw.arcs two.0 two.1 in
     let c = are_leaders line one.0 raw.leaders three.0 three.1 in
-    numbered_along raw (record { names = one.0; arcs = two.0; leaders = three.0 }) n same (record { parties = a.0; names = a.1; arcs = b.0; ends = b.1; leaders = c.0; leader = c.1 })
+    numbered_along raw (record { names = one.0; arcs = two.0; leaders = three.0 }) n same
+    (record { parties = a.0; names = a.1; arcs = b.0; ends = b.1; leaders = c.0; leader = c.1 })

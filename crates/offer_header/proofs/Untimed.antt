@@ -4,11 +4,11 @@ use Rattle.serde_json.specs.Data.{Data}
 use Rattle.swap_base.specs.Fault.{◌>>=◌}
 use Rattle.swap_digraph.specs.declared.deal.Mode.{Mode}
 use Rattle.swap_digraph.specs.declared.deal.Mode.TheVariants.{Timelocks, Hashkeys}
-use Rattle.offer_fields.specs.Fields.{number_at, text_at, object_at, array_at, list_at, each, only}
+use Rattle.offer_fields.specs.Fields.{number_at, text_at, object_at, array_at, list_at, listed, each, only}
 use Rattle.offer_header.specs.Raw.{timelock_at, arc_fields, arc_of}
 use Rattle.offer_header.specs.declared.raw.Reading.{Reading}
 use Rattle.offer_header.specs.declared.raw.RawArc.{RawArc}
-use Rattle.offer_header.proofs.Bind.{bind_ok, each_all}
+use Rattle.offer_fields.proofs.Chains.{went, each_all}
 
 none_with_hashkeys : (line : ℕ) (mode : Mode) (d : Data) (n : ℕ) → mode ≡ Hashkeys → timelock_at line mode d ≡ Ok n → n ≡ 0
 none_with_hashkeys line Timelocks d n e h = absurd (cc e)
@@ -20,17 +20,26 @@ timelock_along a b e = ap (λ (x : RawArc). x.timelock) e
 arc_untimed : (reading : Reading) (line : ℕ) (d : Data) (a : RawArc) → reading.mode ≡ Hashkeys → arc_of reading line d ≡ Ok a → a.timelock ≡ 0
 unfolding arc_of
 arc_untimed reading line d a is h =
-    let one = bind_ok (object_at line (codes "arcs") d) (λ o. text_at line (codes "from") d >>= λ from. text_at line (codes "to") d >>= λ to. number_at line (codes "amount") d >>= λ amount. timelock_at line reading.mode d >>= λ timelock. only line (arc_fields reading.mode) d >>= λ u. Ok (record { from = from; to = to; amount = amount; timelock = timelock })) a h in
-    let two = bind_ok (text_at line (codes "from") d) (λ from. text_at line (codes "to") d >>= λ to. number_at line (codes "amount") d >>= λ amount. timelock_at line reading.mode d >>= λ timelock. only line (arc_fields reading.mode) d >>= λ u. Ok (record { from = from; to = to; amount = amount; timelock = timelock })) a one.2 in
-    let three = bind_ok (text_at line (codes "to") d) (λ to. number_at line (codes "amount") d >>= λ amount. timelock_at line reading.mode d >>= λ timelock. only line (arc_fields reading.mode) d >>= λ u. Ok (record { from = two.0; to = to; amount = amount; timelock = timelock })) a two.2 in
-    let four = bind_ok (number_at line (codes "amount") d) (λ amount. timelock_at line reading.mode d >>= λ timelock. only line (arc_fields reading.mode) d >>= λ u. Ok (record { from = two.0; to = three.0; amount = amount; timelock = timelock })) a three.2 in
-    let five = bind_ok (timelock_at line reading.mode d) (λ timelock. only line (arc_fields reading.mode) d >>= λ u. Ok (record { from = two.0; to = three.0; amount = four.0; timelock = timelock })) a four.2 in
-    let six = bind_ok (only line (arc_fields reading.mode) d) (λ u. Ok (record { from = two.0; to = three.0; amount = four.0; timelock = five.0 })) a five.2 in
+    let one = went (object_at line (codes "arcs") d) (λ o. text_at line (codes "from") d >>= λ from. text_at line (codes "to") d >>= λ to.
+    number_at line (codes "amount") d >>= λ amount. timelock_at line reading.mode d >>= λ timelock. only line (arc_fields reading.mode) d >>= λ u.
+    Ok (record { from = from; to = to; amount = amount; timelock = timelock })) a h in
+    let two = went (text_at line (codes "from") d) (λ from. text_at line (codes "to") d >>= λ to. number_at line (codes "amount") d >>= λ amount.
+    timelock_at line reading.mode d >>= λ timelock. only line (arc_fields reading.mode) d >>= λ u.
+    Ok (record { from = from; to = to; amount = amount; timelock = timelock })) a one.2 in
+    let three = went (text_at line (codes "to") d) (λ to. number_at line (codes "amount") d >>= λ amount. timelock_at line reading.mode d >>= λ timelock.
+    only line (arc_fields reading.mode) d >>= λ u. Ok (record { from = two.0; to = to; amount = amount; timelock = timelock })) a two.2 in
+    let four = went (number_at line (codes "amount") d) (λ amount. timelock_at line reading.mode d >>= λ timelock.
+    only line (arc_fields reading.mode) d >>= λ u. Ok (record { from = two.0; to = three.0; amount = amount; timelock = timelock })) a three.2 in
+    let five = went (timelock_at line reading.mode d) (λ timelock. only line (arc_fields reading.mode) d >>= λ u.
+    Ok (record { from = two.0; to = three.0; amount = four.0; timelock = timelock })) a four.2 in
+    let six = went (only line (arc_fields reading.mode) d) (λ u. Ok (record { from = two.0; to = three.0; amount = four.0; timelock = five.0 })) a five.2 in
     let same : a ≡ record { from = two.0; to = three.0; amount = four.0; timelock = five.0 } = cc (six.2) in
-    timelock_along a (record { from = two.0; to = three.0; amount = four.0; timelock = five.0 }) same ∙ none_with_hashkeys line reading.mode d five.0 is five.1
+    timelock_along a (record { from = two.0; to = three.0; amount = four.0; timelock = five.0 }) same
+    ∙ none_with_hashkeys line reading.mode d five.0 is five.1
 
-pub arcs_untimed : (reading : Reading) (line : ℕ) (d : Data) (arcs : List RawArc) → reading.mode ≡ Hashkeys → list_at line (codes "arcs") (arc_of reading line) d ≡ Ok arcs → (a : ℕ) (e : RawArc) → a < length arcs → (get_or arcs a e).timelock ≡ 0
-unfolding list_at
+pub arcs_untimed : (reading : Reading) (line : ℕ) (d : Data) (arcs : List RawArc) → reading.mode ≡ Hashkeys
+    → list_at line (codes "arcs") (arc_of reading line) d ≡ Ok arcs → (a : ℕ) (e : RawArc) → a < length arcs → (get_or arcs a e).timelock ≡ 0
+unfolding list_at each
 arcs_untimed reading line d arcs is h =
-    let one = bind_ok (array_at line (codes "arcs") d) (λ items. each (arc_of reading line) items) arcs h in
-    each_all (λ a. a.timelock ≡ 0) (arc_of reading line) (λ d a e. arc_untimed reading line d a is e) one.0 arcs one.2
+    let one = went (array_at line (codes "arcs") d) (λ items. each (arc_of reading line) items) arcs h in
+    each_all (λ a. a.timelock ≡ 0) (arc_of reading line) (λ d a e. arc_untimed reading line d a is e) (listed one.0) arcs one.2

@@ -1,4 +1,3 @@
-pub mod Every
 pub mod Raw
 pub mod Names
 pub mod Limits

@@ -6,8 +6,8 @@ use Rattle.swap_digraph.specs.declared.deal.Mode.{Mode}
 use Rattle.swap_digraph.specs.declared.deal.Mode.TheVariants.{Timelocks, Hashkeys}
 use Rattle.deviator_script.specs.declared.job.Purpose.{Purpose}
 use Rattle.refusals.specs.declared.reason.Reason.{Reason}
-use Rattle.offer_fields.specs.Limits.{within, digest_of}
-use Rattle.offer_header.specs.Every.{every}
+use Rattle.offer_fields.specs.Limits.{number_within, within, digest_of}
+use Rattle.offer_fields.specs.Lists.{each_of}
 use Rattle.offer_header.specs.declared.raw.RawActor.{RawActor}
 use Rattle.offer_header.specs.declared.raw.RawActor.TheVariants.{Conforming, Manual}
 use Rattle.offer_header.specs.declared.raw.RawParty.{RawParty}
@@ -19,11 +19,6 @@ use Rattle.offer_header.specs.declared.names.Ends.{Ends}
 use Rattle.offer_header.specs.declared.names.Numbered.{Numbered}
 use Rattle.offer_header.specs.declared.limits.ArcTerms.{ArcTerms}
 use Rattle.offer_header.specs.declared.header.Header.{Header}
-
-unfoldable pub number_within : ℕ → List ℕ → ℕ → ℕ → ℕ → Result ℕ Reason
-number_within line field low high n = do
-  u ← within line field low high n
-  Ok n
 
 -- ---- parties
 
@@ -37,7 +32,7 @@ seed_of line p = seed_or_none line p.seed
 unfoldable pub seeds_of : ℕ → List RawParty → Result (List (Option (List ℕ))) Reason
 seeds_of line parties = do
   u ← within line (codes "parties") 2 24 (length parties)
-  every (seed_of line) parties
+  each_of (seed_of line) parties
 
 abbrev pub conforms : RawActor → Bool
 conforms Conforming = true
@@ -54,7 +49,7 @@ terms_of line a = do
 unfoldable pub all_terms_of : ℕ → List RawArc → Result (List ArcTerms) Reason
 all_terms_of line arcs = do
   u ← within line (codes "arcs") 2 96 (length arcs)
-  every (terms_of line) arcs
+  each_of (terms_of line) arcs
 
 abbrev pub arc_ends : Ends → ArcEnds
 arc_ends e = record { from = e.from; to = e.to }
@@ -67,7 +62,7 @@ hashlock_of line l = digest_of line (codes "hashlock") l.hashlock
 unfoldable pub hashlocks_of : ℕ → List RawLeader → Result (List (List ℕ)) Reason
 hashlocks_of line leaders = do
   u ← within line (codes "leaders") 1 8 (length leaders)
-  every (hashlock_of line) leaders
+  each_of (hashlock_of line) leaders
 
 unfoldable pub key_of : ℕ → List ℕ → Result (List ℕ) Reason
 key_of line text = digest_of line (codes "keys") text
@@ -76,13 +71,13 @@ key_of line text = digest_of line (codes "keys") text
 unfoldable pub party_keys_of : ℕ → ℕ → RawRow → Result (List (List ℕ)) Reason
 party_keys_of locks line row = do
   u ← within line (codes "keys") locks locks (length row.texts)
-  every (key_of line) row.texts
+  each_of (key_of line) row.texts
 
 unfoldable pub keys_of : ℕ → Mode → ℕ → ℕ → List RawRow → Result (List (List (List ℕ))) Reason
 keys_of line Timelocks parties locks rows = Ok []
 keys_of line Hashkeys parties locks rows = do
   u ← within line (codes "keys") parties parties (length rows)
-  every (party_keys_of locks line) rows
+  each_of (party_keys_of locks line) rows
 
 -- ---- the header
 

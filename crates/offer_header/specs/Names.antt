@@ -1,11 +1,13 @@
 -- The names of a header, and the numbers that stand for them.
-use Rattle.std.specs.Prelude.{◌≡◌, ◌==◌, ◌&&◌, ◌||◌, ◌++◌, ℕ, ◌<◌, ◌≤◌, List, [], ◌∷◌, Bool, nat_le, nat_eq, length, position, slice_index, slice_index_or, if◌then◌else◌, Option, Some, None, Result, Ok, Err}
+use Rattle.std.specs.Prelude.{◌≡◌, ◌==◌, ◌&&◌, ◌||◌, ◌++◌, ℕ, ◌<◌, ◌≤◌, List, [], ◌∷◌, Bool, nat_le, nat_eq, length, position, slice_index, slice_index_or}
+use Rattle.std.specs.Prelude.{if◌then◌else◌, Option, Some, None, Result, Ok, Err}
 use Rattle.std.specs.Str.{bytes_eq}
 use Rattle.std.specs.List.{list_any, list_all}
 use Rattle.swap_base.specs.Fault.{◌>>=◌, steps}
 use Rattle.refusals.specs.declared.reason.Reason.{Reason}
-use Rattle.refusals.specs.declared.reason.Reason.TheVariants.{BadName, Duplicate, Unknown}
-use Rattle.offer_header.specs.Every.{every}
+use Rattle.refusals.specs.declared.reason.Reason.TheVariants.{BadName, Duplicate}
+use Rattle.offer_fields.specs.Lists.{each_of}
+use Rattle.offer_fields.specs.Names.{party_of_name}
 use Rattle.offer_header.specs.declared.raw.RawParty.{RawParty}
 use Rattle.offer_header.specs.declared.raw.RawArc.{RawArc}
 use Rattle.offer_header.specs.declared.raw.RawLeader.{RawLeader}
@@ -27,31 +29,23 @@ name_step line seen p =
     if is_name p.name then (if list_any (bytes_eq p.name) seen then Err (Duplicate line p.name) else Ok (seen ++ p.name ∷ []))
     else Err (BadName line p.name)
 
-abbrev pub found : ℕ → List ℕ → Option ℕ → Result ℕ Reason
-found line name (Some k) = Ok k
-found line name None = Err (Unknown line name)
-
--- a name's number is its place among the names, from 0
-unfoldable pub number_of : ℕ → List (List ℕ) → List ℕ → Result ℕ Reason
-number_of line names name = found line name (position (bytes_eq name) names)
-
 unfoldable pub ends_of : ℕ → List (List ℕ) → RawArc → Result Ends Reason
 ends_of line names a = do
-  from ← number_of line names a.from
-  to ← number_of line names a.to
+  from ← party_of_name line names a.from
+  to ← party_of_name line names a.to
   Ok (record { from = from; to = to })
 
 -- one more leader
 unfoldable pub leader_step : ℕ → List (List ℕ) → List ℕ → RawLeader → Result (List ℕ) Reason
 leader_step line names seen l = do
-  k ← number_of line names l.party
+  k ← party_of_name line names l.party
   if list_any (λ n. nat_eq n k) seen then Err (Duplicate line l.party) else Ok (seen ++ k ∷ [])
 
 -- the names in their order, then the ends of the arcs, then the leaders
 unfoldable pub numbered_of : ℕ → RawHeader → Result Numbered Reason
 numbered_of line h = do
   names ← steps (name_step line) [] h.parties
-  arcs ← every (ends_of line names) h.arcs
+  arcs ← each_of (ends_of line names) h.arcs
   leaders ← steps (leader_step line names) [] h.leaders
   Ok (record { names = names; arcs = arcs; leaders = leaders })
 

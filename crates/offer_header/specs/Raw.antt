@@ -136,8 +136,10 @@ finish_at line d = do
   finish_or_stop line word
 
 abbrev pub header_fields : Mode → List (List ℕ)
-header_fields Timelocks = codes "arcs" ∷ codes "bound" ∷ codes "delta" ∷ codes "finish" ∷ codes "leaders" ∷ codes "mode" ∷ codes "parties" ∷ codes "start" ∷ codes "swap" ∷ []
-header_fields Hashkeys = codes "arcs" ∷ codes "bound" ∷ codes "delta" ∷ codes "finish" ∷ codes "keys" ∷ codes "leaders" ∷ codes "mode" ∷ codes "parties" ∷ codes "start" ∷ codes "swap" ∷ []
+header_fields Timelocks = codes "arcs" ∷ codes "bound" ∷ codes "delta" ∷ codes "finish" ∷ codes "leaders" ∷ codes "mode" ∷ codes "parties" ∷ codes "start" ∷
+    codes "swap" ∷ []
+header_fields Hashkeys = codes "arcs" ∷ codes "bound" ∷ codes "delta" ∷ codes "finish" ∷ codes "keys" ∷ codes "leaders" ∷ codes "mode" ∷ codes "parties" ∷
+    codes "start" ∷ codes "swap" ∷ []
 
 unfoldable pub raw_of : Purpose → ℕ → Data → Result RawHeader Reason
 raw_of purpose line d = do

@@ -37,12 +37,12 @@ fn mode_in(alloc: Global, line: u32, object: &Value) -> Result<Mode, OfferFault>
     }
 }
 
-fn keys_in(
+fn keys_in<'v>(
     alloc: Global,
     reading: Reading,
     line: u32,
-    object: &Value,
-) -> Result<Listed<RawRow>, OfferFault>
+    object: &'v Value,
+) -> Result<Listed<RawRow<'v>>, OfferFault>
     ensures { Gives (λ k. k) result (keys_at line reading.mode (view object.now)) }
 {
     match reading.mode {
@@ -98,12 +98,12 @@ fn only_header_fields(
 
 /// The fields of the header, or the first reason why one is refused.
 #[tactic(auto, unfolding(crate::specs::Raw::raw_of))]
-pub(crate) fn raw_in(
+pub(crate) fn raw_in<'v>(
     alloc: Global,
     purpose: Purpose,
     line: u32,
-    object: &Value,
-) -> Result<RawHeader, OfferFault>
+    object: &'v Value,
+) -> Result<RawHeader<'v>, OfferFault>
     ensures exact { Gives (λ h. h) result (raw_of purpose line (view object.now)) }
     ensures untimed { IfOk result (λ h. IsUntimed h) }
 {

@@ -11,4 +11,3 @@ mod parts;
 mod raw;
 
 pub use header::{Header, header_in};
-pub use names::number_in;

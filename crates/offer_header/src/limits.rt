@@ -3,18 +3,19 @@
 ghost use Rattle.std.specs.Prelude.{◌≡◌, ◌<◌, ◌≤◌, ◌^◌, [], ℕ, List, Result, map, length, slice_index, IfOk};
 ghost use Rattle.swap_base.specs.Fault.{Gives};
 ghost use Rattle.refusals.specs.declared.reason.Reason.{Reason};
-ghost use Rattle.offer_header.specs.Every.{every};
-ghost use Rattle.offer_header.specs.Limits.{number_within, seed_of, seeds_of, conforms, terms_of, all_terms_of, arc_ends, hashlock_of, hashlocks_of, key_of, party_keys_of, keys_of, limited_of};
+ghost use Rattle.offer_fields.specs.Lists.{each_of};
+ghost use Rattle.offer_header.specs.Limits.{seed_of, seeds_of, conforms, terms_of, all_terms_of, arc_ends, hashlock_of, hashlocks_of, key_of, party_keys_of};
+ghost use Rattle.offer_header.specs.Limits.{keys_of, limited_of};
 ghost use Rattle.offer_header.specs.Names.{AreEnds, AreLeaders, IsNumbered};
 
 use crate::header::Header;
 use crate::names::{Ends, Numbered};
 use crate::raw::{RawActor, RawArc, RawHeader, RawLeader, RawParty, RawRow};
 use deviator_script::Purpose;
-use offer_fields::{digest_in, within};
-use refusals::{OfferFault, Reason, over_limit};
+use offer_fields::{TextRef, digest_in, number_within, within};
+use refusals::{OfferFault, Reason};
 use std::alloc::Global;
-use swap_base::{ByteText, Digest, Listed, NoMemory, PartyId};
+use swap_base::{Digest, Listed, NoMemory, PartyId};
 use swap_digraph::{ArcEnds, Mode};
 
 /// The units and the timelock of an arc.
@@ -24,58 +25,35 @@ pub struct ArcTerms {
     pub timelock: u32,
 }
 
-#[tactic(auto, unfolding(crate::specs::Limits::number_within, offer_fields::specs::Limits::within))]
-fn number_within(
-    alloc: Global,
-    line: u32,
-    field: &str,
-    low: u32,
-    high: u32,
-    number: u64,
-) -> Result<u32, OfferFault>
-    ensures exact { Gives (λ n. n) result (number_within line field.now low high number) }
-    ensures within { IfOk result (λ n. (low ≤ n) × (n ≤ high)) }
-{
-    if low as u64 <= number && number <= high as u64 {
-        return Ok(number as u32);
-    }
-    Err(over_limit(alloc, line, field.as_bytes(), number))
-}
-
 /// What a part of the header gives within its limits, in a context that all such parts share.
 trait Limited<C: Copy, B>: Sized {
     ghost limited_of: { C → ℕ → Self → Result B Reason };
 
-    fn limited(&self, alloc: Global, context: C, line: u32) -> Result<B, OfferFault>
+    fn limit(&self, alloc: Global, context: C, line: u32) -> Result<B, OfferFault>
         ensures { Gives (λ x. x) result (limited_of context line self.now) };
 }
 
 /// What each part gives, or the first reason why one is refused.
-fn every<C: Copy, B: Drop, T: Limited<C, B>>(
+fn limit_each<C: Copy, B: Drop, T: Limited<C, B>>(
     alloc: Global,
     context: C,
     line: u32,
     parts: &[T],
 ) -> Result<Listed<B>, OfferFault>
-    ensures { Gives (λ x. x) result (every (T.limited_of context line) parts.now) }
+    ensures { Gives (λ x. x) result (each_of (T.limited_of context line) parts.now) }
 {
     let mut list = Vec::new(alloc);
     for part in parts {
-        list.push(part.limited(alloc, context, line)?)?;
+        list.push(part.limit(alloc, context, line)?)?;
     }
     Ok(Listed::new(list))
 }
 
-impl Limited<(), Option<Digest>> for RawParty {
+impl<'v> Limited<(), Option<Digest>> for RawParty<'v> {
     ghost limited_of = { λ _. seed_of };
 
     #[tactic(auto, unfolding(crate::specs::Limits::seed_of))]
-    fn limited(
-        &self,
-        alloc: Global,
-        _context: (),
-        line: u32,
-    ) -> Result<Option<Digest>, OfferFault> {
+    fn limit(&self, alloc: Global, _context: (), line: u32) -> Result<Option<Digest>, OfferFault> {
         match &self.seed {
             None => Ok(None),
             Some(text) => Ok(Some(digest_in(alloc, line, "seed", text.as_slice())?)),
@@ -83,11 +61,11 @@ impl Limited<(), Option<Digest>> for RawParty {
     }
 }
 
-impl Limited<(), ArcTerms> for RawArc {
+impl<'v> Limited<(), ArcTerms> for RawArc<'v> {
     ghost limited_of = { λ _. terms_of };
 
     #[tactic(auto, unfolding(crate::specs::Limits::terms_of))]
-    fn limited(&self, alloc: Global, _context: (), line: u32) -> Result<ArcTerms, OfferFault> {
+    fn limit(&self, alloc: Global, _context: (), line: u32) -> Result<ArcTerms, OfferFault> {
         within(alloc, line, "amount", 1, 1_000_000_000_000, self.amount)?;
         let timelock = number_within(alloc, line, "timelock", 0, 1_000_000, self.timelock)?;
         Ok(ArcTerms {
@@ -97,37 +75,32 @@ impl Limited<(), ArcTerms> for RawArc {
     }
 }
 
-impl Limited<(), Digest> for RawLeader {
+impl<'v> Limited<(), Digest> for RawLeader<'v> {
     ghost limited_of = { λ _. hashlock_of };
 
     #[tactic(auto, unfolding(crate::specs::Limits::hashlock_of))]
-    fn limited(&self, alloc: Global, _context: (), line: u32) -> Result<Digest, OfferFault> {
+    fn limit(&self, alloc: Global, _context: (), line: u32) -> Result<Digest, OfferFault> {
         digest_in(alloc, line, "hashlock", self.hashlock.as_slice())
     }
 }
 
-impl Limited<(), Digest> for ByteText {
+impl<'v> Limited<(), Digest> for TextRef<'v> {
     ghost limited_of = { λ _. key_of };
 
     #[tactic(auto, unfolding(crate::specs::Limits::key_of))]
-    fn limited(&self, alloc: Global, _context: (), line: u32) -> Result<Digest, OfferFault> {
+    fn limit(&self, alloc: Global, _context: (), line: u32) -> Result<Digest, OfferFault> {
         digest_in(alloc, line, "keys", self.as_slice())
     }
 }
 
-impl Limited<usize, Listed<Digest>> for RawRow {
+impl<'v> Limited<usize, Listed<Digest>> for RawRow<'v> {
     ghost limited_of = { party_keys_of };
 
     #[tactic(auto, unfolding(crate::specs::Limits::party_keys_of))]
-    fn limited(
-        &self,
-        alloc: Global,
-        locks: usize,
-        line: u32,
-    ) -> Result<Listed<Digest>, OfferFault> {
+    fn limit(&self, alloc: Global, locks: usize, line: u32) -> Result<Listed<Digest>, OfferFault> {
         let length = self.texts.len() as u64;
         within(alloc, line, "keys", locks as u64, locks as u64, length)?;
-        every(alloc, (), line, self.texts.as_slice())
+        limit_each(alloc, (), line, self.texts.as_slice())
     }
 }
 
@@ -135,32 +108,32 @@ impl Limited<usize, Listed<Digest>> for RawRow {
 fn seeds_in(
     alloc: Global,
     line: u32,
-    parties: &[RawParty],
+    parties: &[RawParty<'_>],
 ) -> Result<Listed<Option<Digest>>, OfferFault>
     ensures { Gives (λ s. s) result (seeds_of line parties.now) }
 {
     within(alloc, line, "parties", 2, 24, parties.len() as u64)?;
-    every(alloc, (), line, parties)
+    limit_each(alloc, (), line, parties)
 }
 
 #[tactic(auto, unfolding(crate::specs::Limits::all_terms_of))]
-fn terms_in(alloc: Global, line: u32, arcs: &[RawArc]) -> Result<Listed<ArcTerms>, OfferFault>
+fn terms_in(alloc: Global, line: u32, arcs: &[RawArc<'_>]) -> Result<Listed<ArcTerms>, OfferFault>
     ensures { Gives (λ t. t) result (all_terms_of line arcs.now) }
 {
     within(alloc, line, "arcs", 2, 96, arcs.len() as u64)?;
-    every(alloc, (), line, arcs)
+    limit_each(alloc, (), line, arcs)
 }
 
 #[tactic(auto, unfolding(crate::specs::Limits::hashlocks_of))]
 fn hashlocks_in(
     alloc: Global,
     line: u32,
-    leaders: &[RawLeader],
+    leaders: &[RawLeader<'_>],
 ) -> Result<Listed<Digest>, OfferFault>
     ensures { Gives (λ h. h) result (hashlocks_of line leaders.now) }
 {
     within(alloc, line, "leaders", 1, 8, leaders.len() as u64)?;
-    every(alloc, (), line, leaders)
+    limit_each(alloc, (), line, leaders)
 }
 
 #[tactic(auto, unfolding(crate::specs::Limits::keys_of))]
@@ -170,7 +143,7 @@ fn keys_in(
     mode: Mode,
     parties: usize,
     locks: usize,
-    rows: &[RawRow],
+    rows: &[RawRow<'_>],
 ) -> Result<Listed<Listed<Digest>>, OfferFault>
     ensures { Gives (λ k. k) result (keys_of line mode parties locks rows.now) }
 {
@@ -179,7 +152,7 @@ fn keys_in(
         Mode::Hashkeys => {
             let length = rows.len() as u64;
             within(alloc, line, "keys", parties as u64, parties as u64, length)?;
-            every(alloc, locks, line, rows)
+            limit_each(alloc, locks, line, rows)
         }
     }
 }
@@ -190,7 +163,7 @@ fn conforms(actor: RawActor) -> bool
     matches!(actor, RawActor::Conforming)
 }
 
-fn conforming_in(alloc: Global, parties: &[RawParty]) -> Result<Listed<bool>, NoMemory>
+fn conforming_in(alloc: Global, parties: &[RawParty<'_>]) -> Result<Listed<bool>, NoMemory>
     ensures { IfOk result (λ l. l ≡ map (λ p. conforms p.actor) parties.now) }
 {
     let mut list = Vec::new(alloc);
@@ -244,7 +217,7 @@ pub(crate) fn limited_in(
     alloc: Global,
     purpose: Purpose,
     line: u32,
-    raw: &RawHeader,
+    raw: &RawHeader<'_>,
     numbered: Numbered,
 ) -> Result<Header, OfferFault>
     requires { IsNumbered raw.now numbered }

@@ -4,14 +4,15 @@ ghost use Rattle.std.specs.Prelude.{◌≡◌, ◌<◌, ◌≤◌, [], ℕ, List
 ghost use Rattle.std.specs.Str.{bytes_eq};
 ghost use Rattle.std.specs.List.{list_all};
 ghost use Rattle.swap_base.specs.Fault.{Gives, steps};
-ghost use Rattle.offer_header.specs.Every.{every};
-ghost use Rattle.offer_header.specs.Names.{is_name, is_name_byte, name_step, number_of, ends_of, leader_step, numbered_of, IsNumbered};
+ghost use Rattle.offer_fields.specs.Lists.{each_of};
+ghost use Rattle.offer_fields.specs.Names.{party_of_name};
+ghost use Rattle.offer_header.specs.Names.{is_name, is_name_byte, name_step, ends_of, leader_step, numbered_of};
 
 use crate::raw::{RawArc, RawHeader, RawLeader, RawParty};
 use indexmap::IndexSet;
 use refusals::{OfferFault, bad_name, duplicate, unknown};
 use std::alloc::Global;
-use swap_base::{ByteText, Listed, NoMemory, PartyId};
+use swap_base::{ByteText, Listed, NoMemory};
 
 /// The ends of an arc, by their parties' numbers.
 #[derive(Clone, Copy, Debug, PartialEq, Eq)]
@@ -57,7 +58,7 @@ fn add_name<'h>(
     alloc: Global,
     line: u32,
     names: &mut IndexSet<&'h [u8]>,
-    party: &'h RawParty,
+    party: &RawParty<'h>,
 ) -> Result<(), OfferFault>
     ensures { Gives (λ _. map (λ k. k.now) names.new.keys) result (name_step line (map (λ k. k.now) names.old.keys) party.now) }
 {
@@ -77,7 +78,7 @@ fn add_name<'h>(
 fn names_in<'h>(
     alloc: Global,
     line: u32,
-    parties: &'h [RawParty],
+    parties: &[RawParty<'h>],
 ) -> Result<IndexSet<&'h [u8]>, OfferFault>
     ensures { Gives (λ s. map (λ k. k.now) s.keys) result (steps (name_step line) [] parties.now) }
 {
@@ -88,14 +89,14 @@ fn names_in<'h>(
     Ok(names)
 }
 
-#[tactic(auto, using(swap_base::proofs::Steps::position_map), unfolding(crate::specs::Names::number_of))]
+#[tactic(auto, using(swap_base::proofs::Steps::position_map), unfolding(offer_fields::specs::Names::party_of_name))]
 fn number_among(
     alloc: Global,
     line: u32,
     names: &IndexSet<&[u8]>,
     name: &[u8],
 ) -> Result<usize, OfferFault>
-    ensures { Gives (λ k. k) result (number_of line (map (λ k. k.now) names.now.keys) name.now) }
+    ensures { Gives (λ k. k) result (party_of_name line (map (λ k. k.now) names.now.keys) name.now) }
 {
     match names.get_index_of(&name) {
         Some(number) => Ok(number),
@@ -108,7 +109,7 @@ fn ends_of(
     alloc: Global,
     line: u32,
     names: &IndexSet<&[u8]>,
-    arc: &RawArc,
+    arc: &RawArc<'_>,
 ) -> Result<Ends, OfferFault>
     ensures { Gives (λ e. e) result (ends_of line (map (λ k. k.now) names.now.keys) arc.now) }
 {
@@ -121,9 +122,9 @@ fn ends_in(
     alloc: Global,
     line: u32,
     names: &IndexSet<&[u8]>,
-    arcs: &[RawArc],
+    arcs: &[RawArc<'_>],
 ) -> Result<Listed<Ends>, OfferFault>
-    ensures { Gives (λ x. x) result (every (ends_of line (map (λ k. k.now) names.now.keys)) arcs.now) }
+    ensures { Gives (λ x. x) result (each_of (ends_of line (map (λ k. k.now) names.now.keys)) arcs.now) }
 {
     let mut list = Vec::new(alloc);
     for arc in arcs {
@@ -138,7 +139,7 @@ fn add_leader(
     line: u32,
     names: &IndexSet<&[u8]>,
     numbers: &mut Vec<usize>,
-    leader: &RawLeader,
+    leader: &RawLeader<'_>,
 ) -> Result<(), OfferFault>
     ensures { Gives (λ _. numbers.new.items) result (leader_step line (map (λ k. k.now) names.now.keys) numbers.old.items leader.now) }
 {
@@ -155,7 +156,7 @@ fn leaders_in(
     alloc: Global,
     line: u32,
     names: &IndexSet<&[u8]>,
-    leaders: &[RawLeader],
+    leaders: &[RawLeader<'_>],
 ) -> Result<Listed<usize>, OfferFault>
     ensures { Gives (λ x. x) result (steps (leader_step line (map (λ k. k.now) names.now.keys)) [] leaders.now) }
 {
@@ -166,7 +167,7 @@ fn leaders_in(
     Ok(Listed::new(numbers))
 }
 
-fn copied(alloc: Global, names: &IndexSet<&[u8]>) -> Result<Listed<ByteText>, NoMemory>
+fn kept_names(alloc: Global, names: &IndexSet<&[u8]>) -> Result<Listed<ByteText>, NoMemory>
     ensures { IfOk result (λ l. l ≡ map (λ k. k.now) names.now.keys) }
 {
     let mut list = Vec::new(alloc);
@@ -181,7 +182,7 @@ fn copied(alloc: Global, names: &IndexSet<&[u8]>) -> Result<Listed<ByteText>, No
 pub(crate) fn numbered_in(
     alloc: Global,
     line: u32,
-    header: &RawHeader,
+    header: &RawHeader<'_>,
 ) -> Result<Numbered, OfferFault>
     ensures { Gives (λ n. n) result (numbered_of line header.now) }
 {
@@ -189,32 +190,8 @@ pub(crate) fn numbered_in(
     let arcs = ends_in(alloc, line, &names, header.arcs.as_slice())?;
     let leaders = leaders_in(alloc, line, &names, header.leaders.as_slice())?;
     Ok(Numbered {
-        names: copied(alloc, &names)?,
+        names: kept_names(alloc, &names)?,
         arcs,
         leaders,
     })
-}
-
-fn place_of(names: &[ByteText], name: &[u8]) -> Option<usize>
-    ensures { result ≡ position (bytes_eq name.now) names.now }
-{
-    names.iter().position(|known| name == known.as_slice())
-}
-
-/// The number of the party of that name: its place among the names.
-#[tactic(auto, unfolding(crate::specs::Names::number_of))]
-pub fn number_in(
-    alloc: Global,
-    line: u32,
-    names: &Listed<ByteText>,
-    name: &[u8],
-) -> Result<PartyId, OfferFault>
-    requires { length names.now ≤ 256 }
-    ensures exact { Gives (λ k. k) result (number_of line names.now name.now) }
-    ensures below { IfOk result (λ k. k < length names.now) }
-{
-    match place_of(names.as_slice(), name) {
-        Some(place) => Ok(place as u8),
-        None => Err(unknown(alloc, line, name)),
-    }
 }

@@ -9,12 +9,12 @@ ghost use Rattle.offer_header.specs.Raw.{object_actor, actor_of_word, actor_at, 
 use crate::raw::{RawActor, RawArc, RawLeader, RawParty, RawRow, Reading};
 use deviator_script::Purpose;
 use offer_fields::{
-    Member, is_object, member_text, number_in, only_in, optional_text_in, text_in, texts_in,
+    Member, TextRef, is_object, member_text, number_in, only_in, optional_text_in, text_in,
+    texts_in,
 };
 use refusals::{OfferFault, not_built, wrong_kind};
 use serde_json::Value;
 use std::alloc::Global;
-use swap_base::ByteText;
 use swap_digraph::Mode;
 
 fn object_actor(alloc: Global, line: u32, purpose: Purpose) -> Result<RawActor, OfferFault>
@@ -56,16 +56,20 @@ fn actor_in(
 }
 
 #[tactic(auto, unfolding(crate::specs::Raw::seed_at))]
-fn seed_in(alloc: Global, line: u32, object: &Value) -> Result<Option<ByteText>, OfferFault>
+fn seed_in<'v>(
+    alloc: Global,
+    line: u32,
+    object: &'v Value,
+) -> Result<Option<TextRef<'v>>, OfferFault>
     ensures { Gives (λ s. s) result (seed_at line (view object.now)) }
 {
     match optional_text_in(alloc, line, "seed", object)? {
         None => Ok(None),
-        Some(seed) => Ok(Some(ByteText::from_slice(alloc, seed.as_bytes())?)),
+        Some(seed) => Ok(Some(TextRef::new(seed.as_bytes()))),
     }
 }
 
-impl Member<Reading> for RawParty {
+impl<'v> Member<'v, Reading> for RawParty<'v> {
     ghost said = { party_of };
 
     #[tactic(auto, unfolding(crate::specs::Raw::party_of))]
@@ -73,15 +77,15 @@ impl Member<Reading> for RawParty {
         alloc: Global,
         reading: Reading,
         line: u32,
-        value: &Value,
-    ) -> Result<RawParty, OfferFault> {
+        value: &'v Value,
+    ) -> Result<RawParty<'v>, OfferFault> {
         is_object(alloc, line, "parties", value)?;
         let name = text_in(alloc, line, "name", value)?;
         let actor = actor_in(alloc, line, reading.purpose, value)?;
         let seed = seed_in(alloc, line, value)?;
         only_in(alloc, line, &["actor", "name", "seed"], value)?;
         Ok(RawParty {
-            name: ByteText::from_slice(alloc, name.as_bytes())?,
+            name: TextRef::new(name.as_bytes()),
             actor,
             seed,
         })
@@ -106,7 +110,7 @@ fn only_arc_fields(alloc: Global, line: u32, mode: Mode, object: &Value) -> Resu
     }
 }
 
-impl Member<Reading> for RawArc {
+impl<'v> Member<'v, Reading> for RawArc<'v> {
     ghost said = { arc_of };
 
     #[tactic(auto, unfolding(crate::specs::Raw::arc_of))]
@@ -114,8 +118,8 @@ impl Member<Reading> for RawArc {
         alloc: Global,
         reading: Reading,
         line: u32,
-        value: &Value,
-    ) -> Result<RawArc, OfferFault> {
+        value: &'v Value,
+    ) -> Result<RawArc<'v>, OfferFault> {
         is_object(alloc, line, "arcs", value)?;
         let from = text_in(alloc, line, "from", value)?;
         let to = text_in(alloc, line, "to", value)?;
@@ -123,15 +127,15 @@ impl Member<Reading> for RawArc {
         let timelock = timelock_in(alloc, line, reading.mode, value)?;
         only_arc_fields(alloc, line, reading.mode, value)?;
         Ok(RawArc {
-            from: ByteText::from_slice(alloc, from.as_bytes())?,
-            to: ByteText::from_slice(alloc, to.as_bytes())?,
+            from: TextRef::new(from.as_bytes()),
+            to: TextRef::new(to.as_bytes()),
             amount,
             timelock,
         })
     }
 }
 
-impl Member<Reading> for RawLeader {
+impl<'v> Member<'v, Reading> for RawLeader<'v> {
     ghost said = { λ _. leader_of };
 
     #[tactic(auto, unfolding(crate::specs::Raw::leader_of))]
@@ -139,20 +143,20 @@ impl Member<Reading> for RawLeader {
         alloc: Global,
         _reading: Reading,
         line: u32,
-        value: &Value,
-    ) -> Result<RawLeader, OfferFault> {
+        value: &'v Value,
+    ) -> Result<RawLeader<'v>, OfferFault> {
         is_object(alloc, line, "leaders", value)?;
         let party = text_in(alloc, line, "party", value)?;
         let hashlock = text_in(alloc, line, "hashlock", value)?;
         only_in(alloc, line, &["hashlock", "party"], value)?;
         Ok(RawLeader {
-            party: ByteText::from_slice(alloc, party.as_bytes())?,
-            hashlock: ByteText::from_slice(alloc, hashlock.as_bytes())?,
+            party: TextRef::new(party.as_bytes()),
+            hashlock: TextRef::new(hashlock.as_bytes()),
         })
     }
 }
 
-impl Member<Reading> for RawRow {
+impl<'v> Member<'v, Reading> for RawRow<'v> {
     ghost said = { λ _. row_of };
 
     #[tactic(auto, unfolding(crate::specs::Raw::row_of))]
@@ -160,8 +164,8 @@ impl Member<Reading> for RawRow {
         alloc: Global,
         _reading: Reading,
         line: u32,
-        value: &Value,
-    ) -> Result<RawRow, OfferFault> {
+        value: &'v Value,
+    ) -> Result<RawRow<'v>, OfferFault> {
         let Some(values) = value.as_array() else {
             return Err(wrong_kind(alloc, line, b"keys"));
         };

@@ -12,7 +12,8 @@ short_code n lt =
     let e : n % 16 ≡ n = omega arith in
     rw (e, hex_one_digit false n lt) refl
 
-pub long_code : (n : ℕ) → 16 ≤ n → n < 256 → code_text n ≡ joined (codes "\\u{" ∷ (digit_glyph false (n / 16) ∷ digit_glyph false (n % 16) ∷ []) ∷ codes "}" ∷ [])
+pub long_code : (n : ℕ) → 16 ≤ n → n < 256 → code_text n ≡ joined (codes "\\u{" ∷
+    (digit_glyph false (n / 16) ∷ digit_glyph false (n % 16) ∷ []) ∷ codes "}" ∷ [])
 unfolding code_text
 long_code n le lt = rw (hex_two_digits false n le lt) refl
 

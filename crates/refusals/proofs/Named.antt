@@ -7,9 +7,10 @@ use Rattle.refusals.specs.declared.reason.Reason.{Reason}
 use Rattle.refusals.specs.Refusal.{fault_with, named, refusal}
 use Rattle.refusals.specs.declared.refusal.Refusal.{Refusal}
 
-pub still_fails : {A : Type 0} (names : List (List ℕ)) (fault : Fault Reason) (read : Result A Reason) → Fails fault read → Fails (fault_with names fault) (named names read)
-still_fails names NoMemory read e = tt
-still_fails names (Refused reason) read e = rw e refl
+pub fails : {A : Type 0} (names : List (List ℕ)) (fault : Fault Reason) (read : Result A Reason) → Fails fault read
+    → Fails (fault_with names fault) (named names read)
+fails names NoMemory read e = tt
+fails names (Refused reason) read e = rw e refl
 
 -- what was read, by what was read with the names
 pub named_ok : {A : Type 0} (names : List (List ℕ)) (read : Result A Reason) (x : A) → named names read ≡ Ok x → read ≡ Ok x
@@ -19,7 +20,8 @@ named_ok {A = A} names (Ok y) x e =
 named_ok names (Err reason) x e = absurd (cc e)
 
 -- the reason and the names, by what was read with the names
-pub named_err : {A : Type 0} (names : List (List ℕ)) (read : Result A Reason) (r : Refusal) → named names read ≡ Err r → (read ≡ Err r.reason) × (r.names ≡ names)
+pub named_err : {A : Type 0} (names : List (List ℕ)) (read : Result A Reason) (r : Refusal) → named names read ≡ Err r
+    → (read ≡ Err r.reason) × (r.names ≡ names)
 named_err names (Ok x) r e = absurd (cc e)
 named_err {A = A} names (Err reason) r e =
     let same : refusal names reason ≡ r = cc e in

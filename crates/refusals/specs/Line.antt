@@ -3,7 +3,10 @@ use Rattle.std.specs.Prelude.{ℕ, List, [], ◌∷◌, codes, decimal}
 use Rattle.swap_base.specs.Text.{joined, lines}
 use Rattle.refusals.specs.Words.{name_at, reply_text}
 use Rattle.refusals.specs.declared.reason.Reason.{Reason}
-use Rattle.refusals.specs.declared.reason.Reason.TheVariants.{NotJson, Missing, WrongKind, UnknownField, BadName, Duplicate, Unknown, OverLimit, WrongHex, NotAdjacent, ConformingCall, EventInRace, SelfArc, Parallel, NotStrong, ManyLeaders, NotFeedback, BoundTooSmall, StartTooSoon, WrongTimelock, NoSeed, WrongWallet, BadLine, CutShort, BadReply, NotBuilt}
+use Rattle.refusals.specs.declared.reason.Reason.TheVariants.{NotJson, Missing, WrongKind, UnknownField, BadName, Duplicate, Unknown, OverLimit, WrongHex}
+use Rattle.refusals.specs.declared.reason.Reason.TheVariants.{NotAdjacent, ConformingCall, EventInRace, SelfArc, Parallel, NotStrong, ManyLeaders}
+use Rattle.refusals.specs.declared.reason.Reason.TheVariants.{NotFeedback, BoundTooSmall, StartTooSoon, WrongTimelock, NoSeed, WrongWallet, BadLine, CutShort}
+use Rattle.refusals.specs.declared.reason.Reason.TheVariants.{BadReply, NotBuilt}
 use Rattle.refusals.specs.Escaped.{escaped}
 
 -- a word and a number
@@ -65,7 +68,8 @@ reason_text names (NoSeed party) = of_party (codes "NoSeed") names party
 reason_text names (WrongWallet party lock) = joined (of_party (codes "WrongWallet") names party ∷ codes " " ∷ decimal lock ∷ [])
 reason_text names (BadLine line) = numbered (codes "BadLine") line
 reason_text names CutShort = codes "CutShort"
-reason_text names (BadReply arc entry stated replayed) = joined (numbered_twice (codes "BadReply") arc entry ∷ codes " " ∷ reply_text stated ∷ codes " " ∷ reply_text replayed ∷ [])
+reason_text names (BadReply arc entry stated replayed) = joined (numbered_twice
+    (codes "BadReply") arc entry ∷ codes " " ∷ reply_text stated ∷ codes " " ∷ reply_text replayed ∷ [])
 reason_text names (NotBuilt line field) = lined (codes "NotBuilt") line field
 
 -- the line of a refusal, without a line feed

@@ -2,7 +2,9 @@
 use Rattle.std.specs.Prelude.{ℕ, List, [], ◌∷◌, codes, decimal, slice_index_or}
 use Rattle.swap_base.specs.Text.{joined}
 use Rattle.escrow_core.specs.declared.reply.Reply.{Reply}
-use Rattle.escrow_core.specs.declared.reply.Reply.TheVariants.{Accepted, Settled, NotCounterparty, NotParty, AlreadyUnlocked, WrongSecret, WrongPath, WrongSignature, TooLate, StillLocked, NothingLocked, NotExpired, NoContract, AlreadyPublished, NoFunds, SenderFull, ClockFull}
+use Rattle.escrow_core.specs.declared.reply.Reply.TheVariants.{Accepted, Settled, NotCounterparty, NotParty, AlreadyUnlocked, WrongSecret, WrongPath}
+use Rattle.escrow_core.specs.declared.reply.Reply.TheVariants.{WrongSignature, TooLate, StillLocked, NothingLocked, NotExpired, NoContract, AlreadyPublished}
+use Rattle.escrow_core.specs.declared.reply.Reply.TheVariants.{NoFunds, SenderFull, ClockFull}
 
 -- the name of party p; no text where the number is nobody's
 abbrev pub name_at : List (List ℕ) → ℕ → List ℕ

@@ -1,7 +1,8 @@
 //! Refusals that carry a text.
 
 ghost use Rattle.swap_base.specs.Fault.{Is};
-ghost use Rattle.refusals.specs.declared.reason.Reason.TheVariants.{Missing, WrongKind, UnknownField, BadName, Duplicate, Unknown, OverLimit, WrongHex, NotBuilt};
+ghost use Rattle.refusals.specs.declared.reason.Reason.TheVariants.{Missing, WrongKind, UnknownField, BadName, Duplicate, Unknown, OverLimit, WrongHex};
+ghost use Rattle.refusals.specs.declared.reason.Reason.TheVariants.{NotBuilt};
 
 use crate::reason::{OfferFault, Reason};
 use std::alloc::Global;

@@ -1,5 +1,6 @@
 -- A deal that passes the checks is an accepted one.
-use Rattle.std.proofs.Common.{◌≡◌, ℕ, ◌<◌, ◌≤◌, ◌==◌, nat_lt, Bool, true, false, cond, List, [], ◌∷◌, length, get_or, slice_index, Option, Some, None, Result, Ok, Err, refl, sym, ap, ◌∙◌, subst, arith, inl, inr, ltb-false, eqb-true, replicate}
+use Rattle.std.proofs.Common.{◌≡◌, ℕ, ◌<◌, ◌≤◌, ◌==◌, nat_lt, Bool, true, false, cond, List, [], ◌∷◌, length, get_or, slice_index, Option, Some, None, Result}
+use Rattle.std.proofs.Common.{Ok, Err, refl, sym, ap, ◌∙◌, subst, arith, inl, inr, ltb-false, eqb-true, replicate}
 use Rattle.swap_base.specs.Fault.{◌>>=◌}
 use Rattle.swap_base.specs.Lists.{or_else, first_of, IsIn}
 use Rattle.swap_base.proofs.Lists.{in_range}
@@ -25,18 +26,12 @@ use Rattle.single_leader.proofs.Far.{dist_is, dist_by_rounds}
 use Rattle.swap_rules.specs.Accepted.{IsAccepted, IsTimed, HasTimelock}
 use Rattle.refusals.specs.declared.reason.Reason.{Reason}
 use Rattle.refusals.specs.declared.reason.Reason.TheVariants.{BoundTooSmall, StartTooSoon, ManyLeaders, WrongTimelock}
+use Rattle.offer_fields.proofs.Chains.{went}
 use Rattle.offer_header.specs.declared.header.Header.{Header}
 use Rattle.offer_header.specs.Header.{IsWithin}
-use Rattle.swap_offer.specs.Checks.{graph_of, by_arcs, connected, unless_closed, one_leader, led, unless_cycle, bounded, started, timed, unless_wrong, wrong_timelock, checked, unnamed, deal_with}
-use Rattle.swap_offer.proofs.Whole.{is_sized}
-
--- a chain that ends well began well
-abbrev pub Went : {A B : Type 0} → Result A Reason → (A → Result B Reason) → B → Type 0
-Went {A} r f y = (x : A) × (r ≡ Ok x) × (f x ≡ Ok y)
-
-pub went : {A B : Type 0} (r : Result A Reason) (f : A → Result B Reason) (y : B) → (r >>= f) ≡ Ok y → Went r f y
-went (Ok x) f y e = (x, refl, e)
-went (Err r) f y e = absurd (cc e)
+use Rattle.swap_offer.specs.Checks.{graph_of, by_arcs, least_bound, connected, unless_closed, one_leader, led, unless_cycle, bounded, started, timed}
+use Rattle.swap_offer.specs.Checks.{unless_wrong, wrong_timelock, checked, unnamed, deal_with}
+use Rattle.swap_offer.proofs.Size.{is_sized}
 
 is_connected : (g : Graph) (u : Unit {0}) → connected g ≡ Ok u → IsStronglyConnected g
 unfolding connected
@@ -81,14 +76,18 @@ none_at {A} {B} f (y ∷ xs) x e i = go (f y) refl e i (none_at f xs x)
     go None h k (inr j) rest = rest k j
     go (Some z) h k j rest = absurd (cc k)
 
-has_timelock : (h : Header) (g : Graph) (leader a : ℕ) → wrong_timelock h g leader a ≡ None → slice_index h.timelocks a ≡ timelock h.start h.delta h.bound (dist_of g leader (ends g a).to)
+has_timelock : (h : Header) (g : Graph) (leader a : ℕ) → wrong_timelock h g leader a ≡ None
+    → slice_index h.timelocks a ≡ timelock h.start h.delta h.bound (dist_of g leader (ends g a).to)
 has_timelock h g leader a e = go (slice_index h.timelocks a == timelock h.start h.delta h.bound (dist_of g leader (ends g a).to)) refl e
   where
-    go : (t : Bool) → (slice_index h.timelocks a == timelock h.start h.delta h.bound (dist_of g leader (ends g a).to)) ≡ t → cond t None (Some (WrongTimelock a (slice_index h.timelocks a) (timelock h.start h.delta h.bound (dist_of g leader (ends g a).to)))) ≡ None → slice_index h.timelocks a ≡ timelock h.start h.delta h.bound (dist_of g leader (ends g a).to)
+    go : (t : Bool) → (slice_index h.timelocks a == timelock h.start h.delta h.bound (dist_of g leader (ends g a).to)) ≡ t
+        → cond t None (Some (WrongTimelock a (slice_index h.timelocks a) (timelock h.start h.delta h.bound (dist_of g leader (ends g a).to)))) ≡ None
+        → slice_index h.timelocks a ≡ timelock h.start h.delta h.bound (dist_of g leader (ends g a).to)
     go true s k = eqb-true (slice_index h.timelocks a) (timelock h.start h.delta h.bound (dist_of g leader (ends g a).to)) s
     go false s k = absurd (cc k)
 
-all_timed : (h : Header) (g : Graph) (leader : ℕ) (u : Unit {0}) → timed h g Timelocks (leader ∷ []) ≡ Ok u → (a : ℕ) → a < length g.arcs → wrong_timelock h g leader a ≡ None
+all_timed : (h : Header) (g : Graph) (leader : ℕ) (u : Unit {0}) → timed h g Timelocks (leader ∷ []) ≡ Ok u → (a : ℕ) → a < length g.arcs
+    → wrong_timelock h g leader a ≡ None
 unfolding timed
 all_timed h g leader u e a lt = go (first_of (wrong_timelock h g leader) (arcs g)) refl e
   where
@@ -96,7 +95,8 @@ all_timed h g leader u e a lt = go (first_of (wrong_timelock h g leader) (arcs g
     go None s k = none_at (wrong_timelock h g leader) (arcs g) a s (in_range a (length g.arcs) lt)
     go (Some r) s k = absurd (cc k)
 
-timed_by : (h : Header) (g : Graph) (id : List ℕ) (leader height : ℕ) (u : Unit {0}) → h.leaders ≡ leader ∷ [] → HasEnds g → IsStronglyConnected g → leader < g.n → IsFeedback g (leader ∷ []) → IsHeight g (leader ∷ []) height
+timed_by : (h : Header) (g : Graph) (id : List ℕ) (leader height : ℕ) (u : Unit {0}) → h.leaders ≡ leader ∷ [] → HasEnds g → IsStronglyConnected g
+    → leader < g.n → IsFeedback g (leader ∷ []) → IsHeight g (leader ∷ []) height
     → timed h g Timelocks (leader ∷ []) ≡ Ok u → IsTimed Timelocks (unnamed h g id)
 timed_by h g id leader height u e has strong lt feedback tall t = (ap length e, timelocks)
   where
@@ -116,23 +116,26 @@ one_of [] some few = absurd (omega arith)
 one_of (x ∷ []) some few = refl
 one_of (x ∷ y ∷ xs) some few = absurd (omega arith)
 
-is_timed : (m : Mode) (h : Header) (g : Graph) (id : List ℕ) (u v : Unit {0}) → m ≡ h.mode → IsWithin h → g.n ≡ length h.names → g.arcs ≡ h.arcs → HasEnds g → IsStronglyConnected g → IsFeedback g h.leaders
+is_timed : (m : Mode) (h : Header) (g : Graph) (id : List ℕ) (u v : Unit {0}) → m ≡ h.mode → IsWithin h → g.n ≡ length h.names → g.arcs ≡ h.arcs → HasEnds g
+    → IsStronglyConnected g → IsFeedback g h.leaders
     → one_leader m h.leaders ≡ Ok u → timed h g m h.leaders ≡ Ok v → IsTimed m (unnamed h g id)
 is_timed Timelocks h g id u v m k n a has strong feedback one t =
     let e : h.leaders ≡ get_or h.leaders 0 0 ∷ [] = one_of h.leaders k.leaders.0 (has_one h.leaders u one) in
     let f : IsFeedback g (get_or h.leaders 0 0 ∷ []) = subst (IsFeedback g) e feedback in
     let few = k.leaders.0 in
-    timed_by h g id (get_or h.leaders 0 0) (height_of g (get_or h.leaders 0 0 ∷ [])) v e has strong (rw n (k.leader.below 0 (omega (arith, few)))) f (heights.greatest_level_is_height g (get_or h.leaders 0 0 ∷ []) f)
+    timed_by h g id (get_or h.leaders 0 0) (height_of g (get_or h.leaders 0 0 ∷ [])) v e has strong (rw n (k.leader.below 0 (omega (arith, few)))) f
+    (heights.greatest_level_is_height g (get_or h.leaders 0 0 ∷ []) f)
     (subst (λ (ls : List ℕ). timed h g Timelocks ls ≡ Ok v) e t)
 is_timed Hashkeys h g id u v m k n a has strong feedback one t = λ b lt. k.untimed (sym m) b (subst (λ (xs : List ArcEnds). b < length xs) a lt)
 
 -- No two arcs have the same ends.
 
-no_fault : (h : Header) (g : Graph) → graph_of h ≡ Ok g → first_fault (length h.names) One h.arcs ≡ None
+pub no_fault : (h : Header) (g : Graph) → graph_of h ≡ Ok g → first_fault (length h.names) One h.arcs ≡ None
 unfolding graph_of digraph_of
 no_fault h g e = go (first_fault (length h.names) One h.arcs) refl e
   where
-    go : (o : Option ArcFault) → first_fault (length h.names) One h.arcs ≡ o → by_arcs (graph_or (length h.names) h.arcs o) ≡ Ok g → first_fault (length h.names) One h.arcs ≡ None
+    go : (o : Option ArcFault) → first_fault (length h.names) One h.arcs ≡ o → by_arcs (graph_or (length h.names) h.arcs o) ≡ Ok g
+        → first_fault (length h.names) One h.arcs ≡ None
     go None s k = s
     go (Some f) s k = absurd (cc k)
 
@@ -141,13 +144,14 @@ all_apart g n xs same e a b la lb s =
     distinct n xs e a b (subst (λ (ys : List ArcEnds). a < length ys) same la) (subst (λ (ys : List ArcEnds). b < length ys) same lb)
     (subst (λ (ys : List ArcEnds). ends_in ys a ≡ ends_in ys b) same s)
 
-pub is_accepted : (h : Header) (g : Graph) (u : Unit {0}) → IsWithin h → HasEnds g → g.n ≡ length h.names → g.arcs ≡ h.arcs → graph_of h ≡ Ok g → checked h g ≡ Ok u → IsAccepted (deal_with h g)
+pub is_accepted : (h : Header) (g : Graph) (u : Unit {0}) → IsWithin h → HasEnds g → g.n ≡ length h.names → g.arcs ≡ h.arcs → graph_of h ≡ Ok g
+    → checked h g ≡ Ok u → IsAccepted (deal_with h g)
 unfolding checked
 is_accepted h g u k has n arcs made e =
     let c = went (connected g) _ u e in
     let o = went (one_leader h.mode h.leaders) _ u c.2 in
     let l = went (led g h.leaders) _ u o.2 in
-    let b = went (bounded h.bound (need g.n (length h.leaders) (height_of g h.leaders))) _ u l.2 in
+    let b = went (bounded h.bound (least_bound g h.leaders)) _ u l.2 in
     let s = went (started h.start h.delta) _ u b.2 in
     let sized = is_sized h g (deal_with h g).id k has n arcs in
     let strong = is_connected g c.0 c.1 in
@@ -167,7 +171,7 @@ is_accepted h g u k has n arcs made e =
       is_height = heights.greatest_level_is_height g h.leaders feedback;
       delta = k.delta;
       start = (is_started h.start h.delta s.0 s.1, k.start.1);
-      bound = (is_bounded h.bound (need g.n (length h.leaders) (height_of g h.leaders)) b.0 b.1, k.bound.1);
+      bound = (is_bounded h.bound (least_bound g h.leaders) b.0 b.1, k.bound.1);
       one_amount_each = sized.amounts;
       amounts = λ a lt. k.amount a (subst (λ (xs : List ArcEnds). a < length xs) arcs lt);
       hashlocks = k.hashlocks;

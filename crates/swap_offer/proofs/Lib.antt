@@ -1,5 +1,8 @@
 pub mod Accepted
-pub mod FirstLines
-pub mod Whole
+pub mod Admitted
+pub mod Certified
+pub mod Events
+pub mod Filled
+pub mod Size
 pub mod Seeds
 pub mod Firsts

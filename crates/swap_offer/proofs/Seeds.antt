@@ -1,5 +1,6 @@
 -- A job that passes has the wallets that its purpose needs.
-use Rattle.std.proofs.Common.{◌≡◌, ℕ, ◌<◌, ◌&&◌, Bool, true, false, cond, List, Option, Some, None, is_none, option_map, OnOk, Result, Ok, Err, refl, sym, ap, subst, ◌∙◌}
+use Rattle.std.proofs.Common.{◌≡◌, ℕ, ◌<◌, ◌&&◌, Bool, true, false, cond, List, Option, Some, None, is_none, option_map, OnOk, Result, Ok, Err, refl, sym, ap}
+use Rattle.std.proofs.Common.{subst, ◌∙◌}
 use Rattle.std.specs.List.{range_with_len}
 use Rattle.swap_base.specs.Fault.{Gives}
 use Rattle.swap_base.specs.Lists.{first_of}
@@ -12,7 +13,8 @@ use Rattle.refusals.specs.declared.reason.Reason.{Reason}
 use Rattle.refusals.specs.declared.reason.Reason.TheVariants.{NoSeed, WrongWallet}
 use Rattle.party_wallet.specs.Fits.{wrong_lock}
 use Rattle.swap_offer.specs.Checks.{unless_wrong}
-use Rattle.swap_offer.specs.Wallets.{conforms, seed_of, no_seed, seeded_for, seeded, wrong_seed, wrong_wallet, walleted, HasWallet, HaveWallets, HaveWalletsFor}
+use Rattle.swap_offer.specs.Wallets.{conforms, seed_of, no_seed, seeded_for, seeded, wrong_seed, wrong_wallet, walleted, HasWallet, HaveWallets}
+use Rattle.swap_offer.specs.Wallets.{HaveWalletsFor}
 
 passed : (o : Option Reason) (u : Unit {0}) → unless_wrong o ≡ Ok u → o ≡ None
 passed None u e = refl
@@ -27,14 +29,16 @@ no_lock : (p : ℕ) (o : Option ℕ) → option_map (WrongWallet p) o ≡ None �
 no_lock p None e = refl
 no_lock p (Some lock) e = absurd (cc e)
 
-fits_is : (job : Job) (p : ℕ) (seed : List ℕ) (c : Bool) (o : Option (List ℕ)) → c ≡ true → o ≡ Some seed → cond c (wrong_seed job p o) None ≡ None → wrong_lock job.deal p seed ≡ None
+fits_is : (job : Job) (p : ℕ) (seed : List ℕ) (c : Bool) (o : Option (List ℕ)) → c ≡ true → o ≡ Some seed → cond c (wrong_seed job p o) None ≡ None
+    → wrong_lock job.deal p seed ≡ None
 fits_is job p seed false o t s e = absurd (cc t)
 fits_is job p seed true None t s e = absurd (cc s)
 fits_is job p seed true (Some given) t s e =
     let same : given ≡ seed = cc s in
     subst (λ x. wrong_lock job.deal p x ≡ None) same (no_lock p (wrong_lock job.deal p given) e)
 
-have : (job : Job) → first_of (no_seed job) (range_with_len 0 job.deal.graph.n) ≡ None → first_of (wrong_wallet job) (range_with_len 0 job.deal.graph.n) ≡ None → HaveWallets job
+have : (job : Job) → first_of (no_seed job) (range_with_len 0 job.deal.graph.n) ≡ None
+    → first_of (wrong_wallet job) (range_with_len 0 job.deal.graph.n) ≡ None → HaveWallets job
 have job none wrong p lt c =
     let k = in_range p job.deal.graph.n lt in
     let s = seed_is (conforms job p) (seed_of job p) (NoSeed p) c (none_in (no_seed job) (range_with_len 0 job.deal.graph.n) p none k) in
@@ -55,6 +59,7 @@ have_for job u w s f = by job.purpose s
     by Make e = tt
     by Audit e = tt
 
-pub have_on : {X : Type 0} (job : Job) (u : Unit {0}) (result : Result X (Fault Reason)) → seeded job ≡ Ok u → Gives (λ _. tt) result (walleted job) → OnOk result (HaveWalletsFor job.purpose job)
+pub have_on : {X : Type 0} (job : Job) (u : Unit {0}) (result : Result X (Fault Reason)) → seeded job ≡ Ok u → Gives (λ _. tt) result (walleted job)
+    → OnOk result (HaveWalletsFor job.purpose job)
 have_on job u (Ok x) s f = have_for job u tt s f
 have_on job u (Err e) s f = tt

@@ -1,5 +1,6 @@
 -- What makes a header's deal an accepted one, check by check in the order of the reasons.
-use Rattle.std.specs.Prelude.{ℕ, ◌==◌, Bool, true, false, nat_lt, List, [], ◌∷◌, length, slice_index, map, replicate, Option, Some, None, Result, Ok, Err, if◌then◌else◌}
+use Rattle.std.specs.Prelude.{ℕ, ◌==◌, Bool, true, false, nat_lt, List, [], ◌∷◌, length, slice_index, map, replicate, Option, Some, None, Result, Ok, Err}
+use Rattle.std.specs.Prelude.{if◌then◌else◌}
 use Rattle.swap_base.specs.Fault.{◌>>=◌}
 use Rattle.swap_base.specs.Lists.{first_of}
 use Rattle.time_bounds.specs.Times.{need, timelock}
@@ -21,7 +22,8 @@ use Rattle.deviator_script.specs.declared.job.Role.{Role}
 use Rattle.deviator_script.specs.declared.job.Role.TheVariants.{Conforming, Manual}
 use Rattle.deviator_script.specs.declared.job.Job.{Job}
 use Rattle.refusals.specs.declared.reason.Reason.{Reason}
-use Rattle.refusals.specs.declared.reason.Reason.TheVariants.{SelfArc, Parallel, NotStrong, ManyLeaders, NotFeedback, BoundTooSmall, StartTooSoon, WrongTimelock}
+use Rattle.refusals.specs.declared.reason.Reason.TheVariants.{SelfArc, Parallel, NotStrong, ManyLeaders, NotFeedback, BoundTooSmall, StartTooSoon}
+use Rattle.refusals.specs.declared.reason.Reason.TheVariants.{WrongTimelock}
 use Rattle.offer_header.specs.declared.header.Header.{Header}
 
 -- A fault of the arcs. The ends of a header's arcs are parties, so that the first never comes.
@@ -33,6 +35,10 @@ arc_reason (faults.Parallel j k) = Parallel j k
 abbrev pub by_arcs : Result Graph ArcFault → Result Graph Reason
 by_arcs (Ok g) = Ok g
 by_arcs (Err fault) = Err (arc_reason fault)
+
+-- the parties and the arcs of a header
+abbrev pub digraph_in : Header → Graph
+digraph_in h = record { n = length h.names; arcs = h.arcs }
 
 -- the digraph of the header's arcs
 unfoldable pub graph_of : Header → Result Graph Reason
@@ -58,6 +64,14 @@ unless_cycle (Some cycle) = Err (NotFeedback cycle)
 -- the leaders are a feedback vertex set
 unfoldable pub led : Graph → List ℕ → Result (Unit {0}) Reason
 led g leaders = unless_cycle (follower_cycle g leaders)
+
+-- the least bound: no path that ends in a leader has more arcs
+abbrev pub least_bound : Graph → List ℕ → ℕ
+least_bound g leaders = need g.n (length leaders) (height_of g leaders)
+
+-- the least bound of a deal
+abbrev pub need_of : Deal → ℕ
+need_of d = least_bound d.graph d.leaders
 
 -- the bound is at least the one that is needed
 unfoldable pub bounded : (bound needed : ℕ) → Result (Unit {0}) Reason
@@ -109,7 +123,16 @@ abbrev pub deal_with : Header → Graph → Deal
 deal_with h g = unnamed h g (deal_id (unnamed h g (replicate 32 0)))
 
 abbrev pub job_with : Header → Graph → Job
-job_with h g = record { purpose = h.purpose; deal = deal_with h g; names = h.names; roles = map role_of h.conforming; conforming = h.conforming; seeds = h.seeds; finish = h.finish }
+job_with h g = record {
+  purpose = h.purpose;
+  deal = deal_with h g;
+  names = h.names;
+  roles = map role_of h.conforming;
+  conforming = h.conforming;
+  seeds =
+      h.seeds;
+  finish = h.finish;
+}
 
 -- the digraph and its leaders, in order
 unfoldable pub checked : Header → Graph → Result (Unit {0}) Reason
@@ -117,6 +140,13 @@ checked h g = do
   u ← connected g
   v ← one_leader h.mode h.leaders
   w ← led g h.leaders
-  x ← bounded h.bound (need g.n (length h.leaders) (height_of g h.leaders))
+  x ← bounded h.bound (least_bound g h.leaders)
   y ← started h.start h.delta
   timed h g h.mode h.leaders
+
+-- the digraph of a header, where its digraph, its leaders and its times pass their checks
+unfoldable pub admitted : Header → Result Graph Reason
+admitted h = do
+  g ← graph_of h
+  u ← checked h g
+  Ok g

@@ -1,26 +1,19 @@
 -- What the bytes of an offer are: a job with its events, or the first reason against them.
 use Rattle.std.specs.Prelude.{◌≡◌, ◌==◌, ℕ, ◌+◌, ◌<◌, List, [], ◌∷◌, codes, length, Result, Ok, Err, if◌then◌else◌}
 use Rattle.swap_base.specs.Fault.{◌>>=◌}
-use Rattle.swap_digraph.specs.Value.{Graph}
 use Rattle.swap_digraph.specs.Deal.{IsWellSized}
 use Rattle.deviator_script.specs.declared.job.Purpose.{Purpose}
+use Rattle.deviator_script.specs.declared.job.Purpose.TheVariants.{Make, Audit}
 use Rattle.deviator_script.specs.declared.job.Job.{Job}
 use Rattle.deviator_script.specs.declared.event.Event.{Event}
 use Rattle.refusals.specs.declared.reason.Reason.{Reason}
 use Rattle.refusals.specs.declared.reason.Reason.TheVariants.{NotJson, OverLimit}
 use Rattle.offer_header.specs.Header.{header_of}
 use Rattle.offer_events.specs.Event.{event_of}
-use Rattle.swap_offer.specs.Lines.{lines_of, written}
+use Rattle.swap_offer.specs.Lines.{lines_of, filled_lines}
 use Rattle.offer_header.specs.declared.header.Header.{Header}
-use Rattle.swap_offer.specs.Checks.{graph_of, checked, job_with}
+use Rattle.swap_offer.specs.Checks.{admitted, job_with}
 use Rattle.swap_offer.specs.Wallets.{seeded, walleted}
-
--- the digraph of a header, where its digraph, its leaders and its times pass their checks
-unfoldable pub admitted : Header → Result Graph Reason
-admitted h = do
-  g ← graph_of h
-  u ← checked h g
-  Ok g
 
 -- a job has the seeds that it needs
 unfoldable pub provided : Job → Result (Unit {0}) Reason
@@ -34,6 +27,12 @@ accepted_of h = do
   g ← admitted h
   u ← provided (job_with h g)
   Ok (job_with h g)
+
+-- the purposes for which a header is read: making a job and auditing aren't built
+abbrev pub IsBuilt : Purpose → Type 0
+IsBuilt Make = ⊥
+IsBuilt Audit = ⊥
+IsBuilt _ = Unit {0}
 
 -- the job of a header line
 unfoldable pub job_header_of : Purpose → ℕ → List ℕ → Result Job Reason
@@ -67,9 +66,13 @@ abbrev pub of_lines : Purpose → List (ℕ × List ℕ) → Result (Job × List
 of_lines purpose [] = Err (NotJson 1)
 of_lines purpose (l ∷ ls) = job_header_of purpose l.0 l.1 >>= λ job. events_of job 0 ls >>= λ events. Ok (job, events)
 
+-- the names of the parties that an offer's bytes speak of
+abbrev pub names_of_offer : Purpose → List ℕ → List (List ℕ)
+names_of_offer purpose bytes = names_in purpose (filled_lines 1 (lines_of bytes))
+
 -- the job and the events of an offer's bytes
 unfoldable pub job_of : Purpose → List ℕ → Result (Job × List Event) Reason
-job_of purpose bytes = of_lines purpose (written 1 (lines_of bytes))
+job_of purpose bytes = of_lines purpose (filled_lines 1 (lines_of bytes))
 
 -- A job whose deal is well sized, with a name, a role and perhaps a seed per party.
 pub record IsWhole (job : Job) : Type 0 where

@@ -2,3 +2,5 @@ pub mod Lines
 pub mod Checks
 pub mod Wallets
 pub mod Job
+pub mod Laws
+pub mod Certificates

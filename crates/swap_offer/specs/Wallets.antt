@@ -1,5 +1,6 @@
 -- The seeds that a job needs, and whether they are those of its deal.
-use Rattle.std.specs.Prelude.{◌≡◌, ℕ, ◌<◌, ◌&&◌, Bool, true, false, List, [], is_none, slice_index_or, option_map, if◌then◌else◌, Option, Some, None, Result, Ok}
+use Rattle.std.specs.Prelude.{◌≡◌, ℕ, ◌<◌, ◌&&◌, Bool, true, false, List, [], is_none, slice_index_or, option_map, if◌then◌else◌, Option, Some, None, Result}
+use Rattle.std.specs.Prelude.{Ok}
 use Rattle.std.specs.List.{range_with_len}
 use Rattle.swap_base.specs.Lists.{first_of}
 use Rattle.deviator_script.specs.declared.job.Job.{Job}

@@ -7,16 +7,16 @@ ghost use Rattle.swap_digraph.specs.Graph.{HasEnds, IsStronglyConnected, IsFeedb
 ghost use Rattle.leader_check.specs.Levels.{height_of};
 ghost use Rattle.single_leader.specs.Distance.{dist_of};
 ghost use Rattle.offer_header.specs.Header.{IsWithin};
-ghost use Rattle.swap_offer.specs.Checks.{graph_of, connected, one_leader, led, bounded, started, timed, wrong_timelock, checked, role_of, arc_reason};
+ghost use Rattle.swap_offer.specs.Checks.{graph_of, connected, one_leader, led, least_bound, bounded, started, timed, wrong_timelock, checked, role_of};
+ghost use Rattle.swap_offer.specs.Checks.{arc_reason};
 
-use deviator_script::Role;
 use digraph_check::{Strength, strong};
 use leader_check::{LeaderAnswer, Levels, levels};
 use offer_header::Header;
 use refusals::{OfferFault, Reason};
 use single_leader::dist;
 use std::alloc::Global;
-use swap_base::{ArcId, Fault, Listed, NoMemory, PartyId, TryCopy};
+use swap_base::{ArcId, Fault, PartyId, TryCopy};
 use swap_digraph::{ArcFault, Digraph, Mode, Version};
 use time_bounds::{need, timelock};
 
@@ -47,7 +47,7 @@ pub(crate) fn graph_in(alloc: Global, header: &Header) -> Result<Digraph, OfferF
 }
 
 #[tactic(auto, unfolding(crate::specs::Checks::connected))]
-fn connected(alloc: Global, graph: &Digraph) -> Result<(), OfferFault>
+fn check_connected(alloc: Global, graph: &Digraph) -> Result<(), OfferFault>
     requires parties { (2 ≤ graph.now.n) × (graph.now.n ≤ 32) }
     requires few { length graph.now.arcs ≤ 128 }
     requires ends { HasEnds graph.now }
@@ -61,7 +61,7 @@ fn connected(alloc: Global, graph: &Digraph) -> Result<(), OfferFault>
 }
 
 #[tactic(auto, unfolding(crate::specs::Checks::one_leader))]
-fn one_leader(mode: Mode, leaders: &[PartyId]) -> Result<(), OfferFault>
+fn check_one_leader(mode: Mode, leaders: &[PartyId]) -> Result<(), OfferFault>
     requires { length leaders.now ≤ 8 }
     ensures { Gives (λ u. u) result (one_leader mode leaders.now) }
 {
@@ -79,7 +79,7 @@ fn one_leader(mode: Mode, leaders: &[PartyId]) -> Result<(), OfferFault>
 
 /// The levels of the followers, or a cycle of theirs as the reason.
 #[tactic(auto, unfolding(crate::specs::Checks::led))]
-fn led(alloc: Global, graph: &Digraph, leaders: &[PartyId]) -> Result<Levels, OfferFault>
+fn check_leaders(alloc: Global, graph: &Digraph, leaders: &[PartyId]) -> Result<Levels, OfferFault>
     requires parties { graph.now.n ≤ 32 }
     requires ends { HasEnds graph.now }
     ensures exact { Gives (λ _. tt) result (led graph.now leaders.now) }
@@ -94,7 +94,7 @@ fn led(alloc: Global, graph: &Digraph, leaders: &[PartyId]) -> Result<Levels, Of
 }
 
 #[tactic(auto, unfolding(crate::specs::Checks::bounded))]
-fn bounded(bound: u32, needed: u32) -> Result<(), OfferFault>
+fn check_bound(bound: u32, needed: u32) -> Result<(), OfferFault>
     ensures { Gives (λ u. u) result (bounded bound needed) }
 {
     if bound < needed {
@@ -105,7 +105,7 @@ fn bounded(bound: u32, needed: u32) -> Result<(), OfferFault>
 }
 
 #[tactic(auto, unfolding(crate::specs::Checks::started))]
-fn started(start: u32, delta: u32) -> Result<(), OfferFault>
+fn check_start(start: u32, delta: u32) -> Result<(), OfferFault>
     ensures { Gives (λ u. u) result (started start delta) }
 {
     if start < delta {
@@ -166,7 +166,12 @@ fn first_wrong_timelock(
 }
 
 #[tactic(auto, unfolding(crate::specs::Checks::timed))]
-fn timed(alloc: Global, header: &Header, graph: &Digraph, levels: &Levels) -> Result<(), OfferFault>
+fn check_timelocks(
+    alloc: Global,
+    header: &Header,
+    graph: &Digraph,
+    levels: &Levels,
+) -> Result<(), OfferFault>
     requires within { IsWithin header.now }
     requires parts { graph.now.arcs ≡ header.now.arcs }
     requires parties { graph.now.n ≡ length header.now.names }
@@ -188,45 +193,27 @@ fn timed(alloc: Global, header: &Header, graph: &Digraph, levels: &Levels) -> Re
     }
 }
 
-/// The checks of a header's digraph, leaders and times, in order.
+/// The least bound of a header whose digraph, leaders and times pass their checks, which come in order.
 #[tactic(auto, unfolding(crate::specs::Checks::checked))]
 pub(crate) fn check_header(
     alloc: Global,
     header: &Header,
     graph: &Digraph,
-) -> Result<(), OfferFault>
+) -> Result<u32, OfferFault>
     requires within { IsWithin header.now }
     requires parts { graph.now.arcs ≡ header.now.arcs }
     requires parties { graph.now.n ≡ length header.now.names }
     requires ends { HasEnds graph.now }
-    ensures { Gives (λ u. u) result (checked header.now graph.now) }
+    ensures exact { Gives (λ _. tt) result (checked header.now graph.now) }
+    ensures need { IfOk result (λ n. n ≡ least_bound graph.now header.now.leaders) }
 {
     let leaders = header.leaders.as_slice();
-    connected(alloc, graph)?;
-    one_leader(header.mode, leaders)?;
-    let levels = led(alloc, graph, leaders)?;
-    bounded(header.bound, need(graph.n(), leaders.len() as u8, levels.h))?;
-    started(header.start, header.delta)?;
-    timed(alloc, header, graph, &levels)
-}
-
-/// The role of each party.
-pub(crate) fn roles_of(alloc: Global, conforming: &[bool]) -> Result<Listed<Role>, NoMemory>
-    ensures { IfOk result (λ l. l ≡ map role_of conforming.now) }
-{
-    let mut roles = Vec::new(alloc);
-    for conforms in conforming {
-        roles.push(role_of(*conforms))?;
-    }
-    Ok(Listed::new(roles))
-}
-
-fn role_of(conforms: bool) -> Role
-    ensures { result ≡ role_of conforms }
-{
-    if conforms {
-        Role::Conforming
-    } else {
-        Role::Manual
-    }
+    check_connected(alloc, graph)?;
+    check_one_leader(header.mode, leaders)?;
+    let levels = check_leaders(alloc, graph, leaders)?;
+    let needed = need(graph.n(), leaders.len() as u8, levels.h);
+    check_bound(header.bound, needed)?;
+    check_start(header.start, header.delta)?;
+    check_timelocks(alloc, header, graph, &levels)?;
+    Ok(needed)
 }

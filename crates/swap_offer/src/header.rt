@@ -1,18 +1,21 @@
 //! The job of a header line, with its wallets.
 
-ghost use Rattle.std.specs.Prelude.{◌≡◌, ℕ, List, IfOk, OnOk, length};
+ghost use Rattle.std.specs.Prelude.{◌≡◌, ℕ, List, IfOk, Ok, OnOk, length};
 ghost use Rattle.swap_base.specs.Fault.{Gives};
 ghost use Rattle.swap_digraph.specs.Deal.{IsWellSized};
 ghost use Rattle.swap_digraph.specs.Graph.{HasEnds};
 ghost use Rattle.swap_rules.specs.Accepted.{IsAccepted};
 ghost use Rattle.refusals.specs.Refusal.{named};
-ghost use Rattle.offer_header.specs.Header.{IsWithin};
-ghost use Rattle.swap_offer.specs.Checks.{deal_with, job_with, unnamed};
+ghost use Rattle.offer_header.specs.declared.header.Header.{Header};
+ghost use Rattle.offer_header.specs.Header.{header_of, IsWithin};
+ghost use Rattle.swap_offer.specs.Checks.{admitted, deal_with, job_with, least_bound, need_of, unnamed};
+ghost use Rattle.swap_offer.specs.Certificates.{Certifies};
 ghost use Rattle.swap_offer.specs.Wallets.{HaveWalletsFor, wallets_for};
-ghost use Rattle.swap_offer.specs.Job.{accepted_of, admitted, job_header_of, names_at, provided, IsWhole};
+ghost use Rattle.swap_offer.specs.Job.{accepted_of, job_header_of, names_at, provided, IsBuilt, IsWhole};
 
-use crate::checks::{check_header, graph_in, roles_of};
+use crate::checks::{check_header, graph_in};
 use crate::prepared::Prepared;
+use crate::roles::roles_of;
 use crate::wallets::{check_seeds, wallets_for};
 use deviator_script::{Job, Purpose};
 use hashkey_path::deal_digest;
@@ -54,18 +57,19 @@ fn job_with(alloc: Global, header: Header, graph: Digraph) -> Result<Job, NoMemo
     })
 }
 
-/// The digraph of a header whose digraph, leaders and times pass their checks.
-#[tactic(auto, unfolding(crate::specs::Job::admitted))]
-fn admit(alloc: Global, header: &Header) -> Result<Digraph, OfferFault>
+/// The digraph of a header whose digraph, leaders and times pass their checks, and the least bound.
+#[tactic(auto, unfolding(crate::specs::Checks::admitted))]
+fn admit(alloc: Global, header: &Header) -> Result<(Digraph, u32), OfferFault>
     requires { IsWithin header.now }
-    ensures exact { Gives (λ g. g) result (admitted header.now) }
-    ensures parts { IfOk result (λ g. (g.n ≡ length header.now.names) × (g.arcs ≡ header.now.arcs)) }
-    ensures ends { IfOk result (λ g. HasEnds g) }
-    ensures accepted { IfOk result (λ g. IsAccepted (deal_with header.now g)) }
+    ensures exact { Gives (λ a. a.0) result (admitted header.now) }
+    ensures parts { IfOk result (λ a. (a.0.n ≡ length header.now.names) × (a.0.arcs ≡ header.now.arcs)) }
+    ensures ends { IfOk result (λ a. HasEnds a.0) }
+    ensures accepted { IfOk result (λ a. IsAccepted (deal_with header.now a.0)) }
+    ensures need { IfOk result (λ a. a.1 ≡ least_bound a.0 header.now.leaders) }
 {
     let graph = graph_in(alloc, header)?;
-    check_header(alloc, header, &graph)?;
-    Ok(graph)
+    let need = check_header(alloc, header, &graph)?;
+    Ok((graph, need))
 }
 
 /// The wallets that a job's purpose needs, where it has the seeds that it needs.
@@ -81,7 +85,7 @@ fn provide(alloc: Global, job: &Job) -> Result<Vec<Option<Wallet>>, OfferFault>
 }
 
 /// The job of a header within its limits, with its wallets. A reason against it takes the header's names.
-#[tactic(auto, using(crate::proofs::Whole::is_whole, crate::proofs::Whole::is_sized, refusals::proofs::Named::still_fails), unfolding(crate::specs::Job::accepted_of))]
+#[tactic(auto, using(crate::proofs::Size::is_whole, crate::proofs::Size::is_sized, refusals::proofs::Named::fails), unfolding(crate::specs::Job::accepted_of))]
 fn accept(alloc: Global, header: Header) -> Result<Prepared, HeaderFault>
     requires { IsWithin header }
     ensures exact { Gives (λ p. p.job) result (named header.names (accepted_of header)) }
@@ -90,34 +94,42 @@ fn accept(alloc: Global, header: Header) -> Result<Prepared, HeaderFault>
     ensures accepted { IfOk result (λ p. IsAccepted p.job.deal) }
     ensures wallets { IfOk result (λ p. HaveWalletsFor header.purpose p.job) }
     ensures made { IfOk result (λ p. p.wallets.items ≡ wallets_for header.purpose p.job) }
+    ensures need { IfOk result (λ p. p.need ≡ need_of p.job.deal) }
+    ensures certified { Certifies header result }
 {
-    let graph = match admit(alloc, &header) {
-        Ok(graph) => graph,
+    let (graph, need) = match admit(alloc, &header) {
+        Ok(admitted) => admitted,
         Err(fault) => return Err(with_names(fault, header.names)),
     };
     let job = job_with(alloc, header, graph)?;
     match provide(alloc, &job) {
-        Ok(wallets) => Ok(Prepared { job, wallets }),
+        Ok(wallets) => Ok(Prepared { job, wallets, need }),
         Err(fault) => Err(with_names(fault, job.names)),
     }
 }
 
 /// The job of a header line with the wallets that its purpose needs, or the first reason against it with the names in the header. Lines are counted from 1.
 ///
-/// For a run and a race there is one place per party: the wallet of a party that conforms and has a seed. For any other purpose there is none, since each wallet is let go once it was examined. A reason against a later line takes the names of the job.
-#[tactic(auto, using(refusals::proofs::Named::still_fails), unfolding(crate::specs::Job::job_header_of, crate::specs::Job::names_at))]
+/// For a run and a race there is one place per party: the wallet of a party that conforms and has a seed. For
+/// any other purpose there is none, since each wallet is let go once it was examined. A reason against a
+/// later line takes the names of the job.
+#[tactic(auto, using(refusals::proofs::Named::fails), unfolding(crate::specs::Job::job_header_of, crate::specs::Job::names_at))]
 pub fn read_header(
     alloc: Global,
     line: u32,
     text: &[u8],
     purpose: Purpose,
 ) -> Result<Prepared, HeaderFault>
+    requires built { IsBuilt purpose }
     ensures exact { Gives (λ p. p.job) result (named (names_at purpose line text.now) (job_header_of purpose line text.now)) }
     ensures names { IfOk result (λ p. p.job.names ≡ names_at purpose line text.now) }
     ensures whole { IfOk result (λ p. IsWhole p.job) }
     ensures accepted { IfOk result (λ p. IsAccepted p.job.deal) }
     ensures wallets { IfOk result (λ p. HaveWalletsFor purpose p.job) }
     ensures made { IfOk result (λ p. p.wallets.items ≡ wallets_for purpose p.job) }
+    ensures need { IfOk result (λ p. p.need ≡ need_of p.job.deal) }
+    // A closed set or a cycle of followers that is named is one of the header's digraph.
+    ensures certified { (h : Header) → header_of purpose line text.now ≡ Ok h → Certifies h result }
 {
     let header = match header_in(alloc, purpose, line, text) {
         Ok(header) => header,

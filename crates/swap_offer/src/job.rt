@@ -1,14 +1,20 @@
 //! The job and the events of an offer.
 
-ghost use Rattle.std.specs.Prelude.{◌≡◌, ◌<◌, ◌^◌, length, IfOk};
+ghost use Rattle.std.specs.Prelude.{◌≡◌, ◌<◌, ◌^◌, ◌∷◌, length, map, IfOk};
 ghost use Rattle.swap_base.specs.Fault.{Gives};
 ghost use Rattle.deviator_script.specs.Step.{CanStep};
-ghost use Rattle.swap_offer.specs.Job.{next_of, IsWhole};
+ghost use Rattle.swap_rules.specs.Accepted.{IsAccepted};
+ghost use Rattle.refusals.specs.Refusal.{named};
+ghost use Rattle.swap_offer.specs.Job.{next_of, events_of, of_lines, job_of, names_at, names_in, names_of_offer, IsBuilt, IsWhole};
 
-use deviator_script::{Event, Job};
+use crate::header::read_header;
+use crate::lines::filled_lines;
+use crate::prepared::Prepared;
+use deviator_script::{Event, Job, Purpose};
 use offer_events::read_event;
-use refusals::{OfferFault, over_limit};
+use refusals::{HeaderFault, OfferFault, Reason, Refusal, over_limit, with_names};
 use std::alloc::Global;
+use swap_base::{Fault, Listed};
 
 /// The most events of an offer.
 const MOST_EVENTS: u32 = 200_000;
@@ -30,4 +36,78 @@ pub fn next_event(
         return Err(over_limit(alloc, line, b"events", MOST_EVENTS as u64 + 1));
     }
     read_event(alloc, job, line, text)
+}
+
+/// The events of the lines.
+fn read_events(alloc: Global, job: &Job, lines: &[(u32, &[u8])]) -> Result<Vec<Event>, OfferFault>
+    requires whole { IsWhole job.now }
+    requires few { length lines.now < 2 ^ 31 }
+    ensures { Gives (λ v. v.items) result (events_of job.now 0 (map (λ l. (l.0, l.1.now)) lines.now)) }
+{
+    let mut events = Vec::new(alloc);
+    'lines: for (count, line) in lines.iter().enumerate() {
+        let event = next_event(alloc, job, count as u32, line.0, line.1)?;
+        events.push(event)?;
+    }
+    Ok(events)
+}
+
+/// The job of a header line and the events of the further lines.
+#[tactic(auto, using(refusals::proofs::Named::fails))]
+fn read_from(
+    alloc: Global,
+    purpose: Purpose,
+    line: u32,
+    text: &[u8],
+    further: &[(u32, &[u8])],
+) -> Result<(Job, Vec<Event>), HeaderFault>
+    requires built { IsBuilt purpose }
+    requires few { length further.now < 2 ^ 31 }
+    ensures exact { Gives (λ j. (j.0, j.1.items)) result (named (names_at purpose line text.now)
+        (of_lines purpose ((line, text.now) ∷ map (λ l. (l.0, l.1.now)) further.now))) }
+    ensures whole { IfOk result (λ j. IsWhole j.0) }
+    ensures accepted { IfOk result (λ j. IsAccepted j.0.deal) }
+{
+    let Prepared { job, .. } = read_header(alloc, line, text, purpose)?;
+    match read_events(alloc, &job, further) {
+        Ok(events) => Ok((job, events)),
+        Err(fault) => Err(with_names(fault, job.names)),
+    }
+}
+
+fn read_lines(
+    alloc: Global,
+    purpose: Purpose,
+    lines: &[(u32, &[u8])],
+) -> Result<(Job, Vec<Event>), HeaderFault>
+    requires built { IsBuilt purpose }
+    requires few { length lines.now < 2 ^ 31 }
+    ensures exact { Gives (λ j. (j.0, j.1.items)) result (named (names_in purpose (map (λ l. (l.0, l.1.now)) lines.now))
+        (of_lines purpose (map (λ l. (l.0, l.1.now)) lines.now))) }
+    ensures whole { IfOk result (λ j. IsWhole j.0) }
+    ensures accepted { IfOk result (λ j. IsAccepted j.0.deal) }
+{
+    if lines.is_empty() {
+        let names = Listed::empty(alloc);
+        let reason = Reason::NotJson(1);
+        return Err(Fault::Refused(Refusal { reason, names }));
+    }
+    let (line, text) = lines[0];
+    read_from(alloc, purpose, line, text, &lines[1..])
+}
+
+/// The job and the events of an offer, or the first reason against it with the names in its header.
+pub fn read_job(
+    alloc: Global,
+    bytes: &[u8],
+    purpose: Purpose,
+) -> Result<(Job, Vec<Event>), HeaderFault>
+    requires built { IsBuilt purpose }
+    requires few { length bytes.now < 2 ^ 31 }
+    ensures exact { Gives (λ j. (j.0, j.1.items)) result (named (names_of_offer purpose bytes.now) (job_of purpose bytes.now)) }
+    ensures whole { IfOk result (λ j. IsWhole j.0) }
+    ensures accepted { IfOk result (λ j. IsAccepted j.0.deal) }
+{
+    let lines = filled_lines(alloc, bytes)?;
+    read_lines(alloc, purpose, &lines)
 }

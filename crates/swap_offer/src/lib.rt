@@ -6,13 +6,16 @@
 mod checks;
 mod header;
 mod job;
+mod laws;
 mod lines;
 mod prepared;
+mod roles;
 mod wallets;
 
 pub use header::read_header;
-pub use job::next_event;
-pub use lines::written;
+pub use job::{next_event, read_job};
+pub use laws::admitted_is_accepted;
+pub use lines::filled_lines;
 pub use offer_events::read_event;
 pub use prepared::Prepared;
 pub use refusals::{HeaderFault, OfferFault, Reason};

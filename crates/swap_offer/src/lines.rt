@@ -2,12 +2,12 @@
 
 ghost use Rattle.std.specs.Prelude.{◌≡◌, ◌+◌, ◌<◌, ◌^◌, ℕ, List, length, map, IfOk, ◌≤◌};
 ghost use Rattle.std.specs.List.{list_all};
-ghost use Rattle.swap_offer.specs.Lines.{before, after, is_blank, is_blank_byte, lines_of, written};
+ghost use Rattle.swap_offer.specs.Lines.{before, after, is_blank, is_blank_byte, lines_of, filled_lines};
 
 use std::alloc::Global;
 use swap_base::NoMemory;
 
-#[tactic(auto, using(crate::proofs::FirstLines::shorter))]
+#[tactic(auto, using(crate::proofs::Filled::shorter))]
 fn first_line(bytes: &[u8]) -> (&[u8], &[u8])
     ensures line { result.0.now ≡ before bytes.now }
     ensures rest { result.1.now ≡ after bytes.now }
@@ -33,10 +33,10 @@ fn is_blank(line: &[u8]) -> bool
 }
 
 /// The lines that aren't blank, with their numbers, counted from 1.
-#[tactic(auto, using(crate::proofs::FirstLines::first_any, crate::proofs::FirstLines::written_cons, crate::proofs::FirstLines::written_none, std::proofs::lemmas::List::map_push))]
-pub fn written(alloc: Global, bytes: &[u8]) -> Result<Vec<(u32, &[u8])>, NoMemory>
+#[tactic(auto, using(crate::proofs::Filled::first, crate::proofs::Filled::one_more, crate::proofs::Filled::none_left, std::proofs::lemmas::List::map_push))]
+pub fn filled_lines(alloc: Global, bytes: &[u8]) -> Result<Vec<(u32, &[u8])>, NoMemory>
     requires { length bytes.now < 2 ^ 31 }
-    ensures lines { IfOk result (λ v. map (λ p. (p.0, p.1.now)) v.items ≡ written 1 (lines_of bytes.now)) }
+    ensures lines { IfOk result (λ v. map (λ p. (p.0, p.1.now)) v.items ≡ filled_lines 1 (lines_of bytes.now)) }
     ensures few { IfOk result (λ v. length v.items ≤ length bytes.now) }
 {
     let mut list = Vec::new(alloc);

@@ -9,4 +9,6 @@ pub struct Prepared {
     pub job: Job,
     /// One place per party, where the purpose needs wallets: that of a party that conforms and has a seed.
     pub wallets: Vec<Option<Wallet>>,
+    /// The least bound that the deal may have, in arcs: no path that ends in a leader has more.
+    pub need: u32,
 }

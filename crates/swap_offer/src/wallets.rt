@@ -108,7 +108,7 @@ fn wallets_of(alloc: Global, job: &Job) -> Result<Vec<Option<Wallet>>, OfferFaul
 
 /// Makes the wallet of each party that conforms and has a seed, one at a time, and lets it go.
 #[tactic(auto, unfolding(crate::specs::Wallets::walleted))]
-fn walleted(alloc: Global, job: &Job) -> Result<(), OfferFault>
+fn check_wallets(alloc: Global, job: &Job) -> Result<(), OfferFault>
     requires whole { IsWhole job.now }
     ensures { Gives (λ u. u) result (walleted job.now) }
 {
@@ -127,7 +127,7 @@ pub(crate) fn wallets_for(alloc: Global, job: &Job) -> Result<Vec<Option<Wallet>
     match job.purpose {
         Purpose::Run | Purpose::Race => wallets_of(alloc, job),
         _ => {
-            walleted(alloc, job)?;
+            check_wallets(alloc, job)?;
             Ok(Vec::new(alloc))
         }
     }

@@ -1,15 +1,17 @@
 use Rattle.std.proofs.Common.{◌<◌, length, arith}
-use Rattle.offer_events.proofs.Parts.{number_below}
 use Rattle.offer_events.proofs.Fits.{move_arc}
 use Rattle.offer_events.proofs.event.event_of_call.Goals as goal
 
 pub bounds-as_slice-p : goal.bounds-as_slice-p
 bounds-as_slice-p c =
     let job = c.args.job.now in
-    let known : c.in_ok-p.p < length job.names = number_below c.args.line job.names c.args.name.now c.in_ok-p.p (rw (c.as_slice-names.ensures, c.as_slice.ensures) at c.in_ok-p.ensures) in
-    rw c.as_slice-2.ensures (omega (arith, known, c.requires.names, c.requires.conforming))
+    let known : c.in_ok-p.p < length job.names = rw c.as_slice-names.ensures at c.in_ok-p.ensures.below in
+    rw c.as_slice.ensures (omega (arith, known, c.requires.names, c.requires.conforming))
 
-pub placed-requires : goal.placed-requires
-placed-requires c =
+pub check_place-requires : goal.check_place-requires
+check_place-requires c =
     let job = c.args.job.now in
-    record { arc = move_arc job.deal job.names c.args.line c.args.raw.now c.in_ok-mv.mv c.requires.sized c.requires.names (rw c.as_slice-names.ensures at c.in_ok-mv.ensures) }
+    record {
+      arc = move_arc job.deal job.names c.args.line c.args.raw.now c.in_ok-mv.mv c.requires.sized c.requires.names
+          (rw c.as_slice-names.ensures at c.in_ok-mv.ensures);
+    }

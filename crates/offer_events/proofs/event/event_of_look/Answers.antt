@@ -2,5 +2,5 @@ use Rattle.std.specs.Prelude.{codes}
 use Rattle.offer_events.proofs.Fits.{arc_fits}
 use Rattle.offer_events.proofs.event.event_of_look.Goals as goal
 
-pub adjacent-requires : goal.adjacent-requires
-adjacent-requires c = record { arc = arc_fits c.args.job.now.deal c.args.line (codes "arc") c.args.number c.in_ok-arc.arc c.in_ok-arc.ensures }
+pub check_adjacent-requires : goal.check_adjacent-requires
+check_adjacent-requires c = record { arc = arc_fits c.args.job.now.deal c.args.line (codes "arc") c.args.number c.in_ok-arc.arc c.in_ok-arc.ensures }

@@ -1,7 +1,7 @@
 use Rattle.std.proofs.Common.{◌≡◌, codes, drop, length}
 use Rattle.offer_fields.specs.Limits.{digest_of}
-use Rattle.offer_events.specs.Lists.{each_of}
-use Rattle.offer_events.proofs.Lists.{with_front}
+use Rattle.offer_fields.specs.Lists.{each_of}
+use Rattle.offer_fields.proofs.Lists.{with_front}
 use Rattle.offer_events.proofs.limits.digests_of.Given as goal
 
 abbrev pub invariant-loop-text : goal.invariant-loop-text

@@ -1,7 +1,7 @@
 use Rattle.std.proofs.Common.{◌≡◌, drop}
-use Rattle.offer_events.specs.Lists.{each_of}
+use Rattle.offer_fields.specs.Lists.{each_of}
 use Rattle.offer_events.specs.Limits.{sig_of}
-use Rattle.offer_events.proofs.Lists.{with_front}
+use Rattle.offer_fields.proofs.Lists.{with_front}
 use Rattle.offer_events.proofs.limits.sigs_of.Given as goal
 
 abbrev pub invariant-loop-text : goal.invariant-loop-text

@@ -6,4 +6,9 @@ pub loop-rest-init : goal.loop-rest-init
 loop-rest-init c = record { same = first_digit c.args.first c.args.text.now (omega arith) (omega arith); some = omega arith; small = omega arith }
 
 pub loop-rest-preserved : goal.loop-rest-preserved
-loop-rest-preserved c = record { same = c.loop-rest.invariant.same ∙ goes_on c.loop-rest.value c.loop-rest.rest.now (omega arith) (omega arith) (omega arith) (omega arith) (omega arith); some = omega arith; small = omega arith }
+loop-rest-preserved c = record {
+  same = c.loop-rest.invariant.same ∙ goes_on c.loop-rest.value c.loop-rest.rest.now (omega arith) (omega arith)
+      (omega arith) (omega arith) (omega arith);
+  some = omega arith;
+  small = omega arith;
+}

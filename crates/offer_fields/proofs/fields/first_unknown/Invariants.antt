@@ -4,4 +4,5 @@ use Rattle.offer_fields.specs.Fields.{first_unknown}
 use Rattle.offer_fields.proofs.fields.first_unknown.Given as goal
 
 abbrev pub invariant-loop-key : goal.invariant-loop-key
-invariant-loop-key l = first_unknown (map (λ w. w.now) l.allowed) (members_view l.key-iterator) ≡ first_unknown (map (λ w. w.now) l.allowed) (members_view l.members.entries)
+invariant-loop-key l = first_unknown (map (λ w. w.now) l.allowed) (members_view l.key-iterator) ≡ first_unknown (map (λ w. w.now) l.allowed)
+    (members_view l.members.entries)

@@ -6,4 +6,5 @@ pub returns-clause-within : goal.returns-clause-within
 returns-clause-within c =
     let raw = c.in_ok-raw.raw in
     let numbered = c.in_ok-numbered.numbered in
-    within_from_gives c.args.line c.args.purpose raw numbered c.limited_in.result (is_numbered c.args.line raw numbered c.in_ok-numbered.ensures) c.in_ok-raw.ensures.untimed c.limited_in.ensures.exact
+    within_from_gives c.args.line c.args.purpose raw numbered c.limited_in.result
+    (is_numbered c.args.line raw numbered c.in_ok-numbered.ensures) c.in_ok-raw.ensures.untimed c.limited_in.ensures.exact

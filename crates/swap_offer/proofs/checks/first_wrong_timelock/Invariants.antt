@@ -6,4 +6,5 @@ use Rattle.swap_offer.specs.Checks.{wrong_timelock}
 use Rattle.swap_offer.proofs.checks.first_wrong_timelock.Given as goal
 
 abbrev pub invariant-loop-arc : goal.invariant-loop-arc
-invariant-loop-arc l = first_of (wrong_timelock l.header l.graph l.leader) (range_with_len l.arc (length l.graph.arcs - l.arc)) ≡ first_of (wrong_timelock l.header l.graph l.leader) (arcs l.graph)
+invariant-loop-arc l = first_of (wrong_timelock l.header l.graph l.leader) (range_with_len l.arc (length l.graph.arcs - l.arc)) ≡ first_of
+    (wrong_timelock l.header l.graph l.leader) (arcs l.graph)

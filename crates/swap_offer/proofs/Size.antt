@@ -10,7 +10,8 @@ use Rattle.offer_header.specs.Header.{IsWithin, HasKeysFor}
 use Rattle.swap_offer.specs.Checks.{unnamed, deal_with, job_with}
 use Rattle.swap_offer.specs.Job.{IsWhole}
 
-keys_of : (m : Mode) (h : Header) (g : Graph) (id : List ℕ) → g.n ≡ length h.names → HasKeysFor m (length h.names) (length h.leaders) h.keys → HasKeys m (unnamed h g id)
+keys_of : (m : Mode) (h : Header) (g : Graph) (id : List ℕ) → g.n ≡ length h.names → HasKeysFor m (length h.names) (length h.leaders) h.keys
+    → HasKeys m (unnamed h g id)
 keys_of Timelocks h g id n k = k
 keys_of Hashkeys h g id n k = (k.0 ∙ sym n, λ p lt. k.1 p (rw n at lt))
 

@@ -8,6 +8,6 @@ abbrev pub found : ℕ → List ℕ → Option ℕ → Result ℕ Reason
 found line name (Some k) = Ok k
 found line name None = Err (Unknown line name)
 
--- the number of the party of that name
-unfoldable pub number_of : ℕ → List (List ℕ) → List ℕ → Result ℕ Reason
-number_of line names name = found line name (position (bytes_eq name) names)
+-- the number of the party of that name is its place among the names, from 0
+unfoldable pub party_of_name : ℕ → List (List ℕ) → List ℕ → Result ℕ Reason
+party_of_name line names name = found line name (position (bytes_eq name) names)

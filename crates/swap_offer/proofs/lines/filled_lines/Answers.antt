@@ -2,15 +2,16 @@ use Rattle.std.proofs.Common.{◌≡◌, ◌++◌, map, ◌∷◌, [], arith, fa
 use Rattle.std.proofs.lemmas.List.{map_push}
 use Rattle.std.proofs.lemmas.Grind.{common_steps}
 use Rattle.swap_offer.specs.Lines.{is_blank, before}
-use Rattle.swap_offer.proofs.FirstLines.{on_written, ended}
-use Rattle.swap_offer.proofs.lines.written.Goals as goal
+use Rattle.swap_offer.proofs.Filled.{on_filled, ended}
+use Rattle.swap_offer.proofs.lines.filled_lines.Goals as goal
 
 pub loop-rest-preserved-in_ok-push : goal.loop-rest-preserved-in_ok-push
 loop-rest-preserved-in_ok-push c =
     let blank : is_blank (before c.loop-rest.rest.now) ≡ false = grind (arith, common_steps) in
     let some : 0 < length c.loop-rest.rest.now = grind (arith, common_steps) in
     record {
-      lines = rw c.first_line.ensures.rest (on_written c.loop-rest.rest.now _ _ _ _ some blank (rw (c.in_ok-push.ensures.items, map_push, c.first_line.ensures.line) refl) c.loop-rest.invariant.lines);
+      lines = rw c.first_line.ensures.rest (on_filled c.loop-rest.rest.now _ _ _ _ some blank
+          (rw (c.in_ok-push.ensures.items, map_push, c.first_line.ensures.line) refl) c.loop-rest.invariant.lines);
       few = omega (arith, c.first_line.ensures.shorter some);
       count = rw c.in_ok-push.ensures.items (omega (arith, c.loop-rest.invariant.count, length-append c.loop-rest.list.items));
     }

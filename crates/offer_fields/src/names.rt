@@ -1,0 +1,34 @@
+//! Names by their numbers.
+
+ghost use Rattle.std.specs.Prelude.{◌≡◌, ◌<◌, ◌≤◌, ℕ, List, length, position, IfOk};
+ghost use Rattle.std.specs.Str.{bytes_eq};
+ghost use Rattle.swap_base.specs.Fault.{Gives};
+ghost use Rattle.offer_fields.specs.Names.{party_of_name};
+
+use refusals::{OfferFault, unknown};
+use std::alloc::Global;
+use swap_base::{ByteText, PartyId};
+
+fn place_of(names: &[ByteText], name: &[u8]) -> Option<usize>
+    ensures { result ≡ position (bytes_eq name.now) names.now }
+{
+    names.iter().position(|known| name == known.as_slice())
+}
+
+/// The number of the party of that name: its place among the names.
+#[tactic(auto, unfolding(crate::specs::Names::party_of_name))]
+pub fn party_of_name(
+    alloc: Global,
+    line: u32,
+    names: &[ByteText],
+    name: &[u8],
+) -> Result<PartyId, OfferFault>
+    requires { length names.now ≤ 256 }
+    ensures exact { Gives (λ p. p) result (party_of_name line names.now name.now) }
+    ensures below { IfOk result (λ p. p < length names.now) }
+{
+    match place_of(names, name) {
+        Some(place) => Ok(place as PartyId),
+        None => Err(unknown(alloc, line, name)),
+    }
+}

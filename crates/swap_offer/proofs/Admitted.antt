@@ -1,0 +1,212 @@
+-- A header within its limits passes its checks exactly where its deal is accepted.
+use Rattle.std.proofs.Common.{◌≡◌, ◌⊎◌, inl, inr, ◌↔◌, ℕ, zero, suc, ◌+◌, ◌<◌, ◌≤◌, Bool, true, false, cond, ◌&&◌, ◌==◌, nat_lt, IsTrue, List, [], ◌∷◌, ◌++◌}
+use Rattle.std.proofs.Common.{length, get_or, take, position}
+use Rattle.std.proofs.Common.{Option, Some, None, Result, Ok, Err, refl, sym, ap, ap₂, ◌∙◌, subst, arith, append-nil, append_assoc, get_or-take, eqb-true}
+use Rattle.std.proofs.Common.{eq-eqb, lt-ltb, slice_index}
+use Rattle.std.proofs.lemmas.Bool.{le-ltb, ne_eqb}
+use Rattle.std.proofs.lemmas.List.{length-take}
+use Rattle.std.specs.List.{position_from}
+use Rattle.std.proofs.lemmas.Iterator.Adapters.{position_from-zero}
+use Rattle.swap_base.specs.Fault.{◌>>=◌}
+use Rattle.swap_base.specs.Lists.{first_of, IsIn}
+use Rattle.swap_base.proofs.Lists.{and_parts, from_range}
+use Rattle.time_bounds.specs.Times.{need, timelock}
+use Rattle.swap_digraph.specs.Value.{Graph}
+use Rattle.swap_digraph.specs.Graph.{ends, ends_in, arcs, is_path, are_followers, HasEnds, HasDistinctEnds, IsFeedback, IsHeight, IsDist}
+use Rattle.swap_digraph.specs.Arcs.{fault_at, first_fault, first_fault_after, graph_or, digraph_of, same_ends}
+use Rattle.swap_digraph.specs.declared.arc_ends.ArcEnds.{ArcEnds}
+use Rattle.swap_digraph.specs.declared.fault.ArcFault.{ArcFault}
+use Rattle.swap_digraph.specs.declared.deal.Mode.{Mode}
+use Rattle.swap_digraph.specs.declared.deal.Mode.TheVariants.{Timelocks, Hashkeys}
+use Rattle.swap_digraph.specs.declared.deal.Version.TheVariants.{One}
+use Rattle.swap_digraph.proofs.Faults.{has_ends}
+use Rattle.digraph_check.proofs.ClosedSets.{none_of_connected}
+use Rattle.leader_check.specs.Levels.{height_of}
+use Rattle.leader_check.proofs.Walks as walks
+use Rattle.leader_check.proofs.Heights as heights
+use Rattle.single_leader.specs.Distance.{dist_of}
+use Rattle.single_leader.proofs.Far.{dist_is, dist_by_rounds, dist_one}
+use Rattle.swap_rules.specs.Accepted.{IsAccepted, IsTimed, HasTimelock}
+use Rattle.refusals.specs.declared.reason.Reason.{Reason}
+use Rattle.refusals.specs.declared.reason.Reason.TheVariants.{WrongTimelock}
+use Rattle.offer_fields.proofs.Chains.{went}
+use Rattle.offer_header.specs.declared.header.Header.{Header}
+use Rattle.offer_header.specs.Header.{IsWithin}
+use Rattle.swap_offer.specs.Checks.{graph_of, by_arcs, digraph_in, connected, unless_closed, one_leader, led, unless_cycle, least_bound, bounded, started}
+use Rattle.swap_offer.specs.Checks.{timed, unless_wrong, wrong_timelock, checked, admitted, deal_with}
+use Rattle.swap_offer.specs.Laws.{AdmittedIsAccepted}
+use Rattle.swap_offer.proofs.Accepted.{no_fault, is_accepted}
+
+abbrev no_arc : ArcEnds
+no_arc = record { from = 0; to = 0 }
+
+-- Arcs that lead from one party to another, no two of them with the same ends, have no fault.
+
+same_true : (a b : ArcEnds) → same_ends a b ≡ true → a ≡ b
+same_true a b e =
+    let t = and_parts (a.from == b.from) (a.to == b.to) e in
+    ap₂ (λ (f t : ℕ). let x : ArcEnds = record { from = f; to = t } in x) (eqb-true a.from b.from t.0) (eqb-true a.to b.to t.1)
+
+is_absent : (f : ArcEnds → Bool) (from : ℕ) (xs : List ArcEnds) → ((j : ℕ) → j < length xs → f (get_or xs j no_arc) ≡ false) → position_from f from xs ≡ None
+is_absent f from [] no = refl
+is_absent f from (x ∷ xs) no = rw (no 0 (omega arith)) (is_absent f (from + 1) xs (λ j lt. no (suc j) (omega arith)))
+
+all_sound : (n : ℕ) (before xs : List ArcEnds) → ((i k : ℕ) → i < length xs → fault_at n One (before ++ take i xs) k (get_or xs i no_arc) ≡ None)
+    → first_fault_after n One before xs ≡ None
+all_sound n before [] no = refl
+all_sound n before (x ∷ xs) no =
+    let head : fault_at n One before (length before) x ≡ None =
+    subst (λ (ys : List ArcEnds). fault_at n One ys (length before) x ≡ None) (append-nil before) (no 0 (length before) (omega arith)) in
+    let tail : first_fault_after n One (before ++ x ∷ []) xs ≡ None =
+    all_sound n (before ++ x ∷ []) xs
+    (λ i k lt. subst (λ (ys : List ArcEnds). fault_at n One ys k (get_or xs i no_arc) ≡ None) (sym (append_assoc before (x ∷ []) (take i xs)))
+    (no (suc i) k (omega arith))) in
+    rw head tail
+
+sound : (n k : ℕ) (before : List ArcEnds) (a : ArcEnds) → a.from < n → a.to < n → (a.from ≡ a.to → ⊥) → position (same_ends a) before ≡ None
+    → fault_at n One before k a ≡ None
+unfolding fault_at
+sound n k before a from to apart none = rw (lt-ltb a.from n from, lt-ltb a.to n to, ne_eqb a.from a.to apart, none) refl
+
+by_test : (b : Bool) → (b ≡ true → ⊥) → b ≡ false
+by_test true no = absurd (no refl)
+by_test false no = refl
+
+not_before : (g : Graph) → HasDistinctEnds g → (i : ℕ) → i < length g.arcs → position (same_ends (get_or g.arcs i no_arc)) (take i g.arcs) ≡ None
+not_before g apart i lt =
+    position_from-zero (same_ends (get_or g.arcs i no_arc)) (take i g.arcs)
+    ∙ is_absent (same_ends (get_or g.arcs i no_arc)) 0 (take i g.arcs)
+    (λ j less.
+    let size = length-take i g.arcs in
+    let low : j < i = omega (arith, less, size) in
+    let there : j < length g.arcs = omega (arith, low, lt) in
+    by_test (same_ends (get_or g.arcs i no_arc) (get_or (take i g.arcs) j no_arc))
+    (λ t.
+    let e : ends g i ≡ ends g j = same_true (get_or g.arcs i no_arc) (get_or (take i g.arcs) j no_arc) t ∙ get_or-take i g.arcs j no_arc low in
+    let same : i ≡ j = apart i j lt there e in
+    absurd (omega (arith, low, same))))
+
+no_fault_of : (g : Graph) → HasEnds g → HasDistinctEnds g → first_fault g.n One g.arcs ≡ None
+unfolding first_fault
+no_fault_of g has apart =
+    all_sound g.n [] g.arcs
+    (λ i k lt. sound g.n k (take i g.arcs) (get_or g.arcs i no_arc) (has.from i lt) (has.to i lt) (has.apart i lt) (not_before g apart i lt))
+
+-- Heights, and first answers.
+
+height_least : (g : Graph) (leaders : List ℕ) (h k : ℕ) → IsHeight g leaders h → IsHeight g leaders k → h ≤ k
+height_least g leaders h k a b = go a.reached
+  where
+    go : (h ≡ 0) ⊎ ((p : List ℕ) × IsTrue (is_path g p) × IsTrue (are_followers leaders p) × (length p ≡ h)) → h ≤ k
+    go (inl e) = omega (arith, e)
+    go (inr p) = let m = b.most p.0 p.1 p.2 in let e = p.3 in omega (arith, m, e)
+
+height_one : (g : Graph) (leaders : List ℕ) (h k : ℕ) → IsHeight g leaders h → IsHeight g leaders k → h ≡ k
+height_one g leaders h k a b =
+    let low = height_least g leaders h k a b in
+    let high = height_least g leaders k h b a in
+    omega (arith, low, high)
+
+none_all : {A B : Type 0} (f : A → Option B) (xs : List A) → ((x : A) → IsIn x xs → f x ≡ None) → first_of f xs ≡ None
+none_all f [] no = refl
+none_all f (x ∷ xs) no = rw (no x (inl refl)) (none_all f xs (λ y i. no y (inr i)))
+
+-- Each check passes.
+
+module _ (h : Header) (a : IsAccepted (deal_with h (digraph_in h))) where
+  graph_is : graph_of h ≡ Ok (digraph_in h)
+  unfolding graph_of digraph_of
+  graph_is = ap (λ (o : Option ArcFault). by_arcs (graph_or (length h.names) h.arcs o)) (no_fault_of (digraph_in h) a.ends a.of_version)
+
+  is_connected : connected (digraph_in h) ≡ Ok tt
+  unfolding connected
+  is_connected = ap unless_closed (none_of_connected (digraph_in h) a.strong)
+
+  is_led : led (digraph_in h) h.leaders ≡ Ok tt
+  unfolding led
+  is_led = ap unless_cycle ((walks.no_cycle_is_feedback (digraph_in h) h.leaders).1 a.feedback)
+
+  has_one : (m : Mode) → IsTimed m (deal_with h (digraph_in h)) → one_leader m h.leaders ≡ Ok tt
+  unfolding one_leader
+  has_one Timelocks t = let e = t.0 in rw (le-ltb 1 (length h.leaders) (omega (arith, e))) refl
+  has_one Hashkeys t = refl
+
+  enough : least_bound (digraph_in h) h.leaders ≤ h.bound
+  enough =
+      let e : height_of (digraph_in h) h.leaders ≡ a.height =
+      height_one (digraph_in h) h.leaders (height_of (digraph_in h) h.leaders) a.height
+      (heights.greatest_level_is_height (digraph_in h) h.leaders a.feedback) a.is_height in
+      subst (λ (k : ℕ). need (length h.names) (length h.leaders) k ≤ h.bound) (sym e) a.bound.0
+
+  is_bounded : bounded h.bound (least_bound (digraph_in h) h.leaders) ≡ Ok tt
+  unfolding bounded
+  is_bounded = rw (le-ltb h.bound (least_bound (digraph_in h) h.leaders) enough) refl
+
+  is_started : started h.start h.delta ≡ Ok tt
+  unfolding started
+  is_started = rw (le-ltb h.start h.delta a.start.0) refl
+
+  module _ (leader : ℕ) (e : h.leaders ≡ leader ∷ []) where
+    is_party : leader < length h.names
+    is_party =
+        let few = a.leaders.0 in
+        subst (λ (l : ℕ). l < length h.names) (ap (λ (ls : List ℕ). get_or ls 0 0) e) (a.leader 0 (omega (arith, few)))
+
+    is_feedback : IsFeedback (digraph_in h) (leader ∷ [])
+    is_feedback = subst (IsFeedback (digraph_in h)) e a.feedback
+
+    near : (v : ℕ) → v < length h.names → IsDist (digraph_in h) leader v (dist_of (digraph_in h) leader v)
+    near v lt =
+        let g : Graph = digraph_in h in
+        let k : ℕ = height_of g (leader ∷ []) in
+        let tall = heights.greatest_level_is_height g (leader ∷ []) is_feedback in
+        let far = dist_is g leader a.ends a.strong is_party is_feedback k k v tall (omega arith) lt in
+        subst (IsDist g leader v) (dist_by_rounds g leader a.ends a.strong is_party is_feedback k v tall lt) far
+
+    right_timelock : IsTimed Timelocks (deal_with h (digraph_in h)) → (b : ℕ) → b < length h.arcs → wrong_timelock h (digraph_in h) leader b ≡ None
+    right_timelock t b lt =
+        let g : Graph = digraph_in h in
+        let v : ℕ = (ends g b).to in
+        let s = t.1 b lt in
+        let same : slice_index h.leaders 0 ≡ leader = ap (λ (ls : List ℕ). get_or ls 0 0) e in
+        let own : IsDist g leader v s.dist = subst (λ (l : ℕ). IsDist g l v s.dist) same s.is_dist in
+        let d : s.dist ≡ dist_of g leader v = dist_one g leader a.ends a.strong is_party is_feedback v s.dist (dist_of g leader v) own
+        (near v (a.ends.to b lt)) in
+        let given : ℕ = slice_index h.timelocks b in
+        let wanted : ℕ = timelock h.start h.delta h.bound (dist_of g leader v) in
+        let right : given ≡ wanted = s.timelock ∙ ap (timelock h.start h.delta h.bound) d in
+        ap (λ (x : Bool). cond x None (Some (WrongTimelock b given wanted))) (eq-eqb given wanted right)
+
+  is_in_time : (m : Mode) → IsTimed m (deal_with h (digraph_in h)) → timed h (digraph_in h) m h.leaders ≡ Ok tt
+  unfolding timed
+  is_in_time Hashkeys t = refl
+  is_in_time Timelocks t = go h.leaders refl
+    where
+      go : (ls : List ℕ) → h.leaders ≡ ls → timed h (digraph_in h) Timelocks ls ≡ Ok tt
+      go [] e = refl
+      go (leader ∷ []) e =
+          ap unless_wrong (none_all (wrong_timelock h (digraph_in h) leader) (arcs (digraph_in h))
+          (λ b i. right_timelock leader e t b (from_range b (length h.arcs) i)))
+      go (x ∷ y ∷ ls) e = refl
+
+  checked_is : checked h (digraph_in h) ≡ Ok tt
+  unfolding checked
+  checked_is = rw (is_connected, has_one h.mode a.timed, is_led, is_bounded, is_started) (is_in_time h.mode a.timed)
+
+  is_admitted : admitted h ≡ Ok (digraph_in h)
+  unfolding admitted
+  is_admitted = rw (graph_is, checked_is) refl
+
+passes : (h : Header) → IsWithin h → admitted h ≡ Ok (digraph_in h) → IsAccepted (deal_with h (digraph_in h))
+unfolding admitted
+passes h k e =
+    let g = went (graph_of h) _ (digraph_in h) e in
+    let c = went (checked h g.0) _ (digraph_in h) g.2 in
+    let same : g.0 ≡ digraph_in h = cc (c.2) in
+    let made : graph_of h ≡ Ok (digraph_in h) = subst (λ (x : Graph). graph_of h ≡ Ok x) same g.1 in
+    let check : checked h (digraph_in h) ≡ Ok c.0 = subst (λ (x : Graph). checked h x ≡ Ok c.0) same c.1 in
+    let has = has_ends (length h.names) One h.arcs (sym (no_fault h (digraph_in h) made)) in
+    is_accepted h (digraph_in h) c.0 k has refl refl made check
+
+pub admitted_is_accepted : AdmittedIsAccepted
+admitted_is_accepted h k = (passes h k, λ a. is_admitted h a)

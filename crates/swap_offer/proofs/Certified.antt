@@ -1,0 +1,231 @@
+-- What the reasons of a header's checks show.
+use Rattle.std.proofs.Common.{◌≡◌, ℕ, ◌<◌, ◌==◌, ◌&&◌, Bool, true, false, cond, nat_lt, is_none, List, [], ◌∷◌, length, slice_index, Option, Some, None}
+use Rattle.std.proofs.Common.{Result, Ok, Err, refl, sym, ap, ◌∙◌, subst, arith}
+use Rattle.std.specs.Prelude.{option_map}
+use Rattle.std.specs.List.{range_with_len}
+use Rattle.swap_base.specs.Fault.{◌>>=◌, Fails, Gives}
+use Rattle.swap_base.specs.declared.fault.Fault.{Fault}
+use Rattle.swap_base.specs.declared.fault.Fault.TheVariants.{Refused, NoMemory}
+use Rattle.swap_base.specs.Lists.{or_else, first_of}
+use Rattle.time_bounds.specs.Times.{timelock}
+use Rattle.swap_digraph.specs.Value.{Graph}
+use Rattle.swap_digraph.specs.Graph.{arcs, ends, HasEnds}
+use Rattle.swap_digraph.specs.Arcs.{first_fault, graph_or, digraph_of}
+use Rattle.swap_digraph.specs.declared.fault.ArcFault.{ArcFault}
+use Rattle.swap_digraph.specs.declared.fault.ArcFault.TheVariants.{OutOfRange, SelfArc, Parallel}
+use Rattle.swap_digraph.specs.declared.deal.Mode.{Mode}
+use Rattle.swap_digraph.specs.declared.deal.Mode.TheVariants.{Timelocks, Hashkeys}
+use Rattle.swap_digraph.specs.declared.deal.Version.TheVariants.{One}
+use Rattle.swap_digraph.proofs.Faults.{has_ends}
+use Rattle.digraph_check.specs.Reach.{closed_set}
+use Rattle.digraph_check.proofs.ClosedSets.{closed_of_set}
+use Rattle.leader_check.specs.Cycles.{follower_cycle}
+use Rattle.leader_check.proofs.Walks as walks
+use Rattle.single_leader.specs.Distance.{dist_of}
+use Rattle.deviator_script.specs.declared.job.Job.{Job}
+use Rattle.deviator_script.specs.declared.job.Purpose.{Purpose}
+use Rattle.deviator_script.specs.declared.job.Purpose.TheVariants.{Check, Run, Race, Make, Audit}
+use Rattle.party_wallet.specs.Fits.{wrong_lock}
+use Rattle.refusals.specs.declared.reason.Reason.{Reason}
+use Rattle.refusals.specs.declared.reason.Reason.TheVariants.{BoundTooSmall, StartTooSoon, ManyLeaders, WrongTimelock, NoSeed, WrongWallet}
+use Rattle.refusals.specs.declared.refusal.Refusal.{Refusal}
+use Rattle.refusals.specs.Refusal.{fault_with, named}
+use Rattle.refusals.proofs.Named.{named_err}
+use Rattle.offer_header.specs.declared.header.Header.{Header}
+use Rattle.offer_header.specs.Header.{IsWithin}
+use Rattle.swap_offer.specs.Checks.{graph_of, by_arcs, arc_reason, digraph_in, connected, unless_closed, one_leader, led, unless_cycle, least_bound, bounded}
+use Rattle.swap_offer.specs.Checks.{started, timed, unless_wrong, wrong_timelock, checked, admitted, job_with}
+use Rattle.swap_offer.specs.Wallets.{conforms, seed_of, no_seed, seeded_for, seeded, wrong_seed, wrong_wallet, walleted}
+use Rattle.swap_offer.specs.Job.{provided, accepted_of}
+use Rattle.swap_offer.specs.Certificates.{IsCertified, Certifies}
+
+-- what a reason shows, where there is one
+abbrev IfBad : {A : Type 0} → (Reason → Type 0) → Result A Reason → Type 0
+IfBad P (Ok x) = Unit {0}
+IfBad P (Err reason) = P reason
+
+abbrev IfThere : (Reason → Type 0) → Option Reason → Type 0
+IfThere P None = Unit {0}
+IfThere P (Some reason) = P reason
+
+then : {A B : Type 0} (P : Reason → Type 0) (m : Result A Reason) (f : A → Result B Reason) → IfBad P m → ((x : A) → m ≡ Ok x → IfBad P (f x))
+    → IfBad P (m >>= f)
+then P (Ok x) f bad rest = rest x refl
+then P (Err reason) f bad rest = bad
+
+if_wrong : (P : Reason → Type 0) (o : Option Reason) → IfThere P o → IfBad P (unless_wrong o)
+if_wrong P None bad = tt
+if_wrong P (Some reason) bad = bad
+
+the_first : (P : Reason → Type 0) (f : ℕ → Option Reason) (xs : List ℕ) → ((x : ℕ) → IfThere P (f x)) → IfThere P (first_of f xs)
+the_first P f [] each = tt
+the_first P f (x ∷ xs) each = go (f x) (each x) (the_first P f xs each)
+  where
+    go : (o : Option Reason) → IfThere P o → IfThere P (first_of f xs) → IfThere P (or_else o (first_of f xs))
+    go None one rest = rest
+    go (Some reason) one rest = one
+
+by_test : (P : Reason → Type 0) (t : Bool) (reason : Reason) → P reason → IfBad P (cond {A = Result (Unit {0}) Reason} t (Err reason) (Ok tt))
+by_test P true reason bad = bad
+by_test P false reason bad = tt
+
+if_so : (P : Reason → Type 0) (t : Bool) (reason : Reason) → P reason → IfThere P (cond t (Some reason) None)
+if_so P true reason bad = bad
+if_so P false reason bad = tt
+
+if_not : (P : Reason → Type 0) (t : Bool) (reason : Reason) → P reason → IfThere P (cond t None (Some reason))
+if_not P true reason bad = tt
+if_not P false reason bad = bad
+
+module _ (h : Header) (k : IsWithin h) where
+  abbrev Shows : Reason → Type 0
+  Shows reason = IsCertified h reason
+
+  of_arcs : IfBad Shows (graph_of h)
+  unfolding graph_of digraph_of
+  of_arcs = go (first_fault (length h.names) One h.arcs)
+    where
+      go : (o : Option ArcFault) → IfBad (IsCertified h) (by_arcs (graph_or (length h.names) h.arcs o))
+      go None = tt
+      go (Some (OutOfRange a)) = tt
+      go (Some (SelfArc a)) = tt
+      go (Some (Parallel a b)) = tt
+
+  -- the digraph that was made is the header's
+  made : (g : Graph) → graph_of h ≡ Ok g → (g ≡ digraph_in h) × HasEnds (digraph_in h)
+  unfolding graph_of digraph_of
+  made g e = go (first_fault (length h.names) One h.arcs) refl e
+    where
+      go : (o : Option ArcFault) → first_fault (length h.names) One h.arcs ≡ o → by_arcs (graph_or (length h.names) h.arcs o) ≡ Ok g
+          → (g ≡ digraph_in h) × HasEnds (digraph_in h)
+      go None s e = let same : digraph_in h ≡ g = cc e in (sym same, has_ends (length h.names) One h.arcs (sym s))
+      go (Some f) s e = absurd (cc e)
+
+  of_connected : HasEnds (digraph_in h) → IfBad Shows (connected (digraph_in h))
+  unfolding connected
+  of_connected has = go (closed_set (digraph_in h)) refl
+    where
+      go : (o : Option (List ℕ)) → closed_set (digraph_in h) ≡ o → IfBad (IsCertified h) (unless_closed o)
+      go None s = tt
+      go (Some set) s = let some = k.parties.0 in closed_of_set (digraph_in h) set has (omega (arith, some)) (sym s)
+
+  of_led : IfBad Shows (led (digraph_in h) h.leaders)
+  unfolding led
+  of_led = go (follower_cycle (digraph_in h) h.leaders) refl
+    where
+      go : (o : Option (List ℕ)) → follower_cycle (digraph_in h) h.leaders ≡ o → IfBad (IsCertified h) (unless_cycle o)
+      go None s = tt
+      go (Some cycle) s = walks.cycle_is (digraph_in h) h.leaders cycle s
+
+  of_one_leader : (m : Mode) → IfBad Shows (one_leader m h.leaders)
+  unfolding one_leader
+  of_one_leader Timelocks = by_test (IsCertified h) (nat_lt 1 (length h.leaders)) (ManyLeaders (length h.leaders)) tt
+  of_one_leader Hashkeys = tt
+
+  of_bounded : (needed : ℕ) → IfBad Shows (bounded h.bound needed)
+  unfolding bounded
+  of_bounded needed = by_test (IsCertified h) (nat_lt h.bound needed) (BoundTooSmall h.bound needed) tt
+
+  of_started : IfBad Shows (started h.start h.delta)
+  unfolding started
+  of_started = by_test (IsCertified h) (nat_lt h.start h.delta) (StartTooSoon h.start h.delta) tt
+
+  of_timelock : (leader a : ℕ) → IfThere Shows (wrong_timelock h (digraph_in h) leader a)
+  of_timelock leader a =
+      let given : ℕ = slice_index h.timelocks a in
+      let wanted : ℕ = timelock h.start h.delta h.bound (dist_of (digraph_in h) leader (ends (digraph_in h) a).to) in
+      if_not (IsCertified h) (given == wanted) (WrongTimelock a given wanted) tt
+
+  of_timed : (m : Mode) (leaders : List ℕ) → IfBad Shows (timed h (digraph_in h) m leaders)
+  unfolding timed
+  of_timed Hashkeys leaders = tt
+  of_timed Timelocks [] = tt
+  of_timed Timelocks (leader ∷ []) =
+      if_wrong (IsCertified h) (first_of (wrong_timelock h (digraph_in h) leader) (arcs (digraph_in h)))
+      (the_first (IsCertified h) (wrong_timelock h (digraph_in h) leader) (arcs (digraph_in h)) (of_timelock leader))
+  of_timed Timelocks (x ∷ y ∷ leaders) = tt
+
+  of_checked : HasEnds (digraph_in h) → IfBad Shows (checked h (digraph_in h))
+  unfolding checked
+  of_checked has =
+      then (IsCertified h) (connected (digraph_in h)) _ (of_connected has)
+      (λ u e. then (IsCertified h) (one_leader h.mode h.leaders) _ (of_one_leader h.mode)
+      (λ v f. then (IsCertified h) (led (digraph_in h) h.leaders) _ of_led
+      (λ w d. then (IsCertified h) (bounded h.bound (least_bound (digraph_in h) h.leaders)) _ (of_bounded (least_bound (digraph_in h) h.leaders))
+      (λ x b. then (IsCertified h) (started h.start h.delta) _ of_started (λ y s. of_timed h.mode h.leaders)))))
+
+  of_admitted : IfBad Shows (admitted h)
+  unfolding admitted
+  of_admitted =
+      then (IsCertified h) (graph_of h) _ of_arcs
+      (λ g e.
+      let m = made g e in
+      subst (λ (x : Graph). IfBad (IsCertified h) (checked h x >>= λ u. let r : Result Graph Reason = Ok x in r)) (sym m.0)
+      (then (IsCertified h) (checked h (digraph_in h)) _ (of_checked m.1) (λ u c. tt)))
+
+  of_seed : (job : Job) (p : ℕ) → IfThere Shows (no_seed job p)
+  of_seed job p = if_so (IsCertified h) (conforms job p && is_none (seed_of job p)) (NoSeed p) tt
+
+  of_seeded : (job : Job) → IfBad Shows (seeded job)
+  unfolding seeded
+  of_seeded job = go job.purpose
+    where
+      all : IfBad (IsCertified h) (unless_wrong (first_of (no_seed job) (range_with_len 0 job.deal.graph.n)))
+      all =
+          if_wrong (IsCertified h) (first_of (no_seed job) (range_with_len 0 job.deal.graph.n))
+          (the_first (IsCertified h) (no_seed job) (range_with_len 0 job.deal.graph.n) (of_seed job))
+
+      go : (purpose : Purpose) → IfBad (IsCertified h) (seeded_for purpose job)
+      go Check = tt
+      go Run = all
+      go Race = all
+      go Make = tt
+      go Audit = tt
+
+  of_wallet : (job : Job) (p : ℕ) → IfThere Shows (wrong_wallet job p)
+  of_wallet job p = go (conforms job p) (seed_of job p)
+    where
+      by_lock : (o : Option ℕ) → IfThere (IsCertified h) (option_map (WrongWallet p) o)
+      by_lock None = tt
+      by_lock (Some lock) = tt
+
+      go : (t : Bool) (o : Option (List ℕ)) → IfThere (IsCertified h) (cond t (wrong_seed job p o) None)
+      go false o = tt
+      go true None = tt
+      go true (Some seed) = by_lock (wrong_lock job.deal p seed)
+
+  of_walleted : (job : Job) → IfBad Shows (walleted job)
+  unfolding walleted
+  of_walleted job =
+      if_wrong (IsCertified h) (first_of (wrong_wallet job) (range_with_len 0 job.deal.graph.n))
+      (the_first (IsCertified h) (wrong_wallet job) (range_with_len 0 job.deal.graph.n) (of_wallet job))
+
+  of_accepted : IfBad Shows (accepted_of h)
+  unfolding accepted_of provided
+  of_accepted =
+      then (IsCertified h) (admitted h) _ of_admitted
+      (λ g e. then (IsCertified h) (provided (job_with h g)) _ (then (IsCertified h) (seeded (job_with h g)) _ (of_seeded (job_with h g))
+      (λ u s. of_walleted (job_with h g))) (λ u p. tt))
+
+  shown_by : (r : Result Job Reason) (reason : Reason) → r ≡ Err reason → IfBad Shows r → IsCertified h reason
+  shown_by (Ok job) reason e bad = absurd (cc e)
+  shown_by (Err given) reason e bad = let same : given ≡ reason = cc e in subst (IsCertified h) same bad
+
+  pub certifies : {X : Type 0} (view : X → Job) (names : List (List ℕ)) (result : Result X (Fault Refusal))
+      → Gives view result (named names (accepted_of h)) → Certifies h result
+  certifies view names (Ok x) e = tt
+  certifies view names (Err NoMemory) e = tt
+  certifies view names (Err (Refused refusal)) e = shown_by (accepted_of h) refusal.reason (named_err names (accepted_of h) refusal e).0 of_accepted
+
+-- where the reader fails before there is a header, nothing is shown of one
+pub no_header : {X : Type 0} (names : List (List ℕ)) (fault : Fault Reason) (read : Result Header Reason) (h : Header) → Fails fault read → read ≡ Ok h
+    → Certifies {X = X} h (Err (fault_with names fault))
+no_header names NoMemory read h f e = tt
+no_header names (Refused reason) read h f e = absurd (cc (sym e ∙ f))
+
+pub along : {X : Type 0} (read : Result Header Reason) (g h : Header) (result : Result X (Fault Refusal)) → read ≡ Ok g → read ≡ Ok h → Certifies g result
+    → Certifies h result
+along {X = X} read g h result e f c =
+    let same : ◌≡◌ {A = Result Header Reason} (Ok g) (Ok h) = sym e ∙ f in
+    let one : g ≡ h = cc same in
+    subst (λ (x : Header). Certifies x result) one c

@@ -1,0 +1,64 @@
+-- The events of lines, read one after the other.
+use Rattle.std.proofs.Common.{◌≡◌, ℕ, ◌+◌, ◌<◌, ◌≤◌, List, [], ◌∷◌, ◌++◌, length, get_or, drop, map, Result, Ok, Err, refl, sym, ap, ◌∙◌, arith, add-one}
+use Rattle.std.proofs.Common.{drop-cons, append_assoc}
+use Rattle.std.proofs.lemmas.List.{append-nil, nil_from_length, length-drop}
+use Rattle.swap_base.specs.Fault.{◌>>=◌, Fails}
+use Rattle.swap_base.specs.declared.fault.Fault.{Fault}
+use Rattle.swap_base.specs.declared.fault.Fault.TheVariants.{Refused, NoMemory}
+use Rattle.deviator_script.specs.declared.job.Job.{Job}
+use Rattle.deviator_script.specs.declared.event.Event.{Event}
+use Rattle.refusals.specs.declared.reason.Reason.{Reason}
+use Rattle.offer_fields.proofs.Lists.{with_front}
+use Rattle.swap_offer.specs.Job.{events_of, next_of}
+
+-- a line as it stands in the text
+abbrev pub line_of : {B : Type 0} → (B → List ℕ) → ℕ × B → ℕ × List ℕ
+line_of text l = (l.0, text l.1)
+
+regroup : (front : List Event) (next : Result Event Reason) (rest : Result (List Event) Reason) →
+    with_front front (next >>= λ e. rest >>= λ es. Ok (e ∷ es)) ≡ next >>= λ e. with_front (front ++ e ∷ []) rest
+regroup front (Ok e) (Ok es) = ap (λ (xs : List Event). let r : Result (List Event) Reason = Ok xs in r) (simp append_assoc)
+regroup front (Ok e) (Err r) = refl
+regroup front (Err r) rest = refl
+
+step_of : (job : Job) (n : ℕ) (front : List Event) (line : ℕ) (text : List ℕ) (rest : List (ℕ × List ℕ)) →
+    with_front front (events_of job n ((line, text) ∷ rest)) ≡ next_of job n line text >>= λ e. with_front (front ++ e ∷ []) (events_of job (n + 1) rest)
+unfolding events_of
+step_of job n front line text rest = regroup front (next_of job n line text) (events_of job (n + 1) rest)
+
+none_left : (job : Job) (n : ℕ) → events_of job n [] ≡ Ok []
+unfolding events_of
+none_left job n = refl
+
+pub starts : (read : Result (List Event) Reason) → with_front [] read ≡ read
+starts (Ok es) = refl
+starts (Err r) = refl
+
+module _ {B : Type 0} (text : B → List ℕ) (job : Job) (ls : List (ℕ × B)) (total : Result (List Event) Reason) where
+  -- what was read, and what is still read
+  abbrev pub left : ℕ → List Event → Result (List Event) Reason
+  left i front = with_front front (events_of job i (map (line_of text) (drop i ls)))
+
+  next : (i : ℕ) (front : List Event) (d : ℕ × B) → i < length ls → left i front ≡ next_of job i (get_or ls i d).0 (text (get_or ls i d).1) >>= λ e.
+      left (i + 1) (front ++ e ∷ [])
+  next i front d lt =
+      let e : drop i ls ≡ get_or ls i d ∷ drop (i + 1) ls = rw (add-one, drop-cons ls i d) refl in
+      ap (λ (xs : List (ℕ × B)). with_front front (events_of job i (map (line_of text) xs))) e
+      ∙ step_of job i front (get_or ls i d).0 (text (get_or ls i d).1) (map (line_of text) (drop (i + 1) ls))
+
+  pub goes_on : (i : ℕ) (front : List Event) (e : Event) (d : ℕ × B) → i < length ls → next_of job i (get_or ls i d).0 (text (get_or ls i d).1) ≡ Ok e
+      → left i front ≡ total
+      → left (i + 1) (front ++ e ∷ []) ≡ total
+  goes_on i front e d lt h so_far = sym (next i front d lt ∙ ap (λ (r : Result Event Reason). r >>= λ x. left (i + 1) (front ++ x ∷ [])) h) ∙ so_far
+
+  pub ends : (f : Fault Reason) (i : ℕ) (front : List Event) (d : ℕ × B) → i < length ls
+      → Fails f (next_of job i (get_or ls i d).0 (text (get_or ls i d).1)) → left i front ≡ total → Fails f total
+  ends NoMemory i front d lt h so_far = tt
+  ends (Refused r) i front d lt h so_far = sym so_far ∙ next i front d lt ∙ ap (λ (q : Result Event Reason). q >>= λ x. left (i + 1) (front ++ x ∷ [])) h
+
+  pub is_done : (i : ℕ) (front : List Event) → length ls ≤ i → left i front ≡ total → total ≡ Ok front
+  is_done i front le so_far =
+      let e : drop i ls ≡ [] = nil_from_length (drop i ls) (omega (arith, length-drop i ls)) in
+      sym so_far ∙ ap (λ (xs : List (ℕ × B)). with_front front (events_of job i (map (line_of text) xs))) e
+      ∙ ap (λ (r : Result (List Event) Reason). with_front front r) (none_left job i)
+      ∙ ap (λ (xs : List Event). let r : Result (List Event) Reason = Ok xs in r) (append-nil front)

@@ -1,0 +1,10 @@
+-- The law of offers, as its contract states it.
+use Rattle.std.specs.Prelude.{◌≡◌, ◌↔◌, Ok}
+use Rattle.swap_rules.specs.Accepted.{IsAccepted}
+use Rattle.offer_header.specs.declared.header.Header.{Header}
+use Rattle.offer_header.specs.Header.{IsWithin}
+use Rattle.swap_offer.specs.Checks.{admitted, deal_with, digraph_in}
+
+-- a header within its limits passes its checks exactly where its deal is accepted
+abbrev pub AdmittedIsAccepted : Type 0
+AdmittedIsAccepted = (h : Header) → IsWithin h → (admitted h ≡ Ok (digraph_in h)) ↔ IsAccepted (deal_with h (digraph_in h))
