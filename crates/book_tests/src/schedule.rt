@@ -17,7 +17,7 @@ use std::alloc::Global;
 use std::process::Abort;
 use std::test::Fail;
 use swap_base::{ByteText, Listed};
-use swap_offer::{Prepared, next_event, read_header, written};
+use swap_offer::{Prepared, filled_lines, next_event, read_header};
 use swap_world::World;
 use transcript_text::report_text;
 
@@ -53,7 +53,7 @@ pub(crate) fn book_of(
 {
     let text = lines_of(alloc, schedule)?;
     assert!(rt; text.len() < 1_000_000);
-    let lines = written(alloc, text.as_bytes())?;
+    let lines = filled_lines(alloc, text.as_bytes())?;
     let events = events_of(alloc, job, &lines)?;
     let mut world = World::new(alloc, job, wallets)?;
     world.run(&events)?;
@@ -80,7 +80,11 @@ fn told(
     schedule: &str,
     taken: &str,
 ) -> Result<ByteText, Fail> {
-    let Prepared { mut job, wallets } = read_header(alloc, 1, header.as_bytes(), Purpose::Run)?;
+    let Prepared {
+        mut job,
+        wallets,
+        ..
+    } = read_header(alloc, 1, header.as_bytes(), Purpose::Run)?;
     let book = book_of(rt, alloc, &job, wallets, schedule)?;
     job.conforming = named(alloc, job.deal.graph.n(), taken)?;
     assert_eq!(rt; job.conforming.len(), job.deal.graph.n() as usize);

@@ -23,8 +23,8 @@ use Rattle.outcome_rules.specs.Promises.{AllAreConforming}
 use Rattle.outcome_rules.proofs.Promises as laws
 use Rattle.refusals.specs.declared.reason.Reason.{Reason}
 use Rattle.swap_offer.specs.Job.{events_of, job_header_of, job_of, of_lines as lines_read}
-use Rattle.swap_offer.specs.Lines.{lines_of, written}
-use Rattle.swap_offer.proofs.Accepted.{went}
+use Rattle.swap_offer.specs.Lines.{lines_of, filled_lines}
+use Rattle.offer_fields.proofs.Chains.{went}
 use Rattle.swap_main.specs.declared.written.Written.{Written}
 use Rattle.swap_main.specs.declared.words.Command.{Command}
 use Rattle.swap_main.specs.Output.{book_of, check_text, finished, purpose_of, report_for, reported, told}
@@ -113,6 +113,6 @@ is_check line text ls job u output h r shown k =
     }
 
 -- What is promised of lines is promised of the input.
-pub promised_lines : {E : Type 0} (command : Command) (input : List ℕ) (result : Result Written E) → IfOk result (λ w. AsRead command (lines_read (purpose_of command) (written 1 (lines_of input))) w) → IfOk result (λ w. AsPromised command input w)
+pub promised_lines : {E : Type 0} (command : Command) (input : List ℕ) (result : Result Written E) → IfOk result (λ w. AsRead command (lines_read (purpose_of command) (filled_lines 1 (lines_of input))) w) → IfOk result (λ w. AsPromised command input w)
 unfolding job_of
 promised_lines command input result p = p

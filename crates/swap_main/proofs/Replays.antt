@@ -9,7 +9,7 @@ use Rattle.deviator_script.specs.declared.event.Event.{Event}
 use Rattle.refusals.specs.declared.reason.Reason.{Reason}
 use Rattle.deviator_script.specs.declared.job.Purpose.{Purpose}
 use Rattle.refusals.specs.declared.reason.Reason.TheVariants.{NotJson}
-use Rattle.swap_offer.specs.Lines.{lines_of, written}
+use Rattle.swap_offer.specs.Lines.{lines_of, filled_lines}
 use Rattle.swap_offer.specs.Job.{events_of, next_of, job_of, job_header_of, of_lines as lines_read}
 use Rattle.swap_digraph.specs.declared.deal.Deal.{Deal}
 use Rattle.swap_run.specs.Run.{Cast, State, run, step, start}
@@ -85,10 +85,10 @@ of_some command [] = by command
 of_some Run (l ∷ ls) = together (job_header_of (purpose_of Run) l.0 l.1) (λ job. events_of job 0 ls) (λ job. step (cast_of job)) (λ job. start job.deal) (λ job s. reported job (finished job.finish (cast_of job) s).book) (λ j. reported j.0 (book_of j.0 j.1)) (λ job es. refl)
 of_some Check (l ∷ ls) = together (job_header_of (purpose_of Check) l.0 l.1) (λ job. events_of job 0 ls) (λ job. passed_over) (λ job. tt) (λ job u. told job) (λ j. told j.0) (λ job es. refl)
 
-pub of_input : (command : Command) (input : List ℕ) → of_lines command (written 1 (lines_of input)) ≡ output_of command input
+pub of_input : (command : Command) (input : List ℕ) → of_lines command (filled_lines 1 (lines_of input)) ≡ output_of command input
 unfolding output_of job_of
-of_input Run input = of_some Run (written 1 (lines_of input))
-of_input Check input = of_some Check (written 1 (lines_of input))
+of_input Run input = of_some Run (filled_lines 1 (lines_of input))
+of_input Check input = of_some Check (filled_lines 1 (lines_of input))
 
 pub of_first : {B : Type 0} (text : B → List ℕ) (command : Command) (ls rest : List (ℕ × B)) (l : ℕ × B) → 0 < length ls → l ≡ get_or ls 0 l → rest ≡ drop 1 ls → of_lines command (map (line_of text) ls) ≡ of_header command l.0 (text l.1) (map (line_of text) rest)
 of_first text command [] rest l some is left = absurd (omega arith)

@@ -4,7 +4,6 @@ use Rattle.swap_base.specs.Fault.{◌>>=◌}
 use Rattle.swap_base.specs.Text.{joined}
 use Rattle.time_bounds.specs.Times as times
 use Rattle.swap_digraph.specs.declared.deal.Deal.{Deal}
-use Rattle.leader_check.specs.Levels.{height_of}
 use Rattle.ledger_core.specs.Book.{Histories}
 use Rattle.deviator_script.specs.declared.event.Event.{Event}
 use Rattle.deviator_script.specs.declared.job.Job.{Job}
@@ -14,8 +13,8 @@ use Rattle.outcome_rules.specs.Report.{report_of}
 use Rattle.transcript_text.specs.Report.{report}
 use Rattle.refusals.specs.declared.reason.Reason.{Reason}
 use Rattle.deviator_script.specs.declared.job.Purpose.{Purpose}
-use Rattle.swap_offer.specs.Lines.{lines_of, written}
-use Rattle.swap_offer.specs.Job.{job_of, names_in}
+use Rattle.swap_offer.specs.Checks.{need_of}
+use Rattle.swap_offer.specs.Job.{job_of, names_of_offer}
 use Rattle.deviator_script.specs.declared.job.Finish.{Finish}
 use Rattle.deviator_script.specs.declared.job.Finish.TheVariants.{Stop, Fair}
 use Rattle.swap_run.specs.Run.{Cast, State, run}
@@ -24,9 +23,6 @@ use Rattle.swap_world.specs.Cast.{cast_of}
 use Rattle.swap_main.specs.declared.written.Written.{Written}
 use Rattle.swap_main.specs.declared.words.Command.{Command}
 use Rattle.swap_main.specs.declared.words.Command.TheVariants.{Check, Run}
-
-abbrev pub need_of : Deal → ℕ
-need_of d = times.need d.graph.n (length d.leaders) (height_of d.graph d.leaders)
 
 -- the text of a checked offer
 unfoldable pub check_text : Deal → List ℕ
@@ -71,4 +67,4 @@ output_of command input = output_for command (job_of (purpose_of command) input)
 
 -- the names of the parties in the input's header; none where it has no header within its limits
 unfoldable pub names_of : Command → List ℕ → List (List ℕ)
-names_of command input = names_in (purpose_of command) (written 1 (lines_of input))
+names_of command input = names_of_offer (purpose_of command) input

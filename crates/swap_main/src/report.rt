@@ -3,9 +3,9 @@
 ghost use Rattle.std.specs.Prelude.{◌≡◌, ◌<◌, ◌≤◌, ◌^◌, ◌∷◌, false, IfOk, length, map};
 ghost use Rattle.swap_base.specs.Fault.{Gives};
 ghost use Rattle.swap_digraph.specs.Deal.{IsWellSized};
-ghost use Rattle.swap_rules.specs.Accepted.{IsAccepted};
 ghost use Rattle.ledger_core.specs.Book.{IsLegalBook};
 ghost use Rattle.refusals.specs.Refusal.{named};
+ghost use Rattle.swap_offer.specs.Checks.{need_of};
 ghost use Rattle.swap_offer.specs.Job.{IsWhole, names_at, names_in, of_lines as lines_read};
 ghost use Rattle.swap_main.specs.Output.{reported, check_text, names_of, output_of, purpose_of};
 ghost use Rattle.swap_main.specs.Promised.{AsPromised, AsRead, IsCheck, IsRun};
@@ -23,7 +23,7 @@ use refusals::{HeaderFault, Reason, Refusal, with_names};
 use std::alloc::Global;
 use swap_base::{Fault, Listed, NoMemory};
 use swap_digraph::Deal;
-use swap_offer::{Prepared, read_header, written};
+use swap_offer::{Prepared, filled_lines, read_header};
 use transcript_text::report_text;
 
 /// The report of a job's book.
@@ -42,7 +42,7 @@ fn reported(alloc: Global, job: &Job, book: &Book) -> Result<Written, NoMemory>
 }
 
 /// What a run writes for the header and the further lines of an input.
-#[tactic(auto, using(refusals::proofs::Named::still_fails), unfolding(crate::specs::Replay::of_run))]
+#[tactic(auto, using(refusals::proofs::Named::fails), unfolding(crate::specs::Replay::of_run))]
 fn of_run(
     alloc: Global,
     line: u32,
@@ -53,7 +53,7 @@ fn of_run(
     ensures exact { Gives (λ w. w) result (named (names_at Purpose.Run line text.now) (of_run line text.now (map (λ l. (l.0, l.1.now)) events.now))) }
     ensures promised { IfOk result (λ w. IsRun (lines_read Purpose.Run ((line, text.now) ∷ map (λ l. (l.0, l.1.now)) events.now)) w) }
 {
-    let Prepared { job, wallets } = read_header(alloc, line, text, Purpose::Run)?;
+    let Prepared { job, wallets, .. } = read_header(alloc, line, text, Purpose::Run)?;
     let mut world = match replay(alloc, &job, wallets, events) {
         Ok(world) => world,
         Err(fault) => return Err(with_names(fault, job.names)),
@@ -63,20 +63,20 @@ fn of_run(
     Ok(reported(alloc, &job, &book)?)
 }
 
-fn told(alloc: Global, deal: &Deal) -> Result<Written, NoMemory>
+fn told(alloc: Global, deal: &Deal, need: u32) -> Result<Written, NoMemory>
     requires sized { IsWellSized deal.now }
-    requires accepted { IsAccepted deal.now }
+    requires need { need ≡ need_of deal.now }
     ensures text { IfOk result (λ w. w.text ≡ check_text deal.now) }
     ensures found { IfOk result (λ w. w.found ≡ false) }
 {
     Ok(Written {
-        text: check_text(alloc, deal)?,
+        text: check_text(alloc, deal, need)?,
         found: false,
     })
 }
 
 /// What a check writes for the header and the further lines of an input.
-#[tactic(auto, using(refusals::proofs::Named::still_fails), unfolding(crate::specs::Replay::of_check))]
+#[tactic(auto, using(refusals::proofs::Named::fails), unfolding(crate::specs::Replay::of_check))]
 fn of_check(
     alloc: Global,
     line: u32,
@@ -87,9 +87,9 @@ fn of_check(
     ensures exact { Gives (λ w. w) result (named (names_at Purpose.Check line text.now) (of_check line text.now (map (λ l. (l.0, l.1.now)) events.now))) }
     ensures promised { IfOk result (λ w. IsCheck (lines_read Purpose.Check ((line, text.now) ∷ map (λ l. (l.0, l.1.now)) events.now)) w) }
 {
-    let Prepared { job, .. } = read_header(alloc, line, text, Purpose::Check)?;
+    let Prepared { job, need, .. } = read_header(alloc, line, text, Purpose::Check)?;
     match pass_over(alloc, &job, events) {
-        Ok(()) => Ok(told(alloc, &job.deal)?),
+        Ok(()) => Ok(told(alloc, &job.deal, need)?),
         Err(fault) => Err(with_names(fault, job.names)),
     }
 }
@@ -131,6 +131,6 @@ pub(crate) fn answer(alloc: Global, command: Command, input: &[u8]) -> Result<Wr
     ensures exact { Gives (λ w. w) result (named (names_of command input.now) (output_of command input.now)) }
     ensures promised { IfOk result (λ w. AsPromised command input.now w) }
 {
-    let lines = written(alloc, input)?;
+    let lines = filled_lines(alloc, input)?;
     of_lines(alloc, command, &lines)
 }

@@ -14,6 +14,8 @@ mod inputs;
 #[cfg(test)]
 mod ledgers;
 #[cfg(test)]
+mod offers;
+#[cfg(test)]
 mod reasons;
 #[cfg(test)]
 mod replies;
