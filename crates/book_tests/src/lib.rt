@@ -16,6 +16,8 @@ mod jobs;
 #[cfg(test)]
 mod lateness;
 #[cfg(test)]
+mod learning;
+#[cfg(test)]
 mod ledgers;
 #[cfg(test)]
 mod memory;

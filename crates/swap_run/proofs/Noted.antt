@@ -1,7 +1,8 @@
 -- What a conforming party has noted stays right: after entries of others, a look of its own, and a due call of its own.
-use Rattle.std.proofs.Common.{append_assoc, ◌≡◌, ◌≢◌, ◌⊎◌, ℕ, ◌<◌, ◌==◌, Bool, true, false, cond, List, [], ◌∷◌, ◌++◌, length, Option, Some, None, refl, sym, ap, ◌∙◌, subst, inl, inr, eqb-true, eq-eqb, set, slice_set}
-use Rattle.std.proofs.lemmas.Bool.{false≢true}
-use Rattle.std.proofs.lemmas.List.{get_or-set_same, get_or-set_other, length-set, set-set}
+use Rattle.std.proofs.Common.{append_assoc, ◌≡◌, ◌≢◌, ◌⊎◌, ℕ, ◌<◌, ◌≤◌, ◌==◌, nat_lt, Bool, true, false, cond, List, [], ◌∷◌, ◌++◌, length, Option, Some, None, refl, sym, ap, ◌∙◌, subst, inl, inr, eqb-true, eq-eqb, ltb-true, ltb-false, arith, zero-add, set}
+use Rattle.std.proofs.lemmas.List.{length-set, set-set}
+use Rattle.std.proofs.lemmas.List.FromFn.{get_or-map-range_with_len, length-map-range_with_len}
+use Rattle.std.proofs.Math.ListN.{get_or-eq_default}
 use Rattle.swap_base.specs.Lists.{IsIn}
 use Rattle.swap_base.proofs.Lists.{from_append}
 use Rattle.swap_digraph.specs.declared.deal.Deal.{Deal}
@@ -17,6 +18,7 @@ use Rattle.swap_rules.specs.Accepted.{IsAccepted}
 use Rattle.swap_rules.specs.Due.{Wallet, Action, due}
 use Rattle.swap_laws.specs.Machine.{Knows, IsWallet, IsSound, noted}
 use Rattle.swap_laws.proofs.Prefixes.{same_or_not}
+use Rattle.swap_laws.proofs.History.{not-true}
 use Rattle.swap_laws.proofs.Machines.{learn_sound, call_sound}
 use Rattle.swap_laws.proofs.Due.{IsDue, is_due}
 use Rattle.swap_laws.proofs.Conducting.{Next, Still, Pushed, history_same, history_other, knows_all}
@@ -26,26 +28,35 @@ use Rattle.swap_run.specs.Run.{Notes, signed_after, known_up_to}
 
 -- The hashkeys that a call signs, in a list and as a function.
 
-noted_at : (signed : List (Option Hashkey)) (key : Hashkey) (i : ℕ) → key.lock < length signed → (x : Bool) → (i == key.lock) ≡ x → signed_in (slice_set signed key.lock (Some key)) i ≡ cond x (Some key) (signed_in signed i)
-noted_at signed key i below true e = ap (signed_in (slice_set signed key.lock (Some key))) (eqb-true i key.lock e) ∙ get_or-set_same signed key.lock (Some key) None below
-noted_at signed key i below false e = get_or-set_other signed key.lock i (Some key) None (λ q. false≢true (sym e ∙ eq-eqb i key.lock q))
+pub signed_below : (signed : List (Option Hashkey)) (c : Call) (i : ℕ) → i < length signed → signed_in (signed_after signed c) i ≡ noted (signed_in signed) c i
+signed_below signed c i lt = get_or-map-range_with_len (noted (signed_in signed) c) 0 (length signed) i i None lt (zero-add i)
 
-signed_at : (signed : List (Option Hashkey)) (c : Call) → ((key : Hashkey) → c ≡ Unlock key → key.lock < length signed) → (i : ℕ) → signed_in (signed_after signed c) i ≡ noted (signed_in signed) c i
-signed_at signed (Publish t) below i = refl
-signed_at signed (Unlock key) below i = noted_at signed key i (below key refl) (i == key.lock) refl
-signed_at signed Claim below i = refl
-signed_at signed Refund below i = refl
-signed_at signed (Transfer to units) below i = refl
+pub signed_length : (signed : List (Option Hashkey)) (c : Call) → length (signed_after signed c) ≡ length signed
+signed_length signed c = length-map-range_with_len (noted (signed_in signed) c) 0 (length signed)
+
+none_above : (signed : List (Option Hashkey)) (c : Call) → ((key : Hashkey) → c ≡ Unlock key → key.lock < length signed) → (i : ℕ) → length signed ≤ i
+    → noted (signed_in signed) c i ≡ None
+none_above signed (Publish t) below i le = get_or-eq_default signed None le
+none_above signed (Unlock key) below i le =
+    let lt : key.lock < length signed = below key refl in
+    let apart : i ≢ key.lock = λ q. absurd (omega (arith, q, lt, le)) in
+    ap (λ b. cond b (Some key) (signed_in signed i)) (not-true (i == key.lock) (λ t. apart (eqb-true i key.lock t))) ∙ get_or-eq_default signed None le
+none_above signed Claim below i le = get_or-eq_default signed None le
+none_above signed Refund below i le = get_or-eq_default signed None le
+none_above signed (Transfer to units) below i le = get_or-eq_default signed None le
+
+signed_at : (signed : List (Option Hashkey)) (c : Call) → ((key : Hashkey) → c ≡ Unlock key → key.lock < length signed) → (i : ℕ)
+    → signed_in (signed_after signed c) i ≡ noted (signed_in signed) c i
+signed_at signed c below i = go (nat_lt i (length signed)) refl
+  where
+    go : (b : Bool) → nat_lt i (length signed) ≡ b → signed_in (signed_after signed c) i ≡ noted (signed_in signed) c i
+    go true e = signed_below signed c i (ltb-true i (length signed) e)
+    go false e =
+        let le : length signed ≤ i = ltb-false i (length signed) e in
+        get_or-eq_default (signed_after signed c) None (subst (λ m. m ≤ i) (sym (signed_length signed c)) le) ∙ sym (none_above signed c below i le)
 
 signed_is : (signed : List (Option Hashkey)) (c : Call) → ((key : Hashkey) → c ≡ Unlock key → key.lock < length signed) → signed_in (signed_after signed c) ≡ noted (signed_in signed) c
 signed_is signed c below = λ j i. signed_at signed c below i j
-
-signed_length : (signed : List (Option Hashkey)) (c : Call) → length (signed_after signed c) ≡ length signed
-signed_length signed (Publish t) = refl
-signed_length signed (Unlock key) = length-set signed key.lock (Some key)
-signed_length signed Claim = refl
-signed_length signed Refund = refl
-signed_length signed (Transfer to units) = refl
 
 -- Notes of v that are right over a book.
 pub record Holds (d : Deal) (b : Histories) (n : Notes) (v : ℕ) : Type 0 where

@@ -1,11 +1,11 @@
 -- The run of a schedule: the histories that its events lead to, and what each conforming party has noted on the way.
-use Rattle.std.specs.Prelude.{ℕ, ◌+◌, Bool, true, false, List, [], ◌∷◌, ◌++◌, length, replicate, slice_set, slice_index_or, fold, Option, Some, None, if◌then◌else◌}
+use Rattle.std.specs.Prelude.{ℕ, ◌+◌, Bool, true, false, List, [], ◌∷◌, ◌++◌, length, map, replicate, slice_set, slice_index_or, fold, Option, Some, None, if◌then◌else◌}
+use Rattle.std.specs.List.{range_with_len}
 use Rattle.swap_digraph.specs.declared.deal.Deal.{Deal}
 use Rattle.hashkey_path.specs.declared.hashkey.Hashkey.{Hashkey}
 use Rattle.escrow_core.specs.declared.reply.Reply.{Reply}
 use Rattle.escrow_core.specs.declared.reply.Reply.TheVariants.{ClockFull}
 use Rattle.ledger_core.specs.declared.entry.Call.{Call}
-use Rattle.ledger_core.specs.declared.entry.Call.TheVariants as calls
 use Rattle.ledger_core.specs.declared.entry.Entry.{Entry}
 use Rattle.ledger_core.specs.History.{height, reply_to_tick}
 use Rattle.ledger_core.specs.Ledger.{after_call, tick_entry}
@@ -15,6 +15,7 @@ use Rattle.deviator_script.specs.declared.event.Event.{Event}
 use Rattle.deviator_script.specs.declared.event.Event.TheVariants.{Tick, Look, Act, Call as Made}
 use Rattle.deviator_script.specs.Resolved.{arc_of, call_of}
 use Rattle.swap_rules.specs.Due.{Wallet, Action, due, first}
+use Rattle.swap_laws.specs.Machine.{noted}
 
 -- Who takes part in a run: its deal, which parties conform, and what each signs with.
 pub record Cast : Type 0 where
@@ -40,10 +41,9 @@ conforms c v = slice_index_or c.conforming v false
 abbrev pub notes_of : State → ℕ → Notes
 notes_of s v = slice_index_or s.notes v (record { known = []; signed = [] })
 
--- the hashkeys that were signed, after a call
+-- the hashkeys that were signed, lock by lock, after a call
 abbrev pub signed_after : List (Option Hashkey) → Call → List (Option Hashkey)
-signed_after signed (calls.Unlock key) = slice_set signed key.lock (Some key)
-signed_after signed _ = signed
+signed_after signed c = map (noted (signed_in signed) c) (range_with_len 0 (length signed))
 
 -- What calls and ticks do to a history.
 
