@@ -18,7 +18,7 @@ use Rattle.swap_rules.specs.Accepted.{IsAccepted}
 use Rattle.swap_rules.specs.Due.{Wallet, Action, due}
 use Rattle.swap_laws.specs.Machine.{Knows, IsWallet, IsSound, noted}
 use Rattle.swap_laws.proofs.Prefixes.{same_or_not}
-use Rattle.swap_laws.proofs.History.{not-true}
+use Rattle.ledger_core.proofs.History.{not-true}
 use Rattle.swap_laws.proofs.Machines.{learn_sound, call_sound}
 use Rattle.swap_laws.proofs.Due.{IsDue, is_due}
 use Rattle.swap_laws.proofs.Conducting.{Next, Still, Pushed, history_same, history_other, knows_all}
