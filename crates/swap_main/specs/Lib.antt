@@ -3,3 +3,4 @@ pub mod Output
 pub mod Promised
 pub mod Top
 pub mod Replay
+pub mod Exit

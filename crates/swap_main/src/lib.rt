@@ -4,6 +4,7 @@
 #![tactic(auto)]
 
 mod check;
+mod exit;
 mod finish;
 mod replay;
 mod report;
@@ -12,6 +13,7 @@ mod top;
 mod words;
 mod written;
 
+pub use exit::{Exit, Told, ending};
 pub use refusals::refusal_line;
 pub use status::Status;
 pub use top::swap_top;

@@ -29,6 +29,7 @@ pub fn swap_top<S: Source, K: Sink>(
 ) -> Status
     // What each status says.
     ensures words { (result ≡ Status.WrongWords) ↔ (command_of (map string_bytes words.now.items) ≡ None) }
+    ensures unread { result ≡ Status.WrongWords → source.new ≡ source.old }
     ensures done { result ≡ Status.Done → IsDone (map string_bytes words.now.items) (S.left source.old) (S.left source.new) (K.taken sink.old) (K.taken sink.new) false }
     ensures named { result ≡ Status.Named → IsDone (map string_bytes words.now.items) (S.left source.old) (S.left source.new) (K.taken sink.old) (K.taken sink.new) true }
     ensures refused { (reason : Reason) (names : List (List ℕ)) → result ≡ Status.Refused reason names → IsRefused (map string_bytes words.now.items) (S.left source.old) (S.left source.new) reason names }
