@@ -1,0 +1,4 @@
+pub mod Lines
+pub mod Value
+pub mod Seat
+pub mod Pass

@@ -1,0 +1,63 @@
+-- What the lock keeps of a ledger: a line on its deal and its arc, which stay, and then each entry.
+use Rattle.std.specs.Prelude.{ℕ, ◌==◌, Bool, List, [], ◌∷◌, filter, if◌then◌else◌}
+use Rattle.swap_digraph.specs.declared.deal.Deal.{Deal}
+use Rattle.swap_digraph.specs.declared.deal.Mode.TheVariants.{Timelocks}
+use Rattle.swap_digraph.specs.declared.deal.Version.TheVariants.{One}
+use Rattle.swap_digraph.specs.Deal.{party, counterparty}
+use Rattle.ledger_core.specs.declared.entry.Entry.{Entry}
+use Rattle.ledger_core.specs.declared.entry.Sender.{Sender}
+use Rattle.ledger_core.specs.declared.entry.Sender.TheVariants.{Party, Clock}
+use Rattle.ledger_shared.specs.declared.shelf.Line.{Line}
+use Rattle.ledger_shared.specs.declared.shelf.Line.TheVariants.{Head, Made}
+
+-- the number of the seat that makes the sender's entries: 0 for the arc's party, 1 for its counterparty, 2 for the clock
+abbrev pub side_of : Deal → ℕ → Sender → ℕ
+side_of d a (Party p) = if p == party d a then 0 else (if p == counterparty d a then 1 else 2)
+side_of d a Clock = 2
+
+-- the entries of one side
+abbrev pub entries_on : Deal → ℕ → ℕ → List Entry → List Entry
+entries_on d a k h = filter (λ e. side_of d a e.sender == k) h
+
+abbrev pub made_lines : Deal → ℕ → List Entry → List Line
+made_lines d a [] = []
+made_lines d a (e ∷ es) = Made (side_of d a e.sender) e ∷ made_lines d a es
+
+abbrev pub lines : Deal → ℕ → List Entry → List Line
+lines d a h = Head d a ∷ made_lines d a h
+
+abbrev pub author_of : Line → ℕ
+author_of (Head d a) = 2
+author_of (Made k e) = k
+
+-- What the lines say.
+
+abbrev pub entries_in : List Line → List Entry
+entries_in [] = []
+entries_in (Head d a ∷ ls) = entries_in ls
+entries_in (Made k e ∷ ls) = e ∷ entries_in ls
+
+abbrev pub arc_in : List Line → ℕ
+arc_in (Head d a ∷ ls) = a
+arc_in _ = 0
+
+abbrev pub no_deal : Deal
+no_deal =
+    record {
+      version = One;
+      graph = record { n = 0; arcs = [] };
+      leaders = [];
+      start = 0;
+      delta = 0;
+      bound = 0;
+      mode = Timelocks;
+      amounts = [];
+      hashlocks = [];
+      keys = [];
+      timelocks = [];
+      id = [];
+    }
+
+abbrev pub deal_in : List Line → Deal
+deal_in (Head d a ∷ ls) = d
+deal_in _ = no_deal

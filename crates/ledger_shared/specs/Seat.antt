@@ -1,0 +1,62 @@
+-- A seat at the lock of a ledger, in words of the ledger's entries.
+use Rattle.std.specs.Prelude.{◌≡◌, ℕ, Bool, true, false, List, ◌++◌}
+use Rattle.std.specs.List.{AllByRecursion}
+use mathlib.Core.List.{IsPrefix}
+use Rattle.atomic_table.specs.Seated.{TableId}
+use Rattle.turn_lock.specs.Turns.{Sat, idle, busy, opening_of, number_of, known_of}
+use Rattle.swap_digraph.specs.declared.deal.Deal.{Deal}
+use Rattle.ledger_core.specs.declared.entry.Entry.{Entry}
+use Rattle.ledger_core.specs.Value.{LedgerState}
+use Rattle.ledger_shared.specs.declared.shelf.Line.{Line}
+use Rattle.ledger_shared.specs.declared.shelf.Shelf.{Shelf}
+use Rattle.ledger_shared.specs.declared.seat.LedgerSeat.TheInside.{Inside}
+use Rattle.ledger_shared.specs.Lines.{lines, entries_in, deal_in, arc_in, side_of, entries_on}
+
+pub record SeatState : Type 0 where
+  pub lock : TableId
+  pub deal : Deal
+  pub arc : ℕ
+  pub number : ℕ
+  -- whether it has the turn
+  pub holds : Bool
+  -- the history that was shared
+  pub shared : List Entry
+  -- the history that it knows
+  pub known : List Entry
+
+abbrev pub state_of : TableId → Sat Shelf Line → SeatState
+state_of lock m = record { lock = lock; deal = deal_in (opening_of m); arc = arc_in (opening_of m); number = number_of m; holds = m.0.holds; shared = entries_in (opening_of m); known = entries_in (known_of m) }
+
+abbrev pub seat_of : Inside → SeatState
+seat_of s = state_of s.seat.table_id s.seat.me
+
+-- with the turn or without
+abbrev pub at : Bool → List Line → ℕ → List Line → Sat Shelf Line
+at true o k h = busy o k h
+at false o k h = idle o k h
+
+-- What it knows are lines on the same deal and arc.
+abbrev pub IsAt : SeatState → Sat Shelf Line → Type 0
+IsAt s m = m ≡ at s.holds (lines s.deal s.arc s.shared) s.number (lines s.deal s.arc s.known)
+
+abbrev pub KnowsLines : Inside → Type 0
+KnowsLines s = IsAt (seat_of s) s.seat.me
+
+-- the same seat, with the turn or without, which knows the history h
+abbrev pub knowing : SeatState → Bool → List Entry → SeatState
+knowing s b h = record { lock = s.lock; deal = s.deal; arc = s.arc; number = s.number; holds = b; shared = s.shared; known = h }
+
+-- a seat of a ledger that was shared now
+abbrev pub new_seat : TableId → LedgerState → ℕ → SeatState
+new_seat lock l k = record { lock = lock; deal = l.deal; arc = l.arc; number = k; holds = false; shared = l.history; known = l.history }
+
+-- The ledger is that of the seat, its history goes on from what the seat knows, and has no further entry of its side.
+pub record GoesOn (s : SeatState) (l : LedgerState) : Type 0 where
+  pub deal : l.deal ≡ s.deal
+  pub arc : l.arc ≡ s.arc
+  pub longer : IsPrefix s.known l.history
+  pub own : entries_on s.deal s.arc s.number l.history ≡ entries_on s.deal s.arc s.number s.known
+
+-- The history goes on from what the seat knows, by entries of its side alone.
+abbrev pub IsContinued : SeatState → List Entry → Type 0
+IsContinued s h = (rest : List Entry) × (h ≡ s.known ++ rest) × AllByRecursion (λ e. side_of s.deal s.arc e.sender ≡ s.number) rest

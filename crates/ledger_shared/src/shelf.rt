@@ -1,0 +1,32 @@
+//! The ledger as the value of a lock, with a history that names its deal and its arc.
+
+use ledger_core::{Entry, Ledger};
+use swap_base::ArcId;
+use swap_digraph::Deal;
+use turn_lock::Journal;
+
+/// A line of the history that the lock keeps: the deal and the arc, and then each entry with the number of the seat that makes such entries. No value of it is made.
+#[derive(Drop)]
+pub enum Line {
+    Head(Deal, ArcId),
+    Made(u8, Entry),
+}
+
+#[derive(Drop)]
+pub struct Shelf {
+    pub ledger: Ledger,
+}
+
+impl Journal for Shelf {
+    type Entry = Line;
+
+    ghost use Rattle.ledger_shared.specs.Lines.{lines, author_of};
+
+    ghost history = { λ s. lines s.ledger.deal s.ledger.arc s.ledger.history };
+
+    ghost author = { author_of };
+
+    fn count(&self) -> u64 {
+        self.ledger.len() as u64 + 1
+    }
+}

@@ -1,0 +1,142 @@
+-- The rule of the lock, and what each step tells.
+use Rattle.std.specs.Prelude.{◌≡◌, ◌≢◌, ℕ, ◌+◌, ◌*◌, ◌%◌, ◌<◌, ◌≤◌, ◌^◌, Bool, true, false, List, [], ◌∷◌, ◌++◌, length, Option, Some, None}
+use Rattle.std.specs.Int.{bit_at}
+use Rattle.std.specs.List.{AllByRecursion}
+use mathlib.Core.Option as core
+use mathlib.Core.List.{IsPrefix}
+use lib.ListN.{get_elem?}
+use Rattle.atomic_table.specs.Table.{State, Me, Step}
+use Rattle.atomic_table.specs.Seated.{TableId}
+use Rattle.atomic_table.specs.declared.shared.Seat.{Seat}
+use Rattle.turn_lock.specs.declared.view.View.{View}
+use Rattle.turn_lock.specs.Parts.{entries_by, Part, has_number, number_in, known_in, Covers}
+
+-- where the value is: the lock is being made, or the value is at home, or out with the seat at that place
+pub data Phase (T : Type 0) : Type 0 where
+  early : Phase T
+  home : T → Phase T
+  out : ℕ → Phase T
+
+abbrev pub turn_word : {T : Type 0} → Phase T → ℕ → ℕ
+turn_word early c = 2 * c + 1
+turn_word (home x) c = 2 * c
+turn_word (out j) c = 2 * c + 1
+
+abbrev pub slot_in : {T : Type 0} → Phase T → core.Option (Option T)
+slot_in early = core.some None
+slot_in (home x) = core.some (Some x)
+slot_in (out j) = core.none
+
+module _ {E : Type 0} where
+  -- with no number yet
+  abbrev pub fresh : List E → View E
+  fresh h = record { holds = false; opening = h; parts = [] }
+
+  abbrev pub spent : View E
+  spent = record { holds = false; opening = []; parts = [] }
+
+  abbrev pub resting : List E → ℕ → List E → View E
+  resting o k h = record { holds = false; opening = o; parts = (k, h) ∷ [] }
+
+  abbrev pub turning : List E → ℕ → List E → View E
+  turning o k h = record { holds = true; opening = o; parts = (k, h) ∷ [] }
+
+  abbrev pub both_of : View E → View E → View E
+  both_of v w = record { holds = false; opening = v.opening; parts = v.parts ++ w.parts }
+
+module _ {T E : Type 0} (history : T → List E) (author : E → ℕ) (start : List E) (seats : ℕ) where
+  -- of one number in the view of the seat at the place id
+  pub record IsOwn (owner : ℕ → ℕ) (current : List E) (claimed id : ℕ) (p : ℕ × List E) : Type 0 where
+    pub place : owner p.0 ≡ id
+    pub below : p.0 < seats
+    pub claim : bit_at claimed p.0 ≡ 1
+    pub began : IsPrefix start p.1
+    pub covered : Covers author current p
+
+  pub record Knows (owner : ℕ → ℕ) (phase : Phase T) (current : List E) (claimed id : ℕ) (v : View E) : Type 0 where
+    pub turn : v.holds ≡ true → (phase ≡ out id) × ((k : ℕ) × (v.parts ≡ (k, current) ∷ []))
+    pub own : AllByRecursion (IsOwn owner current claimed id) v.parts
+
+  abbrev pub Stands : List E → ℕ → List (View E) → Phase T → Type 0
+  Stands current claimed views early = (current ≡ start) × (bit_at claimed 0 ≡ 0)
+  Stands current claimed views (home x) = (history x ≡ current) × (bit_at claimed 0 ≡ 1)
+  Stands current claimed views (out j) = ((v : View E) × (get_elem? views j ≡ core.some v) × (v.holds ≡ true)) × (bit_at claimed 0 ≡ 1)
+
+  pub record IsKept (s : State (Option T) (View E)) : Type 0 where
+    pub phase : Phase T
+    pub current : List E
+    pub claimed : ℕ
+    pub owner : ℕ → ℕ
+    pub words : s.words ≡ turn_word phase (length current) ∷ claimed ∷ []
+    pub homes : s.homes ≡ slot_in phase ∷ []
+    pub stands : Stands current claimed s.views phase
+    pub started : IsPrefix start current
+    pub unclaimed : (k : ℕ) → bit_at claimed k ≡ 0 → entries_by author k current ≡ entries_by author k start
+    pub authors : (k : ℕ) → seats ≤ k → entries_by author k current ≡ []
+    pub views : (id : ℕ) (v : View E) → get_elem? s.views id ≡ core.some v → Knows owner phase current claimed id v
+
+abbrev pub Sat : Type 0 → Type 0 → Type 0
+Sat T E = Me (Option T) (View E)
+
+abbrev pub idle : {T E : Type 0} → List E → ℕ → List E → Sat T E
+idle o k h = (resting o k h, [])
+
+-- the value of the slot is out with the caller
+abbrev pub busy : {T E : Type 0} → List E → ℕ → List E → Sat T E
+busy o k h = (turning o k h, (0, None) ∷ [])
+
+-- What a caller says of its seat.
+
+module _ {T E : Type 0} where
+  -- the history that the lock was made with
+  abbrev pub opening_of : Sat T E → List E
+  opening_of m = m.0.opening
+
+  -- the seat's one number
+  abbrev pub number_of : Sat T E → ℕ
+  number_of m = number_in m.0.parts
+
+  -- the history that the seat knows
+  abbrev pub known_of : Sat T E → List E
+  known_of m = known_in m.0.parts
+
+  -- it has one number, and no turn
+  abbrev pub IsIdle : Sat T E → Type 0
+  IsIdle m = m ≡ idle (opening_of m) (number_of m) (known_of m)
+
+  -- it has one number, and the turn, whose value is out
+  abbrev pub IsBusy : Sat T E → Type 0
+  IsBusy m = m ≡ busy (opening_of m) (number_of m) (known_of m)
+
+  -- it has no turn
+  abbrev pub IsResting : Sat T E → Type 0
+  IsResting m = (m.0.holds ≡ false) × (m.1 ≡ [])
+
+-- What each step tells.
+
+module _ {T E : Type 0} where
+  -- the number k, not the first, was free and is the seat's now, or nothing changed
+  abbrev pub Claims : Step (Option T) → Sat T E → ℕ → Sat T E → Type 0
+  Claims st m r m' = (k : ℕ) → k < 64 → st.first ≡ 1 * 2 ^ k % 2 ^ 64 → (bit_at r k ≡ 0 → m' ≡ idle m.0.opening k m.0.opening) × (bit_at r k ≢ 0 → m' ≡ m)
+
+  -- the first number, which has the turn too
+  abbrev pub ClaimsFirst : Step (Option T) → Sat T E → ℕ → Sat T E → Type 0
+  ClaimsFirst st m r m' = (bit_at r 0 ≡ 0 → m' ≡ busy m.0.opening 0 m.0.opening) × (bit_at r 0 ≢ 0 → m' ≡ m)
+
+  -- the word was even, and the seat has the turn with the value that stood there; or nothing changed
+  abbrev pub Takes : (T → List E) → (E → ℕ) → Step (Option T) → Sat T E → ℕ → Sat T E → Type 0
+  Takes history author st m r m' =
+      (r ≡ st.first → (x : T) × (m' ≡ (turning m.0.opening (number_in m.0.parts) (history x), (0, Some x) ∷ [])) × Covers author (history x) (number_in m.0.parts, known_in m.0.parts))
+      × (r ≢ st.first → m' ≡ m)
+
+  -- the holder finds the number that it left there
+  abbrev pub Counts : Step (Option T) → Sat T E → ℕ → Sat T E → Type 0
+  Counts st m r m' = (m' ≡ m) × (r ≡ 2 * length (known_in m.0.parts) + 1)
+
+  abbrev pub Gives : (T → List E) → Step (Option T) → Sat T E → ℕ → Sat T E → Type 0
+  Gives history st m r m' = (x : T) → m.1 ≡ (0, Some x) ∷ [] → m' ≡ idle m.0.opening (number_in m.0.parts) (history x)
+
+-- the seats of a new lock, numbered from k on
+abbrev pub SeatsFrom : {T E : Type 0} → TableId → List E → ℕ → List (Seat (Option T) (View E)) → Type 0
+SeatsFrom lock start k [] = Unit {0}
+SeatsFrom lock start k (s ∷ ss) = ((s.table_id ≡ lock) × (s.me ≡ idle start k start)) × SeatsFrom lock start (k + 1) ss
