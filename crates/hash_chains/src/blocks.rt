@@ -8,7 +8,6 @@ ghost use Rattle.hash_chains.specs.Lanes.{block_words, lane, word_start, word_st
 
 use crate::ops::{V, joined, splat};
 use crate::rounds::first_hash;
-use swap_base::{LockId, PartyId};
 
 // The words of a block: the byte `kind`, the 32 bytes of `y`, the first three of `tail`, the word `next`, zeros, and the length of the message in bits.
 #[inline(always)]
@@ -51,13 +50,13 @@ fn start_of(seed: [V; 8], tail: V) -> [V; 8]
     first_hash(block(1, seed, tail, 0x8000_0000, 288))
 }
 
-fn tail(party: PartyId, lock: LockId, chain: u8) -> u32
+fn tail(party: u8, lock: u8, chain: u8) -> u32
     ensures { take 3 (to_be_bytes w32 result) ≡ party ∷ lock ∷ chain ∷ [] }
 {
     u32::from_be_bytes([party, lock, chain, 0])
 }
 
-fn tails(party: PartyId, lock: LockId, first: u8) -> V
+fn tails(party: u8, lock: u8, first: u8) -> V
     requires { first < 250 }
     ensures { (j : ℕ) → j < 4 → take 3 (to_be_bytes w32 (slice_index result j)) ≡ party ∷ lock ∷ (first + j) ∷ [] }
 {
@@ -70,7 +69,7 @@ fn tails(party: PartyId, lock: LockId, first: u8) -> V
 }
 
 /// The starts of four chains in a row, from the seed that stands in each lane.
-pub(crate) fn four_starts(seed: [V; 8], party: PartyId, lock: LockId, first: u8) -> [V; 8]
+pub(crate) fn four_starts(seed: [V; 8], party: u8, lock: u8, first: u8) -> [V; 8]
     requires { first < 250 }
     ensures { (j : ℕ) → j < 4 → digest_bytes (lane result j) 8 ≡ chain_start (digest_bytes (lane seed j) 8) party lock (first + j) }
 {

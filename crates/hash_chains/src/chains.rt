@@ -10,7 +10,9 @@ use crate::blocks::{chain_step, four_starts};
 use crate::ops::V;
 use crate::values::{four_values, lanes_of};
 use std::marker::Model;
-use swap_base::{Digest, LockId, PartyId};
+
+/// A value of a chain, and the seed that its start is made of.
+pub type ChainValue = [u8; 32];
 
 /// The number of chains of a key: one for each digit of a message and of its checksum.
 pub const CHAINS: usize = 67;
@@ -24,7 +26,7 @@ pub(crate) const FOURS: usize = 17;
 /// What four chains have reached after a number of steps.
 #[derive(Clone, Copy)]
 struct Row {
-    values: [Digest; 4],
+    values: [ChainValue; 4],
 }
 
 /// Four chains, with a row for each number of steps from 0 to 15.
@@ -36,9 +38,9 @@ struct Four {
 /// Each value of each chain of a party's key for one lock: 34 KB.
 #[derive(Drop)]
 pub struct Chains {
-    seed: Digest,
-    party: PartyId,
-    lock: LockId,
+    seed: ChainValue,
+    party: u8,
+    lock: u8,
     fours: [Four; FOURS],
 }
 
@@ -71,7 +73,7 @@ fn walked(start: [V; 8]) -> [Row; 16]
     rows
 }
 
-fn four_chains(seed: &Digest, party: PartyId, lock: LockId, first: u8) -> Four
+fn four_chains(seed: &ChainValue, party: u8, lock: u8, first: u8) -> Four
     requires { first < 250 }
     ensures { AreFourChains seed.now party lock first result }
 {
@@ -83,7 +85,7 @@ fn four_chains(seed: &Digest, party: PartyId, lock: LockId, first: u8) -> Four
 
 impl Chains {
     /// The chains of a party's key for a lock.
-    pub fn new(seed: &Digest, party: PartyId, lock: LockId) -> Chains
+    pub fn new(seed: &ChainValue, party: u8, lock: u8) -> Chains
         ensures { result ≡ record { seed = seed.now; party = party; lock = lock } }
     {
         let mut fours = [four_chains(seed, party, lock, 0); FOURS];
@@ -99,7 +101,7 @@ impl Chains {
     }
 
     /// The value that so many steps lead to from the start of a chain.
-    pub fn value(&self, chain: usize, steps: u8) -> &Digest
+    pub fn value(&self, chain: usize, steps: u8) -> &ChainValue
         requires chain { chain < 67 }
         requires steps { steps ≤ 15 }
         ensures { result.now ≡ chain_after steps (chain_start self.now.seed self.now.party self.now.lock chain) }

@@ -14,4 +14,4 @@ mod rounds;
 mod values;
 
 pub use carry::carried;
-pub use chains::{CHAINS, Chains, STEPS};
+pub use chains::{CHAINS, ChainValue, Chains, STEPS};

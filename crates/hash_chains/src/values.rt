@@ -5,10 +5,10 @@ ghost use Rattle.std.specs.Int.{w32, to_be_bytes};
 ghost use Rattle.sha2.specs.Sha256.{digest_bytes};
 ghost use Rattle.hash_chains.specs.Lanes.{lane};
 
+use crate::chains::ChainValue;
 use crate::ops::V;
-use swap_base::Digest;
 
-fn word(value: &Digest, i: usize) -> u32
+fn word(value: &ChainValue, i: usize) -> u32
     requires { i < 8 }
     ensures bytes { to_be_bytes w32 result ≡ take 4 (drop (4 * i) value.now) }
     ensures long { length value.now ≡ 32 }
@@ -21,7 +21,7 @@ fn word(value: &Digest, i: usize) -> u32
     ])
 }
 
-fn column(values: &[Digest; 4], i: usize) -> V
+fn column(values: &[ChainValue; 4], i: usize) -> V
     requires { i < 8 }
     ensures bytes { (j : ℕ) → j < 4 → to_be_bytes w32 (slice_index result j) ≡ take 4 (drop (4 * i) (slice_index_or values.now j [])) }
     ensures long { (j : ℕ) → j < 4 → length (slice_index_or values.now j []) ≡ 32 }
@@ -35,7 +35,7 @@ fn column(values: &[Digest; 4], i: usize) -> V
 }
 
 /// The words of four values.
-pub(crate) fn lanes_of(values: &[Digest; 4]) -> [V; 8]
+pub(crate) fn lanes_of(values: &[ChainValue; 4]) -> [V; 8]
     ensures { (j : ℕ) → j < 4 → digest_bytes (lane result j) 8 ≡ slice_index_or values.now j [] }
 {
     [
@@ -51,7 +51,7 @@ pub(crate) fn lanes_of(values: &[Digest; 4]) -> [V; 8]
 }
 
 // The value in a lane.
-fn value_at(words: &[V; 8], j: usize) -> Digest
+fn value_at(words: &[V; 8], j: usize) -> ChainValue
     requires { j < 4 }
     ensures { result ≡ digest_bytes (lane words.now j) 8 }
 {
@@ -64,7 +64,7 @@ fn value_at(words: &[V; 8], j: usize) -> Digest
 }
 
 /// The values in the four lanes.
-pub(crate) fn four_values(words: &[V; 8]) -> [Digest; 4]
+pub(crate) fn four_values(words: &[V; 8]) -> [ChainValue; 4]
     ensures { (j : ℕ) → j < 4 → slice_index_or result j [] ≡ digest_bytes (lane words.now j) 8 }
 {
     [

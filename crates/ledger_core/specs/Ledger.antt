@@ -1,5 +1,6 @@
 -- What a ledger keeps beside its history, and what an entry leaves of it.
-use Rattle.std.specs.Prelude.{◌≡◌, ◌+◌, ◌==◌, ◌≤◌, ℕ, Bool, not, nat_lt, List, [], ◌∷◌, ◌++◌, map, Option, Some, None, is_some, option_map, if◌then◌else◌}
+use Rattle.std.specs.Prelude.{◌≡◌, ◌+◌, ◌==◌, ◌≤◌, ℕ, Bool, true, false, not, nat_lt, List, [], ◌∷◌, ◌++◌, map, Option, Some, None, is_some, option_map}
+use Rattle.std.specs.Prelude.{if◌then◌else◌}
 use Rattle.swap_digraph.specs.declared.deal.Deal.{Deal}
 use Rattle.swap_digraph.specs.Deal.{party, counterparty, amount, locks}
 use Rattle.escrow_core.specs.declared.reply.Reply.{Reply}
