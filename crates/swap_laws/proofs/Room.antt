@@ -6,7 +6,7 @@ use Rattle.std.proofs.lemmas.Bool.{false≢true}
 use Rattle.std.proofs.lemmas.List.Sums.{sum_by-append, sum_by-cons}
 use Rattle.swap_base.specs.Lists.{IsIn, IsMoment}
 use Rattle.swap_base.proofs.Lists.{at_moment, list_any-in, in_append, grow, length-range}
-use Rattle.swap_base.proofs.Lists.{bit_le, count_less, not-mono}
+use Rattle.swap_base.proofs.Lists.{bit_le, count_le, count_less, not-mono}
 use Rattle.swap_digraph.specs.declared.deal.Deal.{Deal}
 use Rattle.swap_digraph.specs.Deal.{locks}
 use Rattle.hashkey_path.specs.declared.hashkey.Hashkey.{Hashkey}

@@ -25,7 +25,7 @@ use Rattle.swap_rules.specs.Late.{is_carried, is_used, height_if, greatest_used,
 use Rattle.swap_rules.specs.Forged.{forges, has_made, has_forged_suffix}
 use Rattle.swap_rules.specs.Outcome.{outcome, IsEnded}
 use Rattle.swap_laws.proofs.Entering.{DueUnlock, ready_below, gets_all}
-use Rattle.swap_digraph.proofs.Paths.{in-is_among, last_in, some_length}
+use Rattle.swap_digraph.proofs.Paths.{in-is_among, last_in as end_in, some_length}
 use Rattle.swap_laws.proofs.Words.{leaves, or-left, or-first, key_parts, same_key-path, leader_reads}
 use Rattle.swap_laws.proofs.Times.{HashkeyLaw, below_horizon, deadline_mono, deadline_next, deadline_first, deadline_last, path_of, times_of_hashkeys}
 use Rattle.ledger_core.proofs.History.{done_at, of_unlock, published-past, is_some-of, not-true-of, lock-below}
@@ -169,7 +169,7 @@ module _ (d : Deal) (b : Histories) (v : ℕ) (legal : IsLegalBook d b) (ended :
   shown_hashkeys a i below w l o u =
       let p = path_of d a o.key law.mode u.path in
       let last : last_is v o.key.path ≡ true = subst (λ x. last_is x o.key.path ≡ true) (ap (leader_of d) u.lock ∙ leader_reads d v i below l) p.last in
-      let m = made_of a i w o u (in-is_among v o.key.path (last_in v o.key.path last)) in
+      let m = made_of a i w o u (in-is_among v o.key.path (end_in v o.key.path last)) in
       record { entry = m.entry; key = m.key; stands = m.stands; called = m.called }
 
   ready_hashkeys : (a : ℕ) → IsIn a (leaving d.graph v) → is_triggered d b a ≡ true → is_ready d b v ≡ true
