@@ -1,7 +1,7 @@
 //! A job.
 
 use crate::moves::MoveList;
-use swap_base::{ByteText, Digest, Listed};
+use swap_base::{ByteText, Digest, Listed, NoMemory, TryCopy};
 use swap_digraph::Deal;
 
 /// What an offer is read for.
@@ -21,6 +21,17 @@ pub enum Role {
     Manual,
     Script(MoveList),
     Strategy(ByteText),
+}
+
+impl TryCopy for Role {
+    fn copy(&self) -> Result<Role, NoMemory> {
+        match self {
+            Role::Conforming => Ok(Role::Conforming),
+            Role::Manual => Ok(Role::Manual),
+            Role::Script(moves) => Ok(Role::Script(moves.copy()?)),
+            Role::Strategy(name) => Ok(Role::Strategy(name.copy()?)),
+        }
+    }
 }
 
 /// What is done after the last event.

@@ -2,7 +2,7 @@
 
 use escrow_core::LockList;
 use hashkey_path::Hashkey;
-use swap_base::{ArcId, Listed, LockId, PartyId};
+use swap_base::{ArcId, Listed, LockId, NoMemory, PartyId, TryCopy};
 use swap_digraph::PathList;
 
 /// A move on an arc.
@@ -56,3 +56,58 @@ pub enum Move {
 
 /// Moves, in the order in which they are made.
 pub type MoveList = Listed<Move>;
+
+impl TryCopy for Move {
+    fn copy(&self) -> Result<Move, NoMemory> {
+        match self {
+            Move::Publish {
+                arc,
+                start,
+                delta,
+                bound,
+                timelock,
+                amount,
+                locks,
+            } => Ok(Move::Publish {
+                arc: *arc,
+                start: *start,
+                delta: *delta,
+                bound: *bound,
+                timelock: *timelock,
+                amount: *amount,
+                locks: *locks,
+            }),
+            Move::Craft {
+                arc,
+                lock,
+                via,
+                onto,
+            } => Ok(Move::Craft {
+                arc: *arc,
+                lock: *lock,
+                via: via.copy()?,
+                onto: *onto,
+            }),
+            Move::Replay { arc, lock, onto } => Ok(Move::Replay {
+                arc: *arc,
+                lock: *lock,
+                onto: *onto,
+            }),
+            Move::Raw { arc, key } => Ok(Move::Raw {
+                arc: *arc,
+                key: key.copy()?,
+            }),
+            Move::Claim { arc } => Ok(Move::Claim { arc: *arc }),
+            Move::Refund { arc } => Ok(Move::Refund { arc: *arc }),
+            Move::Transfer { arc, to, units } => Ok(Move::Transfer {
+                arc: *arc,
+                to: *to,
+                units: *units,
+            }),
+            Move::Wait { arc, height } => Ok(Move::Wait {
+                arc: *arc,
+                height: *height,
+            }),
+        }
+    }
+}

@@ -1,0 +1,90 @@
+-- The deal that a number gives lacks only what its parties' seeds give.
+use Rattle.std.proofs.Common.{◌≡◌, ℕ, zero, suc, ◌+◌, ◌-◌, ◌*◌, ◌%◌, ◌^◌, ◌<◌, ◌≤◌, List, length, map, get_or, slice_index, refl, sym, ap, ◌∙◌, subst, arith}
+use Rattle.std.specs.List.{range_with_len}
+use Rattle.std.proofs.Math.Nat.{mod-lt, min-le_left}
+use Rattle.std.proofs.lemmas.List.FromFn.{length-range_with_len, get_or-range_with_len, length-map-range_with_len, get_or-map-range_with_len}
+use Rattle.time_bounds.specs.Times.{need}
+use Rattle.swap_digraph.specs.Graph.{ends, HasEnds, IsHeight}
+use Rattle.swap_digraph.specs.Value.{Graph}
+use Rattle.swap_digraph.specs.declared.deal.Deal.{Deal}
+use Rattle.swap_digraph.specs.declared.deal.Mode.{Mode}
+use Rattle.swap_digraph.specs.declared.deal.Mode.TheVariants.{Timelocks, Hashkeys}
+use Rattle.swap_digraph.specs.declared.deal.Version.TheVariants.{One}
+use Rattle.swap_digraph.proofs.Faults.{has_ends}
+use Rattle.leader_check.specs.Levels.{height_of}
+use Rattle.leader_check.proofs.Heights.{greatest_level_is_height}
+use Rattle.swap_rules.specs.Accepted.{IsAccepted, IsTimed}
+use Rattle.swap_gen.specs.Word.{word}
+use Rattle.swap_gen.specs.Proposed.{IsLedFor, IsProposed}
+use Rattle.swap_gen.specs.Drawn.{leader_count, drawn_arcs, drawn_graph, drawn_amount, plain_deal}
+use Rattle.swap_gen.proofs.Rings.{leaders_are_low, arcs_are_sound, arcs_have_ring}
+use Rattle.swap_gen.proofs.Rising.{ring_is_strong, rising_is_feedback, sound_rises}
+
+led_for : (m : Mode) (d : Deal) → IsTimed m d → IsLedFor m d
+led_for Timelocks d t = t.0
+led_for Hashkeys d t = tt
+
+-- an accepted deal has what a deal to be made needs
+pub is_proposed : (d : Deal) → IsAccepted d → IsProposed d
+is_proposed d k = record {
+  parties = k.parties;
+  arcs = k.arcs;
+  ends = k.ends;
+  of_version = k.of_version;
+  strong = k.strong;
+  leaders = k.leaders;
+  leader = k.leader;
+  apart = k.apart;
+  led = led_for d.mode d k.timed;
+  feedback = k.feedback;
+  height = k.height;
+  is_height = k.is_height;
+  delta = k.delta;
+  start = k.start;
+  bound = k.bound;
+  one_amount_each = k.one_amount_each;
+  amounts = k.amounts;
+}
+
+leader_is : (count i : ℕ) → i < count → slice_index (range_with_len 0 count) i ≡ i
+leader_is count i lt = get_or-range_with_len 0 count i 0 lt ∙ (omega arith)
+
+amount_within : (seed n m a : ℕ) → a < m → (1 ≤ slice_index (map (drawn_amount seed n) (range_with_len 0 m)) a) × (slice_index (map (drawn_amount seed n) (range_with_len 0 m)) a ≤ 10 ^ 12)
+amount_within seed n m a lt =
+    let e : slice_index (map (drawn_amount seed n) (range_with_len 0 m)) a ≡ drawn_amount seed n a = get_or-map-range_with_len (drawn_amount seed n) 0 m a a 0 lt (omega arith) in
+    let w = mod-lt (word seed (1 + 2 * n + a)) {1000} (omega arith) in
+    (omega (arith, e), omega (arith, e, w))
+
+pub plain_is_proposed : (seed n : ℕ) → 2 ≤ n → n ≤ 24 → IsProposed (plain_deal seed n)
+unfolding plain_deal
+plain_is_proposed seed n many few =
+    let g : Graph = drawn_graph seed n in
+    let sound = arcs_are_sound seed n many in
+    let ringed = arcs_have_ring seed n in
+    let low = leaders_are_low seed n many in
+    let l1 = low.some in
+    let l2 = low.few in
+    let l3 = low.below in
+    let a1 = ringed.many in
+    let a2 = ringed.few in
+    let size : length (range_with_len 0 (leader_count seed n)) ≡ leader_count seed n = length-range_with_len 0 (leader_count seed n) in
+    let feedback = rising_is_feedback g (range_with_len 0 (leader_count seed n)) (sound_rises g (leader_count seed n) sound) in
+    record {
+      parties = (many, few);
+      arcs = (omega arith, omega arith);
+      ends = has_ends n One (drawn_arcs seed n) (sym sound.faultless);
+      of_version = sound.apart;
+      strong = ring_is_strong g (omega arith) ringed.ring;
+      leaders = (omega (arith, size), omega (arith, size));
+      leader = λ i lt. let e = leader_is (leader_count seed n) i (omega (arith, size)) in omega (arith, e, size);
+      apart = λ i j li lj s. sym (leader_is (leader_count seed n) i (omega (arith, size))) ∙ s ∙ leader_is (leader_count seed n) j (omega (arith, size));
+      led = tt;
+      feedback = feedback;
+      height = height_of g (range_with_len 0 (leader_count seed n));
+      is_height = greatest_level_is_height g (range_with_len 0 (leader_count seed n)) feedback;
+      delta = (omega arith, omega arith);
+      start = (omega arith, omega arith);
+      bound = (min-le_left (n - 1) _, omega arith);
+      one_amount_each = length-map-range_with_len (drawn_amount seed n) 0 (length (drawn_arcs seed n));
+      amounts = λ a lt. amount_within seed n (length (drawn_arcs seed n)) a lt;
+    }

@@ -1,0 +1,9 @@
+use Rattle.std.proofs.Common.{◌∙◌, ap, List, ℕ, ◌++◌, ◌∷◌, []}
+use Rattle.swap_digraph.proofs.Ranges.{map_more}
+use Rattle.swap_gen.specs.Events.{touching}
+use Rattle.swap_gen.proofs.generator.all_touching.Goals as goal
+
+pub loop-p-preserved : goal.loop-p-preserved
+loop-p-preserved c =
+    map_more (touching c.args.graph.now) c.loop-p.p c.loop-p.lists.items c.push.new.self.items
+    (c.in_ok-push.ensures.items ∙ ap (λ (x : List ℕ). c.loop-p.lists.items ++ x ∷ []) c.in_ok-touching.ensures) c.loop-p.invariant

@@ -1,0 +1,6 @@
+use Rattle.std.proofs.Common.{◌≡◌, replicate}
+use Rattle.deviator_script.specs.declared.job.Role.TheVariants.{Conforming}
+use Rattle.swap_gen.proofs.plain.roles.Given as goal
+
+abbrev pub invariant-loop-p : goal.invariant-loop-p
+invariant-loop-p l = l.roles.items ≡ replicate l._p Conforming

@@ -1,0 +1,8 @@
+pub mod Proposed
+pub mod Made
+pub mod Owned
+pub mod Word
+pub mod Drawn
+pub mod Events
+pub mod Inside
+pub mod Line

@@ -1,0 +1,16 @@
+-- The line of an event: compact JSON, the fields in the order of their bytes.
+use Rattle.std.specs.Prelude.{ℕ, List, [], ◌∷◌, codes, decimal, slice_index_or}
+use Rattle.swap_base.specs.Text.{joined}
+use Rattle.deviator_script.specs.declared.event.Event.{Event}
+use Rattle.deviator_script.specs.declared.event.Event.TheVariants.{Tick, Look, Act, Call}
+
+-- the name of party p
+abbrev pub name_at : List (List ℕ) → ℕ → List ℕ
+name_at names p = slice_index_or names p []
+
+-- the line of an event that can be drawn; a call can't, and has none
+unfoldable pub event_line : List (List ℕ) → Event → List ℕ
+event_line names (Tick a k) = joined (codes "{\"by\":" ∷ decimal k ∷ codes ",\"tick\":" ∷ decimal a ∷ codes "}\n" ∷ [])
+event_line names (Look p a) = joined (codes "{\"arc\":" ∷ decimal a ∷ codes ",\"look\":\"" ∷ name_at names p ∷ codes "\"}\n" ∷ [])
+event_line names (Act p) = joined (codes "{\"act\":\"" ∷ name_at names p ∷ codes "\"}\n" ∷ [])
+event_line names (Call p mv) = []

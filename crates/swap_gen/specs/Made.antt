@@ -1,0 +1,52 @@
+-- What the parties' seeds give a deal: hashlocks, keys, timelocks and the id.
+use Rattle.std.specs.Prelude.{◌≡◌, ◌<◌, ℕ, List, [], map, length, replicate, Option, Some, None, unwrap_or, slice_index_or}
+use Rattle.std.specs.List.{range_with_len}
+use Rattle.time_bounds.specs.Times as times
+use Rattle.swap_digraph.specs.Graph.{arcs}
+use Rattle.swap_digraph.specs.Deal.{counterparty, leader_of, leads, locks}
+use Rattle.swap_digraph.specs.declared.deal.Deal.{Deal}
+use Rattle.swap_digraph.specs.declared.deal.Mode.{Mode}
+use Rattle.swap_digraph.specs.declared.deal.Mode.TheVariants.{Timelocks, Hashkeys}
+use Rattle.single_leader.specs.Distance.{dist_of}
+use Rattle.hash_signature.specs.Signature.{hash_of, secret_of, public_key_of}
+use Rattle.hashkey_path.specs.Digest.{deal_id}
+use Rattle.deviator_script.specs.declared.job.Job.{Job}
+use Rattle.deviator_script.specs.declared.job.Purpose.TheVariants.{Make}
+
+-- the seed of party p, and zeros where it has none
+abbrev pub seed_in : List (Option (List ℕ)) → ℕ → List ℕ
+seed_in seeds p = unwrap_or (slice_index_or seeds p None) (replicate 32 0)
+
+-- the hashlock that a leader's seed gives
+abbrev pub hashlock_from : List (Option (List ℕ)) → ℕ → List ℕ
+hashlock_from seeds leader = hash_of (secret_of (seed_in seeds leader))
+
+-- the public keys of party p, one for each lock
+abbrev pub keys_from : List (Option (List ℕ)) → Deal → ℕ → List (List ℕ)
+keys_from seeds d p = map (public_key_of (seed_in seeds p) p) (locks d)
+
+-- the public keys of each party; none with timelocks
+abbrev pub all_keys : Mode → List (Option (List ℕ)) → Deal → List (List (List ℕ))
+all_keys Timelocks seeds d = []
+all_keys Hashkeys seeds d = map (keys_from seeds d) (range_with_len 0 d.graph.n)
+
+-- the timelock of arc a, by the distance of its counterparty from the one leader
+abbrev pub timelock_for : Deal → ℕ → ℕ
+timelock_for d a = times.timelock d.start d.delta d.bound (dist_of d.graph (leader_of d 0) (counterparty d a))
+
+-- the timelock of each arc; 0 with hashkeys
+abbrev pub all_timelocks : Mode → Deal → List ℕ
+all_timelocks Timelocks d = map (timelock_for d) (arcs d.graph)
+all_timelocks Hashkeys d = replicate (length d.graph.arcs) 0
+
+-- the deal but for its id
+abbrev pub filled : List (Option (List ℕ)) → Deal → Deal
+filled seeds d = record d { hashlocks = map (hashlock_from seeds) d.leaders; keys = all_keys d.mode seeds d; timelocks = all_timelocks d.mode d }
+
+-- the deal with all that the seeds give, and the digest of what it then says as its id
+unfoldable pub made_deal : List (Option (List ℕ)) → Deal → Deal
+made_deal seeds d = record (filled seeds d) { id = deal_id (filled seeds d) }
+
+-- the job with its deal made; all else is as it was given
+abbrev pub made : Job → Job
+made job = record job { purpose = Make; deal = made_deal job.seeds job.deal }

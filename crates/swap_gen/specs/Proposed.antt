@@ -1,0 +1,35 @@
+-- Deals that lack only what their parties' seeds give.
+use Rattle.std.specs.Prelude.{◌≡◌, ℕ, ◌<◌, ◌≤◌, ◌^◌, length}
+use Rattle.time_bounds.specs.Times as times
+use Rattle.swap_digraph.specs.Graph.{HasEnds, IsStronglyConnected, IsFeedback, IsHeight}
+use Rattle.swap_digraph.specs.declared.deal.Deal.{Deal}
+use Rattle.swap_digraph.specs.declared.deal.Mode.{Mode}
+use Rattle.swap_digraph.specs.declared.deal.Mode.TheVariants.{Timelocks, Hashkeys}
+use Rattle.swap_digraph.specs.Deal.{leader_of, amount, most_parties, most_arcs}
+use Rattle.swap_rules.specs.Accepted.{IsOfVersion}
+
+-- with timelocks there is one leader
+abbrev pub IsLedFor : Mode → Deal → Type 0
+IsLedFor Timelocks d = length d.leaders ≡ 1
+IsLedFor Hashkeys d = Unit {0}
+
+-- The digraph, the leaders, the times and the amounts are those of an accepted deal; of hashlocks, keys, timelocks and id nothing is said.
+pub record IsProposed (d : Deal) : Type 0 where
+  pub parties : (2 ≤ d.graph.n) × (d.graph.n ≤ most_parties d.version)
+  pub arcs : (2 ≤ length d.graph.arcs) × (length d.graph.arcs ≤ most_arcs d.version)
+  pub ends : HasEnds d.graph
+  pub of_version : IsOfVersion d.version d
+  pub strong : IsStronglyConnected d.graph
+  pub leaders : (1 ≤ length d.leaders) × (length d.leaders ≤ 8)
+  pub leader : (i : ℕ) → i < length d.leaders → leader_of d i < d.graph.n
+  pub apart : (i j : ℕ) → i < length d.leaders → j < length d.leaders → leader_of d i ≡ leader_of d j → i ≡ j
+  pub led : IsLedFor d.mode d
+  pub feedback : IsFeedback d.graph d.leaders
+  -- the most vertices on a path of followers alone
+  pub height : ℕ
+  pub is_height : IsHeight d.graph d.leaders height
+  pub delta : (1 ≤ d.delta) × (d.delta ≤ 100)
+  pub start : (d.delta ≤ d.start) × (d.start ≤ 1000)
+  pub bound : (times.need d.graph.n (length d.leaders) height ≤ d.bound) × (d.bound ≤ 64)
+  pub one_amount_each : length d.amounts ≡ length d.graph.arcs
+  pub amounts : (a : ℕ) → a < length d.graph.arcs → (1 ≤ amount d a) × (amount d a ≤ 10 ^ 12)

@@ -1,0 +1,145 @@
+//! A job and its events, from a number.
+
+ghost use Rattle.std.specs.Prelude.{◌≡◌, ◌≤◌, ◌<◌, ℕ, IfOk, All, length, map};
+ghost use Rattle.std.specs.List.{range_with_len};
+ghost use Rattle.swap_digraph.specs.Graph.{arcs};
+ghost use Rattle.deviator_script.specs.Step.{CanStep};
+ghost use Rattle.swap_rules.specs.Accepted.{IsAccepted};
+ghost use Rattle.swap_gen.specs.Drawn.{drawn_graph, generated};
+ghost use Rattle.swap_gen.specs.Events.{event_from, first_place, generated_events, touching};
+ghost use Rattle.swap_gen.specs.Owned.{OwnsKeys};
+
+use crate::draws::Draws;
+use crate::making::fill;
+use crate::plain::plain_job;
+use deviator_script::{Event, Job};
+use std::alloc::Global;
+use std::marker::Model;
+use swap_base::{ArcId, Listed, NoMemory, PartyId};
+use swap_digraph::Digraph;
+
+/// A job that a number gives, with its events, which are drawn one at a time and have no end.
+#[derive(Drop)]
+pub struct Generator {
+    draws: Draws,
+    job: Job,
+    /// The arcs that touch each party.
+    touching: Listed<Listed<ArcId>>,
+}
+
+impl Model for Generator {
+    ghost use Rattle.swap_gen.specs.Events.{GeneratorState};
+
+    ghost Value = { GeneratorState };
+
+    ghost use Rattle.swap_gen.specs.Inside.{state_in, Holds};
+
+    ghost view = { state_in };
+
+    ghost invariant = { Holds };
+}
+
+fn touching(alloc: Global, graph: &Digraph, p: PartyId) -> Result<Listed<ArcId>, NoMemory>
+    requires { length graph.now.arcs ≤ 128 }
+    ensures { IfOk result (λ l. l ≡ touching graph.now p) }
+{
+    let mut numbers = Vec::new(alloc);
+    for (number, arc) in graph.arcs().iter().enumerate() {
+        if arc.from == p || arc.to == p {
+            numbers.push(number as u8)?;
+        }
+    }
+    Ok(Listed::new(numbers))
+}
+
+fn all_touching(alloc: Global, graph: &Digraph) -> Result<Listed<Listed<ArcId>>, NoMemory>
+    requires { length graph.now.arcs ≤ 128 }
+    ensures { IfOk result (λ l. l ≡ map (touching graph.now) (range_with_len 0 graph.now.n)) }
+{
+    let mut lists = Vec::new(alloc);
+    for p in 0..graph.n() {
+        lists.push(touching(alloc, graph, p)?)?;
+    }
+    Ok(Listed::new(lists))
+}
+
+impl Generator {
+    /// The job of a number and so many parties, before its first event.
+    pub fn new(alloc: Global, seed: u32, parties: u8) -> Result<Generator, NoMemory>
+        requires low { 2 ≤ parties }
+        requires high { parties ≤ 24 }
+        ensures { IfOk result (λ g. g ≡ record { seed = seed; parties = parties; place = first_place seed parties }) }
+    {
+        let mut draws = Draws::new(seed);
+        let mut job = plain_job(alloc, &mut draws, seed, parties)?;
+        job.deal = fill(alloc, job.deal, job.seeds.as_slice())?;
+        let touching = all_touching(alloc, &job.deal.graph)?;
+        Ok(Generator {
+            draws,
+            job,
+            touching,
+        })
+    }
+
+    /// The job.
+    pub fn job(&self) -> &Job
+        ensures exact { result.now ≡ generated self.now.seed self.now.parties }
+        ensures accepted { IsAccepted result.now.deal }
+        ensures owned { (p : ℕ) → p < result.now.deal.graph.n → OwnsKeys result.now p }
+    {
+        &self.job
+    }
+
+    /// The job, without taking memory.
+    pub fn into_job(self) -> Job
+        ensures exact { result ≡ generated self.seed self.parties }
+        ensures accepted { IsAccepted result.deal }
+        ensures owned { (p : ℕ) → p < result.deal.graph.n → OwnsKeys result p }
+    {
+        self.job
+    }
+
+    /// The next event. It takes no memory.
+    #[tactic(auto, unfolding(crate::specs::Events::event_from))]
+    pub fn next_event(&mut self) -> Event
+        ensures event { result ≡ (event_from self.old.seed (drawn_graph self.old.seed self.old.parties) self.old.place).0 }
+        ensures drawn { self.new ≡ record self.old { place = (event_from self.old.seed (drawn_graph self.old.seed self.old.parties) self.old.place).1 } }
+        ensures fits { CanStep (generated self.old.seed self.old.parties).deal (generated self.old.seed self.old.parties).conforming result }
+    {
+        let kind = self.draws.draw() % 8;
+        let graph = &self.job.deal.graph;
+        match kind {
+            0 => Event::Tick(self.draws.below(graph.arcs().len() as u8), 1),
+            1..=4 => {
+                let p = self.draws.below(graph.n());
+                let arcs = self.touching.as_slice()[p as usize].as_slice();
+                Event::Look(p, arcs[self.draws.below(arcs.len() as u8) as usize])
+            }
+            _ => Event::Act(self.draws.below(graph.n())),
+        }
+    }
+}
+
+/// The job of a number and so many parties, with so many of its events.
+pub fn generate(
+    alloc: Global,
+    seed: u32,
+    parties: u8,
+    events: u32,
+) -> Result<(Job, Vec<Event>), NoMemory>
+    requires low { 2 ≤ parties }
+    requires high { parties ≤ 24 }
+    requires few { events ≤ 200000 }
+    ensures job { IfOk result (λ r. r.0 ≡ generated seed parties) }
+    ensures events { IfOk result (λ r. r.1.items ≡ generated_events seed parties events) }
+    ensures accepted { IfOk result (λ r. IsAccepted r.0.deal) }
+    ensures owned { IfOk result (λ r. (p : ℕ) → p < r.0.deal.graph.n → OwnsKeys r.0 p) }
+    ensures fit { IfOk result (λ r. All (CanStep r.0.deal r.0.conforming) r.1.items) }
+{
+    let mut generator = Generator::new(alloc, seed, parties)?;
+    let mut list = Vec::new(alloc);
+    for _e in 0..events {
+        list.push(generator.next_event())?;
+    }
+    Ok((generator.into_job(), list))
+}

@@ -1,0 +1,55 @@
+//! The line of an event.
+
+ghost use Rattle.std.specs.Prelude.{◌≡◌, ◌++◌, OnOk};
+ghost use Rattle.swap_gen.specs.Line.{event_line, name_at};
+
+use deviator_script::Event;
+use swap_base::{ByteText, NoMemory, PartyId, Piece, put};
+
+/// The name of a party; no text where the number is nobody's.
+fn name_at(names: &[ByteText], p: PartyId) -> &[u8]
+    ensures { result.now ≡ name_at names.now p }
+{
+    match names.get(p as usize) {
+        Some(name) => name.as_slice(),
+        None => &[],
+    }
+}
+
+/// Appends the line of an event that can be drawn; a call can't, and nothing is appended. After want of memory a part of it stands there.
+#[tactic(auto, unfolding(crate::specs::Line::event_line))]
+pub fn put_event(out: &mut Vec<u8>, names: &[ByteText], event: &Event) -> Result<(), NoMemory>
+    ensures { OnOk result (out.new.items ≡ out.old.items ++ event_line names.now event.now) }
+{
+    match event {
+        Event::Tick(arc, k) => put(
+            out,
+            &[
+                Piece::Text("{\"by\":"),
+                Piece::Number(*k as u64),
+                Piece::Text(",\"tick\":"),
+                Piece::Number(*arc as u64),
+                Piece::Text("}\n"),
+            ],
+        ),
+        Event::Look(p, arc) => put(
+            out,
+            &[
+                Piece::Text("{\"arc\":"),
+                Piece::Number(*arc as u64),
+                Piece::Text(",\"look\":\""),
+                Piece::Bytes(name_at(names, *p)),
+                Piece::Text("\"}\n"),
+            ],
+        ),
+        Event::Act(p) => put(
+            out,
+            &[
+                Piece::Text("{\"act\":\""),
+                Piece::Bytes(name_at(names, *p)),
+                Piece::Text("\"}\n"),
+            ],
+        ),
+        Event::Call(_, _) => Ok(()),
+    }
+}

@@ -1,0 +1,86 @@
+//! What the parties' seeds give.
+
+ghost use Rattle.std.specs.Prelude.{◌≡◌, ◌≤◌, IfOk, length, map};
+ghost use Rattle.std.specs.List.{range_with_len};
+ghost use Rattle.hash_signature.specs.Signature.{public_key_of};
+ghost use Rattle.swap_gen.specs.Made.{all_keys, hashlock_from, keys_from, seed_in};
+
+use hash_signature::{hash_of, keygen, secret_of};
+use std::alloc::Global;
+use swap_base::{Digest, Listed, NoMemory, PartyId};
+use swap_digraph::{Deal, Mode};
+
+/// The seed of a party, and zeros where it has none.
+fn seed_in(seeds: &[Option<Digest>], p: PartyId) -> Digest
+    ensures { result ≡ seed_in seeds.now p }
+{
+    match seeds.get(p as usize) {
+        Some(Some(seed)) => *seed,
+        _ => [0; 32],
+    }
+}
+
+/// The hashlock of each leader.
+pub(crate) fn hashlocks_from(
+    alloc: Global,
+    seeds: &[Option<Digest>],
+    leaders: &[PartyId],
+) -> Result<Listed<Digest>, NoMemory>
+    ensures { IfOk result (λ l. l ≡ map (hashlock_from seeds.now) leaders.now) }
+{
+    let mut hashlocks = Vec::new(alloc);
+    for leader in leaders {
+        hashlocks.push(hash_of(&secret_of(&seed_in(seeds, *leader))))?;
+    }
+    Ok(Listed::new(hashlocks))
+}
+
+/// The public keys of a party, one for each lock.
+fn keys_from(
+    alloc: Global,
+    seeds: &[Option<Digest>],
+    locks: u8,
+    p: PartyId,
+) -> Result<Listed<Digest>, NoMemory>
+    ensures { IfOk result (λ l. l ≡ map (public_key_of (seed_in seeds.now p) p) (range_with_len 0 locks)) }
+{
+    let seed = seed_in(seeds, p);
+    let mut keys = Vec::new(alloc);
+    'locks: for lock in 0..locks {
+        let (_, public) = keygen(&seed, p, lock);
+        keys.push(public)?;
+    }
+    Ok(Listed::new(keys))
+}
+
+/// The public keys of each party.
+fn rows_from(
+    alloc: Global,
+    seeds: &[Option<Digest>],
+    deal: &Deal,
+) -> Result<Listed<Listed<Digest>>, NoMemory>
+    requires { length deal.now.leaders ≤ 8 }
+    ensures { IfOk result (λ l. l ≡ map (keys_from seeds.now deal.now) (range_with_len 0 deal.now.graph.n)) }
+{
+    let locks = deal.leaders.len() as u8;
+    let mut rows = Vec::new(alloc);
+    'parties: for p in 0..deal.graph.n() {
+        rows.push(keys_from(alloc, seeds, locks, p)?)?;
+    }
+    Ok(Listed::new(rows))
+}
+
+/// The public keys of each party; none with timelocks.
+pub(crate) fn all_keys(
+    alloc: Global,
+    seeds: &[Option<Digest>],
+    deal: &Deal,
+) -> Result<Listed<Listed<Digest>>, NoMemory>
+    requires { length deal.now.leaders ≤ 8 }
+    ensures { IfOk result (λ l. l ≡ all_keys deal.now.mode seeds.now deal.now) }
+{
+    match deal.mode {
+        Mode::Timelocks => Ok(Listed::empty(alloc)),
+        Mode::Hashkeys => rows_from(alloc, seeds, deal),
+    }
+}
