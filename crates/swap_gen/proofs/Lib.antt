@@ -5,3 +5,5 @@ pub mod Rising
 pub mod Proposing
 pub mod Accepting
 pub mod Owning
+pub mod Stepping
+pub mod Generated

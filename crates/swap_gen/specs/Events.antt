@@ -9,7 +9,7 @@ use Rattle.swap_gen.specs.Drawn.{drawn_arcs, drawn_graph}
 
 -- the arcs that touch party p, ascending
 abbrev pub touching : Graph → ℕ → List ℕ
-touching g p = filter (λ a. (ends g a).from == p || (ends g a).to == p) (arcs g)
+touching g p = filter (λ a. (p == (ends g a).from) || (p == (ends g a).to)) (arcs g)
 
 -- the one that a word picks
 abbrev pub picked : List ℕ → ℕ → ℕ

@@ -6,7 +6,8 @@ ghost use Rattle.swap_digraph.specs.Graph.{arcs};
 ghost use Rattle.deviator_script.specs.Step.{CanStep};
 ghost use Rattle.swap_rules.specs.Accepted.{IsAccepted};
 ghost use Rattle.swap_gen.specs.Drawn.{drawn_graph, generated};
-ghost use Rattle.swap_gen.specs.Events.{event_from, first_place, generated_events, touching};
+ghost use Rattle.swap_gen.specs.Events.{event_from, first_place, generated_events, picked, touching};
+ghost use Rattle.swap_gen.specs.Word.{next, word};
 ghost use Rattle.swap_gen.specs.Owned.{OwnsKeys};
 
 use crate::draws::Draws;
@@ -45,7 +46,7 @@ fn touching(alloc: Global, graph: &Digraph, p: PartyId) -> Result<Listed<ArcId>,
 {
     let mut numbers = Vec::new(alloc);
     for (number, arc) in graph.arcs().iter().enumerate() {
-        if arc.from == p || arc.to == p {
+        if p == arc.from || p == arc.to {
             numbers.push(number as u8)?;
         }
     }
@@ -61,6 +62,16 @@ fn all_touching(alloc: Global, graph: &Digraph) -> Result<Listed<Listed<ArcId>>,
         lists.push(touching(alloc, graph, p)?)?;
     }
     Ok(Listed::new(lists))
+}
+
+/// The one of some arcs that the next word picks.
+fn pick(draws: &mut Draws, arcs: &[ArcId]) -> ArcId
+    requires some { 0 < length arcs.now }
+    requires few { length arcs.now ≤ 255 }
+    ensures arc { result ≡ picked arcs.now (word draws.old.seed draws.old.place) }
+    ensures draws { draws.new ≡ record draws.old { place = next draws.old.place } }
+{
+    arcs[draws.below(arcs.len() as u8) as usize]
 }
 
 impl Generator {
@@ -113,7 +124,7 @@ impl Generator {
             1..=4 => {
                 let p = self.draws.below(graph.n());
                 let arcs = self.touching.as_slice()[p as usize].as_slice();
-                Event::Look(p, arcs[self.draws.below(arcs.len() as u8) as usize])
+                Event::Look(p, pick(&mut self.draws, arcs))
             }
             _ => Event::Act(self.draws.below(graph.n())),
         }

@@ -4,4 +4,4 @@ use Rattle.swap_digraph.specs.Graph.{ends}
 use Rattle.swap_gen.proofs.generator.touching.Given as goal
 
 abbrev pub invariant-loop-number : goal.invariant-loop-number
-invariant-loop-number l = l.numbers.items ≡ filter (λ a. (ends l.graph a).from == l.p || (ends l.graph a).to == l.p) (range_with_len 0 l.number)
+invariant-loop-number l = l.numbers.items ≡ filter (λ a. (l.p == (ends l.graph a).from) || (l.p == (ends l.graph a).to)) (range_with_len 0 l.number)

@@ -1,0 +1,43 @@
+-- The job that a number gives.
+use Rattle.std.proofs.Common.{◌≡◌, ℕ, ◌+◌, ◌<◌, ◌≤◌, List, length, map, Option, Some, None, IsSome, replicate, slice_index_or, refl, sym, ap, ◌∙◌, subst, arith}
+use Rattle.std.specs.List.{range_with_len}
+use Rattle.std.proofs.lemmas.List.FromFn.{get_or-map-range_with_len}
+use Rattle.swap_digraph.specs.Value.{Graph}
+use Rattle.swap_digraph.specs.declared.deal.Deal.{Deal}
+use Rattle.deviator_script.specs.declared.event.Event.{Event}
+use Rattle.deviator_script.specs.declared.job.Job.{Job}
+use Rattle.deviator_script.specs.Step.{CanStep}
+use Rattle.swap_rules.specs.Accepted.{IsAccepted}
+use Rattle.swap_gen.specs.Made.{made, made_deal}
+use Rattle.swap_gen.specs.Owned.{HaveSeeds, OwnsKeys}
+use Rattle.swap_gen.specs.Drawn.{drawn_graph, plain_deal, plain_job, seed_of, generated}
+use Rattle.swap_gen.specs.Events.{event_from}
+use Rattle.swap_gen.proofs.Proposing.{plain_is_proposed}
+use Rattle.swap_gen.proofs.Accepting.{made_is_accepted}
+use Rattle.swap_gen.proofs.Owning.{made_is_owned}
+use Rattle.swap_gen.proofs.Stepping.{event_steps}
+
+pub generated_is_accepted : (seed n : ℕ) → 2 ≤ n → n ≤ 24 → IsAccepted (generated seed n).deal
+unfolding plain_job
+generated_is_accepted seed n many few = made_is_accepted (plain_job seed n).seeds (plain_deal seed n) (plain_is_proposed seed n many few)
+
+pub generated_graph : (seed n : ℕ) → (generated seed n).deal.graph ≡ drawn_graph seed n
+unfolding plain_job plain_deal made_deal
+generated_graph seed n = refl
+
+plain_graph : (seed n : ℕ) → (plain_job seed n).deal.graph ≡ drawn_graph seed n
+unfolding plain_job plain_deal
+plain_graph seed n = refl
+
+some_seed : (seed n p : ℕ) → p < n → IsSome (slice_index_or {A = Option (List ℕ)} (plain_job seed n).seeds p None)
+unfolding plain_job
+some_seed seed n p lt = subst (λ (o : Option (List ℕ)). IsSome o) (sym (get_or-map-range_with_len (λ i. Some (seed_of seed i)) 0 n p p None lt (omega arith))) tt
+
+plain_has_seeds : (seed n : ℕ) → HaveSeeds (plain_job seed n)
+plain_has_seeds seed n p lt = some_seed seed n p (subst (λ (g : Graph). p < g.n) (plain_graph seed n) lt)
+
+pub generated_is_owned : (seed n : ℕ) → (p : ℕ) → p < (generated seed n).deal.graph.n → OwnsKeys (generated seed n) p
+generated_is_owned seed n p lt = made_is_owned (plain_job seed n) (plain_has_seeds seed n) p lt
+
+pub generated_steps : (seed n k : ℕ) → 2 ≤ n → CanStep (generated seed n).deal (generated seed n).conforming (event_from seed (drawn_graph seed n) k).0
+generated_steps seed n k many = event_steps (generated seed n).deal (generated seed n).conforming seed n many (generated_graph seed n) k
