@@ -83,7 +83,7 @@ timelocks_low Timelocks d k one a lt =
     let n : d.bound + 1 + dist_of d.graph (leader_of d 0) (counterparty d a) ≤ 129 = omega (arith, far, b) in
     let m = mul-le-mul_right d.delta n in
     omega (arith, e, m, s, t)
-timelocks_low Hashkeys d k one a lt = let e = get_or-replicate (length d.graph.arcs) a 0 0 lt in omega (arith, e)
+timelocks_low Hashkeys d k one a lt = let e = get_or-replicate {A = ℕ} (length d.graph.arcs) a 0 0 lt in omega (arith, e)
 
 pub filled_is_sized : (seeds : List (Option (List ℕ))) (d : Deal) → IsProposed d → IsWellSized (filled seeds d)
 filled_is_sized seeds d k = record {
@@ -103,6 +103,22 @@ filled_is_sized seeds d k = record {
   timelock = timelocks_low d.mode d k k.led;
 }
 
+same_keys : (m : Mode) (seeds : List (Option (List ℕ))) (d : Deal) (hs : List (List ℕ)) → all_keys m seeds (record d { hashlocks = hs }) ≡ all_keys m seeds d
+same_keys Timelocks seeds d hs = refl
+same_keys Hashkeys seeds d hs = refl
+
+same_timelocks : (m : Mode) (d : Deal) (hs : List (List ℕ)) (ks : List (List (List ℕ))) → all_timelocks m (record d { hashlocks = hs; keys = ks }) ≡ all_timelocks m d
+same_timelocks Timelocks d hs ks = refl
+same_timelocks Hashkeys d hs ks = refl
+
+-- filled in one after another
+pub sized_with : (seeds : List (Option (List ℕ))) (d : Deal) (hs : List (List ℕ)) (ks : List (List (List ℕ))) (ts : List ℕ) → IsProposed d
+    → hs ≡ map (hashlock_from seeds) d.leaders → ks ≡ all_keys d.mode seeds (record d { hashlocks = hs }) → ts ≡ all_timelocks d.mode (record d { hashlocks = hs; keys = ks }) → IsWellSized (record d { hashlocks = hs; keys = ks; timelocks = ts })
+sized_with seeds d hs ks ts k eh ek et =
+    subst (λ (x : List (List ℕ)). IsWellSized (record d { hashlocks = x; keys = ks; timelocks = ts })) (sym eh)
+    (subst (λ (x : List (List (List ℕ))). IsWellSized (record d { hashlocks = map (hashlock_from seeds) d.leaders; keys = x; timelocks = ts })) (sym (ek ∙ same_keys d.mode seeds d hs))
+    (subst (λ (x : List ℕ). IsWellSized (record d { hashlocks = map (hashlock_from seeds) d.leaders; keys = all_keys d.mode seeds d; timelocks = x })) (sym (et ∙ same_timelocks d.mode d hs ks)) (filled_is_sized seeds d k)))
+
 -- Acceptance.
 
 version_kept : (v : Version) (d e : Deal) → e.graph ≡ d.graph → e.mode ≡ d.mode → IsOfVersion v d → IsOfVersion v e
@@ -116,7 +132,7 @@ timed_by Timelocks seeds d e k one s t = rw s (one, λ a lt. record {
   is_dist = dist_at d k one (counterparty d a) (k.ends.to a lt);
   timelock = ap (λ (ts : List ℕ). slice_index ts a) (ap (λ x. x.timelocks) (sym s) ∙ t) ∙ timelock_at d a lt;
 })
-timed_by Hashkeys seeds d e k one s t = λ a lt. ap (λ (ts : List ℕ). slice_index ts a) t ∙ get_or-replicate (length d.graph.arcs) a 0 0 (subst (λ x. a < length x.graph.arcs) s lt)
+timed_by Hashkeys seeds d e k one s t = λ a lt. ap (λ (ts : List ℕ). slice_index ts a) t ∙ get_or-replicate {A = ℕ} (length d.graph.arcs) a 0 0 (subst (λ x. a < length x.graph.arcs) s lt)
 
 pub made_is_accepted : (seeds : List (Option (List ℕ))) (d : Deal) → IsProposed d → IsAccepted (made_deal seeds d)
 unfolding made_deal
@@ -145,3 +161,6 @@ made_is_accepted seeds d k =
       timed = timed_by d.mode seeds d (made_deal seeds d) k k.led refl refl;
       id = sym (any_id (filled seeds d) (made_deal seeds d).id);
     }
+
+pub made_accepted : (seeds : List (Option (List ℕ))) (d copied e : Deal) → IsProposed d → copied ≡ d → e ≡ made_deal seeds copied → IsAccepted e
+made_accepted seeds d copied e k same is = subst IsAccepted (sym (is ∙ ap (made_deal seeds) same)) (made_is_accepted seeds d k)

@@ -10,6 +10,7 @@ use Rattle.deviator_script.specs.Step.{CanStep}
 use Rattle.swap_rules.specs.Accepted.{IsAccepted}
 use Rattle.swap_gen.specs.Made.{made, made_deal}
 use Rattle.swap_gen.specs.Owned.{HaveSeeds, OwnsKeys}
+use Rattle.swap_gen.specs.Proposed.{IsProposed}
 use Rattle.swap_gen.specs.Drawn.{drawn_graph, plain_deal, plain_job, seed_of, generated}
 use Rattle.swap_gen.specs.Events.{event_from}
 use Rattle.swap_gen.proofs.Proposing.{plain_is_proposed}
@@ -31,7 +32,7 @@ plain_graph seed n = refl
 
 some_seed : (seed n p : ℕ) → p < n → IsSome (slice_index_or {A = Option (List ℕ)} (plain_job seed n).seeds p None)
 unfolding plain_job
-some_seed seed n p lt = subst (λ (o : Option (List ℕ)). IsSome o) (sym (get_or-map-range_with_len (λ i. Some (seed_of seed i)) 0 n p p None lt (omega arith))) tt
+some_seed seed n p lt = subst (λ (o : Option (List ℕ)). IsSome o) (sym (get_or-map-range_with_len (λ i. Some (seed_of seed i)) 0 n p p None lt (omega arith))) refl
 
 plain_has_seeds : (seed n : ℕ) → HaveSeeds (plain_job seed n)
 plain_has_seeds seed n p lt = some_seed seed n p (subst (λ (g : Graph). p < g.n) (plain_graph seed n) lt)
@@ -41,3 +42,11 @@ generated_is_owned seed n p lt = made_is_owned (plain_job seed n) (plain_has_see
 
 pub generated_steps : (seed n k : ℕ) → 2 ≤ n → CanStep (generated seed n).deal (generated seed n).conforming (event_from seed (drawn_graph seed n) k).0
 generated_steps seed n k many = event_steps (generated seed n).deal (generated seed n).conforming seed n many (generated_graph seed n) k
+
+pub plain_job_is_proposed : (seed n : ℕ) → 2 ≤ n → n ≤ 24 → IsProposed (plain_job seed n).deal
+unfolding plain_job
+plain_job_is_proposed seed n many few = plain_is_proposed seed n many few
+
+pub generated_is : (seed n : ℕ) → record (plain_job seed n) { deal = made_deal (plain_job seed n).seeds (plain_job seed n).deal } ≡ generated seed n
+unfolding plain_job
+generated_is seed n = refl

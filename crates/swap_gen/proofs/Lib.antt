@@ -7,3 +7,8 @@ pub mod Accepting
 pub mod Owning
 pub mod Stepping
 pub mod Generated
+pub mod Listing
+pub mod Amounts
+pub mod Together
+pub mod Next
+pub mod New

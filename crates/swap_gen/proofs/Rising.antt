@@ -7,8 +7,8 @@ use Rattle.swap_base.specs.Lists.{IsIn}
 use Rattle.swap_base.proofs.Lists.{and_parts, list_all-from, list_all-in, in_range, from_range}
 use Rattle.swap_digraph.specs.declared.arc_ends.ArcEnds.{ArcEnds}
 use Rattle.swap_digraph.specs.Value.{Graph}
-use Rattle.swap_digraph.specs.Graph.{is_path, is_among, has_arc, first_is, last_is, are_followers, IsPathBetween, IsFeedback, IsStronglyConnected}
-use Rattle.digraph_check.specs.Reach.{parties, reaches_in, reaches}
+use Rattle.swap_digraph.specs.Graph.{parties, is_path, is_among, has_arc, first_is, last_is, are_followers, IsPathBetween, IsFeedback, IsStronglyConnected}
+use Rattle.digraph_check.specs.Reach.{reaches_in, reaches}
 use Rattle.digraph_check.proofs.Walks.{stays, along, snoc}
 use Rattle.digraph_check.proofs.Paths.{walk_reaches}
 use Rattle.digraph_check.proofs.ClosedSets.{closed_set-none, connected_of_none}

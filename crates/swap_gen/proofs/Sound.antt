@@ -1,5 +1,5 @@
 -- Lists of arcs that are a digraph, and in which no arc leads from a follower down to another.
-use Rattle.std.proofs.Common.{◌≡◌, ◌≢◌, ◌⊎◌, ℕ, zero, suc, ◌+◌, ◌<◌, ◌≤◌, ◌==◌, nat_lt, Bool, true, false, cond, not, ◌&&◌, ◌||◌, List, [], ◌∷◌, ◌++◌, length, get_or, Option, Some, None, position, refl, sym, ap, ◌∙◌, subst, inl, inr, arith, append-nil, append_assoc, eqb-true, eq-eqb, lt-ltb, ltb-true, length-append}
+use Rattle.std.proofs.Common.{◌≡◌, ◌≢◌, ◌⊎◌, ℕ, zero, suc, ◌+◌, ◌-◌, ◌<◌, ◌≤◌, ◌==◌, nat_lt, Bool, true, false, cond, not, ◌&&◌, ◌||◌, List, [], ◌∷◌, ◌++◌, length, get_or, Option, Some, None, position, refl, sym, ap, ◌∙◌, subst, inl, inr, arith, append-nil, append_assoc, eqb-true, eq-eqb, lt-ltb, ltb-true, length-append}
 use Rattle.std.specs.List.{list_any}
 use Rattle.std.proofs.lemmas.Bool.{false≢true, eqb-false, ne_eqb, cases_lt, both_ways}
 use Rattle.std.proofs.lemmas.List.{get_or_append_left, get_or-append_right}
@@ -11,10 +11,7 @@ use Rattle.swap_digraph.specs.declared.arc_ends.ArcEnds.{ArcEnds}
 use Rattle.swap_digraph.specs.declared.fault.ArcFault.{ArcFault}
 use Rattle.swap_digraph.specs.declared.deal.Version.TheVariants.{One}
 use Rattle.digraph_check.proofs.ListTests.{passing}
-use Rattle.swap_gen.proofs.Places.{get_in}
-
-abbrev pub no_arc : ArcEnds
-no_arc = record { from = 0; to = 0 }
+use Rattle.swap_gen.proofs.Places.{get_in, no_arc}
 
 -- An arc leads from one party to another, and not from a follower down to another.
 pub record IsRising (leaders n : ℕ) (a : ArcEnds) : Type 0 where
@@ -49,31 +46,31 @@ same_itself a b e = rw e (rw (eq-eqb a.from a.from refl, eq-eqb a.to a.to refl) 
 
 -- an arc that isn't there differs from each that is
 not_there : (xs : List ArcEnds) (a : ArcEnds) (i : ℕ) → list_any (same_ends a) xs ≡ false → i < length xs → get_or xs i no_arc ≡ a → ⊥
-not_there xs a i no lt e = false≢true (sym no ∙ list_any-in (same_ends a) xs (get_or xs i no_arc) (same_itself a (get_or xs i no_arc) e) (get_in xs i no_arc lt))
+not_there xs a i fresh lt e = false≢true (sym fresh ∙ list_any-in (same_ends a) xs (get_or xs i no_arc) (same_itself a (get_or xs i no_arc) e) (get_in xs i no_arc lt))
 
 apart_more : (xs : List ArcEnds) (a : ArcEnds) → AreApart xs → list_any (same_ends a) xs ≡ false → AreApart (xs ++ a ∷ [])
-apart_more xs a h no i j li lj e = go (cases_lt i (length xs)) (cases_lt j (length xs))
+apart_more xs a h fresh i j li lj e = go (cases_lt i (length xs)) (cases_lt j (length xs))
   where
     go : (i < length xs) ⊎ (length xs ≤ i) → (j < length xs) ⊎ (length xs ≤ j) → i ≡ j
     go (inl p) (inl q) = h i j p q (sym (place_before xs a i p) ∙ e ∙ place_before xs a j q)
-    go (inl p) (inr q) = absurd (not_there xs a i no p (sym (place_before xs a i p) ∙ e ∙ (place_last xs a j lj q).1))
-    go (inr p) (inl q) = absurd (not_there xs a j no q (sym (place_before xs a j q) ∙ sym e ∙ (place_last xs a i li p).1))
+    go (inl p) (inr q) = absurd (not_there xs a i fresh p (sym (place_before xs a i p) ∙ e ∙ (place_last xs a j lj q).1))
+    go (inr p) (inl q) = absurd (not_there xs a j fresh q (sym (place_before xs a j q) ∙ sym e ∙ (place_last xs a i li p).1))
     go (inr p) (inr q) = (place_last xs a i li p).0 ∙ sym (place_last xs a j lj q).0
 
 -- The first fault.
 
 no_position : (xs : List ArcEnds) (a : ArcEnds) → list_any (same_ends a) xs ≡ false → position (same_ends a) xs ≡ None
-no_position xs a no = go (position (same_ends a) xs) refl
+no_position xs a fresh = go (position (same_ends a) xs) refl
   where
     go : (o : Option ℕ) → position (same_ends a) xs ≡ o → o ≡ None
     go None e = refl
     go (Some i) e =
         let r = position-Some (same_ends a) xs i no_arc e in
-        absurd (false≢true (sym no ∙ list_any-in (same_ends a) xs (get_or xs i no_arc) r.1 (get_in xs i no_arc r.0)))
+        absurd (false≢true (sym fresh ∙ list_any-in (same_ends a) xs (get_or xs i no_arc) r.1 (get_in xs i no_arc r.0)))
 
 no_fault_at : (n : ℕ) (xs : List ArcEnds) (k : ℕ) (a : ArcEnds) → a.from < n → a.to < n → a.from ≢ a.to → list_any (same_ends a) xs ≡ false → fault_at n One xs k a ≡ None
 unfolding fault_at
-no_fault_at n xs k a from to apart no = rw (lt-ltb a.from n from, lt-ltb a.to n to, ne_eqb a.from a.to apart, no_position xs a no) refl
+no_fault_at n xs k a from to apart fresh = rw (lt-ltb a.from n from, lt-ltb a.to n to, ne_eqb a.from a.to apart, no_position xs a fresh) refl
 
 both_none : (o rest : Option ArcFault) → or_else o rest ≡ None → (o ≡ None) × (rest ≡ None)
 both_none None rest e = (refl, e)
@@ -100,10 +97,10 @@ pub sound_none : (leaders n : ℕ) → AreSound leaders n []
 sound_none leaders n = record { each = λ a i. absurd i; apart = λ i j li lj e. absurd (omega arith); faultless = faultless_none n }
 
 pub sound_more : (leaders n : ℕ) (xs : List ArcEnds) (a : ArcEnds) → AreSound leaders n xs → IsRising leaders n a → list_any (same_ends a) xs ≡ false → AreSound leaders n (xs ++ a ∷ [])
-sound_more leaders n xs a h r no = record {
+sound_more leaders n xs a h r fresh = record {
   each = λ b i. go b (from_append xs (a ∷ []) b i);
-  apart = apart_more xs a h.apart no;
-  faultless = faultless_more n xs a h.faultless (no_fault_at n xs (length xs) a r.from r.to r.apart no);
+  apart = apart_more xs a h.apart fresh;
+  faultless = faultless_more n xs a h.faultless (no_fault_at n xs (length xs) a r.from r.to r.apart fresh);
 }
   where
     go : (b : ArcEnds) → IsIn b xs ⊎ IsIn b (a ∷ []) → IsRising leaders n b

@@ -19,8 +19,7 @@ use Rattle.swap_gen.specs.Made.{made, made_deal, filled}
 use Rattle.swap_gen.specs.Owned.{HaveSeeds, OwnsKeys}
 use Rattle.swap_gen.specs.Drawn.{ring_arc, drawn_arcs, drawn_graph, plain_deal, plain_job, seed_of, generated}
 use Rattle.swap_gen.specs.Events.{touching, picked, event_from}
-use Rattle.swap_gen.proofs.Places.{get_in}
-use Rattle.swap_gen.proofs.Sound.{no_arc}
+use Rattle.swap_gen.proofs.Places.{get_in, no_arc}
 use Rattle.swap_gen.proofs.Rings.{arcs_have_ring}
 
 -- An element's place.
@@ -44,7 +43,7 @@ touching_some seed n p lt =
     let passes : ((p == (ends g r.0).from) || (p == (ends g r.0).to)) ≡ true = or-left (p == (ends g r.0).from) (p == (ends g r.0).to) (eq-eqb p (ends g r.0).from from) in
     some_in (touching g p) r.0 (in_filter (λ a. (p == (ends g a).from) || (p == (ends g a).to)) r.0 (arcs g) (in_range r.0 (length (drawn_arcs seed n)) r.1) passes)
 
-length-filter : (p : ℕ → Bool) (xs : List ℕ) → length (filter p xs) ≤ length xs
+pub length-filter : (p : ℕ → Bool) (xs : List ℕ) → length (filter p xs) ≤ length xs
 length-filter p [] = omega arith
 length-filter p (x ∷ xs) = go (p x) (length-filter p xs)
   where
@@ -68,7 +67,7 @@ module _ (d : Deal) (conforming : List Bool) (seed n : ℕ) (many : 2 ≤ n) (gr
       g : Graph
       g = drawn_graph seed n
 
-      by_kind : (tick look : Bool) → CanStep d conforming (cond tick (Tick (word seed (next k) % length (drawn_arcs seed n)) 1, next (next k)) (cond look (Look (word seed (next k) % n) (picked (touching (drawn_graph seed n) (word seed (next k) % n)) (word seed (next (next k)))), next (next (next k))) (Act (word seed (next k) % n), next (next k)))).0
+      by_kind : (tick look : Bool) → CanStep d conforming (cond {A = Event × ℕ} tick (Tick (word seed (next k) % length (drawn_arcs seed n)) 1, next (next k)) (cond {A = Event × ℕ} look (Look (word seed (next k) % n) (picked (touching (drawn_graph seed n) (word seed (next k) % n)) (word seed (next (next k)))), next (next (next k))) (Act (word seed (next k) % n), next (next k)))).0
       by_kind true look =
           let m = (arcs_have_ring seed n).many in
           let lt : word seed (next k) % length (drawn_arcs seed n) < length (drawn_arcs seed n) = mod-lt (word seed (next k)) (omega arith) in

@@ -1,6 +1,6 @@
 //! A job and its events, from a number.
 
-ghost use Rattle.std.specs.Prelude.{◌≡◌, ◌≤◌, ◌<◌, ℕ, IfOk, All, length, map};
+ghost use Rattle.std.specs.Prelude.{◌≡◌, ◌≤◌, ◌<◌, ◌==◌, ◌||◌, ℕ, IfOk, All, length, map};
 ghost use Rattle.std.specs.List.{range_with_len};
 ghost use Rattle.swap_digraph.specs.Graph.{arcs};
 ghost use Rattle.deviator_script.specs.Step.{CanStep};
@@ -17,7 +17,7 @@ use deviator_script::{Event, Job};
 use std::alloc::Global;
 use std::marker::Model;
 use swap_base::{ArcId, Listed, NoMemory, PartyId};
-use swap_digraph::Digraph;
+use swap_digraph::{ArcEnds, Digraph};
 
 /// A job that a number gives, with its events, which are drawn one at a time and have no end.
 #[derive(Drop)]
@@ -40,13 +40,19 @@ impl Model for Generator {
     ghost invariant = { Holds };
 }
 
+fn touches(arc: ArcEnds, p: PartyId) -> bool
+    ensures { result ≡ ((p == arc.from) || (p == arc.to)) }
+{
+    p == arc.from || p == arc.to
+}
+
 fn touching(alloc: Global, graph: &Digraph, p: PartyId) -> Result<Listed<ArcId>, NoMemory>
     requires { length graph.now.arcs ≤ 128 }
     ensures { IfOk result (λ l. l ≡ touching graph.now p) }
 {
     let mut numbers = Vec::new(alloc);
     for (number, arc) in graph.arcs().iter().enumerate() {
-        if p == arc.from || p == arc.to {
+        if touches(*arc, p) {
             numbers.push(number as u8)?;
         }
     }
@@ -119,14 +125,14 @@ impl Generator {
     {
         let kind = self.draws.draw() % 8;
         let graph = &self.job.deal.graph;
-        match kind {
-            0 => Event::Tick(self.draws.below(graph.arcs().len() as u8), 1),
-            1..=4 => {
-                let p = self.draws.below(graph.n());
-                let arcs = self.touching.as_slice()[p as usize].as_slice();
-                Event::Look(p, pick(&mut self.draws, arcs))
-            }
-            _ => Event::Act(self.draws.below(graph.n())),
+        if kind == 0 {
+            Event::Tick(self.draws.below(graph.arcs().len() as u8), 1)
+        } else if kind <= 4 {
+            let p = self.draws.below(graph.n());
+            let arcs = self.touching.as_slice()[p as usize].as_slice();
+            Event::Look(p, pick(&mut self.draws, arcs))
+        } else {
+            Event::Act(self.draws.below(graph.n()))
         }
     }
 }

@@ -1,9 +1,12 @@
-use Rattle.std.proofs.Common.{◌≡◌, ◌∙◌, ap, List, ℕ, ◌++◌, ◌∷◌, []}
+use Rattle.std.proofs.Common.{◌≡◌, ◌∙◌, ap, map, List, ℕ, ◌++◌, ◌∷◌, []}
+use Rattle.std.specs.List.{range_with_len}
 use Rattle.swap_digraph.proofs.Ranges.{map_more}
-use Rattle.swap_gen.specs.Made.{keys_from}
+use Rattle.hash_signature.specs.Signature.{public_key_of}
+use Rattle.swap_gen.specs.Made.{keys_from, seed_in}
 use Rattle.swap_gen.proofs.seeds.rows_from.Goals as goal
 
 pub parties-preserved : goal.parties-preserved
 parties-preserved c =
     map_more (keys_from c.args.seeds.now c.args.deal.now) c.parties.p c.parties.rows.items c.push.new.self.items
-    (c.in_ok-push.ensures.items ∙ ap (λ (x : List (List ℕ)). c.parties.rows.items ++ x ∷ []) ?) c.parties.invariant
+    (c.in_ok-push.ensures.items ∙ ap (λ (x : List (List ℕ)). c.parties.rows.items ++ x ∷ []) (c.in_ok-keys_from.ensures
+    ∙ ap (λ k. map (public_key_of (seed_in c.args.seeds.now c.parties.p) c.parties.p) (range_with_len 0 k)) c.len-locks.ensures)) c.parties.invariant

@@ -1,0 +1,9 @@
+use Rattle.std.proofs.Common.{◌≡◌, ◌∙◌, ap, map}
+use Rattle.swap_gen.specs.Made.{hashlock_from}
+use Rattle.swap_gen.proofs.Accepting.{sized_with}
+use Rattle.swap_gen.proofs.making.fill.Goals as goal
+
+pub deal_digest-deal-requires : goal.deal_digest-deal-requires
+deal_digest-deal-requires c =
+    sized_with c.args.seeds.now c.args.deal _ _ _ c.requires (c.in_ok-deal.ensures ∙ ap (map (hashlock_from c.args.seeds.now)) c.as_slice.ensures)
+    c.in_ok-deal-2.ensures c.in_ok-deal-3.ensures

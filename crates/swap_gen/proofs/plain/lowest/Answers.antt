@@ -1,0 +1,10 @@
+use Rattle.std.proofs.Common.{◌≡◌, ◌∙◌, IfOk, refl, subst, arith}
+use Rattle.std.specs.List.{range_with_len}
+use Rattle.std.proofs.lemmas.Iterator.{items_from_collect, YieldsList-from_range}
+use Rattle.swap_gen.proofs.plain.lowest.Goals as goal
+
+pub returns : goal.returns
+returns c =
+    c.new.ensures
+    ∙ subst (λ r. IfOk r (λ v. v.items ≡ range_with_len 0 c.args.count)) c.in_ok-collect.was
+    (items_from_collect c.collect.result c.collect.ensures.ran (YieldsList-from_range 0 c.args.count c.args.count refl (omega arith)))
