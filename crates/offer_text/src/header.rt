@@ -1,0 +1,95 @@
+//! The header line of a job.
+
+ghost use Rattle.std.specs.Prelude.{◌≡◌, IfOk, OnOk, codes, false};
+ghost use Rattle.serde_json.specs.Data.{string, no_members};
+ghost use Rattle.serde_json.specs.View.{view, members_view};
+ghost use Rattle.offer_text.specs.Words.{IsBelow};
+ghost use Rattle.offer_text.specs.HeaderLine.{first_fields, fields_by_mode, last_fields, leaders_data, header_line, shown_header, is_make, IsWritable};
+
+use crate::deal::{arcs_value, keys_value, leaders_value};
+use crate::fields::{put_first, put_number, put_text};
+use crate::parties::shown_parties;
+use deviator_script::Job;
+use serde_json::{Map, Value};
+use std::alloc::Global;
+use swap_base::{ByteText, NoMemory};
+use swap_digraph::Mode;
+
+/// The fields that every header has last.
+fn put_last_fields(
+    alloc: Global,
+    fields: &mut Map<String, Value>,
+    job: &Job,
+    mode: &str,
+    parties: Value,
+) -> Result<(), NoMemory>
+    requires none { members_view fields.old.entries ≡ no_members }
+    requires writable { IsWritable job.now }
+    ensures { OnOk result (members_view fields.new.entries ≡ last_fields (leaders_data job.now.names job.now.deal) (string mode.now) (view parties) job.now.deal) }
+{
+    let leaders = leaders_value(alloc, job.names.as_slice(), &job.deal)?;
+    put_number(alloc, fields, "swap", 1)?;
+    put_number(alloc, fields, "start", job.deal.start as u64)?;
+    put_first(alloc, fields, "parties", parties)?;
+    put_text(alloc, fields, "mode", mode)?;
+    put_first(alloc, fields, "leaders", leaders)
+}
+
+/// The fields from the keys on, which stand with hashkeys alone.
+fn put_by_mode(
+    alloc: Global,
+    fields: &mut Map<String, Value>,
+    job: &Job,
+    parties: Value,
+) -> Result<(), NoMemory>
+    requires none { members_view fields.old.entries ≡ no_members }
+    requires writable { IsWritable job.now }
+    ensures { OnOk result (members_view fields.new.entries ≡ fields_by_mode job.now.deal.mode job.now.names (view parties) job.now.deal) }
+{
+    match job.deal.mode {
+        Mode::Timelocks => put_last_fields(alloc, fields, job, "timelocks", parties),
+        Mode::Hashkeys => {
+            let keys = keys_value(alloc, job.deal.keys.as_slice())?;
+            put_last_fields(alloc, fields, job, "hashkeys", parties)?;
+            put_first(alloc, fields, "keys", keys)
+        }
+    }
+}
+
+/// The fields that every header has first.
+fn put_first_fields(
+    alloc: Global,
+    fields: &mut Map<String, Value>,
+    job: &Job,
+) -> Result<(), NoMemory>
+    requires after { IsBelow (codes "delta") (members_view fields.old.entries) }
+    requires writable { IsWritable job.now }
+    ensures { OnOk result (members_view fields.new.entries ≡ first_fields job.now.names job.now.deal (members_view fields.old.entries)) }
+{
+    let arcs = arcs_value(alloc, job.names.as_slice(), &job.deal)?;
+    put_number(alloc, fields, "delta", job.deal.delta as u64)?;
+    put_number(alloc, fields, "bound", job.deal.bound as u64)?;
+    put_first(alloc, fields, "arcs", arcs)
+}
+
+/// A header as a transcript shows it.
+fn shown_header(alloc: Global, job: &Job) -> Result<Value, NoMemory>
+    requires { IsWritable job.now }
+    ensures { IfOk result (λ v. view v ≡ shown_header job.now) }
+{
+    let mut fields = Map::new(alloc);
+    let parties = shown_parties(alloc, job)?;
+    put_by_mode(alloc, &mut fields, job, parties)?;
+    put_first_fields(alloc, &mut fields, job)?;
+    Ok(Value::Object(fields))
+}
+
+/// The header line of a job, without a line feed.
+pub fn write_deal(alloc: Global, job: &Job) -> Result<ByteText, NoMemory>
+    requires writable { IsWritable job.now }
+    requires shown { is_make job.now.purpose ≡ false }
+    ensures { IfOk result (λ t. t ≡ header_line job.now) }
+{
+    let text = shown_header(alloc, job)?.to_string(alloc)?;
+    Ok(ByteText::new(text.into_bytes()))
+}

@@ -1,0 +1,12 @@
+//! The header line of a job: compact JSON, as `serde_json` writes it.
+//!
+//! Read `specs/HeaderLine.antt` first: the JSON of a header, field by field, and its line.
+#![tactic(auto)]
+
+mod deal;
+mod fields;
+mod header;
+mod parties;
+mod words;
+
+pub use header::write_deal;
