@@ -130,7 +130,8 @@ module _ (p : pass.Inside) (k : IsOfParty p) where
   party_kept s l g is = subst (λ x. IsOfParty (then_at x p.seen)) (sym is)
       (record {
         rests = rests_kept p.seat p.seen l.history k.rests g.longer;
-        of_the_two = k.of_the_two; apart = k.apart;
+        of_the_two = k.of_the_two;
+        apart = k.apart;
         side = k.side;
         mine = own_kept (λ e. sent_by p.party e.sender) p.seen p.seat.known l.history k.rests.within g.longer k.mine (same_mine l g);
       })
@@ -254,8 +255,8 @@ pub new_second : (l : LedgerState) (lock : TableId) (s : SeatState) (p n : ℕ) 
     → IsOfParty (record { seat = s; party = p; seen = n })
 new_second l lock s p n is whose apart within none = subst (λ q. IsOfParty (record { seat = s; party = q; seen = n })) (sym whose)
     (new_party l lock s 1 (counterparty l.deal l.arc) n is apart
-      (ap (λ b. (counterparty l.deal l.arc == party l.deal l.arc) || b) (eq-eqb (counterparty l.deal l.arc) (counterparty l.deal l.arc) refl) ∙ or_true (counterparty l.deal l.arc == party l.deal l.arc))
-      (second_side l.deal l.arc apart) within none)
+    (ap (λ b. (counterparty l.deal l.arc == party l.deal l.arc) || b) (eq-eqb (counterparty l.deal l.arc) (counterparty l.deal l.arc) refl) ∙ or_true (counterparty l.deal l.arc == party l.deal l.arc))
+    (second_side l.deal l.arc apart) within none)
 
 -- whose number a pass has
 number_of_party : (p : pass.Inside) → IsOfParty p → side_of p.seat.deal p.seat.arc (Party p.party) ≡ p.seat.number

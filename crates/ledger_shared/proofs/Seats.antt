@@ -85,10 +85,11 @@ given s m m' l is held deal arc e = e
 
 pub continued : (s : SeatState) (m : Me) (l : LedgerState) → IsAt s m → s.holds ≡ true → l.deal ≡ s.deal → l.arc ≡ s.arc → IsContinued s l.history
     → IsContinuedBy author_of (number_of m) (known_of m) (lines l.deal l.arc l.history)
-continued s m l is held deal arc on = subst (λ (x : Me). IsContinuedBy author_of (number_of x) (known_of x) (lines l.deal l.arc l.history)) (sym (is_busy s m is held))
-    (made_lines s.deal s.arc on.0,
-      ap (λ (w : List Line). Head s.deal s.arc ∷ w) (sym (made_append s.deal s.arc s.known on.0)) ∙ (ap (lines s.deal s.arc) (sym on.1) ∙ sym (lines_of l.deal s.deal l.arc s.arc l.history deal arc)),
-      all_made s.deal s.arc s.number on.0 on.2)
+continued s m l is held deal arc on = subst (λ (x : Me). IsContinuedBy author_of (number_of x) (known_of x) (lines l.deal l.arc l.history)) (sym (is_busy s m is held)) (
+  made_lines s.deal s.arc on.0,
+  ap (λ (w : List Line). Head s.deal s.arc ∷ w) (sym (made_append s.deal s.arc s.known on.0)) ∙ (ap (lines s.deal s.arc) (sym on.1) ∙ sym (lines_of l.deal s.deal l.arc s.arc l.history deal arc)),
+  all_made s.deal s.arc s.number on.0 on.2,
+)
 
 -- the seat with its turn: what it knows are lines, which are those of the ledger, and that goes on from what it knew
 pub take_step : (s : SeatState) (lock : TableId) (m m' : Me) (l : LedgerState) → IsAt s m → s.holds ≡ false → lock ≡ s.lock → Covers author_of (lines l.deal l.arc l.history) (number_of m, known_of m) → m' ≡ busy (opening_of m) (number_of m) (lines l.deal l.arc l.history)
@@ -115,8 +116,10 @@ pub three_seats : (lock : TableId) (start : List Line) (items : List LockSeat) (
 three_seats lock start items a b c is seats = let all = subst (SeatsFrom lock start 0) is seats in (all.0, all.1.0, all.1.1.0)
 
 pub new_step : (l : LedgerState) (lock mine : TableId) (k : ℕ) (m : Me) → (mine ≡ lock) × (m ≡ idle (lines l.deal l.arc l.history) k (lines l.deal l.arc l.history)) → IsAt (state_of mine m) m × (state_of mine m ≡ new_seat lock l k)
-new_step l lock mine k m e = (is_at mine l.deal l.arc k l.history l.history false m e.1,
-    says_of mine l.deal l.arc k l.history l.history false m e.1 ∙ (λ i. record { lock = e.0 i; deal = l.deal; arc = l.arc; number = k; holds = false; shared = l.history; known = l.history }))
+new_step l lock mine k m e = (
+  is_at mine l.deal l.arc k l.history l.history false m e.1,
+  says_of mine l.deal l.arc k l.history l.history false m e.1 ∙ (λ i. record { lock = e.0 i; deal = l.deal; arc = l.arc; number = k; holds = false; shared = l.history; known = l.history }),
+)
 
 -- Closing.
 
@@ -147,5 +150,5 @@ pub close_step : (r s t : SeatState) (a b c two three : Me) (l : LedgerState) �
     → AllByRecursion (Covers author_of (lines l.deal l.arc l.history)) three.0.parts → GoesOn r l × GoesOn s l × GoesOn t l
 close_step r s t a b c two three l is_r is_s is_t free_r free_s free_t is_two is_three all =
     let each : AllByRecursion (Covers author_of (lines l.deal l.arc l.history)) ((r.number, lines r.deal r.arc r.known) ∷ (s.number, lines s.deal s.arc s.known) ∷ (t.number, lines t.deal t.arc t.known) ∷ []) =
-        subst (AllByRecursion (Covers author_of (lines l.deal l.arc l.history))) (parts_of r s t a b c two three is_r is_s is_t free_r free_s free_t is_two is_three) all in
+    subst (AllByRecursion (Covers author_of (lines l.deal l.arc l.history))) (parts_of r s t a b c two three is_r is_s is_t free_r free_s free_t is_two is_three) all in
     (covered_known r l each.0, covered_known s l each.1.0, covered_known t l each.1.1.0)

@@ -73,7 +73,10 @@ fn make(
     ensures legal { IsLegal ledger.new.deal ledger.new.arc ledger.new.history }
 {
     let height = ledger.height();
-    let Prepared { mut fresh, call: copy } = prepared;
+    let Prepared {
+        mut fresh,
+        call: copy,
+    } = prepared;
     let reply = ledger.apply(sender, call, known);
     match reply {
         Reply::SenderFull => {}

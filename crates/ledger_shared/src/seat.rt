@@ -83,12 +83,7 @@ pub(crate) fn take<R: Wait>(rt: &R, lock: &TurnLock<Shelf>, seat: &mut LedgerSea
 }
 
 /// Gives the turn back, where each further entry is of the seat's side.
-pub(crate) fn give<R: Wait>(
-    rt: &R,
-    lock: &TurnLock<Shelf>,
-    seat: &mut LedgerSeat,
-    ledger: Ledger,
-)
+pub(crate) fn give<R: Wait>(rt: &R, lock: &TurnLock<Shelf>, seat: &mut LedgerSeat, ledger: Ledger)
     requires lock { seat.old.lock ≡ lock.now.lock }
     requires turn { seat.old.holds ≡ true }
     requires deal { ledger.deal ≡ seat.old.deal }

@@ -1,23 +1,22 @@
 -- Each step keeps the rule.
-use Rattle.std.proofs.Common.{◌≡◌, ◌≢◌, ℕ, zero, suc, ◌+◌, ◌*◌, ◌/◌, ◌%◌, ◌<◌, ◌≤◌, ◌^◌, ◌==◌, ◌||◌, eqb, Bool, true, false, true≢false, IsTrue, List, [], ◌∷◌, ◌++◌, length, get_or, set, Option, Some, None, refl, sym, ap, ◌∙◌, subst, ◌⊎◌, ⊎_elim, arith, ne_eqb, eq-eqb, bit_or, w64}
+use Rattle.std.proofs.Common.{◌≡◌, ◌≢◌, ℕ, zero, suc, ◌+◌, ◌*◌, ◌/◌, ◌%◌, ◌<◌, ◌^◌, ◌==◌, ◌||◌, eqb, true, false, true≢false, IsTrue, List, [], ◌∷◌, ◌++◌, length, get_or, set, Option, Some, None, refl, sym, ap, ◌∙◌, subst, ⊎_elim, arith, ne_eqb, eq-eqb, bit_or, w64}
 use Rattle.std.specs.Int.{bit_at}
 use Rattle.std.specs.List.{AllByRecursion}
 use Rattle.std.proofs.lemmas.Nat.Bits.{bit_at_set_same, bit_at_set_other, bit_at-zero, same_from_bits}
 use Rattle.std.proofs.Math.Nat.{mod-lt}
 use mathlib.Core.Option as core
 use mathlib.Core.Logic.{dite}
-use mathlib.Core.List.{IsPrefix}
 use native.Mathlib.Decide.{ℕ_discrete}
 use lib.ListN.{get_elem?}
 use lib.Seq.{set-get_or}
 use prog.Atomic.{either}
-use Rattle.atomic_table.specs.Table.{State, Me, Act, keeps, takes, gives, step, stepped, opening, Valid, carried_after, Allows, Splits, Joins, Final, Seen}
+use Rattle.atomic_table.specs.Table.{State, Act, keeps, takes, gives, step, stepped, opening, Valid, carried_after, Allows, Splits, Joins, Final, Seen}
 use Rattle.atomic_table.proofs.Lists.{at_set, set_again, set_here, set_else, at_longer, at_snoc, exchanged}
 use Rattle.atomic_table.specs.Seated.{TableId}
 use Rattle.atomic_table.specs.declared.shared.Seat.{Seat}
 use Rattle.turn_lock.specs.declared.view.View.{View}
-use Rattle.turn_lock.specs.Parts.{entries_by, IsContinuedBy, AreBelow, Part, has_number, number_in, known_in, Covers}
-use Rattle.turn_lock.specs.Turns.{Phase, early, home, out, turn_word, slot_in, fresh, spent, resting, turning, both_of, IsOwn, Knows, Stands, IsKept, Sat, idle, busy, Claims, ClaimsFirst, Takes, Counts, Gives, SeatsFrom}
+use Rattle.turn_lock.specs.Parts.{entries_by, IsContinuedBy, AreBelow, Part, has_number, known_in, Covers}
+use Rattle.turn_lock.specs.Turns.{Phase, early, home, out, turn_word, slot_in, fresh, spent, resting, turning, both_of, IsOwn, Knows, Stands, IsKept, Sat, idle, Claims, ClaimsFirst, Takes, Counts, Gives, SeatsFrom}
 use Rattle.turn_lock.proofs.Histories.{prefix_self, prefix_trans, all_map, all_append, others_stay, none_above}
 
 off : false ≡ true → ⊥
@@ -162,8 +161,8 @@ module _ {T E : Type 0} (history : T → List E) (author : E → ℕ) (start : L
   takes_turn slots id k word o h even s r _ at _ =
       let F : ℕ → Type 0 = λ n. (w : View E) × (a : Act (Option T)) × Valid s.homes [] a × Rule (stepped s 0 n id [] w a) × Takes history author (step slots 0 word (word + 1) core.none) (idle o k h) (get_or s.words 0 0) (w, carried_after [] a) in
       exchanged (get_or s.words 0 0) word (word + 1) F
-        (λ is. hit is (even_at_home s r word even is))
-        (λ ne. (resting o k h, keeps, tt, unmoved s r 0 id [] (resting o k h) at, ((λ is. absurd (ne is)), (λ _. refl))))
+      (λ is. hit is (even_at_home s r word even is))
+      (λ ne. (resting o k h, keeps, tt, unmoved s r 0 id [] (resting o k h) at, ((λ is. absurd (ne is)), (λ _. refl))))
     where
       hit : get_or s.words 0 0 ≡ word → (x : T) × (r.phase ≡ home x)
           → (w : View E) × (a : Act (Option T)) × Valid s.homes [] a × Rule (stepped s 0 (word + 1) id [] w a) × Takes history author (step slots 0 word (word + 1) core.none) (idle o k h) (get_or s.words 0 0) (w, carried_after [] a)
@@ -222,29 +221,29 @@ module _ {T E : Type 0} (history : T → List E) (author : E → ℕ) (start : L
       let cs : List (ℕ × Option T) = (0, Some x) ∷ [] in
       let F : ℕ → Type 0 = λ n. (w : View E) × (a : Act (Option T)) × Valid s.homes cs a × Rule (stepped s 0 n id cs w a) × Gives history (step slots 0 odd even core.none) (turning o k h, cs) (get_or s.words 0 0) (w, carried_after cs a) in
       exchanged (get_or s.words 0 0) odd even F
-        (λ _. (
-          w,
-          gives,
-          tt,
-          record {
-            phase = home x;
-            current = new;
-            claimed = r.claimed;
-            owner = r.owner;
-            words = ap (λ ws. set ws 0 even) r.words ∙ ap (λ (n : ℕ). n ∷ r.claimed ∷ []) even_is;
-            homes = ap (λ hs. set hs 0 (core.some (Some x))) homes;
-            stands = (refl, stands.1);
-            started = prefix_trans start r.current new r.started (go.0, go.1);
-            unclaimed = λ j free. let other : j ≢ k = λ e. one_or_none (sym mine.claim ∙ (ap (λ (n : ℕ). bit_at r.claimed n) (sym e) ∙ free)) in others_stay author j k other r.current new go ∙ r.unclaimed j free;
-            authors = λ j le. let below : k < seats = mine.below in let other : j ≢ k = λ e. omega arith in others_stay author j k other r.current new go ∙ r.authors j le;
-            views = views_set (Sees r.owner (home x) new r.claimed) s.views id w
-                record { turn = λ t. absurd (off t); own = (record { place = mine.place; below = mine.below; claim = mine.claim; began = prefix_trans start r.current new r.started (go.0, go.1); covered = (prefix_self new, refl) }, tt) }
-                (λ j v apart e. others_see r.owner r.owner r.phase (home x) r.current new r.claimed r.claimed j v (λ _ p. apart (out_out j id (sym p ∙ turn.0)))
-                  (others_own id j apart k r.current new r.owner r.claimed mine.place go) (r.views j v e));
-          },
-          λ y e. ap (λ (z : T). idle o k (history z)) (same_value x y e),
-        ))
-        (λ ne. absurd (ne found))
+      (λ _. (
+        w,
+        gives,
+        tt,
+        record {
+          phase = home x;
+          current = new;
+          claimed = r.claimed;
+          owner = r.owner;
+          words = ap (λ ws. set ws 0 even) r.words ∙ ap (λ (n : ℕ). n ∷ r.claimed ∷ []) even_is;
+          homes = ap (λ hs. set hs 0 (core.some (Some x))) homes;
+          stands = (refl, stands.1);
+          started = prefix_trans start r.current new r.started (go.0, go.1);
+          unclaimed = λ j free. let other : j ≢ k = λ e. one_or_none (sym mine.claim ∙ (ap (λ (n : ℕ). bit_at r.claimed n) (sym e) ∙ free)) in others_stay author j k other r.current new go ∙ r.unclaimed j free;
+          authors = λ j le. let below : k < seats = mine.below in let other : j ≢ k = λ e. omega arith in others_stay author j k other r.current new go ∙ r.authors j le;
+          views = views_set (Sees r.owner (home x) new r.claimed) s.views id w
+              record { turn = λ t. absurd (off t); own = (record { place = mine.place; below = mine.below; claim = mine.claim; began = prefix_trans start r.current new r.started (go.0, go.1); covered = (prefix_self new, refl) }, tt) }
+              (λ j v apart e. others_see r.owner r.owner r.phase (home x) r.current new r.claimed r.claimed j v (λ _ p. apart (out_out j id (sym p ∙ turn.0)))
+              (others_own id j apart k r.current new r.owner r.claimed mine.place go) (r.views j v e));
+        },
+        λ y e. ap (λ (z : T). idle o k (history z)) (same_value x y e),
+      ))
+      (λ ne. absurd (ne found))
 
   pub gives_turn_at : (slots id k odd even : ℕ) (o h : List E) (x : T) (m : Sat T E) → m ≡ (turning o k h, (0, Some x) ∷ []) → odd ≡ 2 * length h + 1 → even ≡ 2 * length (history x) → IsContinuedBy author k h (history x)
       → Allows Rule slots id m 0 (λ n. either (n == odd) even n) (Gives history (step slots 0 odd even core.none) m)
@@ -289,19 +288,23 @@ module _ {T E : Type 0} (history : T → List E) (author : E → ℕ) (start : L
     views = views_set (Sees owner r.phase r.current claimed) s.views id w
         record {
           turn = λ t. absurd (off t);
-          own = (record {
-            place = chosen k k id (r.owner k) (λ n. n ≡ id) (λ _. refl) (λ ne. absurd (ne refl));
-            below = below;
-            claim = ap (λ m. bit_at (bit_or r.claimed m) k) is ∙ bit_at_set_same w64 r.claimed k small;
-            began = prefix_self start;
-            covered = (r.started, r.unclaimed k free);
-          }, tt);
+          own = (
+            record {
+              place = chosen k k id (r.owner k) (λ n. n ≡ id) (λ _. refl) (λ ne. absurd (ne refl));
+              below = below;
+              claim = ap (λ m. bit_at (bit_or r.claimed m) k) is ∙ bit_at_set_same w64 r.claimed k small;
+              began = prefix_self start;
+              covered = (r.started, r.unclaimed k free);
+            },
+            tt,
+          );
         }
         (λ j v _ e. let sees = r.views j v e in record { turn = sees.turn; own = all_map (Own r.owner r.current r.claimed j) (Own owner r.current claimed j) (keeps_own r.owner r.current r.claimed mask k id j small is free) v.parts sees.own });
   }
     where
       bit_0 : bit_at (bit_or r.claimed mask) 0 ≡ bit_at r.claimed 0
       bit_0 = ap (λ m. bit_at (bit_or r.claimed m) 0) is ∙ bit_at_set_other w64 r.claimed k small 0 (λ e. omega arith)
+
       first_stays : (p : Phase T) → Stands history author start seats r.current r.claimed s.views p → Stands history author start seats r.current (bit_or r.claimed mask) (set s.views id (resting start k start)) p
       first_stays early h = (h.0, bit_0 ∙ h.1)
       first_stays (home x) h = (h.0, bit_0 ∙ h.1)
@@ -321,10 +324,20 @@ module _ {T E : Type 0} (history : T → List E) (author : E → ℕ) (start : L
     where
       claims : Allows Rule slots id (fresh start, []) 1 (λ n. bit_or n mask) (Claims {T = T} (step slots 1 mask 0 core.none) (fresh start, []))
       claims s r _ at _ = dite (ℕ_discrete (bit_at r.claimed k) 0)
-          (λ free. (resting start k start, keeps, tt, claims_0 slots id k mask positive small below is s r at free,
-            λ j fits same. let one : j ≡ k = mask_of j k mask fits small same is in ((λ _. ap (λ (n : ℕ). idle start n start) (sym one)), (λ taken. absurd (taken (ap (λ (x : ℕ × ℕ). bit_at x.0 x.1) (λ i. (word_1 s r i, one i)) ∙ free))))))
-          (λ taken. (fresh start, keeps, tt, claims_nothing s r id k mask small is at taken,
-            λ j fits same. let one : j ≡ k = mask_of j k mask fits small same is in ((λ free. absurd (taken (sym (ap (λ (x : ℕ × ℕ). bit_at x.0 x.1) (λ i. (word_1 s r i, one i))) ∙ free))), (λ _. refl))))
+          (λ free. (
+            resting start k start,
+            keeps,
+            tt,
+            claims_0 slots id k mask positive small below is s r at free,
+            λ j fits same. let one : j ≡ k = mask_of j k mask fits small same is in ((λ _. ap (λ (n : ℕ). idle start n start) (sym one)), (λ taken. absurd (taken (ap (λ (x : ℕ × ℕ). bit_at x.0 x.1) (λ i. (word_1 s r i, one i)) ∙ free)))),
+          ))
+          (λ taken. (
+            fresh start,
+            keeps,
+            tt,
+            claims_nothing s r id k mask small is at taken,
+            λ j fits same. let one : j ≡ k = mask_of j k mask fits small same is in ((λ free. absurd (taken (sym (ap (λ (x : ℕ × ℕ). bit_at x.0 x.1) (λ i. (word_1 s r i, one i))) ∙ free))), (λ _. refl)),
+          ))
 
   claims_1 : (s : St) (r : Rule s) (id : ℕ) → 0 < seats → get_elem? s.views id ≡ core.some (fresh start) → bit_at r.claimed 0 ≡ 0 → r.phase ≡ early
       → Rule (stepped s 1 (bit_or (get_or s.words 1 0) 1) id [] (turning start 0 start) (takes 0 None))
@@ -364,10 +377,20 @@ module _ {T E : Type 0} (history : T → List E) (author : E → ℕ) (start : L
     where
       claims : Allows Rule slots id (fresh start, []) 1 (λ n. bit_or n 1) (ClaimsFirst {T = T} (step slots 1 1 0 core.none) (fresh start, []))
       claims s r _ at _ = dite (ℕ_discrete (bit_at r.claimed 0) 0)
-          (λ free. let p : r.phase ≡ early = free_at_early s r free in (turning start 0 start, takes 0 None, ap (λ hs. get_elem? hs 0) (r.homes ∙ ap (λ q. slot_in q ∷ []) p), claims_1 s r id below at free p,
-            ((λ _. refl), (λ taken. absurd (taken (ap (λ (n : ℕ). bit_at n 0) (word_1 s r) ∙ free))))))
-          (λ taken. (fresh start, keeps, tt, claims_nothing s r id 0 1 (let l : 0 < 64 = omega arith in l) refl at taken,
-            ((λ free. absurd (taken (sym (ap (λ (n : ℕ). bit_at n 0) (word_1 s r)) ∙ free))), (λ _. refl))))
+          (λ free. let p : r.phase ≡ early = free_at_early s r free in (
+            turning start 0 start,
+            takes 0 None,
+            ap (λ hs. get_elem? hs 0) (r.homes ∙ ap (λ q. slot_in q ∷ []) p),
+            claims_1 s r id below at free p,
+            ((λ _. refl), (λ taken. absurd (taken (ap (λ (n : ℕ). bit_at n 0) (word_1 s r) ∙ free)))),
+          ))
+          (λ taken. (
+            fresh start,
+            keeps,
+            tt,
+            claims_nothing s r id 0 1 (let l : 0 < 64 = omega arith in l) refl at taken,
+            ((λ free. absurd (taken (sym (ap (λ (n : ℕ). bit_at n 0) (word_1 s r)) ∙ free))), (λ _. refl)),
+          ))
 
   -- what the seat at other owned is owned by the seat at id
   abbrev handed : (ℕ → ℕ) → ℕ → ℕ → ℕ → ℕ
@@ -410,14 +433,14 @@ module _ {T E : Type 0} (history : T → List E) (author : E → ℕ) (start : L
         views = views_set (Sees owner r.phase r.current r.claimed) vs other spent
             record { turn = λ t. absurd (off t); own = tt }
             (λ j u not_other e. views_set (λ i x. i ≢ other → Sees owner r.phase r.current r.claimed i x) s.views id b
-              (λ _. record {
-                turn = λ t. absurd (off t);
-                own = all_append (Own owner r.current r.claimed id) v.parts w.parts
-                    (all_map (Own r.owner r.current r.claimed id) (Own owner r.current r.claimed id) (moved r.owner r.current r.claimed other id id (λ e. apart (sym e))) v.parts (r.views id v at).own)
-                    (all_map (Own r.owner r.current r.claimed other) (Own owner r.current r.claimed id) (taken_over r.owner r.current r.claimed other id) w.parts (r.views other w there').own);
-              })
-              (λ i x _ e' not_it. let sees = r.views i x e' in record { turn = sees.turn; own = all_map (Own r.owner r.current r.claimed i) (Own owner r.current r.claimed i) (moved r.owner r.current r.claimed other id i not_it) x.parts sees.own })
-              j u e not_other);
+            (λ _. record {
+              turn = λ t. absurd (off t);
+              own = all_append (Own owner r.current r.claimed id) v.parts w.parts
+                  (all_map (Own r.owner r.current r.claimed id) (Own owner r.current r.claimed id) (moved r.owner r.current r.claimed other id id (λ e. apart (sym e))) v.parts (r.views id v at).own)
+                  (all_map (Own r.owner r.current r.claimed other) (Own owner r.current r.claimed id) (taken_over r.owner r.current r.claimed other id) w.parts (r.views other w there').own);
+            })
+            (λ i x _ e' not_it. let sees = r.views i x e' in record { turn = sees.turn; own = all_map (Own r.owner r.current r.claimed i) (Own owner r.current r.claimed i) (moved r.owner r.current r.claimed other id i not_it) x.parts sees.own })
+            j u e not_other);
       }
 
   -- a number in the list has its part
@@ -434,9 +457,11 @@ module _ {T E : Type 0} (history : T → List E) (author : E → ℕ) (start : L
       go early is = let stands = subst (Stands history author start seats f.1.0.current f.1.0.claimed f.0.views) is f.1.0.stands in
           let o = part_of (Own f.1.0.owner f.1.0.current f.1.0.claimed id) 0 v.parts (f.1.0.views id v f.1.1).own (all 0 some_seats) in
           absurd (one_or_none (sym (ap (λ n. bit_at f.1.0.claimed n) (sym o.1) ∙ o.2.claim) ∙ stands.1))
-      go (home x) is = let stands = subst (Stands history author start seats f.1.0.current f.1.0.claimed f.0.views) is f.1.0.stands in
-          (x, f.4 0 (Some x) (ap (λ hs. get_elem? hs 0) (f.1.0.homes ∙ ap (λ q. slot_in q ∷ []) is)),
-            all_map (Own f.1.0.owner f.1.0.current f.1.0.claimed id) (Covers author (history x)) (λ p o. subst (λ (c : List E). Covers author c p) (sym stands.0) o.covered) v.parts (f.1.0.views id v f.1.1).own)
+      go (home x) is = let stands = subst (Stands history author start seats f.1.0.current f.1.0.claimed f.0.views) is f.1.0.stands in (
+        x,
+        f.4 0 (Some x) (ap (λ hs. get_elem? hs 0) (f.1.0.homes ∙ ap (λ q. slot_in q ∷ []) is)),
+        all_map (Own f.1.0.owner f.1.0.current f.1.0.claimed id) (Covers author (history x)) (λ p o. subst (λ (c : List E). Covers author c p) (sym stands.0) o.covered) v.parts (f.1.0.views id v f.1.1).own,
+      )
       go (out j) is = let stands = subst (Stands history author start seats f.1.0.current f.1.0.claimed f.0.views) is f.1.0.stands in
           let w : View E = stands.0.0 in
           let sees = f.1.0.views j w stands.0.1 in

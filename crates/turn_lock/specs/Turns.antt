@@ -1,5 +1,5 @@
 -- The rule of the lock, and what each step tells.
-use Rattle.std.specs.Prelude.{◌≡◌, ◌≢◌, ℕ, ◌+◌, ◌*◌, ◌%◌, ◌<◌, ◌≤◌, ◌^◌, Bool, true, false, List, [], ◌∷◌, ◌++◌, length, Option, Some, None}
+use Rattle.std.specs.Prelude.{◌≡◌, ◌≢◌, ℕ, ◌+◌, ◌*◌, ◌%◌, ◌<◌, ◌≤◌, ◌^◌, true, false, List, [], ◌∷◌, ◌++◌, length, Option, Some, None}
 use Rattle.std.specs.Int.{bit_at}
 use Rattle.std.specs.List.{AllByRecursion}
 use mathlib.Core.Option as core
@@ -9,7 +9,7 @@ use Rattle.atomic_table.specs.Table.{State, Me, Step}
 use Rattle.atomic_table.specs.Seated.{TableId}
 use Rattle.atomic_table.specs.declared.shared.Seat.{Seat}
 use Rattle.turn_lock.specs.declared.view.View.{View}
-use Rattle.turn_lock.specs.Parts.{entries_by, Part, has_number, number_in, known_in, Covers}
+use Rattle.turn_lock.specs.Parts.{entries_by, number_in, known_in, Covers}
 
 -- where the value is: the lock is being made, or the value is at home, or out with the seat at that place
 pub data Phase (T : Type 0) : Type 0 where

@@ -14,6 +14,3 @@ mod view;
 pub use journal::Journal;
 pub use lock::{TurnLock, ValueBack};
 pub use view::{TurnSeat, View};
-
-
-

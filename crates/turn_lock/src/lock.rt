@@ -129,9 +129,7 @@ impl<T: Journal> TurnLock<T> {
         let mut closed = table.close_with(seat);
         let slot = closed.take(0);
         closed.free();
-        let Some(value) = slot else {
-            unreachable!()
-        };
+        let Some(value) = slot else { unreachable!() };
         value
     }
 }

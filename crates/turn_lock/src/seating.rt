@@ -47,11 +47,7 @@ pub(crate) fn split<T: Journal>(table: &TurnTable<T>, seat: &mut TurnSeat<T>) ->
 }
 
 /// Claims the number 0. The seat then has the turn.
-pub(crate) fn claim_first<T: Journal, R: Wait>(
-    rt: &R,
-    table: &TurnTable<T>,
-    seat: &mut TurnSeat<T>,
-)
+pub(crate) fn claim_first<T: Journal, R: Wait>(rt: &R, table: &TurnTable<T>, seat: &mut TurnSeat<T>)
     requires table { seat.old.table_id ≡ table.now.shared.table_id }
     requires shape { (table.now.shared.table_id.words ≡ 2) × (table.now.shared.table_id.slots ≡ 1) }
     requires some { 0 < table.now.shared.key.seats }

@@ -13,7 +13,7 @@ use std::sync::atomic::{AtomicU64, Ordering};
 use std::test::Fail;
 use std::thread;
 use std::thread::Threads;
-use swap_base::{Digest, Listed, PartyId, Shared, TryCopy};
+use swap_base::{Digest, Listed, NoMemory, PartyId, Shared, TryCopy};
 use swap_digraph::{ArcEnds, Deal, Digraph, Mode, Version};
 
 const TRIES: u64 = 1_000_000_000;
@@ -53,7 +53,7 @@ fn small_deal(alloc: Global) -> Result<Deal, Fail>
     })
 }
 
-fn publish(alloc: Global) -> Result<Call, Fail> {
+fn publish(alloc: Global) -> Result<Call, NoMemory> {
     let mut locks = LockList::new();
     locks.push(HASHLOCK);
     let terms = Terms {
@@ -200,7 +200,7 @@ fn a_call_is_answered_while_another_ledgers_turn_is_taken(rt: HostRuntime) -> Re
 }
 
 /// One of four calls, in turn.
-fn call_number(alloc: Global, i: u32, other: PartyId) -> Result<Call, Fail> {
+fn call_number(alloc: Global, i: u32, other: PartyId) -> Result<Call, NoMemory> {
     match i % 4 {
         0 => publish(alloc),
         1 => Ok(Call::Transfer(other, 1)),
@@ -224,9 +224,7 @@ fn call_often<R: Wait>(
     ensures { IfSome result (λ p. (p.lock ≡ pass.lock) × (p.deal ≡ pass.deal) × (p.arc ≡ pass.arc) × (p.party ≡ pass.party)) }
 {
     for i in 0..32 {
-        let Ok(call) = call_number(alloc, i, other) else {
-            return None;
-        };
+        let call = call_number(alloc, i, other).ok()?;
         make(rt, deal, ledger, &mut pass, call)?;
     }
     Some(pass)
@@ -237,9 +235,7 @@ fn tick_often<R: Wait>(rt: &R, ledger: &SharedLedger, mut pass: ClockPass) -> Op
     ensures { IfSome result (λ p. p.lock ≡ pass.lock) }
 {
     for _ in 0..100 {
-        let Ok(_) = ledger.tick(rt, &mut pass, 1) else {
-            return None;
-        };
+        ledger.tick(rt, &mut pass, 1).ok()?;
     }
     Some(pass)
 }

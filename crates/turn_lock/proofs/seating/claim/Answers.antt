@@ -1,4 +1,4 @@
-use Rattle.std.proofs.Common.{rules, ap, ◌∙◌, refl}
+use Rattle.std.proofs.Common.{rules, ◌∙◌, refl}
 use Rattle.turn_lock.proofs.Keeps.{claims_at}
 use Rattle.turn_lock.proofs.seating.claim.Goals as goal
 

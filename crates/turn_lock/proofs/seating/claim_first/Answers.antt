@@ -1,4 +1,4 @@
-use Rattle.std.proofs.Common.{rules, ap, ◌∙◌, refl}
+use Rattle.std.proofs.Common.{rules, ◌∙◌}
 use Rattle.turn_lock.proofs.Keeps.{claims_first_at}
 use Rattle.turn_lock.proofs.seating.claim_first.Goals as goal
 

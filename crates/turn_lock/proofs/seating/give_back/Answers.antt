@@ -1,4 +1,4 @@
-use Rattle.std.proofs.Common.{rules, ap, ◌∙◌, refl, Some, ◌∷◌, ◌*◌, ◌+◌, ℕ, length}
+use Rattle.std.proofs.Common.{rules, ap, ◌∙◌, Some, ◌∷◌, ◌*◌, ◌+◌, ℕ, length}
 use Rattle.atomic_table.specs.Table.{rest}
 use Rattle.turn_lock.specs.Parts.{known_in}
 use Rattle.turn_lock.proofs.Keeps.{gives_turn_at, counts_at}

@@ -1,4 +1,4 @@
-use Rattle.std.proofs.Common.{rules, ap, ◌∙◌, ◌∷◌, ◌*◌, ◌+◌, ℕ, [], refl, sym}
+use Rattle.std.proofs.Common.{ap, ◌∷◌, ◌*◌, ◌+◌, ℕ, []}
 use Rattle.turn_lock.proofs.Keeps.{begins}
 use Rattle.turn_lock.proofs.seating.vacant.Goals as goal
 

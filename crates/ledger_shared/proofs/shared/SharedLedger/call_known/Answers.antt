@@ -6,7 +6,7 @@ use Rattle.ledger_shared.proofs.shared.SharedLedger.call_known.Goals as goal
 pub give-requires-clause-further : goal.give-requires-clause-further
 give-requires-clause-further g c =
     subst (λ s. IsContinued s c.call_at_end.new.ledger.history) (sym c.take-ledger.ensures.turn)
-      (party_continued c.pass.inside c.pass.invariant c.take-ledger.result c.call_at_end.new.ledger.history _ _ c.take-ledger.ensures.ledger c.in-Ok.ensures.history)
+    (party_continued c.pass.inside c.pass.invariant c.take-ledger.result c.call_at_end.new.ledger.history _ _ c.take-ledger.ensures.ledger c.in-Ok.ensures.history)
 
 pub give-requires-in-Err-clause-further : goal.give-requires-in-Err-clause-further
 give-requires-in-Err-clause-further g c = unchanged c.pass.inside.seat _ c.take-ledger.result _ c.take-ledger.ensures.turn c.in-Err.ensures.kept
@@ -30,11 +30,11 @@ pub returns-in-Ok-clause-seen : goal.returns-in-Ok-clause-seen
 returns-in-Ok-clause-seen g c =
     let p = c.pass.inside in
     rw (← c.pass.view_is)
-      (party_sees p c.pass.invariant c.give.new.seat _ _ _ (turned p.seat _ _ _ _ c.take-ledger.ensures.turn c.give.ensures) c.len-pass-inside.ensures
-        (seen_grows p.seen p.seat.known _ _ _ _ c.pass.invariant.rests.within c.take-ledger.ensures.ledger.longer c.in-Ok.ensures.history c.in-Ok.ensures.fresh))
+    (party_sees p c.pass.invariant c.give.new.seat _ _ _ (turned p.seat _ _ _ _ c.take-ledger.ensures.turn c.give.ensures) c.len-pass-inside.ensures
+    (seen_grows p.seen p.seat.known _ _ _ _ c.pass.invariant.rests.within c.take-ledger.ensures.ledger.longer c.in-Ok.ensures.history c.in-Ok.ensures.fresh))
 
 pub returns-in-Ok-clause-whole : goal.returns-in-Ok-clause-whole
 returns-in-Ok-clause-whole g c =
     let p = c.pass.inside in
     rw (← c.pass.view_is)
-      (party_whole p c.pass.invariant c.give.new.seat _ _ (turned p.seat _ _ _ _ c.take-ledger.ensures.turn c.give.ensures) c.len-pass-inside.ensures (longer _ _ _ _ c.take-ledger.ensures.ledger.longer c.in-Ok.ensures.history))
+    (party_whole p c.pass.invariant c.give.new.seat _ _ (turned p.seat _ _ _ _ c.take-ledger.ensures.turn c.give.ensures) c.len-pass-inside.ensures (longer _ _ _ _ c.take-ledger.ensures.ledger.longer c.in-Ok.ensures.history))

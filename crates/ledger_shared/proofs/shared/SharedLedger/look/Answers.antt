@@ -23,8 +23,8 @@ pub returns-in-Ok-clause-seen : goal.returns-in-Ok-clause-seen
 returns-in-Ok-clause-seen g c =
     let p = c.pass.inside in
     rw (← c.pass.view_is)
-      (party_sees p c.pass.invariant c.give.new.seat _ _ _ (turned p.seat _ _ _ _ c.take-ledger.ensures.turn c.give.ensures) c.len-pass-inside.ensures
-        (sym (seen_whole p.seen p.seat.known _ c.pass.invariant.rests.within c.take-ledger.ensures.ledger.longer) ∙ ap (λ w. take p.seen p.seat.known ++ w) (sym c.in-Ok.ensures.fresh)))
+    (party_sees p c.pass.invariant c.give.new.seat _ _ _ (turned p.seat _ _ _ _ c.take-ledger.ensures.turn c.give.ensures) c.len-pass-inside.ensures
+    (sym (seen_whole p.seen p.seat.known _ c.pass.invariant.rests.within c.take-ledger.ensures.ledger.longer) ∙ ap (λ w. take p.seen p.seat.known ++ w) (sym c.in-Ok.ensures.fresh)))
 
 pub returns-in-Ok-clause-foreign : goal.returns-in-Ok-clause-foreign
 returns-in-Ok-clause-foreign g c =

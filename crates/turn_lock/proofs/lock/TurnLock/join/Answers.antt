@@ -1,4 +1,4 @@
-use Rattle.std.proofs.Common.{rules, ap, ◌∙◌, refl}
+use Rattle.std.proofs.Common.{rules}
 use Rattle.turn_lock.proofs.Keeps.{joins}
 use Rattle.turn_lock.proofs.lock.TurnLock.join.Goals as goal
 

@@ -1,4 +1,4 @@
-use Rattle.std.proofs.Common.{rules, ◌≡◌, ◌≤◌, ℕ, ◌+◌, length, ◌++◌, ◌∷◌, [], sym, ap, ◌∙◌, arith, subst, length-append, zero-add, vec_capacity}
+use Rattle.std.proofs.Common.{rules, ◌≤◌, length, ◌∷◌, [], sym, ap, ◌∙◌, arith, subst, length-append, zero-add, vec_capacity}
 use Rattle.turn_lock.specs.Turns.{idle, SeatsFrom}
 use Rattle.turn_lock.proofs.Keeps.{seats_snoc}
 use Rattle.turn_lock.proofs.lock.TurnLock.new.Goals as goal
