@@ -1,5 +1,6 @@
 -- What the lines of a ledger say of its entries.
-use Rattle.std.proofs.Common.{◌≡◌, ◌≢◌, ℕ, suc, ◌+◌, ◌<◌, ◌==◌, eqb, Bool, true, false, List, [], ◌∷◌, ◌++◌, length, filter, refl, sym, ap, ◌∙◌, subst, arith, if◌then◌else◌}
+use Rattle.std.proofs.Common.{◌≡◌, ◌≢◌, ℕ, suc, ◌+◌, ◌<◌, ◌==◌, eqb, Bool, true, false, List, [], ◌∷◌, ◌++◌, length, filter, refl, sym, ap, ◌∙◌, subst, arith}
+use Rattle.std.proofs.Common.{if◌then◌else◌}
 use Rattle.std.specs.List.{AllByRecursion}
 use mathlib.Core.List.{IsPrefix}
 use Rattle.turn_lock.specs.Parts.{entries_by, Covers, AreBelow}
@@ -28,7 +29,8 @@ pub length_made : (d : Deal) (a : ℕ) (h : List Entry) → length (made_lines d
 length_made d a [] = refl
 length_made d a (e ∷ h) = ap (λ n. suc n) (length_made d a h)
 
-both : (b : Bool) (k : ℕ) (e : Entry) (ls : List Line) (h : List Entry) → entries_in ls ≡ h → entries_in (if b then Made k e ∷ ls else ls) ≡ (if b then e ∷ h else h)
+both : (b : Bool) (k : ℕ) (e : Entry) (ls : List Line) (h : List Entry) → entries_in ls ≡ h
+    → entries_in (if b then Made k e ∷ ls else ls) ≡ (if b then e ∷ h else h)
 both true k e ls h is = ap (λ w. e ∷ w) is
 both false k e ls h is = is
 
@@ -38,7 +40,8 @@ headed false d a ls = refl
 
 unmade_by : (k : ℕ) (d : Deal) (a : ℕ) (h : List Entry) → entries_in (entries_by author_of k (made_lines d a h)) ≡ entries_on d a k h
 unmade_by k d a [] = refl
-unmade_by k d a (e ∷ h) = both (side_of d a e.sender == k) (side_of d a e.sender) e (entries_by author_of k (made_lines d a h)) (entries_on d a k h) (unmade_by k d a h)
+unmade_by k d a (e ∷ h) = both (side_of d a e.sender == k) (side_of d a e.sender) e (entries_by author_of k (made_lines d a h)) (entries_on d a k h)
+    (unmade_by k d a h)
 
 lines_by : (k : ℕ) (d : Deal) (a : ℕ) (h : List Entry) → entries_in (entries_by author_of k (lines d a h)) ≡ entries_on d a k h
 lines_by k d a h = headed (2 == k) d a (entries_by author_of k (made_lines d a h)) ∙ unmade_by k d a h
@@ -55,7 +58,8 @@ goes_longer k d c a b h s v = (entries_in v.0.0, sym (unmade_append c b s v.0.0)
 pub goes_on : (k : ℕ) (d c : Deal) (a b : ℕ) (h s : List Entry) → Covers author_of (lines d a h) (k, lines c b s) → entries_on d a k h ≡ entries_on c b k s
 goes_on k d c a b h s v = sym (lines_by k d a h) ∙ (ap entries_in v.1 ∙ lines_by k c b s)
 
-pub all_made : (d : Deal) (a k : ℕ) (rest : List Entry) → AllByRecursion (λ e. side_of d a e.sender ≡ k) rest → AllByRecursion (λ l. author_of l ≡ k) (made_lines d a rest)
+pub all_made : (d : Deal) (a k : ℕ) (rest : List Entry) → AllByRecursion (λ e. side_of d a e.sender ≡ k) rest
+    → AllByRecursion (λ l. author_of l ≡ k) (made_lines d a rest)
 all_made d a k [] all = tt
 all_made d a k (e ∷ es) all = (all.0, all_made d a k es all.1)
 

@@ -1,5 +1,6 @@
 -- What a pass has seen, and what it learns.
-use Rattle.std.proofs.Common.{◌≡◌, ◌≢◌, ℕ, zero, suc, ◌+◌, ◌≤◌, ◌<◌, ◌==◌, ◌||◌, Bool, true, false, true≢false, IsTrue, List, [], ◌∷◌, ◌++◌, length, take, drop, filter, refl, sym, ap, ◌∙◌, subst, arith, append-nil, append_assoc, if◌then◌else◌, eqb-true, eq-eqb, ne_eqb}
+use Rattle.std.proofs.Common.{◌≡◌, ◌≢◌, ℕ, zero, suc, ◌+◌, ◌≤◌, ◌<◌, ◌==◌, ◌||◌, Bool, true, false, true≢false, IsTrue, List, [], ◌∷◌, ◌++◌, length, take}
+use Rattle.std.proofs.Common.{drop, filter, refl, sym, ap, ◌∙◌, subst, arith, append-nil, append_assoc, if◌then◌else◌, eqb-true, eq-eqb, ne_eqb}
 use Rattle.std.proofs.lemmas.List.{take_all}
 use Rattle.std.proofs.lemmas.List.{take-append-drop, take-append-le, drop-append-le, length-append}
 use Rattle.std.proofs.lemmas.List.Elements.{filter-append}
@@ -21,7 +22,8 @@ use Rattle.ledger_core.specs.Value.{LedgerState}
 use Rattle.ledger_shared.specs.Lines.{side_of, entries_on}
 use Rattle.ledger_shared.specs.Seat.{SeatState, knowing, new_seat, GoesOn, IsContinued}
 use Rattle.ledger_shared.specs.Pass.{pass_of, clock_pass_of, Rests, IsOfParty, IsOfClock}
-use Rattle.ledger_shared.specs.Value.{made_by, ticks_in_order, with_seen, clock_with_seen, added_by_call, added_by_tick, HasCalled, HasTicked, Closes, ClosesClock}
+use Rattle.ledger_shared.specs.Value.{made_by, ticks_in_order, with_seen, clock_with_seen, added_by_call, added_by_tick, HasCalled, HasTicked, Closes}
+use Rattle.ledger_shared.specs.Value.{ClosesClock}
 use Rattle.ledger_shared.specs.declared.pass.Pass.TheInside as pass
 use Rattle.ledger_shared.specs.declared.pass.ClockPass.TheInside as clock
 
@@ -37,12 +39,14 @@ seen_in n known h within pre = sym (take-append-le n known pre.0 within) ∙ ap 
 
 module _ (f : Entry → Bool) where
   -- none stands past what was seen, where none did in what was known and the history has no more of them
-  pub none_fresh : (n : ℕ) (known h : List Entry) → n ≤ length known → IsPrefix known h → filter f known ≡ filter f (take n known) → filter f h ≡ filter f known → filter f (drop n h) ≡ []
+  pub none_fresh : (n : ℕ) (known h : List Entry) → n ≤ length known → IsPrefix known h → filter f known ≡ filter f (take n known)
+      → filter f h ≡ filter f known → filter f (drop n h) ≡ []
   none_fresh n known h within pre own same =
       let whole : take n known ++ drop n h ≡ h = ap (λ w. w ++ drop n h) (seen_in n known h within pre) ∙ take-append-drop n h in
       append_self (filter f (take n known)) (filter f (drop n h)) (sym (filter-append f (take n known) (drop n h)) ∙ (ap (filter f) whole ∙ (same ∙ own)))
 
-  pub own_kept : (n : ℕ) (known h : List Entry) → n ≤ length known → IsPrefix known h → filter f known ≡ filter f (take n known) → filter f h ≡ filter f known → filter f h ≡ filter f (take n h)
+  pub own_kept : (n : ℕ) (known h : List Entry) → n ≤ length known → IsPrefix known h → filter f known ≡ filter f (take n known)
+      → filter f h ≡ filter f known → filter f h ≡ filter f (take n h)
   own_kept n known h within pre own same = same ∙ (own ∙ ap (filter f) (seen_in n known h within pre))
 
 pub own_all : (f : Entry → Bool) (n : ℕ) (h : List Entry) → n ≡ length h → filter f h ≡ filter f (take n h)
@@ -53,7 +57,8 @@ own_all f n h is = ap (filter f) (sym (take_all n h (omega arith)))
 pub sides_are : (d : Deal) (a k p : ℕ) (h : List Entry) → ((s : Sender) → (side_of d a s == k) ≡ sent_by p s) → entries_on d a k h ≡ made_by p h
 sides_are d a k p h side = ap (λ (f : Entry → Bool). filter f h) (λ i e. side e.sender i)
 
-one_more : {A : Type 0} (p : A → Bool) (x : A) (b c : Bool) (qs ps : List A) → filter p qs ≡ ps → p x ≡ b → (b ≡ true → c ≡ true) → filter p (if c then x ∷ qs else qs) ≡ (if b then x ∷ ps else ps)
+one_more : {A : Type 0} (p : A → Bool) (x : A) (b c : Bool) (qs ps : List A) → filter p qs ≡ ps → p x ≡ b → (b ≡ true → c ≡ true)
+    → filter p (if c then x ∷ qs else qs) ≡ (if b then x ∷ ps else ps)
 one_more p x b true qs ps same is f = λ i. if is i then x ∷ same i else same i
 one_more p x true false qs ps same is f = absurd (true≢false (sym (f refl)))
 one_more p x false false qs ps same is f = same
@@ -94,7 +99,8 @@ pub unchanged : (s mid : SeatState) (l : LedgerState) (h : List Entry) → mid �
 unchanged s mid l h turn is = subst (λ x. IsContinued x h) (sym turn) ([], is ∙ sym (append-nil l.history), tt)
 
 -- what was seen, with what is fresh, is the whole
-pub seen_grows : (n : ℕ) (known h more new fresh : List Entry) → n ≤ length known → IsPrefix known h → new ≡ h ++ more → fresh ≡ drop n h ++ more → new ≡ take n known ++ fresh
+pub seen_grows : (n : ℕ) (known h more new fresh : List Entry) → n ≤ length known → IsPrefix known h → new ≡ h ++ more → fresh ≡ drop n h ++ more
+    → new ≡ take n known ++ fresh
 seen_grows n known h more new fresh within pre is fresh_is =
     is ∙ (ap (λ w. w ++ more) (sym (take-append-drop n h))
     ∙ (append_assoc (take n h) (drop n h) more
@@ -121,10 +127,12 @@ module _ (p : pass.Inside) (k : IsOfParty p) where
   then_at s n = record { seat = s; party = p.party; seen = n }
 
   same_mine : (l : LedgerState) → GoesOn p.seat l → made_by p.party l.history ≡ made_by p.party p.seat.known
-  same_mine l g = sym (sides_are p.seat.deal p.seat.arc p.seat.number p.party l.history k.side) ∙ (g.own ∙ sides_are p.seat.deal p.seat.arc p.seat.number p.party p.seat.known k.side)
+  same_mine l g = sym (sides_are p.seat.deal p.seat.arc p.seat.number p.party l.history k.side)
+      ∙ (g.own ∙ sides_are p.seat.deal p.seat.arc p.seat.number p.party p.seat.known k.side)
 
   pub party_all : (s : SeatState) (n : ℕ) (h : List Entry) → s ≡ knowing p.seat false h → IsPrefix p.seat.known h → n ≡ length h → IsOfParty (then_at s n)
-  party_all s n h is pre len = subst (λ x. IsOfParty (then_at x n)) (sym is) (record { rests = rests_all p.seat p.seen n h k.rests pre len; of_the_two = k.of_the_two; apart = k.apart; side = k.side; mine = own_all (λ e. sent_by p.party e.sender) n h len })
+  party_all s n h is pre len = subst (λ x. IsOfParty (then_at x n)) (sym is) (record { rests = rests_all p.seat p.seen n h k.rests pre len; of_the_two =
+      k.of_the_two; apart = k.apart; side = k.side; mine = own_all (λ e. sent_by p.party e.sender) n h len })
 
   pub party_kept : (s : SeatState) (l : LedgerState) → GoesOn p.seat l → s ≡ knowing p.seat false l.history → IsOfParty (then_at s p.seen)
   party_kept s l g is = subst (λ x. IsOfParty (then_at x p.seen)) (sym is)
@@ -136,19 +144,25 @@ module _ (p : pass.Inside) (k : IsOfParty p) where
         mine = own_kept (λ e. sent_by p.party e.sender) p.seen p.seat.known l.history k.rests.within g.longer k.mine (same_mine l g);
       })
 
-  pub party_sees : (s : SeatState) (n : ℕ) (h fresh : List Entry) → s ≡ knowing p.seat false h → n ≡ length h → h ≡ take p.seen p.seat.known ++ fresh → pass_of (then_at s n) ≡ with_seen (pass_of p) fresh
-  party_sees s n h fresh is len grows = ap (λ x. pass_of (then_at x n)) is ∙ (λ i. record { lock = p.seat.lock; deal = p.seat.deal; arc = p.seat.arc; party = p.party; shared = p.seat.shared; seen = (take_all n h (omega arith) ∙ grows) i })
+  pub party_sees : (s : SeatState) (n : ℕ) (h fresh : List Entry) → s ≡ knowing p.seat false h → n ≡ length h → h ≡ take p.seen p.seat.known ++ fresh
+      → pass_of (then_at s n) ≡ with_seen (pass_of p) fresh
+  party_sees s n h fresh is len grows = ap (λ x. pass_of (then_at x n)) is ∙ (λ i. record { lock = p.seat.lock; deal = p.seat.deal; arc = p.seat.arc;
+      party = p.party; shared = p.seat.shared; seen = (take_all n h (omega arith) ∙ grows) i })
 
   pub party_same : (s : SeatState) (l : LedgerState) → GoesOn p.seat l → s ≡ knowing p.seat false l.history → pass_of (then_at s p.seen) ≡ pass_of p
-  party_same s l g is = ap (λ x. pass_of (then_at x p.seen)) is ∙ (λ i. record { lock = p.seat.lock; deal = p.seat.deal; arc = p.seat.arc; party = p.party; shared = p.seat.shared; seen = sym (seen_in p.seen p.seat.known l.history k.rests.within g.longer) i })
+  party_same s l g is = ap (λ x. pass_of (then_at x p.seen)) is ∙ (λ i. record { lock = p.seat.lock; deal = p.seat.deal; arc = p.seat.arc; party = p.party;
+      shared = p.seat.shared; seen = sym (seen_in p.seen p.seat.known l.history k.rests.within g.longer) i })
 
-  pub party_whole : (s : SeatState) (n : ℕ) (h : List Entry) → s ≡ knowing p.seat false h → n ≡ length h → IsPrefix p.seat.known h → IsPrefix p.seat.shared (take n s.known)
-  party_whole s n h is len pre = subst (λ w. IsPrefix p.seat.shared w) (sym (seen_is s n p.seat h is len)) (prefix_trans p.seat.shared p.seat.known h k.rests.began pre)
+  pub party_whole : (s : SeatState) (n : ℕ) (h : List Entry) → s ≡ knowing p.seat false h → n ≡ length h → IsPrefix p.seat.known h
+      → IsPrefix p.seat.shared (take n s.known)
+  party_whole s n h is len pre =
+      subst (λ w. IsPrefix p.seat.shared w) (sym (seen_is s n p.seat h is len)) (prefix_trans p.seat.shared p.seat.known h k.rests.began pre)
 
   pub party_foreign : (l : LedgerState) → GoesOn p.seat l → made_by p.party (drop p.seen l.history) ≡ []
   party_foreign l g = none_fresh (λ e. sent_by p.party e.sender) p.seen p.seat.known l.history k.rests.within g.longer k.mine (same_mine l g)
 
-  pub party_called : (l : LedgerState) (call : Call) (answer : Reply) (fresh : List Entry) → GoesOn p.seat l → answer ≡ reply_to l.deal l.arc l.history p.party call
+  pub party_called : (l : LedgerState) (call : Call) (answer : Reply) (fresh : List Entry) → GoesOn p.seat l
+      → answer ≡ reply_to l.deal l.arc l.history p.party call
       → fresh ≡ drop p.seen l.history ++ added_by_call answer (call_entry p.party (height l.history) call answer) → HasCalled (pass_of p) call answer fresh
   party_called l call answer fresh g is fresh_is =
       let whole = sym (seen_whole p.seen p.seat.known l.history k.rests.within g.longer) in record {
@@ -162,12 +176,16 @@ module _ (p : pass.Inside) (k : IsOfParty p) where
   pub own_side : (e : Entry) → e.sender ≡ Party p.party → side_of p.seat.deal p.seat.arc e.sender ≡ p.seat.number
   own_side e is = eqb-true (side_of p.seat.deal p.seat.arc e.sender) p.seat.number (k.side e.sender ∙ (ap (sent_by p.party) is ∙ eq-eqb p.party p.party refl))
 
-  pub party_continued : (l : LedgerState) (h : List Entry) (call : Call) (answer : Reply) → GoesOn p.seat l → h ≡ l.history ++ added_by_call answer (call_entry p.party (height l.history) call answer)
+  pub party_continued : (l : LedgerState) (h : List Entry) (call : Call) (answer : Reply) → GoesOn p.seat l
+      → h ≡ l.history ++ added_by_call answer (call_entry p.party (height l.history) call answer)
       → IsContinued (knowing p.seat true l.history) h
-  party_continued l h call answer g is = (added_by_call answer (call_entry p.party (height l.history) call answer), is, of_added (λ e. side_of p.seat.deal p.seat.arc e.sender ≡ p.seat.number) answer (call_entry p.party (height l.history) call answer) (own_side (call_entry p.party (height l.history) call answer) refl))
+  party_continued l h call answer g is = (added_by_call answer (call_entry p.party (height l.history) call answer), is,
+      of_added (λ e. side_of p.seat.deal p.seat.arc e.sender ≡ p.seat.number) answer (call_entry p.party (height l.history) call answer)
+          (own_side (call_entry p.party (height l.history) call answer) refl))
 
   pub party_closes : (l : LedgerState) → GoesOn p.seat l → Closes l (pass_of p)
-  party_closes l g = record { deal = g.deal; arc = g.arc; seen = prefix_trans (take p.seen p.seat.known) p.seat.known l.history (drop p.seen p.seat.known, take-append-drop p.seen p.seat.known) g.longer; mine = same_mine l g ∙ k.mine }
+  party_closes l g = record { deal = g.deal; arc = g.arc; seen = prefix_trans (take p.seen p.seat.known) p.seat.known l.history (drop p.seen p.seat.known,
+      take-append-drop p.seen p.seat.known) g.longer; mine = same_mine l g ∙ k.mine }
 
 -- The pass of the clock.
 
@@ -176,25 +194,35 @@ module _ (p : clock.Inside) (k : IsOfClock p) where
   clock_then s n = record { seat = s; seen = n }
 
   same_ticks : (l : LedgerState) → GoesOn p.seat l → ticks_in_order l.history ≡ ticks_in_order p.seat.known
-  same_ticks l g = ticks_stay p.seat.deal p.seat.arc l.history p.seat.known (subst (λ n. entries_on p.seat.deal p.seat.arc n l.history ≡ entries_on p.seat.deal p.seat.arc n p.seat.known) k.side g.own)
+  same_ticks l g = ticks_stay p.seat.deal p.seat.arc l.history p.seat.known (subst (λ n. entries_on p.seat.deal p.seat.arc n l.history
+      ≡ entries_on p.seat.deal p.seat.arc n p.seat.known) k.side g.own)
 
   pub clock_all : (s : SeatState) (n : ℕ) (h : List Entry) → s ≡ knowing p.seat false h → IsPrefix p.seat.known h → n ≡ length h → IsOfClock (clock_then s n)
-  clock_all s n h is pre len = subst (λ x. IsOfClock (clock_then x n)) (sym is) (record { rests = rests_all p.seat p.seen n h k.rests pre len; side = k.side; mine = own_all (λ e. is_tick e.sender) n h len })
+  clock_all s n h is pre len = subst (λ x. IsOfClock (clock_then x n)) (sym is) (record { rests = rests_all p.seat p.seen n h k.rests pre len; side =
+      k.side; mine = own_all (λ e. is_tick e.sender) n h len })
 
   pub clock_kept : (s : SeatState) (l : LedgerState) → GoesOn p.seat l → s ≡ knowing p.seat false l.history → IsOfClock (clock_then s p.seen)
   clock_kept s l g is = subst (λ x. IsOfClock (clock_then x p.seen)) (sym is)
-      (record { rests = rests_kept p.seat p.seen l.history k.rests g.longer; side = k.side; mine = own_kept (λ e. is_tick e.sender) p.seen p.seat.known l.history k.rests.within g.longer k.mine (same_ticks l g) })
+      (record { rests = rests_kept p.seat p.seen l.history k.rests g.longer; side = k.side; mine =
+          own_kept (λ e. is_tick e.sender) p.seen p.seat.known l.history k.rests.within g.longer k.mine (same_ticks l g) })
 
-  pub clock_sees : (s : SeatState) (n : ℕ) (h fresh : List Entry) → s ≡ knowing p.seat false h → n ≡ length h → h ≡ take p.seen p.seat.known ++ fresh → clock_pass_of (clock_then s n) ≡ clock_with_seen (clock_pass_of p) fresh
-  clock_sees s n h fresh is len grows = ap (λ x. clock_pass_of (clock_then x n)) is ∙ (λ i. record { lock = p.seat.lock; deal = p.seat.deal; arc = p.seat.arc; shared = p.seat.shared; seen = (take_all n h (omega arith) ∙ grows) i })
+  pub clock_sees : (s : SeatState) (n : ℕ) (h fresh : List Entry) → s ≡ knowing p.seat false h → n ≡ length h → h ≡ take p.seen p.seat.known ++ fresh
+      → clock_pass_of (clock_then s n) ≡ clock_with_seen (clock_pass_of p) fresh
+  clock_sees s n h fresh is len grows = ap (λ x. clock_pass_of (clock_then x n)) is ∙ (λ i. record { lock = p.seat.lock; deal = p.seat.deal; arc =
+      p.seat.arc; shared = p.seat.shared; seen = (take_all n h (omega arith) ∙ grows) i })
 
-  pub clock_same : (s : SeatState) (l : LedgerState) → GoesOn p.seat l → s ≡ knowing p.seat false l.history → clock_pass_of (clock_then s p.seen) ≡ clock_pass_of p
-  clock_same s l g is = ap (λ x. clock_pass_of (clock_then x p.seen)) is ∙ (λ i. record { lock = p.seat.lock; deal = p.seat.deal; arc = p.seat.arc; shared = p.seat.shared; seen = sym (seen_in p.seen p.seat.known l.history k.rests.within g.longer) i })
+  pub clock_same : (s : SeatState) (l : LedgerState) → GoesOn p.seat l → s ≡ knowing p.seat false l.history
+      → clock_pass_of (clock_then s p.seen) ≡ clock_pass_of p
+  clock_same s l g is = ap (λ x. clock_pass_of (clock_then x p.seen)) is ∙ (λ i. record { lock = p.seat.lock; deal = p.seat.deal; arc = p.seat.arc; shared =
+      p.seat.shared; seen = sym (seen_in p.seen p.seat.known l.history k.rests.within g.longer) i })
 
-  pub clock_whole : (s : SeatState) (n : ℕ) (h : List Entry) → s ≡ knowing p.seat false h → n ≡ length h → IsPrefix p.seat.known h → IsPrefix p.seat.shared (take n s.known)
-  clock_whole s n h is len pre = subst (λ w. IsPrefix p.seat.shared w) (sym (seen_is s n p.seat h is len)) (prefix_trans p.seat.shared p.seat.known h k.rests.began pre)
+  pub clock_whole : (s : SeatState) (n : ℕ) (h : List Entry) → s ≡ knowing p.seat false h → n ≡ length h → IsPrefix p.seat.known h
+      → IsPrefix p.seat.shared (take n s.known)
+  clock_whole s n h is len pre =
+      subst (λ w. IsPrefix p.seat.shared w) (sym (seen_is s n p.seat h is len)) (prefix_trans p.seat.shared p.seat.known h k.rests.began pre)
 
-  pub clock_ticked : (l : LedgerState) (t : ℕ) (answer : Reply) (h : List Entry) (s : SeatState) (n : ℕ) → GoesOn p.seat l → answer ≡ reply_to_tick l.history t → h ≡ l.history ++ added_by_tick answer (tick_entry t (height l.history + t) answer)
+  pub clock_ticked : (l : LedgerState) (t : ℕ) (answer : Reply) (h : List Entry) (s : SeatState) (n : ℕ) → GoesOn p.seat l
+      → answer ≡ reply_to_tick l.history t → h ≡ l.history ++ added_by_tick answer (tick_entry t (height l.history + t) answer)
       → s ≡ knowing p.seat false h → n ≡ length h → HasTicked (clock_pass_of p) t answer (clock_pass_of (clock_then s n))
   clock_ticked l t answer h s n g is h_is s_is len =
       let whole = sym (seen_whole p.seen p.seat.known l.history k.rests.within g.longer) in
@@ -202,16 +230,21 @@ module _ (p : clock.Inside) (k : IsOfClock p) where
         others = drop p.seen l.history;
         foreign = none_fresh (λ e. is_tick e.sender) p.seen p.seat.known l.history k.rests.within g.longer k.mine (same_ticks l g);
         reply = is ∙ ap (λ w. reply_to_tick w t) whole;
-        entries = clock_sees s n h fresh s_is len (seen_grows p.seen p.seat.known l.history (added_by_tick answer (tick_entry t (height l.history + t) answer)) h fresh k.rests.within g.longer h_is refl)
-            ∙ ap (λ (w : List Entry). clock_with_seen (clock_pass_of p) (drop p.seen l.history ++ added_by_tick answer (tick_entry t (height w + t) answer))) whole;
+        entries = clock_sees s n h fresh s_is len (seen_grows p.seen p.seat.known l.history
+            (added_by_tick answer (tick_entry t (height l.history + t) answer)) h fresh k.rests.within g.longer h_is refl)
+            ∙ ap (λ (w : List Entry). clock_with_seen (clock_pass_of p) (drop p.seen l.history ++ added_by_tick answer
+                (tick_entry t (height w + t) answer))) whole;
       }
 
-  pub clock_continued : (l : LedgerState) (h : List Entry) (t : ℕ) (answer : Reply) → h ≡ l.history ++ added_by_tick answer (tick_entry t (height l.history + t) answer)
+  pub clock_continued : (l : LedgerState) (h : List Entry) (t : ℕ) (answer : Reply)
+      → h ≡ l.history ++ added_by_tick answer (tick_entry t (height l.history + t) answer)
       → IsContinued (knowing p.seat true l.history) h
-  clock_continued l h t answer is = (added_by_tick answer (tick_entry t (height l.history + t) answer), is, of_ticked (λ e. side_of p.seat.deal p.seat.arc e.sender ≡ p.seat.number) answer (tick_entry t (height l.history + t) answer) (sym k.side))
+  clock_continued l h t answer is = (added_by_tick answer (tick_entry t (height l.history + t) answer), is,
+      of_ticked (λ e. side_of p.seat.deal p.seat.arc e.sender ≡ p.seat.number) answer (tick_entry t (height l.history + t) answer) (sym k.side))
 
   pub clock_closes : (l : LedgerState) → GoesOn p.seat l → ClosesClock l (clock_pass_of p)
-  clock_closes l g = record { deal = g.deal; arc = g.arc; seen = prefix_trans (take p.seen p.seat.known) p.seat.known l.history (drop p.seen p.seat.known, take-append-drop p.seen p.seat.known) g.longer; mine = same_ticks l g ∙ k.mine }
+  clock_closes l g = record { deal = g.deal; arc = g.arc; seen = prefix_trans (take p.seen p.seat.known) p.seat.known l.history (drop p.seen p.seat.known,
+      take-append-drop p.seen p.seat.known) g.longer; mine = same_ticks l g ∙ k.mine }
 
 -- New passes.
 
@@ -231,7 +264,8 @@ first_side d a (Party q) = first_test (q == party d a) (q == counterparty d a)
 first_side d a Clock = refl
 
 second_side : (d : Deal) (a : ℕ) → party d a ≢ counterparty d a → (s : Sender) → (side_of d a s == 1) ≡ sent_by (counterparty d a) s
-second_side d a apart (Party q) = second_test (q == party d a) (q == counterparty d a) (λ b c. apart (sym (eqb-true q (party d a) b) ∙ eqb-true q (counterparty d a) c))
+second_side d a apart (Party q) = second_test (q == party d a) (q == counterparty d a) (λ b c. apart (sym (eqb-true q (party d a) b)
+    ∙ eqb-true q (counterparty d a) c))
 second_side d a apart Clock = refl
 
 or_true : (b : Bool) → (b || true) ≡ true
@@ -239,23 +273,31 @@ or_true true = refl
 or_true false = refl
 
 none_past : (f : Entry → Bool) (n : ℕ) (h : List Entry) → filter f (drop n h) ≡ [] → filter f h ≡ filter f (take n h)
-none_past f n h none = ap (filter f) (sym (take-append-drop n h)) ∙ (filter-append f (take n h) (drop n h) ∙ (ap (λ w. filter f (take n h) ++ w) none ∙ append-nil (filter f (take n h))))
+none_past f n h none = ap (filter f) (sym (take-append-drop n h)) ∙ (filter-append f (take n h) (drop n h) ∙ (ap (λ w. filter f (take n h) ++ w) none
+    ∙ append-nil (filter f (take n h))))
 
-new_party : (l : LedgerState) (lock : TableId) (s : SeatState) (k p n : ℕ) → s ≡ new_seat lock l k → party l.deal l.arc ≢ counterparty l.deal l.arc → IsTrue ((p == party l.deal l.arc) || (p == counterparty l.deal l.arc))
-    → ((s : Sender) → (side_of l.deal l.arc s == k) ≡ sent_by p s) → n ≤ length l.history → made_by p (drop n l.history) ≡ [] → IsOfParty (record { seat = s; party = p; seen = n })
+new_party : (l : LedgerState) (lock : TableId) (s : SeatState) (k p n : ℕ) → s ≡ new_seat lock l k → party l.deal l.arc ≢ counterparty l.deal l.arc
+    → IsTrue ((p == party l.deal l.arc) || (p == counterparty l.deal l.arc))
+    → ((s : Sender) → (side_of l.deal l.arc s == k) ≡ sent_by p s) → n ≤ length l.history → made_by p (drop n l.history) ≡ []
+        → IsOfParty (record { seat = s; party = p; seen = n })
 new_party l lock s k p n is apart two side within none = subst (λ x. IsOfParty (record { seat = x; party = p; seen = n })) (sym is)
-    (record { rests = record { idle = refl; began = ([], append-nil l.history); within = within }; of_the_two = two; apart = apart; side = side; mine = none_past (λ e. sent_by p e.sender) n l.history none })
+    (record { rests = record { idle = refl; began = ([], append-nil l.history); within = within }; of_the_two = two; apart = apart; side = side; mine =
+        none_past (λ e. sent_by p e.sender) n l.history none })
 
-pub new_first : (l : LedgerState) (lock : TableId) (s : SeatState) (p n : ℕ) → s ≡ new_seat lock l 0 → p ≡ party l.deal l.arc → party l.deal l.arc ≢ counterparty l.deal l.arc → n ≤ length l.history → made_by (party l.deal l.arc) (drop n l.history) ≡ []
+pub new_first : (l : LedgerState) (lock : TableId) (s : SeatState) (p n : ℕ) → s ≡ new_seat lock l 0 → p ≡ party l.deal l.arc
+    → party l.deal l.arc ≢ counterparty l.deal l.arc → n ≤ length l.history → made_by (party l.deal l.arc) (drop n l.history) ≡ []
     → IsOfParty (record { seat = s; party = p; seen = n })
 new_first l lock s p n is whose apart within none = subst (λ q. IsOfParty (record { seat = s; party = q; seen = n })) (sym whose)
-    (new_party l lock s 0 (party l.deal l.arc) n is apart (ap (λ b. b || (party l.deal l.arc == counterparty l.deal l.arc)) (eq-eqb (party l.deal l.arc) (party l.deal l.arc) refl)) (first_side l.deal l.arc) within none)
+    (new_party l lock s 0 (party l.deal l.arc) n is apart (ap (λ b. b || (party l.deal l.arc == counterparty l.deal l.arc))
+        (eq-eqb (party l.deal l.arc) (party l.deal l.arc) refl)) (first_side l.deal l.arc) within none)
 
-pub new_second : (l : LedgerState) (lock : TableId) (s : SeatState) (p n : ℕ) → s ≡ new_seat lock l 1 → p ≡ counterparty l.deal l.arc → party l.deal l.arc ≢ counterparty l.deal l.arc → n ≤ length l.history → made_by (counterparty l.deal l.arc) (drop n l.history) ≡ []
+pub new_second : (l : LedgerState) (lock : TableId) (s : SeatState) (p n : ℕ) → s ≡ new_seat lock l 1 → p ≡ counterparty l.deal l.arc
+    → party l.deal l.arc ≢ counterparty l.deal l.arc → n ≤ length l.history → made_by (counterparty l.deal l.arc) (drop n l.history) ≡ []
     → IsOfParty (record { seat = s; party = p; seen = n })
 new_second l lock s p n is whose apart within none = subst (λ q. IsOfParty (record { seat = s; party = q; seen = n })) (sym whose)
     (new_party l lock s 1 (counterparty l.deal l.arc) n is apart
-    (ap (λ b. (counterparty l.deal l.arc == party l.deal l.arc) || b) (eq-eqb (counterparty l.deal l.arc) (counterparty l.deal l.arc) refl) ∙ or_true (counterparty l.deal l.arc == party l.deal l.arc))
+    (ap (λ b. (counterparty l.deal l.arc == party l.deal l.arc) || b) (eq-eqb (counterparty l.deal l.arc) (counterparty l.deal l.arc) refl)
+        ∙ or_true (counterparty l.deal l.arc == party l.deal l.arc))
     (second_side l.deal l.arc apart) within none)
 
 -- whose number a pass has
@@ -263,9 +305,11 @@ number_of_party : (p : pass.Inside) → IsOfParty p → side_of p.seat.deal p.se
 number_of_party p k = eqb-true (side_of p.seat.deal p.seat.arc (Party p.party)) p.seat.number (k.side (Party p.party) ∙ eq-eqb p.party p.party refl)
 
 pub first_number : (p : pass.Inside) → IsOfParty p → p.party ≡ party p.seat.deal p.seat.arc → p.seat.number ≡ 0
-first_number p k whose = sym (number_of_party p k) ∙ ap (λ b. if b then 0 else (if p.party == counterparty p.seat.deal p.seat.arc then 1 else 2)) (eq-eqb p.party (party p.seat.deal p.seat.arc) whose)
+first_number p k whose = sym (number_of_party p k) ∙ ap (λ b. if b then 0 else (if p.party == counterparty p.seat.deal p.seat.arc then 1 else 2))
+    (eq-eqb p.party (party p.seat.deal p.seat.arc) whose)
 
 pub second_number : (p : pass.Inside) → IsOfParty p → p.party ≡ counterparty p.seat.deal p.seat.arc → p.seat.number ≡ 1
 second_number p k whose = sym (number_of_party p k)
-    ∙ (ap (λ b. if b then 0 else (if p.party == counterparty p.seat.deal p.seat.arc then 1 else 2)) (ne_eqb p.party (party p.seat.deal p.seat.arc) (λ e. k.apart (sym e ∙ whose)))
+    ∙ (ap (λ b. if b then 0 else (if p.party == counterparty p.seat.deal p.seat.arc then 1 else 2)) (ne_eqb p.party (party p.seat.deal p.seat.arc)
+        (λ e. k.apart (sym e ∙ whose)))
     ∙ ap (λ b. if b then 1 else 2) (eq-eqb p.party (counterparty p.seat.deal p.seat.arc) whose))

@@ -25,7 +25,16 @@ pub record SeatState : Type 0 where
   pub known : List Entry
 
 abbrev pub state_of : TableId → Sat Shelf Line → SeatState
-state_of lock m = record { lock = lock; deal = deal_in (opening_of m); arc = arc_in (opening_of m); number = number_of m; holds = m.0.holds; shared = entries_in (opening_of m); known = entries_in (known_of m) }
+state_of lock m =
+    record {
+      lock = lock;
+      deal = deal_in (opening_of m);
+      arc = arc_in (opening_of m);
+      number = number_of m;
+      holds = m.0.holds;
+      shared = entries_in (opening_of m);
+      known = entries_in (known_of m);
+    }
 
 abbrev pub seat_of : Inside → SeatState
 seat_of s = state_of s.seat.table_id s.seat.me

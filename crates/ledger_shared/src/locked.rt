@@ -108,8 +108,10 @@ pub(crate) fn call_at_end(
     ensures reply { IfOk result (λ c. c.reply ≡ reply_to ledger.old.deal ledger.old.arc ledger.old.history sender call) }
     ensures deal { ledger.new.deal ≡ ledger.old.deal }
     ensures arc { ledger.new.arc ≡ ledger.old.arc }
-    ensures history { IfOk result (λ c. ledger.new.history ≡ ledger.old.history ++ added_by_call c.reply (call_entry sender (height ledger.old.history) call c.reply)) }
-    ensures fresh { IfOk result (λ c. c.fresh ≡ drop seen ledger.old.history ++ added_by_call c.reply (call_entry sender (height ledger.old.history) call c.reply)) }
+    ensures history { IfOk result (λ c. ledger.new.history ≡ ledger.old.history ++ added_by_call c.reply
+        (call_entry sender (height ledger.old.history) call c.reply)) }
+    ensures fresh { IfOk result (λ c. c.fresh ≡ drop seen ledger.old.history ++ added_by_call c.reply
+        (call_entry sender (height ledger.old.history) call c.reply)) }
     ensures legal { OnOk result (IsLegal ledger.new.deal ledger.new.arc ledger.new.history) }
     ensures back { IfErr result (λ c. c ≡ call) }
     ensures kept { OnErr result (ledger.new.history ≡ ledger.old.history) }

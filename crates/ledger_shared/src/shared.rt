@@ -5,7 +5,8 @@ ghost use mathlib.Core.List.{IsPrefix};
 ghost use Rattle.swap_digraph.specs.Deal.{party, counterparty};
 ghost use Rattle.ledger_core.specs.History.{fit, IsLegal};
 ghost use Rattle.ledger_core.specs.Known.{is_known_in};
-ghost use Rattle.ledger_shared.specs.Value.{made_by, with_seen, clock_with_seen, pass_at, clock_at, IsFirstAt, IsSecondAt, HasCalled, HasTicked, Closes, ClosesClock};
+ghost use Rattle.ledger_shared.specs.Value.{made_by, with_seen, clock_with_seen, pass_at, clock_at, IsFirstAt, IsSecondAt, HasCalled, HasTicked, Closes};
+ghost use Rattle.ledger_shared.specs.Value.{ClosesClock};
 
 use crate::locked::{Called, call_at_end, fresh_in, tick_at_end};
 use crate::pass::{ClockPass, Pass};
@@ -48,7 +49,8 @@ pub struct CallBack {
     pub call: Call,
 }
 
-/// Shares a ledger. The passes are those of the arc's party, which has seen the first `first` entries, of its counterparty, which has seen the first `second`, and of the clock, which has seen all.
+/// Shares a ledger. The passes are those of the arc's party, which has seen the first `first` entries, of its counterparty, which has seen the first
+/// `second`, and of the clock, which has seen all.
 pub fn share<R: Wait>(
     rt: &R,
     alloc: Global,

@@ -264,7 +264,8 @@ fn all_at_once<R: Threads + Wait + Sync>(
             requires { (length deal.now.graph.arcs ≡ 2) × (first.lock ≡ ledger.now.lock) × (first.deal ≡ deal.now) × (first.arc ≡ 0) }
         { call_often(rt, alloc, deal, ledger, first, 1) },
         move ||
-            requires { (length deal.now.graph.arcs ≡ 2) × (second.lock ≡ ledger.now.lock) × (second.deal ≡ deal.now) × (second.arc ≡ 0) × (clock.lock ≡ ledger.now.lock) }
+            requires { (length deal.now.graph.arcs ≡ 2) × (second.lock ≡ ledger.now.lock) × (second.deal ≡ deal.now) × (second.arc ≡ 0)
+                × (clock.lock ≡ ledger.now.lock) }
         { two_at_once(rt, alloc, deal, ledger, second, clock) },
     );
     let (second, clock) = rest;

@@ -12,7 +12,8 @@ ends u v = record { from = u; to = v }
 same_ok : {A B : Type 0} (x y : A) → ◌≡◌ {A = Result A B} (Ok x) (Ok y) → x ≡ y
 same_ok x y e = cc e
 
-is_pair : (g : Graph) (arcs : List ArcEnds) → arcs ≡ ends 0 1 ∷ ends 1 0 ∷ [] → digraph_of 2 One arcs ≡ Ok g → g ≡ record { n = 2; arcs = ends 0 1 ∷ ends 1 0 ∷ [] }
+is_pair : (g : Graph) (arcs : List ArcEnds) → arcs ≡ ends 0 1 ∷ ends 1 0 ∷ [] → digraph_of 2 One arcs ≡ Ok g
+    → g ≡ record { n = 2; arcs = ends 0 1 ∷ ends 1 0 ∷ [] }
 unfolding digraph_of first_fault fault_at
 is_pair g arcs e k = sym (same_ok {B = ArcFault} (record { n = 2; arcs = ends 0 1 ∷ ends 1 0 ∷ [] }) g (ap (digraph_of 2 One) (sym e) ∙ k))
 
