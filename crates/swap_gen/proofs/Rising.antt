@@ -13,7 +13,7 @@ use Rattle.digraph_check.proofs.Walks.{stays, along, snoc}
 use Rattle.digraph_check.proofs.Paths.{walk_reaches}
 use Rattle.digraph_check.proofs.ClosedSets.{closed_set-none, connected_of_none}
 use Rattle.leader_check.proofs.Followers.{arc_of, arc_from}
-use Rattle.leader_check.proofs.Paths.{path_step, in-is_among}
+use Rattle.swap_digraph.proofs.Paths.{path_step, in-is_among}
 use Rattle.swap_gen.specs.Drawn.{ring_arc}
 use Rattle.swap_gen.proofs.Sound.{AreSound}
 
