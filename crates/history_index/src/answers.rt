@@ -8,7 +8,9 @@ ghost use Rattle.history_index.specs.Numbers.{names_lock};
 ghost use Rattle.history_index.specs.Kept.{answers_after, no_answers, with_opening};
 
 use escrow_core::{Reply, Terms};
-use ledger_core::{Call, Entry, Published, Settlement, What, publication_of, settlement_of, ticks_in};
+use ledger_core::{
+    Call, Entry, Published, Settlement, What, publication_of, settlement_of, ticks_in,
+};
 
 /// What stands in a list of entries.
 #[derive(Clone, Copy, Debug)]
