@@ -131,8 +131,14 @@ module _ (p : pass.Inside) (k : IsOfParty p) where
       ∙ (g.own ∙ sides_are p.seat.deal p.seat.arc p.seat.number p.party p.seat.known k.side)
 
   pub party_all : (s : SeatState) (n : ℕ) (h : List Entry) → s ≡ knowing p.seat false h → IsPrefix p.seat.known h → n ≡ length h → IsOfParty (then_at s n)
-  party_all s n h is pre len = subst (λ x. IsOfParty (then_at x n)) (sym is) (record { rests = rests_all p.seat p.seen n h k.rests pre len; of_the_two =
-      k.of_the_two; apart = k.apart; side = k.side; mine = own_all (λ e. sent_by p.party e.sender) n h len })
+  party_all s n h is pre len = subst (λ x. IsOfParty (then_at x n)) (sym is) (record {
+    rests = rests_all p.seat p.seen n h k.rests pre len;
+    of_the_two =
+        k.of_the_two;
+    apart = k.apart;
+    side = k.side;
+    mine = own_all (λ e. sent_by p.party e.sender) n h len;
+  })
 
   pub party_kept : (s : SeatState) (l : LedgerState) → GoesOn p.seat l → s ≡ knowing p.seat false l.history → IsOfParty (then_at s p.seen)
   party_kept s l g is = subst (λ x. IsOfParty (then_at x p.seen)) (sym is)
@@ -146,12 +152,24 @@ module _ (p : pass.Inside) (k : IsOfParty p) where
 
   pub party_sees : (s : SeatState) (n : ℕ) (h fresh : List Entry) → s ≡ knowing p.seat false h → n ≡ length h → h ≡ take p.seen p.seat.known ++ fresh
       → pass_of (then_at s n) ≡ with_seen (pass_of p) fresh
-  party_sees s n h fresh is len grows = ap (λ x. pass_of (then_at x n)) is ∙ (λ i. record { lock = p.seat.lock; deal = p.seat.deal; arc = p.seat.arc;
-      party = p.party; shared = p.seat.shared; seen = (take_all n h (omega arith) ∙ grows) i })
+  party_sees s n h fresh is len grows = ap (λ x. pass_of (then_at x n)) is ∙ (λ i. record {
+    lock = p.seat.lock;
+    deal = p.seat.deal;
+    arc = p.seat.arc;
+    party = p.party;
+    shared = p.seat.shared;
+    seen = (take_all n h (omega arith) ∙ grows) i;
+  })
 
   pub party_same : (s : SeatState) (l : LedgerState) → GoesOn p.seat l → s ≡ knowing p.seat false l.history → pass_of (then_at s p.seen) ≡ pass_of p
-  party_same s l g is = ap (λ x. pass_of (then_at x p.seen)) is ∙ (λ i. record { lock = p.seat.lock; deal = p.seat.deal; arc = p.seat.arc; party = p.party;
-      shared = p.seat.shared; seen = sym (seen_in p.seen p.seat.known l.history k.rests.within g.longer) i })
+  party_same s l g is = ap (λ x. pass_of (then_at x p.seen)) is ∙ (λ i. record {
+    lock = p.seat.lock;
+    deal = p.seat.deal;
+    arc = p.seat.arc;
+    party = p.party;
+    shared = p.seat.shared;
+    seen = sym (seen_in p.seen p.seat.known l.history k.rests.within g.longer) i;
+  })
 
   pub party_whole : (s : SeatState) (n : ℕ) (h : List Entry) → s ≡ knowing p.seat false h → n ≡ length h → IsPrefix p.seat.known h
       → IsPrefix p.seat.shared (take n s.known)
@@ -179,13 +197,23 @@ module _ (p : pass.Inside) (k : IsOfParty p) where
   pub party_continued : (l : LedgerState) (h : List Entry) (call : Call) (answer : Reply) → GoesOn p.seat l
       → h ≡ l.history ++ added_by_call answer (call_entry p.party (height l.history) call answer)
       → IsContinued (knowing p.seat true l.history) h
-  party_continued l h call answer g is = (added_by_call answer (call_entry p.party (height l.history) call answer), is,
-      of_added (λ e. side_of p.seat.deal p.seat.arc e.sender ≡ p.seat.number) answer (call_entry p.party (height l.history) call answer)
-          (own_side (call_entry p.party (height l.history) call answer) refl))
+  party_continued l h call answer g is = (
+    added_by_call answer (call_entry p.party (height l.history) call answer),
+    is,
+    of_added (λ e. side_of p.seat.deal p.seat.arc e.sender ≡ p.seat.number) answer (call_entry p.party (height l.history) call answer)
+        (own_side (call_entry p.party (height l.history) call answer) refl),
+  )
 
   pub party_closes : (l : LedgerState) → GoesOn p.seat l → Closes l (pass_of p)
-  party_closes l g = record { deal = g.deal; arc = g.arc; seen = prefix_trans (take p.seen p.seat.known) p.seat.known l.history (drop p.seen p.seat.known,
-      take-append-drop p.seen p.seat.known) g.longer; mine = same_mine l g ∙ k.mine }
+  party_closes l g = record {
+    deal = g.deal;
+    arc = g.arc;
+    seen = prefix_trans (take p.seen p.seat.known) p.seat.known l.history (
+      drop p.seen p.seat.known,
+      take-append-drop p.seen p.seat.known,
+    ) g.longer;
+    mine = same_mine l g ∙ k.mine;
+  }
 
 -- The pass of the clock.
 
@@ -198,23 +226,43 @@ module _ (p : clock.Inside) (k : IsOfClock p) where
       ≡ entries_on p.seat.deal p.seat.arc n p.seat.known) k.side g.own)
 
   pub clock_all : (s : SeatState) (n : ℕ) (h : List Entry) → s ≡ knowing p.seat false h → IsPrefix p.seat.known h → n ≡ length h → IsOfClock (clock_then s n)
-  clock_all s n h is pre len = subst (λ x. IsOfClock (clock_then x n)) (sym is) (record { rests = rests_all p.seat p.seen n h k.rests pre len; side =
-      k.side; mine = own_all (λ e. is_tick e.sender) n h len })
+  clock_all s n h is pre len = subst (λ x. IsOfClock (clock_then x n)) (sym is) (record {
+    rests = rests_all p.seat p.seen n h k.rests pre len;
+    side =
+        k.side;
+    mine = own_all (λ e. is_tick e.sender) n h len;
+  })
 
   pub clock_kept : (s : SeatState) (l : LedgerState) → GoesOn p.seat l → s ≡ knowing p.seat false l.history → IsOfClock (clock_then s p.seen)
   clock_kept s l g is = subst (λ x. IsOfClock (clock_then x p.seen)) (sym is)
-      (record { rests = rests_kept p.seat p.seen l.history k.rests g.longer; side = k.side; mine =
-          own_kept (λ e. is_tick e.sender) p.seen p.seat.known l.history k.rests.within g.longer k.mine (same_ticks l g) })
+      (record {
+        rests = rests_kept p.seat p.seen l.history k.rests g.longer;
+        side = k.side;
+        mine =
+            own_kept (λ e. is_tick e.sender) p.seen p.seat.known l.history k.rests.within g.longer k.mine (same_ticks l g);
+      })
 
   pub clock_sees : (s : SeatState) (n : ℕ) (h fresh : List Entry) → s ≡ knowing p.seat false h → n ≡ length h → h ≡ take p.seen p.seat.known ++ fresh
       → clock_pass_of (clock_then s n) ≡ clock_with_seen (clock_pass_of p) fresh
-  clock_sees s n h fresh is len grows = ap (λ x. clock_pass_of (clock_then x n)) is ∙ (λ i. record { lock = p.seat.lock; deal = p.seat.deal; arc =
-      p.seat.arc; shared = p.seat.shared; seen = (take_all n h (omega arith) ∙ grows) i })
+  clock_sees s n h fresh is len grows = ap (λ x. clock_pass_of (clock_then x n)) is ∙ (λ i. record {
+    lock = p.seat.lock;
+    deal = p.seat.deal;
+    arc =
+        p.seat.arc;
+    shared = p.seat.shared;
+    seen = (take_all n h (omega arith) ∙ grows) i;
+  })
 
   pub clock_same : (s : SeatState) (l : LedgerState) → GoesOn p.seat l → s ≡ knowing p.seat false l.history
       → clock_pass_of (clock_then s p.seen) ≡ clock_pass_of p
-  clock_same s l g is = ap (λ x. clock_pass_of (clock_then x p.seen)) is ∙ (λ i. record { lock = p.seat.lock; deal = p.seat.deal; arc = p.seat.arc; shared =
-      p.seat.shared; seen = sym (seen_in p.seen p.seat.known l.history k.rests.within g.longer) i })
+  clock_same s l g is = ap (λ x. clock_pass_of (clock_then x p.seen)) is ∙ (λ i. record {
+    lock = p.seat.lock;
+    deal = p.seat.deal;
+    arc = p.seat.arc;
+    shared =
+        p.seat.shared;
+    seen = sym (seen_in p.seen p.seat.known l.history k.rests.within g.longer) i;
+  })
 
   pub clock_whole : (s : SeatState) (n : ℕ) (h : List Entry) → s ≡ knowing p.seat false h → n ≡ length h → IsPrefix p.seat.known h
       → IsPrefix p.seat.shared (take n s.known)
@@ -233,18 +281,28 @@ module _ (p : clock.Inside) (k : IsOfClock p) where
         entries = clock_sees s n h fresh s_is len (seen_grows p.seen p.seat.known l.history
             (added_by_tick answer (tick_entry t (height l.history + t) answer)) h fresh k.rests.within g.longer h_is refl)
             ∙ ap (λ (w : List Entry). clock_with_seen (clock_pass_of p) (drop p.seen l.history ++ added_by_tick answer
-                (tick_entry t (height w + t) answer))) whole;
+            (tick_entry t (height w + t) answer))) whole;
       }
 
   pub clock_continued : (l : LedgerState) (h : List Entry) (t : ℕ) (answer : Reply)
       → h ≡ l.history ++ added_by_tick answer (tick_entry t (height l.history + t) answer)
       → IsContinued (knowing p.seat true l.history) h
-  clock_continued l h t answer is = (added_by_tick answer (tick_entry t (height l.history + t) answer), is,
-      of_ticked (λ e. side_of p.seat.deal p.seat.arc e.sender ≡ p.seat.number) answer (tick_entry t (height l.history + t) answer) (sym k.side))
+  clock_continued l h t answer is = (
+    added_by_tick answer (tick_entry t (height l.history + t) answer),
+    is,
+    of_ticked (λ e. side_of p.seat.deal p.seat.arc e.sender ≡ p.seat.number) answer (tick_entry t (height l.history + t) answer) (sym k.side),
+  )
 
   pub clock_closes : (l : LedgerState) → GoesOn p.seat l → ClosesClock l (clock_pass_of p)
-  clock_closes l g = record { deal = g.deal; arc = g.arc; seen = prefix_trans (take p.seen p.seat.known) p.seat.known l.history (drop p.seen p.seat.known,
-      take-append-drop p.seen p.seat.known) g.longer; mine = same_ticks l g ∙ k.mine }
+  clock_closes l g = record {
+    deal = g.deal;
+    arc = g.arc;
+    seen = prefix_trans (take p.seen p.seat.known) p.seat.known l.history (
+      drop p.seen p.seat.known,
+      take-append-drop p.seen p.seat.known,
+    ) g.longer;
+    mine = same_ticks l g ∙ k.mine;
+  }
 
 -- New passes.
 
@@ -279,17 +337,23 @@ none_past f n h none = ap (filter f) (sym (take-append-drop n h)) ∙ (filter-ap
 new_party : (l : LedgerState) (lock : TableId) (s : SeatState) (k p n : ℕ) → s ≡ new_seat lock l k → party l.deal l.arc ≢ counterparty l.deal l.arc
     → IsTrue ((p == party l.deal l.arc) || (p == counterparty l.deal l.arc))
     → ((s : Sender) → (side_of l.deal l.arc s == k) ≡ sent_by p s) → n ≤ length l.history → made_by p (drop n l.history) ≡ []
-        → IsOfParty (record { seat = s; party = p; seen = n })
+    → IsOfParty (record { seat = s; party = p; seen = n })
 new_party l lock s k p n is apart two side within none = subst (λ x. IsOfParty (record { seat = x; party = p; seen = n })) (sym is)
-    (record { rests = record { idle = refl; began = ([], append-nil l.history); within = within }; of_the_two = two; apart = apart; side = side; mine =
-        none_past (λ e. sent_by p e.sender) n l.history none })
+    (record {
+      rests = record { idle = refl; began = ([], append-nil l.history); within = within };
+      of_the_two = two;
+      apart = apart;
+      side = side;
+      mine =
+          none_past (λ e. sent_by p e.sender) n l.history none;
+    })
 
 pub new_first : (l : LedgerState) (lock : TableId) (s : SeatState) (p n : ℕ) → s ≡ new_seat lock l 0 → p ≡ party l.deal l.arc
     → party l.deal l.arc ≢ counterparty l.deal l.arc → n ≤ length l.history → made_by (party l.deal l.arc) (drop n l.history) ≡ []
     → IsOfParty (record { seat = s; party = p; seen = n })
 new_first l lock s p n is whose apart within none = subst (λ q. IsOfParty (record { seat = s; party = q; seen = n })) (sym whose)
     (new_party l lock s 0 (party l.deal l.arc) n is apart (ap (λ b. b || (party l.deal l.arc == counterparty l.deal l.arc))
-        (eq-eqb (party l.deal l.arc) (party l.deal l.arc) refl)) (first_side l.deal l.arc) within none)
+    (eq-eqb (party l.deal l.arc) (party l.deal l.arc) refl)) (first_side l.deal l.arc) within none)
 
 pub new_second : (l : LedgerState) (lock : TableId) (s : SeatState) (p n : ℕ) → s ≡ new_seat lock l 1 → p ≡ counterparty l.deal l.arc
     → party l.deal l.arc ≢ counterparty l.deal l.arc → n ≤ length l.history → made_by (counterparty l.deal l.arc) (drop n l.history) ≡ []
@@ -297,7 +361,7 @@ pub new_second : (l : LedgerState) (lock : TableId) (s : SeatState) (p n : ℕ) 
 new_second l lock s p n is whose apart within none = subst (λ q. IsOfParty (record { seat = s; party = q; seen = n })) (sym whose)
     (new_party l lock s 1 (counterparty l.deal l.arc) n is apart
     (ap (λ b. (counterparty l.deal l.arc == party l.deal l.arc) || b) (eq-eqb (counterparty l.deal l.arc) (counterparty l.deal l.arc) refl)
-        ∙ or_true (counterparty l.deal l.arc == party l.deal l.arc))
+    ∙ or_true (counterparty l.deal l.arc == party l.deal l.arc))
     (second_side l.deal l.arc apart) within none)
 
 -- whose number a pass has
@@ -311,5 +375,5 @@ first_number p k whose = sym (number_of_party p k) ∙ ap (λ b. if b then 0 els
 pub second_number : (p : pass.Inside) → IsOfParty p → p.party ≡ counterparty p.seat.deal p.seat.arc → p.seat.number ≡ 1
 second_number p k whose = sym (number_of_party p k)
     ∙ (ap (λ b. if b then 0 else (if p.party == counterparty p.seat.deal p.seat.arc then 1 else 2)) (ne_eqb p.party (party p.seat.deal p.seat.arc)
-        (λ e. k.apart (sym e ∙ whose)))
+    (λ e. k.apart (sym e ∙ whose)))
     ∙ ap (λ b. if b then 1 else 2) (eq-eqb p.party (counterparty p.seat.deal p.seat.arc) whose))

@@ -32,7 +32,7 @@ pub is_at : (lock : TableId) (d : Deal) (a k : ℕ) (shared h : List Entry) (b :
     → IsAt (state_of lock m) m
 is_at lock d a k shared h b m is =
     subst (λ (x : Me). IsAt (state_of lock x) x) (sym is) (subst (λ s. IsAt s (at b (lines d a shared) k (lines d a h)))
-        (sym (says lock d a k shared h b)) refl)
+    (sym (says lock d a k shared h b)) refl)
 
 pub says_of : (lock : TableId) (d : Deal) (a k : ℕ) (shared h : List Entry) (b : Bool) (m : Me) → m ≡ at b (lines d a shared) k (lines d a h)
     → state_of lock m ≡ record { lock = lock; deal = d; arc = a; number = k; holds = b; shared = shared; known = h }
@@ -41,8 +41,16 @@ says_of lock d a k shared h b m is = ap (state_of lock) is ∙ says lock d a k s
 -- it is the seat s, which knows the history h
 now_knows : (s : SeatState) (lock : TableId) (b : Bool) (h : List Entry) (m : Me) → m ≡ at b (lines s.deal s.arc s.shared) s.number (lines s.deal s.arc h)
     → lock ≡ s.lock → state_of lock m ≡ knowing s b h
-now_knows s lock b h m is same = says_of lock s.deal s.arc s.number s.shared h b m is ∙ (λ i. record { lock = same i; deal = s.deal; arc = s.arc; number =
-    s.number; holds = b; shared = s.shared; known = h })
+now_knows s lock b h m is same = says_of lock s.deal s.arc s.number s.shared h b m is ∙ (λ i. record {
+  lock = same i;
+  deal = s.deal;
+  arc = s.arc;
+  number =
+      s.number;
+  holds = b;
+  shared = s.shared;
+  known = h;
+})
 
 -- with its turn or without
 is_idle : (s : SeatState) (m : Me) → IsAt s m → s.holds ≡ false → m ≡ idle (lines s.deal s.arc s.shared) s.number (lines s.deal s.arc s.known)
@@ -74,10 +82,14 @@ covered_known s l v =
           (goes_on s.number l.deal s.deal l.arc s.arc l.history s.known v);
     }
 
-pub covered : (s : SeatState) (m : Me) (l : LedgerState) → IsAt s m → s.holds ≡ false → Covers author_of (lines l.deal l.arc l.history) (number_of m,
-    known_of m) → GoesOn s l
-covered s m l is free c = covered_known s l (subst (λ (x : Me). Covers author_of (lines l.deal l.arc l.history) (number_of x,
-    known_of x)) (is_idle s m is free) c)
+pub covered : (s : SeatState) (m : Me) (l : LedgerState) → IsAt s m → s.holds ≡ false → Covers author_of (lines l.deal l.arc l.history) (
+  number_of m,
+  known_of m,
+) → GoesOn s l
+covered s m l is free c = covered_known s l (subst (λ (x : Me). Covers author_of (lines l.deal l.arc l.history) (
+  number_of x,
+  known_of x,
+)) (is_idle s m is free) c)
 
 lines_of : (d c : Deal) (a b : ℕ) (h : List Entry) → d ≡ c → a ≡ b → lines d a h ≡ lines c b h
 lines_of d c a b h e f = λ i. lines (e i) (f i) h
@@ -90,7 +102,7 @@ taken s m m' l is free g e = e
 
 pub given : (s : SeatState) (m m' : Me) (l : LedgerState) → IsAt s m → s.holds ≡ true → l.deal ≡ s.deal → l.arc ≡ s.arc
     → m' ≡ idle (opening_of m) (number_of m) (lines l.deal l.arc l.history)
-        → m' ≡ at false (lines s.deal s.arc s.shared) s.number (lines s.deal s.arc l.history)
+    → m' ≡ at false (lines s.deal s.arc s.shared) s.number (lines s.deal s.arc l.history)
 given s m m' l is held deal arc e = e
     ∙ (ap (λ (x : Me). idle (opening_of x) (number_of x) (lines l.deal l.arc l.history)) (is_busy s m is held)
     ∙ ap (λ (w : List Line). idle (lines s.deal s.arc s.shared) s.number w) (lines_of l.deal s.deal l.arc s.arc l.history deal arc))
@@ -99,11 +111,11 @@ pub continued : (s : SeatState) (m : Me) (l : LedgerState) → IsAt s m → s.ho
     → IsContinuedBy author_of (number_of m) (known_of m) (lines l.deal l.arc l.history)
 continued s m l is held deal arc on = subst (λ (x : Me). IsContinuedBy author_of (number_of x) (known_of x) (lines l.deal l.arc l.history))
     (sym (is_busy s m is held)) (
-  made_lines s.deal s.arc on.0,
-  ap (λ (w : List Line). Head s.deal s.arc ∷ w) (sym (made_append s.deal s.arc s.known on.0)) ∙ (ap (lines s.deal s.arc) (sym on.1)
-      ∙ sym (lines_of l.deal s.deal l.arc s.arc l.history deal arc)),
-  all_made s.deal s.arc s.number on.0 on.2,
-)
+      made_lines s.deal s.arc on.0,
+      ap (λ (w : List Line). Head s.deal s.arc ∷ w) (sym (made_append s.deal s.arc s.known on.0)) ∙ (ap (lines s.deal s.arc) (sym on.1)
+          ∙ sym (lines_of l.deal s.deal l.arc s.arc l.history deal arc)),
+      all_made s.deal s.arc s.number on.0 on.2,
+    )
 
 -- the seat with its turn: what it knows are lines, which are those of the ledger, and that goes on from what it knew
 pub take_step : (s : SeatState) (lock : TableId) (m m' : Me) (l : LedgerState) → IsAt s m → s.holds ≡ false → lock ≡ s.lock
@@ -129,15 +141,23 @@ LockSeat = Seat (Option Shelf) (View Line)
 -- each of three seats of a new lock
 pub three_seats : (lock : TableId) (start : List Line) (items : List LockSeat) (a b c : LockSeat) → items ≡ a ∷ b ∷ c ∷ [] → SeatsFrom lock start 0 items
     → ((a.table_id ≡ lock) × (a.me ≡ idle start 0 start)) × ((b.table_id ≡ lock) × (b.me ≡ idle start 1 start))
-        × ((c.table_id ≡ lock) × (c.me ≡ idle start 2 start))
+    × ((c.table_id ≡ lock) × (c.me ≡ idle start 2 start))
 three_seats lock start items a b c is seats = let all = subst (SeatsFrom lock start 0) is seats in (all.0, all.1.0, all.1.1.0)
 
 pub new_step : (l : LedgerState) (lock mine : TableId) (k : ℕ) (m : Me) → (mine ≡ lock)
     × (m ≡ idle (lines l.deal l.arc l.history) k (lines l.deal l.arc l.history)) → IsAt (state_of mine m) m × (state_of mine m ≡ new_seat lock l k)
 new_step l lock mine k m e = (
   is_at mine l.deal l.arc k l.history l.history false m e.1,
-  says_of mine l.deal l.arc k l.history l.history false m e.1 ∙ (λ i. record { lock = e.0 i; deal = l.deal; arc = l.arc; number = k; holds = false; shared =
-      l.history; known = l.history }),
+  says_of mine l.deal l.arc k l.history l.history false m e.1 ∙ (λ i. record {
+    lock = e.0 i;
+    deal = l.deal;
+    arc = l.arc;
+    number = k;
+    holds = false;
+    shared =
+        l.history;
+    known = l.history;
+  }),
 )
 
 -- Closing.
@@ -149,8 +169,11 @@ pub parts_of : (r s t : SeatState) (a b c two three : Me) → IsAt r a → IsAt 
 parts_of r s t a b c two three is_r is_s is_t free_r free_s free_t is_two is_three =
     ap (λ (x : Me). x.0.parts) is_three
     ∙ (ap (λ (x : Me). x.0.parts ++ c.0.parts) is_two
-    ∙ ap (λ (x : Me × Me × Me). (x.0.0.parts ++ x.1.0.parts) ++ x.2.0.parts) (λ i. (is_idle r a is_r free_r i, is_idle s b is_s free_s i,
-        is_idle t c is_t free_t i)))
+    ∙ ap (λ (x : Me × Me × Me). (x.0.0.parts ++ x.1.0.parts) ++ x.2.0.parts) (λ i. (
+      is_idle r a is_r free_r i,
+      is_idle s b is_s free_s i,
+      is_idle t c is_t free_t i,
+    )))
 
 pub rests_too : (two : Me) (a b : Me) → two ≡ (both_of a.0 b.0, []) → IsResting two
 rests_too two a b is = subst IsResting (sym is) (refl, refl)
@@ -160,9 +183,11 @@ pub has_each : (r s t : SeatState) (ps : List (Part Line)) → r.number ≡ 0 �
     → ps ≡ (r.number, lines r.deal r.arc r.known) ∷ (s.number, lines s.deal s.arc s.known) ∷ (t.number, lines t.deal t.arc t.known) ∷ []
     → (n k : ℕ) → n ≡ 3 → k < n → IsTrue (has_number k ps)
 has_each r s t ps zero_r one_s two_t is n k three below =
-    subst (λ w. IsTrue (has_number k w)) (sym is) (subst (λ (x : ℕ × ℕ × ℕ). IsTrue (has_number k ((x.0, lines r.deal r.arc r.known) ∷ (x.1,
-        lines s.deal s.arc s.known) ∷ (x.2, lines t.deal t.arc t.known) ∷ []))) (λ i. (sym zero_r i, sym one_s i, sym two_t i)) (which k (let b : k < 3 =
-            subst (λ m. k < m) three below in b)))
+    subst (λ w. IsTrue (has_number k w)) (sym is) (subst (λ (x : ℕ × ℕ × ℕ). IsTrue (has_number k ((x.0, lines r.deal r.arc r.known) ∷ (
+      x.1,
+      lines s.deal s.arc s.known,
+    ) ∷ (x.2, lines t.deal t.arc t.known) ∷ []))) (λ i. (sym zero_r i, sym one_s i, sym two_t i)) (which k (let b : k < 3 =
+    subst (λ m. k < m) three below in b)))
   where
     which : (k : ℕ) → k < 3 → IsTrue (has_number k ((0, lines r.deal r.arc r.known) ∷ (1, lines s.deal s.arc s.known) ∷ (2, lines t.deal t.arc t.known) ∷ []))
     which zero b = refl
@@ -175,8 +200,10 @@ pub close_step : (r s t : SeatState) (a b c two three : Me) (l : LedgerState) �
     → t.holds ≡ false → two ≡ (both_of a.0 b.0, []) → three ≡ (both_of two.0 c.0, [])
     → AllByRecursion (Covers author_of (lines l.deal l.arc l.history)) three.0.parts → GoesOn r l × GoesOn s l × GoesOn t l
 close_step r s t a b c two three l is_r is_s is_t free_r free_s free_t is_two is_three all =
-    let each : AllByRecursion (Covers author_of (lines l.deal l.arc l.history)) ((r.number, lines r.deal r.arc r.known) ∷ (s.number,
-        lines s.deal s.arc s.known) ∷ (t.number, lines t.deal t.arc t.known) ∷ []) =
+    let each : AllByRecursion (Covers author_of (lines l.deal l.arc l.history)) ((r.number, lines r.deal r.arc r.known) ∷ (
+      s.number,
+      lines s.deal s.arc s.known,
+    ) ∷ (t.number, lines t.deal t.arc t.known) ∷ []) =
     subst (AllByRecursion (Covers author_of (lines l.deal l.arc l.history)))
-        (parts_of r s t a b c two three is_r is_s is_t free_r free_s free_t is_two is_three) all in
+    (parts_of r s t a b c two three is_r is_s is_t free_r free_s free_t is_two is_three) all in
     (covered_known r l each.0, covered_known s l each.1.0, covered_known t l each.1.1.0)

@@ -25,13 +25,7 @@ fn refused_in(item: &Item) -> usize
     ensures few { result ≤ 1 }
 {
     match item {
-        Item::One(entry) => {
-            if is_accepted(entry.reply) {
-                0
-            } else {
-                1
-            }
-        }
+        Item::One(entry) => { if is_accepted(entry.reply) { 0 } else { 1 } }
         Item::Ticks(_) => 0,
     }
 }

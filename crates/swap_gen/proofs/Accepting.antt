@@ -52,11 +52,12 @@ module _ (d : Deal) (k : IsProposed d) (one : length d.leaders ≡ 1) where
 
 keys_sized : (m : Mode) (seeds : List (Option (List ℕ))) (d e : Deal) → e.graph ≡ d.graph → e.leaders ≡ d.leaders → e.keys ≡ all_keys m seeds d → HasKeys m e
 keys_sized Timelocks seeds d e g l s = s
-keys_sized Hashkeys seeds d e g l s =
-    (ap length s ∙ length-map-range_with_len (keys_from seeds d) 0 d.graph.n ∙ ap (λ h. h.n) (sym g),
-    λ p lt. ap (λ (ks : List (List (List ℕ))). length (slice_index_or ks p [])) s
-        ∙ ap length (get_or-map-range_with_len (keys_from seeds d) 0 d.graph.n p p [] (subst (λ h. p < h.n) g lt) (omega arith))
-        ∙ length-map (locks d) _ ∙ length-range_with_len 0 (length d.leaders) ∙ ap length (sym l))
+keys_sized Hashkeys seeds d e g l s = (
+  ap length s ∙ length-map-range_with_len (keys_from seeds d) 0 d.graph.n ∙ ap (λ h. h.n) (sym g),
+  λ p lt. ap (λ (ks : List (List (List ℕ))). length (slice_index_or ks p [])) s
+      ∙ ap length (get_or-map-range_with_len (keys_from seeds d) 0 d.graph.n p p [] (subst (λ h. p < h.n) g lt) (omega arith))
+      ∙ length-map (locks d) _ ∙ length-range_with_len 0 (length d.leaders) ∙ ap length (sym l),
+)
 
 timelocks_sized : (m : Mode) (d : Deal) → length (all_timelocks m d) ≡ length d.graph.arcs
 timelocks_sized Timelocks d = length-map-range_with_len (timelock_for d) 0 (length d.graph.arcs)
@@ -127,11 +128,14 @@ version_kept Two d e g m h = m ∙ h
 
 timed_by : (m : Mode) (seeds : List (Option (List ℕ))) (d : Deal) (e : Deal) → IsProposed d → IsLedFor m d → e ≡ made_deal seeds d → e.timelocks ≡ all_timelocks m d → IsTimed m e
 unfolding made_deal
-timed_by Timelocks seeds d e k one s t = rw s (one, λ a lt. record {
-  dist = dist_of d.graph (leader_of d 0) (counterparty d a);
-  is_dist = dist_at d k one (counterparty d a) (k.ends.to a lt);
-  timelock = ap (λ (ts : List ℕ). slice_index ts a) (ap (λ x. x.timelocks) (sym s) ∙ t) ∙ timelock_at d a lt;
-})
+timed_by Timelocks seeds d e k one s t = rw s (
+  one,
+  λ a lt. record {
+    dist = dist_of d.graph (leader_of d 0) (counterparty d a);
+    is_dist = dist_at d k one (counterparty d a) (k.ends.to a lt);
+    timelock = ap (λ (ts : List ℕ). slice_index ts a) (ap (λ x. x.timelocks) (sym s) ∙ t) ∙ timelock_at d a lt;
+  },
+)
 timed_by Hashkeys seeds d e k one s t = λ a lt. ap (λ (ts : List ℕ). slice_index ts a) t ∙ get_or-replicate {A = ℕ} (length d.graph.arcs) a 0 0 (subst (λ x. a < length x.graph.arcs) s lt)
 
 pub made_is_accepted : (seeds : List (Option (List ℕ))) (d : Deal) → IsProposed d → IsAccepted (made_deal seeds d)

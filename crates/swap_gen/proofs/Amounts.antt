@@ -16,6 +16,7 @@ pub amount_more : (seed n a : ℕ) (draws drew : DrawState) (w : ℕ) (old new :
 amount_more seed n a draws drew w old new few lt is drawn on more so_far =
     let same : w ≡ word seed (1 + 2 * n + a) = drawn ∙ ap (λ (s : DrawState). word s.seed s.place) is in
     let step : next (1 + 2 * n + a) ≡ 1 + 2 * n + (a + 1) = next_is (1 + 2 * n + a) (omega arith) ∙ omega arith in
-    let place : drew ≡ record { seed = seed; place = next (1 + 2 * n + a) } = on ∙ ap (λ (s : DrawState). record s { place = next s.place }) is in
-    (map_more (drawn_amount seed n) a old new (more ∙ ap (λ (x : ℕ). old ++ (1 + x % 1000) ∷ []) same) so_far,
-    place ∙ ap (at_place seed) step)
+    let place : drew ≡ record { seed = seed; place = next (1 + 2 * n + a) } = on ∙ ap (λ (s : DrawState). record s { place = next s.place }) is in (
+      map_more (drawn_amount seed n) a old new (more ∙ ap (λ (x : ℕ). old ++ (1 + x % 1000) ∷ []) same) so_far,
+      place ∙ ap (at_place seed) step,
+    )

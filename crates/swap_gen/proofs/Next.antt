@@ -100,7 +100,7 @@ module _ (i : Inside) (h : Holds i) where
         → w0 % 8 ≡ 0 → m ≡ length i.job.deal.graph.arcs → w1 ≡ word drew.seed drew.place % m → Tick w1 1 ≡ wanted
     tick_is w0 w1 m drew first on kind size second =
         let e : w1 ≡ word i.draws.seed (next i.draws.place) % length i.job.deal.graph.arcs =
-            second ∙ ap (λ (t : DrawState). word t.seed t.place % m) on ∙ ap (λ k. word i.draws.seed (next i.draws.place) % k) size in
+        second ∙ ap (λ (t : DrawState). word t.seed t.place % m) on ∙ ap (λ k. word i.draws.seed (next i.draws.place) % k) size in
         ap (λ w. Tick w 1) e ∙ sym (ap (λ (r : Event × ℕ). r.0) (tick_comes i.draws.seed i.job.deal.graph i.draws.place (ap (λ w. w % 8) (sym first) ∙ kind))) ∙ wanted_is
 
     pub look_is : (w0 p a n : ℕ) (xs : List ℕ) (drew drew2 : DrawState) → w0 ≡ word i.draws.seed i.draws.place → drew ≡ record i.draws { place = next i.draws.place }
@@ -108,10 +108,10 @@ module _ (i : Inside) (h : Holds i) where
         → xs ≡ touching i.job.deal.graph p → a ≡ picked xs (word drew2.seed drew2.place) → Look p a ≡ wanted
     look_is w0 p a n xs drew drew2 first on some few size second on2 among third =
         let e : p ≡ word i.draws.seed (next i.draws.place) % i.job.deal.graph.n =
-            second ∙ ap (λ (t : DrawState). word t.seed t.place % n) on ∙ ap (λ k. word i.draws.seed (next i.draws.place) % k) size in
+        second ∙ ap (λ (t : DrawState). word t.seed t.place % n) on ∙ ap (λ k. word i.draws.seed (next i.draws.place) % k) size in
         let f : a ≡ picked (touching i.job.deal.graph (word i.draws.seed (next i.draws.place) % i.job.deal.graph.n)) (word i.draws.seed (next (next i.draws.place))) =
-            third ∙ ap (λ (ys : List ℕ). picked ys (word drew2.seed drew2.place)) (among ∙ ap (touching i.job.deal.graph) e)
-            ∙ ap (λ (t : DrawState). picked (touching i.job.deal.graph (word i.draws.seed (next i.draws.place) % i.job.deal.graph.n)) (word t.seed t.place)) (on2 ∙ ap (λ (t : DrawState). record t { place = next t.place }) on) in
+        third ∙ ap (λ (ys : List ℕ). picked ys (word drew2.seed drew2.place)) (among ∙ ap (touching i.job.deal.graph) e)
+        ∙ ap (λ (t : DrawState). picked (touching i.job.deal.graph (word i.draws.seed (next i.draws.place) % i.job.deal.graph.n)) (word t.seed t.place)) (on2 ∙ ap (λ (t : DrawState). record t { place = next t.place }) on) in
         let kind : w0 % 8 ≡ word i.draws.seed i.draws.place % 8 = ap (λ w. w % 8) first in
         ap (λ x. Look x a) e ∙ ap (λ y. Look (word i.draws.seed (next i.draws.place) % i.job.deal.graph.n) y) f
         ∙ sym (ap (λ (r : Event × ℕ). r.0) (look_comes i.draws.seed i.job.deal.graph i.draws.place (λ z. some (kind ∙ z)) (subst (λ k. k ≤ 4) kind few))) ∙ wanted_is

@@ -66,8 +66,8 @@ made_is_owned job have p lt =
           and_both (has_key d.mode d p s.0 i) (opens_own d p s.0 i)
           (key_fits d.mode d p s.0 i (λ m. key_at job.seeds job.deal job.deal.mode p i m lt li ∙ ap (λ x. public_key_of x p i) e))
           (secret_fits d p s.0 i (leads d p i) refl (λ leads_it.
-              let leader : leader_of job.deal i ≡ p = get_or_default job.deal.leaders i 0 job.deal.graph.n li ∙ eqb-true _ p leads_it in
-              get_or-map (hashlock_from job.seeds) job.deal.leaders i 0 [] li ∙ ap (λ v. hashlock_from job.seeds v) leader ∙ ap (λ x. hash_of (secret_of x)) e)));
+          let leader : leader_of job.deal i ≡ p = get_or_default job.deal.leaders i 0 job.deal.graph.n li ∙ eqb-true _ p leads_it in
+          get_or-map (hashlock_from job.seeds) job.deal.leaders i 0 [] li ∙ ap (λ v. hashlock_from job.seeds v) leader ∙ ap (λ x. hash_of (secret_of x)) e)));
     }
 
 pub owned_by : (job r : Job) → HaveSeeds job → r.seeds ≡ job.seeds → r.deal ≡ made_deal job.seeds job.deal → (p : ℕ) → p < r.deal.graph.n → OwnsKeys r p

@@ -22,8 +22,18 @@ graph_with n xs = record { n = n; arcs = xs }
 
 abbrev pub deal_of : ℕ → Graph → List ℕ → List ℕ → List (List ℕ) → List (List (List ℕ)) → List ℕ → Deal
 deal_of n g leaders amounts hashlocks keys timelocks = record {
-  version = One; graph = g; leaders = leaders; start = 20; delta = 20; bound = n - 1; mode = Hashkeys;
-  amounts = amounts; hashlocks = hashlocks; keys = keys; timelocks = timelocks; id = replicate 32 0;
+  version = One;
+  graph = g;
+  leaders = leaders;
+  start = 20;
+  delta = 20;
+  bound = n - 1;
+  mode = Hashkeys;
+  amounts = amounts;
+  hashlocks = hashlocks;
+  keys = keys;
+  timelocks = timelocks;
+  id = replicate 32 0;
 }
 
 pub deal_is : (seed n : ℕ) (g : Graph) (leaders amounts : List ℕ) (hashlocks : List (List ℕ)) (keys : List (List (List ℕ))) (timelocks : List ℕ)

@@ -100,8 +100,12 @@ module _ {T E : Type 0} (history : T → List E) (author : E → ℕ) (start : L
   -- a step that changes nothing
   unmoved : (s : St) → Rule s → (i id : ℕ) (cs : List (ℕ × Option T)) (v : View E) → get_elem? s.views id ≡ core.some v
       → Rule (stepped s i (get_or s.words i 0) id cs v keeps)
-  unmoved s r i id cs v at = subst (λ (t : List ℕ × List (View E)). Rule record { words = t.0; homes = s.homes; views =
-      t.1 }) (λ k. (sym (set-get_or s.words i 0) k, sym (set_again s.views id v at) k)) r
+  unmoved s r i id cs v at = subst (λ (t : List ℕ × List (View E)). Rule record {
+    words = t.0;
+    homes = s.homes;
+    views =
+        t.1;
+  }) (λ k. (sym (set-get_or s.words i 0) k, sym (set_again s.views id v at) k)) r
 
   pub begins : (words : List ℕ) → words ≡ (2 * length start + 1) ∷ 0 ∷ [] → AreBelow author seats start → Rule (opening words (None ∷ []) (fresh start))
   begins words ws below = record {
@@ -142,23 +146,27 @@ module _ {T E : Type 0} (history : T → List E) (author : E → ℕ) (start : L
         started = r.started;
         unclaimed = r.unclaimed;
         authors = r.authors;
-        views = λ j v e. ⊎_elim (r.views j v) (λ (t : f ≡ v). subst (Sees r.owner r.phase r.current r.claimed j) t (record { turn = λ h. absurd (off h);
-            own = tt })) (at_snoc s.views f v j e);
+        views = λ j v e. ⊎_elim (r.views j v) (λ (t : f ≡ v). subst (Sees r.owner r.phase r.current r.claimed j) t (record {
+          turn = λ h. absurd (off h);
+          own = tt;
+        })) (at_snoc s.views f v j e);
       } in
       subst (λ (vs : List (View E)). Rule record { words = s.words; homes = s.homes; views = vs ++ f ∷ [] }) (sym same) all
 
-  pub counts : (slots id k : ℕ) (o h : List E) (c : List (ℕ × Option T)) → Allows Rule slots id (turning o k h,
-      c) 0 (λ n. n) (Counts {T = T} (step slots 0 0 0 core.none) (turning o k h, c))
+  pub counts : (slots id k : ℕ) (o h : List E) (c : List (ℕ × Option T)) → Allows Rule slots id (
+    turning o k h,
+    c,
+  ) 0 (λ n. n) (Counts {T = T} (step slots 0 0 0 core.none) (turning o k h, c))
   counts slots id k o h c s r _ at _ = let turn = (r.views id (turning o k h) at).turn refl in
       let is : get_or s.words 0 0 ≡ 2 * length h + 1 = word_0 s r ∙ (ap (λ (p : Phase T). turn_word p (length r.current)) turn.0
-          ∙ ap (λ (ps : List (Part E)). 2 * length (known_in ps) + 1) (sym turn.1.1)) in
+      ∙ ap (λ (ps : List (Part E)). 2 * length (known_in ps) + 1) (sym turn.1.1)) in
       (turning o k h, keeps, tt, unmoved s r 0 id c (turning o k h) at, (refl, is))
 
   -- the views of others, where the phase, the history, the claims and the owners change
   others_see : (owner owner' : ℕ → ℕ) (phase phase' : Phase T) (current current' : List E) (claimed claimed' j : ℕ) (v : View E)
       → (v.holds ≡ true → phase ≡ out j → ⊥)
       → ((p : Part E) → Own owner current claimed j p → Own owner' current' claimed' j p) → Sees owner phase current claimed j v
-          → Sees owner' phase' current' claimed' j v
+      → Sees owner' phase' current' claimed' j v
   others_see owner owner' phase phase' current current' claimed claimed' j v idle go k = record {
     turn = λ h. absurd (idle h (k.turn h).0);
     own = all_map (Own owner current claimed j) (Own owner' current' claimed' j) go v.parts k.own;
@@ -176,18 +184,18 @@ module _ {T E : Type 0} (history : T → List E) (author : E → ℕ) (start : L
       → Allows Rule slots id (idle o k h) 0 (λ n. either (n == word) (word + 1) n) (Takes history author (step slots 0 word (word + 1) core.none) (idle o k h))
   takes_turn slots id k word o h even s r _ at _ =
       let F : ℕ → Type 0 = λ n. (w : View E) × (a : Act (Option T)) × Valid s.homes [] a × Rule (stepped s 0 n id [] w a)
-          × Takes history author (step slots 0 word (word + 1) core.none) (idle o k h) (get_or s.words 0 0) (w, carried_after [] a) in
+      × Takes history author (step slots 0 word (word + 1) core.none) (idle o k h) (get_or s.words 0 0) (w, carried_after [] a) in
       exchanged (get_or s.words 0 0) word (word + 1) F
       (λ is. hit is (even_at_home s r word even is))
       (λ ne. (resting o k h, keeps, tt, unmoved s r 0 id [] (resting o k h) at, ((λ is. absurd (ne is)), (λ _. refl))))
     where
       hit : get_or s.words 0 0 ≡ word → (x : T) × (r.phase ≡ home x)
           → (w : View E) × (a : Act (Option T)) × Valid s.homes [] a × Rule (stepped s 0 (word + 1) id [] w a)
-              × Takes history author (step slots 0 word (word + 1) core.none) (idle o k h) (get_or s.words 0 0) (w, carried_after [] a)
+          × Takes history author (step slots 0 word (word + 1) core.none) (idle o k h) (get_or s.words 0 0) (w, carried_after [] a)
       hit is p = let x : T = p.0 in let w : View E = turning o k r.current in
           let homes : s.homes ≡ core.some (Some x) ∷ [] = r.homes ∙ ap (λ q. slot_in q ∷ []) p.1 in
           let stands : Stands history author start seats r.current r.claimed s.views (home x) =
-              subst (Stands history author start seats r.current r.claimed s.views) p.1 r.stands in
+          subst (Stands history author start seats r.current r.claimed s.views) p.1 r.stands in
           let double : 2 * length r.current ≡ word = sym (word_0 s r ∙ ap (λ (q : Phase T). turn_word q (length r.current)) p.1) ∙ is in
           let mine = (r.views id (resting o k h) at).own.0 in
           let apart : (j : ℕ) → r.phase ≡ out j → ⊥ = λ j e. home_out x j (sym p.1 ∙ e) in (
@@ -206,20 +214,37 @@ module _ {T E : Type 0} (history : T → List E) (author : E → ℕ) (start : L
               unclaimed = r.unclaimed;
               authors = r.authors;
               views = views_set (Sees r.owner (out id) r.current r.claimed) s.views id w
-                  record { turn = λ _. (refl, (k, refl)); own = (record { place = mine.place; below = mine.below; claim = mine.claim; began = r.started;
-                      covered = (prefix_self r.current, refl) }, tt) }
+                  record {
+                    turn = λ _. (refl, (k, refl));
+                    own = (
+                      record {
+                        place = mine.place;
+                        below = mine.below;
+                        claim = mine.claim;
+                        began = r.started;
+                        covered = (prefix_self r.current, refl);
+                      },
+                      tt,
+                    );
+                  }
                   (λ j v _ e. others_see r.owner r.owner r.phase (out id) r.current r.current r.claimed r.claimed j v (λ _. apart j) (λ q o. o)
-                      (r.views j v e));
+                  (r.views j v e));
             },
-            ((λ _. (x, ap (λ (c : List E). (turning o k c, (0, Some x) ∷ [])) (sym stands.0),
-                subst (λ (c : List E). Covers author c (k, h)) (sym stands.0) mine.covered)), (λ ne. absurd (ne is))),
+            (
+              (λ _. (
+                x,
+                ap (λ (c : List E). (turning o k c, (0, Some x) ∷ [])) (sym stands.0),
+                subst (λ (c : List E). Covers author c (k, h)) (sym stands.0) mine.covered,
+              )),
+              (λ ne. absurd (ne is)),
+            ),
           )
 
   pub takes_turn_at : (slots id k word : ℕ) (o h : List E) (m : Sat T E) → m ≡ idle o k h → word % 2 ≡ 0
       → Allows Rule slots id m 0 (λ n. either (n == word) (word + 1) n) (Takes history author (step slots 0 word (word + 1) core.none) m)
   takes_turn_at slots id k word o h m e even =
       subst (λ (x : Sat T E). Allows Rule slots id x 0 (λ n. either (n == word) (word + 1) n)
-          (Takes history author (step slots 0 word (word + 1) core.none) x)) (sym e) (takes_turn slots id k word o h even)
+      (Takes history author (step slots 0 word (word + 1) core.none) x)) (sym e) (takes_turn slots id k word o h even)
 
   others_own : (id j : ℕ) → j ≢ id → (k : ℕ) (current new : List E) (owner : ℕ → ℕ) (claimed : ℕ) → owner k ≡ id → IsContinuedBy author k current new
       → (p : Part E) → Own owner current claimed j p → Own owner new claimed j p
@@ -234,22 +259,22 @@ module _ {T E : Type 0} (history : T → List E) (author : E → ℕ) (start : L
   pub gives_turn : (slots id k odd even : ℕ) (o h : List E) (x : T) → odd ≡ 2 * length h + 1 → even ≡ 2 * length (history x)
       → IsContinuedBy author k h (history x)
       → Allows Rule slots id (turning o k h, (0, Some x) ∷ []) 0 (λ n. either (n == odd) even n) (Gives history (step slots 0 odd even core.none)
-          (turning o k h, (0, Some x) ∷ []))
+      (turning o k h, (0, Some x) ∷ []))
   gives_turn slots id k odd even o h x odd_is even_is further s r _ at _ =
       let turn = (r.views id (turning o k h) at).turn refl in
       let known : h ≡ r.current = ap known_in turn.1.1 in
       let found : get_or s.words 0 0 ≡ odd = word_0 s r ∙ (ap (λ (p : Phase T). turn_word p (length r.current)) turn.0
-          ∙ (ap (λ (c : List E). 2 * length c + 1) (sym known) ∙ sym odd_is)) in
+      ∙ (ap (λ (c : List E). 2 * length c + 1) (sym known) ∙ sym odd_is)) in
       let homes : s.homes ≡ core.none ∷ [] = r.homes ∙ ap (λ q. slot_in q ∷ []) turn.0 in
       let stands : Stands history author start seats r.current r.claimed s.views (out id) =
-          subst (Stands history author start seats r.current r.claimed s.views) turn.0 r.stands in
+      subst (Stands history author start seats r.current r.claimed s.views) turn.0 r.stands in
       let mine = (r.views id (turning o k h) at).own.0 in
       let new : List E = history x in
       let go : IsContinuedBy author k r.current new = subst (λ c. IsContinuedBy author k c new) known further in
       let w : View E = resting o k new in
       let cs : List (ℕ × Option T) = (0, Some x) ∷ [] in
       let F : ℕ → Type 0 = λ n. (w : View E) × (a : Act (Option T)) × Valid s.homes cs a × Rule (stepped s 0 n id cs w a)
-          × Gives history (step slots 0 odd even core.none) (turning o k h, cs) (get_or s.words 0 0) (w, carried_after cs a) in
+      × Gives history (step slots 0 odd even core.none) (turning o k h, cs) (get_or s.words 0 0) (w, carried_after cs a) in
       exchanged (get_or s.words 0 0) odd even F
       (λ _. (
         w,
@@ -269,8 +294,20 @@ module _ {T E : Type 0} (history : T → List E) (author : E → ℕ) (start : L
           authors = λ j le. let below : k < seats = mine.below in let other : j ≢ k = λ e. omega arith in others_stay author j k other r.current new go
               ∙ r.authors j le;
           views = views_set (Sees r.owner (home x) new r.claimed) s.views id w
-              record { turn = λ t. absurd (off t); own = (record { place = mine.place; below = mine.below; claim = mine.claim; began =
-                  prefix_trans start r.current new r.started (go.0, go.1); covered = (prefix_self new, refl) }, tt) }
+              record {
+                turn = λ t. absurd (off t);
+                own = (
+                  record {
+                    place = mine.place;
+                    below = mine.below;
+                    claim = mine.claim;
+                    began =
+                        prefix_trans start r.current new r.started (go.0, go.1);
+                    covered = (prefix_self new, refl);
+                  },
+                  tt,
+                );
+              }
               (λ j v apart e. others_see r.owner r.owner r.phase (home x) r.current new r.claimed r.claimed j v (λ _ p. apart (out_out j id (sym p ∙ turn.0)))
               (others_own id j apart k r.current new r.owner r.claimed mine.place go) (r.views j v e));
         },
@@ -283,7 +320,7 @@ module _ {T E : Type 0} (history : T → List E) (author : E → ℕ) (start : L
       → Allows Rule slots id m 0 (λ n. either (n == odd) even n) (Gives history (step slots 0 odd even core.none) m)
   gives_turn_at slots id k odd even o h x m e odd_is even_is further =
       subst (λ (z : Sat T E). Allows Rule slots id z 0 (λ n. either (n == odd) even n) (Gives history (step slots 0 odd even core.none) z)) (sym e)
-          (gives_turn slots id k odd even o h x odd_is even_is further)
+      (gives_turn slots id k odd even o h x odd_is even_is further)
 
   pub counts_at : (slots id k : ℕ) (o h : List E) (c : List (ℕ × Option T)) (m : Sat T E) → m ≡ (turning o k h, c)
       → Allows Rule slots id m 0 (λ n. n) (Counts {T = T} (step slots 0 0 0 core.none) m)
@@ -298,12 +335,12 @@ module _ {T E : Type 0} (history : T → List E) (author : E → ℕ) (start : L
       → Own owner current claimed j p → Own (claimed_by owner k id) current (bit_or claimed mask) j p
   keeps_own owner current claimed mask k id j small is free p o = let other : p.0 ≢ k = λ e. one_or_none (sym o.claim ∙ (ap (λ (n : ℕ). bit_at claimed n) e
       ∙ free)) in record {
-    place = chosen p.0 k id (owner p.0) (λ n. n ≡ j) (λ e. absurd (other e)) (λ _. o.place);
-    below = o.below;
-    claim = ap (λ m. bit_at (bit_or claimed m) p.0) is ∙ (bit_at_set_other w64 claimed k small p.0 other ∙ o.claim);
-    began = o.began;
-    covered = o.covered;
-  }
+        place = chosen p.0 k id (owner p.0) (λ n. n ≡ j) (λ e. absurd (other e)) (λ _. o.place);
+        below = o.below;
+        claim = ap (λ m. bit_at (bit_or claimed m) p.0) is ∙ (bit_at_set_other w64 claimed k small p.0 other ∙ o.claim);
+        began = o.began;
+        covered = o.covered;
+      }
 
   -- what a claim leaves of the rule, whatever it does with the turn
   still_unclaimed : (current : List E) (claimed mask k : ℕ) → k < 64 → mask ≡ 1 * 2 ^ k % 2 ^ 64 → ((j : ℕ) → bit_at claimed j ≡ 0
@@ -311,7 +348,7 @@ module _ {T E : Type 0} (history : T → List E) (author : E → ℕ) (start : L
       → (j : ℕ) → bit_at (bit_or claimed mask) j ≡ 0 → entries_by author j current ≡ entries_by author j start
   still_unclaimed current claimed mask k small is f j e = dite (ℕ_discrete j k)
       (λ (same : j ≡ k). absurd (one_or_none (sym (bit_at_set_same w64 claimed k small)
-          ∙ (ap (λ (x : ℕ × ℕ). bit_at (bit_or claimed x.0) x.1) (λ i. (sym is i, sym same i)) ∙ e))))
+      ∙ (ap (λ (x : ℕ × ℕ). bit_at (bit_or claimed x.0) x.1) (λ i. (sym is i, sym same i)) ∙ e))))
       (λ other. f j (sym (ap (λ m. bit_at (bit_or claimed m) j) is ∙ bit_at_set_other w64 claimed k small j other) ∙ e))
 
   claims_0 : (slots id k mask : ℕ) → (0 < k) → k < 64 → k < seats → mask ≡ 1 * 2 ^ k % 2 ^ 64 → (s : St) (r : Rule s)
@@ -319,34 +356,37 @@ module _ {T E : Type 0} (history : T → List E) (author : E → ℕ) (start : L
       → Rule (stepped s 1 (bit_or (get_or s.words 1 0) mask) id [] (resting start k start) keeps)
   claims_0 slots id k mask positive small below is s r at free = let w : View E = resting start k start in let claimed : ℕ = bit_or r.claimed mask in
       let owner : ℕ → ℕ = claimed_by r.owner k id in record {
-    phase = r.phase;
-    current = r.current;
-    claimed = claimed;
-    owner = owner;
-    words = ap (λ n. set s.words 1 (bit_or n mask)) (word_1 s r) ∙ ap (λ ws. set ws 1 claimed) r.words;
-    homes = r.homes;
-    stands = first_stays r.phase r.stands;
-    started = r.started;
-    unclaimed = still_unclaimed r.current r.claimed mask k small is r.unclaimed;
-    authors = r.authors;
-    views = views_set (Sees owner r.phase r.current claimed) s.views id w
-        record {
-          turn = λ t. absurd (off t);
-          own = (
+        phase = r.phase;
+        current = r.current;
+        claimed = claimed;
+        owner = owner;
+        words = ap (λ n. set s.words 1 (bit_or n mask)) (word_1 s r) ∙ ap (λ ws. set ws 1 claimed) r.words;
+        homes = r.homes;
+        stands = first_stays r.phase r.stands;
+        started = r.started;
+        unclaimed = still_unclaimed r.current r.claimed mask k small is r.unclaimed;
+        authors = r.authors;
+        views = views_set (Sees owner r.phase r.current claimed) s.views id w
             record {
-              place = chosen k k id (r.owner k) (λ n. n ≡ id) (λ _. refl) (λ ne. absurd (ne refl));
-              below = below;
-              claim = ap (λ m. bit_at (bit_or r.claimed m) k) is ∙ bit_at_set_same w64 r.claimed k small;
-              began = prefix_self start;
-              covered = (r.started, r.unclaimed k free);
-            },
-            tt,
-          );
-        }
-        (λ j v _ e. let sees = r.views j v e in record { turn = sees.turn; own =
-            all_map (Own r.owner r.current r.claimed j) (Own owner r.current claimed j)
-                (keeps_own r.owner r.current r.claimed mask k id j small is free) v.parts sees.own });
-  }
+              turn = λ t. absurd (off t);
+              own = (
+                record {
+                  place = chosen k k id (r.owner k) (λ n. n ≡ id) (λ _. refl) (λ ne. absurd (ne refl));
+                  below = below;
+                  claim = ap (λ m. bit_at (bit_or r.claimed m) k) is ∙ bit_at_set_same w64 r.claimed k small;
+                  began = prefix_self start;
+                  covered = (r.started, r.unclaimed k free);
+                },
+                tt,
+              );
+            }
+            (λ j v _ e. let sees = r.views j v e in record {
+              turn = sees.turn;
+              own =
+                  all_map (Own r.owner r.current r.claimed j) (Own owner r.current claimed j)
+                  (keeps_own r.owner r.current r.claimed mask k id j small is free) v.parts sees.own;
+            });
+      }
     where
       bit_0 : bit_at (bit_or r.claimed mask) 0 ≡ bit_at r.claimed 0
       bit_0 = ap (λ m. bit_at (bit_or r.claimed m) 0) is ∙ bit_at_set_other w64 r.claimed k small 0 (λ e. omega arith)
@@ -355,8 +395,15 @@ module _ {T E : Type 0} (history : T → List E) (author : E → ℕ) (start : L
           → Stands history author start seats r.current (bit_or r.claimed mask) (set s.views id (resting start k start)) p
       first_stays early h = (h.0, bit_0 ∙ h.1)
       first_stays (home x) h = (h.0, bit_0 ∙ h.1)
-      first_stays (out j) h = ((h.0.0, set_else s.views id j (resting start k start) (holder_apart s.views id j (fresh start) h.0.0 at refl h.0.1 h.0.2)
-          ∙ h.0.1, h.0.2), bit_0 ∙ h.1)
+      first_stays (out j) h = (
+        (
+          h.0.0,
+          set_else s.views id j (resting start k start) (holder_apart s.views id j (fresh start) h.0.0 at refl h.0.1 h.0.2)
+              ∙ h.0.1,
+          h.0.2,
+        ),
+        bit_0 ∙ h.1,
+      )
 
   -- a claim of a number that is taken changes nothing
   claims_nothing : (s : St) (r : Rule s) (id k mask : ℕ) → k < 64 → mask ≡ 1 * 2 ^ k % 2 ^ 64 → get_elem? s.views id ≡ core.some (fresh start)
@@ -380,8 +427,10 @@ module _ {T E : Type 0} (history : T → List E) (author : E → ℕ) (start : L
             keeps,
             tt,
             claims_0 slots id k mask positive small below is s r at free,
-            λ j fits same. let one : j ≡ k = mask_of j k mask fits small same is in ((λ _. ap (λ (n : ℕ). idle start n start) (sym one)),
-                (λ taken. absurd (taken (ap (λ (x : ℕ × ℕ). bit_at x.0 x.1) (λ i. (word_1 s r i, one i)) ∙ free)))),
+            λ j fits same. let one : j ≡ k = mask_of j k mask fits small same is in (
+              (λ _. ap (λ (n : ℕ). idle start n start) (sym one)),
+              (λ taken. absurd (taken (ap (λ (x : ℕ × ℕ). bit_at x.0 x.1) (λ i. (word_1 s r i, one i)) ∙ free))),
+            ),
           ))
           (λ taken. (
             fresh start,
@@ -399,7 +448,7 @@ module _ {T E : Type 0} (history : T → List E) (author : E → ℕ) (start : L
       let small : 0 < 64 = omega arith in
       let homes : s.homes ≡ core.some None ∷ [] = r.homes ∙ ap (λ q. slot_in q ∷ []) p in
       let stands : Stands history author start seats r.current r.claimed s.views early =
-          subst (Stands history author start seats r.current r.claimed s.views) p r.stands in
+      subst (Stands history author start seats r.current r.claimed s.views) p r.stands in
       let bit_0 : bit_at claimed 0 ≡ 1 = bit_at_set_same w64 r.claimed 0 small in record {
         phase = out id;
         current = r.current;
@@ -418,7 +467,7 @@ module _ {T E : Type 0} (history : T → List E) (author : E → ℕ) (start : L
               own = (record { place = refl; below = below; claim = bit_0; began = prefix_self start; covered = (r.started, r.unclaimed 0 free) }, tt);
             }
             (λ j v _ e. others_see r.owner owner r.phase (out id) r.current r.current r.claimed claimed j v (λ _ is. early_out j (sym p
-                ∙ is)) (keeps_own r.owner r.current r.claimed 1 0 id j small refl free) (r.views j v e));
+            ∙ is)) (keeps_own r.owner r.current r.claimed 1 0 id j small refl free) (r.views j v e));
       }
 
   free_at_early : (s : St) (r : Rule s) → bit_at r.claimed 0 ≡ 0 → r.phase ≡ early
@@ -489,7 +538,7 @@ module _ {T E : Type 0} (history : T → List E) (author : E → ℕ) (start : L
         homes = r.homes;
         stands = stays_out r.current r.claimed s.views (set vs other spent) r.phase (λ j u holds e. set_else vs other j spent
             (holder_apart s.views other j w u there' w_idle e holds) ∙ (set_else s.views id j b (holder_apart s.views id j v u at v_idle e holds)
-                ∙ e)) r.stands;
+            ∙ e)) r.stands;
         started = r.started;
         unclaimed = r.unclaimed;
         authors = r.authors;
@@ -500,13 +549,16 @@ module _ {T E : Type 0} (history : T → List E) (author : E → ℕ) (start : L
               turn = λ t. absurd (off t);
               own = all_append (Own owner r.current r.claimed id) v.parts w.parts
                   (all_map (Own r.owner r.current r.claimed id) (Own owner r.current r.claimed id) (moved r.owner r.current r.claimed other id id
-                      (λ e. apart (sym e))) v.parts (r.views id v at).own)
+                  (λ e. apart (sym e))) v.parts (r.views id v at).own)
                   (all_map (Own r.owner r.current r.claimed other) (Own owner r.current r.claimed id)
-                      (taken_over r.owner r.current r.claimed other id) w.parts (r.views other w there').own);
+                  (taken_over r.owner r.current r.claimed other id) w.parts (r.views other w there').own);
             })
-            (λ i x _ e' not_it. let sees = r.views i x e' in record { turn = sees.turn; own =
-                all_map (Own r.owner r.current r.claimed i) (Own owner r.current r.claimed i)
-                    (moved r.owner r.current r.claimed other id i not_it) x.parts sees.own })
+            (λ i x _ e' not_it. let sees = r.views i x e' in record {
+              turn = sees.turn;
+              own =
+                  all_map (Own r.owner r.current r.claimed i) (Own owner r.current r.claimed i)
+                  (moved r.owner r.current r.claimed other id i not_it) x.parts sees.own;
+            })
             j u e not_other);
       }
 
@@ -543,6 +595,8 @@ module _ {T E : Type 0} (history : T → List E) (author : E → ℕ) (start : L
 pub seats_snoc : {T E : Type 0} (lock : TableId) (start : List E) (k : ℕ) (ss : List (Seat (Option T) (View E))) (s : Seat (Option T) (View E))
     → SeatsFrom lock start k ss → s.table_id ≡ lock → s.me ≡ idle start (k + length ss) start → SeatsFrom lock start k (ss ++ s ∷ [])
 seats_snoc lock start k [] s h id me = ((id, me ∙ ap (λ (n : ℕ). idle start n start) (let n : k + 0 ≡ k = omega arith in n)), tt)
-seats_snoc lock start k (x ∷ xs) s h id me =
-    (h.0, seats_snoc lock start (k + 1) xs s h.1 id (me ∙ ap (λ (n : ℕ). idle start n start) (let n : k + suc (length xs) ≡ k + 1 + length xs =
-        omega arith in n)))
+seats_snoc lock start k (x ∷ xs) s h id me = (
+  h.0,
+  seats_snoc lock start (k + 1) xs s h.1 id (me ∙ ap (λ (n : ℕ). idle start n start) (let n : k + suc (length xs) ≡ k + 1 + length xs =
+      omega arith in n)),
+)

@@ -127,7 +127,7 @@ module _ {T E : Type 0} where
   abbrev pub Takes : (T → List E) → (E → ℕ) → Step (Option T) → Sat T E → ℕ → Sat T E → Type 0
   Takes history author st m r m' =
       (r ≡ st.first → (x : T) × (m' ≡ (turning m.0.opening (number_in m.0.parts) (history x), (0, Some x) ∷ []))
-          × Covers author (history x) (number_in m.0.parts, known_in m.0.parts))
+      × Covers author (history x) (number_in m.0.parts, known_in m.0.parts))
       × (r ≢ st.first → m' ≡ m)
 
   -- the holder finds the number that it left there

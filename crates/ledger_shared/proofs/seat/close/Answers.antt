@@ -9,7 +9,7 @@ returns-clause-first c =
     let s = subst (λ s. IsAt s c.second.inside.seat.me) c.second.view_is c.second.invariant in
     let t = subst (λ s. IsAt s c.clock.inside.seat.me) c.clock.view_is c.clock.invariant in
     (close_step c.args.first c.args.second c.args.clock _ _ _ _ _ c.close-ledger.result.ledger r s t c.requires.first.2 c.requires.second.2
-      c.requires.clock.2 c.join.ensures.both c.join-2.ensures.both c.close-ledger.ensures).0
+    c.requires.clock.2 c.join.ensures.both c.join-2.ensures.both c.close-ledger.ensures).0
 
 pub returns-clause-second : goal.returns-clause-second
 returns-clause-second c =
@@ -17,7 +17,7 @@ returns-clause-second c =
     let s = subst (λ s. IsAt s c.second.inside.seat.me) c.second.view_is c.second.invariant in
     let t = subst (λ s. IsAt s c.clock.inside.seat.me) c.clock.view_is c.clock.invariant in
     (close_step c.args.first c.args.second c.args.clock _ _ _ _ _ c.close-ledger.result.ledger r s t c.requires.first.2 c.requires.second.2
-      c.requires.clock.2 c.join.ensures.both c.join-2.ensures.both c.close-ledger.ensures).1
+    c.requires.clock.2 c.join.ensures.both c.join-2.ensures.both c.close-ledger.ensures).1
 
 pub returns-clause-clock : goal.returns-clause-clock
 returns-clause-clock c =
@@ -25,4 +25,4 @@ returns-clause-clock c =
     let s = subst (λ s. IsAt s c.second.inside.seat.me) c.second.view_is c.second.invariant in
     let t = subst (λ s. IsAt s c.clock.inside.seat.me) c.clock.view_is c.clock.invariant in
     (close_step c.args.first c.args.second c.args.clock _ _ _ _ _ c.close-ledger.result.ledger r s t c.requires.first.2 c.requires.second.2
-      c.requires.clock.2 c.join.ensures.both c.join-2.ensures.both c.close-ledger.ensures).2
+    c.requires.clock.2 c.join.ensures.both c.join-2.ensures.both c.close-ledger.ensures).2

@@ -12,10 +12,10 @@ pub invariant_of-seat : goal.invariant_of-seat
 invariant_of-seat g c =
     let is = subst (λ s. IsAt s c.seat.inside.seat.me) c.seat.view_is c.seat.invariant in
     (give_step c.args.seat.now _ _ _ c.args.ledger is c.requires.turn (c.give.ensures.lock
-        ∙ ap (λ s. s.lock) c.seat.view_is) c.requires.deal c.requires.arc c.give.ensures.idle).0
+    ∙ ap (λ s. s.lock) c.seat.view_is) c.requires.deal c.requires.arc c.give.ensures.idle).0
 
 pub returns : goal.returns
 returns g c =
     let is = subst (λ s. IsAt s c.seat.inside.seat.me) c.seat.view_is c.seat.invariant in
     (give_step c.args.seat.now _ _ _ c.args.ledger is c.requires.turn (c.give.ensures.lock
-        ∙ ap (λ s. s.lock) c.seat.view_is) c.requires.deal c.requires.arc c.give.ensures.idle).1
+    ∙ ap (λ s. s.lock) c.seat.view_is) c.requires.deal c.requires.arc c.give.ensures.idle).1

@@ -7,7 +7,7 @@ pub give-requires-clause-further : goal.give-requires-clause-further
 give-requires-clause-further g c =
     subst (λ s. IsContinued s c.call_at_end.new.ledger.history) (sym c.take-ledger.ensures.turn)
     (party_continued c.pass.inside c.pass.invariant c.take-ledger.result c.call_at_end.new.ledger.history _ _ c.take-ledger.ensures.ledger
-        c.in-Ok.ensures.history)
+    c.in-Ok.ensures.history)
 
 pub give-requires-in-Err-clause-further : goal.give-requires-in-Err-clause-further
 give-requires-in-Err-clause-further g c = unchanged c.pass.inside.seat _ c.take-ledger.result _ c.take-ledger.ensures.turn c.in-Err.ensures.kept
@@ -16,7 +16,7 @@ pub invariant_of-pass : goal.invariant_of-pass
 invariant_of-pass g c =
     let p = c.pass.inside in
     party_all p c.pass.invariant c.give.new.seat _ _ (turned p.seat _ _ _ _ c.take-ledger.ensures.turn c.give.ensures)
-        (longer _ _ _ _ c.take-ledger.ensures.ledger.longer c.in-Ok.ensures.history) c.len-pass-inside.ensures
+    (longer _ _ _ _ c.take-ledger.ensures.ledger.longer c.in-Ok.ensures.history) c.len-pass-inside.ensures
 
 pub invariant_of-pass-in-Err : goal.invariant_of-pass-in-Err
 invariant_of-pass-in-Err g c =
@@ -27,7 +27,7 @@ invariant_of-pass-in-Err g c =
 pub returns-in-Ok-clause-called : goal.returns-in-Ok-clause-called
 returns-in-Ok-clause-called g c =
     rw (← c.pass.view_is)
-        (party_called c.pass.inside c.pass.invariant c.take-ledger.result _ _ _ c.take-ledger.ensures.ledger c.in-Ok.ensures.reply c.in-Ok.ensures.fresh)
+    (party_called c.pass.inside c.pass.invariant c.take-ledger.result _ _ _ c.take-ledger.ensures.ledger c.in-Ok.ensures.reply c.in-Ok.ensures.fresh)
 
 pub returns-in-Ok-clause-seen : goal.returns-in-Ok-clause-seen
 returns-in-Ok-clause-seen g c =
@@ -41,4 +41,4 @@ returns-in-Ok-clause-whole g c =
     let p = c.pass.inside in
     rw (← c.pass.view_is)
     (party_whole p c.pass.invariant c.give.new.seat _ _ (turned p.seat _ _ _ _ c.take-ledger.ensures.turn c.give.ensures) c.len-pass-inside.ensures
-        (longer _ _ _ _ c.take-ledger.ensures.ledger.longer c.in-Ok.ensures.history))
+    (longer _ _ _ _ c.take-ledger.ensures.ledger.longer c.in-Ok.ensures.history))

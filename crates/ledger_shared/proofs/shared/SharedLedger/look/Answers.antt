@@ -13,13 +13,13 @@ pub invariant_of-pass : goal.invariant_of-pass
 invariant_of-pass g c =
     let p = c.pass.inside in
     party_all p c.pass.invariant c.give.new.seat _ _
-        (turned p.seat _ _ _ _ c.take-ledger.ensures.turn c.give.ensures) c.take-ledger.ensures.ledger.longer c.len-pass-inside.ensures
+    (turned p.seat _ _ _ _ c.take-ledger.ensures.turn c.give.ensures) c.take-ledger.ensures.ledger.longer c.len-pass-inside.ensures
 
 pub invariant_of-pass-in-Err : goal.invariant_of-pass-in-Err
 invariant_of-pass-in-Err g c =
     let p = c.pass.inside in
     party_kept p c.pass.invariant c.give-in-Err.new.seat c.take-ledger.result c.take-ledger.ensures.ledger
-        (turned p.seat _ _ _ _ c.take-ledger.ensures.turn c.give-in-Err.ensures)
+    (turned p.seat _ _ _ _ c.take-ledger.ensures.turn c.give-in-Err.ensures)
 
 pub returns-in-Ok-clause-seen : goal.returns-in-Ok-clause-seen
 returns-in-Ok-clause-seen g c =
@@ -27,7 +27,7 @@ returns-in-Ok-clause-seen g c =
     rw (← c.pass.view_is)
     (party_sees p c.pass.invariant c.give.new.seat _ _ _ (turned p.seat _ _ _ _ c.take-ledger.ensures.turn c.give.ensures) c.len-pass-inside.ensures
     (sym (seen_whole p.seen p.seat.known _ c.pass.invariant.rests.within c.take-ledger.ensures.ledger.longer)
-        ∙ ap (λ w. take p.seen p.seat.known ++ w) (sym c.in-Ok.ensures.fresh)))
+    ∙ ap (λ w. take p.seen p.seat.known ++ w) (sym c.in-Ok.ensures.fresh)))
 
 pub returns-in-Ok-clause-foreign : goal.returns-in-Ok-clause-foreign
 returns-in-Ok-clause-foreign g c =
@@ -38,4 +38,4 @@ pub returns-in-Ok-clause-whole : goal.returns-in-Ok-clause-whole
 returns-in-Ok-clause-whole g c =
     let p = c.pass.inside in
     rw (← c.pass.view_is) (party_whole p c.pass.invariant c.give.new.seat _ _
-        (turned p.seat _ _ _ _ c.take-ledger.ensures.turn c.give.ensures) c.len-pass-inside.ensures c.take-ledger.ensures.ledger.longer)
+    (turned p.seat _ _ _ _ c.take-ledger.ensures.turn c.give.ensures) c.len-pass-inside.ensures c.take-ledger.ensures.ledger.longer)

@@ -15,7 +15,7 @@ pub invariant_of-pass : goal.invariant_of-pass
 invariant_of-pass g c =
     let p = c.pass.inside in
     clock_all p c.pass.invariant c.give.new.seat _ _ (turned p.seat _ _ _ _ c.take-ledger.ensures.turn c.give.ensures)
-        (longer _ _ _ _ c.take-ledger.ensures.ledger.longer c.in-Ok.ensures.history) c.len-pass-inside.ensures
+    (longer _ _ _ _ c.take-ledger.ensures.ledger.longer c.in-Ok.ensures.history) c.len-pass-inside.ensures
 
 pub invariant_of-pass-in-Err : goal.invariant_of-pass-in-Err
 invariant_of-pass-in-Err g c =
@@ -35,4 +35,4 @@ returns-in-Ok-clause-whole g c =
     let p = c.pass.inside in
     rw (← c.pass.view_is)
     (clock_whole p c.pass.invariant c.give.new.seat _ _ (turned p.seat _ _ _ _ c.take-ledger.ensures.turn c.give.ensures) c.len-pass-inside.ensures
-        (longer _ _ _ _ c.take-ledger.ensures.ledger.longer c.in-Ok.ensures.history))
+    (longer _ _ _ _ c.take-ledger.ensures.ledger.longer c.in-Ok.ensures.history))

@@ -41,7 +41,7 @@ pub returns-then-kind-eq0-clause-fits : goal.returns-then-kind-eq0-clause-fits
 returns-then-kind-eq0-clause-fits c = steps c.self.inside c.self.invariant c.args.self.now c.self.view_is _ (returns-then-kind-eq0-clause-event c)
 
 pub returns-then-kind-le4-clause-event : goal.returns-then-kind-le4-clause-event
-returns-then-kind-le4-clause-event c = 
+returns-then-kind-le4-clause-event c =
     let lt = party_below c.self.inside c.self.invariant _ c.n.result c.below-p.result c.n.ensures c.below-p.ensures.word in
     look_is c.self.inside c.self.invariant c.args.self.now c.self.view_is c.draw-kind.result c.below-p.result c.pick.result c.n.result c.as_slice-arcs.result.now c.draw-kind.new.self c.below-p.new.self
     c.draw-kind.ensures.word c.draw-kind.ensures.place c.if-kind-eq0.false c.if-kind-le4.true c.n.ensures c.below-p.ensures.word c.below-p.ensures.place

@@ -10,9 +10,9 @@ loop-k-preserved g c =
     let seat = c.next_seat-seat.ensures in
     let history = c.in-Some.ensures.history in
     let me = seat.seat ∙ (ap (λ s. idle s c.loop-k.k s) history
-        ∙ ap (λ n. idle (g.T.Journal.history c.args.value) n (g.T.Journal.history c.args.value)) (sym i.2)) in
+    ∙ ap (λ n. idle (g.T.Journal.history c.args.value) n (g.T.Journal.history c.args.value)) (sym i.2)) in
     let all = seats_snoc _ _ 0 c.loop-k.all.items c.next_seat-seat.result i.4 seat.table (me
-        ∙ ap (λ n. idle (g.T.Journal.history c.args.value) n (g.T.Journal.history c.args.value)) (sym (zero-add (length c.loop-k.all.items)))) in (
+    ∙ ap (λ n. idle (g.T.Journal.history c.args.value) n (g.T.Journal.history c.args.value)) (sym (zero-add (length c.loop-k.all.items)))) in (
       search rules,
       search rules,
       omega (arith, ap length added.items, length-append c.loop-k.all.items (c.next_seat-seat.result ∷ []), i.2),
