@@ -207,7 +207,7 @@ deviates_of line true u e = absurd (cc e)
 
 call_fits : (job : Job) (line : ℕ) (name : List ℕ) (raw : RawMove) (event : Event) → IsWellSized job.deal → length job.names ≡ job.deal.graph.n
     → event_of_call job line name raw ≡ Ok event → CanStep job.deal job.conforming event
-unfolding call_of
+unfolding event_of_call
 call_fits job line name raw event w same e =
     let p = went (party_of_name line job.names name) _ event e in
     let q = went (move_of job.deal job.names line raw) _ event p.2 in

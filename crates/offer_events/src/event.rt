@@ -126,12 +126,7 @@ fn event_of_call(
     Ok(Event::Call(p, mv))
 }
 
-fn event_by_number(
-    alloc: Global,
-    job: &Job,
-    line: u32,
-    raw: &RawEvent<'_>,
-) -> Result<Event, OfferFault>
+fn check_event(alloc: Global, job: &Job, line: u32, raw: &RawEvent<'_>) -> Result<Event, OfferFault>
     requires sized { IsWellSized job.now.deal }
     requires names { length job.now.names ≡ job.now.deal.graph.n }
     requires conforming { length job.now.conforming ≡ job.now.deal.graph.n }
@@ -163,7 +158,7 @@ fn read_raw(alloc: Global, job: &Job, line: u32, raw: &RawEvent<'_>) -> Result<E
     ensures exact { Gives (λ e. e) result (asked job.now line raw.now) }
     ensures fits { IfOk result (λ e. CanStep job.now.deal job.now.conforming e) }
 {
-    let event = event_by_number(alloc, job, line, raw)?;
+    let event = check_event(alloc, job, line, raw)?;
     check_no_race(line, job.purpose)?;
     Ok(event)
 }
