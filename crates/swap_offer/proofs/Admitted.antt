@@ -146,36 +146,38 @@ module _ (h : Header) (a : IsAccepted (deal_with h (digraph_in h))) where
   unfolding started
   is_started = rw (le-ltb h.start h.delta a.start.0) refl
 
-  module _ (leader : ℕ) (e : h.leaders ≡ leader ∷ []) where
-    is_party : leader < length h.names
-    is_party =
-        let few = a.leaders.0 in
-        subst (λ (l : ℕ). l < length h.names) (ap (λ (ls : List ℕ). get_or ls 0 0) e) (a.leader 0 (omega (arith, few)))
+  is_party : (leader : ℕ) → h.leaders ≡ leader ∷ [] → leader < length h.names
+  is_party leader e =
+      let few = a.leaders.0 in
+      subst (λ (l : ℕ). l < length h.names) (ap (λ (ls : List ℕ). get_or ls 0 0) e) (a.leader 0 (omega (arith, few)))
 
-    is_feedback : IsFeedback (digraph_in h) (leader ∷ [])
-    is_feedback = subst (IsFeedback (digraph_in h)) e a.feedback
+  is_feedback : (leader : ℕ) → h.leaders ≡ leader ∷ [] → IsFeedback (digraph_in h) (leader ∷ [])
+  is_feedback leader e = subst (IsFeedback (digraph_in h)) e a.feedback
 
-    near : (v : ℕ) → v < length h.names → IsDist (digraph_in h) leader v (dist_of (digraph_in h) leader v)
-    near v lt =
-        let g : Graph = digraph_in h in
-        let k : ℕ = height_of g (leader ∷ []) in
-        let tall = heights.greatest_level_is_height g (leader ∷ []) is_feedback in
-        let far = dist_is g leader a.ends a.strong is_party is_feedback k k v tall (omega arith) lt in
-        subst (IsDist g leader v) (dist_by_rounds g leader a.ends a.strong is_party is_feedback k v tall lt) far
+  near : (leader v : ℕ) → h.leaders ≡ leader ∷ [] → v < length h.names → IsDist (digraph_in h) leader v (dist_of (digraph_in h) leader v)
+  near leader v e lt =
+      let g : Graph = digraph_in h in
+      let k : ℕ = height_of g (leader ∷ []) in
+      let feedback = is_feedback leader e in
+      let party = is_party leader e in
+      let tall = heights.greatest_level_is_height g (leader ∷ []) feedback in
+      let far = dist_is g leader a.ends a.strong party feedback k k v tall (omega arith) lt in
+      subst (IsDist g leader v) (dist_by_rounds g leader a.ends a.strong party feedback k v tall lt) far
 
-    right_timelock : IsTimed Timelocks (deal_with h (digraph_in h)) → (b : ℕ) → b < length h.arcs → wrong_timelock h (digraph_in h) leader b ≡ None
-    right_timelock t b lt =
-        let g : Graph = digraph_in h in
-        let v : ℕ = (ends g b).to in
-        let s = t.1 b lt in
-        let same : slice_index h.leaders 0 ≡ leader = ap (λ (ls : List ℕ). get_or ls 0 0) e in
-        let own : IsDist g leader v s.dist = subst (λ (l : ℕ). IsDist g l v s.dist) same s.is_dist in
-        let d : s.dist ≡ dist_of g leader v = dist_one g leader a.ends a.strong is_party is_feedback v s.dist (dist_of g leader v) own
-        (near v (a.ends.to b lt)) in
-        let given : ℕ = slice_index h.timelocks b in
-        let wanted : ℕ = timelock h.start h.delta h.bound (dist_of g leader v) in
-        let right : given ≡ wanted = s.timelock ∙ ap (timelock h.start h.delta h.bound) d in
-        ap (λ (x : Bool). cond x None (Some (WrongTimelock b given wanted))) (eq-eqb given wanted right)
+  right_timelock : (leader b : ℕ) → h.leaders ≡ leader ∷ [] → IsTimed Timelocks (deal_with h (digraph_in h)) → b < length h.arcs
+      → wrong_timelock h (digraph_in h) leader b ≡ None
+  right_timelock leader b e t lt =
+      let g : Graph = digraph_in h in
+      let v : ℕ = (ends g b).to in
+      let s = t.1 b lt in
+      let same : slice_index h.leaders 0 ≡ leader = ap (λ (ls : List ℕ). get_or ls 0 0) e in
+      let own : IsDist g leader v s.dist = subst (λ (l : ℕ). IsDist g l v s.dist) same s.is_dist in
+      let d : s.dist ≡ dist_of g leader v =
+      dist_one g leader a.ends a.strong (is_party leader e) (is_feedback leader e) v s.dist (dist_of g leader v) own (near leader v e (a.ends.to b lt)) in
+      let given : ℕ = slice_index h.timelocks b in
+      let wanted : ℕ = timelock h.start h.delta h.bound (dist_of g leader v) in
+      let right : given ≡ wanted = s.timelock ∙ ap (timelock h.start h.delta h.bound) d in
+      ap (λ (x : Bool). cond x None (Some (WrongTimelock b given wanted))) (eq-eqb given wanted right)
 
   is_in_time : (m : Mode) → IsTimed m (deal_with h (digraph_in h)) → timed h (digraph_in h) m h.leaders ≡ Ok tt
   unfolding timed
@@ -186,7 +188,7 @@ module _ (h : Header) (a : IsAccepted (deal_with h (digraph_in h))) where
       go [] e = refl
       go (leader ∷ []) e =
           ap unless_wrong (none_all (wrong_timelock h (digraph_in h) leader) (arcs (digraph_in h))
-          (λ b i. right_timelock leader e t b (from_range b (length h.arcs) i)))
+          (λ b i. right_timelock leader b e t (from_range b (length h.arcs) i)))
       go (x ∷ y ∷ ls) e = refl
 
   checked_is : checked h (digraph_in h) ≡ Ok tt

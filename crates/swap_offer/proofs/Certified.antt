@@ -48,10 +48,10 @@ abbrev IfThere : (Reason → Type 0) → Option Reason → Type 0
 IfThere P None = Unit {0}
 IfThere P (Some reason) = P reason
 
-then : {A B : Type 0} (P : Reason → Type 0) (m : Result A Reason) (f : A → Result B Reason) → IfBad P m → ((x : A) → m ≡ Ok x → IfBad P (f x))
+onward : {A B : Type 0} (P : Reason → Type 0) (m : Result A Reason) (f : A → Result B Reason) → IfBad P m → ((x : A) → m ≡ Ok x → IfBad P (f x))
     → IfBad P (m >>= f)
-then P (Ok x) f bad rest = rest x refl
-then P (Err reason) f bad rest = bad
+onward P (Ok x) f bad rest = rest x refl
+onward P (Err reason) f bad rest = bad
 
 if_wrong : (P : Reason → Type 0) (o : Option Reason) → IfThere P o → IfBad P (unless_wrong o)
 if_wrong P None bad = tt
@@ -148,20 +148,20 @@ module _ (h : Header) (k : IsWithin h) where
   of_checked : HasEnds (digraph_in h) → IfBad Shows (checked h (digraph_in h))
   unfolding checked
   of_checked has =
-      then (IsCertified h) (connected (digraph_in h)) _ (of_connected has)
-      (λ u e. then (IsCertified h) (one_leader h.mode h.leaders) _ (of_one_leader h.mode)
-      (λ v f. then (IsCertified h) (led (digraph_in h) h.leaders) _ of_led
-      (λ w d. then (IsCertified h) (bounded h.bound (least_bound (digraph_in h) h.leaders)) _ (of_bounded (least_bound (digraph_in h) h.leaders))
-      (λ x b. then (IsCertified h) (started h.start h.delta) _ of_started (λ y s. of_timed h.mode h.leaders)))))
+      onward (IsCertified h) (connected (digraph_in h)) _ (of_connected has)
+      (λ u e. onward (IsCertified h) (one_leader h.mode h.leaders) _ (of_one_leader h.mode)
+      (λ v f. onward (IsCertified h) (led (digraph_in h) h.leaders) _ of_led
+      (λ w d. onward (IsCertified h) (bounded h.bound (least_bound (digraph_in h) h.leaders)) _ (of_bounded (least_bound (digraph_in h) h.leaders))
+      (λ x b. onward (IsCertified h) (started h.start h.delta) _ of_started (λ y s. of_timed h.mode h.leaders)))))
 
   of_admitted : IfBad Shows (admitted h)
   unfolding admitted
   of_admitted =
-      then (IsCertified h) (graph_of h) _ of_arcs
+      onward (IsCertified h) (graph_of h) _ of_arcs
       (λ g e.
       let m = made g e in
       subst (λ (x : Graph). IfBad (IsCertified h) (checked h x >>= λ u. let r : Result Graph Reason = Ok x in r)) (sym m.0)
-      (then (IsCertified h) (checked h (digraph_in h)) _ (of_checked m.1) (λ u c. tt)))
+      (onward (IsCertified h) (checked h (digraph_in h)) _ (of_checked m.1) (λ u c. tt)))
 
   of_seed : (job : Job) (p : ℕ) → IfThere Shows (no_seed job p)
   of_seed job p = if_so (IsCertified h) (conforms job p && is_none (seed_of job p)) (NoSeed p) tt
@@ -203,8 +203,8 @@ module _ (h : Header) (k : IsWithin h) where
   of_accepted : IfBad Shows (accepted_of h)
   unfolding accepted_of provided
   of_accepted =
-      then (IsCertified h) (admitted h) _ of_admitted
-      (λ g e. then (IsCertified h) (provided (job_with h g)) _ (then (IsCertified h) (seeded (job_with h g)) _ (of_seeded (job_with h g))
+      onward (IsCertified h) (admitted h) _ of_admitted
+      (λ g e. onward (IsCertified h) (provided (job_with h g)) _ (onward (IsCertified h) (seeded (job_with h g)) _ (of_seeded (job_with h g))
       (λ u s. of_walleted (job_with h g))) (λ u p. tt))
 
   shown_by : (r : Result Job Reason) (reason : Reason) → r ≡ Err reason → IfBad Shows r → IsCertified h reason

@@ -95,7 +95,6 @@ fn accept(alloc: Global, header: Header) -> Result<Prepared, HeaderFault>
     ensures wallets { IfOk result (λ p. HaveWalletsFor header.purpose p.job) }
     ensures made { IfOk result (λ p. p.wallets.items ≡ wallets_for header.purpose p.job) }
     ensures need { IfOk result (λ p. p.need ≡ need_of p.job.deal) }
-    ensures certified { Certifies header result }
 {
     let (graph, need) = match admit(alloc, &header) {
         Ok(admitted) => admitted,
