@@ -15,5 +15,6 @@ pub none_refused : (at k n : ℕ) → count_by is_refused (ticks_above at k n) �
 none_refused at k zero = refl
 none_refused at k (suc n) =
     let h : count_by is_refused (ticks_above at k n) ≡ 0 = none_refused at k n in
-    let e : count_by is_refused (ticks_above at k (suc n)) ≡ count_by is_refused (ticks_above at k n) + 0 = sum_by_push (λ x. cond (is_refused x) 1 0) (ticks_above at k n) (tick_entry k (at + k * suc n) Accepted) in
+    let e : count_by is_refused (ticks_above at k (suc n)) ≡ count_by is_refused (ticks_above at k n) + 0 =
+    sum_by_push (λ x. cond (is_refused x) 1 0) (ticks_above at k n) (tick_entry k (at + k * suc n) Accepted) in
     omega arith

@@ -17,7 +17,8 @@ sum_more f b i sum w h lt is value so_far =
     let s : sum_by f (take (i + 1) b) ≡ sum_by f (take i b) + f (get_or b i []) = sum_by_more f b i [] lt in
     omega (arith, value, so_far, e, s)
 
-pub item_short : (b : Histories) (i : ℕ) (h : List Entry) → i < length b → h ≡ get_or b i h → ((a : ℕ) → a < length b → length (history b a) ≤ 20064) → length h ≤ 20064
+pub item_short : (b : Histories) (i : ℕ) (h : List Entry) → i < length b → h ≡ get_or b i h → ((a : ℕ) → a < length b → length (history b a) ≤ 20064)
+    → length h ≤ 20064
 item_short b i h lt is short = let e : length h ≡ length (history b i) = ap length (item_is b i h lt is) in let m = short i lt in omega (arith, e, m)
 
 pub refused_short : (b : Histories) (i w : ℕ) (h : List Entry) → i < length b → h ≡ get_or b i h → w ≡ count_by is_refused h

@@ -12,10 +12,14 @@ use Rattle.swap_rules.specs.Findings.{findings}
 use Rattle.run_summary.specs.Counts.{entry_count, refused_count, ended_so}
 
 unfoldable pub size_line : DealOf → List ℕ
-size_line d = joined (codes "parties " ∷ decimal d.graph.n ∷ codes " arcs " ∷ decimal (length d.graph.arcs) ∷ codes " leaders " ∷ decimal (length d.leaders) ∷ codes "\n" ∷ [])
+size_line d =
+    joined (codes "parties " ∷ decimal d.graph.n ∷ codes " arcs " ∷ decimal (length d.graph.arcs) ∷ codes " leaders " ∷ decimal (length d.leaders)
+    ∷ codes "\n" ∷ [])
 
 unfoldable pub run_line : (events : ℕ) → Histories → List ℕ
-run_line events b = joined (codes "events " ∷ decimal events ∷ codes " entries " ∷ decimal (entry_count b) ∷ codes " refused " ∷ decimal (refused_count b) ∷ codes "\n" ∷ [])
+run_line events b =
+    joined (codes "events " ∷ decimal events ∷ codes " entries " ∷ decimal (entry_count b) ∷ codes " refused " ∷ decimal (refused_count b)
+    ∷ codes "\n" ∷ [])
 
 unfoldable pub outcome_line : List Outcome → List ℕ
 outcome_line os =
@@ -31,4 +35,6 @@ summary_with d events b outcomes found = joined (codes "swap summary 1\n" ∷ si
 
 -- the summary of a job, so many events and the book of its run
 unfoldable pub summary : Job → (events : ℕ) → Histories → List ℕ
-summary job events b = summary_with job.deal events b (map (outcome job.deal b) (range_with_len 0 job.deal.graph.n)) (length (findings job.deal (λ p. slice_index_or job.conforming p false) b))
+summary job events b =
+    summary_with job.deal events b (map (outcome job.deal b) (range_with_len 0 job.deal.graph.n))
+    (length (findings job.deal (λ p. slice_index_or job.conforming p false) b))

@@ -1,5 +1,6 @@
 -- A proposed deal with all that its parties' seeds give is an accepted one.
-use Rattle.std.proofs.Common.{◌≡◌, ℕ, zero, suc, ◌+◌, ◌-◌, ◌*◌, ◌<◌, ◌≤◌, List, [], ◌∷◌, length, map, get_or, replicate, Option, slice_index, slice_index_or, refl, sym, ap, ◌∙◌, subst, arith, mul-le-mul_right}
+use Rattle.std.proofs.Common.{◌≡◌, ℕ, zero, suc, ◌+◌, ◌-◌, ◌*◌, ◌<◌, ◌≤◌, List, [], ◌∷◌, length, map, get_or, replicate, Option, slice_index, slice_index_or}
+use Rattle.std.proofs.Common.{refl, sym, ap, ◌∙◌, subst, arith, mul-le-mul_right}
 use Rattle.std.specs.List.{range_with_len}
 use Rattle.std.proofs.Math.Nat.{min-le_left}
 use Rattle.std.proofs.lemmas.List.{length-map, length-replicate, get_or-replicate}
@@ -46,7 +47,8 @@ module _ (d : Deal) (k : IsProposed d) (one : length d.leaders ≡ 1) where
   pub dist_at : (v : ℕ) → v < d.graph.n → IsDist d.graph (leader_of d 0) v (dist_of d.graph (leader_of d 0) v)
   dist_at v lt =
       let far = dist_is d.graph (leader_of d 0) k.ends k.strong leader_below feedback_alone k.height k.height v height_alone (omega arith) lt in
-      subst (IsDist d.graph (leader_of d 0) v) (dist_by_rounds d.graph (leader_of d 0) k.ends k.strong leader_below feedback_alone k.height v height_alone lt) far
+      subst (IsDist d.graph (leader_of d 0) v) (dist_by_rounds d.graph (leader_of d 0) k.ends k.strong leader_below feedback_alone k.height v height_alone lt)
+      far
 
 -- What is filled in has the sizes that it should have.
 
@@ -69,7 +71,8 @@ timelock_at d a lt = get_or-map-range_with_len (timelock_for d) 0 (length d.grap
 -- a distance is at most the bound
 pub dist_low : (d : Deal) (k : IsProposed d) → length d.leaders ≡ 1 → (v : ℕ) → v < d.graph.n → dist_of d.graph (leader_of d 0) v ≤ 64
 dist_low d k one v lt =
-    let b = dist_bounded d.graph (leader_of d 0) k.ends k.strong (leader_below d k one) (feedback_alone d k one) k.height v (dist_of d.graph (leader_of d 0) v) (height_alone d k one) (dist_at d k one v lt) in
+    let b = dist_bounded d.graph (leader_of d 0) k.ends k.strong (leader_below d k one) (feedback_alone d k one) k.height v
+    (dist_of d.graph (leader_of d 0) v) (height_alone d k one) (dist_at d k one v lt) in
     let m : times.need d.graph.n 1 k.height ≤ d.bound = subst (λ n. times.need d.graph.n n k.height ≤ d.bound) one k.bound.0 in
     let most = k.bound.1 in
     omega (arith, b, m, most)
@@ -108,17 +111,21 @@ same_keys : (m : Mode) (seeds : List (Option (List ℕ))) (d : Deal) (hs : List 
 same_keys Timelocks seeds d hs = refl
 same_keys Hashkeys seeds d hs = refl
 
-same_timelocks : (m : Mode) (d : Deal) (hs : List (List ℕ)) (ks : List (List (List ℕ))) → all_timelocks m (record d { hashlocks = hs; keys = ks }) ≡ all_timelocks m d
+same_timelocks : (m : Mode) (d : Deal) (hs : List (List ℕ)) (ks : List (List (List ℕ)))
+    → all_timelocks m (record d { hashlocks = hs; keys = ks }) ≡ all_timelocks m d
 same_timelocks Timelocks d hs ks = refl
 same_timelocks Hashkeys d hs ks = refl
 
 -- filled in one after another
 pub sized_with : (seeds : List (Option (List ℕ))) (d : Deal) (hs : List (List ℕ)) (ks : List (List (List ℕ))) (ts : List ℕ) → IsProposed d
-    → hs ≡ map (hashlock_from seeds) d.leaders → ks ≡ all_keys d.mode seeds (record d { hashlocks = hs }) → ts ≡ all_timelocks d.mode (record d { hashlocks = hs; keys = ks }) → IsWellSized (record d { hashlocks = hs; keys = ks; timelocks = ts })
+    → hs ≡ map (hashlock_from seeds) d.leaders → ks ≡ all_keys d.mode seeds (record d { hashlocks = hs })
+    → ts ≡ all_timelocks d.mode (record d { hashlocks = hs; keys = ks }) → IsWellSized (record d { hashlocks = hs; keys = ks; timelocks = ts })
 sized_with seeds d hs ks ts k eh ek et =
     subst (λ (x : List (List ℕ)). IsWellSized (record d { hashlocks = x; keys = ks; timelocks = ts })) (sym eh)
-    (subst (λ (x : List (List (List ℕ))). IsWellSized (record d { hashlocks = map (hashlock_from seeds) d.leaders; keys = x; timelocks = ts })) (sym (ek ∙ same_keys d.mode seeds d hs))
-    (subst (λ (x : List ℕ). IsWellSized (record d { hashlocks = map (hashlock_from seeds) d.leaders; keys = all_keys d.mode seeds d; timelocks = x })) (sym (et ∙ same_timelocks d.mode d hs ks)) (filled_is_sized seeds d k)))
+    (subst (λ (x : List (List (List ℕ))). IsWellSized (record d { hashlocks = map (hashlock_from seeds) d.leaders; keys = x; timelocks = ts })) (sym (ek
+    ∙ same_keys d.mode seeds d hs))
+    (subst (λ (x : List ℕ). IsWellSized (record d { hashlocks = map (hashlock_from seeds) d.leaders; keys = all_keys d.mode seeds d; timelocks = x }))
+    (sym (et ∙ same_timelocks d.mode d hs ks)) (filled_is_sized seeds d k)))
 
 -- Acceptance.
 
@@ -126,7 +133,8 @@ version_kept : (v : Version) (d e : Deal) → e.graph ≡ d.graph → e.mode ≡
 version_kept One d e g m h = subst (λ x. (a b : ℕ) → a < length x.arcs → b < length x.arcs → ends x a ≡ ends x b → a ≡ b) (sym g) h
 version_kept Two d e g m h = m ∙ h
 
-timed_by : (m : Mode) (seeds : List (Option (List ℕ))) (d : Deal) (e : Deal) → IsProposed d → IsLedFor m d → e ≡ made_deal seeds d → e.timelocks ≡ all_timelocks m d → IsTimed m e
+timed_by : (m : Mode) (seeds : List (Option (List ℕ))) (d : Deal) (e : Deal) → IsProposed d → IsLedFor m d → e ≡ made_deal seeds d
+    → e.timelocks ≡ all_timelocks m d → IsTimed m e
 unfolding made_deal
 timed_by Timelocks seeds d e k one s t = rw s (
   one,
@@ -136,7 +144,8 @@ timed_by Timelocks seeds d e k one s t = rw s (
     timelock = ap (λ (ts : List ℕ). slice_index ts a) (ap (λ x. x.timelocks) (sym s) ∙ t) ∙ timelock_at d a lt;
   },
 )
-timed_by Hashkeys seeds d e k one s t = λ a lt. ap (λ (ts : List ℕ). slice_index ts a) t ∙ get_or-replicate {A = ℕ} (length d.graph.arcs) a 0 0 (subst (λ x. a < length x.graph.arcs) s lt)
+timed_by Hashkeys seeds d e k one s t = λ a lt. ap (λ (ts : List ℕ). slice_index ts a) t
+    ∙ get_or-replicate {A = ℕ} (length d.graph.arcs) a 0 0 (subst (λ x. a < length x.graph.arcs) s lt)
 
 pub made_is_accepted : (seeds : List (Option (List ℕ))) (d : Deal) → IsProposed d → IsAccepted (made_deal seeds d)
 unfolding made_deal

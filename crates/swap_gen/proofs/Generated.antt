@@ -1,5 +1,6 @@
 -- The job that a number gives.
-use Rattle.std.proofs.Common.{◌≡◌, ℕ, ◌+◌, ◌<◌, ◌≤◌, List, length, map, Option, Some, None, IsSome, replicate, slice_index_or, refl, sym, ap, ◌∙◌, subst, arith}
+use Rattle.std.proofs.Common.{◌≡◌, ℕ, ◌+◌, ◌<◌, ◌≤◌, List, length, map, Option, Some, None, IsSome, replicate, slice_index_or, refl, sym, ap, ◌∙◌, subst}
+use Rattle.std.proofs.Common.{arith}
 use Rattle.std.specs.List.{range_with_len}
 use Rattle.std.proofs.lemmas.List.FromFn.{get_or-map-range_with_len}
 use Rattle.swap_digraph.specs.Value.{Graph}
@@ -32,7 +33,8 @@ plain_graph seed n = refl
 
 some_seed : (seed n p : ℕ) → p < n → IsSome (slice_index_or {A = Option (List ℕ)} (plain_job seed n).seeds p None)
 unfolding plain_job
-some_seed seed n p lt = subst (λ (o : Option (List ℕ)). IsSome o) (sym (get_or-map-range_with_len (λ i. Some (seed_of seed i)) 0 n p p None lt (omega arith))) refl
+some_seed seed n p lt = subst (λ (o : Option (List ℕ)). IsSome o) (sym (get_or-map-range_with_len (λ i. Some (seed_of seed i)) 0 n p p None lt (omega arith)))
+    refl
 
 plain_has_seeds : (seed n : ℕ) → HaveSeeds (plain_job seed n)
 plain_has_seeds seed n p lt = some_seed seed n p (subst (λ (g : Graph). p < g.n) (plain_graph seed n) lt)

@@ -37,26 +37,32 @@ AreListed seed n count e g xs =
 All-none : (P : Event → Type 0) → All P []
 All-none P = λ k d lt. absurd (omega arith)
 
-pub first_listed : (seed n count : ℕ) (g : GeneratorState) (xs : List Event) → g ≡ record { seed = seed; parties = n; place = first_place seed n } → xs ≡ [] → AreListed seed n count 0 g xs
+pub first_listed : (seed n count : ℕ) (g : GeneratorState) (xs : List Event) → g ≡ record { seed = seed; parties = n; place = first_place seed n } → xs ≡ []
+    → AreListed seed n count 0 g xs
 first_listed seed n count g xs is none = (
   ap (λ (s : GeneratorState). s.seed) is,
   ap (λ (s : GeneratorState). s.parties) is,
   ap (λ (ys : List Event). ys ++ events_from seed (drawn_graph seed n) g.place (count - 0)) none
       ∙ ap (λ (s : GeneratorState). events_from seed (drawn_graph seed n) s.place (count - 0)) is ∙ begins seed n count,
-  subst (All (CanStep (generated seed n).deal (generated seed n).conforming)) (sym none) (All-none (CanStep (generated seed n).deal (generated seed n).conforming)),
+  subst (All (CanStep (generated seed n).deal (generated seed n).conforming)) (sym none)
+      (All-none (CanStep (generated seed n).deal (generated seed n).conforming)),
 )
 
 pub more_listed : (seed n count e : ℕ) (g next : GeneratorState) (old new : List Event) (event : Event) → e < count → AreListed seed n count e g old
-    → event ≡ (event_from g.seed (drawn_graph g.seed g.parties) g.place).0 → next ≡ record g { place = (event_from g.seed (drawn_graph g.seed g.parties) g.place).1 }
-    → CanStep (generated g.seed g.parties).deal (generated g.seed g.parties).conforming event → new ≡ old ++ event ∷ [] → AreListed seed n count (e + 1) next new
+    → event ≡ (event_from g.seed (drawn_graph g.seed g.parties) g.place).0
+    → next ≡ record g { place = (event_from g.seed (drawn_graph g.seed g.parties) g.place).1 }
+    → CanStep (generated g.seed g.parties).deal (generated g.seed g.parties).conforming event → new ≡ old ++ event ∷ []
+    → AreListed seed n count (e + 1) next new
 more_listed seed n count e g next old new event lt h is on fits more = (
   ap (λ (s : GeneratorState). s.seed) on ∙ h.0,
   ap (λ (s : GeneratorState). s.parties) on ∙ h.1,
   goes_on seed (drawn_graph seed n) g.place next.place e count old new (generated_events seed n count) event lt
       (is ∙ ap (λ s. (event_from s (drawn_graph s g.parties) g.place).0) h.0 ∙ ap (λ m. (event_from seed (drawn_graph seed m) g.place).0) h.1)
-      (ap (λ (s : GeneratorState). s.place) on ∙ ap (λ s. (event_from s (drawn_graph s g.parties) g.place).1) h.0 ∙ ap (λ m. (event_from seed (drawn_graph seed m) g.place).1) h.1)
+      (ap (λ (s : GeneratorState). s.place) on ∙ ap (λ s. (event_from s (drawn_graph s g.parties) g.place).1) h.0
+      ∙ ap (λ m. (event_from seed (drawn_graph seed m) g.place).1) h.1)
       more h.2,
   subst (All (CanStep (generated seed n).deal (generated seed n).conforming)) (sym more)
       (All-push (CanStep (generated seed n).deal (generated seed n).conforming) old event h.3
-      (subst (λ m. CanStep (generated seed m).deal (generated seed m).conforming event) h.1 (subst (λ s. CanStep (generated s g.parties).deal (generated s g.parties).conforming event) h.0 fits))),
+      (subst (λ m. CanStep (generated seed m).deal (generated seed m).conforming event) h.1
+      (subst (λ s. CanStep (generated s g.parties).deal (generated s g.parties).conforming event) h.0 fits))),
 )

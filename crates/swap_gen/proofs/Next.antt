@@ -1,5 +1,6 @@
 -- The next event of a generator.
-use Rattle.std.proofs.Common.{◌≡◌, ◌≢◌, ℕ, ◌+◌, ◌*◌, ◌%◌, ◌<◌, ◌≤◌, ◌==◌, ◌||◌, nat_le, Bool, true, false, cond, List, length, map, get_or, refl, sym, ap, ◌∙◌, subst, arith, eq-eqb, le-leb}
+use Rattle.std.proofs.Common.{◌≡◌, ◌≢◌, ℕ, ◌+◌, ◌*◌, ◌%◌, ◌<◌, ◌≤◌, ◌==◌, ◌||◌, nat_le, Bool, true, false, cond, List, length, map, get_or, refl, sym, ap}
+use Rattle.std.proofs.Common.{◌∙◌, subst, arith, eq-eqb, le-leb}
 use Rattle.std.specs.List.{range_with_len}
 use Rattle.std.proofs.Math.Nat.{mod-lt}
 use Rattle.std.proofs.lemmas.Bool.{ne_eqb}
@@ -70,7 +71,8 @@ module _ (i : Inside) (h : Holds i) where
       let lt : w % n < n = mod-lt w some in
       omega (arith, lt, is, size)
 
-  pub touching_at : (p : ℕ) (lists : List (List ℕ)) (xs : List ℕ) → lists ≡ i.touching → p < i.job.deal.graph.n → xs ≡ get_or lists p xs → xs ≡ touching i.job.deal.graph p
+  pub touching_at : (p : ℕ) (lists : List (List ℕ)) (xs : List ℕ) → lists ≡ i.touching → p < i.job.deal.graph.n → xs ≡ get_or lists p xs
+      → xs ≡ touching i.job.deal.graph p
   touching_at p lists xs e lt is = place_is (touching i.job.deal.graph) i.job.deal.graph.n p lists xs (e ∙ h.touching) lt is
 
   pub touching_below : (p : ℕ) (lists : List (List ℕ)) → lists ≡ i.touching → p < i.job.deal.graph.n → p < length lists
@@ -101,20 +103,25 @@ module _ (i : Inside) (h : Holds i) where
     tick_is w0 w1 m drew first on kind size second =
         let e : w1 ≡ word i.draws.seed (next i.draws.place) % length i.job.deal.graph.arcs =
         second ∙ ap (λ (t : DrawState). word t.seed t.place % m) on ∙ ap (λ k. word i.draws.seed (next i.draws.place) % k) size in
-        ap (λ w. Tick w 1) e ∙ sym (ap (λ (r : Event × ℕ). r.0) (tick_comes i.draws.seed i.job.deal.graph i.draws.place (ap (λ w. w % 8) (sym first) ∙ kind))) ∙ wanted_is
+        ap (λ w. Tick w 1) e ∙ sym (ap (λ (r : Event × ℕ). r.0) (tick_comes i.draws.seed i.job.deal.graph i.draws.place (ap (λ w. w % 8) (sym first) ∙ kind)))
+        ∙ wanted_is
 
-    pub look_is : (w0 p a n : ℕ) (xs : List ℕ) (drew drew2 : DrawState) → w0 ≡ word i.draws.seed i.draws.place → drew ≡ record i.draws { place = next i.draws.place }
+    pub look_is : (w0 p a n : ℕ) (xs : List ℕ) (drew drew2 : DrawState) → w0 ≡ word i.draws.seed i.draws.place
+        → drew ≡ record i.draws { place = next i.draws.place }
         → w0 % 8 ≢ 0 → w0 % 8 ≤ 4 → n ≡ i.job.deal.graph.n → p ≡ word drew.seed drew.place % n → drew2 ≡ record drew { place = next drew.place }
         → xs ≡ touching i.job.deal.graph p → a ≡ picked xs (word drew2.seed drew2.place) → Look p a ≡ wanted
     look_is w0 p a n xs drew drew2 first on some few size second on2 among third =
         let e : p ≡ word i.draws.seed (next i.draws.place) % i.job.deal.graph.n =
         second ∙ ap (λ (t : DrawState). word t.seed t.place % n) on ∙ ap (λ k. word i.draws.seed (next i.draws.place) % k) size in
-        let f : a ≡ picked (touching i.job.deal.graph (word i.draws.seed (next i.draws.place) % i.job.deal.graph.n)) (word i.draws.seed (next (next i.draws.place))) =
+        let f : a ≡ picked (touching i.job.deal.graph (word i.draws.seed (next i.draws.place) % i.job.deal.graph.n))
+        (word i.draws.seed (next (next i.draws.place))) =
         third ∙ ap (λ (ys : List ℕ). picked ys (word drew2.seed drew2.place)) (among ∙ ap (touching i.job.deal.graph) e)
-        ∙ ap (λ (t : DrawState). picked (touching i.job.deal.graph (word i.draws.seed (next i.draws.place) % i.job.deal.graph.n)) (word t.seed t.place)) (on2 ∙ ap (λ (t : DrawState). record t { place = next t.place }) on) in
+        ∙ ap (λ (t : DrawState). picked (touching i.job.deal.graph (word i.draws.seed (next i.draws.place) % i.job.deal.graph.n)) (word t.seed t.place)) (on2
+        ∙ ap (λ (t : DrawState). record t { place = next t.place }) on) in
         let kind : w0 % 8 ≡ word i.draws.seed i.draws.place % 8 = ap (λ w. w % 8) first in
         ap (λ x. Look x a) e ∙ ap (λ y. Look (word i.draws.seed (next i.draws.place) % i.job.deal.graph.n) y) f
-        ∙ sym (ap (λ (r : Event × ℕ). r.0) (look_comes i.draws.seed i.job.deal.graph i.draws.place (λ z. some (kind ∙ z)) (subst (λ k. k ≤ 4) kind few))) ∙ wanted_is
+        ∙ sym (ap (λ (r : Event × ℕ). r.0) (look_comes i.draws.seed i.job.deal.graph i.draws.place (λ z. some (kind ∙ z)) (subst (λ k. k ≤ 4) kind few)))
+        ∙ wanted_is
 
     pub steps : (e : Event) → e ≡ wanted → CanStep (generated s.seed s.parties).deal (generated s.seed s.parties).conforming e
     steps e is =

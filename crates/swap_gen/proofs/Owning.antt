@@ -1,5 +1,6 @@
 -- What is made of seeds is what their parties own.
-use Rattle.std.proofs.Common.{◌≡◌, ℕ, zero, suc, ◌+◌, ◌<◌, ◌≤◌, ◌==◌, Bool, true, false, cond, not, ◌&&◌, ◌||◌, List, [], ◌∷◌, length, map, get_or, replicate, Option, Some, None, unwrap_or, IsSome, slice_index_or, refl, sym, ap, ◌∙◌, inl, inr, subst, arith, eqb-true}
+use Rattle.std.proofs.Common.{◌≡◌, ℕ, zero, suc, ◌+◌, ◌<◌, ◌≤◌, ◌==◌, Bool, true, false, cond, not, ◌&&◌, ◌||◌, List, [], ◌∷◌, length, map, get_or, replicate}
+use Rattle.std.proofs.Common.{Option, Some, None, unwrap_or, IsSome, slice_index_or, refl, sym, ap, ◌∙◌, inl, inr, subst, arith, eqb-true}
 use Rattle.std.specs.Str.{bytes_eq}
 use Rattle.std.specs.List.{find, range_with_len}
 use Rattle.std.proofs.lemmas.List.{get_or-map, get_or_default}
@@ -25,7 +26,8 @@ some_is (Some x) h = (x, refl)
 seed_is : (seeds : List (Option (List ℕ))) (p : ℕ) (seed : List ℕ) → slice_index_or seeds p None ≡ Some seed → seed_in seeds p ≡ seed
 seed_is seeds p seed e = ap (λ (o : Option (List ℕ)). unwrap_or o (replicate 32 0)) e
 
-key_at : (seeds : List (Option (List ℕ))) (d : Deal) (m : Mode) (p i : ℕ) → m ≡ Hashkeys → p < d.graph.n → i < length d.leaders → slice_index_or (slice_index_or (all_keys m seeds d) p []) i [] ≡ public_key_of (seed_in seeds p) p i
+key_at : (seeds : List (Option (List ℕ))) (d : Deal) (m : Mode) (p i : ℕ) → m ≡ Hashkeys → p < d.graph.n → i < length d.leaders
+    → slice_index_or (slice_index_or (all_keys m seeds d) p []) i [] ≡ public_key_of (seed_in seeds p) p i
 key_at seeds d Timelocks p i e lp li = absurd (cc e)
 key_at seeds d Hashkeys p i e lp li =
     ap (λ (ks : List (List ℕ)). slice_index_or ks i []) (get_or-map-range_with_len (keys_from seeds d) 0 d.graph.n p p [] lp (omega arith))
@@ -40,7 +42,8 @@ key_fits : (m : Mode) (d : Deal) (p : ℕ) (seed : List ℕ) (i : ℕ) → (m �
 key_fits Timelocks d p seed i h = refl
 key_fits Hashkeys d p seed i h = same_bytes (public_key_of seed p i) (key_of d p i) (sym (h refl))
 
-secret_fits : (d : Deal) (p : ℕ) (seed : List ℕ) (i : ℕ) (b : Bool) → leads d p i ≡ b → (leads d p i ≡ true → hashlock_of d i ≡ hash_of (secret_of seed)) → (not b || bytes_eq (hash_of (secret_of seed)) (hashlock_of d i)) ≡ true
+secret_fits : (d : Deal) (p : ℕ) (seed : List ℕ) (i : ℕ) (b : Bool) → leads d p i ≡ b → (leads d p i ≡ true → hashlock_of d i ≡ hash_of (secret_of seed))
+    → (not b || bytes_eq (hash_of (secret_of seed)) (hashlock_of d i)) ≡ true
 secret_fits d p seed i false e h = refl
 secret_fits d p seed i true e h = same_bytes (hash_of (secret_of seed)) (hashlock_of d i) (sym (h e))
 
@@ -78,3 +81,7 @@ owned_by job r have seeds deal p lt =
       there = ap (λ (s : List (Option (List ℕ))). slice_index_or s p None) seeds ∙ o.there;
       fits = ap (λ (d : Deal). wrong_lock d p o.seed) deal ∙ o.fits;
     }
+
+-- where all own their keys, all have seeds
+pub seeds_of_owned : (job : Job) → ((p : ℕ) → p < job.deal.graph.n → OwnsKeys job p) → HaveSeeds job
+seeds_of_owned job own p lt = subst IsSome (sym (own p lt).there) refl

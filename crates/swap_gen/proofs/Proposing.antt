@@ -49,9 +49,11 @@ is_proposed d k = record {
 leader_is : (count i : ℕ) → i < count → slice_index (range_with_len 0 count) i ≡ i
 leader_is count i lt = get_or-range_with_len 0 count i 0 lt ∙ (omega arith)
 
-amount_within : (seed n m a : ℕ) → a < m → (1 ≤ slice_index (map (drawn_amount seed n) (range_with_len 0 m)) a) × (slice_index (map (drawn_amount seed n) (range_with_len 0 m)) a ≤ 10 ^ 12)
+amount_within : (seed n m a : ℕ) → a < m → (1 ≤ slice_index (map (drawn_amount seed n) (range_with_len 0 m)) a)
+    × (slice_index (map (drawn_amount seed n) (range_with_len 0 m)) a ≤ 10 ^ 12)
 amount_within seed n m a lt =
-    let e : slice_index (map (drawn_amount seed n) (range_with_len 0 m)) a ≡ drawn_amount seed n a = get_or-map-range_with_len (drawn_amount seed n) 0 m a a 0 lt (omega arith) in
+    let e : slice_index (map (drawn_amount seed n) (range_with_len 0 m)) a ≡ drawn_amount seed n a =
+    get_or-map-range_with_len (drawn_amount seed n) 0 m a a 0 lt (omega arith) in
     let some : 0 < 1000 = omega arith in
     let w : word seed (1 + 2 * n + a) % 1000 < 1000 = mod-lt (word seed (1 + 2 * n + a)) some in
     (omega (arith, e), omega (arith, e, w))

@@ -1,17 +1,18 @@
 -- The arcs of a ring with those that are drawn.
-use Rattle.std.proofs.Common.{◌≡◌, ◌≢◌, ◌⊎◌, ℕ, zero, suc, ◌+◌, ◌-◌, ◌%◌, ◌<◌, ◌≤◌, ◌==◌, nat_lt, Bool, true, false, cond, min, not, ◌&&◌, ◌||◌, List, [], ◌∷◌, ◌++◌, length, map, None, refl, sym, ap, ◌∙◌, subst, inl, inr, arith, eqb-true, ltb-true, length-append}
+use Rattle.std.proofs.Common.{◌≡◌, ◌≢◌, ◌⊎◌, ℕ, zero, suc, ◌+◌, ◌-◌, ◌%◌, ◌<◌, ◌≤◌, ◌==◌, nat_lt, Bool, true, false, cond, min, not, ◌&&◌, ◌||◌, List, []}
+use Rattle.std.proofs.Common.{◌∷◌, ◌++◌, length, map, None, refl, sym, ap, ◌∙◌, subst, inl, inr, arith, eqb-true, ltb-true, length-append}
 use Rattle.std.specs.List.{list_any, range_with_len}
 use Rattle.std.proofs.Math.Nat.{mod-lt, mod-eq_of_lt, mod_self, min-le_left, min-le_right, le-min}
 use Rattle.std.proofs.lemmas.Bool.{false≢true, eqb-false, cases_lt, not-true}
 use Rattle.std.proofs.lemmas.List.FromFn.{length-map-range_with_len, map-range_with_len_more}
 use Rattle.swap_base.specs.Lists.{IsIn}
-use Rattle.swap_base.proofs.Lists.{and_parts, in_append, in_range, from_range}
+use Rattle.swap_base.proofs.Lists.{and_parts, in_append, in_map, in_range, from_range}
 use Rattle.swap_digraph.specs.Arcs.{same_ends}
 use Rattle.swap_digraph.specs.declared.arc_ends.ArcEnds.{ArcEnds}
 use Rattle.digraph_check.proofs.ListTests.{passing, or_split}
 use Rattle.swap_gen.specs.Word.{word}
 use Rattle.swap_gen.specs.Drawn.{leader_count, ring_arc, ring, drawn_ends, is_added, with_arc, arcs_after, drawn_arcs}
-use Rattle.swap_gen.proofs.Places.{from_map, in_map}
+use Rattle.swap_gen.proofs.Places.{from_map}
 use Rattle.swap_gen.proofs.Sound.{IsRising, AreSound, sound_none, sound_more}
 
 -- The number of leaders.
@@ -45,7 +46,13 @@ ring_rises leaders n i some many lt = go (ring_to n i lt)
   where
     go : (((i + 1) % n ≡ i + 1) × (i + 1 < n)) ⊎ (((i + 1) % n ≡ 0) × (i + 1 ≡ n)) → IsRising leaders n (ring_arc n i)
     go (inl p) = let e = p.0 in record { from = lt; to = rw e p.1; apart = λ s. let t : i ≡ i + 1 = s ∙ e in omega arith; rises = λ f t. rw e (omega arith) }
-    go (inr q) = let e = q.0 in record { from = lt; to = rw e (omega arith); apart = λ s. let t : i ≡ 0 = s ∙ e in let u = q.1 in omega arith; rises = λ f t. let u : leaders ≤ 0 = rw e at t in absurd (omega arith) }
+    go (inr q) = let e = q.0 in record {
+      from = lt;
+      to = rw e (omega arith);
+      apart = λ s. let t : i ≡ 0 = s
+          ∙ e in let u = q.1 in omega arith;
+      rises = λ f t. let u : leaders ≤ 0 = rw e at t in absurd (omega arith);
+    }
 
 -- an arc of the ring isn't among those before it
 ring_fresh : (n k : ℕ) (b : Bool) → list_any (same_ends (ring_arc n k)) (map (ring_arc n) (range_with_len 0 k)) ≡ b → b ≡ false
@@ -61,16 +68,26 @@ ring_fresh n k true e =
 rings : (leaders n k : ℕ) → 1 ≤ leaders → 2 ≤ n → k ≤ n → AreSound leaders n (map (ring_arc n) (range_with_len 0 k))
 rings leaders n zero some many le = sound_none leaders n
 rings leaders n (suc k) some many le =
-    let e : map (ring_arc n) (range_with_len 0 (k + 1)) ≡ map (ring_arc n) (range_with_len 0 k) ++ ring_arc n k ∷ [] = map-range_with_len_more (ring_arc n) 0 k k (omega arith) in
+    let e : map (ring_arc n) (range_with_len 0 (k + 1)) ≡ map (ring_arc n) (range_with_len 0 k) ++ ring_arc n k ∷ [] =
+    map-range_with_len_more (ring_arc n) 0 k k (omega arith) in
     let s : k + 1 ≡ suc k = omega arith in
-    let both : map (ring_arc n) (range_with_len 0 (suc k)) ≡ map (ring_arc n) (range_with_len 0 k) ++ ring_arc n k ∷ [] = ap (λ j. map (ring_arc n) (range_with_len 0 j)) (sym s) ∙ e in
+    let both : map (ring_arc n) (range_with_len 0 (suc k)) ≡ map (ring_arc n) (range_with_len 0 k) ++ ring_arc n k ∷ [] =
+    ap (λ j. map (ring_arc n) (range_with_len 0 j)) (sym s) ∙ e in
     subst (AreSound leaders n) (sym both)
-    (sound_more leaders n (map (ring_arc n) (range_with_len 0 k)) (ring_arc n k) (rings leaders n k some many (omega arith)) (ring_rises leaders n k some many (omega arith)) (ring_fresh n k (list_any (same_ends (ring_arc n k)) (map (ring_arc n) (range_with_len 0 k))) refl))
+    (sound_more leaders n (map (ring_arc n) (range_with_len 0 k)) (ring_arc n k) (rings leaders n k some many (omega arith))
+    (ring_rises leaders n k some many (omega arith)) (ring_fresh n k (list_any (same_ends (ring_arc n k)) (map (ring_arc n) (range_with_len 0 k))) refl))
 
 -- Arcs that are drawn.
 
-rising_of : (leaders n : ℕ) (a : ArcEnds) → a.from < n → a.to < n → not (a.from == a.to) ≡ true → (nat_lt a.from leaders || nat_lt a.to leaders || nat_lt a.from a.to) ≡ true → IsRising leaders n a
-rising_of leaders n a from to apart up = record { from = from; to = to; apart = eqb-false a.from a.to (not-true (a.from == a.to) apart); rises = λ f t. go f t (or_split (nat_lt a.from leaders || nat_lt a.to leaders) (nat_lt a.from a.to) up) }
+rising_of : (leaders n : ℕ) (a : ArcEnds) → a.from < n → a.to < n → not (a.from == a.to) ≡ true
+    → (nat_lt a.from leaders || nat_lt a.to leaders || nat_lt a.from a.to) ≡ true → IsRising leaders n a
+rising_of leaders n a from to apart up = record {
+  from = from;
+  to = to;
+  apart = eqb-false a.from a.to (not-true (a.from == a.to) apart);
+  rises =
+      λ f t. go f t (or_split (nat_lt a.from leaders || nat_lt a.to leaders) (nat_lt a.from a.to) up);
+}
   where
     low : leaders ≤ a.from → leaders ≤ a.to → (nat_lt a.from leaders ≡ true) ⊎ (nat_lt a.to leaders ≡ true) → a.from < a.to
     low f t (inl e) = let p = ltb-true a.from leaders e in absurd (omega arith)
@@ -80,21 +97,24 @@ rising_of leaders n a from to apart up = record { from = from; to = to; apart = 
     go f t (inl e) = low f t (or_split (nat_lt a.from leaders) (nat_lt a.to leaders) e)
     go f t (inr e) = ltb-true a.from a.to e
 
-pub sound_with : (leaders n : ℕ) (xs : List ArcEnds) (a : ArcEnds) → AreSound leaders n xs → a.from < n → a.to < n → AreSound leaders n (with_arc leaders xs a)
+pub sound_with : (leaders n : ℕ) (xs : List ArcEnds) (a : ArcEnds) → AreSound leaders n xs → a.from < n → a.to < n
+    → AreSound leaders n (with_arc leaders xs a)
 unfolding with_arc
 sound_with leaders n xs a h from to = go (is_added leaders xs a) refl
   where
     go : (b : Bool) → is_added leaders xs a ≡ b → AreSound leaders n (cond b (xs ++ a ∷ []) xs)
     go false e = h
     go true e =
-        let both = and_parts (not (a.from == a.to) && not (list_any (same_ends a) xs)) (nat_lt a.from leaders || nat_lt a.to leaders || nat_lt a.from a.to) e in
+        let both = and_parts (not (a.from == a.to) && not (list_any (same_ends a) xs)) (nat_lt a.from leaders || nat_lt a.to leaders || nat_lt a.from a.to)
+        e in
         let two = and_parts (not (a.from == a.to)) (not (list_any (same_ends a) xs)) both.0 in
         sound_more leaders n xs a h (rising_of leaders n a from to two.0 both.1) (not-true (list_any (same_ends a) xs) two.1)
 
 after_sound : (seed n k : ℕ) → 2 ≤ n → AreSound (leader_count seed n) n (arcs_after seed n k)
 after_sound seed n zero many = rings (leader_count seed n) n n (leaders_are_low seed n many).some many (omega arith)
 after_sound seed n (suc k) many =
-    sound_with (leader_count seed n) n (arcs_after seed n k) (drawn_ends seed n k) (after_sound seed n k many) (mod-lt _ (omega arith)) (mod-lt _ (omega arith))
+    sound_with (leader_count seed n) n (arcs_after seed n k) (drawn_ends seed n k) (after_sound seed n k many) (mod-lt _ (omega arith))
+    (mod-lt _ (omega arith))
 
 -- The ring's arcs stay, and each draw adds one at most.
 pub record HasRing (n most : ℕ) (xs : List ArcEnds) : Type 0 where
@@ -120,7 +140,8 @@ after_ring seed n zero =
     record { ring = λ i lt. in_map (ring_arc n) (range_with_len 0 n) i (in_range i n lt); many = omega (arith, e); few = omega (arith, e) }
 after_ring seed n (suc k) =
     let e : suc (n + k) ≡ n + suc k = omega arith in
-    subst (λ m. HasRing n m (arcs_after seed n (suc k))) e (ring_with (leader_count seed n) n (n + k) (arcs_after seed n k) (drawn_ends seed n k) (after_ring seed n k))
+    subst (λ m. HasRing n m (arcs_after seed n (suc k))) e (ring_with (leader_count seed n) n (n + k) (arcs_after seed n k) (drawn_ends seed n k)
+    (after_ring seed n k))
 
 pub arcs_are_sound : (seed n : ℕ) → 2 ≤ n → AreSound (leader_count seed n) n (drawn_arcs seed n)
 unfolding drawn_arcs

@@ -1,5 +1,6 @@
 -- A ring is strongly connected, and where followers lead up alone, the leaders break every cycle.
-use Rattle.std.proofs.Common.{◌≡◌, ◌⊎◌, ℕ, zero, suc, ◌+◌, ◌-◌, ◌%◌, ◌<◌, ◌≤◌, ◌==◌, Bool, true, false, not, ◌&&◌, IsTrue, List, [], ◌∷◌, length, refl, sym, ap, ◌∙◌, subst, inl, inr, arith, eqb-true, eq-eqb}
+use Rattle.std.proofs.Common.{◌≡◌, ◌⊎◌, ℕ, zero, suc, ◌+◌, ◌-◌, ◌%◌, ◌<◌, ◌≤◌, ◌==◌, Bool, true, false, not, ◌&&◌, IsTrue, List, [], ◌∷◌, length, refl, sym}
+use Rattle.std.proofs.Common.{ap, ◌∙◌, subst, inl, inr, arith, eqb-true, eq-eqb}
 use Rattle.std.specs.List.{list_all, range_with_len}
 use Rattle.std.proofs.Math.Nat.{mod-eq_of_lt, mod_self}
 use Rattle.std.proofs.lemmas.Bool.{false≢true, cases_lt, not-true}
@@ -43,13 +44,16 @@ module _ (g : Graph) (some : 0 < g.n) (ring : (i : ℕ) → i < g.n → IsIn (ri
       connected_of_none g
       (closed_set-none g
       (list_all-from (λ v. reaches g 0 v) (parties g) (λ v i. walk_reaches g v 0 v some (from_zero v (from_range v g.n i))))
-      (list_all-from (λ v. reaches g v 0) (parties g) (λ v i. let lt : v < g.n = from_range v g.n i in walk_reaches g (suc (g.n - (v + 1))) v 0 lt (to_zero (g.n - (v + 1)) v (omega arith)))))
+      (list_all-from (λ v. reaches g v 0) (parties g) (λ v i. let lt : v < g.n =
+      from_range v g.n i in walk_reaches g (suc (g.n - (v + 1))) v 0 lt (to_zero (g.n - (v + 1)) v (omega arith)))))
 
 -- Followers.
 
-module _ (g : Graph) (leaders : List ℕ) (rises : (u v : ℕ) → has_arc g u v ≡ true → not (is_among u leaders) ≡ true → not (is_among v leaders) ≡ true → u < v) where
+module _ (g : Graph) (leaders : List ℕ) (rises : (u v : ℕ) → has_arc g u v ≡ true → not (is_among u leaders) ≡ true → not (is_among v leaders) ≡ true
+    → u < v) where
   -- the first of a path of followers has the lowest number, and the last follows too
-  first_is_low : (p : List ℕ) (u v : ℕ) → is_path g (u ∷ p) ≡ true → are_followers leaders (u ∷ p) ≡ true → last_is v (u ∷ p) ≡ true → (u ≤ v) × (not (is_among v leaders) ≡ true)
+  first_is_low : (p : List ℕ) (u v : ℕ) → is_path g (u ∷ p) ≡ true → are_followers leaders (u ∷ p) ≡ true → last_is v (u ∷ p) ≡ true
+      → (u ≤ v) × (not (is_among v leaders) ≡ true)
   first_is_low [] u v path follow last =
       let e : u ≡ v = eqb-true u v last in
       let f = and_parts (not (is_among u leaders)) true follow in
@@ -83,7 +87,8 @@ follower_above count u h = go (cases_lt u count)
     go (inl lt) = absurd (false≢true (sym (not-true (is_among u (range_with_len 0 count)) h) ∙ in-is_among u (range_with_len 0 count) (in_range u count lt)))
     go (inr le) = le
 
-pub sound_rises : (g : Graph) (leaders : ℕ) → AreSound leaders g.n g.arcs → (u v : ℕ) → has_arc g u v ≡ true → not (is_among u (range_with_len 0 leaders)) ≡ true → not (is_among v (range_with_len 0 leaders)) ≡ true → u < v
+pub sound_rises : (g : Graph) (leaders : ℕ) → AreSound leaders g.n g.arcs → (u v : ℕ) → has_arc g u v ≡ true
+    → not (is_among u (range_with_len 0 leaders)) ≡ true → not (is_among v (range_with_len 0 leaders)) ≡ true → u < v
 sound_rises g leaders h u v arc f t =
     let a = arc_of g u v arc in
     let from = a.from in

@@ -1,17 +1,19 @@
 -- Lists of arcs that are a digraph, and in which no arc leads from a follower down to another.
-use Rattle.std.proofs.Common.{◌≡◌, ◌≢◌, ◌⊎◌, ℕ, zero, suc, ◌+◌, ◌-◌, ◌<◌, ◌≤◌, ◌==◌, nat_lt, Bool, true, false, cond, not, ◌&&◌, ◌||◌, List, [], ◌∷◌, ◌++◌, length, get_or, Option, Some, None, position, refl, sym, ap, ◌∙◌, subst, inl, inr, arith, append-nil, append_assoc, eqb-true, eq-eqb, lt-ltb, ltb-true, length-append}
+use Rattle.std.proofs.Common.{◌≡◌, ◌≢◌, ◌⊎◌, ℕ, zero, suc, ◌+◌, ◌-◌, ◌<◌, ◌≤◌, ◌==◌, nat_lt, Bool, true, false, cond, not, ◌&&◌, ◌||◌, List, [], ◌∷◌, ◌++◌}
+use Rattle.std.proofs.Common.{length, get_or, Option, Some, None, position, refl, sym, ap, ◌∙◌, subst, inl, inr, arith, append-nil, append_assoc, eqb-true}
+use Rattle.std.proofs.Common.{eq-eqb, lt-ltb, ltb-true, length-append}
 use Rattle.std.specs.List.{list_any}
 use Rattle.std.proofs.lemmas.Bool.{false≢true, eqb-false, ne_eqb, cases_lt, both_ways}
 use Rattle.std.proofs.lemmas.List.{get_or_append_left, get_or-append_right}
 use Rattle.std.proofs.lemmas.List.Quantifiers.{position-Some}
 use Rattle.swap_base.specs.Lists.{IsIn, or_else}
-use Rattle.swap_base.proofs.Lists.{and_parts, list_any-in, from_append}
+use Rattle.swap_base.proofs.Lists.{and_parts, list_any-in, from_append, in_place, none_both}
 use Rattle.swap_digraph.specs.Arcs.{fault_at, first_fault, first_fault_after, parallel, same_ends}
 use Rattle.swap_digraph.specs.declared.arc_ends.ArcEnds.{ArcEnds}
 use Rattle.swap_digraph.specs.declared.fault.ArcFault.{ArcFault}
 use Rattle.swap_digraph.specs.declared.deal.Version.TheVariants.{One}
 use Rattle.digraph_check.proofs.ListTests.{passing}
-use Rattle.swap_gen.proofs.Places.{get_in, no_arc}
+use Rattle.swap_gen.proofs.Places.{no_arc}
 
 -- An arc leads from one party to another, and not from a follower down to another.
 pub record IsRising (leaders n : ℕ) (a : ArcEnds) : Type 0 where
@@ -38,15 +40,19 @@ place_last : (xs : List ArcEnds) (a : ArcEnds) (i : ℕ) → i < length (xs ++ a
 place_last xs a i lt le =
     let n : length (xs ++ a ∷ []) ≡ length xs + 1 = length-append xs (a ∷ []) in
     let e : i ≡ length xs = omega (arith, n) in
-    let z : length xs - length xs ≡ 0 = omega arith in
-    (e, ap (λ k. get_or (xs ++ a ∷ []) k no_arc) e ∙ get_or-append_right xs (a ∷ []) (length xs) (length xs) no_arc refl (omega arith) ∙ ap (λ k. get_or (a ∷ []) k no_arc) z)
+    let z : length xs - length xs ≡ 0 = omega arith in (
+      e,
+      ap (λ k. get_or (xs ++ a ∷ []) k no_arc) e ∙ get_or-append_right xs (a ∷ []) (length xs) (length xs) no_arc refl (omega arith)
+          ∙ ap (λ k. get_or (a ∷ []) k no_arc) z,
+    )
 
 same_itself : (a b : ArcEnds) → b ≡ a → same_ends a b ≡ true
 same_itself a b e = rw e (rw (eq-eqb a.from a.from refl, eq-eqb a.to a.to refl) refl)
 
 -- an arc that isn't there differs from each that is
 not_there : (xs : List ArcEnds) (a : ArcEnds) (i : ℕ) → list_any (same_ends a) xs ≡ false → i < length xs → get_or xs i no_arc ≡ a → ⊥
-not_there xs a i fresh lt e = false≢true (sym fresh ∙ list_any-in (same_ends a) xs (get_or xs i no_arc) (same_itself a (get_or xs i no_arc) e) (get_in xs i no_arc lt))
+not_there xs a i fresh lt e = false≢true (sym fresh ∙ list_any-in (same_ends a) xs (get_or xs i no_arc) (same_itself a (get_or xs i no_arc) e)
+    (in_place xs i no_arc lt))
 
 apart_more : (xs : List ArcEnds) (a : ArcEnds) → AreApart xs → list_any (same_ends a) xs ≡ false → AreApart (xs ++ a ∷ [])
 apart_more xs a h fresh i j li lj e = go (cases_lt i (length xs)) (cases_lt j (length xs))
@@ -66,24 +72,24 @@ no_position xs a fresh = go (position (same_ends a) xs) refl
     go None e = refl
     go (Some i) e =
         let r = position-Some (same_ends a) xs i no_arc e in
-        absurd (false≢true (sym fresh ∙ list_any-in (same_ends a) xs (get_or xs i no_arc) r.1 (get_in xs i no_arc r.0)))
+        absurd (false≢true (sym fresh ∙ list_any-in (same_ends a) xs (get_or xs i no_arc) r.1 (in_place xs i no_arc r.0)))
 
-no_fault_at : (n : ℕ) (xs : List ArcEnds) (k : ℕ) (a : ArcEnds) → a.from < n → a.to < n → a.from ≢ a.to → list_any (same_ends a) xs ≡ false → fault_at n One xs k a ≡ None
+no_fault_at : (n : ℕ) (xs : List ArcEnds) (k : ℕ) (a : ArcEnds) → a.from < n → a.to < n → a.from ≢ a.to → list_any (same_ends a) xs ≡ false
+    → fault_at n One xs k a ≡ None
 unfolding fault_at
 no_fault_at n xs k a from to apart fresh = rw (lt-ltb a.from n from, lt-ltb a.to n to, ne_eqb a.from a.to apart, no_position xs a fresh) refl
 
-both_none : (o rest : Option ArcFault) → or_else o rest ≡ None → (o ≡ None) × (rest ≡ None)
-both_none None rest e = (refl, e)
-both_none (Some x) rest e = absurd (cc e)
-
-fault_last : (n : ℕ) (before xs : List ArcEnds) (a : ArcEnds) → first_fault_after n One before xs ≡ None → fault_at n One (before ++ xs) (length (before ++ xs)) a ≡ None → first_fault_after n One before (xs ++ a ∷ []) ≡ None
+fault_last : (n : ℕ) (before xs : List ArcEnds) (a : ArcEnds) → first_fault_after n One before xs ≡ None
+    → fault_at n One (before ++ xs) (length (before ++ xs)) a ≡ None → first_fault_after n One before (xs ++ a ∷ []) ≡ None
 fault_last n before [] a h k = rw (subst (λ (ys : List ArcEnds). fault_at n One ys (length ys) a ≡ None) (append-nil before) k) refl
 fault_last n before (x ∷ xs) a h k =
-    let t = both_none (fault_at n One before (length before) x) (first_fault_after n One (before ++ x ∷ []) xs) h in
-    let m : fault_at n One ((before ++ x ∷ []) ++ xs) (length ((before ++ x ∷ []) ++ xs)) a ≡ None = subst (λ (ys : List ArcEnds). fault_at n One ys (length ys) a ≡ None) (sym (append_assoc before (x ∷ []) xs)) k in
+    let t = none_both (fault_at n One before (length before) x) (first_fault_after n One (before ++ x ∷ []) xs) h in
+    let m : fault_at n One ((before ++ x ∷ []) ++ xs) (length ((before ++ x ∷ []) ++ xs)) a ≡ None =
+    subst (λ (ys : List ArcEnds). fault_at n One ys (length ys) a ≡ None) (sym (append_assoc before (x ∷ []) xs)) k in
     rw t.0 (fault_last n (before ++ x ∷ []) xs a t.1 m)
 
-faultless_more : (n : ℕ) (xs : List ArcEnds) (a : ArcEnds) → first_fault n One xs ≡ None → fault_at n One xs (length xs) a ≡ None → first_fault n One (xs ++ a ∷ []) ≡ None
+faultless_more : (n : ℕ) (xs : List ArcEnds) (a : ArcEnds) → first_fault n One xs ≡ None → fault_at n One xs (length xs) a ≡ None
+    → first_fault n One (xs ++ a ∷ []) ≡ None
 unfolding first_fault
 faultless_more n xs a h k = fault_last n [] xs a h k
 
@@ -96,7 +102,8 @@ faultless_none n = refl
 pub sound_none : (leaders n : ℕ) → AreSound leaders n []
 sound_none leaders n = record { each = λ a i. absurd i; apart = λ i j li lj e. absurd (omega arith); faultless = faultless_none n }
 
-pub sound_more : (leaders n : ℕ) (xs : List ArcEnds) (a : ArcEnds) → AreSound leaders n xs → IsRising leaders n a → list_any (same_ends a) xs ≡ false → AreSound leaders n (xs ++ a ∷ [])
+pub sound_more : (leaders n : ℕ) (xs : List ArcEnds) (a : ArcEnds) → AreSound leaders n xs → IsRising leaders n a → list_any (same_ends a) xs ≡ false
+    → AreSound leaders n (xs ++ a ∷ [])
 sound_more leaders n xs a h r fresh = record {
   each = λ b i. go b (from_append xs (a ∷ []) b i);
   apart = apart_more xs a h.apart fresh;

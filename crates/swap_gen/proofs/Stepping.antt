@@ -1,9 +1,10 @@
 -- The events that a number gives may come in a world of its job.
-use Rattle.std.proofs.Common.{◌≡◌, ◌⊎◌, ℕ, zero, suc, ◌+◌, ◌-◌, ◌*◌, ◌%◌, ◌<◌, ◌≤◌, ◌==◌, ◌||◌, nat_le, Bool, true, false, cond, List, [], ◌∷◌, length, filter, get_or, slice_index, replicate, refl, sym, ap, ◌∙◌, subst, inl, inr, arith, eq-eqb, All}
+use Rattle.std.proofs.Common.{◌≡◌, ◌⊎◌, ℕ, zero, suc, ◌+◌, ◌-◌, ◌*◌, ◌%◌, ◌<◌, ◌≤◌, ◌==◌, ◌||◌, nat_le, Bool, true, false, cond, List, [], ◌∷◌, length}
+use Rattle.std.proofs.Common.{filter, get_or, slice_index, replicate, refl, sym, ap, ◌∙◌, subst, inl, inr, arith, eq-eqb, All}
 use Rattle.std.specs.List.{range_with_len}
 use Rattle.std.proofs.Math.Nat.{mod-lt}
 use Rattle.swap_base.specs.Lists.{IsIn}
-use Rattle.swap_base.proofs.Lists.{from_filter, in_filter, from_range, in_range}
+use Rattle.swap_base.proofs.Lists.{from_filter, in_filter, from_range, in_range, in_place}
 use Rattle.swap_digraph.specs.Graph.{arcs, ends}
 use Rattle.swap_digraph.specs.Value.{Graph}
 use Rattle.swap_digraph.specs.declared.arc_ends.ArcEnds.{ArcEnds}
@@ -19,7 +20,7 @@ use Rattle.swap_gen.specs.Made.{made, made_deal, filled}
 use Rattle.swap_gen.specs.Owned.{HaveSeeds, OwnsKeys}
 use Rattle.swap_gen.specs.Drawn.{ring_arc, drawn_arcs, drawn_graph, plain_deal, plain_job, seed_of, generated}
 use Rattle.swap_gen.specs.Events.{touching, picked, event_from}
-use Rattle.swap_gen.proofs.Places.{get_in, no_arc}
+use Rattle.swap_gen.proofs.Places.{no_arc}
 use Rattle.swap_gen.proofs.Rings.{arcs_have_ring}
 
 -- An element's place.
@@ -40,8 +41,10 @@ touching_some seed n p lt =
     let g : Graph = drawn_graph seed n in
     let r = place_of (drawn_arcs seed n) (ring_arc n p) no_arc ((arcs_have_ring seed n).ring p lt) in
     let from : p ≡ (ends g r.0).from = sym (ap (λ (a : ArcEnds). a.from) r.2) in
-    let passes : ((p == (ends g r.0).from) || (p == (ends g r.0).to)) ≡ true = or-left (p == (ends g r.0).from) (p == (ends g r.0).to) (eq-eqb p (ends g r.0).from from) in
-    some_in (touching g p) r.0 (in_filter (λ a. (p == (ends g a).from) || (p == (ends g a).to)) r.0 (arcs g) (in_range r.0 (length (drawn_arcs seed n)) r.1) passes)
+    let passes : ((p == (ends g r.0).from) || (p == (ends g r.0).to)) ≡ true =
+    or-left (p == (ends g r.0).from) (p == (ends g r.0).to) (eq-eqb p (ends g r.0).from from) in
+    some_in (touching g p) r.0 (in_filter (λ a. (p == (ends g a).from) || (p == (ends g a).to)) r.0 (arcs g) (in_range r.0 (length (drawn_arcs seed n)) r.1)
+    passes)
 
 pub length-filter : (p : ℕ → Bool) (xs : List ℕ) → length (filter p xs) ≤ length xs
 length-filter p [] = omega arith
@@ -51,9 +54,10 @@ length-filter p (x ∷ xs) = go (p x) (length-filter p xs)
     go true le = omega arith
     go false le = omega arith
 
-pub picked_touches : (g : Graph) (p w : ℕ) → 0 < length (touching g p) → (picked (touching g p) w < length g.arcs) × (((p == (ends g (picked (touching g p) w)).from) || (p == (ends g (picked (touching g p) w)).to)) ≡ true)
+pub picked_touches : (g : Graph) (p w : ℕ) → 0 < length (touching g p)
+    → (picked (touching g p) w < length g.arcs) × (((p == (ends g (picked (touching g p) w)).from) || (p == (ends g (picked (touching g p) w)).to)) ≡ true)
 picked_touches g p w some =
-    let i = get_in (touching g p) (w % length (touching g p)) 0 (mod-lt w some) in
+    let i = in_place (touching g p) (w % length (touching g p)) 0 (mod-lt w some) in
     let r = from_filter (λ a. (p == (ends g a).from) || (p == (ends g a).to)) (picked (touching g p) w) (arcs g) i in
     (from_range (picked (touching g p) w) (length g.arcs) r.0, r.1)
 
@@ -67,15 +71,29 @@ module _ (d : Deal) (conforming : List Bool) (seed n : ℕ) (many : 2 ≤ n) (gr
       g : Graph
       g = drawn_graph seed n
 
-      by_kind : (tick look : Bool) → CanStep d conforming (cond {A = Event × ℕ} tick (Tick (word seed (next k) % length (drawn_arcs seed n)) 1, next (next k)) (cond {A = Event × ℕ} look (Look (word seed (next k) % n) (picked (touching (drawn_graph seed n) (word seed (next k) % n)) (word seed (next (next k)))), next (next (next k))) (Act (word seed (next k) % n), next (next k)))).0
+      by_kind : (tick look : Bool) → CanStep d conforming (cond {A =
+          Event × ℕ} tick (Tick (word seed (next k) % length (drawn_arcs seed n)) 1, next (next k))
+          (cond {A = Event × ℕ} look (
+            Look (word seed (next k) % n)
+                (picked (touching (drawn_graph seed n) (word seed (next k) % n)) (word seed (next (next k)))),
+            next (next (next k)),
+          )
+          (Act (word seed (next k) % n), next (next k)))).0
       by_kind true look =
           let m = (arcs_have_ring seed n).many in
           let lt : word seed (next k) % length (drawn_arcs seed n) < length (drawn_arcs seed n) = mod-lt (word seed (next k)) (omega arith) in
-          record { arc = subst (λ (x : Graph). word seed (next k) % length (drawn_arcs seed n) < length x.arcs) (sym graph) lt; some = omega arith; few = omega arith }
+          record {
+            arc = subst (λ (x : Graph). word seed (next k) % length (drawn_arcs seed n) < length x.arcs) (sym graph) lt;
+            some = omega arith;
+            few =
+                omega arith;
+          }
       by_kind false true =
           let lt : word seed (next k) % n < n = mod-lt (word seed (next k)) (omega arith) in
-          let r = picked_touches (drawn_graph seed n) (word seed (next k) % n) (word seed (next (next k))) (touching_some seed n (word seed (next k) % n) lt) in
-          subst (λ (x : Graph). CanLook (record d { graph = x }) (word seed (next k) % n) (picked (touching (drawn_graph seed n) (word seed (next k) % n)) (word seed (next (next k))))) (sym graph)
+          let r = picked_touches (drawn_graph seed n) (word seed (next k) % n) (word seed (next (next k)))
+          (touching_some seed n (word seed (next k) % n) lt) in
+          subst (λ (x : Graph). CanLook (record d { graph = x }) (word seed (next k) % n)
+          (picked (touching (drawn_graph seed n) (word seed (next k) % n)) (word seed (next (next k))))) (sym graph)
           (record { known = lt; arc = r.0; adjacent = r.1 })
       by_kind false false =
           let lt : word seed (next k) % n < n = mod-lt (word seed (next k)) (omega arith) in

@@ -12,7 +12,8 @@ use Rattle.swap_gen.proofs.Sound.{AreSound}
 use Rattle.swap_gen.proofs.Rings.{arcs_are_sound, arcs_have_ring}
 
 pub few_arcs : (seed n : ℕ) (xs : List ArcEnds) → n ≤ 24 → xs ≡ drawn_arcs seed n → length xs ≤ 48
-few_arcs seed n xs few e = let r = (arcs_have_ring seed n).few in let same : length xs ≡ length (drawn_arcs seed n) = ap length e in omega (arith, r, same, few)
+few_arcs seed n xs few e = let r = (arcs_have_ring seed n).few in let same : length xs ≡ length (drawn_arcs seed n) =
+    ap length e in omega (arith, r, same, few)
 
 pub faultless_arcs : (seed n : ℕ) (xs : List ArcEnds) → 2 ≤ n → xs ≡ drawn_arcs seed n → first_fault n One xs ≡ None
 faultless_arcs seed n xs many e = ap (first_fault n One) e ∙ (arcs_are_sound seed n many).faultless
@@ -37,13 +38,17 @@ deal_of n g leaders amounts hashlocks keys timelocks = record {
 }
 
 pub deal_is : (seed n : ℕ) (g : Graph) (leaders amounts : List ℕ) (hashlocks : List (List ℕ)) (keys : List (List (List ℕ))) (timelocks : List ℕ)
-    → g ≡ drawn_graph seed n → leaders ≡ range_with_len 0 (leader_count seed n) → amounts ≡ map (drawn_amount seed n) (range_with_len 0 (length (drawn_arcs seed n)))
+    → g ≡ drawn_graph seed n → leaders ≡ range_with_len 0 (leader_count seed n)
+    → amounts ≡ map (drawn_amount seed n) (range_with_len 0 (length (drawn_arcs seed n)))
     → hashlocks ≡ [] → keys ≡ [] → timelocks ≡ [] → deal_of n g leaders amounts hashlocks keys timelocks ≡ plain_deal seed n
 unfolding plain_deal
 deal_is seed n g ls am hs ks ts eg el ea eh ek et =
     ap (λ x. deal_of n x ls am hs ks ts) eg
     ∙ ap (λ x. deal_of n (drawn_graph seed n) x am hs ks ts) el
     ∙ ap (λ x. deal_of n (drawn_graph seed n) (range_with_len 0 (leader_count seed n)) x hs ks ts) ea
-    ∙ ap (λ x. deal_of n (drawn_graph seed n) (range_with_len 0 (leader_count seed n)) (map (drawn_amount seed n) (range_with_len 0 (length (drawn_arcs seed n)))) x ks ts) eh
-    ∙ ap (λ x. deal_of n (drawn_graph seed n) (range_with_len 0 (leader_count seed n)) (map (drawn_amount seed n) (range_with_len 0 (length (drawn_arcs seed n)))) [] x ts) ek
-    ∙ ap (λ x. deal_of n (drawn_graph seed n) (range_with_len 0 (leader_count seed n)) (map (drawn_amount seed n) (range_with_len 0 (length (drawn_arcs seed n)))) [] [] x) et
+    ∙ ap (λ x. deal_of n (drawn_graph seed n) (range_with_len 0 (leader_count seed n))
+    (map (drawn_amount seed n) (range_with_len 0 (length (drawn_arcs seed n)))) x ks ts) eh
+    ∙ ap (λ x. deal_of n (drawn_graph seed n) (range_with_len 0 (leader_count seed n))
+    (map (drawn_amount seed n) (range_with_len 0 (length (drawn_arcs seed n)))) [] x ts) ek
+    ∙ ap (λ x. deal_of n (drawn_graph seed n) (range_with_len 0 (leader_count seed n))
+    (map (drawn_amount seed n) (range_with_len 0 (length (drawn_arcs seed n)))) [] [] x) et

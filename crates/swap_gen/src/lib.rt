@@ -1,6 +1,8 @@
-//! Jobs that nobody writes by hand: `make` fills in what the parties' seeds give a deal, and a `Generator` gives a whole job and its events from a number.
+//! Jobs that nobody writes by hand: `make` fills in what the parties' seeds give a deal, and a `Generator` gives a whole job
+//! and its events from a number.
 //!
-//! Read `specs/Made.antt` first, which says what seeds give, then `specs/Drawn.antt` and `specs/Events.antt`, which say what a number gives, and `specs/Word.antt`, which says what is drawn.
+//! Read `specs/Made.antt` first, which says what seeds give, then `specs/Drawn.antt` and `specs/Events.antt`, which say what a
+//! number gives, and `specs/Word.antt`, which says what is drawn.
 #![tactic(auto)]
 
 mod arcs;
@@ -14,6 +16,3 @@ mod seeds;
 pub use generator::{Generator, generate};
 pub use line::put_event;
 pub use making::make;
-
-#[cfg(test)]
-mod tests;

@@ -83,7 +83,8 @@ pub(crate) fn fill(
     Ok(deal)
 }
 
-/// The job with what its parties' seeds give: each leader's hashlock, with hashkeys each party's public keys, with timelocks each arc's timelock, and the deal's digest. What stood in their places is left out.
+/// The job with what its parties' seeds give: each leader's hashlock, with hashkeys each party's public keys, with timelocks each
+/// arc's timelock, and the deal's digest. What stood in their places is left out.
 pub fn make(alloc: Global, job: &Job) -> Result<Job, NoMemory>
     requires proposed { IsProposed job.now.deal }
     requires seeds { HaveSeeds job.now }

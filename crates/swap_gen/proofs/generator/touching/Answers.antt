@@ -11,7 +11,8 @@ loop-number-preserved c =
     let read = ap (λ (xs : List ArcEnds). touches_at c.args.p xs c.loop-number.number) (sym c.arcs-arc-items.ensures) in
     elim c.if-touches.branch [
       | then-touches+in_ok-push w ↦ filter_on (touches_at c.args.p c.args.graph.now.arcs) c.loop-number.number c.loop-number.numbers.items
-          c.if-touches.numbers.items (read ∙ sym c.touches.ensures ∙ w.if-touches.true) (ap (λ v. v.items) w.numbers-is ∙ w.in_ok-push.ensures.items) c.loop-number.invariant
+          c.if-touches.numbers.items (read ∙ sym c.touches.ensures ∙ w.if-touches.true) (ap (λ v. v.items) w.numbers-is
+          ∙ w.in_ok-push.ensures.items) c.loop-number.invariant
       | else-touches w ↦ ap (λ v. v.items) w.numbers-is
           ∙ filter_off (touches_at c.args.p c.args.graph.now.arcs) c.loop-number.number c.loop-number.numbers.items
           (read ∙ sym c.touches.ensures ∙ w.if-touches.false) c.loop-number.invariant

@@ -7,7 +7,8 @@ use Rattle.swap_gen.proofs.making.make.Goals as goal
 
 pub returns-clause-accepted : goal.returns-clause-accepted
 returns-clause-accepted c =
-    made_accepted c.as_slice.result.now c.args.job.now.deal c.in_ok-copy_deal.field-0 c.in_ok-deal.deal c.requires.proposed c.in_ok-copy_deal.ensures c.in_ok-deal.ensures
+    made_accepted c.as_slice.result.now c.args.job.now.deal c.in_ok-copy_deal.field-0 c.in_ok-deal.deal c.requires.proposed c.in_ok-copy_deal.ensures
+    c.in_ok-deal.ensures
 
 pub returns-clause-owned : goal.returns-clause-owned
 returns-clause-owned c =

@@ -22,13 +22,15 @@ bounds-as_slice-p c =
 pub pick-requires-clause-some : goal.pick-requires-clause-some
 pick-requires-clause-some c =
     let lt = party_below c.self.inside c.self.invariant _ c.n.result c.below-p.result c.n.ensures c.below-p.ensures.word in
-    let e = c.as_slice-arcs.ensures ∙ touching_at c.self.inside c.self.invariant c.below-p.result c.as_slice.result.now c.index-as_slice-p.result c.as_slice.ensures lt c.index-as_slice-p.is in
+    let e = c.as_slice-arcs.ensures ∙ touching_at c.self.inside c.self.invariant c.below-p.result c.as_slice.result.now c.index-as_slice-p.result
+    c.as_slice.ensures lt c.index-as_slice-p.is in
     subst (λ (xs : List ℕ). 0 < length xs) (sym e) (touching_many c.self.inside c.self.invariant c.below-p.result lt)
 
 pub pick-requires-clause-few : goal.pick-requires-clause-few
 pick-requires-clause-few c =
     let lt = party_below c.self.inside c.self.invariant _ c.n.result c.below-p.result c.n.ensures c.below-p.ensures.word in
-    let e = ap length (c.as_slice-arcs.ensures ∙ touching_at c.self.inside c.self.invariant c.below-p.result c.as_slice.result.now c.index-as_slice-p.result c.as_slice.ensures lt c.index-as_slice-p.is) in
+    let e = ap length (c.as_slice-arcs.ensures ∙ touching_at c.self.inside c.self.invariant c.below-p.result c.as_slice.result.now c.index-as_slice-p.result
+    c.as_slice.ensures lt c.index-as_slice-p.is) in
     let few = touching_few c.self.inside c.self.invariant c.below-p.result in
     omega (arith, e, few)
 
@@ -43,9 +45,11 @@ returns-then-kind-eq0-clause-fits c = steps c.self.inside c.self.invariant c.arg
 pub returns-then-kind-le4-clause-event : goal.returns-then-kind-le4-clause-event
 returns-then-kind-le4-clause-event c =
     let lt = party_below c.self.inside c.self.invariant _ c.n.result c.below-p.result c.n.ensures c.below-p.ensures.word in
-    look_is c.self.inside c.self.invariant c.args.self.now c.self.view_is c.draw-kind.result c.below-p.result c.pick.result c.n.result c.as_slice-arcs.result.now c.draw-kind.new.self c.below-p.new.self
+    look_is c.self.inside c.self.invariant c.args.self.now c.self.view_is c.draw-kind.result c.below-p.result c.pick.result c.n.result
+    c.as_slice-arcs.result.now c.draw-kind.new.self c.below-p.new.self
     c.draw-kind.ensures.word c.draw-kind.ensures.place c.if-kind-eq0.false c.if-kind-le4.true c.n.ensures c.below-p.ensures.word c.below-p.ensures.place
-    (c.as_slice-arcs.ensures ∙ touching_at c.self.inside c.self.invariant c.below-p.result c.as_slice.result.now c.index-as_slice-p.result c.as_slice.ensures lt c.index-as_slice-p.is)
+    (c.as_slice-arcs.ensures ∙ touching_at c.self.inside c.self.invariant c.below-p.result c.as_slice.result.now c.index-as_slice-p.result c.as_slice.ensures
+    lt c.index-as_slice-p.is)
     c.pick.ensures.arc
 
 pub returns-then-kind-le4-clause-fits : goal.returns-then-kind-le4-clause-fits
