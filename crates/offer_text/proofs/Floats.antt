@@ -28,9 +28,11 @@ arc_without Hashkeys names arc n t = refl
 row_without : (row : List (List ℕ)) → has_float (list_data digest_data row) ≡ false
 row_without row = list_without digest_data (λ x. refl) row
 
-fields_without : (m : Mode) (names : List (List ℕ)) (parties : Data) (d : Deal) → has_float parties ≡ false → members_have_float (fields_by_mode m names parties d) ≡ false
+fields_without : (m : Mode) (names : List (List ℕ)) (parties : Data) (d : Deal) → has_float parties ≡ false
+    → members_have_float (fields_by_mode m names parties d) ≡ false
 fields_without Timelocks names parties d p = rw (list_without (leader_at names d) (λ i. refl) (locks d), p) refl
-fields_without Hashkeys names parties d p = rw (list_without (list_data digest_data) row_without d.keys, list_without (leader_at names d) (λ i. refl) (locks d), p) refl
+fields_without Hashkeys names parties d p =
+    rw (list_without (list_data digest_data) row_without d.keys, list_without (leader_at names d) (λ i. refl) (locks d), p) refl
 
 pub shown_has_none : (job : Job) → has_float (shown_header job) ≡ false
 shown_has_none job =

@@ -9,13 +9,15 @@ use Rattle.serde_json.specs.declared.value.Value.{Value}
 use Rattle.offer_text.specs.Words.{IsBelow}
 
 -- one more of the first n numbers
-pub number_more : (f : ℕ → Data) (old new : List Value) (n : ℕ) (x : Value) → map view old ≡ map f (range_with_len 0 n) → new ≡ old ++ x ∷ [] → view x ≡ f n → map view new ≡ map f (range_with_len 0 (n + 1))
+pub number_more : (f : ℕ → Data) (old new : List Value) (n : ℕ) (x : Value) → map view old ≡ map f (range_with_len 0 n) → new ≡ old ++ x ∷ []
+    → view x ≡ f n → map view new ≡ map f (range_with_len 0 (n + 1))
 number_more f old new n x so_far e is =
     ap (map view) e ∙ map_push view old x ∙ ap (λ (l : List Data). l ++ view x ∷ []) so_far ∙ ap (λ (d : Data). map f (range_with_len 0 n) ++ d ∷ []) is
     ∙ sym (map-range_with_len_more f 0 n n (omega arith))
 
 -- one more of a list
-pub item_more : {A : Type 0} (f : A → Data) (old new : List Value) (xs : List A) (i : ℕ) (a : A) (x : Value) → i < length xs → a ≡ get_or xs i a → map view old ≡ map f (take i xs) → new ≡ old ++ x ∷ [] → view x ≡ f a → map view new ≡ map f (take (i + 1) xs)
+pub item_more : {A : Type 0} (f : A → Data) (old new : List Value) (xs : List A) (i : ℕ) (a : A) (x : Value) → i < length xs → a ≡ get_or xs i a
+    → map view old ≡ map f (take i xs) → new ≡ old ++ x ∷ [] → view x ≡ f a → map view new ≡ map f (take (i + 1) xs)
 item_more f old new xs i a x lt at so_far e is =
     ap (map view) e ∙ map_push view old x ∙ ap (λ (l : List Data). l ++ view x ∷ []) so_far ∙ ap (λ (d : Data). map f (take i xs) ++ d ∷ []) is
     ∙ sym (map_push f (take i xs) a) ∙ ap (λ b. map f (take i xs ++ b ∷ [])) at ∙ ap (map f) (sym (take_more xs i a lt))

@@ -25,7 +25,8 @@ fn put_last_fields(
 ) -> Result<(), NoMemory>
     requires none { members_view fields.old.entries ≡ no_members }
     requires writable { IsWritable job.now }
-    ensures { OnOk result (members_view fields.new.entries ≡ last_fields (leaders_data job.now.names job.now.deal) (string mode.now) (view parties) job.now.deal) }
+    ensures { OnOk result (members_view fields.new.entries
+        ≡ last_fields (leaders_data job.now.names job.now.deal) (string mode.now) (view parties) job.now.deal) }
 {
     let leaders = leaders_value(alloc, job.names.as_slice(), &job.deal)?;
     put_number(alloc, fields, "swap", 1)?;

@@ -35,7 +35,8 @@ pub record IsForLocks (w : Wallet) : Type 0 where
   pub own : (i : ℕ) → (w.first i).lock ≡ i
   pub put : (k : Hashkey) → (w.onto k).lock ≡ k.lock
 
-module _ (d : Deal) (v : ℕ) (w : Wallet) (signed : ℕ → Option Hashkey) (k : Histories) (legal : (c : ℕ) → c < length d.graph.arcs → IsLegal d c (history k c)) (wallet : IsForLocks w) (kept : (i : ℕ) (l : Hashkey) → signed i ≡ Some l → l.lock ≡ i) where
+module _ (d : Deal) (v : ℕ) (w : Wallet) (signed : ℕ → Option Hashkey) (k : Histories) (legal : (c : ℕ) → c < length d.graph.arcs
+    → IsLegal d c (history k c)) (wallet : IsForLocks w) (kept : (i : ℕ) (l : Hashkey) → signed i ≡ Some l → l.lock ≡ i) where
   -- the hashkey that was seen for a lock is for it
   seen_lock : (i : ℕ) (inner : Hashkey) → first_seen_key d k v i ≡ Some inner → inner.lock ≡ i
   seen_lock i inner q =
@@ -45,12 +46,14 @@ module _ (d : Deal) (v : ℕ) (w : Wallet) (signed : ℕ → Option Hashkey) (k 
       let p = key_without_parts v (opened (history k x.now) i) inner x.gives in
       ap (λ (y : Hashkey). y.lock) (sym p.2) ∙ (opened_done d x.now (history k x.now) i p.0 (legal x.now l.0) p.1).1
 
-  made_lock : (i : ℕ) (key : Hashkey) (b : Bool) (o : Option Hashkey) → first_seen_key d k v i ≡ o → cond b (Some (w.first i)) (extended w o) ≡ Some key → key.lock ≡ i
+  made_lock : (i : ℕ) (key : Hashkey) (b : Bool) (o : Option Hashkey) → first_seen_key d k v i ≡ o → cond b (Some (w.first i)) (extended w o) ≡ Some key
+      → key.lock ≡ i
   made_lock i key true o q e = ap (λ (y : Hashkey). y.lock) (sym (same_Some (w.first i) key e)) ∙ wallet.own i
   made_lock i key false None q e = absurd (cc e)
   made_lock i key false (Some inner) q e = ap (λ (y : Hashkey). y.lock) (sym (same_Some (w.onto inner) key e)) ∙ (wallet.put inner ∙ seen_lock i inner q)
 
-  due_lock : (i : ℕ) (key : Hashkey) (o : Option Hashkey) → signed i ≡ o → or_else o (cond (leads d v i) (Some (w.first i)) (extended w (first_seen_key d k v i))) ≡ Some key → key.lock ≡ i
+  due_lock : (i : ℕ) (key : Hashkey) (o : Option Hashkey) → signed i ≡ o
+      → or_else o (cond (leads d v i) (Some (w.first i)) (extended w (first_seen_key d k v i))) ≡ Some key → key.lock ≡ i
   due_lock i key None q e = made_lock i key (leads d v i) (first_seen_key d k v i) refl e
   due_lock i key (Some l) q e = kept i key (q ∙ e)
 
@@ -69,13 +72,15 @@ module _ (d : Deal) (v : ℕ) (w : Wallet) (signed : ℕ → Option Hashkey) (k 
       record { lock = a.0; key = p.0; call = p.2; due = p.1 }
 
   -- what was signed for the lock of the first due unlock is its hashkey
-  pub chosen : (arc i : ℕ) (key : Hashkey) → first (due_unlocks d v w signed k) ≡ Some (record { arc = arc; call = Unlock key }) → key.lock ≡ i → or_else (signed i) (Some key) ≡ Some key
+  pub chosen : (arc i : ℕ) (key : Hashkey) → first (due_unlocks d v w signed k) ≡ Some (record { arc = arc; call = Unlock key }) → key.lock ≡ i
+      → or_else (signed i) (Some key) ≡ Some key
   chosen arc i key e lock =
       let c = comes (record { arc = arc; call = Unlock key }) (first_in (due_unlocks d v w signed k) (record { arc = arc; call = Unlock key }) e) in
       let same : c.key ≡ key = (let q = c.call in cc) in
       let at : c.lock ≡ i = sym (due_lock c.lock c.key (signed c.lock) refl c.due) ∙ (ap (λ (y : Hashkey). y.lock) same ∙ lock) in
       go _ c.lock (signed i) refl (ap signed at) (c.due ∙ ap Some same)
     where
-      go : (r : Option Hashkey) (j : ℕ) (o : Option Hashkey) → signed i ≡ o → signed j ≡ signed i → or_else (signed j) r ≡ Some key → or_else o (Some key) ≡ Some key
+      go : (r : Option Hashkey) (j : ℕ) (o : Option Hashkey) → signed i ≡ o → signed j ≡ signed i → or_else (signed j) r ≡ Some key
+          → or_else o (Some key) ≡ Some key
       go r j None q s h = refl
       go r j (Some l) q s h = sym (ap (λ z. or_else z r) (s ∙ q)) ∙ h

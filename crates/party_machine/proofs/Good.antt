@@ -51,7 +51,10 @@ or_given true c e h = e
 or_given false c e h = absurd (cc h)
 
 opens_of : (d : Deal) (v : ℕ) (seed : List ℕ) (i : ℕ) → fits_lock d v seed i ≡ true → leads d v i ≡ true → hash_of (secret_of seed) ≡ hashlock_of d i
-opens_of d v seed i e l = bytes_eq-true (hash_of (secret_of seed)) (hashlock_of d i) (or_given (leads d v i) (bytes_eq (hash_of (secret_of seed)) (hashlock_of d i)) (and_parts (has_key d.mode d v seed i) (opens_own d v seed i) e).1 l)
+opens_of d v seed i e l =
+    bytes_eq-true (hash_of (secret_of seed)) (hashlock_of d i)
+    (or_given (leads d v i) (bytes_eq (hash_of (secret_of seed)) (hashlock_of d i)) (and_parts (has_key d.mode d v seed i) (opens_own d v seed i) e).1
+    l)
 
 key_for : (m : Mode) (d : Deal) (v : ℕ) (seed : List ℕ) (i : ℕ) → m ≡ Hashkeys → has_key m d v seed i ≡ true → key_of d v i ≡ public_key_of seed v i
 key_for Hashkeys d v seed i e h = sym (bytes_eq-true (public_key_of seed v i) (key_of d v i) h)
@@ -60,7 +63,9 @@ key_for Timelocks d v seed i e h = absurd (cc e)
 key_is : (d : Deal) (v : ℕ) (seed : List ℕ) (i : ℕ) → d.mode ≡ Hashkeys → fits_lock d v seed i ≡ true → key_of d v i ≡ public_key_of seed v i
 key_is d v seed i m e = key_for d.mode d v seed i m (and_parts (has_key d.mode d v seed i) (opens_own d v seed i) e).0
 
-signature_is : (d : Deal) (lock : ℕ) (secret : List ℕ) (v : ℕ) (seed rest : List ℕ) (inner : _) → IsTrue (is_valid_signature (public_key_of seed v lock) (message_of d.id lock (v ∷ rest) secret inner) (suffix_signature d lock secret v seed rest inner))
+signature_is : (d : Deal) (lock : ℕ) (secret : List ℕ) (v : ℕ) (seed rest : List ℕ) (inner : _)
+    → IsTrue (is_valid_signature (public_key_of seed v lock) (message_of d.id lock (v ∷ rest) secret inner)
+    (suffix_signature d lock secret v seed rest inner))
 unfolding message_of
 signature_is d lock secret v seed rest inner = digest_signed seed v lock _
 
@@ -74,19 +79,27 @@ bare_valid : (d : Deal) (a i : ℕ) (hashlock secret : List ℕ) → d.mode ≡ 
 bare_valid d a i hashlock secret m e = test_of_valid d a hashlock (bare_key i secret) (record { secret = e; path = bare_path d.mode d a i secret m })
 
 -- valid on every arc that enters v
-into : (d : Deal) (v : ℕ) (hashlock : List ℕ) (key : Hashkey) → IsValidInto d v hashlock key → (a : ℕ) → IsIn a (entering d.graph v) → is_valid d a hashlock key ≡ true
+into : (d : Deal) (v : ℕ) (hashlock : List ℕ) (key : Hashkey) → IsValidInto d v hashlock key → (a : ℕ) → IsIn a (entering d.graph v)
+    → is_valid d a hashlock key ≡ true
 into d v hashlock key valid a i = let e = enters d v a i in test_of_valid d a hashlock key (valid a e.0 e.1)
 
-own_good : (m : Mode) (d : Deal) (v : ℕ) (seed : List ℕ) (i : ℕ) → d.mode ≡ m → v < d.graph.n → fits_lock d v seed i ≡ true → leads d v i ≡ true → IsGoodKey d v i (own_key m d v seed i) × IsOwn m v (own_key m d v seed i)
+own_good : (m : Mode) (d : Deal) (v : ℕ) (seed : List ℕ) (i : ℕ) → d.mode ≡ m → v < d.graph.n → fits_lock d v seed i ≡ true → leads d v i ≡ true
+    → IsGoodKey d v i (own_key m d v seed i) × IsOwn m v (own_key m d v seed i)
 own_good Timelocks d v seed i m lt fits l =
     (record { lock = refl; valid = λ a w. bare_valid d a i (hashlock_of d i) (secret_of seed) m (opens_of d v seed i fits l) }, tt)
 own_good Hashkeys d v seed i m lt fits l =
     let own : IsLeadersOwn d i (secret_of seed) v seed = record { mode = m; leads = l; opens = opens_of d v seed i fits l; key = key_is d v seed i m fits } in (
-      record { lock = refl; valid = into d v (hashlock_of d i) (leaders_key d i (secret_of seed) v seed) (first_is_valid d i (secret_of seed) v seed lt own (signature_is d i (secret_of seed) v seed [] [])) },
+      record {
+        lock = refl;
+        valid =
+            into d v (hashlock_of d i) (leaders_key d i (secret_of seed) v seed)
+            (first_is_valid d i (secret_of seed) v seed lt own (signature_is d i (secret_of seed) v seed [] []));
+      },
       and_both (v == v) true (eq-eqb v v refl) refl,
     )
 
-onto_good : (m : Mode) (d : Deal) (v : ℕ) (seed : List ℕ) (c : ℕ) (inner : Hashkey) → d.mode ≡ m → v < d.graph.n → fits_lock d v seed inner.lock ≡ true → IsIn c (leaving d.graph v) → is_valid d c (hashlock_of d inner.lock) inner ≡ true → is_among v inner.path ≡ false
+onto_good : (m : Mode) (d : Deal) (v : ℕ) (seed : List ℕ) (c : ℕ) (inner : Hashkey) → d.mode ≡ m → v < d.graph.n → fits_lock d v seed inner.lock ≡ true
+    → IsIn c (leaving d.graph v) → is_valid d c (hashlock_of d inner.lock) inner ≡ true → is_among v inner.path ≡ false
     → IsGoodKey d v inner.lock (onto_key m d v seed inner) × IsOnto m v inner (onto_key m d v seed inner)
 onto_good Timelocks d v seed c inner m lt fits w valid apart =
     let right = valid_of_test d c (hashlock_of d inner.lock) inner valid in
@@ -96,7 +109,13 @@ onto_good Hashkeys d v seed c inner m lt fits w valid apart =
     let l = leaves d v c w in
     let arc = subst (λ u. has_arc d.graph u (get_or inner.path 0 0) ≡ true) l.1 (leads_on d c (hashlock_of d inner.lock) inner l.0 m right) in
     let can : CanExtend d inner v seed = record { mode = m; apart = ap not apart; arc = arc; key = key_is d v seed inner.lock m fits } in (
-      record { lock = refl; valid = into d v (hashlock_of d inner.lock) (extended_key d inner v seed) (extended_is_valid d inner v seed c (hashlock_of d inner.lock) lt right can (signature_is d inner.lock inner.secret v seed inner.path inner.sigs)) },
+      record {
+        lock = refl;
+        valid =
+            into d v (hashlock_of d inner.lock) (extended_key d inner v seed)
+            (extended_is_valid d inner v seed c (hashlock_of d inner.lock) lt right can
+            (signature_is d inner.lock inner.secret v seed inner.path inner.sigs));
+      },
       and_both (not (is_among v inner.path)) _ (ap not apart) (and_both (v == v) _ (eq-eqb v v refl) (same_key-refl inner)),
     )
 

@@ -1,5 +1,6 @@
 -- What a machine is made of, as a new one and after more entries of an arc.
-use Rattle.std.proofs.Common.{◌≡◌, ◌≢◌, ◌⊎◌, ℕ, zero, suc, ◌+◌, ◌<◌, ◌++◌, List, [], ◌∷◌, length, map, get_or, set, replicate, Option, None, refl, sym, ap, ◌∙◌, subst, inl, inr, zero-add}
+use Rattle.std.proofs.Common.{◌≡◌, ◌≢◌, ◌⊎◌, ℕ, zero, suc, ◌+◌, ◌<◌, ◌++◌, List, [], ◌∷◌, length, map, get_or, set, replicate, Option, None, refl, sym}
+use Rattle.std.proofs.Common.{ap, ◌∙◌, subst, inl, inr, zero-add}
 use Rattle.std.specs.Prelude.{Result, Ok, Err, OnOk, OnErr}
 use Rattle.std.specs.List.{range_with_len}
 use Rattle.std.proofs.Math.Seq.{map-set_same}
@@ -38,11 +39,14 @@ IsGoodFor s = IsAccepted s.deal → IsWallet s.deal s.me (wallet_of s.seed s.me 
 pub is_good : (m : Inside) (s : MachineState) → machine_in m ≡ s → IsKept m → IsGoodFor s
 is_good m s e r = subst IsGoodFor e (λ accepted. fitting_is_good m.deal m.wallet.party m.wallet.seed accepted r.ready.partys.party r.ready.partys.fits)
 
-pub legal_at : (d : Deal) (w : WalletState) (known : List IndexState) (a : ℕ) → IsReady d w known → a < length d.graph.arcs → IsLegal d a (history (entries_in known) a)
+pub legal_at : (d : Deal) (w : WalletState) (known : List IndexState) (a : ℕ) → IsReady d w known → a < length d.graph.arcs
+    → IsLegal d a (history (entries_in known) a)
 legal_at d w known a r lt = r.legal.legal a (rw r.legal.one_each lt)
 
 pub is_legal : (m : Inside) (s : MachineState) (a : ℕ) → machine_in m ≡ s → IsKept m → a < length s.deal.graph.arcs → IsLegal s.deal a (history s.known a)
-is_legal m s a e r lt = subst (λ (x : MachineState). a < length x.deal.graph.arcs → IsLegal x.deal a (history x.known a)) e (legal_at m.deal m.wallet m.known.items a r.ready) lt
+is_legal m s a e r lt =
+    subst (λ (x : MachineState). a < length x.deal.graph.arcs
+    → IsLegal x.deal a (history x.known a)) e (legal_at m.deal m.wallet m.known.items a r.ready) lt
 
 pub one_each : (d : Deal) (w : WalletState) (known : List IndexState) → IsReady d w known → length known ≡ length d.graph.arcs
 one_each d w known r = sym (length-map known (λ x. x.entries)) ∙ r.legal.one_each
@@ -65,7 +69,8 @@ same_numbers [] = refl
 same_numbers (x ∷ xs) = ap (λ (ys : List ℕ). x ∷ ys) (same_numbers xs)
 
 -- it was made for its arc
-pub made_for : (d : Deal) (w : WalletState) (known : List IndexState) (a : ℕ) (x : IndexState) → IsReady d w known → a < length d.graph.arcs → x ≡ get_or known a x
+pub made_for : (d : Deal) (w : WalletState) (known : List IndexState) (a : ℕ) (x : IndexState) → IsReady d w known → a < length d.graph.arcs
+    → x ≡ get_or known a x
     → IsSameArc (new_index d a) x
 made_for d w known a x ready lt e =
     record {
@@ -115,7 +120,8 @@ partys_new d v seed lt fits = record {
   locks = λ i k e. absurd (cc (sym (none_of_none {A = Option Hashkey} (length d.leaders) i None) ∙ e));
 }
 
-pub new_ready : (c d : Deal) (v : ℕ) (w : WalletState) (known : List IndexState) → c ≡ d → w ≡ new_wallet w.seed v d → known ≡ map (new_index d) (arcs d.graph) → IsWellSized d → v < d.graph.n → wrong_lock d v w.seed ≡ None → IsReady c w known
+pub new_ready : (c d : Deal) (v : ℕ) (w : WalletState) (known : List IndexState) → c ≡ d → w ≡ new_wallet w.seed v d
+    → known ≡ map (new_index d) (arcs d.graph) → IsWellSized d → v < d.graph.n → wrong_lock d v w.seed ≡ None → IsReady c w known
 new_ready c d v w known ec ew ek sized lt fits =
     subst (λ (x : Deal). IsReady x w known) (sym ec) (record {
       sized = sized;
@@ -133,14 +139,16 @@ new_is c d v w known ec ew ek =
     let k : entries_in known ≡ replicate (length d.graph.arcs) [] = entries_new d known ek in
     rw (ec, p, s, k) refl
 
-pub new_shows : (c d : Deal) (v : ℕ) (w : WalletState) (known : List IndexState) → c ≡ d → w ≡ new_wallet w.seed v d → known ≡ map (new_index d) (arcs d.graph) → wrong_lock d v w.seed ≡ None
+pub new_shows : (c d : Deal) (v : ℕ) (w : WalletState) (known : List IndexState) → c ≡ d → w ≡ new_wallet w.seed v d
+    → known ≡ map (new_index d) (arcs d.graph) → wrong_lock d v w.seed ≡ None
     → machine_for d v w.seed ≡ Ok (record { deal = c; me = w.party; seed = w.seed; known = entries_in known; signed = w.signed })
 new_shows c d v w known ec ew ek fits = ap (machine_or d v w.seed) fits ∙ ap (λ (m : MachineState). Ok m) (sym (new_is c d v w known ec ew ek))
 
 -- More entries of an arc.
 
 -- an index in the place of one of the same arc
-pub learnt_ready : (d : Deal) (w : WalletState) (known : List IndexState) (a : ℕ) (x y : IndexState) → IsReady d w known → a < length d.graph.arcs → x ≡ get_or known a x → IsSameArc x y → IsLegal d a y.entries → IsReady d w (set known a y)
+pub learnt_ready : (d : Deal) (w : WalletState) (known : List IndexState) (a : ℕ) (x y : IndexState) → IsReady d w known → a < length d.graph.arcs
+    → x ≡ get_or known a x → IsSameArc x y → IsLegal d a y.entries → IsReady d w (set known a y)
 learnt_ready d w known a x y r lt e same legal = record {
   sized = r.sized;
   partys = r.partys;
@@ -160,15 +168,19 @@ learnt_ready d w known a x y r lt e same legal = record {
     below = rw r.legal.one_each lt
 
     at : (c : ℕ) → (c ≡ a) ⊎ (c ≢ a) → c < length (entries_in known) → IsLegal d c (history (set (entries_in known) a y.entries) c)
-    at c (inl q) l = subst (λ z. IsLegal d z (history (set (entries_in known) a y.entries) z)) (sym q) (subst (IsLegal d a) (sym (history_same (entries_in known) a y.entries below)) legal)
+    at c (inl q) l =
+        subst (λ z. IsLegal d z (history (set (entries_in known) a y.entries) z)) (sym q)
+        (subst (IsLegal d a) (sym (history_same (entries_in known) a y.entries below)) legal)
     at c (inr n) l = subst (IsLegal d c) (sym (history_other (entries_in known) a c y.entries n)) (r.legal.legal c l)
 
 -- what the call did, by its answer
-legal_by : {A E : Type 0} (d : Deal) (a : ℕ) (x y : IndexState) (more : List Entry) (r : Result A E) → IsLegal d a x.entries → IsLegal d a (x.entries ++ more) → OnOk r (y.entries ≡ x.entries ++ more) → OnErr r (y ≡ x) → IsLegal d a y.entries
+legal_by : {A E : Type 0} (d : Deal) (a : ℕ) (x y : IndexState) (more : List Entry) (r : Result A E) → IsLegal d a x.entries
+    → IsLegal d a (x.entries ++ more) → OnOk r (y.entries ≡ x.entries ++ more) → OnErr r (y ≡ x) → IsLegal d a y.entries
 legal_by d a x y more (Ok u) before after ok err = subst (IsLegal d a) (sym ok) after
 legal_by d a x y more (Err u) before after ok err = subst (λ (z : IndexState). IsLegal d a z.entries) (sym err) before
 
-pub called_ready : {A E : Type 0} (d : Deal) (w : WalletState) (known : List IndexState) (a : ℕ) (x y : IndexState) (more : List Entry) (r : Result A E) → IsReady d w known → a < length d.graph.arcs → x ≡ get_or known a x → IsSameArc x y → IsLegal d a (history (entries_in known) a ++ more)
+pub called_ready : {A E : Type 0} (d : Deal) (w : WalletState) (known : List IndexState) (a : ℕ) (x y : IndexState) (more : List Entry) (r : Result A E)
+    → IsReady d w known → a < length d.graph.arcs → x ≡ get_or known a x → IsSameArc x y → IsLegal d a (history (entries_in known) a ++ more)
     → OnOk r (y.entries ≡ x.entries ++ more) → OnErr r (y ≡ x) → IsReady d w (set known a y)
 called_ready d w known a x y more r ready lt e same legal ok err =
     let h : history (entries_in known) a ≡ x.entries = history_of known a x (rw (one_each d w known ready) lt) e in
@@ -176,8 +188,16 @@ called_ready d w known a x y more r ready lt e same legal ok err =
     let after : IsLegal d a (x.entries ++ more) = subst (λ (z : List Entry). IsLegal d a (z ++ more)) h legal in
     learnt_ready d w known a x y ready lt e same (legal_by d a x y more r before after ok err)
 
-pub called_shows : {A E : Type 0} (d : Deal) (w : WalletState) (known : List IndexState) (a : ℕ) (x y : IndexState) (more : List Entry) (r : Result A E) → IsReady d w known → a < length d.graph.arcs → x ≡ get_or known a x → OnOk r (y.entries ≡ x.entries ++ more)
-    → OnOk r (◌≡◌ {A = MachineState} (record { deal = d; me = w.party; seed = w.seed; known = entries_in (set known a y); signed = w.signed }) (learnt (record { deal = d; me = w.party; seed = w.seed; known = entries_in known; signed = w.signed }) a more))
+pub called_shows : {A E : Type 0} (d : Deal) (w : WalletState) (known : List IndexState) (a : ℕ) (x y : IndexState) (more : List Entry) (r : Result A E)
+    → IsReady d w known → a < length d.graph.arcs → x ≡ get_or known a x → OnOk r (y.entries ≡ x.entries ++ more)
+    → OnOk r (◌≡◌ {A = MachineState} (record {
+      deal = d;
+      me = w.party;
+      seed = w.seed;
+      known = entries_in (set known a y);
+      signed =
+          w.signed;
+    }) (learnt (record { deal = d; me = w.party; seed = w.seed; known = entries_in known; signed = w.signed }) a more))
 called_shows d w known a x y more (Err u) ready lt e ok = tt
 called_shows d w known a x y more (Ok u) ready lt e ok =
     let h : history (entries_in known) a ≡ x.entries = history_of known a x (rw (one_each d w known ready) lt) e in
@@ -186,7 +206,8 @@ called_shows d w known a x y more (Ok u) ready lt e ok =
     ap (λ (b : Histories). record { deal = d; me = w.party; seed = w.seed; known = b; signed = w.signed }) k
 
 -- all that comes is indexable
-pub fronts : (d : Deal) (w : WalletState) (known : List IndexState) (a : ℕ) (x : IndexState) (more : List Entry) → IsReady d w known → a < length d.graph.arcs → x ≡ get_or known a x → IsLegal d a (history (entries_in known) a ++ more)
+pub fronts : (d : Deal) (w : WalletState) (known : List IndexState) (a : ℕ) (x : IndexState) (more : List Entry) → IsReady d w known
+    → a < length d.graph.arcs → x ≡ get_or known a x → IsLegal d a (history (entries_in known) a ++ more)
     → (front rest : List Entry) → x.entries ++ more ≡ front ++ rest → IsIndexable x.from x.to front
 fronts d w known a x more ready lt e legal front rest q =
     let below : a < length known = rw (one_each d w known ready) lt in

@@ -19,7 +19,9 @@ or_else_assoc (Some x) r s = refl
 abbrev pub unlocks_of : MachineState → List Action
 unlocks_of m = due_unlocks m.deal m.me (wallet_of m.seed m.me m.deal) (signed_in m.signed) m.known
 
-pub split : (m : MachineState) → next_of m ≡ or_else (first (due_publishes m.deal m.me m.known)) (or_else (first (unlocks_of m)) (first (due_claims m.deal m.me m.known ++ due_refunds m.deal m.me m.known)))
+pub split : (m : MachineState)
+    → next_of m ≡ or_else (first (due_publishes m.deal m.me m.known))
+    (or_else (first (unlocks_of m)) (first (due_claims m.deal m.me m.known ++ due_refunds m.deal m.me m.known)))
 unfolding due
 split m =
     let p = due_publishes m.deal m.me m.known in
@@ -33,13 +35,18 @@ split m =
     ∙ or_else_assoc (first p) (first u) (first (c ++ r)))))
 
 -- an answer of the first kind
-pub at_once : (m : MachineState) (o : Option (ℕ × Call)) → option_map action_of o ≡ first (due_publishes m.deal m.me m.known) → is_some o ≡ true → option_map action_of o ≡ next_of m
+pub at_once : (m : MachineState) (o : Option (ℕ × Call)) → option_map action_of o ≡ first (due_publishes m.deal m.me m.known) → is_some o ≡ true
+    → option_map action_of o ≡ next_of m
 at_once m None e s = absurd (cc s)
-at_once m (Some x) e s = ap (λ z. or_else z (or_else (first (unlocks_of m)) (first (due_claims m.deal m.me m.known ++ due_refunds m.deal m.me m.known)))) e ∙ sym (split m)
+at_once m (Some x) e s =
+    ap (λ z. or_else z (or_else (first (unlocks_of m)) (first (due_claims m.deal m.me m.known ++ due_refunds m.deal m.me m.known)))) e ∙ sym (split m)
 
 -- none of the first kind, and the others' answer
-pub later : (m : MachineState) (o : Option (ℕ × Call)) (r : Option Action) → option_map action_of o ≡ first (due_publishes m.deal m.me m.known) → is_some o ≡ false → or_else (first (unlocks_of m)) (first (due_claims m.deal m.me m.known ++ due_refunds m.deal m.me m.known)) ≡ r → r ≡ next_of m
-later m None r e s h = sym h ∙ (ap (λ z. or_else z (or_else (first (unlocks_of m)) (first (due_claims m.deal m.me m.known ++ due_refunds m.deal m.me m.known)))) e ∙ sym (split m))
+pub later : (m : MachineState) (o : Option (ℕ × Call)) (r : Option Action) → option_map action_of o ≡ first (due_publishes m.deal m.me m.known)
+    → is_some o ≡ false → or_else (first (unlocks_of m)) (first (due_claims m.deal m.me m.known ++ due_refunds m.deal m.me m.known)) ≡ r → r ≡ next_of m
+later m None r e s h =
+    sym h ∙ (ap (λ z. or_else z (or_else (first (unlocks_of m)) (first (due_claims m.deal m.me m.known ++ due_refunds m.deal m.me m.known)))) e
+    ∙ sym (split m))
 later m (Some x) r e s h = absurd (cc s)
 
 pub last_of : {o : Option Action} (xs ys : List Action) → xs ≡ [] → o ≡ first ys → or_else (first xs) (first ys) ≡ o

@@ -1,5 +1,6 @@
 -- A hashkey that a party saw is one that it can put its signature onto.
-use Rattle.std.proofs.Common.{◌≡◌, ℕ, ◌<◌, ◌≤◌, ◌==◌, Bool, true, false, cond, List, [], ◌∷◌, length, get_or, Option, Some, None, option_map, refl, sym, ap, ◌∙◌, subst, inl, inr, arith, eqb-true}
+use Rattle.std.proofs.Common.{◌≡◌, ℕ, ◌<◌, ◌≤◌, ◌==◌, Bool, true, false, cond, List, [], ◌∷◌, length, get_or, Option, Some, None, option_map, refl, sym}
+use Rattle.std.proofs.Common.{ap, ◌∙◌, subst, inl, inr, arith, eqb-true}
 use Rattle.std.specs.List.{find}
 use Rattle.swap_base.specs.Lists.{IsIn}
 use Rattle.swap_base.proofs.Lists.{and_parts}
@@ -27,7 +28,8 @@ use Rattle.party_phase_two.specs.Unlocks.{key_on, seen_on}
 use Rattle.party_machine.specs.Unlocking.{CanPutOnto}
 use Rattle.party_machine.proofs.Good.{valid_of_test}
 
-by_test : {A : Type 0} (p : A → Bool) (x y : A) (b : Bool) (o : Option A) (xs : List A) → p x ≡ b → (o ≡ Some y → IsIn y xs × (p y ≡ true)) → cond b (Some x) o ≡ Some y → IsIn y (x ∷ xs) × (p y ≡ true)
+by_test : {A : Type 0} (p : A → Bool) (x y : A) (b : Bool) (o : Option A) (xs : List A) → p x ≡ b → (o ≡ Some y → IsIn y xs × (p y ≡ true))
+    → cond b (Some x) o ≡ Some y → IsIn y (x ∷ xs) × (p y ≡ true)
 by_test p x y true o xs t h e = let same : x ≡ y = cc in (inl (sym same), ap p (sym same) ∙ t)
 by_test p x y false o xs t h e = let r = h e in (inr r.0, r.1)
 
@@ -53,7 +55,8 @@ some_room : (ver : Version) → 0 < path_limit_of ver
 some_room One = omega arith
 some_room Two = omega arith
 
-module _ (d : Deal) (v a : ℕ) (key : Hashkey) (hashlock : List ℕ) (sized : IsWellSized d) (below : v < d.graph.n) (arc : IsIn a (leaving d.graph v)) (valid : is_valid d a hashlock key ≡ true) (apart : is_among v key.path ≡ false) where
+module _ (d : Deal) (v a : ℕ) (key : Hashkey) (hashlock : List ℕ) (sized : IsWellSized d) (below : v < d.graph.n) (arc : IsIn a (leaving d.graph v))
+    (valid : is_valid d a hashlock key ≡ true) (apart : is_among v key.path ≡ false) where
   fits_path : (m : Mode) → d.mode ≡ m → (length key.path < path_limit d) × (length key.sigs ≡ length key.path)
   fits_path Timelocks e =
       let w : is_wrong_path d a Timelocks key ≡ false = ap (λ m. is_wrong_path d a m key) (sym e) ∙ path_of_valid d a hashlock key valid in
@@ -71,7 +74,8 @@ module _ (d : Deal) (v a : ℕ) (key : Hashkey) (hashlock : List ℕ) (sized : I
       let limit : d.graph.n ≤ path_limit d = enough d.version d.graph.n sized.parties.1 in
       (omega arith, sym p.lengths)
 
-pub can_put_onto : (d : Deal) (v i a : ℕ) (k : Histories) → IsWellSized d → v < d.graph.n → ((c : ℕ) → c < length d.graph.arcs → IsLegal d c (history k c)) → seen_on d v k i ≡ Some a → CanPutOnto d i (key_on k a i)
+pub can_put_onto : (d : Deal) (v i a : ℕ) (k : Histories) → IsWellSized d → v < d.graph.n
+    → ((c : ℕ) → c < length d.graph.arcs → IsLegal d c (history k c)) → seen_on d v k i ≡ Some a → CanPutOnto d i (key_on k a i)
 can_put_onto d v i a k sized below legal seen =
     let f = found (λ c. opens_without v (opened (history k c) i)) (leaving d.graph v) a seen in
     let l = leaves d v a f.0 in

@@ -1,5 +1,6 @@
 -- A machine that rests may: nothing is due when it begins to, and it ends with what could make something due.
-use Rattle.std.proofs.Common.{◌≡◌, ℕ, ◌+◌, ◌==◌, ◌&&◌, count_by, zero-add, ◌≤◌, nat_le, Bool, true, false, cond, List, [], ◌∷◌, ◌++◌, get_or, set, Option, Some, None, is_some, option_map, refl, sym, ap, ◌∙◌, subst, leb-true, arith, ◌<◌, length}
+use Rattle.std.proofs.Common.{◌≡◌, ℕ, ◌+◌, ◌==◌, ◌&&◌, count_by, zero-add, ◌≤◌, nat_le, Bool, true, false, cond, List, [], ◌∷◌, ◌++◌, get_or, set}
+use Rattle.std.proofs.Common.{Option, Some, None, is_some, option_map, refl, sym, ap, ◌∙◌, subst, leb-true, arith, ◌<◌, length}
 use Rattle.std.specs.Prelude.{Result, Ok, Err, OnOk, OnErr}
 use Rattle.std.proofs.Math.Seq.{map-set_same}
 use Rattle.std.proofs.lemmas.Bool.{ne_eqb}
@@ -37,7 +38,8 @@ none_of : (o : Option (ℕ × Call)) (r : Option Action) → option_map action_o
 none_of None r e n = sym e
 none_of (Some x) r e n = absurd (cc n)
 
-pub begins : (s : MachineState) (o : Option (ℕ × Call)) (until : Option ℕ) → option_map action_of o ≡ next_of s → is_some o ≡ false → until ≡ rest_until s.deal s.me s.known
+pub begins : (s : MachineState) (o : Option (ℕ × Call)) (until : Option ℕ) → option_map action_of o ≡ next_of s → is_some o ≡ false
+    → until ≡ rest_until s.deal s.me s.known
     → IsAtRest until s
 begins s o until e n u = record {
   nothing = none_of o (next_of s) e n;
@@ -52,7 +54,8 @@ first_none : (xs : List Action) → first xs ≡ None → xs ≡ []
 first_none [] e = refl
 first_none (x ∷ xs) e = absurd (cc e)
 
-still : (until : Option ℕ) (s : MachineState) (a : ℕ) (more : List Entry) → are_ticks more ≡ true → ((e : ℕ) → EndsBy until e → height (history s.known a ++ more) ≤ e)
+still : (until : Option ℕ) (s : MachineState) (a : ℕ) (more : List Entry) → are_ticks more ≡ true
+    → ((e : ℕ) → EndsBy until e → height (history s.known a ++ more) ≤ e)
     → IsAtRest until s → IsAtRest until (learnt s a more)
 still until s a more ticks low r =
     let w = wallet_of s.seed s.me s.deal in
@@ -62,11 +65,16 @@ still until s a more ticks low r =
     let same = reads s.deal s.me w signed before a more ticks in
     let none = first_none (due s.deal s.me w signed before) r.nothing in
     record {
-      nothing = ap first (ticks_make_nothing_due s.deal s.me w signed before a more ticks none (λ i waits. low (least_expiry s.deal a (history before a)) (r.ends a i waits)));
-      ends = λ c i waits. subst (EndsBy until) (sym (same_expiry s.deal s.me before after same c)) (r.ends c i (sym (same_waiting s.deal s.me before after same c) ∙ waits));
+      nothing =
+          ap first (ticks_make_nothing_due s.deal s.me w signed before a more ticks none (λ i waits.
+          low (least_expiry s.deal a (history before a)) (r.ends a i waits)));
+      ends =
+          λ c i waits. subst (EndsBy until) (sym (same_expiry s.deal s.me before after same c))
+          (r.ends c i (sym (same_waiting s.deal s.me before after same c) ∙ waits));
     }
 
-pub goes_on : (r : Rest) (s : MachineState) (a : ℕ) (more : List Entry) (ticks : Bool) (at : ℕ) → ticks ≡ are_ticks more → at ≡ height (history s.known a ++ more) → MayRest r s → MayRest (rest_after r ticks at) (learnt s a more)
+pub goes_on : (r : Rest) (s : MachineState) (a : ℕ) (more : List Entry) (ticks : Bool) (at : ℕ) → ticks ≡ are_ticks more
+    → at ≡ height (history s.known a ++ more) → MayRest r s → MayRest (rest_after r ticks at) (learnt s a more)
 goes_on Awake s a more true at t h m = tt
 goes_on Awake s a more false at t h m = tt
 goes_on (Until None) s a more false at t h m = tt
@@ -95,8 +103,10 @@ stays (Until (Some until)) s true at m = go (nat_le at until)
 abbrev pub shown : Deal → WalletState → List IndexState → MachineState
 shown d w known = record { deal = d; me = w.party; seed = w.seed; known = entries_in known; signed = w.signed }
 
-pub learns : {A E : Type 0} (rest : Rest) (d : Deal) (w : WalletState) (known : List IndexState) (a : ℕ) (x y : IndexState) (more : List Entry) (r : Result A E) (ticks : Bool) (at : ℕ)
-    → IsReady d w known → MayRest rest (shown d w known) → a < length d.graph.arcs → x ≡ get_or known a x → OnOk r (y.entries ≡ x.entries ++ more) → OnErr r (y ≡ x)
+pub learns : {A E : Type 0} (rest : Rest) (d : Deal) (w : WalletState) (known : List IndexState) (a : ℕ) (x y : IndexState) (more : List Entry)
+    (r : Result A E) (ticks : Bool) (at : ℕ)
+    → IsReady d w known → MayRest rest (shown d w known) → a < length d.graph.arcs → x ≡ get_or known a x → OnOk r (y.entries ≡ x.entries ++ more)
+    → OnErr r (y ≡ x)
     → ticks ≡ are_ticks more → at ≡ height y.entries → MayRest (rest_after rest ticks at) (shown d w (set known a y))
 learns {A = A} {E = E} rest d w known a x y more (Ok u) ticks at ready m lt e ok err t h =
     let here : history (entries_in known) a ≡ x.entries = history_of known a x (rw (one_each d w known ready) lt) e in
@@ -116,4 +126,6 @@ first_no_call (Tick k) n b e = ap (λ m. m == 0) (zero-add n) ∙ e
 
 pub no_calls : (h : List Entry) → (count_by (λ e. is_call e.what) h == 0) ≡ are_ticks h
 no_calls [] = refl
-no_calls (e ∷ h) = ap (λ n. n == 0) (sum_by-cons (λ x. cond (is_call x.what) 1 0) e h) ∙ first_no_call e.what (count_by (λ e. is_call e.what) h) (are_ticks h) (no_calls h)
+no_calls (e ∷ h) =
+    ap (λ n. n == 0) (sum_by-cons (λ x. cond (is_call x.what) 1 0) e h)
+    ∙ first_no_call e.what (count_by (λ e. is_call e.what) h) (are_ticks h) (no_calls h)

@@ -1,5 +1,6 @@
 -- A wallet after a hashkey was signed: the rest of it is as before.
-use Rattle.std.proofs.Common.{◌≡◌, ◌≢◌, ◌⊎◌, ℕ, zero, suc, ◌<◌, ◌==◌, Bool, true, false, cond, List, [], ◌∷◌, length, set, Option, Some, None, refl, sym, ap, ◌∙◌, inl, inr, eqb-true, eq-eqb}
+use Rattle.std.proofs.Common.{◌≡◌, ◌≢◌, ◌⊎◌, ℕ, zero, suc, ◌<◌, ◌==◌, Bool, true, false, cond, List, [], ◌∷◌, length, set, Option, Some, None, refl}
+use Rattle.std.proofs.Common.{sym, ap, ◌∙◌, inl, inr, eqb-true, eq-eqb}
 use Rattle.std.proofs.lemmas.List.{length-set, get_or-set_same, get_or-set_other}
 use Rattle.std.proofs.lemmas.Bool.{false≢true}
 use Rattle.std.proofs.lemmas.Option.{same_Some}
@@ -28,7 +29,8 @@ set_again (x ∷ s) zero k e = ap (λ y. y ∷ s) (sym e)
 set_again (x ∷ s) (suc i) k e = ap (λ ys. x ∷ ys) (set_again s i k e)
 
 -- the hashkeys that were signed are noted
-by_place : (s : List (Option Hashkey)) (i j : ℕ) (k : Hashkey) (b : Bool) → i < length s → (j == i) ≡ b → signed_in (set s i (Some k)) j ≡ cond b (Some k) (signed_in s j)
+by_place : (s : List (Option Hashkey)) (i j : ℕ) (k : Hashkey) (b : Bool) → i < length s → (j == i) ≡ b
+    → signed_in (set s i (Some k)) j ≡ cond b (Some k) (signed_in s j)
 by_place s i j k true lt e = ap (signed_in (set s i (Some k))) (eqb-true j i e) ∙ same_place s i k lt
 by_place s i j k false lt e = other_place s i j k (λ same. absurd (false≢true (sym e ∙ eq-eqb j i same)))
 
@@ -36,7 +38,8 @@ pub is_noted : (s : List (Option Hashkey)) (i : ℕ) (k : Hashkey) → i < lengt
 is_noted s i k lt e = λ r j. (by_place s i j k (j == i) lt refl ∙ ap (λ (n : ℕ). cond (j == n) (Some k) (signed_in s j)) (sym e)) r
 
 -- what was signed before stays
-pub stays : (s : List (Option Hashkey)) (i : ℕ) (k : Hashkey) (o : Option Hashkey) → i < length s → or_else (signed_in s i) o ≡ Some k → (j : ℕ) (l : Hashkey) → signed_in s j ≡ Some l → signed_in (set s i (Some k)) j ≡ Some l
+pub stays : (s : List (Option Hashkey)) (i : ℕ) (k : Hashkey) (o : Option Hashkey) → i < length s → or_else (signed_in s i) o ≡ Some k
+    → (j : ℕ) (l : Hashkey) → signed_in s j ≡ Some l → signed_in (set s i (Some k)) j ≡ Some l
 stays s i k o lt e j l h = go (same_or_not j i)
   where
     go : (j ≡ i) ⊎ (j ≢ i) → signed_in (set s i (Some k)) j ≡ Some l
@@ -46,7 +49,8 @@ stays s i k o lt e j l h = go (same_or_not j i)
         ap (signed_in (set s i (Some k))) q ∙ (same_place s i k lt ∙ sym same)
     go (inr n) = other_place s i j k n ∙ h
 
-pub signed_ready : (d : Deal) (w : WalletState) (known : List IndexState) (i : ℕ) (k : Hashkey) → IsReady d w known → i < length d.leaders → k.lock ≡ i → IsReady d (with_signed w i k) known
+pub signed_ready : (d : Deal) (w : WalletState) (known : List IndexState) (i : ℕ) (k : Hashkey) → IsReady d w known → i < length d.leaders → k.lock ≡ i
+    → IsReady d (with_signed w i k) known
 signed_ready d w known i k r lt e = record {
   sized = r.sized;
   partys = record {

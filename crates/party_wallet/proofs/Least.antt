@@ -10,11 +10,14 @@ range-none : (a n : ℕ) → n ≤ a → range_with_len a (n - a) ≡ []
 range-none a n le = let e : n - a ≡ 0 = omega arith in ap (range_with_len a) e
 
 -- what doesn't pass is passed over
-pub goes_on : (p : ℕ → Bool) (a n : ℕ) (whole : Option ℕ) → a < n → p a ≡ false → find p (range_with_len a (n - a)) ≡ whole → find p (range_with_len (a + 1) (n - (a + 1))) ≡ whole
-goes_on p a n whole lt fails so_far = sym (ap (find p) (range-next a n lt) ∙ ap (λ b. cond b (Some a) (find p (range_with_len (a + 1) (n - (a + 1))))) fails) ∙ so_far
+pub goes_on : (p : ℕ → Bool) (a n : ℕ) (whole : Option ℕ) → a < n → p a ≡ false → find p (range_with_len a (n - a)) ≡ whole
+    → find p (range_with_len (a + 1) (n - (a + 1))) ≡ whole
+goes_on p a n whole lt fails so_far =
+    sym (ap (find p) (range-next a n lt) ∙ ap (λ b. cond b (Some a) (find p (range_with_len (a + 1) (n - (a + 1))))) fails) ∙ so_far
 
 pub is_found : (p : ℕ → Bool) (a n : ℕ) (whole : Option ℕ) → a < n → p a ≡ true → find p (range_with_len a (n - a)) ≡ whole → Some a ≡ whole
-is_found p a n whole lt passes so_far = sym (ap (find p) (range-next a n lt) ∙ ap (λ b. cond b (Some a) (find p (range_with_len (a + 1) (n - (a + 1))))) passes) ∙ so_far
+is_found p a n whole lt passes so_far =
+    sym (ap (find p) (range-next a n lt) ∙ ap (λ b. cond b (Some a) (find p (range_with_len (a + 1) (n - (a + 1))))) passes) ∙ so_far
 
 pub is_none : (p : ℕ → Bool) (a n : ℕ) (whole : Option ℕ) → n ≤ a → find p (range_with_len a (n - a)) ≡ whole → None ≡ whole
 is_none p a n whole le so_far = sym (ap (find p) (range-none a n le)) ∙ so_far

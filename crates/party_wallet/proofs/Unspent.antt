@@ -9,7 +9,8 @@ use Rattle.party_wallet.specs.Keys.{unspent}
 use Rattle.party_wallet.specs.Inside.{AreUnspent}
 use Rattle.party_wallet.specs.declared.wallet_key.WalletKey.{WalletKey}
 
-pub new_unspent : (m : Mode) (seed : List ℕ) (v n : ℕ) (keys : List (Option WalletKey)) (signed : List (Option Hashkey)) → n ≤ 8 → keys ≡ map (unspent m seed v) (range_with_len 0 n) → signed ≡ replicate n None → AreUnspent m seed v keys signed
+pub new_unspent : (m : Mode) (seed : List ℕ) (v n : ℕ) (keys : List (Option WalletKey)) (signed : List (Option Hashkey)) → n ≤ 8
+    → keys ≡ map (unspent m seed v) (range_with_len 0 n) → signed ≡ replicate n None → AreUnspent m seed v keys signed
 new_unspent m seed v n keys signed few ek es =
     let ls : length signed ≡ n = ap length es ∙ length-replicate n None in
     record {

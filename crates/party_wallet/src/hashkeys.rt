@@ -59,7 +59,8 @@ fn onto_signed(
     requires few { length inner.now.path < path_limit deal.now }
     requires paired { length inner.now.sigs ≡ length inner.now.path }
     requires unspent { (seed : List ℕ) × (slot.old ≡ unspent Mode.Hashkeys seed party inner.now.lock) }
-    ensures value { IfOk result (λ k. (seed : List ℕ) → slot.old ≡ unspent Mode.Hashkeys seed party inner.now.lock → k ≡ onto_key Mode.Hashkeys deal.now party seed inner.now) }
+    ensures value { IfOk result (λ k. (seed : List ℕ) → slot.old ≡ unspent Mode.Hashkeys seed party inner.now.lock
+        → k ≡ onto_key Mode.Hashkeys deal.now party seed inner.now) }
     ensures back { OnErr result (slot.new ≡ slot.old) }
 {
     let WalletKey { key, public } = slot.take().unwrap();
@@ -107,7 +108,8 @@ pub(crate) fn onto_hashkey(
     requires few { length inner.now.path < path_limit deal.now }
     requires paired { length inner.now.sigs ≡ length inner.now.path }
     requires unspent { (seed : List ℕ) × (slot.old ≡ unspent deal.now.mode seed party inner.now.lock) }
-    ensures value { IfOk result (λ k. (seed : List ℕ) → slot.old ≡ unspent deal.now.mode seed party inner.now.lock → k ≡ onto_key deal.now.mode deal.now party seed inner.now) }
+    ensures value { IfOk result (λ k. (seed : List ℕ) → slot.old ≡ unspent deal.now.mode seed party inner.now.lock
+        → k ≡ onto_key deal.now.mode deal.now party seed inner.now) }
     ensures back { OnErr result (slot.new ≡ slot.old) }
 {
     match deal.mode {

@@ -19,7 +19,8 @@ use std::mem;
 use swap_base::{Digest, Listed, LockId, NoMemory, PartyId, Shared, TryCopy};
 use swap_digraph::{Deal, Mode};
 
-/// A party's keys, one for each lock of a deal with hashkeys, and the hashkeys that it made. A lock's key is spent by the one hashkey that is made for it, which stays.
+/// A party's keys, one for each lock of a deal with hashkeys, and the hashkeys that it made. A lock's key is spent by the one hashkey that is made for
+/// it, which stays.
 #[derive(Drop)]
 pub struct Wallet {
     mode: Mode,

@@ -1,5 +1,6 @@
 -- A history without its refused calls: it is legal, and what stands in it is what stood before.
-use Rattle.std.proofs.Common.{◌≡◌, ◌≢◌, ℕ, ◌+◌, ◌<◌, ◌≤◌, ◌==◌, nat_lt, nat_le, Bool, true, false, not, cond, List, [], ◌∷◌, ◌++◌, length, count_by, Option, Some, None, is_some, is_none, refl, sym, ap, ap₂, ◌∙◌, arith, ltb-true, ltb-false, le-ltb, ◌&&◌}
+use Rattle.std.proofs.Common.{◌≡◌, ◌≢◌, ℕ, ◌+◌, ◌<◌, ◌≤◌, ◌==◌, nat_lt, nat_le, Bool, true, false, not, cond, List, [], ◌∷◌, ◌++◌, length, count_by}
+use Rattle.std.proofs.Common.{Option, Some, None, is_some, is_none, refl, sym, ap, ap₂, ◌∙◌, arith, ltb-true, ltb-false, le-ltb, ◌&&◌}
 use Rattle.std.proofs.Math.ListN.{get_or-map as get_or-map_at}
 use Rattle.std.proofs.lemmas.Bool.{lt-leb}
 use Rattle.std.proofs.lemmas.List.{length-map, get_or_past}
@@ -19,7 +20,9 @@ use Rattle.ledger_core.specs.declared.entry.Sender.TheVariants.{Party, Clock}
 use Rattle.ledger_core.specs.declared.entry.What.{What}
 use Rattle.ledger_core.specs.declared.entry.What.TheVariants.{Call as Made, Tick}
 use Rattle.ledger_core.specs.declared.entry.Entry.{Entry}
-use Rattle.ledger_core.specs.History.{ticks_in, accepted, accepted_in as call_in, height, Publication, publication, published, opening, opened, settling, settled, is_open, triggered, terms_in, accounts, moved, balance, held, is_full, is_clock_full, rows, reply_to, reply_to_tick, IsLegal, IsLegalEntry, IsLegalMoment}
+use Rattle.ledger_core.specs.History.{ticks_in, accepted, accepted_in as call_in, height, Publication, publication, published, opening, opened}
+use Rattle.ledger_core.specs.History.{settling, settled, is_open, triggered, terms_in, accounts, moved, balance, held, is_full, is_clock_full, rows}
+use Rattle.ledger_core.specs.History.{reply_to, reply_to_tick, IsLegal, IsLegalEntry, IsLegalMoment}
 use Rattle.ledger_core.specs.Book.{Histories, history, IsLegalBook}
 use Rattle.ledger_core.proofs.Bounds.{calls_of, ticks_of, calls-push, ticks-push, height-push, room_of, tick_room}
 use Rattle.ledger_core.proofs.Units.{accounts-push}
@@ -48,7 +51,8 @@ abbrev balance_in : Deal → ℕ → Accounts → ℕ → ℕ
 balance_in d a b p = cond (p == party d a) b.party b.counterparty
 
 abbrev further_rows : Deal → ℕ → Accounts → Option Publication → (ℕ → Bool) → Option Settlement → (at p : ℕ) → Call → List (Bool × Reply)
-further_rows d a b o is_open s at p (Publish terms) = (not (p == party d a), NotParty) ∷ (is_some o, AlreadyPublished) ∷ (nat_lt (balance_in d a b p) terms.amount, NoFunds (balance_in d a b p)) ∷ []
+further_rows d a b o is_open s at p (Publish terms) =
+    (not (p == party d a), NotParty) ∷ (is_some o, AlreadyPublished) ∷ (nat_lt (balance_in d a b p) terms.amount, NoFunds (balance_in d a b p)) ∷ []
 further_rows d a b o is_open s at p (Unlock key) = (is_none o, NoContract) ∷ unlock_rows d a (terms_in o) is_open (is_some s) at p key
 further_rows d a b o is_open s at p Claim = (is_none o, NoContract) ∷ claim_rows d a is_open (is_some s) p
 further_rows d a b o is_open s at p Refund = (is_none o, NoContract) ∷ refund_rows d a (terms_in o) is_open (is_some s) at p
@@ -104,9 +108,17 @@ same_more : (d : Deal) (a : ℕ) (h k : List Entry) (e : Entry) → IsSame d a h
 same_more d a h k e s = record {
   height = height-push k e ∙ ap (λ n. n + ticks_in e.what) s.height ∙ sym (height-push h e);
   accounts = accounts-push d a k e ∙ ap (λ b. moved d a b e.sender (accepted e)) s.accounts ∙ sym (accounts-push d a h e);
-  published = first_of-append (λ x. publication x.height (accepted x)) k (e ∷ []) ∙ ap (λ o. or_else o (or_else (publication e.height (accepted e)) None)) s.published ∙ sym (first_of-append (λ x. publication x.height (accepted x)) h (e ∷ []));
-  opened = λ i. first_of-append (λ x. opening i x.height (accepted x)) k (e ∷ []) ∙ ap (λ o. or_else o (or_else (opening i e.height (accepted e)) None)) (s.opened i) ∙ sym (first_of-append (λ x. opening i x.height (accepted x)) h (e ∷ []));
-  settled = first_of-append (λ x. settling (accepted x)) k (e ∷ []) ∙ ap (λ o. or_else o (or_else (settling (accepted e)) None)) s.settled ∙ sym (first_of-append (λ x. settling (accepted x)) h (e ∷ []));
+  published =
+      first_of-append (λ x. publication x.height (accepted x)) k (e ∷ [])
+      ∙ ap (λ o. or_else o (or_else (publication e.height (accepted e)) None)) s.published
+      ∙ sym (first_of-append (λ x. publication x.height (accepted x)) h (e ∷ []));
+  opened =
+      λ i. first_of-append (λ x. opening i x.height (accepted x)) k (e ∷ [])
+      ∙ ap (λ o. or_else o (or_else (opening i e.height (accepted e)) None)) (s.opened i)
+      ∙ sym (first_of-append (λ x. opening i x.height (accepted x)) h (e ∷ []));
+  settled =
+      first_of-append (λ x. settling (accepted x)) k (e ∷ []) ∙ ap (λ o. or_else o (or_else (settling (accepted e)) None)) s.settled
+      ∙ sym (first_of-append (λ x. settling (accepted x)) h (e ∷ []));
   calls = λ p. let few = s.calls p in omega (arith, calls-push k e p, calls-push h e p);
   ticks = let few = s.ticks in omega (arith, ticks-push k e, ticks-push h e);
 }
@@ -115,9 +127,15 @@ same_without : (d : Deal) (a : ℕ) (h k : List Entry) (e : Entry) → accepted 
 same_without d a h k e none still s = record {
   height = s.height ∙ sym (height-push h e ∙ ap (λ n. height h + n) still ∙ (let z : ◌≡◌ {A = ℕ} (height h + 0) (height h) = omega arith in z));
   accounts = s.accounts ∙ sym (accounts-push d a h e ∙ ap (moved d a (accounts d a h) e.sender) none);
-  published = s.published ∙ sym (first_of-append (λ x. publication x.height (accepted x)) h (e ∷ []) ∙ ap (λ o. or_else (published h) (or_else (publication e.height o) None)) none ∙ or_else-none (published h));
-  opened = λ i. s.opened i ∙ sym (first_of-append (λ x. opening i x.height (accepted x)) h (e ∷ []) ∙ ap (λ o. or_else (opened h i) (or_else (opening i e.height o) None)) none ∙ or_else-none (opened h i));
-  settled = s.settled ∙ sym (first_of-append (λ x. settling (accepted x)) h (e ∷ []) ∙ ap (λ o. or_else (settled h) (or_else (settling o) None)) none ∙ or_else-none (settled h));
+  published =
+      s.published ∙ sym (first_of-append (λ x. publication x.height (accepted x)) h (e ∷ [])
+      ∙ ap (λ o. or_else (published h) (or_else (publication e.height o) None)) none ∙ or_else-none (published h));
+  opened =
+      λ i. s.opened i ∙ sym (first_of-append (λ x. opening i x.height (accepted x)) h (e ∷ [])
+      ∙ ap (λ o. or_else (opened h i) (or_else (opening i e.height o) None)) none ∙ or_else-none (opened h i));
+  settled =
+      s.settled ∙ sym (first_of-append (λ x. settling (accepted x)) h (e ∷ []) ∙ ap (λ o. or_else (settled h) (or_else (settling o) None)) none
+      ∙ or_else-none (settled h));
   calls = λ p. let few = s.calls p in omega (arith, calls-push h e p);
   ticks = let few = s.ticks in omega (arith, ticks-push h e);
 }
@@ -136,13 +154,15 @@ tick_accepts true r e n = absurd (n e)
 tick_accepts false r e n = e
 
 -- a refused entry of a legal history is no tick
-refused_still : (d : Deal) (a : ℕ) (h : List Entry) (s : Sender) (w : What) (at : ℕ) (r : Reply) → IsLegalEntry d a h s w at r → is_accepted r ≡ false → ticks_in w ≡ 0
+refused_still : (d : Deal) (a : ℕ) (h : List Entry) (s : Sender) (w : What) (at : ℕ) (r : Reply) → IsLegalEntry d a h s w at r → is_accepted r ≡ false
+    → ticks_in w ≡ 0
 refused_still d a h (Party p) (Made c) at r l e = refl
 refused_still d a h Clock (Tick k) at r l e = absurd (cc (sym e ∙ ap is_accepted (tick_accepts (is_clock_full h k) r l.reply l.room)))
 refused_still d a h (Party p) (Tick k) at r l e = absurd l
 refused_still d a h Clock (Made c) at r l e = absurd l
 
-still_legal : (d : Deal) (a : ℕ) (h k : List Entry) (s : Sender) (w : What) (at : ℕ) (r : Reply) → IsSame d a h k → r ≡ Accepted → IsLegalEntry d a h s w at r → IsLegalEntry d a k s w at r
+still_legal : (d : Deal) (a : ℕ) (h k : List Entry) (s : Sender) (w : What) (at : ℕ) (r : Reply) → IsSame d a h k → r ≡ Accepted
+    → IsLegalEntry d a h s w at r → IsLegalEntry d a k s w at r
 still_legal d a h k (Party p) (Made c) at r same is l = record {
   of_the_two = l.of_the_two;
   fits = l.fits;
@@ -175,17 +195,39 @@ append-nil (x ∷ xs) = ap (λ (l : List Entry). x ∷ l) (append-nil xs)
 only_without : (h : List Entry) (e : Entry) → is_accepted e.reply ≡ false → accepted_in (h ++ e ∷ []) ≡ accepted_in h
 only_without h e k = filter-append (λ x. is_accepted x.reply) h (e ∷ []) ∙ ap (λ b. accepted_in h ++ cond b (e ∷ []) []) k ∙ append-nil (accepted_in h)
 
-stays_after : (d : Deal) (a : ℕ) (h : List Entry) (e : Entry) (b : Bool) → is_accepted e.reply ≡ b → IsLegalEntry d a h e.sender e.what e.height e.reply → IsLegal d a (accepted_in h) × IsSame d a h (accepted_in h) → IsLegal d a (accepted_in (h ++ e ∷ [])) × IsSame d a (h ++ e ∷ []) (accepted_in (h ++ e ∷ []))
+stays_after : (d : Deal) (a : ℕ) (h : List Entry) (e : Entry) (b : Bool) → is_accepted e.reply ≡ b → IsLegalEntry d a h e.sender e.what e.height e.reply
+    → IsLegal d a (accepted_in h) × IsSame d a h (accepted_in h)
+    → IsLegal d a (accepted_in (h ++ e ∷ [])) × IsSame d a (h ++ e ∷ []) (accepted_in (h ++ e ∷ []))
 stays_after d a h e true k l s =
     rw (only_more h e k) (
-      all_moments_push (IsLegalMoment d a) (accepted_in h) e s.0 (still_legal d a h (accepted_in h) e.sender e.what e.height e.reply s.1 (accepted_is e.reply k) l),
+      all_moments_push (IsLegalMoment d a) (accepted_in h) e s.0
+          (still_legal d a h (accepted_in h) e.sender e.what e.height e.reply s.1 (accepted_is e.reply k) l),
       same_more d a h (accepted_in h) e s.1,
     )
-stays_after d a h e false k l s = rw (only_without h e k) (s.0, same_without d a h (accepted_in h) e (refused_none e.what e.reply k) (refused_still d a h e.sender e.what e.height e.reply l k) s.1)
+stays_after d a h e false k l s =
+    rw (only_without h e k) (
+      s.0,
+      same_without d a h (accepted_in h) e (refused_none e.what e.reply k)
+          (refused_still d a h e.sender e.what e.height e.reply l k) s.1,
+    )
 
 stays : (d : Deal) (a : ℕ) (h : List Entry) → Stays d a h
-stays d a h = grow (Stays d a) h (λ l. (tt, record { height = refl; accounts = refl; published = refl; opened = λ i. refl; settled = refl; calls = λ p. omega arith; ticks = omega arith }))
-    (λ xs x rest l. stays_after d a xs x (is_accepted x.reply) refl (at_moment (IsLegalMoment d a) (xs ++ x ∷ []) xs x l ([], refl)) (rest (all_moments_front (IsLegalMoment d a) xs (x ∷ []) l)))
+stays d a h =
+    grow (Stays d a) h (λ l. (
+      tt,
+      record {
+        height = refl;
+        accounts = refl;
+        published = refl;
+        opened = λ i. refl;
+        settled = refl;
+        calls =
+            λ p. omega arith;
+        ticks = omega arith;
+      },
+    ))
+    (λ xs x rest l. stays_after d a xs x (is_accepted x.reply) refl (at_moment (IsLegalMoment d a) (xs ++ x ∷ []) xs x l ([], refl))
+    (rest (all_moments_front (IsLegalMoment d a) xs (x ∷ []) l)))
 
 -- Books.
 
@@ -210,13 +252,16 @@ is_legal_still d b l = record {
 
 -- the outcome by how much was lost and got
 abbrev outcome_by : Deal → ℕ → (lost got : ℕ) → Outcome
-outcome_by d v n m = cond (n == 0) (cond (m == 0) NoDeal FreeRide) (cond (nat_lt m (length (entering d.graph v))) Underwater (cond (n == length (leaving d.graph v)) WholeDeal Discount))
+outcome_by d v n m =
+    cond (n == 0) (cond (m == 0) NoDeal FreeRide) (cond (nat_lt m (length (entering d.graph v))) Underwater
+    (cond (n == length (leaving d.graph v)) WholeDeal Discount))
 
 outcome_is : (d : Deal) (b : Histories) (v : ℕ) → outcome d b v ≡ outcome_by d v (lost d b v) (got d b v)
 unfolding outcome
 outcome_is d b v = refl
 
-same_outcome : (d : Deal) (b c : Histories) (v : ℕ) → ((a : ℕ) → is_triggered d c a ≡ is_triggered d b a) → ((a : ℕ) → is_got d c a ≡ is_got d b a) → outcome d c v ≡ outcome d b v
+same_outcome : (d : Deal) (b c : Histories) (v : ℕ) → ((a : ℕ) → is_triggered d c a ≡ is_triggered d b a) → ((a : ℕ) → is_got d c a ≡ is_got d b a)
+    → outcome d c v ≡ outcome d b v
 same_outcome d b c v lost_same got_same =
     let l : is_triggered d c ≡ is_triggered d b = λ j a. lost_same a j in
     let g : is_got d c ≡ is_got d b = λ j a. got_same a j in

@@ -1,5 +1,6 @@
 -- A replayed entry is the stated one, where its reply is.
-use Rattle.std.proofs.Common.{◌≡◌, ◌≢◌, ℕ, ◌+◌, ◌≤◌, ◌<◌, Bool, true, false, cond, List, [], ◌∷◌, ◌++◌, length, get_or, take, drop, Result, Ok, Err, refl, sym, ap, ◌∙◌, subst, arith, add-one, drop-cons, below_more}
+use Rattle.std.proofs.Common.{◌≡◌, ◌≢◌, ℕ, ◌+◌, ◌≤◌, ◌<◌, Bool, true, false, cond, List, [], ◌∷◌, ◌++◌, length, get_or, take, drop, Result, Ok, Err}
+use Rattle.std.proofs.Common.{refl, sym, ap, ◌∙◌, subst, arith, add-one, drop-cons, below_more}
 use Rattle.std.proofs.Math.Nat.{min-eq_left}
 use Rattle.std.proofs.lemmas.List.{take_more, take_all, nil_from_length, length-drop, get_or_default}
 use Rattle.swap_base.specs.Fault.{◌>>=◌, Fails}
@@ -31,38 +32,48 @@ use Rattle.swap_auditor.specs.Audit.{replayed, with_entry, replay, replay_from, 
 low_height : (n k : ℕ) → n ≤ 1000000 → k ≤ 1000000 → written_height (n + k) ≡ n + k
 low_height n k l m = min-eq_left (omega arith)
 
-same_entry : (e : Entry) (s : Sender) (h : ℕ) (w : What) (r : Reply) → e.sender ≡ s → e.height ≡ h → e.what ≡ w → e.reply ≡ r → record { sender = s; height = h; what = w; reply = r } ≡ e
+same_entry : (e : Entry) (s : Sender) (h : ℕ) (w : What) (r : Reply) → e.sender ≡ s → e.height ≡ h → e.what ≡ w → e.reply ≡ r
+    → record { sender = s; height = h; what = w; reply = r } ≡ e
 same_entry e s h w r a b c d =
     ap (λ (x : Sender). record { sender = x; height = h; what = w; reply = r }) (sym a)
     ∙ ap (λ (x : ℕ). record { sender = e.sender; height = x; what = w; reply = r }) (sym b)
     ∙ ap (λ (x : What). record { sender = e.sender; height = e.height; what = x; reply = r }) (sym c)
     ∙ ap (λ (x : Reply). record { sender = e.sender; height = e.height; what = e.what; reply = x }) (sym d)
 
-pub formed_call : (d : Deal) (a : ℕ) (past : List Entry) (e : Entry) (p : ℕ) (c : Call) → IsFormedEntry d a past e → e.sender ≡ Party p → e.what ≡ Made c → IsFormedCall d a past p c e.height
-formed_call d a past e p c f s w = subst (λ (x : What). IsFormedWhat d a past (Party p) x e.height) w (subst (λ (x : Sender). IsFormedWhat d a past x e.what e.height) s f.what)
+pub formed_call : (d : Deal) (a : ℕ) (past : List Entry) (e : Entry) (p : ℕ) (c : Call) → IsFormedEntry d a past e → e.sender ≡ Party p
+    → e.what ≡ Made c → IsFormedCall d a past p c e.height
+formed_call d a past e p c f s w =
+    subst (λ (x : What). IsFormedWhat d a past (Party p) x e.height) w (subst (λ (x : Sender). IsFormedWhat d a past x e.what e.height) s f.what)
 
-pub formed_tick : (d : Deal) (a : ℕ) (past : List Entry) (e : Entry) (k : ℕ) → IsFormedEntry d a past e → e.sender ≡ Clock → e.what ≡ Tick k → IsFormedTick past k e.height
-formed_tick d a past e k f s w = subst (λ (x : What). IsFormedWhat d a past Clock x e.height) w (subst (λ (x : Sender). IsFormedWhat d a past x e.what e.height) s f.what)
+pub formed_tick : (d : Deal) (a : ℕ) (past : List Entry) (e : Entry) (k : ℕ) → IsFormedEntry d a past e → e.sender ≡ Clock → e.what ≡ Tick k
+    → IsFormedTick past k e.height
+formed_tick d a past e k f s w =
+    subst (λ (x : What). IsFormedWhat d a past Clock x e.height) w (subst (λ (x : Sender). IsFormedWhat d a past x e.what e.height) s f.what)
 
-pub call_is : (d : Deal) (a : ℕ) (past : List Entry) (e : Entry) (p : ℕ) (c : Call) (r : Reply) → IsLegal d a past → IsFormedEntry d a past e → e.sender ≡ Party p → e.what ≡ Made c → e.reply ≡ r → call_entry p (height past) c r ≡ e
+pub call_is : (d : Deal) (a : ℕ) (past : List Entry) (e : Entry) (p : ℕ) (c : Call) (r : Reply) → IsLegal d a past → IsFormedEntry d a past e
+    → e.sender ≡ Party p → e.what ≡ Made c → e.reply ≡ r → call_entry p (height past) c r ≡ e
 call_is d a past e p c r l f s w is =
     let k = formed_call d a past e p c f s w in
     let low = (bounds d a past l).low in
     let at : written_height (height past) ≡ height past = min-eq_left (omega arith) in
     same_entry e (Party p) (height past) (Made c) r s (k.height ∙ at) w is
 
-pub tick_is : (d : Deal) (a : ℕ) (past : List Entry) (e : Entry) (k : ℕ) (r : Reply) → IsLegal d a past → IsFormedEntry d a past e → e.sender ≡ Clock → e.what ≡ Tick k → e.reply ≡ r → tick_entry k (height past + k) r ≡ e
+pub tick_is : (d : Deal) (a : ℕ) (past : List Entry) (e : Entry) (k : ℕ) (r : Reply) → IsLegal d a past → IsFormedEntry d a past e → e.sender ≡ Clock
+    → e.what ≡ Tick k → e.reply ≡ r → tick_entry k (height past + k) r ≡ e
 tick_is d a past e k r l f s w is =
     let t = formed_tick d a past e k f s w in
     same_entry e Clock (height past + k) (Tick k) r s (t.height ∙ low_height (height past) k (bounds d a past l).low t.below) w is
 
 -- what a call leaves, where the stated reply is the replayed one
-pub call_after : (d : Deal) (a : ℕ) (past new : List Entry) (e : Entry) (p : ℕ) (c : Call) (r : Reply) → IsLegal d a past → IsFormedEntry d a past e → e.sender ≡ Party p → e.what ≡ Made c → (r ≢ SenderFull → new ≡ past ++ call_entry p (height past) c r ∷ []) → e.reply ≡ r → new ≡ past ++ e ∷ []
+pub call_after : (d : Deal) (a : ℕ) (past new : List Entry) (e : Entry) (p : ℕ) (c : Call) (r : Reply) → IsLegal d a past → IsFormedEntry d a past e
+    → e.sender ≡ Party p → e.what ≡ Made c → (r ≢ SenderFull → new ≡ past ++ call_entry p (height past) c r ∷ []) → e.reply ≡ r → new ≡ past ++ e ∷ []
 call_after d a past new e p c r l f s w kept is =
     kept (λ full. f.sender_not_full (is ∙ full)) ∙ ap (λ (x : Entry). past ++ x ∷ []) (call_is d a past e p c r l f s w is)
 
-pub no_other : (d : Deal) (a : ℕ) (past : List Entry) (e : Entry) (s : Sender) (w : What) → IsFormedEntry d a past e → e.sender ≡ s → e.what ≡ w → IsFormedWhat d a past s w e.height
-no_other d a past e s w f x y = subst (λ (z : What). IsFormedWhat d a past s z e.height) y (subst (λ (z : Sender). IsFormedWhat d a past z e.what e.height) x f.what)
+pub no_other : (d : Deal) (a : ℕ) (past : List Entry) (e : Entry) (s : Sender) (w : What) → IsFormedEntry d a past e → e.sender ≡ s → e.what ≡ w
+    → IsFormedWhat d a past s w e.height
+no_other d a past e s w f x y =
+    subst (λ (z : What). IsFormedWhat d a past s z e.height) y (subst (λ (z : Sender). IsFormedWhat d a past z e.what e.height) x f.what)
 
 -- One step of a replay.
 
@@ -78,11 +89,14 @@ taken : {A R : Type 0} (b : Bool) (x t : A) (y : R) → cond {A = Result A R} b 
 taken true x t y e = cc
 taken false x t y e = absurd (cc e)
 
-pub entry_stands : (d : Deal) (a : ℕ) (past new : List Entry) (e : Entry) (r : Reply) → r ≡ replayed d a past e.sender e.what → same_reply e.reply r ≡ true → new ≡ past ++ e ∷ [] → with_entry d a past e ≡ Ok new
+pub entry_stands : (d : Deal) (a : ℕ) (past new : List Entry) (e : Entry) (r : Reply) → r ≡ replayed d a past e.sender e.what
+    → same_reply e.reply r ≡ true → new ≡ past ++ e ∷ [] → with_entry d a past e ≡ Ok new
 entry_stands d a past new e r is same n =
-    chosen (same_reply e.reply (replayed d a past e.sender e.what)) (past ++ e ∷ []) _ (ap (same_reply e.reply) (sym is) ∙ same) ∙ ap (λ (h : List Entry). Ok h) (sym n)
+    chosen (same_reply e.reply (replayed d a past e.sender e.what)) (past ++ e ∷ []) _ (ap (same_reply e.reply) (sym is) ∙ same)
+    ∙ ap (λ (h : List Entry). Ok h) (sym n)
 
-pub entry_is_bad : (d : Deal) (a : ℕ) (past : List Entry) (e : Entry) (r : Reply) (b : BadReply) → r ≡ replayed d a past e.sender e.what → same_reply e.reply r ≡ false → b ≡ record { arc = a; entry = length past; stated = e.reply; replayed = r } → with_entry d a past e ≡ Err b
+pub entry_is_bad : (d : Deal) (a : ℕ) (past : List Entry) (e : Entry) (r : Reply) (b : BadReply) → r ≡ replayed d a past e.sender e.what
+    → same_reply e.reply r ≡ false → b ≡ record { arc = a; entry = length past; stated = e.reply; replayed = r } → with_entry d a past e ≡ Err b
 entry_is_bad d a past e r b is same n =
     refused (same_reply e.reply (replayed d a past e.sender e.what)) (past ++ e ∷ []) _ (ap (same_reply e.reply) (sym is) ∙ same)
     ∙ ap (λ (x : Reply). Err (record { arc = a; entry = length past; stated = e.reply; replayed = x })) (sym is)
@@ -96,13 +110,16 @@ entry_kept d a past new e k = taken (same_reply e.reply (replayed d a past e.sen
 next : (xs : List Entry) (i : ℕ) (x : Entry) → i < length xs → x ≡ get_or xs i x → drop i xs ≡ x ∷ drop (i + 1) xs
 next xs i x lt is = rw (add-one, drop-cons xs i x, ← is) refl
 
-pub formed_now : (d : Deal) (a : ℕ) (past xs : List Entry) (i : ℕ) (x : Entry) → i < length xs → x ≡ get_or xs i x → GoesOn d a past (drop i xs) → IsFormedEntry d a past x
+pub formed_now : (d : Deal) (a : ℕ) (past xs : List Entry) (i : ℕ) (x : Entry) → i < length xs → x ≡ get_or xs i x → GoesOn d a past (drop i xs)
+    → IsFormedEntry d a past x
 formed_now d a past xs i x lt is g = (rw (next xs i x lt is) at g).0
 
-pub formed_on : (d : Deal) (a : ℕ) (past new xs : List Entry) (i : ℕ) (x : Entry) → i < length xs → x ≡ get_or xs i x → new ≡ past ++ x ∷ [] → GoesOn d a past (drop i xs) → GoesOn d a new (drop (i + 1) xs)
+pub formed_on : (d : Deal) (a : ℕ) (past new xs : List Entry) (i : ℕ) (x : Entry) → i < length xs → x ≡ get_or xs i x → new ≡ past ++ x ∷ []
+    → GoesOn d a past (drop i xs) → GoesOn d a new (drop (i + 1) xs)
 formed_on d a past new xs i x lt is e g = rw e ((rw (next xs i x lt is) at g).1)
 
-pub past_on : (past new xs : List Entry) (i : ℕ) (x : Entry) → i < length xs → x ≡ get_or xs i x → new ≡ past ++ x ∷ [] → past ≡ take i xs → new ≡ take (i + 1) xs
+pub past_on : (past new xs : List Entry) (i : ℕ) (x : Entry) → i < length xs → x ≡ get_or xs i x → new ≡ past ++ x ∷ [] → past ≡ take i xs
+    → new ≡ take (i + 1) xs
 past_on past new xs i x lt is e p = e ∙ ap (λ (h : List Entry). h ++ x ∷ []) p ∙ ap (λ (y : Entry). take i xs ++ y ∷ []) is ∙ sym (take_more xs i x lt)
 
 pub past_all : (past xs : List Entry) (i : ℕ) → length xs ≤ i → past ≡ take i xs → past ≡ xs
@@ -110,7 +127,8 @@ past_all past xs i le p = p ∙ take_all i xs le
 
 -- at every prefix of a legal book's histories the units add up
 pub units_add_up : (d : Deal) (b : Histories) → IsLegalBook d b → UnitsAddUp d b
-units_add_up d b l a h rest lt e = (units d a h (all_moments_front (IsLegalMoment d a) h rest (subst (IsLegal d a) e (l.legal a (omega (arith, l.one_each)))))).total
+units_add_up d b l a h rest lt e =
+    (units d a h (all_moments_front (IsLegalMoment d a) h rest (subst (IsLegal d a) e (l.legal a (omega (arith, l.one_each)))))).total
 
 -- The histories of a book.
 
@@ -122,10 +140,12 @@ module _ (d : Deal) (b : Histories) where
   step : (i : ℕ) (h : List Entry) → i < length b → h ≡ get_or b i h → left i ≡ replay d i h >>= λ _. left (i + 1)
   step i h lt is = let e : drop i b ≡ h ∷ drop (i + 1) b = rw (add-one, drop-cons b i h, ← is) refl in ap (replay_from d i) e
 
-  pub book_on : (i : ℕ) (h t : List Entry) (total : Result (Unit {0}) BadReply) → i < length b → h ≡ get_or b i h → replay d i h ≡ Ok t → left i ≡ total → left (i + 1) ≡ total
+  pub book_on : (i : ℕ) (h t : List Entry) (total : Result (Unit {0}) BadReply) → i < length b → h ≡ get_or b i h → replay d i h ≡ Ok t → left i ≡ total
+      → left (i + 1) ≡ total
   book_on i h t total lt is e so_far = sym (step i h lt is ∙ ap (λ (r : Result (List Entry) BadReply). r >>= λ _. left (i + 1)) e) ∙ so_far
 
-  pub book_fails : (e : Fault BadReply) (i : ℕ) (h : List Entry) (total : Result (Unit {0}) BadReply) → i < length b → h ≡ get_or b i h → Fails e (replay d i h) → left i ≡ total → Fails e total
+  pub book_fails : (e : Fault BadReply) (i : ℕ) (h : List Entry) (total : Result (Unit {0}) BadReply) → i < length b → h ≡ get_or b i h
+      → Fails e (replay d i h) → left i ≡ total → Fails e total
   book_fails NoMemory i h total lt is f so_far = tt
   book_fails (Refused r) i h total lt is f so_far = sym so_far ∙ step i h lt is ∙ ap (λ (x : Result (List Entry) BadReply). x >>= λ _. left (i + 1)) f
 

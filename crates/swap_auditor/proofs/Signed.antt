@@ -1,5 +1,6 @@
 -- Signatures that two hashkeys share.
-use Rattle.std.proofs.Common.{◌≡◌, ◌==◌, ◌&&◌, ℕ, zero, suc, nat_lt, Bool, true, false, not, cond, List, length, is_none, is_some, get_or, subst, refl, sym, ap, ◌∙◌, ◌<◌}
+use Rattle.std.proofs.Common.{◌≡◌, ◌==◌, ◌&&◌, ℕ, zero, suc, nat_lt, Bool, true, false, not, cond, List, length, is_none, is_some, get_or, subst, refl}
+use Rattle.std.proofs.Common.{sym, ap, ◌∙◌, ◌<◌}
 use Rattle.std.specs.Prelude.{All}
 use Rattle.std.specs.Str.{bytes_eq}
 use Rattle.swap_base.specs.Lists.{same_list}
@@ -13,7 +14,8 @@ use Rattle.hashkey_path.specs.Known.{is_last_signed}
 use Rattle.hashkey_path.proofs.Validity.{bytes_eq-true}
 use Rattle.hashkey_path.proofs.Known.{valid_is_known}
 use Rattle.escrow_core.specs.declared.reply.Reply.{Reply}
-use Rattle.escrow_core.specs.declared.reply.Reply.TheVariants.{Accepted, Settled, NotCounterparty, AlreadyUnlocked, WrongSecret, WrongPath, WrongSignature, TooLate, NoContract, SenderFull}
+use Rattle.escrow_core.specs.declared.reply.Reply.TheVariants.{Accepted, Settled, NotCounterparty, AlreadyUnlocked, WrongSecret, WrongPath}
+use Rattle.escrow_core.specs.declared.reply.Reply.TheVariants.{WrongSignature, TooLate, NoContract, SenderFull}
 use Rattle.escrow_core.specs.Terms.{hashlock_in, last_in}
 use Rattle.ledger_core.specs.declared.entry.Call.{Call}
 use Rattle.ledger_core.specs.declared.entry.Call.TheVariants.{Publish, Unlock, Claim, Refund, Transfer}
@@ -32,7 +34,8 @@ shared_is_known zero d one other s k = refl
 shared_is_known (suc n) d one other s k = rw (s.lock, s.secret, s.path, s.sigs) (k (suc n))
 
 -- a hashkey that was read in a list of signed ones is signed
-pub found_is_signed : (d : Deal) (keys read : List Hashkey) (i : ℕ) (x y : Hashkey) → read ≡ keys → All (IsSigned d) keys → i < length read → x ≡ get_or read i x → y ≡ x → IsSigned d y
+pub found_is_signed : (d : Deal) (keys read : List Hashkey) (i : ℕ) (x y : Hashkey) → read ≡ keys → All (IsSigned d) keys → i < length read
+    → x ≡ get_or read i x → y ≡ x → IsSigned d y
 found_is_signed d keys read i x y r all lt is same = subst (IsSigned d) (sym (same ∙ is)) (subst (All (IsSigned d)) (sym r) all i x lt)
 
 pub known_call : (n : ℕ) (d : Deal) (key : Hashkey) → is_last_signed n d key ≡ true → is_known_in n d (Unlock key) ≡ true
@@ -41,7 +44,11 @@ known_call (suc n) d key e = e
 
 -- A reply that comes after the row of signatures.
 
-passed : (full none settled other opened secret path signature late : Bool) (last : ℕ) → is_after_check (cond full SenderFull (cond none NoContract (cond settled Settled (cond other NotCounterparty (cond opened AlreadyUnlocked (cond secret WrongSecret (cond path WrongPath (cond signature WrongSignature (cond late (TooLate last) Accepted))))))))) ≡ true → (secret ≡ false) × (path ≡ false) × (signature ≡ false)
+passed : (full none settled other opened secret path signature late : Bool) (last : ℕ)
+    → is_after_check (cond full SenderFull (cond none NoContract
+    (cond settled Settled (cond other NotCounterparty (cond opened AlreadyUnlocked
+    (cond secret WrongSecret (cond path WrongPath (cond signature WrongSignature (cond late (TooLate last) Accepted))))))))) ≡ true
+    → (secret ≡ false) × (path ≡ false) × (signature ≡ false)
 passed true none settled other opened secret path signature late last e = absurd (cc e)
 passed false true settled other opened secret path signature late last e = absurd (cc e)
 passed false false true other opened secret path signature late last e = absurd (cc e)
@@ -59,8 +66,11 @@ signed_by : (d : Deal) (a : ℕ) (past : List Entry) (p : ℕ) (key : Hashkey) �
 unfolding rows
 signed_by d a past p key e n =
     let hashlock = hashlock_in (the_terms past) key.lock in
-    let parts = passed (is_full past p) (is_none (published past)) (is_some (settled past)) (not (p == counterparty d a)) (is_open past key.lock) (is_wrong_secret hashlock key) (is_wrong_path d a d.mode key) (is_wrong_signature d d.mode key) (nat_lt (last_in d.mode (the_terms past) key) (height past)) (last_in d.mode (the_terms past) key) e in
-    valid_is_known n d a hashlock key (valid_of (is_wrong_secret hashlock key) (is_wrong_path d a d.mode key) (is_wrong_signature d d.mode key) parts.0 parts.1 parts.2)
+    let parts = passed (is_full past p) (is_none (published past)) (is_some (settled past)) (not (p == counterparty d a)) (is_open past key.lock)
+    (is_wrong_secret hashlock key) (is_wrong_path d a d.mode key) (is_wrong_signature d d.mode key)
+    (nat_lt (last_in d.mode (the_terms past) key) (height past)) (last_in d.mode (the_terms past) key) e in
+    valid_is_known n d a hashlock key (valid_of (is_wrong_secret hashlock key) (is_wrong_path d a d.mode key) (is_wrong_signature d d.mode key) parts.0
+    parts.1 parts.2)
 
 -- the reply of the table tells of the signatures of the hashkey that the call presents
 pub told : (d : Deal) (a : ℕ) (past : List Entry) (p : ℕ) (c : Call) (r : Reply) → r ≡ reply_to d a past p c → IsTold d c r

@@ -1,7 +1,9 @@
 -- Replies that are compared.
 use Rattle.std.specs.Prelude.{◌==◌, Bool, true, false}
 use Rattle.escrow_core.specs.declared.reply.Reply.{Reply}
-use Rattle.escrow_core.specs.declared.reply.Reply.TheVariants.{Accepted, Settled, NotCounterparty, NotParty, AlreadyUnlocked, WrongSecret, WrongPath, WrongSignature, TooLate, StillLocked, NothingLocked, NotExpired, NoContract, AlreadyPublished, NoFunds, SenderFull, ClockFull}
+use Rattle.escrow_core.specs.declared.reply.Reply.TheVariants.{Accepted, Settled, NotCounterparty, NotParty, AlreadyUnlocked, WrongSecret, WrongPath}
+use Rattle.escrow_core.specs.declared.reply.Reply.TheVariants.{WrongSignature, TooLate, StillLocked, NothingLocked, NotExpired, NoContract}
+use Rattle.escrow_core.specs.declared.reply.Reply.TheVariants.{AlreadyPublished, NoFunds, SenderFull, ClockFull}
 
 -- whether two replies have the same name and the same number
 abbrev pub same_reply : Reply → Reply → Bool

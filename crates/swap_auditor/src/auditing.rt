@@ -33,7 +33,8 @@ fn replay_book(alloc: Global, deal: &Deal, book: &Book) -> Result<(), AuditFault
     Ok(())
 }
 
-/// The report of a book whose every stated reply is that of the replayed ledgers, or the first, in order of arc and entry, that isn't. Each signature is verified once.
+/// The report of a book whose every stated reply is that of the replayed ledgers, or the first, in order of arc and entry, that isn't. Each signature
+/// is verified once.
 pub fn audit(
     alloc: Global,
     deal: &Deal,
@@ -48,7 +49,8 @@ pub fn audit(
     ensures units { OnOk result (UnitsAddUp deal.now book.now.histories) }
     ensures safe { IfOk result (λ r. NoneIsUnderwater deal.now conforming.now (shown_outcome r) r.findings) }
     ensures refunds { IfOk result (λ r. AllHaveRefunds deal.now conforming.now book.now.histories r.findings) }
-    ensures transfer { IfOk result (λ r. (k : IsAccepted deal.now) → AllAreConforming deal.now conforming.now → r.findings ≡ [] → IsTransferred deal.now book.now.histories k) }
+    ensures transfer { IfOk result (λ r. (k : IsAccepted deal.now) → AllAreConforming deal.now conforming.now → r.findings ≡ []
+        → IsTransferred deal.now book.now.histories k) }
     ensures whole { IfOk result (λ r. AllAreConforming deal.now conforming.now → r.findings ≡ [] → AllAreWhole deal.now r) }
     ensures nothing_found { IfOk result (λ r. r.findings ≡ [] → FindsNothing deal.now (conforms_in conforming.now) book.now.histories) }
 {

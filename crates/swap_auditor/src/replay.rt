@@ -40,7 +40,8 @@ fn call_again(
     requires fits { IsTrue (fit ledger.old.deal ledger.old.arc call.now) }
     requires legal { IsLegal ledger.old.deal ledger.old.arc ledger.old.history }
     ensures reply { IfOk result (λ r. r ≡ reply_to ledger.old.deal ledger.old.arc ledger.old.history sender call.now) }
-    ensures history { IfOk result (λ r. r ≢ Reply.SenderFull → ledger.new.history ≡ ledger.old.history ++ call_entry sender (height ledger.old.history) call.now r ∷ []) }
+    ensures history { IfOk result (λ r. r ≢ Reply.SenderFull
+        → ledger.new.history ≡ ledger.old.history ++ call_entry sender (height ledger.old.history) call.now r ∷ []) }
     ensures deal { ledger.new.deal ≡ ledger.old.deal }
     ensures arc { ledger.new.arc ≡ ledger.old.arc }
     ensures legal { IsLegal ledger.new.deal ledger.new.arc ledger.new.history }

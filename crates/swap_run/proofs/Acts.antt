@@ -1,5 +1,6 @@
 -- What a conforming party makes can be made, and it acts until nothing is due, for which as many acts are enough as there are calls that it may make.
-use Rattle.std.proofs.Common.{◌≡◌, ◌⊎◌, ℕ, suc, zero, ◌+◌, ◌<◌, ◌≤◌, true, false, cond, List, [], ◌∷◌, ◌++◌, length, Option, Some, None, refl, sym, ap, ◌∙◌, subst, inl, inr, arith, eq-eqb, set}
+use Rattle.std.proofs.Common.{◌≡◌, ◌⊎◌, ℕ, suc, zero, ◌+◌, ◌<◌, ◌≤◌, true, false, cond, List, [], ◌∷◌, ◌++◌, length, Option, Some, None, refl, sym, ap}
+use Rattle.std.proofs.Common.{◌∙◌, subst, inl, inr, arith, eq-eqb, set}
 use Rattle.swap_base.specs.Lists.{IsIn}
 use Rattle.ledger_core.specs.History.{is_full}
 use Rattle.ledger_core.specs.Book.{Histories, history}
@@ -48,11 +49,14 @@ module _ (c : Cast) (ready : IsReadyCast c) (v : ℕ) (lv : v < c.deal.graph.n) 
   has_space : (s : State) (a : ℕ) → IsGood c s → is_full (history s.book a) v ≡ false
   has_space s a g =
       let hv = holds c s v (g.notes v lv cv) in
-      rules_leave_room c.deal s.book (signed_in (notes_of s v).signed) v a ready.accepted g.legal (rules_transfer c.deal (known s) s.book (signed_in (notes_of s v).signed) v hv.knows hv.sound.rules)
+      rules_leave_room c.deal s.book (signed_in (notes_of s v).signed) v a ready.accepted g.legal
+      (rules_transfer c.deal (known s) s.book (signed_in (notes_of s v).signed) v hv.knows hv.sound.rules)
 
   made : (s : State) (x : Action) → IsGood c s → next_of c s v ≡ Some x → CanBeMade c s v x
   made s x g e =
-      let is = due_now c.deal s.book (notes_of s v) v (c.wallet v) x (ready.wallets v lv cv) ready.accepted (first_in (all_due s) x e) (holds c s v (g.notes v lv cv)) in
+      let is =
+      due_now c.deal s.book (notes_of s v) v (c.wallet v) x (ready.wallets v lv cv) ready.accepted (first_in (all_due s) x e)
+      (holds c s v (g.notes v lv cv)) in
       record {
         arc = is.below;
         adjacent = is.of_the_two;
@@ -70,11 +74,18 @@ module _ (c : Cast) (ready : IsReadyCast c) (v : ℕ) (lv : v < c.deal.graph.n) 
       let room = has_space s x.arc g in
       let new : after_call c.deal x.arc v x.call (history s.book x.arc) ≡ history s.book x.arc ++ entry_of c.deal x.arc (history s.book x.arc) v x.call ∷ [] =
       call_pushes c.deal x.arc (history s.book x.arc) v x.call room in
-      let there : history (set (known s) x.arc (after_call c.deal x.arc v x.call (history s.book x.arc))) x.arc ≡ history s.book x.arc ++ entry_of c.deal x.arc (history s.book x.arc) v x.call ∷ [] =
+      let there : history (set (known s) x.arc (after_call c.deal x.arc v x.call (history s.book x.arc))) x.arc ≡ history s.book x.arc
+      ++ entry_of c.deal x.arc (history s.book x.arc) v x.call ∷ [] =
       history_same (known s) x.arc (after_call c.deal x.arc v x.call (history s.book x.arc)) below ∙ new in
       subst (λ n. left c.deal v n.known + 1 ≤ left c.deal v (known s))
-      (sym (note_same s (set s.book x.arc (after_call c.deal x.arc v x.call (history s.book x.arc))) v (record { known = set (known s) x.arc (after_call c.deal x.arc v x.call (history s.book x.arc)); signed = signed_after (notes_of s v).signed x.call }) (subst (λ m. v < m) (sym g.one_each) lv)))
-      (left_less c.deal v (known s) (after_call c.deal x.arc v x.call (history s.book x.arc)) (history s.book x.arc) x.arc (entry_of c.deal x.arc (history s.book x.arc) v x.call) is.slot there (kn.rest, kn.whole) is.slot_in is.below is.fresh
+      (sym (note_same s (set s.book x.arc (after_call c.deal x.arc v x.call (history s.book x.arc))) v (record {
+        known =
+            set (known s) x.arc (after_call c.deal x.arc v x.call (history s.book x.arc));
+        signed =
+            signed_after (notes_of s v).signed x.call;
+      }) (subst (λ m. v < m) (sym g.one_each) lv)))
+      (left_less c.deal v (known s) (after_call c.deal x.arc v x.call (history s.book x.arc)) (history s.book x.arc) x.arc
+      (entry_of c.deal x.arc (history s.book x.arc) v x.call) is.slot there (kn.rest, kn.whole) is.slot_in is.below is.fresh
       (ap (test_of is.slot) (ap (λ z. cond z (Some x.call) None) (eq-eqb v v refl)) ∙ is.passes))
 
   -- an act makes a call, or nothing is due
@@ -83,13 +94,16 @@ module _ (c : Cast) (ready : IsReadyCast c) (v : ℕ) (lv : v < c.deal.graph.n) 
     where
       go : (o : Option Action) → next_of c s v ≡ o → (next_of c s v ≡ None) ⊎ (left c.deal v (known (step c s (Act v))) + 1 ≤ left c.deal v (known s))
       go None e = inl e
-      go (Some x) e = inr (subst (λ t. left c.deal v (known t) + 1 ≤ left c.deal v (known s)) (sym (act_is s ∙ ap (make c.deal s v) e)) (made_less s x g (first_in (all_due s) x e)))
+      go (Some x) e =
+          inr (subst (λ t. left c.deal v (known t) + 1 ≤ left c.deal v (known s)) (sym (act_is s
+          ∙ ap (make c.deal s v) e)) (made_less s x g (first_in (all_due s) x e)))
 
   rest_or_less : (n : ℕ) (s : State) → IsGood c s → (next_of c (acts c v n s) v ≡ None) ⊎ (left c.deal v (known (acts c v n s)) + n ≤ left c.deal v (known s))
   rest_or_less zero s g = inr (omega arith)
   rest_or_less (suc n) s g = go (rest_or_less n s g) (act_case (acts c v n s) (acts_good n s g))
     where
-      go : (next_of c (acts c v n s) v ≡ None) ⊎ (left c.deal v (known (acts c v n s)) + n ≤ left c.deal v (known s)) → (next_of c (acts c v n s) v ≡ None) ⊎ (left c.deal v (known (step c (acts c v n s) (Act v))) + 1 ≤ left c.deal v (known (acts c v n s)))
+      go : (next_of c (acts c v n s) v ≡ None) ⊎ (left c.deal v (known (acts c v n s)) + n ≤ left c.deal v (known s))
+          → (next_of c (acts c v n s) v ≡ None) ⊎ (left c.deal v (known (step c (acts c v n s) (Act v))) + 1 ≤ left c.deal v (known (acts c v n s)))
           → (next_of c (step c (acts c v n s) (Act v)) v ≡ None) ⊎ (left c.deal v (known (step c (acts c v n s) (Act v))) + suc n ≤ left c.deal v (known s))
       go (inl e) k = inl (ap (λ t. next_of c t v) (act_rests (acts c v n s) e) ∙ e)
       go (inr l) (inl e) = inl (ap (λ t. next_of c t v) (act_rests (acts c v n s) e) ∙ e)
@@ -98,12 +112,16 @@ module _ (c : Cast) (ready : IsReadyCast c) (v : ℕ) (lv : v < c.deal.graph.n) 
   pub at_rest : (s : State) → IsGood c s → next_of c (acts c v (most_acts c.deal) s) v ≡ None
   at_rest s g = go (rest_or_less (most_acts c.deal) s g) (act_case (acts c v (most_acts c.deal) s) (acts_good (most_acts c.deal) s g))
     where
-      go : (next_of c (acts c v (most_acts c.deal) s) v ≡ None) ⊎ (left c.deal v (known (acts c v (most_acts c.deal) s)) + most_acts c.deal ≤ left c.deal v (known s))
-          → (next_of c (acts c v (most_acts c.deal) s) v ≡ None) ⊎ (left c.deal v (known (step c (acts c v (most_acts c.deal) s) (Act v))) + 1 ≤ left c.deal v (known (acts c v (most_acts c.deal) s)))
+      go : (next_of c (acts c v (most_acts c.deal) s) v ≡ None)
+          ⊎ (left c.deal v (known (acts c v (most_acts c.deal) s)) + most_acts c.deal ≤ left c.deal v (known s))
+          → (next_of c (acts c v (most_acts c.deal) s) v ≡ None)
+          ⊎ (left c.deal v (known (step c (acts c v (most_acts c.deal) s) (Act v))) + 1 ≤ left c.deal v (known (acts c v (most_acts c.deal) s)))
           → next_of c (acts c v (most_acts c.deal) s) v ≡ None
       go (inl e) k = e
       go (inr l) (inl e) = e
-      go (inr l) (inr m) = absurd (over (most_acts c.deal) (left c.deal v (known s)) (left c.deal v (known (acts c v (most_acts c.deal) s))) (left c.deal v (known (step c (acts c v (most_acts c.deal) s) (Act v)))) (left_most c.deal v (known s)) l m)
+      go (inr l) (inr m) =
+          absurd (over (most_acts c.deal) (left c.deal v (known s)) (left c.deal v (known (acts c v (most_acts c.deal) s)))
+          (left c.deal v (known (step c (acts c v (most_acts c.deal) s) (Act v)))) (left_most c.deal v (known s)) l m)
         where
           over : (most all some less : ℕ) → all ≤ most → some + most ≤ all → less + 1 ≤ some → ⊥
           over most all some less a b d = omega arith
@@ -115,4 +133,6 @@ pub acts_come_to_rest : ActsComeToRest
 acts_come_to_rest c s v ready g lv cv = at_rest c ready v lv cv s g
 
 pub acts_are_enough : ActsAreEnough
-acts_are_enough c s v n ready g lv cv e = rest_same n (most_acts c.deal) (λ s. step c s (Act v)) s (act_rests c ready v lv cv (acts c v n s) e) (act_rests c ready v lv cv (acts c v (most_acts c.deal) s) (at_rest c ready v lv cv s g))
+acts_are_enough c s v n ready g lv cv e =
+    rest_same n (most_acts c.deal) (λ s. step c s (Act v)) s (act_rests c ready v lv cv (acts c v n s) e)
+    (act_rests c ready v lv cv (acts c v (most_acts c.deal) s) (at_rest c ready v lv cv s g))

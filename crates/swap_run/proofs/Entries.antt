@@ -1,5 +1,6 @@
 -- A history after a tick or a call is as before, or has one legal entry more; a call leaves what the laws of machines say.
-use Rattle.std.proofs.Common.{◌≡◌, ℕ, ◌+◌, ◌≤◌, ◌==◌, Bool, true, false, cond, not, ◌||◌, IsTrue, List, [], ◌∷◌, ◌++◌, Option, Some, None, refl, sym, ap, ◌∙◌, subst}
+use Rattle.std.proofs.Common.{◌≡◌, ℕ, ◌+◌, ◌≤◌, ◌==◌, Bool, true, false, cond, not, ◌||◌, IsTrue, List, [], ◌∷◌, ◌++◌, Option, Some, None, refl, sym}
+use Rattle.std.proofs.Common.{ap, ◌∙◌, subst}
 use Rattle.std.specs.List.{list_all}
 use Rattle.swap_base.proofs.Lists.{and_parts}
 use Rattle.swap_digraph.specs.declared.deal.Deal.{Deal}
@@ -35,7 +36,15 @@ next_tick d a h k some below = go (is_clock_full h k) refl
   where
     go : (x : Bool) → is_clock_full h k ≡ x → Next d a h (after_tick k h) Clock (Tick k)
     go true e = Still (tick_full k h e)
-    go false e = Pushed (tick_entry k (height h + k) Accepted) (tick_room k h e) refl refl (record { some = some; below = below; height = refl; reply = sym (ap (λ x. cond x ClockFull Accepted) e); room = λ q. cc q })
+    go false e =
+        Pushed (tick_entry k (height h + k) Accepted) (tick_room k h e) refl refl (record {
+          some = some;
+          below = below;
+          height = refl;
+          reply =
+              sym (ap (λ x. cond x ClockFull Accepted) e);
+          room = λ q. cc q;
+        })
 
 -- Calls.
 
@@ -70,6 +79,7 @@ abbrev pub or_claim : Option Call → Call
 or_claim None = Claim
 or_claim (Some c) = c
 
-pub next_move : (d : Deal) (a : ℕ) (h : List Entry) (p : ℕ) (o : Option Call) → IsTrue ((p == party d a) || (p == counterparty d a)) → IsTrue (fits_if d a o) → Next d a h (after_move d a p o h) (Party p) (Made (or_claim o))
+pub next_move : (d : Deal) (a : ℕ) (h : List Entry) (p : ℕ) (o : Option Call) → IsTrue ((p == party d a) || (p == counterparty d a))
+    → IsTrue (fits_if d a o) → Next d a h (after_move d a p o h) (Party p) (Made (or_claim o))
 next_move d a h p None two fits = Still refl
 next_move d a h p (Some c) two fits = next_call d a h p c two fits

@@ -1,5 +1,7 @@
--- A fair finish from the start, where every party conforms, is rounds of one tick each, in which every party acts at the height at which the round began; so it deals.
-use Rattle.std.proofs.Common.{◌≡◌, ◌≢◌, ◌⊎◌, ℕ, suc, zero, ◌+◌, ◌*◌, ◌<◌, ◌≤◌, nat_lt, nat_le, Bool, true, false, cond, [], length, None, fold, slice_index_or, refl, sym, ap, ◌∙◌, subst, inl, inr, arith, le-leb, lt-ltb, ltb-true}
+-- A fair finish from the start, where every party conforms, is rounds of one tick each, in which every party acts at the height at which the round
+-- began; so it deals.
+use Rattle.std.proofs.Common.{◌≡◌, ◌≢◌, ◌⊎◌, ℕ, suc, zero, ◌+◌, ◌*◌, ◌<◌, ◌≤◌, nat_lt, nat_le, Bool, true, false, cond, [], length, None, fold}
+use Rattle.std.proofs.Common.{slice_index_or, refl, sym, ap, ◌∙◌, subst, inl, inr, arith, le-leb, lt-ltb, ltb-true}
 use Rattle.std.specs.List.{range_with_len}
 use Rattle.std.proofs.lemmas.Bool.{false≢true}
 use Rattle.swap_base.proofs.Lists.{list_all-in, in_range, from_range}
@@ -66,12 +68,15 @@ module _ (c : Cast) (ready : IsReadyCast c) (all : (v : ℕ) → v < c.deal.grap
       let x = rested c ready k (omega arith) (all k (omega arith)) s g in
       go x (same_or_not v k) (λ n. turn_in m (k + 1) (turn c s k) (omega arith) x.turned.good v n (omega arith))
     where
-      go : Rests c k s (turn c s k) → (v ≡ k) ⊎ (v ≢ k) → (k + 1 ≤ v → TurnIn c v (turn c s k) (fold (turn c) (turn c s k) (range_with_len (k + 1) m))) → TurnIn c v s (fold (turn c) (turn c s k) (range_with_len (k + 1) m))
+      go : Rests c k s (turn c s k) → (v ≡ k) ⊎ (v ≢ k) → (k + 1 ≤ v → TurnIn c v (turn c s k) (fold (turn c) (turn c s k) (range_with_len (k + 1) m)))
+          → TurnIn c v s (fold (turn c) (turn c s k) (range_with_len (k + 1) m))
       go x (inl e) again = record {
         mid = turn c s k;
         good = x.turned.good;
         calm = x.turned.calm;
-        seen = λ a i. subst (λ u. Begins (history s.book a) (history (notes_of (turn c s k) u).known a)) (sym e) (x.seen a (subst (λ u. IsNear c.deal u a) e i));
+        seen =
+            λ a i. subst (λ u. Begins (history s.book a) (history (notes_of (turn c s k) u).known a)) (sym e)
+            (x.seen a (subst (λ u. IsNear c.deal u a) e i));
         rest = subst (λ u. next_of c (turn c s k) u ≡ None) (sym e) x.rest;
         same = later_turns m (k + 1) (turn c s k) (omega arith) x.turned.good v (let q : ◌≡◌ {A = ℕ} v k = e in omega arith);
       }
@@ -81,7 +86,9 @@ module _ (c : Cast) (ready : IsReadyCast c) (all : (v : ℕ) → v < c.deal.grap
             mid = y.mid;
             good = y.good;
             calm = calm_more s.book (turn c s k).book y.mid.book x.turned.calm y.calm;
-            seen = λ a i. begins_more (history s.book a) (history (turn c s k).book a) (history (notes_of y.mid v).known a) (x.turned.calm.grows a) (y.seen a i);
+            seen =
+                λ a i. begins_more (history s.book a) (history (turn c s k).book a) (history (notes_of y.mid v).known a) (x.turned.calm.grows a)
+                (y.seen a i);
             rest = y.rest;
             same = y.same;
           }
@@ -91,7 +98,8 @@ module _ (c : Cast) (ready : IsReadyCast c) (all : (v : ℕ) → v < c.deal.grap
   turn_of_round s g v lv = turn_in c.deal.graph.n 0 s (omega arith) g v (omega arith) (omega arith)
 
   -- nothing that v knows is above the height of the round
-  known_low : (r : ℕ) (s mid : State) (v a : ℕ) → Level c s r → Calm s.book mid.book → Knows v (history (notes_of mid v).known a) (history mid.book a) → height (history (notes_of mid v).known a) ≤ r
+  known_low : (r : ℕ) (s mid : State) (v a : ℕ) → Level c s r → Calm s.book mid.book → Knows v (history (notes_of mid v).known a) (history mid.book a)
+      → height (history (notes_of mid v).known a) ≤ r
   known_low r s mid v a x calm n = go (nat_lt a (length c.deal.graph.arcs)) refl
     where
       below : height (history (notes_of mid v).known a) ≤ height (history s.book a)
@@ -116,7 +124,8 @@ module _ (c : Cast) (ready : IsReadyCast c) (all : (v : ℕ) → v < c.deal.grap
         grows = k.grows;
         turn_of = λ v lv.
             let m = turn_of_round s x.good v lv in
-            let known_is : notes_of (round c s) v ≡ notes_of m.mid v = ap (λ ns. slice_index_or ns v (record { known = []; signed = [] })) k.notes_same ∙ (ap (λ z. notes_of z v) k.mid_is ∙ m.same) in
+            let known_is : notes_of (round c s) v ≡ notes_of m.mid v =
+            ap (λ ns. slice_index_or ns v (record { known = []; signed = [] })) k.notes_same ∙ (ap (λ z. notes_of z v) k.mid_is ∙ m.same) in
             let new = k.good.notes v lv (all v lv) in
             let old = m.good.notes v lv (all v lv) in
             record {
@@ -132,7 +141,9 @@ module _ (c : Cast) (ready : IsReadyCast c) (all : (v : ℕ) → v < c.deal.grap
   not_ended : (r : ℕ) (s : State) → r ≤ the_horizon c.deal → Level c s r → has_ended c.deal s.book ≡ false
   not_ended r s l x = not-true _ (λ e.
       let n : 2 ≤ length c.deal.graph.arcs = ready.accepted.arcs.0 in
-      let z = list_all-in (λ a. nat_lt (the_horizon c.deal) (height (history s.book a))) (arcs c.deal.graph) 0 e (in_range 0 (length c.deal.graph.arcs) (omega arith)) in
+      let z =
+      list_all-in (λ a. nat_lt (the_horizon c.deal) (height (history s.book a))) (arcs c.deal.graph) 0 e
+      (in_range 0 (length c.deal.graph.arcs) (omega arith)) in
       let o : height (history s.book 0) ≡ r = x.at 0 (omega arith) in
       let q = ltb-true _ _ z in
       omega arith)
@@ -151,10 +162,13 @@ module _ (c : Cast) (ready : IsReadyCast c) (all : (v : ℕ) → v < c.deal.grap
   fair_rounds v lv = record {
     legal = λ r l. (Level.good (levels r l)).legal;
     conducted = (good_is_kept c (after (the_horizon c.deal + 1)) ready (Level.good (levels (the_horizon c.deal + 1) (omega arith)))).conducted v lv (all v lv);
-    grows = λ r a l. subst (λ q. Begins (history (after r).book a) (history (after q).book a)) (next r) (Leveled.grows (stepped r (after r) (omega arith) (levels r (omega arith))) a);
+    grows =
+        λ r a l. subst (λ q. Begins (history (after r).book a) (history (after q).book a)) (next r)
+        (Leveled.grows (stepped r (after r) (omega arith) (levels r (omega arith))) a);
     at = λ r a l i. let o : height (history (after r).book a) ≡ r = Level.at (levels r l) a (from_range a (length c.deal.graph.arcs) i) in omega arith;
     turn = λ r l. subst (λ q. IsTurn c.deal v (c.wallet v) (after r).book (after q).book (r * 1 + 0)) (next r)
-        (subst (IsTurn c.deal v (c.wallet v) (after r).book (after (suc r)).book) (same r) (Leveled.turn_of (stepped r (after r) (omega arith) (levels r (omega arith))) v lv));
+        (subst (IsTurn c.deal v (c.wallet v) (after r).book (after (suc r)).book) (same r)
+        (Leveled.turn_of (stepped r (after r) (omega arith) (levels r (omega arith))) v lv));
   }
     where
       next : (r : ℕ) → suc r ≡ r + 1
@@ -170,7 +184,9 @@ module _ (c : Cast) (ready : IsReadyCast c) (all : (v : ℕ) → v < c.deal.grap
       all_dealt c.deal (conforms c) (after (the_horizon c.deal + 1)).book ready.accepted last.good.legal
       (λ a l. let o : height (history (after (the_horizon c.deal + 1)).book a) ≡ the_horizon c.deal + 1 = last.at a l in omega arith)
       (λ v l. (good_is_kept c (after (the_horizon c.deal + 1)) ready last.good).conducted v l (all v l))
-      (λ v l. let d : 1 ≤ c.deal.delta = ready.accepted.delta.0 in rounds_on_time c.deal v (c.wallet v) 1 0 (the_horizon c.deal + 1) (λ r. (after r).book) ready.accepted (omega arith) (omega arith) (fair_rounds v l))
+      (λ v l. let d : 1 ≤ c.deal.delta = ready.accepted.delta.0 in
+      rounds_on_time c.deal v (c.wallet v) 1 0 (the_horizon c.deal + 1) (λ r.
+      (after r).book) ready.accepted (omega arith) (omega arith) (fair_rounds v l))
 
 pub fair_is_dealt : FairIsDealt
 fair_is_dealt c ready all = fair c ready all

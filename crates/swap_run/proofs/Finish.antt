@@ -1,5 +1,7 @@
--- A fair finish ends with each ledger above the horizon, and keeps what every run keeps; it is rounds until that holds, and leaves no ledger higher than it must.
-use Rattle.std.proofs.Common.{◌≡◌, ℕ, suc, zero, ◌+◌, ◌<◌, ◌≤◌, nat_lt, nat_le, Bool, true, false, cond, length, refl, sym, ap, ◌∙◌, arith, leb-true, leb-false, ltb-true, lt-ltb}
+-- A fair finish ends with each ledger above the horizon, and keeps what every run keeps; it is rounds until that holds, and leaves no ledger higher
+-- than it must.
+use Rattle.std.proofs.Common.{◌≡◌, ℕ, suc, zero, ◌+◌, ◌<◌, ◌≤◌, nat_lt, nat_le, Bool, true, false, cond, length, refl, sym, ap, ◌∙◌, arith, leb-true}
+use Rattle.std.proofs.Common.{leb-false, ltb-true, lt-ltb}
 use Rattle.swap_base.proofs.Lists.{list_all-in, list_all-from, in_range, from_range}
 use Rattle.swap_digraph.specs.declared.deal.Deal.{Deal}
 use Rattle.swap_digraph.specs.Graph.{arcs}
@@ -40,10 +42,16 @@ next_reached c ready r s l x = go (has_ended c.deal s.book) refl
     go : (y : Bool) → has_ended c.deal s.book ≡ y → Reached c (suc r) (cond y s (round c s))
     go false e =
         let k = rounded c ready s x.good in
-        record { good = k.good; above = λ a la. up (the_horizon c.deal) r (height (history s.book a)) (height (history (round c s).book a)) l (x.above a la) (k.raises a la) }
+        record {
+          good = k.good;
+          above =
+              λ a la. up (the_horizon c.deal) r (height (history s.book a)) (height (history (round c s).book a)) l (x.above a la) (k.raises a la);
+        }
     go true e = record {
       good = x.good;
-      above = λ a la. let z = ltb-true _ _ (list_all-in (λ a. nat_lt (the_horizon c.deal) (height (history s.book a))) (arcs c.deal.graph) a e (in_range a (length c.deal.graph.arcs) la)) in omega arith;
+      above = λ a la. let z =
+          ltb-true _ _ (list_all-in (λ a. nat_lt (the_horizon c.deal) (height (history s.book a))) (arcs c.deal.graph) a e
+          (in_range a (length c.deal.graph.arcs) la)) in omega arith;
     }
 
 reached : (c : Cast) → IsReadyCast c → (r : ℕ) (s : State) → r ≤ the_horizon c.deal + 1 → IsGood c s → Reached c r (repeat r (round_unless_ended c) s)
@@ -55,7 +63,8 @@ unfolding finish
 all_rounds c ready s g = reached c ready (the_horizon c.deal + 1) s (omega arith) g
 
 pub ended_of : (d : Deal) (b : Histories) → ((a : ℕ) → a < length d.graph.arcs → the_horizon d < height (history b a)) → has_ended d b ≡ true
-ended_of d b h = list_all-from (λ a. nat_lt (the_horizon d) (height (history b a))) (arcs d.graph) (λ a i. lt-ltb _ _ (h a (from_range a (length d.graph.arcs) i)))
+ended_of d b h =
+    list_all-from (λ a. nat_lt (the_horizon d) (height (history b a))) (arcs d.graph) (λ a i. lt-ltb _ _ (h a (from_range a (length d.graph.arcs) i)))
 
 pub finishes_are_good : FinishesAreGood
 finishes_are_good c s ready g = let x = all_rounds c ready s g in (x.good, λ a l. let y = x.above a l in omega arith)
@@ -117,7 +126,8 @@ pub finish_heights : FinishHeights
 unfolding finish
 finish_heights c s a ready g l =
     let x = steady c ready (the_horizon c.deal + 1) s g in
-    last_height (the_horizon c.deal) (height (history s.book a)) (height (history (finish c s).book a)) ((finishes_are_good c s ready g).1 a l) (x.low a l) (x.high a l)
+    last_height (the_horizon c.deal) (height (history s.book a)) (height (history (finish c s).book a)) ((finishes_are_good c s ready g).1 a l)
+    (x.low a l) (x.high a l)
 
 -- Unfolding a finish.
 
@@ -129,4 +139,5 @@ pub finish_goes_on : FinishGoesOn
 unfolding finish
 finish_goes_on c s ready g e =
     let x = finishes_are_good c s ready g in
-    ap (repeat (the_horizon c.deal + 1) (round_unless_ended c)) (sym (round_goes_on c s e)) ∙ (repeat_first (the_horizon c.deal + 1) (round_unless_ended c) s ∙ round_rests c (finish c s) (ended_of c.deal (finish c s).book x.1))
+    ap (repeat (the_horizon c.deal + 1) (round_unless_ended c)) (sym (round_goes_on c s e))
+    ∙ (repeat_first (the_horizon c.deal + 1) (round_unless_ended c) s ∙ round_rests c (finish c s) (ended_of c.deal (finish c s).book x.1))

@@ -1,5 +1,6 @@
 -- A run begins in a good state, each event leaves the state good, and in a good state the book is legal and every conforming party is conducted.
-use Rattle.std.proofs.Common.{◌≡◌, ◌≢◌, ◌⊎◌, ℕ, suc, ◌<◌, ◌≤◌, ◌==◌, nat_lt, Bool, true, false, cond, List, [], ◌∷◌, ◌++◌, length, fold, Option, Some, None, refl, sym, ap, ◌∙◌, subst, inl, inr, arith, eqb-true, ltb-true, ltb-false, set, slice_set, replicate, get_or, All}
+use Rattle.std.proofs.Common.{◌≡◌, ◌≢◌, ◌⊎◌, ℕ, suc, ◌<◌, ◌≤◌, ◌==◌, nat_lt, Bool, true, false, cond, List, [], ◌∷◌, ◌++◌, length, fold, Option, Some}
+use Rattle.std.proofs.Common.{None, refl, sym, ap, ◌∙◌, subst, inl, inr, arith, eqb-true, ltb-true, ltb-false, set, slice_set, replicate, get_or, All}
 use Rattle.std.proofs.lemmas.Bool.{false≢true}
 use Rattle.std.proofs.lemmas.List.{get_or-set_same, get_or-set_other, length-set, length-replicate, get_or-replicate}
 use Rattle.std.proofs.Math.ListN.{get_or-eq_default}
@@ -24,7 +25,8 @@ use Rattle.swap_laws.proofs.Machines.{knowledge_conducts}
 use Rattle.swap_laws.proofs.Conducting.{Next, next_legal, knows_all, next_call}
 use Rattle.ledger_core.specs.Ledger.{after_call}
 use Rattle.party_wallet.specs.Value.{signed_in}
-use Rattle.swap_run.specs.Run.{Cast, Notes, State, conforms, notes_of, signed_after, after_tick, after_move, known_up_to, look, make, next_of, act, step, no_histories, no_notes, start, run}
+use Rattle.swap_run.specs.Run.{Cast, Notes, State, conforms, notes_of, signed_after, after_tick, after_move, known_up_to, look, make, next_of, act}
+use Rattle.swap_run.specs.Run.{step, no_histories, no_notes, start, run}
 use Rattle.swap_run.specs.Laws.{IsReadyCast, AreGoodNotes, IsGood, StartIsGood, StepsAreGood, GoodIsKept, RunsAreKept}
 use Rattle.swap_run.proofs.Entries.{next_tick, next_move, or_claim}
 use Rattle.swap_run.proofs.Noted.{Holds, hold_other, hold_look, hold_act, due_now}
@@ -54,19 +56,26 @@ pub in_book : (c : Cast) (s : State) (a : ℕ) → IsGood c s → a < length c.d
 in_book c s a g l = subst (λ m. a < m) (sym g.legal.one_each) l
 
 -- an entry of nobody who conforms
-pub good_other : (c : Cast) (s : State) (a : ℕ) (k : List Entry) (by : Sender) (w : What) → a < length c.deal.graph.arcs → Next c.deal a (history s.book a) k by w → ((v : ℕ) → conforms c v ≡ true → sent_by v by ≡ false) → IsGood c s
+pub good_other : (c : Cast) (s : State) (a : ℕ) (k : List Entry) (by : Sender) (w : What) → a < length c.deal.graph.arcs
+    → Next c.deal a (history s.book a) k by w → ((v : ℕ) → conforms c v ≡ true → sent_by v by ≡ false) → IsGood c s
     → IsGood c (record { book = set s.book a k; notes = s.notes })
 good_other c s a k by w below n others g = record {
   legal = next_legal c.deal s.book a k by w (in_book c s a g below) n g.legal;
   one_each = g.one_each;
-  notes = λ v l cv. good_notes c _ v (notes_of s v) refl (hold_other c.deal s.book (notes_of s v) v a k by w (in_book c s a g below) n (others v cv) (holds c s v (g.notes v l cv)));
+  notes =
+      λ v l cv. good_notes c _ v (notes_of s v) refl (hold_other c.deal s.book (notes_of s v) v a k by w (in_book c s a g below) n (others v cv)
+      (holds c s v (g.notes v l cv)));
 }
 
 pub good_tick : (c : Cast) (s : State) (a k : ℕ) → CanTick c.deal a k → IsGood c s → IsGood c (step c s (Tick a k))
-good_tick c s a k can g = good_other c s a (after_tick k (history s.book a)) Clock (Ticks k) can.arc (next_tick c.deal a (history s.book a) k can.some can.few) (λ v cv. refl) g
+good_tick c s a k can g =
+    good_other c s a (after_tick k (history s.book a)) Clock (Ticks k) can.arc (next_tick c.deal a (history s.book a) k can.some can.few) (λ v cv.
+    refl) g
 
 good_call : (c : Cast) (s : State) (p : ℕ) (mv : Move) → CanCall c.deal c.conforming p mv → IsGood c s → IsGood c (step c s (Calls p mv))
-good_call c s p mv can g = good_other c s (arc_of mv) (after_move c.deal (arc_of mv) p (call_of c.deal mv) (history s.book (arc_of mv))) (Party p) (Made (or_claim (call_of c.deal mv))) can.fits.arc
+good_call c s p mv can g =
+    good_other c s (arc_of mv) (after_move c.deal (arc_of mv) p (call_of c.deal mv) (history s.book (arc_of mv))) (Party p)
+    (Made (or_claim (call_of c.deal mv))) can.fits.arc
     (next_move c.deal (arc_of mv) (history s.book (arc_of mv)) p (call_of c.deal mv) can.fits.adjacent can.fits.fits)
     (λ v cv. not-true (p == v) (λ e. false≢true (sym can.deviates ∙ (ap (conforms c) (eqb-true p v e) ∙ cv)))) g
 
@@ -79,12 +88,16 @@ good_look c s v a lv below g = record {
   where
     go : (u : ℕ) → u < c.deal.graph.n → conforms c u ≡ true → (u ≡ v) ⊎ (u ≢ v) → AreGoodNotes c (look s v a) u
     go u l cu (inl e) = subst (AreGoodNotes c (look s v a)) (sym e)
-        (good_notes c (look s v a) v (known_up_to (notes_of s v) a (history s.book a)) (note_same s s.book v (known_up_to (notes_of s v) a (history s.book a)) (subst (λ m. v < m) (sym g.one_each) lv))
+        (good_notes c (look s v a) v (known_up_to (notes_of s v) a (history s.book a))
+        (note_same s s.book v (known_up_to (notes_of s v) a (history s.book a)) (subst (λ m. v < m) (sym g.one_each) lv))
         (hold_look c.deal s.book (notes_of s v) v a below g.legal (holds c s v (g.notes v lv (ap (conforms c) (sym e) ∙ cu)))))
-    go u l cu (inr n) = good_notes c (look s v a) u (notes_of s u) (note_other s s.book v u (known_up_to (notes_of s v) a (history s.book a)) n) (holds c s u (g.notes u l cu))
+    go u l cu (inr n) =
+        good_notes c (look s v a) u (notes_of s u) (note_other s s.book v u (known_up_to (notes_of s v) a (history s.book a)) n)
+        (holds c s u (g.notes u l cu))
 
 -- a due call of v
-pub good_make : (c : Cast) (s : State) (v : ℕ) (x : Action) → IsReadyCast c → v < c.deal.graph.n → conforms c v ≡ true → IsIn x (due c.deal v (c.wallet v) (signed_in (notes_of s v).signed) (notes_of s v).known) → IsGood c s → IsGood c (make c.deal s v (Some x))
+pub good_make : (c : Cast) (s : State) (v : ℕ) (x : Action) → IsReadyCast c → v < c.deal.graph.n → conforms c v ≡ true
+    → IsIn x (due c.deal v (c.wallet v) (signed_in (notes_of s v).signed) (notes_of s v).known) → IsGood c s → IsGood c (make c.deal s v (Some x))
 good_make c s v x ready lv cv i g =
     let hv = holds c s v (g.notes v lv cv) in
     let is = due_now c.deal s.book (notes_of s v) v (c.wallet v) x (ready.wallets v lv cv) ready.accepted i hv in
@@ -96,13 +109,23 @@ good_make c s v x ready lv cv i g =
       notes = λ u l cu. go u l cu below n (same_or_not u v);
     }
   where
-    go : (u : ℕ) → u < c.deal.graph.n → conforms c u ≡ true → x.arc < length s.book → Next c.deal x.arc (history s.book x.arc) (after_call c.deal x.arc v x.call (history s.book x.arc)) (Party v) (Made x.call) → (u ≡ v) ⊎ (u ≢ v) → AreGoodNotes c (make c.deal s v (Some x)) u
+    go : (u : ℕ) → u < c.deal.graph.n → conforms c u ≡ true → x.arc < length s.book
+        → Next c.deal x.arc (history s.book x.arc) (after_call c.deal x.arc v x.call (history s.book x.arc)) (Party v) (Made x.call) → (u ≡ v) ⊎ (u ≢ v)
+        → AreGoodNotes c (make c.deal s v (Some x)) u
     go u l cu below n (inl e) = subst (AreGoodNotes c (make c.deal s v (Some x))) (sym e)
-        (good_notes c (make c.deal s v (Some x)) v (record { known = set (notes_of s v).known x.arc (after_call c.deal x.arc v x.call (history s.book x.arc)); signed = signed_after (notes_of s v).signed x.call })
+        (good_notes c (make c.deal s v (Some x)) v (record {
+          known =
+              set (notes_of s v).known x.arc (after_call c.deal x.arc v x.call (history s.book x.arc));
+          signed =
+              signed_after (notes_of s v).signed x.call;
+        })
         (note_same s (set s.book x.arc (after_call c.deal x.arc v x.call (history s.book x.arc))) v _ (subst (λ m. v < m) (sym g.one_each) lv))
         (hold_act c.deal s.book (notes_of s v) v (c.wallet v) x (ready.wallets v lv cv) ready.accepted g.legal i (holds c s v (g.notes v lv cv))))
-    go u l cu below n (inr apart) = good_notes c (make c.deal s v (Some x)) u (notes_of s u) (note_other s (set s.book x.arc (after_call c.deal x.arc v x.call (history s.book x.arc))) v u _ apart)
-        (hold_other c.deal s.book (notes_of s u) u x.arc (after_call c.deal x.arc v x.call (history s.book x.arc)) (Party v) (Made x.call) below n (not-true (v == u) (λ e. apart (sym (eqb-true v u e)))) (holds c s u (g.notes u l cu)))
+    go u l cu below n (inr apart) =
+        good_notes c (make c.deal s v (Some x)) u (notes_of s u)
+        (note_other s (set s.book x.arc (after_call c.deal x.arc v x.call (history s.book x.arc))) v u _ apart)
+        (hold_other c.deal s.book (notes_of s u) u x.arc (after_call c.deal x.arc v x.call (history s.book x.arc)) (Party v) (Made x.call) below n
+        (not-true (v == u) (λ e. apart (sym (eqb-true v u e)))) (holds c s u (g.notes u l cu)))
 
 -- the first of a list stands in it
 pub first_in : {A : Type 0} (xs : List A) (x : A) → first xs ≡ Some x → IsIn x xs
@@ -179,12 +202,15 @@ start_is_good c ready = record {
 pub good_is_kept : GoodIsKept
 good_is_kept c s ready g = record {
   legal = g.legal;
-  conducted = λ v l cv. let n = g.notes v l cv in knowledge_conducts c.deal (notes_of s v).known s.book (signed_in (notes_of s v).signed) v g.legal n.knows n.sound.rules;
+  conducted = λ v l cv. let n =
+      g.notes v l cv in knowledge_conducts c.deal (notes_of s v).known s.book (signed_in (notes_of s v).signed) v g.legal n.knows n.sound.rules;
 }
 
-pub runs_are_good : (c : Cast) (events : List Event) (s : State) → IsReadyCast c → All (CanStep c.deal c.conforming) events → IsGood c s → IsGood c (fold (step c) s events)
+pub runs_are_good : (c : Cast) (events : List Event) (s : State) → IsReadyCast c → All (CanStep c.deal c.conforming) events → IsGood c s
+    → IsGood c (fold (step c) s events)
 runs_are_good c [] s ready all g = g
-runs_are_good c (e ∷ events) s ready all g = runs_are_good c events (step c s e) ready (λ k d l. all (suc k) d (omega arith)) (steps_are_good c s e ready (all 0 e (omega arith)) g)
+runs_are_good c (e ∷ events) s ready all g =
+    runs_are_good c events (step c s e) ready (λ k d l. all (suc k) d (omega arith)) (steps_are_good c s e ready (all 0 e (omega arith)) g)
 
 pub runs_are_kept : RunsAreKept
 runs_are_kept c events ready all = good_is_kept c (run c events) ready (runs_are_good c events (start c.deal) ready all (start_is_good c ready))

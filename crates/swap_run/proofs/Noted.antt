@@ -1,5 +1,6 @@
 -- What a conforming party has noted stays right: after entries of others, a look of its own, and a due call of its own.
-use Rattle.std.proofs.Common.{append_assoc, ◌≡◌, ◌≢◌, ◌⊎◌, ℕ, ◌<◌, ◌≤◌, ◌==◌, nat_lt, Bool, true, false, cond, List, [], ◌∷◌, ◌++◌, length, Option, Some, None, refl, sym, ap, ◌∙◌, subst, inl, inr, eqb-true, eq-eqb, ltb-true, ltb-false, arith, zero-add, set}
+use Rattle.std.proofs.Common.{append_assoc, ◌≡◌, ◌≢◌, ◌⊎◌, ℕ, ◌<◌, ◌≤◌, ◌==◌, nat_lt, Bool, true, false, cond, List, [], ◌∷◌, ◌++◌, length, Option}
+use Rattle.std.proofs.Common.{Some, None, refl, sym, ap, ◌∙◌, subst, inl, inr, eqb-true, eq-eqb, ltb-true, ltb-false, arith, zero-add, set}
 use Rattle.std.proofs.lemmas.List.{length-set, set-set}
 use Rattle.std.proofs.lemmas.List.FromFn.{get_or-map-range_with_len, length-map-range_with_len}
 use Rattle.std.proofs.Math.ListN.{get_or-eq_default}
@@ -55,7 +56,8 @@ signed_at signed c below i = go (nat_lt i (length signed)) refl
         let le : length signed ≤ i = ltb-false i (length signed) e in
         get_or-eq_default (signed_after signed c) None (subst (λ m. m ≤ i) (sym (signed_length signed c)) le) ∙ sym (none_above signed c below i le)
 
-signed_is : (signed : List (Option Hashkey)) (c : Call) → ((key : Hashkey) → c ≡ Unlock key → key.lock < length signed) → signed_in (signed_after signed c) ≡ noted (signed_in signed) c
+signed_is : (signed : List (Option Hashkey)) (c : Call) → ((key : Hashkey) → c ≡ Unlock key → key.lock < length signed)
+    → signed_in (signed_after signed c) ≡ noted (signed_in signed) c
 signed_is signed c below = λ j i. signed_at signed c below i j
 
 -- Notes of v that are right over a book.
@@ -80,24 +82,32 @@ knows_on d v a k h g s w kn (Pushed e q es ew le) other = record {
     at x (inr (inl z)) = ap (λ y. sent_by v y.sender) z ∙ (ap (sent_by v) es ∙ other)
     at x (inr (inr z)) = absurd z
 
-pub hold_other : (d : Deal) (b : Histories) (n : Notes) (v a : ℕ) (k : List Entry) (s : Sender) (w : What) → a < length b → Next d a (history b a) k s w → sent_by v s ≡ false → Holds d b n v → Holds d (set b a k) n v
+pub hold_other : (d : Deal) (b : Histories) (n : Notes) (v a : ℕ) (k : List Entry) (s : Sender) (w : What) → a < length b → Next d a (history b a) k s w
+    → sent_by v s ≡ false → Holds d b n v → Holds d (set b a k) n v
 hold_other d b n v a k s w below next other h = record { one_each = h.one_each; places = h.places; knows = λ c. at c (same_or_not c a); sound = h.sound }
   where
     at : (c : ℕ) → (c ≡ a) ⊎ (c ≢ a) → Knows v (history n.known c) (history (set b a k) c)
-    at c (inl e) = subst (λ z. Knows v (history n.known z) (history (set b a k) z)) (sym e) (subst (Knows v (history n.known a)) (sym (history_same b a k below)) (knows_on d v a (history n.known a) (history b a) k s w (h.knows a) next other))
+    at c (inl e) =
+        subst (λ z. Knows v (history n.known z) (history (set b a k) z)) (sym e)
+        (subst (Knows v (history n.known a)) (sym (history_same b a k below))
+        (knows_on d v a (history n.known a) (history b a) k s w (h.knows a) next other))
     at c (inr e) = subst (Knows v (history n.known c)) (sym (history_other b a c k e)) (h.knows c)
 
 -- A look.
 
 -- v knows the ledger of arc a up to its end, and the others as before
-knows_end : (v : ℕ) (b known c : Histories) (a : ℕ) (h : List Entry) → a < length known → history c a ≡ h → ((z : ℕ) → z ≢ a → Knows v (history known z) (history c z)) → (z : ℕ) → Knows v (history (set known a h) z) (history c z)
+knows_end : (v : ℕ) (b known c : Histories) (a : ℕ) (h : List Entry) → a < length known → history c a ≡ h
+    → ((z : ℕ) → z ≢ a → Knows v (history known z) (history c z)) → (z : ℕ) → Knows v (history (set known a h) z) (history c z)
 knows_end v b known c a h below whole others z = go (same_or_not z a)
   where
     go : (z ≡ a) ⊎ (z ≢ a) → Knows v (history (set known a h) z) (history c z)
-    go (inl e) = subst (λ y. Knows v (history (set known a h) y) (history c y)) (sym e) (subst (λ l. Knows v l (history c a)) (sym (history_same known a h below)) (subst (Knows v h) (sym whole) (knows_all v h)))
+    go (inl e) =
+        subst (λ y. Knows v (history (set known a h) y) (history c y)) (sym e)
+        (subst (λ l. Knows v l (history c a)) (sym (history_same known a h below)) (subst (Knows v h) (sym whole) (knows_all v h)))
     go (inr e) = subst (λ l. Knows v l (history c z)) (sym (history_other known a z h e)) (others z e)
 
-pub hold_look : (d : Deal) (b : Histories) (n : Notes) (v a : ℕ) → a < length d.graph.arcs → IsLegalBook d b → Holds d b n v → Holds d b (known_up_to n a (history b a)) v
+pub hold_look : (d : Deal) (b : Histories) (n : Notes) (v a : ℕ) → a < length d.graph.arcs → IsLegalBook d b → Holds d b n v
+    → Holds d b (known_up_to n a (history b a)) v
 hold_look d b n v a below legal h =
     let kn = h.knows a in
     let here : a < length n.known = subst (λ m. a < m) (sym h.one_each) below in
@@ -106,35 +116,51 @@ hold_look d b n v a below legal h =
       one_each = length-set n.known a (history b a) ∙ h.one_each;
       places = h.places;
       knows = knows_end v b n.known b a (history b a) here refl (λ z e. h.knows z);
-      sound = subst (λ l. IsSound d (set n.known a l) (signed_in n.signed) v) (sym kn.whole) (learn_sound d n.known (signed_in n.signed) v a kn.rest here kn.others (subst (IsLegal d a) kn.whole (legal.legal a there)) h.sound);
+      sound =
+          subst (λ l. IsSound d (set n.known a l) (signed_in n.signed) v) (sym kn.whole)
+          (learn_sound d n.known (signed_in n.signed) v a kn.rest here kn.others (subst (IsLegal d a) kn.whole (legal.legal a there)) h.sound);
     }
 
 -- A due call.
 
-pub due_now : (d : Deal) (b : Histories) (n : Notes) (v : ℕ) (w : Wallet) (x : Action) → IsWallet d v w → IsAccepted d → IsIn x (due d v w (signed_in n.signed) n.known) → Holds d b n v → IsDue d v w (signed_in n.signed) n.known n.known x.arc x.call
-due_now d b n v w x wallet accepted i h = is_due d v w (signed_in n.signed) n.known n.known h.sound.legal h.sound.rules (λ a. knows_all v (history n.known a)) wallet accepted x i
+pub due_now : (d : Deal) (b : Histories) (n : Notes) (v : ℕ) (w : Wallet) (x : Action) → IsWallet d v w → IsAccepted d
+    → IsIn x (due d v w (signed_in n.signed) n.known) → Holds d b n v → IsDue d v w (signed_in n.signed) n.known n.known x.arc x.call
+due_now d b n v w x wallet accepted i h =
+    is_due d v w (signed_in n.signed) n.known n.known h.sound.legal h.sound.rules (λ a. knows_all v (history n.known a)) wallet accepted x i
 
-pub hold_act : (d : Deal) (b : Histories) (n : Notes) (v : ℕ) (w : Wallet) (x : Action) → IsWallet d v w → IsAccepted d → IsLegalBook d b → IsIn x (due d v w (signed_in n.signed) n.known) → Holds d b n v
-    → Holds d (set b x.arc (after_call d x.arc v x.call (history b x.arc))) (record { known = set n.known x.arc (after_call d x.arc v x.call (history b x.arc)); signed = signed_after n.signed x.call }) v
+pub hold_act : (d : Deal) (b : Histories) (n : Notes) (v : ℕ) (w : Wallet) (x : Action) → IsWallet d v w → IsAccepted d → IsLegalBook d b
+    → IsIn x (due d v w (signed_in n.signed) n.known) → Holds d b n v
+    → Holds d (set b x.arc (after_call d x.arc v x.call (history b x.arc))) (record {
+      known =
+          set n.known x.arc (after_call d x.arc v x.call (history b x.arc));
+      signed = signed_after n.signed x.call;
+    }) v
 hold_act d b n v w x wallet accepted legal i h =
     let is = due_now d b n v w x wallet accepted i h in
     let kn = h.knows x.arc in
     let here : x.arc < length n.known = subst (λ m. x.arc < m) (sym h.one_each) is.below in
     let there : x.arc < length b = subst (λ m. x.arc < m) (sym legal.one_each) is.below in
-    let sound = call_sound d v w n.known (signed_in n.signed) x kn.rest wallet accepted i here kn.others (subst (IsLegal d x.arc) kn.whole (legal.legal x.arc there)) h.sound in
+    let sound =
+    call_sound d v w n.known (signed_in n.signed) x kn.rest wallet accepted i here kn.others
+    (subst (IsLegal d x.arc) kn.whole (legal.legal x.arc there)) h.sound in
     let one : IsSound d (set n.known x.arc (after_call d x.arc v x.call (history n.known x.arc ++ kn.rest))) (noted (signed_in n.signed) x.call) v =
-    subst (λ l. IsSound d l (noted (signed_in n.signed) x.call) v) (set-set n.known x.arc (history n.known x.arc ++ kn.rest) (after_call d x.arc v x.call (history n.known x.arc ++ kn.rest))) sound in
+    subst (λ l. IsSound d l (noted (signed_in n.signed) x.call) v)
+    (set-set n.known x.arc (history n.known x.arc ++ kn.rest) (after_call d x.arc v x.call (history n.known x.arc ++ kn.rest))) sound in
     let two : IsSound d (set n.known x.arc (after_call d x.arc v x.call (history b x.arc))) (noted (signed_in n.signed) x.call) v =
     subst (λ l. IsSound d (set n.known x.arc (after_call d x.arc v x.call l)) (noted (signed_in n.signed) x.call) v) (sym kn.whole) one in
     record {
       one_each = length-set n.known x.arc (after_call d x.arc v x.call (history b x.arc)) ∙ h.one_each;
       places = signed_length n.signed x.call ∙ h.places;
-      knows = knows_end v b n.known (set b x.arc (after_call d x.arc v x.call (history b x.arc))) x.arc (after_call d x.arc v x.call (history b x.arc)) here (history_same b x.arc (after_call d x.arc v x.call (history b x.arc)) there)
+      knows =
+          knows_end v b n.known (set b x.arc (after_call d x.arc v x.call (history b x.arc))) x.arc (after_call d x.arc v x.call (history b x.arc)) here
+          (history_same b x.arc (after_call d x.arc v x.call (history b x.arc)) there)
           (λ z e. subst (Knows v (history n.known z)) (sym (history_other b x.arc z (after_call d x.arc v x.call (history b x.arc)) e)) (h.knows z));
       sound = subst (λ f. IsSound d (set n.known x.arc (after_call d x.arc v x.call (history b x.arc))) f v) (sym (signed_is n.signed x.call (low is))) two;
     }
   where
     low : IsDue d v w (signed_in n.signed) n.known n.known x.arc x.call → (key : Hashkey) → x.call ≡ Unlock key → key.lock < length n.signed
     low is key e =
-        let has : noted (signed_in n.signed) x.call key.lock ≡ Some key = ap (λ c. noted (signed_in n.signed) c key.lock) e ∙ ap (λ z. cond z (Some key) (signed_in n.signed key.lock)) (eq-eqb key.lock key.lock refl) in
+        let has : noted (signed_in n.signed) x.call key.lock ≡ Some key =
+        ap (λ c. noted (signed_in n.signed) c key.lock) e
+        ∙ ap (λ z. cond z (Some key) (signed_in n.signed key.lock)) (eq-eqb key.lock key.lock refl) in
         subst (λ m. key.lock < m) (sym h.places) (is.keys key.lock key has).below

@@ -1,5 +1,6 @@
 -- A round raises each ledger that isn't above the horizon by one height, so that the rounds that are left count down.
-use Rattle.std.proofs.Common.{◌≡◌, ℕ, suc, zero, ◌+◌, ◌-◌, ◌<◌, ◌≤◌, nat_lt, nat_le, max, Bool, true, false, cond, List, [], ◌∷◌, length, fold, refl, ap, ap₂, ◌∙◌, inl, inr, arith, leb-false, ltb-false}
+use Rattle.std.proofs.Common.{◌≡◌, ℕ, suc, zero, ◌+◌, ◌-◌, ◌<◌, ◌≤◌, nat_lt, nat_le, max, Bool, true, false, cond, List, [], ◌∷◌, length, fold, refl}
+use Rattle.std.proofs.Common.{ap, ap₂, ◌∙◌, inl, inr, arith, leb-false, ltb-false}
 use Rattle.std.specs.List.{range_with_len}
 use Rattle.swap_base.specs.Lists.{IsIn, greatest}
 use Rattle.swap_base.proofs.Lists.{greatest-in, some_fails_all, from_range}
@@ -87,7 +88,9 @@ rounds_count_down c s ready g e =
     let f = some_fails_all (λ a. nat_lt (the_horizon c.deal) (height (history s.book a))) (arcs c.deal.graph) e in
     let low : height (history s.book f.0) ≤ the_horizon c.deal = ltb-false (the_horizon c.deal) (height (history s.book f.0)) f.2 in
     let most = greatest-in (λ a. (the_horizon c.deal + 1) - height (history s.book a)) (arcs c.deal.graph) f.0 f.1 in
-    let same = greatest_less (λ a. (the_horizon c.deal + 1) - height (history s.book a)) (λ a. (the_horizon c.deal + 1) - height (history (round c s).book a)) (arcs c.deal.graph)
+    let same =
+    greatest_less (λ a. (the_horizon c.deal + 1) - height (history s.book a)) (λ a.
+    (the_horizon c.deal + 1) - height (history (round c s).book a)) (arcs c.deal.graph)
     (λ a i. lacks_less c.deal (height (history s.book a)) (height (history (round c s).book a)) (r.raises a (from_range a (length c.deal.graph.arcs) i))) in
     sum (the_horizon c.deal) (height (history s.book f.0)) (rounds_left c.deal s.book) (rounds_left c.deal (round c s).book) low most same
   where

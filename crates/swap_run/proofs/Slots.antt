@@ -1,5 +1,6 @@
 -- What a conforming party may still call: at most one call of each rule on each arc, and each due call uses one.
-use Rattle.std.proofs.Common.{append_assoc, length-append, count_by, ◌≡◌, ◌≢◌, ◌⊎◌, ℕ, suc, ◌+◌, ◌*◌, ◌<◌, ◌≤◌, Bool, true, false, not, List, [], ◌∷◌, ◌++◌, length, refl, sym, ap, ◌∙◌, inl, inr, arith, map, set, subst}
+use Rattle.std.proofs.Common.{append_assoc, length-append, count_by, ◌≡◌, ◌≢◌, ◌⊎◌, ℕ, suc, ◌+◌, ◌*◌, ◌<◌, ◌≤◌, Bool, true, false, not, List, [], ◌∷◌}
+use Rattle.std.proofs.Common.{◌++◌, length, refl, sym, ap, ◌∙◌, inl, inr, arith, map, set, subst}
 use Rattle.std.specs.List.{flat_map}
 use Rattle.std.proofs.lemmas.List.FromFn.{length-map-range_with_len}
 use Rattle.std.proofs.lemmas.List.Sums.{count_by-le-length}
@@ -43,8 +44,10 @@ slots_for d [] = none (length d.graph.arcs)
   where
     none : (n : ℕ) → 0 ≡ 0 * n
     none n = omega arith
-slots_for d (r ∷ rs) = one_more (length d.graph.arcs) (length rs) (length (slots_of d r)) (length (flat_map (slots_of d) rs)) (length (flat_map (slots_of d) (r ∷ rs)))
-    (length-append (slots_of d r) (flat_map (slots_of d) rs)) (length-map-range_with_len (λ a. record { rule = r; arc = a }) 0 (length d.graph.arcs)) (slots_for d rs)
+slots_for d (r ∷ rs) =
+    one_more (length d.graph.arcs) (length rs) (length (slots_of d r)) (length (flat_map (slots_of d) rs)) (length (flat_map (slots_of d) (r ∷ rs)))
+    (length-append (slots_of d r) (flat_map (slots_of d) rs)) (length-map-range_with_len (λ a. record { rule = r; arc = a }) 0 (length d.graph.arcs))
+    (slots_for d rs)
 
 number_of_slots : (d : Deal) → length (slots d) ≡ most_acts d
 number_of_slots d = slots_for d (rules_of d) ∙ ap (λ m. m * length d.graph.arcs) (number_of_rules d)
@@ -61,18 +64,26 @@ pub left_most : (d : Deal) (v : ℕ) (known : Histories) → left d v known ≤ 
 left_most d v known = subst (λ n. left d v known ≤ n) (number_of_slots d) (count_by-le-length (open_slot v known) (slots d))
 
 slot_in : (d : Deal) (r : Rule) (a : ℕ) → IsIn r (rules_of d) → a < length d.graph.arcs → IsIn (record { rule = r; arc = a }) (slots d)
-slot_in d r a i l = in_flat_map (slots_of d) (rules_of d) r (record { rule = r; arc = a }) i (in_map (λ (a : ℕ). let s : Slot = record { rule = r; arc = a } in s) (arcs d.graph) a (in_range a (length d.graph.arcs) l))
+slot_in d r a i l =
+    in_flat_map (slots_of d) (rules_of d) r (record { rule = r; arc = a }) i (in_map (λ (a : ℕ). let s : Slot = record { rule = r; arc = a } in
+    s) (arcs d.graph) a (in_range a (length d.graph.arcs) l))
 
 -- a call that is the first of its rule leaves one slot less
-pub left_less : (d : Deal) (v : ℕ) (known : Histories) (h book : List Entry) (a : ℕ) (e : Entry) (r : Rule) → history (set known a h) a ≡ book ++ e ∷ [] → Begins (history known a) book → IsIn r (rules_of d) → a < length d.graph.arcs
+pub left_less : (d : Deal) (v : ℕ) (known : Histories) (h book : List Entry) (a : ℕ) (e : Entry) (r : Rule) → history (set known a h) a ≡ book ++ e ∷ []
+    → Begins (history known a) book → IsIn r (rules_of d) → a < length d.graph.arcs
     → has_called v (test_of r) (history known a) ≡ false → test_of r (call_by v e) ≡ true → left d v (set known a h) + 1 ≤ left d v known
 left_less d v known h book a e r there b i l f p = count_less (open_slot v known) (open_slot v (set known a h)) (slots d)
-    (λ z q. not-mono (has_called v (test_of z.rule) (history known z.arc)) (has_called v (test_of z.rule) (history (set known a h) z.arc)) (λ y. more z y (same_or_not z.arc a)) q)
+    (λ z q. not-mono (has_called v (test_of z.rule) (history known z.arc)) (has_called v (test_of z.rule) (history (set known a h) z.arc)) (λ y.
+    more z y (same_or_not z.arc a)) q)
     (record { rule = r; arc = a }) (slot_in d r a i l) (ap not f)
-    (ap not (ap (has_called v (test_of r)) there ∙ list_any-in (λ y. test_of r (call_by v y)) (book ++ e ∷ []) e p (in_append book (e ∷ []) e (inr (inl refl)))))
+    (ap not (ap (has_called v (test_of r)) there
+    ∙ list_any-in (λ y. test_of r (call_by v y)) (book ++ e ∷ []) e p (in_append book (e ∷ []) e (inr (inl refl)))))
   where
-    more : (z : Slot) → has_called v (test_of z.rule) (history known z.arc) ≡ true → (z.arc ≡ a) ⊎ (z.arc ≢ a) → has_called v (test_of z.rule) (history (set known a h) z.arc) ≡ true
+    more : (z : Slot) → has_called v (test_of z.rule) (history known z.arc) ≡ true → (z.arc ≡ a) ⊎ (z.arc ≢ a)
+        → has_called v (test_of z.rule) (history (set known a h) z.arc) ≡ true
     more z y (inl q) =
-        ap (λ c. has_called v (test_of z.rule) (history (set known a h) c)) q ∙ (ap (has_called v (test_of z.rule)) (there ∙ (ap (λ l. l ++ e ∷ []) b.1 ∙ append_assoc (history known a) b.0 (e ∷ [])))
-        ∙ list_any-more (λ y. test_of z.rule (call_by v y)) (history known a) (b.0 ++ e ∷ []) (ap (λ c. has_called v (test_of z.rule) (history known c)) (sym q) ∙ y))
+        ap (λ c. has_called v (test_of z.rule) (history (set known a h) c)) q
+        ∙ (ap (has_called v (test_of z.rule)) (there ∙ (ap (λ l. l ++ e ∷ []) b.1 ∙ append_assoc (history known a) b.0 (e ∷ [])))
+        ∙ list_any-more (λ y. test_of z.rule (call_by v y)) (history known a) (b.0 ++ e ∷ [])
+        (ap (λ c. has_called v (test_of z.rule) (history known c)) (sym q) ∙ y))
     more z y (inr q) = ap (has_called v (test_of z.rule)) (history_other known a z.arc h q) ∙ y

@@ -1,5 +1,6 @@
 -- The ticks of a round raise each ledger that isn't above the horizon by one height.
-use Rattle.std.proofs.Common.{count_by, ◌≡◌, ◌≢◌, ◌⊎◌, ℕ, suc, zero, ◌+◌, ◌*◌, ◌<◌, ◌≤◌, nat_lt, nat_le, Bool, true, false, cond, ◌||◌, List, [], ◌∷◌, ◌++◌, length, fold, refl, sym, ap, ap₂, ◌∙◌, subst, inl, inr, arith, leb-true, le-ltb, mul-le-mul_right}
+use Rattle.std.proofs.Common.{count_by, ◌≡◌, ◌≢◌, ◌⊎◌, ℕ, suc, zero, ◌+◌, ◌*◌, ◌<◌, ◌≤◌, nat_lt, nat_le, Bool, true, false, cond, ◌||◌, List, [], ◌∷◌}
+use Rattle.std.proofs.Common.{◌++◌, length, fold, refl, sym, ap, ap₂, ◌∙◌, subst, inl, inr, arith, leb-true, le-ltb, mul-le-mul_right}
 use Rattle.std.specs.List.{range_with_len}
 use Rattle.std.proofs.lemmas.List.Sums.{sum_by-append, sum_by-cons}
 use Rattle.swap_base.proofs.Lists.{at_moment, all_moments_front, grow}
@@ -40,7 +41,8 @@ clocks_push h e =
     let e3 : clocks [] ≡ 0 = refl in
     omega arith
 
-tick_some : (d : Deal) (a : ℕ) (past : List Entry) (s : Sender) (w : What) (at : ℕ) (r : Reply) → IsLegalEntry d a past s w at r → ◌≤◌ (cond {A = ℕ} (is_tick s) 1 0) (ticks_in w)
+tick_some : (d : Deal) (a : ℕ) (past : List Entry) (s : Sender) (w : What) (at : ℕ) (r : Reply) → IsLegalEntry d a past s w at r
+    → ◌≤◌ (cond {A = ℕ} (is_tick s) 1 0) (ticks_in w)
 tick_some d a past (Party p) w at r l = omega arith
 tick_some d a past Clock (Ticks k) at r l = l.some
 tick_some d a past Clock (Made c) at r l = absurd l
@@ -102,10 +104,13 @@ module _ (c : Cast) (ready : IsReadyCast c) where
         good = steps_are_good c s (Tick a 1) ready (record { arc = l; some = omega arith; few = omega arith }) g;
         notes_same = refl;
         here = ap height (history_same s.book a (after_tick 1 (history s.book a)) (in_book c s a g l))
-            ∙ (tick_raises c.deal a (history s.book a) ready.accepted (g.legal.legal a (in_book c s a g l)) (leb-true (height (history s.book a)) (the_horizon c.deal) e)
+            ∙ (tick_raises c.deal a (history s.book a) ready.accepted (g.legal.legal a (in_book c s a g l))
+            (leb-true (height (history s.book a)) (the_horizon c.deal) e)
             ∙ sym (ap (λ z. cond {A = ℕ} z (height (history s.book a) + 1) (height (history s.book a))) e));
         others = λ z n. history_other s.book a z (after_tick 1 (history s.book a)) n;
-        grows = next_grows c.deal s.book a (after_tick 1 (history s.book a)) Clock (Ticks 1) (in_book c s a g l) (next_tick c.deal a (history s.book a) 1 (omega arith) (omega arith));
+        grows =
+            next_grows c.deal s.book a (after_tick 1 (history s.book a)) Clock (Ticks 1) (in_book c s a g l)
+            (next_tick c.deal a (history s.book a) 1 (omega arith) (omega arith));
       }
       go false e = record {
         good = g;
@@ -116,7 +121,8 @@ module _ (c : Cast) (ready : IsReadyCast c) where
       }
 
   pub ticks_all : (m k : ℕ) (s : State) → k + m ≤ length c.deal.graph.arcs → IsGood c s → Ticked c k m s (fold (tick_low c) s (range_with_len k m))
-  ticks_all zero k s l g = record { good = g; notes_same = refl; at = λ a low high. absurd (omega arith); below = λ a b. refl; grows = λ a. begins_refl (history s.book a) }
+  ticks_all zero k s l g =
+      record { good = g; notes_same = refl; at = λ a low high. absurd (omega arith); below = λ a b. refl; grows = λ a. begins_refl (history s.book a) }
   ticks_all (suc m) k s l g =
       let one = tick_one s k (omega arith) g in
       let x = ticks_all m (k + 1) (tick_low c s k) (omega arith) one.good in
@@ -132,5 +138,7 @@ module _ (c : Cast) (ready : IsReadyCast c) where
       }
         where
           at : (a : ℕ) → k ≤ a → a < k + suc m → (a ≡ k) ⊎ (a ≢ k) → height (history t.book a) ≡ raised c.deal (height (history s.book a))
-          at a lo hi (inl e) = subst (λ z. height (history t.book z) ≡ raised c.deal (height (history s.book z))) (sym e) (ap height (x.below k (omega arith)) ∙ one.here)
+          at a lo hi (inl e) =
+              subst (λ z. height (history t.book z) ≡ raised c.deal (height (history s.book z))) (sym e) (ap height (x.below k (omega arith))
+              ∙ one.here)
           at a lo hi (inr n) = x.at a (let q : ◌≢◌ {A = ℕ} a k = n in omega arith) (omega arith) ∙ ap (λ h. raised c.deal (height h)) (one.others a n)

@@ -1,5 +1,6 @@
 -- What a turn leaves: no ledger ticks, the others' notes stay, and a conforming party has seen each arc that touches it and has nothing due.
-use Rattle.std.proofs.Common.{◌≡◌, ◌≢◌, ◌⊎◌, ℕ, suc, zero, ◌+◌, ◌<◌, ◌==◌, Bool, true, false, cond, ◌||◌, List, [], ◌∷◌, ◌++◌, length, fold, Option, Some, None, refl, sym, ap, ◌∙◌, subst, inl, inr, arith, eq-eqb, set}
+use Rattle.std.proofs.Common.{◌≡◌, ◌≢◌, ◌⊎◌, ℕ, suc, zero, ◌+◌, ◌<◌, ◌==◌, Bool, true, false, cond, ◌||◌, List, [], ◌∷◌, ◌++◌, length, fold, Option}
+use Rattle.std.proofs.Common.{Some, None, refl, sym, ap, ◌∙◌, subst, inl, inr, arith, eq-eqb, set}
 use Rattle.std.proofs.lemmas.List.Sums.{sum_by-cons}
 use Rattle.swap_base.specs.Lists.{IsIn}
 use Rattle.swap_base.proofs.Lists.{in_filter, from_filter, from_range, or-right}
@@ -46,7 +47,8 @@ calm_more b c e x y = record {
   heights = λ a. y.heights a ∙ x.heights a;
 }
 
-calm_next : (d : Deal) (b : Histories) (a : ℕ) (k : List Entry) (v : ℕ) (c : Call) → a < length b → Next d a (history b a) k (Party v) (Made c) → Calm b (set b a k)
+calm_next : (d : Deal) (b : Histories) (a : ℕ) (k : List Entry) (v : ℕ) (c : Call) → a < length b → Next d a (history b a) k (Party v) (Made c)
+    → Calm b (set b a k)
 calm_next d b a k v c below n = record { grows = next_grows d b a k (Party v) (Made c) below n; heights = λ z. at z (same_or_not z a) }
   where
     flat : Next d a (history b a) k (Party v) (Made c) → height k ≡ height (history b a)
@@ -66,10 +68,12 @@ calm_next d b a k v c below n = record { grows = next_grows d b a k (Party v) (M
 near_in : (d : Deal) (v a : ℕ) → IsNear d v a → IsIn a (adjacent d v)
 near_in d v a (inl i) =
     let k = from_filter (λ a. party d a == v) a (arcs d.graph) i in
-    in_filter (λ a. (v == party d a) || (v == counterparty d a)) a (arcs d.graph) k.0 (or-left (v == party d a) _ (eq-eqb v (party d a) (sym (leaves d v a i).1)))
+    in_filter (λ a. (v == party d a) || (v == counterparty d a)) a (arcs d.graph) k.0
+    (or-left (v == party d a) _ (eq-eqb v (party d a) (sym (leaves d v a i).1)))
 near_in d v a (inr i) =
     let k = from_filter (λ a. counterparty d a == v) a (arcs d.graph) i in
-    in_filter (λ a. (v == party d a) || (v == counterparty d a)) a (arcs d.graph) k.0 (or-right (v == party d a) _ (eq-eqb v (counterparty d a) (sym (enters d v a i).1)))
+    in_filter (λ a. (v == party d a) || (v == counterparty d a)) a (arcs d.graph) k.0
+    (or-right (v == party d a) _ (eq-eqb v (counterparty d a) (sym (enters d v a i).1)))
 
 near_below : (d : Deal) (v a : ℕ) → IsIn a (adjacent d v) → a < length d.graph.arcs
 near_below d v a i = from_range a (length d.graph.arcs) (from_filter (λ a. (v == party d a) || (v == counterparty d a)) a (arcs d.graph) i).0
@@ -108,7 +112,9 @@ module _ (c : Cast) (ready : IsReadyCast c) (v : ℕ) (lv : v < c.deal.graph.n) 
 
   looks_others : (xs : List ℕ) (s : State) (u : ℕ) → u ≢ v → notes_of (fold look_at s xs) u ≡ notes_of s u
   looks_others [] s u n = refl
-  looks_others (x ∷ xs) s u n = looks_others xs (look_at s x) u n ∙ (ap (λ t. notes_of t u) (look_is s x) ∙ note_other s s.book v u (known_up_to (notes_of s v) x (history s.book x)) n)
+  looks_others (x ∷ xs) s u n =
+      looks_others xs (look_at s x) u n ∙ (ap (λ t. notes_of t u) (look_is s x)
+      ∙ note_other s s.book v u (known_up_to (notes_of s v) x (history s.book x)) n)
 
   -- v knows the ledger of a as it stands
   abbrev Sees : ℕ → State → Type 0
@@ -129,13 +135,18 @@ module _ (c : Cast) (ready : IsReadyCast c) (v : ℕ) (lv : v < c.deal.graph.n) 
     where
       go : (a ≡ x) ⊎ (a ≢ x) → Sees a (look_at s x)
       go (inl e) = subst (Sees a) (sym (look_is s x)) (look_here x a s l g e)
-      go (inr n) = subst (Sees a) (sym (look_is s x)) (ap (λ n. history n.known a) (noted_look s x g) ∙ (history_other (notes_of s v).known x a (history s.book x) n ∙ h))
+      go (inr n) =
+          subst (Sees a) (sym (look_is s x)) (ap (λ n. history n.known a) (noted_look s x g)
+          ∙ (history_other (notes_of s v).known x a (history s.book x) n ∙ h))
 
-  looks_see : (xs : List ℕ) (s : State) (a : ℕ) → ((a : ℕ) → IsIn a xs → a < length c.deal.graph.arcs) → IsGood c s → Sees a s ⊎ IsIn a xs → Sees a (fold look_at s xs)
+  looks_see : (xs : List ℕ) (s : State) (a : ℕ) → ((a : ℕ) → IsIn a xs → a < length c.deal.graph.arcs) → IsGood c s → Sees a s ⊎ IsIn a xs
+      → Sees a (fold look_at s xs)
   looks_see [] s a h g (inl e) = e
   looks_see [] s a h g (inr i) = absurd i
-  looks_see (x ∷ xs) s a h g (inl e) = looks_see xs (look_at s x) a (λ a i. h a (inr i)) (look_good s x (h x (inl refl)) g) (inl (look_sees x a s (h x (inl refl)) g (inr e)))
-  looks_see (x ∷ xs) s a h g (inr (inl e)) = looks_see xs (look_at s x) a (λ a i. h a (inr i)) (look_good s x (h x (inl refl)) g) (inl (look_sees x a s (h x (inl refl)) g (inl e)))
+  looks_see (x ∷ xs) s a h g (inl e) =
+      looks_see xs (look_at s x) a (λ a i. h a (inr i)) (look_good s x (h x (inl refl)) g) (inl (look_sees x a s (h x (inl refl)) g (inr e)))
+  looks_see (x ∷ xs) s a h g (inr (inl e)) =
+      looks_see xs (look_at s x) a (λ a i. h a (inr i)) (look_good s x (h x (inl refl)) g) (inl (look_sees x a s (h x (inl refl)) g (inl e)))
   looks_see (x ∷ xs) s a h g (inr (inr i)) = looks_see xs (look_at s x) a (λ a i. h a (inr i)) (look_good s x (h x (inl refl)) g) (inr i)
 
   -- Acts.
@@ -156,23 +167,40 @@ module _ (c : Cast) (ready : IsReadyCast c) (v : ℕ) (lv : v < c.deal.graph.n) 
       let n = next_call c.deal x.arc (history s.book x.arc) v x.call is.of_the_two is.fits in
       record {
         calm = calm_next c.deal s.book x.arc (after_call c.deal x.arc v x.call (history s.book x.arc)) v x.call below n;
-        others = λ u m. note_other s (set s.book x.arc after) v u (record { known = set (notes_of s v).known x.arc after; signed = signed_after (notes_of s v).signed x.call }) m;
-        own = λ a. subst (λ n. Begins (history (notes_of s v).known a) (history n.known a)) (sym (note_same s (set s.book x.arc after) v (record { known = set (notes_of s v).known x.arc after; signed = signed_after (notes_of s v).signed x.call }) (subst (λ m. v < m) (sym g.one_each) lv)))
+        others =
+            λ u m. note_other s (set s.book x.arc after) v u (record {
+              known = set (notes_of s v).known x.arc after;
+              signed =
+                  signed_after (notes_of s v).signed x.call;
+            }) m;
+        own =
+            λ a. subst (λ n. Begins (history (notes_of s v).known a) (history n.known a))
+            (sym (note_same s (set s.book x.arc after) v (record {
+              known = set (notes_of s v).known x.arc after;
+              signed =
+                  signed_after (notes_of s v).signed x.call;
+            }) (subst (λ m. v < m) (sym g.one_each) lv)))
             (at a (subst (λ m. x.arc < m) (sym hv.one_each) is.below) below n (hv.knows a).rest (hv.knows a).whole (same_or_not a x.arc));
       }
     where
       after : List Entry
       after = after_call c.deal x.arc v x.call (history s.book x.arc)
 
-      at : (a : ℕ) → x.arc < length (notes_of s v).known → x.arc < length s.book → Next c.deal x.arc (history s.book x.arc) (after_call c.deal x.arc v x.call (history s.book x.arc)) (Party v) (Made x.call)
+      at : (a : ℕ) → x.arc < length (notes_of s v).known → x.arc < length s.book
+          → Next c.deal x.arc (history s.book x.arc) (after_call c.deal x.arc v x.call (history s.book x.arc)) (Party v) (Made x.call)
           → (rest : List Entry) → history s.book a ≡ history (notes_of s v).known a ++ rest → (a ≡ x.arc) ⊎ (a ≢ x.arc)
           → Begins (history (notes_of s v).known a) (history (set (notes_of s v).known x.arc (after_call c.deal x.arc v x.call (history s.book x.arc))) a)
       at a here below n rest whole (inl e) =
-          subst (Begins (history (notes_of s v).known a)) (sym (ap (history (set (notes_of s v).known x.arc (after_call c.deal x.arc v x.call (history s.book x.arc)))) e ∙ history_same (notes_of s v).known x.arc (after_call c.deal x.arc v x.call (history s.book x.arc)) here))
+          subst (Begins (history (notes_of s v).known a))
+          (sym (ap (history (set (notes_of s v).known x.arc (after_call c.deal x.arc v x.call (history s.book x.arc)))) e
+          ∙ history_same (notes_of s v).known x.arc (after_call c.deal x.arc v x.call (history s.book x.arc)) here))
           (begins_more (history (notes_of s v).known a) (history s.book a) (after_call c.deal x.arc v x.call (history s.book x.arc)) (rest, whole)
           (subst (λ y. Begins (history s.book y) (after_call c.deal x.arc v x.call (history s.book x.arc))) (sym e)
-          (subst (Begins (history s.book x.arc)) (history_same s.book x.arc (after_call c.deal x.arc v x.call (history s.book x.arc)) below) (next_grows c.deal s.book x.arc (after_call c.deal x.arc v x.call (history s.book x.arc)) (Party v) (Made x.call) below n x.arc))))
-      at a here below n rest whole (inr e) = subst (Begins (history (notes_of s v).known a)) (sym (history_other (notes_of s v).known x.arc a _ e)) (begins_refl (history (notes_of s v).known a))
+          (subst (Begins (history s.book x.arc)) (history_same s.book x.arc (after_call c.deal x.arc v x.call (history s.book x.arc)) below)
+          (next_grows c.deal s.book x.arc (after_call c.deal x.arc v x.call (history s.book x.arc)) (Party v) (Made x.call) below n x.arc))))
+      at a here below n rest whole (inr e) =
+          subst (Begins (history (notes_of s v).known a)) (sym (history_other (notes_of s v).known x.arc a _ e))
+          (begins_refl (history (notes_of s v).known a))
 
   act_acted : (s : State) → IsGood c s → Acted s (step c s (Act v))
   act_acted s g = go (next_of c s v) refl
@@ -189,7 +217,9 @@ module _ (c : Cast) (ready : IsReadyCast c) (v : ℕ) (lv : v < c.deal.graph.n) 
       record {
         calm = calm_more s.book (acts c v n s).book (step c (acts c v n s) (Act v)).book x.calm y.calm;
         others = λ u m. y.others u m ∙ x.others u m;
-        own = λ a. begins_more (history (notes_of s v).known a) (history (notes_of (acts c v n s) v).known a) (history (notes_of (step c (acts c v n s) (Act v)) v).known a) (x.own a) (y.own a);
+        own =
+            λ a. begins_more (history (notes_of s v).known a) (history (notes_of (acts c v n s) v).known a)
+            (history (notes_of (step c (acts c v n s) (Act v)) v).known a) (x.own a) (y.own a);
       }
 
   -- a turn of a party that conforms

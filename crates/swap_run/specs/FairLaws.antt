@@ -35,7 +35,9 @@ FinishesAreGood = (c : Cast) (s : State) → IsReadyCast c → IsGood c s → Is
 
 -- and each ledger ends at the first height above the horizon, or where it was
 abbrev pub FinishHeights : Type 0
-FinishHeights = (c : Cast) (s : State) (a : ℕ) → IsReadyCast c → IsGood c s → a < length c.deal.graph.arcs → height (history (finish c s).book a) ≡ ended_at c.deal (height (history s.book a))
+FinishHeights =
+    (c : Cast) (s : State) (a : ℕ) → IsReadyCast c → IsGood c s → a < length c.deal.graph.arcs
+    → height (history (finish c s).book a) ≡ ended_at c.deal (height (history s.book a))
 
 -- where every party conforms, a fair finish with no events before it finds nothing, and every outcome is the whole deal
 abbrev pub FairIsDealt : Type 0
@@ -43,11 +45,15 @@ FairIsDealt = (c : Cast) → IsReadyCast c → ((v : ℕ) → v < c.deal.graph.n
 
 -- after so many acts nothing is due for a conforming party
 abbrev pub ActsComeToRest : Type 0
-ActsComeToRest = (c : Cast) (s : State) (v : ℕ) → IsReadyCast c → IsGood c s → v < c.deal.graph.n → conforms c v ≡ true → next_of c (acts c v (most_acts c.deal) s) v ≡ None
+ActsComeToRest =
+    (c : Cast) (s : State) (v : ℕ) → IsReadyCast c → IsGood c s → v < c.deal.graph.n → conforms c v ≡ true
+    → next_of c (acts c v (most_acts c.deal) s) v ≡ None
 
 -- acts until nothing is due leave what so many acts leave
 abbrev pub ActsAreEnough : Type 0
-ActsAreEnough = (c : Cast) (s : State) (v n : ℕ) → IsReadyCast c → IsGood c s → v < c.deal.graph.n → conforms c v ≡ true → next_of c (acts c v n s) v ≡ None → acts c v n s ≡ acts c v (most_acts c.deal) s
+ActsAreEnough =
+    (c : Cast) (s : State) (v n : ℕ) → IsReadyCast c → IsGood c s → v < c.deal.graph.n → conforms c v ≡ true → next_of c (acts c v n s) v ≡ None
+    → acts c v n s ≡ acts c v (most_acts c.deal) s
 
 -- the turn of a party that doesn't conform changes nothing
 abbrev pub OthersRest : Type 0
@@ -63,11 +69,15 @@ RoundsAreGood = (c : Cast) (s : State) → IsReadyCast c → IsGood c s → IsGo
 
 -- a round raises each ledger that isn't above the horizon by one height, and no other
 abbrev pub RoundsRaise : Type 0
-RoundsRaise = (c : Cast) (s : State) (a : ℕ) → IsReadyCast c → IsGood c s → a < length c.deal.graph.arcs → height (history (round c s).book a) ≡ raised c.deal (height (history s.book a))
+RoundsRaise =
+    (c : Cast) (s : State) (a : ℕ) → IsReadyCast c → IsGood c s → a < length c.deal.graph.arcs
+    → height (history (round c s).book a) ≡ raised c.deal (height (history s.book a))
 
 -- so each round leaves one less to do
 abbrev pub RoundsCountDown : Type 0
-RoundsCountDown = (c : Cast) (s : State) → IsReadyCast c → IsGood c s → has_ended c.deal s.book ≡ false → rounds_left c.deal (round c s).book + 1 ≡ rounds_left c.deal s.book
+RoundsCountDown =
+    (c : Cast) (s : State) → IsReadyCast c → IsGood c s → has_ended c.deal s.book ≡ false
+    → rounds_left c.deal (round c s).book + 1 ≡ rounds_left c.deal s.book
 
 -- a finish of an ended book is no round
 abbrev pub FinishStops : Type 0

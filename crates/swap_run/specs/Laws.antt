@@ -49,7 +49,9 @@ pub record CanBeMade (c : Cast) (s : State) (v : ℕ) (x : Action) : Type 0 wher
 
 -- what a conforming party makes in a good state can be made
 abbrev pub DueCallsCanBeMade : Type 0
-DueCallsCanBeMade = (c : Cast) (s : State) (v : ℕ) (x : Action) → IsReadyCast c → IsGood c s → v < c.deal.graph.n → conforms c v ≡ true → next_of c s v ≡ Some x → CanBeMade c s v x
+DueCallsCanBeMade =
+    (c : Cast) (s : State) (v : ℕ) (x : Action) → IsReadyCast c → IsGood c s → v < c.deal.graph.n → conforms c v ≡ true → next_of c s v ≡ Some x
+    → CanBeMade c s v x
 
 -- What a run promises of its book, whatever the other parties do.
 pub record IsKept (c : Cast) (b : Histories) : Type 0 where

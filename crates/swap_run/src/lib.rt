@@ -1,12 +1,15 @@
-//! The run of a schedule, as a definition, and its laws: whatever the others do, every conforming party keeps its conduct. Each law is a function without a body; its contract is the law.
+//! The run of a schedule, as a definition, and its laws: whatever the others do, every conforming party keeps its conduct. Each law is a function
+//! without a body; its contract is the law.
 //!
 //! Read `specs/Run.antt` first, then `specs/Laws.antt`; `specs/Fair.antt` has the fair finish of a run, and `specs/FairLaws.antt` its laws.
 #![tactic(auto)]
 
-ghost use Rattle.swap_run.specs.FairLaws.{FinishesAreRuns, FinishesEnd, FinishesAreGood, FinishHeights, FairIsDealt, ActsComeToRest, ActsAreEnough, OthersRest, TurnsAreGood, RoundsAreGood, RoundsRaise, RoundsCountDown, FinishStops, FinishGoesOn};
+ghost use Rattle.swap_run.specs.FairLaws.{FinishesAreRuns, FinishesEnd, FinishesAreGood, FinishHeights, FairIsDealt, ActsComeToRest, ActsAreEnough};
+ghost use Rattle.swap_run.specs.FairLaws.{OthersRest, TurnsAreGood, RoundsAreGood, RoundsRaise, RoundsCountDown, FinishStops, FinishGoesOn};
 ghost use Rattle.swap_run.specs.Laws.{StartIsGood, StepsAreGood, DueCallsCanBeMade, GoodIsKept, RunsAreKept};
 
-/// What every state of a run keeps: the book is legal, and each conforming party knows some prefix of each ledger that holds all its own calls, which keep its rules. What it makes, the ledger takes.
+/// What every state of a run keeps: the book is legal, and each conforming party knows some prefix of each ledger that holds all its own calls, which
+/// keep its rules. What it makes, the ledger takes.
 pub fn every_state_is_good()
     ensures start { StartIsGood }
     ensures steps { StepsAreGood }
@@ -19,7 +22,8 @@ pub fn every_run_is_kept()
     ensures runs { RunsAreKept }
 {}
 
-/// A turn ends: a conforming party acts until nothing is due, for which as many acts are enough as there are calls that it may make. Any other party does nothing.
+/// A turn ends: a conforming party acts until nothing is due, for which as many acts are enough as there are calls that it may make. Any other party
+/// does nothing.
 pub fn every_turn_ends()
     ensures rest { ActsComeToRest }
     ensures enough { ActsAreEnough }

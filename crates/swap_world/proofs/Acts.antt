@@ -19,22 +19,27 @@ use Rattle.swap_world.proofs.Signed.{signed_by, signed_still}
 abbrev pub action : ℕ → Call → Action
 action a c = record { arc = a; call = c }
 
-pub answered : (m : MachineState) (o : Option (ℕ × Call)) (a : ℕ) (c : Call) → o ≡ Some (a, c) → option_map action_of o ≡ next_of m → next_of m ≡ Some (action a c)
+pub answered : (m : MachineState) (o : Option (ℕ × Call)) (a : ℕ) (c : Call) → o ≡ Some (a, c) → option_map action_of o ≡ next_of m
+    → next_of m ≡ Some (action a c)
 answered m o a c e f = sym f ∙ ap (option_map action_of) e
 
 pub silent : (m : MachineState) (o : Option (ℕ × Call)) → o ≡ None → option_map action_of o ≡ next_of m → next_of m ≡ None
 silent m o e f = sym f ∙ ap (option_map action_of) e
 
-same_machine : (n : MachineState) (d : Deal) (v : ℕ) (z : List ℕ) (k : Histories) (g : List (Option Hashkey)) → n.deal ≡ d → n.me ≡ v → n.seed ≡ z → n.known ≡ k → n.signed ≡ g
+same_machine : (n : MachineState) (d : Deal) (v : ℕ) (z : List ℕ) (k : Histories) (g : List (Option Hashkey)) → n.deal ≡ d → n.me ≡ v → n.seed ≡ z
+    → n.known ≡ k → n.signed ≡ g
     → n ≡ record { deal = d; me = v; seed = z; known = k; signed = g }
 same_machine n d v z k g e1 e2 e3 e4 e5 = rw (sym e1, sym e2, sym e3, sym e4, sym e5) refl
 
-pub still : (m n : MachineState) (o : Option (ℕ × Call)) (b : Histories) → o ≡ None → option_map action_of o ≡ next_of m → IsOfSame m n → ((i : ℕ) → signed_in n.signed i ≡ noted_for (signed_in m.signed) o i) → n ≡ machine_after m (next_of m) b
+pub still : (m n : MachineState) (o : Option (ℕ × Call)) (b : Histories) → o ≡ None → option_map action_of o ≡ next_of m → IsOfSame m n
+    → ((i : ℕ) → signed_in n.signed i ≡ noted_for (signed_in m.signed) o i) → n ≡ machine_after m (next_of m) b
 still m n o b e f k g =
     let none : (i : ℕ) → signed_in n.signed i ≡ signed_in m.signed i = λ i. g i ∙ ap (λ x. noted_for (signed_in m.signed) x i) e in
-    same_machine n m.deal m.me m.seed m.known m.signed k.deal k.me k.seed k.known (signed_still n.signed m.signed k.places none) ∙ sym (ap (λ x. machine_after m x b) (silent m o e f))
+    same_machine n m.deal m.me m.seed m.known m.signed k.deal k.me k.seed k.known (signed_still n.signed m.signed k.places none)
+    ∙ sym (ap (λ x. machine_after m x b) (silent m o e f))
 
-module _ (m n : MachineState) (ls : List LedgerState) (a : ℕ) (c : Call) (l : LedgerState) (same : IsOfSame m n) (below : a < length ls) (is : l ≡ get_or ls a l) (next : next_of m ≡ Some (action a c)) where
+module _ (m n : MachineState) (ls : List LedgerState) (a : ℕ) (c : Call) (l : LedgerState) (same : IsOfSame m n) (below : a < length ls)
+    (is : l ≡ get_or ls a l) (next : next_of m ≡ Some (action a c)) where
   called : after_call n.deal a n.me c l.history ≡ after_call m.deal a m.me c l.history
   called = ap₂ (λ (d : Deal) (v : ℕ). after_call d a v c l.history) same.deal same.me
 
@@ -47,10 +52,20 @@ module _ (m n : MachineState) (ls : List LedgerState) (a : ℕ) (c : Call) (l : 
   book_or new (inr e) = inr (book_is new e)
 
   pub machine_is : (new : MachineState) → ((i : ℕ) → signed_in n.signed i ≡ noted (signed_in m.signed) c i)
-      → new ≡ record { deal = n.deal; me = n.me; seed = n.seed; known = set n.known a (after_call n.deal a n.me c l.history); signed = n.signed } → new ≡ machine_after m (next_of m) (histories ls)
+      → new ≡ record { deal = n.deal; me = n.me; seed = n.seed; known = set n.known a (after_call n.deal a n.me c l.history); signed = n.signed }
+      → new ≡ machine_after m (next_of m) (histories ls)
   machine_is new g e =
       let k : set n.known a (after_call n.deal a n.me c l.history) ≡ set m.known a (after_call m.deal a m.me c (history (histories ls) a))
-      = ap₂ (λ (x : Histories) (h : List Entry). set x a h) same.known (called ∙ ap (λ (h : List Entry). after_call m.deal a m.me c h) (sym (history_at ls a l below is))) in
-      e ∙ (same_machine (record { deal = n.deal; me = n.me; seed = n.seed; known = set n.known a (after_call n.deal a n.me c l.history); signed = n.signed }) m.deal m.me m.seed _ _
+      =
+      ap₂ (λ (x : Histories) (h : List Entry). set x a h) same.known (called
+      ∙ ap (λ (h : List Entry). after_call m.deal a m.me c h) (sym (history_at ls a l below is))) in
+      e ∙ (same_machine (record {
+        deal = n.deal;
+        me = n.me;
+        seed = n.seed;
+        known = set n.known a (after_call n.deal a n.me c l.history);
+        signed =
+            n.signed;
+      }) m.deal m.me m.seed _ _
       same.deal same.me same.seed k (signed_by n.signed m.signed c same.places g)
       ∙ sym (ap (λ o. machine_after m o (histories ls)) next))

@@ -27,29 +27,35 @@ unfolding world_of
 refused job NoMemory h = tt
 refused job (Refused r) h = ap (λ (x : Result (List Actor) WrongWallet). x >>= λ xs. Ok (new_world job)) h
 
-module _ (job : Job) (d : Deal) (conforming : List Bool) (seeds : Seeds) (ls : List LedgerState) (ys : List Actor) (ed : d ≡ job.deal) (ec : conforming ≡ job.conforming) (es : seeds ≡ job.seeds) (el : ls ≡ new_ledgers job.deal) (ea : actors_of job ≡ Ok ys) (have : HaveSeeds job) where
-  state_is : state (histories ls) (map (notes_in d) ys) ≡ start job.deal
-  state_is = ap₂ (λ (b : Histories) (ns : List Notes). state b ns) (ap histories el ∙ none_yet job.deal) (ap (λ (e : Deal). map (notes_in e) ys) ed ∙ no_notes_yet job ys have ea)
+module _ (job : Job) (d : Deal) (conforming : List Bool) (seeds : Seeds) (ls : List LedgerState) (ys : List Actor) (ed : d ≡ job.deal)
+    (ec : conforming ≡ job.conforming) (es : seeds ≡ job.seeds) (el : ls ≡ new_ledgers job.deal) (ea : actors_of job ≡ Ok ys) (have : HaveSeeds job)
+  where
+    state_is : state (histories ls) (map (notes_in d) ys) ≡ start job.deal
+    state_is =
+        ap₂ (λ (b : Histories) (ns : List Notes). state b ns) (ap histories el ∙ none_yet job.deal) (ap (λ (e : Deal). map (notes_in e) ys) ed
+        ∙ no_notes_yet job ys have ea)
 
-  pub world_is : world_of job ≡ Ok (world d conforming seeds false (state (histories ls) (map (notes_in d) ys)))
-  unfolding world_of
-  world_is =
-      ap (λ (x : Result (List Actor) WrongWallet). x >>= λ xs. Ok (new_world job)) ea
-      ∙ ap (λ (w : WorldState). Ok w) (sym (ap (λ (e : Deal). world e conforming seeds false (state (histories ls) (map (notes_in d) ys))) ed
-      ∙ (ap₂ (λ (c : List Bool) (s : Seeds). world job.deal c s false (state (histories ls) (map (notes_in d) ys))) ec es
-      ∙ ap (λ (st : State). world job.deal job.conforming job.seeds false st) state_is)))
+    pub world_is : world_of job ≡ Ok (world d conforming seeds false (state (histories ls) (map (notes_in d) ys)))
+    unfolding world_of
+    world_is =
+        ap (λ (x : Result (List Actor) WrongWallet). x >>= λ xs. Ok (new_world job)) ea
+        ∙ ap (λ (w : WorldState). Ok w) (sym (ap (λ (e : Deal). world e conforming seeds false (state (histories ls) (map (notes_in d) ys))) ed
+        ∙ (ap₂ (λ (c : List Bool) (s : Seeds). world job.deal c s false (state (histories ls) (map (notes_in d) ys))) ec es
+        ∙ ap (λ (st : State). world job.deal job.conforming job.seeds false st) state_is)))
 
-  cast_is : cast_with d conforming seeds ≡ cast_of job
-  cast_is = ap (λ (e : Deal). cast_with e conforming seeds) ed ∙ ap₂ (λ (c : List Bool) (s : Seeds). cast_with job.deal c s) ec es
+    cast_is : cast_with d conforming seeds ≡ cast_of job
+    cast_is = ap (λ (e : Deal). cast_with e conforming seeds) ed ∙ ap₂ (λ (c : List Bool) (s : Seeds). cast_with job.deal c s) ec es
 
-  pub ready : IsAccepted job.deal → IsReadyCast (cast_with d conforming seeds)
-  ready accepted = subst IsReadyCast (sym cast_is) (is_ready job ys accepted have ea)
+    pub ready : IsAccepted job.deal → IsReadyCast (cast_with d conforming seeds)
+    ready accepted = subst IsReadyCast (sym cast_is) (is_ready job ys accepted have ea)
 
-  pub actors : AreActorsOf d conforming seeds ys
-  actors = rw (ed, ec, es) (are_actors job ys have ea)
+    pub actors : AreActorsOf d conforming seeds ys
+    actors = rw (ed, ec, es) (are_actors job ys have ea)
 
-  pub ledgers : AreLedgersOf d ls
-  ledgers = opened job.deal d ls ed el
+    pub ledgers : AreLedgersOf d ls
+    ledgers = opened job.deal d ls ed el
 
-  pub good : IsAccepted job.deal → IsGood (cast_with d conforming seeds) (state (histories ls) (map (notes_in d) ys))
-  good accepted = subst (λ (c : Cast). IsGood c (state (histories ls) (map (notes_in d) ys))) (sym cast_is) (subst (IsGood (cast_of job)) (sym state_is) (start_is_good (cast_of job) (is_ready job ys accepted have ea)))
+    pub good : IsAccepted job.deal → IsGood (cast_with d conforming seeds) (state (histories ls) (map (notes_in d) ys))
+    good accepted =
+        subst (λ (c : Cast). IsGood c (state (histories ls) (map (notes_in d) ys))) (sym cast_is)
+        (subst (IsGood (cast_of job)) (sym state_is) (start_is_good (cast_of job) (is_ready job ys accepted have ea)))

@@ -1,5 +1,6 @@
 -- The parts of a fair finish: what each leads to, and where it stops.
-use Rattle.std.proofs.Common.{◌≡◌, ℕ, ◌+◌, ◌<◌, ◌≤◌, ◌==◌, ◌||◌, nat_le, leb-false, Bool, true, false, cond, List, [], ◌∷◌, length, fold, filter, refl, ap, subst, arith}
+use Rattle.std.proofs.Common.{◌≡◌, ℕ, ◌+◌, ◌<◌, ◌≤◌, ◌==◌, ◌||◌, nat_le, leb-false, Bool, true, false, cond, List, [], ◌∷◌, length, fold, filter, refl}
+use Rattle.std.proofs.Common.{ap, subst, arith}
 use Rattle.std.specs.List.{range_with_len}
 use Rattle.swap_base.proofs.Lists.{from_range}
 use Rattle.swap_digraph.specs.Deal.{party, counterparty}
@@ -27,7 +28,8 @@ pub is_far : (c : Cast) (v : ℕ) (s : State) (a : ℕ) → near c v a ≡ false
 is_far c v s a e = ap (λ (b : Bool). cond b (step c s (Look v a)) s) e
 
 -- the arcs that are passed over change nothing
-passed : (c : Cast) (v x : ℕ) (xs : List ℕ) (s : State) (b : Bool) → ((t : State) → fold (look_near c v) t xs ≡ fold (λ t a. step c t (Look v a)) t (filter (near c v) xs))
+passed : (c : Cast) (v x : ℕ) (xs : List ℕ) (s : State) (b : Bool)
+    → ((t : State) → fold (look_near c v) t xs ≡ fold (λ t a. step c t (Look v a)) t (filter (near c v) xs))
     → fold (look_near c v) (cond b (step c s (Look v x)) s) xs ≡ fold (λ t a. step c t (Look v a)) s (cond b (x ∷ filter (near c v) xs) (filter (near c v) xs))
 passed c v x xs s true rest = rest (step c s (Look v x))
 passed c v x xs s false rest = rest s
@@ -48,7 +50,9 @@ near_leads c v l a la s = go (near c v a) refl
     go false e = no_event c s
 
 looks_lead : (c : Cast) (v : ℕ) (s : State) → v < c.deal.graph.n → IsReached c s (looks c v s)
-looks_lead c v s l = subst (λ t. IsReached c s t) (looks_are c v s) (fold_reached c (look_near c v) (range_with_len 0 (length c.deal.graph.arcs)) s (range_all (λ a. (t : State) → IsReached c t (look_near c v t a)) (length c.deal.graph.arcs) (near_leads c v l)))
+looks_lead c v s l =
+    subst (λ t. IsReached c s t) (looks_are c v s) (fold_reached c (look_near c v) (range_with_len 0 (length c.deal.graph.arcs)) s
+    (range_all (λ a. (t : State) → IsReached c t (look_near c v t a)) (length c.deal.graph.arcs) (near_leads c v l)))
 
 -- A party's turn.
 
@@ -59,11 +63,18 @@ pub turn_from_looks : (c : Cast) (v : ℕ) (s : State) → v < c.deal.graph.n �
 unfolding turn
 turn_from_looks c v s l = repeat_events c (most_acts c.deal) (λ t. step c t (Act v)) (looks c v s) (act_leads c v l)
 
-pub turn_stops : (old mid new : WorldState) (v : ℕ) → v < old.deal.graph.n → mid ≡ at old (looks (cast_at old) v old.state) → IsStopped mid (acts (cast_at mid) v (most_acts mid.deal) mid.state) new → IsStopped old (turn (cast_at old) old.state v) new
+pub turn_stops : (old mid new : WorldState) (v : ℕ) → v < old.deal.graph.n → mid ≡ at old (looks (cast_at old) v old.state)
+    → IsStopped mid (acts (cast_at mid) v (most_acts mid.deal) mid.state) new → IsStopped old (turn (cast_at old) old.state v) new
 unfolding turn
 turn_stops old mid new v l e k =
     let h = subst (λ w. IsStopped w (acts (cast_at w) v (most_acts w.deal) w.state) new) e k in
-    record { stopped = h.stopped; cast = h.cast; book = way_after (cast_at old) old.state (looks (cast_at old) v old.state) (turn (cast_at old) old.state v) new.state.book (looks_lead (cast_at old) v old.state l) h.book }
+    record {
+      stopped = h.stopped;
+      cast = h.cast;
+      book =
+          way_after (cast_at old) old.state (looks (cast_at old) v old.state) (turn (cast_at old) old.state v) new.state.book
+          (looks_lead (cast_at old) v old.state l) h.book;
+    }
 
 pub turn_leads : (c : Cast) (v : ℕ) → v < c.deal.graph.n → (s : State) → IsReached c s (turn c s v)
 turn_leads c v l s = turn_events c s v l
@@ -77,17 +88,20 @@ is_low c s a l = go (nat_le (height (history s.book a)) (the_horizon c.deal)) re
     go true e = refl
     go false e = absurd (omega (arith, l, leb-false _ _ e))
 
-pub ticks_stop : (w new : WorldState) → IsStopped w (fold (tick_low (cast_at w)) w.state (range_with_len 0 (length w.deal.graph.arcs))) new → IsStopped w (ticks (cast_at w) w.state) new
+pub ticks_stop : (w new : WorldState) → IsStopped w (fold (tick_low (cast_at w)) w.state (range_with_len 0 (length w.deal.graph.arcs))) new
+    → IsStopped w (ticks (cast_at w) w.state) new
 unfolding ticks
 ticks_stop w new k = k
 
-pub ticks_are : (w new : WorldState) → new ≡ at w (fold (tick_low (cast_at w)) w.state (range_with_len 0 (length w.deal.graph.arcs))) → new ≡ at w (ticks (cast_at w) w.state)
+pub ticks_are : (w new : WorldState) → new ≡ at w (fold (tick_low (cast_at w)) w.state (range_with_len 0 (length w.deal.graph.arcs)))
+    → new ≡ at w (ticks (cast_at w) w.state)
 unfolding ticks
 ticks_are w new e = e
 
 -- Rounds.
 
-pub turns_stop : (w new : WorldState) → IsStopped w (fold (turn (cast_at w)) w.state (range_with_len 0 w.deal.graph.n)) new → IsStopped w (turns (cast_at w) w.state) new
+pub turns_stop : (w new : WorldState) → IsStopped w (fold (turn (cast_at w)) w.state (range_with_len 0 w.deal.graph.n)) new
+    → IsStopped w (turns (cast_at w) w.state) new
 unfolding turns
 turns_stop w new k = k
 
@@ -103,11 +117,18 @@ pub round_from_turns : (c : Cast) (s : State) → IsReached c (turns c s) (round
 unfolding round ticks
 round_from_turns c s = fold_events c (tick_low c) (arcs c.deal.graph) (turns c s) (λ t a i. tick_events c t a (from_range a (length c.deal.graph.arcs) i))
 
-pub round_stops : (old mid new : WorldState) → mid ≡ at old (turns (cast_at old) old.state) → IsStopped mid (ticks (cast_at mid) mid.state) new → IsStopped old (round (cast_at old) old.state) new
+pub round_stops : (old mid new : WorldState) → mid ≡ at old (turns (cast_at old) old.state) → IsStopped mid (ticks (cast_at mid) mid.state) new
+    → IsStopped old (round (cast_at old) old.state) new
 unfolding round
 round_stops old mid new e k =
     let h = subst (λ w. IsStopped w (ticks (cast_at w) w.state) new) e k in
-    record { stopped = h.stopped; cast = h.cast; book = way_after (cast_at old) old.state (turns (cast_at old) old.state) (round (cast_at old) old.state) new.state.book (turns_lead (cast_at old) old.state) h.book }
+    record {
+      stopped = h.stopped;
+      cast = h.cast;
+      book =
+          way_after (cast_at old) old.state (turns (cast_at old) old.state) (round (cast_at old) old.state) new.state.book
+          (turns_lead (cast_at old) old.state) h.book;
+    }
 
 pub unless_leads : (c : Cast) (s : State) → IsReached c s (round_unless_ended c s)
 unless_leads c s = go (has_ended c.deal s.book)
@@ -122,10 +143,12 @@ is_round c s e = ap (λ (b : Bool). cond b s (round c s)) e
 pub is_rest : (c : Cast) (s : State) → has_ended c.deal s.book ≡ true → round_unless_ended c s ≡ s
 is_rest c s e = ap (λ (b : Bool). cond b s (round c s)) e
 
-pub finish_stops_at : (w new : WorldState) → IsStopped w (repeat (the_horizon w.deal + 1) (round_unless_ended (cast_at w)) w.state) new → IsStopped w (finish (cast_at w) w.state) new
+pub finish_stops_at : (w new : WorldState) → IsStopped w (repeat (the_horizon w.deal + 1) (round_unless_ended (cast_at w)) w.state) new
+    → IsStopped w (finish (cast_at w) w.state) new
 unfolding finish
 finish_stops_at w new k = k
 
-pub finish_is : (w new : WorldState) → new ≡ at w (repeat (the_horizon w.deal + 1) (round_unless_ended (cast_at w)) w.state) → new ≡ at w (finish (cast_at w) w.state)
+pub finish_is : (w new : WorldState) → new ≡ at w (repeat (the_horizon w.deal + 1) (round_unless_ended (cast_at w)) w.state)
+    → new ≡ at w (finish (cast_at w) w.state)
 unfolding finish
 finish_is w new e = e

@@ -1,5 +1,6 @@
 -- The ledgers of a world, and their histories.
-use Rattle.std.proofs.Common.{◌≡◌, ◌≢◌, ◌⊎◌, inl, inr, ℕ, zero, suc, ◌+◌, ◌<◌, List, [], ◌∷◌, length, get_or, map, replicate, refl, sym, ap, subst, ◌∙◌, arith, Result, Ok, Err, OnOk, OnErr}
+use Rattle.std.proofs.Common.{◌≡◌, ◌≢◌, ◌⊎◌, inl, inr, ℕ, zero, suc, ◌+◌, ◌<◌, List, [], ◌∷◌, length, get_or, map, replicate, refl, sym, ap, subst, ◌∙◌}
+use Rattle.std.proofs.Common.{arith, Result, Ok, Err, OnOk, OnErr}
 use Rattle.std.proofs.lemmas.List.{map-set, length-map, get_or-map, get_or_default, length-set, get_or-set_same, get_or-set_other}
 use Rattle.swap_laws.proofs.Prefixes.{same_or_not}
 use Rattle.std.proofs.Math.Seq.{map-set_same}
@@ -39,7 +40,8 @@ pub changed : (ls : List LedgerState) (a : ℕ) (l : LedgerState) (h : List Entr
 changed ls a l h e = map-set (λ (x : LedgerState). x.history) ls a l ∙ ap (λ (x : List Entry). set (histories ls) a x) e
 
 -- the ledger's history is as before
-pub unchanged : (ls : List LedgerState) (a : ℕ) (old new : LedgerState) → old ≡ get_or ls a old → new.history ≡ old.history → histories (set ls a new) ≡ histories ls
+pub unchanged : (ls : List LedgerState) (a : ℕ) (old new : LedgerState) → old ≡ get_or ls a old → new.history ≡ old.history
+    → histories (set ls a new) ≡ histories ls
 unchanged ls a old new is e = map-set_same (λ (x : LedgerState). x.history) ls a new old (e ∙ ap (λ (x : LedgerState). x.history) is)
 
 legal_at : (d : Deal) (ls : List LedgerState) (a : ℕ) → AreLedgersOf d ls → a < length ls → IsLegal d a (history (histories ls) a)
@@ -68,17 +70,22 @@ new_is d a l e = record { deal = ap (λ (x : LedgerState). x.deal) e; arc = ap (
 pub are_new : (d : Deal) → AreLedgersOf d (new_ledgers d)
 are_new d = record {
   one_each = length-map-range_with_len (new_ledger d) 0 (length d.graph.arcs);
-  each = λ a l lt is. let n = length-map-range_with_len (new_ledger d) 0 (length d.graph.arcs) in new_is d a l (place_is (new_ledger d) (length d.graph.arcs) a (new_ledgers d) l refl (omega arith) is);
+  each = λ a l lt is. let n =
+      length-map-range_with_len (new_ledger d) 0 (length d.graph.arcs) in
+      new_is d a l (place_is (new_ledger d) (length d.graph.arcs) a (new_ledgers d) l refl (omega arith) is);
 }
 
-pub book_ok : (ls : List LedgerState) (a : ℕ) (old new : LedgerState) (f : List Entry → List Entry) → a < length ls → old ≡ get_or ls a old → new.history ≡ f old.history → histories (set ls a new) ≡ set (histories ls) a (f (history (histories ls) a))
+pub book_ok : (ls : List LedgerState) (a : ℕ) (old new : LedgerState) (f : List Entry → List Entry) → a < length ls → old ≡ get_or ls a old
+    → new.history ≡ f old.history → histories (set ls a new) ≡ set (histories ls) a (f (history (histories ls) a))
 book_ok ls a old new f lt is e = changed ls a new (f old.history) e ∙ ap (λ (h : List Entry). set (histories ls) a (f h)) (sym (history_at ls a old lt is))
 
-pub book_err : (ls : List LedgerState) (a : ℕ) (old new : LedgerState) → old ≡ get_or ls a old → new.history ≡ old.history → histories (set ls a new) ≡ histories ls
+pub book_err : (ls : List LedgerState) (a : ℕ) (old new : LedgerState) → old ≡ get_or ls a old → new.history ≡ old.history
+    → histories (set ls a new) ≡ histories ls
 book_err ls a old new is e = unchanged ls a old new is e
 
 -- what a move makes of the ledger of arc a
-pub made : (d : Deal) (a p : ℕ) (mv : Move) (old new : LedgerState) → IsLedgerOf d a old → new.history ≡ after_move old.deal old.arc p (call_of old.deal mv) old.history → new.history ≡ after_move d a p (call_of d mv) old.history
+pub made : (d : Deal) (a p : ℕ) (mv : Move) (old new : LedgerState) → IsLedgerOf d a old
+    → new.history ≡ after_move old.deal old.arc p (call_of old.deal mv) old.history → new.history ≡ after_move d a p (call_of d mv) old.history
 made d a p mv old new k e =
     e ∙ ap (λ (x : Deal). after_move x old.arc p (call_of x mv) old.history) k.deal ∙ ap (λ (x : ℕ). after_move d x p (call_of d mv) old.history) k.arc
 
@@ -87,19 +94,22 @@ opened d d' ls e f = subst (λ x. AreLedgersOf x ls) (sym e) (subst (λ x. AreLe
 
 -- A ledger in the place of another.
 
-pub moved : (d : Deal) (a : ℕ) (old new : LedgerState) → IsLedgerOf d a old → new.deal ≡ old.deal → new.arc ≡ old.arc → IsLegal new.deal new.arc new.history → IsLedgerOf d a new
+pub moved : (d : Deal) (a : ℕ) (old new : LedgerState) → IsLedgerOf d a old → new.deal ≡ old.deal → new.arc ≡ old.arc
+    → IsLegal new.deal new.arc new.history → IsLedgerOf d a new
 moved d a old new k ed ea legal = record {
   deal = ed ∙ k.deal;
   arc = ea ∙ k.arc;
   legal = subst (λ (x : Deal). IsLegal x a new.history) (ed ∙ k.deal) (subst (λ (y : ℕ). IsLegal new.deal y new.history) (ea ∙ k.arc) legal);
 }
 
-pub ledger_set : (d : Deal) (ls : List LedgerState) (a : ℕ) (y : LedgerState) → AreLedgersOf d ls → a < length ls → IsLedgerOf d a y → AreLedgersOf d (set ls a y)
+pub ledger_set : (d : Deal) (ls : List LedgerState) (a : ℕ) (y : LedgerState) → AreLedgersOf d ls → a < length ls → IsLedgerOf d a y
+    → AreLedgersOf d (set ls a y)
 ledger_set d ls a y k lt i = record {
   one_each = length-set ls a y ∙ k.one_each;
   each = λ b x l e. at b x (subst (λ n. b < n) (length-set ls a y) l) e (same_or_not b a);
 }
   where
     at : (b : ℕ) (x : LedgerState) → b < length ls → x ≡ get_or (set ls a y) b x → (b ≡ a) ⊎ (b ≢ a) → IsLedgerOf d b x
-    at b x l e (inl s) = subst (λ u. IsLedgerOf d u x) (sym s) (subst (IsLedgerOf d a) (sym (e ∙ (ap (λ u. get_or (set ls a y) u x) s ∙ get_or-set_same ls a y x lt))) i)
+    at b x l e (inl s) =
+        subst (λ u. IsLedgerOf d u x) (sym s) (subst (IsLedgerOf d a) (sym (e ∙ (ap (λ u. get_or (set ls a y) u x) s ∙ get_or-set_same ls a y x lt))) i)
     at b x l e (inr n) = k.each b x l (e ∙ get_or-set_other ls a b y x n)

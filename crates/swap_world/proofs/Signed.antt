@@ -13,7 +13,8 @@ same_for : (new old : List (Option Hashkey)) → length new ≡ length old → (
 same_for new old l e = same_lists new old l (λ k d lt. get_or_default new k d None lt ∙ (e k lt ∙ get_or_default old k None d (subst (λ n. k < n) l lt)))
 
 -- after a call
-pub signed_by : (new old : List (Option Hashkey)) (c : Call) → length new ≡ length old → ((i : ℕ) → signed_in new i ≡ noted (signed_in old) c i) → new ≡ signed_after old c
+pub signed_by : (new old : List (Option Hashkey)) (c : Call) → length new ≡ length old → ((i : ℕ) → signed_in new i ≡ noted (signed_in old) c i)
+    → new ≡ signed_after old c
 signed_by new old c l e =
     same_for new (signed_after old c) (l ∙ sym (signed_length old c)) (λ i lt. e i ∙ sym (signed_below old c i (subst (λ n. i < n) l lt)))
 

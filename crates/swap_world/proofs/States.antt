@@ -1,5 +1,6 @@
 -- The state that ledgers and actors show, after a look and after an act.
-use Rattle.std.proofs.Common.{◌≡◌, ◌≢◌, ◌⊎◌, inl, inr, ℕ, ◌<◌, Bool, true, false, cond, List, [], length, get_or, set, slice_index_or, map, Option, Some, None, refl, sym, ap, ap₂, ◌∙◌, subst}
+use Rattle.std.proofs.Common.{◌≡◌, ◌≢◌, ◌⊎◌, inl, inr, ℕ, ◌<◌, Bool, true, false, cond, List, [], length, get_or, set, slice_index_or, map, Option}
+use Rattle.std.proofs.Common.{Some, None, refl, sym, ap, ap₂, ◌∙◌, subst}
 use Rattle.std.proofs.lemmas.List.{map-set, get_or-map, set-get_or, get_or-set_same, get_or-set_other, length-set}
 use Rattle.swap_laws.proofs.Prefixes.{same_or_not}
 use Rattle.swap_digraph.specs.declared.deal.Deal.{Deal}
@@ -23,7 +24,8 @@ use Rattle.swap_world.specs.declared.actor.Actor.TheVariants.{Conforming}
 
 -- An actor in the place of another.
 
-pub actor_set : (d : Deal) (conforming : List Bool) (seeds : List (Option (List ℕ))) (xs : List Actor) (p : ℕ) (y : Actor) → AreActorsOf d conforming seeds xs → p < length xs
+pub actor_set : (d : Deal) (conforming : List Bool) (seeds : List (Option (List ℕ))) (xs : List Actor) (p : ℕ) (y : Actor)
+    → AreActorsOf d conforming seeds xs → p < length xs
     → IsActorOf d (slice_index_or conforming p false) (slice_index_or seeds p None) p y → AreActorsOf d conforming seeds (set xs p y)
 actor_set d conforming seeds xs p y k lt i = record {
   one_each = length-set xs p y ∙ k.one_each;
@@ -61,7 +63,8 @@ module _ (d : Deal) (conforming : List Bool) (seeds : List (Option (List ℕ))) 
 
   -- the same machine in its place
   pub same_notes : (p : ℕ) (m new : MachineState) → IsAt p m → new ≡ m → notes_with p new ≡ map (notes_in d) xs
-  same_notes p m new i e = ap (λ (x : MachineState). notes_with p x) e ∙ ap (map (notes_in d)) (ap (λ (x : Actor). set xs p x) i.here ∙ set-get_or xs p (Conforming m))
+  same_notes p m new i e =
+      ap (λ (x : MachineState). notes_with p x) e ∙ ap (map (notes_in d)) (ap (λ (x : Actor). set xs p x) i.here ∙ set-get_or xs p (Conforming m))
 
   noted : (p : ℕ) (m : MachineState) (n : Notes) → notes_in d (Conforming m) ≡ n → notes_with p m ≡ set (map (notes_in d) xs) p n
   noted p m n e = map-set (notes_in d) xs p (Conforming m) ∙ ap (λ (x : Notes). set (map (notes_in d) xs) p x) e
@@ -69,7 +72,14 @@ module _ (d : Deal) (conforming : List Bool) (seeds : List (Option (List ℕ))) 
   where_it_conforms : (p : ℕ) (t : State) → slice_index_or conforming p false ≡ true → t ≡ cond (conforms c p) t s
   where_it_conforms p t e = sym (ap (λ (b : Bool). cond b t s) e)
 
-  pub looked : (p a : ℕ) (m new : MachineState) → IsAt p m → new ≡ record { deal = m.deal; me = m.me; seed = m.seed; known = set m.known a (history (histories ls) a); signed = m.signed }
+  pub looked : (p a : ℕ) (m new : MachineState) → IsAt p m → new ≡ record {
+    deal = m.deal;
+    me = m.me;
+    seed = m.seed;
+    known =
+        set m.known a (history (histories ls) a);
+    signed = m.signed;
+  }
       → record { book = histories ls; notes = notes_with p new } ≡ step c s (Look p a)
   looked p a m new i e =
       let n : notes_in d (Conforming new) ≡ known_up_to (notes_of s p) a (history (histories ls) a)
@@ -87,7 +97,8 @@ module _ (d : Deal) (conforming : List Bool) (seeds : List (Option (List ℕ))) 
       ∙ (ap (λ (w : Wallet). first (due d p w (signed_in m.signed) m.known)) w
       ∙ ap₂ (λ (v : ℕ) (e : Deal). first (due e v (wallet_of m.seed m.me m.deal) (signed_in m.signed) m.known)) (sym i.is.2) (sym i.is.1))
 
-  made : (p : ℕ) (m new : MachineState) (b : Histories) (o : Option Action) → IsAt p m → b ≡ book_after m o (histories ls) → new ≡ machine_after m o (histories ls)
+  made : (p : ℕ) (m new : MachineState) (b : Histories) (o : Option Action) → IsAt p m → b ≡ book_after m o (histories ls)
+      → new ≡ machine_after m o (histories ls)
       → record { book = b; notes = notes_with p new } ≡ make d s p o
   made p m new b None i eb en = ap₂ (λ (x : Histories) (ns : List Notes). st x ns) eb (same_notes p m new i en)
     where
@@ -96,10 +107,16 @@ module _ (d : Deal) (conforming : List Bool) (seeds : List (Option (List ℕ))) 
   made p m new b (Some x) i eb en =
       let h : after_call m.deal x.arc m.me x.call (history (histories ls) x.arc) ≡ after_call d x.arc p x.call (history (histories ls) x.arc)
       = ap₂ (λ (e : Deal) (v : ℕ). after_call e x.arc v x.call (history (histories ls) x.arc)) i.is.1 i.is.2 in
-      let n : notes_in d (Conforming new) ≡ record { known = set (notes_of s p).known x.arc (after_call d x.arc p x.call (history (histories ls) x.arc)); signed = signed_after (notes_of s p).signed x.call }
+      let n : notes_in d (Conforming new) ≡ record {
+        known =
+            set (notes_of s p).known x.arc (after_call d x.arc p x.call (history (histories ls) x.arc));
+        signed =
+            signed_after (notes_of s p).signed x.call;
+      }
       = ap (λ (y : MachineState). notes_in d (Conforming y)) en
       ∙ (ap (λ (k : List Entry). note (set m.known x.arc k) (signed_after m.signed x.call)) h
-      ∙ ap (λ (z : Notes). note (set z.known x.arc (after_call d x.arc p x.call (history (histories ls) x.arc))) (signed_after z.signed x.call)) (sym (notes_at p m i))) in
+      ∙ ap (λ (z : Notes). note (set z.known x.arc (after_call d x.arc p x.call (history (histories ls) x.arc))) (signed_after z.signed x.call))
+      (sym (notes_at p m i))) in
       ap₂ (λ (y : Histories) (ns : List Notes). st y ns) (eb ∙ ap (λ (k : List Entry). set (histories ls) x.arc k) h) (noted p new _ n)
     where
       st : Histories → List Notes → State
@@ -108,7 +125,8 @@ module _ (d : Deal) (conforming : List Bool) (seeds : List (Option (List ℕ))) 
       note : Histories → List (Option Hashkey) → Notes
       note k ss = record { known = k; signed = ss }
 
-  pub acted : (p : ℕ) (m new : MachineState) (b : Histories) → IsAt p m → b ≡ book_after m (machines.next_of m) (histories ls) → new ≡ machine_after m (machines.next_of m) (histories ls)
+  pub acted : (p : ℕ) (m new : MachineState) (b : Histories) → IsAt p m → b ≡ book_after m (machines.next_of m) (histories ls)
+      → new ≡ machine_after m (machines.next_of m) (histories ls)
       → record { book = b; notes = notes_with p new } ≡ step c s (Act p)
   acted p m new b i eb en =
       made p m new b (machines.next_of m) i eb en ∙ (ap (λ (o : Option Action). make d s p o) (sym (next_is p m i)) ∙ where_it_conforms p (act c s p) i.is.0)

@@ -1,5 +1,7 @@
 -- What acts for the parties of a job, one by one.
-use Rattle.std.proofs.Common.{◌≡◌, ◌≢◌, ◌⊎◌, inl, inr, ℕ, zero, suc, ◌+◌, ◌-◌, ◌<◌, ◌≤◌, Bool, true, false, cond, List, [], ◌∷◌, ◌++◌, length, get_or, map, replicate, slice_index_or, Option, Some, None, is_some, Result, Ok, Err, refl, sym, ap, ◌∙◌, subst, arith, length-append}
+use Rattle.std.proofs.Common.{◌≡◌, ◌≢◌, ◌⊎◌, inl, inr, ℕ, zero, suc, ◌+◌, ◌-◌, ◌<◌, ◌≤◌, Bool, true, false, cond, List, [], ◌∷◌, ◌++◌, length, get_or}
+use Rattle.std.proofs.Common.{map, replicate, slice_index_or, Option, Some, None, is_some, Result, Ok, Err, refl, sym, ap, ◌∙◌, subst, arith}
+use Rattle.std.proofs.Common.{length-append}
 use Rattle.std.specs.List.{range_with_len}
 use Rattle.std.proofs.lemmas.Bool.{false≢true}
 use Rattle.std.proofs.lemmas.List.{same_lists, get_or_default, get_or-map, length-map, length-replicate, get_or-replicate}
@@ -80,7 +82,8 @@ one_more job xs y each e p l = at (same_or_not p (length xs))
         let below : p < length xs = omega (arith, k, l, n) in
         each p below ∙ ap (λ (z : Actor). Ok z) (sym (get_front xs y p below))
 
-made_from : (job : Job) (k m : ℕ) (xs ys : List Actor) → length xs ≡ k → Each job xs → steps (actor_step job) xs (range_with_len k m) ≡ Ok ys → (length ys ≡ k + m) × Each job ys
+made_from : (job : Job) (k m : ℕ) (xs ys : List Actor) → length xs ≡ k → Each job xs → steps (actor_step job) xs (range_with_len k m) ≡ Ok ys
+    → (length ys ≡ k + m) × Each job ys
 unfolding actor_step steps
 made_from job k zero xs ys l each e =
     let s : xs ≡ ys = cc e in
@@ -90,7 +93,9 @@ made_from job k (suc m) xs ys l each e =
     let v = went (actor_of job k) (λ x. Ok (xs ++ x ∷ [])) w.0 w.1 in
     let s : xs ++ v.0 ∷ [] ≡ w.0 = cc v.2 in
     let n : length (xs ++ v.0 ∷ []) ≡ k + 1 = length-append xs (v.0 ∷ []) ∙ ap (λ z. z + 1) l in
-    let r = made_from job (k + 1) m (xs ++ v.0 ∷ []) ys n (one_more job xs v.0 each (subst (λ q. actor_of job q ≡ Ok v.0) (sym l) v.1)) (subst (λ zs. steps (actor_step job) zs (range_with_len (k + 1) m) ≡ Ok ys) (sym s) w.2) in
+    let r =
+    made_from job (k + 1) m (xs ++ v.0 ∷ []) ys n (one_more job xs v.0 each (subst (λ q. actor_of job q ≡ Ok v.0) (sym l) v.1))
+    (subst (λ zs. steps (actor_step job) zs (range_with_len (k + 1) m) ≡ Ok ys) (sym s) w.2) in
     (r.0 ∙ omega arith, r.1)
 
 -- the actors of a job: one per party, each its own
@@ -103,9 +108,11 @@ made job ys e = let r = made_from job 0 job.deal.graph.n [] ys refl (λ p l. abs
 pub record IsOwn (job : Job) (p : ℕ) (x : Actor) : Type 0 where
   pub is : IsActorOf job.deal (slice_index_or job.conforming p false) (slice_index_or job.seeds p None) p x
   pub notes : notes_in job.deal x ≡ no_notes job.deal
-  pub fits : slice_index_or job.conforming p false ≡ true → (seed : List ℕ) × (slice_index_or job.seeds p None ≡ Some seed) × (wrong_lock job.deal p seed ≡ None)
+  pub fits : slice_index_or job.conforming p false ≡ true → (seed : List ℕ) × (slice_index_or job.seeds p None ≡ Some seed)
+      × (wrong_lock job.deal p seed ≡ None)
 
-own : (job : Job) (p : ℕ) (x : Actor) (b : Bool) (o : Option (List ℕ)) → slice_index_or job.conforming p false ≡ b → slice_index_or job.seeds p None ≡ o → (b ≡ true → is_some o ≡ true) → cond b (with_seed job.deal p o) (Ok Manual) ≡ Ok x → IsOwn job p x
+own : (job : Job) (p : ℕ) (x : Actor) (b : Bool) (o : Option (List ℕ)) → slice_index_or job.conforming p false ≡ b → slice_index_or job.seeds p None ≡ o
+    → (b ≡ true → is_some o ≡ true) → cond b (with_seed job.deal p o) (Ok Manual) ≡ Ok x → IsOwn job p x
 own job p x false o eb eo some e =
     let s : Manual ≡ x = cc e in
     subst (IsOwn job p) s (record { is = eb; notes = refl; fits = λ t. absurd (false≢true (sym eb ∙ t)) })
@@ -121,48 +128,60 @@ own job p x true (Some seed) eb eo some e = by (wrong_lock job.deal p seed) refl
 pub is_own : (job : Job) (ys : List Actor) (p : ℕ) → HaveSeeds job → actors_of job ≡ Ok ys → p < job.deal.graph.n → IsOwn job p (get_or ys p Manual)
 is_own job ys p seeds e lt =
     let m = made job ys e in
-    own job p (get_or ys p Manual) (slice_index_or job.conforming p false) (slice_index_or job.seeds p None) refl refl (seeds.there p lt) (m.1 p (subst (λ n. p < n) (sym m.0) lt))
+    own job p (get_or ys p Manual) (slice_index_or job.conforming p false) (slice_index_or job.seeds p None) refl refl (seeds.there p lt)
+    (m.1 p (subst (λ n. p < n) (sym m.0) lt))
 
 pub are_actors : (job : Job) (ys : List Actor) → HaveSeeds job → actors_of job ≡ Ok ys → AreActorsOf job.deal job.conforming job.seeds ys
 are_actors job ys seeds e =
     let m = made job ys e in
     record {
       one_each = m.0;
-      each = λ v x l is. subst (IsActorOf job.deal (slice_index_or job.conforming v false) (slice_index_or job.seeds v None) v) (get_or_default ys v Manual x l ∙ sym is) (is_own job ys v seeds e (subst (λ n. v < n) m.0 l)).is;
+      each =
+          λ v x l is. subst (IsActorOf job.deal (slice_index_or job.conforming v false) (slice_index_or job.seeds v None) v)
+          (get_or_default ys v Manual x l ∙ sym is) (is_own job ys v seeds e (subst (λ n. v < n) m.0 l)).is;
     }
 
-pub no_notes_yet : (job : Job) (ys : List Actor) → HaveSeeds job → actors_of job ≡ Ok ys → map (notes_in job.deal) ys ≡ replicate job.deal.graph.n (no_notes job.deal)
+pub no_notes_yet : (job : Job) (ys : List Actor) → HaveSeeds job → actors_of job ≡ Ok ys
+    → map (notes_in job.deal) ys ≡ replicate job.deal.graph.n (no_notes job.deal)
 no_notes_yet job ys seeds e =
     let m = made job ys e in
     same_lists (map (notes_in job.deal) ys) (replicate job.deal.graph.n (no_notes job.deal))
     (length-map ys (notes_in job.deal) ∙ (m.0 ∙ sym (length-replicate job.deal.graph.n (no_notes job.deal))))
     (λ k d lt. at k d (subst (λ n. k < n) (length-map ys (notes_in job.deal)) lt) m.0)
   where
-    at : (k : ℕ) (d : Notes) → k < length ys → length ys ≡ job.deal.graph.n → get_or (map (notes_in job.deal) ys) k d ≡ get_or (replicate job.deal.graph.n (no_notes job.deal)) k d
+    at : (k : ℕ) (d : Notes) → k < length ys → length ys ≡ job.deal.graph.n
+        → get_or (map (notes_in job.deal) ys) k d ≡ get_or (replicate job.deal.graph.n (no_notes job.deal)) k d
     at k d lt n =
         let below = subst (λ z. k < z) n lt in
-        get_or-map (notes_in job.deal) ys k Manual d lt ∙ ((is_own job ys k seeds e below).notes ∙ sym (get_or-replicate job.deal.graph.n k (no_notes job.deal) d below))
+        get_or-map (notes_in job.deal) ys k Manual d lt ∙ ((is_own job ys k seeds e below).notes
+        ∙ sym (get_or-replicate job.deal.graph.n k (no_notes job.deal) d below))
 
 pub is_ready : (job : Job) (ys : List Actor) → IsAccepted job.deal → HaveSeeds job → actors_of job ≡ Ok ys → IsReadyCast (cast_of job)
 is_ready job ys accepted seeds e = record {
   accepted = accepted;
   one_each = seeds.conforming;
-  wallets = λ v lt t. let f = (is_own job ys v seeds e lt).fits t in subst (λ o. IsWallet job.deal v (wallet_with o v job.deal)) (sym f.1) (fitting_is_good job.deal v f.0 accepted lt f.2);
+  wallets = λ v lt t. let f =
+      (is_own job ys v seeds e lt).fits t in
+      subst (λ o. IsWallet job.deal v (wallet_with o v job.deal)) (sym f.1) (fitting_is_good job.deal v f.0 accepted lt f.2);
 }
 
 -- Where each conforming party has its wallet, there is an actor for each.
 
 -- each conforming party has a seed that gives it what the deal states
 abbrev pub AreStaffed : Job → Type 0
-AreStaffed job = (p : ℕ) → p < job.deal.graph.n → slice_index_or job.conforming p false ≡ true → (seed : List ℕ) × (slice_index_or job.seeds p None ≡ Some seed) × (wrong_lock job.deal p seed ≡ None)
+AreStaffed job =
+    (p : ℕ) → p < job.deal.graph.n → slice_index_or job.conforming p false ≡ true
+    → (seed : List ℕ) × (slice_index_or job.seeds p None ≡ Some seed) × (wrong_lock job.deal p seed ≡ None)
 
-any_with : (job : Job) (p : ℕ) (b : Bool) (o : Option (List ℕ)) → slice_index_or job.conforming p false ≡ b → slice_index_or job.seeds p None ≡ o → AreStaffed job → p < job.deal.graph.n → (x : Actor) × (cond b (with_seed job.deal p o) (Ok Manual) ≡ Ok x)
+any_with : (job : Job) (p : ℕ) (b : Bool) (o : Option (List ℕ)) → slice_index_or job.conforming p false ≡ b → slice_index_or job.seeds p None ≡ o
+    → AreStaffed job → p < job.deal.graph.n → (x : Actor) × (cond b (with_seed job.deal p o) (Ok Manual) ≡ Ok x)
 any_with job p false o eb eo staffed lt = (Manual, refl)
 any_with job p true o eb eo staffed lt =
     let s = staffed p lt eb in
     (Conforming (new_machine job.deal p s.0), ap (with_seed job.deal p) (sym eo ∙ s.1) ∙ ap (by_lock job.deal p s.0) s.2)
 
-any_from : (job : Job) (k m : ℕ) (xs : List Actor) → AreStaffed job → k + m ≤ job.deal.graph.n → (ys : List Actor) × (steps (actor_step job) xs (range_with_len k m) ≡ Ok ys)
+any_from : (job : Job) (k m : ℕ) (xs : List Actor) → AreStaffed job → k + m ≤ job.deal.graph.n
+    → (ys : List Actor) × (steps (actor_step job) xs (range_with_len k m) ≡ Ok ys)
 unfolding actor_step steps
 any_from job k zero xs staffed le = (xs, refl)
 any_from job k (suc m) xs staffed le =

@@ -11,7 +11,8 @@ use Rattle.swap_laws.proofs.Prefixes.{begins_refl}
 use Rattle.ledger_core.specs.History.{height, reply_to}
 use Rattle.ledger_core.specs.Ledger.{IsAfter, call_entry, is_sender_full, after_call}
 
-full_or_kept : (r : Reply) (h h' : List Entry) (e : Entry) → (r ≡ SenderFull → h' ≡ h) → (r ≢ SenderFull → h' ≡ h ++ e ∷ []) → h' ≡ cond (is_sender_full r) h (h ++ e ∷ [])
+full_or_kept : (r : Reply) (h h' : List Entry) (e : Entry) → (r ≡ SenderFull → h' ≡ h) → (r ≢ SenderFull → h' ≡ h ++ e ∷ [])
+    → h' ≡ cond (is_sender_full r) h (h ++ e ∷ [])
 full_or_kept SenderFull h h' e full kept = full refl
 full_or_kept _ h h' e full kept = kept (λ k. cc k)
 
@@ -22,11 +23,13 @@ pub record IsSame (old new : LedgerState) : Type 0 where
   pub history : new.history ≡ old.history
 
 pub called : (old mid new : LedgerState) (p : ℕ) (c : Call) (r : Reply) → IsSame old mid → r ≡ reply_to mid.deal mid.arc mid.history p c
-    → (r ≡ SenderFull → new ≡ mid) → (r ≢ SenderFull → IsAfter mid (call_entry p (height mid.history) c r) new) → new.history ≡ after_call old.deal old.arc p c old.history
+    → (r ≡ SenderFull → new ≡ mid) → (r ≢ SenderFull → IsAfter mid (call_entry p (height mid.history) c r) new)
+    → new.history ≡ after_call old.deal old.arc p c old.history
 unfolding after_call
 called old mid new p c r same reply full kept =
     let now : r ≡ reply_to old.deal old.arc old.history p c =
-    reply ∙ ap (λ (d : Deal). reply_to d mid.arc mid.history p c) same.deal ∙ ap (λ (a : ℕ). reply_to old.deal a mid.history p c) same.arc ∙ ap (λ (h : List Entry). reply_to old.deal old.arc h p c) same.history in
+    reply ∙ ap (λ (d : Deal). reply_to d mid.arc mid.history p c) same.deal ∙ ap (λ (a : ℕ). reply_to old.deal a mid.history p c) same.arc
+    ∙ ap (λ (h : List Entry). reply_to old.deal old.arc h p c) same.history in
     full_or_kept r mid.history new.history (call_entry p (height mid.history) c r) (λ k. ap (λ (l : LedgerState). l.history) (full k)) (λ k. (kept k).history)
     ∙ ap (λ (h : List Entry). cond (is_sender_full r) h (h ++ call_entry p (height h) c r ∷ [])) same.history
     ∙ ap (λ (x : Reply). cond (is_sender_full x) old.history (old.history ++ call_entry p (height old.history) c x ∷ [])) now

@@ -1,5 +1,6 @@
 -- What a world keeps at each event.
-use Rattle.std.proofs.Common.{◌≡◌, Result, Ok, Err, OnOk, OnErr, ◌⊎◌, inl, inr, ℕ, ◌<◌, Bool, false, List, [], ◌∷◌, length, get_or, set, Option, Some, sym, ap, ap₂, ◌∙◌, subst}
+use Rattle.std.proofs.Common.{◌≡◌, Result, Ok, Err, OnOk, OnErr, ◌⊎◌, inl, inr, ℕ, ◌<◌, Bool, false, List, [], ◌∷◌, length, get_or, set, Option, Some}
+use Rattle.std.proofs.Common.{sym, ap, ap₂, ◌∙◌, subst}
 use Rattle.std.specs.Result.{is_err}
 use Rattle.std.specs.List.{All}
 use Rattle.std.proofs.lemmas.List.Elements.{All-head, All-tail}
@@ -46,7 +47,8 @@ pub found : (xs : List Actor) (p : ℕ) (x : Actor) (m : MachineState) → x ≡
 found xs p x m e h = subst (λ y. y ≡ get_or xs p y) e h
 
 -- what a machine learnt of a ledger
-pub know : (m new : MachineState) (ls : List LedgerState) (a : ℕ) (l : LedgerState) → l.arc ≡ a → a < length ls → l ≡ get_or ls a l → new ≡ record { deal = m.deal; me = m.me; seed = m.seed; known = set m.known l.arc l.history; signed = m.signed }
+pub know : (m new : MachineState) (ls : List LedgerState) (a : ℕ) (l : LedgerState) → l.arc ≡ a → a < length ls → l ≡ get_or ls a l
+    → new ≡ record { deal = m.deal; me = m.me; seed = m.seed; known = set m.known l.arc l.history; signed = m.signed }
     → new ≡ record { deal = m.deal; me = m.me; seed = m.seed; known = set m.known a (history (histories ls) a); signed = m.signed }
 know m new ls a l ea lt is e = e ∙ ap₂ (λ (x : ℕ) (h : List Entry). after x h) ea (sym (history_at ls a l lt is))
   where
@@ -54,15 +56,18 @@ know m new ls a l ea lt is e = e ∙ ap₂ (λ (x : ℕ) (h : List Entry). after
     after x h = record { deal = m.deal; me = m.me; seed = m.seed; known = set m.known x h; signed = m.signed }
 
 -- a machine after a look is of the same owner, whether memory ran out or not
-pub same_owner : {A E : Type 0} (r : Result A E) (m new : MachineState) (k : Histories) → OnOk r (new ≡ record { deal = m.deal; me = m.me; seed = m.seed; known = k; signed = m.signed }) → OnErr r (new ≡ m) → IsSameOwner m new
+pub same_owner : {A E : Type 0} (r : Result A E) (m new : MachineState) (k : Histories)
+    → OnOk r (new ≡ record { deal = m.deal; me = m.me; seed = m.seed; known = k; signed = m.signed }) → OnErr r (new ≡ m) → IsSameOwner m new
 same_owner (Ok x) m new k ok err = record { deal = ap (λ y. y.deal) ok; me = ap (λ y. y.me) ok; seed = ap (λ y. y.seed) ok }
 same_owner (Err e) m new k ok err = record { deal = ap (λ y. y.deal) err; me = ap (λ y. y.me) err; seed = ap (λ y. y.seed) err }
 
-pub owned : (d : Deal) (conforms : Bool) (seed : Option (List ℕ)) (p : ℕ) (m new : MachineState) → IsSameOwner m new → IsActorOf d conforms seed p (Conforming m) → IsActorOf d conforms seed p (Conforming new)
+pub owned : (d : Deal) (conforms : Bool) (seed : Option (List ℕ)) (p : ℕ) (m new : MachineState) → IsSameOwner m new
+    → IsActorOf d conforms seed p (Conforming m) → IsActorOf d conforms seed p (Conforming new)
 owned d conforms seed p m new k i = (i.0, k.deal ∙ i.1, k.me ∙ i.2, i.3 ∙ ap (λ (z : List ℕ). Some z) (sym k.seed))
 
 -- the state after an event, or as before where memory ran out, is good
-pub good_on : {A E : Type 0} (r : Result A E) (cast : Cast) (old new : State) (e : Event) → OnOk r (new ≡ step cast old e) → OnErr r (new ≡ old) → IsReadyCast cast → CanStep cast.deal cast.conforming e → IsGood cast old → IsGood cast new
+pub good_on : {A E : Type 0} (r : Result A E) (cast : Cast) (old new : State) (e : Event) → OnOk r (new ≡ step cast old e) → OnErr r (new ≡ old)
+    → IsReadyCast cast → CanStep cast.deal cast.conforming e → IsGood cast old → IsGood cast new
 good_on (Ok x) cast old new e ok err ready can g = subst (IsGood cast) (sym ok) (steps_are_good cast old e ready can g)
 good_on (Err x) cast old new e ok err ready can g = subst (IsGood cast) (sym err) g
 
@@ -91,7 +96,8 @@ kept_by (Err x) old new e ok cast book ready can g =
     subst (λ c. IsKept c new.state.book) (sym cast) (kept_either (cast_at old) old.state new.state.book e book ready can g)
 
 -- every state that events lead to from a good one is good
-reached_good : (c : Cast) (s : State) (events : List Event) → IsReadyCast c → All (CanStep c.deal c.conforming) events → IsGood c s → IsGood c (run_from c s events)
+reached_good : (c : Cast) (s : State) (events : List Event) → IsReadyCast c → All (CanStep c.deal c.conforming) events → IsGood c s
+    → IsGood c (run_from c s events)
 reached_good c s [] ready can g = g
 reached_good c s (e ∷ events) ready can g =
     reached_good c (step c s e) events ready (All-tail (CanStep c.deal c.conforming) e events can)
@@ -101,7 +107,8 @@ reached_kept : (c : Cast) (s t : State) → IsReadyCast c → IsGood c s → IsR
 reached_kept c s t ready g r = good_is_kept c t ready (subst (IsGood c) (sym r.state) (reached_good c s r.events ready r.can g))
 
 -- the same of a world that came to a state, or stopped on its way there
-pub kept_to : {A E : Type 0} (r : Result A E) (old new : WorldState) (t : State) → OnOk r (new ≡ at old t) → OnErr r (IsStopped old t new) → IsReached (cast_at old) old.state t
+pub kept_to : {A E : Type 0} (r : Result A E) (old new : WorldState) (t : State) → OnOk r (new ≡ at old t) → OnErr r (IsStopped old t new)
+    → IsReached (cast_at old) old.state t
     → IsReadyCast (cast_at old) → IsGood (cast_at old) old.state → IsKept (cast_at new) new.state.book
 kept_to (Ok x) old new t ok err r ready g = subst (λ w. IsKept (cast_at w) w.state.book) (sym ok) (reached_kept (cast_at old) old.state t ready g r)
 kept_to (Err x) old new t ok err r ready g =
@@ -114,16 +121,19 @@ both (Ok x) f p q = f p q
 both (Err e) f p q = tt
 
 -- the state after an act that didn't run out of memory is good
-pub good_unless : {A E : Type 0} (r : Result A E) (stopped : Bool) (cast : Cast) (old new : State) (e : Event) → stopped ≡ is_err r → stopped ≡ false → OnOk r (new ≡ step cast old e) → IsReadyCast cast → CanStep cast.deal cast.conforming e → IsGood cast old → IsGood cast new
+pub good_unless : {A E : Type 0} (r : Result A E) (stopped : Bool) (cast : Cast) (old new : State) (e : Event) → stopped ≡ is_err r → stopped ≡ false
+    → OnOk r (new ≡ step cast old e) → IsReadyCast cast → CanStep cast.deal cast.conforming e → IsGood cast old → IsGood cast new
 good_unless (Ok x) stopped cast old new e is goes_on ok ready can g = subst (IsGood cast) (sym ok) (steps_are_good cast old e ready can g)
 good_unless (Err x) stopped cast old new e is goes_on ok ready can g = absurd (false≢true (sym goes_on ∙ is))
 
 -- an act that didn't run out of memory leaves the world going on
-pub acted_on : {A E : Type 0} (r : Result A E) (d : Deal) (conforming : List Bool) (seeds : Seeds) (before after : Bool) (old new : State) → after ≡ is_err r → before ≡ false → OnOk r (new ≡ old) → OnOk r (world d conforming seeds after new ≡ world d conforming seeds before old)
+pub acted_on : {A E : Type 0} (r : Result A E) (d : Deal) (conforming : List Bool) (seeds : Seeds) (before after : Bool) (old new : State)
+    → after ≡ is_err r → before ≡ false → OnOk r (new ≡ old) → OnOk r (world d conforming seeds after new ≡ world d conforming seeds before old)
 acted_on (Ok x) d conforming seeds before after old new is goes_on ok = ap₂ (λ (b : Bool) (st : State). world d conforming seeds b st) (is ∙ sym goes_on) ok
 acted_on (Err x) d conforming seeds before after old new is goes_on ok = tt
 
-module _ (d : Deal) (conforming : List Bool) (seeds : List (Option (List ℕ))) (ls : List LedgerState) (xs : List Actor) (ready : IsReadyCast (c d conforming seeds ls xs)) (good : IsGood (c d conforming seeds ls xs) (s d conforming seeds ls xs))
+module _ (d : Deal) (conforming : List Bool) (seeds : List (Option (List ℕ))) (ls : List LedgerState) (xs : List Actor)
+    (ready : IsReadyCast (c d conforming seeds ls xs)) (good : IsGood (c d conforming seeds ls xs) (s d conforming seeds ls xs))
     (p : ℕ) (below : p < d.graph.n) (m : MachineState) (i : IsAt d conforming seeds ls xs p m) where
   -- what the machine knows is the beginning of each history
   pub begins : (a : ℕ) → Begins (history m.known a) (history (histories ls) a)
@@ -137,5 +147,14 @@ module _ (d : Deal) (conforming : List Bool) (seeds : List (Option (List ℕ))) 
       let cast = c d conforming seeds ls xs in
       let state = s d conforming seeds ls xs in
       let next : next_of cast state p ≡ Some x = next_is d conforming seeds ls xs p m i ∙ e in
-      let is = due_now d state.book (notes_of state p) p (cast.wallet p) x (ready.wallets p below i.is.0) ready.accepted (first_in (due d p (cast.wallet p) (signed_in (notes_of state p).signed) (notes_of state p).known) x next) (holds cast state p (good.notes p below i.is.0)) in
-      subst (λ e. IsMakable e m.me x) (sym i.is.1) (subst (λ v. IsMakable d v x) (sym i.is.2) (record { arc = is.below; of_the_two = is.of_the_two; fits = is.fits; valid = due_is_valid d p (cast.wallet p) _ _ _ x.arc x.call is }))
+      let is =
+      due_now d state.book (notes_of state p) p (cast.wallet p) x (ready.wallets p below i.is.0) ready.accepted
+      (first_in (due d p (cast.wallet p) (signed_in (notes_of state p).signed) (notes_of state p).known) x next)
+      (holds cast state p (good.notes p below i.is.0)) in
+      subst (λ e. IsMakable e m.me x) (sym i.is.1) (subst (λ v. IsMakable d v x) (sym i.is.2) (record {
+        arc = is.below;
+        of_the_two =
+            is.of_the_two;
+        fits = is.fits;
+        valid = due_is_valid d p (cast.wallet p) _ _ _ x.arc x.call is;
+      }))

@@ -141,8 +141,12 @@ fn make_due(
     requires makable { IsMakable machine.old.deal machine.old.me (record { arc = arc; call = due }) }
     requires begins { Begins (history machine.old.known arc) ledger.old.history }
     ensures ok { OnOk result (ledger.new.history ≡ after_call machine.old.deal arc machine.old.me due ledger.old.history) }
-    ensures knows { OnOk result (machine.new ≡ record machine.old { known = slice_set machine.old.known arc (after_call machine.old.deal arc machine.old.me due ledger.old.history) }) }
-    ensures err { OnErr result ((ledger.new.history ≡ ledger.old.history) ⊎ (ledger.new.history ≡ after_call machine.old.deal arc machine.old.me due ledger.old.history)) }
+    ensures knows { OnOk result (machine.new ≡ record machine.old {
+      known =
+          slice_set machine.old.known arc (after_call machine.old.deal arc machine.old.me due ledger.old.history);
+    }) }
+    ensures err { OnErr result ((ledger.new.history ≡ ledger.old.history)
+        ⊎ (ledger.new.history ≡ after_call machine.old.deal arc machine.old.me due ledger.old.history)) }
     ensures ledger { IsLedgerOf machine.old.deal arc ledger.new }
     ensures owner { IsSameOwner machine.old machine.new }
 {
@@ -158,7 +162,8 @@ pub(crate) fn act(machine: &mut Machine, ledgers: &mut Vec<Ledger>) -> Result<bo
     ensures ok { OnOk result (histories ledgers.new.items ≡ book_after machine.old (next_of machine.old) (histories ledgers.old.items)) }
     ensures knows { OnOk result (machine.new ≡ machine_after machine.old (next_of machine.old) (histories ledgers.old.items)) }
     ensures idle { IfOk result (λ made. made ≡ false → next_of machine.old ≡ None) }
-    ensures err { OnErr result ((histories ledgers.new.items ≡ histories ledgers.old.items) ⊎ (histories ledgers.new.items ≡ book_after machine.old (next_of machine.old) (histories ledgers.old.items))) }
+    ensures err { OnErr result ((histories ledgers.new.items ≡ histories ledgers.old.items)
+        ⊎ (histories ledgers.new.items ≡ book_after machine.old (next_of machine.old) (histories ledgers.old.items))) }
     ensures ledgers { AreLedgersOf machine.old.deal ledgers.new.items }
     ensures owner { IsSameOwner machine.old machine.new }
 {

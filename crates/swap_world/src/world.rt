@@ -123,7 +123,8 @@ impl World {
         ensures idle { IfOk result (λ made. made ≡ false → step (cast_at self.old) self.old.state (Event.Act p) ≡ self.old.state) }
         ensures stopped { OnErr result (self.new.stopped ≡ true) }
         ensures cast { OnErr result (cast_at self.new ≡ cast_at self.old) }
-        ensures book { OnErr result ((self.new.state.book ≡ self.old.state.book) ⊎ (self.new.state.book ≡ (step (cast_at self.old) self.old.state (Event.Act p)).book)) }
+        ensures book { OnErr result ((self.new.state.book ≡ self.old.state.book)
+            ⊎ (self.new.state.book ≡ (step (cast_at self.old) self.old.state (Event.Act p)).book)) }
     {
         let Actor::Conforming(machine) = &mut self.actors[p as usize] else {
             return Ok(false);
@@ -139,7 +140,8 @@ impl World {
         ensures ok { OnOk result (self.new ≡ record self.old { state = step (cast_at self.old) self.old.state (Event.Act p) }) }
         ensures stopped { OnErr result (self.new.stopped ≡ true) }
         ensures cast { OnErr result (cast_at self.new ≡ cast_at self.old) }
-        ensures book { OnErr result ((self.new.state.book ≡ self.old.state.book) ⊎ (self.new.state.book ≡ (step (cast_at self.old) self.old.state (Event.Act p)).book)) }
+        ensures book { OnErr result ((self.new.state.book ≡ self.old.state.book)
+            ⊎ (self.new.state.book ≡ (step (cast_at self.old) self.old.state (Event.Act p)).book)) }
     {
         self.act_if_due(p)?;
         Ok(())
@@ -162,7 +164,8 @@ impl World {
         ensures ok { OnOk result (self.new ≡ record self.old { state = step (cast_at self.old) self.old.state event.now }) }
         ensures err { OnErr result (self.new.stopped ≡ true) }
         ensures cast { OnErr result (cast_at self.new ≡ cast_at self.old) }
-        ensures book { OnErr result ((self.new.state.book ≡ self.old.state.book) ⊎ (self.new.state.book ≡ (step (cast_at self.old) self.old.state event.now).book)) }
+        ensures book { OnErr result ((self.new.state.book ≡ self.old.state.book)
+            ⊎ (self.new.state.book ≡ (step (cast_at self.old) self.old.state event.now).book)) }
     {
         let done = match event {
             Event::Tick(arc, k) => self.tick(*arc, *k),
@@ -182,7 +185,8 @@ impl World {
         ensures ok { OnOk result (self.new ≡ record self.old { state = step (cast_at self.old) self.old.state event.now }) }
         ensures err { OnErr result (self.new.stopped ≡ true) }
         ensures cast { OnErr result (cast_at self.new ≡ cast_at self.old) }
-        ensures book { OnErr result ((self.new.state.book ≡ self.old.state.book) ⊎ (self.new.state.book ≡ (step (cast_at self.old) self.old.state event.now).book)) }
+        ensures book { OnErr result ((self.new.state.book ≡ self.old.state.book)
+            ⊎ (self.new.state.book ≡ (step (cast_at self.old) self.old.state event.now).book)) }
         ensures stopped { IsTrue self.old.stopped → IsErr result × (self.new.state.book ≡ self.old.state.book) }
         // Whatever the others do, and whether memory ran out or not, every conforming party has kept its conduct.
         ensures kept { IsKept (cast_at self.new) self.new.state.book }
@@ -207,12 +211,15 @@ impl World {
         many::run(self, events)
     }
 
-    /// The fair finish: rounds until each ledger is above the horizon. In a round each party in its order looks at each arc that touches it and acts until nothing is due, and then each ledger that isn't above the horizon ticks by one height. After want of memory every later step wants memory too.
+    /// The fair finish: rounds until each ledger is above the horizon. In a round each party in its order looks at each arc that touches it and acts
+    /// until nothing is due, and then each ledger that isn't above the horizon ticks by one height. After want of memory every later step wants memory
+    /// too.
     pub fn finish_fair(&mut self) -> Result<(), NoMemory>
         ensures ok { OnOk result (self.new ≡ record self.old { state = finish (cast_at self.old) self.old.state }) }
         ensures ended { OnOk result (IsEnded self.old.deal self.new.state.book) }
         // Where every party conforms and nothing came before, everything moves.
-        ensures dealt { OnOk result (AllConform self.old → self.old.state ≡ start self.old.deal → IsDealt self.old.deal (conforms (cast_at self.old)) self.new.state.book) }
+        ensures dealt { OnOk result (AllConform self.old → self.old.state ≡ start self.old.deal
+            → IsDealt self.old.deal (conforms (cast_at self.old)) self.new.state.book) }
         ensures err { OnErr result (IsStopped self.old (finish (cast_at self.old) self.old.state) self.new) }
         ensures stopped { IsTrue self.old.stopped → IsErr result × (self.new.state.book ≡ self.old.state.book) }
         ensures kept { IsKept (cast_at self.new) self.new.state.book }

@@ -10,4 +10,5 @@ unfolding header_line
 returns c =
     let job = c.args.job.now in
     let e = c.in_ok-shown_header.ensures in
-    c.new.ensures ∙ ap (λ v. v.items) c.into_bytes.ensures.value ∙ c.in_ok-text.ensures.text (ap has_float e ∙ shown_has_none job) ∙ ap compact_text (e ∙ sym (is_shown job c.requires.shown))
+    c.new.ensures ∙ ap (λ v. v.items) c.into_bytes.ensures.value ∙ c.in_ok-text.ensures.text (ap has_float e ∙ shown_has_none job)
+    ∙ ap compact_text (e ∙ sym (is_shown job c.requires.shown))

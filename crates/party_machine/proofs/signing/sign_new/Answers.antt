@@ -13,7 +13,8 @@ sign_onto-requires-clause-known c =
     let r = c.requires.ready in
     let seen = subst (IsSeenOn c.args.deal.now c.args.wallet.now.party (entries_in c.args.known.now) c.args.due.lock) c.in-Onto.is c.requires.base in
     let below : c.in-Onto.arc < length c.args.known.now = rw (one_each c.args.deal.now c.args.wallet.now c.args.known.now r) seen.0 in
-    has_lock (λ x. x.terms) c.args.deal.now c.args.known.now c.in-Onto.arc c.args.due.lock c.index-known-arc.result r.sized r.indexes.terms below c.index-known-arc.is c.requires.lock
+    has_lock (λ x. x.terms) c.args.deal.now c.args.known.now c.in-Onto.arc c.args.due.lock c.index-known-arc.result r.sized r.indexes.terms below
+    c.index-known-arc.is c.requires.lock
 
 pub sign_onto-requires-clause-onto : goal.sign_onto-requires-clause-onto
 sign_onto-requires-clause-onto c =
@@ -23,5 +24,6 @@ sign_onto-requires-clause-onto c =
     let known = c.args.known.now in
     let seen = subst (IsSeenOn c.args.deal.now c.args.wallet.now.party (entries_in c.args.known.now) c.args.due.lock) c.in-Onto.is c.requires.base in
     let below : c.in-Onto.arc < length c.args.known.now = rw (one_each d w known r) seen.0 in
-    subst (λ (h : List Entry). CanPutOnto d c.args.due.lock (opened_key h c.args.due.lock)) (history_of known c.in-Onto.arc c.index-known-arc.result below c.index-known-arc.is)
+    subst (λ (h : List Entry). CanPutOnto d c.args.due.lock (opened_key h c.args.due.lock))
+    (history_of known c.in-Onto.arc c.index-known-arc.result below c.index-known-arc.is)
     (can_put_onto d w.party c.args.due.lock c.in-Onto.arc (entries_in known) r.sized r.partys.party (λ a lt. legal_at d w known a r lt) seen.1)

@@ -11,7 +11,8 @@ returns-in_err-replay_entry-clause-exact c =
     let d = c.args.ledger.now.deal in
     let a = c.args.ledger.now.arc in
     rw (p.1, p.2)
-    (steps_fail c.in_err-replay_entry.field-0.0 (with_entry d a) c.loop-entry.ledger.history c.args.entries.now c.loop-entry.entry-index c.entry-item.result (replay d a c.args.entries.now) c.loop-entry-test.true c.entry-item.is
+    (steps_fail c.in_err-replay_entry.field-0.0 (with_entry d a) c.loop-entry.ledger.history c.args.entries.now c.loop-entry.entry-index
+    c.entry-item.result (replay d a c.args.entries.now) c.loop-entry-test.true c.entry-item.is
     (rw (c.loop-entry.invariant.deal, c.loop-entry.invariant.arc) at c.in_err-replay_entry.ensures.exact) c.loop-entry.invariant.so_far)
 
 pub loop-entry-preserved : goal.loop-entry-preserved
@@ -39,4 +40,5 @@ pub returns-clause-exact : goal.returns-clause-exact
 returns-clause-exact c =
     let d = c.args.ledger.now.deal in
     let a = c.args.ledger.now.arc in
-    steps_done (with_entry d a) c.loop-entry.ledger.history c.args.entries.now c.loop-entry.entry-index (replay d a c.args.entries.now) c.loop-entry-test.false c.loop-entry.invariant.so_far
+    steps_done (with_entry d a) c.loop-entry.ledger.history c.args.entries.now c.loop-entry.entry-index (replay d a c.args.entries.now)
+    c.loop-entry-test.false c.loop-entry.invariant.so_far

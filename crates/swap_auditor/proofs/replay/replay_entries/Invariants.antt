@@ -7,7 +7,8 @@ use Rattle.swap_auditor.proofs.replay.replay_entries.Given as goal
 
 abbrev pub invariant-loop-entry : goal.invariant-loop-entry
 invariant-loop-entry l = record {
-  so_far : steps (with_entry l.initial.ledger.deal l.initial.ledger.arc) l.ledger.history (drop l.entry-index l.entries) ≡ replay l.initial.ledger.deal l.initial.ledger.arc l.entries;
+  so_far : steps (with_entry l.initial.ledger.deal l.initial.ledger.arc) l.ledger.history (drop l.entry-index l.entries)
+      ≡ replay l.initial.ledger.deal l.initial.ledger.arc l.entries;
   past : l.ledger.history ≡ take l.entry-index l.entries;
   rest : GoesOn l.initial.ledger.deal l.initial.ledger.arc l.ledger.history (drop l.entry-index l.entries);
   deal : l.ledger.deal ≡ l.initial.ledger.deal;

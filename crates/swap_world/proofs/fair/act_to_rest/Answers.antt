@@ -19,8 +19,16 @@ returns-in_err-act_if_due-clause-err c =
     let new = c.act_if_due.new.self in
     let l : c.acts.counter < most_acts w.deal = rw (← c.deal.ensures.value, ← c.most_acts-end.ensures) c.acts-test.true in
     let e = c.in_err-act_if_due.ensures in
-    let stopped : IsStopped mid (act_of c.args.p (cast_at mid) mid.state) new = record { stopped = e.stopped; cast = e.cast; book = way_of_step (cast_at mid) mid.state (Act c.args.p) new.state.book (subst (λ d. c.args.p < d.graph.n) (sym (ap (λ x. x.deal) c.acts.invariant)) c.requires.party) e.book } in
-    if_err _ (repeat_stops (act_of c.args.p) w mid new (most_acts w.deal) c.acts.counter c.acts.invariant l (act_leads (cast_at w) c.args.p c.requires.party) stopped)
+    let stopped : IsStopped mid (act_of c.args.p (cast_at mid) mid.state) new =
+    record {
+      stopped = e.stopped;
+      cast = e.cast;
+      book =
+          way_of_step (cast_at mid) mid.state (Act c.args.p) new.state.book
+          (subst (λ d. c.args.p < d.graph.n) (sym (ap (λ x. x.deal) c.acts.invariant)) c.requires.party) e.book;
+    } in
+    if_err _ (repeat_stops (act_of c.args.p) w mid new (most_acts w.deal) c.acts.counter c.acts.invariant l
+    (act_leads (cast_at w) c.args.p c.requires.party) stopped)
 
 pub returns-then-not-branch-clause-ok : goal.returns-then-not-branch-clause-ok
 returns-then-not-branch-clause-ok c =

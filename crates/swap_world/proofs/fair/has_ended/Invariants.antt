@@ -7,4 +7,6 @@ use Rattle.swap_run.specs.Fair.{the_horizon}
 use Rattle.swap_world.proofs.fair.has_ended.Given as goal
 
 abbrev pub invariant-loop-arc : goal.invariant-loop-arc
-invariant-loop-arc l = list_all (λ a. nat_lt (the_horizon l.world.deal) (height (history l.world.state.book a))) (take l.arc (range_with_len 0 (length l.world.deal.graph.arcs))) ≡ true
+invariant-loop-arc l =
+    list_all (λ a. nat_lt (the_horizon l.world.deal) (height (history l.world.state.book a)))
+    (take l.arc (range_with_len 0 (length l.world.deal.graph.arcs))) ≡ true

@@ -6,4 +6,6 @@ use Rattle.swap_world.proofs.Ways.{at}
 use Rattle.swap_world.proofs.fair.look_around.Given as goal
 
 abbrev pub invariant-arcs : goal.invariant-arcs
-invariant-arcs l = l.world ≡ at l.fn.world (fold (look_near (cast_at l.fn.world) l.p) l.fn.world.state (take l.arc (range_with_len 0 (length l.fn.world.deal.graph.arcs))))
+invariant-arcs l =
+    l.world ≡ at l.fn.world (fold (look_near (cast_at l.fn.world) l.p) l.fn.world.state
+    (take l.arc (range_with_len 0 (length l.fn.world.deal.graph.arcs))))

@@ -11,7 +11,8 @@ pub returns-in_err-tick_low-clause-err : goal.returns-in_err-tick_low-clause-err
 returns-in_err-tick_low-clause-err c =
     let w = c.args.world.now in
     let l : c.arcs.arc < length w.deal.graph.arcs = rw (← c.deal.ensures.value, ← c.arcs-2.ensures) c.arcs-test.true in
-    if_err _ (ticks_stop w c.tick_low.new.world (range_stops tick_low w c.arcs.world c.tick_low.new.world (length w.deal.graph.arcs) c.arcs.arc c.arcs.invariant l (λ a la s. tick_events (cast_at w) s a la) c.in_err-tick_low.ensures.err))
+    if_err _ (ticks_stop w c.tick_low.new.world (range_stops tick_low w c.arcs.world c.tick_low.new.world (length w.deal.graph.arcs) c.arcs.arc
+    c.arcs.invariant l (λ a la s. tick_events (cast_at w) s a la) c.in_err-tick_low.ensures.err))
 
 pub arcs-preserved : goal.arcs-preserved
 arcs-preserved c =

@@ -6,4 +6,5 @@ use Rattle.swap_world.proofs.Ways.{at}
 use Rattle.swap_world.proofs.fair.ticks.Given as goal
 
 abbrev pub invariant-arcs : goal.invariant-arcs
-invariant-arcs l = l.world ≡ at l.fn.world (fold (tick_low (cast_at l.fn.world)) l.fn.world.state (take l.arc (range_with_len 0 (length l.fn.world.deal.graph.arcs))))
+invariant-arcs l =
+    l.world ≡ at l.fn.world (fold (tick_low (cast_at l.fn.world)) l.fn.world.state (take l.arc (range_with_len 0 (length l.fn.world.deal.graph.arcs))))

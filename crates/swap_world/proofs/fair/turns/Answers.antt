@@ -10,7 +10,8 @@ pub returns-in_err-turn-clause-err : goal.returns-in_err-turn-clause-err
 returns-in_err-turn-clause-err c =
     let w = c.args.world.now in
     let l : c.parties.p < w.deal.graph.n = rw (← c.deal.ensures.value) (omega (arith, c.parties-test.true, c.n-p-end.ensures)) in
-    if_err _ (turns_stop w c.turn.new.world (range_stops turn w c.parties.world c.turn.new.world w.deal.graph.n c.parties.p c.parties.invariant l (λ v. turn_leads (cast_at w) v) c.in_err-turn.ensures.err))
+    if_err _ (turns_stop w c.turn.new.world (range_stops turn w c.parties.world c.turn.new.world w.deal.graph.n c.parties.p c.parties.invariant l (λ v.
+    turn_leads (cast_at w) v) c.in_err-turn.ensures.err))
 
 pub parties-preserved : goal.parties-preserved
 parties-preserved c =

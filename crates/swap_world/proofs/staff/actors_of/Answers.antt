@@ -20,7 +20,9 @@ parties-init c =
 
 pub parties-preserved : goal.parties-preserved
 parties-preserved c = record {
-  so_far = goes_on c.args.job.now (actors_of c.args.job.now) c.parties.p c.parties.actors.items c.add_actor.new.actors.items (rw c.n-p-end.ensures at c.parties-test.true) c.in_ok-add_actor.ensures c.parties.invariant.so_far;
+  so_far =
+      goes_on c.args.job.now (actors_of c.args.job.now) c.parties.p c.parties.actors.items c.add_actor.new.actors.items
+      (rw c.n-p-end.ensures at c.parties-test.true) c.in_ok-add_actor.ensures c.parties.invariant.so_far;
   one_each = simp length-set c.parties.invariant.one_each;
   wallets = λ k le lt. let other : k ≢ c.parties.p = omega arith in rw get_or-set_other (c.parties.invariant.wallets k (omega arith) lt);
 }
@@ -28,7 +30,10 @@ parties-preserved c = record {
 pub returns-in_err-add_actor : goal.returns-in_err-add_actor
 returns-in_err-add_actor c =
     let p = err_from_is_err_and c.from_residual.result c.from_residual.ensures.1 in
-    rw (p.1, p.2) (ends c.args.job.now (actors_of c.args.job.now) c.in_err-add_actor.field-0.0 c.parties.p c.parties.actors.items (rw c.n-p-end.ensures at c.parties-test.true) c.in_err-add_actor.ensures c.parties.invariant.so_far)
+    rw (p.1, p.2) (ends c.args.job.now (actors_of c.args.job.now) c.in_err-add_actor.field-0.0 c.parties.p c.parties.actors.items
+    (rw c.n-p-end.ensures at c.parties-test.true) c.in_err-add_actor.ensures c.parties.invariant.so_far)
 
 pub returns : goal.returns
-returns c = is_done c.args.job.now (actors_of c.args.job.now) c.parties.p c.parties.actors.items (rw c.n-p-end.ensures at c.parties-test.false) c.parties.invariant.so_far
+returns c =
+    is_done c.args.job.now (actors_of c.args.job.now) c.parties.p c.parties.actors.items (rw c.n-p-end.ensures at c.parties-test.false)
+    c.parties.invariant.so_far

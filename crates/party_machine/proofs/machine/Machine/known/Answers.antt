@@ -10,7 +10,8 @@ returns-clause-entries c =
     let i = c.self.inside in
     let lt = rw (← c.self.view_is) at c.requires in
     let below : c.args.arc < length i.known.items = rw (one_each i.deal i.wallet i.known.items c.self.invariant.ready) lt in
-    sym (ap (λ (s : MachineState). history s.known c.args.arc) (sym c.self.view_is) ∙ history_of i.known.items c.args.arc c.index.result.now below c.index.ensures)
+    sym (ap (λ (s : MachineState). history s.known c.args.arc) (sym c.self.view_is)
+    ∙ history_of i.known.items c.args.arc c.index.result.now below c.index.ensures)
 
 pub returns-clause-made : goal.returns-clause-made
 returns-clause-made c =

@@ -16,8 +16,17 @@ use Rattle.party_machine.proofs.machine.Machine.next.Goals.{then-is_none, else-i
 pub returns-then-is_some-clause-due : goal.returns-then-is_some-clause-due
 returns-then-is_some-clause-due c =
     let i = c.self.inside in
-    let e = publishes i.deal i.wallet i.known.items c.self.invariant.ready c.party-me.result c.deref.result.now c.in_ok-first.first c.party-me.ensures c.deref.ensures.value c.in_ok-first.ensures.first in
-    at_once (record { deal = i.deal; me = i.wallet.party; seed = i.wallet.seed; known = entries_in i.known.items; signed = i.wallet.signed }) c.in_ok-first.first e (sym c.is_some.ensures ∙ c.if-is_some.true)
+    let e =
+    publishes i.deal i.wallet i.known.items c.self.invariant.ready c.party-me.result c.deref.result.now c.in_ok-first.first c.party-me.ensures
+    c.deref.ensures.value c.in_ok-first.ensures.first in
+    at_once (record {
+      deal = i.deal;
+      me = i.wallet.party;
+      seed = i.wallet.seed;
+      known = entries_in i.known.items;
+      signed =
+          i.wallet.signed;
+    }) c.in_ok-first.first e (sym c.is_some.ensures ∙ c.if-is_some.true)
     ∙ ap next_of c.self.view_is
 
 pub returns-then-is_some-clause-signed : goal.returns-then-is_some-clause-signed
@@ -27,54 +36,81 @@ pub hashkey_for-requires-clause-from : goal.hashkey_for-requires-clause-from
 hashkey_for-requires-clause-from c =
     let i = c.self.inside in
     from_some i.deal i.wallet i.known.items c.self.invariant.ready c.in-Some.due c.deref-in-Some.result.now c.deref-in-Some.ensures.value
-    (first_unlock i.deal i.wallet i.known.items c.self.invariant.ready c.party-me.result c.deref-2.result.now c.signed.result.now.keys c.in-Some.due c.party-me.ensures c.deref-2.ensures.value c.signed.ensures c.in-Some.ensures.some)
+    (first_unlock i.deal i.wallet i.known.items c.self.invariant.ready c.party-me.result c.deref-2.result.now c.signed.result.now.keys c.in-Some.due
+    c.party-me.ensures c.deref-2.ensures.value c.signed.ensures c.in-Some.ensures.some)
 
 pub invariant_of-self-in-Some : goal.invariant_of-self-in-Some
 invariant_of-self-in-Some c =
     let i = c.self.inside in
-    let seen = seen_by i.deal i.wallet i.known.items c.self.invariant.ready c.party-me.result c.deref-2.result.now c.in-Some.due c.party-me.ensures c.deref-2.ensures.value c.in-Some.ensures.base in
+    let seen =
+    seen_by i.deal i.wallet i.known.items c.self.invariant.ready c.party-me.result c.deref-2.result.now c.in-Some.due c.party-me.ensures
+    c.deref-2.ensures.value c.in-Some.ensures.base in
     record {
-      ready = answered_ready i.deal i.wallet i.known.items c.self.invariant.ready c.in-Some.due c.hashkey_for.result c.hashkey_for.new.wallet c.deref-in-Some.result.now c.deref-in-Some.ensures.value c.in-Some.ensures.lock seen c.hashkey_for.ensures.value c.hashkey_for.ensures.kept c.hashkey_for.ensures.err;
+      ready =
+          answered_ready i.deal i.wallet i.known.items c.self.invariant.ready c.in-Some.due c.hashkey_for.result c.hashkey_for.new.wallet
+          c.deref-in-Some.result.now c.deref-in-Some.ensures.value c.in-Some.ensures.lock seen c.hashkey_for.ensures.value c.hashkey_for.ensures.kept
+          c.hashkey_for.ensures.err;
       rests = awake i.rest (shown i.deal c.hashkey_for.new.wallet i.known.items) c.in-Awake.is;
     }
 
 pub returns-in-Some-clause-due : goal.returns-in-Some-clause-due
 returns-in-Some-clause-due c =
     let i = c.self.inside in
-    let e = publishes i.deal i.wallet i.known.items c.self.invariant.ready c.party-me.result c.deref.result.now c.in_ok-first.first c.party-me.ensures c.deref.ensures.value c.in_ok-first.ensures.first in
-    let seen = seen_by i.deal i.wallet i.known.items c.self.invariant.ready c.party-me.result c.deref-2.result.now c.in-Some.due c.party-me.ensures c.deref-2.ensures.value c.in-Some.ensures.base in
-    let f = first_unlock i.deal i.wallet i.known.items c.self.invariant.ready c.party-me.result c.deref-2.result.now c.signed.result.now.keys c.in-Some.due c.party-me.ensures c.deref-2.ensures.value c.signed.ensures c.in-Some.ensures.some in
+    let e =
+    publishes i.deal i.wallet i.known.items c.self.invariant.ready c.party-me.result c.deref.result.now c.in_ok-first.first c.party-me.ensures
+    c.deref.ensures.value c.in_ok-first.ensures.first in
+    let seen =
+    seen_by i.deal i.wallet i.known.items c.self.invariant.ready c.party-me.result c.deref-2.result.now c.in-Some.due c.party-me.ensures
+    c.deref-2.ensures.value c.in-Some.ensures.base in
+    let f =
+    first_unlock i.deal i.wallet i.known.items c.self.invariant.ready c.party-me.result c.deref-2.result.now c.signed.result.now.keys c.in-Some.due
+    c.party-me.ensures c.deref-2.ensures.value c.signed.ensures c.in-Some.ensures.some in
     let value : due_hashkey i.deal i.wallet (entries_in i.known.items) c.in-Some.due ≡ Some c.in_ok-key-in-Some.key =
-    subst (λ (ys : List IndexState). due_hashkey i.deal i.wallet (entries_in ys) c.in-Some.due ≡ Some c.in_ok-key-in-Some.key) c.deref-in-Some.ensures.value c.in_ok-key-in-Some.ensures.value in
-    unlocks_next i.deal i.wallet i.known.items c.self.invariant.ready c.in_ok-first.first c.in-Some.due c.in_ok-key-in-Some.key e (sym c.is_some.ensures ∙ c.if-is_some.false)
+    subst (λ (ys : List IndexState). due_hashkey i.deal i.wallet (entries_in ys) c.in-Some.due ≡ Some c.in_ok-key-in-Some.key)
+    c.deref-in-Some.ensures.value c.in_ok-key-in-Some.ensures.value in
+    unlocks_next i.deal i.wallet i.known.items c.self.invariant.ready c.in_ok-first.first c.in-Some.due c.in_ok-key-in-Some.key e (sym c.is_some.ensures
+    ∙ c.if-is_some.false)
     (unlocks i.deal i.wallet i.known.items c.self.invariant.ready c.in-Some.due c.in_ok-key-in-Some.key seen f value)
     ∙ ap next_of c.self.view_is
 
 pub returns-in-Some-clause-signed : goal.returns-in-Some-clause-signed
 returns-in-Some-clause-signed c =
     let i = c.self.inside in
-    let seen = seen_by i.deal i.wallet i.known.items c.self.invariant.ready c.party-me.result c.deref-2.result.now c.in-Some.due c.party-me.ensures c.deref-2.ensures.value c.in-Some.ensures.base in
+    let seen =
+    seen_by i.deal i.wallet i.known.items c.self.invariant.ready c.party-me.result c.deref-2.result.now c.in-Some.due c.party-me.ensures
+    c.deref-2.ensures.value c.in-Some.ensures.base in
     let value : due_hashkey i.deal i.wallet (entries_in i.known.items) c.in-Some.due ≡ Some c.in_ok-key-in-Some.key =
-    subst (λ (ys : List IndexState). due_hashkey i.deal i.wallet (entries_in ys) c.in-Some.due ≡ Some c.in_ok-key-in-Some.key) c.deref-in-Some.ensures.value c.in_ok-key-in-Some.ensures.value in
-    noted_as i.deal i.wallet i.known.items c.self.invariant.ready c.in-Some.due c.in_ok-key-in-Some.key c.hashkey_for.new.wallet c.in-Some.ensures.lock seen value c.in_ok-key-in-Some.ensures.kept
+    subst (λ (ys : List IndexState). due_hashkey i.deal i.wallet (entries_in ys) c.in-Some.due ≡ Some c.in_ok-key-in-Some.key)
+    c.deref-in-Some.ensures.value c.in_ok-key-in-Some.ensures.value in
+    noted_as i.deal i.wallet i.known.items c.self.invariant.ready c.in-Some.due c.in_ok-key-in-Some.key c.hashkey_for.new.wallet c.in-Some.ensures.lock
+    seen value c.in_ok-key-in-Some.ensures.kept
     ∙ ap (λ (s : MachineState). noted (signed_in s.signed) (Unlock c.in_ok-key-in-Some.key)) c.self.view_is
 
 pub invariant_of-self-then-is_none : goal.invariant_of-self-then-is_none
 invariant_of-self-then-is_none c =
     let i = c.self.inside in
-    let e = publishes i.deal i.wallet i.known.items c.self.invariant.ready c.party-me.result c.deref.result.now c.in_ok-first.first c.party-me.ensures c.deref.ensures.value c.in_ok-first.ensures.first in
-    let last = settles_next i.deal i.wallet i.known.items c.self.invariant.ready c.party-me.result c.deref-2.result.now c.deref-in-None.result.now c.signed.result.now.keys c.in_ok-first.first c.due_last-last.result c.party-me.ensures c.deref-2.ensures.value c.deref-in-None.ensures.value c.signed.ensures e (sym c.is_some.ensures ∙ c.if-is_some.false) (c.in-None.ensures.none refl) c.due_last-last.ensures.first in
+    let e =
+    publishes i.deal i.wallet i.known.items c.self.invariant.ready c.party-me.result c.deref.result.now c.in_ok-first.first c.party-me.ensures
+    c.deref.ensures.value c.in_ok-first.ensures.first in
+    let last = settles_next i.deal i.wallet i.known.items c.self.invariant.ready c.party-me.result c.deref-2.result.now c.deref-in-None.result.now
+    c.signed.result.now.keys c.in_ok-first.first c.due_last-last.result c.party-me.ensures c.deref-2.ensures.value c.deref-in-None.ensures.value
+    c.signed.ensures e (sym c.is_some.ensures ∙ c.if-is_some.false) (c.in-None.ensures.none refl) c.due_last-last.ensures.first in
     record {
       ready = c.self.invariant.ready;
       rests = begins (shown i.deal i.wallet i.known.items) c.due_last-last.result c.rest_until.result last (c.is_none.ensures ∙ ap not c.if-is_none.true)
-          (c.rest_until.ensures ∙ ap₂ (λ (v : ℕ) (ys : List IndexState). rest_until i.deal v (entries_in ys)) c.party-me.ensures c.deref-then-is_none.ensures.value);
+          (c.rest_until.ensures ∙ ap₂ (λ (v : ℕ) (ys : List IndexState).
+          rest_until i.deal v (entries_in ys)) c.party-me.ensures c.deref-then-is_none.ensures.value);
     }
 
 pub returns-clause-due : goal.returns-clause-due
 returns-clause-due c =
     let i = c.self.inside in
-    let e = publishes i.deal i.wallet i.known.items c.self.invariant.ready c.party-me.result c.deref.result.now c.in_ok-first.first c.party-me.ensures c.deref.ensures.value c.in_ok-first.ensures.first in
-    settles_next i.deal i.wallet i.known.items c.self.invariant.ready c.party-me.result c.deref-2.result.now c.deref-in-None.result.now c.signed.result.now.keys c.in_ok-first.first c.due_last-last.result c.party-me.ensures c.deref-2.ensures.value c.deref-in-None.ensures.value c.signed.ensures e (sym c.is_some.ensures ∙ c.if-is_some.false) (c.in-None.ensures.none refl) c.due_last-last.ensures.first
+    let e =
+    publishes i.deal i.wallet i.known.items c.self.invariant.ready c.party-me.result c.deref.result.now c.in_ok-first.first c.party-me.ensures
+    c.deref.ensures.value c.in_ok-first.ensures.first in
+    settles_next i.deal i.wallet i.known.items c.self.invariant.ready c.party-me.result c.deref-2.result.now c.deref-in-None.result.now
+    c.signed.result.now.keys c.in_ok-first.first c.due_last-last.result c.party-me.ensures c.deref-2.ensures.value c.deref-in-None.ensures.value
+    c.signed.ensures e (sym c.is_some.ensures ∙ c.if-is_some.false) (c.in-None.ensures.none refl) c.due_last-last.ensures.first
     ∙ ap next_of c.self.view_is
 
 pub returns-clause-signed : goal.returns-clause-signed

@@ -8,6 +8,7 @@ loop-found-preserved c =
       | then-most-shared+then-shares_last w ↦
           rw (w.most-is, ← c.self.view_is)
           (shared_is_known _ c.self.inside.deal c.args.key.now w.deref-then-most-shared.result.now (w.shares_last.ensures w.if-shares_last.true)
-          (found_is_signed c.self.inside.deal c.self.inside.keys.items c.deref-found-items.result.now c.loop-found.found-index c.found-item.result _ c.deref-found-items.ensures.value c.self.invariant c.loop-found-test.true c.found-item.is w.deref-then-most-shared.ensures))
+          (found_is_signed c.self.inside.deal c.self.inside.keys.items c.deref-found-items.result.now c.loop-found.found-index c.found-item.result _
+          c.deref-found-items.ensures.value c.self.invariant c.loop-found-test.true c.found-item.is w.deref-then-most-shared.ensures))
       | else-most-shared w ↦ rw w.most-is c.loop-found.invariant
     ]

@@ -22,12 +22,16 @@ pub returns-clause-ended : goal.returns-clause-ended
 returns-clause-ended c =
     let i = c.self.inside in
     let ended = (finishes_are_good (cast_in i) (state_in i) c.self.invariant.ready (c.self.invariant.good c.if-self.false)).1 in
-    rw (← c.self.view_is) (on_ok c.finish.result (λ e. subst (λ s. IsEnded i.deal s.book) (sym (ap (λ x. x.state) e)) ended) (rw (← c.self.view_is) at c.finish.ensures.ok))
+    rw (← c.self.view_is) (on_ok c.finish.result (λ e. subst (λ s. IsEnded i.deal s.book) (sym (ap (λ x. x.state) e)) ended)
+    (rw (← c.self.view_is) at c.finish.ensures.ok))
 
 pub returns-clause-dealt : goal.returns-clause-dealt
 returns-clause-dealt c =
     let i = c.self.inside in
-    rw (← c.self.view_is) (on_ok c.finish.result (λ e all at. subst (λ s. IsDealt i.deal (conforms (cast_in i)) s.book) (sym (ap (λ x. x.state) e ∙ ap (λ (s : State). finish (cast_in i) s) at)) (fair_is_dealt (cast_in i) c.self.invariant.ready all)) (rw (← c.self.view_is) at c.finish.ensures.ok))
+    rw (← c.self.view_is) (on_ok c.finish.result (λ e all at.
+    subst (λ s. IsDealt i.deal (conforms (cast_in i)) s.book) (sym (ap (λ x. x.state) e
+    ∙ ap (λ (s : State). finish (cast_in i) s) at)) (fair_is_dealt (cast_in i) c.self.invariant.ready all))
+    (rw (← c.self.view_is) at c.finish.ensures.ok))
 
 pub returns-then-self-clause-kept : goal.returns-then-self-clause-kept
 returns-then-self-clause-kept c = rw (← c.self.view_is) c.self.invariant.kept

@@ -20,12 +20,14 @@ learn-requires-clause-begins c =
     let goes_on = rw (← c.self.view_is) at c.requires.goes_on in
     let low = subst (λ n. c.args.p < n) (sym c.self.invariant.actors.one_each) can.known in
     let here = found xs c.args.p c.index_mut.result.now m c.in-Conforming.is c.index_mut.ensures.value in
-    let place : IsAt i.deal i.conforming i.seeds ls xs c.args.p m = record { below = low; here = here; is = c.self.invariant.actors.each c.args.p (Conforming m) low here } in
+    let place : IsAt i.deal i.conforming i.seeds ls xs c.args.p m =
+    record { below = low; here = here; is = c.self.invariant.actors.each c.args.p (Conforming m) low here } in
     let below = subst (λ n. c.args.arc < n) (sym c.self.invariant.ledgers.one_each) can.arc in
     let l = c.index.result.now in
     let k = c.self.invariant.ledgers.each c.args.arc l below c.index.ensures in
     let b = begins i.deal i.conforming i.seeds ls xs c.self.invariant.ready (c.self.invariant.good goes_on) c.args.p can.known m place c.args.arc in
-    subst (λ a. Begins (history m.known a) l.history) (sym k.arc) (subst (λ h. Begins (history m.known c.args.arc) h) (history_at ls c.args.arc l below c.index.ensures) b)
+    subst (λ a. Begins (history m.known a) l.history) (sym k.arc)
+    (subst (λ h. Begins (history m.known c.args.arc) h) (history_at ls c.args.arc l below c.index.ensures) b)
 
 pub invariant_of-self-2 : goal.invariant_of-self-2
 invariant_of-self-2 c =
@@ -37,7 +39,8 @@ invariant_of-self-2 c =
     let goes_on = rw (← c.self.view_is) at c.requires.goes_on in
     let low = subst (λ n. c.args.p < n) (sym c.self.invariant.actors.one_each) can.known in
     let here = found xs c.args.p c.index_mut.result.now m c.in-Conforming.is c.index_mut.ensures.value in
-    let place : IsAt i.deal i.conforming i.seeds ls xs c.args.p m = record { below = low; here = here; is = c.self.invariant.actors.each c.args.p (Conforming m) low here } in
+    let place : IsAt i.deal i.conforming i.seeds ls xs c.args.p m =
+    record { below = low; here = here; is = c.self.invariant.actors.each c.args.p (Conforming m) low here } in
     let below = subst (λ n. c.args.arc < n) (sym c.self.invariant.ledgers.one_each) can.arc in
     let l = c.index.result.now in
     let k = c.self.invariant.ledgers.each c.args.arc l below c.index.ensures in
@@ -47,10 +50,14 @@ invariant_of-self-2 c =
       ready = c.self.invariant.ready;
       ledgers = c.self.invariant.ledgers;
       actors = actor_set i.deal i.conforming i.seeds xs c.args.p (Conforming new) c.self.invariant.actors low
-          (owned i.deal (slice_index_or i.conforming c.args.p false) (slice_index_or i.seeds c.args.p None) c.args.p m new (same_owner c.learn.result m new (set m.known c.args.arc (history (histories ls) c.args.arc)) (on_ok c.learn.result (know m new ls c.args.arc l k.arc below c.index.ensures) c.learn.ensures.ok) c.learn.ensures.err) place.is);
+          (owned i.deal (slice_index_or i.conforming c.args.p false) (slice_index_or i.seeds c.args.p None) c.args.p m new
+          (same_owner c.learn.result m new (set m.known c.args.arc (history (histories ls) c.args.arc))
+          (on_ok c.learn.result (know m new ls c.args.arc l k.arc below c.index.ensures) c.learn.ensures.ok) c.learn.ensures.err) place.is);
       good = λ g. good_on c.learn.result (cast_in i) (state_in i) (state (histories ls) ns) (Look c.args.p c.args.arc)
-          (on_ok c.learn.result (λ e. looked i.deal i.conforming i.seeds ls xs c.args.p c.args.arc m new place (know m new ls c.args.arc l k.arc below c.index.ensures e)) c.learn.ensures.ok)
-          (on_err c.learn.result (λ e. ap (λ x. state (histories ls) x) (same_notes i.deal i.conforming i.seeds ls xs c.args.p m new place e)) c.learn.ensures.err)
+          (on_ok c.learn.result (λ e. looked i.deal i.conforming i.seeds ls xs c.args.p c.args.arc m new place
+          (know m new ls c.args.arc l k.arc below c.index.ensures e)) c.learn.ensures.ok)
+          (on_err c.learn.result (λ e. ap (λ x. state (histories ls) x) (same_notes i.deal i.conforming i.seeds ls xs c.args.p m new place e))
+          c.learn.ensures.err)
           c.self.invariant.ready can (c.self.invariant.good g);
       kept = c.self.invariant.kept;
     }
@@ -65,14 +72,17 @@ returns-clause-ok c =
     let goes_on = rw (← c.self.view_is) at c.requires.goes_on in
     let low = subst (λ n. c.args.p < n) (sym c.self.invariant.actors.one_each) can.known in
     let here = found xs c.args.p c.index_mut.result.now m c.in-Conforming.is c.index_mut.ensures.value in
-    let place : IsAt i.deal i.conforming i.seeds ls xs c.args.p m = record { below = low; here = here; is = c.self.invariant.actors.each c.args.p (Conforming m) low here } in
+    let place : IsAt i.deal i.conforming i.seeds ls xs c.args.p m =
+    record { below = low; here = here; is = c.self.invariant.actors.each c.args.p (Conforming m) low here } in
     let below = subst (λ n. c.args.arc < n) (sym c.self.invariant.ledgers.one_each) can.arc in
     let l = c.index.result.now in
     let k = c.self.invariant.ledgers.each c.args.arc l below c.index.ensures in
     let new = c.learn.new.machine in
     let ns = map (notes_in i.deal) (set xs c.args.p (Conforming new)) in
     rw (← c.self.view_is)
-    (on_ok c.learn.result (λ e. ap (λ st. world i.deal i.conforming i.seeds i.stopped st) (looked i.deal i.conforming i.seeds ls xs c.args.p c.args.arc m new place (know m new ls c.args.arc l k.arc below c.index.ensures e))) c.learn.ensures.ok)
+    (on_ok c.learn.result (λ e. ap (λ st. world i.deal i.conforming i.seeds i.stopped st)
+    (looked i.deal i.conforming i.seeds ls xs c.args.p c.args.arc m new place (know m new ls c.args.arc l k.arc below c.index.ensures e)))
+    c.learn.ensures.ok)
 
 pub returns-clause-err : goal.returns-clause-err
 returns-clause-err c =
@@ -84,11 +94,13 @@ returns-clause-err c =
     let goes_on = rw (← c.self.view_is) at c.requires.goes_on in
     let low = subst (λ n. c.args.p < n) (sym c.self.invariant.actors.one_each) can.known in
     let here = found xs c.args.p c.index_mut.result.now m c.in-Conforming.is c.index_mut.ensures.value in
-    let place : IsAt i.deal i.conforming i.seeds ls xs c.args.p m = record { below = low; here = here; is = c.self.invariant.actors.each c.args.p (Conforming m) low here } in
+    let place : IsAt i.deal i.conforming i.seeds ls xs c.args.p m =
+    record { below = low; here = here; is = c.self.invariant.actors.each c.args.p (Conforming m) low here } in
     let below = subst (λ n. c.args.arc < n) (sym c.self.invariant.ledgers.one_each) can.arc in
     let l = c.index.result.now in
     let k = c.self.invariant.ledgers.each c.args.arc l below c.index.ensures in
     let new = c.learn.new.machine in
     let ns = map (notes_in i.deal) (set xs c.args.p (Conforming new)) in
     rw (← c.self.view_is)
-    (on_err c.learn.result (λ e. ap (λ x. world i.deal i.conforming i.seeds i.stopped (state (histories ls) x)) (same_notes i.deal i.conforming i.seeds ls xs c.args.p m new place e)) c.learn.ensures.err)
+    (on_err c.learn.result (λ e. ap (λ x. world i.deal i.conforming i.seeds i.stopped (state (histories ls) x))
+    (same_notes i.deal i.conforming i.seeds ls xs c.args.p m new place e)) c.learn.ensures.err)

@@ -25,20 +25,35 @@ invariant_of-result c =
     let ls = c.in_ok-ledgers_of.field-0.items in
     let ys = c.in_ok-actors.actors.items in
     record {
-      ready = ready job d c.new.result c.in_ok-copy.field-0 ls ys c.in_ok-copy_deal.ensures ec c.in_ok-copy.ensures c.in_ok-ledgers_of.ensures c.in_ok-actors.ensures c.requires.seeds c.requires.accepted;
-      ledgers = ledgers job d c.new.result c.in_ok-copy.field-0 ls ys c.in_ok-copy_deal.ensures ec c.in_ok-copy.ensures c.in_ok-ledgers_of.ensures c.in_ok-actors.ensures c.requires.seeds;
-      actors = actors job d c.new.result c.in_ok-copy.field-0 ls ys c.in_ok-copy_deal.ensures ec c.in_ok-copy.ensures c.in_ok-ledgers_of.ensures c.in_ok-actors.ensures c.requires.seeds;
-      good = λ g. good job d c.new.result c.in_ok-copy.field-0 ls ys c.in_ok-copy_deal.ensures ec c.in_ok-copy.ensures c.in_ok-ledgers_of.ensures c.in_ok-actors.ensures c.requires.seeds c.requires.accepted;
-      kept = good_is_kept _ _ (ready job d c.new.result c.in_ok-copy.field-0 ls ys c.in_ok-copy_deal.ensures ec c.in_ok-copy.ensures c.in_ok-ledgers_of.ensures c.in_ok-actors.ensures c.requires.seeds c.requires.accepted)
-          (good job d c.new.result c.in_ok-copy.field-0 ls ys c.in_ok-copy_deal.ensures ec c.in_ok-copy.ensures c.in_ok-ledgers_of.ensures c.in_ok-actors.ensures c.requires.seeds c.requires.accepted);
+      ready =
+          ready job d c.new.result c.in_ok-copy.field-0 ls ys c.in_ok-copy_deal.ensures ec c.in_ok-copy.ensures c.in_ok-ledgers_of.ensures
+          c.in_ok-actors.ensures c.requires.seeds c.requires.accepted;
+      ledgers =
+          ledgers job d c.new.result c.in_ok-copy.field-0 ls ys c.in_ok-copy_deal.ensures ec c.in_ok-copy.ensures c.in_ok-ledgers_of.ensures
+          c.in_ok-actors.ensures c.requires.seeds;
+      actors =
+          actors job d c.new.result c.in_ok-copy.field-0 ls ys c.in_ok-copy_deal.ensures ec c.in_ok-copy.ensures c.in_ok-ledgers_of.ensures
+          c.in_ok-actors.ensures c.requires.seeds;
+      good =
+          λ g. good job d c.new.result c.in_ok-copy.field-0 ls ys c.in_ok-copy_deal.ensures ec c.in_ok-copy.ensures c.in_ok-ledgers_of.ensures
+          c.in_ok-actors.ensures c.requires.seeds c.requires.accepted;
+      kept =
+          good_is_kept _ _ (ready job d c.new.result c.in_ok-copy.field-0 ls ys c.in_ok-copy_deal.ensures ec c.in_ok-copy.ensures
+          c.in_ok-ledgers_of.ensures c.in_ok-actors.ensures c.requires.seeds c.requires.accepted)
+          (good job d c.new.result c.in_ok-copy.field-0 ls ys c.in_ok-copy_deal.ensures ec c.in_ok-copy.ensures c.in_ok-ledgers_of.ensures
+          c.in_ok-actors.ensures c.requires.seeds c.requires.accepted);
     }
 
 pub returns-clause-exact : goal.returns-clause-exact
 returns-clause-exact c =
-    world_is c.args.job.now c.in_ok-copy_deal.field-0 c.new.result c.in_ok-copy.field-0 c.in_ok-ledgers_of.field-0.items c.in_ok-actors.actors.items c.in_ok-copy_deal.ensures
-    (c.new.ensures ∙ (c.in_ok-from_slice.ensures.items ∙ c.as_slice.ensures)) c.in_ok-copy.ensures c.in_ok-ledgers_of.ensures c.in_ok-actors.ensures c.requires.seeds
+    world_is c.args.job.now c.in_ok-copy_deal.field-0 c.new.result c.in_ok-copy.field-0 c.in_ok-ledgers_of.field-0.items c.in_ok-actors.actors.items
+    c.in_ok-copy_deal.ensures
+    (c.new.ensures ∙ (c.in_ok-from_slice.ensures.items ∙ c.as_slice.ensures)) c.in_ok-copy.ensures c.in_ok-ledgers_of.ensures c.in_ok-actors.ensures
+    c.requires.seeds
 
 pub returns-clause-new : goal.returns-clause-new
 returns-clause-new c = world_of_new c.args.job.now _ (
-    world_is c.args.job.now c.in_ok-copy_deal.field-0 c.new.result c.in_ok-copy.field-0 c.in_ok-ledgers_of.field-0.items c.in_ok-actors.actors.items c.in_ok-copy_deal.ensures
-    (c.new.ensures ∙ (c.in_ok-from_slice.ensures.items ∙ c.as_slice.ensures)) c.in_ok-copy.ensures c.in_ok-ledgers_of.ensures c.in_ok-actors.ensures c.requires.seeds)
+    world_is c.args.job.now c.in_ok-copy_deal.field-0 c.new.result c.in_ok-copy.field-0 c.in_ok-ledgers_of.field-0.items c.in_ok-actors.actors.items
+    c.in_ok-copy_deal.ensures
+    (c.new.ensures ∙ (c.in_ok-from_slice.ensures.items ∙ c.as_slice.ensures)) c.in_ok-copy.ensures c.in_ok-ledgers_of.ensures c.in_ok-actors.ensures
+    c.requires.seeds)
