@@ -16,8 +16,6 @@ mod jobs;
 #[cfg(test)]
 mod lateness;
 #[cfg(test)]
-mod learning;
-#[cfg(test)]
 mod ledgers;
 #[cfg(test)]
 mod memory;
