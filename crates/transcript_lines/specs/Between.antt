@@ -1,0 +1,27 @@
+-- Parts of a text with a byte between each two, and what the text falls into.
+use Rattle.std.specs.Prelude.{◌==◌, ℕ, List, [], ◌∷◌, ◌++◌, if◌then◌else◌}
+use Rattle.std.specs.List.{flat_map}
+
+-- the parts, with the byte between each two of them
+abbrev pub between : ℕ → List (List ℕ) → List ℕ
+between b [] = []
+between b (w ∷ []) = w
+between b (w ∷ v ∷ ws) = w ++ b ∷ between b (v ∷ ws)
+
+-- fields, separated by single spaces
+abbrev pub spaced : List (List ℕ) → List ℕ
+spaced ws = between 32 ws
+
+-- lines, each ended by a line feed
+abbrev pub ended : List (List ℕ) → List ℕ
+ended ls = flat_map (λ l. l ++ 10 ∷ []) ls
+
+-- with one more byte in the first part
+abbrev pub longer_first : ℕ → List (List ℕ) → List (List ℕ)
+longer_first x [] = (x ∷ []) ∷ []
+longer_first x (w ∷ ws) = (x ∷ w) ∷ ws
+
+-- what stands between the bytes b of a text: always one part more than there are such bytes
+abbrev pub parts_at : ℕ → List ℕ → List (List ℕ)
+parts_at b [] = [] ∷ []
+parts_at b (x ∷ xs) = if x == b then [] ∷ parts_at b xs else longer_first x (parts_at b xs)

@@ -1,0 +1,6 @@
+pub mod Between
+pub mod Typed
+pub mod Words
+pub mod Lines
+pub mod Reading
+pub mod Laws
