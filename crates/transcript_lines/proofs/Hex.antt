@@ -1,5 +1,6 @@
 -- Bytes are read back from their hexadecimal digits.
-use Rattle.std.proofs.Common.{◌≡◌, ◌&&◌, ◌||◌, ℕ, zero, suc, ◌+◌, ◌*◌, ◌/◌, ◌%◌, ◌≤◌, ◌<◌, ◌==◌, nat_le, nat_lt, Bool, true, false, cond, List, [], ◌∷◌, ◌++◌, length, get_or, slice_index, Result, Ok, Err, refl, sym, ap, ◌∙◌, arith, length-append, eqb-true, ◌≢◌}
+use Rattle.std.proofs.Common.{◌≡◌, ◌&&◌, ◌||◌, ℕ, zero, suc, ◌+◌, ◌*◌, ◌/◌, ◌%◌, ◌≤◌, ◌<◌, ◌==◌, nat_le, nat_lt, Bool, true, false, cond, List, [], ◌∷◌}
+use Rattle.std.proofs.Common.{◌++◌, length, get_or, slice_index, Result, Ok, Err, refl, sym, ap, ◌∙◌, arith, length-append, eqb-true, ◌≢◌}
 use Rattle.std.specs.List.{list_all}
 use Rattle.std.specs.Prelude.{All}
 use Rattle.std.proofs.lemmas.Bool.{le-leb, leb-true, eqb-false}
@@ -27,7 +28,9 @@ are_lower-at zero k e lt = absurd (omega arith)
 are_lower-at (suc n) k e lt = by (k == n) refl (are_lower-at n k (and_parts (is_lower_digit (slice_index lower_digits n)) (are_lower n) e).1)
   where
     by : (t : Bool) → (k == n) ≡ t → (k < n → is_lower_digit (slice_index lower_digits k) ≡ true) → is_lower_digit (slice_index lower_digits k) ≡ true
-    by true q below = ap (λ i. is_lower_digit (slice_index lower_digits i)) (eqb-true k n q) ∙ (and_parts (is_lower_digit (slice_index lower_digits n)) (are_lower n) e).0
+    by true q below =
+        ap (λ i. is_lower_digit (slice_index lower_digits i)) (eqb-true k n q)
+        ∙ (and_parts (is_lower_digit (slice_index lower_digits n)) (are_lower n) e).0
     by false q below = below (let other : k ≢ n = eqb-false k n q in omega arith)
 
 digit_is_lower : (k : ℕ) → k < 16 → is_lower_digit (slice_index lower_digits k) ≡ true
@@ -39,7 +42,8 @@ lower_word [] h = refl
 lower_word (b ∷ xs) h =
     let small : b < 256 = h 0 in
     and_both (is_lower_digit (slice_index lower_digits (b / 16))) _ (digit_is_lower (b / 16) (omega arith))
-    (and_both (is_lower_digit (slice_index lower_digits (b % 16))) (list_all is_lower_digit (encode_with lower_digits xs)) (digit_is_lower (b % 16) (omega arith)) (lower_word xs (λ i. h (suc i))))
+    (and_both (is_lower_digit (slice_index lower_digits (b % 16))) (list_all is_lower_digit (encode_with lower_digits xs))
+    (digit_is_lower (b % 16) (omega arith)) (lower_word xs (λ i. h (suc i))))
 
 lower_is_high : (b : ℕ) → is_lower_digit b ≡ true → nat_le 48 b ≡ true
 lower_is_high b e = by (nat_le 48 b) (nat_le b 57) (nat_le 97 b) refl refl e
@@ -51,7 +55,9 @@ lower_is_high b e = by (nat_le 48 b) (nat_le b 57) (nat_le 97 b) refl refl e
 
 high_lower : (w : List ℕ) → list_all is_lower_digit w ≡ true → IsHigh 48 w
 high_lower [] h = refl
-high_lower (b ∷ w) h = let p = and_parts (is_lower_digit b) (list_all is_lower_digit w) h in and_both (nat_le 48 b) (list_all (λ y. nat_le 48 y) w) (lower_is_high b p.0) (high_lower w p.1)
+high_lower (b ∷ w) h = let p =
+    and_parts (is_lower_digit b) (list_all is_lower_digit w) h in
+    and_both (nat_le 48 b) (list_all (λ y. nat_le 48 y) w) (lower_is_high b p.0) (high_lower w p.1)
 
 pub high_hex : (xs : List ℕ) → IsBytes xs → IsHigh 48 (encode_lower xs)
 high_hex xs h = high_lower (encode_lower xs) (lower_word xs h)

@@ -1,5 +1,6 @@
 -- A number is read back from its decimal digits.
-use Rattle.std.proofs.Common.{◌≡◌, ◌==◌, ◌&&◌, ℕ, suc, ◌+◌, ◌-◌, ◌*◌, ◌/◌, ◌%◌, ◌^◌, ◌≤◌, ◌<◌, nat_le, nat_lt, Bool, true, false, cond, List, [], ◌∷◌, ◌++◌, length, get_or, decimal, Result, Ok, Err, refl, sym, ap, ◌∙◌, arith, eqb-true, lt-ltb, ltb-true, ltb-false}
+use Rattle.std.proofs.Common.{◌≡◌, ◌==◌, ◌&&◌, ℕ, suc, ◌+◌, ◌-◌, ◌*◌, ◌/◌, ◌%◌, ◌^◌, ◌≤◌, ◌<◌, nat_le, nat_lt, Bool, true, false, cond, List, [], ◌∷◌}
+use Rattle.std.proofs.Common.{◌++◌, length, get_or, decimal, Result, Ok, Err, refl, sym, ap, ◌∙◌, arith, eqb-true, lt-ltb, ltb-true, ltb-false}
 use Rattle.std.specs.List.{list_all}
 use Rattle.std.proofs.lemmas.Bool.{le-leb}
 use Rattle.std.proofs.lemmas.Fmt.{decimal_digit, decimal_by_steps, decimal_nonempty, first_decimal}
@@ -22,7 +23,8 @@ read_append : (m : ℕ) (bs cs : List ℕ) → read_on m (bs ++ cs) ≡ read_on 
 read_append m [] cs = refl
 read_append m (b ∷ bs) cs = by (nat_le 48 b && nat_le b 57 && nat_lt (m * 10 + (b - 48)) (2 ^ 64)) (read_append (m * 10 + (b - 48)) bs cs)
   where
-    by : (t : Bool) → read_on (m * 10 + (b - 48)) (bs ++ cs) ≡ read_on (m * 10 + (b - 48)) bs >>= (λ n. read_on n cs) → cond t (read_on (m * 10 + (b - 48)) (bs ++ cs)) misspelt ≡ cond t (read_on (m * 10 + (b - 48)) bs) misspelt >>= λ n. read_on n cs
+    by : (t : Bool) → read_on (m * 10 + (b - 48)) (bs ++ cs) ≡ read_on (m * 10 + (b - 48)) bs >>= (λ n. read_on n cs)
+        → cond t (read_on (m * 10 + (b - 48)) (bs ++ cs)) misspelt ≡ cond t (read_on (m * 10 + (b - 48)) bs) misspelt >>= λ n. read_on n cs
     by true e = e
     by false e = refl
 
@@ -60,10 +62,12 @@ number_back n small = by (nat_lt 0 n) refl
 
 pub below_back : (limit n : ℕ) → n < limit → limit ≤ 2 ^ 64 → number_below limit (decimal n) ≡ Ok n
 below_back limit n lt le =
-    ap (λ (r : Result ℕ Misspelling). r >>= λ m. cond (nat_lt m limit) (Ok m) misspelt) (number_back n (omega arith)) ∙ ap (λ t. cond t (Ok n) misspelt) (lt-ltb n limit lt)
+    ap (λ (r : Result ℕ Misspelling). r >>= λ m. cond (nat_lt m limit) (Ok m) misspelt) (number_back n (omega arith))
+    ∙ ap (λ t. cond t (Ok n) misspelt) (lt-ltb n limit lt)
 
 high_one : (n : ℕ) → n < 10 → IsHigh 48 ((48 + n) ∷ [])
 high_one n lt = and_both (nat_le 48 (48 + n)) true (le-leb 48 (48 + n) (omega arith)) refl
 
 pub high_number : (n : ℕ) → n < 2 ^ 64 → IsHigh 48 (decimal n)
-high_number n small = decimal_by_steps (λ n ds. IsHigh 48 ds) high_one (λ n ds le k. high_append 48 ds ((48 + n % 10) ∷ []) k (high_one (n % 10) (omega arith))) n small
+high_number n small =
+    decimal_by_steps (λ n ds. IsHigh 48 ds) high_one (λ n ds le k. high_append 48 ds ((48 + n % 10) ∷ []) k (high_one (n % 10) (omega arith))) n small

@@ -1,5 +1,6 @@
 -- What a line says is read back from it.
-use Rattle.std.proofs.Common.{◌≡◌, ◌≢◌, ◌==◌, ◌&&◌, ◌||◌, ℕ, zero, suc, ◌+◌, ◌^◌, ◌≤◌, ◌<◌, nat_le, nat_eq, Bool, true, false, cond, IsTrue, List, [], ◌∷◌, ◌++◌, length, map, decimal, Result, Ok, Err, refl, sym, ap, ap₂, ◌∙◌, subst, arith, append_assoc, eqb-true}
+use Rattle.std.proofs.Common.{◌≡◌, ◌≢◌, ◌==◌, ◌&&◌, ◌||◌, ℕ, zero, suc, ◌+◌, ◌^◌, ◌≤◌, ◌<◌, nat_le, nat_eq, Bool, true, false, cond, IsTrue, List, []}
+use Rattle.std.proofs.Common.{◌∷◌, ◌++◌, length, map, decimal, Result, Ok, Err, refl, sym, ap, ap₂, ◌∙◌, subst, arith, append_assoc, eqb-true}
 use Rattle.std.specs.Prelude.{All, codes}
 use Rattle.std.specs.Str.{bytes_eq}
 use Rattle.std.specs.List.{list_all, AllByRecursion}
@@ -14,7 +15,9 @@ use Rattle.hash_signature.specs.declared.sig.Sig.{Sig}
 use Rattle.hashkey_path.specs.declared.hashkey.Hashkey.{Hashkey}
 use Rattle.escrow_core.specs.declared.terms.Terms.{Terms}
 use Rattle.escrow_core.specs.declared.reply.Reply.{Reply}
-use Rattle.escrow_core.specs.declared.reply.Reply.TheVariants.{Accepted, Settled, NotCounterparty, NotParty, AlreadyUnlocked, WrongSecret, WrongPath, WrongSignature, TooLate, StillLocked, NothingLocked, NotExpired, NoContract, AlreadyPublished, NoFunds, SenderFull, ClockFull}
+use Rattle.escrow_core.specs.declared.reply.Reply.TheVariants.{Accepted, Settled, NotCounterparty, NotParty, AlreadyUnlocked, WrongSecret, WrongPath}
+use Rattle.escrow_core.specs.declared.reply.Reply.TheVariants.{WrongSignature, TooLate, StillLocked, NothingLocked, NotExpired, NoContract}
+use Rattle.escrow_core.specs.declared.reply.Reply.TheVariants.{AlreadyPublished, NoFunds, SenderFull, ClockFull}
 use Rattle.ledger_core.specs.declared.entry.Call.{Call}
 use Rattle.ledger_core.specs.declared.entry.Call.TheVariants.{Publish, Unlock, Claim, Refund, Transfer}
 use Rattle.ledger_core.specs.declared.entry.Sender.{Sender}
@@ -26,7 +29,8 @@ use Rattle.transcript_lines.specs.declared.said.Misspelling.{Misspelling}
 use Rattle.transcript_lines.specs.Between.{between, spaced, parts_at}
 use Rattle.transcript_lines.specs.Typed.{IsDigest, IsSignature, IsTerms, IsHashkey, IsTypedCall, IsTypedReply, IsTypedSender, IsTypedWhat}
 use Rattle.transcript_lines.specs.Words.{list_word, signature_word, terms_words, key_words, call_words, reply_words, entry_words}
-use Rattle.transcript_lines.specs.Reading.{misspelt, number_of, number_below, digest_of, signature_of, each_of, list_of, field_of, locks_of, terms_of, key_of, units_of, call_of, reply_of, equals, call_said, tick_said, words_said, line_said}
+use Rattle.transcript_lines.specs.Reading.{misspelt, number_of, number_below, digest_of, signature_of, each_of, list_of, field_of, locks_of, terms_of}
+use Rattle.transcript_lines.specs.Reading.{key_of, units_of, call_of, reply_of, equals, call_said, tick_said, words_said, line_said}
 use Rattle.transcript_lines.proofs.Parts.{IsHigh, high_too, parts_between, high_between, all_append}
 use Rattle.transcript_lines.proofs.Numbers.{number_back, below_back, high_number}
 use Rattle.transcript_lines.proofs.Hex.{digest_back, signature_back, high_hex, high_signature, some_hex, some_signature}
@@ -45,7 +49,8 @@ rest_of P x xs h k d lt = h (suc k) d (omega arith)
 first_of_all : {A : Type 0} (P : A → Type 0) (x : A) (xs : List A) → All P (x ∷ xs) → P x
 first_of_all P x xs h = h 0 x (omega arith)
 
-module _ {A : Type 0} (P : A → Type 0) (word : A → List ℕ) (f : List ℕ → Result A Misspelling) (back : (x : A) → P x → f (word x) ≡ Ok x) (high : (x : A) → P x → IsHigh 48 (word x)) (some : (x : A) → P x → 0 < length (word x)) where
+module _ {A : Type 0} (P : A → Type 0) (word : A → List ℕ) (f : List ℕ → Result A Misspelling) (back : (x : A) → P x
+    → f (word x) ≡ Ok x) (high : (x : A) → P x → IsHigh 48 (word x)) (some : (x : A) → P x → 0 < length (word x)) where
   each_back : (xs : List A) → All P xs → each_of f (map word xs) ≡ Ok xs
   each_back [] h = refl
   each_back (x ∷ xs) h =
@@ -61,7 +66,8 @@ module _ {A : Type 0} (P : A → Type 0) (word : A → List ℕ) (f : List ℕ �
   no_dash (y ∷ w) rest h some = by (nat_eq y 45) refl
     where
       by : (t : Bool) → nat_eq y 45 ≡ t → (nat_eq y 45 && bytes_eq (w ++ rest) []) ≡ false
-      by true e = let same : y ≡ 45 = eqb-true y 45 e in let low : 48 ≤ y = leb-true 48 y (and_parts (nat_le 48 y) (list_all (λ z. nat_le 48 z) w) h).0 in absurd (omega arith)
+      by true e = let same : y ≡ 45 = eqb-true y 45 e in let low : 48 ≤ y =
+          leb-true 48 y (and_parts (nat_le 48 y) (list_all (λ z. nat_le 48 z) w) h).0 in absurd (omega arith)
       by false e = ap (λ t. t && bytes_eq (w ++ rest) []) e
 
   not_dash : (w : List ℕ) (ws : List (List ℕ)) → IsHigh 48 w → 0 < length w → bytes_eq (between 44 (w ∷ ws)) (codes "-") ≡ false
@@ -79,7 +85,8 @@ module _ {A : Type 0} (P : A → Type 0) (word : A → List ℕ) (f : List ℕ �
   high_list : (xs : List A) → All P xs → IsHigh 44 (list_word (map word xs))
   high_list [] h = refl
   high_list (x ∷ xs) h =
-      high_between 44 44 (word x) (map word xs) (omega arith) (high_too 44 48 (word x) (omega arith) (high x (first_of_all P x xs h))) (lower_all (map word xs) (all_high xs (rest_of P x xs h)))
+      high_between 44 44 (word x) (map word xs) (omega arith) (high_too 44 48 (word x) (omega arith) (high x (first_of_all P x xs h)))
+      (lower_all (map word xs) (all_high xs (rest_of P x xs h)))
     where
       lower_all : (ws : List (List ℕ)) → AllByRecursion (IsHigh 48) ws → AllByRecursion (IsHigh 44) ws
       lower_all [] k = tt
@@ -91,10 +98,14 @@ some_number : (n : ℕ) → n < 256 → 0 < length (decimal n)
 some_number n lt = decimal_nonempty n (omega arith)
 
 path_back : (xs : List ℕ) → All (λ p. p < 256) xs → list_of (number_below 256) (list_word (map decimal xs)) ≡ Ok xs
-path_back xs h = list_back (λ p. p < 256) decimal (number_below 256) (λ n lt. below_back 256 n lt (omega arith)) (λ n lt. high_number n (omega arith)) some_number xs h
+path_back xs h =
+    list_back (λ p. p < 256) decimal (number_below 256) (λ n lt. below_back 256 n lt (omega arith)) (λ n lt.
+    high_number n (omega arith)) some_number xs h
 
 high_path : (xs : List ℕ) → All (λ p. p < 256) xs → IsHigh 44 (list_word (map decimal xs))
-high_path xs h = high_list (λ p. p < 256) decimal (number_below 256) (λ n lt. below_back 256 n lt (omega arith)) (λ n lt. high_number n (omega arith)) some_number xs h
+high_path xs h =
+    high_list (λ p. p < 256) decimal (number_below 256) (λ n lt. below_back 256 n lt (omega arith)) (λ n lt.
+    high_number n (omega arith)) some_number xs h
 
 sigs_back : (xs : List Sig) → All IsSignature xs → list_of signature_of (list_word (map signature_word xs)) ≡ Ok xs
 sigs_back xs h = list_back IsSignature signature_word signature_of signature_back high_signature some_signature xs h
@@ -109,7 +120,8 @@ field_back f w x rest e = went (f w) x (λ y. Ok (y, rest)) e
 locks_back : (xs : List (List ℕ)) (rest : List (List ℕ)) → All IsDigest xs → locks_of (length xs) (map encode_lower xs ++ rest) ≡ Ok (xs, rest)
 locks_back [] rest h = refl
 locks_back (x ∷ xs) rest h =
-    went (field_of digest_of (encode_lower x ∷ (map encode_lower xs ++ rest))) (x, map encode_lower xs ++ rest) (λ y. locks_of (length xs) y.1 >>= λ r. Ok (y.0 ∷ r.0, r.1))
+    went (field_of digest_of (encode_lower x ∷ (map encode_lower xs ++ rest))) (x, map encode_lower xs ++ rest) (λ y. locks_of (length xs) y.1 >>= λ r.
+    Ok (y.0 ∷ r.0, r.1))
     (field_back digest_of (encode_lower x) x (map encode_lower xs ++ rest) (digest_back x (first_of_all IsDigest x xs h)))
     ∙ went (locks_of (length xs) (map encode_lower xs ++ rest)) (xs, rest) (λ r. Ok (x ∷ r.0, r.1)) (locks_back xs rest (rest_of IsDigest x xs h))
 
@@ -200,7 +212,8 @@ pub record IsSaid (locks : ℕ) (s : Sender) (w : What) (r : Reply) : Type 0 whe
   pub sender_not_full : r ≢ SenderFull
   pub clock_not_full : r ≢ ClockFull
 
-call_said_back : (locks p : ℕ) (c : Call) (r : Reply) → HasLocks locks c → IsSaid locks (Party p) (Made c) r → words_said locks (entry_words (Party p) (Made c) r) ≡ Ok (said (Party p) (Made c) r)
+call_said_back : (locks p : ℕ) (c : Call) (r : Reply) → HasLocks locks c → IsSaid locks (Party p) (Made c) r
+    → words_said locks (entry_words (Party p) (Made c) r) ≡ Ok (said (Party p) (Made c) r)
 unfolding words_said call_said
 call_said_back locks p c r few k =
     let answer = codes "=" ∷ reply_words r in
@@ -229,9 +242,36 @@ high_locks [] h = tt
 high_locks (x ∷ xs) h = (up (encode_lower x) (high_hex x (first_of_all IsDigest x xs h).bytes), high_locks xs (rest_of IsDigest x xs h))
 
 high_call : (c : Call) → IsTypedCall c → AreHigh (call_words c)
-high_call (Publish t) k = (refl, (high_small t.start k.start, (high_small t.delta k.delta, (high_small t.bound k.bound, (high_small t.timelock k.timelock, (up (decimal t.amount) (high_number t.amount k.amount), high_locks t.locks k.locks))))))
-high_call (Unlock key) k =
-    (refl, (up (decimal key.lock) (high_number key.lock (let lt = k.lock in omega arith)), (up (encode_lower key.secret) (high_hex key.secret k.secret.bytes), (high_too 33 44 (list_word (map decimal key.path)) (omega arith) (high_path key.path k.path), (high_too 33 44 (list_word (map signature_word key.sigs)) (omega arith) (high_sigs key.sigs k.sigs), tt)))))
+high_call (Publish t) k = (
+  refl,
+  (
+    high_small t.start k.start,
+    (
+      high_small t.delta k.delta,
+      (
+        high_small t.bound k.bound,
+        (
+          high_small t.timelock k.timelock,
+          (up (decimal t.amount) (high_number t.amount k.amount), high_locks t.locks k.locks),
+        ),
+      ),
+    ),
+  ),
+)
+high_call (Unlock key) k = (
+  refl,
+  (
+    up (decimal key.lock) (high_number key.lock (let lt = k.lock in
+        omega arith)),
+    (
+      up (encode_lower key.secret) (high_hex key.secret k.secret.bytes),
+      (
+        high_too 33 44 (list_word (map decimal key.path)) (omega arith) (high_path key.path k.path),
+        (high_too 33 44 (list_word (map signature_word key.sigs)) (omega arith) (high_sigs key.sigs k.sigs), tt),
+      ),
+    ),
+  ),
+)
 high_call Claim k = (refl, tt)
 high_call Refund k = (refl, tt)
 high_call (Transfer to units) k = (refl, (up (decimal to) (high_number to (let lt = k.0 in omega arith)), (up (decimal units) (high_number units k.1), tt)))
@@ -255,13 +295,19 @@ high_reply (StillLocked n) k = (refl, (up (decimal n) (high_number n (omega arit
 high_reply (NotExpired n) k = (refl, (up (decimal n) (high_number n k), tt))
 high_reply (NoFunds n) k = (refl, (up (decimal n) (high_number n k), tt))
 
-pub call_line_back : (locks p : ℕ) (c : Call) (r : Reply) → HasLocks locks c → IsSaid locks (Party p) (Made c) r → line_said locks (spaced (entry_words (Party p) (Made c) r)) ≡ Ok (said (Party p) (Made c) r)
+pub call_line_back : (locks p : ℕ) (c : Call) (r : Reply) → HasLocks locks c → IsSaid locks (Party p) (Made c) r
+    → line_said locks (spaced (entry_words (Party p) (Made c) r)) ≡ Ok (said (Party p) (Made c) r)
 unfolding line_said
 call_line_back locks p c r few k =
-    let high : AreHigh (decimal p ∷ (call_words c ++ codes "=" ∷ reply_words r)) = (up (decimal p) (high_number p (let lt = k.sender in omega arith)), all_append 33 (call_words c) (codes "=" ∷ reply_words r) (high_call c k.what) (refl, high_reply r k.reply)) in
+    let high : AreHigh (decimal p ∷ (call_words c ++ codes "=" ∷ reply_words r)) = (
+      up (decimal p) (high_number p (let lt = k.sender in
+          omega arith)),
+      all_append 33 (call_words c) (codes "=" ∷ reply_words r) (high_call c k.what) (refl, high_reply r k.reply),
+    ) in
     ap (words_said locks) (parts_between 32 33 (codes "c") (decimal p ∷ (call_words c ++ codes "=" ∷ reply_words r)) (omega arith) refl high)
     ∙ call_said_back locks p c r few k
 
 pub tick_line_back : (locks n : ℕ) → n < 2 ^ 32 → line_said locks (spaced (entry_words Clock (Tick n) Accepted)) ≡ Ok (said Clock (Tick n) Accepted)
 unfolding line_said
-tick_line_back locks n lt = ap (words_said locks) (parts_between 32 33 (codes "t") (decimal n ∷ []) (omega arith) refl (high_small n lt, tt)) ∙ tick_said_back locks n lt
+tick_line_back locks n lt =
+    ap (words_said locks) (parts_between 32 33 (codes "t") (decimal n ∷ []) (omega arith) refl (high_small n lt, tt)) ∙ tick_said_back locks n lt

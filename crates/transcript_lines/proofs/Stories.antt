@@ -1,5 +1,6 @@
 -- A whole transcript has one job and one book.
-use Rattle.std.proofs.Common.{◌≡◌, ℕ, zero, suc, ◌+◌, ◌^◌, ◌≤◌, ◌<◌, ◌&&◌, ◌==◌, nat_le, Bool, true, IsTrue, List, [], ◌∷◌, ◌++◌, length, get_or, map, decimal, Result, Ok, Err, Some, refl, sym, ap, ap₂, ◌∙◌, subst, arith, eqb-true}
+use Rattle.std.proofs.Common.{◌≡◌, ℕ, zero, suc, ◌+◌, ◌^◌, ◌≤◌, ◌<◌, ◌&&◌, ◌==◌, nat_le, Bool, true, IsTrue, List, [], ◌∷◌, ◌++◌, length, get_or, map}
+use Rattle.std.proofs.Common.{decimal, Result, Ok, Err, Some, refl, sym, ap, ap₂, ◌∙◌, subst, arith, eqb-true}
 use Rattle.std.specs.Prelude.{All, codes}
 use Rattle.std.specs.List.{AllByRecursion}
 use Rattle.std.proofs.lemmas.Fmt.{decimal_injective}
@@ -49,19 +50,31 @@ publish_locks d a Refund f = tt
 publish_locks d a (Transfer to units) f = tt
 
 -- the line of a stated entry says it
-line_says : (d : Deal) (a : ℕ) (past : List Entry) (e : Entry) (s : Sender) (w : What) → e.sender ≡ s → e.what ≡ w → IsFormedEntry d a past e → IsStatable e → IsFormedWhat d a past s w e.height → IsTypedSender s → IsTypedWhat w → IsStatedWhat w e.reply → line_said (length d.leaders) (spaced (entry_words s w e.reply)) ≡ Ok (record { sender = s; what = w; reply = e.reply })
+line_says : (d : Deal) (a : ℕ) (past : List Entry) (e : Entry) (s : Sender) (w : What) → e.sender ≡ s → e.what ≡ w → IsFormedEntry d a past e
+    → IsStatable e → IsFormedWhat d a past s w e.height → IsTypedSender s → IsTypedWhat w → IsStatedWhat w e.reply
+    → line_said (length d.leaders) (spaced (entry_words s w e.reply)) ≡ Ok (record { sender = s; what = w; reply = e.reply })
 line_says d a past e (Party p) (Made c) es ew f k formed ts tw st =
-    call_line_back (length d.leaders) p c e.reply (publish_locks d a c formed.fits) (record { sender = ts; what = tw; reply = k.reply; sender_not_full = f.sender_not_full; clock_not_full = f.clock_not_full })
+    call_line_back (length d.leaders) p c e.reply (publish_locks d a c formed.fits) (record {
+      sender = ts;
+      what = tw;
+      reply = k.reply;
+      sender_not_full =
+          f.sender_not_full;
+      clock_not_full = f.clock_not_full;
+    })
 line_says d a past e Clock (Tick n) es ew f k formed ts tw st =
-    ap (λ (r : Reply). line_said (length d.leaders) (spaced (entry_words Clock (Tick n) r))) st ∙ tick_line_back (length d.leaders) n tw ∙ ap (λ (r : Reply). Ok (record { sender = Clock; what = Tick n; reply = r })) (sym st)
+    ap (λ (r : Reply). line_said (length d.leaders) (spaced (entry_words Clock (Tick n) r))) st ∙ tick_line_back (length d.leaders) n tw
+    ∙ ap (λ (r : Reply). Ok (record { sender = Clock; what = Tick n; reply = r })) (sym st)
 line_says d a past e (Party p) (Tick n) es ew f k formed ts tw st = absurd formed
 line_says d a past e Clock (Made c) es ew f k formed ts tw st = absurd formed
 
-entry_says : (d : Deal) (a : ℕ) (past : List Entry) (e : Entry) → IsFormedEntry d a past e → IsStatable e → line_said (length d.leaders) (entry_line e) ≡ Ok (said_of e)
+entry_says : (d : Deal) (a : ℕ) (past : List Entry) (e : Entry) → IsFormedEntry d a past e → IsStatable e
+    → line_said (length d.leaders) (entry_line e) ≡ Ok (said_of e)
 entry_says d a past e f k = line_says d a past e e.sender e.what refl refl f k f.what k.sender k.what k.tick
 
 -- the height of a formed entry
-height_of : (d : Deal) (a : ℕ) (past : List Entry) (s : Sender) (w : What) (at : ℕ) → IsFormedWhat d a past s w at → at ≡ written_height (height past + ticks_in w)
+height_of : (d : Deal) (a : ℕ) (past : List Entry) (s : Sender) (w : What) (at : ℕ) → IsFormedWhat d a past s w at
+    → at ≡ written_height (height past + ticks_in w)
 height_of d a past (Party p) (Made c) at f = f.height ∙ ap written_height (let z : ◌≡◌ {A = ℕ} (height past) (height past + 0) = omega arith in z)
 height_of d a past Clock (Tick n) at f = f.height
 height_of d a past (Party p) (Tick n) at f = absurd f
@@ -77,12 +90,15 @@ from_parts e o s h w r =
 ok_is : {A : Type 0} (x y : A) → ◌≡◌ {A = Result A Misspelling} (Ok x) (Ok y) → x ≡ y
 ok_is x y e = cc
 
-same_entry : (d : Deal) (a : ℕ) (past : List Entry) (e o : Entry) → IsFormedEntry d a past e → IsFormedEntry d a past o → IsStatable e → IsStatable o → entry_line e ≡ entry_line o → e ≡ o
+same_entry : (d : Deal) (a : ℕ) (past : List Entry) (e o : Entry) → IsFormedEntry d a past e → IsFormedEntry d a past o → IsStatable e → IsStatable o
+    → entry_line e ≡ entry_line o → e ≡ o
 same_entry d a past e o f g k l same =
-    let says : said_of e ≡ said_of o = ok_is (said_of e) (said_of o) (sym (entry_says d a past e f k) ∙ ap (line_said (length d.leaders)) same ∙ entry_says d a past o g l) in
+    let says : said_of e ≡ said_of o =
+    ok_is (said_of e) (said_of o) (sym (entry_says d a past e f k) ∙ ap (line_said (length d.leaders)) same ∙ entry_says d a past o g l) in
     let what : e.what ≡ o.what = ap (λ (x : Said). x.what) says in
     from_parts e o (ap (λ (x : Said). x.sender) says)
-    (height_of d a past e.sender e.what e.height f.what ∙ ap (λ w. written_height (height past + ticks_in w)) what ∙ sym (height_of d a past o.sender o.what o.height g.what))
+    (height_of d a past e.sender e.what e.height f.what ∙ ap (λ w. written_height (height past + ticks_in w)) what
+    ∙ sym (height_of d a past o.sender o.what o.height g.what))
     what (ap (λ (x : Said). x.reply) says)
 
 -- Histories.
@@ -93,18 +109,22 @@ head_is x y xs ys e = (cc, cc)
 rest_of : {A : Type 0} (P : A → Type 0) (x : A) (xs : List A) → All P (x ∷ xs) → All P xs
 rest_of P x xs h k d lt = h (suc k) d (omega arith)
 
-same_history : (d : Deal) (a : ℕ) (past h o : List Entry) (r s : List (List ℕ)) → GoesOn d a past h → GoesOn d a past o → All IsStatable h → All IsStatable o → length h ≡ length o → map entry_line h ++ r ≡ map entry_line o ++ s → (h ≡ o) × (r ≡ s)
+same_history : (d : Deal) (a : ℕ) (past h o : List Entry) (r s : List (List ℕ)) → GoesOn d a past h → GoesOn d a past o → All IsStatable h
+    → All IsStatable o → length h ≡ length o → map entry_line h ++ r ≡ map entry_line o ++ s → (h ≡ o) × (r ≡ s)
 same_history d a past [] [] r s f g k l long e = (refl, e)
 same_history d a past [] (y ∷ o) r s f g k l long e = absurd (omega arith)
 same_history d a past (x ∷ h) [] r s f g k l long e = absurd (omega arith)
 same_history d a past (x ∷ h) (y ∷ o) r s f g k l long e =
     let both = head_is (entry_line x) (entry_line y) (map entry_line h ++ r) (map entry_line o ++ s) e in
     let one : x ≡ y = same_entry d a past x y f.0 g.0 (k 0 x (omega arith)) (l 0 y (omega arith)) both.0 in
-    let rest = same_history d a (past ++ x ∷ []) h o r s f.1 (subst (λ (z : Entry). GoesOn d a (past ++ z ∷ []) o) (sym one) g.1) (rest_of IsStatable x h k) (rest_of IsStatable y o l) (omega arith) both.1 in
+    let rest =
+    same_history d a (past ++ x ∷ []) h o r s f.1 (subst (λ (z : Entry). GoesOn d a (past ++ z ∷ []) o) (sym one) g.1) (rest_of IsStatable x h k)
+    (rest_of IsStatable y o l) (omega arith) both.1 in
     (ap₂ (λ (z : Entry) (zs : List Entry). z ∷ zs) one rest.0, rest.1)
 
 -- the number of entries that a ledger's line tells
-same_count : (a m n : ℕ) → m < 2 ^ 64 → n < 2 ^ 64 → spaced (codes "ledger" ∷ decimal a ∷ decimal m ∷ []) ≡ spaced (codes "ledger" ∷ decimal a ∷ decimal n ∷ []) → m ≡ n
+same_count : (a m n : ℕ) → m < 2 ^ 64 → n < 2 ^ 64
+    → spaced (codes "ledger" ∷ decimal a ∷ decimal m ∷ []) ≡ spaced (codes "ledger" ∷ decimal a ∷ decimal n ∷ []) → m ≡ n
 same_count a m n lm ln e =
     let after = append_cancel_left (codes "ledger ") (decimal a ++ 32 ∷ decimal m) (decimal a ++ 32 ∷ decimal n) e in
     let last = append_cancel_left (decimal a) (32 ∷ decimal m) (32 ∷ decimal n) after in
@@ -118,7 +138,8 @@ record AreStated (d : Deal) (a : ℕ) (b : Histories) : Type 0 where
 
 later : (d : Deal) (a : ℕ) (h : List Entry) (b : Histories) → AreStated d a (h ∷ b) → AreStated d (a + 1) b
 later d a h b k = record {
-  formed = λ i lt. let z : ◌≡◌ {A = ℕ} (a + suc i) (a + 1 + i) = omega arith in subst (λ (j : ℕ). GoesOn d j [] (get_or b i [])) z (k.formed (suc i) (omega arith));
+  formed = λ i lt. let z : ◌≡◌ {A = ℕ} (a + suc i) (a + 1 + i) =
+      omega arith in subst (λ (j : ℕ). GoesOn d j [] (get_or b i [])) z (k.formed (suc i) (omega arith));
   statable = λ i lt. k.statable (suc i) (omega arith);
   few = λ i lt. k.few (suc i) (omega arith);
 }
@@ -135,7 +156,9 @@ same_books d a (h ∷ b) (o ∷ c) k l long e =
     let few = k.few 0 (omega arith) in
     let few_too = l.few 0 (omega arith) in
     let many = same_count a (length h) (length o) (omega arith) (omega arith) both.0 in
-    let one = same_history d a [] h o (lines_from (a + 1) b) (lines_from (a + 1) c) (now d a h b k) (now d a o c l) (k.statable 0 (omega arith)) (l.statable 0 (omega arith)) many both.1 in
+    let one =
+    same_history d a [] h o (lines_from (a + 1) b) (lines_from (a + 1) c) (now d a h b k) (now d a o c l) (k.statable 0 (omega arith))
+    (l.statable 0 (omega arith)) many both.1 in
     ap₂ (λ (x : List Entry) (xs : Histories). x ∷ xs) one.0 (same_books d (a + 1) b c (later d a h b k) (later d a o c l) (omega arith) one.1)
 
 are_stated : (d : Deal) (b : Histories) → IsStated d b → AreStated d 0 b
@@ -154,5 +177,8 @@ one_story header_of ls job other b c k l =
     let after = head_is (codes "swap transcript 1") (codes "swap transcript 1") (k.header ∷ lines_from 0 b) (l.header ∷ lines_from 0 c) same in
     let both = head_is k.header l.header (lines_from 0 b) (lines_from 0 c) after.1 in
     let job_is : job ≡ other = ok_job job other (sym k.gives ∙ ap header_of both.0 ∙ l.gives) in
-    let stated : IsStated job.deal c = subst (λ (j : Job). IsStated j.deal c) (sym job_is) l.stated in
-    (job_is, same_books job.deal 0 b c (are_stated job.deal b k.stated) (are_stated job.deal c stated) (k.stated.formed.one_each ∙ sym stated.formed.one_each) both.1)
+    let stated : IsStated job.deal c = subst (λ (j : Job). IsStated j.deal c) (sym job_is) l.stated in (
+      job_is,
+      same_books job.deal 0 b c (are_stated job.deal b k.stated) (are_stated job.deal c stated) (k.stated.formed.one_each
+          ∙ sym stated.formed.one_each) both.1,
+    )

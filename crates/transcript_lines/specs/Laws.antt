@@ -6,4 +6,6 @@ use Rattle.transcript_lines.specs.Lines.{IsWhole}
 
 -- A whole transcript has one job and one book, whatever header lines give.
 abbrev pub OneStory : Type 0
-OneStory = (header_of : List ℕ → Option Job) (ls : List (List ℕ)) (job other : Job) (b c : Histories) → IsWhole header_of ls job b → IsWhole header_of ls other c → (job ≡ other) × (b ≡ c)
+OneStory =
+    (header_of : List ℕ → Option Job) (ls : List (List ℕ)) (job other : Job) (b c : Histories) → IsWhole header_of ls job b
+    → IsWhole header_of ls other c → (job ≡ other) × (b ≡ c)
