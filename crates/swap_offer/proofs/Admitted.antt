@@ -48,19 +48,19 @@ same_true a b e =
     ap₂ (λ (f t : ℕ). let x : ArcEnds = record { from = f; to = t } in x) (eqb-true a.from b.from t.0) (eqb-true a.to b.to t.1)
 
 is_absent : (f : ArcEnds → Bool) (from : ℕ) (xs : List ArcEnds) → ((j : ℕ) → j < length xs → f (get_or xs j no_arc) ≡ false) → position_from f from xs ≡ None
-is_absent f from [] no = refl
-is_absent f from (x ∷ xs) no = rw (no 0 (omega arith)) (is_absent f (from + 1) xs (λ j lt. no (suc j) (omega arith)))
+is_absent f from [] not_one = refl
+is_absent f from (x ∷ xs) not_one = rw (not_one 0 (omega arith)) (is_absent f (from + 1) xs (λ j lt. not_one (suc j) (omega arith)))
 
 all_sound : (n : ℕ) (before xs : List ArcEnds) → ((i k : ℕ) → i < length xs → fault_at n One (before ++ take i xs) k (get_or xs i no_arc) ≡ None)
     → first_fault_after n One before xs ≡ None
-all_sound n before [] no = refl
-all_sound n before (x ∷ xs) no =
+all_sound n before [] not_one = refl
+all_sound n before (x ∷ xs) not_one =
     let head : fault_at n One before (length before) x ≡ None =
-    subst (λ (ys : List ArcEnds). fault_at n One ys (length before) x ≡ None) (append-nil before) (no 0 (length before) (omega arith)) in
+    subst (λ (ys : List ArcEnds). fault_at n One ys (length before) x ≡ None) (append-nil before) (not_one 0 (length before) (omega arith)) in
     let tail : first_fault_after n One (before ++ x ∷ []) xs ≡ None =
     all_sound n (before ++ x ∷ []) xs
     (λ i k lt. subst (λ (ys : List ArcEnds). fault_at n One ys k (get_or xs i no_arc) ≡ None) (sym (append_assoc before (x ∷ []) (take i xs)))
-    (no (suc i) k (omega arith))) in
+    (not_one (suc i) k (omega arith))) in
     rw head tail
 
 sound : (n k : ℕ) (before : List ArcEnds) (a : ArcEnds) → a.from < n → a.to < n → (a.from ≡ a.to → ⊥) → position (same_ends a) before ≡ None
@@ -69,8 +69,8 @@ unfolding fault_at
 sound n k before a from to apart none = rw (lt-ltb a.from n from, lt-ltb a.to n to, ne_eqb a.from a.to apart, none) refl
 
 by_test : (b : Bool) → (b ≡ true → ⊥) → b ≡ false
-by_test true no = absurd (no refl)
-by_test false no = refl
+by_test true not_one = absurd (not_one refl)
+by_test false not_one = refl
 
 not_before : (g : Graph) → HasDistinctEnds g → (i : ℕ) → i < length g.arcs → position (same_ends (get_or g.arcs i no_arc)) (take i g.arcs) ≡ None
 not_before g apart i lt =
@@ -108,8 +108,8 @@ height_one g leaders h k a b =
     omega (arith, low, high)
 
 none_all : {A B : Type 0} (f : A → Option B) (xs : List A) → ((x : A) → IsIn x xs → f x ≡ None) → first_of f xs ≡ None
-none_all f [] no = refl
-none_all f (x ∷ xs) no = rw (no x (inl refl)) (none_all f xs (λ y i. no y (inr i)))
+none_all f [] not_one = refl
+none_all f (x ∷ xs) not_one = rw (not_one x (inl refl)) (none_all f xs (λ y i. not_one y (inr i)))
 
 -- Each check passes.
 
