@@ -218,10 +218,10 @@ module _ (h : Header) (k : IsWithin h) where
   certifies view names (Err (Refused refusal)) e = shown_by (accepted_of h) refusal.reason (named_err names (accepted_of h) refusal e).0 of_accepted
 
 -- where the reader fails before there is a header, nothing is shown of one
-pub no_header : {X : Type 0} (names : List (List ℕ)) (fault : Fault Reason) (read : Result Header Reason) (h : Header) → Fails fault read → read ≡ Ok h
+pub no_header : (X : Type 0) (names : List (List ℕ)) (fault : Fault Reason) (read : Result Header Reason) (h : Header) → Fails fault read → read ≡ Ok h
     → Certifies {X = X} h (Err (fault_with names fault))
-no_header names NoMemory read h f e = tt
-no_header names (Refused reason) read h f e = absurd (cc (sym e ∙ f))
+no_header X names NoMemory read h f e = tt
+no_header X names (Refused reason) read h f e = absurd (cc (sym e ∙ f))
 
 pub along : {X : Type 0} (read : Result Header Reason) (g h : Header) (result : Result X (Fault Refusal)) → read ≡ Ok g → read ≡ Ok h → Certifies g result
     → Certifies h result

@@ -97,6 +97,7 @@ fn read_lines(
 }
 
 /// The job and the events of an offer, or the first reason against it with the names in its header.
+#[tactic(auto, unfolding(crate::specs::Job::job_of))]
 pub fn read_job(
     alloc: Global,
     bytes: &[u8],

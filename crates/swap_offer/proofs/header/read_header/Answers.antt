@@ -5,8 +5,7 @@ use Rattle.swap_offer.proofs.header.read_header.Goals as goal
 
 pub returns-in-Err-clause-certified : goal.returns-in-Err-clause-certified
 returns-in-Err-clause-certified c = λ h e.
-    rw c.with_names.ensures (no_header {X = Prepared} c.empty.result c.in-Err.fault
-    (header_of c.args.purpose c.args.line c.args.text.now) h c.in-Err.ensures.exact e)
+    rw c.with_names.ensures (no_header Prepared c.empty.result c.in-Err.fault (header_of c.args.purpose c.args.line c.args.text.now) h c.in-Err.ensures.exact e)
 
 pub returns-clause-certified : goal.returns-clause-certified
 returns-clause-certified c = λ h e.
