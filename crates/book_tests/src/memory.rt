@@ -42,7 +42,7 @@ fn reserve(rt: &impl Abort, alloc: Global, deal: &Deal) -> Result<(), Fail>
 
 /// The calls over a book of which one ledger is above the horizon, and nobody conforms.
 fn succeed(rt: &impl Abort, alloc: Global, header: &str) -> Result<(), Fail> {
-    let Prepared { job, wallets } = read_header(alloc, 1, header.as_bytes(), Purpose::Run)?;
+    let Prepared { job, wallets, .. } = read_header(alloc, 1, header.as_bytes(), Purpose::Run)?;
     let book = book_of(rt, alloc, &job, wallets, "tick 0 by 71;")?;
     assert_eq!(rt; count_unfinished(alloc, &job.deal, &book)?, 3);
     assert_eq!(rt; count_findings(alloc, &job, &book)?, 3);
