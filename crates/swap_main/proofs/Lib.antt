@@ -3,3 +3,4 @@ pub mod Replays
 pub mod Reports
 pub mod Promises
 pub mod Fairly
+pub mod Steps
