@@ -206,6 +206,3 @@ impl SharedLedger {
         ledger
     }
 }
-
-#[cfg(test)]
-mod tests;
