@@ -4,19 +4,13 @@
 #[cfg(test)]
 mod conduct;
 #[cfg(test)]
-mod entries;
-#[cfg(test)]
 mod forgeries;
 #[cfg(test)]
 mod hashkeys;
 #[cfg(test)]
-mod index;
-#[cfg(test)]
 mod jobs;
 #[cfg(test)]
 mod lateness;
-#[cfg(test)]
-mod ledgers;
 #[cfg(test)]
 mod memory;
 #[cfg(test)]
