@@ -1,3 +1,6 @@
 pub mod Causes
 pub mod Counted
 pub mod Supply
+pub mod Faults
+pub mod Lines
+pub mod Handed

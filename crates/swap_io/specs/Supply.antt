@@ -43,3 +43,8 @@ accepted s bytes = min (min (length bytes) s.per_call) (s.room - length s.taken)
 abbrev pub after_write : {E : Type 0} → Store → List ℕ → Result ℕ E → Store
 after_write s bytes (Ok n) = record s { taken = s.taken ++ take n bytes; calls = next_count s.calls }
 after_write s bytes (Err e) = record s { calls = next_count s.calls; faults = next_count s.faults }
+
+-- A sink in memory that grows.
+pub record Grown : Type 0 where
+  pub taken : List ℕ
+  pub faults : ℕ

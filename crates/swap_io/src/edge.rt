@@ -1,4 +1,5 @@
-//! std's reader and writer as a source and a sink, which tell nothing of content. Where the reader or writer itself tells some, each call's own clause passes it on.
+//! std's reader and writer as a source and a sink, which tell nothing of content. Where the reader or writer itself tells some, each call's own clause
+//! passes it on.
 
 ghost use Rattle.std.specs.Prelude.{◌≡◌, ◌<◌, length, None, IfOk, MatchResult};
 ghost use Rattle.std.specs.Io.{ReadsAtMost, WritesAtMost};

@@ -1,0 +1,10 @@
+-- Faults of one call as those of another.
+use Rattle.swap_io.specs.declared.fault.LineFault.{LineFault}
+use Rattle.swap_io.specs.declared.fault.LineFault.TheVariants as line
+use Rattle.swap_io.specs.declared.fault.DrainFault.{DrainFault}
+use Rattle.swap_io.specs.declared.fault.DrainFault.TheVariants.{ReadFault, TooLong}
+
+-- the fault of a line, by that of a drain
+abbrev pub fault_of : DrainFault → LineFault
+fault_of ReadFault = line.ReadFault
+fault_of TooLong = line.TooLong

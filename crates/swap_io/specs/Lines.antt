@@ -1,0 +1,69 @@
+-- The lines of a source, read one after another.
+use Rattle.std.specs.Prelude.{◌≡◌, ◌==◌, ◌&&◌, ◌<◌, ◌≤◌, ◌+◌, ◌↔◌, ℕ, Bool, true, false, not, List, [], ◌∷◌, ◌++◌, length, Option, IsTrue}
+use Rattle.std.specs.Io.KnownBytes.{Consumes, IsAtEnd}
+use Rattle.swap_io.specs.declared.line_end.LineEnd.{LineEnd}
+use Rattle.swap_io.specs.declared.line_end.LineEnd.TheVariants.{Ended, Rest, End}
+
+-- What callers see of lines that are read.
+pub record Reading : Type 0 where
+  -- the bytes that were taken from the source and not given yet
+  pub kept : List ℕ
+  -- how many bytes were taken over all calls
+  pub taken : ℕ
+  -- the most bytes that may be taken
+  pub limit : ℕ
+
+-- no line feed stands in the bytes
+abbrev pub lacks_feed : List ℕ → Bool
+lacks_feed [] = true
+lacks_feed (b ∷ bs) = not (b == 10) && lacks_feed bs
+
+-- The bytes were taken from the source and counted.
+pub record Took (left left' : Option (List ℕ)) (old new : Reading) (bytes : List ℕ) : Type 0 where
+  pub consumed : Consumes left left' bytes
+  pub counted : new.taken ≡ old.taken + length bytes
+  pub limit : new.limit ≡ old.limit
+
+-- some bytes were taken from the source and counted
+abbrev pub TookSome : Option (List ℕ) → Option (List ℕ) → Reading → Reading → Type 0
+TookSome left left' old new = (bytes : List ℕ) × Took left left' old new bytes
+
+-- nothing is kept, and nothing is left
+pub record IsOver (left : Option (List ℕ)) (now : Reading) : Type 0 where
+  pub kept : now.kept ≡ []
+  pub none_left : IsAtEnd left
+
+-- the line feed that ended a line
+abbrev pub feed_of : LineEnd → List ℕ
+feed_of Ended = 10 ∷ []
+feed_of Rest = []
+feed_of End = []
+
+-- a line that a line feed ended, bytes at the end that none ended, or no further byte
+abbrev pub EndsAs : LineEnd → List ℕ → Option (List ℕ) → Reading → Type 0
+EndsAs Ended line left now = Unit {0}
+EndsAs Rest line left now = (0 < length line) × IsOver left now
+EndsAs End line left now = (line ≡ []) × IsOver left now
+
+-- What was kept, with the bytes that were taken, is the line with its line feed, if any, and what is kept now.
+pub record IsNext (left left' : Option (List ℕ)) (old new : Reading) (line : List ℕ) (end : LineEnd) : Type 0 where
+  pub bytes : List ℕ
+  pub took : Took left left' old new bytes
+  pub parts : old.kept ++ bytes ≡ line ++ (feed_of end ++ new.kept)
+  pub one : IsTrue (lacks_feed line)
+  pub ends : EndsAs end line left' new
+
+-- The bytes up to the first line feed, and those after it.
+pub record IsCutAt (bytes before after : List ℕ) : Type 0 where
+  pub parts : bytes ≡ before ++ 10 ∷ after
+  pub one : IsTrue (lacks_feed before)
+
+-- what was kept up to its first line feed goes to the line, or all of it where it has none
+abbrev pub TakesLine : Bool → Reading → Reading → List ℕ → List ℕ → Type 0
+TakesLine true old new line line' = (more : List ℕ) × IsCutAt old.kept more new.kept × (line' ≡ line ++ more)
+TakesLine false old new line line' = (new.kept ≡ []) × IsTrue (lacks_feed old.kept) × (line' ≡ line ++ old.kept)
+
+-- some bytes were taken and are kept, or nothing is left
+abbrev pub IsFilled : Bool → Option (List ℕ) → Option (List ℕ) → Reading → Reading → Type 0
+IsFilled true left left' old new = Took left left' old new new.kept × (0 < length new.kept)
+IsFilled false left left' old new = Took left left' old new [] × IsOver left' new
