@@ -1,15 +1,20 @@
 //! The line of an entry.
 
-ghost use Rattle.std.specs.Prelude.{◌≡◌, ◌++◌, ◌∷◌, ℕ, OnOk};
+ghost use Rattle.std.specs.Prelude.{◌≡◌, ◌<◌, ◌++◌, ◌∷◌, ℕ, length, OnOk};
 ghost use Rattle.swap_base.specs.Text.{lines};
+ghost use Rattle.swap_io.specs.Handed.{Hands};
+ghost use Rattle.swap_digraph.specs.Deal.{IsWellSized};
+ghost use Rattle.escrow_core.specs.Terms.{terms_of};
 ghost use Rattle.transcript_text.specs.Words.{comma_name, path_text, unlock_text, call_text, publish_text, sender_text as sender_of};
 ghost use Rattle.transcript_text.specs.Report.{what_line, entry_line};
 ghost use Rattle.transcript_text.specs.Items.{item_line};
 
-use escrow_core::Terms;
+use escrow_core::{Terms, terms_of};
 use ledger_core::{Call, Entry, EntryList, Item, Sender, What};
 use refusals::{name_at, put_reply};
-use swap_base::{ByteText, LockId, NoMemory, PartyId, Piece, put};
+use swap_base::{ArcId, ByteText, LockId, NoMemory, PartyId, Piece, put};
+use swap_digraph::Deal;
+use swap_io::{Sink, TextFault, pass_on};
 
 fn put_comma_name(out: &mut Vec<u8>, names: &[ByteText], p: PartyId) -> Result<(), NoMemory>
     ensures { OnOk result (out.new.items ≡ out.old.items ++ comma_name names.now 0 p) }
@@ -153,29 +158,39 @@ fn put_item(
     }
 }
 
-fn put_items(
+/// The lines of items, each handed on.
+fn write_items<K: Sink>(
+    sink: &mut K,
     out: &mut Vec<u8>,
     names: &[ByteText],
     correct: &Terms,
     items: &[Item],
-) -> Result<(), NoMemory>
-    ensures { OnOk result (out.new.items ≡ out.old.items ++ lines (item_line names.now correct.now) 0 items.now) }
+) -> Result<(), TextFault>
+    ensures { Hands (K.taken sink.old) (K.taken sink.new) (K.faults sink.old) (K.faults sink.new) out.old.items out.new.items
+        (lines (item_line names.now correct.now) 0 items.now) result }
 {
     for item in items {
         put_item(out, names, correct, item)?;
+        pass_on(sink, out)?;
     }
     Ok(())
 }
 
-/// The lines of the entries that aren't ticks.
-pub(crate) fn put_entries(
+/// The lines of the entries that aren't ticks, handed on.
+pub(crate) fn write_entries<K: Sink>(
+    sink: &mut K,
     out: &mut Vec<u8>,
     names: &[ByteText],
-    correct: &Terms,
+    deal: &Deal,
+    number: ArcId,
     entries: &EntryList,
-) -> Result<(), NoMemory>
-    ensures { OnOk result (out.new.items ≡ out.old.items ++ lines (entry_line names.now correct.now) 0 entries.now) }
+) -> Result<(), TextFault>
+    requires sized { IsWellSized deal.now }
+    requires arc { number < length deal.now.graph.arcs }
+    ensures { Hands (K.taken sink.old) (K.taken sink.new) (K.faults sink.old) (K.faults sink.new) out.old.items out.new.items
+        (lines (entry_line names.now (terms_of deal.now number)) 0 entries.now) result }
 {
+    let correct = terms_of(deal, number);
     let (items, _) = entries.parts();
-    put_items(out, names, correct, items)
+    write_items(sink, out, names, &correct, items)
 }

@@ -2,11 +2,13 @@
 
 ghost use Rattle.std.specs.Prelude.{◌≡◌, ◌<◌, ◌≤◌, ◌++◌, OnOk, length, slice_index_or, false};
 ghost use Rattle.swap_base.specs.Text.{lines};
+ghost use Rattle.swap_io.specs.Handed.{Hands};
 ghost use Rattle.transcript_text.specs.Words.{outcome_text as outcome_of, rule_text};
 ghost use Rattle.transcript_text.specs.Report.{role_text as role_of, ended_text as ended_of, party_line, finding_line, count_line};
 
 use refusals::name_at;
 use swap_base::{ByteText, NoMemory, PartyId, Piece, put};
+use swap_io::{Sink, TextFault, pass_on};
 use swap_rules::{Finding, Outcome, Rule};
 
 #[tactic(auto, unfolding(crate::specs::Words::outcome_text))]
@@ -179,16 +181,19 @@ fn put_finding(out: &mut Vec<u8>, names: &[ByteText], finding: Finding) -> Resul
     }
 }
 
-/// The line of each finding.
-pub(crate) fn put_findings(
+/// The line of each finding, handed on.
+pub(crate) fn write_findings<K: Sink>(
+    sink: &mut K,
     out: &mut Vec<u8>,
     names: &[ByteText],
     findings: &[Finding],
-) -> Result<(), NoMemory>
-    ensures { OnOk result (out.new.items ≡ out.old.items ++ lines (λ _. finding_line names.now) 0 findings.now) }
+) -> Result<(), TextFault>
+    ensures { Hands (K.taken sink.old) (K.taken sink.new) (K.faults sink.old) (K.faults sink.new) out.old.items out.new.items
+        (lines (λ _. finding_line names.now) 0 findings.now) result }
 {
     for finding in findings {
         put_finding(out, names, *finding)?;
+        pass_on(sink, out)?;
     }
     Ok(())
 }

@@ -2,28 +2,32 @@
 
 ghost use Rattle.std.specs.Prelude.{◌≡◌, ◌++◌, ◌<◌, ◌≤◌, OnOk, length};
 ghost use Rattle.swap_base.specs.Text.{lines};
+ghost use Rattle.swap_io.specs.Handed.{Hands};
 ghost use Rattle.swap_digraph.specs.Deal.{IsWellSized, amount};
-ghost use Rattle.ledger_core.specs.History.{IsLegal};
-ghost use Rattle.ledger_core.specs.Book.{IsLegalBook, Histories, history};
+ghost use Rattle.swap_digraph.specs.Graph.{ends};
+ghost use Rattle.ledger_core.specs.History.{IsLegal, accounts, height};
+ghost use Rattle.ledger_core.specs.Book.{IsLegalBook};
 ghost use Rattle.transcript_text.specs.Report.{ledger_head, ledger_end, ledger_lines};
 
-use crate::entries::put_entries;
-use escrow_core::terms_of;
+use crate::entries::write_entries;
 use ledger_core::{Accounts, Book, EntryList, accounts_of};
 use refusals::name_at;
 use swap_base::{ArcId, ByteText, NoMemory, Piece, put};
 use swap_digraph::{ArcEnds, Deal};
+use swap_io::{Sink, TextFault, pass_on};
 
 #[tactic(auto, unfolding(crate::specs::Report::ledger_head))]
 fn put_head(
     out: &mut Vec<u8>,
     names: &[ByteText],
+    deal: &Deal,
     number: ArcId,
-    arc: ArcEnds,
-    units: u64,
 ) -> Result<(), NoMemory>
-    ensures { OnOk result (out.new.items ≡ out.old.items ++ ledger_head names.now number arc units) }
+    requires sized { IsWellSized deal.now }
+    requires arc { number < length deal.now.graph.arcs }
+    ensures { OnOk result (out.new.items ≡ out.old.items ++ ledger_head names.now number (ends deal.now.graph number) (amount deal.now number)) }
 {
+    let arc = deal.graph.arcs()[number as usize];
     put(
         out,
         &[
@@ -34,7 +38,7 @@ fn put_head(
             Piece::Text(" -> "),
             Piece::Bytes(name_at(names, arc.to)),
             Piece::Text(" amount "),
-            Piece::Number(units),
+            Piece::Number(deal.amounts.as_slice()[number as usize]),
             Piece::Text("\n"),
         ],
     )
@@ -70,8 +74,8 @@ fn put_end(
     )
 }
 
-#[tactic(auto, unfolding(crate::specs::Report::ledger_lines))]
-fn put_ledger(
+/// The last line of a ledger.
+fn put_last(
     out: &mut Vec<u8>,
     names: &[ByteText],
     deal: &Deal,
@@ -81,34 +85,54 @@ fn put_ledger(
     requires sized { IsWellSized deal.now }
     requires arc { number < length deal.now.graph.arcs }
     requires legal { IsLegal deal.now number entries.now }
-    ensures { OnOk result (out.new.items ≡ out.old.items ++ ledger_lines names.now deal.now number entries.now) }
+    ensures { OnOk result (out.new.items ≡ out.old.items ++ ledger_end names.now (ends deal.now.graph number) (height entries.now)
+        (accounts deal.now number entries.now)) }
 {
-    let arc = deal.graph.arcs()[number as usize];
-    let units = deal.amounts.as_slice()[number as usize];
-    put_head(out, names, number, arc, units)?;
-    put_entries(out, names, &terms_of(deal, number), entries)?;
     put_end(
         out,
         names,
-        arc,
+        deal.graph.arcs()[number as usize],
         entries.height(),
         accounts_of(deal, number, entries),
     )
 }
 
-/// The lines of each ledger of the book.
-pub(crate) fn put_ledgers(
+/// The lines of a ledger, handed on.
+fn write_ledger<K: Sink>(
+    sink: &mut K,
+    out: &mut Vec<u8>,
+    names: &[ByteText],
+    deal: &Deal,
+    number: ArcId,
+    entries: &EntryList,
+) -> Result<(), TextFault>
+    requires sized { IsWellSized deal.now }
+    requires arc { number < length deal.now.graph.arcs }
+    requires legal { IsLegal deal.now number entries.now }
+    ensures { Hands (K.taken sink.old) (K.taken sink.new) (K.faults sink.old) (K.faults sink.new) out.old.items out.new.items
+        (ledger_lines names.now deal.now number entries.now) result }
+{
+    put_head(out, names, deal, number)?;
+    write_entries(sink, out, names, deal, number, entries)?;
+    put_last(out, names, deal, number, entries)?;
+    pass_on(sink, out)
+}
+
+/// The lines of each ledger of the book, handed on.
+pub(crate) fn write_ledgers<K: Sink>(
+    sink: &mut K,
     out: &mut Vec<u8>,
     names: &[ByteText],
     deal: &Deal,
     book: &Book,
-) -> Result<(), NoMemory>
+) -> Result<(), TextFault>
     requires sized { IsWellSized deal.now }
     requires legal { IsLegalBook deal.now book.now.histories }
-    ensures { OnOk result (out.new.items ≡ out.old.items ++ lines (ledger_lines names.now deal.now) 0 book.now.histories) }
+    ensures { Hands (K.taken sink.old) (K.taken sink.new) (K.faults sink.old) (K.faults sink.new) out.old.items out.new.items
+        (lines (ledger_lines names.now deal.now) 0 book.now.histories) result }
 {
     for (number, entries) in book.histories.as_slice().iter().enumerate() {
-        put_ledger(out, names, deal, number as ArcId, entries)?;
+        write_ledger(sink, out, names, deal, number as ArcId, entries)?;
     }
     Ok(())
 }

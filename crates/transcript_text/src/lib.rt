@@ -8,4 +8,4 @@ mod findings;
 mod ledgers;
 mod report;
 
-pub use report::report_text;
+pub use report::{report_text, write_report};
