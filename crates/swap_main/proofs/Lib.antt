@@ -3,4 +3,8 @@ pub mod Replays
 pub mod Reports
 pub mod Promises
 pub mod Fairly
-pub mod Steps
+pub mod Ahead
+pub mod Streams
+pub mod Reading
+pub mod Saying
+pub mod Ends

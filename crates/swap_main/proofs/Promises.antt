@@ -1,9 +1,10 @@
 -- What a run and a check promise of what they wrote.
-use Rattle.std.proofs.Common.{◌≡◌, ◌<◌, ◌==◌, ℕ, Bool, true, false, not, List, [], ◌∷◌, ◌++◌, length, fold, Option, Some, Result, Ok, Err, IfOk, refl, sym, ap, ap₂, ◌∙◌, subst, arith}
+use Rattle.std.proofs.Common.{◌≡◌, ℕ, Bool, false, List, [], ◌∷◌, fold, Result, Ok, refl}
+use Rattle.std.proofs.Common.{ap, ap₂, ◌∙◌, subst, arith}
 use Rattle.swap_base.specs.Fault.{◌>>=◌}
 use Rattle.ledger_core.specs.declared.entry.Entry.{Entry}
 use Rattle.ledger_core.specs.History.{IsLegal}
-use Rattle.ledger_core.specs.Book.{Histories, history}
+use Rattle.ledger_core.specs.Book.{Histories}
 use Rattle.deviator_script.specs.declared.event.Event.{Event}
 use Rattle.deviator_script.specs.declared.job.Job.{Job}
 use Rattle.deviator_script.specs.declared.job.Finish.TheVariants.{Fair}
@@ -14,21 +15,18 @@ use Rattle.swap_rules.specs.Findings.{findings}
 use Rattle.swap_rules.specs.Outcome.{IsEnded}
 use Rattle.swap_laws.specs.Laws.{IsDealt}
 use Rattle.swap_laws.proofs.Units as units
-use Rattle.swap_run.specs.Run.{State, start, step, run}
+use Rattle.swap_run.specs.Run.{State, start, step}
 use Rattle.swap_run.specs.Laws.{IsKept}
 use Rattle.swap_world.specs.Cast.{cast_of}
-use Rattle.outcome_rules.specs.declared.report.Report.{Report}
 use Rattle.outcome_rules.specs.Report.{conforms_in, outcomes_of, report_of}
 use Rattle.outcome_rules.specs.Promises.{AllAreConforming}
 use Rattle.outcome_rules.proofs.Promises as laws
 use Rattle.refusals.specs.declared.reason.Reason.{Reason}
-use Rattle.swap_offer.specs.Job.{events_of, job_header_of, job_of, of_lines as lines_read}
-use Rattle.swap_offer.specs.Lines.{lines_of, filled_lines}
+use Rattle.swap_offer.specs.Job.{events_of, job_header_of, of_lines as lines_read}
 use Rattle.offer_fields.proofs.Chains.{went}
-use Rattle.swap_main.specs.declared.written.Written.{Written}
-use Rattle.swap_main.specs.declared.words.Command.{Command}
-use Rattle.swap_main.specs.Output.{book_of, check_text, finished, purpose_of, report_for, reported, told}
-use Rattle.swap_main.specs.Promised.{AsPromised, AsRead, IsPromised, IsRun, IsCheck}
+use Rattle.swap_main.specs.Written.{Written}
+use Rattle.swap_main.specs.Output.{book_of, check_text, finished, report_for, reported, told}
+use Rattle.swap_main.specs.Promised.{IsPromised, IsRun, IsCheck}
 use Rattle.swap_main.specs.Replay.{passed_over, replayed}
 
 -- The laws of a legal book, of the report that is shown of it.
@@ -40,11 +38,14 @@ is_promised job b k kept =
     record {
       accepted = k;
       kept = kept;
-      units = λ a h rest few e. let same = kept.legal.one_each in units.units_are_kept job.deal a h rest (subst (λ (xs : List Entry). IsLegal job.deal a xs) e (kept.legal.legal a (omega (arith, few, same))));
-      safe = laws.none_is_shown_underwater job.deal b (outcomes_of job.deal b) refl job.conforming found (laws.none_is_underwater job.deal job.conforming b found kept.legal refl k);
+      units = λ a h rest few e. let same = kept.legal.one_each in units.units_are_kept job.deal a h rest
+          (subst (λ (xs : List Entry). IsLegal job.deal a xs) e (kept.legal.legal a (omega (arith, few, same))));
+      safe = laws.none_is_shown_underwater job.deal b (outcomes_of job.deal b) refl job.conforming found
+          (laws.none_is_underwater job.deal job.conforming b found kept.legal refl k);
       refunds = laws.all_have_refunds job.deal job.conforming b found kept.legal refl k;
       transfer = laws.is_transferred job.deal job.conforming b found kept.legal refl k;
-      whole = λ all none. laws.all_are_whole job.deal b (outcomes_of job.deal b) refl k (laws.is_transferred job.deal job.conforming b found kept.legal refl k all none);
+      whole = λ all none. laws.all_are_whole job.deal b (outcomes_of job.deal b) refl k
+          (laws.is_transferred job.deal job.conforming b found kept.legal refl k all none);
       nothing = laws.finds_nothing job.deal job.conforming b found kept.legal refl;
     }
 
@@ -53,7 +54,8 @@ is_promised job b k kept =
 abbrev paired : Job → List Event → Result (Job × List Event) Reason
 paired job es = Ok (job, es)
 
-read_of : (header : Result Job Reason) (events : Job → Result (List Event) Reason) (job : Job) (es : List Event) → header ≡ Ok job → events job ≡ Ok es → (header >>= λ j. events j >>= λ es. paired j es) ≡ paired job es
+read_of : (header : Result Job Reason) (events : Job → Result (List Event) Reason) (job : Job) (es : List Event) → header ≡ Ok job → events job ≡ Ok es
+    → (header >>= λ j. events j >>= λ es. paired j es) ≡ paired job es
 read_of header events job es h e = rw h (rw e refl)
 
 -- The events that a replay stepped through.
@@ -71,8 +73,10 @@ replayed_by f job x y ls e =
 -- A run.
 
 -- what was read, the book that is shown, and what the world promised of it
-run_of : (job : Job) (events : List Event) (read : Result (Job × List Event) Reason) (b : Histories) (output : Written) → read ≡ Ok (job, events) → b ≡ book_of job events → output ≡ reported job b → IsAccepted job.deal → IsKept (cast_of job) b
-    → (job.finish ≡ Fair → IsEnded job.deal b) → (job.finish ≡ Fair → events ≡ [] → AllAreConforming job.deal job.conforming → IsDealt job.deal (conforms_in job.conforming) b) → IsRun read output
+run_of : (job : Job) (events : List Event) (read : Result (Job × List Event) Reason) (b : Histories) (output : Written) → read ≡ Ok (job, events)
+    → b ≡ book_of job events → output ≡ reported job b → IsAccepted job.deal → IsKept (cast_of job) b
+    → (job.finish ≡ Fair → IsEnded job.deal b) → (job.finish ≡ Fair → events ≡ [] → AllAreConforming job.deal job.conforming
+    → IsDealt job.deal (conforms_in job.conforming) b) → IsRun read output
 unfolding report_of
 run_of job events read b output r same shown k kept ended dealt = record {
   job = job;
@@ -84,12 +88,17 @@ run_of job events read b output r same shown k kept ended dealt = record {
   fair = λ fair none all. subst (λ (b : Histories). findings job.deal (conforms_in job.conforming) b ≡ []) same (dealt fair none all).nothing;
 }
 
-pub is_run : (line : ℕ) (text : List ℕ) (ls : List (ℕ × List ℕ)) (job : Job) (s : State) (b : Histories) (output : Written) → job_header_of purposes.Run line text ≡ Ok job → replayed (step (cast_of job)) job 0 (start job.deal) ls ≡ Ok s
-    → b ≡ (finished job.finish (cast_of job) s).book → output ≡ reported job b → IsAccepted job.deal → IsKept (cast_of job) b → (job.finish ≡ Fair → IsEnded job.deal b)
-    → (job.finish ≡ Fair → s ≡ start job.deal → AllAreConforming job.deal job.conforming → IsDealt job.deal (conforms_in job.conforming) b) → IsRun (lines_read purposes.Run ((line, text) ∷ ls)) output
+pub is_run : (line : ℕ) (text : List ℕ) (ls : List (ℕ × List ℕ)) (job : Job) (s : State) (b : Histories) (output : Written)
+    → job_header_of purposes.Run line text ≡ Ok job → replayed (step (cast_of job)) job 0 (start job.deal) ls ≡ Ok s
+    → b ≡ (finished job.finish (cast_of job) s).book → output ≡ reported job b → IsAccepted job.deal → IsKept (cast_of job) b
+    → (job.finish ≡ Fair → IsEnded job.deal b)
+    → (job.finish ≡ Fair → s ≡ start job.deal → AllAreConforming job.deal job.conforming → IsDealt job.deal (conforms_in job.conforming) b)
+    → IsRun (lines_read purposes.Run ((line, text) ∷ ls)) output
 is_run line text ls job s b output h r same shown k kept ended dealt =
     let p = replayed_by (step (cast_of job)) job (start job.deal) s ls r in
-    run_of job p.events (lines_read purposes.Run ((line, text) ∷ ls)) b output (read_of (job_header_of purposes.Run line text) (λ j. events_of j 0 ls) job p.events h p.read) (same ∙ ap (λ (s : State). (finished job.finish (cast_of job) s).book) p.leads) shown k kept ended
+    run_of job p.events (lines_read purposes.Run ((line, text) ∷ ls)) b output
+    (read_of (job_header_of purposes.Run line text) (λ j. events_of j 0 ls) job p.events h p.read)
+    (same ∙ ap (λ (s : State). (finished job.finish (cast_of job) s).book) p.leads) shown k kept ended
     (λ fair none. dealt fair (p.leads ∙ ap (λ (es : List Event). fold (step (cast_of job)) (start job.deal) es) none))
 
 -- A check.
@@ -100,7 +109,8 @@ with_text t f = record { text = t; found = f }
 pub is_told : (job : Job) (w : Written) → w.text ≡ check_text job.deal → w.found ≡ false → w ≡ told job
 is_told job w t f = ap₂ with_text t f
 
-pub is_check : (line : ℕ) (text : List ℕ) (ls : List (ℕ × List ℕ)) (job : Job) (u : Unit {0}) (output : Written) → job_header_of purposes.Check line text ≡ Ok job → replayed passed_over job 0 tt ls ≡ Ok u → output ≡ told job → IsAccepted job.deal
+pub is_check : (line : ℕ) (text : List ℕ) (ls : List (ℕ × List ℕ)) (job : Job) (u : Unit {0}) (output : Written)
+    → job_header_of purposes.Check line text ≡ Ok job → replayed passed_over job 0 tt ls ≡ Ok u → output ≡ told job → IsAccepted job.deal
     → IsCheck (lines_read purposes.Check ((line, text) ∷ ls)) output
 is_check line text ls job u output h r shown k =
     let p = replayed_by passed_over job tt u ls r in
@@ -111,8 +121,3 @@ is_check line text ls job u output h r shown k =
       shown = shown;
       accepted = k;
     }
-
--- What is promised of lines is promised of the input.
-pub promised_lines : {E : Type 0} (command : Command) (input : List ℕ) (result : Result Written E) → IfOk result (λ w. AsRead command (lines_read (purpose_of command) (filled_lines 1 (lines_of input))) w) → IfOk result (λ w. AsPromised command input w)
-unfolding job_of
-promised_lines command input result p = p

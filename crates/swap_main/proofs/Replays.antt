@@ -1,18 +1,14 @@
 -- A replay steps a world line by line.
-use Rattle.std.proofs.Common.{◌≡◌, ℕ, ◌+◌, ◌<◌, ◌≤◌, false, List, [], ◌∷◌, length, get_or, drop, map, Result, Ok, Err, Option, Bool, refl, sym, ap, ap₂, ◌∙◌, arith, add-one, drop-cons, fold}
-use Rattle.std.proofs.lemmas.List.{nil_from_length, length-drop}
-use Rattle.swap_base.specs.Fault.{◌>>=◌, Fails}
-use Rattle.swap_base.specs.declared.fault.Fault.{Fault}
-use Rattle.swap_base.specs.declared.fault.Fault.TheVariants.{Refused, NoMemory}
+use Rattle.std.proofs.Common.{◌≡◌, ℕ, ◌+◌, List, [], ◌∷◌, Result, Ok, Err, Option, Bool, refl, sym, ap, ap₂, ◌∙◌}
+use Rattle.std.proofs.Common.{fold}
+use Rattle.swap_base.specs.Fault.{◌>>=◌}
 use Rattle.deviator_script.specs.declared.job.Job.{Job}
 use Rattle.deviator_script.specs.declared.event.Event.{Event}
 use Rattle.refusals.specs.declared.reason.Reason.{Reason}
-use Rattle.deviator_script.specs.declared.job.Purpose.{Purpose}
-use Rattle.refusals.specs.declared.reason.Reason.TheVariants.{NotJson}
 use Rattle.swap_offer.specs.Lines.{lines_of, filled_lines}
 use Rattle.swap_offer.specs.Job.{events_of, next_of, job_of, job_header_of, of_lines as lines_read}
 use Rattle.swap_digraph.specs.declared.deal.Deal.{Deal}
-use Rattle.swap_run.specs.Run.{Cast, State, run, step, start}
+use Rattle.swap_run.specs.Run.{Cast, State, step, start}
 use Rattle.swap_world.specs.Cast.{cast_of, cast_with}
 use Rattle.swap_offer.specs.Wallets.{HaveWallets}
 use Rattle.swap_world.specs.Staff.{world_of}
@@ -21,11 +17,7 @@ use Rattle.swap_world.specs.Value.{WorldState, cast_at, new_world}
 use Rattle.swap_main.specs.declared.words.Command.{Command}
 use Rattle.swap_main.specs.declared.words.Command.TheVariants.{Check, Run}
 use Rattle.swap_main.specs.Output.{purpose_of, finished, book_of, reported, told, output_of, output_for}
-use Rattle.swap_main.specs.Replay.{replayed, next_by, passed_over, IsOf, of_run, of_check, of_header, of_lines}
-
--- a line as it stands in the text
-abbrev pub line_of : {B : Type 0} → (B → List ℕ) → ℕ × B → ℕ × List ℕ
-line_of text l = (l.0, text l.1)
+use Rattle.swap_main.specs.Replay.{replayed, next_by, passed_over, IsOf, of_run, of_check, of_lines}
 
 regroup : {A : Type 0} (f : A → Event → A) (x : A) (next : Result Event Reason) (rest : Result (List Event) Reason) →
     (next >>= λ e. rest >>= λ es. Ok (e ∷ es)) >>= (λ events. Ok (fold f x events)) ≡ (next >>= λ e. Ok (f x e)) >>= λ y. rest >>= λ es. Ok (fold f y es)
@@ -33,41 +25,22 @@ regroup f x (Ok e) (Ok es) = refl
 regroup f x (Ok e) (Err r) = refl
 regroup f x (Err r) rest = refl
 
-step_of : {A : Type 0} (f : A → Event → A) (job : Job) (n : ℕ) (x : A) (line : ℕ) (text : List ℕ) (rest : List (ℕ × List ℕ)) → replayed f job n x ((line, text) ∷ rest) ≡ next_by f job n x line text >>= λ y. replayed f job (n + 1) y rest
+pub step_of : {A : Type 0} (f : A → Event → A) (job : Job) (n : ℕ) (x : A) (line : ℕ) (text : List ℕ) (rest : List (ℕ × List ℕ))
+    → replayed f job n x ((line, text) ∷ rest) ≡ next_by f job n x line text >>= λ y. replayed f job (n + 1) y rest
 unfolding replayed next_by events_of
 step_of f job n x line text rest = regroup f x (next_of job n line text) (events_of job (n + 1) rest)
 
-none_left : {A : Type 0} (f : A → Event → A) (job : Job) (n : ℕ) (x : A) → replayed f job n x [] ≡ Ok x
+pub none_left : {A : Type 0} (f : A → Event → A) (job : Job) (n : ℕ) (x : A) → replayed f job n x [] ≡ Ok x
 unfolding replayed events_of
 none_left f job n x = refl
-
-module _ {A B : Type 0} (f : A → Event → A) (text : B → List ℕ) (job : Job) (ls : List (ℕ × B)) (total : Result A Reason) where
-  -- what is left of the replay
-  abbrev pub left : (i : ℕ) → A → Result A Reason
-  left i x = replayed f job i x (map (line_of text) (drop i ls))
-
-  next : (i : ℕ) (x : A) (d : ℕ × B) → i < length ls → left i x ≡ next_by f job i x (get_or ls i d).0 (text (get_or ls i d).1) >>= λ y. left (i + 1) y
-  next i x d lt =
-      let e : drop i ls ≡ get_or ls i d ∷ drop (i + 1) ls = rw (add-one, drop-cons ls i d) refl in
-      ap (λ (xs : List (ℕ × B)). replayed f job i x (map (line_of text) xs)) e ∙ step_of f job i x (get_or ls i d).0 (text (get_or ls i d).1) (map (line_of text) (drop (i + 1) ls))
-
-  pub goes_on : (i : ℕ) (x y : A) (d : ℕ × B) → i < length ls → next_by f job i x (get_or ls i d).0 (text (get_or ls i d).1) ≡ Ok y → left i x ≡ total → left (i + 1) y ≡ total
-  goes_on i x y d lt h so_far = sym (next i x d lt ∙ ap (λ (r : Result A Reason). r >>= λ z. left (i + 1) z) h) ∙ so_far
-
-  pub ends : (e : Fault Reason) (i : ℕ) (x : A) (d : ℕ × B) → i < length ls → Fails e (next_by f job i x (get_or ls i d).0 (text (get_or ls i d).1)) → left i x ≡ total → Fails e total
-  ends NoMemory i x d lt h so_far = tt
-  ends (Refused r) i x d lt h so_far = sym so_far ∙ next i x d lt ∙ ap (λ (r : Result A Reason). r >>= λ z. left (i + 1) z) h
-
-  pub is_done : (i : ℕ) (x : A) → length ls ≤ i → left i x ≡ total → total ≡ Ok x
-  is_done i x le so_far =
-      let e : drop i ls ≡ [] = nil_from_length (drop i ls) (omega (arith, length-drop i ls)) in
-      sym so_far ∙ ap (λ (xs : List (ℕ × B)). replayed f job i x (map (line_of text) xs)) e ∙ none_left f job i x
 
 -- The lines of an input.
 
 -- a job's header, and what is made along its events, give what is written for the lines
-together : {A W : Type 0} (header : Result Job Reason) (events : Job → Result (List Event) Reason) (f : Job → A → Event → A) (x : Job → A) (g : Job → A → W) (w : Job × List Event → W) → ((job : Job) (es : List Event) → g job (fold (f job) (x job) es) ≡ w (job, es))
-    → (header >>= λ job. (events job >>= λ es. Ok (fold (f job) (x job) es)) >>= λ y. Ok (g job y)) ≡ (header >>= λ job. events job >>= λ es. Ok (job, es)) >>= λ j. Ok (w j)
+together : {A W : Type 0} (header : Result Job Reason) (events : Job → Result (List Event) Reason) (f : Job → A → Event → A) (x : Job → A) (g : Job → A → W)
+    (w : Job × List Event → W) → ((job : Job) (es : List Event) → g job (fold (f job) (x job) es) ≡ w (job, es))
+    → (header >>= λ job. (events job >>= λ es. Ok (fold (f job) (x job) es)) >>= λ y. Ok (g job y)) ≡
+    (header >>= λ job. events job >>= λ es. Ok (job, es)) >>= λ j. Ok (w j)
 together {A = A} {W = W} (Err r) events f x g w same = refl
 together {A = A} {W = W} (Ok job) events f x g w same = go (events job)
   where
@@ -82,35 +55,38 @@ of_some command [] = by command
     by : (command : Command) → of_lines command [] ≡ output_for command (lines_read (purpose_of command) [])
     by Run = refl
     by Check = refl
-of_some Run (l ∷ ls) = together (job_header_of (purpose_of Run) l.0 l.1) (λ job. events_of job 0 ls) (λ job. step (cast_of job)) (λ job. start job.deal) (λ job s. reported job (finished job.finish (cast_of job) s).book) (λ j. reported j.0 (book_of j.0 j.1)) (λ job es. refl)
-of_some Check (l ∷ ls) = together (job_header_of (purpose_of Check) l.0 l.1) (λ job. events_of job 0 ls) (λ job. passed_over) (λ job. tt) (λ job u. told job) (λ j. told j.0) (λ job es. refl)
+of_some Run (l ∷ ls) = together (job_header_of (purpose_of Run) l.0 l.1) (λ job. events_of job 0 ls) (λ job. step (cast_of job)) (λ job. start job.deal)
+    (λ job s. reported job (finished job.finish (cast_of job) s).book) (λ j. reported j.0 (book_of j.0 j.1)) (λ job es. refl)
+of_some Check (l ∷ ls) = together (job_header_of (purpose_of Check) l.0 l.1) (λ job. events_of job 0 ls) (λ job. passed_over) (λ job. tt)
+    (λ job u. told job) (λ j. told j.0) (λ job es. refl)
 
 pub of_input : (command : Command) (input : List ℕ) → of_lines command (filled_lines 1 (lines_of input)) ≡ output_of command input
 unfolding output_of job_of
 of_input Run input = of_some Run (filled_lines 1 (lines_of input))
 of_input Check input = of_some Check (filled_lines 1 (lines_of input))
 
-pub of_first : {B : Type 0} (text : B → List ℕ) (command : Command) (ls rest : List (ℕ × B)) (l : ℕ × B) → 0 < length ls → l ≡ get_or ls 0 l → rest ≡ drop 1 ls → of_lines command (map (line_of text) ls) ≡ of_header command l.0 (text l.1) (map (line_of text) rest)
-of_first text command [] rest l some is left = absurd (omega arith)
-of_first text command (x ∷ ls) rest l some is left = rw (is, left) refl
-
-pub of_none : {B : Type 0} (text : B → List ℕ) (command : Command) (ls : List (ℕ × B)) → length ls ≡ 0 → of_lines command (map (line_of text) ls) ≡ Err (NotJson 1)
-of_none text command [] none = refl
-of_none text command (x ∷ ls) none = absurd (omega arith)
-
 -- Worlds.
 
 pub same_cast : (job : Job) (w : WorldState) → IsOf job w → cast_at w ≡ cast_of job
-same_cast job w k = ap (λ (d : Deal). cast_with d w.conforming w.seeds) k.deal ∙ ap₂ (λ (c : List Bool) (s : List (Option (List ℕ))). cast_with job.deal c s) k.conforming k.seeds
+same_cast job w k = ap (λ (d : Deal). cast_with d w.conforming w.seeds) k.deal
+    ∙ ap₂ (λ (c : List Bool) (s : List (Option (List ℕ))). cast_with job.deal c s) k.conforming k.seeds
 
 -- after the event of a line
-pub stepped : (job : Job) (w new : WorldState) (e : Event) (count line : ℕ) (text : List ℕ) → IsOf job w → next_of job count line text ≡ Ok e → new ≡ record { deal = w.deal; conforming = w.conforming; seeds = w.seeds; state = step (cast_at w) w.state e; stopped = w.stopped }
+pub stepped : (job : Job) (w new : WorldState) (e : Event) (count line : ℕ) (text : List ℕ) → IsOf job w → next_of job count line text ≡ Ok e
+    → new ≡ record { deal = w.deal; conforming = w.conforming; seeds = w.seeds; state = step (cast_at w) w.state e; stopped = w.stopped }
     → next_by (step (cast_of job)) job count w.state line text ≡ Ok new.state
 unfolding next_by
-stepped job w new e count line text k n s = ap (λ (r : Result Event Reason). r >>= λ f. Ok (step (cast_of job) w.state f)) n ∙ ap (λ (x : State). Ok x) (ap (λ (c : Cast). step c w.state e) (sym (same_cast job w k)) ∙ sym (ap (λ (x : WorldState). x.state) s))
+stepped job w new e count line text k n s = ap (λ (r : Result Event Reason). r >>= λ f. Ok (step (cast_of job) w.state f)) n
+    ∙ ap (λ (x : State). Ok x) (ap (λ (c : Cast). step c w.state e) (sym (same_cast job w k)) ∙ sym (ap (λ (x : WorldState). x.state) s))
 
-pub is_of_still : (job : Job) (w new : WorldState) (st : State) → IsOf job w → new ≡ record { deal = w.deal; conforming = w.conforming; seeds = w.seeds; state = st; stopped = w.stopped } → IsOf job new
-is_of_still job w new st k e = record { deal = ap (λ (x : WorldState). x.deal) e ∙ k.deal; conforming = ap (λ (x : WorldState). x.conforming) e ∙ k.conforming; seeds = ap (λ (x : WorldState). x.seeds) e ∙ k.seeds }
+pub is_of_still : (job : Job) (w new : WorldState) (st : State) → IsOf job w
+    → new ≡ record { deal = w.deal; conforming = w.conforming; seeds = w.seeds; state = st; stopped = w.stopped } → IsOf job new
+is_of_still job w new st k e = record {
+  deal = ap (λ (x : WorldState). x.deal) e ∙ k.deal;
+  conforming = ap (λ (x : WorldState). x.conforming) e
+      ∙ k.conforming;
+  seeds = ap (λ (x : WorldState). x.seeds) e ∙ k.seeds;
+}
 
 -- a job whose conforming parties have their wallets gives a new world
 pub is_new : (job : Job) → HaveWallets job → world_of job ≡ Ok (new_world job)

@@ -1,6 +1,10 @@
 pub mod Words
+pub mod Written
 pub mod Output
 pub mod Promised
 pub mod Top
+pub mod Faults
+pub mod Input
 pub mod Replay
+pub mod Says
 pub mod Exit

@@ -1,5 +1,5 @@
 -- What is written for an input.
-use Rattle.std.specs.Prelude.{◌==◌, ℕ, ◌∷◌, [], Bool, false, not, List, length, codes, decimal, Result, Ok, Err}
+use Rattle.std.specs.Prelude.{◌==◌, ℕ, ◌∷◌, [], false, not, List, length, codes, decimal, Result, Ok}
 use Rattle.swap_base.specs.Fault.{◌>>=◌}
 use Rattle.swap_base.specs.Text.{joined}
 use Rattle.time_bounds.specs.Times as times
@@ -20,13 +20,15 @@ use Rattle.deviator_script.specs.declared.job.Finish.TheVariants.{Stop, Fair}
 use Rattle.swap_run.specs.Run.{Cast, State, run}
 use Rattle.swap_run.specs.Fair.{finish}
 use Rattle.swap_world.specs.Cast.{cast_of}
-use Rattle.swap_main.specs.declared.written.Written.{Written}
+use Rattle.swap_main.specs.Written.{Written}
 use Rattle.swap_main.specs.declared.words.Command.{Command}
 use Rattle.swap_main.specs.declared.words.Command.TheVariants.{Check, Run}
 
 -- the text of a checked offer
 unfoldable pub check_text : Deal → List ℕ
-check_text d = joined (codes "swap accepted\nneed " ∷ decimal (need_of d) ∷ codes "\nopen by " ∷ decimal (times.open_by d.start d.delta d.bound) ∷ codes "\nexpiry " ∷ decimal (times.last_expiry d.start d.delta d.bound) ∷ codes "\nhorizon " ∷ decimal (times.horizon d.start d.delta d.bound) ∷ codes "\n" ∷ [])
+check_text d = joined (codes "swap accepted\nneed " ∷ decimal (need_of d) ∷ codes "\nopen by " ∷ decimal
+    (times.open_by d.start d.delta d.bound) ∷ codes "\nexpiry " ∷ decimal (times.last_expiry d.start d.delta d.bound) ∷ codes "\nhorizon " ∷ decimal
+    (times.horizon d.start d.delta d.bound) ∷ codes "\n" ∷ [])
 
 abbrev pub with_report : Job → Histories → Report → Written
 with_report job b r = record { text = report job b r; found = not (length r.findings == 0) }

@@ -17,7 +17,7 @@ use Rattle.outcome_rules.specs.Promises.{AllAreConforming, AllAreWhole, AllHaveR
 use Rattle.refusals.specs.declared.reason.Reason.{Reason}
 use Rattle.swap_offer.specs.Job.{job_of}
 use Rattle.swap_main.specs.Output.{book_of, purpose_of, report_for, reported, told}
-use Rattle.swap_main.specs.declared.written.Written.{Written}
+use Rattle.swap_main.specs.Written.{Written}
 use Rattle.swap_main.specs.declared.words.Command.{Command}
 use Rattle.swap_main.specs.declared.words.Command.TheVariants.{Check, Run}
 

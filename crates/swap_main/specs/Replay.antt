@@ -3,15 +3,17 @@ use Rattle.std.specs.Prelude.{◌≡◌, ℕ, List, [], ◌∷◌, fold, Result,
 use Rattle.swap_base.specs.Fault.{◌>>=◌}
 use Rattle.deviator_script.specs.declared.job.Job.{Job}
 use Rattle.deviator_script.specs.declared.event.Event.{Event}
+use Rattle.deviator_script.specs.declared.job.Purpose.{Purpose}
 use Rattle.deviator_script.specs.declared.job.Purpose.TheVariants as purposes
 use Rattle.refusals.specs.declared.reason.Reason.{Reason}
 use Rattle.refusals.specs.declared.reason.Reason.TheVariants.{NotJson}
 use Rattle.swap_offer.specs.Job.{events_of, next_of, job_header_of}
+use Rattle.swap_offer.specs.Lines.{lines_of, filled_lines}
 use Rattle.swap_run.specs.Run.{State, step, start}
 use Rattle.swap_world.specs.Cast.{cast_of}
 use Rattle.swap_world.specs.Value.{WorldState}
 use Rattle.swap_main.specs.Output.{finished, reported, told}
-use Rattle.swap_main.specs.declared.written.Written.{Written}
+use Rattle.swap_main.specs.Written.{Written}
 use Rattle.swap_main.specs.declared.words.Command.{Command}
 use Rattle.swap_main.specs.declared.words.Command.TheVariants.{Check, Run}
 
@@ -32,6 +34,23 @@ pub record IsOf (job : Job) (w : WorldState) : Type 0 where
 -- an event is read and passed over
 abbrev pub passed_over : Unit {0} → Event → Unit {0}
 passed_over u e = u
+
+-- The lines of an input that isn't blank: its header is that of a job, and f makes y of x along the events of the others.
+pub record IsRead {A : Type 0} (purpose : Purpose) (f : Job → A → Event → A) (x : Job → A) (bytes : List ℕ) (job : Job) (y : A) : Type 0 where
+  pub line : ℕ
+  pub text : List ℕ
+  pub others : List (ℕ × List ℕ)
+  pub lines : filled_lines 1 (lines_of bytes) ≡ (line, text) ∷ others
+  pub header : job_header_of purpose line text ≡ Ok job
+  pub events : replayed (f job) job 0 (x job) others ≡ Ok y
+
+-- the bytes are a job, and its events lead to the state
+abbrev pub IsPlayed : List ℕ → Job → State → Type 0
+IsPlayed bytes job s = IsRead purposes.Run (λ job. step (cast_of job)) (λ job. start job.deal) bytes job s
+
+-- the bytes are a job with its events
+abbrev pub IsChecked : List ℕ → Job → Type 0
+IsChecked bytes job = IsRead purposes.Check (λ job. passed_over) (λ job. tt) bytes job tt
 
 -- what a run writes
 unfoldable pub of_run : ℕ → List ℕ → List (ℕ × List ℕ) → Result Written Reason

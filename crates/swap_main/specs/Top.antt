@@ -2,6 +2,7 @@
 use Rattle.std.specs.Prelude.{◌≡◌, ◌≤◌, ℕ, Bool, List, [], length, Option, Some, Result, Ok, Err, if◌then◌else◌}
 use Rattle.std.specs.Io.KnownBytes.{Appends, Consumes, IsAtEnd}
 use Rattle.swap_io.specs.Causes.{AppendsProperPrefix}
+use Rattle.swap_io.specs.Handed.{AppendsPrefix}
 use Rattle.refusals.specs.declared.reason.Reason.{Reason}
 use Rattle.deviator_script.specs.declared.job.Job.{Job}
 use Rattle.deviator_script.specs.declared.job.Purpose.TheVariants as purposes
@@ -9,17 +10,14 @@ use Rattle.deviator_script.specs.declared.job.Finish.TheVariants.{Fair}
 use Rattle.outcome_rules.specs.Promises.{AllAreConforming}
 use Rattle.swap_offer.specs.Job.{job_of}
 use Rattle.swap_main.specs.Words.{command_of}
+use Rattle.swap_main.specs.Input.{limit}
 use Rattle.swap_main.specs.Output.{output_of, names_of}
-use Rattle.swap_main.specs.declared.written.Written.{Written}
+use Rattle.swap_main.specs.Written.{Written}
 use Rattle.swap_main.specs.Promised.{AsPromised}
 use Rattle.swap_main.specs.declared.words.Command.{Command}
 use Rattle.swap_main.specs.declared.words.Command.TheVariants.{Run}
 use Rattle.swap_main.specs.declared.status.Status.{Status}
 use Rattle.swap_main.specs.declared.status.Status.TheVariants.{Done, Named}
-
--- the most bytes of an input
-abbrev pub limit : ℕ
-limit = 16777216
 
 -- The words are a command, the whole input was read, and this is the command's output for it.
 pub record Read (words : List (List ℕ)) (left left' : Option (List ℕ)) (output : Result Written Reason) : Type 0 where
@@ -44,6 +42,12 @@ pub record IsCut (words : List (List ℕ)) (left left' taken taken' : Option (Li
   pub output : Written
   pub read : Read words left left' (Ok output)
   pub prefix : AppendsProperPrefix taken taken' output.text
+
+-- The input was read to its end, and a prefix of its text was written.
+pub record IsShort (words : List (List ℕ)) (left left' taken taken' : Option (List ℕ)) : Type 0 where
+  pub output : Written
+  pub read : Read words left left' (Ok output)
+  pub prefix : AppendsPrefix taken taken' output.text
 
 -- The input was read to its end and is refused for the reason, and these are the names in its header.
 pub record IsRefused (words : List (List ℕ)) (left left' : Option (List ℕ)) (reason : Reason) (names : List (List ℕ)) : Type 0 where

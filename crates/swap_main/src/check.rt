@@ -1,18 +1,33 @@
-//! The text of a checked offer.
+//! The command `check`: an offer is examined, and its times are written.
 
-ghost use Rattle.std.specs.Prelude.{◌≡◌, ◌≤◌, IfOk};
+ghost use Rattle.std.specs.Prelude.{◌≡◌, ◌≤◌, IfOk, IfErr};
 ghost use Rattle.swap_digraph.specs.Deal.{IsWellSized};
+ghost use Rattle.swap_rules.specs.Accepted.{IsAccepted};
 ghost use Rattle.swap_offer.specs.Checks.{need_of};
-ghost use Rattle.swap_main.specs.Output.{check_text};
+ghost use Rattle.swap_main.specs.Input.{Ends, Stops, fresh};
+ghost use Rattle.swap_main.specs.Output.{check_text, told};
+ghost use Rattle.swap_main.specs.Replay.{IsChecked};
+ghost use Rattle.swap_main.specs.Says.{IsAgainst, Says, Writes};
 
+use crate::fault::InputFault;
+use crate::header::first_line;
+use crate::input::Input;
+use crate::replay::pass_over;
+use crate::status::Status;
+use crate::stop::stop;
+use crate::words::Command;
+use deviator_script::Job;
+use refusals::Refusal;
 use std::alloc::Global;
 use swap_base::{ByteText, NoMemory, Piece, put};
 use swap_digraph::Deal;
+use swap_io::{Sink, Source, write_all};
+use swap_offer::Prepared;
 use time_bounds::{horizon, last_expiry, open_by};
 
 /// What a check writes for an accepted deal.
 #[tactic(auto, unfolding(crate::specs::Output::check_text))]
-pub(crate) fn check_text(alloc: Global, deal: &Deal, need: u32) -> Result<ByteText, NoMemory>
+fn check_text(alloc: Global, deal: &Deal, need: u32) -> Result<ByteText, NoMemory>
     requires sized { IsWellSized deal.now }
     requires need { need ≡ need_of deal.now }
     ensures { IfOk result (λ t. t ≡ check_text deal.now) }
@@ -33,4 +48,58 @@ pub(crate) fn check_text(alloc: Global, deal: &Deal, need: u32) -> Result<ByteTe
         ],
     )?;
     Ok(ByteText::new(out))
+}
+
+/// The job of an input whose lines are all examined, and the least bound that it may have.
+fn examine<S: Source>(
+    alloc: Global,
+    input: &mut Input,
+    source: &mut S,
+) -> Result<(Job, u32), InputFault<Refusal>>
+    requires { input.old ≡ fresh }
+    ensures checked { IfOk result (λ j. Ends (λ bytes. IsChecked bytes j.0) (S.left source.old) (S.left source.new) fresh input.new) }
+    ensures accepted { IfOk result (λ j. IsAccepted j.0.deal) }
+    ensures sized { IfOk result (λ j. IsWellSized j.0.deal) }
+    ensures need { IfOk result (λ j. j.1 ≡ need_of j.0.deal) }
+    ensures stops { IfErr result (λ e. Stops (IsAgainst Command.Check) (S.left source.old) (S.left source.new) (S.faults source.old)
+        (S.faults source.new) fresh input.new e) }
+    ensures later { S.faults source.old ≤ S.faults source.new }
+{
+    let Prepared { job, need, .. } = first_line(alloc, Command::Check, input, source)?;
+    match pass_over(alloc, &job, input, source) {
+        Ok(()) => Ok((job, need)),
+        Err(fault) => Err(fault.with_names(job.names)),
+    }
+}
+
+/// Writes the text of a checked offer.
+fn tell<K: Sink>(alloc: Global, sink: &mut K, job: &Job, need: u32) -> Status
+    requires sized { IsWellSized job.now.deal }
+    requires need { need ≡ need_of job.now.deal }
+    ensures { Writes (K.taken sink.old) (K.taken sink.new) (K.faults sink.old) (K.faults sink.new) (told job.now) result }
+{
+    let Ok(text) = check_text(alloc, &job.deal, need) else {
+        return Status::NoMemory;
+    };
+    match write_all(sink, text.as_slice()) {
+        Ok(()) => Status::Done,
+        Err(_) => Status::WriteFault,
+    }
+}
+
+/// Checks an offer.
+pub(crate) fn check<S: Source, K: Sink>(
+    alloc: Global,
+    input: &mut Input,
+    source: &mut S,
+    sink: &mut K,
+) -> Status
+    requires { input.old ≡ fresh }
+    ensures { Says Command.Check (S.left source.old) (S.left source.new) (S.faults source.old) (S.faults source.new) (K.taken sink.old) (K.taken sink.new)
+        (K.faults sink.old) (K.faults sink.new) result }
+{
+    match examine(alloc, input, source) {
+        Ok((job, need)) => tell(alloc, sink, &job, need),
+        Err(fault) => stop(input, source, fault),
+    }
 }

@@ -1,17 +1,22 @@
 //! The program's one call: words, a source and a sink.
 //!
-//! Read `specs/Top.antt` first: what each status promises; then `specs/Output.antt`: what is written for an input; then `specs/Promised.antt`: what is promised of the histories that a report shows.
+//! Read `specs/Top.antt` first: what each status promises; then `specs/Output.antt`: what is written for an input; then
+//! `specs/Promised.antt`: what is promised of the histories that a report shows.
+//! An input is read line by line (`specs/Input.antt`), and each command has a file of its own, whose function says `Says` of `specs/Says.antt`.
 #![tactic(auto)]
 
 mod check;
 mod exit;
+mod fault;
 mod finish;
+mod header;
+mod input;
 mod replay;
-mod report;
+mod run;
 mod status;
+mod stop;
 mod top;
 mod words;
-mod written;
 
 pub use exit::{Exit, Told, ending};
 pub use refusals::refusal_line;

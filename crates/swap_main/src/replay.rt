@@ -1,6 +1,6 @@
-//! The replay of an offer's event lines.
+//! The events of an input's lines, one after another.
 
-ghost use Rattle.std.specs.Prelude.{◌≡◌, ◌≤◌, ◌<◌, length, map, false, ◌^◌, IfOk, OnOk};
+ghost use Rattle.std.specs.Prelude.{◌≡◌, ◌≤◌, false, Ok, Err, IfOk, IfErr, OnOk};
 ghost use Rattle.swap_base.specs.Fault.{Gives};
 ghost use Rattle.swap_rules.specs.Accepted.{IsAccepted};
 ghost use Rattle.swap_run.specs.Run.{start, step};
@@ -8,16 +8,19 @@ ghost use Rattle.party_wallet.specs.Wallets.{wallets_of};
 ghost use Rattle.swap_offer.specs.Job.{IsWhole};
 ghost use Rattle.swap_offer.specs.Wallets.{HaveWallets};
 ghost use Rattle.swap_world.specs.Cast.{cast_of};
+ghost use Rattle.swap_main.specs.Input.{Ends, EndsAt, Stops, ahead};
 ghost use Rattle.swap_main.specs.Replay.{replayed, next_by, passed_over, IsOf};
 
+use crate::fault::InputFault;
+use crate::input::Input;
 use deviator_script::Job;
 use party_wallet::Wallet;
-use refusals::OfferFault;
+use refusals::{OfferFault, Reason};
 use std::alloc::Global;
 use swap_base::{Fault, NoMemory};
+use swap_io::Source;
 use swap_offer::next_event;
 use swap_world::World;
-
 /// Steps the world by the event of a line, where so many events came before.
 #[tactic(auto, unfolding(crate::specs::Replay::next_by))]
 fn step_line(
@@ -57,25 +60,33 @@ fn new_world(alloc: Global, job: &Job, wallets: Vec<Option<Wallet>>) -> Result<W
     }
 }
 
-/// The world after the events of the lines.
-pub(crate) fn replay(
+/// The world after the events of the lines ahead.
+pub(crate) fn replay<S: Source>(
     alloc: Global,
     job: &Job,
     wallets: Vec<Option<Wallet>>,
-    lines: &[(u32, &[u8])],
-) -> Result<World, OfferFault>
+    input: &mut Input,
+    source: &mut S,
+) -> Result<World, InputFault<Reason>>
     requires whole { IsWhole job.now }
     requires accepted { IsAccepted job.now.deal }
     requires wallets { HaveWallets job.now }
     requires made { wallets.items ≡ wallets_of job.now.deal job.now.conforming job.now.seeds }
-    requires few { length lines.now < 2 ^ 31 }
-    ensures exact { Gives (λ w. w.state) result (replayed (step (cast_of job.now)) job.now 0 (start job.now.deal) (map (λ l. (l.0, l.1.now)) lines.now)) }
+    requires ended { EndsAt (S.left source.old) input.old }
+    ensures exact { IfOk result (λ w. Ends (λ bytes. replayed (step (cast_of job.now)) job.now 0 (start job.now.deal) (ahead input.old bytes) ≡ Ok w.state)
+        (S.left source.old) (S.left source.new) input.old input.new) }
     ensures of { IfOk result (λ w. IsOf job.now w) }
     ensures goes_on { IfOk result (λ w. w.stopped ≡ false) }
+    ensures stops { IfErr result (λ e. Stops (λ bytes reason. replayed (step (cast_of job.now)) job.now 0 (start job.now.deal)
+        (ahead input.old bytes) ≡ Err reason)
+        (S.left source.old) (S.left source.new) (S.faults source.old) (S.faults source.new) input.old input.new e) }
+    ensures later { S.faults source.old ≤ S.faults source.new }
 {
     let mut world = new_world(alloc, job, wallets)?;
-    'lines: for (count, line) in lines.iter().enumerate() {
-        step_line(alloc, job, &mut world, count as u32, line.0, line.1)?;
+    let mut count: u32 = 0;
+    'lines: while input.next(source)? {
+        step_line(alloc, job, &mut world, count, input.number(), input.text())?;
+        count += 1;
     }
     Ok(world)
 }
@@ -90,14 +101,25 @@ fn pass_line(alloc: Global, job: &Job, count: u32, line: u32, text: &[u8]) -> Re
     Ok(())
 }
 
-/// Reads the events of the lines.
-pub(crate) fn pass_over(alloc: Global, job: &Job, lines: &[(u32, &[u8])]) -> Result<(), OfferFault>
+/// Reads the events of the lines ahead.
+pub(crate) fn pass_over<S: Source>(
+    alloc: Global,
+    job: &Job,
+    input: &mut Input,
+    source: &mut S,
+) -> Result<(), InputFault<Reason>>
     requires whole { IsWhole job.now }
-    requires few { length lines.now < 2 ^ 31 }
-    ensures { Gives (λ u. u) result (replayed passed_over job.now 0 tt (map (λ l. (l.0, l.1.now)) lines.now)) }
+    requires ended { EndsAt (S.left source.old) input.old }
+    ensures exact { OnOk result (Ends (λ bytes. replayed passed_over job.now 0 tt (ahead input.old bytes) ≡ Ok tt) (S.left source.old)
+        (S.left source.new) input.old input.new) }
+    ensures stops { IfErr result (λ e. Stops (λ bytes reason. replayed passed_over job.now 0 tt (ahead input.old bytes) ≡ Err reason)
+        (S.left source.old) (S.left source.new) (S.faults source.old) (S.faults source.new) input.old input.new e) }
+    ensures later { S.faults source.old ≤ S.faults source.new }
 {
-    'lines: for (count, line) in lines.iter().enumerate() {
-        pass_line(alloc, job, count as u32, line.0, line.1)?;
+    let mut count: u32 = 0;
+    'lines: while input.next(source)? {
+        pass_line(alloc, job, count, input.number(), input.text())?;
+        count += 1;
     }
     Ok(())
 }

@@ -7,14 +7,52 @@ use swap_io::{VecSink, VecSource};
 
 /// The swap of three parties that the README runs.
 const JOB: &str =
-    "{\"swap\":1,\"mode\":\"timelocks\",\"start\":10,\"delta\":10,\"bound\":2,\"parties\":[{\"name\":\"alice\",\"actor\":\"manual\"},{\"name\":\"bob\",\"actor\":\"manual\"},{\"name\":\"carol\",\"actor\":\"manual\"}],\"arcs\":[{\"from\":\"alice\",\"to\":\"bob\",\"amount\":100,\"timelock\":60},{\"from\":\"bob\",\"to\":\"carol\",\"amount\":5,\"timelock\":50},{\"from\":\"carol\",\"to\":\"alice\",\"amount\":1,\"timelock\":40}],\"leaders\":[{\"party\":\"alice\",\"hashlock\":\"66687aadf862bd776c8fc18b8e9f8e20089714856ee233b3902a591d0d5f2925\"}]}\n{\"call\":\"alice\",\"move\":{\"do\":\"publish\",\"arc\":0}}\n{\"call\":\"carol\",\"move\":{\"do\":\"publish\",\"arc\":2}}\n{\"tick\":2,\"by\":40}\n{\"call\":\"alice\",\"move\":{\"do\":\"raw\",\"arc\":2,\"lock\":0,\"secret\":\"0000000000000000000000000000000000000000000000000000000000000000\",\"path\":[],\"sigs\":[]}}\n{\"call\":\"alice\",\"move\":{\"do\":\"claim\",\"arc\":2}}\n{\"tick\":0,\"by\":60}\n{\"call\":\"alice\",\"move\":{\"do\":\"refund\",\"arc\":0}}\n{\"tick\":0}\n{\"call\":\"alice\",\"move\":{\"do\":\"refund\",\"arc\":0}}\n{\"tick\":0,\"by\":10}\n{\"tick\":1,\"by\":71}\n{\"tick\":2,\"by\":31}\n";
+    "{\"swap\":1,\"mode\":\"timelocks\",\"start\":10,\"delta\":10,\"bound\":2,\"parties\":[{\"name\":\"alice\",\"actor\":\"manual\"},\
+     {\"name\":\"bob\",\"actor\":\"manual\"},{\"name\":\"carol\",\"actor\":\"manual\"}],\"arcs\":[{\"from\":\"alice\",\"to\":\"bob\",\
+     \"amount\":100,\"timelock\":60},{\"from\":\"bob\",\"to\":\"carol\",\"amount\":5,\"timelock\":50},{\"from\":\"carol\",\"to\":\"alice\",\
+     \"amount\":1,\"timelock\":40}],\"leaders\":[{\"party\":\"alice\",\"hashlock\":\"66687aadf862bd776c8fc18b8e9f8e20089714856ee233b3902a591d0d5f2925\"}]}\n\
+     {\"call\":\"alice\",\"move\":{\"do\":\"publish\",\"arc\":0}}\n\
+     {\"call\":\"carol\",\"move\":{\"do\":\"publish\",\"arc\":2}}\n\
+     {\"tick\":2,\"by\":40}\n\
+     {\"call\":\"alice\",\"move\":{\"do\":\"raw\",\"arc\":2,\"lock\":0,\"secret\":\"0000000000000000000000000000000000000000000000000000000000000000\",\
+     \"path\":[],\"sigs\":[]}}\n\
+     {\"call\":\"alice\",\"move\":{\"do\":\"claim\",\"arc\":2}}\n\
+     {\"tick\":0,\"by\":60}\n\
+     {\"call\":\"alice\",\"move\":{\"do\":\"refund\",\"arc\":0}}\n\
+     {\"tick\":0}\n\
+     {\"call\":\"alice\",\"move\":{\"do\":\"refund\",\"arc\":0}}\n\
+     {\"tick\":0,\"by\":10}\n\
+     {\"tick\":1,\"by\":71}\n\
+     {\"tick\":2,\"by\":31}\n";
 
-const REPORT: &str =
-    "swap report 1\nswap timelocks start 10 delta 10 bound 2\nledger 0 alice -> bob amount 100\n0 alice publish correct: accepted\n60 alice refund: NotExpired 61\n61 alice refund: accepted\nend height 71 alice 100 bob 0 held 0\nledger 1 bob -> carol amount 5\nend height 71 bob 5 carol 0 held 0\nledger 2 carol -> alice amount 1\n0 carol publish correct: accepted\n40 alice unlock 0: accepted\n40 alice claim: accepted\nend height 71 carol 0 alice 1 held 0\nparty alice deviator: FreeRide\nparty bob deviator: NoDeal\nparty carol deviator: Underwater\nfindings 0\n";
+const REPORT: &str = "swap report 1\n\
+     swap timelocks start 10 delta 10 bound 2\n\
+     ledger 0 alice -> bob amount 100\n\
+     0 alice publish correct: accepted\n\
+     60 alice refund: NotExpired 61\n\
+     61 alice refund: accepted\n\
+     end height 71 alice 100 bob 0 held 0\n\
+     ledger 1 bob -> carol amount 5\n\
+     end height 71 bob 5 carol 0 held 0\n\
+     ledger 2 carol -> alice amount 1\n\
+     0 carol publish correct: accepted\n\
+     40 alice unlock 0: accepted\n\
+     40 alice claim: accepted\n\
+     end height 71 carol 0 alice 1 held 0\n\
+     party alice deviator: FreeRide\n\
+     party bob deviator: NoDeal\n\
+     party carol deviator: Underwater\n\
+     findings 0\n";
 
 /// The same swap of three parties that conform, with a fair finish and no event before it.
 const FAIR: &str =
-    "{\"swap\":1,\"mode\":\"timelocks\",\"start\":10,\"delta\":10,\"bound\":2,\"finish\":\"fair\",\"parties\":[{\"name\":\"alice\",\"seed\":\"0101010101010101010101010101010101010101010101010101010101010101\"},{\"name\":\"bob\",\"seed\":\"0202020202020202020202020202020202020202020202020202020202020202\"},{\"name\":\"carol\",\"seed\":\"0303030303030303030303030303030303030303030303030303030303030303\"}],\"arcs\":[{\"from\":\"alice\",\"to\":\"bob\",\"amount\":100,\"timelock\":60},{\"from\":\"bob\",\"to\":\"carol\",\"amount\":5,\"timelock\":50},{\"from\":\"carol\",\"to\":\"alice\",\"amount\":1,\"timelock\":40}],\"leaders\":[{\"party\":\"alice\",\"hashlock\":\"7b77e8fe0af1512f2a8b3250678a08e367a926613f44707cd4a0d964e9feb69d\"}]}\n";
+    "{\"swap\":1,\"mode\":\"timelocks\",\"start\":10,\"delta\":10,\"bound\":2,\"finish\":\"fair\",\"parties\":[{\"name\":\"alice\",\
+     \"seed\":\"0101010101010101010101010101010101010101010101010101010101010101\"},{\"name\":\"bob\",\
+     \"seed\":\"0202020202020202020202020202020202020202020202020202020202020202\"},\
+     {\"name\":\"carol\",\"seed\":\"0303030303030303030303030303030303030303030303030303030303030303\"}],\"arcs\":[{\"from\":\"alice\",\
+     \"to\":\"bob\",\"amount\":100,\"timelock\":60},{\"from\":\"bob\",\"to\":\"carol\",\"amount\":5,\"timelock\":50},{\"from\":\"carol\",\
+     \"to\":\"alice\",\"amount\":1,\"timelock\":40}],\"leaders\":[{\"party\":\"alice\",\
+     \"hashlock\":\"7b77e8fe0af1512f2a8b3250678a08e367a926613f44707cd4a0d964e9feb69d\"}]}\n";
 
 fn words_of(alloc: Global, word: &str) -> Result<Vec<String>, Fail> {
     let mut words = Vec::new(alloc);
@@ -89,6 +127,38 @@ fn writes_a_prefix_before_a_write_fault(rt: HostRuntime) -> Result<(), Fail> {
             "write {failing}"
         );
         assert!(rt; sink.taken().len() < REPORT.len(), "write {failing}");
+    }
+    Ok(())
+}
+
+/// Calls of which each is refused, and has its line in the report.
+const REFUSED: &str = "{\"call\":\"alice\",\"move\":{\"do\":\"publish\",\"arc\":0}}\n\
+     {\"call\":\"alice\",\"move\":{\"do\":\"publish\",\"arc\":1}}\n\
+     {\"call\":\"alice\",\"move\":{\"do\":\"publish\",\"arc\":2}}\n\
+     {\"call\":\"bob\",\"move\":{\"do\":\"publish\",\"arc\":0}}\n\
+     {\"call\":\"bob\",\"move\":{\"do\":\"publish\",\"arc\":2}}\n";
+
+/// A report of some pages, where some writes fail: whether the status is that of a fault, and what was written.
+fn pages(alloc: Global, failing: &[u64]) -> Result<(bool, Vec<u8>), Fail> {
+    let words = words_of(alloc, "run")?;
+    let mut job = String::from_str(alloc, JOB)?;
+    job.push_str(REFUSED.repeat(alloc, 28)?.as_str())?;
+    let mut source = source_of(alloc, job.as_str(), &[])?;
+    let mut sink = sink_of(alloc, 20_000, failing)?;
+    let status = swap_top(alloc, &words, &mut source, &mut sink);
+    let taken = Vec::from_slice(alloc, sink.taken())?;
+    Ok((matches!(status, Status::WriteFault), taken))
+}
+
+#[test]
+fn writes_a_long_report_page_by_page(rt: HostRuntime) -> Result<(), Fail> {
+    let (failed, whole) = pages(rt.alloc(), &[])?;
+    assert!(rt; !failed);
+    assert!(rt; whole.len() > 4_500 && whole.ends_with(b"\nfindings 0\n"));
+    for failing in [0, 1, 40, 44] {
+        let (failed, taken) = pages(rt.alloc(), &[failing])?;
+        assert!(rt; failed, "write {failing}");
+        assert!(rt; whole.starts_with(&taken), "write {failing}");
     }
     Ok(())
 }

@@ -15,7 +15,7 @@ mod wallets;
 pub use header::read_header;
 pub use job::{next_event, read_job};
 pub use laws::admitted_is_accepted;
-pub use lines::filled_lines;
+pub use lines::{filled_lines, is_blank};
 pub use offer_events::read_event;
 pub use prepared::Prepared;
 pub use refusals::{HeaderFault, OfferFault, Reason};

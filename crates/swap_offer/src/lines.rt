@@ -21,7 +21,8 @@ fn first_line(bytes: &[u8]) -> (&[u8], &[u8])
     (bytes, &[])
 }
 
-fn is_blank(line: &[u8]) -> bool
+/// Whether a line has spaces, tabs and carriage returns alone.
+pub fn is_blank(line: &[u8]) -> bool
     ensures { result ≡ is_blank line.now }
 {
     for b in line {

@@ -1,9 +1,10 @@
 //! Inputs by their bytes and lines, and the program's words.
 
 use crate::deals::{HASHKEYS, TIMELOCKS};
-use crate::runner::{answer, conducts, follows};
+use crate::runner::{answer, answer_from, conducts, follows};
 use std::alloc::Global;
 use std::test::Fail;
+use swap_io::VecSource;
 
 /// A job of which each line counts.
 const JOB: &str =
@@ -265,4 +266,57 @@ fn takes_so_many_arcs(rt: HostRuntime) -> Result<(), Fail> {
         ),
     ];
     follows(&rt, rt.alloc(), "run", &table)
+}
+
+/// The job with so many spaces before its first line feed, and as many blank lines behind it.
+fn widened(alloc: Global, job: &str, spaces: usize) -> Result<Vec<u8>, Fail> {
+    let (header, events) = job.split_once('\n').ok_or("no lines")?;
+    let mut input = Vec::from_slice(alloc, header.as_bytes())?;
+    for _ in 0..spaces {
+        input.push(b' ')?;
+    }
+    input.push(b'\n')?;
+    input.extend_from_slice(events.as_bytes())?;
+    for _ in 0..spaces {
+        input.push(b'\n')?;
+    }
+    Ok(input)
+}
+
+#[test]
+fn reads_pieces_of_any_length(rt: HostRuntime) -> Result<(), Fail> {
+    for per_call in [1, 2, 7, 8_191, 8_192, 8_193, 100_000] {
+        let input = widened(rt.alloc(), JOB, 20_000)?;
+        let source = VecSource::new(input, per_call, Vec::new(rt.alloc()));
+        let answered = answer_from(rt.alloc(), &["run"], source)?;
+        assert!(rt;
+            answered.as_slice() == ANSWER.as_bytes(),
+            "{per_call} bytes a call"
+        );
+    }
+    Ok(())
+}
+
+/// The answer to a check of a refused line with so many blank lines behind it, where some reads fail.
+fn answer_behind(alloc: Global, blanks: usize, failing: &[u64]) -> Result<Vec<u8>, Fail> {
+    let mut input = Vec::from_slice(alloc, b"x")?;
+    input.extend_from_slice(&vec![in alloc; b'\n'; blanks]?)?;
+    let failing = Vec::from_slice(alloc, failing)?;
+    answer_from(alloc, &["check"], VecSource::new(input, 4_096, failing))
+}
+
+#[test]
+fn refuses_once_the_input_has_ended(rt: HostRuntime) -> Result<(), Fail> {
+    let refused = answer_behind(rt.alloc(), MOST - 1, &[])?;
+    assert!(rt; refused.as_slice() == b"swap: refused: NotJson 1\n".as_slice());
+    let long = answer_behind(rt.alloc(), MOST, &[])?;
+    assert!(rt; long.as_slice() == b"too long\n".as_slice());
+    for failing in 0..5 {
+        let unread = answer_behind(rt.alloc(), 16_000, &[failing])?;
+        assert!(rt;
+            unread.as_slice() == b"read fault\n".as_slice(),
+            "read {failing}"
+        );
+    }
+    Ok(())
 }

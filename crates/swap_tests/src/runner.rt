@@ -36,11 +36,19 @@ fn first_line(alloc: Global, status: &Status) -> Result<Vec<u8>, Fail> {
 
 /// What the program answers to its words and an input: a line for the status, and then all that it wrote.
 pub fn answer(alloc: Global, words: &[&str], input: Vec<u8>) -> Result<Vec<u8>, Fail> {
+    answer_from(
+        alloc,
+        words,
+        VecSource::new(input, PER_CALL, Vec::new(alloc)),
+    )
+}
+
+/// The same for the input that a source gives.
+pub fn answer_from(alloc: Global, words: &[&str], mut source: VecSource) -> Result<Vec<u8>, Fail> {
     let mut owned = Vec::new(alloc);
     for word in words {
         owned.push(String::from_str(alloc, word)?)?;
     }
-    let mut source = VecSource::new(input, PER_CALL, Vec::new(alloc));
     let mut sink = VecSink::new(alloc, ROOM, PER_CALL, Vec::new(alloc))?;
     let status = swap_top(alloc, &owned, &mut source, &mut sink);
     let mut answer = first_line(alloc, &status)?;

@@ -1,5 +1,4 @@
-use Rattle.std.proofs.Common.{◌≡◌, Ok, Err, sym, ap, ◌∙◌}
-use Rattle.swap_offer.specs.Wallets.{HaveWallets}
+use Rattle.std.proofs.Common.{sym, ap, ◌∙◌}
 use Rattle.swap_main.proofs.Replays.{is_new}
 use Rattle.swap_main.proofs.replay.new_world.Goals as goal
 
@@ -9,7 +8,12 @@ unreachable-requires c =
     absurd (cc (sym (is_new c.args.job.now c.requires.wallets) ∙ e))
 
 pub returns-in-Ok-clause-of : goal.returns-in-Ok-clause-of
-returns-in-Ok-clause-of c = let e = c.in-Ok.ensures.new in record { deal = ap (λ w. w.deal) e; conforming = ap (λ w. w.conforming) e; seeds = ap (λ w. w.seeds) e }
+returns-in-Ok-clause-of c = let e = c.in-Ok.ensures.new in record {
+  deal = ap (λ w. w.deal) e;
+  conforming = ap (λ w. w.conforming) e;
+  seeds =
+      ap (λ w. w.seeds) e;
+}
 
 pub returns-in-Ok-clause-state : goal.returns-in-Ok-clause-state
 returns-in-Ok-clause-state c = ap (λ w. w.state) c.in-Ok.ensures.new

@@ -1,9 +1,16 @@
-use Rattle.std.proofs.Common.{◌≡◌, ◌<◌, ◌^◌, length, map}
-use Rattle.swap_main.specs.Replay.{replayed, passed_over}
-use Rattle.swap_main.proofs.Replays.{left}
+use Rattle.std.proofs.Common.{◌≤◌, ◌-◌}
+use Rattle.swap_main.specs.Input.{EndsAt, limit}
+use Rattle.swap_main.specs.Replay.{passed_over}
+use Rattle.swap_main.proofs.Streams.{Led}
 use Rattle.swap_main.proofs.replay.pass_over.Given as goal
 
 abbrev pub invariant-lines : goal.invariant-lines
-invariant-lines l =
-    left passed_over (λ x. x.now) l.job l.lines (replayed passed_over l.job 0 tt (map (λ x. (x.0, x.1.now)) l.lines)) l.count tt
-    ≡ replayed passed_over l.job 0 tt (map (λ x. (x.0, x.1.now)) l.lines)
+invariant-lines g l = record {
+  led : Led passed_over l.job (g.S.Source.left l.fn.source) l.fn.input tt (g.S.Source.left l.source) l.input l.count tt;
+  ended : EndsAt (g.S.Source.left l.source) l.input;
+  counted : l.count ≤ l.input.number;
+  later : g.S.Source.faults l.fn.source ≤ g.S.Source.faults l.source;
+}
+
+abbrev pub decreases-lines : goal.decreases-lines
+decreases-lines g l = limit - l.input.number

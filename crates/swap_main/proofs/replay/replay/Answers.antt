@@ -1,28 +1,67 @@
-use Rattle.std.proofs.Common.{◌≡◌, ℕ, List, [], map, Bor}
+use Rattle.std.proofs.Common.{◌≡◌, Err, arith, sym, subst}
 use Rattle.std.proofs.lemmas.Result.{err_from_is_err_and}
-use Rattle.swap_base.specs.Fault.{Gives}
-use Rattle.swap_run.specs.Run.{start, step}
+use Rattle.swap_run.specs.Run.{State, start, step}
 use Rattle.swap_world.specs.Cast.{cast_of}
+use Rattle.swap_main.specs.Input.{ahead}
 use Rattle.swap_main.specs.Replay.{replayed}
-use Rattle.swap_main.proofs.Replays.{goes_on, ends, is_done}
+use Rattle.swap_main.proofs.Streams.{Led, last_of, led_none, led_on, led_to_end, led_to_fault, line_of, line_stops, some_led}
 use Rattle.swap_main.proofs.replay.replay.Goals as goal
 
--- what stands past the end of a list of lines
-abbrev no_line : ℕ × Bor (List ℕ)
-no_line = (0, record { ref_ptr = (0, 0); now = [] })
+pub lines-init : goal.lines-init
+lines-init g c =
+    let job = c.args.job.now in
+    let left = g.S.Source.left c.args.source.now in
+    record {
+      led = subst (λ (s : State). Led (step (cast_of job)) job left c.args.input.now (start job.deal) left c.args.input.now 0 s)
+          (sym c.in_ok-world.ensures.state)
+          (led_none (step (cast_of job)) job left c.args.input.now (start job.deal));
+      is_of = c.in_ok-world.ensures.of;
+      goes_on = c.in_ok-world.ensures.goes_on;
+      ended = c.requires.ended;
+      counted = omega arith;
+      later = omega arith;
+    }
 
-pub returns-in_err-step_line-clause-exact : goal.returns-in_err-step_line-clause-exact
-returns-in_err-step_line-clause-exact c =
+pub returns-in_err-next-clause-stops : goal.returns-in_err-next-clause-stops
+returns-in_err-next-clause-stops g c =
+    let job = c.args.job.now in
+    let p = err_from_is_err_and c.from_residual-in_err-next.result c.from_residual-in_err-next.ensures.1 in
+    rw (p.1, p.2)
+    (line_stops (λ bytes reason. replayed (step (cast_of job)) job 0 (start job.deal) (ahead c.args.input.now bytes) ≡ Err reason)
+    _ _ _ _ _ _ _ c.lines.input _ c.in_err-next.field-0.0
+    (some_led _ _ _ _ _ _ _ _ _ c.lines.invariant.led) c.lines.invariant.later c.in_err-next.ensures.fails)
+
+pub returns-in_err-step_line-clause-stops : goal.returns-in_err-step_line-clause-stops
+returns-in_err-step_line-clause-stops g c =
     let p = err_from_is_err_and c.from_residual-in_err-step_line.result c.from_residual-in_err-step_line.ensures.1 in
     rw (p.1, p.2)
-    (ends (step (cast_of c.args.job.now)) (λ x. x.now) c.args.job.now c.args.lines.now _ c.in_err-step_line.field-0.0 c.lines.count c.lines.world.state no_line c.lines-test.true c.in_err-step_line.ensures.exact c.lines.invariant.so_far)
+    (led_to_fault _ _ _ _ _ _ _ _ _ _ _ _ _ c.in_err-step_line.field-0.0 c.lines.invariant.led
+    (line_of _ _ _ _ _ c.if-branch.true c.in_ok-next.ensures.gives)
+    (rw (c.number.ensures, c.text.ensures) at c.in_err-step_line.ensures.exact) c.in_ok-next.ensures.within c.in_ok-next.ensures.ended)
 
 pub lines-preserved : goal.lines-preserved
-lines-preserved c = record {
-  so_far = goes_on (step (cast_of c.args.job.now)) (λ x. x.now) c.args.job.now c.args.lines.now _ c.lines.count c.lines.world.state c.step_line.new.world.state no_line c.lines-test.true c.in_ok-step_line.ensures.exact c.lines.invariant.so_far;
-  is_of = c.in_ok-step_line.ensures.of;
-  goes_on = c.in_ok-step_line.ensures.goes_on;
-}
+lines-preserved g c =
+    let line = line_of _ _ _ _ _ c.if-branch.true c.in_ok-next.ensures.gives in
+    record {
+      led = led_on _ _ _ _ _ _ _ _ _ _ _ _ c.lines.invariant.led line (rw (c.number.ensures, c.text.ensures) at c.in_ok-step_line.ensures.exact);
+      is_of = c.in_ok-step_line.ensures.of;
+      goes_on = c.in_ok-step_line.ensures.goes_on;
+      ended = c.in_ok-next.ensures.ended;
+      counted = omega (arith, c.lines.invariant.counted, line.counted);
+      later = omega (arith, c.lines.invariant.later, c.next.ensures.later);
+    }
+
+pub overflow_add-count : goal.overflow_add-count
+overflow_add-count g c =
+    let line = line_of _ _ _ _ _ c.if-branch.true c.in_ok-next.ensures.gives in
+    omega (arith, c.lines.invariant.counted, line.counted, c.in_ok-next.ensures.few)
+
+pub lines-smaller : goal.lines-smaller
+lines-smaller g c =
+    let line = line_of _ _ _ _ _ c.if-branch.true c.in_ok-next.ensures.gives in
+    omega (arith, line.counted, c.in_ok-next.ensures.few)
 
 pub returns-clause-exact : goal.returns-clause-exact
-returns-clause-exact c = is_done (step (cast_of c.args.job.now)) (λ x. x.now) c.args.job.now c.args.lines.now _ c.lines.count c.lines.world.state c.lines-test.false c.lines.invariant.so_far
+returns-clause-exact g c =
+    led_to_end _ _ _ _ _ _ _ _ _ _ _ c.lines.invariant.led (last_of _ _ _ _ _ c.if-branch.false c.in_ok-next.ensures.gives)
+    c.in_ok-next.ensures.within c.in_ok-next.ensures.ended

@@ -1,95 +1,84 @@
-use Rattle.std.proofs.Common.{◌≡◌, ◌≤◌, length, map, string_bytes, List, ℕ, Some, Ok, Err, true, sym, ap, ◌∙◌, subst, arith}
-use Rattle.std.proofs.lemmas.Grind.{common_steps}
-use Rattle.refusals.specs.Refusal.{named}
-use Rattle.refusals.proofs.Named.{named_ok, named_err}
+use Rattle.std.proofs.Common.{◌≡◌, map, string_bytes, Some, sym, ◌∙◌}
 use Rattle.swap_main.specs.Words.{command_of}
-use Rattle.swap_main.specs.Output.{names_of, output_of}
-use Rattle.swap_main.specs.Promised.{AsPromised}
-use Rattle.swap_main.specs.Top.{limit}
-use Rattle.swap_main.proofs.Fairly.{is_not_named, is_not_refused}
+use Rattle.swap_main.proofs.Ends as ends
 use Rattle.swap_main.proofs.top.swap_top.Goals as goal
 
-pub returns-in-Err-Refused-clause-refused : goal.returns-in-Err-Refused-clause-refused
-returns-in-Err-Refused-clause-refused g c reason names e =
-    let within : length c.in-Ok.input.items ≤ limit = grind (arith, common_steps) in
-    let command = c.in-Some.command in
-    let input = c.in-Ok.input.items in
-    let gives : named (names_of command input) (output_of command input) ≡ Err c.in-Err-Refused.refusal = grind (arith, common_steps) in
-    let r = named_err (names_of command input) (output_of command input) c.in-Err-Refused.refusal gives in
-    let told : c.in-Err-Refused.refusal.reason ≡ reason = cc e in
-    let called : c.in-Err-Refused.refusal.names ≡ names = cc e in
-    record {
-      read = record {
-        command = c.in-Some.command;
-        asked = rw (sym c.deref.ensures.value) (sym c.in-Some.ensures);
-        input = c.in-Ok.input.items;
-        taken = c.in-Ok.ensures.all;
-        ended = c.in-Ok.ensures.end;
-        within = within;
-        gives = rw (sym told) r.0;
-      };
-      named = sym called ∙ r.1;
-    }
+pub returns-clause-words : goal.returns-clause-words
+returns-clause-words g c =
+    let asked : command_of (map string_bytes c.args.words.now.items) ≡ Some c.in-Some.command = rw (sym c.deref.ensures.value) (sym c.in-Some.ensures) in (
+      λ e. absurd (ends.not_wrong_words (map string_bytes c.args.words.now.items) _ _ _ _ _ _ _ _ c.in-Some.command asked c.obey.result c.obey.ensures
+          e),
+      λ none. absurd (cc (sym asked ∙ none)),
+    )
 
--- a fair run of parties that all conform is refused for no reason
-pub returns-in-Err-Refused-clause-fair : goal.returns-in-Err-Refused-clause-fair
-returns-in-Err-Refused-clause-fair g c a no_read no_write =
+pub returns-clause-unread : goal.returns-clause-unread
+returns-clause-unread g c e =
     let asked : command_of (map string_bytes c.args.words.now.items) ≡ Some c.in-Some.command = rw (sym c.deref.ensures.value) (sym c.in-Some.ensures) in
-    let command = c.in-Some.command in
-    let input = c.in-Ok.input.items in
-    let gives : named (names_of command input) (output_of command input) ≡ Err c.in-Err-Refused.refusal = grind (arith, common_steps) in
-    let r = named_err (names_of command input) (output_of command input) c.in-Err-Refused.refusal gives in
-    absurd (is_not_refused _ _ _ c.in-Some.command c.in-Ok.input.items asked c.in-Ok.ensures.all c.in-Ok.ensures.end a c.in-Err-Refused.refusal.reason r.0)
+    absurd (ends.not_wrong_words (map string_bytes c.args.words.now.items) _ _ _ _ _ _ _ _ c.in-Some.command asked c.obey.result c.obey.ensures e)
 
-pub returns-then-output-clause-named : goal.returns-then-output-clause-named
-returns-then-output-clause-named g c e =
-    let within : length c.in-Ok.input.items ≤ limit = grind (arith, common_steps) in
-    let command = c.in-Some.command in
-    let input = c.in-Ok.input.items in
-    let given : named (names_of command input) (output_of command input) ≡ Ok c.in-Ok-answer.output = grind (arith, common_steps) in
-    let gives : output_of command input ≡ Ok c.in-Ok-answer.output = named_ok (names_of command input) (output_of command input) c.in-Ok-answer.output given in
-    record {
-      output = c.in-Ok-answer.output;
-      read = record {
-        command = c.in-Some.command;
-        asked = rw (sym c.deref.ensures.value) (sym c.in-Some.ensures);
-        input = c.in-Ok.input.items;
-        taken = c.in-Ok.ensures.all;
-        ended = c.in-Ok.ensures.end;
-        within = within;
-        gives = gives;
-      };
-      written = rw (sym c.as_slice.ensures) c.in-Ok-write_all.ensures.all;
-      findings = c.if-output.true;
-      promised = subst (λ (xs : List ℕ). AsPromised c.in-Some.command xs c.in-Ok-answer.output) c.deref-2.ensures.value c.in-Ok-answer.ensures.promised;
-    }
-
--- and nothing is found of it
-pub returns-then-output-clause-fair : goal.returns-then-output-clause-fair
-returns-then-output-clause-fair g c a no_read no_write =
+pub returns-clause-done : goal.returns-clause-done
+returns-clause-done g c e =
     let asked : command_of (map string_bytes c.args.words.now.items) ≡ Some c.in-Some.command = rw (sym c.deref.ensures.value) (sym c.in-Some.ensures) in
-    let promised = subst (λ (xs : List ℕ). AsPromised c.in-Some.command xs c.in-Ok-answer.output) c.deref-2.ensures.value c.in-Ok-answer.ensures.promised in
-    absurd (cc (sym c.if-output.true ∙ is_not_named _ _ _ c.in-Some.command c.in-Ok.input.items asked c.in-Ok.ensures.all c.in-Ok.ensures.end a c.in-Ok-answer.output promised))
+    ends.done (map string_bytes c.args.words.now.items) _ _ _ _ _ _ _ _ c.in-Some.command asked c.obey.result c.obey.ensures e
 
-pub returns-in-Ok-write_all-clause-done : goal.returns-in-Ok-write_all-clause-done
-returns-in-Ok-write_all-clause-done g c e =
-    let within : length c.in-Ok.input.items ≤ limit = grind (arith, common_steps) in
-    let command = c.in-Some.command in
-    let input = c.in-Ok.input.items in
-    let given : named (names_of command input) (output_of command input) ≡ Ok c.in-Ok-answer.output = grind (arith, common_steps) in
-    let gives : output_of command input ≡ Ok c.in-Ok-answer.output = named_ok (names_of command input) (output_of command input) c.in-Ok-answer.output given in
-    record {
-      output = c.in-Ok-answer.output;
-      read = record {
-        command = c.in-Some.command;
-        asked = rw (sym c.deref.ensures.value) (sym c.in-Some.ensures);
-        input = c.in-Ok.input.items;
-        taken = c.in-Ok.ensures.all;
-        ended = c.in-Ok.ensures.end;
-        within = within;
-        gives = gives;
-      };
-      written = rw (sym c.as_slice.ensures) c.in-Ok-write_all.ensures.all;
-      findings = c.if-output.false;
-      promised = subst (λ (xs : List ℕ). AsPromised c.in-Some.command xs c.in-Ok-answer.output) c.deref-2.ensures.value c.in-Ok-answer.ensures.promised;
-    }
+pub returns-clause-named : goal.returns-clause-named
+returns-clause-named g c e =
+    let asked : command_of (map string_bytes c.args.words.now.items) ≡ Some c.in-Some.command = rw (sym c.deref.ensures.value) (sym c.in-Some.ensures) in
+    ends.named (map string_bytes c.args.words.now.items) _ _ _ _ _ _ _ _ c.in-Some.command asked c.obey.result c.obey.ensures e
+
+pub returns-clause-refused : goal.returns-clause-refused
+returns-clause-refused g c reason names e =
+    let asked : command_of (map string_bytes c.args.words.now.items) ≡ Some c.in-Some.command = rw (sym c.deref.ensures.value) (sym c.in-Some.ensures) in
+    ends.refused (map string_bytes c.args.words.now.items) _ _ _ _ _ _ _ _ c.in-Some.command asked c.obey.result c.obey.ensures reason names e
+
+pub returns-clause-read_fault : goal.returns-clause-read_fault
+returns-clause-read_fault g c e =
+    let asked : command_of (map string_bytes c.args.words.now.items) ≡ Some c.in-Some.command = rw (sym c.deref.ensures.value) (sym c.in-Some.ensures) in
+    ends.read_fault (map string_bytes c.args.words.now.items) _ _ _ _ _ _ _ _ c.in-Some.command asked c.obey.result c.obey.ensures e
+
+pub returns-clause-write_fault : goal.returns-clause-write_fault
+returns-clause-write_fault g c e =
+    let asked : command_of (map string_bytes c.args.words.now.items) ≡ Some c.in-Some.command = rw (sym c.deref.ensures.value) (sym c.in-Some.ensures) in
+    ends.write_fault (map string_bytes c.args.words.now.items) _ _ _ _ _ _ _ _ c.in-Some.command asked c.obey.result c.obey.ensures e
+
+pub returns-clause-cut : goal.returns-clause-cut
+returns-clause-cut g c e =
+    let asked : command_of (map string_bytes c.args.words.now.items) ≡ Some c.in-Some.command = rw (sym c.deref.ensures.value) (sym c.in-Some.ensures) in
+    ends.cut (map string_bytes c.args.words.now.items) _ _ _ _ _ _ _ _ c.in-Some.command asked c.obey.result c.obey.ensures e
+
+pub returns-clause-too_long : goal.returns-clause-too_long
+returns-clause-too_long g c e =
+    let asked : command_of (map string_bytes c.args.words.now.items) ≡ Some c.in-Some.command = rw (sym c.deref.ensures.value) (sym c.in-Some.ensures) in
+    ends.too_long (map string_bytes c.args.words.now.items) _ _ _ _ _ _ _ _ c.in-Some.command asked c.obey.result c.obey.ensures e
+
+pub returns-clause-short : goal.returns-clause-short
+returns-clause-short g c e =
+    let asked : command_of (map string_bytes c.args.words.now.items) ≡ Some c.in-Some.command = rw (sym c.deref.ensures.value) (sym c.in-Some.ensures) in
+    ends.short (map string_bytes c.args.words.now.items) _ _ _ _ _ _ _ _ c.in-Some.command asked c.obey.result c.obey.ensures e
+
+pub returns-clause-silent : goal.returns-clause-silent
+returns-clause-silent g c d n w f =
+    let asked : command_of (map string_bytes c.args.words.now.items) ≡ Some c.in-Some.command = rw (sym c.deref.ensures.value) (sym c.in-Some.ensures) in
+    ends.silent (map string_bytes c.args.words.now.items) _ _ _ _ _ _ _ _ c.in-Some.command asked c.obey.result c.obey.ensures d n w f
+
+pub returns-clause-long : goal.returns-clause-long
+returns-clause-long g c other input is told over calm =
+    let asked : command_of (map string_bytes c.args.words.now.items) ≡ Some c.in-Some.command = rw (sym c.deref.ensures.value) (sym c.in-Some.ensures) in
+    ends.long (map string_bytes c.args.words.now.items) _ _ _ _ _ _ _ _ c.in-Some.command asked c.obey.result c.obey.ensures other input is told over calm
+
+pub returns-clause-bad : goal.returns-clause-bad
+returns-clause-bad g c other input reason is told within against calm =
+    let asked : command_of (map string_bytes c.args.words.now.items) ≡ Some c.in-Some.command = rw (sym c.deref.ensures.value) (sym c.in-Some.ensures) in
+    ends.bad (map string_bytes c.args.words.now.items) _ _ _ _ _ _ _ _ c.in-Some.command asked c.obey.result c.obey.ensures other input reason is told
+    within against calm
+
+pub returns-clause-good : goal.returns-clause-good
+returns-clause-good g c other input output is told within gives calm still =
+    let asked : command_of (map string_bytes c.args.words.now.items) ≡ Some c.in-Some.command = rw (sym c.deref.ensures.value) (sym c.in-Some.ensures) in
+    ends.good (map string_bytes c.args.words.now.items) _ _ _ _ _ _ _ _ c.in-Some.command asked c.obey.result c.obey.ensures other input output is told
+    within gives calm still
+
+pub returns-clause-fair : goal.returns-clause-fair
+returns-clause-fair g c a calm still =
+    let asked : command_of (map string_bytes c.args.words.now.items) ≡ Some c.in-Some.command = rw (sym c.deref.ensures.value) (sym c.in-Some.ensures) in
+    ends.fair (map string_bytes c.args.words.now.items) _ _ _ _ _ _ _ _ c.in-Some.command asked c.obey.result c.obey.ensures a calm still

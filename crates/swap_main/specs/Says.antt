@@ -1,0 +1,75 @@
+-- What a command's status says, where output_of and names_of tell what the command writes for an input.
+use Rattle.std.specs.Prelude.{◌≡◌, ◌≤◌, ◌+◌, ◌⊎◌, ℕ, Bool, true, false, List, length, Option, Result, Ok, Err}
+use Rattle.std.specs.Io.KnownBytes.{Appends, Consumes, IsAtEnd, Keeps}
+use Rattle.swap_io.specs.Causes.{Rose, ConsumesSome, AppendsProperPrefix}
+use Rattle.swap_io.specs.Handed.{AppendsPrefix}
+use Rattle.refusals.specs.declared.reason.Reason.{Reason}
+use Rattle.refusals.specs.declared.refusal.Refusal.{Refusal}
+use Rattle.swap_main.specs.Input.{limit}
+use Rattle.swap_main.specs.Output.{output_of, names_of}
+use Rattle.swap_main.specs.Promised.{AsPromised}
+use Rattle.swap_main.specs.Written.{Written}
+use Rattle.swap_main.specs.declared.words.Command.{Command}
+use Rattle.swap_main.specs.declared.status.Status.{Status}
+use Rattle.swap_main.specs.declared.status.Status.TheVariants.{Done, Named, WrongWords, Refused, ReadFault, WriteFault, NoMemory, TooLong}
+
+-- The whole input was read, and this is the command's output for it.
+pub record HasRead (command : Command) (left left' : Option (List ℕ)) (output : Result Written Reason) : Type 0 where
+  pub input : List ℕ
+  pub taken : Consumes left left' input
+  pub ended : IsAtEnd left'
+  pub within : length input ≤ limit
+  pub gives : output_of command input ≡ output
+
+-- The input was read and has an output, which is promised, and P tells what was written of its text.
+pub record HasOutput (P : Written → Type 0) (command : Command) (left left' : Option (List ℕ)) : Type 0 where
+  pub output : Written
+  pub read : HasRead command left left' (Ok output)
+  pub promised : AsPromised command read.input output
+  pub written : P output
+
+-- the text was written whole, and this says whether something was found
+abbrev pub IsWhole : Option (List ℕ) → Option (List ℕ) → Bool → Written → Type 0
+IsWhole taken taken' found output = Appends taken taken' output.text × (output.found ≡ found)
+
+-- The input was read and is refused for the reason, and these are the names in its header.
+pub record HasReason (command : Command) (left left' : Option (List ℕ)) (reason : Reason) (names : List (List ℕ)) : Type 0 where
+  pub read : HasRead command left left' (Err reason)
+  pub named : names ≡ names_of command read.input
+
+-- a reason against an input, with the names in its header
+abbrev pub IsAgainst : Command → List ℕ → Refusal → Type 0
+IsAgainst command input refusal = (output_of command input ≡ Err refusal.reason) × (refusal.names ≡ names_of command input)
+
+-- what a status says of an output that is written, by what the sink took and how many of its calls failed
+abbrev pub Writes : Option (List ℕ) → Option (List ℕ) → ℕ → ℕ → Written → Status → Type 0
+Writes taken taken' p q output Done = IsWhole taken taken' false output
+Writes taken taken' p q output Named = IsWhole taken taken' true output
+Writes taken taken' p q output WriteFault = Rose p q × AppendsProperPrefix taken taken' output.text
+Writes taken taken' p q output NoMemory = AppendsPrefix taken taken' output.text
+Writes taken taken' p q output WrongWords = ⊥
+Writes taken taken' p q output (Refused reason names) = ⊥
+Writes taken taken' p q output ReadFault = ⊥
+Writes taken taken' p q output TooLong = ⊥
+
+-- what a status says of an input whose reading stopped
+abbrev pub Unread : Command → Option (List ℕ) → Option (List ℕ) → ℕ → ℕ → Status → Type 0
+Unread command left left' n m (Refused reason names) = HasReason command left left' reason names
+Unread command left left' n m ReadFault = Rose n m
+Unread command left left' n m TooLong = ConsumesSome left left' (limit + 1)
+Unread command left left' n m NoMemory = Unit {0}
+Unread command left left' n m Done = ⊥
+Unread command left left' n m Named = ⊥
+Unread command left left' n m WrongWords = ⊥
+Unread command left left' n m WriteFault = ⊥
+
+-- what a status says
+abbrev pub Says : Command → Option (List ℕ) → Option (List ℕ) → ℕ → ℕ → Option (List ℕ) → Option (List ℕ) → ℕ → ℕ → Status → Type 0
+Says command left left' n m taken taken' p q Done = HasOutput (IsWhole taken taken' false) command left left'
+Says command left left' n m taken taken' p q Named = HasOutput (IsWhole taken taken' true) command left left'
+Says command left left' n m taken taken' p q WrongWords = ⊥
+Says command left left' n m taken taken' p q (Refused reason names) = HasReason command left left' reason names × Keeps taken taken'
+Says command left left' n m taken taken' p q ReadFault = Rose n m × Keeps taken taken'
+Says command left left' n m taken taken' p q WriteFault = Rose p q × HasOutput (λ output. AppendsProperPrefix taken taken' output.text) command left left'
+Says command left left' n m taken taken' p q NoMemory = Keeps taken taken' ⊎ HasOutput (λ output. AppendsPrefix taken taken' output.text) command left left'
+Says command left left' n m taken taken' p q TooLong = ConsumesSome left left' (limit + 1) × Keeps taken taken'

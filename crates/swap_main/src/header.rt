@@ -1,0 +1,48 @@
+//! The header of an input: its first line that isn't blank.
+
+ghost use Rattle.std.specs.Prelude.{◌≡◌, ◌≤◌, Ok, IfOk, IfErr, OnOk};
+ghost use Rattle.swap_rules.specs.Accepted.{IsAccepted};
+ghost use Rattle.swap_offer.specs.Checks.{need_of};
+ghost use Rattle.swap_offer.specs.Job.{IsWhole, job_header_of, names_at};
+ghost use Rattle.swap_offer.specs.Wallets.{HaveWalletsFor, wallets_for};
+ghost use Rattle.swap_main.specs.Input.{EndsAt, IsLine, Stops, fresh, limit};
+ghost use Rattle.swap_main.specs.Output.{purpose_of};
+ghost use Rattle.swap_main.specs.Says.{IsAgainst};
+
+use crate::fault::{InputFault, empty};
+use crate::input::Input;
+use crate::words::{Command, purpose_of};
+use refusals::Refusal;
+use std::alloc::Global;
+use swap_io::Source;
+use swap_offer::{Prepared, read_header};
+
+/// The job of an input's header with the wallets that the command needs, or what is said against it.
+pub(crate) fn first_line<S: Source>(
+    alloc: Global,
+    command: Command,
+    input: &mut Input,
+    source: &mut S,
+) -> Result<Prepared, InputFault<Refusal>>
+    requires { input.old ≡ fresh }
+    ensures line { OnOk result (IsLine (S.left source.old) (S.left source.new) fresh input.new) }
+    ensures within { OnOk result (input.new.reading.taken ≤ limit) }
+    ensures ended { OnOk result (EndsAt (S.left source.new) input.new) }
+    ensures header { IfOk result (λ p. job_header_of (purpose_of command) input.new.number input.new.text ≡ Ok p.job) }
+    ensures names { IfOk result (λ p. p.job.names ≡ names_at (purpose_of command) input.new.number input.new.text) }
+    ensures whole { IfOk result (λ p. IsWhole p.job) }
+    ensures accepted { IfOk result (λ p. IsAccepted p.job.deal) }
+    ensures wallets { IfOk result (λ p. HaveWalletsFor (purpose_of command) p.job) }
+    ensures made { IfOk result (λ p. p.wallets.items ≡ wallets_for (purpose_of command) p.job) }
+    ensures need { IfOk result (λ p. p.need ≡ need_of p.job.deal) }
+    ensures stops { IfErr result (λ e. Stops (IsAgainst command) (S.left source.old) (S.left source.new) (S.faults source.old)
+        (S.faults source.new) fresh input.new e) }
+    ensures later { S.faults source.old ≤ S.faults source.new }
+{
+    if !input.next(source)? {
+        return Err(empty(alloc));
+    }
+    let number = input.number();
+    let prepared = read_header(alloc, number, input.text(), purpose_of(command))?;
+    Ok(prepared)
+}
