@@ -1,0 +1,11 @@
+//! The writer of transcripts: line by line, in the one spelling of each line.
+//!
+//! Read `specs/Lines.antt` of `transcript_lines` first: the text that `write_transcript` writes.
+#![tactic(auto)]
+
+mod entry;
+mod ledgers;
+mod transcript;
+mod words;
+
+pub use transcript::write_transcript;
