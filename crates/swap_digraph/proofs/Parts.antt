@@ -36,7 +36,8 @@ abbrev pub Meets : ℕ → List ℕ → Type 0
 Meets l p = (last_is l p ≡ true) ⊎ (are_followers (l ∷ []) p ≡ true)
 
 -- but at its end it doesn't meet the leader
-pub meets_rest : (g : Graph) (l u w : ℕ) (p : List ℕ) → is_path g (u ∷ w ∷ p) ≡ true → Meets l (u ∷ w ∷ p) → (not (is_among u (l ∷ [])) ≡ true) × Meets l (w ∷ p)
+pub meets_rest : (g : Graph) (l u w : ℕ) (p : List ℕ) → is_path g (u ∷ w ∷ p) ≡ true → Meets l (u ∷ w ∷ p)
+    → (not (is_among u (l ∷ [])) ≡ true) × Meets l (w ∷ p)
 meets_rest g l u w p e (inl last) = (not_leader l u (λ q. (path_step g u w p e).fresh (subst (λ x. IsIn x (w ∷ p)) (sym q) (last_in l (w ∷ p) last))), inl last)
 meets_rest g l u w p e (inr o) = let k = and_parts (not (is_among u (l ∷ []))) (are_followers (l ∷ []) (w ∷ p)) o in (k.0, inr k.1)
 

@@ -166,7 +166,8 @@ next_call d a h p c two fits = go (is_sender_full (reply_to d a h p c)) refl
   where
     go : (x : Bool) → is_sender_full (reply_to d a h p c) ≡ x → Next d a h (cond x h (h ++ entry_of d a h p c ∷ [])) (Party p) (Made c)
     go true e = Still refl
-    go false e = Pushed (entry_of d a h p c) refl refl refl (record { of_the_two = two; fits = fits; height = refl; reply = refl; room = λ q. false≢true (sym e ∙ ap is_sender_full q) })
+    go false e = Pushed (entry_of d a h p c) refl refl refl
+        (record { of_the_two = two; fits = fits; height = refl; reply = refl; room = λ q. false≢true (sym e ∙ ap is_sender_full q) })
 
 -- The book after it.
 

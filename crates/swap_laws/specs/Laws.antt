@@ -150,7 +150,8 @@ DueIsSound =
     → IsIn x (due d v w signed known)
     → x.arc < length known → ((e : Entry) → IsIn e fresh → sent_by v e.sender ≡ false) → IsLegal d x.arc (history known x.arc ++ fresh)
     → IsSound d known signed v
-    → IsSound d (set (set known x.arc (history known x.arc ++ fresh)) x.arc (after_call d x.arc v x.call (history known x.arc ++ fresh))) (noted signed x.call) v
+    → IsSound d (set (set known x.arc (history known x.arc ++ fresh)) x.arc (after_call d x.arc v x.call (history known x.arc ++ fresh)))
+    (noted signed x.call) v
 
 -- a party that keeps its rules never fills a ledger
 abbrev pub RulesLeaveRoom : Type 0
