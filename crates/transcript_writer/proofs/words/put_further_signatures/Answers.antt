@@ -4,7 +4,8 @@ use Rattle.transcript_writer.proofs.words.put_further_signatures.Goals as goal
 
 pub loop-sig-preserved : goal.loop-sig-preserved
 loop-sig-preserved c =
-    lines_on signature_after c.loop-sig.out.items c.put_next_signature.new.out.items _ c.loop-sig.sig-index c.args.sigs.now c.loop-sig.sig-index c.sig-item.result
+    lines_on signature_after c.loop-sig.out.items c.put_next_signature.new.out.items _ c.loop-sig.sig-index c.args.sigs.now c.loop-sig.sig-index
+    c.sig-item.result
     c.sig-item.result c.loop-sig-test.true c.sig-item.is
     c.in_ok-put_next_signature.ensures c.loop-sig.invariant
 
