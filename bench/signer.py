@@ -1,0 +1,62 @@
+"""An independent signer, written from docs/FORMATS.md alone: what seeds give a job, and hashkeys."""
+from functools import cache
+from hashlib import sha256
+
+
+def digest(*parts):
+    return sha256(b"".join(parts)).digest()
+
+
+def secret_of(seed):
+    return digest(b"\5", seed)
+
+
+@cache
+def chains(seed, party, lock):
+    """The 67 chains of a key, each with its start and its 15 steps."""
+    found = []
+    for number in range(67):
+        chain = [digest(b"\1", seed, bytes([party, lock, number]))]
+        for _ in range(15):
+            chain.append(digest(b"\2", chain[-1]))
+        found.append(chain)
+    return found
+
+
+def public_key(seed, party, lock):
+    return digest(b"\3", *(chain[15] for chain in chains(seed, party, lock)))
+
+
+def digits_of(message):
+    digits = [half for byte in message for half in (byte >> 4, byte & 15)]
+    total = sum(15 - digit for digit in digits)
+    return digits + [total >> 8, total >> 4 & 15, total & 15]
+
+
+def signature(seed, party, lock, message):
+    return b"".join(chain[digit] for chain, digit in zip(chains(seed, party, lock), digits_of(message)))
+
+
+def deal_id(header, keyed):
+    """The id of a header's deal; keyed says whether the mode is hashkeys."""
+    number = {party["name"]: at for at, party in enumerate(header["parties"])}
+    wide = lambda value, count: value.to_bytes(count, "big")
+    told = [b"\1", bytes([keyed, len(number), len(header["arcs"])])]
+    for arc in header["arcs"]:
+        told.append(bytes([number[arc["from"]], number[arc["to"]]]) + wide(arc["amount"], 8) + wide(arc.get("timelock", 0), 4))
+    told.append(bytes([len(header["leaders"]), *(number[it["party"]] for it in header["leaders"])]))
+    told += [wide(header[it], 4) for it in ("start", "delta", "bound")]
+    told += [bytes.fromhex(it["hashlock"]) for it in header["leaders"]]
+    told += [bytes.fromhex(key) for row in header.get("keys", []) for key in row]
+    return digest(b"\6", *told)
+
+
+def hashkey(identity, seeds, lock, path):
+    """The secret of the path's last party, and the signatures of all on it, first to last, over the path from each."""
+    secret, sigs = secret_of(seeds[path[-1]]), []
+    for at in reversed(range(len(path))):
+        suffix = path[at:]
+        inner = sigs[0] if sigs else b""
+        message = digest(b"\4", identity, bytes([lock, len(suffix), *suffix]), secret, inner)
+        sigs.insert(0, signature(seeds[path[at]], path[at], lock, message))
+    return secret, sigs
