@@ -1,0 +1,97 @@
+//! Three passes on threads of their own, and the ledger that they leave.
+
+ghost use Rattle.std.specs.Prelude.{◌≡◌, IfSome};
+ghost use Rattle.swap_digraph.specs.Deal.{IsWellSized};
+ghost use Rattle.ledger_shared.specs.Value.{IsFirstAt, IsSecondAt};
+ghost use Rattle.shared_tests.specs.Stays.{Stays};
+
+use crate::passes::{make_all, shared_ledger, small_deal, tick_all};
+use crate::replayed::replays;
+use ledger_core::{EntryList, Ledger};
+use ledger_shared::{ClockPass, Pass, SharedLedger};
+use std::alloc::Global;
+use std::process::Abort;
+use std::sync::Wait;
+use std::test::Fail;
+use std::thread;
+use std::thread::Threads;
+use swap_digraph::Deal;
+
+/// Bob's calls and the ticks, each on a thread of its own.
+fn two_at_once<R: Threads + Wait + Sync>(
+    rt: &R,
+    alloc: Global,
+    deal: &Deal,
+    ledger: &SharedLedger,
+    pass: Pass,
+    clock: ClockPass,
+) -> (Option<Pass>, Option<ClockPass>)
+    requires sized { IsWellSized deal.now }
+    requires pass { (pass.lock ≡ ledger.now.lock) × (pass.deal ≡ deal.now) × (pass.arc ≡ 0) }
+    requires clock { clock.lock ≡ ledger.now.lock }
+    ensures pass { IfSome result.0 (λ p. Stays pass p) }
+    ensures clock { IfSome result.1 (λ p. p.lock ≡ clock.lock) }
+{
+    thread::join(
+        rt,
+        move ||
+            requires { IsWellSized deal.now × (pass.lock ≡ ledger.now.lock) × (pass.deal ≡ deal.now) × (pass.arc ≡ 0) }
+        { make_all(rt, alloc, deal, ledger, pass, 0) },
+        move ||
+            requires { clock.lock ≡ ledger.now.lock }
+        { tick_all(rt, ledger, clock) },
+    )
+}
+
+/// Each pass on a thread of its own, and the ledger that comes of it.
+fn raced<R: Threads + Wait + Sync>(
+    rt: &R,
+    alloc: Global,
+    deal: &Deal,
+    ledger: SharedLedger,
+    first: Pass,
+    second: Pass,
+    clock: ClockPass,
+) -> Option<Ledger>
+    requires sized { IsWellSized deal.now }
+    requires first { IsFirstAt ledger.lock first × (first.deal ≡ deal.now) × (first.arc ≡ 0) }
+    requires second { IsSecondAt ledger.lock second × (second.deal ≡ deal.now) × (second.arc ≡ 0) }
+    requires clock { clock.lock ≡ ledger.lock }
+{
+    let shared = &ledger;
+    let (first, rest) = thread::join(
+        rt,
+        move ||
+            requires { IsWellSized deal.now × (first.lock ≡ shared.now.lock) × (first.deal ≡ deal.now) × (first.arc ≡ 0) }
+        { make_all(rt, alloc, deal, shared, first, 1) },
+        move ||
+            requires { IsWellSized deal.now × (second.lock ≡ shared.now.lock) × (second.deal ≡ deal.now) × (second.arc ≡ 0) × (clock.lock ≡ shared.now.lock) }
+        { two_at_once(rt, alloc, deal, shared, second, clock) },
+    );
+    let (second, clock) = rest;
+    Some(ledger.close(first?, second?, clock?))
+}
+
+/// The history has the replies of a ledger of one thread.
+fn is_replayed(
+    rt: &impl Abort,
+    alloc: Global,
+    deal: &Deal,
+    history: &EntryList,
+) -> Result<(), Fail>
+    requires { IsWellSized deal.now }
+{
+    let entries = history.to_vec(alloc)?;
+    let plain = Ledger::new(alloc, deal, 0)?;
+    replays(rt, plain, &entries)
+}
+
+#[test]
+fn three_threads_leave_the_replies_of_one(rt: HostRuntime) -> Result<(), Fail> {
+    let deal = small_deal(rt.alloc())?;
+    let (ledger, first, second, clock) = shared_ledger(&rt, rt.alloc(), &deal)?;
+    let closed = raced(&rt, rt.alloc(), &deal, ledger, first, second, clock).ok_or("no memory")?;
+    let history = closed.into_history();
+    assert!(rt; history.len() == 164 && history.calls() == 64);
+    is_replayed(&rt, rt.alloc(), &deal, &history)
+}
