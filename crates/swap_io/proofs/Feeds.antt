@@ -1,14 +1,13 @@
 -- The first line feed of some bytes, and the steps of reading a line.
-use Rattle.std.proofs.Common.{◌≡◌, ◌==◌, ◌<◌, ◌≤◌, ◌+◌, ◌-◌, ℕ, zero, suc, Bool, true, false, not, IsTrue, List, [], ◌∷◌, ◌++◌, length, take, drop, get_or}
-use Rattle.std.proofs.Common.{slice_index, Option, None, Some, IfSome, ◌↔◌, MatchOption, Result, Ok, Err, refl, sym, ap, ◌∙◌, subst, arith, append_assoc}
-use Rattle.std.proofs.Common.{append-nil, length-append, drop-cons, add-one}
+use Rattle.std.proofs.Common.{◌≡◌, ◌==◌, ◌<◌, ◌≤◌, ◌+◌, ℕ, zero, suc, Bool, true, false, not, IsTrue, List, [], ◌∷◌, ◌++◌, length, take, drop, get_or}
+use Rattle.std.proofs.Common.{slice_index, Option, None, Some, IfSome, ◌↔◌, Result, Ok, Err, refl, sym, ap, ◌∙◌, arith, append_assoc}
+use Rattle.std.proofs.Common.{length-append, drop-cons, add-one}
 use Rattle.std.proofs.lemmas.Bool.{and_from, and_parts}
 use Rattle.std.proofs.lemmas.Bool.Decides.{nat_tests}
-use Rattle.std.proofs.lemmas.List.{nil_from_length, take-append-drop}
+use Rattle.std.proofs.lemmas.List.{take-append-drop}
 use Rattle.std.proofs.KnownBytes.{Consumes-nil, Consumes-trans}
-use Rattle.std.specs.Io.KnownBytes.{Consumes, IsAtEnd}
 use Rattle.memchr.specs.Find.{Nowhere, NoneBefore, Passes, is_byte}
-use Rattle.swap_io.specs.Lines.{Reading, lacks_feed, Took, TookSome, IsOver, IsNext, IsCutAt, TakesLine, IsFilled, feed_of, EndsAs}
+use Rattle.swap_io.specs.Lines.{Reading, lacks_feed, Took, IsNext, IsCutAt, TakesLine, IsFilled, feed_of, EndsAs}
 use Rattle.swap_io.specs.declared.line_end.LineEnd.{LineEnd}
 use Rattle.swap_io.specs.declared.line_end.LineEnd.TheVariants.{Ended, Rest, End}
 

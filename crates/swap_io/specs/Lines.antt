@@ -1,5 +1,6 @@
 -- The lines of a source, read one after another.
-use Rattle.std.specs.Prelude.{◌≡◌, ◌==◌, ◌&&◌, ◌<◌, ◌≤◌, ◌+◌, ◌↔◌, ℕ, Bool, true, false, not, List, [], ◌∷◌, ◌++◌, length, Option, IsTrue}
+use Rattle.std.specs.Prelude.{◌≡◌, ◌==◌, ◌&&◌, ◌<◌, ◌+◌, ℕ, suc, Bool, true, false, not, List, [], ◌∷◌, ◌++◌, length, drop, Option, IsTrue}
+use Rattle.std.specs.Prelude.{if◌then◌else◌}
 use Rattle.std.specs.Io.KnownBytes.{Consumes, IsAtEnd}
 use Rattle.swap_io.specs.declared.line_end.LineEnd.{LineEnd}
 use Rattle.swap_io.specs.declared.line_end.LineEnd.TheVariants.{Ended, Rest, End}
@@ -17,6 +18,15 @@ pub record Reading : Type 0 where
 abbrev pub lacks_feed : List ℕ → Bool
 lacks_feed [] = true
 lacks_feed (b ∷ bs) = not (b == 10) && lacks_feed bs
+
+-- how many line feeds the bytes begin with
+abbrev pub feeds : List ℕ → ℕ
+feeds [] = 0
+feeds (b ∷ bs) = if b == 10 then suc (feeds bs) else 0
+
+-- the line feeds that what is kept begins with were passed over
+abbrev pub past_feeds : Reading → Reading
+past_feeds r = record r { kept = drop (feeds r.kept) r.kept }
 
 -- The bytes were taken from the source and counted.
 pub record Took (left left' : Option (List ℕ)) (old new : Reading) (bytes : List ℕ) : Type 0 where

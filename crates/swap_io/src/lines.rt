@@ -3,7 +3,7 @@
 ghost use Rattle.std.specs.Prelude.{◌≡◌, ◌<◌, ◌≤◌, ◌+◌, ◌^◌, ◌↔◌, [], length, take, drop, IsTrue, MatchOption, IfOk, IfSome, IsErrOf, OnOk};
 ghost use Rattle.std.specs.Io.KnownBytes.{IsAtEnd};
 ghost use Rattle.swap_io.specs.Causes.{Rose};
-ghost use Rattle.swap_io.specs.Lines.{Reading, lacks_feed, Took, TookSome, IsNext, IsCutAt, TakesLine, IsFilled};
+ghost use Rattle.swap_io.specs.Lines.{Reading, feeds, lacks_feed, past_feeds, Took, TookSome, IsNext, IsCutAt, TakesLine, IsFilled};
 
 use crate::fault::{DrainFault, LineFault};
 use crate::line_end::LineEnd;
@@ -24,6 +24,19 @@ fn cut(bytes: &[u8]) -> Option<(&[u8], &[u8])>
         Some(at) => Some((&bytes[..at], &bytes[at + 1..])),
         None => None,
     }
+}
+
+/// How many line feeds the bytes begin with.
+fn feeds(bytes: &[u8]) -> usize
+    ensures exact { result ≡ feeds bytes.now }
+    ensures few { result ≤ length bytes.now }
+{
+    for (i, b) in bytes.iter().enumerate() {
+        if *b != b'\n' {
+            return i;
+        }
+    }
+    bytes.len()
 }
 
 /// The lines of one source, whose bytes it counts. It keeps what it took beyond the last line.
@@ -154,6 +167,19 @@ impl Lines {
                 Ok(false)
             }
         }
+    }
+
+    /// Passes over the empty lines that what is kept begins with, and answers how many. It reads nothing.
+    pub fn pass_feeds(&mut self) -> usize
+        ensures count { result ≡ feeds self.old.kept }
+        ensures past { self.new ≡ past_feeds self.old }
+        ensures within { result ≤ length self.old.kept }
+        ensures few { length self.old.kept ≤ 8192 }
+        ensures most { self.old.taken ≤ self.old.limit + 1 }
+    {
+        let count = feeds(&self.buffer[self.at..]);
+        self.at += count;
+        count
     }
 
     /// Gives the next line, without its line feed. After a fault the line may hold anything.

@@ -1,9 +1,11 @@
 -- The lines of an input that comes piece by piece.
-use Rattle.std.proofs.Common.{◌≡◌, ◌==◌, ◌<◌, ◌≤◌, ◌+◌, ℕ, Bool, true, false, not, cond, eqb, IsTrue, ◌⊎◌, inl, inr, List, [], ◌∷◌, ◌++◌, length, Option}
-use Rattle.std.proofs.Common.{Result, Err, ◌↔◌, refl, sym, ap, ap₂, ◌∙◌, arith, append_assoc, append-nil, length-append}
+use Rattle.std.proofs.Common.{◌≡◌, ◌==◌, ◌<◌, ◌≤◌, ◌+◌, ◌-◌, ℕ, suc, Bool, true, false, not, cond, eqb, IsTrue, ◌⊎◌, inl, inr, List, [], ◌∷◌, ◌++◌}
+use Rattle.std.proofs.Common.{length, Option}
+use Rattle.std.proofs.Common.{Result, Err, drop, ◌↔◌, refl, sym, ap, ap₂, ◌∙◌, arith, append_assoc, append-nil, length-append}
 use Rattle.std.proofs.lemmas.Bool.{and_parts}
+use Rattle.std.proofs.lemmas.List.{length-drop}
 use Rattle.swap_io.specs.Causes.{Rose}
-use Rattle.swap_io.specs.Lines.{IsNext, Reading, Took, TookSome, feed_of, lacks_feed}
+use Rattle.swap_io.specs.Lines.{IsNext, Reading, Took, TookSome, feed_of, feeds, lacks_feed}
 use Rattle.swap_io.specs.declared.fault.LineFault.{LineFault}
 use Rattle.swap_io.specs.declared.fault.LineFault.TheVariants as line
 use Rattle.swap_io.specs.declared.line_end.LineEnd.{LineEnd}
@@ -12,7 +14,7 @@ use Rattle.swap_io.proofs.Feeds.{took_none, took_on}
 use Rattle.swap_io.proofs.Handing.{rose_before}
 use Rattle.swap_offer.specs.Lines.{lines_of, with_first, filled_lines, is_blank}
 use Rattle.swap_offer.proofs.Filled.{one_more}
-use Rattle.swap_main.specs.Input.{At, CanCome, Fails, IsLast, IsLine, IsTooLong, ReadsLine, ReadsNone, ahead, limit, to_go}
+use Rattle.swap_main.specs.Input.{At, CanCome, Fails, IsLast, IsLine, IsTooLong, ReadsLine, ReadsNone, ahead, limit, past_empty, to_go}
 
 not_feed : (t : Bool) → not t ≡ true → t ≡ false
 not_feed true e = absurd (cc e)
@@ -211,6 +213,47 @@ passed_end left a b first s t p going q = record {
       ∙ sym (ap₂ (λ (xs ys : List ℕ). filled_lines (t.number + 1) (lines_of (xs ++ ys))) q.kept none);
   later = omega (arith, p.later, q.number);
 }
+
+-- a line feed at the front is a line that is passed over
+past_one : (t : Bool) (n b : ℕ) (bs rest : List ℕ)
+    → lines_of (b ∷ (bs ++ rest)) ≡ cond t ([] ∷ lines_of (bs ++ rest)) (with_first b (lines_of (bs ++ rest)))
+    → filled_lines ((n + 1) + 1) (lines_of (bs ++ rest)) ≡ filled_lines (((n + 1) + feeds bs) + 1) (lines_of (drop (feeds bs) bs ++ rest))
+    → filled_lines (n + 1) (lines_of (b ∷ (bs ++ rest)))
+    ≡ filled_lines ((n + cond t (suc (feeds bs)) 0) + 1) (lines_of (drop (cond t (suc (feeds bs)) 0) (b ∷ bs) ++ rest))
+past_one true n b bs rest e others =
+    let same : ◌≡◌ {A = ℕ} ((n + 1) + feeds bs) (n + suc (feeds bs)) = omega arith in
+    blank_ahead n [] (lines_of (b ∷ (bs ++ rest))) (lines_of (bs ++ rest)) e refl ∙ others
+    ∙ ap (λ (k : ℕ). filled_lines (k + 1) (lines_of (drop (feeds bs) bs ++ rest))) same
+past_one false n b bs rest e others =
+    let same : ◌≡◌ {A = ℕ} n (n + 0) = omega arith in
+    ap (λ (k : ℕ). filled_lines (k + 1) (lines_of (b ∷ (bs ++ rest)))) same
+
+past_ahead : (n : ℕ) (kept rest : List ℕ)
+    → filled_lines (n + 1) (lines_of (kept ++ rest)) ≡ filled_lines ((n + feeds kept) + 1) (lines_of (drop (feeds kept) kept ++ rest))
+unfolding lines_of
+past_ahead n [] rest =
+    let same : ◌≡◌ {A = ℕ} n (n + 0) = omega arith in
+    ap (λ (k : ℕ). filled_lines (k + 1) (lines_of rest)) same
+past_ahead n (b ∷ bs) rest = past_one (eqb b 10) n b bs rest refl (past_ahead (n + 1) bs rest)
+
+-- empty lines are passed over
+pub passed_past : (left a : Option (List ℕ)) (first s : At) → Passed left a first s → Passed left a first (past_empty s)
+passed_past left a first s p = record {
+  bytes = p.bytes;
+  took = record { consumed = p.took.consumed; counted = p.took.counted; limit = p.took.limit };
+  can = p.can;
+  stays = p.stays;
+  blank = λ rest can. p.blank rest can ∙ past_ahead s.number s.reading.kept rest;
+  later = omega (arith, p.later);
+}
+
+still_less : (over : Bool) (n m k : ℕ) → m ≤ k → cond over 0 (n + m) ≤ cond over 0 (n + k)
+still_less true n m k le = omega arith
+still_less false n m k le = omega (arith, le)
+
+pub past_less : (s : At) → to_go (past_empty s) ≤ to_go s
+past_less s = still_less s.over (limit + 2 - s.reading.taken) (length (drop (feeds s.reading.kept) s.reading.kept)) (length s.reading.kept)
+    (omega (arith, length-drop (feeds s.reading.kept) s.reading.kept))
 
 -- no line is ahead
 pub is_last : (left a : Option (List ℕ)) (first s : At) → Passed left a first s → s.over ≡ true → s.reading.kept ≡ [] → IsLast left a first s

@@ -2,7 +2,7 @@
 use Rattle.std.specs.Prelude.{◌≡◌, ◌<◌, ◌≤◌, ◌+◌, ◌-◌, ℕ, cond, Bool, true, false, List, [], ◌∷◌, ◌++◌, length, Option}
 use Rattle.std.specs.Io.KnownBytes.{IsAtEnd}
 use Rattle.swap_io.specs.Causes.{Rose}
-use Rattle.swap_io.specs.Lines.{Reading, Took, TookSome}
+use Rattle.swap_io.specs.Lines.{Reading, Took, TookSome, feeds, past_feeds}
 use Rattle.swap_io.specs.declared.fault.LineFault.{LineFault}
 use Rattle.swap_io.specs.declared.fault.LineFault.TheVariants as line
 use Rattle.swap_io.specs.declared.fault.DrainFault.{DrainFault}
@@ -32,6 +32,10 @@ fresh = record { reading = record { kept = []; taken = 0; limit = limit }; numbe
 -- the lines ahead that aren't blank, where these bytes are still to come
 abbrev pub ahead : At → List ℕ → List (ℕ × List ℕ)
 ahead s rest = filled_lines (s.number + 1) (lines_of (s.reading.kept ++ rest))
+
+-- the empty lines that were there already were passed over
+abbrev pub past_empty : At → At
+past_empty s = record s { reading = past_feeds s.reading; number = s.number + feeds s.reading.kept }
 
 -- bytes that may still come: none after the end
 abbrev pub CanCome : At → List ℕ → Type 0

@@ -1,7 +1,7 @@
 //! An input that is read line by line.
 
 ghost use Rattle.std.specs.Prelude.{◌≡◌, ◌<◌, ◌≤◌, ◌+◌, [], length, true, false, IfOk, IfErr, OnOk};
-ghost use Rattle.swap_main.specs.Input.{At, Breaks, EndsAt, Fails, Gives, IsDrained, Reads, fresh, limit, to_go};
+ghost use Rattle.swap_main.specs.Input.{At, Breaks, EndsAt, Fails, Gives, IsDrained, Reads, fresh, limit, past_empty, to_go};
 
 use std::alloc::Global;
 use std::marker::Model;
@@ -84,6 +84,13 @@ impl Input {
         }
     }
 
+    /// Passes over the empty lines that were taken already, without copying them.
+    fn pass_empty(&mut self)
+        ensures { self.new ≡ past_empty self.old }
+    {
+        self.number += self.lines.pass_feeds() as u32;
+    }
+
     /// Goes to the next line that isn't blank, and answers whether there is one.
     pub(crate) fn next<S: Source>(&mut self, source: &mut S) -> Result<bool, LineFault>
         requires ended { EndsAt (S.left source.old) self.old }
@@ -101,6 +108,7 @@ impl Input {
             if !is_blank(self.text()) {
                 return Ok(true);
             }
+            self.pass_empty();
         }
         Ok(false)
     }

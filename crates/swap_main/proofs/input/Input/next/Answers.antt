@@ -1,6 +1,6 @@
 use Rattle.std.proofs.Common.{arith, sym}
 use Rattle.std.proofs.lemmas.Result.{err_from_is_err_and}
-use Rattle.swap_main.proofs.Ahead.{fails_on, is_last, is_line, passed_end, passed_none, passed_on}
+use Rattle.swap_main.proofs.Ahead.{fails_on, is_last, is_line, passed_end, passed_none, passed_on, passed_past, past_less}
 use Rattle.swap_main.proofs.Streams.{got_line, got_none}
 use Rattle.swap_main.proofs.input.Input.next.Goals as goal
 
@@ -29,12 +29,16 @@ returns-then-not-is_blank-clause-gives g c =
 pub lines-preserved : goal.lines-preserved
 lines-preserved g c =
     let line = got_line _ _ _ _ _ c.if-not-branch.false c.in_ok-read_line.ensures.reads in
-    record {
-      passed = passed_on _ _ _ _ _ _ c.lines.invariant.passed (sym c.lines-test.ensures.over) line
-          (sym (rw c.text.ensures at c.if-not-is_blank.ensures));
+    let blank = sym (rw c.text.ensures at c.if-not-is_blank.ensures) in
+    rw c.pass_empty.ensures
+    (record {
+      passed = passed_past _ _ _ _ (passed_on _ _ _ _ _ _ c.lines.invariant.passed (sym c.lines-test.ensures.over) line blank);
       ended = c.in_ok-read_line.ensures.ended;
       later = omega (arith, c.lines.invariant.later, c.read_line.ensures.later);
-    }
+    })
+
+pub lines-smaller : goal.lines-smaller
+lines-smaller g c = rw c.pass_empty.ensures (omega (arith, c.in_ok-read_line.ensures.shorter, past_less c.read_line.new.self))
 
 pub returns-clause-gives : goal.returns-clause-gives
 returns-clause-gives g c =
