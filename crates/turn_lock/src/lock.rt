@@ -21,14 +21,15 @@ pub struct TurnLock<T: Journal> {
 }
 
 impl<T: Journal> Model for TurnLock<T> {
-    ghost use Rattle.std.specs.Prelude.{◌≡◌};
+    ghost use Rattle.std.specs.Prelude.{◌≡◌, ◌<◌};
     ghost use Rattle.turn_lock.specs.Value.{LockState};
 
     ghost Value = { LockState };
 
     ghost view = { λ l. record { lock = l.table.shared.table_id; seats = l.seats } };
 
-    ghost invariant = { λ l. ((l.table.shared.table_id.words ≡ 2) × (l.table.shared.table_id.slots ≡ 1)) × (l.table.shared.key.seats ≡ l.seats) };
+    ghost invariant = { λ l. ((l.table.shared.table_id.words ≡ 2) × (l.table.shared.table_id.slots ≡ 1))
+        × ((l.table.shared.key.seats ≡ l.seats) × (0 < l.seats)) };
 }
 
 /// No memory for the lock: the value comes back.
@@ -122,7 +123,6 @@ impl<T: Journal> TurnLock<T> {
     pub fn close(self, seat: TurnSeat<T>) -> T
         requires lock { seat.table_id ≡ self.lock }
         requires idle { IsResting seat.me }
-        requires some { 0 < self.seats }
         requires all { (k : ℕ) → k < self.seats → IsTrue (has_number k seat.me.0.parts) }
         ensures { AllByRecursion (Covers T.author (T.history result)) seat.me.0.parts }
     {
