@@ -73,12 +73,7 @@ fn raced<R: Threads + Wait + Sync>(
 }
 
 /// The history has the replies of a ledger of one thread.
-fn is_replayed(
-    rt: &impl Abort,
-    alloc: Global,
-    deal: &Deal,
-    history: &EntryList,
-) -> Result<(), Fail>
+fn is_replayed(rt: &impl Abort, alloc: Global, deal: &Deal, history: &EntryList) -> Result<(), Fail>
     requires { IsWellSized deal.now }
 {
     let entries = history.to_vec(alloc)?;
