@@ -27,6 +27,3 @@ pub use sink::{Sink, write_all};
 pub use source::{Source, read_all};
 pub use text_sink::TextSink;
 pub use waiting::{flush, pass_on};
-
-#[cfg(test)]
-mod tests;
