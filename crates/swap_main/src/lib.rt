@@ -23,6 +23,3 @@ pub use refusals::refusal_line;
 pub use status::Status;
 pub use top::swap_top;
 pub use words::Command;
-
-#[cfg(test)]
-mod tests;

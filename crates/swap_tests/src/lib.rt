@@ -25,3 +25,5 @@ mod replies_to_keys;
 mod runner;
 #[cfg(test)]
 mod signatures;
+#[cfg(test)]
+mod three_way;

@@ -1,9 +1,11 @@
-use super::*;
+//! A swap of three parties: its report, each read and each write of it that fails, and what is told of refusals.
+
 use refusals::Reason;
 use std::alloc::Global;
 use std::test::Fail;
 use swap_base::{ByteText, Listed};
 use swap_io::{VecSink, VecSource};
+use swap_main::{Status, refusal_line, swap_top};
 
 /// The swap of three parties that the README runs.
 const JOB: &str =
