@@ -21,7 +21,7 @@ def below(name, lines):
 def output(name, libraries, files):
     """What the program prints: its crate has these files, and uses these libraries."""
     with open(os.path.join(ROOT, "crates.txt")) as file:
-        lines = {line.split(":")[0]: line.strip() for line in file if line.strip() and line[0] != "#"}
+        lines = {line.split(":")[0].split()[0]: line.strip() for line in file if line.strip() and line[0] != "#"}
     lines[name] = "%s: %s" % (name, libraries)
     used = below(name, lines)
     with tempfile.TemporaryDirectory(prefix="swap-bench-") as top:

@@ -91,13 +91,13 @@ fn takes_no_more_than_the_limit(rt: HostRuntime) -> Result<(), Fail> {
 /// What a drain answers after the first of three lines of seven bytes, with so many bytes at most and some reads that fail.
 fn drained(
     alloc: Global,
-    limit: usize,
+    limit: u32,
     failing: &[u64],
 ) -> Result<Option<Result<(), DrainFault>>, Fail> {
     let bytes = Vec::from_slice(alloc, b"a\nb\ncd\n")?;
     let failing = Vec::from_slice(alloc, failing)?;
     let mut source = VecSource::new(bytes, 4, failing);
-    let mut lines = Lines::new(alloc, limit)?;
+    let mut lines = Lines::new(alloc, limit as usize)?;
     let mut line = Vec::new(alloc);
     if lines.next(&mut source, &mut line) != Ok(LineEnd::Ended) {
         return Ok(None);
