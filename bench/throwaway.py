@@ -14,8 +14,13 @@ ROOT = os.path.join(os.path.dirname(os.path.abspath(__file__)), "..")
 
 def below(name, lines):
     """The crates that the crate stands on, and itself, with their lines of crates.txt."""
-    words = lines[name].split(":")[1].split()
-    return {name: lines[name], **{w: lines[w] for w in words if w in lines}}
+    used, ways = {}, [name]
+    while ways:
+        crate = ways.pop()
+        if crate in lines and crate not in used:
+            used[crate] = lines[crate]
+            ways += lines[crate].split(":")[1].split()
+    return used
 
 
 def output(name, libraries, files):
