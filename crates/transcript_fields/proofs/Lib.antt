@@ -1,0 +1,4 @@
+pub mod ByDigit
+pub mod Falls
+pub mod Members
+pub mod Replies

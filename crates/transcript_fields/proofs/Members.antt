@@ -1,0 +1,36 @@
+-- Members that are read one by one.
+use Rattle.std.proofs.Common.{◌≡◌, ℕ, suc, List, [], ◌∷◌, ◌++◌, Result, Ok, Err, refl, sym, ap, ◌∙◌, append_assoc}
+use Rattle.swap_base.specs.Fault.{◌>>=◌}
+use Rattle.transcript_lines.specs.declared.said.Misspelling.{Misspelling}
+use Rattle.transcript_lines.specs.Reading.{digest_of, field_of, locks_of}
+
+-- what was read before, and what is still read
+abbrev pub with_front : {A : Type 0} → List A → Result (List A) Misspelling → Result (List A) Misspelling
+with_front front read = read >>= λ xs. Ok (front ++ xs)
+
+pub starts : {A : Type 0} (read : Result (List A) Misspelling) → with_front [] read ≡ read
+starts (Ok xs) = refl
+starts (Err e) = refl
+
+-- ---- digests, so many
+
+abbrev pub with_locks : List (List ℕ) → Result (List (List ℕ) × List (List ℕ)) Misspelling → Result (List (List ℕ) × List (List ℕ)) Misspelling
+with_locks front read = read >>= λ r. Ok (front ++ r.0, r.1)
+
+regroup_locks : (front : List (List ℕ)) (x : List ℕ) (read : Result (List (List ℕ) × List (List ℕ)) Misspelling)
+    → with_locks front (read >>= λ r. Ok (x ∷ r.0, r.1)) ≡ with_locks (front ++ x ∷ []) read
+regroup_locks front x (Ok r) = ap (λ (zs : List (List ℕ)). let q : Result (List (List ℕ) × List (List ℕ)) Misspelling = Ok (zs, r.1) in q)
+    (sym (append_assoc front (x ∷ []) r.0))
+regroup_locks front x (Err e) = refl
+
+pub locks_start : (read : Result (List (List ℕ) × List (List ℕ)) Misspelling) → with_locks [] read ≡ read
+locks_start (Ok r) = refl
+locks_start (Err e) = refl
+
+module _ (front : List (List ℕ)) (total : Result (List (List ℕ) × List (List ℕ)) Misspelling) (k n : ℕ) (more : k ≡ suc n) where
+  pub locks_on : (old new : List (List ℕ)) (x : List ℕ) → field_of digest_of old ≡ Ok (x, new) → with_locks front (locks_of k old) ≡ total
+      → with_locks (front ++ x ∷ []) (locks_of n new) ≡ total
+  locks_on old new x one so_far =
+      sym (ap (λ m. with_locks front (locks_of m old)) more
+      ∙ ap (λ (r : Result (List ℕ × List (List ℕ)) Misspelling). with_locks front (r >>= λ q. locks_of n q.1 >>= λ p. Ok (q.0 ∷ p.0, p.1))) one
+      ∙ regroup_locks front x (locks_of n new)) ∙ so_far

@@ -1,0 +1,80 @@
+//! What the line of an entry says.
+
+ghost use Rattle.std.specs.Prelude.{◌≤◌};
+ghost use Rattle.swap_base.specs.Fault.{Gives};
+ghost use Rattle.transcript_lines.specs.Reading.{call_said, line_said, said_by, tick_said, words_said};
+
+use crate::call::call_of;
+use crate::field::{byte_field, nothing_more, sign_field, small_field, word};
+use crate::number::{WordFault, misspelt};
+use crate::parts::Parts;
+use crate::reply::reply_of;
+use escrow_core::Reply;
+use ledger_core::{Sender, What};
+use std::alloc::Global;
+use transcript_lines::Said;
+
+#[tactic(auto, unfolding(transcript_lines::specs::Reading::tick_said))]
+fn tick_said(fields: &mut Parts<'_>) -> Result<Said, WordFault>
+    ensures { Gives (λ s. s) result (tick_said fields.old) }
+{
+    let by = small_field(fields)?;
+    nothing_more(fields)?;
+    Ok(Said {
+        sender: Sender::Clock,
+        what: What::Tick(by),
+        reply: Reply::Accepted,
+    })
+}
+
+#[tactic(auto, unfolding(transcript_lines::specs::Reading::call_said))]
+fn call_said(alloc: Global, locks: usize, fields: &mut Parts<'_>) -> Result<Said, WordFault>
+    requires { locks ≤ 8 }
+    ensures { Gives (λ s. s) result (call_said locks fields.old) }
+{
+    let party = byte_field(fields)?;
+    let call = call_of(alloc, locks, fields)?;
+    sign_field(fields)?;
+    let reply = reply_of(fields)?;
+    Ok(Said {
+        sender: Sender::Party(party),
+        what: What::Call(call),
+        reply,
+    })
+}
+
+fn said_by(
+    alloc: Global,
+    locks: usize,
+    first: &[u8],
+    fields: &mut Parts<'_>,
+) -> Result<Said, WordFault>
+    requires { locks ≤ 8 }
+    ensures { Gives (λ s. s) result (said_by locks first.now fields.old) }
+{
+    if first == b"t".as_slice() {
+        tick_said(fields)
+    } else if first == b"c".as_slice() {
+        call_said(alloc, locks, fields)
+    } else {
+        Err(misspelt())
+    }
+}
+
+#[tactic(auto, unfolding(transcript_lines::specs::Reading::words_said))]
+fn words_said(alloc: Global, locks: usize, fields: &mut Parts<'_>) -> Result<Said, WordFault>
+    requires { locks ≤ 8 }
+    ensures { Gives (λ s. s) result (words_said locks fields.old) }
+{
+    let first = word(fields)?;
+    said_by(alloc, locks, first, fields)
+}
+
+/// What a line says of a deal with so many locks, or that no writer writes it.
+#[tactic(auto, unfolding(transcript_lines::specs::Reading::line_said))]
+pub fn read_entry(alloc: Global, locks: usize, line: &[u8]) -> Result<Said, WordFault>
+    requires { locks ≤ 8 }
+    ensures { Gives (λ s. s) result (line_said locks line.now) }
+{
+    words_said(alloc, locks, &mut Parts::new(b' ', line))
+}

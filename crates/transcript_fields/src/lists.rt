@@ -1,0 +1,52 @@
+//! Lists in one field.
+
+ghost use Rattle.swap_base.specs.Fault.{Gives};
+ghost use Rattle.transcript_lines.specs.Reading.{each_of, list_of, number_below, signature_of};
+
+use crate::digits::signature_of;
+use crate::number::{WordFault, byte_of};
+use crate::parts::Parts;
+use hashkey_path::SigList;
+use std::alloc::Global;
+use swap_base::Listed;
+use swap_digraph::PathList;
+
+fn each_party(alloc: Global, parts: &mut Parts<'_>) -> Result<PathList, WordFault>
+    ensures { Gives (λ l. l) result (each_of (number_below 256) parts.old) }
+{
+    let mut list = Vec::new(alloc);
+    while let Some(word) = parts.next() {
+        list.push(byte_of(word)?)?;
+    }
+    Ok(Listed::new(list))
+}
+
+/// The path that a field says.
+pub(crate) fn path_of(alloc: Global, word: &[u8]) -> Result<PathList, WordFault>
+    ensures { Gives (λ l. l) result (list_of (number_below 256) word.now) }
+{
+    if word == b"-".as_slice() {
+        return Ok(Listed::empty(alloc));
+    }
+    each_party(alloc, &mut Parts::new(b',', word))
+}
+
+fn each_signature(alloc: Global, parts: &mut Parts<'_>) -> Result<SigList, WordFault>
+    ensures { Gives (λ l. l) result (each_of signature_of parts.old) }
+{
+    let mut list = Vec::new(alloc);
+    while let Some(word) = parts.next() {
+        list.push(signature_of(word)?)?;
+    }
+    Ok(Listed::new(list))
+}
+
+/// The signatures that a field says.
+pub(crate) fn signatures_of(alloc: Global, word: &[u8]) -> Result<SigList, WordFault>
+    ensures { Gives (λ l. l) result (list_of signature_of word.now) }
+{
+    if word == b"-".as_slice() {
+        return Ok(Listed::empty(alloc));
+    }
+    each_signature(alloc, &mut Parts::new(b',', word))
+}
