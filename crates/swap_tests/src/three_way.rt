@@ -135,10 +135,10 @@ fn writes_a_prefix_before_a_write_fault(rt: HostRuntime) -> Result<(), Fail> {
 
 /// Calls of which each is refused, and has its line in the report.
 const REFUSED: &str = "{\"call\":\"alice\",\"move\":{\"do\":\"publish\",\"arc\":0}}\n\
-     {\"call\":\"alice\",\"move\":{\"do\":\"publish\",\"arc\":1}}\n\
+     {\"call\":\"carol\",\"move\":{\"do\":\"publish\",\"arc\":1}}\n\
      {\"call\":\"alice\",\"move\":{\"do\":\"publish\",\"arc\":2}}\n\
      {\"call\":\"bob\",\"move\":{\"do\":\"publish\",\"arc\":0}}\n\
-     {\"call\":\"bob\",\"move\":{\"do\":\"publish\",\"arc\":2}}\n";
+     {\"call\":\"carol\",\"move\":{\"do\":\"publish\",\"arc\":2}}\n";
 
 /// A report of some pages, where some writes fail: whether the status is that of a fault, and what was written.
 fn pages(alloc: Global, failing: &[u64]) -> Result<(bool, Vec<u8>), Fail> {
