@@ -1,0 +1,13 @@
+pub mod Asked
+pub mod Builds
+pub mod Names
+pub mod Numbers
+pub mod Parses
+pub mod Rows
+pub mod Rules
+pub mod Slices
+pub mod Steps
+pub mod Texts
+pub mod Walks
+pub mod Whole
+pub mod Ranges

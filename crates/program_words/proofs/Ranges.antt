@@ -1,0 +1,59 @@
+-- The numbers of a command lie in their ranges.
+use Rattle.std.proofs.Common.{◌≡◌, ◌≤◌, ◌&&◌, ℕ, Bool, true, false, nat_le, List, [], ◌∷◌, Option, Some, None, option_and_then, refl, cond, subst}
+use Rattle.std.proofs.Common.{arith, leb-true}
+use Rattle.program_words.specs.Tables.{choices, range_of, verb_of}
+use Rattle.program_words.specs.Words.{are_options, are_well_formed, asked, asked_by, command_of, is_given, is_short_numeral, number_of, text_of, ticks_of}
+use Rattle.program_words.specs.Words.{IsWithin}
+use Rattle.program_words.specs.declared.choice.Choice.{Choice}
+use Rattle.program_words.specs.declared.choice.Choice.TheVariants.{Ticks, Seed, Parties, Events}
+use Rattle.program_words.specs.declared.command.Command.{Command}
+use Rattle.program_words.specs.declared.verb.Verb.{Verb}
+use Rattle.program_words.specs.declared.verb.Verb.TheVariants.{Check, Run, Race, Audit, Make, Gen}
+use Rattle.program_words.proofs.Names.{both}
+use Rattle.program_words.proofs.Texts.{has_number}
+
+number_within : (c : Choice) (ends : ℕ × ℕ) (row : List Choice) (words : List (List ℕ)) → range_of c ≡ Some ends → are_options row None words ≡ true
+    → is_given c words ≡ true → (ends.0 ≤ number_of c words) × (number_of c words ≤ ends.1)
+number_within c ends row words range ok given =
+    let number = both (is_short_numeral (text_of c words)) _ (has_number row c ends None words range ok given) in
+    let ends_are = both (nat_le ends.0 (number_of c words)) _ number.1 in
+    (leb-true ends.0 (number_of c words) ends_are.0, leb-true (number_of c words) ends.1 ends_are.1)
+
+ticks_within : (row : List Choice) (words : List (List ℕ)) → are_options row None words ≡ true → (1 ≤ ticks_of words) × (ticks_of words ≤ 1000)
+ticks_within row words ok = go (is_given Ticks words) refl
+  where
+    go : (g : Bool) → is_given Ticks words ≡ g → (1 ≤ ticks_of words) × (ticks_of words ≤ 1000)
+    go true given = rw given (number_within Ticks (1, 1000) row words refl ok given)
+    go false given = rw given (omega arith, omega arith)
+
+pub asked_within : (verb : Verb) (words : List (List ℕ)) → are_well_formed verb words ≡ true → IsWithin (asked verb words)
+asked_within Check words whole = tt
+asked_within Run words whole = tt
+asked_within Race words whole = ticks_within (choices Race) words (both _ _ whole).0
+asked_within Audit words whole = tt
+asked_within Make words whole = tt
+asked_within Gen words whole =
+    let ok = (both _ _ whole).0 in
+    let seed_on = both (is_given Seed words) _ (both _ _ whole).1 in
+    let parties_on = both (is_given Parties words) _ seed_on.1 in
+    let events_on = both (is_given Events words) _ parties_on.1 in
+    let parties = number_within Parties (2, 24) (choices Gen) words refl ok parties_on.0 in
+    let events = number_within Events (0, 200000) (choices Gen) words refl ok events_on.0 in
+    (parties.0, parties.1, events.1)
+
+by_verb : (words : List (List ℕ)) (verb : Option Verb) (command : Command) → option_and_then (asked_by words) verb ≡ Some command → IsWithin command
+by_verb words None command is = absurd (cc is)
+by_verb words (Some verb) command is = go (are_well_formed verb words) refl
+  where
+    go : (b : Bool) → are_well_formed verb words ≡ b → IsWithin command
+    go true whole =
+        let whole_is : ◌≡◌ {A = Option Command} (Some (asked verb words)) (Some command) = rw whole at is in
+        let same : asked verb words ≡ command = cc whole_is in
+        subst IsWithin same (asked_within verb words whole)
+    go false wrong =
+        let none : ◌≡◌ {A = Option Command} None (Some command) = rw wrong at is in
+        absurd (cc none)
+
+pub command_within : (words : List (List ℕ)) (command : Command) → command_of words ≡ Some command → IsWithin command
+command_within [] command is = absurd (cc is)
+command_within (word ∷ words) command is = by_verb words (verb_of word) command is

@@ -1,0 +1,120 @@
+-- Which words are well formed, and what they ask for.
+use Rattle.std.specs.Prelude.{◌≤◌, ℕ, Bool, true, false, not, ◌==◌, ◌&&◌, List, [], ◌∷◌, length, nat_le, Option, Some, None, if◌then◌else◌, option_map}
+use Rattle.std.specs.Prelude.{option_and_then, find, unwrap_or}
+use Rattle.std.specs.List.{list_all, list_any, before_first, after_first}
+use Rattle.std.specs.Str.{bytes_eq}
+use Rattle.std.specs.Str.Parse.{digits_value}
+use Rattle.std.specs.Char.{is_ascii_digit}
+use Rattle.program_words.specs.Tables.{choices, needed, range_of, verb_of, word_of}
+use Rattle.program_words.specs.declared.choice.Choice.{Choice}
+use Rattle.program_words.specs.declared.choice.Choice.TheVariants.{Ticks, Transcript, Seed, Parties, Events, Summary}
+use Rattle.program_words.specs.declared.well_formed.Verdict.{Verdict}
+use Rattle.program_words.specs.declared.well_formed.Verdict.TheVariants.{Wrong, Done, Waits}
+use Rattle.program_words.specs.declared.verb.Verb.{Verb}
+use Rattle.program_words.specs.declared.verb.Verb.TheVariants.{Check, Run, Race, Audit, Make, Gen}
+use Rattle.program_words.specs.declared.command.Command.{Command}
+use Rattle.program_words.specs.declared.command.Command.TheVariants as command
+
+-- ---- one word
+
+abbrev pub is_equals : ℕ → Bool
+is_equals byte = byte == 61
+
+-- what stands before the first `=` of a word, and what stands behind it where there is one
+abbrev pub front : List ℕ → List ℕ
+front word = before_first is_equals word
+
+abbrev pub behind : List ℕ → Option (List ℕ)
+behind word = if list_any is_equals word then Some (after_first is_equals word) else None
+
+-- the word is the option's, alone or with something behind `=`
+abbrev pub names : List ℕ → Choice → Bool
+names word choice = bytes_eq (word_of choice) (front word)
+
+-- the text has 1 to 10 decimal digits and nothing else
+abbrev pub is_short_numeral : List ℕ → Bool
+is_short_numeral text = nat_le 1 (length text) && nat_le (length text) 10 && list_all is_ascii_digit text
+
+-- and its number lies in the range
+abbrev pub is_number : ℕ × ℕ → List ℕ → Bool
+is_number range text = is_short_numeral text && (nat_le range.0 (digits_value 10 text) && nat_le (digits_value 10 text) range.1)
+
+-- ---- well-formed words: a word is wrong, or it is done with, or the number of its option is the next word
+
+-- an option's word, by the numbers that the option takes and by what stands behind `=`
+abbrev pub option_step : Choice → Option (ℕ × ℕ) → Option (List ℕ) → Verdict
+option_step choice None None = Done
+option_step choice None (Some text) = Wrong
+option_step choice (Some range) None = Waits choice
+option_step choice (Some range) (Some text) = if is_number range text then Done else Wrong
+
+abbrev pub fits : Option (ℕ × ℕ) → List ℕ → Bool
+fits None word = false
+fits (Some range) word = is_number range word
+
+abbrev pub named_step : Option Choice → List ℕ → List (List ℕ) → Verdict
+named_step None word later = Wrong
+named_step (Some choice) word later =
+    if list_any (λ other. names other choice) later then Wrong else option_step choice (range_of choice) (behind word)
+
+-- a word, where an option waits for its number or none does; `later` are the words that follow
+abbrev pub step : List Choice → Option Choice → List ℕ → List (List ℕ) → Verdict
+step row None word later = named_step (find (names word) row) word later
+step row (Some choice) word later = if fits (range_of choice) word then Done else Wrong
+
+abbrev pub after : Verdict → (Option Choice → Bool) → Bool
+after Wrong next = false
+after Done next = next None
+after (Waits choice) next = next (Some choice)
+
+-- the words are options of the row, in any order, each at most once, with their numbers
+abbrev pub are_options : List Choice → Option Choice → List (List ℕ) → Bool
+are_options row None [] = true
+are_options row (Some choice) [] = false
+are_options row waiting (word ∷ words) = after (step row waiting word words) (λ next. are_options row next words)
+
+-- the words name the option
+abbrev pub is_given : Choice → List (List ℕ) → Bool
+is_given choice words = list_any (λ word. names word choice) words
+
+abbrev pub are_well_formed : Verb → List (List ℕ) → Bool
+are_well_formed verb words = are_options (choices verb) None words && list_all (λ choice. is_given choice words) (needed verb)
+
+-- ---- what they ask for
+
+abbrev pub first_of : List (List ℕ) → List ℕ
+first_of [] = []
+first_of (word ∷ words) = word
+
+-- the text that an option is given: what stands behind `=`, or the next word
+abbrev pub text_of : Choice → List (List ℕ) → List ℕ
+text_of choice [] = []
+text_of choice (word ∷ words) = if names word choice then unwrap_or (behind word) (first_of words) else text_of choice words
+
+abbrev pub number_of : Choice → List (List ℕ) → ℕ
+number_of choice words = digits_value 10 (text_of choice words)
+
+abbrev pub ticks_of : List (List ℕ) → ℕ
+ticks_of words = if is_given Ticks words then number_of Ticks words else 1
+
+abbrev pub asked : Verb → List (List ℕ) → Command
+asked Check words = command.Check
+asked Run words = command.Run (is_given Transcript words)
+asked Race words = command.Race (ticks_of words) (is_given Transcript words)
+asked Audit words = command.Audit
+asked Make words = command.Make
+asked Gen words = command.Gen (number_of Seed words) (number_of Parties words) (number_of Events words) (is_given Summary words)
+
+abbrev pub asked_by : List (List ℕ) → Verb → Option Command
+asked_by words verb = if are_well_formed verb words then Some (asked verb words) else None
+
+-- the command that the words ask for: no other words are well formed
+abbrev pub command_of : List (List ℕ) → Option Command
+command_of [] = None
+command_of (word ∷ words) = option_and_then (asked_by words) (verb_of word)
+
+-- the numbers of a command lie in their ranges
+abbrev pub IsWithin : Command → Type 0
+IsWithin (command.Race ticks transcript) = (1 ≤ ticks) × (ticks ≤ 1000)
+IsWithin (command.Gen seed parties events summary) = (2 ≤ parties) × (parties ≤ 24) × (events ≤ 200000)
+IsWithin _ = Unit {0}

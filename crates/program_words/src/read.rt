@@ -1,0 +1,186 @@
+//! The command that words ask for.
+
+ghost use Rattle.std.specs.Prelude.{◌≡◌, ◌<◌, ◌^◌, ℕ, IfErr, IfOk, List, None, Ok, Some, drop, false, length, map, string_bytes, true};
+ghost use Rattle.clap.specs.Matches.{found_of, one_text};
+ghost use Rattle.clap.specs.Simple.{app_of};
+ghost use Rattle.clap.specs.Values.{kind_of};
+ghost use Rattle.clap.specs.Walk.{rule_of};
+ghost use Rattle.program_words.specs.Parsed.{AreRead, Numbers, app_for, bare_app, flag_rule, number_rule};
+ghost use Rattle.program_words.specs.Tables.{choices};
+ghost use Rattle.program_words.specs.Words.{are_well_formed, asked, command_of, IsWithin};
+ghost use Rattle.program_words.specs.declared.command.Command.{Command};
+
+use crate::command::Command;
+use crate::verb::{Verb, verb_of};
+use crate::well_formed::are_well_formed;
+use clap::error::ErrorKind;
+use clap::{Arg, ArgAction, ArgMatches, Error};
+use std::alloc::{AllocError, Global};
+use swap_base::NoMemory;
+
+/// A command with no options yet, and none for help.
+fn bare<'a>(alloc: Global, name: &'a str) -> clap::Command<'a>
+    ensures { app_of result ≡ bare_app name.entry.now }
+{
+    clap::Command::new(alloc, name).disable_help_flag(true)
+}
+
+/// An option that takes no number.
+fn flag<'a>(alloc: Global, name: &'a str) -> Arg<'a>
+    ensures rule { rule_of result ≡ flag_rule name.entry.now }
+    ensures own { result.global ≡ false }
+{
+    Arg::new(alloc, name).long(name).action(ArgAction::SetTrue)
+}
+
+/// An option that takes a number.
+fn number<'a>(alloc: Global, name: &'a str) -> Arg<'a>
+    ensures rule { rule_of result ≡ number_rule name.entry.now }
+    ensures own { result.global ≡ false }
+{
+    Arg::new(alloc, name).long(name)
+}
+
+fn run_command<'a>(alloc: Global) -> Result<clap::Command<'a>, AllocError>
+    ensures { IfOk result (λ command. app_of command ≡ app_for Verb.Run) }
+{
+    bare(alloc, "run").arg(flag(alloc, "transcript"))
+}
+
+fn race_command<'a>(alloc: Global) -> Result<clap::Command<'a>, AllocError>
+    ensures { IfOk result (λ command. app_of command ≡ app_for Verb.Race) }
+{
+    bare(alloc, "race")
+        .arg(number(alloc, "ticks"))?
+        .arg(flag(alloc, "transcript"))
+}
+
+fn gen_command<'a>(alloc: Global) -> Result<clap::Command<'a>, AllocError>
+    ensures { IfOk result (λ command. app_of command ≡ app_for Verb.Gen) }
+{
+    bare(alloc, "gen")
+        .arg(number(alloc, "seed"))?
+        .arg(number(alloc, "parties"))?
+        .arg(number(alloc, "events"))?
+        .arg(flag(alloc, "summary"))
+}
+
+/// The command line of a first word.
+fn command_for<'a>(alloc: Global, verb: Verb) -> Result<clap::Command<'a>, AllocError>
+    ensures { IfOk result (λ command. app_of command ≡ app_for verb) }
+{
+    match verb {
+        Verb::Check => Ok(bare(alloc, "check")),
+        Verb::Run => run_command(alloc),
+        Verb::Race => race_command(alloc),
+        Verb::Audit => Ok(bare(alloc, "audit")),
+        Verb::Make => Ok(bare(alloc, "make")),
+        Verb::Gen => gen_command(alloc),
+    }
+}
+
+/// What the words give the options of their first word. It fails for want of memory alone.
+fn matches_of<'a>(alloc: Global, verb: Verb, words: &'a [String]) -> Result<ArgMatches<'a>, Error>
+    requires some { 0 < length words.now }
+    requires whole { are_well_formed verb (map string_bytes (drop 1 words.now)) ≡ true }
+    ensures read { IfOk result (AreRead (choices verb) (map string_bytes (drop 1 words.now))) }
+    ensures memory { IfErr result (λ error. kind_of error ≡ ErrorKind.OutOfMemory) }
+{
+    let command = command_for(alloc, verb)?;
+    match command.try_get_matches_from(words) {
+        Ok(matches) => Ok(matches),
+        Err(error) => Err(error),
+    }
+}
+
+/// The number of an option, where it is given.
+fn number_in(matches: &ArgMatches<'_>, name: &str) -> Option<u32>
+    ensures none { one_text (found_of matches.now) name.now ≡ None → result ≡ None }
+    ensures number { Numbers (2 ^ 32) (one_text (found_of matches.now) name.now) result }
+{
+    matches.get_one(name)
+}
+
+/// The same of an option whose numbers are small.
+fn small_number_in(matches: &ArgMatches<'_>, name: &str) -> Option<u8>
+    ensures none { one_text (found_of matches.now) name.now ≡ None → result ≡ None }
+    ensures number { Numbers (2 ^ 8) (one_text (found_of matches.now) name.now) result }
+{
+    matches.get_one(name)
+}
+
+fn run_in(matches: &ArgMatches<'_>) -> Command
+    ensures { (words : List (List ℕ)) → are_well_formed Verb.Run words ≡ true → AreRead (choices Verb.Run) words matches.now → result ≡ asked Verb.Run words }
+{
+    Command::Run {
+        transcript: matches.get_flag("transcript"),
+    }
+}
+
+fn race_in(matches: &ArgMatches<'_>) -> Command
+    ensures { (words : List (List ℕ)) → are_well_formed Verb.Race words ≡ true → AreRead (choices Verb.Race) words matches.now
+        → result ≡ asked Verb.Race words }
+{
+    Command::Race {
+        ticks: number_in(matches, "ticks").unwrap_or(1),
+        transcript: matches.get_flag("transcript"),
+    }
+}
+
+fn gen_in(matches: &ArgMatches<'_>) -> Command
+    ensures { (words : List (List ℕ)) → are_well_formed Verb.Gen words ≡ true → AreRead (choices Verb.Gen) words matches.now → result ≡ asked Verb.Gen words }
+{
+    Command::Gen {
+        seed: number_in(matches, "seed").unwrap_or(0),
+        parties: small_number_in(matches, "parties").unwrap_or(0),
+        events: number_in(matches, "events").unwrap_or(0),
+        summary: matches.get_flag("summary"),
+    }
+}
+
+/// The command, with the values of its options.
+fn command_in(verb: Verb, matches: &ArgMatches<'_>) -> Command
+    ensures { (words : List (List ℕ)) → are_well_formed verb words ≡ true → AreRead (choices verb) words matches.now → result ≡ asked verb words }
+{
+    match verb {
+        Verb::Check => Command::Check,
+        Verb::Run => run_in(matches),
+        Verb::Race => race_in(matches),
+        Verb::Audit => Command::Audit,
+        Verb::Make => Command::Make,
+        Verb::Gen => gen_in(matches),
+    }
+}
+
+/// Reads the command of well-formed words.
+fn read_whole(alloc: Global, verb: Verb, words: &[String]) -> Result<Command, NoMemory>
+    requires some { 0 < length words.now }
+    requires whole { are_well_formed verb (map string_bytes (drop 1 words.now)) ≡ true }
+    ensures exact { IfOk result (λ command. command ≡ asked verb (map string_bytes (drop 1 words.now))) }
+    ensures within { IfOk result IsWithin }
+{
+    match matches_of(alloc, verb, words) {
+        Ok(matches) => Ok(command_in(verb, &matches)),
+        Err(_) => Err(NoMemory),
+    }
+}
+
+/// Reads the command that the words after the program's name ask for: `None` where they aren't well formed.
+#[tactic(auto, using(crate::proofs::Whole::no_command, crate::proofs::Whole::wrong_first, crate::proofs::Whole::wrong_rest, crate::proofs::Whole::whole_words))]
+pub fn read_command(alloc: Global, words: &[String]) -> Result<Option<Command>, NoMemory>
+    ensures exact { IfOk result (λ command. command ≡ command_of (map string_bytes words.now)) }
+    // Words that aren't well formed are found without memory.
+    ensures wrong { command_of (map string_bytes words.now) ≡ None → result ≡ Ok None }
+    ensures within { (command : Command) → result ≡ Ok (Some command) → IsWithin command }
+{
+    let [first, rest @ ..] = words else {
+        return Ok(None);
+    };
+    let Some(verb) = verb_of(first.as_str()) else {
+        return Ok(None);
+    };
+    if !are_well_formed(verb, rest) {
+        return Ok(None);
+    }
+    Ok(Some(read_whole(alloc, verb, words)?))
+}

@@ -1,0 +1,159 @@
+use super::*;
+use std::alloc::Global;
+use std::process::Abort;
+use std::test::Fail;
+
+/// The words that stand between single blanks.
+fn words_in(alloc: Global, text: &str) -> Result<Vec<String>, Fail> {
+    let mut words = Vec::new(alloc);
+    for word in text.split(" ") {
+        words.push(String::from_str(alloc, word)?)?;
+    }
+    Ok(words)
+}
+
+/// The command that the words ask for, or that they are wrong.
+fn told(alloc: Global, text: &str) -> Result<String, Fail> {
+    let words = words_in(alloc, text)?;
+    match read_command(alloc, &words)? {
+        Some(command) => Ok(format!(in alloc; "{command:?}")?),
+        None => Ok(String::from_str(alloc, "wrong")?),
+    }
+}
+
+fn answers(rt: &impl Abort, alloc: Global, table: &str) -> Result<(), Fail> {
+    for row in table.lines() {
+        let (words, wanted) = row.split_once(" => ").ok_or("no row")?;
+        let answer = told(alloc, words)?;
+        assert_eq!(rt; answer.as_str(), wanted, "{row}");
+    }
+    Ok(())
+}
+
+const COMMANDS: &str = "\
+check => Check
+run => Run { transcript: false }
+run --transcript => Run { transcript: true }
+race => Race { ticks: 1, transcript: false }
+race --transcript => Race { ticks: 1, transcript: true }
+race --ticks 7 => Race { ticks: 7, transcript: false }
+race --ticks=7 => Race { ticks: 7, transcript: false }
+race --ticks 7 --transcript => Race { ticks: 7, transcript: true }
+race --transcript --ticks 7 => Race { ticks: 7, transcript: true }
+race --ticks=7 --transcript => Race { ticks: 7, transcript: true }
+race --transcript --ticks=7 => Race { ticks: 7, transcript: true }
+audit => Audit
+make => Make
+gen --seed 1 --parties 2 --events 3 => Gen { seed: 1, parties: 2, events: 3, summary: false }
+gen --seed=1 --parties=2 --events=3 => Gen { seed: 1, parties: 2, events: 3, summary: false }
+gen --summary --events 3 --parties=2 --seed 1 => Gen { seed: 1, parties: 2, events: 3, summary: true }
+gen --events=3 --summary --seed=1 --parties 2 => Gen { seed: 1, parties: 2, events: 3, summary: true }
+gen --parties 2 --seed 1 --summary --events 3 => Gen { seed: 1, parties: 2, events: 3, summary: true }";
+
+const NUMBERS: &str = "\
+race --ticks 0 => wrong
+race --ticks 1 => Race { ticks: 1, transcript: false }
+race --ticks 1000 => Race { ticks: 1000, transcript: false }
+race --ticks 1001 => wrong
+race --ticks=1001 => wrong
+race --ticks 0000001000 => Race { ticks: 1000, transcript: false }
+race --ticks 00000001000 => wrong
+race --ticks=0000000001 => Race { ticks: 1, transcript: false }
+race --ticks=00000000001 => wrong
+race --ticks +7 => wrong
+race --ticks=+7 => wrong
+race --ticks -7 => wrong
+race --ticks=-7 => wrong
+race --ticks 7x => wrong
+race --ticks 0x7 => wrong
+race --ticks 7.0 => wrong
+race --ticks ٧ => wrong
+race --ticks= => wrong
+race --ticks  => wrong
+race --ticks =7 => wrong
+race --ticks==7 => wrong
+race --ticks=7=7 => wrong
+gen --seed 0 --parties 24 --events 200000 => Gen { seed: 0, parties: 24, events: 200000, summary: false }
+gen --seed 4294967295 --parties 2 --events 0 => Gen { seed: 4294967295, parties: 2, events: 0, summary: false }
+gen --seed 4294967296 --parties 2 --events 0 => wrong
+gen --seed 9999999999 --parties 2 --events 0 => wrong
+gen --seed 04294967295 --parties 2 --events 0 => wrong
+gen --seed 0 --parties 1 --events 0 => wrong
+gen --seed 0 --parties 25 --events 0 => wrong
+gen --seed 0 --parties 258 --events 0 => wrong
+gen --seed 0 --parties 0000000002 --events 0 => Gen { seed: 0, parties: 2, events: 0, summary: false }
+gen --seed 0 --parties 2 --events 200001 => wrong";
+
+const WRONG: &str = "\
+Check => wrong
+ => wrong
+ check => wrong
+check  => wrong
+chec => wrong
+checks => wrong
+help => wrong
+-h => wrong
+--help => wrong
+--version => wrong
+-- => wrong
+--transcript run => wrong
+check check => wrong
+check run => wrong
+check -- => wrong
+check -h => wrong
+check --help => wrong
+check -V => wrong
+check --version => wrong
+check --transcript => wrong
+run -- => wrong
+run -h => wrong
+run --help => wrong
+run --version => wrong
+run help => wrong
+run  => wrong
+run transcript => wrong
+run -transcript => wrong
+run --transcrip => wrong
+run --transcripts => wrong
+run --Transcript => wrong
+run --transcript= => wrong
+run --transcript=true => wrong
+run --transcript true => wrong
+run --transcript --transcript => wrong
+run --transcript -- => wrong
+run -- --transcript => wrong
+run --ticks 7 => wrong
+run --summary => wrong
+race --ticks => wrong
+race --transcript --ticks => wrong
+race --ticks --transcript => wrong
+race --ticks --ticks 7 => wrong
+race --ticks 7 --ticks 7 => wrong
+race --ticks 7 --ticks=8 => wrong
+race --ticks=7 --transcript --ticks=7 => wrong
+race --ticks 7 8 => wrong
+race 7 => wrong
+race --seed 7 => wrong
+audit --transcript => wrong
+audit job => wrong
+make --seed 1 => wrong
+gen => wrong
+gen --summary => wrong
+gen --seed 1 --parties 2 => wrong
+gen --seed 1 --events 3 => wrong
+gen --parties 2 --events 3 --summary => wrong
+gen --seed 1 --parties 2 --events => wrong
+gen --seed --parties 2 --events 3 => wrong
+gen --seed 1 --parties 2 --events 3 --seed 1 => wrong
+gen --summary --seed 1 --parties 2 --events 3 --summary => wrong
+gen --seed 1 --parties 2 --events 3 --transcript => wrong
+gen --seed 1 --parties 2 --events 3 --ticks 1 => wrong";
+
+#[test]
+fn words_ask_for_commands(rt: HostRuntime) -> Result<(), Fail> {
+    answers(&rt, rt.alloc(), COMMANDS)?;
+    answers(&rt, rt.alloc(), NUMBERS)?;
+    answers(&rt, rt.alloc(), WRONG)?;
+    assert!(rt; read_command(rt.alloc(), &[])?.is_none());
+    Ok(())
+}

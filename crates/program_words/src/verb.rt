@@ -1,0 +1,61 @@
+//! The first words of the commands.
+
+ghost use Rattle.std.specs.Prelude.{◌≡◌};
+ghost use Rattle.program_words.specs.Tables.{choices, needed, verb_of};
+
+use crate::choice::Choice;
+
+/// The first word of a command.
+#[derive(Clone, Copy, Debug, PartialEq, Eq)]
+pub(crate) enum Verb {
+    Check,
+    Run,
+    Race,
+    Audit,
+    Make,
+    Gen,
+}
+
+/// The command that the first word asks for.
+pub(crate) fn verb_of(word: &str) -> Option<Verb>
+    ensures { result ≡ verb_of word.now }
+{
+    match word {
+        "check" => Some(Verb::Check),
+        "run" => Some(Verb::Run),
+        "race" => Some(Verb::Race),
+        "audit" => Some(Verb::Audit),
+        "make" => Some(Verb::Make),
+        "gen" => Some(Verb::Gen),
+        _ => None,
+    }
+}
+
+impl Verb {
+    /// The options that may follow the word.
+    pub(crate) fn choices(self) -> &'static [Choice]
+        ensures { result.now ≡ choices self }
+    {
+        match self {
+            Verb::Check | Verb::Audit | Verb::Make => &[],
+            Verb::Run => &[Choice::Transcript],
+            Verb::Race => &[Choice::Ticks, Choice::Transcript],
+            Verb::Gen => &[
+                Choice::Seed,
+                Choice::Parties,
+                Choice::Events,
+                Choice::Summary,
+            ],
+        }
+    }
+
+    /// The options that must follow the word.
+    pub(crate) fn needed(self) -> &'static [Choice]
+        ensures { result.now ≡ needed self }
+    {
+        match self {
+            Verb::Gen => &[Choice::Seed, Choice::Parties, Choice::Events],
+            _ => &[],
+        }
+    }
+}
