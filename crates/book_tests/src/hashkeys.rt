@@ -147,27 +147,54 @@ fn hashkeys_go_around(rt: HostRuntime) -> Result<(), Fail> {
     is_valid_around(&rt, rt.alloc(), &long, 1, 24)
 }
 
+/// Another secret is found before all else.
+fn finds_the_secret(rt: &impl Abort, deal: &Deal, key: &Hashkey) -> Result<(), Fail>
+    requires { IsWellSized deal.now }
+{
+    let mut other = key.copy()?;
+    other.secret[31] = 8;
+    assert!(rt; answer(rt, deal, 0, &other) == HashkeyAnswer::WrongSecret);
+    Ok(())
+}
+
+/// A path of another arc's, one that goes around twice, and one with fewer signatures.
+fn finds_the_path(rt: &impl Abort, alloc: Global, deal: &Deal, key: &Hashkey) -> Result<(), Fail>
+    requires { IsWellSized deal.now }
+{
+    let around = longer(rt, alloc, deal, key, 0)?;
+    let short = without_last_signature(key)?;
+    assert!(rt; answer(rt, deal, 1, key) == HashkeyAnswer::WrongPath);
+    assert!(rt; answer(rt, deal, 2, &around) == HashkeyAnswer::WrongPath);
+    assert!(rt; answer(rt, deal, 0, &short) == HashkeyAnswer::WrongPath);
+    Ok(())
+}
+
+/// Where the signature at that place is changed, the one at the least place is found to be wrong.
+fn finds_the_signature(
+    rt: &impl Abort,
+    deal: &Deal,
+    key: &Hashkey,
+    place: usize,
+    least: u8,
+) -> Result<(), Fail>
+    requires { IsWellSized deal.now }
+{
+    let changed = with_changed_signature(key, place)?;
+    let answer = answer(rt, deal, 0, &changed);
+    assert!(rt; answer == HashkeyAnswer::WrongSignature(least), "{place}");
+    Ok(())
+}
+
 #[test]
 fn the_first_fault_is_named(rt: HostRuntime) -> Result<(), Fail> {
     let deal = deal_of(rt.alloc(), rings::three())?;
     let key = chain(&rt, rt.alloc(), &deal, 1)?;
-    let mut other = key.copy()?;
-    other.secret[31] = 8;
-    let around = longer(&rt, rt.alloc(), &deal, &key, 0)?;
-    let short = without_last_signature(&key)?;
-    assert_eq!(rt; answer(&rt, &deal, 0, &other), HashkeyAnswer::WrongSecret);
-    assert_eq!(rt; answer(&rt, &deal, 1, &key), HashkeyAnswer::WrongPath);
-    assert_eq!(rt; answer(&rt, &deal, 2, &around), HashkeyAnswer::WrongPath);
-    assert_eq!(rt; answer(&rt, &deal, 0, &short), HashkeyAnswer::WrongPath);
+    finds_the_secret(&rt, &deal, &key)?;
+    finds_the_path(&rt, rt.alloc(), &deal, &key)?;
     // A signature is part of what the one before it signs.
-    for (place, least) in [(0, 0), (1, 0), (2, 1)] {
-        let changed = with_changed_signature(&key, place)?;
-        assert_eq!(rt;
-            answer(&rt, &deal, 0, &changed),
-            HashkeyAnswer::WrongSignature(least)
-        );
-    }
-    Ok(())
+    finds_the_signature(&rt, &deal, &key, 0, 0)?;
+    finds_the_signature(&rt, &deal, &key, 1, 0)?;
+    finds_the_signature(&rt, &deal, &key, 2, 1)
 }
 
 /// What another program gives.

@@ -1,10 +1,11 @@
 //! Schedules in words, and what is found of the books that they make.
 
-ghost use Rattle.std.specs.Prelude.{◌≡◌, IfOk, All};
-ghost use Rattle.deviator_script.specs.Step.{CanStep};
+ghost use Rattle.std.specs.Prelude.{◌≡◌, true, IfOk, All};
+ghost use Rattle.deviator_script.specs.Step.{IsEventOf};
 ghost use Rattle.swap_rules.specs.Accepted.{IsAccepted};
 ghost use Rattle.ledger_core.specs.Book.{IsLegalBook};
 ghost use Rattle.party_wallet.specs.Wallets.{wallets_of};
+ghost use Rattle.offer_events.specs.Event.{needs_seeds};
 ghost use Rattle.swap_offer.specs.Job.{IsWhole};
 ghost use Rattle.swap_offer.specs.Wallets.{HaveWallets};
 
@@ -21,13 +22,11 @@ use swap_offer::{Prepared, filled_lines, next_event, read_header};
 use swap_world::World;
 use transcript_text::report_text;
 
-/// A schedule, the names of those who are taken as conforming, and a part of the report.
-pub(crate) type Row = (&'static str, &'static str, &'static str);
-
 /// The events of a job's lines.
 fn events_of(alloc: Global, job: &Job, lines: &[(u32, &[u8])]) -> Result<Vec<Event>, Fail>
-    requires { IsWhole job.now }
-    ensures { IfOk result (λ v. All (CanStep job.now.deal job.now.conforming) v.items) }
+    requires whole { IsWhole job.now }
+    requires seeds { needs_seeds job.now.purpose ≡ true }
+    ensures { IfOk result (λ v. All (IsEventOf job.now) v.items) }
 {
     let mut events = Vec::new(alloc);
     'lines: for line in lines {
@@ -46,6 +45,7 @@ pub(crate) fn book_of(
     schedule: &str,
 ) -> Result<Book, Fail>
     requires whole { IsWhole job.now }
+    requires seeds { needs_seeds job.now.purpose ≡ true }
     requires accepted { IsAccepted job.now.deal }
     requires wallets { HaveWallets job.now }
     requires made { wallets.items ≡ wallets_of job.now.deal job.now.conforming job.now.seeds }
@@ -93,28 +93,59 @@ fn told(
     Ok(report_text(alloc, &job, &book, &report)?)
 }
 
-/// Each row's part stands between the parties, who all are open, and the ledgers that are unfinished.
-pub(crate) fn finds(
+/// The report of the book of a row's first two parts.
+fn told_of_row(
     rt: &impl Abort,
     alloc: Global,
     header: &str,
-    rows: &[Row],
-) -> Result<(), Fail> {
-    for (schedule, taken, found) in rows {
-        let report = told(rt, alloc, header, schedule, taken)?;
-        let text = str::from_utf8(report.as_slice())?;
-        let part = format!(in alloc; "open\n{found}unfinished ")?;
-        assert!(rt; text.contains(part.as_str()), "{schedule}\n{text}");
+    asked: &str,
+) -> Result<ByteText, Fail> {
+    let (schedule, taken) = asked.split_once(" => ").ok_or("no row")?;
+    told(rt, alloc, header, schedule, taken)
+}
+
+/// The members of a list that are parted by commas, on a line each; the word `nothing` stands for no line.
+fn on_lines(alloc: Global, list: &str) -> Result<String, Fail> {
+    if list == "nothing" {
+        return Ok(String::from_str(alloc, "")?);
+    }
+    let mut lines = list.replace(alloc, ", ", "\n")?;
+    lines.push('\n')?;
+    Ok(lines)
+}
+
+/// Whether just the findings of a list stand between the parties of a report, who all are open, and the ledgers that are unfinished.
+fn is_found(alloc: Global, report: &ByteText, found: &str) -> Result<bool, Fail> {
+    let text = str::from_utf8(report.as_slice())?;
+    let lines = on_lines(alloc, found)?;
+    let part = format!(in alloc; "open\n{lines}unfinished ")?;
+    Ok(text.contains(part.as_str()))
+}
+
+/// Each row has a schedule, the names of those who are taken as conforming, and what stands in the report between the parties,
+/// who all are open, and the ledgers that are unfinished: `SCHEDULE => NAMES => FINDINGS`. A line with `#` heads the rows below it.
+pub(crate) fn finds(rt: &impl Abort, alloc: Global, header: &str, table: &str) -> Result<(), Fail> {
+    for row in table.lines().filter(|row| !row.starts_with('#')) {
+        let (asked, found) = row.rsplit_once(" => ").ok_or("no row")?;
+        let report = told_of_row(rt, alloc, header, asked)?;
+        assert!(rt; is_found(alloc, &report, found)?, "{row}");
     }
     Ok(())
 }
 
-/// Each row's part ends the report.
-pub(crate) fn ends(rt: &impl Abort, alloc: Global, header: &str, rows: &[Row]) -> Result<(), Fail> {
-    for (schedule, taken, end) in rows {
-        let report = told(rt, alloc, header, schedule, taken)?;
-        let text = str::from_utf8(report.as_slice())?;
-        assert!(rt; text.ends_with(*end), "{schedule}\n{text}");
+/// Whether a report ends with the lines of a list.
+fn is_end(alloc: Global, report: &ByteText, end: &str) -> Result<bool, Fail> {
+    let text = str::from_utf8(report.as_slice())?;
+    let lines = on_lines(alloc, end)?;
+    Ok(text.ends_with(lines.as_str()))
+}
+
+/// The same, where the last part of each row has the lines that end the report.
+pub(crate) fn ends(rt: &impl Abort, alloc: Global, header: &str, table: &str) -> Result<(), Fail> {
+    for row in table.lines().filter(|row| !row.starts_with('#')) {
+        let (asked, end) = row.rsplit_once(" => ").ok_or("no row")?;
+        let report = told_of_row(rt, alloc, header, asked)?;
+        assert!(rt; is_end(alloc, &report, end)?, "{row}");
     }
     Ok(())
 }

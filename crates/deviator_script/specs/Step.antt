@@ -1,11 +1,14 @@
 -- Events that a world of the deal can take.
-use Rattle.std.specs.Prelude.{◌≡◌, ◌==◌, ◌||◌, ◌<◌, ◌≤◌, ℕ, Bool, false, List, IsTrue, length, slice_index_or}
+use Rattle.std.specs.Prelude.{◌≡◌, ◌<◌, ◌≤◌, ℕ, Bool, false, List, IsTrue, length, slice_index_or}
 use Rattle.swap_digraph.specs.declared.deal.Deal.{Deal}
-use Rattle.swap_digraph.specs.Deal.{party, counterparty}
 use Rattle.deviator_script.specs.declared.event.Event.{Event}
 use Rattle.deviator_script.specs.declared.event.Event.TheVariants.{Tick, Look, Act, Call}
+use Rattle.deviator_script.specs.declared.job.Job.{Job}
 use Rattle.deviator_script.specs.declared.moves.Move.{Move}
-use Rattle.deviator_script.specs.Resolved.{IsFitting}
+use Rattle.deviator_script.specs.Crafted.{Seeds}
+use Rattle.deviator_script.specs.Fitting.{IsFitting}
+use Rattle.deviator_script.specs.Resolved.{arc_of}
+use Rattle.deviator_script.specs.View.{is_near}
 
 -- The arc's ledger may tick by k heights.
 pub record CanTick (d : Deal) (a k : ℕ) : Type 0 where
@@ -17,17 +20,22 @@ pub record CanTick (d : Deal) (a k : ℕ) : Type 0 where
 pub record CanLook (d : Deal) (p a : ℕ) : Type 0 where
   pub known : p < d.graph.n
   pub arc : a < length d.graph.arcs
-  pub adjacent : IsTrue ((p == party d a) || (p == counterparty d a))
+  pub adjacent : IsTrue (is_near d p a)
 
--- The party, which doesn't conform, may make the move, whose call fits.
-pub record CanCall (d : Deal) (conforming : List Bool) (p : ℕ) (mv : Move) : Type 0 where
+-- The party, which doesn't conform, may make the move, which fits and stands on an arc that touches it.
+pub record CanCall (d : Deal) (conforming : List Bool) (seeds : Seeds) (p : ℕ) (mv : Move) : Type 0 where
   pub known : p < d.graph.n
   pub deviates : slice_index_or conforming p false ≡ false
-  pub fits : IsFitting d p mv
+  pub fits : IsFitting d seeds mv
+  pub adjacent : IsTrue (is_near d p (arc_of mv))
 
--- the event may come, whatever came before, where these parties conform
-abbrev pub CanStep : Deal → List Bool → Event → Type 0
-CanStep d conforming (Tick a k) = CanTick d a k
-CanStep d conforming (Look p a) = CanLook d p a
-CanStep d conforming (Act p) = p < d.graph.n
-CanStep d conforming (Call p mv) = CanCall d conforming p mv
+-- the event may come, whatever came before, where these parties conform and have these seeds
+abbrev pub CanStep : Deal → List Bool → Seeds → Event → Type 0
+CanStep d conforming seeds (Tick a k) = CanTick d a k
+CanStep d conforming seeds (Look p a) = CanLook d p a
+CanStep d conforming seeds (Act p) = p < d.graph.n
+CanStep d conforming seeds (Call p mv) = CanCall d conforming seeds p mv
+
+-- the event may come in the job, whatever came before
+abbrev pub IsEventOf : Job → Event → Type 0
+IsEventOf job event = CanStep job.deal job.conforming job.seeds event

@@ -1,5 +1,8 @@
 //! Moves of a party that doesn't conform.
 
+ghost use Rattle.std.specs.Prelude.{◌≡◌};
+ghost use Rattle.deviator_script.specs.Resolved.{arc_of};
+
 use escrow_core::LockList;
 use hashkey_path::Hashkey;
 use swap_base::{ArcId, Listed, LockId, NoMemory, PartyId, TryCopy};
@@ -18,8 +21,8 @@ pub enum Move {
         amount: Option<u64>,
         locks: Option<LockList>,
     },
-    /// An unlock with a hashkey that is made anew by the parties of `via`, the last one first, from their seeds; where `onto` is given, onto the
-    /// hashkey that opened the lock there.
+    /// An unlock with a hashkey that is made anew by the parties of `via`, the last one first, from their seeds; where `onto` is
+    /// given, onto the hashkey that opened the lock there.
     Craft {
         arc: ArcId,
         lock: LockId,
@@ -57,6 +60,22 @@ pub enum Move {
 
 /// Moves, in the order in which they are made.
 pub type MoveList = Listed<Move>;
+
+/// The arc on which a move stands.
+pub fn arc_of_move(mv: &Move) -> ArcId
+    ensures { result ≡ arc_of mv.now }
+{
+    match mv {
+        Move::Publish { arc, .. } => *arc,
+        Move::Craft { arc, .. } => *arc,
+        Move::Replay { arc, .. } => *arc,
+        Move::Raw { arc, .. } => *arc,
+        Move::Claim { arc } => *arc,
+        Move::Refund { arc } => *arc,
+        Move::Transfer { arc, .. } => *arc,
+        Move::Wait { arc, .. } => *arc,
+    }
+}
 
 impl TryCopy for Move {
     fn copy(&self) -> Result<Move, NoMemory> {

@@ -3,3 +3,4 @@ pub mod Parts
 pub mod Fits
 pub mod Scanned
 pub mod PlainText
+pub mod Crafters

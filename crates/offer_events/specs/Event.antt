@@ -1,18 +1,21 @@
 -- The event that a line asks for, or the first reason against it: its text, its fields, its names, its numbers and texts, and where it stands.
-use Rattle.std.specs.Prelude.{◌==◌, ◌||◌, ℕ, Bool, false, List, codes, slice_index_or, unwrap_or, if◌then◌else◌, Option, Result, Ok, Err}
+use Rattle.std.specs.Prelude.{◌==◌, ◌||◌, ℕ, Bool, true, false, List, [], ◌∷◌, codes, slice_index_or, unwrap_or, if◌then◌else◌, is_some, Option, None}
+use Rattle.std.specs.Prelude.{Result, Ok, Err}
+use Rattle.std.specs.List.{list_any}
 use Rattle.swap_base.specs.Fault.{◌>>=◌}
 use Rattle.swap_digraph.specs.declared.deal.Deal.{Deal}
 use Rattle.swap_digraph.specs.Deal.{party, counterparty}
 use Rattle.deviator_script.specs.declared.job.Job.{Job}
 use Rattle.deviator_script.specs.declared.job.Purpose.{Purpose}
-use Rattle.deviator_script.specs.declared.job.Purpose.TheVariants.{Race}
+use Rattle.deviator_script.specs.declared.job.Purpose.TheVariants.{Check, Race}
 use Rattle.deviator_script.specs.declared.moves.Move.{Move}
-use Rattle.deviator_script.specs.declared.moves.Move.TheVariants.{Transfer}
+use Rattle.deviator_script.specs.declared.moves.Move.TheVariants.{Craft, Transfer}
+use Rattle.deviator_script.specs.Crafted.{Seeds}
 use Rattle.deviator_script.specs.declared.event.Event.{Event}
 use Rattle.deviator_script.specs.declared.event.Event.TheVariants.{Tick, Look, Act, Call}
 use Rattle.deviator_script.specs.Resolved.{arc_of as stands_on}
 use Rattle.refusals.specs.declared.reason.Reason.{Reason}
-use Rattle.refusals.specs.declared.reason.Reason.TheVariants.{NotAdjacent, ConformingCall, EventInRace}
+use Rattle.refusals.specs.declared.reason.Reason.TheVariants.{NotAdjacent, ConformingCall, NoSeed, EventInRace}
 use Rattle.offer_fields.specs.Fields.{object_of}
 use Rattle.offer_fields.specs.Limits.{number_within}
 use Rattle.offer_fields.specs.Names.{party_of_name}
@@ -56,10 +59,33 @@ abbrev pub received : Deal → ℕ → Move → Result (Unit {0}) Reason
 received d line (Transfer a to units) = adjacent d line to a
 received d line _ = Ok tt
 
-unfoldable pub placed : Deal → ℕ → ℕ → Move → Result (Unit {0}) Reason
-placed d line p mv = do
-  u ← adjacent d line p (stands_on mv)
-  received d line mv
+-- no party that crafts a hashkey conforms
+abbrev pub crafted_by_others : List Bool → ℕ → Move → Result (Unit {0}) Reason
+crafted_by_others conforming line (Craft a lock via onto) = deviating line (list_any (λ v. slice_index_or conforming v false) via)
+crafted_by_others conforming line _ = Ok tt
+
+-- each of the parties has a seed, or the first that has none is the reason
+abbrev pub each_seeded : Seeds → List ℕ → Result (Unit {0}) Reason
+each_seeded seeds [] = Ok tt
+each_seeded seeds (v ∷ vs) = if is_some (slice_index_or seeds v None) then each_seeded seeds vs else Err (NoSeed v)
+
+-- a check needs no seeds
+abbrev pub needs_seeds : Purpose → Bool
+needs_seeds Check = false
+needs_seeds _ = true
+
+-- each party that crafts a hashkey has a seed
+abbrev pub crafted_with_seeds : Job → Move → Result (Unit {0}) Reason
+crafted_with_seeds job (Craft a lock via onto) = if needs_seeds job.purpose then each_seeded job.seeds via else Ok tt
+crafted_with_seeds job _ = Ok tt
+
+-- p may make the move where it stands: first its own arc, then who crafts, then who gets units, then the seeds
+unfoldable pub placed : Job → ℕ → ℕ → Move → Result (Unit {0}) Reason
+placed job line p mv = do
+  u ← adjacent job.deal line p (stands_on mv)
+  w ← crafted_by_others job.conforming line mv
+  x ← received job.deal line mv
+  crafted_with_seeds job mv
 
 -- a party that deviates makes a call
 unfoldable pub event_of_call : Job → ℕ → List ℕ → RawMove → Result Event Reason
@@ -67,7 +93,7 @@ event_of_call job line name raw = do
   p ← party_of_name line job.names name
   mv ← move_of job.deal job.names line raw
   u ← deviating line (slice_index_or job.conforming p false)
-  w ← placed job.deal line p mv
+  w ← placed job line p mv
   Ok (Call p mv)
 
 -- the event of what a line says

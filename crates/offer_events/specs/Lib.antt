@@ -3,3 +3,4 @@ pub mod Limits
 pub mod Moves
 pub mod Event
 pub mod Plain
+pub mod Kept

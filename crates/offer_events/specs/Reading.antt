@@ -5,14 +5,15 @@ use Rattle.serde_json.specs.Data.{Data, Items}
 use Rattle.serde_json.specs.Find.{get, as_array}
 use Rattle.swap_base.specs.Fault.{◌>>=◌}
 use Rattle.refusals.specs.declared.reason.Reason.{Reason}
-use Rattle.refusals.specs.declared.reason.Reason.TheVariants.{Missing, WrongKind, NotBuilt}
+use Rattle.refusals.specs.declared.reason.Reason.TheVariants.{Missing, WrongKind}
 use Rattle.offer_fields.specs.Fields.{kind, needed, number_at, text_at, optional_number_at, object_at, only, each, list_at, member_text_of}
 use Rattle.offer_events.specs.declared.raw.RawTerms.{RawTerms}
 use Rattle.offer_events.specs.declared.raw.RawKey.{RawKey}
+use Rattle.offer_events.specs.declared.raw.RawCraft.{RawCraft}
 use Rattle.offer_events.specs.declared.raw.MoveKind.{MoveKind}
 use Rattle.offer_events.specs.declared.raw.MoveKind.TheVariants as kinds
 use Rattle.offer_events.specs.declared.raw.RawMove.{RawMove}
-use Rattle.offer_events.specs.declared.raw.RawMove.TheVariants.{Publish, Raw, Claim, Refund, Transfer}
+use Rattle.offer_events.specs.declared.raw.RawMove.TheVariants.{Publish, Craft, Replay, Raw, Claim, Refund, Transfer}
 use Rattle.offer_events.specs.declared.raw.RawEvent.{RawEvent}
 use Rattle.offer_events.specs.declared.raw.RawEvent.TheVariants.{Tick, Look, Act, Call}
 
@@ -44,8 +45,8 @@ kind_of line word =
     else if bytes_eq word (codes "claim") then Ok kinds.Claim
     else if bytes_eq word (codes "refund") then Ok kinds.Refund
     else if bytes_eq word (codes "transfer") then Ok kinds.Transfer
-    else if bytes_eq word (codes "craft") then Err (NotBuilt line (codes "do"))
-    else if bytes_eq word (codes "replay") then Err (NotBuilt line (codes "do"))
+    else if bytes_eq word (codes "craft") then Ok kinds.Craft
+    else if bytes_eq word (codes "replay") then Ok kinds.Replay
     else Err (WrongKind line (codes "do"))
 
 unfoldable pub kind_at : ℕ → Data → Result MoveKind Reason
@@ -72,6 +73,33 @@ publish_at line arc d = do
   terms ← terms_at line d
   u ← only line publish_fields d
   Ok (Publish arc terms)
+
+-- the lock of a craft, the parties that make its hashkey, and what it goes onto
+unfoldable pub crafting_at : ℕ → Data → Result RawCraft Reason
+crafting_at line d = do
+  lock ← number_at line (codes "lock") d
+  via ← texts_at line (codes "via") d
+  onto ← optional_number_at line (codes "onto") d
+  Ok (record { lock = lock; via = via; onto = onto })
+
+abbrev pub craft_fields : List (List ℕ)
+craft_fields = codes "arc" ∷ codes "do" ∷ codes "lock" ∷ codes "onto" ∷ codes "via" ∷ []
+
+unfoldable pub craft_at : ℕ → ℕ → Data → Result RawMove Reason
+craft_at line arc d = do
+  craft ← crafting_at line d
+  u ← only line craft_fields d
+  Ok (Craft arc craft)
+
+abbrev pub replay_fields : List (List ℕ)
+replay_fields = codes "arc" ∷ codes "do" ∷ codes "lock" ∷ codes "onto" ∷ []
+
+unfoldable pub replay_at : ℕ → ℕ → Data → Result RawMove Reason
+replay_at line arc d = do
+  lock ← number_at line (codes "lock") d
+  onto ← number_at line (codes "onto") d
+  u ← only line replay_fields d
+  Ok (Replay arc lock onto)
 
 -- the hashkey that a raw move presents
 unfoldable pub key_at : ℕ → Data → Result RawKey Reason
@@ -117,6 +145,8 @@ transfer_at line arc d = do
 -- the further fields of a move on that arc
 abbrev pub rest_at : ℕ → MoveKind → ℕ → Data → Result RawMove Reason
 rest_at line kinds.Publish arc d = publish_at line arc d
+rest_at line kinds.Craft arc d = craft_at line arc d
+rest_at line kinds.Replay arc d = replay_at line arc d
 rest_at line kinds.Raw arc d = raw_at line arc d
 rest_at line kinds.Claim arc d = claim_at line arc d
 rest_at line kinds.Refund arc d = refund_at line arc d

@@ -1,12 +1,14 @@
 //! The event of a line.
 
-ghost use Rattle.std.specs.Prelude.{◌≡◌, ◌==◌, ◌||◌, ◌<◌, ◌≤◌, ℕ, List, Bool, false, length, slice_index_or, IfOk};
+ghost use Rattle.std.specs.Prelude.{◌≡◌, ◌≢◌, ◌==◌, ◌||◌, ◌<◌, ◌≤◌, ℕ, List, Bool, true, false, nat_lt, length, slice_index_or, IsTrue, IfOk};
+ghost use Rattle.std.specs.List.{list_all, list_any};
 ghost use Rattle.swap_base.specs.Fault.{Gives};
 ghost use Rattle.swap_digraph.specs.Deal.{IsWellSized, party, counterparty};
 ghost use Rattle.deviator_script.specs.Resolved.{arc_of as stands_on};
-ghost use Rattle.deviator_script.specs.Step.{CanStep};
+ghost use Rattle.deviator_script.specs.Step.{IsEventOf};
 ghost use Rattle.offer_events.specs.Event.{event_of_tick, deviating, adjacent, event_of_look, event_of_act, received, placed, event_of_call, checked};
-ghost use Rattle.offer_events.specs.Event.{outside_race, asked, event_of};
+ghost use Rattle.offer_events.specs.Event.{outside_race, asked, event_of, crafted_by_others, each_seeded, needs_seeds, crafted_with_seeds};
+ghost use Rattle.offer_events.specs.Kept.{AreCraftersBelow};
 
 use crate::moves::{arc_of, move_of};
 use crate::plain::plain_event;
@@ -16,7 +18,7 @@ use deviator_script::{Event, Job, Move, Purpose, arc_of_move};
 use offer_fields::{number_within, object_in, party_of_name};
 use refusals::{OfferFault, Reason};
 use std::alloc::Global;
-use swap_base::{ArcId, Fault, PartyId};
+use swap_base::{ArcId, Digest, Fault, PartyId};
 use swap_digraph::Deal;
 
 #[tactic(auto, unfolding(crate::specs::Event::event_of_tick))]
@@ -96,13 +98,82 @@ fn check_receiver(deal: &Deal, line: u32, mv: &Move) -> Result<(), OfferFault>
     }
 }
 
-#[tactic(auto, unfolding(crate::specs::Event::placed))]
-fn check_place(deal: &Deal, line: u32, p: PartyId, mv: &Move) -> Result<(), OfferFault>
-    requires arc { stands_on mv.now < length deal.now.graph.arcs }
-    ensures { Gives (λ u. u) result (placed deal.now line p mv.now) }
+/// Whether one of the parties conforms.
+#[tactic(auto, using(crate::proofs::Crafters::none_yet, crate::proofs::Crafters::one_found, crate::proofs::Crafters::none_at_all))]
+fn any_conforms(conforming: &[bool], via: &[PartyId]) -> bool
+    requires via { IsTrue (list_all (λ v. nat_lt v (length conforming.now)) via.now) }
+    ensures { result ≡ list_any (λ v. slice_index_or conforming.now v false) via.now }
 {
-    check_adjacent(deal, line, p, arc_of_move(mv))?;
-    check_receiver(deal, line, mv)
+    for v in via {
+        if conforming[*v as usize] {
+            return true;
+        }
+    }
+    false
+}
+
+/// No party that crafts a hashkey conforms.
+fn check_crafters(line: u32, conforming: &[bool], mv: &Move) -> Result<(), OfferFault>
+    requires via { AreCraftersBelow (length conforming.now) mv.now }
+    ensures { Gives (λ u. u) result (crafted_by_others conforming.now line mv.now) }
+{
+    match mv {
+        Move::Craft { via, .. } => check_deviator(line, any_conforms(conforming, via.as_slice())),
+        _ => Ok(()),
+    }
+}
+
+/// Each of the parties has a seed.
+#[tactic(auto, using(crate::proofs::Crafters::seeded_on, crate::proofs::Crafters::seeded_stops, crate::proofs::Crafters::seeded_done))]
+fn check_seeded(seeds: &[Option<Digest>], via: &[PartyId]) -> Result<(), OfferFault>
+    requires via { IsTrue (list_all (λ v. nat_lt v (length seeds.now)) via.now) }
+    ensures { Gives (λ u. u) result (each_seeded seeds.now via.now) }
+{
+    for v in via {
+        if seeds[*v as usize].is_none() {
+            return Err(Fault::Refused(Reason::NoSeed(*v)));
+        }
+    }
+    Ok(())
+}
+
+/// A check needs no seeds.
+fn needs_seeds(purpose: Purpose) -> bool
+    ensures { result ≡ needs_seeds purpose }
+{
+    match purpose {
+        Purpose::Check => false,
+        _ => true,
+    }
+}
+
+/// Each party that crafts a hashkey has a seed.
+fn check_seeds(job: &Job, mv: &Move) -> Result<(), OfferFault>
+    requires via { AreCraftersBelow (length job.now.seeds) mv.now }
+    ensures { Gives (λ u. u) result (crafted_with_seeds job.now mv.now) }
+{
+    match mv {
+        Move::Craft { via, .. } => {
+            if needs_seeds(job.purpose) {
+                return check_seeded(job.seeds.as_slice(), via.as_slice());
+            }
+            Ok(())
+        }
+        _ => Ok(()),
+    }
+}
+
+#[tactic(auto, unfolding(crate::specs::Event::placed))]
+fn check_place(job: &Job, line: u32, p: PartyId, mv: &Move) -> Result<(), OfferFault>
+    requires arc { stands_on mv.now < length job.now.deal.graph.arcs }
+    requires conforming { AreCraftersBelow (length job.now.conforming) mv.now }
+    requires seeds { AreCraftersBelow (length job.now.seeds) mv.now }
+    ensures { Gives (λ u. u) result (placed job.now line p mv.now) }
+{
+    check_adjacent(&job.deal, line, p, arc_of_move(mv))?;
+    check_crafters(line, job.conforming.as_slice(), mv)?;
+    check_receiver(&job.deal, line, mv)?;
+    check_seeds(job, mv)
 }
 
 #[tactic(auto, unfolding(crate::specs::Event::event_of_call))]
@@ -116,13 +187,14 @@ fn event_of_call(
     requires sized { IsWellSized job.now.deal }
     requires names { length job.now.names ≡ job.now.deal.graph.n }
     requires conforming { length job.now.conforming ≡ job.now.deal.graph.n }
+    requires seeds { length job.now.seeds ≡ job.now.deal.graph.n }
     ensures { Gives (λ e. e) result (event_of_call job.now line name.now raw.now) }
 {
     let names = job.names.as_slice();
     let p = party_of_name(alloc, line, names, name)?;
     let mv = move_of(alloc, &job.deal, names, line, raw)?;
     check_deviator(line, job.conforming.as_slice()[p as usize])?;
-    check_place(&job.deal, line, p, &mv)?;
+    check_place(job, line, p, &mv)?;
     Ok(Event::Call(p, mv))
 }
 
@@ -130,6 +202,7 @@ fn check_event(alloc: Global, job: &Job, line: u32, raw: &RawEvent<'_>) -> Resul
     requires sized { IsWellSized job.now.deal }
     requires names { length job.now.names ≡ job.now.deal.graph.n }
     requires conforming { length job.now.conforming ≡ job.now.deal.graph.n }
+    requires seeds { length job.now.seeds ≡ job.now.deal.graph.n }
     ensures { Gives (λ e. e) result (checked job.now line raw.now) }
 {
     match raw {
@@ -155,8 +228,9 @@ fn read_raw(alloc: Global, job: &Job, line: u32, raw: &RawEvent<'_>) -> Result<E
     requires sized { IsWellSized job.now.deal }
     requires names { length job.now.names ≡ job.now.deal.graph.n }
     requires conforming { length job.now.conforming ≡ job.now.deal.graph.n }
+    requires seeds { length job.now.seeds ≡ job.now.deal.graph.n }
     ensures exact { Gives (λ e. e) result (asked job.now line raw.now) }
-    ensures fits { IfOk result (λ e. CanStep job.now.deal job.now.conforming e) }
+    ensures fits { IfOk result (λ e. needs_seeds job.now.purpose ≡ true → IsEventOf job.now e) }
 {
     let event = check_event(alloc, job, line, raw)?;
     check_no_race(line, job.purpose)?;
@@ -169,8 +243,9 @@ fn read_object(alloc: Global, job: &Job, line: u32, text: &[u8]) -> Result<Event
     requires sized { IsWellSized job.now.deal }
     requires names { length job.now.names ≡ job.now.deal.graph.n }
     requires conforming { length job.now.conforming ≡ job.now.deal.graph.n }
+    requires seeds { length job.now.seeds ≡ job.now.deal.graph.n }
     ensures exact { Gives (λ e. e) result (event_of job.now line text.now) }
-    ensures fits { IfOk result (λ e. CanStep job.now.deal job.now.conforming e) }
+    ensures fits { IfOk result (λ e. needs_seeds job.now.purpose ≡ true → IsEventOf job.now e) }
 {
     let object = object_in(alloc, line, text)?;
     let raw = event_in(alloc, line, &object)?;
@@ -182,8 +257,9 @@ pub fn read_event(alloc: Global, job: &Job, line: u32, text: &[u8]) -> Result<Ev
     requires sized { IsWellSized job.now.deal }
     requires names { length job.now.names ≡ job.now.deal.graph.n }
     requires conforming { length job.now.conforming ≡ job.now.deal.graph.n }
+    requires seeds { length job.now.seeds ≡ job.now.deal.graph.n }
     ensures exact { Gives (λ e. e) result (event_of job.now line text.now) }
-    ensures fits { IfOk result (λ e. CanStep job.now.deal job.now.conforming e) }
+    ensures fits { IfOk result (λ e. needs_seeds job.now.purpose ≡ true → IsEventOf job.now e) }
 {
     match plain_event(text) {
         Some(raw) => read_raw(alloc, job, line, &raw),

@@ -3,11 +3,12 @@
 ghost use Rattle.std.specs.Prelude.{◌≡◌, ◌≤◌, ℕ, List, length};
 ghost use Rattle.swap_base.specs.Fault.{Gives};
 ghost use Rattle.swap_digraph.specs.Deal.{IsWellSized};
-ghost use Rattle.offer_events.specs.Moves.{arc_of, publish_of, key_of, unlock_of, claim_of, refund_of, transfer_of, move_of};
+ghost use Rattle.offer_events.specs.Moves.{arc_of, optional_arc, publish_of, craft_of, replay_of, key_of, unlock_of, claim_of, refund_of, transfer_of};
+ghost use Rattle.offer_events.specs.Moves.{move_of};
 
 use crate::limits::{number_below, optional_locks, optional_most, optional_units, sigs_of, units};
 use crate::names::numbers_of;
-use crate::raw::{RawKey, RawMove, RawTerms};
+use crate::raw::{RawCraft, RawKey, RawMove, RawTerms};
 use deviator_script::Move;
 use hashkey_path::Hashkey;
 use offer_fields::{TextRef, digest_in, party_of_name, within};
@@ -58,6 +59,68 @@ fn publish_of(
         amount,
         locks,
     })
+}
+
+/// The arc of that number, where there is one.
+fn optional_arc(
+    alloc: Global,
+    deal: &Deal,
+    line: u32,
+    field: &str,
+    number: Option<u64>,
+) -> Result<Option<ArcId>, OfferFault>
+    requires sized { IsWellSized deal.now }
+    ensures { Gives (λ o. o) result (optional_arc deal.now line field.now number) }
+{
+    match number {
+        None => Ok(None),
+        Some(number) => Ok(Some(arc_of(alloc, deal, line, field, number)?)),
+    }
+}
+
+#[tactic(auto, unfolding(crate::specs::Moves::craft_of))]
+fn craft_of(
+    alloc: Global,
+    deal: &Deal,
+    names: &[ByteText],
+    line: u32,
+    number: u64,
+    craft: &RawCraft<'_>,
+) -> Result<Move, OfferFault>
+    requires sized { IsWellSized deal.now }
+    requires names { length names.now ≤ 256 }
+    ensures { Gives (λ m. m) result (craft_of deal.now names.now line number craft.now) }
+{
+    let via = numbers_of(alloc, line, names, craft.via.as_slice())?;
+    let arc = arc_of(alloc, deal, line, "arc", number)?;
+    let lock = number_below(alloc, line, "lock", deal.leaders.len(), craft.lock)?;
+    let most = path_limit(deal) as u64;
+    within(alloc, line, "via", 1, most, craft.via.len() as u64)?;
+    let onto = optional_arc(alloc, deal, line, "onto", craft.onto)?;
+    Ok(Move::Craft {
+        arc,
+        lock,
+        via,
+        onto,
+    })
+}
+
+#[tactic(auto, unfolding(crate::specs::Moves::replay_of))]
+fn replay_of(
+    alloc: Global,
+    deal: &Deal,
+    line: u32,
+    number: u64,
+    lock: u64,
+    onto: u64,
+) -> Result<Move, OfferFault>
+    requires sized { IsWellSized deal.now }
+    ensures { Gives (λ m. m) result (replay_of deal.now line number lock onto) }
+{
+    let arc = arc_of(alloc, deal, line, "arc", number)?;
+    let lock = number_below(alloc, line, "lock", deal.leaders.len(), lock)?;
+    let onto = arc_of(alloc, deal, line, "onto", onto)?;
+    Ok(Move::Replay { arc, lock, onto })
 }
 
 #[tactic(auto, unfolding(crate::specs::Moves::key_of))]
@@ -156,6 +219,8 @@ pub fn move_of(
 {
     match raw {
         RawMove::Publish { arc, terms } => publish_of(alloc, deal, line, *arc, terms),
+        RawMove::Craft { arc, craft } => craft_of(alloc, deal, names, line, *arc, craft),
+        RawMove::Replay { arc, lock, onto } => replay_of(alloc, deal, line, *arc, *lock, *onto),
         RawMove::Raw { arc, key } => unlock_of(alloc, deal, names, line, *arc, key),
         RawMove::Claim { arc } => claim_of(alloc, deal, line, *arc),
         RawMove::Refund { arc } => refund_of(alloc, deal, line, *arc),

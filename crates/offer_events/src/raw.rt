@@ -23,10 +23,20 @@ pub struct RawKey<'v> {
     pub sigs: Listed<TextRef<'v>>,
 }
 
-/// The moves that are built.
+/// The lock of a craft, the parties that make its hashkey, and the arc of the hashkey that it goes onto.
+#[derive(Debug, Drop)]
+pub struct RawCraft<'v> {
+    pub lock: u64,
+    pub via: Listed<TextRef<'v>>,
+    pub onto: Option<u64>,
+}
+
+/// The moves of events.
 #[derive(Clone, Copy, Debug, PartialEq, Eq)]
 pub enum MoveKind {
     Publish,
+    Craft,
+    Replay,
     Raw,
     Claim,
     Refund,
@@ -39,6 +49,15 @@ pub enum RawMove<'v> {
     Publish {
         arc: u64,
         terms: RawTerms<'v>,
+    },
+    Craft {
+        arc: u64,
+        craft: RawCraft<'v>,
+    },
+    Replay {
+        arc: u64,
+        lock: u64,
+        onto: u64,
     },
     Raw {
         arc: u64,

@@ -7,14 +7,14 @@ ghost use Rattle.swap_base.specs.Fault.{Gives};
 ghost use Rattle.offer_fields.specs.Fields.{only};
 ghost use Rattle.offer_events.specs.Reading.{texts_of, optional_texts_at, texts_at, kind_of, kind_at, terms_at, publish_fields, publish_at, key_at};
 ghost use Rattle.offer_events.specs.Reading.{raw_fields, raw_at, claim_at, refund_at, transfer_at, rest_at, move_at, tick_at, look_at, act_at, call_at};
-ghost use Rattle.offer_events.specs.Reading.{event_at};
+ghost use Rattle.offer_events.specs.Reading.{event_at, crafting_at, craft_at, replay_at};
 
-use crate::raw::{MoveKind, RawEvent, RawKey, RawMove, RawTerms};
+use crate::raw::{MoveKind, RawCraft, RawEvent, RawKey, RawMove, RawTerms};
 use offer_fields::{
     TextRef, array_in, is_object, number_in, only_in, optional_number_in, text_in,
     texts_in as members_in, value_in,
 };
-use refusals::{OfferFault, missing, not_built, wrong_kind};
+use refusals::{OfferFault, missing, wrong_kind};
 use serde_json::Value;
 use std::alloc::Global;
 use swap_base::Listed;
@@ -74,8 +74,8 @@ fn kind_of(alloc: Global, line: u32, word: &str) -> Result<MoveKind, OfferFault>
         "claim" => Ok(MoveKind::Claim),
         "refund" => Ok(MoveKind::Refund),
         "transfer" => Ok(MoveKind::Transfer),
-        "craft" => Err(not_built(alloc, line, b"do")),
-        "replay" => Err(not_built(alloc, line, b"do")),
+        "craft" => Ok(MoveKind::Craft),
+        "replay" => Ok(MoveKind::Replay),
         _ => Err(wrong_kind(alloc, line, b"do")),
     }
 }
@@ -129,6 +129,45 @@ fn publish_in<'v>(
     let terms = terms_in(alloc, line, object)?;
     only_publish(alloc, line, object)?;
     Ok(RawMove::Publish { arc, terms })
+}
+
+#[tactic(auto, unfolding(crate::specs::Reading::crafting_at))]
+fn crafting_in<'v>(alloc: Global, line: u32, object: &'v Value) -> Result<RawCraft<'v>, OfferFault>
+    ensures { Gives (λ k. k) result (crafting_at line (view object.now)) }
+{
+    let lock = number_in(alloc, line, "lock", object)?;
+    let via = texts_in(alloc, line, "via", object)?;
+    let onto = optional_number_in(alloc, line, "onto", object)?;
+    Ok(RawCraft { lock, via, onto })
+}
+
+#[tactic(auto, unfolding(crate::specs::Reading::craft_at))]
+fn craft_in<'v>(
+    alloc: Global,
+    line: u32,
+    arc: u64,
+    object: &'v Value,
+) -> Result<RawMove<'v>, OfferFault>
+    ensures { Gives (λ m. m) result (craft_at line arc (view object.now)) }
+{
+    let craft = crafting_in(alloc, line, object)?;
+    only_in(alloc, line, &["arc", "do", "lock", "onto", "via"], object)?;
+    Ok(RawMove::Craft { arc, craft })
+}
+
+#[tactic(auto, unfolding(crate::specs::Reading::replay_at))]
+fn replay_in<'v>(
+    alloc: Global,
+    line: u32,
+    arc: u64,
+    object: &'v Value,
+) -> Result<RawMove<'v>, OfferFault>
+    ensures { Gives (λ m. m) result (replay_at line arc (view object.now)) }
+{
+    let lock = number_in(alloc, line, "lock", object)?;
+    let onto = number_in(alloc, line, "onto", object)?;
+    only_in(alloc, line, &["arc", "do", "lock", "onto"], object)?;
+    Ok(RawMove::Replay { arc, lock, onto })
 }
 
 #[tactic(auto, unfolding(crate::specs::Reading::key_at))]
@@ -222,6 +261,8 @@ fn rest_in<'v>(
 {
     match kind {
         MoveKind::Publish => publish_in(alloc, line, arc, object),
+        MoveKind::Craft => craft_in(alloc, line, arc, object),
+        MoveKind::Replay => replay_in(alloc, line, arc, object),
         MoveKind::Raw => raw_in(alloc, line, arc, object),
         MoveKind::Claim => claim_in(alloc, line, arc, object),
         MoveKind::Refund => refund_in(alloc, line, arc, object),

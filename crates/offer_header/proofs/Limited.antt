@@ -1,6 +1,6 @@
 -- A header's lists are as long as they have to be, and its numbers are in their ranges.
-use Rattle.std.proofs.Common.{◌≡◌, ℕ, ◌<◌, ◌≤◌, ◌^◌, length, get_or, map, List, [], Bool, true, false, ◌&&◌, cond, Option, Result, Ok, Err, refl, sym, ◌∙◌}
-use Rattle.std.proofs.Common.{subst, arith, codes}
+use Rattle.std.proofs.Common.{◌≡◌, ℕ, ◌<◌, ◌≤◌, ◌^◌, length, get_or, map, List, [], Bool, true, false, ◌&&◌, cond, Option, None, Result, Ok, Err, refl}
+use Rattle.std.proofs.Common.{sym, ap, ◌∙◌, subst, arith, codes}
 use Rattle.std.proofs.lemmas.Bool.{leb-true}
 use Rattle.std.proofs.lemmas.List.{get_or-map, length-map}
 use Rattle.std.specs.Prelude.{nat_le, IfOk}
@@ -12,10 +12,11 @@ use Rattle.refusals.specs.declared.reason.Reason.TheVariants.{OverLimit}
 use Rattle.offer_fields.specs.Limits.{number_within, within}
 use Rattle.offer_fields.specs.Lists.{each_of}
 use Rattle.offer_header.specs.Names.{AreLeaders, AreEnds, IsNumbered}
-use Rattle.offer_header.specs.Raw.{IsUntimed}
-use Rattle.offer_header.specs.Limits.{seed_of, seeds_of, conforms, terms_of, all_terms_of, arc_ends, hashlock_of, hashlocks_of, key_of, keys_of}
-use Rattle.offer_header.specs.Limits.{party_keys_of, limited_of}
+use Rattle.offer_header.specs.Raw.{is_plain, IsUntimed}
+use Rattle.offer_header.specs.Limits.{seed_of, seeds_of, conforms, terms_of, all_terms_of, arc_ends, hashlock_of, no_digests, hashlocks_by, hashlocks_of}
+use Rattle.offer_header.specs.Limits.{key_of, party_keys_of, stated_keys_of, keys_of, limited_of}
 use Rattle.offer_header.specs.Header.{HasKeysFor, IsWithin}
+use Rattle.offer_header.specs.declared.raw.RawActor.TheVariants.{Manual}
 use Rattle.offer_header.specs.declared.raw.RawParty.{RawParty}
 use Rattle.offer_header.specs.declared.raw.RawArc.{RawArc}
 use Rattle.offer_header.specs.declared.raw.RawLeader.{RawLeader}
@@ -114,13 +115,20 @@ are_terms line arcs terms h =
 
 -- ---- leaders and keys
 
-hashlocks_ok : (line : ℕ) (leaders : List RawLeader) (hashlocks : List (List ℕ)) → hashlocks_of line leaders ≡ Ok hashlocks
+by_hashlocks : (plain : Bool) (line : ℕ) (leaders : List RawLeader) (hashlocks : List (List ℕ)) → hashlocks_by plain line leaders ≡ Ok hashlocks
+    → length hashlocks ≡ length leaders
+by_hashlocks true line leaders hashlocks h =
+    let same : no_digests leaders ≡ hashlocks = cc h in
+    ap length (sym same) ∙ length-map leaders _
+by_hashlocks false line leaders hashlocks h = each_length (hashlock_of line) leaders hashlocks h
+
+hashlocks_ok : (plain : Bool) (line : ℕ) (leaders : List RawLeader) (hashlocks : List (List ℕ)) → hashlocks_of plain line leaders ≡ Ok hashlocks
     → (1 ≤ length leaders) × (length leaders ≤ 8) × (length hashlocks ≡ length leaders)
 unfolding hashlocks_of
-hashlocks_ok line leaders hashlocks h =
-    let one = went (within line (codes "leaders") 1 8 (length leaders)) (λ u. each_of (hashlock_of line) leaders) hashlocks h in
+hashlocks_ok plain line leaders hashlocks h =
+    let one = went (within line (codes "leaders") 1 8 (length leaders)) (λ u. hashlocks_by plain line leaders) hashlocks h in
     let r = within_ok line (codes "leaders") 1 8 (length leaders) one.0 one.1 in
-    (r.0, r.1, each_length (hashlock_of line) leaders hashlocks one.2)
+    (r.0, r.1, by_hashlocks plain line leaders hashlocks one.2)
 
 party_keys_ok : (locks line : ℕ) (row : RawRow) (keys : List (List ℕ)) → party_keys_of locks line row ≡ Ok keys → length keys ≡ locks
 unfolding party_keys_of
@@ -133,18 +141,34 @@ party_keys_ok locks line row keys h =
 abbrev no_row : RawRow
 no_row = record { texts = [] }
 
-keys_ok : (line : ℕ) (mode : Mode) (parties locks : ℕ) (rows : List RawRow) (keys : List (List (List ℕ))) → keys_of line mode parties locks rows ≡ Ok keys
-    → HasKeysFor mode parties locks keys
-unfolding keys_of
-keys_ok line Timelocks parties locks rows keys h = cc h
-keys_ok line Hashkeys parties locks rows keys h =
-    let one = went (within line (codes "keys") parties parties (length rows)) (λ u. each_of (party_keys_of locks line) rows) keys h in
-    let r = within_ok line (codes "keys") parties parties (length rows) one.0 one.1 in
-    let l : length keys ≡ length rows = each_length (party_keys_of locks line) rows keys one.2 in (
+stated_keys_ok : (line : ℕ) (h : RawHeader) (keys : List (List (List ℕ))) → stated_keys_of line h ≡ Ok keys
+    → HasKeysFor Hashkeys (length h.parties) (length h.leaders) keys
+unfolding stated_keys_of
+stated_keys_ok line h keys e =
+    let locks : ℕ = length h.leaders in
+    let one = went (within line (codes "keys") (length h.parties) (length h.parties) (length h.keys)) (λ u. each_of (party_keys_of locks line) h.keys) keys e in
+    let r = within_ok line (codes "keys") (length h.parties) (length h.parties) (length h.keys) one.0 one.1 in
+    let l : length keys ≡ length h.keys = each_length (party_keys_of locks line) h.keys keys one.2 in (
       omega arith,
-      λ p lt. party_keys_ok locks line (get_or rows p no_row) (get_or keys p [])
-          (each_at (party_keys_of locks line) rows keys no_row [] one.2 p (omega arith)),
+      λ p lt. party_keys_ok locks line (get_or h.keys p no_row) (get_or keys p [])
+          (each_at (party_keys_of locks line) h.keys keys no_row [] one.2 p (omega arith)),
     )
+
+abbrev zero_party : RawParty
+zero_party = record { name = []; actor = Manual; seed = None }
+
+unstated_keys_ok : (h : RawHeader) (keys : List (List (List ℕ))) → map (λ (p : RawParty). no_digests h.leaders) h.parties ≡ keys
+    → HasKeysFor Hashkeys (length h.parties) (length h.leaders) keys
+unstated_keys_ok h keys same = subst (HasKeysFor Hashkeys (length h.parties) (length h.leaders)) same (
+  length-map h.parties _,
+  λ p lt. ap length (get_or-map (λ (p : RawParty). no_digests h.leaders) h.parties p zero_party [] lt) ∙ length-map h.leaders _,
+)
+
+keys_ok : (mode : Mode) (plain : Bool) (line : ℕ) (h : RawHeader) (keys : List (List (List ℕ))) → keys_of mode plain line h ≡ Ok keys
+    → HasKeysFor mode (length h.parties) (length h.leaders) keys
+keys_ok Timelocks plain line h keys e = cc e
+keys_ok Hashkeys true line h keys e = unstated_keys_ok h keys (cc e)
+keys_ok Hashkeys false line h keys e = stated_keys_ok line h keys e
 
 -- ---- the header
 
@@ -154,7 +178,7 @@ zero_ends = record { from = 0; to = 0 }
 abbrev zero_arc_ends : ArcEnds
 zero_arc_ends = record { from = 0; to = 0 }
 
-abbrev header_with : Purpose → RawHeader → Numbered → ℕ → ℕ → ℕ → List (Option (List ℕ)) → List ArcTerms → List (List ℕ) → List (List (List ℕ)) → Header
+abbrev pub header_with : Purpose → RawHeader → Numbered → ℕ → ℕ → ℕ → List (Option (List ℕ)) → List ArcTerms → List (List ℕ) → List (List (List ℕ)) → Header
 header_with purpose raw n start delta bound seeds terms hashlocks keys = record {
   purpose = purpose;
   mode = raw.mode;
@@ -218,42 +242,82 @@ all_within purpose raw n start delta bound seeds terms hashlocks keys is untimed
 within_along : (h k : Header) → h ≡ k → IsWithin h → IsWithin k
 within_along h k e w = subst (λ x. IsWithin x) e w
 
-is_within : (line : ℕ) (purpose : Purpose) (raw : RawHeader) (n : Numbered) (h : Header) → IsNumbered raw n → IsUntimed raw
-    → limited_of purpose line raw n ≡ Ok h → IsWithin h
+-- The parts of a header within its limits.
+pub record Opened (line : ℕ) (purpose : Purpose) (raw : RawHeader) (n : Numbered) (h : Header) : Type 0 where
+  pub start : ℕ
+  pub delta : ℕ
+  pub bound : ℕ
+  pub seeds : List (Option (List ℕ))
+  pub terms : List ArcTerms
+  pub hashlocks : List (List ℕ)
+  pub keys : List (List (List ℕ))
+  pub start_is : number_within line (codes "start") 1 1000 raw.start ≡ Ok start
+  pub delta_is : number_within line (codes "delta") 1 100 raw.delta ≡ Ok delta
+  pub bound_is : number_within line (codes "bound") 1 64 raw.bound ≡ Ok bound
+  pub seeds_are : seeds_of line raw.parties ≡ Ok seeds
+  pub terms_are : all_terms_of line raw.arcs ≡ Ok terms
+  pub hashlocks_are : hashlocks_of (is_plain purpose) line raw.leaders ≡ Ok hashlocks
+  pub keys_are : keys_of raw.mode (is_plain purpose) line raw ≡ Ok keys
+  pub same : header_with purpose raw n start delta bound seeds terms hashlocks keys ≡ h
+
+pub opened : (line : ℕ) (purpose : Purpose) (raw : RawHeader) (n : Numbered) (h : Header) → limited_of purpose line raw n ≡ Ok h
+    → Opened line purpose raw n h
 unfolding limited_of
-is_within line purpose raw n h is untimed e =
+opened line purpose raw n h e =
     let one = went (number_within line (codes "start") 1 1000 raw.start) (λ start. number_within line (codes "delta") 1 100 raw.delta >>= λ delta.
     number_within line (codes "bound") 1 64 raw.bound >>= λ bound. seeds_of line raw.parties >>= λ seeds. all_terms_of line raw.arcs >>= λ terms.
-    hashlocks_of line raw.leaders >>= λ hashlocks. keys_of line raw.mode (length raw.parties) (length raw.leaders) raw.keys >>= λ keys.
+    hashlocks_of (is_plain purpose) line raw.leaders >>= λ hashlocks. keys_of raw.mode (is_plain purpose) line raw >>= λ keys.
     Ok (header_with purpose raw n start delta bound seeds terms hashlocks keys)) h e in
     let two = went (number_within line (codes "delta") 1 100 raw.delta) (λ delta. number_within line (codes "bound") 1 64 raw.bound >>= λ bound.
-    seeds_of line raw.parties >>= λ seeds. all_terms_of line raw.arcs >>= λ terms. hashlocks_of line raw.leaders >>= λ hashlocks.
-    keys_of line raw.mode (length raw.parties) (length raw.leaders) raw.keys >>= λ keys.
+    seeds_of line raw.parties >>= λ seeds. all_terms_of line raw.arcs >>= λ terms. hashlocks_of (is_plain purpose) line raw.leaders >>= λ hashlocks.
+    keys_of raw.mode (is_plain purpose) line raw >>= λ keys.
     Ok (header_with purpose raw n one.0 delta bound seeds terms hashlocks keys)) h one.2 in
     let three = went (number_within line (codes "bound") 1 64 raw.bound) (λ bound. seeds_of line raw.parties >>= λ seeds.
-    all_terms_of line raw.arcs >>= λ terms. hashlocks_of line raw.leaders >>= λ hashlocks.
-    keys_of line raw.mode (length raw.parties) (length raw.leaders) raw.keys >>= λ keys.
+    all_terms_of line raw.arcs >>= λ terms. hashlocks_of (is_plain purpose) line raw.leaders >>= λ hashlocks.
+    keys_of raw.mode (is_plain purpose) line raw >>= λ keys.
     Ok (header_with purpose raw n one.0 two.0 bound seeds terms hashlocks keys)) h two.2 in
-    let four = went (seeds_of line raw.parties) (λ seeds. all_terms_of line raw.arcs >>= λ terms. hashlocks_of line raw.leaders >>= λ hashlocks.
-    keys_of line raw.mode (length raw.parties) (length raw.leaders) raw.keys >>= λ keys.
+    let four = went (seeds_of line raw.parties) (λ seeds. all_terms_of line raw.arcs >>= λ terms.
+    hashlocks_of (is_plain purpose) line raw.leaders >>= λ hashlocks. keys_of raw.mode (is_plain purpose) line raw >>= λ keys.
     Ok (header_with purpose raw n one.0 two.0 three.0 seeds terms hashlocks keys)) h three.2 in
-    let five = went (all_terms_of line raw.arcs) (λ terms. hashlocks_of line raw.leaders >>= λ hashlocks.
-    keys_of line raw.mode (length raw.parties) (length raw.leaders) raw.keys >>= λ keys.
+    let five = went (all_terms_of line raw.arcs) (λ terms. hashlocks_of (is_plain purpose) line raw.leaders >>= λ hashlocks.
+    keys_of raw.mode (is_plain purpose) line raw >>= λ keys.
     Ok (header_with purpose raw n one.0 two.0 three.0 four.0 terms hashlocks keys)) h four.2 in
-    let six = went (hashlocks_of line raw.leaders) (λ hashlocks. keys_of line raw.mode (length raw.parties) (length raw.leaders) raw.keys >>= λ keys.
+    let six = went (hashlocks_of (is_plain purpose) line raw.leaders) (λ hashlocks. keys_of raw.mode (is_plain purpose) line raw >>= λ keys.
     Ok (header_with purpose raw n one.0 two.0 three.0 four.0 five.0 hashlocks keys)) h five.2 in
-    let seven = went (keys_of line raw.mode (length raw.parties) (length raw.leaders) raw.keys)
+    let seven = went (keys_of raw.mode (is_plain purpose) line raw)
     (λ keys. Ok (header_with purpose raw n one.0 two.0 three.0 four.0 five.0 six.0 keys)) h six.2 in
     let same : header_with purpose raw n one.0 two.0 three.0 four.0 five.0 six.0 seven.0 ≡ h = cc (seven.2) in
-    within_along (header_with purpose raw n one.0 two.0 three.0 four.0 five.0 six.0 seven.0) h same
-    (all_within purpose raw n one.0 two.0 three.0 four.0 five.0 six.0 seven.0 is untimed
-    (number_within_ok line (codes "start") 1 1000 raw.start one.0 one.1)
-    (number_within_ok line (codes "delta") 1 100 raw.delta two.0 two.1)
-    (number_within_ok line (codes "bound") 1 64 raw.bound three.0 three.1)
-    (seeds_ok line raw.parties four.0 four.1)
-    (are_terms line raw.arcs five.0 five.1)
-    (hashlocks_ok line raw.leaders six.0 six.1)
-    (keys_ok line raw.mode (length raw.parties) (length raw.leaders) raw.keys seven.0 seven.1))
+    record {
+      start = one.0;
+      delta = two.0;
+      bound = three.0;
+      seeds = four.0;
+      terms = five.0;
+      hashlocks = six.0;
+      keys = seven.0;
+      start_is = one.1;
+      delta_is = two.1;
+      bound_is = three.1;
+      seeds_are = four.1;
+      terms_are = five.1;
+      hashlocks_are = six.1;
+      keys_are = seven.1;
+      same = same;
+    }
+
+is_within : (line : ℕ) (purpose : Purpose) (raw : RawHeader) (n : Numbered) (h : Header) → IsNumbered raw n → IsUntimed raw
+    → limited_of purpose line raw n ≡ Ok h → IsWithin h
+is_within line purpose raw n h is untimed e =
+    let o = opened line purpose raw n h e in
+    within_along (header_with purpose raw n o.start o.delta o.bound o.seeds o.terms o.hashlocks o.keys) h o.same
+    (all_within purpose raw n o.start o.delta o.bound o.seeds o.terms o.hashlocks o.keys is untimed
+    (number_within_ok line (codes "start") 1 1000 raw.start o.start o.start_is)
+    (number_within_ok line (codes "delta") 1 100 raw.delta o.delta o.delta_is)
+    (number_within_ok line (codes "bound") 1 64 raw.bound o.bound o.bound_is)
+    (seeds_ok line raw.parties o.seeds o.seeds_are)
+    (are_terms line raw.arcs o.terms o.terms_are)
+    (hashlocks_ok (is_plain purpose) line raw.leaders o.hashlocks o.hashlocks_are)
+    (keys_ok raw.mode (is_plain purpose) line raw o.keys o.keys_are))
 
 pub within_from_gives : (line : ℕ) (purpose : Purpose) (raw : RawHeader) (n : Numbered) (r : Result Header (Fault Reason)) → IsNumbered raw n
     → IsUntimed raw → Gives (λ (h : Header). h) r (limited_of purpose line raw n) → IfOk r (λ h. IsWithin h)

@@ -1,18 +1,20 @@
 -- With hashkeys no arc has a timelock.
-use Rattle.std.proofs.Common.{◌≡◌, ℕ, ◌<◌, length, get_or, List, Ok, sym, ap, ◌∙◌, codes}
+use Rattle.std.proofs.Common.{◌≡◌, ℕ, ◌<◌, length, get_or, List, Bool, Ok, sym, ap, ◌∙◌, codes}
 use Rattle.serde_json.specs.Data.{Data}
 use Rattle.swap_base.specs.Fault.{◌>>=◌}
 use Rattle.swap_digraph.specs.declared.deal.Mode.{Mode}
 use Rattle.swap_digraph.specs.declared.deal.Mode.TheVariants.{Timelocks, Hashkeys}
 use Rattle.offer_fields.specs.Fields.{number_at, text_at, object_at, array_at, list_at, listed, each, only}
-use Rattle.offer_header.specs.Raw.{timelock_at, arc_fields, arc_of}
+use Rattle.deviator_script.specs.declared.job.Purpose.{Purpose}
+use Rattle.offer_header.specs.Raw.{states_timelocks, timelock_at, arc_fields, arc_of}
 use Rattle.offer_header.specs.declared.raw.Reading.{Reading}
 use Rattle.offer_header.specs.declared.raw.RawArc.{RawArc}
 use Rattle.offer_fields.proofs.Chains.{went, each_all}
 
-none_with_hashkeys : (line : ℕ) (mode : Mode) (d : Data) (n : ℕ) → mode ≡ Hashkeys → timelock_at line mode d ≡ Ok n → n ≡ 0
-none_with_hashkeys line Timelocks d n e h = absurd (cc e)
-none_with_hashkeys line Hashkeys d n e h = cc h
+none_with_hashkeys : (line : ℕ) (purpose : Purpose) (mode : Mode) (d : Data) (n : ℕ) → mode ≡ Hashkeys
+    → timelock_at line (states_timelocks purpose mode) d ≡ Ok n → n ≡ 0
+none_with_hashkeys line purpose Timelocks d n e h = absurd (cc e)
+none_with_hashkeys line purpose Hashkeys d n e h = cc h
 
 timelock_along : (a b : RawArc) → a ≡ b → a.timelock ≡ b.timelock
 timelock_along a b e = ap (λ (x : RawArc). x.timelock) e
@@ -20,22 +22,23 @@ timelock_along a b e = ap (λ (x : RawArc). x.timelock) e
 arc_untimed : (reading : Reading) (line : ℕ) (d : Data) (a : RawArc) → reading.mode ≡ Hashkeys → arc_of reading line d ≡ Ok a → a.timelock ≡ 0
 unfolding arc_of
 arc_untimed reading line d a is h =
+    let stated : Bool = states_timelocks reading.purpose reading.mode in
     let one = went (object_at line (codes "arcs") d) (λ o. text_at line (codes "from") d >>= λ from. text_at line (codes "to") d >>= λ to.
-    number_at line (codes "amount") d >>= λ amount. timelock_at line reading.mode d >>= λ timelock. only line (arc_fields reading.mode) d >>= λ u.
+    number_at line (codes "amount") d >>= λ amount. timelock_at line stated d >>= λ timelock. only line (arc_fields stated) d >>= λ u.
     Ok (record { from = from; to = to; amount = amount; timelock = timelock })) a h in
     let two = went (text_at line (codes "from") d) (λ from. text_at line (codes "to") d >>= λ to. number_at line (codes "amount") d >>= λ amount.
-    timelock_at line reading.mode d >>= λ timelock. only line (arc_fields reading.mode) d >>= λ u.
+    timelock_at line stated d >>= λ timelock. only line (arc_fields stated) d >>= λ u.
     Ok (record { from = from; to = to; amount = amount; timelock = timelock })) a one.2 in
-    let three = went (text_at line (codes "to") d) (λ to. number_at line (codes "amount") d >>= λ amount. timelock_at line reading.mode d >>= λ timelock.
-    only line (arc_fields reading.mode) d >>= λ u. Ok (record { from = two.0; to = to; amount = amount; timelock = timelock })) a two.2 in
-    let four = went (number_at line (codes "amount") d) (λ amount. timelock_at line reading.mode d >>= λ timelock.
-    only line (arc_fields reading.mode) d >>= λ u. Ok (record { from = two.0; to = three.0; amount = amount; timelock = timelock })) a three.2 in
-    let five = went (timelock_at line reading.mode d) (λ timelock. only line (arc_fields reading.mode) d >>= λ u.
+    let three = went (text_at line (codes "to") d) (λ to. number_at line (codes "amount") d >>= λ amount. timelock_at line stated d >>= λ timelock.
+    only line (arc_fields stated) d >>= λ u. Ok (record { from = two.0; to = to; amount = amount; timelock = timelock })) a two.2 in
+    let four = went (number_at line (codes "amount") d) (λ amount. timelock_at line stated d >>= λ timelock.
+    only line (arc_fields stated) d >>= λ u. Ok (record { from = two.0; to = three.0; amount = amount; timelock = timelock })) a three.2 in
+    let five = went (timelock_at line stated d) (λ timelock. only line (arc_fields stated) d >>= λ u.
     Ok (record { from = two.0; to = three.0; amount = four.0; timelock = timelock })) a four.2 in
-    let six = went (only line (arc_fields reading.mode) d) (λ u. Ok (record { from = two.0; to = three.0; amount = four.0; timelock = five.0 })) a five.2 in
+    let six = went (only line (arc_fields stated) d) (λ u. Ok (record { from = two.0; to = three.0; amount = four.0; timelock = five.0 })) a five.2 in
     let same : a ≡ record { from = two.0; to = three.0; amount = four.0; timelock = five.0 } = cc (six.2) in
     timelock_along a (record { from = two.0; to = three.0; amount = four.0; timelock = five.0 }) same
-    ∙ none_with_hashkeys line reading.mode d five.0 is five.1
+    ∙ none_with_hashkeys line reading.purpose reading.mode d five.0 is five.1
 
 pub arcs_untimed : (reading : Reading) (line : ℕ) (d : Data) (arcs : List RawArc) → reading.mode ≡ Hashkeys
     → list_at line (codes "arcs") (arc_of reading line) d ≡ Ok arcs → (a : ℕ) (e : RawArc) → a < length arcs → (get_or arcs a e).timelock ≡ 0

@@ -1,10 +1,12 @@
 -- What the header line gives, and what holds of every header.
-use Rattle.std.specs.Prelude.{◌≡◌, ℕ, ◌<◌, ◌≤◌, ◌^◌, List, [], length, slice_index, slice_index_or, Result}
+use Rattle.std.specs.Prelude.{◌≡◌, ℕ, ◌<◌, ◌≤◌, ◌^◌, List, [], length, slice_index, slice_index_or, Option, None, Result}
 use Rattle.swap_base.specs.Fault.{◌>>=◌}
 use Rattle.swap_digraph.specs.declared.deal.Mode.{Mode}
 use Rattle.swap_digraph.specs.declared.deal.Mode.TheVariants.{Timelocks, Hashkeys}
 use Rattle.swap_digraph.specs.Graph.{ends_in}
 use Rattle.deviator_script.specs.declared.job.Purpose.{Purpose}
+use Rattle.deviator_script.specs.declared.job.Purpose.TheVariants.{Audit}
+use Rattle.deviator_script.specs.declared.job.Finish.TheVariants.{Stop}
 use Rattle.refusals.specs.declared.reason.Reason.{Reason}
 use Rattle.offer_fields.specs.Fields.{object_of}
 use Rattle.offer_header.specs.Raw.{raw_of}
@@ -46,3 +48,8 @@ pub record IsWithin (h : Header) : Type 0 where
   pub leader : AreLeaders (length h.names) h.leaders
   pub hashlocks : length h.hashlocks ≡ length h.leaders
   pub keys : HasKeysFor h.mode (length h.names) (length h.leaders) h.keys
+
+-- a transcript's header has no seed, and its finish is to stop
+abbrev pub IsUntoldFor : Purpose → Header → Type 0
+IsUntoldFor Audit h = ((p : ℕ) → slice_index_or {A = Option (List ℕ)} h.seeds p None ≡ None) × (h.finish ≡ Stop)
+IsUntoldFor _ h = Unit {0}

@@ -1,5 +1,5 @@
 -- The limits of a header's numbers and lists, and its digests.
-use Rattle.std.specs.Prelude.{ℕ, ◌^◌, List, [], Bool, true, false, codes, length, map, Option, Some, None, Result, Ok}
+use Rattle.std.specs.Prelude.{ℕ, ◌^◌, List, [], Bool, true, false, codes, length, map, replicate, Option, Some, None, Result, Ok}
 use Rattle.swap_base.specs.Fault.{◌>>=◌}
 use Rattle.swap_digraph.specs.declared.arc_ends.ArcEnds.{ArcEnds}
 use Rattle.swap_digraph.specs.declared.deal.Mode.{Mode}
@@ -8,6 +8,7 @@ use Rattle.deviator_script.specs.declared.job.Purpose.{Purpose}
 use Rattle.refusals.specs.declared.reason.Reason.{Reason}
 use Rattle.offer_fields.specs.Limits.{number_within, within, digest_of}
 use Rattle.offer_fields.specs.Lists.{each_of}
+use Rattle.offer_header.specs.Raw.{is_plain}
 use Rattle.offer_header.specs.declared.raw.RawActor.{RawActor}
 use Rattle.offer_header.specs.declared.raw.RawActor.TheVariants.{Conforming, Manual}
 use Rattle.offer_header.specs.declared.raw.RawParty.{RawParty}
@@ -59,10 +60,22 @@ arc_ends e = record { from = e.from; to = e.to }
 unfoldable pub hashlock_of : ℕ → RawLeader → Result (List ℕ) Reason
 hashlock_of line l = digest_of line (codes "hashlock") l.hashlock
 
-unfoldable pub hashlocks_of : ℕ → List RawLeader → Result (List (List ℕ)) Reason
-hashlocks_of line leaders = do
+-- what stands in the place of a hashlock or a key that isn't stated
+abbrev pub no_digest : List ℕ
+no_digest = replicate 32 0
+
+-- one for each leader
+abbrev pub no_digests : List RawLeader → List (List ℕ)
+no_digests leaders = map (λ l. no_digest) leaders
+
+abbrev pub hashlocks_by : (plain : Bool) → ℕ → List RawLeader → Result (List (List ℕ)) Reason
+hashlocks_by true line leaders = Ok (no_digests leaders)
+hashlocks_by false line leaders = each_of (hashlock_of line) leaders
+
+unfoldable pub hashlocks_of : (plain : Bool) → ℕ → List RawLeader → Result (List (List ℕ)) Reason
+hashlocks_of plain line leaders = do
   u ← within line (codes "leaders") 1 8 (length leaders)
-  each_of (hashlock_of line) leaders
+  hashlocks_by plain line leaders
 
 unfoldable pub key_of : ℕ → List ℕ → Result (List ℕ) Reason
 key_of line text = digest_of line (codes "keys") text
@@ -73,11 +86,19 @@ party_keys_of locks line row = do
   u ← within line (codes "keys") locks locks (length row.texts)
   each_of (key_of line) row.texts
 
-unfoldable pub keys_of : ℕ → Mode → ℕ → ℕ → List RawRow → Result (List (List (List ℕ))) Reason
-keys_of line Timelocks parties locks rows = Ok []
-keys_of line Hashkeys parties locks rows = do
-  u ← within line (codes "keys") parties parties (length rows)
-  each_of (party_keys_of locks line) rows
+-- the keys of all parties, as they are stated
+unfoldable pub stated_keys_of : ℕ → RawHeader → Result (List (List (List ℕ))) Reason
+stated_keys_of line h = do
+  u ← within line (codes "keys") (length h.parties) (length h.parties) (length h.keys)
+  each_of (party_keys_of (length h.leaders) line) h.keys
+
+abbrev pub keys_by : (plain : Bool) → ℕ → RawHeader → Result (List (List (List ℕ))) Reason
+keys_by true line h = Ok (map (λ p. no_digests h.leaders) h.parties)
+keys_by false line h = stated_keys_of line h
+
+abbrev pub keys_of : Mode → (plain : Bool) → ℕ → RawHeader → Result (List (List (List ℕ))) Reason
+keys_of Timelocks plain line h = Ok []
+keys_of Hashkeys plain line h = keys_by plain line h
 
 -- ---- the header
 
@@ -88,8 +109,8 @@ limited_of purpose line raw numbered = do
   bound ← number_within line (codes "bound") 1 64 raw.bound
   seeds ← seeds_of line raw.parties
   terms ← all_terms_of line raw.arcs
-  hashlocks ← hashlocks_of line raw.leaders
-  keys ← keys_of line raw.mode (length raw.parties) (length raw.leaders) raw.keys
+  hashlocks ← hashlocks_of (is_plain purpose) line raw.leaders
+  keys ← keys_of raw.mode (is_plain purpose) line raw
   Ok (record {
     purpose = purpose;
     mode = raw.mode;

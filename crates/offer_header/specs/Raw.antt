@@ -1,5 +1,6 @@
 -- What the fields of a header say, in the order in which they are examined, or the first reason why one is refused.
-use Rattle.std.specs.Prelude.{◌≡◌, ◌==◌, ◌<◌, length, slice_index_or, ℕ, List, [], ◌∷◌, codes, if◌then◌else◌, Option, Some, None, Result, Ok, Err, is_some}
+use Rattle.std.specs.Prelude.{◌≡◌, ◌==◌, ◌<◌, length, slice_index_or, ℕ, List, [], ◌∷◌, codes, if◌then◌else◌, Bool, true, false, not, Option, Some, None}
+use Rattle.std.specs.Prelude.{Result, Ok, Err, is_some}
 use Rattle.std.specs.Str.{bytes_eq}
 use Rattle.serde_json.specs.Data.{Data}
 use Rattle.serde_json.specs.Find.{get, as_object, as_array}
@@ -7,7 +8,7 @@ use Rattle.swap_base.specs.Fault.{◌>>=◌}
 use Rattle.swap_digraph.specs.declared.deal.Mode.{Mode}
 use Rattle.swap_digraph.specs.declared.deal.Mode.TheVariants.{Timelocks, Hashkeys}
 use Rattle.deviator_script.specs.declared.job.Purpose.{Purpose}
-use Rattle.deviator_script.specs.declared.job.Purpose.TheVariants.{Check, Audit}
+use Rattle.deviator_script.specs.declared.job.Purpose.TheVariants.{Make, Audit}
 use Rattle.deviator_script.specs.declared.job.Finish.{Finish}
 use Rattle.deviator_script.specs.declared.job.Finish.TheVariants.{Stop, Fair}
 use Rattle.refusals.specs.declared.reason.Reason.{Reason}
@@ -21,6 +22,23 @@ use Rattle.offer_header.specs.declared.raw.RawArc.{RawArc}
 use Rattle.offer_header.specs.declared.raw.RawLeader.{RawLeader}
 use Rattle.offer_header.specs.declared.raw.RawRow.{RawRow}
 use Rattle.offer_header.specs.declared.raw.RawHeader.{RawHeader}
+
+-- ---- plain jobs
+
+-- a job that is to be made is plain: it doesn't state what its parties' seeds give
+abbrev pub is_plain : Purpose → Bool
+is_plain Make = true
+is_plain _ = false
+
+-- whether each arc states its timelock
+abbrev pub states_timelocks : Purpose → Mode → Bool
+states_timelocks purpose Timelocks = not (is_plain purpose)
+states_timelocks purpose Hashkeys = false
+
+-- whether the header states keys
+abbrev pub states_keys : Purpose → Mode → Bool
+states_keys purpose Timelocks = false
+states_keys purpose Hashkeys = not (is_plain purpose)
 
 -- ---- parties
 
@@ -48,29 +66,33 @@ actor_or_conforming line purpose (Some d) = actor_of line purpose d
 unfoldable pub actor_at : ℕ → Purpose → Data → Result RawActor Reason
 actor_at line purpose d = actor_or_conforming line purpose (get (codes "actor") d)
 
--- the text of a seed, where there is one
-unfoldable pub seed_at : ℕ → Data → Result (Option (List ℕ)) Reason
-seed_at line d = optional_text_at line (codes "seed") d
+-- the text of a seed, where there is one; a transcript shows none
+abbrev pub seed_at : ℕ → Purpose → Data → Result (Option (List ℕ)) Reason
+seed_at line Audit d = Ok None
+seed_at line _ d = optional_text_at line (codes "seed") d
+
+abbrev pub party_fields : Purpose → List (List ℕ)
+party_fields Audit = codes "actor" ∷ codes "name" ∷ []
+party_fields _ = codes "actor" ∷ codes "name" ∷ codes "seed" ∷ []
 
 unfoldable pub party_of : Reading → ℕ → Data → Result RawParty Reason
 party_of reading line d = do
   o ← object_at line (codes "parties") d
   name ← text_at line (codes "name") d
   actor ← actor_at line reading.purpose d
-  seed ← seed_at line d
-  u ← only line (codes "actor" ∷ codes "name" ∷ codes "seed" ∷ []) d
+  seed ← seed_at line reading.purpose d
+  u ← only line (party_fields reading.purpose) d
   Ok (record { name = name; actor = actor; seed = seed })
 
 -- ---- arcs
 
--- a timelock stands for nothing with hashkeys
-abbrev pub timelock_at : ℕ → Mode → Data → Result ℕ Reason
-timelock_at line Timelocks d = number_at line (codes "timelock") d
-timelock_at line Hashkeys d = Ok 0
+-- where no timelock is stated, 0 stands in its place
+abbrev pub timelock_at : ℕ → (stated : Bool) → Data → Result ℕ Reason
+timelock_at line stated d = if stated then number_at line (codes "timelock") d else Ok 0
 
-abbrev pub arc_fields : Mode → List (List ℕ)
-arc_fields Timelocks = codes "amount" ∷ codes "from" ∷ codes "timelock" ∷ codes "to" ∷ []
-arc_fields Hashkeys = codes "amount" ∷ codes "from" ∷ codes "to" ∷ []
+abbrev pub arc_fields : (stated : Bool) → List (List ℕ)
+arc_fields true = codes "amount" ∷ codes "from" ∷ codes "timelock" ∷ codes "to" ∷ []
+arc_fields false = codes "amount" ∷ codes "from" ∷ codes "to" ∷ []
 
 unfoldable pub arc_of : Reading → ℕ → Data → Result RawArc Reason
 arc_of reading line d = do
@@ -78,18 +100,26 @@ arc_of reading line d = do
   from ← text_at line (codes "from") d
   to ← text_at line (codes "to") d
   amount ← number_at line (codes "amount") d
-  timelock ← timelock_at line reading.mode d
-  u ← only line (arc_fields reading.mode) d
+  timelock ← timelock_at line (states_timelocks reading.purpose reading.mode) d
+  u ← only line (arc_fields (states_timelocks reading.purpose reading.mode)) d
   Ok (record { from = from; to = to; amount = amount; timelock = timelock })
 
 -- ---- leaders and keys
 
-unfoldable pub leader_of : ℕ → Data → Result RawLeader Reason
-leader_of line d = do
+-- a plain job has no text in the place of a hashlock
+abbrev pub hashlock_at : ℕ → (plain : Bool) → Data → Result (List ℕ) Reason
+hashlock_at line plain d = if plain then Ok [] else text_at line (codes "hashlock") d
+
+abbrev pub leader_fields : (plain : Bool) → List (List ℕ)
+leader_fields true = codes "party" ∷ []
+leader_fields false = codes "hashlock" ∷ codes "party" ∷ []
+
+unfoldable pub leader_of : Reading → ℕ → Data → Result RawLeader Reason
+leader_of reading line d = do
   o ← object_at line (codes "leaders") d
   party ← text_at line (codes "party") d
-  hashlock ← text_at line (codes "hashlock") d
-  u ← only line (codes "hashlock" ∷ codes "party" ∷ []) d
+  hashlock ← hashlock_at line (is_plain reading.purpose) d
+  u ← only line (leader_fields (is_plain reading.purpose)) d
   Ok (record { party = party; hashlock = hashlock })
 
 unfoldable pub row_of : ℕ → Data → Result RawRow Reason
@@ -98,9 +128,8 @@ row_of line d = do
   texts ← each (member_text_of line (codes "keys")) items
   Ok (record { texts = texts })
 
-abbrev pub keys_at : ℕ → Mode → Data → Result (List RawRow) Reason
-keys_at line Timelocks d = Ok []
-keys_at line Hashkeys d = list_at line (codes "keys") (row_of line) d
+abbrev pub keys_at : ℕ → (stated : Bool) → Data → Result (List RawRow) Reason
+keys_at line stated d = if stated then list_at line (codes "keys") (row_of line) d else Ok []
 
 -- ---- the header
 
@@ -130,16 +159,31 @@ abbrev pub finish_or_stop : ℕ → Option (List ℕ) → Result Finish Reason
 finish_or_stop line None = Ok Stop
 finish_or_stop line (Some word) = finish_of_word line word
 
-unfoldable pub finish_at : ℕ → Data → Result Finish Reason
-finish_at line d = do
+unfoldable pub stated_finish_at : ℕ → Data → Result Finish Reason
+stated_finish_at line d = do
   word ← optional_text_at line (codes "finish") d
   finish_or_stop line word
 
-abbrev pub header_fields : Mode → List (List ℕ)
-header_fields Timelocks = codes "arcs" ∷ codes "bound" ∷ codes "delta" ∷ codes "finish" ∷ codes "leaders" ∷ codes "mode" ∷ codes "parties" ∷ codes "start" ∷
-    codes "swap" ∷ []
-header_fields Hashkeys = codes "arcs" ∷ codes "bound" ∷ codes "delta" ∷ codes "finish" ∷ codes "keys" ∷ codes "leaders" ∷ codes "mode" ∷ codes "parties" ∷
+-- a transcript has no finish
+abbrev pub finish_at : ℕ → Purpose → Data → Result Finish Reason
+finish_at line Audit d = Ok Stop
+finish_at line _ d = stated_finish_at line d
+
+abbrev pub transcript_fields : (keyed : Bool) → List (List ℕ)
+transcript_fields true = codes "arcs" ∷ codes "bound" ∷ codes "delta" ∷ codes "keys" ∷ codes "leaders" ∷ codes "mode" ∷ codes "parties" ∷
     codes "start" ∷ codes "swap" ∷ []
+transcript_fields false = codes "arcs" ∷ codes "bound" ∷ codes "delta" ∷ codes "leaders" ∷ codes "mode" ∷ codes "parties" ∷ codes "start" ∷
+    codes "swap" ∷ []
+
+abbrev pub job_fields : (keyed : Bool) → List (List ℕ)
+job_fields true = codes "arcs" ∷ codes "bound" ∷ codes "delta" ∷ codes "finish" ∷ codes "keys" ∷ codes "leaders" ∷ codes "mode" ∷
+    codes "parties" ∷ codes "start" ∷ codes "swap" ∷ []
+job_fields false = codes "arcs" ∷ codes "bound" ∷ codes "delta" ∷ codes "finish" ∷ codes "leaders" ∷ codes "mode" ∷ codes "parties" ∷
+    codes "start" ∷ codes "swap" ∷ []
+
+abbrev pub header_fields : Purpose → (keyed : Bool) → List (List ℕ)
+header_fields Audit keyed = transcript_fields keyed
+header_fields _ keyed = job_fields keyed
 
 unfoldable pub raw_of : Purpose → ℕ → Data → Result RawHeader Reason
 raw_of purpose line d = do
@@ -150,12 +194,17 @@ raw_of purpose line d = do
   bound ← number_at line (codes "bound") d
   parties ← list_at line (codes "parties") (party_of (record { purpose = purpose; mode = mode }) line) d
   arcs ← list_at line (codes "arcs") (arc_of (record { purpose = purpose; mode = mode }) line) d
-  leaders ← list_at line (codes "leaders") (leader_of line) d
-  keys ← keys_at line mode d
-  finish ← finish_at line d
-  u ← only line (header_fields mode) d
+  leaders ← list_at line (codes "leaders") (leader_of (record { purpose = purpose; mode = mode }) line) d
+  keys ← keys_at line (states_keys purpose mode) d
+  finish ← finish_at line purpose d
+  u ← only line (header_fields purpose (states_keys purpose mode)) d
   Ok (record { mode = mode; start = start; delta = delta; bound = bound; parties = parties; arcs = arcs; leaders = leaders; keys = keys; finish = finish })
 
 -- With hashkeys no arc has a timelock.
 abbrev pub IsUntimed : RawHeader → Type 0
 IsUntimed h = h.mode ≡ Hashkeys → (a : ℕ) (d : RawArc) → a < length h.arcs → (slice_index_or h.arcs a d).timelock ≡ 0
+
+-- A transcript's header tells no seed, and no finish.
+abbrev pub IsUntold : Purpose → RawHeader → Type 0
+IsUntold Audit h = ((p : ℕ) (d : RawParty) → p < length h.parties → (slice_index_or h.parties p d).seed ≡ None) × (h.finish ≡ Stop)
+IsUntold _ h = Unit {0}

@@ -4,7 +4,8 @@ ghost use Rattle.std.specs.Prelude.{IfOk};
 ghost use Rattle.serde_json.specs.View.{view};
 ghost use Rattle.swap_base.specs.Fault.{Gives};
 ghost use Rattle.offer_fields.specs.Fields.{only};
-ghost use Rattle.offer_header.specs.Raw.{version_at, mode_at, keys_at, finish_of_word, finish_at, header_fields, raw_of, IsUntimed};
+ghost use Rattle.offer_header.specs.Raw.{version_at, mode_at, states_keys, keys_at, finish_of_word, stated_finish_at, finish_at};
+ghost use Rattle.offer_header.specs.Raw.{transcript_fields, job_fields, header_fields, raw_of, IsUntimed, IsUntold};
 
 use crate::raw::{RawHeader, RawRow, Reading};
 use deviator_script::{Finish, Purpose};
@@ -43,11 +44,12 @@ fn keys_in<'v>(
     line: u32,
     object: &'v Value,
 ) -> Result<Listed<RawRow<'v>>, OfferFault>
-    ensures { Gives (λ k. k) result (keys_at line reading.mode (view object.now)) }
+    ensures { Gives (λ k. k) result (keys_at line (states_keys reading.purpose reading.mode) (view object.now)) }
 {
-    match reading.mode {
-        Mode::Timelocks => Ok(Listed::empty(alloc)),
-        Mode::Hashkeys => list_in(alloc, reading, line, "keys", object),
+    if reading.states_keys() {
+        list_in(alloc, reading, line, "keys", object)
+    } else {
+        Ok(Listed::empty(alloc))
     }
 }
 
@@ -61,9 +63,9 @@ fn finish_of_word(alloc: Global, line: u32, word: &str) -> Result<Finish, OfferF
     }
 }
 
-#[tactic(auto, unfolding(crate::specs::Raw::finish_at))]
-fn finish_in(alloc: Global, line: u32, object: &Value) -> Result<Finish, OfferFault>
-    ensures { Gives (λ f. f) result (finish_at line (view object.now)) }
+#[tactic(auto, unfolding(crate::specs::Raw::stated_finish_at))]
+fn stated_finish_in(alloc: Global, line: u32, object: &Value) -> Result<Finish, OfferFault>
+    ensures { Gives (λ f. f) result (stated_finish_at line (view object.now)) }
 {
     match optional_text_in(alloc, line, "finish", object)? {
         None => Ok(Finish::Stop),
@@ -71,28 +73,68 @@ fn finish_in(alloc: Global, line: u32, object: &Value) -> Result<Finish, OfferFa
     }
 }
 
+fn finish_in(
+    alloc: Global,
+    line: u32,
+    purpose: Purpose,
+    object: &Value,
+) -> Result<Finish, OfferFault>
+    ensures { Gives (λ f. f) result (finish_at line purpose (view object.now)) }
+{
+    match purpose {
+        Purpose::Audit => Ok(Finish::Stop),
+        _ => stated_finish_in(alloc, line, object),
+    }
+}
+
+fn only_transcript_fields(
+    alloc: Global,
+    line: u32,
+    keyed: bool,
+    object: &Value,
+) -> Result<(), OfferFault>
+    ensures { Gives (λ u. u) result (only line (transcript_fields keyed) (view object.now)) }
+{
+    if keyed {
+        let allowed = [
+            "arcs", "bound", "delta", "keys", "leaders", "mode", "parties", "start", "swap",
+        ];
+        return only_in(alloc, line, &allowed, object);
+    }
+    let allowed = [
+        "arcs", "bound", "delta", "leaders", "mode", "parties", "start", "swap",
+    ];
+    only_in(alloc, line, &allowed, object)
+}
+
+fn only_job_fields(alloc: Global, line: u32, keyed: bool, object: &Value) -> Result<(), OfferFault>
+    ensures { Gives (λ u. u) result (only line (job_fields keyed) (view object.now)) }
+{
+    if keyed {
+        let allowed = [
+            "arcs", "bound", "delta", "finish", "keys", "leaders", "mode", "parties", "start",
+            "swap",
+        ];
+        return only_in(alloc, line, &allowed, object);
+    }
+    let allowed = [
+        "arcs", "bound", "delta", "finish", "leaders", "mode", "parties", "start", "swap",
+    ];
+    only_in(alloc, line, &allowed, object)
+}
+
 fn only_header_fields(
     alloc: Global,
     line: u32,
-    mode: Mode,
+    purpose: Purpose,
+    keyed: bool,
     object: &Value,
 ) -> Result<(), OfferFault>
-    ensures { Gives (λ u. u) result (only line (header_fields mode) (view object.now)) }
+    ensures { Gives (λ u. u) result (only line (header_fields purpose keyed) (view object.now)) }
 {
-    match mode {
-        Mode::Timelocks => {
-            let allowed = [
-                "arcs", "bound", "delta", "finish", "leaders", "mode", "parties", "start", "swap",
-            ];
-            only_in(alloc, line, &allowed, object)
-        }
-        Mode::Hashkeys => {
-            let allowed = [
-                "arcs", "bound", "delta", "finish", "keys", "leaders", "mode", "parties", "start",
-                "swap",
-            ];
-            only_in(alloc, line, &allowed, object)
-        }
+    match purpose {
+        Purpose::Audit => only_transcript_fields(alloc, line, keyed, object),
+        _ => only_job_fields(alloc, line, keyed, object),
     }
 }
 
@@ -106,6 +148,7 @@ pub(crate) fn raw_in<'v>(
 ) -> Result<RawHeader<'v>, OfferFault>
     ensures exact { Gives (λ h. h) result (raw_of purpose line (view object.now)) }
     ensures untimed { IfOk result (λ h. IsUntimed h) }
+    ensures untold { IfOk result (λ h. IsUntold purpose h) }
 {
     version_in(alloc, line, object)?;
     let mode = mode_in(alloc, line, object)?;
@@ -117,8 +160,8 @@ pub(crate) fn raw_in<'v>(
     let arcs = list_in(alloc, reading, line, "arcs", object)?;
     let leaders = list_in(alloc, reading, line, "leaders", object)?;
     let keys = keys_in(alloc, reading, line, object)?;
-    let finish = finish_in(alloc, line, object)?;
-    only_header_fields(alloc, line, mode, object)?;
+    let finish = finish_in(alloc, line, purpose, object)?;
+    only_header_fields(alloc, line, purpose, reading.states_keys(), object)?;
     Ok(RawHeader {
         mode,
         start,

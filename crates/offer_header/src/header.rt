@@ -2,7 +2,7 @@
 
 ghost use Rattle.std.specs.Prelude.{◌≡◌, IfOk};
 ghost use Rattle.swap_base.specs.Fault.{Gives};
-ghost use Rattle.offer_header.specs.Header.{header_of, IsWithin};
+ghost use Rattle.offer_header.specs.Header.{header_of, IsUntoldFor, IsWithin};
 
 use crate::fields::raw_in;
 use crate::limits::limited_in;
@@ -55,6 +55,7 @@ pub fn header_in(
     ensures exact { Gives (λ h. h) result (header_of purpose line text.now) }
     ensures purpose { IfOk result (λ h. h.purpose ≡ purpose) }
     ensures within { IfOk result (λ h. IsWithin h) }
+    ensures untold { IfOk result (λ h. IsUntoldFor purpose h) }
 {
     let object = object_in(alloc, line, text)?;
     let raw = raw_in(alloc, purpose, line, &object)?;

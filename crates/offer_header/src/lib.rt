@@ -11,3 +11,4 @@ mod parts;
 mod raw;
 
 pub use header::{Header, header_in};
+pub use raw::is_plain;

@@ -4,13 +4,13 @@ ghost use Rattle.std.specs.Prelude.{◌≡◌, ◌<◌, ◌≤◌, ◌^◌, [], 
 ghost use Rattle.swap_base.specs.Fault.{Gives};
 ghost use Rattle.refusals.specs.declared.reason.Reason.{Reason};
 ghost use Rattle.offer_fields.specs.Lists.{each_of};
-ghost use Rattle.offer_header.specs.Limits.{seed_of, seeds_of, conforms, terms_of, all_terms_of, arc_ends, hashlock_of, hashlocks_of, key_of, party_keys_of};
-ghost use Rattle.offer_header.specs.Limits.{keys_of, limited_of};
+ghost use Rattle.offer_header.specs.Limits.{seed_of, seeds_of, conforms, terms_of, all_terms_of, arc_ends, hashlock_of, no_digest, no_digests, hashlocks_by};
+ghost use Rattle.offer_header.specs.Limits.{hashlocks_of, key_of, party_keys_of, stated_keys_of, keys_by, keys_of, limited_of};
 ghost use Rattle.offer_header.specs.Names.{AreEnds, AreLeaders, IsNumbered};
 
 use crate::header::Header;
 use crate::names::{Ends, Numbered};
-use crate::raw::{RawActor, RawArc, RawHeader, RawLeader, RawParty, RawRow};
+use crate::raw::{RawActor, RawArc, RawHeader, RawLeader, RawParty, RawRow, is_plain};
 use deviator_script::Purpose;
 use offer_fields::{TextRef, digest_in, number_within, within};
 use refusals::{OfferFault, Reason};
@@ -124,36 +124,97 @@ fn terms_in(alloc: Global, line: u32, arcs: &[RawArc<'_>]) -> Result<Listed<ArcT
     limit_each(alloc, (), line, arcs)
 }
 
-#[tactic(auto, unfolding(crate::specs::Limits::hashlocks_of))]
-fn hashlocks_in(
+fn no_digests(alloc: Global, leaders: &[RawLeader<'_>]) -> Result<Listed<Digest>, NoMemory>
+    ensures { IfOk result (λ l. l ≡ no_digests leaders.now) }
+{
+    let mut list = Vec::new(alloc);
+    for _leader in leaders {
+        list.push([0; 32])?;
+    }
+    Ok(Listed::new(list))
+}
+
+fn hashlocks_by(
     alloc: Global,
+    plain: bool,
     line: u32,
     leaders: &[RawLeader<'_>],
 ) -> Result<Listed<Digest>, OfferFault>
-    ensures { Gives (λ h. h) result (hashlocks_of line leaders.now) }
+    ensures { Gives (λ h. h) result (hashlocks_by plain line leaders.now) }
 {
-    within(alloc, line, "leaders", 1, 8, leaders.len() as u64)?;
-    limit_each(alloc, (), line, leaders)
+    if plain {
+        Ok(no_digests(alloc, leaders)?)
+    } else {
+        limit_each(alloc, (), line, leaders)
+    }
 }
 
-#[tactic(auto, unfolding(crate::specs::Limits::keys_of))]
-fn keys_in(
+#[tactic(auto, unfolding(crate::specs::Limits::hashlocks_of))]
+fn hashlocks_in(
+    alloc: Global,
+    plain: bool,
+    line: u32,
+    leaders: &[RawLeader<'_>],
+) -> Result<Listed<Digest>, OfferFault>
+    ensures { Gives (λ h. h) result (hashlocks_of plain line leaders.now) }
+{
+    within(alloc, line, "leaders", 1, 8, leaders.len() as u64)?;
+    hashlocks_by(alloc, plain, line, leaders)
+}
+
+fn no_keys(
+    alloc: Global,
+    parties: &[RawParty<'_>],
+    leaders: &[RawLeader<'_>],
+) -> Result<Listed<Listed<Digest>>, NoMemory>
+    ensures { IfOk result (λ k. k ≡ map (λ p. no_digests leaders.now) parties.now) }
+{
+    let mut rows = Vec::new(alloc);
+    for _party in parties {
+        rows.push(no_digests(alloc, leaders)?)?;
+    }
+    Ok(Listed::new(rows))
+}
+
+#[tactic(auto, unfolding(crate::specs::Limits::stated_keys_of))]
+fn stated_keys_in(
     alloc: Global,
     line: u32,
-    mode: Mode,
-    parties: usize,
-    locks: usize,
-    rows: &[RawRow<'_>],
+    raw: &RawHeader<'_>,
 ) -> Result<Listed<Listed<Digest>>, OfferFault>
-    ensures { Gives (λ k. k) result (keys_of line mode parties locks rows.now) }
+    ensures { Gives (λ k. k) result (stated_keys_of line raw.now) }
 {
-    match mode {
+    let (parties, rows) = (raw.parties.len() as u64, raw.keys.len() as u64);
+    within(alloc, line, "keys", parties, parties, rows)?;
+    limit_each(alloc, raw.leaders.len(), line, raw.keys.as_slice())
+}
+
+fn keys_by(
+    alloc: Global,
+    plain: bool,
+    line: u32,
+    raw: &RawHeader<'_>,
+) -> Result<Listed<Listed<Digest>>, OfferFault>
+    ensures { Gives (λ k. k) result (keys_by plain line raw.now) }
+{
+    if plain {
+        Ok(no_keys(alloc, raw.parties.as_slice(), raw.leaders.as_slice())?)
+    } else {
+        stated_keys_in(alloc, line, raw)
+    }
+}
+
+fn keys_in(
+    alloc: Global,
+    plain: bool,
+    line: u32,
+    raw: &RawHeader<'_>,
+) -> Result<Listed<Listed<Digest>>, OfferFault>
+    ensures { Gives (λ k. k) result (keys_of raw.now.mode plain line raw.now) }
+{
+    match raw.mode {
         Mode::Timelocks => Ok(Listed::empty(alloc)),
-        Mode::Hashkeys => {
-            let length = rows.len() as u64;
-            within(alloc, line, "keys", parties as u64, parties as u64, length)?;
-            limit_each(alloc, locks, line, rows)
-        }
+        Mode::Hashkeys => keys_by(alloc, plain, line, raw),
     }
 }
 
@@ -229,9 +290,9 @@ pub(crate) fn limited_in(
     let bound = number_within(alloc, line, "bound", 1, 64, raw.bound)?;
     let seeds = seeds_in(alloc, line, raw.parties.as_slice())?;
     let terms = terms_in(alloc, line, raw.arcs.as_slice())?;
-    let hashlocks = hashlocks_in(alloc, line, raw.leaders.as_slice())?;
-    let (parties, locks) = (raw.parties.len(), raw.leaders.len());
-    let keys = keys_in(alloc, line, raw.mode, parties, locks, raw.keys.as_slice())?;
+    let plain = is_plain(purpose);
+    let hashlocks = hashlocks_in(alloc, plain, line, raw.leaders.as_slice())?;
+    let keys = keys_in(alloc, plain, line, raw)?;
     let conforming = conforming_in(alloc, raw.parties.as_slice())?;
     let arcs = arc_ends_in(alloc, numbered.arcs.as_slice())?;
     let leaders = leaders_in(alloc, numbered.leaders.as_slice())?;

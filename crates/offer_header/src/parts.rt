@@ -1,12 +1,13 @@
 //! The parts of a header: its parties, arcs, leaders and rows of keys.
 
-ghost use Rattle.std.specs.Prelude.{◌≡◌};
+ghost use Rattle.std.specs.Prelude.{◌≡◌, codes};
 ghost use Rattle.serde_json.specs.View.{view};
 ghost use Rattle.swap_base.specs.Fault.{Gives};
-ghost use Rattle.offer_fields.specs.Fields.{only};
-ghost use Rattle.offer_header.specs.Raw.{object_actor, actor_of_word, actor_at, seed_at, party_of, timelock_at, arc_fields, arc_of, leader_of, row_of};
+ghost use Rattle.offer_fields.specs.Fields.{only, optional_text_at, text_at};
+ghost use Rattle.offer_header.specs.Raw.{object_actor, actor_of_word, actor_at, seed_at, party_fields, party_of, timelock_at, arc_fields, arc_of};
+ghost use Rattle.offer_header.specs.Raw.{hashlock_at, leader_fields, leader_of, row_of};
 
-use crate::raw::{RawActor, RawArc, RawLeader, RawParty, RawRow, Reading};
+use crate::raw::{RawActor, RawArc, RawLeader, RawParty, RawRow, Reading, is_plain};
 use deviator_script::Purpose;
 use offer_fields::{
     Member, TextRef, is_object, member_text, number_in, only_in, optional_text_in, text_in,
@@ -15,7 +16,6 @@ use offer_fields::{
 use refusals::{OfferFault, not_built, wrong_kind};
 use serde_json::Value;
 use std::alloc::Global;
-use swap_digraph::Mode;
 
 fn object_actor(alloc: Global, line: u32, purpose: Purpose) -> Result<RawActor, OfferFault>
     ensures { Gives (λ a. a) result (object_actor line purpose) }
@@ -55,17 +55,44 @@ fn actor_in(
     actor_of_word(alloc, line, word)
 }
 
-#[tactic(auto, unfolding(crate::specs::Raw::seed_at))]
-fn seed_in<'v>(
+fn stated_seed_in<'v>(
     alloc: Global,
     line: u32,
     object: &'v Value,
 ) -> Result<Option<TextRef<'v>>, OfferFault>
-    ensures { Gives (λ s. s) result (seed_at line (view object.now)) }
+    ensures { Gives (λ s. s) result (optional_text_at line (codes "seed") (view object.now)) }
 {
     match optional_text_in(alloc, line, "seed", object)? {
         None => Ok(None),
         Some(seed) => Ok(Some(TextRef::new(seed.as_bytes()))),
+    }
+}
+
+fn seed_in<'v>(
+    alloc: Global,
+    line: u32,
+    purpose: Purpose,
+    object: &'v Value,
+) -> Result<Option<TextRef<'v>>, OfferFault>
+    ensures { Gives (λ s. s) result (seed_at line purpose (view object.now)) }
+{
+    match purpose {
+        Purpose::Audit => Ok(None),
+        _ => stated_seed_in(alloc, line, object),
+    }
+}
+
+fn only_party_fields(
+    alloc: Global,
+    line: u32,
+    purpose: Purpose,
+    object: &Value,
+) -> Result<(), OfferFault>
+    ensures { Gives (λ u. u) result (only line (party_fields purpose) (view object.now)) }
+{
+    match purpose {
+        Purpose::Audit => only_in(alloc, line, &["actor", "name"], object),
+        _ => only_in(alloc, line, &["actor", "name", "seed"], object),
     }
 }
 
@@ -82,8 +109,8 @@ impl<'v> Member<'v, Reading> for RawParty<'v> {
         is_object(alloc, line, "parties", value)?;
         let name = text_in(alloc, line, "name", value)?;
         let actor = actor_in(alloc, line, reading.purpose, value)?;
-        let seed = seed_in(alloc, line, value)?;
-        only_in(alloc, line, &["actor", "name", "seed"], value)?;
+        let seed = seed_in(alloc, line, reading.purpose, value)?;
+        only_party_fields(alloc, line, reading.purpose, value)?;
         Ok(RawParty {
             name: TextRef::new(name.as_bytes()),
             actor,
@@ -92,22 +119,23 @@ impl<'v> Member<'v, Reading> for RawParty<'v> {
     }
 }
 
-fn timelock_in(alloc: Global, line: u32, mode: Mode, object: &Value) -> Result<u64, OfferFault>
-    ensures { Gives (λ n. n) result (timelock_at line mode (view object.now)) }
+fn timelock_in(alloc: Global, line: u32, stated: bool, object: &Value) -> Result<u64, OfferFault>
+    ensures { Gives (λ n. n) result (timelock_at line stated (view object.now)) }
 {
-    match mode {
-        Mode::Timelocks => number_in(alloc, line, "timelock", object),
-        Mode::Hashkeys => Ok(0),
+    if stated {
+        number_in(alloc, line, "timelock", object)
+    } else {
+        Ok(0)
     }
 }
 
-fn only_arc_fields(alloc: Global, line: u32, mode: Mode, object: &Value) -> Result<(), OfferFault>
-    ensures { Gives (λ u. u) result (only line (arc_fields mode) (view object.now)) }
+fn only_arc_fields(alloc: Global, line: u32, stated: bool, object: &Value) -> Result<(), OfferFault>
+    ensures { Gives (λ u. u) result (only line (arc_fields stated) (view object.now)) }
 {
-    match mode {
-        Mode::Timelocks => only_in(alloc, line, &["amount", "from", "timelock", "to"], object),
-        Mode::Hashkeys => only_in(alloc, line, &["amount", "from", "to"], object),
+    if stated {
+        return only_in(alloc, line, &["amount", "from", "timelock", "to"], object);
     }
+    only_in(alloc, line, &["amount", "from", "to"], object)
 }
 
 impl<'v> Member<'v, Reading> for RawArc<'v> {
@@ -124,8 +152,8 @@ impl<'v> Member<'v, Reading> for RawArc<'v> {
         let from = text_in(alloc, line, "from", value)?;
         let to = text_in(alloc, line, "to", value)?;
         let amount = number_in(alloc, line, "amount", value)?;
-        let timelock = timelock_in(alloc, line, reading.mode, value)?;
-        only_arc_fields(alloc, line, reading.mode, value)?;
+        let timelock = timelock_in(alloc, line, reading.states_timelocks(), value)?;
+        only_arc_fields(alloc, line, reading.states_timelocks(), value)?;
         Ok(RawArc {
             from: TextRef::new(from.as_bytes()),
             to: TextRef::new(to.as_bytes()),
@@ -135,23 +163,64 @@ impl<'v> Member<'v, Reading> for RawArc<'v> {
     }
 }
 
+fn stated_hashlock_in<'v>(
+    alloc: Global,
+    line: u32,
+    object: &'v Value,
+) -> Result<TextRef<'v>, OfferFault>
+    ensures { Gives (λ t. t) result (text_at line (codes "hashlock") (view object.now)) }
+{
+    let hashlock = text_in(alloc, line, "hashlock", object)?;
+    Ok(TextRef::new(hashlock.as_bytes()))
+}
+
+fn hashlock_in<'v>(
+    alloc: Global,
+    line: u32,
+    plain: bool,
+    object: &'v Value,
+) -> Result<TextRef<'v>, OfferFault>
+    ensures { Gives (λ t. t) result (hashlock_at line plain (view object.now)) }
+{
+    if plain {
+        Ok(TextRef::new(&[]))
+    } else {
+        stated_hashlock_in(alloc, line, object)
+    }
+}
+
+fn only_leader_fields(
+    alloc: Global,
+    line: u32,
+    plain: bool,
+    object: &Value,
+) -> Result<(), OfferFault>
+    ensures { Gives (λ u. u) result (only line (leader_fields plain) (view object.now)) }
+{
+    if plain {
+        return only_in(alloc, line, &["party"], object);
+    }
+    only_in(alloc, line, &["hashlock", "party"], object)
+}
+
 impl<'v> Member<'v, Reading> for RawLeader<'v> {
-    ghost said = { λ _. leader_of };
+    ghost said = { leader_of };
 
     #[tactic(auto, unfolding(crate::specs::Raw::leader_of))]
     fn read(
         alloc: Global,
-        _reading: Reading,
+        reading: Reading,
         line: u32,
         value: &'v Value,
     ) -> Result<RawLeader<'v>, OfferFault> {
         is_object(alloc, line, "leaders", value)?;
         let party = text_in(alloc, line, "party", value)?;
-        let hashlock = text_in(alloc, line, "hashlock", value)?;
-        only_in(alloc, line, &["hashlock", "party"], value)?;
+        let plain = is_plain(reading.purpose);
+        let hashlock = hashlock_in(alloc, line, plain, value)?;
+        only_leader_fields(alloc, line, plain, value)?;
         Ok(RawLeader {
             party: TextRef::new(party.as_bytes()),
-            hashlock: TextRef::new(hashlock.as_bytes()),
+            hashlock,
         })
     }
 }

@@ -1,5 +1,8 @@
 //! A header as its line states it: its texts lie in the line that was read.
 
+ghost use Rattle.std.specs.Prelude.{◌≡◌};
+ghost use Rattle.offer_header.specs.Raw.{is_plain, states_keys, states_timelocks};
+
 use deviator_script::{Finish, Purpose};
 use offer_fields::TextRef;
 use swap_base::Listed;
@@ -10,6 +13,35 @@ use swap_digraph::Mode;
 pub struct Reading {
     pub purpose: Purpose,
     pub mode: Mode,
+}
+
+/// Whether a header that is read for this is plain: it doesn't state what its parties' seeds give.
+pub fn is_plain(purpose: Purpose) -> bool
+    ensures { result ≡ is_plain purpose }
+{
+    matches!(purpose, Purpose::Make)
+}
+
+impl Reading {
+    /// Whether each arc states its timelock.
+    pub(crate) fn states_timelocks(self) -> bool
+        ensures { result ≡ states_timelocks self.purpose self.mode }
+    {
+        match self.mode {
+            Mode::Timelocks => !is_plain(self.purpose),
+            Mode::Hashkeys => false,
+        }
+    }
+
+    /// Whether the header states keys.
+    pub(crate) fn states_keys(self) -> bool
+        ensures { result ≡ states_keys self.purpose self.mode }
+    {
+        match self.mode {
+            Mode::Timelocks => false,
+            Mode::Hashkeys => !is_plain(self.purpose),
+        }
+    }
 }
 
 /// Who makes a party's calls: the party itself, which conforms, or the offer's events.
@@ -31,13 +63,14 @@ pub struct RawArc<'v> {
     pub from: TextRef<'v>,
     pub to: TextRef<'v>,
     pub amount: u64,
-    /// 0 in hashkeys mode.
+    /// 0 where none is stated.
     pub timelock: u64,
 }
 
 #[derive(Debug, Drop)]
 pub struct RawLeader<'v> {
     pub party: TextRef<'v>,
+    /// No text where none is stated.
     pub hashlock: TextRef<'v>,
 }
 
@@ -56,7 +89,7 @@ pub struct RawHeader<'v> {
     pub parties: Listed<RawParty<'v>>,
     pub arcs: Listed<RawArc<'v>>,
     pub leaders: Listed<RawLeader<'v>>,
-    /// A row per party; none in timelocks mode.
+    /// A row per party; none where no keys are stated.
     pub keys: Listed<RawRow<'v>>,
     pub finish: Finish,
 }

@@ -1,12 +1,16 @@
 -- Lists of JSON values, one more at a time.
-use Rattle.std.proofs.Common.{◌≡◌, ℕ, ◌+◌, ◌<◌, List, [], ◌∷◌, ◌++◌, length, get_or, map, take, refl, sym, ap, ◌∙◌, arith}
+use Rattle.std.proofs.Common.{◌≡◌, ℕ, ◌+◌, ◌<◌, List, [], ◌∷◌, ◌++◌, length, get_or, map, take, Option, Some, None}
+use Rattle.std.proofs.Common.{refl, sym, ap, ◌∙◌, arith}
+use Rattle.std.specs.Ordering.{nat_cmp}
+use Rattle.std.specs.declared.cmp.Ordering.TheVariants.{Less}
+use Rattle.std.specs.Cmp.Lexicographic.{slice_cmp}
 use Rattle.std.specs.List.{range_with_len}
 use Rattle.std.proofs.lemmas.List.{take_more, map_push}
 use Rattle.std.proofs.lemmas.List.FromFn.{map-range_with_len_more}
 use Rattle.serde_json.specs.Data.{Data, Members, no_members, member, put}
 use Rattle.serde_json.specs.View.{view}
 use Rattle.serde_json.specs.declared.value.Value.{Value}
-use Rattle.offer_text.specs.Words.{IsBelow}
+use Rattle.offer_text.specs.Words.{with_optional, IsBelow}
 
 -- one more of the first n numbers
 pub number_more : (f : ℕ → Data) (old new : List Value) (n : ℕ) (x : Value) → map view old ≡ map f (range_with_len 0 n) → new ≡ old ++ x ∷ []
@@ -26,3 +30,9 @@ item_more f old new xs i a x lt at so_far e is =
 pub put_is_first : (field : List ℕ) (d : Data) (ms : Members) → IsBelow field ms → put field d ms ≡ member field d ms
 put_is_first field d no_members k = refl
 put_is_first field d (member other e ms) k = rw k refl
+
+-- a field that stands before another one and those after it stands before them also where the other isn't there
+pub below_optional : {A : Type 0} (name field : List ℕ) (f : A → Data) (o : Option A) (ms : Members) → slice_cmp nat_cmp name field ≡ Less → IsBelow name ms
+    → IsBelow name (with_optional field f o ms)
+below_optional name field f None ms first rest = rest
+below_optional name field f (Some x) ms first rest = first

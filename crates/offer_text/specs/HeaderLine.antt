@@ -133,6 +133,12 @@ header_line job = compact_text (header_data job)
 
 -- ---- jobs that can be written
 
+-- a role that is one word
+abbrev pub IsWord : Role → Type 0
+IsWord (Script moves) = ⊥
+IsWord (Strategy name) = ⊥
+IsWord _ = Unit {0}
+
 -- what a role names: parties below n, and a strategy by text
 abbrev pub IsSayable : ℕ → Role → Type 0
 IsSayable n (Script moves) = All (NamesBelow n) moves

@@ -1,15 +1,16 @@
 //! The header line of a job.
 
-ghost use Rattle.std.specs.Prelude.{◌≡◌, IfOk, OnOk, codes, false};
+ghost use Rattle.std.specs.Prelude.{◌≡◌, IfOk, OnOk, All, codes, true};
 ghost use Rattle.serde_json.specs.Data.{string, no_members};
 ghost use Rattle.serde_json.specs.View.{view, members_view};
 ghost use Rattle.offer_text.specs.Words.{IsBelow};
-ghost use Rattle.offer_text.specs.HeaderLine.{first_fields, fields_by_mode, last_fields, leaders_data, header_line, shown_header, is_make, IsWritable};
+ghost use Rattle.offer_text.specs.HeaderLine.{first_fields, fields_by_mode, last_fields, leaders_data, finish_word, shown_header, made_header, header_data};
+ghost use Rattle.offer_text.specs.HeaderLine.{header_line, is_make, IsWord, IsWritable};
 
 use crate::deal::{arcs_value, keys_value, leaders_value};
 use crate::fields::{put_first, put_number, put_text};
-use crate::parties::shown_parties;
-use deviator_script::Job;
+use crate::parties::{made_parties, shown_parties};
+use deviator_script::{Finish, Job, Purpose};
 use serde_json::{Map, Value};
 use std::alloc::Global;
 use swap_base::{ByteText, NoMemory};
@@ -85,12 +86,53 @@ fn shown_header(alloc: Global, job: &Job) -> Result<Value, NoMemory>
     Ok(Value::Object(fields))
 }
 
-/// The header line of a job, without a line feed.
+fn finish_word(finish: Finish) -> &'static str
+    ensures { result.now ≡ finish_word finish }
+{
+    match finish {
+        Finish::Stop => "stop",
+        Finish::Fair => "fair",
+    }
+}
+
+/// A header with seeds, finish, and the actors as they were read.
+fn made_header(alloc: Global, job: &Job) -> Result<Value, NoMemory>
+    requires writable { IsWritable job.now }
+    requires words { All IsWord job.now.roles }
+    ensures { IfOk result (λ v. view v ≡ made_header job.now) }
+{
+    let mut fields = Map::new(alloc);
+    let parties = made_parties(alloc, job)?;
+    put_by_mode(alloc, &mut fields, job, parties)?;
+    put_text(alloc, &mut fields, "finish", finish_word(job.finish))?;
+    put_first_fields(alloc, &mut fields, job)?;
+    Ok(Value::Object(fields))
+}
+
+fn is_make(purpose: Purpose) -> bool
+    ensures { result ≡ is_make purpose }
+{
+    matches!(purpose, Purpose::Make)
+}
+
+fn header_value(alloc: Global, job: &Job) -> Result<Value, NoMemory>
+    requires writable { IsWritable job.now }
+    requires words { is_make job.now.purpose ≡ true → All IsWord job.now.roles }
+    ensures { IfOk result (λ v. view v ≡ header_data job.now) }
+{
+    if is_make(job.purpose) {
+        made_header(alloc, job)
+    } else {
+        shown_header(alloc, job)
+    }
+}
+
+/// The header line of a job, without a line feed. Of a job with the purpose of making each actor is a word.
 pub fn write_deal(alloc: Global, job: &Job) -> Result<ByteText, NoMemory>
     requires writable { IsWritable job.now }
-    requires shown { is_make job.now.purpose ≡ false }
+    requires words { is_make job.now.purpose ≡ true → All IsWord job.now.roles }
     ensures { IfOk result (λ t. t ≡ header_line job.now) }
 {
-    let text = shown_header(alloc, job)?.to_string(alloc)?;
+    let text = header_value(alloc, job)?.to_string(alloc)?;
     Ok(ByteText::new(text.into_bytes()))
 }

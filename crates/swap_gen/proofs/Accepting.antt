@@ -17,8 +17,8 @@ use Rattle.single_leader.specs.Distance.{dist_of}
 use Rattle.single_leader.proofs.Far.{dist_is, dist_bounded, dist_by_rounds}
 use Rattle.hashkey_path.proofs.Feeding.{any_id}
 use Rattle.swap_rules.specs.Accepted.{HasTimelock, IsAccepted, IsOfVersion, IsTimed}
+use Rattle.proposed_deal.specs.Proposed.{IsLedFor, IsProposed}
 use Rattle.swap_gen.specs.Made.{hashlock_from, keys_from, all_keys, timelock_for, all_timelocks, filled, made_deal}
-use Rattle.swap_gen.specs.Proposed.{IsLedFor, IsProposed}
 
 -- The one leader of a deal with timelocks.
 

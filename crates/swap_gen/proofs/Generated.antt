@@ -7,11 +7,11 @@ use Rattle.swap_digraph.specs.Value.{Graph}
 use Rattle.swap_digraph.specs.declared.deal.Deal.{Deal}
 use Rattle.deviator_script.specs.declared.event.Event.{Event}
 use Rattle.deviator_script.specs.declared.job.Job.{Job}
-use Rattle.deviator_script.specs.Step.{CanStep}
+use Rattle.deviator_script.specs.Step.{IsEventOf}
 use Rattle.swap_rules.specs.Accepted.{IsAccepted}
+use Rattle.proposed_deal.specs.Proposed.{HaveSeeds, IsProposed}
 use Rattle.swap_gen.specs.Made.{made, made_deal}
-use Rattle.swap_gen.specs.Owned.{HaveSeeds, OwnsKeys}
-use Rattle.swap_gen.specs.Proposed.{IsProposed}
+use Rattle.swap_gen.specs.Owned.{OwnsKeys}
 use Rattle.swap_gen.specs.Drawn.{drawn_graph, plain_deal, plain_job, seed_of, generated}
 use Rattle.swap_gen.specs.Events.{event_from}
 use Rattle.swap_gen.proofs.Proposing.{plain_is_proposed}
@@ -42,8 +42,9 @@ plain_has_seeds seed n p lt = some_seed seed n p (subst (λ (g : Graph). p < g.n
 pub generated_is_owned : (seed n : ℕ) → (p : ℕ) → p < (generated seed n).deal.graph.n → OwnsKeys (generated seed n) p
 generated_is_owned seed n p lt = made_is_owned (plain_job seed n) (plain_has_seeds seed n) p lt
 
-pub generated_steps : (seed n k : ℕ) → 2 ≤ n → CanStep (generated seed n).deal (generated seed n).conforming (event_from seed (drawn_graph seed n) k).0
-generated_steps seed n k many = event_steps (generated seed n).deal (generated seed n).conforming seed n many (generated_graph seed n) k
+pub generated_steps : (seed n k : ℕ) → 2 ≤ n → IsEventOf (generated seed n) (event_from seed (drawn_graph seed n) k).0
+generated_steps seed n k many =
+    let job = generated seed n in event_steps job.deal job.conforming job.seeds seed n many (generated_graph seed n) k
 
 pub plain_job_is_proposed : (seed n : ℕ) → 2 ≤ n → n ≤ 24 → IsProposed (plain_job seed n).deal
 unfolding plain_job

@@ -10,7 +10,7 @@ use Rattle.swap_digraph.proofs.Ranges.{place_below, place_is}
 use Rattle.deviator_script.specs.declared.event.Event.{Event}
 use Rattle.deviator_script.specs.declared.event.Event.TheVariants.{Tick, Look, Act}
 use Rattle.deviator_script.specs.declared.job.Job.{Job}
-use Rattle.deviator_script.specs.Step.{CanStep}
+use Rattle.deviator_script.specs.Step.{IsEventOf}
 use Rattle.std.proofs.lemmas.List.FromFn.{length-range_with_len}
 use Rattle.swap_gen.specs.Word.{word, next, DrawState}
 use Rattle.swap_gen.specs.Drawn.{drawn_arcs, drawn_graph, generated}
@@ -123,7 +123,7 @@ module _ (i : Inside) (h : Holds i) where
         ∙ sym (ap (λ (r : Event × ℕ). r.0) (look_comes i.draws.seed i.job.deal.graph i.draws.place (λ z. some (kind ∙ z)) (subst (λ k. k ≤ 4) kind few)))
         ∙ wanted_is
 
-    pub steps : (e : Event) → e ≡ wanted → CanStep (generated s.seed s.parties).deal (generated s.seed s.parties).conforming e
+    pub steps : (e : Event) → e ≡ wanted → IsEventOf (generated s.seed s.parties) e
     steps e is =
-        subst (CanStep (generated s.seed s.parties).deal (generated s.seed s.parties).conforming) (sym is)
+        subst (IsEventOf (generated s.seed s.parties)) (sym is)
         (generated_steps s.seed s.parties s.place (subst (λ (t : GeneratorState). 2 ≤ t.parties) view h.parties.0))

@@ -7,44 +7,15 @@ use Rattle.time_bounds.specs.Times.{need}
 use Rattle.swap_digraph.specs.Graph.{ends, HasEnds, IsHeight}
 use Rattle.swap_digraph.specs.Value.{Graph}
 use Rattle.swap_digraph.specs.declared.deal.Deal.{Deal}
-use Rattle.swap_digraph.specs.declared.deal.Mode.{Mode}
-use Rattle.swap_digraph.specs.declared.deal.Mode.TheVariants.{Timelocks, Hashkeys}
 use Rattle.swap_digraph.specs.declared.deal.Version.TheVariants.{One}
 use Rattle.swap_digraph.proofs.Faults.{has_ends}
 use Rattle.leader_check.specs.Levels.{height_of}
 use Rattle.leader_check.proofs.Heights.{greatest_level_is_height}
-use Rattle.swap_rules.specs.Accepted.{IsAccepted, IsTimed}
+use Rattle.proposed_deal.specs.Proposed.{IsProposed}
 use Rattle.swap_gen.specs.Word.{word}
-use Rattle.swap_gen.specs.Proposed.{IsLedFor, IsProposed}
 use Rattle.swap_gen.specs.Drawn.{leader_count, drawn_arcs, drawn_graph, drawn_amount, plain_deal}
 use Rattle.swap_gen.proofs.Rings.{leaders_are_low, arcs_are_sound, arcs_have_ring}
 use Rattle.swap_gen.proofs.Rising.{ring_is_strong, rising_is_feedback, sound_rises}
-
-led_for : (m : Mode) (d : Deal) → IsTimed m d → IsLedFor m d
-led_for Timelocks d t = t.0
-led_for Hashkeys d t = tt
-
--- an accepted deal has what a deal to be made needs
-pub is_proposed : (d : Deal) → IsAccepted d → IsProposed d
-is_proposed d k = record {
-  parties = k.parties;
-  arcs = k.arcs;
-  ends = k.ends;
-  of_version = k.of_version;
-  strong = k.strong;
-  leaders = k.leaders;
-  leader = k.leader;
-  apart = k.apart;
-  led = led_for d.mode d k.timed;
-  feedback = k.feedback;
-  height = k.height;
-  is_height = k.is_height;
-  delta = k.delta;
-  start = k.start;
-  bound = k.bound;
-  one_amount_each = k.one_amount_each;
-  amounts = k.amounts;
-}
 
 leader_is : (count i : ℕ) → i < count → slice_index (range_with_len 0 count) i ≡ i
 leader_is count i lt = get_or-range_with_len 0 count i 0 lt ∙ (omega arith)

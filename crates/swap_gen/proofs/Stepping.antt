@@ -12,12 +12,13 @@ use Rattle.swap_digraph.specs.declared.deal.Deal.{Deal}
 use Rattle.deviator_script.specs.declared.event.Event.{Event}
 use Rattle.deviator_script.specs.declared.event.Event.TheVariants.{Tick, Look, Act}
 use Rattle.deviator_script.specs.declared.job.Job.{Job}
+use Rattle.deviator_script.specs.Crafted.{Seeds}
 use Rattle.deviator_script.specs.Step.{CanStep, CanTick, CanLook}
 use Rattle.digraph_check.proofs.ListTests.{or-left}
 use Rattle.swap_rules.specs.Accepted.{IsAccepted}
 use Rattle.swap_gen.specs.Word.{word, next}
 use Rattle.swap_gen.specs.Made.{made, made_deal, filled}
-use Rattle.swap_gen.specs.Owned.{HaveSeeds, OwnsKeys}
+use Rattle.swap_gen.specs.Owned.{OwnsKeys}
 use Rattle.swap_gen.specs.Drawn.{ring_arc, drawn_arcs, drawn_graph, plain_deal, plain_job, seed_of, generated}
 use Rattle.swap_gen.specs.Events.{touching, picked, event_from}
 use Rattle.swap_gen.proofs.Places.{no_arc}
@@ -63,15 +64,15 @@ picked_touches g p w some =
 
 -- Steps.
 
-module _ (d : Deal) (conforming : List Bool) (seed n : ℕ) (many : 2 ≤ n) (graph : d.graph ≡ drawn_graph seed n) where
-  pub event_steps : (k : ℕ) → CanStep d conforming (event_from seed (drawn_graph seed n) k).0
+module _ (d : Deal) (conforming : List Bool) (seeds : Seeds) (seed n : ℕ) (many : 2 ≤ n) (graph : d.graph ≡ drawn_graph seed n) where
+  pub event_steps : (k : ℕ) → CanStep d conforming seeds (event_from seed (drawn_graph seed n) k).0
   unfolding event_from
   event_steps k = by_kind (word seed k % 8 == 0) (nat_le (word seed k % 8) 4)
     where
       g : Graph
       g = drawn_graph seed n
 
-      by_kind : (tick look : Bool) → CanStep d conforming (cond {A =
+      by_kind : (tick look : Bool) → CanStep d conforming seeds (cond {A =
           Event × ℕ} tick (Tick (word seed (next k) % length (drawn_arcs seed n)) 1, next (next k))
           (cond {A = Event × ℕ} look (
             Look (word seed (next k) % n)

@@ -1,4 +1,3 @@
-pub mod Proposed
 pub mod Made
 pub mod Owned
 pub mod Word

@@ -3,7 +3,7 @@
 ghost use Rattle.std.specs.Prelude.{◌≡◌, ◌≤◌, ◌<◌, ◌==◌, ◌||◌, ℕ, IfOk, All, length, map};
 ghost use Rattle.std.specs.List.{range_with_len};
 ghost use Rattle.swap_digraph.specs.Graph.{arcs};
-ghost use Rattle.deviator_script.specs.Step.{CanStep};
+ghost use Rattle.deviator_script.specs.Step.{IsEventOf};
 ghost use Rattle.swap_rules.specs.Accepted.{IsAccepted};
 ghost use Rattle.swap_gen.specs.Drawn.{drawn_graph, generated};
 ghost use Rattle.swap_gen.specs.Events.{event_from, first_place, generated_events, picked, touching};
@@ -121,7 +121,7 @@ impl Generator {
     pub fn next_event(&mut self) -> Event
         ensures event { result ≡ (event_from self.old.seed (drawn_graph self.old.seed self.old.parties) self.old.place).0 }
         ensures drawn { self.new ≡ record self.old { place = (event_from self.old.seed (drawn_graph self.old.seed self.old.parties) self.old.place).1 } }
-        ensures fits { CanStep (generated self.old.seed self.old.parties).deal (generated self.old.seed self.old.parties).conforming result }
+        ensures fits { IsEventOf (generated self.old.seed self.old.parties) result }
     {
         let kind = self.draws.draw() % 8;
         let graph = &self.job.deal.graph;
@@ -151,7 +151,7 @@ pub fn generate(
     ensures events { IfOk result (λ r. r.1.items ≡ generated_events seed parties events) }
     ensures accepted { IfOk result (λ r. IsAccepted r.0.deal) }
     ensures owned { IfOk result (λ r. (p : ℕ) → p < r.0.deal.graph.n → OwnsKeys r.0 p) }
-    ensures fit { IfOk result (λ r. All (CanStep r.0.deal r.0.conforming) r.1.items) }
+    ensures fit { IfOk result (λ r. All (IsEventOf r.0) r.1.items) }
 {
     let mut generator = Generator::new(alloc, seed, parties)?;
     let mut list = Vec::new(alloc);

@@ -7,8 +7,8 @@ ghost use Rattle.swap_digraph.specs.declared.deal.Mode.TheVariants.{Timelocks};
 ghost use Rattle.single_leader.specs.Distance.{dist_of};
 ghost use Rattle.swap_rules.specs.Accepted.{IsAccepted};
 ghost use Rattle.swap_gen.specs.Made.{all_timelocks, made, made_deal, timelock_for};
-ghost use Rattle.swap_gen.specs.Proposed.{IsProposed};
-ghost use Rattle.swap_gen.specs.Owned.{HaveSeeds, OwnsKeys};
+ghost use Rattle.proposed_deal.specs.Proposed.{HaveSeeds, IsProposed};
+ghost use Rattle.swap_gen.specs.Owned.{OwnsKeys};
 
 use crate::seeds::{all_keys, hashlocks_from};
 use deviator_script::{Job, Purpose};

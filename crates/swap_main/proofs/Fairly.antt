@@ -14,6 +14,7 @@ use Rattle.swap_main.specs.Written.{Written}
 use Rattle.swap_main.specs.declared.words.Command.{Command}
 use Rattle.swap_main.specs.declared.words.Command.TheVariants.{Run}
 use Rattle.swap_main.specs.Words.{command_of}
+use Rattle.swap_offer.specs.Lines.{lines_of, filled_lines}
 use Rattle.swap_main.specs.Output.{book_of, output_for, output_of, report_for, reported}
 use Rattle.swap_main.specs.Promised.{AsPromised, IsRun}
 use Rattle.swap_main.specs.Top.{AsksFairRun}
@@ -57,10 +58,10 @@ module _ (words : List (List ℕ)) (left left' : Option (List ℕ)) (command : C
   pub is_not_refused : (reason : Reason) → ¬ (output_of command items ≡ Err reason)
   unfolding output_of
   is_not_refused reason e =
-      let r : ◌≡◌ {A = Result Written Reason} (output_for Run (job_of purposes.Run items)) (Err reason) =
+      let r : ◌≡◌ {A = Result Written Reason} (output_for Run (filled_lines 1 (lines_of items)) (job_of purposes.Run items)) (Err reason) =
       ap (λ (c : Command). output_of c items) (sym is_a_run) ∙ e in
-      let w : ◌≡◌ {A = Result Written Reason} (output_for Run (Ok (a.job, []))) (Err reason) =
-      ap (λ (q : Result (Job × List Event) Reason). output_for Run q) (sym is_read) ∙ r in
+      let w : ◌≡◌ {A = Result Written Reason} (output_for Run (filled_lines 1 (lines_of items)) (Ok (a.job, []))) (Err reason) =
+      ap (λ (q : Result (Job × List Event) Reason). output_for Run (filled_lines 1 (lines_of items)) q) (sym is_read) ∙ r in
       cc w
 
   pub is_not_named : (output : Written) → AsPromised command items output → output.found ≡ false

@@ -1,4 +1,3 @@
-pub mod Asked
 pub mod Replays
 pub mod Reports
 pub mod Promises
@@ -8,3 +7,5 @@ pub mod Streams
 pub mod Reading
 pub mod Saying
 pub mod Ends
+pub mod Asking
+pub mod Performing

@@ -1,7 +1,7 @@
 -- What a run and a check promise of what they wrote.
-use Rattle.std.proofs.Common.{◌≡◌, ℕ, Bool, false, List, [], ◌∷◌, fold, Result, Ok, refl}
-use Rattle.std.proofs.Common.{ap, ap₂, ◌∙◌, subst, arith}
-use Rattle.swap_base.specs.Fault.{◌>>=◌}
+use Rattle.std.proofs.Common.{◌≡◌, ℕ, Bool, false, List, [], ◌∷◌, fold, Result, Ok, Err, refl}
+use Rattle.std.proofs.Common.{sym, ap, ap₂, ◌∙◌, subst, arith}
+use Rattle.swap_base.specs.Fault.{◌>>=◌, steps}
 use Rattle.ledger_core.specs.declared.entry.Entry.{Entry}
 use Rattle.ledger_core.specs.History.{IsLegal}
 use Rattle.ledger_core.specs.Book.{Histories}
@@ -22,11 +22,14 @@ use Rattle.outcome_rules.specs.Report.{conforms_in, outcomes_of, report_of}
 use Rattle.outcome_rules.specs.Promises.{AllAreConforming}
 use Rattle.outcome_rules.proofs.Promises as laws
 use Rattle.refusals.specs.declared.reason.Reason.{Reason}
-use Rattle.swap_offer.specs.Job.{events_of, job_header_of, of_lines as lines_read}
+use Rattle.swap_offer.specs.Job.{counted, events_for, events_of, job_header_of, of_lines as lines_read}
+use Rattle.swap_gen.specs.Made.{made}
+use Rattle.made_jobs.specs.Making.{copied, line_step, with_line, written_line, IsMade}
+use Rattle.made_jobs.proofs.Copying.{lines_put}
 use Rattle.offer_fields.proofs.Chains.{went}
 use Rattle.swap_main.specs.Written.{Written}
 use Rattle.swap_main.specs.Output.{book_of, check_text, finished, report_for, reported, told}
-use Rattle.swap_main.specs.Promised.{IsPromised, IsRun, IsCheck}
+use Rattle.swap_main.specs.Promised.{IsPromised, IsRun, IsCheck, IsMaking}
 use Rattle.swap_main.specs.Replay.{passed_over, replayed}
 
 -- The laws of a legal book, of the report that is shown of it.
@@ -89,17 +92,17 @@ run_of job events read b output r same shown k kept ended dealt = record {
 }
 
 pub is_run : (line : ℕ) (text : List ℕ) (ls : List (ℕ × List ℕ)) (job : Job) (s : State) (b : Histories) (output : Written)
-    → job_header_of purposes.Run line text ≡ Ok job → replayed (step (cast_of job)) job 0 (start job.deal) ls ≡ Ok s
+    → job_header_of purposes.Run line text ≡ Ok job → replayed (step (cast_of job)) job 0 (start (cast_of job)) ls ≡ Ok s
     → b ≡ (finished job.finish (cast_of job) s).book → output ≡ reported job b → IsAccepted job.deal → IsKept (cast_of job) b
     → (job.finish ≡ Fair → IsEnded job.deal b)
-    → (job.finish ≡ Fair → s ≡ start job.deal → AllAreConforming job.deal job.conforming → IsDealt job.deal (conforms_in job.conforming) b)
+    → (job.finish ≡ Fair → s ≡ start (cast_of job) → AllAreConforming job.deal job.conforming → IsDealt job.deal (conforms_in job.conforming) b)
     → IsRun (lines_read purposes.Run ((line, text) ∷ ls)) output
 is_run line text ls job s b output h r same shown k kept ended dealt =
-    let p = replayed_by (step (cast_of job)) job (start job.deal) s ls r in
+    let p = replayed_by (step (cast_of job)) job (start (cast_of job)) s ls r in
     run_of job p.events (lines_read purposes.Run ((line, text) ∷ ls)) b output
     (read_of (job_header_of purposes.Run line text) (λ j. events_of j 0 ls) job p.events h p.read)
     (same ∙ ap (λ (s : State). (finished job.finish (cast_of job) s).book) p.leads) shown k kept ended
-    (λ fair none. dealt fair (p.leads ∙ ap (λ (es : List Event). fold (step (cast_of job)) (start job.deal) es) none))
+    (λ fair none. dealt fair (p.leads ∙ ap (λ (es : List Event). fold (step (cast_of job)) (start (cast_of job)) es) none))
 
 -- A check.
 
@@ -121,3 +124,31 @@ is_check line text ls job u output h r shown k =
       shown = shown;
       accepted = k;
     }
+
+-- A job that is made.
+
+counts_of : (r : Result ℕ Reason) (text : List ℕ) (ls : List (ℕ × List ℕ)) (s : ℕ × List ℕ)
+    → (r >>= λ n. let x : Result (ℕ × List ℕ) Reason = Ok (n, fold with_line text ls) in x) ≡ Ok s → r ≡ Ok s.0
+counts_of (Ok n) text ls s e =
+    let same : (n, fold with_line text ls) ≡ s = cc e in
+    ap (λ (p : ℕ × List ℕ). let x : Result ℕ Reason = Ok p.0 in x) same
+counts_of (Err reason) text ls s e = absurd (cc e)
+
+-- no event is read of lines that are copied
+none_read : (job : Job) (ls : List (ℕ × List ℕ)) (text new : List ℕ) → copied 0 text ls ≡ Ok new → events_for purposes.Make job ls ≡ Ok []
+unfolding copied
+none_read job ls text new c =
+    let w = went (steps line_step (0, text) ls) (λ s. Ok s.1) new c in
+    let counts : steps counted 0 ls ≡ Ok w.0.0 = counts_of (steps counted 0 ls) text ls w.0 (sym (lines_put 0 text ls) ∙ w.1) in
+    rw counts refl
+
+pub is_making : (line : ℕ) (header : List ℕ) (ls : List (ℕ × List ℕ)) (job : Job) (text : List ℕ) (output : Written)
+    → job_header_of purposes.Make line header ≡ Ok job → copied 0 (written_line (made job)) ls ≡ Ok text → IsMade job
+    → IsMaking (lines_read purposes.Make ((line, header) ∷ ls)) output
+is_making line header ls job text output h c k = record {
+  job = job;
+  is_read =
+      read_of (job_header_of purposes.Make line header) (λ j. events_for purposes.Make j ls) job [] h
+      (none_read job ls (written_line (made job)) text c);
+  made = k;
+}

@@ -7,7 +7,6 @@ use Rattle.swap_base.specs.declared.fault.Fault.{Fault}
 use Rattle.swap_base.specs.declared.fault.Fault.TheVariants as offer
 use Rattle.swap_io.proofs.Feeds.{took_on}
 use Rattle.swap_io.proofs.Handing.{rose_before}
-use Rattle.deviator_script.specs.declared.event.Event.{Event}
 use Rattle.deviator_script.specs.declared.job.Job.{Job}
 use Rattle.deviator_script.specs.declared.job.Purpose.{Purpose}
 use Rattle.deviator_script.specs.declared.job.Purpose.TheVariants as purposes
@@ -23,12 +22,14 @@ use Rattle.swap_world.specs.Cast.{cast_of}
 use Rattle.swap_main.specs.declared.fault.InputFault.{InputFault}
 use Rattle.swap_main.specs.declared.fault.InputFault.TheVariants.{Refused, ReadFault, TooLong, NoMemory}
 use Rattle.swap_main.specs.declared.words.Command.{Command}
-use Rattle.swap_main.specs.declared.words.Command.TheVariants.{Check, Run}
+use Rattle.swap_main.specs.declared.words.Command.TheVariants.{Check, Run, Make}
 use Rattle.swap_main.specs.Faults.{named_fault, of_offer}
 use Rattle.swap_main.specs.Input.{At, CanCome, Ends, EndsAt, Gives, IsLast, IsLine, Stops, Tells, ahead, fresh, limit}
-use Rattle.swap_main.specs.Output.{finished, names_of, output_of, purpose_of, reported, told}
-use Rattle.swap_main.specs.Promised.{IsCheck, IsRun}
-use Rattle.swap_main.specs.Replay.{IsChecked, IsPlayed, IsRead, of_check, of_header, of_lines, of_run, passed_over, replayed}
+use Rattle.swap_gen.specs.Made.{made}
+use Rattle.made_jobs.specs.Making.{copied, written_line}
+use Rattle.swap_main.specs.Output.{finished, names_of, output_of, purpose_of, reported, told, plain_text}
+use Rattle.swap_main.specs.Promised.{IsCheck, IsRun, IsMaking}
+use Rattle.swap_main.specs.Replay.{IsChecked, IsPlayed, IsRead, of_check, of_header, of_lines, of_run, passed_over, replayed, IsCopied, of_make}
 use Rattle.swap_main.specs.Says.{IsAgainst}
 use Rattle.swap_main.specs.Written.{Written}
 use Rattle.swap_main.proofs.Replays.{of_input}
@@ -54,13 +55,18 @@ check_fails : (n : ℕ) (t : List ℕ) (ls : List (ℕ × List ℕ)) (reason : R
 unfolding of_check
 check_fails n t ls reason h = rw h refl
 
+make_fails : (n : ℕ) (t : List ℕ) (ls : List (ℕ × List ℕ)) (reason : Reason) → job_header_of purposes.Make n t ≡ Err reason → of_make n t ls ≡ Err reason
+unfolding of_make
+make_fails n t ls reason h = rw h refl
+
 header_fails : (command : Command) (n : ℕ) (t : List ℕ) (ls : List (ℕ × List ℕ)) (reason : Reason) → job_header_of (purpose_of command) n t ≡ Err reason
     → of_header command n t ls ≡ Err reason
 header_fails Run n t ls reason h = run_fails n t ls reason h
 header_fails Check n t ls reason h = check_fails n t ls reason h
+header_fails Make n t ls reason h = make_fails n t ls reason h
 
 run_by : (n : ℕ) (t : List ℕ) (ls : List (ℕ × List ℕ)) (job : Job) (r : Result State Reason) → job_header_of purposes.Run n t ≡ Ok job
-    → replayed (step (cast_of job)) job 0 (start job.deal) ls ≡ r
+    → replayed (step (cast_of job)) job 0 (start (cast_of job)) ls ≡ r
     → of_run n t ls ≡ r >>= λ s. Ok (reported job (finished job.finish (cast_of job) s).book)
 unfolding of_run
 run_by n t ls job r h e = rw (h, e) refl
@@ -70,12 +76,20 @@ check_by : (n : ℕ) (t : List ℕ) (ls : List (ℕ × List ℕ)) (job : Job) (r
 unfolding of_check
 check_by n t ls job r h e = rw (h, e) refl
 
+make_by : (n : ℕ) (t : List ℕ) (ls : List (ℕ × List ℕ)) (job : Job) (r : Result (List ℕ) Reason) → job_header_of purposes.Make n t ≡ Ok job
+    → copied 0 (written_line (made job)) ls ≡ r → of_make n t ls ≡ r >>= λ u. Ok (plain_text u)
+unfolding of_make
+make_by n t ls job r h e = rw (h, e) refl
+
 pub gives_run : (bytes : List ℕ) (job : Job) (s : State) → IsPlayed bytes job s
     → output_of Run bytes ≡ Ok (reported job (finished job.finish (cast_of job) s).book)
-gives_run bytes job s p = by_lines Run bytes ((p.line, p.text) ∷ p.others) p.lines ∙ run_by p.line p.text p.others job (Ok s) p.header p.events
+gives_run bytes job s p = by_lines Run bytes ((p.line, p.text) ∷ p.others) p.lines ∙ run_by p.line p.text p.others job (Ok s) p.header p.leads
 
 pub gives_check : (bytes : List ℕ) (job : Job) → IsChecked bytes job → output_of Check bytes ≡ Ok (told job)
-gives_check bytes job p = by_lines Check bytes ((p.line, p.text) ∷ p.others) p.lines ∙ check_by p.line p.text p.others job (Ok tt) p.header p.events
+gives_check bytes job p = by_lines Check bytes ((p.line, p.text) ∷ p.others) p.lines ∙ check_by p.line p.text p.others job (Ok tt) p.header p.leads
+
+pub gives_make : (bytes : List ℕ) (job : Job) (text : List ℕ) → IsCopied bytes job text → output_of Make bytes ≡ Ok (plain_text text)
+gives_make bytes job text p = by_lines Make bytes ((p.line, p.text) ∷ p.others) p.lines ∙ make_by p.line p.text p.others job (Ok text) p.header p.leads
 
 -- what is promised of lines is promised of their bytes
 pub run_of_bytes : (bytes : List ℕ) (ls : List (ℕ × List ℕ)) (output : Written) → filled_lines 1 (lines_of bytes) ≡ ls
@@ -87,6 +101,11 @@ pub check_of_bytes : (bytes : List ℕ) (ls : List (ℕ × List ℕ)) (output : 
     → IsCheck (lines_read purposes.Check ls) output → IsCheck (job_of purposes.Check bytes) output
 unfolding job_of
 check_of_bytes bytes ls output e p = subst (λ (xs : List (ℕ × List ℕ)). IsCheck (lines_read purposes.Check xs) output) (sym e) p
+
+pub making_of_bytes : (bytes : List ℕ) (ls : List (ℕ × List ℕ)) (output : Written) → filled_lines 1 (lines_of bytes) ≡ ls
+    → IsMaking (lines_read purposes.Make ls) output → IsMaking (job_of purposes.Make bytes) output
+unfolding job_of
+making_of_bytes bytes ls output e p = subst (λ (xs : List (ℕ × List ℕ)). IsMaking (lines_read purposes.Make xs) output) (sym e) p
 
 -- the whole input was read, and it is no longer than it may be
 pub is_within : (P : List ℕ → Type 0) (left left' : Option (List ℕ)) (now : At) (e : Ends P left left' fresh now) → length e.bytes ≤ limit
@@ -160,14 +179,14 @@ header_stops command more left left' n m old now fault purpose line text first s
     against_header command left left' now fault n m p within ended
     (subst (λ (t : List ℕ). Fails fault (named (names_at (purpose_of command) now.number t) (job_header_of (purpose_of command) now.number t))) same g)
 
--- An event of it is refused, after its header was read.
-module _ {A : Type 0} (f : Job → A → Event → A) (x : Job → A) (command : Command) (left left' left'' : Option (List ℕ)) (mid now : At) (job : Job) where
-  abbrev pub IsEventAgainst : List ℕ → Reason → Type 0
-  IsEventAgainst bytes reason = replayed (f job) job 0 (x job) (ahead mid bytes) ≡ Err reason
+-- A further line of it is refused, after its header was read.
+module _ {A : Type 0} (walk : List (ℕ × List ℕ) → Result A Reason) (command : Command) (left left' left'' : Option (List ℕ)) (mid now : At) where
+  abbrev pub IsLineAgainst : List ℕ → Reason → Type 0
+  IsLineAgainst bytes reason = walk (ahead mid bytes) ≡ Err reason
 
-  pub against_event : ((ls : List (ℕ × List ℕ)) (reason : Reason) → replayed (f job) job 0 (x job) ls ≡ Err reason
+  pub against_event : ((ls : List (ℕ × List ℕ)) (reason : Reason) → walk ls ≡ Err reason
       → of_header command mid.number mid.text ls ≡ Err reason) → (names : List (List ℕ)) → names ≡ names_at (purpose_of command) mid.number mid.text
-      → (fault : InputFault Reason) (n m k : ℕ) (p : IsLine left left' fresh mid) → n ≤ m → Stops IsEventAgainst left' left'' m k mid now fault
+      → (fault : InputFault Reason) (n m k : ℕ) (p : IsLine left left' fresh mid) → n ≤ m → Stops IsLineAgainst left' left'' m k mid now fault
       → Stops (IsAgainst command) left left'' n k fresh now (named_fault names fault)
   against_event says names called (Refused reason) n m k p le s = record {
     bytes = p.bytes ++ s.bytes;
@@ -189,23 +208,27 @@ module _ {A : Type 0} (f : Job → A → Event → A) (x : Job → A) (command :
 
 -- what the events of a run and of a check say against it
 pub run_says : (n : ℕ) (t : List ℕ) (job : Job) → job_header_of purposes.Run n t ≡ Ok job → (ls : List (ℕ × List ℕ)) (reason : Reason)
-    → replayed (step (cast_of job)) job 0 (start job.deal) ls ≡ Err reason → of_header Run n t ls ≡ Err reason
+    → replayed (step (cast_of job)) job 0 (start (cast_of job)) ls ≡ Err reason → of_header Run n t ls ≡ Err reason
 run_says n t job h ls reason e = run_by n t ls job (Err reason) h e
 
 pub check_says : (n : ℕ) (t : List ℕ) (job : Job) → job_header_of purposes.Check n t ≡ Ok job → (ls : List (ℕ × List ℕ)) (reason : Reason)
     → replayed passed_over job 0 tt ls ≡ Err reason → of_header Check n t ls ≡ Err reason
 check_says n t job h ls reason e = check_by n t ls job (Err reason) h e
 
--- the header and then the events were read
-pub is_read : {A : Type 0} (purpose : Purpose) (f : Job → A → Event → A) (x : Job → A) (left left' left'' : Option (List ℕ)) (mid now : At) (job : Job)
-    (y : A) (p : IsLine left left' fresh mid)
-    → job_header_of purpose mid.number mid.text ≡ Ok job → (e : Ends (λ bytes. replayed (f job) job 0 (x job) (ahead mid bytes) ≡ Ok y) left' left'' mid now)
-    → Ends (λ bytes. IsRead purpose f x bytes job y) left left'' fresh now
-is_read purpose f x left left' left'' mid now job y p h e = record {
+pub make_says : (n : ℕ) (t : List ℕ) (job : Job) → job_header_of purposes.Make n t ≡ Ok job → (ls : List (ℕ × List ℕ)) (reason : Reason)
+    → copied 0 (written_line (made job)) ls ≡ Err reason → of_header Make n t ls ≡ Err reason
+make_says n t job h ls reason e = make_by n t ls job (Err reason) h e
+
+-- the header and then the further lines were read
+pub is_read : {A : Type 0} (purpose : Purpose) (walk : Job → List (ℕ × List ℕ) → Result A Reason) (left left' left'' : Option (List ℕ)) (mid now : At)
+    (job : Job) (y : A) (p : IsLine left left' fresh mid)
+    → job_header_of purpose mid.number mid.text ≡ Ok job → (e : Ends (λ bytes. walk job (ahead mid bytes) ≡ Ok y) left' left'' mid now)
+    → Ends (λ bytes. IsRead purpose walk bytes job y) left left'' fresh now
+is_read purpose walk left left' left'' mid now job y p h e = record {
   bytes = p.bytes ++ e.bytes;
   took = took_on left left' left'' fresh.reading mid.reading now.reading p.bytes e.bytes p.took e.took;
   can = not_over_yet (p.bytes ++ e.bytes);
-  told = record { line = mid.number; text = mid.text; others = ahead mid e.bytes; lines = p.first e.bytes e.can; header = h; events = e.told };
+  told = record { line = mid.number; text = mid.text; others = ahead mid e.bytes; lines = p.first e.bytes e.can; header = h; leads = e.told };
   within = e.within;
   ended = e.ended;
 }

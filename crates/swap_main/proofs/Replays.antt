@@ -15,9 +15,13 @@ use Rattle.swap_world.specs.Staff.{world_of}
 use Rattle.swap_world.proofs.Team.{world_is_new}
 use Rattle.swap_world.specs.Value.{WorldState, cast_at, new_world}
 use Rattle.swap_main.specs.declared.words.Command.{Command}
-use Rattle.swap_main.specs.declared.words.Command.TheVariants.{Check, Run}
-use Rattle.swap_main.specs.Output.{purpose_of, finished, book_of, reported, told, output_of, output_for}
-use Rattle.swap_main.specs.Replay.{replayed, next_by, passed_over, IsOf, of_run, of_check, of_lines}
+use Rattle.swap_main.specs.declared.words.Command.TheVariants.{Check, Run, Make}
+use Rattle.deviator_script.specs.declared.job.Purpose.TheVariants as purposes
+use Rattle.swap_gen.specs.Made.{made}
+use Rattle.made_jobs.specs.Making.{copied, made_text, written_line}
+use Rattle.made_jobs.proofs.Copying.{made_is}
+use Rattle.swap_main.specs.Output.{purpose_of, finished, book_of, reported, told, output_of, output_for, plain_text}
+use Rattle.swap_main.specs.Replay.{replayed, next_by, passed_over, IsOf, of_run, of_check, of_lines, of_make}
 
 regroup : {A : Type 0} (f : A → Event → A) (x : A) (next : Result Event Reason) (rest : Result (List Event) Reason) →
     (next >>= λ e. rest >>= λ es. Ok (e ∷ es)) >>= (λ events. Ok (fold f x events)) ≡ (next >>= λ e. Ok (f x e)) >>= λ y. rest >>= λ es. Ok (fold f y es)
@@ -48,22 +52,42 @@ together {A = A} {W = W} (Ok job) events f x g w same = go (events job)
     go (Ok es) = ap (λ (v : W). Ok v) (same job es)
     go (Err r) = refl
 
-of_some : (command : Command) (ls : List (ℕ × List ℕ)) → of_lines command ls ≡ output_for command (lines_read (purpose_of command) ls)
+regroup_make : (header : Result Job Reason) (text : Job → Result (List ℕ) Reason) → (header >>= λ job. text job >>= λ t. Ok (plain_text t))
+    ≡ (header >>= text) >>= λ t. Ok (plain_text t)
+regroup_make (Ok job) text = refl
+regroup_make (Err r) text = refl
+
+written_make : (read : Result (Job × List Event) Reason) (ls : List (ℕ × List ℕ)) → ((read >>= λ j. Ok (made_text j.0 ls)) >>= λ t. Ok (plain_text t))
+    ≡ read >>= λ j. Ok (plain_text (made_text j.0 ls))
+written_make (Ok j) ls = refl
+written_make (Err r) ls = refl
+
+of_some_make : (l : ℕ × List ℕ) (ls : List (ℕ × List ℕ)) → of_make l.0 l.1 ls ≡ output_for Make (l ∷ ls) (lines_read purposes.Make (l ∷ ls))
+unfolding of_make
+of_some_make l ls =
+    regroup_make (job_header_of purposes.Make l.0 l.1) (λ job. copied 0 (written_line (made job)) ls)
+    ∙ ap (λ (r : Result (List ℕ) Reason). r >>= λ t. Ok (plain_text t)) (made_is l ls)
+    ∙ written_make (lines_read purposes.Make (l ∷ ls)) ls
+
+of_some : (command : Command) (ls : List (ℕ × List ℕ)) → of_lines command ls ≡ output_for command ls (lines_read (purpose_of command) ls)
 unfolding of_run of_check replayed
 of_some command [] = by command
   where
-    by : (command : Command) → of_lines command [] ≡ output_for command (lines_read (purpose_of command) [])
+    by : (command : Command) → of_lines command [] ≡ output_for command [] (lines_read (purpose_of command) [])
     by Run = refl
     by Check = refl
-of_some Run (l ∷ ls) = together (job_header_of (purpose_of Run) l.0 l.1) (λ job. events_of job 0 ls) (λ job. step (cast_of job)) (λ job. start job.deal)
+    by Make = refl
+of_some Run (l ∷ ls) = together (job_header_of (purpose_of Run) l.0 l.1) (λ job. events_of job 0 ls) (λ job. step (cast_of job)) (λ job. start (cast_of job))
     (λ job s. reported job (finished job.finish (cast_of job) s).book) (λ j. reported j.0 (book_of j.0 j.1)) (λ job es. refl)
 of_some Check (l ∷ ls) = together (job_header_of (purpose_of Check) l.0 l.1) (λ job. events_of job 0 ls) (λ job. passed_over) (λ job. tt)
     (λ job u. told job) (λ j. told j.0) (λ job es. refl)
+of_some Make (l ∷ ls) = of_some_make l ls
 
 pub of_input : (command : Command) (input : List ℕ) → of_lines command (filled_lines 1 (lines_of input)) ≡ output_of command input
 unfolding output_of job_of
 of_input Run input = of_some Run (filled_lines 1 (lines_of input))
 of_input Check input = of_some Check (filled_lines 1 (lines_of input))
+of_input Make input = of_some Make (filled_lines 1 (lines_of input))
 
 -- Worlds.
 

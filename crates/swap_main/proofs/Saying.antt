@@ -15,18 +15,19 @@ use Rattle.swap_run.specs.Laws.{IsKept}
 use Rattle.swap_world.specs.Cast.{cast_of}
 use Rattle.outcome_rules.specs.Report.{conforms_in}
 use Rattle.outcome_rules.specs.Promises.{AllAreConforming}
-use Rattle.swap_main.specs.Replay.{IsChecked, IsPlayed}
+use Rattle.made_jobs.specs.Making.{IsMade}
+use Rattle.swap_main.specs.Replay.{IsChecked, IsPlayed, IsCopied}
 use Rattle.swap_main.specs.Input.{Ends, At, IsDrained, IsTooLong, Tells, fresh, limit}
-use Rattle.swap_main.specs.Output.{finished, output_of, reported, told}
+use Rattle.swap_main.specs.Output.{finished, output_of, reported, told, plain_text}
 use Rattle.swap_main.specs.Promised.{AsPromised}
 use Rattle.swap_main.specs.Says.{HasRead, HasReason, IsAgainst, Says, Unread, Writes}
 use Rattle.swap_main.specs.Written.{Written}
 use Rattle.swap_main.specs.declared.words.Command.{Command}
-use Rattle.swap_main.specs.declared.words.Command.TheVariants.{Check, Run}
+use Rattle.swap_main.specs.declared.words.Command.TheVariants.{Check, Run, Make}
 use Rattle.swap_main.specs.declared.status.Status.{Status}
 use Rattle.swap_main.specs.declared.status.Status.TheVariants.{Done, Named, WrongWords, Refused, ReadFault, WriteFault, NoMemory, TooLong}
-use Rattle.swap_main.proofs.Promises.{is_check, is_run}
-use Rattle.swap_main.proofs.Reading.{check_of_bytes, gives_check, gives_run, is_within, run_of_bytes}
+use Rattle.swap_main.proofs.Promises.{is_check, is_run, is_making}
+use Rattle.swap_main.proofs.Reading.{check_of_bytes, gives_check, gives_run, is_within, run_of_bytes, gives_make, making_of_bytes}
 
 pub says_written : (command : Command) (left left' : Option (List ℕ)) (n m : ℕ) (taken taken' : Option (List ℕ)) (p q : ℕ) (output : Written)
     (r : HasRead command left left' (Ok output)) → AsPromised command r.input output
@@ -87,7 +88,7 @@ module _ (command : Command) (left left' left'' : Option (List ℕ)) (mid now : 
 pub says_run : (left left' : Option (List ℕ)) (n m : ℕ) (taken taken' : Option (List ℕ)) (p q : ℕ) (now : At) (job : Job) (s : State) (b : Histories)
     (status : Status) (e : Ends (λ bytes. IsPlayed bytes job s) left left' fresh now)
     → b ≡ (finished job.finish (cast_of job) s).book → IsAccepted job.deal → IsKept (cast_of job) b → (job.finish ≡ Fair → IsEnded job.deal b)
-    → (job.finish ≡ Fair → s ≡ start job.deal → AllAreConforming job.deal job.conforming → IsDealt job.deal (conforms_in job.conforming) b)
+    → (job.finish ≡ Fair → s ≡ start (cast_of job) → AllAreConforming job.deal job.conforming → IsDealt job.deal (conforms_in job.conforming) b)
     → Writes taken taken' p q (reported job b) status → Says Run left left' n m taken taken' p q status
 says_run left left' n m taken taken' p q now job s b status e same k kept ended dealt w =
     let out : Written = reported job b in
@@ -95,7 +96,7 @@ says_run left left' n m taken taken' p q now job s b status e same k kept ended 
     says_written Run left left' n m taken taken' p q out
     (record { input = e.bytes; taken = e.took.consumed; ended = e.ended; within = is_within (λ bytes. IsPlayed bytes job s) left left' now e; gives = gives })
     (run_of_bytes e.bytes ((e.told.line, e.told.text) ∷ e.told.others) out e.told.lines
-    (is_run e.told.line e.told.text e.told.others job s b out e.told.header e.told.events same refl k kept ended dealt))
+    (is_run e.told.line e.told.text e.told.others job s b out e.told.header e.told.leads same refl k kept ended dealt))
     status w
 
 pub says_check : (left left' : Option (List ℕ)) (n m : ℕ) (taken taken' : Option (List ℕ)) (p q : ℕ) (now : At) (job : Job) (status : Status)
@@ -112,5 +113,21 @@ says_check left left' n m taken taken' p q now job status e k w =
           gives_check e.bytes job e.told;
     })
     (check_of_bytes e.bytes ((e.told.line, e.told.text) ∷ e.told.others) (told job) e.told.lines
-    (is_check e.told.line e.told.text e.told.others job tt (told job) e.told.header e.told.events refl k))
+    (is_check e.told.line e.told.text e.told.others job tt (told job) e.told.header e.told.leads refl k))
+    status w
+
+pub says_make : (left left' : Option (List ℕ)) (n m : ℕ) (taken taken' : Option (List ℕ)) (p q : ℕ) (now : At) (job : Job) (text : List ℕ) (status : Status)
+    (e : Ends (λ bytes. IsCopied bytes job text) left left' fresh now)
+    → IsMade job → Writes taken taken' p q (plain_text text) status → Says Make left left' n m taken taken' p q status
+says_make left left' n m taken taken' p q now job text status e k w =
+    says_written Make left left' n m taken taken' p q (plain_text text)
+    (record {
+      input = e.bytes;
+      taken = e.took.consumed;
+      ended = e.ended;
+      within = is_within (λ bytes. IsCopied bytes job text) left left' now e;
+      gives = gives_make e.bytes job text e.told;
+    })
+    (making_of_bytes e.bytes ((e.told.line, e.told.text) ∷ e.told.others) (plain_text text) e.told.lines
+    (is_making e.told.line e.told.text e.told.others job text (plain_text text) e.told.header e.told.leads k))
     status w

@@ -1,5 +1,5 @@
 -- A reading steps along the lines of its input.
-use Rattle.std.proofs.Common.{◌≡◌, ◌≤◌, ◌+◌, ℕ, Bool, true, false, List, [], ◌++◌, Result, Ok, Err, Option, refl, sym, ap, ◌∙◌, subst}
+use Rattle.std.proofs.Common.{◌≡◌, ◌≤◌, ◌+◌, ℕ, Bool, true, false, List, [], ◌∷◌, ◌++◌, Result, Ok, Err, Option, refl, sym, ap, ◌∙◌, subst}
 use Rattle.std.proofs.Common.{append_assoc}
 use Rattle.swap_base.specs.Fault.{◌>>=◌, Fails as Fails_by}
 use Rattle.swap_base.specs.declared.fault.Fault.{Fault}
@@ -10,16 +10,12 @@ use Rattle.swap_io.proofs.Feeds.{took_none, took_on}
 use Rattle.swap_io.proofs.Handing.{rose_before}
 use Rattle.swap_io.specs.declared.fault.LineFault.{LineFault}
 use Rattle.swap_io.specs.declared.fault.LineFault.TheVariants as line
-use Rattle.deviator_script.specs.declared.event.Event.{Event}
-use Rattle.deviator_script.specs.declared.job.Job.{Job}
 use Rattle.refusals.specs.declared.reason.Reason.{Reason}
 use Rattle.swap_main.specs.declared.fault.InputFault.{InputFault}
 use Rattle.swap_main.specs.declared.fault.InputFault.TheVariants.{Refused, ReadFault, TooLong}
 use Rattle.swap_main.specs.Faults.{of_line, of_offer}
 use Rattle.swap_main.specs.Input.{At, CanCome, Ends, EndsAt, Fails, Gives, IsLast, IsLine, IsTooLong, Reads, ReadsLine, ReadsNone, Stops, Tells, ahead, limit}
-use Rattle.swap_main.specs.Replay.{next_by, replayed}
 use Rattle.swap_main.proofs.Ahead.{too_long_on}
-use Rattle.swap_main.proofs.Replays.{none_left, step_of}
 
 -- bytes may come before the end
 pub can_come : (s : At) (rest : List ℕ) → s.over ≡ false → CanCome s rest
@@ -32,14 +28,19 @@ line_stops P a b c n m k r s t line.ReadFault p le q = rose_before n m k le q
 line_stops P a b c n m k r s t line.TooLong p le q = too_long_on a b c r s t p q
 line_stops P a b c n m k r s t line.NoMemory p le q = tt
 
-module _ {A : Type 0} (f : A → Event → A) (job : Job) (left : Option (List ℕ)) (first : At) (x : A) where
+-- what a walk makes of the next line, and then of those after it
+abbrev pub IsStep : {A : Type 0} → (ℕ → A → List (ℕ × List ℕ) → Result A Reason) → (ℕ → A → ℕ → List ℕ → Result A Reason) → Type 0
+IsStep {A = A} walk next = (n : ℕ) (y : A) (number : ℕ) (text : List ℕ) (rest : List (ℕ × List ℕ))
+    → walk n y ((number, text) ∷ rest) ≡ next n y number text >>= λ z. walk (n + 1) z rest
+
+module _ {A : Type 0} (walk : ℕ → A → List (ℕ × List ℕ) → Result A Reason) (left : Option (List ℕ)) (first : At) (x : A) where
   -- What was read so far leads to y, whatever comes after it.
   pub record Led (left' : Option (List ℕ)) (now : At) (count : ℕ) (y : A) : Type 0 where
     pub bytes : List ℕ
     pub took : Took left left' first.reading now.reading bytes
     pub can : CanCome first bytes
     pub stays : first.over ≡ true → now.over ≡ true
-    pub leads : (rest : List ℕ) → CanCome now rest → replayed f job 0 x (ahead first (bytes ++ rest)) ≡ replayed f job count y (ahead now rest)
+    pub leads : (rest : List ℕ) → CanCome now rest → walk 0 x (ahead first (bytes ++ rest)) ≡ walk count y (ahead now rest)
 
   pub led_none : Led left first 0 x
   led_none = record {
@@ -56,44 +57,45 @@ module _ {A : Type 0} (f : A → Event → A) (job : Job) (left : Option (List �
   not_over a b s t count y p q over = absurd (cc (sym q.open_yet ∙ p.stays over))
 
   -- the lines ahead were the next one and those ahead of it
-  stepped : (a b : Option (List ℕ)) (s t : At) (count : ℕ) (y : A) (p : Led a s count y) (q : IsLine a b s t) (rest : List ℕ) → CanCome t rest
-      → replayed f job 0 x (ahead first ((p.bytes ++ q.bytes) ++ rest)) ≡ next_by f job count y t.number t.text >>= λ z.
-      replayed f job (count + 1) z (ahead t rest)
-  stepped a b s t count y p q rest can =
-      ap (λ (xs : List ℕ). replayed f job 0 x (ahead first xs)) (append_assoc p.bytes q.bytes rest)
+  stepped : (next : ℕ → A → ℕ → List ℕ → Result A Reason) → IsStep walk next → (a b : Option (List ℕ)) (s t : At) (count : ℕ) (y : A) (p : Led a s count y)
+      (q : IsLine a b s t) (rest : List ℕ) → CanCome t rest
+      → walk 0 x (ahead first ((p.bytes ++ q.bytes) ++ rest)) ≡ next count y t.number t.text >>= λ z. walk (count + 1) z (ahead t rest)
+  stepped next one a b s t count y p q rest can =
+      ap (λ (xs : List ℕ). walk 0 x (ahead first xs)) (append_assoc p.bytes q.bytes rest)
       ∙ p.leads (q.bytes ++ rest) (can_come s (q.bytes ++ rest) q.open_yet)
-      ∙ ap (replayed f job count y) (q.first rest can)
-      ∙ step_of f job count y t.number t.text (ahead t rest)
+      ∙ ap (walk count y) (q.first rest can)
+      ∙ one count y t.number t.text (ahead t rest)
 
-  pub led_on : (a b : Option (List ℕ)) (s t : At) (count : ℕ) (y z : A) → Led a s count y → IsLine a b s t → next_by f job count y t.number t.text ≡ Ok z
-      → Led b t (count + 1) z
-  led_on a b s t count y z p q e = record {
+  pub led_on : (next : ℕ → A → ℕ → List ℕ → Result A Reason) → IsStep walk next → (a b : Option (List ℕ)) (s t : At) (count : ℕ) (y z : A) → Led a s count y
+      → IsLine a b s t → next count y t.number t.text ≡ Ok z → Led b t (count + 1) z
+  led_on next one a b s t count y z p q e = record {
     bytes = p.bytes ++ q.bytes;
     took = took_on left a b first.reading s.reading t.reading p.bytes q.bytes p.took q.took;
     can = λ over. absurd (not_over a b s t count y p q over);
     stays = λ over. absurd (not_over a b s t count y p q over);
-    leads = λ rest can. stepped a b s t count y p q rest can ∙ ap (λ (r : Result A Reason). r >>= λ z. replayed f job (count + 1) z (ahead t rest)) e;
+    leads = λ rest can. stepped next one a b s t count y p q rest can ∙ ap (λ (r : Result A Reason). r >>= λ z. walk (count + 1) z (ahead t rest)) e;
   }
 
-  pub led_to_reason : (a b : Option (List ℕ)) (s t : At) (count : ℕ) (y : A) (reason : Reason) → Led a s count y → IsLine a b s t
-      → next_by f job count y t.number t.text ≡ Err reason → t.reading.taken ≤ limit → EndsAt b t
-      → Tells (λ bytes. replayed f job 0 x (ahead first bytes) ≡ Err reason) left b first t
-  led_to_reason a b s t count y reason p q e within ended = record {
+  led_to_reason : (next : ℕ → A → ℕ → List ℕ → Result A Reason) → IsStep walk next → (a b : Option (List ℕ)) (s t : At) (count : ℕ) (y : A) (reason : Reason)
+      → Led a s count y → IsLine a b s t → next count y t.number t.text ≡ Err reason → t.reading.taken ≤ limit → EndsAt b t
+      → Tells (λ bytes. walk 0 x (ahead first bytes) ≡ Err reason) left b first t
+  led_to_reason next one a b s t count y reason p q e within ended = record {
     bytes = p.bytes ++ q.bytes;
     took = took_on left a b first.reading s.reading t.reading p.bytes q.bytes p.took q.took;
     can = λ rest over. absurd (not_over a b s t count y p q over);
-    told = λ rest can. stepped a b s t count y p q rest can ∙ ap (λ (r : Result A Reason). r >>= λ z. replayed f job (count + 1) z (ahead t rest)) e;
+    told = λ rest can.
+        stepped next one a b s t count y p q rest can ∙ ap (λ (r : Result A Reason). r >>= λ z. walk (count + 1) z (ahead t rest)) e;
     within = within;
     ended = ended;
   }
 
-  pub led_to_end : (a b : Option (List ℕ)) (s t : At) (count : ℕ) (y : A) → Led a s count y → IsLast a b s t → t.reading.taken ≤ limit → EndsAt b t
-      → Ends (λ bytes. replayed f job 0 x (ahead first bytes) ≡ Ok y) left b first t
-  led_to_end a b s t count y p q within ended = record {
+  pub led_to_end : ((n : ℕ) (y : A) → walk n y [] ≡ Ok y) → (a b : Option (List ℕ)) (s t : At) (count : ℕ) (y : A) → Led a s count y → IsLast a b s t
+      → t.reading.taken ≤ limit → EndsAt b t → Ends (λ bytes. walk 0 x (ahead first bytes) ≡ Ok y) left b first t
+  led_to_end none a b s t count y p q within ended = record {
     bytes = p.bytes ++ q.bytes;
     took = took_on left a b first.reading s.reading t.reading p.bytes q.bytes p.took q.took;
     can = λ over. ap (λ (xs : List ℕ). xs ++ q.bytes) (p.can over) ∙ q.can (p.stays over);
-    told = p.leads q.bytes q.can ∙ ap (replayed f job count y) q.none ∙ none_left f job count y;
+    told = p.leads q.bytes q.can ∙ ap (walk count y) q.none ∙ none count y;
     within = within;
     ended = ended q.met;
   }
@@ -101,12 +103,13 @@ module _ {A : Type 0} (f : A → Event → A) (job : Job) (left : Option (List �
   pub some_led : (a : Option (List ℕ)) (s : At) (count : ℕ) (y : A) → Led a s count y → TookSome left a first.reading s.reading
   some_led a s count y p = (p.bytes, p.took)
 
-  -- a fault of the next line's event
-  pub led_to_fault : (a b : Option (List ℕ)) (s t : At) (count : ℕ) (y : A) (n k : ℕ) (fault : Fault Reason) → Led a s count y → IsLine a b s t
-      → Fails_by fault (next_by f job count y t.number t.text) → t.reading.taken ≤ limit → EndsAt b t
-      → Stops (λ bytes reason. replayed f job 0 x (ahead first bytes) ≡ Err reason) left b n k first t (of_offer fault)
-  led_to_fault a b s t count y n k offer.NoMemory p q fails within ended = tt
-  led_to_fault a b s t count y n k (offer.Refused reason) p q fails within ended = led_to_reason a b s t count y reason p q fails within ended
+  -- a fault of the next line
+  pub led_to_fault : (next : ℕ → A → ℕ → List ℕ → Result A Reason) → IsStep walk next → (a b : Option (List ℕ)) (s t : At) (count : ℕ) (y : A) (n k : ℕ)
+      (fault : Fault Reason) → Led a s count y → IsLine a b s t → Fails_by fault (next count y t.number t.text) → t.reading.taken ≤ limit → EndsAt b t
+      → Stops (λ bytes reason. walk 0 x (ahead first bytes) ≡ Err reason) left b n k first t (of_offer fault)
+  led_to_fault next one a b s t count y n k offer.NoMemory p q fails within ended = tt
+  led_to_fault next one a b s t count y n k (offer.Refused reason) p q fails within ended =
+      led_to_reason next one a b s t count y reason p q fails within ended
 
 -- What a call of `read_line` and of `next` gives, by its answer.
 

@@ -8,3 +8,4 @@ pub mod Input
 pub mod Replay
 pub mod Says
 pub mod Exit
+pub mod Generated

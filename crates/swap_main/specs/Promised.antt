@@ -18,8 +18,9 @@ use Rattle.refusals.specs.declared.reason.Reason.{Reason}
 use Rattle.swap_offer.specs.Job.{job_of}
 use Rattle.swap_main.specs.Output.{book_of, purpose_of, report_for, reported, told}
 use Rattle.swap_main.specs.Written.{Written}
+use Rattle.made_jobs.specs.Making.{IsMade}
 use Rattle.swap_main.specs.declared.words.Command.{Command}
-use Rattle.swap_main.specs.declared.words.Command.TheVariants.{Check, Run}
+use Rattle.swap_main.specs.declared.words.Command.TheVariants.{Check, Run, Make}
 
 -- at every prefix of every history all units of the arc are in one place
 abbrev pub UnitsAddUp : Deal → Histories → Type 0
@@ -60,10 +61,17 @@ pub record IsCheck (read : Result (Job × List Event) Reason) (output : Written)
   pub shown : output ≡ told job
   pub accepted : IsAccepted job.deal
 
+-- A plain job that was made: it was read, and what is made of it is accepted, with each party's own keys.
+pub record IsMaking (read : Result (Job × List Event) Reason) (output : Written) : Type 0 where
+  pub job : Job
+  pub is_read : read ≡ Ok (job, [])
+  pub made : IsMade job
+
 -- what the output of a command promises, by what was read
 abbrev pub AsRead : Command → Result (Job × List Event) Reason → Written → Type 0
 AsRead Run read output = IsRun read output
 AsRead Check read output = IsCheck read output
+AsRead Make read output = IsMaking read output
 
 -- what the output of a command promises for an input
 abbrev pub AsPromised : Command → List ℕ → Written → Type 0

@@ -12,10 +12,12 @@ use Rattle.swap_offer.specs.Lines.{lines_of, filled_lines}
 use Rattle.swap_run.specs.Run.{State, step, start}
 use Rattle.swap_world.specs.Cast.{cast_of}
 use Rattle.swap_world.specs.Value.{WorldState}
-use Rattle.swap_main.specs.Output.{finished, reported, told}
+use Rattle.swap_gen.specs.Made.{made}
+use Rattle.made_jobs.specs.Making.{copied, written_line}
+use Rattle.swap_main.specs.Output.{finished, plain_text, reported, told}
 use Rattle.swap_main.specs.Written.{Written}
 use Rattle.swap_main.specs.declared.words.Command.{Command}
-use Rattle.swap_main.specs.declared.words.Command.TheVariants.{Check, Run}
+use Rattle.swap_main.specs.declared.words.Command.TheVariants.{Check, Run, Make}
 
 -- what f makes of x along the events of lines, where so many came before
 unfoldable pub replayed : {A : Type 0} → (A → Event → A) → Job → ℕ → A → List (ℕ × List ℕ) → Result A Reason
@@ -35,28 +37,32 @@ pub record IsOf (job : Job) (w : WorldState) : Type 0 where
 abbrev pub passed_over : Unit {0} → Event → Unit {0}
 passed_over u e = u
 
--- The lines of an input that isn't blank: its header is that of a job, and f makes y of x along the events of the others.
-pub record IsRead {A : Type 0} (purpose : Purpose) (f : Job → A → Event → A) (x : Job → A) (bytes : List ℕ) (job : Job) (y : A) : Type 0 where
+-- The lines of an input that isn't blank: its header is that of a job, and a walk along the others leads to y.
+pub record IsRead {A : Type 0} (purpose : Purpose) (walk : Job → List (ℕ × List ℕ) → Result A Reason) (bytes : List ℕ) (job : Job) (y : A) : Type 0 where
   pub line : ℕ
   pub text : List ℕ
   pub others : List (ℕ × List ℕ)
   pub lines : filled_lines 1 (lines_of bytes) ≡ (line, text) ∷ others
   pub header : job_header_of purpose line text ≡ Ok job
-  pub events : replayed (f job) job 0 (x job) others ≡ Ok y
+  pub leads : walk job others ≡ Ok y
 
 -- the bytes are a job, and its events lead to the state
 abbrev pub IsPlayed : List ℕ → Job → State → Type 0
-IsPlayed bytes job s = IsRead purposes.Run (λ job. step (cast_of job)) (λ job. start job.deal) bytes job s
+IsPlayed bytes job s = IsRead purposes.Run (λ job. replayed (step (cast_of job)) job 0 (start (cast_of job))) bytes job s
 
 -- the bytes are a job with its events
 abbrev pub IsChecked : List ℕ → Job → Type 0
-IsChecked bytes job = IsRead purposes.Check (λ job. passed_over) (λ job. tt) bytes job tt
+IsChecked bytes job = IsRead purposes.Check (λ job. replayed passed_over job 0 tt) bytes job tt
+
+-- the bytes are a plain job, and its made header and its further lines are the text
+abbrev pub IsCopied : List ℕ → Job → List ℕ → Type 0
+IsCopied bytes job text = IsRead purposes.Make (λ job. copied 0 (written_line (made job))) bytes job text
 
 -- what a run writes
 unfoldable pub of_run : ℕ → List ℕ → List (ℕ × List ℕ) → Result Written Reason
 of_run line text ls = do
   job ← job_header_of purposes.Run line text
-  s ← replayed (step (cast_of job)) job 0 (start job.deal) ls
+  s ← replayed (step (cast_of job)) job 0 (start (cast_of job)) ls
   Ok (reported job (finished job.finish (cast_of job) s).book)
 
 -- what a check writes
@@ -66,10 +72,18 @@ of_check line text ls = do
   u ← replayed passed_over job 0 tt ls
   Ok (told job)
 
+-- what a command that makes a job writes
+unfoldable pub of_make : ℕ → List ℕ → List (ℕ × List ℕ) → Result Written Reason
+of_make line text ls = do
+  job ← job_header_of purposes.Make line text
+  t ← copied 0 (written_line (made job)) ls
+  Ok (plain_text t)
+
 -- what is written for the header and the further lines of an input
 abbrev pub of_header : Command → ℕ → List ℕ → List (ℕ × List ℕ) → Result Written Reason
 of_header Run line text ls = of_run line text ls
 of_header Check line text ls = of_check line text ls
+of_header Make line text ls = of_make line text ls
 
 -- what is written for the lines of an input
 abbrev pub of_lines : Command → List (ℕ × List ℕ) → Result Written Reason

@@ -1,14 +1,40 @@
--- The words of a command.
-use Rattle.std.specs.Prelude.{ℕ, List, [], ◌∷◌, codes, Option, Some, None, if◌then◌else◌}
-use Rattle.std.specs.Str.{bytes_eq}
+-- What the words ask for, of what is built.
+use Rattle.std.specs.Prelude.{ℕ, true, false, List, Option, Some, None, option_and_then}
+use Rattle.program_words.specs.Words.{command_of as asked_of}
+use Rattle.program_words.specs.declared.command.Command.{Command as Asked}
+use Rattle.program_words.specs.declared.command.Command.TheVariants as asked
 use Rattle.swap_main.specs.declared.words.Command.{Command}
-use Rattle.swap_main.specs.declared.words.Command.TheVariants.{Check, Run}
+use Rattle.swap_main.specs.declared.words.Command.TheVariants.{Check, Run, Make}
+use Rattle.swap_main.specs.declared.words.Request.{Request}
+use Rattle.swap_main.specs.declared.words.Task.{Task}
+use Rattle.swap_main.specs.declared.words.Task.TheVariants.{Input, Number}
 
-abbrev pub command_named : List ℕ → Option Command
-command_named word = if bytes_eq word (codes "check") then Some Check else (if bytes_eq word (codes "run") then Some Run else None)
+-- what a command of the program asks for; nothing where it isn't built yet
+abbrev pub built : Asked → Option Task
+built asked.Check = Some (Input Check)
+built (asked.Run false) = Some (Input Run)
+built (asked.Run true) = None
+built (asked.Race ticks transcript) = None
+built asked.Audit = None
+built asked.Make = Some (Input Make)
+built (asked.Gen seed parties events summary) = Some (Number (record { seed = seed; parties = parties; events = events; summary = summary }))
 
--- the command that the words ask for: no other words are well formed
+-- what the words ask for
+unfoldable pub task_of : List (List ℕ) → Option Task
+task_of words = option_and_then built (asked_of words)
+
+abbrev pub input_of : Task → Option Command
+input_of (Input command) = Some command
+input_of (Number request) = None
+
+abbrev pub number_of : Task → Option Request
+number_of (Input command) = None
+number_of (Number request) = Some request
+
+-- the command that the words ask for, where it reads an input
 abbrev pub command_of : List (List ℕ) → Option Command
-command_of [] = None
-command_of (word ∷ []) = command_named word
-command_of (word ∷ other ∷ words) = None
+command_of words = option_and_then input_of (task_of words)
+
+-- the job of a number that the words ask for
+abbrev pub request_of : List (List ℕ) → Option Request
+request_of words = option_and_then number_of (task_of words)

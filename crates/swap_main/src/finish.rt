@@ -22,7 +22,7 @@ pub(crate) fn finish(world: &mut World, job: &Job) -> Result<(), NoMemory>
     ensures of { OnOk result (IsOf job.now world.new) }
     ensures goes_on { OnOk result (world.new.stopped ≡ false) }
     ensures ended { OnOk result (job.now.finish ≡ Finish.Fair → IsEnded job.now.deal world.new.state.book) }
-    ensures dealt { OnOk result (job.now.finish ≡ Finish.Fair → world.old.state ≡ start job.now.deal → AllAreConforming job.now.deal job.now.conforming
+    ensures dealt { OnOk result (job.now.finish ≡ Finish.Fair → world.old.state ≡ start (cast_of job.now) → AllAreConforming job.now.deal job.now.conforming
         → IsDealt job.now.deal (conforms_in job.now.conforming) world.new.state.book) }
 {
     match job.finish {

@@ -1,10 +1,10 @@
 //! The header of an input: its first line that isn't blank.
 
-ghost use Rattle.std.specs.Prelude.{◌≡◌, ◌≤◌, Ok, IfOk, IfErr, OnOk};
-ghost use Rattle.swap_rules.specs.Accepted.{IsAccepted};
-ghost use Rattle.swap_offer.specs.Checks.{need_of};
+ghost use Rattle.std.specs.Prelude.{◌≡◌, ◌≤◌, Ok, IfOk, IfErr, OnOk, map};
+ghost use Rattle.offer_header.specs.Names.{AreNames};
+ghost use Rattle.swap_offer.specs.Checks.{need_of, role_of, IsAcceptedFor};
 ghost use Rattle.swap_offer.specs.Job.{IsWhole, job_header_of, names_at};
-ghost use Rattle.swap_offer.specs.Wallets.{HaveWalletsFor, wallets_for};
+ghost use Rattle.swap_offer.specs.Wallets.{HaveSeedsFor, HaveWalletsFor, wallets_for};
 ghost use Rattle.swap_main.specs.Input.{EndsAt, IsLine, Stops, fresh, limit};
 ghost use Rattle.swap_main.specs.Output.{purpose_of};
 ghost use Rattle.swap_main.specs.Says.{IsAgainst};
@@ -31,7 +31,11 @@ pub(crate) fn first_line<S: Source>(
     ensures header { IfOk result (λ p. job_header_of (purpose_of command) input.new.number input.new.text ≡ Ok p.job) }
     ensures names { IfOk result (λ p. p.job.names ≡ names_at (purpose_of command) input.new.number input.new.text) }
     ensures whole { IfOk result (λ p. IsWhole p.job) }
-    ensures accepted { IfOk result (λ p. IsAccepted p.job.deal) }
+    ensures known { IfOk result (λ p. AreNames p.job.names) }
+    ensures roles { IfOk result (λ p. p.job.roles ≡ map role_of p.job.conforming) }
+    ensures purpose { IfOk result (λ p. p.job.purpose ≡ purpose_of command) }
+    ensures accepted { IfOk result (λ p. IsAcceptedFor (purpose_of command) p.job.deal) }
+    ensures seeds { IfOk result (λ p. HaveSeedsFor (purpose_of command) p.job) }
     ensures wallets { IfOk result (λ p. HaveWalletsFor (purpose_of command) p.job) }
     ensures made { IfOk result (λ p. p.wallets.items ≡ wallets_for (purpose_of command) p.job) }
     ensures need { IfOk result (λ p. p.need ≡ need_of p.job.deal) }

@@ -1,10 +1,11 @@
 //! The events of an input's lines, one after another.
 
-ghost use Rattle.std.specs.Prelude.{◌≡◌, ◌≤◌, false, Ok, Err, IfOk, IfErr, OnOk};
+ghost use Rattle.std.specs.Prelude.{◌≡◌, ◌≤◌, true, false, Ok, Err, IfOk, IfErr, OnOk};
 ghost use Rattle.swap_base.specs.Fault.{Gives};
 ghost use Rattle.swap_rules.specs.Accepted.{IsAccepted};
 ghost use Rattle.swap_run.specs.Run.{start, step};
 ghost use Rattle.party_wallet.specs.Wallets.{wallets_of};
+ghost use Rattle.offer_events.specs.Event.{needs_seeds};
 ghost use Rattle.swap_offer.specs.Job.{IsWhole};
 ghost use Rattle.swap_offer.specs.Wallets.{HaveWallets};
 ghost use Rattle.swap_world.specs.Cast.{cast_of};
@@ -32,6 +33,7 @@ fn step_line(
     text: &[u8],
 ) -> Result<(), OfferFault>
     requires whole { IsWhole job.now }
+    requires seeds { needs_seeds job.now.purpose ≡ true }
     requires of { IsOf job.now world.old }
     requires goes_on { world.old.stopped ≡ false }
     ensures exact { Gives (λ _. world.new.state) result (next_by (step (cast_of job.now)) job.now count world.old.state line text.now) }
@@ -50,7 +52,7 @@ fn new_world(alloc: Global, job: &Job, wallets: Vec<Option<Wallet>>) -> Result<W
     requires wallets { HaveWallets job.now }
     requires made { wallets.items ≡ wallets_of job.now.deal job.now.conforming job.now.seeds }
     ensures of { IfOk result (λ w. IsOf job.now w) }
-    ensures state { IfOk result (λ w. w.state ≡ start job.now.deal) }
+    ensures state { IfOk result (λ w. w.state ≡ start (cast_of job.now)) }
     ensures goes_on { IfOk result (λ w. w.stopped ≡ false) }
 {
     match World::new(alloc, job, wallets) {
@@ -69,15 +71,16 @@ pub(crate) fn replay<S: Source>(
     source: &mut S,
 ) -> Result<World, InputFault<Reason>>
     requires whole { IsWhole job.now }
+    requires seeds { needs_seeds job.now.purpose ≡ true }
     requires accepted { IsAccepted job.now.deal }
     requires wallets { HaveWallets job.now }
     requires made { wallets.items ≡ wallets_of job.now.deal job.now.conforming job.now.seeds }
     requires ended { EndsAt (S.left source.old) input.old }
-    ensures exact { IfOk result (λ w. Ends (λ bytes. replayed (step (cast_of job.now)) job.now 0 (start job.now.deal) (ahead input.old bytes) ≡ Ok w.state)
+    ensures exact { IfOk result (λ w. Ends (λ bytes. replayed (step (cast_of job.now)) job.now 0 (start (cast_of job.now)) (ahead input.old bytes) ≡ Ok w.state)
         (S.left source.old) (S.left source.new) input.old input.new) }
     ensures of { IfOk result (λ w. IsOf job.now w) }
     ensures goes_on { IfOk result (λ w. w.stopped ≡ false) }
-    ensures stops { IfErr result (λ e. Stops (λ bytes reason. replayed (step (cast_of job.now)) job.now 0 (start job.now.deal)
+    ensures stops { IfErr result (λ e. Stops (λ bytes reason. replayed (step (cast_of job.now)) job.now 0 (start (cast_of job.now))
         (ahead input.old bytes) ≡ Err reason)
         (S.left source.old) (S.left source.new) (S.faults source.old) (S.faults source.new) input.old input.new e) }
     ensures later { S.faults source.old ≤ S.faults source.new }

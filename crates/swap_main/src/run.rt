@@ -65,7 +65,7 @@ fn conclude(alloc: Global, job: &Job, mut world: World) -> Result<Book, NoMemory
     ensures book { IfOk result (λ b. b.histories ≡ (finished job.now.finish (cast_of job.now) world.state).book) }
     ensures kept { IfOk result (λ b. IsKept (cast_of job.now) b.histories) }
     ensures ended { IfOk result (λ b. job.now.finish ≡ Finish.Fair → IsEnded job.now.deal b.histories) }
-    ensures dealt { IfOk result (λ b. job.now.finish ≡ Finish.Fair → world.state ≡ start job.now.deal → AllAreConforming job.now.deal job.now.conforming
+    ensures dealt { IfOk result (λ b. job.now.finish ≡ Finish.Fair → world.state ≡ start (cast_of job.now) → AllAreConforming job.now.deal job.now.conforming
         → IsDealt job.now.deal (conforms_in job.now.conforming) b.histories) }
 {
     finish(&mut world, job)?;

@@ -1,40 +1,56 @@
 //! The whole program over a source and a sink.
 
-ghost use Rattle.std.specs.Prelude.{◌≡◌, ◌<◌, ◌≤◌, ◌+◌, ◌⊎◌, ◌↔◌, ℕ, List, length, map, string_bytes, Some, None, Ok, Err, true, false, ◌^◌};
+ghost use Rattle.std.specs.Prelude.{◌≡◌, ◌<◌, ◌≤◌, ◌+◌, ◌⊎◌, ℕ, List, length, map, string_bytes, Some, None, Ok, Err, true, false};
 ghost use Rattle.std.specs.Io.KnownBytes.{Keeps};
-ghost use Rattle.swap_io.specs.Causes.{Rose, ConsumesSome};
+ghost use Rattle.swap_io.specs.Causes.{AppendsProperPrefix, Rose, ConsumesSome};
+ghost use Rattle.swap_io.specs.Handed.{AppendsPrefix};
 ghost use Rattle.refusals.specs.declared.reason.Reason.{Reason};
+ghost use Rattle.program_words.specs.Words.{command_of as asked_of};
 ghost use Rattle.swap_main.specs.declared.words.Command.{Command};
+ghost use Rattle.swap_main.specs.declared.words.Request.{Request};
 ghost use Rattle.swap_main.specs.Written.{Written};
-ghost use Rattle.swap_main.specs.Words.{command_of};
+ghost use Rattle.swap_main.specs.Words.{command_of, request_of, task_of};
 ghost use Rattle.swap_main.specs.Output.{output_of, names_of};
-ghost use Rattle.swap_main.specs.Input.{fresh, limit};
-ghost use Rattle.swap_main.specs.Says.{Says};
+ghost use Rattle.swap_main.specs.Generated.{generated_output, Generates, IsWithin, Performs};
+ghost use Rattle.swap_main.specs.Input.{limit};
+ghost use Rattle.swap_main.specs.Says.{IsWhole, Says};
 ghost use Rattle.swap_main.specs.Top.{AsksFairRun, IsDone, IsCut, IsRefused, IsShort, status_of};
 
 use crate::check::check;
+use crate::generate::generate;
 use crate::input::Input;
+use crate::make::make;
 use crate::run::run;
 use crate::status::Status;
-use crate::words::{Command, command_of};
+use crate::words::{Command, Task, task_of};
 use std::alloc::Global;
 use swap_io::{Sink, Source};
 
-/// What the command does.
-fn obey<S: Source, K: Sink>(
-    alloc: Global,
-    command: Command,
-    input: &mut Input,
-    source: &mut S,
-    sink: &mut K,
-) -> Status
-    requires { input.old ≡ fresh }
+/// What a command does that reads an input.
+fn obey<S: Source, K: Sink>(alloc: Global, command: Command, source: &mut S, sink: &mut K) -> Status
     ensures { Says command (S.left source.old) (S.left source.new) (S.faults source.old) (S.faults source.new) (K.taken sink.old) (K.taken sink.new)
         (K.faults sink.old) (K.faults sink.new) result }
 {
+    let Ok(mut input) = Input::new(alloc) else {
+        return Status::NoMemory;
+    };
     match command {
-        Command::Check => check(alloc, input, source, sink),
-        Command::Run => run(alloc, input, source, sink),
+        Command::Check => check(alloc, &mut input, source, sink),
+        Command::Run => run(alloc, &mut input, source, sink),
+        Command::Make => make(alloc, &mut input, source, sink),
+    }
+}
+
+/// Does what is asked for.
+fn perform<S: Source, K: Sink>(alloc: Global, task: Task, source: &mut S, sink: &mut K) -> Status
+    requires { IsWithin task }
+    ensures says { Performs task (S.left source.old) (S.left source.new) (S.faults source.old) (S.faults source.new) (K.taken sink.old) (K.taken sink.new)
+        (K.faults sink.old) (K.faults sink.new) result }
+    ensures unread { (request : Request) → task ≡ Task.Number request → source.new ≡ source.old }
+{
+    match task {
+        Task::Input(command) => obey(alloc, command, source, sink),
+        Task::Number(request) => generate(alloc, request, sink),
     }
 }
 
@@ -45,23 +61,33 @@ pub fn swap_top<S: Source, K: Sink>(
     source: &mut S,
     sink: &mut K,
 ) -> Status
-    // What each status says.
-    ensures words { (result ≡ Status.WrongWords) ↔ (command_of (map string_bytes words.now.items) ≡ None) }
+    // Wrong words are those that aren't well formed, and those of a command that isn't built yet, which may want memory to be read.
+    ensures words { result ≡ Status.WrongWords → task_of (map string_bytes words.now.items) ≡ None }
+    ensures wrong { asked_of (map string_bytes words.now.items) ≡ None → result ≡ Status.WrongWords }
+    ensures unbuilt { task_of (map string_bytes words.now.items) ≡ None → (result ≡ Status.WrongWords) ⊎ (result ≡ Status.NoMemory) }
     ensures unread { result ≡ Status.WrongWords → source.new ≡ source.old }
-    ensures done { result ≡ Status.Done → IsDone (map string_bytes words.now.items) (S.left source.old) (S.left source.new) (K.taken sink.old)
-        (K.taken sink.new) false }
-    ensures named { result ≡ Status.Named → IsDone (map string_bytes words.now.items) (S.left source.old) (S.left source.new) (K.taken sink.old)
-        (K.taken sink.new) true }
+
+    // What each status says: by an input, or without one by a number.
+    ensures done { result ≡ Status.Done
+        → IsDone (map string_bytes words.now.items) (S.left source.old) (S.left source.new) (K.taken sink.old) (K.taken sink.new) false
+        ⊎ Generates (IsWhole (K.taken sink.old) (K.taken sink.new) false) (map string_bytes words.now.items) (S.left source.old) (S.left source.new) }
+    ensures named { result ≡ Status.Named
+        → IsDone (map string_bytes words.now.items) (S.left source.old) (S.left source.new) (K.taken sink.old) (K.taken sink.new) true
+        ⊎ Generates (IsWhole (K.taken sink.old) (K.taken sink.new) true) (map string_bytes words.now.items) (S.left source.old) (S.left source.new) }
     ensures refused { (reason : Reason) (names : List (List ℕ)) → result ≡ Status.Refused reason names
         → IsRefused (map string_bytes words.now.items) (S.left source.old) (S.left source.new) reason names }
     ensures read_fault { result ≡ Status.ReadFault → Rose (S.faults source.old) (S.faults source.new) }
     ensures write_fault { result ≡ Status.WriteFault → Rose (K.faults sink.old) (K.faults sink.new) }
-    ensures cut { result ≡ Status.WriteFault → IsCut (map string_bytes words.now.items) (S.left source.old) (S.left source.new) (K.taken sink.old)
-        (K.taken sink.new) }
+    ensures cut { result ≡ Status.WriteFault
+        → IsCut (map string_bytes words.now.items) (S.left source.old) (S.left source.new) (K.taken sink.old) (K.taken sink.new)
+        ⊎ Generates (λ output. AppendsProperPrefix (K.taken sink.old) (K.taken sink.new) output.text) (map string_bytes words.now.items)
+        (S.left source.old) (S.left source.new) }
     ensures too_long { result ≡ Status.TooLong → ConsumesSome (S.left source.old) (S.left source.new) (limit + 1) }
 
     ensures short { result ≡ Status.NoMemory → Keeps (K.taken sink.old) (K.taken sink.new)
-        ⊎ IsShort (map string_bytes words.now.items) (S.left source.old) (S.left source.new) (K.taken sink.old) (K.taken sink.new) }
+        ⊎ IsShort (map string_bytes words.now.items) (S.left source.old) (S.left source.new) (K.taken sink.old) (K.taken sink.new)
+        ⊎ Generates (λ output. AppendsPrefix (K.taken sink.old) (K.taken sink.new) output.text) (map string_bytes words.now.items)
+        (S.left source.old) (S.left source.new) }
 
     // With any other status nothing is written.
     ensures silent { ¬ (result ≡ Status.Done) → ¬ (result ≡ Status.Named) → ¬ (result ≡ Status.WriteFault) → ¬ (result ≡ Status.NoMemory)
@@ -82,12 +108,19 @@ pub fn swap_top<S: Source, K: Sink>(
     ensures fair { AsksFairRun (map string_bytes words.now.items) (S.left source.old) → ¬ Rose (S.faults source.old) (S.faults source.new)
         → ¬ Rose (K.faults sink.old) (K.faults sink.new)
         → (result ≡ Status.Done) ⊎ (result ≡ Status.NoMemory) }
+
+    // The job of a number is made without reading, and no status speaks of an input then.
+    ensures not_read { (request : Request) → request_of (map string_bytes words.now.items) ≡ Some request → source.new ≡ source.old }
+    ensures no_read_fault { (request : Request) → request_of (map string_bytes words.now.items) ≡ Some request → ¬ (result ≡ Status.ReadFault) }
+    ensures not_too_long { (request : Request) → request_of (map string_bytes words.now.items) ≡ Some request → ¬ (result ≡ Status.TooLong) }
+    ensures generated { (request : Request) → request_of (map string_bytes words.now.items) ≡ Some request → ¬ Rose (K.faults sink.old) (K.faults sink.new)
+        → (result ≡ status_of (generated_output request).found) ⊎ (result ≡ Status.NoMemory) }
 {
-    let Some(command) = command_of(words) else {
-        return Status::WrongWords;
-    };
-    let Ok(mut input) = Input::new(alloc) else {
+    let Ok(asked) = task_of(alloc, words) else {
         return Status::NoMemory;
     };
-    obey(alloc, command, &mut input, source, sink)
+    let Some(task) = asked else {
+        return Status::WrongWords;
+    };
+    perform(alloc, task, source, sink)
 }

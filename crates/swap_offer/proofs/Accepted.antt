@@ -1,4 +1,4 @@
--- A deal that passes the checks is an accepted one.
+-- A deal that passes the checks is an accepted one, or that of a plain job a proposed one.
 use Rattle.std.proofs.Common.{◌≡◌, ℕ, ◌<◌, ◌≤◌, ◌==◌, nat_lt, Bool, true, false, cond, List, [], ◌∷◌, length, get_or, slice_index, Option, Some, None, Result}
 use Rattle.std.proofs.Common.{Ok, Err, refl, sym, ap, ◌∙◌, subst, arith, inl, inr, ltb-false, eqb-true, replicate}
 use Rattle.swap_base.specs.Fault.{◌>>=◌}
@@ -24,13 +24,16 @@ use Rattle.leader_check.proofs.Heights as heights
 use Rattle.single_leader.specs.Distance.{dist_of}
 use Rattle.single_leader.proofs.Far.{dist_is, dist_by_rounds}
 use Rattle.swap_rules.specs.Accepted.{IsAccepted, IsTimed, HasTimelock}
+use Rattle.proposed_deal.specs.Proposed.{IsLedFor, IsProposed}
+use Rattle.proposed_deal.proofs.Proposals as proposals
 use Rattle.refusals.specs.declared.reason.Reason.{Reason}
 use Rattle.refusals.specs.declared.reason.Reason.TheVariants.{BoundTooSmall, StartTooSoon, ManyLeaders, WrongTimelock}
 use Rattle.offer_fields.proofs.Chains.{went}
+use Rattle.offer_header.specs.Raw.{is_plain}
 use Rattle.offer_header.specs.declared.header.Header.{Header}
 use Rattle.offer_header.specs.Header.{IsWithin}
 use Rattle.swap_offer.specs.Checks.{graph_of, by_arcs, least_bound, connected, unless_closed, one_leader, led, unless_cycle, bounded, started, timed}
-use Rattle.swap_offer.specs.Checks.{unless_wrong, wrong_timelock, checked, unnamed, deal_with}
+use Rattle.swap_offer.specs.Checks.{unless_wrong, wrong_timelock, timed_unless, checked, unnamed, deal_with, IsAcceptedFor, IsAcceptedUnless}
 use Rattle.swap_offer.proofs.Size.{is_sized}
 
 is_connected : (g : Graph) (u : Unit {0}) → connected g ≡ Ok u → IsStronglyConnected g
@@ -144,39 +147,74 @@ all_apart g n xs same e a b la lb s =
     distinct n xs e a b (subst (λ (ys : List ArcEnds). a < length ys) same la) (subst (λ (ys : List ArcEnds). b < length ys) same lb)
     (subst (λ (ys : List ArcEnds). ends_in ys a ≡ ends_in ys b) same s)
 
-pub is_accepted : (h : Header) (g : Graph) (u : Unit {0}) → IsWithin h → HasEnds g → g.n ≡ length h.names → g.arcs ≡ h.arcs → graph_of h ≡ Ok g
-    → checked h g ≡ Ok u → IsAccepted (deal_with h g)
+led_by : (m : Mode) (h : Header) (g : Graph) (id : List ℕ) (u : Unit {0}) → IsWithin h → one_leader m h.leaders ≡ Ok u → IsLedFor m (unnamed h g id)
+led_by Timelocks h g id u k one = let few = has_one h.leaders u one in let some = k.leaders.0 in omega (arith, few, some)
+led_by Hashkeys h g id u k one = tt
+
+-- What a header shows that passes its checks.
+record Passed (h : Header) (g : Graph) : Type 0 where
+  strong : IsStronglyConnected g
+  one : (v : Unit {0}) × (one_leader h.mode h.leaders ≡ Ok v)
+  feedback : IsFeedback g h.leaders
+  bound : least_bound g h.leaders ≤ h.bound
+  start : h.delta ≤ h.start
+  timed : (v : Unit {0}) × (timed_unless (is_plain h.purpose) h g ≡ Ok v)
+
+passed : (h : Header) (g : Graph) (u : Unit {0}) → checked h g ≡ Ok u → Passed h g
 unfolding checked
-is_accepted h g u k has n arcs made e =
+passed h g u e =
     let c = went (connected g) _ u e in
     let o = went (one_leader h.mode h.leaders) _ u c.2 in
     let l = went (led g h.leaders) _ u o.2 in
     let b = went (bounded h.bound (least_bound g h.leaders)) _ u l.2 in
     let s = went (started h.start h.delta) _ u b.2 in
+    record {
+      strong = is_connected g c.0 c.1;
+      one = (o.0, o.1);
+      feedback = is_led g h.leaders l.0 l.1;
+      bound = is_bounded h.bound (least_bound g h.leaders) b.0 b.1;
+      start = is_started h.start h.delta s.0 s.1;
+      timed = (u, s.2);
+    }
+
+proposed : (h : Header) (g : Graph) → IsWithin h → HasEnds g → g.n ≡ length h.names → g.arcs ≡ h.arcs → graph_of h ≡ Ok g → Passed h g
+    → IsProposed (deal_with h g)
+proposed h g k has n arcs made p =
     let sized = is_sized h g (deal_with h g).id k has n arcs in
-    let strong = is_connected g c.0 c.1 in
-    let feedback = is_led g h.leaders l.0 l.1 in
     let f = no_fault h g made in
     record {
       parties = sized.parties;
       arcs = sized.arcs;
       ends = has;
       of_version = all_apart g (length h.names) h.arcs arcs f;
-      strong = strong;
+      strong = p.strong;
       leaders = k.leaders;
       leader = sized.leader;
       apart = k.leader.apart;
-      feedback = feedback;
+      led = led_by h.mode h g (deal_with h g).id p.one.0 k p.one.1;
+      feedback = p.feedback;
       height = height_of g h.leaders;
-      is_height = heights.greatest_level_is_height g h.leaders feedback;
+      is_height = heights.greatest_level_is_height g h.leaders p.feedback;
       delta = k.delta;
-      start = (is_started h.start h.delta s.0 s.1, k.start.1);
-      bound = (is_bounded h.bound (least_bound g h.leaders) b.0 b.1, k.bound.1);
+      start = (p.start, k.start.1);
+      bound = (p.bound, k.bound.1);
       one_amount_each = sized.amounts;
       amounts = λ a lt. k.amount a (subst (λ (xs : List ArcEnds). a < length xs) arcs lt);
-      hashlocks = k.hashlocks;
-      keys = sized.keys;
-      one_timelock_each = sized.timelocks;
-      timed = is_timed h.mode h g (deal_with h g).id o.0 u refl k n arcs has strong feedback o.1 s.2;
-      id = sym (any_id (unnamed h g (replicate 32 0)) (deal_with h g).id);
     }
+
+accepted : (h : Header) (g : Graph) → IsWithin h → HasEnds g → g.n ≡ length h.names → g.arcs ≡ h.arcs → graph_of h ≡ Ok g → Passed h g
+    → is_plain h.purpose ≡ false → IsAccepted (deal_with h g)
+accepted h g k has n arcs made p stated =
+    let sized = is_sized h g (deal_with h g).id k has n arcs in
+    let t : timed h g h.mode h.leaders ≡ Ok p.timed.0 = subst (λ (b : Bool). timed_unless b h g ≡ Ok p.timed.0) stated p.timed.1 in
+    proposals.is_accepted (deal_with h g) (proposed h g k has n arcs made p) sized.hashlocks sized.keys sized.timelocks
+    (is_timed h.mode h g (deal_with h g).id p.one.0 p.timed.0 refl k n arcs has p.strong p.feedback p.one.1 t)
+    (sym (any_id (unnamed h g (replicate 32 0)) (deal_with h g).id))
+
+pub accepted_for : (h : Header) (g : Graph) (u : Unit {0}) → IsWithin h → HasEnds g → g.n ≡ length h.names → g.arcs ≡ h.arcs → graph_of h ≡ Ok g
+    → checked h g ≡ Ok u → IsAcceptedFor h.purpose (deal_with h g)
+accepted_for h g u k has n arcs made e = by (is_plain h.purpose) refl
+  where
+    by : (plain : Bool) → is_plain h.purpose ≡ plain → IsAcceptedUnless plain (deal_with h g)
+    by true s = proposed h g k has n arcs made (passed h g u e)
+    by false s = accepted h g k has n arcs made (passed h g u e) s

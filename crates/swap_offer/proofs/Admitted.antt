@@ -1,4 +1,4 @@
--- A header within its limits passes its checks exactly where its deal is accepted.
+-- A header within its limits passes its checks exactly where its deal is accepted, or that of a plain job proposed.
 use Rattle.std.proofs.Common.{◌≡◌, ◌⊎◌, inl, inr, ◌↔◌, ℕ, zero, suc, ◌+◌, ◌<◌, ◌≤◌, Bool, true, false, cond, ◌&&◌, ◌==◌, nat_lt, IsTrue, List, [], ◌∷◌, ◌++◌}
 use Rattle.std.proofs.Common.{length, get_or, take, position}
 use Rattle.std.proofs.Common.{Option, Some, None, Result, Ok, Err, refl, sym, ap, ap₂, ◌∙◌, subst, arith, append-nil, append_assoc, get_or-take, eqb-true}
@@ -26,16 +26,19 @@ use Rattle.leader_check.proofs.Walks as walks
 use Rattle.leader_check.proofs.Heights as heights
 use Rattle.single_leader.specs.Distance.{dist_of}
 use Rattle.single_leader.proofs.Far.{dist_is, dist_by_rounds, dist_one}
-use Rattle.swap_rules.specs.Accepted.{IsAccepted, IsTimed, HasTimelock}
+use Rattle.swap_rules.specs.Accepted.{IsTimed, HasTimelock}
+use Rattle.proposed_deal.specs.Proposed.{IsLedFor, IsProposed}
+use Rattle.proposed_deal.proofs.Proposals.{is_proposed}
 use Rattle.refusals.specs.declared.reason.Reason.{Reason}
 use Rattle.refusals.specs.declared.reason.Reason.TheVariants.{WrongTimelock}
 use Rattle.offer_fields.proofs.Chains.{went}
 use Rattle.offer_header.specs.declared.header.Header.{Header}
 use Rattle.offer_header.specs.Header.{IsWithin}
+use Rattle.offer_header.specs.Raw.{is_plain}
 use Rattle.swap_offer.specs.Checks.{graph_of, by_arcs, digraph_in, connected, unless_closed, one_leader, led, unless_cycle, least_bound, bounded, started}
-use Rattle.swap_offer.specs.Checks.{timed, unless_wrong, wrong_timelock, checked, admitted, deal_with}
+use Rattle.swap_offer.specs.Checks.{timed, unless_wrong, wrong_timelock, timed_unless, checked, admitted, deal_with, IsAcceptedFor, IsAcceptedUnless}
 use Rattle.swap_offer.specs.Laws.{AdmittedIsAccepted}
-use Rattle.swap_offer.proofs.Accepted.{no_fault, is_accepted}
+use Rattle.swap_offer.proofs.Accepted.{no_fault, accepted_for}
 
 abbrev no_arc : ArcEnds
 no_arc = record { from = 0; to = 0 }
@@ -113,7 +116,7 @@ none_all f (x ∷ xs) not_one = rw (not_one x (inl refl)) (none_all f xs (λ y i
 
 -- Each check passes.
 
-module _ (h : Header) (a : IsAccepted (deal_with h (digraph_in h))) where
+module _ (h : Header) (a : IsProposed (deal_with h (digraph_in h))) where
   graph_is : graph_of h ≡ Ok (digraph_in h)
   unfolding graph_of digraph_of
   graph_is = ap (λ (o : Option ArcFault). by_arcs (graph_or (length h.names) h.arcs o)) (no_fault_of (digraph_in h) a.ends a.of_version)
@@ -126,9 +129,9 @@ module _ (h : Header) (a : IsAccepted (deal_with h (digraph_in h))) where
   unfolding led
   is_led = ap unless_cycle ((walks.no_cycle_is_feedback (digraph_in h) h.leaders).1 a.feedback)
 
-  has_one : (m : Mode) → IsTimed m (deal_with h (digraph_in h)) → one_leader m h.leaders ≡ Ok tt
+  has_one : (m : Mode) → IsLedFor m (deal_with h (digraph_in h)) → one_leader m h.leaders ≡ Ok tt
   unfolding one_leader
-  has_one Timelocks t = let e = t.0 in rw (le-ltb 1 (length h.leaders) (omega (arith, e))) refl
+  has_one Timelocks e = rw (le-ltb 1 (length h.leaders) (omega (arith, e))) refl
   has_one Hashkeys t = refl
 
   enough : least_bound (digraph_in h) h.leaders ≤ h.bound
@@ -191,15 +194,21 @@ module _ (h : Header) (a : IsAccepted (deal_with h (digraph_in h))) where
           (λ b i. right_timelock leader b e t (from_range b (length h.arcs) i)))
       go (x ∷ y ∷ ls) e = refl
 
-  checked_is : checked h (digraph_in h) ≡ Ok tt
+  checked_is : timed_unless (is_plain h.purpose) h (digraph_in h) ≡ Ok tt → checked h (digraph_in h) ≡ Ok tt
   unfolding checked
-  checked_is = rw (is_connected, has_one h.mode a.timed, is_led, is_bounded, is_started) (is_in_time h.mode a.timed)
+  checked_is t = rw (is_connected, has_one h.mode a.led, is_led, is_bounded, is_started) t
 
-  is_admitted : admitted h ≡ Ok (digraph_in h)
+  is_admitted : timed_unless (is_plain h.purpose) h (digraph_in h) ≡ Ok tt → admitted h ≡ Ok (digraph_in h)
   unfolding admitted
-  is_admitted = rw (graph_is, checked_is) refl
+  is_admitted t = rw (graph_is, checked_is t) refl
 
-passes : (h : Header) → IsWithin h → admitted h ≡ Ok (digraph_in h) → IsAccepted (deal_with h (digraph_in h))
+admits : (h : Header) (plain : Bool) → is_plain h.purpose ≡ plain → IsAcceptedUnless plain (deal_with h (digraph_in h)) → admitted h ≡ Ok (digraph_in h)
+admits h true e a = is_admitted h a (subst (λ (b : Bool). timed_unless b h (digraph_in h) ≡ Ok tt) (sym e) refl)
+admits h false e a =
+    let p = is_proposed (deal_with h (digraph_in h)) a in
+    is_admitted h p (subst (λ (b : Bool). timed_unless b h (digraph_in h) ≡ Ok tt) (sym e) (is_in_time h p h.mode a.timed))
+
+passes : (h : Header) → IsWithin h → admitted h ≡ Ok (digraph_in h) → IsAcceptedFor h.purpose (deal_with h (digraph_in h))
 unfolding admitted
 passes h k e =
     let g = went (graph_of h) _ (digraph_in h) e in
@@ -208,7 +217,7 @@ passes h k e =
     let made : graph_of h ≡ Ok (digraph_in h) = subst (λ (x : Graph). graph_of h ≡ Ok x) same g.1 in
     let check : checked h (digraph_in h) ≡ Ok c.0 = subst (λ (x : Graph). checked h x ≡ Ok c.0) same c.1 in
     let has = has_ends (length h.names) One h.arcs (sym (no_fault h (digraph_in h) made)) in
-    is_accepted h (digraph_in h) c.0 k has refl refl made check
+    accepted_for h (digraph_in h) c.0 k has refl refl made check
 
 pub admitted_is_accepted : AdmittedIsAccepted
-admitted_is_accepted h k = (passes h k, λ a. is_admitted h a)
+admitted_is_accepted h k = (passes h k, λ a. admits h (is_plain h.purpose) refl a)

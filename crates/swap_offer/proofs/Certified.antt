@@ -33,9 +33,10 @@ use Rattle.refusals.specs.Refusal.{fault_with, named}
 use Rattle.refusals.proofs.Named.{named_err}
 use Rattle.offer_header.specs.declared.header.Header.{Header}
 use Rattle.offer_header.specs.Header.{IsWithin}
+use Rattle.offer_header.specs.Raw.{is_plain}
 use Rattle.swap_offer.specs.Checks.{graph_of, by_arcs, arc_reason, digraph_in, connected, unless_closed, one_leader, led, unless_cycle, least_bound, bounded}
-use Rattle.swap_offer.specs.Checks.{started, timed, unless_wrong, wrong_timelock, checked, admitted, job_with}
-use Rattle.swap_offer.specs.Wallets.{conforms, seed_of, no_seed, seeded_for, seeded, wrong_seed, wrong_wallet, walleted}
+use Rattle.swap_offer.specs.Checks.{started, timed, unless_wrong, wrong_timelock, timed_unless, checked, admitted, job_with}
+use Rattle.swap_offer.specs.Wallets.{conforms, seed_of, needs_seed, no_seed, seeded, wrong_seed, wrong_wallet, fitting, walleted_for, walleted}
 use Rattle.swap_offer.specs.Job.{provided, accepted_of}
 use Rattle.swap_offer.specs.Certificates.{IsCertified, Certifies}
 
@@ -145,6 +146,10 @@ module _ (h : Header) (k : IsWithin h) where
       (the_first (IsCertified h) (wrong_timelock h (digraph_in h) leader) (arcs (digraph_in h)) (of_timelock leader))
   of_timed Timelocks (x ∷ y ∷ leaders) = tt
 
+  of_times : (plain : Bool) → IfBad Shows (timed_unless plain h (digraph_in h))
+  of_times true = tt
+  of_times false = of_timed h.mode h.leaders
+
   of_checked : HasEnds (digraph_in h) → IfBad Shows (checked h (digraph_in h))
   unfolding checked
   of_checked has =
@@ -152,7 +157,7 @@ module _ (h : Header) (k : IsWithin h) where
       (λ u e. onward (IsCertified h) (one_leader h.mode h.leaders) _ (of_one_leader h.mode)
       (λ v f. onward (IsCertified h) (led (digraph_in h) h.leaders) _ of_led
       (λ w d. onward (IsCertified h) (bounded h.bound (least_bound (digraph_in h) h.leaders)) _ (of_bounded (least_bound (digraph_in h) h.leaders))
-      (λ x b. onward (IsCertified h) (started h.start h.delta) _ of_started (λ y s. of_timed h.mode h.leaders)))))
+      (λ x b. onward (IsCertified h) (started h.start h.delta) _ of_started (λ y s. of_times (is_plain h.purpose))))))
 
   of_admitted : IfBad Shows (admitted h)
   unfolding admitted
@@ -164,23 +169,13 @@ module _ (h : Header) (k : IsWithin h) where
       (onward (IsCertified h) (checked h (digraph_in h)) _ (of_checked m.1) (λ u c. tt)))
 
   of_seed : (job : Job) (p : ℕ) → IfThere Shows (no_seed job p)
-  of_seed job p = if_so (IsCertified h) (conforms job p && is_none (seed_of job p)) (NoSeed p) tt
+  of_seed job p = if_so (IsCertified h) (needs_seed job.purpose job p && is_none (seed_of job p)) (NoSeed p) tt
 
   of_seeded : (job : Job) → IfBad Shows (seeded job)
   unfolding seeded
-  of_seeded job = go job.purpose
-    where
-      all : IfBad (IsCertified h) (unless_wrong (first_of (no_seed job) (range_with_len 0 job.deal.graph.n)))
-      all =
-          if_wrong (IsCertified h) (first_of (no_seed job) (range_with_len 0 job.deal.graph.n))
-          (the_first (IsCertified h) (no_seed job) (range_with_len 0 job.deal.graph.n) (of_seed job))
-
-      go : (purpose : Purpose) → IfBad (IsCertified h) (seeded_for purpose job)
-      go Check = tt
-      go Run = all
-      go Race = all
-      go Make = tt
-      go Audit = tt
+  of_seeded job =
+      if_wrong (IsCertified h) (first_of (no_seed job) (range_with_len 0 job.deal.graph.n))
+      (the_first (IsCertified h) (no_seed job) (range_with_len 0 job.deal.graph.n) (of_seed job))
 
   of_wallet : (job : Job) (p : ℕ) → IfThere Shows (wrong_wallet job p)
   of_wallet job p = go (conforms job p) (seed_of job p)
@@ -194,11 +189,22 @@ module _ (h : Header) (k : IsWithin h) where
       go true None = tt
       go true (Some seed) = by_lock (wrong_lock job.deal p seed)
 
-  of_walleted : (job : Job) → IfBad Shows (walleted job)
-  unfolding walleted
-  of_walleted job =
+  of_fitting : (job : Job) → IfBad Shows (fitting job)
+  unfolding fitting
+  of_fitting job =
       if_wrong (IsCertified h) (first_of (wrong_wallet job) (range_with_len 0 job.deal.graph.n))
       (the_first (IsCertified h) (wrong_wallet job) (range_with_len 0 job.deal.graph.n) (of_wallet job))
+
+  of_walleted : (job : Job) → IfBad Shows (walleted job)
+  unfolding walleted
+  of_walleted job = go job.purpose
+    where
+      go : (purpose : Purpose) → IfBad (IsCertified h) (walleted_for purpose job)
+      go Check = of_fitting job
+      go Run = of_fitting job
+      go Race = of_fitting job
+      go Make = tt
+      go Audit = tt
 
   of_accepted : IfBad Shows (accepted_of h)
   unfolding accepted_of provided

@@ -2,14 +2,14 @@
 use Rattle.std.proofs.Common.{◌≡◌, ℕ, ◌+◌, ◌<◌, ◌≤◌, List, [], ◌∷◌, ◌++◌, length, get_or, drop, map, Result, Ok, Err, refl, sym, ap, ◌∙◌, arith, add-one}
 use Rattle.std.proofs.Common.{drop-cons, append_assoc}
 use Rattle.std.proofs.lemmas.List.{append-nil, nil_from_length, length-drop}
-use Rattle.swap_base.specs.Fault.{◌>>=◌, Fails}
+use Rattle.swap_base.specs.Fault.{◌>>=◌, steps, Fails}
 use Rattle.swap_base.specs.declared.fault.Fault.{Fault}
 use Rattle.swap_base.specs.declared.fault.Fault.TheVariants.{Refused, NoMemory}
 use Rattle.deviator_script.specs.declared.job.Job.{Job}
 use Rattle.deviator_script.specs.declared.event.Event.{Event}
 use Rattle.refusals.specs.declared.reason.Reason.{Reason}
 use Rattle.offer_fields.proofs.Lists.{with_front}
-use Rattle.swap_offer.specs.Job.{events_of, next_of}
+use Rattle.swap_offer.specs.Job.{counted, events_of, next_of}
 
 -- a line as it stands in the text
 abbrev pub line_of : {B : Type 0} → (B → List ℕ) → ℕ × B → ℕ × List ℕ
@@ -62,3 +62,32 @@ module _ {B : Type 0} (text : B → List ℕ) (job : Job) (ls : List (ℕ × B))
       sym so_far ∙ ap (λ (xs : List (ℕ × B)). with_front front (events_of job i (map (line_of text) xs))) e
       ∙ ap (λ (r : Result (List Event) Reason). with_front front r) (none_left job i)
       ∙ ap (λ (xs : List Event). let r : Result (List Event) Reason = Ok xs in r) (append-nil front)
+
+-- lines that are counted, and not examined
+module _ {B : Type 0} (text : B → List ℕ) (ls : List (ℕ × B)) (total : Result ℕ Reason) where
+  -- what is left to count
+  abbrev pub to_count : ℕ → ℕ → Result ℕ Reason
+  to_count i count = steps counted count (map (line_of text) (drop i ls))
+
+  next_count : (i count : ℕ) (d : ℕ × B) → i < length ls
+      → to_count i count ≡ counted count ((get_or ls i d).0, text (get_or ls i d).1) >>= λ n. to_count (i + 1) n
+  unfolding steps
+  next_count i count d lt =
+      let e : drop i ls ≡ get_or ls i d ∷ drop (i + 1) ls = rw (add-one, drop-cons ls i d) refl in
+      ap (λ (xs : List (ℕ × B)). steps counted count (map (line_of text) xs)) e
+
+  pub counts_on : (i count n : ℕ) (d : ℕ × B) → i < length ls → counted count ((get_or ls i d).0, text (get_or ls i d).1) ≡ Ok n
+      → to_count i count ≡ total → to_count (i + 1) n ≡ total
+  counts_on i count n d lt h so_far = sym (next_count i count d lt ∙ ap (λ (r : Result ℕ Reason). r >>= λ k. to_count (i + 1) k) h) ∙ so_far
+
+  pub counts_end : (f : Fault Reason) (i count : ℕ) (d : ℕ × B) → i < length ls
+      → Fails f (counted count ((get_or ls i d).0, text (get_or ls i d).1)) → to_count i count ≡ total → Fails f total
+  counts_end NoMemory i count d lt h so_far = tt
+  counts_end (Refused r) i count d lt h so_far =
+      sym so_far ∙ next_count i count d lt ∙ ap (λ (q : Result ℕ Reason). q >>= λ k. to_count (i + 1) k) h
+
+  pub count_is_done : (i count : ℕ) → length ls ≤ i → to_count i count ≡ total → total ≡ Ok count
+  unfolding steps
+  count_is_done i count le so_far =
+      let e : drop i ls ≡ [] = nil_from_length (drop i ls) (omega (arith, length-drop i ls)) in
+      sym so_far ∙ ap (λ (xs : List (ℕ × B)). steps counted count (map (line_of text) xs)) e

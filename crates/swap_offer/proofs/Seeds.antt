@@ -1,6 +1,6 @@
--- A job that passes has the wallets that its purpose needs.
-use Rattle.std.proofs.Common.{◌≡◌, ℕ, ◌<◌, ◌&&◌, Bool, true, false, cond, List, Option, Some, None, is_none, option_map, OnOk, Result, Ok, Err, refl, sym, ap}
-use Rattle.std.proofs.Common.{subst, ◌∙◌}
+-- A job that passes has the wallets and the seeds that its purpose needs.
+use Rattle.std.proofs.Common.{◌≡◌, ℕ, ◌<◌, ◌&&◌, Bool, true, false, cond, List, Option, Some, None, IsSome, is_none, option_map, OnOk, Result, Ok, Err}
+use Rattle.std.proofs.Common.{refl, sym, ap, subst, ◌∙◌}
 use Rattle.std.specs.List.{range_with_len}
 use Rattle.swap_base.specs.Fault.{Gives}
 use Rattle.swap_base.specs.Lists.{first_of}
@@ -13,8 +13,8 @@ use Rattle.refusals.specs.declared.reason.Reason.{Reason}
 use Rattle.refusals.specs.declared.reason.Reason.TheVariants.{NoSeed, WrongWallet}
 use Rattle.party_wallet.specs.Fits.{wrong_lock}
 use Rattle.swap_offer.specs.Checks.{unless_wrong}
-use Rattle.swap_offer.specs.Wallets.{conforms, seed_of, no_seed, seeded_for, seeded, wrong_seed, wrong_wallet, walleted, HasWallet, HaveWallets}
-use Rattle.swap_offer.specs.Wallets.{HaveWalletsFor}
+use Rattle.swap_offer.specs.Wallets.{conforms, seed_of, needs_seed, no_seed, seeded, wrong_seed, wrong_wallet, fitting, walleted_for, walleted}
+use Rattle.swap_offer.specs.Wallets.{HasWallet, HaveWallets, HaveWalletsFor, HaveSeedsFor}
 
 passed : (o : Option Reason) (u : Unit {0}) → unless_wrong o ≡ Ok u → o ≡ None
 passed None u e = refl
@@ -37,29 +37,58 @@ fits_is job p seed true (Some given) t s e =
     let same : given ≡ seed = cc s in
     subst (λ x. wrong_lock job.deal p x ≡ None) same (no_lock p (wrong_lock job.deal p given) e)
 
-have : (job : Job) → first_of (no_seed job) (range_with_len 0 job.deal.graph.n) ≡ None
+have : (job : Job) → ((p : ℕ) → conforms job p ≡ true → needs_seed job.purpose job p ≡ true)
+    → first_of (no_seed job) (range_with_len 0 job.deal.graph.n) ≡ None
     → first_of (wrong_wallet job) (range_with_len 0 job.deal.graph.n) ≡ None → HaveWallets job
-have job none wrong p lt c =
+have job needs none wrong p lt c =
     let k = in_range p job.deal.graph.n lt in
-    let s = seed_is (conforms job p) (seed_of job p) (NoSeed p) c (none_in (no_seed job) (range_with_len 0 job.deal.graph.n) p none k) in
+    let absent = none_in (no_seed job) (range_with_len 0 job.deal.graph.n) p none k in
+    let s = seed_is (needs_seed job.purpose job p) (seed_of job p) (NoSeed p) (needs p c) absent in
     record {
       seed = s.0;
       there = s.1;
       fits = fits_is job p s.0 (conforms job p) (seed_of job p) c s.1 (none_in (wrong_wallet job) (range_with_len 0 job.deal.graph.n) p wrong k);
     }
 
+needs_as : (job : Job) (purpose : Purpose) (p : ℕ) → job.purpose ≡ purpose → needs_seed purpose job p ≡ true → needs_seed job.purpose job p ≡ true
+needs_as job purpose p e c = subst (λ (x : Purpose). needs_seed x job p ≡ true) (sym e) c
+
 have_for : (job : Job) (u w : Unit {0}) → seeded job ≡ Ok u → walleted job ≡ Ok w → HaveWalletsFor job.purpose job
-unfolding seeded walleted
-have_for job u w s f = by job.purpose s
+unfolding seeded walleted fitting
+have_for job u w s f = by job.purpose refl f
   where
-    by : (purpose : Purpose) → seeded_for purpose job ≡ Ok u → HaveWalletsFor purpose job
-    by Check e = tt
-    by Run e = have job (passed _ u e) (passed _ w f)
-    by Race e = have job (passed _ u e) (passed _ w f)
-    by Make e = tt
-    by Audit e = tt
+    by : (purpose : Purpose) → job.purpose ≡ purpose → walleted_for purpose job ≡ Ok w → HaveWalletsFor purpose job
+    by Check e k = tt
+    by Run e k = have job (λ p c. needs_as job Run p e c) (passed _ u s) (passed _ w k)
+    by Race e k = have job (λ p c. needs_as job Race p e c) (passed _ u s) (passed _ w k)
+    by Make e k = tt
+    by Audit e k = tt
 
 pub have_on : {X : Type 0} (job : Job) (u : Unit {0}) (result : Result X (Fault Reason)) → seeded job ≡ Ok u → Gives (λ _. tt) result (walleted job)
     → OnOk result (HaveWalletsFor job.purpose job)
 have_on job u (Ok x) s f = have_for job u tt s f
 have_on job u (Err e) s f = tt
+
+-- a plain job has the seed of each party
+
+some_is : (o : Option (List ℕ)) (seed : List ℕ) → o ≡ Some seed → IsSome o
+some_is None seed e = absurd (cc e)
+some_is (Some x) seed e = refl
+
+seeds_for : (job : Job) (u : Unit {0}) → seeded job ≡ Ok u → HaveSeedsFor job.purpose job
+unfolding seeded
+seeds_for job u s = by job.purpose refl
+  where
+    by : (purpose : Purpose) → job.purpose ≡ purpose → HaveSeedsFor purpose job
+    by Check e = tt
+    by Run e = tt
+    by Race e = tt
+    by Make e = λ p lt.
+        let absent = none_in (no_seed job) (range_with_len 0 job.deal.graph.n) p (passed _ u s) (in_range p job.deal.graph.n lt) in
+        let there = seed_is (needs_seed job.purpose job p) (seed_of job p) (NoSeed p) (needs_as job Make p e refl) absent in
+        some_is (seed_of job p) there.0 there.1
+    by Audit e = tt
+
+pub seeds_on : {X : Type 0} (job : Job) (u : Unit {0}) (result : Result X (Fault Reason)) → seeded job ≡ Ok u → OnOk result (HaveSeedsFor job.purpose job)
+seeds_on job u (Ok x) s = seeds_for job u s
+seeds_on job u (Err e) s = tt

@@ -6,9 +6,12 @@ use Rattle.swap_digraph.specs.Deal.{IsWellSized, HasKeys}
 use Rattle.swap_digraph.specs.declared.deal.Mode.{Mode}
 use Rattle.swap_digraph.specs.declared.deal.Mode.TheVariants.{Timelocks, Hashkeys}
 use Rattle.offer_header.specs.declared.header.Header.{Header}
-use Rattle.offer_header.specs.Header.{IsWithin, HasKeysFor}
+use Rattle.deviator_script.specs.declared.job.Purpose.{Purpose}
+use Rattle.deviator_script.specs.declared.job.Purpose.TheVariants.{Check, Run, Race, Make, Audit}
+use Rattle.offer_header.specs.Header.{IsWithin, IsUntoldFor, HasKeysFor}
 use Rattle.swap_offer.specs.Checks.{unnamed, deal_with, job_with}
 use Rattle.swap_offer.specs.Job.{IsWhole}
+use Rattle.swap_offer.specs.Wallets.{IsUntoldJob}
 
 keys_of : (m : Mode) (h : Header) (g : Graph) (id : List ℕ) → g.n ≡ length h.names → HasKeysFor m (length h.names) (length h.leaders) h.keys
     → HasKeys m (unnamed h g id)
@@ -37,3 +40,13 @@ is_sized h g id k e n a =
 
 pub is_whole : (h : Header) (g : Graph) → IsWithin h → HasEnds g → g.n ≡ length h.names → g.arcs ≡ h.arcs → IsWhole (job_with h g)
 is_whole h g k e n a = record { sized = is_sized h g (deal_with h g).id k e n a; names = sym n; conforming = k.conforming ∙ sym n; seeds = k.seeds ∙ sym n }
+
+untold_by : (purpose : Purpose) (h : Header) (g : Graph) → IsUntoldFor purpose h → IsUntoldJob purpose (job_with h g)
+untold_by Audit h g u = u
+untold_by Check h g u = tt
+untold_by Run h g u = tt
+untold_by Race h g u = tt
+untold_by Make h g u = tt
+
+pub is_untold : (h : Header) (g : Graph) → IsUntoldFor h.purpose h → IsUntoldJob h.purpose (job_with h g)
+is_untold h g u = untold_by h.purpose h g u

@@ -21,9 +21,13 @@ use Rattle.leader_check.specs.Levels.{height_of}
 use Rattle.deviator_script.specs.declared.job.Role.{Role}
 use Rattle.deviator_script.specs.declared.job.Role.TheVariants.{Conforming, Manual}
 use Rattle.deviator_script.specs.declared.job.Job.{Job}
+use Rattle.deviator_script.specs.declared.job.Purpose.{Purpose}
 use Rattle.refusals.specs.declared.reason.Reason.{Reason}
 use Rattle.refusals.specs.declared.reason.Reason.TheVariants.{SelfArc, Parallel, NotStrong, ManyLeaders, NotFeedback, BoundTooSmall, StartTooSoon}
 use Rattle.refusals.specs.declared.reason.Reason.TheVariants.{WrongTimelock}
+use Rattle.swap_rules.specs.Accepted.{IsAccepted}
+use Rattle.proposed_deal.specs.Proposed.{IsProposed}
+use Rattle.offer_header.specs.Raw.{is_plain}
 use Rattle.offer_header.specs.declared.header.Header.{Header}
 
 -- A fault of the arcs. The ends of a header's arcs are parties, so that the first never comes.
@@ -97,6 +101,11 @@ unfoldable pub timed : Header → Graph → Mode → List ℕ → Result (Unit {
 timed h g Timelocks (leader ∷ []) = unless_wrong (first_of (wrong_timelock h g leader) (arcs g))
 timed h g _ _ = Ok tt
 
+-- a plain job states no timelocks
+abbrev pub timed_unless : (plain : Bool) → Header → Graph → Result (Unit {0}) Reason
+timed_unless true h g = Ok tt
+timed_unless false h g = timed h g h.mode h.leaders
+
 abbrev pub role_of : Bool → Role
 role_of true = Conforming
 role_of false = Manual
@@ -129,8 +138,7 @@ job_with h g = record {
   names = h.names;
   roles = map role_of h.conforming;
   conforming = h.conforming;
-  seeds =
-      h.seeds;
+  seeds = h.seeds;
   finish = h.finish;
 }
 
@@ -142,7 +150,7 @@ checked h g = do
   w ← led g h.leaders
   x ← bounded h.bound (least_bound g h.leaders)
   y ← started h.start h.delta
-  timed h g h.mode h.leaders
+  timed_unless (is_plain h.purpose) h g
 
 -- the digraph of a header, where its digraph, its leaders and its times pass their checks
 unfoldable pub admitted : Header → Result Graph Reason
@@ -150,3 +158,11 @@ admitted h = do
   g ← graph_of h
   u ← checked h g
   Ok g
+
+abbrev pub IsAcceptedUnless : (plain : Bool) → Deal → Type 0
+IsAcceptedUnless true d = IsProposed d
+IsAcceptedUnless false d = IsAccepted d
+
+-- a deal is accepted; that of a plain job is proposed, and lacks what its parties' seeds give
+abbrev pub IsAcceptedFor : Purpose → Deal → Type 0
+IsAcceptedFor purpose d = IsAcceptedUnless (is_plain purpose) d

@@ -1,13 +1,13 @@
 -- What the bytes of an offer are: a job with its events, or the first reason against them.
-use Rattle.std.specs.Prelude.{◌≡◌, ◌==◌, ℕ, ◌+◌, ◌<◌, List, [], ◌∷◌, codes, length, Result, Ok, Err, if◌then◌else◌}
-use Rattle.swap_base.specs.Fault.{◌>>=◌}
+use Rattle.std.specs.Prelude.{◌≡◌, ◌==◌, ℕ, ◌+◌, List, [], ◌∷◌, Bool, true, false, codes, length, Result, Ok, Err, if◌then◌else◌}
+use Rattle.swap_base.specs.Fault.{◌>>=◌, steps}
 use Rattle.swap_digraph.specs.Deal.{IsWellSized}
 use Rattle.deviator_script.specs.declared.job.Purpose.{Purpose}
-use Rattle.deviator_script.specs.declared.job.Purpose.TheVariants.{Make, Audit}
 use Rattle.deviator_script.specs.declared.job.Job.{Job}
 use Rattle.deviator_script.specs.declared.event.Event.{Event}
 use Rattle.refusals.specs.declared.reason.Reason.{Reason}
 use Rattle.refusals.specs.declared.reason.Reason.TheVariants.{NotJson, OverLimit}
+use Rattle.offer_header.specs.Raw.{is_plain}
 use Rattle.offer_header.specs.Header.{header_of}
 use Rattle.offer_events.specs.Event.{event_of}
 use Rattle.swap_offer.specs.Lines.{lines_of, filled_lines}
@@ -27,12 +27,6 @@ accepted_of h = do
   g ← admitted h
   u ← provided (job_with h g)
   Ok (job_with h g)
-
--- the purposes for which a header is read: making a job and auditing aren't built
-abbrev pub IsBuilt : Purpose → Type 0
-IsBuilt Make = ⊥
-IsBuilt Audit = ⊥
-IsBuilt _ = Unit {0}
 
 -- the job of a header line
 unfoldable pub job_header_of : Purpose → ℕ → List ℕ → Result Job Reason
@@ -62,9 +56,21 @@ unfoldable pub events_of : Job → ℕ → List (ℕ × List ℕ) → Result (Li
 events_of job count [] = Ok []
 events_of job count (l ∷ ls) = next_of job count l.0 l.1 >>= λ e. events_of job (count + 1) ls >>= λ es. Ok (e ∷ es)
 
+-- how many lines there are with one more, where so many came before: its text isn't examined
+unfoldable pub counted : ℕ → ℕ × List ℕ → Result ℕ Reason
+counted count l = if count == 200000 then Err (OverLimit l.0 (codes "events") 200001) else Ok (count + 1)
+
+abbrev pub events_unless : (plain : Bool) → Job → List (ℕ × List ℕ) → Result (List Event) Reason
+events_unless true job ls = steps counted 0 ls >>= λ count. Ok []
+events_unless false job ls = events_of job 0 ls
+
+-- the events of the further lines; those of a plain job are counted, and no event is read
+abbrev pub events_for : Purpose → Job → List (ℕ × List ℕ) → Result (List Event) Reason
+events_for purpose job ls = events_unless (is_plain purpose) job ls
+
 abbrev pub of_lines : Purpose → List (ℕ × List ℕ) → Result (Job × List Event) Reason
 of_lines purpose [] = Err (NotJson 1)
-of_lines purpose (l ∷ ls) = job_header_of purpose l.0 l.1 >>= λ job. events_of job 0 ls >>= λ events. Ok (job, events)
+of_lines purpose (l ∷ ls) = job_header_of purpose l.0 l.1 >>= λ job. events_for purpose job ls >>= λ events. Ok (job, events)
 
 -- the names of the parties that an offer's bytes speak of
 abbrev pub names_of_offer : Purpose → List ℕ → List (List ℕ)

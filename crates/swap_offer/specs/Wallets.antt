@@ -5,7 +5,9 @@ use Rattle.std.specs.List.{range_with_len}
 use Rattle.swap_base.specs.Lists.{first_of}
 use Rattle.deviator_script.specs.declared.job.Job.{Job}
 use Rattle.deviator_script.specs.declared.job.Purpose.{Purpose}
-use Rattle.deviator_script.specs.declared.job.Purpose.TheVariants.{Run, Race}
+use Rattle.deviator_script.specs.declared.job.Purpose.TheVariants.{Run, Race, Make, Audit}
+use Rattle.deviator_script.specs.declared.job.Finish.TheVariants.{Stop}
+use Rattle.proposed_deal.specs.Proposed.{HaveSeeds}
 use Rattle.refusals.specs.declared.reason.Reason.{Reason}
 use Rattle.refusals.specs.declared.reason.Reason.TheVariants.{NoSeed, WrongWallet}
 use Rattle.party_wallet.specs.Fits.{wrong_lock}
@@ -21,19 +23,20 @@ conforms job p = slice_index_or job.conforming p false
 abbrev pub seed_of : Job → ℕ → Option (List ℕ)
 seed_of job p = slice_index_or job.seeds p None
 
--- the reason against a conforming party p without a seed
-abbrev pub no_seed : Job → ℕ → Option Reason
-no_seed job p = if conforms job p && is_none (seed_of job p) then Some (NoSeed p) else None
+-- the parties whose seeds a purpose needs: for a run and a race those that conform, for making all
+abbrev pub needs_seed : Purpose → Job → ℕ → Bool
+needs_seed Run job p = conforms job p
+needs_seed Race job p = conforms job p
+needs_seed Make job p = true
+needs_seed _ job p = false
 
--- a run and a race need the seed of each conforming party
-abbrev pub seeded_for : Purpose → Job → Result (Unit {0}) Reason
-seeded_for Run job = unless_wrong (first_of (no_seed job) (range_with_len 0 job.deal.graph.n))
-seeded_for Race job = unless_wrong (first_of (no_seed job) (range_with_len 0 job.deal.graph.n))
-seeded_for _ job = Ok tt
+-- the reason against a party p whose seed is needed and isn't there
+abbrev pub no_seed : Job → ℕ → Option Reason
+no_seed job p = if needs_seed job.purpose job p && is_none (seed_of job p) then Some (NoSeed p) else None
 
 -- the seeds that the job's purpose needs are there
 unfoldable pub seeded : Job → Result (Unit {0}) Reason
-seeded job = seeded_for job.purpose job
+seeded job = unless_wrong (first_of (no_seed job) (range_with_len 0 job.deal.graph.n))
 
 -- the reason against a seed of party p, by the least lock for which it lacks what the deal states
 abbrev pub wrong_seed : Job → ℕ → Option (List ℕ) → Option Reason
@@ -45,8 +48,18 @@ abbrev pub wrong_wallet : Job → ℕ → Option Reason
 wrong_wallet job p = if conforms job p then wrong_seed job p (seed_of job p) else None
 
 -- the seeds of conforming parties that are there are those of the deal
+unfoldable pub fitting : Job → Result (Unit {0}) Reason
+fitting job = unless_wrong (first_of (wrong_wallet job) (range_with_len 0 job.deal.graph.n))
+
+-- a plain job's deal states nothing that seeds give, and a transcript tells no seed
+abbrev pub walleted_for : Purpose → Job → Result (Unit {0}) Reason
+walleted_for Make job = Ok tt
+walleted_for Audit job = Ok tt
+walleted_for _ job = fitting job
+
+-- the seeds give what the deal states of them
 unfoldable pub walleted : Job → Result (Unit {0}) Reason
-walleted job = unless_wrong (first_of (wrong_wallet job) (range_with_len 0 job.deal.graph.n))
+walleted job = walleted_for job.purpose job
 
 -- the wallets that a purpose needs: for a run and a race those of the parties
 abbrev pub wallets_for : Purpose → Job → List (Option WalletState)
@@ -69,3 +82,13 @@ abbrev pub HaveWalletsFor : Purpose → Job → Type 0
 HaveWalletsFor Run job = HaveWallets job
 HaveWalletsFor Race job = HaveWallets job
 HaveWalletsFor _ job = Unit {0}
+
+-- a plain job has the seed of each party
+abbrev pub HaveSeedsFor : Purpose → Job → Type 0
+HaveSeedsFor Make job = HaveSeeds job
+HaveSeedsFor _ job = Unit {0}
+
+-- a transcript tells no seed, and nothing is done after its last entry
+abbrev pub IsUntoldJob : Purpose → Job → Type 0
+IsUntoldJob Audit job = ((p : ℕ) → seed_of job p ≡ None) × (job.finish ≡ Stop)
+IsUntoldJob _ job = Unit {0}

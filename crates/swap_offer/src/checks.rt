@@ -7,12 +7,13 @@ ghost use Rattle.swap_digraph.specs.Graph.{HasEnds, IsStronglyConnected, IsFeedb
 ghost use Rattle.leader_check.specs.Levels.{height_of};
 ghost use Rattle.single_leader.specs.Distance.{dist_of};
 ghost use Rattle.offer_header.specs.Header.{IsWithin};
-ghost use Rattle.swap_offer.specs.Checks.{graph_of, connected, one_leader, led, least_bound, bounded, started, timed, wrong_timelock, checked, role_of};
-ghost use Rattle.swap_offer.specs.Checks.{arc_reason};
+ghost use Rattle.offer_header.specs.Raw.{is_plain};
+ghost use Rattle.swap_offer.specs.Checks.{arc_reason, graph_of, connected, one_leader, led, least_bound, bounded, started, wrong_timelock, timed};
+ghost use Rattle.swap_offer.specs.Checks.{timed_unless, checked};
 
 use digraph_check::{Strength, strong};
 use leader_check::{LeaderAnswer, Levels, levels};
-use offer_header::Header;
+use offer_header::{Header, is_plain};
 use refusals::{OfferFault, Reason};
 use single_leader::dist;
 use std::alloc::Global;
@@ -193,6 +194,29 @@ fn check_timelocks(
     }
 }
 
+/// With timelocks each arc of a header that isn't plain has its timelock.
+fn check_times(
+    alloc: Global,
+    header: &Header,
+    graph: &Digraph,
+    levels: &Levels,
+) -> Result<(), OfferFault>
+    requires within { IsWithin header.now }
+    requires parts { graph.now.arcs ≡ header.now.arcs }
+    requires parties { graph.now.n ≡ length header.now.names }
+    requires ends { HasEnds graph.now }
+    requires strong { IsStronglyConnected graph.now }
+    requires feedback { IsFeedback graph.now header.now.leaders }
+    requires height { IsHeight graph.now header.now.leaders levels.now.h }
+    ensures { Gives (λ u. u) result (timed_unless (is_plain header.now.purpose) header.now graph.now) }
+{
+    if is_plain(header.purpose) {
+        Ok(())
+    } else {
+        check_timelocks(alloc, header, graph, levels)
+    }
+}
+
 /// The least bound of a header whose digraph, leaders and times pass their checks, which come in order.
 #[tactic(auto, unfolding(crate::specs::Checks::checked))]
 pub(crate) fn check_header(
@@ -214,6 +238,6 @@ pub(crate) fn check_header(
     let needed = need(graph.n(), leaders.len() as u8, levels.h);
     check_bound(header.bound, needed)?;
     check_start(header.start, header.delta)?;
-    check_timelocks(alloc, header, graph, &levels)?;
+    check_times(alloc, header, graph, &levels)?;
     Ok(needed)
 }

@@ -1,17 +1,17 @@
 //! The job of a header line, with its wallets.
 
-ghost use Rattle.std.specs.Prelude.{◌≡◌, ℕ, List, IfOk, Ok, OnOk, length};
+ghost use Rattle.std.specs.Prelude.{◌≡◌, ℕ, List, IfOk, Ok, OnOk, length, map};
 ghost use Rattle.swap_base.specs.Fault.{Gives};
 ghost use Rattle.swap_digraph.specs.Deal.{IsWellSized};
 ghost use Rattle.swap_digraph.specs.Graph.{HasEnds};
-ghost use Rattle.swap_rules.specs.Accepted.{IsAccepted};
 ghost use Rattle.refusals.specs.Refusal.{named};
 ghost use Rattle.offer_header.specs.declared.header.Header.{Header};
-ghost use Rattle.offer_header.specs.Header.{header_of, IsWithin};
-ghost use Rattle.swap_offer.specs.Checks.{admitted, deal_with, job_with, least_bound, need_of, unnamed};
+ghost use Rattle.offer_header.specs.Header.{header_of, IsUntoldFor, IsWithin};
+ghost use Rattle.offer_header.specs.Names.{AreNames};
+ghost use Rattle.swap_offer.specs.Checks.{admitted, deal_with, job_with, least_bound, need_of, role_of, unnamed, IsAcceptedFor};
 ghost use Rattle.swap_offer.specs.Certificates.{Certifies};
-ghost use Rattle.swap_offer.specs.Wallets.{HaveWalletsFor, wallets_for};
-ghost use Rattle.swap_offer.specs.Job.{accepted_of, job_header_of, names_at, provided, IsBuilt, IsWhole};
+ghost use Rattle.swap_offer.specs.Wallets.{HaveSeedsFor, HaveWalletsFor, IsUntoldJob, wallets_for};
+ghost use Rattle.swap_offer.specs.Job.{accepted_of, job_header_of, names_at, provided, IsWhole};
 
 use crate::checks::{check_header, graph_in};
 use crate::prepared::Prepared;
@@ -64,7 +64,7 @@ fn admit(alloc: Global, header: &Header) -> Result<(Digraph, u32), OfferFault>
     ensures exact { Gives (λ a. a.0) result (admitted header.now) }
     ensures parts { IfOk result (λ a. (a.0.n ≡ length header.now.names) × (a.0.arcs ≡ header.now.arcs)) }
     ensures ends { IfOk result (λ a. HasEnds a.0) }
-    ensures accepted { IfOk result (λ a. IsAccepted (deal_with header.now a.0)) }
+    ensures accepted { IfOk result (λ a. IsAcceptedFor header.now.purpose (deal_with header.now a.0)) }
     ensures need { IfOk result (λ a. a.1 ≡ least_bound a.0 header.now.leaders) }
 {
     let graph = graph_in(alloc, header)?;
@@ -78,6 +78,7 @@ fn provide(alloc: Global, job: &Job) -> Result<Vec<Option<Wallet>>, OfferFault>
     requires whole { IsWhole job.now }
     ensures exact { Gives (λ _. tt) result (provided job.now) }
     ensures wallets { OnOk result (HaveWalletsFor job.now.purpose job.now) }
+    ensures seeds { OnOk result (HaveSeedsFor job.now.purpose job.now) }
     ensures made { IfOk result (λ v. v.items ≡ wallets_for job.now.purpose job.now) }
 {
     check_seeds(job)?;
@@ -85,14 +86,20 @@ fn provide(alloc: Global, job: &Job) -> Result<Vec<Option<Wallet>>, OfferFault>
 }
 
 /// The job of a header within its limits, with its wallets. A reason against it takes the header's names.
-#[tactic(auto, using(crate::proofs::Size::is_whole, crate::proofs::Size::is_sized, refusals::proofs::Named::fails), unfolding(crate::specs::Job::accepted_of))]
+#[tactic(auto, using(crate::proofs::Size::is_whole, crate::proofs::Size::is_sized, crate::proofs::Size::is_untold, refusals::proofs::Named::fails), unfolding(crate::specs::Job::accepted_of))]
 fn accept(alloc: Global, header: Header) -> Result<Prepared, HeaderFault>
-    requires { IsWithin header }
+    requires within { IsWithin header }
+    requires untold { IsUntoldFor header.purpose header }
     ensures exact { Gives (λ p. p.job) result (named header.names (accepted_of header)) }
     ensures names { IfOk result (λ p. p.job.names ≡ header.names) }
+    ensures known { IfOk result (λ p. AreNames p.job.names) }
+    ensures purpose { IfOk result (λ p. p.job.purpose ≡ header.purpose) }
     ensures whole { IfOk result (λ p. IsWhole p.job) }
-    ensures accepted { IfOk result (λ p. IsAccepted p.job.deal) }
+    ensures roles { IfOk result (λ p. p.job.roles ≡ map role_of p.job.conforming) }
+    ensures accepted { IfOk result (λ p. IsAcceptedFor header.purpose p.job.deal) }
     ensures wallets { IfOk result (λ p. HaveWalletsFor header.purpose p.job) }
+    ensures seeds { IfOk result (λ p. HaveSeedsFor header.purpose p.job) }
+    ensures untold { IfOk result (λ p. IsUntoldJob header.purpose p.job) }
     ensures made { IfOk result (λ p. p.wallets.items ≡ wallets_for header.purpose p.job) }
     ensures need { IfOk result (λ p. p.need ≡ need_of p.job.deal) }
 {
@@ -110,8 +117,8 @@ fn accept(alloc: Global, header: Header) -> Result<Prepared, HeaderFault>
 /// The job of a header line with the wallets that its purpose needs, or the first reason against it with the names in the header. Lines are counted from 1.
 ///
 /// For a run and a race there is one place per party: the wallet of a party that conforms and has a seed. For
-/// any other purpose there is none, since each wallet is let go once it was examined. A reason against a
-/// later line takes the names of the job.
+/// any other purpose there is none: for a check each wallet is let go once it was examined, and a plain job and
+/// a transcript have nothing to examine. A reason against a later line takes the names of the job.
 #[tactic(auto, using(refusals::proofs::Named::fails), unfolding(crate::specs::Job::job_header_of, crate::specs::Job::names_at))]
 pub fn read_header(
     alloc: Global,
@@ -119,12 +126,16 @@ pub fn read_header(
     text: &[u8],
     purpose: Purpose,
 ) -> Result<Prepared, HeaderFault>
-    requires built { IsBuilt purpose }
     ensures exact { Gives (λ p. p.job) result (named (names_at purpose line text.now) (job_header_of purpose line text.now)) }
     ensures names { IfOk result (λ p. p.job.names ≡ names_at purpose line text.now) }
+    ensures known { IfOk result (λ p. AreNames p.job.names) }
+    ensures purpose { IfOk result (λ p. p.job.purpose ≡ purpose) }
     ensures whole { IfOk result (λ p. IsWhole p.job) }
-    ensures accepted { IfOk result (λ p. IsAccepted p.job.deal) }
+    ensures roles { IfOk result (λ p. p.job.roles ≡ map role_of p.job.conforming) }
+    ensures accepted { IfOk result (λ p. IsAcceptedFor purpose p.job.deal) }
     ensures wallets { IfOk result (λ p. HaveWalletsFor purpose p.job) }
+    ensures seeds { IfOk result (λ p. HaveSeedsFor purpose p.job) }
+    ensures untold { IfOk result (λ p. IsUntoldJob purpose p.job) }
     ensures made { IfOk result (λ p. p.wallets.items ≡ wallets_for purpose p.job) }
     ensures need { IfOk result (λ p. p.need ≡ need_of p.job.deal) }
     // A closed set or a cycle of followers that is named is one of the header's digraph.

@@ -1,17 +1,20 @@
 //! The job and the events of an offer.
 
-ghost use Rattle.std.specs.Prelude.{◌≡◌, ◌<◌, ◌^◌, ◌∷◌, length, map, IfOk};
-ghost use Rattle.swap_base.specs.Fault.{Gives};
-ghost use Rattle.deviator_script.specs.Step.{CanStep};
-ghost use Rattle.swap_rules.specs.Accepted.{IsAccepted};
+ghost use Rattle.std.specs.Prelude.{true, ◌≡◌, ◌<◌, ◌≤◌, ◌^◌, ◌∷◌, List, [], ℕ, length, map, IfOk, OnOk};
+ghost use Rattle.swap_base.specs.Fault.{Gives, steps};
+ghost use Rattle.deviator_script.specs.Step.{IsEventOf};
+ghost use Rattle.offer_events.specs.Event.{needs_seeds};
 ghost use Rattle.refusals.specs.Refusal.{named};
-ghost use Rattle.swap_offer.specs.Job.{next_of, events_of, of_lines, job_of, names_at, names_in, names_of_offer, IsBuilt, IsWhole};
+ghost use Rattle.offer_header.specs.Raw.{is_plain};
+ghost use Rattle.swap_offer.specs.Checks.{IsAcceptedFor};
+ghost use Rattle.swap_offer.specs.Job.{next_of, counted, events_of, events_for, of_lines, job_of, names_at, names_in, names_of_offer, IsWhole};
 
 use crate::header::read_header;
 use crate::lines::filled_lines;
 use crate::prepared::Prepared;
 use deviator_script::{Event, Job, Purpose};
 use offer_events::read_event;
+use offer_header::is_plain;
 use refusals::{HeaderFault, OfferFault, Reason, Refusal, over_limit, with_names};
 use std::alloc::Global;
 use swap_base::{Fault, Listed};
@@ -30,7 +33,7 @@ pub fn next_event(
 ) -> Result<Event, OfferFault>
     requires { IsWhole job.now }
     ensures exact { Gives (λ e. e) result (next_of job.now count line text.now) }
-    ensures fits { IfOk result (λ e. CanStep job.now.deal job.now.conforming e) }
+    ensures fits { IfOk result (λ e. needs_seeds job.now.purpose ≡ true → IsEventOf job.now e) }
 {
     if count == MOST_EVENTS {
         return Err(over_limit(alloc, line, b"events", MOST_EVENTS as u64 + 1));
@@ -52,6 +55,49 @@ fn read_events(alloc: Global, job: &Job, lines: &[(u32, &[u8])]) -> Result<Vec<E
     Ok(events)
 }
 
+/// How many event lines there are with one more, which isn't examined.
+#[tactic(auto, unfolding(crate::specs::Job::counted))]
+pub fn count_event(alloc: Global, count: u32, line: u32, text: &[u8]) -> Result<u32, OfferFault>
+    requires { count ≤ 200000 }
+    ensures exact { Gives (λ n. n) result (counted count (line, text.now)) }
+    ensures few { IfOk result (λ n. n ≤ 200000) }
+{
+    if count == MOST_EVENTS {
+        return Err(over_limit(alloc, line, b"events", MOST_EVENTS as u64 + 1));
+    }
+    Ok(count + 1)
+}
+
+/// Counts event lines, which aren't examined.
+fn count_events(alloc: Global, lines: &[(u32, &[u8])]) -> Result<u32, OfferFault>
+    ensures { Gives (λ n. n) result (steps counted 0 (map (λ l. (l.0, l.1.now)) lines.now)) }
+{
+    let mut count: u32 = 0;
+    for line in lines {
+        count = count_event(alloc, count, line.0, line.1)?;
+    }
+    Ok(count)
+}
+
+/// The events of the further lines of a job; those of a plain job are counted, and no event is read.
+fn read_further(
+    alloc: Global,
+    purpose: Purpose,
+    job: &Job,
+    lines: &[(u32, &[u8])],
+) -> Result<Vec<Event>, OfferFault>
+    requires whole { IsWhole job.now }
+    requires few { length lines.now < 2 ^ 31 }
+    ensures { Gives (λ v. v.items) result (events_for purpose job.now (map (λ l. (l.0, l.1.now)) lines.now)) }
+{
+    if is_plain(purpose) {
+        count_events(alloc, lines)?;
+        Ok(Vec::new(alloc))
+    } else {
+        read_events(alloc, job, lines)
+    }
+}
+
 /// The job of a header line and the events of the further lines.
 #[tactic(auto, using(refusals::proofs::Named::fails))]
 fn read_from(
@@ -61,15 +107,14 @@ fn read_from(
     text: &[u8],
     further: &[(u32, &[u8])],
 ) -> Result<(Job, Vec<Event>), HeaderFault>
-    requires built { IsBuilt purpose }
     requires few { length further.now < 2 ^ 31 }
     ensures exact { Gives (λ j. (j.0, j.1.items)) result (named (names_at purpose line text.now)
         (of_lines purpose ((line, text.now) ∷ map (λ l. (l.0, l.1.now)) further.now))) }
     ensures whole { IfOk result (λ j. IsWhole j.0) }
-    ensures accepted { IfOk result (λ j. IsAccepted j.0.deal) }
+    ensures accepted { IfOk result (λ j. IsAcceptedFor purpose j.0.deal) }
 {
     let Prepared { job, .. } = read_header(alloc, line, text, purpose)?;
-    match read_events(alloc, &job, further) {
+    match read_further(alloc, purpose, &job, further) {
         Ok(events) => Ok((job, events)),
         Err(fault) => Err(with_names(fault, job.names)),
     }
@@ -80,12 +125,11 @@ fn read_lines(
     purpose: Purpose,
     lines: &[(u32, &[u8])],
 ) -> Result<(Job, Vec<Event>), HeaderFault>
-    requires built { IsBuilt purpose }
     requires few { length lines.now < 2 ^ 31 }
     ensures exact { Gives (λ j. (j.0, j.1.items)) result (named (names_in purpose (map (λ l. (l.0, l.1.now)) lines.now))
         (of_lines purpose (map (λ l. (l.0, l.1.now)) lines.now))) }
     ensures whole { IfOk result (λ j. IsWhole j.0) }
-    ensures accepted { IfOk result (λ j. IsAccepted j.0.deal) }
+    ensures accepted { IfOk result (λ j. IsAcceptedFor purpose j.0.deal) }
 {
     if lines.is_empty() {
         let names = Listed::empty(alloc);
@@ -103,11 +147,10 @@ pub fn read_job(
     bytes: &[u8],
     purpose: Purpose,
 ) -> Result<(Job, Vec<Event>), HeaderFault>
-    requires built { IsBuilt purpose }
     requires few { length bytes.now < 2 ^ 31 }
     ensures exact { Gives (λ j. (j.0, j.1.items)) result (named (names_of_offer purpose bytes.now) (job_of purpose bytes.now)) }
     ensures whole { IfOk result (λ j. IsWhole j.0) }
-    ensures accepted { IfOk result (λ j. IsAccepted j.0.deal) }
+    ensures accepted { IfOk result (λ j. IsAcceptedFor purpose j.0.deal) }
 {
     let lines = filled_lines(alloc, bytes)?;
     read_lines(alloc, purpose, &lines)

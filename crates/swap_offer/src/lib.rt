@@ -13,7 +13,7 @@ mod roles;
 mod wallets;
 
 pub use header::read_header;
-pub use job::{next_event, read_job};
+pub use job::{count_event, next_event, read_job};
 pub use laws::admitted_is_accepted;
 pub use lines::{filled_lines, is_blank};
 pub use offer_events::read_event;

@@ -1,4 +1,4 @@
-//! The seeds and the wallets of conforming parties.
+//! The seeds and the wallets of parties.
 
 ghost use Rattle.std.specs.Prelude.{◌≡◌, ◌<◌, IfOk, option_map};
 ghost use Rattle.std.specs.List.{range_with_len};
@@ -11,7 +11,7 @@ ghost use Rattle.party_wallet.specs.Keys.{new_wallet};
 ghost use Rattle.party_wallet.specs.Wallets.{wallet_for, wallets_of};
 ghost use Rattle.swap_offer.specs.Checks.{unless_wrong};
 ghost use Rattle.swap_offer.specs.Job.{IsWhole};
-ghost use Rattle.swap_offer.specs.Wallets.{no_seed, seeded, wrong_wallet, walleted, wallets_for};
+ghost use Rattle.swap_offer.specs.Wallets.{needs_seed, no_seed, seeded, wrong_wallet, fitting, walleted, wallets_for};
 
 use deviator_script::{Job, Purpose};
 use party_wallet::Wallet;
@@ -20,19 +20,31 @@ use std::alloc::Global;
 use swap_base::{Digest, Fault, PartyId};
 use swap_digraph::Deal;
 
+fn needs_seed(job: &Job, p: PartyId) -> bool
+    requires whole { IsWhole job.now }
+    requires known { p < job.now.deal.graph.n }
+    ensures { result ≡ needs_seed job.now.purpose job.now p }
+{
+    match job.purpose {
+        Purpose::Run | Purpose::Race => job.conforming.as_slice()[p as usize],
+        Purpose::Make => true,
+        Purpose::Check | Purpose::Audit => false,
+    }
+}
+
 fn no_seed(job: &Job, p: PartyId) -> Option<Reason>
     requires whole { IsWhole job.now }
     requires known { p < job.now.deal.graph.n }
     ensures { result ≡ no_seed job.now p }
 {
-    if job.conforming.as_slice()[p as usize] && job.seeds.as_slice()[p as usize].is_none() {
+    if needs_seed(job, p) && job.seeds.as_slice()[p as usize].is_none() {
         Some(Reason::NoSeed(p))
     } else {
         None
     }
 }
 
-/// The reason against the first conforming party without a seed.
+/// The reason against the first party whose seed is needed and isn't there.
 fn first_without_seed(job: &Job) -> Option<Reason>
     requires whole { IsWhole job.now }
     ensures { result ≡ first_of (no_seed job.now) (range_with_len 0 job.now.deal.graph.n) }
@@ -52,12 +64,9 @@ pub(crate) fn check_seeds(job: &Job) -> Result<(), OfferFault>
     requires whole { IsWhole job.now }
     ensures { Gives (λ u. u) result (seeded job.now) }
 {
-    match job.purpose {
-        Purpose::Run | Purpose::Race => match first_without_seed(job) {
-            None => Ok(()),
-            Some(reason) => Err(Fault::Refused(reason)),
-        },
-        _ => Ok(()),
+    match first_without_seed(job) {
+        None => Ok(()),
+        Some(reason) => Err(Fault::Refused(reason)),
     }
 }
 
@@ -92,10 +101,10 @@ fn wallet_for(alloc: Global, job: &Job, p: PartyId) -> Result<Option<Wallet>, Of
 }
 
 /// The wallet of each party that conforms and has a seed, or the reason against the first that isn't that of the deal.
-#[tactic(auto, unfolding(crate::specs::Wallets::walleted))]
+#[tactic(auto, unfolding(crate::specs::Wallets::fitting))]
 fn wallets_of(alloc: Global, job: &Job) -> Result<Vec<Option<Wallet>>, OfferFault>
     requires whole { IsWhole job.now }
-    ensures fit { Gives (λ _. tt) result (walleted job.now) }
+    ensures fit { Gives (λ _. tt) result (fitting job.now) }
     ensures made { IfOk result (λ v. v.items ≡ wallets_of job.now.deal job.now.conforming job.now.seeds) }
 {
     let mut wallets = Vec::new(alloc);
@@ -107,10 +116,10 @@ fn wallets_of(alloc: Global, job: &Job) -> Result<Vec<Option<Wallet>>, OfferFaul
 }
 
 /// Makes the wallet of each party that conforms and has a seed, one at a time, and lets it go.
-#[tactic(auto, unfolding(crate::specs::Wallets::walleted))]
+#[tactic(auto, unfolding(crate::specs::Wallets::fitting))]
 fn check_wallets(alloc: Global, job: &Job) -> Result<(), OfferFault>
     requires whole { IsWhole job.now }
-    ensures { Gives (λ u. u) result (walleted job.now) }
+    ensures { Gives (λ u. u) result (fitting job.now) }
 {
     'parties: for p in 0..job.deal.graph.n() {
         wallet_for(alloc, job, p)?;
@@ -118,7 +127,8 @@ fn check_wallets(alloc: Global, job: &Job) -> Result<(), OfferFault>
     Ok(())
 }
 
-/// The wallets that the job's purpose needs, where the seeds of conforming parties that are there are those of the deal.
+/// The wallets that the job's purpose needs, where the seeds give what the deal states of them.
+#[tactic(auto, unfolding(crate::specs::Wallets::walleted))]
 pub(crate) fn wallets_for(alloc: Global, job: &Job) -> Result<Vec<Option<Wallet>>, OfferFault>
     requires whole { IsWhole job.now }
     ensures fit { Gives (λ _. tt) result (walleted job.now) }
@@ -126,9 +136,10 @@ pub(crate) fn wallets_for(alloc: Global, job: &Job) -> Result<Vec<Option<Wallet>
 {
     match job.purpose {
         Purpose::Run | Purpose::Race => wallets_of(alloc, job),
-        _ => {
+        Purpose::Check => {
             check_wallets(alloc, job)?;
             Ok(Vec::new(alloc))
         }
+        Purpose::Make | Purpose::Audit => Ok(Vec::new(alloc)),
     }
 }

@@ -13,7 +13,7 @@ use Rattle.swap_laws.proofs.Room.{rules_leave_room}
 use Rattle.swap_laws.proofs.Conducting.{history_same}
 use Rattle.ledger_core.specs.Ledger.{is_sender_full, after_call}
 use Rattle.party_wallet.specs.Value.{signed_in}
-use Rattle.swap_run.specs.Run.{Cast, State, conforms, notes_of, signed_after, make, next_of, act, step}
+use Rattle.swap_run.specs.Run.{Cast, State, conforms, role_of, notes_of, signed_after, make, next_of, act, act_as, step}
 use Rattle.swap_run.specs.Laws.{IsReadyCast, IsGood, CanBeMade, DueCallsCanBeMade}
 use Rattle.swap_run.specs.Fair.{acts, most_acts}
 use Rattle.swap_run.specs.FairLaws.{ActsComeToRest, ActsAreEnough}
@@ -35,7 +35,7 @@ module _ (c : Cast) (ready : IsReadyCast c) (v : ℕ) (lv : v < c.deal.graph.n) 
   all_due s = due c.deal v (c.wallet v) (signed_in (notes_of s v).signed) (notes_of s v).known
 
   pub act_is : (s : State) → step c s (Act v) ≡ act c s v
-  act_is s = ap (λ z. cond z (act c s v) s) cv
+  act_is s = ap (λ z. cond z (act c s v) (act_as c s v (role_of c v))) cv
 
   -- where nothing is due, an act changes nothing
   pub act_rests : (s : State) → next_of c s v ≡ None → step c s (Act v) ≡ s

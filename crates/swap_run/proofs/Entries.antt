@@ -1,25 +1,23 @@
 -- A history after a tick or a call is as before, or has one legal entry more; a call leaves what the laws of machines say.
-use Rattle.std.proofs.Common.{◌≡◌, ℕ, ◌+◌, ◌≤◌, ◌==◌, Bool, true, false, cond, not, ◌||◌, IsTrue, List, [], ◌∷◌, ◌++◌, Option, Some, None, refl, sym}
-use Rattle.std.proofs.Common.{ap, ◌∙◌, subst}
+use Rattle.std.proofs.Common.{◌≡◌, ℕ, ◌+◌, ◌≤◌, Bool, true, false, cond, not, List, [], ◌∷◌, ◌++◌, refl, sym}
+use Rattle.std.proofs.Common.{ap}
 use Rattle.std.specs.List.{list_all}
 use Rattle.swap_base.proofs.Lists.{and_parts}
 use Rattle.swap_digraph.specs.declared.deal.Deal.{Deal}
-use Rattle.swap_digraph.specs.Deal.{party, counterparty}
 use Rattle.escrow_core.specs.declared.reply.Reply.{Reply}
 use Rattle.escrow_core.specs.declared.reply.Reply.TheVariants.{Accepted, ClockFull}
 use Rattle.escrow_core.specs.Table.{first_row}
 use Rattle.ledger_core.specs.declared.entry.Call.{Call}
 use Rattle.ledger_core.specs.declared.entry.Call.TheVariants.{Publish, Unlock, Claim, Refund, Transfer}
-use Rattle.ledger_core.specs.declared.entry.Sender.TheVariants.{Party, Clock}
-use Rattle.ledger_core.specs.declared.entry.What.TheVariants.{Call as Made, Tick}
+use Rattle.ledger_core.specs.declared.entry.Sender.TheVariants.{Clock}
+use Rattle.ledger_core.specs.declared.entry.What.TheVariants.{Tick}
 use Rattle.ledger_core.specs.declared.entry.Entry.{Entry}
-use Rattle.ledger_core.specs.History.{height, rows, reply_to, fit, is_full, is_clock_full}
+use Rattle.ledger_core.specs.History.{height, rows, reply_to, is_full, is_clock_full}
 use Rattle.ledger_core.specs.Ledger.{tick_entry, is_sender_full, after_call}
-use Rattle.deviator_script.specs.Resolved.{fits_if}
 use Rattle.swap_laws.specs.Machine.{entry_of}
-use Rattle.ledger_core.proofs.History.{full_reply, not-true-of}
-use Rattle.swap_laws.proofs.Conducting.{Next, Still, Pushed, next_call}
-use Rattle.swap_run.specs.Run.{is_clock_full_reply, after_tick, after_move}
+use Rattle.ledger_core.proofs.History.{not-true-of}
+use Rattle.swap_laws.proofs.Conducting.{Next, Still, Pushed}
+use Rattle.swap_run.specs.Run.{is_clock_full_reply, after_tick}
 
 -- Ticks.
 
@@ -73,13 +71,3 @@ has_room d a past p (Transfer to units) f = rw f (first_row-not (tail (rows d a 
 pub call_pushes : (d : Deal) (a : ℕ) (h : List Entry) (p : ℕ) (c : Call) → is_full h p ≡ false → after_call d a p c h ≡ h ++ entry_of d a h p c ∷ []
 unfolding after_call
 call_pushes d a h p c f = ap (λ x. cond x h (h ++ entry_of d a h p c ∷ [])) (has_room d a h p c f)
-
--- the call of a move, any call where it stands for none
-abbrev pub or_claim : Option Call → Call
-or_claim None = Claim
-or_claim (Some c) = c
-
-pub next_move : (d : Deal) (a : ℕ) (h : List Entry) (p : ℕ) (o : Option Call) → IsTrue ((p == party d a) || (p == counterparty d a))
-    → IsTrue (fits_if d a o) → Next d a h (after_move d a p o h) (Party p) (Made (or_claim o))
-next_move d a h p None two fits = Still refl
-next_move d a h p (Some c) two fits = next_call d a h p c two fits

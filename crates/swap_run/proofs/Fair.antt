@@ -152,7 +152,7 @@ module _ (c : Cast) (ready : IsReadyCast c) (all : (v : ℕ) → v < c.deal.grap
   stepped r s l x = subst (Leveled c r s) (sym (round_goes_on c s (not_ended r s l x))) (leveled r s l x)
 
   abbrev after : ℕ → State
-  after r = repeat r (round_unless_ended c) (start c.deal)
+  after r = repeat r (round_unless_ended c) (start c)
 
   levels : (r : ℕ) → r ≤ the_horizon c.deal + 1 → Level c (after r) r
   levels zero l = record { good = start_is_good c ready; at = λ a la. ap height (empty_at c.deal a) }
@@ -177,7 +177,7 @@ module _ (c : Cast) (ready : IsReadyCast c) (all : (v : ℕ) → v < c.deal.grap
       same : (r : ℕ) → r ≡ r * 1 + 0
       same r = omega arith
 
-  fair : IsDealt c.deal (conforms c) (finish c (start c.deal)).book
+  fair : IsDealt c.deal (conforms c) (finish c (start c)).book
   unfolding finish
   fair =
       let last = levels (the_horizon c.deal + 1) (omega arith) in

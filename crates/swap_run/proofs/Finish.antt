@@ -71,7 +71,7 @@ finishes_are_good c s ready g = let x = all_rounds c ready s g in (x.good, λ a 
 
 pub finishes_end : FinishesEnd
 finishes_end c events ready all =
-    let x = finishes_are_good c (run c events) ready (runs_are_good c events (start c.deal) ready all (start_is_good c ready)) in
+    let x = finishes_are_good c (run c events) ready (runs_are_good c events (start c) ready all (start_is_good c ready)) in
     record { ended = x.1; kept = good_is_kept c (finish c (run c events)) ready x.0 }
 
 -- Heights.

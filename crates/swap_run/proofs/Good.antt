@@ -1,11 +1,13 @@
 -- A run begins in a good state, each event leaves the state good, and in a good state the book is legal and every conforming party is conducted.
-use Rattle.std.proofs.Common.{◌≡◌, ◌≢◌, ◌⊎◌, ℕ, suc, ◌<◌, ◌≤◌, ◌==◌, nat_lt, Bool, true, false, cond, List, [], ◌∷◌, ◌++◌, length, fold, Option, Some}
-use Rattle.std.proofs.Common.{None, refl, sym, ap, ◌∙◌, subst, inl, inr, arith, eqb-true, ltb-true, ltb-false, set, slice_set, replicate, get_or, All}
+use Rattle.std.proofs.Common.{◌≡◌, ◌≢◌, ◌⊎◌, ℕ, suc, ◌<◌, ◌≤◌, ◌==◌, nat_lt, Bool, true, false, cond, List, [], ◌∷◌, ◌++◌, length, fold, Option}
+use Rattle.std.proofs.Common.{Some, None, refl, sym, ap, ◌∙◌, subst, inl, inr, arith, eqb-true, ltb-true, ltb-false, set, slice_set, replicate, get_or}
+use Rattle.std.proofs.Common.{All}
 use Rattle.std.proofs.lemmas.Bool.{false≢true}
-use Rattle.std.proofs.lemmas.List.{get_or-set_same, get_or-set_other, length-set, length-replicate, get_or-replicate}
+use Rattle.std.proofs.lemmas.List.{get_or-set_same, get_or-set_other, get_or-map, length-map, length-set, length-replicate, get_or-replicate}
 use Rattle.std.proofs.Math.ListN.{get_or-eq_default}
 use Rattle.swap_base.specs.Lists.{IsIn, IsMoment}
 use Rattle.swap_digraph.specs.declared.deal.Deal.{Deal}
+use Rattle.ledger_core.specs.declared.entry.Call.{Call}
 use Rattle.ledger_core.specs.declared.entry.Sender.{Sender}
 use Rattle.ledger_core.specs.declared.entry.Sender.TheVariants.{Party, Clock}
 use Rattle.ledger_core.specs.declared.entry.What.{What}
@@ -17,19 +19,26 @@ use Rattle.deviator_script.specs.declared.moves.Move.{Move}
 use Rattle.deviator_script.specs.declared.event.Event.{Event}
 use Rattle.deviator_script.specs.declared.event.Event.TheVariants.{Tick, Look, Act, Call as Calls}
 use Rattle.deviator_script.specs.Step.{CanStep, CanTick, CanCall}
-use Rattle.deviator_script.specs.Resolved.{arc_of, call_of}
+use Rattle.deviator_script.specs.Resolved.{resolved}
+use Rattle.deviator_script.specs.Script.{next_call, moves_left, IsMoveOf}
+use Rattle.deviator_script.specs.View.{is_near, IsAnswerOf, MayAnswer}
+use Rattle.deviator_script.specs.declared.job.Role.{Role}
+use Rattle.deviator_script.specs.declared.job.Role.TheVariants.{Conforming, Manual, Script, Strategy}
+use Rattle.deviator_script.proofs.Scripts.{may_resolve, next_may, left_fit}
 use Rattle.swap_rules.specs.Due.{Action, due, first}
 use Rattle.ledger_core.proofs.History.{not-true}
-use Rattle.swap_laws.proofs.Prefixes.{same_or_not}
+use Rattle.swap_laws.proofs.Prefixes.{begins_refl, same_or_not}
 use Rattle.swap_laws.proofs.Machines.{knowledge_conducts}
-use Rattle.swap_laws.proofs.Conducting.{Next, next_legal, knows_all, next_call}
-use Rattle.ledger_core.specs.Ledger.{after_call}
+use Rattle.swap_laws.proofs.Conducting.{Next, next_call as next_of_call, next_legal, next_grows, knows_all, history_same}
 use Rattle.party_wallet.specs.Value.{signed_in}
-use Rattle.swap_run.specs.Run.{Cast, Notes, State, conforms, notes_of, signed_after, after_tick, after_move, known_up_to, look, make, next_of, act}
-use Rattle.swap_run.specs.Run.{step, no_histories, no_notes, start, run}
-use Rattle.swap_run.specs.Laws.{IsReadyCast, AreGoodNotes, IsGood, StartIsGood, StepsAreGood, GoodIsKept, RunsAreKept}
-use Rattle.swap_run.proofs.Entries.{next_tick, next_move, or_claim}
+use Rattle.swap_run.specs.Run.{Cast, Notes, State, conforms, role_of, notes_of, plan_of, signed_after, after_tick, known_up_to, look, make, next_of}
+use Rattle.swap_run.specs.Run.{act, watch, take_call, after_turn, follow, question, after_question, ask, answer_for, act_as}
+use Rattle.swap_run.specs.Run.{step, no_histories, no_notes, first_plan, start, run}
+use Rattle.ledger_core.specs.Ledger.{after_call}
+use Rattle.swap_run.specs.Laws.{IsReadyCast, AreGoodNotes, IsGoodPlan, IsGood, StartIsGood, StepsAreGood, GoodIsKept, RunsAreKept}
+use Rattle.swap_run.proofs.Entries.{next_tick}
 use Rattle.swap_run.proofs.Noted.{Holds, hold_other, hold_look, hold_act, due_now}
+use Rattle.swap_run.proofs.Plans.{plan_grown, good_seen, good_turn, good_asked, plan_legal, answer_may}
 
 -- Notes.
 
@@ -44,10 +53,10 @@ good_notes c s v n e h =
 no_note : Notes
 no_note = record { known = []; signed = [] }
 
-pub note_same : (s : State) (b : Histories) (v : ℕ) (n : Notes) → v < length s.notes → notes_of (record { book = b; notes = slice_set s.notes v n }) v ≡ n
+pub note_same : (s : State) (b : Histories) (v : ℕ) (n : Notes) → v < length s.notes → notes_of (record s { book = b; notes = slice_set s.notes v n }) v ≡ n
 note_same s b v n below = get_or-set_same s.notes v n (record { known = []; signed = [] }) below
 
-pub note_other : (s : State) (b : Histories) (v u : ℕ) (n : Notes) → u ≢ v → notes_of (record { book = b; notes = slice_set s.notes v n }) u ≡ notes_of s u
+pub note_other : (s : State) (b : Histories) (v u : ℕ) (n : Notes) → u ≢ v → notes_of (record s { book = b; notes = slice_set s.notes v n }) u ≡ notes_of s u
 note_other s b v u n apart = get_or-set_other s.notes v u n (record { known = []; signed = [] }) apart
 
 -- The steps.
@@ -58,13 +67,15 @@ in_book c s a g l = subst (λ m. a < m) (sym g.legal.one_each) l
 -- an entry of nobody who conforms
 pub good_other : (c : Cast) (s : State) (a : ℕ) (k : List Entry) (by : Sender) (w : What) → a < length c.deal.graph.arcs
     → Next c.deal a (history s.book a) k by w → ((v : ℕ) → conforms c v ≡ true → sent_by v by ≡ false) → IsGood c s
-    → IsGood c (record { book = set s.book a k; notes = s.notes })
+    → IsGood c (record s { book = set s.book a k })
 good_other c s a k by w below n others g = record {
   legal = next_legal c.deal s.book a k by w (in_book c s a g below) n g.legal;
   one_each = g.one_each;
   notes =
       λ v l cv. good_notes c _ v (notes_of s v) refl (hold_other c.deal s.book (notes_of s v) v a k by w (in_book c s a g below) n (others v cv)
       (holds c s v (g.notes v l cv)));
+  plan_each = g.plan_each;
+  plans = λ v l. plan_grown c.deal c.seeds v s.book (set s.book a k) (plan_of s v) (next_grows c.deal s.book a k by w (in_book c s a g below) n) (g.plans v l);
 }
 
 pub good_tick : (c : Cast) (s : State) (a k : ℕ) → CanTick c.deal a k → IsGood c s → IsGood c (step c s (Tick a k))
@@ -72,18 +83,64 @@ good_tick c s a k can g =
     good_other c s a (after_tick k (history s.book a)) Clock (Ticks k) can.arc (next_tick c.deal a (history s.book a) k can.some can.few) (λ v cv.
     refl) g
 
-good_call : (c : Cast) (s : State) (p : ℕ) (mv : Move) → CanCall c.deal c.conforming p mv → IsGood c s → IsGood c (step c s (Calls p mv))
+-- a call of v, which doesn't conform
+good_take : (c : Cast) (s : State) (v : ℕ) (o : Option (ℕ × Call)) → v < c.deal.graph.n → conforms c v ≡ false → MayAnswer c.deal v o → IsGood c s
+    → IsGood c (take_call c s v o)
+good_take c s v None lv out may g = g
+good_take c s v (Some x) lv out may g =
+    let is : IsAnswerOf c.deal v x = may x refl in
+    let n = next_of_call c.deal x.0 (history s.book x.0) v x.1 is.near is.fits in
+    let g1 = good_other c s x.0 (after_call c.deal x.0 v x.1 (history s.book x.0)) (Party v) (Made x.1) is.arc n
+    (λ u cu. not-true (v == u) (λ e. false≢true (sym out ∙ (ap (conforms c) (eqb-true v u e) ∙ cu)))) g in
+    good_seen c (record s { book = set s.book x.0 (after_call c.deal x.0 v x.1 (history s.book x.0)) }) v x.0
+    (after_call c.deal x.0 v x.1 (history s.book x.0)) lv is.arc is.near
+    (history_same s.book x.0 (after_call c.deal x.0 v x.1 (history s.book x.0)) (in_book c s x.0 g is.arc)) g1
+
+good_call : (c : Cast) (s : State) (p : ℕ) (mv : Move) → CanCall c.deal c.conforming c.seeds p mv → IsGood c s → IsGood c (step c s (Calls p mv))
 good_call c s p mv can g =
-    good_other c s (arc_of mv) (after_move c.deal (arc_of mv) p (call_of c.deal mv) (history s.book (arc_of mv))) (Party p)
-    (Made (or_claim (call_of c.deal mv))) can.fits.arc
-    (next_move c.deal (arc_of mv) (history s.book (arc_of mv)) p (call_of c.deal mv) can.fits.adjacent can.fits.fits)
-    (λ v cv. not-true (p == v) (λ e. false≢true (sym can.deviates ∙ (ap (conforms c) (eqb-true p v e) ∙ cv)))) g
+    good_take c s p (resolved c.deal c.seeds s.book mv) can.known can.deviates
+    (may_resolve c.deal c.seeds p s.book mv g.legal (record { fits = can.fits; adjacent = can.adjacent })) g
+
+good_watch : (c : Cast) (s : State) (v a : ℕ) → v < c.deal.graph.n → a < length c.deal.graph.arcs → is_near c.deal v a ≡ true → IsGood c s
+    → IsGood c (watch c s v a)
+good_watch c s v a lv la near g = good_seen c s v a (history s.book a) lv la near refl g
+
+-- what a script calls in a good state may be made
+pub script_may : (c : Cast) (s : State) (v : ℕ) → v < c.deal.graph.n → IsGood c s
+    → MayAnswer c.deal v (next_call c.deal c.seeds (plan_of s v).known (plan_of s v).moves)
+script_may c s v lv g =
+    let p = g.plans v lv in
+    next_may c.deal c.seeds v (plan_of s v).known (plan_of s v).moves (plan_legal c.deal c.seeds v s.book (plan_of s v) g.legal p) p.moves
+
+good_follow : (c : Cast) (s : State) (v : ℕ) → v < c.deal.graph.n → conforms c v ≡ false → IsGood c s → IsGood c (follow c s v)
+good_follow c s v lv out g =
+    let p = g.plans v lv in
+    good_take c (after_turn s v (moves_left (plan_of s v).known (plan_of s v).moves)) v
+    (next_call c.deal c.seeds (plan_of s v).known (plan_of s v).moves) lv out
+    (script_may c s v lv g)
+    (good_turn c s v (moves_left (plan_of s v).known (plan_of s v).moves) lv
+    (left_fit (IsMoveOf c.deal c.seeds v) (plan_of s v).known (plan_of s v).moves p.moves) g)
+
+good_ask : (c : Cast) (s : State) (v : ℕ) (name : List ℕ) → v < c.deal.graph.n → conforms c v ≡ false → IsGood c s → IsGood c (ask c s v name)
+good_ask c s v name lv out g =
+    good_take c (after_question s v name) v (answer_for c.deal v (c.answers (length s.asked))) lv out (answer_may c.deal v (c.answers (length s.asked)))
+    (good_asked c (after_turn s v (plan_of s v).moves) (s.asked ++ question s v name ∷ [])
+    (good_turn c s v (plan_of s v).moves lv (g.plans v lv).moves g))
+
+-- an act of a party that doesn't conform
+good_deviate : (c : Cast) (s : State) (v : ℕ) (role : Role) → v < c.deal.graph.n → conforms c v ≡ false → IsGood c s → IsGood c (act_as c s v role)
+good_deviate c s v Conforming lv out g = g
+good_deviate c s v Manual lv out g = g
+good_deviate c s v (Script moves) lv out g = good_follow c s v lv out g
+good_deviate c s v (Strategy name) lv out g = good_ask c s v name lv out g
 
 pub good_look : (c : Cast) (s : State) (v a : ℕ) → v < c.deal.graph.n → a < length c.deal.graph.arcs → IsGood c s → IsGood c (look s v a)
 good_look c s v a lv below g = record {
   legal = g.legal;
   one_each = length-set s.notes v (known_up_to (notes_of s v) a (history s.book a)) ∙ g.one_each;
   notes = λ u l cu. go u l cu (same_or_not u v);
+  plan_each = g.plan_each;
+  plans = g.plans;
 }
   where
     go : (u : ℕ) → u < c.deal.graph.n → conforms c u ≡ true → (u ≡ v) ⊎ (u ≢ v) → AreGoodNotes c (look s v a) u
@@ -101,12 +158,15 @@ pub good_make : (c : Cast) (s : State) (v : ℕ) (x : Action) → IsReadyCast c 
 good_make c s v x ready lv cv i g =
     let hv = holds c s v (g.notes v lv cv) in
     let is = due_now c.deal s.book (notes_of s v) v (c.wallet v) x (ready.wallets v lv cv) ready.accepted i hv in
-    let n = next_call c.deal x.arc (history s.book x.arc) v x.call is.of_the_two is.fits in
+    let n = next_of_call c.deal x.arc (history s.book x.arc) v x.call is.of_the_two is.fits in
     let below = in_book c s x.arc g is.below in
     record {
       legal = next_legal c.deal s.book x.arc (after_call c.deal x.arc v x.call (history s.book x.arc)) (Party v) (Made x.call) below n g.legal;
       one_each = length-set s.notes v _ ∙ g.one_each;
       notes = λ u l cu. go u l cu below n (same_or_not u v);
+      plan_each = g.plan_each;
+      plans = λ u l. plan_grown c.deal c.seeds u s.book (set s.book x.arc (after_call c.deal x.arc v x.call (history s.book x.arc))) (plan_of s u)
+          (next_grows c.deal s.book x.arc (after_call c.deal x.arc v x.call (history s.book x.arc)) (Party v) (Made x.call) below n) (g.plans u l);
     }
   where
     go : (u : ℕ) → u < c.deal.graph.n → conforms c u ≡ true → x.arc < length s.book
@@ -143,14 +203,14 @@ pub steps_are_good : StepsAreGood
 steps_are_good c s (Tick a k) ready can g = good_tick c s a k can g
 steps_are_good c s (Look v a) ready can g = go (conforms c v)
   where
-    go : (x : Bool) → IsGood c (cond x (look s v a) s)
+    go : (x : Bool) → IsGood c (cond x (look s v a) (watch c s v a))
     go true = good_look c s v a can.known can.arc g
-    go false = g
+    go false = good_watch c s v a can.known can.arc can.adjacent g
 steps_are_good c s (Act v) ready can g = go (conforms c v) refl
   where
-    go : (x : Bool) → conforms c v ≡ x → IsGood c (cond x (act c s v) s)
+    go : (x : Bool) → conforms c v ≡ x → IsGood c (cond x (act c s v) (act_as c s v (role_of c v)))
     go true e = good_act c s v ready can e g
-    go false e = g
+    go false e = good_deviate c s v (role_of c v) can e g
 steps_are_good c s (Calls p mv) ready can g = good_call c s p mv can g
 
 -- The beginning.
@@ -179,7 +239,16 @@ pub start_is_good : StartIsGood
 start_is_good c ready = record {
   legal = empty_legal c.deal;
   one_each = length-replicate c.deal.graph.n (no_notes c.deal);
-  notes = λ v l cv. good_notes c (start c.deal) v (no_notes c.deal) (get_or-replicate c.deal.graph.n v (no_notes c.deal) (record { known = []; signed = [] }) l)
+  plan_each = length-map c.roles (first_plan c.deal) ∙ ready.roles;
+  plans = λ v l. subst (IsGoodPlan c.deal c.seeds v (no_histories c.deal))
+      (sym (get_or-map (first_plan c.deal) c.roles v Manual (record { known = []; moves = []; turns = 0 }) (subst (λ n. v < n) (sym ready.roles) l)))
+      (record {
+        one_each = length-replicate (length c.deal.graph.arcs) [];
+        begins = λ a. begins_refl (history (no_histories c.deal) a);
+        far = λ a la far. empty_at c.deal a;
+        moves = ready.scripts v l;
+      });
+  notes = λ v l cv. good_notes c (start c) v (no_notes c.deal) (get_or-replicate c.deal.graph.n v (no_notes c.deal) (record { known = []; signed = [] }) l)
       (record {
         one_each = length-replicate (length c.deal.graph.arcs) [];
         places = length-replicate (length c.deal.leaders) None;
@@ -206,11 +275,11 @@ good_is_kept c s ready g = record {
       g.notes v l cv in knowledge_conducts c.deal (notes_of s v).known s.book (signed_in (notes_of s v).signed) v g.legal n.knows n.sound.rules;
 }
 
-pub runs_are_good : (c : Cast) (events : List Event) (s : State) → IsReadyCast c → All (CanStep c.deal c.conforming) events → IsGood c s
+pub runs_are_good : (c : Cast) (events : List Event) (s : State) → IsReadyCast c → All (CanStep c.deal c.conforming c.seeds) events → IsGood c s
     → IsGood c (fold (step c) s events)
 runs_are_good c [] s ready all g = g
 runs_are_good c (e ∷ events) s ready all g =
     runs_are_good c events (step c s e) ready (λ k d l. all (suc k) d (omega arith)) (steps_are_good c s e ready (all 0 e (omega arith)) g)
 
 pub runs_are_kept : RunsAreKept
-runs_are_kept c events ready all = good_is_kept c (run c events) ready (runs_are_good c events (start c.deal) ready all (start_is_good c ready))
+runs_are_kept c events ready all = good_is_kept c (run c events) ready (runs_are_good c events (start c) ready all (start_is_good c ready))

@@ -3,6 +3,7 @@
 -- steps and runs
 pub mod Entries
 pub mod Noted
+pub mod Plans
 pub mod Good
 -- turns
 pub mod Repeats
@@ -15,3 +16,4 @@ pub mod Rounds
 pub mod Finish
 pub mod Fair
 pub mod Reached
+pub mod Asked

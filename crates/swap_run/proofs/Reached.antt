@@ -13,21 +13,28 @@ use Rattle.ledger_core.specs.Book.{history}
 use Rattle.deviator_script.specs.declared.event.Event.{Event}
 use Rattle.deviator_script.specs.declared.event.Event.TheVariants.{Tick, Look, Act}
 use Rattle.deviator_script.specs.Step.{CanStep}
-use Rattle.swap_run.specs.Run.{Cast, State, step}
-use Rattle.swap_run.specs.Fair.{repeat, adjacent, looks, most_acts, turn, turns, the_horizon, tick_low, ticks, round, has_ended, round_unless_ended, finish}
+use Rattle.swap_run.specs.Run.{Cast, State, conforms, step}
+use Rattle.swap_run.specs.Fair.{repeat, adjacent, looks, acts, most_acts, turn, turns, the_horizon, tick_low, ticks, round, has_ended}
+use Rattle.swap_run.specs.Fair.{round_unless_ended, finish}
 use Rattle.swap_run.specs.FairLaws.{IsReached, FinishesAreRuns}
 
 module _ (c : Cast) where
   pub no_event : (s : State) → IsReached c s s
-  no_event s = record { events = []; can = All-nil (CanStep c.deal c.conforming); state = refl }
+  no_event s = record { events = []; can = All-nil (CanStep c.deal c.conforming c.seeds); state = refl }
 
-  pub one_event : (s : State) (e : Event) → CanStep c.deal c.conforming e → IsReached c s (step c s e)
-  one_event s e can = record { events = e ∷ []; can = All-cons (CanStep c.deal c.conforming) e [] can (All-nil (CanStep c.deal c.conforming)); state = refl }
+  pub one_event : (s : State) (e : Event) → CanStep c.deal c.conforming c.seeds e → IsReached c s (step c s e)
+  one_event s e can =
+      record {
+        events = e ∷ [];
+        can = All-cons (CanStep c.deal c.conforming c.seeds) e [] can (All-nil (CanStep c.deal c.conforming c.seeds));
+        state =
+            refl;
+      }
 
   pub more_events : (s t u : State) → IsReached c s t → IsReached c t u → IsReached c s u
   more_events s t u x y = record {
     events = x.events ++ y.events;
-    can = All-append (CanStep c.deal c.conforming) x.events y.events x.can y.can;
+    can = All-append (CanStep c.deal c.conforming c.seeds) x.events y.events x.can y.can;
     state = y.state ∙ (ap (λ z. fold (step c) z y.events) x.state ∙ sym (fold-append (step c) s x.events y.events));
   }
 
@@ -39,13 +46,20 @@ module _ (c : Cast) where
   repeat_events zero f s h = no_event s
   repeat_events (suc n) f s h = more_events s (repeat n f s) (f (repeat n f s)) (repeat_events n f s h) (h (repeat n f s))
 
-  pub turn_events : (s : State) (v : ℕ) → v < c.deal.graph.n → IsReached c s (turn c s v)
-  unfolding turn looks
-  turn_events s v l = more_events s (looks c v s) (turn c s v)
-      (fold_events (λ s a. step c s (Look v a)) (adjacent c.deal v) s (λ s a i.
+  pub look_events : (s : State) (v : ℕ) → v < c.deal.graph.n → IsReached c s (looks c v s)
+  unfolding looks
+  look_events s v l = fold_events (λ s a. step c s (Look v a)) (adjacent c.deal v) s (λ s a i.
       let k = from_filter (λ a. (v == party c.deal a) || (v == counterparty c.deal a)) a (arcs c.deal.graph) i in
-      one_event s (Look v a) (record { known = l; arc = from_range a (length c.deal.graph.arcs) k.0; adjacent = k.1 })))
-      (repeat_events (most_acts c.deal) (λ s. step c s (Act v)) (looks c v s) (λ s. one_event s (Act v) l))
+      one_event s (Look v a) (record { known = l; arc = from_range a (length c.deal.graph.arcs) k.0; adjacent = k.1 }))
+
+  pub turn_events : (s : State) (v : ℕ) → v < c.deal.graph.n → IsReached c s (turn c s v)
+  unfolding turn
+  turn_events s v l = go (conforms c v)
+    where
+      go : (b : Bool) → IsReached c s (cond b (acts c v (most_acts c.deal) (looks c v s)) (step c (looks c v s) (Act v)))
+      go true = more_events s (looks c v s) (acts c v (most_acts c.deal) (looks c v s)) (look_events s v l)
+          (repeat_events (most_acts c.deal) (λ s. step c s (Act v)) (looks c v s) (λ s. one_event s (Act v) l))
+      go false = more_events s (looks c v s) (step c (looks c v s) (Act v)) (look_events s v l) (one_event (looks c v s) (Act v) l)
 
   pub tick_events : (s : State) (a : ℕ) → a < length c.deal.graph.arcs → IsReached c s (tick_low c s a)
   tick_events s a l = go (nat_le (height (history s.book a)) (the_horizon c.deal))

@@ -1,10 +1,9 @@
 -- What a turn leaves: no ledger ticks, the others' notes stay, and a conforming party has seen each arc that touches it and has nothing due.
 use Rattle.std.proofs.Common.{◌≡◌, ◌≢◌, ◌⊎◌, ℕ, suc, zero, ◌+◌, ◌<◌, ◌==◌, Bool, true, false, cond, ◌||◌, List, [], ◌∷◌, ◌++◌, length, fold, Option}
-use Rattle.std.proofs.Common.{Some, None, refl, sym, ap, ◌∙◌, subst, inl, inr, arith, eq-eqb, set}
+use Rattle.std.proofs.Common.{Some, None, refl, sym, ap, ◌∙◌, subst, inl, inr, arith, eq-eqb, set, slice_index_or}
 use Rattle.std.proofs.lemmas.List.Sums.{sum_by-cons}
 use Rattle.swap_base.specs.Lists.{IsIn}
 use Rattle.swap_base.proofs.Lists.{in_filter, from_filter, from_range, or-right}
-use Rattle.ledger_core.proofs.Bounds.{height-push}
 use Rattle.swap_digraph.specs.declared.deal.Deal.{Deal}
 use Rattle.swap_digraph.specs.Deal.{party, counterparty}
 use Rattle.swap_digraph.specs.Graph.{arcs}
@@ -15,6 +14,12 @@ use Rattle.ledger_core.specs.declared.entry.Entry.{Entry}
 use Rattle.ledger_core.specs.History.{height, ticks_in}
 use Rattle.ledger_core.specs.Book.{Histories, history}
 use Rattle.deviator_script.specs.declared.event.Event.TheVariants.{Look, Act}
+use Rattle.deviator_script.specs.declared.job.Role.{Role}
+use Rattle.deviator_script.specs.declared.job.Role.TheVariants.{Conforming, Manual, Script, Strategy}
+use Rattle.deviator_script.specs.Script.{next_call, moves_left, IsMoveOf}
+use Rattle.deviator_script.specs.Step.{CanLook}
+use Rattle.deviator_script.specs.View.{IsAnswerOf, MayAnswer}
+use Rattle.deviator_script.proofs.Scripts.{left_fit}
 use Rattle.swap_rules.specs.Due.{Action}
 use Rattle.swap_laws.specs.Machine.{Begins}
 use Rattle.swap_laws.specs.Rounds.{IsNear}
@@ -22,16 +27,25 @@ use Rattle.ledger_core.proofs.History.{height_append}
 use Rattle.swap_laws.proofs.Words.{enters, leaves, or-left}
 use Rattle.swap_laws.proofs.Prefixes.{begins_refl, begins_more, same_or_not}
 use Rattle.swap_laws.proofs.Growth.{Grows}
-use Rattle.swap_laws.proofs.Conducting.{Next, Still, Pushed, next_grows, history_same, history_other, next_call}
+use Rattle.swap_laws.proofs.Conducting.{Next, next_call as next_of_call, Still, Pushed, next_grows, history_same, history_other}
+use Rattle.swap_run.specs.Run.{Cast, State, conforms, role_of, notes_of, plan_of, plan_up_to, is_planned, signed_after, known_up_to, look, make}
+use Rattle.swap_run.specs.Run.{next_of, act, watch, take_call, after_turn, question, after_question, answer_for, act_as, step}
 use Rattle.ledger_core.specs.Ledger.{after_call}
-use Rattle.swap_run.specs.Run.{Cast, State, conforms, notes_of, signed_after, known_up_to, look, make, next_of, act, step}
 use Rattle.swap_run.specs.Laws.{IsReadyCast, IsGood}
 use Rattle.swap_run.specs.Fair.{adjacent, looks, acts, most_acts, turn}
 use Rattle.swap_run.specs.FairLaws.{OthersRest, TurnsAreGood}
 use Rattle.swap_run.proofs.Noted.{due_now}
-use Rattle.swap_run.proofs.Good.{holds, note_same, note_other, in_book, first_in, good_look}
-use Rattle.swap_run.proofs.Repeats.{repeat_fixed, fold_fixed}
+use Rattle.swap_run.proofs.Plans.{good_turn, good_asked, answer_may}
+use Rattle.swap_run.proofs.Good.{holds, note_same, note_other, in_book, first_in, good_look, script_may, steps_are_good}
+use Rattle.swap_run.proofs.Repeats.{fold_fixed}
 use Rattle.swap_run.proofs.Acts.{act_is, all_due, acts_good, at_rest}
+
+pub height_push : (h : List Entry) (e : Entry) → height (h ++ e ∷ []) ≡ height h + ticks_in e.what
+height_push h e =
+    let e1 = height_append h (e ∷ []) in
+    let e2 : height (e ∷ []) ≡ ticks_in e.what + height [] = sum_by-cons (λ e. ticks_in e.what) e [] in
+    let e3 : height [] ≡ 0 = refl in
+    omega arith
 
 -- Steps that tick nothing.
 pub record Calm (b c : Histories) : Type 0 where
@@ -54,7 +68,7 @@ calm_next d b a k v c below n = record { grows = next_grows d b a k (Party v) (M
     flat : Next d a (history b a) k (Party v) (Made c) → height k ≡ height (history b a)
     flat (Still e) = ap height e
     flat (Pushed e q es ew le) =
-        let e1 = height-push (history b a) e in
+        let e1 = height_push (history b a) e in
         let e2 : ticks_in e.what ≡ 0 = ap ticks_in ew in
         let e3 : ◌≡◌ {A = ℕ} (height k) (height (history b a ++ e ∷ [])) = ap height q in
         omega arith
@@ -97,7 +111,7 @@ module _ (c : Cast) (ready : IsReadyCast c) (v : ℕ) (lv : v < c.deal.graph.n) 
   look_at s a = step c s (Look v a)
 
   look_is : (s : State) (a : ℕ) → step c s (Look v a) ≡ look s v a
-  look_is s a = ap (λ z. cond z (look s v a) s) cv
+  look_is s a = ap (λ z. cond z (look s v a) (watch c s v a)) cv
 
   look_good : (s : State) (a : ℕ) → a < length c.deal.graph.arcs → IsGood c s → IsGood c (step c s (Look v a))
   look_good s a l g = subst (IsGood c) (sym (look_is s a)) (good_look c s v a lv l g)
@@ -164,7 +178,7 @@ module _ (c : Cast) (ready : IsReadyCast c) (v : ℕ) (lv : v < c.deal.graph.n) 
       let hv = holds c s v (g.notes v lv cv) in
       let is = due_now c.deal s.book (notes_of s v) v (c.wallet v) x (ready.wallets v lv cv) ready.accepted i hv in
       let below : x.arc < length s.book = in_book c s x.arc g is.below in
-      let n = next_call c.deal x.arc (history s.book x.arc) v x.call is.of_the_two is.fits in
+      let n = next_of_call c.deal x.arc (history s.book x.arc) v x.call is.of_the_two is.fits in
       record {
         calm = calm_next c.deal s.book x.arc (after_call c.deal x.arc v x.call (history s.book x.arc)) v x.call below n;
         others =
@@ -222,10 +236,15 @@ module _ (c : Cast) (ready : IsReadyCast c) (v : ℕ) (lv : v < c.deal.graph.n) 
             (history (notes_of (step c (acts c v n s) (Act v)) v).known a) (x.own a) (y.own a);
       }
 
+  turn_is : (s : State) → turn c s v ≡ acts c v (most_acts c.deal) (looks c v s)
+  unfolding turn
+  turn_is s = ap (λ b. cond b (acts c v (most_acts c.deal) (looks c v s)) (step c (looks c v s) (Act v))) cv
+
   -- a turn of a party that conforms
   pub rested : (s : State) → IsGood c s → Rests c v s (turn c s v)
-  unfolding turn looks
+  unfolding looks
   rested s g =
+      subst (Rests c v s) (sym (turn_is s)) (
       let xs = adjacent c.deal v in
       let low : (a : ℕ) → IsIn a (adjacent c.deal v) → a < length c.deal.graph.arcs = near_below c.deal v in
       let g1 = looks_good (adjacent c.deal v) s low g in
@@ -239,20 +258,111 @@ module _ (c : Cast) (ready : IsReadyCast c) (v : ℕ) (lv : v < c.deal.graph.n) 
         seen = λ a i. subst (λ h. Begins h (history (notes_of (acts c v (most_acts c.deal) (looks c v s)) v).known a))
             (looks_see (adjacent c.deal v) s a low g (inr (near_in c.deal v a i)) ∙ ap (λ b. history b a) (looks_book (adjacent c.deal v) s)) (x.own a);
         rest = at_rest c ready v lv cv (looks c v s) g1;
+      })
+
+-- A party that doesn't conform.
+module _ (c : Cast) (ready : IsReadyCast c) (v : ℕ) (lv : v < c.deal.graph.n) (out : conforms c v ≡ false) where
+  -- What it leaves of the book and of the notes.
+  record Deviated (s t : State) : Type 0 where
+    pub good : IsGood c t
+    pub calm : Calm s.book t.book
+    pub notes : t.notes ≡ s.notes
+
+  watch_is : (s : State) (a : ℕ) → step c s (Look v a) ≡ watch c s v a
+  watch_is s a = ap (λ b. cond b (look s v a) (watch c s v a)) out
+
+  watched : (xs : List ℕ) (s : State) → ((a : ℕ) → IsIn a xs → CanLook c.deal v a) → IsGood c s → Deviated s (fold (λ s a. step c s (Look v a)) s xs)
+  watched [] s can g = record { good = g; calm = calm_refl s.book; notes = refl }
+  watched (x ∷ xs) s can g =
+      let w = watch_is s x in
+      let g1 = steps_are_good c s (Look v x) ready (can x (inl refl)) g in
+      let r = watched xs (step c s (Look v x)) (λ a i. can a (inr i)) g1 in
+      record {
+        good = r.good;
+        calm = subst (λ b. Calm b (fold (λ s a. step c s (Look v a)) (step c s (Look v x)) xs).book) (ap (λ t. t.book) w) r.calm;
+        notes = r.notes ∙ ap (λ t. t.notes) w;
       }
+
+  looked : (s : State) → IsGood c s → Deviated s (looks c v s)
+  unfolding looks
+  looked s g = watched (adjacent c.deal v) s (λ a i.
+      let k = from_filter (λ a. (v == party c.deal a) || (v == counterparty c.deal a)) a (arcs c.deal.graph) i in
+      record { known = lv; arc = from_range a (length c.deal.graph.arcs) k.0; adjacent = k.1 }) g
+
+  take_calm : (s : State) (o : Option (ℕ × Call)) → MayAnswer c.deal v o → IsGood c s → Calm s.book (take_call c s v o).book
+  take_calm s None may g = calm_refl s.book
+  take_calm s (Some x) may g =
+      let is : IsAnswerOf c.deal v x = may x refl in
+      calm_next c.deal s.book x.0 (after_call c.deal x.0 v x.1 (history s.book x.0)) v x.1 (in_book c s x.0 g is.arc)
+      (next_of_call c.deal x.0 (history s.book x.0) v x.1 is.near is.fits)
+
+  take_notes : (s : State) (o : Option (ℕ × Call)) → (take_call c s v o).notes ≡ s.notes
+  take_notes s None = refl
+  take_notes s (Some x) = refl
+
+  act_calm : (s : State) (role : Role) → IsGood c s → Calm s.book (act_as c s v role).book
+  act_calm s Conforming g = calm_refl s.book
+  act_calm s Manual g = calm_refl s.book
+  act_calm s (Script moves) g =
+      let p = g.plans v lv in
+      take_calm (after_turn s v (moves_left (plan_of s v).known (plan_of s v).moves)) (next_call c.deal c.seeds (plan_of s v).known (plan_of s v).moves)
+      (script_may c s v lv g)
+      (good_turn c s v (moves_left (plan_of s v).known (plan_of s v).moves) lv
+      (left_fit (IsMoveOf c.deal c.seeds v) (plan_of s v).known (plan_of s v).moves p.moves) g)
+  act_calm s (Strategy name) g =
+      take_calm (after_question s v name) (answer_for c.deal v (c.answers (length s.asked))) (answer_may c.deal v (c.answers (length s.asked)))
+      (good_asked c (after_turn s v (plan_of s v).moves) (s.asked ++ question s v name ∷ [])
+      (good_turn c s v (plan_of s v).moves lv (g.plans v lv).moves g))
+
+  act_notes : (s : State) (role : Role) → (act_as c s v role).notes ≡ s.notes
+  act_notes s Conforming = refl
+  act_notes s Manual = refl
+  act_notes s (Script moves) =
+      take_notes (after_turn s v (moves_left (plan_of s v).known (plan_of s v).moves))
+      (next_call c.deal c.seeds (plan_of s v).known (plan_of s v).moves)
+  act_notes s (Strategy name) = take_notes (after_question s v name) (answer_for c.deal v (c.answers (length s.asked)))
+
+  act_is_as : (s : State) → step c s (Act v) ≡ act_as c s v (role_of c v)
+  act_is_as s = ap (λ b. cond b (act c s v) (act_as c s v (role_of c v))) out
+
+  pub deviated : (s : State) → IsGood c s → Turned c v s (turn c s v)
+  unfolding turn
+  deviated s g =
+      let x = looked s g in
+      let e = act_is_as (looks c v s) in
+      let calm : Calm (looks c v s).book (step c (looks c v s) (Act v)).book =
+      subst (λ t. Calm (looks c v s).book t.book) (sym e) (act_calm (looks c v s) (role_of c v) x.good) in
+      let notes : (step c (looks c v s) (Act v)).notes ≡ s.notes = ap (λ t. t.notes) e ∙ (act_notes (looks c v s) (role_of c v) ∙ x.notes) in
+      subst (Turned c v s) (sym (ap (λ b. cond b (acts c v (most_acts c.deal) (looks c v s)) (step c (looks c v s) (Act v))) out)) (record {
+        good = steps_are_good c (looks c v s) (Act v) ready lv x.good;
+        calm = calm_more s.book (looks c v s).book (step c (looks c v s) (Act v)).book x.calm calm;
+        others = λ u n. ap (λ ns. slice_index_or ns u (record { known = []; signed = [] })) notes;
+      })
 
 pub others_rest : OthersRest
 unfolding turn looks
-others_rest c s v e =
-    ap (acts c v (most_acts c.deal)) (fold_fixed (λ s a. step c s (Look v a)) s (adjacent c.deal v) (λ a. ap (λ z. cond z (look s v a) s) e))
-    ∙ repeat_fixed (most_acts c.deal) (λ s. step c s (Act v)) s (ap (λ z. cond z (act c s v) s) e)
+others_rest c s v out none =
+    ap (λ b. cond b (acts c v (most_acts c.deal) (looks c v s)) (step c (looks c v s) (Act v))) out
+    ∙ (ap (λ t. step c t (Act v)) (fold_fixed (λ s a. step c s (Look v a)) s (adjacent c.deal v) look_rests)
+    ∙ (ap (λ b. cond b (act c s v) (act_as c s v (role_of c v))) out ∙ act_rests (role_of c v) none))
+  where
+    look_rests : (a : ℕ) → step c s (Look v a) ≡ s
+    look_rests a =
+        ap (λ b. cond b (look s v a) (watch c s v a)) out
+        ∙ ap (λ b. record s { plans = cond b (set s.plans v (plan_up_to (plan_of s v) a (history s.book a))) s.plans }) none
+
+    act_rests : (role : Role) → is_planned role ≡ false → act_as c s v role ≡ s
+    act_rests Conforming e = refl
+    act_rests Manual e = refl
+    act_rests (Script moves) e = absurd (cc e)
+    act_rests (Strategy name) e = absurd (cc e)
 
 pub turned : (c : Cast) (ready : IsReadyCast c) (v : ℕ) → v < c.deal.graph.n → (s : State) → IsGood c s → Turned c v s (turn c s v)
 turned c ready v lv s g = go (conforms c v) refl
   where
     go : (x : Bool) → conforms c v ≡ x → Turned c v s (turn c s v)
     go true cv = (rested c ready v lv cv s g).turned
-    go false e = subst (Turned c v s) (sym (others_rest c s v e)) (record { good = g; calm = calm_refl s.book; others = λ u n. refl })
+    go false e = deviated c ready v lv e s g
 
 pub turns_are_good : TurnsAreGood
 turns_are_good c s v ready g lv = (turned c ready v lv s g).good

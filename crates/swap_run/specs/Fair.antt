@@ -9,7 +9,7 @@ use Rattle.swap_digraph.specs.Graph.{arcs}
 use Rattle.ledger_core.specs.History.{height}
 use Rattle.ledger_core.specs.Book.{Histories, history}
 use Rattle.deviator_script.specs.declared.event.Event.TheVariants.{Tick, Look, Act}
-use Rattle.swap_run.specs.Run.{Cast, State, step}
+use Rattle.swap_run.specs.Run.{Cast, State, conforms, step}
 
 -- f, n times
 abbrev pub repeat : {A : Type 0} → ℕ → (A → A) → A → A
@@ -34,9 +34,9 @@ acts c v n s = repeat n (λ s. step c s (Act v)) s
 abbrev pub most_acts : Deal → ℕ
 most_acts d = (length d.leaders + 3) * length d.graph.arcs
 
--- v looks, and then acts until nothing is due
+-- v looks, and then acts: until nothing is due where it conforms, else once
 unfoldable pub turn : Cast → State → ℕ → State
-turn c s v = acts c v (most_acts c.deal) (looks c v s)
+turn c s v = if conforms c v then acts c v (most_acts c.deal) (looks c v s) else step c (looks c v s) (Act v)
 
 -- the parties' turns, in their order
 unfoldable pub turns : Cast → State → State

@@ -6,14 +6,14 @@ use Rattle.deviator_script.specs.declared.event.Event.{Event}
 use Rattle.deviator_script.specs.Step.{CanStep}
 use Rattle.swap_rules.specs.Outcome.{IsEnded}
 use Rattle.swap_laws.specs.Laws.{IsDealt}
-use Rattle.swap_run.specs.Run.{Cast, State, conforms, next_of, start, run_from, run}
+use Rattle.swap_run.specs.Run.{Cast, State, conforms, role_of, is_planned, next_of, start, run_from, run}
 use Rattle.swap_run.specs.Laws.{IsReadyCast, IsGood, IsKept}
 use Rattle.swap_run.specs.Fair.{acts, most_acts, turn, raised, ended_at, round, has_ended, rounds_left, finish}
 
 -- The state t is reached from the state s by events of a run.
 pub record IsReached (c : Cast) (s t : State) : Type 0 where
   pub events : List Event
-  pub can : All (CanStep c.deal c.conforming) events
+  pub can : All (CanStep c.deal c.conforming c.seeds) events
   pub state : t ≡ run_from c s events
 
 -- a finish is made of events of a run
@@ -27,7 +27,7 @@ pub record IsFinished (c : Cast) (b : Histories) : Type 0 where
 
 -- after every list of events and a fair finish each ledger is above the horizon, the book is legal and every conforming party is conducted
 abbrev pub FinishesEnd : Type 0
-FinishesEnd = (c : Cast) (events : List Event) → IsReadyCast c → All (CanStep c.deal c.conforming) events → IsFinished c (finish c (run c events)).book
+FinishesEnd = (c : Cast) (events : List Event) → IsReadyCast c → All (CanStep c.deal c.conforming c.seeds) events → IsFinished c (finish c (run c events)).book
 
 -- a finish from a good state ends, in a good state
 abbrev pub FinishesAreGood : Type 0
@@ -41,7 +41,7 @@ FinishHeights =
 
 -- where every party conforms, a fair finish with no events before it finds nothing, and every outcome is the whole deal
 abbrev pub FairIsDealt : Type 0
-FairIsDealt = (c : Cast) → IsReadyCast c → ((v : ℕ) → v < c.deal.graph.n → conforms c v ≡ true) → IsDealt c.deal (conforms c) (finish c (start c.deal)).book
+FairIsDealt = (c : Cast) → IsReadyCast c → ((v : ℕ) → v < c.deal.graph.n → conforms c v ≡ true) → IsDealt c.deal (conforms c) (finish c (start c)).book
 
 -- after so many acts nothing is due for a conforming party
 abbrev pub ActsComeToRest : Type 0
@@ -55,9 +55,9 @@ ActsAreEnough =
     (c : Cast) (s : State) (v n : ℕ) → IsReadyCast c → IsGood c s → v < c.deal.graph.n → conforms c v ≡ true → next_of c (acts c v n s) v ≡ None
     → acts c v n s ≡ acts c v (most_acts c.deal) s
 
--- the turn of a party that doesn't conform changes nothing
+-- the turn of a party that neither conforms nor follows a script or a strategy changes nothing
 abbrev pub OthersRest : Type 0
-OthersRest = (c : Cast) (s : State) (v : ℕ) → conforms c v ≡ false → turn c s v ≡ s
+OthersRest = (c : Cast) (s : State) (v : ℕ) → conforms c v ≡ false → is_planned (role_of c v) ≡ false → turn c s v ≡ s
 
 -- a turn leaves a good state good
 abbrev pub TurnsAreGood : Type 0

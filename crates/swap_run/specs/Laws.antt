@@ -1,5 +1,5 @@
 -- The laws of runs.
-use Rattle.std.specs.Prelude.{◌≡◌, ◌≢◌, ◌==◌, ◌||◌, ℕ, ◌<◌, true, IsTrue, List, length, All, Some}
+use Rattle.std.specs.Prelude.{◌≡◌, ◌≢◌, ◌==◌, ◌||◌, ℕ, ◌<◌, true, false, IsTrue, List, [], length, All, Some}
 use Rattle.swap_digraph.specs.Deal.{party, counterparty}
 use Rattle.escrow_core.specs.declared.reply.Reply.TheVariants.{SenderFull}
 use Rattle.ledger_core.specs.History.{fit, reply_to}
@@ -7,17 +7,23 @@ use Rattle.swap_rules.specs.Due.{Action}
 use Rattle.ledger_core.specs.Book.{Histories, history, IsLegalBook}
 use Rattle.deviator_script.specs.declared.event.Event.{Event}
 use Rattle.deviator_script.specs.Step.{CanStep}
+use Rattle.deviator_script.specs.Crafted.{Seeds}
+use Rattle.deviator_script.specs.Script.{IsMoveOf}
+use Rattle.deviator_script.specs.View.{is_near}
+use Rattle.swap_digraph.specs.declared.deal.Deal.{Deal}
 use Rattle.swap_rules.specs.Accepted.{IsAccepted}
 use Rattle.swap_rules.specs.Conduct.{IsConducted}
-use Rattle.swap_laws.specs.Machine.{IsWallet, IsSound, Knows}
+use Rattle.swap_laws.specs.Machine.{Begins, IsWallet, IsSound, Knows}
 use Rattle.party_wallet.specs.Value.{signed_in}
-use Rattle.swap_run.specs.Run.{Cast, State, conforms, notes_of, next_of, step, start, run}
+use Rattle.swap_run.specs.Run.{Cast, Plan, State, conforms, role_of, notes_of, plan_of, script_of, next_of, step, start, run}
 
--- What a run asks of its cast: the deal is accepted, and each conforming party has a wallet of its own.
+-- What a run asks of its cast: the deal is accepted, each conforming party has a wallet of its own, and each script's moves are its party's.
 pub record IsReadyCast (c : Cast) : Type 0 where
   pub accepted : IsAccepted c.deal
   pub one_each : length c.conforming ≡ c.deal.graph.n
+  pub roles : length c.roles ≡ c.deal.graph.n
   pub wallets : (v : ℕ) → v < c.deal.graph.n → conforms c v ≡ true → IsWallet c.deal v (c.wallet v)
+  pub scripts : (v : ℕ) → v < c.deal.graph.n → All (IsMoveOf c.deal c.seeds v) (script_of (role_of c v))
 
 -- What a conforming party's notes keep: they are of this book, up to some entry of each ledger and past all calls of its own, and its calls keep its rules.
 pub record AreGoodNotes (c : Cast) (s : State) (v : ℕ) : Type 0 where
@@ -26,19 +32,29 @@ pub record AreGoodNotes (c : Cast) (s : State) (v : ℕ) : Type 0 where
   pub knows : (a : ℕ) → Knows v (history (notes_of s v).known a) (history s.book a)
   pub sound : IsSound c.deal (notes_of s v).known (signed_in (notes_of s v).signed) v
 
+-- What the plan of party v keeps over a book: what it knows is of this book, up to some entry of each ledger, and nothing of those that don't touch v;
+-- its moves are its party's.
+pub record IsGoodPlan (d : Deal) (seeds : Seeds) (v : ℕ) (b : Histories) (n : Plan) : Type 0 where
+  pub one_each : length n.known ≡ length d.graph.arcs
+  pub begins : (a : ℕ) → Begins (history n.known a) (history b a)
+  pub far : (a : ℕ) → a < length d.graph.arcs → is_near d v a ≡ false → history n.known a ≡ []
+  pub moves : All (IsMoveOf d seeds v) n.moves
+
 -- What every state of a run keeps.
 pub record IsGood (c : Cast) (s : State) : Type 0 where
   pub legal : IsLegalBook c.deal s.book
   pub one_each : length s.notes ≡ c.deal.graph.n
   pub notes : (v : ℕ) → v < c.deal.graph.n → conforms c v ≡ true → AreGoodNotes c s v
+  pub plan_each : length s.plans ≡ c.deal.graph.n
+  pub plans : (v : ℕ) → v < c.deal.graph.n → IsGoodPlan c.deal c.seeds v s.book (plan_of s v)
 
 -- a run begins well
 abbrev pub StartIsGood : Type 0
-StartIsGood = (c : Cast) → IsReadyCast c → IsGood c (start c.deal)
+StartIsGood = (c : Cast) → IsReadyCast c → IsGood c (start c)
 
 -- and each event leaves it so
 abbrev pub StepsAreGood : Type 0
-StepsAreGood = (c : Cast) (s : State) (e : Event) → IsReadyCast c → CanStep c.deal c.conforming e → IsGood c s → IsGood c (step c s e)
+StepsAreGood = (c : Cast) (s : State) (e : Event) → IsReadyCast c → CanStep c.deal c.conforming c.seeds e → IsGood c s → IsGood c (step c s e)
 
 -- A call of v that the ledger of its arc takes.
 pub record CanBeMade (c : Cast) (s : State) (v : ℕ) (x : Action) : Type 0 where
@@ -64,4 +80,4 @@ GoodIsKept = (c : Cast) (s : State) → IsReadyCast c → IsGood c s → IsKept 
 
 -- after every list of events the book is legal and every conforming party is conducted
 abbrev pub RunsAreKept : Type 0
-RunsAreKept = (c : Cast) (events : List Event) → IsReadyCast c → All (CanStep c.deal c.conforming) events → IsKept c (run c events).book
+RunsAreKept = (c : Cast) (events : List Event) → IsReadyCast c → All (CanStep c.deal c.conforming c.seeds) events → IsKept c (run c events).book

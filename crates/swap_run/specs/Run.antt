@@ -1,46 +1,81 @@
--- The run of a schedule: the histories that its events lead to, and what each conforming party has noted on the way.
-use Rattle.std.specs.Prelude.{ℕ, ◌+◌, Bool, true, false, List, [], ◌∷◌, ◌++◌, length, map, replicate, slice_set, slice_index_or, fold, Option, Some}
-use Rattle.std.specs.Prelude.{None, if◌then◌else◌}
+-- The run of a schedule: the histories that its events lead to, what each conforming party has noted on the way, and what each script's or strategy's
+-- party plans.
+use Rattle.std.specs.Prelude.{ℕ, ◌+◌, ◌&&◌, Bool, true, false, nat_lt, List, [], ◌∷◌, ◌++◌, length, map, replicate, slice_set, slice_index_or, fold}
+use Rattle.std.specs.Prelude.{Option, Some, None, if◌then◌else◌}
 use Rattle.std.specs.List.{range_with_len}
 use Rattle.swap_digraph.specs.declared.deal.Deal.{Deal}
 use Rattle.hashkey_path.specs.declared.hashkey.Hashkey.{Hashkey}
+use Rattle.party_wallet.specs.Value.{signed_in}
 use Rattle.escrow_core.specs.declared.reply.Reply.{Reply}
 use Rattle.escrow_core.specs.declared.reply.Reply.TheVariants.{ClockFull}
 use Rattle.ledger_core.specs.declared.entry.Call.{Call}
 use Rattle.ledger_core.specs.declared.entry.Entry.{Entry}
-use Rattle.ledger_core.specs.History.{height, reply_to_tick}
+use Rattle.ledger_core.specs.History.{height, fit, reply_to_tick}
 use Rattle.ledger_core.specs.Ledger.{after_call, tick_entry}
 use Rattle.ledger_core.specs.Book.{Histories, history}
-use Rattle.party_wallet.specs.Value.{signed_in}
 use Rattle.deviator_script.specs.declared.event.Event.{Event}
 use Rattle.deviator_script.specs.declared.event.Event.TheVariants.{Tick, Look, Act, Call as Made}
-use Rattle.deviator_script.specs.Resolved.{arc_of, call_of}
+use Rattle.deviator_script.specs.declared.job.Role.{Role}
+use Rattle.deviator_script.specs.declared.job.Role.TheVariants.{Conforming, Manual, Script, Strategy}
+use Rattle.deviator_script.specs.declared.moves.Move.{Move}
+use Rattle.deviator_script.specs.Crafted.{Seeds}
+use Rattle.deviator_script.specs.Resolved.{resolved}
+use Rattle.deviator_script.specs.Script.{next_call, moves_left}
+use Rattle.deviator_script.specs.View.{is_near}
 use Rattle.swap_rules.specs.Due.{Wallet, Action, due, first}
 use Rattle.swap_laws.specs.Machine.{noted}
 
--- Who takes part in a run: its deal, which parties conform, and what each signs with.
+-- Who takes part in a run: its deal, which parties conform, and what each signs with; the seeds and the roles of the parties;
+-- and what strategies answer, in the order in which they are asked.
 pub record Cast : Type 0 where
   pub deal : Deal
   pub conforming : List Bool
   pub wallet : ℕ → Wallet
+  pub seeds : Seeds
+  pub roles : List Role
+  pub answers : ℕ → Option (ℕ × Call)
 
--- What a party has noted: what it knows of each ledger, and the hashkey that it signed for each lock, if any.
+-- What a conforming party has noted: what it knows of each ledger, and the hashkey that it signed for each lock, if any.
 pub record Notes : Type 0 where
   pub known : Histories
   pub signed : List (Option Hashkey)
 
--- The histories so far, and the notes of each party. Those of a party that doesn't conform stay empty.
+-- What a party plans that follows a script or a strategy: what it knows of each ledger, the moves that are left of its script, and how often it acted.
+pub record Plan : Type 0 where
+  pub known : Histories
+  pub moves : List Move
+  pub turns : ℕ
+
+-- What a strategy is asked: its name, the party that follows it, how often that party acted before, and what it knows of each ledger.
+pub record Question : Type 0 where
+  pub strategy : List ℕ
+  pub party : ℕ
+  pub turn : ℕ
+  pub known : Histories
+
+-- The histories so far, the notes and the plan of each party, and what strategies were asked, in order.
+-- The notes of a party that doesn't conform stay empty, and the plan of one that follows no script or strategy stays as it was.
 pub record State : Type 0 where
   pub book : Histories
   pub notes : List Notes
+  pub plans : List Plan
+  pub asked : List Question
 
 -- party v conforms
 abbrev pub conforms : Cast → ℕ → Bool
 conforms c v = slice_index_or c.conforming v false
 
+-- the role of party v
+abbrev pub role_of : Cast → ℕ → Role
+role_of c v = slice_index_or c.roles v Manual
+
 -- the notes of party v
 abbrev pub notes_of : State → ℕ → Notes
 notes_of s v = slice_index_or s.notes v (record { known = []; signed = [] })
+
+-- the plan of party v
+abbrev pub plan_of : State → ℕ → Plan
+plan_of s v = slice_index_or s.plans v (record { known = []; moves = []; turns = 0 })
 
 -- the hashkeys that were signed, lock by lock, after a call
 abbrev pub signed_after : List (Option Hashkey) → Call → List (Option Hashkey)
@@ -57,12 +92,7 @@ is_clock_full_reply _ = false
 unfoldable pub after_tick : ℕ → List Entry → List Entry
 after_tick k h = if is_clock_full_reply (reply_to_tick h k) then h else h ++ tick_entry k (height h + k) (reply_to_tick h k) ∷ []
 
--- the history of arc a after a move of p, which may stand for no call
-abbrev pub after_move : Deal → ℕ → ℕ → Option Call → List Entry → List Entry
-after_move d a p None h = h
-after_move d a p (Some c) h = after_call d a p c h
-
--- What events do.
+-- What conforming parties do.
 
 -- v knows the ledger of arc a up to its end
 abbrev pub known_up_to : Notes → ℕ → List Entry → Notes
@@ -77,7 +107,7 @@ abbrev pub make : Deal → State → ℕ → Option Action → State
 make d s v None = s
 make d s v (Some x) =
     let h = after_call d x.arc v x.call (history s.book x.arc) in
-    record {
+    record s {
       book = slice_set s.book x.arc h;
       notes = slice_set s.notes v (record { known = slice_set (notes_of s v).known x.arc h; signed = signed_after (notes_of s v).signed x.call });
     }
@@ -90,12 +120,79 @@ next_of c s v = first (due c.deal v (c.wallet v) (signed_in (notes_of s v).signe
 abbrev pub act : Cast → State → ℕ → State
 act c s v = make c.deal s v (next_of c s v)
 
--- what an event does; a party that doesn't conform notes nothing, and acts by its own calls alone
+-- What the other parties do.
+
+-- the role follows a script or a strategy
+abbrev pub is_planned : Role → Bool
+is_planned (Script moves) = true
+is_planned (Strategy name) = true
+is_planned _ = false
+
+-- the plan of a party that knows the ledger of arc a up to its end
+abbrev pub plan_up_to : Plan → ℕ → List Entry → Plan
+plan_up_to n a h = record n { known = slice_set n.known a h }
+
+-- the plans after v has seen the ledger of arc a up to its end, if v keeps one
+abbrev pub plans_seen : Cast → State → ℕ → ℕ → List Entry → List Plan
+plans_seen c s v a h = if is_planned (role_of c v) then slice_set s.plans v (plan_up_to (plan_of s v) a h) else s.plans
+
+-- v looks at the ledger of arc a
+abbrev pub watch : Cast → State → ℕ → ℕ → State
+watch c s v a = record s { plans = plans_seen c s v a (history s.book a) }
+
+-- v makes a call, if any, and then knows the ledger up to its end
+abbrev pub take_call : Cast → State → ℕ → Option (ℕ × Call) → State
+take_call c s v None = s
+take_call c s v (Some x) =
+    let h = after_call c.deal x.0 v x.1 (history s.book x.0) in
+    record s { book = slice_set s.book x.0 h; plans = plans_seen c s v x.0 h }
+
+-- v has acted once more, and these moves are left of its script
+abbrev pub after_turn : State → ℕ → List Move → State
+after_turn s v moves = record s { plans = slice_set s.plans v (record (plan_of s v) { moves = moves; turns = (plan_of s v).turns + 1 }) }
+
+-- v makes the next call of its script
+abbrev pub follow : Cast → State → ℕ → State
+follow c s v =
+    take_call c (after_turn s v (moves_left (plan_of s v).known (plan_of s v).moves)) v
+    (next_call c.deal c.seeds (plan_of s v).known (plan_of s v).moves)
+
+-- a call on an arc that touches v, and that fits
+abbrev pub is_answer_of : Deal → ℕ → ℕ × Call → Bool
+is_answer_of d v x = nat_lt x.0 (length d.graph.arcs) && is_near d v x.0 && fit d x.0 x.1
+
+-- the call of an answer, where v can make it
+abbrev pub answer_for : Deal → ℕ → Option (ℕ × Call) → Option (ℕ × Call)
+answer_for d v None = None
+answer_for d v (Some x) = if is_answer_of d v x then Some x else None
+
+-- what v asks the strategy that it follows
+abbrev pub question : State → ℕ → List ℕ → Question
+question s v name = record { strategy = name; party = v; turn = (plan_of s v).turns; known = (plan_of s v).known }
+
+-- v has asked its strategy
+abbrev pub after_question : State → ℕ → List ℕ → State
+after_question s v name = record (after_turn s v (plan_of s v).moves) { asked = s.asked ++ question s v name ∷ [] }
+
+-- v asks its strategy and makes the call that comes as the next answer
+abbrev pub ask : Cast → State → ℕ → List ℕ → State
+ask c s v name = take_call c (after_question s v name) v (answer_for c.deal v (c.answers (length s.asked)))
+
+-- what an act of v does, which doesn't conform
+abbrev pub act_as : Cast → State → ℕ → Role → State
+act_as c s v Conforming = s
+act_as c s v Manual = s
+act_as c s v (Script moves) = follow c s v
+act_as c s v (Strategy name) = ask c s v name
+
+-- Events.
+
+-- what an event does
 abbrev pub step : Cast → State → Event → State
 step c s (Tick a k) = record s { book = slice_set s.book a (after_tick k (history s.book a)) }
-step c s (Look v a) = if conforms c v then look s v a else s
-step c s (Act v) = if conforms c v then act c s v else s
-step c s (Made v mv) = record s { book = slice_set s.book (arc_of mv) (after_move c.deal (arc_of mv) v (call_of c.deal mv) (history s.book (arc_of mv))) }
+step c s (Look v a) = if conforms c v then look s v a else watch c s v a
+step c s (Act v) = if conforms c v then act c s v else act_as c s v (role_of c v)
+step c s (Made v mv) = take_call c s v (resolved c.deal c.seeds s.book mv)
 
 -- empty histories
 abbrev pub no_histories : Deal → Histories
@@ -105,9 +202,18 @@ no_histories d = replicate (length d.graph.arcs) []
 abbrev pub no_notes : Deal → Notes
 no_notes d = record { known = no_histories d; signed = replicate (length d.leaders) None }
 
+-- the moves of a role's script
+abbrev pub script_of : Role → List Move
+script_of (Script moves) = moves
+script_of _ = []
+
+-- the plan of a party that has seen nothing, with its script at its first move
+abbrev pub first_plan : Deal → Role → Plan
+first_plan d role = record { known = no_histories d; moves = script_of role; turns = 0 }
+
 -- before any event
-abbrev pub start : Deal → State
-start d = record { book = no_histories d; notes = replicate d.graph.n (no_notes d) }
+abbrev pub start : Cast → State
+start c = record { book = no_histories c.deal; notes = replicate c.deal.graph.n (no_notes c.deal); plans = map (first_plan c.deal) c.roles; asked = [] }
 
 -- the state after a list of events
 abbrev pub run_from : Cast → State → List Event → State
@@ -115,4 +221,4 @@ run_from c s events = fold (step c) s events
 
 -- the state after a list of events, from the start
 abbrev pub run : Cast → List Event → State
-run c events = run_from c (start c.deal) events
+run c events = run_from c (start c) events

@@ -1,15 +1,18 @@
-//! The run of a schedule, as a definition, and its laws: whatever the others do, every conforming party keeps its conduct. Each law is a function
-//! without a body; its contract is the law.
+//! The run of a schedule, as a definition, and its laws: whatever the others do, every conforming party keeps its conduct. Each law is a
+//! function without a body; its contract is the law.
 //!
-//! Read `specs/Run.antt` first, then `specs/Laws.antt`; `specs/Fair.antt` has the fair finish of a run, and `specs/FairLaws.antt` its laws.
+//! Read `specs/Run.antt` first, then `specs/Laws.antt`; `specs/Fair.antt` has the fair finish of a run, and `specs/FairLaws.antt` its
+//! laws. `specs/Asked.antt` says what strategies are asked.
 #![tactic(auto)]
 
+ghost use Rattle.swap_run.specs.Asked.{RunsAskInOrder, FinishesAskInOrder, RunsWithoutStrategies, FinishesWithoutStrategies, RulesDecideRuns};
+ghost use Rattle.swap_run.specs.Asked.{RulesDecideFinishes};
 ghost use Rattle.swap_run.specs.FairLaws.{FinishesAreRuns, FinishesEnd, FinishesAreGood, FinishHeights, FairIsDealt, ActsComeToRest, ActsAreEnough};
 ghost use Rattle.swap_run.specs.FairLaws.{OthersRest, TurnsAreGood, RoundsAreGood, RoundsRaise, RoundsCountDown, FinishStops, FinishGoesOn};
 ghost use Rattle.swap_run.specs.Laws.{StartIsGood, StepsAreGood, DueCallsCanBeMade, GoodIsKept, RunsAreKept};
 
-/// What every state of a run keeps: the book is legal, and each conforming party knows some prefix of each ledger that holds all its own calls, which
-/// keep its rules. What it makes, the ledger takes.
+/// What every state of a run keeps: the book is legal, and each conforming party knows some prefix of each ledger that holds all its
+/// own calls, which keep its rules. What it makes, the ledger takes.
 pub fn every_state_is_good()
     ensures start { StartIsGood }
     ensures steps { StepsAreGood }
@@ -22,8 +25,8 @@ pub fn every_run_is_kept()
     ensures runs { RunsAreKept }
 {}
 
-/// A turn ends: a conforming party acts until nothing is due, for which as many acts are enough as there are calls that it may make. Any other party
-/// does nothing.
+/// A turn ends: a conforming party acts until nothing is due, for which as many acts are enough as there are calls that it may make.
+/// A script or a strategy acts once, and any other party does nothing.
 pub fn every_turn_ends()
     ensures rest { ActsComeToRest }
     ensures enough { ActsAreEnough }
@@ -38,7 +41,8 @@ pub fn every_round_raises()
     ensures good { RoundsAreGood }
 {}
 
-/// A fair finish ends with each ledger above the horizon, and keeps what every run keeps: it is made of events of a run. It is rounds until no ledger is low.
+/// A fair finish ends with each ledger above the horizon, and keeps what every run keeps: it is made of events of a run. It is rounds
+/// until no ledger is low.
 pub fn every_finish_ends()
     ensures end { FinishesEnd }
     ensures run { FinishesAreRuns }
@@ -51,4 +55,15 @@ pub fn every_finish_ends()
 /// Where every party conforms and no event comes before, a fair finish deals: nothing is found, and every outcome is the whole deal.
 pub fn a_fair_finish_is_dealt()
     ensures { FairIsDealt }
+{}
+
+/// A run asks the strategies' answers in order and looks at no other: it is the same for all that agree with those that it asked. Where
+/// no party follows a strategy it is the same for all, and where a rule decides each answer the rule decides the run.
+pub fn every_run_asks_in_order()
+    ensures runs { RunsAskInOrder }
+    ensures finishes { FinishesAskInOrder }
+    ensures no_strategy { RunsWithoutStrategies }
+    ensures no_strategy_fair { FinishesWithoutStrategies }
+    ensures decided { RulesDecideRuns }
+    ensures decided_fair { RulesDecideFinishes }
 {}

@@ -1,10 +1,15 @@
 //! Runs by events: what conforming parties do when they look and act, in time and too late, and what isn't ended.
 
 use crate::deals::HASHKEYS;
-use crate::runner::{conducts, follows};
+use crate::runner::cases;
 use std::test::Fail;
 
-const IN_TIME: &str = r#"{"act":"alice"}
+/// The deal with hashkeys.
+const WITH_HASHKEYS: &str = concat!(
+    r#"== in time
+"carol", => "carol","actor":"manual",
+--
+{"act":"alice"}
 {"look":"bob","arc":0}
 {"act":"bob"}
 {"call":"carol","move":{"do":"publish","arc":2}}
@@ -12,7 +17,8 @@ const IN_TIME: &str = r#"{"act":"alice"}
 {"act":"alice"}
 {"act":"alice"}
 {"tick":1,"by":50}
-{"call":"carol","move":{"do":"raw","arc":1,"lock":0,"secret":"3cfd91ab364b217387def1b512b03962bc945b8b9cd6a3119bda13d7a525735c","path":["carol","alice"],"sigs":["<carol>","<alice>"]}}
+{"call":"carol","move":{"do":"raw","arc":1,"lock":0,"secret":"3cfd91ab364b217387def1b512b03962bc945b8b9cd6a3119bda13d7a525735c","path":["carol","alice"],"#,
+    r#""sigs":["<carol>","<alice>"]}}
 {"call":"carol","move":{"do":"claim","arc":1}}
 {"tick":0,"by":60}
 {"look":"bob","arc":1}
@@ -21,9 +27,8 @@ const IN_TIME: &str = r#"{"act":"alice"}
 {"tick":0,"by":11}
 {"tick":1,"by":21}
 {"tick":2,"by":71}
-"#;
-
-const IN_TIME_ANSWER: &str = "done
+--
+done
 swap report 1
 swap hashkeys start 10 delta 10 bound 2
 ledger 0 alice -> bob amount 100
@@ -45,9 +50,10 @@ party alice conforming: Deal
 party bob conforming: Deal
 party carol deviator: Deal
 findings 0
-";
-
-const TOO_LATE: &str = r#"{"act":"alice"}
+== too late
+"carol", => "carol","actor":"manual",
+--
+{"act":"alice"}
 {"look":"bob","arc":0}
 {"act":"bob"}
 {"call":"carol","move":{"do":"publish","arc":2}}
@@ -55,7 +61,8 @@ const TOO_LATE: &str = r#"{"act":"alice"}
 {"act":"alice"}
 {"act":"alice"}
 {"tick":1,"by":50}
-{"call":"carol","move":{"do":"raw","arc":1,"lock":0,"secret":"3cfd91ab364b217387def1b512b03962bc945b8b9cd6a3119bda13d7a525735c","path":["carol","alice"],"sigs":["<carol>","<alice>"]}}
+{"call":"carol","move":{"do":"raw","arc":1,"lock":0,"secret":"3cfd91ab364b217387def1b512b03962bc945b8b9cd6a3119bda13d7a525735c","path":["carol","alice"],"#,
+    r#""sigs":["<carol>","<alice>"]}}
 {"call":"carol","move":{"do":"claim","arc":1}}
 {"tick":0,"by":61}
 {"look":"bob","arc":1}
@@ -65,9 +72,8 @@ const TOO_LATE: &str = r#"{"act":"alice"}
 {"tick":0,"by":10}
 {"tick":1,"by":21}
 {"tick":2,"by":71}
-"#;
-
-const TOO_LATE_ANSWER: &str = "named
+--
+named
 swap report 1
 swap hashkeys start 10 delta 10 bound 2
 ledger 0 alice -> bob amount 100
@@ -90,20 +96,21 @@ party bob conforming: Underwater
 party carol deviator: Deal
 late bob unlock 0 on 0 due 60
 findings 1
-";
-
-const FORGED: &str = r#"{"act":"alice"}
+== another signs with alice's seed
+"bob", => "bob","actor":"manual", && "carol", => "carol","actor":"manual",
+--
+{"act":"alice"}
 {"call":"bob","move":{"do":"publish","arc":1}}
-{"call":"carol","move":{"do":"raw","arc":1,"lock":0,"secret":"3cfd91ab364b217387def1b512b03962bc945b8b9cd6a3119bda13d7a525735c","path":["carol","alice"],"sigs":["<carol>","<alice>"]}}
+{"call":"carol","move":{"do":"raw","arc":1,"lock":0,"secret":"3cfd91ab364b217387def1b512b03962bc945b8b9cd6a3119bda13d7a525735c","path":["carol","alice"],"#,
+    r#""sigs":["<carol>","<alice>"]}}
 {"tick":0,"by":61}
 {"look":"alice","arc":0}
 {"act":"alice"}
 {"tick":0,"by":10}
 {"tick":1,"by":71}
 {"tick":2,"by":71}
-"#;
-
-const FORGED_ANSWER: &str = "named
+--
+named
 swap report 1
 swap hashkeys start 10 delta 10 bound 2
 ledger 0 alice -> bob amount 100
@@ -121,14 +128,14 @@ party bob deviator: Underwater
 party carol deviator: NoDeal
 forged alice on 1 entry 1
 findings 1
-";
-
-const UNFINISHED: &str = r#"{"tick":0,"by":70}
+== a height before the end
+"alice", => "alice","actor":"manual", && "bob", => "bob","actor":"manual", && "carol", => "carol","actor":"manual",
+--
+{"tick":0,"by":70}
 {"tick":1,"by":70}
 {"tick":2,"by":70}
-"#;
-
-const UNFINISHED_ANSWER: &str = "named
+--
+named
 swap report 1
 swap hashkeys start 10 delta 10 bound 2
 ledger 0 alice -> bob amount 100
@@ -144,14 +151,14 @@ unfinished 0 height 70
 unfinished 1 height 70
 unfinished 2 height 70
 findings 3
-";
-
-const FINISHED: &str = r#"{"tick":0,"by":71}
+== at the end
+"alice", => "alice","actor":"manual", && "bob", => "bob","actor":"manual", && "carol", => "carol","actor":"manual",
+--
+{"tick":0,"by":71}
 {"tick":1,"by":71}
 {"tick":2,"by":71}
-"#;
-
-const FINISHED_ANSWER: &str = "done
+--
+done
 swap report 1
 swap hashkeys start 10 delta 10 bound 2
 ledger 0 alice -> bob amount 100
@@ -164,10 +171,18 @@ party alice deviator: NoDeal
 party bob deviator: NoDeal
 party carol deviator: NoDeal
 findings 0
-";
+"#,
+);
 
-const TIMELOCKS_IN_TIME: &str =
-    r#"{"swap":1,"mode":"timelocks","start":10,"delta":10,"bound":2,"parties":[{"name":"alice","actor":"manual"},{"name":"bob","actor":"conforming","seed":"0000000000000000000000000000000000000000000000000000000000000000"},{"name":"carol","actor":"manual"}],"arcs":[{"from":"alice","to":"bob","amount":100,"timelock":60},{"from":"bob","to":"carol","amount":5,"timelock":50},{"from":"carol","to":"alice","amount":1,"timelock":40}],"leaders":[{"party":"alice","hashlock":"66687aadf862bd776c8fc18b8e9f8e20089714856ee233b3902a591d0d5f2925"}]}
+/// Deals with timelocks.
+const WITH_TIMELOCKS: &str = concat!(
+    r#"== in time
+--
+{"swap":1,"mode":"timelocks","start":10,"delta":10,"bound":2,"parties":[{"name":"alice","actor":"manual"},"#,
+    r#"{"name":"bob","actor":"conforming","seed":"0000000000000000000000000000000000000000000000000000000000000000"},{"name":"carol","actor":"manual"}],"#,
+    r#""arcs":[{"from":"alice","to":"bob","amount":100,"timelock":60},{"from":"bob","to":"carol","amount":5,"timelock":50},"#,
+    r#"{"from":"carol","to":"alice","amount":1,"timelock":40}],"#,
+    r#""leaders":[{"party":"alice","hashlock":"66687aadf862bd776c8fc18b8e9f8e20089714856ee233b3902a591d0d5f2925"}]}
 {"call":"alice","move":{"do":"publish","arc":0}}
 {"look":"bob","arc":0}
 {"act":"bob"}
@@ -181,9 +196,8 @@ const TIMELOCKS_IN_TIME: &str =
 {"tick":0,"by":11}
 {"tick":1,"by":21}
 {"tick":2,"by":71}
-"#;
-
-const TIMELOCKS_IN_TIME_ANSWER: &str = "done
+--
+done
 swap report 1
 swap timelocks start 10 delta 10 bound 2
 ledger 0 alice -> bob amount 100
@@ -202,10 +216,13 @@ party alice deviator: Underwater
 party bob conforming: Deal
 party carol deviator: FreeRide
 findings 0
-";
-
-const TIMELOCKS_TOO_LATE: &str =
-    r#"{"swap":1,"mode":"timelocks","start":10,"delta":10,"bound":2,"parties":[{"name":"alice","actor":"manual"},{"name":"bob","actor":"conforming","seed":"0000000000000000000000000000000000000000000000000000000000000000"},{"name":"carol","actor":"manual"}],"arcs":[{"from":"alice","to":"bob","amount":100,"timelock":60},{"from":"bob","to":"carol","amount":5,"timelock":50},{"from":"carol","to":"alice","amount":1,"timelock":40}],"leaders":[{"party":"alice","hashlock":"66687aadf862bd776c8fc18b8e9f8e20089714856ee233b3902a591d0d5f2925"}]}
+== too late
+--
+{"swap":1,"mode":"timelocks","start":10,"delta":10,"bound":2,"parties":[{"name":"alice","actor":"manual"},"#,
+    r#"{"name":"bob","actor":"conforming","seed":"0000000000000000000000000000000000000000000000000000000000000000"},{"name":"carol","actor":"manual"}],"#,
+    r#""arcs":[{"from":"alice","to":"bob","amount":100,"timelock":60},{"from":"bob","to":"carol","amount":5,"timelock":50},"#,
+    r#"{"from":"carol","to":"alice","amount":1,"timelock":40}],"#,
+    r#""leaders":[{"party":"alice","hashlock":"66687aadf862bd776c8fc18b8e9f8e20089714856ee233b3902a591d0d5f2925"}]}
 {"call":"alice","move":{"do":"publish","arc":0}}
 {"look":"bob","arc":0}
 {"act":"bob"}
@@ -218,9 +235,8 @@ const TIMELOCKS_TOO_LATE: &str =
 {"tick":0,"by":10}
 {"tick":1,"by":21}
 {"tick":2,"by":71}
-"#;
-
-const TIMELOCKS_TOO_LATE_ANSWER: &str = "named
+--
+named
 swap report 1
 swap timelocks start 10 delta 10 bound 2
 ledger 0 alice -> bob amount 100
@@ -239,10 +255,12 @@ party bob conforming: Underwater
 party carol deviator: FreeRide
 late bob unlock 0 on 0 due 60
 findings 1
-";
-
-const TIMELOCKS_BY_HAND: &str =
-    r#"{"swap":1,"mode":"timelocks","start":10,"delta":10,"bound":2,"parties":[{"name":"alice","actor":"manual"},{"name":"bob","actor":"manual"},{"name":"carol","actor":"manual"}],"arcs":[{"from":"alice","to":"bob","amount":100,"timelock":60},{"from":"bob","to":"carol","amount":5,"timelock":50},{"from":"carol","to":"alice","amount":1,"timelock":40}],"leaders":[{"party":"alice","hashlock":"66687aadf862bd776c8fc18b8e9f8e20089714856ee233b3902a591d0d5f2925"}]}
+== by hand
+--
+{"swap":1,"mode":"timelocks","start":10,"delta":10,"bound":2,"parties":[{"name":"alice","actor":"manual"},{"name":"bob","actor":"manual"},"#,
+    r#"{"name":"carol","actor":"manual"}],"arcs":[{"from":"alice","to":"bob","amount":100,"timelock":60},"#,
+    r#"{"from":"bob","to":"carol","amount":5,"timelock":50},{"from":"carol","to":"alice","amount":1,"timelock":40}],"#,
+    r#""leaders":[{"party":"alice","hashlock":"66687aadf862bd776c8fc18b8e9f8e20089714856ee233b3902a591d0d5f2925"}]}
 {"call":"alice","move":{"do":"publish","arc":0}}
 {"call":"carol","move":{"do":"publish","arc":2}}
 {"tick":2,"by":40}
@@ -255,9 +273,8 @@ const TIMELOCKS_BY_HAND: &str =
 {"tick":0,"by":10}
 {"tick":1,"by":71}
 {"tick":2,"by":31}
-"#;
-
-const TIMELOCKS_BY_HAND_ANSWER: &str = "done
+--
+done
 swap report 1
 swap timelocks start 10 delta 10 bound 2
 ledger 0 alice -> bob amount 100
@@ -276,16 +293,20 @@ party alice deviator: FreeRide
 party bob deviator: NoDeal
 party carol deviator: Underwater
 findings 0
-";
-
-const TIMELOCKS_UNFINISHED: &str =
-    r#"{"swap":1,"mode":"timelocks","start":10,"delta":10,"bound":2,"parties":[{"name":"alice","actor":"manual","seed":"2bd806c97f0e00af1a1fc3328fa763a9269723c8db8fac4f93af71db186d6e90"},{"name":"bob","actor":"manual","seed":"81b637d8fcd2c6da6359e6963113a1170de795e4b725b84d1e0b4cfd9ec58ce9"},{"name":"carol","actor":"manual","seed":"4c26d9074c27d89ede59270c0ac14b71e071b15239519f75474b2f3ba63481f5"}],"arcs":[{"from":"alice","to":"bob","amount":100,"timelock":60},{"from":"bob","to":"carol","amount":5,"timelock":50},{"from":"carol","to":"alice","amount":1,"timelock":40}],"leaders":[{"party":"alice","hashlock":"ea381ac043404cf24964de83dde5ee9adbfcdcef2bb48271931448055eaaf421"}]}
+== a height before the end
+--
+{"swap":1,"mode":"timelocks","start":10,"delta":10,"bound":2,"parties":[{"name":"alice","actor":"manual","#,
+    r#""seed":"2bd806c97f0e00af1a1fc3328fa763a9269723c8db8fac4f93af71db186d6e90"},"#,
+    r#"{"name":"bob","actor":"manual","seed":"81b637d8fcd2c6da6359e6963113a1170de795e4b725b84d1e0b4cfd9ec58ce9"},"#,
+    r#"{"name":"carol","actor":"manual","seed":"4c26d9074c27d89ede59270c0ac14b71e071b15239519f75474b2f3ba63481f5"}],"#,
+    r#""arcs":[{"from":"alice","to":"bob","amount":100,"timelock":60},{"from":"bob","to":"carol","amount":5,"timelock":50},"#,
+    r#"{"from":"carol","to":"alice","amount":1,"timelock":40}],"#,
+    r#""leaders":[{"party":"alice","hashlock":"ea381ac043404cf24964de83dde5ee9adbfcdcef2bb48271931448055eaaf421"}]}
 {"tick":0,"by":70}
 {"tick":1,"by":70}
 {"tick":2,"by":70}
-"#;
-
-const TIMELOCKS_UNFINISHED_ANSWER: &str = "named
+--
+named
 swap report 1
 swap timelocks start 10 delta 10 bound 2
 ledger 0 alice -> bob amount 100
@@ -301,16 +322,20 @@ unfinished 0 height 70
 unfinished 1 height 70
 unfinished 2 height 70
 findings 3
-";
-
-const TIMELOCKS_FINISHED: &str =
-    r#"{"swap":1,"mode":"timelocks","start":10,"delta":10,"bound":2,"parties":[{"name":"alice","actor":"manual","seed":"2bd806c97f0e00af1a1fc3328fa763a9269723c8db8fac4f93af71db186d6e90"},{"name":"bob","actor":"manual","seed":"81b637d8fcd2c6da6359e6963113a1170de795e4b725b84d1e0b4cfd9ec58ce9"},{"name":"carol","actor":"manual","seed":"4c26d9074c27d89ede59270c0ac14b71e071b15239519f75474b2f3ba63481f5"}],"arcs":[{"from":"alice","to":"bob","amount":100,"timelock":60},{"from":"bob","to":"carol","amount":5,"timelock":50},{"from":"carol","to":"alice","amount":1,"timelock":40}],"leaders":[{"party":"alice","hashlock":"ea381ac043404cf24964de83dde5ee9adbfcdcef2bb48271931448055eaaf421"}]}
+== at the end
+--
+{"swap":1,"mode":"timelocks","start":10,"delta":10,"bound":2,"parties":[{"name":"alice","actor":"manual","#,
+    r#""seed":"2bd806c97f0e00af1a1fc3328fa763a9269723c8db8fac4f93af71db186d6e90"},"#,
+    r#"{"name":"bob","actor":"manual","seed":"81b637d8fcd2c6da6359e6963113a1170de795e4b725b84d1e0b4cfd9ec58ce9"},"#,
+    r#"{"name":"carol","actor":"manual","seed":"4c26d9074c27d89ede59270c0ac14b71e071b15239519f75474b2f3ba63481f5"}],"#,
+    r#""arcs":[{"from":"alice","to":"bob","amount":100,"timelock":60},{"from":"bob","to":"carol","amount":5,"timelock":50},"#,
+    r#"{"from":"carol","to":"alice","amount":1,"timelock":40}],"#,
+    r#""leaders":[{"party":"alice","hashlock":"ea381ac043404cf24964de83dde5ee9adbfcdcef2bb48271931448055eaaf421"}]}
 {"tick":0,"by":71}
 {"tick":1,"by":71}
 {"tick":2,"by":71}
-"#;
-
-const TIMELOCKS_FINISHED_ANSWER: &str = "done
+--
+done
 swap report 1
 swap timelocks start 10 delta 10 bound 2
 ledger 0 alice -> bob amount 100
@@ -323,57 +348,15 @@ party alice deviator: NoDeal
 party bob deviator: NoDeal
 party carol deviator: NoDeal
 findings 0
-";
+"#,
+);
 
 #[test]
 fn conducts_with_hashkeys(rt: HostRuntime) -> Result<(), Fail> {
-    let table = [
-        (
-            "in time",
-            r#""carol", => "carol","actor":"manual","#,
-            IN_TIME,
-            IN_TIME_ANSWER,
-        ),
-        (
-            "too late",
-            r#""carol", => "carol","actor":"manual","#,
-            TOO_LATE,
-            TOO_LATE_ANSWER,
-        ),
-        (
-            "another signs with alice's seed",
-            r#""bob", => "bob","actor":"manual", && "carol", => "carol","actor":"manual","#,
-            FORGED,
-            FORGED_ANSWER,
-        ),
-        (
-            "a height before the end",
-            r#""alice", => "alice","actor":"manual", && "bob", => "bob","actor":"manual", && "carol", => "carol","actor":"manual","#,
-            UNFINISHED,
-            UNFINISHED_ANSWER,
-        ),
-        (
-            "at the end",
-            r#""alice", => "alice","actor":"manual", && "bob", => "bob","actor":"manual", && "carol", => "carol","actor":"manual","#,
-            FINISHED,
-            FINISHED_ANSWER,
-        ),
-    ];
-    conducts(&rt, rt.alloc(), "run", HASHKEYS, &table)
+    cases(&rt, rt.alloc(), "run", HASHKEYS, WITH_HASHKEYS)
 }
 
 #[test]
 fn conducts_with_timelocks(rt: HostRuntime) -> Result<(), Fail> {
-    let table = [
-        ("in time", TIMELOCKS_IN_TIME, TIMELOCKS_IN_TIME_ANSWER),
-        ("too late", TIMELOCKS_TOO_LATE, TIMELOCKS_TOO_LATE_ANSWER),
-        ("by hand", TIMELOCKS_BY_HAND, TIMELOCKS_BY_HAND_ANSWER),
-        (
-            "a height before the end",
-            TIMELOCKS_UNFINISHED,
-            TIMELOCKS_UNFINISHED_ANSWER,
-        ),
-        ("at the end", TIMELOCKS_FINISHED, TIMELOCKS_FINISHED_ANSWER),
-    ];
-    follows(&rt, rt.alloc(), "run", &table)
+    cases(&rt, rt.alloc(), "run", "", WITH_TIMELOCKS)
 }

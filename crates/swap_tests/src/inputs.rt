@@ -1,14 +1,17 @@
 //! Inputs by their bytes and lines, and the program's words.
 
 use crate::deals::{HASHKEYS, TIMELOCKS};
-use crate::runner::{answer, answer_from, conducts, follows};
+use crate::runner::{answer, answer_from, cases, follows};
 use std::alloc::Global;
 use std::test::Fail;
 use swap_io::VecSource;
 
 /// A job of which each line counts.
-const JOB: &str =
-    r#"{"swap":1,"mode":"timelocks","start":10,"delta":10,"bound":2,"parties":[{"name":"alice","actor":"manual"},{"name":"bob","actor":"manual"},{"name":"carol","actor":"manual"}],"arcs":[{"from":"alice","to":"bob","amount":100,"timelock":60},{"from":"bob","to":"carol","amount":5,"timelock":50},{"from":"carol","to":"alice","amount":1,"timelock":40}],"leaders":[{"party":"alice","hashlock":"66687aadf862bd776c8fc18b8e9f8e20089714856ee233b3902a591d0d5f2925"}]}
+const JOB: &str = concat!(
+    r#"{"swap":1,"mode":"timelocks","start":10,"delta":10,"bound":2,"parties":[{"name":"alice","actor":"manual"},"#,
+    r#"{"name":"bob","actor":"manual"},{"name":"carol","actor":"manual"}],"arcs":[{"from":"alice","to":"bob","amount":100,"timelock":60},"#,
+    r#"{"from":"bob","to":"carol","amount":5,"timelock":50},{"from":"carol","to":"alice","amount":1,"timelock":40}],"#,
+    r#""leaders":[{"party":"alice","hashlock":"66687aadf862bd776c8fc18b8e9f8e20089714856ee233b3902a591d0d5f2925"}]}
 {"call":"alice","move":{"do":"publish","arc":0}}
 {"call":"carol","move":{"do":"publish","arc":2}}
 {"tick":2,"by":40}
@@ -21,7 +24,8 @@ const JOB: &str =
 {"tick":0,"by":10}
 {"tick":1,"by":71}
 {"tick":2,"by":31}
-"#;
+"#,
+);
 
 const ANSWER: &str = "done
 swap report 1
@@ -92,64 +96,83 @@ fn refuses_what_is_cut_within_a_line(rt: HostRuntime) -> Result<(), Fail> {
     Ok(())
 }
 
+/// Event lines, and blank lines before them.
+const LINES: &str = "\
+== a look at another's ledger
+--
+{\"look\":\"alice\",\"arc\":1}
+--
+swap: refused: NotAdjacent 2
+== blank lines count
+--
+
+ \t
+{\"look\":\"alice\",\"arc\":1}
+--
+swap: refused: NotAdjacent 4
+== a carriage return is a space
+--
+ \r
+\r
+{\"look\":\"alice\",\"arc\":1}
+--
+swap: refused: NotAdjacent 4
+== the last line may lack its line feed
+--
+{\"look\":\"alice\",\"arc\":1}--
+swap: refused: NotAdjacent 2
+== a form feed is no blank
+--
+\u{c}
+{\"look\":\"alice\",\"arc\":1}
+--
+swap: refused: NotJson 2
+== the header may come later
+{\"swap\" =>\u{20}
+
+{\"swap\"
+--
+{\"look\":\"alice\",\"arc\":1}
+--
+swap: refused: NotAdjacent 4
+";
+
 #[test]
 fn reads_lines(rt: HostRuntime) -> Result<(), Fail> {
-    let table = [
-        (
-            "a look at another's ledger",
-            "",
-            "{\"look\":\"alice\",\"arc\":1}\n",
-            "swap: refused: NotAdjacent 2\n",
-        ),
-        (
-            "blank lines count",
-            "",
-            "\n \t\n{\"look\":\"alice\",\"arc\":1}\n",
-            "swap: refused: NotAdjacent 4\n",
-        ),
-        (
-            "a carriage return is a space",
-            "",
-            " \r\n\r\n{\"look\":\"alice\",\"arc\":1}\n",
-            "swap: refused: NotAdjacent 4\n",
-        ),
-        (
-            "the last line may lack its line feed",
-            "",
-            "{\"look\":\"alice\",\"arc\":1}",
-            "swap: refused: NotAdjacent 2\n",
-        ),
-        (
-            "a form feed is no blank",
-            "",
-            "\u{c}\n{\"look\":\"alice\",\"arc\":1}\n",
-            "swap: refused: NotJson 2\n",
-        ),
-        (
-            "the header may come later",
-            "{\"swap\" => \n\n{\"swap\"",
-            "{\"look\":\"alice\",\"arc\":1}\n",
-            "swap: refused: NotAdjacent 4\n",
-        ),
-    ];
-    conducts(&rt, rt.alloc(), "run", TIMELOCKS, &table)?;
-    conducts(&rt, rt.alloc(), "run", HASHKEYS, &table)
+    cases(&rt, rt.alloc(), "run", TIMELOCKS, LINES)?;
+    cases(&rt, rt.alloc(), "run", HASHKEYS, LINES)
 }
+
+/// Inputs without a header.
+const HEADLESS: &str = "\
+== empty
+--
+--
+swap: refused: NotJson 1
+== a line feed
+--
+
+--
+swap: refused: NotJson 1
+== blank lines
+--
+\u{20}
+\t
+\r
+--
+swap: refused: NotJson 1
+== a header on the third line
+--
+\u{20}
+\t
+{--
+swap: refused: NotJson 3
+";
 
 #[test]
 fn refuses_an_input_without_a_header(rt: HostRuntime) -> Result<(), Fail> {
-    let table = [
-        ("empty", "", "swap: refused: NotJson 1\n"),
-        ("a line feed", "\n", "swap: refused: NotJson 1\n"),
-        ("blank lines", " \n\t\n\r\n", "swap: refused: NotJson 1\n"),
-        (
-            "a header on the third line",
-            " \n\t\n{",
-            "swap: refused: NotJson 3\n",
-        ),
-    ];
-    follows(&rt, rt.alloc(), "run", &table)?;
-    follows(&rt, rt.alloc(), "check", &table)
+    cases(&rt, rt.alloc(), "run", "", HEADLESS)?;
+    cases(&rt, rt.alloc(), "check", "", HEADLESS)
 }
 
 #[test]

@@ -17,11 +17,21 @@ const SECRET: &str = "3cfd91ab364b217387def1b512b03962bc945b8b9cd6a3119bda13d7a5
 
 const ANOTHER: &str = "0000000000000000000000000000000000000000000000000000000000000000";
 
-fn unlock(alloc: Global, secret: &str, path: &[PartyId]) -> Result<Call, Fail> {
+/// An unlock by one of the secrets, with a path or without.
+fn unlock(alloc: Global, words: &str) -> Result<Call, Fail> {
+    let secret = if words.starts_with("another") {
+        ANOTHER
+    } else {
+        SECRET
+    };
+    let mut path = Vec::new(alloc);
+    if words.ends_with("with a path") {
+        path.push(1)?;
+    }
     let key = Hashkey {
         lock: 0,
         secret: <[u8; 32] as FromHex>::from_hex(secret)?,
-        path: Listed::new(Vec::from_slice(alloc, path)?),
+        path: Listed::new(path),
         sigs: Listed::empty(alloc),
     };
     Ok(Call::Unlock(Shared::new(alloc, key)?))
@@ -46,15 +56,19 @@ fn published(rt: &impl Abort, alloc: Global) -> Result<Ledger, Fail> {
     Ok(ledger)
 }
 
-fn follows(
-    rt: &impl Abort,
-    alloc: Global,
-    ledger: &mut Ledger,
-    table: &[(&str, &[PartyId], Reply)],
-) -> Result<(), Fail> {
-    for (secret, path, wanted) in table {
-        let call = unlock(alloc, secret, path)?;
-        assert_eq!(rt; make(rt, ledger, 1, call)?, *wanted, "{secret}");
+/// Each row is what the counterparty presents, and the reply.
+const UNLOCKS: &str = "\
+another secret => WrongSecret
+another secret with a path => WrongSecret
+the secret with a path => WrongPath
+the secret => Accepted";
+
+fn follows(rt: &impl Abort, alloc: Global, ledger: &mut Ledger, table: &str) -> Result<(), Fail> {
+    for row in table.lines() {
+        let (asked, wanted) = row.split_once(" => ").ok_or("no row")?;
+        let call = unlock(alloc, asked)?;
+        let reply = make(rt, ledger, 1, call)?;
+        assert!(rt; format!(in alloc; "{reply:?}")?.as_str() == wanted, "{row}");
     }
     Ok(())
 }
@@ -62,11 +76,5 @@ fn follows(
 #[test]
 fn refuses_wrong_unlocks(rt: HostRuntime) -> Result<(), Fail> {
     let mut ledger = published(&rt, rt.alloc())?;
-    let table: [(&str, &[PartyId], Reply); 4] = [
-        (ANOTHER, &[], Reply::WrongSecret),
-        (ANOTHER, &[1], Reply::WrongSecret),
-        (SECRET, &[1], Reply::WrongPath),
-        (SECRET, &[], Reply::Accepted),
-    ];
-    follows(&rt, rt.alloc(), &mut ledger, &table)
+    follows(&rt, rt.alloc(), &mut ledger, UNLOCKS)
 }

@@ -10,9 +10,13 @@ mod deals;
 #[cfg(test)]
 mod fair;
 #[cfg(test)]
+mod generated;
+#[cfg(test)]
 mod inputs;
 #[cfg(test)]
 mod ledgers;
+#[cfg(test)]
+mod making;
 #[cfg(test)]
 mod offers;
 #[cfg(test)]

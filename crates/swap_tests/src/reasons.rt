@@ -5,7 +5,8 @@ use crate::runner::{accepts, refuses};
 use std::test::Fail;
 
 /// Edits of the header of the deal with timelocks; each row has its edits and the reason.
-const HEADER: &str = r#"# the line is no JSON text of an object
+const HEADER: &str = concat!(
+    r#"# the line is no JSON text of an object
 {"swap":1, => {"swap":1 => NotJson 1
 {"swap":1, => ["swap",1, => NotJson 1
 {"swap":1, => {"swap":01, => NotJson 1
@@ -93,8 +94,11 @@ const HEADER: &str = r#"# the line is no JSON text of an object
 "amount":100 => "amount":0 => OverLimit 1 amount 0
 "amount":100 => "amount":1000000000001 => OverLimit 1 amount 1000000000001
 "timelock":60 => "timelock":1000001 => OverLimit 1 timelock 1000001
-"arcs":[{"from":"alice","to":"bob","amount":100,"timelock":60},{"from":"bob","to":"carol","amount":5,"timelock":50},{"from":"carol","to":"alice","amount":1,"timelock":40}] => "arcs":[{"from":"alice","to":"bob","amount":100,"timelock":60}] => OverLimit 1 arcs 1
-"arcs":[{"from":"alice","to":"bob","amount":100,"timelock":60},{"from":"bob","to":"carol","amount":5,"timelock":50},{"from":"carol","to":"alice","amount":1,"timelock":40}] => "arcs":[] => OverLimit 1 arcs 0
+"arcs":[{"from":"alice","to":"bob","amount":100,"timelock":60},{"from":"bob","to":"carol","amount":5,"timelock":50},"#,
+    r#"{"from":"carol","to":"alice","amount":1,"timelock":40}] => "arcs":[{"from":"alice","to":"bob","amount":100,"timelock":60}] => "#,
+    r#"OverLimit 1 arcs 1
+"arcs":[{"from":"alice","to":"bob","amount":100,"timelock":60},{"from":"bob","to":"carol","amount":5,"timelock":50},"#,
+    r#"{"from":"carol","to":"alice","amount":1,"timelock":40}] => "arcs":[] => OverLimit 1 arcs 0
 "leaders":[{"party":"alice","hashlock":"ea381ac043404cf24964de83dde5ee9adbfcdcef2bb48271931448055eaaf421"}] => "leaders":[] => OverLimit 1 leaders 0
 # texts that aren't hexadecimal of their length
 "seed":"2b => "seed":"2g => WrongHex 1 seed
@@ -132,15 +136,42 @@ const HEADER: &str = r#"# the line is no JSON text of an object
 "seed":"2b => "seed":"2c => WrongWallet alice 0
 "hashlock":"ea => "hashlock":"eb => WrongWallet alice 0
 # lists with more members
-"parties":[ => "parties":[{"name":"p0"},{"name":"p1"},{"name":"p2"},{"name":"p3"},{"name":"p4"},{"name":"p5"},{"name":"p6"},{"name":"p7"},{"name":"p8"},{"name":"p9"},{"name":"p10"},{"name":"p11"},{"name":"p12"},{"name":"p13"},{"name":"p14"},{"name":"p15"},{"name":"p16"},{"name":"p17"},{"name":"p18"},{"name":"p19"},{"name":"p20"},{"name":"p21"}, => OverLimit 1 parties 25
-,{"name":"bob","seed":"81b637d8fcd2c6da6359e6963113a1170de795e4b725b84d1e0b4cfd9ec58ce9"},{"name":"carol","seed":"4c26d9074c27d89ede59270c0ac14b71e071b15239519f75474b2f3ba63481f5"} =>  && "to":"bob" => "to":"alice" && "from":"bob" => "from":"alice" && "to":"carol" => "to":"alice" && "from":"carol" => "from":"alice" => OverLimit 1 parties 1
-"parties":[{"name":"alice","seed":"2bd806c97f0e00af1a1fc3328fa763a9269723c8db8fac4f93af71db186d6e90"},{"name":"bob","seed":"81b637d8fcd2c6da6359e6963113a1170de795e4b725b84d1e0b4cfd9ec58ce9"},{"name":"carol","seed":"4c26d9074c27d89ede59270c0ac14b71e071b15239519f75474b2f3ba63481f5"} => "parties":[ && "arcs":[{"from":"alice","to":"bob","amount":100,"timelock":60},{"from":"bob","to":"carol","amount":5,"timelock":50},{"from":"carol","to":"alice","amount":1,"timelock":40}] => "arcs":[] && "leaders":[{"party":"alice","hashlock":"ea381ac043404cf24964de83dde5ee9adbfcdcef2bb48271931448055eaaf421"}] => "leaders":[] => OverLimit 1 parties 0
-"parties":[ => "parties":[{"name":"p0"},{"name":"p1"},{"name":"p2"},{"name":"p3"},{"name":"p4"},{"name":"p5"},{"name":"p6"},{"name":"p7"},{"name":"p8"},{"name":"p9"},{"name":"p10"},{"name":"p11"},{"name":"p12"},{"name":"p13"},{"name":"p14"},{"name":"p15"},{"name":"p16"},{"name":"p17"},{"name":"p18"},{"name":"p19"},{"name":"p20"}, => NotStrong p0
-"parties":[ => "parties":[{"name":"p0"},{"name":"p1"},{"name":"p2"},{"name":"p3"},{"name":"p4"},{"name":"p5"},{"name":"p6"},{"name":"p7"}, && "leaders":[ => "leaders":[{"party":"p0","hashlock":"00"},{"party":"p1","hashlock":"00"},{"party":"p2","hashlock":"00"},{"party":"p3","hashlock":"00"},{"party":"p4","hashlock":"00"},{"party":"p5","hashlock":"00"},{"party":"p6","hashlock":"00"},{"party":"p7","hashlock":"00"}, => OverLimit 1 leaders 9
-"parties":[ => "parties":[{"name":"p0"},{"name":"p1"},{"name":"p2"},{"name":"p3"},{"name":"p4"},{"name":"p5"},{"name":"p6"},{"name":"p7"}, && "leaders":[ => "leaders":[{"party":"p0","hashlock":"0000000000000000000000000000000000000000000000000000000000000000"},{"party":"p1","hashlock":"0000000000000000000000000000000000000000000000000000000000000000"},{"party":"p2","hashlock":"0000000000000000000000000000000000000000000000000000000000000000"},{"party":"p3","hashlock":"0000000000000000000000000000000000000000000000000000000000000000"},{"party":"p4","hashlock":"0000000000000000000000000000000000000000000000000000000000000000"},{"party":"p5","hashlock":"0000000000000000000000000000000000000000000000000000000000000000"},{"party":"p6","hashlock":"0000000000000000000000000000000000000000000000000000000000000000"}, => NotStrong p0
+"parties":[ => "parties":[{"name":"p0"},{"name":"p1"},{"name":"p2"},{"name":"p3"},{"name":"p4"},{"name":"p5"},{"name":"p6"},"#,
+    r#"{"name":"p7"},{"name":"p8"},{"name":"p9"},{"name":"p10"},{"name":"p11"},{"name":"p12"},{"name":"p13"},{"name":"p14"},{"name":"p15"},"#,
+    r#"{"name":"p16"},{"name":"p17"},{"name":"p18"},{"name":"p19"},{"name":"p20"},{"name":"p21"}, => OverLimit 1 parties 25
+,{"name":"bob","seed":"81b637d8fcd2c6da6359e6963113a1170de795e4b725b84d1e0b4cfd9ec58ce9"},"#,
+    r#"{"name":"carol","seed":"4c26d9074c27d89ede59270c0ac14b71e071b15239519f75474b2f3ba63481f5"} =>  && "to":"bob" => "to":"alice" && "#,
+    r#""from":"bob" => "from":"alice" && "to":"carol" => "to":"alice" && "from":"carol" => "from":"alice" => OverLimit 1 parties 1
+"parties":[{"name":"alice","seed":"2bd806c97f0e00af1a1fc3328fa763a9269723c8db8fac4f93af71db186d6e90"},"#,
+    r#"{"name":"bob","seed":"81b637d8fcd2c6da6359e6963113a1170de795e4b725b84d1e0b4cfd9ec58ce9"},"#,
+    r#"{"name":"carol","seed":"4c26d9074c27d89ede59270c0ac14b71e071b15239519f75474b2f3ba63481f5"} => "parties":[ && "#,
+    r#""arcs":[{"from":"alice","to":"bob","amount":100,"timelock":60},{"from":"bob","to":"carol","amount":5,"timelock":50},"#,
+    r#"{"from":"carol","to":"alice","amount":1,"timelock":40}] => "arcs":[] && "#,
+    r#""leaders":[{"party":"alice","hashlock":"ea381ac043404cf24964de83dde5ee9adbfcdcef2bb48271931448055eaaf421"}] => "leaders":[] => "#,
+    r#"OverLimit 1 parties 0
+"parties":[ => "parties":[{"name":"p0"},{"name":"p1"},{"name":"p2"},{"name":"p3"},{"name":"p4"},{"name":"p5"},{"name":"p6"},"#,
+    r#"{"name":"p7"},{"name":"p8"},{"name":"p9"},{"name":"p10"},{"name":"p11"},{"name":"p12"},{"name":"p13"},{"name":"p14"},{"name":"p15"},"#,
+    r#"{"name":"p16"},{"name":"p17"},{"name":"p18"},{"name":"p19"},{"name":"p20"}, => NotStrong p0
+"parties":[ => "parties":[{"name":"p0"},{"name":"p1"},{"name":"p2"},{"name":"p3"},{"name":"p4"},{"name":"p5"},{"name":"p6"},"#,
+    r#"{"name":"p7"}, && "leaders":[ => "leaders":[{"party":"p0","hashlock":"00"},{"party":"p1","hashlock":"00"},"#,
+    r#"{"party":"p2","hashlock":"00"},{"party":"p3","hashlock":"00"},{"party":"p4","hashlock":"00"},{"party":"p5","hashlock":"00"},"#,
+    r#"{"party":"p6","hashlock":"00"},{"party":"p7","hashlock":"00"}, => OverLimit 1 leaders 9
+"parties":[ => "parties":[{"name":"p0"},{"name":"p1"},{"name":"p2"},{"name":"p3"},{"name":"p4"},{"name":"p5"},{"name":"p6"},"#,
+    r#"{"name":"p7"}, && "leaders":[ => "leaders":[{"party":"p0","hashlock":"#,
+    r#""0000000000000000000000000000000000000000000000000000000000000000"},"#,
+    r#"{"party":"p1","hashlock":"0000000000000000000000000000000000000000000000000000000000000000"},"#,
+    r#"{"party":"p2","hashlock":"0000000000000000000000000000000000000000000000000000000000000000"},"#,
+    r#"{"party":"p3","hashlock":"0000000000000000000000000000000000000000000000000000000000000000"},"#,
+    r#"{"party":"p4","hashlock":"0000000000000000000000000000000000000000000000000000000000000000"},"#,
+    r#"{"party":"p5","hashlock":"0000000000000000000000000000000000000000000000000000000000000000"},"#,
+    r#"{"party":"p6","hashlock":"0000000000000000000000000000000000000000000000000000000000000000"}, => NotStrong p0
 # leaders
-"leaders":[ => "leaders":[{"party":"bob","hashlock":"0000000000000000000000000000000000000000000000000000000000000000"}, && "arcs":[ => "arcs":[{"from":"carol","to":"bob","amount":1,"timelock":0}, => ManyLeaders 2
-"party":"alice" => "party":"bob" && "arcs":[ => "arcs":[{"from":"carol","to":"alice","amount":1,"timelock":0}, && "from":"carol","to":"alice","amount":1,"timelock":40 => "from":"alice","to":"carol","amount":1,"timelock":40 => NotFeedback alice,carol"#;
+"leaders":[ => "leaders":[{"party":"bob","hashlock":"0000000000000000000000000000000000000000000000000000000000000000"},"#,
+    r#" && "arcs":[ => "arcs":[{"from":"carol","to":"bob","amount":1,"timelock":0}, => ManyLeaders 2
+"party":"alice" => "party":"bob" && "arcs":[ => "arcs":[{"from":"carol","to":"alice","amount":1,"timelock":0},"#,
+    r#" && "from":"carol","to":"alice","amount":1,"timelock":40 => "from":"alice","to":"carol","amount":1,"timelock":40 => "#,
+    r#"NotFeedback alice,carol"#,
+);
 
 /// Two edits at once, which show the order of the reasons.
 const ORDER: &str = r#"# of two reasons the first
@@ -188,7 +219,8 @@ const KEYS: &str = r#""keys":[ => "key":[ => Missing 1 keys
 "hashlock":"ea => "hashlock":"eb => WrongWallet alice 0"#;
 
 /// Edits of an event on the second line.
-const EVENTS: &str = r#"# fields
+const EVENTS: &str = concat!(
+    r#"# fields
 {"tick":0} => {} => Missing 2 tick
 {"tick":0} => {"by":1} => Missing 2 tick
 {"tick":0} => {"tick":"0"} => WrongKind 2 tick
@@ -246,9 +278,16 @@ const EVENTS: &str = r#"# fields
 {"tick":0} => {"call":"alice","move":{"do":"publish","arc":0,"locks":["00"]}} => WrongHex 2 locks
 {"tick":0} => {"call":"alice","move":{"do":"raw","arc":2,"lock":1,"secret":"","path":[],"sigs":[]}} => OverLimit 2 lock 1
 {"tick":0} => {"call":"alice","move":{"do":"raw","arc":2,"lock":0,"secret":"00","path":[],"sigs":[]}} => WrongHex 2 secret
-{"tick":0} => {"call":"alice","move":{"do":"raw","arc":2,"lock":0,"secret":"0000000000000000000000000000000000000000000000000000000000000000","path":["bob","bob","bob","bob","bob","bob","bob","bob","bob","bob","bob","bob","bob","bob","bob","bob","bob","bob","bob","bob","bob","bob","bob","bob","bob"],"sigs":[]}} => OverLimit 2 path 25
-{"tick":0} => {"call":"alice","move":{"do":"raw","arc":2,"lock":0,"secret":"0000000000000000000000000000000000000000000000000000000000000000","path":["bob","bob","bob","bob","bob","bob","bob","bob","bob","bob","bob","bob","bob","bob","bob","bob","bob","bob","bob","bob","bob","bob","bob","bob"],"sigs":["","","","","","","","","","","","","","","","","","","","","","","","",""]}} => OverLimit 2 sigs 25
-{"tick":0} => {"call":"alice","move":{"do":"raw","arc":2,"lock":0,"secret":"0000000000000000000000000000000000000000000000000000000000000000","path":[],"sigs":["","",""]}} => WrongHex 2 sigs
+{"tick":0} => {"call":"alice","move":{"do":"raw","arc":2,"lock":0,"#,
+    r#""secret":"0000000000000000000000000000000000000000000000000000000000000000","path":["bob","bob","bob","bob","bob","bob","bob","bob","#,
+    r#""bob","bob","bob","bob","bob","bob","bob","bob","bob","bob","bob","bob","bob","bob","bob","bob","bob"],"sigs":[]}} => "#,
+    r#"OverLimit 2 path 25
+{"tick":0} => {"call":"alice","move":{"do":"raw","arc":2,"lock":0,"#,
+    r#""secret":"0000000000000000000000000000000000000000000000000000000000000000","path":["bob","bob","bob","bob","bob","bob","bob","bob","#,
+    r#""bob","bob","bob","bob","bob","bob","bob","bob","bob","bob","bob","bob","bob","bob","bob","bob"],"#,
+    r#""sigs":["","","","","","","","","","","","","","","","","","","","","","","","",""]}} => OverLimit 2 sigs 25
+{"tick":0} => {"call":"alice","move":{"do":"raw","arc":2,"lock":0,"#,
+    r#""secret":"0000000000000000000000000000000000000000000000000000000000000000","path":[],"sigs":["","",""]}} => WrongHex 2 sigs
 {"tick":0} => {"call":"alice","move":{"do":"transfer","arc":0,"to":"bob","units":1000000000001}} => OverLimit 2 units 1000000000001
 # who may
 {"tick":0} => {"call":"bob","move":{"do":"claim","arc":0}} => ConformingCall 2
@@ -257,15 +296,43 @@ const EVENTS: &str = r#"# fields
 {"tick":0} => {"look":"bob","arc":2} => NotAdjacent 2
 {"tick":0} => {"call":"alice","move":{"do":"refund","arc":1}} => NotAdjacent 2
 {"tick":0} => {"call":"alice","move":{"do":"transfer","arc":1,"to":"bob","units":1}} => NotAdjacent 2
-{"tick":0} => {"call":"alice","move":{"do":"transfer","arc":0,"to":"carol","units":1}} => NotAdjacent 2"#;
+{"tick":0} => {"call":"alice","move":{"do":"transfer","arc":0,"to":"carol","units":1}} => NotAdjacent 2"#,
+);
 
 /// What a job asks for and isn't built.
-const UNBUILT: &str = r#""name":"bob" => "name":"bob","actor":{"script":[]} => NotBuilt 1 actor
-{"tick":0} => {"call":"alice","move":{"do":"craft","arc":2,"lock":0,"via":["alice"]}} => NotBuilt 2 do
-{"tick":0} => {"call":"alice","move":{"do":"replay","arc":2,"from":0}} => NotBuilt 2 do"#;
+const UNBUILT: &str = r#""name":"bob" => "name":"bob","actor":{"script":[]} => NotBuilt 1 actor"#;
+
+/// Crafted and replayed hashkeys that are refused.
+const CRAFTS: &str = r#"# fields
+{"tick":0} => {"call":"alice","move":{"do":"craft","arc":2}} => Missing 2 lock
+{"tick":0} => {"call":"alice","move":{"do":"craft","arc":2,"lock":0}} => Missing 2 via
+{"tick":0} => {"call":"alice","move":{"do":"craft","arc":2,"lock":0,"via":"alice"}} => WrongKind 2 via
+{"tick":0} => {"call":"alice","move":{"do":"craft","arc":2,"lock":0,"via":[0]}} => WrongKind 2 via
+{"tick":0} => {"call":"alice","move":{"do":"craft","arc":2,"lock":0,"via":["alice"],"onto":"2"}} => WrongKind 2 onto
+{"tick":0} => {"call":"alice","move":{"do":"craft","arc":2,"lock":0,"via":["alice"],"secret":""}} => UnknownField 2 secret
+{"tick":0} => {"call":"alice","move":{"do":"replay","arc":2,"from":0}} => Missing 2 lock
+{"tick":0} => {"call":"alice","move":{"do":"replay","arc":2,"lock":0}} => Missing 2 onto
+{"tick":0} => {"call":"alice","move":{"do":"replay","arc":2,"lock":0,"onto":1,"via":[]}} => UnknownField 2 via
+{"tick":0} => {"call":"alice","move":{"do":"wait","arc":2,"height":1}} => WrongKind 2 do
+# names
+{"tick":0} => {"call":"alice","move":{"do":"craft","arc":9,"lock":0,"via":["alice","dave"]}} => Unknown 2 dave
+# limits
+{"tick":0} => {"call":"alice","move":{"do":"craft","arc":3,"lock":1,"via":[]}} => OverLimit 2 arc 3
+{"tick":0} => {"call":"alice","move":{"do":"craft","arc":2,"lock":1,"via":[]}} => OverLimit 2 lock 1
+{"tick":0} => {"call":"alice","move":{"do":"craft","arc":2,"lock":0,"via":[],"onto":3}} => OverLimit 2 via 0
+{"tick":0} => {"call":"alice","move":{"do":"craft","arc":2,"lock":0,"via":["alice"],"onto":3}} => OverLimit 2 onto 3
+{"tick":0} => {"call":"alice","move":{"do":"replay","arc":2,"lock":1,"onto":3}} => OverLimit 2 lock 1
+{"tick":0} => {"call":"alice","move":{"do":"replay","arc":2,"lock":0,"onto":3}} => OverLimit 2 onto 3
+# who may
+{"tick":0} => {"call":"bob","move":{"do":"craft","arc":2,"lock":0,"via":["bob"]}} => ConformingCall 2
+{"tick":0} => {"call":"alice","move":{"do":"craft","arc":1,"lock":0,"via":["bob"]}} => NotAdjacent 2
+{"tick":0} => {"call":"alice","move":{"do":"craft","arc":2,"lock":0,"via":["alice","bob"]}} => ConformingCall 2
+{"tick":0} => {"call":"alice","move":{"do":"replay","arc":1,"lock":0,"onto":2}} => NotAdjacent 2
+"actor":"manual","seed":"2bd806c97f0e00af1a1fc3328fa763a9269723c8db8fac4f93af71db186d6e90" => "actor":"manual" && {"tick":0} => {"call":"alice","move":{"do":"craft","arc":2,"lock":0,"via":["alice"]}} => NoSeed alice"#;
 
 /// Edits that leave a good job.
-const GOOD: &str = r#""start":10 => "start":10
+const GOOD: &str = concat!(
+    r#""start":10 => "start":10
 "amount":100 => "amount":1000000000000
 "hashlock":"ea381a => "hashlock":"EA381A
 "name":"bob" => "name":"bob","actor":"conforming"
@@ -277,14 +344,28 @@ const GOOD: &str = r#""start":10 => "start":10
 {"tick":0} => {"act":"bob"}
 {"tick":0} => {"look":"bob","arc":1}
 {"tick":0} => {"tick":0,"by":null,"by":1}
-{"tick":0} => {"call":"alice","move":{"do":"publish","arc":0,"start":1000000,"delta":1000000,"bound":1000000,"timelock":1000000,"amount":1000000000000,"locks":["0000000000000000000000000000000000000000000000000000000000000000"]}}
-{"tick":0} => {"call":"alice","move":{"do":"raw","arc":2,"lock":0,"secret":"0000000000000000000000000000000000000000000000000000000000000000","path":["bob","bob","bob","bob","bob","bob","bob","bob","bob","bob","bob","bob","bob","bob","bob","bob","bob","bob","bob","bob","bob","bob","bob","bob"],"sigs":[]}}
-{"tick":0} => {"call":"alice","move":{"do":"transfer","arc":2,"to":"alice","units":1000000000000}}"#;
+{"tick":0} => {"call":"alice","move":{"do":"publish","arc":0,"start":1000000,"delta":1000000,"bound":1000000,"timelock":1000000,"#,
+    r#""amount":1000000000000,"locks":["0000000000000000000000000000000000000000000000000000000000000000"]}}
+{"tick":0} => {"call":"alice","move":{"do":"raw","arc":2,"lock":0,"#,
+    r#""secret":"0000000000000000000000000000000000000000000000000000000000000000","path":["bob","bob","bob","bob","bob","bob","bob","bob","#,
+    r#""bob","bob","bob","bob","bob","bob","bob","bob","bob","bob","bob","bob","bob","bob","bob","bob"],"sigs":[]}}
+{"tick":0} => {"call":"alice","move":{"do":"craft","arc":2,"lock":0,"via":["alice","alice"]}}
+{"tick":0} => {"call":"alice","move":{"do":"craft","arc":0,"lock":0,"via":["alice"],"onto":1}}
+{"tick":0} => {"call":"alice","move":{"do":"replay","arc":2,"lock":0,"onto":1}}
+{"tick":0} => {"call":"alice","move":{"do":"transfer","arc":2,"to":"alice","units":1000000000000}}"#,
+);
 
 /// The deal with timelocks, in which alice makes the calls of the event lines.
-const BY_HAND: &str =
-    r#"{"swap":1,"mode":"timelocks","start":10,"delta":10,"bound":2,"parties":[{"name":"alice","actor":"manual","seed":"2bd806c97f0e00af1a1fc3328fa763a9269723c8db8fac4f93af71db186d6e90"},{"name":"bob","seed":"81b637d8fcd2c6da6359e6963113a1170de795e4b725b84d1e0b4cfd9ec58ce9"},{"name":"carol","seed":"4c26d9074c27d89ede59270c0ac14b71e071b15239519f75474b2f3ba63481f5"}],"arcs":[{"from":"alice","to":"bob","amount":100,"timelock":60},{"from":"bob","to":"carol","amount":5,"timelock":50},{"from":"carol","to":"alice","amount":1,"timelock":40}],"leaders":[{"party":"alice","hashlock":"ea381ac043404cf24964de83dde5ee9adbfcdcef2bb48271931448055eaaf421"}]}
-"#;
+const BY_HAND: &str = concat!(
+    r#"{"swap":1,"mode":"timelocks","start":10,"delta":10,"bound":2,"parties":[{"name":"alice","actor":"manual","#,
+    r#""seed":"2bd806c97f0e00af1a1fc3328fa763a9269723c8db8fac4f93af71db186d6e90"},"#,
+    r#"{"name":"bob","seed":"81b637d8fcd2c6da6359e6963113a1170de795e4b725b84d1e0b4cfd9ec58ce9"},"#,
+    r#"{"name":"carol","seed":"4c26d9074c27d89ede59270c0ac14b71e071b15239519f75474b2f3ba63481f5"}],"#,
+    r#""arcs":[{"from":"alice","to":"bob","amount":100,"timelock":60},{"from":"bob","to":"carol","amount":5,"timelock":50},"#,
+    r#"{"from":"carol","to":"alice","amount":1,"timelock":40}],"leaders":[{"party":"alice","#,
+    r#""hashlock":"ea381ac043404cf24964de83dde5ee9adbfcdcef2bb48271931448055eaaf421"}]}
+"#,
+);
 
 #[test]
 fn refuses_headers(rt: HostRuntime) -> Result<(), Fail> {
@@ -304,6 +385,11 @@ fn refuses_keys(rt: HostRuntime) -> Result<(), Fail> {
 #[test]
 fn refuses_events(rt: HostRuntime) -> Result<(), Fail> {
     refuses(&rt, rt.alloc(), BY_HAND, EVENTS)
+}
+
+#[test]
+fn refuses_crafts_and_replays(rt: HostRuntime) -> Result<(), Fail> {
+    refuses(&rt, rt.alloc(), BY_HAND, CRAFTS)
 }
 
 #[test]

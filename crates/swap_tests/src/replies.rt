@@ -1,16 +1,18 @@
 //! What ledgers reply to the calls of parties that make them by hand. The reports come from the rule book by another program.
 
 use crate::deals::{HASHKEYS, TIMELOCKS};
-use crate::runner::conducts;
+use crate::runner::cases;
 use std::test::Fail;
 
-/// The edits that have all three parties make their calls by hand.
-const BY_HAND: &str =
-    r#""alice", => "alice","actor":"manual", && "bob", => "bob","actor":"manual", && "carol", => "carol","actor":"manual","#;
-
-const UNPUBLISHED: &str =
-    r#"{"call":"bob","move":{"do":"raw","arc":0,"lock":0,"secret":"3cfd91ab364b217387def1b512b03962bc945b8b9cd6a3119bda13d7a525735c","path":["bob","carol","alice"],"sigs":["<bob>","<carol>","<alice>"]}}
-{"call":"alice","move":{"do":"raw","arc":0,"lock":0,"secret":"3cfd91ab364b217387def1b512b03962bc945b8b9cd6a3119bda13d7a525735c","path":["bob","carol","alice"],"sigs":["<bob>","<carol>","<alice>"]}}
+/// The deal with hashkeys, where all three parties make their calls by hand.
+const WITH_HASHKEYS: &str = concat!(
+    r#"== before a publish
+"alice", => "alice","actor":"manual", && "bob", => "bob","actor":"manual", && "carol", => "carol","actor":"manual",
+--
+{"call":"bob","move":{"do":"raw","arc":0,"lock":0,"secret":"3cfd91ab364b217387def1b512b03962bc945b8b9cd6a3119bda13d7a525735c","path":["bob","carol","#,
+    r#""alice"],"sigs":["<bob>","<carol>","<alice>"]}}
+{"call":"alice","move":{"do":"raw","arc":0,"lock":0,"secret":"3cfd91ab364b217387def1b512b03962bc945b8b9cd6a3119bda13d7a525735c","path":["bob","carol","#,
+    r#""alice"],"sigs":["<bob>","<carol>","<alice>"]}}
 {"call":"bob","move":{"do":"claim","arc":0}}
 {"call":"alice","move":{"do":"claim","arc":0}}
 {"call":"alice","move":{"do":"refund","arc":0}}
@@ -21,9 +23,8 @@ const UNPUBLISHED: &str =
 {"call":"bob","move":{"do":"transfer","arc":0,"to":"alice","units":0}}
 {"call":"alice","move":{"do":"transfer","arc":0,"to":"alice","units":100}}
 {"call":"alice","move":{"do":"publish","arc":0}}
-"#;
-
-const UNPUBLISHED_ANSWER: &str = "named
+--
+named
 swap report 1
 swap hashkeys start 10 delta 10 bound 2
 ledger 0 alice -> bob amount 100
@@ -51,20 +52,21 @@ unfinished 0 height 0
 unfinished 1 height 0
 unfinished 2 height 0
 findings 3
-";
-
-const CLOSED: &str = r#"{"call":"alice","move":{"do":"publish","arc":0}}
+== while it is closed
+"alice", => "alice","actor":"manual", && "bob", => "bob","actor":"manual", && "carol", => "carol","actor":"manual",
+--
+{"call":"alice","move":{"do":"publish","arc":0}}
 {"call":"alice","move":{"do":"publish","arc":0}}
 {"call":"bob","move":{"do":"publish","arc":0}}
-{"call":"alice","move":{"do":"raw","arc":0,"lock":0,"secret":"3cfd91ab364b217387def1b512b03962bc945b8b9cd6a3119bda13d7a525735c","path":["bob","carol","alice"],"sigs":["<bob>","<carol>","<alice>"]}}
+{"call":"alice","move":{"do":"raw","arc":0,"lock":0,"secret":"3cfd91ab364b217387def1b512b03962bc945b8b9cd6a3119bda13d7a525735c","path":["bob","carol","#,
+    r#""alice"],"sigs":["<bob>","<carol>","<alice>"]}}
 {"call":"alice","move":{"do":"claim","arc":0}}
 {"call":"bob","move":{"do":"claim","arc":0}}
 {"call":"bob","move":{"do":"refund","arc":0}}
 {"call":"alice","move":{"do":"refund","arc":0}}
 {"call":"alice","move":{"do":"transfer","arc":0,"to":"bob","units":1}}
-"#;
-
-const CLOSED_ANSWER: &str = "named
+--
+named
 swap report 1
 swap hashkeys start 10 delta 10 bound 2
 ledger 0 alice -> bob amount 100
@@ -89,19 +91,20 @@ unfinished 0 height 0
 unfinished 1 height 0
 unfinished 2 height 0
 findings 3
-";
-
-const OPENED: &str = r#"{"call":"alice","move":{"do":"publish","arc":0}}
-{"call":"bob","move":{"do":"raw","arc":0,"lock":0,"secret":"3cfd91ab364b217387def1b512b03962bc945b8b9cd6a3119bda13d7a525735c","path":["bob","carol","alice"],"sigs":["<bob>","<carol>","<alice>"]}}
+== opened and not claimed
+"alice", => "alice","actor":"manual", && "bob", => "bob","actor":"manual", && "carol", => "carol","actor":"manual",
+--
+{"call":"alice","move":{"do":"publish","arc":0}}
+{"call":"bob","move":{"do":"raw","arc":0,"lock":0,"secret":"3cfd91ab364b217387def1b512b03962bc945b8b9cd6a3119bda13d7a525735c","path":["bob","carol","#,
+    r#""alice"],"sigs":["<bob>","<carol>","<alice>"]}}
 {"tick":0,"by":71}
 {"call":"alice","move":{"do":"refund","arc":0}}
 {"call":"bob","move":{"do":"refund","arc":0}}
 {"call":"bob","move":{"do":"claim","arc":0}}
 {"tick":1,"by":71}
 {"tick":2,"by":71}
-"#;
-
-const OPENED_ANSWER: &str = "done
+--
+done
 swap report 1
 swap hashkeys start 10 delta 10 bound 2
 ledger 0 alice -> bob amount 100
@@ -119,9 +122,10 @@ party alice deviator: Underwater
 party bob deviator: FreeRide
 party carol deviator: NoDeal
 findings 0
-";
-
-const REFUNDS: &str = r#"{"call":"alice","move":{"do":"publish","arc":0}}
+== refunds
+"alice", => "alice","actor":"manual", && "bob", => "bob","actor":"manual", && "carol", => "carol","actor":"manual",
+--
+{"call":"alice","move":{"do":"publish","arc":0}}
 {"tick":0,"by":60}
 {"call":"alice","move":{"do":"refund","arc":0}}
 {"tick":0,"by":1}
@@ -130,16 +134,16 @@ const REFUNDS: &str = r#"{"call":"alice","move":{"do":"publish","arc":0}}
 {"call":"alice","move":{"do":"refund","arc":0}}
 {"call":"bob","move":{"do":"refund","arc":0}}
 {"call":"bob","move":{"do":"claim","arc":0}}
-{"call":"bob","move":{"do":"raw","arc":0,"lock":0,"secret":"3cfd91ab364b217387def1b512b03962bc945b8b9cd6a3119bda13d7a525735c","path":["bob","carol","alice"],"sigs":["<bob>","<carol>","<alice>"]}}
+{"call":"bob","move":{"do":"raw","arc":0,"lock":0,"secret":"3cfd91ab364b217387def1b512b03962bc945b8b9cd6a3119bda13d7a525735c","path":["bob","carol","#,
+    r#""alice"],"sigs":["<bob>","<carol>","<alice>"]}}
 {"call":"alice","move":{"do":"publish","arc":0}}
 {"call":"alice","move":{"do":"transfer","arc":0,"to":"bob","units":100}}
 {"call":"alice","move":{"do":"publish","arc":0}}
 {"tick":0,"by":10}
 {"tick":1,"by":71}
 {"tick":2,"by":71}
-"#;
-
-const REFUNDS_ANSWER: &str = "done
+--
+done
 swap report 1
 swap hashkeys start 10 delta 10 bound 2
 ledger 0 alice -> bob amount 100
@@ -163,21 +167,23 @@ party alice deviator: NoDeal
 party bob deviator: NoDeal
 party carol deviator: NoDeal
 findings 0
-";
-
-const OTHER_BOUND: &str = r#"{"call":"alice","move":{"do":"publish","arc":0,"bound":1}}
+== under a bound of 1
+"alice", => "alice","actor":"manual", && "bob", => "bob","actor":"manual", && "carol", => "carol","actor":"manual",
+--
+{"call":"alice","move":{"do":"publish","arc":0,"bound":1}}
 {"tick":0,"by":40}
 {"call":"alice","move":{"do":"refund","arc":0}}
 {"tick":0,"by":1}
-{"call":"bob","move":{"do":"raw","arc":0,"lock":0,"secret":"3cfd91ab364b217387def1b512b03962bc945b8b9cd6a3119bda13d7a525735c","path":["carol","alice"],"sigs":["<carol>","<alice>"]}}
-{"call":"bob","move":{"do":"raw","arc":0,"lock":0,"secret":"3cfd91ab364b217387def1b512b03962bc945b8b9cd6a3119bda13d7a525735c","path":["bob","carol","alice"],"sigs":["<bob>","<carol>","<alice>"]}}
+{"call":"bob","move":{"do":"raw","arc":0,"lock":0,"secret":"3cfd91ab364b217387def1b512b03962bc945b8b9cd6a3119bda13d7a525735c","path":["carol","alice"],"#,
+    r#""sigs":["<carol>","<alice>"]}}
+{"call":"bob","move":{"do":"raw","arc":0,"lock":0,"secret":"3cfd91ab364b217387def1b512b03962bc945b8b9cd6a3119bda13d7a525735c","path":["bob","carol","#,
+    r#""alice"],"sigs":["<bob>","<carol>","<alice>"]}}
 {"call":"bob","move":{"do":"claim","arc":0}}
 {"tick":0,"by":30}
 {"tick":1,"by":71}
 {"tick":2,"by":71}
-"#;
-
-const OTHER_BOUND_ANSWER: &str = "done
+--
+done
 swap report 1
 swap hashkeys start 10 delta 10 bound 2
 ledger 0 alice -> bob amount 100
@@ -195,18 +201,19 @@ party alice deviator: Underwater
 party bob deviator: NoDeal
 party carol deviator: NoDeal
 findings 0
-";
-
-const OTHER_DEADLINE: &str = r#"{"call":"alice","move":{"do":"publish","arc":0,"bound":1}}
+== under a bound of 1, too late
+"alice", => "alice","actor":"manual", && "bob", => "bob","actor":"manual", && "carol", => "carol","actor":"manual",
+--
+{"call":"alice","move":{"do":"publish","arc":0,"bound":1}}
 {"tick":0,"by":51}
-{"call":"bob","move":{"do":"raw","arc":0,"lock":0,"secret":"3cfd91ab364b217387def1b512b03962bc945b8b9cd6a3119bda13d7a525735c","path":["bob","carol","alice"],"sigs":["<bob>","<carol>","<alice>"]}}
+{"call":"bob","move":{"do":"raw","arc":0,"lock":0,"secret":"3cfd91ab364b217387def1b512b03962bc945b8b9cd6a3119bda13d7a525735c","path":["bob","carol","#,
+    r#""alice"],"sigs":["<bob>","<carol>","<alice>"]}}
 {"call":"alice","move":{"do":"refund","arc":0}}
 {"tick":0,"by":20}
 {"tick":1,"by":71}
 {"tick":2,"by":71}
-"#;
-
-const OTHER_DEADLINE_ANSWER: &str = "done
+--
+done
 swap report 1
 swap hashkeys start 10 delta 10 bound 2
 ledger 0 alice -> bob amount 100
@@ -222,17 +229,18 @@ party alice deviator: NoDeal
 party bob deviator: NoDeal
 party carol deviator: NoDeal
 findings 0
-";
-
-const OTHER_AMOUNT: &str = r#"{"call":"alice","move":{"do":"publish","arc":0,"amount":101}}
+== of another amount
+"alice", => "alice","actor":"manual", && "bob", => "bob","actor":"manual", && "carol", => "carol","actor":"manual",
+--
+{"call":"alice","move":{"do":"publish","arc":0,"amount":101}}
 {"call":"alice","move":{"do":"publish","arc":0,"amount":7}}
 {"call":"alice","move":{"do":"transfer","arc":0,"to":"bob","units":94}}
 {"call":"alice","move":{"do":"transfer","arc":0,"to":"bob","units":93}}
-{"call":"bob","move":{"do":"raw","arc":0,"lock":0,"secret":"3cfd91ab364b217387def1b512b03962bc945b8b9cd6a3119bda13d7a525735c","path":["bob","carol","alice"],"sigs":["<bob>","<carol>","<alice>"]}}
+{"call":"bob","move":{"do":"raw","arc":0,"lock":0,"secret":"3cfd91ab364b217387def1b512b03962bc945b8b9cd6a3119bda13d7a525735c","path":["bob","carol","#,
+    r#""alice"],"sigs":["<bob>","<carol>","<alice>"]}}
 {"call":"bob","move":{"do":"claim","arc":0}}
-"#;
-
-const OTHER_AMOUNT_ANSWER: &str = "named
+--
+named
 swap report 1
 swap hashkeys start 10 delta 10 bound 2
 ledger 0 alice -> bob amount 100
@@ -254,18 +262,19 @@ unfinished 0 height 0
 unfinished 1 height 0
 unfinished 2 height 0
 findings 3
-";
-
-const NO_AMOUNT: &str = r#"{"call":"alice","move":{"do":"publish","arc":0,"amount":0}}
-{"call":"bob","move":{"do":"raw","arc":0,"lock":0,"secret":"3cfd91ab364b217387def1b512b03962bc945b8b9cd6a3119bda13d7a525735c","path":["bob","carol","alice"],"sigs":["<bob>","<carol>","<alice>"]}}
+== of no amount
+"alice", => "alice","actor":"manual", && "bob", => "bob","actor":"manual", && "carol", => "carol","actor":"manual",
+--
+{"call":"alice","move":{"do":"publish","arc":0,"amount":0}}
+{"call":"bob","move":{"do":"raw","arc":0,"lock":0,"secret":"3cfd91ab364b217387def1b512b03962bc945b8b9cd6a3119bda13d7a525735c","path":["bob","carol","#,
+    r#""alice"],"sigs":["<bob>","<carol>","<alice>"]}}
 {"call":"bob","move":{"do":"claim","arc":0}}
 {"call":"alice","move":{"do":"publish","arc":0}}
 {"tick":0,"by":71}
 {"tick":1,"by":71}
 {"tick":2,"by":71}
-"#;
-
-const NO_AMOUNT_ANSWER: &str = "done
+--
+done
 swap report 1
 swap hashkeys start 10 delta 10 bound 2
 ledger 0 alice -> bob amount 100
@@ -282,14 +291,14 @@ party alice deviator: Underwater
 party bob deviator: NoDeal
 party carol deviator: NoDeal
 findings 0
-";
-
-const SAME_TERMS: &str =
-    r#"{"call":"alice","move":{"do":"publish","arc":0,"start":10,"delta":10,"bound":2,"timelock":0,"amount":100,"locks":["EA381AC043404CF24964DE83DDE5EE9ADBFCDCEF2BB48271931448055EAAF421"]}}
+== with the terms of the deal
+"alice", => "alice","actor":"manual", && "bob", => "bob","actor":"manual", && "carol", => "carol","actor":"manual",
+--
+{"call":"alice","move":{"do":"publish","arc":0,"start":10,"delta":10,"bound":2,"timelock":0,"amount":100,"#,
+    r#""locks":["EA381AC043404CF24964DE83DDE5EE9ADBFCDCEF2BB48271931448055EAAF421"]}}
 {"call":"bob","move":{"do":"publish","arc":1,"timelock":50}}
-"#;
-
-const SAME_TERMS_ANSWER: &str = "named
+--
+named
 swap report 1
 swap hashkeys start 10 delta 10 bound 2
 ledger 0 alice -> bob amount 100
@@ -307,14 +316,14 @@ unfinished 0 height 0
 unfinished 1 height 0
 unfinished 2 height 0
 findings 3
-";
-
-const LESS: &str = r#"{"call":"alice","move":{"do":"transfer","arc":0,"to":"bob","units":1}}
+== a publish after a transfer
+"alice", => "alice","actor":"manual", && "bob", => "bob","actor":"manual", && "carol", => "carol","actor":"manual",
+--
+{"call":"alice","move":{"do":"transfer","arc":0,"to":"bob","units":1}}
 {"call":"alice","move":{"do":"publish","arc":0}}
 {"call":"alice","move":{"do":"publish","arc":0,"amount":99}}
-"#;
-
-const LESS_ANSWER: &str = "named
+--
+named
 swap report 1
 swap hashkeys start 10 delta 10 bound 2
 ledger 0 alice -> bob amount 100
@@ -333,9 +342,9 @@ unfinished 0 height 0
 unfinished 1 height 0
 unfinished 2 height 0
 findings 3
-";
-
-const FULL: &str = r#"{"call":"bob","move":{"do":"claim","arc":0}}
+== 33 calls of one party
+"alice", => "alice","actor":"manual", && "bob", => "bob","actor":"manual", && "carol", => "carol","actor":"manual",
+--
 {"call":"bob","move":{"do":"claim","arc":0}}
 {"call":"bob","move":{"do":"claim","arc":0}}
 {"call":"bob","move":{"do":"claim","arc":0}}
@@ -368,13 +377,14 @@ const FULL: &str = r#"{"call":"bob","move":{"do":"claim","arc":0}}
 {"call":"bob","move":{"do":"claim","arc":0}}
 {"call":"bob","move":{"do":"claim","arc":0}}
 {"call":"bob","move":{"do":"claim","arc":0}}
-{"call":"bob","move":{"do":"raw","arc":0,"lock":0,"secret":"3cfd91ab364b217387def1b512b03962bc945b8b9cd6a3119bda13d7a525735c","path":["bob","carol","alice"],"sigs":["<bob>","<carol>","<alice>"]}}
+{"call":"bob","move":{"do":"claim","arc":0}}
+{"call":"bob","move":{"do":"raw","arc":0,"lock":0,"secret":"3cfd91ab364b217387def1b512b03962bc945b8b9cd6a3119bda13d7a525735c","path":["bob","carol","#,
+    r#""alice"],"sigs":["<bob>","<carol>","<alice>"]}}
 {"call":"bob","move":{"do":"transfer","arc":0,"to":"alice","units":0}}
 {"call":"alice","move":{"do":"publish","arc":0}}
 {"call":"bob","move":{"do":"publish","arc":1}}
-"#;
-
-const FULL_ANSWER: &str = "named
+--
+named
 swap report 1
 swap hashkeys start 10 delta 10 bound 2
 ledger 0 alice -> bob amount 100
@@ -424,9 +434,10 @@ unfinished 0 height 0
 unfinished 1 height 0
 unfinished 2 height 0
 findings 3
-";
-
-const CLOCK: &str = r#"{"tick":0,"by":999999}
+== the last height of a ledger
+"alice", => "alice","actor":"manual", && "bob", => "bob","actor":"manual", && "carol", => "carol","actor":"manual",
+--
+{"tick":0,"by":999999}
 {"tick":0,"by":2}
 {"tick":0,"by":1}
 {"tick":0,"by":1}
@@ -435,9 +446,8 @@ const CLOCK: &str = r#"{"tick":0,"by":999999}
 {"tick":1,"by":1000000}
 {"tick":1,"by":1}
 {"tick":2,"by":71}
-"#;
-
-const CLOCK_ANSWER: &str = "done
+--
+done
 swap report 1
 swap hashkeys start 10 delta 10 bound 2
 ledger 0 alice -> bob amount 100
@@ -452,14 +462,21 @@ party alice deviator: NoDeal
 party bob deviator: NoDeal
 party carol deviator: NoDeal
 findings 0
-";
+"#,
+);
 
-const TIMELOCKED: &str = r#"{"call":"alice","move":{"do":"publish","arc":0}}
+/// The deal with timelocks, likewise.
+const WITH_TIMELOCKS: &str = concat!(
+    r#"== a secret alone
+"alice", => "alice","actor":"manual", && "bob", => "bob","actor":"manual", && "carol", => "carol","actor":"manual",
+--
+{"call":"alice","move":{"do":"publish","arc":0}}
 {"call":"bob","move":{"do":"publish","arc":1}}
 {"call":"bob","move":{"do":"raw","arc":0,"lock":0,"secret":"0000000000000000000000000000000000000000000000000000000000000000","path":[],"sigs":[]}}
 {"call":"bob","move":{"do":"raw","arc":0,"lock":0,"secret":"3cfd91ab364b217387def1b512b03962bc945b8b9cd6a3119bda13d7a525735c","path":["bob"],"sigs":[]}}
 {"call":"bob","move":{"do":"raw","arc":0,"lock":0,"secret":"3cfd91ab364b217387def1b512b03962bc945b8b9cd6a3119bda13d7a525735c","path":[],"sigs":["<none>"]}}
-{"call":"bob","move":{"do":"raw","arc":0,"lock":0,"secret":"3cfd91ab364b217387def1b512b03962bc945b8b9cd6a3119bda13d7a525735c","path":["bob","carol","alice"],"sigs":["<bob>","<carol>","<alice>"]}}
+{"call":"bob","move":{"do":"raw","arc":0,"lock":0,"secret":"3cfd91ab364b217387def1b512b03962bc945b8b9cd6a3119bda13d7a525735c","path":["bob","carol","#,
+    r#""alice"],"sigs":["<bob>","<carol>","<alice>"]}}
 {"call":"alice","move":{"do":"raw","arc":0,"lock":0,"secret":"3cfd91ab364b217387def1b512b03962bc945b8b9cd6a3119bda13d7a525735c","path":[],"sigs":[]}}
 {"tick":0,"by":60}
 {"call":"bob","move":{"do":"raw","arc":0,"lock":0,"secret":"3cfd91ab364b217387def1b512b03962bc945b8b9cd6a3119bda13d7a525735c","path":[],"sigs":[]}}
@@ -473,9 +490,8 @@ const TIMELOCKED: &str = r#"{"call":"alice","move":{"do":"publish","arc":0}}
 {"tick":0,"by":11}
 {"tick":1,"by":20}
 {"tick":2,"by":71}
-"#;
-
-const TIMELOCKED_ANSWER: &str = "done
+--
+done
 swap report 1
 swap timelocks start 10 delta 10 bound 2
 ledger 0 alice -> bob amount 100
@@ -502,17 +518,17 @@ party alice deviator: Underwater
 party bob deviator: FreeRide
 party carol deviator: NoDeal
 findings 0
-";
-
-const OTHER_TIMELOCK: &str = r#"{"call":"alice","move":{"do":"publish","arc":0,"timelock":7}}
+== under another timelock
+"alice", => "alice","actor":"manual", && "bob", => "bob","actor":"manual", && "carol", => "carol","actor":"manual",
+--
+{"call":"alice","move":{"do":"publish","arc":0,"timelock":7}}
 {"tick":0,"by":7}
 {"call":"alice","move":{"do":"refund","arc":0}}
 {"tick":0,"by":1}
 {"call":"bob","move":{"do":"raw","arc":0,"lock":0,"secret":"3cfd91ab364b217387def1b512b03962bc945b8b9cd6a3119bda13d7a525735c","path":[],"sigs":[]}}
 {"call":"alice","move":{"do":"refund","arc":0}}
-"#;
-
-const OTHER_TIMELOCK_ANSWER: &str = "named
+--
+named
 swap report 1
 swap timelocks start 10 delta 10 bound 2
 ledger 0 alice -> bob amount 100
@@ -532,57 +548,15 @@ unfinished 0 height 8
 unfinished 1 height 0
 unfinished 2 height 0
 findings 3
-";
+"#,
+);
 
 #[test]
 fn replies_to_calls(rt: HostRuntime) -> Result<(), Fail> {
-    let table = [
-        ("before a publish", BY_HAND, UNPUBLISHED, UNPUBLISHED_ANSWER),
-        ("while it is closed", BY_HAND, CLOSED, CLOSED_ANSWER),
-        ("opened and not claimed", BY_HAND, OPENED, OPENED_ANSWER),
-        ("refunds", BY_HAND, REFUNDS, REFUNDS_ANSWER),
-        (
-            "under a bound of 1",
-            BY_HAND,
-            OTHER_BOUND,
-            OTHER_BOUND_ANSWER,
-        ),
-        (
-            "under a bound of 1, too late",
-            BY_HAND,
-            OTHER_DEADLINE,
-            OTHER_DEADLINE_ANSWER,
-        ),
-        (
-            "of another amount",
-            BY_HAND,
-            OTHER_AMOUNT,
-            OTHER_AMOUNT_ANSWER,
-        ),
-        ("of no amount", BY_HAND, NO_AMOUNT, NO_AMOUNT_ANSWER),
-        (
-            "with the terms of the deal",
-            BY_HAND,
-            SAME_TERMS,
-            SAME_TERMS_ANSWER,
-        ),
-        ("a publish after a transfer", BY_HAND, LESS, LESS_ANSWER),
-        ("33 calls of one party", BY_HAND, FULL, FULL_ANSWER),
-        ("the last height of a ledger", BY_HAND, CLOCK, CLOCK_ANSWER),
-    ];
-    conducts(&rt, rt.alloc(), "run", HASHKEYS, &table)
+    cases(&rt, rt.alloc(), "run", HASHKEYS, WITH_HASHKEYS)
 }
 
 #[test]
 fn replies_with_timelocks(rt: HostRuntime) -> Result<(), Fail> {
-    let table = [
-        ("a secret alone", BY_HAND, TIMELOCKED, TIMELOCKED_ANSWER),
-        (
-            "under another timelock",
-            BY_HAND,
-            OTHER_TIMELOCK,
-            OTHER_TIMELOCK_ANSWER,
-        ),
-    ];
-    conducts(&rt, rt.alloc(), "run", TIMELOCKS, &table)
+    cases(&rt, rt.alloc(), "run", TIMELOCKS, WITH_TIMELOCKS)
 }

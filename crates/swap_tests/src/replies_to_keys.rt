@@ -1,27 +1,40 @@
 //! What ledgers reply to hashkeys that parties present by hand. The reports come from the rule book by another program.
 
 use crate::deals::HASHKEYS;
-use crate::runner::conducts;
+use crate::runner::cases;
 use std::test::Fail;
 
-/// The edits that have all three parties make their calls by hand.
-const BY_HAND: &str =
-    r#""alice", => "alice","actor":"manual", && "bob", => "bob","actor":"manual", && "carol", => "carol","actor":"manual","#;
-
 /// Three parties of whom two lead, all by hand.
-const TWO_LEADERS: &str =
-    r#"{"swap":1,"mode":"hashkeys","start":10,"delta":10,"bound":2,"parties":[{"name":"a","actor":"manual"},{"name":"b","actor":"manual"},{"name":"c","actor":"manual"}],"arcs":[{"from":"a","to":"b","amount":1},{"from":"b","to":"a","amount":1},{"from":"b","to":"c","amount":1},{"from":"c","to":"a","amount":1}],"leaders":[{"party":"a","hashlock":"d621fc44e761dd2e6709de873cedc50a6b731539fe930f4d927b9894262c3f09"},{"party":"b","hashlock":"4cb601008ecbea9e403b05f7e851766c4dafdebc4184fa6a6b00cf5c85011752"}],"finish":"stop","keys":[["37685c623ad2736a37d5a69faa07b989b63f6be3742dcf453201cea7ac3b4beb","3f1d4fe12dfee7e93ac096b77a4b6f7cb3b4ef4453f56c6952ca69557e84df3b"],["d2dfcc20f32c35313e4a0588b92df68154966d2ae589a5a2b0e56dd5f0ef81e6","36145da11c0f079d2b420307ad1f378329b0786f75516dcf4fe9fab5ad62c56d"],["4a0620154ef1fd24b94576bf51416777c8de64850edb498d430f354ddece3942","036155481350f8af7779c9ef5ce6c5a5d5e980a14870410a25298559026211c2"]]}
-"#;
+const TWO_LEADERS: &str = concat!(
+    r#"{"swap":1,"mode":"hashkeys","start":10,"delta":10,"bound":2,"parties":[{"name":"a","actor":"manual"},{"name":"b","actor":"manual"},"#,
+    r#"{"name":"c","actor":"manual"}],"arcs":[{"from":"a","to":"b","amount":1},{"from":"b","to":"a","amount":1},"#,
+    r#"{"from":"b","to":"c","amount":1},{"from":"c","to":"a","amount":1}],"#,
+    r#""leaders":[{"party":"a","hashlock":"d621fc44e761dd2e6709de873cedc50a6b731539fe930f4d927b9894262c3f09"},"#,
+    r#"{"party":"b","hashlock":"4cb601008ecbea9e403b05f7e851766c4dafdebc4184fa6a6b00cf5c85011752"}],"#,
+    r#""finish":"stop","keys":[["37685c623ad2736a37d5a69faa07b989b63f6be3742dcf453201cea7ac3b4beb","#,
+    r#""3f1d4fe12dfee7e93ac096b77a4b6f7cb3b4ef4453f56c6952ca69557e84df3b"],"#,
+    r#"["d2dfcc20f32c35313e4a0588b92df68154966d2ae589a5a2b0e56dd5f0ef81e6","36145da11c0f079d2b420307ad1f378329b0786f75516dcf4fe9fab5ad62c56d"],"#,
+    r#"["4a0620154ef1fd24b94576bf51416777c8de64850edb498d430f354ddece3942","#,
+    r#""036155481350f8af7779c9ef5ce6c5a5d5e980a14870410a25298559026211c2"]]}
+"#,
+);
 
-const SECRETS: &str = r#"{"call":"alice","move":{"do":"publish","arc":0}}
-{"call":"bob","move":{"do":"raw","arc":0,"lock":0,"secret":"0000000000000000000000000000000000000000000000000000000000000000","path":["bob","carol","alice"],"sigs":["<bob>","<carol>","<alice>"]}}
+/// The deal with hashkeys, where all three parties make their calls by hand.
+const ONE_LOCK: &str = concat!(
+    r#"== another secret
+"alice", => "alice","actor":"manual", && "bob", => "bob","actor":"manual", && "carol", => "carol","actor":"manual",
+--
+{"call":"alice","move":{"do":"publish","arc":0}}
+{"call":"bob","move":{"do":"raw","arc":0,"lock":0,"secret":"0000000000000000000000000000000000000000000000000000000000000000","path":["bob","carol","#,
+    r#""alice"],"sigs":["<bob>","<carol>","<alice>"]}}
 {"call":"bob","move":{"do":"raw","arc":0,"lock":0,"secret":"0000000000000000000000000000000000000000000000000000000000000000","path":[],"sigs":[]}}
-{"call":"bob","move":{"do":"raw","arc":0,"lock":0,"secret":"ea381ac043404cf24964de83dde5ee9adbfcdcef2bb48271931448055eaaf421","path":["bob","carol","alice"],"sigs":["<bob>","<carol>","<alice>"]}}
+{"call":"bob","move":{"do":"raw","arc":0,"lock":0,"secret":"ea381ac043404cf24964de83dde5ee9adbfcdcef2bb48271931448055eaaf421","path":["bob","carol","#,
+    r#""alice"],"sigs":["<bob>","<carol>","<alice>"]}}
 {"tick":0,"by":61}
-{"call":"bob","move":{"do":"raw","arc":0,"lock":0,"secret":"0000000000000000000000000000000000000000000000000000000000000000","path":["bob","carol","alice"],"sigs":["<bob>","<carol>","<alice>"]}}
-"#;
-
-const SECRETS_ANSWER: &str = "named
+{"call":"bob","move":{"do":"raw","arc":0,"lock":0,"secret":"0000000000000000000000000000000000000000000000000000000000000000","path":["bob","carol","#,
+    r#""alice"],"sigs":["<bob>","<carol>","<alice>"]}}
+--
+named
 swap report 1
 swap hashkeys start 10 delta 10 bound 2
 ledger 0 alice -> bob amount 100
@@ -42,28 +55,40 @@ unfinished 0 height 61
 unfinished 1 height 0
 unfinished 2 height 0
 findings 3
-";
-
-const PATHS: &str = r#"{"call":"alice","move":{"do":"publish","arc":0}}
+== no path on the arc
+"alice", => "alice","actor":"manual", && "bob", => "bob","actor":"manual", && "carol", => "carol","actor":"manual",
+--
+{"call":"alice","move":{"do":"publish","arc":0}}
 {"call":"carol","move":{"do":"publish","arc":2}}
 {"call":"bob","move":{"do":"raw","arc":0,"lock":0,"secret":"3cfd91ab364b217387def1b512b03962bc945b8b9cd6a3119bda13d7a525735c","path":[],"sigs":[]}}
-{"call":"bob","move":{"do":"raw","arc":0,"lock":0,"secret":"3cfd91ab364b217387def1b512b03962bc945b8b9cd6a3119bda13d7a525735c","path":["bob"],"sigs":["<bob>"]}}
-{"call":"bob","move":{"do":"raw","arc":0,"lock":0,"secret":"3cfd91ab364b217387def1b512b03962bc945b8b9cd6a3119bda13d7a525735c","path":["carol","alice"],"sigs":["<carol>","<alice>"]}}
-{"call":"bob","move":{"do":"raw","arc":0,"lock":0,"secret":"3cfd91ab364b217387def1b512b03962bc945b8b9cd6a3119bda13d7a525735c","path":["bob","alice"],"sigs":["<bob>","<alice>"]}}
-{"call":"bob","move":{"do":"raw","arc":0,"lock":0,"secret":"3cfd91ab364b217387def1b512b03962bc945b8b9cd6a3119bda13d7a525735c","path":["alice","carol","bob"],"sigs":["<alice>","<carol>","<bob>"]}}
-{"call":"bob","move":{"do":"raw","arc":0,"lock":0,"secret":"3cfd91ab364b217387def1b512b03962bc945b8b9cd6a3119bda13d7a525735c","path":["bob","carol"],"sigs":["<bob>","<carol>"]}}
-{"call":"bob","move":{"do":"raw","arc":0,"lock":0,"secret":"3cfd91ab364b217387def1b512b03962bc945b8b9cd6a3119bda13d7a525735c","path":["bob","carol","alice","bob"],"sigs":["<bob>","<carol>","<alice>","<bob>"]}}
-{"call":"bob","move":{"do":"raw","arc":0,"lock":0,"secret":"3cfd91ab364b217387def1b512b03962bc945b8b9cd6a3119bda13d7a525735c","path":["bob","carol","bob","carol","alice"],"sigs":["<bob>","<carol>","<bob>","<carol>","<alice>"]}}
-{"call":"bob","move":{"do":"raw","arc":0,"lock":0,"secret":"3cfd91ab364b217387def1b512b03962bc945b8b9cd6a3119bda13d7a525735c","path":["bob","carol","alice"],"sigs":[]}}
-{"call":"bob","move":{"do":"raw","arc":0,"lock":0,"secret":"3cfd91ab364b217387def1b512b03962bc945b8b9cd6a3119bda13d7a525735c","path":["bob","carol","alice"],"sigs":["<bob>","<carol>"]}}
-{"call":"bob","move":{"do":"raw","arc":0,"lock":0,"secret":"3cfd91ab364b217387def1b512b03962bc945b8b9cd6a3119bda13d7a525735c","path":["bob","carol","alice"],"sigs":["<bob>","<carol>","<alice>","<none>"]}}
-{"call":"alice","move":{"do":"raw","arc":2,"lock":0,"secret":"3cfd91ab364b217387def1b512b03962bc945b8b9cd6a3119bda13d7a525735c","path":["alice","bob","carol","alice"],"sigs":["<alice>","<bob>","<carol>","<alice>"]}}
-{"call":"alice","move":{"do":"raw","arc":2,"lock":0,"secret":"3cfd91ab364b217387def1b512b03962bc945b8b9cd6a3119bda13d7a525735c","path":["carol","alice"],"sigs":["<carol>","<alice>"]}}
+{"call":"bob","move":{"do":"raw","arc":0,"lock":0,"secret":"3cfd91ab364b217387def1b512b03962bc945b8b9cd6a3119bda13d7a525735c","path":["bob"],"#,
+    r#""sigs":["<bob>"]}}
+{"call":"bob","move":{"do":"raw","arc":0,"lock":0,"secret":"3cfd91ab364b217387def1b512b03962bc945b8b9cd6a3119bda13d7a525735c","path":["carol","alice"],"#,
+    r#""sigs":["<carol>","<alice>"]}}
+{"call":"bob","move":{"do":"raw","arc":0,"lock":0,"secret":"3cfd91ab364b217387def1b512b03962bc945b8b9cd6a3119bda13d7a525735c","path":["bob","alice"],"#,
+    r#""sigs":["<bob>","<alice>"]}}
+{"call":"bob","move":{"do":"raw","arc":0,"lock":0,"secret":"3cfd91ab364b217387def1b512b03962bc945b8b9cd6a3119bda13d7a525735c","path":["alice","carol","#,
+    r#""bob"],"sigs":["<alice>","<carol>","<bob>"]}}
+{"call":"bob","move":{"do":"raw","arc":0,"lock":0,"secret":"3cfd91ab364b217387def1b512b03962bc945b8b9cd6a3119bda13d7a525735c","path":["bob","carol"],"#,
+    r#""sigs":["<bob>","<carol>"]}}
+{"call":"bob","move":{"do":"raw","arc":0,"lock":0,"secret":"3cfd91ab364b217387def1b512b03962bc945b8b9cd6a3119bda13d7a525735c","path":["bob","carol","#,
+    r#""alice","bob"],"sigs":["<bob>","<carol>","<alice>","<bob>"]}}
+{"call":"bob","move":{"do":"raw","arc":0,"lock":0,"secret":"3cfd91ab364b217387def1b512b03962bc945b8b9cd6a3119bda13d7a525735c","path":["bob","carol","#,
+    r#""bob","carol","alice"],"sigs":["<bob>","<carol>","<bob>","<carol>","<alice>"]}}
+{"call":"bob","move":{"do":"raw","arc":0,"lock":0,"secret":"3cfd91ab364b217387def1b512b03962bc945b8b9cd6a3119bda13d7a525735c","path":["bob","carol","#,
+    r#""alice"],"sigs":[]}}
+{"call":"bob","move":{"do":"raw","arc":0,"lock":0,"secret":"3cfd91ab364b217387def1b512b03962bc945b8b9cd6a3119bda13d7a525735c","path":["bob","carol","#,
+    r#""alice"],"sigs":["<bob>","<carol>"]}}
+{"call":"bob","move":{"do":"raw","arc":0,"lock":0,"secret":"3cfd91ab364b217387def1b512b03962bc945b8b9cd6a3119bda13d7a525735c","path":["bob","carol","#,
+    r#""alice"],"sigs":["<bob>","<carol>","<alice>","<none>"]}}
+{"call":"alice","move":{"do":"raw","arc":2,"lock":0,"secret":"3cfd91ab364b217387def1b512b03962bc945b8b9cd6a3119bda13d7a525735c","path":["alice","bob","#,
+    r#""carol","alice"],"sigs":["<alice>","<bob>","<carol>","<alice>"]}}
+{"call":"alice","move":{"do":"raw","arc":2,"lock":0,"secret":"3cfd91ab364b217387def1b512b03962bc945b8b9cd6a3119bda13d7a525735c","path":["carol","alice"],"#,
+    r#""sigs":["<carol>","<alice>"]}}
 {"tick":0,"by":61}
 {"call":"bob","move":{"do":"raw","arc":0,"lock":0,"secret":"3cfd91ab364b217387def1b512b03962bc945b8b9cd6a3119bda13d7a525735c","path":[],"sigs":[]}}
-"#;
-
-const PATHS_ANSWER: &str = "named
+--
+named
 swap report 1
 swap hashkeys start 10 delta 10 bound 2
 ledger 0 alice -> bob amount 100
@@ -95,24 +120,34 @@ unfinished 0 height 61
 unfinished 1 height 0
 unfinished 2 height 0
 findings 3
-";
-
-const SIGNATURES: &str = r#"{"call":"alice","move":{"do":"publish","arc":0}}
+== signatures of another
+"alice", => "alice","actor":"manual", && "bob", => "bob","actor":"manual", && "carol", => "carol","actor":"manual",
+--
+{"call":"alice","move":{"do":"publish","arc":0}}
 {"call":"bob","move":{"do":"publish","arc":1}}
-{"call":"bob","move":{"do":"raw","arc":0,"lock":0,"secret":"3cfd91ab364b217387def1b512b03962bc945b8b9cd6a3119bda13d7a525735c","path":["bob","carol","alice"],"sigs":["<none>","<none>","<none>"]}}
-{"call":"bob","move":{"do":"raw","arc":0,"lock":0,"secret":"3cfd91ab364b217387def1b512b03962bc945b8b9cd6a3119bda13d7a525735c","path":["bob","carol","alice"],"sigs":["<carol>","<carol>","<alice>"]}}
-{"call":"bob","move":{"do":"raw","arc":0,"lock":0,"secret":"3cfd91ab364b217387def1b512b03962bc945b8b9cd6a3119bda13d7a525735c","path":["bob","carol","alice"],"sigs":["<bob>","<alice>","<alice>"]}}
-{"call":"bob","move":{"do":"raw","arc":0,"lock":0,"secret":"3cfd91ab364b217387def1b512b03962bc945b8b9cd6a3119bda13d7a525735c","path":["bob","carol","alice"],"sigs":["<bob>","<carol>","<carol>"]}}
-{"call":"bob","move":{"do":"raw","arc":0,"lock":0,"secret":"3cfd91ab364b217387def1b512b03962bc945b8b9cd6a3119bda13d7a525735c","path":["bob","carol","alice"],"sigs":["<bob>","<carol>","<none>"]}}
-{"call":"carol","move":{"do":"raw","arc":1,"lock":0,"secret":"3cfd91ab364b217387def1b512b03962bc945b8b9cd6a3119bda13d7a525735c","path":["carol","alice"],"sigs":["<alice>","<alice>"]}}
-{"call":"carol","move":{"do":"raw","arc":1,"lock":0,"secret":"3cfd91ab364b217387def1b512b03962bc945b8b9cd6a3119bda13d7a525735c","path":["carol","alice"],"sigs":["<carol over none>","<none>"]}}
-{"call":"carol","move":{"do":"raw","arc":1,"lock":0,"secret":"3cfd91ab364b217387def1b512b03962bc945b8b9cd6a3119bda13d7a525735c","path":["carol","alice"],"sigs":["<carol over none>","<alice>"]}}
-{"call":"carol","move":{"do":"raw","arc":1,"lock":0,"secret":"3cfd91ab364b217387def1b512b03962bc945b8b9cd6a3119bda13d7a525735c","path":["carol","alice"],"sigs":["<carol>","<none>"]}}
+{"call":"bob","move":{"do":"raw","arc":0,"lock":0,"secret":"3cfd91ab364b217387def1b512b03962bc945b8b9cd6a3119bda13d7a525735c","path":["bob","carol","#,
+    r#""alice"],"sigs":["<none>","<none>","<none>"]}}
+{"call":"bob","move":{"do":"raw","arc":0,"lock":0,"secret":"3cfd91ab364b217387def1b512b03962bc945b8b9cd6a3119bda13d7a525735c","path":["bob","carol","#,
+    r#""alice"],"sigs":["<carol>","<carol>","<alice>"]}}
+{"call":"bob","move":{"do":"raw","arc":0,"lock":0,"secret":"3cfd91ab364b217387def1b512b03962bc945b8b9cd6a3119bda13d7a525735c","path":["bob","carol","#,
+    r#""alice"],"sigs":["<bob>","<alice>","<alice>"]}}
+{"call":"bob","move":{"do":"raw","arc":0,"lock":0,"secret":"3cfd91ab364b217387def1b512b03962bc945b8b9cd6a3119bda13d7a525735c","path":["bob","carol","#,
+    r#""alice"],"sigs":["<bob>","<carol>","<carol>"]}}
+{"call":"bob","move":{"do":"raw","arc":0,"lock":0,"secret":"3cfd91ab364b217387def1b512b03962bc945b8b9cd6a3119bda13d7a525735c","path":["bob","carol","#,
+    r#""alice"],"sigs":["<bob>","<carol>","<none>"]}}
+{"call":"carol","move":{"do":"raw","arc":1,"lock":0,"secret":"3cfd91ab364b217387def1b512b03962bc945b8b9cd6a3119bda13d7a525735c","path":["carol","alice"],"#,
+    r#""sigs":["<alice>","<alice>"]}}
+{"call":"carol","move":{"do":"raw","arc":1,"lock":0,"secret":"3cfd91ab364b217387def1b512b03962bc945b8b9cd6a3119bda13d7a525735c","path":["carol","alice"],"#,
+    r#""sigs":["<carol over none>","<none>"]}}
+{"call":"carol","move":{"do":"raw","arc":1,"lock":0,"secret":"3cfd91ab364b217387def1b512b03962bc945b8b9cd6a3119bda13d7a525735c","path":["carol","alice"],"#,
+    r#""sigs":["<carol over none>","<alice>"]}}
+{"call":"carol","move":{"do":"raw","arc":1,"lock":0,"secret":"3cfd91ab364b217387def1b512b03962bc945b8b9cd6a3119bda13d7a525735c","path":["carol","alice"],"#,
+    r#""sigs":["<carol>","<none>"]}}
 {"tick":1,"by":51}
-{"call":"carol","move":{"do":"raw","arc":1,"lock":0,"secret":"3cfd91ab364b217387def1b512b03962bc945b8b9cd6a3119bda13d7a525735c","path":["carol","alice"],"sigs":["<none>","<alice>"]}}
-"#;
-
-const SIGNATURES_ANSWER: &str = "named
+{"call":"carol","move":{"do":"raw","arc":1,"lock":0,"secret":"3cfd91ab364b217387def1b512b03962bc945b8b9cd6a3119bda13d7a525735c","path":["carol","alice"],"#,
+    r#""sigs":["<none>","<alice>"]}}
+--
+named
 swap report 1
 swap hashkeys start 10 delta 10 bound 2
 ledger 0 alice -> bob amount 100
@@ -140,24 +175,30 @@ unfinished 0 height 0
 unfinished 1 height 51
 unfinished 2 height 0
 findings 3
-";
-
-const LAST: &str = r#"{"call":"alice","move":{"do":"publish","arc":0}}
+== at the last height
+"alice", => "alice","actor":"manual", && "bob", => "bob","actor":"manual", && "carol", => "carol","actor":"manual",
+--
+{"call":"alice","move":{"do":"publish","arc":0}}
 {"call":"bob","move":{"do":"publish","arc":1}}
 {"call":"carol","move":{"do":"publish","arc":2}}
 {"tick":0,"by":60}
 {"tick":1,"by":50}
 {"tick":2,"by":40}
-{"call":"bob","move":{"do":"raw","arc":0,"lock":0,"secret":"3cfd91ab364b217387def1b512b03962bc945b8b9cd6a3119bda13d7a525735c","path":["bob","carol","alice"],"sigs":["<bob>","<carol>","<alice>"]}}
-{"call":"bob","move":{"do":"raw","arc":0,"lock":0,"secret":"3cfd91ab364b217387def1b512b03962bc945b8b9cd6a3119bda13d7a525735c","path":["bob","carol","alice"],"sigs":["<bob>","<carol>","<alice>"]}}
+{"call":"bob","move":{"do":"raw","arc":0,"lock":0,"secret":"3cfd91ab364b217387def1b512b03962bc945b8b9cd6a3119bda13d7a525735c","path":["bob","carol","#,
+    r#""alice"],"sigs":["<bob>","<carol>","<alice>"]}}
+{"call":"bob","move":{"do":"raw","arc":0,"lock":0,"secret":"3cfd91ab364b217387def1b512b03962bc945b8b9cd6a3119bda13d7a525735c","path":["bob","carol","#,
+    r#""alice"],"sigs":["<bob>","<carol>","<alice>"]}}
 {"call":"bob","move":{"do":"raw","arc":0,"lock":0,"secret":"0000000000000000000000000000000000000000000000000000000000000000","path":[],"sigs":[]}}
-{"call":"carol","move":{"do":"raw","arc":1,"lock":0,"secret":"3cfd91ab364b217387def1b512b03962bc945b8b9cd6a3119bda13d7a525735c","path":["carol","alice"],"sigs":["<carol>","<alice>"]}}
-{"call":"alice","move":{"do":"raw","arc":2,"lock":0,"secret":"3cfd91ab364b217387def1b512b03962bc945b8b9cd6a3119bda13d7a525735c","path":["alice"],"sigs":["<alice>"]}}
+{"call":"carol","move":{"do":"raw","arc":1,"lock":0,"secret":"3cfd91ab364b217387def1b512b03962bc945b8b9cd6a3119bda13d7a525735c","path":["carol","alice"],"#,
+    r#""sigs":["<carol>","<alice>"]}}
+{"call":"alice","move":{"do":"raw","arc":2,"lock":0,"secret":"3cfd91ab364b217387def1b512b03962bc945b8b9cd6a3119bda13d7a525735c","path":["alice"],"#,
+    r#""sigs":["<alice>"]}}
 {"call":"alice","move":{"do":"claim","arc":0}}
 {"call":"bob","move":{"do":"claim","arc":0}}
 {"call":"carol","move":{"do":"claim","arc":1}}
 {"call":"alice","move":{"do":"claim","arc":2}}
-{"call":"bob","move":{"do":"raw","arc":0,"lock":0,"secret":"3cfd91ab364b217387def1b512b03962bc945b8b9cd6a3119bda13d7a525735c","path":["bob","carol","alice"],"sigs":["<bob>","<carol>","<alice>"]}}
+{"call":"bob","move":{"do":"raw","arc":0,"lock":0,"secret":"3cfd91ab364b217387def1b512b03962bc945b8b9cd6a3119bda13d7a525735c","path":["bob","carol","#,
+    r#""alice"],"sigs":["<bob>","<carol>","<alice>"]}}
 {"call":"bob","move":{"do":"claim","arc":0}}
 {"call":"alice","move":{"do":"refund","arc":0}}
 {"call":"alice","move":{"do":"publish","arc":0}}
@@ -166,9 +207,8 @@ const LAST: &str = r#"{"call":"alice","move":{"do":"publish","arc":0}}
 {"tick":0,"by":11}
 {"tick":1,"by":21}
 {"tick":2,"by":31}
-"#;
-
-const LAST_ANSWER: &str = "done
+--
+done
 swap report 1
 swap hashkeys start 10 delta 10 bound 2
 ledger 0 alice -> bob amount 100
@@ -199,24 +239,27 @@ party alice deviator: Deal
 party bob deviator: Deal
 party carol deviator: Deal
 findings 0
-";
-
-const TOO_LATE: &str = r#"{"call":"alice","move":{"do":"publish","arc":0}}
+== a height above it
+"alice", => "alice","actor":"manual", && "bob", => "bob","actor":"manual", && "carol", => "carol","actor":"manual",
+--
+{"call":"alice","move":{"do":"publish","arc":0}}
 {"call":"bob","move":{"do":"publish","arc":1}}
 {"call":"carol","move":{"do":"publish","arc":2}}
 {"tick":0,"by":61}
 {"tick":1,"by":51}
 {"tick":2,"by":41}
-{"call":"bob","move":{"do":"raw","arc":0,"lock":0,"secret":"3cfd91ab364b217387def1b512b03962bc945b8b9cd6a3119bda13d7a525735c","path":["bob","carol","alice"],"sigs":["<bob>","<carol>","<alice>"]}}
-{"call":"carol","move":{"do":"raw","arc":1,"lock":0,"secret":"3cfd91ab364b217387def1b512b03962bc945b8b9cd6a3119bda13d7a525735c","path":["carol","alice"],"sigs":["<carol>","<alice>"]}}
-{"call":"alice","move":{"do":"raw","arc":2,"lock":0,"secret":"3cfd91ab364b217387def1b512b03962bc945b8b9cd6a3119bda13d7a525735c","path":["alice"],"sigs":["<alice>"]}}
+{"call":"bob","move":{"do":"raw","arc":0,"lock":0,"secret":"3cfd91ab364b217387def1b512b03962bc945b8b9cd6a3119bda13d7a525735c","path":["bob","carol","#,
+    r#""alice"],"sigs":["<bob>","<carol>","<alice>"]}}
+{"call":"carol","move":{"do":"raw","arc":1,"lock":0,"secret":"3cfd91ab364b217387def1b512b03962bc945b8b9cd6a3119bda13d7a525735c","path":["carol","alice"],"#,
+    r#""sigs":["<carol>","<alice>"]}}
+{"call":"alice","move":{"do":"raw","arc":2,"lock":0,"secret":"3cfd91ab364b217387def1b512b03962bc945b8b9cd6a3119bda13d7a525735c","path":["alice"],"#,
+    r#""sigs":["<alice>"]}}
 {"call":"bob","move":{"do":"claim","arc":0}}
 {"tick":0,"by":10}
 {"tick":1,"by":20}
 {"tick":2,"by":30}
-"#;
-
-const TOO_LATE_ANSWER: &str = "done
+--
+done
 swap report 1
 swap hashkeys start 10 delta 10 bound 2
 ledger 0 alice -> bob amount 100
@@ -236,16 +279,17 @@ party alice deviator: NoDeal
 party bob deviator: NoDeal
 party carol deviator: NoDeal
 findings 0
-";
-
-const OTHER_LOCK: &str =
-    r#"{"call":"alice","move":{"do":"publish","arc":0,"locks":["66687AADF862BD776C8FC18B8E9F8E20089714856EE233B3902A591D0D5F2925"]}}
-{"call":"bob","move":{"do":"raw","arc":0,"lock":0,"secret":"3cfd91ab364b217387def1b512b03962bc945b8b9cd6a3119bda13d7a525735c","path":["bob","carol","alice"],"sigs":["<bob>","<carol>","<alice>"]}}
-{"call":"bob","move":{"do":"raw","arc":0,"lock":0,"secret":"0000000000000000000000000000000000000000000000000000000000000000","path":["bob","carol","alice"],"sigs":["<bob>","<carol>","<alice>"]}}
+== under another lock
+"alice", => "alice","actor":"manual", && "bob", => "bob","actor":"manual", && "carol", => "carol","actor":"manual",
+--
+{"call":"alice","move":{"do":"publish","arc":0,"locks":["66687AADF862BD776C8FC18B8E9F8E20089714856EE233B3902A591D0D5F2925"]}}
+{"call":"bob","move":{"do":"raw","arc":0,"lock":0,"secret":"3cfd91ab364b217387def1b512b03962bc945b8b9cd6a3119bda13d7a525735c","path":["bob","carol","#,
+    r#""alice"],"sigs":["<bob>","<carol>","<alice>"]}}
+{"call":"bob","move":{"do":"raw","arc":0,"lock":0,"secret":"0000000000000000000000000000000000000000000000000000000000000000","path":["bob","carol","#,
+    r#""alice"],"sigs":["<bob>","<carol>","<alice>"]}}
 {"call":"bob","move":{"do":"raw","arc":0,"lock":0,"secret":"0000000000000000000000000000000000000000000000000000000000000000","path":[],"sigs":[]}}
-"#;
-
-const OTHER_LOCK_ANSWER: &str = "named
+--
+named
 swap report 1
 swap hashkeys start 10 delta 10 bound 2
 ledger 0 alice -> bob amount 100
@@ -265,16 +309,21 @@ unfinished 0 height 0
 unfinished 1 height 0
 unfinished 2 height 0
 findings 3
-";
+"#,
+);
 
-const SECOND: &str = r#"{"call":"a","move":{"do":"publish","arc":0}}
+/// The deal with two leaders.
+const TWO_LOCKS: &str = concat!(
+    r#"== the second lock first
+--
+{"call":"a","move":{"do":"publish","arc":0}}
 {"call":"b","move":{"do":"raw","arc":0,"lock":1,"secret":"b8150718563557fcf5f07421a8dffa7cda54ff1c1ff695ca60e974a184f4d27e","path":["b"],"sigs":["<b>"]}}
 {"call":"b","move":{"do":"claim","arc":0}}
-{"call":"b","move":{"do":"raw","arc":0,"lock":0,"secret":"41f86758da72fb7f22ad0cf865c860d01a62456c29b23080204249e66197bb5e","path":["b","a"],"sigs":["<b over a>","<a>"]}}
+{"call":"b","move":{"do":"raw","arc":0,"lock":0,"secret":"41f86758da72fb7f22ad0cf865c860d01a62456c29b23080204249e66197bb5e","path":["b","a"],"#,
+    r#""sigs":["<b over a>","<a>"]}}
 {"call":"b","move":{"do":"claim","arc":0}}
-"#;
-
-const SECOND_ANSWER: &str = "named
+--
+named
 swap report 1
 swap hashkeys start 10 delta 10 bound 2
 ledger 0 a -> b amount 1
@@ -298,13 +347,15 @@ unfinished 1 height 0
 unfinished 2 height 0
 unfinished 3 height 0
 findings 4
-";
-
-const FIRST: &str = r#"{"call":"a","move":{"do":"publish","arc":0}}
-{"call":"b","move":{"do":"raw","arc":0,"lock":0,"secret":"41f86758da72fb7f22ad0cf865c860d01a62456c29b23080204249e66197bb5e","path":["b","a"],"sigs":["<b over a>","<a>"]}}
+== the first lock alone
+--
+{"call":"a","move":{"do":"publish","arc":0}}
+{"call":"b","move":{"do":"raw","arc":0,"lock":0,"secret":"41f86758da72fb7f22ad0cf865c860d01a62456c29b23080204249e66197bb5e","path":["b","a"],"#,
+    r#""sigs":["<b over a>","<a>"]}}
 {"call":"b","move":{"do":"claim","arc":0}}
 {"call":"b","move":{"do":"raw","arc":0,"lock":1,"secret":"41f86758da72fb7f22ad0cf865c860d01a62456c29b23080204249e66197bb5e","path":["b"],"sigs":["<b>"]}}
-{"call":"b","move":{"do":"raw","arc":0,"lock":1,"secret":"b8150718563557fcf5f07421a8dffa7cda54ff1c1ff695ca60e974a184f4d27e","path":["b","a"],"sigs":["<b over a>","<a>"]}}
+{"call":"b","move":{"do":"raw","arc":0,"lock":1,"secret":"b8150718563557fcf5f07421a8dffa7cda54ff1c1ff695ca60e974a184f4d27e","path":["b","a"],"#,
+    r#""sigs":["<b over a>","<a>"]}}
 {"call":"b","move":{"do":"raw","arc":0,"lock":1,"secret":"b8150718563557fcf5f07421a8dffa7cda54ff1c1ff695ca60e974a184f4d27e","path":["b"],"sigs":["<a>"]}}
 {"tick":0,"by":41}
 {"call":"b","move":{"do":"raw","arc":0,"lock":1,"secret":"b8150718563557fcf5f07421a8dffa7cda54ff1c1ff695ca60e974a184f4d27e","path":["b"],"sigs":["<b>"]}}
@@ -312,9 +363,8 @@ const FIRST: &str = r#"{"call":"a","move":{"do":"publish","arc":0}}
 {"call":"a","move":{"do":"refund","arc":0}}
 {"tick":0,"by":1}
 {"call":"a","move":{"do":"refund","arc":0}}
-"#;
-
-const FIRST_ANSWER: &str = "named
+--
+named
 swap report 1
 swap hashkeys start 10 delta 10 bound 2
 ledger 0 a -> b amount 1
@@ -342,31 +392,15 @@ unfinished 1 height 0
 unfinished 2 height 0
 unfinished 3 height 0
 findings 4
-";
+"#,
+);
 
 #[test]
 fn replies_to_keys(rt: HostRuntime) -> Result<(), Fail> {
-    let table = [
-        ("another secret", BY_HAND, SECRETS, SECRETS_ANSWER),
-        ("no path on the arc", BY_HAND, PATHS, PATHS_ANSWER),
-        (
-            "signatures of another",
-            BY_HAND,
-            SIGNATURES,
-            SIGNATURES_ANSWER,
-        ),
-        ("at the last height", BY_HAND, LAST, LAST_ANSWER),
-        ("a height above it", BY_HAND, TOO_LATE, TOO_LATE_ANSWER),
-        ("under another lock", BY_HAND, OTHER_LOCK, OTHER_LOCK_ANSWER),
-    ];
-    conducts(&rt, rt.alloc(), "run", HASHKEYS, &table)
+    cases(&rt, rt.alloc(), "run", HASHKEYS, ONE_LOCK)
 }
 
 #[test]
 fn replies_to_keys_of_two_locks(rt: HostRuntime) -> Result<(), Fail> {
-    let table = [
-        ("the second lock first", "", SECOND, SECOND_ANSWER),
-        ("the first lock alone", "", FIRST, FIRST_ANSWER),
-    ];
-    conducts(&rt, rt.alloc(), "run", TWO_LEADERS, &table)
+    cases(&rt, rt.alloc(), "run", TWO_LEADERS, TWO_LOCKS)
 }

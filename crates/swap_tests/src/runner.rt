@@ -97,18 +97,28 @@ fn edited(rt: &impl Abort, alloc: Global, text: &str, edits: &str) -> Result<Str
     Ok(edited)
 }
 
-/// Each row is a name, edits of the deal, events, in which names stand for signatures, and the answer that it has to get.
-pub fn conducts(
+/// The deal with a case's edits, and the case's events, in which names stand for signatures.
+fn input_of(rt: &impl Abort, alloc: Global, deal: &str, asked: &str) -> Result<String, Fail> {
+    let (head, events) = asked.split_once("--\n").ok_or("no events")?;
+    let (_name, edits) = head.split_once("\n").ok_or("no name")?;
+    let mut input = edited(rt, alloc, deal, edits.trim())?;
+    input.push_str(signed(alloc, events)?.as_str())?;
+    Ok(input)
+}
+
+/// Each case begins with `== ` and its name. Then come a line with edits of the deal, if any, the events and the answer that it
+/// has to get, with a line `--` before the events and before the answer.
+pub fn cases(
     rt: &impl Abort,
     alloc: Global,
     command: &str,
     deal: &str,
-    table: &[(&str, &str, &str, &str)],
+    table: &str,
 ) -> Result<(), Fail> {
-    for (name, edits, events, wanted) in table {
-        let mut input = edited(rt, alloc, deal, edits)?;
-        input.push_str(signed(alloc, events)?.as_str())?;
-        answers(rt, alloc, command, name, input.as_str(), wanted)?;
+    for case in table.split("== ").filter(|case| !case.is_empty()) {
+        let (asked, wanted) = case.rsplit_once("--\n").ok_or("no answer")?;
+        let input = input_of(rt, alloc, deal, asked)?;
+        answers(rt, alloc, command, asked, input.as_str(), wanted)?;
     }
     Ok(())
 }

@@ -30,17 +30,18 @@ refused job (Refused r) h = ap (λ (x : Result (List Actor) WrongWallet). x >>= 
 module _ (job : Job) (d : Deal) (conforming : List Bool) (seeds : Seeds) (ls : List LedgerState) (ys : List Actor) (ed : d ≡ job.deal)
     (ec : conforming ≡ job.conforming) (es : seeds ≡ job.seeds) (el : ls ≡ new_ledgers job.deal) (ea : actors_of job ≡ Ok ys) (have : HaveSeeds job)
   where
-    state_is : state (histories ls) (map (notes_in d) ys) ≡ start job.deal
+    state_is : state d conforming (histories ls) (map (notes_in d) ys) ≡ start (cast_of job)
     state_is =
-        ap₂ (λ (b : Histories) (ns : List Notes). state b ns) (ap histories el ∙ none_yet job.deal) (ap (λ (e : Deal). map (notes_in e) ys) ed
-        ∙ no_notes_yet job ys have ea)
+        ap₂ (λ (e : Deal) (cs : List Bool). state e cs (histories ls) (map (notes_in d) ys)) ed ec
+        ∙ ap₂ (λ (b : Histories) (ns : List Notes). state job.deal job.conforming b ns) (ap histories el
+        ∙ none_yet job.deal) (ap (λ (e : Deal). map (notes_in e) ys) ed ∙ no_notes_yet job ys have ea)
 
-    pub world_is : world_of job ≡ Ok (world d conforming seeds false (state (histories ls) (map (notes_in d) ys)))
+    pub world_is : world_of job ≡ Ok (world d conforming seeds false (state d conforming (histories ls) (map (notes_in d) ys)))
     unfolding world_of
     world_is =
         ap (λ (x : Result (List Actor) WrongWallet). x >>= λ xs. Ok (new_world job)) ea
-        ∙ ap (λ (w : WorldState). Ok w) (sym (ap (λ (e : Deal). world e conforming seeds false (state (histories ls) (map (notes_in d) ys))) ed
-        ∙ (ap₂ (λ (c : List Bool) (s : Seeds). world job.deal c s false (state (histories ls) (map (notes_in d) ys))) ec es
+        ∙ ap (λ (w : WorldState). Ok w) (sym (ap (λ (e : Deal). world e conforming seeds false (state d conforming (histories ls) (map (notes_in d) ys))) ed
+        ∙ (ap₂ (λ (c : List Bool) (s : Seeds). world job.deal c s false (state d conforming (histories ls) (map (notes_in d) ys))) ec es
         ∙ ap (λ (st : State). world job.deal job.conforming job.seeds false st) state_is)))
 
     cast_is : cast_with d conforming seeds ≡ cast_of job
@@ -55,7 +56,7 @@ module _ (job : Job) (d : Deal) (conforming : List Bool) (seeds : Seeds) (ls : L
     pub ledgers : AreLedgersOf d ls
     ledgers = opened job.deal d ls ed el
 
-    pub good : IsAccepted job.deal → IsGood (cast_with d conforming seeds) (state (histories ls) (map (notes_in d) ys))
+    pub good : IsAccepted job.deal → IsGood (cast_with d conforming seeds) (state d conforming (histories ls) (map (notes_in d) ys))
     good accepted =
-        subst (λ (c : Cast). IsGood c (state (histories ls) (map (notes_in d) ys))) (sym cast_is)
+        subst (λ (c : Cast). IsGood c (state d conforming (histories ls) (map (notes_in d) ys))) (sym cast_is)
         (subst (IsGood (cast_of job)) (sym state_is) (start_is_good (cast_of job) (is_ready job ys accepted have ea)))

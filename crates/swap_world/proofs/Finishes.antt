@@ -1,6 +1,6 @@
 -- The parts of a fair finish: what each leads to, and where it stops.
 use Rattle.std.proofs.Common.{◌≡◌, ℕ, ◌+◌, ◌<◌, ◌≤◌, ◌==◌, ◌||◌, nat_le, leb-false, Bool, true, false, cond, List, [], ◌∷◌, length, fold, filter, refl}
-use Rattle.std.proofs.Common.{ap, subst, arith}
+use Rattle.std.proofs.Common.{sym, ap, ◌∙◌, subst, arith}
 use Rattle.std.specs.List.{range_with_len}
 use Rattle.swap_base.proofs.Lists.{from_range}
 use Rattle.swap_digraph.specs.Deal.{party, counterparty}
@@ -8,12 +8,13 @@ use Rattle.swap_digraph.specs.Graph.{arcs}
 use Rattle.ledger_core.specs.History.{height}
 use Rattle.ledger_core.specs.Book.{history}
 use Rattle.deviator_script.specs.declared.event.Event.TheVariants.{Look, Act, Tick}
-use Rattle.swap_run.specs.Run.{Cast, State, step}
+use Rattle.swap_run.specs.Run.{Cast, State, conforms, step}
 use Rattle.swap_run.specs.Fair.{repeat, looks, acts, most_acts, turn, turns, the_horizon, tick_low, ticks, round, has_ended, round_unless_ended, finish}
 use Rattle.swap_run.specs.FairLaws.{IsReached}
 use Rattle.swap_run.proofs.Reached.{no_event, one_event, fold_events, repeat_events, turn_events, tick_events, round_events}
 use Rattle.swap_world.specs.Value.{WorldState, cast_at}
 use Rattle.swap_world.specs.Stopped.{IsStopped, look_near}
+use Rattle.swap_world.proofs.Plans.{turn_acts}
 use Rattle.swap_world.proofs.Ways.{at, range_all, fold_reached, way_after}
 
 -- A party's looks.
@@ -61,20 +62,29 @@ act_leads c v l s = one_event c s (Act v) l
 
 pub turn_from_looks : (c : Cast) (v : ℕ) (s : State) → v < c.deal.graph.n → IsReached c (looks c v s) (turn c s v)
 unfolding turn
-turn_from_looks c v s l = repeat_events c (most_acts c.deal) (λ t. step c t (Act v)) (looks c v s) (act_leads c v l)
+turn_from_looks c v s l = go (conforms c v)
+  where
+    go : (b : Bool) → IsReached c (looks c v s) (cond b (acts c v (most_acts c.deal) (looks c v s)) (step c (looks c v s) (Act v)))
+    go true = repeat_events c (most_acts c.deal) (λ t. step c t (Act v)) (looks c v s) (act_leads c v l)
+    go false = act_leads c v l (looks c v s)
+
+-- acts end a turn
+pub turn_ends : (old mid new : WorldState) (v : ℕ) → mid ≡ at old (looks (cast_at old) v old.state)
+    → new ≡ at mid (acts (cast_at mid) v (most_acts mid.deal) mid.state) → new ≡ at old (turn (cast_at old) old.state v)
+turn_ends old mid new v e k =
+    subst (λ w. new ≡ at w (acts (cast_at w) v (most_acts w.deal) w.state)) e k
+    ∙ ap (λ t. at old t) (sym (turn_acts old.deal old.conforming old.seeds old.state v))
 
 pub turn_stops : (old mid new : WorldState) (v : ℕ) → v < old.deal.graph.n → mid ≡ at old (looks (cast_at old) v old.state)
     → IsStopped mid (acts (cast_at mid) v (most_acts mid.deal) mid.state) new → IsStopped old (turn (cast_at old) old.state v) new
-unfolding turn
 turn_stops old mid new v l e k =
     let h = subst (λ w. IsStopped w (acts (cast_at w) v (most_acts w.deal) w.state) new) e k in
-    record {
+    let acted = acts (cast_at old) v (most_acts old.deal) (looks (cast_at old) v old.state) in
+    subst (λ t. IsStopped old t new) (sym (turn_acts old.deal old.conforming old.seeds old.state v)) (record {
       stopped = h.stopped;
       cast = h.cast;
-      book =
-          way_after (cast_at old) old.state (looks (cast_at old) v old.state) (turn (cast_at old) old.state v) new.state.book
-          (looks_lead (cast_at old) v old.state l) h.book;
-    }
+      book = way_after (cast_at old) old.state (looks (cast_at old) v old.state) acted new.state.book (looks_lead (cast_at old) v old.state l) h.book;
+    })
 
 pub turn_leads : (c : Cast) (v : ℕ) → v < c.deal.graph.n → (s : State) → IsReached c s (turn c s v)
 turn_leads c v l s = turn_events c s v l

@@ -13,9 +13,9 @@ use Rattle.ledger_core.specs.History.{IsLegal}
 use Rattle.std.specs.List.{range_with_len}
 use Rattle.std.proofs.lemmas.List.FromFn.{length-map-range_with_len}
 use Rattle.swap_digraph.proofs.Ranges.{place_is}
-use Rattle.swap_run.specs.Run.{no_histories, after_move}
-use Rattle.deviator_script.specs.declared.moves.Move.{Move}
-use Rattle.deviator_script.specs.Resolved.{call_of}
+use Rattle.ledger_core.specs.declared.entry.Call.{Call}
+use Rattle.swap_run.specs.Run.{no_histories}
+use Rattle.ledger_core.specs.Ledger.{after_call}
 use Rattle.swap_world.specs.Acting.{histories}
 use Rattle.swap_world.specs.Inside.{AreLedgersOf, IsLedgerOf, new_ledger, new_ledgers}
 
@@ -83,11 +83,11 @@ pub book_err : (ls : List LedgerState) (a : ℕ) (old new : LedgerState) → old
     → histories (set ls a new) ≡ histories ls
 book_err ls a old new is e = unchanged ls a old new is e
 
--- what a move makes of the ledger of arc a
-pub made : (d : Deal) (a p : ℕ) (mv : Move) (old new : LedgerState) → IsLedgerOf d a old
-    → new.history ≡ after_move old.deal old.arc p (call_of old.deal mv) old.history → new.history ≡ after_move d a p (call_of d mv) old.history
-made d a p mv old new k e =
-    e ∙ ap (λ (x : Deal). after_move x old.arc p (call_of x mv) old.history) k.deal ∙ ap (λ (x : ℕ). after_move d x p (call_of d mv) old.history) k.arc
+-- what a call makes of the ledger of arc a
+pub called : (d : Deal) (a p : ℕ) (c : Call) (old new : LedgerState) → IsLedgerOf d a old → new.history ≡ after_call old.deal old.arc p c old.history
+    → new.history ≡ after_call d a p c old.history
+called d a p c old new k e =
+    e ∙ ap (λ (x : Deal). after_call x old.arc p c old.history) k.deal ∙ ap (λ (x : ℕ). after_call d x p c old.history) k.arc
 
 pub opened : (d d' : Deal) (ls : List LedgerState) → d' ≡ d → ls ≡ new_ledgers d → AreLedgersOf d' ls
 opened d d' ls e f = subst (λ x. AreLedgersOf x ls) (sym e) (subst (λ x. AreLedgersOf d x) (sym f) (are_new d))

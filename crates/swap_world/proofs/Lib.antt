@@ -2,6 +2,7 @@ pub mod Turns
 pub mod Ledgers
 pub mod Signed
 pub mod Known
+pub mod Plans
 pub mod States
 pub mod Acts
 pub mod Worlds

@@ -10,12 +10,13 @@ use Rattle.ledger_core.specs.Value.{LedgerState}
 use Rattle.ledger_core.specs.Book.{Histories, history}
 use Rattle.deviator_script.specs.declared.event.Event.TheVariants.{Look, Act}
 use Rattle.swap_rules.specs.Due.{Wallet, Action, due, first}
-use Rattle.ledger_core.specs.Ledger.{after_call}
 use Rattle.party_wallet.specs.Value.{signed_in}
-use Rattle.swap_run.specs.Run.{Cast, Notes, State, conforms, notes_of, signed_after, known_up_to, look, make, next_of, act, step}
+use Rattle.swap_run.specs.Run.{Cast, Notes, State, conforms, role_of, notes_of, signed_after, known_up_to, look, make, next_of, act, watch, act_as, step}
+use Rattle.ledger_core.specs.Ledger.{after_call}
 use Rattle.party_machine.specs.Wallet.{wallet_of}
 use Rattle.party_machine.specs.Machine as machines
 use Rattle.party_machine.specs.Machine.{MachineState}
+use Rattle.swap_world.proofs.Plans.{plans_of}
 use Rattle.swap_world.specs.Cast.{cast_with, wallet_with}
 use Rattle.swap_world.specs.Acting.{histories, book_after, machine_after}
 use Rattle.swap_world.specs.Inside.{notes_in, IsActorOf, AreActorsOf}
@@ -46,7 +47,7 @@ module _ (d : Deal) (conforming : List Bool) (seeds : List (Option (List ℕ))) 
 
   -- the state before
   abbrev pub s : State
-  s = record { book = histories ls; notes = map (notes_in d) xs }
+  s = record { book = histories ls; notes = map (notes_in d) xs; plans = plans_of d conforming; asked = [] }
 
   -- a machine, in the place of party p
   pub record IsAt (p : ℕ) (m : MachineState) : Type 0 where
@@ -69,8 +70,8 @@ module _ (d : Deal) (conforming : List Bool) (seeds : List (Option (List ℕ))) 
   noted : (p : ℕ) (m : MachineState) (n : Notes) → notes_in d (Conforming m) ≡ n → notes_with p m ≡ set (map (notes_in d) xs) p n
   noted p m n e = map-set (notes_in d) xs p (Conforming m) ∙ ap (λ (x : Notes). set (map (notes_in d) xs) p x) e
 
-  where_it_conforms : (p : ℕ) (t : State) → slice_index_or conforming p false ≡ true → t ≡ cond (conforms c p) t s
-  where_it_conforms p t e = sym (ap (λ (b : Bool). cond b t s) e)
+  where_it_conforms : (p : ℕ) (t u : State) → slice_index_or conforming p false ≡ true → t ≡ cond (conforms c p) t u
+  where_it_conforms p t u e = sym (ap (λ (b : Bool). cond b t u) e)
 
   pub looked : (p a : ℕ) (m new : MachineState) → IsAt p m → new ≡ record {
     deal = m.deal;
@@ -80,14 +81,14 @@ module _ (d : Deal) (conforming : List Bool) (seeds : List (Option (List ℕ))) 
         set m.known a (history (histories ls) a);
     signed = m.signed;
   }
-      → record { book = histories ls; notes = notes_with p new } ≡ step c s (Look p a)
+      → record s { book = histories ls; notes = notes_with p new } ≡ step c s (Look p a)
   looked p a m new i e =
       let n : notes_in d (Conforming new) ≡ known_up_to (notes_of s p) a (history (histories ls) a)
       = ap (λ (x : MachineState). notes_in d (Conforming x)) e ∙ ap (λ (x : Notes). known_up_to x a (history (histories ls) a)) (sym (notes_at p m i)) in
-      ap (λ (ns : List Notes). st (histories ls) ns) (noted p new _ n) ∙ where_it_conforms p (look s p a) i.is.0
+      ap (λ (ns : List Notes). st (histories ls) ns) (noted p new _ n) ∙ where_it_conforms p (look s p a) (watch c s p a) i.is.0
     where
       st : Histories → List Notes → State
-      st b ns = record { book = b; notes = ns }
+      st b ns = record s { book = b; notes = ns }
 
   pub next_is : (p : ℕ) (m : MachineState) → IsAt p m → next_of c s p ≡ machines.next_of m
   next_is p m i =
@@ -99,11 +100,11 @@ module _ (d : Deal) (conforming : List Bool) (seeds : List (Option (List ℕ))) 
 
   made : (p : ℕ) (m new : MachineState) (b : Histories) (o : Option Action) → IsAt p m → b ≡ book_after m o (histories ls)
       → new ≡ machine_after m o (histories ls)
-      → record { book = b; notes = notes_with p new } ≡ make d s p o
+      → record s { book = b; notes = notes_with p new } ≡ make d s p o
   made p m new b None i eb en = ap₂ (λ (x : Histories) (ns : List Notes). st x ns) eb (same_notes p m new i en)
     where
       st : Histories → List Notes → State
-      st b ns = record { book = b; notes = ns }
+      st b ns = record s { book = b; notes = ns }
   made p m new b (Some x) i eb en =
       let h : after_call m.deal x.arc m.me x.call (history (histories ls) x.arc) ≡ after_call d x.arc p x.call (history (histories ls) x.arc)
       = ap₂ (λ (e : Deal) (v : ℕ). after_call e x.arc v x.call (history (histories ls) x.arc)) i.is.1 i.is.2 in
@@ -120,16 +121,17 @@ module _ (d : Deal) (conforming : List Bool) (seeds : List (Option (List ℕ))) 
       ap₂ (λ (y : Histories) (ns : List Notes). st y ns) (eb ∙ ap (λ (k : List Entry). set (histories ls) x.arc k) h) (noted p new _ n)
     where
       st : Histories → List Notes → State
-      st b ns = record { book = b; notes = ns }
+      st b ns = record s { book = b; notes = ns }
 
       note : Histories → List (Option Hashkey) → Notes
       note k ss = record { known = k; signed = ss }
 
   pub acted : (p : ℕ) (m new : MachineState) (b : Histories) → IsAt p m → b ≡ book_after m (machines.next_of m) (histories ls)
       → new ≡ machine_after m (machines.next_of m) (histories ls)
-      → record { book = b; notes = notes_with p new } ≡ step c s (Act p)
+      → record s { book = b; notes = notes_with p new } ≡ step c s (Act p)
   acted p m new b i eb en =
-      made p m new b (machines.next_of m) i eb en ∙ (ap (λ (o : Option Action). make d s p o) (sym (next_is p m i)) ∙ where_it_conforms p (act c s p) i.is.0)
+      made p m new b (machines.next_of m) i eb en ∙ (ap (λ (o : Option Action). make d s p o) (sym (next_is p m i))
+      ∙ where_it_conforms p (act c s p) (act_as c s p (role_of c p)) i.is.0)
 
   -- the histories after it, whatever became of the machine
   pub acted_book : (p : ℕ) (m : MachineState) → IsAt p m → book_after m (machines.next_of m) (histories ls) ≡ (step c s (Act p)).book

@@ -12,12 +12,18 @@ use Rattle.swap_laws.proofs.Prefixes.{same_or_not}
 use Rattle.deviator_script.specs.declared.job.Job.{Job}
 use Rattle.swap_rules.specs.Accepted.{IsAccepted}
 use Rattle.swap_laws.specs.Machine.{IsWallet}
-use Rattle.swap_run.specs.Run.{Notes, no_notes}
+use Rattle.swap_run.specs.Run.{Notes, no_notes, script_of}
+use Rattle.std.specs.List.{All}
+use Rattle.std.proofs.lemmas.List.Elements.{All-nil}
+use Rattle.swap_digraph.specs.declared.deal.Deal.{Deal}
+use Rattle.deviator_script.specs.Crafted.{Seeds}
+use Rattle.deviator_script.specs.Script.{IsMoveOf}
+use Rattle.deviator_script.specs.declared.job.Role.TheVariants as roles
 use Rattle.swap_run.specs.Laws.{IsReadyCast}
 use Rattle.party_wallet.specs.Fits.{wrong_lock}
 use Rattle.party_machine.specs.Machine.{new_machine}
 use Rattle.party_machine.proofs.Good.{fitting_is_good}
-use Rattle.swap_world.specs.Cast.{cast_of, wallet_with}
+use Rattle.swap_world.specs.Cast.{cast_of, role_for, wallet_with}
 use Rattle.swap_world.specs.Value.{WorldState, new_world}
 use Rattle.swap_world.specs.Staff.{by_lock, with_seed, actor_of, actor_step, actors_of, world_of, HaveSeeds}
 use Rattle.swap_world.specs.Inside.{notes_in, IsActorOf, AreActorsOf}
@@ -156,10 +162,22 @@ no_notes_yet job ys seeds e =
         get_or-map (notes_in job.deal) ys k Manual d lt ∙ ((is_own job ys k seeds e below).notes
         ∙ sym (get_or-replicate job.deal.graph.n k (no_notes job.deal) d below))
 
+no_moves : (d : Deal) (seeds : Seeds) (v : ℕ) (b : Bool) → All (IsMoveOf d seeds v) (script_of (role_for b))
+no_moves d seeds v true = All-nil (IsMoveOf d seeds v)
+no_moves d seeds v false = All-nil (IsMoveOf d seeds v)
+
+-- nobody has a script
+no_script : (d : Deal) (seeds : Seeds) (u : ℕ) (bs : List Bool) (v : ℕ) → All (IsMoveOf d seeds u) (script_of (get_or (map role_for bs) v roles.Manual))
+no_script d seeds u [] v = All-nil (IsMoveOf d seeds u)
+no_script d seeds u (b ∷ bs) zero = no_moves d seeds u b
+no_script d seeds u (b ∷ bs) (suc v) = no_script d seeds u bs v
+
 pub is_ready : (job : Job) (ys : List Actor) → IsAccepted job.deal → HaveSeeds job → actors_of job ≡ Ok ys → IsReadyCast (cast_of job)
 is_ready job ys accepted seeds e = record {
   accepted = accepted;
   one_each = seeds.conforming;
+  roles = length-map job.conforming role_for ∙ seeds.conforming;
+  scripts = λ v lt. no_script job.deal job.seeds v job.conforming v;
   wallets = λ v lt t. let f =
       (is_own job ys v seeds e lt).fits t in
       subst (λ o. IsWallet job.deal v (wallet_with o v job.deal)) (sym f.1) (fitting_is_good job.deal v f.0 accepted lt f.2);

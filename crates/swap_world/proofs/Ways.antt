@@ -77,7 +77,7 @@ module _ (c : Cast) where
   pub way_after : (s t u : State) (b : Histories) → IsReached c s t → IsOnTheWay c t u b → IsOnTheWay c s u b
   way_after s t u b r w = record { there = w.there; before = more_events c s t w.there r w.before; after = w.after; book = w.book }
 
-  pub way_of_step : (s : State) (e : Event) (b : Histories) → CanStep c.deal c.conforming e → (b ≡ s.book) ⊎ (b ≡ (step c s e).book)
+  pub way_of_step : (s : State) (e : Event) (b : Histories) → CanStep c.deal c.conforming c.seeds e → (b ≡ s.book) ⊎ (b ≡ (step c s e).book)
       → IsOnTheWay c s (step c s e) b
   way_of_step s e b can (inl is) = record { there = s; before = no_event c s; after = one_event c s e can; book = is }
   way_of_step s e b can (inr is) = record { there = step c s e; before = one_event c s e can; after = no_event c (step c s e); book = is }
@@ -141,7 +141,7 @@ if_err (Err e) p = p
 
 -- a step that wanted memory
 pub stopped_by : {A E : Type 0} (r : Result A E) (old new : WorldState) (e : Event) (t : State) → t ≡ step (cast_at old) old.state e
-    → CanStep old.deal old.conforming e → OnErr r (new.stopped ≡ true) → OnErr r (cast_at new ≡ cast_at old)
+    → CanStep old.deal old.conforming old.seeds e → OnErr r (new.stopped ≡ true) → OnErr r (cast_at new ≡ cast_at old)
     → OnErr r ((new.state.book ≡ old.state.book) ⊎ (new.state.book ≡ (step (cast_at old) old.state e).book)) → OnErr r (IsStopped old t new)
 stopped_by (Ok x) old new e t is can stopped cast book = tt
 stopped_by (Err x) old new e t is can stopped cast book =

@@ -28,6 +28,7 @@ use Rattle.swap_world.specs.Inside.{IsActorOf}
 use Rattle.swap_world.specs.Acting.{IsMakable, IsSameOwner, histories}
 use Rattle.swap_world.specs.declared.actor.Actor.{Actor}
 use Rattle.swap_world.specs.declared.actor.Actor.TheVariants.{Conforming}
+use Rattle.swap_world.proofs.Plans.{plans_of}
 use Rattle.swap_world.proofs.Ways.{at}
 use Rattle.swap_world.proofs.Ledgers.{history_at}
 use Rattle.swap_world.proofs.States.{IsAt, c, s, notes_at, next_is}
@@ -39,8 +40,9 @@ Seeds = List (Option (List ℕ))
 abbrev pub world : Deal → List Bool → Seeds → Bool → State → WorldState
 world d conforming seeds stopped st = record { deal = d; conforming = conforming; seeds = seeds; state = st; stopped = stopped }
 
-abbrev pub state : Histories → List Notes → State
-state b ns = record { book = b; notes = ns }
+-- a state whose parties follow no script and no strategy
+abbrev pub state : Deal → List Bool → Histories → List Notes → State
+state d conforming b ns = record { book = b; notes = ns; plans = plans_of d conforming; asked = [] }
 
 -- an actor that was found is a conforming one
 pub found : (xs : List Actor) (p : ℕ) (x : Actor) (m : MachineState) → x ≡ Conforming m → x ≡ get_or xs p x → Conforming m ≡ get_or xs p (Conforming m)
@@ -67,20 +69,21 @@ owned d conforms seed p m new k i = (i.0, k.deal ∙ i.1, k.me ∙ i.2, i.3 ∙ 
 
 -- the state after an event, or as before where memory ran out, is good
 pub good_on : {A E : Type 0} (r : Result A E) (cast : Cast) (old new : State) (e : Event) → OnOk r (new ≡ step cast old e) → OnErr r (new ≡ old)
-    → IsReadyCast cast → CanStep cast.deal cast.conforming e → IsGood cast old → IsGood cast new
+    → IsReadyCast cast → CanStep cast.deal cast.conforming cast.seeds e → IsGood cast old → IsGood cast new
 good_on (Ok x) cast old new e ok err ready can g = subst (IsGood cast) (sym ok) (steps_are_good cast old e ready can g)
 good_on (Err x) cast old new e ok err ready can g = subst (IsGood cast) (sym err) g
 
 -- before an event and after it every conforming party has kept its conduct
 kept_either : (cast : Cast) (old : State) (b : Histories) (e : Event) → (b ≡ old.book) ⊎ (b ≡ (step cast old e).book)
-    → IsReadyCast cast → CanStep cast.deal cast.conforming e → IsGood cast old → IsKept cast b
+    → IsReadyCast cast → CanStep cast.deal cast.conforming cast.seeds e → IsGood cast old → IsKept cast b
 kept_either cast old b e (inl h) ready can g = subst (IsKept cast) (sym h) (good_is_kept cast old ready g)
 kept_either cast old b e (inr h) ready can g =
     subst (IsKept cast) (sym h) (good_is_kept cast (step cast old e) ready (steps_are_good cast old e ready can g))
 
 -- whether memory ran out or not, every conforming party has kept its conduct
 pub kept_on : {A E : Type 0} (r : Result A E) (cast : Cast) (old new : State) (e : Event) → OnOk r (new ≡ step cast old e)
-    → OnErr r ((new.book ≡ old.book) ⊎ (new.book ≡ (step cast old e).book)) → IsReadyCast cast → CanStep cast.deal cast.conforming e → IsGood cast old
+    → OnErr r ((new.book ≡ old.book) ⊎ (new.book ≡ (step cast old e).book)) → IsReadyCast cast → CanStep cast.deal cast.conforming cast.seeds e
+    → IsGood cast old
     → IsKept cast new.book
 kept_on (Ok x) cast old new e ok err ready can g = good_is_kept cast new ready (subst (IsGood cast) (sym ok) (steps_are_good cast old e ready can g))
 kept_on (Err x) cast old new e ok err ready can g = kept_either cast old new.book e err ready can g
@@ -88,7 +91,7 @@ kept_on (Err x) cast old new e ok err ready can g = kept_either cast old new.boo
 -- the same of a world after a step
 pub kept_by : {A E : Type 0} (r : Result A E) (old new : WorldState) (e : Event) → OnOk r (new ≡ at old (step (cast_at old) old.state e))
     → OnErr r (cast_at new ≡ cast_at old) → OnErr r ((new.state.book ≡ old.state.book) ⊎ (new.state.book ≡ (step (cast_at old) old.state e).book))
-    → IsReadyCast (cast_at old) → CanStep old.deal old.conforming e → IsGood (cast_at old) old.state → IsKept (cast_at new) new.state.book
+    → IsReadyCast (cast_at old) → CanStep old.deal old.conforming old.seeds e → IsGood (cast_at old) old.state → IsKept (cast_at new) new.state.book
 kept_by (Ok x) old new e ok cast book ready can g =
     subst (λ w. IsKept (cast_at w) w.state.book) (sym ok)
     (good_is_kept (cast_at old) (step (cast_at old) old.state e) ready (steps_are_good (cast_at old) old.state e ready can g))
@@ -96,12 +99,12 @@ kept_by (Err x) old new e ok cast book ready can g =
     subst (λ c. IsKept c new.state.book) (sym cast) (kept_either (cast_at old) old.state new.state.book e book ready can g)
 
 -- every state that events lead to from a good one is good
-reached_good : (c : Cast) (s : State) (events : List Event) → IsReadyCast c → All (CanStep c.deal c.conforming) events → IsGood c s
+reached_good : (c : Cast) (s : State) (events : List Event) → IsReadyCast c → All (CanStep c.deal c.conforming c.seeds) events → IsGood c s
     → IsGood c (run_from c s events)
 reached_good c s [] ready can g = g
 reached_good c s (e ∷ events) ready can g =
-    reached_good c (step c s e) events ready (All-tail (CanStep c.deal c.conforming) e events can)
-    (steps_are_good c s e ready (All-head (CanStep c.deal c.conforming) e events can) g)
+    reached_good c (step c s e) events ready (All-tail (CanStep c.deal c.conforming c.seeds) e events can)
+    (steps_are_good c s e ready (All-head (CanStep c.deal c.conforming c.seeds) e events can) g)
 
 reached_kept : (c : Cast) (s t : State) → IsReadyCast c → IsGood c s → IsReached c s t → IsKept c t.book
 reached_kept c s t ready g r = good_is_kept c t ready (subst (IsGood c) (sym r.state) (reached_good c s r.events ready r.can g))
@@ -122,7 +125,7 @@ both (Err e) f p q = tt
 
 -- the state after an act that didn't run out of memory is good
 pub good_unless : {A E : Type 0} (r : Result A E) (stopped : Bool) (cast : Cast) (old new : State) (e : Event) → stopped ≡ is_err r → stopped ≡ false
-    → OnOk r (new ≡ step cast old e) → IsReadyCast cast → CanStep cast.deal cast.conforming e → IsGood cast old → IsGood cast new
+    → OnOk r (new ≡ step cast old e) → IsReadyCast cast → CanStep cast.deal cast.conforming cast.seeds e → IsGood cast old → IsGood cast new
 good_unless (Ok x) stopped cast old new e is goes_on ok ready can g = subst (IsGood cast) (sym ok) (steps_are_good cast old e ready can g)
 good_unless (Err x) stopped cast old new e is goes_on ok ready can g = absurd (false≢true (sym goes_on ∙ is))
 

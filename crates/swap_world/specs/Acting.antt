@@ -2,6 +2,7 @@
 use Rattle.std.specs.Prelude.{◌≡◌, ◌==◌, ◌||◌, ◌<◌, ℕ, true, IsTrue, List, length, map, slice_set, Option, Some, None}
 use Rattle.swap_digraph.specs.declared.deal.Deal.{Deal}
 use Rattle.swap_digraph.specs.Deal.{party, counterparty}
+use Rattle.ledger_core.specs.declared.entry.Call.{Call}
 use Rattle.ledger_core.specs.Value.{LedgerState}
 use Rattle.ledger_core.specs.History.{fit}
 use Rattle.ledger_core.specs.Known.{presents_valid}
@@ -43,3 +44,8 @@ machine_after m (Some x) b = record {
   known = slice_set m.known x.arc (after_call m.deal x.arc m.me x.call (history b x.arc));
   signed = signed_after m.signed x.call;
 }
+
+-- the histories after a call of party v that doesn't conform, if any
+abbrev pub taken : Deal → ℕ → Option (ℕ × Call) → Histories → Histories
+taken d v None b = b
+taken d v (Some x) b = slice_set b x.0 (after_call d x.0 v x.1 (history b x.0))

@@ -4,9 +4,9 @@ use Rattle.swap_digraph.specs.Graph.{arcs}
 use Rattle.swap_digraph.specs.declared.deal.Deal.{Deal}
 use Rattle.ledger_core.specs.Value.{LedgerState}
 use Rattle.ledger_core.specs.History.{IsLegal}
-use Rattle.swap_run.specs.Run.{Cast, Notes, State, no_notes}
+use Rattle.swap_run.specs.Run.{Cast, Notes, State, no_notes, first_plan}
 use Rattle.swap_run.specs.Laws.{IsReadyCast, IsGood, IsKept}
-use Rattle.swap_world.specs.Cast.{cast_with}
+use Rattle.swap_world.specs.Cast.{cast_with, role_for}
 use Rattle.swap_world.specs.Value.{WorldState}
 use Rattle.swap_world.specs.declared.actor.Actor.{Actor}
 use Rattle.swap_world.specs.declared.actor.Actor.TheVariants.{Conforming, Manual}
@@ -21,7 +21,12 @@ abbrev pub cast_in : Inside → Cast
 cast_in w = cast_with w.deal w.conforming w.seeds
 
 abbrev pub state_in : Inside → State
-state_in w = record { book = map (λ l. l.history) w.ledgers.items; notes = map (notes_in w.deal) w.actors.items }
+state_in w = record {
+  book = map (λ l. l.history) w.ledgers.items;
+  notes = map (notes_in w.deal) w.actors.items;
+  plans = map (first_plan w.deal) (map role_for w.conforming);
+  asked = [];
+}
 
 abbrev pub world_in : Inside → WorldState
 world_in w = record { deal = w.deal; conforming = w.conforming; seeds = w.seeds; state = state_in w; stopped = w.stopped }

@@ -3,7 +3,7 @@ use Rattle.std.specs.Prelude.{ℕ, List, Option, Bool, false}
 use Rattle.swap_digraph.specs.declared.deal.Deal.{Deal}
 use Rattle.deviator_script.specs.declared.job.Job.{Job}
 use Rattle.swap_run.specs.Run.{Cast, State, start}
-use Rattle.swap_world.specs.Cast.{cast_with}
+use Rattle.swap_world.specs.Cast.{cast_with, cast_of}
 
 pub record WorldState : Type 0 where
   pub deal : Deal
@@ -21,4 +21,4 @@ cast_at w = cast_with w.deal w.conforming w.seeds
 
 -- the world of a job before any event
 abbrev pub new_world : Job → WorldState
-new_world job = record { deal = job.deal; conforming = job.conforming; seeds = job.seeds; state = start job.deal; stopped = false }
+new_world job = record { deal = job.deal; conforming = job.conforming; seeds = job.seeds; state = start (cast_of job); stopped = false }

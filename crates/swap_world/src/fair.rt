@@ -62,7 +62,6 @@ fn act_to_rest(world: &mut World, p: PartyId) -> Result<(), NoMemory>
 }
 
 /// A party's turn: it looks around, and then acts until nothing is due.
-#[tactic(auto, unfolding(swap_run::specs::Fair::turn))]
 fn turn(world: &mut World, p: PartyId) -> Result<(), NoMemory>
     requires party { p < world.old.deal.graph.n }
     requires goes_on { world.old.stopped ≡ false }

@@ -12,7 +12,7 @@ use swap_base::NoMemory;
 
 /// Takes events in their order.
 pub(crate) fn run(world: &mut World, events: &[Event]) -> Result<(), NoMemory>
-    requires events { All (CanStep world.old.deal world.old.conforming) events.now }
+    requires events { All (CanStep world.old.deal world.old.conforming world.old.seeds) events.now }
     ensures ok { OnOk result (world.new ≡ record world.old { state = run_from (cast_at world.old) world.old.state events.now }) }
     ensures err { OnErr result (IsStopped world.old (run_from (cast_at world.old) world.old.state events.now) world.new) }
 {

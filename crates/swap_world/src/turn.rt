@@ -1,26 +1,32 @@
 //! What an event does to one ledger, and to the machine of a party beside it.
 
-ghost use Rattle.std.specs.Prelude.{◌≡◌, ◌==◌, ◌||◌, ◌<◌, ◌≤◌, ◌+◌, ◌⊎◌, ℕ, Some, None, false, IsTrue, OnOk, OnErr, IfOk, length, slice_set};
+ghost use Rattle.std.specs.Prelude.{◌≡◌, ◌==◌, ◌||◌, ◌<◌, ◌≤◌, ◌+◌, ◌⊎◌, ℕ, Some, None, false, IsTrue, OnOk, OnErr, IfOk, length, slice_set, option_copied};
 ghost use Rattle.swap_digraph.specs.Deal.{IsWellSized, party, counterparty};
 ghost use Rattle.ledger_core.specs.Known.{is_known_in};
 ghost use Rattle.ledger_core.specs.History.{IsLegal, fit};
 ghost use Rattle.ledger_core.specs.Book.{history};
-ghost use Rattle.deviator_script.specs.Resolved.{arc_of, call_of, IsFitting};
+ghost use Rattle.std.specs.Option.{ForSome};
+ghost use Rattle.deviator_script.specs.Fitting.{IsFitting};
+ghost use Rattle.deviator_script.specs.Resolved.{arc_of, opening_named, key_opened, resolved};
+ghost use Rattle.deviator_script.specs.View.{is_near};
 ghost use Rattle.swap_laws.specs.Machine.{Begins};
 ghost use Rattle.swap_rules.specs.Due.{Action};
 ghost use Rattle.ledger_core.specs.Ledger.{after_call};
-ghost use Rattle.swap_run.specs.Run.{after_tick, after_move};
+ghost use Rattle.swap_run.specs.Run.{after_tick};
 ghost use Rattle.party_machine.specs.Machine.{next_of};
-ghost use Rattle.swap_world.specs.Acting.{IsMakable, IsSameOwner, histories, book_after, machine_after};
+ghost use Rattle.swap_world.specs.Acting.{IsMakable, IsSameOwner, histories, book_after, machine_after, taken};
 ghost use Rattle.swap_world.specs.Inside.{AreLedgersOf, IsLedgerOf};
 
-use deviator_script::{Move, resolve};
+use deviator_script::{Move, opened_key_in, opening_named, resolve_with};
+use hashkey_path::Hashkey;
 use history_index::Steps;
 use ledger_core::{Call, Ledger};
 use party_machine::Machine;
+use std::alloc::Global;
 use std::marker::Brand;
 use std::sync::ledger::{Blank, Ledger as Counted};
-use swap_base::{ArcId, NoMemory, PartyId};
+use swap_base::{ArcId, Digest, NoMemory, PartyId};
+use swap_digraph::Deal;
 
 /// Ticks a ledger by k heights.
 #[tactic(auto, unfolding(swap_run::specs::Run::after_tick))]
@@ -62,19 +68,54 @@ pub(crate) fn call(
     Ok(())
 }
 
-/// Makes the call that a move stands for, if any.
-pub(crate) fn make(ledger: &mut Ledger, sender: PartyId, mv: &Move) -> Result<(), NoMemory>
-    requires arc { arc_of mv.now ≡ ledger.old.arc }
-    requires fits { IsFitting ledger.old.deal sender mv.now }
-    requires legal { IsLegal ledger.old.deal ledger.old.arc ledger.old.history }
-    ensures ok { OnOk result (ledger.new.history ≡ after_move ledger.old.deal ledger.old.arc sender (call_of ledger.old.deal mv.now) ledger.old.history) }
-    ensures err { OnErr result (ledger.new.history ≡ ledger.old.history) }
-    ensures deal { ledger.new.deal ≡ ledger.old.deal }
-    ensures arc { ledger.new.arc ≡ ledger.old.arc }
-    ensures legal { IsLegal ledger.new.deal ledger.new.arc ledger.new.history }
+/// The hashkey of the opening that a move names, where it came.
+fn key_named<'l>(ledgers: &'l [Ledger], mv: &Move) -> Option<&'l Hashkey>
+    requires { ForSome (opening_named mv.now) (λ x. x.0 < length ledgers.now) }
+    ensures { option_copied result ≡ key_opened (histories ledgers.now) (opening_named mv.now) }
 {
-    match resolve(ledger.deal(), mv)? {
-        Some(made) => call(ledger, sender, made, 0),
+    match opening_named(mv) {
+        Some((onto, lock)) => opened_key_in(ledgers[onto as usize].history(), lock),
+        None => None,
+    }
+}
+
+/// The call that a move stands for over the ledgers as they stand, with its arc.
+fn resolve_on(
+    alloc: Global,
+    ledgers: &[Ledger],
+    deal: &Deal,
+    seeds: &[Option<Digest>],
+    mv: &Move,
+) -> Result<Option<(ArcId, Call)>, NoMemory>
+    requires sized { IsWellSized deal.now }
+    requires ledgers { AreLedgersOf deal.now ledgers.now }
+    requires fits { IsFitting deal.now seeds.now mv.now }
+    ensures exact { IfOk result (λ o. o ≡ resolved deal.now seeds.now (histories ledgers.now) mv.now) }
+    ensures fits { IfOk result (λ o. ForSome o (λ x. IsTrue (fit deal.now x.0 x.1))) }
+{
+    resolve_with(alloc, deal, seeds, mv, key_named(ledgers, mv))
+}
+
+/// Makes the call that a move stands for, if any, over the ledgers as they stand.
+pub(crate) fn make(
+    ledgers: &mut Vec<Ledger>,
+    deal: &Deal,
+    seeds: &[Option<Digest>],
+    sender: PartyId,
+    mv: &Move,
+) -> Result<(), NoMemory>
+    requires sized { IsWellSized deal.now }
+    requires ledgers { AreLedgersOf deal.now ledgers.old.items }
+    requires fits { IsFitting deal.now seeds.now mv.now }
+    requires near { IsTrue (is_near deal.now sender (arc_of mv.now)) }
+    ensures ok { OnOk result (histories ledgers.new.items
+        ≡ taken deal.now sender (resolved deal.now seeds.now (histories ledgers.old.items) mv.now) (histories ledgers.old.items)) }
+    ensures err { OnErr result (histories ledgers.new.items ≡ histories ledgers.old.items) }
+    ensures ledgers { AreLedgersOf deal.now ledgers.new.items }
+{
+    let alloc = *ledgers.allocator();
+    match resolve_on(alloc, ledgers, deal, seeds, mv)? {
+        Some((arc, made)) => call(&mut ledgers[arc as usize], sender, made, 0),
         None => Ok(()),
     }
 }

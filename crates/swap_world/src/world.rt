@@ -21,7 +21,7 @@ ghost use Rattle.swap_world.specs.Inside.{new_ledgers};
 use crate::actor::Actor;
 use crate::staff::{WorldFault, actors_of};
 use crate::{fair, many, turn};
-use deviator_script::{Event, Job, Move, arc_of_move};
+use deviator_script::{Event, Job, Move};
 use ledger_core::{Book, EntryList, Ledger};
 use party_wallet::Wallet;
 use std::alloc::Global;
@@ -148,18 +148,23 @@ impl World {
     }
 
     fn make(&mut self, sender: PartyId, mv: &Move) -> Result<(), NoMemory>
-        requires event { CanCall self.old.deal self.old.conforming sender mv.now }
+        requires event { CanCall self.old.deal self.old.conforming self.old.seeds sender mv.now }
         requires goes_on { self.old.stopped ≡ false }
         ensures ok { OnOk result (self.new ≡ record self.old { state = step (cast_at self.old) self.old.state (Event.Call sender mv.now) }) }
         ensures err { OnErr result (self.new ≡ self.old) }
     {
-        let ledger = &mut self.ledgers[arc_of_move(mv) as usize];
-        turn::make(ledger, sender, mv)
+        turn::make(
+            &mut self.ledgers,
+            &self.deal,
+            self.seeds.as_slice(),
+            sender,
+            mv,
+        )
     }
 
     /// Takes an event, where memory never ran out.
     fn take(&mut self, event: &Event) -> Result<(), NoMemory>
-        requires event { CanStep self.old.deal self.old.conforming event.now }
+        requires event { CanStep self.old.deal self.old.conforming self.old.seeds event.now }
         requires goes_on { self.old.stopped ≡ false }
         ensures ok { OnOk result (self.new ≡ record self.old { state = step (cast_at self.old) self.old.state event.now }) }
         ensures err { OnErr result (self.new.stopped ≡ true) }
@@ -181,7 +186,7 @@ impl World {
 
     /// Takes one event. After want of memory the histories are those before the event or after it, and every later step wants memory too.
     pub fn step(&mut self, event: &Event) -> Result<(), NoMemory>
-        requires event { CanStep self.old.deal self.old.conforming event.now }
+        requires event { CanStep self.old.deal self.old.conforming self.old.seeds event.now }
         ensures ok { OnOk result (self.new ≡ record self.old { state = step (cast_at self.old) self.old.state event.now }) }
         ensures err { OnErr result (self.new.stopped ≡ true) }
         ensures cast { OnErr result (cast_at self.new ≡ cast_at self.old) }
@@ -199,7 +204,7 @@ impl World {
 
     /// Takes events in their order. After want of memory every later step wants memory too.
     pub fn run(&mut self, events: &[Event]) -> Result<(), NoMemory>
-        requires events { All (CanStep self.old.deal self.old.conforming) events.now }
+        requires events { All (CanStep self.old.deal self.old.conforming self.old.seeds) events.now }
         ensures ok { OnOk result (self.new ≡ record self.old { state = run_from (cast_at self.old) self.old.state events.now }) }
         ensures err { OnErr result (IsStopped self.old (run_from (cast_at self.old) self.old.state events.now) self.new) }
         ensures stopped { IsTrue self.old.stopped → IsErr result × (self.new.state.book ≡ self.old.state.book) }
@@ -218,7 +223,7 @@ impl World {
         ensures ok { OnOk result (self.new ≡ record self.old { state = finish (cast_at self.old) self.old.state }) }
         ensures ended { OnOk result (IsEnded self.old.deal self.new.state.book) }
         // Where every party conforms and nothing came before, everything moves.
-        ensures dealt { OnOk result (AllConform self.old → self.old.state ≡ start self.old.deal
+        ensures dealt { OnOk result (AllConform self.old → self.old.state ≡ start (cast_at self.old)
             → IsDealt self.old.deal (conforms (cast_at self.old)) self.new.state.book) }
         ensures err { OnErr result (IsStopped self.old (finish (cast_at self.old) self.old.state) self.new) }
         ensures stopped { IsTrue self.old.stopped → IsErr result × (self.new.state.book ≡ self.old.state.book) }

@@ -1,4 +1,4 @@
-use Rattle.swap_gen.proofs.Proposing.{is_proposed}
+use Rattle.proposed_deal.proofs.Proposals.{is_proposed}
 use Rattle.swap_gen.proofs.Owning.{seeds_of_owned}
 use Rattle.making_tests.proofs.numbers.again.Goals as goal
 

@@ -1,5 +1,6 @@
-use Rattle.std.proofs.Common.{◌<◌, length, arith}
-use Rattle.offer_events.proofs.Fits.{move_arc}
+use Rattle.std.proofs.Common.{◌<◌, length, sym, subst, arith}
+use Rattle.offer_events.specs.Kept.{AreCraftersBelow}
+use Rattle.offer_events.proofs.Fits.{move_made}
 use Rattle.offer_events.proofs.event.event_of_call.Goals as goal
 
 pub bounds-as_slice-p : goal.bounds-as_slice-p
@@ -11,7 +12,10 @@ bounds-as_slice-p c =
 pub check_place-requires : goal.check_place-requires
 check_place-requires c =
     let job = c.args.job.now in
+    let made = move_made job.deal job.seeds job.names c.args.line c.args.raw.now c.in_ok-mv.mv c.requires.sized c.requires.names
+    (rw c.as_slice-names.ensures at c.in_ok-mv.ensures) in
     record {
-      arc = move_arc job.deal job.names c.args.line c.args.raw.now c.in_ok-mv.mv c.requires.sized c.requires.names
-          (rw c.as_slice-names.ensures at c.in_ok-mv.ensures);
+      arc = made.arc;
+      conforming = subst (λ n. AreCraftersBelow n c.in_ok-mv.mv) (sym c.requires.conforming) made.below;
+      seeds = subst (λ n. AreCraftersBelow n c.in_ok-mv.mv) (sym c.requires.seeds) made.below;
     }

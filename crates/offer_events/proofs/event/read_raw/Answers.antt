@@ -2,4 +2,5 @@ use Rattle.offer_events.proofs.Fits.{checked_fits}
 use Rattle.offer_events.proofs.event.read_raw.Goals as goal
 
 pub returns-clause-fits : goal.returns-clause-fits
-returns-clause-fits c = checked_fits c.args.job.now c.args.line c.args.raw.now c.in_ok-event.event c.requires.sized c.requires.names c.in_ok-event.ensures
+returns-clause-fits c = λ needs.
+    checked_fits c.args.job.now c.args.line c.args.raw.now c.in_ok-event.event c.requires.sized c.requires.names needs c.in_ok-event.ensures

@@ -1,4 +1,4 @@
 use Rattle.offer_header.proofs.parts.only_arc_fields.Goals as goal
 
-pub returns-in-Timelocks : goal.returns-in-Timelocks
-returns-in-Timelocks c = rw c.in-Timelocks.is c.only_in.ensures
+pub returns-then-stated : goal.returns-then-stated
+returns-then-stated c = rw c.if-stated.true c.only_in.ensures

@@ -7,7 +7,7 @@ use Rattle.refusals.specs.declared.refusal.Refusal.{Refusal}
 use Rattle.refusals.specs.Refusal.{fault_with, named}
 use Rattle.refusals.proofs.Named.{fails, named_ok}
 use Rattle.deviator_script.specs.declared.job.Job.{Job}
-use Rattle.swap_offer.specs.Job.{events_of, job_header_of, names_at, of_lines}
+use Rattle.swap_offer.specs.Job.{events_for, job_header_of, names_at, of_lines}
 use Rattle.swap_offer.proofs.job.read_from.Goals as goal
 
 -- what fails makes all that goes on from it fail
@@ -29,5 +29,5 @@ returns-in-Err-clause-exact c =
     rw c.with_names.ensures
     (rw c.in_ok-job.ensures.names
     (fails (names_at c.args.purpose c.args.line c.args.text.now) c.in-Err.fault (of_lines c.args.purpose ((c.args.line, c.args.text.now) ∷ lines))
-    (fails_after c.in-Err.fault read job (λ j. events_of j 0 lines >>= λ events. Ok (j, events)) was
-    (fails_on c.in-Err.fault (events_of job 0 lines) (λ events. Ok (job, events)) c.in-Err.ensures))))
+    (fails_after c.in-Err.fault read job (λ j. events_for c.args.purpose j lines >>= λ events. Ok (j, events)) was
+    (fails_on c.in-Err.fault (events_for c.args.purpose job lines) (λ events. Ok (job, events)) c.in-Err.ensures))))

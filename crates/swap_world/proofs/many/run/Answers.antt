@@ -17,11 +17,13 @@ returns-in_err-step-clause-err c =
     let new = c.step.new.self in
     let cast = cast_at w in
     let e = c.in_err-step.ensures in
-    let can : CanStep mid.deal mid.conforming c.event-item.result = subst (λ v. CanStep v.deal v.conforming c.event-item.result) (sym c.events.invariant)
-    (subst (CanStep w.deal w.conforming) (sym c.event-item.is)
-    (All-get_or (CanStep w.deal w.conforming) c.args.events.now c.events.event-index c.event-item.result c.events-test.true c.requires.events)) in
+    let can : CanStep mid.deal mid.conforming mid.seeds c.event-item.result =
+    subst (λ v. CanStep v.deal v.conforming v.seeds c.event-item.result) (sym c.events.invariant)
+    (subst (CanStep w.deal w.conforming w.seeds) (sym c.event-item.is)
+    (All-get_or (CanStep w.deal w.conforming w.seeds) c.args.events.now c.events.event-index c.event-item.result c.events-test.true
+    c.requires.events)) in
     let stopped : IsStopped mid (step (cast_at mid) mid.state c.event-item.result) new =
     record { stopped = e.err; cast = e.cast; book = way_of_step (cast_at mid) mid.state c.event-item.result new.state.book can e.book } in
     if_err _ (list_stops step w mid new c.args.events.now c.events.event-index c.event-item.result c.events.invariant c.events-test.true c.event-item.is
-    (All-weaker (CanStep cast.deal cast.conforming) (λ x. (s : State)
+    (All-weaker (CanStep cast.deal cast.conforming cast.seeds) (λ x. (s : State)
     → IsReached cast s (step cast s x)) (λ x can s. one_event cast s x can) c.args.events.now c.requires.events) stopped)

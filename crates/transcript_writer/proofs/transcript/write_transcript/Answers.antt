@@ -3,6 +3,10 @@ use Rattle.std.proofs.lemmas.Result.{err_from_is_err_and}
 use Rattle.swap_io.proofs.Handing.{handed_was, hands_after, written_part, written_short}
 use Rattle.transcript_writer.proofs.transcript.write_transcript.Goals as goal
 
+-- what is shown isn't made
+pub write_lines-requires-clause-words : goal.write_lines-requires-clause-words
+write_lines-requires-clause-words g c e = absurd (cc (sym e ∙ c.requires.shown))
+
 pub returns-in_err-write_lines-clause-write_fault : goal.returns-in_err-write_lines-clause-write_fault
 returns-in_err-write_lines-clause-write_fault g c is =
     let p = err_from_is_err_and c.from_residual.result c.from_residual.ensures.1 in

@@ -1,7 +1,7 @@
 use Rattle.std.proofs.Common.{◌≡◌, ◌∙◌, sym, ap, subst}
 use Rattle.deviator_script.specs.declared.job.Job.{Job}
 use Rattle.swap_gen.specs.Word.{DrawState}
-use Rattle.swap_gen.specs.Proposed.{IsProposed}
+use Rattle.proposed_deal.specs.Proposed.{IsProposed}
 use Rattle.swap_gen.specs.Events.{first_place}
 use Rattle.swap_gen.proofs.Generated.{plain_job_is_proposed}
 use Rattle.swap_gen.proofs.New.{new_holds, new_shows}

@@ -57,11 +57,13 @@ invariant_of-self-2 c =
           (owned i.deal (slice_index_or i.conforming c.args.p false) (slice_index_or i.seeds c.args.p None) c.args.p m new c.act-done.ensures.owner place.is);
       good =
           λ g. good_unless c.act-done.result c.is_err-self-inside.result (cast_in i) (state_in i)
-          (state b (map (notes_in i.deal) (set xs c.args.p (Conforming new)))) (Act c.args.p) c.is_err-self-inside.ensures.value g
+          (state i.deal i.conforming b (map (notes_in i.deal) (set xs c.args.p (Conforming new)))) (Act c.args.p) c.is_err-self-inside.ensures.value g
           (both c.act-done.result (acted i.deal i.conforming i.seeds ls xs c.args.p m c.act-done.new.machine (histories c.act-done.new.ledgers.items)
           place) c.act-done.ensures.ok c.act-done.ensures.knows)
           c.self.invariant.ready known (c.self.invariant.good goes_on);
-      kept = kept_on c.act-done.result (cast_in i) (state_in i) (state b (map (notes_in i.deal) (set xs c.args.p (Conforming new)))) (Act c.args.p)
+      kept =
+          kept_on c.act-done.result (cast_in i) (state_in i) (state i.deal i.conforming b (map (notes_in i.deal) (set xs c.args.p (Conforming new))))
+          (Act c.args.p)
           (both c.act-done.result (acted i.deal i.conforming i.seeds ls xs c.args.p m new b place) c.act-done.ensures.ok c.act-done.ensures.knows)
           (on_err c.act-done.result (either (λ e. e) (λ e. e ∙ acted_book i.deal i.conforming i.seeds ls xs c.args.p m place)) c.act-done.ensures.err)
           c.self.invariant.ready known (c.self.invariant.good goes_on);

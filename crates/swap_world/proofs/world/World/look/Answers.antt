@@ -53,11 +53,11 @@ invariant_of-self-2 c =
           (owned i.deal (slice_index_or i.conforming c.args.p false) (slice_index_or i.seeds c.args.p None) c.args.p m new
           (same_owner c.learn.result m new (set m.known c.args.arc (history (histories ls) c.args.arc))
           (on_ok c.learn.result (know m new ls c.args.arc l k.arc below c.index.ensures) c.learn.ensures.ok) c.learn.ensures.err) place.is);
-      good = λ g. good_on c.learn.result (cast_in i) (state_in i) (state (histories ls) ns) (Look c.args.p c.args.arc)
+      good = λ g. good_on c.learn.result (cast_in i) (state_in i) (state i.deal i.conforming (histories ls) ns) (Look c.args.p c.args.arc)
           (on_ok c.learn.result (λ e. looked i.deal i.conforming i.seeds ls xs c.args.p c.args.arc m new place
           (know m new ls c.args.arc l k.arc below c.index.ensures e)) c.learn.ensures.ok)
-          (on_err c.learn.result (λ e. ap (λ x. state (histories ls) x) (same_notes i.deal i.conforming i.seeds ls xs c.args.p m new place e))
-          c.learn.ensures.err)
+          (on_err c.learn.result (λ e. ap (λ x. state i.deal i.conforming (histories ls) x)
+          (same_notes i.deal i.conforming i.seeds ls xs c.args.p m new place e)) c.learn.ensures.err)
           c.self.invariant.ready can (c.self.invariant.good g);
       kept = c.self.invariant.kept;
     }
@@ -102,5 +102,5 @@ returns-clause-err c =
     let new = c.learn.new.machine in
     let ns = map (notes_in i.deal) (set xs c.args.p (Conforming new)) in
     rw (← c.self.view_is)
-    (on_err c.learn.result (λ e. ap (λ x. world i.deal i.conforming i.seeds i.stopped (state (histories ls) x))
+    (on_err c.learn.result (λ e. ap (λ x. world i.deal i.conforming i.seeds i.stopped (state i.deal i.conforming (histories ls) x))
     (same_notes i.deal i.conforming i.seeds ls xs c.args.p m new place e)) c.learn.ensures.err)

@@ -1,67 +1,57 @@
-use Rattle.std.proofs.Common.{◌≡◌, ◌<◌, map, set, sym, ap, subst, inl}
-use Rattle.ledger_core.specs.Book.{history}
+use Rattle.std.proofs.Common.{◌≡◌, map, sym, ap, ◌∙◌, subst, inl, OnOk}
+use Rattle.ledger_core.specs.Book.{Histories}
 use Rattle.deviator_script.specs.declared.event.Event.TheVariants.{Call as Made}
-use Rattle.deviator_script.specs.Resolved.{call_of}
-use Rattle.swap_run.specs.Run.{after_move}
-use Rattle.swap_world.specs.Acting.{histories}
+use Rattle.deviator_script.specs.Resolved.{resolved}
+use Rattle.swap_laws.proofs.Accepted.{accepted_is_well_sized}
+use Rattle.swap_world.specs.Acting.{histories, taken}
 use Rattle.swap_world.specs.Inside.{notes_in, cast_in, state_in}
-use Rattle.swap_world.proofs.Ledgers.{on_ok, on_err, book_ok, book_err, moved, ledger_set, made}
+use Rattle.swap_world.proofs.Plans.{take_is}
+use Rattle.swap_world.proofs.Ledgers.{on_ok, on_err}
 use Rattle.swap_world.proofs.Worlds.{world, state, good_on, kept_on}
 use Rattle.swap_world.proofs.world.World.make.Goals as goal
+
+pub make-requires-clause-sized : goal.make-requires-clause-sized
+make-requires-clause-sized c = accepted_is_well_sized c.self.inside.deal c.self.invariant.ready.accepted
 
 pub invariant_of-self : goal.invariant_of-self
 invariant_of-self c =
     let i = c.self.inside in
-    let a = c.arc_of_move.result in
     let ls = i.ledgers.items in
-    let l = c.index_mut-ledger.result.now in
+    let new = c.make.new.ledgers.items in
     let ns = map (notes_in i.deal) i.actors.items in
     let can = rw (← c.self.view_is) at c.requires.event in
-    let below = subst (λ n. a < n) (sym c.self.invariant.ledgers.one_each) (rw c.arc_of_move.ensures can.fits.arc) in
-    let k = c.self.invariant.ledgers.each a l below c.index_mut-ledger.ensures.value in
+    let goes_on = rw (← c.self.view_is) at c.requires.goes_on in
+    let made = on_ok c.make.result (λ (e : histories new ≡ taken i.deal c.args.sender (resolved i.deal i.seeds (histories ls) c.args.mv.now) (histories ls)).
+    ap (λ (b : Histories). state i.deal i.conforming b ns) e
+    ∙ sym (take_is i.deal i.conforming i.seeds (state_in i) c.args.sender (resolved i.deal i.seeds (histories ls) c.args.mv.now)))
+    (subst (λ ss. OnOk c.make.result (histories new ≡ taken i.deal c.args.sender (resolved i.deal ss (histories ls) c.args.mv.now) (histories ls)))
+    c.as_slice.ensures c.make.ensures.ok) in
     record {
       ready = c.self.invariant.ready;
-      ledgers = ledger_set i.deal ls a c.make.new.ledger c.self.invariant.ledgers below
-          (moved i.deal a l c.make.new.ledger k c.make.ensures.deal c.make.ensures.arc c.make.ensures.legal);
+      ledgers = c.make.ensures.ledgers;
       actors = c.self.invariant.actors;
-      good = λ goes_on. good_on c.make.result (cast_in i) (state_in i) (state (histories (set ls a c.make.new.ledger)) ns) (Made c.args.sender c.args.mv.now)
-          (on_ok c.make.result (λ e. subst (λ z. state (histories (set ls a c.make.new.ledger)) ns
-          ≡ state (set (histories ls) z (after_move i.deal z c.args.sender (call_of i.deal c.args.mv.now) (history (histories ls) z))) ns)
-          c.arc_of_move.ensures
-          (ap (λ b. state b ns) (book_ok ls a l c.make.new.ledger (after_move i.deal a c.args.sender (call_of i.deal c.args.mv.now)) below
-          c.index_mut-ledger.ensures.value (made i.deal a c.args.sender c.args.mv.now l c.make.new.ledger k e)))) c.make.ensures.ok)
-          (on_err c.make.result (λ e. ap (λ b. state b ns) (book_err ls a l c.make.new.ledger c.index_mut-ledger.ensures.value e)) c.make.ensures.err)
-          c.self.invariant.ready can (c.self.invariant.good goes_on);
-      kept = kept_on c.make.result (cast_in i) (state_in i) (state (histories (set ls a c.make.new.ledger)) ns) (Made c.args.sender c.args.mv.now)
-          (on_ok c.make.result (λ e. subst (λ z. state (histories (set ls a c.make.new.ledger)) ns
-          ≡ state (set (histories ls) z (after_move i.deal z c.args.sender (call_of i.deal c.args.mv.now) (history (histories ls) z))) ns)
-          c.arc_of_move.ensures
-          (ap (λ b. state b ns) (book_ok ls a l c.make.new.ledger (after_move i.deal a c.args.sender (call_of i.deal c.args.mv.now)) below
-          c.index_mut-ledger.ensures.value (made i.deal a c.args.sender c.args.mv.now l c.make.new.ledger k e)))) c.make.ensures.ok)
-          (on_err c.make.result (λ e. inl (book_err ls a l c.make.new.ledger c.index_mut-ledger.ensures.value e)) c.make.ensures.err)
-          c.self.invariant.ready can (c.self.invariant.good (rw (← c.self.view_is) at c.requires.goes_on));
+      good = λ g. good_on c.make.result (cast_in i) (state_in i) (state i.deal i.conforming (histories new) ns) (Made c.args.sender c.args.mv.now) made
+          (on_err c.make.result (λ e. ap (λ b. state i.deal i.conforming b ns) e) c.make.ensures.err) c.self.invariant.ready can (c.self.invariant.good g);
+      kept = kept_on c.make.result (cast_in i) (state_in i) (state i.deal i.conforming (histories new) ns) (Made c.args.sender c.args.mv.now) made
+          (on_err c.make.result (λ e. inl e) c.make.ensures.err) c.self.invariant.ready can (c.self.invariant.good goes_on);
     }
 
 pub returns-clause-ok : goal.returns-clause-ok
 returns-clause-ok c =
     let i = c.self.inside in
-    let a = c.arc_of_move.result in
     let ls = i.ledgers.items in
-    let l = c.index_mut-ledger.result.now in
+    let new = c.make.new.ledgers.items in
     let ns = map (notes_in i.deal) i.actors.items in
-    let can = rw (← c.self.view_is) at c.requires.event in
-    let below = subst (λ n. a < n) (sym c.self.invariant.ledgers.one_each) (rw c.arc_of_move.ensures can.fits.arc) in
-    let k = c.self.invariant.ledgers.each a l below c.index_mut-ledger.ensures.value in
-    rw (← c.self.view_is, ← c.arc_of_move.ensures)
-    (on_ok c.make.result (λ e. ap (λ b. world i.deal i.conforming i.seeds i.stopped (state b ns))
-    (book_ok ls a l c.make.new.ledger (after_move i.deal a c.args.sender (call_of i.deal c.args.mv.now)) below c.index_mut-ledger.ensures.value
-    (made i.deal a c.args.sender c.args.mv.now l c.make.new.ledger k e))) c.make.ensures.ok)
+    rw (← c.self.view_is)
+    (on_ok c.make.result (λ (e : histories new ≡ taken i.deal c.args.sender (resolved i.deal i.seeds (histories ls) c.args.mv.now) (histories ls)).
+    ap (λ s. world i.deal i.conforming i.seeds i.stopped s) (ap (λ (b : Histories). state i.deal i.conforming b ns) e
+    ∙ sym (take_is i.deal i.conforming i.seeds (state_in i) c.args.sender (resolved i.deal i.seeds (histories ls) c.args.mv.now))))
+    (subst (λ ss. OnOk c.make.result (histories new ≡ taken i.deal c.args.sender (resolved i.deal ss (histories ls) c.args.mv.now) (histories ls)))
+    c.as_slice.ensures c.make.ensures.ok))
 
 pub returns-clause-err : goal.returns-clause-err
 returns-clause-err c =
     let i = c.self.inside in
-    let a = c.arc_of_move.result in
     let ns = map (notes_in i.deal) i.actors.items in
-    rw (← c.self.view_is)
-    (on_err c.make.result (λ e. ap (λ b. world i.deal i.conforming i.seeds i.stopped (state b ns))
-    (book_err i.ledgers.items a c.index_mut-ledger.result.now c.make.new.ledger c.index_mut-ledger.ensures.value e)) c.make.ensures.err)
+    rw (← c.self.view_is) (on_err c.make.result (λ e. ap (λ b. world i.deal i.conforming i.seeds i.stopped (state i.deal i.conforming b ns)) e)
+    c.make.ensures.err)

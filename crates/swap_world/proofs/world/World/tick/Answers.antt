@@ -21,16 +21,19 @@ invariant_of-self c =
           (moved i.deal c.args.arc l c.tick.new.ledger (c.self.invariant.ledgers.each c.args.arc l below c.index_mut-ledger.ensures.value)
           c.tick.ensures.deal c.tick.ensures.arc c.tick.ensures.legal);
       actors = c.self.invariant.actors;
-      good = λ goes_on. good_on c.tick.result (cast_in i) (state_in i) (state (histories (set ls c.args.arc c.tick.new.ledger)) ns) (Tick c.args.arc c.args.k)
-          (on_ok c.tick.result (λ e.
-          ap (λ b. state b ns) (book_ok ls c.args.arc l c.tick.new.ledger (after_tick c.args.k) below c.index_mut-ledger.ensures.value e))
-          c.tick.ensures.ok)
-          (on_err c.tick.result (λ e. ap (λ b. state b ns) (book_err ls c.args.arc l c.tick.new.ledger c.index_mut-ledger.ensures.value e)) c.tick.ensures.err)
+      good =
+          λ goes_on. good_on c.tick.result (cast_in i) (state_in i) (state i.deal i.conforming (histories (set ls c.args.arc c.tick.new.ledger)) ns)
+          (Tick c.args.arc c.args.k)
+          (on_ok c.tick.result (λ e. ap (λ b. state i.deal i.conforming b ns)
+          (book_ok ls c.args.arc l c.tick.new.ledger (after_tick c.args.k) below c.index_mut-ledger.ensures.value e)) c.tick.ensures.ok)
+          (on_err c.tick.result (λ e. ap (λ b. state i.deal i.conforming b ns)
+          (book_err ls c.args.arc l c.tick.new.ledger c.index_mut-ledger.ensures.value e)) c.tick.ensures.err)
           c.self.invariant.ready can (c.self.invariant.good goes_on);
-      kept = kept_on c.tick.result (cast_in i) (state_in i) (state (histories (set ls c.args.arc c.tick.new.ledger)) ns) (Tick c.args.arc c.args.k)
-          (on_ok c.tick.result (λ e.
-          ap (λ b. state b ns) (book_ok ls c.args.arc l c.tick.new.ledger (after_tick c.args.k) below c.index_mut-ledger.ensures.value e))
-          c.tick.ensures.ok)
+      kept =
+          kept_on c.tick.result (cast_in i) (state_in i) (state i.deal i.conforming (histories (set ls c.args.arc c.tick.new.ledger)) ns)
+          (Tick c.args.arc c.args.k)
+          (on_ok c.tick.result (λ e. ap (λ b. state i.deal i.conforming b ns)
+          (book_ok ls c.args.arc l c.tick.new.ledger (after_tick c.args.k) below c.index_mut-ledger.ensures.value e)) c.tick.ensures.ok)
           (on_err c.tick.result (λ e. inl (book_err ls c.args.arc l c.tick.new.ledger c.index_mut-ledger.ensures.value e)) c.tick.ensures.err)
           c.self.invariant.ready can (c.self.invariant.good (rw (← c.self.view_is) at c.requires.goes_on));
     }
@@ -44,7 +47,7 @@ returns-clause-ok c =
     let can = rw (← c.self.view_is) at c.requires.event in
     let below = subst (λ n. c.args.arc < n) (sym c.self.invariant.ledgers.one_each) can.arc in
     rw (← c.self.view_is)
-    (on_ok c.tick.result (λ e. ap (λ b. world i.deal i.conforming i.seeds i.stopped (state b ns))
+    (on_ok c.tick.result (λ e. ap (λ b. world i.deal i.conforming i.seeds i.stopped (state i.deal i.conforming b ns))
     (book_ok ls c.args.arc l c.tick.new.ledger (after_tick c.args.k) below c.index_mut-ledger.ensures.value e)) c.tick.ensures.ok)
 
 pub returns-clause-err : goal.returns-clause-err
@@ -52,5 +55,5 @@ returns-clause-err c =
     let i = c.self.inside in
     let ns = map (notes_in i.deal) i.actors.items in
     rw (← c.self.view_is)
-    (on_err c.tick.result (λ e. ap (λ b. world i.deal i.conforming i.seeds i.stopped (state b ns))
+    (on_err c.tick.result (λ e. ap (λ b. world i.deal i.conforming i.seeds i.stopped (state i.deal i.conforming b ns))
     (book_err i.ledgers.items c.args.arc c.index_mut-ledger.result.now c.tick.new.ledger c.index_mut-ledger.ensures.value e)) c.tick.ensures.err)

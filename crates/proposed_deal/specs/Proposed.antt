@@ -1,5 +1,5 @@
--- Deals that lack only what their parties' seeds give.
-use Rattle.std.specs.Prelude.{◌≡◌, ℕ, ◌<◌, ◌≤◌, ◌^◌, length}
+-- Deals that lack only what their parties' seeds give, as a plain job states them.
+use Rattle.std.specs.Prelude.{◌≡◌, ℕ, ◌<◌, ◌≤◌, ◌^◌, List, Option, None, IsSome, length, slice_index_or}
 use Rattle.time_bounds.specs.Times as times
 use Rattle.swap_digraph.specs.Graph.{HasEnds, IsStronglyConnected, IsFeedback, IsHeight}
 use Rattle.swap_digraph.specs.declared.deal.Deal.{Deal}
@@ -7,6 +7,7 @@ use Rattle.swap_digraph.specs.declared.deal.Mode.{Mode}
 use Rattle.swap_digraph.specs.declared.deal.Mode.TheVariants.{Timelocks, Hashkeys}
 use Rattle.swap_digraph.specs.Deal.{leader_of, amount, most_parties, most_arcs}
 use Rattle.swap_rules.specs.Accepted.{IsOfVersion}
+use Rattle.deviator_script.specs.declared.job.Job.{Job}
 
 -- with timelocks there is one leader
 abbrev pub IsLedFor : Mode → Deal → Type 0
@@ -33,3 +34,7 @@ pub record IsProposed (d : Deal) : Type 0 where
   pub bound : (times.need d.graph.n (length d.leaders) height ≤ d.bound) × (d.bound ≤ 64)
   pub one_amount_each : length d.amounts ≡ length d.graph.arcs
   pub amounts : (a : ℕ) → a < length d.graph.arcs → (1 ≤ amount d a) × (amount d a ≤ 10 ^ 12)
+
+-- every party has a seed
+abbrev pub HaveSeeds : Job → Type 0
+HaveSeeds job = (p : ℕ) → p < job.deal.graph.n → IsSome (slice_index_or {A = Option (List ℕ)} job.seeds p None)

@@ -1,0 +1,9 @@
+-- Lists of names, with an item for each.
+use Rattle.std.specs.Prelude.{ℕ, List, [], ◌∷◌, Option, Some, None, if◌then◌else◌}
+use Rattle.std.specs.Str.{bytes_eq}
+
+-- the item of the first such name, if any
+abbrev pub under : {A : Type 0} → List ℕ → List (List ℕ) → List A → Option A
+under name [] xs = None
+under name (n ∷ names) [] = None
+under name (n ∷ names) (x ∷ xs) = if bytes_eq n name then Some x else under name names xs

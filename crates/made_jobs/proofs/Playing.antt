@@ -1,0 +1,146 @@
+-- A world of a generated job takes its events.
+use Rattle.std.proofs.Common.{◌≡◌, ℕ, ◌<◌, Bool, true, false, List, [], ◌∷◌, length, drop, map, replicate, Option, Some, None, Ok, is_some}
+use Rattle.std.proofs.Common.{refl, sym, ap, ap₂, ◌∙◌, subst}
+use Rattle.std.proofs.lemmas.List.{length-replicate}
+use Rattle.std.proofs.lemmas.List.FromFn.{length-map-range_with_len}
+use Rattle.swap_digraph.specs.Deal.{IsWellSized}
+use Rattle.swap_digraph.specs.declared.deal.Deal.{Deal}
+use Rattle.deviator_script.specs.declared.event.Event.{Event}
+use Rattle.deviator_script.specs.declared.job.Job.{Job}
+use Rattle.deviator_script.specs.Step.{CanStep, IsEventOf}
+use Rattle.swap_rules.specs.Accepted.{IsAccepted}
+use Rattle.swap_laws.proofs.Accepted.{accepted_is_well_sized}
+use Rattle.ledger_core.specs.Book.{Histories}
+use Rattle.swap_rules.specs.Outcome.{IsEnded}
+use Rattle.swap_run.specs.Run.{Cast, State, run, run_from, start, step}
+use Rattle.swap_run.specs.Fair.{finish}
+use Rattle.swap_run.specs.Laws.{IsKept}
+use Rattle.swap_world.specs.Cast.{cast_of, cast_with}
+use Rattle.swap_world.specs.Staff.{world_of, HaveSeeds}
+use Rattle.swap_world.specs.Value.{WorldState, cast_at, new_world}
+use Rattle.swap_world.proofs.Team.{world_is_new}
+use Rattle.swap_gen.specs.Drawn.{generated, plain_job, plain_deal, seed_of}
+use Rattle.swap_gen.specs.Made.{made_deal}
+use Rattle.swap_gen.specs.Events.{generated_events, GeneratorState}
+use Rattle.swap_gen.specs.Owned.{OwnsKeys}
+use Rattle.made_jobs.specs.Generating.{generated_book, IsOf, StandsAt}
+
+pub is_sized : (d : Deal) → IsAccepted d → IsWellSized d
+is_sized d k = accepted_is_well_sized d k
+
+some_is : (o : Option (List ℕ)) (seed : List ℕ) → o ≡ Some seed → is_some o ≡ true
+some_is None seed e = absurd (cc e)
+some_is (Some x) seed e = refl
+
+pub have_seeds : (job : Job) → ((p : ℕ) → p < job.deal.graph.n → OwnsKeys job p) → length job.conforming ≡ job.deal.graph.n
+    → length job.seeds ≡ job.deal.graph.n → HaveSeeds job
+have_seeds job own conforming seeds = record {
+  conforming = conforming;
+  seeds = seeds;
+  there = λ p lt c. some_is _ (own p lt).seed (own p lt).there;
+}
+
+pub is_new : (job : Job) → ((p : ℕ) → p < job.deal.graph.n → OwnsKeys job p) → world_of job ≡ Ok (new_world job)
+is_new job own = world_is_new job (λ p lt c. let k = own p lt in (k.seed, k.there, k.fits))
+
+same_cast : (job : Job) (w : WorldState) → IsOf job w → cast_at w ≡ cast_of job
+same_cast job w k =
+    ap (λ (d : Deal). cast_with d w.conforming w.seeds) k.deal
+    ∙ ap₂ (λ (c : List Bool) (s : List (Option (List ℕ))). cast_with job.deal c s) k.conforming k.seeds
+
+-- the lists of a generated job
+
+pub generated_conforming : (seed n : ℕ) → length (generated seed n).conforming ≡ (generated seed n).deal.graph.n
+unfolding plain_job plain_deal made_deal
+generated_conforming seed n = length-replicate n true
+
+pub generated_seeds : (seed n : ℕ) → length (generated seed n).seeds ≡ (generated seed n).deal.graph.n
+unfolding plain_job plain_deal made_deal
+generated_seeds seed n = length-map-range_with_len (λ i. Some (seed_of seed i)) 0 n
+
+-- one more event
+
+pub can_step : (seed n : ℕ) (g : GeneratorState) (w : WorldState) (event : Event) → g.seed ≡ seed → g.parties ≡ n → IsOf (generated seed n) w
+    → IsEventOf (generated g.seed g.parties) event → CanStep w.deal w.conforming w.seeds event
+can_step seed n g w event s p k can =
+    subst (λ (d : Deal). CanStep d w.conforming w.seeds event) (sym k.deal)
+    (subst (λ (c : List Bool). CanStep (generated seed n).deal c w.seeds event) (sym k.conforming)
+    (subst (λ (ss : List (Option (List ℕ))). CanStep (generated seed n).deal (generated seed n).conforming ss event) (sym k.seeds)
+    (subst (λ (m : ℕ). IsEventOf (generated seed m) event) p
+    (subst (λ (x : ℕ). IsEventOf (generated x g.parties) event) s can))))
+
+pub is_still : (job : Job) (w new : WorldState) (s : State) → IsOf job w → new ≡ record w { state = s } → IsOf job new
+is_still job w new s k e = record {
+  deal = ap (λ (x : WorldState). x.deal) e ∙ k.deal;
+  conforming = ap (λ (x : WorldState). x.conforming) e ∙ k.conforming;
+  seeds = ap (λ (x : WorldState). x.seeds) e ∙ k.seeds;
+}
+
+pub goes_on_still : (w new : WorldState) (s : State) → w.stopped ≡ false → new ≡ record w { state = s } → new.stopped ≡ false
+goes_on_still w new s k e = ap (λ (x : WorldState). x.stopped) e ∙ k
+
+pub one_more : (job : Job) (w new : WorldState) (event : Event) (left rest : List Event) (total : State) → IsOf job w
+    → new ≡ record w { state = step (cast_at w) w.state event } → left ≡ event ∷ rest → run_from (cast_of job) w.state left ≡ total
+    → run_from (cast_of job) new.state rest ≡ total
+one_more job w new event left rest total k e first so_far =
+    ap (λ (s : State). run_from (cast_of job) s rest)
+    (ap (λ (x : WorldState). x.state) e ∙ ap (λ (c : Cast). step c w.state event) (same_cast job w k))
+    ∙ sym (ap (run_from (cast_of job) w.state) first) ∙ so_far
+
+pub all_taken : (job : Job) (s : State) (left : List Event) (total : State) → left ≡ [] → run_from (cast_of job) s left ≡ total → s ≡ total
+all_taken job s left total none so_far = sym (ap (run_from (cast_of job) s) none) ∙ so_far
+
+-- The job of a generator.
+
+pub job_conforming : (j : Job) (seed n : ℕ) → j ≡ generated seed n → length j.conforming ≡ j.deal.graph.n
+job_conforming j seed n e = subst (λ (x : Job). length x.conforming ≡ x.deal.graph.n) (sym e) (generated_conforming seed n)
+
+pub job_seeds : (j : Job) (seed n : ℕ) → j ≡ generated seed n → length j.seeds ≡ j.deal.graph.n
+job_seeds j seed n e = subst (λ (x : Job). length x.seeds ≡ x.deal.graph.n) (sym e) (generated_seeds seed n)
+
+-- its world before any event
+
+pub is_of_new : (j job : Job) (w : WorldState) → j ≡ job → w ≡ new_world j → IsOf job w
+is_of_new j job w e new = record {
+  deal = ap (λ (x : WorldState). x.deal) new ∙ ap (λ (x : Job). x.deal) e;
+  conforming = ap (λ (x : WorldState). x.conforming) new ∙ ap (λ (x : Job). x.conforming) e;
+  seeds = ap (λ (x : WorldState). x.seeds) new ∙ ap (λ (x : Job). x.seeds) e;
+}
+
+pub starts : (j job : Job) (w : WorldState) → j ≡ job → w ≡ new_world j → w.state ≡ start (cast_of job)
+starts j job w e new = ap (λ (x : WorldState). x.state) new ∙ ap (λ (x : Job). start (cast_of x)) e
+
+pub goes_on_new : (j : Job) (w : WorldState) → w ≡ new_world j → w.stopped ≡ false
+goes_on_new j w new = ap (λ (x : WorldState). x.stopped) new
+
+-- A world after the fair finish, and its book.
+
+pub finished_kept : (w new : WorldState) → new ≡ record w { state = finish (cast_at w) w.state } → IsKept (cast_at new) new.state.book
+    → IsKept (cast_at w) (finish (cast_at w) w.state).book
+finished_kept w new e k = subst (λ (x : WorldState). IsKept (cast_at x) x.state.book) e k
+
+pub finished_ended : (w new : WorldState) → new ≡ record w { state = finish (cast_at w) w.state } → IsEnded w.deal new.state.book
+    → IsEnded w.deal (finish (cast_at w) w.state).book
+finished_ended w new e k = subst (λ (x : WorldState). IsEnded w.deal x.state.book) e k
+
+-- the run of a number's job, where first is its world before any event, and played the world after all of them
+module _ (seed n count : ℕ) (first played : WorldState) (begins : first.state ≡ start (cast_of (generated seed n)))
+    (runs : played.state ≡ run_from (cast_of (generated seed n)) first.state (generated_events seed n count)) (of : IsOf (generated seed n) played) where
+  run_is : played.state ≡ run (cast_of (generated seed n)) (generated_events seed n count)
+  run_is = runs ∙ ap (λ (s : State). run_from (cast_of (generated seed n)) s (generated_events seed n count)) begins
+
+  pub book_is : (finish (cast_at played) played.state).book ≡ generated_book seed n count
+  unfolding generated_book
+  book_is =
+      ap (λ (c : Cast). (finish c played.state).book) (same_cast (generated seed n) played of)
+      ∙ ap (λ (s : State). (finish (cast_of (generated seed n)) s).book) run_is
+
+  pub is_kept : IsKept (cast_at played) (finish (cast_at played) played.state).book → IsKept (cast_of (generated seed n)) (generated_book seed n count)
+  is_kept k =
+      subst (λ (b : Histories). IsKept (cast_of (generated seed n)) b) book_is
+      (subst (λ (c : Cast). IsKept c (finish (cast_at played) played.state).book) (same_cast (generated seed n) played of) k)
+
+  pub has_ended : IsEnded played.deal (finish (cast_at played) played.state).book → IsEnded (generated seed n).deal (generated_book seed n count)
+  has_ended k =
+      subst (λ (b : Histories). IsEnded (generated seed n).deal b) book_is
+      (subst (λ (d : Deal). IsEnded d (finish (cast_at played) played.state).book) of.deal k)

@@ -1,0 +1,56 @@
+-- The summary of a number's job, from its run.
+use Rattle.std.proofs.Common.{◌≡◌, ◌==◌, ℕ, Bool, not, List, length, sym, ap, ap₂, ◌∙◌, subst}
+use Rattle.ledger_core.specs.Book.{Histories, IsLegalBook}
+use Rattle.deviator_script.specs.declared.job.Job.{Job}
+use Rattle.outcome_rules.specs.declared.report.Report.{Report}
+use Rattle.outcome_rules.specs.Report.{report_of}
+use Rattle.swap_rules.specs.Outcome.{IsEnded}
+use Rattle.swap_run.specs.Laws.{IsKept}
+use Rattle.swap_world.specs.Cast.{cast_of}
+use Rattle.swap_gen.specs.Drawn.{generated}
+use Rattle.swap_gen.specs.Events.{first_place, GeneratorState}
+use Rattle.run_summary.specs.Summary.{summary, summary_with}
+use Rattle.made_jobs.specs.Generating.{generated_book, generated_summary, is_found}
+
+-- A report's numbers are those of the summary.
+
+pub summed_is : (job : Job) (count : ℕ) (b : Histories) (r : Report) (t : List ℕ) → r ≡ report_of job.deal job.conforming b
+    → t ≡ summary_with job.deal count b r.outcomes (length r.findings) → t ≡ summary job count b
+unfolding summary report_of
+summed_is job count b r t is e = e ∙ ap (λ (x : Report). summary_with job.deal count b x.outcomes (length x.findings)) is
+
+pub found_is : (job : Job) (b : Histories) (r : Report) (found : Bool) → r ≡ report_of job.deal job.conforming b → found ≡ not (length r.findings == 0)
+    → found ≡ is_found job b
+found_is job b r found is e = e ∙ ap (λ (x : Report). not (length x.findings == 0)) is
+
+-- A generator that has gone on in the job of its number.
+module _ (seed n count : ℕ) (first : GeneratorState) (begins : first ≡ record { seed = seed; parties = n; place = first_place seed n }) where
+  pub job_still : (now : GeneratorState) (j : Job) → now.seed ≡ first.seed → now.parties ≡ first.parties → j ≡ generated now.seed now.parties
+      → j ≡ generated seed n
+  job_still now j s p e =
+      e ∙ ap (λ x. generated x now.parties) (s ∙ ap (λ (g : GeneratorState). g.seed) begins)
+      ∙ ap (λ m. generated seed m) (p ∙ ap (λ (g : GeneratorState). g.parties) begins)
+
+  pub book_still : (b : Histories) → b ≡ generated_book first.seed first.parties count → b ≡ generated_book seed n count
+  book_still b e = e ∙ ap (λ (g : GeneratorState). generated_book g.seed g.parties count) begins
+
+  pub kept_still : IsKept (cast_of (generated first.seed first.parties)) (generated_book first.seed first.parties count)
+      → IsKept (cast_of (generated seed n)) (generated_book seed n count)
+  kept_still k = subst (λ (g : GeneratorState). IsKept (cast_of (generated g.seed g.parties)) (generated_book g.seed g.parties count)) begins k
+
+  pub ended_still : IsEnded (generated first.seed first.parties).deal (generated_book first.seed first.parties count)
+      → IsEnded (generated seed n).deal (generated_book seed n count)
+  ended_still k = subst (λ (g : GeneratorState). IsEnded (generated g.seed g.parties).deal (generated_book g.seed g.parties count)) begins k
+
+-- What is summed of the number's job and its book.
+module _ (seed n count : ℕ) (j : Job) (b : Histories) (job_is : j ≡ generated seed n) (book_is : b ≡ generated_book seed n count) where
+  pub legal_is : IsKept (cast_of (generated seed n)) (generated_book seed n count) → IsLegalBook j.deal b
+  legal_is k =
+      subst (λ (x : Job). IsLegalBook x.deal b) (sym job_is) (subst (λ (y : Histories). IsLegalBook (generated seed n).deal y) (sym book_is) k.legal)
+
+  pub text_is : (t : List ℕ) → t ≡ summary j count b → t ≡ generated_summary seed n count
+  unfolding generated_summary
+  text_is t e = e ∙ ap₂ (λ (x : Job) (y : Histories). summary x count y) job_is book_is
+
+  pub shown_is : (found : Bool) → found ≡ is_found j b → found ≡ is_found (generated seed n) (generated_book seed n count)
+  shown_is found e = e ∙ ap₂ (λ (x : Job) (y : Histories). is_found x y) job_is book_is

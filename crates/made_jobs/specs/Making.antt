@@ -1,0 +1,61 @@
+-- What is written of a plain job: the header line of the job that is made of it, and the further lines as they are.
+use Rattle.std.specs.Prelude.{◌≡◌, ℕ, ◌<◌, ◌++◌, List, ◌∷◌, [], codes, drop, fold, Result, Ok}
+use Rattle.swap_base.specs.Fault.{◌>>=◌, steps}
+use Rattle.swap_base.specs.Text.{joined}
+use Rattle.swap_rules.specs.Accepted.{IsAccepted}
+use Rattle.deviator_script.specs.declared.event.Event.{Event}
+use Rattle.deviator_script.specs.declared.job.Job.{Job}
+use Rattle.deviator_script.specs.declared.job.Purpose.TheVariants.{Make}
+use Rattle.refusals.specs.declared.reason.Reason.{Reason}
+use Rattle.swap_offer.specs.Lines.{lines_of, filled_lines}
+use Rattle.swap_offer.specs.Job.{counted, of_lines}
+use Rattle.swap_gen.specs.Made.{made}
+use Rattle.swap_gen.specs.Owned.{OwnsKeys}
+use Rattle.offer_text.specs.HeaderLine.{header_line}
+
+-- a job's header line, with a line feed
+unfoldable pub written_line : Job → List ℕ
+written_line job = joined (header_line job ∷ codes "\n" ∷ [])
+
+-- a text with one more line after it, byte for byte, and a line feed
+abbrev pub with_line : List ℕ → ℕ × List ℕ → List ℕ
+with_line text l = text ++ joined (l.1 ∷ codes "\n" ∷ [])
+
+-- what is written of a plain job and the further lines of its input
+unfoldable pub made_text : Job → List (ℕ × List ℕ) → List ℕ
+made_text job further = fold with_line (written_line (made job)) further
+
+abbrev pub text_for : List (ℕ × List ℕ) → Result (Job × List Event) Reason → Result (List ℕ) Reason
+text_for lines read = read >>= λ j. Ok (made_text j.0 (drop 1 lines))
+
+-- what is written of an input's lines that aren't blank, or the first reason why they are refused
+abbrev pub made_of : List (ℕ × List ℕ) → Result (List ℕ) Reason
+made_of lines = text_for lines (of_lines Make lines)
+
+-- what is written of an input's bytes, or the first reason why they are refused
+unfoldable pub made_output : List ℕ → Result (List ℕ) Reason
+made_output input = made_of (filled_lines 1 (lines_of input))
+
+-- How many further lines were written, and the text so far: after one more line, or the reason against it.
+unfoldable pub line_step : ℕ × List ℕ → ℕ × List ℕ → Result (ℕ × List ℕ) Reason
+line_step s l = do
+  n ← counted s.0 l
+  Ok (n, with_line s.1 l)
+
+-- a text with further lines after it, where so many were put before, or the reason against one of them
+unfoldable pub copied : ℕ → List ℕ → List (ℕ × List ℕ) → Result (List ℕ) Reason
+copied count text ls = do
+  s ← steps line_step (count, text) ls
+  Ok s.1
+
+-- the same of one line
+unfoldable pub next_line : ℕ → List ℕ → ℕ → List ℕ → Result (List ℕ) Reason
+next_line count text number line = do
+  s ← line_step (count, text) (number, line)
+  Ok s.1
+
+-- What is promised of the job that is made of a plain one.
+pub record IsMade (job : Job) : Type 0 where
+  pub accepted : IsAccepted (made job).deal
+  -- each party's seed gives it what the deal states of it
+  pub owned : (p : ℕ) → p < (made job).deal.graph.n → OwnsKeys (made job) p

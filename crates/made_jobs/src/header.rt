@@ -1,0 +1,21 @@
+//! The header line of a job, as it stands in a file.
+
+ghost use Rattle.std.specs.Prelude.{◌≡◌, ◌++◌, OnOk, All};
+ghost use Rattle.offer_text.specs.HeaderLine.{IsWord, IsWritable};
+ghost use Rattle.made_jobs.specs.Making.{written_line};
+
+use deviator_script::Job;
+use offer_text::write_deal;
+use std::alloc::Global;
+use swap_base::{NoMemory, Piece, put};
+
+/// Appends the header line of a job, with a line feed.
+#[tactic(auto, unfolding(crate::specs::Making::written_line))]
+pub(crate) fn put_header(alloc: Global, out: &mut Vec<u8>, job: &Job) -> Result<(), NoMemory>
+    requires writable { IsWritable job.now }
+    requires words { All IsWord job.now.roles }
+    ensures { OnOk result (out.new.items ≡ out.old.items ++ written_line job.now) }
+{
+    let line = write_deal(alloc, job)?;
+    put(out, &[Piece::Bytes(line.as_slice()), Piece::Text("\n")])
+}

@@ -1,0 +1,53 @@
+//! What is written of a plain job.
+
+ghost use Rattle.std.specs.Prelude.{◌≡◌, ◌≤◌, ℕ, IfOk, OnOk, map};
+ghost use Rattle.swap_base.specs.Fault.{Gives};
+ghost use Rattle.proposed_deal.specs.Proposed.{HaveSeeds, IsProposed};
+ghost use Rattle.offer_header.specs.Names.{AreNames};
+ghost use Rattle.swap_offer.specs.Checks.{role_of};
+ghost use Rattle.swap_offer.specs.Job.{IsWhole};
+ghost use Rattle.swap_gen.specs.Made.{made};
+ghost use Rattle.made_jobs.specs.Making.{line_step, written_line, IsMade};
+
+use crate::header::put_header;
+use deviator_script::Job;
+use refusals::OfferFault;
+use std::alloc::Global;
+use swap_base::{NoMemory, Piece, put};
+use swap_gen::make;
+use swap_offer::count_event;
+
+/// The header line of the job that is made of a plain one, with a line feed.
+pub fn made_line(alloc: Global, job: &Job) -> Result<Vec<u8>, NoMemory>
+    requires whole { IsWhole job.now }
+    requires known { AreNames job.now.names }
+    requires roles { job.now.roles ≡ map role_of job.now.conforming }
+    requires proposed { IsProposed job.now.deal }
+    requires seeds { HaveSeeds job.now }
+    ensures line { IfOk result (λ v. v.items ≡ written_line (made job.now)) }
+    ensures made { OnOk result (IsMade job.now) }
+{
+    let made = make(alloc, job)?;
+    let mut line = Vec::new(alloc);
+    put_header(alloc, &mut line, &made)?;
+    Ok(line)
+}
+
+/// Puts a line and a line feed behind a text, where so many lines were put before, and answers how many there are with it. The line isn't
+/// examined.
+#[tactic(auto, unfolding(crate::specs::Making::line_step))]
+pub fn copy_line(
+    alloc: Global,
+    text: &mut Vec<u8>,
+    count: u32,
+    number: u32,
+    line: &[u8],
+) -> Result<u32, OfferFault>
+    requires { count ≤ 200000 }
+    ensures exact { Gives (λ n. (n, text.new.items)) result (line_step (count, text.old.items) (number, line.now)) }
+    ensures few { IfOk result (λ n. n ≤ 200000) }
+{
+    let count = count_event(alloc, count, number, line)?;
+    put(text, &[Piece::Bytes(line), Piece::Text("\n")])?;
+    Ok(count)
+}

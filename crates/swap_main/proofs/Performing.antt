@@ -1,0 +1,163 @@
+-- What the program promises, by what a status says of its task.
+use Rattle.std.proofs.Common.{◌≡◌, ◌<◌, ◌≤◌, ◌+◌, ◌⊎◌, inl, inr, ℕ, Bool, true, false, List, length, Option, Some, None, Ok, Err, sym, ap, ◌∙◌}
+use Rattle.std.specs.Io.KnownBytes.{Keeps}
+use Rattle.swap_io.specs.Causes.{AppendsProperPrefix, Rose, ConsumesSome}
+use Rattle.swap_io.specs.Handed.{AppendsPrefix}
+use Rattle.refusals.specs.declared.reason.Reason.{Reason}
+use Rattle.swap_main.specs.Generated.{generated_output, Generates, Performs}
+use Rattle.swap_main.specs.Input.{limit}
+use Rattle.swap_main.specs.Output.{output_of, names_of}
+use Rattle.swap_main.specs.Says.{IsWhole}
+use Rattle.swap_main.specs.Top.{AsksFairRun, IsDone, IsCut, IsRefused, IsShort, status_of}
+use Rattle.swap_main.specs.Words.{command_of, request_of, task_of}
+use Rattle.swap_main.specs.Written.{Written}
+use Rattle.swap_main.specs.declared.words.Command.{Command}
+use Rattle.swap_main.specs.declared.words.Command.TheVariants.{Run}
+use Rattle.swap_main.specs.declared.words.Request.{Request}
+use Rattle.swap_main.specs.declared.words.Task.{Task}
+use Rattle.swap_main.specs.declared.words.Task.TheVariants.{Input, Number}
+use Rattle.swap_main.specs.declared.status.Status.{Status}
+use Rattle.swap_main.specs.declared.status.Status.TheVariants.{Done, Named, WrongWords, Refused, ReadFault, WriteFault, NoMemory, TooLong}
+use Rattle.swap_main.proofs.Asking as asking
+use Rattle.swap_main.proofs.Asking.{command_is, is_within, no_command, request_is}
+use Rattle.swap_main.proofs.Ends as ends
+
+-- a task that reads an input asks for no job of a number
+pub number_is : (words : List (List ℕ)) (task : Task) (request : Request) → task_of words ≡ Some task → request_of words ≡ Some request
+    → task ≡ Number request
+number_is words (Input command) request asked is =
+    absurd (cc (sym (command_is words command asked) ∙ no_command words request is))
+number_is words (Number own) request asked is =
+    let same : own ≡ request = cc (sym (request_is words own asked) ∙ is) in
+    ap Number same
+
+module _ (words : List (List ℕ)) (left left' : Option (List ℕ)) (n m : ℕ) (taken taken' : Option (List ℕ)) (p q : ℕ) where
+  abbrev Performed : Task → Status → Type 0
+  Performed task s = Performs task left left' n m taken taken' p q s
+
+  pub not_wrong_words : (task : Task) → task_of words ≡ Some task → (s : Status) → Performed task s → ¬ (s ≡ WrongWords)
+  not_wrong_words (Input command) asked s h e = ends.not_wrong_words words left left' n m taken taken' p q command (command_is words command asked) s h e
+  not_wrong_words (Number request) asked s h e =
+      let w = is_within words (Number request) asked in
+      asking.not_wrong_words words left left' taken taken' p q request (request_is words request asked) h.0 w.0 w.1 s h.1 e
+
+  pub done : (task : Task) → task_of words ≡ Some task → (s : Status) → Performed task s → s ≡ Done
+      → IsDone words left left' taken taken' false ⊎ Generates (IsWhole taken taken' false) words left left'
+  done (Input command) asked s h e = inl (ends.done words left left' n m taken taken' p q command (command_is words command asked) s h e)
+  done (Number request) asked s h e =
+      let w = is_within words (Number request) asked in
+      inr (asking.done words left left' taken taken' p q request (request_is words request asked) h.0 w.0 w.1 s h.1 e)
+
+  pub named : (task : Task) → task_of words ≡ Some task → (s : Status) → Performed task s → s ≡ Named
+      → IsDone words left left' taken taken' true ⊎ Generates (IsWhole taken taken' true) words left left'
+  named (Input command) asked s h e = inl (ends.named words left left' n m taken taken' p q command (command_is words command asked) s h e)
+  named (Number request) asked s h e =
+      let w = is_within words (Number request) asked in
+      inr (asking.named words left left' taken taken' p q request (request_is words request asked) h.0 w.0 w.1 s h.1 e)
+
+  pub refused : (task : Task) → task_of words ≡ Some task → (s : Status) → Performed task s → (reason : Reason) (names : List (List ℕ))
+      → s ≡ Refused reason names → IsRefused words left left' reason names
+  refused (Input command) asked s h reason names e =
+      ends.refused words left left' n m taken taken' p q command (command_is words command asked) s h reason names e
+  refused (Number request) asked s h reason names e =
+      let w = is_within words (Number request) asked in
+      absurd (asking.not_refused words left left' taken taken' p q request (request_is words request asked) h.0 w.0 w.1 s h.1 reason names e)
+
+  pub read_fault : (task : Task) → task_of words ≡ Some task → (s : Status) → Performed task s → s ≡ ReadFault → Rose n m
+  read_fault (Input command) asked s h e = ends.read_fault words left left' n m taken taken' p q command (command_is words command asked) s h e
+  read_fault (Number request) asked s h e =
+      let w = is_within words (Number request) asked in
+      absurd (asking.no_read_fault words left left' taken taken' p q request (request_is words request asked) h.0 w.0 w.1 s h.1 e)
+
+  pub write_fault : (task : Task) → task_of words ≡ Some task → (s : Status) → Performed task s → s ≡ WriteFault → Rose p q
+  write_fault (Input command) asked s h e = ends.write_fault words left left' n m taken taken' p q command (command_is words command asked) s h e
+  write_fault (Number request) asked s h e =
+      let w = is_within words (Number request) asked in
+      asking.write_fault words left left' taken taken' p q request (request_is words request asked) h.0 w.0 w.1 s h.1 e
+
+  pub cut : (task : Task) → task_of words ≡ Some task → (s : Status) → Performed task s → s ≡ WriteFault
+      → IsCut words left left' taken taken' ⊎ Generates (λ output. AppendsProperPrefix taken taken' output.text) words left left'
+  cut (Input command) asked s h e = inl (ends.cut words left left' n m taken taken' p q command (command_is words command asked) s h e)
+  cut (Number request) asked s h e =
+      let w = is_within words (Number request) asked in
+      inr (asking.cut words left left' taken taken' p q request (request_is words request asked) h.0 w.0 w.1 s h.1 e)
+
+  pub too_long : (task : Task) → task_of words ≡ Some task → (s : Status) → Performed task s → s ≡ TooLong → ConsumesSome left left' (limit + 1)
+  too_long (Input command) asked s h e = ends.too_long words left left' n m taken taken' p q command (command_is words command asked) s h e
+  too_long (Number request) asked s h e =
+      let w = is_within words (Number request) asked in
+      absurd (asking.not_too_long words left left' taken taken' p q request (request_is words request asked) h.0 w.0 w.1 s h.1 e)
+
+  short_input : Keeps taken taken' ⊎ IsShort words left left' taken taken'
+      → Keeps taken taken' ⊎ IsShort words left left' taken taken' ⊎ Generates (λ output. AppendsPrefix taken taken' output.text) words left left'
+  short_input (inl k) = inl k
+  short_input (inr o) = inr (inl o)
+
+  pub short : (task : Task) → task_of words ≡ Some task → (s : Status) → Performed task s → s ≡ NoMemory
+      → Keeps taken taken' ⊎ IsShort words left left' taken taken' ⊎ Generates (λ output. AppendsPrefix taken taken' output.text) words left left'
+  short (Input command) asked s h e =
+      short_input (ends.short words left left' n m taken taken' p q command (command_is words command asked) s h e)
+  short (Number request) asked s h e =
+      let w = is_within words (Number request) asked in
+      inr (inr (asking.short words left left' taken taken' p q request (request_is words request asked) h.0 w.0 w.1 s h.1 e))
+
+  pub silent : (task : Task) → task_of words ≡ Some task → (s : Status) → Performed task s → ¬ (s ≡ Done) → ¬ (s ≡ Named) → ¬ (s ≡ WriteFault)
+      → ¬ (s ≡ NoMemory) → Keeps taken taken'
+  silent (Input command) asked s h d c w f =
+      ends.silent words left left' n m taken taken' p q command (command_is words command asked) s h d c w f
+  silent (Number request) asked s h d c w f =
+      let i = is_within words (Number request) asked in
+      asking.silent words left left' taken taken' p q request (request_is words request asked) h.0 i.0 i.1 s h.1 d c w f
+
+  pub long : (task : Task) → task_of words ≡ Some task → (s : Status) → Performed task s → (other : Command) (input : List ℕ)
+      → command_of words ≡ Some other → left ≡ Some input → limit < length input → ¬ Rose n m → (s ≡ TooLong) ⊎ (s ≡ NoMemory)
+  long (Input command) asked s h other input is told over calm =
+      ends.long words left left' n m taken taken' p q command (command_is words command asked) s h other input is told over calm
+  long (Number request) asked s h other input is told over calm =
+      absurd (cc (sym (no_command words request (request_is words request asked)) ∙ is))
+
+  pub bad : (task : Task) → task_of words ≡ Some task → (s : Status) → Performed task s → (other : Command) (input : List ℕ) (reason : Reason)
+      → command_of words ≡ Some other → left ≡ Some input → length input ≤ limit → output_of other input ≡ Err reason → ¬ Rose n m
+      → (s ≡ Refused reason (names_of other input)) ⊎ (s ≡ NoMemory)
+  bad (Input command) asked s h other input reason is told within against calm =
+      ends.bad words left left' n m taken taken' p q command (command_is words command asked) s h other input reason is told within against calm
+  bad (Number request) asked s h other input reason is told within against calm =
+      absurd (cc (sym (no_command words request (request_is words request asked)) ∙ is))
+
+  pub good : (task : Task) → task_of words ≡ Some task → (s : Status) → Performed task s → (other : Command) (input : List ℕ) (output : Written)
+      → command_of words ≡ Some other → left ≡ Some input → length input ≤ limit → output_of other input ≡ Ok output → ¬ Rose n m → ¬ Rose p q
+      → (s ≡ status_of output.found) ⊎ (s ≡ NoMemory)
+  good (Input command) asked s h other input output is told within gives calm still =
+      ends.good words left left' n m taken taken' p q command (command_is words command asked) s h other input output is told within gives calm still
+  good (Number request) asked s h other input output is told within gives calm still =
+      absurd (cc (sym (no_command words request (request_is words request asked)) ∙ is))
+
+  pub fair : (task : Task) → task_of words ≡ Some task → (s : Status) → Performed task s → AsksFairRun words left → ¬ Rose n m → ¬ Rose p q
+      → (s ≡ Done) ⊎ (s ≡ NoMemory)
+  fair (Input command) asked s h a calm still =
+      ends.fair words left left' n m taken taken' p q command (command_is words command asked) s h a calm still
+  fair (Number request) asked s h a calm still =
+      absurd (cc (sym (no_command words request (request_is words request asked)) ∙ a.asked))
+
+  -- a job of a number
+
+  pub no_read_fault : (task : Task) → task_of words ≡ Some task → (s : Status) → Performed task s → (request : Request) → request_of words ≡ Some request
+      → ¬ (s ≡ ReadFault)
+  no_read_fault (Input command) asked s h request is e = absurd (cc (sym (command_is words command asked) ∙ no_command words request is))
+  no_read_fault (Number own) asked s h request is e =
+      let w = is_within words (Number own) asked in
+      asking.no_read_fault words left left' taken taken' p q own (request_is words own asked) h.0 w.0 w.1 s h.1 e
+
+  pub not_too_long : (task : Task) → task_of words ≡ Some task → (s : Status) → Performed task s → (request : Request) → request_of words ≡ Some request
+      → ¬ (s ≡ TooLong)
+  not_too_long (Input command) asked s h request is e = absurd (cc (sym (command_is words command asked) ∙ no_command words request is))
+  not_too_long (Number own) asked s h request is e =
+      let w = is_within words (Number own) asked in
+      asking.not_too_long words left left' taken taken' p q own (request_is words own asked) h.0 w.0 w.1 s h.1 e
+
+  pub generated : (task : Task) → task_of words ≡ Some task → (s : Status) → Performed task s → (request : Request) → request_of words ≡ Some request
+      → ¬ Rose p q → (s ≡ status_of (generated_output request).found) ⊎ (s ≡ NoMemory)
+  generated (Input command) asked s h request is still = absurd (cc (sym (command_is words command asked) ∙ no_command words request is))
+  generated (Number own) asked s h request is still =
+      let w = is_within words (Number own) asked in
+      asking.good words left left' taken taken' p q own (request_is words own asked) h.0 w.0 w.1 s h.1 request is still

@@ -1,0 +1,71 @@
+-- What strategies are asked in a run: their answers in order, and no other.
+use Rattle.std.specs.Prelude.{◌≡◌, ℕ, ◌≤◌, ◌<◌, Bool, true, false, List, length, slice_index_or, Option}
+use Rattle.std.specs.List.{list_any}
+use Rattle.ledger_core.specs.declared.entry.Call.{Call}
+use Rattle.swap_digraph.specs.declared.deal.Deal.{Deal}
+use Rattle.deviator_script.specs.declared.event.Event.{Event}
+use Rattle.deviator_script.specs.declared.job.Role.{Role}
+use Rattle.deviator_script.specs.declared.job.Role.TheVariants.{Strategy}
+use Rattle.swap_run.specs.Run.{Cast, Question, State, run_from}
+use Rattle.swap_run.specs.Fair.{finish}
+
+-- the answers of strategies, in the order in which they are asked
+abbrev pub Answers : Type 0
+Answers = ℕ → Option (ℕ × Call)
+
+-- the same cast with other answers
+abbrev pub with_answers : Cast → Answers → Cast
+with_answers c answers = record c { answers = answers }
+
+-- both give the same answers to all that is asked from the state s to the state t
+abbrev pub Agree : State → State → Answers → Answers → Type 0
+Agree s t f g = (i : ℕ) → length s.asked ≤ i → i < length t.asked → f i ≡ g i
+
+-- a run asks its answers in order and looks at no other: others that agree with those that it asked lead to the same state
+abbrev pub RunsAskInOrder : Type 0
+RunsAskInOrder =
+    (c : Cast) (answers : Answers) (s : State) (events : List Event) → Agree s (run_from c s events) answers c.answers
+    → run_from (with_answers c answers) s events ≡ run_from c s events
+
+-- and so does a fair finish
+abbrev pub FinishesAskInOrder : Type 0
+FinishesAskInOrder =
+    (c : Cast) (answers : Answers) (s : State) → Agree s (finish c s) answers c.answers → finish (with_answers c answers) s ≡ finish c s
+
+-- the role follows a strategy
+abbrev pub is_strategy : Role → Bool
+is_strategy (Strategy name) = true
+is_strategy _ = false
+
+-- where no party follows a strategy, a run is the same for all answers
+abbrev pub RunsWithoutStrategies : Type 0
+RunsWithoutStrategies =
+    (c : Cast) (answers : Answers) (s : State) (events : List Event) → list_any is_strategy c.roles ≡ false
+    → run_from (with_answers c answers) s events ≡ run_from c s events
+
+-- and so is a fair finish
+abbrev pub FinishesWithoutStrategies : Type 0
+FinishesWithoutStrategies =
+    (c : Cast) (answers : Answers) (s : State) → list_any is_strategy c.roles ≡ false → finish (with_answers c answers) s ≡ finish c s
+
+-- what a strategy answers, where a rule decides it
+abbrev pub Rule : Type 0
+Rule = Deal → Question → Option (ℕ × Call)
+
+-- all that is asked from the state s to the state t is answered by the rule
+abbrev pub IsByRule : Rule → Cast → State → State → Type 0
+IsByRule rule c s t = (i : ℕ) (q : Question) → length s.asked ≤ i → i < length t.asked → q ≡ slice_index_or t.asked i q → c.answers i ≡ rule c.deal q
+
+-- where a rule gives all answers, it decides what a run comes to
+abbrev pub RulesDecideRuns : Type 0
+RulesDecideRuns =
+    (rule : Rule) (c : Cast) (answers : Answers) (s : State) (events : List Event) → IsByRule rule c s (run_from c s events)
+    → IsByRule rule (with_answers c answers) s (run_from (with_answers c answers) s events)
+    → run_from (with_answers c answers) s events ≡ run_from c s events
+
+-- and what a fair finish comes to
+abbrev pub RulesDecideFinishes : Type 0
+RulesDecideFinishes =
+    (rule : Rule) (c : Cast) (answers : Answers) (s : State) → IsByRule rule c s (finish c s)
+    → IsByRule rule (with_answers c answers) s (finish (with_answers c answers) s)
+    → finish (with_answers c answers) s ≡ finish c s
