@@ -1,0 +1,75 @@
+//! How entries are kept: ticks as runs, and an entry in few bytes.
+
+use crate::ledgers::follow;
+use ledger_core::{Entry, EntryList, Ledger, Run};
+use std::alloc::Global;
+use std::process::Abort;
+use std::test::Fail;
+use swap_base::TryCopy;
+
+/// Ticks by 1 and by 2, and calls between them: 12 entries.
+const APART: &str = "\
+2 times tick 1 => Accepted 100 0 0
+2 times tick 2 => Accepted 100 0 0
+b claim => NoContract 100 0 0
+tick 2 => Accepted 100 0 0
+a pay b 1 => Accepted 99 1 0
+b claim => NoContract 99 1 0
+tick 1 => Accepted 99 1 0
+3 times tick 2 => Accepted 99 1 0";
+
+/// A copy from each entry on has the entries after it.
+fn copies(rt: &impl Abort, alloc: Global, ledger: &Ledger) -> Result<(), Fail> {
+    for k in 0..13 {
+        assert!(rt; k <= ledger.len() as usize);
+        let rest = ledger.copy_from(k)?;
+        assert!(rt; rest.len() + k == 12);
+        assert!(rt; rest.to_vec(alloc)?.len() + k == 12);
+    }
+    Ok(())
+}
+
+/// A list of the entries, put in one by one.
+fn pushed(alloc: Global, entries: &[Entry]) -> Result<EntryList, Fail> {
+    let mut list = EntryList::empty(alloc);
+    for entry in entries {
+        list.push(entry.copy()?)?;
+    }
+    Ok(list)
+}
+
+/// Whether these are the last ticks, of which there are three by 2 above height 9.
+fn are_last(run: Run) -> bool {
+    run.above == 9 && run.by == 2 && run.count == 3 && run.last == 15
+}
+
+/// Whether three calls stand among seven items, and then the last ticks.
+fn is_in_runs(list: EntryList) -> bool {
+    if list.calls() != 3 {
+        return false;
+    }
+    let (items, open) = list.into_parts();
+    items.len() == 7 && are_last(open)
+}
+
+/// The entries of a ledger, put into a list anew.
+fn put_again(alloc: Global, ledger: &Ledger) -> Result<EntryList, Fail> {
+    let entries = ledger.copy_from(0)?.to_vec(alloc)?;
+    pushed(alloc, &entries)
+}
+
+#[test]
+fn ticks_are_runs(rt: HostRuntime) -> Result<(), Fail> {
+    let ledger = follow(&rt, rt.alloc(), APART)?;
+    copies(&rt, rt.alloc(), &ledger)?;
+    let list = put_again(rt.alloc(), &ledger)?;
+    assert!(rt; is_in_runs(list.copy()?), "a copy");
+    assert!(rt; is_in_runs(list), "one by one");
+    assert!(rt; is_in_runs(ledger.into_history()), "the ledger's");
+    Ok(())
+}
+
+#[test]
+fn an_entry_is_small(rt: HostRuntime) {
+    assert!(rt; size_of::<Entry>() <= 48);
+}

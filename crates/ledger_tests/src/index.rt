@@ -1,0 +1,278 @@
+//! What an index answers over a ledger's entries, against a scan of them.
+
+ghost use Rattle.std.specs.Prelude.{◌≡◌, ◌<◌, length, IfOk};
+ghost use Rattle.swap_digraph.specs.Deal.{IsWellSized, party, counterparty};
+ghost use Rattle.ledger_core.specs.History.{IsLegal};
+
+use crate::ledgers::{act, first_ledger, follow};
+use crate::random::Random;
+use history_index::{Index, Made, Steps};
+use ledger_core::{
+    CallKind, Entry, Facts, Ledger, Published, Scan, Sender, Settlement, is_adjacent,
+};
+use std::alloc::Global;
+use std::marker::Brand;
+use std::process::Abort;
+use std::sync::ledger::{Blank, Ledger as Counted};
+use std::test::Fail;
+use swap_base::{ArcId, PartyId, TryCopy};
+use swap_digraph::Deal;
+
+/// What is asked at random.
+const ACTS: &str = "\
+a publish 100
+a publish 99
+b publish 100
+b unlock 0 0
+b unlock 1 1
+b unlock 1 0
+a unlock 1 1
+b claim
+a claim
+a refund
+b refund
+a pay b 1
+tick 1
+tick 2
+tick 3
+tick 20";
+
+fn act_at(acts: &str, place: u64) -> Result<&str, Fail> {
+    Ok(acts.lines().nth(place as usize).ok_or("no act")?)
+}
+
+/// A ledger after so many acts.
+fn after(rt: &impl Abort, alloc: Global, acts: u32, random: &mut Random) -> Result<Ledger, Fail> {
+    let mut ledger = first_ledger(alloc)?;
+    for _ in 0..acts {
+        let words = act_at(ACTS, random.below(16))?;
+        let _reply = act(rt, alloc, &mut ledger, words)?;
+    }
+    Ok(ledger)
+}
+
+/// One of thirteen kinds, of which ten are unlocks.
+fn kind_of(k: u8) -> CallKind {
+    if k == 0 {
+        CallKind::Publish
+    } else if k == 1 {
+        CallKind::Claim
+    } else if k == 2 {
+        CallKind::Refund
+    } else {
+        CallKind::Unlock(k.saturating_sub(3))
+    }
+}
+
+fn same_kinds(index: &Index, scan: &Scan, by: PartyId) -> bool {
+    for k in 0..13 {
+        let kind = kind_of(k);
+        if index.called(by, kind) != scan.called(by, kind) {
+            return false;
+        }
+    }
+    true
+}
+
+fn same_calls(index: &Index, scan: &Scan) -> bool {
+    for by in 0..4 {
+        if !same_kinds(index, scan, by) {
+            return false;
+        }
+    }
+    true
+}
+
+fn same_locks(index: &Index, scan: &Scan) -> bool {
+    let locks = index.terms().locks.len();
+    if scan.terms().locks.len() != locks {
+        return false;
+    }
+    for lock in 0..locks {
+        let place = scan.unlocked(lock);
+        if index.unlocked(lock) != place || index.opened(lock).is_some() != place.is_some() {
+            return false;
+        }
+    }
+    true
+}
+
+/// Whether both answer the same, whatever is asked.
+fn same_answers(index: &Index, scan: &Scan) -> bool {
+    index.height() == scan.height()
+        && index.published() == scan.published()
+        && index.published_number().is_some() == scan.published().is_some()
+        && index.settled() == scan.settled()
+        && same_locks(index, scan)
+        && same_calls(index, scan)
+}
+
+/// Puts the entries one by one into both, the index having made room for all, and compares them after each.
+fn indexed<L: Counted>(
+    rt: &impl Abort,
+    alloc: Global,
+    deal: &Deal,
+    arc: ArcId,
+    history: &[Entry],
+    blank: Blank,
+) -> Result<Index, Fail>
+    requires sized { IsWellSized deal.now }
+    requires arc { arc < length deal.now.graph.arcs }
+    requires legal { IsLegal deal.now arc history.now }
+    requires name { blank.name ≡ L.name }
+    requires parts { blank.parts ≡ L.parts }
+    requires one { blank.parts ≡ 1 }
+    ensures { IfOk result (λ i. (i.from ≡ party deal.now arc) × (i.to ≡ counterparty deal.now arc)) }
+{
+    let mut steps = Steps::<L>::new(blank);
+    let mut index = Index::new(alloc, deal, arc)?;
+    let mut scan = Scan::new(alloc, deal, arc);
+    index.reserve(history.len())?;
+    for entry in history {
+        index.push(entry.copy()?, &mut steps);
+        scan.push(entry.copy()?)?;
+        assert!(rt; same_answers(&index, &scan));
+    }
+    Ok(index)
+}
+
+/// The entries of a ledger, one by one.
+fn entries_of(alloc: Global, ledger: &Ledger) -> Result<Vec<Entry>, Fail>
+    ensures { IfOk result (λ v. IsLegal ledger.now.deal ledger.now.arc v.items) }
+{
+    let _history = ledger.history();
+    Ok(ledger.copy_from(0)?.to_vec(alloc)?)
+}
+
+fn count_of(entries: &[Entry], by: PartyId) -> usize {
+    entries
+        .iter()
+        .filter(|e| e.sender == Sender::Party(by))
+        .count()
+}
+
+fn compare_calls(rt: &impl Abort, index: &Index, ledger: &Ledger, entries: &[Entry], by: PartyId)
+    requires from { index.now.from ≡ party ledger.now.deal ledger.now.arc }
+    requires to { index.now.to ≡ counterparty ledger.now.deal ledger.now.arc }
+{
+    assert!(rt; is_adjacent(ledger.deal(), ledger.arc(), by));
+    assert!(rt; index.calls(by).len() == count_of(entries, by), "{by}");
+}
+
+/// Whether a call stands in the place of its number.
+fn is_in_place(call: &Made, entries: &[Entry]) -> bool {
+    match entries.get(call.number as usize) {
+        Some(entry) => entry.sender == call.entry.sender && entry.height == call.entry.height,
+        None => false,
+    }
+}
+
+fn calls_in(entries: &[Entry]) -> usize {
+    entries
+        .iter()
+        .filter(|e| matches!(e.sender, Sender::Party(_)))
+        .count()
+}
+
+/// Whether the calls are those of the entries.
+fn are_made(made: &[Made], entries: &[Entry]) -> bool {
+    if made.len() != calls_in(entries) {
+        return false;
+    }
+    for call in made {
+        if !is_in_place(call, entries) {
+            return false;
+        }
+    }
+    true
+}
+
+/// The index of a ledger, each of whose answers was compared.
+fn compared<L: Counted>(
+    rt: &impl Abort,
+    alloc: Global,
+    ledger: &Ledger,
+    blank: Blank,
+) -> Result<Index, Fail>
+    requires name { blank.name ≡ L.name }
+    requires parts { blank.parts ≡ L.parts }
+    requires one { blank.parts ≡ 1 }
+{
+    let entries = entries_of(alloc, ledger)?;
+    let index = indexed::<L>(rt, alloc, ledger.deal(), ledger.arc(), &entries, blank)?;
+    compare_calls(rt, &index, ledger, &entries, 0);
+    compare_calls(rt, &index, ledger, &entries, 1);
+    assert!(rt; are_made(index.made(), &entries));
+    Ok(index)
+}
+
+fn index_of(rt: &impl Abort, alloc: Global, ledger: &Ledger) -> Result<Index, Fail> {
+    compared::<Brand>(rt, alloc, ledger, Blank::new(1))
+}
+
+/// How the contract of a ledger is settled after acts at random.
+fn settled_at_random(
+    rt: &impl Abort,
+    alloc: Global,
+    random: &mut Random,
+) -> Result<Option<Settlement>, Fail> {
+    let ledger = after(rt, alloc, 80, random)?;
+    let index = index_of(rt, alloc, &ledger)?;
+    Ok(index.settled())
+}
+
+#[test]
+fn answers_as_a_scan(rt: HostRuntime) -> Result<(), Fail> {
+    let mut random = Random { state: 1 };
+    let (mut claimed, mut refunded) = (false, false);
+    for _ in 0..40 {
+        let settled = settled_at_random(&rt, rt.alloc(), &mut random)?;
+        claimed = claimed || settled == Some(Settlement::Claimed);
+        refunded = refunded || settled == Some(Settlement::Refunded);
+    }
+    assert!(rt; claimed && refunded);
+    Ok(())
+}
+
+/// A contract of other terms, claimed.
+const SETTLED: &str = "\
+tick 3 => Accepted 100 0 0
+a publish 99 => Accepted 1 0 99
+b unlock 1 1 => Accepted 1 0 99
+b unlock 0 0 => Accepted 1 0 99
+b claim => Accepted 1 99 0";
+
+/// Whether the index tells of the claimed contract.
+fn tells_settled(index: &Index) -> bool {
+    index.height() == 3
+        && index.published()
+            == Some(Published {
+                height: 3,
+                correct: false,
+            })
+        && index.published_number() == Some(1)
+        && index.settled() == Some(Settlement::Claimed)
+}
+
+/// Whether the index tells how the contract was opened.
+fn tells_opened(index: &Index) -> bool {
+    index.terms().locks.len() == 2 && index.unlocked(0) == Some(3) && index.unlocked(1) == Some(2)
+}
+
+/// Whether the index tells who made a call.
+fn tells_called(index: &Index) -> bool {
+    index.called(1, CallKind::Unlock(0))
+        && index.called(1, CallKind::Claim)
+        && !index.called(0, CallKind::Claim)
+        && !index.called(0, CallKind::Refund)
+}
+
+#[test]
+fn answers_of_a_settled_contract(rt: HostRuntime) -> Result<(), Fail> {
+    let ledger = follow(&rt, rt.alloc(), SETTLED)?;
+    let index = index_of(&rt, rt.alloc(), &ledger)?;
+    assert!(rt; tells_settled(&index));
+    assert!(rt; tells_opened(&index));
+    assert!(rt; tells_called(&index));
+    Ok(())
+}

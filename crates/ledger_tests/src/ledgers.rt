@@ -1,0 +1,160 @@
+//! Ledgers that follow the rows of a table.
+
+use crate::deals::small_deal;
+use escrow_core::{Reply, terms_of};
+use hashkey_path::Hashkey;
+use ledger_core::{Accounts, Call, Ledger, accounts_of, fits, is_adjacent};
+use std::alloc::Global;
+use std::process::Abort;
+use std::test::Fail;
+use swap_base::{Listed, NoMemory, PartyId, Shared};
+
+/// A publish of the deal's terms but for the amount.
+fn publish(alloc: Global, ledger: &Ledger, amount: u64) -> Result<Call, NoMemory> {
+    let mut terms = terms_of(ledger.deal(), ledger.arc());
+    terms.amount = amount;
+    Ok(Call::Publish(Shared::new(alloc, terms)?))
+}
+
+/// An unlock by a secret of 32 equal bytes.
+fn unlock(alloc: Global, lock: u8, byte: u8) -> Result<Call, NoMemory> {
+    let key = Hashkey {
+        lock,
+        secret: [byte; 32],
+        path: Listed::empty(alloc),
+        sigs: Listed::empty(alloc),
+    };
+    Ok(Call::Unlock(Shared::new(alloc, key)?))
+}
+
+/// The number of a party.
+fn party_of(word: &str) -> Result<PartyId, Fail> {
+    match word {
+        "a" => Ok(0),
+        "b" => Ok(1),
+        _ => Err("no party".into()),
+    }
+}
+
+/// Two words.
+fn two(words: &str) -> Result<(&str, &str), Fail> {
+    Ok(words.split_once(" ").ok_or("no two words")?)
+}
+
+/// The call of a kind that says more.
+fn call_with(alloc: Global, ledger: &Ledger, words: &str) -> Result<Call, Fail> {
+    let (kind, rest) = two(words)?;
+    match kind {
+        "publish" => Ok(publish(alloc, ledger, rest.parse()?)?),
+        "unlock" => {
+            let (lock, byte) = two(rest)?;
+            Ok(unlock(alloc, lock.parse()?, byte.parse()?)?)
+        }
+        "pay" => {
+            let (to, units) = two(rest)?;
+            Ok(Call::Transfer(party_of(to)?, units.parse()?))
+        }
+        _ => Err("no call".into()),
+    }
+}
+
+/// The call that words stand for.
+fn call_of(alloc: Global, ledger: &Ledger, words: &str) -> Result<Call, Fail> {
+    match words {
+        "claim" => Ok(Call::Claim),
+        "refund" => Ok(Call::Refund),
+        _ => call_with(alloc, ledger, words),
+    }
+}
+
+fn make(rt: &impl Abort, ledger: &mut Ledger, by: PartyId, call: Call) -> Result<Reply, Fail> {
+    let arc = ledger.arc();
+    assert!(rt; is_adjacent(ledger.deal(), arc, by));
+    assert!(rt; fits(ledger.deal(), arc, &call));
+    ledger.reserve()?;
+    Ok(ledger.apply(by, call, 0))
+}
+
+fn tick(rt: &impl Abort, ledger: &mut Ledger, k: u32) -> Result<Reply, Fail> {
+    assert!(rt; 1 <= k && k <= 1_000_000);
+    ledger.reserve()?;
+    Ok(ledger.tick(k))
+}
+
+/// The reply to an act: `tick` and by how many heights, or a party and its call.
+pub(crate) fn act(
+    rt: &impl Abort,
+    alloc: Global,
+    ledger: &mut Ledger,
+    words: &str,
+) -> Result<Reply, Fail> {
+    let (first, rest) = two(words)?;
+    if first == "tick" {
+        return tick(rt, ledger, rest.parse()?);
+    }
+    let call = call_of(alloc, ledger, rest)?;
+    make(rt, ledger, party_of(first)?, call)
+}
+
+/// The units of the arc's party, those of its counterparty, and those held.
+fn accounts(rt: &impl Abort, ledger: &Ledger) -> Accounts {
+    assert!(rt; is_adjacent(ledger.deal(), ledger.arc(), 0));
+    assert!(rt; is_adjacent(ledger.deal(), ledger.arc(), 1));
+    Accounts {
+        party: ledger.balance(0),
+        counterparty: ledger.balance(1),
+        held: ledger.held(),
+    }
+}
+
+/// The same by the entries.
+fn accounts_read(ledger: &Ledger) -> Result<Accounts, NoMemory> {
+    let _ = ledger.history();
+    let list = ledger.copy_from(0)?;
+    Ok(accounts_of(ledger.deal(), ledger.arc(), &list))
+}
+
+/// A reply, and the units after it.
+fn told(rt: &impl Abort, alloc: Global, ledger: &Ledger, reply: Reply) -> Result<String, Fail> {
+    let Accounts {
+        party,
+        counterparty,
+        held,
+    } = accounts(rt, ledger);
+    Ok(format!(in alloc; "{reply:?} {party} {counterparty} {held}")?)
+}
+
+/// How often something is asked, and what.
+fn counted(words: &str) -> Result<(u32, &str), Fail> {
+    match words.split_once(" times ") {
+        Some((count, words)) => Ok((count.parse()?, words)),
+        None => Ok((1, words)),
+    }
+}
+
+fn follow_row(rt: &impl Abort, alloc: Global, ledger: &mut Ledger, row: &str) -> Result<(), Fail> {
+    let (asked, wanted) = row.split_once(" => ").ok_or("no row")?;
+    let (count, words) = counted(asked)?;
+    for _ in 0..count {
+        let reply = act(rt, alloc, ledger, words)?;
+        assert!(rt; told(rt, alloc, ledger, reply)?.as_str() == wanted, "{row}");
+    }
+    Ok(())
+}
+
+/// The ledger of the deal's first arc, before any entry.
+pub(crate) fn first_ledger(alloc: Global) -> Result<Ledger, Fail> {
+    let deal = small_deal(alloc)?;
+    Ok(Ledger::new(alloc, &deal, 0)?)
+}
+
+/// A ledger of the deal's first arc that followed the rows. Each says what is asked, the reply, and the units of the arc's party,
+/// those of its counterparty, and those held: `TIMES times ACT => REPLY UNITS UNITS UNITS`.
+pub(crate) fn follow(rt: &impl Abort, alloc: Global, rows: &str) -> Result<Ledger, Fail> {
+    let mut ledger = first_ledger(alloc)?;
+    for row in rows.lines() {
+        follow_row(rt, alloc, &mut ledger, row)?;
+    }
+    assert!(rt; accounts_read(&ledger)? == accounts(rt, &ledger));
+    Ok(ledger)
+}

@@ -1,0 +1,17 @@
+//! Tests of single ledgers, their entries and the indexes over them, and of what a party learns, as tables.
+#![tactic(auto)]
+
+#[cfg(test)]
+mod deals;
+#[cfg(test)]
+mod entries;
+#[cfg(test)]
+mod index;
+#[cfg(test)]
+mod learning;
+#[cfg(test)]
+mod ledgers;
+#[cfg(test)]
+mod random;
+#[cfg(test)]
+mod replies;
