@@ -113,7 +113,8 @@ sigs_back xs h = list_back IsSignature signature_word signature_of signature_bac
 high_sigs : (xs : List Sig) → All IsSignature xs → IsHigh 44 (list_word (map signature_word xs))
 high_sigs xs h = high_list IsSignature signature_word signature_of signature_back high_signature some_signature xs h
 
-field_back : {A : Type 0} (f : List ℕ → Result A Misspelling) (w : List ℕ) (x : A) (rest : List (List ℕ)) → f w ≡ Ok x → field_of f (w ∷ rest) ≡ Ok (x, rest)
+pub field_back : {A : Type 0} (f : List ℕ → Result A Misspelling) (w : List ℕ) (x : A) (rest : List (List ℕ)) → f w ≡ Ok x
+    → field_of f (w ∷ rest) ≡ Ok (x, rest)
 unfolding field_of
 field_back f w x rest e = went (f w) x (λ y. Ok (y, rest)) e
 
@@ -241,7 +242,7 @@ high_locks : (xs : List (List ℕ)) → All IsDigest xs → AreHigh (map encode_
 high_locks [] h = tt
 high_locks (x ∷ xs) h = (up (encode_lower x) (high_hex x (first_of_all IsDigest x xs h).bytes), high_locks xs (rest_of IsDigest x xs h))
 
-high_call : (c : Call) → IsTypedCall c → AreHigh (call_words c)
+pub high_call : (c : Call) → IsTypedCall c → AreHigh (call_words c)
 high_call (Publish t) k = (
   refl,
   (
@@ -276,7 +277,7 @@ high_call Claim k = (refl, tt)
 high_call Refund k = (refl, tt)
 high_call (Transfer to units) k = (refl, (up (decimal to) (high_number to (let lt = k.0 in omega arith)), (up (decimal units) (high_number units k.1), tt)))
 
-high_reply : (r : Reply) → IsTypedReply r → AreHigh (reply_words r)
+pub high_reply : (r : Reply) → IsTypedReply r → AreHigh (reply_words r)
 high_reply Accepted k = (refl, tt)
 high_reply Settled k = (refl, tt)
 high_reply NotCounterparty k = (refl, tt)

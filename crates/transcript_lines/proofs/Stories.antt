@@ -32,7 +32,7 @@ use Rattle.transcript_lines.proofs.Spelling.{HasLocks, call_line_back, tick_line
 
 -- Entries.
 
-abbrev said_of : Entry → Said
+abbrev pub said_of : Entry → Said
 said_of e = record { sender = e.sender; what = e.what; reply = e.reply }
 
 publish_locks : (d : Deal) (a : ℕ) (c : Call) → IsTrue (fit d a c) → HasLocks (length d.leaders) c
@@ -68,7 +68,7 @@ line_says d a past e Clock (Tick n) es ew f k formed ts tw st =
 line_says d a past e (Party p) (Tick n) es ew f k formed ts tw st = absurd formed
 line_says d a past e Clock (Made c) es ew f k formed ts tw st = absurd formed
 
-entry_says : (d : Deal) (a : ℕ) (past : List Entry) (e : Entry) → IsFormedEntry d a past e → IsStatable e
+pub entry_says : (d : Deal) (a : ℕ) (past : List Entry) (e : Entry) → IsFormedEntry d a past e → IsStatable e
     → line_said (length d.leaders) (entry_line e) ≡ Ok (said_of e)
 entry_says d a past e f k = line_says d a past e e.sender e.what refl refl f k f.what k.sender k.what k.tick
 

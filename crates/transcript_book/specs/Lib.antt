@@ -1,0 +1,3 @@
+pub mod Entries
+pub mod Stages
+pub mod Inside

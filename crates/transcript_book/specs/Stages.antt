@@ -1,0 +1,77 @@
+-- How far the lines after the header line were read, and what the next one makes of it.
+use Rattle.std.specs.Prelude.{◌≡◌, ◌==◌, ◌-◌, ◌++◌, ◌∷◌, [], ℕ, Bool, true, false, nat_lt, List, length, codes, Result, Ok, Err, if◌then◌else◌}
+use Rattle.std.specs.Str.{bytes_eq}
+use Rattle.swap_base.specs.Fault.{◌>>=◌, Fails}
+use Rattle.swap_base.specs.declared.fault.Fault.{Fault}
+use Rattle.ledger_core.specs.declared.entry.Entry.{Entry}
+use Rattle.ledger_core.specs.Book.{Histories}
+use Rattle.deviator_script.specs.declared.job.Job.{Job}
+use Rattle.transcript_lines.specs.declared.said.Misspelling.{Misspelling}
+use Rattle.transcript_lines.specs.Reading.{misspelt}
+use Rattle.transcript_fields.specs.Counts.{count_of}
+use Rattle.transcript_book.specs.declared.place.Place.{Place}
+use Rattle.transcript_book.specs.declared.place.Place.TheVariants.{Ledger, Entries, Over}
+use Rattle.transcript_book.specs.Entries.{entry_of}
+
+pub record BookSoFar : Type 0 where
+  pub job : Job
+  -- the histories that were read whole
+  pub book : Histories
+  -- the entries of the next ledger that were read
+  pub entries : List Entry
+  -- how many of them are to come
+  pub more : ℕ
+  -- which line stands next
+  pub place : Place
+
+abbrev pub no_ledgers : Job → BookSoFar
+no_ledgers job = record { job = job; book = []; entries = []; more = 0; place = Ledger }
+
+-- a ledger of which no entry is to come was read whole
+abbrev pub with_whole : Bool → BookSoFar → BookSoFar
+with_whole true s = record { job = s.job; book = s.book ++ s.entries ∷ []; entries = []; more = 0; place = Ledger }
+with_whole false s = s
+
+abbrev pub settled : BookSoFar → BookSoFar
+settled s = with_whole (s.more == 0) s
+
+-- the next ledger, with so many entries
+abbrev pub begun : BookSoFar → ℕ → BookSoFar
+begun s count = settled (record { job = s.job; book = s.book; entries = []; more = count; place = Entries })
+
+-- one more entry of the ledger
+abbrev pub gone_on : BookSoFar → Entry → BookSoFar
+gone_on s e = settled (record { job = s.job; book = s.book; entries = s.entries ++ e ∷ []; more = s.more - 1; place = Entries })
+
+-- the last line
+abbrev pub ended : BookSoFar → List ℕ → Result BookSoFar Misspelling
+ended s line =
+    if bytes_eq line (codes "end") then Ok (record { job = s.job; book = s.book; entries = s.entries; more = s.more; place = Over })
+    else misspelt
+
+-- the line of the next ledger, or the last one where no ledger is to come
+unfoldable pub ledger_read : BookSoFar → List ℕ → Result BookSoFar Misspelling
+ledger_read s line =
+    if nat_lt (length s.book) (length s.job.deal.graph.arcs) then (count_of (length s.book) line >>= λ n. Ok (begun s n)) else ended s line
+
+-- the line of an entry
+unfoldable pub entry_read : BookSoFar → List ℕ → Result BookSoFar Misspelling
+entry_read s line = entry_of s.job.deal (length s.book) s.entries line >>= λ e. Ok (gone_on s e)
+
+abbrev pub read_at : Place → BookSoFar → List ℕ → Result BookSoFar Misspelling
+read_at Ledger s line = ledger_read s line
+read_at Entries s line = entry_read s line
+read_at Over s line = misspelt
+
+-- what the next line makes of it; after the last line each line is bad
+abbrev pub line_read : BookSoFar → List ℕ → Result BookSoFar Misspelling
+line_read s line = read_at s.place s line
+
+abbrev pub is_over : Place → Bool
+is_over Over = true
+is_over _ = false
+
+-- A call that reads a line answers so: after a line that isn't bad all is as it is read, and after any other answer as it was.
+abbrev pub Reads : {T : Type 0} → Result T (Fault Misspelling) → BookSoFar → BookSoFar → Result BookSoFar Misspelling → Type 0
+Reads (Ok x) old new read = read ≡ Ok new
+Reads (Err e) old new read = Fails e read × (new ≡ old)

@@ -1,0 +1,35 @@
+-- What is read of a transcript, and what is read back of a whole one.
+use Rattle.std.specs.Prelude.{◌≡◌, ◌≤◌, ◌==◌, not, ℕ, true, List, length, Option, Some, None, Result, Ok, Err}
+use Rattle.std.specs.List.{list_all}
+use Rattle.ledger_core.specs.Book.{Histories}
+use Rattle.swap_digraph.specs.Deal.{IsWellSized}
+use Rattle.deviator_script.specs.declared.job.Job.{Job}
+use Rattle.refusals.specs.declared.refusal.Refusal.{Refusal}
+use Rattle.transcript_lines.specs.Between.{ended}
+use Rattle.transcript_lines.specs.Lines.{IsWhole}
+use Rattle.transcript_reader.specs.Reading.{Story, transcript_read}
+
+abbrev pub ok_of : Result Job Refusal → Option Job
+ok_of (Ok job) = Some job
+ok_of (Err refusal) = None
+
+-- the job that a header line gives, if any
+abbrev pub job_of : (List ℕ → Result Job Refusal) → List ℕ → Option Job
+job_of header line = ok_of (header line)
+
+-- The lines of the bytes are a whole transcript.
+pub record IsWholeText (header : List ℕ → Result Job Refusal) (bytes : List ℕ) (t : Story) : Type 0 where
+  pub lines : List (List ℕ)
+  pub text : bytes ≡ ended lines
+  pub whole : IsWhole (job_of header) lines t.job t.book
+
+-- Bytes that give a job and a book are a whole transcript of them.
+abbrev pub ReadIsWhole : Type 0
+ReadIsWhole = (header : List ℕ → Result Job Refusal) (bytes : List ℕ) (t : Story) → transcript_read header bytes ≡ Ok t → IsWholeText header bytes t
+
+-- A whole transcript of at most 16,777,216 bytes, whose header line holds no line feed, gives its job and its book.
+abbrev pub WholeIsRead : Type 0
+WholeIsRead =
+    (header : List ℕ → Result Job Refusal) (ls : List (List ℕ)) (job : Job) (b : Histories) (whole : IsWhole (job_of header) ls job b) → IsWellSized job.deal
+    → list_all (λ x. not (x == 10)) whole.header ≡ true → length (ended ls) ≤ 16777216
+    → transcript_read header (ended ls) ≡ Ok (record { job = job; book = b })

@@ -1,0 +1,4 @@
+pub mod Header
+pub mod Stages
+pub mod Reading
+pub mod Laws

@@ -1,0 +1,81 @@
+-- What the bytes of a transcript give: its job and its book, or why they give none.
+use Rattle.std.specs.Prelude.{◌≡◌, ◌==◌, ◌&&◌, ℕ, Bool, nat_lt, List, [], ◌∷◌, length, Result, Ok, Err, if◌then◌else◌}
+use Rattle.swap_base.specs.declared.fault.Fault.{Fault}
+use Rattle.swap_base.specs.declared.fault.Fault.TheVariants.{Refused, NoMemory}
+use Rattle.ledger_core.specs.Book.{Histories}
+use Rattle.ledger_core.specs.declared.entry.Book.{Book}
+use Rattle.deviator_script.specs.declared.job.Job.{Job}
+use Rattle.refusals.specs.declared.refusal.Refusal.{Refusal}
+use Rattle.transcript_lines.specs.Between.{parts_at}
+use Rattle.transcript_book.specs.Stages.{BookSoFar, is_over}
+use Rattle.transcript_reader.specs.declared.reason.TranscriptReason.{TranscriptReason}
+use Rattle.transcript_reader.specs.declared.reason.TranscriptReason.TheVariants.{BadLine, TooLong, CutShort}
+use Rattle.transcript_reader.specs.declared.stage.Stage.{Stage}
+use Rattle.transcript_reader.specs.declared.stage.Stage.TheVariants.{First, Header, Ledgers, Bad}
+use Rattle.transcript_reader.specs.Stages.{Progress, headed, next_line, more_bytes, no_lines, with_line}
+
+-- what a job and its book are
+pub record Story : Type 0 where
+  pub job : Job
+  pub book : Histories
+
+-- what is answered after a line
+abbrev pub so_far : Stage → Result (Unit {0}) TranscriptReason
+so_far (Bad reason) = Err reason
+so_far _ = Ok tt
+
+-- at most 16,777,216 bytes
+abbrev pub unless_long : {A : Type 0} → ℕ → Result A TranscriptReason → Result A TranscriptReason
+unless_long bytes answer = if nat_lt 16777216 bytes then Err TooLong else answer
+
+abbrev pub story_so_far : BookSoFar → Story
+story_so_far s = record { job = s.job; book = s.book }
+
+-- the book of ledgers of which the last line was read
+abbrev pub told : BookSoFar → Result Story TranscriptReason
+told s = if is_over s.place then Ok (story_so_far s) else Err CutShort
+
+-- no bytes stand after the last line
+abbrev pub ledgers_told : (lines bytes : ℕ) → BookSoFar → List ℕ → Result Story TranscriptReason
+ledgers_told lines bytes s rest = if is_over s.place && nat_lt 0 (length rest) then Err (BadLine (next_line lines)) else unless_long bytes (told s)
+
+abbrev pub answer_at : Stage → Progress → List ℕ → Result Story TranscriptReason
+answer_at (Bad reason) p rest = Err reason
+answer_at (Ledgers s) p rest = ledgers_told p.lines (more_bytes p.bytes (length rest)) s rest
+answer_at _ p rest = unless_long (more_bytes p.bytes (length rest)) (Err CutShort)
+
+-- what is answered at the end, after bytes that no line feed ended
+abbrev pub finished : Progress → List ℕ → Result Story TranscriptReason
+finished p rest = answer_at p.stage p rest
+
+-- the lines are read, and what stands after the last line feed ends them
+abbrev pub parts_read : (List ℕ → Result Job Refusal) → Progress → List (List ℕ) → Result Story TranscriptReason
+parts_read header p [] = finished p []
+parts_read header p (rest ∷ []) = finished p rest
+parts_read header p (line ∷ next ∷ parts) = parts_read header (with_line header p line) (next ∷ parts)
+
+-- what bytes give, where header says what a header line gives
+unfoldable pub transcript_read : (List ℕ → Result Job Refusal) → List ℕ → Result Story TranscriptReason
+transcript_read header bytes = parts_read header no_lines (parts_at 10 bytes)
+
+-- the story of a job and its book
+abbrev pub story_of : Job × Book → Story
+story_of p = record { job = p.0; book = p.1.histories }
+
+-- What stands next after a header line, or the reason against it.
+abbrev pub Heads : Result Stage (Fault TranscriptReason) → Result Job Refusal → Type 0
+Heads (Ok stage) read = (headed read ≡ stage) × (so_far stage ≡ Ok tt)
+Heads (Err NoMemory) read = Unit {0}
+Heads (Err (Refused reason)) read = headed read ≡ Bad reason
+
+-- A line makes a stage so: one that isn't bad goes on, and any other answer leaves it as it was.
+abbrev pub Turns : {T : Type 0} → Result T (Fault TranscriptReason) → Stage → Stage → Stage → Type 0
+Turns (Ok x) old new read = (new ≡ read) × (so_far read ≡ Ok tt)
+Turns (Err NoMemory) old new read = new ≡ old
+Turns (Err (Refused reason)) old new read = (new ≡ old) × (read ≡ Bad reason)
+
+-- A call that reads a line answers so. After want of memory all is as it was.
+abbrev pub ReadsLine : {T : Type 0} → Result T (Fault TranscriptReason) → Progress → Progress → Progress → Type 0
+ReadsLine (Ok x) old new read = (new ≡ read) × (so_far read.stage ≡ Ok tt)
+ReadsLine (Err NoMemory) old new read = new ≡ old
+ReadsLine (Err (Refused reason)) old new read = (new ≡ read) × (so_far read.stage ≡ Err reason)

@@ -1,0 +1,149 @@
+//! The reader of a transcript's lines.
+
+ghost use Rattle.std.specs.Prelude.{◌≡◌, IfOk, Ok, Err, true};
+ghost use Rattle.swap_base.specs.Fault.{Gives};
+ghost use Rattle.transcript_reader.specs.Header.{header_read, IsTold};
+ghost use Rattle.transcript_book.specs.Stages.{is_over};
+ghost use Rattle.transcript_reader.specs.Reading.{ReadsLine, Story, finished, ledgers_told, story_of, story_so_far, unless_long};
+ghost use Rattle.transcript_reader.specs.Stages.{more_bytes, no_lines, with_line};
+
+use crate::reason::{TranscriptFault, TranscriptReason};
+use crate::stage::Stage;
+use deviator_script::Job;
+use ledger_core::Book;
+use std::alloc::Global;
+use std::marker::Model;
+use swap_base::{Fault, TryCopy};
+use transcript_book::BookReader;
+
+/// The most bytes of a transcript.
+const LIMIT: u64 = 16_777_216;
+
+/// Reads a transcript line by line. It keeps the book that the lines state, and none of their text.
+#[derive(Debug, Drop)]
+pub struct TranscriptReader {
+    stage: Stage,
+    lines: u32,
+    bytes: u64,
+    alloc: Global,
+}
+
+impl Model for TranscriptReader {
+    ghost use Rattle.transcript_reader.specs.Stages.{Progress};
+
+    ghost Value = { Progress };
+
+    ghost view = { λ r. record { stage = r.stage; lines = r.lines; bytes = r.bytes } };
+
+    ghost use Rattle.transcript_reader.specs.Header.{IsToldAt};
+
+    ghost invariant = { λ r. IsToldAt r.stage };
+}
+
+impl TranscriptReader {
+    /// No line was read yet.
+    pub fn new(alloc: Global) -> TranscriptReader
+        ensures { result ≡ no_lines }
+    {
+        TranscriptReader {
+            stage: Stage::First,
+            lines: 0,
+            bytes: 0,
+            alloc,
+        }
+    }
+
+    /// Reads a line, which a line feed ended. After a refusal each later line gives the same one; want of memory changes nothing.
+    pub fn push(&mut self, line: &[u8]) -> Result<(), TranscriptFault>
+        ensures { ReadsLine result self.old self.new (with_line header_read self.old line.now) }
+    {
+        let number = self.lines.saturating_add(1);
+        let answer = match self.stage.read(self.alloc, number, line) {
+            Ok(()) => Ok(()),
+            Err(Fault::NoMemory) => return Err(Fault::NoMemory),
+            Err(Fault::Refused(reason)) => {
+                self.stage = Stage::Bad(reason.copy()?);
+                Err(Fault::Refused(reason))
+            }
+        };
+        self.lines = number;
+        self.bytes = self.bytes.saturating_add(line.len() as u64 + 1);
+        answer
+    }
+
+    /// The job and the book that the transcript states, where these bytes stand after the last line feed.
+    pub fn finish(self, rest: &[u8]) -> Result<(Job, Book), TranscriptFault>
+        ensures exact { Gives story_of result (finished self rest.now) }
+        ensures told { IfOk result (λ p. IsTold p.0) }
+    {
+        let lines = self.lines;
+        let bytes = self.bytes.saturating_add(rest.len() as u64);
+        match self.stage {
+            Stage::Bad(reason) => Err(Fault::Refused(reason)),
+            Stage::Ledgers(reader) => told(reader, lines, bytes, rest),
+            _ => Err(Fault::Refused(cut_or_long(bytes))),
+        }
+    }
+}
+
+/// Why a transcript without its last line gives no book.
+fn cut_or_long(bytes: u64) -> TranscriptReason
+    ensures { unless_long {A = Story} bytes (Err TranscriptReason.CutShort) ≡ Err result }
+{
+    if bytes > LIMIT {
+        TranscriptReason::TooLong
+    } else {
+        TranscriptReason::CutShort
+    }
+}
+
+/// The job and the book, unless there are too many bytes.
+fn unless_long(reader: BookReader, bytes: u64) -> Result<(Job, Book), TranscriptFault>
+    requires { IsTold reader.job }
+    ensures exact { Gives story_of result (unless_long bytes (Ok (story_so_far reader))) }
+    ensures told { IfOk result (λ p. IsTold p.0) }
+{
+    if bytes > LIMIT {
+        Err(Fault::Refused(TranscriptReason::TooLong))
+    } else {
+        Ok(reader.into_book())
+    }
+}
+
+/// The job and the book of ledgers of which the last line was read.
+#[tactic(auto, using(crate::proofs::Told::with_more, crate::proofs::Told::without_more))]
+fn told_over(
+    reader: BookReader,
+    lines: u32,
+    bytes: u64,
+    rest: &[u8],
+) -> Result<(Job, Book), TranscriptFault>
+    requires told { IsTold reader.job }
+    requires over { is_over reader.place ≡ true }
+    ensures exact { Gives story_of result (ledgers_told lines bytes reader rest.now) }
+    ensures told { IfOk result (λ p. IsTold p.0) }
+{
+    match rest {
+        [] => unless_long(reader, bytes),
+        _ => Err(Fault::Refused(TranscriptReason::BadLine(lines.saturating_add(1)))),
+    }
+}
+
+/// The job and the book of the ledgers that were read.
+#[tactic(auto, using(crate::proofs::Told::not_over))]
+fn told(
+    reader: BookReader,
+    lines: u32,
+    bytes: u64,
+    rest: &[u8],
+) -> Result<(Job, Book), TranscriptFault>
+    requires { IsTold reader.job }
+    ensures exact { Gives story_of result (ledgers_told lines bytes reader rest.now) }
+    ensures told { IfOk result (λ p. IsTold p.0) }
+{
+    if reader.is_over() {
+        told_over(reader, lines, bytes, rest)
+    } else {
+        Err(Fault::Refused(cut_or_long(bytes)))
+    }
+}

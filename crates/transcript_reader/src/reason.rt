@@ -1,0 +1,34 @@
+//! Why a text is no transcript.
+
+use crate::copied::copy_refusal;
+use refusals::Refusal;
+use swap_base::{Fault, NoMemory, TryCopy};
+
+/// Why a text is no transcript. Lines are counted from 1.
+#[derive(Debug, Drop)]
+pub enum TranscriptReason {
+    /// The first line that isn't of the form that stands next, or that states what doesn't fit the deal.
+    BadLine(u32),
+    /// More than 16,777,216 bytes, where no line is bad.
+    TooLong,
+    /// The last line isn't there, where no line is bad.
+    CutShort,
+    /// What is wrong with the header line.
+    Header(Refusal),
+}
+
+impl TryCopy for TranscriptReason {
+    fn copy(&self) -> Result<TranscriptReason, NoMemory> {
+        match self {
+            TranscriptReason::BadLine(line) => Ok(TranscriptReason::BadLine(*line)),
+            TranscriptReason::TooLong => Ok(TranscriptReason::TooLong),
+            TranscriptReason::CutShort => Ok(TranscriptReason::CutShort),
+            TranscriptReason::Header(refusal) => {
+                Ok(TranscriptReason::Header(copy_refusal(refusal)?))
+            }
+        }
+    }
+}
+
+/// Why a text gives no book: a reason, or want of memory.
+pub type TranscriptFault = Fault<TranscriptReason>;

@@ -1,0 +1,31 @@
+//! A transcript in memory.
+
+ghost use Rattle.std.specs.Prelude.{IfOk};
+ghost use Rattle.swap_base.specs.Fault.{Gives};
+ghost use Rattle.transcript_reader.specs.Header.{header_read, IsTold};
+ghost use Rattle.transcript_reader.specs.Laws.{IsWholeText};
+ghost use Rattle.transcript_reader.specs.Reading.{story_of, transcript_read};
+
+use crate::reader::TranscriptReader;
+use crate::reason::TranscriptFault;
+use deviator_script::Job;
+use ledger_core::Book;
+use memchr::memchr;
+use std::alloc::Global;
+
+/// The job and the book that a transcript states.
+pub fn read_transcript(alloc: Global, bytes: &[u8]) -> Result<(Job, Book), TranscriptFault>
+    ensures exact { Gives story_of result (transcript_read header_read bytes.now) }
+    ensures whole { IfOk result (λ p. IsWholeText header_read bytes.now (story_of p)) }
+    ensures told { IfOk result (λ p. IsTold p.0) }
+{
+    let mut reader = TranscriptReader::new(alloc);
+    let mut at = 0;
+    'lines: while let Some(end) = memchr(b'\n', &bytes[at..]) {
+        match reader.push(&bytes[at..at + end]) {
+            Ok(()) => at += end + 1,
+            Err(fault) => return Err(fault),
+        }
+    }
+    reader.finish(&bytes[at..])
+}
