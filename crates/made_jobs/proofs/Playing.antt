@@ -1,5 +1,5 @@
 -- A world of a generated job takes its events.
-use Rattle.std.proofs.Common.{◌≡◌, ℕ, ◌<◌, Bool, true, false, List, [], ◌∷◌, length, drop, map, replicate, Option, Some, None, Ok, is_some}
+use Rattle.std.proofs.Common.{◌≡◌, ℕ, zero, suc, ◌<◌, Bool, true, false, List, [], ◌∷◌, length, drop, map, replicate, Option, Some, None, Ok, is_some}
 use Rattle.std.proofs.Common.{refl, sym, ap, ap₂, ◌∙◌, subst}
 use Rattle.std.proofs.lemmas.List.{length-replicate}
 use Rattle.std.proofs.lemmas.List.FromFn.{length-map-range_with_len}
@@ -7,18 +7,20 @@ use Rattle.swap_digraph.specs.Deal.{IsWellSized}
 use Rattle.swap_digraph.specs.declared.deal.Deal.{Deal}
 use Rattle.deviator_script.specs.declared.event.Event.{Event}
 use Rattle.deviator_script.specs.declared.job.Job.{Job}
+use Rattle.deviator_script.specs.declared.job.Role.{Role}
+use Rattle.deviator_script.specs.declared.job.Role.TheVariants.{Conforming, Manual}
 use Rattle.deviator_script.specs.Step.{CanStep, IsEventOf}
 use Rattle.swap_rules.specs.Accepted.{IsAccepted}
 use Rattle.swap_laws.proofs.Accepted.{accepted_is_well_sized}
 use Rattle.ledger_core.specs.Book.{Histories}
 use Rattle.swap_rules.specs.Outcome.{IsEnded}
-use Rattle.swap_run.specs.Run.{Cast, State, run, run_from, start, step}
+use Rattle.swap_run.specs.Run.{Cast, State, is_planned, run, run_from, start, step}
 use Rattle.swap_run.specs.Fair.{finish}
 use Rattle.swap_run.specs.Laws.{IsKept}
-use Rattle.swap_world.specs.Cast.{cast_of, cast_with}
-use Rattle.swap_world.specs.Staff.{world_of, HaveSeeds}
+use Rattle.swap_world.specs.Cast.{cast_of, cast_with, is_conforming}
+use Rattle.swap_world.specs.Staff.{world_of, HaveRoles, HaveSeeds}
 use Rattle.swap_world.specs.Value.{WorldState, cast_at, new_world}
-use Rattle.swap_world.proofs.Team.{world_is_new}
+use Rattle.swap_world.proofs.Team.{world_is_new, plain_roles}
 use Rattle.swap_gen.specs.Drawn.{generated, plain_job, plain_deal, seed_of}
 use Rattle.swap_gen.specs.Made.{made_deal}
 use Rattle.swap_gen.specs.Events.{generated_events, GeneratorState}
@@ -45,8 +47,8 @@ is_new job own = world_is_new job (λ p lt c. let k = own p lt in (k.seed, k.the
 
 same_cast : (job : Job) (w : WorldState) → IsOf job w → cast_at w ≡ cast_of job
 same_cast job w k =
-    ap (λ (d : Deal). cast_with d w.conforming w.seeds) k.deal
-    ∙ ap₂ (λ (c : List Bool) (s : List (Option (List ℕ))). cast_with job.deal c s) k.conforming k.seeds
+    ap₂ (λ (d : Deal) (rs : List Role). cast_with d w.conforming w.seeds rs) k.deal k.roles
+    ∙ ap₂ (λ (c : List Bool) (s : List (Option (List ℕ))). cast_with job.deal c s job.roles) k.conforming k.seeds
 
 -- the lists of a generated job
 
@@ -57,6 +59,28 @@ generated_conforming seed n = length-replicate n true
 pub generated_seeds : (seed n : ℕ) → length (generated seed n).seeds ≡ (generated seed n).deal.graph.n
 unfolding plain_job plain_deal made_deal
 generated_seeds seed n = length-map-range_with_len (λ i. Some (seed_of seed i)) 0 n
+
+-- everybody conforms
+
+abbrev role : Bool → Role
+role true = Conforming
+role false = Manual
+
+role_conforms : (b : Bool) → is_conforming (role b) ≡ b
+role_conforms true = refl
+role_conforms false = refl
+
+role_plans : (b : Bool) → is_planned (role b) ≡ false
+role_plans true = refl
+role_plans false = refl
+
+all_conform : (n : ℕ) → replicate n Conforming ≡ map role (replicate n true)
+all_conform zero = refl
+all_conform (suc n) = ap (λ (rs : List Role). Conforming ∷ rs) (all_conform n)
+
+pub generated_roles : (seed n : ℕ) → HaveRoles (generated seed n)
+unfolding plain_job plain_deal made_deal
+generated_roles seed n = plain_roles role role_conforms role_plans (generated seed n) (all_conform n)
 
 -- one more event
 
@@ -74,6 +98,7 @@ is_still job w new s k e = record {
   deal = ap (λ (x : WorldState). x.deal) e ∙ k.deal;
   conforming = ap (λ (x : WorldState). x.conforming) e ∙ k.conforming;
   seeds = ap (λ (x : WorldState). x.seeds) e ∙ k.seeds;
+  roles = ap (λ (x : WorldState). x.roles) e ∙ k.roles;
 }
 
 pub goes_on_still : (w new : WorldState) (s : State) → w.stopped ≡ false → new ≡ record w { state = s } → new.stopped ≡ false
@@ -98,6 +123,9 @@ job_conforming j seed n e = subst (λ (x : Job). length x.conforming ≡ x.deal.
 pub job_seeds : (j : Job) (seed n : ℕ) → j ≡ generated seed n → length j.seeds ≡ j.deal.graph.n
 job_seeds j seed n e = subst (λ (x : Job). length x.seeds ≡ x.deal.graph.n) (sym e) (generated_seeds seed n)
 
+pub job_roles : (j : Job) (seed n : ℕ) → j ≡ generated seed n → HaveRoles j
+job_roles j seed n e = subst HaveRoles (sym e) (generated_roles seed n)
+
 -- its world before any event
 
 pub is_of_new : (j job : Job) (w : WorldState) → j ≡ job → w ≡ new_world j → IsOf job w
@@ -105,6 +133,7 @@ is_of_new j job w e new = record {
   deal = ap (λ (x : WorldState). x.deal) new ∙ ap (λ (x : Job). x.deal) e;
   conforming = ap (λ (x : WorldState). x.conforming) new ∙ ap (λ (x : Job). x.conforming) e;
   seeds = ap (λ (x : WorldState). x.seeds) new ∙ ap (λ (x : Job). x.seeds) e;
+  roles = ap (λ (x : WorldState). x.roles) new ∙ ap (λ (x : Job). x.roles) e;
 }
 
 pub starts : (j job : Job) (w : WorldState) → j ≡ job → w ≡ new_world j → w.state ≡ start (cast_of job)

@@ -38,8 +38,9 @@ pub record StandsAt (seed parties events drawn : ℕ) (g : GeneratorState) : Typ
   pub parties_are : g.parties ≡ parties
   pub rest : events_from seed (drawn_graph seed parties) g.place (events - drawn) ≡ drop drawn (generated_events seed parties events)
 
--- The world is of the job: of its deal, with its parties and their seeds.
+-- The world is of the job: of its deal, with its parties, their seeds and their roles.
 pub record IsOf (job : Job) (w : WorldState) : Type 0 where
   pub deal : w.deal ≡ job.deal
   pub conforming : w.conforming ≡ job.conforming
   pub seeds : w.seeds ≡ job.seeds
+  pub roles : w.roles ≡ job.roles

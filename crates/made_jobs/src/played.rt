@@ -9,6 +9,7 @@ ghost use Rattle.swap_run.specs.Run.{run_from, start};
 ghost use Rattle.swap_run.specs.Fair.{finish};
 ghost use Rattle.swap_run.specs.Laws.{IsKept};
 ghost use Rattle.swap_world.specs.Cast.{cast_of};
+ghost use Rattle.swap_world.specs.Staff.{HaveRoles};
 ghost use Rattle.swap_world.specs.Value.{cast_at, new_world};
 ghost use Rattle.swap_gen.specs.Drawn.{generated};
 ghost use Rattle.swap_gen.specs.Events.{generated_events};
@@ -62,6 +63,7 @@ fn new_world(alloc: Global, job: &Job) -> Result<World, NoMemory>
     requires owned { (p : ℕ) → p < job.now.deal.graph.n → OwnsKeys job.now p }
     requires conforming { length job.now.conforming ≡ job.now.deal.graph.n }
     requires seeds { length job.now.seeds ≡ job.now.deal.graph.n }
+    requires roles { HaveRoles job.now }
     ensures { IfOk result (λ w. w ≡ new_world job.now) }
 {
     let wallets = wallets_of(alloc, job)?;

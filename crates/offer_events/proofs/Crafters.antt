@@ -1,6 +1,6 @@
 -- The parties that craft a hashkey, one after another: whether one conforms, and whether each has a seed.
 use Rattle.std.proofs.Common.{◌≡◌, ℕ, ◌+◌, ◌<◌, ◌≤◌, ◌||◌, nat_lt, Bool, true, false, cond, List, [], ◌∷◌, length, get_or, take, drop, drop-cons, add-one}
-use Rattle.std.proofs.Common.{slice_index_or, Option, Some, None, is_some, Ok, Err, refl, sym, ap, ◌∙◌, arith, ltb-true}
+use Rattle.std.proofs.Common.{slice_index_or, None, is_some, Ok, Err, refl, sym, ap, ◌∙◌, arith, ltb-true}
 use Rattle.std.specs.Prelude.{Result}
 use Rattle.std.specs.List.{list_any, list_all}
 use Rattle.std.proofs.lemmas.List.{take_all, length-drop, nil_from_length}

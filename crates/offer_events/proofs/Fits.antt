@@ -1,6 +1,6 @@
 -- An event that is answered fits its deal.
-use Rattle.std.proofs.Common.{◌≡◌, ℕ, ◌<◌, ◌≤◌, ◌&&◌, ◌||◌, ◌==◌, Bool, true, false, length, slice_index_or, List, Ok, Err, Option, Some, None, refl, sym, ap, ◌∙◌}
-use Rattle.std.proofs.Common.{[], ◌∷◌, cond, is_some, subst, arith, eq-eqb}
+use Rattle.std.proofs.Common.{◌≡◌, ℕ, ◌<◌, ◌≤◌, ◌&&◌, ◌||◌, ◌==◌, Bool, true, false, length, slice_index_or, List, Ok, Err, Option, Some, None, refl, sym, ap}
+use Rattle.std.proofs.Common.{◌∙◌, [], ◌∷◌, cond, is_some, subst, arith, eq-eqb}
 use Rattle.std.specs.List.{list_all}
 use Rattle.std.specs.Prelude.{unwrap_or, IsTrue, codes}
 use Rattle.std.proofs.lemmas.Bool.{le-leb}
@@ -135,8 +135,8 @@ key_fits d line path k key e =
       sigs_few = omega (arith, n, few.1);
     })
 
-unlock_made : (d : Deal) (seeds : Seeds) (names : List (List ℕ)) (line n : ℕ) (k : RawKey) (mv : Move) → length names ≡ d.graph.n → unlock_of d names line n k ≡ Ok mv
-    → IsMade d seeds line mv
+unlock_made : (d : Deal) (seeds : Seeds) (names : List (List ℕ)) (line n : ℕ) (k : RawKey) (mv : Move) → length names ≡ d.graph.n
+    → unlock_of d names line n k ≡ Ok mv → IsMade d seeds line mv
 unfolding unlock_of
 unlock_made d seeds names line n k mv same e =
     let p = went (each_of (party_of_name line names) k.path) _ mv e in
@@ -217,8 +217,8 @@ adjacent_fits : (d : Deal) (line p a : ℕ) (u : Unit {0}) → adjacent d line p
 unfolding adjacent
 adjacent_fits d line p a u e = (passed ((p == party d a) || (p == counterparty d a)) tt u (NotAdjacent line) e).0
 
-transfer_made : (d : Deal) (seeds : Seeds) (names : List (List ℕ)) (line n : ℕ) (name : List ℕ) (amount : ℕ) (mv : Move) → transfer_of d names line n name amount ≡ Ok mv
-    → IsMade d seeds line mv
+transfer_made : (d : Deal) (seeds : Seeds) (names : List (List ℕ)) (line n : ℕ) (name : List ℕ) (amount : ℕ) (mv : Move)
+    → transfer_of d names line n name amount ≡ Ok mv → IsMade d seeds line mv
 unfolding transfer_of
 transfer_made d seeds names line n name amount mv e =
     let p = went (party_of_name line names name) _ mv e in

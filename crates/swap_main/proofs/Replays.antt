@@ -1,18 +1,20 @@
 -- A replay steps a world line by line.
-use Rattle.std.proofs.Common.{◌≡◌, ℕ, ◌+◌, List, [], ◌∷◌, Result, Ok, Err, Option, Bool, refl, sym, ap, ap₂, ◌∙◌}
+use Rattle.std.proofs.Common.{◌≡◌, ℕ, ◌+◌, List, [], ◌∷◌, map, Result, Ok, Err, Option, Bool, true, false, refl, sym, ap, ap₂, ◌∙◌}
 use Rattle.std.proofs.Common.{fold}
 use Rattle.swap_base.specs.Fault.{◌>>=◌}
 use Rattle.deviator_script.specs.declared.job.Job.{Job}
 use Rattle.deviator_script.specs.declared.event.Event.{Event}
+use Rattle.deviator_script.specs.declared.job.Role.{Role}
 use Rattle.refusals.specs.declared.reason.Reason.{Reason}
 use Rattle.swap_offer.specs.Lines.{lines_of, filled_lines}
 use Rattle.swap_offer.specs.Job.{events_of, next_of, job_of, job_header_of, of_lines as lines_read}
 use Rattle.swap_digraph.specs.declared.deal.Deal.{Deal}
-use Rattle.swap_run.specs.Run.{Cast, State, step, start}
-use Rattle.swap_world.specs.Cast.{cast_of, cast_with}
+use Rattle.swap_run.specs.Run.{Cast, State, is_planned, step, start}
+use Rattle.swap_world.specs.Cast.{cast_of, cast_with, is_conforming}
+use Rattle.swap_offer.specs.Checks.{role_of}
 use Rattle.swap_offer.specs.Wallets.{HaveWallets}
-use Rattle.swap_world.specs.Staff.{world_of}
-use Rattle.swap_world.proofs.Team.{world_is_new}
+use Rattle.swap_world.specs.Staff.{world_of, HaveRoles}
+use Rattle.swap_world.proofs.Team.{world_is_new, plain_roles}
 use Rattle.swap_world.specs.Value.{WorldState, cast_at, new_world}
 use Rattle.swap_main.specs.declared.words.Command.{Command}
 use Rattle.swap_main.specs.declared.words.Command.TheVariants.{Check, Run, Make}
@@ -92,25 +94,34 @@ of_input Make input = of_some Make (filled_lines 1 (lines_of input))
 -- Worlds.
 
 pub same_cast : (job : Job) (w : WorldState) → IsOf job w → cast_at w ≡ cast_of job
-same_cast job w k = ap (λ (d : Deal). cast_with d w.conforming w.seeds) k.deal
-    ∙ ap₂ (λ (c : List Bool) (s : List (Option (List ℕ))). cast_with job.deal c s) k.conforming k.seeds
+same_cast job w k = ap₂ (λ (d : Deal) (rs : List Role). cast_with d w.conforming w.seeds rs) k.deal k.roles
+    ∙ ap₂ (λ (c : List Bool) (s : List (Option (List ℕ))). cast_with job.deal c s job.roles) k.conforming k.seeds
 
 -- after the event of a line
 pub stepped : (job : Job) (w new : WorldState) (e : Event) (count line : ℕ) (text : List ℕ) → IsOf job w → next_of job count line text ≡ Ok e
-    → new ≡ record { deal = w.deal; conforming = w.conforming; seeds = w.seeds; state = step (cast_at w) w.state e; stopped = w.stopped }
+    → new ≡ record w { state = step (cast_at w) w.state e }
     → next_by (step (cast_of job)) job count w.state line text ≡ Ok new.state
 unfolding next_by
 stepped job w new e count line text k n s = ap (λ (r : Result Event Reason). r >>= λ f. Ok (step (cast_of job) w.state f)) n
     ∙ ap (λ (x : State). Ok x) (ap (λ (c : Cast). step c w.state e) (sym (same_cast job w k)) ∙ sym (ap (λ (x : WorldState). x.state) s))
 
 pub is_of_still : (job : Job) (w new : WorldState) (st : State) → IsOf job w
-    → new ≡ record { deal = w.deal; conforming = w.conforming; seeds = w.seeds; state = st; stopped = w.stopped } → IsOf job new
+    → new ≡ record w { state = st } → IsOf job new
 is_of_still job w new st k e = record {
   deal = ap (λ (x : WorldState). x.deal) e ∙ k.deal;
   conforming = ap (λ (x : WorldState). x.conforming) e
       ∙ k.conforming;
   seeds = ap (λ (x : WorldState). x.seeds) e ∙ k.seeds;
+  roles = ap (λ (x : WorldState). x.roles) e ∙ k.roles;
 }
+
+-- a party's role is simple: it conforms, or it acts by its own calls alone
+simple : (b : Bool) → (is_conforming (role_of b) ≡ b) × (is_planned (role_of b) ≡ false)
+simple true = (refl, refl)
+simple false = (refl, refl)
+
+pub have_roles : (job : Job) → job.roles ≡ map role_of job.conforming → HaveRoles job
+have_roles job e = plain_roles role_of (λ b. (simple b).0) (λ b. (simple b).1) job e
 
 -- a job whose conforming parties have their wallets gives a new world
 pub is_new : (job : Job) → HaveWallets job → world_of job ≡ Ok (new_world job)

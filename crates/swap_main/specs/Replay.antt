@@ -27,11 +27,12 @@ replayed f job count x lines = events_of job count lines >>= λ events. Ok (fold
 unfoldable pub next_by : {A : Type 0} → (A → Event → A) → Job → ℕ → A → ℕ → List ℕ → Result A Reason
 next_by f job count x line text = next_of job count line text >>= λ e. Ok (f x e)
 
--- The world is of the job: of its deal, with its parties and their seeds.
+-- The world is of the job: of its deal, with its parties, their seeds and their roles.
 pub record IsOf (job : Job) (w : WorldState) : Type 0 where
   pub deal : w.deal ≡ job.deal
   pub conforming : w.conforming ≡ job.conforming
   pub seeds : w.seeds ≡ job.seeds
+  pub roles : w.roles ≡ job.roles
 
 -- an event is read and passed over
 abbrev pub passed_over : Unit {0} → Event → Unit {0}

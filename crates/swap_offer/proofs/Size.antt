@@ -1,5 +1,5 @@
 -- The job of a header is whole.
-use Rattle.std.proofs.Common.{◌≡◌, ◌<◌, ◌≤◌, ℕ, List, length, sym, ap, ◌∙◌}
+use Rattle.std.proofs.Common.{◌≡◌, ◌<◌, ◌≤◌, ℕ, List, length, refl, sym, ap, ◌∙◌}
 use Rattle.swap_digraph.specs.Value.{Graph}
 use Rattle.swap_digraph.specs.Graph.{HasEnds}
 use Rattle.swap_digraph.specs.Deal.{IsWellSized, HasKeys}
@@ -39,7 +39,13 @@ is_sized h g id k e n a =
     }
 
 pub is_whole : (h : Header) (g : Graph) → IsWithin h → HasEnds g → g.n ≡ length h.names → g.arcs ≡ h.arcs → IsWhole (job_with h g)
-is_whole h g k e n a = record { sized = is_sized h g (deal_with h g).id k e n a; names = sym n; conforming = k.conforming ∙ sym n; seeds = k.seeds ∙ sym n }
+is_whole h g k e n a = record {
+  sized = is_sized h g (deal_with h g).id k e n a;
+  names = sym n;
+  conforming = k.conforming ∙ sym n;
+  roles = refl;
+  seeds = k.seeds ∙ sym n;
+}
 
 untold_by : (purpose : Purpose) (h : Header) (g : Graph) → IsUntoldFor purpose h → IsUntoldJob purpose (job_with h g)
 untold_by Audit h g u = u

@@ -1,5 +1,5 @@
 -- What the bytes of an offer are: a job with its events, or the first reason against them.
-use Rattle.std.specs.Prelude.{◌≡◌, ◌==◌, ℕ, ◌+◌, List, [], ◌∷◌, Bool, true, false, codes, length, Result, Ok, Err, if◌then◌else◌}
+use Rattle.std.specs.Prelude.{◌≡◌, ◌==◌, ℕ, ◌+◌, List, [], ◌∷◌, Bool, true, false, codes, length, map, Result, Ok, Err, if◌then◌else◌}
 use Rattle.swap_base.specs.Fault.{◌>>=◌, steps}
 use Rattle.swap_digraph.specs.Deal.{IsWellSized}
 use Rattle.deviator_script.specs.declared.job.Purpose.{Purpose}
@@ -12,7 +12,7 @@ use Rattle.offer_header.specs.Header.{header_of}
 use Rattle.offer_events.specs.Event.{event_of}
 use Rattle.swap_offer.specs.Lines.{lines_of, filled_lines}
 use Rattle.offer_header.specs.declared.header.Header.{Header}
-use Rattle.swap_offer.specs.Checks.{admitted, job_with}
+use Rattle.swap_offer.specs.Checks.{admitted, job_with, role_of}
 use Rattle.swap_offer.specs.Wallets.{seeded, walleted}
 
 -- a job has the seeds that it needs
@@ -85,4 +85,5 @@ pub record IsWhole (job : Job) : Type 0 where
   pub sized : IsWellSized job.deal
   pub names : length job.names ≡ job.deal.graph.n
   pub conforming : length job.conforming ≡ job.deal.graph.n
+  pub roles : job.roles ≡ map role_of job.conforming
   pub seeds : length job.seeds ≡ job.deal.graph.n

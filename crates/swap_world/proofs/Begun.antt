@@ -1,5 +1,6 @@
 -- A world before any event.
-use Rattle.std.proofs.Common.{◌≡◌, Bool, false, List, map, Result, Ok, sym, ap, ap₂, ◌∙◌, subst}
+use Rattle.std.proofs.Common.{◌≡◌, ℕ, ◌+◌, ◌<◌, ◌≤◌, Bool, false, List, [], ◌∷◌, ◌++◌, length, get_or, take, map, Result, Ok, sym, ap, ap₂, ◌∙◌, subst}
+use Rattle.std.proofs.lemmas.List.{take_more, take_all}
 use Rattle.swap_base.specs.Fault.{◌>>=◌, Fails}
 use Rattle.swap_base.specs.declared.fault.Fault.{Fault}
 use Rattle.swap_base.specs.declared.fault.Fault.TheVariants.{Refused, NoMemory}
@@ -7,56 +8,75 @@ use Rattle.swap_digraph.specs.declared.deal.Deal.{Deal}
 use Rattle.ledger_core.specs.Value.{LedgerState}
 use Rattle.ledger_core.specs.Book.{Histories}
 use Rattle.deviator_script.specs.declared.job.Job.{Job}
+use Rattle.deviator_script.specs.declared.job.Role.{Role}
 use Rattle.swap_rules.specs.Accepted.{IsAccepted}
-use Rattle.swap_run.specs.Run.{Cast, Notes, State, start}
+use Rattle.swap_run.specs.Run.{Cast, Notes, Plan, State, start}
 use Rattle.swap_run.specs.Laws.{IsReadyCast, IsGood}
 use Rattle.swap_run.proofs.Good.{start_is_good}
 use Rattle.swap_world.specs.Cast.{cast_with, cast_of}
 use Rattle.swap_world.specs.Value.{WorldState, new_world}
-use Rattle.swap_world.specs.Staff.{actors_of, world_of, HaveSeeds}
+use Rattle.swap_world.specs.Staff.{actors_of, world_of, HaveRoles, HaveSeeds}
 use Rattle.swap_world.specs.Acting.{histories}
-use Rattle.swap_world.specs.Inside.{notes_in, new_ledgers, AreLedgersOf, AreActorsOf}
+use Rattle.swap_world.specs.Inside.{plan_in, new_ledgers, AreLedgersOf, AreActorsOf}
 use Rattle.swap_world.specs.declared.actor.Actor.{Actor}
 use Rattle.swap_world.specs.declared.staff.WrongWallet.{WrongWallet}
 use Rattle.swap_world.proofs.Ledgers.{none_yet, opened}
-use Rattle.swap_world.proofs.Team.{are_actors, no_notes_yet, is_ready}
-use Rattle.swap_world.proofs.Worlds.{Seeds, world, state}
+use Rattle.swap_world.proofs.States.{state}
+use Rattle.swap_world.proofs.Team.{are_actors, no_notes_yet, first_plans, is_ready}
+use Rattle.swap_world.proofs.Worlds.{Seeds, world}
 
 pub refused : (job : Job) (e : Fault WrongWallet) → Fails e (actors_of job) → Fails e (world_of job)
 unfolding world_of
 refused job NoMemory h = tt
 refused job (Refused r) h = ap (λ (x : Result (List Actor) WrongWallet). x >>= λ xs. Ok (new_world job)) h
 
-module _ (job : Job) (d : Deal) (conforming : List Bool) (seeds : Seeds) (ls : List LedgerState) (ys : List Actor) (ed : d ≡ job.deal)
-    (ec : conforming ≡ job.conforming) (es : seeds ≡ job.seeds) (el : ls ≡ new_ledgers job.deal) (ea : actors_of job ≡ Ok ys) (have : HaveSeeds job)
-  where
-    state_is : state d conforming (histories ls) (map (notes_in d) ys) ≡ start (cast_of job)
-    state_is =
-        ap₂ (λ (e : Deal) (cs : List Bool). state e cs (histories ls) (map (notes_in d) ys)) ed ec
-        ∙ ap₂ (λ (b : Histories) (ns : List Notes). state job.deal job.conforming b ns) (ap histories el
-        ∙ none_yet job.deal) (ap (λ (e : Deal). map (notes_in e) ys) ed ∙ no_notes_yet job ys have ea)
+-- The roles that were told, one after another.
 
-    pub world_is : world_of job ≡ Ok (world d conforming seeds false (state d conforming (histories ls) (map (notes_in d) ys)))
+pub one_role : (rs past more : List Role) (i : ℕ) (r : Role) → i < length rs → r ≡ get_or rs i r → more ≡ past ++ r ∷ [] → past ≡ take i rs
+    → more ≡ take (i + 1) rs
+one_role rs past more i r lt is e so_far =
+    e ∙ (ap₂ (λ (xs : List Role) (x : Role). xs ++ x ∷ []) so_far is ∙ sym (take_more rs i r lt))
+
+pub all_roles : (rs past : List Role) (i : ℕ) → length rs ≤ i → past ≡ take i rs → past ≡ rs
+all_roles rs past i le so_far = so_far ∙ take_all i rs le
+
+module _ (job : Job) (d : Deal) (conforming : List Bool) (seeds : Seeds) (roles : List Role) (ls : List LedgerState) (ys : List Actor) (ed : d ≡ job.deal)
+    (ec : conforming ≡ job.conforming) (es : seeds ≡ job.seeds) (er : roles ≡ job.roles) (el : ls ≡ new_ledgers job.deal) (ea : actors_of job ≡ Ok ys)
+    (have : HaveSeeds job) (act : HaveRoles job)
+  where
+    abbrev parts : Histories → List Notes → List Plan → State
+    parts b ns ps = record { book = b; notes = ns; plans = ps; asked = [] }
+
+    state_is : state d ys (histories ls) ≡ start (cast_of job)
+    state_is =
+        ap (λ (e : Deal). state e ys (histories ls)) ed
+        ∙ (ap₂ (λ (b : Histories) (ns : List Notes). parts b ns (map (plan_in job.deal) ys)) (ap histories el ∙ none_yet job.deal)
+        (no_notes_yet job ys have act ea)
+        ∙ ap (λ (ps : List Plan). record (start (cast_of job)) { plans = ps }) (first_plans job ys have act ea))
+
+    pub world_is : world_of job ≡ Ok (world d conforming seeds roles false (state d ys (histories ls)))
     unfolding world_of
     world_is =
         ap (λ (x : Result (List Actor) WrongWallet). x >>= λ xs. Ok (new_world job)) ea
-        ∙ ap (λ (w : WorldState). Ok w) (sym (ap (λ (e : Deal). world e conforming seeds false (state d conforming (histories ls) (map (notes_in d) ys))) ed
-        ∙ (ap₂ (λ (c : List Bool) (s : Seeds). world job.deal c s false (state d conforming (histories ls) (map (notes_in d) ys))) ec es
-        ∙ ap (λ (st : State). world job.deal job.conforming job.seeds false st) state_is)))
+        ∙ ap (λ (w : WorldState). Ok w) (sym (ap (λ (e : Deal). world e conforming seeds roles false (state d ys (histories ls))) ed
+        ∙ (ap₂ (λ (c : List Bool) (s : Seeds). world job.deal c s roles false (state d ys (histories ls))) ec es
+        ∙ ap₂ (λ (rs : List Role) (st : State). world job.deal job.conforming job.seeds rs false st) er state_is)))
 
-    cast_is : cast_with d conforming seeds ≡ cast_of job
-    cast_is = ap (λ (e : Deal). cast_with e conforming seeds) ed ∙ ap₂ (λ (c : List Bool) (s : Seeds). cast_with job.deal c s) ec es
+    cast_is : cast_with d conforming seeds roles ≡ cast_of job
+    cast_is =
+        ap₂ (λ (e : Deal) (rs : List Role). cast_with e conforming seeds rs) ed er
+        ∙ ap₂ (λ (c : List Bool) (s : Seeds). cast_with job.deal c s job.roles) ec es
 
-    pub ready : IsAccepted job.deal → IsReadyCast (cast_with d conforming seeds)
-    ready accepted = subst IsReadyCast (sym cast_is) (is_ready job ys accepted have ea)
+    pub ready : IsAccepted job.deal → IsReadyCast (cast_with d conforming seeds roles)
+    ready accepted = subst IsReadyCast (sym cast_is) (is_ready job ys accepted have act ea)
 
-    pub actors : AreActorsOf d conforming seeds ys
-    actors = rw (ed, ec, es) (are_actors job ys have ea)
+    pub actors : AreActorsOf d conforming seeds roles ys
+    actors = rw (ed, ec, es, er) (are_actors job ys have act ea)
 
     pub ledgers : AreLedgersOf d ls
     ledgers = opened job.deal d ls ed el
 
-    pub good : IsAccepted job.deal → IsGood (cast_with d conforming seeds) (state d conforming (histories ls) (map (notes_in d) ys))
+    pub good : IsAccepted job.deal → IsGood (cast_with d conforming seeds roles) (state d ys (histories ls))
     good accepted =
-        subst (λ (c : Cast). IsGood c (state d conforming (histories ls) (map (notes_in d) ys))) (sym cast_is)
-        (subst (IsGood (cast_of job)) (sym state_is) (start_is_good (cast_of job) (is_ready job ys accepted have ea)))
+        subst (λ (c : Cast). IsGood c (state d ys (histories ls))) (sym cast_is)
+        (subst (IsGood (cast_of job)) (sym state_is) (start_is_good (cast_of job) (is_ready job ys accepted have act ea)))

@@ -14,7 +14,6 @@ use Rattle.swap_run.specs.FairLaws.{IsReached}
 use Rattle.swap_run.proofs.Reached.{no_event, one_event, fold_events, repeat_events, turn_events, tick_events, round_events}
 use Rattle.swap_world.specs.Value.{WorldState, cast_at}
 use Rattle.swap_world.specs.Stopped.{IsStopped, look_near}
-use Rattle.swap_world.proofs.Plans.{turn_acts}
 use Rattle.swap_world.proofs.Ways.{at, range_all, fold_reached, way_after}
 
 -- A party's looks.
@@ -68,19 +67,30 @@ turn_from_looks c v s l = go (conforms c v)
     go true = repeat_events c (most_acts c.deal) (λ t. step c t (Act v)) (looks c v s) (act_leads c v l)
     go false = act_leads c v l (looks c v s)
 
--- acts end a turn
-pub turn_ends : (old mid new : WorldState) (v : ℕ) → mid ≡ at old (looks (cast_at old) v old.state)
-    → new ≡ at mid (acts (cast_at mid) v (most_acts mid.deal) mid.state) → new ≡ at old (turn (cast_at old) old.state v)
-turn_ends old mid new v e k =
-    subst (λ w. new ≡ at w (acts (cast_at w) v (most_acts w.deal) w.state)) e k
-    ∙ ap (λ t. at old t) (sym (turn_acts old.deal old.conforming old.seeds old.state v))
+-- how a party acts in its turn: until nothing is due where it conforms, else once
+abbrev pub acts_as : Bool → Cast → ℕ → State → State
+acts_as true c v s = acts c v (most_acts c.deal) s
+acts_as false c v s = step c s (Act v)
 
-pub turn_stops : (old mid new : WorldState) (v : ℕ) → v < old.deal.graph.n → mid ≡ at old (looks (cast_at old) v old.state)
-    → IsStopped mid (acts (cast_at mid) v (most_acts mid.deal) mid.state) new → IsStopped old (turn (cast_at old) old.state v) new
-turn_stops old mid new v l e k =
-    let h = subst (λ w. IsStopped w (acts (cast_at w) v (most_acts w.deal) w.state) new) e k in
-    let acted = acts (cast_at old) v (most_acts old.deal) (looks (cast_at old) v old.state) in
-    subst (λ t. IsStopped old t new) (sym (turn_acts old.deal old.conforming old.seeds old.state v)) (record {
+turn_acts : (c : Cast) (s : State) (v : ℕ) (b : Bool) → conforms c v ≡ b → turn c s v ≡ acts_as b c v (looks c v s)
+unfolding turn
+turn_acts c s v true e = ap (λ (b : Bool). cond b (acts c v (most_acts c.deal) (looks c v s)) (step c (looks c v s) (Act v))) e
+turn_acts c s v false e = ap (λ (b : Bool). cond b (acts c v (most_acts c.deal) (looks c v s)) (step c (looks c v s) (Act v))) e
+
+-- acts end a turn
+pub turn_ends : (old mid new : WorldState) (v : ℕ) (b : Bool) → conforms (cast_at mid) v ≡ b → mid ≡ at old (looks (cast_at old) v old.state)
+    → new ≡ at mid (acts_as b (cast_at mid) v mid.state) → new ≡ at old (turn (cast_at old) old.state v)
+turn_ends old mid new v b is e k =
+    subst (λ w. new ≡ at w (acts_as b (cast_at w) v w.state)) e k
+    ∙ ap (λ t. at old t) (sym (turn_acts (cast_at old) old.state v b (subst (λ w. conforms (cast_at w) v ≡ b) e is)))
+
+pub turn_stops : (old mid new : WorldState) (v : ℕ) (b : Bool) → v < old.deal.graph.n → conforms (cast_at mid) v ≡ b
+    → mid ≡ at old (looks (cast_at old) v old.state)
+    → IsStopped mid (acts_as b (cast_at mid) v mid.state) new → IsStopped old (turn (cast_at old) old.state v) new
+turn_stops old mid new v b l is e k =
+    let h = subst (λ w. IsStopped w (acts_as b (cast_at w) v w.state) new) e k in
+    let acted = acts_as b (cast_at old) v (looks (cast_at old) v old.state) in
+    subst (λ t. IsStopped old t new) (sym (turn_acts (cast_at old) old.state v b (subst (λ w. conforms (cast_at w) v ≡ b) e is))) (record {
       stopped = h.stopped;
       cast = h.cast;
       book = way_after (cast_at old) old.state (looks (cast_at old) v old.state) acted new.state.book (looks_lead (cast_at old) v old.state l) h.book;

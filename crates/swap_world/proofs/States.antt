@@ -1,77 +1,102 @@
--- The state that ledgers and actors show, after a look and after an act.
+-- The state that ledgers and actors show, after a look, an act and a call.
 use Rattle.std.proofs.Common.{◌≡◌, ◌≢◌, ◌⊎◌, inl, inr, ℕ, ◌<◌, Bool, true, false, cond, List, [], length, get_or, set, slice_index_or, map, Option}
 use Rattle.std.proofs.Common.{Some, None, refl, sym, ap, ap₂, ◌∙◌, subst}
-use Rattle.std.proofs.lemmas.List.{map-set, get_or-map, set-get_or, get_or-set_same, get_or-set_other, length-set}
+use Rattle.std.proofs.Math.Seq.{map-set_same}
+use Rattle.std.proofs.lemmas.List.{map-set, get_or-map, length-map, set-get_or, get_or-set_same, get_or-set_other, length-set}
 use Rattle.swap_laws.proofs.Prefixes.{same_or_not}
 use Rattle.swap_digraph.specs.declared.deal.Deal.{Deal}
 use Rattle.hashkey_path.specs.declared.hashkey.Hashkey.{Hashkey}
 use Rattle.ledger_core.specs.declared.entry.Entry.{Entry}
 use Rattle.ledger_core.specs.Value.{LedgerState}
 use Rattle.ledger_core.specs.Book.{Histories, history}
-use Rattle.deviator_script.specs.declared.event.Event.TheVariants.{Look, Act}
+use Rattle.deviator_script.specs.Resolved.{resolved}
+use Rattle.deviator_script.specs.declared.event.Event.TheVariants.{Look, Act, Call as Made}
+use Rattle.deviator_script.specs.declared.job.Role.{Role}
+use Rattle.deviator_script.specs.declared.job.Role.TheVariants as kinds
+use Rattle.deviator_script.specs.declared.moves.Move.{Move}
 use Rattle.swap_rules.specs.Due.{Wallet, Action, due, first}
 use Rattle.party_wallet.specs.Value.{signed_in}
-use Rattle.swap_run.specs.Run.{Cast, Notes, State, conforms, role_of, notes_of, signed_after, known_up_to, look, make, next_of, act, watch, act_as, step}
+use Rattle.swap_run.specs.Run.{Cast, Notes, Plan, State, conforms, role_of, notes_of, plan_of, plan_up_to, signed_after, known_up_to, look, make, next_of, act}
+use Rattle.swap_run.specs.Run.{watch, act_as, step}
 use Rattle.ledger_core.specs.Ledger.{after_call}
 use Rattle.party_machine.specs.Wallet.{wallet_of}
 use Rattle.party_machine.specs.Machine as machines
 use Rattle.party_machine.specs.Machine.{MachineState}
-use Rattle.swap_world.proofs.Plans.{plans_of}
+use Rattle.swap_world.proofs.Plans.{absent, due_call, script_plans, planned_look, planned_call, planned_act}
 use Rattle.swap_world.specs.Cast.{cast_with, wallet_with}
-use Rattle.swap_world.specs.Acting.{histories, book_after, machine_after}
-use Rattle.swap_world.specs.Inside.{notes_in, IsActorOf, AreActorsOf}
+use Rattle.swap_world.specs.Acting.{histories, book_after, machine_after, taken, seen, turned}
+use Rattle.swap_world.specs.Inside.{notes_in, plan_in, IsActorOf, AreActorsOf}
 use Rattle.swap_world.specs.declared.actor.Actor.{Actor}
-use Rattle.swap_world.specs.declared.actor.Actor.TheVariants.{Conforming}
+use Rattle.swap_world.specs.declared.actor.Actor.TheVariants.{Conforming, Planned}
 
 -- An actor in the place of another.
 
-pub actor_set : (d : Deal) (conforming : List Bool) (seeds : List (Option (List ℕ))) (xs : List Actor) (p : ℕ) (y : Actor)
-    → AreActorsOf d conforming seeds xs → p < length xs
-    → IsActorOf d (slice_index_or conforming p false) (slice_index_or seeds p None) p y → AreActorsOf d conforming seeds (set xs p y)
-actor_set d conforming seeds xs p y k lt i = record {
+pub actor_set : (d : Deal) (conforming : List Bool) (seeds : List (Option (List ℕ))) (roles : List Role) (xs : List Actor) (p : ℕ) (y : Actor)
+    → AreActorsOf d conforming seeds roles xs → p < length xs
+    → IsActorOf d (slice_index_or conforming p false) (slice_index_or seeds p None) (slice_index_or roles p kinds.Manual) p y
+    → AreActorsOf d conforming seeds roles (set xs p y)
+actor_set d conforming seeds roles xs p y k lt i = record {
   one_each = length-set xs p y ∙ k.one_each;
   each = λ v x l e. at v x (subst (λ n. v < n) (length-set xs p y) l) e (same_or_not v p);
 }
   where
     Is : ℕ → Actor → Type 0
-    Is v x = IsActorOf d (slice_index_or conforming v false) (slice_index_or seeds v None) v x
+    Is v x = IsActorOf d (slice_index_or conforming v false) (slice_index_or seeds v None) (slice_index_or roles v kinds.Manual) v x
 
     at : (v : ℕ) (x : Actor) → v < length xs → x ≡ get_or (set xs p y) v x → (v ≡ p) ⊎ (v ≢ p) → Is v x
     at v x l e (inl s) = subst (λ u. Is u x) (sym s) (subst (Is p) (sym (e ∙ (ap (λ u. get_or (set xs p y) u x) s ∙ get_or-set_same xs p y x lt))) i)
     at v x l e (inr n) = k.each v x l (e ∙ get_or-set_other xs p v y x n)
 
-module _ (d : Deal) (conforming : List Bool) (seeds : List (Option (List ℕ))) (ls : List LedgerState) (xs : List Actor) where
+-- the state of those histories and actors
+abbrev pub state : Deal → List Actor → Histories → State
+state d ys b = record { book = b; notes = map (notes_in d) ys; plans = map (plan_in d) ys; asked = [] }
+
+module _ (d : Deal) (conforming : List Bool) (seeds : List (Option (List ℕ))) (roles : List Role) (ls : List LedgerState) (xs : List Actor) where
   -- who takes part
   abbrev pub c : Cast
-  c = cast_with d conforming seeds
+  c = cast_with d conforming seeds roles
 
   -- the state before
   abbrev pub s : State
-  s = record { book = histories ls; notes = map (notes_in d) xs; plans = plans_of d conforming; asked = [] }
+  s = state d xs (histories ls)
+
+  -- the state with these parts
+  abbrev st : Histories → List Notes → List Plan → State
+  st b ns ps = record { book = b; notes = ns; plans = ps; asked = [] }
+
+  same_parts : (b b' : Histories) (ns ns' : List Notes) (ps ps' : List Plan) → b ≡ b' → ns ≡ ns' → ps ≡ ps' → st b ns ps ≡ st b' ns' ps'
+  same_parts b b' ns ns' ps ps' eb en ep = ap₂ (λ (x : Histories) (y : List Notes). st x y ps) eb en ∙ ap (λ (z : List Plan). st b' ns' z) ep
+
+  -- the state with another actor in the place of party p
+  abbrev pub replaced : ℕ → Actor → Histories → State
+  replaced p x b = state d (set xs p x) b
+
+  where_it_conforms : (p : ℕ) (t u : State) → slice_index_or conforming p false ≡ true → t ≡ cond (conforms c p) t u
+  where_it_conforms p t u e = sym (ap (λ (b : Bool). cond b t u) e)
+
+  -- the same actor in its place
+  pub same_actor : (p : ℕ) (x y : Actor) (b : Histories) → x ≡ get_or xs p x → y ≡ x → replaced p y b ≡ state d xs b
+  same_actor p x y b here e =
+      ap (λ (z : Actor). replaced p z b) e ∙ ap (λ (ys : List Actor). state d ys b) (ap (λ (z : Actor). set xs p z) here ∙ set-get_or xs p x)
+
+  -- Conforming parties.
 
   -- a machine, in the place of party p
   pub record IsAt (p : ℕ) (m : MachineState) : Type 0 where
     pub below : p < length xs
     pub here : Conforming m ≡ get_or xs p (Conforming m)
-    pub is : IsActorOf d (slice_index_or conforming p false) (slice_index_or seeds p None) p (Conforming m)
+    pub is : IsActorOf d (slice_index_or conforming p false) (slice_index_or seeds p None) (slice_index_or roles p kinds.Manual) p (Conforming m)
 
   pub notes_at : (p : ℕ) (m : MachineState) → IsAt p m → notes_of s p ≡ record { known = m.known; signed = m.signed }
   notes_at p m i = get_or-map (notes_in d) xs p (Conforming m) (record { known = []; signed = [] }) i.below ∙ ap (notes_in d) (sym i.here)
 
-  -- the notes with those of a new machine
-  abbrev pub notes_with : ℕ → MachineState → List Notes
-  notes_with p m = map (notes_in d) (set xs p (Conforming m))
+  -- a machine plans nothing
+  plans_still : (p : ℕ) (m new : MachineState) → IsAt p m → map (plan_in d) (set xs p (Conforming new)) ≡ map (plan_in d) xs
+  plans_still p m new i = map-set_same (plan_in d) xs p (Conforming new) (Conforming m) (ap (plan_in d) i.here)
 
-  -- the same machine in its place
-  pub same_notes : (p : ℕ) (m new : MachineState) → IsAt p m → new ≡ m → notes_with p new ≡ map (notes_in d) xs
-  same_notes p m new i e =
-      ap (λ (x : MachineState). notes_with p x) e ∙ ap (map (notes_in d)) (ap (λ (x : Actor). set xs p x) i.here ∙ set-get_or xs p (Conforming m))
-
-  noted : (p : ℕ) (m : MachineState) (n : Notes) → notes_in d (Conforming m) ≡ n → notes_with p m ≡ set (map (notes_in d) xs) p n
+  noted : (p : ℕ) (m : MachineState) (n : Notes) → notes_in d (Conforming m) ≡ n
+      → map (notes_in d) (set xs p (Conforming m)) ≡ set (map (notes_in d) xs) p n
   noted p m n e = map-set (notes_in d) xs p (Conforming m) ∙ ap (λ (x : Notes). set (map (notes_in d) xs) p x) e
-
-  where_it_conforms : (p : ℕ) (t u : State) → slice_index_or conforming p false ≡ true → t ≡ cond (conforms c p) t u
-  where_it_conforms p t u e = sym (ap (λ (b : Bool). cond b t u) e)
 
   pub looked : (p a : ℕ) (m new : MachineState) → IsAt p m → new ≡ record {
     deal = m.deal;
@@ -81,14 +106,11 @@ module _ (d : Deal) (conforming : List Bool) (seeds : List (Option (List ℕ))) 
         set m.known a (history (histories ls) a);
     signed = m.signed;
   }
-      → record s { book = histories ls; notes = notes_with p new } ≡ step c s (Look p a)
+      → replaced p (Conforming new) (histories ls) ≡ step c s (Look p a)
   looked p a m new i e =
       let n : notes_in d (Conforming new) ≡ known_up_to (notes_of s p) a (history (histories ls) a)
       = ap (λ (x : MachineState). notes_in d (Conforming x)) e ∙ ap (λ (x : Notes). known_up_to x a (history (histories ls) a)) (sym (notes_at p m i)) in
-      ap (λ (ns : List Notes). st (histories ls) ns) (noted p new _ n) ∙ where_it_conforms p (look s p a) (watch c s p a) i.is.0
-    where
-      st : Histories → List Notes → State
-      st b ns = record s { book = b; notes = ns }
+      same_parts _ _ _ _ _ _ refl (noted p new _ n) (plans_still p m new i) ∙ where_it_conforms p (look s p a) (watch c s p a) i.is.0
 
   pub next_is : (p : ℕ) (m : MachineState) → IsAt p m → next_of c s p ≡ machines.next_of m
   next_is p m i =
@@ -100,11 +122,9 @@ module _ (d : Deal) (conforming : List Bool) (seeds : List (Option (List ℕ))) 
 
   made : (p : ℕ) (m new : MachineState) (b : Histories) (o : Option Action) → IsAt p m → b ≡ book_after m o (histories ls)
       → new ≡ machine_after m o (histories ls)
-      → record s { book = b; notes = notes_with p new } ≡ make d s p o
-  made p m new b None i eb en = ap₂ (λ (x : Histories) (ns : List Notes). st x ns) eb (same_notes p m new i en)
-    where
-      st : Histories → List Notes → State
-      st b ns = record s { book = b; notes = ns }
+      → replaced p (Conforming new) b ≡ make d s p o
+  made p m new b None i eb en =
+      same_actor p (Conforming m) (Conforming new) b i.here (ap (λ (x : MachineState). Conforming x) en) ∙ ap (λ (x : Histories). state d xs x) eb
   made p m new b (Some x) i eb en =
       let h : after_call m.deal x.arc m.me x.call (history (histories ls) x.arc) ≡ after_call d x.arc p x.call (history (histories ls) x.arc)
       = ap₂ (λ (e : Deal) (v : ℕ). after_call e x.arc v x.call (history (histories ls) x.arc)) i.is.1 i.is.2 in
@@ -118,17 +138,14 @@ module _ (d : Deal) (conforming : List Bool) (seeds : List (Option (List ℕ))) 
       ∙ (ap (λ (k : List Entry). note (set m.known x.arc k) (signed_after m.signed x.call)) h
       ∙ ap (λ (z : Notes). note (set z.known x.arc (after_call d x.arc p x.call (history (histories ls) x.arc))) (signed_after z.signed x.call))
       (sym (notes_at p m i))) in
-      ap₂ (λ (y : Histories) (ns : List Notes). st y ns) (eb ∙ ap (λ (k : List Entry). set (histories ls) x.arc k) h) (noted p new _ n)
+      same_parts _ _ _ _ _ _ (eb ∙ ap (λ (k : List Entry). set (histories ls) x.arc k) h) (noted p new _ n) (plans_still p m new i)
     where
-      st : Histories → List Notes → State
-      st b ns = record s { book = b; notes = ns }
-
       note : Histories → List (Option Hashkey) → Notes
       note k ss = record { known = k; signed = ss }
 
   pub acted : (p : ℕ) (m new : MachineState) (b : Histories) → IsAt p m → b ≡ book_after m (machines.next_of m) (histories ls)
       → new ≡ machine_after m (machines.next_of m) (histories ls)
-      → record s { book = b; notes = notes_with p new } ≡ step c s (Act p)
+      → replaced p (Conforming new) b ≡ step c s (Act p)
   acted p m new b i eb en =
       made p m new b (machines.next_of m) i eb en ∙ (ap (λ (o : Option Action). make d s p o) (sym (next_is p m i))
       ∙ where_it_conforms p (act c s p) (act_as c s p (role_of c p)) i.is.0)
@@ -138,3 +155,48 @@ module _ (d : Deal) (conforming : List Bool) (seeds : List (Option (List ℕ))) 
   acted_book p m i =
       ap (λ (t : State). t.book)
       (acted p m (machine_after m (machines.next_of m) (histories ls)) (book_after m (machines.next_of m) (histories ls)) i refl refl)
+
+  -- Parties that follow a script.
+
+  -- a plan, in the place of party p
+  pub record IsPlanAt (p : ℕ) (n : Plan) : Type 0 where
+    pub below : p < length xs
+    pub here : Planned n ≡ get_or xs p (Planned n)
+    pub is : IsActorOf d (slice_index_or conforming p false) (slice_index_or seeds p None) (slice_index_or roles p kinds.Manual) p (Planned n)
+
+  pub plan_at : (p : ℕ) (n : Plan) → IsPlanAt p n → plan_of s p ≡ n
+  plan_at p n i = get_or-map (plan_in d) xs p (Planned n) absent i.below ∙ ap (plan_in d) (sym i.here)
+
+  has_plan : (p : ℕ) (n : Plan) → IsPlanAt p n → (p < length s.plans) × (plan_of s p ≡ n)
+  has_plan p n i = (subst (λ l. p < l) (sym (length-map xs (plan_in d))) i.below, plan_at p n i)
+
+  -- what party p plans is all that another plan in its place changes
+  planned : (p : ℕ) (n new : Plan) (b : Histories) → IsPlanAt p n → replaced p (Planned new) b ≡ st b s.notes (set s.plans p new)
+  planned p n new b i =
+      same_parts _ _ _ _ _ _ refl (map-set_same (notes_in d) xs p (Planned new) (Planned n) (ap (notes_in d) i.here))
+      (map-set (plan_in d) xs p (Planned new))
+
+  pub watched : (p a : ℕ) (n new : Plan) → IsPlanAt p n → new ≡ plan_up_to n a (history (histories ls) a)
+      → replaced p (Planned new) (histories ls) ≡ step c s (Look p a)
+  watched p a n new i e =
+      planned p n new (histories ls) i ∙ (ap (λ (m : Plan). st (histories ls) s.notes (set s.plans p m)) e
+      ∙ sym (planned_look d conforming seeds roles s p a n i.is.0 (script_plans (role_of c p) i.is.1) (has_plan p n i)))
+
+  pub followed : (p : ℕ) (n new : Plan) (b : Histories) → IsPlanAt p n → b ≡ taken d p (due_call d conforming seeds roles n) (histories ls)
+      → new ≡ seen d p (due_call d conforming seeds roles n) (histories ls) (turned n) → replaced p (Planned new) b ≡ step c s (Act p)
+  followed p n new b i eb en =
+      planned p n new b i ∙ (ap₂ (λ (x : Histories) (m : Plan). st x s.notes (set s.plans p m)) eb en
+      ∙ sym (planned_act d conforming seeds roles s p n i.is.0 i.is.1 (has_plan p n i)))
+
+  pub followed_book : (p : ℕ) (n : Plan) → IsPlanAt p n → taken d p (due_call d conforming seeds roles n) (histories ls) ≡ (step c s (Act p)).book
+  followed_book p n i = ap (λ (t : State). t.book) (followed p n _ _ i refl refl)
+
+  pub made_by_hand : (p : ℕ) (mv : Move) (n new : Plan) (b : Histories) → IsPlanAt p n → b ≡ taken d p (resolved d seeds (histories ls) mv) (histories ls)
+      → new ≡ seen d p (resolved d seeds (histories ls) mv) (histories ls) n → replaced p (Planned new) b ≡ step c s (Made p mv)
+  made_by_hand p mv n new b i eb en =
+      planned p n new b i ∙ (ap₂ (λ (x : Histories) (m : Plan). st x s.notes (set s.plans p m)) eb en
+      ∙ sym (planned_call d conforming seeds roles s p n (resolved d seeds (histories ls) mv) (script_plans (role_of c p) i.is.1) (has_plan p n i)))
+
+  pub made_book : (p : ℕ) (mv : Move) (n : Plan) → IsPlanAt p n
+      → taken d p (resolved d seeds (histories ls) mv) (histories ls) ≡ (step c s (Made p mv)).book
+  made_book p mv n i = ap (λ (t : State). t.book) (made_by_hand p mv n _ _ i refl refl)

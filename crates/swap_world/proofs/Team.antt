@@ -1,10 +1,12 @@
 -- What acts for the parties of a job, one by one.
-use Rattle.std.proofs.Common.{◌≡◌, ◌≢◌, ◌⊎◌, inl, inr, ℕ, zero, suc, ◌+◌, ◌-◌, ◌<◌, ◌≤◌, Bool, true, false, cond, List, [], ◌∷◌, ◌++◌, length, get_or}
-use Rattle.std.proofs.Common.{map, replicate, slice_index_or, Option, Some, None, is_some, Result, Ok, Err, refl, sym, ap, ◌∙◌, subst, arith}
+use Rattle.std.proofs.Common.{◌≡◌, ◌≢◌, ◌⊎◌, inl, inr, ℕ, zero, suc, ◌+◌, ◌-◌, ◌<◌, ◌≤◌, ◌||◌, Bool, true, false, cond, List, [], ◌∷◌, ◌++◌, length, get_or}
+use Rattle.std.proofs.Common.{map, replicate, slice_index_or, Option, Some, None, is_some, Result, Ok, Err, refl, sym, ap, ap₂, ◌∙◌, subst, arith}
 use Rattle.std.proofs.Common.{length-append}
-use Rattle.std.specs.List.{range_with_len}
+use Rattle.std.specs.List.{All, list_any, range_with_len}
+use Rattle.std.proofs.lemmas.List.Elements.{All-nil}
 use Rattle.std.proofs.lemmas.Bool.{false≢true}
 use Rattle.std.proofs.lemmas.List.{same_lists, get_or_default, get_or-map, length-map, length-replicate, get_or-replicate}
+use Rattle.swap_base.proofs.Lists.{or_neither}
 use Rattle.swap_base.specs.Fault.{◌>>=◌, steps, Fails}
 use Rattle.swap_base.specs.declared.fault.Fault.{Fault}
 use Rattle.swap_base.specs.declared.fault.Fault.TheVariants.{Refused, NoMemory}
@@ -12,21 +14,20 @@ use Rattle.swap_laws.proofs.Prefixes.{same_or_not}
 use Rattle.deviator_script.specs.declared.job.Job.{Job}
 use Rattle.swap_rules.specs.Accepted.{IsAccepted}
 use Rattle.swap_laws.specs.Machine.{IsWallet}
-use Rattle.swap_run.specs.Run.{Notes, no_notes, script_of}
-use Rattle.std.specs.List.{All}
-use Rattle.std.proofs.lemmas.List.Elements.{All-nil}
+use Rattle.swap_run.specs.Asked.{is_strategy}
+use Rattle.swap_run.specs.Run.{Notes, Plan, no_notes, first_plan, is_planned, script_of}
 use Rattle.swap_digraph.specs.declared.deal.Deal.{Deal}
-use Rattle.deviator_script.specs.Crafted.{Seeds}
 use Rattle.deviator_script.specs.Script.{IsMoveOf}
-use Rattle.deviator_script.specs.declared.job.Role.TheVariants as roles
+use Rattle.deviator_script.specs.declared.job.Role.{Role}
+use Rattle.deviator_script.specs.declared.job.Role.TheVariants as kinds
 use Rattle.swap_run.specs.Laws.{IsReadyCast}
 use Rattle.party_wallet.specs.Fits.{wrong_lock}
 use Rattle.party_machine.specs.Machine.{new_machine}
 use Rattle.party_machine.proofs.Good.{fitting_is_good}
-use Rattle.swap_world.specs.Cast.{cast_of, role_for, wallet_with}
+use Rattle.swap_world.specs.Cast.{cast_of, is_conforming, wallet_with}
 use Rattle.swap_world.specs.Value.{WorldState, new_world}
-use Rattle.swap_world.specs.Staff.{by_lock, with_seed, actor_of, actor_step, actors_of, world_of, HaveSeeds}
-use Rattle.swap_world.specs.Inside.{notes_in, IsActorOf, AreActorsOf}
+use Rattle.swap_world.specs.Staff.{role_in, by_role, by_lock, with_seed, actor_of, actor_step, actors_of, world_of, HaveRoles, HaveSeeds}
+use Rattle.swap_world.specs.Inside.{notes_in, plan_in, IsActorOf, AreActorsOf}
 use Rattle.swap_world.specs.declared.actor.Actor.{Actor}
 use Rattle.swap_world.specs.declared.actor.Actor.TheVariants.{Conforming, Manual}
 use Rattle.swap_world.specs.declared.staff.WrongWallet.{WrongWallet}
@@ -112,44 +113,103 @@ made job ys e = let r = made_from job 0 job.deal.graph.n [] ys refl (λ p l. abs
 
 -- what is known of the actor of party p
 pub record IsOwn (job : Job) (p : ℕ) (x : Actor) : Type 0 where
-  pub is : IsActorOf job.deal (slice_index_or job.conforming p false) (slice_index_or job.seeds p None) p x
+  pub is : IsActorOf job.deal (slice_index_or job.conforming p false) (slice_index_or job.seeds p None) (role_in job p) p x
   pub notes : notes_in job.deal x ≡ no_notes job.deal
+  pub plan : plan_in job.deal x ≡ first_plan job.deal (role_in job p)
   pub fits : slice_index_or job.conforming p false ≡ true → (seed : List ℕ) × (slice_index_or job.seeds p None ≡ Some seed)
       × (wrong_lock job.deal p seed ≡ None)
 
+-- a role that is a conforming one exactly where the party conforms, and no strategy
+pub record IsRoleOf (conforms : Bool) (role : Role) : Type 0 where
+  pub conforming : conforms ≡ is_conforming role
+  pub unasked : is_strategy role ≡ false
+
+by_itself : (job : Job) (p : ℕ) (x : Actor) (role : Role) → slice_index_or job.conforming p false ≡ false → role_in job p ≡ role
+    → is_strategy role ≡ false → by_role job.deal role ≡ x → IsOwn job p x
+by_itself job p x kinds.Conforming ec er un e = subst (IsOwn job p) e (record {
+  is = (ec, ap is_planned er);
+  notes = refl;
+  plan = sym (ap (first_plan job.deal) er);
+  fits = λ t. absurd (false≢true (sym ec ∙ t));
+})
+by_itself job p x kinds.Manual ec er un e = subst (IsOwn job p) e (record {
+  is = (ec, ap is_planned er);
+  notes = refl;
+  plan = sym (ap (first_plan job.deal) er);
+  fits = λ t. absurd (false≢true (sym ec ∙ t));
+})
+by_itself job p x (kinds.Script moves) ec er un e = subst (IsOwn job p) e (record {
+  is = (ec, (moves, er));
+  notes = refl;
+  plan = sym (ap (first_plan job.deal) er);
+  fits = λ t. absurd (false≢true (sym ec ∙ t));
+})
+by_itself job p x (kinds.Strategy name) ec er un e = absurd (false≢true (sym un))
+
+-- the plan of a party that conforms is one of no moves
+no_moves : (d : Deal) (role : Role) → is_conforming role ≡ true → first_plan d kinds.Manual ≡ first_plan d role
+no_moves d kinds.Conforming e = refl
+no_moves d kinds.Manual e = absurd (cc e)
+no_moves d (kinds.Script moves) e = absurd (cc e)
+no_moves d (kinds.Strategy name) e = absurd (cc e)
+
 own : (job : Job) (p : ℕ) (x : Actor) (b : Bool) (o : Option (List ℕ)) → slice_index_or job.conforming p false ≡ b → slice_index_or job.seeds p None ≡ o
-    → (b ≡ true → is_some o ≡ true) → cond b (with_seed job.deal p o) (Ok Manual) ≡ Ok x → IsOwn job p x
-own job p x false o eb eo some e =
-    let s : Manual ≡ x = cc e in
-    subst (IsOwn job p) s (record { is = eb; notes = refl; fits = λ t. absurd (false≢true (sym eb ∙ t)) })
-own job p x true None eb eo some e = absurd (false≢true (some refl))
-own job p x true (Some seed) eb eo some e = by (wrong_lock job.deal p seed) refl e
+    → IsRoleOf b (role_in job p) → (b ≡ true → is_some o ≡ true)
+    → cond b (with_seed job.deal (role_in job p) p o) (Ok (by_role job.deal (role_in job p))) ≡ Ok x → IsOwn job p x
+own job p x false o eb eo role some e = by_itself job p x (role_in job p) eb refl role.unasked (cc e)
+own job p x true None eb eo role some e = absurd (false≢true (some refl))
+own job p x true (Some seed) eb eo role some e = by (wrong_lock job.deal p seed) refl e
   where
     by : (w : Option ℕ) → wrong_lock job.deal p seed ≡ w → by_lock job.deal p seed w ≡ Ok x → IsOwn job p x
     by None q f =
         let s : Conforming (new_machine job.deal p seed) ≡ x = cc f in
-        subst (IsOwn job p) s (record { is = (eb, refl, refl, eo); notes = refl; fits = λ t. (seed, eo, q) })
+        subst (IsOwn job p) s (record {
+          is = (eb, refl, refl, eo);
+          notes = refl;
+          plan = no_moves job.deal (role_in job p) (sym role.conforming);
+          fits = λ t. (seed, eo, q);
+        })
     by (Some lock) q f = absurd (cc f)
 
-pub is_own : (job : Job) (ys : List Actor) (p : ℕ) → HaveSeeds job → actors_of job ≡ Ok ys → p < job.deal.graph.n → IsOwn job p (get_or ys p Manual)
-is_own job ys p seeds e lt =
+not_among : (rs : List Role) (p : ℕ) → list_any is_strategy rs ≡ false → is_strategy (get_or rs p kinds.Manual) ≡ false
+not_among [] p e = refl
+not_among (r ∷ rs) zero e = (or_neither (is_strategy r) (list_any is_strategy rs) e).0
+not_among (r ∷ rs) (suc p) e = not_among rs p (or_neither (is_strategy r) (list_any is_strategy rs) e).1
+
+-- there is a role per party
+pub role_each : (job : Job) → HaveSeeds job → HaveRoles job → length job.roles ≡ job.deal.graph.n
+role_each job seeds roles = sym (length-map job.roles is_conforming) ∙ (sym (ap (λ (bs : List Bool). length bs) roles.conforming) ∙ seeds.conforming)
+
+role_of_its : (job : Job) (p : ℕ) → HaveSeeds job → HaveRoles job → p < job.deal.graph.n → IsRoleOf (slice_index_or job.conforming p false) (role_in job p)
+role_of_its job p seeds roles lt = record {
+  conforming =
+      ap (λ (bs : List Bool). get_or bs p false) roles.conforming
+      ∙ get_or-map is_conforming job.roles p kinds.Manual false (subst (λ n. p < n) (sym (role_each job seeds roles)) lt);
+  unasked = not_among job.roles p roles.unasked;
+}
+
+pub is_own : (job : Job) (ys : List Actor) (p : ℕ) → HaveSeeds job → HaveRoles job → actors_of job ≡ Ok ys → p < job.deal.graph.n
+    → IsOwn job p (get_or ys p Manual)
+is_own job ys p seeds roles e lt =
     let m = made job ys e in
-    own job p (get_or ys p Manual) (slice_index_or job.conforming p false) (slice_index_or job.seeds p None) refl refl (seeds.there p lt)
+    own job p (get_or ys p Manual) (slice_index_or job.conforming p false) (slice_index_or job.seeds p None) refl refl
+    (role_of_its job p seeds roles lt) (seeds.there p lt)
     (m.1 p (subst (λ n. p < n) (sym m.0) lt))
 
-pub are_actors : (job : Job) (ys : List Actor) → HaveSeeds job → actors_of job ≡ Ok ys → AreActorsOf job.deal job.conforming job.seeds ys
-are_actors job ys seeds e =
+pub are_actors : (job : Job) (ys : List Actor) → HaveSeeds job → HaveRoles job → actors_of job ≡ Ok ys
+    → AreActorsOf job.deal job.conforming job.seeds job.roles ys
+are_actors job ys seeds roles e =
     let m = made job ys e in
     record {
       one_each = m.0;
       each =
-          λ v x l is. subst (IsActorOf job.deal (slice_index_or job.conforming v false) (slice_index_or job.seeds v None) v)
-          (get_or_default ys v Manual x l ∙ sym is) (is_own job ys v seeds e (subst (λ n. v < n) m.0 l)).is;
+          λ v x l is. subst (IsActorOf job.deal (slice_index_or job.conforming v false) (slice_index_or job.seeds v None) (role_in job v) v)
+          (get_or_default ys v Manual x l ∙ sym is) (is_own job ys v seeds roles e (subst (λ n. v < n) m.0 l)).is;
     }
 
-pub no_notes_yet : (job : Job) (ys : List Actor) → HaveSeeds job → actors_of job ≡ Ok ys
+pub no_notes_yet : (job : Job) (ys : List Actor) → HaveSeeds job → HaveRoles job → actors_of job ≡ Ok ys
     → map (notes_in job.deal) ys ≡ replicate job.deal.graph.n (no_notes job.deal)
-no_notes_yet job ys seeds e =
+no_notes_yet job ys seeds roles e =
     let m = made job ys e in
     same_lists (map (notes_in job.deal) ys) (replicate job.deal.graph.n (no_notes job.deal))
     (length-map ys (notes_in job.deal) ∙ (m.0 ∙ sym (length-replicate job.deal.graph.n (no_notes job.deal))))
@@ -159,28 +219,33 @@ no_notes_yet job ys seeds e =
         → get_or (map (notes_in job.deal) ys) k d ≡ get_or (replicate job.deal.graph.n (no_notes job.deal)) k d
     at k d lt n =
         let below = subst (λ z. k < z) n lt in
-        get_or-map (notes_in job.deal) ys k Manual d lt ∙ ((is_own job ys k seeds e below).notes
+        get_or-map (notes_in job.deal) ys k Manual d lt ∙ ((is_own job ys k seeds roles e below).notes
         ∙ sym (get_or-replicate job.deal.graph.n k (no_notes job.deal) d below))
 
-no_moves : (d : Deal) (seeds : Seeds) (v : ℕ) (b : Bool) → All (IsMoveOf d seeds v) (script_of (role_for b))
-no_moves d seeds v true = All-nil (IsMoveOf d seeds v)
-no_moves d seeds v false = All-nil (IsMoveOf d seeds v)
+pub first_plans : (job : Job) (ys : List Actor) → HaveSeeds job → HaveRoles job → actors_of job ≡ Ok ys
+    → map (plan_in job.deal) ys ≡ map (first_plan job.deal) job.roles
+first_plans job ys seeds roles e =
+    let m = made job ys e in
+    same_lists (map (plan_in job.deal) ys) (map (first_plan job.deal) job.roles)
+    (length-map ys (plan_in job.deal) ∙ (m.0 ∙ sym (length-map job.roles (first_plan job.deal) ∙ role_each job seeds roles)))
+    (λ k d lt. at k d (subst (λ n. k < n) (length-map ys (plan_in job.deal)) lt) m.0)
+  where
+    at : (k : ℕ) (d : Plan) → k < length ys → length ys ≡ job.deal.graph.n
+        → get_or (map (plan_in job.deal) ys) k d ≡ get_or (map (first_plan job.deal) job.roles) k d
+    at k d lt n =
+        let below = subst (λ z. k < z) n lt in
+        get_or-map (plan_in job.deal) ys k Manual d lt ∙ ((is_own job ys k seeds roles e below).plan
+        ∙ sym (get_or-map (first_plan job.deal) job.roles k kinds.Manual d (subst (λ z. k < z) (sym (role_each job seeds roles)) below)))
 
--- nobody has a script
-no_script : (d : Deal) (seeds : Seeds) (u : ℕ) (bs : List Bool) (v : ℕ) → All (IsMoveOf d seeds u) (script_of (get_or (map role_for bs) v roles.Manual))
-no_script d seeds u [] v = All-nil (IsMoveOf d seeds u)
-no_script d seeds u (b ∷ bs) zero = no_moves d seeds u b
-no_script d seeds u (b ∷ bs) (suc v) = no_script d seeds u bs v
-
-pub is_ready : (job : Job) (ys : List Actor) → IsAccepted job.deal → HaveSeeds job → actors_of job ≡ Ok ys → IsReadyCast (cast_of job)
-is_ready job ys accepted seeds e = record {
+pub is_ready : (job : Job) (ys : List Actor) → IsAccepted job.deal → HaveSeeds job → HaveRoles job → actors_of job ≡ Ok ys → IsReadyCast (cast_of job)
+is_ready job ys accepted seeds roles e = record {
   accepted = accepted;
   one_each = seeds.conforming;
-  roles = length-map job.conforming role_for ∙ seeds.conforming;
-  scripts = λ v lt. no_script job.deal job.seeds v job.conforming v;
+  roles = role_each job seeds roles;
   wallets = λ v lt t. let f =
-      (is_own job ys v seeds e lt).fits t in
+      (is_own job ys v seeds roles e lt).fits t in
       subst (λ o. IsWallet job.deal v (wallet_with o v job.deal)) (sym f.1) (fitting_is_good job.deal v f.0 accepted lt f.2);
+  scripts = roles.scripts;
 }
 
 -- Where each conforming party has its wallet, there is an actor for each.
@@ -192,11 +257,12 @@ AreStaffed job =
     → (seed : List ℕ) × (slice_index_or job.seeds p None ≡ Some seed) × (wrong_lock job.deal p seed ≡ None)
 
 any_with : (job : Job) (p : ℕ) (b : Bool) (o : Option (List ℕ)) → slice_index_or job.conforming p false ≡ b → slice_index_or job.seeds p None ≡ o
-    → AreStaffed job → p < job.deal.graph.n → (x : Actor) × (cond b (with_seed job.deal p o) (Ok Manual) ≡ Ok x)
-any_with job p false o eb eo staffed lt = (Manual, refl)
+    → AreStaffed job → p < job.deal.graph.n
+    → (x : Actor) × (cond b (with_seed job.deal (role_in job p) p o) (Ok (by_role job.deal (role_in job p))) ≡ Ok x)
+any_with job p false o eb eo staffed lt = (by_role job.deal (role_in job p), refl)
 any_with job p true o eb eo staffed lt =
     let s = staffed p lt eb in
-    (Conforming (new_machine job.deal p s.0), ap (with_seed job.deal p) (sym eo ∙ s.1) ∙ ap (by_lock job.deal p s.0) s.2)
+    (Conforming (new_machine job.deal p s.0), ap (with_seed job.deal (role_in job p) p) (sym eo ∙ s.1) ∙ ap (by_lock job.deal p s.0) s.2)
 
 any_from : (job : Job) (k m : ℕ) (xs : List Actor) → AreStaffed job → k + m ≤ job.deal.graph.n
     → (ys : List Actor) × (steps (actor_step job) xs (range_with_len k m) ≡ Ok ys)
@@ -221,3 +287,42 @@ world_of_new job w e = go (actors_of job) e
     go : (o : Result (List Actor) WrongWallet) → (o >>= λ xs. Ok (new_world job)) ≡ Ok w → w ≡ new_world job
     go (Ok xs) h = cc h
     go (Err r) h = absurd (cc h)
+
+-- A job in which nobody follows a script or a strategy.
+
+module _ (f : Bool → Role) (same : (b : Bool) → is_conforming (f b) ≡ b) (plain : (b : Bool) → is_planned (f b) ≡ false) where
+  plain_at : (bs : List Bool) (p : ℕ) → is_planned (get_or (map f bs) p kinds.Manual) ≡ false
+  plain_at [] p = refl
+  plain_at (b ∷ bs) zero = plain b
+  plain_at (b ∷ bs) (suc p) = plain_at bs p
+
+  conforms_as : (bs : List Bool) → bs ≡ map is_conforming (map f bs)
+  conforms_as [] = refl
+  conforms_as (b ∷ bs) = ap₂ (λ (x : Bool) (xs : List Bool). x ∷ xs) (sym (same b)) (conforms_as bs)
+
+  no_strategy : (role : Role) → is_planned role ≡ false → is_strategy role ≡ false
+  no_strategy kinds.Conforming e = refl
+  no_strategy kinds.Manual e = refl
+  no_strategy (kinds.Script moves) e = refl
+  no_strategy (kinds.Strategy name) e = e
+
+  no_script : (role : Role) → is_planned role ≡ false → script_of role ≡ []
+  no_script kinds.Conforming e = refl
+  no_script kinds.Manual e = refl
+  no_script (kinds.Script moves) e = absurd (cc e)
+  no_script (kinds.Strategy name) e = refl
+
+  nobody_asks : (bs : List Bool) → list_any is_strategy (map f bs) ≡ false
+  nobody_asks [] = refl
+  nobody_asks (b ∷ bs) = ap (λ x. x || list_any is_strategy (map f bs)) (no_strategy (f b) (plain b)) ∙ nobody_asks bs
+
+  pub plain_roles : (job : Job) → job.roles ≡ map f job.conforming → HaveRoles job
+  plain_roles job e = record {
+    conforming = conforms_as job.conforming ∙ ap (map is_conforming) (sym e);
+    scripts = λ p lt.
+        let none : script_of (role_in job p) ≡ []
+        = ap (λ (rs : List Role). script_of (get_or rs p kinds.Manual)) e ∙ no_script (get_or (map f job.conforming) p kinds.Manual) (plain_at job.conforming p)
+        in
+        subst (All (IsMoveOf job.deal job.seeds p)) (sym none) (All-nil (IsMoveOf job.deal job.seeds p));
+    unasked = ap (list_any is_strategy) e ∙ nobody_asks job.conforming;
+  }

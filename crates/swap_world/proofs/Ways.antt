@@ -123,7 +123,7 @@ module _ (c : Cast) where
 
 -- the world with another state
 abbrev pub at : WorldState → State → WorldState
-at w st = record { deal = w.deal; conforming = w.conforming; seeds = w.seeds; state = st; stopped = w.stopped }
+at w st = record { deal = w.deal; conforming = w.conforming; seeds = w.seeds; roles = w.roles; state = st; stopped = w.stopped }
 
 -- a world that stopped on its way from another state, which events lead to
 pub stopped_after : (old mid new : WorldState) (t u : State) → mid ≡ at old t → IsReached (cast_at old) old.state t → IsStopped mid u new → IsStopped old u new

@@ -10,43 +10,70 @@ use Rattle.ledger_core.specs.declared.entry.Entry.{Entry}
 use Rattle.ledger_core.specs.Value.{LedgerState}
 use Rattle.ledger_core.specs.Book.{Histories, history}
 use Rattle.swap_laws.specs.Machine.{Begins}
+use Rattle.swap_laws.proofs.Accepted.{accepted_is_well_sized}
 use Rattle.swap_rules.specs.Due.{Action, due}
 use Rattle.deviator_script.specs.declared.event.Event.{Event}
+use Rattle.deviator_script.specs.declared.job.Role.{Role}
+use Rattle.party_plan.specs.Shown.{IsShown}
 use Rattle.deviator_script.specs.Step.{CanStep}
-use Rattle.swap_run.specs.Run.{Cast, Notes, State, notes_of, next_of, step, run_from}
-use Rattle.swap_run.specs.Laws.{IsReadyCast, IsGood, IsKept}
+use Rattle.swap_run.specs.Run.{Cast, Plan, State, notes_of, next_of, step, run_from}
+use Rattle.swap_run.specs.Laws.{IsReadyCast, IsGood, IsGoodPlan, IsKept}
 use Rattle.swap_run.specs.FairLaws.{IsReached}
 use Rattle.party_wallet.specs.Value.{signed_in}
 use Rattle.swap_laws.proofs.Due.{due_is_valid}
 use Rattle.swap_run.proofs.Noted.{due_now}
 use Rattle.swap_run.proofs.Good.{holds, first_in, steps_are_good, good_is_kept}
+use Rattle.swap_run.proofs.Plans.{plan_view}
 use Rattle.party_machine.specs.Machine as machines
 use Rattle.party_machine.specs.Machine.{MachineState}
 use Rattle.swap_world.specs.Value.{WorldState, cast_at}
 use Rattle.swap_world.specs.Stopped.{IsStopped}
-use Rattle.swap_world.specs.Inside.{IsActorOf}
+use Rattle.swap_world.specs.Inside.{IsActorOf, AreActorsOf}
 use Rattle.swap_world.specs.Acting.{IsMakable, IsSameOwner, histories}
 use Rattle.swap_world.specs.declared.actor.Actor.{Actor}
-use Rattle.swap_world.specs.declared.actor.Actor.TheVariants.{Conforming}
-use Rattle.swap_world.proofs.Plans.{plans_of}
+use Rattle.swap_world.specs.declared.actor.Actor.TheVariants.{Conforming, Planned}
 use Rattle.swap_world.proofs.Ways.{at}
 use Rattle.swap_world.proofs.Ledgers.{history_at}
-use Rattle.swap_world.proofs.States.{IsAt, c, s, notes_at, next_is}
+use Rattle.swap_world.proofs.States.{IsAt, IsPlanAt, c, s, state, notes_at, plan_at, next_is}
 
 abbrev pub Seeds : Type 0
 Seeds = List (Option (List ℕ))
 
 -- a world with that state
-abbrev pub world : Deal → List Bool → Seeds → Bool → State → WorldState
-world d conforming seeds stopped st = record { deal = d; conforming = conforming; seeds = seeds; state = st; stopped = stopped }
-
--- a state whose parties follow no script and no strategy
-abbrev pub state : Deal → List Bool → Histories → List Notes → State
-state d conforming b ns = record { book = b; notes = ns; plans = plans_of d conforming; asked = [] }
+abbrev pub world : Deal → List Bool → Seeds → List Role → Bool → State → WorldState
+world d conforming seeds roles stopped st = record {
+  deal = d;
+  conforming = conforming;
+  seeds = seeds;
+  roles = roles;
+  state = st;
+  stopped = stopped;
+}
 
 -- an actor that was found is a conforming one
 pub found : (xs : List Actor) (p : ℕ) (x : Actor) (m : MachineState) → x ≡ Conforming m → x ≡ get_or xs p x → Conforming m ≡ get_or xs p (Conforming m)
 found xs p x m e h = subst (λ y. y ≡ get_or xs p y) e h
+
+-- or one that follows a script
+pub found_plan : (xs : List Actor) (p : ℕ) (x : Actor) (n : Plan) → x ≡ Planned n → x ≡ get_or xs p x → Planned n ≡ get_or xs p (Planned n)
+found_plan xs p x n e h = subst (λ y. y ≡ get_or xs p y) e h
+
+-- an actor that was found is in its place
+pub placed : (d : Deal) (conforming : List Bool) (seeds : Seeds) (roles : List Role) (ls : List LedgerState) (xs : List Actor) (p : ℕ) (x : Actor)
+    (m : MachineState)
+    → AreActorsOf d conforming seeds roles xs → p < d.graph.n → x ≡ Conforming m → x ≡ get_or xs p x → IsAt d conforming seeds roles ls xs p m
+placed d conforming seeds roles ls xs p x m actors lt e h =
+    let low = subst (λ n. p < n) (sym actors.one_each) lt in
+    let here = found xs p x m e h in
+    record { below = low; here = here; is = actors.each p (Conforming m) low here }
+
+pub plan_placed : (d : Deal) (conforming : List Bool) (seeds : Seeds) (roles : List Role) (ls : List LedgerState) (xs : List Actor) (p : ℕ) (x : Actor)
+    (n : Plan)
+    → AreActorsOf d conforming seeds roles xs → p < d.graph.n → x ≡ Planned n → x ≡ get_or xs p x → IsPlanAt d conforming seeds roles ls xs p n
+plan_placed d conforming seeds roles ls xs p x n actors lt e h =
+    let low = subst (λ l. p < l) (sym actors.one_each) lt in
+    let here = found_plan xs p x n e h in
+    record { below = low; here = here; is = actors.each p (Planned n) low here }
 
 -- what a machine learnt of a ledger
 pub know : (m new : MachineState) (ls : List LedgerState) (a : ℕ) (l : LedgerState) → l.arc ≡ a → a < length ls → l ≡ get_or ls a l
@@ -63,9 +90,9 @@ pub same_owner : {A E : Type 0} (r : Result A E) (m new : MachineState) (k : His
 same_owner (Ok x) m new k ok err = record { deal = ap (λ y. y.deal) ok; me = ap (λ y. y.me) ok; seed = ap (λ y. y.seed) ok }
 same_owner (Err e) m new k ok err = record { deal = ap (λ y. y.deal) err; me = ap (λ y. y.me) err; seed = ap (λ y. y.seed) err }
 
-pub owned : (d : Deal) (conforms : Bool) (seed : Option (List ℕ)) (p : ℕ) (m new : MachineState) → IsSameOwner m new
-    → IsActorOf d conforms seed p (Conforming m) → IsActorOf d conforms seed p (Conforming new)
-owned d conforms seed p m new k i = (i.0, k.deal ∙ i.1, k.me ∙ i.2, i.3 ∙ ap (λ (z : List ℕ). Some z) (sym k.seed))
+pub owned : (d : Deal) (conforms : Bool) (seed : Option (List ℕ)) (role : Role) (p : ℕ) (m new : MachineState) → IsSameOwner m new
+    → IsActorOf d conforms seed role p (Conforming m) → IsActorOf d conforms seed role p (Conforming new)
+owned d conforms seed role p m new k i = (i.0, k.deal ∙ i.1, k.me ∙ i.2, i.3 ∙ ap (λ (z : List ℕ). Some z) (sym k.seed))
 
 -- the state after an event, or as before where memory ran out, is good
 pub good_on : {A E : Type 0} (r : Result A E) (cast : Cast) (old new : State) (e : Event) → OnOk r (new ≡ step cast old e) → OnErr r (new ≡ old)
@@ -130,30 +157,49 @@ good_unless (Ok x) stopped cast old new e is goes_on ok ready can g = subst (IsG
 good_unless (Err x) stopped cast old new e is goes_on ok ready can g = absurd (false≢true (sym goes_on ∙ is))
 
 -- an act that didn't run out of memory leaves the world going on
-pub acted_on : {A E : Type 0} (r : Result A E) (d : Deal) (conforming : List Bool) (seeds : Seeds) (before after : Bool) (old new : State)
-    → after ≡ is_err r → before ≡ false → OnOk r (new ≡ old) → OnOk r (world d conforming seeds after new ≡ world d conforming seeds before old)
-acted_on (Ok x) d conforming seeds before after old new is goes_on ok = ap₂ (λ (b : Bool) (st : State). world d conforming seeds b st) (is ∙ sym goes_on) ok
-acted_on (Err x) d conforming seeds before after old new is goes_on ok = tt
+pub acted_on : {A E : Type 0} (r : Result A E) (d : Deal) (conforming : List Bool) (seeds : Seeds) (roles : List Role) (before after : Bool)
+    (old new : State)
+    → after ≡ is_err r → before ≡ false → OnOk r (new ≡ old) → OnOk r (world d conforming seeds roles after new ≡ world d conforming seeds roles before old)
+acted_on (Ok x) d conforming seeds roles before after old new is goes_on ok =
+    ap₂ (λ (b : Bool) (st : State). world d conforming seeds roles b st) (is ∙ sym goes_on) ok
+acted_on (Err x) d conforming seeds roles before after old new is goes_on ok = tt
 
-module _ (d : Deal) (conforming : List Bool) (seeds : List (Option (List ℕ))) (ls : List LedgerState) (xs : List Actor)
-    (ready : IsReadyCast (c d conforming seeds ls xs)) (good : IsGood (c d conforming seeds ls xs) (s d conforming seeds ls xs))
-    (p : ℕ) (below : p < d.graph.n) (m : MachineState) (i : IsAt d conforming seeds ls xs p m) where
+-- What is known of a party that follows a script.
+module _ (d : Deal) (conforming : List Bool) (seeds : List (Option (List ℕ))) (roles : List Role) (ls : List LedgerState) (xs : List Actor)
+    (ready : IsReadyCast (c d conforming seeds roles ls xs)) (good : IsGood (c d conforming seeds roles ls xs) (s d conforming seeds roles ls xs))
+    (p : ℕ) (below : p < d.graph.n) (n : Plan) (i : IsPlanAt d conforming seeds roles ls xs p n) where
+  plan_is : IsGoodPlan d seeds p (histories ls) n
+  plan_is = subst (IsGoodPlan d seeds p (histories ls)) (plan_at d conforming seeds roles ls xs p n i) (good.plans p below)
+
+  pub knows_each : length n.known ≡ length d.graph.arcs
+  knows_each = plan_is.one_each
+
+  pub shown : IsShown d seeds p n
+  shown = record {
+    view = plan_view d seeds p (histories ls) n (accepted_is_well_sized d ready.accepted) below good.legal plan_is;
+    moves = plan_is.moves;
+  }
+
+-- What is known of a conforming party.
+module _ (d : Deal) (conforming : List Bool) (seeds : List (Option (List ℕ))) (roles : List Role) (ls : List LedgerState) (xs : List Actor)
+    (ready : IsReadyCast (c d conforming seeds roles ls xs)) (good : IsGood (c d conforming seeds roles ls xs) (s d conforming seeds roles ls xs))
+    (p : ℕ) (below : p < d.graph.n) (m : MachineState) (i : IsAt d conforming seeds roles ls xs p m) where
   -- what the machine knows is the beginning of each history
   pub begins : (a : ℕ) → Begins (history m.known a) (history (histories ls) a)
   begins a =
       let k = (good.notes p below i.is.0).knows a in
-      subst (λ n. Begins (history n.known a) (history (histories ls) a)) (notes_at d conforming seeds ls xs p m i) (k.rest, k.whole)
+      subst (λ n. Begins (history n.known a) (history (histories ls) a)) (notes_at d conforming seeds roles ls xs p m i) (k.rest, k.whole)
 
   -- its next call fits
   pub makable : (x : Action) → machines.next_of m ≡ Some x → IsMakable m.deal m.me x
   makable x e =
-      let cast = c d conforming seeds ls xs in
-      let state = s d conforming seeds ls xs in
-      let next : next_of cast state p ≡ Some x = next_is d conforming seeds ls xs p m i ∙ e in
+      let cast = c d conforming seeds roles ls xs in
+      let before = s d conforming seeds roles ls xs in
+      let next : next_of cast before p ≡ Some x = next_is d conforming seeds roles ls xs p m i ∙ e in
       let is =
-      due_now d state.book (notes_of state p) p (cast.wallet p) x (ready.wallets p below i.is.0) ready.accepted
-      (first_in (due d p (cast.wallet p) (signed_in (notes_of state p).signed) (notes_of state p).known) x next)
-      (holds cast state p (good.notes p below i.is.0)) in
+      due_now d before.book (notes_of before p) p (cast.wallet p) x (ready.wallets p below i.is.0) ready.accepted
+      (first_in (due d p (cast.wallet p) (signed_in (notes_of before p).signed) (notes_of before p).known) x next)
+      (holds cast before p (good.notes p below i.is.0)) in
       subst (λ e. IsMakable e m.me x) (sym i.is.1) (subst (λ v. IsMakable d v x) (sym i.is.2) (record {
         arc = is.below;
         of_the_two =

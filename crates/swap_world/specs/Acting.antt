@@ -1,5 +1,5 @@
 -- What the act of a machine makes of the histories and of the machine.
-use Rattle.std.specs.Prelude.{◌≡◌, ◌==◌, ◌||◌, ◌<◌, ℕ, true, IsTrue, List, length, map, slice_set, Option, Some, None}
+use Rattle.std.specs.Prelude.{◌≡◌, ◌==◌, ◌||◌, ◌<◌, ℕ, ◌+◌, true, IsTrue, List, length, map, slice_set, Option, Some, None}
 use Rattle.swap_digraph.specs.declared.deal.Deal.{Deal}
 use Rattle.swap_digraph.specs.Deal.{party, counterparty}
 use Rattle.ledger_core.specs.declared.entry.Call.{Call}
@@ -7,9 +7,10 @@ use Rattle.ledger_core.specs.Value.{LedgerState}
 use Rattle.ledger_core.specs.History.{fit}
 use Rattle.ledger_core.specs.Known.{presents_valid}
 use Rattle.ledger_core.specs.Book.{Histories, history}
+use Rattle.deviator_script.specs.Script.{moves_left}
 use Rattle.swap_rules.specs.Due.{Action}
 use Rattle.ledger_core.specs.Ledger.{after_call}
-use Rattle.swap_run.specs.Run.{signed_after}
+use Rattle.swap_run.specs.Run.{Plan, plan_up_to, signed_after}
 use Rattle.party_machine.specs.Machine.{MachineState}
 
 -- The call fits, stands on an arc that touches party v, and presents no hashkey that isn't valid.
@@ -49,3 +50,12 @@ machine_after m (Some x) b = record {
 abbrev pub taken : Deal → ℕ → Option (ℕ × Call) → Histories → Histories
 taken d v None b = b
 taken d v (Some x) b = slice_set b x.0 (after_call d x.0 v x.1 (history b x.0))
+
+-- the plan of party v after its call, if any: it knows the ledger up to its end
+abbrev pub seen : Deal → ℕ → Option (ℕ × Call) → Histories → Plan → Plan
+seen d v None b n = n
+seen d v (Some x) b n = plan_up_to n x.0 (after_call d x.0 v x.1 (history b x.0))
+
+-- the plan of a party that has acted once more by its script
+abbrev pub turned : Plan → Plan
+turned n = record n { moves = moves_left n.known n.moves; turns = n.turns + 1 }

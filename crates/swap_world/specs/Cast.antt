@@ -1,9 +1,10 @@
 -- Who takes part in a job's run.
-use Rattle.std.specs.Prelude.{ℕ, Bool, true, false, List, [], map, slice_index_or, Option, Some, None}
+use Rattle.std.specs.Prelude.{ℕ, Bool, true, false, List, [], slice_index_or, Option, Some, None}
 use Rattle.swap_digraph.specs.declared.deal.Deal.{Deal}
+use Rattle.deviator_script.specs.Crafted.{Seeds}
 use Rattle.deviator_script.specs.declared.job.Job.{Job}
 use Rattle.deviator_script.specs.declared.job.Role.{Role}
-use Rattle.deviator_script.specs.declared.job.Role.TheVariants.{Conforming, Manual}
+use Rattle.deviator_script.specs.declared.job.Role.TheVariants.{Conforming}
 use Rattle.swap_rules.specs.Due.{Wallet}
 use Rattle.party_machine.specs.Wallet.{wallet_of}
 use Rattle.swap_run.specs.Run.{Cast}
@@ -13,22 +14,22 @@ abbrev pub wallet_with : Option (List ℕ) → ℕ → Deal → Wallet
 wallet_with (Some seed) v d = wallet_of seed v d
 wallet_with None v d = wallet_of [] v d
 
--- a party that doesn't conform acts by its own calls alone
-abbrev pub role_for : Bool → Role
-role_for true = Conforming
-role_for false = Manual
+-- the role of a party that conforms
+abbrev pub is_conforming : Role → Bool
+is_conforming Conforming = true
+is_conforming _ = false
 
 -- the parties that conform sign with their seeds
-abbrev pub cast_with : Deal → List Bool → List (Option (List ℕ)) → Cast
-cast_with d conforming seeds = record {
+abbrev pub cast_with : Deal → List Bool → Seeds → List Role → Cast
+cast_with d conforming seeds roles = record {
   deal = d;
   conforming = conforming;
   wallet = λ v. wallet_with (slice_index_or seeds v None) v d;
   seeds = seeds;
-  roles = map role_for conforming;
+  roles = roles;
   answers = λ k. None;
 }
 
 -- who takes part in a job's run
 abbrev pub cast_of : Job → Cast
-cast_of job = cast_with job.deal job.conforming job.seeds
+cast_of job = cast_with job.deal job.conforming job.seeds job.roles

@@ -4,32 +4,47 @@ use Rattle.swap_digraph.specs.Graph.{arcs}
 use Rattle.swap_digraph.specs.declared.deal.Deal.{Deal}
 use Rattle.ledger_core.specs.Value.{LedgerState}
 use Rattle.ledger_core.specs.History.{IsLegal}
-use Rattle.swap_run.specs.Run.{Cast, Notes, State, no_notes, first_plan}
+use Rattle.deviator_script.specs.declared.job.Role.{Role}
+use Rattle.deviator_script.specs.declared.job.Role.TheVariants as kinds
+use Rattle.deviator_script.specs.declared.moves.Move.{Move}
+use Rattle.swap_run.specs.Run.{Cast, Notes, Plan, State, no_notes, first_plan, is_planned}
 use Rattle.swap_run.specs.Laws.{IsReadyCast, IsGood, IsKept}
-use Rattle.swap_world.specs.Cast.{cast_with, role_for}
+use Rattle.swap_world.specs.Cast.{cast_with}
 use Rattle.swap_world.specs.Value.{WorldState}
 use Rattle.swap_world.specs.declared.actor.Actor.{Actor}
-use Rattle.swap_world.specs.declared.actor.Actor.TheVariants.{Conforming, Manual}
+use Rattle.swap_world.specs.declared.actor.Actor.TheVariants.{Conforming, Planned, Manual}
 use Rattle.swap_world.specs.declared.world.World.TheInside.{Inside}
 
 -- what the party has noted, where it conforms
 abbrev pub notes_in : Deal → Actor → Notes
 notes_in d (Conforming m) = record { known = m.known; signed = m.signed }
-notes_in d Manual = no_notes d
+notes_in d _ = no_notes d
+
+-- what the party plans, where it follows a script
+abbrev pub plan_in : Deal → Actor → Plan
+plan_in d (Planned n) = n
+plan_in d _ = first_plan d kinds.Manual
 
 abbrev pub cast_in : Inside → Cast
-cast_in w = cast_with w.deal w.conforming w.seeds
+cast_in w = cast_with w.deal w.conforming w.seeds w.roles.items
 
 abbrev pub state_in : Inside → State
 state_in w = record {
   book = map (λ l. l.history) w.ledgers.items;
   notes = map (notes_in w.deal) w.actors.items;
-  plans = map (first_plan w.deal) (map role_for w.conforming);
+  plans = map (plan_in w.deal) w.actors.items;
   asked = [];
 }
 
 abbrev pub world_in : Inside → WorldState
-world_in w = record { deal = w.deal; conforming = w.conforming; seeds = w.seeds; state = state_in w; stopped = w.stopped }
+world_in w = record {
+  deal = w.deal;
+  conforming = w.conforming;
+  seeds = w.seeds;
+  roles = w.roles.items;
+  state = state_in w;
+  stopped = w.stopped;
+}
 
 -- the ledger of arc a before any entry
 abbrev pub new_ledger : Deal → ℕ → LedgerState
@@ -49,20 +64,26 @@ pub record AreLedgersOf (d : Deal) (ls : List LedgerState) : Type 0 where
   pub one_each : length ls ≡ length d.graph.arcs
   pub each : (a : ℕ) (l : LedgerState) → a < length ls → l ≡ slice_index_or ls a l → IsLedgerOf d a l
 
--- The actor is that of party v of the deal, which conforms or not and has that seed.
-abbrev pub IsActorOf : Deal → Bool → Option (List ℕ) → ℕ → Actor → Type 0
-IsActorOf d conforms seed v (Conforming m) = (conforms ≡ true) × (m.deal ≡ d) × (m.me ≡ v) × (seed ≡ Some m.seed)
-IsActorOf d conforms seed v Manual = conforms ≡ false
+-- the role is a script
+abbrev pub IsScript : Role → Type 0
+IsScript role = (moves : List Move) × (role ≡ kinds.Script moves)
+
+-- The actor is that of party v of the deal, which conforms or not, and has that seed and that role.
+abbrev pub IsActorOf : Deal → Bool → Option (List ℕ) → Role → ℕ → Actor → Type 0
+IsActorOf d conforms seed role v (Conforming m) = (conforms ≡ true) × (m.deal ≡ d) × (m.me ≡ v) × (seed ≡ Some m.seed)
+IsActorOf d conforms seed role v (Planned n) = (conforms ≡ false) × IsScript role
+IsActorOf d conforms seed role v Manual = (conforms ≡ false) × (is_planned role ≡ false)
 
 -- There is one actor per party, in order.
-pub record AreActorsOf (d : Deal) (conforming : List Bool) (seeds : List (Option (List ℕ))) (xs : List Actor) : Type 0 where
+pub record AreActorsOf (d : Deal) (conforming : List Bool) (seeds : List (Option (List ℕ))) (roles : List Role) (xs : List Actor) : Type 0 where
   pub one_each : length xs ≡ d.graph.n
-  pub each : (v : ℕ) (x : Actor) → v < length xs → x ≡ slice_index_or xs v x → IsActorOf d (slice_index_or conforming v false) (slice_index_or seeds v None) v x
+  pub each : (v : ℕ) (x : Actor) → v < length xs → x ≡ slice_index_or xs v x
+      → IsActorOf d (slice_index_or conforming v false) (slice_index_or seeds v None) (slice_index_or roles v kinds.Manual) v x
 
 pub record Holds (w : Inside) : Type 0 where
   pub ready : IsReadyCast (cast_in w)
   pub ledgers : AreLedgersOf w.deal w.ledgers.items
-  pub actors : AreActorsOf w.deal w.conforming w.seeds w.actors.items
+  pub actors : AreActorsOf w.deal w.conforming w.seeds w.roles.items w.actors.items
   pub good : w.stopped ≡ false → IsGood (cast_in w) (state_in w)
   -- also where memory ran out
   pub kept : IsKept (cast_in w) (state_in w).book

@@ -1,14 +1,20 @@
 -- What acts for each party of a job.
-use Rattle.std.specs.Prelude.{◌≡◌, ℕ, ◌<◌, ◌++◌, true, false, List, [], ◌∷◌, length, is_some, slice_index_or, if◌then◌else◌, Option, Some, None, Result}
-use Rattle.std.specs.Prelude.{Ok, Err}
-use Rattle.std.specs.List.{range_with_len}
+use Rattle.std.specs.Prelude.{◌≡◌, ℕ, ◌<◌, ◌++◌, true, false, List, [], ◌∷◌, length, map, All, is_some, slice_index_or, if◌then◌else◌}
+use Rattle.std.specs.Prelude.{Option, Some, None, Result, Ok, Err}
+use Rattle.std.specs.List.{list_any, range_with_len}
 use Rattle.swap_base.specs.Fault.{◌>>=◌, steps}
 use Rattle.swap_digraph.specs.declared.deal.Deal.{Deal}
+use Rattle.deviator_script.specs.Script.{IsMoveOf}
 use Rattle.deviator_script.specs.declared.job.Job.{Job}
+use Rattle.deviator_script.specs.declared.job.Role.{Role}
+use Rattle.deviator_script.specs.declared.job.Role.TheVariants as kinds
 use Rattle.party_wallet.specs.Fits.{wrong_lock}
 use Rattle.party_machine.specs.Machine.{new_machine}
+use Rattle.swap_run.specs.Asked.{is_strategy}
+use Rattle.swap_run.specs.Run.{first_plan, script_of}
+use Rattle.swap_world.specs.Cast.{is_conforming}
 use Rattle.swap_world.specs.declared.actor.Actor.{Actor}
-use Rattle.swap_world.specs.declared.actor.Actor.TheVariants.{Conforming, Manual}
+use Rattle.swap_world.specs.declared.actor.Actor.TheVariants.{Conforming, Planned, Manual}
 use Rattle.swap_world.specs.declared.staff.WrongWallet.{WrongWallet}
 use Rattle.swap_world.specs.Value.{WorldState, new_world}
 
@@ -17,6 +23,21 @@ pub record HaveSeeds (job : Job) : Type 0 where
   pub conforming : length job.conforming ≡ job.deal.graph.n
   pub seeds : length job.seeds ≡ job.deal.graph.n
   pub there : (p : ℕ) → p < job.deal.graph.n → slice_index_or job.conforming p false ≡ true → is_some (slice_index_or job.seeds p None) ≡ true
+
+-- the role of party p
+abbrev pub role_in : Job → ℕ → Role
+role_in job p = slice_index_or job.roles p kinds.Manual
+
+-- Each party has a role, that of a conforming one exactly where it conforms; the moves of a script are its party's; and nobody follows a strategy.
+pub record HaveRoles (job : Job) : Type 0 where
+  pub conforming : job.conforming ≡ map is_conforming job.roles
+  pub scripts : (p : ℕ) → p < job.deal.graph.n → All (IsMoveOf job.deal job.seeds p) (script_of (role_in job p))
+  pub unasked : list_any is_strategy job.roles ≡ false
+
+-- what acts for a party without a wallet: its script, or its own calls alone
+abbrev pub by_role : Deal → Role → Actor
+by_role d (kinds.Script moves) = Planned (first_plan d (kinds.Script moves))
+by_role d _ = Manual
 
 -- the machine of party p, or the lock for which its seed is wrong
 abbrev pub by_lock : Deal → ℕ → List ℕ → Option ℕ → Result Actor WrongWallet
@@ -28,13 +49,15 @@ abbrev pub conforming_of : Deal → ℕ → List ℕ → Result Actor WrongWalle
 conforming_of d p seed = by_lock d p seed (wrong_lock d p seed)
 
 -- what acts with the seed, where there is one
-abbrev pub with_seed : Deal → ℕ → Option (List ℕ) → Result Actor WrongWallet
-with_seed d p None = Ok Manual
-with_seed d p (Some seed) = conforming_of d p seed
+abbrev pub with_seed : Deal → Role → ℕ → Option (List ℕ) → Result Actor WrongWallet
+with_seed d role p None = Ok (by_role d role)
+with_seed d role p (Some seed) = conforming_of d p seed
 
 -- what acts for party p
 abbrev pub actor_of : Job → ℕ → Result Actor WrongWallet
-actor_of job p = if slice_index_or job.conforming p false then with_seed job.deal p (slice_index_or job.seeds p None) else Ok Manual
+actor_of job p =
+    if slice_index_or job.conforming p false then with_seed job.deal (role_in job p) p (slice_index_or job.seeds p None)
+    else Ok (by_role job.deal (role_in job p))
 
 -- one more party
 unfoldable pub actor_step : Job → List Actor → ℕ → Result (List Actor) WrongWallet

@@ -1,12 +1,15 @@
 //! What acts for a party.
 
 use party_machine::Machine;
+use party_plan::Planner;
 
 /// What acts for a party.
 #[derive(Drop)]
 pub(crate) enum Actor {
     /// A conforming party, by its machine.
     Conforming(Machine),
+    /// A party that follows a script.
+    Planned(Planner),
     /// A party that acts by its own calls alone.
     Manual,
 }

@@ -1,7 +1,8 @@
 //! The fair finish, by turns and rounds.
 
-ghost use Rattle.std.specs.Prelude.{◌≡◌, ◌<◌, ◌+◌, OnOk, OnErr, length, false};
+ghost use Rattle.std.specs.Prelude.{◌≡◌, ◌<◌, ◌+◌, OnOk, OnErr, length, true, false};
 ghost use Rattle.swap_digraph.specs.Deal.{IsWellSized};
+ghost use Rattle.swap_run.specs.Run.{conforms};
 ghost use Rattle.swap_run.specs.Fair.{acts, finish, has_ended, looks, most_acts, round, the_horizon, tick_low, ticks, turn, turns};
 ghost use Rattle.swap_world.specs.Value.{cast_at};
 ghost use Rattle.swap_world.specs.Stopped.{IsStopped, look_near};
@@ -46,9 +47,10 @@ fn most_acts(deal: &Deal) -> u32
     (deal.leaders.len() as u32 + 3) * deal.graph.arcs().len() as u32
 }
 
-/// Lets a party act until nothing is due.
+/// Lets a conforming party act until nothing is due.
 fn act_to_rest(world: &mut World, p: PartyId) -> Result<(), NoMemory>
     requires party { p < world.old.deal.graph.n }
+    requires conforms { conforms (cast_at world.old) p ≡ true }
     requires goes_on { world.old.stopped ≡ false }
     ensures ok { OnOk result (world.new ≡ record world.old { state = acts (cast_at world.old) p (most_acts world.old.deal) world.old.state }) }
     ensures err { OnErr result (IsStopped world.old (acts (cast_at world.old) p (most_acts world.old.deal) world.old.state) world.new) }
@@ -61,7 +63,7 @@ fn act_to_rest(world: &mut World, p: PartyId) -> Result<(), NoMemory>
     Ok(())
 }
 
-/// A party's turn: it looks around, and then acts until nothing is due.
+/// A party's turn: it looks around, and then acts: until nothing is due where it conforms, else once.
 fn turn(world: &mut World, p: PartyId) -> Result<(), NoMemory>
     requires party { p < world.old.deal.graph.n }
     requires goes_on { world.old.stopped ≡ false }
@@ -69,7 +71,10 @@ fn turn(world: &mut World, p: PartyId) -> Result<(), NoMemory>
     ensures err { OnErr result (IsStopped world.old (turn (cast_at world.old) world.old.state p) world.new) }
 {
     look_around(world, p)?;
-    act_to_rest(world, p)
+    if world.conforms(p) {
+        return act_to_rest(world, p);
+    }
+    world.step(&Event::Act(p))
 }
 
 /// Every party's turn, in their order.

@@ -1,18 +1,19 @@
 //! The actors of a job.
 
-ghost use Rattle.std.specs.Prelude.{◌≡◌, ◌<◌};
+ghost use Rattle.std.specs.Prelude.{◌≡◌, ◌<◌, IfOk, length};
 ghost use Rattle.swap_base.specs.Fault.{Gives};
 ghost use Rattle.swap_digraph.specs.Deal.{IsWellSized};
 ghost use Rattle.party_wallet.specs.Keys.{new_wallet};
 ghost use Rattle.party_wallet.specs.Wallets.{wallet_for, wallets_of};
-ghost use Rattle.swap_world.specs.Staff.{conforming_of, actor_of, actor_step, actors_of};
+ghost use Rattle.swap_world.specs.Staff.{by_role, conforming_of, actor_of, actor_step, actors_of};
 
 use crate::actor::Actor;
-use deviator_script::Job;
+use deviator_script::{Job, Role};
 use party_machine::{Machine, Misfit};
+use party_plan::Planner;
 use party_wallet::Wallet;
 use std::alloc::Global;
-use swap_base::{Fault, LockId, PartyId};
+use swap_base::{Fault, LockId, NoMemory, PartyId, TryCopy};
 use swap_digraph::Deal;
 
 /// The seed of a conforming party doesn't give what the deal states of it for that lock.
@@ -41,7 +42,17 @@ fn conforming(alloc: Global, deal: &Deal, p: PartyId, wallet: Wallet) -> Result<
     }
 }
 
-/// What acts for a party of the job, by its wallet.
+/// What acts for a party without a wallet: its script, or its own calls alone.
+fn by_role(alloc: Global, deal: &Deal, role: &Role) -> Result<Actor, NoMemory>
+    ensures { IfOk result (λ x. x ≡ by_role deal.now role.now) }
+{
+    match role {
+        Role::Script(moves) => Ok(Actor::Planned(Planner::new(alloc, deal, moves.copy()?)?)),
+        _ => Ok(Actor::Manual),
+    }
+}
+
+/// What acts for a party of the job, by its wallet or else by its role.
 fn actor_of(
     alloc: Global,
     job: &Job,
@@ -50,12 +61,13 @@ fn actor_of(
 ) -> Result<Actor, WorldFault>
     requires sized { IsWellSized job.now.deal }
     requires party { p < job.now.deal.graph.n }
+    requires roles { length job.now.roles ≡ job.now.deal.graph.n }
     requires wallet { wallet ≡ wallet_for job.now.deal job.now.conforming job.now.seeds p }
     ensures { Gives (λ x. x) result (actor_of job.now p) }
 {
     match wallet {
         Some(wallet) => conforming(alloc, &job.deal, p, wallet),
-        None => Ok(Actor::Manual),
+        None => Ok(by_role(alloc, &job.deal, &job.roles.as_slice()[p as usize])?),
     }
 }
 
@@ -69,6 +81,7 @@ fn add_actor(
 ) -> Result<(), WorldFault>
     requires sized { IsWellSized job.now.deal }
     requires party { p < job.now.deal.graph.n }
+    requires roles { length job.now.roles ≡ job.now.deal.graph.n }
     requires wallet { wallet ≡ wallet_for job.now.deal job.now.conforming job.now.seeds p }
     ensures { Gives (λ _. actors.new.items) result (actor_step job.now actors.old.items p) }
 {
@@ -76,13 +89,14 @@ fn add_actor(
     Ok(())
 }
 
-/// What acts for each party by its wallet, or the first conforming party whose seed isn't that of the deal.
+/// What acts for each party by its wallet or its role, or the first conforming party whose seed isn't that of the deal.
 pub(crate) fn actors_of(
     alloc: Global,
     job: &Job,
     mut wallets: Vec<Option<Wallet>>,
 ) -> Result<Vec<Actor>, WorldFault>
     requires sized { IsWellSized job.now.deal }
+    requires roles { length job.now.roles ≡ job.now.deal.graph.n }
     requires wallets { wallets.items ≡ wallets_of job.now.deal job.now.conforming job.now.seeds }
     ensures { Gives (λ v. v.items) result (actors_of job.now) }
 {

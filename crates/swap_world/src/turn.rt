@@ -1,4 +1,4 @@
-//! What an event does to one ledger, and to the machine of a party beside it.
+//! What an event does to one ledger, and to the machine or the plan of a party beside it.
 
 ghost use Rattle.std.specs.Prelude.{◌≡◌, ◌==◌, ◌||◌, ◌<◌, ◌≤◌, ◌+◌, ◌⊎◌, ℕ, Some, None, false, IsTrue, OnOk, OnErr, IfOk, length, slice_set, option_copied};
 ghost use Rattle.swap_digraph.specs.Deal.{IsWellSized, party, counterparty};
@@ -8,13 +8,15 @@ ghost use Rattle.ledger_core.specs.Book.{history};
 ghost use Rattle.std.specs.Option.{ForSome};
 ghost use Rattle.deviator_script.specs.Fitting.{IsFitting};
 ghost use Rattle.deviator_script.specs.Resolved.{arc_of, opening_named, key_opened, resolved};
-ghost use Rattle.deviator_script.specs.View.{is_near};
+ghost use Rattle.deviator_script.specs.Script.{next_call};
+ghost use Rattle.deviator_script.specs.View.{is_near, MayAnswer};
+ghost use Rattle.party_plan.specs.Shown.{IsShown};
 ghost use Rattle.swap_laws.specs.Machine.{Begins};
 ghost use Rattle.swap_rules.specs.Due.{Action};
 ghost use Rattle.ledger_core.specs.Ledger.{after_call};
-ghost use Rattle.swap_run.specs.Run.{after_tick};
+ghost use Rattle.swap_run.specs.Run.{after_tick, plan_up_to};
 ghost use Rattle.party_machine.specs.Machine.{next_of};
-ghost use Rattle.swap_world.specs.Acting.{IsMakable, IsSameOwner, histories, book_after, machine_after, taken};
+ghost use Rattle.swap_world.specs.Acting.{IsMakable, IsSameOwner, histories, book_after, machine_after, seen, taken, turned};
 ghost use Rattle.swap_world.specs.Inside.{AreLedgersOf, IsLedgerOf};
 
 use deviator_script::{Move, opened_key_in, opening_named, resolve_with};
@@ -22,6 +24,7 @@ use hashkey_path::Hashkey;
 use history_index::Steps;
 use ledger_core::{Call, Ledger};
 use party_machine::Machine;
+use party_plan::Planner;
 use std::alloc::Global;
 use std::marker::Brand;
 use std::sync::ledger::{Blank, Ledger as Counted};
@@ -215,4 +218,115 @@ pub(crate) fn act(machine: &mut Machine, ledgers: &mut Vec<Ledger>) -> Result<bo
             Ok(true)
         }
     }
+}
+
+/// Lets a party that follows a script know a ledger up to its end.
+pub(crate) fn watch(planner: &mut Planner, ledger: &Ledger, arc: ArcId) -> Result<(), NoMemory>
+    requires arc { arc < length planner.old.known }
+    ensures ok { OnOk result (planner.new ≡ plan_up_to planner.old arc ledger.now.history) }
+    ensures err { OnErr result (planner.new ≡ planner.old) }
+{
+    let history = ledger.copy_from(0)?;
+    planner.see(arc, history);
+    Ok(())
+}
+
+/// Makes a call of a party that follows a script, which then knows the ledger up to its end.
+fn make_planned(
+    planner: &mut Planner,
+    ledger: &mut Ledger,
+    arc: ArcId,
+    sender: PartyId,
+    made: Call,
+) -> Result<(), NoMemory>
+    requires arc { arc < length planner.old.known }
+    requires of_the_two { IsTrue ((sender == party ledger.old.deal ledger.old.arc) || (sender == counterparty ledger.old.deal ledger.old.arc)) }
+    requires fits { IsTrue (fit ledger.old.deal ledger.old.arc made) }
+    requires legal { IsLegal ledger.old.deal ledger.old.arc ledger.old.history }
+    ensures ok { OnOk result (ledger.new.history ≡ after_call ledger.old.deal ledger.old.arc sender made ledger.old.history) }
+    ensures knows { OnOk result (planner.new
+        ≡ plan_up_to planner.old arc (after_call ledger.old.deal ledger.old.arc sender made ledger.old.history)) }
+    ensures err { OnErr result ((ledger.new.history ≡ ledger.old.history)
+        ⊎ (ledger.new.history ≡ after_call ledger.old.deal ledger.old.arc sender made ledger.old.history)) }
+    ensures deal { ledger.new.deal ≡ ledger.old.deal }
+    ensures arc { ledger.new.arc ≡ ledger.old.arc }
+    ensures legal { IsLegal ledger.new.deal ledger.new.arc ledger.new.history }
+{
+    call(ledger, sender, made, 0)?;
+    watch(planner, ledger, arc)
+}
+
+/// Makes a call, if there is one, of a party that follows a script.
+fn take(
+    planner: &mut Planner,
+    ledgers: &mut Vec<Ledger>,
+    deal: &Deal,
+    sender: PartyId,
+    made: Option<(ArcId, Call)>,
+) -> Result<(), NoMemory>
+    requires ledgers { AreLedgersOf deal.now ledgers.old.items }
+    requires known { length planner.old.known ≡ length deal.now.graph.arcs }
+    requires may { MayAnswer deal.now sender made }
+    ensures ok { OnOk result (histories ledgers.new.items ≡ taken deal.now sender made (histories ledgers.old.items)) }
+    ensures knows { OnOk result (planner.new ≡ seen deal.now sender made (histories ledgers.old.items) planner.old) }
+    ensures err { OnErr result ((histories ledgers.new.items ≡ histories ledgers.old.items)
+        ⊎ (histories ledgers.new.items ≡ taken deal.now sender made (histories ledgers.old.items))) }
+    ensures ledgers { AreLedgersOf deal.now ledgers.new.items }
+{
+    match made {
+        Some((arc, due)) => { make_planned(planner, &mut ledgers[arc as usize], arc, sender, due) }
+        None => Ok(()),
+    }
+}
+
+/// Makes the call that a move stands for, if any, of a party that follows a script.
+pub(crate) fn make_by_hand(
+    planner: &mut Planner,
+    ledgers: &mut Vec<Ledger>,
+    deal: &Deal,
+    seeds: &[Option<Digest>],
+    sender: PartyId,
+    mv: &Move,
+) -> Result<(), NoMemory>
+    requires sized { IsWellSized deal.now }
+    requires ledgers { AreLedgersOf deal.now ledgers.old.items }
+    requires known { length planner.old.known ≡ length deal.now.graph.arcs }
+    requires fits { IsFitting deal.now seeds.now mv.now }
+    requires near { IsTrue (is_near deal.now sender (arc_of mv.now)) }
+    ensures ok { OnOk result (histories ledgers.new.items
+        ≡ taken deal.now sender (resolved deal.now seeds.now (histories ledgers.old.items) mv.now) (histories ledgers.old.items)) }
+    ensures knows { OnOk result (planner.new
+        ≡ seen deal.now sender (resolved deal.now seeds.now (histories ledgers.old.items) mv.now) (histories ledgers.old.items) planner.old) }
+    ensures err { OnErr result ((histories ledgers.new.items ≡ histories ledgers.old.items)
+        ⊎ (histories ledgers.new.items
+        ≡ taken deal.now sender (resolved deal.now seeds.now (histories ledgers.old.items) mv.now) (histories ledgers.old.items))) }
+    ensures ledgers { AreLedgersOf deal.now ledgers.new.items }
+{
+    let alloc = *ledgers.allocator();
+    let made = resolve_on(alloc, ledgers, deal, seeds, mv)?;
+    take(planner, ledgers, deal, sender, made)
+}
+
+/// Makes the next call of a party's script, if any.
+pub(crate) fn follow(
+    planner: &mut Planner,
+    ledgers: &mut Vec<Ledger>,
+    deal: &Deal,
+    seeds: &[Option<Digest>],
+    me: PartyId,
+) -> Result<(), NoMemory>
+    requires ledgers { AreLedgersOf deal.now ledgers.old.items }
+    requires known { length planner.old.known ≡ length deal.now.graph.arcs }
+    requires shown { IsShown deal.now seeds.now me planner.old }
+    ensures ok { OnOk result (histories ledgers.new.items
+        ≡ taken deal.now me (next_call deal.now seeds.now planner.old.known planner.old.moves) (histories ledgers.old.items)) }
+    ensures knows { OnOk result (planner.new ≡ seen deal.now me (next_call deal.now seeds.now planner.old.known planner.old.moves)
+        (histories ledgers.old.items) (turned planner.old)) }
+    ensures err { OnErr result ((histories ledgers.new.items ≡ histories ledgers.old.items)
+        ⊎ (histories ledgers.new.items
+        ≡ taken deal.now me (next_call deal.now seeds.now planner.old.known planner.old.moves) (histories ledgers.old.items))) }
+    ensures ledgers { AreLedgersOf deal.now ledgers.new.items }
+{
+    let made = planner.follow(deal, me, seeds)?;
+    take(planner, ledgers, deal, me, made)
 }

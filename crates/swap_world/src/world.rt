@@ -9,24 +9,24 @@ ghost use Rattle.deviator_script.specs.Step.{CanStep, CanTick, CanLook, CanCall}
 ghost use Rattle.swap_rules.specs.Accepted.{IsAccepted};
 ghost use Rattle.swap_rules.specs.Outcome.{IsEnded};
 ghost use Rattle.swap_laws.specs.Laws.{IsDealt};
-ghost use Rattle.swap_run.specs.Run.{conforms, start, step, run_from};
+ghost use Rattle.swap_run.specs.Run.{conforms, is_planned, role_of, start, step, run_from};
 ghost use Rattle.swap_run.specs.Fair.{finish};
 ghost use Rattle.swap_run.specs.Laws.{IsKept};
 ghost use Rattle.party_wallet.specs.Wallets.{wallets_of};
 ghost use Rattle.swap_world.specs.Stopped.{IsStopped, AllConform};
 ghost use Rattle.swap_world.specs.Value.{cast_at, new_world};
-ghost use Rattle.swap_world.specs.Staff.{world_of, HaveSeeds};
+ghost use Rattle.swap_world.specs.Staff.{world_of, HaveRoles, HaveSeeds};
 ghost use Rattle.swap_world.specs.Inside.{new_ledgers};
 
 use crate::actor::Actor;
 use crate::staff::{WorldFault, actors_of};
 use crate::{fair, many, turn};
-use deviator_script::{Event, Job, Move};
+use deviator_script::{Event, Job, Move, Role};
 use ledger_core::{Book, EntryList, Ledger};
 use party_wallet::Wallet;
 use std::alloc::Global;
 use std::marker::Model;
-use swap_base::{ArcId, Digest, Listed, NoMemory, PartyId, TryCopy};
+use swap_base::{ArcId, Digest, Listed, NoMemory, PartyId, Past, TryCopy};
 use swap_digraph::{Deal, copy_deal};
 
 /// The ledgers of a job, and what acts for its parties.
@@ -35,6 +35,8 @@ pub struct World {
     deal: Deal,
     conforming: Listed<bool>,
     seeds: Listed<Option<Digest>>,
+    /// How each party acts.
+    roles: Past<Role>,
     ledgers: Vec<Ledger>,
     actors: Vec<Actor>,
     stopped: bool,
@@ -63,6 +65,18 @@ fn ledgers_of(alloc: Global, deal: &Deal) -> Result<Vec<Ledger>, NoMemory>
     Ok(ledgers)
 }
 
+/// The roles of a job, for clauses alone.
+#[tactic(auto, using(crate::proofs::Begun::one_role, crate::proofs::Begun::all_roles))]
+fn told(roles: &[Role]) -> Past<Role>
+    ensures { result.items ≡ roles.now }
+{
+    let mut past = Past::new();
+    for role in roles {
+        past = past.and(role);
+    }
+    past
+}
+
 fn histories_of(alloc: Global, ledgers: Vec<Ledger>) -> Result<Listed<EntryList>, NoMemory>
     ensures { IfOk result (λ v. v ≡ map (λ l. l.history) ledgers.items) }
 {
@@ -74,10 +88,12 @@ fn histories_of(alloc: Global, ledgers: Vec<Ledger>) -> Result<Listed<EntryList>
 }
 
 impl World {
-    /// A world before any event, or the first conforming party whose seed isn't that of the deal. Each conforming party signs with its wallet.
+    /// A world before any event, or the first conforming party whose seed isn't that of the deal. Each conforming party signs with its wallet, and
+    /// each script stands at its first move.
     pub fn new(alloc: Global, job: &Job, wallets: Vec<Option<Wallet>>) -> Result<World, WorldFault>
         requires accepted { IsAccepted job.now.deal }
         requires seeds { HaveSeeds job.now }
+        requires roles { HaveRoles job.now }
         requires wallets { wallets.items ≡ wallets_of job.now.deal job.now.conforming job.now.seeds }
         ensures exact { Gives (λ w. w) result (world_of job.now) }
         ensures new { IfOk result (λ w. w ≡ new_world job.now) }
@@ -87,6 +103,7 @@ impl World {
             deal: copy_deal(&job.deal)?,
             conforming: Listed::new(Vec::from_slice(alloc, job.conforming.as_slice())?),
             seeds: job.seeds.copy()?,
+            roles: told(job.roles.as_slice()),
             ledgers: ledgers_of(alloc, &job.deal)?,
             actors,
             stopped: false,
@@ -103,6 +120,20 @@ impl World {
         turn::tick(ledger, k)
     }
 
+    /// Lets a party look that doesn't conform: one that follows a script knows the ledger up to its end.
+    fn watch(&mut self, p: PartyId, arc: ArcId) -> Result<(), NoMemory>
+        requires event { CanLook self.old.deal p arc }
+        requires deviates { conforms (cast_at self.old) p ≡ false }
+        requires goes_on { self.old.stopped ≡ false }
+        ensures ok { OnOk result (self.new ≡ record self.old { state = step (cast_at self.old) self.old.state (Event.Look p arc) }) }
+        ensures err { OnErr result (self.new ≡ self.old) }
+    {
+        let Actor::Planned(planner) = &mut self.actors[p as usize] else {
+            return Ok(());
+        };
+        turn::watch(planner, &self.ledgers[arc as usize], arc)
+    }
+
     fn look(&mut self, p: PartyId, arc: ArcId) -> Result<(), NoMemory>
         requires event { CanLook self.old.deal p arc }
         requires goes_on { self.old.stopped ≡ false }
@@ -110,14 +141,23 @@ impl World {
         ensures err { OnErr result (self.new ≡ self.old) }
     {
         let Actor::Conforming(machine) = &mut self.actors[p as usize] else {
-            return Ok(());
+            return self.watch(p, arc);
         };
         turn::learn(machine, &self.ledgers[arc as usize])
     }
 
-    /// Lets a party act, and answers whether it may have more to do: after `false` the act changed nothing.
+    /// Whether a party conforms.
+    pub(crate) fn conforms(&self, p: PartyId) -> bool
+        requires { p < self.now.deal.graph.n }
+        ensures { result ≡ conforms (cast_at self.now) p }
+    {
+        self.conforming.as_slice()[p as usize]
+    }
+
+    /// Lets a conforming party act, and answers whether it may have more to do: after `false` the act changed nothing.
     pub(crate) fn act_if_due(&mut self, p: PartyId) -> Result<bool, NoMemory>
         requires party { p < self.old.deal.graph.n }
+        requires conforms { conforms (cast_at self.old) p ≡ true }
         requires goes_on { self.old.stopped ≡ false }
         ensures ok { OnOk result (self.new ≡ record self.old { state = step (cast_at self.old) self.old.state (Event.Act p) }) }
         ensures idle { IfOk result (λ made. made ≡ false → step (cast_at self.old) self.old.state (Event.Act p) ≡ self.old.state) }
@@ -127,9 +167,34 @@ impl World {
             ⊎ (self.new.state.book ≡ (step (cast_at self.old) self.old.state (Event.Act p)).book)) }
     {
         let Actor::Conforming(machine) = &mut self.actors[p as usize] else {
-            return Ok(false);
+            unreachable!();
         };
         let done = turn::act(machine, &mut self.ledgers);
+        self.stopped = done.is_err();
+        done
+    }
+
+    /// Lets a party act that doesn't conform: one that follows a script makes its next call.
+    fn follow(&mut self, p: PartyId) -> Result<(), NoMemory>
+        requires party { p < self.old.deal.graph.n }
+        requires deviates { conforms (cast_at self.old) p ≡ false }
+        requires goes_on { self.old.stopped ≡ false }
+        ensures ok { OnOk result (self.new ≡ record self.old { state = step (cast_at self.old) self.old.state (Event.Act p) }) }
+        ensures stopped { OnErr result (self.new.stopped ≡ true) }
+        ensures cast { OnErr result (cast_at self.new ≡ cast_at self.old) }
+        ensures book { OnErr result ((self.new.state.book ≡ self.old.state.book)
+            ⊎ (self.new.state.book ≡ (step (cast_at self.old) self.old.state (Event.Act p)).book)) }
+    {
+        let Actor::Planned(planner) = &mut self.actors[p as usize] else {
+            return Ok(());
+        };
+        let done = turn::follow(
+            planner,
+            &mut self.ledgers,
+            &self.deal,
+            self.seeds.as_slice(),
+            p,
+        );
         self.stopped = done.is_err();
         done
     }
@@ -143,12 +208,17 @@ impl World {
         ensures book { OnErr result ((self.new.state.book ≡ self.old.state.book)
             ⊎ (self.new.state.book ≡ (step (cast_at self.old) self.old.state (Event.Act p)).book)) }
     {
+        if !self.conforms(p) {
+            return self.follow(p);
+        }
         self.act_if_due(p)?;
         Ok(())
     }
 
-    fn make(&mut self, sender: PartyId, mv: &Move) -> Result<(), NoMemory>
+    /// Makes the move of a party that follows no script.
+    fn make_plain(&mut self, sender: PartyId, mv: &Move) -> Result<(), NoMemory>
         requires event { CanCall self.old.deal self.old.conforming self.old.seeds sender mv.now }
+        requires plain { is_planned (role_of (cast_at self.old) sender) ≡ false }
         requires goes_on { self.old.stopped ≡ false }
         ensures ok { OnOk result (self.new ≡ record self.old { state = step (cast_at self.old) self.old.state (Event.Call sender mv.now) }) }
         ensures err { OnErr result (self.new ≡ self.old) }
@@ -160,6 +230,29 @@ impl World {
             sender,
             mv,
         )
+    }
+
+    fn make(&mut self, sender: PartyId, mv: &Move) -> Result<(), NoMemory>
+        requires event { CanCall self.old.deal self.old.conforming self.old.seeds sender mv.now }
+        requires goes_on { self.old.stopped ≡ false }
+        ensures ok { OnOk result (self.new ≡ record self.old { state = step (cast_at self.old) self.old.state (Event.Call sender mv.now) }) }
+        ensures cast { OnErr result (cast_at self.new ≡ cast_at self.old) }
+        ensures book { OnErr result ((self.new.state.book ≡ self.old.state.book)
+            ⊎ (self.new.state.book ≡ (step (cast_at self.old) self.old.state (Event.Call sender mv.now)).book)) }
+    {
+        let Actor::Planned(planner) = &mut self.actors[sender as usize] else {
+            return self.make_plain(sender, mv);
+        };
+        let done = turn::make_by_hand(
+            planner,
+            &mut self.ledgers,
+            &self.deal,
+            self.seeds.as_slice(),
+            sender,
+            mv,
+        );
+        self.stopped = done.is_err();
+        done
     }
 
     /// Takes an event, where memory never ran out.
@@ -216,9 +309,9 @@ impl World {
         many::run(self, events)
     }
 
-    /// The fair finish: rounds until each ledger is above the horizon. In a round each party in its order looks at each arc that touches it and acts
-    /// until nothing is due, and then each ledger that isn't above the horizon ticks by one height. After want of memory every later step wants memory
-    /// too.
+    /// The fair finish: rounds until each ledger is above the horizon. In a round each party in its order looks at each arc that touches it and acts:
+    /// until nothing is due where it conforms, else once. Then each ledger that isn't above the horizon ticks by one height. After want of memory every
+    /// later step wants memory too.
     pub fn finish_fair(&mut self) -> Result<(), NoMemory>
         ensures ok { OnOk result (self.new ≡ record self.old { state = finish (cast_at self.old) self.old.state }) }
         ensures ended { OnOk result (IsEnded self.old.deal self.new.state.book) }

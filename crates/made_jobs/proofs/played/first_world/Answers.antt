@@ -1,5 +1,5 @@
 use Rattle.swap_gen.specs.Drawn.{generated}
-use Rattle.made_jobs.proofs.Playing.{goes_on_new, is_of_new, job_conforming, job_seeds, starts}
+use Rattle.made_jobs.proofs.Playing.{goes_on_new, is_of_new, job_conforming, job_roles, job_seeds, starts}
 use Rattle.made_jobs.proofs.played.first_world.Goals as goal
 
 pub new_world-requires-clause-conforming : goal.new_world-requires-clause-conforming
@@ -7,6 +7,9 @@ new_world-requires-clause-conforming c = job_conforming c.job.result.now c.args.
 
 pub new_world-requires-clause-seeds : goal.new_world-requires-clause-seeds
 new_world-requires-clause-seeds c = job_seeds c.job.result.now c.args.generator.now.seed c.args.generator.now.parties c.job.ensures.exact
+
+pub new_world-requires-clause-roles : goal.new_world-requires-clause-roles
+new_world-requires-clause-roles c = job_roles c.job.result.now c.args.generator.now.seed c.args.generator.now.parties c.job.ensures.exact
 
 pub returns-clause-of : goal.returns-clause-of
 returns-clause-of c =

@@ -1,6 +1,9 @@
 use Rattle.std.proofs.Common.{sym, ap, ◌∙◌}
-use Rattle.swap_main.proofs.Replays.{is_new}
+use Rattle.swap_main.proofs.Replays.{is_new, have_roles}
 use Rattle.swap_main.proofs.replay.new_world.Goals as goal
+
+pub new-requires-clause-roles : goal.new-requires-clause-roles
+new-requires-clause-roles c = have_roles c.args.job.now c.requires.whole.roles
 
 pub unreachable-requires : goal.unreachable-requires
 unreachable-requires c =
@@ -13,6 +16,7 @@ returns-in-Ok-clause-of c = let e = c.in-Ok.ensures.new in record {
   conforming = ap (λ w. w.conforming) e;
   seeds =
       ap (λ w. w.seeds) e;
+  roles = ap (λ w. w.roles) e;
 }
 
 pub returns-in-Ok-clause-state : goal.returns-in-Ok-clause-state

@@ -1,6 +1,6 @@
-use Rattle.std.proofs.Common.{◌<◌, ℕ, arith, sym, ap, ◌∙◌, subst}
+use Rattle.std.proofs.Common.{◌≡◌, ◌<◌, ℕ, true, arith, sym, ap, ◌∙◌, subst}
 use Rattle.deviator_script.specs.declared.event.Event.TheVariants.{Act}
-use Rattle.swap_run.specs.Run.{Cast, State, step}
+use Rattle.swap_run.specs.Run.{Cast, State, conforms, step}
 use Rattle.swap_run.specs.Fair.{most_acts}
 use Rattle.swap_world.specs.Value.{cast_at}
 use Rattle.swap_world.specs.Stopped.{IsStopped}
@@ -11,6 +11,9 @@ use Rattle.swap_world.proofs.fair.act_to_rest.Goals as goal
 
 abbrev act_of : ℕ → Cast → State → State
 act_of p x s = step x s (Act p)
+
+pub act_if_due-requires-clause-conforms : goal.act_if_due-requires-clause-conforms
+act_if_due-requires-clause-conforms c = subst (λ w. conforms (cast_at w) c.args.p ≡ true) (sym c.acts.invariant) c.requires.conforms
 
 pub returns-in_err-act_if_due-clause-err : goal.returns-in_err-act_if_due-clause-err
 returns-in_err-act_if_due-clause-err c =

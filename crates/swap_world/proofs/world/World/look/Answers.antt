@@ -1,13 +1,14 @@
-use Rattle.std.proofs.Common.{◌<◌, map, set, slice_index_or, false, None, sym, ap, subst}
+use Rattle.std.proofs.Common.{◌<◌, set, slice_index_or, false, None, sym, ap, subst}
 use Rattle.ledger_core.specs.Book.{history}
 use Rattle.deviator_script.specs.declared.event.Event.TheVariants.{Look}
+use Rattle.deviator_script.specs.declared.job.Role.TheVariants as kinds
 use Rattle.swap_laws.specs.Machine.{Begins}
 use Rattle.swap_world.specs.Acting.{histories}
-use Rattle.swap_world.specs.Inside.{notes_in, cast_in, state_in}
+use Rattle.swap_world.specs.Inside.{cast_in, state_in}
 use Rattle.swap_world.specs.declared.actor.Actor.TheVariants.{Conforming}
 use Rattle.swap_world.proofs.Ledgers.{on_ok, on_err, history_at}
-use Rattle.swap_world.proofs.States.{IsAt, actor_set, looked, same_notes}
-use Rattle.swap_world.proofs.Worlds.{world, state, good_on, found, same_owner, owned, begins, know}
+use Rattle.swap_world.proofs.States.{actor_set, same_actor, state, looked}
+use Rattle.swap_world.proofs.Worlds.{world, good_on, placed, same_owner, owned, begins, know}
 use Rattle.swap_world.proofs.world.World.look.Goals as goal
 
 pub learn-requires-clause-begins : goal.learn-requires-clause-begins
@@ -18,14 +19,14 @@ learn-requires-clause-begins c =
     let m = c.in-Conforming.machine in
     let can = rw (← c.self.view_is) at c.requires.event in
     let goes_on = rw (← c.self.view_is) at c.requires.goes_on in
-    let low = subst (λ n. c.args.p < n) (sym c.self.invariant.actors.one_each) can.known in
-    let here = found xs c.args.p c.index_mut.result.now m c.in-Conforming.is c.index_mut.ensures.value in
-    let place : IsAt i.deal i.conforming i.seeds ls xs c.args.p m =
-    record { below = low; here = here; is = c.self.invariant.actors.each c.args.p (Conforming m) low here } in
+    let place =
+    placed i.deal i.conforming i.seeds i.roles.items ls xs c.args.p c.index_mut.result.now m c.self.invariant.actors can.known c.in-Conforming.is
+    c.index_mut.ensures.value in
     let below = subst (λ n. c.args.arc < n) (sym c.self.invariant.ledgers.one_each) can.arc in
     let l = c.index.result.now in
     let k = c.self.invariant.ledgers.each c.args.arc l below c.index.ensures in
-    let b = begins i.deal i.conforming i.seeds ls xs c.self.invariant.ready (c.self.invariant.good goes_on) c.args.p can.known m place c.args.arc in
+    let b =
+    begins i.deal i.conforming i.seeds i.roles.items ls xs c.self.invariant.ready (c.self.invariant.good goes_on) c.args.p can.known m place c.args.arc in
     subst (λ a. Begins (history m.known a) l.history) (sym k.arc)
     (subst (λ h. Begins (history m.known c.args.arc) h) (history_at ls c.args.arc l below c.index.ensures) b)
 
@@ -37,27 +38,26 @@ invariant_of-self-2 c =
     let m = c.in-Conforming.machine in
     let can = rw (← c.self.view_is) at c.requires.event in
     let goes_on = rw (← c.self.view_is) at c.requires.goes_on in
-    let low = subst (λ n. c.args.p < n) (sym c.self.invariant.actors.one_each) can.known in
-    let here = found xs c.args.p c.index_mut.result.now m c.in-Conforming.is c.index_mut.ensures.value in
-    let place : IsAt i.deal i.conforming i.seeds ls xs c.args.p m =
-    record { below = low; here = here; is = c.self.invariant.actors.each c.args.p (Conforming m) low here } in
+    let place =
+    placed i.deal i.conforming i.seeds i.roles.items ls xs c.args.p c.index_mut.result.now m c.self.invariant.actors can.known c.in-Conforming.is
+    c.index_mut.ensures.value in
     let below = subst (λ n. c.args.arc < n) (sym c.self.invariant.ledgers.one_each) can.arc in
     let l = c.index.result.now in
     let k = c.self.invariant.ledgers.each c.args.arc l below c.index.ensures in
     let new = c.learn.new.machine in
-    let ns = map (notes_in i.deal) (set xs c.args.p (Conforming new)) in
     record {
       ready = c.self.invariant.ready;
       ledgers = c.self.invariant.ledgers;
-      actors = actor_set i.deal i.conforming i.seeds xs c.args.p (Conforming new) c.self.invariant.actors low
-          (owned i.deal (slice_index_or i.conforming c.args.p false) (slice_index_or i.seeds c.args.p None) c.args.p m new
+      actors = actor_set i.deal i.conforming i.seeds i.roles.items xs c.args.p (Conforming new) c.self.invariant.actors place.below
+          (owned i.deal (slice_index_or i.conforming c.args.p false) (slice_index_or i.seeds c.args.p None)
+          (slice_index_or i.roles.items c.args.p kinds.Manual) c.args.p m new
           (same_owner c.learn.result m new (set m.known c.args.arc (history (histories ls) c.args.arc))
           (on_ok c.learn.result (know m new ls c.args.arc l k.arc below c.index.ensures) c.learn.ensures.ok) c.learn.ensures.err) place.is);
-      good = λ g. good_on c.learn.result (cast_in i) (state_in i) (state i.deal i.conforming (histories ls) ns) (Look c.args.p c.args.arc)
-          (on_ok c.learn.result (λ e. looked i.deal i.conforming i.seeds ls xs c.args.p c.args.arc m new place
+      good = λ g. good_on c.learn.result (cast_in i) (state_in i) (state i.deal (set xs c.args.p (Conforming new)) (histories ls)) (Look c.args.p c.args.arc)
+          (on_ok c.learn.result (λ e. looked i.deal i.conforming i.seeds i.roles.items ls xs c.args.p c.args.arc m new place
           (know m new ls c.args.arc l k.arc below c.index.ensures e)) c.learn.ensures.ok)
-          (on_err c.learn.result (λ e. ap (λ x. state i.deal i.conforming (histories ls) x)
-          (same_notes i.deal i.conforming i.seeds ls xs c.args.p m new place e)) c.learn.ensures.err)
+          (on_err c.learn.result (λ e. same_actor i.deal i.conforming i.seeds i.roles.items ls xs c.args.p (Conforming m) (Conforming new) (histories ls)
+          place.here (ap (λ x. Conforming x) e)) c.learn.ensures.err)
           c.self.invariant.ready can (c.self.invariant.good g);
       kept = c.self.invariant.kept;
     }
@@ -70,18 +70,16 @@ returns-clause-ok c =
     let m = c.in-Conforming.machine in
     let can = rw (← c.self.view_is) at c.requires.event in
     let goes_on = rw (← c.self.view_is) at c.requires.goes_on in
-    let low = subst (λ n. c.args.p < n) (sym c.self.invariant.actors.one_each) can.known in
-    let here = found xs c.args.p c.index_mut.result.now m c.in-Conforming.is c.index_mut.ensures.value in
-    let place : IsAt i.deal i.conforming i.seeds ls xs c.args.p m =
-    record { below = low; here = here; is = c.self.invariant.actors.each c.args.p (Conforming m) low here } in
+    let place =
+    placed i.deal i.conforming i.seeds i.roles.items ls xs c.args.p c.index_mut.result.now m c.self.invariant.actors can.known c.in-Conforming.is
+    c.index_mut.ensures.value in
     let below = subst (λ n. c.args.arc < n) (sym c.self.invariant.ledgers.one_each) can.arc in
     let l = c.index.result.now in
     let k = c.self.invariant.ledgers.each c.args.arc l below c.index.ensures in
     let new = c.learn.new.machine in
-    let ns = map (notes_in i.deal) (set xs c.args.p (Conforming new)) in
     rw (← c.self.view_is)
-    (on_ok c.learn.result (λ e. ap (λ st. world i.deal i.conforming i.seeds i.stopped st)
-    (looked i.deal i.conforming i.seeds ls xs c.args.p c.args.arc m new place (know m new ls c.args.arc l k.arc below c.index.ensures e)))
+    (on_ok c.learn.result (λ e. ap (λ st. world i.deal i.conforming i.seeds i.roles.items i.stopped st)
+    (looked i.deal i.conforming i.seeds i.roles.items ls xs c.args.p c.args.arc m new place (know m new ls c.args.arc l k.arc below c.index.ensures e)))
     c.learn.ensures.ok)
 
 pub returns-clause-err : goal.returns-clause-err
@@ -92,15 +90,14 @@ returns-clause-err c =
     let m = c.in-Conforming.machine in
     let can = rw (← c.self.view_is) at c.requires.event in
     let goes_on = rw (← c.self.view_is) at c.requires.goes_on in
-    let low = subst (λ n. c.args.p < n) (sym c.self.invariant.actors.one_each) can.known in
-    let here = found xs c.args.p c.index_mut.result.now m c.in-Conforming.is c.index_mut.ensures.value in
-    let place : IsAt i.deal i.conforming i.seeds ls xs c.args.p m =
-    record { below = low; here = here; is = c.self.invariant.actors.each c.args.p (Conforming m) low here } in
+    let place =
+    placed i.deal i.conforming i.seeds i.roles.items ls xs c.args.p c.index_mut.result.now m c.self.invariant.actors can.known c.in-Conforming.is
+    c.index_mut.ensures.value in
     let below = subst (λ n. c.args.arc < n) (sym c.self.invariant.ledgers.one_each) can.arc in
     let l = c.index.result.now in
     let k = c.self.invariant.ledgers.each c.args.arc l below c.index.ensures in
     let new = c.learn.new.machine in
-    let ns = map (notes_in i.deal) (set xs c.args.p (Conforming new)) in
     rw (← c.self.view_is)
-    (on_err c.learn.result (λ e. ap (λ x. world i.deal i.conforming i.seeds i.stopped (state i.deal i.conforming (histories ls) x))
-    (same_notes i.deal i.conforming i.seeds ls xs c.args.p m new place e)) c.learn.ensures.err)
+    (on_err c.learn.result (λ e. ap (λ st. world i.deal i.conforming i.seeds i.roles.items i.stopped st)
+    (same_actor i.deal i.conforming i.seeds i.roles.items ls xs c.args.p (Conforming m) (Conforming new) (histories ls) place.here
+    (ap (λ x. Conforming x) e))) c.learn.ensures.err)

@@ -1,57 +1,112 @@
-use Rattle.std.proofs.Common.{◌≡◌, map, sym, ap, ◌∙◌, subst, inl, OnOk}
-use Rattle.ledger_core.specs.Book.{Histories}
-use Rattle.deviator_script.specs.declared.event.Event.TheVariants.{Call as Made}
+use Rattle.std.proofs.Common.{◌≡◌, ◌⊎◌, OnOk, OnErr, set, false, ◌∙◌, subst}
 use Rattle.deviator_script.specs.Resolved.{resolved}
+use Rattle.deviator_script.specs.declared.event.Event.TheVariants.{Call as Made}
 use Rattle.swap_laws.proofs.Accepted.{accepted_is_well_sized}
-use Rattle.swap_world.specs.Acting.{histories, taken}
-use Rattle.swap_world.specs.Inside.{notes_in, cast_in, state_in}
-use Rattle.swap_world.proofs.Plans.{take_is}
-use Rattle.swap_world.proofs.Ledgers.{on_ok, on_err}
-use Rattle.swap_world.proofs.Worlds.{world, state, good_on, kept_on}
+use Rattle.swap_world.specs.Acting.{histories, taken, seen}
+use Rattle.swap_world.specs.Inside.{cast_in, state_in}
+use Rattle.swap_world.specs.declared.actor.Actor.TheVariants.{Planned}
+use Rattle.swap_world.proofs.Ledgers.{on_err, either}
+use Rattle.swap_world.proofs.States.{actor_set, state, made_by_hand, made_book}
+use Rattle.swap_world.proofs.Worlds.{good_unless, kept_on, acted_on, both, plan_placed, knows_each}
 use Rattle.swap_world.proofs.world.World.make.Goals as goal
 
-pub make-requires-clause-sized : goal.make-requires-clause-sized
-make-requires-clause-sized c = accepted_is_well_sized c.self.inside.deal c.self.invariant.ready.accepted
+pub make_by_hand-done-requires-clause-sized : goal.make_by_hand-done-requires-clause-sized
+make_by_hand-done-requires-clause-sized c = accepted_is_well_sized c.self.inside.deal c.self.invariant.ready.accepted
 
-pub invariant_of-self : goal.invariant_of-self
-invariant_of-self c =
+pub make_by_hand-done-requires-clause-known : goal.make_by_hand-done-requires-clause-known
+make_by_hand-done-requires-clause-known c =
     let i = c.self.inside in
     let ls = i.ledgers.items in
-    let new = c.make.new.ledgers.items in
-    let ns = map (notes_in i.deal) i.actors.items in
+    let xs = i.actors.items in
+    let n = c.in-Planned.planner in
     let can = rw (← c.self.view_is) at c.requires.event in
-    let goes_on = rw (← c.self.view_is) at c.requires.goes_on in
-    let made = on_ok c.make.result (λ (e : histories new ≡ taken i.deal c.args.sender (resolved i.deal i.seeds (histories ls) c.args.mv.now) (histories ls)).
-    ap (λ (b : Histories). state i.deal i.conforming b ns) e
-    ∙ sym (take_is i.deal i.conforming i.seeds (state_in i) c.args.sender (resolved i.deal i.seeds (histories ls) c.args.mv.now)))
-    (subst (λ ss. OnOk c.make.result (histories new ≡ taken i.deal c.args.sender (resolved i.deal ss (histories ls) c.args.mv.now) (histories ls)))
-    c.as_slice.ensures c.make.ensures.ok) in
+    let goes_on : i.stopped ≡ false = rw (← c.self.view_is) at c.requires.goes_on in
+    let place =
+    plan_placed i.deal i.conforming i.seeds i.roles.items ls xs c.args.sender c.index_mut.result.now n c.self.invariant.actors can.known c.in-Planned.is
+    c.index_mut.ensures.value in
+    knows_each i.deal i.conforming i.seeds i.roles.items ls xs c.self.invariant.ready (c.self.invariant.good goes_on) c.args.sender can.known n place
+
+pub invariant_of-self-2 : goal.invariant_of-self-2
+invariant_of-self-2 c =
+    let i = c.self.inside in
+    let ls = i.ledgers.items in
+    let xs = i.actors.items in
+    let n = c.in-Planned.planner in
+    let can = rw (← c.self.view_is) at c.requires.event in
+    let goes_on : i.stopped ≡ false = rw (← c.self.view_is) at c.requires.goes_on in
+    let place =
+    plan_placed i.deal i.conforming i.seeds i.roles.items ls xs c.args.sender c.index_mut.result.now n c.self.invariant.actors can.known c.in-Planned.is
+    c.index_mut.ensures.value in
+    let new = c.make_by_hand-done.new.planner in
+    let b = histories c.make_by_hand-done.new.ledgers.items in
+    let ok =
+    subst (λ ss. OnOk c.make_by_hand-done.result (b ≡ taken i.deal c.args.sender (resolved i.deal ss (histories ls) c.args.mv.now) (histories ls)))
+    c.as_slice.ensures c.make_by_hand-done.ensures.ok in
+    let knows =
+    subst (λ ss. OnOk c.make_by_hand-done.result (new ≡ seen i.deal c.args.sender (resolved i.deal ss (histories ls) c.args.mv.now) (histories ls) n))
+    c.as_slice.ensures c.make_by_hand-done.ensures.knows in
+    let done =
+    both c.make_by_hand-done.result
+    (made_by_hand i.deal i.conforming i.seeds i.roles.items ls xs c.args.sender c.args.mv.now n new b place) ok knows in
+    let err =
+    on_err c.make_by_hand-done.result
+    (either (λ e. e) (λ e. e ∙ made_book i.deal i.conforming i.seeds i.roles.items ls xs c.args.sender c.args.mv.now n place))
+    (subst (λ ss. OnErr c.make_by_hand-done.result ((b ≡ histories ls)
+    ⊎ (b ≡ taken i.deal c.args.sender (resolved i.deal ss (histories ls) c.args.mv.now) (histories ls))))
+    c.as_slice.ensures c.make_by_hand-done.ensures.err) in
     record {
       ready = c.self.invariant.ready;
-      ledgers = c.make.ensures.ledgers;
-      actors = c.self.invariant.actors;
-      good = λ g. good_on c.make.result (cast_in i) (state_in i) (state i.deal i.conforming (histories new) ns) (Made c.args.sender c.args.mv.now) made
-          (on_err c.make.result (λ e. ap (λ b. state i.deal i.conforming b ns) e) c.make.ensures.err) c.self.invariant.ready can (c.self.invariant.good g);
-      kept = kept_on c.make.result (cast_in i) (state_in i) (state i.deal i.conforming (histories new) ns) (Made c.args.sender c.args.mv.now) made
-          (on_err c.make.result (λ e. inl e) c.make.ensures.err) c.self.invariant.ready can (c.self.invariant.good goes_on);
+      ledgers = c.make_by_hand-done.ensures.ledgers;
+      actors = actor_set i.deal i.conforming i.seeds i.roles.items xs c.args.sender (Planned new) c.self.invariant.actors place.below place.is;
+      good = λ g. good_unless c.make_by_hand-done.result c.is_err-self-inside.result (cast_in i) (state_in i)
+          (state i.deal (set xs c.args.sender (Planned new)) b) (Made c.args.sender c.args.mv.now) c.is_err-self-inside.ensures.value g done
+          c.self.invariant.ready can (c.self.invariant.good goes_on);
+      kept = kept_on c.make_by_hand-done.result (cast_in i) (state_in i) (state i.deal (set xs c.args.sender (Planned new)) b)
+          (Made c.args.sender c.args.mv.now) done err c.self.invariant.ready can (c.self.invariant.good goes_on);
     }
 
 pub returns-clause-ok : goal.returns-clause-ok
 returns-clause-ok c =
     let i = c.self.inside in
     let ls = i.ledgers.items in
-    let new = c.make.new.ledgers.items in
-    let ns = map (notes_in i.deal) i.actors.items in
+    let xs = i.actors.items in
+    let n = c.in-Planned.planner in
+    let can = rw (← c.self.view_is) at c.requires.event in
+    let goes_on : i.stopped ≡ false = rw (← c.self.view_is) at c.requires.goes_on in
+    let place =
+    plan_placed i.deal i.conforming i.seeds i.roles.items ls xs c.args.sender c.index_mut.result.now n c.self.invariant.actors can.known c.in-Planned.is
+    c.index_mut.ensures.value in
+    let new = c.make_by_hand-done.new.planner in
+    let b = histories c.make_by_hand-done.new.ledgers.items in
+    let ok =
+    subst (λ ss. OnOk c.make_by_hand-done.result (b ≡ taken i.deal c.args.sender (resolved i.deal ss (histories ls) c.args.mv.now) (histories ls)))
+    c.as_slice.ensures c.make_by_hand-done.ensures.ok in
+    let knows =
+    subst (λ ss. OnOk c.make_by_hand-done.result (new ≡ seen i.deal c.args.sender (resolved i.deal ss (histories ls) c.args.mv.now) (histories ls) n))
+    c.as_slice.ensures c.make_by_hand-done.ensures.knows in
+    let done =
+    both c.make_by_hand-done.result
+    (made_by_hand i.deal i.conforming i.seeds i.roles.items ls xs c.args.sender c.args.mv.now n new b place) ok knows in
     rw (← c.self.view_is)
-    (on_ok c.make.result (λ (e : histories new ≡ taken i.deal c.args.sender (resolved i.deal i.seeds (histories ls) c.args.mv.now) (histories ls)).
-    ap (λ s. world i.deal i.conforming i.seeds i.stopped s) (ap (λ (b : Histories). state i.deal i.conforming b ns) e
-    ∙ sym (take_is i.deal i.conforming i.seeds (state_in i) c.args.sender (resolved i.deal i.seeds (histories ls) c.args.mv.now))))
-    (subst (λ ss. OnOk c.make.result (histories new ≡ taken i.deal c.args.sender (resolved i.deal ss (histories ls) c.args.mv.now) (histories ls)))
-    c.as_slice.ensures c.make.ensures.ok))
+    (acted_on c.make_by_hand-done.result i.deal i.conforming i.seeds i.roles.items i.stopped c.is_err-self-inside.result _ _
+    c.is_err-self-inside.ensures.value goes_on done)
 
-pub returns-clause-err : goal.returns-clause-err
-returns-clause-err c =
+pub returns-clause-book : goal.returns-clause-book
+returns-clause-book c =
     let i = c.self.inside in
-    let ns = map (notes_in i.deal) i.actors.items in
-    rw (← c.self.view_is) (on_err c.make.result (λ e. ap (λ b. world i.deal i.conforming i.seeds i.stopped (state i.deal i.conforming b ns)) e)
-    c.make.ensures.err)
+    let ls = i.ledgers.items in
+    let xs = i.actors.items in
+    let n = c.in-Planned.planner in
+    let can = rw (← c.self.view_is) at c.requires.event in
+    let goes_on : i.stopped ≡ false = rw (← c.self.view_is) at c.requires.goes_on in
+    let place =
+    plan_placed i.deal i.conforming i.seeds i.roles.items ls xs c.args.sender c.index_mut.result.now n c.self.invariant.actors can.known c.in-Planned.is
+    c.index_mut.ensures.value in
+    let b = histories c.make_by_hand-done.new.ledgers.items in
+    let err =
+    on_err c.make_by_hand-done.result
+    (either (λ e. e) (λ e. e ∙ made_book i.deal i.conforming i.seeds i.roles.items ls xs c.args.sender c.args.mv.now n place))
+    (subst (λ ss. OnErr c.make_by_hand-done.result ((b ≡ histories ls)
+    ⊎ (b ≡ taken i.deal c.args.sender (resolved i.deal ss (histories ls) c.args.mv.now) (histories ls))))
+    c.as_slice.ensures c.make_by_hand-done.ensures.err) in
+    rw (← c.self.view_is) err

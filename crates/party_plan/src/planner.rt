@@ -1,0 +1,116 @@
+//! What a party knows and plans that follows a script or a strategy.
+
+ghost use Rattle.std.specs.Prelude.{◌≡◌, ◌<◌, ◌+◌, true, length, replicate, [], IfOk, OnOk, OnErr};
+ghost use Rattle.swap_digraph.specs.Deal.{IsWellSized};
+ghost use Rattle.deviator_script.specs.Script.{next_call, moves_left};
+ghost use Rattle.deviator_script.specs.View.{IsView, MayAnswer};
+ghost use Rattle.swap_run.specs.Run.{no_histories, plan_up_to};
+ghost use Rattle.party_plan.specs.Shown.{IsShown};
+
+use deviator_script::{MoveList, Script, Strategies};
+use ledger_core::{Book, Call, EntryList};
+use std::alloc::Global;
+use std::marker::Model;
+use std::mem;
+use swap_base::{ArcId, ByteText, Digest, Listed, NoMemory, PartyId};
+use swap_digraph::Deal;
+
+/// What a party knows of each ledger, the moves that are left of its script, and how often it acted.
+#[derive(Drop)]
+pub struct Planner {
+    known: Book,
+    script: Script,
+    turns: u32,
+}
+
+impl Model for Planner {
+    ghost use Rattle.swap_run.specs.Run.{Plan};
+
+    ghost Value = { Plan };
+
+    ghost view = { λ p. record { known = p.known.histories; moves = p.script; turns = p.turns } };
+}
+
+/// Empty histories, one per arc.
+fn nothing_known(alloc: Global, deal: &Deal) -> Result<Book, NoMemory>
+    ensures { IfOk result (λ b. b.histories ≡ no_histories deal.now) }
+{
+    let mut histories = Vec::new(alloc);
+    'arcs: for _arc in 0..deal.graph.arcs().len() {
+        histories.push(EntryList::empty(alloc))?;
+    }
+    Ok(Book {
+        histories: Listed::new(histories),
+    })
+}
+
+impl Planner {
+    /// A party that has seen nothing, with its script at its first move.
+    pub fn new(alloc: Global, deal: &Deal, moves: MoveList) -> Result<Planner, NoMemory>
+        ensures { IfOk result (λ p. p ≡ record { known = no_histories deal.now; moves = moves; turns = 0 }) }
+    {
+        Ok(Planner {
+            known: nothing_known(alloc, deal)?,
+            script: Script::new(moves),
+            turns: 0,
+        })
+    }
+
+    /// Lets the party know a ledger up to its end, which takes no memory.
+    pub fn see(&mut self, arc: ArcId, history: EntryList)
+        requires { arc < length self.old.known }
+        ensures { self.new ≡ plan_up_to self.old arc history }
+    {
+        let alloc = self.known.histories.allocator();
+        let mut histories = mem::replace(
+            &mut self.known.histories,
+            Listed::empty(alloc),
+        ).into_vec();
+        histories[arc as usize] = history;
+        self.known.histories = Listed::new(histories);
+    }
+
+    /// The next call of the party's script, if any. The party has acted once more; after want of memory everything is as it was.
+    pub fn follow(
+        &mut self,
+        deal: &Deal,
+        me: PartyId,
+        seeds: &[Option<Digest>],
+    ) -> Result<Option<(ArcId, Call)>, NoMemory>
+        requires shown { IsShown deal.now seeds.now me self.old }
+        ensures exact { IfOk result (λ o. o ≡ next_call deal.now seeds.now self.old.known self.old.moves) }
+        ensures turned { OnOk result (self.new ≡ record self.old { moves = moves_left self.old.known self.old.moves; turns = self.old.turns + 1 }) }
+        ensures fits { IfOk result (MayAnswer deal.now me) }
+        ensures err { OnErr result (self.new ≡ self.old) }
+    {
+        if self.turns == u32::MAX {
+            return Err(NoMemory);
+        }
+        let call = self.script.next(deal, me, self.turns, &self.known, seeds)?;
+        self.turns += 1;
+        Ok(call)
+    }
+
+    /// The call that the party's strategy answers, if any. The party has acted once more; after want of memory everything is as it was.
+    pub fn ask<K: Strategies>(
+        &mut self,
+        kit: &K,
+        name: &ByteText,
+        deal: &Deal,
+        me: PartyId,
+    ) -> Result<Option<(ArcId, Call)>, NoMemory>
+        requires holds { K.holds kit.now name.now ≡ true }
+        requires view { IsView deal.now me self.old.known }
+        ensures gives { IfOk result (K.gives kit.now name.now deal.now me self.old.turns self.old.known) }
+        ensures turned { OnOk result (self.new ≡ record self.old { turns = self.old.turns + 1 }) }
+        ensures fits { IfOk result (MayAnswer deal.now me) }
+        ensures err { OnErr result (self.new ≡ self.old) }
+    {
+        if self.turns == u32::MAX {
+            return Err(NoMemory);
+        }
+        let call = kit.answer(name, deal, me, self.turns, &self.known)?;
+        self.turns += 1;
+        Ok(call)
+    }
+}
