@@ -1,8 +1,8 @@
 -- What a pass has seen, and what it learns.
-use Rattle.std.proofs.Common.{◌≡◌, ◌≢◌, ℕ, zero, suc, ◌+◌, ◌≤◌, ◌<◌, ◌==◌, ◌||◌, Bool, true, false, true≢false, IsTrue, List, [], ◌∷◌, ◌++◌, length, take}
+use Rattle.std.proofs.Common.{◌≡◌, ◌≢◌, ℕ, ◌+◌, ◌≤◌, ◌==◌, ◌||◌, Bool, true, false, true≢false, IsTrue, List, [], ◌∷◌, ◌++◌, length, take}
 use Rattle.std.proofs.Common.{drop, filter, refl, sym, ap, ◌∙◌, subst, arith, append-nil, append_assoc, if◌then◌else◌, eqb-true, eq-eqb, ne_eqb}
 use Rattle.std.proofs.lemmas.List.{take_all}
-use Rattle.std.proofs.lemmas.List.{take-append-drop, take-append-le, drop-append-le, length-append}
+use Rattle.std.proofs.lemmas.List.{take-append-drop, take-append-le, length-append}
 use Rattle.std.proofs.lemmas.List.Elements.{filter-append}
 use Rattle.std.specs.List.{AllByRecursion}
 use mathlib.Core.List.{IsPrefix}
@@ -93,6 +93,17 @@ rests_all s n m h r pre is = record { idle = refl; began = prefix_trans s.shared
 
 pub rests_kept : (s : SeatState) (n : ℕ) (h : List Entry) → Rests s n → IsPrefix s.known h → Rests (knowing s false h) n
 rests_kept s n h r pre = record { idle = refl; began = prefix_trans s.shared s.known h r.began pre; within = within_too n s.known h r.within pre }
+
+-- A ledger that is lent from its box is the one in it.
+
+pub goes_as : (s : SeatState) (l lent : LedgerState) → lent ≡ l → GoesOn s l → GoesOn s lent
+goes_as s l lent e g = subst (GoesOn s) (sym e) g
+
+pub turned_as : (s mid : SeatState) (l lent : LedgerState) → lent ≡ l → mid ≡ knowing s true l.history → mid ≡ knowing s true lent.history
+turned_as s mid l lent e turn = turn ∙ ap (λ (x : LedgerState). knowing s true x.history) (sym e)
+
+pub counted_as : (n : ℕ) (l lent : LedgerState) → lent ≡ l → n ≡ length lent.history → n ≡ length l.history
+counted_as n l lent e is = is ∙ ap (λ (x : LedgerState). length x.history) e
 
 -- nothing was added
 pub unchanged : (s mid : SeatState) (l : LedgerState) (h : List Entry) → mid ≡ knowing s true l.history → h ≡ l.history → IsContinued mid h

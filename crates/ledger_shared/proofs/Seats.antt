@@ -1,7 +1,6 @@
 -- Seats whose histories are lines.
-use Rattle.std.proofs.Common.{◌≡◌, ℕ, zero, suc, ◌+◌, ◌<◌, ◌==◌, Bool, true, false, IsTrue, List, [], ◌∷◌, ◌++◌, length, refl, sym, ap, ◌∙◌, subst, arith}
+use Rattle.std.proofs.Common.{◌≡◌, ℕ, zero, suc, ◌<◌, Bool, true, false, IsTrue, List, [], ◌∷◌, ◌++◌, refl, sym, ap, ◌∙◌, subst, arith}
 use Rattle.std.specs.List.{AllByRecursion}
-use mathlib.Core.List.{IsPrefix}
 use Rattle.atomic_table.specs.Seated.{TableId}
 use Rattle.turn_lock.specs.Parts.{IsContinuedBy, has_number, Covers, Part}
 use Rattle.atomic_table.specs.declared.shared.Seat.{Seat}
@@ -14,7 +13,7 @@ use Rattle.ledger_core.specs.Value.{LedgerState}
 use Rattle.ledger_shared.specs.declared.shelf.Line.{Line}
 use Rattle.ledger_shared.specs.declared.shelf.Line.TheVariants.{Head}
 use Rattle.ledger_shared.specs.declared.shelf.Shelf.{Shelf}
-use Rattle.ledger_shared.specs.Lines.{side_of, entries_on, made_lines, lines, author_of, entries_in, deal_in, arc_in}
+use Rattle.ledger_shared.specs.Lines.{entries_on, made_lines, lines, author_of}
 use Rattle.ledger_shared.specs.Seat.{SeatState, state_of, at, IsAt, knowing, new_seat, GoesOn, IsContinued}
 use Rattle.ledger_shared.proofs.Lines.{unmade, made_append, all_made, same_deal, same_arc, goes_longer, goes_on}
 

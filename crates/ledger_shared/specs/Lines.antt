@@ -1,5 +1,5 @@
 -- What the lock keeps of a ledger: a line on its deal and its arc, which stay, and then each entry.
-use Rattle.std.specs.Prelude.{ℕ, ◌==◌, Bool, List, [], ◌∷◌, filter, if◌then◌else◌}
+use Rattle.std.specs.Prelude.{ℕ, ◌==◌, List, [], ◌∷◌, filter, if◌then◌else◌}
 use Rattle.swap_digraph.specs.declared.deal.Deal.{Deal}
 use Rattle.swap_digraph.specs.declared.deal.Mode.TheVariants.{Timelocks}
 use Rattle.swap_digraph.specs.declared.deal.Version.TheVariants.{One}

@@ -1,10 +1,8 @@
 -- What the fields of a pass mean, and what holds of them.
-use Rattle.std.specs.Prelude.{◌≡◌, ◌≢◌, ◌≤◌, ◌==◌, ◌||◌, ℕ, false, IsTrue, List, length, take}
+use Rattle.std.specs.Prelude.{◌≡◌, ◌≢◌, ◌≤◌, ◌==◌, ◌||◌, ℕ, false, IsTrue, length, take}
 use mathlib.Core.List.{IsPrefix}
 use Rattle.swap_digraph.specs.Deal.{party, counterparty}
-use Rattle.ledger_core.specs.declared.entry.Entry.{Entry}
 use Rattle.ledger_core.specs.declared.entry.Sender.{Sender}
-use Rattle.ledger_core.specs.declared.entry.Sender.TheVariants.{Party}
 use Rattle.ledger_core.specs.History.{sent_by}
 use Rattle.ledger_shared.specs.Lines.{side_of}
 use Rattle.ledger_shared.specs.Seat.{SeatState}

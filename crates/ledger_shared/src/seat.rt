@@ -35,6 +35,16 @@ pub(crate) struct Seated {
     pub clock: LedgerSeat,
 }
 
+fn shelved(alloc: Global, ledger: Ledger) -> Result<Shelf, Ledger>
+    ensures shelf { IfOk result (λ s. s.ledger.value ≡ ledger) }
+    ensures back { IfErr result (λ l. l ≡ ledger) }
+{
+    match Box::new(alloc, ledger) {
+        Ok(ledger) => Ok(Shelf { ledger }),
+        Err(failed) => Err(failed.value),
+    }
+}
+
 /// A lock round the ledger, with the seats of the arc's party, of its counterparty and of the clock. Without memory the ledger comes back.
 pub(crate) fn seat_three<R: Wait>(rt: &R, alloc: Global, ledger: Ledger) -> Result<Seated, Ledger>
     ensures first { IfOk result (λ s. s.first ≡ new_seat s.lock.lock ledger 0) }
@@ -43,7 +53,11 @@ pub(crate) fn seat_three<R: Wait>(rt: &R, alloc: Global, ledger: Ledger) -> Resu
     ensures three { IfOk result (λ s. s.lock.seats ≡ 3) }
     ensures back { IfErr result (λ l. l ≡ ledger) }
 {
-    match TurnLock::new(rt, alloc, Shelf { ledger }, 3) {
+    let shelf = match shelved(alloc, ledger) {
+        Ok(shelf) => shelf,
+        Err(ledger) => return Err(ledger),
+    };
+    match TurnLock::new(rt, alloc, shelf, 3) {
         Ok((lock, seats)) => {
             let (first, second, clock) = three(seats);
             Ok(Seated {
@@ -55,7 +69,7 @@ pub(crate) fn seat_three<R: Wait>(rt: &R, alloc: Global, ledger: Ledger) -> Resu
         }
         Err(back) => {
             let ValueBack { value } = back;
-            Err(value.ledger)
+            Err(Box::into_inner(value.ledger))
         }
     }
 }
@@ -72,24 +86,29 @@ fn three<X: Drop>(mut list: Vec<X>) -> (X, X, X)
 }
 
 /// Waits for the turn, and gives the ledger.
-pub(crate) fn take<R: Wait>(rt: &R, lock: &TurnLock<Shelf>, seat: &mut LedgerSeat) -> Ledger
+pub(crate) fn take<R: Wait>(rt: &R, lock: &TurnLock<Shelf>, seat: &mut LedgerSeat) -> Box<Ledger>
     requires lock { seat.old.lock ≡ lock.now.lock }
     requires idle { seat.old.holds ≡ false }
-    ensures turn { seat.new ≡ knowing seat.old true result.history }
-    ensures ledger { GoesOn seat.old result }
+    ensures turn { seat.new ≡ knowing seat.old true result.value.history }
+    ensures ledger { GoesOn seat.old result.value }
 {
     let Shelf { ledger } = lock.take(rt, &mut seat.seat);
     ledger
 }
 
 /// Gives the turn back, where each further entry is of the seat's side.
-pub(crate) fn give<R: Wait>(rt: &R, lock: &TurnLock<Shelf>, seat: &mut LedgerSeat, ledger: Ledger)
+pub(crate) fn give<R: Wait>(
+    rt: &R,
+    lock: &TurnLock<Shelf>,
+    seat: &mut LedgerSeat,
+    ledger: Box<Ledger>,
+)
     requires lock { seat.old.lock ≡ lock.now.lock }
     requires turn { seat.old.holds ≡ true }
-    requires deal { ledger.deal ≡ seat.old.deal }
-    requires arc { ledger.arc ≡ seat.old.arc }
-    requires further { IsContinued seat.old ledger.history }
-    ensures { seat.new ≡ knowing seat.old false ledger.history }
+    requires deal { ledger.value.deal ≡ seat.old.deal }
+    requires arc { ledger.value.arc ≡ seat.old.arc }
+    requires further { IsContinued seat.old ledger.value.history }
+    ensures { seat.new ≡ knowing seat.old false ledger.value.history }
 {
     lock.give(rt, &mut seat.seat, Shelf { ledger });
 }
@@ -113,5 +132,5 @@ pub(crate) fn close(
     lock.join(&mut all, second.seat);
     lock.join(&mut all, clock.seat);
     let Shelf { ledger } = lock.close(all);
-    ledger
+    Box::into_inner(ledger)
 }

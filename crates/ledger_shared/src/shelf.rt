@@ -13,9 +13,10 @@ pub enum Line {
     Made(u8, Entry),
 }
 
+/// The ledger lies in a box, so that what goes out of the lock and back is a pointer.
 #[derive(Drop)]
 pub struct Shelf {
-    pub ledger: Ledger,
+    pub ledger: Box<Ledger>,
 }
 
 impl Journal for Shelf {
@@ -23,7 +24,7 @@ impl Journal for Shelf {
 
     ghost use Rattle.ledger_shared.specs.Lines.{lines, author_of};
 
-    ghost history = { λ s. lines s.ledger.deal s.ledger.arc s.ledger.history };
+    ghost history = { λ s. lines s.ledger.value.deal s.ledger.value.arc s.ledger.value.history };
 
     ghost author = { author_of };
 

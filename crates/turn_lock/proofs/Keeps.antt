@@ -1,5 +1,5 @@
 -- Each step keeps the rule.
-use Rattle.std.proofs.Common.{◌≡◌, ◌≢◌, ℕ, zero, suc, ◌+◌, ◌*◌, ◌/◌, ◌%◌, ◌<◌, ◌^◌, ◌==◌, ◌||◌, eqb, true, false, true≢false, IsTrue, List, [], ◌∷◌, ◌++◌}
+use Rattle.std.proofs.Common.{◌≡◌, ◌≢◌, ℕ, zero, suc, ◌+◌, ◌*◌, ◌/◌, ◌%◌, ◌<◌, ◌^◌, ◌==◌, ◌||◌, eqb, Bool, true, false, true≢false, IsTrue, List, [], ◌∷◌, ◌++◌}
 use Rattle.std.proofs.Common.{length, get_or, set, Option, Some, None, refl, sym, ap, ◌∙◌, subst, ⊎_elim, arith, ne_eqb, eq-eqb, bit_or, w64}
 use Rattle.std.specs.Int.{bit_at}
 use Rattle.std.specs.List.{AllByRecursion}
@@ -17,8 +17,8 @@ use Rattle.atomic_table.specs.Seated.{TableId}
 use Rattle.atomic_table.specs.declared.shared.Seat.{Seat}
 use Rattle.turn_lock.specs.declared.view.View.{View}
 use Rattle.turn_lock.specs.Parts.{entries_by, IsContinuedBy, AreBelow, Part, has_number, known_in, Covers}
-use Rattle.turn_lock.specs.Turns.{Phase, early, home, out, turn_word, slot_in, fresh, spent, resting, turning, both_of, IsOwn, Knows, Stands, IsKept, Sat}
-use Rattle.turn_lock.specs.Turns.{idle, Claims, ClaimsFirst, Takes, Counts, Gives, SeatsFrom}
+use Rattle.turn_lock.specs.Turns.{Phase, early, home, out, mark, turn_word, slot_in, fresh, spent, resting, turning, both_of, IsOwn, Knows, Stands, IsKept, Sat}
+use Rattle.turn_lock.specs.Turns.{idle, Claims, ClaimsFirst, Takes, Asks, Gives, SeatsFrom}
 use Rattle.turn_lock.proofs.Histories.{prefix_self, prefix_trans, all_map, all_append, others_stay, none_above}
 
 off : false ≡ true → ⊥
@@ -84,7 +84,7 @@ module _ {T E : Type 0} (history : T → List E) (author : E → ℕ) (start : L
   abbrev Sees : (ℕ → ℕ) → Phase T → List E → ℕ → ℕ → View E → Type 0
   Sees = Knows history author start seats
 
-  word_0 : (s : St) (r : Rule s) → get_or s.words 0 0 ≡ turn_word r.phase (length r.current)
+  word_0 : (s : St) (r : Rule s) → get_or s.words 0 0 ≡ turn_word r.phase r.waited (length r.current)
   word_0 s r = ap (λ ws. get_or ws 0 0) r.words
 
   word_1 : (s : St) (r : Rule s) → get_or s.words 1 0 ≡ r.claimed
@@ -107,12 +107,13 @@ module _ {T E : Type 0} (history : T → List E) (author : E → ℕ) (start : L
         t.1;
   }) (λ k. (sym (set-get_or s.words i 0) k, sym (set_again s.views id v at) k)) r
 
-  pub begins : (words : List ℕ) → words ≡ (2 * length start + 1) ∷ 0 ∷ [] → AreBelow author seats start → Rule (opening words (None ∷ []) (fresh start))
+  pub begins : (words : List ℕ) → words ≡ (4 * length start + 1) ∷ 0 ∷ [] → AreBelow author seats start → Rule (opening words (None ∷ []) (fresh start))
   begins words ws below = record {
     phase = early;
     current = start;
     claimed = 0;
     owner = λ n. 0;
+    waited = false;
     words = ws;
     homes = refl;
     stands = (refl, bit_at-zero 0);
@@ -140,6 +141,7 @@ module _ {T E : Type 0} (history : T → List E) (author : E → ℕ) (start : L
         current = r.current;
         claimed = r.claimed;
         owner = r.owner;
+        waited = r.waited;
         words = r.words;
         homes = r.homes;
         stands = stays_out r.current r.claimed s.views (s.views ++ f ∷ []) r.phase (λ j v _ e. at_longer s.views (f ∷ []) j v e) r.stands;
@@ -153,14 +155,47 @@ module _ {T E : Type 0} (history : T → List E) (author : E → ℕ) (start : L
       } in
       subst (λ (vs : List (View E)). Rule record { words = s.words; homes = s.homes; views = vs ++ f ∷ [] }) (sym same) all
 
-  pub counts : (slots id k : ℕ) (o h : List E) (c : List (ℕ × Option T)) → Allows Rule slots id (
-    turning o k h,
-    c,
-  ) 0 (λ n. n) (Counts {T = T} (step slots 0 0 0 core.none) (turning o k h, c))
-  counts slots id k o h c s r _ at _ = let turn = (r.views id (turning o k h) at).turn refl in
-      let is : get_or s.words 0 0 ≡ 2 * length h + 1 = word_0 s r ∙ (ap (λ (p : Phase T). turn_word p (length r.current)) turn.0
-      ∙ ap (λ (ps : List (Part E)). 2 * length (known_in ps) + 1) (sym turn.1.1)) in
-      (turning o k h, keeps, tt, unmoved s r 0 id c (turning o k h) at, (refl, is))
+  -- the word of a turn that is out, with which the word of that a seat waits for it
+  asked : (p : Phase T) (w : Bool) (c word next : ℕ) → turn_word p w c ≡ word → word % 4 ≡ 1 → next ≡ word + 2 → next ≡ turn_word p true c
+  asked early false c word next is odd more = omega arith
+  asked early true c word next is odd more = absurd (omega arith)
+  asked (home x) w c word next is odd more = absurd (omega arith)
+  asked (out j) false c word next is odd more = omega arith
+  asked (out j) true c word next is odd more = absurd (omega arith)
+
+  waited_for : (s : St) (r : Rule s) (word next : ℕ) → word % 4 ≡ 1 → next ≡ word + 2 → get_or s.words 0 0 ≡ word
+      → Rule record { words = set s.words 0 next; homes = s.homes; views = s.views }
+  waited_for s r word next odd more found = record {
+    phase = r.phase;
+    current = r.current;
+    claimed = r.claimed;
+    owner = r.owner;
+    waited = true;
+    words = ap (λ ws. set ws 0 next) r.words ∙ ap (λ (n : ℕ). n ∷ r.claimed ∷ [])
+        (asked r.phase r.waited (length r.current) word next (sym (word_0 s r) ∙ found) odd more);
+    homes = r.homes;
+    stands = r.stands;
+    started = r.started;
+    unclaimed = r.unclaimed;
+    authors = r.authors;
+    views = r.views;
+  }
+
+  pub asks : (slots id word next : ℕ) (m : Sat T E) → word % 4 ≡ 1 → next ≡ word + 2
+      → Allows Rule slots id m 0 (λ n. either (n == word) next n) (Asks {T = T} (step slots 0 word next core.none) m)
+  asks slots id word next m odd more s r _ at _ =
+      let F : ℕ → Type 0 = λ n. (w : View E) × (a : Act (Option T)) × Valid s.homes m.1 a × Rule (stepped s 0 n id m.1 w a)
+      × Asks {T = T} (step slots 0 word next core.none) m (get_or s.words 0 0) (w, carried_after m.1 a) in
+      exchanged (get_or s.words 0 0) word next F
+      (λ found. (
+        m.0,
+        keeps,
+        tt,
+        subst (λ (vs : List (View E)). Rule record { words = set s.words 0 next; homes = s.homes; views = vs }) (sym (set_again s.views id m.0 at))
+            (waited_for s r word next odd more found),
+        refl,
+      ))
+      (λ _. (m.0, keeps, tt, unmoved s r 0 id m.1 m.0 at, refl))
 
   -- the views of others, where the phase, the history, the claims and the owners change
   others_see : (owner owner' : ℕ → ℕ) (phase phase' : Phase T) (current current' : List E) (claimed claimed' j : ℕ) (v : View E)
@@ -172,31 +207,36 @@ module _ {T E : Type 0} (history : T → List E) (author : E → ℕ) (start : L
     own = all_map (Own owner current claimed j) (Own owner' current' claimed' j) go v.parts k.own;
   }
 
-  even_at_home : (s : St) (r : Rule s) (word : ℕ) → word % 2 ≡ 0 → get_or s.words 0 0 ≡ word → (x : T) × (r.phase ≡ home x)
-  even_at_home s r word even is = go r.phase (sym (word_0 s r) ∙ is) refl
-    where
-      go : (p : Phase T) → turn_word p (length r.current) ≡ word → r.phase ≡ p → (x : T) × (r.phase ≡ home x)
-      go early w e = absurd (omega arith)
-      go (home x) w e = (x, e)
-      go (out j) w e = absurd (omega arith)
+  -- a word that says that the turn is out is no multiple of four
+  marked : (w : Bool) (c word : ℕ) → 4 * c + mark w ≡ word → word % 4 ≡ 0 → ⊥
+  marked false c word is free = omega arith
+  marked true c word is free = omega arith
 
-  pub takes_turn : (slots id k word : ℕ) (o h : List E) → word % 2 ≡ 0
-      → Allows Rule slots id (idle o k h) 0 (λ n. either (n == word) (word + 1) n) (Takes history author (step slots 0 word (word + 1) core.none) (idle o k h))
-  takes_turn slots id k word o h even s r _ at _ =
+  free_at_home : (s : St) (r : Rule s) (word : ℕ) → word % 4 ≡ 0 → get_or s.words 0 0 ≡ word → (x : T) × (r.phase ≡ home x)
+  free_at_home s r word free is = go r.phase (sym (word_0 s r) ∙ is) refl
+    where
+      go : (p : Phase T) → turn_word p r.waited (length r.current) ≡ word → r.phase ≡ p → (x : T) × (r.phase ≡ home x)
+      go early w e = absurd (marked r.waited (length r.current) word w free)
+      go (home x) w e = (x, e)
+      go (out j) w e = absurd (marked r.waited (length r.current) word w free)
+
+  pub takes_turn : (slots id k word next : ℕ) (waited : Bool) (o h : List E) → word % 4 ≡ 0 → next ≡ word + mark waited
+      → Allows Rule slots id (idle o k h) 0 (λ n. either (n == word) next n) (Takes history author (step slots 0 word next core.none) (idle o k h))
+  takes_turn slots id k word next waited o h free more s r _ at _ =
       let F : ℕ → Type 0 = λ n. (w : View E) × (a : Act (Option T)) × Valid s.homes [] a × Rule (stepped s 0 n id [] w a)
-      × Takes history author (step slots 0 word (word + 1) core.none) (idle o k h) (get_or s.words 0 0) (w, carried_after [] a) in
-      exchanged (get_or s.words 0 0) word (word + 1) F
-      (λ is. hit is (even_at_home s r word even is))
+      × Takes history author (step slots 0 word next core.none) (idle o k h) (get_or s.words 0 0) (w, carried_after [] a) in
+      exchanged (get_or s.words 0 0) word next F
+      (λ is. hit is (free_at_home s r word free is))
       (λ ne. (resting o k h, keeps, tt, unmoved s r 0 id [] (resting o k h) at, ((λ is. absurd (ne is)), (λ _. refl))))
     where
       hit : get_or s.words 0 0 ≡ word → (x : T) × (r.phase ≡ home x)
-          → (w : View E) × (a : Act (Option T)) × Valid s.homes [] a × Rule (stepped s 0 (word + 1) id [] w a)
-          × Takes history author (step slots 0 word (word + 1) core.none) (idle o k h) (get_or s.words 0 0) (w, carried_after [] a)
+          → (w : View E) × (a : Act (Option T)) × Valid s.homes [] a × Rule (stepped s 0 next id [] w a)
+          × Takes history author (step slots 0 word next core.none) (idle o k h) (get_or s.words 0 0) (w, carried_after [] a)
       hit is p = let x : T = p.0 in let w : View E = turning o k r.current in
           let homes : s.homes ≡ core.some (Some x) ∷ [] = r.homes ∙ ap (λ q. slot_in q ∷ []) p.1 in
           let stands : Stands history author start seats r.current r.claimed s.views (home x) =
           subst (Stands history author start seats r.current r.claimed s.views) p.1 r.stands in
-          let double : 2 * length r.current ≡ word = sym (word_0 s r ∙ ap (λ (q : Phase T). turn_word q (length r.current)) p.1) ∙ is in
+          let count : 4 * length r.current ≡ word = sym (word_0 s r ∙ ap (λ (q : Phase T). turn_word q r.waited (length r.current)) p.1) ∙ is in
           let mine = (r.views id (resting o k h) at).own.0 in
           let apart : (j : ℕ) → r.phase ≡ out j → ⊥ = λ j e. home_out x j (sym p.1 ∙ e) in (
             w,
@@ -207,7 +247,8 @@ module _ {T E : Type 0} (history : T → List E) (author : E → ℕ) (start : L
               current = r.current;
               claimed = r.claimed;
               owner = r.owner;
-              words = ap (λ ws. set ws 0 (word + 1)) r.words ∙ ap (λ (n : ℕ). n ∷ r.claimed ∷ []) (ap (λ (n : ℕ). n + 1) (sym double));
+              waited = waited;
+              words = ap (λ ws. set ws 0 next) r.words ∙ ap (λ (n : ℕ). n ∷ r.claimed ∷ []) (more ∙ ap (λ (n : ℕ). n + mark waited) (sym count));
               homes = ap (λ hs. set hs 0 core.none) homes;
               stands = ((w, set_here s.views id w (place_inside s.views id (resting o k h) at), refl), stands.1);
               started = r.started;
@@ -240,11 +281,11 @@ module _ {T E : Type 0} (history : T → List E) (author : E → ℕ) (start : L
             ),
           )
 
-  pub takes_turn_at : (slots id k word : ℕ) (o h : List E) (m : Sat T E) → m ≡ idle o k h → word % 2 ≡ 0
-      → Allows Rule slots id m 0 (λ n. either (n == word) (word + 1) n) (Takes history author (step slots 0 word (word + 1) core.none) m)
-  takes_turn_at slots id k word o h m e even =
-      subst (λ (x : Sat T E). Allows Rule slots id x 0 (λ n. either (n == word) (word + 1) n)
-      (Takes history author (step slots 0 word (word + 1) core.none) x)) (sym e) (takes_turn slots id k word o h even)
+  pub takes_turn_at : (slots id k word next : ℕ) (waited : Bool) (o h : List E) (m : Sat T E) → m ≡ idle o k h → word % 4 ≡ 0 → next ≡ word + mark waited
+      → Allows Rule slots id m 0 (λ n. either (n == word) next n) (Takes history author (step slots 0 word next core.none) m)
+  takes_turn_at slots id k word next waited o h m e free more =
+      subst (λ (x : Sat T E). Allows Rule slots id x 0 (λ n. either (n == word) next n) (Takes history author (step slots 0 word next core.none) x))
+      (sym e) (takes_turn slots id k word next waited o h free more)
 
   others_own : (id j : ℕ) → j ≢ id → (k : ℕ) (current new : List E) (owner : ℕ → ℕ) (claimed : ℕ) → owner k ≡ id → IsContinuedBy author k current new
       → (p : Part E) → Own owner current claimed j p → Own owner new claimed j p
@@ -256,27 +297,19 @@ module _ {T E : Type 0} (history : T → List E) (author : E → ℕ) (start : L
     covered = (prefix_trans p.1 current new o.covered.0 (further.0, further.1), others_stay author p.0 k other current new further ∙ o.covered.1);
   }
 
-  pub gives_turn : (slots id k odd even : ℕ) (o h : List E) (x : T) → odd ≡ 2 * length h + 1 → even ≡ 2 * length (history x)
-      → IsContinuedBy author k h (history x)
-      → Allows Rule slots id (turning o k h, (0, Some x) ∷ []) 0 (λ n. either (n == odd) even n) (Gives history (step slots 0 odd even core.none)
+  pub gives_turn : (slots id k word : ℕ) (o h : List E) (x : T) → word ≡ 4 * length (history x) → IsContinuedBy author k h (history x)
+      → Allows Rule slots id (turning o k h, (0, Some x) ∷ []) 0 (λ _. word) (Gives history (step slots 0 word 0 core.none)
       (turning o k h, (0, Some x) ∷ []))
-  gives_turn slots id k odd even o h x odd_is even_is further s r _ at _ =
+  gives_turn slots id k word o h x word_is further s r _ at _ =
       let turn = (r.views id (turning o k h) at).turn refl in
       let known : h ≡ r.current = ap known_in turn.1.1 in
-      let found : get_or s.words 0 0 ≡ odd = word_0 s r ∙ (ap (λ (p : Phase T). turn_word p (length r.current)) turn.0
-      ∙ (ap (λ (c : List E). 2 * length c + 1) (sym known) ∙ sym odd_is)) in
       let homes : s.homes ≡ core.none ∷ [] = r.homes ∙ ap (λ q. slot_in q ∷ []) turn.0 in
       let stands : Stands history author start seats r.current r.claimed s.views (out id) =
       subst (Stands history author start seats r.current r.claimed s.views) turn.0 r.stands in
       let mine = (r.views id (turning o k h) at).own.0 in
       let new : List E = history x in
       let go : IsContinuedBy author k r.current new = subst (λ c. IsContinuedBy author k c new) known further in
-      let w : View E = resting o k new in
-      let cs : List (ℕ × Option T) = (0, Some x) ∷ [] in
-      let F : ℕ → Type 0 = λ n. (w : View E) × (a : Act (Option T)) × Valid s.homes cs a × Rule (stepped s 0 n id cs w a)
-      × Gives history (step slots 0 odd even core.none) (turning o k h, cs) (get_or s.words 0 0) (w, carried_after cs a) in
-      exchanged (get_or s.words 0 0) odd even F
-      (λ _. (
+      let w : View E = resting o k new in (
         w,
         gives,
         tt,
@@ -285,7 +318,8 @@ module _ {T E : Type 0} (history : T → List E) (author : E → ℕ) (start : L
           current = new;
           claimed = r.claimed;
           owner = r.owner;
-          words = ap (λ ws. set ws 0 even) r.words ∙ ap (λ (n : ℕ). n ∷ r.claimed ∷ []) even_is;
+          waited = false;
+          words = ap (λ ws. set ws 0 word) r.words ∙ ap (λ (n : ℕ). n ∷ r.claimed ∷ []) word_is;
           homes = ap (λ hs. set hs 0 (core.some (Some x))) homes;
           stands = (refl, stands.1);
           started = prefix_trans start r.current new r.started (go.0, go.1);
@@ -312,20 +346,14 @@ module _ {T E : Type 0} (history : T → List E) (author : E → ℕ) (start : L
               (others_own id j apart k r.current new r.owner r.claimed mine.place go) (r.views j v e));
         },
         λ y e. ap (λ (z : T). idle o k (history z)) (same_value x y e),
-      ))
-      (λ ne. absurd (ne found))
+      )
 
-  pub gives_turn_at : (slots id k odd even : ℕ) (o h : List E) (x : T) (m : Sat T E) → m ≡ (turning o k h, (0, Some x) ∷ []) → odd ≡ 2 * length h + 1
-      → even ≡ 2 * length (history x) → IsContinuedBy author k h (history x)
-      → Allows Rule slots id m 0 (λ n. either (n == odd) even n) (Gives history (step slots 0 odd even core.none) m)
-  gives_turn_at slots id k odd even o h x m e odd_is even_is further =
-      subst (λ (z : Sat T E). Allows Rule slots id z 0 (λ n. either (n == odd) even n) (Gives history (step slots 0 odd even core.none) z)) (sym e)
-      (gives_turn slots id k odd even o h x odd_is even_is further)
-
-  pub counts_at : (slots id k : ℕ) (o h : List E) (c : List (ℕ × Option T)) (m : Sat T E) → m ≡ (turning o k h, c)
-      → Allows Rule slots id m 0 (λ n. n) (Counts {T = T} (step slots 0 0 0 core.none) m)
-  counts_at slots id k o h c m e = subst (λ (z : Sat T E). Allows Rule slots id z 0 (λ n. n) (Counts {T = T} (step slots 0 0 0 core.none) z)) (sym e)
-      (counts slots id k o h c)
+  pub gives_turn_at : (slots id k word : ℕ) (o h : List E) (x : T) (m : Sat T E) → m ≡ (turning o k h, (0, Some x) ∷ [])
+      → word ≡ 4 * length (history x) → IsContinuedBy author k h (history x)
+      → Allows Rule slots id m 0 (λ _. word) (Gives history (step slots 0 word 0 core.none) m)
+  gives_turn_at slots id k word o h x m e word_is further =
+      subst (λ (z : Sat T E). Allows Rule slots id z 0 (λ _. word) (Gives history (step slots 0 word 0 core.none) z)) (sym e)
+      (gives_turn slots id k word o h x word_is further)
 
   -- the owner of k is the seat at id, and the others are as before
   abbrev claimed_by : (ℕ → ℕ) → ℕ → ℕ → ℕ → ℕ
@@ -360,6 +388,7 @@ module _ {T E : Type 0} (history : T → List E) (author : E → ℕ) (start : L
         current = r.current;
         claimed = claimed;
         owner = owner;
+        waited = r.waited;
         words = ap (λ n. set s.words 1 (bit_or n mask)) (word_1 s r) ∙ ap (λ ws. set ws 1 claimed) r.words;
         homes = r.homes;
         stands = first_stays r.phase r.stands;
@@ -454,8 +483,9 @@ module _ {T E : Type 0} (history : T → List E) (author : E → ℕ) (start : L
         current = r.current;
         claimed = claimed;
         owner = owner;
+        waited = r.waited;
         words = ap (λ n. set s.words 1 (bit_or n 1)) (word_1 s r) ∙ (ap (λ ws. set ws 1 claimed) r.words
-            ∙ ap (λ (q : Phase T). turn_word q (length r.current) ∷ claimed ∷ []) p);
+            ∙ ap (λ (q : Phase T). turn_word q r.waited (length r.current) ∷ claimed ∷ []) p);
         homes = ap (λ hs. set hs 0 core.none) homes;
         stands = ((w, set_here s.views id w (place_inside s.views id (fresh start) at), refl), bit_0);
         started = r.started;
@@ -534,6 +564,7 @@ module _ {T E : Type 0} (history : T → List E) (author : E → ℕ) (start : L
         current = r.current;
         claimed = r.claimed;
         owner = owner;
+        waited = r.waited;
         words = r.words;
         homes = r.homes;
         stands = stays_out r.current r.claimed s.views (set vs other spent) r.phase (λ j u holds e. set_else vs other j spent

@@ -1,5 +1,6 @@
 -- The rule of the lock, and what each step tells.
-use Rattle.std.specs.Prelude.{◌≡◌, ◌≢◌, ℕ, ◌+◌, ◌*◌, ◌%◌, ◌<◌, ◌≤◌, ◌^◌, true, false, List, [], ◌∷◌, ◌++◌, length, Option, Some, None}
+use Rattle.std.specs.Prelude.{◌≡◌, ◌≢◌, ℕ, ◌+◌, ◌*◌, ◌%◌, ◌<◌, ◌≤◌, ◌^◌, Bool, true, false, if◌then◌else◌, List, [], ◌∷◌, ◌++◌, length}
+use Rattle.std.specs.Prelude.{Option, Some, None}
 use Rattle.std.specs.Int.{bit_at}
 use Rattle.std.specs.List.{AllByRecursion}
 use mathlib.Core.Option as core
@@ -17,10 +18,14 @@ pub data Phase (T : Type 0) : Type 0 where
   home : T → Phase T
   out : ℕ → Phase T
 
-abbrev pub turn_word : {T : Type 0} → Phase T → ℕ → ℕ
-turn_word early c = 2 * c + 1
-turn_word (home x) c = 2 * c
-turn_word (out j) c = 2 * c + 1
+-- what the first word has beside four times the length of the history, where the turn is out: 3 where a seat said that it waits
+abbrev pub mark : Bool → ℕ
+mark waited = if waited then 3 else 1
+
+abbrev pub turn_word : {T : Type 0} → Phase T → Bool → ℕ → ℕ
+turn_word early waited c = 4 * c + mark waited
+turn_word (home x) waited c = 4 * c
+turn_word (out j) waited c = 4 * c + mark waited
 
 abbrev pub slot_in : {T : Type 0} → Phase T → core.Option (Option T)
 slot_in early = core.some None
@@ -67,7 +72,9 @@ module _ {T E : Type 0} (history : T → List E) (author : E → ℕ) (start : L
     pub current : List E
     pub claimed : ℕ
     pub owner : ℕ → ℕ
-    pub words : s.words ≡ turn_word phase (length current) ∷ claimed ∷ []
+    -- whether a seat said that it waits, since the turn went out
+    pub waited : Bool
+    pub words : s.words ≡ turn_word phase waited (length current) ∷ claimed ∷ []
     pub homes : s.homes ≡ slot_in phase ∷ []
     pub stands : Stands current claimed s.views phase
     pub started : IsPrefix start current
@@ -123,16 +130,16 @@ module _ {T E : Type 0} where
   abbrev pub ClaimsFirst : Step (Option T) → Sat T E → ℕ → Sat T E → Type 0
   ClaimsFirst st m r m' = (bit_at r 0 ≡ 0 → m' ≡ busy m.0.opening 0 m.0.opening) × (bit_at r 0 ≢ 0 → m' ≡ m)
 
-  -- the word was even, and the seat has the turn with the value that stood there; or nothing changed
+  -- the turn was free, and the seat has it with the value that stood there; or nothing changed
   abbrev pub Takes : (T → List E) → (E → ℕ) → Step (Option T) → Sat T E → ℕ → Sat T E → Type 0
   Takes history author st m r m' =
       (r ≡ st.first → (x : T) × (m' ≡ (turning m.0.opening (number_in m.0.parts) (history x), (0, Some x) ∷ []))
       × Covers author (history x) (number_in m.0.parts, known_in m.0.parts))
       × (r ≢ st.first → m' ≡ m)
 
-  -- the holder finds the number that it left there
-  abbrev pub Counts : Step (Option T) → Sat T E → ℕ → Sat T E → Type 0
-  Counts st m r m' = (m' ≡ m) × (r ≡ 2 * length (known_in m.0.parts) + 1)
+  -- a seat says that it waits, which changes nothing that it knows
+  abbrev pub Asks : Step (Option T) → Sat T E → ℕ → Sat T E → Type 0
+  Asks st m r m' = m' ≡ m
 
   abbrev pub Gives : (T → List E) → Step (Option T) → Sat T E → ℕ → Sat T E → Type 0
   Gives history st m r m' = (x : T) → m.1 ≡ (0, Some x) ∷ [] → m' ≡ idle m.0.opening (number_in m.0.parts) (history x)

@@ -7,7 +7,7 @@ ghost use Rattle.turn_lock.specs.Turns.{fresh, idle, busy, both_of, opening_of, 
 
 use crate::journal::Journal;
 use crate::plays::{Glue, Take};
-use crate::seating::{claim_first, give_back, next_seat, split, vacant};
+use crate::seating::{ask, claim_first, give_back, next_seat, split, taken, vacant};
 use crate::view::{TurnSeat, TurnTable};
 use std::alloc::Global;
 use std::marker::Model;
@@ -79,10 +79,13 @@ impl<T: Journal> TurnLock<T> {
         ensures further { Covers T.author (T.history result) (number_of seat.old.me, known_of seat.old.me) }
     {
         let shared = &self.table.shared;
+        // Who slept can't know whether others sleep still, and takes the turn as one for which somebody waits.
+        let mut waited = false;
         for _ in rt.forever() {
             let word = shared.peek(0);
-            if word % 2 == 0 {
-                let found = shared.compare_exchange::<Take>(seat, 0, word, word + 1);
+            if word % 4 == 0 {
+                let next = taken(word, waited);
+                let found = shared.compare_exchange::<Take>(seat, 0, word, next);
                 if found == word {
                     let Some(value) = shared.exchange(seat, 0, None) else {
                         unreachable!()
@@ -90,7 +93,9 @@ impl<T: Journal> TurnLock<T> {
                     return value;
                 }
             } else {
-                shared.park(rt, 0, (word % 0x1_0000_0000) as u32);
+                ask(&self.table, seat, word);
+                waited = true;
+                shared.park(rt, 0, (word % 0x1_0000_0000) as u32 | 2);
             }
         }
         unreachable!()

@@ -49,13 +49,13 @@ impl<T: Journal> Play<Option<T>, View<T::Entry>> for Take {
     ghost then = { Takes T.history T.author };
 }
 
-/// A look of the holder at the first word.
-pub(crate) struct Count;
+/// A seat says that it waits for the turn.
+pub(crate) struct Ask;
 
-impl<T, E> Play<Option<T>, View<E>> for Count {
-    ghost use Rattle.turn_lock.specs.Turns.{Counts};
+impl<T, E> Play<Option<T>, View<E>> for Ask {
+    ghost use Rattle.turn_lock.specs.Turns.{Asks};
 
-    ghost then = { Counts };
+    ghost then = { Asks };
 }
 
 pub(crate) struct Give;

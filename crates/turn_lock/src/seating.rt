@@ -1,11 +1,11 @@
 //! How a lock gets its seats: each is split from the maker's, and claims its number.
 
-ghost use Rattle.std.specs.Prelude.{◌≡◌, ◌+◌, ◌*◌, ◌<◌, [], IfSome, vec_len};
+ghost use Rattle.std.specs.Prelude.{◌≡◌, ◌+◌, ◌*◌, ◌%◌, ◌<◌, [], IfSome, vec_len};
 ghost use Rattle.turn_lock.specs.Parts.{AreBelow, IsContinuedBy};
-ghost use Rattle.turn_lock.specs.Turns.{fresh, idle, busy, opening_of, number_of, known_of, IsBusy};
+ghost use Rattle.turn_lock.specs.Turns.{fresh, idle, busy, mark, opening_of, number_of, known_of, IsBusy};
 
 use crate::journal::Journal;
-use crate::plays::{Claim, ClaimFirst, Count, Give, Same};
+use crate::plays::{Ask, Claim, ClaimFirst, Give, Same};
 use crate::view::{Start, TurnSeat, TurnTable};
 use atomic_table::Table;
 use std::alloc::Global;
@@ -28,7 +28,7 @@ pub(crate) fn vacant<T: Journal>(
         value: Snapshot::of(value),
         seats,
     };
-    let words = [2 * value.count() + 1, 0];
+    let words = [4 * value.count() + 1, 0];
     match Table::vacant(alloc, &words, 1, &start) {
         Ok(pair) => Some(pair),
         Err(_) => None,
@@ -64,7 +64,28 @@ pub(crate) fn claim_first<T: Journal, R: Wait>(rt: &R, table: &TurnTable<T>, sea
     unreachable!()
 }
 
-/// Gives the turn back, with the value, whose further entries have the seat's number.
+/// The first word of a turn that goes out, where it was free at that word.
+pub(crate) fn taken(word: u64, waited: bool) -> u64
+    requires { word % 4 ≡ 0 }
+    ensures { result ≡ word + mark waited }
+{
+    if waited { word + 3 } else { word + 1 }
+}
+
+/// Says that a seat waits for the turn, which was out at that word, so that whoever gives it back wakes one that sleeps.
+pub(crate) fn ask<T: Journal>(table: &TurnTable<T>, seat: &mut TurnSeat<T>, word: u64)
+    requires table { seat.old.table_id ≡ table.now.shared.table_id }
+    requires shape { (table.now.shared.table_id.words ≡ 2) × (table.now.shared.table_id.slots ≡ 1) }
+    ensures table { seat.new.table_id ≡ seat.old.table_id }
+    ensures same { seat.new.me ≡ seat.old.me }
+{
+    let shared = &table.shared;
+    if word % 4 == 1 {
+        shared.compare_exchange::<Ask>(seat, 0, word, word + 2);
+    }
+}
+
+/// Gives the turn back, with the value, whose further entries have the seat's number. It wakes one that sleeps, where a seat said that it waits.
 pub(crate) fn give_back<T: Journal>(table: &TurnTable<T>, seat: &mut TurnSeat<T>, value: T)
     requires table { seat.old.table_id ≡ table.now.shared.table_id }
     requires shape { (table.now.shared.table_id.words ≡ 2) × (table.now.shared.table_id.slots ≡ 1) }
@@ -78,9 +99,10 @@ pub(crate) fn give_back<T: Journal>(table: &TurnTable<T>, seat: &mut TurnSeat<T>
     let None = shared.exchange(seat, 0, Some(value)) else {
         unreachable!()
     };
-    let odd = shared.load::<Count>(seat, 0);
-    shared.compare_exchange::<Give>(seat, 0, odd, 2 * count);
-    shared.wake_one(0);
+    let found = shared.swap::<Give>(seat, 0, 4 * count);
+    if found % 4 == 3 {
+        shared.wake_one(0);
+    }
 }
 
 fn claim<T: Journal, R: Wait>(rt: &R, table: &TurnTable<T>, seat: &mut TurnSeat<T>, k: u32)

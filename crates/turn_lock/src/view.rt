@@ -23,8 +23,8 @@ pub(crate) struct Start<T> {
     pub seats: u32,
 }
 
-/// The rule of the table: of its two words the first counts the history and says whether a turn is out, the second says which numbers were claimed. Its one
-/// slot has the value.
+/// The rule of the table: of its two words the first counts the history, and says whether a turn is out and whether a seat waits for it; the second says
+/// which numbers were claimed. Its one slot has the value.
 pub(crate) struct Turns;
 
 impl<T: Journal> TableRule<Option<T>, View<T::Entry>, Start<T>> for Turns {

@@ -1,4 +1,4 @@
-use Rattle.std.proofs.Common.{rules, ◌≡◌, ◌≢◌, ◌<◌, ℕ, length, sym, ap, ◌∙◌, subst, slice_index_or}
+use Rattle.std.proofs.Common.{◌≢◌, ◌<◌, length, ap, ◌∙◌, subst, slice_index_or}
 use Rattle.swap_digraph.specs.Deal.{party, counterparty, IsWellSized}
 use Rattle.ledger_shared.proofs.Passes.{new_first, new_second}
 use Rattle.ledger_shared.proofs.shared.share.Goals as goal

@@ -1,4 +1,4 @@
-use Rattle.std.proofs.Common.{rules, ◌≡◌, sym, ap, ◌∙◌, subst}
+use Rattle.std.proofs.Common.{◌≡◌, sym, ap, ◌∙◌, subst}
 use Rattle.swap_digraph.specs.Deal.{party, counterparty}
 use Rattle.ledger_shared.proofs.Passes.{first_number, second_number, party_closes, clock_closes}
 use Rattle.ledger_shared.proofs.shared.SharedLedger.close.Goals as goal
