@@ -1,4 +1,5 @@
 pub mod ByDigit
 pub mod Falls
+pub mod Lower
 pub mod Members
 pub mod Replies
