@@ -4,7 +4,6 @@ use Rattle.std.specs.Io.KnownBytes.{Keeps}
 use Rattle.swap_io.specs.Causes.{AppendsProperPrefix, Rose}
 use Rattle.swap_io.specs.Handed.{AppendsPrefix}
 use Rattle.refusals.specs.declared.reason.Reason.{Reason}
-use Rattle.swap_gen.specs.Drawn.{generated}
 use Rattle.swap_gen.proofs.Generated.{generated_is_accepted}
 use Rattle.program_words.specs.Words.{command_of as asked_of}
 use Rattle.program_words.specs.declared.command.Command.{Command as Asked}
@@ -13,10 +12,11 @@ use Rattle.program_words.proofs.Ranges.{command_within}
 use Rattle.swap_main.specs.Generated.{generated_output, Generates, IsWithin}
 use Rattle.swap_main.specs.Says.{IsWhole, Writes}
 use Rattle.swap_main.specs.Top.{status_of}
-use Rattle.swap_main.specs.Words.{built, command_of, input_of, number_of, request_of, task_of}
-use Rattle.swap_main.specs.Written.{Written}
+use Rattle.swap_main.specs.Words.{AsksRace, built, command_of, input_of, number_of, request_of, task_of}
+use Rattle.audit_command.specs.Output.{Written}
 use Rattle.swap_main.specs.declared.words.Command.{Command}
-use Rattle.swap_main.specs.declared.words.Command.TheVariants.{Check, Run, Make}
+use Rattle.swap_main.specs.declared.words.Command.TheVariants.{OfJob, Audit}
+use Rattle.swap_main.specs.declared.words.JobCommand.TheVariants.{Check, Run, Make}
 use Rattle.swap_main.specs.declared.words.Request.{Request}
 use Rattle.swap_main.specs.declared.words.Task.{Task}
 use Rattle.swap_main.specs.declared.words.Task.TheVariants.{Input, Number}
@@ -37,12 +37,11 @@ is_within words task e = by (asked_of words) refl e
   where
     by : (o : Option Asked) → asked_of words ≡ o → option_and_then built o ≡ Some task → IsWithin task
     by None a e = absurd (cc e)
-    by (Some asked.Check) a e = input_within Check task e
-    by (Some (asked.Run false)) a e = input_within Run task e
-    by (Some (asked.Run true)) a e = absurd (cc e)
+    by (Some asked.Check) a e = input_within (OfJob Check) task e
+    by (Some (asked.Run transcript)) a e = input_within (OfJob (Run transcript)) task e
     by (Some (asked.Race ticks transcript)) a e = absurd (cc e)
-    by (Some asked.Audit) a e = absurd (cc e)
-    by (Some asked.Make) a e = input_within Make task e
+    by (Some asked.Audit) a e = input_within Audit task e
+    by (Some asked.Make) a e = input_within (OfJob Make) task e
     by (Some (asked.Gen seed parties events summary)) a e =
         let w = command_within words (asked.Gen seed parties events summary) a in
         let same : Number (record { seed = seed; parties = parties; events = events; summary = summary }) ≡ task = cc e in
@@ -52,6 +51,25 @@ is_within words task e = by (asked_of words) refl e
 pub no_task : (words : List (List ℕ)) → asked_of words ≡ None → task_of words ≡ None
 unfolding task_of
 no_task words none = ap (λ (o : Option Asked). option_and_then built o) none
+
+-- nor does a race
+pub race_no_task : (words : List (List ℕ)) → AsksRace words → task_of words ≡ None
+unfolding task_of
+race_no_task words race = ap (λ (o : Option Asked). option_and_then built o) race.asks
+
+-- and no others
+pub no_words : (words : List (List ℕ)) → ¬ AsksRace words → task_of words ≡ None → asked_of words ≡ None
+unfolding task_of
+no_words words calm none = by (asked_of words) refl none
+  where
+    by : (o : Option Asked) → asked_of words ≡ o → option_and_then built o ≡ None → asked_of words ≡ None
+    by None a e = a
+    by (Some asked.Check) a e = absurd (cc e)
+    by (Some (asked.Run transcript)) a e = absurd (cc e)
+    by (Some (asked.Race ticks transcript)) a e = absurd (calm (record { ticks = ticks; transcript = transcript; asks = a }))
+    by (Some asked.Audit) a e = absurd (cc e)
+    by (Some asked.Make) a e = absurd (cc e)
+    by (Some (asked.Gen seed parties events summary)) a e = absurd (cc e)
 
 pub command_is : (words : List (List ℕ)) (command : Command) → task_of words ≡ Some (Input command) → command_of words ≡ Some command
 command_is words command e = ap (λ (o : Option Task). option_and_then input_of o) e

@@ -6,7 +6,7 @@ use Rattle.swap_io.specs.Causes.{Rose, ConsumesSome}
 use Rattle.refusals.specs.declared.reason.Reason.{Reason}
 use Rattle.swap_main.specs.Input.{limit}
 use Rattle.swap_main.specs.Words.{command_of}
-use Rattle.swap_main.specs.Written.{Written}
+use Rattle.audit_command.specs.Output.{Written}
 use Rattle.swap_main.specs.Output.{output_of, names_of}
 use Rattle.swap_main.specs.Says.{HasRead, Says}
 use Rattle.swap_main.specs.Top.{AsksFairRun, Read, IsDone, IsCut, IsRefused, IsShort, status_of}

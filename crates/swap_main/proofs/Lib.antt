@@ -9,3 +9,4 @@ pub mod Saying
 pub mod Ends
 pub mod Asking
 pub mod Performing
+pub mod Audits

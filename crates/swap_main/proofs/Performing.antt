@@ -1,5 +1,5 @@
 -- What the program promises, by what a status says of its task.
-use Rattle.std.proofs.Common.{◌≡◌, ◌<◌, ◌≤◌, ◌+◌, ◌⊎◌, inl, inr, ℕ, Bool, true, false, List, length, Option, Some, None, Ok, Err, sym, ap, ◌∙◌}
+use Rattle.std.proofs.Common.{◌≡◌, ◌<◌, ◌≤◌, ◌+◌, ◌⊎◌, inl, inr, ℕ, true, false, List, length, Option, Some, Ok, Err, sym, ap, ◌∙◌}
 use Rattle.std.specs.Io.KnownBytes.{Keeps}
 use Rattle.swap_io.specs.Causes.{AppendsProperPrefix, Rose, ConsumesSome}
 use Rattle.swap_io.specs.Handed.{AppendsPrefix}
@@ -10,9 +10,8 @@ use Rattle.swap_main.specs.Output.{output_of, names_of}
 use Rattle.swap_main.specs.Says.{IsWhole}
 use Rattle.swap_main.specs.Top.{AsksFairRun, IsDone, IsCut, IsRefused, IsShort, status_of}
 use Rattle.swap_main.specs.Words.{command_of, request_of, task_of}
-use Rattle.swap_main.specs.Written.{Written}
+use Rattle.audit_command.specs.Output.{Written}
 use Rattle.swap_main.specs.declared.words.Command.{Command}
-use Rattle.swap_main.specs.declared.words.Command.TheVariants.{Run}
 use Rattle.swap_main.specs.declared.words.Request.{Request}
 use Rattle.swap_main.specs.declared.words.Task.{Task}
 use Rattle.swap_main.specs.declared.words.Task.TheVariants.{Input, Number}

@@ -27,7 +27,7 @@ use Rattle.swap_gen.specs.Made.{made}
 use Rattle.made_jobs.specs.Making.{copied, line_step, with_line, written_line, IsMade}
 use Rattle.made_jobs.proofs.Copying.{lines_put}
 use Rattle.offer_fields.proofs.Chains.{went}
-use Rattle.swap_main.specs.Written.{Written}
+use Rattle.audit_command.specs.Output.{Written}
 use Rattle.swap_main.specs.Output.{book_of, check_text, finished, report_for, reported, told}
 use Rattle.swap_main.specs.Promised.{IsPromised, IsRun, IsCheck, IsMaking}
 use Rattle.swap_main.specs.Replay.{passed_over, replayed}
@@ -76,30 +76,30 @@ replayed_by f job x y ls e =
 -- A run.
 
 -- what was read, the book that is shown, and what the world promised of it
-run_of : (job : Job) (events : List Event) (read : Result (Job × List Event) Reason) (b : Histories) (output : Written) → read ≡ Ok (job, events)
-    → b ≡ book_of job events → output ≡ reported job b → IsAccepted job.deal → IsKept (cast_of job) b
+run_of : (transcript : Bool) (job : Job) (events : List Event) (read : Result (Job × List Event) Reason) (b : Histories) (output : Written)
+    → read ≡ Ok (job, events) → b ≡ book_of job events → output ≡ reported transcript job b → IsAccepted job.deal → IsKept (cast_of job) b
     → (job.finish ≡ Fair → IsEnded job.deal b) → (job.finish ≡ Fair → events ≡ [] → AllAreConforming job.deal job.conforming
-    → IsDealt job.deal (conforms_in job.conforming) b) → IsRun read output
+    → IsDealt job.deal (conforms_in job.conforming) b) → IsRun transcript read output
 unfolding report_of
-run_of job events read b output r same shown k kept ended dealt = record {
+run_of transcript job events read b output r same shown k kept ended dealt = record {
   job = job;
   events = events;
   is_read = r;
-  shown = shown ∙ ap (λ (b : Histories). reported job b) same;
+  shown = shown ∙ ap (λ (b : Histories). reported transcript job b) same;
   promised = is_promised job (book_of job events) k (subst (λ (b : Histories). IsKept (cast_of job) b) same kept);
   ended = λ fair. subst (λ (b : Histories). IsEnded job.deal b) same (ended fair);
   fair = λ fair none all. subst (λ (b : Histories). findings job.deal (conforms_in job.conforming) b ≡ []) same (dealt fair none all).nothing;
 }
 
-pub is_run : (line : ℕ) (text : List ℕ) (ls : List (ℕ × List ℕ)) (job : Job) (s : State) (b : Histories) (output : Written)
+pub is_run : (transcript : Bool) (line : ℕ) (text : List ℕ) (ls : List (ℕ × List ℕ)) (job : Job) (s : State) (b : Histories) (output : Written)
     → job_header_of purposes.Run line text ≡ Ok job → replayed (step (cast_of job)) job 0 (start (cast_of job)) ls ≡ Ok s
-    → b ≡ (finished job.finish (cast_of job) s).book → output ≡ reported job b → IsAccepted job.deal → IsKept (cast_of job) b
+    → b ≡ (finished job.finish (cast_of job) s).book → output ≡ reported transcript job b → IsAccepted job.deal → IsKept (cast_of job) b
     → (job.finish ≡ Fair → IsEnded job.deal b)
     → (job.finish ≡ Fair → s ≡ start (cast_of job) → AllAreConforming job.deal job.conforming → IsDealt job.deal (conforms_in job.conforming) b)
-    → IsRun (lines_read purposes.Run ((line, text) ∷ ls)) output
-is_run line text ls job s b output h r same shown k kept ended dealt =
+    → IsRun transcript (lines_read purposes.Run ((line, text) ∷ ls)) output
+is_run transcript line text ls job s b output h r same shown k kept ended dealt =
     let p = replayed_by (step (cast_of job)) job (start (cast_of job)) s ls r in
-    run_of job p.events (lines_read purposes.Run ((line, text) ∷ ls)) b output
+    run_of transcript job p.events (lines_read purposes.Run ((line, text) ∷ ls)) b output
     (read_of (job_header_of purposes.Run line text) (λ j. events_of j 0 ls) job p.events h p.read)
     (same ∙ ap (λ (s : State). (finished job.finish (cast_of job) s).book) p.leads) shown k kept ended
     (λ fair none. dealt fair (p.leads ∙ ap (λ (es : List Event). fold (step (cast_of job)) (start (cast_of job)) es) none))

@@ -21,8 +21,9 @@ use Rattle.swap_run.specs.Run.{State, start, step}
 use Rattle.swap_world.specs.Cast.{cast_of}
 use Rattle.swap_main.specs.declared.fault.InputFault.{InputFault}
 use Rattle.swap_main.specs.declared.fault.InputFault.TheVariants.{Refused, ReadFault, TooLong, NoMemory}
-use Rattle.swap_main.specs.declared.words.Command.{Command}
-use Rattle.swap_main.specs.declared.words.Command.TheVariants.{Check, Run, Make}
+use Rattle.swap_main.specs.declared.words.Command.TheVariants.{OfJob}
+use Rattle.swap_main.specs.declared.words.JobCommand.{JobCommand}
+use Rattle.swap_main.specs.declared.words.JobCommand.TheVariants.{Check, Run, Make}
 use Rattle.swap_main.specs.Faults.{named_fault, of_offer}
 use Rattle.swap_main.specs.Input.{At, CanCome, Ends, EndsAt, Gives, IsLast, IsLine, Stops, Tells, ahead, fresh, limit}
 use Rattle.swap_gen.specs.Made.{made}
@@ -31,25 +32,26 @@ use Rattle.swap_main.specs.Output.{finished, names_of, output_of, purpose_of, re
 use Rattle.swap_main.specs.Promised.{IsCheck, IsRun, IsMaking}
 use Rattle.swap_main.specs.Replay.{IsChecked, IsPlayed, IsRead, of_check, of_header, of_lines, of_run, passed_over, replayed, IsCopied, of_make}
 use Rattle.swap_main.specs.Says.{IsAgainst}
-use Rattle.swap_main.specs.Written.{Written}
+use Rattle.audit_command.specs.Output.{Written}
 use Rattle.swap_main.proofs.Replays.{of_input}
 use Rattle.swap_main.proofs.Ahead.{too_long_on}
 use Rattle.swap_main.proofs.Streams.{last_of, line_of}
 
 -- The lines of an input, and what is written for them.
 
-by_lines : (command : Command) (bytes : List ℕ) (ls : List (ℕ × List ℕ)) → filled_lines 1 (lines_of bytes) ≡ ls
-    → output_of command bytes ≡ of_lines command ls
+by_lines : (command : JobCommand) (bytes : List ℕ) (ls : List (ℕ × List ℕ)) → filled_lines 1 (lines_of bytes) ≡ ls
+    → output_of (OfJob command) bytes ≡ of_lines command ls
 by_lines command bytes ls e = sym (of_input command bytes) ∙ ap (of_lines command) e
 
-names_by : (command : Command) (bytes : List ℕ) (ls : List (ℕ × List ℕ)) → filled_lines 1 (lines_of bytes) ≡ ls
-    → names_of command bytes ≡ names_in (purpose_of command) ls
+names_by : (command : JobCommand) (bytes : List ℕ) (ls : List (ℕ × List ℕ)) → filled_lines 1 (lines_of bytes) ≡ ls
+    → names_of (OfJob command) bytes ≡ names_in (purpose_of command) ls
 unfolding names_of
 names_by command bytes ls e = ap (names_in (purpose_of command)) e
 
-run_fails : (n : ℕ) (t : List ℕ) (ls : List (ℕ × List ℕ)) (reason : Reason) → job_header_of purposes.Run n t ≡ Err reason → of_run n t ls ≡ Err reason
+run_fails : (transcript : Bool) (n : ℕ) (t : List ℕ) (ls : List (ℕ × List ℕ)) (reason : Reason) → job_header_of purposes.Run n t ≡ Err reason
+    → of_run transcript n t ls ≡ Err reason
 unfolding of_run
-run_fails n t ls reason h = rw h refl
+run_fails transcript n t ls reason h = rw h refl
 
 check_fails : (n : ℕ) (t : List ℕ) (ls : List (ℕ × List ℕ)) (reason : Reason) → job_header_of purposes.Check n t ≡ Err reason → of_check n t ls ≡ Err reason
 unfolding of_check
@@ -59,17 +61,17 @@ make_fails : (n : ℕ) (t : List ℕ) (ls : List (ℕ × List ℕ)) (reason : Re
 unfolding of_make
 make_fails n t ls reason h = rw h refl
 
-header_fails : (command : Command) (n : ℕ) (t : List ℕ) (ls : List (ℕ × List ℕ)) (reason : Reason) → job_header_of (purpose_of command) n t ≡ Err reason
+header_fails : (command : JobCommand) (n : ℕ) (t : List ℕ) (ls : List (ℕ × List ℕ)) (reason : Reason) → job_header_of (purpose_of command) n t ≡ Err reason
     → of_header command n t ls ≡ Err reason
-header_fails Run n t ls reason h = run_fails n t ls reason h
+header_fails (Run transcript) n t ls reason h = run_fails transcript n t ls reason h
 header_fails Check n t ls reason h = check_fails n t ls reason h
 header_fails Make n t ls reason h = make_fails n t ls reason h
 
-run_by : (n : ℕ) (t : List ℕ) (ls : List (ℕ × List ℕ)) (job : Job) (r : Result State Reason) → job_header_of purposes.Run n t ≡ Ok job
+run_by : (transcript : Bool) (n : ℕ) (t : List ℕ) (ls : List (ℕ × List ℕ)) (job : Job) (r : Result State Reason) → job_header_of purposes.Run n t ≡ Ok job
     → replayed (step (cast_of job)) job 0 (start (cast_of job)) ls ≡ r
-    → of_run n t ls ≡ r >>= λ s. Ok (reported job (finished job.finish (cast_of job) s).book)
+    → of_run transcript n t ls ≡ r >>= λ s. Ok (reported transcript job (finished job.finish (cast_of job) s).book)
 unfolding of_run
-run_by n t ls job r h e = rw (h, e) refl
+run_by transcript n t ls job r h e = rw (h, e) refl
 
 check_by : (n : ℕ) (t : List ℕ) (ls : List (ℕ × List ℕ)) (job : Job) (r : Result (Unit {0}) Reason) → job_header_of purposes.Check n t ≡ Ok job
     → replayed passed_over job 0 tt ls ≡ r → of_check n t ls ≡ r >>= λ u. Ok (told job)
@@ -81,21 +83,22 @@ make_by : (n : ℕ) (t : List ℕ) (ls : List (ℕ × List ℕ)) (job : Job) (r 
 unfolding of_make
 make_by n t ls job r h e = rw (h, e) refl
 
-pub gives_run : (bytes : List ℕ) (job : Job) (s : State) → IsPlayed bytes job s
-    → output_of Run bytes ≡ Ok (reported job (finished job.finish (cast_of job) s).book)
-gives_run bytes job s p = by_lines Run bytes ((p.line, p.text) ∷ p.others) p.lines ∙ run_by p.line p.text p.others job (Ok s) p.header p.leads
+pub gives_run : (transcript : Bool) (bytes : List ℕ) (job : Job) (s : State) → IsPlayed bytes job s
+    → output_of (OfJob (Run transcript)) bytes ≡ Ok (reported transcript job (finished job.finish (cast_of job) s).book)
+gives_run transcript bytes job s p =
+    by_lines (Run transcript) bytes ((p.line, p.text) ∷ p.others) p.lines ∙ run_by transcript p.line p.text p.others job (Ok s) p.header p.leads
 
-pub gives_check : (bytes : List ℕ) (job : Job) → IsChecked bytes job → output_of Check bytes ≡ Ok (told job)
+pub gives_check : (bytes : List ℕ) (job : Job) → IsChecked bytes job → output_of (OfJob Check) bytes ≡ Ok (told job)
 gives_check bytes job p = by_lines Check bytes ((p.line, p.text) ∷ p.others) p.lines ∙ check_by p.line p.text p.others job (Ok tt) p.header p.leads
 
-pub gives_make : (bytes : List ℕ) (job : Job) (text : List ℕ) → IsCopied bytes job text → output_of Make bytes ≡ Ok (plain_text text)
+pub gives_make : (bytes : List ℕ) (job : Job) (text : List ℕ) → IsCopied bytes job text → output_of (OfJob Make) bytes ≡ Ok (plain_text text)
 gives_make bytes job text p = by_lines Make bytes ((p.line, p.text) ∷ p.others) p.lines ∙ make_by p.line p.text p.others job (Ok text) p.header p.leads
 
 -- what is promised of lines is promised of their bytes
-pub run_of_bytes : (bytes : List ℕ) (ls : List (ℕ × List ℕ)) (output : Written) → filled_lines 1 (lines_of bytes) ≡ ls
-    → IsRun (lines_read purposes.Run ls) output → IsRun (job_of purposes.Run bytes) output
+pub run_of_bytes : (transcript : Bool) (bytes : List ℕ) (ls : List (ℕ × List ℕ)) (output : Written) → filled_lines 1 (lines_of bytes) ≡ ls
+    → IsRun transcript (lines_read purposes.Run ls) output → IsRun transcript (job_of purposes.Run bytes) output
 unfolding job_of
-run_of_bytes bytes ls output e p = subst (λ (xs : List (ℕ × List ℕ)). IsRun (lines_read purposes.Run xs) output) (sym e) p
+run_of_bytes transcript bytes ls output e p = subst (λ (xs : List (ℕ × List ℕ)). IsRun transcript (lines_read purposes.Run xs) output) (sym e) p
 
 pub check_of_bytes : (bytes : List ℕ) (ls : List (ℕ × List ℕ)) (output : Written) → filled_lines 1 (lines_of bytes) ≡ ls
     → IsCheck (lines_read purposes.Check ls) output → IsCheck (job_of purposes.Check bytes) output
@@ -118,9 +121,9 @@ not_over_yet : (rest : List ℕ) → CanCome fresh rest
 not_over_yet rest over = absurd (cc over)
 
 -- it has no line
-pub against_empty : (command : Command) (left left' : Option (List ℕ)) (now : At) (p : IsLast left left' fresh now) → now.reading.taken ≤ limit
+pub against_empty : (command : JobCommand) (left left' : Option (List ℕ)) (now : At) (p : IsLast left left' fresh now) → now.reading.taken ≤ limit
     → EndsAt left' now
-    → Tells (λ bytes. IsAgainst command bytes (record { reason = NotJson 1; names = [] })) left left' fresh now
+    → Tells (λ bytes. IsAgainst (OfJob command) bytes (record { reason = NotJson 1; names = [] })) left left' fresh now
 against_empty command left left' now p within ended = record {
   bytes = p.bytes;
   took = p.took;
@@ -134,10 +137,10 @@ against_empty command left left' now p within ended = record {
 }
 
 -- its header is refused
-pub against_header : (command : Command) (left left' : Option (List ℕ)) (now : At) (fault : Fault Refusal) (n m : ℕ) (p : IsLine left left' fresh now)
+pub against_header : (command : JobCommand) (left left' : Option (List ℕ)) (now : At) (fault : Fault Refusal) (n m : ℕ) (p : IsLine left left' fresh now)
     → now.reading.taken ≤ limit → EndsAt left' now
     → Fails fault (named (names_at (purpose_of command) now.number now.text) (job_header_of (purpose_of command) now.number now.text))
-    → Stops (IsAgainst command) left left' n m fresh now (of_offer fault)
+    → Stops (IsAgainst (OfJob command)) left left' n m fresh now (of_offer fault)
 against_header command left left' now offer.NoMemory n m p within ended fails = tt
 against_header command left left' now (offer.Refused r) n m p within ended fails =
     let h = named_err (names_at (purpose_of command) now.number now.text) (job_header_of (purpose_of command) now.number now.text) r fails in
@@ -157,19 +160,19 @@ against_header command left left' now (offer.Refused r) n m p within ended fails
 
 -- The same by what calls answered.
 
-pub empty_stops : (command : Command) (more : Bool) (left left' : Option (List ℕ)) (n m : ℕ) (old now : At) (fault : InputFault Refusal) → old ≡ fresh
+pub empty_stops : (command : JobCommand) (more : Bool) (left left' : Option (List ℕ)) (n m : ℕ) (old now : At) (fault : InputFault Refusal) → old ≡ fresh
     → more ≡ false → Gives more left left' old now → now.reading.taken ≤ limit → EndsAt left' now
-    → fault ≡ Refused (record { reason = NotJson 1; names = [] }) → Stops (IsAgainst command) left left' n m fresh now fault
+    → fault ≡ Refused (record { reason = NotJson 1; names = [] }) → Stops (IsAgainst (OfJob command)) left left' n m fresh now fault
 empty_stops command more left left' n m old now fault first none gives within ended is =
     let p : IsLast left left' fresh now = last_of more left left' fresh now none (subst (λ (s : At). Gives more left left' s now) first gives) in
     let t = against_empty command left left' now p within ended in
-    subst (λ (f : InputFault Refusal). Stops (IsAgainst command) left left' n m fresh now f) (sym is) t
+    subst (λ (f : InputFault Refusal). Stops (IsAgainst (OfJob command)) left left' n m fresh now f) (sym is) t
 
-pub header_stops : (command : Command) (more : Bool) (left left' : Option (List ℕ)) (n m : ℕ) (old now : At) (fault : Fault Refusal) (purpose : Purpose)
+pub header_stops : (command : JobCommand) (more : Bool) (left left' : Option (List ℕ)) (n m : ℕ) (old now : At) (fault : Fault Refusal) (purpose : Purpose)
     (line : ℕ) (text : List ℕ) → old ≡ fresh → more ≡ true → Gives more left left' old now → now.reading.taken ≤ limit → EndsAt left' now
     → purpose ≡ purpose_of command → line ≡ now.number → text ≡ now.text
     → Fails fault (named (names_at purpose line text) (job_header_of purpose line text))
-    → Stops (IsAgainst command) left left' n m fresh now (of_offer fault)
+    → Stops (IsAgainst (OfJob command)) left left' n m fresh now (of_offer fault)
 header_stops command more left left' n m old now fault purpose line text first some gives within ended asked number same fails =
     let p : IsLine left left' fresh now = line_of more left left' fresh now some (subst (λ (s : At). Gives more left left' s now) first gives) in
     let f : Fails fault (named (names_at (purpose_of command) line text) (job_header_of (purpose_of command) line text)) =
@@ -180,14 +183,14 @@ header_stops command more left left' n m old now fault purpose line text first s
     (subst (λ (t : List ℕ). Fails fault (named (names_at (purpose_of command) now.number t) (job_header_of (purpose_of command) now.number t))) same g)
 
 -- A further line of it is refused, after its header was read.
-module _ {A : Type 0} (walk : List (ℕ × List ℕ) → Result A Reason) (command : Command) (left left' left'' : Option (List ℕ)) (mid now : At) where
+module _ {A : Type 0} (walk : List (ℕ × List ℕ) → Result A Reason) (command : JobCommand) (left left' left'' : Option (List ℕ)) (mid now : At) where
   abbrev pub IsLineAgainst : List ℕ → Reason → Type 0
   IsLineAgainst bytes reason = walk (ahead mid bytes) ≡ Err reason
 
   pub against_event : ((ls : List (ℕ × List ℕ)) (reason : Reason) → walk ls ≡ Err reason
       → of_header command mid.number mid.text ls ≡ Err reason) → (names : List (List ℕ)) → names ≡ names_at (purpose_of command) mid.number mid.text
       → (fault : InputFault Reason) (n m k : ℕ) (p : IsLine left left' fresh mid) → n ≤ m → Stops IsLineAgainst left' left'' m k mid now fault
-      → Stops (IsAgainst command) left left'' n k fresh now (named_fault names fault)
+      → Stops (IsAgainst (OfJob command)) left left'' n k fresh now (named_fault names fault)
   against_event says names called (Refused reason) n m k p le s = record {
     bytes = p.bytes ++ s.bytes;
     took = took_on left left' left'' fresh.reading mid.reading now.reading p.bytes s.bytes p.took s.took;
@@ -207,9 +210,9 @@ module _ {A : Type 0} (walk : List (ℕ × List ℕ) → Result A Reason) (comma
   against_event says names called NoMemory n m k p le s = tt
 
 -- what the events of a run and of a check say against it
-pub run_says : (n : ℕ) (t : List ℕ) (job : Job) → job_header_of purposes.Run n t ≡ Ok job → (ls : List (ℕ × List ℕ)) (reason : Reason)
-    → replayed (step (cast_of job)) job 0 (start (cast_of job)) ls ≡ Err reason → of_header Run n t ls ≡ Err reason
-run_says n t job h ls reason e = run_by n t ls job (Err reason) h e
+pub run_says : (transcript : Bool) (n : ℕ) (t : List ℕ) (job : Job) → job_header_of purposes.Run n t ≡ Ok job → (ls : List (ℕ × List ℕ)) (reason : Reason)
+    → replayed (step (cast_of job)) job 0 (start (cast_of job)) ls ≡ Err reason → of_header (Run transcript) n t ls ≡ Err reason
+run_says transcript n t job h ls reason e = run_by transcript n t ls job (Err reason) h e
 
 pub check_says : (n : ℕ) (t : List ℕ) (job : Job) → job_header_of purposes.Check n t ≡ Ok job → (ls : List (ℕ × List ℕ)) (reason : Reason)
     → replayed passed_over job 0 tt ls ≡ Err reason → of_header Check n t ls ≡ Err reason

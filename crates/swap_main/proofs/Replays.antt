@@ -16,8 +16,9 @@ use Rattle.swap_offer.specs.Wallets.{HaveWallets}
 use Rattle.swap_world.specs.Staff.{world_of, HaveRoles}
 use Rattle.swap_world.proofs.Team.{world_is_new, plain_roles}
 use Rattle.swap_world.specs.Value.{WorldState, cast_at, new_world}
-use Rattle.swap_main.specs.declared.words.Command.{Command}
-use Rattle.swap_main.specs.declared.words.Command.TheVariants.{Check, Run, Make}
+use Rattle.swap_main.specs.declared.words.Command.TheVariants.{OfJob}
+use Rattle.swap_main.specs.declared.words.JobCommand.{JobCommand}
+use Rattle.swap_main.specs.declared.words.JobCommand.TheVariants.{Check, Run, Make}
 use Rattle.deviator_script.specs.declared.job.Purpose.TheVariants as purposes
 use Rattle.swap_gen.specs.Made.{made}
 use Rattle.made_jobs.specs.Making.{copied, made_text, written_line}
@@ -71,23 +72,24 @@ of_some_make l ls =
     ∙ ap (λ (r : Result (List ℕ) Reason). r >>= λ t. Ok (plain_text t)) (made_is l ls)
     ∙ written_make (lines_read purposes.Make (l ∷ ls)) ls
 
-of_some : (command : Command) (ls : List (ℕ × List ℕ)) → of_lines command ls ≡ output_for command ls (lines_read (purpose_of command) ls)
+of_some : (command : JobCommand) (ls : List (ℕ × List ℕ)) → of_lines command ls ≡ output_for command ls (lines_read (purpose_of command) ls)
 unfolding of_run of_check replayed
 of_some command [] = by command
   where
-    by : (command : Command) → of_lines command [] ≡ output_for command [] (lines_read (purpose_of command) [])
-    by Run = refl
+    by : (command : JobCommand) → of_lines command [] ≡ output_for command [] (lines_read (purpose_of command) [])
+    by (Run transcript) = refl
     by Check = refl
     by Make = refl
-of_some Run (l ∷ ls) = together (job_header_of (purpose_of Run) l.0 l.1) (λ job. events_of job 0 ls) (λ job. step (cast_of job)) (λ job. start (cast_of job))
-    (λ job s. reported job (finished job.finish (cast_of job) s).book) (λ j. reported j.0 (book_of j.0 j.1)) (λ job es. refl)
+of_some (Run transcript) (l ∷ ls) =
+    together (job_header_of purposes.Run l.0 l.1) (λ job. events_of job 0 ls) (λ job. step (cast_of job)) (λ job. start (cast_of job))
+    (λ job s. reported transcript job (finished job.finish (cast_of job) s).book) (λ j. reported transcript j.0 (book_of j.0 j.1)) (λ job es. refl)
 of_some Check (l ∷ ls) = together (job_header_of (purpose_of Check) l.0 l.1) (λ job. events_of job 0 ls) (λ job. passed_over) (λ job. tt)
     (λ job u. told job) (λ j. told j.0) (λ job es. refl)
 of_some Make (l ∷ ls) = of_some_make l ls
 
-pub of_input : (command : Command) (input : List ℕ) → of_lines command (filled_lines 1 (lines_of input)) ≡ output_of command input
+pub of_input : (command : JobCommand) (input : List ℕ) → of_lines command (filled_lines 1 (lines_of input)) ≡ output_of (OfJob command) input
 unfolding output_of job_of
-of_input Run input = of_some Run (filled_lines 1 (lines_of input))
+of_input (Run transcript) input = of_some (Run transcript) (filled_lines 1 (lines_of input))
 of_input Check input = of_some Check (filled_lines 1 (lines_of input))
 of_input Make input = of_some Make (filled_lines 1 (lines_of input))
 

@@ -1,46 +1,48 @@
--- A report has one outcome per party, and what is told where its text was written.
+-- What is told where the text of a run was written.
 use Rattle.std.proofs.Common.{◌≡◌, ◌==◌, ◌≤◌, ℕ, List, Bool, true, false, not, length, Option, ap, arith, subst}
-use Rattle.std.proofs.lemmas.List.FromFn.{length-map-range_with_len}
 use Rattle.std.specs.Io.KnownBytes.{Appends}
 use Rattle.swap_io.specs.Causes.{AppendsProperPrefix}
 use Rattle.swap_io.specs.Handed.{AppendsPrefix}
 use Rattle.swap_digraph.specs.declared.deal.Deal.{Deal}
 use Rattle.swap_digraph.specs.declared.deal.Version.{Version}
 use Rattle.swap_digraph.specs.declared.deal.Version.TheVariants.{One, Two}
-use Rattle.swap_digraph.specs.Deal.{most_parties}
-use Rattle.ledger_core.specs.Book.{Histories}
+use Rattle.swap_digraph.specs.Deal.{IsWellSized, most_arcs}
+use Rattle.ledger_core.specs.Book.{Histories, IsLegalBook}
 use Rattle.deviator_script.specs.declared.job.Job.{Job}
-use Rattle.swap_rules.specs.Outcome.{outcome}
 use Rattle.outcome_rules.specs.declared.report.Report.{Report}
-use Rattle.outcome_rules.specs.Report.{report_of}
-use Rattle.transcript_text.specs.Report.{report}
-use Rattle.swap_main.specs.Output.{report_for, reported}
+use Rattle.swap_main.specs.Output.{report_for, reported, run_text}
 use Rattle.swap_main.specs.Says.{IsWhole}
 
-most : (v : Version) → most_parties v ≤ 32
+most : (v : Version) → most_arcs v ≤ 256
 most One = omega arith
 most Two = omega arith
 
-pub few_outcomes : (d : Deal) (conforming : List Bool) (b : Histories) → d.graph.n ≤ most_parties d.version → length (report_of d conforming b).outcomes ≤ 256
-unfolding report_of
-few_outcomes d conforming b le = let m = most d.version in rw (length-map-range_with_len (outcome d b) 0 d.graph.n) (omega (arith, le, m))
+-- a book has few histories
+pub few_histories : (d : Deal) (b : Histories) → IsWellSized d → IsLegalBook d b → length b ≤ 256
+few_histories d b k legal = let m = most d.version in omega (arith, k.arcs.1, legal.one_each)
 
--- The report r of a job's book was written.
-module _ (job : Job) (b : Histories) (r : Report) (taken taken' : Option (List ℕ)) (is : r ≡ report_for job b) where
-  pub written_none : Appends taken taken' (report job b r) → (length r.findings == 0) ≡ true → IsWhole taken taken' false (reported job b)
+-- The report r of a job's book was written, or the transcript.
+module _ (transcript : Bool) (job : Job) (b : Histories) (r : Report) (taken taken' : Option (List ℕ)) (is : r ≡ report_for job b) where
+  pub written_none : Appends taken taken' (run_text transcript job b r) → (length r.findings == 0) ≡ true
+      → IsWhole taken taken' false (reported transcript job b)
   unfolding reported
-  written_none wrote none =
-      (subst (λ (x : Report). Appends taken taken' (report job b x)) is wrote, ap not (subst (λ (x : Report). (length x.findings == 0) ≡ true) is none))
+  written_none wrote none = (
+    subst (λ (x : Report). Appends taken taken' (run_text transcript job b x)) is wrote,
+    ap not (subst (λ (x : Report). (length x.findings == 0) ≡ true) is none),
+  )
 
-  pub written_found : Appends taken taken' (report job b r) → (length r.findings == 0) ≡ false → IsWhole taken taken' true (reported job b)
+  pub written_found : Appends taken taken' (run_text transcript job b r) → (length r.findings == 0) ≡ false
+      → IsWhole taken taken' true (reported transcript job b)
   unfolding reported
-  written_found wrote some =
-      (subst (λ (x : Report). Appends taken taken' (report job b x)) is wrote, ap not (subst (λ (x : Report). (length x.findings == 0) ≡ false) is some))
+  written_found wrote some = (
+    subst (λ (x : Report). Appends taken taken' (run_text transcript job b x)) is wrote,
+    ap not (subst (λ (x : Report). (length x.findings == 0) ≡ false) is some),
+  )
 
-  pub written_part : AppendsProperPrefix taken taken' (report job b r) → AppendsProperPrefix taken taken' (reported job b).text
+  pub written_part : AppendsProperPrefix taken taken' (run_text transcript job b r) → AppendsProperPrefix taken taken' (reported transcript job b).text
   unfolding reported
-  written_part wrote = subst (λ (x : Report). AppendsProperPrefix taken taken' (report job b x)) is wrote
+  written_part wrote = subst (λ (x : Report). AppendsProperPrefix taken taken' (run_text transcript job b x)) is wrote
 
-  pub written_short : AppendsPrefix taken taken' (report job b r) → AppendsPrefix taken taken' (reported job b).text
+  pub written_short : AppendsPrefix taken taken' (run_text transcript job b r) → AppendsPrefix taken taken' (reported transcript job b).text
   unfolding reported
-  written_short wrote = subst (λ (x : Report). AppendsPrefix taken taken' (report job b x)) is wrote
+  written_short wrote = subst (λ (x : Report). AppendsPrefix taken taken' (run_text transcript job b x)) is wrote

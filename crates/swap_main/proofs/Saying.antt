@@ -1,5 +1,5 @@
 -- What a command's status says, by how its parts ended.
-use Rattle.std.proofs.Common.{◌≡◌, ◌+◌, ◌++◌, inl, inr, ℕ, List, ◌∷◌, Option, Ok, refl, sym, ap, ◌∙◌, arith}
+use Rattle.std.proofs.Common.{◌≡◌, ◌+◌, ◌++◌, inl, inr, ℕ, Bool, List, ◌∷◌, Option, Ok, refl, sym, ap, ◌∙◌, arith}
 use Rattle.std.specs.Io.KnownBytes.{Keeps}
 use Rattle.swap_io.specs.Causes.{ConsumesSome}
 use Rattle.swap_io.proofs.Feeds.{took_on}
@@ -21,9 +21,10 @@ use Rattle.swap_main.specs.Input.{Ends, At, IsDrained, IsTooLong, Tells, fresh, 
 use Rattle.swap_main.specs.Output.{finished, output_of, reported, told, plain_text}
 use Rattle.swap_main.specs.Promised.{AsPromised}
 use Rattle.swap_main.specs.Says.{HasRead, HasReason, IsAgainst, Says, Unread, Writes}
-use Rattle.swap_main.specs.Written.{Written}
+use Rattle.audit_command.specs.Output.{Written}
 use Rattle.swap_main.specs.declared.words.Command.{Command}
-use Rattle.swap_main.specs.declared.words.Command.TheVariants.{Check, Run, Make}
+use Rattle.swap_main.specs.declared.words.Command.TheVariants.{OfJob}
+use Rattle.swap_main.specs.declared.words.JobCommand.TheVariants.{Check, Run, Make}
 use Rattle.swap_main.specs.declared.status.Status.{Status}
 use Rattle.swap_main.specs.declared.status.Status.TheVariants.{Done, Named, WrongWords, Refused, ReadFault, WriteFault, NoMemory, TooLong}
 use Rattle.swap_main.proofs.Promises.{is_check, is_run, is_making}
@@ -85,25 +86,26 @@ module _ (command : Command) (left left' left'' : Option (List ℕ)) (mid now : 
 
 -- What a command says whose input was read whole.
 
-pub says_run : (left left' : Option (List ℕ)) (n m : ℕ) (taken taken' : Option (List ℕ)) (p q : ℕ) (now : At) (job : Job) (s : State) (b : Histories)
-    (status : Status) (e : Ends (λ bytes. IsPlayed bytes job s) left left' fresh now)
+pub says_run : (transcript : Bool) (left left' : Option (List ℕ)) (n m : ℕ) (taken taken' : Option (List ℕ)) (p q : ℕ) (now : At) (job : Job)
+    (s : State) (b : Histories) (status : Status) (e : Ends (λ bytes. IsPlayed bytes job s) left left' fresh now)
     → b ≡ (finished job.finish (cast_of job) s).book → IsAccepted job.deal → IsKept (cast_of job) b → (job.finish ≡ Fair → IsEnded job.deal b)
     → (job.finish ≡ Fair → s ≡ start (cast_of job) → AllAreConforming job.deal job.conforming → IsDealt job.deal (conforms_in job.conforming) b)
-    → Writes taken taken' p q (reported job b) status → Says Run left left' n m taken taken' p q status
-says_run left left' n m taken taken' p q now job s b status e same k kept ended dealt w =
-    let out : Written = reported job b in
-    let gives : output_of Run e.bytes ≡ Ok out = gives_run e.bytes job s e.told ∙ ap (λ (x : Histories). Ok (reported job x)) (sym same) in
-    says_written Run left left' n m taken taken' p q out
+    → Writes taken taken' p q (reported transcript job b) status → Says (OfJob (Run transcript)) left left' n m taken taken' p q status
+says_run transcript left left' n m taken taken' p q now job s b status e same k kept ended dealt w =
+    let out : Written = reported transcript job b in
+    let gives : output_of (OfJob (Run transcript)) e.bytes ≡ Ok out =
+    gives_run transcript e.bytes job s e.told ∙ ap (λ (x : Histories). Ok (reported transcript job x)) (sym same) in
+    says_written (OfJob (Run transcript)) left left' n m taken taken' p q out
     (record { input = e.bytes; taken = e.took.consumed; ended = e.ended; within = is_within (λ bytes. IsPlayed bytes job s) left left' now e; gives = gives })
-    (run_of_bytes e.bytes ((e.told.line, e.told.text) ∷ e.told.others) out e.told.lines
-    (is_run e.told.line e.told.text e.told.others job s b out e.told.header e.told.leads same refl k kept ended dealt))
+    (run_of_bytes transcript e.bytes ((e.told.line, e.told.text) ∷ e.told.others) out e.told.lines
+    (is_run transcript e.told.line e.told.text e.told.others job s b out e.told.header e.told.leads same refl k kept ended dealt))
     status w
 
 pub says_check : (left left' : Option (List ℕ)) (n m : ℕ) (taken taken' : Option (List ℕ)) (p q : ℕ) (now : At) (job : Job) (status : Status)
     (e : Ends (λ bytes. IsChecked bytes job) left left' fresh now)
-    → IsAccepted job.deal → Writes taken taken' p q (told job) status → Says Check left left' n m taken taken' p q status
+    → IsAccepted job.deal → Writes taken taken' p q (told job) status → Says (OfJob Check) left left' n m taken taken' p q status
 says_check left left' n m taken taken' p q now job status e k w =
-    says_written Check left left' n m taken taken' p q (told job)
+    says_written (OfJob Check) left left' n m taken taken' p q (told job)
     (record {
       input = e.bytes;
       taken = e.took.consumed;
@@ -118,9 +120,9 @@ says_check left left' n m taken taken' p q now job status e k w =
 
 pub says_make : (left left' : Option (List ℕ)) (n m : ℕ) (taken taken' : Option (List ℕ)) (p q : ℕ) (now : At) (job : Job) (text : List ℕ) (status : Status)
     (e : Ends (λ bytes. IsCopied bytes job text) left left' fresh now)
-    → IsMade job → Writes taken taken' p q (plain_text text) status → Says Make left left' n m taken taken' p q status
+    → IsMade job → Writes taken taken' p q (plain_text text) status → Says (OfJob Make) left left' n m taken taken' p q status
 says_make left left' n m taken taken' p q now job text status e k w =
-    says_written Make left left' n m taken taken' p q (plain_text text)
+    says_written (OfJob Make) left left' n m taken taken' p q (plain_text text)
     (record {
       input = e.bytes;
       taken = e.took.consumed;

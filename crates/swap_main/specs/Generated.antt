@@ -3,10 +3,10 @@ use Rattle.std.specs.Prelude.{◌≡◌, ◌≤◌, ℕ, List, Option, Some, if�
 use Rattle.swap_rules.specs.Accepted.{IsAccepted}
 use Rattle.swap_gen.specs.Drawn.{generated}
 use Rattle.made_jobs.specs.Generating.{generated_book, generated_summary, generated_text, is_found}
+use Rattle.audit_command.specs.Output.{Written}
 use Rattle.swap_main.specs.Output.{plain_text}
 use Rattle.swap_main.specs.Says.{Says, Writes}
 use Rattle.swap_main.specs.Words.{request_of}
-use Rattle.swap_main.specs.Written.{Written}
 use Rattle.swap_main.specs.declared.words.Request.{Request}
 use Rattle.swap_main.specs.declared.words.Task.{Task}
 use Rattle.swap_main.specs.declared.words.Task.TheVariants.{Input, Number}

@@ -1,5 +1,4 @@
 pub mod Words
-pub mod Written
 pub mod Output
 pub mod Promised
 pub mod Top

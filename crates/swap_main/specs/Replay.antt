@@ -1,5 +1,5 @@
 -- A replay: something that steps at each event line.
-use Rattle.std.specs.Prelude.{◌≡◌, ℕ, List, [], ◌∷◌, fold, Result, Ok, Err}
+use Rattle.std.specs.Prelude.{◌≡◌, ℕ, Bool, List, [], ◌∷◌, fold, Result, Ok, Err}
 use Rattle.swap_base.specs.Fault.{◌>>=◌}
 use Rattle.deviator_script.specs.declared.job.Job.{Job}
 use Rattle.deviator_script.specs.declared.event.Event.{Event}
@@ -15,9 +15,9 @@ use Rattle.swap_world.specs.Value.{WorldState}
 use Rattle.swap_gen.specs.Made.{made}
 use Rattle.made_jobs.specs.Making.{copied, written_line}
 use Rattle.swap_main.specs.Output.{finished, plain_text, reported, told}
-use Rattle.swap_main.specs.Written.{Written}
-use Rattle.swap_main.specs.declared.words.Command.{Command}
-use Rattle.swap_main.specs.declared.words.Command.TheVariants.{Check, Run, Make}
+use Rattle.audit_command.specs.Output.{Written}
+use Rattle.swap_main.specs.declared.words.JobCommand.{JobCommand}
+use Rattle.swap_main.specs.declared.words.JobCommand.TheVariants.{Check, Run, Make}
 
 -- what f makes of x along the events of lines, where so many came before
 unfoldable pub replayed : {A : Type 0} → (A → Event → A) → Job → ℕ → A → List (ℕ × List ℕ) → Result A Reason
@@ -60,11 +60,11 @@ abbrev pub IsCopied : List ℕ → Job → List ℕ → Type 0
 IsCopied bytes job text = IsRead purposes.Make (λ job. copied 0 (written_line (made job))) bytes job text
 
 -- what a run writes
-unfoldable pub of_run : ℕ → List ℕ → List (ℕ × List ℕ) → Result Written Reason
-of_run line text ls = do
+unfoldable pub of_run : Bool → ℕ → List ℕ → List (ℕ × List ℕ) → Result Written Reason
+of_run transcript line text ls = do
   job ← job_header_of purposes.Run line text
   s ← replayed (step (cast_of job)) job 0 (start (cast_of job)) ls
-  Ok (reported job (finished job.finish (cast_of job) s).book)
+  Ok (reported transcript job (finished job.finish (cast_of job) s).book)
 
 -- what a check writes
 unfoldable pub of_check : ℕ → List ℕ → List (ℕ × List ℕ) → Result Written Reason
@@ -80,13 +80,13 @@ of_make line text ls = do
   t ← copied 0 (written_line (made job)) ls
   Ok (plain_text t)
 
--- what is written for the header and the further lines of an input
-abbrev pub of_header : Command → ℕ → List ℕ → List (ℕ × List ℕ) → Result Written Reason
-of_header Run line text ls = of_run line text ls
+-- what is written for the header and the further lines of a job
+abbrev pub of_header : JobCommand → ℕ → List ℕ → List (ℕ × List ℕ) → Result Written Reason
+of_header (Run transcript) line text ls = of_run transcript line text ls
 of_header Check line text ls = of_check line text ls
 of_header Make line text ls = of_make line text ls
 
--- what is written for the lines of an input
-abbrev pub of_lines : Command → List (ℕ × List ℕ) → Result Written Reason
+-- what is written for the lines of a job
+abbrev pub of_lines : JobCommand → List (ℕ × List ℕ) → Result Written Reason
 of_lines command [] = Err (NotJson 1)
 of_lines command (l ∷ ls) = of_header command l.0 l.1 ls

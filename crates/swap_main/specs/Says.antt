@@ -5,10 +5,12 @@ use Rattle.swap_io.specs.Causes.{Rose, ConsumesSome, AppendsProperPrefix}
 use Rattle.swap_io.specs.Handed.{AppendsPrefix}
 use Rattle.refusals.specs.declared.reason.Reason.{Reason}
 use Rattle.refusals.specs.declared.refusal.Refusal.{Refusal}
+use Rattle.audit_command.specs.Output.{Written}
+use Rattle.audit_command.specs.declared.ending.AuditEnding.{AuditEnding}
+use Rattle.audit_command.specs.declared.ending.AuditEnding.TheVariants as ending
 use Rattle.swap_main.specs.Input.{limit}
 use Rattle.swap_main.specs.Output.{output_of, names_of}
 use Rattle.swap_main.specs.Promised.{AsPromised}
-use Rattle.swap_main.specs.Written.{Written}
 use Rattle.swap_main.specs.declared.words.Command.{Command}
 use Rattle.swap_main.specs.declared.status.Status.{Status}
 use Rattle.swap_main.specs.declared.status.Status.TheVariants.{Done, Named, WrongWords, Refused, ReadFault, WriteFault, NoMemory, TooLong}
@@ -73,3 +75,13 @@ Says command left left' n m taken taken' p q ReadFault = Rose n m × Keeps taken
 Says command left left' n m taken taken' p q WriteFault = Rose p q × HasOutput (λ output. AppendsProperPrefix taken taken' output.text) command left left'
 Says command left left' n m taken taken' p q NoMemory = Keeps taken taken' ⊎ HasOutput (λ output. AppendsPrefix taken taken' output.text) command left left'
 Says command left left' n m taken taken' p q TooLong = ConsumesSome left left' (limit + 1) × Keeps taken taken'
+
+-- the status of an audit, by its ending
+abbrev pub status_by : AuditEnding → Status
+status_by ending.Done = Done
+status_by ending.Named = Named
+status_by (ending.Refused refusal) = Refused refusal.reason refusal.names
+status_by ending.ReadFault = ReadFault
+status_by ending.WriteFault = WriteFault
+status_by ending.NoMemory = NoMemory
+status_by ending.TooLong = TooLong

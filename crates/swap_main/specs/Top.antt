@@ -9,13 +9,14 @@ use Rattle.deviator_script.specs.declared.job.Purpose.TheVariants as purposes
 use Rattle.deviator_script.specs.declared.job.Finish.TheVariants.{Fair}
 use Rattle.outcome_rules.specs.Promises.{AllAreConforming}
 use Rattle.swap_offer.specs.Job.{job_of}
+use Rattle.audit_command.specs.Output.{Written}
 use Rattle.swap_main.specs.Words.{command_of}
 use Rattle.swap_main.specs.Input.{limit}
 use Rattle.swap_main.specs.Output.{output_of, names_of}
-use Rattle.swap_main.specs.Written.{Written}
 use Rattle.swap_main.specs.Promised.{AsPromised}
 use Rattle.swap_main.specs.declared.words.Command.{Command}
-use Rattle.swap_main.specs.declared.words.Command.TheVariants.{Run}
+use Rattle.swap_main.specs.declared.words.Command.TheVariants.{OfJob}
+use Rattle.swap_main.specs.declared.words.JobCommand.TheVariants.{Run}
 use Rattle.swap_main.specs.declared.status.Status.{Status}
 use Rattle.swap_main.specs.declared.status.Status.TheVariants.{Done, Named}
 
@@ -56,7 +57,8 @@ pub record IsRefused (words : List (List ℕ)) (left left' : Option (List ℕ)) 
 
 -- The words ask for a run, and the input is an offer of parties that all conform, with a fair finish and no event before it.
 pub record AsksFairRun (words : List (List ℕ)) (left : Option (List ℕ)) : Type 0 where
-  pub asked : command_of words ≡ Some Run
+  pub transcript : Bool
+  pub asked : command_of words ≡ Some (OfJob (Run transcript))
   pub input : List ℕ
   pub told : left ≡ Some input
   pub within : length input ≤ limit

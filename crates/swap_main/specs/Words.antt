@@ -1,22 +1,22 @@
 -- What the words ask for, of what is built.
-use Rattle.std.specs.Prelude.{ℕ, true, false, List, Option, Some, None, option_and_then}
+use Rattle.std.specs.Prelude.{◌≡◌, ℕ, Bool, List, Option, Some, None, option_and_then}
 use Rattle.program_words.specs.Words.{command_of as asked_of}
 use Rattle.program_words.specs.declared.command.Command.{Command as Asked}
 use Rattle.program_words.specs.declared.command.Command.TheVariants as asked
 use Rattle.swap_main.specs.declared.words.Command.{Command}
-use Rattle.swap_main.specs.declared.words.Command.TheVariants.{Check, Run, Make}
+use Rattle.swap_main.specs.declared.words.Command.TheVariants.{OfJob, Audit}
+use Rattle.swap_main.specs.declared.words.JobCommand.TheVariants.{Check, Run, Make}
 use Rattle.swap_main.specs.declared.words.Request.{Request}
 use Rattle.swap_main.specs.declared.words.Task.{Task}
 use Rattle.swap_main.specs.declared.words.Task.TheVariants.{Input, Number}
 
 -- what a command of the program asks for; nothing where it isn't built yet
 abbrev pub built : Asked → Option Task
-built asked.Check = Some (Input Check)
-built (asked.Run false) = Some (Input Run)
-built (asked.Run true) = None
+built asked.Check = Some (Input (OfJob Check))
+built (asked.Run transcript) = Some (Input (OfJob (Run transcript)))
 built (asked.Race ticks transcript) = None
-built asked.Audit = None
-built asked.Make = Some (Input Make)
+built asked.Audit = Some (Input Audit)
+built asked.Make = Some (Input (OfJob Make))
 built (asked.Gen seed parties events summary) = Some (Number (record { seed = seed; parties = parties; events = events; summary = summary }))
 
 -- what the words ask for
@@ -38,3 +38,9 @@ command_of words = option_and_then input_of (task_of words)
 -- the job of a number that the words ask for
 abbrev pub request_of : List (List ℕ) → Option Request
 request_of words = option_and_then number_of (task_of words)
+
+-- The words ask for a race, which isn't built yet.
+pub record AsksRace (words : List (List ℕ)) : Type 0 where
+  pub ticks : ℕ
+  pub transcript : Bool
+  pub asks : asked_of words ≡ Some (asked.Race ticks transcript)

@@ -15,7 +15,7 @@ use crate::input::Input;
 use crate::replay::pass_over;
 use crate::status::Status;
 use crate::stop::stop;
-use crate::words::Command;
+use crate::words::{Command, JobCommand};
 use deviator_script::Job;
 use refusals::Refusal;
 use std::alloc::Global;
@@ -61,11 +61,11 @@ fn examine<S: Source>(
     ensures accepted { IfOk result (λ j. IsAccepted j.0.deal) }
     ensures sized { IfOk result (λ j. IsWellSized j.0.deal) }
     ensures need { IfOk result (λ j. j.1 ≡ need_of j.0.deal) }
-    ensures stops { IfErr result (λ e. Stops (IsAgainst Command.Check) (S.left source.old) (S.left source.new) (S.faults source.old)
+    ensures stops { IfErr result (λ e. Stops (IsAgainst (Command.OfJob JobCommand.Check)) (S.left source.old) (S.left source.new) (S.faults source.old)
         (S.faults source.new) fresh input.new e) }
     ensures later { S.faults source.old ≤ S.faults source.new }
 {
-    let Prepared { job, need, .. } = first_line(alloc, Command::Check, input, source)?;
+    let Prepared { job, need, .. } = first_line(alloc, JobCommand::Check, input, source)?;
     match pass_over(alloc, &job, input, source) {
         Ok(()) => Ok((job, need)),
         Err(fault) => Err(fault.with_names(job.names)),
@@ -95,8 +95,8 @@ pub(crate) fn check<S: Source, K: Sink>(
     sink: &mut K,
 ) -> Status
     requires { input.old ≡ fresh }
-    ensures { Says Command.Check (S.left source.old) (S.left source.new) (S.faults source.old) (S.faults source.new) (K.taken sink.old) (K.taken sink.new)
-        (K.faults sink.old) (K.faults sink.new) result }
+    ensures { Says (Command.OfJob JobCommand.Check) (S.left source.old) (S.left source.new) (S.faults source.old) (S.faults source.new)
+        (K.taken sink.old) (K.taken sink.new) (K.faults sink.old) (K.faults sink.new) result }
 {
     match examine(alloc, input, source) {
         Ok((job, need)) => tell(alloc, sink, &job, need),

@@ -11,7 +11,7 @@ ghost use Rattle.swap_main.specs.Says.{IsAgainst};
 
 use crate::fault::{InputFault, empty};
 use crate::input::Input;
-use crate::words::{Command, purpose_of};
+use crate::words::{Command, JobCommand, purpose_of};
 use refusals::Refusal;
 use std::alloc::Global;
 use swap_io::Source;
@@ -20,7 +20,7 @@ use swap_offer::{Prepared, read_header};
 /// The job of an input's header with the wallets that the command needs, or what is said against it.
 pub(crate) fn first_line<S: Source>(
     alloc: Global,
-    command: Command,
+    command: JobCommand,
     input: &mut Input,
     source: &mut S,
 ) -> Result<Prepared, InputFault<Refusal>>
@@ -39,7 +39,7 @@ pub(crate) fn first_line<S: Source>(
     ensures wallets { IfOk result (λ p. HaveWalletsFor (purpose_of command) p.job) }
     ensures made { IfOk result (λ p. p.wallets.items ≡ wallets_for (purpose_of command) p.job) }
     ensures need { IfOk result (λ p. p.need ≡ need_of p.job.deal) }
-    ensures stops { IfErr result (λ e. Stops (IsAgainst command) (S.left source.old) (S.left source.new) (S.faults source.old)
+    ensures stops { IfErr result (λ e. Stops (IsAgainst (Command.OfJob command)) (S.left source.old) (S.left source.new) (S.faults source.old)
         (S.faults source.new) fresh input.new e) }
     ensures later { S.faults source.old ≤ S.faults source.new }
 {

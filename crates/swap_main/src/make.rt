@@ -12,7 +12,7 @@ use crate::header::first_line;
 use crate::input::Input;
 use crate::status::Status;
 use crate::stop::stop;
-use crate::words::Command;
+use crate::words::{Command, JobCommand};
 use deviator_script::Job;
 use made_jobs::{copy_line, made_line};
 use refusals::{Reason, Refusal};
@@ -50,11 +50,11 @@ fn copy<S: Source>(
     requires { input.old ≡ fresh }
     ensures copied { IfOk result (λ c. Ends (λ bytes. IsCopied bytes c.0 c.1.items) (S.left source.old) (S.left source.new) fresh input.new) }
     ensures made { IfOk result (λ c. IsMade c.0) }
-    ensures stops { IfErr result (λ e. Stops (IsAgainst Command.Make) (S.left source.old) (S.left source.new) (S.faults source.old)
+    ensures stops { IfErr result (λ e. Stops (IsAgainst (Command.OfJob JobCommand.Make)) (S.left source.old) (S.left source.new) (S.faults source.old)
         (S.faults source.new) fresh input.new e) }
     ensures later { S.faults source.old ≤ S.faults source.new }
 {
-    let Prepared { job, .. } = first_line(alloc, Command::Make, input, source)?;
+    let Prepared { job, .. } = first_line(alloc, JobCommand::Make, input, source)?;
     let mut text = made_line(alloc, &job)?;
     match copy_lines(alloc, &mut text, input, source) {
         Ok(()) => Ok((job, text)),
@@ -80,8 +80,8 @@ pub(crate) fn make<S: Source, K: Sink>(
     sink: &mut K,
 ) -> Status
     requires { input.old ≡ fresh }
-    ensures { Says Command.Make (S.left source.old) (S.left source.new) (S.faults source.old) (S.faults source.new) (K.taken sink.old) (K.taken sink.new)
-        (K.faults sink.old) (K.faults sink.new) result }
+    ensures { Says (Command.OfJob JobCommand.Make) (S.left source.old) (S.left source.new) (S.faults source.old) (S.faults source.new)
+        (K.taken sink.old) (K.taken sink.new) (K.faults sink.old) (K.faults sink.new) result }
 {
     match copy(alloc, input, source) {
         Ok((_, text)) => tell(sink, &text),

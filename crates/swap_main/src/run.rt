@@ -1,18 +1,23 @@
-//! The command `run`: the events of a job are replayed, its finish is made, and the report is written.
+//! The command `run`: the events of a job are replayed, its finish is made, and the report is written, or the transcript.
 
-ghost use Rattle.std.specs.Prelude.{◌≡◌, ◌≤◌, false, IfOk, IfErr};
+ghost use Rattle.std.specs.Prelude.{◌≡◌, ◌≤◌, false, IfOk, IfErr, IsErrOf, OnOk, map};
+ghost use Rattle.std.specs.Io.KnownBytes.{Appends};
+ghost use Rattle.swap_io.specs.Causes.{AppendsProperPrefix, Rose};
+ghost use Rattle.swap_io.specs.Handed.{AppendsPrefix};
 ghost use Rattle.swap_rules.specs.Accepted.{IsAccepted};
 ghost use Rattle.swap_rules.specs.Outcome.{IsEnded};
 ghost use Rattle.swap_laws.specs.Laws.{IsDealt};
 ghost use Rattle.ledger_core.specs.Book.{IsLegalBook};
+ghost use Rattle.offer_header.specs.Names.{AreNames};
 ghost use Rattle.outcome_rules.specs.Report.{conforms_in};
 ghost use Rattle.outcome_rules.specs.Promises.{AllAreConforming};
 ghost use Rattle.swap_run.specs.Run.{start};
 ghost use Rattle.swap_run.specs.Laws.{IsKept};
 ghost use Rattle.swap_world.specs.Cast.{cast_of};
+ghost use Rattle.swap_offer.specs.Checks.{role_of};
 ghost use Rattle.swap_offer.specs.Job.{IsWhole};
 ghost use Rattle.swap_main.specs.Input.{Ends, Stops, fresh};
-ghost use Rattle.swap_main.specs.Output.{finished, reported};
+ghost use Rattle.swap_main.specs.Output.{finished, report_for, reported, run_text};
 ghost use Rattle.swap_main.specs.Replay.{IsOf, IsPlayed};
 ghost use Rattle.swap_main.specs.Says.{IsAgainst, Says, Writes};
 
@@ -23,10 +28,10 @@ use crate::input::Input;
 use crate::replay::replay;
 use crate::status::Status;
 use crate::stop::stop;
-use crate::words::Command;
-use deviator_script::{Finish, Job};
+use crate::words::{Command, JobCommand};
+use deviator_script::{Finish, Job, Purpose};
 use ledger_core::Book;
-use outcome_rules::report_of;
+use outcome_rules::{Report, report_of};
 use refusals::Refusal;
 use std::alloc::Global;
 use swap_base::NoMemory;
@@ -34,24 +39,34 @@ use swap_io::{Sink, Source, TextFault};
 use swap_offer::Prepared;
 use swap_world::World;
 use transcript_text::write_report;
+use transcript_writer::write_transcript;
 
 /// The job of an input, and its world after all events.
 fn play<S: Source>(
     alloc: Global,
+    transcript: bool,
     input: &mut Input,
     source: &mut S,
 ) -> Result<(Job, World), InputFault<Refusal>>
     requires { input.old ≡ fresh }
     ensures played { IfOk result (λ p. Ends (λ bytes. IsPlayed bytes p.0 p.1.state) (S.left source.old) (S.left source.new) fresh input.new) }
     ensures whole { IfOk result (λ p. IsWhole p.0) }
+    ensures names { IfOk result (λ p. AreNames p.0.names) }
+    ensures roles { IfOk result (λ p. p.0.roles ≡ map role_of p.0.conforming) }
+    ensures purpose { IfOk result (λ p. p.0.purpose ≡ Purpose.Run) }
     ensures accepted { IfOk result (λ p. IsAccepted p.0.deal) }
     ensures of { IfOk result (λ p. IsOf p.0 p.1) }
     ensures goes_on { IfOk result (λ p. p.1.stopped ≡ false) }
-    ensures stops { IfErr result (λ e. Stops (IsAgainst Command.Run) (S.left source.old) (S.left source.new) (S.faults source.old)
-        (S.faults source.new) fresh input.new e) }
+    ensures stops { IfErr result (λ e. Stops (IsAgainst (Command.OfJob (JobCommand.Run transcript))) (S.left source.old) (S.left source.new)
+        (S.faults source.old) (S.faults source.new) fresh input.new e) }
     ensures later { S.faults source.old ≤ S.faults source.new }
 {
-    let Prepared { job, wallets, .. } = first_line(alloc, Command::Run, input, source)?;
+    let Prepared { job, wallets, .. } = first_line(
+        alloc,
+        JobCommand::Run { transcript },
+        input,
+        source,
+    )?;
     match replay(alloc, &job, wallets, input, source) {
         Ok(world) => Ok((job, world)),
         Err(fault) => Err(fault.with_names(job.names)),
@@ -72,16 +87,48 @@ fn conclude(alloc: Global, job: &Job, mut world: World) -> Result<Book, NoMemory
     world.into_book(alloc)
 }
 
-/// Writes the report of a job's book.
-fn tell<K: Sink>(alloc: Global, sink: &mut K, job: &Job, book: &Book) -> Status
+/// Writes the report of a job's book, or its transcript.
+fn write_text<K: Sink>(
+    alloc: Global,
+    transcript: bool,
+    sink: &mut K,
+    job: &Job,
+    book: &Book,
+    report: &Report,
+) -> Result<(), TextFault>
     requires whole { IsWhole job.now }
+    requires names { AreNames job.now.names }
+    requires roles { job.now.roles ≡ map role_of job.now.conforming }
+    requires purpose { job.now.purpose ≡ Purpose.Run }
     requires legal { IsLegalBook job.now.deal book.now.histories }
-    ensures { Writes (K.taken sink.old) (K.taken sink.new) (K.faults sink.old) (K.faults sink.new) (reported job.now book.now.histories) result }
+    requires report { report.now ≡ report_for job.now book.now.histories }
+    ensures all { OnOk result (Appends (K.taken sink.old) (K.taken sink.new) (run_text transcript job.now book.now.histories report.now)) }
+    ensures write_fault { IsErrOf result TextFault.WriteFault
+        → AppendsProperPrefix (K.taken sink.old) (K.taken sink.new) (run_text transcript job.now book.now.histories report.now) }
+    ensures no_memory { IsErrOf result TextFault.NoMemory
+        → AppendsPrefix (K.taken sink.old) (K.taken sink.new) (run_text transcript job.now book.now.histories report.now) }
+    ensures failed { IsErrOf result TextFault.WriteFault → Rose (K.faults sink.old) (K.faults sink.new) }
+{
+    if transcript {
+        write_transcript(alloc, sink, job, book)
+    } else {
+        write_report(alloc, sink, job, book, report)
+    }
+}
+
+/// Writes the report of a job's book, or its transcript, and says whether the report tells of a finding.
+fn tell<K: Sink>(alloc: Global, transcript: bool, sink: &mut K, job: &Job, book: &Book) -> Status
+    requires whole { IsWhole job.now }
+    requires names { AreNames job.now.names }
+    requires roles { job.now.roles ≡ map role_of job.now.conforming }
+    requires purpose { job.now.purpose ≡ Purpose.Run }
+    requires legal { IsLegalBook job.now.deal book.now.histories }
+    ensures { Writes (K.taken sink.old) (K.taken sink.new) (K.faults sink.old) (K.faults sink.new) (reported transcript job.now book.now.histories) result }
 {
     let Ok(report) = report_of(alloc, &job.deal, &job.conforming, book) else {
         return Status::NoMemory;
     };
-    match write_report(alloc, sink, job, book, &report) {
+    match write_text(alloc, transcript, sink, job, book, &report) {
         Ok(()) => {
             if report.findings.is_empty() {
                 Status::Done
@@ -97,20 +144,21 @@ fn tell<K: Sink>(alloc: Global, sink: &mut K, job: &Job, book: &Book) -> Status
 /// Runs a job.
 pub(crate) fn run<S: Source, K: Sink>(
     alloc: Global,
+    transcript: bool,
     input: &mut Input,
     source: &mut S,
     sink: &mut K,
 ) -> Status
     requires { input.old ≡ fresh }
-    ensures { Says Command.Run (S.left source.old) (S.left source.new) (S.faults source.old) (S.faults source.new) (K.taken sink.old) (K.taken sink.new)
-        (K.faults sink.old) (K.faults sink.new) result }
+    ensures { Says (Command.OfJob (JobCommand.Run transcript)) (S.left source.old) (S.left source.new) (S.faults source.old) (S.faults source.new)
+        (K.taken sink.old) (K.taken sink.new) (K.faults sink.old) (K.faults sink.new) result }
 {
-    let (job, world) = match play(alloc, input, source) {
+    let (job, world) = match play(alloc, transcript, input, source) {
         Ok(played) => played,
         Err(fault) => return stop(input, source, fault),
     };
     let Ok(book) = conclude(alloc, &job, world) else {
         return Status::NoMemory;
     };
-    tell(alloc, sink, &job, &book)
+    tell(alloc, transcript, sink, &job, &book)
 }

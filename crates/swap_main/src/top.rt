@@ -1,6 +1,6 @@
 //! The whole program over a source and a sink.
 
-ghost use Rattle.std.specs.Prelude.{◌≡◌, ◌<◌, ◌≤◌, ◌+◌, ◌⊎◌, ℕ, List, length, map, string_bytes, Some, None, Ok, Err, true, false};
+ghost use Rattle.std.specs.Prelude.{◌≡◌, ◌<◌, ◌≤◌, ◌+◌, ◌⊎◌, ◌↔◌, ℕ, List, length, map, string_bytes, Some, None, Ok, Err, true, false};
 ghost use Rattle.std.specs.Io.KnownBytes.{Keeps};
 ghost use Rattle.swap_io.specs.Causes.{AppendsProperPrefix, Rose, ConsumesSome};
 ghost use Rattle.swap_io.specs.Handed.{AppendsPrefix};
@@ -8,36 +8,53 @@ ghost use Rattle.refusals.specs.declared.reason.Reason.{Reason};
 ghost use Rattle.program_words.specs.Words.{command_of as asked_of};
 ghost use Rattle.swap_main.specs.declared.words.Command.{Command};
 ghost use Rattle.swap_main.specs.declared.words.Request.{Request};
-ghost use Rattle.swap_main.specs.Written.{Written};
-ghost use Rattle.swap_main.specs.Words.{command_of, request_of, task_of};
+ghost use Rattle.audit_command.specs.Output.{Written};
+ghost use Rattle.swap_main.specs.Words.{AsksRace, command_of, request_of};
 ghost use Rattle.swap_main.specs.Output.{output_of, names_of};
 ghost use Rattle.swap_main.specs.Generated.{generated_output, Generates, IsWithin, Performs};
 ghost use Rattle.swap_main.specs.Input.{limit};
 ghost use Rattle.swap_main.specs.Says.{IsWhole, Says};
 ghost use Rattle.swap_main.specs.Top.{AsksFairRun, IsDone, IsCut, IsRefused, IsShort, status_of};
 
+use crate::audit::audit;
 use crate::check::check;
 use crate::generate::generate;
 use crate::input::Input;
 use crate::make::make;
 use crate::run::run;
 use crate::status::Status;
-use crate::words::{Command, Task, task_of};
+use crate::words::{Command, JobCommand, Task, task_of};
 use std::alloc::Global;
 use swap_io::{Sink, Source};
+
+/// What a command does that reads a job.
+fn obey_job<S: Source, K: Sink>(
+    alloc: Global,
+    command: JobCommand,
+    source: &mut S,
+    sink: &mut K,
+) -> Status
+    ensures { Says (Command.OfJob command) (S.left source.old) (S.left source.new) (S.faults source.old) (S.faults source.new) (K.taken sink.old)
+        (K.taken sink.new) (K.faults sink.old) (K.faults sink.new) result }
+{
+    let Ok(mut input) = Input::new(alloc) else {
+        return Status::NoMemory;
+    };
+    match command {
+        JobCommand::Check => check(alloc, &mut input, source, sink),
+        JobCommand::Run { transcript } => run(alloc, transcript, &mut input, source, sink),
+        JobCommand::Make => make(alloc, &mut input, source, sink),
+    }
+}
 
 /// What a command does that reads an input.
 fn obey<S: Source, K: Sink>(alloc: Global, command: Command, source: &mut S, sink: &mut K) -> Status
     ensures { Says command (S.left source.old) (S.left source.new) (S.faults source.old) (S.faults source.new) (K.taken sink.old) (K.taken sink.new)
         (K.faults sink.old) (K.faults sink.new) result }
 {
-    let Ok(mut input) = Input::new(alloc) else {
-        return Status::NoMemory;
-    };
     match command {
-        Command::Check => check(alloc, &mut input, source, sink),
-        Command::Run => run(alloc, &mut input, source, sink),
-        Command::Make => make(alloc, &mut input, source, sink),
+        Command::OfJob(command) => obey_job(alloc, command, source, sink),
+        Command::Audit => audit(alloc, source, sink),
     }
 }
 
@@ -61,10 +78,10 @@ pub fn swap_top<S: Source, K: Sink>(
     source: &mut S,
     sink: &mut K,
 ) -> Status
-    // Wrong words are those that aren't well formed, and those of a command that isn't built yet, which may want memory to be read.
-    ensures words { result ≡ Status.WrongWords → task_of (map string_bytes words.now.items) ≡ None }
-    ensures wrong { asked_of (map string_bytes words.now.items) ≡ None → result ≡ Status.WrongWords }
-    ensures unbuilt { task_of (map string_bytes words.now.items) ≡ None → (result ≡ Status.WrongWords) ⊎ (result ≡ Status.NoMemory) }
+    // Wrong words are those that aren't well formed. Those of a race, which isn't built yet, may want memory to be read.
+    ensures words { ¬ AsksRace (map string_bytes words.now.items)
+        → ((result ≡ Status.WrongWords) ↔ (asked_of (map string_bytes words.now.items) ≡ None)) }
+    ensures unbuilt { AsksRace (map string_bytes words.now.items) → (result ≡ Status.WrongWords) ⊎ (result ≡ Status.NoMemory) }
     ensures unread { result ≡ Status.WrongWords → source.new ≡ source.old }
 
     // What each status says: by an input, or without one by a number.

@@ -10,12 +10,20 @@ use program_words::{Command as Asked, read_command};
 use std::alloc::Global;
 use swap_base::NoMemory;
 
-/// A command that reads an input.
+/// A command that reads a job.
+#[derive(Clone, Copy, Debug, PartialEq, Eq)]
+pub enum JobCommand {
+    Check,
+    /// The report is written, or the transcript.
+    Run { transcript: bool },
+    Make,
+}
+
+/// A command that reads an input: a job, or a transcript.
 #[derive(Clone, Copy, Debug, PartialEq, Eq)]
 pub enum Command {
-    Check,
-    Run,
-    Make,
+    OfJob(JobCommand),
+    Audit,
 }
 
 /// The job of a number: it is written with so many events, or run and its summary written.
@@ -39,9 +47,12 @@ fn built(asked: Asked) -> Option<Task>
     ensures { result ≡ built asked }
 {
     match asked {
-        Asked::Check => Some(Task::Input(Command::Check)),
-        Asked::Run { transcript: false } => Some(Task::Input(Command::Run)),
-        Asked::Make => Some(Task::Input(Command::Make)),
+        Asked::Check => Some(Task::Input(Command::OfJob(JobCommand::Check))),
+        Asked::Run { transcript } => {
+            Some(Task::Input(Command::OfJob(JobCommand::Run { transcript })))
+        }
+        Asked::Audit => Some(Task::Input(Command::Audit)),
+        Asked::Make => Some(Task::Input(Command::OfJob(JobCommand::Make))),
         Asked::Gen {
             seed,
             parties,
@@ -53,7 +64,7 @@ fn built(asked: Asked) -> Option<Task>
             events,
             summary,
         })),
-        Asked::Run { transcript: true } | Asked::Race { .. } | Asked::Audit => None,
+        Asked::Race { .. } => None,
     }
 }
 
@@ -69,13 +80,13 @@ pub(crate) fn task_of(alloc: Global, words: &[String]) -> Result<Option<Task>, N
     }
 }
 
-/// What an input is read for.
-pub(crate) fn purpose_of(command: Command) -> Purpose
+/// What a job is read for.
+pub(crate) fn purpose_of(command: JobCommand) -> Purpose
     ensures { result ≡ purpose_of command }
 {
     match command {
-        Command::Run => Purpose::Run,
-        Command::Check => Purpose::Check,
-        Command::Make => Purpose::Make,
+        JobCommand::Run { .. } => Purpose::Run,
+        JobCommand::Check => Purpose::Check,
+        JobCommand::Make => Purpose::Make,
     }
 }

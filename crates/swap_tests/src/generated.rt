@@ -249,10 +249,12 @@ gen --seed 1 --parties 2 --events
 gen --seed= --parties 2 --events 0
 make --summary
 make x
-run --transcript
+run --transcript --transcript
+run --report
 race
 race --ticks 1
-audit";
+audit audit
+audit --transcript";
 
 /// What the program answers to words that stand between single blanks, where its input is empty.
 fn answer_to(alloc: Global, words: &str) -> Result<Vec<u8>, Fail> {

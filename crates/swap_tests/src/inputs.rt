@@ -1,31 +1,10 @@
 //! Inputs by their bytes and lines, and the program's words.
 
-use crate::deals::{HASHKEYS, TIMELOCKS};
+use crate::deals::{HASHKEYS, JOB, TIMELOCKS};
 use crate::runner::{answer, answer_from, cases, follows};
 use std::alloc::Global;
 use std::test::Fail;
 use swap_io::VecSource;
-
-/// A job of which each line counts.
-const JOB: &str = concat!(
-    r#"{"swap":1,"mode":"timelocks","start":10,"delta":10,"bound":2,"parties":[{"name":"alice","actor":"manual"},"#,
-    r#"{"name":"bob","actor":"manual"},{"name":"carol","actor":"manual"}],"arcs":[{"from":"alice","to":"bob","amount":100,"timelock":60},"#,
-    r#"{"from":"bob","to":"carol","amount":5,"timelock":50},{"from":"carol","to":"alice","amount":1,"timelock":40}],"#,
-    r#""leaders":[{"party":"alice","hashlock":"66687aadf862bd776c8fc18b8e9f8e20089714856ee233b3902a591d0d5f2925"}]}
-{"call":"alice","move":{"do":"publish","arc":0}}
-{"call":"carol","move":{"do":"publish","arc":2}}
-{"tick":2,"by":40}
-{"call":"alice","move":{"do":"raw","arc":2,"lock":0,"secret":"0000000000000000000000000000000000000000000000000000000000000000","path":[],"sigs":[]}}
-{"call":"alice","move":{"do":"claim","arc":2}}
-{"tick":0,"by":60}
-{"call":"alice","move":{"do":"refund","arc":0}}
-{"tick":0}
-{"call":"alice","move":{"do":"refund","arc":0}}
-{"tick":0,"by":10}
-{"tick":1,"by":71}
-{"tick":2,"by":31}
-"#,
-);
 
 const ANSWER: &str = "done
 swap report 1

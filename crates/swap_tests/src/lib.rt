@@ -31,3 +31,5 @@ mod runner;
 mod signatures;
 #[cfg(test)]
 mod three_way;
+#[cfg(test)]
+mod transcripts;

@@ -9,8 +9,8 @@ use swap_base::{ByteText, Listed};
 use swap_io::{VecSink, VecSource};
 use swap_main::{Status, refusal_line, swap_top};
 
-/// More bytes than any report here has.
-const ROOM: usize = 65_536;
+/// More bytes than any text here has that is written.
+const ROOM: usize = 1_048_576;
 
 /// The most bytes of one read or write.
 const PER_CALL: usize = 512;
@@ -87,7 +87,7 @@ pub fn follows(
 }
 
 /// The text with each edit made in it, if any. Edits are parted by ` && `, and each is `FROM => TO`, where FROM stands in the text.
-fn edited(rt: &impl Abort, alloc: Global, text: &str, edits: &str) -> Result<String, Fail> {
+pub fn edited(rt: &impl Abort, alloc: Global, text: &str, edits: &str) -> Result<String, Fail> {
     let mut edited = String::from_str(alloc, text)?;
     for edit in edits.split(" && ").filter(|edit| !edit.is_empty()) {
         let (from, to) = edit.split_once(" => ").ok_or("no edit")?;
@@ -102,12 +102,33 @@ fn input_of(rt: &impl Abort, alloc: Global, deal: &str, asked: &str) -> Result<S
     let (head, events) = asked.split_once("--\n").ok_or("no events")?;
     let (_name, edits) = head.split_once("\n").ok_or("no name")?;
     let mut input = edited(rt, alloc, deal, edits.trim())?;
-    input.push_str(signed(alloc, events)?.as_str())?;
-    Ok(input)
+    input.push_str(events)?;
+    signed(alloc, input.as_str())
+}
+
+/// The transcript of a run of the input has the status of that answer, and an audit of it gets that answer. A run that is refused has none.
+fn is_told_alike(
+    rt: &impl Abort,
+    alloc: Global,
+    name: &str,
+    input: &str,
+    wanted: &str,
+) -> Result<(), Fail> {
+    let bytes = Vec::from_slice(alloc, input.as_bytes())?;
+    let answered = answer(alloc, &["run", "--transcript"], bytes)?;
+    let text = str::from_utf8(&answered).unwrap_or("no text");
+    let (status, transcript) = text.split_once('\n').ok_or("no line")?;
+    let (wanted_status, report) = wanted.split_once('\n').ok_or("no line")?;
+    assert_eq!(rt; status, wanted_status, "{name}");
+    assert_eq!(rt; transcript.is_empty(), report.is_empty(), "{name}");
+    if transcript.is_empty() {
+        return Ok(());
+    }
+    answers(rt, alloc, "audit", name, transcript, wanted)
 }
 
 /// Each case begins with `== ` and its name. Then come a line with edits of the deal, if any, the events and the answer that it
-/// has to get, with a line `--` before the events and before the answer.
+/// has to get, with a line `--` before the events and before the answer. An audit of a run's transcript has to get it too.
 pub fn cases(
     rt: &impl Abort,
     alloc: Global,
@@ -119,6 +140,9 @@ pub fn cases(
         let (asked, wanted) = case.rsplit_once("--\n").ok_or("no answer")?;
         let input = input_of(rt, alloc, deal, asked)?;
         answers(rt, alloc, command, asked, input.as_str(), wanted)?;
+        if command == "run" {
+            is_told_alike(rt, alloc, asked, input.as_str(), wanted)?;
+        }
     }
     Ok(())
 }

@@ -1,5 +1,6 @@
 use Rattle.std.proofs.KnownBytes.{Keeps-refl}
-use Rattle.swap_main.specs.declared.words.Command.TheVariants.{Check}
+use Rattle.swap_main.specs.declared.words.Command.TheVariants.{OfJob}
+use Rattle.swap_main.specs.declared.words.JobCommand.TheVariants.{Check}
 use Rattle.swap_main.proofs.Saying.{says_check, says_unread}
 use Rattle.swap_main.proofs.check.check.Goals as goal
 
@@ -11,5 +12,5 @@ pub returns-in-Err : goal.returns-in-Err
 returns-in-Err g c =
     let left = g.S.Source.left c.args.source.now in
     let faults = g.S.Source.faults c.args.source.now in
-    says_unread Check left _ faults _ _ _ _ _ (Keeps-refl (g.K.Sink.taken c.args.sink.now)) c.stop.result
-    (c.stop.ensures Check left faults c.examine.ensures.later c.in-Err.ensures.stops)
+    says_unread (OfJob Check) left _ faults _ _ _ _ _ (Keeps-refl (g.K.Sink.taken c.args.sink.now)) c.stop.result
+    (c.stop.ensures (OfJob Check) left faults c.examine.ensures.later c.in-Err.ensures.stops)

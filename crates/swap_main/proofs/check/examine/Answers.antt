@@ -1,5 +1,5 @@
 use Rattle.deviator_script.specs.declared.job.Purpose.TheVariants as purposes
-use Rattle.swap_main.specs.declared.words.Command.TheVariants.{Check}
+use Rattle.swap_main.specs.declared.words.JobCommand.TheVariants.{Check}
 use Rattle.swap_main.specs.Replay.{passed_over, replayed}
 use Rattle.swap_main.proofs.Reading.{against_event, check_says, is_read}
 use Rattle.swap_main.proofs.check.examine.Goals as goal

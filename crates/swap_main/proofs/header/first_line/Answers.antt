@@ -3,6 +3,7 @@ use Rattle.std.proofs.lemmas.Result.{err_from_is_err_and}
 use Rattle.swap_io.proofs.Feeds.{took_none}
 use Rattle.swap_main.specs.Input.{fresh}
 use Rattle.swap_main.specs.Says.{IsAgainst}
+use Rattle.swap_main.specs.declared.words.Command.TheVariants.{OfJob}
 use Rattle.swap_main.proofs.Reading.{empty_stops, header_stops}
 use Rattle.swap_main.proofs.Streams.{line_stops}
 use Rattle.swap_main.proofs.header.first_line.Goals as goal
@@ -18,7 +19,7 @@ returns-in_err-next-clause-stops g c =
     let n = faults c.args.source.now in
     let p = err_from_is_err_and c.from_residual.result c.from_residual.ensures.1 in
     rw (p.1, p.2)
-    (line_stops (IsAgainst c.args.command) a a (left c.next.new.source) n n (faults c.next.new.source) fresh fresh c.next.new.self
+    (line_stops (IsAgainst (OfJob c.args.command)) a a (left c.next.new.source) n n (faults c.next.new.source) fresh fresh c.next.new.self
     c.in_err-next.field-0.0 ([], took_none a fresh.reading fresh.reading refl refl) (omega arith) (rw c.requires at c.in_err-next.ensures.fails))
 
 pub returns-then-not-branch-clause-stops : goal.returns-then-not-branch-clause-stops

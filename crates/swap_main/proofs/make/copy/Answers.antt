@@ -1,8 +1,7 @@
-use Rattle.std.proofs.Common.{◌≡◌, Err, Ok, List, ℕ, ap, subst, sym}
 use Rattle.deviator_script.specs.declared.job.Purpose.TheVariants as purposes
 use Rattle.swap_gen.specs.Made.{made}
 use Rattle.made_jobs.specs.Making.{copied, written_line}
-use Rattle.swap_main.specs.declared.words.Command.TheVariants.{Make}
+use Rattle.swap_main.specs.declared.words.JobCommand.TheVariants.{Make}
 use Rattle.swap_main.proofs.Reading.{against_event, is_read, make_says}
 use Rattle.swap_main.proofs.make.copy.Goals as goal
 

@@ -1,9 +1,9 @@
-use Rattle.std.proofs.Common.{◌≡◌, ◌+◌, ℕ, Err, List, arith, subst}
+use Rattle.std.proofs.Common.{◌≡◌, Err, arith}
 use Rattle.std.proofs.lemmas.Result.{err_from_is_err_and}
 use Rattle.made_jobs.specs.Making.{copied, next_line}
 use Rattle.made_jobs.proofs.Copying.{copied_none, copied_one, step_fails, step_says}
 use Rattle.swap_main.specs.Input.{ahead}
-use Rattle.swap_main.proofs.Streams.{Led, last_of, led_none, led_on, led_to_end, led_to_fault, line_of, line_stops, some_led}
+use Rattle.swap_main.proofs.Streams.{last_of, led_none, led_on, led_to_end, led_to_fault, line_of, line_stops, some_led}
 use Rattle.swap_main.proofs.make.copy_lines.Goals as goal
 
 pub lines-init : goal.lines-init

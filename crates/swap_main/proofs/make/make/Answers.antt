@@ -1,5 +1,6 @@
 use Rattle.std.proofs.KnownBytes.{Keeps-refl}
-use Rattle.swap_main.specs.declared.words.Command.TheVariants.{Make}
+use Rattle.swap_main.specs.declared.words.Command.TheVariants.{OfJob}
+use Rattle.swap_main.specs.declared.words.JobCommand.TheVariants.{Make}
 use Rattle.swap_main.proofs.Saying.{says_make, says_unread}
 use Rattle.swap_main.proofs.make.make.Goals as goal
 
@@ -12,5 +13,5 @@ pub returns : goal.returns
 returns g c =
     let left = g.S.Source.left c.args.source.now in
     let faults = g.S.Source.faults c.args.source.now in
-    says_unread Make left _ faults _ _ _ _ _ (Keeps-refl (g.K.Sink.taken c.args.sink.now)) c.stop.result
-    (c.stop.ensures Make left faults c.copy.ensures.later c.in-Err.ensures.stops)
+    says_unread (OfJob Make) left _ faults _ _ _ _ _ (Keeps-refl (g.K.Sink.taken c.args.sink.now)) c.stop.result
+    (c.stop.ensures (OfJob Make) left faults c.copy.ensures.later c.in-Err.ensures.stops)

@@ -1,7 +1,7 @@
 use Rattle.swap_run.specs.Run.{start, step}
 use Rattle.swap_world.specs.Cast.{cast_of}
 use Rattle.deviator_script.specs.declared.job.Purpose.TheVariants as purposes
-use Rattle.swap_main.specs.declared.words.Command.TheVariants.{Run}
+use Rattle.swap_main.specs.declared.words.JobCommand.TheVariants.{Run}
 use Rattle.swap_main.specs.Replay.{replayed}
 use Rattle.swap_main.proofs.Reading.{against_event, is_read, run_says}
 use Rattle.swap_main.proofs.run.play.Goals as goal
@@ -15,6 +15,6 @@ pub returns-in-Err-clause-stops : goal.returns-in-Err-clause-stops
 returns-in-Err-clause-stops g c =
     let job = c.in_ok-job.field-0.job in
     rw c.with_names.ensures
-    (against_event (replayed (step (cast_of job)) job 0 (start (cast_of job))) Run _ _ _ _ _
-    (run_says _ _ job c.in_ok-job.ensures.header) job.names c.in_ok-job.ensures.names c.in-Err.fault _ _ _ c.in_ok-job.ensures.line
+    (against_event (replayed (step (cast_of job)) job 0 (start (cast_of job))) (Run c.args.transcript) _ _ _ _ _
+    (run_says c.args.transcript _ _ job c.in_ok-job.ensures.header) job.names c.in_ok-job.ensures.names c.in-Err.fault _ _ _ c.in_ok-job.ensures.line
     c.first_line.ensures.later c.in-Err.ensures.stops)

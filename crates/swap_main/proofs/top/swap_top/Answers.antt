@@ -1,6 +1,6 @@
-use Rattle.std.proofs.Common.{◌≡◌, ◌∙◌, ℕ, List, map, string_bytes, Some, sym}
+use Rattle.std.proofs.Common.{◌≡◌, ◌∙◌, ℕ, List, map, string_bytes, Some, None, refl, sym}
 use Rattle.swap_main.specs.Words.{task_of}
-use Rattle.swap_main.proofs.Asking.{is_within, no_task}
+use Rattle.swap_main.proofs.Asking.{is_within, no_task, no_words, race_no_task}
 use Rattle.swap_main.proofs.Performing as tasks
 use Rattle.swap_main.proofs.top.swap_top.Goals as goal
 
@@ -11,10 +11,18 @@ perform-requires g c =
     is_within words c.in-Some.task asked
 
 pub returns-clause-words : goal.returns-clause-words
-returns-clause-words g c e =
+returns-clause-words g c calm =
     let words : List (List ℕ) = map string_bytes c.args.words.now.items in
-    let asked : task_of words ≡ Some c.in-Some.task = rw (sym c.deref.ensures.value) (sym c.in-Ok.ensures.exact ∙ c.in-Some.is) in
-    absurd (tasks.not_wrong_words words _ _ _ _ _ _ _ _ c.in-Some.task asked c.perform.result c.perform.ensures.says e)
+    let asked : task_of words ≡ Some c.in-Some.task = rw (sym c.deref.ensures.value) (sym c.in-Ok.ensures.exact ∙ c.in-Some.is) in (
+      λ e. absurd (tasks.not_wrong_words words _ _ _ _ _ _ _ _ c.in-Some.task asked c.perform.result c.perform.ensures.says e),
+      λ none. absurd (cc (sym asked ∙ no_task words none)),
+    )
+
+pub returns-in_default-asked-clause-words : goal.returns-in_default-asked-clause-words
+returns-in_default-asked-clause-words g c calm =
+    let words : List (List ℕ) = map string_bytes c.args.words.now.items in
+    let none : task_of words ≡ None = rw (sym c.deref.ensures.value) (sym c.in-Ok.ensures.exact ∙ c.in_default-asked.is) in
+    (λ e. no_words words calm none, λ e. refl)
 
 pub returns-clause-unread : goal.returns-clause-unread
 returns-clause-unread g c e =
@@ -124,14 +132,8 @@ returns-clause-not_read g c request is =
     let asked : task_of words ≡ Some c.in-Some.task = rw (sym c.deref.ensures.value) (sym c.in-Ok.ensures.exact ∙ c.in-Some.is) in
     c.perform.ensures.unread request (tasks.number_is words c.in-Some.task request asked is)
 
-pub returns-clause-wrong : goal.returns-clause-wrong
-returns-clause-wrong g c none =
-    let words : List (List ℕ) = map string_bytes c.args.words.now.items in
-    let asked : task_of words ≡ Some c.in-Some.task = rw (sym c.deref.ensures.value) (sym c.in-Ok.ensures.exact ∙ c.in-Some.is) in
-    absurd (cc (sym asked ∙ no_task words none))
-
 pub returns-clause-unbuilt : goal.returns-clause-unbuilt
-returns-clause-unbuilt g c none =
+returns-clause-unbuilt g c race =
     let words : List (List ℕ) = map string_bytes c.args.words.now.items in
     let asked : task_of words ≡ Some c.in-Some.task = rw (sym c.deref.ensures.value) (sym c.in-Ok.ensures.exact ∙ c.in-Some.is) in
-    absurd (cc (sym asked ∙ none))
+    absurd (cc (sym asked ∙ race_no_task words race))

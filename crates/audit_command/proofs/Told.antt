@@ -1,0 +1,89 @@
+-- What an audit says, by how its parts ended.
+use Rattle.std.proofs.Common.{◌≡◌, inl, inr, ℕ, List, Option, Result, Ok, Err, refl, ap, ◌∙◌, arith}
+use Rattle.std.proofs.KnownBytes.{Keeps-refl}
+use Rattle.swap_base.specs.Fault.{◌>>=◌}
+use Rattle.refusals.specs.declared.refusal.Refusal.{Refusal}
+use Rattle.outcome_rules.specs.declared.report.Report.{Report}
+use Rattle.swap_auditor.specs.WellFormed.{IsWellFormed}
+use Rattle.transcript_reader.specs.declared.reason.TranscriptReason.{TranscriptReason}
+use Rattle.transcript_reader.specs.Header.{header_read, IsTold}
+use Rattle.transcript_reader.specs.Reading.{Story, transcript_read}
+use Rattle.transcript_reader.proofs.Whole.{text_is_whole}
+use Rattle.audit_command.specs.declared.fault.Stopped.{Stopped}
+use Rattle.audit_command.specs.declared.fault.Stopped.TheVariants as stopped
+use Rattle.audit_command.specs.declared.ending.AuditEnding.{AuditEnding}
+use Rattle.audit_command.specs.declared.ending.AuditEnding.TheVariants.{Done, Named, Refused, ReadFault, WriteFault, NoMemory, TooLong}
+use Rattle.audit_command.specs.Output.{Written, audit_of, by_text, judged, written_of, story_in, told}
+use Rattle.audit_command.specs.Promised.{IsSound}
+use Rattle.audit_command.specs.Reading.{HasRead, Stops}
+use Rattle.audit_command.specs.Says.{HasAnswer, HasOutput, Says, Writes, unread}
+
+-- an answer to an input that was read
+answered : (P : List ℕ → Type 0) (a b : Option (List ℕ)) (output : Result Written Refusal) (k : HasRead P a b) → audit_of k.input ≡ output
+    → HasAnswer a b output
+answered P a b output k e = record {
+  input = k.input;
+  taken = k.took.consumed;
+  ended = k.ended;
+  within = omega (arith, k.took.counted, k.within);
+  gives = e;
+}
+
+-- no story
+refused_input : (input : List ℕ) (refusal : Refusal) → story_in input ≡ Err refusal → audit_of input ≡ Err refusal
+unfolding audit_of
+refused_input input refusal e = ap (λ (r : Result Story Refusal). r >>= told) e
+
+pub says_unread : (a b : Option (List ℕ)) (n m : ℕ) (taken : Option (List ℕ)) (p : ℕ) (f : Stopped Refusal) → Stops a b n m f
+    → Says a b n m taken taken p p (unread f)
+says_unread a b n m taken p (stopped.Refused refusal) s =
+    (answered (λ input. story_in input ≡ Err refusal) a b (Err refusal) s (refused_input s.input refusal s.told), Keeps-refl taken)
+says_unread a b n m taken p stopped.ReadFault s = (s, Keeps-refl taken)
+says_unread a b n m taken p stopped.TooLong s = (s, Keeps-refl taken)
+says_unread a b n m taken p stopped.NoMemory s = inl (Keeps-refl taken)
+
+-- a story
+module _ (a b : Option (List ℕ)) (n m : ℕ) (t : Story) (k : HasRead (λ input. transcript_read header_read input ≡ Ok t) a b) where
+  -- what is read is well formed
+  pub is_formed : IsWellFormed t.job.deal t.book
+  is_formed = (text_is_whole header_read k.input t k.told).whole.stated.formed
+
+  of_story : audit_of k.input ≡ told t
+  unfolding audit_of story_in
+  of_story = ap (λ (r : Result Story TranscriptReason). by_text r >>= told) k.told
+
+  pub says_refused : (taken : Option (List ℕ)) (p : ℕ) (refusal : Refusal) → judged t ≡ Err refusal → Says a b n m taken taken p p (Refused refusal)
+  unfolding told
+  says_refused taken p refusal e = (
+    answered (λ input. transcript_read header_read input ≡ Ok t) a b (Err refusal) k
+        (of_story ∙ ap (λ (r : Result Report Refusal). r >>= λ x. Ok (written_of t x)) e),
+    Keeps-refl taken,
+  )
+
+  output_is : (P : Written → Type 0) (r : Report) → IsTold t.job → judged t ≡ Ok r → IsSound t r → P (written_of t r) → HasOutput P a b
+  unfolding told answered
+  output_is P r job e sound w = record {
+    output = written_of t r;
+    read = answered (λ input. transcript_read header_read input ≡ Ok t) a b (Ok (written_of t r)) k
+        (of_story ∙ ap (λ (x : Result Report Refusal). x >>= λ y. Ok (written_of t y)) e);
+    promised = record {
+      story = t;
+      read = k.told;
+      whole = text_is_whole header_read k.input t k.told;
+      job = job;
+      report = r;
+      shown = refl;
+      sound = sound;
+    };
+    written = w;
+  }
+
+  pub says_written : (taken taken' : Option (List ℕ)) (p q : ℕ) (r : Report) → IsTold t.job → judged t ≡ Ok r → IsSound t r → (s : AuditEnding)
+      → Writes taken taken' p q (written_of t r) s → Says a b n m taken taken' p q s
+  says_written taken taken' p q r job e sound Done w = output_is _ r job e sound w
+  says_written taken taken' p q r job e sound Named w = output_is _ r job e sound w
+  says_written taken taken' p q r job e sound (Refused refusal) w = absurd w
+  says_written taken taken' p q r job e sound ReadFault w = absurd w
+  says_written taken taken' p q r job e sound WriteFault w = (w.0, output_is _ r job e sound w.1)
+  says_written taken taken' p q r job e sound NoMemory w = inr (output_is _ r job e sound w)
+  says_written taken taken' p q r job e sound TooLong w = absurd w

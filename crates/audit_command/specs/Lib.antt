@@ -1,0 +1,5 @@
+pub mod Output
+pub mod Promised
+pub mod Faults
+pub mod Reading
+pub mod Says

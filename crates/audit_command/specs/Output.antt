@@ -1,0 +1,67 @@
+-- What an audit writes for an input: the report of the job and the book that the input's lines state.
+use Rattle.std.specs.Prelude.{◌==◌, ℕ, Bool, not, List, [], length, Result, Ok, Err}
+use Rattle.swap_base.specs.Fault.{◌>>=◌}
+use Rattle.refusals.specs.declared.reason.Reason.{Reason}
+use Rattle.refusals.specs.declared.reason.Reason.TheVariants as reasons
+use Rattle.refusals.specs.declared.refusal.Refusal.{Refusal}
+use Rattle.refusals.specs.Refusal.{refusal}
+use Rattle.ledger_core.specs.Book.{Histories}
+use Rattle.deviator_script.specs.declared.job.Job.{Job}
+use Rattle.outcome_rules.specs.declared.report.Report.{Report}
+use Rattle.transcript_text.specs.Report.{report}
+use Rattle.swap_auditor.specs.declared.replay.BadReply.{BadReply}
+use Rattle.swap_auditor.specs.Audit.{audited}
+use Rattle.transcript_reader.specs.declared.reason.TranscriptReason.{TranscriptReason}
+use Rattle.transcript_reader.specs.declared.reason.TranscriptReason.TheVariants.{BadLine, TooLong, CutShort, Header}
+use Rattle.transcript_reader.specs.Header.{header_read}
+use Rattle.transcript_reader.specs.Reading.{Story, transcript_read}
+
+abbrev pub story : Job → Histories → Story
+story job b = record { job = job; book = b }
+
+-- a refusal that speaks of no party
+abbrev pub nameless : Reason → Refusal
+nameless reason = refusal [] reason
+
+-- A refusal of a text. Of an input within its limit none is that it is too long.
+abbrev pub refused_by : TranscriptReason → Refusal
+refused_by (BadLine line) = nameless (reasons.BadLine line)
+refused_by TooLong = nameless reasons.CutShort
+refused_by CutShort = nameless reasons.CutShort
+refused_by (Header reason) = reason
+
+abbrev pub by_text : Result Story TranscriptReason → Result Story Refusal
+by_text (Ok t) = Ok t
+by_text (Err reason) = Err (refused_by reason)
+
+-- the job and the book that an input's lines state, or the first reason against them
+unfoldable pub story_in : List ℕ → Result Story Refusal
+story_in input = by_text (transcript_read header_read input)
+
+abbrev pub refused_reply : BadReply → Refusal
+refused_reply b = nameless (reasons.BadReply b.arc b.entry b.stated b.replayed)
+
+abbrev pub by_replies : Result Report BadReply → Result Report Refusal
+by_replies (Ok r) = Ok r
+by_replies (Err b) = Err (refused_reply b)
+
+-- the report of a book whose every stated reply is the replayed one, or the first that isn't
+unfoldable pub judged : Story → Result Report Refusal
+judged t = by_replies (audited t.job.deal t.job.conforming t.book)
+
+-- A text that is written.
+pub record Written : Type 0 where
+  pub text : List ℕ
+  -- whether it tells of a finding
+  pub found : Bool
+
+abbrev pub written_of : Story → Report → Written
+written_of t r = record { text = report t.job t.book r; found = not (length r.findings == 0) }
+
+-- what is written of a job and its book
+unfoldable pub told : Story → Result Written Refusal
+told t = judged t >>= λ r. Ok (written_of t r)
+
+-- what an audit writes for an input, or the first reason why it is refused
+unfoldable pub audit_of : List ℕ → Result Written Refusal
+audit_of input = story_in input >>= told

@@ -1,0 +1,43 @@
+-- What an audit promises of the book whose report it wrote.
+use Rattle.std.specs.Prelude.{◌≡◌, ℕ, List, [], Ok}
+use Rattle.ledger_core.specs.Book.{IsLegalBook}
+use Rattle.swap_rules.specs.Accepted.{IsAccepted}
+use Rattle.swap_laws.specs.Laws.{FindsNothing, IsTransferred}
+use Rattle.outcome_rules.specs.declared.report.Report.{Report}
+use Rattle.outcome_rules.specs.Report.{conforms_in, report_of}
+use Rattle.outcome_rules.specs.Promises.{AllAreConforming, AllAreWhole, AllHaveRefunds, NoneIsUnderwater, shown_outcome}
+use Rattle.swap_auditor.specs.Audit.{UnitsAddUp}
+use Rattle.transcript_reader.specs.Header.{header_read, IsTold}
+use Rattle.transcript_reader.specs.Laws.{IsWholeText}
+use Rattle.transcript_reader.specs.Reading.{Story, transcript_read}
+use Rattle.audit_command.specs.Output.{Written, written_of}
+
+-- the report of a job's book
+abbrev pub report_for : Story → Report
+report_for t = report_of t.job.deal t.job.conforming t.book
+
+-- What an audit promises of a job and its book, of which r is the report.
+pub record IsSound (t : Story) (r : Report) : Type 0 where
+  pub report : r ≡ report_for t
+  pub accepted : IsAccepted t.job.deal
+  -- every reply is the table's, and at every moment each unit is in one place
+  pub legal : IsLegalBook t.job.deal t.book
+  pub units : UnitsAddUp t.job.deal t.book
+  -- a conforming party against which nothing is found doesn't end underwater, and has its refunds
+  pub safe : NoneIsUnderwater t.job.deal t.job.conforming (shown_outcome r) r.findings
+  pub refunds : AllHaveRefunds t.job.deal t.job.conforming t.book r.findings
+  -- where all conform and nothing is found, all is transferred, and the report shows each party with the whole deal
+  pub transfer : AllAreConforming t.job.deal t.job.conforming → r.findings ≡ [] → IsTransferred t.job.deal t.book accepted
+  pub whole : AllAreConforming t.job.deal t.job.conforming → r.findings ≡ [] → AllAreWhole t.job.deal r
+  -- where nothing is found, every ledger has ended, and every conforming party kept what the laws ask for
+  pub nothing : r.findings ≡ [] → FindsNothing t.job.deal (conforms_in t.job.conforming) t.book
+
+-- The input is a whole transcript of a job and a book, and what was written is their report.
+pub record IsAudit (input : List ℕ) (output : Written) : Type 0 where
+  pub story : Story
+  pub read : transcript_read header_read input ≡ Ok story
+  pub whole : IsWholeText header_read input story
+  pub job : IsTold story.job
+  pub report : Report
+  pub shown : output ≡ written_of story report
+  pub sound : IsSound story report

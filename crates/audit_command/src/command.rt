@@ -1,0 +1,74 @@
+//! The command `audit`: a transcript is read, its ledgers are replayed, and the report is written.
+
+ghost use Rattle.std.specs.Prelude.{◌≡◌};
+ghost use Rattle.audit_command.specs.Output.{written_of, story};
+ghost use Rattle.audit_command.specs.Promised.{IsSound};
+ghost use Rattle.audit_command.specs.Says.{Says, Writes, unread};
+ghost use Rattle.transcript_reader.specs.Header.{IsTold};
+
+use crate::ending::AuditEnding;
+use crate::fault::Stopped;
+use crate::judged::judge;
+use crate::story::read_story;
+use deviator_script::Job;
+use ledger_core::Book;
+use outcome_rules::Report;
+use refusals::Refusal;
+use std::alloc::Global;
+use swap_base::Fault;
+use swap_io::{Sink, Source, TextFault};
+use transcript_text::write_report;
+
+/// The ending where the input gave no story.
+fn unread(fault: Stopped<Refusal>) -> AuditEnding
+    ensures { result ≡ unread fault }
+{
+    match fault {
+        Stopped::Refused(refusal) => AuditEnding::Refused(refusal),
+        Stopped::ReadFault => AuditEnding::ReadFault,
+        Stopped::TooLong => AuditEnding::TooLong,
+        Stopped::NoMemory => AuditEnding::NoMemory,
+    }
+}
+
+/// Writes the report of a job's book.
+fn tell<K: Sink>(
+    alloc: Global,
+    sink: &mut K,
+    job: &Job,
+    book: &Book,
+    report: &Report,
+) -> AuditEnding
+    requires told { IsTold job.now }
+    requires sound { IsSound (story job.now book.now.histories) report.now }
+    ensures { Writes (K.taken sink.old) (K.taken sink.new) (K.faults sink.old) (K.faults sink.new) (written_of (story job.now book.now.histories) report.now)
+        result }
+{
+    match write_report(alloc, sink, job, book, report) {
+        Ok(()) => {
+            if report.findings.is_empty() {
+                AuditEnding::Done
+            } else {
+                AuditEnding::Named
+            }
+        }
+        Err(TextFault::WriteFault) => AuditEnding::WriteFault,
+        Err(TextFault::NoMemory) => AuditEnding::NoMemory,
+    }
+}
+
+/// Audits a transcript. The source is read to its end before anything is written; the book that its lines state is kept, and none of their text.
+pub fn audit<S: Source, K: Sink>(alloc: Global, source: &mut S, sink: &mut K) -> AuditEnding
+    ensures { Says (S.left source.old) (S.left source.new) (S.faults source.old) (S.faults source.new) (K.taken sink.old) (K.taken sink.new)
+        (K.faults sink.old) (K.faults sink.new) result }
+{
+    let (job, book) = match read_story(alloc, source) {
+        Ok(story) => story,
+        Err(fault) => return unread(fault),
+    };
+    match judge(alloc, &job, &book) {
+        Ok(report) => tell(alloc, sink, &job, &book, &report),
+        Err(Fault::Refused(refusal)) => AuditEnding::Refused(refusal),
+        Err(Fault::NoMemory) => AuditEnding::NoMemory,
+    }
+}

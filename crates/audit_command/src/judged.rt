@@ -1,0 +1,41 @@
+//! The judgement of a job's book.
+
+ghost use Rattle.std.specs.Prelude.{◌≡◌, IfOk};
+ghost use Rattle.swap_base.specs.Fault.{Gives};
+ghost use Rattle.swap_auditor.specs.WellFormed.{IsWellFormed};
+ghost use Rattle.transcript_reader.specs.Header.{IsTold};
+ghost use Rattle.transcript_reader.specs.Reading.{Story};
+ghost use Rattle.audit_command.specs.Output.{judged, refused_reply, story};
+ghost use Rattle.audit_command.specs.Promised.{IsSound};
+
+use deviator_script::Job;
+use ledger_core::Book;
+use outcome_rules::Report;
+use refusals::{Reason, Refusal};
+use std::alloc::Global;
+use swap_auditor::{BadReply, audit};
+use swap_base::{Fault, Listed};
+
+fn refused_reply(alloc: Global, bad: BadReply) -> Refusal
+    ensures { result ≡ refused_reply bad }
+{
+    Refusal {
+        reason: Reason::BadReply(bad.arc, bad.entry, bad.stated, bad.replayed),
+        names: Listed::empty(alloc),
+    }
+}
+
+/// The report of a book whose every stated reply is the replayed one, or the first that isn't.
+#[tactic(auto, unfolding(crate::specs::Output::judged))]
+pub(crate) fn judge(alloc: Global, job: &Job, book: &Book) -> Result<Report, Fault<Refusal>>
+    requires told { IsTold job.now }
+    requires formed { IsWellFormed job.now.deal book.now.histories }
+    ensures exact { Gives (λ r. r) result (judged (story job.now book.now.histories)) }
+    ensures sound { IfOk result (IsSound (story job.now book.now.histories)) }
+{
+    match audit(alloc, &job.deal, &job.conforming, book) {
+        Ok(report) => Ok(report),
+        Err(Fault::Refused(bad)) => Err(Fault::Refused(refused_reply(alloc, bad))),
+        Err(Fault::NoMemory) => Err(Fault::NoMemory),
+    }
+}

@@ -1,0 +1,21 @@
+use Rattle.std.proofs.Common.{refl}
+use Rattle.made_jobs.proofs.Writable.{are_texts, is_writable}
+use Rattle.audit_command.proofs.Reported.{few_outcomes}
+use Rattle.swap_main.proofs.Reports.{few_histories}
+use Rattle.swap_main.proofs.run.write_text.Goals as goal
+
+pub write_transcript-requires-clause-writable : goal.write_transcript-requires-clause-writable
+write_transcript-requires-clause-writable g c =
+    let job = c.args.job.now in
+    let whole = c.requires.whole in
+    is_writable job whole.sized whole.names (are_texts job.names c.requires.names) whole.conforming whole.seeds c.requires.roles
+
+pub write_transcript-requires-clause-shown : goal.write_transcript-requires-clause-shown
+write_transcript-requires-clause-shown g c = rw c.requires.purpose refl
+
+pub write_transcript-requires-clause-few : goal.write_transcript-requires-clause-few
+write_transcript-requires-clause-few g c = few_histories c.args.job.now.deal c.args.book.now.histories c.requires.whole.sized c.requires.legal
+
+pub write_report-requires-clause-parties : goal.write_report-requires-clause-parties
+write_report-requires-clause-parties g c =
+    rw c.requires.report (few_outcomes c.args.job.now.deal c.args.job.now.conforming c.args.book.now.histories c.requires.whole.sized.parties.1)
