@@ -1,14 +1,14 @@
 //! A job that a number gives, against an independent program.
 
-ghost use Rattle.std.specs.Prelude.{◌≡◌, ◌<◌, ℕ, IfOk};
+ghost use Rattle.std.specs.Prelude.{◌<◌, ◌≤◌, ℕ};
 ghost use Rattle.swap_rules.specs.Accepted.{IsAccepted};
-ghost use Rattle.swap_gen.specs.Made.{made};
 ghost use Rattle.swap_gen.specs.Owned.{OwnsKeys};
 
-use deviator_script::Job;
+use deviator_script::{Event, Job};
 use hex::FromHex;
 use sha2::{Digest as Hasher, Sha256};
 use std::alloc::Global;
+use std::process::Abort;
 use std::test::Fail;
 use swap_base::{Digest, NoMemory};
 use swap_gen::{generate, make, put_event};
@@ -21,10 +21,6 @@ const LINES: &str = "d5b69433741d0f9d2b9cd5a78acf318416b4f3e4b8539d5332a6970ced7
 
 const SEED: &str = "351ebc95cc67531dbafeab20498cb7c94eae6a8ee3f5d20cfa175eb7b52fed4c";
 
-fn digest(text: &str) -> Result<Digest, Fail> {
-    Ok(<Digest as FromHex>::from_hex(text)?)
-}
-
 /// The seed of a party, and zeros where it has none.
 fn seed_at(job: &Job, p: usize) -> Digest {
     match job.seeds.as_slice().get(p) {
@@ -33,26 +29,64 @@ fn seed_at(job: &Job, p: usize) -> Digest {
     }
 }
 
-/// A made job, made once more.
-fn again(alloc: Global, job: &Job) -> Result<Job, NoMemory>
+/// The lines of events.
+fn lines_of(alloc: Global, job: &Job, events: &[Event]) -> Result<Vec<u8>, Fail> {
+    let mut lines = Vec::new(alloc);
+    for event in events {
+        put_event(&mut lines, job.names.as_slice(), event)?;
+    }
+    Ok(lines)
+}
+
+fn digest_of(bytes: &[u8]) -> Digest {
+    Sha256::digest(bytes)
+}
+
+/// The digest that names the deal of a made job, made once more.
+fn id_again(alloc: Global, job: &Job) -> Result<Digest, NoMemory>
     requires accepted { IsAccepted job.now.deal }
     requires owned { (p : ℕ) → p < job.now.deal.graph.n → OwnsKeys job.now p }
-    ensures { IfOk result (λ j. j ≡ made job.now) }
 {
-    make(alloc, job)
+    let made = make(alloc, job)?;
+    Ok(made.deal.id)
+}
+
+/// The digest is that of the text.
+fn is_told(rt: &impl Abort, digest: &Digest, text: &str) -> Result<(), Fail> {
+    let wanted = <Digest as FromHex>::from_hex(text)?;
+    assert_eq!(rt; *digest, wanted);
+    Ok(())
+}
+
+/// What an independent program gives is what the job and its events have.
+fn are_those(rt: &impl Abort, alloc: Global, job: &Job, events: &[Event]) -> Result<(), Fail>
+    requires accepted { IsAccepted job.now.deal }
+    requires owned { (p : ℕ) → p < job.now.deal.graph.n → OwnsKeys job.now p }
+{
+    is_told(rt, &job.deal.id, ID)?;
+    is_told(rt, &seed_at(job, 5), SEED)?;
+    let lines = lines_of(alloc, job, events)?;
+    is_told(rt, &digest_of(&lines), LINES)?;
+    is_told(rt, &id_again(alloc, job)?, ID)
+}
+
+/// The same for the job of a number. Whoever owns a job lets it go field by field at each of its exits, so that there is but one here.
+fn are_those_of(
+    rt: &impl Abort,
+    alloc: Global,
+    seed: u32,
+    parties: u8,
+    events: u32,
+) -> Result<(), Fail>
+    requires low { 2 ≤ parties }
+    requires high { parties ≤ 24 }
+    requires few { events ≤ 200000 }
+{
+    let (job, events) = generate(alloc, seed, parties, events)?;
+    are_those(rt, alloc, &job, &events)
 }
 
 #[test]
 fn a_job_and_its_events_are_those_of_another_program(rt: HostRuntime) -> Result<(), Fail> {
-    let (job, events) = generate(rt.alloc(), 7, 6, 500)?;
-    assert_eq!(rt; job.deal.id, digest(ID)?);
-    assert_eq!(rt; seed_at(&job, 5), digest(SEED)?);
-    let mut lines = Vec::new(rt.alloc());
-    for event in &events {
-        put_event(&mut lines, job.names.as_slice(), event)?;
-    }
-    assert_eq!(rt; Sha256::digest(&lines), digest(LINES)?);
-    let made = again(rt.alloc(), &job)?;
-    assert_eq!(rt; made.deal.id, digest(ID)?);
-    Ok(())
+    are_those_of(&rt, rt.alloc(), 7, 6, 500)
 }
