@@ -4,7 +4,7 @@ ghost use Rattle.std.specs.Prelude.{IfOk};
 ghost use Rattle.swap_digraph.specs.Deal.{IsWellSized};
 
 use crate::{jobs, rings};
-use deviator_script::{Job, Purpose};
+use deviator_script::{Job, Kit, Purpose};
 use hash_signature::{Sig, keygen};
 use hashkey_path::{Hashkey, HashkeyAnswer, check, deal_digest, extend, first};
 use hex::FromHex;
@@ -21,7 +21,8 @@ const SECRET: Digest = [9; 32];
 fn deal_of(alloc: Global, header: &str) -> Result<Deal, Fail>
     ensures { IfOk result (λ d. IsWellSized d) }
 {
-    let Prepared { job, .. } = read_header(alloc, 1, header.as_bytes(), Purpose::Run)?;
+    let kit = Kit::new(alloc);
+    let Prepared { job, .. } = read_header(alloc, 1, header.as_bytes(), Purpose::Run, &kit)?;
     let Job { deal, .. } = job;
     Ok(deal)
 }
@@ -137,14 +138,25 @@ fn is_valid_around(
     Ok(())
 }
 
+/// The hashkey of the ring of three, after each of its steps.
+fn are_valid_around(rt: &impl Abort, alloc: Global, deal: &Deal) -> Result<(), Fail>
+    requires { IsWellSized deal.now }
+{
+    is_valid_around(rt, alloc, deal, 3, 1)?;
+    is_valid_around(rt, alloc, deal, 2, 2)?;
+    is_valid_around(rt, alloc, deal, 1, 3)
+}
+
 #[test]
 fn hashkeys_go_around(rt: HostRuntime) -> Result<(), Fail> {
     let deal = deal_of(rt.alloc(), rings::three())?;
-    is_valid_around(&rt, rt.alloc(), &deal, 3, 1)?;
-    is_valid_around(&rt, rt.alloc(), &deal, 2, 2)?;
-    is_valid_around(&rt, rt.alloc(), &deal, 1, 3)?;
-    let long = deal_of(rt.alloc(), rings::twenty_four())?;
-    is_valid_around(&rt, rt.alloc(), &long, 1, 24)
+    are_valid_around(&rt, rt.alloc(), &deal)
+}
+
+#[test]
+fn a_hashkey_goes_around_the_longest_ring(rt: HostRuntime) -> Result<(), Fail> {
+    let deal = deal_of(rt.alloc(), rings::twenty_four())?;
+    is_valid_around(&rt, rt.alloc(), &deal, 1, 24)
 }
 
 /// Another secret is found before all else.
@@ -185,32 +197,48 @@ fn finds_the_signature(
     Ok(())
 }
 
+/// Each fault of a hashkey that goes around the ring of three.
+fn finds_the_faults(rt: &impl Abort, alloc: Global, deal: &Deal, key: &Hashkey) -> Result<(), Fail>
+    requires { IsWellSized deal.now }
+{
+    finds_the_secret(rt, deal, key)?;
+    finds_the_path(rt, alloc, deal, key)?;
+    // A signature is part of what the one before it signs.
+    finds_the_signature(rt, deal, key, 0, 0)?;
+    finds_the_signature(rt, deal, key, 1, 0)?;
+    finds_the_signature(rt, deal, key, 2, 1)
+}
+
 #[test]
 fn the_first_fault_is_named(rt: HostRuntime) -> Result<(), Fail> {
     let deal = deal_of(rt.alloc(), rings::three())?;
     let key = chain(&rt, rt.alloc(), &deal, 1)?;
-    finds_the_secret(&rt, &deal, &key)?;
-    finds_the_path(&rt, rt.alloc(), &deal, &key)?;
-    // A signature is part of what the one before it signs.
-    finds_the_signature(&rt, &deal, &key, 0, 0)?;
-    finds_the_signature(&rt, &deal, &key, 1, 0)?;
-    finds_the_signature(&rt, &deal, &key, 2, 1)
+    finds_the_faults(&rt, rt.alloc(), &deal, &key)
+}
+
+/// The digest of the offer's deal is that of the text.
+fn has_digest(rt: &impl Abort, alloc: Global, header: &str, text: &str) -> Result<(), Fail> {
+    let wanted = <Digest as FromHex>::from_hex(text)?;
+    let deal = deal_of(alloc, header)?;
+    assert_eq!(rt; deal_digest(&deal), wanted);
+    Ok(())
+}
+
+/// The digest of the deal of three parties with hashkeys is that of the text, where the offer has that version.
+fn has_digest_in(rt: &impl Abort, alloc: Global, version: &str, text: &str) -> Result<(), Fail> {
+    let header = jobs::THREE.replacen(alloc, "\"swap\":1", version, 1)?;
+    has_digest(rt, alloc, header.as_str(), text)
 }
 
 /// What another program gives.
 #[test]
 fn digests_of_deals(rt: HostRuntime) -> Result<(), Fail> {
     let timelocks = "2ce3d3136bbeaefb32c182bd9065429cfa6dba80a175ff6587e4d9419f6f1aa8";
+    has_digest(&rt, rt.alloc(), jobs::AROUND, timelocks)?;
     let hashkeys = "f9c2c81c2fb42fd1ac0938069fecd63a5c984c3f4ed0c3e941f7d04c8441043d";
-    let around = deal_of(rt.alloc(), jobs::AROUND)?;
-    let ring = deal_of(rt.alloc(), rings::three())?;
-    assert_eq!(rt;
-        deal_digest(&around),
-        <[u8; 32] as FromHex>::from_hex(timelocks)?
-    );
-    assert_eq!(rt;
-        deal_digest(&ring),
-        <[u8; 32] as FromHex>::from_hex(hashkeys)?
-    );
-    Ok(())
+    has_digest(&rt, rt.alloc(), rings::three(), hashkeys)?;
+    let first = "782fe71bee4ff7a857bfbfa864d376ab6cda86d211b5814c16073d2acebac479";
+    has_digest_in(&rt, rt.alloc(), "\"swap\":1", first)?;
+    let second = "6b24ffde0357b0300f14fc7bd47c875d18e2e9d8835f11011187b25dfc64a754";
+    has_digest_in(&rt, rt.alloc(), "\"swap\":2", second)
 }

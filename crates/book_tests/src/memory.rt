@@ -5,15 +5,14 @@ ghost use Rattle.ledger_core.specs.Book.{IsLegalBook};
 ghost use Rattle.swap_offer.specs.Job.{IsWhole};
 
 use crate::jobs;
-use crate::schedule::book_of;
-use deviator_script::{Job, Purpose};
+use crate::schedule::played;
+use deviator_script::Job;
 use ledger_core::{Book, Scan};
 use outcome_rules::{findings, unfinished};
 use std::alloc::Global;
 use std::process::Abort;
 use std::test::Fail;
 use swap_digraph::Deal;
-use swap_offer::{Prepared, read_header};
 
 fn count_unfinished(alloc: Global, deal: &Deal, book: &Book) -> Result<usize, Fail>
     requires sized { IsWellSized deal.now }
@@ -41,12 +40,18 @@ fn reserve(rt: &impl Abort, alloc: Global, deal: &Deal) -> Result<(), Fail>
 }
 
 /// The calls over a book of which one ledger is above the horizon, and nobody conforms.
-fn succeed(rt: &impl Abort, alloc: Global, header: &str) -> Result<(), Fail> {
-    let Prepared { job, wallets, .. } = read_header(alloc, 1, header.as_bytes(), Purpose::Run)?;
-    let book = book_of(rt, alloc, &job, wallets, "tick 0 by 71;")?;
-    assert_eq!(rt; count_unfinished(alloc, &job.deal, &book)?, 3);
-    assert_eq!(rt; count_findings(alloc, &job, &book)?, 3);
+fn succeed_over(rt: &impl Abort, alloc: Global, job: &Job, book: &Book) -> Result<(), Fail>
+    requires whole { IsWhole job.now }
+    requires legal { IsLegalBook job.now.deal book.now.histories }
+{
+    assert_eq!(rt; count_unfinished(alloc, &job.deal, book)?, 3);
+    assert_eq!(rt; count_findings(alloc, job, book)?, 3);
     reserve(rt, alloc, &job.deal)
+}
+
+fn succeed(rt: &impl Abort, alloc: Global, header: &str) -> Result<(), Fail> {
+    let (job, book) = played(rt, alloc, header, "tick 0 by 71;")?;
+    succeed_over(rt, alloc, &job, &book)
 }
 
 #[test]

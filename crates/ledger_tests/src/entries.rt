@@ -1,5 +1,7 @@
 //! How entries are kept: ticks as runs, and an entry in few bytes.
 
+ghost use Rattle.std.specs.Prelude.{◌≤◌, length};
+
 use crate::ledgers::follow;
 use ledger_core::{Entry, EntryList, Ledger, Run};
 use std::alloc::Global;
@@ -18,13 +20,25 @@ b claim => NoContract 99 1 0
 tick 1 => Accepted 99 1 0
 3 times tick 2 => Accepted 99 1 0";
 
+/// Whether a list has so many entries, as it says and one by one.
+fn has(alloc: Global, list: &EntryList, count: usize) -> Result<bool, Fail> {
+    let entries = list.to_vec(alloc)?;
+    Ok(list.len() == count && entries.len() == count)
+}
+
+/// Whether a ledger's copy that begins at a place has so many entries.
+fn has_from(alloc: Global, ledger: &Ledger, k: usize, count: usize) -> Result<bool, Fail>
+    requires { k ≤ length ledger.now.history }
+{
+    let rest = ledger.copy_from(k)?;
+    has(alloc, &rest, count)
+}
+
 /// A copy from each entry on has the entries after it.
 fn copies(rt: &impl Abort, alloc: Global, ledger: &Ledger) -> Result<(), Fail> {
     for k in 0..13 {
         assert!(rt; k <= ledger.len() as usize);
-        let rest = ledger.copy_from(k)?;
-        assert!(rt; rest.len() + k == 12);
-        assert!(rt; rest.to_vec(alloc)?.len() + k == 12);
+        assert!(rt; has_from(alloc, ledger, k, 12 - k)?, "from {k}");
     }
     Ok(())
 }
@@ -58,13 +72,19 @@ fn put_again(alloc: Global, ledger: &Ledger) -> Result<EntryList, Fail> {
     pushed(alloc, &entries)
 }
 
+/// The entries of a ledger are runs, put into a list anew and copied.
+fn are_runs(rt: &impl Abort, alloc: Global, ledger: &Ledger) -> Result<(), Fail> {
+    let list = put_again(alloc, ledger)?;
+    assert!(rt; is_in_runs(list.copy()?), "a copy");
+    assert!(rt; is_in_runs(list), "one by one");
+    Ok(())
+}
+
 #[test]
 fn ticks_are_runs(rt: HostRuntime) -> Result<(), Fail> {
     let ledger = follow(&rt, rt.alloc(), APART)?;
     copies(&rt, rt.alloc(), &ledger)?;
-    let list = put_again(rt.alloc(), &ledger)?;
-    assert!(rt; is_in_runs(list.copy()?), "a copy");
-    assert!(rt; is_in_runs(list), "one by one");
+    are_runs(&rt, rt.alloc(), &ledger)?;
     assert!(rt; is_in_runs(ledger.into_history()), "the ledger's");
     Ok(())
 }

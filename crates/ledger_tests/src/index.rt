@@ -1,8 +1,10 @@
 //! What an index answers over a ledger's entries, against a scan of them.
 
-ghost use Rattle.std.specs.Prelude.{◌≡◌, ◌<◌, length, IfOk};
+ghost use Rattle.std.specs.Prelude.{◌≡◌, ◌<◌, ◌≤◌, ◌+◌, ◌++◌, ◌∷◌, [], length, IfOk, OnOk};
 ghost use Rattle.swap_digraph.specs.Deal.{IsWellSized, party, counterparty};
 ghost use Rattle.ledger_core.specs.History.{IsLegal};
+ghost use Rattle.ledger_core.specs.Value.{IsCountable};
+ghost use Rattle.history_index.specs.Numbers.{IsIndexable};
 
 use crate::ledgers::{act, first_ledger, follow};
 use crate::random::Random;
@@ -41,13 +43,25 @@ fn act_at(acts: &str, place: u64) -> Result<&str, Fail> {
     Ok(acts.lines().nth(place as usize).ok_or("no act")?)
 }
 
+/// Makes so many acts on a ledger.
+fn act_often(
+    rt: &impl Abort,
+    alloc: Global,
+    ledger: &mut Ledger,
+    acts: u32,
+    random: &mut Random,
+) -> Result<(), Fail> {
+    for _ in 0..acts {
+        let words = act_at(ACTS, random.below(16))?;
+        let _reply = act(rt, alloc, ledger, words)?;
+    }
+    Ok(())
+}
+
 /// A ledger after so many acts.
 fn after(rt: &impl Abort, alloc: Global, acts: u32, random: &mut Random) -> Result<Ledger, Fail> {
     let mut ledger = first_ledger(alloc)?;
-    for _ in 0..acts {
-        let words = act_at(ACTS, random.below(16))?;
-        let _reply = act(rt, alloc, &mut ledger, words)?;
-    }
+    act_often(rt, alloc, &mut ledger, acts, random)?;
     Ok(ledger)
 }
 
@@ -107,32 +121,73 @@ fn same_answers(index: &Index, scan: &Scan) -> bool {
         && same_calls(index, scan)
 }
 
-/// Puts the entries one by one into both, the index having made room for all, and compares them after each.
+/// Puts an entry into both, of which the index has room.
+fn push_both<L: Counted>(
+    entry: &Entry,
+    index: &mut Index,
+    scan: &mut Scan,
+    steps: &mut Steps<L>,
+) -> Result<(), Fail>
+    requires indexable { IsIndexable index.old.from index.old.to (index.old.entries ++ entry.now ∷ []) }
+    requires countable { IsCountable (scan.old.entries ++ entry.now ∷ []) }
+    requires room { 0 < index.old.spare }
+    ensures index { OnOk result (index.new.entries ≡ index.old.entries ++ entry.now ∷ []) }
+    ensures scan { OnOk result (scan.new.entries ≡ scan.old.entries ++ entry.now ∷ []) }
+    ensures from { OnOk result (index.new.from ≡ index.old.from) }
+    ensures to { OnOk result (index.new.to ≡ index.old.to) }
+    ensures spare { OnOk result (index.old.spare ≤ index.new.spare + 1) }
+{
+    index.push(entry.copy()?, steps);
+    scan.push(entry.copy()?)?;
+    Ok(())
+}
+
+/// Puts the entries one by one into both, the index having room for all, and compares them after each.
+fn compare<L: Counted>(
+    rt: &impl Abort,
+    deal: &Deal,
+    arc: ArcId,
+    history: &[Entry],
+    index: &mut Index,
+    scan: &mut Scan,
+    steps: &mut Steps<L>,
+) -> Result<(), Fail>
+    requires sized { IsWellSized deal.now }
+    requires legal { IsLegal deal.now arc history.now }
+    requires index { index.old.entries ≡ [] }
+    requires scan { scan.old.entries ≡ [] }
+    requires from { index.old.from ≡ party deal.now arc }
+    requires to { index.old.to ≡ counterparty deal.now arc }
+    requires room { length history.now ≤ index.old.spare }
+    ensures from { OnOk result (index.new.from ≡ party deal.now arc) }
+    ensures to { OnOk result (index.new.to ≡ counterparty deal.now arc) }
+{
+    for entry in history {
+        push_both(entry, index, scan, steps)?;
+        assert!(rt; same_answers(index, scan));
+    }
+    Ok(())
+}
+
+/// The index of entries, each of whose answers was compared with a scan's.
 fn indexed<L: Counted>(
     rt: &impl Abort,
     alloc: Global,
     deal: &Deal,
     arc: ArcId,
     history: &[Entry],
-    blank: Blank,
+    steps: &mut Steps<L>,
 ) -> Result<Index, Fail>
     requires sized { IsWellSized deal.now }
     requires arc { arc < length deal.now.graph.arcs }
     requires legal { IsLegal deal.now arc history.now }
-    requires name { blank.name ≡ L.name }
-    requires parts { blank.parts ≡ L.parts }
-    requires one { blank.parts ≡ 1 }
-    ensures { IfOk result (λ i. (i.from ≡ party deal.now arc) × (i.to ≡ counterparty deal.now arc)) }
+    ensures from { IfOk result (λ i. i.from ≡ party deal.now arc) }
+    ensures to { IfOk result (λ i. i.to ≡ counterparty deal.now arc) }
 {
-    let mut steps = Steps::<L>::new(blank);
     let mut index = Index::new(alloc, deal, arc)?;
-    let mut scan = Scan::new(alloc, deal, arc);
     index.reserve(history.len())?;
-    for entry in history {
-        index.push(entry.copy()?, &mut steps);
-        scan.push(entry.copy()?)?;
-        assert!(rt; same_answers(&index, &scan));
-    }
+    let mut scan = Scan::new(alloc, deal, arc);
+    compare(rt, deal, arc, history, &mut index, &mut scan, steps)?;
     Ok(index)
 }
 
@@ -192,22 +247,32 @@ fn compared<L: Counted>(
     rt: &impl Abort,
     alloc: Global,
     ledger: &Ledger,
-    blank: Blank,
-) -> Result<Index, Fail>
-    requires name { blank.name ≡ L.name }
-    requires parts { blank.parts ≡ L.parts }
-    requires one { blank.parts ≡ 1 }
-{
+    steps: &mut Steps<L>,
+) -> Result<Index, Fail> {
     let entries = entries_of(alloc, ledger)?;
-    let index = indexed::<L>(rt, alloc, ledger.deal(), ledger.arc(), &entries, blank)?;
+    let index = indexed(rt, alloc, ledger.deal(), ledger.arc(), &entries, steps)?;
     compare_calls(rt, &index, ledger, &entries, 0);
     compare_calls(rt, &index, ledger, &entries, 1);
     assert!(rt; are_made(index.made(), &entries));
     Ok(index)
 }
 
+fn counted<L: Counted>(
+    rt: &impl Abort,
+    alloc: Global,
+    ledger: &Ledger,
+    blank: Blank,
+) -> Result<Index, Fail>
+    requires name { blank.name ≡ L.name }
+    requires parts { blank.parts ≡ L.parts }
+    requires one { blank.parts ≡ 1 }
+{
+    let mut steps = Steps::<L>::new(blank);
+    compared(rt, alloc, ledger, &mut steps)
+}
+
 fn index_of(rt: &impl Abort, alloc: Global, ledger: &Ledger) -> Result<Index, Fail> {
-    compared::<Brand>(rt, alloc, ledger, Blank::new(1))
+    counted::<Brand>(rt, alloc, ledger, Blank::new(1))
 }
 
 /// How the contract of a ledger is settled after acts at random.
@@ -267,12 +332,16 @@ fn tells_called(index: &Index) -> bool {
         && !index.called(0, CallKind::Refund)
 }
 
-#[test]
-fn answers_of_a_settled_contract(rt: HostRuntime) -> Result<(), Fail> {
-    let ledger = follow(&rt, rt.alloc(), SETTLED)?;
-    let index = index_of(&rt, rt.alloc(), &ledger)?;
+fn tells(rt: &impl Abort, alloc: Global, ledger: &Ledger) -> Result<(), Fail> {
+    let index = index_of(rt, alloc, ledger)?;
     assert!(rt; tells_settled(&index));
     assert!(rt; tells_opened(&index));
     assert!(rt; tells_called(&index));
     Ok(())
+}
+
+#[test]
+fn answers_of_a_settled_contract(rt: HostRuntime) -> Result<(), Fail> {
+    let ledger = follow(&rt, rt.alloc(), SETTLED)?;
+    tells(&rt, rt.alloc(), &ledger)
 }

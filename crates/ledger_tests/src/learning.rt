@@ -94,6 +94,25 @@ fn machine_of(alloc: Global, deal: &Deal, seed: &Digest) -> Result<Machine, Fail
     }
 }
 
+fn learn_of<L: Counted>(
+    rt: &impl Abort,
+    alloc: Global,
+    deal: &Deal,
+    piece: u32,
+    steps: &mut Steps<L>,
+) -> Result<(), Fail>
+    requires some { 0 < piece }
+    requires sized { IsWellSized deal.now }
+    requires party { 1 < deal.now.graph.n }
+    requires arc { 0 < length deal.now.graph.arcs }
+    requires none { steps.old ≡ 0 }
+    ensures { OnOk result (steps.new ≡ 10000) }
+{
+    let mut ledger = Ledger::new(alloc, deal, 0)?;
+    let mut machine = machine_of(alloc, deal, &[9; 32])?;
+    learn_in_pieces(rt, &mut machine, &mut ledger, piece, steps)
+}
+
 fn count_steps<L: Counted>(
     rt: &impl Abort,
     alloc: Global,
@@ -105,11 +124,9 @@ fn count_steps<L: Counted>(
     requires parts { blank.parts ≡ L.parts }
     requires one { blank.parts ≡ 1 }
 {
-    let mut steps = Steps::<L>::new(blank);
     let deal = small_deal(alloc)?;
-    let mut ledger = Ledger::new(alloc, &deal, 0)?;
-    let mut machine = machine_of(alloc, &deal, &[9; 32])?;
-    learn_in_pieces(rt, &mut machine, &mut ledger, piece, &mut steps)
+    let mut steps = Steps::<L>::new(blank);
+    learn_of(rt, alloc, &deal, piece, &mut steps)
 }
 
 fn learns(rt: &impl Abort, alloc: Global, piece: u32) -> Result<(), Fail>

@@ -1,5 +1,8 @@
 //! Ledgers that follow the rows of a table.
 
+ghost use Rattle.std.specs.Prelude.{◌<◌, length};
+ghost use Rattle.swap_digraph.specs.Deal.{IsWellSized};
+
 use crate::deals::small_deal;
 use escrow_core::{Reply, terms_of};
 use hashkey_path::Hashkey;
@@ -8,6 +11,7 @@ use std::alloc::Global;
 use std::process::Abort;
 use std::test::Fail;
 use swap_base::{Listed, NoMemory, PartyId, Shared};
+use swap_digraph::Deal;
 
 /// A publish of the deal's terms but for the amount.
 fn publish(alloc: Global, ledger: &Ledger, amount: u64) -> Result<Call, NoMemory> {
@@ -16,15 +20,21 @@ fn publish(alloc: Global, ledger: &Ledger, amount: u64) -> Result<Call, NoMemory
     Ok(Call::Publish(Shared::new(alloc, terms)?))
 }
 
-/// An unlock by a secret of 32 equal bytes.
-fn unlock(alloc: Global, lock: u8, byte: u8) -> Result<Call, NoMemory> {
+/// An unlock by a secret of 32 equal bytes, with a path.
+fn unlock(alloc: Global, lock: u8, byte: u8, path: &[PartyId]) -> Result<Call, NoMemory> {
     let key = Hashkey {
         lock,
         secret: [byte; 32],
-        path: Listed::empty(alloc),
+        path: Listed::new(Vec::from_slice(alloc, path)?),
         sigs: Listed::empty(alloc),
     };
     Ok(Call::Unlock(Shared::new(alloc, key)?))
+}
+
+/// The unlock of a lock and the byte of its secret.
+fn unlock_of(alloc: Global, words: &str, path: &[PartyId]) -> Result<Call, Fail> {
+    let (lock, byte) = two(words)?;
+    Ok(unlock(alloc, lock.parse()?, byte.parse()?, path)?)
 }
 
 /// The number of a party.
@@ -46,10 +56,8 @@ fn call_with(alloc: Global, ledger: &Ledger, words: &str) -> Result<Call, Fail> 
     let (kind, rest) = two(words)?;
     match kind {
         "publish" => Ok(publish(alloc, ledger, rest.parse()?)?),
-        "unlock" => {
-            let (lock, byte) = two(rest)?;
-            Ok(unlock(alloc, lock.parse()?, byte.parse()?)?)
-        }
+        "unlock" => unlock_of(alloc, rest, &[]),
+        "trace" => unlock_of(alloc, rest, &[1]),
         "pay" => {
             let (to, units) = two(rest)?;
             Ok(Call::Transfer(party_of(to)?, units.parse()?))
@@ -67,12 +75,14 @@ fn call_of(alloc: Global, ledger: &Ledger, words: &str) -> Result<Call, Fail> {
     }
 }
 
-fn make(rt: &impl Abort, ledger: &mut Ledger, by: PartyId, call: Call) -> Result<Reply, Fail> {
+/// The reply to a call, which has room.
+fn make(rt: &impl Abort, ledger: &mut Ledger, by: PartyId, call: Call) -> Reply
+    requires { 0 < ledger.old.spare }
+{
     let arc = ledger.arc();
     assert!(rt; is_adjacent(ledger.deal(), arc, by));
     assert!(rt; fits(ledger.deal(), arc, &call));
-    ledger.reserve()?;
-    Ok(ledger.apply(by, call, 0))
+    ledger.apply(by, call, 0)
 }
 
 fn tick(rt: &impl Abort, ledger: &mut Ledger, k: u32) -> Result<Reply, Fail> {
@@ -92,8 +102,10 @@ pub(crate) fn act(
     if first == "tick" {
         return tick(rt, ledger, rest.parse()?);
     }
+    let party = party_of(first)?;
+    ledger.reserve()?;
     let call = call_of(alloc, ledger, rest)?;
-    make(rt, ledger, party_of(first)?, call)
+    Ok(make(rt, ledger, party, call))
 }
 
 /// The units of the arc's party, those of its counterparty, and those held.
@@ -142,19 +154,37 @@ fn follow_row(rt: &impl Abort, alloc: Global, ledger: &mut Ledger, row: &str) ->
     Ok(())
 }
 
-/// The ledger of the deal's first arc, before any entry.
+/// The ledger of a deal's first arc, before any entry.
+fn ledger_of(alloc: Global, deal: &Deal) -> Result<Ledger, Fail>
+    requires sized { IsWellSized deal.now }
+    requires arc { 0 < length deal.now.graph.arcs }
+{
+    Ok(Ledger::new(alloc, deal, 0)?)
+}
+
+/// The ledger of the small deal's first arc, before any entry.
 pub(crate) fn first_ledger(alloc: Global) -> Result<Ledger, Fail> {
     let deal = small_deal(alloc)?;
-    Ok(Ledger::new(alloc, &deal, 0)?)
+    ledger_of(alloc, &deal)
+}
+
+fn follow_rows(
+    rt: &impl Abort,
+    alloc: Global,
+    ledger: &mut Ledger,
+    rows: &str,
+) -> Result<(), Fail> {
+    for row in rows.lines() {
+        follow_row(rt, alloc, ledger, row)?;
+    }
+    assert!(rt; accounts_read(ledger)? == accounts(rt, ledger));
+    Ok(())
 }
 
 /// A ledger of the deal's first arc that followed the rows. Each says what is asked, the reply, and the units of the arc's party,
 /// those of its counterparty, and those held: `TIMES times ACT => REPLY UNITS UNITS UNITS`.
 pub(crate) fn follow(rt: &impl Abort, alloc: Global, rows: &str) -> Result<Ledger, Fail> {
     let mut ledger = first_ledger(alloc)?;
-    for row in rows.lines() {
-        follow_row(rt, alloc, &mut ledger, row)?;
-    }
-    assert!(rt; accounts_read(&ledger)? == accounts(rt, &ledger));
+    follow_rows(rt, alloc, &mut ledger, rows)?;
     Ok(ledger)
 }

@@ -6,7 +6,7 @@ use std::alloc::Global;
 use std::process::Abort;
 use std::test::Fail;
 
-/// Ledgers of their own, parted by empty lines, each with its height and the number of its entries at the end.
+/// Ledgers of their own, parted by empty lines, each with its height and the number of its entries at the end. To trace is to unlock with a path.
 const LEDGERS: &str = "\
 a refund => NoContract 100 0 0
 b publish 100 => NotParty 100 0 0
@@ -26,6 +26,8 @@ a publish 99 => Accepted 1 0 99
 tick 50 => Accepted 1 0 99
 a unlock 0 0 => NotCounterparty 1 0 99
 b unlock 0 1 => WrongSecret 1 0 99
+b trace 0 1 => WrongSecret 1 0 99
+b trace 0 0 => WrongPath 1 0 99
 b unlock 0 0 => Accepted 1 0 99
 b unlock 0 0 => AlreadyUnlocked 1 0 99
 b claim => StillLocked(1) 1 0 99
@@ -39,7 +41,7 @@ b unlock 1 1 => Settled 1 99 0
 a pay b 2 => NoFunds(1) 1 99 0
 b pay a 9 => Accepted 10 90 0
 b pay b 90 => Accepted 10 90 0
-end at 51 with 17
+end at 51 with 19
 
 a pay b 1 => Accepted 99 1 0
 a publish 100 => NoFunds(99) 99 1 0

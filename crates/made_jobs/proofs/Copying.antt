@@ -27,10 +27,10 @@ lines_put count text (l ∷ ls) = go (counted count l) (λ n. lines_put n (with_
     go (Err reason) others = refl
 
 -- what is written of the lines of an input
-pub made_is : (l : ℕ × List ℕ) (ls : List (ℕ × List ℕ))
-    → (job_header_of Make l.0 l.1 >>= λ job. copied 0 (written_line (made job)) ls) ≡ made_of (l ∷ ls)
+pub made_is : (has : List ℕ → Bool) (l : ℕ × List ℕ) (ls : List (ℕ × List ℕ))
+    → (job_header_of has Make l.0 l.1 >>= λ job. copied 0 (written_line (made job)) ls) ≡ made_of has (l ∷ ls)
 unfolding copied made_text
-made_is l ls = go (job_header_of Make l.0 l.1)
+made_is has l ls = go (job_header_of has Make l.0 l.1)
   where
     after : (job : Job) (r : Result ℕ Reason) → ((r >>= λ n. let s : Result (ℕ × List ℕ) Reason = Ok (n, fold with_line (written_line (made job)) ls) in s)
         >>= λ s. let t : Result (List ℕ) Reason = Ok s.1 in t)

@@ -1,6 +1,7 @@
 -- A world of a generated job takes its events.
 use Rattle.std.proofs.Common.{◌≡◌, ℕ, zero, suc, ◌<◌, Bool, true, false, List, [], ◌∷◌, length, drop, map, replicate, Option, Some, None, Ok, is_some}
 use Rattle.std.proofs.Common.{refl, sym, ap, ap₂, ◌∙◌, subst}
+use Rattle.std.specs.List.{list_any}
 use Rattle.std.proofs.lemmas.List.{length-replicate}
 use Rattle.std.proofs.lemmas.List.FromFn.{length-map-range_with_len}
 use Rattle.swap_digraph.specs.Deal.{IsWellSized}
@@ -12,19 +13,23 @@ use Rattle.deviator_script.specs.declared.job.Role.TheVariants.{Conforming, Manu
 use Rattle.deviator_script.specs.Step.{CanStep, IsEventOf}
 use Rattle.swap_rules.specs.Accepted.{IsAccepted}
 use Rattle.swap_laws.proofs.Accepted.{accepted_is_well_sized}
+use Rattle.party_wallet.specs.Value.{WalletState}
 use Rattle.ledger_core.specs.Book.{Histories}
 use Rattle.swap_rules.specs.Outcome.{IsEnded}
+use Rattle.swap_run.specs.Asked.{is_strategy}
 use Rattle.swap_run.specs.Run.{Cast, State, is_planned, run, run_from, start, step}
 use Rattle.swap_run.specs.Fair.{finish}
 use Rattle.swap_run.specs.Laws.{IsKept}
 use Rattle.swap_world.specs.Cast.{cast_of, cast_with, is_conforming}
 use Rattle.swap_world.specs.Staff.{world_of, HaveRoles, HaveSeeds}
+use Rattle.swap_world.specs.Gone.{Gives, HasGone}
 use Rattle.swap_world.specs.Value.{WorldState, cast_at, new_world}
-use Rattle.swap_world.proofs.Team.{world_is_new, plain_roles}
+use Rattle.swap_world.proofs.Plain.{plain_finish}
+use Rattle.swap_world.proofs.Team.{world_is_new, nobody_asks, plain_roles}
 use Rattle.swap_gen.specs.Drawn.{generated, plain_job, plain_deal, seed_of}
 use Rattle.swap_gen.specs.Made.{made_deal}
 use Rattle.swap_gen.specs.Events.{generated_events, GeneratorState}
-use Rattle.swap_gen.specs.Owned.{OwnsKeys}
+use Rattle.swap_gen.specs.Owned.{wallets_in, OwnsKeys}
 use Rattle.made_jobs.specs.Generating.{generated_book, IsOf, StandsAt}
 
 pub is_sized : (d : Deal) → IsAccepted d → IsWellSized d
@@ -93,24 +98,35 @@ can_step seed n g w event s p k can =
     (subst (λ (m : ℕ). IsEventOf (generated seed m) event) p
     (subst (λ (x : ℕ). IsEventOf (generated x g.parties) event) s can))))
 
-pub is_still : (job : Job) (w new : WorldState) (s : State) → IsOf job w → new ≡ record w { state = s } → IsOf job new
-is_still job w new s k e = record {
-  deal = ap (λ (x : WorldState). x.deal) e ∙ k.deal;
-  conforming = ap (λ (x : WorldState). x.conforming) e ∙ k.conforming;
-  seeds = ap (λ (x : WorldState). x.seeds) e ∙ k.seeds;
-  roles = ap (λ (x : WorldState). x.roles) e ∙ k.roles;
-}
+module _ (gives : Gives) (f : Cast → State → State) (w new : WorldState) (k : HasGone gives f w new) where
+  pub is_still : (job : Job) → IsOf job w → IsOf job new
+  is_still job i = record {
+    deal = ap (λ (x : WorldState). x.deal) k.same ∙ i.deal;
+    conforming = ap (λ (x : WorldState). x.conforming) k.same ∙ i.conforming;
+    seeds = ap (λ (x : WorldState). x.seeds) k.same ∙ i.seeds;
+    roles = ap (λ (x : WorldState). x.roles) k.same ∙ i.roles;
+  }
 
-pub goes_on_still : (w new : WorldState) (s : State) → w.stopped ≡ false → new ≡ record w { state = s } → new.stopped ≡ false
-goes_on_still w new s k e = ap (λ (x : WorldState). x.stopped) e ∙ k
+  pub goes_on_still : w.stopped ≡ false → new.stopped ≡ false
+  goes_on_still on = ap (λ (x : WorldState). x.stopped) k.same ∙ on
 
 pub one_more : (job : Job) (w new : WorldState) (event : Event) (left rest : List Event) (total : State) → IsOf job w
-    → new ≡ record w { state = step (cast_at w) w.state event } → left ≡ event ∷ rest → run_from (cast_of job) w.state left ≡ total
+    → new.state ≡ step (cast_at w) w.state event → left ≡ event ∷ rest → run_from (cast_of job) w.state left ≡ total
     → run_from (cast_of job) new.state rest ≡ total
 one_more job w new event left rest total k e first so_far =
     ap (λ (s : State). run_from (cast_of job) s rest)
-    (ap (λ (x : WorldState). x.state) e ∙ ap (λ (c : Cast). step c w.state event) (same_cast job w k))
+    (e ∙ ap (λ (c : Cast). step c w.state event) (same_cast job w k))
     ∙ sym (ap (run_from (cast_of job) w.state) first) ∙ so_far
+
+-- nobody is asked in a generated job
+
+pub generated_unasked : (seed n : ℕ) → list_any is_strategy (generated seed n).roles ≡ false
+unfolding plain_job plain_deal made_deal
+generated_unasked seed n =
+    ap (λ (rs : List Role). list_any is_strategy rs) (all_conform n) ∙ nobody_asks role role_conforms role_plans (replicate n true)
+
+pub unasked_in : (seed n : ℕ) (w : WorldState) → IsOf (generated seed n) w → list_any is_strategy w.roles ≡ false
+unasked_in seed n w k = ap (λ (rs : List Role). list_any is_strategy rs) k.roles ∙ generated_unasked seed n
 
 pub all_taken : (job : Job) (s : State) (left : List Event) (total : State) → left ≡ [] → run_from (cast_of job) s left ≡ total → s ≡ total
 all_taken job s left total none so_far = sym (ap (run_from (cast_of job) s) none) ∙ so_far
@@ -125,6 +141,9 @@ job_seeds j seed n e = subst (λ (x : Job). length x.seeds ≡ x.deal.graph.n) (
 
 pub job_roles : (j : Job) (seed n : ℕ) → j ≡ generated seed n → HaveRoles j
 job_roles j seed n e = subst HaveRoles (sym e) (generated_roles seed n)
+
+pub job_wallets : (j job : Job) (wallets : List (Option WalletState)) → j ≡ job → wallets ≡ wallets_in job → wallets ≡ wallets_in j
+job_wallets j job wallets same e = e ∙ ap wallets_in (sym same)
 
 -- its world before any event
 
@@ -144,13 +163,16 @@ goes_on_new j w new = ap (λ (x : WorldState). x.stopped) new
 
 -- A world after the fair finish, and its book.
 
-pub finished_kept : (w new : WorldState) → new ≡ record w { state = finish (cast_at w) w.state } → IsKept (cast_at new) new.state.book
-    → IsKept (cast_at w) (finish (cast_at w) w.state).book
-finished_kept w new e k = subst (λ (x : WorldState). IsKept (cast_at x) x.state.book) e k
+module _ (gives : Gives) (w new : WorldState) (none : list_any is_strategy w.roles ≡ false) (k : HasGone gives finish w new) where
+  pub finished_book : new.state.book ≡ (finish (cast_at w) w.state).book
+  finished_book = ap (λ (s : State). s.book) (plain_finish gives w new none k)
 
-pub finished_ended : (w new : WorldState) → new ≡ record w { state = finish (cast_at w) w.state } → IsEnded w.deal new.state.book
-    → IsEnded w.deal (finish (cast_at w) w.state).book
-finished_ended w new e k = subst (λ (x : WorldState). IsEnded w.deal x.state.book) e k
+  pub finished_kept : IsKept (cast_at new) new.state.book → IsKept (cast_at w) (finish (cast_at w) w.state).book
+  finished_kept kept =
+      subst (λ (b : Histories). IsKept (cast_at w) b) finished_book (subst (λ (c : Cast). IsKept c new.state.book) (ap cast_at k.same) kept)
+
+  pub finished_ended : IsEnded w.deal new.state.book → IsEnded w.deal (finish (cast_at w) w.state).book
+  finished_ended e = subst (λ (b : Histories). IsEnded w.deal b) finished_book e
 
 -- the run of a number's job, where first is its world before any event, and played the world after all of them
 module _ (seed n count : ℕ) (first played : WorldState) (begins : first.state ≡ start (cast_of (generated seed n)))

@@ -1,5 +1,5 @@
 -- The summary of a number's job, from its run.
-use Rattle.std.proofs.Common.{◌≡◌, ◌==◌, ℕ, Bool, not, List, length, sym, ap, ap₂, ◌∙◌, subst}
+use Rattle.std.proofs.Common.{◌≡◌, ◌==◌, ℕ, Bool, not, List, Option, length, sym, ap, ap₂, ◌∙◌, subst}
 use Rattle.ledger_core.specs.Book.{Histories, IsLegalBook}
 use Rattle.deviator_script.specs.declared.job.Job.{Job}
 use Rattle.outcome_rules.specs.declared.report.Report.{Report}
@@ -7,7 +7,9 @@ use Rattle.outcome_rules.specs.Report.{report_of}
 use Rattle.swap_rules.specs.Outcome.{IsEnded}
 use Rattle.swap_run.specs.Laws.{IsKept}
 use Rattle.swap_world.specs.Cast.{cast_of}
+use Rattle.party_wallet.specs.Value.{WalletState}
 use Rattle.swap_gen.specs.Drawn.{generated}
+use Rattle.swap_gen.specs.Owned.{wallets_in}
 use Rattle.swap_gen.specs.Events.{first_place, GeneratorState}
 use Rattle.run_summary.specs.Summary.{summary, summary_with}
 use Rattle.made_jobs.specs.Generating.{generated_book, generated_summary, is_found}
@@ -30,6 +32,10 @@ module _ (seed n count : ℕ) (first : GeneratorState) (begins : first ≡ recor
   job_still now j s p e =
       e ∙ ap (λ x. generated x now.parties) (s ∙ ap (λ (g : GeneratorState). g.seed) begins)
       ∙ ap (λ m. generated seed m) (p ∙ ap (λ (g : GeneratorState). g.parties) begins)
+
+  pub wallets_still : (wallets : List (Option WalletState)) → wallets ≡ wallets_in (generated seed n)
+      → wallets ≡ wallets_in (generated first.seed first.parties)
+  wallets_still wallets e = e ∙ ap (λ (g : GeneratorState). wallets_in (generated g.seed g.parties)) (sym begins)
 
   pub book_still : (b : Histories) → b ≡ generated_book first.seed first.parties count → b ≡ generated_book seed n count
   book_still b e = e ∙ ap (λ (g : GeneratorState). generated_book g.seed g.parties count) begins

@@ -1,27 +1,38 @@
 -- The header of a made job can be written.
-use Rattle.std.proofs.Common.{◌≡◌, ℕ, zero, suc, ◌<◌, ◌≤◌, Bool, true, false, nat_lt, List, [], length, get_or, map, All, slice_index, Some, codes}
-use Rattle.std.proofs.Common.{decimal, refl, sym, subst, ap, ◌∙◌, arith, ltb-true, ltb-false}
+use Rattle.std.proofs.Common.{◌≡◌, ◌==◌, ◌&&◌, ◌||◌, ℕ, zero, suc, ◌<◌, ◌≤◌, Bool, true, false, nat_lt, nat_le, List, [], length, get_or, All, slice_index}
+use Rattle.std.proofs.Common.{Some, codes, decimal, refl, sym, subst, arith, ltb-true, ltb-false, eqb-true}
+use Rattle.std.specs.List.{list_all}
+use Rattle.swap_base.proofs.Lists.{and_parts, in_place, list_all-in}
 use Rattle.std.proofs.Math.ListN.{get_or-eq_default}
 use Rattle.std.specs.Str.{IsAscii, IsUtf8}
 use Rattle.std.proofs.lemmas.Fmt.{IsAscii-decimal}
-use Rattle.std.proofs.lemmas.List.{get_or-map, get_or_default, length-map, length-replicate}
-use Rattle.std.proofs.lemmas.List.Elements.{All-replicate}
+use Rattle.std.proofs.lemmas.List.{get_or_default, length-replicate}
+use Rattle.std.proofs.lemmas.List.Elements.{All-from_get_or, All-replicate}
 use Rattle.std.proofs.lemmas.List.FromFn.{length-map-range_with_len, get_or-map-range_with_len}
 use Rattle.std.proofs.lemmas.Str.{IsUtf8-append, IsUtf8-from_ascii}
-use Rattle.swap_digraph.specs.Deal.{IsWellSized}
+use Rattle.swap_digraph.specs.declared.deal.Deal.{Deal}
+use Rattle.swap_digraph.specs.Graph.{HasEnds}
+use Rattle.swap_digraph.specs.Deal.{counterparty, party, path_limit, IsWellSized}
 use Rattle.swap_rules.specs.Accepted.{IsAccepted}
 use Rattle.swap_laws.proofs.Accepted.{accepted_is_well_sized}
 use Rattle.deviator_script.specs.declared.job.Job.{Job}
 use Rattle.deviator_script.specs.declared.job.Role.{Role}
-use Rattle.deviator_script.specs.declared.job.Role.TheVariants.{Conforming}
+use Rattle.deviator_script.specs.declared.job.Role.TheVariants.{Conforming, Manual, Script, Strategy}
+use Rattle.deviator_script.specs.declared.moves.Move.{Move}
+use Rattle.deviator_script.specs.declared.moves.Move.TheVariants.{Publish, Craft, Replay, Raw, Claim, Refund, Transfer, Wait}
+use Rattle.deviator_script.specs.Crafted.{Seeds}
+use Rattle.deviator_script.specs.Fitting.{IsFitting}
+use Rattle.deviator_script.specs.Script.{IsMoveOf}
 use Rattle.offer_header.specs.Names.{AreNames}
-use Rattle.swap_offer.specs.Checks.{role_of}
+use Rattle.offer_header.specs.Scripts.{script_of}
 use Rattle.swap_offer.specs.Job.{IsWhole}
+use Rattle.swap_offer.specs.Wallets.{HaveScripts}
 use Rattle.swap_gen.specs.Made.{made, made_deal}
 use Rattle.swap_gen.specs.Owned.{OwnsKeys}
 use Rattle.swap_gen.specs.Drawn.{generated, name_of, plain_deal, plain_job, seed_of}
 use Rattle.offer_text.specs.Words.{AreTexts}
-use Rattle.offer_text.specs.HeaderLine.{IsSayable, IsWord, IsWritable}
+use Rattle.offer_text.specs.Moves.{AreBelow, NamesBelow}
+use Rattle.offer_text.specs.HeaderLine.{AreSayable, IsSayable, IsWritable}
 use Rattle.made_jobs.specs.Making.{IsMade}
 
 -- past the end of a text stands 0
@@ -36,48 +47,65 @@ pub are_texts : (names : List (List ℕ)) → AreNames names → AreTexts names
 are_texts names k p d lt =
     subst IsUtf8 (get_or_default names p [] d lt) (IsUtf8-from_ascii (get_or names p []) (below (get_or names p []) (k.name p lt).ascii))
 
-word_is : (conforms : Bool) → IsWord (role_of conforms)
-word_is true = tt
-word_is false = tt
+-- The moves of a script that fit its deal name parties that are there.
 
-sayable_is : (n : ℕ) (conforms : Bool) → IsSayable n (role_of conforms)
-sayable_is n true = tt
-sayable_is n false = tt
+both_below : (x n f t : ℕ) (b : Bool) → f < n → t < n → ((x == f) || (x == t)) && b ≡ true → x < n
+both_below x n f t b lf lt e = go (x == f) (x == t) refl refl (and_parts ((x == f) || (x == t)) b e).0
+  where
+    go : (c d : Bool) → (x == f) ≡ c → (x == t) ≡ d → (c || d) ≡ true → x < n
+    go true d ec ed k = subst (λ y. y < n) (sym (eqb-true x f ec)) lf
+    go false true ec ed k = subst (λ y. y < n) (sym (eqb-true x t ed)) lt
+    go false false ec ed k = absurd (cc k)
 
--- what each role has that comes from whether its party conforms
-each_role : (P : Role → Type 0) → ((conforms : Bool) → P (role_of conforms)) → (roles : List Role) (conforming : List Bool) → roles ≡ map role_of conforming
-    → All P roles
-each_role P each roles conforming is p d lt =
-    let l : length roles ≡ length conforming = ap length is ∙ length-map conforming role_of in
-    let e : get_or roles p d ≡ role_of (get_or conforming p false) =
-    ap (λ (rs : List Role). get_or rs p d) is ∙ get_or-map role_of conforming p false d (omega (arith, l, lt)) in
-    subst P (sym e) (each (get_or conforming p false))
+all_below : (n : ℕ) (ps : List ℕ) → list_all (λ v. nat_lt v n) ps ≡ true → AreBelow n ps
+all_below n ps e i d lt = ltb-true (get_or ps i d) n (list_all-in (λ v. nat_lt v n) ps (get_or ps i d) e (in_place ps i d lt))
 
-pub are_words : (roles : List Role) (conforming : List Bool) → roles ≡ map role_of conforming → All IsWord roles
-are_words roles conforming is = each_role IsWord word_is roles conforming is
+names_below : (d : Deal) (seeds : Seeds) → HasEnds d.graph → (mv : Move) → IsFitting d seeds mv → NamesBelow d.graph.n mv
+names_below d seeds ends (Publish a start delta bound timelock amount locks) k = tt
+names_below d seeds ends (Craft a lock via onto) k = all_below d.graph.n via k.names.1.known
+names_below d seeds ends (Replay a lock onto) k = tt
+names_below d seeds ends (Raw a key) k =
+    all_below d.graph.n key.path
+    (and_parts (nat_lt key.lock (length d.leaders) && nat_le (length key.path) (path_limit d) && nat_le (length key.sigs) (path_limit d))
+    (list_all (λ v. nat_lt v d.graph.n) key.path) k.names).1
+names_below d seeds ends (Claim a) k = tt
+names_below d seeds ends (Refund a) k = tt
+names_below d seeds ends (Transfer a to units) k =
+    both_below to d.graph.n (party d a) (counterparty d a) (nat_le units 1000000000000) (ends.from a k.arc) (ends.to a k.arc) k.names
+names_below d seeds ends (Wait a height) k = tt
+
+said : (d : Deal) (seeds : Seeds) (p : ℕ) → HasEnds d.graph → (role : Role) → All (IsMoveOf d seeds p) (script_of role) → IsSayable d.graph.n role
+said d seeds p ends Conforming moves = tt
+said d seeds p ends Manual moves = tt
+said d seeds p ends (Script ms) moves = λ i mv lt. names_below d seeds ends (get_or ms i mv) (moves i mv lt).fits
+said d seeds p ends (Strategy name) moves = tt
+
+sayable : (job : Job) → IsWhole job → HaveScripts job → AreSayable job
+sayable job whole scripts =
+    subst (λ n. All (IsSayable n) job.roles) (sym whole.names)
+    (All-from_get_or (IsSayable job.deal.graph.n) job.roles Manual (λ p lt.
+    said job.deal job.seeds p whole.sized.ends (get_or job.roles p Manual) (scripts p (subst (λ n. p < n) whole.roles lt))))
 
 pub is_writable : (job : Job) → IsWellSized job.deal → length job.names ≡ job.deal.graph.n → AreTexts job.names
-    → length job.conforming ≡ job.deal.graph.n → length job.seeds ≡ job.deal.graph.n → job.roles ≡ map role_of job.conforming → IsWritable job
-is_writable job sized names texts conforming seeds roles = record {
+    → length job.conforming ≡ job.deal.graph.n → length job.roles ≡ job.deal.graph.n → length job.seeds ≡ job.deal.graph.n → IsWritable job
+is_writable job sized names texts conforming roles seeds = record {
   sized = sized;
   names = names;
   texts = texts;
   conforming = conforming;
-  roles = ap length roles ∙ length-map job.conforming role_of ∙ conforming;
+  roles = roles;
   seeds = seeds;
-  sayable = each_role (IsSayable job.deal.graph.n) (sayable_is job.deal.graph.n) job.roles job.conforming roles;
 }
 
-pub made_is_writable : (job m : Job) → m ≡ made job → IsAccepted m.deal → IsWhole job → AreNames job.names → job.roles ≡ map role_of job.conforming
-    → IsWritable m
+pub made_is_writable : (job m : Job) → m ≡ made job → IsAccepted m.deal → IsWhole job → AreNames job.names → IsWritable m
 unfolding made_deal
-made_is_writable job m e k whole names roles =
+made_is_writable job m e k whole names =
     subst IsWritable (sym e)
     (is_writable (made job) (accepted_is_well_sized (made job).deal (subst (λ (x : Job). IsAccepted x.deal) e k)) whole.names (are_texts job.names names)
-    whole.conforming whole.seeds roles)
+    whole.conforming whole.roles whole.seeds)
 
-pub made_has_words : (job m : Job) → m ≡ made job → job.roles ≡ map role_of job.conforming → All IsWord m.roles
-made_has_words job m e roles = subst (λ (x : Job). All IsWord x.roles) (sym e) (are_words job.roles job.conforming roles)
+pub made_is_sayable : (job m : Job) → m ≡ made job → IsWhole job → HaveScripts job → AreSayable m
+made_is_sayable job m e whole scripts = subst AreSayable (sym e) (sayable job whole scripts)
 
 pub is_made : (job m : Job) → m ≡ made job → IsAccepted m.deal → ((p : ℕ) → p < m.deal.graph.n → OwnsKeys m p) → IsMade job
 is_made job m e k own = record {
@@ -107,16 +135,15 @@ generated_is_writable seed n few k = record {
   conforming = length-replicate n true;
   roles = length-replicate n Conforming;
   seeds = length-map-range_with_len (λ i. Some (seed_of seed i)) 0 n;
-  sayable = All-replicate (IsSayable n) n Conforming tt;
 }
 
-pub generated_has_words : (seed n : ℕ) → All IsWord (generated seed n).roles
-unfolding plain_job plain_deal made_deal
-generated_has_words seed n = All-replicate IsWord n Conforming tt
+generated_is_sayable : (seed n : ℕ) → AreSayable (generated seed n)
+unfolding plain_job
+generated_is_sayable seed n = All-replicate (IsSayable (length (generated seed n).names)) n Conforming tt
 
 pub job_is_writable : (j : Job) (seed n : ℕ) → j ≡ generated seed n → n ≤ 24 → IsAccepted j.deal → IsWritable j
 job_is_writable j seed n e few k =
     subst IsWritable (sym e) (generated_is_writable seed n few (subst (λ (x : Job). IsAccepted x.deal) e k))
 
-pub job_has_words : (j : Job) (seed n : ℕ) → j ≡ generated seed n → All IsWord j.roles
-job_has_words j seed n e = subst (λ (x : Job). All IsWord x.roles) (sym e) (generated_has_words seed n)
+pub job_is_sayable : (j : Job) (seed n : ℕ) → j ≡ generated seed n → AreSayable j
+job_is_sayable j seed n e = subst AreSayable (sym e) (generated_is_sayable seed n)

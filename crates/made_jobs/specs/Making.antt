@@ -1,5 +1,5 @@
 -- What is written of a plain job: the header line of the job that is made of it, and the further lines as they are.
-use Rattle.std.specs.Prelude.{◌≡◌, ℕ, ◌<◌, ◌++◌, List, ◌∷◌, [], codes, drop, fold, Result, Ok}
+use Rattle.std.specs.Prelude.{◌≡◌, ℕ, Bool, ◌<◌, ◌++◌, List, ◌∷◌, [], codes, drop, fold, Result, Ok}
 use Rattle.swap_base.specs.Fault.{◌>>=◌, steps}
 use Rattle.swap_base.specs.Text.{joined}
 use Rattle.swap_rules.specs.Accepted.{IsAccepted}
@@ -29,12 +29,12 @@ abbrev pub text_for : List (ℕ × List ℕ) → Result (Job × List Event) Reas
 text_for lines read = read >>= λ j. Ok (made_text j.0 (drop 1 lines))
 
 -- what is written of an input's lines that aren't blank, or the first reason why they are refused
-abbrev pub made_of : List (ℕ × List ℕ) → Result (List ℕ) Reason
-made_of lines = text_for lines (of_lines Make lines)
+abbrev pub made_of : (List ℕ → Bool) → List (ℕ × List ℕ) → Result (List ℕ) Reason
+made_of has lines = text_for lines (of_lines has Make lines)
 
 -- what is written of an input's bytes, or the first reason why they are refused
-unfoldable pub made_output : List ℕ → Result (List ℕ) Reason
-made_output input = made_of (filled_lines 1 (lines_of input))
+unfoldable pub made_output : (List ℕ → Bool) → List ℕ → Result (List ℕ) Reason
+made_output has input = made_of has (filled_lines 1 (lines_of input))
 
 -- How many further lines were written, and the text so far: after one more line, or the reason against it.
 unfoldable pub line_step : ℕ × List ℕ → ℕ × List ℕ → Result (ℕ × List ℕ) Reason

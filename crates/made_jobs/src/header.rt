@@ -1,7 +1,7 @@
 //! The header line of a job, as it stands in a file.
 
-ghost use Rattle.std.specs.Prelude.{◌≡◌, ◌++◌, OnOk, All};
-ghost use Rattle.offer_text.specs.HeaderLine.{IsWord, IsWritable};
+ghost use Rattle.std.specs.Prelude.{◌≡◌, ◌++◌, OnOk};
+ghost use Rattle.offer_text.specs.HeaderLine.{AreSayable, IsWritable};
 ghost use Rattle.made_jobs.specs.Making.{written_line};
 
 use deviator_script::Job;
@@ -13,7 +13,7 @@ use swap_base::{NoMemory, Piece, put};
 #[tactic(auto, unfolding(crate::specs::Making::written_line))]
 pub(crate) fn put_header(alloc: Global, out: &mut Vec<u8>, job: &Job) -> Result<(), NoMemory>
     requires writable { IsWritable job.now }
-    requires words { All IsWord job.now.roles }
+    requires sayable { AreSayable job.now }
     ensures { OnOk result (out.new.items ≡ out.old.items ++ written_line job.now) }
 {
     let line = write_deal(alloc, job)?;

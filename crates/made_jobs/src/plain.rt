@@ -1,11 +1,11 @@
 //! What is written of a plain job.
 
-ghost use Rattle.std.specs.Prelude.{◌≡◌, ◌≤◌, ℕ, IfOk, OnOk, map};
+ghost use Rattle.std.specs.Prelude.{◌≡◌, ◌≤◌, ℕ, IfOk, OnOk};
 ghost use Rattle.swap_base.specs.Fault.{Gives};
 ghost use Rattle.proposed_deal.specs.Proposed.{HaveSeeds, IsProposed};
 ghost use Rattle.offer_header.specs.Names.{AreNames};
-ghost use Rattle.swap_offer.specs.Checks.{role_of};
 ghost use Rattle.swap_offer.specs.Job.{IsWhole};
+ghost use Rattle.swap_offer.specs.Wallets.{HaveScripts};
 ghost use Rattle.swap_gen.specs.Made.{made};
 ghost use Rattle.made_jobs.specs.Making.{line_step, written_line, IsMade};
 
@@ -17,11 +17,11 @@ use swap_base::{NoMemory, Piece, put};
 use swap_gen::make;
 use swap_offer::count_event;
 
-/// The header line of the job that is made of a plain one, with a line feed.
+/// The header line of the job that is made of a plain one, with a line feed. Its scripts stand there move by move.
 pub fn made_line(alloc: Global, job: &Job) -> Result<Vec<u8>, NoMemory>
     requires whole { IsWhole job.now }
     requires known { AreNames job.now.names }
-    requires roles { job.now.roles ≡ map role_of job.now.conforming }
+    requires scripts { HaveScripts job.now }
     requires proposed { IsProposed job.now.deal }
     requires seeds { HaveSeeds job.now }
     ensures line { IfOk result (λ v. v.items ≡ written_line (made job.now)) }

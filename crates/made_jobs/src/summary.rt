@@ -52,8 +52,8 @@ pub fn summarize(alloc: Global, seed: u32, parties: u8, events: u32) -> Result<S
     ensures kept { OnOk result (IsKept (cast_of (generated seed parties)) (generated_book seed parties events)) }
     ensures ended { OnOk result (IsEnded (generated seed parties).deal (generated_book seed parties events)) }
 {
-    let mut generator = Generator::new(alloc, seed, parties)?;
-    let book = played(alloc, &mut generator, events)?;
+    let (mut generator, wallets) = Generator::with_wallets(alloc, seed, parties)?;
+    let book = played(alloc, &mut generator, wallets, events)?;
     let summary = summed(alloc, generator.job(), events, &book)?;
     Ok(summary)
 }

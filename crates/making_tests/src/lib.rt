@@ -1,5 +1,9 @@
-//! Tests of jobs made from seeds and from numbers, against an independent program.
+//! Tests of jobs made from seeds and from numbers, by the generator and by the program, against an independent program.
 #![tactic(auto)]
 
+#[cfg(test)]
+mod generated;
+#[cfg(test)]
+mod making;
 #[cfg(test)]
 mod numbers;

@@ -1,5 +1,4 @@
 pub mod Sizes
-pub mod Parts
 pub mod Fits
 pub mod Scanned
 pub mod PlainText

@@ -1,51 +1,40 @@
 -- The event that a line asks for, or the first reason against it: its text, its fields, its names, its numbers and texts, and where it stands.
-use Rattle.std.specs.Prelude.{◌==◌, ◌||◌, ℕ, Bool, true, false, List, [], ◌∷◌, codes, slice_index_or, unwrap_or, if◌then◌else◌, is_some, Option, None}
-use Rattle.std.specs.Prelude.{Result, Ok, Err}
-use Rattle.std.specs.List.{list_any}
+use Rattle.std.specs.Prelude.{ℕ, Bool, true, false, List, [], ◌∷◌, codes, slice_index_or, unwrap_or, if◌then◌else◌, is_some, Option, None, Result, Ok, Err}
 use Rattle.swap_base.specs.Fault.{◌>>=◌}
 use Rattle.swap_digraph.specs.declared.deal.Deal.{Deal}
-use Rattle.swap_digraph.specs.Deal.{party, counterparty}
 use Rattle.deviator_script.specs.declared.job.Job.{Job}
 use Rattle.deviator_script.specs.declared.job.Purpose.{Purpose}
 use Rattle.deviator_script.specs.declared.job.Purpose.TheVariants.{Check, Race}
 use Rattle.deviator_script.specs.declared.moves.Move.{Move}
-use Rattle.deviator_script.specs.declared.moves.Move.TheVariants.{Craft, Transfer}
+use Rattle.deviator_script.specs.declared.moves.Move.TheVariants.{Craft}
 use Rattle.deviator_script.specs.Crafted.{Seeds}
 use Rattle.deviator_script.specs.declared.event.Event.{Event}
 use Rattle.deviator_script.specs.declared.event.Event.TheVariants.{Tick, Look, Act, Call}
-use Rattle.deviator_script.specs.Resolved.{arc_of as stands_on}
 use Rattle.refusals.specs.declared.reason.Reason.{Reason}
-use Rattle.refusals.specs.declared.reason.Reason.TheVariants.{NotAdjacent, ConformingCall, NoSeed, EventInRace}
+use Rattle.refusals.specs.declared.reason.Reason.TheVariants.{NoSeed, EventInRace}
 use Rattle.offer_fields.specs.Fields.{object_of}
 use Rattle.offer_fields.specs.Limits.{number_within}
 use Rattle.offer_fields.specs.Names.{party_of_name}
-use Rattle.offer_events.specs.declared.raw.RawMove.{RawMove}
+use Rattle.offer_moves.specs.declared.raw.RawMove.{RawMove}
+use Rattle.offer_moves.specs.Moves.{sizes_of, arc_of, move_of}
+use Rattle.offer_moves.specs.Placed.{deviating, adjacent, placed}
 use Rattle.offer_events.specs.declared.raw.RawEvent.{RawEvent}
 use Rattle.offer_events.specs.declared.raw.RawEvent.TheVariants as raws
 use Rattle.offer_events.specs.Reading.{event_at}
-use Rattle.offer_events.specs.Moves.{arc_of, move_of}
 
 -- a tick is by 1 height where it doesn't say
 unfoldable pub event_of_tick : Deal → ℕ → ℕ → Option ℕ → Result Event Reason
 event_of_tick d line n by = do
-  arc ← arc_of d line (codes "tick") n
+  arc ← arc_of (sizes_of d) line (codes "tick") n
   heights ← number_within line (codes "by") 1 1000000 (unwrap_or by 1)
   Ok (Tick arc heights)
-
--- a conforming party makes no call of a line
-unfoldable pub deviating : ℕ → Bool → Result (Unit {0}) Reason
-deviating line is_conforming = if is_conforming then Err (ConformingCall line) else Ok tt
-
--- p is one of the arc's two parties
-unfoldable pub adjacent : Deal → ℕ → ℕ → ℕ → Result (Unit {0}) Reason
-adjacent d line p a = if (p == party d a) || (p == counterparty d a) then Ok tt else Err (NotAdjacent line)
 
 -- a party looks at a ledger of its own arcs
 unfoldable pub event_of_look : Job → ℕ → List ℕ → ℕ → Result Event Reason
 event_of_look job line name n = do
   p ← party_of_name line job.names name
-  arc ← arc_of job.deal line (codes "arc") n
-  u ← adjacent job.deal line p arc
+  arc ← arc_of (sizes_of job.deal) line (codes "arc") n
+  u ← adjacent job.deal.graph.arcs line p arc
   Ok (Look p arc)
 
 -- a party acts as its role says
@@ -53,16 +42,6 @@ unfoldable pub event_of_act : Job → ℕ → List ℕ → Result Event Reason
 event_of_act job line name = do
   p ← party_of_name line job.names name
   Ok (Act p)
-
--- who gets units is one of the arc's two parties
-abbrev pub received : Deal → ℕ → Move → Result (Unit {0}) Reason
-received d line (Transfer a to units) = adjacent d line to a
-received d line _ = Ok tt
-
--- no party that crafts a hashkey conforms
-abbrev pub crafted_by_others : List Bool → ℕ → Move → Result (Unit {0}) Reason
-crafted_by_others conforming line (Craft a lock via onto) = deviating line (list_any (λ v. slice_index_or conforming v false) via)
-crafted_by_others conforming line _ = Ok tt
 
 -- each of the parties has a seed, or the first that has none is the reason
 abbrev pub each_seeded : Seeds → List ℕ → Result (Unit {0}) Reason
@@ -79,21 +58,19 @@ abbrev pub crafted_with_seeds : Job → Move → Result (Unit {0}) Reason
 crafted_with_seeds job (Craft a lock via onto) = if needs_seeds job.purpose then each_seeded job.seeds via else Ok tt
 crafted_with_seeds job _ = Ok tt
 
--- p may make the move where it stands: first its own arc, then who crafts, then who gets units, then the seeds
-unfoldable pub placed : Job → ℕ → ℕ → Move → Result (Unit {0}) Reason
-placed job line p mv = do
-  u ← adjacent job.deal line p (stands_on mv)
-  w ← crafted_by_others job.conforming line mv
-  x ← received job.deal line mv
+-- p may make the move where it stands, and who crafts has seeds
+unfoldable pub permitted : Job → ℕ → ℕ → Move → Result (Unit {0}) Reason
+permitted job line p mv = do
+  u ← placed job.deal.graph.arcs job.conforming line p mv
   crafted_with_seeds job mv
 
 -- a party that deviates makes a call
 unfoldable pub event_of_call : Job → ℕ → List ℕ → RawMove → Result Event Reason
 event_of_call job line name raw = do
   p ← party_of_name line job.names name
-  mv ← move_of job.deal job.names line raw
+  mv ← move_of (sizes_of job.deal) job.names line raw
   u ← deviating line (slice_index_or job.conforming p false)
-  w ← placed job line p mv
+  w ← permitted job line p mv
   Ok (Call p mv)
 
 -- the event of what a line says

@@ -1,14 +1,9 @@
 -- Lines in a plain form: no blanks, numbers in decimal, and names that need no escape.
-use Rattle.std.specs.Prelude.{◌≡◌, ◌&&◌, ◌==◌, ℕ, Bool, not, nat_le, List, Result, Ok}
+use Rattle.std.specs.Prelude.{◌≡◌, ◌&&◌, ◌==◌, ℕ, Bool, not, nat_le, List, Ok}
 use Rattle.serde_json.specs.Data.{Data}
-use Rattle.swap_base.specs.Fault.{◌>>=◌}
-use Rattle.deviator_script.specs.declared.job.Job.{Job}
-use Rattle.deviator_script.specs.declared.event.Event.{Event}
-use Rattle.refusals.specs.declared.reason.Reason.{Reason}
 use Rattle.offer_fields.specs.Fields.{object_of}
 use Rattle.offer_events.specs.declared.raw.RawEvent.{RawEvent}
 use Rattle.offer_events.specs.Reading.{event_at}
-use Rattle.offer_events.specs.Event.{checked, outside_race}
 
 -- a byte that stands between quotes for itself: a printable one of ASCII, neither a quote nor a backslash
 abbrev pub is_plain : ℕ → Bool

@@ -1,24 +1,26 @@
 //! The event of a line.
 
-ghost use Rattle.std.specs.Prelude.{◌≡◌, ◌≢◌, ◌==◌, ◌||◌, ◌<◌, ◌≤◌, ℕ, List, Bool, true, false, nat_lt, length, slice_index_or, IsTrue, IfOk};
-ghost use Rattle.std.specs.List.{list_all, list_any};
+ghost use Rattle.std.specs.Prelude.{◌≡◌, ◌<◌, ◌≤◌, ℕ, List, true, false, nat_lt, length, IsTrue, IfOk};
+ghost use Rattle.std.specs.List.{list_all};
 ghost use Rattle.swap_base.specs.Fault.{Gives};
-ghost use Rattle.swap_digraph.specs.Deal.{IsWellSized, party, counterparty};
+ghost use Rattle.swap_digraph.specs.Deal.{IsWellSized};
 ghost use Rattle.deviator_script.specs.Resolved.{arc_of as stands_on};
 ghost use Rattle.deviator_script.specs.Step.{IsEventOf};
-ghost use Rattle.offer_events.specs.Event.{event_of_tick, deviating, adjacent, event_of_look, event_of_act, received, placed, event_of_call, checked};
-ghost use Rattle.offer_events.specs.Event.{outside_race, asked, event_of, crafted_by_others, each_seeded, needs_seeds, crafted_with_seeds};
-ghost use Rattle.offer_events.specs.Kept.{AreCraftersBelow};
+ghost use Rattle.offer_moves.specs.Kept.{AreCraftersBelow};
+ghost use Rattle.offer_events.specs.Event.{event_of_tick, event_of_look, event_of_act, permitted, event_of_call, checked};
+ghost use Rattle.offer_events.specs.Event.{outside_race, asked, event_of, each_seeded, needs_seeds, crafted_with_seeds};
 
-use crate::moves::{arc_of, move_of};
 use crate::plain::plain_event;
-use crate::raw::{RawEvent, RawMove};
+use crate::raw::RawEvent;
 use crate::reading::event_in;
-use deviator_script::{Event, Job, Move, Purpose, arc_of_move};
+use deviator_script::{Event, Job, Move, Purpose};
 use offer_fields::{number_within, object_in, party_of_name};
+use offer_moves::{
+    RawMove, arc_of, check_adjacent, check_deviator, check_place, move_of, sizes_of,
+};
 use refusals::{OfferFault, Reason};
 use std::alloc::Global;
-use swap_base::{ArcId, Digest, Fault, PartyId};
+use swap_base::{Digest, Fault, PartyId};
 use swap_digraph::Deal;
 
 #[tactic(auto, unfolding(crate::specs::Event::event_of_tick))]
@@ -32,32 +34,9 @@ fn event_of_tick(
     requires sized { IsWellSized deal.now }
     ensures { Gives (λ e. e) result (event_of_tick deal.now line number by) }
 {
-    let arc = arc_of(alloc, deal, line, "tick", number)?;
+    let arc = arc_of(alloc, sizes_of(deal), line, "tick", number)?;
     let heights = number_within(alloc, line, "by", 1, 1_000_000, by.unwrap_or(1))?;
     Ok(Event::Tick(arc, heights))
-}
-
-#[tactic(auto, unfolding(crate::specs::Event::deviating))]
-fn check_deviator(line: u32, is_conforming: bool) -> Result<(), OfferFault>
-    ensures { Gives (λ u. u) result (deviating line is_conforming) }
-{
-    if is_conforming {
-        return Err(Fault::Refused(Reason::ConformingCall(line)));
-    }
-    Ok(())
-}
-
-/// A party stands on an arc of which it is one of the two.
-#[tactic(auto, unfolding(crate::specs::Event::adjacent))]
-fn check_adjacent(deal: &Deal, line: u32, p: PartyId, arc: ArcId) -> Result<(), OfferFault>
-    requires arc { arc < length deal.now.graph.arcs }
-    ensures { Gives (λ u. u) result (adjacent deal.now line p arc) }
-{
-    let ends = deal.graph.arcs()[arc as usize];
-    if p == ends.from || p == ends.to {
-        return Ok(());
-    }
-    Err(Fault::Refused(Reason::NotAdjacent(line)))
 }
 
 #[tactic(auto, unfolding(crate::specs::Event::event_of_look))]
@@ -73,8 +52,8 @@ fn event_of_look(
     ensures { Gives (λ e. e) result (event_of_look job.now line name.now number) }
 {
     let p = party_of_name(alloc, line, job.names.as_slice(), name)?;
-    let arc = arc_of(alloc, &job.deal, line, "arc", number)?;
-    check_adjacent(&job.deal, line, p, arc)?;
+    let arc = arc_of(alloc, sizes_of(&job.deal), line, "arc", number)?;
+    check_adjacent(job.deal.graph.arcs(), line, p, arc)?;
     Ok(Event::Look(p, arc))
 }
 
@@ -86,41 +65,6 @@ fn event_of_act(alloc: Global, job: &Job, line: u32, name: &[u8]) -> Result<Even
 {
     let p = party_of_name(alloc, line, job.names.as_slice(), name)?;
     Ok(Event::Act(p))
-}
-
-fn check_receiver(deal: &Deal, line: u32, mv: &Move) -> Result<(), OfferFault>
-    requires arc { stands_on mv.now < length deal.now.graph.arcs }
-    ensures { Gives (λ u. u) result (received deal.now line mv.now) }
-{
-    match mv {
-        Move::Transfer { arc, to, .. } => check_adjacent(deal, line, *to, *arc),
-        _ => Ok(()),
-    }
-}
-
-/// Whether one of the parties conforms.
-#[tactic(auto, using(crate::proofs::Crafters::none_yet, crate::proofs::Crafters::one_found, crate::proofs::Crafters::none_at_all))]
-fn any_conforms(conforming: &[bool], via: &[PartyId]) -> bool
-    requires via { IsTrue (list_all (λ v. nat_lt v (length conforming.now)) via.now) }
-    ensures { result ≡ list_any (λ v. slice_index_or conforming.now v false) via.now }
-{
-    for v in via {
-        if conforming[*v as usize] {
-            return true;
-        }
-    }
-    false
-}
-
-/// No party that crafts a hashkey conforms.
-fn check_crafters(line: u32, conforming: &[bool], mv: &Move) -> Result<(), OfferFault>
-    requires via { AreCraftersBelow (length conforming.now) mv.now }
-    ensures { Gives (λ u. u) result (crafted_by_others conforming.now line mv.now) }
-{
-    match mv {
-        Move::Craft { via, .. } => check_deviator(line, any_conforms(conforming, via.as_slice())),
-        _ => Ok(()),
-    }
 }
 
 /// Each of the parties has a seed.
@@ -163,16 +107,21 @@ fn check_seeds(job: &Job, mv: &Move) -> Result<(), OfferFault>
     }
 }
 
-#[tactic(auto, unfolding(crate::specs::Event::placed))]
-fn check_place(job: &Job, line: u32, p: PartyId, mv: &Move) -> Result<(), OfferFault>
+/// A party may make a move where it stands, and who crafts has seeds.
+#[tactic(auto, unfolding(crate::specs::Event::permitted))]
+fn check_move(job: &Job, line: u32, p: PartyId, mv: &Move) -> Result<(), OfferFault>
     requires arc { stands_on mv.now < length job.now.deal.graph.arcs }
     requires conforming { AreCraftersBelow (length job.now.conforming) mv.now }
     requires seeds { AreCraftersBelow (length job.now.seeds) mv.now }
-    ensures { Gives (λ u. u) result (placed job.now line p mv.now) }
+    ensures { Gives (λ u. u) result (permitted job.now line p mv.now) }
 {
-    check_adjacent(&job.deal, line, p, arc_of_move(mv))?;
-    check_crafters(line, job.conforming.as_slice(), mv)?;
-    check_receiver(&job.deal, line, mv)?;
+    check_place(
+        job.deal.graph.arcs(),
+        job.conforming.as_slice(),
+        line,
+        p,
+        mv,
+    )?;
     check_seeds(job, mv)
 }
 
@@ -192,9 +141,9 @@ fn event_of_call(
 {
     let names = job.names.as_slice();
     let p = party_of_name(alloc, line, names, name)?;
-    let mv = move_of(alloc, &job.deal, names, line, raw)?;
+    let mv = move_of(alloc, sizes_of(&job.deal), names, line, raw)?;
     check_deviator(line, job.conforming.as_slice()[p as usize])?;
-    check_place(job, line, p, &mv)?;
+    check_move(job, line, p, &mv)?;
     Ok(Event::Call(p, mv))
 }
 

@@ -4,9 +4,6 @@
 #![tactic(auto)]
 
 mod event;
-mod limits;
-mod moves;
-mod names;
 mod plain;
 mod raw;
 mod reading;

@@ -1,6 +1,11 @@
+pub mod Allowed
 pub mod Walked
 pub mod Numbered
 pub mod Limited
 pub mod Untimed
 pub mod Listing
 pub mod Untold
+pub mod Standing
+pub mod Simple
+pub mod Held
+pub mod Failing

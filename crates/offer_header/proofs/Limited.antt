@@ -1,19 +1,14 @@
 -- A header's lists are as long as they have to be, and its numbers are in their ranges.
-use Rattle.std.proofs.Common.{◌≡◌, ℕ, ◌<◌, ◌≤◌, ◌^◌, length, get_or, map, List, [], Bool, true, false, ◌&&◌, cond, Option, None, Result, Ok, Err, refl}
+use Rattle.std.proofs.Common.{◌≡◌, ℕ, ◌<◌, ◌≤◌, ◌^◌, length, get_or, map, List, [], ◌∷◌, Bool, true, false, None, Ok, refl}
 use Rattle.std.proofs.Common.{sym, ap, ◌∙◌, subst, arith, codes}
-use Rattle.std.proofs.lemmas.Bool.{leb-true}
 use Rattle.std.proofs.lemmas.List.{get_or-map, length-map}
-use Rattle.std.specs.Prelude.{nat_le, IfOk}
-use Rattle.swap_base.specs.Fault.{◌>>=◌, Gives}
-use Rattle.swap_base.specs.declared.fault.Fault.{Fault}
-use Rattle.swap_base.proofs.Lists.{and_parts}
-use Rattle.refusals.specs.declared.reason.Reason.{Reason}
-use Rattle.refusals.specs.declared.reason.Reason.TheVariants.{OverLimit}
+use Rattle.swap_base.specs.Fault.{◌>>=◌}
 use Rattle.offer_fields.specs.Limits.{number_within, within}
 use Rattle.offer_fields.specs.Lists.{each_of}
 use Rattle.offer_header.specs.Names.{AreLeaders, AreEnds, IsNumbered}
-use Rattle.offer_header.specs.Raw.{is_plain, IsUntimed}
-use Rattle.offer_header.specs.Limits.{seed_of, seeds_of, conforms, terms_of, all_terms_of, arc_ends, hashlock_of, no_digests, hashlocks_by, hashlocks_of}
+use Rattle.offer_header.specs.Raw.{is_plain, IsModeOf, IsUntimed}
+use Rattle.offer_header.specs.Limits.{acting_of, parties_of, conforms, sizes_in, terms_of, all_terms_of, arc_ends}
+use Rattle.offer_header.specs.Limits.{hashlock_of, no_digests, hashlocks_by, hashlocks_of}
 use Rattle.offer_header.specs.Limits.{key_of, party_keys_of, stated_keys_of, keys_of, limited_of}
 use Rattle.offer_header.specs.Header.{HasKeysFor, IsWithin}
 use Rattle.offer_header.specs.declared.raw.RawActor.TheVariants.{Manual}
@@ -21,10 +16,14 @@ use Rattle.offer_header.specs.declared.raw.RawParty.{RawParty}
 use Rattle.offer_header.specs.declared.raw.RawArc.{RawArc}
 use Rattle.offer_header.specs.declared.raw.RawLeader.{RawLeader}
 use Rattle.offer_header.specs.declared.raw.RawRow.{RawRow}
+use Rattle.offer_moves.specs.declared.moves.Sizes.{Sizes}
+use Rattle.offer_header.specs.declared.limits.Acting.{Acting}
 use Rattle.offer_header.specs.declared.limits.ArcTerms.{ArcTerms}
 use Rattle.swap_digraph.specs.declared.arc_ends.ArcEnds.{ArcEnds}
 use Rattle.swap_digraph.specs.declared.deal.Mode.{Mode}
 use Rattle.swap_digraph.specs.declared.deal.Mode.TheVariants.{Timelocks, Hashkeys}
+use Rattle.swap_digraph.specs.declared.deal.Version.{Version}
+use Rattle.swap_digraph.specs.Deal.{most_arcs, most_parties}
 use Rattle.offer_header.specs.declared.raw.RawHeader.{RawHeader}
 use Rattle.deviator_script.specs.declared.job.Purpose.{Purpose}
 use Rattle.offer_header.specs.declared.header.Header.{Header}
@@ -32,16 +31,23 @@ use Rattle.offer_header.specs.declared.names.Ends.{Ends}
 use Rattle.offer_header.specs.declared.names.Numbered.{Numbered}
 use Rattle.offer_fields.proofs.Chains.{went, each_length, each_at}
 use Rattle.offer_fields.proofs.Ranges.{within_ok, number_within_ok}
+use Rattle.offer_header.proofs.Allowed.{few_parties}
 
 -- ---- parties
 
-pub seeds_ok : (line : ℕ) (parties : List RawParty) (seeds : List (Option (List ℕ))) → seeds_of line parties ≡ Ok seeds
-    → (2 ≤ length parties) × (length parties ≤ 24) × (length seeds ≡ length parties)
-unfolding seeds_of
-seeds_ok line parties seeds h =
-    let one = went (within line (codes "parties") 2 24 (length parties)) (λ u. each_of (seed_of line) parties) seeds h in
-    let r = within_ok line (codes "parties") 2 24 (length parties) one.0 one.1 in
-    (r.0, r.1, each_length (seed_of line) parties seeds one.2)
+pub parties_ok : (version : Version) (sizes : Sizes) (names : List (List ℕ)) (line : ℕ) (parties : List RawParty) (acting : List Acting)
+    → parties_of version sizes names line parties ≡ Ok acting
+    → (2 ≤ length parties) × (length parties ≤ most_parties version) × (length acting ≡ length parties)
+unfolding parties_of
+parties_ok version sizes names line parties acting h =
+    let one = went (within line (codes "parties") 2 (most_parties version) (length parties)) (λ u. each_of (acting_of sizes names line) parties) acting h in
+    let r = within_ok line (codes "parties") 2 (most_parties version) (length parties) one.0 one.1 in
+    (r.0, r.1, each_length (acting_of sizes names line) parties acting one.2)
+
+-- a party conforms exactly where its role says so
+roles_conform : (acting : List Acting) → map (λ (p : Acting). conforms p.role) acting ≡ map conforms (map (λ (p : Acting). p.role) acting)
+roles_conform [] = refl
+roles_conform (p ∷ acting) = ap (λ (bs : List Bool). conforms p.role ∷ bs) (roles_conform acting)
 
 wider_ends : (n : ℕ) (ends : List Ends) → n ≤ 256 → AreEnds n ends → AreEnds 256 ends
 wider_ends n ends le h = record {
@@ -52,17 +58,21 @@ wider_ends n ends le h = record {
 wider_leaders : (n : ℕ) (leaders : List ℕ) → n ≤ 256 → AreLeaders n leaders → AreLeaders 256 leaders
 wider_leaders n leaders le h = record { below = λ i lt. let k = h.below i lt in omega arith; apart = h.apart }
 
-pub small_ends : (line : ℕ) (raw : RawHeader) (n : Numbered) (seeds : List (Option (List ℕ))) → IsNumbered raw n → seeds_of line raw.parties ≡ Ok seeds
+pub small_ends : (line : ℕ) (raw : RawHeader) (n : Numbered) (acting : List Acting) → IsNumbered raw n
+    → parties_of raw.version (sizes_in raw) n.names line raw.parties ≡ Ok acting
     → AreEnds 256 n.arcs
-small_ends line raw n seeds is h =
-    let r = seeds_ok line raw.parties seeds h in
+small_ends line raw n acting is h =
+    let r = parties_ok raw.version (sizes_in raw) n.names line raw.parties acting h in
+    let most = few_parties raw.version in
     let e = is.parties in
     wider_ends (length n.names) n.arcs (omega arith) is.ends
 
-pub small_leaders : (line : ℕ) (raw : RawHeader) (n : Numbered) (seeds : List (Option (List ℕ))) → IsNumbered raw n → seeds_of line raw.parties ≡ Ok seeds
+pub small_leaders : (line : ℕ) (raw : RawHeader) (n : Numbered) (acting : List Acting) → IsNumbered raw n
+    → parties_of raw.version (sizes_in raw) n.names line raw.parties ≡ Ok acting
     → AreLeaders 256 n.leaders
-small_leaders line raw n seeds is h =
-    let r = seeds_ok line raw.parties seeds h in
+small_leaders line raw n acting is h =
+    let r = parties_ok raw.version (sizes_in raw) n.names line raw.parties acting h in
+    let most = few_parties raw.version in
     let e = is.parties in
     wider_leaders (length n.names) n.leaders (omega arith) is.leader
 
@@ -88,18 +98,19 @@ abbrev zero_terms : ArcTerms
 zero_terms = record { amount = 0; timelock = 0 }
 
 -- The terms are in their ranges, and the timelocks are those that are stated.
-record AreTerms (arcs : List RawArc) (terms : List ArcTerms) : Type 0 where
-  few : (2 ≤ length terms) × (length terms ≤ 96)
+record AreTerms (version : Version) (arcs : List RawArc) (terms : List ArcTerms) : Type 0 where
+  few : (2 ≤ length terms) × (length terms ≤ most_arcs version)
   each : length terms ≡ length arcs
   amount : (a : ℕ) → a < length terms → (1 ≤ (get_or terms a zero_terms).amount) × ((get_or terms a zero_terms).amount ≤ 10 ^ 12)
   timelock : (a : ℕ) → a < length terms → (get_or terms a zero_terms).timelock ≤ 1000000
   stated : (a : ℕ) → a < length terms → (get_or terms a zero_terms).timelock ≡ (get_or arcs a zero_arc).timelock
 
-are_terms : (line : ℕ) (arcs : List RawArc) (terms : List ArcTerms) → all_terms_of line arcs ≡ Ok terms → AreTerms arcs terms
+are_terms : (version : Version) (line : ℕ) (arcs : List RawArc) (terms : List ArcTerms) → all_terms_of version line arcs ≡ Ok terms
+    → AreTerms version arcs terms
 unfolding all_terms_of
-are_terms line arcs terms h =
-    let one = went (within line (codes "arcs") 2 96 (length arcs)) (λ u. each_of (terms_of line) arcs) terms h in
-    let r = within_ok line (codes "arcs") 2 96 (length arcs) one.0 one.1 in
+are_terms version line arcs terms h =
+    let one = went (within line (codes "arcs") 2 (most_arcs version) (length arcs)) (λ u. each_of (terms_of line) arcs) terms h in
+    let r = within_ok line (codes "arcs") 2 (most_arcs version) (length arcs) one.0 one.1 in
     let l : length terms ≡ length arcs = each_length (terms_of line) arcs terms one.2 in
     let at : (a : ℕ) → a < length terms → ((1 ≤ (get_or terms a zero_terms).amount) × ((get_or terms a zero_terms).amount ≤ 10 ^ 12))
     × ((get_or terms a zero_terms).timelock ≤ 1000000) × ((get_or terms a zero_terms).timelock ≡ (get_or arcs a zero_arc).timelock) =
@@ -178,16 +189,18 @@ zero_ends = record { from = 0; to = 0 }
 abbrev zero_arc_ends : ArcEnds
 zero_arc_ends = record { from = 0; to = 0 }
 
-abbrev pub header_with : Purpose → RawHeader → Numbered → ℕ → ℕ → ℕ → List (Option (List ℕ)) → List ArcTerms → List (List ℕ) → List (List (List ℕ)) → Header
-header_with purpose raw n start delta bound seeds terms hashlocks keys = record {
+abbrev pub header_with : Purpose → RawHeader → Numbered → ℕ → ℕ → ℕ → List Acting → List ArcTerms → List (List ℕ) → List (List (List ℕ)) → Header
+header_with purpose raw n start delta bound acting terms hashlocks keys = record {
   purpose = purpose;
+  version = raw.version;
   mode = raw.mode;
   start = start;
   delta = delta;
   bound = bound;
   names = n.names;
-  conforming = map (λ p. conforms p.actor) raw.parties;
-  seeds = seeds;
+  roles = map (λ p. p.role) acting;
+  conforming = map (λ p. conforms p.role) acting;
+  seeds = map (λ p. p.seed) acting;
   arcs = map arc_ends n.arcs;
   amounts = map (λ t. t.amount) terms;
   timelocks = map (λ t. t.timelock) terms;
@@ -197,16 +210,17 @@ header_with purpose raw n start delta bound seeds terms hashlocks keys = record 
   finish = raw.finish;
 }
 
-all_within : (purpose : Purpose) (raw : RawHeader) (n : Numbered) (start delta bound : ℕ) (seeds : List (Option (List ℕ))) (terms : List ArcTerms)
+all_within : (purpose : Purpose) (raw : RawHeader) (n : Numbered) (start delta bound : ℕ) (acting : List Acting) (terms : List ArcTerms)
     (hashlocks : List (List ℕ)) (keys : List (List (List ℕ)))
-    → IsNumbered raw n → IsUntimed raw
+    → IsNumbered raw n → IsModeOf raw.version raw.mode → IsUntimed raw
     → (1 ≤ start) × (start ≤ 1000) × (start ≡ raw.start) → (1 ≤ delta) × (delta ≤ 100) × (delta ≡ raw.delta)
     → (1 ≤ bound) × (bound ≤ 64) × (bound ≡ raw.bound)
-    → (2 ≤ length raw.parties) × (length raw.parties ≤ 24) × (length seeds ≡ length raw.parties) → AreTerms raw.arcs terms
+    → (2 ≤ length raw.parties) × (length raw.parties ≤ most_parties raw.version) × (length acting ≡ length raw.parties)
+    → AreTerms raw.version raw.arcs terms
     → (1 ≤ length raw.leaders) × (length raw.leaders ≤ 8) × (length hashlocks ≡ length raw.leaders)
     → HasKeysFor raw.mode (length raw.parties) (length raw.leaders) keys
-    → IsWithin (header_with purpose raw n start delta bound seeds terms hashlocks keys)
-all_within purpose raw n start delta bound seeds terms hashlocks keys is untimed s d b ps ts ls ks =
+    → IsWithin (header_with purpose raw n start delta bound acting terms hashlocks keys)
+all_within purpose raw n start delta bound acting terms hashlocks keys is mode untimed s d b ps ts ls ks =
     let lp : length n.names ≡ length raw.parties = is.parties in
     let la : length n.arcs ≡ length raw.arcs = is.arcs in
     let ll : length n.leaders ≡ length raw.leaders = is.leaders in
@@ -215,15 +229,18 @@ all_within purpose raw n start delta bound seeds terms hashlocks keys is untimed
     let ends : length (map arc_ends n.arcs) ≡ length n.arcs = length-map n.arcs arc_ends in
     let amounts : length (map (λ (t : ArcTerms). t.amount) terms) ≡ length terms = length-map terms _ in
     let timelocks : length (map (λ (t : ArcTerms). t.timelock) terms) ≡ length terms = length-map terms _ in
-    let conforming : length (map (λ (p : RawParty). conforms p.actor) raw.parties) ≡ length raw.parties = length-map raw.parties _ in
+    let roles : length (map (λ (p : Acting). p.role) acting) ≡ length acting = length-map acting _ in
+    let seeds : length (map (λ (p : Acting). p.seed) acting) ≡ length acting = length-map acting _ in
     record {
+      mode = mode;
       start = (s.0, s.1);
       delta = (d.0, d.1);
       bound = (b.0, b.1);
       parties = (omega arith, omega arith);
       names = is.names;
-      conforming = conforming ∙ sym lp;
-      seeds = ps.2 ∙ sym lp;
+      roles = roles ∙ (ps.2 ∙ sym lp);
+      conforming = roles_conform acting;
+      seeds = seeds ∙ (ps.2 ∙ sym lp);
       arcs = (omega arith, omega arith);
       from = λ a l. rw (get_or-map arc_ends n.arcs a zero_ends zero_arc_ends (omega arith)) (is.ends.from a (omega arith));
       to = λ a l. rw (get_or-map arc_ends n.arcs a zero_ends zero_arc_ends (omega arith)) (is.ends.to a (omega arith));
@@ -247,39 +264,41 @@ pub record Opened (line : ℕ) (purpose : Purpose) (raw : RawHeader) (n : Number
   pub start : ℕ
   pub delta : ℕ
   pub bound : ℕ
-  pub seeds : List (Option (List ℕ))
+  pub acting : List Acting
   pub terms : List ArcTerms
   pub hashlocks : List (List ℕ)
   pub keys : List (List (List ℕ))
   pub start_is : number_within line (codes "start") 1 1000 raw.start ≡ Ok start
   pub delta_is : number_within line (codes "delta") 1 100 raw.delta ≡ Ok delta
   pub bound_is : number_within line (codes "bound") 1 64 raw.bound ≡ Ok bound
-  pub seeds_are : seeds_of line raw.parties ≡ Ok seeds
-  pub terms_are : all_terms_of line raw.arcs ≡ Ok terms
+  pub acting_are : parties_of raw.version (sizes_in raw) n.names line raw.parties ≡ Ok acting
+  pub terms_are : all_terms_of raw.version line raw.arcs ≡ Ok terms
   pub hashlocks_are : hashlocks_of (is_plain purpose) line raw.leaders ≡ Ok hashlocks
   pub keys_are : keys_of raw.mode (is_plain purpose) line raw ≡ Ok keys
-  pub same : header_with purpose raw n start delta bound seeds terms hashlocks keys ≡ h
+  pub same : header_with purpose raw n start delta bound acting terms hashlocks keys ≡ h
 
 pub opened : (line : ℕ) (purpose : Purpose) (raw : RawHeader) (n : Numbered) (h : Header) → limited_of purpose line raw n ≡ Ok h
     → Opened line purpose raw n h
 unfolding limited_of
 opened line purpose raw n h e =
     let one = went (number_within line (codes "start") 1 1000 raw.start) (λ start. number_within line (codes "delta") 1 100 raw.delta >>= λ delta.
-    number_within line (codes "bound") 1 64 raw.bound >>= λ bound. seeds_of line raw.parties >>= λ seeds. all_terms_of line raw.arcs >>= λ terms.
+    number_within line (codes "bound") 1 64 raw.bound >>= λ bound. parties_of raw.version (sizes_in raw) n.names line raw.parties >>= λ acting.
+    all_terms_of raw.version line raw.arcs >>= λ terms.
     hashlocks_of (is_plain purpose) line raw.leaders >>= λ hashlocks. keys_of raw.mode (is_plain purpose) line raw >>= λ keys.
-    Ok (header_with purpose raw n start delta bound seeds terms hashlocks keys)) h e in
+    Ok (header_with purpose raw n start delta bound acting terms hashlocks keys)) h e in
     let two = went (number_within line (codes "delta") 1 100 raw.delta) (λ delta. number_within line (codes "bound") 1 64 raw.bound >>= λ bound.
-    seeds_of line raw.parties >>= λ seeds. all_terms_of line raw.arcs >>= λ terms. hashlocks_of (is_plain purpose) line raw.leaders >>= λ hashlocks.
+    parties_of raw.version (sizes_in raw) n.names line raw.parties >>= λ acting. all_terms_of raw.version line raw.arcs >>= λ terms.
+    hashlocks_of (is_plain purpose) line raw.leaders >>= λ hashlocks.
     keys_of raw.mode (is_plain purpose) line raw >>= λ keys.
-    Ok (header_with purpose raw n one.0 delta bound seeds terms hashlocks keys)) h one.2 in
-    let three = went (number_within line (codes "bound") 1 64 raw.bound) (λ bound. seeds_of line raw.parties >>= λ seeds.
-    all_terms_of line raw.arcs >>= λ terms. hashlocks_of (is_plain purpose) line raw.leaders >>= λ hashlocks.
+    Ok (header_with purpose raw n one.0 delta bound acting terms hashlocks keys)) h one.2 in
+    let three = went (number_within line (codes "bound") 1 64 raw.bound) (λ bound. parties_of raw.version (sizes_in raw) n.names line raw.parties >>= λ acting.
+    all_terms_of raw.version line raw.arcs >>= λ terms. hashlocks_of (is_plain purpose) line raw.leaders >>= λ hashlocks.
     keys_of raw.mode (is_plain purpose) line raw >>= λ keys.
-    Ok (header_with purpose raw n one.0 two.0 bound seeds terms hashlocks keys)) h two.2 in
-    let four = went (seeds_of line raw.parties) (λ seeds. all_terms_of line raw.arcs >>= λ terms.
+    Ok (header_with purpose raw n one.0 two.0 bound acting terms hashlocks keys)) h two.2 in
+    let four = went (parties_of raw.version (sizes_in raw) n.names line raw.parties) (λ acting. all_terms_of raw.version line raw.arcs >>= λ terms.
     hashlocks_of (is_plain purpose) line raw.leaders >>= λ hashlocks. keys_of raw.mode (is_plain purpose) line raw >>= λ keys.
-    Ok (header_with purpose raw n one.0 two.0 three.0 seeds terms hashlocks keys)) h three.2 in
-    let five = went (all_terms_of line raw.arcs) (λ terms. hashlocks_of (is_plain purpose) line raw.leaders >>= λ hashlocks.
+    Ok (header_with purpose raw n one.0 two.0 three.0 acting terms hashlocks keys)) h three.2 in
+    let five = went (all_terms_of raw.version line raw.arcs) (λ terms. hashlocks_of (is_plain purpose) line raw.leaders >>= λ hashlocks.
     keys_of raw.mode (is_plain purpose) line raw >>= λ keys.
     Ok (header_with purpose raw n one.0 two.0 three.0 four.0 terms hashlocks keys)) h four.2 in
     let six = went (hashlocks_of (is_plain purpose) line raw.leaders) (λ hashlocks. keys_of raw.mode (is_plain purpose) line raw >>= λ keys.
@@ -291,35 +310,30 @@ opened line purpose raw n h e =
       start = one.0;
       delta = two.0;
       bound = three.0;
-      seeds = four.0;
+      acting = four.0;
       terms = five.0;
       hashlocks = six.0;
       keys = seven.0;
       start_is = one.1;
       delta_is = two.1;
       bound_is = three.1;
-      seeds_are = four.1;
+      acting_are = four.1;
       terms_are = five.1;
       hashlocks_are = six.1;
       keys_are = seven.1;
       same = same;
     }
 
-is_within : (line : ℕ) (purpose : Purpose) (raw : RawHeader) (n : Numbered) (h : Header) → IsNumbered raw n → IsUntimed raw
-    → limited_of purpose line raw n ≡ Ok h → IsWithin h
-is_within line purpose raw n h is untimed e =
+pub is_within : (line : ℕ) (purpose : Purpose) (raw : RawHeader) (n : Numbered) (h : Header) → IsNumbered raw n → IsModeOf raw.version raw.mode
+    → IsUntimed raw → limited_of purpose line raw n ≡ Ok h → IsWithin h
+is_within line purpose raw n h is mode untimed e =
     let o = opened line purpose raw n h e in
-    within_along (header_with purpose raw n o.start o.delta o.bound o.seeds o.terms o.hashlocks o.keys) h o.same
-    (all_within purpose raw n o.start o.delta o.bound o.seeds o.terms o.hashlocks o.keys is untimed
+    within_along (header_with purpose raw n o.start o.delta o.bound o.acting o.terms o.hashlocks o.keys) h o.same
+    (all_within purpose raw n o.start o.delta o.bound o.acting o.terms o.hashlocks o.keys is mode untimed
     (number_within_ok line (codes "start") 1 1000 raw.start o.start o.start_is)
     (number_within_ok line (codes "delta") 1 100 raw.delta o.delta o.delta_is)
     (number_within_ok line (codes "bound") 1 64 raw.bound o.bound o.bound_is)
-    (seeds_ok line raw.parties o.seeds o.seeds_are)
-    (are_terms line raw.arcs o.terms o.terms_are)
+    (parties_ok raw.version (sizes_in raw) n.names line raw.parties o.acting o.acting_are)
+    (are_terms raw.version line raw.arcs o.terms o.terms_are)
     (hashlocks_ok (is_plain purpose) line raw.leaders o.hashlocks o.hashlocks_are)
     (keys_ok raw.mode (is_plain purpose) line raw o.keys o.keys_are))
-
-pub within_from_gives : (line : ℕ) (purpose : Purpose) (raw : RawHeader) (n : Numbered) (r : Result Header (Fault Reason)) → IsNumbered raw n
-    → IsUntimed raw → Gives (λ (h : Header). h) r (limited_of purpose line raw n) → IfOk r (λ h. IsWithin h)
-within_from_gives line purpose raw n (Ok h) is untimed e = is_within line purpose raw n h is untimed e
-within_from_gives line purpose raw n (Err f) is untimed e = tt

@@ -1,5 +1,5 @@
 -- The names are well formed and distinct, and every number is below their number.
-use Rattle.std.proofs.Common.{◌≡◌, ◌≢◌, ◌⊎◌, inl, inr, ℕ, ◌+◌, ◌<◌, length, get_or, List, [], ◌∷◌, ◌++◌, Bool, true, false, ◌&&◌, cond, Option, Some, None}
+use Rattle.std.proofs.Common.{◌≡◌, ◌≢◌, ◌⊎◌, inl, inr, ℕ, ◌+◌, ◌<◌, length, get_or, List, [], ◌∷◌, ◌++◌, Bool, true, false, ◌&&◌, cond}
 use Rattle.std.proofs.Common.{Ok, Err, refl, sym, ap, ◌∙◌, subst, arith}
 use Rattle.std.proofs.Math.ListN.{get_or-append}
 use Rattle.std.proofs.Math.Seq.{get_or-append_seam}
@@ -7,9 +7,8 @@ use Rattle.std.proofs.lemmas.Bool.Decides.{nat_tests, Decides-eqb}
 use Rattle.std.proofs.lemmas.Bool.{leb-true}
 use Rattle.std.proofs.lemmas.List.{length-append}
 use Rattle.std.proofs.lemmas.List.Folds.{list_any_at, list_all_at}
-use Rattle.std.proofs.lemmas.List.Quantifiers.{position-Some}
 use Rattle.std.proofs.lemmas.Slice.Eq.{bytes_eq-Decides}
-use Rattle.std.specs.Prelude.{position, nat_le, nat_eq}
+use Rattle.std.specs.Prelude.{nat_le, nat_eq}
 use Rattle.std.specs.Str.{bytes_eq}
 use Rattle.std.specs.List.{list_any, list_all}
 use Rattle.swap_base.specs.Fault.{◌>>=◌, steps}
@@ -18,7 +17,8 @@ use Rattle.refusals.specs.declared.reason.Reason.{Reason}
 use Rattle.refusals.specs.declared.reason.Reason.TheVariants.{BadName, Duplicate}
 use Rattle.offer_fields.specs.Lists.{each_of}
 use Rattle.offer_fields.specs.Names.{party_of_name}
-use Rattle.offer_header.specs.Names.{is_name_byte, is_name, name_step, ends_of, leader_step, numbered_of, IsName, AreNames, AreLeaders, AreEnds, IsNumbered}
+use Rattle.offer_header.specs.Names.{is_name_byte, is_name, actor_known, name_added, name_step, names_stated, ends_of, leader_step, numbered_of}
+use Rattle.offer_header.specs.Names.{IsName, AreNames, AreLeaders, AreEnds, IsNumbered}
 use Rattle.offer_header.specs.declared.raw.RawParty.{RawParty}
 use Rattle.offer_header.specs.declared.raw.RawArc.{RawArc}
 use Rattle.offer_header.specs.declared.raw.RawLeader.{RawLeader}
@@ -91,11 +91,21 @@ one_test : {X : Type 0} (b : Bool) (x : Reason) (z t : X) → cond b (Err x) (Ok
 one_test true x z t h = absurd (cc h)
 one_test false x z t h = (refl, cc h)
 
-name_step_ok : (line : ℕ) (seen : List (List ℕ)) (p : RawParty) (t : List (List ℕ)) → name_step line seen p ≡ Ok t
+name_added_ok : (line : ℕ) (seen : List (List ℕ)) (p : RawParty) (t : List (List ℕ)) → name_added line seen p ≡ Ok t
+    → (is_name p.name ≡ true) × (list_any (bytes_eq p.name) seen ≡ false) × (seen ++ p.name ∷ [] ≡ t)
+unfolding name_added
+name_added_ok line seen p t h = two_tests (is_name p.name) (list_any (bytes_eq p.name) seen) (Duplicate line p.name) (BadName line p.name)
+    (seen ++ p.name ∷ []) t h
+
+name_step_ok : (has : List ℕ → Bool) (line : ℕ) (all seen : List (List ℕ)) (p : RawParty) (t : List (List ℕ)) → name_step has line all seen p ≡ Ok t
     → (is_name p.name ≡ true) × (list_any (bytes_eq p.name) seen ≡ false) × (seen ++ p.name ∷ [] ≡ t)
 unfolding name_step
-name_step_ok line seen p t h = two_tests (is_name p.name) (list_any (bytes_eq p.name) seen) (Duplicate line p.name) (BadName line p.name)
-    (seen ++ p.name ∷ []) t h
+name_step_ok has line all seen p t h =
+    let one = went (name_added line seen p) (λ names. actor_known has line all p.actor >>= λ u. Ok names) t h in
+    let two = went (actor_known has line all p.actor) (λ u. Ok one.0) t one.2 in
+    let r = name_added_ok line seen p one.0 one.1 in
+    let same : one.0 ≡ t = cc (two.2) in
+    (r.0, r.1, r.2 ∙ same)
 
 fresh_name : (name : List ℕ) (seen : List (List ℕ)) → list_any (bytes_eq name) seen ≡ false → (i : ℕ) → i < length seen → get_or seen i [] ≢ name
 fresh_name name seen none i lt e =
@@ -103,21 +113,23 @@ fresh_name name seen none i lt e =
     let some : list_any (bytes_eq name) seen ≡ true = list_any_at (bytes_eq name) seen i [] lt same in
     cc (sym none ∙ some)
 
-keeps_names : (line : ℕ) (seen : List (List ℕ)) (p : RawParty) (t : List (List ℕ)) → AreNames seen → name_step line seen p ≡ Ok t → AreNames t
-keeps_names line seen p t names h =
-    let r = name_step_ok line seen p t h in
+keeps_names : (has : List ℕ → Bool) (line : ℕ) (all seen : List (List ℕ)) (p : RawParty) (t : List (List ℕ)) → AreNames seen
+    → name_step has line all seen p ≡ Ok t → AreNames t
+keeps_names has line all seen p t names h =
+    let r = name_step_ok has line all seen p t h in
     subst (λ l. AreNames l) r.2 (record {
       name = all_push IsName seen p.name [] names.name (is_name_lem p.name r.0);
       apart = apart_push seen p.name [] names.apart (fresh_name p.name seen r.1);
     })
 
-pub are_names : (line : ℕ) (parties : List RawParty) (names : List (List ℕ)) → steps (name_step line) [] parties ≡ Ok names
+pub are_names : (has : List ℕ → Bool) (line : ℕ) (all : List (List ℕ)) (parties : List RawParty) (names : List (List ℕ))
+    → steps (name_step has line all) [] parties ≡ Ok names
     → (length names ≡ length parties) × AreNames names
-are_names line parties names h =
-    let l : length names ≡ 0 + length parties = steps_length (name_step line)
-    (λ s x t e. sym (ap length (name_step_ok line s x t e).2) ∙ (length_push s x.name ∙ omega arith)) [] parties names h in (
+are_names has line all parties names h =
+    let l : length names ≡ 0 + length parties = steps_length (name_step has line all)
+    (λ s x t e. sym (ap length (name_step_ok has line all s x t e).2) ∙ (length_push s x.name ∙ omega arith)) [] parties names h in (
       omega arith,
-      steps_keep (λ l. AreNames l) (name_step line) (keeps_names line) [] parties names
+      steps_keep (λ l. AreNames l) (name_step has line all) (keeps_names has line all) [] parties names
           (record { name = λ p lt. absurd (omega arith); apart = λ p q a b e. absurd (omega arith) }) h,
     )
 
@@ -192,16 +204,16 @@ are_leaders line names leaders numbers h =
 numbered_along : (raw : RawHeader) (m n : Numbered) → m ≡ n → IsNumbered raw m → IsNumbered raw n
 numbered_along raw m n e is = subst (λ k. IsNumbered raw k) e is
 
-pub is_numbered : (line : ℕ) (raw : RawHeader) (n : Numbered) → numbered_of line raw ≡ Ok n → IsNumbered raw n
+pub is_numbered : (has : List ℕ → Bool) (line : ℕ) (raw : RawHeader) (n : Numbered) → numbered_of has line raw ≡ Ok n → IsNumbered raw n
 unfolding numbered_of
-is_numbered line raw n h =
-    let one = went (steps (name_step line) [] raw.parties) (λ names. each_of (ends_of line names) raw.arcs >>= λ arcs.
+is_numbered has line raw n h =
+    let one = went (steps (name_step has line (names_stated raw.parties)) [] raw.parties) (λ names. each_of (ends_of line names) raw.arcs >>= λ arcs.
     steps (leader_step line names) [] raw.leaders >>= λ leaders. Ok (record { names = names; arcs = arcs; leaders = leaders })) n h in
     let two = went (each_of (ends_of line one.0) raw.arcs) (λ arcs. steps (leader_step line one.0) [] raw.leaders >>= λ leaders.
     Ok (record { names = one.0; arcs = arcs; leaders = leaders })) n one.2 in
     let three = went (steps (leader_step line one.0) [] raw.leaders) (λ leaders. Ok (record { names = one.0; arcs = two.0; leaders = leaders })) n two.2 in
     let same : record { names = one.0; arcs = two.0; leaders = three.0 } ≡ n = cc (three.2) in
-    let a = are_names line raw.parties one.0 one.1 in
+    let a = are_names has line (names_stated raw.parties) raw.parties one.0 one.1 in
     let b = are_ends line one.0 raw.arcs two.0 two.1 in
     let c = are_leaders line one.0 raw.leaders three.0 three.1 in
     numbered_along raw (record { names = one.0; arcs = two.0; leaders = three.0 }) n same

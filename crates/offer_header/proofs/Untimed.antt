@@ -1,5 +1,5 @@
 -- With hashkeys no arc has a timelock.
-use Rattle.std.proofs.Common.{◌≡◌, ℕ, ◌<◌, length, get_or, List, Bool, Ok, sym, ap, ◌∙◌, codes}
+use Rattle.std.proofs.Common.{◌≡◌, ℕ, ◌<◌, length, get_or, List, Bool, Ok, ap, ◌∙◌, codes}
 use Rattle.serde_json.specs.Data.{Data}
 use Rattle.swap_base.specs.Fault.{◌>>=◌}
 use Rattle.swap_digraph.specs.declared.deal.Mode.{Mode}

@@ -1,13 +1,13 @@
 -- A transcript's header tells no seed and no finish.
-use Rattle.std.proofs.Common.{◌≡◌, ℕ, ◌<◌, Bool, true, false, nat_lt, length, get_or, List, [], Option, None, Ok, Err, refl, sym, ap, ◌∙◌, codes, subst}
+use Rattle.std.proofs.Common.{◌≡◌, ℕ, ◌<◌, Bool, true, false, nat_lt, length, get_or, map, List, [], Option, None, Ok, refl, sym, ap, ◌∙◌, codes}
 use Rattle.std.proofs.Common.{ltb-true, ltb-false, Result, arith}
-use Rattle.std.specs.Prelude.{IfOk}
 use Rattle.std.proofs.Math.ListN.{get_or-eq_default}
+use Rattle.std.proofs.lemmas.List.{get_or-map, length-map}
 use Rattle.serde_json.specs.Data.{Data}
-use Rattle.swap_base.specs.Fault.{Gives}
-use Rattle.swap_base.specs.declared.fault.Fault.{Fault}
 use Rattle.refusals.specs.declared.reason.Reason.{Reason}
+use Rattle.swap_digraph.specs.Deal.{most_parties}
 use Rattle.swap_digraph.specs.declared.deal.Mode.{Mode}
+use Rattle.swap_digraph.specs.declared.deal.Version.{Version}
 use Rattle.deviator_script.specs.declared.job.Purpose.{Purpose}
 use Rattle.deviator_script.specs.declared.job.Purpose.TheVariants.{Check, Run, Race, Make, Audit}
 use Rattle.offer_fields.specs.Fields.{text_at, object_at, array_at, list_at, listed, each, only}
@@ -15,9 +15,12 @@ use Rattle.offer_fields.specs.Limits.{within}
 use Rattle.offer_fields.specs.Lists.{each_of}
 use Rattle.offer_fields.proofs.Chains.{went, each_all, each_at, each_length}
 use Rattle.offer_header.specs.Raw.{actor_at, party_fields, party_of, finish_at, IsUntold}
-use Rattle.offer_header.specs.Limits.{seed_of, seeds_of, limited_of}
+use Rattle.offer_header.specs.Limits.{seed_or_none, seed_of, role_of, acting_of, parties_of, sizes_in, limited_of}
 use Rattle.offer_header.specs.Header.{IsUntoldFor}
 use Rattle.offer_header.proofs.Limited.{opened}
+use Rattle.deviator_script.specs.declared.job.Role.TheVariants as kinds
+use Rattle.offer_moves.specs.declared.moves.Sizes.{Sizes}
+use Rattle.offer_header.specs.declared.limits.Acting.{Acting}
 use Rattle.offer_header.specs.declared.raw.RawActor.TheVariants.{Manual}
 use Rattle.offer_header.specs.declared.raw.RawParty.{RawParty}
 use Rattle.offer_header.specs.declared.raw.RawHeader.{RawHeader}
@@ -57,43 +60,58 @@ is_untold Make mode line d h ps f = tt
 abbrev zero_party : RawParty
 zero_party = record { name = []; actor = Manual; seed = None }
 
-no_seed : (line : ℕ) (p : RawParty) (seed : Option (List ℕ)) → p.seed ≡ None → seed_of line p ≡ Ok seed → seed ≡ None
-unfolding seed_of
-no_seed line p seed none e = sym (cc (rw none at e))
+abbrev zero_acting : Acting
+zero_acting = record { role = kinds.Manual; seed = None }
 
-no_seeds : (line : ℕ) (parties : List RawParty) (seeds : List (Option (List ℕ))) → seeds_of line parties ≡ Ok seeds
-    → ((p : ℕ) (d : RawParty) → p < length parties → (get_or parties p d).seed ≡ None) → (p : ℕ) → get_or seeds p None ≡ None
-unfolding seeds_of
-no_seeds line parties seeds h none p =
-    let one = went (within line (codes "parties") 2 24 (length parties)) _ seeds h in
-    let size = each_length (seed_of line) parties seeds one.2 in
+no_seed : (sizes : Sizes) (names : List (List ℕ)) (line : ℕ) (p : RawParty) (a : Acting) → p.seed ≡ None → acting_of sizes names line p ≡ Ok a → a.seed ≡ None
+unfolding acting_of seed_of
+no_seed sizes names line p a none e =
+    let one = went (role_of sizes names line p.actor) _ a e in
+    let two = went (seed_or_none line p.seed) _ a one.2 in
+    let s : record { role = one.0; seed = two.0 } ≡ a = cc (two.2) in
+    let g : seed_or_none line None ≡ Ok two.0 = ap (seed_or_none line) (sym none) ∙ two.1 in
+    let t : None ≡ two.0 = cc g in
+    ap (λ (x : Acting). x.seed) (sym s) ∙ sym t
+
+abbrev seeds : List Acting → List (Option (List ℕ))
+seeds acting = map (λ (a : Acting). a.seed) acting
+
+no_seeds : (version : Version) (sizes : Sizes) (names : List (List ℕ)) (line : ℕ) (parties : List RawParty) (acting : List Acting)
+    → parties_of version sizes names line parties ≡ Ok acting
+    → ((p : ℕ) (d : RawParty) → p < length parties → (get_or parties p d).seed ≡ None) → (p : ℕ) → get_or (seeds acting) p None ≡ None
+unfolding parties_of
+no_seeds version sizes names line parties acting h none p =
+    let one = went (within line (codes "parties") 2 (most_parties version) (length parties)) _ acting h in
+    let size = each_length (acting_of sizes names line) parties acting one.2 in
     go (nat_lt p (length parties)) refl one.2 size
   where
-    go : (b : Bool) → nat_lt p (length parties) ≡ b → each_of (seed_of line) parties ≡ Ok seeds → length seeds ≡ length parties → get_or seeds p None ≡ None
+    go : (b : Bool) → nat_lt p (length parties) ≡ b → each_of (acting_of sizes names line) parties ≡ Ok acting → length acting ≡ length parties
+        → get_or (seeds acting) p None ≡ None
     go true e each size =
         let lt = ltb-true p (length parties) e in
-        no_seed line (get_or parties p zero_party) (get_or seeds p None) (none p zero_party lt)
-        (each_at (seed_of line) parties seeds zero_party None each p lt)
-    go false e each size = let le = ltb-false p (length parties) e in get_or-eq_default seeds None (omega (arith, le, size))
+        get_or-map (λ (a : Acting). a.seed) acting p zero_acting None (omega (arith, lt, size))
+        ∙ no_seed sizes names line (get_or parties p zero_party) (get_or acting p zero_acting) (none p zero_party lt)
+        (each_at (acting_of sizes names line) parties acting zero_party zero_acting each p lt)
+    go false e each size =
+        let le = ltb-false p (length parties) e in
+        let n = length-map acting (λ (a : Acting). a.seed) in
+        get_or-eq_default (seeds acting) None (omega (arith, le, size, n))
 
-with_told : (purpose : Purpose) (line : ℕ) (raw : RawHeader) (h : Header) → IsUntold purpose raw → seeds_of line raw.parties ≡ Ok h.seeds
+with_told : (purpose : Purpose) (raw : RawHeader) (h : Header) → IsUntold purpose raw
+    → (((p : ℕ) (d : RawParty) → p < length raw.parties → (get_or raw.parties p d).seed ≡ None) → (p : ℕ) → get_or h.seeds p None ≡ None)
     → h.finish ≡ raw.finish → IsUntoldFor purpose h
-with_told Audit line raw h u seeds finish = (no_seeds line raw.parties h.seeds seeds u.0, finish ∙ u.1)
-with_told Check line raw h u seeds finish = tt
-with_told Run line raw h u seeds finish = tt
-with_told Race line raw h u seeds finish = tt
-with_told Make line raw h u seeds finish = tt
+with_told Audit raw h u none finish = (none u.0, finish ∙ u.1)
+with_told Check raw h u none finish = tt
+with_told Run raw h u none finish = tt
+with_told Race raw h u none finish = tt
+with_told Make raw h u none finish = tt
 
-limited_untold : (line : ℕ) (purpose : Purpose) (raw : RawHeader) (n : Numbered) (h : Header) → IsUntold purpose raw
+pub limited_untold : (line : ℕ) (purpose : Purpose) (raw : RawHeader) (n : Numbered) (h : Header) → IsUntold purpose raw
     → limited_of purpose line raw n ≡ Ok h → IsUntoldFor purpose h
 limited_untold line purpose raw n h u e =
     let o = opened line purpose raw n h e in
-    let seeds : o.seeds ≡ h.seeds = ap (λ (x : Header). x.seeds) o.same in
+    let told : seeds o.acting ≡ h.seeds = ap (λ (x : Header). x.seeds) o.same in
     let finish : raw.finish ≡ h.finish = ap (λ (x : Header). x.finish) o.same in
-    with_told purpose line raw h u (o.seeds_are ∙ ap (λ (s : List (Option (List ℕ))). let r : Result (List (Option (List ℕ))) Reason = Ok s in r) seeds)
-    (sym finish)
-
-pub untold_from_gives : (line : ℕ) (purpose : Purpose) (raw : RawHeader) (n : Numbered) (r : Result Header (Fault Reason)) → IsUntold purpose raw
-    → Gives (λ (h : Header). h) r (limited_of purpose line raw n) → IfOk r (λ h. IsUntoldFor purpose h)
-untold_from_gives line purpose raw n (Ok h) u e = limited_untold line purpose raw n h u e
-untold_from_gives line purpose raw n (Err f) u e = tt
+    with_told purpose raw h u
+    (λ none p. sym (ap (λ (ss : List (Option (List ℕ))). get_or ss p None) told)
+    ∙ no_seeds raw.version (sizes_in raw) n.names line raw.parties o.acting o.acting_are none p) (sym finish)

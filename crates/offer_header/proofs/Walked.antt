@@ -1,5 +1,7 @@
 -- What a walk of steps over a list that gave a value says of each step.
-use Rattle.std.proofs.Common.{◌≡◌, ℕ, suc, ◌+◌, length, List, [], ◌∷◌, Result, Ok, ap, subst, arith}
+use Rattle.std.proofs.Common.{◌≡◌, suc, ◌+◌, length, List, [], ◌∷◌, Result, Ok, ap, subst, arith}
+use Rattle.std.specs.List.{All}
+use Rattle.std.proofs.lemmas.List.Elements.{All-nil, All-cons}
 use Rattle.swap_base.specs.Fault.{steps}
 use Rattle.offer_fields.proofs.Chains.{went}
 
@@ -26,3 +28,10 @@ steps_length f one s (x ∷ xs) t h =
     let a : length r.0 ≡ suc (length s) = one s x r.0 r.1 in
     let b : length t ≡ length r.0 + length xs = steps_length f one r.0 xs t r.2 in
     omega arith
+
+-- what a step that went well says of its element holds of each
+pub steps_each : {S A R : Type 0} (P : A → Type 0) (f : S → A → Result S R) → ((s : S) (x : A) (t : S) → f s x ≡ Ok t → P x)
+    → (s : S) (xs : List A) (t : S) → steps f s xs ≡ Ok t → All P xs
+steps_each P f says s [] t h = All-nil P
+steps_each P f says s (x ∷ xs) t h =
+    let r = steps_cons f s x xs t h in All-cons P x xs (says s x r.0 r.1) (steps_each P f says r.0 xs t r.2)

@@ -1,42 +1,51 @@
 -- What the header line gives, and what holds of every header.
-use Rattle.std.specs.Prelude.{◌≡◌, ℕ, ◌<◌, ◌≤◌, ◌^◌, List, [], length, slice_index, slice_index_or, Option, None, Result}
+use Rattle.std.specs.Prelude.{◌≡◌, ℕ, ◌<◌, ◌≤◌, ◌^◌, List, [], Bool, true, false, length, map, slice_index, slice_index_or, Option, None, Result, Ok}
 use Rattle.swap_base.specs.Fault.{◌>>=◌}
 use Rattle.swap_digraph.specs.declared.deal.Mode.{Mode}
 use Rattle.swap_digraph.specs.declared.deal.Mode.TheVariants.{Timelocks, Hashkeys}
+use Rattle.swap_digraph.specs.Deal.{most_arcs, most_parties}
 use Rattle.swap_digraph.specs.Graph.{ends_in}
+use Rattle.deviator_script.specs.declared.job.Role.{Role}
+use Rattle.deviator_script.specs.declared.job.Role.TheVariants.{Conforming, Manual}
 use Rattle.deviator_script.specs.declared.job.Purpose.{Purpose}
 use Rattle.deviator_script.specs.declared.job.Purpose.TheVariants.{Audit}
 use Rattle.deviator_script.specs.declared.job.Finish.TheVariants.{Stop}
 use Rattle.refusals.specs.declared.reason.Reason.{Reason}
 use Rattle.offer_fields.specs.Fields.{object_of}
-use Rattle.offer_header.specs.Raw.{raw_of}
+use Rattle.offer_header.specs.Raw.{raw_of, IsModeOf}
 use Rattle.offer_header.specs.Names.{numbered_of, AreNames, AreLeaders}
-use Rattle.offer_header.specs.Limits.{limited_of}
+use Rattle.offer_header.specs.Limits.{conforms, limited_of}
+use Rattle.offer_header.specs.Scripts.{scripts_placed}
 use Rattle.offer_header.specs.declared.header.Header.{Header}
 
--- The header that a line gives, or the first reason why it is refused: all fields come before all names, and all names before all limits.
-unfoldable pub header_of : Purpose → ℕ → List ℕ → Result Header Reason
-header_of purpose line text = do
+-- The header that a line gives, or the first reason why it is refused: all fields come before all names, all names before all limits, and these
+-- before where the moves of scripts stand.
+unfoldable pub header_of : (List ℕ → Bool) → Purpose → ℕ → List ℕ → Result Header Reason
+header_of has purpose line text = do
   d ← object_of line text
   raw ← raw_of purpose line d
-  numbered ← numbered_of line raw
-  limited_of purpose line raw numbered
+  numbered ← numbered_of has line raw
+  h ← limited_of purpose line raw numbered
+  u ← scripts_placed line h
+  Ok h
 
 -- The keys have a row per party and a key per lock in hashkeys mode, and are none in timelocks mode.
 abbrev pub HasKeysFor : Mode → ℕ → ℕ → List (List (List ℕ)) → Type 0
 HasKeysFor Timelocks parties locks keys = keys ≡ []
 HasKeysFor Hashkeys parties locks keys = (length keys ≡ parties) × ((p : ℕ) → p < parties → length (slice_index_or keys p []) ≡ locks)
 
--- A header's lists are as long as its names, arcs and leaders ask, and its numbers are in their ranges.
+-- A header's lists are as long as its version, names, arcs and leaders ask, its numbers are in their ranges, and its mode is one of its version.
 pub record IsWithin (h : Header) : Type 0 where
+  pub mode : IsModeOf h.version h.mode
   pub start : (1 ≤ h.start) × (h.start ≤ 1000)
   pub delta : (1 ≤ h.delta) × (h.delta ≤ 100)
   pub bound : (1 ≤ h.bound) × (h.bound ≤ 64)
-  pub parties : (2 ≤ length h.names) × (length h.names ≤ 24)
+  pub parties : (2 ≤ length h.names) × (length h.names ≤ most_parties h.version)
   pub names : AreNames h.names
-  pub conforming : length h.conforming ≡ length h.names
+  pub roles : length h.roles ≡ length h.names
+  pub conforming : h.conforming ≡ map conforms h.roles
   pub seeds : length h.seeds ≡ length h.names
-  pub arcs : (2 ≤ length h.arcs) × (length h.arcs ≤ 96)
+  pub arcs : (2 ≤ length h.arcs) × (length h.arcs ≤ most_arcs h.version)
   pub from : (a : ℕ) → a < length h.arcs → (ends_in h.arcs a).from < length h.names
   pub to : (a : ℕ) → a < length h.arcs → (ends_in h.arcs a).to < length h.names
   pub amounts : length h.amounts ≡ length h.arcs
@@ -53,3 +62,13 @@ pub record IsWithin (h : Header) : Type 0 where
 abbrev pub IsUntoldFor : Purpose → Header → Type 0
 IsUntoldFor Audit h = ((p : ℕ) → slice_index_or {A = Option (List ℕ)} h.seeds p None ≡ None) × (h.finish ≡ Stop)
 IsUntoldFor _ h = Unit {0}
+
+-- the role of a party that conforms, or acts by its own calls alone
+abbrev pub simple_role : Bool → Role
+simple_role true = Conforming
+simple_role false = Manual
+
+-- in a transcript each role is simple
+abbrev pub AreSimpleFor : Purpose → Header → Type 0
+AreSimpleFor Audit h = h.roles ≡ map simple_role h.conforming
+AreSimpleFor _ h = Unit {0}

@@ -2,3 +2,4 @@ pub mod Raw
 pub mod Names
 pub mod Limits
 pub mod Header
+pub mod Scripts

@@ -1,16 +1,23 @@
 -- The limits of a header's numbers and lists, and its digests.
-use Rattle.std.specs.Prelude.{ℕ, ◌^◌, List, [], Bool, true, false, codes, length, map, replicate, Option, Some, None, Result, Ok}
+use Rattle.std.specs.Prelude.{◌≡◌, All, ℕ, ◌^◌, List, [], Bool, true, false, codes, length, map, replicate, Option, Some, None, Result, Ok}
 use Rattle.swap_base.specs.Fault.{◌>>=◌}
 use Rattle.swap_digraph.specs.declared.arc_ends.ArcEnds.{ArcEnds}
 use Rattle.swap_digraph.specs.declared.deal.Mode.{Mode}
 use Rattle.swap_digraph.specs.declared.deal.Mode.TheVariants.{Timelocks, Hashkeys}
+use Rattle.swap_digraph.specs.declared.deal.Version.{Version}
+use Rattle.swap_digraph.specs.Deal.{most_arcs, most_parties, path_limit_of}
 use Rattle.deviator_script.specs.declared.job.Purpose.{Purpose}
+use Rattle.deviator_script.specs.declared.job.Role.{Role}
+use Rattle.deviator_script.specs.declared.job.Role.TheVariants as kinds
+use Rattle.offer_moves.specs.declared.moves.Sizes.{Sizes}
+use Rattle.offer_moves.specs.declared.raw.RawMove.{RawMove}
+use Rattle.offer_moves.specs.Moves.{move_of}
 use Rattle.refusals.specs.declared.reason.Reason.{Reason}
 use Rattle.offer_fields.specs.Limits.{number_within, within, digest_of}
 use Rattle.offer_fields.specs.Lists.{each_of}
 use Rattle.offer_header.specs.Raw.{is_plain}
 use Rattle.offer_header.specs.declared.raw.RawActor.{RawActor}
-use Rattle.offer_header.specs.declared.raw.RawActor.TheVariants.{Conforming, Manual}
+use Rattle.offer_header.specs.declared.raw.RawActor.TheVariants.{Conforming, Manual, Script, Strategy}
 use Rattle.offer_header.specs.declared.raw.RawParty.{RawParty}
 use Rattle.offer_header.specs.declared.raw.RawArc.{RawArc}
 use Rattle.offer_header.specs.declared.raw.RawLeader.{RawLeader}
@@ -18,6 +25,7 @@ use Rattle.offer_header.specs.declared.raw.RawRow.{RawRow}
 use Rattle.offer_header.specs.declared.raw.RawHeader.{RawHeader}
 use Rattle.offer_header.specs.declared.names.Ends.{Ends}
 use Rattle.offer_header.specs.declared.names.Numbered.{Numbered}
+use Rattle.offer_header.specs.declared.limits.Acting.{Acting}
 use Rattle.offer_header.specs.declared.limits.ArcTerms.{ArcTerms}
 use Rattle.offer_header.specs.declared.header.Header.{Header}
 
@@ -30,14 +38,48 @@ seed_or_none line (Some text) = digest_of line (codes "seed") text >>= λ seed. 
 unfoldable pub seed_of : ℕ → RawParty → Result (Option (List ℕ)) Reason
 seed_of line p = seed_or_none line p.seed
 
-unfoldable pub seeds_of : ℕ → List RawParty → Result (List (Option (List ℕ))) Reason
-seeds_of line parties = do
-  u ← within line (codes "parties") 2 24 (length parties)
-  each_of (seed_of line) parties
+-- a script, by its moves
+unfoldable pub script_role : Sizes → List (List ℕ) → ℕ → List RawMove → Result Role Reason
+script_role sizes names line raws = do
+  u ← within line (codes "script") 0 1000 (length raws)
+  moves ← each_of (move_of sizes names line) raws
+  Ok (kinds.Script moves)
 
-abbrev pub conforms : RawActor → Bool
-conforms Conforming = true
-conforms Manual = false
+-- how a party acts
+abbrev pub role_of : Sizes → List (List ℕ) → ℕ → RawActor → Result Role Reason
+role_of sizes names line Conforming = Ok kinds.Conforming
+role_of sizes names line Manual = Ok kinds.Manual
+role_of sizes names line (Script raws) = script_role sizes names line raws
+role_of sizes names line (Strategy name) = Ok (kinds.Strategy name)
+
+-- how a party acts, and then its seed
+unfoldable pub acting_of : Sizes → List (List ℕ) → ℕ → RawParty → Result Acting Reason
+acting_of sizes names line p = do
+  role ← role_of sizes names line p.actor
+  seed ← seed_of line p
+  Ok (record { role = role; seed = seed })
+
+unfoldable pub parties_of : Version → Sizes → List (List ℕ) → ℕ → List RawParty → Result (List Acting) Reason
+parties_of version sizes names line parties = do
+  u ← within line (codes "parties") 2 (most_parties version) (length parties)
+  each_of (acting_of sizes names line) parties
+
+abbrev pub conforms : Role → Bool
+conforms kinds.Conforming = true
+conforms _ = false
+
+-- the strategy that a role follows, if any, is known
+abbrev pub IsHeld : (List ℕ → Bool) → Role → Type 0
+IsHeld has (kinds.Strategy name) = has name ≡ true
+IsHeld has _ = Unit {0}
+
+-- and so is that of each role
+abbrev pub HoldsEach : (List ℕ → Bool) → List Role → Type 0
+HoldsEach has roles = All (IsHeld has) roles
+
+-- what the moves of a header's scripts may name: an arc, a lock, and a path of its version
+abbrev pub sizes_in : RawHeader → Sizes
+sizes_in h = record { arcs = length h.arcs; locks = length h.leaders; path = path_limit_of h.version }
 
 -- ---- arcs
 
@@ -47,9 +89,9 @@ terms_of line a = do
   timelock ← number_within line (codes "timelock") 0 1000000 a.timelock
   Ok (record { amount = a.amount; timelock = timelock })
 
-unfoldable pub all_terms_of : ℕ → List RawArc → Result (List ArcTerms) Reason
-all_terms_of line arcs = do
-  u ← within line (codes "arcs") 2 96 (length arcs)
+unfoldable pub all_terms_of : Version → ℕ → List RawArc → Result (List ArcTerms) Reason
+all_terms_of version line arcs = do
+  u ← within line (codes "arcs") 2 (most_arcs version) (length arcs)
   each_of (terms_of line) arcs
 
 abbrev pub arc_ends : Ends → ArcEnds
@@ -107,19 +149,21 @@ limited_of purpose line raw numbered = do
   start ← number_within line (codes "start") 1 1000 raw.start
   delta ← number_within line (codes "delta") 1 100 raw.delta
   bound ← number_within line (codes "bound") 1 64 raw.bound
-  seeds ← seeds_of line raw.parties
-  terms ← all_terms_of line raw.arcs
+  parties ← parties_of raw.version (sizes_in raw) numbered.names line raw.parties
+  terms ← all_terms_of raw.version line raw.arcs
   hashlocks ← hashlocks_of (is_plain purpose) line raw.leaders
   keys ← keys_of raw.mode (is_plain purpose) line raw
   Ok (record {
     purpose = purpose;
+    version = raw.version;
     mode = raw.mode;
     start = start;
     delta = delta;
     bound = bound;
     names = numbered.names;
-    conforming = map (λ p. conforms p.actor) raw.parties;
-    seeds = seeds;
+    roles = map (λ p. p.role) parties;
+    conforming = map (λ p. conforms p.role) parties;
+    seeds = map (λ p. p.seed) parties;
     arcs = map arc_ends numbered.arcs;
     amounts = map (λ t. t.amount) terms;
     timelocks = map (λ t. t.timelock) terms;

@@ -1,13 +1,19 @@
 -- The names of a header, and the numbers that stand for them.
-use Rattle.std.specs.Prelude.{◌≡◌, ◌==◌, ◌&&◌, ◌||◌, ◌++◌, ℕ, ◌<◌, ◌≤◌, List, [], ◌∷◌, Bool, nat_le, nat_eq, length, position, slice_index, slice_index_or}
-use Rattle.std.specs.Prelude.{if◌then◌else◌, Option, Some, None, Result, Ok, Err}
+use Rattle.std.specs.Prelude.{◌≡◌, ◌==◌, ◌&&◌, ◌||◌, ◌++◌, ℕ, ◌<◌, ◌≤◌, List, [], ◌∷◌, Bool, nat_le, nat_eq, length, fold, slice_index}
+use Rattle.std.specs.Prelude.{slice_index_or}
+use Rattle.std.specs.Prelude.{if◌then◌else◌, is_some, false, Result, Ok, Err}
 use Rattle.std.specs.Str.{bytes_eq}
 use Rattle.std.specs.List.{list_any, list_all}
 use Rattle.swap_base.specs.Fault.{◌>>=◌, steps}
+use Rattle.deviator_script.specs.Names.{under}
 use Rattle.refusals.specs.declared.reason.Reason.{Reason}
-use Rattle.refusals.specs.declared.reason.Reason.TheVariants.{BadName, Duplicate}
+use Rattle.refusals.specs.declared.reason.Reason.TheVariants.{BadName, Duplicate, Unknown}
 use Rattle.offer_fields.specs.Lists.{each_of}
 use Rattle.offer_fields.specs.Names.{party_of_name}
+use Rattle.offer_moves.specs.declared.raw.RawMove.{RawMove}
+use Rattle.offer_moves.specs.declared.raw.RawMove.TheVariants.{Craft, Raw, Transfer}
+use Rattle.offer_header.specs.declared.raw.RawActor.{RawActor}
+use Rattle.offer_header.specs.declared.raw.RawActor.TheVariants.{Script, Strategy}
 use Rattle.offer_header.specs.declared.raw.RawParty.{RawParty}
 use Rattle.offer_header.specs.declared.raw.RawArc.{RawArc}
 use Rattle.offer_header.specs.declared.raw.RawLeader.{RawLeader}
@@ -23,11 +29,57 @@ is_name_byte b = (nat_le 97 b && nat_le b 122) || (nat_le 65 b && nat_le b 90) |
 unfoldable pub is_name : List ℕ → Bool
 is_name name = nat_le 1 (length name) && nat_le (length name) 16 && list_all is_name_byte name
 
+-- the name is that of some party in the header, whatever its form
+unfoldable pub known : ℕ → List (List ℕ) → List ℕ → Result (Unit {0}) Reason
+known line all name = if list_any (bytes_eq name) all then Ok tt else Err (Unknown line name)
+
+unfoldable pub all_known : ℕ → List (List ℕ) → List (List ℕ) → Result (Unit {0}) Reason
+all_known line all names = steps (λ u name. known line all name) tt names
+
+-- the names in a move are those of parties
+abbrev pub move_known : ℕ → List (List ℕ) → RawMove → Result (Unit {0}) Reason
+move_known line all (Craft n craft) = all_known line all craft.via
+move_known line all (Raw n key) = all_known line all key.path
+move_known line all (Transfer n to units) = known line all to
+move_known line all _ = Ok tt
+
+-- a kit with these names and their strategies has one of that name
+abbrev pub has_strategy : {A : Type 0} → List (List ℕ) → List A → List ℕ → Bool
+has_strategy names strategies name = is_some (under name names strategies)
+
+-- no name is a strategy's
+abbrev pub no_strategy : List ℕ → Bool
+no_strategy name = false
+
+-- the name is that of a strategy
+abbrev pub strategy_known : (List ℕ → Bool) → ℕ → List ℕ → Result (Unit {0}) Reason
+strategy_known has line name = if has name then Ok tt else Err (Unknown line name)
+
+-- an actor's strategy is known, and the names in its script are those of parties
+abbrev pub actor_known : (List ℕ → Bool) → ℕ → List (List ℕ) → RawActor → Result (Unit {0}) Reason
+actor_known has line all (Script moves) = steps (λ u mv. move_known line all mv) tt moves
+actor_known has line all (Strategy name) = strategy_known has line name
+actor_known has line all _ = Ok tt
+
 -- one more name
-unfoldable pub name_step : ℕ → List (List ℕ) → RawParty → Result (List (List ℕ)) Reason
-name_step line seen p =
+unfoldable pub name_added : ℕ → List (List ℕ) → RawParty → Result (List (List ℕ)) Reason
+name_added line seen p =
     if is_name p.name then (if list_any (bytes_eq p.name) seen then Err (Duplicate line p.name) else Ok (seen ++ p.name ∷ []))
     else Err (BadName line p.name)
+
+-- one more party: its name, and then that of its strategy or those in its script
+unfoldable pub name_step : (List ℕ → Bool) → ℕ → List (List ℕ) → List (List ℕ) → RawParty → Result (List (List ℕ)) Reason
+name_step has line all seen p = do
+  names ← name_added line seen p
+  u ← actor_known has line all p.actor
+  Ok names
+
+-- the names of the parties in the header, each once
+abbrev pub with_name : List (List ℕ) → RawParty → List (List ℕ)
+with_name names p = if list_any (bytes_eq p.name) names then names else names ++ p.name ∷ []
+
+abbrev pub names_stated : List RawParty → List (List ℕ)
+names_stated parties = fold with_name [] parties
 
 unfoldable pub ends_of : ℕ → List (List ℕ) → RawArc → Result Ends Reason
 ends_of line names a = do
@@ -41,10 +93,10 @@ leader_step line names seen l = do
   k ← party_of_name line names l.party
   if list_any (λ n. nat_eq n k) seen then Err (Duplicate line l.party) else Ok (seen ++ k ∷ [])
 
--- the names in their order, then the ends of the arcs, then the leaders
-unfoldable pub numbered_of : ℕ → RawHeader → Result Numbered Reason
-numbered_of line h = do
-  names ← steps (name_step line) [] h.parties
+-- the names in their order, each with that of the party's strategy or those in its script, then the ends of the arcs, then the leaders
+unfoldable pub numbered_of : (List ℕ → Bool) → ℕ → RawHeader → Result Numbered Reason
+numbered_of has line h = do
+  names ← steps (name_step has line (names_stated h.parties)) [] h.parties
   arcs ← each_of (ends_of line names) h.arcs
   leaders ← steps (leader_step line names) [] h.leaders
   Ok (record { names = names; arcs = arcs; leaders = leaders })

@@ -7,16 +7,19 @@ use Rattle.serde_json.specs.Find.{get, as_object, as_array}
 use Rattle.swap_base.specs.Fault.{◌>>=◌}
 use Rattle.swap_digraph.specs.declared.deal.Mode.{Mode}
 use Rattle.swap_digraph.specs.declared.deal.Mode.TheVariants.{Timelocks, Hashkeys}
+use Rattle.swap_digraph.specs.declared.deal.Version.{Version}
+use Rattle.swap_digraph.specs.declared.deal.Version.TheVariants.{One, Two}
 use Rattle.deviator_script.specs.declared.job.Purpose.{Purpose}
 use Rattle.deviator_script.specs.declared.job.Purpose.TheVariants.{Make, Audit}
 use Rattle.deviator_script.specs.declared.job.Finish.{Finish}
 use Rattle.deviator_script.specs.declared.job.Finish.TheVariants.{Stop, Fair}
 use Rattle.refusals.specs.declared.reason.Reason.{Reason}
-use Rattle.refusals.specs.declared.reason.Reason.TheVariants.{WrongKind, NotBuilt}
+use Rattle.refusals.specs.declared.reason.Reason.TheVariants.{WrongKind}
 use Rattle.offer_fields.specs.Fields.{kind, number_at, text_at, word_at, optional_text_at, member_text_of, object_at, list_at, each, only}
+use Rattle.offer_moves.specs.Reading.{scripted_at}
 use Rattle.offer_header.specs.declared.raw.Reading.{Reading}
 use Rattle.offer_header.specs.declared.raw.RawActor.{RawActor}
-use Rattle.offer_header.specs.declared.raw.RawActor.TheVariants.{Conforming, Manual}
+use Rattle.offer_header.specs.declared.raw.RawActor.TheVariants.{Conforming, Manual, Script, Strategy}
 use Rattle.offer_header.specs.declared.raw.RawParty.{RawParty}
 use Rattle.offer_header.specs.declared.raw.RawArc.{RawArc}
 use Rattle.offer_header.specs.declared.raw.RawLeader.{RawLeader}
@@ -42,10 +45,28 @@ states_keys purpose Hashkeys = not (is_plain purpose)
 
 -- ---- parties
 
--- scripts and strategies aren't built, and have no place in a transcript
-abbrev pub object_actor : ℕ → Purpose → Result RawActor Reason
-object_actor line Audit = Err (WrongKind line (codes "actor"))
-object_actor line _ = Err (NotBuilt line (codes "actor"))
+-- a script, by its moves
+unfoldable pub script_at : ℕ → Data → Result RawActor Reason
+script_at line d = do
+  moves ← list_at line (codes "script") (scripted_at line) d
+  u ← only line (codes "script" ∷ []) d
+  Ok (Script moves)
+
+-- a strategy, by its name
+unfoldable pub strategy_at : ℕ → Data → Result RawActor Reason
+strategy_at line d = do
+  name ← text_at line (codes "strategy") d
+  u ← only line (codes "strategy" ∷ []) d
+  Ok (Strategy name)
+
+-- an object that holds a script is one; any other names a strategy
+abbrev pub planned_actor : ℕ → Data → Result RawActor Reason
+planned_actor line d = if is_some (get (codes "script") d) then script_at line d else strategy_at line d
+
+-- scripts and strategies have no place in a transcript
+abbrev pub object_actor : ℕ → Purpose → Data → Result RawActor Reason
+object_actor line Audit d = Err (WrongKind line (codes "actor"))
+object_actor line _ d = planned_actor line d
 
 abbrev pub actor_of_word : ℕ → List ℕ → Result RawActor Reason
 actor_of_word line word =
@@ -55,7 +76,7 @@ actor_of_word line word =
 
 abbrev pub actor_of : ℕ → Purpose → Data → Result RawActor Reason
 actor_of line purpose d =
-    if is_some (as_object d) then object_actor line purpose
+    if is_some (as_object d) then object_actor line purpose d
     else member_text_of line (codes "actor") d >>= λ word. actor_of_word line word
 
 -- an actor that is absent conforms
@@ -133,11 +154,17 @@ keys_at line stated d = if stated then list_at line (codes "keys") (row_of line)
 
 -- ---- the header
 
--- version 1 alone is built
-unfoldable pub version_at : ℕ → Data → Result (Unit {0}) Reason
+-- there are two versions
+abbrev pub version_of : ℕ → ℕ → Result Version Reason
+version_of line n =
+    if n == 1 then Ok One
+    else if n == 2 then Ok Two
+    else Err (WrongKind line (codes "swap"))
+
+unfoldable pub version_at : ℕ → Data → Result Version Reason
 version_at line d = do
   n ← number_at line (codes "swap") d
-  if n == 1 then Ok tt else Err (WrongKind line (codes "swap"))
+  version_of line n
 
 abbrev pub mode_of : List ℕ → Option Mode
 mode_of word =
@@ -145,8 +172,19 @@ mode_of word =
     else if bytes_eq word (codes "hashkeys") then Some Hashkeys
     else None
 
-unfoldable pub mode_at : ℕ → Data → Result Mode Reason
-mode_at line d = word_at line (codes "mode") mode_of d
+-- version 2 has hashkeys alone
+abbrev pub mode_for : ℕ → Version → Mode → Result Mode Reason
+mode_for line One mode = Ok mode
+mode_for line Two Timelocks = Err (WrongKind line (codes "mode"))
+mode_for line Two Hashkeys = Ok Hashkeys
+
+unfoldable pub stated_mode_at : ℕ → Data → Result Mode Reason
+stated_mode_at line d = word_at line (codes "mode") mode_of d
+
+unfoldable pub mode_at : ℕ → Version → Data → Result Mode Reason
+mode_at line version d = do
+  mode ← stated_mode_at line d
+  mode_for line version mode
 
 -- what a run does after its last event: it stops, or it goes on to a fair finish
 abbrev pub finish_of_word : ℕ → List ℕ → Result Finish Reason
@@ -188,7 +226,7 @@ header_fields _ keyed = job_fields keyed
 unfoldable pub raw_of : Purpose → ℕ → Data → Result RawHeader Reason
 raw_of purpose line d = do
   version ← version_at line d
-  mode ← mode_at line d
+  mode ← mode_at line version d
   start ← number_at line (codes "start") d
   delta ← number_at line (codes "delta") d
   bound ← number_at line (codes "bound") d
@@ -198,7 +236,23 @@ raw_of purpose line d = do
   keys ← keys_at line (states_keys purpose mode) d
   finish ← finish_at line purpose d
   u ← only line (header_fields purpose (states_keys purpose mode)) d
-  Ok (record { mode = mode; start = start; delta = delta; bound = bound; parties = parties; arcs = arcs; leaders = leaders; keys = keys; finish = finish })
+  Ok (record {
+    version = version;
+    mode = mode;
+    start = start;
+    delta = delta;
+    bound = bound;
+    parties = parties;
+    arcs = arcs;
+    leaders = leaders;
+    keys = keys;
+    finish = finish;
+  })
+
+-- The mode is one of the version: version 2 has hashkeys alone.
+abbrev pub IsModeOf : Version → Mode → Type 0
+IsModeOf One mode = Unit {0}
+IsModeOf Two mode = mode ≡ Hashkeys
 
 -- With hashkeys no arc has a timelock.
 abbrev pub IsUntimed : RawHeader → Type 0
@@ -208,3 +262,18 @@ IsUntimed h = h.mode ≡ Hashkeys → (a : ℕ) (d : RawArc) → a < length h.ar
 abbrev pub IsUntold : Purpose → RawHeader → Type 0
 IsUntold Audit h = ((p : ℕ) (d : RawParty) → p < length h.parties → (slice_index_or h.parties p d).seed ≡ None) × (h.finish ≡ Stop)
 IsUntold _ h = Unit {0}
+
+-- the actor is one word
+abbrev pub IsWord : RawActor → Type 0
+IsWord (Script moves) = ⊥
+IsWord (Strategy name) = ⊥
+IsWord _ = Unit {0}
+
+-- each actor is a word
+abbrev pub AreWords : RawHeader → Type 0
+AreWords h = (p : ℕ) (d : RawParty) → p < length h.parties → IsWord (slice_index_or h.parties p d).actor
+
+-- In a transcript each actor is a word.
+abbrev pub HasWords : Purpose → RawHeader → Type 0
+HasWords Audit h = AreWords h
+HasWords _ h = Unit {0}

@@ -4,8 +4,8 @@ ghost use Rattle.std.specs.Prelude.{IfOk};
 ghost use Rattle.serde_json.specs.View.{view};
 ghost use Rattle.swap_base.specs.Fault.{Gives};
 ghost use Rattle.offer_fields.specs.Fields.{only};
-ghost use Rattle.offer_header.specs.Raw.{version_at, mode_at, states_keys, keys_at, finish_of_word, stated_finish_at, finish_at};
-ghost use Rattle.offer_header.specs.Raw.{transcript_fields, job_fields, header_fields, raw_of, IsUntimed, IsUntold};
+ghost use Rattle.offer_header.specs.Raw.{version_at, mode_for, stated_mode_at, mode_at, states_keys, keys_at, finish_of_word, stated_finish_at, finish_at};
+ghost use Rattle.offer_header.specs.Raw.{transcript_fields, job_fields, header_fields, raw_of, HasWords, IsModeOf, IsUntimed, IsUntold};
 
 use crate::raw::{RawHeader, RawRow, Reading};
 use deviator_script::{Finish, Purpose};
@@ -14,28 +14,50 @@ use refusals::{OfferFault, wrong_kind};
 use serde_json::Value;
 use std::alloc::Global;
 use swap_base::Listed;
-use swap_digraph::Mode;
+use swap_digraph::{Mode, Version};
 
 #[tactic(auto, unfolding(crate::specs::Raw::version_at))]
-fn version_in(alloc: Global, line: u32, object: &Value) -> Result<(), OfferFault>
-    ensures { Gives (λ u. u) result (version_at line (view object.now)) }
+fn version_in(alloc: Global, line: u32, object: &Value) -> Result<Version, OfferFault>
+    ensures { Gives (λ v. v) result (version_at line (view object.now)) }
 {
-    if number_in(alloc, line, "swap", object)? == 1 {
-        Ok(())
+    let number = number_in(alloc, line, "swap", object)?;
+    if number == 1 {
+        Ok(Version::One)
+    } else if number == 2 {
+        Ok(Version::Two)
     } else {
         Err(wrong_kind(alloc, line, b"swap"))
     }
 }
 
-#[tactic(auto, unfolding(crate::specs::Raw::mode_at))]
-fn mode_in(alloc: Global, line: u32, object: &Value) -> Result<Mode, OfferFault>
-    ensures { Gives (λ m. m) result (mode_at line (view object.now)) }
+#[tactic(auto, unfolding(crate::specs::Raw::stated_mode_at))]
+fn stated_mode_in(alloc: Global, line: u32, object: &Value) -> Result<Mode, OfferFault>
+    ensures { Gives (λ m. m) result (stated_mode_at line (view object.now)) }
 {
     match text_in(alloc, line, "mode", object)? {
         "timelocks" => Ok(Mode::Timelocks),
         "hashkeys" => Ok(Mode::Hashkeys),
         _ => Err(wrong_kind(alloc, line, b"mode")),
     }
+}
+
+/// Version 2 has hashkeys alone.
+fn mode_for(alloc: Global, line: u32, version: Version, mode: Mode) -> Result<Mode, OfferFault>
+    ensures { Gives (λ m. m) result (mode_for line version mode) }
+{
+    match (version, mode) {
+        (Version::One, mode) => Ok(mode),
+        (Version::Two, Mode::Timelocks) => Err(wrong_kind(alloc, line, b"mode")),
+        (Version::Two, Mode::Hashkeys) => Ok(Mode::Hashkeys),
+    }
+}
+
+#[tactic(auto, unfolding(crate::specs::Raw::mode_at))]
+fn mode_in(alloc: Global, line: u32, version: Version, object: &Value) -> Result<Mode, OfferFault>
+    ensures { Gives (λ m. m) result (mode_at line version (view object.now)) }
+{
+    let mode = stated_mode_in(alloc, line, object)?;
+    mode_for(alloc, line, version, mode)
 }
 
 fn keys_in<'v>(
@@ -147,11 +169,13 @@ pub(crate) fn raw_in<'v>(
     object: &'v Value,
 ) -> Result<RawHeader<'v>, OfferFault>
     ensures exact { Gives (λ h. h) result (raw_of purpose line (view object.now)) }
+    ensures mode { IfOk result (λ h. IsModeOf h.version h.mode) }
     ensures untimed { IfOk result (λ h. IsUntimed h) }
     ensures untold { IfOk result (λ h. IsUntold purpose h) }
+    ensures words { IfOk result (λ h. HasWords purpose h) }
 {
-    version_in(alloc, line, object)?;
-    let mode = mode_in(alloc, line, object)?;
+    let version = version_in(alloc, line, object)?;
+    let mode = mode_in(alloc, line, version, object)?;
     let start = number_in(alloc, line, "start", object)?;
     let delta = number_in(alloc, line, "delta", object)?;
     let bound = number_in(alloc, line, "bound", object)?;
@@ -163,6 +187,7 @@ pub(crate) fn raw_in<'v>(
     let finish = finish_in(alloc, line, purpose, object)?;
     only_header_fields(alloc, line, purpose, reading.states_keys(), object)?;
     Ok(RawHeader {
+        version,
         mode,
         start,
         delta,

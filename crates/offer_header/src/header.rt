@@ -1,23 +1,29 @@
 //! A header within its limits.
 
-ghost use Rattle.std.specs.Prelude.{◌≡◌, IfOk};
+ghost use Rattle.std.specs.Prelude.{◌≡◌, Ok, IfOk};
 ghost use Rattle.swap_base.specs.Fault.{Gives};
-ghost use Rattle.offer_header.specs.Header.{header_of, IsUntoldFor, IsWithin};
+ghost use Rattle.offer_header.specs.Header.{header_of, AreSimpleFor, IsUntoldFor, IsWithin};
+ghost use Rattle.offer_header.specs.Limits.{HoldsEach};
+ghost use Rattle.offer_header.specs.Names.{has_strategy};
+ghost use Rattle.offer_header.specs.Scripts.{scripts_placed, AreMade};
 
 use crate::fields::raw_in;
 use crate::limits::limited_in;
 use crate::names::numbered_in;
-use deviator_script::{Finish, Purpose};
+use crate::scripts::check_scripts;
+use deviator_script::{Finish, Kit, Purpose, Role};
 use offer_fields::object_in;
 use refusals::OfferFault;
 use std::alloc::Global;
 use swap_base::{ByteText, Digest, Listed, PartyId};
-use swap_digraph::{ArcEnds, Mode};
+use swap_digraph::{ArcEnds, Mode, Version};
 
 /// A header whose fields, names and limits are in order, as `IsWithin` says.
 #[derive(Debug, Drop)]
 pub struct Header {
     pub purpose: Purpose,
+    /// It sets the limits of what follows.
+    pub version: Version,
     pub mode: Mode,
     /// A height, 1 to 1,000.
     pub start: u32,
@@ -27,6 +33,8 @@ pub struct Header {
     pub bound: u32,
     /// The name of each party.
     pub names: Listed<ByteText>,
+    /// How each party acts.
+    pub roles: Listed<Role>,
     /// Whether each party conforms.
     pub conforming: Listed<bool>,
     /// The seed of each party, where it is there.
@@ -44,21 +52,28 @@ pub struct Header {
     pub finish: Finish,
 }
 
-/// The header that the line's text gives, or the first reason why it is refused.
+/// The header that the line's text gives, or the first reason why it is refused; its strategies are those of the kit.
 #[tactic(auto, using(crate::proofs::Numbered::is_numbered), unfolding(crate::specs::Header::header_of))]
 pub fn header_in(
     alloc: Global,
+    kit: &Kit,
     purpose: Purpose,
     line: u32,
     text: &[u8],
 ) -> Result<Header, OfferFault>
-    ensures exact { Gives (λ h. h) result (header_of purpose line text.now) }
+    ensures exact { Gives (λ h. h) result (header_of (has_strategy kit.now.names kit.now.strategies.items) purpose line text.now) }
     ensures purpose { IfOk result (λ h. h.purpose ≡ purpose) }
     ensures within { IfOk result (λ h. IsWithin h) }
     ensures untold { IfOk result (λ h. IsUntoldFor purpose h) }
+    ensures simple { IfOk result (λ h. AreSimpleFor purpose h) }
+    ensures strategies { IfOk result (λ h. HoldsEach (has_strategy kit.now.names kit.now.strategies.items) h.roles) }
+    ensures placed { IfOk result (λ h. scripts_placed line h ≡ Ok tt) }
+    ensures made { IfOk result (AreMade line) }
 {
     let object = object_in(alloc, line, text)?;
     let raw = raw_in(alloc, purpose, line, &object)?;
-    let numbered = numbered_in(alloc, line, &raw)?;
-    limited_in(alloc, purpose, line, &raw, numbered)
+    let numbered = numbered_in(alloc, kit, line, &raw)?;
+    let header = limited_in(alloc, purpose, line, &raw, numbered)?;
+    check_scripts(line, &header)?;
+    Ok(header)
 }

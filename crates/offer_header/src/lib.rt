@@ -9,6 +9,8 @@ mod limits;
 mod names;
 mod parts;
 mod raw;
+mod scripts;
+mod versions;
 
 pub use header::{Header, header_in};
 pub use raw::is_plain;

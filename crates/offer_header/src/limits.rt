@@ -4,19 +4,23 @@ ghost use Rattle.std.specs.Prelude.{◌≡◌, ◌<◌, ◌≤◌, ◌^◌, [], 
 ghost use Rattle.swap_base.specs.Fault.{Gives};
 ghost use Rattle.refusals.specs.declared.reason.Reason.{Reason};
 ghost use Rattle.offer_fields.specs.Lists.{each_of};
-ghost use Rattle.offer_header.specs.Limits.{seed_of, seeds_of, conforms, terms_of, all_terms_of, arc_ends, hashlock_of, no_digest, no_digests, hashlocks_by};
+ghost use Rattle.offer_moves.specs.Moves.{move_of};
+ghost use Rattle.offer_header.specs.Limits.{seed_of, script_role, role_of, acting_of, parties_of, conforms, sizes_in, terms_of, all_terms_of, arc_ends};
+ghost use Rattle.offer_header.specs.Limits.{hashlock_of, no_digest, no_digests, hashlocks_by};
 ghost use Rattle.offer_header.specs.Limits.{hashlocks_of, key_of, party_keys_of, stated_keys_of, keys_by, keys_of, limited_of};
 ghost use Rattle.offer_header.specs.Names.{AreEnds, AreLeaders, IsNumbered};
 
 use crate::header::Header;
 use crate::names::{Ends, Numbered};
 use crate::raw::{RawActor, RawArc, RawHeader, RawLeader, RawParty, RawRow, is_plain};
-use deviator_script::Purpose;
+use crate::versions::{most_arcs, most_parties, path_limit_of};
+use deviator_script::{MoveList, Purpose, Role};
 use offer_fields::{TextRef, digest_in, number_within, within};
+use offer_moves::{RawMove, Sizes, move_of};
 use refusals::{OfferFault, Reason};
 use std::alloc::Global;
-use swap_base::{Digest, Listed, NoMemory, PartyId};
-use swap_digraph::{ArcEnds, Mode};
+use swap_base::{ByteText, Digest, Listed, NoMemory, PartyId, TryCopy};
+use swap_digraph::{ArcEnds, Mode, Version};
 
 /// The units and the timelock of an arc.
 #[derive(Clone, Copy, Debug, PartialEq, Eq)]
@@ -49,16 +53,108 @@ fn limit_each<C: Copy, B: Drop, T: Limited<C, B>>(
     Ok(Listed::new(list))
 }
 
-impl<'v> Limited<(), Option<Digest>> for RawParty<'v> {
-    ghost limited_of = { λ _. seed_of };
+/// What a party's fields give within their limits: how it acts, and its seed, if any.
+#[derive(Debug, Drop)]
+pub struct Acting {
+    pub role: Role,
+    pub seed: Option<Digest>,
+}
 
-    #[tactic(auto, unfolding(crate::specs::Limits::seed_of))]
-    fn limit(&self, alloc: Global, _context: (), line: u32) -> Result<Option<Digest>, OfferFault> {
-        match &self.seed {
-            None => Ok(None),
-            Some(text) => Ok(Some(digest_in(alloc, line, "seed", text.as_slice())?)),
-        }
+#[tactic(auto, using(offer_fields::proofs::Lists::goes_on, offer_fields::proofs::Lists::ends, offer_fields::proofs::Lists::is_done))]
+fn moves_in(
+    alloc: Global,
+    sizes: Sizes,
+    names: &[ByteText],
+    line: u32,
+    moves: &[RawMove<'_>],
+) -> Result<MoveList, OfferFault>
+    requires names { length names.now ≤ 256 }
+    ensures { Gives (λ l. l) result (each_of (move_of sizes names.now line) moves.now) }
+{
+    let mut list = Vec::new(alloc);
+    for mv in moves {
+        list.push(move_of(alloc, sizes, names, line, mv)?)?;
     }
+    Ok(Listed::new(list))
+}
+
+/// A script, by its moves.
+#[tactic(auto, unfolding(crate::specs::Limits::script_role))]
+fn script_role(
+    alloc: Global,
+    sizes: Sizes,
+    names: &[ByteText],
+    line: u32,
+    moves: &[RawMove<'_>],
+) -> Result<Role, OfferFault>
+    requires names { length names.now ≤ 256 }
+    ensures { Gives (λ r. r) result (script_role sizes names.now line moves.now) }
+{
+    within(alloc, line, "script", 0, 1000, moves.len() as u64)?;
+    let moves = moves_in(alloc, sizes, names, line, moves)?;
+    Ok(Role::Script(moves))
+}
+
+fn role_of(
+    alloc: Global,
+    sizes: Sizes,
+    names: &[ByteText],
+    line: u32,
+    actor: &RawActor<'_>,
+) -> Result<Role, OfferFault>
+    requires names { length names.now ≤ 256 }
+    ensures { Gives (λ r. r) result (role_of sizes names.now line actor.now) }
+{
+    match actor {
+        RawActor::Conforming => Ok(Role::Conforming),
+        RawActor::Manual => Ok(Role::Manual),
+        RawActor::Script(moves) => script_role(alloc, sizes, names, line, moves.as_slice()),
+        RawActor::Strategy(name) => Ok(Role::Strategy(name.copy()?)),
+    }
+}
+
+#[tactic(auto, unfolding(crate::specs::Limits::seed_of))]
+fn seed_of(alloc: Global, line: u32, party: &RawParty<'_>) -> Result<Option<Digest>, OfferFault>
+    ensures { Gives (λ s. s) result (seed_of line party.now) }
+{
+    match &party.seed {
+        None => Ok(None),
+        Some(text) => Ok(Some(digest_in(alloc, line, "seed", text.as_slice())?)),
+    }
+}
+
+#[tactic(auto, unfolding(crate::specs::Limits::acting_of))]
+fn acting_of(
+    alloc: Global,
+    sizes: Sizes,
+    names: &[ByteText],
+    line: u32,
+    party: &RawParty<'_>,
+) -> Result<Acting, OfferFault>
+    requires names { length names.now ≤ 256 }
+    ensures { Gives (λ a. a) result (acting_of sizes names.now line party.now) }
+{
+    let role = role_of(alloc, sizes, names, line, &party.actor)?;
+    let seed = seed_of(alloc, line, party)?;
+    Ok(Acting { role, seed })
+}
+
+#[tactic(auto, using(offer_fields::proofs::Lists::goes_on, offer_fields::proofs::Lists::ends, offer_fields::proofs::Lists::is_done))]
+fn each_acting(
+    alloc: Global,
+    sizes: Sizes,
+    names: &[ByteText],
+    line: u32,
+    parties: &[RawParty<'_>],
+) -> Result<Listed<Acting>, OfferFault>
+    requires names { length names.now ≤ 256 }
+    ensures { Gives (λ l. l) result (each_of (acting_of sizes names.now line) parties.now) }
+{
+    let mut list = Vec::new(alloc);
+    for party in parties {
+        list.push(acting_of(alloc, sizes, names, line, party)?)?;
+    }
+    Ok(Listed::new(list))
 }
 
 impl<'v> Limited<(), ArcTerms> for RawArc<'v> {
@@ -104,23 +200,41 @@ impl<'v> Limited<usize, Listed<Digest>> for RawRow<'v> {
     }
 }
 
-#[tactic(auto, unfolding(crate::specs::Limits::seeds_of))]
-fn seeds_in(
+/// How each party acts, and its seed. There are as many names as parties.
+#[tactic(auto, unfolding(crate::specs::Limits::parties_of))]
+fn parties_in(
     alloc: Global,
+    version: Version,
+    sizes: Sizes,
+    names: &[ByteText],
     line: u32,
     parties: &[RawParty<'_>],
-) -> Result<Listed<Option<Digest>>, OfferFault>
-    ensures { Gives (λ s. s) result (seeds_of line parties.now) }
+) -> Result<Listed<Acting>, OfferFault>
+    requires names { length names.now ≡ length parties.now }
+    ensures { Gives (λ l. l) result (parties_of version sizes names.now line parties.now) }
 {
-    within(alloc, line, "parties", 2, 24, parties.len() as u64)?;
-    limit_each(alloc, (), line, parties)
+    let most = most_parties(version);
+    within(alloc, line, "parties", 2, most, parties.len() as u64)?;
+    each_acting(alloc, sizes, names, line, parties)
 }
 
 #[tactic(auto, unfolding(crate::specs::Limits::all_terms_of))]
-fn terms_in(alloc: Global, line: u32, arcs: &[RawArc<'_>]) -> Result<Listed<ArcTerms>, OfferFault>
-    ensures { Gives (λ t. t) result (all_terms_of line arcs.now) }
+fn terms_in(
+    alloc: Global,
+    version: Version,
+    line: u32,
+    arcs: &[RawArc<'_>],
+) -> Result<Listed<ArcTerms>, OfferFault>
+    ensures { Gives (λ t. t) result (all_terms_of version line arcs.now) }
 {
-    within(alloc, line, "arcs", 2, 96, arcs.len() as u64)?;
+    within(
+        alloc,
+        line,
+        "arcs",
+        2,
+        most_arcs(version),
+        arcs.len() as u64,
+    )?;
     limit_each(alloc, (), line, arcs)
 }
 
@@ -218,18 +332,42 @@ fn keys_in(
     }
 }
 
-fn conforms(actor: RawActor) -> bool
-    ensures { result ≡ conforms actor }
+fn conforms(role: &Role) -> bool
+    ensures { result ≡ conforms role.now }
 {
-    matches!(actor, RawActor::Conforming)
+    match role {
+        Role::Conforming => true,
+        _ => false,
+    }
 }
 
-fn conforming_in(alloc: Global, parties: &[RawParty<'_>]) -> Result<Listed<bool>, NoMemory>
-    ensures { IfOk result (λ l. l ≡ map (λ p. conforms p.actor) parties.now) }
+fn conforming_in(alloc: Global, parties: &[Acting]) -> Result<Listed<bool>, NoMemory>
+    ensures { IfOk result (λ l. l ≡ map (λ p. conforms p.role) parties.now) }
 {
     let mut list = Vec::new(alloc);
     for party in parties {
-        list.push(conforms(party.actor))?;
+        list.push(conforms(&party.role))?;
+    }
+    Ok(Listed::new(list))
+}
+
+fn seeds_in(alloc: Global, parties: &[Acting]) -> Result<Listed<Option<Digest>>, NoMemory>
+    ensures { IfOk result (λ l. l ≡ map (λ p. p.seed) parties.now) }
+{
+    let mut list = Vec::new(alloc);
+    for party in parties {
+        list.push(party.seed)?;
+    }
+    Ok(Listed::new(list))
+}
+
+/// The roles, without taking memory for their moves.
+fn roles_in(alloc: Global, parties: Listed<Acting>) -> Result<Listed<Role>, NoMemory>
+    ensures { IfOk result (λ l. l ≡ map (λ p. p.role) parties) }
+{
+    let mut list = Vec::new(alloc);
+    for party in parties.into_vec() {
+        list.push(party.role)?;
     }
     Ok(Listed::new(list))
 }
@@ -272,6 +410,17 @@ fn leaders_in(alloc: Global, leaders: &[usize]) -> Result<Listed<PartyId>, NoMem
     Ok(Listed::new(list))
 }
 
+/// What the moves of a header's scripts may name.
+fn sizes_in(raw: &RawHeader<'_>) -> Sizes
+    ensures { result ≡ sizes_in raw.now }
+{
+    Sizes {
+        arcs: raw.arcs.len(),
+        locks: raw.leaders.len(),
+        path: path_limit_of(raw.version),
+    }
+}
+
 /// The header within its limits, or the first reason why a number, a list or a text is refused.
 #[tactic(auto, using(crate::proofs::Limited::small_ends, crate::proofs::Limited::small_leaders), unfolding(crate::specs::Limits::limited_of))]
 pub(crate) fn limited_in(
@@ -288,21 +437,32 @@ pub(crate) fn limited_in(
     let start = number_within(alloc, line, "start", 1, 1000, raw.start)?;
     let delta = number_within(alloc, line, "delta", 1, 100, raw.delta)?;
     let bound = number_within(alloc, line, "bound", 1, 64, raw.bound)?;
-    let seeds = seeds_in(alloc, line, raw.parties.as_slice())?;
-    let terms = terms_in(alloc, line, raw.arcs.as_slice())?;
+    let names = numbered.names.as_slice();
+    let parties = parties_in(
+        alloc,
+        raw.version,
+        sizes_in(raw),
+        names,
+        line,
+        raw.parties.as_slice(),
+    )?;
+    let terms = terms_in(alloc, raw.version, line, raw.arcs.as_slice())?;
     let plain = is_plain(purpose);
     let hashlocks = hashlocks_in(alloc, plain, line, raw.leaders.as_slice())?;
     let keys = keys_in(alloc, plain, line, raw)?;
-    let conforming = conforming_in(alloc, raw.parties.as_slice())?;
+    let conforming = conforming_in(alloc, parties.as_slice())?;
+    let seeds = seeds_in(alloc, parties.as_slice())?;
     let arcs = arc_ends_in(alloc, numbered.arcs.as_slice())?;
     let leaders = leaders_in(alloc, numbered.leaders.as_slice())?;
     Ok(Header {
         purpose,
+        version: raw.version,
         mode: raw.mode,
         start,
         delta,
         bound,
         names: numbered.names,
+        roles: roles_in(alloc, parties)?,
         conforming,
         seeds,
         arcs,

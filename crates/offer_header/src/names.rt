@@ -1,15 +1,20 @@
 //! The names of a header, and the numbers that stand for them.
 
-ghost use Rattle.std.specs.Prelude.{◌≡◌, ◌<◌, ◌≤◌, [], ℕ, List, map, length, position, IfOk};
+ghost use Rattle.std.specs.Prelude.{◌≡◌, ◌<◌, ◌≤◌, [], ℕ, List, map, length, position, IfOk, OnOk};
 ghost use Rattle.std.specs.Str.{bytes_eq};
 ghost use Rattle.std.specs.List.{list_all};
 ghost use Rattle.swap_base.specs.Fault.{Gives, steps};
 ghost use Rattle.offer_fields.specs.Lists.{each_of};
 ghost use Rattle.offer_fields.specs.Names.{party_of_name};
-ghost use Rattle.offer_header.specs.Names.{is_name, is_name_byte, name_step, ends_of, leader_step, numbered_of};
+ghost use Rattle.offer_header.specs.Names.{has_strategy, strategy_known};
+ghost use Rattle.offer_header.specs.Names.{is_name, is_name_byte, known, all_known, move_known, actor_known, name_added, name_step};
+ghost use Rattle.offer_header.specs.Names.{with_name, names_stated, ends_of, leader_step, numbered_of};
 
-use crate::raw::{RawArc, RawHeader, RawLeader, RawParty};
+use crate::raw::{RawActor, RawArc, RawHeader, RawLeader, RawParty};
+use deviator_script::Kit;
 use indexmap::IndexSet;
+use offer_fields::TextRef;
+use offer_moves::RawMove;
 use refusals::{OfferFault, bad_name, duplicate, unknown};
 use std::alloc::Global;
 use swap_base::{ByteText, Listed, NoMemory};
@@ -53,14 +58,129 @@ fn is_name(name: &[u8]) -> bool
     !name.is_empty() && name.len() <= 16 && are_name_bytes(name)
 }
 
-#[tactic(auto, using(swap_base::proofs::Steps::any_map, std::proofs::lemmas::List::map_push), unfolding(crate::specs::Names::name_step))]
+/// One more name that the header states.
+#[tactic(auto, using(swap_base::proofs::Steps::any_map, std::proofs::lemmas::List::map_push))]
+fn state_name<'h>(names: &mut IndexSet<&'h [u8]>, party: &RawParty<'h>) -> Result<(), NoMemory>
+    ensures { OnOk result (map (λ k. k.now) names.new.keys ≡ with_name (map (λ k. k.now) names.old.keys) party.now) }
+{
+    let name = party.name.as_slice();
+    if names.contains(&name) {
+        return Ok(());
+    }
+    names.insert(name)?;
+    Ok(())
+}
+
+/// The names of the parties in the header, each once.
+#[tactic(auto, using(crate::proofs::Listing::stated_on, crate::proofs::Listing::stated_done))]
+fn names_stated<'h>(alloc: Global, parties: &[RawParty<'h>]) -> Result<IndexSet<&'h [u8]>, NoMemory>
+    ensures { IfOk result (λ s. map (λ k. k.now) s.keys ≡ names_stated parties.now) }
+{
+    let mut names = IndexSet::new(alloc);
+    for party in parties {
+        state_name(&mut names, party)?;
+    }
+    Ok(names)
+}
+
+/// A name is that of some party in the header.
+#[tactic(auto, using(swap_base::proofs::Steps::any_map), unfolding(crate::specs::Names::known))]
+fn check_known(
+    alloc: Global,
+    line: u32,
+    all: &IndexSet<&[u8]>,
+    name: &[u8],
+) -> Result<(), OfferFault>
+    ensures { Gives (λ u. u) result (known line (map (λ k. k.now) all.now.keys) name.now) }
+{
+    if all.contains(&name) {
+        return Ok(());
+    }
+    Err(unknown(alloc, line, name))
+}
+
+#[tactic(auto, using(swap_base::proofs::Steps::steps_on, swap_base::proofs::Steps::steps_fail, swap_base::proofs::Steps::steps_done), unfolding(crate::specs::Names::all_known))]
+fn check_all_known(
+    alloc: Global,
+    line: u32,
+    all: &IndexSet<&[u8]>,
+    names: &[TextRef<'_>],
+) -> Result<(), OfferFault>
+    ensures { Gives (λ u. u) result (all_known line (map (λ k. k.now) all.now.keys) names.now) }
+{
+    for name in names {
+        check_known(alloc, line, all, name.as_slice())?;
+    }
+    Ok(())
+}
+
+/// The names in a move are those of parties.
+fn check_move(
+    alloc: Global,
+    line: u32,
+    all: &IndexSet<&[u8]>,
+    mv: &RawMove<'_>,
+) -> Result<(), OfferFault>
+    ensures { Gives (λ u. u) result (move_known line (map (λ k. k.now) all.now.keys) mv.now) }
+{
+    match mv {
+        RawMove::Craft { craft, .. } => check_all_known(alloc, line, all, craft.via.as_slice()),
+        RawMove::Raw { key, .. } => check_all_known(alloc, line, all, key.path.as_slice()),
+        RawMove::Transfer { to, .. } => check_known(alloc, line, all, to.as_slice()),
+        _ => Ok(()),
+    }
+}
+
+#[tactic(auto, using(swap_base::proofs::Steps::steps_on, swap_base::proofs::Steps::steps_fail, swap_base::proofs::Steps::steps_done))]
+fn check_moves(
+    alloc: Global,
+    line: u32,
+    all: &IndexSet<&[u8]>,
+    moves: &[RawMove<'_>],
+) -> Result<(), OfferFault>
+    ensures { Gives (λ u. u) result (steps (λ u mv. move_known line (map (λ k. k.now) all.now.keys) mv) tt moves.now) }
+{
+    for mv in moves {
+        check_move(alloc, line, all, mv)?;
+    }
+    Ok(())
+}
+
+/// The kit has a strategy of that name.
+fn check_strategy(alloc: Global, kit: &Kit, line: u32, name: &ByteText) -> Result<(), OfferFault>
+    ensures { Gives (λ u. u) result (strategy_known (has_strategy kit.now.names kit.now.strategies.items) line name.now) }
+{
+    match kit.get(name) {
+        Some(_) => Ok(()),
+        None => Err(unknown(alloc, line, name.as_slice())),
+    }
+}
+
+/// An actor's strategy is known, and the names in its script are those of parties.
+fn check_actor(
+    alloc: Global,
+    kit: &Kit,
+    line: u32,
+    all: &IndexSet<&[u8]>,
+    actor: &RawActor<'_>,
+) -> Result<(), OfferFault>
+    ensures { Gives (λ u. u) result (actor_known (has_strategy kit.now.names kit.now.strategies.items) line (map (λ k. k.now) all.now.keys) actor.now) }
+{
+    match actor {
+        RawActor::Script(moves) => check_moves(alloc, line, all, moves.as_slice()),
+        RawActor::Strategy(name) => check_strategy(alloc, kit, line, name),
+        _ => Ok(()),
+    }
+}
+
+#[tactic(auto, using(swap_base::proofs::Steps::any_map, std::proofs::lemmas::List::map_push), unfolding(crate::specs::Names::name_added))]
 fn add_name<'h>(
     alloc: Global,
     line: u32,
     names: &mut IndexSet<&'h [u8]>,
     party: &RawParty<'h>,
 ) -> Result<(), OfferFault>
-    ensures { Gives (λ _. map (λ k. k.now) names.new.keys) result (name_step line (map (λ k. k.now) names.old.keys) party.now) }
+    ensures { Gives (λ _. map (λ k. k.now) names.new.keys) result (name_added line (map (λ k. k.now) names.old.keys) party.now) }
 {
     let name = party.name.as_slice();
     if !is_name(name) {
@@ -73,20 +193,53 @@ fn add_name<'h>(
     Ok(())
 }
 
-/// The names in order, no name twice.
-#[tactic(auto, using(swap_base::proofs::Steps::steps_on, swap_base::proofs::Steps::steps_fail, swap_base::proofs::Steps::steps_done))]
-fn names_in<'h>(
+/// One more party: its name, and then that of its strategy or those in its script.
+#[tactic(auto, unfolding(crate::specs::Names::name_step))]
+fn add_party<'h>(
     alloc: Global,
+    kit: &Kit,
     line: u32,
+    all: &IndexSet<&[u8]>,
+    names: &mut IndexSet<&'h [u8]>,
+    party: &RawParty<'h>,
+) -> Result<(), OfferFault>
+    ensures { Gives (λ _. map (λ k. k.now) names.new.keys) result
+        (name_step (has_strategy kit.now.names kit.now.strategies.items) line (map (λ k. k.now) all.now.keys) (map (λ k. k.now) names.old.keys) party.now) }
+{
+    add_name(alloc, line, names, party)?;
+    check_actor(alloc, kit, line, all, &party.actor)
+}
+
+#[tactic(auto, using(swap_base::proofs::Steps::steps_on, swap_base::proofs::Steps::steps_fail, swap_base::proofs::Steps::steps_done))]
+fn names_among<'h>(
+    alloc: Global,
+    kit: &Kit,
+    line: u32,
+    all: &IndexSet<&[u8]>,
     parties: &[RawParty<'h>],
 ) -> Result<IndexSet<&'h [u8]>, OfferFault>
-    ensures { Gives (λ s. map (λ k. k.now) s.keys) result (steps (name_step line) [] parties.now) }
+    ensures { Gives (λ s. map (λ k. k.now) s.keys) result
+        (steps (name_step (has_strategy kit.now.names kit.now.strategies.items) line (map (λ k. k.now) all.now.keys)) [] parties.now) }
 {
     let mut names = IndexSet::new(alloc);
     for party in parties {
-        add_name(alloc, line, &mut names, party)?;
+        add_party(alloc, kit, line, all, &mut names, party)?;
     }
     Ok(names)
+}
+
+/// The names in order, no name twice, where those in scripts are among them and strategies are known.
+fn names_in<'h>(
+    alloc: Global,
+    kit: &Kit,
+    line: u32,
+    parties: &[RawParty<'h>],
+) -> Result<IndexSet<&'h [u8]>, OfferFault>
+    ensures { Gives (λ s. map (λ k. k.now) s.keys) result
+        (steps (name_step (has_strategy kit.now.names kit.now.strategies.items) line (names_stated parties.now)) [] parties.now) }
+{
+    let all = names_stated(alloc, parties)?;
+    names_among(alloc, kit, line, &all, parties)
 }
 
 #[tactic(auto, using(swap_base::proofs::Steps::position_map), unfolding(offer_fields::specs::Names::party_of_name))]
@@ -181,12 +334,13 @@ fn kept_names(alloc: Global, names: &IndexSet<&[u8]>) -> Result<Listed<ByteText>
 #[tactic(auto, unfolding(crate::specs::Names::numbered_of))]
 pub(crate) fn numbered_in(
     alloc: Global,
+    kit: &Kit,
     line: u32,
     header: &RawHeader<'_>,
 ) -> Result<Numbered, OfferFault>
-    ensures { Gives (λ n. n) result (numbered_of line header.now) }
+    ensures { Gives (λ n. n) result (numbered_of (has_strategy kit.now.names kit.now.strategies.items) line header.now) }
 {
-    let names = names_in(alloc, line, header.parties.as_slice())?;
+    let names = names_in(alloc, kit, line, header.parties.as_slice())?;
     let arcs = ends_in(alloc, line, &names, header.arcs.as_slice())?;
     let leaders = leaders_in(alloc, line, &names, header.leaders.as_slice())?;
     Ok(Numbered {

@@ -4,29 +4,70 @@ ghost use Rattle.std.specs.Prelude.{◌≡◌, codes};
 ghost use Rattle.serde_json.specs.View.{view};
 ghost use Rattle.swap_base.specs.Fault.{Gives};
 ghost use Rattle.offer_fields.specs.Fields.{only, optional_text_at, text_at};
-ghost use Rattle.offer_header.specs.Raw.{object_actor, actor_of_word, actor_at, seed_at, party_fields, party_of, timelock_at, arc_fields, arc_of};
+ghost use Rattle.offer_header.specs.Raw.{script_at, strategy_at, planned_actor, object_actor, actor_of_word, actor_at, seed_at, party_fields, party_of};
+ghost use Rattle.offer_header.specs.Raw.{timelock_at, arc_fields, arc_of};
 ghost use Rattle.offer_header.specs.Raw.{hashlock_at, leader_fields, leader_of, row_of};
 
 use crate::raw::{RawActor, RawArc, RawLeader, RawParty, RawRow, Reading, is_plain};
 use deviator_script::Purpose;
 use offer_fields::{
-    Member, TextRef, is_object, member_text, number_in, only_in, optional_text_in, text_in,
-    texts_in,
+    Member, TextRef, is_object, list_in, member_text, number_in, only_in, optional_text_in,
+    text_in, texts_in,
 };
-use refusals::{OfferFault, not_built, wrong_kind};
+use refusals::{OfferFault, wrong_kind};
 use serde_json::Value;
 use std::alloc::Global;
+use swap_base::ByteText;
 
-fn object_actor(alloc: Global, line: u32, purpose: Purpose) -> Result<RawActor, OfferFault>
-    ensures { Gives (λ a. a) result (object_actor line purpose) }
+/// A script, by its moves.
+#[tactic(auto, unfolding(crate::specs::Raw::script_at))]
+fn script_in<'v>(alloc: Global, line: u32, object: &'v Value) -> Result<RawActor<'v>, OfferFault>
+    ensures { Gives (λ a. a) result (script_at line (view object.now)) }
+{
+    let moves = list_in(alloc, (), line, "script", object)?;
+    only_in(alloc, line, &["script"], object)?;
+    Ok(RawActor::Script(moves))
+}
+
+/// A strategy, by its name.
+#[tactic(auto, unfolding(crate::specs::Raw::strategy_at))]
+fn strategy_in<'v>(alloc: Global, line: u32, object: &'v Value) -> Result<RawActor<'v>, OfferFault>
+    ensures { Gives (λ a. a) result (strategy_at line (view object.now)) }
+{
+    let name = text_in(alloc, line, "strategy", object)?;
+    only_in(alloc, line, &["strategy"], object)?;
+    let name = ByteText::from_slice(alloc, name.as_bytes())?;
+    Ok(RawActor::Strategy(name))
+}
+
+fn planned_actor<'v>(
+    alloc: Global,
+    line: u32,
+    object: &'v Value,
+) -> Result<RawActor<'v>, OfferFault>
+    ensures { Gives (λ a. a) result (planned_actor line (view object.now)) }
+{
+    if object.get("script").is_some() {
+        return script_in(alloc, line, object);
+    }
+    strategy_in(alloc, line, object)
+}
+
+fn object_actor<'v>(
+    alloc: Global,
+    line: u32,
+    purpose: Purpose,
+    object: &'v Value,
+) -> Result<RawActor<'v>, OfferFault>
+    ensures { Gives (λ a. a) result (object_actor line purpose (view object.now)) }
 {
     match purpose {
         Purpose::Audit => Err(wrong_kind(alloc, line, b"actor")),
-        _ => Err(not_built(alloc, line, b"actor")),
+        _ => planned_actor(alloc, line, object),
     }
 }
 
-fn actor_of_word(alloc: Global, line: u32, word: &str) -> Result<RawActor, OfferFault>
+fn actor_of_word<'v>(alloc: Global, line: u32, word: &str) -> Result<RawActor<'v>, OfferFault>
     ensures { Gives (λ a. a) result (actor_of_word line word.now) }
 {
     match word {
@@ -37,19 +78,19 @@ fn actor_of_word(alloc: Global, line: u32, word: &str) -> Result<RawActor, Offer
 }
 
 #[tactic(auto, unfolding(crate::specs::Raw::actor_at))]
-fn actor_in(
+fn actor_in<'v>(
     alloc: Global,
     line: u32,
     purpose: Purpose,
-    object: &Value,
-) -> Result<RawActor, OfferFault>
+    object: &'v Value,
+) -> Result<RawActor<'v>, OfferFault>
     ensures { Gives (λ a. a) result (actor_at line purpose (view object.now)) }
 {
     let Some(value) = object.get("actor") else {
         return Ok(RawActor::Conforming);
     };
     if value.is_object() {
-        return object_actor(alloc, line, purpose);
+        return object_actor(alloc, line, purpose, value);
     }
     let word = member_text(alloc, line, "actor", value)?;
     actor_of_word(alloc, line, word)

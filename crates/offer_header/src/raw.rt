@@ -5,8 +5,9 @@ ghost use Rattle.offer_header.specs.Raw.{is_plain, states_keys, states_timelocks
 
 use deviator_script::{Finish, Purpose};
 use offer_fields::TextRef;
-use swap_base::Listed;
-use swap_digraph::Mode;
+use offer_moves::RawMove;
+use swap_base::{ByteText, Listed};
+use swap_digraph::{Mode, Version};
 
 /// What a header's parts are read for, and in which mode.
 #[derive(Clone, Copy, Debug, PartialEq, Eq)]
@@ -44,17 +45,19 @@ impl Reading {
     }
 }
 
-/// Who makes a party's calls: the party itself, which conforms, or the offer's events.
-#[derive(Clone, Copy, Debug, PartialEq, Eq)]
-pub enum RawActor {
+/// Who makes a party's calls: the party itself, which conforms, the offer's events, a script, or a strategy.
+#[derive(Debug, Drop)]
+pub enum RawActor<'v> {
     Conforming,
     Manual,
+    Script(Listed<RawMove<'v>>),
+    Strategy(ByteText),
 }
 
 #[derive(Debug, Drop)]
 pub struct RawParty<'v> {
     pub name: TextRef<'v>,
-    pub actor: RawActor,
+    pub actor: RawActor<'v>,
     pub seed: Option<TextRef<'v>>,
 }
 
@@ -82,6 +85,7 @@ pub struct RawRow<'v> {
 
 #[derive(Debug, Drop)]
 pub struct RawHeader<'v> {
+    pub version: Version,
     pub mode: Mode,
     pub start: u64,
     pub delta: u64,

@@ -1,9 +1,8 @@
 -- A header holds no floating number, so that its text is pinned byte for byte.
-use Rattle.std.proofs.Common.{◌≡◌, ℕ, Bool, true, false, cond, nat_lt, List, [], ◌∷◌, All, length, map, refl, sym, subst, slice_index, slice_index_or}
-use Rattle.std.proofs.Common.{Option, Some, None, codes, ltb-true, ltb-false}
-use Rattle.std.proofs.Math.ListN.{get_or-eq_default}
+use Rattle.std.proofs.Common.{◌≡◌, ℕ, Bool, true, false, cond, List, [], ◌∷◌, map, refl, slice_index, slice_index_or}
+use Rattle.std.proofs.Common.{Option, Some, None, codes}
 use Rattle.std.specs.List.{range_with_len}
-use Rattle.serde_json.specs.Data.{Data, no_members}
+use Rattle.serde_json.specs.Data.{Data, Members, no_members, member}
 use Rattle.serde_json.specs.View.{items_of}
 use Rattle.serde_json.specs.Written.{has_float, items_have_float, members_have_float}
 use Rattle.swap_digraph.specs.declared.arc_ends.ArcEnds.{ArcEnds}
@@ -15,9 +14,12 @@ use Rattle.swap_digraph.specs.Deal.{amount, locks}
 use Rattle.deviator_script.specs.declared.job.Job.{Job}
 use Rattle.deviator_script.specs.declared.job.Role.{Role}
 use Rattle.deviator_script.specs.declared.job.Role.TheVariants.{Conforming, Manual, Script, Strategy}
-use Rattle.offer_text.specs.Words.{digest_data, list_data, with_optional}
+use Rattle.deviator_script.specs.declared.moves.Move.{Move}
+use Rattle.deviator_script.specs.declared.moves.Move.TheVariants.{Publish, Craft, Replay, Raw, Claim, Refund, Transfer, Wait}
+use Rattle.offer_text.specs.Words.{digest_data, list_data, name_data, number_data, with_optional}
+use Rattle.offer_text.specs.Moves.{move_data, signature_data}
 use Rattle.offer_text.specs.HeaderLine.{arc_data, arc_at, arcs_data, leader_at, shown_party, actor_data, made_party, fields_by_mode, parties_data, shown_header}
-use Rattle.offer_text.specs.HeaderLine.{made_header, header_data, is_make, IsWord}
+use Rattle.offer_text.specs.HeaderLine.{made_header, header_data, is_make}
 
 items_without : {A : Type 0} (f : A → Data) → ((x : A) → has_float (f x) ≡ false) → (xs : List A) → items_have_float (items_of (map f xs)) ≡ false
 items_without f none [] = refl
@@ -48,33 +50,64 @@ shown_has_none job =
     let parties = list_without (shown_party job) (λ p. refl) (range_with_len 0 job.deal.graph.n) in
     rw (arcs_without job.names job.deal) (fields_without job.deal.mode job.names (parties_data shown_party job) job.deal parties)
 
-actor_without : (names : List (List ℕ)) (role : Role) → IsWord role → has_float (actor_data names role) ≡ false
-actor_without names Conforming w = refl
-actor_without names Manual w = refl
-actor_without names (Script moves) w = absurd w
-actor_without names (Strategy name) w = absurd w
+-- Moves.
+
+member_without : (field : List ℕ) (d : Data) (ms : Members) → has_float d ≡ false → members_have_float ms ≡ false
+    → members_have_float (member field d ms) ≡ false
+member_without field d ms e rest = rw (e, rest) refl
+
+optional_without : {A : Type 0} (field : List ℕ) (f : A → Data) (o : Option A) (ms : Members) → ((x : A) → has_float (f x) ≡ false)
+    → members_have_float ms ≡ false → members_have_float (with_optional field f o ms) ≡ false
+optional_without field f None ms none rest = rest
+optional_without field f (Some x) ms none rest = member_without field (f x) ms (none x) rest
+
+number_optional : (field : List ℕ) (o : Option ℕ) (ms : Members) → members_have_float ms ≡ false
+    → members_have_float (with_optional field number_data o ms) ≡ false
+number_optional field o ms rest = optional_without field number_data o ms (λ n. refl) rest
+
+names_without : (names : List (List ℕ)) (ps : List ℕ) → has_float (list_data (name_data names) ps) ≡ false
+names_without names ps = list_without (name_data names) (λ p. refl) ps
+
+move_without : (names : List (List ℕ)) (mv : Move) → has_float (move_data names mv) ≡ false
+unfolding move_data
+move_without names (Publish arc start delta bound timelock amount locks) =
+    number_optional (codes "amount") amount _
+    (number_optional (codes "bound") bound _
+    (number_optional (codes "delta") delta _
+    (optional_without (codes "locks") (list_data digest_data) locks _ row_without
+    (number_optional (codes "start") start _
+    (number_optional (codes "timelock") timelock no_members refl)))))
+move_without names (Craft arc lock via onto) =
+    number_optional (codes "onto") onto _ (member_without (codes "via") (list_data (name_data names) via) no_members (names_without names via) refl)
+move_without names (Replay arc lock onto) = refl
+move_without names (Raw arc key) =
+    rw (names_without names key.path, list_without signature_data (λ s. refl) key.sigs) refl
+move_without names (Claim arc) = refl
+move_without names (Refund arc) = refl
+move_without names (Transfer arc to units) = refl
+move_without names (Wait arc height) = refl
+
+actor_without : (names : List (List ℕ)) (role : Role) → has_float (actor_data names role) ≡ false
+actor_without names Conforming = refl
+actor_without names Manual = refl
+actor_without names (Script moves) =
+    member_without (codes "script") (list_data (move_data names) moves) no_members (list_without (move_data names) (move_without names) moves) refl
+actor_without names (Strategy name) = refl
 
 seed_without : (seed : Option (List ℕ)) → members_have_float (with_optional (codes "seed") digest_data seed no_members) ≡ false
 seed_without None = refl
 seed_without (Some seed) = refl
 
-role_is : (roles : List Role) (p : ℕ) → All IsWord roles → IsWord (slice_index_or roles p Manual)
-role_is roles p words = go (nat_lt p (length roles)) refl
-  where
-    go : (b : Bool) → nat_lt p (length roles) ≡ b → IsWord (slice_index_or roles p Manual)
-    go true e = words p Manual (ltb-true p (length roles) e)
-    go false e = subst IsWord (sym (get_or-eq_default roles Manual (ltb-false p (length roles) e))) tt
-
-made_has_none : (job : Job) → All IsWord job.roles → has_float (made_header job) ≡ false
-made_has_none job words =
+made_has_none : (job : Job) → has_float (made_header job) ≡ false
+made_has_none job =
     let parties = list_without (made_party job)
-    (λ p. rw (actor_without job.names (slice_index_or job.roles p Manual) (role_is job.roles p words)) (seed_without (slice_index_or job.seeds p None)))
+    (λ p. rw (actor_without job.names (slice_index_or job.roles p Manual)) (seed_without (slice_index_or job.seeds p None)))
     (range_with_len 0 job.deal.graph.n) in
     rw (arcs_without job.names job.deal) (fields_without job.deal.mode job.names (parties_data made_party job) job.deal parties)
 
-pub header_has_none : (job : Job) → (is_make job.purpose ≡ true → All IsWord job.roles) → has_float (header_data job) ≡ false
-header_has_none job words = go (is_make job.purpose) words
+pub header_has_none : (job : Job) → has_float (header_data job) ≡ false
+header_has_none job = go (is_make job.purpose)
   where
-    go : (b : Bool) → (b ≡ true → All IsWord job.roles) → has_float (cond b (made_header job) (shown_header job)) ≡ false
-    go true w = made_has_none job (w refl)
-    go false w = shown_has_none job
+    go : (b : Bool) → has_float (cond b (made_header job) (shown_header job)) ≡ false
+    go true = made_has_none job
+    go false = shown_has_none job

@@ -1,3 +1,4 @@
 pub mod Values
 pub mod Floats
 pub mod Headers
+pub mod Actors

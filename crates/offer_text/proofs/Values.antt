@@ -1,6 +1,6 @@
 -- Lists of JSON values, one more at a time.
 use Rattle.std.proofs.Common.{◌≡◌, ℕ, ◌+◌, ◌<◌, List, [], ◌∷◌, ◌++◌, length, get_or, map, take, Option, Some, None}
-use Rattle.std.proofs.Common.{refl, sym, ap, ◌∙◌, arith}
+use Rattle.std.proofs.Common.{refl, sym, ap, ◌∙◌, arith, subst}
 use Rattle.std.specs.Ordering.{nat_cmp}
 use Rattle.std.specs.declared.cmp.Ordering.TheVariants.{Less}
 use Rattle.std.specs.Cmp.Lexicographic.{slice_cmp}
@@ -36,3 +36,11 @@ pub below_optional : {A : Type 0} (name field : List ℕ) (f : A → Data) (o : 
     → IsBelow name (with_optional field f o ms)
 below_optional name field f None ms first rest = rest
 below_optional name field f (Some x) ms first rest = first
+
+-- the same of fields that were put so
+pub below_with : {A : Type 0} (name field : List ℕ) (f : A → Data) (o : Option A) (before after : Members) → after ≡ with_optional field f o before
+    → slice_cmp nat_cmp name field ≡ Less → IsBelow name before → IsBelow name after
+below_with name field f o before after e first rest = subst (IsBelow name) (sym e) (below_optional name field f o before first rest)
+
+pub below_none : (name : List ℕ) (ms : Members) → ms ≡ no_members → IsBelow name ms
+below_none name ms e = subst (IsBelow name) (sym e) tt

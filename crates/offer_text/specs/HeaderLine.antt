@@ -1,6 +1,6 @@
 -- The header line that is written of a job: its JSON, the fields of each object in the order of their bytes.
-use Rattle.std.specs.Prelude.{◌≡◌, ℕ, List, [], Bool, true, false, codes, length, slice_index, slice_index_or, None, All, if◌then◌else◌}
-use Rattle.std.specs.Str.{IsUtf8}
+use Rattle.std.specs.Prelude.{◌≡◌, ℕ, List, [], Bool, true, false, codes, length, slice_index, slice_index_or, All, None, if◌then◌else◌}
+use Rattle.std.specs.Str.Lossy.{utf8_lossy}
 use Rattle.std.specs.List.{range_with_len}
 use Rattle.serde_json.specs.Data.{Data, string, object, Members, no_members, member}
 use Rattle.serde_json.specs.Written.{compact_text}
@@ -9,6 +9,8 @@ use Rattle.swap_digraph.specs.declared.arc_ends.ArcEnds.{ArcEnds}
 use Rattle.swap_digraph.specs.declared.deal.Deal.{Deal}
 use Rattle.swap_digraph.specs.declared.deal.Mode.{Mode}
 use Rattle.swap_digraph.specs.declared.deal.Mode.TheVariants.{Timelocks, Hashkeys}
+use Rattle.swap_digraph.specs.declared.deal.Version.{Version}
+use Rattle.swap_digraph.specs.declared.deal.Version.TheVariants.{One, Two}
 use Rattle.swap_digraph.specs.Deal.{amount, leader_of, locks, IsWellSized}
 use Rattle.deviator_script.specs.declared.job.Job.{Job}
 use Rattle.deviator_script.specs.declared.job.Role.{Role}
@@ -65,12 +67,12 @@ shown_party job p =
     object (member (codes "actor") (string (word_of_conforming (slice_index_or job.conforming p false)))
     (member (codes "name") (name_data job.names p) no_members))
 
--- an actor as it was read
+-- an actor as the moves that it stands for; a strategy's name as text, which leaves it as it is where it is text
 abbrev pub actor_data : List (List ℕ) → Role → Data
 actor_data names Conforming = string (codes "conforming")
 actor_data names Manual = string (codes "manual")
 actor_data names (Script moves) = object (member (codes "script") (list_data (move_data names) moves) no_members)
-actor_data names (Strategy name) = object (member (codes "strategy") (string name) no_members)
+actor_data names (Strategy name) = object (member (codes "strategy") (string (utf8_lossy name)) no_members)
 
 -- a party of a made job, with its seed where there is one
 abbrev pub made_party : Job → ℕ → Data
@@ -89,6 +91,10 @@ abbrev pub is_make : Purpose → Bool
 is_make Make = true
 is_make _ = false
 
+abbrev pub number_of : Version → ℕ
+number_of One = 1
+number_of Two = 2
+
 -- the fields that every header has last
 abbrev pub last_fields : Data → Data → Data → Deal → Members
 last_fields leaders mode parties d =
@@ -96,7 +102,7 @@ last_fields leaders mode parties d =
     (member (codes "mode") mode
     (member (codes "parties") parties
     (member (codes "start") (number_data d.start)
-    (member (codes "swap") (number_data 1) no_members))))
+    (member (codes "swap") (number_data (number_of d.version)) no_members))))
 
 -- the keys stand with hashkeys alone
 abbrev pub fields_by_mode : Mode → List (List ℕ) → Data → Deal → Members
@@ -133,17 +139,14 @@ header_line job = compact_text (header_data job)
 
 -- ---- jobs that can be written
 
--- a role that is one word
-abbrev pub IsWord : Role → Type 0
-IsWord (Script moves) = ⊥
-IsWord (Strategy name) = ⊥
-IsWord _ = Unit {0}
-
--- what a role names: parties below n, and a strategy by text
+-- a role whose moves name none but so many parties
 abbrev pub IsSayable : ℕ → Role → Type 0
 IsSayable n (Script moves) = All (NamesBelow n) moves
-IsSayable n (Strategy name) = IsUtf8 name
 IsSayable n _ = Unit {0}
+
+-- the actors of a job can be said
+abbrev pub AreSayable : Job → Type 0
+AreSayable job = All (IsSayable (length job.names)) job.roles
 
 -- A job whose parts can be said: a name that is text, and a role and perhaps a seed per party.
 pub record IsWritable (job : Job) : Type 0 where
@@ -153,4 +156,3 @@ pub record IsWritable (job : Job) : Type 0 where
   pub conforming : length job.conforming ≡ job.deal.graph.n
   pub roles : length job.roles ≡ job.deal.graph.n
   pub seeds : length job.seeds ≡ job.deal.graph.n
-  pub sayable : All (IsSayable job.deal.graph.n) job.roles

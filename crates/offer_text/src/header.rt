@@ -1,11 +1,11 @@
 //! The header line of a job.
 
-ghost use Rattle.std.specs.Prelude.{◌≡◌, IfOk, OnOk, All, codes, true};
+ghost use Rattle.std.specs.Prelude.{◌≡◌, IfOk, OnOk, codes, true};
 ghost use Rattle.serde_json.specs.Data.{string, no_members};
 ghost use Rattle.serde_json.specs.View.{view, members_view};
 ghost use Rattle.offer_text.specs.Words.{IsBelow};
 ghost use Rattle.offer_text.specs.HeaderLine.{first_fields, fields_by_mode, last_fields, leaders_data, finish_word, shown_header, made_header, header_data};
-ghost use Rattle.offer_text.specs.HeaderLine.{header_line, is_make, IsWord, IsWritable};
+ghost use Rattle.offer_text.specs.HeaderLine.{header_line, is_make, number_of, AreSayable, IsWritable};
 
 use crate::deal::{arcs_value, keys_value, leaders_value};
 use crate::fields::{put_first, put_number, put_text};
@@ -14,7 +14,16 @@ use deviator_script::{Finish, Job, Purpose};
 use serde_json::{Map, Value};
 use std::alloc::Global;
 use swap_base::{ByteText, NoMemory};
-use swap_digraph::Mode;
+use swap_digraph::{Mode, Version};
+
+fn number_of(version: Version) -> u64
+    ensures { result ≡ number_of version }
+{
+    match version {
+        Version::One => 1,
+        Version::Two => 2,
+    }
+}
 
 /// The fields that every header has last.
 fn put_last_fields(
@@ -30,7 +39,7 @@ fn put_last_fields(
         ≡ last_fields (leaders_data job.now.names job.now.deal) (string mode.now) (view parties) job.now.deal) }
 {
     let leaders = leaders_value(alloc, job.names.as_slice(), &job.deal)?;
-    put_number(alloc, fields, "swap", 1)?;
+    put_number(alloc, fields, "swap", number_of(job.deal.version))?;
     put_number(alloc, fields, "start", job.deal.start as u64)?;
     put_first(alloc, fields, "parties", parties)?;
     put_text(alloc, fields, "mode", mode)?;
@@ -95,10 +104,10 @@ fn finish_word(finish: Finish) -> &'static str
     }
 }
 
-/// A header with seeds, finish, and the actors as they were read.
+/// A header with seeds, finish, and the actors as the moves that they stand for.
 fn made_header(alloc: Global, job: &Job) -> Result<Value, NoMemory>
     requires writable { IsWritable job.now }
-    requires words { All IsWord job.now.roles }
+    requires sayable { AreSayable job.now }
     ensures { IfOk result (λ v. view v ≡ made_header job.now) }
 {
     let mut fields = Map::new(alloc);
@@ -117,7 +126,7 @@ fn is_make(purpose: Purpose) -> bool
 
 fn header_value(alloc: Global, job: &Job) -> Result<Value, NoMemory>
     requires writable { IsWritable job.now }
-    requires words { is_make job.now.purpose ≡ true → All IsWord job.now.roles }
+    requires sayable { is_make job.now.purpose ≡ true → AreSayable job.now }
     ensures { IfOk result (λ v. view v ≡ header_data job.now) }
 {
     if is_make(job.purpose) {
@@ -127,10 +136,10 @@ fn header_value(alloc: Global, job: &Job) -> Result<Value, NoMemory>
     }
 }
 
-/// The header line of a job, without a line feed. Of a job with the purpose of making each actor is a word.
+/// The header line of a job, without a line feed.
 pub fn write_deal(alloc: Global, job: &Job) -> Result<ByteText, NoMemory>
     requires writable { IsWritable job.now }
-    requires words { is_make job.now.purpose ≡ true → All IsWord job.now.roles }
+    requires sayable { is_make job.now.purpose ≡ true → AreSayable job.now }
     ensures { IfOk result (λ t. t ≡ header_line job.now) }
 {
     let text = header_value(alloc, job)?.to_string(alloc)?;

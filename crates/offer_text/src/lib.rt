@@ -1,12 +1,14 @@
 //! The header line of a job: compact JSON, as `serde_json` writes it.
 //!
-//! Read `specs/HeaderLine.antt` first: the JSON of a header, field by field, and its line.
+//! Read `specs/HeaderLine.antt` first: the JSON of a header, field by field, and its line. `specs/Moves.antt` has that of a move.
 #![tactic(auto)]
 
 mod deal;
 mod fields;
 mod header;
+mod moves;
 mod parties;
+mod terms;
 mod words;
 
 pub use header::write_deal;

@@ -1,17 +1,19 @@
 //! The JSON of a job's parties.
 
-ghost use Rattle.std.specs.Prelude.{◌≡◌, ◌<◌, ℕ, List, IfOk, OnOk, All, codes, length, slice_index_or, false};
-ghost use Rattle.serde_json.specs.Data.{no_members, string};
+ghost use Rattle.std.specs.Prelude.{◌≡◌, ◌<◌, ℕ, List, IfOk, OnOk, codes, length, slice_index_or, false};
+ghost use Rattle.serde_json.specs.Data.{member, no_members, object, string};
 ghost use Rattle.serde_json.specs.View.{view, members_view};
-ghost use Rattle.offer_text.specs.Words.{digest_data, with_optional};
-ghost use Rattle.offer_text.specs.HeaderLine.{shown_party, made_party, parties_data, word_of_conforming, actor_data, IsWord, IsWritable};
+ghost use Rattle.deviator_script.specs.declared.job.Role.TheVariants.{Strategy as strategy};
+ghost use Rattle.offer_text.specs.Words.{digest_data, with_optional, AreTexts};
+ghost use Rattle.offer_text.specs.HeaderLine.{shown_party, made_party, parties_data, word_of_conforming, actor_data, AreSayable, IsSayable, IsWritable};
 
 use crate::fields::{put_first, put_text};
+use crate::moves::moves_value;
 use crate::words::{digest_value, name_of};
 use deviator_script::{Job, Role};
 use serde_json::{Map, Value, json};
 use std::alloc::Global;
-use swap_base::{Digest, NoMemory, PartyId};
+use swap_base::{ByteText, Digest, NoMemory, PartyId};
 
 fn word_of_conforming(conforms: bool) -> &'static str
     ensures { result.now ≡ word_of_conforming conforms }
@@ -41,14 +43,43 @@ pub(crate) fn shown_parties(alloc: Global, job: &Job) -> Result<Value, NoMemory>
     Ok(Value::Array(list))
 }
 
-fn word_of_role(role: &Role) -> &'static str
-    requires { IsWord role.now }
-    ensures { (names : List (List ℕ)) → string result.now ≡ actor_data names role.now }
+/// An object with one field.
+fn one_field(alloc: Global, name: &str, value: Value) -> Result<Value, NoMemory>
+    ensures { IfOk result (λ v. view v ≡ object (member name.now (view value) no_members)) }
+{
+    let mut fields = Map::new(alloc);
+    put_first(alloc, &mut fields, name, value)?;
+    Ok(Value::Object(fields))
+}
+
+fn word_value(alloc: Global, word: &str) -> Result<Value, NoMemory>
+    ensures { IfOk result (λ v. view v ≡ string word.now) }
+{
+    Ok(Value::String(String::from_str(alloc, word)?))
+}
+
+/// The name of a strategy, as an actor.
+fn strategy_value(alloc: Global, name: &[u8]) -> Result<Value, NoMemory>
+    ensures { IfOk result (λ v. (names : List (List ℕ)) → view v ≡ actor_data names (strategy name.now)) }
+{
+    let text = Value::String(String::from_utf8_lossy(alloc, name)?);
+    one_field(alloc, "strategy", text)
+}
+
+/// An actor as the moves that it stands for.
+fn actor_value(alloc: Global, names: &[ByteText], role: &Role) -> Result<Value, NoMemory>
+    requires texts { AreTexts names.now }
+    requires sayable { IsSayable (length names.now) role.now }
+    ensures { IfOk result (λ v. view v ≡ actor_data names.now role.now) }
 {
     match role {
-        Role::Conforming => "conforming",
-        Role::Manual => "manual",
-        Role::Script(_) | Role::Strategy(_) => unreachable!(),
+        Role::Conforming => word_value(alloc, "conforming"),
+        Role::Manual => word_value(alloc, "manual"),
+        Role::Script(moves) => {
+            let list = moves_value(alloc, names, moves.as_slice())?;
+            one_field(alloc, "script", list)
+        }
+        Role::Strategy(name) => strategy_value(alloc, name.as_slice()),
     }
 }
 
@@ -69,22 +100,23 @@ fn put_seed(
 
 fn made_party(alloc: Global, job: &Job, p: PartyId) -> Result<Value, NoMemory>
     requires writable { IsWritable job.now }
-    requires words { All IsWord job.now.roles }
+    requires sayable { AreSayable job.now }
     requires party { p < job.now.deal.graph.n }
     ensures { IfOk result (λ v. view v ≡ made_party job.now p) }
 {
+    let names = job.names.as_slice();
+    let actor = actor_value(alloc, names, &job.roles.as_slice()[p as usize])?;
     let mut fields = Map::new(alloc);
     put_seed(alloc, &mut fields, &job.seeds.as_slice()[p as usize])?;
-    put_text(alloc, &mut fields, "name", name_of(job.names.as_slice(), p))?;
-    let actor = word_of_role(&job.roles.as_slice()[p as usize]);
-    put_text(alloc, &mut fields, "actor", actor)?;
+    put_text(alloc, &mut fields, "name", name_of(names, p))?;
+    put_first(alloc, &mut fields, "actor", actor)?;
     Ok(Value::Object(fields))
 }
 
 /// The parties of a made job, as a list.
 pub(crate) fn made_parties(alloc: Global, job: &Job) -> Result<Value, NoMemory>
     requires writable { IsWritable job.now }
-    requires words { All IsWord job.now.roles }
+    requires sayable { AreSayable job.now }
     ensures { IfOk result (λ v. view v ≡ parties_data made_party job.now) }
 {
     let mut list = Vec::new(alloc);

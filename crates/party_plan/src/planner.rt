@@ -1,18 +1,19 @@
 //! What a party knows and plans that follows a script or a strategy.
 
-ghost use Rattle.std.specs.Prelude.{◌≡◌, ◌<◌, ◌+◌, true, length, replicate, [], IfOk, OnOk, OnErr};
+ghost use Rattle.std.specs.Prelude.{◌≡◌, ◌<◌, ◌+◌, ◌++◌, true, length, replicate, [], IfOk, OnOk, OnErr};
 ghost use Rattle.swap_digraph.specs.Deal.{IsWellSized};
+ghost use Rattle.ledger_core.specs.Book.{history};
 ghost use Rattle.deviator_script.specs.Script.{next_call, moves_left};
 ghost use Rattle.deviator_script.specs.View.{IsView, MayAnswer};
 ghost use Rattle.swap_run.specs.Run.{no_histories, plan_up_to};
 ghost use Rattle.party_plan.specs.Shown.{IsShown};
 
 use deviator_script::{MoveList, Script, Strategies};
-use ledger_core::{Book, Call, EntryList};
+use ledger_core::{Book, Call, Entry, EntryList};
 use std::alloc::Global;
 use std::marker::Model;
 use std::mem;
-use swap_base::{ArcId, ByteText, Digest, Listed, NoMemory, PartyId};
+use swap_base::{ArcId, ByteText, Digest, Listed, NoMemory, PartyId, TryCopy};
 use swap_digraph::Deal;
 
 /// What a party knows of each ledger, the moves that are left of its script, and how often it acted.
@@ -44,6 +45,25 @@ fn nothing_known(alloc: Global, deal: &Deal) -> Result<Book, NoMemory>
     })
 }
 
+/// Adds entries to a list, one by one.
+fn put_all(list: &mut EntryList, entries: Vec<Entry>) -> Result<(), NoMemory>
+    ensures { OnOk result (list.new ≡ list.old ++ entries.items) }
+{
+    'entries: for entry in entries {
+        list.push(entry)?;
+    }
+    Ok(())
+}
+
+/// A copy of a list, with further entries at its end.
+fn with_more(alloc: Global, list: &EntryList, more: &EntryList) -> Result<EntryList, NoMemory>
+    ensures { IfOk result (λ l. l ≡ list.now ++ more.now) }
+{
+    let mut longer = list.copy()?;
+    put_all(&mut longer, more.to_vec(alloc)?)?;
+    Ok(longer)
+}
+
 impl Planner {
     /// A party that has seen nothing, with its script at its first move.
     pub fn new(alloc: Global, deal: &Deal, moves: MoveList) -> Result<Planner, NoMemory>
@@ -68,6 +88,30 @@ impl Planner {
         ).into_vec();
         histories[arc as usize] = history;
         self.known.histories = Listed::new(histories);
+    }
+
+    /// Adds entries to what the party knows of a ledger. Want of memory leaves everything as it was.
+    pub fn learn(&mut self, arc: ArcId, fresh: EntryList) -> Result<(), NoMemory>
+        requires { arc < length self.old.known }
+        ensures ok { OnOk result (self.new ≡ plan_up_to self.old arc (history self.old.known arc ++ fresh)) }
+        ensures err { OnErr result (self.new ≡ self.old) }
+    {
+        let alloc = self.known.histories.allocator();
+        let known = with_more(
+            alloc,
+            &self.known.histories.as_slice()[arc as usize],
+            &fresh,
+        )?;
+        self.see(arc, known);
+        Ok(())
+    }
+
+    /// How many entries the party knows of a ledger.
+    pub fn count(&self, arc: ArcId) -> usize
+        requires { arc < length self.now.known }
+        ensures { result ≡ length (history self.now.known arc) }
+    {
+        self.known.histories.as_slice()[arc as usize].len()
     }
 
     /// The next call of the party's script, if any. The party has acted once more; after want of memory everything is as it was.

@@ -28,6 +28,15 @@ abbrev pub unspent : Mode → List ℕ → ℕ → ℕ → Option WalletKey
 unspent Timelocks seed v i = None
 unspent Hashkeys seed v i = Some (record { key = record { seed = seed; party = v; lock = i }; public = public_key_of seed v i })
 
+-- the public key for lock i
+abbrev pub public_for : Mode → List ℕ → ℕ → ℕ → Option (List ℕ)
+public_for Timelocks seed v i = None
+public_for Hashkeys seed v i = Some (public_key_of seed v i)
+
+-- the wallet of v for so many locks, with nothing signed
+abbrev pub empty_wallet : Mode → List ℕ → ℕ → ℕ → WalletState
+empty_wallet m seed v locks = record { mode = m; seed = seed; party = v; signed = replicate locks None }
+
 -- the wallet of v for a deal, with nothing signed
 abbrev pub new_wallet : List ℕ → ℕ → Deal → WalletState
 new_wallet seed v d = record { mode = d.mode; seed = seed; party = v; signed = replicate (length d.leaders) None }

@@ -1,12 +1,12 @@
 //! What a party signs with.
 
-ghost use Rattle.std.specs.Prelude.{◌≡◌, ◌<◌, ℕ, map, length, replicate, slice_set, Some, None, IfOk, OnErr, IsSome, is_some};
+ghost use Rattle.std.specs.Prelude.{◌≡◌, ◌<◌, ◌≤◌, ℕ, map, length, replicate, slice_set, Some, None, IfOk, OnErr, IsSome, is_some};
 ghost use Rattle.std.specs.List.{range_with_len};
 ghost use Rattle.swap_digraph.specs.Deal.{IsWellSized};
 ghost use Rattle.swap_digraph.specs.Deal.{path_limit};
 ghost use Rattle.party_wallet.specs.Value.{signed_in};
 ghost use Rattle.party_wallet.specs.Fits.{wrong_lock};
-ghost use Rattle.party_wallet.specs.Keys.{new_wallet, unspent, own_key, onto_key, with_signed};
+ghost use Rattle.party_wallet.specs.Keys.{empty_wallet, new_wallet, public_for, unspent, own_key, onto_key, with_signed};
 
 use crate::fitting::fits_lock;
 use crate::hashkeys::{onto_hashkey, own_hashkey};
@@ -91,19 +91,32 @@ fn held_twice(alloc: Global, made: Hashkey) -> Result<(Shared<Hashkey>, Shared<H
 }
 
 impl Wallet {
+    /// The keys that a party's seed gives it for so many locks, with nothing signed.
+    pub fn new(
+        alloc: Global,
+        mode: Mode,
+        seed: &Digest,
+        me: PartyId,
+        locks: u8,
+    ) -> Result<Wallet, NoMemory>
+        requires { locks ≤ 8 }
+        ensures { IfOk result (λ w. w ≡ empty_wallet mode seed.now me locks) }
+    {
+        Ok(Wallet {
+            mode,
+            seed: *seed,
+            party: me,
+            keys: keys_of(alloc, mode, seed, me, locks)?,
+            signed: none_signed(alloc, locks)?,
+        })
+    }
+
     /// The keys that a party's seed gives it for a deal, with nothing signed.
     pub fn of(alloc: Global, seed: &Digest, me: PartyId, deal: &Deal) -> Result<Wallet, NoMemory>
         requires { IsWellSized deal.now }
         ensures { IfOk result (λ w. w ≡ new_wallet seed.now me deal.now) }
     {
-        let locks = deal.leaders.len() as u8;
-        Ok(Wallet {
-            mode: deal.mode,
-            seed: *seed,
-            party: me,
-            keys: keys_of(alloc, deal.mode, seed, me, locks)?,
-            signed: none_signed(alloc, locks)?,
-        })
+        Wallet::new(alloc, deal.mode, seed, me, deal.leaders.len() as u8)
     }
 
     /// The least lock for which a new wallet lacks what the deal states of its party.
@@ -126,6 +139,18 @@ impl Wallet {
             }
         }
         None
+    }
+
+    /// The public key for a lock for which nothing is signed; timelocks ask for none.
+    pub fn public_key(&self, lock: LockId) -> Option<Digest>
+        requires lock { lock < length self.now.signed }
+        requires unsigned { signed_in self.now.signed lock ≡ None }
+        ensures { result ≡ public_for self.now.mode self.now.seed self.now.party lock }
+    {
+        match &self.keys[lock as usize] {
+            Some(key) => Some(key.public),
+            None => None,
+        }
     }
 
     pub fn party(&self) -> PartyId

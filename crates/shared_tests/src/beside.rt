@@ -128,11 +128,36 @@ fn is_answered_beside<R: Threads + Wait + Sync>(
     answered
 }
 
+/// Whether a call on another ledger, shared anew, is answered beside the turn.
+fn is_answered<R: Threads + Wait + Sync>(
+    rt: &R,
+    alloc: Global,
+    deal: &Deal,
+    lock: &TurnLock<Held>,
+    seat: TurnSeat<Held>,
+) -> Result<bool, Fail>
+    requires sized { IsWellSized deal.now }
+    requires lock { seat.table_id ≡ lock.now.lock }
+    requires idle { IsIdle seat.me }
+{
+    let (ledger, pass, _, _) = shared_ledger(rt, alloc, deal)?;
+    Ok(is_answered_beside(rt, lock, seat, &ledger, pass))
+}
+
+fn is_answered_of<R: Threads + Wait + Sync>(
+    rt: &R,
+    alloc: Global,
+    deal: &Deal,
+) -> Result<bool, Fail>
+    requires { IsWellSized deal.now }
+{
+    let (lock, seat) = locked(rt, alloc, deal)?;
+    is_answered(rt, alloc, deal, &lock, seat)
+}
+
 #[test]
 fn a_call_is_answered_while_another_ledgers_turn_is_taken(rt: HostRuntime) -> Result<(), Fail> {
     let deal = small_deal(rt.alloc())?;
-    let (lock, seat) = locked(&rt, rt.alloc(), &deal)?;
-    let (ledger, pass, _, _) = shared_ledger(&rt, rt.alloc(), &deal)?;
-    assert!(rt; is_answered_beside(&rt, &lock, seat, &ledger, pass));
+    assert!(rt; is_answered_of(&rt, rt.alloc(), &deal)?);
     Ok(())
 }

@@ -10,6 +10,7 @@ use escrow_core::{Reply, terms_of};
 use ledger_core::{Call, Entry, Ledger, Sender, What, fits};
 use ledger_shared::{Called, ClockPass, Pass, SharedLedger, share};
 use std::alloc::Global;
+use std::process::Abort;
 use std::sync::Wait;
 use std::test::Fail;
 use swap_base::{Digest, Listed, NoMemory, PartyId, Shared};
@@ -191,14 +192,38 @@ fn shows_publish<R: Wait>(
     Ok(is_publish(&shown))
 }
 
+/// A publish through one pass is accepted, and a look through the other shows it.
+fn is_shown<R: Wait + Abort>(
+    rt: &R,
+    alloc: Global,
+    deal: &Deal,
+    ledger: &SharedLedger,
+    first: &mut Pass,
+    second: &mut Pass,
+) -> Result<(), Fail>
+    requires sized { IsWellSized deal.now }
+    requires lock { first.old.lock ≡ ledger.now.lock }
+    requires deal { first.old.deal ≡ deal.now }
+    requires arc { first.old.arc ≡ 0 }
+    requires other { second.old.lock ≡ ledger.now.lock }
+{
+    let reply = publish(rt, alloc, deal, ledger, first).ok_or("no memory")?;
+    assert!(rt; reply == Reply::Accepted);
+    assert!(rt; shows_publish(rt, alloc, ledger, second)?);
+    Ok(())
+}
+
+fn is_shown_of<R: Wait + Abort>(rt: &R, alloc: Global, deal: &Deal) -> Result<(), Fail>
+    requires { IsWellSized deal.now }
+{
+    let (ledger, mut first, mut second, _) = shared_ledger(rt, alloc, deal)?;
+    is_shown(rt, alloc, deal, &ledger, &mut first, &mut second)
+}
+
 #[test]
 fn a_look_shows_what_another_pass_published(rt: HostRuntime) -> Result<(), Fail> {
     let deal = small_deal(rt.alloc())?;
-    let (ledger, mut first, mut second, _) = shared_ledger(&rt, rt.alloc(), &deal)?;
-    let reply = publish(&rt, rt.alloc(), &deal, &ledger, &mut first).ok_or("no memory")?;
-    assert!(rt; reply == Reply::Accepted);
-    assert!(rt; shows_publish(&rt, rt.alloc(), &ledger, &mut second)?);
-    Ok(())
+    is_shown_of(&rt, rt.alloc(), &deal)
 }
 
 /// Whether the second of two ticks finds the clock full, and the pass has then seen so many entries.
@@ -222,12 +247,36 @@ fn is_full<R: Wait>(rt: &R, ledger: &SharedLedger, mut pass: Pass, seen: u32) ->
     }
 }
 
+/// Whether neither adds anything after 32 calls, if there is memory for these.
+fn adds_nothing<R: Wait>(
+    rt: &R,
+    alloc: Global,
+    deal: &Deal,
+    ledger: &SharedLedger,
+    first: Pass,
+    clock: ClockPass,
+) -> Option<bool>
+    requires sized { IsWellSized deal.now }
+    requires lock { first.lock ≡ ledger.now.lock }
+    requires deal { first.deal ≡ deal.now }
+    requires arc { first.arc ≡ 0 }
+    requires clock { clock.lock ≡ ledger.now.lock }
+{
+    let first = make_all(rt, alloc, deal, ledger, first, 1)?;
+    let is_clock_full = fills_clock(rt, ledger, clock, 33);
+    Some(is_full(rt, ledger, first, 33) && is_clock_full)
+}
+
+fn adds_nothing_of<R: Wait>(rt: &R, alloc: Global, deal: &Deal) -> Result<bool, Fail>
+    requires { IsWellSized deal.now }
+{
+    let (ledger, first, _, clock) = shared_ledger(rt, alloc, deal)?;
+    Ok(adds_nothing(rt, alloc, deal, &ledger, first, clock).ok_or("no memory")?)
+}
+
 #[test]
 fn a_full_sender_and_a_full_clock_add_nothing(rt: HostRuntime) -> Result<(), Fail> {
     let deal = small_deal(rt.alloc())?;
-    let (ledger, first, _, clock) = shared_ledger(&rt, rt.alloc(), &deal)?;
-    let first = make_all(&rt, rt.alloc(), &deal, &ledger, first, 1).ok_or("no memory")?;
-    assert!(rt; fills_clock(&rt, &ledger, clock, 33));
-    assert!(rt; is_full(&rt, &ledger, first, 33));
+    assert!(rt; adds_nothing_of(&rt, rt.alloc(), &deal)?);
     Ok(())
 }

@@ -65,7 +65,8 @@ fn raced<R: Threads + Wait + Sync>(
             requires { IsWellSized deal.now × (first.lock ≡ shared.now.lock) × (first.deal ≡ deal.now) × (first.arc ≡ 0) }
         { make_all(rt, alloc, deal, shared, first, 1) },
         move ||
-            requires { IsWellSized deal.now × (second.lock ≡ shared.now.lock) × (second.deal ≡ deal.now) × (second.arc ≡ 0) × (clock.lock ≡ shared.now.lock) }
+            requires { IsWellSized deal.now × (second.lock ≡ shared.now.lock) × (second.deal ≡ deal.now) × (second.arc ≡ 0)
+                × (clock.lock ≡ shared.now.lock) }
         { two_at_once(rt, alloc, deal, shared, second, clock) },
     );
     let (second, clock) = rest;
@@ -81,12 +82,29 @@ fn is_replayed(rt: &impl Abort, alloc: Global, deal: &Deal, history: &EntryList)
     replays(rt, plain, &entries)
 }
 
+/// The history that three threads leave has all their entries, and the replies of one thread.
+fn is_left(rt: &impl Abort, alloc: Global, deal: &Deal, closed: Ledger) -> Result<(), Fail>
+    requires { IsWellSized deal.now }
+{
+    let history = closed.into_history();
+    assert!(rt; history.len() == 164 && history.calls() == 64);
+    is_replayed(rt, alloc, deal, &history)
+}
+
+fn is_left_of<R: Threads + Wait + Sync + Abort>(
+    rt: &R,
+    alloc: Global,
+    deal: &Deal,
+) -> Result<(), Fail>
+    requires { IsWellSized deal.now }
+{
+    let (ledger, first, second, clock) = shared_ledger(rt, alloc, deal)?;
+    let closed = raced(rt, alloc, deal, ledger, first, second, clock).ok_or("no memory")?;
+    is_left(rt, alloc, deal, closed)
+}
+
 #[test]
 fn three_threads_leave_the_replies_of_one(rt: HostRuntime) -> Result<(), Fail> {
     let deal = small_deal(rt.alloc())?;
-    let (ledger, first, second, clock) = shared_ledger(&rt, rt.alloc(), &deal)?;
-    let closed = raced(&rt, rt.alloc(), &deal, ledger, first, second, clock).ok_or("no memory")?;
-    let history = closed.into_history();
-    assert!(rt; history.len() == 164 && history.calls() == 64);
-    is_replayed(&rt, rt.alloc(), &deal, &history)
+    is_left_of(&rt, rt.alloc(), &deal)
 }

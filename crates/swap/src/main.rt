@@ -1,13 +1,22 @@
 //! The program: `swap run < offer`.
 #![tactic(auto)]
 
+use party_threads::Gate;
 use std::alloc::Global;
 use std::env::Args;
 use std::io::ErrorKind;
 use std::process::ExitCode;
+use std::sync::Wait;
 use std::{env, io};
 use swap_io::{ReaderSource, WriterSink, write_all};
-use swap_main::{Exit, Status, ending, swap_top};
+use swap_main::{Exit, Program, Status, ending, swap_top};
+
+/// A gate that keeps nobody.
+struct OpenGate;
+
+impl Gate for OpenGate {
+    fn pass<R: Wait>(&self, _rt: &R, _actor: u8, _round: u32) {}
+}
 
 /// The words after the program's name. One that is no text makes them wrong words.
 fn words_of(alloc: Global, args: io::Result<Args>) -> Result<Vec<String>, Status> {
@@ -26,7 +35,15 @@ fn main(rt: HostRuntime) -> ExitCode {
         Ok(words) => {
             let mut source = ReaderSource::new(rt.reader());
             let mut sink = WriterSink::new(io::writer(&rt));
-            swap_top(rt.alloc(), &words, &mut source, &mut sink)
+            swap_top(
+                &rt,
+                rt.alloc(),
+                &words,
+                &mut source,
+                &mut sink,
+                &OpenGate,
+                &Program { alloc: rt.alloc() },
+            )
         }
         Err(status) => status,
     };

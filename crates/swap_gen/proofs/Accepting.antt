@@ -107,10 +107,6 @@ filled_is_sized seeds d k = record {
   timelock = timelocks_low d.mode d k k.led;
 }
 
-same_keys : (m : Mode) (seeds : List (Option (List ℕ))) (d : Deal) (hs : List (List ℕ)) → all_keys m seeds (record d { hashlocks = hs }) ≡ all_keys m seeds d
-same_keys Timelocks seeds d hs = refl
-same_keys Hashkeys seeds d hs = refl
-
 same_timelocks : (m : Mode) (d : Deal) (hs : List (List ℕ)) (ks : List (List (List ℕ)))
     → all_timelocks m (record d { hashlocks = hs; keys = ks }) ≡ all_timelocks m d
 same_timelocks Timelocks d hs ks = refl
@@ -118,12 +114,11 @@ same_timelocks Hashkeys d hs ks = refl
 
 -- filled in one after another
 pub sized_with : (seeds : List (Option (List ℕ))) (d : Deal) (hs : List (List ℕ)) (ks : List (List (List ℕ))) (ts : List ℕ) → IsProposed d
-    → hs ≡ map (hashlock_from seeds) d.leaders → ks ≡ all_keys d.mode seeds (record d { hashlocks = hs })
+    → hs ≡ map (hashlock_from seeds) d.leaders → ks ≡ all_keys d.mode seeds d
     → ts ≡ all_timelocks d.mode (record d { hashlocks = hs; keys = ks }) → IsWellSized (record d { hashlocks = hs; keys = ks; timelocks = ts })
 sized_with seeds d hs ks ts k eh ek et =
     subst (λ (x : List (List ℕ)). IsWellSized (record d { hashlocks = x; keys = ks; timelocks = ts })) (sym eh)
-    (subst (λ (x : List (List (List ℕ))). IsWellSized (record d { hashlocks = map (hashlock_from seeds) d.leaders; keys = x; timelocks = ts })) (sym (ek
-    ∙ same_keys d.mode seeds d hs))
+    (subst (λ (x : List (List (List ℕ))). IsWellSized (record d { hashlocks = map (hashlock_from seeds) d.leaders; keys = x; timelocks = ts })) (sym ek)
     (subst (λ (x : List ℕ). IsWellSized (record d { hashlocks = map (hashlock_from seeds) d.leaders; keys = all_keys d.mode seeds d; timelocks = x }))
     (sym (et ∙ same_timelocks d.mode d hs ks)) (filled_is_sized seeds d k)))
 

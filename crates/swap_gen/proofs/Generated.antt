@@ -36,7 +36,7 @@ unfolding plain_job
 some_seed seed n p lt = subst (λ (o : Option (List ℕ)). IsSome o) (sym (get_or-map-range_with_len (λ i. Some (seed_of seed i)) 0 n p p None lt (omega arith)))
     refl
 
-plain_has_seeds : (seed n : ℕ) → HaveSeeds (plain_job seed n)
+pub plain_has_seeds : (seed n : ℕ) → HaveSeeds (plain_job seed n)
 plain_has_seeds seed n p lt = some_seed seed n p (subst (λ (g : Graph). p < g.n) (plain_graph seed n) lt)
 
 pub generated_is_owned : (seed n : ℕ) → (p : ℕ) → p < (generated seed n).deal.graph.n → OwnsKeys (generated seed n) p

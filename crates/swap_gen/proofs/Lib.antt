@@ -10,5 +10,6 @@ pub mod Generated
 pub mod Listing
 pub mod Amounts
 pub mod Together
+pub mod Equipped
 pub mod Next
 pub mod New

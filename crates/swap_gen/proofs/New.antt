@@ -1,31 +1,23 @@
 -- A new generator.
-use Rattle.std.proofs.Common.{◌≡◌, ℕ, ◌+◌, ◌<◌, ◌≤◌, List, length, map, Option, refl, sym, ap, ◌∙◌, subst, arith}
+use Rattle.std.proofs.Common.{◌≡◌, ℕ, ◌+◌, ◌<◌, ◌≤◌, List, length, map, refl, sym, ap, ◌∙◌, subst, arith}
 use Rattle.std.specs.List.{range_with_len}
 use Rattle.swap_digraph.specs.Value.{Graph}
-use Rattle.swap_digraph.specs.declared.deal.Deal.{Deal}
 use Rattle.deviator_script.specs.declared.job.Job.{Job}
 use Rattle.swap_gen.specs.Word.{DrawState}
-use Rattle.swap_gen.specs.Made.{made_deal}
-use Rattle.swap_gen.specs.Drawn.{plain_job, generated}
+use Rattle.swap_gen.specs.Drawn.{generated}
 use Rattle.swap_gen.specs.Events.{touching, first_place, GeneratorState}
 use Rattle.swap_gen.specs.Inside.{state_in, Holds}
 use Rattle.swap_gen.specs.declared.generator.Generator.TheInside.{Inside}
-use Rattle.swap_gen.proofs.Generated.{generated_graph, generated_is}
+use Rattle.swap_gen.proofs.Generated.{generated_graph}
 
-module _ (seed n : ℕ) (many : 2 ≤ n) (few : n ≤ 24) (draws : DrawState) (job : Job) (seeds : List (Option (List ℕ))) (deal : Deal) (lists : List (List ℕ))
-    (draws_are : draws ≡ record { seed = seed; place = first_place seed n }) (job_is : job ≡ plain_job seed n) (seeds_are : seeds ≡ job.seeds)
-    (deal_is : deal ≡ made_deal seeds job.deal) (lists_are : lists ≡ map (touching deal.graph) (range_with_len 0 deal.graph.n)) where
+module _ (seed n : ℕ) (many : 2 ≤ n) (few : n ≤ 24) (draws : DrawState) (job : Job) (lists : List (List ℕ))
+    (draws_are : draws ≡ record { seed = seed; place = first_place seed n }) (job_is : job ≡ generated seed n)
+    (lists_are : lists ≡ map (touching job.deal.graph) (range_with_len 0 job.deal.graph.n)) where
   abbrev inside : Inside
-  inside = record { draws = draws; job = record job { deal = deal }; touching = lists }
+  inside = record { draws = draws; job = job; touching = lists }
 
-  made_is : record job { deal = deal } ≡ generated seed n
-  made_is =
-      ap (λ (x : Deal). record job { deal = x }) (deal_is ∙ ap (λ (s : List (Option (List ℕ))). made_deal s job.deal) seeds_are)
-      ∙ ap (λ (j : Job). record j { deal = made_deal j.seeds j.deal }) job_is
-      ∙ generated_is seed n
-
-  parties_are : deal.graph.n ≡ n
-  parties_are = ap (λ (j : Job). j.deal.graph.n) made_is ∙ ap (λ (g : Graph). g.n) (generated_graph seed n)
+  parties_are : job.deal.graph.n ≡ n
+  parties_are = ap (λ (j : Job). j.deal.graph.n) job_is ∙ ap (λ (g : Graph). g.n) (generated_graph seed n)
 
   seed_is : draws.seed ≡ seed
   seed_is = ap (λ (s : DrawState). s.seed) draws_are
@@ -33,7 +25,7 @@ module _ (seed n : ℕ) (many : 2 ≤ n) (few : n ≤ 24) (draws : DrawState) (j
   pub new_holds : Holds inside
   new_holds = record {
     parties = subst (λ k. (2 ≤ k) × (k ≤ 24)) (sym parties_are) (many, few);
-    job = made_is ∙ ap (λ s. generated s n) (sym seed_is) ∙ ap (generated draws.seed) (sym parties_are);
+    job = job_is ∙ ap (λ s. generated s n) (sym seed_is) ∙ ap (generated draws.seed) (sym parties_are);
     touching = lists_are;
   }
 
@@ -42,5 +34,5 @@ module _ (seed n : ℕ) (many : 2 ≤ n) (few : n ≤ 24) (draws : DrawState) (j
 
   pub new_shows : state_in inside ≡ record { seed = seed; parties = n; place = first_place seed n }
   new_shows =
-      ap (λ (s : DrawState). state_with s.seed deal.graph.n s.place) draws_are
+      ap (λ (s : DrawState). state_with s.seed job.deal.graph.n s.place) draws_are
       ∙ ap (λ p. state_with seed p (first_place seed n)) parties_are

@@ -1,6 +1,8 @@
 -- What the seeds of a job's parties give them.
 use Rattle.std.specs.Prelude.{◌≡◌, ℕ, List, Option, Some, None, slice_index_or}
 use Rattle.party_wallet.specs.Fits.{wrong_lock}
+use Rattle.party_wallet.specs.Value.{WalletState}
+use Rattle.party_wallet.specs.Wallets.{wallets_of}
 use Rattle.deviator_script.specs.declared.job.Job.{Job}
 
 -- Party p has a seed, which gives it what the deal states of it for each lock.
@@ -8,3 +10,7 @@ pub record OwnsKeys (job : Job) (p : ℕ) : Type 0 where
   pub seed : List ℕ
   pub there : slice_index_or {A = Option (List ℕ)} job.seeds p None ≡ Some seed
   pub fits : wrong_lock job.deal p seed ≡ None
+
+-- the wallet of each party that conforms and has a seed, with nothing signed
+abbrev pub wallets_in : Job → List (Option WalletState)
+wallets_in job = wallets_of job.deal job.conforming job.seeds

@@ -8,12 +8,12 @@ ghost use Rattle.swap_rules.specs.Accepted.{IsAccepted};
 ghost use Rattle.swap_gen.specs.Drawn.{drawn_graph, generated};
 ghost use Rattle.swap_gen.specs.Events.{event_from, first_place, generated_events, picked, touching};
 ghost use Rattle.swap_gen.specs.Word.{next, word};
-ghost use Rattle.swap_gen.specs.Owned.{OwnsKeys};
+ghost use Rattle.swap_gen.specs.Owned.{wallets_in, OwnsKeys};
 
 use crate::draws::Draws;
-use crate::making::fill;
-use crate::plain::plain_job;
+use crate::wallets::{MadeJob, made_job};
 use deviator_script::{Event, Job};
+use party_wallet::Wallet;
 use std::alloc::Global;
 use std::marker::Model;
 use swap_base::{ArcId, Listed, NoMemory, PartyId};
@@ -87,15 +87,30 @@ impl Generator {
         requires high { parties ≤ 24 }
         ensures { IfOk result (λ g. g ≡ record { seed = seed; parties = parties; place = first_place seed parties }) }
     {
+        let (generator, _) = Generator::with_wallets(alloc, seed, parties)?;
+        Ok(generator)
+    }
+
+    /// The same, with the wallets of the job's parties, which hold the keys that its deal states.
+    pub fn with_wallets(
+        alloc: Global,
+        seed: u32,
+        parties: u8,
+    ) -> Result<(Generator, Vec<Option<Wallet>>), NoMemory>
+        requires low { 2 ≤ parties }
+        requires high { parties ≤ 24 }
+        ensures generator { IfOk result (λ r. r.0 ≡ record { seed = seed; parties = parties; place = first_place seed parties }) }
+        ensures wallets { IfOk result (λ r. r.1.items ≡ wallets_in (generated seed parties)) }
+    {
         let mut draws = Draws::new(seed);
-        let mut job = plain_job(alloc, &mut draws, seed, parties)?;
-        job.deal = fill(alloc, job.deal, job.seeds.as_slice())?;
+        let MadeJob { job, wallets } = made_job(alloc, &mut draws, seed, parties)?;
         let touching = all_touching(alloc, &job.deal.graph)?;
-        Ok(Generator {
+        let generator = Generator {
             draws,
             job,
             touching,
-        })
+        };
+        Ok((generator, wallets))
     }
 
     /// The job.

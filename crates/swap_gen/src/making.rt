@@ -6,7 +6,7 @@ ghost use Rattle.swap_digraph.specs.Graph.{arcs};
 ghost use Rattle.swap_digraph.specs.declared.deal.Mode.TheVariants.{Timelocks};
 ghost use Rattle.single_leader.specs.Distance.{dist_of};
 ghost use Rattle.swap_rules.specs.Accepted.{IsAccepted};
-ghost use Rattle.swap_gen.specs.Made.{all_timelocks, made, made_deal, timelock_for};
+ghost use Rattle.swap_gen.specs.Made.{all_keys, all_timelocks, made, made_deal, timelock_for};
 ghost use Rattle.proposed_deal.specs.Proposed.{HaveSeeds, IsProposed};
 ghost use Rattle.swap_gen.specs.Owned.{OwnsKeys};
 
@@ -66,18 +66,20 @@ fn all_timelocks(alloc: Global, deal: &Deal) -> Result<Listed<u32>, NoMemory>
     }
 }
 
-/// Fills in what the seeds give.
+/// Fills in what the seeds give, where their public keys are at hand.
 #[tactic(auto, unfolding(crate::specs::Made::made_deal))]
 pub(crate) fn fill(
     alloc: Global,
     mut deal: Deal,
     seeds: &[Option<Digest>],
+    keys: Listed<Listed<Digest>>,
 ) -> Result<Deal, NoMemory>
-    requires { IsProposed deal }
+    requires proposed { IsProposed deal }
+    requires keys { keys ≡ all_keys deal.mode seeds.now deal }
     ensures { IfOk result (λ d. d ≡ made_deal seeds.now deal) }
 {
     deal.hashlocks = hashlocks_from(alloc, seeds, deal.leaders.as_slice())?;
-    deal.keys = all_keys(alloc, seeds, &deal)?;
+    deal.keys = keys;
     deal.timelocks = all_timelocks(alloc, &deal)?;
     deal.id = deal_digest(&deal);
     Ok(deal)
@@ -93,7 +95,8 @@ pub fn make(alloc: Global, job: &Job) -> Result<Job, NoMemory>
     // Each party's seed gives it what the deal states of it.
     ensures owned { IfOk result (λ j. (p : ℕ) → p < j.deal.graph.n → OwnsKeys j p) }
 {
-    let deal = fill(alloc, copy_deal(&job.deal)?, job.seeds.as_slice())?;
+    let keys = all_keys(alloc, job.seeds.as_slice(), &job.deal)?;
+    let deal = fill(alloc, copy_deal(&job.deal)?, job.seeds.as_slice(), keys)?;
     Ok(Job {
         purpose: Purpose::Make,
         deal,

@@ -11,7 +11,7 @@ use swap_base::{Digest, Listed, NoMemory, PartyId};
 use swap_digraph::{Deal, Mode};
 
 /// The seed of a party, and zeros where it has none.
-fn seed_in(seeds: &[Option<Digest>], p: PartyId) -> Digest
+pub(crate) fn seed_in(seeds: &[Option<Digest>], p: PartyId) -> Digest
     ensures { result ≡ seed_in seeds.now p }
 {
     match seeds.get(p as usize) {

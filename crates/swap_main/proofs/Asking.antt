@@ -1,22 +1,22 @@
 -- What the program promises of a job of a number, by what a status says of what was written.
-use Rattle.std.proofs.Common.{◌≡◌, ◌≤◌, ◌⊎◌, inl, inr, ℕ, true, false, List, Option, Some, None, option_and_then, refl, sym, ap, ◌∙◌, subst}
+use Rattle.std.proofs.Common.{◌≡◌, ◌≤◌, ◌⊎◌, inl, inr, ℕ, Bool, true, false, List, Option, Some, None, option_and_then, option_map, refl, sym, ap, ◌∙◌, subst}
 use Rattle.std.specs.Io.KnownBytes.{Keeps}
 use Rattle.swap_io.specs.Causes.{AppendsProperPrefix, Rose}
 use Rattle.swap_io.specs.Handed.{AppendsPrefix}
 use Rattle.refusals.specs.declared.reason.Reason.{Reason}
 use Rattle.swap_gen.proofs.Generated.{generated_is_accepted}
-use Rattle.program_words.specs.Words.{command_of as asked_of}
+use Rattle.program_words.specs.Words.{command_of as asked_of, IsWithin as IsWithinAsked}
 use Rattle.program_words.specs.declared.command.Command.{Command as Asked}
 use Rattle.program_words.specs.declared.command.Command.TheVariants as asked
 use Rattle.program_words.proofs.Ranges.{command_within}
-use Rattle.swap_main.specs.Generated.{generated_output, Generates, IsWithin}
+use Rattle.swap_main.specs.Generated.{generated_output, Generates}
 use Rattle.swap_main.specs.Says.{IsWhole, Writes}
 use Rattle.swap_main.specs.Top.{status_of}
-use Rattle.swap_main.specs.Words.{AsksRace, built, command_of, input_of, number_of, request_of, task_of}
+use Rattle.swap_main.specs.Words.{asked_task, command_of, input_of, is_race, number_of, races, request_of, task_of, AsksRace, IsWithin}
 use Rattle.audit_command.specs.Output.{Written}
 use Rattle.swap_main.specs.declared.words.Command.{Command}
-use Rattle.swap_main.specs.declared.words.Command.TheVariants.{OfJob, Audit}
-use Rattle.swap_main.specs.declared.words.JobCommand.TheVariants.{Check, Run, Make}
+use Rattle.swap_main.specs.declared.words.Command.TheVariants.{OfJob}
+use Rattle.swap_main.specs.declared.words.JobCommand.TheVariants.{Race}
 use Rattle.swap_main.specs.declared.words.Request.{Request}
 use Rattle.swap_main.specs.declared.words.Task.{Task}
 use Rattle.swap_main.specs.declared.words.Task.TheVariants.{Input, Number}
@@ -25,51 +25,38 @@ use Rattle.swap_main.specs.declared.status.Status.TheVariants.{Done, Named, Wron
 
 -- The words' task.
 
-input_within : (command : Command) (task : Task) → Some (Input command) ≡ Some task → IsWithin task
-input_within command task e =
-    let same : Input command ≡ task = cc e in
-    subst IsWithin same tt
+task_within : (asked : Asked) → IsWithinAsked asked → IsWithin (asked_task asked)
+task_within asked.Check w = tt
+task_within (asked.Run transcript) w = tt
+task_within (asked.Race ticks transcript) w = w
+task_within asked.Audit w = tt
+task_within asked.Make w = tt
+task_within (asked.Gen seed parties events summary) w = (w.0, w.1)
 
--- the parties of a number's job are within their range
+-- the numbers of the words' task are within their ranges
 pub is_within : (words : List (List ℕ)) (task : Task) → task_of words ≡ Some task → IsWithin task
 unfolding task_of
 is_within words task e = by (asked_of words) refl e
   where
-    by : (o : Option Asked) → asked_of words ≡ o → option_and_then built o ≡ Some task → IsWithin task
+    by : (o : Option Asked) → asked_of words ≡ o → option_map asked_task o ≡ Some task → IsWithin task
     by None a e = absurd (cc e)
-    by (Some asked.Check) a e = input_within (OfJob Check) task e
-    by (Some (asked.Run transcript)) a e = input_within (OfJob (Run transcript)) task e
-    by (Some (asked.Race ticks transcript)) a e = absurd (cc e)
-    by (Some asked.Audit) a e = input_within Audit task e
-    by (Some asked.Make) a e = input_within (OfJob Make) task e
-    by (Some (asked.Gen seed parties events summary)) a e =
-        let w = command_within words (asked.Gen seed parties events summary) a in
-        let same : Number (record { seed = seed; parties = parties; events = events; summary = summary }) ≡ task = cc e in
-        subst IsWithin same (w.0, w.1)
+    by (Some x) a e =
+        let same : asked_task x ≡ task = cc e in
+        subst IsWithin same (task_within x (command_within words x a))
 
 -- words that aren't well formed ask for nothing
 pub no_task : (words : List (List ℕ)) → asked_of words ≡ None → task_of words ≡ None
 unfolding task_of
-no_task words none = ap (λ (o : Option Asked). option_and_then built o) none
-
--- nor does a race
-pub race_no_task : (words : List (List ℕ)) → AsksRace words → task_of words ≡ None
-unfolding task_of
-race_no_task words race = ap (λ (o : Option Asked). option_and_then built o) race.asks
+no_task words none = ap (λ (o : Option Asked). option_map asked_task o) none
 
 -- and no others
-pub no_words : (words : List (List ℕ)) → ¬ AsksRace words → task_of words ≡ None → asked_of words ≡ None
+pub no_words : (words : List (List ℕ)) → task_of words ≡ None → asked_of words ≡ None
 unfolding task_of
-no_words words calm none = by (asked_of words) refl none
+no_words words none = by (asked_of words) refl none
   where
-    by : (o : Option Asked) → asked_of words ≡ o → option_and_then built o ≡ None → asked_of words ≡ None
+    by : (o : Option Asked) → asked_of words ≡ o → option_map asked_task o ≡ None → asked_of words ≡ None
     by None a e = a
-    by (Some asked.Check) a e = absurd (cc e)
-    by (Some (asked.Run transcript)) a e = absurd (cc e)
-    by (Some (asked.Race ticks transcript)) a e = absurd (calm (record { ticks = ticks; transcript = transcript; asks = a }))
-    by (Some asked.Audit) a e = absurd (cc e)
-    by (Some asked.Make) a e = absurd (cc e)
-    by (Some (asked.Gen seed parties events summary)) a e = absurd (cc e)
+    by (Some x) a e = absurd (cc e)
 
 pub command_is : (words : List (List ℕ)) (command : Command) → task_of words ≡ Some (Input command) → command_of words ≡ Some command
 command_is words command e = ap (λ (o : Option Task). option_and_then input_of o) e
@@ -85,6 +72,25 @@ no_command words request e = go (task_of words) e
     go None e = absurd (cc e)
     go (Some (Input command)) e = absurd (cc e)
     go (Some (Number other)) e = refl
+
+-- a race is asked for where the words' task is one
+pub is_a_race : (words : List (List ℕ)) (task : Task) (ticks : ℕ) (transcript : Bool) → task_of words ≡ Some task
+    → task ≡ Input (OfJob (Race ticks transcript)) → AsksRace words
+is_a_race words task ticks transcript e is = record {
+  ticks = ticks;
+  transcript = transcript;
+  asks = command_is words (OfJob (Race ticks transcript)) (e ∙ ap (λ (t : Task). Some t) is);
+}
+
+-- and no other is
+pub is_no_race : (words : List (List ℕ)) (task : Task) → task_of words ≡ Some task → races task ≡ false → ¬ AsksRace words
+is_no_race words task e r race = by task e r
+  where
+    by : (task : Task) → task_of words ≡ Some task → races task ≡ false → ⊥
+    by (Input command) e r =
+        let same : command ≡ OfJob (Race race.ticks race.transcript) = cc (sym (command_is words command e) ∙ race.asks) in
+        cc (sym r ∙ ap is_race same)
+    by (Number request) e r = cc (sym (no_command words request (request_is words request e)) ∙ race.asks)
 
 -- What a status says.
 

@@ -1,5 +1,5 @@
 -- What the program promises, by what a command's status says.
-use Rattle.std.proofs.Common.{◌≡◌, ◌<◌, ◌≤◌, ◌+◌, ◌⊎◌, inl, inr, ℕ, true, false, List, length, Option, Some, None, Result, Ok, Err, refl}
+use Rattle.std.proofs.Common.{◌≡◌, ◌<◌, ◌≤◌, ◌+◌, ◌⊎◌, inl, inr, ℕ, Bool, true, false, List, length, Option, Some, None, Result, Ok, Err, refl}
 use Rattle.std.proofs.Common.{sym, ap, ◌∙◌, subst, arith, length-append}
 use Rattle.std.specs.Io.KnownBytes.{Keeps}
 use Rattle.swap_io.specs.Causes.{Rose, ConsumesSome}
@@ -7,150 +7,214 @@ use Rattle.refusals.specs.declared.reason.Reason.{Reason}
 use Rattle.swap_main.specs.Input.{limit}
 use Rattle.swap_main.specs.Words.{command_of}
 use Rattle.audit_command.specs.Output.{Written}
-use Rattle.swap_main.specs.Output.{output_of, names_of}
+use Rattle.swap_main.specs.Output.{Chance, no_chance, output_by, output_of, names_of}
 use Rattle.swap_main.specs.Says.{HasRead, Says}
-use Rattle.swap_main.specs.Top.{AsksFairRun, Read, IsDone, IsCut, IsRefused, IsShort, status_of}
+use Rattle.swap_main.specs.Top.{AsksFairRace, AsksFairRun, Read, IsDone, IsCut, IsRefused, IsShort, IsStatusOf}
 use Rattle.swap_main.specs.declared.words.Command.{Command}
 use Rattle.swap_main.specs.declared.status.Status.{Status}
 use Rattle.swap_main.specs.declared.status.Status.TheVariants.{Done, Named, WrongWords, Refused, ReadFault, WriteFault, NoMemory, TooLong}
-use Rattle.swap_main.proofs.Fairly.{all_read, is_not_named, is_not_refused}
+use Rattle.swap_world.specs.Gone.{Gives}
+use Rattle.swap_main.specs.Promised.{AsPromised}
+use Rattle.swap_main.proofs.Fairly.{all_read, fails_by, is_not_named, is_not_refused, race_is_not_named, race_is_not_refused}
 
--- more bytes can't be taken than are left
-past_all : (left left' : Option (List ℕ)) (input : List ℕ) (n : ℕ) → left ≡ Some input → length input < n → ¬ ConsumesSome left left' n
-past_all None left' input n told short some = cc told
-past_all (Some xs) None input n told short some = some.2
-past_all (Some xs) (Some ys) input n told short some =
-    let e : ◌≡◌ {A = List ℕ} xs input = cc told in
-    absurd (omega (arith, short, some.1, ap length e, ap length some.2, length-append some.0 ys))
+module _ (has : List ℕ → Bool) where
+  -- more bytes can't be taken than are left
+  past_all : (left left' : Option (List ℕ)) (input : List ℕ) (n : ℕ) → left ≡ Some input → length input < n → ¬ ConsumesSome left left' n
+  past_all None left' input n told short some = cc told
+  past_all (Some xs) None input n told short some = some.2
+  past_all (Some xs) (Some ys) input n told short some =
+      let e : ◌≡◌ {A = List ℕ} xs input = cc told in
+      absurd (omega (arith, short, some.1, ap length e, ap length some.2, length-append some.0 ys))
 
-module _ (words : List (List ℕ)) (left left' : Option (List ℕ)) (n m : ℕ) (taken taken' : Option (List ℕ)) (p q : ℕ) (command : Command)
-    (asked : command_of words ≡ Some command) where
-  abbrev Said : Status → Type 0
-  Said s = Says command left left' n m taken taken' p q s
+  module _ (gives : Gives) (words : List (List ℕ)) (left left' : Option (List ℕ)) (n m : ℕ) (taken taken' : Option (List ℕ)) (p q : ℕ)
+      (command : Command) (asked : command_of words ≡ Some command) where
+    abbrev Said : Status → Type 0
+    Said s = Says has gives command left left' n m taken taken' p q s
 
-  abbrev read_by : (output : Result Written Reason) → HasRead command left left' output → Read words left left' output
-  read_by output r = record { command = command; asked = asked; input = r.input; taken = r.taken; ended = r.ended; within = r.within; gives = r.gives }
+    abbrev read_by : (a : Chance) (output : Result Written Reason) → HasRead has a command left left' output → Read has a words left left' output
+    read_by a output r = record { command = command; asked = asked; input = r.input; taken = r.taken; ended = r.ended; within = r.within; gives = r.gives }
 
-  pub done : (s : Status) → Said s → s ≡ Done → IsDone words left left' taken taken' false
-  done s h e =
-      let o = subst Said e h in
-      record { output = o.output; read = read_by (Ok o.output) o.read; written = o.written.0; findings = o.written.1; promised = o.promised }
+    pub done : (s : Status) → Said s → s ≡ Done → IsDone has gives words left left' taken taken' false
+    done s h e =
+        let o = subst Said e h in
+        record {
+          chance = o.chance;
+          output = o.output;
+          read = read_by o.chance (Ok o.output) o.read;
+          written = o.written.0;
+          findings = o.written.1;
+          promised = o.promised;
+        }
 
-  pub named : (s : Status) → Said s → s ≡ Named → IsDone words left left' taken taken' true
-  named s h e =
-      let o = subst Said e h in
-      record { output = o.output; read = read_by (Ok o.output) o.read; written = o.written.0; findings = o.written.1; promised = o.promised }
+    pub named : (s : Status) → Said s → s ≡ Named → IsDone has gives words left left' taken taken' true
+    named s h e =
+        let o = subst Said e h in
+        record {
+          chance = o.chance;
+          output = o.output;
+          read = read_by o.chance (Ok o.output) o.read;
+          written = o.written.0;
+          findings = o.written.1;
+          promised = o.promised;
+        }
 
-  pub refused : (s : Status) → Said s → (reason : Reason) (names : List (List ℕ)) → s ≡ Refused reason names → IsRefused words left left' reason names
-  refused s h reason names e =
-      let o = subst Said e h in
-      record { read = read_by (Err reason) o.0.read; named = o.0.named }
+    pub refused : (s : Status) → Said s → (reason : Reason) (names : List (List ℕ)) → s ≡ Refused reason names → IsRefused has words left left' reason names
+    refused s h reason names e =
+        let o = subst Said e h in
+        record { read = read_by no_chance (Err reason) o.0.read; named = o.0.named }
 
-  pub read_fault : (s : Status) → Said s → s ≡ ReadFault → Rose n m
-  read_fault s h e = let o = subst Said e h in o.0
+    pub read_fault : (s : Status) → Said s → s ≡ ReadFault → Rose n m
+    read_fault s h e = let o = subst Said e h in o.0
 
-  pub write_fault : (s : Status) → Said s → s ≡ WriteFault → Rose p q
-  write_fault s h e = let o = subst Said e h in o.0
+    pub write_fault : (s : Status) → Said s → s ≡ WriteFault → Rose p q
+    write_fault s h e = let o = subst Said e h in o.0
 
-  pub cut : (s : Status) → Said s → s ≡ WriteFault → IsCut words left left' taken taken'
-  cut s h e =
-      let o = subst Said e h in
-      record { output = o.1.output; read = read_by (Ok o.1.output) o.1.read; prefix = o.1.written }
+    pub cut : (s : Status) → Said s → s ≡ WriteFault → IsCut has gives words left left' taken taken'
+    cut s h e =
+        let o = subst Said e h in
+        record {
+          chance = o.1.chance;
+          output = o.1.output;
+          read = read_by o.1.chance (Ok o.1.output) o.1.read;
+          promised = o.1.promised;
+          prefix = o.1.written;
+        }
 
-  pub too_long : (s : Status) → Said s → s ≡ TooLong → ConsumesSome left left' (limit + 1)
-  too_long s h e = let o = subst Said e h in o.0
+    pub too_long : (s : Status) → Said s → s ≡ TooLong → ConsumesSome left left' (limit + 1)
+    too_long s h e = let o = subst Said e h in o.0
 
-  pub short : (s : Status) → Said s → s ≡ NoMemory → Keeps taken taken' ⊎ IsShort words left left' taken taken'
-  short s h e = by (subst Said e h)
-    where
-      by : Said NoMemory → Keeps taken taken' ⊎ IsShort words left left' taken taken'
-      by (inl k) = inl k
-      by (inr o) = inr (record { output = o.output; read = read_by (Ok o.output) o.read; prefix = o.written })
+    pub short : (s : Status) → Said s → s ≡ NoMemory → Keeps taken taken' ⊎ IsShort has gives words left left' taken taken'
+    short s h e = by (subst Said e h)
+      where
+        by : Said NoMemory → Keeps taken taken' ⊎ IsShort has gives words left left' taken taken'
+        by (inl k) = inl k
+        by (inr o) = inr (record {
+          chance = o.chance;
+          output = o.output;
+          read = read_by o.chance (Ok o.output) o.read;
+          promised = o.promised;
+          prefix = o.written;
+        })
 
-  pub silent : (s : Status) → Said s → ¬ (s ≡ Done) → ¬ (s ≡ Named) → ¬ (s ≡ WriteFault) → ¬ (s ≡ NoMemory) → Keeps taken taken'
-  silent Done h d c w f = absurd (d refl)
-  silent Named h d c w f = absurd (c refl)
-  silent WrongWords h d c w f = absurd h
-  silent (Refused reason names) h d c w f = h.1
-  silent ReadFault h d c w f = h.1
-  silent WriteFault h d c w f = absurd (w refl)
-  silent NoMemory h d c w f = absurd (f refl)
-  silent TooLong h d c w f = h.1
+    pub silent : (s : Status) → Said s → ¬ (s ≡ Done) → ¬ (s ≡ Named) → ¬ (s ≡ WriteFault) → ¬ (s ≡ NoMemory) → Keeps taken taken'
+    silent Done h d c w f = absurd (d refl)
+    silent Named h d c w f = absurd (c refl)
+    silent WrongWords h d c w f = absurd h
+    silent (Refused reason names) h d c w f = h.1
+    silent ReadFault h d c w f = h.1
+    silent WriteFault h d c w f = absurd (w refl)
+    silent NoMemory h d c w f = absurd (f refl)
+    silent TooLong h d c w f = h.1
 
-  pub not_wrong_words : (s : Status) → Said s → ¬ (s ≡ WrongWords)
-  not_wrong_words s h e = subst Said e h
+    pub not_wrong_words : (s : Status) → Said s → ¬ (s ≡ WrongWords)
+    not_wrong_words s h e = subst Said e h
 
-  -- where the source tells its bytes
+    -- where the source tells its bytes
 
-  same_input : (output : Result Written Reason) (r : HasRead command left left' output) (input : List ℕ) → left ≡ Some input → r.input ≡ input
-  same_input output r input told = all_read left left' input r.input told r.taken r.ended
+    same_input : (a : Chance) (output : Result Written Reason) (r : HasRead has a command left left' output) (input : List ℕ) → left ≡ Some input
+        → r.input ≡ input
+    same_input a output r input told = all_read has left left' input r.input told r.taken r.ended
 
-  same_command : (other : Command) → command_of words ≡ Some other → command ≡ other
-  same_command other e = cc (sym asked ∙ e)
+    same_command : (other : Command) → command_of words ≡ Some other → command ≡ other
+    same_command other e = cc (sym asked ∙ e)
 
-  -- what was read was no more than may be
-  not_long : (output : Result Written Reason) (r : HasRead command left left' output) (input : List ℕ) → left ≡ Some input → limit < length input → ⊥
-  not_long output r input told over = absurd (omega (arith, over, r.within, ap length (same_input output r input told)))
+    -- what was read was no more than may be
+    not_long : (a : Chance) (output : Result Written Reason) (r : HasRead has a command left left' output) (input : List ℕ) → left ≡ Some input
+        → limit < length input → ⊥
+    not_long a output r input told over = absurd (omega (arith, over, r.within, ap length (same_input a output r input told)))
 
-  pub long : (s : Status) → Said s → (other : Command) (input : List ℕ) → command_of words ≡ Some other → left ≡ Some input → limit < length input
-      → ¬ Rose n m → (s ≡ TooLong) ⊎ (s ≡ NoMemory)
-  long Done h other input is told over calm = absurd (not_long (Ok h.output) h.read input told over)
-  long Named h other input is told over calm = absurd (not_long (Ok h.output) h.read input told over)
-  long WrongWords h other input is told over calm = absurd h
-  long (Refused reason names) h other input is told over calm = absurd (not_long (Err reason) h.0.read input told over)
-  long ReadFault h other input is told over calm = absurd (calm h.0)
-  long WriteFault h other input is told over calm = absurd (not_long (Ok h.1.output) h.1.read input told over)
-  long NoMemory h other input is told over calm = inr refl
-  long TooLong h other input is told over calm = inl refl
+    pub long : (s : Status) → Said s → (other : Command) (input : List ℕ) → command_of words ≡ Some other → left ≡ Some input → limit < length input
+        → ¬ Rose n m → (s ≡ TooLong) ⊎ (s ≡ NoMemory)
+    long Done h other input is told over calm = absurd (not_long h.chance (Ok h.output) h.read input told over)
+    long Named h other input is told over calm = absurd (not_long h.chance (Ok h.output) h.read input told over)
+    long WrongWords h other input is told over calm = absurd h
+    long (Refused reason names) h other input is told over calm = absurd (not_long no_chance (Err reason) h.0.read input told over)
+    long ReadFault h other input is told over calm = absurd (calm h.0)
+    long WriteFault h other input is told over calm = absurd (not_long h.1.chance (Ok h.1.output) h.1.read input told over)
+    long NoMemory h other input is told over calm = inr refl
+    long TooLong h other input is told over calm = inl refl
 
-  -- what the command gives for the input that the source tells
-  given : (output : Result Written Reason) (r : HasRead command left left' output) (other : Command) (input : List ℕ) → command_of words ≡ Some other
-      → left ≡ Some input → output_of other input ≡ output
-  given output r other input is told =
-      ap (λ (c : Command). output_of c input) (sym (same_command other is)) ∙ ap (output_of command) (sym (same_input output r input told)) ∙ r.gives
+    -- what the command gives for the input that the source tells
+    given : (a : Chance) (output : Result Written Reason) (r : HasRead has a command left left' output) (other : Command) (input : List ℕ)
+        → command_of words ≡ Some other → left ≡ Some input → output_by has a other input ≡ output
+    given a output r other input is told =
+        ap (λ (c : Command). output_by has a c input) (sym (same_command other is))
+        ∙ ap (output_by has a command) (sym (same_input a output r input told)) ∙ r.gives
 
-  pub bad : (s : Status) → Said s → (other : Command) (input : List ℕ) (reason : Reason) → command_of words ≡ Some other → left ≡ Some input
-      → length input ≤ limit → output_of other input ≡ Err reason → ¬ Rose n m
-      → (s ≡ Refused reason (names_of other input)) ⊎ (s ≡ NoMemory)
-  bad Done h other input reason is told within against calm = absurd (cc (sym (given (Ok h.output) h.read other input is told) ∙ against))
-  bad Named h other input reason is told within against calm = absurd (cc (sym (given (Ok h.output) h.read other input is told) ∙ against))
-  bad WrongWords h other input reason is told within against calm = absurd h
-  bad (Refused r names) h other input reason is told within against calm =
-      let same : r ≡ reason = cc (sym (given (Err r) h.0.read other input is told) ∙ against) in
-      let called : names ≡ names_of other input = h.0.named ∙ ap (names_of command) (same_input (Err r) h.0.read input told)
-      ∙ ap (λ (c : Command). names_of c input) (same_command other is) in
-      inl (rw (same, called) refl)
-  bad ReadFault h other input reason is told within against calm = absurd (calm h.0)
-  bad WriteFault h other input reason is told within against calm = absurd (cc (sym (given (Ok h.1.output) h.1.read other input is told) ∙ against))
-  bad NoMemory h other input reason is told within against calm = inr refl
-  bad TooLong h other input reason is told within against calm = absurd (past_all left left' input (limit + 1) told (omega (arith, within)) h.0)
+    -- a promise of what was read is one of what the source tells
+    kept : (a : Chance) (output : Written) (r : HasRead has a command left left' (Ok output)) (other : Command) (input : List ℕ)
+        → command_of words ≡ Some other
+        → left ≡ Some input → AsPromised has gives a command r.input output → AsPromised has gives a other input output
+    kept a output r other input is told k =
+        subst (λ (c : Command). AsPromised has gives a c input output) (same_command other is)
+        (subst (λ (xs : List ℕ). AsPromised has gives a command xs output) (same_input a (Ok output) r input told) k)
 
-  pub good : (s : Status) → Said s → (other : Command) (input : List ℕ) (output : Written) → command_of words ≡ Some other → left ≡ Some input
-      → length input ≤ limit → output_of other input ≡ Ok output → ¬ Rose n m → ¬ Rose p q
-      → (s ≡ status_of output.found) ⊎ (s ≡ NoMemory)
-  good Done h other input output is told within gives calm still =
-      let same : h.output ≡ output = cc (sym (given (Ok h.output) h.read other input is told) ∙ gives) in
-      let none : output.found ≡ false = ap (λ (w : Written). w.found) (sym same) ∙ h.written.1 in
-      inl (rw none refl)
-  good Named h other input output is told within gives calm still =
-      let same : h.output ≡ output = cc (sym (given (Ok h.output) h.read other input is told) ∙ gives) in
-      let some : output.found ≡ true = ap (λ (w : Written). w.found) (sym same) ∙ h.written.1 in
-      inl (rw some refl)
-  good WrongWords h other input output is told within gives calm still = absurd h
-  good (Refused r names) h other input output is told within gives calm still = absurd (cc (sym (given (Err r) h.0.read other input is told) ∙ gives))
-  good ReadFault h other input output is told within gives calm still = absurd (calm h.0)
-  good WriteFault h other input output is told within gives calm still = absurd (still h.0)
-  good NoMemory h other input output is told within gives calm still = inr refl
-  good TooLong h other input output is told within gives calm still = absurd (past_all left left' input (limit + 1) told (omega (arith, within)) h.0)
+    pub bad : (s : Status) → Said s → (other : Command) (input : List ℕ) (reason : Reason) → command_of words ≡ Some other → left ≡ Some input
+        → length input ≤ limit → output_of has other input ≡ Err reason → ¬ Rose n m
+        → (s ≡ Refused reason (names_of has other input)) ⊎ (s ≡ NoMemory)
+    bad Done h other input reason is told within against calm =
+        absurd (cc (sym (given h.chance (Ok h.output) h.read other input is told) ∙ fails_by has h.chance other input reason against))
+    bad Named h other input reason is told within against calm =
+        absurd (cc (sym (given h.chance (Ok h.output) h.read other input is told) ∙ fails_by has h.chance other input reason against))
+    bad WrongWords h other input reason is told within against calm = absurd h
+    bad (Refused r names) h other input reason is told within against calm =
+        let same : r ≡ reason = cc (sym (given no_chance (Err r) h.0.read other input is told) ∙ against) in
+        let called : names ≡ names_of has other input = h.0.named ∙ ap (names_of has command) (same_input no_chance (Err r) h.0.read input told)
+        ∙ ap (λ (c : Command). names_of has c input) (same_command other is) in
+        inl (rw (same, called) refl)
+    bad ReadFault h other input reason is told within against calm = absurd (calm h.0)
+    bad WriteFault h other input reason is told within against calm =
+        absurd (cc (sym (given h.1.chance (Ok h.1.output) h.1.read other input is told) ∙ fails_by has h.1.chance other input reason against))
+    bad NoMemory h other input reason is told within against calm = inr refl
+    bad TooLong h other input reason is told within against calm = absurd (past_all left left' input (limit + 1) told (omega (arith, within)) h.0)
 
-  pub fair : (s : Status) → Said s → AsksFairRun words left → ¬ Rose n m → ¬ Rose p q → (s ≡ Done) ⊎ (s ≡ NoMemory)
-  fair Done h a calm still = inl refl
-  fair Named h a calm still =
-      absurd (cc (sym h.written.1 ∙ is_not_named words left left' command h.read.input asked h.read.taken h.read.ended a h.output h.promised))
-  fair WrongWords h a calm still = absurd h
-  fair (Refused reason names) h a calm still = absurd (is_not_refused words left left' command h.0.read.input asked h.0.read.taken h.0.read.ended a reason
-      h.0.read.gives)
-  fair ReadFault h a calm still = absurd (calm h.0)
-  fair WriteFault h a calm still = absurd (still h.0)
-  fair NoMemory h a calm still = inr refl
-  fair TooLong h a calm still = absurd (past_all left left' a.input (limit + 1) a.told (omega (arith, a.within)) h.0)
+    pub good : (s : Status) → Said s → (other : Command) (input : List ℕ) (output : Written) → command_of words ≡ Some other → left ≡ Some input
+        → length input ≤ limit → output_of has other input ≡ Ok output → ¬ Rose n m → ¬ Rose p q
+        → IsStatusOf has gives other input s ⊎ (s ≡ NoMemory)
+    good Done h other input output is told within made calm still = inl (record {
+      chance = h.chance;
+      output = h.output;
+      made = given h.chance (Ok h.output) h.read other input is told;
+      promised = kept h.chance h.output h.read other input is told h.promised;
+      status = rw h.written.1 refl;
+    })
+    good Named h other input output is told within made calm still = inl (record {
+      chance = h.chance;
+      output = h.output;
+      made = given h.chance (Ok h.output) h.read other input is told;
+      promised = kept h.chance h.output h.read other input is told h.promised;
+      status = rw h.written.1 refl;
+    })
+    good WrongWords h other input output is told within made calm still = absurd h
+    good (Refused r names) h other input output is told within made calm still =
+        absurd (cc (sym (given no_chance (Err r) h.0.read other input is told) ∙ made))
+    good ReadFault h other input output is told within made calm still = absurd (calm h.0)
+    good WriteFault h other input output is told within made calm still = absurd (still h.0)
+    good NoMemory h other input output is told within made calm still = inr refl
+    good TooLong h other input output is told within made calm still = absurd (past_all left left' input (limit + 1) told (omega (arith, within)) h.0)
+
+    pub fair : (s : Status) → Said s → AsksFairRun has words left → ¬ Rose n m → ¬ Rose p q → (s ≡ Done) ⊎ (s ≡ NoMemory)
+    fair Done h a calm still = inl refl
+    fair Named h a calm still =
+        absurd (cc (sym h.written.1 ∙ is_not_named has gives h.chance words left left' command h.read.input asked h.read.taken h.read.ended a h.output
+        h.promised))
+    fair WrongWords h a calm still = absurd h
+    fair (Refused reason names) h a calm still = absurd (is_not_refused has words left left' command h.0.read.input asked h.0.read.taken h.0.read.ended a reason
+        h.0.read.gives)
+    fair ReadFault h a calm still = absurd (calm h.0)
+    fair WriteFault h a calm still = absurd (still h.0)
+    fair NoMemory h a calm still = inr refl
+    fair TooLong h a calm still = absurd (past_all left left' a.input (limit + 1) a.told (omega (arith, a.within)) h.0)
+
+    pub fair_race : (s : Status) → Said s → AsksFairRace has words left → ¬ Rose n m → ¬ Rose p q → (s ≡ Done) ⊎ (s ≡ NoMemory)
+    fair_race Done h a calm still = inl refl
+    fair_race Named h a calm still =
+        absurd (cc (sym h.written.1 ∙ race_is_not_named has gives h.chance words left left' command h.read.input asked h.read.taken h.read.ended a h.output
+        h.promised))
+    fair_race WrongWords h a calm still = absurd h
+    fair_race (Refused reason names) h a calm still = absurd (race_is_not_refused has words left left' command h.0.read.input asked h.0.read.taken h.0.read.ended a reason
+        h.0.read.gives)
+    fair_race ReadFault h a calm still = absurd (calm h.0)
+    fair_race WriteFault h a calm still = absurd (still h.0)
+    fair_race NoMemory h a calm still = inr refl
+    fair_race TooLong h a calm still = absurd (past_all left left' a.input (limit + 1) a.told (omega (arith, a.within)) h.0)

@@ -1,5 +1,5 @@
 -- A fair run of parties that all conform is refused for no reason, and nothing is found of it.
-use Rattle.std.proofs.Common.{◌≡◌, ◌==◌, ℕ, Bool, false, not, List, [], ◌++◌, length, Option, Some, None, Result, Ok, Err, sym, ap, ◌∙◌}
+use Rattle.std.proofs.Common.{◌≤◌, ◌*◌, ◌≡◌, ◌==◌, ℕ, Bool, false, not, List, [], ◌++◌, length, Option, Some, None, Result, Ok, Err, sym, ap, ◌∙◌}
 use Rattle.std.proofs.Common.{subst, append-nil}
 use Rattle.std.specs.Io.KnownBytes.{Consumes, IsAtEnd}
 use Rattle.deviator_script.specs.declared.event.Event.{Event}
@@ -12,59 +12,129 @@ use Rattle.refusals.specs.declared.reason.Reason.{Reason}
 use Rattle.swap_offer.specs.Job.{job_of}
 use Rattle.audit_command.specs.Output.{Written}
 use Rattle.swap_main.specs.declared.words.Command.{Command}
-use Rattle.swap_main.specs.declared.words.Command.TheVariants.{OfJob}
-use Rattle.swap_main.specs.declared.words.JobCommand.TheVariants.{Run}
+use Rattle.swap_run.specs.Asked.{Answers}
+use Rattle.ledger_core.specs.Book.{Histories}
+use Rattle.swap_world.specs.Gone.{Gives}
+use Rattle.swap_main.specs.declared.words.Command.TheVariants.{OfJob, Audit}
+use Rattle.swap_main.specs.declared.words.JobCommand.TheVariants.{Check, Run, Race, Make}
 use Rattle.swap_main.specs.Words.{command_of}
 use Rattle.swap_offer.specs.Lines.{lines_of, filled_lines}
-use Rattle.swap_main.specs.Output.{book_of, output_for, output_of, report_for, reported}
-use Rattle.swap_main.specs.Promised.{AsPromised, IsRun}
-use Rattle.swap_main.specs.Top.{AsksFairRun}
+use Rattle.swap_main.specs.Output.{Chance, book_of, no_chance, output_by, output_for, output_of, report_for, reported}
+use Rattle.swap_main.specs.Promised.{AsPromised, IsRace, IsRun}
+use Rattle.swap_main.specs.Top.{AsksFairRace, AsksFairRun}
 
--- all that was left was read
-pub all_read : (left left' : Option (List ℕ)) (input items : List ℕ) → left ≡ Some input → Consumes left left' items → IsAtEnd left' → items ≡ input
-all_read None left' input items told taken end = absurd (cc told)
-all_read (Some xs) None input items told taken end = absurd taken
-all_read (Some xs) (Some ys) input items told taken end =
-    let e : xs ≡ input = cc told in
-    sym (append-nil items) ∙ ap (λ (zs : List ℕ). items ++ zs) (sym end) ∙ sym taken ∙ e
+module _ (has : List ℕ → Bool) where
+  -- all that was left was read
+  pub all_read : (left left' : Option (List ℕ)) (input items : List ℕ) → left ≡ Some input → Consumes left left' items → IsAtEnd left' → items ≡ input
+  all_read None left' input items told taken end = absurd (cc told)
+  all_read (Some xs) None input items told taken end = absurd taken
+  all_read (Some xs) (Some ys) input items told taken end =
+      let e : xs ≡ input = cc told in
+      sym (append-nil items) ∙ ap (λ (zs : List ℕ). items ++ zs) (sym end) ∙ sym taken ∙ e
 
--- nothing is told of as found where nothing is
-told_found : (transcript : Bool) (job : Job) (events : List Event) (output : Written) → output ≡ reported transcript job (book_of job events)
-    → (report_for job (book_of job events)).findings ≡ [] → output.found ≡ false
-unfolding reported
-told_found transcript job events output shown none = ap (λ (w : Written). w.found) shown ∙ ap (λ (l : List Finding). not (length l == 0)) none
+  -- nothing is told of as found where nothing is
+  told_found : (transcript : Bool) (job : Job) (b : Histories) (output : Written) → output ≡ reported transcript job b → (report_for job b).findings ≡ []
+      → output.found ≡ false
+  unfolding reported
+  told_found transcript job b output shown none = ap (λ (w : Written). w.found) shown ∙ ap (λ (l : List Finding). not (length l == 0)) none
 
-same_job : (read : Result (Job × List Event) Reason) (job other : Job) (events more : List Event) → read ≡ Ok (job, events) → read ≡ Ok (other, more)
-    → (job ≡ other) × (events ≡ more)
-same_job read job other events more e f =
-    let h : ◌≡◌ {A = Result (Job × List Event) Reason} (Ok (job, events)) (Ok (other, more)) = sym e ∙ f in
-    let p : ◌≡◌ {A = Job × List Event} (job, events) (other, more) = cc h in
-    (ap (λ (x : Job × List Event). x.0) p, ap (λ (x : Job × List Event). x.1) p)
+  same_job : (read : Result (Job × List Event) Reason) (job other : Job) (events more : List Event) → read ≡ Ok (job, events) → read ≡ Ok (other, more)
+      → (job ≡ other) × (events ≡ more)
+  same_job read job other events more e f =
+      let h : ◌≡◌ {A = Result (Job × List Event) Reason} (Ok (job, events)) (Ok (other, more)) = sym e ∙ f in
+      let p : ◌≡◌ {A = Job × List Event} (job, events) (other, more) = cc h in
+      (ap (λ (x : Job × List Event). x.0) p, ap (λ (x : Job × List Event). x.1) p)
 
-nothing_found : (transcript : Bool) (job : Job) (read : Result (Job × List Event) Reason) (output : Written) → read ≡ Ok (job, []) → job.finish ≡ Fair
-    → AllAreConforming job.deal job.conforming → IsRun transcript read output → output.found ≡ false
-nothing_found transcript job read output r fair all p =
-    let s = same_job read p.job job p.events [] p.is_read r in
-    told_found transcript p.job p.events output p.shown (p.fair (ap (λ (j : Job). j.finish) s.0 ∙ fair) s.1
-    (subst (λ (j : Job). AllAreConforming j.deal j.conforming) (sym s.0) all))
+  nothing_found : (gives : Gives) (a : Answers) (transcript : Bool) (job : Job) (read : Result (Job × List Event) Reason) (output : Written)
+      → read ≡ Ok (job, []) → job.finish ≡ Fair
+      → AllAreConforming job.deal job.conforming → IsRun gives a transcript read output → output.found ≡ false
+  nothing_found gives a transcript job read output r fair all p =
+      let s = same_job read p.job job p.events [] p.is_read r in
+      told_found transcript p.job (book_of a p.job p.events) output p.shown (p.fair (ap (λ (j : Job). j.finish) s.0 ∙ fair) s.1
+      (subst (λ (j : Job). AllAreConforming j.deal j.conforming) (sym s.0) all))
 
-module _ (words : List (List ℕ)) (left left' : Option (List ℕ)) (command : Command) (items : List ℕ) (asked : command_of words ≡ Some command)
-    (taken : Consumes left left' items) (end : IsAtEnd left') (a : AsksFairRun words left) where
-  is_a_run : command ≡ OfJob (Run a.transcript)
-  is_a_run = cc (sym asked ∙ a.asked)
+  module _ (words : List (List ℕ)) (left left' : Option (List ℕ)) (command : Command) (items : List ℕ) (asked : command_of words ≡ Some command)
+      (taken : Consumes left left' items) (end : IsAtEnd left') (a : AsksFairRun has words left) where
+    is_a_run : command ≡ OfJob (Run a.transcript)
+    is_a_run = cc (sym asked ∙ a.asked)
 
-  is_read : job_of purposes.Run items ≡ Ok (a.job, [])
-  is_read = ap (λ (xs : List ℕ). job_of purposes.Run xs) (all_read left left' a.input items a.told taken end) ∙ a.read
+    is_read : job_of has purposes.Run items ≡ Ok (a.job, [])
+    is_read = ap (λ (xs : List ℕ). job_of has purposes.Run xs) (all_read left left' a.input items a.told taken end) ∙ a.read
 
-  pub is_not_refused : (reason : Reason) → ¬ (output_of command items ≡ Err reason)
-  unfolding output_of
-  is_not_refused reason e =
-      let r : ◌≡◌ {A = Result Written Reason} (output_for (Run a.transcript) (filled_lines 1 (lines_of items)) (job_of purposes.Run items)) (Err reason) =
-      ap (λ (c : Command). output_of c items) (sym is_a_run) ∙ e in
-      let w : ◌≡◌ {A = Result Written Reason} (output_for (Run a.transcript) (filled_lines 1 (lines_of items)) (Ok (a.job, []))) (Err reason) =
-      ap (λ (q : Result (Job × List Event) Reason). output_for (Run a.transcript) (filled_lines 1 (lines_of items)) q) (sym is_read) ∙ r in
-      cc w
+    pub is_not_refused : (reason : Reason) → ¬ (output_of has command items ≡ Err reason)
+    unfolding output_by
+    is_not_refused reason e =
+        let r : ◌≡◌ {A = Result Written Reason} (output_for no_chance (Run a.transcript) (filled_lines 1 (lines_of items))
+        (job_of has purposes.Run items)) (Err reason) =
+        ap (λ (c : Command). output_of has c items) (sym is_a_run) ∙ e in
+        let w : ◌≡◌ {A = Result Written Reason} (output_for no_chance (Run a.transcript) (filled_lines 1 (lines_of items)) (Ok (a.job, []))) (Err reason) =
+        ap (λ (q : Result (Job × List Event) Reason). output_for no_chance (Run a.transcript) (filled_lines 1 (lines_of items)) q) (sym is_read) ∙ r in
+        cc w
 
-  pub is_not_named : (output : Written) → AsPromised command items output → output.found ≡ false
-  is_not_named output p = nothing_found a.transcript a.job (job_of purposes.Run items) output is_read a.finish a.conforming
-      (subst (λ (c : Command). AsPromised c items output) is_a_run p)
+  module _ (gives : Gives) (chance : Chance) (words : List (List ℕ)) (left left' : Option (List ℕ)) (command : Command) (items : List ℕ)
+      (asked : command_of words ≡ Some command) (taken : Consumes left left' items) (end : IsAtEnd left') (a : AsksFairRun has words left) where
+    pub is_not_named : (output : Written) → AsPromised has gives chance command items output → output.found ≡ false
+    is_not_named output p =
+        nothing_found gives chance.answers a.transcript a.job (job_of has purposes.Run items) output (is_read words left left' command items asked taken end a)
+        a.finish a.conforming
+        (subst (λ (c : Command). AsPromised has gives chance c items output) (is_a_run words left left' command items asked taken end a) p)
+
+  -- A race of parties that all conform.
+
+  nothing_found_raced : (gives : Gives) (b : Histories) (ticks : ℕ) (transcript : Bool) (job : Job) (read : Result (Job × List Event) Reason)
+      (output : Written) → read ≡ Ok (job, []) → 2 * ticks ≤ job.deal.delta → AllAreConforming job.deal job.conforming
+      → IsRace gives b ticks transcript read output → output.found ≡ false
+  nothing_found_raced gives b ticks transcript job read output r fits all p =
+      let s = same_job read p.job job [] [] p.is_read r in
+      told_found transcript p.job b output p.shown
+      (p.dealt (subst (λ (j : Job). 2 * ticks ≤ j.deal.delta) (sym s.0) fits) (subst (λ (j : Job). AllAreConforming j.deal j.conforming) (sym s.0) all))
+
+  module _ (words : List (List ℕ)) (left left' : Option (List ℕ)) (command : Command) (items : List ℕ) (asked : command_of words ≡ Some command)
+      (taken : Consumes left left' items) (end : IsAtEnd left') (a : AsksFairRace has words left) where
+    is_a_race : command ≡ OfJob (Race a.ticks a.transcript)
+    is_a_race = cc (sym asked ∙ a.asked)
+
+    is_read_raced : job_of has purposes.Race items ≡ Ok (a.job, [])
+    is_read_raced = ap (λ (xs : List ℕ). job_of has purposes.Race xs) (all_read left left' a.input items a.told taken end) ∙ a.read
+
+    pub race_is_not_refused : (reason : Reason) → ¬ (output_of has command items ≡ Err reason)
+    unfolding output_by
+    race_is_not_refused reason e =
+        let r : ◌≡◌ {A = Result Written Reason} (output_for no_chance (Race a.ticks a.transcript) (filled_lines 1 (lines_of items))
+        (job_of has purposes.Race items)) (Err reason) =
+        ap (λ (c : Command). output_of has c items) (sym is_a_race) ∙ e in
+        let w : ◌≡◌ {A = Result Written Reason} (output_for no_chance (Race a.ticks a.transcript) (filled_lines 1 (lines_of items)) (Ok (a.job, [])))
+        (Err reason) =
+        ap (λ (q : Result (Job × List Event) Reason). output_for no_chance (Race a.ticks a.transcript) (filled_lines 1 (lines_of items)) q)
+        (sym is_read_raced) ∙ r in
+        cc w
+
+  module _ (gives : Gives) (chance : Chance) (words : List (List ℕ)) (left left' : Option (List ℕ)) (command : Command) (items : List ℕ)
+      (asked : command_of words ≡ Some command) (taken : Consumes left left' items) (end : IsAtEnd left') (a : AsksFairRace has words left) where
+    pub race_is_not_named : (output : Written) → AsPromised has gives chance command items output → output.found ≡ false
+    race_is_not_named output p =
+        nothing_found_raced gives chance.book a.ticks a.transcript a.job (job_of has purposes.Race items) output
+        (is_read_raced words left left' command items asked taken end a) a.fits a.conforming
+        (subst (λ (c : Command). AsPromised has gives chance c items output) (is_a_race words left left' command items asked taken end a) p)
+
+  -- A reason doesn't depend on chance.
+
+  run_fails_by : (a : Chance) (transcript : Bool) (ls : List (ℕ × List ℕ)) (read : Result (Job × List Event) Reason) (reason : Reason)
+      → output_for no_chance (Run transcript) ls read ≡ Err reason → output_for a (Run transcript) ls read ≡ Err reason
+  run_fails_by a transcript ls (Ok j) reason e = absurd (cc e)
+  run_fails_by a transcript ls (Err r) reason e = e
+
+  race_fails_by : (a : Chance) (ticks : ℕ) (transcript : Bool) (ls : List (ℕ × List ℕ)) (read : Result (Job × List Event) Reason) (reason : Reason)
+      → output_for no_chance (Race ticks transcript) ls read ≡ Err reason → output_for a (Race ticks transcript) ls read ≡ Err reason
+  race_fails_by a ticks transcript ls (Ok j) reason e = absurd (cc e)
+  race_fails_by a ticks transcript ls (Err r) reason e = e
+
+  pub fails_by : (a : Chance) (command : Command) (input : List ℕ) (reason : Reason) → output_of has command input ≡ Err reason
+      → output_by has a command input ≡ Err reason
+  unfolding output_by
+  fails_by a (OfJob (Run transcript)) input reason e = run_fails_by a transcript (filled_lines 1 (lines_of input)) (job_of has purposes.Run input) reason e
+  fails_by a (OfJob (Race ticks transcript)) input reason e =
+      race_fails_by a ticks transcript (filled_lines 1 (lines_of input)) (job_of has purposes.Race input) reason e
+  fails_by a (OfJob Check) input reason e = e
+  fails_by a (OfJob Make) input reason e = e
+  fails_by a Audit input reason e = e

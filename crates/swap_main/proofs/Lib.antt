@@ -1,5 +1,7 @@
 pub mod Replays
+pub mod Decided
 pub mod Reports
+pub mod Raced
 pub mod Promises
 pub mod Fairly
 pub mod Ahead
@@ -9,4 +11,6 @@ pub mod Saying
 pub mod Ends
 pub mod Asking
 pub mod Performing
+pub mod Acting
 pub mod Audits
+pub mod Staffing

@@ -1,9 +1,10 @@
 -- What is written of the job of a number, and what a status says of a task.
-use Rattle.std.specs.Prelude.{◌≡◌, ◌≤◌, ℕ, List, Option, Some, if◌then◌else◌}
+use Rattle.std.specs.Prelude.{◌≡◌, ℕ, Bool, List, Option, Some, if◌then◌else◌}
 use Rattle.swap_rules.specs.Accepted.{IsAccepted}
 use Rattle.swap_gen.specs.Drawn.{generated}
 use Rattle.made_jobs.specs.Generating.{generated_book, generated_summary, generated_text, is_found}
 use Rattle.audit_command.specs.Output.{Written}
+use Rattle.swap_world.specs.Gone.{Gives}
 use Rattle.swap_main.specs.Output.{plain_text}
 use Rattle.swap_main.specs.Says.{Says, Writes}
 use Rattle.swap_main.specs.Words.{request_of}
@@ -35,12 +36,7 @@ pub record Generates (P : Written → Type 0) (words : List (List ℕ)) (left le
   pub accepted : IsAccepted (generated request.seed request.parties).deal
   pub written : P (generated_output request)
 
--- the parties of a number's job are 2 to 24
-abbrev pub IsWithin : Task → Type 0
-IsWithin (Input command) = Unit {0}
-IsWithin (Number request) = (2 ≤ request.parties) × (request.parties ≤ 24)
-
 -- what a status says of a task: by its input, or without one by what is written of a number's job
-abbrev pub Performs : Task → Option (List ℕ) → Option (List ℕ) → ℕ → ℕ → Option (List ℕ) → Option (List ℕ) → ℕ → ℕ → Status → Type 0
-Performs (Input command) left left' n m taken taken' p q s = Says command left left' n m taken taken' p q s
-Performs (Number request) left left' n m taken taken' p q s = (left' ≡ left) × Writes taken taken' p q (generated_output request) s
+abbrev pub Performs : (List ℕ → Bool) → Gives → Task → Option (List ℕ) → Option (List ℕ) → ℕ → ℕ → Option (List ℕ) → Option (List ℕ) → ℕ → ℕ → Status → Type 0
+Performs has gives (Input command) left left' n m taken taken' p q s = Says has gives command left left' n m taken taken' p q s
+Performs has gives (Number request) left left' n m taken taken' p q s = (left' ≡ left) × Writes taken taken' p q (generated_output request) s

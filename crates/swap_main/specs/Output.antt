@@ -1,5 +1,5 @@
 -- What is written for an input.
-use Rattle.std.specs.Prelude.{◌==◌, ℕ, ◌∷◌, [], Bool, true, false, not, List, drop, length, codes, decimal, Result, Ok, Err}
+use Rattle.std.specs.Prelude.{◌≡◌, ◌<◌, ◌==◌, ℕ, ◌∷◌, [], Bool, true, false, not, List, drop, length, slice_index_or, codes, decimal, None, Result, Ok, Err}
 use Rattle.swap_base.specs.Fault.{◌>>=◌}
 use Rattle.swap_base.specs.Text.{joined}
 use Rattle.time_bounds.specs.Times as times
@@ -22,13 +22,15 @@ use Rattle.swap_offer.specs.Job.{job_of, names_of_offer}
 use Rattle.made_jobs.specs.Making.{made_text}
 use Rattle.deviator_script.specs.declared.job.Finish.{Finish}
 use Rattle.deviator_script.specs.declared.job.Finish.TheVariants.{Stop, Fair}
-use Rattle.swap_run.specs.Run.{Cast, State, run}
+use Rattle.swap_run.specs.Asked.{Answers, with_answers}
+use Rattle.swap_run.specs.Run.{Cast, Question, State, run}
 use Rattle.swap_run.specs.Fair.{finish}
 use Rattle.swap_world.specs.Cast.{cast_of}
+use Rattle.swap_world.specs.Gone.{Gives}
 use Rattle.swap_main.specs.declared.words.Command.{Command}
 use Rattle.swap_main.specs.declared.words.Command.TheVariants.{OfJob, Audit}
 use Rattle.swap_main.specs.declared.words.JobCommand.{JobCommand}
-use Rattle.swap_main.specs.declared.words.JobCommand.TheVariants.{Check, Run, Make}
+use Rattle.swap_main.specs.declared.words.JobCommand.TheVariants.{Check, Run, Race, Make}
 
 -- the text of a checked offer
 unfoldable pub check_text : Deal → List ℕ
@@ -36,7 +38,7 @@ check_text d = joined (codes "swap accepted\nneed " ∷ decimal (need_of d) ∷ 
     (times.open_by d.start d.delta d.bound) ∷ codes "\nexpiry " ∷ decimal (times.last_expiry d.start d.delta d.bound) ∷ codes "\nhorizon " ∷ decimal
     (times.horizon d.start d.delta d.bound) ∷ codes "\n" ∷ [])
 
--- the text of a run: the report r of its book, or where it is asked for the transcript
+-- the text of a run or a race: the report r of its book, or where it is asked for the transcript
 abbrev pub run_text : Bool → Job → Histories → Report → List ℕ
 run_text false job b r = report job b r
 run_text true job b r = transcript_text job b
@@ -58,9 +60,21 @@ abbrev pub finished : Finish → Cast → State → State
 finished Stop c s = s
 finished Fair c s = finish c s
 
--- the histories of a job's run: after its events, and then after its finish
-abbrev pub book_of : Job → List Event → Histories
-book_of job events = (finished job.finish (cast_of job) (run (cast_of job) events)).book
+-- who takes part in a job's run, where strategies answer a
+abbrev pub cast_by : Answers → Job → Cast
+cast_by a job = with_answers (cast_of job) a
+
+-- the state to which a job's run leads: after its events, and then after its finish
+abbrev pub state_of : Answers → Job → List Event → State
+state_of a job events = finished job.finish (cast_by a job) (run (cast_by a job) events)
+
+-- its histories
+abbrev pub book_of : Answers → Job → List Event → Histories
+book_of a job events = (state_of a job events).book
+
+-- each answer to these questions is one that its strategy may give
+abbrev pub AreGiven : Gives → Deal → Answers → List Question → Type 0
+AreGiven gives d a asked = (i : ℕ) (q : Question) → i < length asked → q ≡ slice_index_or asked i q → gives q.strategy d q.party q.turn q.known (a i)
 
 -- what is told of a checked offer
 abbrev pub told : Job → Written
@@ -73,14 +87,29 @@ plain_text text = record { text = text; found = false }
 -- what a job is read for
 abbrev pub purpose_of : JobCommand → Purpose
 purpose_of (Run transcript) = purposes.Run
+purpose_of (Race ticks transcript) = purposes.Race
 purpose_of Check = purposes.Check
 purpose_of Make = purposes.Make
 
+-- What an input doesn't decide: what strategies answer in a run, and the book that a race comes to.
+pub record Chance : Type 0 where
+  pub answers : Answers
+  pub book : Histories
+
+-- strategies answer a, and nothing is raced
+abbrev pub by_answers : Answers → Chance
+by_answers a = record { answers = a; book = [] }
+
+-- a race comes to the book, and no strategy is asked in a run
+abbrev pub by_book : Histories → Chance
+by_book b = record { answers = λ k. None; book = b }
+
 -- what a command writes for a job and its events, which are those of these lines
-abbrev pub output_for : JobCommand → List (ℕ × List ℕ) → Result (Job × List Event) Reason → Result Written Reason
-output_for (Run transcript) lines read = read >>= λ j. Ok (reported transcript j.0 (book_of j.0 j.1))
-output_for Check lines read = read >>= λ j. Ok (told j.0)
-output_for Make lines read = read >>= λ j. Ok (plain_text (made_text j.0 (drop 1 lines)))
+abbrev pub output_for : Chance → JobCommand → List (ℕ × List ℕ) → Result (Job × List Event) Reason → Result Written Reason
+output_for chance (Run transcript) lines read = read >>= λ j. Ok (reported transcript j.0 (book_of chance.answers j.0 j.1))
+output_for chance (Race ticks transcript) lines read = read >>= λ j. Ok (reported transcript j.0 chance.book)
+output_for chance Check lines read = read >>= λ j. Ok (told j.0)
+output_for chance Make lines read = read >>= λ j. Ok (plain_text (made_text j.0 (drop 1 lines)))
 
 -- the reason of a refusal
 abbrev pub by_reason : Result Written Refusal → Result Written Reason
@@ -92,12 +121,20 @@ abbrev pub names_told : Result Written Refusal → List (List ℕ)
 names_told (Ok output) = []
 names_told (Err refusal) = refusal.names
 
--- what a command writes for an input, or the first reason why the input is refused
-unfoldable pub output_of : Command → List ℕ → Result Written Reason
-output_of (OfJob command) input = output_for command (filled_lines 1 (lines_of input)) (job_of (purpose_of command) input)
-output_of Audit input = by_reason (audit_of input)
+-- what a command writes for an input, where there are strategies of these names and chance decides so, or the first reason why the input is refused
+unfoldable pub output_by : (List ℕ → Bool) → Chance → Command → List ℕ → Result Written Reason
+output_by has chance (OfJob command) input = output_for chance command (filled_lines 1 (lines_of input)) (job_of has (purpose_of command) input)
+output_by has chance Audit input = by_reason (audit_of input)
+
+-- strategies that never call, and a race without a ledger
+abbrev pub no_chance : Chance
+no_chance = by_answers (λ k. None)
+
+-- the same with this chance: a reason doesn't depend on chance, nor does a text where nobody is asked and nothing is raced
+abbrev pub output_of : (List ℕ → Bool) → Command → List ℕ → Result Written Reason
+output_of has command input = output_by has no_chance command input
 
 -- the names that the reason may speak of: those in the input's header, none where it has no header within its limits; of an audit those of the refusal
-unfoldable pub names_of : Command → List ℕ → List (List ℕ)
-names_of (OfJob command) input = names_of_offer (purpose_of command) input
-names_of Audit input = names_told (audit_of input)
+unfoldable pub names_of : (List ℕ → Bool) → Command → List ℕ → List (List ℕ)
+names_of has (OfJob command) input = names_of_offer has (purpose_of command) input
+names_of has Audit input = names_told (audit_of input)

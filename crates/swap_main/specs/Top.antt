@@ -1,5 +1,5 @@
--- What the program's call promises, status by status.
-use Rattle.std.specs.Prelude.{◌≡◌, ◌≤◌, ℕ, Bool, List, [], length, Option, Some, Result, Ok, Err, if◌then◌else◌}
+-- What each status of the program says.
+use Rattle.std.specs.Prelude.{◌≡◌, ◌≤◌, ◌*◌, ℕ, Bool, List, [], length, Option, Some, Result, Ok, Err, if◌then◌else◌}
 use Rattle.std.specs.Io.KnownBytes.{Appends, Consumes, IsAtEnd}
 use Rattle.swap_io.specs.Causes.{AppendsProperPrefix}
 use Rattle.swap_io.specs.Handed.{AppendsPrefix}
@@ -12,61 +12,89 @@ use Rattle.swap_offer.specs.Job.{job_of}
 use Rattle.audit_command.specs.Output.{Written}
 use Rattle.swap_main.specs.Words.{command_of}
 use Rattle.swap_main.specs.Input.{limit}
-use Rattle.swap_main.specs.Output.{output_of, names_of}
+use Rattle.swap_world.specs.Gone.{Gives}
+use Rattle.swap_main.specs.Output.{Chance, output_by, no_chance, names_of}
 use Rattle.swap_main.specs.Promised.{AsPromised}
 use Rattle.swap_main.specs.declared.words.Command.{Command}
 use Rattle.swap_main.specs.declared.words.Command.TheVariants.{OfJob}
-use Rattle.swap_main.specs.declared.words.JobCommand.TheVariants.{Run}
+use Rattle.swap_main.specs.declared.words.JobCommand.TheVariants.{Run, Race}
 use Rattle.swap_main.specs.declared.status.Status.{Status}
 use Rattle.swap_main.specs.declared.status.Status.TheVariants.{Done, Named}
 
--- The words are a command, the whole input was read, and this is the command's output for it.
-pub record Read (words : List (List ℕ)) (left left' : Option (List ℕ)) (output : Result Written Reason) : Type 0 where
+-- The words are a command, the whole input was read, and this is the command's output for it, where chance decides so.
+pub record Read (has : List ℕ → Bool) (chance : Chance) (words : List (List ℕ)) (left left' : Option (List ℕ)) (output : Result Written Reason) : Type 0 where
   pub command : Command
   pub asked : command_of words ≡ Some command
   pub input : List ℕ
   pub taken : Consumes left left' input
   pub ended : IsAtEnd left'
   pub within : length input ≤ limit
-  pub gives : output_of command input ≡ output
+  pub gives : output_by has chance command input ≡ output
 
--- The input was read to its end, its text was written whole, and what the text shows is promised.
-pub record IsDone (words : List (List ℕ)) (left left' taken taken' : Option (List ℕ)) (found : Bool) : Type 0 where
+-- The input was read to its end, its text by what chance decided was written whole, and what the text shows is promised: also that each answer is one that
+-- its strategy may give, and that a race came to the book.
+pub record IsDone (has : List ℕ → Bool) (gives : Gives) (words : List (List ℕ)) (left left' taken taken' : Option (List ℕ)) (found : Bool) : Type 0 where
+  pub chance : Chance
   pub output : Written
-  pub read : Read words left left' (Ok output)
+  pub read : Read has chance words left left' (Ok output)
   pub written : Appends taken taken' output.text
   pub findings : output.found ≡ found
-  pub promised : AsPromised read.command read.input output
+  pub promised : AsPromised has gives chance read.command read.input output
 
 -- The input was read to its end, and a proper prefix of its text was written.
-pub record IsCut (words : List (List ℕ)) (left left' taken taken' : Option (List ℕ)) : Type 0 where
+pub record IsCut (has : List ℕ → Bool) (gives : Gives) (words : List (List ℕ)) (left left' taken taken' : Option (List ℕ)) : Type 0 where
+  pub chance : Chance
   pub output : Written
-  pub read : Read words left left' (Ok output)
+  pub read : Read has chance words left left' (Ok output)
+  pub promised : AsPromised has gives chance read.command read.input output
   pub prefix : AppendsProperPrefix taken taken' output.text
 
 -- The input was read to its end, and a prefix of its text was written.
-pub record IsShort (words : List (List ℕ)) (left left' taken taken' : Option (List ℕ)) : Type 0 where
+pub record IsShort (has : List ℕ → Bool) (gives : Gives) (words : List (List ℕ)) (left left' taken taken' : Option (List ℕ)) : Type 0 where
+  pub chance : Chance
   pub output : Written
-  pub read : Read words left left' (Ok output)
+  pub read : Read has chance words left left' (Ok output)
+  pub promised : AsPromised has gives chance read.command read.input output
   pub prefix : AppendsPrefix taken taken' output.text
 
 -- The input was read to its end and is refused for the reason, and these are the names in its header.
-pub record IsRefused (words : List (List ℕ)) (left left' : Option (List ℕ)) (reason : Reason) (names : List (List ℕ)) : Type 0 where
-  pub read : Read words left left' (Err reason)
-  pub named : names ≡ names_of read.command read.input
+pub record IsRefused (has : List ℕ → Bool) (words : List (List ℕ)) (left left' : Option (List ℕ)) (reason : Reason) (names : List (List ℕ)) : Type 0 where
+  pub read : Read has no_chance words left left' (Err reason)
+  pub named : names ≡ names_of has read.command read.input
 
 -- The words ask for a run, and the input is an offer of parties that all conform, with a fair finish and no event before it.
-pub record AsksFairRun (words : List (List ℕ)) (left : Option (List ℕ)) : Type 0 where
+pub record AsksFairRun (has : List ℕ → Bool) (words : List (List ℕ)) (left : Option (List ℕ)) : Type 0 where
   pub transcript : Bool
   pub asked : command_of words ≡ Some (OfJob (Run transcript))
   pub input : List ℕ
   pub told : left ≡ Some input
   pub within : length input ≤ limit
   pub job : Job
-  pub read : job_of purposes.Run input ≡ Ok (job, [])
+  pub read : job_of has purposes.Run input ≡ Ok (job, [])
   pub finish : job.finish ≡ Fair
+  pub conforming : AllAreConforming job.deal job.conforming
+
+-- The words ask for a race of which two rounds' ticks fit in delta, and the input is an offer of parties that all conform.
+pub record AsksFairRace (has : List ℕ → Bool) (words : List (List ℕ)) (left : Option (List ℕ)) : Type 0 where
+  pub ticks : ℕ
+  pub transcript : Bool
+  pub asked : command_of words ≡ Some (OfJob (Race ticks transcript))
+  pub input : List ℕ
+  pub told : left ≡ Some input
+  pub within : length input ≤ limit
+  pub job : Job
+  pub read : job_of has purposes.Race input ≡ Ok (job, [])
+  pub fits : 2 * ticks ≤ job.deal.delta
   pub conforming : AllAreConforming job.deal job.conforming
 
 -- the status of a run that isn't stopped, by whether something was found
 abbrev pub status_of : Bool → Status
 status_of found = if found then Named else Done
+
+-- The status is that of the input's output by what chance decided, which is promised.
+pub record IsStatusOf (has : List ℕ → Bool) (gives : Gives) (command : Command) (input : List ℕ) (s : Status) : Type 0 where
+  pub chance : Chance
+  pub output : Written
+  pub made : output_by has chance command input ≡ Ok output
+  pub promised : AsPromised has gives chance command input output
+  pub status : s ≡ status_of output.found

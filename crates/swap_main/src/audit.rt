@@ -1,11 +1,13 @@
 //! The command `audit`: a transcript is read, its ledgers are replayed, and the report is written.
 
 ghost use Rattle.std.specs.Prelude.{◌≡◌};
+ghost use Rattle.offer_header.specs.Names.{has_strategy};
 ghost use Rattle.swap_main.specs.Says.{Says, status_by};
 
 use crate::status::Status;
 use crate::words::Command;
 use audit_command::{AuditEnding, audit as audit_all};
+use deviator_script::{Kit, Strategies};
 use std::alloc::Global;
 use swap_io::{Sink, Source};
 
@@ -24,9 +26,15 @@ fn status_by(ending: AuditEnding) -> Status
     }
 }
 
-/// Audits a transcript.
-pub(crate) fn audit<S: Source, K: Sink>(alloc: Global, source: &mut S, sink: &mut K) -> Status
-    ensures { Says Command.Audit (S.left source.old) (S.left source.new) (S.faults source.old) (S.faults source.new) (K.taken sink.old) (K.taken sink.new)
+/// Audits a transcript, in which no strategy is asked.
+pub(crate) fn audit<S: Source, K: Sink>(
+    alloc: Global,
+    _kit: &Kit,
+    source: &mut S,
+    sink: &mut K,
+) -> Status
+    ensures { Says (has_strategy _kit.now.names _kit.now.strategies.items) (⟦<Kit as Strategies>⟧.gives _kit.now) Command.Audit (S.left source.old)
+        (S.left source.new) (S.faults source.old) (S.faults source.new) (K.taken sink.old) (K.taken sink.new)
         (K.faults sink.old) (K.faults sink.new) result }
 {
     status_by(audit_all(alloc, source, sink))

@@ -4,6 +4,7 @@ ghost use Rattle.std.specs.Prelude.{◌≡◌, ◌≤◌, IfOk, IfErr};
 ghost use Rattle.swap_digraph.specs.Deal.{IsWellSized};
 ghost use Rattle.swap_rules.specs.Accepted.{IsAccepted};
 ghost use Rattle.swap_offer.specs.Checks.{need_of};
+ghost use Rattle.offer_header.specs.Names.{has_strategy};
 ghost use Rattle.swap_main.specs.Input.{Ends, Stops, fresh};
 ghost use Rattle.swap_main.specs.Output.{check_text, told};
 ghost use Rattle.swap_main.specs.Replay.{IsChecked};
@@ -16,7 +17,7 @@ use crate::replay::pass_over;
 use crate::status::Status;
 use crate::stop::stop;
 use crate::words::{Command, JobCommand};
-use deviator_script::Job;
+use deviator_script::{Job, Kit, Strategies};
 use refusals::Refusal;
 use std::alloc::Global;
 use swap_base::{ByteText, NoMemory, Piece, put};
@@ -53,19 +54,22 @@ fn check_text(alloc: Global, deal: &Deal, need: u32) -> Result<ByteText, NoMemor
 /// The job of an input whose lines are all examined, and the least bound that it may have.
 fn examine<S: Source>(
     alloc: Global,
+    kit: &Kit,
     input: &mut Input,
     source: &mut S,
 ) -> Result<(Job, u32), InputFault<Refusal>>
     requires { input.old ≡ fresh }
-    ensures checked { IfOk result (λ j. Ends (λ bytes. IsChecked bytes j.0) (S.left source.old) (S.left source.new) fresh input.new) }
+    ensures checked { IfOk result (λ j. Ends (λ bytes. IsChecked (has_strategy kit.now.names kit.now.strategies.items) bytes j.0) (S.left source.old)
+        (S.left source.new) fresh input.new) }
     ensures accepted { IfOk result (λ j. IsAccepted j.0.deal) }
     ensures sized { IfOk result (λ j. IsWellSized j.0.deal) }
     ensures need { IfOk result (λ j. j.1 ≡ need_of j.0.deal) }
-    ensures stops { IfErr result (λ e. Stops (IsAgainst (Command.OfJob JobCommand.Check)) (S.left source.old) (S.left source.new) (S.faults source.old)
+    ensures stops { IfErr result (λ e. Stops (IsAgainst (has_strategy kit.now.names kit.now.strategies.items) (Command.OfJob JobCommand.Check))
+        (S.left source.old) (S.left source.new) (S.faults source.old)
         (S.faults source.new) fresh input.new e) }
     ensures later { S.faults source.old ≤ S.faults source.new }
 {
-    let Prepared { job, need, .. } = first_line(alloc, JobCommand::Check, input, source)?;
+    let Prepared { job, need, .. } = first_line(alloc, kit, JobCommand::Check, input, source)?;
     match pass_over(alloc, &job, input, source) {
         Ok(()) => Ok((job, need)),
         Err(fault) => Err(fault.with_names(job.names)),
@@ -90,15 +94,17 @@ fn tell<K: Sink>(alloc: Global, sink: &mut K, job: &Job, need: u32) -> Status
 /// Checks an offer.
 pub(crate) fn check<S: Source, K: Sink>(
     alloc: Global,
+    kit: &Kit,
     input: &mut Input,
     source: &mut S,
     sink: &mut K,
 ) -> Status
     requires { input.old ≡ fresh }
-    ensures { Says (Command.OfJob JobCommand.Check) (S.left source.old) (S.left source.new) (S.faults source.old) (S.faults source.new)
+    ensures { Says (has_strategy kit.now.names kit.now.strategies.items) (⟦<Kit as Strategies>⟧.gives kit.now) (Command.OfJob JobCommand.Check)
+        (S.left source.old) (S.left source.new) (S.faults source.old) (S.faults source.new)
         (K.taken sink.old) (K.taken sink.new) (K.faults sink.old) (K.faults sink.new) result }
 {
-    match examine(alloc, input, source) {
+    match examine(alloc, kit, input, source) {
         Ok((job, need)) => tell(alloc, sink, &job, need),
         Err(fault) => stop(input, source, fault),
     }

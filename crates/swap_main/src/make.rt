@@ -2,6 +2,7 @@
 
 ghost use Rattle.std.specs.Prelude.{◌≡◌, ◌≤◌, IfOk, IfErr, OnOk, Ok, Err};
 ghost use Rattle.made_jobs.specs.Making.{copied, IsMade};
+ghost use Rattle.offer_header.specs.Names.{has_strategy};
 ghost use Rattle.swap_main.specs.Input.{Ends, EndsAt, Stops, ahead, fresh};
 ghost use Rattle.swap_main.specs.Output.{plain_text};
 ghost use Rattle.swap_main.specs.Replay.{IsCopied};
@@ -13,7 +14,7 @@ use crate::input::Input;
 use crate::status::Status;
 use crate::stop::stop;
 use crate::words::{Command, JobCommand};
-use deviator_script::Job;
+use deviator_script::{Job, Kit, Strategies};
 use made_jobs::{copy_line, made_line};
 use refusals::{Reason, Refusal};
 use std::alloc::Global;
@@ -44,17 +45,20 @@ fn copy_lines<S: Source>(
 /// The text that is made of an input, and the plain job that it was read as.
 fn copy<S: Source>(
     alloc: Global,
+    kit: &Kit,
     input: &mut Input,
     source: &mut S,
 ) -> Result<(Job, Vec<u8>), InputFault<Refusal>>
     requires { input.old ≡ fresh }
-    ensures copied { IfOk result (λ c. Ends (λ bytes. IsCopied bytes c.0 c.1.items) (S.left source.old) (S.left source.new) fresh input.new) }
+    ensures copied { IfOk result (λ c. Ends (λ bytes. IsCopied (has_strategy kit.now.names kit.now.strategies.items) bytes c.0 c.1.items)
+        (S.left source.old) (S.left source.new) fresh input.new) }
     ensures made { IfOk result (λ c. IsMade c.0) }
-    ensures stops { IfErr result (λ e. Stops (IsAgainst (Command.OfJob JobCommand.Make)) (S.left source.old) (S.left source.new) (S.faults source.old)
+    ensures stops { IfErr result (λ e. Stops (IsAgainst (has_strategy kit.now.names kit.now.strategies.items) (Command.OfJob JobCommand.Make))
+        (S.left source.old) (S.left source.new) (S.faults source.old)
         (S.faults source.new) fresh input.new e) }
     ensures later { S.faults source.old ≤ S.faults source.new }
 {
-    let Prepared { job, .. } = first_line(alloc, JobCommand::Make, input, source)?;
+    let Prepared { job, .. } = first_line(alloc, kit, JobCommand::Make, input, source)?;
     let mut text = made_line(alloc, &job)?;
     match copy_lines(alloc, &mut text, input, source) {
         Ok(()) => Ok((job, text)),
@@ -75,15 +79,17 @@ fn tell<K: Sink>(sink: &mut K, text: &[u8]) -> Status
 /// Makes a job.
 pub(crate) fn make<S: Source, K: Sink>(
     alloc: Global,
+    kit: &Kit,
     input: &mut Input,
     source: &mut S,
     sink: &mut K,
 ) -> Status
     requires { input.old ≡ fresh }
-    ensures { Says (Command.OfJob JobCommand.Make) (S.left source.old) (S.left source.new) (S.faults source.old) (S.faults source.new)
+    ensures { Says (has_strategy kit.now.names kit.now.strategies.items) (⟦<Kit as Strategies>⟧.gives kit.now) (Command.OfJob JobCommand.Make)
+        (S.left source.old) (S.left source.new) (S.faults source.old) (S.faults source.new)
         (K.taken sink.old) (K.taken sink.new) (K.faults sink.old) (K.faults sink.new) result }
 {
-    match copy(alloc, input, source) {
+    match copy(alloc, kit, input, source) {
         Ok((_, text)) => tell(sink, &text),
         Err(fault) => stop(input, source, fault),
     }

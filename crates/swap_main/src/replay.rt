@@ -7,14 +7,19 @@ ghost use Rattle.swap_run.specs.Run.{start, step};
 ghost use Rattle.party_wallet.specs.Wallets.{wallets_of};
 ghost use Rattle.offer_events.specs.Event.{needs_seeds};
 ghost use Rattle.swap_offer.specs.Job.{IsWhole};
-ghost use Rattle.swap_offer.specs.Wallets.{HaveWallets};
+ghost use Rattle.swap_offer.specs.Wallets.{HaveScripts, HaveWallets};
+ghost use Rattle.swap_run.specs.Asked.{Answers};
 ghost use Rattle.swap_world.specs.Cast.{cast_of};
+ghost use Rattle.swap_world.specs.Gone.{HasAsked};
+ghost use Rattle.swap_world.specs.Staff.{AreHeld};
+ghost use Rattle.swap_world.specs.Value.{Continues, new_world};
 ghost use Rattle.swap_main.specs.Input.{Ends, EndsAt, Stops, ahead};
+ghost use Rattle.swap_main.specs.Output.{cast_by};
 ghost use Rattle.swap_main.specs.Replay.{replayed, next_by, passed_over, IsOf};
 
 use crate::fault::InputFault;
 use crate::input::Input;
-use deviator_script::Job;
+use deviator_script::{Job, Strategies};
 use party_wallet::Wallet;
 use refusals::{OfferFault, Reason};
 use std::alloc::Global;
@@ -24,10 +29,11 @@ use swap_offer::next_event;
 use swap_world::World;
 /// Steps the world by the event of a line, where so many events came before.
 #[tactic(auto, unfolding(crate::specs::Replay::next_by))]
-fn step_line(
+fn step_line<T: Strategies>(
     alloc: Global,
     job: &Job,
     world: &mut World,
+    kit: &T,
     count: u32,
     line: u32,
     text: &[u8],
@@ -36,12 +42,17 @@ fn step_line(
     requires seeds { needs_seeds job.now.purpose ≡ true }
     requires of { IsOf job.now world.old }
     requires goes_on { world.old.stopped ≡ false }
-    ensures exact { Gives (λ _. world.new.state) result (next_by (step (cast_of job.now)) job.now count world.old.state line text.now) }
+    requires kit { AreHeld (T.holds kit.now) job.now.roles }
+    ensures passed { Gives (λ u. u) result (next_by passed_over job.now count tt line text.now) }
+    ensures stepped { OnOk result ((a : Answers) → Continues world.new a
+        → next_by (step (cast_by a job.now)) job.now count world.old.state line text.now ≡ Ok world.new.state) }
+    ensures continued { OnOk result ((a : Answers) → Continues world.new a → Continues world.old a) }
+    ensures asked { OnOk result (HasAsked (T.gives kit.now) world.old world.new) }
     ensures of { OnOk result (IsOf job.now world.new) }
     ensures goes_on { OnOk result (world.new.stopped ≡ false) }
 {
     let event = next_event(alloc, job, count, line, text)?;
-    world.step(&event)?;
+    world.step(kit, &event)?;
     Ok(())
 }
 
@@ -50,10 +61,9 @@ fn new_world(alloc: Global, job: &Job, wallets: Vec<Option<Wallet>>) -> Result<W
     requires whole { IsWhole job.now }
     requires accepted { IsAccepted job.now.deal }
     requires wallets { HaveWallets job.now }
+    requires scripts { HaveScripts job.now }
     requires made { wallets.items ≡ wallets_of job.now.deal job.now.conforming job.now.seeds }
-    ensures of { IfOk result (λ w. IsOf job.now w) }
-    ensures state { IfOk result (λ w. w.state ≡ start (cast_of job.now)) }
-    ensures goes_on { IfOk result (λ w. w.stopped ≡ false) }
+    ensures new { IfOk result (λ w. w ≡ new_world job.now) }
 {
     match World::new(alloc, job, wallets) {
         Ok(world) => Ok(world),
@@ -63,10 +73,11 @@ fn new_world(alloc: Global, job: &Job, wallets: Vec<Option<Wallet>>) -> Result<W
 }
 
 /// The world after the events of the lines ahead.
-pub(crate) fn replay<S: Source>(
+pub(crate) fn replay<S: Source, T: Strategies>(
     alloc: Global,
     job: &Job,
     wallets: Vec<Option<Wallet>>,
+    kit: &T,
     input: &mut Input,
     source: &mut S,
 ) -> Result<World, InputFault<Reason>>
@@ -74,21 +85,33 @@ pub(crate) fn replay<S: Source>(
     requires seeds { needs_seeds job.now.purpose ≡ true }
     requires accepted { IsAccepted job.now.deal }
     requires wallets { HaveWallets job.now }
+    requires scripts { HaveScripts job.now }
     requires made { wallets.items ≡ wallets_of job.now.deal job.now.conforming job.now.seeds }
+    requires kit { AreHeld (T.holds kit.now) job.now.roles }
     requires ended { EndsAt (S.left source.old) input.old }
-    ensures exact { IfOk result (λ w. Ends (λ bytes. replayed (step (cast_of job.now)) job.now 0 (start (cast_of job.now)) (ahead input.old bytes) ≡ Ok w.state)
+    // Whatever strategies may answer after the last event.
+    ensures exact { IfOk result (λ w. (a : Answers) → Continues w a
+        → Ends (λ bytes. replayed (step (cast_by a job.now)) job.now 0 (start (cast_of job.now)) (ahead input.old bytes) ≡ Ok w.state)
         (S.left source.old) (S.left source.new) input.old input.new) }
+    ensures asked { IfOk result (λ w. HasAsked (T.gives kit.now) (new_world job.now) w) }
     ensures of { IfOk result (λ w. IsOf job.now w) }
     ensures goes_on { IfOk result (λ w. w.stopped ≡ false) }
-    ensures stops { IfErr result (λ e. Stops (λ bytes reason. replayed (step (cast_of job.now)) job.now 0 (start (cast_of job.now))
-        (ahead input.old bytes) ≡ Err reason)
+    ensures stops { IfErr result (λ e. Stops (λ bytes reason. replayed passed_over job.now 0 tt (ahead input.old bytes) ≡ Err reason)
         (S.left source.old) (S.left source.new) (S.faults source.old) (S.faults source.new) input.old input.new e) }
     ensures later { S.faults source.old ≤ S.faults source.new }
 {
     let mut world = new_world(alloc, job, wallets)?;
     let mut count: u32 = 0;
     'lines: while input.next(source)? {
-        step_line(alloc, job, &mut world, count, input.number(), input.text())?;
+        step_line(
+            alloc,
+            job,
+            &mut world,
+            kit,
+            count,
+            input.number(),
+            input.text(),
+        )?;
         count += 1;
     }
     Ok(world)

@@ -1,6 +1,6 @@
 //! What a command does where the reading of its input stopped.
 
-ghost use Rattle.std.specs.Prelude.{◌≤◌, ℕ, List, Option};
+ghost use Rattle.std.specs.Prelude.{◌≤◌, ℕ, Bool, List, Option};
 ghost use Rattle.swap_main.specs.Input.{Stops, fresh};
 ghost use Rattle.swap_main.specs.Says.{IsAgainst, Unread};
 ghost use Rattle.swap_main.specs.declared.words.Command.{Command};
@@ -18,9 +18,9 @@ pub(crate) fn stop<S: Source>(
     fault: InputFault<Refusal>,
 ) -> Status
     // Whatever the command, and whatever was read before.
-    ensures { (command : Command) (left : Option (List ℕ)) (faults : ℕ) → faults ≤ S.faults source.old
-        → Stops (IsAgainst command) left (S.left source.old) faults (S.faults source.old) fresh input.old fault
-        → Unread command left (S.left source.new) faults (S.faults source.new) result }
+    ensures { (has : List ℕ → Bool) (command : Command) (left : Option (List ℕ)) (faults : ℕ) → faults ≤ S.faults source.old
+        → Stops (IsAgainst has command) left (S.left source.old) faults (S.faults source.old) fresh input.old fault
+        → Unread has command left (S.left source.new) faults (S.faults source.new) result }
 {
     match fault {
         InputFault::Refused(refusal) => match input.drain(source) {

@@ -1,8 +1,8 @@
-//! What the words ask for, of what is built.
+//! What the words ask for.
 
-ghost use Rattle.std.specs.Prelude.{◌≡◌, Ok, None, IfOk, map, string_bytes};
+ghost use Rattle.std.specs.Prelude.{◌≡◌, Ok, None, IfOk, IfSome, false, map, string_bytes};
 ghost use Rattle.program_words.specs.Words.{command_of as asked_of};
-ghost use Rattle.swap_main.specs.Words.{built, task_of};
+ghost use Rattle.swap_main.specs.Words.{asked_task, races, task_of};
 ghost use Rattle.swap_main.specs.Output.{purpose_of};
 
 use deviator_script::Purpose;
@@ -16,6 +16,8 @@ pub enum JobCommand {
     Check,
     /// The report is written, or the transcript.
     Run { transcript: bool },
+    /// So many ticks a round; the report is written, or the transcript.
+    Race { ticks: u32, transcript: bool },
     Make,
 }
 
@@ -42,29 +44,29 @@ pub enum Task {
     Number(Request),
 }
 
-/// What a command of the program asks for; nothing where it isn't built yet.
-fn built(asked: Asked) -> Option<Task>
-    ensures { result ≡ built asked }
+/// What a command of the program asks for.
+fn asked_task(asked: Asked) -> Task
+    ensures { result ≡ asked_task asked }
 {
     match asked {
-        Asked::Check => Some(Task::Input(Command::OfJob(JobCommand::Check))),
-        Asked::Run { transcript } => {
-            Some(Task::Input(Command::OfJob(JobCommand::Run { transcript })))
+        Asked::Check => Task::Input(Command::OfJob(JobCommand::Check)),
+        Asked::Run { transcript } => Task::Input(Command::OfJob(JobCommand::Run { transcript })),
+        Asked::Race { ticks, transcript } => {
+            Task::Input(Command::OfJob(JobCommand::Race { ticks, transcript }))
         }
-        Asked::Audit => Some(Task::Input(Command::Audit)),
-        Asked::Make => Some(Task::Input(Command::OfJob(JobCommand::Make))),
+        Asked::Audit => Task::Input(Command::Audit),
+        Asked::Make => Task::Input(Command::OfJob(JobCommand::Make)),
         Asked::Gen {
             seed,
             parties,
             events,
             summary,
-        } => Some(Task::Number(Request {
+        } => Task::Number(Request {
             seed,
             parties,
             events,
             summary,
-        })),
-        Asked::Race { .. } => None,
+        }),
     }
 }
 
@@ -75,8 +77,21 @@ pub(crate) fn task_of(alloc: Global, words: &[String]) -> Result<Option<Task>, N
     ensures wrong { asked_of (map string_bytes words.now) ≡ None → result ≡ Ok None }
 {
     match read_command(alloc, words)? {
-        Some(asked) => Ok(built(asked)),
+        Some(asked) => Ok(Some(asked_task(asked))),
         None => Ok(None),
+    }
+}
+
+/// The ticks of a race that is asked for, and whether its transcript is.
+pub(crate) fn race_in(task: Task) -> Option<(u32, bool)>
+    ensures some { IfSome result (λ r. task ≡ Task.Input (Command.OfJob (JobCommand.Race r.0 r.1))) }
+    ensures none { result ≡ None → races task ≡ false }
+{
+    match task {
+        Task::Input(Command::OfJob(JobCommand::Race { ticks, transcript })) => {
+            Some((ticks, transcript))
+        }
+        _ => None,
     }
 }
 
@@ -86,6 +101,7 @@ pub(crate) fn purpose_of(command: JobCommand) -> Purpose
 {
     match command {
         JobCommand::Run { .. } => Purpose::Run,
+        JobCommand::Race { .. } => Purpose::Race,
         JobCommand::Check => Purpose::Check,
         JobCommand::Make => Purpose::Make,
     }

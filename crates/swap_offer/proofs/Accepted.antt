@@ -1,10 +1,9 @@
 -- A deal that passes the checks is an accepted one, or that of a plain job a proposed one.
 use Rattle.std.proofs.Common.{◌≡◌, ℕ, ◌<◌, ◌≤◌, ◌==◌, nat_lt, Bool, true, false, cond, List, [], ◌∷◌, length, get_or, slice_index, Option, Some, None, Result}
 use Rattle.std.proofs.Common.{Ok, Err, refl, sym, ap, ◌∙◌, subst, arith, inl, inr, ltb-false, eqb-true, replicate}
-use Rattle.swap_base.specs.Fault.{◌>>=◌}
 use Rattle.swap_base.specs.Lists.{or_else, first_of, IsIn}
 use Rattle.swap_base.proofs.Lists.{in_range}
-use Rattle.time_bounds.specs.Times.{need, timelock}
+use Rattle.time_bounds.specs.Times.{timelock}
 use Rattle.swap_digraph.specs.Value.{Graph}
 use Rattle.swap_digraph.specs.Graph.{ends, ends_in, arcs, HasEnds, HasDistinctEnds, IsStronglyConnected, IsFeedback, IsHeight, IsDist}
 use Rattle.swap_digraph.specs.Arcs.{first_fault, graph_or, digraph_of}
@@ -12,7 +11,8 @@ use Rattle.swap_digraph.specs.declared.arc_ends.ArcEnds.{ArcEnds}
 use Rattle.swap_digraph.specs.declared.fault.ArcFault.{ArcFault}
 use Rattle.swap_digraph.specs.declared.deal.Mode.{Mode}
 use Rattle.swap_digraph.specs.declared.deal.Mode.TheVariants.{Timelocks, Hashkeys}
-use Rattle.swap_digraph.specs.declared.deal.Version.TheVariants.{One}
+use Rattle.swap_digraph.specs.declared.deal.Version.{Version}
+use Rattle.swap_digraph.specs.declared.deal.Version.TheVariants.{One, Two}
 use Rattle.swap_digraph.proofs.Distinct.{distinct}
 use Rattle.hashkey_path.proofs.Feeding.{any_id}
 use Rattle.digraph_check.specs.Reach.{closed_set}
@@ -23,13 +23,13 @@ use Rattle.leader_check.proofs.Walks as walks
 use Rattle.leader_check.proofs.Heights as heights
 use Rattle.single_leader.specs.Distance.{dist_of}
 use Rattle.single_leader.proofs.Far.{dist_is, dist_by_rounds}
-use Rattle.swap_rules.specs.Accepted.{IsAccepted, IsTimed, HasTimelock}
+use Rattle.swap_rules.specs.Accepted.{IsAccepted, IsOfVersion, IsTimed, HasTimelock}
 use Rattle.proposed_deal.specs.Proposed.{IsLedFor, IsProposed}
 use Rattle.proposed_deal.proofs.Proposals as proposals
 use Rattle.refusals.specs.declared.reason.Reason.{Reason}
 use Rattle.refusals.specs.declared.reason.Reason.TheVariants.{BoundTooSmall, StartTooSoon, ManyLeaders, WrongTimelock}
 use Rattle.offer_fields.proofs.Chains.{went}
-use Rattle.offer_header.specs.Raw.{is_plain}
+use Rattle.offer_header.specs.Raw.{is_plain, IsModeOf}
 use Rattle.offer_header.specs.declared.header.Header.{Header}
 use Rattle.offer_header.specs.Header.{IsWithin}
 use Rattle.swap_offer.specs.Checks.{graph_of, by_arcs, least_bound, connected, unless_closed, one_leader, led, unless_cycle, bounded, started, timed}
@@ -131,14 +131,14 @@ is_timed Timelocks h g id u v m k n a has strong feedback one t =
     (subst (λ (ls : List ℕ). timed h g Timelocks ls ≡ Ok v) e t)
 is_timed Hashkeys h g id u v m k n a has strong feedback one t = λ b lt. k.untimed (sym m) b (subst (λ (xs : List ArcEnds). b < length xs) a lt)
 
--- No two arcs have the same ends.
+-- In version 1 no two arcs have the same ends.
 
-pub no_fault : (h : Header) (g : Graph) → graph_of h ≡ Ok g → first_fault (length h.names) One h.arcs ≡ None
+pub no_fault : (h : Header) (g : Graph) → graph_of h ≡ Ok g → first_fault (length h.names) h.version h.arcs ≡ None
 unfolding graph_of digraph_of
-no_fault h g e = go (first_fault (length h.names) One h.arcs) refl e
+no_fault h g e = go (first_fault (length h.names) h.version h.arcs) refl e
   where
-    go : (o : Option ArcFault) → first_fault (length h.names) One h.arcs ≡ o → by_arcs (graph_or (length h.names) h.arcs o) ≡ Ok g
-        → first_fault (length h.names) One h.arcs ≡ None
+    go : (o : Option ArcFault) → first_fault (length h.names) h.version h.arcs ≡ o → by_arcs (graph_or (length h.names) h.arcs o) ≡ Ok g
+        → first_fault (length h.names) h.version h.arcs ≡ None
     go None s k = s
     go (Some f) s k = absurd (cc k)
 
@@ -146,6 +146,11 @@ all_apart : (g : Graph) (n : ℕ) (xs : List ArcEnds) → g.arcs ≡ xs → firs
 all_apart g n xs same e a b la lb s =
     distinct n xs e a b (subst (λ (ys : List ArcEnds). a < length ys) same la) (subst (λ (ys : List ArcEnds). b < length ys) same lb)
     (subst (λ (ys : List ArcEnds). ends_in ys a ≡ ends_in ys b) same s)
+
+of_version : (v : Version) (h : Header) (g : Graph) → IsModeOf v h.mode → g.arcs ≡ h.arcs → first_fault (length h.names) v h.arcs ≡ None
+    → IsOfVersion v (deal_with h g)
+of_version One h g mode arcs f = all_apart g (length h.names) h.arcs arcs f
+of_version Two h g mode arcs f = mode
 
 led_by : (m : Mode) (h : Header) (g : Graph) (id : List ℕ) (u : Unit {0}) → IsWithin h → one_leader m h.leaders ≡ Ok u → IsLedFor m (unnamed h g id)
 led_by Timelocks h g id u k one = let few = has_one h.leaders u one in let some = k.leaders.0 in omega (arith, few, some)
@@ -186,7 +191,7 @@ proposed h g k has n arcs made p =
       parties = sized.parties;
       arcs = sized.arcs;
       ends = has;
-      of_version = all_apart g (length h.names) h.arcs arcs f;
+      of_version = of_version h.version h g k.mode arcs f;
       strong = p.strong;
       leaders = k.leaders;
       leader = sized.leader;

@@ -1,24 +1,24 @@
 -- A header within its limits passes its checks exactly where its deal is accepted, or that of a plain job proposed.
-use Rattle.std.proofs.Common.{◌≡◌, ◌⊎◌, inl, inr, ◌↔◌, ℕ, zero, suc, ◌+◌, ◌<◌, ◌≤◌, Bool, true, false, cond, ◌&&◌, ◌==◌, nat_lt, IsTrue, List, [], ◌∷◌, ◌++◌}
+use Rattle.std.proofs.Common.{◌≡◌, ◌⊎◌, inl, inr, ℕ, suc, ◌+◌, ◌<◌, ◌≤◌, Bool, true, false, cond, ◌==◌, IsTrue, List, [], ◌∷◌, ◌++◌}
 use Rattle.std.proofs.Common.{length, get_or, take, position}
-use Rattle.std.proofs.Common.{Option, Some, None, Result, Ok, Err, refl, sym, ap, ap₂, ◌∙◌, subst, arith, append-nil, append_assoc, get_or-take, eqb-true}
+use Rattle.std.proofs.Common.{Option, Some, None, Ok, refl, sym, ap, ap₂, ◌∙◌, subst, arith, append-nil, append_assoc, get_or-take, eqb-true}
 use Rattle.std.proofs.Common.{eq-eqb, lt-ltb, slice_index}
 use Rattle.std.proofs.lemmas.Bool.{le-ltb, ne_eqb}
 use Rattle.std.proofs.lemmas.List.{length-take}
 use Rattle.std.specs.List.{position_from}
 use Rattle.std.proofs.lemmas.Iterator.Adapters.{position_from-zero}
-use Rattle.swap_base.specs.Fault.{◌>>=◌}
 use Rattle.swap_base.specs.Lists.{first_of, IsIn}
 use Rattle.swap_base.proofs.Lists.{and_parts, from_range}
 use Rattle.time_bounds.specs.Times.{need, timelock}
 use Rattle.swap_digraph.specs.Value.{Graph}
-use Rattle.swap_digraph.specs.Graph.{ends, ends_in, arcs, is_path, are_followers, HasEnds, HasDistinctEnds, IsFeedback, IsHeight, IsDist}
+use Rattle.swap_digraph.specs.Graph.{ends, arcs, is_path, are_followers, HasEnds, HasDistinctEnds, IsFeedback, IsHeight, IsDist}
 use Rattle.swap_digraph.specs.Arcs.{fault_at, first_fault, first_fault_after, graph_or, digraph_of, same_ends}
 use Rattle.swap_digraph.specs.declared.arc_ends.ArcEnds.{ArcEnds}
 use Rattle.swap_digraph.specs.declared.fault.ArcFault.{ArcFault}
 use Rattle.swap_digraph.specs.declared.deal.Mode.{Mode}
 use Rattle.swap_digraph.specs.declared.deal.Mode.TheVariants.{Timelocks, Hashkeys}
-use Rattle.swap_digraph.specs.declared.deal.Version.TheVariants.{One}
+use Rattle.swap_digraph.specs.declared.deal.Version.{Version}
+use Rattle.swap_digraph.specs.declared.deal.Version.TheVariants.{One, Two}
 use Rattle.swap_digraph.proofs.Faults.{has_ends}
 use Rattle.digraph_check.proofs.ClosedSets.{none_of_connected}
 use Rattle.leader_check.specs.Levels.{height_of}
@@ -26,10 +26,9 @@ use Rattle.leader_check.proofs.Walks as walks
 use Rattle.leader_check.proofs.Heights as heights
 use Rattle.single_leader.specs.Distance.{dist_of}
 use Rattle.single_leader.proofs.Far.{dist_is, dist_by_rounds, dist_one}
-use Rattle.swap_rules.specs.Accepted.{IsTimed, HasTimelock}
+use Rattle.swap_rules.specs.Accepted.{IsOfVersion, IsTimed}
 use Rattle.proposed_deal.specs.Proposed.{IsLedFor, IsProposed}
 use Rattle.proposed_deal.proofs.Proposals.{is_proposed}
-use Rattle.refusals.specs.declared.reason.Reason.{Reason}
 use Rattle.refusals.specs.declared.reason.Reason.TheVariants.{WrongTimelock}
 use Rattle.offer_fields.proofs.Chains.{went}
 use Rattle.offer_header.specs.declared.header.Header.{Header}
@@ -43,7 +42,7 @@ use Rattle.swap_offer.proofs.Accepted.{no_fault, accepted_for}
 abbrev no_arc : ArcEnds
 no_arc = record { from = 0; to = 0 }
 
--- Arcs that lead from one party to another, no two of them with the same ends, have no fault.
+-- Arcs that lead from one party to another have no fault in version 2; they have none in version 1 where no two of them have the same ends.
 
 same_true : (a b : ArcEnds) → same_ends a b ≡ true → a ≡ b
 same_true a b e =
@@ -54,15 +53,15 @@ is_absent : (f : ArcEnds → Bool) (from : ℕ) (xs : List ArcEnds) → ((j : �
 is_absent f from [] not_one = refl
 is_absent f from (x ∷ xs) not_one = rw (not_one 0 (omega arith)) (is_absent f (from + 1) xs (λ j lt. not_one (suc j) (omega arith)))
 
-all_sound : (n : ℕ) (before xs : List ArcEnds) → ((i k : ℕ) → i < length xs → fault_at n One (before ++ take i xs) k (get_or xs i no_arc) ≡ None)
-    → first_fault_after n One before xs ≡ None
-all_sound n before [] not_one = refl
-all_sound n before (x ∷ xs) not_one =
-    let head : fault_at n One before (length before) x ≡ None =
-    subst (λ (ys : List ArcEnds). fault_at n One ys (length before) x ≡ None) (append-nil before) (not_one 0 (length before) (omega arith)) in
-    let tail : first_fault_after n One (before ++ x ∷ []) xs ≡ None =
-    all_sound n (before ++ x ∷ []) xs
-    (λ i k lt. subst (λ (ys : List ArcEnds). fault_at n One ys k (get_or xs i no_arc) ≡ None) (sym (append_assoc before (x ∷ []) (take i xs)))
+all_sound : (v : Version) (n : ℕ) (before xs : List ArcEnds)
+    → ((i k : ℕ) → i < length xs → fault_at n v (before ++ take i xs) k (get_or xs i no_arc) ≡ None) → first_fault_after n v before xs ≡ None
+all_sound v n before [] not_one = refl
+all_sound v n before (x ∷ xs) not_one =
+    let head : fault_at n v before (length before) x ≡ None =
+    subst (λ (ys : List ArcEnds). fault_at n v ys (length before) x ≡ None) (append-nil before) (not_one 0 (length before) (omega arith)) in
+    let tail : first_fault_after n v (before ++ x ∷ []) xs ≡ None =
+    all_sound v n (before ++ x ∷ []) xs
+    (λ i k lt. subst (λ (ys : List ArcEnds). fault_at n v ys k (get_or xs i no_arc) ≡ None) (sym (append_assoc before (x ∷ []) (take i xs)))
     (not_one (suc i) k (omega arith))) in
     rw head tail
 
@@ -92,8 +91,20 @@ not_before g apart i lt =
 no_fault_of : (g : Graph) → HasEnds g → HasDistinctEnds g → first_fault g.n One g.arcs ≡ None
 unfolding first_fault
 no_fault_of g has apart =
-    all_sound g.n [] g.arcs
+    all_sound One g.n [] g.arcs
     (λ i k lt. sound g.n k (take i g.arcs) (get_or g.arcs i no_arc) (has.from i lt) (has.to i lt) (has.apart i lt) (not_before g apart i lt))
+
+sound_for_two : (n k : ℕ) (before : List ArcEnds) (a : ArcEnds) → a.from < n → a.to < n → (a.from ≡ a.to → ⊥) → fault_at n Two before k a ≡ None
+unfolding fault_at
+sound_for_two n k before a from to apart = rw (lt-ltb a.from n from, lt-ltb a.to n to, ne_eqb a.from a.to apart) refl
+
+no_fault_by : (v : Version) (h : Header) → HasEnds (digraph_in h) → IsOfVersion v (deal_with h (digraph_in h))
+    → first_fault (length h.names) v h.arcs ≡ None
+unfolding first_fault
+no_fault_by One h has apart = no_fault_of (digraph_in h) has apart
+no_fault_by Two h has keyed =
+    all_sound Two (length h.names) [] h.arcs
+    (λ i k lt. sound_for_two (length h.names) k (take i h.arcs) (get_or h.arcs i no_arc) (has.from i lt) (has.to i lt) (has.apart i lt))
 
 -- Heights, and first answers.
 
@@ -119,7 +130,7 @@ none_all f (x ∷ xs) not_one = rw (not_one x (inl refl)) (none_all f xs (λ y i
 module _ (h : Header) (a : IsProposed (deal_with h (digraph_in h))) where
   graph_is : graph_of h ≡ Ok (digraph_in h)
   unfolding graph_of digraph_of
-  graph_is = ap (λ (o : Option ArcFault). by_arcs (graph_or (length h.names) h.arcs o)) (no_fault_of (digraph_in h) a.ends a.of_version)
+  graph_is = ap (λ (o : Option ArcFault). by_arcs (graph_or (length h.names) h.arcs o)) (no_fault_by h.version h a.ends a.of_version)
 
   is_connected : connected (digraph_in h) ≡ Ok tt
   unfolding connected
@@ -216,7 +227,7 @@ passes h k e =
     let same : g.0 ≡ digraph_in h = cc (c.2) in
     let made : graph_of h ≡ Ok (digraph_in h) = subst (λ (x : Graph). graph_of h ≡ Ok x) same g.1 in
     let check : checked h (digraph_in h) ≡ Ok c.0 = subst (λ (x : Graph). checked h x ≡ Ok c.0) same c.1 in
-    let has = has_ends (length h.names) One h.arcs (sym (no_fault h (digraph_in h) made)) in
+    let has = has_ends (length h.names) h.version h.arcs (sym (no_fault h (digraph_in h) made)) in
     accepted_for h (digraph_in h) c.0 k has refl refl made check
 
 pub admitted_is_accepted : AdmittedIsAccepted

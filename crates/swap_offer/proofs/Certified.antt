@@ -1,6 +1,6 @@
 -- What the reasons of a header's checks show.
-use Rattle.std.proofs.Common.{◌≡◌, ℕ, ◌<◌, ◌==◌, ◌&&◌, Bool, true, false, cond, nat_lt, is_none, List, [], ◌∷◌, length, slice_index, Option, Some, None}
-use Rattle.std.proofs.Common.{Result, Ok, Err, refl, sym, ap, ◌∙◌, subst, arith}
+use Rattle.std.proofs.Common.{◌≡◌, ℕ, ◌==◌, ◌&&◌, Bool, true, false, cond, nat_lt, is_none, List, [], ◌∷◌, length, slice_index, Option, Some, None}
+use Rattle.std.proofs.Common.{Result, Ok, Err, refl, sym, ◌∙◌, subst, arith}
 use Rattle.std.specs.Prelude.{option_map}
 use Rattle.std.specs.List.{range_with_len}
 use Rattle.swap_base.specs.Fault.{◌>>=◌, Fails, Gives}
@@ -15,7 +15,6 @@ use Rattle.swap_digraph.specs.declared.fault.ArcFault.{ArcFault}
 use Rattle.swap_digraph.specs.declared.fault.ArcFault.TheVariants.{OutOfRange, SelfArc, Parallel}
 use Rattle.swap_digraph.specs.declared.deal.Mode.{Mode}
 use Rattle.swap_digraph.specs.declared.deal.Mode.TheVariants.{Timelocks, Hashkeys}
-use Rattle.swap_digraph.specs.declared.deal.Version.TheVariants.{One}
 use Rattle.swap_digraph.proofs.Faults.{has_ends}
 use Rattle.digraph_check.specs.Reach.{closed_set}
 use Rattle.digraph_check.proofs.ClosedSets.{closed_of_set}
@@ -34,7 +33,7 @@ use Rattle.refusals.proofs.Named.{named_err}
 use Rattle.offer_header.specs.declared.header.Header.{Header}
 use Rattle.offer_header.specs.Header.{IsWithin}
 use Rattle.offer_header.specs.Raw.{is_plain}
-use Rattle.swap_offer.specs.Checks.{graph_of, by_arcs, arc_reason, digraph_in, connected, unless_closed, one_leader, led, unless_cycle, least_bound, bounded}
+use Rattle.swap_offer.specs.Checks.{graph_of, by_arcs, digraph_in, connected, unless_closed, one_leader, led, unless_cycle, least_bound, bounded}
 use Rattle.swap_offer.specs.Checks.{started, timed, unless_wrong, wrong_timelock, timed_unless, checked, admitted, job_with}
 use Rattle.swap_offer.specs.Wallets.{conforms, seed_of, needs_seed, no_seed, seeded, wrong_seed, wrong_wallet, fitting, walleted_for, walleted}
 use Rattle.swap_offer.specs.Job.{provided, accepted_of}
@@ -84,7 +83,7 @@ module _ (h : Header) (k : IsWithin h) where
 
   of_arcs : IfBad Shows (graph_of h)
   unfolding graph_of digraph_of
-  of_arcs = go (first_fault (length h.names) One h.arcs)
+  of_arcs = go (first_fault (length h.names) h.version h.arcs)
     where
       go : (o : Option ArcFault) → IfBad (IsCertified h) (by_arcs (graph_or (length h.names) h.arcs o))
       go None = tt
@@ -95,11 +94,11 @@ module _ (h : Header) (k : IsWithin h) where
   -- the digraph that was made is the header's
   made : (g : Graph) → graph_of h ≡ Ok g → (g ≡ digraph_in h) × HasEnds (digraph_in h)
   unfolding graph_of digraph_of
-  made g e = go (first_fault (length h.names) One h.arcs) refl e
+  made g e = go (first_fault (length h.names) h.version h.arcs) refl e
     where
-      go : (o : Option ArcFault) → first_fault (length h.names) One h.arcs ≡ o → by_arcs (graph_or (length h.names) h.arcs o) ≡ Ok g
+      go : (o : Option ArcFault) → first_fault (length h.names) h.version h.arcs ≡ o → by_arcs (graph_or (length h.names) h.arcs o) ≡ Ok g
           → (g ≡ digraph_in h) × HasEnds (digraph_in h)
-      go None s e = let same : digraph_in h ≡ g = cc e in (sym same, has_ends (length h.names) One h.arcs (sym s))
+      go None s e = let same : digraph_in h ≡ g = cc e in (sym same, has_ends (length h.names) h.version h.arcs (sym s))
       go (Some f) s e = absurd (cc e)
 
   of_connected : HasEnds (digraph_in h) → IfBad Shows (connected (digraph_in h))

@@ -1,5 +1,5 @@
 -- The first line, and the lines after it.
-use Rattle.std.proofs.Common.{◌≡◌, ℕ, ◌+◌, ◌<◌, ◌≤◌, ◌++◌, suc, length, get_or, take, drop, map, List, [], ◌∷◌, Bool, true, false, eqb, cond, refl, sym, ap}
+use Rattle.std.proofs.Common.{◌≡◌, ℕ, ◌+◌, ◌<◌, ◌≤◌, ◌++◌, suc, length, List, [], ◌∷◌, Bool, true, false, eqb, cond, refl, sym, ap}
 use Rattle.std.proofs.Common.{◌∙◌, arith, append_assoc}
 use Rattle.std.proofs.lemmas.List.{append-nil}
 use Rattle.swap_offer.specs.Lines.{before, after, with_first, lines_of, is_blank, filled_lines}

@@ -3,6 +3,8 @@ pub mod Admitted
 pub mod Certified
 pub mod Events
 pub mod Filled
+pub mod Few
 pub mod Size
 pub mod Seeds
 pub mod Firsts
+pub mod Scripted

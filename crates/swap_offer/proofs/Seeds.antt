@@ -1,11 +1,11 @@
 -- A job that passes has the wallets and the seeds that its purpose needs.
-use Rattle.std.proofs.Common.{◌≡◌, ℕ, ◌<◌, ◌&&◌, Bool, true, false, cond, List, Option, Some, None, IsSome, is_none, option_map, OnOk, Result, Ok, Err}
-use Rattle.std.proofs.Common.{refl, sym, ap, subst, ◌∙◌}
+use Rattle.std.proofs.Common.{◌≡◌, ℕ, ◌<◌, ◌&&◌, ◌||◌, Bool, true, false, cond, List, Option, Some, None, IsSome, is_none, option_map, OnOk, Result, Ok, Err}
+use Rattle.std.proofs.Common.{is_some, refl, sym, ap, subst}
 use Rattle.std.specs.List.{range_with_len}
 use Rattle.swap_base.specs.Fault.{Gives}
 use Rattle.swap_base.specs.Lists.{first_of}
 use Rattle.swap_base.specs.declared.fault.Fault.{Fault}
-use Rattle.swap_base.proofs.Lists.{in_range, none_in}
+use Rattle.swap_base.proofs.Lists.{in_range, none_in, or-right}
 use Rattle.deviator_script.specs.declared.job.Job.{Job}
 use Rattle.deviator_script.specs.declared.job.Purpose.{Purpose}
 use Rattle.deviator_script.specs.declared.job.Purpose.TheVariants.{Check, Run, Race, Make, Audit}
@@ -13,8 +13,8 @@ use Rattle.refusals.specs.declared.reason.Reason.{Reason}
 use Rattle.refusals.specs.declared.reason.Reason.TheVariants.{NoSeed, WrongWallet}
 use Rattle.party_wallet.specs.Fits.{wrong_lock}
 use Rattle.swap_offer.specs.Checks.{unless_wrong}
-use Rattle.swap_offer.specs.Wallets.{conforms, seed_of, needs_seed, no_seed, seeded, wrong_seed, wrong_wallet, fitting, walleted_for, walleted}
-use Rattle.swap_offer.specs.Wallets.{HasWallet, HaveWallets, HaveWalletsFor, HaveSeedsFor}
+use Rattle.swap_offer.specs.Wallets.{conforms, seed_of, is_crafter, needs_seed, no_seed, seeded, wrong_seed, wrong_wallet, fitting, walleted_for, walleted}
+use Rattle.swap_offer.specs.Wallets.{HaveWallets, HaveWalletsFor, HaveSeedsFor}
 
 passed : (o : Option Reason) (u : Unit {0}) → unless_wrong o ≡ Ok u → o ≡ None
 passed None u e = refl
@@ -53,14 +53,17 @@ have job needs none wrong p lt c =
 needs_as : (job : Job) (purpose : Purpose) (p : ℕ) → job.purpose ≡ purpose → needs_seed purpose job p ≡ true → needs_seed job.purpose job p ≡ true
 needs_as job purpose p e c = subst (λ (x : Purpose). needs_seed x job p ≡ true) (sym e) c
 
+either : (a b : Bool) → a ≡ true → (a || b) ≡ true
+either a b e = ap (λ (x : Bool). x || b) e
+
 have_for : (job : Job) (u w : Unit {0}) → seeded job ≡ Ok u → walleted job ≡ Ok w → HaveWalletsFor job.purpose job
 unfolding seeded walleted fitting
 have_for job u w s f = by job.purpose refl f
   where
     by : (purpose : Purpose) → job.purpose ≡ purpose → walleted_for purpose job ≡ Ok w → HaveWalletsFor purpose job
     by Check e k = tt
-    by Run e k = have job (λ p c. needs_as job Run p e c) (passed _ u s) (passed _ w k)
-    by Race e k = have job (λ p c. needs_as job Race p e c) (passed _ u s) (passed _ w k)
+    by Run e k = have job (λ p c. needs_as job Run p e (either (conforms job p) (is_crafter job p) c)) (passed _ u s) (passed _ w k)
+    by Race e k = have job (λ p c. needs_as job Race p e (either (conforms job p) (is_crafter job p) c)) (passed _ u s) (passed _ w k)
     by Make e k = tt
     by Audit e k = tt
 
@@ -92,3 +95,34 @@ seeds_for job u s = by job.purpose refl
 pub seeds_on : {X : Type 0} (job : Job) (u : Unit {0}) (result : Result X (Fault Reason)) → seeded job ≡ Ok u → OnOk result (HaveSeedsFor job.purpose job)
 seeds_on job u (Ok x) s = seeds_for job u s
 seeds_on job u (Err e) s = tt
+
+pub seeded_on : {X : Type 0} (job : Job) (u : Unit {0}) (result : Result X (Fault Reason)) → seeded job ≡ Ok u → OnOk result (seeded job ≡ Ok tt)
+seeded_on job u (Ok x) s = s
+seeded_on job u (Err e) s = tt
+
+-- a party that crafts in a script has a seed
+
+-- the purpose needs it
+abbrev pub AsksCrafters : Job → Type 0
+AsksCrafters job = (p : ℕ) → is_crafter job p ≡ true → needs_seed job.purpose job p ≡ true
+
+pub asks_in_run : (job : Job) → job.purpose ≡ Run → AsksCrafters job
+asks_in_run job e p c = needs_as job Run p e (or-right (conforms job p) (is_crafter job p) c)
+
+pub asks_in_race : (job : Job) → job.purpose ≡ Race → AsksCrafters job
+asks_in_race job e p c = needs_as job Race p e (or-right (conforms job p) (is_crafter job p) c)
+
+pub asks_to_make : (job : Job) → job.purpose ≡ Make → AsksCrafters job
+asks_to_make job e p c = needs_as job Make p e refl
+
+crafter_seed : (job : Job) (p : ℕ) → AsksCrafters job → first_of (no_seed job) (range_with_len 0 job.deal.graph.n) ≡ None
+    → p < job.deal.graph.n → is_crafter job p ≡ true → is_some (seed_of job p) ≡ true
+crafter_seed job p asks none lt c =
+    let absent = none_in (no_seed job) (range_with_len 0 job.deal.graph.n) p none (in_range p job.deal.graph.n lt) in
+    let there = seed_is (needs_seed job.purpose job p) (seed_of job p) (NoSeed p) (asks p c) absent in
+    ap is_some there.1
+
+pub crafters_seeded : (job : Job) (u : Unit {0}) → AsksCrafters job → seeded job ≡ Ok u → (p : ℕ) → p < job.deal.graph.n
+    → is_crafter job p ≡ true → is_some (seed_of job p) ≡ true
+unfolding seeded
+crafters_seeded job u asks s p lt c = crafter_seed job p asks (passed _ u s) lt c

@@ -1,5 +1,6 @@
 -- The job of a header is whole.
-use Rattle.std.proofs.Common.{◌≡◌, ◌<◌, ◌≤◌, ℕ, List, length, refl, sym, ap, ◌∙◌}
+use Rattle.std.proofs.Common.{◌≡◌, ℕ, List, length, sym, ap, ◌∙◌}
+use Rattle.std.proofs.lemmas.List.{length-map}
 use Rattle.swap_digraph.specs.Value.{Graph}
 use Rattle.swap_digraph.specs.Graph.{HasEnds}
 use Rattle.swap_digraph.specs.Deal.{IsWellSized, HasKeys}
@@ -8,10 +9,11 @@ use Rattle.swap_digraph.specs.declared.deal.Mode.TheVariants.{Timelocks, Hashkey
 use Rattle.offer_header.specs.declared.header.Header.{Header}
 use Rattle.deviator_script.specs.declared.job.Purpose.{Purpose}
 use Rattle.deviator_script.specs.declared.job.Purpose.TheVariants.{Check, Run, Race, Make, Audit}
-use Rattle.offer_header.specs.Header.{IsWithin, IsUntoldFor, HasKeysFor}
+use Rattle.offer_header.specs.Header.{AreSimpleFor, IsWithin, IsUntoldFor, HasKeysFor}
+use Rattle.offer_header.specs.Limits.{conforms}
 use Rattle.swap_offer.specs.Checks.{unnamed, deal_with, job_with}
 use Rattle.swap_offer.specs.Job.{IsWhole}
-use Rattle.swap_offer.specs.Wallets.{IsUntoldJob}
+use Rattle.swap_offer.specs.Wallets.{AreSimpleRoles, IsUntoldJob}
 
 keys_of : (m : Mode) (h : Header) (g : Graph) (id : List ℕ) → g.n ≡ length h.names → HasKeysFor m (length h.names) (length h.leaders) h.keys
     → HasKeys m (unnamed h g id)
@@ -42,8 +44,9 @@ pub is_whole : (h : Header) (g : Graph) → IsWithin h → HasEnds g → g.n ≡
 is_whole h g k e n a = record {
   sized = is_sized h g (deal_with h g).id k e n a;
   names = sym n;
-  conforming = k.conforming ∙ sym n;
-  roles = refl;
+  conforming = ap length k.conforming ∙ (length-map h.roles conforms ∙ (k.roles ∙ sym n));
+  roles = k.roles ∙ sym n;
+  acting = k.conforming;
   seeds = k.seeds ∙ sym n;
 }
 
@@ -56,3 +59,13 @@ untold_by Make h g u = tt
 
 pub is_untold : (h : Header) (g : Graph) → IsUntoldFor h.purpose h → IsUntoldJob h.purpose (job_with h g)
 is_untold h g u = untold_by h.purpose h g u
+
+simple_by : (purpose : Purpose) (h : Header) (g : Graph) → AreSimpleFor purpose h → AreSimpleRoles purpose (job_with h g)
+simple_by Make h g u = tt
+simple_by Check h g u = tt
+simple_by Run h g u = tt
+simple_by Race h g u = tt
+simple_by Audit h g u = u
+
+pub are_simple : (h : Header) (g : Graph) → AreSimpleFor h.purpose h → AreSimpleRoles h.purpose (job_with h g)
+are_simple h g u = simple_by h.purpose h g u

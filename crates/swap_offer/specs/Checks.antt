@@ -1,5 +1,5 @@
 -- What makes a header's deal an accepted one, check by check in the order of the reasons.
-use Rattle.std.specs.Prelude.{ℕ, ◌==◌, Bool, true, false, nat_lt, List, [], ◌∷◌, length, slice_index, map, replicate, Option, Some, None, Result, Ok, Err}
+use Rattle.std.specs.Prelude.{ℕ, ◌==◌, Bool, true, false, nat_lt, List, [], ◌∷◌, length, slice_index, replicate, Option, Some, None, Result, Ok, Err}
 use Rattle.std.specs.Prelude.{if◌then◌else◌}
 use Rattle.swap_base.specs.Fault.{◌>>=◌}
 use Rattle.swap_base.specs.Lists.{first_of}
@@ -13,13 +13,10 @@ use Rattle.swap_digraph.specs.declared.fault.ArcFault.TheVariants as faults
 use Rattle.swap_digraph.specs.declared.deal.Deal.{Deal}
 use Rattle.swap_digraph.specs.declared.deal.Mode.{Mode}
 use Rattle.swap_digraph.specs.declared.deal.Mode.TheVariants.{Timelocks, Hashkeys}
-use Rattle.swap_digraph.specs.declared.deal.Version.TheVariants.{One}
 use Rattle.hashkey_path.specs.Digest.{deal_id}
 use Rattle.digraph_check.specs.Reach.{closed_set}
 use Rattle.leader_check.specs.Cycles.{follower_cycle}
 use Rattle.leader_check.specs.Levels.{height_of}
-use Rattle.deviator_script.specs.declared.job.Role.{Role}
-use Rattle.deviator_script.specs.declared.job.Role.TheVariants.{Conforming, Manual}
 use Rattle.deviator_script.specs.declared.job.Job.{Job}
 use Rattle.deviator_script.specs.declared.job.Purpose.{Purpose}
 use Rattle.refusals.specs.declared.reason.Reason.{Reason}
@@ -46,7 +43,7 @@ digraph_in h = record { n = length h.names; arcs = h.arcs }
 
 -- the digraph of the header's arcs
 unfoldable pub graph_of : Header → Result Graph Reason
-graph_of h = by_arcs (digraph_of (length h.names) One h.arcs)
+graph_of h = by_arcs (digraph_of (length h.names) h.version h.arcs)
 
 abbrev pub unless_closed : Option (List ℕ) → Result (Unit {0}) Reason
 unless_closed None = Ok tt
@@ -106,14 +103,10 @@ abbrev pub timed_unless : (plain : Bool) → Header → Graph → Result (Unit {
 timed_unless true h g = Ok tt
 timed_unless false h g = timed h g h.mode h.leaders
 
-abbrev pub role_of : Bool → Role
-role_of true = Conforming
-role_of false = Manual
-
 -- the deal but for its id
 abbrev pub unnamed : Header → Graph → List ℕ → Deal
 unnamed h g id = record {
-  version = One;
+  version = h.version;
   graph = g;
   leaders = h.leaders;
   start = h.start;
@@ -136,7 +129,7 @@ job_with h g = record {
   purpose = h.purpose;
   deal = deal_with h g;
   names = h.names;
-  roles = map role_of h.conforming;
+  roles = h.roles;
   conforming = h.conforming;
   seeds = h.seeds;
   finish = h.finish;

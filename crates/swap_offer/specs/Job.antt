@@ -9,10 +9,11 @@ use Rattle.refusals.specs.declared.reason.Reason.{Reason}
 use Rattle.refusals.specs.declared.reason.Reason.TheVariants.{NotJson, OverLimit}
 use Rattle.offer_header.specs.Raw.{is_plain}
 use Rattle.offer_header.specs.Header.{header_of}
+use Rattle.offer_header.specs.Limits.{conforms}
 use Rattle.offer_events.specs.Event.{event_of}
 use Rattle.swap_offer.specs.Lines.{lines_of, filled_lines}
 use Rattle.offer_header.specs.declared.header.Header.{Header}
-use Rattle.swap_offer.specs.Checks.{admitted, job_with, role_of}
+use Rattle.swap_offer.specs.Checks.{admitted, job_with}
 use Rattle.swap_offer.specs.Wallets.{seeded, walleted}
 
 -- a job has the seeds that it needs
@@ -28,10 +29,10 @@ accepted_of h = do
   u ← provided (job_with h g)
   Ok (job_with h g)
 
--- the job of a header line
-unfoldable pub job_header_of : Purpose → ℕ → List ℕ → Result Job Reason
-job_header_of purpose line text = do
-  h ← header_of purpose line text
+-- the job of a header line, whose strategies are those that are had
+unfoldable pub job_header_of : (List ℕ → Bool) → Purpose → ℕ → List ℕ → Result Job Reason
+job_header_of has purpose line text = do
+  h ← header_of has purpose line text
   accepted_of h
 
 abbrev pub names_or_none : Result Header Reason → List (List ℕ)
@@ -39,13 +40,13 @@ names_or_none (Ok h) = h.names
 names_or_none (Err reason) = []
 
 -- the names of the parties in a header line; none where it has no header within its limits
-unfoldable pub names_at : Purpose → ℕ → List ℕ → List (List ℕ)
-names_at purpose line text = names_or_none (header_of purpose line text)
+unfoldable pub names_at : (List ℕ → Bool) → Purpose → ℕ → List ℕ → List (List ℕ)
+names_at has purpose line text = names_or_none (header_of has purpose line text)
 
 -- the names of the parties that an offer's lines speak of
-abbrev pub names_in : Purpose → List (ℕ × List ℕ) → List (List ℕ)
-names_in purpose [] = []
-names_in purpose (l ∷ ls) = names_at purpose l.0 l.1
+abbrev pub names_in : (List ℕ → Bool) → Purpose → List (ℕ × List ℕ) → List (List ℕ)
+names_in has purpose [] = []
+names_in has purpose (l ∷ ls) = names_at has purpose l.0 l.1
 
 -- the event of a line, where so many events came before
 unfoldable pub next_of : Job → ℕ → ℕ → List ℕ → Result Event Reason
@@ -68,22 +69,23 @@ events_unless false job ls = events_of job 0 ls
 abbrev pub events_for : Purpose → Job → List (ℕ × List ℕ) → Result (List Event) Reason
 events_for purpose job ls = events_unless (is_plain purpose) job ls
 
-abbrev pub of_lines : Purpose → List (ℕ × List ℕ) → Result (Job × List Event) Reason
-of_lines purpose [] = Err (NotJson 1)
-of_lines purpose (l ∷ ls) = job_header_of purpose l.0 l.1 >>= λ job. events_for purpose job ls >>= λ events. Ok (job, events)
+abbrev pub of_lines : (List ℕ → Bool) → Purpose → List (ℕ × List ℕ) → Result (Job × List Event) Reason
+of_lines has purpose [] = Err (NotJson 1)
+of_lines has purpose (l ∷ ls) = job_header_of has purpose l.0 l.1 >>= λ job. events_for purpose job ls >>= λ events. Ok (job, events)
 
 -- the names of the parties that an offer's bytes speak of
-abbrev pub names_of_offer : Purpose → List ℕ → List (List ℕ)
-names_of_offer purpose bytes = names_in purpose (filled_lines 1 (lines_of bytes))
+abbrev pub names_of_offer : (List ℕ → Bool) → Purpose → List ℕ → List (List ℕ)
+names_of_offer has purpose bytes = names_in has purpose (filled_lines 1 (lines_of bytes))
 
 -- the job and the events of an offer's bytes
-unfoldable pub job_of : Purpose → List ℕ → Result (Job × List Event) Reason
-job_of purpose bytes = of_lines purpose (filled_lines 1 (lines_of bytes))
+unfoldable pub job_of : (List ℕ → Bool) → Purpose → List ℕ → Result (Job × List Event) Reason
+job_of has purpose bytes = of_lines has purpose (filled_lines 1 (lines_of bytes))
 
 -- A job whose deal is well sized, with a name, a role and perhaps a seed per party.
 pub record IsWhole (job : Job) : Type 0 where
   pub sized : IsWellSized job.deal
   pub names : length job.names ≡ job.deal.graph.n
   pub conforming : length job.conforming ≡ job.deal.graph.n
-  pub roles : job.roles ≡ map role_of job.conforming
+  pub roles : length job.roles ≡ job.deal.graph.n
+  pub acting : job.conforming ≡ map conforms job.roles
   pub seeds : length job.seeds ≡ job.deal.graph.n

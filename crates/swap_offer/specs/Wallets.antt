@@ -1,13 +1,21 @@
 -- The seeds that a job needs, and whether they are those of its deal.
-use Rattle.std.specs.Prelude.{◌≡◌, ℕ, ◌<◌, ◌&&◌, Bool, true, false, List, [], is_none, slice_index_or, option_map, if◌then◌else◌, Option, Some, None, Result}
+use Rattle.std.specs.Prelude.{◌≡◌, ℕ, ◌<◌, ◌&&◌, ◌||◌, nat_eq, All, Bool, true, false, List, [], map, is_none, slice_index_or, option_map}
+use Rattle.std.specs.Prelude.{if◌then◌else◌, Option, Some, None, Result}
 use Rattle.std.specs.Prelude.{Ok}
-use Rattle.std.specs.List.{range_with_len}
+use Rattle.std.specs.List.{list_any, range_with_len}
 use Rattle.swap_base.specs.Lists.{first_of}
 use Rattle.deviator_script.specs.declared.job.Job.{Job}
+use Rattle.deviator_script.specs.Script.{IsMoveOf}
+use Rattle.deviator_script.specs.declared.moves.Move.{Move}
+use Rattle.deviator_script.specs.declared.moves.Move.TheVariants.{Craft}
+use Rattle.deviator_script.specs.declared.job.Role.{Role}
+use Rattle.deviator_script.specs.declared.job.Role.TheVariants.{Manual}
 use Rattle.deviator_script.specs.declared.job.Purpose.{Purpose}
 use Rattle.deviator_script.specs.declared.job.Purpose.TheVariants.{Run, Race, Make, Audit}
 use Rattle.deviator_script.specs.declared.job.Finish.TheVariants.{Stop}
 use Rattle.proposed_deal.specs.Proposed.{HaveSeeds}
+use Rattle.offer_header.specs.Header.{simple_role}
+use Rattle.offer_header.specs.Scripts.{script_of}
 use Rattle.refusals.specs.declared.reason.Reason.{Reason}
 use Rattle.refusals.specs.declared.reason.Reason.TheVariants.{NoSeed, WrongWallet}
 use Rattle.party_wallet.specs.Fits.{wrong_lock}
@@ -23,10 +31,22 @@ conforms job p = slice_index_or job.conforming p false
 abbrev pub seed_of : Job → ℕ → Option (List ℕ)
 seed_of job p = slice_index_or job.seeds p None
 
--- the parties whose seeds a purpose needs: for a run and a race those that conform, for making all
+-- party p crafts a hashkey in a move
+abbrev pub crafts : ℕ → Move → Bool
+crafts p (Craft a lock via onto) = list_any (nat_eq p) via
+crafts p _ = false
+
+-- party p crafts a hashkey in a script
+abbrev pub crafts_in : ℕ → Role → Bool
+crafts_in p role = list_any (crafts p) (script_of role)
+
+abbrev pub is_crafter : Job → ℕ → Bool
+is_crafter job p = list_any (crafts_in p) job.roles
+
+-- the parties whose seeds a purpose needs: for a run and a race those that conform or craft in a script, for making all
 abbrev pub needs_seed : Purpose → Job → ℕ → Bool
-needs_seed Run job p = conforms job p
-needs_seed Race job p = conforms job p
+needs_seed Run job p = conforms job p || is_crafter job p
+needs_seed Race job p = conforms job p || is_crafter job p
 needs_seed Make job p = true
 needs_seed _ job p = false
 
@@ -92,3 +112,23 @@ HaveSeedsFor _ job = Unit {0}
 abbrev pub IsUntoldJob : Purpose → Job → Type 0
 IsUntoldJob Audit job = ((p : ℕ) → seed_of job p ≡ None) × (job.finish ≡ Stop)
 IsUntoldJob _ job = Unit {0}
+
+-- the role of party p
+abbrev pub role_in : Job → ℕ → Role
+role_in job p = slice_index_or job.roles p Manual
+
+-- each move of a script fits, and stands on an arc that touches its party
+abbrev pub HaveScripts : Job → Type 0
+HaveScripts job = (p : ℕ) → p < job.deal.graph.n → All (IsMoveOf job.deal job.seeds p) (script_of (role_in job p))
+
+-- for a run and a race, and of a plain job
+abbrev pub HaveScriptsFor : Purpose → Job → Type 0
+HaveScriptsFor Run job = HaveScripts job
+HaveScriptsFor Race job = HaveScripts job
+HaveScriptsFor Make job = HaveScripts job
+HaveScriptsFor _ job = Unit {0}
+
+-- in a transcript each role is simple
+abbrev pub AreSimpleRoles : Purpose → Job → Type 0
+AreSimpleRoles Audit job = job.roles ≡ map simple_role job.conforming
+AreSimpleRoles _ job = Unit {0}

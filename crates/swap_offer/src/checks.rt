@@ -18,7 +18,7 @@ use refusals::{OfferFault, Reason};
 use single_leader::dist;
 use std::alloc::Global;
 use swap_base::{ArcId, Fault, PartyId, TryCopy};
-use swap_digraph::{ArcFault, Digraph, Mode, Version};
+use swap_digraph::{ArcFault, Digraph, Mode};
 use time_bounds::{need, timelock};
 
 fn arc_reason(fault: ArcFault) -> Reason
@@ -32,7 +32,7 @@ fn arc_reason(fault: ArcFault) -> Reason
 }
 
 /// The digraph of the header's arcs, or the first fault of the least arc that has one.
-#[tactic(auto, unfolding(crate::specs::Checks::graph_of))]
+#[tactic(auto, using(crate::proofs::Few::few_names, crate::proofs::Few::few_arcs), unfolding(crate::specs::Checks::graph_of))]
 pub(crate) fn graph_in(alloc: Global, header: &Header) -> Result<Digraph, OfferFault>
     requires { IsWithin header.now }
     ensures exact { Gives (λ g. g) result (graph_of header.now) }
@@ -40,7 +40,7 @@ pub(crate) fn graph_in(alloc: Global, header: &Header) -> Result<Digraph, OfferF
     ensures ends { IfOk result (λ g. HasEnds g) }
 {
     let arcs = header.arcs.copy()?.into_vec();
-    match Digraph::new(alloc, header.names.len() as u8, arcs, Version::One) {
+    match Digraph::new(alloc, header.names.len() as u8, arcs, header.version) {
         Ok(graph) => Ok(graph),
         Err(Fault::Refused(fault)) => Err(Fault::Refused(arc_reason(fault))),
         Err(Fault::NoMemory) => Err(Fault::NoMemory),
@@ -143,6 +143,7 @@ fn wrong_timelock(
     }
 }
 
+#[tactic(auto, using(crate::proofs::Few::few_arcs))]
 fn first_wrong_timelock(
     header: &Header,
     graph: &Digraph,
@@ -218,7 +219,7 @@ fn check_times(
 }
 
 /// The least bound of a header whose digraph, leaders and times pass their checks, which come in order.
-#[tactic(auto, unfolding(crate::specs::Checks::checked))]
+#[tactic(auto, using(crate::proofs::Few::few_names, crate::proofs::Few::few_arcs), unfolding(crate::specs::Checks::checked))]
 pub(crate) fn check_header(
     alloc: Global,
     header: &Header,

@@ -6,33 +6,33 @@ ghost use Rattle.swap_digraph.specs.Deal.{IsWellSized};
 ghost use Rattle.swap_digraph.specs.Graph.{HasEnds};
 ghost use Rattle.refusals.specs.Refusal.{named};
 ghost use Rattle.offer_header.specs.declared.header.Header.{Header};
-ghost use Rattle.offer_header.specs.Header.{header_of, IsUntoldFor, IsWithin};
-ghost use Rattle.offer_header.specs.Names.{AreNames};
-ghost use Rattle.swap_offer.specs.Checks.{admitted, deal_with, job_with, least_bound, need_of, role_of, unnamed, IsAcceptedFor};
+ghost use Rattle.offer_header.specs.Header.{header_of, AreSimpleFor, IsUntoldFor, IsWithin};
+ghost use Rattle.offer_header.specs.Limits.{HoldsEach};
+ghost use Rattle.offer_header.specs.Names.{has_strategy, AreNames};
+ghost use Rattle.offer_header.specs.Scripts.{scripts_placed, AreMade};
+ghost use Rattle.swap_offer.specs.Checks.{admitted, deal_with, job_with, least_bound, need_of, unnamed, IsAcceptedFor};
 ghost use Rattle.swap_offer.specs.Certificates.{Certifies};
-ghost use Rattle.swap_offer.specs.Wallets.{HaveSeedsFor, HaveWalletsFor, IsUntoldJob, wallets_for};
+ghost use Rattle.swap_offer.specs.Wallets.{seeded, AreSimpleRoles, HaveScriptsFor, HaveSeedsFor, HaveWalletsFor, IsUntoldJob, wallets_for};
 ghost use Rattle.swap_offer.specs.Job.{accepted_of, job_header_of, names_at, provided, IsWhole};
 
 use crate::checks::{check_header, graph_in};
 use crate::prepared::Prepared;
-use crate::roles::roles_of;
 use crate::wallets::{check_seeds, wallets_for};
-use deviator_script::{Job, Purpose};
+use deviator_script::{Job, Kit, Purpose};
 use hashkey_path::deal_digest;
 use offer_header::{Header, header_in};
 use party_wallet::Wallet;
 use refusals::{HeaderFault, OfferFault, with_names};
 use std::alloc::Global;
-use swap_base::{Listed, NoMemory};
-use swap_digraph::{Deal, Digraph, Version};
+use swap_base::Listed;
+use swap_digraph::{Deal, Digraph};
 
-fn job_with(alloc: Global, header: Header, graph: Digraph) -> Result<Job, NoMemory>
+fn job_with(header: Header, graph: Digraph) -> Job
     requires sized { (id : List ℕ) → IsWellSized (unnamed header graph id) }
-    ensures { IfOk result (λ j. j ≡ job_with header graph) }
+    ensures { result ≡ job_with header graph }
 {
-    let roles = roles_of(alloc, header.conforming.as_slice())?;
     let mut deal = Deal {
-        version: Version::One,
+        version: header.version,
         graph,
         leaders: header.leaders,
         start: header.start,
@@ -46,15 +46,15 @@ fn job_with(alloc: Global, header: Header, graph: Digraph) -> Result<Job, NoMemo
         id: [0; 32],
     };
     deal.id = deal_digest(&deal);
-    Ok(Job {
+    Job {
         purpose: header.purpose,
         deal,
         names: header.names,
-        roles,
+        roles: header.roles,
         conforming: header.conforming,
         seeds: header.seeds,
         finish: header.finish,
-    })
+    }
 }
 
 /// The digraph of a header whose digraph, leaders and times pass their checks, and the least bound.
@@ -77,6 +77,7 @@ fn admit(alloc: Global, header: &Header) -> Result<(Digraph, u32), OfferFault>
 fn provide(alloc: Global, job: &Job) -> Result<Vec<Option<Wallet>>, OfferFault>
     requires whole { IsWhole job.now }
     ensures exact { Gives (λ _. tt) result (provided job.now) }
+    ensures seeded { OnOk result (seeded job.now ≡ Ok tt) }
     ensures wallets { OnOk result (HaveWalletsFor job.now.purpose job.now) }
     ensures seeds { OnOk result (HaveSeedsFor job.now.purpose job.now) }
     ensures made { IfOk result (λ v. v.items ≡ wallets_for job.now.purpose job.now) }
@@ -86,19 +87,24 @@ fn provide(alloc: Global, job: &Job) -> Result<Vec<Option<Wallet>>, OfferFault>
 }
 
 /// The job of a header within its limits, with its wallets. A reason against it takes the header's names.
-#[tactic(auto, using(crate::proofs::Size::is_whole, crate::proofs::Size::is_sized, crate::proofs::Size::is_untold, refusals::proofs::Named::fails), unfolding(crate::specs::Job::accepted_of))]
-fn accept(alloc: Global, header: Header) -> Result<Prepared, HeaderFault>
+#[tactic(auto, using(crate::proofs::Size::is_whole, crate::proofs::Size::is_sized, crate::proofs::Size::is_untold, crate::proofs::Size::are_simple, refusals::proofs::Named::fails), unfolding(crate::specs::Job::accepted_of))]
+fn accept(alloc: Global, line: u32, header: Header) -> Result<Prepared, HeaderFault>
     requires within { IsWithin header }
     requires untold { IsUntoldFor header.purpose header }
+    requires simple { AreSimpleFor header.purpose header }
+    requires placed { scripts_placed line header ≡ Ok tt }
+    requires made { AreMade line header }
     ensures exact { Gives (λ p. p.job) result (named header.names (accepted_of header)) }
     ensures names { IfOk result (λ p. p.job.names ≡ header.names) }
     ensures known { IfOk result (λ p. AreNames p.job.names) }
     ensures purpose { IfOk result (λ p. p.job.purpose ≡ header.purpose) }
     ensures whole { IfOk result (λ p. IsWhole p.job) }
-    ensures roles { IfOk result (λ p. p.job.roles ≡ map role_of p.job.conforming) }
     ensures accepted { IfOk result (λ p. IsAcceptedFor header.purpose p.job.deal) }
     ensures wallets { IfOk result (λ p. HaveWalletsFor header.purpose p.job) }
     ensures seeds { IfOk result (λ p. HaveSeedsFor header.purpose p.job) }
+    ensures roles { IfOk result (λ p. AreSimpleRoles header.purpose p.job) }
+    ensures acting { IfOk result (λ p. p.job.roles ≡ header.roles) }
+    ensures scripts { IfOk result (λ p. HaveScriptsFor header.purpose p.job) }
     ensures untold { IfOk result (λ p. IsUntoldJob header.purpose p.job) }
     ensures made { IfOk result (λ p. p.wallets.items ≡ wallets_for header.purpose p.job) }
     ensures need { IfOk result (λ p. p.need ≡ need_of p.job.deal) }
@@ -107,7 +113,7 @@ fn accept(alloc: Global, header: Header) -> Result<Prepared, HeaderFault>
         Ok(admitted) => admitted,
         Err(fault) => return Err(with_names(fault, header.names)),
     };
-    let job = job_with(alloc, header, graph)?;
+    let job = job_with(header, graph);
     match provide(alloc, &job) {
         Ok(wallets) => Ok(Prepared { job, wallets, need }),
         Err(fault) => Err(with_names(fault, job.names)),
@@ -118,32 +124,37 @@ fn accept(alloc: Global, header: Header) -> Result<Prepared, HeaderFault>
 ///
 /// For a run and a race there is one place per party: the wallet of a party that conforms and has a seed. For
 /// any other purpose there is none: for a check each wallet is let go once it was examined, and a plain job and
-/// a transcript have nothing to examine. A reason against a later line takes the names of the job.
+/// a transcript have nothing to examine. Strategies are those of the kit. A reason against a later line takes
+/// the names of the job.
 #[tactic(auto, using(refusals::proofs::Named::fails), unfolding(crate::specs::Job::job_header_of, crate::specs::Job::names_at))]
 pub fn read_header(
     alloc: Global,
     line: u32,
     text: &[u8],
     purpose: Purpose,
+    kit: &Kit,
 ) -> Result<Prepared, HeaderFault>
-    ensures exact { Gives (λ p. p.job) result (named (names_at purpose line text.now) (job_header_of purpose line text.now)) }
-    ensures names { IfOk result (λ p. p.job.names ≡ names_at purpose line text.now) }
+    ensures exact { Gives (λ p. p.job) result (named (names_at (has_strategy kit.now.names kit.now.strategies.items) purpose line text.now)
+        (job_header_of (has_strategy kit.now.names kit.now.strategies.items) purpose line text.now)) }
+    ensures names { IfOk result (λ p. p.job.names ≡ names_at (has_strategy kit.now.names kit.now.strategies.items) purpose line text.now) }
     ensures known { IfOk result (λ p. AreNames p.job.names) }
     ensures purpose { IfOk result (λ p. p.job.purpose ≡ purpose) }
     ensures whole { IfOk result (λ p. IsWhole p.job) }
-    ensures roles { IfOk result (λ p. p.job.roles ≡ map role_of p.job.conforming) }
     ensures accepted { IfOk result (λ p. IsAcceptedFor purpose p.job.deal) }
     ensures wallets { IfOk result (λ p. HaveWalletsFor purpose p.job) }
     ensures seeds { IfOk result (λ p. HaveSeedsFor purpose p.job) }
+    ensures roles { IfOk result (λ p. AreSimpleRoles purpose p.job) }
+    ensures strategies { IfOk result (λ p. HoldsEach (has_strategy kit.now.names kit.now.strategies.items) p.job.roles) }
+    ensures scripts { IfOk result (λ p. HaveScriptsFor purpose p.job) }
     ensures untold { IfOk result (λ p. IsUntoldJob purpose p.job) }
     ensures made { IfOk result (λ p. p.wallets.items ≡ wallets_for purpose p.job) }
     ensures need { IfOk result (λ p. p.need ≡ need_of p.job.deal) }
     // A closed set or a cycle of followers that is named is one of the header's digraph.
-    ensures certified { (h : Header) → header_of purpose line text.now ≡ Ok h → Certifies h result }
+    ensures certified { (h : Header) → header_of (has_strategy kit.now.names kit.now.strategies.items) purpose line text.now ≡ Ok h → Certifies h result }
 {
-    let header = match header_in(alloc, purpose, line, text) {
+    let header = match header_in(alloc, kit, purpose, line, text) {
         Ok(header) => header,
         Err(fault) => return Err(with_names(fault, Listed::empty(alloc))),
     };
-    accept(alloc, header)
+    accept(alloc, line, header)
 }

@@ -5,6 +5,7 @@ ghost use Rattle.swap_base.specs.Fault.{Gives, steps};
 ghost use Rattle.deviator_script.specs.Step.{IsEventOf};
 ghost use Rattle.offer_events.specs.Event.{needs_seeds};
 ghost use Rattle.refusals.specs.Refusal.{named};
+ghost use Rattle.offer_header.specs.Names.{has_strategy};
 ghost use Rattle.offer_header.specs.Raw.{is_plain};
 ghost use Rattle.swap_offer.specs.Checks.{IsAcceptedFor};
 ghost use Rattle.swap_offer.specs.Job.{next_of, counted, events_of, events_for, of_lines, job_of, names_at, names_in, names_of_offer, IsWhole};
@@ -12,7 +13,7 @@ ghost use Rattle.swap_offer.specs.Job.{next_of, counted, events_of, events_for, 
 use crate::header::read_header;
 use crate::lines::filled_lines;
 use crate::prepared::Prepared;
-use deviator_script::{Event, Job, Purpose};
+use deviator_script::{Event, Job, Kit, Purpose};
 use offer_events::read_event;
 use offer_header::is_plain;
 use refusals::{HeaderFault, OfferFault, Reason, Refusal, over_limit, with_names};
@@ -103,17 +104,18 @@ fn read_further(
 fn read_from(
     alloc: Global,
     purpose: Purpose,
+    kit: &Kit,
     line: u32,
     text: &[u8],
     further: &[(u32, &[u8])],
 ) -> Result<(Job, Vec<Event>), HeaderFault>
     requires few { length further.now < 2 ^ 31 }
-    ensures exact { Gives (λ j. (j.0, j.1.items)) result (named (names_at purpose line text.now)
-        (of_lines purpose ((line, text.now) ∷ map (λ l. (l.0, l.1.now)) further.now))) }
+    ensures exact { Gives (λ j. (j.0, j.1.items)) result (named (names_at (has_strategy kit.now.names kit.now.strategies.items) purpose line text.now)
+        (of_lines (has_strategy kit.now.names kit.now.strategies.items) purpose ((line, text.now) ∷ map (λ l. (l.0, l.1.now)) further.now))) }
     ensures whole { IfOk result (λ j. IsWhole j.0) }
     ensures accepted { IfOk result (λ j. IsAcceptedFor purpose j.0.deal) }
 {
-    let Prepared { job, .. } = read_header(alloc, line, text, purpose)?;
+    let Prepared { job, .. } = read_header(alloc, line, text, purpose, kit)?;
     match read_further(alloc, purpose, &job, further) {
         Ok(events) => Ok((job, events)),
         Err(fault) => Err(with_names(fault, job.names)),
@@ -123,11 +125,13 @@ fn read_from(
 fn read_lines(
     alloc: Global,
     purpose: Purpose,
+    kit: &Kit,
     lines: &[(u32, &[u8])],
 ) -> Result<(Job, Vec<Event>), HeaderFault>
     requires few { length lines.now < 2 ^ 31 }
-    ensures exact { Gives (λ j. (j.0, j.1.items)) result (named (names_in purpose (map (λ l. (l.0, l.1.now)) lines.now))
-        (of_lines purpose (map (λ l. (l.0, l.1.now)) lines.now))) }
+    ensures exact { Gives (λ j. (j.0, j.1.items)) result (named
+        (names_in (has_strategy kit.now.names kit.now.strategies.items) purpose (map (λ l. (l.0, l.1.now)) lines.now))
+        (of_lines (has_strategy kit.now.names kit.now.strategies.items) purpose (map (λ l. (l.0, l.1.now)) lines.now))) }
     ensures whole { IfOk result (λ j. IsWhole j.0) }
     ensures accepted { IfOk result (λ j. IsAcceptedFor purpose j.0.deal) }
 {
@@ -137,7 +141,7 @@ fn read_lines(
         return Err(Fault::Refused(Refusal { reason, names }));
     }
     let (line, text) = lines[0];
-    read_from(alloc, purpose, line, text, &lines[1..])
+    read_from(alloc, purpose, kit, line, text, &lines[1..])
 }
 
 /// The job and the events of an offer, or the first reason against it with the names in its header.
@@ -146,12 +150,14 @@ pub fn read_job(
     alloc: Global,
     bytes: &[u8],
     purpose: Purpose,
+    kit: &Kit,
 ) -> Result<(Job, Vec<Event>), HeaderFault>
     requires few { length bytes.now < 2 ^ 31 }
-    ensures exact { Gives (λ j. (j.0, j.1.items)) result (named (names_of_offer purpose bytes.now) (job_of purpose bytes.now)) }
+    ensures exact { Gives (λ j. (j.0, j.1.items)) result (named (names_of_offer (has_strategy kit.now.names kit.now.strategies.items) purpose bytes.now)
+        (job_of (has_strategy kit.now.names kit.now.strategies.items) purpose bytes.now)) }
     ensures whole { IfOk result (λ j. IsWhole j.0) }
     ensures accepted { IfOk result (λ j. IsAcceptedFor purpose j.0.deal) }
 {
     let lines = filled_lines(alloc, bytes)?;
-    read_lines(alloc, purpose, &lines)
+    read_lines(alloc, purpose, kit, &lines)
 }

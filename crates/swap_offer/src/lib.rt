@@ -9,7 +9,6 @@ mod job;
 mod laws;
 mod lines;
 mod prepared;
-mod roles;
 mod wallets;
 
 pub use header::read_header;

@@ -1,7 +1,7 @@
 //! The seeds and the wallets of parties.
 
-ghost use Rattle.std.specs.Prelude.{◌≡◌, ◌<◌, IfOk, option_map};
-ghost use Rattle.std.specs.List.{range_with_len};
+ghost use Rattle.std.specs.Prelude.{◌≡◌, ◌<◌, IfOk, nat_eq, option_map};
+ghost use Rattle.std.specs.List.{list_any, range_with_len};
 ghost use Rattle.swap_base.specs.Lists.{first_of};
 ghost use Rattle.swap_base.specs.Fault.{Gives};
 ghost use Rattle.swap_digraph.specs.Deal.{IsWellSized};
@@ -11,14 +11,67 @@ ghost use Rattle.party_wallet.specs.Keys.{new_wallet};
 ghost use Rattle.party_wallet.specs.Wallets.{wallet_for, wallets_of};
 ghost use Rattle.swap_offer.specs.Checks.{unless_wrong};
 ghost use Rattle.swap_offer.specs.Job.{IsWhole};
-ghost use Rattle.swap_offer.specs.Wallets.{needs_seed, no_seed, seeded, wrong_wallet, fitting, walleted, wallets_for};
+ghost use Rattle.swap_offer.specs.Wallets.{crafts, crafts_in, is_crafter, needs_seed, no_seed, seeded, wrong_wallet, fitting, walleted, wallets_for};
 
-use deviator_script::{Job, Purpose};
+use deviator_script::{Job, Move, Purpose, Role};
 use party_wallet::Wallet;
 use refusals::{OfferFault, Reason};
 use std::alloc::Global;
 use swap_base::{Digest, Fault, PartyId};
 use swap_digraph::Deal;
+
+/// Whether a party is among those that make a hashkey.
+fn is_among(p: PartyId, via: &[PartyId]) -> bool
+    ensures { result ≡ list_any (nat_eq p) via.now }
+{
+    for v in via {
+        if p == *v {
+            return true;
+        }
+    }
+    false
+}
+
+fn crafts(p: PartyId, mv: &Move) -> bool
+    ensures { result ≡ crafts p mv.now }
+{
+    match mv {
+        Move::Craft { via, .. } => is_among(p, via.as_slice()),
+        _ => false,
+    }
+}
+
+fn crafts_in_one(p: PartyId, moves: &[Move]) -> bool
+    ensures { result ≡ list_any (crafts p) moves.now }
+{
+    for mv in moves {
+        if crafts(p, mv) {
+            return true;
+        }
+    }
+    false
+}
+
+fn crafts_in(p: PartyId, role: &Role) -> bool
+    ensures { result ≡ crafts_in p role.now }
+{
+    match role {
+        Role::Script(moves) => crafts_in_one(p, moves.as_slice()),
+        _ => false,
+    }
+}
+
+/// Whether a party crafts a hashkey in a script.
+fn is_crafter(job: &Job, p: PartyId) -> bool
+    ensures { result ≡ is_crafter job.now p }
+{
+    for role in job.roles.as_slice() {
+        if crafts_in(p, role) {
+            return true;
+        }
+    }
+    false
+}
 
 fn needs_seed(job: &Job, p: PartyId) -> bool
     requires whole { IsWhole job.now }
@@ -26,7 +79,7 @@ fn needs_seed(job: &Job, p: PartyId) -> bool
     ensures { result ≡ needs_seed job.now.purpose job.now p }
 {
     match job.purpose {
-        Purpose::Run | Purpose::Race => job.conforming.as_slice()[p as usize],
+        Purpose::Run | Purpose::Race => job.conforming.as_slice()[p as usize] || is_crafter(job, p),
         Purpose::Make => true,
         Purpose::Check | Purpose::Audit => false,
     }

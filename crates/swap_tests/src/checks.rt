@@ -1,8 +1,8 @@
 //! What `check` tells of an accepted offer. The needs, times and timelocks of these come from the rule book by another program.
 
-use crate::deals::{HASHKEYS, TIMELOCKS};
-use crate::runner::cases;
 use std::test::Fail;
+use table_runner::cases;
+use table_runner::deals::{HASHKEYS, TIMELOCKS};
 
 /// Deals of their own.
 const DEALS: &str = concat!(
@@ -538,11 +538,11 @@ swap: refused: BoundTooSmall 1 2
 
 #[test]
 fn checks(rt: HostRuntime) -> Result<(), Fail> {
-    cases(&rt, rt.alloc(), "check", "", DEALS)
+    cases(rt.alloc(), "check", "", DEALS)
 }
 
 #[test]
 fn checks_the_deal(rt: HostRuntime) -> Result<(), Fail> {
-    cases(&rt, rt.alloc(), "check", TIMELOCKS, EDITS)?;
-    cases(&rt, rt.alloc(), "check", HASHKEYS, EDITS)
+    cases(rt.alloc(), "check", TIMELOCKS, EDITS)?;
+    cases(rt.alloc(), "check", HASHKEYS, EDITS)
 }

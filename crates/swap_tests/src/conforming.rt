@@ -1,8 +1,8 @@
 //! Runs by events: what conforming parties do when they look and act, in time and too late, and what isn't ended.
 
-use crate::deals::HASHKEYS;
-use crate::runner::cases;
 use std::test::Fail;
+use table_runner::cases;
+use table_runner::deals::HASHKEYS;
 
 /// The deal with hashkeys.
 const WITH_HASHKEYS: &str = concat!(
@@ -353,10 +353,10 @@ findings 0
 
 #[test]
 fn conducts_with_hashkeys(rt: HostRuntime) -> Result<(), Fail> {
-    cases(&rt, rt.alloc(), "run", HASHKEYS, WITH_HASHKEYS)
+    cases(rt.alloc(), "run", HASHKEYS, WITH_HASHKEYS)
 }
 
 #[test]
 fn conducts_with_timelocks(rt: HostRuntime) -> Result<(), Fail> {
-    cases(&rt, rt.alloc(), "run", "", WITH_TIMELOCKS)
+    cases(rt.alloc(), "run", "", WITH_TIMELOCKS)
 }

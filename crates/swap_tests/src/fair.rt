@@ -1,8 +1,8 @@
 //! Runs with a fair finish: what the conforming parties come to, whatever the others did before it.
 
-use crate::deals::{HASHKEYS, TIMELOCKS};
-use crate::runner::cases;
 use std::test::Fail;
+use table_runner::cases;
+use table_runner::deals::{HASHKEYS, TIMELOCKS};
 
 /// Three parties of whom two lead.
 const TWO_LEADERS: &str = concat!(
@@ -478,20 +478,20 @@ findings 0
 
 #[test]
 fn finishes(rt: HostRuntime) -> Result<(), Fail> {
-    cases(&rt, rt.alloc(), "run", HASHKEYS, WITH_HASHKEYS)
+    cases(rt.alloc(), "run", HASHKEYS, WITH_HASHKEYS)
 }
 
 #[test]
 fn finishes_with_timelocks(rt: HostRuntime) -> Result<(), Fail> {
-    cases(&rt, rt.alloc(), "run", TIMELOCKS, WITH_TIMELOCKS)
+    cases(rt.alloc(), "run", TIMELOCKS, WITH_TIMELOCKS)
 }
 
 #[test]
 fn finishes_other_deals(rt: HostRuntime) -> Result<(), Fail> {
-    cases(&rt, rt.alloc(), "run", "", OTHER_DEALS)
+    cases(rt.alloc(), "run", "", OTHER_DEALS)
 }
 
 #[test]
 fn finishes_with_two_leaders(rt: HostRuntime) -> Result<(), Fail> {
-    cases(&rt, rt.alloc(), "run", TWO_LEADERS, WITH_TWO_LEADERS)
+    cases(rt.alloc(), "run", TWO_LEADERS, WITH_TWO_LEADERS)
 }

@@ -1,31 +1,13 @@
 //! Inputs by their bytes and lines, and the program's words.
 
-use crate::deals::{HASHKEYS, JOB, TIMELOCKS};
-use crate::runner::{answer, answer_from, cases, follows};
+ghost use Rattle.std.specs.Prelude.{◌<◌, length};
+
 use std::alloc::Global;
+use std::process::Abort;
 use std::test::Fail;
 use swap_io::VecSource;
-
-const ANSWER: &str = "done
-swap report 1
-swap timelocks start 10 delta 10 bound 2
-ledger 0 alice -> bob amount 100
-0 alice publish correct: accepted
-60 alice refund: NotExpired 61
-61 alice refund: accepted
-end height 71 alice 100 bob 0 held 0
-ledger 1 bob -> carol amount 5
-end height 71 bob 5 carol 0 held 0
-ledger 2 carol -> alice amount 1
-0 carol publish correct: accepted
-40 alice unlock 0: accepted
-40 alice claim: accepted
-end height 71 carol 0 alice 1 held 0
-party alice deviator: FreeRide
-party bob deviator: NoDeal
-party carol deviator: Underwater
-findings 0
-";
+use table_runner::deals::{ANSWER, HASHKEYS, JOB, TIMELOCKS};
+use table_runner::{answer, answer_from, answer_where, answers, cases};
 
 /// The answer to a run in which nothing happens but that the first ledger ticks, as often as it can.
 const TICKED: &str = "named
@@ -58,19 +40,26 @@ fn answer_to_cut(alloc: Global, before: &[u8], after: &[u8]) -> Result<String, F
     Ok(format!(in alloc; "swap: refused: NotJson {line}\n")?)
 }
 
+/// The first bytes of a job, which end at a place, get their answer.
+fn answers_cut(rt: &impl Abort, alloc: Global, job: &[u8], cut: usize) -> Result<(), Fail>
+    requires { cut < length job.now }
+{
+    let (before, after) = job.split_at(cut);
+    let answered = answer(alloc, &["run"], Vec::from_slice(alloc, before)?)?;
+    let wanted = answer_to_cut(alloc, before, after)?;
+    let is_whole = wanted.starts_with("named") || answered.len() == wanted.len();
+    assert!(rt;
+        is_whole && answered.starts_with(wanted.as_bytes()),
+        "cut at {cut}"
+    );
+    Ok(())
+}
+
 #[test]
 fn refuses_what_is_cut_within_a_line(rt: HostRuntime) -> Result<(), Fail> {
     let job = JOB.trim().as_bytes();
     for cut in 0..job.len() {
-        let (before, after) = job.split_at(cut);
-        let input = Vec::from_slice(rt.alloc(), before)?;
-        let answered = answer(rt.alloc(), &["run"], input)?;
-        let wanted = answer_to_cut(rt.alloc(), before, after)?;
-        assert!(rt; answered.starts_with(wanted.as_bytes()), "cut at {cut}");
-        assert!(rt;
-            wanted.starts_with("named") || answered.len() == wanted.len(),
-            "cut at {cut}"
-        );
+        answers_cut(&rt, rt.alloc(), job, cut)?;
     }
     Ok(())
 }
@@ -118,8 +107,8 @@ swap: refused: NotAdjacent 4
 
 #[test]
 fn reads_lines(rt: HostRuntime) -> Result<(), Fail> {
-    cases(&rt, rt.alloc(), "run", TIMELOCKS, LINES)?;
-    cases(&rt, rt.alloc(), "run", HASHKEYS, LINES)
+    cases(rt.alloc(), "run", TIMELOCKS, LINES)?;
+    cases(rt.alloc(), "run", HASHKEYS, LINES)
 }
 
 /// Inputs without a header.
@@ -150,8 +139,8 @@ swap: refused: NotJson 3
 
 #[test]
 fn refuses_an_input_without_a_header(rt: HostRuntime) -> Result<(), Fail> {
-    cases(&rt, rt.alloc(), "run", "", HEADLESS)?;
-    cases(&rt, rt.alloc(), "check", "", HEADLESS)
+    cases(rt.alloc(), "run", "", HEADLESS)?;
+    cases(rt.alloc(), "check", "", HEADLESS)
 }
 
 #[test]
@@ -166,21 +155,33 @@ fn refuses_what_is_no_text(rt: HostRuntime) -> Result<(), Fail> {
     Ok(())
 }
 
+/// Words that ask for nothing: a row each, in which a `|` ends each word. One row has none.
+const OTHER_WORDS: &str = "\
+|
+
+nope|
+walk|
+Run|
+run |
+run|run|
+check||
+run|check|
+";
+
+/// What the program answers to a row's words.
+fn answer_to_words(alloc: Global, row: &str, input: &str) -> Result<Vec<u8>, Fail> {
+    let mut words = Vec::new(alloc);
+    for word in row.split_terminator('|') {
+        words.push(word)?;
+    }
+    answer(alloc, &words, Vec::from_slice(alloc, input.as_bytes())?)
+}
+
 #[test]
 fn answers_other_words(rt: HostRuntime) -> Result<(), Fail> {
-    for words in [
-        [].as_slice(),
-        &[""],
-        &["walk"],
-        &["Run"],
-        &["run "],
-        &["run", "run"],
-        &["check", ""],
-        &["run", "check"],
-    ] {
-        let input = Vec::from_slice(rt.alloc(), JOB.as_bytes())?;
-        let answered = answer(rt.alloc(), words, input)?;
-        assert_eq!(rt; answered.as_slice(), b"wrong words\n".as_slice());
+    for row in OTHER_WORDS.lines() {
+        let answered = answer_to_words(rt.alloc(), row, JOB)?;
+        assert!(rt; answered.as_slice() == b"wrong words\n".as_slice(), "{row}");
     }
     Ok(())
 }
@@ -192,20 +193,27 @@ fn answer_after(alloc: Global, spaces: usize, text: &str) -> Result<Vec<u8>, Fai
     answer(alloc, &["run"], input)
 }
 
+/// A run of so many spaces and then a text has that answer.
+fn answers_after(
+    rt: &impl Abort,
+    alloc: Global,
+    spaces: usize,
+    text: &str,
+    wanted: &str,
+) -> Result<(), Fail> {
+    let answered = answer_after(alloc, spaces, text)?;
+    assert!(rt; answered.as_slice() == wanted.as_bytes(), "{spaces} spaces");
+    Ok(())
+}
+
 #[test]
 fn reads_up_to_the_limit(rt: HostRuntime) -> Result<(), Fail> {
-    let table = [
-        (MOST, "", "swap: refused: NotJson 1\n"),
-        (MOST - 1, "\n", "swap: refused: NotJson 1\n"),
-        (MOST - JOB.len(), JOB, ANSWER),
-        (MOST + 1, "", "too long\n"),
-        (MOST - JOB.len() + 1, JOB, "too long\n"),
-    ];
-    for (spaces, text, wanted) in table {
-        let answered = answer_after(rt.alloc(), spaces, text)?;
-        assert!(rt; answered.as_slice() == wanted.as_bytes(), "{spaces} spaces");
-    }
-    Ok(())
+    let refused = "swap: refused: NotJson 1\n";
+    answers_after(&rt, rt.alloc(), MOST, "", refused)?;
+    answers_after(&rt, rt.alloc(), MOST - 1, "\n", refused)?;
+    answers_after(&rt, rt.alloc(), MOST - JOB.len(), JOB, ANSWER)?;
+    answers_after(&rt, rt.alloc(), MOST + 1, "", "too long\n")?;
+    answers_after(&rt, rt.alloc(), MOST - JOB.len() + 1, JOB, "too long\n")
 }
 
 #[test]
@@ -258,16 +266,11 @@ fn with_arcs(alloc: Global, more: usize) -> Result<String, Fail> {
 #[test]
 fn takes_so_many_arcs(rt: HostRuntime) -> Result<(), Fail> {
     let most = with_arcs(rt.alloc(), 93)?;
+    let parallel = "swap: refused: Parallel 0 1\n";
+    answers(rt.alloc(), "run", "96 arcs", most.as_str(), parallel)?;
     let over = with_arcs(rt.alloc(), 94)?;
-    let table = [
-        ("96 arcs", most.as_str(), "swap: refused: Parallel 0 1\n"),
-        (
-            "97 arcs",
-            over.as_str(),
-            "swap: refused: OverLimit 1 arcs 97\n",
-        ),
-    ];
-    follows(&rt, rt.alloc(), "run", &table)
+    let refused = "swap: refused: OverLimit 1 arcs 97\n";
+    answers(rt.alloc(), "run", "97 arcs", over.as_str(), refused)
 }
 
 /// The job with so many spaces before its first line feed, and as many blank lines behind it.
@@ -285,12 +288,19 @@ fn widened(alloc: Global, job: &str, spaces: usize) -> Result<Vec<u8>, Fail> {
     Ok(input)
 }
 
+/// The answer to a run of an input that comes in pieces of so many bytes.
+fn answer_to_pieces(alloc: Global, input: Vec<u8>, per_call: usize) -> Result<Vec<u8>, Fail>
+    requires { 0 < per_call }
+{
+    let mut source = VecSource::new(input, per_call, Vec::new(alloc));
+    answer_from(alloc, &["run"], &mut source, &[])
+}
+
 #[test]
 fn reads_pieces_of_any_length(rt: HostRuntime) -> Result<(), Fail> {
     for per_call in [1, 2, 7, 8_191, 8_192, 8_193, 100_000] {
         let input = widened(rt.alloc(), JOB, 20_000)?;
-        let source = VecSource::new(input, per_call, Vec::new(rt.alloc()));
-        let answered = answer_from(rt.alloc(), &["run"], source)?;
+        let answered = answer_to_pieces(rt.alloc(), input, per_call)?;
         assert!(rt;
             answered.as_slice() == ANSWER.as_bytes(),
             "{per_call} bytes a call"
@@ -303,22 +313,32 @@ fn reads_pieces_of_any_length(rt: HostRuntime) -> Result<(), Fail> {
 fn answer_behind(alloc: Global, blanks: usize, failing: &[u64]) -> Result<Vec<u8>, Fail> {
     let mut input = Vec::from_slice(alloc, b"x")?;
     input.extend_from_slice(&vec![in alloc; b'\n'; blanks]?)?;
-    let failing = Vec::from_slice(alloc, failing)?;
-    answer_from(alloc, &["check"], VecSource::new(input, 4_096, failing))
+    answer_where(alloc, "check", input, failing, &[])
+}
+
+/// A check of a refused line with so many blank lines behind it, where some reads fail, has that answer.
+fn answers_behind(
+    rt: &impl Abort,
+    alloc: Global,
+    blanks: usize,
+    failing: &[u64],
+    wanted: &str,
+) -> Result<(), Fail> {
+    let answered = answer_behind(alloc, blanks, failing)?;
+    assert!(rt;
+        answered.as_slice() == wanted.as_bytes(),
+        "{blanks} blank lines"
+    );
+    Ok(())
 }
 
 #[test]
 fn refuses_once_the_input_has_ended(rt: HostRuntime) -> Result<(), Fail> {
-    let refused = answer_behind(rt.alloc(), MOST - 1, &[])?;
-    assert!(rt; refused.as_slice() == b"swap: refused: NotJson 1\n".as_slice());
-    let long = answer_behind(rt.alloc(), MOST, &[])?;
-    assert!(rt; long.as_slice() == b"too long\n".as_slice());
+    let refused = "swap: refused: NotJson 1\n";
+    answers_behind(&rt, rt.alloc(), MOST - 1, &[], refused)?;
+    answers_behind(&rt, rt.alloc(), MOST, &[], "too long\n")?;
     for failing in 0..5 {
-        let unread = answer_behind(rt.alloc(), 16_000, &[failing])?;
-        assert!(rt;
-            unread.as_slice() == b"read fault\n".as_slice(),
-            "read {failing}"
-        );
+        answers_behind(&rt, rt.alloc(), 2_000, &[failing], "read fault\n")?;
     }
     Ok(())
 }

@@ -1,4 +1,4 @@
-//! Tests of the program from an input's bytes to what is written, and of a ledger by itself, as tables.
+//! Tests of the program from an input's bytes to what is written, as tables.
 #![tactic(auto)]
 
 #[cfg(test)]
@@ -6,17 +6,11 @@ mod checks;
 #[cfg(test)]
 mod conforming;
 #[cfg(test)]
-mod deals;
-#[cfg(test)]
 mod fair;
 #[cfg(test)]
-mod generated;
+mod faults;
 #[cfg(test)]
 mod inputs;
-#[cfg(test)]
-mod ledgers;
-#[cfg(test)]
-mod making;
 #[cfg(test)]
 mod offers;
 #[cfg(test)]
@@ -26,10 +20,10 @@ mod replies;
 #[cfg(test)]
 mod replies_to_keys;
 #[cfg(test)]
-mod runner;
+mod scripts;
 #[cfg(test)]
-mod signatures;
-#[cfg(test)]
-mod three_way;
+mod strategies;
 #[cfg(test)]
 mod transcripts;
+#[cfg(test)]
+mod versions;

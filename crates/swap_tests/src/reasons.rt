@@ -1,8 +1,8 @@
 //! Each reason for which a job is refused: the least edit of a good job that brings it about, and the line that tells it.
 
-use crate::deals::{HASHKEYS, TIMELOCKS};
-use crate::runner::{accepts, refuses};
 use std::test::Fail;
+use table_runner::deals::{HASHKEYS, TIMELOCKS};
+use table_runner::{accepts, refuses};
 
 /// Edits of the header of the deal with timelocks; each row has its edits and the reason.
 const HEADER: &str = concat!(
@@ -299,11 +299,21 @@ const EVENTS: &str = concat!(
 {"tick":0} => {"call":"alice","move":{"do":"transfer","arc":0,"to":"carol","units":1}} => NotAdjacent 2"#,
 );
 
-/// What a job asks for and isn't built.
-const UNBUILT: &str = r#""name":"bob" => "name":"bob","actor":{"script":[]} => NotBuilt 1 actor"#;
+/// Edits of a party that acts by hand into one that follows a strategy.
+const STRATEGIES: &str = r#"# fields
+"actor":"manual" => "actor":{} => Missing 1 strategy
+"actor":"manual" => "actor":{"name":"silent"} => Missing 1 strategy
+"actor":"manual" => "actor":{"strategy":1} => WrongKind 1 strategy
+"actor":"manual" => "actor":{"strategy":"silent","seed":"00"} => UnknownField 1 seed
+# names, in their order
+"actor":"manual" => "actor":{"strategy":"loud"} => Unknown 1 loud
+"actor":"manual" => "actor":{"strategy":"loud"} && "name":"bob" => "name":"b b" => Unknown 1 loud
+"name":"alice" => "name":"al ice" && "actor":"manual" => "actor":{"strategy":"loud"} => BadName 1 al ice
+"actor":"manual" => "actor":{"strategy":"loud"} && "start":10 => "start":0 => Unknown 1 loud"#;
 
 /// Crafted and replayed hashkeys that are refused.
-const CRAFTS: &str = r#"# fields
+const CRAFTS: &str = concat!(
+    r#"# fields
 {"tick":0} => {"call":"alice","move":{"do":"craft","arc":2}} => Missing 2 lock
 {"tick":0} => {"call":"alice","move":{"do":"craft","arc":2,"lock":0}} => Missing 2 via
 {"tick":0} => {"call":"alice","move":{"do":"craft","arc":2,"lock":0,"via":"alice"}} => WrongKind 2 via
@@ -328,7 +338,60 @@ const CRAFTS: &str = r#"# fields
 {"tick":0} => {"call":"alice","move":{"do":"craft","arc":1,"lock":0,"via":["bob"]}} => NotAdjacent 2
 {"tick":0} => {"call":"alice","move":{"do":"craft","arc":2,"lock":0,"via":["alice","bob"]}} => ConformingCall 2
 {"tick":0} => {"call":"alice","move":{"do":"replay","arc":1,"lock":0,"onto":2}} => NotAdjacent 2
-"actor":"manual","seed":"2bd806c97f0e00af1a1fc3328fa763a9269723c8db8fac4f93af71db186d6e90" => "actor":"manual" && {"tick":0} => {"call":"alice","move":{"do":"craft","arc":2,"lock":0,"via":["alice"]}} => NoSeed alice"#;
+"actor":"manual","seed":"2bd806c97f0e00af1a1fc3328fa763a9269723c8db8fac4f93af71db186d6e90" => "#,
+    r#""actor":"manual" && {"tick":0} => {"call":"alice","move":{"do":"craft","arc":2,"lock":0,"via":["alice"]}} => NoSeed alice"#,
+);
+
+/// Edits of a party that acts by hand into one that follows a script.
+const SCRIPTS: &str = concat!(
+    r#"# fields
+"actor":"manual" => "actor":{"script":{}} => WrongKind 1 script
+"actor":"manual" => "actor":{"script":["claim"]} => WrongKind 1 script
+"actor":"manual" => "actor":{"script":[{"arc":0}]} => Missing 1 do
+"actor":"manual" => "actor":{"script":[{"do":"hop","arc":0}]} => WrongKind 1 do
+"actor":"manual" => "actor":{"script":[{"do":"claim"}]} => Missing 1 arc
+"actor":"manual" => "actor":{"script":[{"do":"claim","arc":"0"}]} => WrongKind 1 arc
+"actor":"manual" => "actor":{"script":[{"do":"claim","arc":0,"lock":0}]} => UnknownField 1 lock
+"actor":"manual" => "actor":{"script":[{"do":"publish","arc":0,"height":1}]} => UnknownField 1 height
+"actor":"manual" => "actor":{"script":[{"do":"publish","arc":0,"locks":"00"}]} => WrongKind 1 locks
+"actor":"manual" => "actor":{"script":[{"do":"craft","arc":2,"lock":0}]} => Missing 1 via
+"actor":"manual" => "actor":{"script":[{"do":"craft","arc":2,"lock":0,"via":["alice"],"onto":"1"}]} => WrongKind 1 onto
+"actor":"manual" => "actor":{"script":[{"do":"replay","arc":2,"lock":0}]} => Missing 1 onto
+"actor":"manual" => "actor":{"script":[{"do":"raw","arc":2,"lock":0,"secret":"00","path":[]}]} => Missing 1 sigs
+"actor":"manual" => "actor":{"script":[{"do":"transfer","arc":0,"units":1}]} => Missing 1 to
+"actor":"manual" => "actor":{"script":[{"do":"wait","arc":0}]} => Missing 1 height
+"actor":"manual" => "actor":{"script":[{"do":"wait","arc":0,"height":1,"by":1}]} => UnknownField 1 by
+"actor":"manual" => "actor":{"script":[],"strategy":"silent"} => UnknownField 1 strategy
+# names, before any limit
+"actor":"manual" => "actor":{"script":[{"do":"claim","arc":3},{"do":"transfer","arc":0,"to":"dave","units":1}]} => Unknown 1 dave
+"actor":"manual" => "actor":{"script":[{"do":"craft","arc":3,"lock":0,"via":["alice","dave"]}]} => Unknown 1 dave
+"actor":"manual" => "actor":{"script":[{"do":"raw","arc":2,"lock":0,"secret":"00","path":["dave"],"sigs":[]}]} => Unknown 1 dave
+"actor":"manual" => "actor":{"script":[{"do":"transfer","arc":0,"to":"dave","units":1}]} && "name":"bob" => "name":"b b" => Unknown 1 dave
+"actor":"manual" => "actor":{"script":[{"do":"transfer","arc":0,"to":"b b","units":1}]} && "name":"bob" => "name":"b b" => BadName 1 b b
+# limits, the script's before its party's seed
+"actor":"manual" => "actor":{"script":[{"do":"claim","arc":0},{"do":"claim","arc":3}]} => OverLimit 1 arc 3
+"actor":"manual","seed":"2b => "actor":{"script":[{"do":"claim","arc":3}]},"seed":" => OverLimit 1 arc 3
+"actor":"manual" => "actor":{"script":[{"do":"claim","arc":256}]} => OverLimit 1 arc 256
+"actor":"manual" => "actor":{"script":[{"do":"wait","arc":0,"height":1000001}]} => OverLimit 1 height 1000001
+"actor":"manual" => "actor":{"script":[{"do":"publish","arc":0,"amount":1000000000001}]} => OverLimit 1 amount 1000000000001
+"actor":"manual" => "actor":{"script":[{"do":"publish","arc":0,"locks":[]}]} => OverLimit 1 locks 0
+"actor":"manual" => "actor":{"script":[{"do":"craft","arc":2,"lock":1,"via":["alice"]}]} => OverLimit 1 lock 1
+"actor":"manual" => "actor":{"script":[{"do":"craft","arc":2,"lock":0,"via":[]}]} => OverLimit 1 via 0
+"actor":"manual" => "actor":{"script":[{"do":"craft","arc":2,"lock":0,"via":["alice"],"onto":3}]} => OverLimit 1 onto 3
+"actor":"manual" => "actor":{"script":[{"do":"replay","arc":2,"lock":1,"onto":3}]} => OverLimit 1 lock 1
+"actor":"manual" => "actor":{"script":[{"do":"transfer","arc":0,"to":"bob","units":1000000000001}]} => OverLimit 1 units 1000000000001
+"actor":"manual" => "actor":{"script":[{"do":"publish","arc":0,"locks":["0g"]}]} => WrongHex 1 locks
+"actor":"manual" => "actor":{"script":[{"do":"raw","arc":2,"lock":0,"secret":"00","path":[],"sigs":[]}]} => WrongHex 1 secret
+# where the moves stand, before the checks of the digraph
+"actor":"manual" => "actor":{"script":[{"do":"claim","arc":2},{"do":"wait","arc":1,"height":3}]} => NotAdjacent 1
+"actor":"manual" => "actor":{"script":[{"do":"craft","arc":1,"lock":0,"via":["bob"]}]} => NotAdjacent 1
+"actor":"manual" => "actor":{"script":[{"do":"craft","arc":2,"lock":0,"via":["bob"]}]} => ConformingCall 1
+"actor":"manual" => "actor":{"script":[{"do":"transfer","arc":0,"to":"carol","units":1}]} => NotAdjacent 1
+"actor":"manual" => "actor":{"script":[{"do":"claim","arc":1}]} && "from":"bob","to":"carol" => "from":"carol","to":"carol" => NotAdjacent 1
+# seeds
+"actor":"manual","seed":"2bd806c97f0e00af1a1fc3328fa763a9269723c8db8fac4f93af71db186d6e90" => "#,
+    r#""actor":{"script":[{"do":"craft","arc":2,"lock":0,"via":["alice"]}]} => NoSeed alice"#,
+);
 
 /// Edits that leave a good job.
 const GOOD: &str = concat!(
@@ -340,6 +403,8 @@ const GOOD: &str = concat!(
 {"swap":1, => {"swap":2,"swap":1,
 {"swap":1, => {"finish":"stop","swap":1,
 "delta":10 => "\u0064elta":10
+"actor":"manual" => "actor":{"script":[]}
+"actor":"manual" => "actor":{"script":[{"do":"publish","arc":0},{"do":"wait","arc":2,"height":1000000},{"do":"refund","arc":0}]}
 {"tick":0} => {"by":1000000,"tick":2}
 {"tick":0} => {"act":"bob"}
 {"tick":0} => {"look":"bob","arc":1}
@@ -369,35 +434,40 @@ const BY_HAND: &str = concat!(
 
 #[test]
 fn refuses_headers(rt: HostRuntime) -> Result<(), Fail> {
-    refuses(&rt, rt.alloc(), TIMELOCKS, HEADER)
+    refuses(rt.alloc(), TIMELOCKS, HEADER)
 }
 
 #[test]
 fn tells_the_first_reason(rt: HostRuntime) -> Result<(), Fail> {
-    refuses(&rt, rt.alloc(), TIMELOCKS, ORDER)
+    refuses(rt.alloc(), TIMELOCKS, ORDER)
 }
 
 #[test]
 fn refuses_keys(rt: HostRuntime) -> Result<(), Fail> {
-    refuses(&rt, rt.alloc(), HASHKEYS, KEYS)
+    refuses(rt.alloc(), HASHKEYS, KEYS)
 }
 
 #[test]
 fn refuses_events(rt: HostRuntime) -> Result<(), Fail> {
-    refuses(&rt, rt.alloc(), BY_HAND, EVENTS)
+    refuses(rt.alloc(), BY_HAND, EVENTS)
 }
 
 #[test]
 fn refuses_crafts_and_replays(rt: HostRuntime) -> Result<(), Fail> {
-    refuses(&rt, rt.alloc(), BY_HAND, CRAFTS)
+    refuses(rt.alloc(), BY_HAND, CRAFTS)
 }
 
 #[test]
-fn refuses_what_is_not_built(rt: HostRuntime) -> Result<(), Fail> {
-    refuses(&rt, rt.alloc(), BY_HAND, UNBUILT)
+fn refuses_scripts(rt: HostRuntime) -> Result<(), Fail> {
+    refuses(rt.alloc(), BY_HAND, SCRIPTS)
+}
+
+#[test]
+fn refuses_strategies(rt: HostRuntime) -> Result<(), Fail> {
+    refuses(rt.alloc(), BY_HAND, STRATEGIES)
 }
 
 #[test]
 fn accepts_other_forms(rt: HostRuntime) -> Result<(), Fail> {
-    accepts(&rt, rt.alloc(), BY_HAND, GOOD)
+    accepts(rt.alloc(), BY_HAND, GOOD)
 }

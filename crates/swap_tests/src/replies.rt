@@ -1,8 +1,8 @@
 //! What ledgers reply to the calls of parties that make them by hand. The reports come from the rule book by another program.
 
-use crate::deals::{HASHKEYS, TIMELOCKS};
-use crate::runner::cases;
 use std::test::Fail;
+use table_runner::cases;
+use table_runner::deals::{HASHKEYS, TIMELOCKS};
 
 /// The deal with hashkeys, where all three parties make their calls by hand.
 const WITH_HASHKEYS: &str = concat!(
@@ -553,10 +553,10 @@ findings 3
 
 #[test]
 fn replies_to_calls(rt: HostRuntime) -> Result<(), Fail> {
-    cases(&rt, rt.alloc(), "run", HASHKEYS, WITH_HASHKEYS)
+    cases(rt.alloc(), "run", HASHKEYS, WITH_HASHKEYS)
 }
 
 #[test]
 fn replies_with_timelocks(rt: HostRuntime) -> Result<(), Fail> {
-    cases(&rt, rt.alloc(), "run", TIMELOCKS, WITH_TIMELOCKS)
+    cases(rt.alloc(), "run", TIMELOCKS, WITH_TIMELOCKS)
 }

@@ -1,8 +1,8 @@
 //! What ledgers reply to hashkeys that parties present by hand. The reports come from the rule book by another program.
 
-use crate::deals::HASHKEYS;
-use crate::runner::cases;
 use std::test::Fail;
+use table_runner::cases;
+use table_runner::deals::HASHKEYS;
 
 /// Three parties of whom two lead, all by hand.
 const TWO_LEADERS: &str = concat!(
@@ -397,10 +397,10 @@ findings 4
 
 #[test]
 fn replies_to_keys(rt: HostRuntime) -> Result<(), Fail> {
-    cases(&rt, rt.alloc(), "run", HASHKEYS, ONE_LOCK)
+    cases(rt.alloc(), "run", HASHKEYS, ONE_LOCK)
 }
 
 #[test]
 fn replies_to_keys_of_two_locks(rt: HostRuntime) -> Result<(), Fail> {
-    cases(&rt, rt.alloc(), "run", TWO_LEADERS, TWO_LOCKS)
+    cases(rt.alloc(), "run", TWO_LEADERS, TWO_LOCKS)
 }

@@ -1,12 +1,10 @@
 //! Transcripts: what is written of a run, and what an audit tells of a transcript, of an edited one, and of texts with a bit changed or cut off.
 
-use crate::deals::{HASHKEYS, JOB};
-use crate::runner::{answer, answer_from, cases, edited};
-use crate::signatures::signed;
 use std::alloc::Global;
 use std::process::Abort;
 use std::test::Fail;
-use swap_io::VecSource;
+use table_runner::deals::{HASHKEYS, JOB};
+use table_runner::{answer, answer_where, cases, edited, signed};
 
 /// A further event of the job with timelocks, so that its transcript has each kind of entry.
 const TRANSFER: &str =
@@ -176,14 +174,14 @@ fn is_written(
 #[test]
 fn a_run_has_its_transcript(rt: HostRuntime) -> Result<(), Fail> {
     is_written(&rt, rt.alloc(), JOB, TRANSFER, TIMELOCKED)?;
-    let deal = edited(&rt, rt.alloc(), HASHKEYS, BY_HAND)?;
+    let deal = edited(rt.alloc(), HASHKEYS, BY_HAND)?;
     is_written(&rt, rt.alloc(), deal.as_str(), EVENTS, KEYED)
 }
 
 #[test]
 fn an_audit_gives_its_report(rt: HostRuntime) -> Result<(), Fail> {
-    cases(&rt, rt.alloc(), "audit", TIMELOCKED, TIMELOCKED_REPORT)?;
-    cases(&rt, rt.alloc(), "audit", KEYED, KEYED_REPORT)
+    cases(rt.alloc(), "audit", TIMELOCKED, TIMELOCKED_REPORT)?;
+    cases(rt.alloc(), "audit", KEYED, KEYED_REPORT)
 }
 
 /// What an audit answers to a text.
@@ -209,7 +207,7 @@ fn tells(rt: &impl Abort, alloc: Global, transcript: &str, table: &str) -> Resul
     for row in table.lines().filter(|row| !row.starts_with('#')) {
         let (edits, line) = row.rsplit_once(" => ").ok_or("no row")?;
         let edits = String::from_str(alloc, edits)?.replace(alloc, "\\n", "\n")?;
-        let text = edited(rt, alloc, transcript, edits.as_str())?;
+        let text = edited(alloc, transcript, edits.as_str())?;
         let text = signed(alloc, text.as_str())?;
         is_told(rt, alloc, row, text.as_str(), line)?;
     }
@@ -334,22 +332,22 @@ fn the_first_wrong_reply_is_told(rt: HostRuntime) -> Result<(), Fail> {
 }
 
 /// The transcript with so many more calls of one party, each of which a ledger without a contract refuses.
-fn with_calls(rt: &impl Abort, alloc: Global, calls: usize) -> Result<String, Fail> {
+fn with_calls(alloc: Global, calls: usize) -> Result<String, Fail> {
     let lines = "c 2 claim = NoContract\n".repeat(alloc, calls)?;
     let edits = format!(in alloc;
         "ledger 1 2\n => ledger 1 {}\n{lines}",
         calls.saturating_add(2)
     )?;
-    edited(rt, alloc, TIMELOCKED, edits.as_str())
+    edited(alloc, TIMELOCKED, edits.as_str())
 }
 
 #[test]
 fn a_full_sender_is_replayed(rt: HostRuntime) -> Result<(), Fail> {
     let line = "0 carol claim: NoContract";
-    let most = with_calls(&rt, rt.alloc(), 32)?;
+    let most = with_calls(rt.alloc(), 32)?;
     is_told(&rt, rt.alloc(), "32 calls", most.as_str(), line)?;
     let line = "swap: refused: BadReply 1 32 NoContract SenderFull";
-    let over = with_calls(&rt, rt.alloc(), 33)?;
+    let over = with_calls(rt.alloc(), 33)?;
     is_told(&rt, rt.alloc(), "33 calls", over.as_str(), line)
 }
 
@@ -465,7 +463,8 @@ const HEADERS: &str = r#"# a header line counts by what it reads as
 "name":"bob" => "name":"bob","actor":"conforming" => party bob conforming: NoDeal
 # what it lacks, or may not hold
 "start":10, =>  => swap: refused: Missing 2 start
-"swap":1 => "swap":2 => swap: refused: WrongKind 2 swap
+"swap":1 => "swap":3 => swap: refused: WrongKind 2 swap
+"swap":1 => "swap":2 => swap: refused: WrongKind 2 mode
 "start":10 => "start":"10" => swap: refused: WrongKind 2 start
 "start":10 => "start":10,"finish":"stop" => swap: refused: UnknownField 2 finish
 "name":"bob" => "name":"bob","seed":"00" => swap: refused: UnknownField 2 seed
@@ -571,28 +570,60 @@ fn answer_behind(
 ) -> Result<Vec<u8>, Fail> {
     let mut input = Vec::from_slice(alloc, text.as_bytes())?;
     input.extend_from_slice(&vec![in alloc; byte; count]?)?;
-    let failing = Vec::from_slice(alloc, failing)?;
-    answer_from(alloc, &["audit"], VecSource::new(input, 4_096, failing))
+    answer_where(alloc, "audit", input, failing, &[])
+}
+
+/// An audit of a text with so many equal bytes behind it, where some reads fail, has that answer.
+fn answers_behind(
+    rt: &impl Abort,
+    alloc: Global,
+    text: &str,
+    byte: u8,
+    count: usize,
+    failing: &[u64],
+    wanted: &str,
+) -> Result<(), Fail> {
+    let answered = answer_behind(alloc, text, byte, count, failing)?;
+    assert!(rt;
+        answered.as_slice() == wanted.as_bytes(),
+        "{count} bytes, {wanted}"
+    );
+    Ok(())
+}
+
+/// An audit of a text with equal bytes behind it has that answer where the whole has the most bytes, and none where it has one more.
+fn reads_the_most(
+    rt: &impl Abort,
+    alloc: Global,
+    text: &str,
+    byte: u8,
+    wanted: &str,
+) -> Result<(), Fail> {
+    assert!(rt; text.len() < MOST);
+    let rest = MOST - text.len();
+    answers_behind(rt, alloc, text, byte, rest, &[], wanted)?;
+    answers_behind(rt, alloc, text, byte, rest + 1, &[], "too long\n")
 }
 
 #[test]
 fn reads_up_to_the_limit(rt: HostRuntime) -> Result<(), Fail> {
-    let rest = MOST - TIMELOCKED.len();
-    let bad = answer_behind(rt.alloc(), TIMELOCKED, b'\n', rest, &[])?;
-    assert!(rt; bad.as_slice() == b"swap: refused: BadLine 20\n".as_slice());
-    let long = answer_behind(rt.alloc(), TIMELOCKED, b'\n', rest + 1, &[])?;
-    assert!(rt; long.as_slice() == b"too long\n".as_slice());
-    let first = "swap transcript 1\n";
-    let cut = answer_behind(rt.alloc(), first, b' ', MOST - first.len(), &[])?;
-    assert!(rt; cut.as_slice() == b"swap: refused: CutShort\n".as_slice());
-    let long = answer_behind(rt.alloc(), first, b' ', MOST - first.len() + 1, &[])?;
-    assert!(rt; long.as_slice() == b"too long\n".as_slice());
+    let (bad, cut) = ("swap: refused: BadLine 20\n", "swap: refused: CutShort\n");
+    reads_the_most(&rt, rt.alloc(), TIMELOCKED, b'\n', bad)?;
+    reads_the_most(&rt, rt.alloc(), "swap transcript 1\n", b' ', cut)
+}
+
+#[test]
+fn a_bad_line_is_told_once_the_input_has_ended(rt: HostRuntime) -> Result<(), Fail> {
     for failing in 0..5 {
-        let unread = answer_behind(rt.alloc(), TIMELOCKED, b'\n', 16_000, &[failing])?;
-        assert!(rt;
-            unread.as_slice() == b"read fault\n".as_slice(),
-            "read {failing}"
-        );
+        answers_behind(
+            &rt,
+            rt.alloc(),
+            TIMELOCKED,
+            b'\n',
+            16_000,
+            &[failing],
+            "read fault\n",
+        )?;
     }
     Ok(())
 }

@@ -1,6 +1,5 @@
 -- A world before any event.
-use Rattle.std.proofs.Common.{◌≡◌, ℕ, ◌+◌, ◌<◌, ◌≤◌, Bool, false, List, [], ◌∷◌, ◌++◌, length, get_or, take, map, Result, Ok, sym, ap, ap₂, ◌∙◌, subst}
-use Rattle.std.proofs.lemmas.List.{take_more, take_all}
+use Rattle.std.proofs.Common.{◌≡◌, Bool, false, List, [], map, Result, Ok, sym, ap, ap₂, ◌∙◌, subst}
 use Rattle.swap_base.specs.Fault.{◌>>=◌, Fails}
 use Rattle.swap_base.specs.declared.fault.Fault.{Fault}
 use Rattle.swap_base.specs.declared.fault.Fault.TheVariants.{Refused, NoMemory}
@@ -30,16 +29,6 @@ unfolding world_of
 refused job NoMemory h = tt
 refused job (Refused r) h = ap (λ (x : Result (List Actor) WrongWallet). x >>= λ xs. Ok (new_world job)) h
 
--- The roles that were told, one after another.
-
-pub one_role : (rs past more : List Role) (i : ℕ) (r : Role) → i < length rs → r ≡ get_or rs i r → more ≡ past ++ r ∷ [] → past ≡ take i rs
-    → more ≡ take (i + 1) rs
-one_role rs past more i r lt is e so_far =
-    e ∙ (ap₂ (λ (xs : List Role) (x : Role). xs ++ x ∷ []) so_far is ∙ sym (take_more rs i r lt))
-
-pub all_roles : (rs past : List Role) (i : ℕ) → length rs ≤ i → past ≡ take i rs → past ≡ rs
-all_roles rs past i le so_far = so_far ∙ take_all i rs le
-
 module _ (job : Job) (d : Deal) (conforming : List Bool) (seeds : Seeds) (roles : List Role) (ls : List LedgerState) (ys : List Actor) (ed : d ≡ job.deal)
     (ec : conforming ≡ job.conforming) (es : seeds ≡ job.seeds) (er : roles ≡ job.roles) (el : ls ≡ new_ledgers job.deal) (ea : actors_of job ≡ Ok ys)
     (have : HaveSeeds job) (act : HaveRoles job)
@@ -47,20 +36,20 @@ module _ (job : Job) (d : Deal) (conforming : List Bool) (seeds : Seeds) (roles 
     abbrev parts : Histories → List Notes → List Plan → State
     parts b ns ps = record { book = b; notes = ns; plans = ps; asked = [] }
 
-    state_is : state d ys (histories ls) ≡ start (cast_of job)
+    state_is : state d [] ys (histories ls) ≡ start (cast_of job)
     state_is =
-        ap (λ (e : Deal). state e ys (histories ls)) ed
+        ap (λ (e : Deal). state e [] ys (histories ls)) ed
         ∙ (ap₂ (λ (b : Histories) (ns : List Notes). parts b ns (map (plan_in job.deal) ys)) (ap histories el ∙ none_yet job.deal)
         (no_notes_yet job ys have act ea)
         ∙ ap (λ (ps : List Plan). record (start (cast_of job)) { plans = ps }) (first_plans job ys have act ea))
 
-    pub world_is : world_of job ≡ Ok (world d conforming seeds roles false (state d ys (histories ls)))
+    pub world_is : world_of job ≡ Ok (world d conforming seeds roles [] false (state d [] ys (histories ls)))
     unfolding world_of
     world_is =
         ap (λ (x : Result (List Actor) WrongWallet). x >>= λ xs. Ok (new_world job)) ea
-        ∙ ap (λ (w : WorldState). Ok w) (sym (ap (λ (e : Deal). world e conforming seeds roles false (state d ys (histories ls))) ed
-        ∙ (ap₂ (λ (c : List Bool) (s : Seeds). world job.deal c s roles false (state d ys (histories ls))) ec es
-        ∙ ap₂ (λ (rs : List Role) (st : State). world job.deal job.conforming job.seeds rs false st) er state_is)))
+        ∙ ap (λ (w : WorldState). Ok w) (sym (ap (λ (e : Deal). world e conforming seeds roles [] false (state d [] ys (histories ls))) ed
+        ∙ (ap₂ (λ (c : List Bool) (s : Seeds). world job.deal c s roles [] false (state d [] ys (histories ls))) ec es
+        ∙ ap₂ (λ (rs : List Role) (st : State). world job.deal job.conforming job.seeds rs [] false st) er state_is)))
 
     cast_is : cast_with d conforming seeds roles ≡ cast_of job
     cast_is =
@@ -76,7 +65,7 @@ module _ (job : Job) (d : Deal) (conforming : List Bool) (seeds : Seeds) (roles 
     pub ledgers : AreLedgersOf d ls
     ledgers = opened job.deal d ls ed el
 
-    pub good : IsAccepted job.deal → IsGood (cast_with d conforming seeds roles) (state d ys (histories ls))
+    pub good : IsAccepted job.deal → IsGood (cast_with d conforming seeds roles) (state d [] ys (histories ls))
     good accepted =
-        subst (λ (c : Cast). IsGood c (state d ys (histories ls))) (sym cast_is)
+        subst (λ (c : Cast). IsGood c (state d [] ys (histories ls))) (sym cast_is)
         (subst (IsGood (cast_of job)) (sym state_is) (start_is_good (cast_of job) (is_ready job ys accepted have act ea)))

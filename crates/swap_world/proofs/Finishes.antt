@@ -1,6 +1,7 @@
 -- The parts of a fair finish: what each leads to, and where it stops.
-use Rattle.std.proofs.Common.{◌≡◌, ℕ, ◌+◌, ◌<◌, ◌≤◌, ◌==◌, ◌||◌, nat_le, leb-false, Bool, true, false, cond, List, [], ◌∷◌, length, fold, filter, refl}
-use Rattle.std.proofs.Common.{sym, ap, ◌∙◌, subst, arith}
+use Rattle.std.proofs.Common.{◌≡◌, ℕ, ◌+◌, ◌<◌, ◌≤◌, ◌==◌, ◌||◌, nat_le, leb-true, leb-false}
+use Rattle.std.proofs.Common.{Bool, true, false, cond, List, [], ◌∷◌, length, fold, filter, refl}
+use Rattle.std.proofs.Common.{sym, ap, ◌∙◌, subst, arith, Result, Ok, Err, OnOk}
 use Rattle.std.specs.List.{range_with_len}
 use Rattle.swap_base.proofs.Lists.{from_range}
 use Rattle.swap_digraph.specs.Deal.{party, counterparty}
@@ -12,9 +13,19 @@ use Rattle.swap_run.specs.Run.{Cast, State, conforms, step}
 use Rattle.swap_run.specs.Fair.{repeat, looks, acts, most_acts, turn, turns, the_horizon, tick_low, ticks, round, has_ended, round_unless_ended, finish}
 use Rattle.swap_run.specs.FairLaws.{IsReached}
 use Rattle.swap_run.proofs.Reached.{no_event, one_event, fold_events, repeat_events, turn_events, tick_events, round_events}
-use Rattle.swap_world.specs.Value.{WorldState, cast_at}
-use Rattle.swap_world.specs.Stopped.{IsStopped, look_near}
-use Rattle.swap_world.proofs.Ways.{at, range_all, fold_reached, way_after}
+use Rattle.swap_run.specs.Run.{start}
+use Rattle.swap_run.specs.Asked.{Answers}
+use Rattle.swap_run.specs.Laws.{IsReadyCast, IsGood}
+use Rattle.swap_run.proofs.Finish.{finishes_are_good}
+use Rattle.swap_run.proofs.Fair.{fair_is_dealt}
+use Rattle.swap_rules.specs.Outcome.{IsEnded}
+use Rattle.swap_laws.specs.Laws.{IsDealt}
+use Rattle.swap_world.specs.Value.{WorldState, answers_of, cast_at, cast_for}
+use Rattle.swap_world.specs.Gone.{Gives, HasGone}
+use Rattle.swap_world.specs.Stopped.{AllConform, IsStopped, look_near}
+use Rattle.swap_world.proofs.Ways.{range_all, fold_reached, way_then}
+use Rattle.swap_world.proofs.Gone.{gone_as, gone_then, cast_gone, stopped_as, stopped_after, stopped_then}
+use Rattle.swap_world.proofs.Worlds.{ready_for, good_for}
 
 -- A party's looks.
 
@@ -77,24 +88,33 @@ unfolding turn
 turn_acts c s v true e = ap (λ (b : Bool). cond b (acts c v (most_acts c.deal) (looks c v s)) (step c (looks c v s) (Act v))) e
 turn_acts c s v false e = ap (λ (b : Bool). cond b (acts c v (most_acts c.deal) (looks c v s)) (step c (looks c v s) (Act v))) e
 
--- acts end a turn
-pub turn_ends : (old mid new : WorldState) (v : ℕ) (b : Bool) → conforms (cast_at mid) v ≡ b → mid ≡ at old (looks (cast_at old) v old.state)
-    → new ≡ at mid (acts_as b (cast_at mid) v mid.state) → new ≡ at old (turn (cast_at old) old.state v)
-turn_ends old mid new v b is e k =
-    subst (λ w. new ≡ at w (acts_as b (cast_at w) v w.state)) e k
-    ∙ ap (λ t. at old t) (sym (turn_acts (cast_at old) old.state v b (subst (λ w. conforms (cast_at w) v ≡ b) e is)))
+pub turn_cut : (gives : Gives) (old new : WorldState) (v : ℕ) → v < old.deal.graph.n → IsStopped gives (λ c s. looks c v s) old new
+    → IsStopped gives (λ c s. turn c s v) old new
+turn_cut gives old new v l k = record {
+  stopped = k.stopped;
+  cast = k.cast;
+  asked = k.asked;
+  book = λ g x. let c = cast_for old g in
+      way_then c old.state (looks c v old.state) (turn c old.state v) new.state.book (k.book g x) (turn_from_looks c v old.state l);
+}
 
-pub turn_stops : (old mid new : WorldState) (v : ℕ) (b : Bool) → v < old.deal.graph.n → conforms (cast_at mid) v ≡ b
-    → mid ≡ at old (looks (cast_at old) v old.state)
-    → IsStopped mid (acts_as b (cast_at mid) v mid.state) new → IsStopped old (turn (cast_at old) old.state v) new
-turn_stops old mid new v b l is e k =
-    let h = subst (λ w. IsStopped w (acts_as b (cast_at w) v w.state) new) e k in
-    let acted = acts_as b (cast_at old) v (looks (cast_at old) v old.state) in
-    subst (λ t. IsStopped old t new) (sym (turn_acts (cast_at old) old.state v b (subst (λ w. conforms (cast_at w) v ≡ b) e is))) (record {
-      stopped = h.stopped;
-      cast = h.cast;
-      book = way_after (cast_at old) old.state (looks (cast_at old) v old.state) acted new.state.book (looks_lead (cast_at old) v old.state l) h.book;
-    })
+module _ (gives : Gives) (old mid new : WorldState) (v : ℕ) (b : Bool) (is : conforms (cast_at mid) v ≡ b)
+    (looked : HasGone gives (λ c s. looks c v s) old mid) where
+  was : (g : Answers) → conforms (cast_for old g) v ≡ b
+  was g = subst (λ c. conforms c v ≡ b) (cast_gone gives (λ c s. looks c v s) old mid looked) is
+
+  -- acts end a turn
+  pub turn_ends : HasGone gives (λ c s. acts_as b c v s) mid new → HasGone gives (λ c s. turn c s v) old new
+  turn_ends k =
+      gone_as gives (λ c s. acts_as b c v (looks c v s)) (λ c s. turn c s v) old new
+      (λ g. sym (turn_acts (cast_for old g) old.state v b (was g)))
+      (gone_then gives (λ c s. looks c v s) (λ c s. acts_as b c v s) old mid new looked k)
+
+  pub turn_stops : v < old.deal.graph.n → IsStopped gives (λ c s. acts_as b c v s) mid new → IsStopped gives (λ c s. turn c s v) old new
+  turn_stops l k =
+      stopped_as gives (λ c s. acts_as b c v (looks c v s)) (λ c s. turn c s v) old new
+      (λ g. sym (turn_acts (cast_for old g) old.state v b (was g)))
+      (stopped_after gives (λ c s. looks c v s) (λ c s. acts_as b c v s) old mid new looked (λ g s. looks_lead (cast_for old g) v s l) k)
 
 pub turn_leads : (c : Cast) (v : ℕ) → v < c.deal.graph.n → (s : State) → IsReached c s (turn c s v)
 turn_leads c v l s = turn_events c s v l
@@ -108,47 +128,58 @@ is_low c s a l = go (nat_le (height (history s.book a)) (the_horizon c.deal)) re
     go true e = refl
     go false e = absurd (omega (arith, l, leb-false _ _ e))
 
-pub ticks_stop : (w new : WorldState) → IsStopped w (fold (tick_low (cast_at w)) w.state (range_with_len 0 (length w.deal.graph.arcs))) new
-    → IsStopped w (ticks (cast_at w) w.state) new
-unfolding ticks
-ticks_stop w new k = k
+pub is_high : (c : Cast) (s : State) (a : ℕ) → the_horizon c.deal < height (history s.book a) → tick_low c s a ≡ s
+is_high c s a l = go (nat_le (height (history s.book a)) (the_horizon c.deal)) refl
+  where
+    go : (b : Bool) → nat_le (height (history s.book a)) (the_horizon c.deal) ≡ b → cond b (step c s (Tick a 1)) s ≡ s
+    go true e = absurd (omega (arith, l, leb-true _ _ e))
+    go false e = refl
 
-pub ticks_are : (w new : WorldState) → new ≡ at w (fold (tick_low (cast_at w)) w.state (range_with_len 0 (length w.deal.graph.arcs)))
-    → new ≡ at w (ticks (cast_at w) w.state)
-unfolding ticks
-ticks_are w new e = e
+module _ (gives : Gives) (w new : WorldState) where
+  pub ticks_stop : IsStopped gives (λ c s. fold (tick_low c) s (range_with_len 0 (length w.deal.graph.arcs))) w new → IsStopped gives ticks w new
+  unfolding ticks
+  ticks_stop k = stopped_as gives (λ c s. fold (tick_low c) s (range_with_len 0 (length w.deal.graph.arcs))) ticks w new (λ g. refl) k
+
+  pub ticks_are : HasGone gives (λ c s. fold (tick_low c) s (range_with_len 0 (length w.deal.graph.arcs))) w new → HasGone gives ticks w new
+  unfolding ticks
+  ticks_are k = gone_as gives (λ c s. fold (tick_low c) s (range_with_len 0 (length w.deal.graph.arcs))) ticks w new (λ g. refl) k
 
 -- Rounds.
 
-pub turns_stop : (w new : WorldState) → IsStopped w (fold (turn (cast_at w)) w.state (range_with_len 0 w.deal.graph.n)) new
-    → IsStopped w (turns (cast_at w) w.state) new
-unfolding turns
-turns_stop w new k = k
+module _ (gives : Gives) (w new : WorldState) where
+  pub turns_stop : IsStopped gives (λ c s. fold (turn c) s (range_with_len 0 w.deal.graph.n)) w new → IsStopped gives turns w new
+  unfolding turns
+  turns_stop k = stopped_as gives (λ c s. fold (turn c) s (range_with_len 0 w.deal.graph.n)) turns w new (λ g. refl) k
 
-pub turns_are : (w new : WorldState) → new ≡ at w (fold (turn (cast_at w)) w.state (range_with_len 0 w.deal.graph.n)) → new ≡ at w (turns (cast_at w) w.state)
-unfolding turns
-turns_are w new e = e
+  pub turns_are : HasGone gives (λ c s. fold (turn c) s (range_with_len 0 w.deal.graph.n)) w new → HasGone gives turns w new
+  unfolding turns
+  turns_are k = gone_as gives (λ c s. fold (turn c) s (range_with_len 0 w.deal.graph.n)) turns w new (λ g. refl) k
 
 turns_lead : (c : Cast) (s : State) → IsReached c s (turns c s)
 unfolding turns
 turns_lead c s = fold_events c (turn c) (range_with_len 0 c.deal.graph.n) s (λ t v i. turn_events c t v (from_range v c.deal.graph.n i))
 
-pub round_from_turns : (c : Cast) (s : State) → IsReached c (turns c s) (round c s)
-unfolding round ticks
-round_from_turns c s = fold_events c (tick_low c) (arcs c.deal.graph) (turns c s) (λ t a i. tick_events c t a (from_range a (length c.deal.graph.arcs) i))
+ticks_lead : (c : Cast) (s : State) → IsReached c s (ticks c s)
+unfolding ticks
+ticks_lead c s = fold_events c (tick_low c) (arcs c.deal.graph) s (λ t a i. tick_events c t a (from_range a (length c.deal.graph.arcs) i))
 
-pub round_stops : (old mid new : WorldState) → mid ≡ at old (turns (cast_at old) old.state) → IsStopped mid (ticks (cast_at mid) mid.state) new
-    → IsStopped old (round (cast_at old) old.state) new
+module _ (gives : Gives) (old mid new : WorldState) (turned : HasGone gives turns old mid) where
+  pub round_ends : HasGone gives ticks mid new → HasGone gives round old new
+  unfolding round
+  round_ends k =
+      gone_as gives (λ c s. ticks c (turns c s)) round old new (λ g. refl) (gone_then gives turns ticks old mid new turned k)
+
+  pub round_stops : IsStopped gives ticks mid new → IsStopped gives round old new
+  unfolding round
+  round_stops k =
+      stopped_as gives (λ c s. ticks c (turns c s)) round old new (λ g. refl)
+      (stopped_after gives turns ticks old mid new turned (λ g s. turns_lead (cast_for old g) s) k)
+
+pub round_cut : (gives : Gives) (old new : WorldState) → IsStopped gives turns old new → IsStopped gives round old new
 unfolding round
-round_stops old mid new e k =
-    let h = subst (λ w. IsStopped w (ticks (cast_at w) w.state) new) e k in
-    record {
-      stopped = h.stopped;
-      cast = h.cast;
-      book =
-          way_after (cast_at old) old.state (turns (cast_at old) old.state) (round (cast_at old) old.state) new.state.book
-          (turns_lead (cast_at old) old.state) h.book;
-    }
+round_cut gives old new k =
+    stopped_as gives (λ c s. ticks c (turns c s)) round old new (λ g. refl)
+    (stopped_then gives turns ticks old new k (λ g s. ticks_lead (cast_for old g) s))
 
 pub unless_leads : (c : Cast) (s : State) → IsReached c s (round_unless_ended c s)
 unless_leads c s = go (has_ended c.deal s.book)
@@ -163,12 +194,30 @@ is_round c s e = ap (λ (b : Bool). cond b s (round c s)) e
 pub is_rest : (c : Cast) (s : State) → has_ended c.deal s.book ≡ true → round_unless_ended c s ≡ s
 is_rest c s e = ap (λ (b : Bool). cond b s (round c s)) e
 
-pub finish_stops_at : (w new : WorldState) → IsStopped w (repeat (the_horizon w.deal + 1) (round_unless_ended (cast_at w)) w.state) new
-    → IsStopped w (finish (cast_at w) w.state) new
-unfolding finish
-finish_stops_at w new k = k
+module _ (gives : Gives) (w new : WorldState) where
+  pub finish_stops_at : IsStopped gives (λ c s. repeat (the_horizon w.deal + 1) (round_unless_ended c) s) w new → IsStopped gives finish w new
+  unfolding finish
+  finish_stops_at k = stopped_as gives (λ c s. repeat (the_horizon w.deal + 1) (round_unless_ended c) s) finish w new (λ g. refl) k
 
-pub finish_is : (w new : WorldState) → new ≡ at w (repeat (the_horizon w.deal + 1) (round_unless_ended (cast_at w)) w.state)
-    → new ≡ at w (finish (cast_at w) w.state)
-unfolding finish
-finish_is w new e = e
+  pub finish_is : HasGone gives (λ c s. repeat (the_horizon w.deal + 1) (round_unless_ended c) s) w new → HasGone gives finish w new
+  unfolding finish
+  finish_is k = gone_as gives (λ c s. repeat (the_horizon w.deal + 1) (round_unless_ended c) s) finish w new (λ g. refl) k
+
+-- What a finish leaves.
+
+module _ {A E : Type 0} (gives : Gives) (w new : WorldState) (ready : IsReadyCast (cast_at w)) where
+  pub has_ended_by : (r : Result A E) → OnOk r (HasGone gives finish w new) → IsGood (cast_at w) w.state → OnOk r (IsEnded w.deal new.state.book)
+  has_ended_by (Ok x) k good =
+      let g = answers_of new in
+      subst (λ (s : State). IsEnded w.deal s.book) (sym (k.state g (λ i l. refl)))
+      (finishes_are_good (cast_for w g) w.state (ready_for (cast_at w) g ready) (good_for (cast_at w) g w.state good)).1
+  has_ended_by (Err x) k good = tt
+
+  pub dealt_by : (r : Result A E) → OnOk r (HasGone gives finish w new)
+      → OnOk r (AllConform w → w.state ≡ start (cast_at w) → IsDealt w.deal (conforms (cast_at w)) new.state.book)
+  dealt_by (Ok x) k = λ all at.
+      let g = answers_of new in
+      subst (λ (s : State). IsDealt w.deal (conforms (cast_at w)) s.book)
+      (sym (k.state g (λ i l. refl) ∙ ap (λ (s : State). finish (cast_for w g) s) at))
+      (fair_is_dealt (cast_for w g) (ready_for (cast_at w) g ready) all)
+  dealt_by (Err x) k = tt

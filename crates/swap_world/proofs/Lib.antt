@@ -6,8 +6,11 @@ pub mod Plans
 pub mod States
 pub mod Acts
 pub mod Worlds
+pub mod Asks
 pub mod Team
 pub mod Begun
 pub mod Ways
+pub mod Gone
 pub mod Loops
 pub mod Finishes
+pub mod Plain

@@ -1,49 +1,94 @@
--- Loops of a world: over the first m numbers, over a list, and m times. Each has made f of the state so far.
-use Rattle.std.proofs.Common.{◌≡◌, ℕ, ◌+◌, ◌<◌, ◌≤◌, List, length, get_or, take, fold, sym, ap, ◌∙◌, subst}
+-- Loops of a world: over a list, over the first m numbers, and m times. Each has gone by f so far.
+use Rattle.std.proofs.Common.{◌≡◌, ℕ, ◌+◌, ◌<◌, ◌≤◌, List, length, get_or, take, fold, sym, ap, ◌∙◌, arith}
 use Rattle.std.specs.List.{range_with_len}
+use Rattle.std.proofs.lemmas.List.{take_all}
+use Rattle.std.proofs.lemmas.List.FromFn.{length-range_with_len, get_or-range_with_len}
+use Rattle.std.proofs.lemmas.List.Sums.{fold_more}
+use Rattle.swap_run.specs.Asked.{Answers}
 use Rattle.swap_run.specs.Run.{Cast, State}
 use Rattle.swap_run.specs.Fair.{repeat}
 use Rattle.swap_run.specs.FairLaws.{IsReached}
 use Rattle.swap_run.proofs.Repeats.{repeat_one, rest_more}
-use Rattle.swap_world.specs.Value.{WorldState, cast_at}
+use Rattle.swap_world.specs.Value.{WorldState, cast_for}
+use Rattle.swap_world.specs.Gone.{Gives, HasGone}
 use Rattle.swap_world.specs.Stopped.{IsStopped}
-use Rattle.swap_world.proofs.Ways.{at, range_more, range_whole, range_way, repeat_way, fold_way, LeadOn}
-
--- Over the first m numbers.
-module _ (f : Cast → State → ℕ → State) (old mid new : WorldState) (m k : ℕ)
-    (so_far : mid ≡ at old (fold (f (cast_at old)) old.state (take k (range_with_len 0 m)))) where
-  pub range_on : k < m → new ≡ at mid (f (cast_at mid) mid.state k) → new ≡ at old (fold (f (cast_at old)) old.state (take (k + 1) (range_with_len 0 m)))
-  range_on l h = h ∙ (ap (λ w. at w (f (cast_at w) w.state k)) so_far ∙ ap (λ s. at old s) (sym (range_more (f (cast_at old)) old.state m k l)))
-
-  pub range_done : m ≤ k → mid ≡ at old (fold (f (cast_at old)) old.state (range_with_len 0 m))
-  range_done l = so_far ∙ ap (λ s. at old s) (range_whole (f (cast_at old)) old.state m k l)
-
-  pub range_stops : k < m → ((x : ℕ) → x < m → (s : State) → IsReached (cast_at old) s (f (cast_at old) s x))
-      → IsStopped mid (f (cast_at mid) mid.state k) new → IsStopped old (fold (f (cast_at old)) old.state (range_with_len 0 m)) new
-  range_stops l h z =
-      let y = subst (λ w. IsStopped w (f (cast_at w) w.state k) new) so_far z in
-      record { stopped = y.stopped; cast = y.cast; book = range_way (cast_at old) (f (cast_at old)) m k old.state new.state.book l h y.book }
+use Rattle.swap_world.proofs.Gone.{gone_as, gone_then, cast_gone, deal_gone, more_asked, way_from, for_gone}
+use Rattle.swap_world.proofs.Ways.{fold_way, range_all, repeat_way, LeadOn}
 
 -- Over a list.
-module _ {B : Type 0} (f : Cast → State → B → State) (old mid new : WorldState) (xs : List B) (k : ℕ) (x : B)
-    (so_far : mid ≡ at old (fold (f (cast_at old)) old.state (take k xs))) where
-  pub list_stops : k < length xs → x ≡ get_or xs k x → LeadOn (cast_at old) (f (cast_at old)) xs → IsStopped mid (f (cast_at mid) mid.state x) new
-      → IsStopped old (fold (f (cast_at old)) old.state xs) new
-  list_stops l is h z =
-      let y = subst (λ w. IsStopped w (f (cast_at w) w.state x) new) so_far z in
-      record { stopped = y.stopped; cast = y.cast; book = fold_way (cast_at old) (f (cast_at old)) xs k x old.state new.state.book l is h y.book }
+module _ (gives : Gives) {B : Type 0} (f : Cast → State → B → State) (old mid new : WorldState) (xs : List B) (k : ℕ) (x : B)
+    (so_far : HasGone gives (λ c s. fold (f c) s (take k xs)) old mid) where
+  pub list_on : k < length xs → x ≡ get_or xs k x → HasGone gives (λ c s. f c s x) mid new → HasGone gives (λ c s. fold (f c) s (take (k + 1) xs)) old new
+  list_on l is h =
+      gone_as gives (λ c s. f c (fold (f c) s (take k xs)) x) (λ c s. fold (f c) s (take (k + 1) xs)) old new
+      (λ g. let c = cast_for old g in
+      ap (λ (y : B). f c (fold (f c) old.state (take k xs)) y) is ∙ sym (fold_more (f c) old.state xs k x l))
+      (gone_then gives (λ c s. fold (f c) s (take k xs)) (λ c s. f c s x) old mid new so_far h)
+
+  pub list_stops : k < length xs → x ≡ get_or xs k x → ((g : Answers) → LeadOn (cast_for old g) (f (cast_for old g)) xs)
+      → IsStopped gives (λ c s. f c s x) mid new → IsStopped gives (λ c s. fold (f c) s xs) old new
+  list_stops l is leads h = record {
+    stopped = h.stopped;
+    cast = h.cast ∙ cast_gone gives (λ c s. fold (f c) s (take k xs)) old mid so_far;
+    asked = more_asked gives old mid new so_far.asked (deal_gone gives (λ c s. fold (f c) s (take k xs)) old mid so_far) h.asked;
+    book = λ g e. fold_way (cast_for old g) (f (cast_for old g)) xs k x old.state new.state.book l is (leads g)
+        (way_from gives (λ c s. fold (f c) s (take k xs)) (λ c s. f c s x) old mid new g so_far h.asked e (h.book g e));
+  }
+
+pub list_done : (gives : Gives) {B : Type 0} (f : Cast → State → B → State) (old mid : WorldState) (xs : List B) (k : ℕ) → length xs ≤ k
+    → HasGone gives (λ c s. fold (f c) s (take k xs)) old mid → HasGone gives (λ c s. fold (f c) s xs) old mid
+list_done gives {B = B} f old mid xs k l so_far =
+    gone_as gives (λ c s. fold (f c) s (take k xs)) (λ c s. fold (f c) s xs) old mid
+    (λ g. ap (λ (ys : List B). fold (f (cast_for old g)) old.state ys) (take_all k xs l)) so_far
+
+-- Over the first m numbers.
+module _ (gives : Gives) (f : Cast → State → ℕ → State) (old mid new : WorldState) (m k : ℕ)
+    (so_far : HasGone gives (λ c s. fold (f c) s (take k (range_with_len 0 m))) old mid) where
+  low : k < m → k < length (range_with_len 0 m)
+  low l = let n = length-range_with_len 0 m in omega (arith, n, l)
+
+  here : k < m → k ≡ get_or (range_with_len 0 m) k k
+  here l = let z : 0 + k ≡ k = omega arith in sym (get_or-range_with_len 0 m k k l ∙ z)
+
+  pub range_on : k < m → HasGone gives (λ c s. f c s k) mid new → HasGone gives (λ c s. fold (f c) s (take (k + 1) (range_with_len 0 m))) old new
+  range_on l h = list_on gives f old mid new (range_with_len 0 m) k k so_far (low l) (here l) h
+
+  pub range_stops : k < m → ((x : ℕ) → x < m → (g : Answers) (s : State) → IsReached (cast_for old g) s (f (cast_for old g) s x))
+      → IsStopped gives (λ c s. f c s k) mid new → IsStopped gives (λ c s. fold (f c) s (range_with_len 0 m)) old new
+  range_stops l leads h =
+      list_stops gives f old mid new (range_with_len 0 m) k k so_far (low l) (here l)
+      (λ g. range_all (λ x. (s : State) → IsReached (cast_for old g) s (f (cast_for old g) s x)) m (λ x lt s. leads x lt g s)) h
+
+pub range_done : (gives : Gives) (f : Cast → State → ℕ → State) (old mid : WorldState) (m k : ℕ) → m ≤ k
+    → HasGone gives (λ c s. fold (f c) s (take k (range_with_len 0 m))) old mid → HasGone gives (λ c s. fold (f c) s (range_with_len 0 m)) old mid
+range_done gives f old mid m k l so_far =
+    let n = length-range_with_len 0 m in list_done gives f old mid (range_with_len 0 m) k (omega (arith, n, l)) so_far
 
 -- Some times.
-module _ (f : Cast → State → State) (old mid new : WorldState) (m k : ℕ) (so_far : mid ≡ at old (repeat k (f (cast_at old)) old.state)) where
-  pub repeat_on : new ≡ at mid (f (cast_at mid) mid.state) → new ≡ at old (repeat (k + 1) (f (cast_at old)) old.state)
-  repeat_on h = h ∙ (ap (λ w. at w (f (cast_at w) w.state)) so_far ∙ ap (λ s. at old s) (sym (repeat_one k (f (cast_at old)) old.state)))
+module _ (gives : Gives) (f : Cast → State → State) (old mid new : WorldState) (m k : ℕ) (so_far : HasGone gives (λ c s. repeat k (f c) s) old mid) where
+  pub repeat_on : HasGone gives f mid new → HasGone gives (λ c s. repeat (k + 1) (f c) s) old new
+  repeat_on h =
+      gone_as gives (λ c s. f c (repeat k (f c) s)) (λ c s. repeat (k + 1) (f c) s) old new
+      (λ g. sym (repeat_one k (f (cast_for old g)) old.state)) (gone_then gives (λ c s. repeat k (f c) s) f old mid new so_far h)
 
-  pub repeat_stops : k < m → ((s : State) → IsReached (cast_at old) s (f (cast_at old) s)) → IsStopped mid (f (cast_at mid) mid.state) new
-      → IsStopped old (repeat m (f (cast_at old)) old.state) new
-  repeat_stops l h z =
-      let y = subst (λ w. IsStopped w (f (cast_at w) w.state) new) so_far z in
-      record { stopped = y.stopped; cast = y.cast; book = repeat_way (cast_at old) (f (cast_at old)) m k old.state new.state.book l h y.book }
+  pub repeat_stops : k < m → ((g : Answers) (s : State) → IsReached (cast_for old g) s (f (cast_for old g) s)) → IsStopped gives f mid new
+      → IsStopped gives (λ c s. repeat m (f c) s) old new
+  repeat_stops l leads h = record {
+    stopped = h.stopped;
+    cast = h.cast ∙ cast_gone gives (λ c s. repeat k (f c) s) old mid so_far;
+    asked = more_asked gives old mid new so_far.asked (deal_gone gives (λ c s. repeat k (f c) s) old mid so_far) h.asked;
+    book = λ g e. repeat_way (cast_for old g) (f (cast_for old g)) m k old.state new.state.book l (leads g)
+        (way_from gives (λ c s. repeat k (f c) s) f old mid new g so_far h.asked e (h.book g e));
+  }
 
   -- once f changes nothing
-  pub repeat_rests : k ≤ m → f (cast_at mid) mid.state ≡ mid.state → mid ≡ at old (repeat m (f (cast_at old)) old.state)
-  repeat_rests l e = so_far ∙ ap (λ s. at old s) (sym (rest_more k m (f (cast_at old)) old.state (subst (λ w. f (cast_at w) w.state ≡ w.state) so_far e) l))
+  pub repeat_rests : k ≤ m → ((g : Answers) → f (cast_for mid g) mid.state ≡ mid.state) → HasGone gives (λ c s. repeat m (f c) s) old mid
+  repeat_rests l rests = record {
+    asked = so_far.asked;
+    same = so_far.same;
+    state = λ g e. let c = cast_for old g in
+        let is : mid.state ≡ repeat k (f c) old.state = so_far.state g e in
+        let rest : f c mid.state ≡ mid.state
+        = sym (ap (λ (x : Cast). f x mid.state) (for_gone gives (λ c s. repeat k (f c) s) old mid g so_far)) ∙ rests g in
+        is ∙ sym (rest_more k m (f c) old.state (sym (ap (f c) is) ∙ (rest ∙ is)) l);
+  }

@@ -1,25 +1,62 @@
--- What parties do that don't conform: those that plan nothing rest, and those that follow a script call and know.
+-- What parties do that don't conform: those that plan nothing rest, and those that follow a script or a strategy call and know.
 use Rattle.std.proofs.Common.{◌≡◌, ℕ, ◌<◌, Bool, true, false, cond, List, [], length, set, slice_index_or, Option, Some, None, refl, sym, subst}
-use Rattle.std.proofs.Common.{ap, ◌∙◌, length-set, set-set}
+use Rattle.std.proofs.Common.{ap, ◌∙◌, ◌∷◌, ◌++◌, nat_lt, lt-ltb, length-set, set-set}
+use Rattle.swap_base.proofs.Lists.{and_both}
 use Rattle.std.proofs.lemmas.List.{set-get_or, get_or-set_same}
 use Rattle.swap_digraph.specs.declared.deal.Deal.{Deal}
 use Rattle.ledger_core.specs.declared.entry.Call.{Call}
 use Rattle.ledger_core.specs.Book.{history}
 use Rattle.deviator_script.specs.Crafted.{Seeds}
 use Rattle.deviator_script.specs.Script.{next_call}
+use Rattle.deviator_script.specs.View.{MayAnswer}
+use Rattle.deviator_script.specs.declared.moves.Move.{Move}
 use Rattle.deviator_script.specs.declared.job.Role.{Role}
 use Rattle.deviator_script.specs.declared.job.Role.TheVariants.{Conforming, Manual, Script, Strategy}
 use Rattle.deviator_script.specs.declared.event.Event.TheVariants.{Look, Act}
 use Rattle.swap_run.specs.Run.{Cast, Plan, State, role_of, plan_of, plan_up_to, is_planned, look, act, watch, take_call, follow, act_as}
-use Rattle.swap_run.specs.Run.{step}
+use Rattle.swap_run.specs.Run.{step, ask, answer_for, is_answer_of}
+use Rattle.swap_run.specs.Asked.{Answers, with_answers, is_strategy}
 use Rattle.ledger_core.specs.Ledger.{after_call}
 use Rattle.swap_world.specs.Cast.{cast_with}
-use Rattle.swap_world.specs.Acting.{taken, seen, turned}
-use Rattle.swap_world.specs.Inside.{IsScript}
+use Rattle.swap_world.specs.Acting.{taken, seen, turned, asked_once, question_of}
+use Rattle.swap_world.specs.Inside.{name_in}
 
--- a script is a plan
-pub script_plans : (role : Role) → IsScript role → is_planned role ≡ true
-script_plans role i = ap is_planned i.1
+-- the role is a script
+abbrev pub IsScript : Role → Type 0
+IsScript role = (moves : List Move) × (role ≡ Script moves)
+
+-- what is planned without a strategy is a script
+pub scripted : (role : Role) → is_planned role ≡ true → is_strategy role ≡ false → IsScript role
+scripted Conforming e f = absurd (cc e)
+scripted Manual e f = absurd (cc e)
+scripted (Script moves) e f = (moves, refl)
+scripted (Strategy name) e f = absurd (cc f)
+
+-- a role that is a strategy
+pub named : (role : Role) → is_strategy role ≡ true → role ≡ Strategy (name_in role)
+named Conforming e = absurd (cc e)
+named Manual e = absurd (cc e)
+named (Script moves) e = absurd (cc e)
+named (Strategy name) e = refl
+
+-- What a strategy answers.
+
+keep_if : (b : Bool) (x : ℕ × Call) → b ≡ true → ◌≡◌ {A = Option (ℕ × Call)} (cond b (Some x) None) (Some x)
+keep_if true x e = refl
+keep_if false x e = absurd (cc e)
+
+-- an answer that the party may make is made
+answer_is : (d : Deal) (v : ℕ) (o : Option (ℕ × Call)) → MayAnswer d v o → answer_for d v o ≡ o
+answer_is d v None may = refl
+answer_is d v (Some x) may =
+    let k = may x refl in
+    let low : nat_lt x.0 (length d.graph.arcs) ≡ true = lt-ltb x.0 (length d.graph.arcs) k.arc in
+    keep_if (is_answer_of d v x) x (and_both _ _ (and_both _ _ low k.near) k.fits)
+
+-- answers matter for no call
+pub take_same : (c : Cast) (g : Answers) (s : State) (v : ℕ) (o : Option (ℕ × Call)) → take_call (with_answers c g) s v o ≡ take_call c s v o
+take_same c g s v None = refl
+take_same c g s v (Some x) = refl
 
 -- the plan of a party that has none in the list
 abbrev pub absent : Plan
@@ -106,4 +143,44 @@ module _ (d : Deal) (conforming : List Bool) (seeds : Seeds) (roles : List Role)
       → step c s (Act v) ≡ record s { book = taken d v (due_call n) s.book; plans = set s.plans v (seen d v (due_call n) s.book (turned n)) }
   planned_act s v n e i k =
       ap (λ b. cond b (act c s v) (act_as c s v (role_of c v))) e
-      ∙ (ap (λ (role : Role). act_as c s v role) i.1 ∙ followed_is s v n (script_plans (role_of c v) i) k)
+      ∙ (ap (λ (role : Role). act_as c s v role) i.1 ∙ followed_is s v n (ap is_planned i.1) k)
+
+  -- Parties that follow a strategy.
+
+  -- the state after v has asked
+  abbrev asked_with : State → ℕ → List ℕ → Plan → State
+  asked_with s v name n = record {
+    book = s.book;
+    notes = s.notes;
+    plans = set s.plans v (asked_once n);
+    asked = s.asked ++ question_of name v n ∷ [];
+  }
+
+  -- the state after v has asked and made the call that was answered
+  abbrev pub answered_with : State → ℕ → List ℕ → Plan → Option (ℕ × Call) → State
+  answered_with s v name n o = record {
+    book = taken d v o s.book;
+    notes = s.notes;
+    plans = set s.plans v (seen d v o s.book (asked_once n));
+    asked = s.asked ++ question_of name v n ∷ [];
+  }
+
+  asked_is : (g : Answers) (s : State) (v : ℕ) (n : Plan) (name : List ℕ) (o : Option (ℕ × Call)) → is_planned (role_of c v) ≡ true → Plans s v n
+      → g (length s.asked) ≡ o → MayAnswer d v o → ask (with_answers c g) s v name ≡ answered_with s v name n o
+  asked_is g s v n name o r k at may =
+      let t : State = asked_with s v name n in
+      let there : v < length t.plans = subst (λ l. v < l) (sym (length-set s.plans v (asked_once n))) k.0 in
+      let now : plan_of t v ≡ asked_once n = get_or-set_same s.plans v (asked_once n) absent k.0 in
+      ap (λ (m : Plan). take_call (with_answers c g) (asked_with s v name m) v (answer_for d v (g (length s.asked)))) k.1
+      ∙ (ap (λ (x : Option (ℕ × Call)). take_call (with_answers c g) t v (answer_for d v x)) at
+      ∙ (ap (λ (x : Option (ℕ × Call)). take_call (with_answers c g) t v x) (answer_is d v o may)
+      ∙ (take_same c g t v o ∙ (planned_call t v (asked_once n) o r (there, now)
+      ∙ ap (λ (ps : List Plan). record t { book = taken d v o s.book; plans = ps })
+      (set-set s.plans v (asked_once n) (seen d v o s.book (asked_once n)))))))
+
+  pub planned_ask : (g : Answers) (s : State) (v : ℕ) (n : Plan) (name : List ℕ) (o : Option (ℕ × Call)) → slice_index_or conforming v false ≡ false
+      → is_planned (role_of c v) ≡ true → role_of c v ≡ Strategy name → Plans s v n → g (length s.asked) ≡ o → MayAnswer d v o
+      → step (with_answers c g) s (Act v) ≡ answered_with s v name n o
+  planned_ask g s v n name o e r i k at may =
+      ap (λ b. cond b (act c s v) (act_as (with_answers c g) s v (role_of c v))) e
+      ∙ (ap (λ (role : Role). act_as (with_answers c g) s v role) i ∙ asked_is g s v n name o r k at may)

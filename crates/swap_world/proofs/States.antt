@@ -1,15 +1,17 @@
 -- The state that ledgers and actors show, after a look, an act and a call.
-use Rattle.std.proofs.Common.{◌≡◌, ◌≢◌, ◌⊎◌, inl, inr, ℕ, ◌<◌, Bool, true, false, cond, List, [], length, get_or, set, slice_index_or, map, Option}
+use Rattle.std.proofs.Common.{◌≡◌, ◌≢◌, ◌⊎◌, inl, inr, ℕ, ◌<◌, Bool, true, false, cond, List, [], ◌∷◌, ◌++◌, length, get_or, set, slice_index_or, map, Option}
 use Rattle.std.proofs.Common.{Some, None, refl, sym, ap, ap₂, ◌∙◌, subst}
 use Rattle.std.proofs.Math.Seq.{map-set_same}
 use Rattle.std.proofs.lemmas.List.{map-set, get_or-map, length-map, set-get_or, get_or-set_same, get_or-set_other, length-set}
 use Rattle.swap_laws.proofs.Prefixes.{same_or_not}
 use Rattle.swap_digraph.specs.declared.deal.Deal.{Deal}
 use Rattle.hashkey_path.specs.declared.hashkey.Hashkey.{Hashkey}
+use Rattle.ledger_core.specs.declared.entry.Call.{Call}
 use Rattle.ledger_core.specs.declared.entry.Entry.{Entry}
 use Rattle.ledger_core.specs.Value.{LedgerState}
 use Rattle.ledger_core.specs.Book.{Histories, history}
 use Rattle.deviator_script.specs.Resolved.{resolved}
+use Rattle.deviator_script.specs.View.{MayAnswer}
 use Rattle.deviator_script.specs.declared.event.Event.TheVariants.{Look, Act, Call as Made}
 use Rattle.deviator_script.specs.declared.job.Role.{Role}
 use Rattle.deviator_script.specs.declared.job.Role.TheVariants as kinds
@@ -17,14 +19,15 @@ use Rattle.deviator_script.specs.declared.moves.Move.{Move}
 use Rattle.swap_rules.specs.Due.{Wallet, Action, due, first}
 use Rattle.party_wallet.specs.Value.{signed_in}
 use Rattle.swap_run.specs.Run.{Cast, Notes, Plan, State, conforms, role_of, notes_of, plan_of, plan_up_to, signed_after, known_up_to, look, make, next_of, act}
-use Rattle.swap_run.specs.Run.{watch, act_as, step}
+use Rattle.swap_run.specs.Run.{Question, watch, act_as, step}
+use Rattle.swap_run.specs.Asked.{Answers, with_answers}
 use Rattle.ledger_core.specs.Ledger.{after_call}
 use Rattle.party_machine.specs.Wallet.{wallet_of}
 use Rattle.party_machine.specs.Machine as machines
 use Rattle.party_machine.specs.Machine.{MachineState}
-use Rattle.swap_world.proofs.Plans.{absent, due_call, script_plans, planned_look, planned_call, planned_act}
+use Rattle.swap_world.proofs.Plans.{IsScript, absent, due_call, planned_look, planned_call, planned_act, planned_ask}
 use Rattle.swap_world.specs.Cast.{cast_with, wallet_with}
-use Rattle.swap_world.specs.Acting.{histories, book_after, machine_after, taken, seen, turned}
+use Rattle.swap_world.specs.Acting.{histories, book_after, machine_after, taken, seen, turned, asked_once, question_of}
 use Rattle.swap_world.specs.Inside.{notes_in, plan_in, IsActorOf, AreActorsOf}
 use Rattle.swap_world.specs.declared.actor.Actor.{Actor}
 use Rattle.swap_world.specs.declared.actor.Actor.TheVariants.{Conforming, Planned}
@@ -47,37 +50,38 @@ actor_set d conforming seeds roles xs p y k lt i = record {
     at v x l e (inl s) = subst (λ u. Is u x) (sym s) (subst (Is p) (sym (e ∙ (ap (λ u. get_or (set xs p y) u x) s ∙ get_or-set_same xs p y x lt))) i)
     at v x l e (inr n) = k.each v x l (e ∙ get_or-set_other xs p v y x n)
 
--- the state of those histories and actors
-abbrev pub state : Deal → List Actor → Histories → State
-state d ys b = record { book = b; notes = map (notes_in d) ys; plans = map (plan_in d) ys; asked = [] }
+-- the state of those questions, actors and histories
+abbrev pub state : Deal → List Question → List Actor → Histories → State
+state d qs ys b = record { book = b; notes = map (notes_in d) ys; plans = map (plan_in d) ys; asked = qs }
 
-module _ (d : Deal) (conforming : List Bool) (seeds : List (Option (List ℕ))) (roles : List Role) (ls : List LedgerState) (xs : List Actor) where
+module _ (d : Deal) (conforming : List Bool) (seeds : List (Option (List ℕ))) (roles : List Role) (qs : List Question) (ls : List LedgerState)
+    (xs : List Actor) where
   -- who takes part
   abbrev pub c : Cast
   c = cast_with d conforming seeds roles
 
   -- the state before
   abbrev pub s : State
-  s = state d xs (histories ls)
+  s = state d qs xs (histories ls)
 
   -- the state with these parts
   abbrev st : Histories → List Notes → List Plan → State
-  st b ns ps = record { book = b; notes = ns; plans = ps; asked = [] }
+  st b ns ps = record { book = b; notes = ns; plans = ps; asked = qs }
 
   same_parts : (b b' : Histories) (ns ns' : List Notes) (ps ps' : List Plan) → b ≡ b' → ns ≡ ns' → ps ≡ ps' → st b ns ps ≡ st b' ns' ps'
   same_parts b b' ns ns' ps ps' eb en ep = ap₂ (λ (x : Histories) (y : List Notes). st x y ps) eb en ∙ ap (λ (z : List Plan). st b' ns' z) ep
 
   -- the state with another actor in the place of party p
   abbrev pub replaced : ℕ → Actor → Histories → State
-  replaced p x b = state d (set xs p x) b
+  replaced p x b = state d qs (set xs p x) b
 
   where_it_conforms : (p : ℕ) (t u : State) → slice_index_or conforming p false ≡ true → t ≡ cond (conforms c p) t u
   where_it_conforms p t u e = sym (ap (λ (b : Bool). cond b t u) e)
 
   -- the same actor in its place
-  pub same_actor : (p : ℕ) (x y : Actor) (b : Histories) → x ≡ get_or xs p x → y ≡ x → replaced p y b ≡ state d xs b
+  pub same_actor : (p : ℕ) (x y : Actor) (b : Histories) → x ≡ get_or xs p x → y ≡ x → replaced p y b ≡ state d qs xs b
   same_actor p x y b here e =
-      ap (λ (z : Actor). replaced p z b) e ∙ ap (λ (ys : List Actor). state d ys b) (ap (λ (z : Actor). set xs p z) here ∙ set-get_or xs p x)
+      ap (λ (z : Actor). replaced p z b) e ∙ ap (λ (ys : List Actor). state d qs ys b) (ap (λ (z : Actor). set xs p z) here ∙ set-get_or xs p x)
 
   -- Conforming parties.
 
@@ -124,7 +128,7 @@ module _ (d : Deal) (conforming : List Bool) (seeds : List (Option (List ℕ))) 
       → new ≡ machine_after m o (histories ls)
       → replaced p (Conforming new) b ≡ make d s p o
   made p m new b None i eb en =
-      same_actor p (Conforming m) (Conforming new) b i.here (ap (λ (x : MachineState). Conforming x) en) ∙ ap (λ (x : Histories). state d xs x) eb
+      same_actor p (Conforming m) (Conforming new) b i.here (ap (λ (x : MachineState). Conforming x) en) ∙ ap (λ (x : Histories). state d qs xs x) eb
   made p m new b (Some x) i eb en =
       let h : after_call m.deal x.arc m.me x.call (history (histories ls) x.arc) ≡ after_call d x.arc p x.call (history (histories ls) x.arc)
       = ap₂ (λ (e : Deal) (v : ℕ). after_call e x.arc v x.call (history (histories ls) x.arc)) i.is.1 i.is.2 in
@@ -156,7 +160,7 @@ module _ (d : Deal) (conforming : List Bool) (seeds : List (Option (List ℕ))) 
       ap (λ (t : State). t.book)
       (acted p m (machine_after m (machines.next_of m) (histories ls)) (book_after m (machines.next_of m) (histories ls)) i refl refl)
 
-  -- Parties that follow a script.
+  -- Parties that follow a script or a strategy.
 
   -- a plan, in the place of party p
   pub record IsPlanAt (p : ℕ) (n : Plan) : Type 0 where
@@ -180,22 +184,34 @@ module _ (d : Deal) (conforming : List Bool) (seeds : List (Option (List ℕ))) 
       → replaced p (Planned new) (histories ls) ≡ step c s (Look p a)
   watched p a n new i e =
       planned p n new (histories ls) i ∙ (ap (λ (m : Plan). st (histories ls) s.notes (set s.plans p m)) e
-      ∙ sym (planned_look d conforming seeds roles s p a n i.is.0 (script_plans (role_of c p) i.is.1) (has_plan p n i)))
+      ∙ sym (planned_look d conforming seeds roles s p a n i.is.0 i.is.1 (has_plan p n i)))
 
-  pub followed : (p : ℕ) (n new : Plan) (b : Histories) → IsPlanAt p n → b ≡ taken d p (due_call d conforming seeds roles n) (histories ls)
+  pub followed : (p : ℕ) (n new : Plan) (b : Histories) → IsPlanAt p n → IsScript (role_of c p)
+      → b ≡ taken d p (due_call d conforming seeds roles n) (histories ls)
       → new ≡ seen d p (due_call d conforming seeds roles n) (histories ls) (turned n) → replaced p (Planned new) b ≡ step c s (Act p)
-  followed p n new b i eb en =
+  followed p n new b i script eb en =
       planned p n new b i ∙ (ap₂ (λ (x : Histories) (m : Plan). st x s.notes (set s.plans p m)) eb en
-      ∙ sym (planned_act d conforming seeds roles s p n i.is.0 i.is.1 (has_plan p n i)))
+      ∙ sym (planned_act d conforming seeds roles s p n i.is.0 script (has_plan p n i)))
 
-  pub followed_book : (p : ℕ) (n : Plan) → IsPlanAt p n → taken d p (due_call d conforming seeds roles n) (histories ls) ≡ (step c s (Act p)).book
-  followed_book p n i = ap (λ (t : State). t.book) (followed p n _ _ i refl refl)
+  pub followed_book : (p : ℕ) (n : Plan) → IsPlanAt p n → IsScript (role_of c p)
+      → taken d p (due_call d conforming seeds roles n) (histories ls) ≡ (step c s (Act p)).book
+  followed_book p n i script = ap (λ (t : State). t.book) (followed p n _ _ i script refl refl)
+
+  -- the party has asked its strategy, and made the call that was answered
+  pub answered : (g : Answers) (p : ℕ) (n new : Plan) (b : Histories) (name : List ℕ) (o : Option (ℕ × Call)) → IsPlanAt p n
+      → role_of c p ≡ kinds.Strategy name → g (length qs) ≡ o → MayAnswer d p o → b ≡ taken d p o (histories ls)
+      → new ≡ seen d p o (histories ls) (asked_once n)
+      → state d (qs ++ question_of name p n ∷ []) (set xs p (Planned new)) b ≡ step (with_answers c g) s (Act p)
+  answered g p n new b name o i role at may eb en =
+      ap (λ (t : State). record t { asked = qs ++ question_of name p n ∷ [] }) (planned p n new b i)
+      ∙ (ap₂ (λ (x : Histories) (m : Plan). record (st x s.notes (set s.plans p m)) { asked = qs ++ question_of name p n ∷ [] }) eb en
+      ∙ sym (planned_ask d conforming seeds roles g s p n name o i.is.0 i.is.1 role (has_plan p n i) at may))
 
   pub made_by_hand : (p : ℕ) (mv : Move) (n new : Plan) (b : Histories) → IsPlanAt p n → b ≡ taken d p (resolved d seeds (histories ls) mv) (histories ls)
       → new ≡ seen d p (resolved d seeds (histories ls) mv) (histories ls) n → replaced p (Planned new) b ≡ step c s (Made p mv)
   made_by_hand p mv n new b i eb en =
       planned p n new b i ∙ (ap₂ (λ (x : Histories) (m : Plan). st x s.notes (set s.plans p m)) eb en
-      ∙ sym (planned_call d conforming seeds roles s p n (resolved d seeds (histories ls) mv) (script_plans (role_of c p) i.is.1) (has_plan p n i)))
+      ∙ sym (planned_call d conforming seeds roles s p n (resolved d seeds (histories ls) mv) i.is.1 (has_plan p n i)))
 
   pub made_book : (p : ℕ) (mv : Move) (n : Plan) → IsPlanAt p n
       → taken d p (resolved d seeds (histories ls) mv) (histories ls) ≡ (step c s (Made p mv)).book

@@ -26,7 +26,8 @@ use Rattle.party_machine.specs.Machine.{new_machine}
 use Rattle.party_machine.proofs.Good.{fitting_is_good}
 use Rattle.swap_world.specs.Cast.{cast_of, is_conforming, wallet_with}
 use Rattle.swap_world.specs.Value.{WorldState, new_world}
-use Rattle.swap_world.specs.Staff.{role_in, by_role, by_lock, with_seed, actor_of, actor_step, actors_of, world_of, HaveRoles, HaveSeeds}
+use Rattle.swap_world.specs.Staff.{role_in, by_role, by_lock, with_seed, actor_of, actor_step, actors_of, world_of}
+use Rattle.swap_world.specs.Staff.{IsHeld, AreHeld, HaveRoles, HaveSeeds}
 use Rattle.swap_world.specs.Inside.{notes_in, plan_in, IsActorOf, AreActorsOf}
 use Rattle.swap_world.specs.declared.actor.Actor.{Actor}
 use Rattle.swap_world.specs.declared.actor.Actor.TheVariants.{Conforming, Manual}
@@ -119,32 +120,32 @@ pub record IsOwn (job : Job) (p : ℕ) (x : Actor) : Type 0 where
   pub fits : slice_index_or job.conforming p false ≡ true → (seed : List ℕ) × (slice_index_or job.seeds p None ≡ Some seed)
       × (wrong_lock job.deal p seed ≡ None)
 
--- a role that is a conforming one exactly where the party conforms, and no strategy
-pub record IsRoleOf (conforms : Bool) (role : Role) : Type 0 where
-  pub conforming : conforms ≡ is_conforming role
-  pub unasked : is_strategy role ≡ false
-
 by_itself : (job : Job) (p : ℕ) (x : Actor) (role : Role) → slice_index_or job.conforming p false ≡ false → role_in job p ≡ role
-    → is_strategy role ≡ false → by_role job.deal role ≡ x → IsOwn job p x
-by_itself job p x kinds.Conforming ec er un e = subst (IsOwn job p) e (record {
+    → by_role job.deal role ≡ x → IsOwn job p x
+by_itself job p x kinds.Conforming ec er e = subst (IsOwn job p) e (record {
   is = (ec, ap is_planned er);
   notes = refl;
   plan = sym (ap (first_plan job.deal) er);
   fits = λ t. absurd (false≢true (sym ec ∙ t));
 })
-by_itself job p x kinds.Manual ec er un e = subst (IsOwn job p) e (record {
+by_itself job p x kinds.Manual ec er e = subst (IsOwn job p) e (record {
   is = (ec, ap is_planned er);
   notes = refl;
   plan = sym (ap (first_plan job.deal) er);
   fits = λ t. absurd (false≢true (sym ec ∙ t));
 })
-by_itself job p x (kinds.Script moves) ec er un e = subst (IsOwn job p) e (record {
-  is = (ec, (moves, er));
+by_itself job p x (kinds.Script moves) ec er e = subst (IsOwn job p) e (record {
+  is = (ec, ap is_planned er);
   notes = refl;
   plan = sym (ap (first_plan job.deal) er);
   fits = λ t. absurd (false≢true (sym ec ∙ t));
 })
-by_itself job p x (kinds.Strategy name) ec er un e = absurd (false≢true (sym un))
+by_itself job p x (kinds.Strategy name) ec er e = subst (IsOwn job p) e (record {
+  is = (ec, ap is_planned er);
+  notes = refl;
+  plan = sym (ap (first_plan job.deal) er);
+  fits = λ t. absurd (false≢true (sym ec ∙ t));
+})
 
 -- the plan of a party that conforms is one of no moves
 no_moves : (d : Deal) (role : Role) → is_conforming role ≡ true → first_plan d kinds.Manual ≡ first_plan d role
@@ -154,9 +155,9 @@ no_moves d (kinds.Script moves) e = absurd (cc e)
 no_moves d (kinds.Strategy name) e = absurd (cc e)
 
 own : (job : Job) (p : ℕ) (x : Actor) (b : Bool) (o : Option (List ℕ)) → slice_index_or job.conforming p false ≡ b → slice_index_or job.seeds p None ≡ o
-    → IsRoleOf b (role_in job p) → (b ≡ true → is_some o ≡ true)
+    → b ≡ is_conforming (role_in job p) → (b ≡ true → is_some o ≡ true)
     → cond b (with_seed job.deal (role_in job p) p o) (Ok (by_role job.deal (role_in job p))) ≡ Ok x → IsOwn job p x
-own job p x false o eb eo role some e = by_itself job p x (role_in job p) eb refl role.unasked (cc e)
+own job p x false o eb eo role some e = by_itself job p x (role_in job p) eb refl (cc e)
 own job p x true None eb eo role some e = absurd (false≢true (some refl))
 own job p x true (Some seed) eb eo role some e = by (wrong_lock job.deal p seed) refl e
   where
@@ -166,27 +167,20 @@ own job p x true (Some seed) eb eo role some e = by (wrong_lock job.deal p seed)
         subst (IsOwn job p) s (record {
           is = (eb, refl, refl, eo);
           notes = refl;
-          plan = no_moves job.deal (role_in job p) (sym role.conforming);
+          plan = no_moves job.deal (role_in job p) (sym role);
           fits = λ t. (seed, eo, q);
         })
     by (Some lock) q f = absurd (cc f)
-
-not_among : (rs : List Role) (p : ℕ) → list_any is_strategy rs ≡ false → is_strategy (get_or rs p kinds.Manual) ≡ false
-not_among [] p e = refl
-not_among (r ∷ rs) zero e = (or_neither (is_strategy r) (list_any is_strategy rs) e).0
-not_among (r ∷ rs) (suc p) e = not_among rs p (or_neither (is_strategy r) (list_any is_strategy rs) e).1
 
 -- there is a role per party
 pub role_each : (job : Job) → HaveSeeds job → HaveRoles job → length job.roles ≡ job.deal.graph.n
 role_each job seeds roles = sym (length-map job.roles is_conforming) ∙ (sym (ap (λ (bs : List Bool). length bs) roles.conforming) ∙ seeds.conforming)
 
-role_of_its : (job : Job) (p : ℕ) → HaveSeeds job → HaveRoles job → p < job.deal.graph.n → IsRoleOf (slice_index_or job.conforming p false) (role_in job p)
-role_of_its job p seeds roles lt = record {
-  conforming =
-      ap (λ (bs : List Bool). get_or bs p false) roles.conforming
-      ∙ get_or-map is_conforming job.roles p kinds.Manual false (subst (λ n. p < n) (sym (role_each job seeds roles)) lt);
-  unasked = not_among job.roles p roles.unasked;
-}
+role_of_its : (job : Job) (p : ℕ) → HaveSeeds job → HaveRoles job → p < job.deal.graph.n
+    → slice_index_or job.conforming p false ≡ is_conforming (role_in job p)
+role_of_its job p seeds roles lt =
+    ap (λ (bs : List Bool). get_or bs p false) roles.conforming
+    ∙ get_or-map is_conforming job.roles p kinds.Manual false (subst (λ n. p < n) (sym (role_each job seeds roles)) lt)
 
 pub is_own : (job : Job) (ys : List Actor) (p : ℕ) → HaveSeeds job → HaveRoles job → actors_of job ≡ Ok ys → p < job.deal.graph.n
     → IsOwn job p (get_or ys p Manual)
@@ -312,7 +306,7 @@ module _ (f : Bool → Role) (same : (b : Bool) → is_conforming (f b) ≡ b) (
   no_script (kinds.Script moves) e = absurd (cc e)
   no_script (kinds.Strategy name) e = refl
 
-  nobody_asks : (bs : List Bool) → list_any is_strategy (map f bs) ≡ false
+  pub nobody_asks : (bs : List Bool) → list_any is_strategy (map f bs) ≡ false
   nobody_asks [] = refl
   nobody_asks (b ∷ bs) = ap (λ x. x || list_any is_strategy (map f bs)) (no_strategy (f b) (plain b)) ∙ nobody_asks bs
 
@@ -324,5 +318,20 @@ module _ (f : Bool → Role) (same : (b : Bool) → is_conforming (f b) ≡ b) (
         = ap (λ (rs : List Role). script_of (get_or rs p kinds.Manual)) e ∙ no_script (get_or (map f job.conforming) p kinds.Manual) (plain_at job.conforming p)
         in
         subst (All (IsMoveOf job.deal job.seeds p)) (sym none) (All-nil (IsMoveOf job.deal job.seeds p));
-    unasked = ap (list_any is_strategy) e ∙ nobody_asks job.conforming;
   }
+
+-- where nobody follows a strategy, every kit will do
+
+held_by : (holds : List ℕ → Bool) (role : Role) → is_strategy role ≡ false → IsHeld holds role
+held_by holds kinds.Conforming e = tt
+held_by holds kinds.Manual e = tt
+held_by holds (kinds.Script moves) e = tt
+held_by holds (kinds.Strategy name) e = absurd (cc e)
+
+not_among : (rs : List Role) (p : ℕ) → list_any is_strategy rs ≡ false → is_strategy (get_or rs p kinds.Manual) ≡ false
+not_among [] p e = refl
+not_among (r ∷ rs) zero e = (or_neither (is_strategy r) (list_any is_strategy rs) e).0
+not_among (r ∷ rs) (suc p) e = not_among rs p (or_neither (is_strategy r) (list_any is_strategy rs) e).1
+
+pub unasked_are_held : (holds : List ℕ → Bool) (rs : List Role) → list_any is_strategy rs ≡ false → AreHeld holds rs
+unasked_are_held holds rs e = λ p lt. held_by holds (get_or rs p kinds.Manual) (not_among rs p e)

@@ -1,6 +1,6 @@
--- Worlds that stop on their way to a state: by a step, in a loop over a list, and in a loop that repeats.
+-- Histories on the way to a state: by a step, in a loop over a list, and in a loop that repeats.
 use Rattle.std.proofs.Common.{◌≡◌, ◌⊎◌, inl, inr, Result, Ok, Err, OnErr, ℕ, suc, zero, ◌+◌, ◌-◌, ◌<◌, ◌≤◌, Bool, true, false, List, [], ◌∷◌, length}
-use Rattle.std.proofs.Common.{get_or, take, drop, fold, refl, sym, ap, ◌∙◌, subst, arith, add-one, drop-cons}
+use Rattle.std.proofs.Common.{get_or, take, drop, fold, sym, ap, ◌∙◌, subst, arith, add-one, drop-cons}
 use Rattle.std.specs.List.{range_with_len, list_all, All}
 use Rattle.std.proofs.lemmas.List.Folds.{list_all_at, list_all_more}
 use Rattle.swap_base.proofs.Lists.{and_both}
@@ -15,8 +15,8 @@ use Rattle.swap_run.specs.Run.{Cast, State, step}
 use Rattle.swap_run.specs.Fair.{repeat}
 use Rattle.swap_run.specs.FairLaws.{IsReached}
 use Rattle.swap_run.proofs.Reached.{no_event, one_event, more_events, repeat_events}
-use Rattle.swap_world.specs.Value.{WorldState, cast_at}
-use Rattle.swap_world.specs.Stopped.{IsOnTheWay, IsStopped}
+use Rattle.swap_world.specs.Value.{WorldState}
+use Rattle.swap_world.specs.Stopped.{IsOnTheWay}
 
 -- Lists and numbers.
 
@@ -123,35 +123,8 @@ module _ (c : Cast) where
 
 -- the world with another state
 abbrev pub at : WorldState → State → WorldState
-at w st = record { deal = w.deal; conforming = w.conforming; seeds = w.seeds; roles = w.roles; state = st; stopped = w.stopped }
-
--- a world that stopped on its way from another state, which events lead to
-pub stopped_after : (old mid new : WorldState) (t u : State) → mid ≡ at old t → IsReached (cast_at old) old.state t → IsStopped mid u new → IsStopped old u new
-stopped_after old mid new t u e r k =
-    let h : IsStopped (at old t) u new = subst (λ w. IsStopped w u new) e k in
-    record { stopped = h.stopped; cast = h.cast; book = way_after (cast_at old) old.state t u new.state.book r h.book }
-
--- and to a state from which events lead on
-pub stopped_then : (old new : WorldState) (t u : State) → IsStopped old t new → IsReached (cast_at old) t u → IsStopped old u new
-stopped_then old new t u k r = record { stopped = k.stopped; cast = k.cast; book = way_then (cast_at old) old.state t u new.state.book k.book r }
+at w st = record { deal = w.deal; conforming = w.conforming; seeds = w.seeds; roles = w.roles; answers = w.answers; state = st; stopped = w.stopped }
 
 pub if_err : {A E : Type 0} {P : Type 0} (r : Result A E) → P → OnErr r P
 if_err (Ok x) p = tt
 if_err (Err e) p = p
-
--- a step that wanted memory
-pub stopped_by : {A E : Type 0} (r : Result A E) (old new : WorldState) (e : Event) (t : State) → t ≡ step (cast_at old) old.state e
-    → CanStep old.deal old.conforming old.seeds e → OnErr r (new.stopped ≡ true) → OnErr r (cast_at new ≡ cast_at old)
-    → OnErr r ((new.state.book ≡ old.state.book) ⊎ (new.state.book ≡ (step (cast_at old) old.state e).book)) → OnErr r (IsStopped old t new)
-stopped_by (Ok x) old new e t is can stopped cast book = tt
-stopped_by (Err x) old new e t is can stopped cast book =
-    record {
-      stopped = stopped;
-      cast = cast;
-      book =
-          subst (λ u. IsOnTheWay (cast_at old) old.state u new.state.book) (sym is) (way_of_step (cast_at old) old.state e new.state.book can book);
-    }
-
--- A world that stopped before stays where it is.
-pub stopped_before : (w : WorldState) (t : State) → w.stopped ≡ true → IsReached (cast_at w) w.state t → IsStopped w t w
-stopped_before w t e r = record { stopped = e; cast = refl; book = record { there = w.state; before = no_event (cast_at w) w.state; after = r; book = refl } }

@@ -1,11 +1,12 @@
 -- What a world keeps at each event.
 use Rattle.std.proofs.Common.{◌≡◌, Result, Ok, Err, OnOk, OnErr, ◌⊎◌, inl, inr, ℕ, ◌<◌, Bool, false, List, [], ◌∷◌, length, get_or, set, Option, Some}
-use Rattle.std.proofs.Common.{sym, ap, ap₂, ◌∙◌, subst}
+use Rattle.std.proofs.Common.{refl, sym, ap, ap₂, ◌∙◌, subst}
 use Rattle.std.specs.Result.{is_err}
 use Rattle.std.specs.List.{All}
 use Rattle.std.proofs.lemmas.List.Elements.{All-head, All-tail}
 use Rattle.std.proofs.lemmas.Bool.{false≢true}
 use Rattle.swap_digraph.specs.declared.deal.Deal.{Deal}
+use Rattle.ledger_core.specs.declared.entry.Call.{Call}
 use Rattle.ledger_core.specs.declared.entry.Entry.{Entry}
 use Rattle.ledger_core.specs.Value.{LedgerState}
 use Rattle.ledger_core.specs.Book.{Histories, history}
@@ -16,8 +17,9 @@ use Rattle.deviator_script.specs.declared.event.Event.{Event}
 use Rattle.deviator_script.specs.declared.job.Role.{Role}
 use Rattle.party_plan.specs.Shown.{IsShown}
 use Rattle.deviator_script.specs.Step.{CanStep}
-use Rattle.swap_run.specs.Run.{Cast, Plan, State, notes_of, next_of, step, run_from}
-use Rattle.swap_run.specs.Laws.{IsReadyCast, IsGood, IsGoodPlan, IsKept}
+use Rattle.swap_run.specs.Asked.{Answers, with_answers}
+use Rattle.swap_run.specs.Run.{Cast, Plan, Question, State, notes_of, next_of, step, run_from}
+use Rattle.swap_run.specs.Laws.{AreGoodNotes, IsReadyCast, IsGood, IsGoodPlan, IsKept}
 use Rattle.swap_run.specs.FairLaws.{IsReached}
 use Rattle.party_wallet.specs.Value.{signed_in}
 use Rattle.swap_laws.proofs.Due.{due_is_valid}
@@ -26,26 +28,27 @@ use Rattle.swap_run.proofs.Good.{holds, first_in, steps_are_good, good_is_kept}
 use Rattle.swap_run.proofs.Plans.{plan_view}
 use Rattle.party_machine.specs.Machine as machines
 use Rattle.party_machine.specs.Machine.{MachineState}
-use Rattle.swap_world.specs.Value.{WorldState, cast_at}
+use Rattle.swap_world.specs.Value.{WorldState, answers_of, cast_at, cast_for, Continues}
+use Rattle.swap_world.specs.Gone.{Gives, HasGone, IsCut}
 use Rattle.swap_world.specs.Stopped.{IsStopped}
 use Rattle.swap_world.specs.Inside.{IsActorOf, AreActorsOf}
 use Rattle.swap_world.specs.Acting.{IsMakable, IsSameOwner, histories}
 use Rattle.swap_world.specs.declared.actor.Actor.{Actor}
 use Rattle.swap_world.specs.declared.actor.Actor.TheVariants.{Conforming, Planned}
-use Rattle.swap_world.proofs.Ways.{at}
 use Rattle.swap_world.proofs.Ledgers.{history_at}
-use Rattle.swap_world.proofs.States.{IsAt, IsPlanAt, c, s, state, notes_at, plan_at, next_is}
+use Rattle.swap_world.proofs.States.{IsAt, IsPlanAt, c, s, notes_at, plan_at, next_is}
 
 abbrev pub Seeds : Type 0
 Seeds = List (Option (List ℕ))
 
 -- a world with that state
-abbrev pub world : Deal → List Bool → Seeds → List Role → Bool → State → WorldState
-world d conforming seeds roles stopped st = record {
+abbrev pub world : Deal → List Bool → Seeds → List Role → List (Option (ℕ × Call)) → Bool → State → WorldState
+world d conforming seeds roles answers stopped st = record {
   deal = d;
   conforming = conforming;
   seeds = seeds;
   roles = roles;
+  answers = answers;
   state = st;
   stopped = stopped;
 }
@@ -54,23 +57,23 @@ world d conforming seeds roles stopped st = record {
 pub found : (xs : List Actor) (p : ℕ) (x : Actor) (m : MachineState) → x ≡ Conforming m → x ≡ get_or xs p x → Conforming m ≡ get_or xs p (Conforming m)
 found xs p x m e h = subst (λ y. y ≡ get_or xs p y) e h
 
--- or one that follows a script
+-- or one that follows a script or a strategy
 pub found_plan : (xs : List Actor) (p : ℕ) (x : Actor) (n : Plan) → x ≡ Planned n → x ≡ get_or xs p x → Planned n ≡ get_or xs p (Planned n)
 found_plan xs p x n e h = subst (λ y. y ≡ get_or xs p y) e h
 
 -- an actor that was found is in its place
-pub placed : (d : Deal) (conforming : List Bool) (seeds : Seeds) (roles : List Role) (ls : List LedgerState) (xs : List Actor) (p : ℕ) (x : Actor)
-    (m : MachineState)
-    → AreActorsOf d conforming seeds roles xs → p < d.graph.n → x ≡ Conforming m → x ≡ get_or xs p x → IsAt d conforming seeds roles ls xs p m
-placed d conforming seeds roles ls xs p x m actors lt e h =
+pub placed : (d : Deal) (conforming : List Bool) (seeds : Seeds) (roles : List Role) (qs : List Question) (ls : List LedgerState)
+    (xs : List Actor) (p : ℕ) (x : Actor) (m : MachineState)
+    → AreActorsOf d conforming seeds roles xs → p < d.graph.n → x ≡ Conforming m → x ≡ get_or xs p x → IsAt d conforming seeds roles qs ls xs p m
+placed d conforming seeds roles qs ls xs p x m actors lt e h =
     let low = subst (λ n. p < n) (sym actors.one_each) lt in
     let here = found xs p x m e h in
     record { below = low; here = here; is = actors.each p (Conforming m) low here }
 
-pub plan_placed : (d : Deal) (conforming : List Bool) (seeds : Seeds) (roles : List Role) (ls : List LedgerState) (xs : List Actor) (p : ℕ) (x : Actor)
-    (n : Plan)
-    → AreActorsOf d conforming seeds roles xs → p < d.graph.n → x ≡ Planned n → x ≡ get_or xs p x → IsPlanAt d conforming seeds roles ls xs p n
-plan_placed d conforming seeds roles ls xs p x n actors lt e h =
+pub plan_placed : (d : Deal) (conforming : List Bool) (seeds : Seeds) (roles : List Role) (qs : List Question) (ls : List LedgerState)
+    (xs : List Actor) (p : ℕ) (x : Actor) (n : Plan)
+    → AreActorsOf d conforming seeds roles xs → p < d.graph.n → x ≡ Planned n → x ≡ get_or xs p x → IsPlanAt d conforming seeds roles qs ls xs p n
+plan_placed d conforming seeds roles qs ls xs p x n actors lt e h =
     let low = subst (λ l. p < l) (sym actors.one_each) lt in
     let here = found_plan xs p x n e h in
     record { below = low; here = here; is = actors.each p (Planned n) low here }
@@ -115,15 +118,61 @@ pub kept_on : {A E : Type 0} (r : Result A E) (cast : Cast) (old new : State) (e
 kept_on (Ok x) cast old new e ok err ready can g = good_is_kept cast new ready (subst (IsGood cast) (sym ok) (steps_are_good cast old e ready can g))
 kept_on (Err x) cast old new e ok err ready can g = kept_either cast old new.book e err ready can g
 
+-- Answers matter for no law of a state.
+
+module _ (c : Cast) (g : Answers) where
+  pub ready_for : IsReadyCast c → IsReadyCast (with_answers c g)
+  ready_for k = record { accepted = k.accepted; one_each = k.one_each; roles = k.roles; wallets = k.wallets; scripts = k.scripts }
+
+  notes_for : (s : State) (v : ℕ) → AreGoodNotes c s v → AreGoodNotes (with_answers c g) s v
+  notes_for s v k = record { one_each = k.one_each; places = k.places; knows = k.knows; sound = k.sound }
+
+  notes_of_any : (s : State) (v : ℕ) → AreGoodNotes (with_answers c g) s v → AreGoodNotes c s v
+  notes_of_any s v k = record { one_each = k.one_each; places = k.places; knows = k.knows; sound = k.sound }
+
+  pub good_for : (s : State) → IsGood c s → IsGood (with_answers c g) s
+  good_for s k = record {
+    legal = k.legal;
+    one_each = k.one_each;
+    notes = λ v lt t. notes_for s v (k.notes v lt t);
+    plan_each = k.plan_each;
+    plans = k.plans;
+  }
+
+  pub good_of_any : (s : State) → IsGood (with_answers c g) s → IsGood c s
+  good_of_any s k = record {
+    legal = k.legal;
+    one_each = k.one_each;
+    notes = λ v lt t. notes_of_any s v (k.notes v lt t);
+    plan_each = k.plan_each;
+    plans = k.plans;
+  }
+
+  pub kept_of_any : (b : Histories) → IsKept (with_answers c g) b → IsKept c b
+  kept_of_any b k = record { legal = k.legal; conducted = k.conducted }
+
+  -- an event leaves a good state good, whatever is answered
+  pub good_step : (s : State) (e : Event) → IsReadyCast c → CanStep c.deal c.conforming c.seeds e → IsGood c s → IsGood c (step (with_answers c g) s e)
+  good_step s e ready can k = good_of_any (step (with_answers c g) s e) (steps_are_good (with_answers c g) s e (ready_for ready) can (good_for s k))
+
+  pub kept_step : (s : State) (e : Event) → IsReadyCast c → CanStep c.deal c.conforming c.seeds e → IsGood c s → IsKept c (step (with_answers c g) s e).book
+  kept_step s e ready can k = good_is_kept c (step (with_answers c g) s e) ready (good_step s e ready can k)
+
 -- the same of a world after a step
-pub kept_by : {A E : Type 0} (r : Result A E) (old new : WorldState) (e : Event) → OnOk r (new ≡ at old (step (cast_at old) old.state e))
-    → OnErr r (cast_at new ≡ cast_at old) → OnErr r ((new.state.book ≡ old.state.book) ⊎ (new.state.book ≡ (step (cast_at old) old.state e).book))
-    → IsReadyCast (cast_at old) → CanStep old.deal old.conforming old.seeds e → IsGood (cast_at old) old.state → IsKept (cast_at new) new.state.book
-kept_by (Ok x) old new e ok cast book ready can g =
-    subst (λ w. IsKept (cast_at w) w.state.book) (sym ok)
-    (good_is_kept (cast_at old) (step (cast_at old) old.state e) ready (steps_are_good (cast_at old) old.state e ready can g))
-kept_by (Err x) old new e ok cast book ready can g =
-    subst (λ c. IsKept c new.state.book) (sym cast) (kept_either (cast_at old) old.state new.state.book e book ready can g)
+pub kept_by : {A E : Type 0} (r : Result A E) (gives : Gives) (old new : WorldState) (e : Event) → OnOk r (HasGone gives (λ c s. step c s e) old new)
+    → OnErr r (IsCut gives e old new) → IsReadyCast (cast_at old) → CanStep old.deal old.conforming old.seeds e → IsGood (cast_at old) old.state
+    → IsKept (cast_at new) new.state.book
+kept_by (Ok x) gives old new e ok cut ready can k =
+    subst (λ c. IsKept c new.state.book) (sym (ap cast_at ok.same))
+    (subst (λ (s : State). IsKept (cast_at old) s.book) (sym (ok.state (answers_of new) (λ i l. refl)))
+    (kept_step (cast_at old) (answers_of new) old.state e ready can k))
+kept_by (Err x) gives old new e ok cut ready can k = subst (λ c. IsKept c new.state.book) (sym cut.cast) (by cut.book)
+  where
+    by : (new.state.book ≡ old.state.book) ⊎ ((g : Answers) → Continues new g → new.state.book ≡ (step (cast_for old g) old.state e).book)
+        → IsKept (cast_at old) new.state.book
+    by (inl h) = subst (IsKept (cast_at old)) (sym h) (good_is_kept (cast_at old) old.state ready k)
+    by (inr h) =
+        subst (IsKept (cast_at old)) (sym (h (answers_of new) (λ i l. refl))) (kept_step (cast_at old) (answers_of new) old.state e ready can k)
 
 -- every state that events lead to from a good one is good
 reached_good : (c : Cast) (s : State) (events : List Event) → IsReadyCast c → All (CanStep c.deal c.conforming c.seeds) events → IsGood c s
@@ -136,14 +185,23 @@ reached_good c s (e ∷ events) ready can g =
 reached_kept : (c : Cast) (s t : State) → IsReadyCast c → IsGood c s → IsReached c s t → IsKept c t.book
 reached_kept c s t ready g r = good_is_kept c t ready (subst (IsGood c) (sym r.state) (reached_good c s r.events ready r.can g))
 
--- the same of a world that came to a state, or stopped on its way there
-pub kept_to : {A E : Type 0} (r : Result A E) (old new : WorldState) (t : State) → OnOk r (new ≡ at old t) → OnErr r (IsStopped old t new)
-    → IsReached (cast_at old) old.state t
+reached_kept_for : (c : Cast) (g : Answers) (s t : State) → IsReadyCast c → IsGood c s → IsReached (with_answers c g) s t → IsKept c t.book
+reached_kept_for c g s t ready k r = kept_of_any c g t.book (reached_kept (with_answers c g) s t (ready_for c g ready) (good_for c g s k) r)
+
+-- the same of a world that went where f leads, or stopped on its way there
+pub kept_to : {A E : Type 0} (r : Result A E) (gives : Gives) (f : Cast → State → State) (old new : WorldState) → OnOk r (HasGone gives f old new)
+    → OnErr r (IsStopped gives f old new) → ((g : Answers) → IsReached (cast_for old g) old.state (f (cast_for old g) old.state))
     → IsReadyCast (cast_at old) → IsGood (cast_at old) old.state → IsKept (cast_at new) new.state.book
-kept_to (Ok x) old new t ok err r ready g = subst (λ w. IsKept (cast_at w) w.state.book) (sym ok) (reached_kept (cast_at old) old.state t ready g r)
-kept_to (Err x) old new t ok err r ready g =
+kept_to (Ok x) gives f old new ok err leads ready k =
+    let g = answers_of new in
+    subst (λ c. IsKept c new.state.book) (sym (ap cast_at ok.same))
+    (subst (λ (s : State). IsKept (cast_at old) s.book) (sym (ok.state g (λ i l. refl)))
+    (reached_kept_for (cast_at old) g old.state (f (cast_for old g) old.state) ready k (leads g)))
+kept_to (Err x) gives f old new ok err leads ready k =
+    let g = answers_of new in
+    let way = err.book g (λ i l. refl) in
     subst (λ c. IsKept c new.state.book) (sym err.cast)
-    (subst (IsKept (cast_at old)) (sym err.book.book) (reached_kept (cast_at old) old.state err.book.there ready g err.book.before))
+    (subst (IsKept (cast_at old)) (sym way.book) (reached_kept_for (cast_at old) g old.state way.there ready k way.before))
 
 -- what follows from two facts that stand where memory sufficed
 pub both : {A E : Type 0} {P Q R : Type 0} (r : Result A E) → (P → Q → R) → OnOk r P → OnOk r Q → OnOk r R
@@ -157,19 +215,20 @@ good_unless (Ok x) stopped cast old new e is goes_on ok ready can g = subst (IsG
 good_unless (Err x) stopped cast old new e is goes_on ok ready can g = absurd (false≢true (sym goes_on ∙ is))
 
 -- an act that didn't run out of memory leaves the world going on
-pub acted_on : {A E : Type 0} (r : Result A E) (d : Deal) (conforming : List Bool) (seeds : Seeds) (roles : List Role) (before after : Bool)
-    (old new : State)
-    → after ≡ is_err r → before ≡ false → OnOk r (new ≡ old) → OnOk r (world d conforming seeds roles after new ≡ world d conforming seeds roles before old)
-acted_on (Ok x) d conforming seeds roles before after old new is goes_on ok =
-    ap₂ (λ (b : Bool) (st : State). world d conforming seeds roles b st) (is ∙ sym goes_on) ok
-acted_on (Err x) d conforming seeds roles before after old new is goes_on ok = tt
+pub acted_on : {A E : Type 0} (r : Result A E) (d : Deal) (conforming : List Bool) (seeds : Seeds) (roles : List Role)
+    (answers : List (Option (ℕ × Call))) (before after : Bool) (old new : State)
+    → after ≡ is_err r → before ≡ false → OnOk r (new ≡ old)
+    → OnOk r (world d conforming seeds roles answers after new ≡ world d conforming seeds roles answers before old)
+acted_on (Ok x) d conforming seeds roles answers before after old new is goes_on ok =
+    ap₂ (λ (b : Bool) (st : State). world d conforming seeds roles answers b st) (is ∙ sym goes_on) ok
+acted_on (Err x) d conforming seeds roles answers before after old new is goes_on ok = tt
 
--- What is known of a party that follows a script.
-module _ (d : Deal) (conforming : List Bool) (seeds : List (Option (List ℕ))) (roles : List Role) (ls : List LedgerState) (xs : List Actor)
-    (ready : IsReadyCast (c d conforming seeds roles ls xs)) (good : IsGood (c d conforming seeds roles ls xs) (s d conforming seeds roles ls xs))
-    (p : ℕ) (below : p < d.graph.n) (n : Plan) (i : IsPlanAt d conforming seeds roles ls xs p n) where
+-- What is known of a party that follows a script or a strategy.
+module _ (d : Deal) (conforming : List Bool) (seeds : List (Option (List ℕ))) (roles : List Role) (qs : List Question) (ls : List LedgerState) (xs : List Actor)
+    (ready : IsReadyCast (c d conforming seeds roles qs ls xs)) (good : IsGood (c d conforming seeds roles qs ls xs) (s d conforming seeds roles qs ls xs))
+    (p : ℕ) (below : p < d.graph.n) (n : Plan) (i : IsPlanAt d conforming seeds roles qs ls xs p n) where
   plan_is : IsGoodPlan d seeds p (histories ls) n
-  plan_is = subst (IsGoodPlan d seeds p (histories ls)) (plan_at d conforming seeds roles ls xs p n i) (good.plans p below)
+  plan_is = subst (IsGoodPlan d seeds p (histories ls)) (plan_at d conforming seeds roles qs ls xs p n i) (good.plans p below)
 
   pub knows_each : length n.known ≡ length d.graph.arcs
   knows_each = plan_is.one_each
@@ -181,21 +240,21 @@ module _ (d : Deal) (conforming : List Bool) (seeds : List (Option (List ℕ))) 
   }
 
 -- What is known of a conforming party.
-module _ (d : Deal) (conforming : List Bool) (seeds : List (Option (List ℕ))) (roles : List Role) (ls : List LedgerState) (xs : List Actor)
-    (ready : IsReadyCast (c d conforming seeds roles ls xs)) (good : IsGood (c d conforming seeds roles ls xs) (s d conforming seeds roles ls xs))
-    (p : ℕ) (below : p < d.graph.n) (m : MachineState) (i : IsAt d conforming seeds roles ls xs p m) where
+module _ (d : Deal) (conforming : List Bool) (seeds : List (Option (List ℕ))) (roles : List Role) (qs : List Question) (ls : List LedgerState) (xs : List Actor)
+    (ready : IsReadyCast (c d conforming seeds roles qs ls xs)) (good : IsGood (c d conforming seeds roles qs ls xs) (s d conforming seeds roles qs ls xs))
+    (p : ℕ) (below : p < d.graph.n) (m : MachineState) (i : IsAt d conforming seeds roles qs ls xs p m) where
   -- what the machine knows is the beginning of each history
   pub begins : (a : ℕ) → Begins (history m.known a) (history (histories ls) a)
   begins a =
       let k = (good.notes p below i.is.0).knows a in
-      subst (λ n. Begins (history n.known a) (history (histories ls) a)) (notes_at d conforming seeds roles ls xs p m i) (k.rest, k.whole)
+      subst (λ n. Begins (history n.known a) (history (histories ls) a)) (notes_at d conforming seeds roles qs ls xs p m i) (k.rest, k.whole)
 
   -- its next call fits
   pub makable : (x : Action) → machines.next_of m ≡ Some x → IsMakable m.deal m.me x
   makable x e =
-      let cast = c d conforming seeds roles ls xs in
-      let before = s d conforming seeds roles ls xs in
-      let next : next_of cast before p ≡ Some x = next_is d conforming seeds roles ls xs p m i ∙ e in
+      let cast = c d conforming seeds roles qs ls xs in
+      let before = s d conforming seeds roles qs ls xs in
+      let next : next_of cast before p ≡ Some x = next_is d conforming seeds roles qs ls xs p m i ∙ e in
       let is =
       due_now d before.book (notes_of before p) p (cast.wallet p) x (ready.wallets p below i.is.0) ready.accepted
       (first_in (due d p (cast.wallet p) (signed_in (notes_of before p).signed) (notes_of before p).known) x next)

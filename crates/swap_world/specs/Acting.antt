@@ -10,7 +10,7 @@ use Rattle.ledger_core.specs.Book.{Histories, history}
 use Rattle.deviator_script.specs.Script.{moves_left}
 use Rattle.swap_rules.specs.Due.{Action}
 use Rattle.ledger_core.specs.Ledger.{after_call}
-use Rattle.swap_run.specs.Run.{Plan, plan_up_to, signed_after}
+use Rattle.swap_run.specs.Run.{Plan, Question, plan_up_to, signed_after}
 use Rattle.party_machine.specs.Machine.{MachineState}
 
 -- The call fits, stands on an arc that touches party v, and presents no hashkey that isn't valid.
@@ -55,6 +55,14 @@ taken d v (Some x) b = slice_set b x.0 (after_call d x.0 v x.1 (history b x.0))
 abbrev pub seen : Deal → ℕ → Option (ℕ × Call) → Histories → Plan → Plan
 seen d v None b n = n
 seen d v (Some x) b n = plan_up_to n x.0 (after_call d x.0 v x.1 (history b x.0))
+
+-- the plan of a party that has asked its strategy once more
+abbrev pub asked_once : Plan → Plan
+asked_once n = record n { turns = n.turns + 1 }
+
+-- what party v asks the strategy of that name, with that plan
+abbrev pub question_of : List ℕ → ℕ → Plan → Question
+question_of name v n = record { strategy = name; party = v; turn = n.turns; known = n.known }
 
 -- the plan of a party that has acted once more by its script
 abbrev pub turned : Plan → Plan

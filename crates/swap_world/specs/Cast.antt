@@ -1,5 +1,5 @@
 -- Who takes part in a job's run.
-use Rattle.std.specs.Prelude.{ℕ, Bool, true, false, List, [], slice_index_or, Option, Some, None}
+use Rattle.std.specs.Prelude.{ℕ, Bool, true, false, List, [], slice_index_or, Option, Some, None, if◌then◌else◌}
 use Rattle.swap_digraph.specs.declared.deal.Deal.{Deal}
 use Rattle.deviator_script.specs.Crafted.{Seeds}
 use Rattle.deviator_script.specs.declared.job.Job.{Job}
@@ -7,7 +7,8 @@ use Rattle.deviator_script.specs.declared.job.Role.{Role}
 use Rattle.deviator_script.specs.declared.job.Role.TheVariants.{Conforming}
 use Rattle.swap_rules.specs.Due.{Wallet}
 use Rattle.party_machine.specs.Wallet.{wallet_of}
-use Rattle.swap_run.specs.Run.{Cast}
+use Rattle.swap_run.specs.Run.{Cast, conforms, role_of}
+use Rattle.swap_run.specs.Asked.{is_strategy}
 
 -- what party v signs with; that of a party without a seed is never used
 abbrev pub wallet_with : Option (List ℕ) → ℕ → Deal → Wallet
@@ -33,3 +34,7 @@ cast_with d conforming seeds roles = record {
 -- who takes part in a job's run
 abbrev pub cast_of : Job → Cast
 cast_of job = cast_with job.deal job.conforming job.seeds job.roles
+
+-- party v asks a strategy when it acts: it follows one, and doesn't conform
+abbrev pub asks : Cast → ℕ → Bool
+asks c v = if conforms c v then false else is_strategy (role_of c v)

@@ -1,15 +1,15 @@
 -- What the fields of a world mean, and what holds of them.
-use Rattle.std.specs.Prelude.{◌≡◌, ◌<◌, ℕ, Bool, true, false, List, [], length, map, slice_index_or, Option, Some, None}
+use Rattle.std.specs.Prelude.{◌≡◌, ◌<◌, ℕ, Bool, true, false, List, [], ◌∷◌, length, map, slice_index_or, Option, Some, None}
 use Rattle.swap_digraph.specs.Graph.{arcs}
 use Rattle.swap_digraph.specs.declared.deal.Deal.{Deal}
 use Rattle.ledger_core.specs.Value.{LedgerState}
 use Rattle.ledger_core.specs.History.{IsLegal}
 use Rattle.deviator_script.specs.declared.job.Role.{Role}
 use Rattle.deviator_script.specs.declared.job.Role.TheVariants as kinds
-use Rattle.deviator_script.specs.declared.moves.Move.{Move}
-use Rattle.swap_run.specs.Run.{Cast, Notes, Plan, State, no_notes, first_plan, is_planned}
+use Rattle.swap_run.specs.Run.{Cast, Notes, Plan, Question, State, no_notes, first_plan, is_planned}
 use Rattle.swap_run.specs.Laws.{IsReadyCast, IsGood, IsKept}
 use Rattle.swap_world.specs.Cast.{cast_with}
+use Rattle.swap_world.specs.Acting.{question_of}
 use Rattle.swap_world.specs.Value.{WorldState}
 use Rattle.swap_world.specs.declared.actor.Actor.{Actor}
 use Rattle.swap_world.specs.declared.actor.Actor.TheVariants.{Conforming, Planned, Manual}
@@ -20,20 +20,34 @@ abbrev pub notes_in : Deal → Actor → Notes
 notes_in d (Conforming m) = record { known = m.known; signed = m.signed }
 notes_in d _ = no_notes d
 
--- what the party plans, where it follows a script
+-- what the party plans, where it follows a script or a strategy
 abbrev pub plan_in : Deal → Actor → Plan
 plan_in d (Planned n) = n
 plan_in d _ = first_plan d kinds.Manual
 
+-- the name of the strategy that a role follows, empty for the others
+abbrev pub name_in : Role → List ℕ
+name_in (kinds.Strategy name) = name
+name_in _ = []
+
+-- what these parties asked, one after another, each with what it planned then
+abbrev pub questions_in : List Role → List ℕ → List Plan → List Question
+questions_in roles [] ns = []
+questions_in roles (p ∷ ps) [] = []
+questions_in roles (p ∷ ps) (n ∷ ns) = question_of (name_in (slice_index_or roles p kinds.Manual)) p n ∷ questions_in roles ps ns
+
 abbrev pub cast_in : Inside → Cast
-cast_in w = cast_with w.deal w.conforming w.seeds w.roles.items
+cast_in w = cast_with w.deal w.conforming w.seeds w.roles
+
+abbrev pub asked_in : Inside → List Question
+asked_in w = questions_in w.roles w.askers.items w.told.items
 
 abbrev pub state_in : Inside → State
 state_in w = record {
   book = map (λ l. l.history) w.ledgers.items;
   notes = map (notes_in w.deal) w.actors.items;
   plans = map (plan_in w.deal) w.actors.items;
-  asked = [];
+  asked = asked_in w;
 }
 
 abbrev pub world_in : Inside → WorldState
@@ -41,7 +55,8 @@ world_in w = record {
   deal = w.deal;
   conforming = w.conforming;
   seeds = w.seeds;
-  roles = w.roles.items;
+  roles = w.roles;
+  answers = w.answers.items;
   state = state_in w;
   stopped = w.stopped;
 }
@@ -64,14 +79,10 @@ pub record AreLedgersOf (d : Deal) (ls : List LedgerState) : Type 0 where
   pub one_each : length ls ≡ length d.graph.arcs
   pub each : (a : ℕ) (l : LedgerState) → a < length ls → l ≡ slice_index_or ls a l → IsLedgerOf d a l
 
--- the role is a script
-abbrev pub IsScript : Role → Type 0
-IsScript role = (moves : List Move) × (role ≡ kinds.Script moves)
-
 -- The actor is that of party v of the deal, which conforms or not, and has that seed and that role.
 abbrev pub IsActorOf : Deal → Bool → Option (List ℕ) → Role → ℕ → Actor → Type 0
 IsActorOf d conforms seed role v (Conforming m) = (conforms ≡ true) × (m.deal ≡ d) × (m.me ≡ v) × (seed ≡ Some m.seed)
-IsActorOf d conforms seed role v (Planned n) = (conforms ≡ false) × IsScript role
+IsActorOf d conforms seed role v (Planned n) = (conforms ≡ false) × (is_planned role ≡ true)
 IsActorOf d conforms seed role v Manual = (conforms ≡ false) × (is_planned role ≡ false)
 
 -- There is one actor per party, in order.
@@ -83,7 +94,9 @@ pub record AreActorsOf (d : Deal) (conforming : List Bool) (seeds : List (Option
 pub record Holds (w : Inside) : Type 0 where
   pub ready : IsReadyCast (cast_in w)
   pub ledgers : AreLedgersOf w.deal w.ledgers.items
-  pub actors : AreActorsOf w.deal w.conforming w.seeds w.roles.items w.actors.items
+  pub actors : AreActorsOf w.deal w.conforming w.seeds w.roles w.actors.items
+  pub askers : length w.askers.items ≡ length w.answers.items
+  pub told : length w.told.items ≡ length w.answers.items
   pub good : w.stopped ≡ false → IsGood (cast_in w) (state_in w)
   -- also where memory ran out
   pub kept : IsKept (cast_in w) (state_in w).book

@@ -1,5 +1,6 @@
 pub mod Cast
 pub mod Value
+pub mod Gone
 pub mod Staff
 pub mod Stopped
 pub mod Acting

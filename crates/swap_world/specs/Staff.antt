@@ -1,7 +1,7 @@
 -- What acts for each party of a job.
-use Rattle.std.specs.Prelude.{◌≡◌, ℕ, ◌<◌, ◌++◌, true, false, List, [], ◌∷◌, length, map, All, is_some, slice_index_or, if◌then◌else◌}
+use Rattle.std.specs.Prelude.{◌≡◌, ℕ, ◌<◌, ◌++◌, Bool, true, false, List, [], ◌∷◌, length, map, All, is_some, slice_index_or, if◌then◌else◌}
 use Rattle.std.specs.Prelude.{Option, Some, None, Result, Ok, Err}
-use Rattle.std.specs.List.{list_any, range_with_len}
+use Rattle.std.specs.List.{range_with_len}
 use Rattle.swap_base.specs.Fault.{◌>>=◌, steps}
 use Rattle.swap_digraph.specs.declared.deal.Deal.{Deal}
 use Rattle.deviator_script.specs.Script.{IsMoveOf}
@@ -10,7 +10,6 @@ use Rattle.deviator_script.specs.declared.job.Role.{Role}
 use Rattle.deviator_script.specs.declared.job.Role.TheVariants as kinds
 use Rattle.party_wallet.specs.Fits.{wrong_lock}
 use Rattle.party_machine.specs.Machine.{new_machine}
-use Rattle.swap_run.specs.Asked.{is_strategy}
 use Rattle.swap_run.specs.Run.{first_plan, script_of}
 use Rattle.swap_world.specs.Cast.{is_conforming}
 use Rattle.swap_world.specs.declared.actor.Actor.{Actor}
@@ -28,15 +27,24 @@ pub record HaveSeeds (job : Job) : Type 0 where
 abbrev pub role_in : Job → ℕ → Role
 role_in job p = slice_index_or job.roles p kinds.Manual
 
--- Each party has a role, that of a conforming one exactly where it conforms; the moves of a script are its party's; and nobody follows a strategy.
+-- Each party has a role, that of a conforming one exactly where it conforms, and the moves of a script are its party's.
 pub record HaveRoles (job : Job) : Type 0 where
   pub conforming : job.conforming ≡ map is_conforming job.roles
   pub scripts : (p : ℕ) → p < job.deal.graph.n → All (IsMoveOf job.deal job.seeds p) (script_of (role_in job p))
-  pub unasked : list_any is_strategy job.roles ≡ false
 
--- what acts for a party without a wallet: its script, or its own calls alone
+-- the strategy that the role follows, if any, is held
+abbrev pub IsHeld : (List ℕ → Bool) → Role → Type 0
+IsHeld holds (kinds.Strategy name) = holds name ≡ true
+IsHeld holds _ = Unit {0}
+
+-- each strategy that a role follows is held
+abbrev pub AreHeld : (List ℕ → Bool) → List Role → Type 0
+AreHeld holds roles = (p : ℕ) → p < length roles → IsHeld holds (slice_index_or roles p kinds.Manual)
+
+-- what acts for a party without a wallet: its script, its strategy, or its own calls alone
 abbrev pub by_role : Deal → Role → Actor
 by_role d (kinds.Script moves) = Planned (first_plan d (kinds.Script moves))
+by_role d (kinds.Strategy name) = Planned (first_plan d (kinds.Strategy name))
 by_role d _ = Manual
 
 -- the machine of party p, or the lock for which its seed is wrong

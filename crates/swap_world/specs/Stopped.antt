@@ -5,7 +5,9 @@ use Rattle.ledger_core.specs.Book.{Histories}
 use Rattle.deviator_script.specs.declared.event.Event.TheVariants.{Look}
 use Rattle.swap_run.specs.Run.{Cast, State, conforms, step}
 use Rattle.swap_run.specs.FairLaws.{IsReached}
-use Rattle.swap_world.specs.Value.{WorldState, cast_at}
+use Rattle.swap_run.specs.Asked.{Answers}
+use Rattle.swap_world.specs.Value.{WorldState, cast_at, cast_for, Continues}
+use Rattle.swap_world.specs.Gone.{Gives, HasAsked}
 
 -- The histories b are those of a state on the way from s to t, which events of a run lead to and from.
 pub record IsOnTheWay (c : Cast) (s t : State) (b : Histories) : Type 0 where
@@ -14,11 +16,12 @@ pub record IsOnTheWay (c : Cast) (s t : State) (b : Histories) : Type 0 where
   pub after : IsReached c there t
   pub book : b ≡ there.book
 
--- The world has stopped on its way to the state t.
-pub record IsStopped (old : WorldState) (t : State) (new : WorldState) : Type 0 where
+-- The world has stopped on its way to where f leads, whatever would have been answered.
+pub record IsStopped (gives : Gives) (f : Cast → State → State) (old new : WorldState) : Type 0 where
   pub stopped : new.stopped ≡ true
   pub cast : cast_at new ≡ cast_at old
-  pub book : IsOnTheWay (cast_at old) old.state t new.state.book
+  pub asked : HasAsked gives old new
+  pub book : (g : Answers) → Continues new g → IsOnTheWay (cast_for old g) old.state (f (cast_for old g) old.state) new.state.book
 
 -- every party conforms
 abbrev pub AllConform : WorldState → Type 0

@@ -1,9 +1,11 @@
 -- What callers see of a world.
-use Rattle.std.specs.Prelude.{ℕ, List, Option, Bool, false}
+use Rattle.std.specs.Prelude.{◌≡◌, ◌<◌, ℕ, List, [], length, slice_index_or, Option, None, Bool, false}
 use Rattle.swap_digraph.specs.declared.deal.Deal.{Deal}
+use Rattle.ledger_core.specs.declared.entry.Call.{Call}
 use Rattle.deviator_script.specs.declared.job.Job.{Job}
 use Rattle.deviator_script.specs.declared.job.Role.{Role}
 use Rattle.swap_run.specs.Run.{Cast, State, start}
+use Rattle.swap_run.specs.Asked.{Answers, with_answers}
 use Rattle.swap_world.specs.Cast.{cast_with, cast_of}
 
 pub record WorldState : Type 0 where
@@ -14,13 +16,27 @@ pub record WorldState : Type 0 where
   pub seeds : List (Option (List ℕ))
   -- how each party acts
   pub roles : List Role
+  -- what strategies answered, in the order in which they were asked
+  pub answers : List (Option (ℕ × Call))
   pub state : State
   -- memory ran out in an earlier step
   pub stopped : Bool
 
--- who takes part
+-- who takes part, but for what strategies answer
 abbrev pub cast_at : WorldState → Cast
 cast_at w = cast_with w.deal w.conforming w.seeds w.roles
+
+-- who takes part, where strategies answer g
+abbrev pub cast_for : WorldState → Answers → Cast
+cast_for w g = with_answers (cast_at w) g
+
+-- the answers so far, and none after them
+abbrev pub answers_of : WorldState → Answers
+answers_of w = λ k. slice_index_or w.answers k None
+
+-- the answers begin with those so far
+abbrev pub Continues : WorldState → Answers → Type 0
+Continues w g = (i : ℕ) → i < length w.answers → g i ≡ slice_index_or w.answers i None
 
 -- the world of a job before any event
 abbrev pub new_world : Job → WorldState
@@ -29,6 +45,7 @@ new_world job = record {
   conforming = job.conforming;
   seeds = job.seeds;
   roles = job.roles;
+  answers = [];
   state = start (cast_of job);
   stopped = false;
 }

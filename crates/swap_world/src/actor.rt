@@ -8,7 +8,7 @@ use party_plan::Planner;
 pub(crate) enum Actor {
     /// A conforming party, by its machine.
     Conforming(Machine),
-    /// A party that follows a script.
+    /// A party that follows a script or a strategy.
     Planned(Planner),
     /// A party that acts by its own calls alone.
     Manual,

@@ -1,23 +1,29 @@
 //! Many events, one after another.
 
-ghost use Rattle.std.specs.Prelude.{◌≡◌, OnOk, OnErr, All, false};
+ghost use Rattle.std.specs.Prelude.{OnOk, OnErr, All};
 ghost use Rattle.deviator_script.specs.Step.{CanStep};
 ghost use Rattle.swap_run.specs.Run.{run_from};
-ghost use Rattle.swap_world.specs.Value.{cast_at};
+ghost use Rattle.swap_world.specs.Gone.{HasGone};
+ghost use Rattle.swap_world.specs.Staff.{AreHeld};
 ghost use Rattle.swap_world.specs.Stopped.{IsStopped};
 
 use crate::world::World;
-use deviator_script::Event;
+use deviator_script::{Event, Strategies};
 use swap_base::NoMemory;
 
 /// Takes events in their order.
-pub(crate) fn run(world: &mut World, events: &[Event]) -> Result<(), NoMemory>
+pub(crate) fn run<K: Strategies>(
+    world: &mut World,
+    kit: &K,
+    events: &[Event],
+) -> Result<(), NoMemory>
     requires events { All (CanStep world.old.deal world.old.conforming world.old.seeds) events.now }
-    ensures ok { OnOk result (world.new ≡ record world.old { state = run_from (cast_at world.old) world.old.state events.now }) }
-    ensures err { OnErr result (IsStopped world.old (run_from (cast_at world.old) world.old.state events.now) world.new) }
+    requires kit { AreHeld (K.holds kit.now) world.old.roles }
+    ensures ok { OnOk result (HasGone (K.gives kit.now) (λ c s. run_from c s events.now) world.old world.new) }
+    ensures err { OnErr result (IsStopped (K.gives kit.now) (λ c s. run_from c s events.now) world.old world.new) }
 {
     'events: for event in events {
-        world.step(event)?;
+        world.step(kit, event)?;
     }
     Ok(())
 }

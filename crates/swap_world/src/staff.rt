@@ -8,7 +8,7 @@ ghost use Rattle.party_wallet.specs.Wallets.{wallet_for, wallets_of};
 ghost use Rattle.swap_world.specs.Staff.{by_role, conforming_of, actor_of, actor_step, actors_of};
 
 use crate::actor::Actor;
-use deviator_script::{Job, Role};
+use deviator_script::{Job, MoveList, Role};
 use party_machine::{Machine, Misfit};
 use party_plan::Planner;
 use party_wallet::Wallet;
@@ -42,12 +42,13 @@ fn conforming(alloc: Global, deal: &Deal, p: PartyId, wallet: Wallet) -> Result<
     }
 }
 
-/// What acts for a party without a wallet: its script, or its own calls alone.
+/// What acts for a party without a wallet: its script, its strategy, or its own calls alone.
 fn by_role(alloc: Global, deal: &Deal, role: &Role) -> Result<Actor, NoMemory>
     ensures { IfOk result (λ x. x ≡ by_role deal.now role.now) }
 {
     match role {
         Role::Script(moves) => Ok(Actor::Planned(Planner::new(alloc, deal, moves.copy()?)?)),
+        Role::Strategy(_) => Ok(Actor::Planned(Planner::new(alloc, deal, MoveList::empty(alloc))?)),
         _ => Ok(Actor::Manual),
     }
 }

@@ -220,7 +220,7 @@ pub(crate) fn act(machine: &mut Machine, ledgers: &mut Vec<Ledger>) -> Result<bo
     }
 }
 
-/// Lets a party that follows a script know a ledger up to its end.
+/// Lets a party that follows a script or a strategy know a ledger up to its end.
 pub(crate) fn watch(planner: &mut Planner, ledger: &Ledger, arc: ArcId) -> Result<(), NoMemory>
     requires arc { arc < length planner.old.known }
     ensures ok { OnOk result (planner.new ≡ plan_up_to planner.old arc ledger.now.history) }
@@ -231,7 +231,7 @@ pub(crate) fn watch(planner: &mut Planner, ledger: &Ledger, arc: ArcId) -> Resul
     Ok(())
 }
 
-/// Makes a call of a party that follows a script, which then knows the ledger up to its end.
+/// Makes a call of a party that follows a script or a strategy, which then knows the ledger up to its end.
 fn make_planned(
     planner: &mut Planner,
     ledger: &mut Ledger,
@@ -256,8 +256,8 @@ fn make_planned(
     watch(planner, ledger, arc)
 }
 
-/// Makes a call, if there is one, of a party that follows a script.
-fn take(
+/// Makes a call, if there is one, of a party that follows a script or a strategy.
+pub(crate) fn take(
     planner: &mut Planner,
     ledgers: &mut Vec<Ledger>,
     deal: &Deal,
@@ -279,7 +279,7 @@ fn take(
     }
 }
 
-/// Makes the call that a move stands for, if any, of a party that follows a script.
+/// Makes the call that a move stands for, if any, of a party that follows a script or a strategy.
 pub(crate) fn make_by_hand(
     planner: &mut Planner,
     ledgers: &mut Vec<Ledger>,

@@ -9,20 +9,24 @@ ghost use Rattle.deviator_script.specs.Step.{CanStep, CanTick, CanLook, CanCall}
 ghost use Rattle.swap_rules.specs.Accepted.{IsAccepted};
 ghost use Rattle.swap_rules.specs.Outcome.{IsEnded};
 ghost use Rattle.swap_laws.specs.Laws.{IsDealt};
+ghost use Rattle.swap_run.specs.Asked.{is_strategy};
 ghost use Rattle.swap_run.specs.Run.{conforms, is_planned, role_of, start, step, run_from};
 ghost use Rattle.swap_run.specs.Fair.{finish};
 ghost use Rattle.swap_run.specs.Laws.{IsKept};
 ghost use Rattle.party_wallet.specs.Wallets.{wallets_of};
 ghost use Rattle.swap_world.specs.Stopped.{IsStopped, AllConform};
+ghost use Rattle.swap_world.specs.Cast.{asks};
 ghost use Rattle.swap_world.specs.Value.{cast_at, new_world};
-ghost use Rattle.swap_world.specs.Staff.{world_of, HaveRoles, HaveSeeds};
+ghost use Rattle.swap_world.specs.Gone.{HasGone, IsCut};
+ghost use Rattle.swap_world.specs.Staff.{world_of, AreHeld, HaveRoles, HaveSeeds};
 ghost use Rattle.swap_world.specs.Inside.{new_ledgers};
 
 use crate::actor::Actor;
 use crate::staff::{WorldFault, actors_of};
 use crate::{fair, many, turn};
-use deviator_script::{Event, Job, Move, Role};
-use ledger_core::{Book, EntryList, Ledger};
+use deviator_script::{Event, Job, Move, Role, Strategies};
+use ledger_core::{Book, Call, EntryList, Ledger};
+use party_plan::Planner;
 use party_wallet::Wallet;
 use std::alloc::Global;
 use std::marker::Model;
@@ -36,9 +40,15 @@ pub struct World {
     conforming: Listed<bool>,
     seeds: Listed<Option<Digest>>,
     /// How each party acts.
-    roles: Past<Role>,
+    roles: Listed<Role>,
     ledgers: Vec<Ledger>,
     actors: Vec<Actor>,
+    /// Who asked a strategy, one after another.
+    askers: Past<PartyId>,
+    /// What each of them planned then.
+    told: Past<Planner>,
+    /// What was answered to each.
+    answers: Past<Option<(ArcId, Call)>>,
     stopped: bool,
 }
 
@@ -63,18 +73,6 @@ fn ledgers_of(alloc: Global, deal: &Deal) -> Result<Vec<Ledger>, NoMemory>
         ledgers.push(Ledger::new(alloc, deal, arc)?)?;
     }
     Ok(ledgers)
-}
-
-/// The roles of a job, for clauses alone.
-#[tactic(auto, using(crate::proofs::Begun::one_role, crate::proofs::Begun::all_roles))]
-fn told(roles: &[Role]) -> Past<Role>
-    ensures { result.items ≡ roles.now }
-{
-    let mut past = Past::new();
-    for role in roles {
-        past = past.and(role);
-    }
-    past
 }
 
 fn histories_of(alloc: Global, ledgers: Vec<Ledger>) -> Result<Listed<EntryList>, NoMemory>
@@ -103,9 +101,12 @@ impl World {
             deal: copy_deal(&job.deal)?,
             conforming: Listed::new(Vec::from_slice(alloc, job.conforming.as_slice())?),
             seeds: job.seeds.copy()?,
-            roles: told(job.roles.as_slice()),
+            roles: job.roles.copy()?,
             ledgers: ledgers_of(alloc, &job.deal)?,
             actors,
+            askers: Past::new(),
+            told: Past::new(),
+            answers: Past::new(),
             stopped: false,
         })
     }
@@ -120,7 +121,7 @@ impl World {
         turn::tick(ledger, k)
     }
 
-    /// Lets a party look that doesn't conform: one that follows a script knows the ledger up to its end.
+    /// Lets a party look that doesn't conform: one that follows a script or a strategy knows the ledger up to its end.
     fn watch(&mut self, p: PartyId, arc: ArcId) -> Result<(), NoMemory>
         requires event { CanLook self.old.deal p arc }
         requires deviates { conforms (cast_at self.old) p ≡ false }
@@ -163,6 +164,8 @@ impl World {
         ensures idle { IfOk result (λ made. made ≡ false → step (cast_at self.old) self.old.state (Event.Act p) ≡ self.old.state) }
         ensures stopped { OnErr result (self.new.stopped ≡ true) }
         ensures cast { OnErr result (cast_at self.new ≡ cast_at self.old) }
+        ensures asked { OnErr result (self.new.state.asked ≡ self.old.state.asked) }
+        ensures answers { OnErr result (self.new.answers ≡ self.old.answers) }
         ensures book { OnErr result ((self.new.state.book ≡ self.old.state.book)
             ⊎ (self.new.state.book ≡ (step (cast_at self.old) self.old.state (Event.Act p)).book)) }
     {
@@ -174,14 +177,39 @@ impl World {
         done
     }
 
-    /// Lets a party act that doesn't conform: one that follows a script makes its next call.
+    /// Whether a party follows a strategy.
+    fn has_strategy(&self, p: PartyId) -> bool
+        requires { p < self.now.deal.graph.n }
+        ensures { result ≡ is_strategy (role_of (cast_at self.now) p) }
+    {
+        match &self.roles.as_slice()[p as usize] {
+            Role::Strategy(_) => true,
+            _ => false,
+        }
+    }
+
+    /// Whether a party asks a strategy when it acts.
+    fn asks(&self, p: PartyId) -> bool
+        requires { p < self.now.deal.graph.n }
+        ensures { result ≡ asks (cast_at self.now) p }
+    {
+        if self.conforms(p) {
+            return false;
+        }
+        self.has_strategy(p)
+    }
+
+    /// Lets a party act that neither conforms nor follows a strategy: one that follows a script makes its next call.
     fn follow(&mut self, p: PartyId) -> Result<(), NoMemory>
         requires party { p < self.old.deal.graph.n }
         requires deviates { conforms (cast_at self.old) p ≡ false }
+        requires alone { asks (cast_at self.old) p ≡ false }
         requires goes_on { self.old.stopped ≡ false }
         ensures ok { OnOk result (self.new ≡ record self.old { state = step (cast_at self.old) self.old.state (Event.Act p) }) }
         ensures stopped { OnErr result (self.new.stopped ≡ true) }
         ensures cast { OnErr result (cast_at self.new ≡ cast_at self.old) }
+        ensures asked { OnErr result (self.new.state.asked ≡ self.old.state.asked) }
+        ensures answers { OnErr result (self.new.answers ≡ self.old.answers) }
         ensures book { OnErr result ((self.new.state.book ≡ self.old.state.book)
             ⊎ (self.new.state.book ≡ (step (cast_at self.old) self.old.state (Event.Act p)).book)) }
     {
@@ -199,12 +227,15 @@ impl World {
         done
     }
 
-    fn act(&mut self, p: PartyId) -> Result<(), NoMemory>
+    /// Lets a party act that asks no strategy.
+    fn act_alone(&mut self, p: PartyId) -> Result<(), NoMemory>
         requires party { p < self.old.deal.graph.n }
+        requires alone { asks (cast_at self.old) p ≡ false }
         requires goes_on { self.old.stopped ≡ false }
         ensures ok { OnOk result (self.new ≡ record self.old { state = step (cast_at self.old) self.old.state (Event.Act p) }) }
-        ensures stopped { OnErr result (self.new.stopped ≡ true) }
         ensures cast { OnErr result (cast_at self.new ≡ cast_at self.old) }
+        ensures asked { OnErr result (self.new.state.asked ≡ self.old.state.asked) }
+        ensures answers { OnErr result (self.new.answers ≡ self.old.answers) }
         ensures book { OnErr result ((self.new.state.book ≡ self.old.state.book)
             ⊎ (self.new.state.book ≡ (step (cast_at self.old) self.old.state (Event.Act p)).book)) }
     {
@@ -215,7 +246,47 @@ impl World {
         Ok(())
     }
 
-    /// Makes the move of a party that follows no script.
+    /// Lets a party act that follows a strategy: it asks, and makes the call that is answered.
+    fn ask<K: Strategies>(&mut self, kit: &K, p: PartyId) -> Result<(), NoMemory>
+        requires party { p < self.old.deal.graph.n }
+        requires asks { asks (cast_at self.old) p ≡ true }
+        requires goes_on { self.old.stopped ≡ false }
+        requires kit { AreHeld (K.holds kit.now) self.old.roles }
+        ensures ok { OnOk result (HasGone (K.gives kit.now) (λ c s. step c s (Event.Act p)) self.old self.new) }
+        ensures cut { OnErr result (IsCut (K.gives kit.now) (Event.Act p) self.old self.new) }
+    {
+        let Role::Strategy(name) = &self.roles.as_slice()[p as usize] else {
+            unreachable!();
+        };
+        let Actor::Planned(planner) = &mut self.actors[p as usize] else {
+            unreachable!();
+        };
+        let askers = self.askers.and(&p);
+        let told = self.told.and(planner);
+        let answer = planner.ask(kit, name, &self.deal, p)?;
+        self.askers = askers;
+        self.told = told;
+        self.answers = self.answers.and(&answer);
+        let done = turn::take(planner, &mut self.ledgers, &self.deal, p, answer);
+        self.stopped = done.is_err();
+        done
+    }
+
+    /// Lets a party act.
+    fn act<K: Strategies>(&mut self, kit: &K, p: PartyId) -> Result<(), NoMemory>
+        requires party { p < self.old.deal.graph.n }
+        requires goes_on { self.old.stopped ≡ false }
+        requires kit { AreHeld (K.holds kit.now) self.old.roles }
+        ensures ok { OnOk result (HasGone (K.gives kit.now) (λ c s. step c s (Event.Act p)) self.old self.new) }
+        ensures cut { OnErr result (IsCut (K.gives kit.now) (Event.Act p) self.old self.new) }
+    {
+        if self.asks(p) {
+            return self.ask(kit, p);
+        }
+        self.act_alone(p)
+    }
+
+    /// Makes the move of a party that follows neither a script nor a strategy.
     fn make_plain(&mut self, sender: PartyId, mv: &Move) -> Result<(), NoMemory>
         requires event { CanCall self.old.deal self.old.conforming self.old.seeds sender mv.now }
         requires plain { is_planned (role_of (cast_at self.old) sender) ≡ false }
@@ -237,6 +308,8 @@ impl World {
         requires goes_on { self.old.stopped ≡ false }
         ensures ok { OnOk result (self.new ≡ record self.old { state = step (cast_at self.old) self.old.state (Event.Call sender mv.now) }) }
         ensures cast { OnErr result (cast_at self.new ≡ cast_at self.old) }
+        ensures asked { OnErr result (self.new.state.asked ≡ self.old.state.asked) }
+        ensures answers { OnErr result (self.new.answers ≡ self.old.answers) }
         ensures book { OnErr result ((self.new.state.book ≡ self.old.state.book)
             ⊎ (self.new.state.book ≡ (step (cast_at self.old) self.old.state (Event.Call sender mv.now)).book)) }
     {
@@ -255,36 +328,48 @@ impl World {
         done
     }
 
-    /// Takes an event, where memory never ran out.
-    fn take(&mut self, event: &Event) -> Result<(), NoMemory>
+    /// Lets an event happen.
+    fn happen<K: Strategies>(&mut self, kit: &K, event: &Event) -> Result<(), NoMemory>
         requires event { CanStep self.old.deal self.old.conforming self.old.seeds event.now }
         requires goes_on { self.old.stopped ≡ false }
-        ensures ok { OnOk result (self.new ≡ record self.old { state = step (cast_at self.old) self.old.state event.now }) }
-        ensures err { OnErr result (self.new.stopped ≡ true) }
-        ensures cast { OnErr result (cast_at self.new ≡ cast_at self.old) }
-        ensures book { OnErr result ((self.new.state.book ≡ self.old.state.book)
-            ⊎ (self.new.state.book ≡ (step (cast_at self.old) self.old.state event.now).book)) }
+        requires kit { AreHeld (K.holds kit.now) self.old.roles }
+        ensures ok { OnOk result (HasGone (K.gives kit.now) (λ c s. step c s event.now) self.old self.new) }
+        ensures cut { OnErr result (IsCut (K.gives kit.now) event.now self.old self.new) }
     {
-        let done = match event {
+        match event {
             Event::Tick(arc, k) => self.tick(*arc, *k),
             Event::Look(p, arc) => self.look(*p, *arc),
-            Event::Act(p) => self.act(*p),
+            Event::Act(p) => self.act(kit, *p),
             Event::Call(sender, mv) => self.make(*sender, mv),
-        };
-        if done.is_err() {
-            self.stopped = true;
         }
-        done
     }
 
-    /// Takes one event. After want of memory the histories are those before the event or after it, and every later step wants memory too.
-    pub fn step(&mut self, event: &Event) -> Result<(), NoMemory>
+    /// Takes an event, where memory never ran out.
+    fn take<K: Strategies>(&mut self, kit: &K, event: &Event) -> Result<(), NoMemory>
         requires event { CanStep self.old.deal self.old.conforming self.old.seeds event.now }
-        ensures ok { OnOk result (self.new ≡ record self.old { state = step (cast_at self.old) self.old.state event.now }) }
+        requires goes_on { self.old.stopped ≡ false }
+        requires kit { AreHeld (K.holds kit.now) self.old.roles }
+        ensures ok { OnOk result (HasGone (K.gives kit.now) (λ c s. step c s event.now) self.old self.new) }
         ensures err { OnErr result (self.new.stopped ≡ true) }
-        ensures cast { OnErr result (cast_at self.new ≡ cast_at self.old) }
-        ensures book { OnErr result ((self.new.state.book ≡ self.old.state.book)
-            ⊎ (self.new.state.book ≡ (step (cast_at self.old) self.old.state event.now).book)) }
+        ensures cut { OnErr result (IsCut (K.gives kit.now) event.now self.old self.new) }
+    {
+        match self.happen(kit, event) {
+            Ok(()) => Ok(()),
+            Err(NoMemory) => {
+                self.stopped = true;
+                Err(NoMemory)
+            }
+        }
+    }
+
+    /// Takes one event, where the kit answers for strategies. After want of memory the histories are those before the event or after it, and
+    /// every later step wants memory too.
+    pub fn step<K: Strategies>(&mut self, kit: &K, event: &Event) -> Result<(), NoMemory>
+        requires event { CanStep self.old.deal self.old.conforming self.old.seeds event.now }
+        requires kit { AreHeld (K.holds kit.now) self.old.roles }
+        ensures ok { OnOk result (HasGone (K.gives kit.now) (λ c s. step c s event.now) self.old self.new) }
+        ensures err { OnErr result (self.new.stopped ≡ true) }
+        ensures cut { OnErr result (IsCut (K.gives kit.now) event.now self.old self.new) }
         ensures stopped { IsTrue self.old.stopped → IsErr result × (self.new.state.book ≡ self.old.state.book) }
         // Whatever the others do, and whether memory ran out or not, every conforming party has kept its conduct.
         ensures kept { IsKept (cast_at self.new) self.new.state.book }
@@ -292,40 +377,42 @@ impl World {
         if self.stopped {
             return Err(NoMemory);
         }
-        self.take(event)
+        self.take(kit, event)
     }
 
     /// Takes events in their order. After want of memory every later step wants memory too.
-    pub fn run(&mut self, events: &[Event]) -> Result<(), NoMemory>
+    pub fn run<K: Strategies>(&mut self, kit: &K, events: &[Event]) -> Result<(), NoMemory>
         requires events { All (CanStep self.old.deal self.old.conforming self.old.seeds) events.now }
-        ensures ok { OnOk result (self.new ≡ record self.old { state = run_from (cast_at self.old) self.old.state events.now }) }
-        ensures err { OnErr result (IsStopped self.old (run_from (cast_at self.old) self.old.state events.now) self.new) }
+        requires kit { AreHeld (K.holds kit.now) self.old.roles }
+        ensures ok { OnOk result (HasGone (K.gives kit.now) (λ c s. run_from c s events.now) self.old self.new) }
+        ensures err { OnErr result (IsStopped (K.gives kit.now) (λ c s. run_from c s events.now) self.old self.new) }
         ensures stopped { IsTrue self.old.stopped → IsErr result × (self.new.state.book ≡ self.old.state.book) }
         ensures kept { IsKept (cast_at self.new) self.new.state.book }
     {
         if self.stopped {
             return Err(NoMemory);
         }
-        many::run(self, events)
+        many::run(self, kit, events)
     }
 
     /// The fair finish: rounds until each ledger is above the horizon. In a round each party in its order looks at each arc that touches it and acts:
     /// until nothing is due where it conforms, else once. Then each ledger that isn't above the horizon ticks by one height. After want of memory every
     /// later step wants memory too.
-    pub fn finish_fair(&mut self) -> Result<(), NoMemory>
-        ensures ok { OnOk result (self.new ≡ record self.old { state = finish (cast_at self.old) self.old.state }) }
+    pub fn finish_fair<K: Strategies>(&mut self, kit: &K) -> Result<(), NoMemory>
+        requires kit { AreHeld (K.holds kit.now) self.old.roles }
+        ensures ok { OnOk result (HasGone (K.gives kit.now) finish self.old self.new) }
         ensures ended { OnOk result (IsEnded self.old.deal self.new.state.book) }
         // Where every party conforms and nothing came before, everything moves.
         ensures dealt { OnOk result (AllConform self.old → self.old.state ≡ start (cast_at self.old)
             → IsDealt self.old.deal (conforms (cast_at self.old)) self.new.state.book) }
-        ensures err { OnErr result (IsStopped self.old (finish (cast_at self.old) self.old.state) self.new) }
+        ensures err { OnErr result (IsStopped (K.gives kit.now) finish self.old self.new) }
         ensures stopped { IsTrue self.old.stopped → IsErr result × (self.new.state.book ≡ self.old.state.book) }
         ensures kept { IsKept (cast_at self.new) self.new.state.book }
     {
         if self.stopped {
             return Err(NoMemory);
         }
-        fair::finish(self)
+        fair::finish(self, kit)
     }
 
     /// The deal.

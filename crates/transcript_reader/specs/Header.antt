@@ -4,18 +4,18 @@ use Rattle.deviator_script.specs.declared.job.Job.{Job}
 use Rattle.deviator_script.specs.declared.job.Purpose.TheVariants.{Audit}
 use Rattle.deviator_script.specs.declared.job.Finish.TheVariants.{Stop}
 use Rattle.swap_rules.specs.Accepted.{IsAccepted}
-use Rattle.offer_header.specs.Names.{AreNames}
+use Rattle.offer_header.specs.Header.{simple_role}
+use Rattle.offer_header.specs.Names.{no_strategy, AreNames}
 use Rattle.refusals.specs.declared.refusal.Refusal.{Refusal}
 use Rattle.refusals.specs.Refusal.{named}
-use Rattle.swap_offer.specs.Checks.{role_of}
 use Rattle.swap_offer.specs.Wallets.{seed_of}
 use Rattle.swap_offer.specs.Job.{job_header_of, names_at, IsWhole}
 use Rattle.transcript_reader.specs.declared.stage.Stage.{Stage}
 use Rattle.transcript_reader.specs.declared.stage.Stage.TheVariants.{Ledgers}
 
--- the job of a header line, or the first reason against it; it is the second line
+-- the job of a header line, or the first reason against it; it is the second line, and states no strategy
 unfoldable pub header_read : List ℕ → Result Job Refusal
-header_read line = named (names_at Audit 2 line) (job_header_of Audit 2 line)
+header_read line = named (names_at no_strategy Audit 2 line) (job_header_of no_strategy Audit 2 line)
 
 -- A job as a transcript tells it: its deal is accepted, its parties are named, nobody's seed is there, and nothing is done after its last entry.
 pub record IsTold (job : Job) : Type 0 where
@@ -23,7 +23,7 @@ pub record IsTold (job : Job) : Type 0 where
   pub accepted : IsAccepted job.deal
   pub whole : IsWhole job
   pub names : AreNames job.names
-  pub roles : job.roles ≡ map role_of job.conforming
+  pub roles : job.roles ≡ map simple_role job.conforming
   pub seeds : (p : ℕ) → seed_of job p ≡ None
   pub finish : job.finish ≡ Stop
 

@@ -1,10 +1,10 @@
 //! The text of a transcript.
 
-ghost use Rattle.std.specs.Prelude.{◌≡◌, ◌++◌, ◌≤◌, All, OnOk, IsErrOf, codes, false, true, length};
+ghost use Rattle.std.specs.Prelude.{◌≡◌, ◌++◌, ◌≤◌, OnOk, IsErrOf, codes, false, true, length};
 ghost use Rattle.std.specs.Io.KnownBytes.{Appends};
 ghost use Rattle.swap_io.specs.Causes.{AppendsProperPrefix, Rose};
 ghost use Rattle.swap_io.specs.Handed.{AppendsPrefix, Hands};
-ghost use Rattle.offer_text.specs.HeaderLine.{IsWord, IsWritable, is_make};
+ghost use Rattle.offer_text.specs.HeaderLine.{is_make, AreSayable, IsWritable};
 ghost use Rattle.transcript_lines.specs.Lines.{transcript};
 ghost use Rattle.transcript_writer.specs.Texts.{head_text};
 
@@ -19,7 +19,7 @@ use swap_io::{Sink, TextFault, flush};
 /// Appends the first line, and the job's header line.
 fn put_head(out: &mut Vec<u8>, job: &Job) -> Result<(), NoMemory>
     requires writable { IsWritable job.now }
-    requires words { is_make job.now.purpose ≡ true → All IsWord job.now.roles }
+    requires sayable { is_make job.now.purpose ≡ true → AreSayable job.now }
     ensures { OnOk result (out.new.items ≡ out.old.items ++ head_text job.now) }
 {
     let header = write_deal(*out.allocator(), job)?;
@@ -48,7 +48,7 @@ fn write_lines<K: Sink>(
     book: &Book,
 ) -> Result<(), TextFault>
     requires writable { IsWritable job.now }
-    requires words { is_make job.now.purpose ≡ true → All IsWord job.now.roles }
+    requires sayable { is_make job.now.purpose ≡ true → AreSayable job.now }
     requires few { length book.now.histories ≤ 256 }
     ensures { Hands (K.taken sink.old) (K.taken sink.new) (K.faults sink.old) (K.faults sink.new) out.old.items out.new.items
         (transcript job.now book.now.histories) result }

@@ -1,13 +1,16 @@
-use Rattle.std.proofs.Common.{◌≡◌, Bool, true, false, refl}
-use Rattle.swap_run.specs.Run.{is_planned}
-use Rattle.swap_offer.specs.Checks.{role_of}
-use Rattle.swap_world.specs.Cast.{is_conforming}
-use Rattle.swap_world.proofs.Team.{plain_roles}
+use Rattle.std.proofs.Common.{ℕ, List, Bool, sym, ap, subst}
+use Rattle.deviator_script.specs.declared.job.Role.{Role}
+use Rattle.offer_header.specs.Names.{has_strategy}
+use Rattle.swap_world.specs.Staff.{AreHeld}
+use Rattle.swap_world.specs.Value.{WorldState}
+use Rattle.book_tests.proofs.Acting.{are_held, have_roles}
 use Rattle.book_tests.proofs.schedule.book_of.Goals as goal
 
-simple : (b : Bool) → (is_conforming (role_of b) ≡ b) × (is_planned (role_of b) ≡ false)
-simple true = (refl, refl)
-simple false = (refl, refl)
-
 pub new-requires-clause-roles : goal.new-requires-clause-roles
-new-requires-clause-roles g c = plain_roles role_of (λ b. (simple b).0) (λ b. (simple b).1) c.args.job.now c.requires.whole.roles
+new-requires-clause-roles g c = have_roles c.args.job.now c.requires.whole c.requires.scripts
+
+pub run-requires-clause-kit : goal.run-requires-clause-kit
+run-requires-clause-kit g c =
+    let has : List ℕ → Bool = has_strategy c.args.kit.now.names c.args.kit.now.strategies.items in
+    subst (λ (rs : List Role). AreHeld has rs) (sym (ap (λ (w : WorldState). w.roles) c.in_ok-world.ensures.new))
+    (are_held has c.args.job.now.roles c.requires.strategies)

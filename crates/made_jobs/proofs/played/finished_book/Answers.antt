@@ -1,13 +1,17 @@
-use Rattle.std.proofs.Common.{ap, ◌∙◌}
-use Rattle.swap_world.specs.Value.{WorldState}
-use Rattle.made_jobs.proofs.Playing.{finished_ended, finished_kept}
+use Rattle.std.proofs.Common.{◌∙◌}
+use Rattle.swap_world.proofs.Team.{unasked_are_held}
+use Rattle.made_jobs.proofs.Playing.{finished_book, finished_ended, finished_kept}
 use Rattle.made_jobs.proofs.played.finished_book.Goals as goal
 
+pub finish_fair-requires : goal.finish_fair-requires
+finish_fair-requires g c = record { kit = unasked_are_held _ c.args.world.roles c.requires }
+
 pub returns-clause-book : goal.returns-clause-book
-returns-clause-book c = c.in_ok-book.ensures.value ∙ ap (λ (w : WorldState). w.state.book) c.in_ok-finish_fair.ensures.ok
+returns-clause-book g c =
+    c.in_ok-book.ensures.value ∙ finished_book _ c.args.world c.finish_fair.new.self c.requires c.in_ok-finish_fair.ensures.ok
 
 pub returns-clause-kept : goal.returns-clause-kept
-returns-clause-kept c = finished_kept c.args.world c.finish_fair.new.self c.in_ok-finish_fair.ensures.ok c.finish_fair.ensures.kept
+returns-clause-kept g c = finished_kept _ c.args.world c.finish_fair.new.self c.requires c.in_ok-finish_fair.ensures.ok c.finish_fair.ensures.kept
 
 pub returns-clause-ended : goal.returns-clause-ended
-returns-clause-ended c = finished_ended c.args.world c.finish_fair.new.self c.in_ok-finish_fair.ensures.ok c.in_ok-finish_fair.ensures.ended
+returns-clause-ended g c = finished_ended _ c.args.world c.finish_fair.new.self c.requires c.in_ok-finish_fair.ensures.ok c.in_ok-finish_fair.ensures.ended

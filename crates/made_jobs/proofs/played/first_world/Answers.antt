@@ -1,5 +1,5 @@
 use Rattle.swap_gen.specs.Drawn.{generated}
-use Rattle.made_jobs.proofs.Playing.{goes_on_new, is_of_new, job_conforming, job_roles, job_seeds, starts}
+use Rattle.made_jobs.proofs.Playing.{goes_on_new, is_of_new, job_conforming, job_roles, job_seeds, job_wallets, starts}
 use Rattle.made_jobs.proofs.played.first_world.Goals as goal
 
 pub new_world-requires-clause-conforming : goal.new_world-requires-clause-conforming
@@ -10,6 +10,10 @@ new_world-requires-clause-seeds c = job_seeds c.job.result.now c.args.generator.
 
 pub new_world-requires-clause-roles : goal.new_world-requires-clause-roles
 new_world-requires-clause-roles c = job_roles c.job.result.now c.args.generator.now.seed c.args.generator.now.parties c.job.ensures.exact
+
+pub new_world-requires-clause-wallets : goal.new_world-requires-clause-wallets
+new_world-requires-clause-wallets c =
+    job_wallets c.job.result.now (generated c.args.generator.now.seed c.args.generator.now.parties) c.args.wallets.items c.job.ensures.exact c.requires
 
 pub returns-clause-of : goal.returns-clause-of
 returns-clause-of c =

@@ -1,6 +1,10 @@
 use Rattle.std.proofs.Common.{◌∙◌}
-use Rattle.made_jobs.proofs.Playing.{book_is, has_ended, is_kept}
+use Rattle.made_jobs.proofs.Playing.{book_is, has_ended, is_kept, unasked_in}
 use Rattle.made_jobs.proofs.played.played.Goals as goal
+
+pub finished_book-requires : goal.finished_book-requires
+finished_book-requires c =
+    unasked_in c.args.generator.now.seed c.args.generator.now.parties c.take_events.new.world c.in_ok-take_events.ensures.of
 
 pub returns-clause-book : goal.returns-clause-book
 returns-clause-book c =

@@ -1,21 +1,24 @@
 use Rattle.std.proofs.Common.{ℕ}
 use Rattle.swap_gen.specs.Drawn.{generated}
 use Rattle.made_jobs.proofs.Drawing.{draws, none_left}
-use Rattle.made_jobs.proofs.Playing.{can_step, is_still, goes_on_still, one_more, all_taken}
+use Rattle.swap_world.proofs.Plain.{plain_step}
+use Rattle.swap_world.proofs.Team.{unasked_are_held}
+use Rattle.made_jobs.proofs.Playing.{can_step, is_still, goes_on_still, one_more, all_taken, unasked_in}
 use Rattle.made_jobs.proofs.played.take_events.Goals as goal
 
 pub step-requires : goal.step-requires
-step-requires c =
+step-requires g c =
     let i = c.events.invariant in
     let seed : ℕ = c.args.generator.now.seed in
     let n : ℕ = c.args.generator.now.parties in
     record {
       event = can_step seed n c.events.generator c.events.world c.next_event-event.result i.at.seed_is i.at.parties_are i.is_of
           c.next_event-event.ensures.fits;
+      kit = unasked_are_held _ c.events.world.roles (unasked_in seed n c.events.world i.is_of);
     }
 
 pub events-preserved : goal.events-preserved
-events-preserved c =
+events-preserved g c =
     let i = c.events.invariant in
     let e = c.next_event-event.ensures in
     let seed : ℕ = c.args.generator.now.seed in
@@ -24,19 +27,21 @@ events-preserved c =
     e.drawn in
     record {
       at = d.on;
-      is_of = is_still (generated seed n) c.events.world c.step.new.self _ i.is_of c.in_ok-step.ensures.ok;
-      goes_on = goes_on_still c.events.world c.step.new.self _ i.goes_on c.in_ok-step.ensures.ok;
-      rest = one_more (generated seed n) c.events.world c.step.new.self c.next_event-event.result _ _ _ i.is_of c.in_ok-step.ensures.ok d.first i.rest;
+      is_of = is_still _ _ c.events.world c.step.new.self c.in_ok-step.ensures.ok (generated seed n) i.is_of;
+      goes_on = goes_on_still _ _ c.events.world c.step.new.self c.in_ok-step.ensures.ok i.goes_on;
+      rest = one_more (generated seed n) c.events.world c.step.new.self c.next_event-event.result _ _ _ i.is_of
+          (plain_step _ c.events.world c.step.new.self (unasked_in seed n c.events.world i.is_of) c.next_event-event.result c.in_ok-step.ensures.ok)
+          d.first i.rest;
     }
 
 pub returns-clause-seed : goal.returns-clause-seed
-returns-clause-seed c = c.events.invariant.at.seed_is
+returns-clause-seed g c = c.events.invariant.at.seed_is
 
 pub returns-clause-parties : goal.returns-clause-parties
-returns-clause-parties c = c.events.invariant.at.parties_are
+returns-clause-parties g c = c.events.invariant.at.parties_are
 
 pub returns-clause-state : goal.returns-clause-state
-returns-clause-state c =
+returns-clause-state g c =
     let i = c.events.invariant in
     let seed : ℕ = c.args.generator.now.seed in
     let n : ℕ = c.args.generator.now.parties in

@@ -7,7 +7,7 @@ use Rattle.made_jobs.specs.Generating.{IsOf, StandsAt}
 use Rattle.made_jobs.proofs.played.take_events.Given as goal
 
 abbrev pub invariant-events : goal.invariant-events
-invariant-events l = record {
+invariant-events g l = record {
   at : StandsAt l.fn.generator.seed l.fn.generator.parties l.events l._e l.generator;
   is_of : IsOf (generated l.fn.generator.seed l.fn.generator.parties) l.world;
   goes_on : l.world.stopped ≡ false;

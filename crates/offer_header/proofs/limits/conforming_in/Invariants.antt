@@ -3,4 +3,4 @@ use Rattle.offer_header.specs.Limits.{conforms}
 use Rattle.offer_header.proofs.limits.conforming_in.Given as goal
 
 abbrev pub invariant-loop-party : goal.invariant-loop-party
-invariant-loop-party l = l.list.items ≡ map (λ p. conforms p.actor) (take l.party-index l.parties)
+invariant-loop-party l = l.list.items ≡ map (λ p. conforms p.role) (take l.party-index l.parties)

@@ -9,5 +9,5 @@ unfolding header_line
 returns c =
     let job = c.args.job.now in
     let e = c.in_ok-header_value.ensures in
-    c.new.ensures ∙ ap (λ v. v.items) c.into_bytes.ensures.value ∙ c.in_ok-text.ensures.text (ap has_float e ∙ header_has_none job c.requires.words)
+    c.new.ensures ∙ ap (λ v. v.items) c.into_bytes.ensures.value ∙ c.in_ok-text.ensures.text (ap has_float e ∙ header_has_none job)
     ∙ ap compact_text e

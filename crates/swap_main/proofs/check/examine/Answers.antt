@@ -6,12 +6,12 @@ use Rattle.swap_main.proofs.check.examine.Goals as goal
 
 pub returns-in-Ok-clause-checked : goal.returns-in-Ok-clause-checked
 returns-in-Ok-clause-checked g c =
-    is_read purposes.Check (λ job. replayed passed_over job 0 tt) _ _ _ _ _ c.in_ok-job.field-0.job tt c.in_ok-job.ensures.line c.in_ok-job.ensures.header
+    is_read _ purposes.Check (λ job. replayed passed_over job 0 tt) _ _ _ _ _ c.in_ok-job.field-0.job tt c.in_ok-job.ensures.line c.in_ok-job.ensures.header
     c.in-Ok.ensures.exact
 
 pub returns-in-Err-clause-stops : goal.returns-in-Err-clause-stops
 returns-in-Err-clause-stops g c =
     let job = c.in_ok-job.field-0.job in
     rw c.with_names.ensures
-    (against_event (replayed passed_over job 0 tt) Check _ _ _ _ _ (check_says _ _ job c.in_ok-job.ensures.header) job.names
+    (against_event _ (replayed passed_over job 0 tt) Check _ _ _ _ _ (check_says _ _ _ job c.in_ok-job.ensures.header) job.names
     c.in_ok-job.ensures.names c.in-Err.fault _ _ _ c.in_ok-job.ensures.line c.first_line.ensures.later c.in-Err.ensures.stops)

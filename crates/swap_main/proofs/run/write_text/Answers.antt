@@ -1,5 +1,4 @@
-use Rattle.std.proofs.Common.{refl}
-use Rattle.made_jobs.proofs.Writable.{are_texts, is_writable}
+use Rattle.made_jobs.proofs.Writable.{are_texts}
 use Rattle.audit_command.proofs.Reported.{few_outcomes}
 use Rattle.swap_main.proofs.Reports.{few_histories}
 use Rattle.swap_main.proofs.run.write_text.Goals as goal
@@ -8,10 +7,14 @@ pub write_transcript-requires-clause-writable : goal.write_transcript-requires-c
 write_transcript-requires-clause-writable g c =
     let job = c.args.job.now in
     let whole = c.requires.whole in
-    is_writable job whole.sized whole.names (are_texts job.names c.requires.names) whole.conforming whole.seeds c.requires.roles
-
-pub write_transcript-requires-clause-shown : goal.write_transcript-requires-clause-shown
-write_transcript-requires-clause-shown g c = rw c.requires.purpose refl
+    record {
+      sized = whole.sized;
+      names = whole.names;
+      texts = are_texts job.names c.requires.names;
+      conforming = whole.conforming;
+      roles = whole.roles;
+      seeds = whole.seeds;
+    }
 
 pub write_transcript-requires-clause-few : goal.write_transcript-requires-clause-few
 write_transcript-requires-clause-few g c = few_histories c.args.job.now.deal c.args.book.now.histories c.requires.whole.sized c.requires.legal

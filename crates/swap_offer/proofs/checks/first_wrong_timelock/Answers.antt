@@ -1,4 +1,4 @@
-use Rattle.std.proofs.Common.{◌≡◌, ◌<◌, ◌∙◌, sym, ap, is_some, length}
+use Rattle.std.proofs.Common.{◌<◌, ◌∙◌, sym, ap, is_some, length}
 use Rattle.leader_check.proofs.Loops.{first_goes_on}
 use Rattle.swap_offer.specs.Checks.{wrong_timelock}
 use Rattle.swap_offer.proofs.checks.first_wrong_timelock.Goals as goal

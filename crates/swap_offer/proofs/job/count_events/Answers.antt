@@ -1,7 +1,5 @@
-use Rattle.std.proofs.Common.{◌≡◌, ℕ, List, [], map, Bor}
+use Rattle.std.proofs.Common.{ℕ, List, [], Bor}
 use Rattle.std.proofs.lemmas.Result.{err_from_is_err_and}
-use Rattle.swap_base.specs.Fault.{steps}
-use Rattle.swap_offer.specs.Job.{counted}
 use Rattle.swap_offer.proofs.Events.{counts_on, counts_end, count_is_done}
 use Rattle.swap_offer.proofs.job.count_events.Goals as goal
 

@@ -1,4 +1,4 @@
-use Rattle.std.proofs.Common.{◌≡◌, ℕ, List, [], map, Bor}
+use Rattle.std.proofs.Common.{ℕ, List, [], map, Bor}
 use Rattle.std.proofs.lemmas.Result.{err_from_is_err_and}
 use Rattle.swap_offer.specs.Job.{events_of}
 use Rattle.swap_offer.proofs.Events.{starts, goes_on, ends, is_done}

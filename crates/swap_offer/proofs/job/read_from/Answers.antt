@@ -1,12 +1,10 @@
-use Rattle.std.proofs.Common.{◌≡◌, ◌∷◌, ℕ, List, map, Result, Ok, Err, refl}
+use Rattle.std.proofs.Common.{◌≡◌, ◌∷◌, map, Result, Ok, refl}
 use Rattle.swap_base.specs.Fault.{◌>>=◌, Fails}
 use Rattle.swap_base.specs.declared.fault.Fault.{Fault}
 use Rattle.swap_base.specs.declared.fault.Fault.TheVariants.{Refused, NoMemory}
 use Rattle.refusals.specs.declared.reason.Reason.{Reason}
-use Rattle.refusals.specs.declared.refusal.Refusal.{Refusal}
-use Rattle.refusals.specs.Refusal.{fault_with, named}
 use Rattle.refusals.proofs.Named.{fails, named_ok}
-use Rattle.deviator_script.specs.declared.job.Job.{Job}
+use Rattle.offer_header.specs.Names.{has_strategy}
 use Rattle.swap_offer.specs.Job.{events_for, job_header_of, names_at, of_lines}
 use Rattle.swap_offer.proofs.job.read_from.Goals as goal
 
@@ -21,13 +19,14 @@ fails_after : {A B : Type 0} (fault : Fault Reason) (read : Result A Reason) (x 
 fails_after fault read x f e bad = rw e bad
 
 pub returns-in-Err-clause-exact : goal.returns-in-Err-clause-exact
-returns-in-Err-clause-exact c =
+returns-in-Err-clause-exact g c =
     let lines = map (λ l. (l.0, l.1.now)) c.args.further.now in
-    let read = job_header_of c.args.purpose c.args.line c.args.text.now in
+    let has = has_strategy c.args.kit.now.names c.args.kit.now.strategies.items in
+    let read = job_header_of has c.args.purpose c.args.line c.args.text.now in
     let job = c.in_ok-job.field-0.job in
-    let was : read ≡ Ok job = named_ok (names_at c.args.purpose c.args.line c.args.text.now) read job c.in_ok-job.ensures.exact in
+    let was : read ≡ Ok job = named_ok (names_at has c.args.purpose c.args.line c.args.text.now) read job c.in_ok-job.ensures.exact in
     rw c.with_names.ensures
     (rw c.in_ok-job.ensures.names
-    (fails (names_at c.args.purpose c.args.line c.args.text.now) c.in-Err.fault (of_lines c.args.purpose ((c.args.line, c.args.text.now) ∷ lines))
+    (fails (names_at has c.args.purpose c.args.line c.args.text.now) c.in-Err.fault (of_lines has c.args.purpose ((c.args.line, c.args.text.now) ∷ lines))
     (fails_after c.in-Err.fault read job (λ j. events_for c.args.purpose j lines >>= λ events. Ok (j, events)) was
     (fails_on c.in-Err.fault (events_for c.args.purpose job lines) (λ events. Ok (job, events)) c.in-Err.ensures))))

@@ -1,4 +1,4 @@
-use Rattle.std.proofs.Common.{◌≡◌, ◌++◌, map, ◌∷◌, [], arith, false, length, length-append, ◌<◌, refl}
+use Rattle.std.proofs.Common.{◌≡◌, arith, false, length, length-append, ◌<◌, refl}
 use Rattle.std.proofs.lemmas.List.{map_push}
 use Rattle.std.proofs.lemmas.Grind.{common_steps}
 use Rattle.swap_offer.specs.Lines.{is_blank, before}

@@ -1,4 +1,4 @@
-use Rattle.std.proofs.Common.{◌≡◌, ◌<◌, ◌∙◌, sym, ap, is_some}
+use Rattle.std.proofs.Common.{◌<◌, ◌∙◌, sym, ap, is_some}
 use Rattle.leader_check.proofs.Loops.{first_goes_on, first_is_found}
 use Rattle.swap_offer.specs.Wallets.{no_seed}
 use Rattle.swap_offer.proofs.wallets.first_without_seed.Goals as goal

@@ -1,43 +1,86 @@
 use Rattle.std.proofs.Common.{◌≡◌, ◌<◌, ℕ, true, arith, sym, ap, ◌∙◌, subst}
 use Rattle.deviator_script.specs.declared.event.Event.TheVariants.{Act}
 use Rattle.swap_run.specs.Run.{Cast, State, conforms, step}
-use Rattle.swap_run.specs.Fair.{most_acts}
-use Rattle.swap_world.specs.Value.{cast_at}
-use Rattle.swap_world.specs.Stopped.{IsStopped}
-use Rattle.swap_world.proofs.Ways.{at, if_err, way_of_step}
-use Rattle.swap_world.proofs.Loops.{repeat_rests, repeat_stops}
+use Rattle.swap_run.specs.Fair.{repeat, most_acts}
+use Rattle.swap_world.specs.Value.{cast_at, cast_for}
+use Rattle.swap_world.specs.Gone.{HasGone}
+use Rattle.swap_world.proofs.Ways.{at, if_err}
+use Rattle.swap_world.proofs.Gone.{alone_conforming, begun, cast_gone, cut_to, deal_gone, goes_on_gone, quiet_act, stopped_in, went_to}
+use Rattle.swap_world.proofs.Loops.{repeat_on, repeat_rests, repeat_stops}
 use Rattle.swap_world.proofs.Finishes.{act_leads}
 use Rattle.swap_world.proofs.fair.act_to_rest.Goals as goal
 
 abbrev act_of : ℕ → Cast → State → State
 act_of p x s = step x s (Act p)
 
+pub acts-init : goal.acts-init
+acts-init g c = begun (g.K.Strategies.gives c.args._kit.now) c.args.world.now
+
+pub act_if_due-requires-clause-party : goal.act_if_due-requires-clause-party
+act_if_due-requires-clause-party g c =
+    subst (λ d. c.args.p < d.graph.n) (sym (deal_gone (g.K.Strategies.gives c.args._kit.now) (λ x s. repeat c.acts.counter (act_of c.args.p x) s)
+    c.args.world.now c.acts.world c.acts.invariant)) c.requires.party
+
 pub act_if_due-requires-clause-conforms : goal.act_if_due-requires-clause-conforms
-act_if_due-requires-clause-conforms c = subst (λ w. conforms (cast_at w) c.args.p ≡ true) (sym c.acts.invariant) c.requires.conforms
+act_if_due-requires-clause-conforms g c =
+    subst (λ x. conforms x c.args.p ≡ true) (sym (cast_gone (g.K.Strategies.gives c.args._kit.now) (λ x s. repeat c.acts.counter (act_of c.args.p x) s)
+    c.args.world.now c.acts.world c.acts.invariant)) c.requires.conforms
+
+pub act_if_due-requires-clause-goes_on : goal.act_if_due-requires-clause-goes_on
+act_if_due-requires-clause-goes_on g c =
+    goes_on_gone (g.K.Strategies.gives c.args._kit.now) (λ x s. repeat c.acts.counter (act_of c.args.p x) s) c.args.world.now c.acts.world c.acts.invariant
+    c.requires.goes_on
+
+pub acts-preserved : goal.acts-preserved
+acts-preserved g c =
+    let gives = g.K.Strategies.gives c.args._kit.now in
+    let w = c.args.world.now in
+    let mid = c.acts.world in
+    let conforming : conforms (cast_at mid) c.args.p ≡ true =
+    subst (λ x. conforms x c.args.p ≡ true) (sym (cast_gone gives (λ x s. repeat c.acts.counter (act_of c.args.p x) s) w mid c.acts.invariant))
+    c.requires.conforms in
+    repeat_on gives (act_of c.args.p) w mid c.act_if_due.new.self (most_acts w.deal) c.acts.counter c.acts.invariant
+    (went_to gives mid c.act_if_due.new.self (Act c.args.p)
+    (quiet_act (cast_at mid) mid.state c.args.p (alone_conforming (cast_at mid) c.args.p conforming)) c.in_ok-act_if_due.ensures.ok)
 
 pub returns-in_err-act_if_due-clause-err : goal.returns-in_err-act_if_due-clause-err
-returns-in_err-act_if_due-clause-err c =
+returns-in_err-act_if_due-clause-err g c =
+    let gives = g.K.Strategies.gives c.args._kit.now in
     let w = c.args.world.now in
     let mid = c.acts.world in
     let new = c.act_if_due.new.self in
     let l : c.acts.counter < most_acts w.deal = rw (← c.deal.ensures.value, ← c.most_acts-end.ensures) c.acts-test.true in
     let e = c.in_err-act_if_due.ensures in
-    let stopped : IsStopped mid (act_of c.args.p (cast_at mid) mid.state) new =
-    record {
-      stopped = e.stopped;
-      cast = e.cast;
-      book =
-          way_of_step (cast_at mid) mid.state (Act c.args.p) new.state.book
-          (subst (λ d. c.args.p < d.graph.n) (sym (ap (λ x. x.deal) c.acts.invariant)) c.requires.party) e.book;
-    } in
-    if_err _ (repeat_stops (act_of c.args.p) w mid new (most_acts w.deal) c.acts.counter c.acts.invariant l
-    (act_leads (cast_at w) c.args.p c.requires.party) stopped)
+    let low : c.args.p < mid.deal.graph.n =
+    subst (λ d. c.args.p < d.graph.n) (sym (deal_gone gives (λ x s. repeat c.acts.counter (act_of c.args.p x) s) w mid c.acts.invariant)) c.requires.party in
+    let conforming : conforms (cast_at mid) c.args.p ≡ true =
+    subst (λ x. conforms x c.args.p ≡ true) (sym (cast_gone gives (λ x s. repeat c.acts.counter (act_of c.args.p x) s) w mid c.acts.invariant))
+    c.requires.conforms in
+    let cut =
+    cut_to gives mid new (Act c.args.p) (quiet_act (cast_at mid) mid.state c.args.p (alone_conforming (cast_at mid) c.args.p conforming)) e.cast e.asked
+    e.answers e.book in
+    if_err _ (repeat_stops gives (act_of c.args.p) w mid new (most_acts w.deal) c.acts.counter c.acts.invariant l
+    (λ a. act_leads (cast_for w a) c.args.p c.requires.party) (stopped_in gives mid new (Act c.args.p) low e.stopped cut))
 
 pub returns-then-not-branch-clause-ok : goal.returns-then-not-branch-clause-ok
-returns-then-not-branch-clause-ok c =
+returns-then-not-branch-clause-ok g c =
+    let gives = g.K.Strategies.gives c.args._kit.now in
     let w = c.args.world.now in
     let mid = c.acts.world in
     let l : c.acts.counter < most_acts w.deal = rw (← c.deal.ensures.value, ← c.most_acts-end.ensures) c.acts-test.true in
     let e = c.in_ok-act_if_due.ensures in
     let idle = e.idle c.if-not-branch.true in
-    e.ok ∙ (ap (λ s. at mid s) idle ∙ repeat_rests (act_of c.args.p) w mid mid (most_acts w.deal) c.acts.counter c.acts.invariant (omega (arith, l)) idle)
+    let conforming : conforms (cast_at mid) c.args.p ≡ true =
+    subst (λ x. conforms x c.args.p ≡ true) (sym (cast_gone gives (λ x s. repeat c.acts.counter (act_of c.args.p x) s) w mid c.acts.invariant))
+    c.requires.conforms in
+    let quiet = quiet_act (cast_at mid) mid.state c.args.p (alone_conforming (cast_at mid) c.args.p conforming) in
+    subst (λ x. HasGone gives (λ y s. repeat (most_acts w.deal) (act_of c.args.p y) s) w x) (sym (e.ok ∙ ap (λ s. at mid s) idle))
+    (repeat_rests gives (act_of c.args.p) w mid mid (most_acts w.deal) c.acts.counter c.acts.invariant (omega (arith, l))
+    (λ a. quiet.same a ∙ idle))
+
+pub returns-clause-ok : goal.returns-clause-ok
+returns-clause-ok g c =
+    let w = c.args.world.now in
+    let e : c.acts.counter ≡ c.most_acts-end.result = omega (arith, c.acts-test.false, c.acts.auto) in
+    let h : c.most_acts-end.result ≡ most_acts w.deal = rw c.deal.ensures.value at c.most_acts-end.ensures in
+    subst (λ n. HasGone (g.K.Strategies.gives c.args._kit.now) (λ x s. repeat n (act_of c.args.p x) s) w c.acts.world) (e ∙ h) c.acts.invariant

@@ -1,10 +1,8 @@
-use Rattle.std.proofs.Common.{◌≡◌}
 use Rattle.deviator_script.specs.declared.event.Event.TheVariants.{Act}
 use Rattle.swap_run.specs.Run.{step}
 use Rattle.swap_run.specs.Fair.{repeat}
-use Rattle.swap_world.specs.Value.{cast_at}
-use Rattle.swap_world.proofs.Ways.{at}
+use Rattle.swap_world.specs.Gone.{HasGone}
 use Rattle.swap_world.proofs.fair.act_to_rest.Given as goal
 
 abbrev pub invariant-acts : goal.invariant-acts
-invariant-acts l = l.world ≡ at l.fn.world (repeat l.counter (λ s. step (cast_at l.fn.world) s (Act l.p)) l.fn.world.state)
+invariant-acts g l = HasGone (g.K.Strategies.gives l._kit) (λ c s. repeat l.counter (λ t. step c t (Act l.p)) s) l.fn.world l.world

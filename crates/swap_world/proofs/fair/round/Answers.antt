@@ -1,15 +1,25 @@
-use Rattle.swap_run.specs.Fair.{turns, round}
-use Rattle.swap_world.specs.Value.{cast_at}
-use Rattle.swap_world.proofs.Ledgers.{on_err}
-use Rattle.swap_world.proofs.Ways.{if_err, stopped_then}
-use Rattle.swap_world.proofs.Finishes.{round_from_turns, round_stops}
+use Rattle.swap_run.specs.Fair.{turns}
+use Rattle.swap_world.proofs.Ledgers.{on_ok, on_err}
+use Rattle.swap_world.proofs.Ways.{if_err}
+use Rattle.swap_world.proofs.Gone.{held_gone}
+use Rattle.swap_world.proofs.Finishes.{round_cut, round_ends, round_stops}
 use Rattle.swap_world.proofs.fair.round.Goals as goal
 
 pub returns-in_err-turns-clause-err : goal.returns-in_err-turns-clause-err
-returns-in_err-turns-clause-err c =
-    let w = c.args.world.now in
-    if_err _ (stopped_then w c.turns.new.world (turns (cast_at w) w.state) (round (cast_at w) w.state) c.in_err-turns.ensures.err
-    (round_from_turns (cast_at w) w.state))
+returns-in_err-turns-clause-err g c =
+    if_err _ (round_cut (g.K.Strategies.gives c.args.kit.now) c.args.world.now c.turns.new.world c.in_err-turns.ensures.err)
+
+pub ticks-requires : goal.ticks-requires
+ticks-requires g c = record {
+  kit = held_gone (g.K.Strategies.gives c.args.kit.now) turns c.args.world.now c.turns.new.world _ c.in_ok-turns.ensures.ok c.requires.kit;
+}
 
 pub returns-clause-err : goal.returns-clause-err
-returns-clause-err c = on_err c.ticks.result (round_stops c.args.world.now c.turns.new.world c.ticks.new.world c.in_ok-turns.ensures.ok) c.ticks.ensures.err
+returns-clause-err g c =
+    on_err c.ticks.result (round_stops (g.K.Strategies.gives c.args.kit.now) c.args.world.now c.turns.new.world c.ticks.new.world c.in_ok-turns.ensures.ok)
+    c.ticks.ensures.err
+
+pub returns-clause-ok : goal.returns-clause-ok
+returns-clause-ok g c =
+    on_ok c.ticks.result (round_ends (g.K.Strategies.gives c.args.kit.now) c.args.world.now c.turns.new.world c.ticks.new.world c.in_ok-turns.ensures.ok)
+    c.ticks.ensures.ok

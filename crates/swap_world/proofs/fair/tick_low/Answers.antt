@@ -1,22 +1,38 @@
-use Rattle.std.proofs.Common.{◌≡◌, ◌≤◌, arith}
+use Rattle.std.proofs.Common.{◌≡◌, ◌≤◌, ◌<◌, arith, sym}
 use Rattle.ledger_core.specs.History.{height}
 use Rattle.ledger_core.specs.Book.{history}
 use Rattle.deviator_script.specs.declared.event.Event.TheVariants.{Tick}
-use Rattle.swap_run.specs.Fair.{the_horizon}
-use Rattle.swap_world.specs.Value.{cast_at}
-use Rattle.swap_world.proofs.Ways.{stopped_by}
-use Rattle.swap_world.proofs.Finishes.{is_low}
+use Rattle.swap_run.specs.Run.{step}
+use Rattle.swap_run.specs.Fair.{the_horizon, tick_low}
+use Rattle.swap_world.specs.Value.{cast_for}
+use Rattle.swap_world.proofs.Ledgers.{on_ok}
+use Rattle.swap_world.proofs.Gone.{gone_as, stays, stopped_by}
+use Rattle.swap_world.proofs.Finishes.{is_high, is_low}
 use Rattle.swap_world.proofs.fair.tick_low.Goals as goal
 
-pub returns-clause-err : goal.returns-clause-err
-returns-clause-err c =
+pub returns-then-height-horizon_of-clause-ok : goal.returns-then-height-horizon_of-clause-ok
+returns-then-height-horizon_of-clause-ok g c =
+    let w = c.args.world.now in
+    let e : c.horizon_of.result ≡ the_horizon w.deal = rw c.deal.ensures.value at c.horizon_of.ensures in
+    let h : c.height.result ≡ height (history w.state.book c.args.arc) = c.height.ensures in
+    let l : the_horizon w.deal < height (history w.state.book c.args.arc) = rw (← h, ← e) c.if-height-horizon_of.true in
+    stays (g.K.Strategies.gives c.args.kit.now) (λ x s. tick_low x s c.args.arc) w (λ a. is_high (cast_for w a) w.state c.args.arc l)
+
+pub returns-clause-ok : goal.returns-clause-ok
+returns-clause-ok g c =
     let w = c.args.world.now in
     let e : c.horizon_of.result ≡ the_horizon w.deal = rw c.deal.ensures.value at c.horizon_of.ensures in
     let h : c.height.result ≡ height (history w.state.book c.args.arc) = c.height.ensures in
     let l : height (history w.state.book c.args.arc) ≤ the_horizon w.deal = rw (← h, ← e) c.if-height-horizon_of.false in
-    stopped_by c.step.result w c.step.new.self (Tick c.args.arc 1) _ (is_low (cast_at w) w.state c.args.arc l) (record {
-      arc = c.requires.arc;
-      some =
-          omega arith;
-      few = omega arith;
-    }) c.step.ensures.err c.step.ensures.cast c.step.ensures.book
+    on_ok c.step.result (gone_as (g.K.Strategies.gives c.args.kit.now) (λ x s. step x s (Tick c.args.arc 1)) (λ x s. tick_low x s c.args.arc) w
+    c.step.new.self (λ a. sym (is_low (cast_for w a) w.state c.args.arc l))) c.step.ensures.ok
+
+pub returns-clause-err : goal.returns-clause-err
+returns-clause-err g c =
+    let w = c.args.world.now in
+    let e : c.horizon_of.result ≡ the_horizon w.deal = rw c.deal.ensures.value at c.horizon_of.ensures in
+    let h : c.height.result ≡ height (history w.state.book c.args.arc) = c.height.ensures in
+    let l : height (history w.state.book c.args.arc) ≤ the_horizon w.deal = rw (← h, ← e) c.if-height-horizon_of.false in
+    stopped_by (g.K.Strategies.gives c.args.kit.now) c.step.result w c.step.new.self (Tick c.args.arc 1) (λ x s. tick_low x s c.args.arc)
+    (λ a. sym (is_low (cast_for w a) w.state c.args.arc l)) (record { arc = c.requires.arc; some = omega arith; few = omega arith })
+    c.step.ensures.err c.step.ensures.cut

@@ -1,27 +1,48 @@
-use Rattle.std.proofs.Common.{◌<◌, ◌≤◌, length}
+use Rattle.std.proofs.Common.{◌<◌, ◌≤◌, length, fold, take, sym, subst}
+use Rattle.std.specs.List.{range_with_len}
 use Rattle.swap_run.specs.Fair.{tick_low}
 use Rattle.swap_run.proofs.Reached.{tick_events}
-use Rattle.swap_world.specs.Value.{cast_at}
+use Rattle.swap_world.specs.Value.{cast_for}
 use Rattle.swap_world.proofs.Ways.{if_err}
+use Rattle.swap_world.proofs.Gone.{begun, deal_gone, held_gone}
 use Rattle.swap_world.proofs.Loops.{range_on, range_done, range_stops}
 use Rattle.swap_world.proofs.Finishes.{ticks_stop, ticks_are}
 use Rattle.swap_world.proofs.fair.ticks.Goals as goal
 
-pub returns-in_err-tick_low-clause-err : goal.returns-in_err-tick_low-clause-err
-returns-in_err-tick_low-clause-err c =
+pub arcs-init : goal.arcs-init
+arcs-init g c = begun (g.K.Strategies.gives c.args.kit.now) c.args.world.now
+
+pub tick_low-requires-clause-arc : goal.tick_low-requires-clause-arc
+tick_low-requires-clause-arc g c =
     let w = c.args.world.now in
     let l : c.arcs.arc < length w.deal.graph.arcs = rw (← c.deal.ensures.value, ← c.arcs-2.ensures) c.arcs-test.true in
-    if_err _ (ticks_stop w c.tick_low.new.world (range_stops tick_low w c.arcs.world c.tick_low.new.world (length w.deal.graph.arcs) c.arcs.arc
-    c.arcs.invariant l (λ a la s. tick_events (cast_at w) s a la) c.in_err-tick_low.ensures.err))
+    subst (λ d. c.arcs.arc < length d.graph.arcs) (sym (deal_gone (g.K.Strategies.gives c.args.kit.now)
+    (λ x s. fold (tick_low x) s (take c.arcs.arc (range_with_len 0 (length w.deal.graph.arcs)))) w c.arcs.world c.arcs.invariant)) l
+
+pub tick_low-requires-clause-kit : goal.tick_low-requires-clause-kit
+tick_low-requires-clause-kit g c =
+    let w = c.args.world.now in
+    held_gone (g.K.Strategies.gives c.args.kit.now) (λ x s. fold (tick_low x) s (take c.arcs.arc (range_with_len 0 (length w.deal.graph.arcs)))) w
+    c.arcs.world _ c.arcs.invariant c.requires.kit
+
+pub returns-in_err-tick_low-clause-err : goal.returns-in_err-tick_low-clause-err
+returns-in_err-tick_low-clause-err g c =
+    let gives = g.K.Strategies.gives c.args.kit.now in
+    let w = c.args.world.now in
+    let l : c.arcs.arc < length w.deal.graph.arcs = rw (← c.deal.ensures.value, ← c.arcs-2.ensures) c.arcs-test.true in
+    if_err _ (ticks_stop gives w c.tick_low.new.world (range_stops gives tick_low w c.arcs.world c.tick_low.new.world (length w.deal.graph.arcs) c.arcs.arc
+    c.arcs.invariant l (λ x lt a s. tick_events (cast_for w a) s x lt) c.in_err-tick_low.ensures.err))
 
 pub arcs-preserved : goal.arcs-preserved
-arcs-preserved c =
+arcs-preserved g c =
     let w = c.args.world.now in
     let l : c.arcs.arc < length w.deal.graph.arcs = rw (← c.deal.ensures.value, ← c.arcs-2.ensures) c.arcs-test.true in
-    range_on tick_low w c.arcs.world c.tick_low.new.world (length w.deal.graph.arcs) c.arcs.arc c.arcs.invariant l c.in_ok-tick_low.ensures.ok
+    range_on (g.K.Strategies.gives c.args.kit.now) tick_low w c.arcs.world c.tick_low.new.world (length w.deal.graph.arcs) c.arcs.arc c.arcs.invariant l
+    c.in_ok-tick_low.ensures.ok
 
 pub returns-clause-ok : goal.returns-clause-ok
-returns-clause-ok c =
+returns-clause-ok g c =
+    let gives = g.K.Strategies.gives c.args.kit.now in
     let w = c.args.world.now in
     let l : length w.deal.graph.arcs ≤ c.arcs.arc = rw (← c.deal.ensures.value, ← c.arcs-2.ensures) c.arcs-test.false in
-    ticks_are w c.arcs.world (range_done tick_low w c.arcs.world c.arcs.world (length w.deal.graph.arcs) c.arcs.arc c.arcs.invariant l)
+    ticks_are gives w c.arcs.world (range_done gives tick_low w c.arcs.world (length w.deal.graph.arcs) c.arcs.arc l c.arcs.invariant)

@@ -1,37 +1,73 @@
-use Rattle.std.proofs.Common.{◌<◌, true, false, refl, sym, ap, ◌∙◌, subst}
+use Rattle.std.proofs.Common.{◌<◌, true, false, refl, sym, ◌∙◌, subst}
 use Rattle.deviator_script.specs.declared.event.Event.TheVariants.{Act}
-use Rattle.swap_run.specs.Fair.{looks, turn}
-use Rattle.swap_world.specs.Value.{cast_at}
+use Rattle.swap_run.specs.Fair.{acts, looks, most_acts}
 use Rattle.swap_world.proofs.Ledgers.{on_ok, on_err}
-use Rattle.swap_world.proofs.Ways.{if_err, stopped_by, stopped_then}
-use Rattle.swap_world.proofs.Finishes.{turn_from_looks, turn_ends, turn_stops}
+use Rattle.swap_world.proofs.Ways.{if_err}
+use Rattle.swap_world.proofs.Gone.{deal_gone, goes_on_gone, gone_as, held_gone, stopped_as, stopped_by}
+use Rattle.swap_world.proofs.Finishes.{acts_as, turn_cut, turn_ends, turn_stops}
 use Rattle.swap_world.proofs.fair.turn.Goals as goal
 
 pub returns-in_err-look_around-clause-err : goal.returns-in_err-look_around-clause-err
-returns-in_err-look_around-clause-err c =
-    let w = c.args.world.now in
-    if_err _ (stopped_then w c.look_around.new.world (looks (cast_at w) c.args.p w.state) (turn (cast_at w) w.state c.args.p)
-    c.in_err-look_around.ensures.err (turn_from_looks (cast_at w) c.args.p w.state c.requires.party))
+returns-in_err-look_around-clause-err g c =
+    if_err _ (turn_cut (g.K.Strategies.gives c.args.kit.now) c.args.world.now c.look_around.new.world c.args.p c.requires.party
+    c.in_err-look_around.ensures.err)
+
+pub conforms-requires : goal.conforms-requires
+conforms-requires g c =
+    subst (λ d. c.args.p < d.graph.n) (sym (deal_gone (g.K.Strategies.gives c.args.kit.now) (λ x s. looks x c.args.p s) c.args.world.now
+    c.look_around.new.world c.in_ok-look_around.ensures.ok)) c.requires.party
+
+pub act_to_rest-requires-clause-party : goal.act_to_rest-requires-clause-party
+act_to_rest-requires-clause-party g c =
+    subst (λ d. c.args.p < d.graph.n) (sym (deal_gone (g.K.Strategies.gives c.args.kit.now) (λ x s. looks x c.args.p s) c.args.world.now
+    c.look_around.new.world c.in_ok-look_around.ensures.ok)) c.requires.party
+
+pub act_to_rest-requires-clause-goes_on : goal.act_to_rest-requires-clause-goes_on
+act_to_rest-requires-clause-goes_on g c =
+    goes_on_gone (g.K.Strategies.gives c.args.kit.now) (λ x s. looks x c.args.p s) c.args.world.now c.look_around.new.world
+    c.in_ok-look_around.ensures.ok c.requires.goes_on
 
 pub returns-then-conforms-clause-err : goal.returns-then-conforms-clause-err
-returns-then-conforms-clause-err c =
-    on_err c.act_to_rest.result (turn_stops c.args.world.now c.look_around.new.world c.act_to_rest.new.world c.args.p true c.requires.party
-    (sym c.conforms.ensures ∙ c.if-conforms.true) c.in_ok-look_around.ensures.ok) c.act_to_rest.ensures.err
+returns-then-conforms-clause-err g c =
+    let gives = g.K.Strategies.gives c.args.kit.now in
+    let mid = c.look_around.new.world in
+    on_err c.act_to_rest.result (λ k. turn_stops gives c.args.world.now mid c.act_to_rest.new.world c.args.p true
+    (sym c.conforms.ensures ∙ c.if-conforms.true) c.in_ok-look_around.ensures.ok c.requires.party
+    (stopped_as gives (λ x s. acts x c.args.p (most_acts mid.deal) s) (λ x s. acts_as true x c.args.p s) mid c.act_to_rest.new.world (λ a. refl) k))
+    c.act_to_rest.ensures.err
 
 pub returns-then-conforms-clause-ok : goal.returns-then-conforms-clause-ok
-returns-then-conforms-clause-ok c =
-    on_ok c.act_to_rest.result (turn_ends c.args.world.now c.look_around.new.world c.act_to_rest.new.world c.args.p true
-    (sym c.conforms.ensures ∙ c.if-conforms.true) c.in_ok-look_around.ensures.ok) c.act_to_rest.ensures.ok
+returns-then-conforms-clause-ok g c =
+    let gives = g.K.Strategies.gives c.args.kit.now in
+    let mid = c.look_around.new.world in
+    on_ok c.act_to_rest.result (λ k. turn_ends gives c.args.world.now mid c.act_to_rest.new.world c.args.p true
+    (sym c.conforms.ensures ∙ c.if-conforms.true) c.in_ok-look_around.ensures.ok
+    (gone_as gives (λ x s. acts x c.args.p (most_acts mid.deal) s) (λ x s. acts_as true x c.args.p s) mid c.act_to_rest.new.world (λ a. refl) k))
+    c.act_to_rest.ensures.ok
+
+pub step-requires-clause-event : goal.step-requires-clause-event
+step-requires-clause-event g c =
+    subst (λ d. c.args.p < d.graph.n) (sym (deal_gone (g.K.Strategies.gives c.args.kit.now) (λ x s. looks x c.args.p s) c.args.world.now
+    c.look_around.new.world c.in_ok-look_around.ensures.ok)) c.requires.party
+
+pub step-requires-clause-kit : goal.step-requires-clause-kit
+step-requires-clause-kit g c =
+    held_gone (g.K.Strategies.gives c.args.kit.now) (λ x s. looks x c.args.p s) c.args.world.now c.look_around.new.world _
+    c.in_ok-look_around.ensures.ok c.requires.kit
 
 pub returns-clause-err : goal.returns-clause-err
-returns-clause-err c =
+returns-clause-err g c =
+    let gives = g.K.Strategies.gives c.args.kit.now in
     let mid = c.look_around.new.world in
-    let low = subst (λ d. c.args.p < d.graph.n) (sym (ap (λ w. w.deal) c.in_ok-look_around.ensures.ok)) c.requires.party in
-    on_err c.step.result (turn_stops c.args.world.now mid c.step.new.self c.args.p false c.requires.party
-    (sym c.conforms.ensures ∙ c.if-conforms.false) c.in_ok-look_around.ensures.ok)
-    (stopped_by c.step.result mid c.step.new.self (Act c.args.p) _ refl low c.step.ensures.err c.step.ensures.cast c.step.ensures.book)
+    let low =
+    subst (λ d. c.args.p < d.graph.n) (sym (deal_gone gives (λ x s. looks x c.args.p s) c.args.world.now mid c.in_ok-look_around.ensures.ok)) c.requires.party
+    in
+    on_err c.step.result (turn_stops gives c.args.world.now mid c.step.new.self c.args.p false
+    (sym c.conforms.ensures ∙ c.if-conforms.false) c.in_ok-look_around.ensures.ok c.requires.party)
+    (stopped_by gives c.step.result mid c.step.new.self (Act c.args.p) (λ x s. acts_as false x c.args.p s) (λ a. refl) low c.step.ensures.err
+    c.step.ensures.cut)
 
 pub returns-clause-ok : goal.returns-clause-ok
-returns-clause-ok c =
-    on_ok c.step.result (turn_ends c.args.world.now c.look_around.new.world c.step.new.self c.args.p false
+returns-clause-ok g c =
+    on_ok c.step.result (turn_ends (g.K.Strategies.gives c.args.kit.now) c.args.world.now c.look_around.new.world c.step.new.self c.args.p false
     (sym c.conforms.ensures ∙ c.if-conforms.false) c.in_ok-look_around.ensures.ok) c.step.ensures.ok

@@ -1,26 +1,55 @@
-use Rattle.std.proofs.Common.{◌<◌, ◌≤◌, arith}
+use Rattle.std.proofs.Common.{◌<◌, ◌≤◌, arith, fold, take, sym, subst}
+use Rattle.std.specs.List.{range_with_len}
 use Rattle.swap_run.specs.Fair.{turn}
-use Rattle.swap_world.specs.Value.{cast_at}
+use Rattle.swap_world.specs.Value.{cast_for}
 use Rattle.swap_world.proofs.Ways.{if_err}
+use Rattle.swap_world.proofs.Gone.{begun, deal_gone, goes_on_gone, held_gone}
 use Rattle.swap_world.proofs.Loops.{range_on, range_done, range_stops}
 use Rattle.swap_world.proofs.Finishes.{turn_leads, turns_stop, turns_are}
 use Rattle.swap_world.proofs.fair.turns.Goals as goal
 
-pub returns-in_err-turn-clause-err : goal.returns-in_err-turn-clause-err
-returns-in_err-turn-clause-err c =
+pub parties-init : goal.parties-init
+parties-init g c = begun (g.K.Strategies.gives c.args.kit.now) c.args.world.now
+
+pub turn-requires-clause-party : goal.turn-requires-clause-party
+turn-requires-clause-party g c =
     let w = c.args.world.now in
     let l : c.parties.p < w.deal.graph.n = rw (← c.deal.ensures.value) (omega (arith, c.parties-test.true, c.n-p-end.ensures)) in
-    if_err _ (turns_stop w c.turn.new.world (range_stops turn w c.parties.world c.turn.new.world w.deal.graph.n c.parties.p c.parties.invariant l (λ v.
-    turn_leads (cast_at w) v) c.in_err-turn.ensures.err))
+    subst (λ d. c.parties.p < d.graph.n) (sym (deal_gone (g.K.Strategies.gives c.args.kit.now)
+    (λ x s. fold (turn x) s (take c.parties.p (range_with_len 0 w.deal.graph.n))) w
+    c.parties.world c.parties.invariant)) l
+
+pub turn-requires-clause-goes_on : goal.turn-requires-clause-goes_on
+turn-requires-clause-goes_on g c =
+    let w = c.args.world.now in
+    goes_on_gone (g.K.Strategies.gives c.args.kit.now)
+    (λ x s. fold (turn x) s (take c.parties.p (range_with_len 0 w.deal.graph.n))) w c.parties.world c.parties.invariant
+    c.requires.goes_on
+
+pub turn-requires-clause-kit : goal.turn-requires-clause-kit
+turn-requires-clause-kit g c =
+    let w = c.args.world.now in
+    held_gone (g.K.Strategies.gives c.args.kit.now) (λ x s. fold (turn x) s (take c.parties.p (range_with_len 0 w.deal.graph.n))) w c.parties.world _
+    c.parties.invariant c.requires.kit
+
+pub returns-in_err-turn-clause-err : goal.returns-in_err-turn-clause-err
+returns-in_err-turn-clause-err g c =
+    let gives = g.K.Strategies.gives c.args.kit.now in
+    let w = c.args.world.now in
+    let l : c.parties.p < w.deal.graph.n = rw (← c.deal.ensures.value) (omega (arith, c.parties-test.true, c.n-p-end.ensures)) in
+    if_err _ (turns_stop gives w c.turn.new.world (range_stops gives turn w c.parties.world c.turn.new.world w.deal.graph.n c.parties.p c.parties.invariant l
+    (λ v lt a. turn_leads (cast_for w a) v lt) c.in_err-turn.ensures.err))
 
 pub parties-preserved : goal.parties-preserved
-parties-preserved c =
+parties-preserved g c =
     let w = c.args.world.now in
     let l : c.parties.p < w.deal.graph.n = rw (← c.deal.ensures.value) (omega (arith, c.parties-test.true, c.n-p-end.ensures)) in
-    range_on turn w c.parties.world c.turn.new.world w.deal.graph.n c.parties.p c.parties.invariant l c.in_ok-turn.ensures.ok
+    range_on (g.K.Strategies.gives c.args.kit.now) turn w c.parties.world c.turn.new.world w.deal.graph.n c.parties.p c.parties.invariant l
+    c.in_ok-turn.ensures.ok
 
 pub returns-clause-ok : goal.returns-clause-ok
-returns-clause-ok c =
+returns-clause-ok g c =
+    let gives = g.K.Strategies.gives c.args.kit.now in
     let w = c.args.world.now in
     let l : w.deal.graph.n ≤ c.parties.p = rw (← c.deal.ensures.value) (omega (arith, c.parties-test.false, c.n-p-end.ensures)) in
-    turns_are w c.parties.world (range_done turn w c.parties.world c.parties.world w.deal.graph.n c.parties.p c.parties.invariant l)
+    turns_are gives w c.parties.world (range_done gives turn w c.parties.world w.deal.graph.n c.parties.p l c.parties.invariant)

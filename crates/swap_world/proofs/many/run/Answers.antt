@@ -1,29 +1,52 @@
-use Rattle.std.proofs.Common.{sym, subst}
+use Rattle.std.proofs.Common.{sym, take, subst}
 use Rattle.std.proofs.lemmas.List.Elements.{All-weaker, All-get_or}
 use Rattle.deviator_script.specs.Step.{CanStep}
-use Rattle.swap_run.specs.Run.{State, step}
+use Rattle.swap_run.specs.Run.{State, run_from, step}
 use Rattle.swap_run.specs.FairLaws.{IsReached}
 use Rattle.swap_run.proofs.Reached.{one_event}
-use Rattle.swap_world.specs.Value.{cast_at}
-use Rattle.swap_world.specs.Stopped.{IsStopped}
-use Rattle.swap_world.proofs.Ways.{if_err, way_of_step}
-use Rattle.swap_world.proofs.Loops.{list_stops}
+use Rattle.swap_world.specs.Value.{cast_for}
+use Rattle.swap_world.proofs.Ways.{if_err}
+use Rattle.swap_world.proofs.Gone.{begun, can_gone, held_gone, stopped_in}
+use Rattle.swap_world.proofs.Loops.{list_on, list_done, list_stops}
 use Rattle.swap_world.proofs.many.run.Goals as goal
 
+pub events-init : goal.events-init
+events-init g c = begun (g.K.Strategies.gives c.args.kit.now) c.args.world.now
+
+pub step-requires-clause-event : goal.step-requires-clause-event
+step-requires-clause-event g c =
+    let w = c.args.world.now in
+    can_gone (g.K.Strategies.gives c.args.kit.now) (λ c' s. run_from c' s (take c.events.event-index c.args.events.now)) w c.events.world c.event-item.result
+    c.events.invariant
+    (subst (CanStep w.deal w.conforming w.seeds) (sym c.event-item.is)
+    (All-get_or (CanStep w.deal w.conforming w.seeds) c.args.events.now c.events.event-index c.event-item.result c.events-test.true c.requires.events))
+
+pub step-requires-clause-kit : goal.step-requires-clause-kit
+step-requires-clause-kit g c =
+    held_gone (g.K.Strategies.gives c.args.kit.now) (λ c' s. run_from c' s (take c.events.event-index c.args.events.now)) c.args.world.now c.events.world _
+    c.events.invariant c.requires.kit
+
+pub events-preserved : goal.events-preserved
+events-preserved g c =
+    list_on (g.K.Strategies.gives c.args.kit.now) step c.args.world.now c.events.world c.step.new.self c.args.events.now c.events.event-index
+    c.event-item.result c.events.invariant c.events-test.true c.event-item.is c.in_ok-step.ensures.ok
+
 pub returns-in_err-step-clause-err : goal.returns-in_err-step-clause-err
-returns-in_err-step-clause-err c =
+returns-in_err-step-clause-err g c =
     let w = c.args.world.now in
     let mid = c.events.world in
     let new = c.step.new.self in
-    let cast = cast_at w in
-    let e = c.in_err-step.ensures in
+    let gives = g.K.Strategies.gives c.args.kit.now in
     let can : CanStep mid.deal mid.conforming mid.seeds c.event-item.result =
-    subst (λ v. CanStep v.deal v.conforming v.seeds c.event-item.result) (sym c.events.invariant)
+    can_gone gives (λ c' s. run_from c' s (take c.events.event-index c.args.events.now)) w mid c.event-item.result c.events.invariant
     (subst (CanStep w.deal w.conforming w.seeds) (sym c.event-item.is)
-    (All-get_or (CanStep w.deal w.conforming w.seeds) c.args.events.now c.events.event-index c.event-item.result c.events-test.true
-    c.requires.events)) in
-    let stopped : IsStopped mid (step (cast_at mid) mid.state c.event-item.result) new =
-    record { stopped = e.err; cast = e.cast; book = way_of_step (cast_at mid) mid.state c.event-item.result new.state.book can e.book } in
-    if_err _ (list_stops step w mid new c.args.events.now c.events.event-index c.event-item.result c.events.invariant c.events-test.true c.event-item.is
-    (All-weaker (CanStep cast.deal cast.conforming cast.seeds) (λ x. (s : State)
-    → IsReached cast s (step cast s x)) (λ x can s. one_event cast s x can) c.args.events.now c.requires.events) stopped)
+    (All-get_or (CanStep w.deal w.conforming w.seeds) c.args.events.now c.events.event-index c.event-item.result c.events-test.true c.requires.events)) in
+    if_err _ (list_stops gives step w mid new c.args.events.now c.events.event-index c.event-item.result c.events.invariant c.events-test.true c.event-item.is
+    (λ a. All-weaker (CanStep w.deal w.conforming w.seeds) (λ x. (s : State)
+    → IsReached (cast_for w a) s (step (cast_for w a) s x)) (λ x can s. one_event (cast_for w a) s x can) c.args.events.now c.requires.events)
+    (stopped_in gives mid new c.event-item.result can c.in_err-step.ensures.err c.in_err-step.ensures.cut))
+
+pub returns-clause-ok : goal.returns-clause-ok
+returns-clause-ok g c =
+    list_done (g.K.Strategies.gives c.args.kit.now) step c.args.world.now c.events.world c.args.events.now c.events.event-index c.events-test.false
+    c.events.invariant

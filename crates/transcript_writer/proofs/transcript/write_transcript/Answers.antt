@@ -4,8 +4,8 @@ use Rattle.swap_io.proofs.Handing.{handed_was, hands_after, written_part, writte
 use Rattle.transcript_writer.proofs.transcript.write_transcript.Goals as goal
 
 -- what is shown isn't made
-pub write_lines-requires-clause-words : goal.write_lines-requires-clause-words
-write_lines-requires-clause-words g c e = absurd (cc (sym e ∙ c.requires.shown))
+pub write_lines-requires-clause-sayable : goal.write_lines-requires-clause-sayable
+write_lines-requires-clause-sayable g c e = absurd (cc (sym e ∙ c.requires.shown))
 
 pub returns-in_err-write_lines-clause-write_fault : goal.returns-in_err-write_lines-clause-write_fault
 returns-in_err-write_lines-clause-write_fault g c is =

@@ -2,7 +2,7 @@ use Rattle.std.proofs.Common.{◌≡◌, ◌<◌, set, slice_index_or, false, No
 use Rattle.deviator_script.specs.declared.event.Event.TheVariants.{Act}
 use Rattle.deviator_script.specs.declared.job.Role.TheVariants as kinds
 use Rattle.swap_world.specs.Acting.{histories}
-use Rattle.swap_world.specs.Inside.{cast_in, state_in, AreLedgersOf}
+use Rattle.swap_world.specs.Inside.{asked_in, cast_in, state_in, AreLedgersOf}
 use Rattle.swap_world.specs.declared.actor.Actor.TheVariants.{Conforming}
 use Rattle.swap_world.proofs.States.{actor_set, state, acted, acted_book}
 use Rattle.swap_world.proofs.Ledgers.{on_err, either}
@@ -18,9 +18,9 @@ act-done-requires-clause-makable c =
     let known : c.args.p < i.deal.graph.n = rw (← c.self.view_is) at c.requires.party in
     let goes_on : i.stopped ≡ false = rw (← c.self.view_is) at c.requires.goes_on in
     let place =
-    placed i.deal i.conforming i.seeds i.roles.items ls xs c.args.p c.index_mut.result.now m c.self.invariant.actors known c.in-Conforming.is
+    placed i.deal i.conforming i.seeds i.roles (asked_in i) ls xs c.args.p c.index_mut.result.now m c.self.invariant.actors known c.in-Conforming.is
     c.index_mut.ensures.value in
-    makable i.deal i.conforming i.seeds i.roles.items ls xs c.self.invariant.ready (c.self.invariant.good goes_on) c.args.p known m place
+    makable i.deal i.conforming i.seeds i.roles (asked_in i) ls xs c.self.invariant.ready (c.self.invariant.good goes_on) c.args.p known m place
 
 pub act-done-requires-clause-begins : goal.act-done-requires-clause-begins
 act-done-requires-clause-begins c =
@@ -31,9 +31,9 @@ act-done-requires-clause-begins c =
     let known : c.args.p < i.deal.graph.n = rw (← c.self.view_is) at c.requires.party in
     let goes_on : i.stopped ≡ false = rw (← c.self.view_is) at c.requires.goes_on in
     let place =
-    placed i.deal i.conforming i.seeds i.roles.items ls xs c.args.p c.index_mut.result.now m c.self.invariant.actors known c.in-Conforming.is
+    placed i.deal i.conforming i.seeds i.roles (asked_in i) ls xs c.args.p c.index_mut.result.now m c.self.invariant.actors known c.in-Conforming.is
     c.index_mut.ensures.value in
-    begins i.deal i.conforming i.seeds i.roles.items ls xs c.self.invariant.ready (c.self.invariant.good goes_on) c.args.p known m place
+    begins i.deal i.conforming i.seeds i.roles (asked_in i) ls xs c.self.invariant.ready (c.self.invariant.good goes_on) c.args.p known m place
 
 pub invariant_of-self : goal.invariant_of-self
 invariant_of-self c =
@@ -44,29 +44,32 @@ invariant_of-self c =
     let known : c.args.p < i.deal.graph.n = rw (← c.self.view_is) at c.requires.party in
     let goes_on : i.stopped ≡ false = rw (← c.self.view_is) at c.requires.goes_on in
     let place =
-    placed i.deal i.conforming i.seeds i.roles.items ls xs c.args.p c.index_mut.result.now m c.self.invariant.actors known c.in-Conforming.is
+    placed i.deal i.conforming i.seeds i.roles (asked_in i) ls xs c.args.p c.index_mut.result.now m c.self.invariant.actors known c.in-Conforming.is
     c.index_mut.ensures.value in
     let new = c.act-done.new.machine in
     let b = histories c.act-done.new.ledgers.items in
     record {
       ready = c.self.invariant.ready;
       ledgers = subst (λ d. AreLedgersOf d c.act-done.new.ledgers.items) place.is.1 c.act-done.ensures.ledgers;
-      actors = actor_set i.deal i.conforming i.seeds i.roles.items xs c.args.p (Conforming new) c.self.invariant.actors place.below
-          (owned i.deal (slice_index_or i.conforming c.args.p false) (slice_index_or i.seeds c.args.p None) (slice_index_or i.roles.items c.args.p kinds.Manual)
+      actors = actor_set i.deal i.conforming i.seeds i.roles xs c.args.p (Conforming new) c.self.invariant.actors place.below
+          (owned i.deal (slice_index_or i.conforming c.args.p false) (slice_index_or i.seeds c.args.p None) (slice_index_or i.roles c.args.p kinds.Manual)
           c.args.p m new c.act-done.ensures.owner place.is);
+      askers = c.self.invariant.askers;
+      told = c.self.invariant.told;
       good =
           λ g. good_unless c.act-done.result c.is_err-self-inside.result (cast_in i) (state_in i)
-          (state i.deal (set xs c.args.p (Conforming new)) b) (Act c.args.p) c.is_err-self-inside.ensures.value g
+          (state i.deal (asked_in i) (set xs c.args.p (Conforming new)) b) (Act c.args.p) c.is_err-self-inside.ensures.value g
           (both c.act-done.result
-          (acted i.deal i.conforming i.seeds i.roles.items ls xs c.args.p m c.act-done.new.machine (histories c.act-done.new.ledgers.items)
+          (acted i.deal i.conforming i.seeds i.roles (asked_in i) ls xs c.args.p m c.act-done.new.machine (histories c.act-done.new.ledgers.items)
           place) c.act-done.ensures.ok c.act-done.ensures.knows)
           c.self.invariant.ready known (c.self.invariant.good goes_on);
       kept =
-          kept_on c.act-done.result (cast_in i) (state_in i) (state i.deal (set xs c.args.p (Conforming new)) b)
+          kept_on c.act-done.result (cast_in i) (state_in i) (state i.deal (asked_in i) (set xs c.args.p (Conforming new)) b)
           (Act c.args.p)
-          (both c.act-done.result (acted i.deal i.conforming i.seeds i.roles.items ls xs c.args.p m new b place) c.act-done.ensures.ok c.act-done.ensures.knows)
+          (both c.act-done.result (acted i.deal i.conforming i.seeds i.roles (asked_in i) ls xs c.args.p m new b place) c.act-done.ensures.ok
+          c.act-done.ensures.knows)
           (on_err c.act-done.result
-          (either (λ e. e) (λ e. e ∙ acted_book i.deal i.conforming i.seeds i.roles.items ls xs c.args.p m place)) c.act-done.ensures.err)
+          (either (λ e. e) (λ e. e ∙ acted_book i.deal i.conforming i.seeds i.roles (asked_in i) ls xs c.args.p m place)) c.act-done.ensures.err)
           c.self.invariant.ready known (c.self.invariant.good goes_on);
     }
 
@@ -79,10 +82,11 @@ returns-clause-ok c =
     let known : c.args.p < i.deal.graph.n = rw (← c.self.view_is) at c.requires.party in
     let goes_on : i.stopped ≡ false = rw (← c.self.view_is) at c.requires.goes_on in
     let place =
-    placed i.deal i.conforming i.seeds i.roles.items ls xs c.args.p c.index_mut.result.now m c.self.invariant.actors known c.in-Conforming.is
+    placed i.deal i.conforming i.seeds i.roles (asked_in i) ls xs c.args.p c.index_mut.result.now m c.self.invariant.actors known c.in-Conforming.is
     c.index_mut.ensures.value in
     rw (← c.self.view_is)
-    (acted_on c.act-done.result i.deal i.conforming i.seeds i.roles.items i.stopped c.is_err-self-inside.result _ _ c.is_err-self-inside.ensures.value goes_on
+    (acted_on c.act-done.result i.deal i.conforming i.seeds i.roles i.answers.items i.stopped c.is_err-self-inside.result _ _
+    c.is_err-self-inside.ensures.value goes_on
     (both c.act-done.result
-    (acted i.deal i.conforming i.seeds i.roles.items ls xs c.args.p m c.act-done.new.machine (histories c.act-done.new.ledgers.items) place)
+    (acted i.deal i.conforming i.seeds i.roles (asked_in i) ls xs c.args.p m c.act-done.new.machine (histories c.act-done.new.ledgers.items) place)
     c.act-done.ensures.ok c.act-done.ensures.knows))

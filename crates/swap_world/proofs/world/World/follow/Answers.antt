@@ -1,11 +1,14 @@
-use Rattle.std.proofs.Common.{◌≡◌, ◌⊎◌, ◌<◌, OnOk, OnErr, set, false, sym, ◌∙◌, subst}
+use Rattle.std.proofs.Common.{◌≡◌, ◌⊎◌, ◌<◌, OnOk, OnErr, set, slice_index_or, false, sym, ◌∙◌, subst}
 use Rattle.deviator_script.specs.Script.{next_call}
 use Rattle.deviator_script.specs.declared.event.Event.TheVariants.{Act}
+use Rattle.deviator_script.specs.declared.job.Role.TheVariants as kinds
 use Rattle.party_plan.specs.Shown.{IsShown}
 use Rattle.swap_world.specs.Acting.{histories, taken, seen, turned}
-use Rattle.swap_world.specs.Inside.{cast_in, state_in}
+use Rattle.swap_world.specs.Inside.{asked_in, cast_in, state_in}
 use Rattle.swap_world.specs.declared.actor.Actor.TheVariants.{Planned}
 use Rattle.swap_world.proofs.Ledgers.{on_err, either}
+use Rattle.swap_world.proofs.Gone.{not_asking}
+use Rattle.swap_world.proofs.Plans.{scripted}
 use Rattle.swap_world.proofs.States.{actor_set, state, followed, followed_book}
 use Rattle.swap_world.proofs.Worlds.{good_unless, kept_on, acted_on, both, plan_placed, knows_each, shown}
 use Rattle.swap_world.proofs.world.World.follow.Goals as goal
@@ -19,9 +22,9 @@ follow-done-requires-clause-known c =
     let known : c.args.p < i.deal.graph.n = rw (← c.self.view_is) at c.requires.party in
     let goes_on : i.stopped ≡ false = rw (← c.self.view_is) at c.requires.goes_on in
     let place =
-    plan_placed i.deal i.conforming i.seeds i.roles.items ls xs c.args.p c.index_mut.result.now n c.self.invariant.actors known c.in-Planned.is
+    plan_placed i.deal i.conforming i.seeds i.roles (asked_in i) ls xs c.args.p c.index_mut.result.now n c.self.invariant.actors known c.in-Planned.is
     c.index_mut.ensures.value in
-    knows_each i.deal i.conforming i.seeds i.roles.items ls xs c.self.invariant.ready (c.self.invariant.good goes_on) c.args.p known n place
+    knows_each i.deal i.conforming i.seeds i.roles (asked_in i) ls xs c.self.invariant.ready (c.self.invariant.good goes_on) c.args.p known n place
 
 pub follow-done-requires-clause-shown : goal.follow-done-requires-clause-shown
 follow-done-requires-clause-shown c =
@@ -32,10 +35,10 @@ follow-done-requires-clause-shown c =
     let known : c.args.p < i.deal.graph.n = rw (← c.self.view_is) at c.requires.party in
     let goes_on : i.stopped ≡ false = rw (← c.self.view_is) at c.requires.goes_on in
     let place =
-    plan_placed i.deal i.conforming i.seeds i.roles.items ls xs c.args.p c.index_mut.result.now n c.self.invariant.actors known c.in-Planned.is
+    plan_placed i.deal i.conforming i.seeds i.roles (asked_in i) ls xs c.args.p c.index_mut.result.now n c.self.invariant.actors known c.in-Planned.is
     c.index_mut.ensures.value in
     subst (λ ss. IsShown i.deal ss c.args.p n) (sym c.as_slice.ensures)
-    (shown i.deal i.conforming i.seeds i.roles.items ls xs c.self.invariant.ready (c.self.invariant.good goes_on) c.args.p known n place)
+    (shown i.deal i.conforming i.seeds i.roles (asked_in i) ls xs c.self.invariant.ready (c.self.invariant.good goes_on) c.args.p known n place)
 
 pub invariant_of-self-2 : goal.invariant_of-self-2
 invariant_of-self-2 c =
@@ -46,8 +49,11 @@ invariant_of-self-2 c =
     let known : c.args.p < i.deal.graph.n = rw (← c.self.view_is) at c.requires.party in
     let goes_on : i.stopped ≡ false = rw (← c.self.view_is) at c.requires.goes_on in
     let place =
-    plan_placed i.deal i.conforming i.seeds i.roles.items ls xs c.args.p c.index_mut.result.now n c.self.invariant.actors known c.in-Planned.is
+    plan_placed i.deal i.conforming i.seeds i.roles (asked_in i) ls xs c.args.p c.index_mut.result.now n c.self.invariant.actors known c.in-Planned.is
     c.index_mut.ensures.value in
+    let script =
+    scripted (slice_index_or i.roles c.args.p kinds.Manual) place.is.1
+    (not_asking (cast_in i) c.args.p (rw (← c.self.view_is) at c.requires.deviates) (rw (← c.self.view_is) at c.requires.alone)) in
     let new = c.follow-done.new.planner in
     let b = histories c.follow-done.new.ledgers.items in
     let ok =
@@ -57,18 +63,21 @@ invariant_of-self-2 c =
     subst (λ ss. OnOk c.follow-done.result (new ≡ seen i.deal c.args.p (next_call i.deal ss n.known n.moves) (histories ls) (turned n))) c.as_slice.ensures
     c.follow-done.ensures.knows in
     let done =
-    both c.follow-done.result (followed i.deal i.conforming i.seeds i.roles.items ls xs c.args.p n new b place) ok knows in
+    both c.follow-done.result (followed i.deal i.conforming i.seeds i.roles (asked_in i) ls xs c.args.p n new b place script) ok knows in
     let err =
-    on_err c.follow-done.result (either (λ e. e) (λ e. e ∙ followed_book i.deal i.conforming i.seeds i.roles.items ls xs c.args.p n place))
+    on_err c.follow-done.result (either (λ e. e) (λ e. e ∙ followed_book i.deal i.conforming i.seeds i.roles (asked_in i) ls xs c.args.p n place script))
     (subst (λ ss. OnErr c.follow-done.result ((b ≡ histories ls) ⊎ (b ≡ taken i.deal c.args.p (next_call i.deal ss n.known n.moves) (histories ls))))
     c.as_slice.ensures c.follow-done.ensures.err) in
     record {
       ready = c.self.invariant.ready;
       ledgers = c.follow-done.ensures.ledgers;
-      actors = actor_set i.deal i.conforming i.seeds i.roles.items xs c.args.p (Planned new) c.self.invariant.actors place.below place.is;
-      good = λ g. good_unless c.follow-done.result c.is_err-self-inside.result (cast_in i) (state_in i) (state i.deal (set xs c.args.p (Planned new)) b)
+      actors = actor_set i.deal i.conforming i.seeds i.roles xs c.args.p (Planned new) c.self.invariant.actors place.below place.is;
+      askers = c.self.invariant.askers;
+      told = c.self.invariant.told;
+      good = λ g. good_unless c.follow-done.result c.is_err-self-inside.result (cast_in i) (state_in i) (state i.deal (asked_in i)
+          (set xs c.args.p (Planned new)) b)
           (Act c.args.p) c.is_err-self-inside.ensures.value g done c.self.invariant.ready known (c.self.invariant.good goes_on);
-      kept = kept_on c.follow-done.result (cast_in i) (state_in i) (state i.deal (set xs c.args.p (Planned new)) b) (Act c.args.p) done err
+      kept = kept_on c.follow-done.result (cast_in i) (state_in i) (state i.deal (asked_in i) (set xs c.args.p (Planned new)) b) (Act c.args.p) done err
           c.self.invariant.ready known (c.self.invariant.good goes_on);
     }
 
@@ -81,8 +90,11 @@ returns-clause-ok c =
     let known : c.args.p < i.deal.graph.n = rw (← c.self.view_is) at c.requires.party in
     let goes_on : i.stopped ≡ false = rw (← c.self.view_is) at c.requires.goes_on in
     let place =
-    plan_placed i.deal i.conforming i.seeds i.roles.items ls xs c.args.p c.index_mut.result.now n c.self.invariant.actors known c.in-Planned.is
+    plan_placed i.deal i.conforming i.seeds i.roles (asked_in i) ls xs c.args.p c.index_mut.result.now n c.self.invariant.actors known c.in-Planned.is
     c.index_mut.ensures.value in
+    let script =
+    scripted (slice_index_or i.roles c.args.p kinds.Manual) place.is.1
+    (not_asking (cast_in i) c.args.p (rw (← c.self.view_is) at c.requires.deviates) (rw (← c.self.view_is) at c.requires.alone)) in
     let new = c.follow-done.new.planner in
     let b = histories c.follow-done.new.ledgers.items in
     let ok =
@@ -92,9 +104,10 @@ returns-clause-ok c =
     subst (λ ss. OnOk c.follow-done.result (new ≡ seen i.deal c.args.p (next_call i.deal ss n.known n.moves) (histories ls) (turned n))) c.as_slice.ensures
     c.follow-done.ensures.knows in
     let done =
-    both c.follow-done.result (followed i.deal i.conforming i.seeds i.roles.items ls xs c.args.p n new b place) ok knows in
+    both c.follow-done.result (followed i.deal i.conforming i.seeds i.roles (asked_in i) ls xs c.args.p n new b place script) ok knows in
     rw (← c.self.view_is)
-    (acted_on c.follow-done.result i.deal i.conforming i.seeds i.roles.items i.stopped c.is_err-self-inside.result _ _ c.is_err-self-inside.ensures.value
+    (acted_on c.follow-done.result i.deal i.conforming i.seeds i.roles i.answers.items i.stopped c.is_err-self-inside.result _ _
+    c.is_err-self-inside.ensures.value
     goes_on done)
 
 pub returns-clause-book : goal.returns-clause-book
@@ -106,11 +119,14 @@ returns-clause-book c =
     let known : c.args.p < i.deal.graph.n = rw (← c.self.view_is) at c.requires.party in
     let goes_on : i.stopped ≡ false = rw (← c.self.view_is) at c.requires.goes_on in
     let place =
-    plan_placed i.deal i.conforming i.seeds i.roles.items ls xs c.args.p c.index_mut.result.now n c.self.invariant.actors known c.in-Planned.is
+    plan_placed i.deal i.conforming i.seeds i.roles (asked_in i) ls xs c.args.p c.index_mut.result.now n c.self.invariant.actors known c.in-Planned.is
     c.index_mut.ensures.value in
+    let script =
+    scripted (slice_index_or i.roles c.args.p kinds.Manual) place.is.1
+    (not_asking (cast_in i) c.args.p (rw (← c.self.view_is) at c.requires.deviates) (rw (← c.self.view_is) at c.requires.alone)) in
     let b = histories c.follow-done.new.ledgers.items in
     let err =
-    on_err c.follow-done.result (either (λ e. e) (λ e. e ∙ followed_book i.deal i.conforming i.seeds i.roles.items ls xs c.args.p n place))
+    on_err c.follow-done.result (either (λ e. e) (λ e. e ∙ followed_book i.deal i.conforming i.seeds i.roles (asked_in i) ls xs c.args.p n place script))
     (subst (λ ss. OnErr c.follow-done.result ((b ≡ histories ls) ⊎ (b ≡ taken i.deal c.args.p (next_call i.deal ss n.known n.moves) (histories ls))))
     c.as_slice.ensures c.follow-done.ensures.err) in
     rw (← c.self.view_is) err

@@ -4,7 +4,7 @@ use Rattle.deviator_script.specs.declared.event.Event.TheVariants.{Look}
 use Rattle.deviator_script.specs.declared.job.Role.TheVariants as kinds
 use Rattle.swap_laws.specs.Machine.{Begins}
 use Rattle.swap_world.specs.Acting.{histories}
-use Rattle.swap_world.specs.Inside.{cast_in, state_in}
+use Rattle.swap_world.specs.Inside.{asked_in, cast_in, state_in}
 use Rattle.swap_world.specs.declared.actor.Actor.TheVariants.{Conforming}
 use Rattle.swap_world.proofs.Ledgers.{on_ok, on_err, history_at}
 use Rattle.swap_world.proofs.States.{actor_set, same_actor, state, looked}
@@ -20,13 +20,14 @@ learn-requires-clause-begins c =
     let can = rw (← c.self.view_is) at c.requires.event in
     let goes_on = rw (← c.self.view_is) at c.requires.goes_on in
     let place =
-    placed i.deal i.conforming i.seeds i.roles.items ls xs c.args.p c.index_mut.result.now m c.self.invariant.actors can.known c.in-Conforming.is
+    placed i.deal i.conforming i.seeds i.roles (asked_in i) ls xs c.args.p c.index_mut.result.now m c.self.invariant.actors can.known c.in-Conforming.is
     c.index_mut.ensures.value in
     let below = subst (λ n. c.args.arc < n) (sym c.self.invariant.ledgers.one_each) can.arc in
     let l = c.index.result.now in
     let k = c.self.invariant.ledgers.each c.args.arc l below c.index.ensures in
     let b =
-    begins i.deal i.conforming i.seeds i.roles.items ls xs c.self.invariant.ready (c.self.invariant.good goes_on) c.args.p can.known m place c.args.arc in
+    begins i.deal i.conforming i.seeds i.roles (asked_in i) ls xs c.self.invariant.ready (c.self.invariant.good goes_on) c.args.p can.known m place
+    c.args.arc in
     subst (λ a. Begins (history m.known a) l.history) (sym k.arc)
     (subst (λ h. Begins (history m.known c.args.arc) h) (history_at ls c.args.arc l below c.index.ensures) b)
 
@@ -39,7 +40,7 @@ invariant_of-self-2 c =
     let can = rw (← c.self.view_is) at c.requires.event in
     let goes_on = rw (← c.self.view_is) at c.requires.goes_on in
     let place =
-    placed i.deal i.conforming i.seeds i.roles.items ls xs c.args.p c.index_mut.result.now m c.self.invariant.actors can.known c.in-Conforming.is
+    placed i.deal i.conforming i.seeds i.roles (asked_in i) ls xs c.args.p c.index_mut.result.now m c.self.invariant.actors can.known c.in-Conforming.is
     c.index_mut.ensures.value in
     let below = subst (λ n. c.args.arc < n) (sym c.self.invariant.ledgers.one_each) can.arc in
     let l = c.index.result.now in
@@ -48,15 +49,18 @@ invariant_of-self-2 c =
     record {
       ready = c.self.invariant.ready;
       ledgers = c.self.invariant.ledgers;
-      actors = actor_set i.deal i.conforming i.seeds i.roles.items xs c.args.p (Conforming new) c.self.invariant.actors place.below
+      actors = actor_set i.deal i.conforming i.seeds i.roles xs c.args.p (Conforming new) c.self.invariant.actors place.below
           (owned i.deal (slice_index_or i.conforming c.args.p false) (slice_index_or i.seeds c.args.p None)
-          (slice_index_or i.roles.items c.args.p kinds.Manual) c.args.p m new
+          (slice_index_or i.roles c.args.p kinds.Manual) c.args.p m new
           (same_owner c.learn.result m new (set m.known c.args.arc (history (histories ls) c.args.arc))
           (on_ok c.learn.result (know m new ls c.args.arc l k.arc below c.index.ensures) c.learn.ensures.ok) c.learn.ensures.err) place.is);
-      good = λ g. good_on c.learn.result (cast_in i) (state_in i) (state i.deal (set xs c.args.p (Conforming new)) (histories ls)) (Look c.args.p c.args.arc)
-          (on_ok c.learn.result (λ e. looked i.deal i.conforming i.seeds i.roles.items ls xs c.args.p c.args.arc m new place
+      askers = c.self.invariant.askers;
+      told = c.self.invariant.told;
+      good = λ g. good_on c.learn.result (cast_in i) (state_in i) (state i.deal (asked_in i) (set xs c.args.p (Conforming new)) (histories ls))
+          (Look c.args.p c.args.arc)
+          (on_ok c.learn.result (λ e. looked i.deal i.conforming i.seeds i.roles (asked_in i) ls xs c.args.p c.args.arc m new place
           (know m new ls c.args.arc l k.arc below c.index.ensures e)) c.learn.ensures.ok)
-          (on_err c.learn.result (λ e. same_actor i.deal i.conforming i.seeds i.roles.items ls xs c.args.p (Conforming m) (Conforming new) (histories ls)
+          (on_err c.learn.result (λ e. same_actor i.deal i.conforming i.seeds i.roles (asked_in i) ls xs c.args.p (Conforming m) (Conforming new) (histories ls)
           place.here (ap (λ x. Conforming x) e)) c.learn.ensures.err)
           c.self.invariant.ready can (c.self.invariant.good g);
       kept = c.self.invariant.kept;
@@ -71,15 +75,15 @@ returns-clause-ok c =
     let can = rw (← c.self.view_is) at c.requires.event in
     let goes_on = rw (← c.self.view_is) at c.requires.goes_on in
     let place =
-    placed i.deal i.conforming i.seeds i.roles.items ls xs c.args.p c.index_mut.result.now m c.self.invariant.actors can.known c.in-Conforming.is
+    placed i.deal i.conforming i.seeds i.roles (asked_in i) ls xs c.args.p c.index_mut.result.now m c.self.invariant.actors can.known c.in-Conforming.is
     c.index_mut.ensures.value in
     let below = subst (λ n. c.args.arc < n) (sym c.self.invariant.ledgers.one_each) can.arc in
     let l = c.index.result.now in
     let k = c.self.invariant.ledgers.each c.args.arc l below c.index.ensures in
     let new = c.learn.new.machine in
     rw (← c.self.view_is)
-    (on_ok c.learn.result (λ e. ap (λ st. world i.deal i.conforming i.seeds i.roles.items i.stopped st)
-    (looked i.deal i.conforming i.seeds i.roles.items ls xs c.args.p c.args.arc m new place (know m new ls c.args.arc l k.arc below c.index.ensures e)))
+    (on_ok c.learn.result (λ e. ap (λ st. world i.deal i.conforming i.seeds i.roles i.answers.items i.stopped st)
+    (looked i.deal i.conforming i.seeds i.roles (asked_in i) ls xs c.args.p c.args.arc m new place (know m new ls c.args.arc l k.arc below c.index.ensures e)))
     c.learn.ensures.ok)
 
 pub returns-clause-err : goal.returns-clause-err
@@ -91,13 +95,13 @@ returns-clause-err c =
     let can = rw (← c.self.view_is) at c.requires.event in
     let goes_on = rw (← c.self.view_is) at c.requires.goes_on in
     let place =
-    placed i.deal i.conforming i.seeds i.roles.items ls xs c.args.p c.index_mut.result.now m c.self.invariant.actors can.known c.in-Conforming.is
+    placed i.deal i.conforming i.seeds i.roles (asked_in i) ls xs c.args.p c.index_mut.result.now m c.self.invariant.actors can.known c.in-Conforming.is
     c.index_mut.ensures.value in
     let below = subst (λ n. c.args.arc < n) (sym c.self.invariant.ledgers.one_each) can.arc in
     let l = c.index.result.now in
     let k = c.self.invariant.ledgers.each c.args.arc l below c.index.ensures in
     let new = c.learn.new.machine in
     rw (← c.self.view_is)
-    (on_err c.learn.result (λ e. ap (λ st. world i.deal i.conforming i.seeds i.roles.items i.stopped st)
-    (same_actor i.deal i.conforming i.seeds i.roles.items ls xs c.args.p (Conforming m) (Conforming new) (histories ls) place.here
+    (on_err c.learn.result (λ e. ap (λ st. world i.deal i.conforming i.seeds i.roles i.answers.items i.stopped st)
+    (same_actor i.deal i.conforming i.seeds i.roles (asked_in i) ls xs c.args.p (Conforming m) (Conforming new) (histories ls) place.here
     (ap (λ x. Conforming x) e))) c.learn.ensures.err)

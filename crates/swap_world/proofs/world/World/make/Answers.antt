@@ -3,7 +3,7 @@ use Rattle.deviator_script.specs.Resolved.{resolved}
 use Rattle.deviator_script.specs.declared.event.Event.TheVariants.{Call as Made}
 use Rattle.swap_laws.proofs.Accepted.{accepted_is_well_sized}
 use Rattle.swap_world.specs.Acting.{histories, taken, seen}
-use Rattle.swap_world.specs.Inside.{cast_in, state_in}
+use Rattle.swap_world.specs.Inside.{asked_in, cast_in, state_in}
 use Rattle.swap_world.specs.declared.actor.Actor.TheVariants.{Planned}
 use Rattle.swap_world.proofs.Ledgers.{on_err, either}
 use Rattle.swap_world.proofs.States.{actor_set, state, made_by_hand, made_book}
@@ -22,9 +22,9 @@ make_by_hand-done-requires-clause-known c =
     let can = rw (← c.self.view_is) at c.requires.event in
     let goes_on : i.stopped ≡ false = rw (← c.self.view_is) at c.requires.goes_on in
     let place =
-    plan_placed i.deal i.conforming i.seeds i.roles.items ls xs c.args.sender c.index_mut.result.now n c.self.invariant.actors can.known c.in-Planned.is
+    plan_placed i.deal i.conforming i.seeds i.roles (asked_in i) ls xs c.args.sender c.index_mut.result.now n c.self.invariant.actors can.known c.in-Planned.is
     c.index_mut.ensures.value in
-    knows_each i.deal i.conforming i.seeds i.roles.items ls xs c.self.invariant.ready (c.self.invariant.good goes_on) c.args.sender can.known n place
+    knows_each i.deal i.conforming i.seeds i.roles (asked_in i) ls xs c.self.invariant.ready (c.self.invariant.good goes_on) c.args.sender can.known n place
 
 pub invariant_of-self-2 : goal.invariant_of-self-2
 invariant_of-self-2 c =
@@ -35,7 +35,7 @@ invariant_of-self-2 c =
     let can = rw (← c.self.view_is) at c.requires.event in
     let goes_on : i.stopped ≡ false = rw (← c.self.view_is) at c.requires.goes_on in
     let place =
-    plan_placed i.deal i.conforming i.seeds i.roles.items ls xs c.args.sender c.index_mut.result.now n c.self.invariant.actors can.known c.in-Planned.is
+    plan_placed i.deal i.conforming i.seeds i.roles (asked_in i) ls xs c.args.sender c.index_mut.result.now n c.self.invariant.actors can.known c.in-Planned.is
     c.index_mut.ensures.value in
     let new = c.make_by_hand-done.new.planner in
     let b = histories c.make_by_hand-done.new.ledgers.items in
@@ -47,21 +47,23 @@ invariant_of-self-2 c =
     c.as_slice.ensures c.make_by_hand-done.ensures.knows in
     let done =
     both c.make_by_hand-done.result
-    (made_by_hand i.deal i.conforming i.seeds i.roles.items ls xs c.args.sender c.args.mv.now n new b place) ok knows in
+    (made_by_hand i.deal i.conforming i.seeds i.roles (asked_in i) ls xs c.args.sender c.args.mv.now n new b place) ok knows in
     let err =
     on_err c.make_by_hand-done.result
-    (either (λ e. e) (λ e. e ∙ made_book i.deal i.conforming i.seeds i.roles.items ls xs c.args.sender c.args.mv.now n place))
+    (either (λ e. e) (λ e. e ∙ made_book i.deal i.conforming i.seeds i.roles (asked_in i) ls xs c.args.sender c.args.mv.now n place))
     (subst (λ ss. OnErr c.make_by_hand-done.result ((b ≡ histories ls)
     ⊎ (b ≡ taken i.deal c.args.sender (resolved i.deal ss (histories ls) c.args.mv.now) (histories ls))))
     c.as_slice.ensures c.make_by_hand-done.ensures.err) in
     record {
       ready = c.self.invariant.ready;
       ledgers = c.make_by_hand-done.ensures.ledgers;
-      actors = actor_set i.deal i.conforming i.seeds i.roles.items xs c.args.sender (Planned new) c.self.invariant.actors place.below place.is;
+      actors = actor_set i.deal i.conforming i.seeds i.roles xs c.args.sender (Planned new) c.self.invariant.actors place.below place.is;
+      askers = c.self.invariant.askers;
+      told = c.self.invariant.told;
       good = λ g. good_unless c.make_by_hand-done.result c.is_err-self-inside.result (cast_in i) (state_in i)
-          (state i.deal (set xs c.args.sender (Planned new)) b) (Made c.args.sender c.args.mv.now) c.is_err-self-inside.ensures.value g done
+          (state i.deal (asked_in i) (set xs c.args.sender (Planned new)) b) (Made c.args.sender c.args.mv.now) c.is_err-self-inside.ensures.value g done
           c.self.invariant.ready can (c.self.invariant.good goes_on);
-      kept = kept_on c.make_by_hand-done.result (cast_in i) (state_in i) (state i.deal (set xs c.args.sender (Planned new)) b)
+      kept = kept_on c.make_by_hand-done.result (cast_in i) (state_in i) (state i.deal (asked_in i) (set xs c.args.sender (Planned new)) b)
           (Made c.args.sender c.args.mv.now) done err c.self.invariant.ready can (c.self.invariant.good goes_on);
     }
 
@@ -74,7 +76,7 @@ returns-clause-ok c =
     let can = rw (← c.self.view_is) at c.requires.event in
     let goes_on : i.stopped ≡ false = rw (← c.self.view_is) at c.requires.goes_on in
     let place =
-    plan_placed i.deal i.conforming i.seeds i.roles.items ls xs c.args.sender c.index_mut.result.now n c.self.invariant.actors can.known c.in-Planned.is
+    plan_placed i.deal i.conforming i.seeds i.roles (asked_in i) ls xs c.args.sender c.index_mut.result.now n c.self.invariant.actors can.known c.in-Planned.is
     c.index_mut.ensures.value in
     let new = c.make_by_hand-done.new.planner in
     let b = histories c.make_by_hand-done.new.ledgers.items in
@@ -86,9 +88,9 @@ returns-clause-ok c =
     c.as_slice.ensures c.make_by_hand-done.ensures.knows in
     let done =
     both c.make_by_hand-done.result
-    (made_by_hand i.deal i.conforming i.seeds i.roles.items ls xs c.args.sender c.args.mv.now n new b place) ok knows in
+    (made_by_hand i.deal i.conforming i.seeds i.roles (asked_in i) ls xs c.args.sender c.args.mv.now n new b place) ok knows in
     rw (← c.self.view_is)
-    (acted_on c.make_by_hand-done.result i.deal i.conforming i.seeds i.roles.items i.stopped c.is_err-self-inside.result _ _
+    (acted_on c.make_by_hand-done.result i.deal i.conforming i.seeds i.roles i.answers.items i.stopped c.is_err-self-inside.result _ _
     c.is_err-self-inside.ensures.value goes_on done)
 
 pub returns-clause-book : goal.returns-clause-book
@@ -100,12 +102,12 @@ returns-clause-book c =
     let can = rw (← c.self.view_is) at c.requires.event in
     let goes_on : i.stopped ≡ false = rw (← c.self.view_is) at c.requires.goes_on in
     let place =
-    plan_placed i.deal i.conforming i.seeds i.roles.items ls xs c.args.sender c.index_mut.result.now n c.self.invariant.actors can.known c.in-Planned.is
+    plan_placed i.deal i.conforming i.seeds i.roles (asked_in i) ls xs c.args.sender c.index_mut.result.now n c.self.invariant.actors can.known c.in-Planned.is
     c.index_mut.ensures.value in
     let b = histories c.make_by_hand-done.new.ledgers.items in
     let err =
     on_err c.make_by_hand-done.result
-    (either (λ e. e) (λ e. e ∙ made_book i.deal i.conforming i.seeds i.roles.items ls xs c.args.sender c.args.mv.now n place))
+    (either (λ e. e) (λ e. e ∙ made_book i.deal i.conforming i.seeds i.roles (asked_in i) ls xs c.args.sender c.args.mv.now n place))
     (subst (λ ss. OnErr c.make_by_hand-done.result ((b ≡ histories ls)
     ⊎ (b ≡ taken i.deal c.args.sender (resolved i.deal ss (histories ls) c.args.mv.now) (histories ls))))
     c.as_slice.ensures c.make_by_hand-done.ensures.err) in

@@ -1,4 +1,4 @@
-use Rattle.std.proofs.Common.{◌∙◌}
+use Rattle.std.proofs.Common.{◌∙◌, sym, ap, length}
 use Rattle.std.proofs.lemmas.Result.{err_from_is_err_and}
 use Rattle.swap_run.proofs.Good.{good_is_kept}
 use Rattle.swap_laws.proofs.Accepted.{accepted_is_well_sized}
@@ -25,41 +25,44 @@ invariant_of-result c =
     let job = c.args.job.now in
     let d = c.in_ok-copy_deal.field-0 in
     let ec = c.new.ensures ∙ (c.in_ok-from_slice.ensures.items ∙ c.as_slice.ensures) in
-    let er = c.told.ensures ∙ c.as_slice-2.ensures in
+    let er = c.in_ok-copy-2.ensures in
     let ls = c.in_ok-ledgers_of.field-0.items in
     let ys = c.in_ok-actors.actors.items in
     record {
       ready =
-          ready job d c.new.result c.in_ok-copy.field-0 c.told.result.items ls ys c.in_ok-copy_deal.ensures ec c.in_ok-copy.ensures er
+          ready job d c.new.result c.in_ok-copy.field-0 c.in_ok-copy-2.field-0 ls ys c.in_ok-copy_deal.ensures ec c.in_ok-copy.ensures er
           c.in_ok-ledgers_of.ensures c.in_ok-actors.ensures c.requires.seeds c.requires.roles c.requires.accepted;
       ledgers =
-          ledgers job d c.new.result c.in_ok-copy.field-0 c.told.result.items ls ys c.in_ok-copy_deal.ensures ec c.in_ok-copy.ensures er
+          ledgers job d c.new.result c.in_ok-copy.field-0 c.in_ok-copy-2.field-0 ls ys c.in_ok-copy_deal.ensures ec c.in_ok-copy.ensures er
           c.in_ok-ledgers_of.ensures c.in_ok-actors.ensures c.requires.seeds c.requires.roles;
       actors =
-          actors job d c.new.result c.in_ok-copy.field-0 c.told.result.items ls ys c.in_ok-copy_deal.ensures ec c.in_ok-copy.ensures er
+          actors job d c.new.result c.in_ok-copy.field-0 c.in_ok-copy-2.field-0 ls ys c.in_ok-copy_deal.ensures ec c.in_ok-copy.ensures er
           c.in_ok-ledgers_of.ensures c.in_ok-actors.ensures c.requires.seeds c.requires.roles;
+      askers = ap length c.new-2.ensures ∙ sym (ap length c.new-4.ensures);
+      told = ap length c.new-3.ensures ∙ sym (ap length c.new-4.ensures);
       good =
-          λ g. good job d c.new.result c.in_ok-copy.field-0 c.told.result.items ls ys c.in_ok-copy_deal.ensures ec c.in_ok-copy.ensures er
-          c.in_ok-ledgers_of.ensures c.in_ok-actors.ensures c.requires.seeds c.requires.roles c.requires.accepted;
+          λ g. rw c.new-2.ensures (good job d c.new.result c.in_ok-copy.field-0 c.in_ok-copy-2.field-0 ls ys c.in_ok-copy_deal.ensures ec
+          c.in_ok-copy.ensures er c.in_ok-ledgers_of.ensures c.in_ok-actors.ensures c.requires.seeds c.requires.roles c.requires.accepted);
       kept =
-          good_is_kept _ _ (ready job d c.new.result c.in_ok-copy.field-0 c.told.result.items ls ys c.in_ok-copy_deal.ensures ec c.in_ok-copy.ensures er
+          good_is_kept _ _ (ready job d c.new.result c.in_ok-copy.field-0 c.in_ok-copy-2.field-0 ls ys c.in_ok-copy_deal.ensures ec c.in_ok-copy.ensures er
           c.in_ok-ledgers_of.ensures c.in_ok-actors.ensures c.requires.seeds c.requires.roles c.requires.accepted)
-          (good job d c.new.result c.in_ok-copy.field-0 c.told.result.items ls ys c.in_ok-copy_deal.ensures ec c.in_ok-copy.ensures er
+          (good job d c.new.result c.in_ok-copy.field-0 c.in_ok-copy-2.field-0 ls ys c.in_ok-copy_deal.ensures ec c.in_ok-copy.ensures er
           c.in_ok-ledgers_of.ensures c.in_ok-actors.ensures c.requires.seeds c.requires.roles c.requires.accepted);
     }
 
 pub returns-clause-exact : goal.returns-clause-exact
 returns-clause-exact c =
-    world_is c.args.job.now c.in_ok-copy_deal.field-0 c.new.result c.in_ok-copy.field-0 c.told.result.items c.in_ok-ledgers_of.field-0.items
+    rw (c.new-2.ensures, c.new-4.ensures) (world_is c.args.job.now c.in_ok-copy_deal.field-0 c.new.result c.in_ok-copy.field-0 c.in_ok-copy-2.field-0
+    c.in_ok-ledgers_of.field-0.items
     c.in_ok-actors.actors.items
     c.in_ok-copy_deal.ensures
     (c.new.ensures ∙ (c.in_ok-from_slice.ensures.items ∙ c.as_slice.ensures)) c.in_ok-copy.ensures
-    (c.told.ensures ∙ c.as_slice-2.ensures) c.in_ok-ledgers_of.ensures c.in_ok-actors.ensures c.requires.seeds c.requires.roles
+    c.in_ok-copy-2.ensures c.in_ok-ledgers_of.ensures c.in_ok-actors.ensures c.requires.seeds c.requires.roles)
 
 pub returns-clause-new : goal.returns-clause-new
-returns-clause-new c = world_of_new c.args.job.now _ (
-    world_is c.args.job.now c.in_ok-copy_deal.field-0 c.new.result c.in_ok-copy.field-0 c.told.result.items c.in_ok-ledgers_of.field-0.items
+returns-clause-new c = rw (c.new-2.ensures, c.new-4.ensures) (world_of_new c.args.job.now _ (
+    world_is c.args.job.now c.in_ok-copy_deal.field-0 c.new.result c.in_ok-copy.field-0 c.in_ok-copy-2.field-0 c.in_ok-ledgers_of.field-0.items
     c.in_ok-actors.actors.items
     c.in_ok-copy_deal.ensures
     (c.new.ensures ∙ (c.in_ok-from_slice.ensures.items ∙ c.as_slice.ensures)) c.in_ok-copy.ensures
-    (c.told.ensures ∙ c.as_slice-2.ensures) c.in_ok-ledgers_of.ensures c.in_ok-actors.ensures c.requires.seeds c.requires.roles)
+    c.in_ok-copy-2.ensures c.in_ok-ledgers_of.ensures c.in_ok-actors.ensures c.requires.seeds c.requires.roles))

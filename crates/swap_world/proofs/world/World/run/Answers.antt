@@ -1,15 +1,20 @@
 use Rattle.std.proofs.Common.{refl}
 use Rattle.swap_run.specs.Run.{run_from}
-use Rattle.swap_world.specs.Value.{cast_at}
+use Rattle.swap_world.proofs.Gone.{stopped_before}
 use Rattle.swap_world.proofs.Worlds.{kept_to}
 use Rattle.swap_world.proofs.world.World.run.Goals as goal
 
+pub returns-then-self-clause-err : goal.returns-then-self-clause-err
+returns-then-self-clause-err g c =
+    stopped_before (g.K.Strategies.gives c.args.kit.now) (λ x s. run_from x s c.args.events.now) c.args.self.now (rw (← c.self.view_is) c.if-self.true)
+    (λ a s. record { events = c.args.events.now; can = c.requires.events; state = refl })
+
 pub returns-then-self-clause-kept : goal.returns-then-self-clause-kept
-returns-then-self-clause-kept c = rw (← c.self.view_is) c.self.invariant.kept
+returns-then-self-clause-kept g c = rw (← c.self.view_is) c.self.invariant.kept
 
 pub returns-clause-kept : goal.returns-clause-kept
-returns-clause-kept c =
+returns-clause-kept g c =
     let w = c.args.self.now in
-    kept_to c.run.result w c.run.new.world (run_from (cast_at w) w.state c.args.events.now) c.run.ensures.ok c.run.ensures.err
-    (record { events = c.args.events.now; can = c.requires.events; state = refl })
+    kept_to c.run.result (g.K.Strategies.gives c.args.kit.now) (λ x s. run_from x s c.args.events.now) w c.run.new.world c.run.ensures.ok c.run.ensures.err
+    (λ a. record { events = c.args.events.now; can = c.requires.events; state = refl })
     (rw (← c.self.view_is) c.self.invariant.ready) (rw (← c.self.view_is) (c.self.invariant.good c.if-self.false))

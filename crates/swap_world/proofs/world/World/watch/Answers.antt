@@ -2,7 +2,7 @@ use Rattle.std.proofs.Common.{◌≡◌, ◌<◌, set, sym, ap, ◌∙◌, subst
 use Rattle.deviator_script.specs.declared.event.Event.TheVariants.{Look}
 use Rattle.swap_run.specs.Run.{plan_up_to}
 use Rattle.swap_world.specs.Acting.{histories}
-use Rattle.swap_world.specs.Inside.{cast_in, state_in}
+use Rattle.swap_world.specs.Inside.{asked_in, cast_in, state_in}
 use Rattle.swap_world.specs.declared.actor.Actor.TheVariants.{Planned}
 use Rattle.swap_world.proofs.Ledgers.{on_ok, on_err, history_at}
 use Rattle.swap_world.proofs.States.{actor_set, same_actor, state, watched}
@@ -18,11 +18,11 @@ watch-requires c =
     let can = rw (← c.self.view_is) at c.requires.event in
     let goes_on = rw (← c.self.view_is) at c.requires.goes_on in
     let place =
-    plan_placed i.deal i.conforming i.seeds i.roles.items ls xs c.args.p c.index_mut.result.now n c.self.invariant.actors can.known c.in-Planned.is
+    plan_placed i.deal i.conforming i.seeds i.roles (asked_in i) ls xs c.args.p c.index_mut.result.now n c.self.invariant.actors can.known c.in-Planned.is
     c.index_mut.ensures.value in
     record {
       arc = subst (λ k. c.args.arc < k)
-          (sym (knows_each i.deal i.conforming i.seeds i.roles.items ls xs c.self.invariant.ready (c.self.invariant.good goes_on) c.args.p can.known n
+          (sym (knows_each i.deal i.conforming i.seeds i.roles (asked_in i) ls xs c.self.invariant.ready (c.self.invariant.good goes_on) c.args.p can.known n
           place))
           can.arc;
     }
@@ -36,22 +36,26 @@ invariant_of-self-2 c =
     let can = rw (← c.self.view_is) at c.requires.event in
     let goes_on = rw (← c.self.view_is) at c.requires.goes_on in
     let place =
-    plan_placed i.deal i.conforming i.seeds i.roles.items ls xs c.args.p c.index_mut.result.now n c.self.invariant.actors can.known c.in-Planned.is
+    plan_placed i.deal i.conforming i.seeds i.roles (asked_in i) ls xs c.args.p c.index_mut.result.now n c.self.invariant.actors can.known c.in-Planned.is
     c.index_mut.ensures.value in
     let below = subst (λ k. c.args.arc < k) (sym c.self.invariant.ledgers.one_each) can.arc in
     let new = c.watch.new.planner in
     let saw =
-    on_ok c.watch.result (λ (e : new ≡ plan_up_to n c.args.arc c.index.result.now.history). watched i.deal i.conforming i.seeds i.roles.items ls xs c.args.p
+    on_ok c.watch.result (λ (e : new ≡ plan_up_to n c.args.arc c.index.result.now.history). watched i.deal i.conforming i.seeds i.roles (asked_in i)
+    ls xs c.args.p
     c.args.arc n new place (e ∙ ap (λ h. plan_up_to n c.args.arc h) (sym (history_at ls c.args.arc c.index.result.now below c.index.ensures))))
     c.watch.ensures.ok in
     let same =
-    on_err c.watch.result (λ (e : new ≡ n). same_actor i.deal i.conforming i.seeds i.roles.items ls xs c.args.p (Planned n) (Planned new) (histories ls)
+    on_err c.watch.result (λ (e : new ≡ n). same_actor i.deal i.conforming i.seeds i.roles (asked_in i) ls xs c.args.p (Planned n) (Planned new) (histories ls)
     place.here (ap (λ x. Planned x) e)) c.watch.ensures.err in
     record {
       ready = c.self.invariant.ready;
       ledgers = c.self.invariant.ledgers;
-      actors = actor_set i.deal i.conforming i.seeds i.roles.items xs c.args.p (Planned new) c.self.invariant.actors place.below place.is;
-      good = λ g. good_on c.watch.result (cast_in i) (state_in i) (state i.deal (set xs c.args.p (Planned new)) (histories ls)) (Look c.args.p c.args.arc)
+      actors = actor_set i.deal i.conforming i.seeds i.roles xs c.args.p (Planned new) c.self.invariant.actors place.below place.is;
+      askers = c.self.invariant.askers;
+      told = c.self.invariant.told;
+      good = λ g. good_on c.watch.result (cast_in i) (state_in i) (state i.deal (asked_in i) (set xs c.args.p (Planned new)) (histories ls))
+          (Look c.args.p c.args.arc)
           saw same c.self.invariant.ready can (c.self.invariant.good g);
       kept = c.self.invariant.kept;
     }
@@ -65,18 +69,19 @@ returns-clause-ok c =
     let can = rw (← c.self.view_is) at c.requires.event in
     let goes_on = rw (← c.self.view_is) at c.requires.goes_on in
     let place =
-    plan_placed i.deal i.conforming i.seeds i.roles.items ls xs c.args.p c.index_mut.result.now n c.self.invariant.actors can.known c.in-Planned.is
+    plan_placed i.deal i.conforming i.seeds i.roles (asked_in i) ls xs c.args.p c.index_mut.result.now n c.self.invariant.actors can.known c.in-Planned.is
     c.index_mut.ensures.value in
     let below = subst (λ k. c.args.arc < k) (sym c.self.invariant.ledgers.one_each) can.arc in
     let new = c.watch.new.planner in
     let saw =
-    on_ok c.watch.result (λ (e : new ≡ plan_up_to n c.args.arc c.index.result.now.history). watched i.deal i.conforming i.seeds i.roles.items ls xs c.args.p
+    on_ok c.watch.result (λ (e : new ≡ plan_up_to n c.args.arc c.index.result.now.history). watched i.deal i.conforming i.seeds i.roles (asked_in i)
+    ls xs c.args.p
     c.args.arc n new place (e ∙ ap (λ h. plan_up_to n c.args.arc h) (sym (history_at ls c.args.arc c.index.result.now below c.index.ensures))))
     c.watch.ensures.ok in
     let same =
-    on_err c.watch.result (λ (e : new ≡ n). same_actor i.deal i.conforming i.seeds i.roles.items ls xs c.args.p (Planned n) (Planned new) (histories ls)
+    on_err c.watch.result (λ (e : new ≡ n). same_actor i.deal i.conforming i.seeds i.roles (asked_in i) ls xs c.args.p (Planned n) (Planned new) (histories ls)
     place.here (ap (λ x. Planned x) e)) c.watch.ensures.err in
-    rw (← c.self.view_is) (on_ok c.watch.result (λ e. ap (λ st. world i.deal i.conforming i.seeds i.roles.items i.stopped st) e) saw)
+    rw (← c.self.view_is) (on_ok c.watch.result (λ e. ap (λ st. world i.deal i.conforming i.seeds i.roles i.answers.items i.stopped st) e) saw)
 
 pub returns-clause-err : goal.returns-clause-err
 returns-clause-err c =
@@ -87,15 +92,16 @@ returns-clause-err c =
     let can = rw (← c.self.view_is) at c.requires.event in
     let goes_on = rw (← c.self.view_is) at c.requires.goes_on in
     let place =
-    plan_placed i.deal i.conforming i.seeds i.roles.items ls xs c.args.p c.index_mut.result.now n c.self.invariant.actors can.known c.in-Planned.is
+    plan_placed i.deal i.conforming i.seeds i.roles (asked_in i) ls xs c.args.p c.index_mut.result.now n c.self.invariant.actors can.known c.in-Planned.is
     c.index_mut.ensures.value in
     let below = subst (λ k. c.args.arc < k) (sym c.self.invariant.ledgers.one_each) can.arc in
     let new = c.watch.new.planner in
     let saw =
-    on_ok c.watch.result (λ (e : new ≡ plan_up_to n c.args.arc c.index.result.now.history). watched i.deal i.conforming i.seeds i.roles.items ls xs c.args.p
+    on_ok c.watch.result (λ (e : new ≡ plan_up_to n c.args.arc c.index.result.now.history). watched i.deal i.conforming i.seeds i.roles (asked_in i)
+    ls xs c.args.p
     c.args.arc n new place (e ∙ ap (λ h. plan_up_to n c.args.arc h) (sym (history_at ls c.args.arc c.index.result.now below c.index.ensures))))
     c.watch.ensures.ok in
     let same =
-    on_err c.watch.result (λ (e : new ≡ n). same_actor i.deal i.conforming i.seeds i.roles.items ls xs c.args.p (Planned n) (Planned new) (histories ls)
+    on_err c.watch.result (λ (e : new ≡ n). same_actor i.deal i.conforming i.seeds i.roles (asked_in i) ls xs c.args.p (Planned n) (Planned new) (histories ls)
     place.here (ap (λ x. Planned x) e)) c.watch.ensures.err in
-    rw (← c.self.view_is) (on_err c.watch.result (λ e. ap (λ st. world i.deal i.conforming i.seeds i.roles.items i.stopped st) e) same)
+    rw (← c.self.view_is) (on_err c.watch.result (λ e. ap (λ st. world i.deal i.conforming i.seeds i.roles i.answers.items i.stopped st) e) same)

@@ -1,0 +1,10 @@
+use Rattle.std.proofs.Common.{◌≡◌, [], map, drop}
+use Rattle.swap_base.specs.Fault.{steps}
+use Rattle.offer_header.specs.Names.{has_strategy, name_step}
+use Rattle.offer_header.proofs.names.names_among.Given as goal
+
+abbrev pub invariant-loop-party : goal.invariant-loop-party
+invariant-loop-party g l =
+    steps (name_step (has_strategy l.kit.names l.kit.strategies.items) l.line (map (λ k. k.now) l.all.keys)) (map (λ k. k.now) l.names.keys)
+    (drop l.party-index l.parties)
+    ≡ steps (name_step (has_strategy l.kit.names l.kit.strategies.items) l.line (map (λ k. k.now) l.all.keys)) [] l.parties

@@ -1,0 +1,47 @@
+-- Where the moves of a header's scripts stand.
+use Rattle.std.specs.Prelude.{◌≡◌, ℕ, ◌+◌, Bool, List, [], ◌∷◌, length, All, Result, Ok}
+use Rattle.swap_base.specs.Fault.{◌>>=◌, steps}
+use Rattle.swap_digraph.specs.declared.arc_ends.ArcEnds.{ArcEnds}
+use Rattle.swap_digraph.specs.declared.deal.Deal.{Deal}
+use Rattle.swap_digraph.specs.Deal.{IsWellSized, path_limit_of}
+use Rattle.deviator_script.specs.Crafted.{Seeds}
+use Rattle.deviator_script.specs.declared.job.Role.{Role}
+use Rattle.deviator_script.specs.declared.job.Role.TheVariants.{Script}
+use Rattle.deviator_script.specs.declared.moves.Move.{Move}
+use Rattle.refusals.specs.declared.reason.Reason.{Reason}
+use Rattle.offer_moves.specs.Kept.{CanStand, IsMade}
+use Rattle.offer_moves.specs.Moves.{sizes_of}
+use Rattle.offer_moves.specs.Placed.{placed}
+use Rattle.offer_header.specs.declared.header.Header.{Header}
+
+-- party p may make each move of its script where it stands
+abbrev pub role_placed : List ArcEnds → List Bool → ℕ → ℕ → Role → Result (Unit {0}) Reason
+role_placed arcs conforming line p (Script moves) = steps (λ u mv. placed arcs conforming line p mv) tt moves
+role_placed arcs conforming line p _ = Ok tt
+
+-- and so may the parties after it
+unfoldable pub roles_placed : List ArcEnds → List Bool → ℕ → ℕ → List Role → Result (Unit {0}) Reason
+roles_placed arcs conforming line p [] = Ok tt
+roles_placed arcs conforming line p (role ∷ roles) = do
+  u ← role_placed arcs conforming line p role
+  roles_placed arcs conforming line (p + 1) roles
+
+-- the moves of the header's scripts stand where their parties may make them
+unfoldable pub scripts_placed : ℕ → Header → Result (Unit {0}) Reason
+scripts_placed line h = roles_placed h.arcs h.conforming line 0 h.roles
+
+-- the moves of a role's script
+abbrev pub script_of : Role → List Move
+script_of (Script moves) = moves
+script_of _ = []
+
+-- every move of a header's scripts stands on one of its arcs, and its parties craft
+abbrev pub AllStand : Header → Type 0
+AllStand h = All (λ r. All (CanStand (length h.arcs) (length h.conforming)) (script_of r)) h.roles
+
+-- every move of a header's scripts is made for its deal, whatever else the deal says
+abbrev pub AreMade : ℕ → Header → Type 0
+AreMade line h =
+    (d : Deal) (seeds : Seeds) → IsWellSized d
+    → sizes_of d ≡ record { arcs = length h.arcs; locks = length h.leaders; path = path_limit_of h.version }
+    → d.graph.n ≡ length h.names → All (λ r. All (IsMade d seeds line) (script_of r)) h.roles

@@ -1,0 +1,4 @@
+pub mod Parts
+pub mod Crafters
+pub mod Stands
+pub mod Made

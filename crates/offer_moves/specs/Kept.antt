@@ -1,0 +1,31 @@
+-- What is known of a move that was read.
+use Rattle.std.specs.Prelude.{◌≡◌, ℕ, ◌<◌, IsTrue, nat_lt, slice_index_or, is_some, None, length, Ok}
+use Rattle.std.specs.List.{list_all}
+use Rattle.deviator_script.specs.declared.moves.Move.{Move}
+use Rattle.deviator_script.specs.declared.moves.Move.TheVariants.{Craft}
+use Rattle.deviator_script.specs.Resolved.{arc_of}
+use Rattle.deviator_script.specs.Crafted.{Seeds}
+use Rattle.deviator_script.specs.Fitting.{NamesFitting}
+use Rattle.swap_digraph.specs.declared.deal.Deal.{Deal}
+use Rattle.offer_moves.specs.Placed.{received}
+
+-- the parties that craft are below n
+abbrev pub AreCraftersBelow : ℕ → Move → Type 0
+AreCraftersBelow n (Craft a lock via onto) = IsTrue (list_all (λ v. nat_lt v n) via)
+AreCraftersBelow n _ = Unit {0}
+
+-- A move stands on one of so many arcs, and the parties that craft are among so many.
+pub record CanStand (arcs parties : ℕ) (mv : Move) : Type 0 where
+  pub arc : arc_of mv < arcs
+  pub crafters : AreCraftersBelow parties mv
+
+-- the parties that craft have seeds
+abbrev pub AreSeeded : Seeds → Move → Type 0
+AreSeeded seeds (Craft a lock via onto) = IsTrue (list_all (λ v. is_some (slice_index_or seeds v None)) via)
+AreSeeded seeds _ = Unit {0}
+
+-- what a move keeps to before it is known where it stands
+pub record IsMade (d : Deal) (seeds : Seeds) (line : ℕ) (mv : Move) : Type 0 where
+  pub arc : arc_of mv < length d.graph.arcs
+  pub below : AreCraftersBelow d.graph.n mv
+  pub names : (u : Unit {0}) → received d.graph.arcs line mv ≡ Ok u → AreSeeded seeds mv → NamesFitting d seeds mv

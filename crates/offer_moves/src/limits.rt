@@ -1,0 +1,147 @@
+//! Numbers in their ranges, and values in hexadecimal.
+
+ghost use Rattle.std.specs.Prelude.{◌≡◌, ◌<◌, ◌≤◌, ◌^◌, ℕ, List, length, codes};
+ghost use Rattle.swap_base.specs.Fault.{Gives};
+ghost use Rattle.offer_fields.specs.Limits.{digest_of, number_within};
+ghost use Rattle.offer_fields.specs.Lists.{each_of};
+ghost use Rattle.offer_moves.specs.Limits.{number_below, optional_most, kept, locks_of, optional_locks, sig_of};
+
+use escrow_core::LockList;
+use hash_signature::Sig;
+use hashkey_path::SigList;
+use hex::FromHex;
+use offer_fields::{TextRef, digest_in, number_within, within};
+use refusals::{OfferFault, over_limit, wrong_hex};
+use std::alloc::Global;
+use swap_base::{Digest, Listed};
+
+/// A number that is below a count, kept in a byte.
+#[tactic(auto, unfolding(crate::specs::Limits::number_below))]
+pub fn number_below(
+    alloc: Global,
+    line: u32,
+    field: &str,
+    count: usize,
+    number: u64,
+) -> Result<u8, OfferFault>
+    ensures { Gives (λ n. n) result (number_below line field.now count number) }
+{
+    if number < count as u64 {
+        return Ok((number % 256) as u8);
+    }
+    Err(over_limit(alloc, line, field.as_bytes(), number))
+}
+
+/// A number of up to a million, where there is one.
+pub fn optional_most(
+    alloc: Global,
+    line: u32,
+    field: &str,
+    number: Option<u64>,
+) -> Result<Option<u32>, OfferFault>
+    ensures { Gives (λ o. o) result (optional_most line field.now 1000000 number) }
+{
+    match number {
+        None => Ok(None),
+        Some(number) => Ok(Some(number_within(alloc, line, field, 0, 1_000_000, number)?)),
+    }
+}
+
+/// Units, at most 10^12.
+#[tactic(auto, unfolding(offer_fields::specs::Limits::number_within))]
+pub fn units(alloc: Global, line: u32, field: &str, number: u64) -> Result<u64, OfferFault>
+    ensures { Gives (λ n. n) result (number_within line field.now 0 1000000000000 number) }
+{
+    within(alloc, line, field, 0, 1_000_000_000_000, number)?;
+    Ok(number)
+}
+
+/// Units, where there are any.
+pub fn optional_units(
+    alloc: Global,
+    line: u32,
+    field: &str,
+    number: Option<u64>,
+) -> Result<Option<u64>, OfferFault>
+    ensures { Gives (λ o. o) result (optional_most line field.now 1000000000000 number) }
+{
+    match number {
+        None => Ok(None),
+        Some(number) => Ok(Some(units(alloc, line, field, number)?)),
+    }
+}
+
+#[tactic(auto, using(offer_fields::proofs::Lists::goes_on, offer_fields::proofs::Lists::ends, offer_fields::proofs::Lists::is_done))]
+fn digests_of(alloc: Global, line: u32, texts: &[TextRef<'_>]) -> Result<Listed<Digest>, OfferFault>
+    ensures { Gives (λ l. l) result (each_of (digest_of line (codes "locks")) texts.now) }
+{
+    let mut digests = Vec::new(alloc);
+    for text in texts {
+        digests.push(digest_in(alloc, line, "locks", text.as_slice())?)?;
+    }
+    Ok(Listed::new(digests))
+}
+
+/// The digests, as many as a contract may have.
+fn kept(digests: &[Digest]) -> LockList
+    ensures { result ≡ kept digests.now }
+{
+    if digests.len() <= 8 {
+        return LockList::from_slice(digests);
+    }
+    LockList::new()
+}
+
+/// One digest for each lock.
+#[tactic(auto, unfolding(crate::specs::Limits::locks_of))]
+fn locks_of(
+    alloc: Global,
+    line: u32,
+    count: usize,
+    texts: &[TextRef<'_>],
+) -> Result<LockList, OfferFault>
+    ensures { Gives (λ l. l) result (locks_of line count texts.now) }
+{
+    let count = count as u64;
+    within(alloc, line, "locks", count, count, texts.len() as u64)?;
+    let digests = digests_of(alloc, line, texts)?;
+    Ok(kept(digests.as_slice()))
+}
+
+/// One digest for each lock, where they are given.
+pub fn optional_locks(
+    alloc: Global,
+    line: u32,
+    count: usize,
+    texts: &Option<Listed<TextRef<'_>>>,
+) -> Result<Option<LockList>, OfferFault>
+    ensures { Gives (λ o. o) result (optional_locks line count texts.now) }
+{
+    match texts {
+        None => Ok(None),
+        Some(texts) => Ok(Some(locks_of(alloc, line, count, texts.as_slice())?)),
+    }
+}
+
+/// A signature.
+#[tactic(auto, unfolding(crate::specs::Limits::sig_of))]
+fn sig_of(alloc: Global, line: u32, text: &[u8]) -> Result<Sig, OfferFault>
+    ensures { Gives (λ s. s) result (sig_of line text.now) }
+{
+    match <[u8; 2144] as FromHex>::from_hex(text) {
+        Ok(bytes) => Ok(Sig::from_bytes(&bytes)),
+        Err(_) => Err(wrong_hex(alloc, line, b"sigs")),
+    }
+}
+
+/// Signatures.
+#[tactic(auto, using(offer_fields::proofs::Lists::goes_on, offer_fields::proofs::Lists::ends, offer_fields::proofs::Lists::is_done))]
+pub fn sigs_of(alloc: Global, line: u32, texts: &[TextRef<'_>]) -> Result<SigList, OfferFault>
+    ensures { Gives (λ l. l) result (each_of (sig_of line) texts.now) }
+{
+    let mut sigs = Vec::new(alloc);
+    for text in texts {
+        sigs.push(sig_of(alloc, line, text.as_slice())?)?;
+    }
+    Ok(Listed::new(sigs))
+}

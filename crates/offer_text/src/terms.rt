@@ -1,0 +1,136 @@
+//! The JSON of a publish: just the terms that were given.
+
+ghost use Rattle.std.specs.Prelude.{◌≡◌, ℕ, List, IfOk, OnOk, codes};
+ghost use Rattle.serde_json.specs.Data.{member, no_members};
+ghost use Rattle.serde_json.specs.View.{view, members_view};
+ghost use Rattle.deviator_script.specs.declared.moves.Move.TheVariants.{Publish as publishes};
+ghost use Rattle.offer_text.specs.Words.{digest_data, list_data, number_data, with_optional, IsBelow};
+ghost use Rattle.offer_text.specs.Moves.{move_data};
+
+use crate::fields::{put_first, put_number, put_text};
+use crate::words::digest_value;
+use escrow_core::LockList;
+use serde_json::{Map, Value};
+use std::alloc::Global;
+use swap_base::{ArcId, NoMemory};
+
+/// Puts a number before the others, where it is there.
+fn put_optional_number(
+    alloc: Global,
+    fields: &mut Map<String, Value>,
+    name: &str,
+    number: Option<u32>,
+) -> Result<(), NoMemory>
+    requires { IsBelow name.now (members_view fields.old.entries) }
+    ensures { OnOk result (members_view fields.new.entries ≡ with_optional name.now number_data number (members_view fields.old.entries)) }
+{
+    match number {
+        None => Ok(()),
+        Some(number) => put_number(alloc, fields, name, number as u64),
+    }
+}
+
+/// Puts units before the others, where they are there.
+fn put_amount(
+    alloc: Global,
+    fields: &mut Map<String, Value>,
+    amount: Option<u64>,
+) -> Result<(), NoMemory>
+    requires { IsBelow (codes "amount") (members_view fields.old.entries) }
+    ensures { OnOk result (members_view fields.new.entries ≡ with_optional (codes "amount") number_data amount (members_view fields.old.entries)) }
+{
+    match amount {
+        None => Ok(()),
+        Some(amount) => put_number(alloc, fields, "amount", amount),
+    }
+}
+
+/// The digits of hashlocks, as a list.
+fn locks_value(alloc: Global, locks: &LockList) -> Result<Value, NoMemory>
+    ensures { IfOk result (λ v. view v ≡ list_data digest_data locks.now) }
+{
+    let mut list = Vec::new(alloc);
+    'locks: for lock in 0..locks.len() {
+        list.push(digest_value(alloc, &locks.get(lock))?)?;
+    }
+    Ok(Value::Array(list))
+}
+
+/// Puts hashlocks before the others, where they are there.
+fn put_locks(
+    alloc: Global,
+    fields: &mut Map<String, Value>,
+    locks: &Option<LockList>,
+) -> Result<(), NoMemory>
+    requires { IsBelow (codes "locks") (members_view fields.old.entries) }
+    ensures { OnOk result (members_view fields.new.entries
+        ≡ with_optional (codes "locks") (list_data digest_data) locks.now (members_view fields.old.entries)) }
+{
+    match locks {
+        None => Ok(()),
+        Some(locks) => {
+            let value = locks_value(alloc, locks)?;
+            put_first(alloc, fields, "locks", value)
+        }
+    }
+}
+
+/// The fields that come last.
+fn put_last_terms(
+    alloc: Global,
+    fields: &mut Map<String, Value>,
+    locks: &Option<LockList>,
+    start: Option<u32>,
+    timelock: Option<u32>,
+) -> Result<(), NoMemory>
+    requires { members_view fields.old.entries ≡ no_members }
+    ensures { OnOk result (members_view fields.new.entries ≡ with_optional (codes "locks") (list_data digest_data) locks.now
+        (with_optional (codes "start") number_data start (with_optional (codes "timelock") number_data timelock no_members))) }
+{
+    put_optional_number(alloc, fields, "timelock", timelock)?;
+    put_optional_number(alloc, fields, "start", start)?;
+    put_locks(alloc, fields, locks)
+}
+
+/// The fields that come first.
+fn put_first_terms(
+    alloc: Global,
+    fields: &mut Map<String, Value>,
+    amount: Option<u64>,
+    arc: ArcId,
+    bound: Option<u32>,
+    delta: Option<u32>,
+) -> Result<(), NoMemory>
+    requires delta { IsBelow (codes "delta") (members_view fields.old.entries) }
+    requires bound { IsBelow (codes "bound") (members_view fields.old.entries) }
+    requires arc { IsBelow (codes "arc") (members_view fields.old.entries) }
+    ensures { OnOk result (members_view fields.new.entries ≡ with_optional (codes "amount") number_data amount
+        (member (codes "arc") (number_data arc) (with_optional (codes "bound") number_data bound
+        (with_optional (codes "delta") number_data delta (members_view fields.old.entries))))) }
+{
+    put_optional_number(alloc, fields, "delta", delta)?;
+    put_optional_number(alloc, fields, "bound", bound)?;
+    put_number(alloc, fields, "arc", arc as u64)?;
+    put_amount(alloc, fields, amount)
+}
+
+/// A publish.
+#[tactic(auto, unfolding(crate::specs::Moves::move_data))]
+pub(crate) fn publish_value(
+    alloc: Global,
+    arc: ArcId,
+    start: Option<u32>,
+    delta: Option<u32>,
+    bound: Option<u32>,
+    timelock: Option<u32>,
+    amount: Option<u64>,
+    locks: &Option<LockList>,
+) -> Result<Value, NoMemory>
+    ensures { IfOk result (λ v. (names : List (List ℕ)) → view v ≡ move_data names (publishes arc start delta bound timelock amount locks.now)) }
+{
+    let mut fields = Map::new(alloc);
+    put_last_terms(alloc, &mut fields, locks, start, timelock)?;
+    put_text(alloc, &mut fields, "do", "publish")?;
+    put_first_terms(alloc, &mut fields, amount, arc, bound, delta)?;
+    Ok(Value::Object(fields))
+}

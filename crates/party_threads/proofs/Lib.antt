@@ -1,0 +1,13 @@
+pub mod Turning
+pub mod Placing
+pub mod Sharing
+pub mod Seating
+pub mod Rounding
+pub mod Rounded
+pub mod Viewing
+pub mod Racing
+pub mod Running
+pub mod Starting
+pub mod Staffing
+pub mod Playing
+pub mod Crossing

@@ -1,0 +1,166 @@
+-- Races keep what they promise: by the laws of rounds, which are in time with a round's ticks and a slack of as many.
+use Rattle.std.proofs.Common.{◌≡◌, ℕ, zero, suc, ◌+◌, ◌*◌, ◌<◌, ◌≤◌, true, false, List, [], ◌∷◌, ◌++◌, length, refl, sym, ap, ◌∙◌, subst, arith, ◌⊎◌, inl, inr}
+use Rattle.std.proofs.Math.Nat.{lt-mul-div-succ, mul_comm}
+use Rattle.std.proofs.Math.ListN.{get_or-eq_default}
+use Rattle.std.proofs.lemmas.List.Sums.{sum_by-append}
+use Rattle.swap_base.specs.Lists.{IsIn}
+use Rattle.swap_base.proofs.Lists.{from_range, in_range, below_or}
+use Rattle.swap_digraph.specs.Graph.{arcs}
+use Rattle.escrow_core.specs.declared.reply.Reply.TheVariants.{Accepted}
+use Rattle.ledger_core.specs.declared.entry.Entry.{Entry}
+use Rattle.ledger_core.specs.History.{height, ticks_in}
+use Rattle.ledger_core.specs.Ledger.{tick_entry}
+use Rattle.ledger_core.specs.Book.{history}
+use Rattle.ledger_shared.specs.Value.{made_by, ticks_in_order}
+use Rattle.swap_rules.specs.Due.{due}
+use Rattle.swap_laws.specs.Machine.{Knows}
+use Rattle.swap_laws.specs.Rounds.{IsRounds, IsTurn, IsDoneBy}
+use Rattle.swap_laws.proofs.Rounds.{rounds_in_time, rounds_on_time}
+use Rattle.swap_laws.proofs.Dealing.{all_dealt}
+use Rattle.party_wallet.specs.Value.{signed_in}
+use Rattle.swap_run.specs.Run.{Cast, State, conforms, role_of, is_planned, notes_of, start}
+use Rattle.swap_run.specs.Laws.{IsReadyCast, IsGood}
+use Rattle.swap_run.specs.Fair.{the_horizon}
+use Rattle.swap_run.proofs.Acts.{first_none}
+use Rattle.swap_run.proofs.Good.{start_is_good, good_is_kept, empty_at}
+use Rattle.party_threads.specs.Race.{rounds_for, IsRound, IsRaced, IsRaceBook, RacesAreKept, ticks_of_rounds}
+use Rattle.race_turns.specs.Played.{Gives}
+use Rattle.party_threads.specs.Views.{PlaysByViews}
+use Rattle.race_turns.proofs.Clocks.{height_of_ticks}
+use Rattle.party_threads.proofs.Viewing.{plays_by_views}
+
+height_append : (h k : List Entry) → height (h ++ k) ≡ height h + height k
+height_append h k = sum_by-append (λ (e : Entry). ticks_in e.what) h k
+
+height_of_rounds : (ticks r : ℕ) → height (ticks_of_rounds ticks r) ≡ r * ticks
+height_of_rounds ticks zero = omega arith
+height_of_rounds ticks (suc r) =
+    let more = height_append (ticks_of_rounds ticks r) (tick_entry ticks (suc r * ticks) Accepted ∷ []) in
+    let here = height_of_rounds ticks r in
+    omega arith
+
+module _ (gives : Gives) (c : Cast) (ticks rounds : ℕ) (ready : IsReadyCast c) (some : 1 ≤ ticks) (states : ℕ → State) (first : states 0 ≡ start c)
+    (each : (r : ℕ) → r < rounds → IsRound gives c ticks (states r) (states (r + 1))) where
+  next : (r : ℕ) → suc r ≡ r + 1
+  next r = omega arith
+
+  step : (r : ℕ) → r < rounds → IsRound gives c ticks (states r) (states (suc r))
+  step r l = subst (λ n. IsRound gives c ticks (states r) (states n)) (sym (next r)) (each r l)
+
+  good : (r : ℕ) → r ≤ rounds → IsGood c (states r)
+  good zero l = subst (IsGood c) (sym first) (start_is_good c ready)
+  good (suc r) l = (step r (omega (arith, l))).good
+
+  at_start : (a : ℕ) → history (states 0).book a ≡ []
+  at_start a = ap (λ (s : State). history s.book a) first ∙ empty_at c.deal a
+
+  below : (r a : ℕ) → r ≤ rounds → IsIn a (arcs c.deal.graph) → a < length (states r).book
+  below r a l i = subst (λ n. a < n) (sym (good r l).legal.one_each) (from_range a (length c.deal.graph.arcs) i)
+
+  level_of : (r a : ℕ) → r ≤ rounds → IsIn a (arcs c.deal.graph) → ticks_in_order (history (states r).book a) ≡ ticks_of_rounds ticks r
+      → height (history (states r).book a) ≡ r * ticks
+  level_of r a l i e = height_of_ticks c.deal a (history (states r).book a) ((good r l).legal.legal a (below r a l i)) ∙
+      (ap height e ∙ height_of_rounds ticks r)
+
+  ticked : (r a : ℕ) → r ≤ rounds → IsIn a (arcs c.deal.graph) → ticks_in_order (history (states r).book a) ≡ ticks_of_rounds ticks r
+  ticked zero a l i = ap ticks_in_order (at_start a)
+  ticked (suc r) a l i =
+      let before = ticked r a (omega (arith, l)) i in
+      let level = level_of r a (omega (arith, l)) i before in
+      let sums : r * ticks + ticks ≡ suc r * ticks = omega arith in
+      (step r (omega (arith, l))).ticked a i
+      ∙ (ap (λ h. h ++ tick_entry ticks (height (history (states r).book a) + ticks) Accepted ∷ []) before
+      ∙ ap (λ n. ticks_of_rounds ticks r ++ tick_entry ticks n Accepted ∷ []) (ap (λ n. n + ticks) level ∙ sums))
+
+  level : (r a : ℕ) → r ≤ rounds → IsIn a (arcs c.deal.graph) → height (history (states r).book a) ≡ r * ticks
+  level r a l i = level_of r a l i (ticked r a l i)
+
+  unmade : (r v a : ℕ) → r ≤ rounds → v < c.deal.graph.n → conforms c v ≡ false → is_planned (role_of c v) ≡ false → made_by v (history (states r).book a) ≡ []
+  unmade zero v a l lv e p = ap (made_by v) (at_start a)
+  unmade (suc r) v a l lv e p = (step r (omega (arith, l))).others v a lv e p ∙ unmade r v a (omega (arith, l)) lv e p
+
+  low : (r v a : ℕ) → r < rounds → v < c.deal.graph.n → conforms c v ≡ true → height (history (notes_of (states (suc r)) v).known a) ≤ r * ticks + ticks
+  low r v a l lv cv = go (below_or a (length c.deal.graph.arcs))
+    where
+      know : Knows v (history (notes_of (states (suc r)) v).known a) (history (states (suc r)).book a)
+      know = ((step r l).good.notes v lv cv).knows a
+
+      split : height (history (states (suc r)).book a) ≡ height (history (notes_of (states (suc r)) v).known a) + height know.rest
+      split = ap height know.whole ∙ height_append (history (notes_of (states (suc r)) v).known a) know.rest
+
+      go : (a < length c.deal.graph.arcs) ⊎ (length c.deal.graph.arcs ≤ a) → height (history (notes_of (states (suc r)) v).known a) ≤ r * ticks + ticks
+      go (inl lt) = let h = level (suc r) a (omega (arith, l)) (in_range a (length c.deal.graph.arcs) lt) in omega (arith, h, split)
+      go (inr ge) =
+          let none : history (states (suc r)).book a ≡ [] = get_or-eq_default (states (suc r)).book []
+          (subst (λ n. n ≤ a) (sym (step r l).good.legal.one_each) ge) in
+          let h : height (history (states (suc r)).book a) ≡ 0 = ap height none in
+          omega (arith, h, split)
+
+  turn : (r v : ℕ) → r < rounds → v < c.deal.graph.n → conforms c v ≡ true
+      → IsTurn c.deal v (c.wallet v) (states r).book (states (suc r)).book (r * ticks + ticks)
+  turn r v l lv cv =
+      let n = notes_of (states (suc r)) v in
+      record {
+        known = n.known;
+        signed = signed_in n.signed;
+        seen = λ a near. (step r l).seen v a lv cv near;
+        knows = ((step r l).good.notes v lv cv).knows;
+        done = first_none (due c.deal v (c.wallet v) (signed_in n.signed) n.known) ((step r l).rests v lv cv);
+        top = λ a. low r v a l lv cv;
+      }
+
+  rounds_of : (v : ℕ) → v < c.deal.graph.n → conforms c v ≡ true → IsRounds c.deal v (c.wallet v) ticks ticks rounds (λ r. (states r).book)
+  rounds_of v lv cv = record {
+    legal = λ r l. (good r l).legal;
+    conducted = (good_is_kept c (states rounds) ready (good rounds (omega arith))).conducted v lv cv;
+    grows = λ r a l. (each r l).grows a;
+    at = λ r a l i. level r a l i;
+    turn = λ r l. subst (λ n. IsTurn c.deal v (c.wallet v) (states r).book (states n).book (r * ticks + ticks)) (next r) (turn r v l lv cv);
+  }
+
+  kept : the_horizon c.deal < rounds * ticks → rounds ≡ rounds_for c.deal ticks → IsRaceBook gives c ticks (states rounds).book
+  kept past is =
+      let whole = good rounds (omega arith) in
+      let kept = good_is_kept c (states rounds) ready whole in
+      let ended : (a : ℕ) → a < length c.deal.graph.arcs → the_horizon c.deal < height (history (states rounds).book a) =
+      λ a l. let h = level rounds a (omega arith) (in_range a (length c.deal.graph.arcs) l) in omega (arith, h, past) in
+      let on_time = λ (two : 2 * ticks ≤ c.deal.delta) (v : ℕ) (lv : v < c.deal.graph.n) (cv : conforms c v ≡ true).
+      rounds_on_time c.deal v (c.wallet v) ticks ticks rounds (λ r. (states r).book) ready.accepted some (omega (arith, two)) (rounds_of v lv cv) in
+      record {
+        legal = whole.legal;
+        ticked = λ a i. ticked rounds a (omega arith) i ∙ ap (ticks_of_rounds ticks) is;
+        ended = ended;
+        conducted = kept.conducted;
+        others = λ v a lv e p. unmade rounds v a (omega arith) lv e p;
+        played = λ v lv e p. subst (λ n. PlaysByViews gives c ticks n (states rounds).book v) is
+            (plays_by_views gives c ticks rounds states v lv ready first (λ r l. good r l) (λ r a l la. level r a l (in_range a (length c.deal.graph.arcs) la))
+            (λ r a l. (each r l).grows a) (λ r l. (each r l).played v lv e p));
+        in_time = λ v rule a ref lv cv ir ia e.
+            let two : ref + ticks + ticks ≡ ref + 2 * ticks = omega arith in
+            subst (IsDoneBy c.deal (states rounds).book v rule a) two
+            (rounds_in_time c.deal v (c.wallet v) ticks ticks rounds (λ r. (states r).book) ready.accepted some (rounds_of v lv cv) rule a ref ir ia e);
+        on_time = on_time;
+        dealt = λ two all. all_dealt c.deal (conforms c) (states rounds).book ready.accepted whole.legal ended (λ v lv. kept.conducted v lv (all v lv))
+            (λ v lv. on_time two v lv (all v lv));
+      }
+
+pub races_are_kept : RacesAreKept
+races_are_kept gives c ticks t ready some raced =
+    let past : the_horizon c.deal < rounds_for c.deal ticks * ticks =
+    subst (λ n. the_horizon c.deal < n) (mul_comm ticks (rounds_for c.deal ticks)) (lt-mul-div-succ (the_horizon c.deal) some) in
+    subst (λ (s : State). IsRaceBook gives c ticks s.book) raced.last
+    (kept gives c ticks (rounds_for c.deal ticks) ready some raced.states raced.first raced.each past refl)
+
+-- after so many rounds, whether they pass the horizon or not
+pub level_after : (gives : Gives) (c : Cast) (ticks r : ℕ) (t : State) → IsReadyCast c → 1 ≤ ticks → IsRaced gives c ticks r t → (a : ℕ)
+    → IsIn a (arcs c.deal.graph) → height (history t.book a) ≡ r * ticks
+level_after gives c ticks r t ready some raced a i =
+    subst (λ (s : State). height (history s.book a) ≡ r * ticks) raced.last
+    (level gives c ticks r ready some raced.states raced.first raced.each r a (omega arith) i)
+
+pub ticked_after : (gives : Gives) (c : Cast) (ticks r : ℕ) (t : State) → IsReadyCast c → 1 ≤ ticks → IsRaced gives c ticks r t → (a : ℕ)
+    → IsIn a (arcs c.deal.graph)
+    → ticks_in_order (history t.book a) ≡ ticks_of_rounds ticks r
+ticked_after gives c ticks r t ready some raced a i =
+    subst (λ (s : State). ticks_in_order (history s.book a) ≡ ticks_of_rounds ticks r) raced.last
+    (ticked gives c ticks r ready some raced.states raced.first raced.each r a (omega arith) i)

@@ -1,0 +1,208 @@
+-- How a race begins.
+use Rattle.std.proofs.Common.{zero-add, ◌≡◌, ℕ, ◌+◌, ◌<◌, Bool, true, false, List, [], ◌∷◌, ◌++◌, length, map, replicate, slice_get, get_or, slice_index_or}
+use Rattle.std.proofs.Common.{is_some, Option, Some, None, refl, sym, ap, ◌∙◌, subst, arith, if◌then◌else◌}
+use Rattle.std.specs.List.{range_with_len}
+use Rattle.std.proofs.lemmas.List.{length-map, get_or-map, length-replicate, get_or-replicate, same_lists}
+use Rattle.std.proofs.lemmas.List.FromFn.{get_or-map-range_with_len, length-map-range_with_len}
+use Rattle.std.proofs.lemmas.Bool.{false≢true}
+use Rattle.swap_digraph.specs.declared.deal.Deal.{Deal}
+use Rattle.ledger_core.specs.Value.{LedgerState}
+use Rattle.ledger_core.specs.Book.{Histories, history}
+use Rattle.deviator_script.specs.declared.job.Job.{Job}
+use Rattle.deviator_script.specs.declared.job.Role.{Role}
+use Rattle.deviator_script.specs.declared.job.Role.TheVariants as kinds
+use Rattle.party_wallet.specs.Fits.{wrong_lock}
+use Rattle.swap_rules.specs.Accepted.{IsAccepted}
+use Rattle.swap_laws.specs.Machine.{IsWallet}
+use Rattle.swap_laws.proofs.Conducting.{knows_all}
+use Rattle.swap_run.specs.Run.{Notes, Plan, State, no_notes, no_histories, first_plan, is_planned, start}
+use Rattle.swap_run.specs.Laws.{IsReadyCast, IsGood}
+use Rattle.swap_run.proofs.Good.{start_is_good, replicated}
+use Rattle.swap_world.specs.Acting.{histories}
+use Rattle.swap_world.specs.Cast.{cast_of, is_conforming, wallet_with}
+use Rattle.swap_world.specs.Inside.{new_ledger, new_ledgers}
+use Rattle.swap_world.specs.Staff.{role_in, HaveSeeds, HaveRoles}
+use Rattle.swap_world.proofs.Ledgers.{none_yet}
+use Rattle.swap_world.proofs.Team.{role_each}
+use Rattle.party_machine.proofs.Good.{fitting_is_good}
+use Rattle.party_threads.specs.declared.turn.Actor.{Actor}
+use Rattle.party_threads.specs.declared.turn.Actor.TheVariants.{Clock}
+use Rattle.party_threads.specs.declared.turn.Turn.{Turn}
+use Rattle.party_threads.specs.Turns.{actor_of, passes_of, clocks_of, actor_at, ledger_at, IsHome}
+use Rattle.party_threads.specs.Standing.{book_in, notes_in, notes_at, plan_in, plan_at, state_of, IsActorIn, KnowsOwn, Stands}
+use Rattle.party_threads.specs.Staff.{wrong_with, AllFit, by_role, acts_with, acts_for, IsNewTurn, AreNew}
+use Rattle.swap_digraph.proofs.Ranges.{map_more}
+use Rattle.party_threads.proofs.Turning.{get_there}
+use Rattle.party_threads.proofs.Placing.{map_append}
+
+some_histories : (ls : List LedgerState) → book_in (map (λ l. Some l) ls) ≡ histories ls
+some_histories [] = refl
+some_histories (l ∷ ls) = ap (λ hs. l.history ∷ hs) (some_histories ls)
+
+pub one_ledger_more : (d : Deal) (k : ℕ) (ls ls' : List (Option LedgerState)) (l : LedgerState)
+    → ls ≡ map (λ l. Some l) (map (new_ledger d) (range_with_len 0 k)) → l ≡ new_ledger d k → ls' ≡ ls ++ Some l ∷ []
+    → ls' ≡ map (λ l. Some l) (map (new_ledger d) (range_with_len 0 (k + 1)))
+one_ledger_more d k ls ls' l so_far is more =
+    let all = map (new_ledger d) (range_with_len 0 k) in
+    more ∙ (ap (λ x. ls ++ Some x ∷ []) is ∙ (ap (λ xs. xs ++ Some (new_ledger d k) ∷ []) so_far
+    ∙ (sym (map_append (λ (x : LedgerState). Some x) all (new_ledger d k ∷ []))
+    ∙ ap (map (λ (x : LedgerState). Some x)) (map_more (new_ledger d) k all (all ++ new_ledger d k ∷ []) refl refl))))
+
+-- What acts for a party.
+
+pub record Acts (job : Job) (v : ℕ) (x : Actor) : Type 0 where
+  pub is : IsActorIn job v x
+  pub notes : notes_in job.deal x ≡ no_notes job.deal
+  pub plan : plan_in job.deal x ≡ first_plan job.deal (role_in job v)
+  pub own : KnowsOwn v x (no_histories job.deal)
+  pub wallet : slice_index_or job.conforming v false ≡ true
+      → (seed : List ℕ) × (slice_index_or job.seeds v None ≡ Some seed) × (wrong_lock job.deal v seed ≡ None)
+
+by_itself : (job : Job) (v : ℕ) (role : Role) → slice_index_or job.conforming v false ≡ false → role_in job v ≡ role → Acts job v (by_role job.deal role)
+by_itself job v kinds.Conforming ec er = record {
+  is = (ec, ap is_planned er);
+  notes = refl;
+  plan = sym (ap (first_plan job.deal) er);
+  own = tt;
+  wallet = λ t. absurd (false≢true (sym ec ∙ t));
+}
+by_itself job v kinds.Manual ec er = record {
+  is = (ec, ap is_planned er);
+  notes = refl;
+  plan = sym (ap (first_plan job.deal) er);
+  own = tt;
+  wallet = λ t. absurd (false≢true (sym ec ∙ t));
+}
+by_itself job v (kinds.Script moves) ec er = record {
+  is = (ec, ap is_planned er);
+  notes = refl;
+  plan = sym (ap (first_plan job.deal) er);
+  own = λ a. knows_all v (history (no_histories job.deal) a);
+  wallet = λ t. absurd (false≢true (sym ec ∙ t));
+}
+by_itself job v (kinds.Strategy name) ec er = record {
+  is = (ec, ap is_planned er);
+  notes = refl;
+  plan = sym (ap (first_plan job.deal) er);
+  own = λ a. knows_all v (history (no_histories job.deal) a);
+  wallet = λ t. absurd (false≢true (sym ec ∙ t));
+}
+
+-- the plan of a party that conforms is one of no moves
+no_moves : (d : Deal) (role : Role) → is_conforming role ≡ true → first_plan d kinds.Manual ≡ first_plan d role
+no_moves d kinds.Conforming e = refl
+no_moves d kinds.Manual e = absurd (cc e)
+no_moves d (kinds.Script moves) e = absurd (cc e)
+no_moves d (kinds.Strategy name) e = absurd (cc e)
+
+acts_by : (job : Job) (v : ℕ) (b : Bool) (o : Option (List ℕ)) → slice_index_or job.conforming v false ≡ b → slice_index_or job.seeds v None ≡ o
+    → b ≡ is_conforming (role_in job v) → (b ≡ true → is_some o ≡ true) → (if b then wrong_with job.deal v o else None) ≡ None
+    → Acts job v (if b then acts_with job.deal (role_in job v) v o else by_role job.deal (role_in job v))
+acts_by job v false o eb eo er there fits = by_itself job v (role_in job v) eb refl
+acts_by job v true None eb eo er there fits = absurd (false≢true (there refl))
+acts_by job v true (Some seed) eb eo er there fits = record {
+  is = (eb, refl, refl, eo);
+  notes = refl;
+  plan = no_moves job.deal (role_in job v) (sym er);
+  own = tt;
+  wallet = λ t. (seed, eo, fits);
+}
+
+module _ (job : Job) (ts : List Turn) (accepted : IsAccepted job.deal) (seeds : HaveSeeds job) (roles : HaveRoles job) (fit : AllFit job)
+    (new : AreNew job ts) where
+  abbrev d : Deal
+  d = job.deal
+
+  abbrev ls : List (Option LedgerState)
+  ls = map (λ l. Some l) (new_ledgers d)
+
+  role_is : (v : ℕ) → v < d.graph.n → slice_index_or job.conforming v false ≡ is_conforming (role_in job v)
+  role_is v lv =
+      ap (λ (bs : List Bool). get_or bs v false) roles.conforming
+      ∙ get_or-map is_conforming job.roles v kinds.Manual false (subst (λ n. v < n) (sym (role_each job seeds roles)) lv)
+
+  acts_at : (v : ℕ) → v < d.graph.n → Acts job v (acts_for job v)
+  acts_at v lv =
+      acts_by job v (slice_index_or job.conforming v false) (slice_index_or job.seeds v None) refl refl (role_is v lv) (seeds.there v lv) (fit v lv)
+
+  turn_at : (v : ℕ) → v < d.graph.n → (t : Turn) × (slice_get ts v ≡ Some t) × IsNewTurn d (acts_for job v) t
+  turn_at v lv = let n = new.number in let t = get_there ts v (omega (arith, n, lv)) in (t.0, t.1, new.each v t.0 lv t.1)
+
+  clock_turn : (t : Turn) × (slice_get ts d.graph.n ≡ Some t) × IsNewTurn d Clock t
+  clock_turn = let n = new.number in let t = get_there ts d.graph.n (omega (arith, n)) in (t.0, t.1, new.clock t.0 t.1)
+
+  actor_is : (v : ℕ) → v < d.graph.n → actor_at ts v ≡ acts_for job v
+  actor_is v lv = let t = turn_at v lv in ap actor_of t.1 ∙ t.2.actor
+
+  pub cast : IsReadyCast (cast_of job)
+  cast = record {
+    accepted = accepted;
+    one_each = seeds.conforming;
+    roles = role_each job seeds roles;
+    wallets = λ v lv t.
+        let f = (acts_at v lv).wallet t in
+        subst (λ o. IsWallet d v (wallet_with o v d)) (sym f.1) (fitting_is_good d v f.0 accepted lv f.2);
+    scripts = roles.scripts;
+  }
+
+  all_notes : map (notes_at d ts) (range_with_len 0 d.graph.n) ≡ replicate d.graph.n (no_notes d)
+  all_notes =
+      same_lists (map (notes_at d ts) (range_with_len 0 d.graph.n)) (replicate d.graph.n (no_notes d))
+      (length-map-range_with_len (notes_at d ts) 0 d.graph.n ∙ sym (length-replicate d.graph.n (no_notes d)))
+      (λ k x lt. at k x (subst (λ n. k < n) (length-map-range_with_len (notes_at d ts) 0 d.graph.n) lt))
+    where
+      at : (k : ℕ) (x : Notes) → k < d.graph.n → get_or (map (notes_at d ts) (range_with_len 0 d.graph.n)) k x ≡ get_or (replicate d.graph.n (no_notes d)) k x
+      at k x lt =
+          get_or-map-range_with_len (notes_at d ts) 0 d.graph.n k k x lt (zero-add k)
+          ∙ (ap (notes_in d) (actor_is k lt) ∙ ((acts_at k lt).notes ∙ sym (get_or-replicate d.graph.n k (no_notes d) x lt)))
+
+  all_plans : map (plan_at d ts) (range_with_len 0 d.graph.n) ≡ map (first_plan d) job.roles
+  all_plans =
+      same_lists (map (plan_at d ts) (range_with_len 0 d.graph.n)) (map (first_plan d) job.roles)
+      (length-map-range_with_len (plan_at d ts) 0 d.graph.n ∙ (sym (role_each job seeds roles) ∙ sym (length-map job.roles (first_plan d))))
+      (λ k x lt. at k x (subst (λ n. k < n) (length-map-range_with_len (plan_at d ts) 0 d.graph.n) lt))
+    where
+      at : (k : ℕ) (x : Plan) → k < d.graph.n → get_or (map (plan_at d ts) (range_with_len 0 d.graph.n)) k x ≡ get_or (map (first_plan d) job.roles) k x
+      at k x lt =
+          get_or-map-range_with_len (plan_at d ts) 0 d.graph.n k k x lt (zero-add k)
+          ∙ (ap (plan_in d) (actor_is k lt) ∙ ((acts_at k lt).plan
+          ∙ sym (get_or-map (first_plan d) job.roles k kinds.Manual x (subst (λ n. k < n) (sym (role_each job seeds roles)) lt))))
+
+  abbrev with_parts : Histories → List Notes → List Plan → State
+  with_parts b ns ps = record { book = b; notes = ns; plans = ps; asked = [] }
+
+  first_book : book_in ls ≡ no_histories d
+  first_book = some_histories (new_ledgers d) ∙ none_yet d
+
+  pub first_state : state_of job ls ts ≡ start (cast_of job)
+  first_state = λ i. with_parts (first_book i) (all_notes i) (all_plans i)
+
+  ledger_is : (a : ℕ) → a < length d.graph.arcs → ledger_at ls a ≡ Some (new_ledger d a)
+  ledger_is a lt =
+      get_or-map (λ (l : LedgerState). Some l) (new_ledgers d) a (new_ledger d a) None
+      (subst (λ n. a < n) (sym (length-map-range_with_len (new_ledger d) 0 (length d.graph.arcs))) lt)
+      ∙ ap (λ (l : LedgerState). Some l) (get_or-map-range_with_len (new_ledger d) 0 (length d.graph.arcs) a a (new_ledger d a) lt (zero-add a))
+
+  pub stands_first : Stands job ls ts
+  stands_first = record {
+    cast = cast;
+    home = record {
+      one_each = length-map (new_ledgers d) (λ (l : LedgerState). Some l) ∙ length-map-range_with_len (new_ledger d) 0 (length d.graph.arcs);
+      each = λ a lt. subst (IsHome d a) (sym (ledger_is a lt)) (record { deal = refl; arc = refl; legal = tt });
+    };
+    places = record {
+      actors = new.number;
+      passes = λ v lv. let t = turn_at v lv in ap (λ o. length (passes_of o)) t.1 ∙ (ap length t.2.passes ∙ length-replicate (length d.graph.arcs) None);
+      clocks = let t = clock_turn in ap (λ o. length (clocks_of o)) t.1 ∙ (ap length t.2.clocks ∙ length-replicate (length d.graph.arcs) None);
+    };
+    free = λ a lt. record {
+      passes = λ v lv. let t = turn_at v lv in ap (λ o. slice_index_or (passes_of o) a None) t.1 ∙
+          (ap (λ ps. slice_index_or ps a None) t.2.passes ∙ replicated (length d.graph.arcs) a None);
+      clock = let t = clock_turn in ap (λ o. slice_index_or (clocks_of o) a None) t.1 ∙
+          (ap (λ ps. slice_index_or ps a None) t.2.clocks ∙ replicated (length d.graph.arcs) a None);
+    };
+    actors = λ v lv. subst (IsActorIn job v) (sym (actor_is v lv)) (acts_at v lv).is;
+    clock = let t = clock_turn in ap actor_of t.1 ∙ t.2.actor;
+    good = subst (IsGood (cast_of job)) (sym first_state) (start_is_good (cast_of job) cast);
+    own = λ v lv. subst (λ (w : Actor × Histories). KnowsOwn v w.0 w.1) (λ i. (sym (actor_is v lv) i, sym first_book i)) (acts_at v lv).own;
+  }

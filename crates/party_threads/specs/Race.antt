@@ -1,0 +1,77 @@
+-- Races: rounds in which every party and the clock have their turns at once.
+use Rattle.std.specs.Prelude.{◌≡◌, ℕ, zero, suc, ◌+◌, ◌*◌, ◌/◌, ◌<◌, ◌≤◌, true, false, List, [], ◌∷◌, ◌++◌, Some, None}
+use Rattle.swap_base.specs.Lists.{IsIn}
+use Rattle.swap_digraph.specs.Graph.{arcs}
+use Rattle.swap_digraph.specs.declared.deal.Deal.{Deal}
+use Rattle.escrow_core.specs.declared.reply.Reply.TheVariants.{Accepted}
+use Rattle.ledger_core.specs.declared.entry.Entry.{Entry}
+use Rattle.ledger_core.specs.History.{height}
+use Rattle.ledger_core.specs.Ledger.{tick_entry}
+use Rattle.ledger_core.specs.Book.{Histories, history, IsLegalBook}
+use Rattle.ledger_shared.specs.Value.{made_by, ticks_in_order}
+use Rattle.swap_rules.specs.Outcome.{IsEnded}
+use Rattle.swap_rules.specs.declared.finding.Rule.{Rule}
+use Rattle.swap_rules.specs.Conduct.{IsConducted}
+use Rattle.swap_rules.specs.Late.{ref_of}
+use Rattle.swap_rules.specs.Findings.{rules_of}
+use Rattle.swap_laws.specs.Machine.{Begins}
+use Rattle.swap_laws.specs.Laws.{IsOnTime, IsDealt}
+use Rattle.swap_laws.specs.Rounds.{IsNear, IsDoneBy}
+use Rattle.swap_run.specs.Run.{Cast, State, conforms, role_of, is_planned, notes_of, next_of, start}
+use Rattle.swap_run.specs.Laws.{IsReadyCast, IsGood}
+use Rattle.swap_run.specs.Fair.{the_horizon}
+use Rattle.race_turns.specs.Played.{Gives}
+use Rattle.party_threads.specs.Views.{HasPlayed, PlaysByViews}
+
+-- the fewest rounds of so many ticks that pass the horizon
+abbrev pub rounds_for : Deal → ℕ → ℕ
+rounds_for d ticks = the_horizon d / ticks + 1
+
+-- What a round makes of the book and of what each conforming party has noted, whatever the order of the threads: every conforming party ends its turn with
+-- nothing due, past all that stood as the round began; a party that follows a script or a strategy makes at most the one call that answers its view; nobody
+-- else makes a call; and each ledger has one more tick.
+pub record IsRound (gives : Gives) (c : Cast) (ticks : ℕ) (s t : State) : Type 0 where
+  pub good : IsGood c t
+  pub grows : (a : ℕ) → Begins (history s.book a) (history t.book a)
+  pub ticked : (a : ℕ) → IsIn a (arcs c.deal.graph)
+      → ticks_in_order (history t.book a) ≡ ticks_in_order (history s.book a) ++ tick_entry ticks (height (history s.book a) + ticks) Accepted ∷ []
+  pub seen : (v a : ℕ) → v < c.deal.graph.n → conforms c v ≡ true → IsNear c.deal v a → Begins (history s.book a) (history (notes_of t v).known a)
+  pub rests : (v : ℕ) → v < c.deal.graph.n → conforms c v ≡ true → next_of c t v ≡ None
+  pub others : (v a : ℕ) → v < c.deal.graph.n → conforms c v ≡ false → is_planned (role_of c v) ≡ false
+      → made_by v (history t.book a) ≡ made_by v (history s.book a)
+  pub played : (v : ℕ) → v < c.deal.graph.n → conforms c v ≡ false → is_planned (role_of c v) ≡ true → HasPlayed gives c s t v
+
+-- The state after so many rounds from the start, with those between.
+pub record IsRaced (gives : Gives) (c : Cast) (ticks rounds : ℕ) (t : State) : Type 0 where
+  pub states : ℕ → State
+  pub first : states 0 ≡ start c
+  pub last : states rounds ≡ t
+  pub each : (r : ℕ) → r < rounds → IsRound gives c ticks (states r) (states (r + 1))
+
+-- the ticks of so many rounds
+abbrev pub ticks_of_rounds : ℕ → ℕ → List Entry
+ticks_of_rounds ticks zero = []
+ticks_of_rounds ticks (suc r) = ticks_of_rounds ticks r ++ tick_entry ticks (suc r * ticks) Accepted ∷ []
+
+-- What a race promises of its book, whatever the order of the threads.
+pub record IsRaceBook (gives : Gives) (c : Cast) (ticks : ℕ) (b : Histories) : Type 0 where
+  pub legal : IsLegalBook c.deal b
+  pub ticked : (a : ℕ) → IsIn a (arcs c.deal.graph) → ticks_in_order (history b a) ≡ ticks_of_rounds ticks (rounds_for c.deal ticks)
+  pub ended : IsEnded c.deal b
+  pub conducted : (v : ℕ) → v < c.deal.graph.n → conforms c v ≡ true → IsConducted c.deal b v
+  -- a party that follows a script or a strategy makes just the calls that answer its round views, and nobody else makes a call
+  pub played : (v : ℕ) → v < c.deal.graph.n → conforms c v ≡ false → is_planned (role_of c v) ≡ true → PlaysByViews gives c ticks (rounds_for c.deal ticks) b v
+  pub others : (v a : ℕ) → v < c.deal.graph.n → conforms c v ≡ false → is_planned (role_of c v) ≡ false → made_by v (history b a) ≡ []
+  -- what is enabled for a conforming party is done within two rounds' ticks, or its ledger isn't past that
+  pub in_time : (v : ℕ) (rule : Rule) (a ref : ℕ) → v < c.deal.graph.n → conforms c v ≡ true → IsIn rule (rules_of c.deal) → IsIn a (arcs c.deal.graph)
+      → ref_of c.deal b v rule a ≡ Some ref → IsDoneBy c.deal b v rule a (ref + 2 * ticks)
+  -- so that nobody conforming is late where two ticks fit in delta
+  pub on_time : 2 * ticks ≤ c.deal.delta → (v : ℕ) → v < c.deal.graph.n → conforms c v ≡ true → IsOnTime c.deal b v
+  -- and where all conform besides, nothing is found and everything moves
+  pub dealt : 2 * ticks ≤ c.deal.delta → ((v : ℕ) → v < c.deal.graph.n → conforms c v ≡ true) → IsDealt c.deal (conforms c) b
+
+-- rounds that pass the horizon keep all that a race promises
+abbrev pub RacesAreKept : Type 1
+RacesAreKept =
+    (gives : Gives) (c : Cast) (ticks : ℕ) (t : State) → IsReadyCast c → 1 ≤ ticks → IsRaced gives c ticks (rounds_for c.deal ticks) t
+    → IsRaceBook gives c ticks t.book

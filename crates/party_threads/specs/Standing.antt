@@ -1,0 +1,88 @@
+-- How a race stands between two rounds.
+use Rattle.std.specs.Prelude.{◌≡◌, ℕ, ◌+◌, ◌<◌, ◌≤◌, Bool, true, false, List, [], length, map, slice_index_or, Option, Some, None}
+use Rattle.std.specs.List.{range_with_len}
+use Rattle.swap_digraph.specs.declared.deal.Deal.{Deal}
+use Rattle.ledger_core.specs.declared.entry.Entry.{Entry}
+use Rattle.ledger_core.specs.History.{height}
+use Rattle.ledger_core.specs.Value.{LedgerState}
+use Rattle.ledger_core.specs.Book.{Histories, history}
+use Rattle.ledger_shared.specs.Value.{ticks_in_order}
+use Rattle.deviator_script.specs.declared.job.Job.{Job}
+use Rattle.deviator_script.specs.declared.job.Role.{Role}
+use Rattle.deviator_script.specs.declared.job.Role.TheVariants as kinds
+use Rattle.swap_run.specs.Run.{Notes, Plan, State, no_notes, first_plan, is_planned}
+use Rattle.swap_laws.specs.Machine.{Knows}
+use Rattle.swap_run.specs.Laws.{IsReadyCast, IsGood}
+use Rattle.swap_world.specs.Cast.{cast_of}
+use Rattle.swap_world.specs.Staff.{role_in}
+use Rattle.party_threads.specs.declared.turn.Actor.{Actor}
+use Rattle.party_threads.specs.declared.turn.Actor.TheVariants.{Conforming, Planned, Manual, Clock}
+use Rattle.party_threads.specs.declared.turn.Turn.{Turn}
+use Rattle.party_threads.specs.Turns.{actor_at, AreHome, HavePlaces, AreFree}
+
+abbrev pub history_in : Option LedgerState → List Entry
+history_in (Some l) = l.history
+history_in None = []
+
+abbrev pub book_in : List (Option LedgerState) → Histories
+book_in ls = map history_in ls
+
+-- what the party has noted, where it conforms
+abbrev pub notes_in : Deal → Actor → Notes
+notes_in d (Conforming m) = record { known = m.known; signed = m.signed }
+notes_in d _ = no_notes d
+
+abbrev pub notes_at : Deal → List Turn → ℕ → Notes
+notes_at d ts v = notes_in d (actor_at ts v)
+
+-- what the party plans, where it follows a script or a strategy
+abbrev pub plan_in : Deal → Actor → Plan
+plan_in d (Planned n) = n
+plan_in d _ = first_plan d kinds.Manual
+
+abbrev pub plan_at : Deal → List Turn → ℕ → Plan
+plan_at d ts v = plan_in d (actor_at ts v)
+
+abbrev pub state_of : Job → List (Option LedgerState) → List Turn → State
+state_of job ls ts = record {
+  book = book_in ls;
+  notes = map (notes_at job.deal ts) (range_with_len 0 job.deal.graph.n);
+  plans = map (plan_at job.deal ts) (range_with_len 0 job.deal.graph.n);
+  asked = [];
+}
+
+-- The actor is that of party v of the deal, which conforms or not, and has that seed and that role.
+abbrev pub IsActorOf : Deal → Bool → Option (List ℕ) → Role → ℕ → Actor → Type 0
+IsActorOf d conforms seed role v (Conforming m) = (conforms ≡ true) × (m.deal ≡ d) × (m.me ≡ v) × (seed ≡ Some m.seed)
+IsActorOf d conforms seed role v (Planned n) = (conforms ≡ false) × (is_planned role ≡ true)
+IsActorOf d conforms seed role v Manual = (conforms ≡ false) × (is_planned role ≡ false)
+IsActorOf d conforms seed role v Clock = ⊥
+
+-- The actor of party v of the job.
+abbrev pub IsActorIn : Job → ℕ → Actor → Type 0
+IsActorIn job v x = IsActorOf job.deal (slice_index_or job.conforming v false) (slice_index_or job.seeds v None) (role_in job v) v x
+
+-- what the actor v plans by holds all its calls
+abbrev pub KnowsOwn : ℕ → Actor → Histories → Type 0
+KnowsOwn v (Planned n) b = (a : ℕ) → Knows v (history n.known a) (history b a)
+KnowsOwn v _ b = Unit {0}
+
+-- Every ledger is at home, and nobody has a pass; what the parties know and did so far is good.
+pub record Stands (job : Job) (ls : List (Option LedgerState)) (ts : List Turn) : Type 0 where
+  pub cast : IsReadyCast (cast_of job)
+  pub home : AreHome job.deal ls
+  pub places : HavePlaces job.deal ts
+  pub free : AreFree job.deal ts
+  pub actors : (v : ℕ) → v < job.deal.graph.n → IsActorIn job v (actor_at ts v)
+  pub clock : actor_at ts job.deal.graph.n ≡ Clock
+  pub good : IsGood (cast_of job) (state_of job ls ts)
+  pub own : (v : ℕ) → v < job.deal.graph.n → KnowsOwn v (actor_at ts v) (book_in ls)
+
+-- The history of arc a takes a further tick.
+pub record HasRoom (ticks : ℕ) (h : List Entry) : Type 0 where
+  pub few : length (ticks_in_order h) < 20000
+  pub low : height h + ticks ≤ 1000000
+
+-- each ledger takes a further tick
+abbrev pub AllHaveRoom : ℕ → Deal → Histories → Type 0
+AllHaveRoom ticks d b = (a : ℕ) → a < length d.graph.arcs → HasRoom ticks (history b a)

@@ -1,0 +1,94 @@
+-- What a turn asks for, and what it does.
+use Rattle.std.specs.Prelude.{◌≡◌, ℕ, ◌<◌, Bool, true, false, List, length, Option, Some, None}
+use Rattle.ledger_core.specs.Book.{history}
+use Rattle.deviator_script.specs.declared.job.Job.{Job}
+use Rattle.ledger_shared.specs.Value.{PassState, ClockState, SharedState}
+use Rattle.party_machine.specs.Machine.{MachineState, next_of}
+use Rattle.party_plan.specs.Shown.{IsShown}
+use Rattle.swap_run.specs.Run.{Plan, is_planned}
+use Rattle.party_threads.specs.declared.turn.Actor.{Actor}
+use Rattle.party_threads.specs.declared.turn.Actor.TheVariants.{Conforming, Planned, Manual, Clock}
+use Rattle.party_threads.specs.declared.turn.Turn.{Turn}
+use Rattle.race_turns.specs.Later.{pass_in, HaveGoneOn}
+use Rattle.race_turns.specs.Tracks.{Tracks, HasItsPasses, HaveSeenAll, IsSameElsewhere}
+use Rattle.race_turns.specs.Able.{watcher, IsAble, IsSameOwner}
+use Rattle.race_turns.specs.Ticks.{AreClocksOf, HaveClocksGoneOn, HaveTicked}
+use Rattle.race_turns.specs.Played.{Gives, planner_of, role_in, IsHeld, HasPlayed}
+
+-- A machine can act, and knows what its passes have seen.
+pub record IsMachineSeated (ledgers : List SharedState) (m : MachineState) (ps : List (Option PassState)) : Type 0 where
+  pub able : IsAble m
+  pub tracks : Tracks ledgers (watcher m) ps
+  pub passes : HasItsPasses m.deal m.me ps
+
+-- A party that follows a script or a strategy can act, and knows what its passes have seen.
+pub record IsPlannerSeated (holds : List ℕ → Bool) (job : Job) (ledgers : List SharedState) (v : ℕ) (n : Plan) (ps : List (Option PassState)) : Type 0 where
+  pub place : v < length job.roles
+  pub shown : IsShown job.deal job.seeds v n
+  pub planned : is_planned (role_in job v) ≡ true
+  pub held : IsHeld holds (role_in job v)
+  pub tracks : Tracks ledgers (planner_of job.deal v n) ps
+  pub passes : HasItsPasses job.deal v ps
+
+-- the actor has its passes
+abbrev pub IsActorSeated : (List ℕ → Bool) → Job → List SharedState → ℕ → ℕ → List (Option PassState) → List (Option ClockState) → Actor → Type 0
+IsActorSeated holds job ledgers ticks v ps cs (Conforming m) = IsMachineSeated ledgers m ps
+IsActorSeated holds job ledgers ticks v ps cs (Planned n) = IsPlannerSeated holds job ledgers v n ps
+IsActorSeated holds job ledgers ticks v ps cs Manual = Unit {0}
+IsActorSeated holds job ledgers ticks v ps cs Clock = AreClocksOf ticks ledgers cs
+
+-- the actor with the number v has its passes
+abbrev pub IsSeated : (List ℕ → Bool) → Job → List SharedState → ℕ → ℕ → Turn → Type 0
+IsSeated holds job ledgers ticks v t = IsActorSeated holds job ledgers ticks v t.passes.items t.clocks.items t.actor
+
+-- the same actor, later
+abbrev pub IsSameActor : Actor → Actor → Type 0
+IsSameActor (Conforming m) (Conforming n) = IsSameOwner m n
+IsSameActor (Conforming m) (Planned n) = ⊥
+IsSameActor (Conforming m) Manual = ⊥
+IsSameActor (Conforming m) Clock = ⊥
+IsSameActor (Planned n) (Conforming m) = ⊥
+IsSameActor (Planned n) (Planned m) = Unit {0}
+IsSameActor (Planned n) Manual = ⊥
+IsSameActor (Planned n) Clock = ⊥
+IsSameActor Manual y = y ≡ Manual
+IsSameActor Clock y = y ≡ Clock
+
+-- A conforming party knows all that was shared with it, and its own calls, and has nothing due.
+pub record HasActed (m : MachineState) (old : List (Option PassState)) (n : MachineState) (new : List (Option PassState)) : Type 0 where
+  pub able : IsAble n
+  pub seen : (a : ℕ) (p : PassState) → a < length new → pass_in new a ≡ Some p → p.seen ≡ history n.known a
+  pub whole : HaveSeenAll new
+  pub rests : next_of n ≡ None
+  pub elsewhere : IsSameElsewhere old m.known n.known
+
+-- A party that follows a script or a strategy was shown its view and made the call that answers it, and knows what its passes have seen.
+pub record HasPlanned (gives : Gives) (job : Job) (v : ℕ) (n : Plan) (old : List (Option PassState)) (m : Plan) (new : List (Option PassState)) : Type 0 where
+  pub shown : IsShown job.deal job.seeds v m
+  pub seen : (a : ℕ) (p : PassState) → a < length new → pass_in new a ≡ Some p → p.seen ≡ history m.known a
+  pub played : HasPlayed gives job.deal job.seeds (role_in job v) v old n m
+
+-- what an actor did in its turn, by its passes before and after it
+abbrev pub Did : Gives → Job → ℕ → ℕ → (ps qs : List (Option PassState)) → (cs ds : List (Option ClockState)) → Actor → Actor → Type 0
+Did gives job ticks v ps qs cs ds (Conforming m) (Conforming n) = HasActed m ps n qs
+Did gives job ticks v ps qs cs ds (Conforming m) (Planned n) = ⊥
+Did gives job ticks v ps qs cs ds (Conforming m) Manual = ⊥
+Did gives job ticks v ps qs cs ds (Conforming m) Clock = ⊥
+Did gives job ticks v ps qs cs ds (Planned n) (Conforming m) = ⊥
+Did gives job ticks v ps qs cs ds (Planned n) (Planned m) = HasPlanned gives job v n ps m qs
+Did gives job ticks v ps qs cs ds (Planned n) Manual = ⊥
+Did gives job ticks v ps qs cs ds (Planned n) Clock = ⊥
+Did gives job ticks v ps qs cs ds Manual y = qs ≡ ps
+Did gives job ticks v ps qs cs ds Clock y = HaveTicked ticks cs ds
+
+abbrev pub DidIn : Gives → Job → ℕ → ℕ → Turn → Turn → Type 0
+DidIn gives job ticks v old new = Did gives job ticks v old.passes.items new.passes.items old.clocks.items new.clocks.items old.actor new.actor
+
+-- A turn leaves its actor and its passes, which have gone on; where memory was enough, it did what it had to.
+pub record Took (gives : Gives) (job : Job) (ticks v : ℕ) (old new : Turn) : Type 0 where
+  pub actor : IsSameActor old.actor new.actor
+  pub passes : HaveGoneOn old.passes.items new.passes.items
+  pub places : length new.passes.items ≡ length old.passes.items
+  pub clocks : HaveClocksGoneOn old.clocks.items new.clocks.items
+  pub clock_places : length new.clocks.items ≡ length old.clocks.items
+  pub did : new.failed ≡ false → DidIn gives job ticks v old new

@@ -1,0 +1,66 @@
+-- What a party that follows a script or a strategy is shown in a race, and what it calls: one view and one answer a round.
+use Rattle.std.specs.Prelude.{◌≡◌, ℕ, zero, suc, ◌+◌, ◌*◌, ◌<◌, ◌≤◌, true, List, [], ◌++◌, length, take, Option}
+use Rattle.swap_digraph.specs.declared.deal.Deal.{Deal}
+use Rattle.ledger_core.specs.declared.entry.Call.{Call}
+use Rattle.ledger_core.specs.History.{height}
+use Rattle.ledger_core.specs.Book.{Histories, history}
+use Rattle.deviator_script.specs.declared.moves.Move.{Move}
+use Rattle.deviator_script.specs.declared.job.Role.{Role}
+use Rattle.deviator_script.specs.declared.job.Role.TheVariants.{Conforming, Manual, Script, Strategy}
+use Rattle.deviator_script.specs.Script.{next_call, moves_left}
+use Rattle.deviator_script.specs.View.{is_near, IsView}
+use Rattle.swap_laws.specs.Machine.{Begins}
+use Rattle.swap_run.specs.Run.{Cast, State, plan_of, role_of}
+use Rattle.race_turns.specs.Played.{Gives, calls_by, answer_on, IsAnswered}
+
+-- of the answers to the first r views, those that stand on arc a
+abbrev pub answers_on : ℕ → (ℕ → Option (ℕ × Call)) → ℕ → List Call
+answers_on a answers zero = []
+answers_on a answers (suc r) = answers_on a answers r ++ answer_on a (answers r)
+
+-- the calls that are made of them: a ledger takes 32 of one party
+abbrev pub made_on : ℕ → (ℕ → Option (ℕ × Call)) → ℕ → List Call
+made_on a answers r = take 32 (answers_on a answers r)
+
+-- the moves that are left of a script after the first r views
+abbrev pub moves_at : (ℕ → Histories) → List Move → ℕ → List Move
+moves_at views moves zero = moves
+moves_at views moves (suc r) = moves_left (views r) (moves_at views moves r)
+
+-- One view a round, each of which begins with that of the round before, shows what stood as its round began, and shows of the party's own calls just those
+-- made for earlier views; and the party's calls in the book are the answers to these views.
+pub record AreRoundViews (d : Deal) (ticks rounds : ℕ) (b : Histories) (v : ℕ) (views : ℕ → Histories) (answers : ℕ → Option (ℕ × Call)) : Type 0 where
+  pub shown : (r : ℕ) → r < rounds → IsView d v (views r)
+  pub begins : (r a : ℕ) → r < rounds → Begins (history (views r) a) (history b a)
+  pub high : (r a : ℕ) → r < rounds → a < length d.graph.arcs → is_near d v a ≡ true → r * ticks ≤ height (history (views r) a)
+  pub grows : (r a : ℕ) → r + 1 < rounds → Begins (history (views r) a) (history (views (r + 1)) a)
+  pub own : (r a : ℕ) → r < rounds → a < length d.graph.arcs → calls_by v (history (views r) a) ≡ made_on a answers r
+  pub calls : (a : ℕ) → a < length d.graph.arcs → calls_by v (history b a) ≡ made_on a answers rounds
+
+-- each view is answered once: by the script from its first move, or by the strategy
+abbrev pub AreAnswered : Gives → Cast → ℕ → ℕ → (ℕ → Histories) → (ℕ → Option (ℕ × Call)) → Role → Type 0
+AreAnswered gives c rounds v views answers (Script moves) = (r : ℕ) → r < rounds → answers r ≡ next_call c.deal c.seeds (views r) (moves_at views moves r)
+AreAnswered gives c rounds v views answers (Strategy name) = (r : ℕ) → r < rounds → gives name c.deal v r (views r) (answers r)
+AreAnswered gives c rounds v views answers Conforming = Unit {0}
+AreAnswered gives c rounds v views answers Manual = Unit {0}
+
+-- All calls of a party are the answers to its round views.
+pub record PlaysByViews (gives : Gives) (c : Cast) (ticks rounds : ℕ) (b : Histories) (v : ℕ) : Type 0 where
+  pub views : ℕ → Histories
+  pub answers : ℕ → Option (ℕ × Call)
+  pub are : AreRoundViews c.deal ticks rounds b v views answers
+  pub answered : AreAnswered gives c rounds v views answers (role_of c v)
+
+-- One round.
+
+-- The party was shown what stood as the round began at least, and of its own calls no others; it made the call that is the answer, if any.
+pub record HasPlayed (gives : Gives) (c : Cast) (s t : State) (v : ℕ) : Type 0 where
+  pub view : Histories
+  pub answer : Option (ℕ × Call)
+  pub shown : IsView c.deal v view
+  pub seen : (a : ℕ) → a < length c.deal.graph.arcs → is_near c.deal v a ≡ true → Begins (history s.book a) (history view a)
+  pub begins : (a : ℕ) → Begins (history view a) (history t.book a)
+  pub own : (a : ℕ) → a < length c.deal.graph.arcs → calls_by v (history view a) ≡ calls_by v (history s.book a)
+  pub called : (a : ℕ) → a < length c.deal.graph.arcs → calls_by v (history t.book a) ≡ take 32 (calls_by v (history s.book a) ++ answer_on a answer)
+  pub answered : IsAnswered gives c.deal c.seeds v view answer (plan_of s v) (plan_of t v) (role_of c v)
+  pub turns : (plan_of t v).turns ≡ (plan_of s v).turns + 1

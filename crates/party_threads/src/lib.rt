@@ -1,0 +1,20 @@
+//! Parties that race: every party and the clock take their turns on threads of their own, over shared ledgers, round by round.
+//!
+//! What comes of a race is a legal book in which every ledger has one tick a round and is above the horizon, every conforming party kept its conduct, a
+//! party that follows a script or a strategy made just the calls that answer its round views, and nobody else made a call. An action that is enabled for
+//! a conforming party is done within two rounds' ticks, so that nobody conforming is late where two ticks fit in delta; where all conform besides, nothing
+//! is found and everything moves. Nothing is said of time, nor that a turn ever ends.
+//!
+//! Read `specs/Race.antt` first: what a round does to the book and to what each party has noted, and what a race is.
+#![tactic(auto)]
+
+mod deal;
+mod gate;
+mod round;
+mod rounds;
+mod staff;
+mod turn;
+
+pub use gate::Gate;
+pub use rounds::race;
+pub use staff::RaceFault;

@@ -1,0 +1,143 @@
+//! A round: every ledger is shared, every party and the clock have their turns on threads of their own, and every ledger is closed.
+
+ghost use Rattle.std.specs.Prelude.{◌≡◌, ◌<◌, ◌≤◌, ℕ, OnOk, length, slice_index_or, All, false, true};
+ghost use Rattle.swap_world.specs.Staff.{AreHeld};
+ghost use Rattle.swap_world.specs.Cast.{cast_of};
+ghost use Rattle.race_turns.specs.Later.{HaveGoneOn};
+ghost use Rattle.race_turns.specs.Ticks.{HaveClocksGoneOn};
+ghost use Rattle.party_threads.specs.Took.{IsSeated, IsSameActor, DidIn, Took};
+ghost use Rattle.party_threads.specs.Race.{IsRound};
+ghost use Rattle.party_threads.specs.Standing.{Stands, AllHaveRoom, book_in, state_of};
+
+use crate::deal::{close, deal};
+use crate::gate::Gate;
+use crate::turn::{Actor, Turn};
+use deviator_script::{Job, Strategies};
+use ledger_core::Ledger;
+use ledger_shared::SharedLedger;
+use race_turns::{take_clock_turn, take_machine_turn, take_planner_turn};
+use std::alloc::Global;
+use std::sync::Wait;
+use std::thread;
+use std::thread::Threads;
+use swap_base::{NoMemory, PartyId};
+
+/// What the actor with the number v does in its turn.
+fn play<R: Wait, K: Strategies>(
+    rt: &R,
+    job: &Job,
+    kit: &K,
+    ledgers: &[SharedLedger],
+    ticks: u32,
+    v: PartyId,
+    turn: &mut Turn,
+) -> Result<(), NoMemory>
+    requires some { 1 ≤ ticks }
+    requires below { ticks ≤ 1000 }
+    requires seated { IsSeated (K.holds kit.now) job.now ledgers.now ticks v turn.old }
+    ensures actor { IsSameActor turn.old.actor turn.new.actor }
+    ensures passes { HaveGoneOn turn.old.passes.items turn.new.passes.items }
+    ensures clocks { HaveClocksGoneOn turn.old.clocks.items turn.new.clocks.items }
+    ensures places { length turn.new.passes.items ≡ length turn.old.passes.items }
+    ensures clock_places { length turn.new.clocks.items ≡ length turn.old.clocks.items }
+    ensures did { OnOk result (DidIn (K.gives kit.now) job.now ticks v turn.old turn.new) }
+{
+    match &mut turn.actor {
+        Actor::Conforming(machine) => {
+            take_machine_turn(rt, ledgers, machine, turn.passes.as_mut_slice())
+        }
+        Actor::Planned(planner) => {
+            let passes = turn.passes.as_mut_slice();
+            take_planner_turn(rt, ledgers, kit, job, v, planner, passes)
+        }
+        Actor::Manual => Ok(()),
+        Actor::Clock => take_clock_turn(rt, ledgers, turn.clocks.as_mut_slice(), ticks),
+    }
+}
+
+fn take_turn<R: Wait, K: Strategies>(
+    rt: &R,
+    job: &Job,
+    kit: &K,
+    ledgers: &[SharedLedger],
+    ticks: u32,
+    v: PartyId,
+    turn: &mut Turn,
+)
+    requires some { 1 ≤ ticks }
+    requires below { ticks ≤ 1000 }
+    requires seated { IsSeated (K.holds kit.now) job.now ledgers.now ticks v turn.old }
+    ensures { Took (K.gives kit.now) job.now ticks v turn.old turn.new }
+{
+    turn.failed = play(rt, job, kit, ledgers, ticks, v, turn).is_err();
+}
+
+/// Every actor's turn, each on a thread of its own.
+fn take_turns<R: Threads + Wait + Sync, K: Strategies + Sync, G: Gate>(
+    rt: &R,
+    job: &Job,
+    kit: &K,
+    gate: &G,
+    round: u32,
+    ledgers: &[SharedLedger],
+    ticks: u32,
+    turns: &mut [Turn],
+)
+    requires actors { 0 < length turns.old }
+    requires few { length turns.old ≤ 256 }
+    requires some { 1 ≤ ticks }
+    requires below { ticks ≤ 1000 }
+    requires seated { (i : ℕ) (t : Turn) → i < length turns.old → IsSeated (K.holds kit.now) job.now ledgers.now ticks i (slice_index_or turns.old i t) }
+    ensures took { (i : ℕ) (t : Turn) → i < length turns.old
+        → Took (K.gives kit.now) job.now ticks i (slice_index_or turns.old i t) (slice_index_or turns.new i t) }
+    ensures number { length turns.new ≡ length turns.old }
+{
+    let threads = turns.len();
+    thread::for_each_mut(
+        rt,
+        turns,
+        threads,
+        &|i, turn: &mut Turn|
+            requires { IsSeated (K.holds kit.now) job.now ledgers.now ticks i turn.now × (i < 256) × (1 ≤ ticks) × (ticks ≤ 1000) }
+            ensures { Took (K.gives kit.entry.now) job.entry.now ticks i turn.entry.now turn.exit.now }
+        {
+            gate.pass(rt, i as PartyId, round);
+            take_turn(rt, job, kit, ledgers, ticks, i as PartyId, turn)
+        },
+    );
+}
+
+/// Whether each turn had memory enough.
+fn all_done(turns: &[Turn]) -> bool
+    ensures { result ≡ true → All (λ t. t.failed ≡ false) turns.now }
+{
+    turns.iter().all(|t| !t.failed)
+}
+
+/// One round. Where a turn wanted memory the others have their turns all the same, and every ledger is closed.
+pub(crate) fn round<R: Threads + Wait + Sync, K: Strategies + Sync, G: Gate>(
+    rt: &R,
+    alloc: Global,
+    job: &Job,
+    kit: &K,
+    gate: &G,
+    number: u32,
+    ticks: u32,
+    ledgers: &mut [Option<Ledger>],
+    turns: &mut [Turn],
+) -> Result<(), NoMemory>
+    requires some { 1 ≤ ticks }
+    requires below { ticks ≤ 1000 }
+    requires stands { Stands job.now ledgers.old turns.old }
+    requires held { AreHeld (K.holds kit.now) job.now.roles }
+    requires room { AllHaveRoom ticks job.now.deal (book_in ledgers.old) }
+    ensures stands { OnOk result (Stands job.now ledgers.new turns.new) }
+    ensures round { OnOk result (IsRound (K.gives kit.now) (cast_of job.now) ticks (state_of job.now ledgers.old turns.old)
+        (state_of job.now ledgers.new turns.new)) }
+{
+    let shared = deal(rt, alloc, &job.deal, ledgers, turns)?;
+    take_turns(rt, job, kit, gate, number, shared.as_slice(), ticks, turns);
+    let done = all_done(turns);
+    close(&job.deal, shared, ledgers, turns);
+    if done { Ok(()) } else { Err(NoMemory) }
+}

@@ -1,0 +1,131 @@
+//! A race: rounds until each ledger is above the horizon.
+
+ghost use Rattle.std.specs.Prelude.{◌≡◌, ◌<◌, ◌≤◌, IfOk, IfErr, OnOk, List, map, Some};
+ghost use Rattle.swap_digraph.specs.Deal.{IsWellSized};
+ghost use Rattle.swap_rules.specs.Accepted.{IsAccepted};
+ghost use Rattle.party_wallet.specs.Wallets.{wallets_of};
+ghost use Rattle.swap_run.specs.Run.{start};
+ghost use Rattle.swap_world.specs.Cast.{cast_of};
+ghost use Rattle.swap_world.specs.Inside.{new_ledgers};
+ghost use Rattle.swap_world.specs.Staff.{AreHeld, HaveSeeds, HaveRoles};
+ghost use Rattle.party_threads.specs.Race.{rounds_for, IsRaced, IsRaceBook};
+ghost use Rattle.party_threads.specs.Staff.{AllFit, IsFirstOf};
+ghost use Rattle.party_threads.specs.Standing.{Stands, book_in, history_in, state_of};
+
+use crate::gate::Gate;
+use crate::round::round;
+use crate::staff::{RaceFault, turns_of};
+use crate::turn::Turn;
+use deviator_script::{Job, Strategies};
+use ledger_core::{Book, EntryList, Ledger};
+use party_wallet::Wallet;
+use std::alloc::Global;
+use std::sync::Wait;
+use std::thread::Threads;
+use swap_base::{ArcId, Listed, NoMemory};
+use swap_digraph::Deal;
+use time_bounds::horizon;
+
+/// A ledger for each arc, each at its place.
+fn ledgers_of(alloc: Global, deal: &Deal) -> Result<Vec<Option<Ledger>>, NoMemory>
+    requires { IsWellSized deal.now }
+    ensures { IfOk result (λ v. v.items ≡ map (λ l. Some l) (new_ledgers deal.now)) }
+{
+    let mut ledgers = Vec::new(alloc);
+    'arcs: for arc in 0..deal.graph.arcs().len() as ArcId {
+        ledgers.push(Some(Ledger::new(alloc, deal, arc)?))?;
+    }
+    Ok(ledgers)
+}
+
+fn history_of(ledger: Option<Ledger>, alloc: Global) -> EntryList
+    ensures { result ≡ history_in ledger }
+{
+    match ledger {
+        Some(ledger) => ledger.into_history(),
+        None => EntryList::empty(alloc),
+    }
+}
+
+/// The book of the ledgers.
+fn book_of(alloc: Global, ledgers: Vec<Option<Ledger>>) -> Result<Book, NoMemory>
+    ensures { IfOk result (λ b. b.histories ≡ book_in ledgers.items) }
+{
+    let mut histories = Vec::new(alloc);
+    'ledgers: for ledger in ledgers {
+        histories.push(history_of(ledger, alloc))?;
+    }
+    Ok(Book {
+        histories: Listed::new(histories),
+    })
+}
+
+/// The fewest rounds of so many ticks that pass the horizon.
+fn rounds_for(deal: &Deal, ticks: u32) -> u32
+    requires sized { IsWellSized deal.now }
+    requires some { 1 ≤ ticks }
+    ensures { result ≡ rounds_for deal.now ticks }
+{
+    (horizon(deal.start, deal.delta, deal.bound) / ticks as u64 + 1) as u32
+}
+
+/// Rounds until each ledger is above the horizon.
+fn run_rounds<R: Threads + Wait + Sync, K: Strategies + Sync, G: Gate>(
+    rt: &R,
+    alloc: Global,
+    job: &Job,
+    kit: &K,
+    gate: &G,
+    ticks: u32,
+    ledgers: &mut [Option<Ledger>],
+    turns: &mut [Turn],
+) -> Result<(), NoMemory>
+    requires some { 1 ≤ ticks }
+    requires below { ticks ≤ 1000 }
+    requires stands { Stands job.now ledgers.old turns.old }
+    requires held { AreHeld (K.holds kit.now) job.now.roles }
+    requires first { state_of job.now ledgers.old turns.old ≡ start (cast_of job.now) }
+    ensures raced { OnOk result (IsRaced (K.gives kit.now) (cast_of job.now) ticks (rounds_for job.now.deal ticks) (state_of job.now ledgers.new turns.new)) }
+{
+    'rounds: for number in 0..rounds_for(&job.deal, ticks) {
+        round(rt, alloc, job, kit, gate, number, ticks, ledgers, turns)?;
+    }
+    Ok(())
+}
+
+/// Races a job: every party and the clock have a turn in each round, on threads of their own; strategies answer from the kit. It waits for locks and
+/// at the gate.
+pub fn race<R: Threads + Wait + Sync, K: Strategies + Sync, G: Gate>(
+    rt: &R,
+    alloc: Global,
+    job: &Job,
+    kit: &K,
+    wallets: Vec<Option<Wallet>>,
+    ticks: u32,
+    gate: &G,
+) -> Result<Book, RaceFault>
+    requires accepted { IsAccepted job.now.deal }
+    requires seeds { HaveSeeds job.now }
+    requires roles { HaveRoles job.now }
+    requires held { AreHeld (K.holds kit.now) job.now.roles }
+    requires wallets { wallets.items ≡ wallets_of job.now.deal job.now.conforming job.now.seeds }
+    requires some { 1 ≤ ticks }
+    requires below { ticks ≤ 1000 }
+    ensures book { IfOk result (λ b. IsRaceBook (K.gives kit.now) (cast_of job.now) ticks b.histories) }
+    ensures fit { OnOk result (AllFit job.now) }
+    ensures wrong { IfErr result (IsFirstOf job.now) }
+{
+    let mut turns = turns_of(alloc, job, wallets)?;
+    let mut ledgers = ledgers_of(alloc, &job.deal)?;
+    run_rounds(
+        rt,
+        alloc,
+        job,
+        kit,
+        gate,
+        ticks,
+        ledgers.as_mut_slice(),
+        turns.as_mut_slice(),
+    )?;
+    Ok(book_of(alloc, ledgers)?)
+}

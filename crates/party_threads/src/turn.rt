@@ -1,0 +1,93 @@
+//! What has turns in a race: a party or the clock, with the passes that it has in a round.
+
+ghost use Rattle.std.specs.Prelude.{◌≡◌, ◌≢◌, ◌<◌, ℕ, List, Some, None, length, slice_get};
+ghost use Rattle.ledger_core.specs.declared.entry.Entry.{Entry};
+ghost use Rattle.ledger_shared.specs.Value.{PassState, ClockState};
+ghost use Rattle.party_threads.specs.Turns.{HasArc, actor_at, passes_of, clocks_of, held_at, clock_held_at, started, IsPut, IsClockPut};
+
+use ledger_shared::{ClockPass, Pass};
+use party_machine::Machine;
+use party_plan::Planner;
+use swap_base::{ArcId, PartyId};
+
+/// What acts in a turn.
+#[derive(Drop)]
+pub(crate) enum Actor {
+    /// A conforming party, by its machine.
+    Conforming(Machine),
+    /// A party that follows a script or a strategy.
+    Planned(Planner),
+    /// A party that makes no call.
+    Manual,
+    /// The clock.
+    Clock,
+}
+
+/// An actor, with the passes that it has in a round, by arc, and whether its last turn wanted memory.
+#[derive(Drop)]
+pub(crate) struct Turn {
+    pub actor: Actor,
+    pub passes: Vec<Option<Pass>>,
+    pub clocks: Vec<Option<ClockPass>>,
+    pub failed: bool,
+}
+
+/// How much of the history of an arc, which has so many entries, an actor's pass has seen as it is dealt.
+pub(crate) fn seen_at(turns: &[Turn], v: PartyId, arc: ArcId, whole: u32) -> u32
+    requires actor { v < length turns.now }
+    requires arc { HasArc (actor_at turns.now v) arc }
+    ensures { (h : List Entry) → length h ≡ whole → result ≡ length (started (actor_at turns.now v) arc h) }
+{
+    match &turns[v as usize].actor {
+        Actor::Conforming(machine) => machine.known(arc).count(),
+        Actor::Planned(planner) => planner.count(arc) as u32,
+        Actor::Manual => whole,
+        Actor::Clock => whole,
+    }
+}
+
+/// Gives an actor the pass of an arc.
+pub(crate) fn put(turns: &mut [Turn], v: PartyId, arc: ArcId, pass: Pass)
+    requires actor { v < length turns.old }
+    requires place { arc < length (passes_of (slice_get turns.old v)) }
+    ensures { IsPut turns.old v arc (Some pass) turns.new }
+{
+    turns[v as usize].passes[arc as usize] = Some(pass);
+}
+
+/// Takes the pass of an arc back.
+pub(crate) fn take(turns: &mut [Turn], v: PartyId, arc: ArcId) -> Pass
+    requires actor { v < length turns.old }
+    requires place { arc < length (passes_of (slice_get turns.old v)) }
+    requires there { (p : PassState) × (held_at turns.old v arc ≡ Some p) }
+    ensures pass { held_at turns.old v arc ≡ Some result }
+    ensures gone { IsPut turns.old v arc None turns.new }
+{
+    match turns[v as usize].passes[arc as usize].take() {
+        Some(pass) => pass,
+        None => unreachable!(),
+    }
+}
+
+/// Gives the clock its pass of an arc.
+pub(crate) fn put_clock(turns: &mut [Turn], v: PartyId, arc: ArcId, pass: ClockPass)
+    requires actor { v < length turns.old }
+    requires place { arc < length (clocks_of (slice_get turns.old v)) }
+    ensures { IsClockPut turns.old v arc (Some pass) turns.new }
+{
+    turns[v as usize].clocks[arc as usize] = Some(pass);
+}
+
+/// Takes the clock's pass of an arc back.
+pub(crate) fn take_clock(turns: &mut [Turn], v: PartyId, arc: ArcId) -> ClockPass
+    requires actor { v < length turns.old }
+    requires place { arc < length (clocks_of (slice_get turns.old v)) }
+    requires there { (p : ClockState) × (clock_held_at turns.old v arc ≡ Some p) }
+    ensures pass { clock_held_at turns.old v arc ≡ Some result }
+    ensures gone { IsClockPut turns.old v arc None turns.new }
+{
+    match turns[v as usize].clocks[arc as usize].take() {
+        Some(pass) => pass,
+        None => unreachable!(),
+    }
+}

@@ -1,0 +1,26 @@
+-- A pass and what it is later.
+use Rattle.std.specs.Prelude.{◌≡◌, ℕ, List, slice_index_or, Option, Some, None}
+use Rattle.ledger_core.specs.declared.entry.Entry.{Entry}
+use Rattle.ledger_shared.specs.Value.{PassState, ClockState, with_seen, clock_with_seen}
+
+-- the pass later, which has seen at least as much
+abbrev pub IsLater : PassState → PassState → Type 0
+IsLater p q = (more : List Entry) × (q ≡ with_seen p more)
+
+abbrev pub IsClockLater : ClockState → ClockState → Type 0
+IsClockLater p q = (more : List Entry) × (q ≡ clock_with_seen p more)
+
+-- the pass at arc a, if any
+abbrev pub pass_in : List (Option PassState) → ℕ → Option PassState
+pass_in ps a = slice_index_or ps a None
+
+abbrev pub clock_in : List (Option ClockState) → ℕ → Option ClockState
+clock_in ps a = slice_index_or ps a None
+
+-- the pass has gone on, or there is none
+abbrev pub WentOn : Option PassState → Option PassState → Type 0
+WentOn None q = q ≡ None
+WentOn (Some p) q = (r : PassState) × (q ≡ Some r) × IsLater p r
+
+abbrev pub HaveGoneOn : List (Option PassState) → List (Option PassState) → Type 0
+HaveGoneOn ps qs = (a : ℕ) → WentOn (pass_in ps a) (pass_in qs a)

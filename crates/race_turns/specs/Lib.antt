@@ -1,0 +1,5 @@
+pub mod Later
+pub mod Tracks
+pub mod Able
+pub mod Ticks
+pub mod Played

@@ -1,0 +1,33 @@
+-- Where what is written is determined, whatever chance decides.
+use Rattle.std.specs.Prelude.{◌≡◌, ℕ, Bool, false, List, Ok, Option}
+use Rattle.std.specs.List.{list_any}
+use Rattle.swap_digraph.specs.declared.deal.Deal.{Deal}
+use Rattle.ledger_core.specs.declared.entry.Call.{Call}
+use Rattle.ledger_core.specs.Book.{Histories}
+use Rattle.deviator_script.specs.declared.event.Event.{Event}
+use Rattle.deviator_script.specs.declared.job.Job.{Job}
+use Rattle.deviator_script.specs.declared.job.Purpose.TheVariants as purposes
+use Rattle.swap_run.specs.Asked.{is_strategy}
+use Rattle.swap_offer.specs.Job.{job_of}
+use Rattle.audit_command.specs.Output.{Written}
+use Rattle.swap_main.specs.Output.{Chance, output_by}
+use Rattle.swap_main.specs.Words.{is_race}
+use Rattle.swap_main.specs.Promised.{AsPromised}
+use Rattle.swap_main.specs.Staff.{by_rule}
+use Rattle.swap_main.specs.declared.words.Command.{Command}
+use Rattle.swap_main.specs.declared.words.Command.TheVariants.{OfJob}
+use Rattle.swap_main.specs.declared.words.JobCommand.TheVariants.{Run}
+
+-- where nobody follows a strategy, what is written of a run is the same whatever chance decides
+abbrev pub SameWithoutStrategies : Type 0
+SameWithoutStrategies =
+    (has : List ℕ → Bool) (a b : Chance) (transcript : Bool) (input : List ℕ) (job : Job) (events : List Event)
+    → job_of has purposes.Run input ≡ Ok (job, events) → list_any is_strategy job.roles ≡ false
+    → output_by has a (OfJob (Run transcript)) input ≡ output_by has b (OfJob (Run transcript)) input
+
+-- and where a rule gives each answer, the rule decides what is written of all but a race: of two outputs for an input that are promised so, both are one
+abbrev pub RulesDecide : Type 0
+RulesDecide =
+    (rule : List ℕ → Deal → ℕ → ℕ → Histories → Option (ℕ × Call)) (has : List ℕ → Bool) (a b : Chance) (command : Command) (input : List ℕ)
+    (one other : Written) → is_race command ≡ false → output_by has a command input ≡ Ok one → AsPromised has (by_rule rule) a command input one
+    → output_by has b command input ≡ Ok other → AsPromised has (by_rule rule) b command input other → one ≡ other

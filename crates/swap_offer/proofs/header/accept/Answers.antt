@@ -1,0 +1,13 @@
+use Rattle.std.proofs.Common.{◌≡◌, Ok, sym, subst}
+use Rattle.deviator_script.specs.declared.job.Job.{Job}
+use Rattle.swap_offer.specs.Wallets.{seeded, HaveScriptsFor}
+use Rattle.swap_offer.proofs.Scripted.{scripts_for}
+use Rattle.swap_offer.proofs.header.accept.Goals as goal
+
+pub returns-in-Ok-provide-clause-scripts : goal.returns-in-Ok-provide-clause-scripts
+returns-in-Ok-provide-clause-scripts c =
+    let h = c.args.header in
+    let g = c.in-Ok.admitted.0 in
+    subst (λ (j : Job). HaveScriptsFor h.purpose j) (sym c.job_with-job.ensures)
+    (scripts_for h g c.args.line tt c.requires.within c.in-Ok.ensures.ends c.in-Ok.ensures.parts.0 c.in-Ok.ensures.parts.1 c.requires.made
+    c.requires.placed (subst (λ (j : Job). seeded j ≡ Ok tt) c.job_with-job.ensures c.in-Ok-provide.ensures.seeded))

@@ -1,0 +1,389 @@
+//! Offers of version 2: several arcs between the same parties, up to 32 parties and 128 arcs, and an expiry of their own for locks on arcs
+//! that enter their leader. Where version 1 answers otherwise, its answer stands beside.
+
+ghost use Rattle.std.specs.Prelude.{◌≤◌};
+
+use std::alloc::Global;
+use std::test::Fail;
+use table_runner::deals::{HASHKEYS, TIMELOCKS};
+use table_runner::{accepts, answers, cases, refuses};
+
+/// The deal with hashkeys.
+const RUNS: &str = concat!(
+    r#"== refunds at two expiries, and one height too early at each
+"swap":1 => "swap":2 && "alice", => "alice","actor":"manual", && "bob", => "bob","actor":"manual", && "carol", => "carol","actor":"manual",
+--
+{"call":"alice","move":{"do":"publish","arc":0}}
+{"call":"bob","move":{"do":"publish","arc":1}}
+{"call":"carol","move":{"do":"publish","arc":2}}
+{"tick":2,"by":40}
+{"call":"carol","move":{"do":"refund","arc":2}}
+{"tick":2}
+{"call":"carol","move":{"do":"refund","arc":2}}
+{"tick":1,"by":60}
+{"call":"bob","move":{"do":"refund","arc":1}}
+{"tick":1}
+{"call":"bob","move":{"do":"refund","arc":1}}
+{"tick":0,"by":71}
+{"tick":1,"by":10}
+{"tick":2,"by":30}
+--
+done
+swap report 1
+swap hashkeys start 10 delta 10 bound 2
+ledger 0 alice -> bob amount 100
+0 alice publish correct: accepted
+end height 71 alice 0 bob 0 held 100
+ledger 1 bob -> carol amount 5
+0 bob publish correct: accepted
+60 bob refund: NotExpired 61
+61 bob refund: accepted
+end height 71 bob 5 carol 0 held 0
+ledger 2 carol -> alice amount 1
+0 carol publish correct: accepted
+40 carol refund: NotExpired 41
+41 carol refund: accepted
+end height 71 carol 1 alice 0 held 0
+party alice deviator: NoDeal
+party bob deviator: NoDeal
+party carol deviator: NoDeal
+findings 0
+== in version 1 both expire together
+"alice", => "alice","actor":"manual", && "bob", => "bob","actor":"manual", && "carol", => "carol","actor":"manual",
+--
+{"call":"alice","move":{"do":"publish","arc":0}}
+{"call":"bob","move":{"do":"publish","arc":1}}
+{"call":"carol","move":{"do":"publish","arc":2}}
+{"tick":2,"by":40}
+{"call":"carol","move":{"do":"refund","arc":2}}
+{"tick":2}
+{"call":"carol","move":{"do":"refund","arc":2}}
+{"tick":1,"by":60}
+{"call":"bob","move":{"do":"refund","arc":1}}
+{"tick":1}
+{"call":"bob","move":{"do":"refund","arc":1}}
+{"tick":0,"by":71}
+{"tick":1,"by":10}
+{"tick":2,"by":30}
+--
+done
+swap report 1
+swap hashkeys start 10 delta 10 bound 2
+ledger 0 alice -> bob amount 100
+0 alice publish correct: accepted
+end height 71 alice 0 bob 0 held 100
+ledger 1 bob -> carol amount 5
+0 bob publish correct: accepted
+60 bob refund: NotExpired 61
+61 bob refund: accepted
+end height 71 bob 5 carol 0 held 0
+ledger 2 carol -> alice amount 1
+0 carol publish correct: accepted
+40 carol refund: NotExpired 61
+41 carol refund: NotExpired 61
+end height 71 carol 0 alice 0 held 1
+party alice deviator: NoDeal
+party bob deviator: NoDeal
+party carol deviator: NoDeal
+findings 0
+== what carol paid towards an idle leader is back first
+"swap":1 => "swap":2 && "alice", => "alice","actor":"manual", && "stop" => "fair"
+--
+{"call":"alice","move":{"do":"publish","arc":0}}
+--
+done
+swap report 1
+swap hashkeys start 10 delta 10 bound 2
+ledger 0 alice -> bob amount 100
+0 alice publish correct: accepted
+end height 71 alice 0 bob 0 held 100
+ledger 1 bob -> carol amount 5
+0 bob publish correct: accepted
+61 bob refund: accepted
+end height 71 bob 5 carol 0 held 0
+ledger 2 carol -> alice amount 1
+0 carol publish correct: accepted
+41 carol refund: accepted
+end height 71 carol 1 alice 0 held 0
+party alice deviator: NoDeal
+party bob conforming: NoDeal
+party carol conforming: NoDeal
+findings 0
+== alice opens no later than before
+"swap":1 => "swap":2 && "alice", => "alice","actor":"manual", && "bob", => "bob","actor":"manual", && "carol", => "carol","actor":"manual",
+--
+{"call":"alice","move":{"do":"publish","arc":0}}
+{"call":"bob","move":{"do":"publish","arc":1}}
+{"call":"carol","move":{"do":"publish","arc":2}}
+{"tick":2,"by":40}
+{"call":"alice","move":{"do":"raw","arc":2,"lock":0,"secret":"3cfd91ab364b217387def1b512b03962bc945b8b9cd6a3119bda13d7a525735c","path":["alice"],"#,
+    r#""sigs":["<alice in version 2>"]}}
+{"tick":2}
+{"call":"alice","move":{"do":"claim","arc":2}}
+{"tick":0,"by":71}
+{"tick":1,"by":71}
+{"tick":2,"by":30}
+--
+done
+swap report 1
+swap hashkeys start 10 delta 10 bound 2
+ledger 0 alice -> bob amount 100
+0 alice publish correct: accepted
+end height 71 alice 0 bob 0 held 100
+ledger 1 bob -> carol amount 5
+0 bob publish correct: accepted
+end height 71 bob 0 carol 0 held 5
+ledger 2 carol -> alice amount 1
+0 carol publish correct: accepted
+40 alice unlock 0 via alice: accepted
+41 alice claim: accepted
+end height 71 carol 0 alice 1 held 0
+party alice deviator: FreeRide
+party bob deviator: NoDeal
+party carol deviator: Underwater
+findings 0
+== a signature for version 1 is none for version 2
+"swap":1 => "swap":2 && "alice", => "alice","actor":"manual", && "bob", => "bob","actor":"manual", && "carol", => "carol","actor":"manual",
+--
+{"call":"alice","move":{"do":"publish","arc":0}}
+{"call":"bob","move":{"do":"publish","arc":1}}
+{"call":"carol","move":{"do":"publish","arc":2}}
+{"call":"alice","move":{"do":"raw","arc":2,"lock":0,"secret":"3cfd91ab364b217387def1b512b03962bc945b8b9cd6a3119bda13d7a525735c","path":["alice"],"#,
+    r#""sigs":["<alice>"]}}
+{"tick":0,"by":71}
+{"tick":1,"by":71}
+{"tick":2,"by":71}
+--
+done
+swap report 1
+swap hashkeys start 10 delta 10 bound 2
+ledger 0 alice -> bob amount 100
+0 alice publish correct: accepted
+end height 71 alice 0 bob 0 held 100
+ledger 1 bob -> carol amount 5
+0 bob publish correct: accepted
+end height 71 bob 0 carol 0 held 5
+ledger 2 carol -> alice amount 1
+0 carol publish correct: accepted
+0 alice unlock 0 via alice: WrongSignature
+end height 71 carol 0 alice 0 held 1
+party alice deviator: NoDeal
+party bob deviator: NoDeal
+party carol deviator: NoDeal
+findings 0
+== several payments from alice to bob
+"swap":1 => "swap":2 && "stop" => "fair" && "arcs":[ => "arcs":[{"from":"alice","to":"bob","amount":7},{"from":"alice","to":"bob","amount":7},
+--
+--
+done
+swap report 1
+swap hashkeys start 10 delta 10 bound 2
+ledger 0 alice -> bob amount 7
+0 alice publish correct: accepted
+2 bob unlock 0 via bob,carol,alice: accepted
+2 bob claim: accepted
+end height 71 alice 0 bob 7 held 0
+ledger 1 alice -> bob amount 7
+0 alice publish correct: accepted
+2 bob unlock 0 via bob,carol,alice: accepted
+2 bob claim: accepted
+end height 71 alice 0 bob 7 held 0
+ledger 2 alice -> bob amount 100
+0 alice publish correct: accepted
+2 bob unlock 0 via bob,carol,alice: accepted
+2 bob claim: accepted
+end height 71 alice 0 bob 100 held 0
+ledger 3 bob -> carol amount 5
+0 bob publish correct: accepted
+1 carol unlock 0 via carol,alice: accepted
+1 carol claim: accepted
+end height 71 bob 0 carol 5 held 0
+ledger 4 carol -> alice amount 1
+0 carol publish correct: accepted
+1 alice unlock 0 via alice: accepted
+1 alice claim: accepted
+end height 71 carol 0 alice 1 held 0
+party alice conforming: Deal
+party bob conforming: Deal
+party carol conforming: Deal
+findings 0
+== the same with version 1
+"arcs":[ => "arcs":[{"from":"alice","to":"bob","amount":7},{"from":"alice","to":"bob","amount":7},
+--
+--
+swap: refused: Parallel 0 1
+"#,
+);
+
+#[test]
+fn parallel_arcs_and_two_expiries(rt: HostRuntime) -> Result<(), Fail> {
+    cases(rt.alloc(), "run", HASHKEYS, RUNS)
+}
+
+/// Edits of the deal with timelocks, and the reason.
+const OF_TIMELOCKS: &str = concat!(
+    r#"# another number than 1 and 2 is no version
+"swap":1 => "swap":3 => WrongKind 1 swap
+"swap":1 => "swap":0 => WrongKind 1 swap
+"swap":1 => "swap":-2 => WrongKind 1 swap
+"swap":1 => "swap":2.0 => WrongKind 1 swap
+"swap":1 => "swap":"2" => WrongKind 1 swap
+"swap":1 => "swap":[2] => WrongKind 1 swap
+"swap":1 => "swap":null => WrongKind 1 swap
+"swap":1 => "swap":20 => WrongKind 1 swap
+# version 2 has hashkeys alone
+"swap":1 => "swap":2 => WrongKind 1 mode
+"swap":1 => "swap":2 && "mode":"timelocks" => "mode":"Hashkeys" => WrongKind 1 mode
+"swap":1 => "swap":2 && "mode":"timelocks","start" => "start" => Missing 1 mode
+# the version comes first, and the mode before what it asks for
+"swap":1 => "swap":3 && "mode":"timelocks" => "mode":1 => WrongKind 1 swap
+"swap":1 => "swap":2 && "start":10 => "start":"10" => WrongKind 1 mode
+"swap":1 => "swap":2 && "mode":"timelocks" => "mode":"hashkeys" => UnknownField 1 timelock
+"swap":1 => "swap":2 && "mode":"timelocks" => "mode":"hashkeys" && ,"timelock":60 =>  && ,"timelock":50 =>  && ,"timelock":40 =>  => Missing 1 keys
+"#,
+);
+
+#[test]
+fn versions_and_modes(rt: HostRuntime) -> Result<(), Fail> {
+    refuses(rt.alloc(), TIMELOCKS, OF_TIMELOCKS)
+}
+
+/// Edits of the deal with hashkeys, and the reason.
+const OF_HASHKEYS: &str = concat!(
+    r#"# what isn't allowed in version 2 either
+"swap":1 => "swap":2 && "to":"bob" => "to":"alice" => SelfArc 0
+"swap":1 => "swap":2 && "from":"bob","to":"carol" => "from":"alice","to":"bob" => NotStrong alice,bob
+"swap":1 => "swap":2 && "bound":2 => "bound":1 => BoundTooSmall 1 2
+"swap":1 => "swap":2 && "start":10 => "start":9 => StartTooSoon 9 10
+"swap":1 => "swap":2 && "amount":100 => "amount":100,"timelock":0 => UnknownField 1 timelock
+# paths of 24 parties in version 1 and of 32 in version 2
+"bob", => "bob","actor":"manual", && {"tick":0} => {"call":"bob","move":{"do":"craft","arc":0,"lock":0,"via":["bob","bob","bob","bob","bob","#,
+    r#""bob","bob","bob","bob","bob","bob","bob","bob","bob","bob","bob","bob","bob","bob","bob","bob","bob","bob","bob","bob"]}} => OverLimit 2 via 25
+"bob", => "bob","actor":"manual", && {"tick":0} => {"call":"bob","move":{"do":"raw","arc":0,"lock":0,"#,
+    r#""secret":"3cfd91ab364b217387def1b512b03962bc945b8b9cd6a3119bda13d7a525735c","path":["bob","bob","bob","bob","bob","bob","bob","bob","bob","bob","#,
+    r#""bob","bob","bob","bob","bob","bob","bob","bob","bob","bob","bob","bob","bob","bob","bob"],"sigs":[]}} => OverLimit 2 path 25
+"bob", => "bob","actor":"manual", && {"tick":0} => {"call":"bob","move":{"do":"raw","arc":0,"lock":0,"#,
+    r#""secret":"3cfd91ab364b217387def1b512b03962bc945b8b9cd6a3119bda13d7a525735c","path":[],"sigs":["","","","","","","","","","","","","","","","","","#,
+    r#""","","","","","","",""]}} => OverLimit 2 sigs 25
+"swap":1 => "swap":2 && "bob", => "bob","actor":"manual", && {"tick":0} => {"call":"bob","move":{"do":"craft","arc":0,"lock":0,"via":["bob","#,
+    r#""bob","bob","bob","bob","bob","bob","bob","bob","bob","bob","bob","bob","bob","bob","bob","bob","bob","bob","bob","bob","bob","bob","bob","bob","#,
+    r#""bob","bob","bob","bob","bob","bob","bob","bob"]}} => OverLimit 2 via 33
+"swap":1 => "swap":2 && "bob", => "bob","actor":"manual", && {"tick":0} => {"call":"bob","move":{"do":"raw","arc":0,"lock":0,"#,
+    r#""secret":"3cfd91ab364b217387def1b512b03962bc945b8b9cd6a3119bda13d7a525735c","path":["bob","bob","bob","bob","bob","bob","bob","bob","bob","bob","#,
+    r#""bob","bob","bob","bob","bob","bob","bob","bob","bob","bob","bob","bob","bob","bob","bob","bob","bob","bob","bob","bob","bob","bob","bob"],"#,
+    r#""sigs":[]}} => OverLimit 2 path 33
+"swap":1 => "swap":2 && "bob", => "bob","actor":"manual", && {"tick":0} => {"call":"bob","move":{"do":"raw","arc":0,"lock":0,"#,
+    r#""secret":"3cfd91ab364b217387def1b512b03962bc945b8b9cd6a3119bda13d7a525735c","path":[],"sigs":["","","","","","","","","","","","","","","","","","#,
+    r#""","","","","","","","","","","","","","","",""]}} => OverLimit 2 sigs 33
+"#,
+);
+
+#[test]
+fn limits_of_both_versions(rt: HostRuntime) -> Result<(), Fail> {
+    refuses(rt.alloc(), HASHKEYS, OF_HASHKEYS)
+}
+
+/// Edits of the deal with hashkeys that are no reason to refuse it.
+const ACCEPTED: &str = concat!(
+    r#""swap":1 => "swap":2
+"swap":1 => "swap":2 && "bob", => "bob","actor":"manual", && {"tick":0} => {"call":"bob","move":{"do":"craft","arc":0,"lock":0,"via":["bob","#,
+    r#""bob","bob","bob","bob","bob","bob","bob","bob","bob","bob","bob","bob","bob","bob","bob","bob","bob","bob","bob","bob","bob","bob","bob","bob","#,
+    r#""bob","bob","bob","bob","bob","bob","bob"]}}
+"swap":1 => "swap":2 && "bob", => "bob","actor":"manual", && {"tick":0} => {"call":"bob","move":{"do":"raw","arc":0,"lock":0,"#,
+    r#""secret":"3cfd91ab364b217387def1b512b03962bc945b8b9cd6a3119bda13d7a525735c","path":["bob","bob","bob","bob","bob","bob","bob","bob","bob","bob","#,
+    r#""bob","bob","bob","bob","bob","bob","bob","bob","bob","bob","bob","bob","bob","bob","bob","bob","bob","bob","bob","bob","bob","bob"],"sigs":[]}}
+"#,
+);
+
+#[test]
+fn version_2_allows_longer_paths(rt: HostRuntime) -> Result<(), Fail> {
+    accepts(rt.alloc(), HASHKEYS, ACCEPTED)
+}
+
+/// A party with the number of its place: p10 and so on.
+fn party(alloc: Global, place: usize) -> Result<String, Fail>
+    requires { place ≤ 40 }
+{
+    let number = 10 + place;
+    let seed = format!(in alloc; "{number}")?.repeat(alloc, 32)?;
+    Ok(format!(in alloc; "{{\"name\":\"p{number}\",\"seed\":\"{seed}\"}},")?)
+}
+
+/// So many parties.
+fn parties(alloc: Global, count: usize) -> Result<String, Fail>
+    requires { count ≤ 40 }
+{
+    let mut list = String::new(alloc);
+    for place in 0..count {
+        list.push_str(party(alloc, place)?.as_str())?;
+    }
+    Ok(list)
+}
+
+/// An arc of 1 unit between two places.
+fn arc(alloc: Global, from: usize, to: usize) -> Result<String, Fail>
+    requires from { from ≤ 40 }
+    requires to { to ≤ 40 }
+{
+    let (payer, payee) = (10 + from, 10 + to);
+    Ok(format!(in alloc; "{{\"from\":\"p{payer}\",\"to\":\"p{payee}\",\"amount\":1}},")?)
+}
+
+/// The arcs of a ring of so many parties, each so many times.
+fn ring(alloc: Global, count: usize, times: usize) -> Result<String, Fail>
+    requires { count ≤ 40 }
+{
+    let mut list = String::new(alloc);
+    for from in 0..count {
+        let to = if from + 1 == count { 0 } else { from + 1 };
+        let arc = arc(alloc, from, to)?;
+        list.push_str(arc.repeat(alloc, times)?.as_str())?;
+    }
+    Ok(list)
+}
+
+/// A plain job of parties and arcs, each with a comma behind it. p10 leads.
+fn plain(alloc: Global, version: &str, parties: &str, arcs: &str) -> Result<String, Fail> {
+    let parties = parties.strip_suffix(',').ok_or("no parties")?;
+    let arcs = arcs.strip_suffix(',').ok_or("no arcs")?;
+    let head = format!(in alloc;
+        "{{\"swap\":{version},\"mode\":\"hashkeys\",\"start\":1,\"delta\":1,\"bound\":31,\"parties\":[{parties}],"
+    )?;
+    Ok(format!(in alloc;
+        "{head}\"arcs\":[{arcs}],\"leaders\":[{{\"party\":\"p10\"}}],\"finish\":\"fair\"}}\n"
+    )?)
+}
+
+/// A plain job of a ring.
+fn plain_ring(alloc: Global, version: &str, count: usize, times: usize) -> Result<String, Fail>
+    requires { count ≤ 40 }
+{
+    let parties = parties(alloc, count)?;
+    let arcs = ring(alloc, count, times)?;
+    plain(alloc, version, parties.as_str(), arcs.as_str())
+}
+
+/// A plain job of a ring with so many parties, and each arc so many times, is refused for that reason.
+fn is_refused(
+    alloc: Global,
+    version: &str,
+    count: usize,
+    times: usize,
+    reason: &str,
+) -> Result<(), Fail>
+    requires { count ≤ 40 }
+{
+    let job = plain_ring(alloc, version, count, times)?;
+    let wanted = format!(in alloc; "swap: refused: {reason}\n")?;
+    answers(alloc, "make", reason, job.as_str(), wanted.as_str())
+}
+
+#[test]
+fn larger_rings_are_refused(rt: HostRuntime) -> Result<(), Fail> {
+    is_refused(rt.alloc(), "1", 25, 1, "OverLimit 1 parties 25")?;
+    is_refused(rt.alloc(), "1", 24, 5, "OverLimit 1 arcs 120")?;
+    is_refused(rt.alloc(), "1", 24, 4, "Parallel 0 1")?;
+    is_refused(rt.alloc(), "2", 33, 1, "OverLimit 1 parties 33")?;
+    is_refused(rt.alloc(), "2", 32, 5, "OverLimit 1 arcs 160")?;
+    is_refused(rt.alloc(), "2", 1, 1, "OverLimit 1 parties 1")
+}

@@ -1,0 +1,163 @@
+-- A party that asks its strategy: what is asked and answered, and what comes of it.
+use Rattle.std.proofs.Common.{◌≡◌, ◌⊎◌, inl, inr, Result, Ok, Err, OnOk, OnErr, ℕ, ◌+◌, ◌<◌, Bool, false, List, [], ◌∷◌, ◌++◌, length, set, Option}
+use Rattle.std.proofs.Common.{get_or, None, refl, sym, ap, ap₂, ◌∙◌, subst, arith, length-append}
+use Rattle.std.specs.Result.{is_err}
+use Rattle.std.proofs.lemmas.List.{get_or_at}
+use Rattle.std.proofs.lemmas.List.Elements.{All-nil, All-cons}
+use Rattle.std.proofs.lemmas.Bool.{false≢true}
+use Rattle.swap_digraph.specs.declared.deal.Deal.{Deal}
+use Rattle.ledger_core.specs.declared.entry.Call.{Call}
+use Rattle.ledger_core.specs.Value.{LedgerState}
+use Rattle.ledger_core.specs.Book.{Histories}
+use Rattle.deviator_script.specs.View.{MayAnswer}
+use Rattle.deviator_script.specs.declared.event.Event.TheVariants.{Act}
+use Rattle.deviator_script.specs.declared.job.Role.{Role}
+use Rattle.deviator_script.specs.declared.job.Role.TheVariants as kinds
+use Rattle.swap_run.specs.Asked.{Answers, with_answers}
+use Rattle.swap_run.specs.Run.{Cast, Plan, Question, State, step}
+use Rattle.swap_run.specs.Laws.{IsReadyCast, IsGood, IsKept}
+use Rattle.swap_run.proofs.Good.{good_is_kept}
+use Rattle.swap_world.specs.Cast.{cast_with}
+use Rattle.swap_world.specs.Value.{WorldState, cast_for, Continues}
+use Rattle.swap_world.specs.Acting.{histories, taken, seen, asked_once, question_of}
+use Rattle.swap_world.specs.Gone.{Gives, Answered, MayCome, HasAsked, HasGone, IsCut}
+use Rattle.swap_world.specs.Inside.{name_in, questions_in}
+use Rattle.swap_world.specs.declared.actor.Actor.{Actor}
+use Rattle.swap_world.specs.declared.actor.Actor.TheVariants.{Planned}
+use Rattle.swap_world.proofs.States.{IsPlanAt, answered, state}
+use Rattle.swap_world.proofs.Worlds.{Seeds, good_step, kept_step, world}
+
+-- as many questions as parties that asked
+pub questions_each : (roles : List Role) (ps : List ℕ) (ns : List Plan) → length ps ≡ length ns → length (questions_in roles ps ns) ≡ length ps
+questions_each roles [] ns e = refl
+questions_each roles (p ∷ ps) [] e = absurd (cc e)
+questions_each roles (p ∷ ps) (n ∷ ns) e = let l = questions_each roles ps ns (omega (arith, e)) in omega (arith, l)
+
+-- one more question
+pub questions_more : (roles : List Role) (ps : List ℕ) (ns : List Plan) (p : ℕ) (n : Plan) → length ps ≡ length ns
+    → questions_in roles (ps ++ p ∷ []) (ns ++ n ∷ []) ≡ questions_in roles ps ns ++ question_of (name_in (get_or roles p kinds.Manual)) p n ∷ []
+questions_more roles [] [] p n e = refl
+questions_more roles [] (m ∷ ns) p n e = absurd (cc e)
+questions_more roles (q ∷ ps) [] p n e = absurd (cc e)
+questions_more roles (q ∷ ps) (m ∷ ns) p n e =
+    ap (λ (qs : List Question). question_of (name_in (get_or roles q kinds.Manual)) q m ∷ qs) (questions_more roles ps ns p n (omega (arith, e)))
+
+-- Party p, which plans n, has asked the strategy of that name, and o was answered.
+pub record IsAsking (gives : Gives) (d : Deal) (conforming : List Bool) (seeds : Seeds) (roles : List Role) (ps : List ℕ) (ns : List Plan)
+    (os : List (Option (ℕ × Call))) (ls : List LedgerState) (xs : List Actor) (p : ℕ) (n : Plan) (name : List ℕ) (o : Option (ℕ × Call))
+    (ps' : List ℕ) (ns' : List Plan) (os' : List (Option (ℕ × Call))) : Type 0 where
+  pub askers : length ps ≡ length os
+  pub told : length ns ≡ length os
+  pub place : IsPlanAt d conforming seeds roles (questions_in roles ps ns) ls xs p n
+  pub role : get_or roles p kinds.Manual ≡ kinds.Strategy name
+  pub may : MayAnswer d p o
+  pub given : gives name d p n.turns n.known o
+  pub asker : ps' ≡ ps ++ p ∷ []
+  pub plan : ns' ≡ ns ++ n ∷ []
+  pub answer : os' ≡ os ++ o ∷ []
+
+module _ {gives : Gives} {d : Deal} {conforming : List Bool} {seeds : Seeds} {roles : List Role} {ps : List ℕ} {ns : List Plan}
+    {os : List (Option (ℕ × Call))} {ls : List LedgerState} {xs : List Actor} {p : ℕ} {n : Plan} {name : List ℕ} {o : Option (ℕ × Call)}
+    {ps' : List ℕ} {ns' : List Plan} {os' : List (Option (ℕ × Call))}
+    (k : IsAsking gives d conforming seeds roles ps ns os ls xs p n name o ps' ns' os') where
+  abbrev c : Cast
+  c = cast_with d conforming seeds roles
+
+  abbrev before : List Question
+  before = questions_in roles ps ns
+
+  abbrev after : List Question
+  after = questions_in roles ps' ns'
+
+  abbrev s : State
+  s = state d before xs (histories ls)
+
+  asks_more : after ≡ before ++ question_of name p n ∷ []
+  asks_more =
+      ap₂ (λ (x : List ℕ) (y : List Plan). questions_in roles x y) k.asker k.plan
+      ∙ (questions_more roles ps ns p n (k.askers ∙ sym k.told)
+      ∙ ap (λ (x : List ℕ). before ++ question_of x p n ∷ []) (ap name_in k.role))
+
+  -- the answers go on so
+  abbrev pub Follows : Answers → Type 0
+  Follows g = (i : ℕ) → i < length os' → g i ≡ get_or os' i None
+
+  now_is : (g : Answers) → Follows g → g (length before) ≡ o
+  now_is g e =
+      let longer : length os' ≡ length os + 1 = ap length k.answer ∙ length-append os (o ∷ []) in
+      ap g (questions_each roles ps ns (k.askers ∙ sym k.told) ∙ k.askers)
+      ∙ (e (length os) (omega arith)
+      ∙ (ap (λ (x : List (Option (ℕ × Call))). get_or x (length os) None) k.answer ∙ get_or_at os o [] None (length os) refl))
+
+  -- what the act comes to, with any answers that go on so
+  stepped : (g : Answers) → Follows g → (new : Plan) (b : Histories) → b ≡ taken d p o (histories ls)
+      → new ≡ seen d p o (histories ls) (asked_once n) → state d after (set xs p (Planned new)) b ≡ step (with_answers c g) s (Act p)
+  stepped g e new b eb en =
+      ap (λ (x : List Question). state d x (set xs p (Planned new)) b) asks_more
+      ∙ answered d conforming seeds roles before ls xs g p n new b name o k.place k.role (now_is g e) k.may eb en
+
+  -- the histories alone
+  stepped_book : (g : Answers) → Follows g → taken d p o (histories ls) ≡ (step (with_answers c g) s (Act p)).book
+  stepped_book g e =
+      ap (λ (t : State). t.book) (stepped g e (seen d p o (histories ls) (asked_once n)) (taken d p o (histories ls)) refl refl)
+
+  -- the world before
+  abbrev pub old : Bool → WorldState
+  old stopped = world d conforming seeds roles os stopped s
+
+  -- the world with another plan and other histories
+  abbrev pub now : Bool → Plan → Histories → WorldState
+  now stopped new b = world d conforming seeds roles os' stopped (state d after (set xs p (Planned new)) b)
+
+  has_asked : (x y : Bool) (new : Plan) (b : Histories) → HasAsked gives (old x) (now y new b)
+  has_asked x y new b =
+      let one : Answered = record { question = question_of name p n; answer = o } in
+      record {
+        more = one ∷ [];
+        questions = asks_more;
+        answers = k.answer;
+        may = All-cons (MayCome gives d) one [] k.given (All-nil (MayCome gives d));
+      }
+
+  pub has_gone : {A E : Type 0} (r : Result A E) (x y : Bool) (new : Plan) (b : Histories) → y ≡ is_err r → x ≡ false
+      → OnOk r (b ≡ taken d p o (histories ls)) → OnOk r (new ≡ seen d p o (histories ls) (asked_once n))
+      → OnOk r (HasGone gives (λ c s. step c s (Act p)) (old x) (now y new b))
+  has_gone (Ok u) x y new b is on eb en = record {
+    asked = has_asked x y new b;
+    same = ap (λ (z : Bool). now z new b) (is ∙ sym on);
+    state = λ g e. stepped g e new b eb en;
+  }
+  has_gone (Err u) x y new b is on eb en = tt
+
+  pub is_cut : {A E : Type 0} (r : Result A E) (x y : Bool) (new : Plan) (b : Histories)
+      → OnErr r ((b ≡ histories ls) ⊎ (b ≡ taken d p o (histories ls))) → OnErr r (IsCut gives (Act p) (old x) (now y new b))
+  is_cut (Ok u) x y new b err = tt
+  is_cut (Err u) x y new b err = record { cast = refl; asked = has_asked x y new b; book = by err }
+    where
+      by : (b ≡ histories ls) ⊎ (b ≡ taken d p o (histories ls))
+          → (b ≡ histories ls) ⊎ ((g : Answers) → Continues (now y new b) g → b ≡ (step (cast_for (old x) g) s (Act p)).book)
+      by (inl h) = inl h
+      by (inr h) = inr (λ g e. h ∙ stepped_book g e)
+
+  -- the answers so far
+  abbrev so_far : Answers
+  so_far i = get_or os' i None
+
+  pub good_asked : {A E : Type 0} (r : Result A E) (y : Bool) (new : Plan) (b : Histories) → y ≡ is_err r → y ≡ false
+      → OnOk r (b ≡ taken d p o (histories ls)) → OnOk r (new ≡ seen d p o (histories ls) (asked_once n))
+      → IsReadyCast c → p < d.graph.n → IsGood c s → IsGood c (state d after (set xs p (Planned new)) b)
+  good_asked (Ok u) y new b is on eb en ready can good =
+      subst (IsGood c) (sym (stepped so_far (λ i l. refl) new b eb en)) (good_step c so_far s (Act p) ready can good)
+  good_asked (Err u) y new b is on eb en ready can good = absurd (false≢true (sym on ∙ is))
+
+  kept_after : IsReadyCast c → p < d.graph.n → IsGood c s → IsKept c (taken d p o (histories ls))
+  kept_after ready can good = subst (IsKept c) (sym (stepped_book so_far (λ i l. refl))) (kept_step c so_far s (Act p) ready can good)
+
+  pub kept_asked : {A E : Type 0} (r : Result A E) (b : Histories) → OnOk r (b ≡ taken d p o (histories ls))
+      → OnErr r ((b ≡ histories ls) ⊎ (b ≡ taken d p o (histories ls))) → IsReadyCast c → p < d.graph.n → IsGood c s → IsKept c b
+  kept_asked (Ok u) b ok err ready can good = subst (IsKept c) (sym ok) (kept_after ready can good)
+  kept_asked (Err u) b ok err ready can good = by err
+    where
+      by : (b ≡ histories ls) ⊎ (b ≡ taken d p o (histories ls)) → IsKept c b
+      by (inl h) = subst (IsKept c) (sym h) (good_is_kept c s ready good)
+      by (inr h) = subst (IsKept c) (sym h) (kept_after ready can good)

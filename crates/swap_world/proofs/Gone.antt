@@ -1,0 +1,329 @@
+-- Worlds that go on, and worlds that stop: one after another, and whatever is answered.
+use Rattle.std.proofs.Common.{◌≡◌, ◌⊎◌, inl, inr, Result, Ok, Err, OnOk, OnErr, ℕ, ◌+◌, ◌<◌, Bool, true, false, cond, List, [], ◌++◌, length, map, Option}
+use Rattle.std.proofs.Common.{Some, None, get_or, refl, sym, ap, ap₂, ◌∙◌, subst, arith, append_assoc, length-append}
+use Rattle.std.proofs.lemmas.List.{append-nil, map-append, get_or_append_left}
+use Rattle.std.proofs.lemmas.List.Elements.{All-nil, All-append}
+use Rattle.std.specs.List.{All}
+use Rattle.swap_digraph.specs.declared.deal.Deal.{Deal}
+use Rattle.ledger_core.specs.declared.entry.Call.{Call}
+use Rattle.deviator_script.specs.Resolved.{resolved}
+use Rattle.deviator_script.specs.Script.{next_call, moves_left}
+use Rattle.deviator_script.specs.Step.{CanStep}
+use Rattle.deviator_script.specs.declared.event.Event.{Event}
+use Rattle.deviator_script.specs.declared.event.Event.TheVariants.{Tick, Look, Act, Call as Made}
+use Rattle.deviator_script.specs.declared.job.Role.{Role}
+use Rattle.deviator_script.specs.declared.job.Role.TheVariants.{Conforming, Manual, Script, Strategy}
+use Rattle.deviator_script.specs.declared.moves.Move.{Move}
+use Rattle.swap_rules.specs.Due.{Action}
+use Rattle.swap_run.specs.Asked.{Answers, with_answers, is_strategy}
+use Rattle.swap_run.specs.Run.{Cast, Question, State, conforms, role_of, plan_of, look, make, next_of, act, watch, take_call, after_turn, act_as, step}
+use Rattle.swap_run.specs.FairLaws.{IsReached}
+use Rattle.swap_run.proofs.Reached.{no_event}
+use Rattle.swap_world.specs.Cast.{asks}
+use Rattle.swap_world.specs.Value.{WorldState, cast_at, cast_for, Continues}
+use Rattle.swap_world.specs.Staff.{AreHeld}
+use Rattle.swap_world.specs.Gone.{Gives, Answered, MayCome, HasAsked, HasGone, IsCut}
+use Rattle.swap_world.specs.Stopped.{IsOnTheWay, IsStopped}
+use Rattle.swap_world.proofs.Plans.{take_same}
+use Rattle.swap_world.proofs.Ways.{at, way_then, way_after, way_of_step}
+
+-- What is asked.
+
+-- the answer of a question and its answer
+abbrev answer : Answered → Option (ℕ × Call)
+answer x = x.answer
+
+abbrev question : Answered → Question
+question x = x.question
+
+-- what continues the answers of a later world continues those of an earlier one
+pub continues_less : (gives : Gives) (old new : WorldState) (g : Answers) → HasAsked gives old new → Continues new g → Continues old g
+continues_less gives old new g k e i l =
+    let longer : length new.answers ≡ length old.answers + length (map answer k.more)
+    = ap length k.answers ∙ length-append old.answers (map answer k.more) in
+    e i (omega arith) ∙ (ap (λ (xs : List (Option (ℕ × Call))). get_or xs i None) k.answers
+    ∙ get_or_append_left old.answers (map answer k.more) None i l)
+
+pub nothing_asked : (gives : Gives) (old new : WorldState) → new.state.asked ≡ old.state.asked → new.answers ≡ old.answers → HasAsked gives old new
+nothing_asked gives old new q a = record {
+  more = [];
+  questions = q ∙ sym (append-nil old.state.asked);
+  answers = a ∙ sym (append-nil old.answers);
+  may = All-nil (MayCome gives old.deal);
+}
+
+pub more_asked : (gives : Gives) (old mid new : WorldState) → HasAsked gives old mid → mid.deal ≡ old.deal → HasAsked gives mid new → HasAsked gives old new
+more_asked gives old mid new a d b = record {
+  more = a.more ++ b.more;
+  questions =
+      b.questions ∙ (ap (λ (qs : List Question). qs ++ map question b.more) a.questions
+      ∙ (append_assoc old.state.asked (map question a.more) (map question b.more)
+      ∙ ap (λ (qs : List Question). old.state.asked ++ qs) (sym (map-append question a.more b.more))));
+  answers =
+      b.answers ∙ (ap (λ (xs : List (Option (ℕ × Call))). xs ++ map answer b.more) a.answers
+      ∙ (append_assoc old.answers (map answer a.more) (map answer b.more)
+      ∙ ap (λ (xs : List (Option (ℕ × Call))). old.answers ++ xs) (sym (map-append answer a.more b.more))));
+  may = All-append (MayCome gives old.deal) a.more b.more a.may (subst (λ (x : Deal). All (MayCome gives x) b.more) d b.may);
+}
+
+-- Worlds that go on.
+
+module _ (gives : Gives) where
+  -- where f changes nothing
+  pub stays : (f : Cast → State → State) (w : WorldState) → ((g : Answers) → f (cast_for w g) w.state ≡ w.state) → HasGone gives f w w
+  stays f w e = record { asked = nothing_asked gives w w refl refl; same = refl; state = λ g k. sym (e g) }
+
+  pub begun : (w : WorldState) → HasGone gives (λ c s. s) w w
+  begun w = stays (λ c s. s) w (λ g. refl)
+
+  -- by a function that is the same
+  pub gone_as : (f h : Cast → State → State) (old new : WorldState) → ((g : Answers) → f (cast_for old g) old.state ≡ h (cast_for old g) old.state)
+      → HasGone gives f old new → HasGone gives h old new
+  gone_as f h old new e k = record { asked = k.asked; same = k.same; state = λ g x. k.state g x ∙ e g }
+
+  pub cast_gone : (f : Cast → State → State) (old new : WorldState) → HasGone gives f old new → cast_at new ≡ cast_at old
+  cast_gone f old new k = ap cast_at k.same
+
+  pub for_gone : (f : Cast → State → State) (old new : WorldState) (g : Answers) → HasGone gives f old new → cast_for new g ≡ cast_for old g
+  for_gone f old new g k = ap (λ (c : Cast). with_answers c g) (cast_gone f old new k)
+
+  pub deal_gone : (f : Cast → State → State) (old new : WorldState) → HasGone gives f old new → new.deal ≡ old.deal
+  deal_gone f old new k = ap (λ (w : WorldState). w.deal) k.same
+
+  pub can_gone : (f : Cast → State → State) (old new : WorldState) (e : Event) → HasGone gives f old new → CanStep old.deal old.conforming old.seeds e
+      → CanStep new.deal new.conforming new.seeds e
+  can_gone f old new e k can = subst (λ (w : WorldState). CanStep w.deal w.conforming w.seeds e) (sym k.same) can
+
+  pub held_gone : (f : Cast → State → State) (old new : WorldState) (holds : List ℕ → Bool) → HasGone gives f old new → AreHeld holds old.roles
+      → AreHeld holds new.roles
+  held_gone f old new holds k held = subst (λ (w : WorldState). AreHeld holds w.roles) (sym k.same) held
+
+  pub goes_on_gone : (f : Cast → State → State) (old new : WorldState) → HasGone gives f old new → old.stopped ≡ false → new.stopped ≡ false
+  goes_on_gone f old new k on = ap (λ (w : WorldState). w.stopped) k.same ∙ on
+
+  pub gone_then : (f h : Cast → State → State) (old mid new : WorldState) → HasGone gives f old mid → HasGone gives h mid new
+      → HasGone gives (λ c s. h c (f c s)) old new
+  gone_then f h old mid new a b = record {
+    asked = more_asked gives old mid new a.asked (deal_gone f old mid a) b.asked;
+    same = b.same ∙ ap (λ (w : WorldState). record w { answers = new.answers; state = new.state }) a.same;
+    state =
+        λ g k. b.state g k ∙ ap₂ (λ (c : Cast) (s : State). h c s) (for_gone f old mid g a) (a.state g (continues_less gives mid new g b.asked k));
+  }
+
+  -- Worlds that stop.
+
+  -- events lead from the old world's state to where f leads
+  abbrev pub Leads : (Cast → State → State) → WorldState → Type 0
+  Leads f w = (g : Answers) (s : State) → IsReached (cast_for w g) s (f (cast_for w g) s)
+
+  pub stopped_as : (f h : Cast → State → State) (old new : WorldState) → ((g : Answers) → f (cast_for old g) old.state ≡ h (cast_for old g) old.state)
+      → IsStopped gives f old new → IsStopped gives h old new
+  stopped_as f h old new e k = record {
+    stopped = k.stopped;
+    cast = k.cast;
+    asked = k.asked;
+    book = λ g x. subst (λ t. IsOnTheWay (cast_for old g) old.state t new.state.book) (e g) (k.book g x);
+  }
+
+  -- on the way to a state from which events lead on
+  pub stopped_then : (f h : Cast → State → State) (old new : WorldState) → IsStopped gives f old new → Leads h old
+      → IsStopped gives (λ c s. h c (f c s)) old new
+  stopped_then f h old new k leads = record {
+    stopped = k.stopped;
+    cast = k.cast;
+    asked = k.asked;
+    book = λ g x. let c = cast_for old g in
+        way_then c old.state (f c old.state) (h c (f c old.state)) new.state.book (k.book g x) (leads g (f c old.state));
+  }
+
+  -- on the way from another world, to which events lead
+  pub way_from : (f h : Cast → State → State) (old mid new : WorldState) (g : Answers) → HasGone gives f old mid → HasAsked gives mid new → Continues new g
+      → IsOnTheWay (cast_for mid g) mid.state (h (cast_for mid g) mid.state) new.state.book
+      → IsOnTheWay (cast_for old g) (f (cast_for old g) old.state) (h (cast_for old g) (f (cast_for old g) old.state)) new.state.book
+  way_from f h old mid new g a more k way =
+      subst (λ (s : State). IsOnTheWay (cast_for old g) s (h (cast_for old g) s) new.state.book) (a.state g (continues_less gives mid new g more k))
+      (subst (λ (c : Cast). IsOnTheWay c mid.state (h c mid.state) new.state.book) (for_gone f old mid g a) way)
+
+  pub stopped_after : (f h : Cast → State → State) (old mid new : WorldState) → HasGone gives f old mid → Leads f old → IsStopped gives h mid new
+      → IsStopped gives (λ c s. h c (f c s)) old new
+  stopped_after f h old mid new a leads k = record {
+    stopped = k.stopped;
+    cast = k.cast ∙ cast_gone f old mid a;
+    asked = more_asked gives old mid new a.asked (deal_gone f old mid a) k.asked;
+    book = λ g x. let c = cast_for old g in
+        way_after c old.state (f c old.state) (h c (f c old.state)) new.state.book (leads g old.state)
+        (way_from f h old mid new g a k.asked x (k.book g x));
+  }
+
+  -- in an event that wanted memory
+  pub stopped_in : (old new : WorldState) (e : Event) → CanStep old.deal old.conforming old.seeds e → new.stopped ≡ true → IsCut gives e old new
+      → IsStopped gives (λ c s. step c s e) old new
+  stopped_in old new e can stopped k = record {
+    stopped = stopped;
+    cast = k.cast;
+    asked = k.asked;
+    book = λ g x. way_of_step (cast_for old g) old.state e new.state.book can (either g x k.book);
+  }
+    where
+      either : (g : Answers) → Continues new g
+          → (new.state.book ≡ old.state.book) ⊎ ((g : Answers) → Continues new g → new.state.book ≡ (step (cast_for old g) old.state e).book)
+          → (new.state.book ≡ old.state.book) ⊎ (new.state.book ≡ (step (cast_for old g) old.state e).book)
+      either g x (inl h) = inl h
+      either g x (inr h) = inr (h g x)
+
+  pub stopped_by : {A E : Type 0} (r : Result A E) (old new : WorldState) (e : Event) (f : Cast → State → State)
+      → ((g : Answers) → step (cast_for old g) old.state e ≡ f (cast_for old g) old.state) → CanStep old.deal old.conforming old.seeds e
+      → OnErr r (new.stopped ≡ true) → OnErr r (IsCut gives e old new) → OnErr r (IsStopped gives f old new)
+  stopped_by (Ok x) old new e f same can stopped k = tt
+  stopped_by (Err x) old new e f same can stopped k = stopped_as (λ c s. step c s e) f old new same (stopped_in old new e can stopped k)
+
+  -- A world that stopped before stays where it is.
+  pub stopped_before : (f : Cast → State → State) (w : WorldState) → w.stopped ≡ true → Leads f w → IsStopped gives f w w
+  stopped_before f w e leads = record {
+    stopped = e;
+    cast = refl;
+    asked = nothing_asked gives w w refl refl;
+    book = λ g x. record { there = w.state; before = no_event (cast_for w g) w.state; after = leads g w.state; book = refl };
+  }
+
+-- Events in which nothing is asked.
+
+-- Whatever is answered, the event does the same, and it asks nothing.
+pub record IsQuiet (c : Cast) (s : State) (e : Event) : Type 0 where
+  pub same : (g : Answers) → step (with_answers c g) s e ≡ step c s e
+  pub asked : (step c s e).asked ≡ s.asked
+
+either_asked : (b : Bool) (s t u : State) → t.asked ≡ s.asked → u.asked ≡ s.asked → (cond b t u).asked ≡ s.asked
+either_asked true s t u x y = x
+either_asked false s t u x y = y
+
+take_asked : (c : Cast) (s : State) (v : ℕ) (o : Option (ℕ × Call)) → (take_call c s v o).asked ≡ s.asked
+take_asked c s v None = refl
+take_asked c s v (Some x) = refl
+
+make_asked : (c : Cast) (s : State) (v : ℕ) (o : Option Action) → (make c.deal s v o).asked ≡ s.asked
+make_asked c s v None = refl
+make_asked c s v (Some x) = refl
+
+pub quiet_tick : (c : Cast) (s : State) (a k : ℕ) → IsQuiet c s (Tick a k)
+quiet_tick c s a k = record { same = λ g. refl; asked = refl }
+
+pub quiet_look : (c : Cast) (s : State) (v a : ℕ) → IsQuiet c s (Look v a)
+quiet_look c s v a = record { same = λ g. refl; asked = either_asked (conforms c v) s (look s v a) (watch c s v a) refl refl }
+
+pub quiet_call : (c : Cast) (s : State) (v : ℕ) (mv : Move) → IsQuiet c s (Made v mv)
+quiet_call c s v mv = record {
+  same = λ g. take_same c g s v (resolved c.deal c.seeds s.book mv);
+  asked = take_asked c s v (resolved c.deal c.seeds s.book mv);
+}
+
+act_quiet : (c : Cast) (s : State) (v : ℕ) (role : Role) → is_strategy role ≡ false → ((g : Answers) → act_as (with_answers c g) s v role ≡ act_as c s v role)
+    × ((act_as c s v role).asked ≡ s.asked)
+act_quiet c s v Conforming e = ((λ g. refl), refl)
+act_quiet c s v Manual e = ((λ g. refl), refl)
+act_quiet c s v (Script moves) e =
+    let t = after_turn s v (moves_left (plan_of s v).known (plan_of s v).moves) in
+    let o = next_call c.deal c.seeds (plan_of s v).known (plan_of s v).moves in
+    ((λ g. take_same c g t v o), take_asked c t v o)
+act_quiet c s v (Strategy name) e = absurd (cc e)
+
+own_quiet : (c : Cast) (s : State) (v : ℕ) (b : Bool) → conforms c v ≡ b → cond b false (is_strategy (role_of c v)) ≡ false → IsQuiet c s (Act v)
+own_quiet c s v true e alone = record {
+  same = λ g. ap (λ (b : Bool). cond b (act c s v) (act_as (with_answers c g) s v (role_of c v))) e
+      ∙ sym (ap (λ (b : Bool). cond b (act c s v) (act_as c s v (role_of c v))) e);
+  asked = ap (λ (b : Bool). (cond b (act c s v) (act_as c s v (role_of c v))).asked) e ∙ make_asked c s v (next_of c s v);
+}
+own_quiet c s v false e alone =
+    let k = act_quiet c s v (role_of c v) alone in
+    record {
+      same = λ g. ap (λ (t : State). cond (conforms c v) (act c s v) t) (k.0 g);
+      asked = ap (λ (b : Bool). (cond b (act c s v) (act_as c s v (role_of c v))).asked) e ∙ k.1;
+    }
+
+-- an act of a party that asks no strategy
+pub quiet_act : (c : Cast) (s : State) (v : ℕ) → asks c v ≡ false → IsQuiet c s (Act v)
+quiet_act c s v alone = own_quiet c s v (conforms c v) refl alone
+
+not_asking_as : (c : Cast) (v : ℕ) (b : Bool) → b ≡ false → cond b false (is_strategy (role_of c v)) ≡ false → is_strategy (role_of c v) ≡ false
+not_asking_as c v true e f = absurd (cc e)
+not_asking_as c v false e f = f
+
+-- who neither conforms nor asks follows no strategy
+pub not_asking : (c : Cast) (v : ℕ) → conforms c v ≡ false → asks c v ≡ false → is_strategy (role_of c v) ≡ false
+not_asking c v e f = not_asking_as c v (conforms c v) e f
+
+asking_as : (c : Cast) (v : ℕ) (b : Bool) → cond b false (is_strategy (role_of c v)) ≡ true → (b ≡ false) × (is_strategy (role_of c v) ≡ true)
+asking_as c v true e = absurd (cc e)
+asking_as c v false e = (refl, e)
+
+-- who asks doesn't conform, and follows a strategy
+pub asking : (c : Cast) (v : ℕ) → asks c v ≡ true → (conforms c v ≡ false) × (is_strategy (role_of c v) ≡ true)
+asking c v e = asking_as c v (conforms c v) e
+
+conforming_alone : (c : Cast) (v : ℕ) (b : Bool) → b ≡ true → cond b false (is_strategy (role_of c v)) ≡ false
+conforming_alone c v true e = refl
+conforming_alone c v false e = absurd (cc e)
+
+-- and so of one that conforms
+pub alone_conforming : (c : Cast) (v : ℕ) → conforms c v ≡ true → asks c v ≡ false
+alone_conforming c v e = conforming_alone c v (conforms c v) e
+
+-- a quiet event that a world took
+pub went_to : (gives : Gives) (old new : WorldState) (e : Event) → IsQuiet (cast_at old) old.state e → new ≡ at old (step (cast_at old) old.state e)
+    → HasGone gives (λ c s. step c s e) old new
+went_to gives old new e quiet is = record {
+  asked = nothing_asked gives old new (ap (λ (w : WorldState). w.state.asked) is ∙ quiet.asked) (ap (λ (w : WorldState). w.answers) is);
+  same = is ∙ ap (λ (w : WorldState). record old { answers = w.answers; state = w.state }) (sym is);
+  state = λ g k. ap (λ (w : WorldState). w.state) is ∙ sym (quiet.same g);
+}
+
+pub went : {A E : Type 0} (r : Result A E) (gives : Gives) (old new : WorldState) (e : Event) → IsQuiet (cast_at old) old.state e
+    → OnOk r (new ≡ at old (step (cast_at old) old.state e)) → OnOk r (HasGone gives (λ c s. step c s e) old new)
+went (Ok x) gives old new e quiet is = went_to gives old new e quiet is
+went (Err x) gives old new e quiet is = tt
+
+-- and one in which memory ran out, with nothing changed
+pub unmoved : {A E : Type 0} (r : Result A E) (gives : Gives) (old new : WorldState) (e : Event) → OnErr r (new ≡ old) → OnErr r (IsCut gives e old new)
+unmoved (Ok x) gives old new e is = tt
+unmoved (Err x) gives old new e is = record {
+  cast = ap cast_at is;
+  asked = nothing_asked gives old new (ap (λ (w : WorldState). w.state.asked) is) (ap (λ (w : WorldState). w.answers) is);
+  book = inl (ap (λ (w : WorldState). w.state.book) is);
+}
+
+-- or after the call
+pub cut_to : (gives : Gives) (old new : WorldState) (e : Event) → IsQuiet (cast_at old) old.state e → cast_at new ≡ cast_at old
+    → new.state.asked ≡ old.state.asked → new.answers ≡ old.answers
+    → (new.state.book ≡ old.state.book) ⊎ (new.state.book ≡ (step (cast_at old) old.state e).book) → IsCut gives e old new
+cut_to gives old new e quiet cast asked answers book = record { cast = cast; asked = nothing_asked gives old new asked answers; book = by book }
+  where
+    by : (new.state.book ≡ old.state.book) ⊎ (new.state.book ≡ (step (cast_at old) old.state e).book)
+        → (new.state.book ≡ old.state.book) ⊎ ((g : Answers) → Continues new g → new.state.book ≡ (step (cast_for old g) old.state e).book)
+    by (inl h) = inl h
+    by (inr h) = inr (λ g k. h ∙ ap (λ (s : State). s.book) (sym (quiet.same g)))
+
+pub cut : {A E : Type 0} (r : Result A E) (gives : Gives) (old new : WorldState) (e : Event) → IsQuiet (cast_at old) old.state e
+    → OnErr r (cast_at new ≡ cast_at old) → OnErr r (new.state.asked ≡ old.state.asked) → OnErr r (new.answers ≡ old.answers)
+    → OnErr r ((new.state.book ≡ old.state.book) ⊎ (new.state.book ≡ (step (cast_at old) old.state e).book)) → OnErr r (IsCut gives e old new)
+cut (Ok x) gives old new e quiet cast asked answers book = tt
+cut (Err x) gives old new e quiet cast asked answers book = cut_to gives old new e quiet cast asked answers book
+
+-- a cut world that stops
+pub cut_still : (gives : Gives) (e : Event) (old mid new : WorldState) → cast_at new ≡ cast_at mid → new.answers ≡ mid.answers → new.state ≡ mid.state
+    → IsCut gives e old mid → IsCut gives e old new
+cut_still gives e old mid new cast answers state k = record {
+  cast = cast ∙ k.cast;
+  asked = record {
+    more = k.asked.more;
+    questions = ap (λ (s : State). s.asked) state ∙ k.asked.questions;
+    answers = answers ∙ k.asked.answers;
+    may = k.asked.may;
+  };
+  book = by k.book;
+}
+  where
+    by : (mid.state.book ≡ old.state.book) ⊎ ((g : Answers) → Continues mid g → mid.state.book ≡ (step (cast_for old g) old.state e).book)
+        → (new.state.book ≡ old.state.book) ⊎ ((g : Answers) → Continues new g → new.state.book ≡ (step (cast_for old g) old.state e).book)
+    by (inl h) = inl (ap (λ (s : State). s.book) state ∙ h)
+    by (inr h) = inr (λ g c.
+        ap (λ (s : State). s.book) state ∙ h g (subst (λ (xs : List (Option (ℕ × Call))). (i : ℕ) → i < length xs → g i ≡ get_or xs i None) answers c))

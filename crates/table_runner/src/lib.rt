@@ -1,0 +1,14 @@
+//! Runs of the program over texts, and tables of them. Tests of the program are told with these; no program stands on them.
+//!
+//! `answer` is all that the program answers to words and an input, as one text. `cases`, `refuses` and `accepts` go through tables
+//! whose rows edit a deal of `deals`.
+#![tactic(auto)]
+
+pub mod deals;
+mod runs;
+mod signatures;
+mod tables;
+
+pub use runs::{answer, answer_from, answer_where, answers, line_of};
+pub use signatures::signed;
+pub use tables::{accepts, cases, edited, refuses};

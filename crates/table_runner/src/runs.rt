@@ -1,0 +1,134 @@
+//! One run of the program over a text.
+
+use refusals::Reason;
+use std::alloc::Global;
+use std::test::Fail;
+use swap_base::{ByteText, Listed};
+use swap_io::{VecSink, VecSource};
+use swap_main::{Program, Status, refusal_line, swap_plain};
+
+/// More bytes than any text has here that is written.
+const ROOM: usize = 1_048_576;
+
+/// The most bytes of one read.
+const PER_READ: usize = 512;
+
+/// The most bytes of one write.
+const PER_WRITE: usize = 100;
+
+/// The program's status. What its contract says of it stays here: it would be carried along by whatever comes after.
+fn status_of(
+    alloc: Global,
+    words: &Vec<String>,
+    source: &mut VecSource,
+    sink: &mut VecSink,
+) -> Status {
+    swap_plain(alloc, words, source, sink, &Program { alloc })
+}
+
+/// A refusal's line.
+pub fn line_of(alloc: Global, reason: &Reason, names: &Listed<ByteText>) -> Result<Vec<u8>, Fail> {
+    Ok(refusal_line(alloc, reason, names.as_slice())?.into_vec())
+}
+
+/// The first line of an answer: the refusal's, or a word for the status.
+fn first_line(alloc: Global, status: &Status) -> Result<Vec<u8>, Fail> {
+    let word = match status {
+        Status::Done => "done",
+        Status::Named => "named",
+        Status::WrongWords => "wrong words",
+        Status::Refused(reason, names) => return line_of(alloc, reason, names),
+        Status::ReadFault => "read fault",
+        Status::WriteFault => "write fault",
+        Status::NoMemory => "no memory",
+        Status::TooLong => "too long",
+    };
+    Ok(Vec::from_slice(alloc, word.as_bytes())?)
+}
+
+fn told(alloc: Global, status: &Status, taken: &[u8]) -> Result<Vec<u8>, Fail> {
+    let mut answer = first_line(alloc, status)?;
+    answer.push(b'\n')?;
+    answer.extend_from_slice(taken)?;
+    Ok(answer)
+}
+
+fn told_of(
+    alloc: Global,
+    words: &Vec<String>,
+    source: &mut VecSource,
+    sink: &mut VecSink,
+) -> Result<Vec<u8>, Fail> {
+    let status = status_of(alloc, words, source, sink);
+    told(alloc, &status, sink.taken())
+}
+
+fn owned(alloc: Global, words: &[&str]) -> Result<Vec<String>, Fail> {
+    let mut owned = Vec::new(alloc);
+    for word in words {
+        owned.push(String::from_str(alloc, word)?)?;
+    }
+    Ok(owned)
+}
+
+/// A sink of which some writes fail.
+fn sink_of(alloc: Global, failing: &[u64]) -> Result<VecSink, Fail> {
+    let failing = Vec::from_slice(alloc, failing)?;
+    Ok(VecSink::new(alloc, ROOM, PER_WRITE, failing)?)
+}
+
+/// What the program answers to its words and what a source gives, where some writes fail: a line for the status, and then all that it wrote.
+pub fn answer_from(
+    alloc: Global,
+    words: &[&str],
+    source: &mut VecSource,
+    writes: &[u64],
+) -> Result<Vec<u8>, Fail> {
+    let words = owned(alloc, words)?;
+    let mut sink = sink_of(alloc, writes)?;
+    told_of(alloc, &words, source, &mut sink)
+}
+
+/// The same of an input.
+pub fn answer(alloc: Global, words: &[&str], input: Vec<u8>) -> Result<Vec<u8>, Fail> {
+    let mut source = VecSource::new(input, PER_READ, Vec::new(alloc));
+    answer_from(alloc, words, &mut source, &[])
+}
+
+/// The same to one word, where some reads fail and some writes.
+pub fn answer_where(
+    alloc: Global,
+    word: &str,
+    input: Vec<u8>,
+    reads: &[u64],
+    writes: &[u64],
+) -> Result<Vec<u8>, Fail> {
+    let failing = Vec::from_slice(alloc, reads)?;
+    let mut source = VecSource::new(input, PER_READ, failing);
+    answer_from(alloc, &[word], &mut source, writes)
+}
+
+/// What a test tells of a row that missed its answer.
+pub fn missed(alloc: Global, name: &str, answered: &str) -> Result<Fail, Fail> {
+    let mut told = String::from_str(alloc, name)?;
+    told.push_str(" answered: ")?;
+    told.push_str(answered)?;
+    Ok(Fail::from(told))
+}
+
+/// The input of that name gets that answer.
+pub fn answers(
+    alloc: Global,
+    command: &str,
+    name: &str,
+    input: &str,
+    wanted: &str,
+) -> Result<(), Fail> {
+    let bytes = Vec::from_slice(alloc, input.as_bytes())?;
+    let answered = answer(alloc, &[command], bytes)?;
+    let text = str::from_utf8(&answered).unwrap_or("no text");
+    if text.as_bytes() != wanted.as_bytes() {
+        return Err(missed(alloc, name, text)?);
+    }
+    Ok(())
+}
