@@ -41,7 +41,7 @@ def deal_id(header, keyed):
     """The id of a header's deal; keyed says whether the mode is hashkeys."""
     number = {party["name"]: at for at, party in enumerate(header["parties"])}
     wide = lambda value, count: value.to_bytes(count, "big")
-    told = [b"\1", bytes([keyed, len(number), len(header["arcs"])])]
+    told = [bytes([header["swap"], keyed, len(number), len(header["arcs"])])]
     for arc in header["arcs"]:
         told.append(bytes([number[arc["from"]], number[arc["to"]]]) + wide(arc["amount"], 8) + wide(arc.get("timelock", 0), 4))
     told.append(bytes([len(header["leaders"]), *(number[it["party"]] for it in header["leaders"])]))
