@@ -1,13 +1,13 @@
 //! The deal of the tables.
 
-ghost use Rattle.std.specs.Prelude.{◌≡◌, IfOk, length};
+ghost use Rattle.std.specs.Prelude.{◌≡◌, ◌∷◌, [], IfOk, length};
 ghost use Rattle.swap_digraph.specs.Graph.{HasEnds};
 ghost use Rattle.swap_digraph.specs.Deal.{IsWellSized};
 
 use hex::FromHex;
 use std::alloc::Global;
 use std::test::Fail;
-use swap_base::{Digest, Listed};
+use swap_base::{Digest, Listed, PartyId};
 use swap_digraph::{ArcEnds, Deal, Digraph, Mode, Version};
 
 /// The hash of 32 bytes 0.
@@ -40,6 +40,25 @@ fn pair(alloc: Global) -> Result<Digraph, Fail>
     Ok(graph)
 }
 
+/// Two locks, of which party a leads both.
+fn locks(alloc: Global) -> Result<(Listed<PartyId>, Listed<Digest>), Fail>
+    ensures leaders { IfOk result (λ l. l.0 ≡ 0 ∷ 0 ∷ []) }
+    ensures hashlocks { IfOk result (λ l. length l.1 ≡ 2) }
+{
+    let leaders = Listed::new(Vec::from_slice(alloc, &[0, 0])?);
+    Ok((leaders, hashlocks(alloc)?))
+}
+
+/// What the two arcs pay, and until when.
+fn payments(alloc: Global) -> Result<(Listed<u64>, Listed<u32>), Fail>
+    ensures amounts { IfOk result (λ l. l.0 ≡ 100 ∷ 5 ∷ []) }
+    ensures timelocks { IfOk result (λ l. l.1 ≡ 50 ∷ 40 ∷ []) }
+{
+    let amounts = Listed::new(Vec::from_slice(alloc, &[100, 5])?);
+    let timelocks = Listed::new(Vec::from_slice(alloc, &[50, 40])?);
+    Ok((amounts, timelocks))
+}
+
 /// Party a, whose number is 0, and party b pay each other 100 and 5 units, until the heights 50 and 40. Party a leads two locks,
 /// whose secrets are 32 bytes 0 and 32 bytes 1.
 pub(crate) fn small_deal(alloc: Global) -> Result<Deal, Fail>
@@ -47,18 +66,21 @@ pub(crate) fn small_deal(alloc: Global) -> Result<Deal, Fail>
     ensures arcs { IfOk result (λ d. length d.graph.arcs ≡ 2) }
     ensures parties { IfOk result (λ d. d.graph.n ≡ 2) }
 {
+    let (leaders, hashlocks) = locks(alloc)?;
+    let (amounts, timelocks) = payments(alloc)?;
+    let graph = pair(alloc)?;
     Ok(Deal {
         version: Version::One,
-        graph: pair(alloc)?,
-        leaders: Listed::new(Vec::from_slice(alloc, &[0, 0])?),
+        graph,
+        leaders,
         start: 10,
         delta: 10,
         bound: 2,
         mode: Mode::Timelocks,
-        amounts: Listed::new(Vec::from_slice(alloc, &[100, 5])?),
-        hashlocks: hashlocks(alloc)?,
+        amounts,
+        hashlocks,
         keys: Listed::empty(alloc),
-        timelocks: Listed::new(Vec::from_slice(alloc, &[50, 40])?),
+        timelocks,
         id: [0; 32],
     })
 }

@@ -2,7 +2,7 @@
 
 ghost use Rattle.std.specs.Prelude.{◌≤◌, length};
 
-use crate::ledgers::follow;
+use crate::ledgers::{first_ledger, follow};
 use ledger_core::{Entry, EntryList, Ledger, Run};
 use std::alloc::Global;
 use std::process::Abort;
@@ -72,7 +72,7 @@ fn put_again(alloc: Global, ledger: &Ledger) -> Result<EntryList, Fail> {
     pushed(alloc, &entries)
 }
 
-/// The entries of a ledger are runs, put into a list anew and copied.
+/// The ticks of a ledger are runs where its entries are put into a list anew, and in a copy of that.
 fn are_runs(rt: &impl Abort, alloc: Global, ledger: &Ledger) -> Result<(), Fail> {
     let list = put_again(alloc, ledger)?;
     assert!(rt; is_in_runs(list.copy()?), "a copy");
@@ -80,11 +80,16 @@ fn are_runs(rt: &impl Abort, alloc: Global, ledger: &Ledger) -> Result<(), Fail>
     Ok(())
 }
 
+fn keeps_runs(rt: &impl Abort, alloc: Global, ledger: &mut Ledger) -> Result<(), Fail> {
+    follow(rt, alloc, ledger, APART)?;
+    copies(rt, alloc, ledger)?;
+    are_runs(rt, alloc, ledger)
+}
+
 #[test]
 fn ticks_are_runs(rt: HostRuntime) -> Result<(), Fail> {
-    let ledger = follow(&rt, rt.alloc(), APART)?;
-    copies(&rt, rt.alloc(), &ledger)?;
-    are_runs(&rt, rt.alloc(), &ledger)?;
+    let mut ledger = first_ledger(rt.alloc())?;
+    keeps_runs(&rt, rt.alloc(), &mut ledger)?;
     assert!(rt; is_in_runs(ledger.into_history()), "the ledger's");
     Ok(())
 }

@@ -58,13 +58,6 @@ fn act_often(
     Ok(())
 }
 
-/// A ledger after so many acts.
-fn after(rt: &impl Abort, alloc: Global, acts: u32, random: &mut Random) -> Result<Ledger, Fail> {
-    let mut ledger = first_ledger(alloc)?;
-    act_often(rt, alloc, &mut ledger, acts, random)?;
-    Ok(ledger)
-}
-
 /// One of thirteen kinds, of which ten are unlocks.
 fn kind_of(k: u8) -> CallKind {
     if k == 0 {
@@ -276,14 +269,24 @@ fn index_of(rt: &impl Abort, alloc: Global, ledger: &Ledger) -> Result<Index, Fa
 }
 
 /// How the contract of a ledger is settled after acts at random.
+fn settled_after(
+    rt: &impl Abort,
+    alloc: Global,
+    ledger: &mut Ledger,
+    random: &mut Random,
+) -> Result<Option<Settlement>, Fail> {
+    act_often(rt, alloc, ledger, 80, random)?;
+    let index = index_of(rt, alloc, ledger)?;
+    Ok(index.settled())
+}
+
 fn settled_at_random(
     rt: &impl Abort,
     alloc: Global,
     random: &mut Random,
 ) -> Result<Option<Settlement>, Fail> {
-    let ledger = after(rt, alloc, 80, random)?;
-    let index = index_of(rt, alloc, &ledger)?;
-    Ok(index.settled())
+    let mut ledger = first_ledger(alloc)?;
+    settled_after(rt, alloc, &mut ledger, random)
 }
 
 #[test]
@@ -332,7 +335,8 @@ fn tells_called(index: &Index) -> bool {
         && !index.called(0, CallKind::Refund)
 }
 
-fn tells(rt: &impl Abort, alloc: Global, ledger: &Ledger) -> Result<(), Fail> {
+fn tells(rt: &impl Abort, alloc: Global, ledger: &mut Ledger) -> Result<(), Fail> {
+    follow(rt, alloc, ledger, SETTLED)?;
     let index = index_of(rt, alloc, ledger)?;
     assert!(rt; tells_settled(&index));
     assert!(rt; tells_opened(&index));
@@ -342,6 +346,6 @@ fn tells(rt: &impl Abort, alloc: Global, ledger: &Ledger) -> Result<(), Fail> {
 
 #[test]
 fn answers_of_a_settled_contract(rt: HostRuntime) -> Result<(), Fail> {
-    let ledger = follow(&rt, rt.alloc(), SETTLED)?;
-    tells(&rt, rt.alloc(), &ledger)
+    let mut ledger = first_ledger(rt.alloc())?;
+    tells(&rt, rt.alloc(), &mut ledger)
 }

@@ -1,6 +1,6 @@
 //! A party that learns a ledger piece by piece takes a step for each entry, whatever the pieces.
 
-ghost use Rattle.std.specs.Prelude.{◌≡◌, ◌<◌, true, length, OnOk, IfOk};
+ghost use Rattle.std.specs.Prelude.{◌≡◌, ◌<◌, [], true, length, OnOk, IfOk};
 ghost use Rattle.swap_digraph.specs.Deal.{IsWellSized};
 ghost use Rattle.party_machine.specs.Machine.{new_machine};
 ghost use Rattle.ledger_tests.specs.UpTo.{IsLonger, IsUpTo};
@@ -94,6 +94,27 @@ fn machine_of(alloc: Global, deal: &Deal, seed: &Digest) -> Result<Machine, Fail
     }
 }
 
+/// Lets a machine of its own learn a ledger that has no entry yet.
+fn learn_anew<L: Counted>(
+    rt: &impl Abort,
+    alloc: Global,
+    deal: &Deal,
+    piece: u32,
+    ledger: &mut Ledger,
+    steps: &mut Steps<L>,
+) -> Result<(), Fail>
+    requires some { 0 < piece }
+    requires sized { IsWellSized deal.now }
+    requires party { 1 < deal.now.graph.n }
+    requires arc { 0 < length deal.now.graph.arcs }
+    requires new { ledger.old ≡ record { deal = deal.now; arc = 0; history = []; spare = 0 } }
+    requires none { steps.old ≡ 0 }
+    ensures { OnOk result (steps.new ≡ 10000) }
+{
+    let mut machine = machine_of(alloc, deal, &[9; 32])?;
+    learn_in_pieces(rt, &mut machine, ledger, piece, steps)
+}
+
 fn learn_of<L: Counted>(
     rt: &impl Abort,
     alloc: Global,
@@ -109,8 +130,7 @@ fn learn_of<L: Counted>(
     ensures { OnOk result (steps.new ≡ 10000) }
 {
     let mut ledger = Ledger::new(alloc, deal, 0)?;
-    let mut machine = machine_of(alloc, deal, &[9; 32])?;
-    learn_in_pieces(rt, &mut machine, &mut ledger, piece, steps)
+    learn_anew(rt, alloc, deal, piece, &mut ledger, steps)
 }
 
 fn count_steps<L: Counted>(

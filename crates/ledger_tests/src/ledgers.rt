@@ -51,17 +51,24 @@ fn two(words: &str) -> Result<(&str, &str), Fail> {
     Ok(words.split_once(" ").ok_or("no two words")?)
 }
 
+/// The transfer to a party of so many units.
+fn transfer_of(words: &str) -> Result<Call, Fail> {
+    let (to, units) = two(words)?;
+    Ok(Call::Transfer(party_of(to)?, units.parse()?))
+}
+
+/// The publish of so many units.
+fn publish_of(alloc: Global, ledger: &Ledger, words: &str) -> Result<Call, Fail> {
+    Ok(publish(alloc, ledger, words.parse()?)?)
+}
+
 /// The call of a kind that says more.
-fn call_with(alloc: Global, ledger: &Ledger, words: &str) -> Result<Call, Fail> {
-    let (kind, rest) = two(words)?;
+fn call_with(alloc: Global, ledger: &Ledger, kind: &str, rest: &str) -> Result<Call, Fail> {
     match kind {
-        "publish" => Ok(publish(alloc, ledger, rest.parse()?)?),
+        "publish" => publish_of(alloc, ledger, rest),
         "unlock" => unlock_of(alloc, rest, &[]),
         "trace" => unlock_of(alloc, rest, &[1]),
-        "pay" => {
-            let (to, units) = two(rest)?;
-            Ok(Call::Transfer(party_of(to)?, units.parse()?))
-        }
+        "pay" => transfer_of(rest),
         _ => Err("no call".into()),
     }
 }
@@ -71,7 +78,10 @@ fn call_of(alloc: Global, ledger: &Ledger, words: &str) -> Result<Call, Fail> {
     match words {
         "claim" => Ok(Call::Claim),
         "refund" => Ok(Call::Refund),
-        _ => call_with(alloc, ledger, words),
+        _ => {
+            let (kind, rest) = two(words)?;
+            call_with(alloc, ledger, kind, rest)
+        }
     }
 }
 
@@ -168,7 +178,15 @@ pub(crate) fn first_ledger(alloc: Global) -> Result<Ledger, Fail> {
     ledger_of(alloc, &deal)
 }
 
-fn follow_rows(
+/// Whether the accounts are those that the entries give.
+fn are_read(rt: &impl Abort, ledger: &Ledger) -> Result<bool, Fail> {
+    let read = accounts_read(ledger)?;
+    Ok(read == accounts(rt, ledger))
+}
+
+/// Lets a ledger follow the rows. Each says what is asked, the reply, and the units of the arc's party, those of its counterparty,
+/// and those held: `TIMES times ACT => REPLY UNITS UNITS UNITS`.
+pub(crate) fn follow(
     rt: &impl Abort,
     alloc: Global,
     ledger: &mut Ledger,
@@ -177,14 +195,6 @@ fn follow_rows(
     for row in rows.lines() {
         follow_row(rt, alloc, ledger, row)?;
     }
-    assert!(rt; accounts_read(ledger)? == accounts(rt, ledger));
+    assert!(rt; are_read(rt, ledger)?);
     Ok(())
-}
-
-/// A ledger of the deal's first arc that followed the rows. Each says what is asked, the reply, and the units of the arc's party,
-/// those of its counterparty, and those held: `TIMES times ACT => REPLY UNITS UNITS UNITS`.
-pub(crate) fn follow(rt: &impl Abort, alloc: Global, rows: &str) -> Result<Ledger, Fail> {
-    let mut ledger = first_ledger(alloc)?;
-    follow_rows(rt, alloc, &mut ledger, rows)?;
-    Ok(ledger)
 }

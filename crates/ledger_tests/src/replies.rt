@@ -1,6 +1,6 @@
 //! The table of replies, and the units after each call, on single ledgers.
 
-use crate::ledgers::follow;
+use crate::ledgers::{first_ledger, follow};
 use ledger_core::Ledger;
 use std::alloc::Global;
 use std::process::Abort;
@@ -73,16 +73,21 @@ fn end_of(alloc: Global, ledger: &Ledger) -> Result<String, Fail> {
     Ok(format!(in alloc; "{height} with {len}")?)
 }
 
-fn ends(rt: &impl Abort, alloc: Global, table: &str) -> Result<(), Fail> {
+fn ends(rt: &impl Abort, alloc: Global, ledger: &mut Ledger, table: &str) -> Result<(), Fail> {
     let (rows, end) = table.rsplit_once("\nend at ").ok_or("no end")?;
-    let ledger = follow(rt, alloc, rows)?;
-    assert!(rt; end_of(alloc, &ledger)?.as_str() == end, "{table}");
+    follow(rt, alloc, ledger, rows)?;
+    assert!(rt; end_of(alloc, ledger)?.as_str() == end, "{table}");
     Ok(())
+}
+
+fn ends_anew(rt: &impl Abort, alloc: Global, table: &str) -> Result<(), Fail> {
+    let mut ledger = first_ledger(alloc)?;
+    ends(rt, alloc, &mut ledger, table)
 }
 
 fn end_as_told(rt: &impl Abort, alloc: Global, tables: &str) -> Result<(), Fail> {
     for table in tables.split("\n\n") {
-        ends(rt, alloc, table)?;
+        ends_anew(rt, alloc, table)?;
     }
     Ok(())
 }

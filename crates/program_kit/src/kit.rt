@@ -17,18 +17,18 @@ pub fn program_kit(
     player: Rule,
     breaker: Rule,
 ) -> Result<Kit, NoMemory>
-    requires quiet_callable { (d : _) (p : ℕ) (t : ℕ) (k : _) → IsView d.now p k.now.histories → Rule.pre quiet d p t k }
-    requires quiet_exact { (d : _) (p : ℕ) (t : ℕ) (k : _) (r : _) → Rule.post quiet d p t k r → IfOk r (λ o. o ≡ silent d.now p t k.now.histories) }
-    requires quiet_fits { (d : _) (p : ℕ) (t : ℕ) (k : _) (r : _) → IsView d.now p k.now.histories → Rule.post quiet d p t k r → IfOk r (MayAnswer d.now p) }
-    requires claimer_callable { (d : _) (p : ℕ) (t : ℕ) (k : _) → IsView d.now p k.now.histories → Rule.pre claimer d p t k }
-    requires claimer_exact { (d : _) (p : ℕ) (t : ℕ) (k : _) (r : _) → Rule.post claimer d p t k r → IfOk r (λ o. o ≡ greedy d.now p t k.now.histories) }
-    requires claimer_fits { (d : _) (p : ℕ) (t : ℕ) (k : _) (r : _) → IsView d.now p k.now.histories → Rule.post claimer d p t k r → IfOk r (MayAnswer d.now p) }
-    requires player_callable { (d : _) (p : ℕ) (t : ℕ) (k : _) → IsView d.now p k.now.histories → Rule.pre player d p t k }
-    requires player_exact { (d : _) (p : ℕ) (t : ℕ) (k : _) (r : _) → Rule.post player d p t k r → IfOk r (λ o. o ≡ replayer d.now p t k.now.histories) }
-    requires player_fits { (d : _) (p : ℕ) (t : ℕ) (k : _) (r : _) → IsView d.now p k.now.histories → Rule.post player d p t k r → IfOk r (MayAnswer d.now p) }
-    requires breaker_callable { (d : _) (p : ℕ) (t : ℕ) (k : _) → IsView d.now p k.now.histories → Rule.pre breaker d p t k }
-    requires breaker_exact { (d : _) (p : ℕ) (t : ℕ) (k : _) (r : _) → Rule.post breaker d p t k r → IfOk r (λ o. o ≡ spoiler d.now p t k.now.histories) }
-    requires breaker_fits { (d : _) (p : ℕ) (t : ℕ) (k : _) (r : _) → IsView d.now p k.now.histories → Rule.post breaker d p t k r → IfOk r (MayAnswer d.now p) }
+    requires quiet_callable { (d : _) (p t : ℕ) (k : _) → IsView d.now p k.now.histories → Rule.pre quiet d p t k }
+    requires quiet_exact { (d : _) (p t : ℕ) (k : _) (r : _) → Rule.post quiet d p t k r → IfOk r (λ o. o ≡ silent d.now p t k.now.histories) }
+    requires quiet_fits { (d : _) (p t : ℕ) (k : _) (r : _) → IsView d.now p k.now.histories → Rule.post quiet d p t k r → IfOk r (MayAnswer d.now p) }
+    requires claimer_callable { (d : _) (p t : ℕ) (k : _) → IsView d.now p k.now.histories → Rule.pre claimer d p t k }
+    requires claimer_exact { (d : _) (p t : ℕ) (k : _) (r : _) → Rule.post claimer d p t k r → IfOk r (λ o. o ≡ greedy d.now p t k.now.histories) }
+    requires claimer_fits { (d : _) (p t : ℕ) (k : _) (r : _) → IsView d.now p k.now.histories → Rule.post claimer d p t k r → IfOk r (MayAnswer d.now p) }
+    requires player_callable { (d : _) (p t : ℕ) (k : _) → IsView d.now p k.now.histories → Rule.pre player d p t k }
+    requires player_exact { (d : _) (p t : ℕ) (k : _) (r : _) → Rule.post player d p t k r → IfOk r (λ o. o ≡ replayer d.now p t k.now.histories) }
+    requires player_fits { (d : _) (p t : ℕ) (k : _) (r : _) → IsView d.now p k.now.histories → Rule.post player d p t k r → IfOk r (MayAnswer d.now p) }
+    requires breaker_callable { (d : _) (p t : ℕ) (k : _) → IsView d.now p k.now.histories → Rule.pre breaker d p t k }
+    requires breaker_exact { (d : _) (p t : ℕ) (k : _) (r : _) → Rule.post breaker d p t k r → IfOk r (λ o. o ≡ spoiler d.now p t k.now.histories) }
+    requires breaker_fits { (d : _) (p t : ℕ) (k : _) (r : _) → IsView d.now p k.now.histories → Rule.post breaker d p t k r → IfOk r (MayAnswer d.now p) }
     ensures names { IfOk result (λ kit. kit.names ≡ program_names) }
     ensures decided { IfOk result (λ kit. Decides (⟦<Kit as Strategies>⟧.gives kit) program_rule) }
 {

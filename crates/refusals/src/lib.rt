@@ -12,8 +12,7 @@ mod words;
 
 pub use line::refusal_line;
 pub use makers::{
-    bad_name, duplicate, missing, not_built, over_limit, unknown, unknown_field, wrong_hex,
-    wrong_kind,
+    bad_name, duplicate, missing, over_limit, unknown, unknown_field, wrong_hex, wrong_kind,
 };
 pub use reason::{OfferFault, Reason};
 pub use refusal::{HeaderFault, Refusal, with_names};

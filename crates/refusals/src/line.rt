@@ -198,7 +198,6 @@ fn put_reason(out: &mut Vec<u8>, names: &[ByteText], reason: &Reason) -> Result<
             *old,
             *new,
         ),
-        Reason::NotBuilt(line, field) => put_lined(out, "NotBuilt", *line, field),
     }
 }
 

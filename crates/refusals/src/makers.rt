@@ -2,7 +2,6 @@
 
 ghost use Rattle.swap_base.specs.Fault.{Is};
 ghost use Rattle.refusals.specs.declared.reason.Reason.TheVariants.{Missing, WrongKind, UnknownField, BadName, Duplicate, Unknown, OverLimit, WrongHex};
-ghost use Rattle.refusals.specs.declared.reason.Reason.TheVariants.{NotBuilt};
 
 use crate::reason::{OfferFault, Reason};
 use std::alloc::Global;
@@ -74,16 +73,6 @@ pub fn wrong_hex(alloc: Global, line: u32, text: &[u8]) -> OfferFault
 {
     match ByteText::from_slice(alloc, text) {
         Ok(text) => Fault::Refused(Reason::WrongHex(line, text)),
-        Err(_) => Fault::NoMemory,
-    }
-}
-
-/// What the field asks for is not built.
-pub fn not_built(alloc: Global, line: u32, text: &[u8]) -> OfferFault
-    ensures { Is result (NotBuilt line text.now) }
-{
-    match ByteText::from_slice(alloc, text) {
-        Ok(text) => Fault::Refused(Reason::NotBuilt(line, text)),
         Err(_) => Fault::NoMemory,
     }
 }

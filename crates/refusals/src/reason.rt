@@ -40,7 +40,6 @@ pub enum Reason {
     CutShort,
     /// The reply that was stated, and the one of the replay.
     BadReply(ArcId, u32, Reply, Reply),
-    NotBuilt(u32, ByteText),
 }
 
 /// Why an offer gives no job: a reason, or want of memory.

@@ -212,8 +212,8 @@ module _ (has : List ℕ → Bool) where
         absurd (cc (sym h.written.1 ∙ race_is_not_named has gives h.chance words left left' command h.read.input asked h.read.taken h.read.ended a h.output
         h.promised))
     fair_race WrongWords h a calm still = absurd h
-    fair_race (Refused reason names) h a calm still = absurd (race_is_not_refused has words left left' command h.0.read.input asked h.0.read.taken h.0.read.ended a reason
-        h.0.read.gives)
+    fair_race (Refused reason names) h a calm still =
+        absurd (race_is_not_refused has words left left' command h.0.read.input asked h.0.read.taken h.0.read.ended a reason h.0.read.gives)
     fair_race ReadFault h a calm still = absurd (calm h.0)
     fair_race WriteFault h a calm still = absurd (still h.0)
     fair_race NoMemory h a calm still = inr refl

@@ -33,7 +33,8 @@ use Rattle.swap_gen.specs.Made.{made}
 use Rattle.made_jobs.specs.Making.{copied, written_line}
 use Rattle.swap_main.specs.Output.{Chance, by_answers, by_book, cast_by, finished, names_of, no_chance, output_by, purpose_of, reported, told, plain_text}
 use Rattle.swap_main.specs.Promised.{IsCheck, IsRace, IsRun, IsMaking}
-use Rattle.swap_main.specs.Replay.{IsChecked, IsEntered, IsPlayed, IsRead, of_check, of_header, of_lines, of_race, of_run, passed_over, replayed, IsCopied, of_make}
+use Rattle.swap_main.specs.Replay.{IsChecked, IsEntered, IsPlayed, IsRead, of_check, of_header, of_lines}
+use Rattle.swap_main.specs.Replay.{of_race, of_run, passed_over, replayed, IsCopied, of_make}
 use Rattle.swap_main.specs.Says.{IsAgainst}
 use Rattle.audit_command.specs.Output.{Written}
 use Rattle.swap_main.proofs.Replays.{of_input, replay_fails}
@@ -106,7 +107,8 @@ module _ (has : List ℕ → Bool) where
   pub gives_run : (a : Answers) (transcript : Bool) (bytes : List ℕ) (job : Job) (s : State) → IsPlayed has a bytes job s
       → output_by has (by_answers a) (OfJob (Run transcript)) bytes ≡ Ok (reported transcript job (finished job.finish (cast_by a job) s).book)
   gives_run a transcript bytes job s p =
-      by_lines (by_answers a) (Run transcript) bytes ((p.line, p.text) ∷ p.others) p.lines ∙ run_by a transcript p.line p.text p.others job (Ok s) p.header p.leads
+      by_lines (by_answers a) (Run transcript) bytes ((p.line, p.text) ∷ p.others) p.lines
+      ∙ run_by a transcript p.line p.text p.others job (Ok s) p.header p.leads
 
   pub gives_race : (b : Histories) (ticks : ℕ) (transcript : Bool) (bytes : List ℕ) (job : Job) → IsEntered has bytes job
       → output_by has (by_book b) (OfJob (Race ticks transcript)) bytes ≡ Ok (reported transcript job b)

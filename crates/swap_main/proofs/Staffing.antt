@@ -44,7 +44,8 @@ is_had {A = A} (n ∷ names) (x ∷ xs) name paired = by (bytes_eq n name) (is_h
 
 pub has_known : {A : Type 0} (names : List (List ℕ)) (xs : List A) → names ≡ program_names → length names ≡ length xs → has_strategy names xs ≡ is_known
 has_known {A = A} names xs is paired =
-    subst (λ (ns : List (List ℕ)). ◌≡◌ {A = List ℕ → Bool} (has_strategy names xs) (λ name. list_any (λ n. bytes_eq n name) ns)) is (λ j name. is_had names xs name paired j)
+    subst (λ (ns : List (List ℕ)). ◌≡◌ {A = List ℕ → Bool} (has_strategy names xs) (λ name. list_any (λ n. bytes_eq n name) ns)) is
+    (λ j name. is_had names xs name paired j)
 
 module _ (gives other : Gives)
     (more : (name : List ℕ) (d : Deal) (p t : ℕ) (k : Histories) (o : Option (ℕ × Call)) → gives name d p t k o → other name d p t k o) where

@@ -42,7 +42,6 @@ fn copy_reason(reason: &Reason) -> Result<Reason, NoMemory>
         Reason::BadReply(arc, entry, stated, replayed) => Ok(Reason::BadReply(
             *arc, *entry, *stated, *replayed,
         )),
-        Reason::NotBuilt(line, field) => Ok(Reason::NotBuilt(*line, field.copy()?)),
     }
 }
 
