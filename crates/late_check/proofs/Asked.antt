@@ -18,15 +18,11 @@ use Rattle.swap_rules.specs.Party.{first_key, is_correct, is_ready, is_triggered
 use Rattle.swap_rules.specs.Conduct.{is_first_key}
 use Rattle.swap_rules.specs.Late.{base_of, counts, ref_of, trigger_height, when}
 use Rattle.swap_digraph.proofs.Paths.{is_among-true, in-is_among}
+use Rattle.sent_keys.proofs.Same.{same_truth}
 use Rattle.late_check.specs.declared.counting.Counted.TheVariants as counted
 use Rattle.late_check.specs.Parts.{claim_from, counts_as, publish_from, refund_from, unlock_from, IsAsked}
 
 -- The ends of an arc tell whether it leaves or enters a party.
-
-same_truth : (x y : Bool) → (x ≡ true → y ≡ true) → (y ≡ true → x ≡ true) → x ≡ y
-same_truth true y f g = sym (f refl)
-same_truth false true f g = g refl
-same_truth false false f g = refl
 
 among_filter : (p : ℕ → Bool) (a n : ℕ) → a < n → p a ≡ is_among a (filter p (range_with_len 0 n))
 among_filter p a n l =

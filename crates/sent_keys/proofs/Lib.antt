@@ -1,3 +1,4 @@
 pub mod Unlocks
 pub mod Own
 pub mod Loops
+pub mod Same

@@ -1,6 +1,8 @@
 //! Hashkeys: whether two are the same, and those that a party sent.
 
 ghost use Rattle.std.specs.Prelude.{◌≡◌, ◌<◌, ◌++◌, IfOk, OnOk, length, option_copied};
+ghost use Rattle.std.specs.Str.{bytes_eq};
+ghost use Rattle.swap_base.specs.Lists.{same_list};
 ghost use Rattle.hashkey_path.specs.Hashkey.{same_key};
 ghost use Rattle.ledger_core.specs.Book.{history, IsLegalBook};
 ghost use Rattle.swap_digraph.specs.Deal.{IsWellSized};
@@ -18,6 +20,24 @@ use std::alloc::Global;
 use swap_base::{ArcId, Digest, LockId, NoMemory, PartyId};
 use swap_digraph::Deal;
 
+/// Whether both signatures are the same. Their bytes are compared many at a time, and values one after another.
+fn same_sig(one: &Sig, other: &Sig) -> bool
+    ensures { result ≡ same_list bytes_eq one.now other.now }
+{
+    one.to_bytes() == other.to_bytes()
+}
+
+/// Whether both lists have the same signatures.
+fn same_sigs(one: &[Sig], other: &[Sig]) -> bool
+    ensures { result ≡ same_list (λ s t. same_list bytes_eq s t) one.now other.now }
+{
+    match (one, other) {
+        ([], []) => true,
+        ([sig, sigs @ ..], [first, rest @ ..]) => same_sig(sig, first) && same_sigs(sigs, rest),
+        _ => false,
+    }
+}
+
 /// Whether the hashkey has these parts.
 pub fn has_parts(
     key: &Hashkey,
@@ -31,7 +51,7 @@ pub fn has_parts(
     key.lock == lock
         && key.secret == *secret
         && key.path.as_slice() == path
-        && key.sigs.as_slice() == sigs
+        && same_sigs(key.sigs.as_slice(), sigs)
 }
 
 /// Whether both are the same.
