@@ -44,6 +44,8 @@ fn sign_onto(
 }
 
 /// Signs a hashkey for the lock, for which none was signed.
+// Never inlined: what a signature takes on the stack would be taken by each act that finds nothing due.
+#[inline(never)]
 fn sign_new(
     alloc: Global,
     wallet: &mut Wallet,

@@ -132,6 +132,8 @@ impl Generator {
     }
 
     /// The next event. It takes no memory.
+    // Always inlined, so that an event is made where it is taken: it has the size of its largest kind.
+    #[inline(always)]
     #[tactic(auto, unfolding(crate::specs::Events::event_from))]
     pub fn next_event(&mut self) -> Event
         ensures event { result ≡ (event_from self.old.seed (drawn_graph self.old.seed self.old.parties) self.old.place).0 }
