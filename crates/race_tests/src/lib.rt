@@ -1,11 +1,15 @@
-//! Tests of races: three parties that conform, turns that wait for each other at the gate, and parties that follow scripts.
+//! Tests of races: parties that conform, turns that wait for each other, and parties that follow scripts and strategies.
 #![tactic(auto)]
 
 #[cfg(test)]
-mod deviators;
+mod conforming;
 #[cfg(test)]
 mod meetings;
 #[cfg(test)]
-mod runner;
+mod parallel;
 #[cfg(test)]
-mod three;
+mod scripts;
+#[cfg(test)]
+mod secrets;
+#[cfg(test)]
+mod strategies;

@@ -1,6 +1,6 @@
 //! Inputs by their bytes and lines, and the program's words.
 
-ghost use Rattle.std.specs.Prelude.{◌<◌, length};
+ghost use Rattle.std.specs.Prelude.{◌<◌};
 
 use std::alloc::Global;
 use std::process::Abort;
@@ -30,39 +30,6 @@ findings 3
 
 /// The most bytes that an input may have.
 const MOST: usize = 16_777_216;
-
-/// The answer to the first bytes of a job, where the bytes after them begin so: a line that is cut is no JSON text.
-fn answer_to_cut(alloc: Global, before: &[u8], after: &[u8]) -> Result<String, Fail> {
-    if before.ends_with(b"\n") || after.starts_with(b"\n") {
-        return Ok(String::from_str(alloc, "named\nswap report 1\n")?);
-    }
-    let line = before.split(|b| *b == b'\n').count();
-    Ok(format!(in alloc; "swap: refused: NotJson {line}\n")?)
-}
-
-/// The first bytes of a job, which end at a place, get their answer.
-fn answers_cut(rt: &impl Abort, alloc: Global, job: &[u8], cut: usize) -> Result<(), Fail>
-    requires { cut < length job.now }
-{
-    let (before, after) = job.split_at(cut);
-    let answered = answer(alloc, &["run"], Vec::from_slice(alloc, before)?)?;
-    let wanted = answer_to_cut(alloc, before, after)?;
-    let is_whole = wanted.starts_with("named") || answered.len() == wanted.len();
-    assert!(rt;
-        is_whole && answered.starts_with(wanted.as_bytes()),
-        "cut at {cut}"
-    );
-    Ok(())
-}
-
-#[test]
-fn refuses_what_is_cut_within_a_line(rt: HostRuntime) -> Result<(), Fail> {
-    let job = JOB.trim().as_bytes();
-    for cut in 0..job.len() {
-        answers_cut(&rt, rt.alloc(), job, cut)?;
-    }
-    Ok(())
-}
 
 /// Event lines, and blank lines before them.
 const LINES: &str = "\
@@ -293,7 +260,7 @@ fn answer_to_pieces(alloc: Global, input: Vec<u8>, per_call: usize) -> Result<Ve
     requires { 0 < per_call }
 {
     let mut source = VecSource::new(input, per_call, Vec::new(alloc));
-    answer_from(alloc, &["run"], &mut source, &[])
+    answer_from(alloc, &["run"], &mut source)
 }
 
 #[test]
@@ -313,7 +280,7 @@ fn reads_pieces_of_any_length(rt: HostRuntime) -> Result<(), Fail> {
 fn answer_behind(alloc: Global, blanks: usize, failing: &[u64]) -> Result<Vec<u8>, Fail> {
     let mut input = Vec::from_slice(alloc, b"x")?;
     input.extend_from_slice(&vec![in alloc; b'\n'; blanks]?)?;
-    answer_where(alloc, "check", input, failing, &[])
+    answer_where(alloc, "check", input, failing)
 }
 
 /// A check of a refused line with so many blank lines behind it, where some reads fail, has that answer.

@@ -8,9 +8,9 @@ mod conforming;
 #[cfg(test)]
 mod fair;
 #[cfg(test)]
-mod faults;
-#[cfg(test)]
 mod inputs;
+#[cfg(test)]
+mod names;
 #[cfg(test)]
 mod offers;
 #[cfg(test)]
@@ -23,6 +23,8 @@ mod replies_to_keys;
 mod scripts;
 #[cfg(test)]
 mod strategies;
+#[cfg(test)]
+mod streaming;
 #[cfg(test)]
 mod transcripts;
 #[cfg(test)]

@@ -570,7 +570,7 @@ fn answer_behind(
 ) -> Result<Vec<u8>, Fail> {
     let mut input = Vec::from_slice(alloc, text.as_bytes())?;
     input.extend_from_slice(&vec![in alloc; byte; count]?)?;
-    answer_where(alloc, "audit", input, failing, &[])
+    answer_where(alloc, "audit", input, failing)
 }
 
 /// An audit of a text with so many equal bytes behind it, where some reads fail, has that answer.

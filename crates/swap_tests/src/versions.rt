@@ -3,10 +3,13 @@
 
 ghost use Rattle.std.specs.Prelude.{◌≤◌};
 
+use race_runner::{Open, race_ends};
 use std::alloc::Global;
+use std::process::Abort;
 use std::test::Fail;
+use swap_main::Program;
 use table_runner::deals::{HASHKEYS, TIMELOCKS};
-use table_runner::{accepts, answers, cases, refuses};
+use table_runner::{accepts, answer_within, answers, cases, refuses};
 
 /// The deal with hashkeys.
 const RUNS: &str = concat!(
@@ -347,7 +350,7 @@ fn plain(alloc: Global, version: &str, parties: &str, arcs: &str) -> Result<Stri
     let parties = parties.strip_suffix(',').ok_or("no parties")?;
     let arcs = arcs.strip_suffix(',').ok_or("no arcs")?;
     let head = format!(in alloc;
-        "{{\"swap\":{version},\"mode\":\"hashkeys\",\"start\":1,\"delta\":1,\"bound\":31,\"parties\":[{parties}],"
+        "{{\"swap\":{version},\"mode\":\"hashkeys\",\"start\":2,\"delta\":2,\"bound\":31,\"parties\":[{parties}],"
     )?;
     Ok(format!(in alloc;
         "{head}\"arcs\":[{arcs}],\"leaders\":[{{\"party\":\"p10\"}}],\"finish\":\"fair\"}}\n"
@@ -386,4 +389,63 @@ fn larger_rings_are_refused(rt: HostRuntime) -> Result<(), Fail> {
     is_refused(rt.alloc(), "2", 33, 1, "OverLimit 1 parties 33")?;
     is_refused(rt.alloc(), "2", 32, 5, "OverLimit 1 arcs 160")?;
     is_refused(rt.alloc(), "2", 1, 1, "OverLimit 1 parties 1")
+}
+
+/// More bytes than the transcript of the largest ring has.
+const ROOM: usize = 16_777_216;
+
+/// What the program answers to an input, but for its first line, which says that it is done.
+fn done(alloc: Global, words: &[&str], input: &str) -> Result<String, Fail> {
+    let input = Vec::from_slice(alloc, input.as_bytes())?;
+    let answered = answer_within(alloc, words, input, ROOM)?;
+    let told = answered.strip_prefix(b"done\n").ok_or("not done")?;
+    Ok(String::from_str(alloc, str::from_utf8(told)?)?)
+}
+
+/// All 32 parties end with the whole deal of 128 arcs, and nothing is found.
+fn is_whole(rt: &impl Abort, report: &str) {
+    assert_eq!(rt; report.matches(" conforming: Deal\n").count(), 32);
+    assert_eq!(rt; report.matches(" claim: accepted\n").count(), 128);
+    assert!(rt; report.ends_with("\nfindings 0\n"));
+}
+
+/// What a check tells of 32 parties with 128 arcs.
+const CHECKED: &str = "done\nswap accepted\nneed 31\nopen by 64\nexpiry 128\nhorizon 130\n";
+
+/// An audit of the transcript of a job's run.
+fn audit_of(alloc: Global, job: &str) -> Result<String, Fail> {
+    let transcript = done(alloc, &["run", "--transcript"], job)?;
+    done(alloc, &["audit"], transcript.as_str())
+}
+
+/// A check of the job, and then its run's report and an audit of its transcript.
+fn reports_of(alloc: Global, job: &str) -> Result<(String, String), Fail> {
+    answers(alloc, "check", "128 arcs", job, CHECKED)?;
+    Ok((done(alloc, &["run"], job)?, audit_of(alloc, job)?))
+}
+
+fn made_ring(alloc: Global) -> Result<String, Fail> {
+    let plain = plain_ring(alloc, "2", 32, 4)?;
+    done(alloc, &["make"], plain.as_str())
+}
+
+/// 32 parties in a ring, each of whose arcs is there four times: the last hashkeys have paths of 32 vertices.
+#[test]
+fn a_ring_of_32_parties_with_128_arcs(rt: HostRuntime) -> Result<(), Fail> {
+    let job = made_ring(rt.alloc())?;
+    let (report, audited) = reports_of(rt.alloc(), job.as_str())?;
+    is_whole(&rt, report.as_str());
+    assert!(rt; audited.as_str() == report.as_str());
+    Ok(())
+}
+
+/// A race of it, and an audit of its transcript, end with 32 deals, and find nothing.
+#[test]
+fn a_ring_of_32_parties_is_raced(rt: HostRuntime) -> Result<(), Fail> {
+    let job = made_ring(rt.alloc())?;
+    let program = Program { alloc: rt.alloc() };
+    let ended = race_ends(&rt, rt.alloc(), job.as_str(), 1, &program, &Open)?;
+    assert_eq!(rt; ended.as_str().matches("Deal").count(), 32);
+    assert_eq!(rt; ended.as_str().len(), 32 * 5 - 1);
+    Ok(())
 }

@@ -5,10 +5,12 @@
 #![tactic(auto)]
 
 pub mod deals;
+mod kits;
 mod runs;
 mod signatures;
 mod tables;
 
-pub use runs::{answer, answer_from, answer_where, answers, line_of};
+pub use kits::{kit_with, strategy_of};
+pub use runs::{answer, answer_from, answer_where, answer_within, answers, line_of, told};
 pub use signatures::signed;
 pub use tables::{accepts, cases, edited, refuses};

@@ -7,7 +7,7 @@ use swap_base::{ByteText, Listed};
 use swap_io::{VecSink, VecSource};
 use swap_main::{Program, Status, refusal_line, swap_plain};
 
-/// More bytes than any text has here that is written.
+/// More bytes than a text has here that is written.
 const ROOM: usize = 1_048_576;
 
 /// The most bytes of one read.
@@ -46,7 +46,8 @@ fn first_line(alloc: Global, status: &Status) -> Result<Vec<u8>, Fail> {
     Ok(Vec::from_slice(alloc, word.as_bytes())?)
 }
 
-fn told(alloc: Global, status: &Status, taken: &[u8]) -> Result<Vec<u8>, Fail> {
+/// The answer as one text: a line for the status, and then all that was written.
+pub fn told(alloc: Global, status: &Status, taken: &[u8]) -> Result<Vec<u8>, Fail> {
     let mut answer = first_line(alloc, status)?;
     answer.push(b'\n')?;
     answer.extend_from_slice(taken)?;
@@ -71,41 +72,46 @@ fn owned(alloc: Global, words: &[&str]) -> Result<Vec<String>, Fail> {
     Ok(owned)
 }
 
-/// A sink of which some writes fail.
-fn sink_of(alloc: Global, failing: &[u64]) -> Result<VecSink, Fail> {
-    let failing = Vec::from_slice(alloc, failing)?;
-    Ok(VecSink::new(alloc, ROOM, PER_WRITE, failing)?)
+/// A sink of which no write fails before it is full.
+fn sink_of(alloc: Global, room: usize) -> Result<VecSink, Fail> {
+    Ok(VecSink::new(alloc, room, PER_WRITE, Vec::new(alloc))?)
 }
 
-/// What the program answers to its words and what a source gives, where some writes fail: a line for the status, and then all that it wrote.
-pub fn answer_from(
-    alloc: Global,
-    words: &[&str],
-    source: &mut VecSource,
-    writes: &[u64],
-) -> Result<Vec<u8>, Fail> {
+/// What the program answers to its words and what a source gives: a line for the status, and then all that it wrote.
+pub fn answer_from(alloc: Global, words: &[&str], source: &mut VecSource) -> Result<Vec<u8>, Fail> {
     let words = owned(alloc, words)?;
-    let mut sink = sink_of(alloc, writes)?;
+    let mut sink = sink_of(alloc, ROOM)?;
     told_of(alloc, &words, source, &mut sink)
 }
 
-/// The same of an input.
-pub fn answer(alloc: Global, words: &[&str], input: Vec<u8>) -> Result<Vec<u8>, Fail> {
+/// What the program answers to its words and an input, where it writes at most so many bytes.
+pub fn answer_within(
+    alloc: Global,
+    words: &[&str],
+    input: Vec<u8>,
+    room: usize,
+) -> Result<Vec<u8>, Fail> {
+    let words = owned(alloc, words)?;
     let mut source = VecSource::new(input, PER_READ, Vec::new(alloc));
-    answer_from(alloc, words, &mut source, &[])
+    let mut sink = sink_of(alloc, room)?;
+    told_of(alloc, &words, &mut source, &mut sink)
 }
 
-/// The same to one word, where some reads fail and some writes.
+/// What the program answers to its words and an input.
+pub fn answer(alloc: Global, words: &[&str], input: Vec<u8>) -> Result<Vec<u8>, Fail> {
+    answer_within(alloc, words, input, ROOM)
+}
+
+/// The same to one word, where some reads fail.
 pub fn answer_where(
     alloc: Global,
     word: &str,
     input: Vec<u8>,
     reads: &[u64],
-    writes: &[u64],
 ) -> Result<Vec<u8>, Fail> {
     let failing = Vec::from_slice(alloc, reads)?;
     let mut source = VecSource::new(input, PER_READ, failing);
-    answer_from(alloc, &[word], &mut source, writes)
+    answer_from(alloc, &[word], &mut source)
 }
 
 /// What a test tells of a row that missed its answer.
