@@ -1,0 +1,370 @@
+//! Hashkeys that are presented where they don't belong, that come late, and that parties craft together.
+
+ghost use Rattle.std.specs.Prelude.{IfOk};
+ghost use Rattle.deviator_script.specs.View.{IsView, MayAnswer};
+
+use crate::attackers::{Answered, presenter_rule};
+use crate::tables::{Same, attacks};
+use deviator_script::{Kit, Rule};
+use ledger_core::Book;
+use std::test::Fail;
+use swap_base::PartyId;
+use swap_digraph::Deal;
+use table_runner::deals::{HASHKEYS, TIMELOCKS};
+use table_runner::kit_with;
+
+/// Three parties of whom two lead.
+const TWO_LEADERS: &str = concat!(
+    r#"{"swap":1,"mode":"hashkeys","start":10,"delta":10,"bound":2,"parties":[{"name":"a","#,
+    r#""seed":"ca978112ca1bbdcafac231b39a23dc4da786eff8147c4e72b9807785afee48bb"},"#,
+    r#"{"name":"b","seed":"3e23e8160039594a33894f6564e1b1348bbd7a0088d42c4acb73eeaed59c009d"},"#,
+    r#"{"name":"c","seed":"2e7d2c03a9507ae265ecf5b5356885a53393a2029d241394997265a1a25aefc6"}],"arcs":[{"from":"a","to":"b","amount":1},"#,
+    r#"{"from":"b","to":"a","amount":1},{"from":"b","to":"c","amount":1},"#,
+    r#"{"from":"c","to":"a","amount":1}],"leaders":[{"party":"a","hashlock":"#,
+    r#""d621fc44e761dd2e6709de873cedc50a6b731539fe930f4d927b9894262c3f09"},"#,
+    r#"{"party":"b","hashlock":"4cb601008ecbea9e403b05f7e851766c4dafdebc4184fa6a6b00cf5c85011752"}],"#,
+    r#""finish":"fair","keys":[["37685c623ad2736a37d5a69faa07b989b63f6be3742dcf453201cea7ac3b4beb","#,
+    r#""3f1d4fe12dfee7e93ac096b77a4b6f7cb3b4ef4453f56c6952ca69557e84df3b"],"#,
+    r#"["d2dfcc20f32c35313e4a0588b92df68154966d2ae589a5a2b0e56dd5f0ef81e6","36145da11c0f079d2b420307ad1f378329b0786f75516dcf4fe9fab5ad62c56d"],"#,
+    r#"["4a0620154ef1fd24b94576bf51416777c8de64850edb498d430f354ddece3942","#,
+    r#""036155481350f8af7779c9ef5ce6c5a5d5e980a14870410a25298559026211c2"]]}
+"#,
+);
+
+/// The others' hashkeys don't open what an attacker is to be paid by.
+const WITH_HASHKEYS: &str = r#"== carol presents alice's hashkey to bob
+"carol", => "carol","actor":{"strategy":"attacker"}, && "stop" => "fair"
+--
+swap report 1
+swap hashkeys start 10 delta 10 bound 2
+ledger 0 alice -> bob amount 100
+0 alice publish correct: accepted
+61 alice refund: accepted
+end height 71 alice 100 bob 0 held 0
+ledger 1 bob -> carol amount 5
+0 bob publish correct: accepted
+4 carol unlock 0 via alice: WrongPath
+5 carol unlock 0 via alice: WrongPath
+6 carol unlock 0 via alice: WrongPath
+7 carol unlock 0 via alice: WrongPath
+8 carol unlock 0 via alice: WrongPath
+9 carol unlock 0 via alice: WrongPath
+10 carol unlock 0 via alice: WrongPath
+11 carol unlock 0 via alice: WrongPath
+12 carol unlock 0 via alice: WrongPath
+13 carol unlock 0 via alice: WrongPath
+14 carol unlock 0 via alice: WrongPath
+15 carol unlock 0 via alice: WrongPath
+16 carol unlock 0 via alice: WrongPath
+17 carol unlock 0 via alice: WrongPath
+18 carol unlock 0 via alice: WrongPath
+19 carol unlock 0 via alice: WrongPath
+20 carol unlock 0 via alice: WrongPath
+21 carol unlock 0 via alice: WrongPath
+22 carol unlock 0 via alice: WrongPath
+23 carol unlock 0 via alice: WrongPath
+24 carol unlock 0 via alice: WrongPath
+25 carol unlock 0 via alice: WrongPath
+26 carol unlock 0 via alice: WrongPath
+27 carol unlock 0 via alice: WrongPath
+28 carol unlock 0 via alice: WrongPath
+29 carol unlock 0 via alice: WrongPath
+30 carol unlock 0 via alice: WrongPath
+31 carol unlock 0 via alice: WrongPath
+32 carol unlock 0 via alice: WrongPath
+33 carol unlock 0 via alice: WrongPath
+34 carol unlock 0 via alice: WrongPath
+35 carol unlock 0 via alice: WrongPath
+61 bob refund: accepted
+end height 71 bob 5 carol 0 held 0
+ledger 2 carol -> alice amount 1
+0 carol publish correct: accepted
+1 alice unlock 0 via alice: accepted
+1 alice claim: accepted
+end height 71 carol 0 alice 1 held 0
+party alice conforming: FreeRide
+party bob conforming: NoDeal
+party carol deviator: Underwater
+findings 0
+== bob presents carol's hashkey to alice
+"bob", => "bob","actor":{"strategy":"attacker"}, && "stop" => "fair"
+--
+swap report 1
+swap hashkeys start 10 delta 10 bound 2
+ledger 0 alice -> bob amount 100
+0 alice publish correct: accepted
+4 bob unlock 0 via carol,alice: WrongPath
+5 bob unlock 0 via carol,alice: WrongPath
+6 bob unlock 0 via carol,alice: WrongPath
+7 bob unlock 0 via carol,alice: WrongPath
+8 bob unlock 0 via carol,alice: WrongPath
+9 bob unlock 0 via carol,alice: WrongPath
+10 bob unlock 0 via carol,alice: WrongPath
+11 bob unlock 0 via carol,alice: WrongPath
+12 bob unlock 0 via carol,alice: WrongPath
+13 bob unlock 0 via carol,alice: WrongPath
+14 bob unlock 0 via carol,alice: WrongPath
+15 bob unlock 0 via carol,alice: WrongPath
+16 bob unlock 0 via carol,alice: WrongPath
+17 bob unlock 0 via carol,alice: WrongPath
+18 bob unlock 0 via carol,alice: WrongPath
+19 bob unlock 0 via carol,alice: WrongPath
+20 bob unlock 0 via carol,alice: WrongPath
+21 bob unlock 0 via carol,alice: WrongPath
+22 bob unlock 0 via carol,alice: WrongPath
+23 bob unlock 0 via carol,alice: WrongPath
+24 bob unlock 0 via carol,alice: WrongPath
+25 bob unlock 0 via carol,alice: WrongPath
+26 bob unlock 0 via carol,alice: WrongPath
+27 bob unlock 0 via carol,alice: WrongPath
+28 bob unlock 0 via carol,alice: WrongPath
+29 bob unlock 0 via carol,alice: WrongPath
+30 bob unlock 0 via carol,alice: WrongPath
+31 bob unlock 0 via carol,alice: WrongPath
+32 bob unlock 0 via carol,alice: WrongPath
+33 bob unlock 0 via carol,alice: WrongPath
+34 bob unlock 0 via carol,alice: WrongPath
+35 bob unlock 0 via carol,alice: WrongPath
+61 alice refund: accepted
+end height 71 alice 100 bob 0 held 0
+ledger 1 bob -> carol amount 5
+0 bob publish correct: accepted
+1 carol unlock 0 via carol,alice: accepted
+1 carol claim: accepted
+end height 71 bob 0 carol 5 held 0
+ledger 2 carol -> alice amount 1
+0 carol publish correct: accepted
+1 alice unlock 0 via alice: accepted
+1 alice claim: accepted
+end height 71 carol 0 alice 1 held 0
+party alice conforming: FreeRide
+party bob deviator: Underwater
+party carol conforming: Deal
+findings 0
+"#;
+
+/// With timelocks the secret is all of a hashkey, and opens every contract.
+const WITH_TIMELOCKS: &str = r#"== bob presents the secret and claims nothing
+"bob", => "bob","actor":{"strategy":"attacker"}, && {"swap":1, => {"finish":"fair","swap":1,
+--
+swap report 1
+swap timelocks start 10 delta 10 bound 2
+ledger 0 alice -> bob amount 100
+0 alice publish correct: accepted
+4 bob unlock 0: accepted
+5 bob unlock 0: AlreadyUnlocked
+6 bob unlock 0: AlreadyUnlocked
+7 bob unlock 0: AlreadyUnlocked
+8 bob unlock 0: AlreadyUnlocked
+9 bob unlock 0: AlreadyUnlocked
+10 bob unlock 0: AlreadyUnlocked
+11 bob unlock 0: AlreadyUnlocked
+12 bob unlock 0: AlreadyUnlocked
+13 bob unlock 0: AlreadyUnlocked
+14 bob unlock 0: AlreadyUnlocked
+15 bob unlock 0: AlreadyUnlocked
+16 bob unlock 0: AlreadyUnlocked
+17 bob unlock 0: AlreadyUnlocked
+18 bob unlock 0: AlreadyUnlocked
+19 bob unlock 0: AlreadyUnlocked
+20 bob unlock 0: AlreadyUnlocked
+21 bob unlock 0: AlreadyUnlocked
+22 bob unlock 0: AlreadyUnlocked
+23 bob unlock 0: AlreadyUnlocked
+24 bob unlock 0: AlreadyUnlocked
+25 bob unlock 0: AlreadyUnlocked
+26 bob unlock 0: AlreadyUnlocked
+27 bob unlock 0: AlreadyUnlocked
+28 bob unlock 0: AlreadyUnlocked
+29 bob unlock 0: AlreadyUnlocked
+30 bob unlock 0: AlreadyUnlocked
+31 bob unlock 0: AlreadyUnlocked
+32 bob unlock 0: AlreadyUnlocked
+33 bob unlock 0: AlreadyUnlocked
+34 bob unlock 0: AlreadyUnlocked
+35 bob unlock 0: AlreadyUnlocked
+end height 71 alice 0 bob 0 held 100
+ledger 1 bob -> carol amount 5
+0 bob publish correct: accepted
+1 carol unlock 0: accepted
+1 carol claim: accepted
+end height 71 bob 0 carol 5 held 0
+ledger 2 carol -> alice amount 1
+0 carol publish correct: accepted
+1 alice unlock 0: accepted
+1 alice claim: accepted
+end height 71 carol 0 alice 1 held 0
+party alice conforming: Deal
+party bob deviator: Underwater
+party carol conforming: Deal
+findings 0
+"#;
+
+/// There are two hashkeys to present. In a race b may open its contract by them in either order, so that entries may differ.
+const OF_TWO: &str = r#"== c presents both hashkeys that opened its contract
+"c", => "c","actor":{"strategy":"attacker"},
+--
+swap report 1
+swap hashkeys start 10 delta 10 bound 2
+ledger 0 a -> b amount 1
+0 a publish correct: accepted
+0 b unlock 1 via b: accepted
+1 b unlock 0 via b,a: accepted
+1 b claim: accepted
+end height 71 a 0 b 1 held 0
+ledger 1 b -> a amount 1
+0 b publish correct: accepted
+1 a unlock 0 via a: accepted
+1 a unlock 1 via a,b: accepted
+1 a claim: accepted
+end height 71 b 0 a 1 held 0
+ledger 2 b -> c amount 1
+0 b publish correct: accepted
+4 c unlock 0 via a: WrongPath
+5 c unlock 1 via a,b: WrongPath
+6 c unlock 0 via a: WrongPath
+7 c unlock 1 via a,b: WrongPath
+8 c unlock 0 via a: WrongPath
+9 c unlock 1 via a,b: WrongPath
+10 c unlock 0 via a: WrongPath
+11 c unlock 1 via a,b: WrongPath
+12 c unlock 0 via a: WrongPath
+13 c unlock 1 via a,b: WrongPath
+14 c unlock 0 via a: WrongPath
+15 c unlock 1 via a,b: WrongPath
+16 c unlock 0 via a: WrongPath
+17 c unlock 1 via a,b: WrongPath
+18 c unlock 0 via a: WrongPath
+19 c unlock 1 via a,b: WrongPath
+20 c unlock 0 via a: WrongPath
+21 c unlock 1 via a,b: WrongPath
+22 c unlock 0 via a: WrongPath
+23 c unlock 1 via a,b: WrongPath
+24 c unlock 0 via a: WrongPath
+25 c unlock 1 via a,b: WrongPath
+26 c unlock 0 via a: WrongPath
+27 c unlock 1 via a,b: WrongPath
+28 c unlock 0 via a: WrongPath
+29 c unlock 1 via a,b: WrongPath
+30 c unlock 0 via a: WrongPath
+31 c unlock 1 via a,b: WrongPath
+32 c unlock 0 via a: WrongPath
+33 c unlock 1 via a,b: WrongPath
+34 c unlock 0 via a: WrongPath
+35 c unlock 1 via a,b: WrongPath
+61 b refund: accepted
+end height 71 b 1 c 0 held 0
+ledger 3 c -> a amount 1
+0 c publish correct: accepted
+1 a unlock 0 via a: accepted
+1 a unlock 1 via a,b: accepted
+1 a claim: accepted
+end height 71 c 0 a 1 held 0
+party a conforming: Deal
+party b conforming: Discount
+party c deviator: Underwater
+findings 0
+"#;
+
+/// Carol follows scripts.
+const SCRIPTS: &str = concat!(
+    r#"== carol replays alice's hashkey on another arc
+"carol", => "carol","actor":{"script":[{"do":"publish","arc":2},{"do":"wait","arc":2,"height":10},{"do":"replay","arc":1,"lock":0,"onto":2},"#,
+    r#"{"do":"claim","arc":1}]}, && "stop" => "fair"
+--
+swap report 1
+swap hashkeys start 10 delta 10 bound 2
+ledger 0 alice -> bob amount 100
+0 alice publish correct: accepted
+61 alice refund: accepted
+end height 71 alice 100 bob 0 held 0
+ledger 1 bob -> carol amount 5
+0 bob publish correct: accepted
+10 carol unlock 0 via alice: WrongPath
+11 carol claim: StillLocked 0
+61 bob refund: accepted
+end height 71 bob 5 carol 0 held 0
+ledger 2 carol -> alice amount 1
+0 carol publish correct: accepted
+1 alice unlock 0 via alice: accepted
+1 alice claim: accepted
+end height 71 carol 0 alice 1 held 0
+party alice conforming: FreeRide
+party bob conforming: NoDeal
+party carol deviator: Underwater
+findings 0
+== carol crafts hers near the last moment
+"carol", => "carol","actor":{"script":[{"do":"publish","arc":2},{"do":"wait","arc":1,"height":45},"#,
+    r#"{"do":"craft","arc":1,"lock":0,"via":["carol"],"onto":2},{"do":"claim","arc":1}]}, && "stop" => "fair"
+--
+swap report 1
+swap hashkeys start 10 delta 10 bound 2
+ledger 0 alice -> bob amount 100
+0 alice publish correct: accepted
+46 bob unlock 0 via bob,carol,alice: accepted
+46 bob claim: accepted
+end height 71 alice 0 bob 100 held 0
+ledger 1 bob -> carol amount 5
+0 bob publish correct: accepted
+45 carol unlock 0 via carol,alice: accepted
+46 carol claim: accepted
+end height 71 bob 0 carol 5 held 0
+ledger 2 carol -> alice amount 1
+0 carol publish correct: accepted
+1 alice unlock 0 via alice: accepted
+1 alice claim: accepted
+end height 71 carol 0 alice 1 held 0
+party alice conforming: Deal
+party bob conforming: Deal
+party carol deviator: Deal
+findings 0
+== carol crafts hers too late
+"carol", => "carol","actor":{"script":[{"do":"publish","arc":2},{"do":"wait","arc":1,"height":51},"#,
+    r#"{"do":"craft","arc":1,"lock":0,"via":["carol"],"onto":2},{"do":"claim","arc":1}]}, && "stop" => "fair"
+--
+swap report 1
+swap hashkeys start 10 delta 10 bound 2
+ledger 0 alice -> bob amount 100
+0 alice publish correct: accepted
+61 alice refund: accepted
+end height 71 alice 100 bob 0 held 0
+ledger 1 bob -> carol amount 5
+0 bob publish correct: accepted
+51 carol unlock 0 via carol,alice: TooLate 50
+52 carol claim: StillLocked 0
+61 bob refund: accepted
+end height 71 bob 5 carol 0 held 0
+ledger 2 carol -> alice amount 1
+0 carol publish correct: accepted
+1 alice unlock 0 via alice: accepted
+1 alice claim: accepted
+end height 71 carol 0 alice 1 held 0
+party alice conforming: FreeRide
+party bob conforming: NoDeal
+party carol deviator: Underwater
+findings 0
+"#,
+);
+
+#[test]
+fn every_known_hashkey_is_presented(rt: HostRuntime) -> Result<(), Fail> {
+    let alloc = rt.alloc();
+    let rule: Rule = Box::new(
+        alloc,
+        move |deal: &Deal, me: PartyId, turn: u32, known: &Book| -> Answered
+            requires view { IsView deal.now me known.now.histories }
+            ensures fits { IfOk result (MayAnswer deal.now me) }
+        { presenter_rule(alloc, deal, me, turn, known) },
+    )?;
+    let kit = kit_with(alloc, "attacker", rule)?;
+    attacks(&rt, alloc, &kit, HASHKEYS, WITH_HASHKEYS, Same::Entries)?;
+    attacks(&rt, alloc, &kit, TIMELOCKS, WITH_TIMELOCKS, Same::Entries)?;
+    attacks(&rt, alloc, &kit, TWO_LEADERS, OF_TWO, Same::Endings)
+}
+
+#[test]
+fn scripts_replay_and_craft(rt: HostRuntime) -> Result<(), Fail> {
+    let alloc = rt.alloc();
+    let kit = Kit::new(alloc);
+    attacks(&rt, alloc, &kit, HASHKEYS, SCRIPTS, Same::Entries)
+}
