@@ -16,9 +16,11 @@ def chains(seed, party, lock):
     """The 67 chains of a key, each with its start and its 15 steps."""
     found = []
     for number in range(67):
-        chain = [digest(b"\1", seed, bytes([party, lock, number]))]
+        value = digest(b"\1", seed, bytes([party, lock, number]))
+        chain = [value]
         for _ in range(15):
-            chain.append(digest(b"\2", chain[-1]))
+            value = sha256(b"\2" + value).digest()
+            chain.append(value)
         found.append(chain)
     return found
 

@@ -1,0 +1,261 @@
+"""Random jobs with their events, from a generator of numbers, and random edits of the texts that the program reads."""
+import json
+import re
+import sys
+
+sys.dont_write_bytecode = True
+from signer import deal_id, hashkey, public_key, digest, secret_of
+
+# (few, so that their keys are made once)
+SEEDS = [digest(b"seed of a random job", bytes([it])) for it in range(8)]
+STRATEGIES = ("silent", "greedy", "replayer", "spoiler")
+REPLIES = (b"accepted", b"NoContract", b"Settled", b"NotCounterparty", b"NotParty", b"AlreadyPublished", b"NoFunds 0", b"AlreadyUnlocked",
+           b"WrongSecret", b"WrongPath", b"WrongSignature", b"TooLate 40", b"StillLocked 0", b"NothingLocked", b"NotExpired 61", b"SenderFull")
+
+
+def line_of(value, **more):
+    """A value as a line of compact JSON."""
+    return json.dumps(value, separators=(",", ":"), **more).encode() + b"\n"
+
+
+def digraph(rng, parties, parallel):
+    """A ring over the parties in random order, and some arcs more; where parallel, several may have the same ends."""
+    order = rng.sample(range(parties), parties)
+    arcs = [(order[at], order[(at + 1) % parties]) for at in range(parties)]
+    for _ in range(rng.choice((0, 0, 1, 2, parties))):
+        arc = tuple(rng.sample(range(parties), 2))
+        if parallel or arc not in arcs:
+            arcs.append(arc)
+    rng.shuffle(arcs)
+    return arcs
+
+
+def is_acyclic(arcs, left):
+    left = set(left)
+    while left:
+        ends = {party for party in left if not any(a == party and b in left for a, b in arcs)}
+        if not ends:
+            return False
+        left -= ends
+    return True
+
+
+def leaders_of(rng, parties, arcs, most):
+    """Parties without which no cycle is left, or None where more than most would be needed."""
+    chosen = []
+    for party in rng.sample(range(parties), parties):
+        if is_acyclic(arcs, set(range(parties)) - set(chosen)):
+            break
+        chosen.append(party)
+    while len(chosen) < most and rng.random() < 0.1 and len(chosen) < parties:
+        chosen.append(rng.choice([it for it in range(parties) if it not in chosen]))
+    return chosen if 1 <= len(chosen) <= most else None
+
+
+def distance(arcs, party, leader, seen=()):
+    """The most arcs on a path from a party to the leader."""
+    if party == leader:
+        return 0
+    ways = [distance(arcs, b, leader, (*seen, party)) for a, b in arcs if a == party and b not in seen]
+    return max((1 + way for way in ways if way is not None), default=None)
+
+
+class Job:
+    def __init__(self, rng):
+        self.rng, self.parties, self.leaders = rng, rng.choice((2, 2, 3, 3, 3, 4, 5, 6)), None
+        self.keyed = rng.random() < 0.6
+        self.version = rng.choice((1, 1, 2)) if self.keyed else 1
+        while not self.leaders:
+            self.arcs = digraph(rng, self.parties, self.version == 2)
+            self.leaders = leaders_of(rng, self.parties, self.arcs, min(8, self.parties) if self.keyed else 1)
+        self.seeds = rng.sample(SEEDS, self.parties)
+        self.conforming = [rng.random() < rng.choice((0.5, 0.9, 1)) for _ in range(self.parties)]
+        self.names = rng.choice((["alice", "bob", "carol", "dave", "erin", "frank"], ["p%d" % it for it in range(6)]))[: self.parties]
+        # (crafts need the seeds of all that they go through)
+        self.seeded = [not it and rng.random() < 0.5 for it in self.conforming]
+        self.header = self.made_header()
+        self.identity = deal_id(self.header, self.keyed)
+        for number, party in enumerate(self.header["parties"]):
+            if not self.conforming[number]:
+                party["actor"] = self.actor(number)
+        self.events = [self.event() for _ in range(rng.choice((0, 0, 5, 20, 60)))]
+        self.text = b"".join(map(line_of, [self.header, *self.events]))
+
+    def made_header(self):
+        rng = self.rng
+        delta = rng.choice((1, 2, 5, 10))
+        header = {"swap": self.version, "mode": "hashkeys" if self.keyed else "timelocks", "start": delta + rng.choice((0, 1, 10)), "delta": delta,
+                  "bound": self.parties - 1 + rng.choice((0, 0, 1)), "finish": rng.choice(("stop", "fair", "fair"))}
+        header["parties"] = [self.party(it) for it in range(self.parties)]
+        header["arcs"] = [self.arc(header, a, b) for a, b in self.arcs]
+        header["leaders"] = [{"party": self.names[it], "hashlock": digest(secret_of(self.seeds[it])).hex()} for it in self.leaders]
+        if self.keyed:
+            locks = range(len(self.leaders))
+            header["keys"] = [[public_key(self.seeds[party], party, lock).hex() for lock in locks] for party in range(self.parties)]
+        return header
+
+    def seeded_header(self):
+        """The header with the seed of each party."""
+        parties = [{**party, "seed": seed.hex()} for party, seed in zip(self.header["parties"], self.seeds)]
+        return {**self.header, "parties": parties}
+
+    def plain_text(self):
+        """The same job before it is made."""
+        plain = {**self.seeded_header(), "leaders": [{"party": it["party"]} for it in self.header["leaders"]]}
+        plain["arcs"] = [{field: arc[field] for field in ("from", "to", "amount")} for arc in self.header["arcs"]]
+        plain.pop("keys", None)
+        return b"".join(map(line_of, [plain, *self.events]))
+
+    def party(self, number):
+        party = {"name": self.names[number], "actor": "conforming" if self.conforming[number] else "manual"}
+        if self.conforming[number] or self.seeded[number]:
+            party["seed"] = self.seeds[number].hex()
+        return party
+
+    def actor(self, number):
+        """What acts for a party that doesn't conform."""
+        rng = self.rng
+        kind = rng.choice(("manual", "script", "strategy"))
+        if kind == "script":
+            return {"script": [self.scripted(number) for _ in range(rng.choice((0, 1, 3, 8)))]}
+        return {"strategy": rng.choice(STRATEGIES)} if kind == "strategy" else kind
+
+    def scripted(self, number):
+        if self.rng.random() < 0.2:
+            height = self.rng.choice((0, self.header["start"], self.header["start"] + self.header["delta"], 1000000))
+            return {"do": "wait", "arc": self.rng.choice(self.beside(number)), "height": height}
+        return self.move(number)
+
+    def arc(self, header, a, b):
+        arc = {"from": self.names[a], "to": self.names[b], "amount": self.rng.choice((1, 5, 100, 10**12))}
+        if not self.keyed:
+            arc["timelock"] = header["start"] + (header["bound"] + 1 + distance(self.arcs, b, self.leaders[0])) * header["delta"]
+        return arc
+
+    # ---- events
+
+    def beside(self, party):
+        return [at for at, ends in enumerate(self.arcs) if party in ends]
+
+    def path_from(self, party, leader):
+        """A random path from a party to a leader along arcs, or None."""
+        path = [party]
+        while path[-1] != leader:
+            ways = [b for a, b in self.arcs if a == path[-1] and b not in path]
+            if not ways:
+                return None
+            path.append(self.rng.choice(ways))
+        return path
+
+    def presented(self, arc):
+        """A hashkey for an arc, right or wrong in one place."""
+        rng = self.rng
+        lock = rng.randrange(len(self.leaders))
+        if not self.keyed:
+            secret = secret_of(self.seeds[self.leaders[lock]]) if rng.random() < 0.8 else rng.randbytes(32)
+            return {"lock": lock, "secret": secret.hex(), "path": [], "sigs": []}
+        path = self.path_from(self.arcs[arc][1], self.leaders[lock])
+        if path is None:
+            return {"lock": lock, "secret": rng.randbytes(32).hex(), "path": [], "sigs": []}
+        secret, sigs = hashkey(self.identity, self.seeds, lock, path)
+        if rng.random() < 0.2:
+            at = rng.randrange(len(sigs))
+            sigs[at] = sigs[at][:-1] + bytes([sigs[at][-1] ^ 1])
+        return {"lock": lock, "secret": secret.hex(), "path": [self.names[it] for it in path], "sigs": [it.hex() for it in sigs]}
+
+    def move(self, party):
+        rng = self.rng
+        arc = rng.choice(self.beside(party))
+        kind = rng.choice(("publish", "publish", "raw", "raw", "craft", "replay", "claim", "refund", "transfer"))
+        crafters = [it for it in range(self.parties) if self.seeded[it]]
+        if kind == "craft" and not crafters:
+            kind = "replay"
+        move = {"do": kind, "arc": arc}
+        if kind == "publish" and rng.random() < 0.2:
+            move[rng.choice(("start", "delta", "bound", "amount"))] = rng.choice((0, 1, 7, 100))
+        if kind == "raw":
+            move |= self.presented(arc)
+        if kind in ("craft", "replay"):
+            move["lock"] = rng.randrange(len(self.leaders))
+        if kind == "craft":
+            move["via"] = [self.names[it] for it in rng.sample(crafters, rng.randint(1, len(crafters)))]
+        if kind == "replay" or kind == "craft" and rng.random() < 0.5:
+            move["onto"] = rng.randrange(len(self.arcs))
+        if kind == "transfer":
+            move |= {"to": self.names[rng.choice(self.arcs[arc])], "units": rng.choice((0, 1, 5, 100))}
+        return move
+
+    def event(self):
+        rng = self.rng
+        party = rng.randrange(self.parties)
+        roll = rng.random()
+        if roll < 0.25:
+            return {"tick": rng.randrange(len(self.arcs)), "by": rng.choice((1, 1, 2, self.header["delta"], 30))}
+        if roll < 0.5:
+            return {"look": self.names[party], "arc": rng.choice(self.beside(party))}
+        if self.conforming[party] or self.header["parties"][party]["actor"] != "manual" and rng.random() < 0.8:
+            return {"act": self.names[party]}
+        return {"call": self.names[party], "move": self.move(party)}
+
+
+# ---- edits
+
+
+def edited(rng, text):
+    """The text with some bytes changed, left out or repeated."""
+    text = bytearray(text)
+    for _ in range(rng.choice((1, 1, 2, 5))):
+        at = rng.randrange(len(text))
+        kind = rng.randrange(5)
+        if kind == 0:
+            text[at] = rng.randrange(256)
+        elif kind == 1:
+            text[at] = rng.choice(b'0123456789{}[]",:\n abcdef')
+        elif kind == 2:
+            del text[at : at + rng.choice((1, 1, 10, 1000))]
+        elif kind == 3:
+            text[at:at] = text[max(0, at - rng.randrange(50)) : at]
+        else:
+            del text[at:]
+        if not text:
+            break
+    return bytes(text)
+
+
+def renumbered(rng, line):
+    """The line with one of its numbers changed, if it has one."""
+    numbers = list(re.finditer(rb"(?<= )\d{1,7}(?= |$)", line))
+    if not numbers:
+        return line
+    found = rng.choice(numbers)
+    number = rng.choice((0, 1, int(found[0]) + 1, max(0, int(found[0]) - 1), 10**6))
+    return line[: found.start()] + b"%d" % number + line[found.end() :]
+
+
+def restated(rng, text):
+    """The transcript with some lines that state something else, and the numbers of entries as they then are."""
+    lines = text.split(b"\n")[:-1]
+    for _ in range(rng.choice((1, 1, 2, 4))):
+        at = rng.randrange(2, len(lines))
+        kind = rng.randrange(5)
+        if kind == 0 and b" = " in lines[at]:
+            lines[at] = lines[at].split(b" = ")[0] + b" = " + rng.choice(REPLIES)
+        elif kind == 1:
+            lines[at] = renumbered(rng, lines[at])
+        elif kind == 2 and lines[at][:2] in (b"c ", b"t "):
+            del lines[at]
+        elif kind == 3 and lines[at][:2] in (b"c ", b"t "):
+            lines.insert(at, lines[at])
+        elif kind == 4:
+            other = rng.randrange(2, len(lines))
+            lines[at], lines[other] = lines[other], lines[at]
+    return b"\n".join(counted(lines)) + b"\n"
+
+
+def counted(lines):
+    """The lines with the number of entries that each ledger has."""
+    heads = [at for at, line in enumerate(lines) if line.startswith((b"ledger ", b"end"))]
+    for head, after in zip(heads, heads[1:]):
+        if lines[head].startswith(b"ledger "):
+            lines[head] = b" ".join(lines[head].split(b" ")[:2]) + b" %d" % (after - head - 1)
+    return lines
