@@ -1,6 +1,6 @@
 //! The hashkeys that a party makes, each of which spends the key for its lock.
 
-ghost use Rattle.std.specs.Prelude.{◌≡◌, ◌<◌, ℕ, List, length, IfOk, OnErr};
+ghost use Rattle.std.specs.Prelude.{◌≡◌, ◌<◌, ℕ, List, None, length, IfOk, OnOk, OnErr};
 ghost use Rattle.swap_digraph.specs.Deal.{path_limit};
 ghost use Rattle.party_wallet.specs.Keys.{bare_key, own_key, onto_key, unspent};
 
@@ -33,6 +33,7 @@ fn own_signed(
     requires party { party < deal.now.graph.n }
     requires unspent { slot.old ≡ unspent Mode.Hashkeys seed.now party lock }
     ensures value { IfOk result (λ k. k ≡ own_key Mode.Hashkeys deal.now party seed.now lock) }
+    ensures spent { OnOk result (slot.new ≡ None) }
     ensures back { OnErr result (slot.new ≡ slot.old) }
 {
     let WalletKey { key, public } = slot.take().unwrap();
@@ -61,6 +62,7 @@ fn onto_signed(
     requires unspent { (seed : List ℕ) × (slot.old ≡ unspent Mode.Hashkeys seed party inner.now.lock) }
     ensures value { IfOk result (λ k. (seed : List ℕ) → slot.old ≡ unspent Mode.Hashkeys seed party inner.now.lock
         → k ≡ onto_key Mode.Hashkeys deal.now party seed inner.now) }
+    ensures spent { OnOk result (slot.new ≡ None) }
     ensures back { OnErr result (slot.new ≡ slot.old) }
 {
     let WalletKey { key, public } = slot.take().unwrap();
@@ -88,6 +90,7 @@ pub(crate) fn own_hashkey(
     requires party { party < deal.now.graph.n }
     requires unspent { slot.old ≡ unspent deal.now.mode seed.now party lock }
     ensures value { IfOk result (λ k. k ≡ own_key deal.now.mode deal.now party seed.now lock) }
+    ensures spent { OnOk result (slot.new ≡ None) }
     ensures back { OnErr result (slot.new ≡ slot.old) }
 {
     match deal.mode {
@@ -110,6 +113,7 @@ pub(crate) fn onto_hashkey(
     requires unspent { (seed : List ℕ) × (slot.old ≡ unspent deal.now.mode seed party inner.now.lock) }
     ensures value { IfOk result (λ k. (seed : List ℕ) → slot.old ≡ unspent deal.now.mode seed party inner.now.lock
         → k ≡ onto_key deal.now.mode deal.now party seed inner.now) }
+    ensures spent { OnOk result (slot.new ≡ None) }
     ensures back { OnErr result (slot.new ≡ slot.old) }
 {
     match deal.mode {
