@@ -1,7 +1,7 @@
 //! A strategy: a rule that answers views.
 
 ghost use Rattle.std.specs.Prelude.{◌≡◌, ℕ, IfOk};
-ghost use Rattle.std.specs.Result.{ForOk};
+ghost use Rattle.std.proofs.Props.{props};
 ghost use Rattle.deviator_script.specs.View.{IsView, MayAnswer};
 
 use ledger_core::{Book, Call};
@@ -17,15 +17,15 @@ pub type Rule = Box<
 #[derive(Drop)]
 pub struct Strategy {
     rule: Rule,
-    ghost callable: { (d : _) (p : ℕ) (t : ℕ) (k : _) → IsView d.now p k.now.histories → Rule.pre rule d p t k },
-    ghost fits: { (d : _) (p : ℕ) (t : ℕ) (k : _) (r : _) → IsView d.now p k.now.histories → Rule.post rule d p t k r → ForOk r (MayAnswer d.now p) },
+    ghost callable: { (d : _) (p t : ℕ) (k : _) → IsView d.now p k.now.histories → Rule.pre rule d p t k },
+    ghost fits: { (d : _) (p t : ℕ) (k : _) (r : _) → IsView d.now p k.now.histories → Rule.post rule d p t k r → IfOk r (MayAnswer d.now p) } by { Prim.hlevel props },
 }
 
 impl Strategy {
     /// A strategy by a rule.
     pub fn new(rule: Rule) -> Strategy
-        requires callable { (d : _) (p : ℕ) (t : ℕ) (k : _) → IsView d.now p k.now.histories → Rule.pre rule d p t k }
-        requires fits { (d : _) (p : ℕ) (t : ℕ) (k : _) (r : _) → IsView d.now p k.now.histories → Rule.post rule d p t k r → ForOk r (MayAnswer d.now p) }
+        requires callable { (d : _) (p t : ℕ) (k : _) → IsView d.now p k.now.histories → Rule.pre rule d p t k }
+        requires fits { (d : _) (p t : ℕ) (k : _) (r : _) → IsView d.now p k.now.histories → Rule.post rule d p t k r → IfOk r (MayAnswer d.now p) }
         ensures { result.rule ≡ rule }
     {
         Strategy { rule }
@@ -54,7 +54,7 @@ impl Strategy {
     ) -> Result<Option<(ArcId, Call)>, NoMemory>
         requires view { IsView deal.now me known.now.histories }
         ensures answer { (d : _) × (k : _) × (d.now ≡ deal.now) × (k.now ≡ known.now) × Rule.post self.now.rule d me turn k result }
-        ensures fits { ForOk result (MayAnswer deal.now me) }
+        ensures fits { IfOk result (MayAnswer deal.now me) }
     {
         self.ask(deal, me, turn, known)
     }

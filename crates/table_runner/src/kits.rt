@@ -8,14 +8,6 @@ use std::alloc::Global;
 use std::test::Fail;
 use swap_base::ByteText;
 
-/// A strategy by a rule that may be asked at every view, and whose answers fit where there are any. What a closure promises of itself is said in this form.
-pub fn strategy_of(rule: Rule) -> Strategy
-    requires callable { (d : _) (p t : ℕ) (k : _) → IsView d.now p k.now.histories → Rule.pre rule d p t k }
-    requires fits { (d : _) (p t : ℕ) (k : _) (r : _) → IsView d.now p k.now.histories → Rule.post rule d p t k r → IfOk r (MayAnswer d.now p) }
-{
-    Strategy::new(rule)
-}
-
 /// A kit with that one strategy. Who makes the rule hands it on: a function that gave away what holds it would be one that hides.
 pub fn kit_with(alloc: Global, name: &str, rule: Rule) -> Result<Kit, Fail>
     requires callable { (d : _) (p t : ℕ) (k : _) → IsView d.now p k.now.histories → Rule.pre rule d p t k }
@@ -23,6 +15,6 @@ pub fn kit_with(alloc: Global, name: &str, rule: Rule) -> Result<Kit, Fail>
 {
     let name = ByteText::from_slice(alloc, name.as_bytes())?;
     let mut kit = Kit::new(alloc);
-    kit.add(name, strategy_of(rule))?;
+    kit.add(name, Strategy::new(rule))?;
     Ok(kit)
 }

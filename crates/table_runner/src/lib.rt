@@ -10,7 +10,7 @@ mod runs;
 mod signatures;
 mod tables;
 
-pub use kits::{kit_with, strategy_of};
+pub use kits::kit_with;
 pub use runs::{answer, answer_from, answer_where, answer_within, answers, line_of, told};
 pub use signatures::signed;
 pub use tables::{accepts, cases, edited, refuses};
