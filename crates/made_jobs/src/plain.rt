@@ -1,7 +1,7 @@
 //! What is written of a plain job.
 
-ghost use Rattle.std.specs.Prelude.{◌≡◌, ◌≤◌, ℕ, IfOk, OnOk};
-ghost use Rattle.swap_base.specs.Fault.{Gives};
+ghost use Rattle.std.specs.Prelude.{◌≡◌, ◌≤◌, ℕ, IfOk, IfErr, OnOk};
+ghost use Rattle.swap_base.specs.Fault.{Gives, IsNoMemory};
 ghost use Rattle.proposed_deal.specs.Proposed.{HaveSeeds, IsProposed};
 ghost use Rattle.offer_header.specs.Names.{AreNames};
 ghost use Rattle.swap_offer.specs.Job.{IsWhole};
@@ -46,6 +46,7 @@ pub fn copy_line(
     requires { count ≤ 200000 }
     ensures exact { Gives (λ n. (n, text.new.items)) result (line_step (count, text.old.items) (number, line.now)) }
     ensures few { IfOk result (λ n. n ≤ 200000) }
+    ensures refused { IfErr result (λ e. (IsNoMemory e → ⊥) → text.new.items ≡ text.old.items) }
 {
     let count = count_event(alloc, count, number, line)?;
     put(text, &[Piece::Bytes(line), Piece::Text("\n")])?;

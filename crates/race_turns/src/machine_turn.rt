@@ -1,6 +1,6 @@
 //! A conforming party's turn: it looks at each of its ledgers, and then acts until nothing is due.
 
-ghost use Rattle.std.specs.Prelude.{◌≡◌, ◌≢◌, ◌<◌, ◌++◌, None, false, OnOk, OnErr, IfOk, length};
+ghost use Rattle.std.specs.Prelude.{◌≡◌, ◌≢◌, ◌<◌, ◌++◌, None, true, false, OnOk, OnErr, IfOk, length};
 ghost use Rattle.ledger_core.specs.Book.{history};
 ghost use Rattle.ledger_core.specs.History.{IsLegal};
 ghost use Rattle.party_machine.specs.Machine.{learnt, next_of};
@@ -166,6 +166,7 @@ fn act<R: Wait>(
     ensures tracks { OnOk result (Tracks ledgers.now (watcher machine.new) passes.new) }
     ensures seen { OnOk result (HaveSeenAll passes.old → HaveSeenAll passes.new) }
     ensures idle { IfOk result (λ made. made ≡ false → next_of machine.new ≡ None) }
+    ensures due { IfOk result (λ made. made ≡ true → next_of machine.old ≢ None) }
     ensures owner { IsSameOwner machine.old machine.new }
     ensures elsewhere { IsSameElsewhere passes.old machine.old.known machine.new.known }
 {
