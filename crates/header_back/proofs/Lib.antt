@@ -1,0 +1,10 @@
+pub mod Steps
+pub mod Fields
+pub mod Named
+pub mod Limited
+pub mod Whole
+pub mod OneLine
+pub mod Texts
+pub mod Shown
+pub mod Onward
+pub mod Showable

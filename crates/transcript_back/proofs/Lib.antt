@@ -1,0 +1,4 @@
+pub mod Typed
+pub mod Back
+pub mod Replays
+pub mod Reports

@@ -1,0 +1,22 @@
+//! What is written of a job and its book is read back, and tells an auditor just what it told the writer.
+//!
+//! Read `specs/Laws.antt` first, then `specs/Digests.antt`: which books are meant.
+#![tactic(auto)]
+
+ghost use Rattle.transcript_back.specs.Digests.{LegalIsTyped};
+ghost use Rattle.transcript_back.specs.Laws.{RoundTrip, SameReport};
+
+/// Every entry of a legal book whose calls hold digests is one of the program's own types.
+pub fn legal_is_typed()
+    ensures { LegalIsTyped }
+{}
+
+/// An auditor reads of a transcript just the job and the book that were written.
+pub fn round_trip()
+    ensures { RoundTrip }
+{}
+
+/// An audit of a transcript writes the very report of the job and the book that were written.
+pub fn same_report()
+    ensures { SameReport }
+{}
