@@ -1,0 +1,132 @@
+-- What an audit writes of a transcript is what was promised of its job and book.
+use Rattle.std.proofs.Common.{◌≡◌, ◌≤◌, ℕ, Bool, true, false, List, [], ◌∷◌, length, Result, Ok, refl, sym, ap, ◌∙◌, subst}
+use Rattle.swap_base.specs.Fault.{◌>>=◌}
+use Rattle.ledger_core.specs.Book.{Histories, IsLegalBook}
+use Rattle.deviator_script.specs.declared.event.Event.{Event}
+use Rattle.deviator_script.specs.declared.job.Job.{Job}
+use Rattle.deviator_script.specs.declared.job.Purpose.{Purpose}
+use Rattle.deviator_script.specs.declared.job.Purpose.TheVariants as purposes
+use Rattle.program_kit.specs.Program.{program_rule}
+use Rattle.refusals.specs.declared.reason.Reason.{Reason}
+use Rattle.offer_fields.proofs.Chains.{went}
+use Rattle.offer_header.specs.Raw.{is_plain}
+use Rattle.swap_offer.specs.Job.{events_for, job_header_of, job_of, of_lines}
+use Rattle.swap_offer.specs.Lines.{filled_lines, lines_of}
+use Rattle.header_back.specs.Laws.{IsShowable}
+use Rattle.header_back.proofs.Onward.{ok_is}
+use Rattle.header_back.proofs.Showable.{read_is_showable}
+use Rattle.transcript_back.specs.Digests.{HoldsDigests}
+use Rattle.transcript_back.specs.Laws.{HasTranscript}
+use Rattle.transcript_back.proofs.Reports.{same_report}
+use Rattle.transcript_lines.specs.Lines.{transcript}
+use Rattle.audit_command.specs.Output.{Written, audit_of}
+use Rattle.swap_main.specs.Output.{Chance, book_of, by_reason, output_by, reported}
+use Rattle.swap_main.specs.declared.words.Command.TheVariants.{OfJob, Audit}
+use Rattle.swap_main.specs.declared.words.JobCommand.TheVariants.{Run, Race}
+use Rattle.swap_main.specs.Promised.{AsPromised}
+use Rattle.swap_main.specs.Staff.{by_rule, is_known}
+use Rattle.swap_main.specs.declared.words.Command.{Command}
+use Rattle.run_digests.proofs.Rules.{program_keeps_digests}
+use Rattle.run_digests.proofs.Whole.{runs_hold_digests}
+use Rattle.audited_runs.specs.Laws.{AuditsTellTheRun, IsAudited, ProgramRunsAreAudited, RacesAreAudited, RunsAreAudited}
+
+-- ---- a job that was read can be shown
+
+lines_showable : (has : List ℕ → Bool) (purpose : Purpose) (ls : List (ℕ × List ℕ)) (job : Job) (events : List Event) → is_plain purpose ≡ false
+    → of_lines has purpose ls ≡ Ok (job, events) → IsShowable job
+lines_showable has purpose [] job events stated e = absurd (cc e)
+lines_showable has purpose (l ∷ ls) job events stated e =
+    let one = went (job_header_of has purpose l.0 l.1) _ (job, events) e in
+    let two = went (events_for purpose one.0 ls) _ (job, events) one.2 in
+    let same : one.0 ≡ job = ap (λ (p : Job × List Event). p.0) (ok_is (one.0, two.0) (job, events) two.2) in
+    subst IsShowable same (read_is_showable has purpose l.0 l.1 one.0 stated one.1)
+
+job_showable : (has : List ℕ → Bool) (purpose : Purpose) (input : List ℕ) (job : Job) (events : List Event) → is_plain purpose ≡ false
+    → job_of has purpose input ≡ Ok (job, events) → IsShowable job
+unfolding job_of
+job_showable has purpose input job events stated e = lines_showable has purpose (filled_lines 1 (lines_of input)) job events stated e
+
+-- ---- what an audit writes of a text that is a transcript
+
+audit_writes : (has : List ℕ → Bool) (chance : Chance) (job : Job) (b : Histories) (output : Written) → IsShowable job → IsLegalBook job.deal b → HoldsDigests b
+    → output ≡ reported true job b → length output.text ≤ 16777216 → output_by has chance Audit output.text ≡ Ok (reported false job b)
+unfolding output_by reported
+audit_writes has chance job b output showable legal digests is le =
+    let text : output.text ≡ transcript job b = ap (λ (w : Written). w.text) is in
+    let k : HasTranscript job b = record {
+      showable = showable;
+      legal = legal;
+      digests = digests;
+      short = subst (λ (l : List ℕ). length l ≤ 16777216) text le;
+    } in
+    ap (λ (l : List ℕ). by_reason (audit_of l)) text
+    ∙ ap by_reason (same_report job b k)
+
+-- ---- what a run and a race write
+
+run_writes : (has : List ℕ → Bool) (chance : Chance) (input : List ℕ) (job : Job) (events : List Event) → job_of has purposes.Run input ≡ Ok (job, events)
+    → output_by has chance (OfJob (Run false)) input ≡ Ok (reported false job (book_of chance.answers job events))
+unfolding output_by
+run_writes has chance input job events e =
+    ap (λ (r : Result (Job × List Event) Reason). r >>= λ j. Ok (reported false j.0 (book_of chance.answers j.0 j.1))) e
+
+race_writes : (has : List ℕ → Bool) (chance : Chance) (ticks : ℕ) (input : List ℕ) (job : Job) → job_of has purposes.Race input ≡ Ok (job, [])
+    → output_by has chance (OfJob (Race ticks false)) input ≡ Ok (reported false job chance.book)
+unfolding output_by
+race_writes has chance ticks input job e =
+    ap (λ (r : Result (Job × List Event) Reason). r >>= λ j. Ok (reported false j.0 chance.book)) e
+
+-- ---- the laws
+
+-- either tells of a finding where the other does
+same_found : (job : Job) (b : Histories) (output : Written) → output ≡ reported true job b → (reported false job b).found ≡ output.found
+unfolding reported
+same_found job b output is = ap (λ (w : Written). w.found) (sym is)
+
+audited_as : (has : List ℕ → Bool) (chance : Chance) (command : Command) (input : List ℕ) (job : Job) (b : Histories) (output : Written) → IsShowable job
+    → IsLegalBook job.deal b → HoldsDigests b → output ≡ reported true job b → length output.text ≤ 16777216
+    → output_by has chance command input ≡ Ok (reported false job b) → IsAudited has chance command input output
+audited_as has chance command input job b output showable legal digests is le writes = record {
+  report = reported false job b;
+  audited = audit_writes has chance job b output showable legal digests is le;
+  same = writes;
+  found = same_found job b output is;
+}
+
+pub runs_are_audited : RunsAreAudited
+runs_are_audited rule has chance input output keeps p le =
+    audited_as has chance (OfJob (Run false)) input p.job (book_of chance.answers p.job p.events) output
+    (job_showable has purposes.Run input p.job p.events refl p.is_read) p.promised.kept.legal
+    (runs_hold_digests rule has chance.answers input p.job p.events keeps p.is_read p.given) p.shown le
+    (run_writes has chance input p.job p.events p.is_read)
+
+pub races_are_audited : RacesAreAudited
+races_are_audited rule has chance ticks input output digests p le =
+    audited_as has chance (OfJob (Race ticks false)) input p.job chance.book output (job_showable has purposes.Race input p.job [] refl p.is_read)
+    p.promised.kept.legal digests p.shown le (race_writes has chance ticks input p.job p.is_read)
+
+pub program_runs_are_audited : ProgramRunsAreAudited
+program_runs_are_audited words left left' taken taken' found done e le =
+    runs_are_audited program_rule is_known done.chance done.read.input done.output program_keeps_digests
+    (subst (λ (c : Command). AsPromised is_known (by_rule program_rule) done.chance c done.read.input done.output) e done.promised) le
+
+-- ---- an audit that is done
+
+-- what an audit writes depends on no chance
+any_chance : (has : List ℕ → Bool) (a b : Chance) (text : List ℕ) → output_by has a Audit text ≡ output_by has b Audit text
+unfolding output_by
+any_chance has a b text = refl
+
+pub audits_tell_the_run : AuditsTellTheRun
+audits_tell_the_run words others left left' taken taken' before before' sink sink' found named done e told q same =
+    let within : length done.output.text ≤ 16777216 = subst (λ (l : List ℕ). length l ≤ 16777216) same told.read.within in
+    let k = program_runs_are_audited words left left' taken taken' found done e within in
+    let asked : output_by is_known told.chance Audit told.read.input ≡ Ok told.output =
+    subst (λ (c : Command). output_by is_known told.chance c told.read.input ≡ Ok told.output) q told.read.gives in
+    let read : output_by is_known told.chance Audit done.output.text ≡ Ok told.output =
+    subst (λ (l : List ℕ). output_by is_known told.chance Audit l ≡ Ok told.output) same asked in
+    let is : k.report ≡ told.output =
+    ok_is k.report told.output (sym k.audited ∙ any_chance is_known done.chance told.chance done.output.text ∙ read) in (
+      k.same ∙ ap (λ (w : Written). let r : Result Written Reason = Ok w in r) is,
+      sym told.findings ∙ ap (λ (w : Written). w.found) (sym is) ∙ k.found ∙ done.findings,
+    )

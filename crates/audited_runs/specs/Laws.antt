@@ -1,0 +1,53 @@
+-- An audit of the transcript that a run or a race wrote writes the report that the run or the race writes.
+use Rattle.std.specs.Prelude.{◌≡◌, ◌≤◌, ℕ, Bool, true, false, List, length, Option, Ok}
+use Rattle.audit_command.specs.Output.{Written}
+use Rattle.program_kit.specs.Program.{program_rule}
+use Rattle.swap_main.specs.Input.{limit}
+use Rattle.swap_main.specs.Output.{Chance, output_by}
+use Rattle.swap_main.specs.Promised.{AsPromised}
+use Rattle.swap_main.specs.Staff.{by_rule, is_known}
+use Rattle.swap_main.specs.Top.{IsDone}
+use Rattle.swap_main.specs.declared.words.Command.{Command}
+use Rattle.swap_main.specs.declared.words.Command.TheVariants.{OfJob, Audit}
+use Rattle.swap_main.specs.declared.words.JobCommand.TheVariants.{Run, Race}
+use Rattle.transcript_back.specs.Digests.{HoldsDigests}
+use Rattle.run_digests.specs.Laws.{KeepsDigests, Rule}
+
+-- What was written of an input is a transcript of which an audit writes what the command writes for that input, and either tells of a finding where the
+-- transcript's status did.
+pub record IsAudited (has : List ℕ → Bool) (chance : Chance) (command : Command) (input : List ℕ) (output : Written) : Type 0 where
+  pub report : Written
+  pub audited : output_by has chance Audit output.text ≡ Ok report
+  pub same : output_by has chance command input ≡ Ok report
+  pub found : report.found ≡ output.found
+
+-- Of the transcript that a run wrote, of at most 16,777,216 bytes, an audit writes the report that the run writes, where strategies answer by a rule
+-- whose calls hold digests.
+abbrev pub RunsAreAudited : Type 0
+RunsAreAudited =
+    (rule : Rule) (has : List ℕ → Bool) (chance : Chance) (input : List ℕ) (output : Written) → KeepsDigests rule
+    → AsPromised has (by_rule rule) chance (OfJob (Run true)) input output → length output.text ≤ limit
+    → IsAudited has chance (OfJob (Run false)) input output
+
+-- And of the transcript that a race wrote the report that the race writes where it comes to the same book. That its calls hold digests is asked of the book.
+abbrev pub RacesAreAudited : Type 0
+RacesAreAudited =
+    (rule : Rule) (has : List ℕ → Bool) (chance : Chance) (ticks : ℕ) (input : List ℕ) (output : Written) → HoldsDigests chance.book
+    → AsPromised has (by_rule rule) chance (OfJob (Race ticks true)) input output → length output.text ≤ limit
+    → IsAudited has chance (OfJob (Race ticks false)) input output
+
+-- So wherever the program is done with a run, whatever is found, its transcript is audited as the run is reported.
+abbrev pub ProgramRunsAreAudited : Type 0
+ProgramRunsAreAudited =
+    (words : List (List ℕ)) (left left' taken taken' : Option (List ℕ)) (found : Bool)
+    (done : IsDone is_known (by_rule program_rule) words left left' taken taken' found) → done.read.command ≡ OfJob (Run true)
+    → length done.output.text ≤ limit → IsAudited is_known done.chance (OfJob (Run false)) done.read.input done.output
+
+-- And wherever it is done with an audit of such a transcript, what it wrote is the text that the run writes, and it tells of a finding where the run did.
+abbrev pub AuditsTellTheRun : Type 0
+AuditsTellTheRun =
+    (words others : List (List ℕ)) (left left' taken taken' before before' sink sink' : Option (List ℕ)) (found named : Bool)
+    (done : IsDone is_known (by_rule program_rule) words left left' taken taken' found) → done.read.command ≡ OfJob (Run true)
+    → (told : IsDone is_known (by_rule program_rule) others before before' sink sink' named) → told.read.command ≡ Audit
+    → told.read.input ≡ done.output.text
+    → (output_by is_known done.chance (OfJob (Run false)) done.read.input ≡ Ok told.output) × (named ≡ found)

@@ -1,0 +1,26 @@
+//! An audit of the transcript that a run or a race wrote writes the report that the run or the race writes.
+//!
+//! Read `specs/Laws.antt` first.
+#![tactic(auto)]
+
+ghost use Rattle.audited_runs.specs.Laws.{AuditsTellTheRun, ProgramRunsAreAudited, RacesAreAudited, RunsAreAudited};
+
+/// An audit of a run's transcript writes the run's report, where strategies answer by a rule.
+pub fn runs_are_audited()
+    ensures { RunsAreAudited }
+{}
+
+/// An audit of a race's transcript writes the race's report.
+pub fn races_are_audited()
+    ensures { RacesAreAudited }
+{}
+
+/// So wherever the program is done with a run, its transcript is audited as the run is reported.
+pub fn program_runs_are_audited()
+    ensures { ProgramRunsAreAudited }
+{}
+
+/// And wherever it is done with an audit of such a transcript, it wrote what the run writes.
+pub fn audits_tell_the_run()
+    ensures { AuditsTellTheRun }
+{}

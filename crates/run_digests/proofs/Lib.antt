@@ -1,0 +1,6 @@
+pub mod Hashes
+pub mod Calls
+pub mod Rules
+pub mod States
+pub mod Reading
+pub mod Whole

@@ -1,0 +1,16 @@
+//! The calls of a run hold digests, as the program's own types do: what an audit asks of a book beside that it is legal.
+//!
+//! Read `specs/Laws.antt` first.
+#![tactic(auto)]
+
+ghost use Rattle.run_digests.specs.Laws.{ProgramKeepsDigests, RunsHoldDigests};
+
+/// The program's strategies answer calls that hold digests, where those that they are shown do.
+pub fn program_keeps_digests()
+    ensures { ProgramKeepsDigests }
+{}
+
+/// Every call of a run's book holds digests, where strategies answer by such a rule.
+pub fn runs_hold_digests()
+    ensures { RunsHoldDigests }
+{}
