@@ -14,8 +14,24 @@ use table_runner::told;
 /// More bytes than any text has here that is written.
 const ROOM: usize = 65_536;
 
-/// The most bytes of one call, where nothing else is said.
-const MANY: usize = 512;
+/// Calls of a source or a sink.
+#[derive(Drop)]
+struct Calls {
+    /// The most bytes of one.
+    most: usize,
+    /// The number of the one that fails.
+    failing: u64,
+}
+
+/// Calls none of which fails.
+fn usual() -> Calls
+    ensures { 0 < result.most }
+{
+    Calls {
+        most: 512,
+        failing: u64::MAX,
+    }
+}
 
 /// A gate that keeps nobody.
 struct Open;
@@ -44,24 +60,19 @@ fn words_of(alloc: Global, command: &str) -> Result<Vec<String>, Fail> {
     Ok(words)
 }
 
-fn source_of(
-    alloc: Global,
-    input: &[u8],
-    per_call: usize,
-    failing: &[u64],
-) -> Result<VecSource, Fail>
-    requires { 0 < per_call }
+fn source_of(alloc: Global, input: &[u8], calls: Calls) -> Result<VecSource, Fail>
+    requires { 0 < calls.most }
 {
     let bytes = Vec::from_slice(alloc, input)?;
-    let failing = Vec::from_slice(alloc, failing)?;
-    Ok(VecSource::new(bytes, per_call, failing))
+    let failing = Vec::from_slice(alloc, &[calls.failing])?;
+    Ok(VecSource::new(bytes, calls.most, failing))
 }
 
-fn sink_of(alloc: Global, per_call: usize, failing: &[u64]) -> Result<VecSink, Fail>
-    requires { 0 < per_call }
+fn sink_of(alloc: Global, calls: Calls) -> Result<VecSink, Fail>
+    requires { 0 < calls.most }
 {
-    let failing = Vec::from_slice(alloc, failing)?;
-    Ok(VecSink::new(alloc, ROOM, per_call, failing)?)
+    let failing = Vec::from_slice(alloc, &[calls.failing])?;
+    Ok(VecSink::new(alloc, ROOM, calls.most, failing)?)
 }
 
 fn told_of<R: Threads + Wait + Sync>(
@@ -75,8 +86,25 @@ fn told_of<R: Threads + Wait + Sync>(
     told(alloc, &status, sink.taken())
 }
 
-/// What the program answers to a command and an input, of which it reads so many bytes a call, where the read of that number fails: a line for the status,
-/// and then all that it wrote.
+/// What the program answers to a command and an input, which it reads and writes by such calls: a line for the status, and then all that it wrote.
+fn answer_by<R: Threads + Wait + Sync>(
+    rt: &R,
+    alloc: Global,
+    command: &str,
+    input: &[u8],
+    reads: Calls,
+    writes: Calls,
+) -> Result<Vec<u8>, Fail>
+    requires reads { 0 < reads.most }
+    requires writes { 0 < writes.most }
+{
+    let words = words_of(alloc, command)?;
+    let mut source = source_of(alloc, input, reads)?;
+    let mut sink = sink_of(alloc, writes)?;
+    told_of(rt, alloc, &words, &mut source, &mut sink)
+}
+
+/// The answer where it reads so many bytes a call, and the read of that number fails.
 pub(crate) fn answer_unread<R: Threads + Wait + Sync>(
     rt: &R,
     alloc: Global,
@@ -87,10 +115,11 @@ pub(crate) fn answer_unread<R: Threads + Wait + Sync>(
 ) -> Result<Vec<u8>, Fail>
     requires { 0 < per_read }
 {
-    let words = words_of(alloc, command)?;
-    let mut source = source_of(alloc, input, per_read, &[read as u64])?;
-    let mut sink = sink_of(alloc, MANY, &[])?;
-    told_of(rt, alloc, &words, &mut source, &mut sink)
+    let reads = Calls {
+        most: per_read,
+        failing: read as u64,
+    };
+    answer_by(rt, alloc, command, input, reads, usual())
 }
 
 /// The same where it writes so many bytes a call, and the write of that number fails.
@@ -104,10 +133,11 @@ pub(crate) fn answer_unwritten<R: Threads + Wait + Sync>(
 ) -> Result<Vec<u8>, Fail>
     requires { 0 < per_write }
 {
-    let words = words_of(alloc, command)?;
-    let mut source = source_of(alloc, input, MANY, &[])?;
-    let mut sink = sink_of(alloc, per_write, &[write as u64])?;
-    told_of(rt, alloc, &words, &mut source, &mut sink)
+    let writes = Calls {
+        most: per_write,
+        failing: write as u64,
+    };
+    answer_by(rt, alloc, command, input, usual(), writes)
 }
 
 /// The same where no call fails.
@@ -117,8 +147,5 @@ pub(crate) fn answer<R: Threads + Wait + Sync>(
     command: &str,
     input: &[u8],
 ) -> Result<Vec<u8>, Fail> {
-    let words = words_of(alloc, command)?;
-    let mut source = source_of(alloc, input, MANY, &[])?;
-    let mut sink = sink_of(alloc, MANY, &[])?;
-    told_of(rt, alloc, &words, &mut source, &mut sink)
+    answer_by(rt, alloc, command, input, usual(), usual())
 }

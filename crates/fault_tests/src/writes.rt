@@ -56,7 +56,8 @@ fn is_not_written<R: Threads + Wait + Abort + Sync>(
     Ok(())
 }
 
-/// Each write whose number is a multiple of `every` fails in turn, up to the last. The text is shorter than a page, so each write but the last takes as many bytes as it may.
+/// Each write whose number is a multiple of `every` fails in turn, up to the last.
+/// The text is shorter than a page, so each write but the last takes as many bytes as it may.
 fn writes_fail<R: Threads + Wait + Abort + Sync>(
     rt: &R,
     alloc: Global,
