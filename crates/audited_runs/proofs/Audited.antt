@@ -20,12 +20,12 @@ use Rattle.transcript_back.specs.Laws.{HasTranscript}
 use Rattle.transcript_back.proofs.Reports.{same_report}
 use Rattle.transcript_lines.specs.Lines.{transcript}
 use Rattle.audit_command.specs.Output.{Written, audit_of}
-use Rattle.swap_main.specs.Output.{Chance, book_of, by_reason, output_by, reported}
-use Rattle.swap_main.specs.declared.words.Command.TheVariants.{OfJob, Audit}
-use Rattle.swap_main.specs.declared.words.JobCommand.TheVariants.{Run, Race}
-use Rattle.swap_main.specs.Promised.{AsPromised}
+use Rattle.swap_commands.specs.Output.{Chance, book_of, by_reason, output_by, reported}
+use Rattle.swap_commands.specs.declared.words.Command.TheVariants.{OfJob, Audit}
+use Rattle.swap_commands.specs.declared.words.JobCommand.TheVariants.{Run, Race}
+use Rattle.swap_commands.specs.Promised.{AsPromised}
 use Rattle.swap_main.specs.Staff.{by_rule, is_known}
-use Rattle.swap_main.specs.declared.words.Command.{Command}
+use Rattle.swap_commands.specs.declared.words.Command.{Command}
 use Rattle.run_digests.proofs.Rules.{program_keeps_digests}
 use Rattle.run_digests.proofs.Whole.{runs_hold_digests}
 use Rattle.audited_runs.specs.Laws.{AuditsTellTheRun, IsAudited, ProgramRunsAreAudited, RacesAreAudited, RunsAreAudited}

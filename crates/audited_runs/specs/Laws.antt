@@ -2,14 +2,14 @@
 use Rattle.std.specs.Prelude.{◌≡◌, ◌≤◌, ℕ, Bool, true, false, List, length, Option, Ok}
 use Rattle.audit_command.specs.Output.{Written}
 use Rattle.program_kit.specs.Program.{program_rule}
-use Rattle.swap_main.specs.Input.{limit}
-use Rattle.swap_main.specs.Output.{Chance, output_by}
-use Rattle.swap_main.specs.Promised.{AsPromised}
+use Rattle.swap_commands.specs.Input.{limit}
+use Rattle.swap_commands.specs.Output.{Chance, output_by}
+use Rattle.swap_commands.specs.Promised.{AsPromised}
 use Rattle.swap_main.specs.Staff.{by_rule, is_known}
 use Rattle.swap_main.specs.Top.{IsDone}
-use Rattle.swap_main.specs.declared.words.Command.{Command}
-use Rattle.swap_main.specs.declared.words.Command.TheVariants.{OfJob, Audit}
-use Rattle.swap_main.specs.declared.words.JobCommand.TheVariants.{Run, Race}
+use Rattle.swap_commands.specs.declared.words.Command.{Command}
+use Rattle.swap_commands.specs.declared.words.Command.TheVariants.{OfJob, Audit}
+use Rattle.swap_commands.specs.declared.words.JobCommand.TheVariants.{Run, Race}
 use Rattle.transcript_back.specs.Digests.{HoldsDigests}
 use Rattle.run_digests.specs.Laws.{KeepsDigests, Rule}
 

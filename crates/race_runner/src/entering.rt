@@ -1,7 +1,7 @@
 //! The job of a race, as the program reads it.
 
 ghost use Rattle.std.specs.Prelude.{IfOk};
-ghost use Rattle.swap_main.specs.Entered.{CanRace};
+ghost use Rattle.swap_commands.specs.Entered.{CanRace};
 
 use deviator_script::Job;
 use party_wallet::Wallet;

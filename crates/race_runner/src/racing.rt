@@ -2,7 +2,7 @@
 
 ghost use Rattle.std.specs.Prelude.{◌≤◌, IfOk};
 ghost use Rattle.ledger_core.specs.Book.{IsLegalBook};
-ghost use Rattle.swap_main.specs.Entered.{CanRace};
+ghost use Rattle.swap_commands.specs.Entered.{CanRace};
 
 use crate::entering::enter;
 use crate::telling::{endings, told};

@@ -32,7 +32,7 @@ use Rattle.swap_run.specs.Run.{notes_of, plan_of, question, plan_up_to, plans_se
 use Rattle.swap_run.specs.Run.{take_call, watch}
 use Rattle.swap_run.specs.Fair.{acts, adjacent, finish, has_ended, looks, most_acts, repeat, round, round_unless_ended, the_horizon, tick_low, ticks, turn}
 use Rattle.swap_run.specs.Fair.{turns}
-use Rattle.swap_main.specs.Output.{finished}
+use Rattle.swap_commands.specs.Output.{finished}
 use Rattle.transcript_lines.specs.Typed.{IsDigest}
 use Rattle.transcript_back.specs.Digests.{HasDigests}
 use Rattle.run_digests.proofs.Hashes.{May, KeyHas, WalletHas}

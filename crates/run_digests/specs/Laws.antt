@@ -9,7 +9,7 @@ use Rattle.ledger_core.specs.Book.{Histories}
 use Rattle.program_kit.specs.Program.{program_rule}
 use Rattle.swap_run.specs.Asked.{Answers}
 use Rattle.swap_offer.specs.Job.{job_of}
-use Rattle.swap_main.specs.Output.{AreGiven, book_of, state_of}
+use Rattle.swap_commands.specs.Output.{AreGiven, book_of, state_of}
 use Rattle.swap_main.specs.Staff.{by_rule}
 use Rattle.transcript_lines.specs.Typed.{IsDigest}
 use Rattle.transcript_back.specs.Digests.{HasDigests, HoldsDigests}

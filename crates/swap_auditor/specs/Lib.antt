@@ -1,4 +1,3 @@
-pub mod WellFormed
 pub mod Replies
 pub mod Audit
 pub mod Found

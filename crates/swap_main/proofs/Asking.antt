@@ -9,19 +9,19 @@ use Rattle.program_words.specs.Words.{command_of as asked_of, IsWithin as IsWith
 use Rattle.program_words.specs.declared.command.Command.{Command as Asked}
 use Rattle.program_words.specs.declared.command.Command.TheVariants as asked
 use Rattle.program_words.proofs.Ranges.{command_within}
-use Rattle.swap_main.specs.Generated.{generated_output, Generates}
-use Rattle.swap_main.specs.Says.{IsWhole, Writes}
+use Rattle.swap_commands.specs.Generated.{generated_output, Generates}
+use Rattle.swap_commands.specs.Says.{IsWhole, Writes}
 use Rattle.swap_main.specs.Top.{status_of}
-use Rattle.swap_main.specs.Words.{asked_task, command_of, input_of, is_race, number_of, races, request_of, task_of, AsksRace, IsWithin}
+use Rattle.swap_commands.specs.Words.{asked_task, command_of, input_of, is_race, number_of, races, request_of, task_of, AsksRace, IsWithin}
 use Rattle.audit_command.specs.Output.{Written}
-use Rattle.swap_main.specs.declared.words.Command.{Command}
-use Rattle.swap_main.specs.declared.words.Command.TheVariants.{OfJob}
-use Rattle.swap_main.specs.declared.words.JobCommand.TheVariants.{Race}
-use Rattle.swap_main.specs.declared.words.Request.{Request}
-use Rattle.swap_main.specs.declared.words.Task.{Task}
-use Rattle.swap_main.specs.declared.words.Task.TheVariants.{Input, Number}
-use Rattle.swap_main.specs.declared.status.Status.{Status}
-use Rattle.swap_main.specs.declared.status.Status.TheVariants.{Done, Named, WrongWords, Refused, ReadFault, WriteFault, NoMemory, TooLong}
+use Rattle.swap_commands.specs.declared.words.Command.{Command}
+use Rattle.swap_commands.specs.declared.words.Command.TheVariants.{OfJob}
+use Rattle.swap_commands.specs.declared.words.JobCommand.TheVariants.{Race}
+use Rattle.swap_commands.specs.declared.words.Request.{Request}
+use Rattle.swap_commands.specs.declared.words.Task.{Task}
+use Rattle.swap_commands.specs.declared.words.Task.TheVariants.{Input, Number}
+use Rattle.swap_commands.specs.declared.status.Status.{Status}
+use Rattle.swap_commands.specs.declared.status.Status.TheVariants.{Done, Named, WrongWords, Refused, ReadFault, WriteFault, NoMemory, TooLong}
 
 -- The words' task.
 

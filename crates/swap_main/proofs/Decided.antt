@@ -31,9 +31,9 @@ use Rattle.swap_offer.specs.Lines.{lines_of, filled_lines}
 use Rattle.audit_command.specs.Output.{Written}
 use Rattle.swap_main.specs.Laws.{SameWithoutStrategies, RulesDecide}
 use Rattle.swap_main.specs.Staff.{by_rule}
-use Rattle.swap_main.specs.Output.{AreGiven, Chance, cast_by, finished, output_by, output_for, reported, state_of}
-use Rattle.swap_main.specs.declared.words.Command.TheVariants.{OfJob, Audit}
-use Rattle.swap_main.specs.declared.words.JobCommand.TheVariants.{Check, Run, Race, Make}
+use Rattle.swap_commands.specs.Output.{AreGiven, Chance, cast_by, finished, output_by, output_for, reported, state_of}
+use Rattle.swap_commands.specs.declared.words.Command.TheVariants.{OfJob, Audit}
+use Rattle.swap_commands.specs.declared.words.JobCommand.TheVariants.{Check, Run, Race, Make}
 
 -- What is written depends on the state alone.
 

@@ -1,16 +1,6 @@
-pub mod Replays
 pub mod Decided
-pub mod Reports
-pub mod Raced
-pub mod Promises
 pub mod Fairly
-pub mod Ahead
-pub mod Streams
-pub mod Reading
-pub mod Saying
 pub mod Ends
 pub mod Asking
 pub mod Performing
-pub mod Acting
-pub mod Audits
 pub mod Staffing

@@ -17,18 +17,18 @@ use Rattle.swap_world.specs.Gone.{Gives}
 use Rattle.audit_command.specs.Output.{Written}
 use Rattle.party_threads.specs.Race.{IsRaceBook, rounds_for}
 use Rattle.party_threads.specs.Views.{AreAnswered, PlaysByViews}
-use Rattle.swap_main.specs.Output.{Chance}
-use Rattle.swap_main.specs.Promised.{AsPromised}
-use Rattle.swap_main.specs.Entered.{Obeys}
-use Rattle.swap_main.specs.Says.{HasOutput, Says}
+use Rattle.swap_commands.specs.Output.{Chance}
+use Rattle.swap_commands.specs.Promised.{AsPromised}
+use Rattle.swap_commands.specs.Entered.{Obeys}
+use Rattle.swap_commands.specs.Says.{HasOutput, Says}
 use Rattle.swap_main.specs.Staff.{is_known}
-use Rattle.swap_main.specs.declared.staff.Obeyed.{Obeyed}
-use Rattle.swap_main.specs.declared.staff.Obeyed.TheVariants.{Ended, Entered}
-use Rattle.swap_main.specs.declared.words.Command.{Command}
-use Rattle.swap_main.specs.declared.words.Command.TheVariants.{OfJob, Audit}
-use Rattle.swap_main.specs.declared.words.JobCommand.TheVariants.{Check, Run, Race, Make}
-use Rattle.swap_main.specs.declared.status.Status.{Status}
-use Rattle.swap_main.specs.declared.status.Status.TheVariants.{Done, Named, WrongWords, Refused, ReadFault, WriteFault, NoMemory, TooLong}
+use Rattle.swap_commands.specs.declared.staff.Obeyed.{Obeyed}
+use Rattle.swap_commands.specs.declared.staff.Obeyed.TheVariants.{Ended, Entered}
+use Rattle.swap_commands.specs.declared.words.Command.{Command}
+use Rattle.swap_commands.specs.declared.words.Command.TheVariants.{OfJob, Audit}
+use Rattle.swap_commands.specs.declared.words.JobCommand.TheVariants.{Check, Run, Race, Make}
+use Rattle.swap_commands.specs.declared.status.Status.{Status}
+use Rattle.swap_commands.specs.declared.status.Status.TheVariants.{Done, Named, WrongWords, Refused, ReadFault, WriteFault, NoMemory, TooLong}
 
 -- a kit with a strategy for each name has those of these names
 is_had : {A : Type 0} (names : List (List ℕ)) (xs : List A) (name : List ℕ) → length names ≡ length xs

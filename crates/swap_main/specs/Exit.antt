@@ -5,8 +5,8 @@ use Rattle.refusals.specs.Line.{line_of}
 use Rattle.swap_main.specs.declared.exit.Exit.{Exit}
 use Rattle.swap_main.specs.declared.exit.Told.{Told}
 use Rattle.swap_main.specs.declared.exit.Told.TheVariants.{Words, Line}
-use Rattle.swap_main.specs.declared.status.Status.{Status}
-use Rattle.swap_main.specs.declared.status.Status.TheVariants.{Done, Named, WrongWords, Refused, ReadFault, WriteFault, NoMemory, TooLong}
+use Rattle.swap_commands.specs.declared.status.Status.{Status}
+use Rattle.swap_commands.specs.declared.status.Status.TheVariants.{Done, Named, WrongWords, Refused, ReadFault, WriteFault, NoMemory, TooLong}
 
 -- the number of a status
 abbrev pub number_of : Status → ℕ

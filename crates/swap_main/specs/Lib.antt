@@ -1,14 +1,5 @@
-pub mod Words
-pub mod Output
-pub mod Promised
 pub mod Top
 pub mod Answer
-pub mod Faults
-pub mod Input
-pub mod Replay
-pub mod Says
-pub mod Entered
 pub mod Exit
-pub mod Generated
 pub mod Laws
 pub mod Staff

@@ -4,10 +4,10 @@ ghost use Rattle.std.specs.Prelude.{◌≡◌, ◌⊎◌, ◌++◌, ◌∷◌, [
 ghost use Rattle.refusals.specs.declared.reason.Reason.{Reason};
 ghost use Rattle.swap_main.specs.Exit.{IsExit, lines_of, told_text};
 
-use crate::status::Status;
 use refusals::{Reason, refusal_line};
 use std::alloc::Global;
 use swap_base::{ByteText, NoMemory};
+use swap_commands::Status;
 
 /// What is told on standard error.
 #[derive(Debug, Drop)]

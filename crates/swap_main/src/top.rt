@@ -2,21 +2,19 @@
 
 ghost use Rattle.std.specs.Prelude.{◌≡◌, ◌≤◌, ◌⊎◌, ◌↔◌, false, None, Some, map, string_bytes};
 ghost use Rattle.program_words.specs.Words.{command_of as asked_of};
-ghost use Rattle.swap_main.specs.declared.words.Request.{Request};
+ghost use Rattle.swap_commands.specs.declared.words.Request.{Request};
 ghost use Rattle.swap_main.specs.Answer.{IsAnswer};
-ghost use Rattle.swap_main.specs.Generated.{Performs};
-ghost use Rattle.swap_main.specs.Says.{Says};
-ghost use Rattle.swap_main.specs.Words.{AsksRace, IsWithin, races, request_of};
+ghost use Rattle.swap_commands.specs.Generated.{Performs};
+ghost use Rattle.swap_commands.specs.Says.{Says};
+ghost use Rattle.swap_commands.specs.Words.{AsksRace, IsWithin, races, request_of};
 
-use crate::generate::generate;
-use crate::race::race;
-use crate::staff::{Obeyed, Staff};
-use crate::status::Status;
-use crate::words::{Command, JobCommand, Task, race_in, task_of};
 use party_threads::Gate;
 use std::alloc::Global;
 use std::sync::Wait;
 use std::thread::Threads;
+use swap_commands::{
+    Command, JobCommand, Obeyed, Staff, Status, Task, generate, race, race_in, task_of,
+};
 use swap_io::{Sink, Source};
 
 /// Does what is asked for, where it is no race.

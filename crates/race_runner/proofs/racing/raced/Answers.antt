@@ -1,5 +1,5 @@
-use Rattle.swap_main.proofs.Acting.{have_roles}
-use Rattle.swap_main.proofs.Raced.{have_seeds}
+use Rattle.swap_commands.proofs.Acting.{have_roles}
+use Rattle.swap_commands.proofs.Raced.{have_seeds}
 use Rattle.race_runner.proofs.racing.raced.Goals as goal
 
 pub race-requires-clause-seeds : goal.race-requires-clause-seeds

@@ -1,5 +1,5 @@
 use Rattle.made_jobs.proofs.Writable.{are_texts}
-use Rattle.swap_main.proofs.Reports.{few_histories}
+use Rattle.swap_commands.proofs.Reports.{few_histories}
 use Rattle.race_runner.proofs.telling.transcript_in.Goals as goal
 
 pub write_transcript-requires-clause-writable : goal.write_transcript-requires-clause-writable

@@ -1,6 +1,6 @@
-use Rattle.swap_main.specs.declared.words.Command.TheVariants.{OfJob}
-use Rattle.swap_main.specs.declared.words.JobCommand.TheVariants.{Race}
-use Rattle.swap_main.proofs.Saying.{says_after}
+use Rattle.swap_commands.specs.declared.words.Command.TheVariants.{OfJob}
+use Rattle.swap_commands.specs.declared.words.JobCommand.TheVariants.{Race}
+use Rattle.swap_commands.proofs.Saying.{says_after}
 use Rattle.swap_main.proofs.top.perform_race.Goals as goal
 
 pub race-requires-clause-can : goal.race-requires-clause-can

@@ -1,5 +1,5 @@
 use Rattle.std.proofs.Common.{◌≡◌, ◌∙◌, ℕ, List, map, string_bytes, Some, None, refl, sym}
-use Rattle.swap_main.specs.Words.{task_of}
+use Rattle.swap_commands.specs.Words.{task_of}
 use Rattle.swap_main.proofs.Asking.{is_a_race, is_no_race, is_within, no_task, no_words}
 use Rattle.swap_main.proofs.Performing as tasks
 use Rattle.swap_main.proofs.top.swap_plain.Goals as goal

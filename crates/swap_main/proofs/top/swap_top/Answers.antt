@@ -1,6 +1,6 @@
 use Rattle.std.proofs.Common.{◌≡◌, ◌∙◌, ℕ, List, map, string_bytes, Some, None, refl, sym, ap}
-use Rattle.swap_main.specs.Words.{task_of}
-use Rattle.swap_main.specs.declared.words.Task.{Task}
+use Rattle.swap_commands.specs.Words.{task_of}
+use Rattle.swap_commands.specs.declared.words.Task.{Task}
 use Rattle.swap_main.proofs.Asking.{is_within, no_task, no_words}
 use Rattle.swap_main.proofs.Performing as tasks
 use Rattle.swap_main.proofs.top.swap_top.Goals as goal

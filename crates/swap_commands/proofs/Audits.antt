@@ -1,0 +1,60 @@
+-- What the command `audit` says, by how its audit ended.
+use Rattle.std.proofs.Common.{◌≡◌, inl, inr, ℕ, Bool, true, false, List, Option, Result, Ok, Err, sym, ap}
+use Rattle.swap_io.specs.Causes.{AppendsProperPrefix}
+use Rattle.swap_io.specs.Handed.{AppendsPrefix}
+use Rattle.refusals.specs.declared.refusal.Refusal.{Refusal}
+use Rattle.audit_command.specs.Output.{Written, audit_of}
+use Rattle.audit_command.specs.Says as audit
+use Rattle.audit_command.specs.declared.ending.AuditEnding.{AuditEnding}
+use Rattle.audit_command.specs.declared.ending.AuditEnding.TheVariants as ending
+use Rattle.swap_world.specs.Gone.{Gives}
+use Rattle.swap_commands.specs.Output.{by_reason, names_of, names_told, no_chance, output_by}
+use Rattle.swap_commands.specs.Says.{HasOutput, HasRead, IsWhole, Says, status_by}
+use Rattle.swap_commands.specs.declared.words.Command.TheVariants.{Audit}
+
+module _ (has : List ℕ → Bool) (gives : Gives) where
+  gives_by : (input : List ℕ) (output : Result Written Refusal) → audit_of input ≡ output → output_by has no_chance Audit input ≡ by_reason output
+  unfolding output_by
+  gives_by input output e = ap by_reason e
+
+  named_by : (input : List ℕ) (refusal : Refusal) → audit_of input ≡ Err refusal → refusal.names ≡ names_of has Audit input
+  unfolding names_of
+  named_by input refusal e = sym (ap names_told e)
+
+  abbrev read_by : (a b : Option (List ℕ)) (output : Result Written Refusal) → audit.HasAnswer a b output → HasRead has no_chance Audit a b (by_reason output)
+  read_by a b output r = record {
+    input = r.input;
+    taken = r.taken;
+    ended = r.ended;
+    within = r.within;
+    gives = gives_by r.input output r.gives;
+  }
+
+  written_by : (P Q : Written → Type 0) → ((w : Written) → P w → Q w) → (a b : Option (List ℕ)) → audit.HasOutput P a b → HasOutput has gives Q Audit a b
+  written_by P Q f a b o = record {
+    chance = no_chance;
+    output = o.output;
+    read = read_by a b (Ok o.output) o.read;
+    promised = o.promised;
+    written = f o.output o.written;
+  }
+
+  cut : (a b taken taken' : Option (List ℕ)) → audit.HasOutput (λ w. AppendsProperPrefix taken taken' w.text) a b
+      → HasOutput has gives (λ w. AppendsProperPrefix taken taken' w.text) Audit a b
+  cut a b taken taken' o = written_by (λ w. AppendsProperPrefix taken taken' w.text) (λ w. AppendsProperPrefix taken taken' w.text) (λ w x. x) a b o
+
+  short : (a b taken taken' : Option (List ℕ)) → audit.HasOutput (λ w. AppendsPrefix taken taken' w.text) a b
+      → HasOutput has gives (λ w. AppendsPrefix taken taken' w.text) Audit a b
+  short a b taken taken' o = written_by (λ w. AppendsPrefix taken taken' w.text) (λ w. AppendsPrefix taken taken' w.text) (λ w x. x) a b o
+
+  pub says_audit : (a b : Option (List ℕ)) (n m : ℕ) (taken taken' : Option (List ℕ)) (p q : ℕ) (e : AuditEnding)
+      → audit.Says a b n m taken taken' p q e → Says has gives Audit a b n m taken taken' p q (status_by e)
+  says_audit a b n m taken taken' p q ending.Done s = written_by (audit.IsWhole taken taken' false) (IsWhole taken taken' false) (λ w x. x) a b s
+  says_audit a b n m taken taken' p q ending.Named s = written_by (audit.IsWhole taken taken' true) (IsWhole taken taken' true) (λ w x. x) a b s
+  says_audit a b n m taken taken' p q (ending.Refused refusal) s =
+      (record { read = read_by a b (Err refusal) s.0; named = named_by s.0.input refusal s.0.gives }, s.1)
+  says_audit a b n m taken taken' p q ending.ReadFault s = s
+  says_audit a b n m taken taken' p q ending.WriteFault s = (s.0, cut a b taken taken' s.1)
+  says_audit a b n m taken taken' p q ending.NoMemory (inl k) = inl k
+  says_audit a b n m taken taken' p q ending.NoMemory (inr o) = inr (short a b taken taken' o)
+  says_audit a b n m taken taken' p q ending.TooLong s = s

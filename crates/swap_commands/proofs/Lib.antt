@@ -1,0 +1,10 @@
+pub mod Replays
+pub mod Reports
+pub mod Raced
+pub mod Promises
+pub mod Ahead
+pub mod Streams
+pub mod Reading
+pub mod Saying
+pub mod Acting
+pub mod Audits

@@ -1,0 +1,285 @@
+-- What is said against an input that is read line by line.
+use Rattle.std.proofs.Common.{◌≡◌, ◌≤◌, ℕ, Bool, true, false, List, [], ◌∷◌, ◌++◌, length, Option, Result, Ok, Err, refl, sym, ap, ◌∙◌, subst}
+use Rattle.std.proofs.Common.{arith, append_assoc}
+use Rattle.std.proofs.Common.{append-nil}
+use Rattle.swap_base.specs.Fault.{◌>>=◌, Fails}
+use Rattle.swap_base.specs.declared.fault.Fault.{Fault}
+use Rattle.swap_base.specs.declared.fault.Fault.TheVariants as offer
+use Rattle.swap_io.proofs.Feeds.{took_on}
+use Rattle.swap_io.proofs.Handing.{rose_before}
+use Rattle.ledger_core.specs.Book.{Histories}
+use Rattle.deviator_script.specs.declared.job.Job.{Job}
+use Rattle.deviator_script.specs.declared.job.Purpose.{Purpose}
+use Rattle.deviator_script.specs.declared.job.Purpose.TheVariants as purposes
+use Rattle.refusals.specs.declared.reason.Reason.{Reason}
+use Rattle.refusals.specs.declared.reason.Reason.TheVariants.{NotJson}
+use Rattle.refusals.specs.declared.refusal.Refusal.{Refusal}
+use Rattle.refusals.specs.Refusal.{named}
+use Rattle.refusals.proofs.Named.{named_err}
+use Rattle.swap_offer.specs.Lines.{lines_of, filled_lines}
+use Rattle.swap_offer.specs.Job.{job_header_of, job_of, names_at, names_in, of_lines as lines_read}
+use Rattle.swap_run.specs.Run.{State, start, step}
+use Rattle.swap_run.specs.Asked.{Answers}
+use Rattle.swap_world.specs.Cast.{cast_of}
+use Rattle.swap_world.specs.Gone.{Gives as MayGive}
+use Rattle.swap_commands.specs.declared.fault.InputFault.{InputFault}
+use Rattle.swap_commands.specs.declared.fault.InputFault.TheVariants.{Refused, ReadFault, TooLong, NoMemory}
+use Rattle.swap_commands.specs.declared.words.Command.TheVariants.{OfJob}
+use Rattle.swap_commands.specs.declared.words.JobCommand.{JobCommand}
+use Rattle.swap_commands.specs.declared.words.JobCommand.TheVariants.{Check, Run, Race, Make}
+use Rattle.swap_commands.specs.Faults.{named_fault, of_offer}
+use Rattle.swap_commands.specs.Input.{At, CanCome, Ends, EndsAt, Gives, IsLast, IsLine, Stops, Tells, ahead, fresh, limit}
+use Rattle.swap_gen.specs.Made.{made}
+use Rattle.made_jobs.specs.Making.{copied, written_line}
+use Rattle.swap_commands.specs.Output.{Chance, by_answers, by_book, cast_by, finished, names_of, no_chance, output_by, purpose_of, reported, told, plain_text}
+use Rattle.swap_commands.specs.Promised.{IsCheck, IsRace, IsRun, IsMaking}
+use Rattle.swap_commands.specs.Replay.{IsChecked, IsEntered, IsPlayed, IsRead, of_check, of_header, of_lines}
+use Rattle.swap_commands.specs.Replay.{of_race, of_run, passed_over, replayed, IsCopied, of_make}
+use Rattle.swap_commands.specs.Says.{IsAgainst}
+use Rattle.audit_command.specs.Output.{Written}
+use Rattle.swap_commands.proofs.Replays.{of_input, replay_fails}
+use Rattle.swap_commands.proofs.Ahead.{too_long_on}
+use Rattle.swap_commands.proofs.Streams.{last_of, line_of}
+
+module _ (has : List ℕ → Bool) where
+  -- The lines of an input, and what is written for them.
+
+  by_lines : (a : Chance) (command : JobCommand) (bytes : List ℕ) (ls : List (ℕ × List ℕ)) → filled_lines 1 (lines_of bytes) ≡ ls
+      → output_by has a (OfJob command) bytes ≡ of_lines has a command ls
+  by_lines a command bytes ls e = sym (of_input has a command bytes) ∙ ap (of_lines has a command) e
+
+  names_by : (command : JobCommand) (bytes : List ℕ) (ls : List (ℕ × List ℕ)) → filled_lines 1 (lines_of bytes) ≡ ls
+      → names_of has (OfJob command) bytes ≡ names_in has (purpose_of command) ls
+  unfolding names_of
+  names_by command bytes ls e = ap (names_in has (purpose_of command)) e
+
+  run_fails : (transcript : Bool) (n : ℕ) (t : List ℕ) (ls : List (ℕ × List ℕ)) (reason : Reason) → job_header_of has purposes.Run n t ≡ Err reason
+      → of_run has no_chance.answers transcript n t ls ≡ Err reason
+  unfolding of_run
+  run_fails transcript n t ls reason h = rw h refl
+
+  race_fails : (transcript : Bool) (n : ℕ) (t : List ℕ) (ls : List (ℕ × List ℕ)) (reason : Reason) → job_header_of has purposes.Race n t ≡ Err reason
+      → of_race has no_chance.book transcript n t ls ≡ Err reason
+  unfolding of_race
+  race_fails transcript n t ls reason h = rw h refl
+
+  check_fails : (n : ℕ) (t : List ℕ) (ls : List (ℕ × List ℕ)) (reason : Reason) → job_header_of has purposes.Check n t ≡ Err reason
+      → of_check has n t ls ≡ Err reason
+  unfolding of_check
+  check_fails n t ls reason h = rw h refl
+
+  make_fails : (n : ℕ) (t : List ℕ) (ls : List (ℕ × List ℕ)) (reason : Reason) → job_header_of has purposes.Make n t ≡ Err reason
+      → of_make has n t ls ≡ Err reason
+  unfolding of_make
+  make_fails n t ls reason h = rw h refl
+
+  header_fails : (command : JobCommand) (n : ℕ) (t : List ℕ) (ls : List (ℕ × List ℕ)) (reason : Reason)
+      → job_header_of has (purpose_of command) n t ≡ Err reason
+      → of_header has no_chance command n t ls ≡ Err reason
+  header_fails (Run transcript) n t ls reason h = run_fails transcript n t ls reason h
+  header_fails (Race ticks transcript) n t ls reason h = race_fails transcript n t ls reason h
+  header_fails Check n t ls reason h = check_fails n t ls reason h
+  header_fails Make n t ls reason h = make_fails n t ls reason h
+
+  run_by : (a : Answers) (transcript : Bool) (n : ℕ) (t : List ℕ) (ls : List (ℕ × List ℕ)) (job : Job) (r : Result State Reason)
+      → job_header_of has purposes.Run n t ≡ Ok job
+      → replayed (step (cast_by a job)) job 0 (start (cast_of job)) ls ≡ r
+      → of_run has a transcript n t ls ≡ r >>= λ s. Ok (reported transcript job (finished job.finish (cast_by a job) s).book)
+  unfolding of_run
+  run_by a transcript n t ls job r h e = rw (h, e) refl
+
+  race_by : (b : Histories) (transcript : Bool) (n : ℕ) (t : List ℕ) (ls : List (ℕ × List ℕ)) (job : Job) (r : Result (Unit {0}) Reason)
+      → job_header_of has purposes.Race n t ≡ Ok job → replayed passed_over job 0 tt ls ≡ r
+      → of_race has b transcript n t ls ≡ r >>= λ u. Ok (reported transcript job b)
+  unfolding of_race
+  race_by b transcript n t ls job r h e = rw (h, e) refl
+
+  check_by : (n : ℕ) (t : List ℕ) (ls : List (ℕ × List ℕ)) (job : Job) (r : Result (Unit {0}) Reason) → job_header_of has purposes.Check n t ≡ Ok job
+      → replayed passed_over job 0 tt ls ≡ r → of_check has n t ls ≡ r >>= λ u. Ok (told job)
+  unfolding of_check
+  check_by n t ls job r h e = rw (h, e) refl
+
+  make_by : (n : ℕ) (t : List ℕ) (ls : List (ℕ × List ℕ)) (job : Job) (r : Result (List ℕ) Reason) → job_header_of has purposes.Make n t ≡ Ok job
+      → copied 0 (written_line (made job)) ls ≡ r → of_make has n t ls ≡ r >>= λ u. Ok (plain_text u)
+  unfolding of_make
+  make_by n t ls job r h e = rw (h, e) refl
+
+  pub gives_run : (a : Answers) (transcript : Bool) (bytes : List ℕ) (job : Job) (s : State) → IsPlayed has a bytes job s
+      → output_by has (by_answers a) (OfJob (Run transcript)) bytes ≡ Ok (reported transcript job (finished job.finish (cast_by a job) s).book)
+  gives_run a transcript bytes job s p =
+      by_lines (by_answers a) (Run transcript) bytes ((p.line, p.text) ∷ p.others) p.lines
+      ∙ run_by a transcript p.line p.text p.others job (Ok s) p.header p.leads
+
+  pub gives_race : (b : Histories) (ticks : ℕ) (transcript : Bool) (bytes : List ℕ) (job : Job) → IsEntered has bytes job
+      → output_by has (by_book b) (OfJob (Race ticks transcript)) bytes ≡ Ok (reported transcript job b)
+  gives_race b ticks transcript bytes job p =
+      by_lines (by_book b) (Race ticks transcript) bytes ((p.line, p.text) ∷ p.others) p.lines
+      ∙ race_by b transcript p.line p.text p.others job (Ok tt) p.header p.leads
+
+  pub gives_check : (bytes : List ℕ) (job : Job) → IsChecked has bytes job → output_by has no_chance (OfJob Check) bytes ≡ Ok (told job)
+  gives_check bytes job p = by_lines no_chance Check bytes ((p.line, p.text) ∷ p.others) p.lines ∙ check_by p.line p.text p.others job (Ok tt) p.header p.leads
+
+  pub gives_make : (bytes : List ℕ) (job : Job) (text : List ℕ) → IsCopied has bytes job text
+      → output_by has no_chance (OfJob Make) bytes ≡ Ok (plain_text text)
+  gives_make bytes job text p =
+      by_lines no_chance Make bytes ((p.line, p.text) ∷ p.others) p.lines ∙ make_by p.line p.text p.others job (Ok text) p.header p.leads
+
+  -- what is promised of lines is promised of their bytes
+  pub run_of_bytes : (gives : MayGive) (a : Answers) (transcript : Bool) (bytes : List ℕ) (ls : List (ℕ × List ℕ)) (output : Written)
+      → filled_lines 1 (lines_of bytes) ≡ ls
+      → IsRun gives a transcript (lines_read has purposes.Run ls) output → IsRun gives a transcript (job_of has purposes.Run bytes) output
+  unfolding job_of
+  run_of_bytes gives a transcript bytes ls output e p =
+      subst (λ (xs : List (ℕ × List ℕ)). IsRun gives a transcript (lines_read has purposes.Run xs) output) (sym e) p
+
+  pub race_of_bytes : (gives : MayGive) (b : Histories) (ticks : ℕ) (transcript : Bool) (bytes : List ℕ) (ls : List (ℕ × List ℕ)) (output : Written)
+      → filled_lines 1 (lines_of bytes) ≡ ls → IsRace gives b ticks transcript (lines_read has purposes.Race ls) output
+      → IsRace gives b ticks transcript (job_of has purposes.Race bytes) output
+  unfolding job_of
+  race_of_bytes gives b ticks transcript bytes ls output e p =
+      subst (λ (xs : List (ℕ × List ℕ)). IsRace gives b ticks transcript (lines_read has purposes.Race xs) output) (sym e) p
+
+  pub check_of_bytes : (bytes : List ℕ) (ls : List (ℕ × List ℕ)) (output : Written) → filled_lines 1 (lines_of bytes) ≡ ls
+      → IsCheck (lines_read has purposes.Check ls) output → IsCheck (job_of has purposes.Check bytes) output
+  unfolding job_of
+  check_of_bytes bytes ls output e p = subst (λ (xs : List (ℕ × List ℕ)). IsCheck (lines_read has purposes.Check xs) output) (sym e) p
+
+  pub making_of_bytes : (bytes : List ℕ) (ls : List (ℕ × List ℕ)) (output : Written) → filled_lines 1 (lines_of bytes) ≡ ls
+      → IsMaking (lines_read has purposes.Make ls) output → IsMaking (job_of has purposes.Make bytes) output
+  unfolding job_of
+  making_of_bytes bytes ls output e p = subst (λ (xs : List (ℕ × List ℕ)). IsMaking (lines_read has purposes.Make xs) output) (sym e) p
+
+  -- the whole input was read, and it is no longer than it may be
+  pub is_within : (P : List ℕ → Type 0) (left left' : Option (List ℕ)) (now : At) (e : Ends P left left' fresh now) → length e.bytes ≤ limit
+  is_within P left left' now e = omega (arith, e.took.counted, e.within)
+
+  -- What is said against an input.
+
+  -- the end wasn't met before the first line
+  not_over_yet : (rest : List ℕ) → CanCome fresh rest
+  not_over_yet rest over = absurd (cc over)
+
+  -- it has no line
+  pub against_empty : (command : JobCommand) (left left' : Option (List ℕ)) (now : At) (p : IsLast left left' fresh now) → now.reading.taken ≤ limit
+      → EndsAt left' now
+      → Tells (λ bytes. IsAgainst has (OfJob command) bytes (record { reason = NotJson 1; names = [] })) left left' fresh now
+  against_empty command left left' now p within ended = record {
+    bytes = p.bytes;
+    took = p.took;
+    can = λ rest. not_over_yet (p.bytes ++ rest);
+    told = λ rest can.
+        let e : filled_lines 1 (lines_of (p.bytes ++ rest)) ≡ [] = ap (λ (xs : List ℕ). filled_lines 1 (lines_of (p.bytes ++ xs))) (can p.met)
+        ∙ ap (λ (xs : List ℕ). filled_lines 1 (lines_of xs)) (append-nil p.bytes) ∙ p.none in
+        (by_lines no_chance command (p.bytes ++ rest) [] e, sym (names_by command (p.bytes ++ rest) [] e));
+    within = within;
+    ended = ended;
+  }
+
+  -- its header is refused
+  pub against_header : (command : JobCommand) (left left' : Option (List ℕ)) (now : At) (fault : Fault Refusal) (n m : ℕ) (p : IsLine left left' fresh now)
+      → now.reading.taken ≤ limit → EndsAt left' now
+      → Fails fault (named (names_at has (purpose_of command) now.number now.text) (job_header_of has (purpose_of command) now.number now.text))
+      → Stops (IsAgainst has (OfJob command)) left left' n m fresh now (of_offer fault)
+  against_header command left left' now offer.NoMemory n m p within ended fails = tt
+  against_header command left left' now (offer.Refused r) n m p within ended fails =
+      let h = named_err (names_at has (purpose_of command) now.number now.text) (job_header_of has (purpose_of command) now.number now.text) r fails in
+      record {
+        bytes = p.bytes;
+        took = p.took;
+        can = λ rest. not_over_yet (p.bytes ++ rest);
+        told = λ rest can.
+            let e = p.first rest can in (
+              by_lines no_chance command (p.bytes ++ rest) ((now.number, now.text) ∷ ahead now rest) e
+                  ∙ header_fails command now.number now.text (ahead now rest) r.reason h.0,
+              h.1 ∙ sym (names_by command (p.bytes ++ rest) ((now.number, now.text) ∷ ahead now rest) e),
+            );
+        within = within;
+        ended = ended;
+      }
+
+  -- The same by what calls answered.
+
+  pub empty_stops : (command : JobCommand) (more : Bool) (left left' : Option (List ℕ)) (n m : ℕ) (old now : At) (fault : InputFault Refusal) → old ≡ fresh
+      → more ≡ false → Gives more left left' old now → now.reading.taken ≤ limit → EndsAt left' now
+      → fault ≡ Refused (record { reason = NotJson 1; names = [] }) → Stops (IsAgainst has (OfJob command)) left left' n m fresh now fault
+  empty_stops command more left left' n m old now fault first none gives within ended is =
+      let p : IsLast left left' fresh now = last_of more left left' fresh now none (subst (λ (s : At). Gives more left left' s now) first gives) in
+      let t = against_empty command left left' now p within ended in
+      subst (λ (f : InputFault Refusal). Stops (IsAgainst has (OfJob command)) left left' n m fresh now f) (sym is) t
+
+  pub header_stops : (command : JobCommand) (more : Bool) (left left' : Option (List ℕ)) (n m : ℕ) (old now : At) (fault : Fault Refusal) (purpose : Purpose)
+      (line : ℕ) (text : List ℕ) → old ≡ fresh → more ≡ true → Gives more left left' old now → now.reading.taken ≤ limit → EndsAt left' now
+      → purpose ≡ purpose_of command → line ≡ now.number → text ≡ now.text
+      → Fails fault (named (names_at has purpose line text) (job_header_of has purpose line text))
+      → Stops (IsAgainst has (OfJob command)) left left' n m fresh now (of_offer fault)
+  header_stops command more left left' n m old now fault purpose line text first some gives within ended asked number same fails =
+      let p : IsLine left left' fresh now = line_of more left left' fresh now some (subst (λ (s : At). Gives more left left' s now) first gives) in
+      let f : Fails fault (named (names_at has (purpose_of command) line text) (job_header_of has (purpose_of command) line text)) =
+      subst (λ (q : Purpose). Fails fault (named (names_at has q line text) (job_header_of has q line text))) asked fails in
+      let g : Fails fault (named (names_at has (purpose_of command) now.number text) (job_header_of has (purpose_of command) now.number text)) =
+      subst (λ (k : ℕ). Fails fault (named (names_at has (purpose_of command) k text) (job_header_of has (purpose_of command) k text))) number f in
+      against_header command left left' now fault n m p within ended
+      (subst (λ (t : List ℕ). Fails fault (named (names_at has (purpose_of command) now.number t)
+      (job_header_of has (purpose_of command) now.number t))) same g)
+
+  -- A further line of it is refused, after its header was read.
+  module _ {A : Type 0} (walk : List (ℕ × List ℕ) → Result A Reason) (command : JobCommand) (left left' left'' : Option (List ℕ)) (mid now : At) where
+    abbrev pub IsLineAgainst : List ℕ → Reason → Type 0
+    IsLineAgainst bytes reason = walk (ahead mid bytes) ≡ Err reason
+
+    pub against_event : ((ls : List (ℕ × List ℕ)) (reason : Reason) → walk ls ≡ Err reason
+        → of_header has no_chance command mid.number mid.text ls ≡ Err reason) → (names : List (List ℕ))
+        → names ≡ names_at has (purpose_of command) mid.number mid.text
+        → (fault : InputFault Reason) (n m k : ℕ) (p : IsLine left left' fresh mid) → n ≤ m → Stops IsLineAgainst left' left'' m k mid now fault
+        → Stops (IsAgainst has (OfJob command)) left left'' n k fresh now (named_fault names fault)
+    against_event says names called (Refused reason) n m k p le s = record {
+      bytes = p.bytes ++ s.bytes;
+      took = took_on left left' left'' fresh.reading mid.reading now.reading p.bytes s.bytes p.took s.took;
+      can = λ rest. not_over_yet ((p.bytes ++ s.bytes) ++ rest);
+      told = λ rest can.
+          let bytes : List ℕ = (p.bytes ++ s.bytes) ++ rest in
+          let e : filled_lines 1 (lines_of bytes) ≡ (mid.number, mid.text) ∷ ahead mid (s.bytes ++ rest) =
+          ap (λ (xs : List ℕ). filled_lines 1 (lines_of xs)) (append_assoc p.bytes s.bytes rest) ∙ p.first (s.bytes ++ rest) (s.can rest) in (
+            by_lines no_chance command bytes ((mid.number, mid.text) ∷ ahead mid (s.bytes ++ rest)) e
+                ∙ says (ahead mid (s.bytes ++ rest)) reason (s.told rest can),
+            called ∙ sym (names_by command bytes ((mid.number, mid.text) ∷ ahead mid (s.bytes ++ rest)) e),
+          );
+      within = s.within;
+      ended = s.ended;
+    }
+    against_event says names called ReadFault n m k p le s = rose_before n m k le s
+    against_event says names called TooLong n m k p le s = too_long_on left left' left'' fresh mid now (p.bytes, p.took) s
+    against_event says names called NoMemory n m k p le s = tt
+
+  -- what the events of a run, a race and a check say against it
+  pub run_says : (transcript : Bool) (n : ℕ) (t : List ℕ) (job : Job) → job_header_of has purposes.Run n t ≡ Ok job → (ls : List (ℕ × List ℕ)) (reason : Reason)
+      → replayed passed_over job 0 tt ls ≡ Err reason → of_header has no_chance (Run transcript) n t ls ≡ Err reason
+  run_says transcript n t job h ls reason e =
+      run_by no_chance.answers transcript n t ls job (Err reason) h (replay_fails (step (cast_by no_chance.answers job)) (start (cast_of job)) job ls reason e)
+
+  pub race_says : (ticks : ℕ) (transcript : Bool) (n : ℕ) (t : List ℕ) (job : Job) → job_header_of has purposes.Race n t ≡ Ok job
+      → (ls : List (ℕ × List ℕ)) (reason : Reason) → replayed passed_over job 0 tt ls ≡ Err reason
+      → of_header has no_chance (Race ticks transcript) n t ls ≡ Err reason
+  race_says ticks transcript n t job h ls reason e = race_by no_chance.book transcript n t ls job (Err reason) h e
+
+  pub check_says : (n : ℕ) (t : List ℕ) (job : Job) → job_header_of has purposes.Check n t ≡ Ok job → (ls : List (ℕ × List ℕ)) (reason : Reason)
+      → replayed passed_over job 0 tt ls ≡ Err reason → of_header has no_chance Check n t ls ≡ Err reason
+  check_says n t job h ls reason e = check_by n t ls job (Err reason) h e
+
+  pub make_says : (n : ℕ) (t : List ℕ) (job : Job) → job_header_of has purposes.Make n t ≡ Ok job → (ls : List (ℕ × List ℕ)) (reason : Reason)
+      → copied 0 (written_line (made job)) ls ≡ Err reason → of_header has no_chance Make n t ls ≡ Err reason
+  make_says n t job h ls reason e = make_by n t ls job (Err reason) h e
+
+  -- the header and then the further lines were read
+  pub is_read : {A : Type 0} (purpose : Purpose) (walk : Job → List (ℕ × List ℕ) → Result A Reason) (left left' left'' : Option (List ℕ)) (mid now : At)
+      (job : Job) (y : A) (p : IsLine left left' fresh mid)
+      → job_header_of has purpose mid.number mid.text ≡ Ok job → (e : Ends (λ bytes. walk job (ahead mid bytes) ≡ Ok y) left' left'' mid now)
+      → Ends (λ bytes. IsRead has purpose walk bytes job y) left left'' fresh now
+  is_read purpose walk left left' left'' mid now job y p h e = record {
+    bytes = p.bytes ++ e.bytes;
+    took = took_on left left' left'' fresh.reading mid.reading now.reading p.bytes e.bytes p.took e.took;
+    can = not_over_yet (p.bytes ++ e.bytes);
+    told = record { line = mid.number; text = mid.text; others = ahead mid e.bytes; lines = p.first e.bytes e.can; header = h; leads = e.told };
+    within = e.within;
+    ended = e.ended;
+  }

@@ -1,0 +1,229 @@
+-- A replay steps a world line by line.
+use Rattle.std.proofs.Common.{◌≡◌, ◌<◌, ℕ, ◌+◌, List, [], ◌∷◌, length, get_or, map, Result, Ok, Err, Option, None, Bool, false, refl, sym, ap, ap₂}
+use Rattle.std.proofs.Common.{◌∙◌, subst, fold}
+use Rattle.std.specs.List.{All}
+use Rattle.std.proofs.lemmas.List.{get_or-map, length-map}
+use Rattle.ledger_core.specs.declared.entry.Call.{Call}
+use Rattle.std.specs.Prelude.{IfOk}
+use Rattle.ledger_core.specs.Book.{Histories}
+use Rattle.ledger_core.specs.declared.entry.Book.{Book}
+use Rattle.swap_run.specs.Laws.{IsKept}
+use Rattle.swap_base.specs.Fault.{◌>>=◌}
+use Rattle.deviator_script.specs.declared.job.Job.{Job}
+use Rattle.deviator_script.specs.declared.event.Event.{Event}
+use Rattle.deviator_script.specs.declared.job.Role.{Role}
+use Rattle.refusals.specs.declared.reason.Reason.{Reason}
+use Rattle.swap_offer.specs.Lines.{lines_of, filled_lines}
+use Rattle.swap_offer.specs.Job.{events_of, next_of, job_of, job_header_of, of_lines as lines_read}
+use Rattle.swap_digraph.specs.declared.deal.Deal.{Deal}
+use Rattle.swap_run.specs.Asked.{Answers, with_answers}
+use Rattle.swap_run.specs.Run.{Cast, Question, State, step, start}
+use Rattle.swap_world.specs.Cast.{cast_of, cast_with}
+use Rattle.swap_offer.specs.Wallets.{HaveWallets}
+use Rattle.swap_world.specs.Staff.{world_of, AreHeld, IsHeld as Held}
+use Rattle.offer_header.specs.Limits.{HoldsEach, IsHeld}
+use Rattle.deviator_script.specs.declared.job.Role.TheVariants as kinds
+use Rattle.deviator_script.specs.declared.job.Finish.TheVariants.{Stop}
+use Rattle.swap_world.proofs.Gone.{continues_less, more_asked, stays}
+use Rattle.swap_world.proofs.Team.{world_is_new}
+use Rattle.swap_world.specs.Gone.{Answered, Gives, HasAsked, HasGone, MayCome}
+use Rattle.swap_world.specs.Value.{WorldState, answers_of, cast_at, cast_for, Continues, new_world}
+use Rattle.swap_commands.specs.declared.words.Command.TheVariants.{OfJob}
+use Rattle.swap_commands.specs.declared.words.JobCommand.{JobCommand}
+use Rattle.swap_commands.specs.declared.words.JobCommand.TheVariants.{Check, Run, Race, Make}
+use Rattle.deviator_script.specs.declared.job.Purpose.TheVariants as purposes
+use Rattle.swap_gen.specs.Made.{made}
+use Rattle.made_jobs.specs.Making.{copied, made_text, written_line}
+use Rattle.made_jobs.proofs.Copying.{made_is}
+use Rattle.swap_commands.specs.Output.{AreGiven, Chance, cast_by, purpose_of, finished, book_of, reported, told, output_by, output_for, plain_text}
+use Rattle.swap_commands.specs.Replay.{replayed, next_by, passed_over, IsConcluded, IsOf, of_run, of_race, of_check, of_lines, of_make}
+
+regroup : {A : Type 0} (f : A → Event → A) (x : A) (next : Result Event Reason) (rest : Result (List Event) Reason) →
+    (next >>= λ e. rest >>= λ es. Ok (e ∷ es)) >>= (λ events. Ok (fold f x events)) ≡ (next >>= λ e. Ok (f x e)) >>= λ y. rest >>= λ es. Ok (fold f y es)
+regroup f x (Ok e) (Ok es) = refl
+regroup f x (Ok e) (Err r) = refl
+regroup f x (Err r) rest = refl
+
+pub step_of : {A : Type 0} (f : A → Event → A) (job : Job) (n : ℕ) (x : A) (line : ℕ) (text : List ℕ) (rest : List (ℕ × List ℕ))
+    → replayed f job n x ((line, text) ∷ rest) ≡ next_by f job n x line text >>= λ y. replayed f job (n + 1) y rest
+unfolding replayed next_by events_of
+step_of f job n x line text rest = regroup f x (next_of job n line text) (events_of job (n + 1) rest)
+
+pub none_left : {A : Type 0} (f : A → Event → A) (job : Job) (n : ℕ) (x : A) → replayed f job n x [] ≡ Ok x
+unfolding replayed events_of
+none_left f job n x = refl
+
+-- The lines of an input.
+
+-- a job's header, and what is made along its events, give what is written for the lines
+together : {A W : Type 0} (header : Result Job Reason) (events : Job → Result (List Event) Reason) (f : Job → A → Event → A) (x : Job → A) (g : Job → A → W)
+    (w : Job × List Event → W) → ((job : Job) (es : List Event) → g job (fold (f job) (x job) es) ≡ w (job, es))
+    → (header >>= λ job. (events job >>= λ es. Ok (fold (f job) (x job) es)) >>= λ y. Ok (g job y)) ≡
+    (header >>= λ job. events job >>= λ es. Ok (job, es)) >>= λ j. Ok (w j)
+together {A = A} {W = W} (Err r) events f x g w same = refl
+together {A = A} {W = W} (Ok job) events f x g w same = go (events job)
+  where
+    go : (r : Result (List Event) Reason) → ((r >>= λ es. Ok (fold (f job) (x job) es)) >>= λ y. Ok (g job y)) ≡ (r >>= λ es. Ok (job, es)) >>= λ j. Ok (w j)
+    go (Ok es) = ap (λ (v : W). Ok v) (same job es)
+    go (Err r) = refl
+
+regroup_make : (header : Result Job Reason) (text : Job → Result (List ℕ) Reason) → (header >>= λ job. text job >>= λ t. Ok (plain_text t))
+    ≡ (header >>= text) >>= λ t. Ok (plain_text t)
+regroup_make (Ok job) text = refl
+regroup_make (Err r) text = refl
+
+written_make : (read : Result (Job × List Event) Reason) (ls : List (ℕ × List ℕ)) → ((read >>= λ j. Ok (made_text j.0 ls)) >>= λ t. Ok (plain_text t))
+    ≡ read >>= λ j. Ok (plain_text (made_text j.0 ls))
+written_make (Ok j) ls = refl
+written_make (Err r) ls = refl
+
+of_some_make : (has : List ℕ → Bool) (a : Chance) (l : ℕ × List ℕ) (ls : List (ℕ × List ℕ))
+    → of_make has l.0 l.1 ls ≡ output_for a Make (l ∷ ls) (lines_read has purposes.Make (l ∷ ls))
+unfolding of_make
+of_some_make has a l ls =
+    regroup_make (job_header_of has purposes.Make l.0 l.1) (λ job. copied 0 (written_line (made job)) ls)
+    ∙ ap (λ (r : Result (List ℕ) Reason). r >>= λ t. Ok (plain_text t)) (made_is has l ls)
+    ∙ written_make (lines_read has purposes.Make (l ∷ ls)) ls
+
+of_some : (has : List ℕ → Bool) (a : Chance) (command : JobCommand) (ls : List (ℕ × List ℕ))
+    → of_lines has a command ls ≡ output_for a command ls (lines_read has (purpose_of command) ls)
+unfolding of_run of_race of_check replayed
+of_some has a command [] = by command
+  where
+    by : (command : JobCommand) → of_lines has a command [] ≡ output_for a command [] (lines_read has (purpose_of command) [])
+    by (Run transcript) = refl
+    by (Race ticks transcript) = refl
+    by Check = refl
+    by Make = refl
+of_some has a (Run transcript) (l ∷ ls) =
+    together (job_header_of has purposes.Run l.0 l.1) (λ job. events_of job 0 ls) (λ job. step (cast_by a.answers job)) (λ job. start (cast_of job))
+    (λ job s. reported transcript job (finished job.finish (cast_by a.answers job) s).book) (λ j. reported transcript j.0 (book_of a.answers j.0 j.1))
+    (λ job es. refl)
+of_some has a (Race ticks transcript) (l ∷ ls) =
+    together (job_header_of has purposes.Race l.0 l.1) (λ job. events_of job 0 ls) (λ job. passed_over) (λ job. tt)
+    (λ job u. reported transcript job a.book) (λ j. reported transcript j.0 a.book) (λ job es. refl)
+of_some has a Check (l ∷ ls) = together (job_header_of has (purpose_of Check) l.0 l.1) (λ job. events_of job 0 ls) (λ job. passed_over) (λ job. tt)
+    (λ job u. told job) (λ j. told j.0) (λ job es. refl)
+of_some has a Make (l ∷ ls) = of_some_make has a l ls
+
+pub of_input : (has : List ℕ → Bool) (a : Chance) (command : JobCommand) (input : List ℕ)
+    → of_lines has a command (filled_lines 1 (lines_of input)) ≡ output_by has a (OfJob command) input
+unfolding output_by job_of
+of_input has a (Run transcript) input = of_some has a (Run transcript) (filled_lines 1 (lines_of input))
+of_input has a (Race ticks transcript) input = of_some has a (Race ticks transcript) (filled_lines 1 (lines_of input))
+of_input has a Check input = of_some has a Check (filled_lines 1 (lines_of input))
+of_input has a Make input = of_some has a Make (filled_lines 1 (lines_of input))
+
+-- Worlds.
+
+pub same_cast : (job : Job) (w : WorldState) → IsOf job w → cast_at w ≡ cast_of job
+same_cast job w k = ap₂ (λ (d : Deal) (rs : List Role). cast_with d w.conforming w.seeds rs) k.deal k.roles
+    ∙ ap₂ (λ (c : List Bool) (s : List (Option (List ℕ))). cast_with job.deal c s job.roles) k.conforming k.seeds
+
+-- a kit that holds each strategy that the job names
+pub held : (has : List ℕ → Bool) (roles : List Role) → HoldsEach has roles → AreHeld has roles
+held has roles all = λ p lt. held_as (get_or roles p kinds.Manual) (all p kinds.Manual lt)
+  where
+    held_as : (role : Role) → IsHeld has role → Held has role
+    held_as kinds.Conforming h = tt
+    held_as kinds.Manual h = tt
+    held_as (kinds.Script moves) h = tt
+    held_as (kinds.Strategy name) h = h
+
+-- a reason against an event is one whatever is made of the events
+pub replay_fails : {A : Type 0} (f : A → Event → A) (x : A) (job : Job) (ls : List (ℕ × List ℕ)) (reason : Reason)
+    → replayed passed_over job 0 tt ls ≡ Err reason → replayed f job 0 x ls ≡ Err reason
+unfolding replayed
+replay_fails {A = A} f x job ls reason e = by (events_of job 0 ls) e
+  where
+    by : (r : Result (List Event) Reason) → (r >>= λ es. let y : Result (Unit {0}) Reason = Ok (fold passed_over tt es) in y) ≡ Err reason
+        → (r >>= λ es. let y : Result A Reason = Ok (fold f x es) in y) ≡ Err reason
+    by (Ok es) e = absurd (cc e)
+    by (Err r) e =
+        let same : ◌≡◌ {A = Result (Unit {0}) Reason} (Err r) (Err reason) = e in
+        let is : r ≡ reason = cc same in
+        ap (λ (z : Reason). let y : Result A Reason = Err z in y) is
+
+-- What strategies are asked and answer.
+
+-- what was asked and answered was given
+pub are_given : (gives : Gives) (d : Deal) (more : List Answered) (asked : List Question) (given : List (Option (ℕ × Call)))
+    → asked ≡ map (λ x. x.question) more → given ≡ map (λ x. x.answer) more → All (MayCome gives d) more → AreGiven gives d (λ k. get_or given k None) asked
+are_given gives d more asked given eq ea may = λ i q lt is.
+    let x : Answered = record { question = q; answer = None } in
+    let low : i < length more = subst (λ n. i < n) (length-map more (λ (y : Answered). y.question)) (subst (λ (qs : List Question). i < length qs) eq lt) in
+    let same : q ≡ (get_or more i x).question =
+    is ∙ (ap (λ (qs : List Question). get_or qs i q) eq ∙ get_or-map (λ (y : Answered). y.question) more i x q low) in
+    let answer : get_or given i None ≡ (get_or more i x).answer =
+    ap (λ (os : List (Option (ℕ × Call))). get_or os i None) ea ∙ get_or-map (λ (y : Answered). y.answer) more i x None low in
+    subst (λ (o : Option (ℕ × Call)). gives q.strategy d q.party q.turn q.known o) (sym answer)
+    (subst (λ (p : Question). gives p.strategy d p.party p.turn p.known (get_or more i x).answer) (sym same) (may i x low))
+
+-- Worlds of a job.
+
+pub is_of_new : (job : Job) (w : WorldState) → w ≡ new_world job → IsOf job w
+is_of_new job w e = record {
+  deal = ap (λ (x : WorldState). x.deal) e;
+  conforming = ap (λ (x : WorldState). x.conforming) e;
+  seeds = ap (λ (x : WorldState). x.seeds) e;
+  roles = ap (λ (x : WorldState). x.roles) e;
+}
+
+pub stays_finished : (gives : Gives) (w : WorldState) → HasGone gives (finished Stop) w w
+stays_finished gives w = stays gives (finished Stop) w (λ a. refl)
+
+-- A world that has gone on.
+
+module _ (gives : Gives) (job : Job) (w new : WorldState) (k : IsOf job w) where
+  pub is_of_still : (f : Cast → State → State) → HasGone gives f w new → IsOf job new
+  is_of_still f e = record {
+    deal = ap (λ (x : WorldState). x.deal) e.same ∙ k.deal;
+    conforming = ap (λ (x : WorldState). x.conforming) e.same ∙ k.conforming;
+    seeds = ap (λ (x : WorldState). x.seeds) e.same ∙ k.seeds;
+    roles = ap (λ (x : WorldState). x.roles) e.same ∙ k.roles;
+  }
+
+  pub goes_on_still : (f : Cast → State → State) → HasGone gives f w new → w.stopped ≡ false → new.stopped ≡ false
+  goes_on_still f e on = ap (λ (x : WorldState). x.stopped) e.same ∙ on
+
+  for_job : (a : Answers) → cast_for w a ≡ cast_by a job
+  for_job a = ap (λ (c : Cast). with_answers c a) (same_cast job w k)
+
+  -- after the event of a line
+  pub stepped : (e : Event) (count line : ℕ) (text : List ℕ) → next_of job count line text ≡ Ok e → HasGone gives (λ c s. step c s e) w new
+      → (a : Answers) → Continues new a → next_by (step (cast_by a job)) job count w.state line text ≡ Ok new.state
+  unfolding next_by
+  stepped e count line text n h a x =
+      ap (λ (r : Result Event Reason). r >>= λ f. Ok (step (cast_by a job) w.state f)) n
+      ∙ ap (λ (s : State). Ok s) (ap (λ (c : Cast). step c w.state e) (sym (for_job a)) ∙ sym (h.state a x))
+
+  -- after the job's finish
+  pub concluded : (b : Histories) → b ≡ new.state.book → HasAsked gives (new_world job) w → HasGone gives (finished job.finish) w new
+      → IsConcluded gives job w b
+  concluded b is asked h =
+      let a = answers_of new in
+      let state : new.state ≡ finished job.finish (cast_by a job) w.state =
+      h.state a (λ i l. refl) ∙ ap (λ (c : Cast). finished job.finish c w.state) (for_job a) in
+      let all = more_asked gives (new_world job) w new asked k.deal h.asked in
+      record {
+        answers = a;
+        continues = continues_less gives w new a h.asked (λ i l. refl);
+        given = subst (λ (s : State). AreGiven gives job.deal a s.asked) state
+            (are_given gives job.deal all.more new.state.asked new.answers all.questions all.answers all.may);
+        book = is ∙ ap (λ (s : State). s.book) state;
+      }
+
+  -- the book of the world
+  pub concluded_book : {E : Type 0} (r : Result Book E) → IfOk r (λ b. b.histories ≡ new.state.book) → HasAsked gives (new_world job) w
+      → HasGone gives (finished job.finish) w new → IfOk r (λ b. IsConcluded gives job w b.histories)
+  concluded_book (Ok b) is asked h = concluded b.histories is asked h
+  concluded_book (Err e) is asked h = tt
+
+pub kept_book : {E : Type 0} (job : Job) (w : WorldState) → IsOf job w → (r : Result Book E) → IfOk r (λ b. b.histories ≡ w.state.book)
+    → IsKept (cast_at w) w.state.book → IfOk r (λ b. IsKept (cast_of job) b.histories)
+kept_book job w k (Ok b) is kept = subst (λ (c : Cast). IsKept c b.histories) (same_cast job w k) (subst (IsKept (cast_at w)) (sym is) kept)
+kept_book job w k (Err e) is kept = tt
+
+-- a job whose conforming parties have their wallets gives a new world
+pub is_new : (job : Job) → HaveWallets job → world_of job ≡ Ok (new_world job)
+is_new job have = world_is_new job (λ p lt t. let h = have p lt t in (h.seed, h.there, h.fits))

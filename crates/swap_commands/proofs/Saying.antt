@@ -1,0 +1,201 @@
+-- What a command's status says, by how its parts ended.
+use Rattle.std.proofs.Common.{◌≡◌, ◌+◌, ◌++◌, inl, inr, ℕ, Bool, List, ◌∷◌, Option, Ok, refl, sym, ap, ◌∙◌, arith, subst}
+use Rattle.std.specs.Io.KnownBytes.{Keeps}
+use Rattle.swap_io.specs.Causes.{ConsumesSome}
+use Rattle.swap_io.proofs.Feeds.{took_on}
+use Rattle.refusals.specs.declared.refusal.Refusal.{Refusal}
+use Rattle.ledger_core.specs.Book.{Histories}
+use Rattle.deviator_script.specs.declared.job.Job.{Job}
+use Rattle.deviator_script.specs.declared.job.Purpose.TheVariants as purposes
+use Rattle.party_threads.specs.Race.{IsRaceBook}
+use Rattle.deviator_script.specs.declared.job.Finish.TheVariants.{Fair}
+use Rattle.swap_rules.specs.Accepted.{IsAccepted}
+use Rattle.swap_rules.specs.Outcome.{IsEnded}
+use Rattle.swap_laws.specs.Laws.{IsDealt}
+use Rattle.swap_run.specs.Run.{State, start}
+use Rattle.swap_run.specs.Laws.{IsKept}
+use Rattle.swap_run.specs.Asked.{Answers}
+use Rattle.swap_world.specs.Cast.{cast_of}
+use Rattle.swap_world.specs.Gone.{Gives}
+use Rattle.swap_world.specs.Value.{Continues, WorldState}
+use Rattle.outcome_rules.specs.Report.{conforms_in}
+use Rattle.outcome_rules.specs.Promises.{AllAreConforming}
+use Rattle.made_jobs.specs.Making.{IsMade}
+use Rattle.swap_commands.specs.Entered.{HasEntered}
+use Rattle.swap_commands.specs.Replay.{IsChecked, IsConcluded, IsEntered, IsPlayed, IsCopied}
+use Rattle.swap_commands.specs.Input.{Ends, At, IsDrained, IsTooLong, Tells, fresh, limit}
+use Rattle.swap_commands.specs.Output.{AreGiven, Chance, by_answers, by_book, cast_by, finished, no_chance, output_by, reported, told, plain_text}
+use Rattle.swap_commands.specs.Promised.{AsPromised}
+use Rattle.swap_commands.specs.Says.{HasRead, HasReason, IsAgainst, Says, Unread, Writes}
+use Rattle.audit_command.specs.Output.{Written}
+use Rattle.swap_commands.specs.declared.words.Command.{Command}
+use Rattle.swap_commands.specs.declared.words.Command.TheVariants.{OfJob}
+use Rattle.swap_commands.specs.declared.words.JobCommand.TheVariants.{Check, Run, Race, Make}
+use Rattle.swap_commands.specs.declared.status.Status.{Status}
+use Rattle.swap_commands.specs.declared.status.Status.TheVariants.{Done, Named, WrongWords, Refused, ReadFault, WriteFault, NoMemory, TooLong}
+use Rattle.swap_commands.proofs.Promises.{is_check, is_race, is_run, is_making}
+use Rattle.swap_commands.proofs.Reading.{check_of_bytes, gives_check, gives_race, gives_run, is_within, race_of_bytes, run_of_bytes}
+use Rattle.swap_commands.proofs.Reading.{gives_make, making_of_bytes}
+
+module _ (has : List ℕ → Bool) where
+  pub says_written : (gives : Gives) (a : Chance) (command : Command) (left left' : Option (List ℕ)) (n m : ℕ) (taken taken' : Option (List ℕ)) (p q : ℕ)
+      (output : Written) (r : HasRead has a command left left' (Ok output)) → AsPromised has gives a command r.input output
+      → (s : Status) → Writes taken taken' p q output s → Says has gives command left left' n m taken taken' p q s
+  says_written gives a command left left' n m taken taken' p q output r promised Done w =
+      record { chance = a; output = output; read = r; promised = promised; written = w }
+  says_written gives a command left left' n m taken taken' p q output r promised Named w =
+      record { chance = a; output = output; read = r; promised = promised; written = w }
+  says_written gives a command left left' n m taken taken' p q output r promised WrongWords w = absurd w
+  says_written gives a command left left' n m taken taken' p q output r promised (Refused reason names) w = absurd w
+  says_written gives a command left left' n m taken taken' p q output r promised ReadFault w = absurd w
+  says_written gives a command left left' n m taken taken' p q output r promised WriteFault w =
+      (w.0, record { chance = a; output = output; read = r; promised = promised; written = w.1 })
+  says_written gives a command left left' n m taken taken' p q output r promised NoMemory w =
+      inr (record { chance = a; output = output; read = r; promised = promised; written = w })
+  says_written gives a command left left' n m taken taken' p q output r promised TooLong w = absurd w
+
+  pub says_unread : (gives : Gives) (command : Command) (left left' : Option (List ℕ)) (n m : ℕ) (taken taken' : Option (List ℕ)) (p q : ℕ) → Keeps taken taken'
+      → (s : Status) → Unread has command left left' n m s → Says has gives command left left' n m taken taken' p q s
+  says_unread gives command left left' n m taken taken' p q k Done u = absurd u
+  says_unread gives command left left' n m taken taken' p q k Named u = absurd u
+  says_unread gives command left left' n m taken taken' p q k WrongWords u = absurd u
+  says_unread gives command left left' n m taken taken' p q k (Refused reason names) u = (u, k)
+  says_unread gives command left left' n m taken taken' p q k ReadFault u = (u, k)
+  says_unread gives command left left' n m taken taken' p q k WriteFault u = absurd u
+  says_unread gives command left left' n m taken taken' p q k NoMemory u = inl k
+  says_unread gives command left left' n m taken taken' p q k TooLong u = (u, k)
+
+  -- Where the reading stopped.
+
+  pub too_long : (left left' : Option (List ℕ)) (now : At) → IsTooLong left left' fresh now → ConsumesSome left left' (limit + 1)
+  too_long left left' now t = (t.0.0, omega (arith, t.0.1.counted, t.1), t.0.1.consumed)
+
+  module _ (command : Command) (left left' left'' : Option (List ℕ)) (mid now : At) (r : Refusal)
+      (t : Tells (λ bytes. IsAgainst has command bytes r) left left' fresh mid) where
+    -- the rest was taken
+    pub all_taken : IsDrained left' left'' mid now → HasReason has command left left'' r.reason r.names
+    all_taken d =
+        let said = t.told d.bytes d.can in
+        let took = took_on left left' left'' fresh.reading mid.reading now.reading t.bytes d.bytes t.took d.took in
+        record {
+          read = record {
+            input = t.bytes ++ d.bytes;
+            taken = took.consumed;
+            ended = d.ended t.ended;
+            within = omega (arith, took.counted, d.within);
+            gives = said.0;
+          };
+          named = said.1;
+        }
+
+    -- more was taken than may be
+    pub rest_too_long : IsTooLong left' left'' mid now → ConsumesSome left left'' (limit + 1)
+    rest_too_long d =
+        let took = took_on left left' left'' fresh.reading mid.reading now.reading t.bytes d.0.0 t.took d.0.1 in
+        (t.bytes ++ d.0.0, omega (arith, took.counted, d.1), took.consumed)
+
+  -- What a command says whose input was read whole.
+
+  module _ (gives : Gives) (transcript : Bool) (left left' : Option (List ℕ)) (n m : ℕ) (taken taken' : Option (List ℕ)) (p q : ℕ) where
+    says_played : (a : Answers) (now : At) (job : Job) (s : State) (b : Histories) (status : Status)
+        (e : Ends (λ bytes. IsPlayed has a bytes job s) left left' fresh now) → AreGiven gives job.deal a (finished job.finish (cast_by a job) s).asked
+        → b ≡ (finished job.finish (cast_by a job) s).book → IsAccepted job.deal → IsKept (cast_of job) b → (job.finish ≡ Fair → IsEnded job.deal b)
+        → (job.finish ≡ Fair → s ≡ start (cast_of job) → AllAreConforming job.deal job.conforming → IsDealt job.deal (conforms_in job.conforming) b)
+        → Writes taken taken' p q (reported transcript job b) status → Says has gives (OfJob (Run transcript)) left left' n m taken taken' p q status
+    says_played a now job s b status e given same k kept ended dealt w =
+        let out : Written = reported transcript job b in
+        let made : output_by has (by_answers a) (OfJob (Run transcript)) e.bytes ≡ Ok out =
+        gives_run has a transcript e.bytes job s e.told ∙ ap (λ (x : Histories). Ok (reported transcript job x)) (sym same) in
+        says_written gives (by_answers a) (OfJob (Run transcript)) left left' n m taken taken' p q out
+        (record {
+          input = e.bytes;
+          taken = e.took.consumed;
+          ended = e.ended;
+          within = is_within has (λ bytes. IsPlayed has a bytes job s) left left' now e;
+          gives = made;
+        })
+        (run_of_bytes has gives a transcript e.bytes ((e.told.line, e.told.text) ∷ e.told.others) out e.told.lines
+        (is_run has gives a transcript e.told.line e.told.text e.told.others job s b out e.told.header e.told.leads given same refl k kept ended dealt))
+        status w
+
+    -- the answers are those with which the world was finished
+    pub says_run : (now : At) (job : Job) (world : WorldState) (b : Histories) (status : Status)
+        → ((a : Answers) → Continues world a → Ends (λ bytes. IsPlayed has a bytes job world.state) left left' fresh now) → IsConcluded gives job world b
+        → IsAccepted job.deal → IsKept (cast_of job) b → (job.finish ≡ Fair → IsEnded job.deal b)
+        → (job.finish ≡ Fair → world.state ≡ start (cast_of job) → AllAreConforming job.deal job.conforming
+        → IsDealt job.deal (conforms_in job.conforming) b)
+        → Writes taken taken' p q (reported transcript job b) status → Says has gives (OfJob (Run transcript)) left left' n m taken taken' p q status
+    says_run now job world b status e c k kept ended dealt w =
+        says_played c.answers now job world.state b status (e c.answers c.continues) c.given c.book k kept ended dealt w
+
+  pub says_race : (gives : Gives) (ticks : ℕ) (transcript : Bool) (left left' : Option (List ℕ)) (n m : ℕ) (taken taken' : Option (List ℕ)) (p q : ℕ)
+      (job : Job) (b : Histories) (status : Status) → HasEntered has left left' job → IsAccepted job.deal → job.purpose ≡ purposes.Race
+      → IsRaceBook gives (cast_of job) ticks b → Writes taken taken' p q (reported transcript job b) status
+      → Says has gives (OfJob (Race ticks transcript)) left left' n m taken taken' p q status
+  says_race gives ticks transcript left left' n m taken taken' p q job b status e k purpose raced w =
+      let out : Written = reported transcript job b in
+      let r = e.entered in
+      says_written gives (by_book b) (OfJob (Race ticks transcript)) left left' n m taken taken' p q out
+      (record {
+        input = e.input;
+        taken = e.taken;
+        ended = e.ended;
+        within = e.within;
+        gives = gives_race has b ticks transcript e.input job e.entered;
+      })
+      (race_of_bytes has gives b ticks transcript e.input ((r.line, r.text) ∷ r.others) out r.lines
+      (is_race has gives b ticks transcript r.line r.text r.others job out r.header r.leads refl purpose k raced))
+      status w
+
+  -- the job of a race was read
+  pub has_entered : (left left' : Option (List ℕ)) (now : At) (job : Job) → Ends (λ bytes. IsEntered has bytes job) left left' fresh now
+      → HasEntered has left left' job
+  has_entered left left' now job e = record {
+    input = e.bytes;
+    taken = e.took.consumed;
+    ended = e.ended;
+    within = is_within has (λ bytes. IsEntered has bytes job) left left' now e;
+    entered = e.told;
+  }
+
+  pub says_check : (gives : Gives) (left left' : Option (List ℕ)) (n m : ℕ) (taken taken' : Option (List ℕ)) (p q : ℕ) (now : At) (job : Job) (status : Status)
+      (e : Ends (λ bytes. IsChecked has bytes job) left left' fresh now)
+      → IsAccepted job.deal → Writes taken taken' p q (told job) status → Says has gives (OfJob Check) left left' n m taken taken' p q status
+  says_check gives left left' n m taken taken' p q now job status e k w =
+      says_written gives no_chance (OfJob Check) left left' n m taken taken' p q (told job)
+      (record {
+        input = e.bytes;
+        taken = e.took.consumed;
+        ended = e.ended;
+        within = is_within has (λ bytes. IsChecked has bytes job) left left' now e;
+        gives =
+            gives_check has e.bytes job e.told;
+      })
+      (check_of_bytes has e.bytes ((e.told.line, e.told.text) ∷ e.told.others) (told job) e.told.lines
+      (is_check has e.told.line e.told.text e.told.others job tt (told job) e.told.header e.told.leads refl k))
+      status w
+
+  pub says_make : (gives : Gives) (left left' : Option (List ℕ)) (n m : ℕ) (taken taken' : Option (List ℕ)) (p q : ℕ) (now : At) (job : Job)
+      (text : List ℕ) (status : Status)
+      (e : Ends (λ bytes. IsCopied has bytes job text) left left' fresh now)
+      → IsMade job → Writes taken taken' p q (plain_text text) status → Says has gives (OfJob Make) left left' n m taken taken' p q status
+  says_make gives left left' n m taken taken' p q now job text status e k w =
+      says_written gives no_chance (OfJob Make) left left' n m taken taken' p q (plain_text text)
+      (record {
+        input = e.bytes;
+        taken = e.took.consumed;
+        ended = e.ended;
+        within = is_within has (λ bytes. IsCopied has bytes job text) left left' now e;
+        gives = gives_make has e.bytes job text e.told;
+      })
+      (making_of_bytes has e.bytes ((e.told.line, e.told.text) ∷ e.told.others) (plain_text text) e.told.lines
+      (is_making has e.told.line e.told.text e.told.others job text (plain_text text) e.told.header e.told.leads k))
+      status w
+
+  -- what a race's status says where nothing was written before
+  pub says_after : (gives : Gives) (command : Command) (left left' : Option (List ℕ)) (n m : ℕ) (taken mid taken' : Option (List ℕ)) (p r q : ℕ)
+      (status : Status) → mid ≡ taken → r ≡ p → Says has gives command left left' n m mid taken' r q status
+      → Says has gives command left left' n m taken taken' p q status
+  says_after gives command left left' n m taken mid taken' p r q status same still h =
+      subst (λ (t : Option (List ℕ)). Says has gives command left left' n m t taken' p q status) same
+      (subst (λ (k : ℕ). Says has gives command left left' n m mid taken' k q status) still h)

@@ -1,0 +1,145 @@
+-- A reading steps along the lines of its input.
+use Rattle.std.proofs.Common.{◌≡◌, ◌≤◌, ◌+◌, ℕ, Bool, true, false, List, [], ◌∷◌, ◌++◌, Result, Ok, Err, Option, refl, sym, ap, ◌∙◌, subst}
+use Rattle.std.proofs.Common.{append_assoc}
+use Rattle.swap_base.specs.Fault.{◌>>=◌, Fails as Fails_by}
+use Rattle.swap_base.specs.declared.fault.Fault.{Fault}
+use Rattle.swap_base.specs.declared.fault.Fault.TheVariants as offer
+use Rattle.swap_io.specs.Causes.{Rose}
+use Rattle.swap_io.specs.Lines.{Took, TookSome}
+use Rattle.swap_io.proofs.Feeds.{took_none, took_on}
+use Rattle.swap_io.proofs.Handing.{rose_before}
+use Rattle.swap_io.specs.declared.fault.LineFault.{LineFault}
+use Rattle.swap_io.specs.declared.fault.LineFault.TheVariants as line
+use Rattle.refusals.specs.declared.reason.Reason.{Reason}
+use Rattle.swap_commands.specs.declared.fault.InputFault.{InputFault}
+use Rattle.swap_commands.specs.declared.fault.InputFault.TheVariants.{Refused, ReadFault, TooLong}
+use Rattle.swap_commands.specs.Faults.{of_line, of_offer}
+use Rattle.swap_commands.specs.Input.{At, CanCome, Ends, EndsAt, Fails, Gives, IsLast, IsLine, IsTooLong}
+use Rattle.swap_commands.specs.Input.{Reads, ReadsLine, ReadsNone, Stops, Tells, ahead, limit}
+use Rattle.swap_commands.proofs.Ahead.{too_long_on}
+
+-- bytes may come before the end
+pub can_come : (s : At) (rest : List ℕ) → s.over ≡ false → CanCome s rest
+can_come s rest not_over = λ over. absurd (cc (sym not_over ∙ over))
+
+-- a fault of a line stops the reading
+pub line_stops : {R : Type 0} (P : List ℕ → R → Type 0) (a b c : Option (List ℕ)) (n m k : ℕ) (r s t : At) (e : LineFault)
+    → TookSome a b r.reading s.reading → n ≤ m → Fails b c m k s t e → Stops P a c n k r t (of_line e)
+line_stops P a b c n m k r s t line.ReadFault p le q = rose_before n m k le q
+line_stops P a b c n m k r s t line.TooLong p le q = too_long_on a b c r s t p q
+line_stops P a b c n m k r s t line.NoMemory p le q = tt
+
+-- what a walk makes of the next line, and then of those after it
+abbrev pub IsStep : {A : Type 0} → (ℕ → A → List (ℕ × List ℕ) → Result A Reason) → (ℕ → A → ℕ → List ℕ → Result A Reason) → Type 0
+IsStep {A = A} walk next = (n : ℕ) (y : A) (number : ℕ) (text : List ℕ) (rest : List (ℕ × List ℕ))
+    → walk n y ((number, text) ∷ rest) ≡ next n y number text >>= λ z. walk (n + 1) z rest
+
+module _ {A : Type 0} (walk : ℕ → A → List (ℕ × List ℕ) → Result A Reason) (left : Option (List ℕ)) (first : At) (x : A) where
+  -- What was read so far leads to y, whatever comes after it.
+  pub record Led (left' : Option (List ℕ)) (now : At) (count : ℕ) (y : A) : Type 0 where
+    pub bytes : List ℕ
+    pub took : Took left left' first.reading now.reading bytes
+    pub can : CanCome first bytes
+    pub stays : first.over ≡ true → now.over ≡ true
+    pub leads : (rest : List ℕ) → CanCome now rest → walk 0 x (ahead first (bytes ++ rest)) ≡ walk count y (ahead now rest)
+
+  pub led_none : Led left first 0 x
+  led_none = record {
+    bytes = [];
+    took = took_none left first.reading first.reading refl refl;
+    can = λ over. refl;
+    stays = λ over. over;
+    leads = λ rest can.
+        refl;
+  }
+
+  -- a line came, so that the end wasn't met before
+  not_over : (a b : Option (List ℕ)) (s t : At) (count : ℕ) (y : A) → Led a s count y → IsLine a b s t → ¬ (first.over ≡ true)
+  not_over a b s t count y p q over = absurd (cc (sym q.open_yet ∙ p.stays over))
+
+  -- the lines ahead were the next one and those ahead of it
+  stepped : (next : ℕ → A → ℕ → List ℕ → Result A Reason) → IsStep walk next → (a b : Option (List ℕ)) (s t : At) (count : ℕ) (y : A) (p : Led a s count y)
+      (q : IsLine a b s t) (rest : List ℕ) → CanCome t rest
+      → walk 0 x (ahead first ((p.bytes ++ q.bytes) ++ rest)) ≡ next count y t.number t.text >>= λ z. walk (count + 1) z (ahead t rest)
+  stepped next one a b s t count y p q rest can =
+      ap (λ (xs : List ℕ). walk 0 x (ahead first xs)) (append_assoc p.bytes q.bytes rest)
+      ∙ p.leads (q.bytes ++ rest) (can_come s (q.bytes ++ rest) q.open_yet)
+      ∙ ap (walk count y) (q.first rest can)
+      ∙ one count y t.number t.text (ahead t rest)
+
+  pub led_on : (next : ℕ → A → ℕ → List ℕ → Result A Reason) → IsStep walk next → (a b : Option (List ℕ)) (s t : At) (count : ℕ) (y z : A) → Led a s count y
+      → IsLine a b s t → next count y t.number t.text ≡ Ok z → Led b t (count + 1) z
+  led_on next one a b s t count y z p q e = record {
+    bytes = p.bytes ++ q.bytes;
+    took = took_on left a b first.reading s.reading t.reading p.bytes q.bytes p.took q.took;
+    can = λ over. absurd (not_over a b s t count y p q over);
+    stays = λ over. absurd (not_over a b s t count y p q over);
+    leads = λ rest can. stepped next one a b s t count y p q rest can ∙ ap (λ (r : Result A Reason). r >>= λ z. walk (count + 1) z (ahead t rest)) e;
+  }
+
+  led_to_reason : (next : ℕ → A → ℕ → List ℕ → Result A Reason) → IsStep walk next → (a b : Option (List ℕ)) (s t : At) (count : ℕ) (y : A) (reason : Reason)
+      → Led a s count y → IsLine a b s t → next count y t.number t.text ≡ Err reason → t.reading.taken ≤ limit → EndsAt b t
+      → Tells (λ bytes. walk 0 x (ahead first bytes) ≡ Err reason) left b first t
+  led_to_reason next one a b s t count y reason p q e within ended = record {
+    bytes = p.bytes ++ q.bytes;
+    took = took_on left a b first.reading s.reading t.reading p.bytes q.bytes p.took q.took;
+    can = λ rest over. absurd (not_over a b s t count y p q over);
+    told = λ rest can.
+        stepped next one a b s t count y p q rest can ∙ ap (λ (r : Result A Reason). r >>= λ z. walk (count + 1) z (ahead t rest)) e;
+    within = within;
+    ended = ended;
+  }
+
+  pub led_to_end : ((n : ℕ) (y : A) → walk n y [] ≡ Ok y) → (a b : Option (List ℕ)) (s t : At) (count : ℕ) (y : A) → Led a s count y → IsLast a b s t
+      → t.reading.taken ≤ limit → EndsAt b t → Ends (λ bytes. walk 0 x (ahead first bytes) ≡ Ok y) left b first t
+  led_to_end none a b s t count y p q within ended = record {
+    bytes = p.bytes ++ q.bytes;
+    took = took_on left a b first.reading s.reading t.reading p.bytes q.bytes p.took q.took;
+    can = λ over. ap (λ (xs : List ℕ). xs ++ q.bytes) (p.can over) ∙ q.can (p.stays over);
+    told = p.leads q.bytes q.can ∙ ap (walk count y) q.none ∙ none count y;
+    within = within;
+    ended = ended q.met;
+  }
+
+  pub some_led : (a : Option (List ℕ)) (s : At) (count : ℕ) (y : A) → Led a s count y → TookSome left a first.reading s.reading
+  some_led a s count y p = (p.bytes, p.took)
+
+  -- a fault of the next line
+  pub led_to_fault : (next : ℕ → A → ℕ → List ℕ → Result A Reason) → IsStep walk next → (a b : Option (List ℕ)) (s t : At) (count : ℕ) (y : A) (n k : ℕ)
+      (fault : Fault Reason) → Led a s count y → IsLine a b s t → Fails_by fault (next count y t.number t.text) → t.reading.taken ≤ limit → EndsAt b t
+      → Stops (λ bytes reason. walk 0 x (ahead first bytes) ≡ Err reason) left b n k first t (of_offer fault)
+  led_to_fault next one a b s t count y n k offer.NoMemory p q fails within ended = tt
+  led_to_fault next one a b s t count y n k (offer.Refused reason) p q fails within ended =
+      led_to_reason next one a b s t count y reason p q fails within ended
+
+-- What a call of `read_line` and of `next` gives, by its answer.
+
+pub got_line : (more : Bool) (a b : Option (List ℕ)) (s t : At) → more ≡ true → Reads more a b s t → ReadsLine a b s t
+got_line true a b s t e p = p
+got_line false a b s t e p = absurd (cc e)
+
+pub got_none : (more : Bool) (a b : Option (List ℕ)) (s t : At) → more ≡ false → Reads more a b s t → ReadsNone a b s t
+got_none true a b s t e p = absurd (cc e)
+got_none false a b s t e p = p
+
+pub line_of : (more : Bool) (a b : Option (List ℕ)) (s t : At) → more ≡ true → Gives more a b s t → IsLine a b s t
+line_of true a b s t e p = p
+line_of false a b s t e p = absurd (cc e)
+
+pub last_of : (more : Bool) (a b : Option (List ℕ)) (s t : At) → more ≡ false → Gives more a b s t → IsLast a b s t
+last_of true a b s t e p = absurd (cc e)
+last_of false a b s t e p = p
+
+-- What stopped a reading, by its fault.
+
+pub refused_of : {R : Type 0} (P : List ℕ → R → Type 0) (a b : Option (List ℕ)) (n m : ℕ) (s t : At) (f : InputFault R) (r : R) → f ≡ Refused r
+    → Stops P a b n m s t f → Tells (λ bytes. P bytes r) a b s t
+refused_of {R = R} P a b n m s t f r is h = subst (λ (x : InputFault R). Stops P a b n m s t x) is h
+
+pub read_fault_of : {R : Type 0} (P : List ℕ → R → Type 0) (a b : Option (List ℕ)) (n m : ℕ) (s t : At) (f : InputFault R) → f ≡ ReadFault
+    → Stops P a b n m s t f → Rose n m
+read_fault_of {R = R} P a b n m s t f is h = subst (λ (x : InputFault R). Stops P a b n m s t x) is h
+
+pub too_long_of : {R : Type 0} (P : List ℕ → R → Type 0) (a b : Option (List ℕ)) (n m : ℕ) (s t : At) (f : InputFault R) → f ≡ TooLong
+    → Stops P a b n m s t f → IsTooLong a b s t
+too_long_of {R = R} P a b n m s t f is h = subst (λ (x : InputFault R). Stops P a b n m s t x) is h

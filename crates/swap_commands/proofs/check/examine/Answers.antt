@@ -1,0 +1,17 @@
+use Rattle.deviator_script.specs.declared.job.Purpose.TheVariants as purposes
+use Rattle.swap_commands.specs.declared.words.JobCommand.TheVariants.{Check}
+use Rattle.swap_commands.specs.Replay.{passed_over, replayed}
+use Rattle.swap_commands.proofs.Reading.{against_event, check_says, is_read}
+use Rattle.swap_commands.proofs.check.examine.Goals as goal
+
+pub returns-in-Ok-clause-checked : goal.returns-in-Ok-clause-checked
+returns-in-Ok-clause-checked g c =
+    is_read _ purposes.Check (λ job. replayed passed_over job 0 tt) _ _ _ _ _ c.in_ok-job.field-0.job tt c.in_ok-job.ensures.line c.in_ok-job.ensures.header
+    c.in-Ok.ensures.exact
+
+pub returns-in-Err-clause-stops : goal.returns-in-Err-clause-stops
+returns-in-Err-clause-stops g c =
+    let job = c.in_ok-job.field-0.job in
+    rw c.with_names.ensures
+    (against_event _ (replayed passed_over job 0 tt) Check _ _ _ _ _ (check_says _ _ _ job c.in_ok-job.ensures.header) job.names
+    c.in_ok-job.ensures.names c.in-Err.fault _ _ _ c.in_ok-job.ensures.line c.first_line.ensures.later c.in-Err.ensures.stops)

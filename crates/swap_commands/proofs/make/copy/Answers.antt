@@ -1,0 +1,19 @@
+use Rattle.deviator_script.specs.declared.job.Purpose.TheVariants as purposes
+use Rattle.swap_gen.specs.Made.{made}
+use Rattle.made_jobs.specs.Making.{copied, written_line}
+use Rattle.swap_commands.specs.declared.words.JobCommand.TheVariants.{Make}
+use Rattle.swap_commands.proofs.Reading.{against_event, is_read, make_says}
+use Rattle.swap_commands.proofs.make.copy.Goals as goal
+
+pub returns-in-Ok-clause-copied : goal.returns-in-Ok-clause-copied
+returns-in-Ok-clause-copied g c =
+    is_read _ purposes.Make (λ job. copied 0 (written_line (made job))) _ _ _ _ _ c.in_ok-job.field-0.job _ c.in_ok-job.ensures.line c.in_ok-job.ensures.header
+    (rw c.in_ok-text.ensures.line at c.in-Ok.ensures.exact)
+
+pub returns-in-Err-clause-stops : goal.returns-in-Err-clause-stops
+returns-in-Err-clause-stops g c =
+    let job = c.in_ok-job.field-0.job in
+    rw c.with_names.ensures
+    (against_event _ (copied 0 (written_line (made job))) Make _ _ _ _ _ (make_says _ _ _ job c.in_ok-job.ensures.header) job.names
+    c.in_ok-job.ensures.names c.in-Err.fault _ _ _ c.in_ok-job.ensures.line c.first_line.ensures.later
+    (rw c.in_ok-text.ensures.line at c.in-Err.ensures.stops))

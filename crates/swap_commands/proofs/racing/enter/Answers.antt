@@ -1,0 +1,22 @@
+use Rattle.deviator_script.specs.declared.job.Purpose.TheVariants as purposes
+use Rattle.swap_commands.specs.declared.words.JobCommand.TheVariants.{Race}
+use Rattle.swap_commands.specs.Replay.{passed_over, replayed}
+use Rattle.swap_commands.proofs.Reading.{against_event, is_read, race_says}
+use Rattle.swap_commands.proofs.Replays.{held}
+use Rattle.swap_commands.proofs.racing.enter.Goals as goal
+
+pub returns-in-Ok-clause-entered : goal.returns-in-Ok-clause-entered
+returns-in-Ok-clause-entered g c =
+    is_read _ purposes.Race (λ job. replayed passed_over job 0 tt) _ _ _ _ _ c.in_ok-job.field-0.job tt c.in_ok-job.ensures.line c.in_ok-job.ensures.header
+    c.in-Ok.ensures.exact
+
+pub returns-in-Ok-clause-held : goal.returns-in-Ok-clause-held
+returns-in-Ok-clause-held g c = held _ c.in_ok-job.field-0.job.roles c.in_ok-job.ensures.strategies
+
+pub returns-in-Err-clause-stops : goal.returns-in-Err-clause-stops
+returns-in-Err-clause-stops g c =
+    let job = c.in_ok-job.field-0.job in
+    rw c.with_names.ensures
+    (against_event _ (replayed passed_over job 0 tt) (Race c.args.ticks c.args.transcript) _ _ _ _ _
+    (race_says _ c.args.ticks c.args.transcript _ _ job c.in_ok-job.ensures.header) job.names c.in_ok-job.ensures.names c.in-Err.fault _ _ _
+    c.in_ok-job.ensures.line c.first_line.ensures.later c.in-Err.ensures.stops)

@@ -1,0 +1,27 @@
+use Rattle.std.proofs.Common.{◌≡◌, ◌≤◌, ◌-◌, false}
+use Rattle.swap_run.specs.Asked.{Answers}
+use Rattle.swap_run.specs.Run.{start, step}
+use Rattle.swap_world.specs.Cast.{cast_of}
+use Rattle.swap_world.specs.Gone.{HasAsked}
+use Rattle.swap_world.specs.Value.{Continues, new_world}
+use Rattle.swap_commands.specs.Input.{EndsAt, limit}
+use Rattle.swap_commands.specs.Output.{cast_by}
+use Rattle.swap_commands.specs.Replay.{IsOf, passed_over, replayed}
+use Rattle.swap_commands.proofs.Streams.{Led}
+use Rattle.swap_commands.proofs.replay.replay.Given as goal
+
+abbrev pub invariant-lines : goal.invariant-lines
+invariant-lines g l = record {
+  led : (a : Answers) → Continues l.world a → Led (replayed (step (cast_by a l.job)) l.job) (g.S.Source.left l.fn.source) l.fn.input
+      (start (cast_of l.job)) (g.S.Source.left l.source) l.input l.count l.world.state;
+  passed : Led (replayed passed_over l.job) (g.S.Source.left l.fn.source) l.fn.input tt (g.S.Source.left l.source) l.input l.count tt;
+  asked : HasAsked (g.T.Strategies.gives l.kit) (new_world l.job) l.world;
+  is_of : IsOf l.job l.world;
+  goes_on : l.world.stopped ≡ false;
+  ended : EndsAt (g.S.Source.left l.source) l.input;
+  counted : l.count ≤ l.input.number;
+  later : g.S.Source.faults l.fn.source ≤ g.S.Source.faults l.source;
+}
+
+abbrev pub decreases-lines : goal.decreases-lines
+decreases-lines g l = limit - l.input.number

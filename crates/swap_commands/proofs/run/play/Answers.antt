@@ -1,0 +1,28 @@
+use Rattle.swap_run.specs.Run.{start, step}
+use Rattle.swap_world.specs.Cast.{cast_of}
+use Rattle.deviator_script.specs.declared.job.Purpose.TheVariants as purposes
+use Rattle.swap_commands.specs.declared.words.JobCommand.TheVariants.{Run}
+use Rattle.swap_commands.specs.Output.{cast_by}
+use Rattle.swap_commands.specs.Replay.{passed_over, replayed}
+use Rattle.swap_commands.proofs.Reading.{against_event, is_read, run_says}
+use Rattle.swap_commands.proofs.Replays.{held}
+use Rattle.swap_commands.proofs.run.play.Goals as goal
+
+pub replay-requires-clause-kit : goal.replay-requires-clause-kit
+replay-requires-clause-kit g c = held _ c.in_ok-job.field-0.job.roles c.in_ok-job.ensures.strategies
+
+pub returns-in-Ok-clause-played : goal.returns-in-Ok-clause-played
+returns-in-Ok-clause-played g c = λ a x.
+    is_read _ purposes.Run (λ job. replayed (step (cast_by a job)) job 0 (start (cast_of job)))
+    _ _ _ _ _ c.in_ok-job.field-0.job c.in-Ok.world.state c.in_ok-job.ensures.line c.in_ok-job.ensures.header (c.in-Ok.ensures.exact a x)
+
+pub returns-in-Ok-clause-held : goal.returns-in-Ok-clause-held
+returns-in-Ok-clause-held g c = held _ c.in_ok-job.field-0.job.roles c.in_ok-job.ensures.strategies
+
+pub returns-in-Err-clause-stops : goal.returns-in-Err-clause-stops
+returns-in-Err-clause-stops g c =
+    let job = c.in_ok-job.field-0.job in
+    rw c.with_names.ensures
+    (against_event _ (replayed passed_over job 0 tt) (Run c.args.transcript) _ _ _ _ _
+    (run_says _ c.args.transcript _ _ job c.in_ok-job.ensures.header) job.names c.in_ok-job.ensures.names c.in-Err.fault _ _ _ c.in_ok-job.ensures.line
+    c.first_line.ensures.later c.in-Err.ensures.stops)

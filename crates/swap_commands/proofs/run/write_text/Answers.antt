@@ -1,0 +1,24 @@
+use Rattle.made_jobs.proofs.Writable.{are_texts}
+use Rattle.audit_command.proofs.Reported.{few_outcomes}
+use Rattle.swap_commands.proofs.Reports.{few_histories}
+use Rattle.swap_commands.proofs.run.write_text.Goals as goal
+
+pub write_transcript-requires-clause-writable : goal.write_transcript-requires-clause-writable
+write_transcript-requires-clause-writable g c =
+    let job = c.args.job.now in
+    let whole = c.requires.whole in
+    record {
+      sized = whole.sized;
+      names = whole.names;
+      texts = are_texts job.names c.requires.names;
+      conforming = whole.conforming;
+      roles = whole.roles;
+      seeds = whole.seeds;
+    }
+
+pub write_transcript-requires-clause-few : goal.write_transcript-requires-clause-few
+write_transcript-requires-clause-few g c = few_histories c.args.job.now.deal c.args.book.now.histories c.requires.whole.sized c.requires.legal
+
+pub write_report-requires-clause-parties : goal.write_report-requires-clause-parties
+write_report-requires-clause-parties g c =
+    rw c.requires.report (few_outcomes c.args.job.now.deal c.args.job.now.conforming c.args.book.now.histories c.requires.whole.sized.parties.1)

@@ -1,0 +1,7 @@
+use Rattle.swap_commands.proofs.staff.KitStaff.obey.Goals as goal
+
+pub returns-in-OfJob : goal.returns-in-OfJob
+returns-in-OfJob g c = rw c.in-OfJob.is c.read_job.ensures
+
+pub returns-in-Audit : goal.returns-in-Audit
+returns-in-Audit g c = rw c.in-Audit.is c.audit.ensures

@@ -1,0 +1,9 @@
+pub mod Words
+pub mod Output
+pub mod Promised
+pub mod Faults
+pub mod Input
+pub mod Replay
+pub mod Says
+pub mod Entered
+pub mod Generated

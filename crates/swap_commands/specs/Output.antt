@@ -1,0 +1,140 @@
+-- What is written for an input.
+use Rattle.std.specs.Prelude.{◌≡◌, ◌<◌, ◌==◌, ℕ, ◌∷◌, [], Bool, true, false, not, List, drop, length, slice_index_or, codes, decimal, None, Result, Ok, Err}
+use Rattle.swap_base.specs.Fault.{◌>>=◌}
+use Rattle.swap_base.specs.Text.{joined}
+use Rattle.time_bounds.specs.Times as times
+use Rattle.swap_digraph.specs.declared.deal.Deal.{Deal}
+use Rattle.ledger_core.specs.Book.{Histories}
+use Rattle.deviator_script.specs.declared.event.Event.{Event}
+use Rattle.deviator_script.specs.declared.job.Job.{Job}
+use Rattle.deviator_script.specs.declared.job.Purpose.TheVariants as purposes
+use Rattle.outcome_rules.specs.declared.report.Report.{Report}
+use Rattle.outcome_rules.specs.Report.{report_of}
+use Rattle.transcript_text.specs.Report.{report}
+use Rattle.transcript_lines.specs.Lines.{transcript as transcript_text}
+use Rattle.audit_command.specs.Output.{Written, audit_of}
+use Rattle.refusals.specs.declared.reason.Reason.{Reason}
+use Rattle.refusals.specs.declared.refusal.Refusal.{Refusal}
+use Rattle.deviator_script.specs.declared.job.Purpose.{Purpose}
+use Rattle.swap_offer.specs.Checks.{need_of}
+use Rattle.swap_offer.specs.Lines.{lines_of, filled_lines}
+use Rattle.swap_offer.specs.Job.{job_of, names_of_offer}
+use Rattle.made_jobs.specs.Making.{made_text}
+use Rattle.deviator_script.specs.declared.job.Finish.{Finish}
+use Rattle.deviator_script.specs.declared.job.Finish.TheVariants.{Stop, Fair}
+use Rattle.swap_run.specs.Asked.{Answers, with_answers}
+use Rattle.swap_run.specs.Run.{Cast, Question, State, run}
+use Rattle.swap_run.specs.Fair.{finish}
+use Rattle.swap_world.specs.Cast.{cast_of}
+use Rattle.swap_world.specs.Gone.{Gives}
+use Rattle.swap_commands.specs.declared.words.Command.{Command}
+use Rattle.swap_commands.specs.declared.words.Command.TheVariants.{OfJob, Audit}
+use Rattle.swap_commands.specs.declared.words.JobCommand.{JobCommand}
+use Rattle.swap_commands.specs.declared.words.JobCommand.TheVariants.{Check, Run, Race, Make}
+
+-- the text of a checked offer
+unfoldable pub check_text : Deal → List ℕ
+check_text d = joined (codes "swap accepted\nneed " ∷ decimal (need_of d) ∷ codes "\nopen by " ∷ decimal
+    (times.open_by d.start d.delta d.bound) ∷ codes "\nexpiry " ∷ decimal (times.last_expiry d.start d.delta d.bound) ∷ codes "\nhorizon " ∷ decimal
+    (times.horizon d.start d.delta d.bound) ∷ codes "\n" ∷ [])
+
+-- the text of a run or a race: the report r of its book, or where it is asked for the transcript
+abbrev pub run_text : Bool → Job → Histories → Report → List ℕ
+run_text false job b r = report job b r
+run_text true job b r = transcript_text job b
+
+-- either tells of a finding where the report does
+abbrev pub with_report : Bool → Job → Histories → Report → Written
+with_report transcript job b r = record { text = run_text transcript job b r; found = not (length r.findings == 0) }
+
+-- the report of a job's book
+abbrev pub report_for : Job → Histories → Report
+report_for job b = report_of job.deal job.conforming b
+
+-- what is written of a job's book
+unfoldable pub reported : Bool → Job → Histories → Written
+reported transcript job b = with_report transcript job b (report_for job b)
+
+-- what a finish makes of a state: nothing more is done, or the fair finish is
+abbrev pub finished : Finish → Cast → State → State
+finished Stop c s = s
+finished Fair c s = finish c s
+
+-- who takes part in a job's run, where strategies answer a
+abbrev pub cast_by : Answers → Job → Cast
+cast_by a job = with_answers (cast_of job) a
+
+-- the state to which a job's run leads: after its events, and then after its finish
+abbrev pub state_of : Answers → Job → List Event → State
+state_of a job events = finished job.finish (cast_by a job) (run (cast_by a job) events)
+
+-- its histories
+abbrev pub book_of : Answers → Job → List Event → Histories
+book_of a job events = (state_of a job events).book
+
+-- each answer to these questions is one that its strategy may give
+abbrev pub AreGiven : Gives → Deal → Answers → List Question → Type 0
+AreGiven gives d a asked = (i : ℕ) (q : Question) → i < length asked → q ≡ slice_index_or asked i q → gives q.strategy d q.party q.turn q.known (a i)
+
+-- what is told of a checked offer
+abbrev pub told : Job → Written
+told job = record { text = check_text job.deal; found = false }
+
+-- a text that tells of no finding
+abbrev pub plain_text : List ℕ → Written
+plain_text text = record { text = text; found = false }
+
+-- what a job is read for
+abbrev pub purpose_of : JobCommand → Purpose
+purpose_of (Run transcript) = purposes.Run
+purpose_of (Race ticks transcript) = purposes.Race
+purpose_of Check = purposes.Check
+purpose_of Make = purposes.Make
+
+-- What an input doesn't decide: what strategies answer in a run, and the book that a race comes to.
+pub record Chance : Type 0 where
+  pub answers : Answers
+  pub book : Histories
+
+-- strategies answer a, and nothing is raced
+abbrev pub by_answers : Answers → Chance
+by_answers a = record { answers = a; book = [] }
+
+-- a race comes to the book, and no strategy is asked in a run
+abbrev pub by_book : Histories → Chance
+by_book b = record { answers = λ k. None; book = b }
+
+-- what a command writes for a job and its events, which are those of these lines
+abbrev pub output_for : Chance → JobCommand → List (ℕ × List ℕ) → Result (Job × List Event) Reason → Result Written Reason
+output_for chance (Run transcript) lines read = read >>= λ j. Ok (reported transcript j.0 (book_of chance.answers j.0 j.1))
+output_for chance (Race ticks transcript) lines read = read >>= λ j. Ok (reported transcript j.0 chance.book)
+output_for chance Check lines read = read >>= λ j. Ok (told j.0)
+output_for chance Make lines read = read >>= λ j. Ok (plain_text (made_text j.0 (drop 1 lines)))
+
+-- the reason of a refusal
+abbrev pub by_reason : Result Written Refusal → Result Written Reason
+by_reason (Ok output) = Ok output
+by_reason (Err refusal) = Err refusal.reason
+
+-- the names of the parties that a refusal may speak of
+abbrev pub names_told : Result Written Refusal → List (List ℕ)
+names_told (Ok output) = []
+names_told (Err refusal) = refusal.names
+
+-- what a command writes for an input, where there are strategies of these names and chance decides so, or the first reason why the input is refused
+unfoldable pub output_by : (List ℕ → Bool) → Chance → Command → List ℕ → Result Written Reason
+output_by has chance (OfJob command) input = output_for chance command (filled_lines 1 (lines_of input)) (job_of has (purpose_of command) input)
+output_by has chance Audit input = by_reason (audit_of input)
+
+-- strategies that never call, and a race without a ledger
+abbrev pub no_chance : Chance
+no_chance = by_answers (λ k. None)
+
+-- the same with this chance: a reason doesn't depend on chance, nor does a text where nobody is asked and nothing is raced
+abbrev pub output_of : (List ℕ → Bool) → Command → List ℕ → Result Written Reason
+output_of has command input = output_by has no_chance command input
+
+-- the names that the reason may speak of: those in the input's header, none where it has no header within its limits; of an audit those of the refusal
+unfoldable pub names_of : (List ℕ → Bool) → Command → List ℕ → List (List ℕ)
+names_of has (OfJob command) input = names_of_offer has (purpose_of command) input
+names_of has Audit input = names_told (audit_of input)

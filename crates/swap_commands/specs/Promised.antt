@@ -1,0 +1,99 @@
+-- What the program promises of the very histories that a report shows.
+use Rattle.std.specs.Prelude.{◌≡◌, ◌≤◌, ◌*◌, ℕ, Bool, List, [], Result, Ok}
+use Rattle.swap_base.specs.Lists.{IsIn}
+use Rattle.ledger_core.specs.Book.{Histories}
+use Rattle.deviator_script.specs.declared.event.Event.{Event}
+use Rattle.deviator_script.specs.declared.job.Job.{Job}
+use Rattle.deviator_script.specs.declared.job.Finish.TheVariants.{Fair}
+use Rattle.swap_rules.specs.declared.finding.Finding.TheVariants.{Late}
+use Rattle.swap_rules.specs.declared.finding.Rule.{Rule}
+use Rattle.swap_rules.specs.Accepted.{IsAccepted}
+use Rattle.swap_rules.specs.Outcome.{IsEnded}
+use Rattle.swap_laws.specs.Laws.{FindsNothing, IsTransferred}
+use Rattle.swap_run.specs.Laws.{IsKept}
+use Rattle.swap_run.specs.Asked.{Answers}
+use Rattle.swap_world.specs.Cast.{cast_of}
+use Rattle.swap_world.specs.Gone.{Gives}
+use Rattle.outcome_rules.specs.declared.report.Report.{Report}
+use Rattle.outcome_rules.specs.Report.{conforms_in}
+use Rattle.outcome_rules.specs.Promises.{AllAreConforming, AllAreWhole, AllHaveRefunds, NoneIsUnderwater, shown_outcome}
+use Rattle.swap_auditor.specs.Audit.{UnitsAddUp}
+use Rattle.audit_command.specs.Output.{Written}
+use Rattle.audit_command.specs.Promised.{IsAudit}
+use Rattle.refusals.specs.declared.reason.Reason.{Reason}
+use Rattle.swap_offer.specs.Job.{job_of}
+use Rattle.party_threads.specs.Race.{IsRaceBook}
+use Rattle.swap_commands.specs.Output.{AreGiven, Chance, book_of, state_of, purpose_of, report_for, reported, told}
+use Rattle.made_jobs.specs.Making.{IsMade}
+use Rattle.swap_commands.specs.declared.words.Command.{Command}
+use Rattle.swap_commands.specs.declared.words.Command.TheVariants.{OfJob, Audit}
+use Rattle.swap_commands.specs.declared.words.JobCommand.{JobCommand}
+use Rattle.swap_commands.specs.declared.words.JobCommand.TheVariants.{Check, Run, Race, Make}
+
+-- What a run and a race promise of their histories, where r is the report.
+pub record IsPromised (job : Job) (b : Histories) (r : Report) : Type 0 where
+  pub accepted : IsAccepted job.deal
+  -- whatever the others do, the book is legal and every conforming party is conducted
+  pub kept : IsKept (cast_of job) b
+  pub units : UnitsAddUp job.deal b
+  -- a conforming party against which nothing is found doesn't end underwater, and has its refunds
+  pub safe : NoneIsUnderwater job.deal job.conforming (shown_outcome r) r.findings
+  pub refunds : AllHaveRefunds job.deal job.conforming b r.findings
+  -- where all conform and nothing is found, all is transferred, and the report shows each party with the whole deal
+  pub transfer : AllAreConforming job.deal job.conforming → r.findings ≡ [] → IsTransferred job.deal b accepted
+  pub whole : AllAreConforming job.deal job.conforming → r.findings ≡ [] → AllAreWhole job.deal r
+  -- where nothing is found, every ledger has ended, and every conforming party kept what the laws ask for
+  pub nothing : r.findings ≡ [] → FindsNothing job.deal (conforms_in job.conforming) b
+
+-- A run that wrote its output, the report or the transcript, where strategies answered a: its job and its events, as they were read, and what it promises.
+pub record IsRun (gives : Gives) (a : Answers) (transcript : Bool) (read : Result (Job × List Event) Reason) (output : Written) : Type 0 where
+  pub job : Job
+  pub events : List Event
+  pub is_read : read ≡ Ok (job, events)
+  -- each answer is one that its strategy may give to what it was asked
+  pub given : AreGiven gives job.deal a (state_of a job events).asked
+  pub shown : output ≡ reported transcript job (book_of a job events)
+  pub promised : IsPromised job (book_of a job events) (report_for job (book_of a job events))
+  -- a fair finish ends every ledger
+  pub ended : job.finish ≡ Fair → IsEnded job.deal (book_of a job events)
+  -- and where all conform and no event came before it, nothing is found
+  pub fair : job.finish ≡ Fair → events ≡ [] → AllAreConforming job.deal job.conforming → (report_for job (book_of a job events)).findings ≡ []
+
+-- A race that wrote its output, the report or the transcript: its job, as it was read without an event, the book that it came to, and what it promises.
+pub record IsRace (gives : Gives) (b : Histories) (ticks : ℕ) (transcript : Bool) (read : Result (Job × List Event) Reason) (output : Written) : Type 0 where
+  pub job : Job
+  pub is_read : read ≡ Ok (job, [])
+  -- the book is what a race of so many ticks a round makes, whatever the order of its threads
+  pub raced : IsRaceBook gives (cast_of job) ticks b
+  pub shown : output ≡ reported transcript job b
+  pub promised : IsPromised job b (report_for job b)
+  -- nobody is named late where two rounds' ticks fit in delta
+  pub on_time : 2 * ticks ≤ job.deal.delta → (v : ℕ) (rule : Rule) (a due : ℕ) → ¬ IsIn (Late v rule a due) (report_for job b).findings
+  -- and where all conform besides, nothing is found
+  pub dealt : 2 * ticks ≤ job.deal.delta → AllAreConforming job.deal job.conforming → (report_for job b).findings ≡ []
+
+-- A check that wrote its output: its job and its events, as they were read, and the deal is accepted.
+pub record IsCheck (read : Result (Job × List Event) Reason) (output : Written) : Type 0 where
+  pub job : Job
+  pub events : List Event
+  pub is_read : read ≡ Ok (job, events)
+  pub shown : output ≡ told job
+  pub accepted : IsAccepted job.deal
+
+-- A plain job that was made: it was read, and what is made of it is accepted, with each party's own keys.
+pub record IsMaking (read : Result (Job × List Event) Reason) (output : Written) : Type 0 where
+  pub job : Job
+  pub is_read : read ≡ Ok (job, [])
+  pub made : IsMade job
+
+-- what the output of a command promises, by what was read of a job
+abbrev pub AsRead : Gives → Chance → JobCommand → Result (Job × List Event) Reason → Written → Type 0
+AsRead gives chance (Run transcript) read output = IsRun gives chance.answers transcript read output
+AsRead gives chance (Race ticks transcript) read output = IsRace gives chance.book ticks transcript read output
+AsRead gives chance Check read output = IsCheck read output
+AsRead gives chance Make read output = IsMaking read output
+
+-- what the output of a command promises for an input, where chance decided so
+abbrev pub AsPromised : (List ℕ → Bool) → Gives → Chance → Command → List ℕ → Written → Type 0
+AsPromised has gives chance (OfJob command) input output = AsRead gives chance command (job_of has (purpose_of command) input) output
+AsPromised has gives chance Audit input output = IsAudit input output

@@ -1,0 +1,115 @@
+-- A replay: something that steps at each event line.
+use Rattle.std.specs.Prelude.{◌≡◌, ℕ, Bool, List, [], ◌∷◌, fold, Result, Ok, Err}
+use Rattle.swap_base.specs.Fault.{◌>>=◌}
+use Rattle.deviator_script.specs.declared.job.Job.{Job}
+use Rattle.deviator_script.specs.declared.event.Event.{Event}
+use Rattle.deviator_script.specs.declared.job.Purpose.{Purpose}
+use Rattle.deviator_script.specs.declared.job.Purpose.TheVariants as purposes
+use Rattle.refusals.specs.declared.reason.Reason.{Reason}
+use Rattle.refusals.specs.declared.reason.Reason.TheVariants.{NotJson}
+use Rattle.swap_offer.specs.Job.{events_of, next_of, job_header_of}
+use Rattle.swap_offer.specs.Lines.{lines_of, filled_lines}
+use Rattle.swap_run.specs.Asked.{Answers}
+use Rattle.swap_run.specs.Run.{State, step, start}
+use Rattle.ledger_core.specs.Book.{Histories}
+use Rattle.swap_world.specs.Gone.{Gives}
+use Rattle.swap_world.specs.Cast.{cast_of}
+use Rattle.swap_world.specs.Value.{Continues, WorldState}
+use Rattle.swap_gen.specs.Made.{made}
+use Rattle.made_jobs.specs.Making.{copied, written_line}
+use Rattle.swap_commands.specs.Output.{AreGiven, Chance, cast_by, finished, plain_text, reported, told}
+use Rattle.audit_command.specs.Output.{Written}
+use Rattle.swap_commands.specs.declared.words.JobCommand.{JobCommand}
+use Rattle.swap_commands.specs.declared.words.JobCommand.TheVariants.{Check, Run, Race, Make}
+
+-- what f makes of x along the events of lines, where so many came before
+unfoldable pub replayed : {A : Type 0} → (A → Event → A) → Job → ℕ → A → List (ℕ × List ℕ) → Result A Reason
+replayed f job count x lines = events_of job count lines >>= λ events. Ok (fold f x events)
+
+-- what f makes of x by the event of a line
+unfoldable pub next_by : {A : Type 0} → (A → Event → A) → Job → ℕ → A → ℕ → List ℕ → Result A Reason
+next_by f job count x line text = next_of job count line text >>= λ e. Ok (f x e)
+
+-- The world is of the job: of its deal, with its parties, their seeds and their roles.
+pub record IsOf (job : Job) (w : WorldState) : Type 0 where
+  pub deal : w.deal ≡ job.deal
+  pub conforming : w.conforming ≡ job.conforming
+  pub seeds : w.seeds ≡ job.seeds
+  pub roles : w.roles ≡ job.roles
+
+-- The world w was finished with these histories, where strategies answered so, with each answer one that may be given.
+pub record IsConcluded (gives : Gives) (job : Job) (w : WorldState) (b : Histories) : Type 0 where
+  pub answers : Answers
+  pub continues : Continues w answers
+  pub given : AreGiven gives job.deal answers (finished job.finish (cast_by answers job) w.state).asked
+  pub book : b ≡ (finished job.finish (cast_by answers job) w.state).book
+
+-- an event is read and passed over
+abbrev pub passed_over : Unit {0} → Event → Unit {0}
+passed_over u e = u
+
+-- The lines of an input that isn't blank: its header is that of a job, and a walk along the others leads to y.
+pub record IsRead {A : Type 0} (has : List ℕ → Bool) (purpose : Purpose) (walk : Job → List (ℕ × List ℕ)
+    → Result A Reason) (bytes : List ℕ) (job : Job) (y : A) : Type 0 where
+  pub line : ℕ
+  pub text : List ℕ
+  pub others : List (ℕ × List ℕ)
+  pub lines : filled_lines 1 (lines_of bytes) ≡ (line, text) ∷ others
+  pub header : job_header_of has purpose line text ≡ Ok job
+  pub leads : walk job others ≡ Ok y
+
+-- the bytes are a job, and its events lead to the state, where strategies answer a
+abbrev pub IsPlayed : (List ℕ → Bool) → Answers → List ℕ → Job → State → Type 0
+IsPlayed has a bytes job s = IsRead has purposes.Run (λ job. replayed (step (cast_by a job)) job 0 (start (cast_of job))) bytes job s
+
+-- the bytes are a job with its events
+abbrev pub IsChecked : (List ℕ → Bool) → List ℕ → Job → Type 0
+IsChecked has bytes job = IsRead has purposes.Check (λ job. replayed passed_over job 0 tt) bytes job tt
+
+-- the bytes are the job of a race, and its further lines were passed over
+abbrev pub IsEntered : (List ℕ → Bool) → List ℕ → Job → Type 0
+IsEntered has bytes job = IsRead has purposes.Race (λ job. replayed passed_over job 0 tt) bytes job tt
+
+-- the bytes are a plain job, and its made header and its further lines are the text
+abbrev pub IsCopied : (List ℕ → Bool) → List ℕ → Job → List ℕ → Type 0
+IsCopied has bytes job text = IsRead has purposes.Make (λ job. copied 0 (written_line (made job))) bytes job text
+
+-- what a run writes, where strategies answer a
+unfoldable pub of_run : (List ℕ → Bool) → Answers → Bool → ℕ → List ℕ → List (ℕ × List ℕ) → Result Written Reason
+of_run has a transcript line text ls = do
+  job ← job_header_of has purposes.Run line text
+  s ← replayed (step (cast_by a job)) job 0 (start (cast_of job)) ls
+  Ok (reported transcript job (finished job.finish (cast_by a job) s).book)
+
+-- what a race writes that comes to the book b
+unfoldable pub of_race : (List ℕ → Bool) → Histories → Bool → ℕ → List ℕ → List (ℕ × List ℕ) → Result Written Reason
+of_race has b transcript line text ls = do
+  job ← job_header_of has purposes.Race line text
+  u ← replayed passed_over job 0 tt ls
+  Ok (reported transcript job b)
+
+-- what a check writes
+unfoldable pub of_check : (List ℕ → Bool) → ℕ → List ℕ → List (ℕ × List ℕ) → Result Written Reason
+of_check has line text ls = do
+  job ← job_header_of has purposes.Check line text
+  u ← replayed passed_over job 0 tt ls
+  Ok (told job)
+
+-- what a command that makes a job writes
+unfoldable pub of_make : (List ℕ → Bool) → ℕ → List ℕ → List (ℕ × List ℕ) → Result Written Reason
+of_make has line text ls = do
+  job ← job_header_of has purposes.Make line text
+  t ← copied 0 (written_line (made job)) ls
+  Ok (plain_text t)
+
+-- what is written for the header and the further lines of a job
+abbrev pub of_header : (List ℕ → Bool) → Chance → JobCommand → ℕ → List ℕ → List (ℕ × List ℕ) → Result Written Reason
+of_header has chance (Run transcript) line text ls = of_run has chance.answers transcript line text ls
+of_header has chance (Race ticks transcript) line text ls = of_race has chance.book transcript line text ls
+of_header has chance Check line text ls = of_check has line text ls
+of_header has chance Make line text ls = of_make has line text ls
+
+-- what is written for the lines of a job
+abbrev pub of_lines : (List ℕ → Bool) → Chance → JobCommand → List (ℕ × List ℕ) → Result Written Reason
+of_lines has chance command [] = Err (NotJson 1)
+of_lines has chance command (l ∷ ls) = of_header has chance command l.0 l.1 ls

@@ -1,0 +1,41 @@
+//! The command `audit`: a transcript is read, its ledgers are replayed, and the report is written.
+
+ghost use Rattle.std.specs.Prelude.{◌≡◌};
+ghost use Rattle.offer_header.specs.Names.{has_strategy};
+ghost use Rattle.swap_commands.specs.Says.{Says, status_by};
+
+use crate::status::Status;
+use crate::words::Command;
+use audit_command::{AuditEnding, audit as audit_all};
+use deviator_script::{Kit, Strategies};
+use std::alloc::Global;
+use swap_io::{Sink, Source};
+
+/// The status of an audit, by its ending.
+fn status_by(ending: AuditEnding) -> Status
+    ensures { result ≡ status_by ending }
+{
+    match ending {
+        AuditEnding::Done => Status::Done,
+        AuditEnding::Named => Status::Named,
+        AuditEnding::Refused(refusal) => Status::Refused(refusal.reason, refusal.names),
+        AuditEnding::ReadFault => Status::ReadFault,
+        AuditEnding::WriteFault => Status::WriteFault,
+        AuditEnding::NoMemory => Status::NoMemory,
+        AuditEnding::TooLong => Status::TooLong,
+    }
+}
+
+/// Audits a transcript, in which no strategy is asked.
+pub(crate) fn audit<S: Source, K: Sink>(
+    alloc: Global,
+    _kit: &Kit,
+    source: &mut S,
+    sink: &mut K,
+) -> Status
+    ensures { Says (has_strategy _kit.now.names _kit.now.strategies.items) (⟦<Kit as Strategies>⟧.gives _kit.now) Command.Audit (S.left source.old)
+        (S.left source.new) (S.faults source.old) (S.faults source.new) (K.taken sink.old) (K.taken sink.new)
+        (K.faults sink.old) (K.faults sink.new) result }
+{
+    status_by(audit_all(alloc, source, sink))
+}

@@ -1,0 +1,111 @@
+//! The command `check`: an offer is examined, and its times are written.
+
+ghost use Rattle.std.specs.Prelude.{◌≡◌, ◌≤◌, IfOk, IfErr};
+ghost use Rattle.swap_digraph.specs.Deal.{IsWellSized};
+ghost use Rattle.swap_rules.specs.Accepted.{IsAccepted};
+ghost use Rattle.swap_offer.specs.Checks.{need_of};
+ghost use Rattle.offer_header.specs.Names.{has_strategy};
+ghost use Rattle.swap_commands.specs.Input.{Ends, Stops, fresh};
+ghost use Rattle.swap_commands.specs.Output.{check_text, told};
+ghost use Rattle.swap_commands.specs.Replay.{IsChecked};
+ghost use Rattle.swap_commands.specs.Says.{IsAgainst, Says, Writes};
+
+use crate::fault::InputFault;
+use crate::header::first_line;
+use crate::input::Input;
+use crate::replay::pass_over;
+use crate::status::Status;
+use crate::stop::stop;
+use crate::words::{Command, JobCommand};
+use deviator_script::{Job, Kit, Strategies};
+use refusals::Refusal;
+use std::alloc::Global;
+use swap_base::{ByteText, NoMemory, Piece, put};
+use swap_digraph::Deal;
+use swap_io::{Sink, Source, write_all};
+use swap_offer::Prepared;
+use time_bounds::{horizon, last_expiry, open_by};
+
+/// What a check writes for an accepted deal.
+#[tactic(auto, unfolding(crate::specs::Output::check_text))]
+fn check_text(alloc: Global, deal: &Deal, need: u32) -> Result<ByteText, NoMemory>
+    requires sized { IsWellSized deal.now }
+    requires need { need ≡ need_of deal.now }
+    ensures { IfOk result (λ t. t ≡ check_text deal.now) }
+{
+    let mut out = Vec::new(alloc);
+    put(
+        &mut out,
+        &[
+            Piece::Text("swap accepted\nneed "),
+            Piece::Number(need as u64),
+            Piece::Text("\nopen by "),
+            Piece::Number(open_by(deal.start, deal.delta, deal.bound)),
+            Piece::Text("\nexpiry "),
+            Piece::Number(last_expiry(deal.start, deal.delta, deal.bound)),
+            Piece::Text("\nhorizon "),
+            Piece::Number(horizon(deal.start, deal.delta, deal.bound)),
+            Piece::Text("\n"),
+        ],
+    )?;
+    Ok(ByteText::new(out))
+}
+
+/// The job of an input whose lines are all examined, and the least bound that it may have.
+fn examine<S: Source>(
+    alloc: Global,
+    kit: &Kit,
+    input: &mut Input,
+    source: &mut S,
+) -> Result<(Job, u32), InputFault<Refusal>>
+    requires { input.old ≡ fresh }
+    ensures checked { IfOk result (λ j. Ends (λ bytes. IsChecked (has_strategy kit.now.names kit.now.strategies.items) bytes j.0) (S.left source.old)
+        (S.left source.new) fresh input.new) }
+    ensures accepted { IfOk result (λ j. IsAccepted j.0.deal) }
+    ensures sized { IfOk result (λ j. IsWellSized j.0.deal) }
+    ensures need { IfOk result (λ j. j.1 ≡ need_of j.0.deal) }
+    ensures stops { IfErr result (λ e. Stops (IsAgainst (has_strategy kit.now.names kit.now.strategies.items) (Command.OfJob JobCommand.Check))
+        (S.left source.old) (S.left source.new) (S.faults source.old)
+        (S.faults source.new) fresh input.new e) }
+    ensures later { S.faults source.old ≤ S.faults source.new }
+{
+    let Prepared { job, need, .. } = first_line(alloc, kit, JobCommand::Check, input, source)?;
+    match pass_over(alloc, &job, input, source) {
+        Ok(()) => Ok((job, need)),
+        Err(fault) => Err(fault.with_names(job.names)),
+    }
+}
+
+/// Writes the text of a checked offer.
+fn tell<K: Sink>(alloc: Global, sink: &mut K, job: &Job, need: u32) -> Status
+    requires sized { IsWellSized job.now.deal }
+    requires need { need ≡ need_of job.now.deal }
+    ensures { Writes (K.taken sink.old) (K.taken sink.new) (K.faults sink.old) (K.faults sink.new) (told job.now) result }
+{
+    let Ok(text) = check_text(alloc, &job.deal, need) else {
+        return Status::NoMemory;
+    };
+    match write_all(sink, text.as_slice()) {
+        Ok(()) => Status::Done,
+        Err(_) => Status::WriteFault,
+    }
+}
+
+/// Checks an offer.
+pub(crate) fn check<S: Source, K: Sink>(
+    alloc: Global,
+    kit: &Kit,
+    input: &mut Input,
+    source: &mut S,
+    sink: &mut K,
+) -> Status
+    requires { input.old ≡ fresh }
+    ensures { Says (has_strategy kit.now.names kit.now.strategies.items) (⟦<Kit as Strategies>⟧.gives kit.now) (Command.OfJob JobCommand.Check)
+        (S.left source.old) (S.left source.new) (S.faults source.old) (S.faults source.new)
+        (K.taken sink.old) (K.taken sink.new) (K.faults sink.old) (K.faults sink.new) result }
+{
+    match examine(alloc, kit, input, source) {
+        Ok((job, need)) => tell(alloc, sink, &job, need),
+        Err(fault) => stop(input, source, fault),
+    }
+}

@@ -1,0 +1,33 @@
+//! What is done after a job's last event.
+
+ghost use Rattle.std.specs.Prelude.{◌≡◌, false, OnOk};
+ghost use Rattle.swap_rules.specs.Outcome.{IsEnded};
+ghost use Rattle.swap_laws.specs.Laws.{IsDealt};
+ghost use Rattle.swap_run.specs.Run.{start};
+ghost use Rattle.swap_world.specs.Cast.{cast_of};
+ghost use Rattle.swap_world.specs.Gone.{HasGone};
+ghost use Rattle.swap_world.specs.Staff.{AreHeld};
+ghost use Rattle.outcome_rules.specs.Report.{conforms_in};
+ghost use Rattle.outcome_rules.specs.Promises.{AllAreConforming};
+ghost use Rattle.swap_commands.specs.Output.{finished};
+ghost use Rattle.swap_commands.specs.Replay.{IsOf};
+
+use deviator_script::{Finish, Job, Strategies};
+use swap_base::NoMemory;
+use swap_world::World;
+
+/// Finishes the world as its job asks.
+pub(crate) fn finish<T: Strategies>(world: &mut World, kit: &T, job: &Job) -> Result<(), NoMemory>
+    requires kit { AreHeld (T.holds kit.now) job.now.roles }
+    requires of { IsOf job.now world.old }
+    requires goes_on { world.old.stopped ≡ false }
+    ensures gone { OnOk result (HasGone (T.gives kit.now) (finished job.now.finish) world.old world.new) }
+    ensures ended { OnOk result (job.now.finish ≡ Finish.Fair → IsEnded job.now.deal world.new.state.book) }
+    ensures dealt { OnOk result (job.now.finish ≡ Finish.Fair → world.old.state ≡ start (cast_of job.now) → AllAreConforming job.now.deal job.now.conforming
+        → IsDealt job.now.deal (conforms_in job.now.conforming) world.new.state.book) }
+{
+    match job.finish {
+        Finish::Stop => Ok(()),
+        Finish::Fair => world.finish_fair(kit),
+    }
+}

@@ -1,0 +1,67 @@
+//! The command `gen`: the job of a number is written, or its run is summarized. Nothing is read.
+
+ghost use Rattle.std.specs.Prelude.{◌≡◌, ◌≤◌, true, false};
+ghost use Rattle.swap_commands.specs.Says.{Writes};
+ghost use Rattle.swap_commands.specs.Generated.{generated_output, summary_output, text_output};
+
+use crate::status::Status;
+use crate::words::Request;
+use made_jobs::{Summary, summarize, write_generated};
+use std::alloc::Global;
+use swap_io::{Sink, TextFault, write_all};
+
+/// Writes the job with its events.
+fn write_job<K: Sink>(alloc: Global, request: Request, sink: &mut K) -> Status
+    requires low { 2 ≤ request.parties }
+    requires high { request.parties ≤ 24 }
+    ensures { Writes (K.taken sink.old) (K.taken sink.new) (K.faults sink.old) (K.faults sink.new) (text_output request) result }
+{
+    match write_generated(alloc, sink, request.seed, request.parties, request.events) {
+        Ok(()) => Status::Done,
+        Err(TextFault::WriteFault) => Status::WriteFault,
+        Err(TextFault::NoMemory) => Status::NoMemory,
+    }
+}
+
+/// Writes a summary.
+fn tell<K: Sink>(sink: &mut K, request: Request, summary: &Summary) -> Status
+    requires text { summary.now.text ≡ (summary_output request).text }
+    requires found { summary.now.found ≡ (summary_output request).found }
+    ensures { Writes (K.taken sink.old) (K.taken sink.new) (K.faults sink.old) (K.faults sink.new) (summary_output request) result }
+{
+    match write_all(sink, summary.text.as_slice()) {
+        Ok(()) => {
+            if summary.found {
+                Status::Named
+            } else {
+                Status::Done
+            }
+        }
+        Err(_) => Status::WriteFault,
+    }
+}
+
+/// Runs the job and its events, and writes the summary.
+fn write_summary<K: Sink>(alloc: Global, request: Request, sink: &mut K) -> Status
+    requires low { 2 ≤ request.parties }
+    requires high { request.parties ≤ 24 }
+    ensures { Writes (K.taken sink.old) (K.taken sink.new) (K.faults sink.old) (K.faults sink.new) (summary_output request) result }
+{
+    match summarize(alloc, request.seed, request.parties, request.events) {
+        Ok(summary) => tell(sink, request, &summary),
+        Err(_) => Status::NoMemory,
+    }
+}
+
+/// Makes the job of a number, and writes what is asked for.
+pub fn generate<K: Sink>(alloc: Global, request: Request, sink: &mut K) -> Status
+    requires low { 2 ≤ request.parties }
+    requires high { request.parties ≤ 24 }
+    ensures { Writes (K.taken sink.old) (K.taken sink.new) (K.faults sink.old) (K.faults sink.new) (generated_output request) result }
+{
+    if request.summary {
+        write_summary(alloc, request, sink)
+    } else {
+        write_job(alloc, request, sink)
+    }
+}

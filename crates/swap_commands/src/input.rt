@@ -1,0 +1,136 @@
+//! An input that is read line by line.
+
+ghost use Rattle.std.specs.Prelude.{◌≡◌, ◌<◌, ◌≤◌, ◌+◌, [], length, true, false, IfOk, IfErr, OnOk};
+ghost use Rattle.swap_commands.specs.Input.{At, Breaks, EndsAt, Fails, Gives, IsDrained, Reads, fresh, limit, past_empty, to_go};
+
+use std::alloc::Global;
+use std::marker::Model;
+use swap_base::NoMemory;
+use swap_io::{DrainFault, LineEnd, LineFault, Lines, Source};
+use swap_offer::is_blank;
+
+/// The most bytes of an input.
+const LIMIT: usize = 16_777_216;
+
+/// How far an input was read: the last line that was given, and its number.
+#[derive(Drop)]
+pub(crate) struct Input {
+    lines: Lines,
+    line: Vec<u8>,
+    number: u32,
+    over: bool,
+}
+
+impl Model for Input {
+    ghost Value = { At };
+
+    ghost view = { λ i. record { reading = i.lines; number = i.number; text = i.line.items; over = i.over } };
+
+    ghost invariant = { λ i. (i.lines.limit ≡ limit) × (i.number + length i.lines.kept ≤ i.lines.taken)
+        × (i.over ≡ true → (i.lines.kept ≡ []) × (i.lines.taken ≤ limit)) };
+}
+
+impl Input {
+    pub(crate) fn new(alloc: Global) -> Result<Input, NoMemory>
+        ensures { IfOk result (λ i. i ≡ fresh) }
+    {
+        Ok(Input {
+            lines: Lines::new(alloc, LIMIT)?,
+            line: Vec::new(alloc),
+            number: 0,
+            over: false,
+        })
+    }
+
+    /// The last line that was given, without its line feed.
+    pub(crate) fn text(&self) -> &[u8]
+        ensures { result.now ≡ self.now.text }
+    {
+        &self.line
+    }
+
+    /// Its number, from 1.
+    pub(crate) fn number(&self) -> u32
+        ensures { result ≡ self.now.number }
+    {
+        self.number
+    }
+
+    /// Reads one line, blank or not, and answers whether there was one.
+    fn read_line<S: Source>(&mut self, source: &mut S) -> Result<bool, LineFault>
+        requires open_yet { self.old.over ≡ false }
+        ensures reads { IfOk result (λ more. Reads more (S.left source.old) (S.left source.new) self.old self.new) }
+        ensures within { IfOk result (λ _. self.new.reading.taken ≤ limit) }
+        ensures few { IfOk result (λ _. self.new.number ≤ limit) }
+        ensures shorter { IfOk result (λ _. to_go self.new < to_go self.old) }
+        ensures ended { IfOk result (λ _. EndsAt (S.left source.new) self.new) }
+        ensures fails { IfErr result (λ e. Fails (S.left source.old) (S.left source.new) (S.faults source.old) (S.faults source.new) self.old self.new e) }
+        ensures later { S.faults source.old ≤ S.faults source.new }
+    {
+        match self.lines.next(source, &mut self.line)? {
+            LineEnd::Ended => {
+                self.number += 1;
+                Ok(true)
+            }
+            LineEnd::Rest => {
+                self.number += 1;
+                self.over = true;
+                Ok(true)
+            }
+            LineEnd::End => {
+                self.over = true;
+                Ok(false)
+            }
+        }
+    }
+
+    /// Passes over the empty lines that were taken already, without copying them.
+    fn pass_empty(&mut self)
+        ensures { self.new ≡ past_empty self.old }
+    {
+        self.number += self.lines.pass_feeds() as u32;
+    }
+
+    /// Goes to the next line that isn't blank, and answers whether there is one.
+    pub(crate) fn next<S: Source>(&mut self, source: &mut S) -> Result<bool, LineFault>
+        requires ended { EndsAt (S.left source.old) self.old }
+        ensures gives { IfOk result (λ more. Gives more (S.left source.old) (S.left source.new) self.old self.new) }
+        ensures within { IfOk result (λ _. self.new.reading.taken ≤ limit) }
+        ensures few { IfOk result (λ _. self.new.number ≤ limit) }
+        ensures ended { IfOk result (λ _. EndsAt (S.left source.new) self.new) }
+        ensures fails { IfErr result (λ e. Fails (S.left source.old) (S.left source.new) (S.faults source.old) (S.faults source.new) self.old self.new e) }
+        ensures later { S.faults source.old ≤ S.faults source.new }
+    {
+        'lines: while !self.is_over() {
+            if !self.read_line(source)? {
+                return Ok(false);
+            }
+            if !is_blank(self.text()) {
+                return Ok(true);
+            }
+            self.pass_empty();
+        }
+        Ok(false)
+    }
+
+    /// Whether the end was met.
+    fn is_over(&self) -> bool
+        ensures over { result ≡ self.now.over }
+        ensures kept { self.now.over ≡ true → (self.now.reading.kept ≡ []) × (self.now.reading.taken ≤ limit) }
+        ensures few { self.now.over ≡ true → self.now.number ≤ limit }
+    {
+        self.over
+    }
+
+    /// Takes the rest of the input.
+    pub(crate) fn drain<S: Source>(&mut self, source: &mut S) -> Result<(), DrainFault>
+        ensures drained { OnOk result (IsDrained (S.left source.old) (S.left source.new) self.old self.new) }
+        ensures fails { IfErr result (λ e. Breaks (S.left source.old) (S.left source.new) (S.faults source.old) (S.faults source.new) self.old self.new e) }
+        ensures later { S.faults source.old ≤ S.faults source.new }
+    {
+        if self.over {
+            return Ok(());
+        }
+        self.lines.drain(source)
+    }
+}

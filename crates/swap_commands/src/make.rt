@@ -1,0 +1,96 @@
+//! The command `make`: a plain job is made, and its further lines are copied.
+
+ghost use Rattle.std.specs.Prelude.{◌≡◌, ◌≤◌, IfOk, IfErr, OnOk, Ok, Err};
+ghost use Rattle.made_jobs.specs.Making.{copied, IsMade};
+ghost use Rattle.offer_header.specs.Names.{has_strategy};
+ghost use Rattle.swap_commands.specs.Input.{Ends, EndsAt, Stops, ahead, fresh};
+ghost use Rattle.swap_commands.specs.Output.{plain_text};
+ghost use Rattle.swap_commands.specs.Replay.{IsCopied};
+ghost use Rattle.swap_commands.specs.Says.{IsAgainst, Says, Writes};
+
+use crate::fault::InputFault;
+use crate::header::first_line;
+use crate::input::Input;
+use crate::status::Status;
+use crate::stop::stop;
+use crate::words::{Command, JobCommand};
+use deviator_script::{Job, Kit, Strategies};
+use made_jobs::{copy_line, made_line};
+use refusals::{Reason, Refusal};
+use std::alloc::Global;
+use swap_io::{Sink, Source, write_all};
+use swap_offer::Prepared;
+
+/// Puts the lines ahead behind a text, each with a line feed.
+fn copy_lines<S: Source>(
+    alloc: Global,
+    text: &mut Vec<u8>,
+    input: &mut Input,
+    source: &mut S,
+) -> Result<(), InputFault<Reason>>
+    requires ended { EndsAt (S.left source.old) input.old }
+    ensures exact { OnOk result (Ends (λ bytes. copied 0 text.old.items (ahead input.old bytes) ≡ Ok text.new.items) (S.left source.old)
+        (S.left source.new) input.old input.new) }
+    ensures stops { IfErr result (λ e. Stops (λ bytes reason. copied 0 text.old.items (ahead input.old bytes) ≡ Err reason)
+        (S.left source.old) (S.left source.new) (S.faults source.old) (S.faults source.new) input.old input.new e) }
+    ensures later { S.faults source.old ≤ S.faults source.new }
+{
+    let mut count: u32 = 0;
+    'lines: while input.next(source)? {
+        count = copy_line(alloc, text, count, input.number(), input.text())?;
+    }
+    Ok(())
+}
+
+/// The text that is made of an input, and the plain job that it was read as.
+fn copy<S: Source>(
+    alloc: Global,
+    kit: &Kit,
+    input: &mut Input,
+    source: &mut S,
+) -> Result<(Job, Vec<u8>), InputFault<Refusal>>
+    requires { input.old ≡ fresh }
+    ensures copied { IfOk result (λ c. Ends (λ bytes. IsCopied (has_strategy kit.now.names kit.now.strategies.items) bytes c.0 c.1.items)
+        (S.left source.old) (S.left source.new) fresh input.new) }
+    ensures made { IfOk result (λ c. IsMade c.0) }
+    ensures stops { IfErr result (λ e. Stops (IsAgainst (has_strategy kit.now.names kit.now.strategies.items) (Command.OfJob JobCommand.Make))
+        (S.left source.old) (S.left source.new) (S.faults source.old)
+        (S.faults source.new) fresh input.new e) }
+    ensures later { S.faults source.old ≤ S.faults source.new }
+{
+    let Prepared { job, .. } = first_line(alloc, kit, JobCommand::Make, input, source)?;
+    let mut text = made_line(alloc, &job)?;
+    match copy_lines(alloc, &mut text, input, source) {
+        Ok(()) => Ok((job, text)),
+        Err(fault) => Err(fault.with_names(job.names)),
+    }
+}
+
+/// Writes a text.
+fn tell<K: Sink>(sink: &mut K, text: &[u8]) -> Status
+    ensures { Writes (K.taken sink.old) (K.taken sink.new) (K.faults sink.old) (K.faults sink.new) (plain_text text.now) result }
+{
+    match write_all(sink, text) {
+        Ok(()) => Status::Done,
+        Err(_) => Status::WriteFault,
+    }
+}
+
+/// Makes a job.
+pub(crate) fn make<S: Source, K: Sink>(
+    alloc: Global,
+    kit: &Kit,
+    input: &mut Input,
+    source: &mut S,
+    sink: &mut K,
+) -> Status
+    requires { input.old ≡ fresh }
+    ensures { Says (has_strategy kit.now.names kit.now.strategies.items) (⟦<Kit as Strategies>⟧.gives kit.now) (Command.OfJob JobCommand.Make)
+        (S.left source.old) (S.left source.new) (S.faults source.old) (S.faults source.new)
+        (K.taken sink.old) (K.taken sink.new) (K.faults sink.old) (K.faults sink.new) result }
+{
+    match copy(alloc, kit, input, source) {
+        Ok((_, text)) => tell(sink, &text),
+        Err(fault) => stop(input, source, fault),
+    }
+}

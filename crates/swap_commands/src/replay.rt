@@ -1,0 +1,151 @@
+//! The events of an input's lines, one after another.
+
+ghost use Rattle.std.specs.Prelude.{◌≡◌, ◌≤◌, true, false, Ok, Err, IfOk, IfErr, OnOk};
+ghost use Rattle.swap_base.specs.Fault.{Gives};
+ghost use Rattle.swap_rules.specs.Accepted.{IsAccepted};
+ghost use Rattle.swap_run.specs.Run.{start, step};
+ghost use Rattle.party_wallet.specs.Wallets.{wallets_of};
+ghost use Rattle.offer_events.specs.Event.{needs_seeds};
+ghost use Rattle.swap_offer.specs.Job.{IsWhole};
+ghost use Rattle.swap_offer.specs.Wallets.{HaveScripts, HaveWallets};
+ghost use Rattle.swap_run.specs.Asked.{Answers};
+ghost use Rattle.swap_world.specs.Cast.{cast_of};
+ghost use Rattle.swap_world.specs.Gone.{HasAsked};
+ghost use Rattle.swap_world.specs.Staff.{AreHeld};
+ghost use Rattle.swap_world.specs.Value.{Continues, new_world};
+ghost use Rattle.swap_commands.specs.Input.{Ends, EndsAt, Stops, ahead};
+ghost use Rattle.swap_commands.specs.Output.{cast_by};
+ghost use Rattle.swap_commands.specs.Replay.{replayed, next_by, passed_over, IsOf};
+
+use crate::fault::InputFault;
+use crate::input::Input;
+use deviator_script::{Job, Strategies};
+use party_wallet::Wallet;
+use refusals::{OfferFault, Reason};
+use std::alloc::Global;
+use swap_base::{Fault, NoMemory};
+use swap_io::Source;
+use swap_offer::next_event;
+use swap_world::World;
+/// Steps the world by the event of a line, where so many events came before.
+#[tactic(auto, unfolding(crate::specs::Replay::next_by))]
+fn step_line<T: Strategies>(
+    alloc: Global,
+    job: &Job,
+    world: &mut World,
+    kit: &T,
+    count: u32,
+    line: u32,
+    text: &[u8],
+) -> Result<(), OfferFault>
+    requires whole { IsWhole job.now }
+    requires seeds { needs_seeds job.now.purpose ≡ true }
+    requires of { IsOf job.now world.old }
+    requires goes_on { world.old.stopped ≡ false }
+    requires kit { AreHeld (T.holds kit.now) job.now.roles }
+    ensures passed { Gives (λ u. u) result (next_by passed_over job.now count tt line text.now) }
+    ensures stepped { OnOk result ((a : Answers) → Continues world.new a
+        → next_by (step (cast_by a job.now)) job.now count world.old.state line text.now ≡ Ok world.new.state) }
+    ensures continued { OnOk result ((a : Answers) → Continues world.new a → Continues world.old a) }
+    ensures asked { OnOk result (HasAsked (T.gives kit.now) world.old world.new) }
+    ensures of { OnOk result (IsOf job.now world.new) }
+    ensures goes_on { OnOk result (world.new.stopped ≡ false) }
+{
+    let event = next_event(alloc, job, count, line, text)?;
+    world.step(kit, &event)?;
+    Ok(())
+}
+
+/// The world of a job whose conforming parties have their wallets.
+fn new_world(alloc: Global, job: &Job, wallets: Vec<Option<Wallet>>) -> Result<World, NoMemory>
+    requires whole { IsWhole job.now }
+    requires accepted { IsAccepted job.now.deal }
+    requires wallets { HaveWallets job.now }
+    requires scripts { HaveScripts job.now }
+    requires made { wallets.items ≡ wallets_of job.now.deal job.now.conforming job.now.seeds }
+    ensures new { IfOk result (λ w. w ≡ new_world job.now) }
+{
+    match World::new(alloc, job, wallets) {
+        Ok(world) => Ok(world),
+        Err(Fault::NoMemory) => Err(NoMemory),
+        Err(Fault::Refused(_)) => unreachable!(),
+    }
+}
+
+/// The world after the events of the lines ahead.
+pub(crate) fn replay<S: Source, T: Strategies>(
+    alloc: Global,
+    job: &Job,
+    wallets: Vec<Option<Wallet>>,
+    kit: &T,
+    input: &mut Input,
+    source: &mut S,
+) -> Result<World, InputFault<Reason>>
+    requires whole { IsWhole job.now }
+    requires seeds { needs_seeds job.now.purpose ≡ true }
+    requires accepted { IsAccepted job.now.deal }
+    requires wallets { HaveWallets job.now }
+    requires scripts { HaveScripts job.now }
+    requires made { wallets.items ≡ wallets_of job.now.deal job.now.conforming job.now.seeds }
+    requires kit { AreHeld (T.holds kit.now) job.now.roles }
+    requires ended { EndsAt (S.left source.old) input.old }
+    // Whatever strategies may answer after the last event.
+    ensures exact { IfOk result (λ w. (a : Answers) → Continues w a
+        → Ends (λ bytes. replayed (step (cast_by a job.now)) job.now 0 (start (cast_of job.now)) (ahead input.old bytes) ≡ Ok w.state)
+        (S.left source.old) (S.left source.new) input.old input.new) }
+    ensures asked { IfOk result (λ w. HasAsked (T.gives kit.now) (new_world job.now) w) }
+    ensures of { IfOk result (λ w. IsOf job.now w) }
+    ensures goes_on { IfOk result (λ w. w.stopped ≡ false) }
+    ensures stops { IfErr result (λ e. Stops (λ bytes reason. replayed passed_over job.now 0 tt (ahead input.old bytes) ≡ Err reason)
+        (S.left source.old) (S.left source.new) (S.faults source.old) (S.faults source.new) input.old input.new e) }
+    ensures later { S.faults source.old ≤ S.faults source.new }
+{
+    let mut world = new_world(alloc, job, wallets)?;
+    let mut count: u32 = 0;
+    'lines: while input.next(source)? {
+        step_line(
+            alloc,
+            job,
+            &mut world,
+            kit,
+            count,
+            input.number(),
+            input.text(),
+        )?;
+        count += 1;
+    }
+    Ok(world)
+}
+
+/// Reads the event of a line, where so many events came before.
+#[tactic(auto, unfolding(crate::specs::Replay::next_by))]
+fn pass_line(alloc: Global, job: &Job, count: u32, line: u32, text: &[u8]) -> Result<(), OfferFault>
+    requires { IsWhole job.now }
+    ensures { Gives (λ u. u) result (next_by passed_over job.now count tt line text.now) }
+{
+    next_event(alloc, job, count, line, text)?;
+    Ok(())
+}
+
+/// Reads the events of the lines ahead.
+pub(crate) fn pass_over<S: Source>(
+    alloc: Global,
+    job: &Job,
+    input: &mut Input,
+    source: &mut S,
+) -> Result<(), InputFault<Reason>>
+    requires whole { IsWhole job.now }
+    requires ended { EndsAt (S.left source.old) input.old }
+    ensures exact { OnOk result (Ends (λ bytes. replayed passed_over job.now 0 tt (ahead input.old bytes) ≡ Ok tt) (S.left source.old)
+        (S.left source.new) input.old input.new) }
+    ensures stops { IfErr result (λ e. Stops (λ bytes reason. replayed passed_over job.now 0 tt (ahead input.old bytes) ≡ Err reason)
+        (S.left source.old) (S.left source.new) (S.faults source.old) (S.faults source.new) input.old input.new e) }
+    ensures later { S.faults source.old ≤ S.faults source.new }
+{
+    let mut count: u32 = 0;
+    'lines: while input.next(source)? {
+        pass_line(alloc, job, count, input.number(), input.text())?;
+        count += 1;
+    }
+    Ok(())
+}

@@ -1,0 +1,189 @@
+//! The command `run`: the events of a job are replayed, its finish is made, and the report is written, or the transcript.
+
+ghost use Rattle.std.specs.Prelude.{◌≡◌, ◌≤◌, false, IfOk, IfErr, IsErrOf, OnOk};
+ghost use Rattle.std.specs.Io.KnownBytes.{Appends};
+ghost use Rattle.swap_io.specs.Causes.{AppendsProperPrefix, Rose};
+ghost use Rattle.swap_io.specs.Handed.{AppendsPrefix};
+ghost use Rattle.swap_rules.specs.Accepted.{IsAccepted};
+ghost use Rattle.swap_rules.specs.Outcome.{IsEnded};
+ghost use Rattle.swap_laws.specs.Laws.{IsDealt};
+ghost use Rattle.ledger_core.specs.Book.{IsLegalBook};
+ghost use Rattle.offer_header.specs.Names.{AreNames, has_strategy};
+ghost use Rattle.offer_text.specs.HeaderLine.{is_make};
+ghost use Rattle.outcome_rules.specs.Report.{conforms_in};
+ghost use Rattle.outcome_rules.specs.Promises.{AllAreConforming};
+ghost use Rattle.swap_run.specs.Run.{start};
+ghost use Rattle.swap_run.specs.Laws.{IsKept};
+ghost use Rattle.swap_run.specs.Asked.{Answers};
+ghost use Rattle.swap_world.specs.Cast.{cast_of};
+ghost use Rattle.swap_world.specs.Gone.{HasAsked};
+ghost use Rattle.swap_world.specs.Staff.{AreHeld};
+ghost use Rattle.swap_world.specs.Value.{Continues, new_world};
+ghost use Rattle.swap_offer.specs.Job.{IsWhole};
+ghost use Rattle.swap_commands.specs.Input.{Ends, Stops, fresh};
+ghost use Rattle.swap_commands.specs.Output.{report_for, reported, run_text};
+ghost use Rattle.swap_commands.specs.Replay.{IsConcluded, IsOf, IsPlayed};
+ghost use Rattle.swap_commands.specs.Says.{IsAgainst, Says, Writes};
+
+use crate::fault::InputFault;
+use crate::finish::finish;
+use crate::header::first_line;
+use crate::input::Input;
+use crate::replay::replay;
+use crate::status::Status;
+use crate::stop::stop;
+use crate::words::{Command, JobCommand};
+use deviator_script::{Finish, Job, Kit, Purpose, Strategies};
+use ledger_core::Book;
+use outcome_rules::{Report, report_of};
+use refusals::Refusal;
+use std::alloc::Global;
+use swap_base::NoMemory;
+use swap_io::{Sink, Source, TextFault};
+use swap_offer::Prepared;
+use swap_world::World;
+use transcript_text::write_report;
+use transcript_writer::write_transcript;
+
+/// The job of an input, and its world after all events.
+fn play<S: Source>(
+    alloc: Global,
+    kit: &Kit,
+    transcript: bool,
+    input: &mut Input,
+    source: &mut S,
+) -> Result<(Job, World), InputFault<Refusal>>
+    requires { input.old ≡ fresh }
+    // Whatever strategies may answer after the last event.
+    ensures played { IfOk result (λ p. (a : Answers) → Continues p.1 a
+        → Ends (λ bytes. IsPlayed (has_strategy kit.now.names kit.now.strategies.items) a bytes p.0 p.1.state) (S.left source.old) (S.left source.new)
+        fresh input.new) }
+    ensures asked { IfOk result (λ p. HasAsked (⟦<Kit as Strategies>⟧.gives kit.now) (new_world p.0) p.1) }
+    ensures held { IfOk result (λ p. AreHeld (⟦<Kit as Strategies>⟧.holds kit.now) p.0.roles) }
+    ensures whole { IfOk result (λ p. IsWhole p.0) }
+    ensures names { IfOk result (λ p. AreNames p.0.names) }
+    ensures purpose { IfOk result (λ p. p.0.purpose ≡ Purpose.Run) }
+    ensures accepted { IfOk result (λ p. IsAccepted p.0.deal) }
+    ensures of { IfOk result (λ p. IsOf p.0 p.1) }
+    ensures goes_on { IfOk result (λ p. p.1.stopped ≡ false) }
+    ensures stops { IfErr result (λ e.
+        Stops (IsAgainst (has_strategy kit.now.names kit.now.strategies.items) (Command.OfJob (JobCommand.Run transcript))) (S.left source.old)
+        (S.left source.new)
+        (S.faults source.old) (S.faults source.new) fresh input.new e) }
+    ensures later { S.faults source.old ≤ S.faults source.new }
+{
+    let Prepared { job, wallets, .. } = first_line(
+        alloc,
+        kit,
+        JobCommand::Run { transcript },
+        input,
+        source,
+    )?;
+    match replay(alloc, &job, wallets, kit, input, source) {
+        Ok(world) => Ok((job, world)),
+        Err(fault) => Err(fault.with_names(job.names)),
+    }
+}
+
+/// The book of a world after the job's finish.
+fn conclude<T: Strategies>(
+    alloc: Global,
+    kit: &T,
+    job: &Job,
+    mut world: World,
+) -> Result<Book, NoMemory>
+    requires kit { AreHeld (T.holds kit.now) job.now.roles }
+    requires asked { HasAsked (T.gives kit.now) (new_world job.now) world }
+    requires of { IsOf job.now world }
+    requires goes_on { world.stopped ≡ false }
+    ensures book { IfOk result (λ b. IsConcluded (T.gives kit.now) job.now world b.histories) }
+    ensures kept { IfOk result (λ b. IsKept (cast_of job.now) b.histories) }
+    ensures ended { IfOk result (λ b. job.now.finish ≡ Finish.Fair → IsEnded job.now.deal b.histories) }
+    ensures dealt { IfOk result (λ b. job.now.finish ≡ Finish.Fair → world.state ≡ start (cast_of job.now) → AllAreConforming job.now.deal job.now.conforming
+        → IsDealt job.now.deal (conforms_in job.now.conforming) b.histories) }
+{
+    finish(&mut world, kit, job)?;
+    world.into_book(alloc)
+}
+
+/// Writes the report of a job's book, or its transcript.
+fn write_text<K: Sink>(
+    alloc: Global,
+    transcript: bool,
+    sink: &mut K,
+    job: &Job,
+    book: &Book,
+    report: &Report,
+) -> Result<(), TextFault>
+    requires whole { IsWhole job.now }
+    requires names { AreNames job.now.names }
+    requires shown { is_make job.now.purpose ≡ false }
+    requires legal { IsLegalBook job.now.deal book.now.histories }
+    requires report { report.now ≡ report_for job.now book.now.histories }
+    ensures all { OnOk result (Appends (K.taken sink.old) (K.taken sink.new) (run_text transcript job.now book.now.histories report.now)) }
+    ensures write_fault { IsErrOf result TextFault.WriteFault
+        → AppendsProperPrefix (K.taken sink.old) (K.taken sink.new) (run_text transcript job.now book.now.histories report.now) }
+    ensures no_memory { IsErrOf result TextFault.NoMemory
+        → AppendsPrefix (K.taken sink.old) (K.taken sink.new) (run_text transcript job.now book.now.histories report.now) }
+    ensures failed { IsErrOf result TextFault.WriteFault → Rose (K.faults sink.old) (K.faults sink.new) }
+{
+    if transcript {
+        write_transcript(alloc, sink, job, book)
+    } else {
+        write_report(alloc, sink, job, book, report)
+    }
+}
+
+/// Writes the report of a job's book, or its transcript, and says whether the report tells of a finding.
+pub(crate) fn tell<K: Sink>(
+    alloc: Global,
+    transcript: bool,
+    sink: &mut K,
+    job: &Job,
+    book: &Book,
+) -> Status
+    requires whole { IsWhole job.now }
+    requires names { AreNames job.now.names }
+    requires shown { is_make job.now.purpose ≡ false }
+    requires legal { IsLegalBook job.now.deal book.now.histories }
+    ensures { Writes (K.taken sink.old) (K.taken sink.new) (K.faults sink.old) (K.faults sink.new) (reported transcript job.now book.now.histories) result }
+{
+    let Ok(report) = report_of(alloc, &job.deal, &job.conforming, book) else {
+        return Status::NoMemory;
+    };
+    match write_text(alloc, transcript, sink, job, book, &report) {
+        Ok(()) => {
+            if report.findings.is_empty() {
+                Status::Done
+            } else {
+                Status::Named
+            }
+        }
+        Err(TextFault::WriteFault) => Status::WriteFault,
+        Err(TextFault::NoMemory) => Status::NoMemory,
+    }
+}
+
+/// Runs a job.
+pub(crate) fn run<S: Source, K: Sink>(
+    alloc: Global,
+    kit: &Kit,
+    transcript: bool,
+    input: &mut Input,
+    source: &mut S,
+    sink: &mut K,
+) -> Status
+    requires { input.old ≡ fresh }
+    ensures { Says (has_strategy kit.now.names kit.now.strategies.items) (⟦<Kit as Strategies>⟧.gives kit.now)
+        (Command.OfJob (JobCommand.Run transcript)) (S.left source.old) (S.left source.new) (S.faults source.old) (S.faults source.new)
+        (K.taken sink.old) (K.taken sink.new) (K.faults sink.old) (K.faults sink.new) result }
+{
+    let (job, world) = match play(alloc, kit, transcript, input, source) {
+        Ok(played) => played,
+        Err(fault) => return stop(input, source, fault),
+    };
+    let Ok(book) = conclude(alloc, kit, &job, world) else {
+        return Status::NoMemory;
+    };
+    tell(alloc, transcript, sink, &job, &book)
+}
