@@ -8,4 +8,5 @@ pub mod Untold
 pub mod Standing
 pub mod Simple
 pub mod Held
-pub mod Failing
+pub mod Answered
+pub mod Fitting

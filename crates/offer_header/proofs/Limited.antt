@@ -9,7 +9,7 @@ use Rattle.offer_header.specs.Names.{AreLeaders, AreEnds, IsNumbered}
 use Rattle.offer_header.specs.Raw.{is_plain, IsModeOf, IsUntimed}
 use Rattle.offer_header.specs.Limits.{acting_of, parties_of, conforms, sizes_in, terms_of, all_terms_of, arc_ends}
 use Rattle.offer_header.specs.Limits.{hashlock_of, no_digests, hashlocks_by, hashlocks_of}
-use Rattle.offer_header.specs.Limits.{key_of, party_keys_of, stated_keys_of, keys_of, limited_of}
+use Rattle.offer_header.specs.Limits.{key_of, party_keys_of, stated_keys_of, keys_of, header_with, limited_of}
 use Rattle.offer_header.specs.Header.{HasKeysFor, IsWithin}
 use Rattle.offer_header.specs.declared.raw.RawActor.TheVariants.{Manual}
 use Rattle.offer_header.specs.declared.raw.RawParty.{RawParty}
@@ -189,27 +189,6 @@ zero_ends = record { from = 0; to = 0 }
 abbrev zero_arc_ends : ArcEnds
 zero_arc_ends = record { from = 0; to = 0 }
 
-abbrev pub header_with : Purpose → RawHeader → Numbered → ℕ → ℕ → ℕ → List Acting → List ArcTerms → List (List ℕ) → List (List (List ℕ)) → Header
-header_with purpose raw n start delta bound acting terms hashlocks keys = record {
-  purpose = purpose;
-  version = raw.version;
-  mode = raw.mode;
-  start = start;
-  delta = delta;
-  bound = bound;
-  names = n.names;
-  roles = map (λ p. p.role) acting;
-  conforming = map (λ p. conforms p.role) acting;
-  seeds = map (λ p. p.seed) acting;
-  arcs = map arc_ends n.arcs;
-  amounts = map (λ t. t.amount) terms;
-  timelocks = map (λ t. t.timelock) terms;
-  leaders = n.leaders;
-  hashlocks = hashlocks;
-  keys = keys;
-  finish = raw.finish;
-}
-
 all_within : (purpose : Purpose) (raw : RawHeader) (n : Numbered) (start delta bound : ℕ) (acting : List Acting) (terms : List ArcTerms)
     (hashlocks : List (List ℕ)) (keys : List (List (List ℕ)))
     → IsNumbered raw n → IsModeOf raw.version raw.mode → IsUntimed raw
@@ -337,3 +316,13 @@ is_within line purpose raw n h is mode untimed e =
     (are_terms raw.version line raw.arcs o.terms o.terms_are)
     (hashlocks_ok (is_plain purpose) line raw.leaders o.hashlocks o.hashlocks_are)
     (keys_ok raw.mode (is_plain purpose) line raw o.keys o.keys_are))
+
+-- there are few roles
+pub few_roles : (line : ℕ) (purpose : Purpose) (raw : RawHeader) (n : Numbered) (h : Header) → limited_of purpose line raw n ≡ Ok h → length h.roles ≤ 256
+few_roles line purpose raw n h e =
+    let o = opened line purpose raw n h e in
+    let r = parties_ok raw.version (sizes_in raw) n.names line raw.parties o.acting o.acting_are in
+    let most = few_parties raw.version in
+    let size : length (map (λ (p : Acting). p.role) o.acting) ≡ length o.acting = length-map o.acting _ in
+    let is : length h.roles ≡ length (map (λ (p : Acting). p.role) o.acting) = ap (λ (x : Header). length x.roles) (sym o.same) in
+    omega (arith, is, size, r.1, r.2, most)

@@ -13,10 +13,24 @@ use Rattle.deviator_script.specs.declared.job.Finish.TheVariants.{Stop}
 use Rattle.refusals.specs.declared.reason.Reason.{Reason}
 use Rattle.offer_fields.specs.Fields.{object_of}
 use Rattle.offer_header.specs.Raw.{raw_of, IsModeOf}
+use Rattle.offer_header.specs.declared.raw.RawHeader.{RawHeader}
 use Rattle.offer_header.specs.Names.{numbered_of, AreNames, AreLeaders}
 use Rattle.offer_header.specs.Limits.{conforms, limited_of}
 use Rattle.offer_header.specs.Scripts.{scripts_placed}
 use Rattle.offer_header.specs.declared.header.Header.{Header}
+
+-- the header, where the moves of its scripts stand where they may
+abbrev pub placed_of : ℕ → Header → Result Header Reason
+placed_of line h = do
+  u ← scripts_placed line h
+  Ok h
+
+-- the header that fields give
+abbrev pub header_by : (List ℕ → Bool) → Purpose → ℕ → RawHeader → Result Header Reason
+header_by has purpose line raw = do
+  numbered ← numbered_of has line raw
+  h ← limited_of purpose line raw numbered
+  placed_of line h
 
 -- The header that a line gives, or the first reason why it is refused: all fields come before all names, all names before all limits, and these
 -- before where the moves of scripts stand.
@@ -24,10 +38,7 @@ unfoldable pub header_of : (List ℕ → Bool) → Purpose → ℕ → List ℕ 
 header_of has purpose line text = do
   d ← object_of line text
   raw ← raw_of purpose line d
-  numbered ← numbered_of has line raw
-  h ← limited_of purpose line raw numbered
-  u ← scripts_placed line h
-  Ok h
+  header_by has purpose line raw
 
 -- The keys have a row per party and a key per lock in hashkeys mode, and are none in timelocks mode.
 abbrev pub HasKeysFor : Mode → ℕ → ℕ → List (List (List ℕ)) → Type 0

@@ -144,31 +144,40 @@ keys_of Hashkeys plain line h = keys_by plain line h
 
 -- ---- the header
 
+-- the header of these parts
+abbrev pub header_with : Purpose → RawHeader → Numbered → ℕ → ℕ → ℕ → List Acting → List ArcTerms → List (List ℕ) → List (List (List ℕ)) → Header
+header_with purpose raw numbered start delta bound parties terms hashlocks keys = record {
+  purpose = purpose;
+  version = raw.version;
+  mode = raw.mode;
+  start = start;
+  delta = delta;
+  bound = bound;
+  names = numbered.names;
+  roles = map (λ p. p.role) parties;
+  conforming = map (λ p. conforms p.role) parties;
+  seeds = map (λ p. p.seed) parties;
+  arcs = map arc_ends numbered.arcs;
+  amounts = map (λ t. t.amount) terms;
+  timelocks = map (λ t. t.timelock) terms;
+  leaders = numbered.leaders;
+  hashlocks = hashlocks;
+  keys = keys;
+  finish = raw.finish;
+}
+
+-- the lists of a header within their limits, after its numbers
+abbrev pub parts_of : Purpose → ℕ → RawHeader → Numbered → (start delta bound : ℕ) → Result Header Reason
+parts_of purpose line raw numbered start delta bound = do
+  parties ← parties_of raw.version (sizes_in raw) numbered.names line raw.parties
+  terms ← all_terms_of raw.version line raw.arcs
+  hashlocks ← hashlocks_of (is_plain purpose) line raw.leaders
+  keys ← keys_of raw.mode (is_plain purpose) line raw
+  Ok (header_with purpose raw numbered start delta bound parties terms hashlocks keys)
+
 unfoldable pub limited_of : Purpose → ℕ → RawHeader → Numbered → Result Header Reason
 limited_of purpose line raw numbered = do
   start ← number_within line (codes "start") 1 1000 raw.start
   delta ← number_within line (codes "delta") 1 100 raw.delta
   bound ← number_within line (codes "bound") 1 64 raw.bound
-  parties ← parties_of raw.version (sizes_in raw) numbered.names line raw.parties
-  terms ← all_terms_of raw.version line raw.arcs
-  hashlocks ← hashlocks_of (is_plain purpose) line raw.leaders
-  keys ← keys_of raw.mode (is_plain purpose) line raw
-  Ok (record {
-    purpose = purpose;
-    version = raw.version;
-    mode = raw.mode;
-    start = start;
-    delta = delta;
-    bound = bound;
-    names = numbered.names;
-    roles = map (λ p. p.role) parties;
-    conforming = map (λ p. conforms p.role) parties;
-    seeds = map (λ p. p.seed) parties;
-    arcs = map arc_ends numbered.arcs;
-    amounts = map (λ t. t.amount) terms;
-    timelocks = map (λ t. t.timelock) terms;
-    leaders = numbered.leaders;
-    hashlocks = hashlocks;
-    keys = keys;
-    finish = raw.finish;
-  })
+  parts_of purpose line raw numbered start delta bound

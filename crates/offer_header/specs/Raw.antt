@@ -17,6 +17,7 @@ use Rattle.refusals.specs.declared.reason.Reason.{Reason}
 use Rattle.refusals.specs.declared.reason.Reason.TheVariants.{WrongKind}
 use Rattle.offer_fields.specs.Fields.{kind, number_at, text_at, word_at, optional_text_at, member_text_of, object_at, list_at, each, only}
 use Rattle.offer_moves.specs.Reading.{scripted_at}
+use Rattle.offer_header.specs.declared.raw.Front.{Front}
 use Rattle.offer_header.specs.declared.raw.Reading.{Reading}
 use Rattle.offer_header.specs.declared.raw.RawActor.{RawActor}
 use Rattle.offer_header.specs.declared.raw.RawActor.TheVariants.{Conforming, Manual, Script, Strategy}
@@ -115,15 +116,20 @@ abbrev pub arc_fields : (stated : Bool) → List (List ℕ)
 arc_fields true = codes "amount" ∷ codes "from" ∷ codes "timelock" ∷ codes "to" ∷ []
 arc_fields false = codes "amount" ∷ codes "from" ∷ codes "to" ∷ []
 
+-- the arc between these, by its numbers
+abbrev pub arc_between : (stated : Bool) → ℕ → Data → (from to : List ℕ) → Result RawArc Reason
+arc_between stated line d from to = do
+  amount ← number_at line (codes "amount") d
+  timelock ← timelock_at line stated d
+  u ← only line (arc_fields stated) d
+  Ok (record { from = from; to = to; amount = amount; timelock = timelock })
+
 unfoldable pub arc_of : Reading → ℕ → Data → Result RawArc Reason
 arc_of reading line d = do
   o ← object_at line (codes "arcs") d
   from ← text_at line (codes "from") d
   to ← text_at line (codes "to") d
-  amount ← number_at line (codes "amount") d
-  timelock ← timelock_at line (states_timelocks reading.purpose reading.mode) d
-  u ← only line (arc_fields (states_timelocks reading.purpose reading.mode)) d
-  Ok (record { from = from; to = to; amount = amount; timelock = timelock })
+  arc_between (states_timelocks reading.purpose reading.mode) line d from to
 
 -- ---- leaders and keys
 
@@ -223,6 +229,28 @@ abbrev pub header_fields : Purpose → (keyed : Bool) → List (List ℕ)
 header_fields Audit keyed = transcript_fields keyed
 header_fields _ keyed = job_fields keyed
 
+-- the lists of a header and what stands beside them, after its version, its mode and its numbers
+abbrev pub lists_of : Purpose → Front → ℕ → Data → Result RawHeader Reason
+lists_of purpose front line d = do
+  parties ← list_at line (codes "parties") (party_of (record { purpose = purpose; mode = front.mode }) line) d
+  arcs ← list_at line (codes "arcs") (arc_of (record { purpose = purpose; mode = front.mode }) line) d
+  leaders ← list_at line (codes "leaders") (leader_of (record { purpose = purpose; mode = front.mode }) line) d
+  keys ← keys_at line (states_keys purpose front.mode) d
+  finish ← finish_at line purpose d
+  u ← only line (header_fields purpose (states_keys purpose front.mode)) d
+  Ok (record {
+    version = front.version;
+    mode = front.mode;
+    start = front.start;
+    delta = front.delta;
+    bound = front.bound;
+    parties = parties;
+    arcs = arcs;
+    leaders = leaders;
+    keys = keys;
+    finish = finish;
+  })
+
 unfoldable pub raw_of : Purpose → ℕ → Data → Result RawHeader Reason
 raw_of purpose line d = do
   version ← version_at line d
@@ -230,24 +258,7 @@ raw_of purpose line d = do
   start ← number_at line (codes "start") d
   delta ← number_at line (codes "delta") d
   bound ← number_at line (codes "bound") d
-  parties ← list_at line (codes "parties") (party_of (record { purpose = purpose; mode = mode }) line) d
-  arcs ← list_at line (codes "arcs") (arc_of (record { purpose = purpose; mode = mode }) line) d
-  leaders ← list_at line (codes "leaders") (leader_of (record { purpose = purpose; mode = mode }) line) d
-  keys ← keys_at line (states_keys purpose mode) d
-  finish ← finish_at line purpose d
-  u ← only line (header_fields purpose (states_keys purpose mode)) d
-  Ok (record {
-    version = version;
-    mode = mode;
-    start = start;
-    delta = delta;
-    bound = bound;
-    parties = parties;
-    arcs = arcs;
-    leaders = leaders;
-    keys = keys;
-    finish = finish;
-  })
+  lists_of purpose (record { version = version; mode = mode; start = start; delta = delta; bound = bound }) line d
 
 -- The mode is one of the version: version 2 has hashkeys alone.
 abbrev pub IsModeOf : Version → Mode → Type 0

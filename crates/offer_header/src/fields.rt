@@ -1,13 +1,12 @@
 //! The fields of a header, in the order in which they are examined.
 
-ghost use Rattle.std.specs.Prelude.{IfOk};
 ghost use Rattle.serde_json.specs.View.{view};
 ghost use Rattle.swap_base.specs.Fault.{Gives};
 ghost use Rattle.offer_fields.specs.Fields.{only};
 ghost use Rattle.offer_header.specs.Raw.{version_at, mode_for, stated_mode_at, mode_at, states_keys, keys_at, finish_of_word, stated_finish_at, finish_at};
-ghost use Rattle.offer_header.specs.Raw.{transcript_fields, job_fields, header_fields, raw_of, HasWords, IsModeOf, IsUntimed, IsUntold};
+ghost use Rattle.offer_header.specs.Raw.{transcript_fields, job_fields, header_fields, lists_of, raw_of};
 
-use crate::raw::{RawHeader, RawRow, Reading};
+use crate::raw::{Front, RawHeader, RawRow, Reading};
 use deviator_script::{Finish, Purpose};
 use offer_fields::{list_in, number_in, only_in, optional_text_in, text_in};
 use refusals::{OfferFault, wrong_kind};
@@ -160,6 +159,40 @@ fn only_header_fields(
     }
 }
 
+/// The lists of the header and what stands beside them, or the first reason why a field is refused.
+fn lists_in<'v>(
+    alloc: Global,
+    purpose: Purpose,
+    front: Front,
+    line: u32,
+    object: &'v Value,
+) -> Result<RawHeader<'v>, OfferFault>
+    ensures { Gives (λ h. h) result (lists_of purpose front line (view object.now)) }
+{
+    let reading = Reading {
+        purpose,
+        mode: front.mode,
+    };
+    let parties = list_in(alloc, reading, line, "parties", object)?;
+    let arcs = list_in(alloc, reading, line, "arcs", object)?;
+    let leaders = list_in(alloc, reading, line, "leaders", object)?;
+    let keys = keys_in(alloc, reading, line, object)?;
+    let finish = finish_in(alloc, line, purpose, object)?;
+    only_header_fields(alloc, line, purpose, reading.states_keys(), object)?;
+    Ok(RawHeader {
+        version: front.version,
+        mode: front.mode,
+        start: front.start,
+        delta: front.delta,
+        bound: front.bound,
+        parties,
+        arcs,
+        leaders,
+        keys,
+        finish,
+    })
+}
+
 /// The fields of the header, or the first reason why one is refused.
 #[tactic(auto, unfolding(crate::specs::Raw::raw_of))]
 pub(crate) fn raw_in<'v>(
@@ -168,34 +201,15 @@ pub(crate) fn raw_in<'v>(
     line: u32,
     object: &'v Value,
 ) -> Result<RawHeader<'v>, OfferFault>
-    ensures exact { Gives (λ h. h) result (raw_of purpose line (view object.now)) }
-    ensures mode { IfOk result (λ h. IsModeOf h.version h.mode) }
-    ensures untimed { IfOk result (λ h. IsUntimed h) }
-    ensures untold { IfOk result (λ h. IsUntold purpose h) }
-    ensures words { IfOk result (λ h. HasWords purpose h) }
+    ensures { Gives (λ h. h) result (raw_of purpose line (view object.now)) }
 {
     let version = version_in(alloc, line, object)?;
-    let mode = mode_in(alloc, line, version, object)?;
-    let start = number_in(alloc, line, "start", object)?;
-    let delta = number_in(alloc, line, "delta", object)?;
-    let bound = number_in(alloc, line, "bound", object)?;
-    let reading = Reading { purpose, mode };
-    let parties = list_in(alloc, reading, line, "parties", object)?;
-    let arcs = list_in(alloc, reading, line, "arcs", object)?;
-    let leaders = list_in(alloc, reading, line, "leaders", object)?;
-    let keys = keys_in(alloc, reading, line, object)?;
-    let finish = finish_in(alloc, line, purpose, object)?;
-    only_header_fields(alloc, line, purpose, reading.states_keys(), object)?;
-    Ok(RawHeader {
+    let front = Front {
         version,
-        mode,
-        start,
-        delta,
-        bound,
-        parties,
-        arcs,
-        leaders,
-        keys,
-        finish,
-    })
+        mode: mode_in(alloc, line, version, object)?,
+        start: number_in(alloc, line, "start", object)?,
+        delta: number_in(alloc, line, "delta", object)?,
+        bound: number_in(alloc, line, "bound", object)?,
+    };
+    lists_in(alloc, purpose, front, line, object)
 }

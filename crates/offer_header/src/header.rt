@@ -1,15 +1,16 @@
 //! A header within its limits.
 
-ghost use Rattle.std.specs.Prelude.{◌≡◌, Ok, IfOk};
+ghost use Rattle.std.specs.Prelude.{◌≡◌, ◌≤◌, Ok, IfOk, length};
 ghost use Rattle.swap_base.specs.Fault.{Gives};
-ghost use Rattle.offer_header.specs.Header.{header_of, AreSimpleFor, IsUntoldFor, IsWithin};
+ghost use Rattle.offer_header.specs.Header.{header_by, header_of, placed_of, AreSimpleFor, IsUntoldFor, IsWithin};
 ghost use Rattle.offer_header.specs.Limits.{HoldsEach};
 ghost use Rattle.offer_header.specs.Names.{has_strategy};
-ghost use Rattle.offer_header.specs.Scripts.{scripts_placed, AreMade};
+ghost use Rattle.offer_header.specs.Scripts.{scripts_placed, AllStand, AreMade};
 
 use crate::fields::raw_in;
 use crate::limits::limited_in;
 use crate::names::numbered_in;
+use crate::raw::RawHeader;
 use crate::scripts::check_scripts;
 use deviator_script::{Finish, Kit, Purpose, Role};
 use offer_fields::object_in;
@@ -19,7 +20,7 @@ use swap_base::{ByteText, Digest, Listed, PartyId};
 use swap_digraph::{ArcEnds, Mode, Version};
 
 /// A header whose fields, names and limits are in order, as `IsWithin` says.
-#[derive(Debug, Drop)]
+#[derive(Drop)]
 pub struct Header {
     pub purpose: Purpose,
     /// It sets the limits of what follows.
@@ -52,8 +53,33 @@ pub struct Header {
     pub finish: Finish,
 }
 
+/// The header, where its scripts stand where they may.
+fn placed(line: u32, header: Header) -> Result<Header, OfferFault>
+    requires few { length header.roles ≤ 256 }
+    requires stand { AllStand header }
+    ensures { Gives (λ h. h) result (placed_of line header) }
+{
+    check_scripts(line, &header)?;
+    Ok(header)
+}
+
+/// The header that fields give, or the first reason why one is refused.
+fn header_by(
+    alloc: Global,
+    kit: &Kit,
+    purpose: Purpose,
+    line: u32,
+    raw: &RawHeader<'_>,
+) -> Result<Header, OfferFault>
+    ensures { Gives (λ h. h) result (header_by (has_strategy kit.now.names kit.now.strategies.items) purpose line raw.now) }
+{
+    let numbered = numbered_in(alloc, kit, line, raw)?;
+    let header = limited_in(alloc, purpose, line, raw, numbered)?;
+    placed(line, header)
+}
+
 /// The header that the line's text gives, or the first reason why it is refused; its strategies are those of the kit.
-#[tactic(auto, using(crate::proofs::Numbered::is_numbered), unfolding(crate::specs::Header::header_of))]
+#[tactic(auto, unfolding(crate::specs::Header::header_of))]
 pub fn header_in(
     alloc: Global,
     kit: &Kit,
@@ -72,8 +98,5 @@ pub fn header_in(
 {
     let object = object_in(alloc, line, text)?;
     let raw = raw_in(alloc, purpose, line, &object)?;
-    let numbered = numbered_in(alloc, kit, line, &raw)?;
-    let header = limited_in(alloc, purpose, line, &raw, numbered)?;
-    check_scripts(line, &header)?;
-    Ok(header)
+    header_by(alloc, kit, purpose, line, &raw)
 }

@@ -7,7 +7,7 @@ ghost use Rattle.offer_fields.specs.Lists.{each_of};
 ghost use Rattle.offer_moves.specs.Moves.{move_of};
 ghost use Rattle.offer_header.specs.Limits.{seed_of, script_role, role_of, acting_of, parties_of, conforms, sizes_in, terms_of, all_terms_of, arc_ends};
 ghost use Rattle.offer_header.specs.Limits.{hashlock_of, no_digest, no_digests, hashlocks_by};
-ghost use Rattle.offer_header.specs.Limits.{hashlocks_of, key_of, party_keys_of, stated_keys_of, keys_by, keys_of, limited_of};
+ghost use Rattle.offer_header.specs.Limits.{hashlocks_of, key_of, party_keys_of, stated_keys_of, keys_by, keys_of, header_with, parts_of, limited_of};
 ghost use Rattle.offer_header.specs.Names.{AreEnds, AreLeaders, IsNumbered};
 
 use crate::header::Header;
@@ -23,7 +23,7 @@ use swap_base::{ByteText, Digest, Listed, NoMemory, PartyId, TryCopy};
 use swap_digraph::{ArcEnds, Mode, Version};
 
 /// The units and the timelock of an arc.
-#[derive(Clone, Copy, Debug, PartialEq, Eq)]
+#[derive(Clone, Copy)]
 pub struct ArcTerms {
     pub amount: u64,
     pub timelock: u32,
@@ -54,7 +54,7 @@ fn limit_each<C: Copy, B: Drop, T: Limited<C, B>>(
 }
 
 /// What a party's fields give within their limits: how it acts, and its seed, if any.
-#[derive(Debug, Drop)]
+#[derive(Drop)]
 pub struct Acting {
     pub role: Role,
     pub seed: Option<Digest>,
@@ -421,8 +421,136 @@ fn sizes_in(raw: &RawHeader<'_>) -> Sizes
     }
 }
 
+/// How each party acts, as a header has it.
+#[derive(Drop)]
+struct Acted {
+    roles: Listed<Role>,
+    conforming: Listed<bool>,
+    seeds: Listed<Option<Digest>>,
+}
+
+fn acted_in(alloc: Global, parties: Listed<Acting>) -> Result<Acted, NoMemory>
+    ensures roles { IfOk result (λ a. a.roles ≡ map (λ p. p.role) parties) }
+    ensures conforming { IfOk result (λ a. a.conforming ≡ map (λ p. conforms p.role) parties) }
+    ensures seeds { IfOk result (λ a. a.seeds ≡ map (λ p. p.seed) parties) }
+{
+    let conforming = conforming_in(alloc, parties.as_slice())?;
+    let seeds = seeds_in(alloc, parties.as_slice())?;
+    let roles = roles_in(alloc, parties)?;
+    Ok(Acted {
+        roles,
+        conforming,
+        seeds,
+    })
+}
+
+/// The terms of the arcs, as a header has them.
+#[derive(Drop)]
+struct Priced {
+    amounts: Listed<u64>,
+    timelocks: Listed<u32>,
+}
+
+fn priced_in(alloc: Global, terms: &[ArcTerms]) -> Result<Priced, NoMemory>
+    ensures amounts { IfOk result (λ p. p.amounts ≡ map (λ t. t.amount) terms.now) }
+    ensures timelocks { IfOk result (λ p. p.timelocks ≡ map (λ t. t.timelock) terms.now) }
+{
+    let amounts = amounts_in(alloc, terms)?;
+    let timelocks = timelocks_in(alloc, terms)?;
+    Ok(Priced { amounts, timelocks })
+}
+
+/// The numbers of a header, within their limits.
+#[derive(Clone, Copy)]
+struct Bounds {
+    start: u32,
+    delta: u32,
+    bound: u32,
+}
+
+/// The digests of a header.
+#[derive(Drop)]
+struct Digests {
+    hashlocks: Listed<Digest>,
+    keys: Listed<Listed<Digest>>,
+}
+
+/// The header of these parts.
+fn header_with(
+    alloc: Global,
+    purpose: Purpose,
+    raw: &RawHeader<'_>,
+    numbered: Numbered,
+    bounds: Bounds,
+    parties: Listed<Acting>,
+    terms: Listed<ArcTerms>,
+    digests: Digests,
+) -> Result<Header, NoMemory>
+    requires ends { AreEnds 256 numbered.arcs }
+    requires leaders { AreLeaders 256 numbered.leaders }
+    ensures { IfOk result (λ h. h ≡ header_with purpose raw.now numbered bounds.start bounds.delta bounds.bound parties terms
+        digests.hashlocks digests.keys) }
+{
+    let acted = acted_in(alloc, parties)?;
+    let priced = priced_in(alloc, terms.as_slice())?;
+    let arcs = arc_ends_in(alloc, numbered.arcs.as_slice())?;
+    let leaders = leaders_in(alloc, numbered.leaders.as_slice())?;
+    Ok(Header {
+        purpose,
+        version: raw.version,
+        mode: raw.mode,
+        start: bounds.start,
+        delta: bounds.delta,
+        bound: bounds.bound,
+        names: numbered.names,
+        roles: acted.roles,
+        conforming: acted.conforming,
+        seeds: acted.seeds,
+        arcs,
+        amounts: priced.amounts,
+        timelocks: priced.timelocks,
+        leaders,
+        hashlocks: digests.hashlocks,
+        keys: digests.keys,
+        finish: raw.finish,
+    })
+}
+
+/// The lists of the header within their limits.
+#[tactic(auto, using(crate::proofs::Limited::small_ends, crate::proofs::Limited::small_leaders))]
+fn parts_in(
+    alloc: Global,
+    purpose: Purpose,
+    line: u32,
+    raw: &RawHeader<'_>,
+    numbered: Numbered,
+    bounds: Bounds,
+) -> Result<Header, OfferFault>
+    requires { IsNumbered raw.now numbered }
+    ensures { Gives (λ h. h) result (parts_of purpose line raw.now numbered bounds.start bounds.delta bounds.bound) }
+{
+    let plain = is_plain(purpose);
+    let names = numbered.names.as_slice();
+    let sizes = sizes_in(raw);
+    let parties = parties_in(
+        alloc,
+        raw.version,
+        sizes,
+        names,
+        line,
+        raw.parties.as_slice(),
+    )?;
+    let terms = terms_in(alloc, raw.version, line, raw.arcs.as_slice())?;
+    let hashlocks = hashlocks_in(alloc, plain, line, raw.leaders.as_slice())?;
+    let keys = keys_in(alloc, plain, line, raw)?;
+    let digests = Digests { hashlocks, keys };
+    Ok(header_with(
+        alloc, purpose, raw, numbered, bounds, parties, terms, digests,
+    )?)
+}
+
 /// The header within its limits, or the first reason why a number, a list or a text is refused.
-#[tactic(auto, using(crate::proofs::Limited::small_ends, crate::proofs::Limited::small_leaders), unfolding(crate::specs::Limits::limited_of))]
+#[tactic(auto, unfolding(crate::specs::Limits::limited_of))]
 pub(crate) fn limited_in(
     alloc: Global,
     purpose: Purpose,
@@ -431,46 +559,12 @@ pub(crate) fn limited_in(
     numbered: Numbered,
 ) -> Result<Header, OfferFault>
     requires { IsNumbered raw.now numbered }
-    ensures exact { Gives (λ h. h) result (limited_of purpose line raw.now numbered) }
-    ensures purpose { IfOk result (λ h. h.purpose ≡ purpose) }
+    ensures { Gives (λ h. h) result (limited_of purpose line raw.now numbered) }
 {
-    let start = number_within(alloc, line, "start", 1, 1000, raw.start)?;
-    let delta = number_within(alloc, line, "delta", 1, 100, raw.delta)?;
-    let bound = number_within(alloc, line, "bound", 1, 64, raw.bound)?;
-    let names = numbered.names.as_slice();
-    let parties = parties_in(
-        alloc,
-        raw.version,
-        sizes_in(raw),
-        names,
-        line,
-        raw.parties.as_slice(),
-    )?;
-    let terms = terms_in(alloc, raw.version, line, raw.arcs.as_slice())?;
-    let plain = is_plain(purpose);
-    let hashlocks = hashlocks_in(alloc, plain, line, raw.leaders.as_slice())?;
-    let keys = keys_in(alloc, plain, line, raw)?;
-    let conforming = conforming_in(alloc, parties.as_slice())?;
-    let seeds = seeds_in(alloc, parties.as_slice())?;
-    let arcs = arc_ends_in(alloc, numbered.arcs.as_slice())?;
-    let leaders = leaders_in(alloc, numbered.leaders.as_slice())?;
-    Ok(Header {
-        purpose,
-        version: raw.version,
-        mode: raw.mode,
-        start,
-        delta,
-        bound,
-        names: numbered.names,
-        roles: roles_in(alloc, parties)?,
-        conforming,
-        seeds,
-        arcs,
-        amounts: amounts_in(alloc, terms.as_slice())?,
-        timelocks: timelocks_in(alloc, terms.as_slice())?,
-        leaders,
-        hashlocks,
-        keys,
-        finish: raw.finish,
-    })
+    let bounds = Bounds {
+        start: number_within(alloc, line, "start", 1, 1000, raw.start)?,
+        delta: number_within(alloc, line, "delta", 1, 100, raw.delta)?,
+        bound: number_within(alloc, line, "bound", 1, 64, raw.bound)?,
+    };
+    parts_in(alloc, purpose, line, raw, numbered, bounds)
 }

@@ -8,7 +8,7 @@ ghost use Rattle.offer_fields.specs.Lists.{each_of};
 ghost use Rattle.offer_fields.specs.Names.{party_of_name};
 ghost use Rattle.offer_header.specs.Names.{has_strategy, strategy_known};
 ghost use Rattle.offer_header.specs.Names.{is_name, is_name_byte, known, all_known, move_known, actor_known, name_added, name_step};
-ghost use Rattle.offer_header.specs.Names.{with_name, names_stated, ends_of, leader_step, numbered_of};
+ghost use Rattle.offer_header.specs.Names.{with_name, names_stated, ends_of, leader_step, numbered_among, numbered_by, numbered_of};
 
 use crate::raw::{RawActor, RawArc, RawHeader, RawLeader, RawParty};
 use deviator_script::Kit;
@@ -20,14 +20,14 @@ use std::alloc::Global;
 use swap_base::{ByteText, Listed, NoMemory};
 
 /// The ends of an arc, by their parties' numbers.
-#[derive(Clone, Copy, Debug, PartialEq, Eq)]
+#[derive(Clone, Copy)]
 pub struct Ends {
     pub from: usize,
     pub to: usize,
 }
 
 /// The names of a header, and its arcs and leaders by number, however many parties there are.
-#[derive(Debug, Drop)]
+#[derive(Drop)]
 pub struct Numbered {
     pub names: Listed<ByteText>,
     pub arcs: Listed<Ends>,
@@ -73,14 +73,14 @@ fn state_name<'h>(names: &mut IndexSet<&'h [u8]>, party: &RawParty<'h>) -> Resul
 
 /// The names of the parties in the header, each once.
 #[tactic(auto, using(crate::proofs::Listing::stated_on, crate::proofs::Listing::stated_done))]
-fn names_stated<'h>(alloc: Global, parties: &[RawParty<'h>]) -> Result<IndexSet<&'h [u8]>, NoMemory>
-    ensures { IfOk result (λ s. map (λ k. k.now) s.keys ≡ names_stated parties.now) }
+fn state_names<'h>(names: &mut IndexSet<&'h [u8]>, parties: &[RawParty<'h>]) -> Result<(), NoMemory>
+    requires { names.old.keys ≡ [] }
+    ensures { OnOk result (map (λ k. k.now) names.new.keys ≡ names_stated parties.now) }
 {
-    let mut names = IndexSet::new(alloc);
     for party in parties {
-        state_name(&mut names, party)?;
+        state_name(names, party)?;
     }
-    Ok(names)
+    Ok(())
 }
 
 /// A name is that of some party in the header.
@@ -211,35 +211,22 @@ fn add_party<'h>(
 }
 
 #[tactic(auto, using(swap_base::proofs::Steps::steps_on, swap_base::proofs::Steps::steps_fail, swap_base::proofs::Steps::steps_done))]
-fn names_among<'h>(
+fn add_parties<'h>(
     alloc: Global,
     kit: &Kit,
     line: u32,
     all: &IndexSet<&[u8]>,
+    names: &mut IndexSet<&'h [u8]>,
     parties: &[RawParty<'h>],
-) -> Result<IndexSet<&'h [u8]>, OfferFault>
-    ensures { Gives (λ s. map (λ k. k.now) s.keys) result
+) -> Result<(), OfferFault>
+    requires { names.old.keys ≡ [] }
+    ensures { Gives (λ _. map (λ k. k.now) names.new.keys) result
         (steps (name_step (has_strategy kit.now.names kit.now.strategies.items) line (map (λ k. k.now) all.now.keys)) [] parties.now) }
 {
-    let mut names = IndexSet::new(alloc);
     for party in parties {
-        add_party(alloc, kit, line, all, &mut names, party)?;
+        add_party(alloc, kit, line, all, names, party)?;
     }
-    Ok(names)
-}
-
-/// The names in order, no name twice, where those in scripts are among them and strategies are known.
-fn names_in<'h>(
-    alloc: Global,
-    kit: &Kit,
-    line: u32,
-    parties: &[RawParty<'h>],
-) -> Result<IndexSet<&'h [u8]>, OfferFault>
-    ensures { Gives (λ s. map (λ k. k.now) s.keys) result
-        (steps (name_step (has_strategy kit.now.names kit.now.strategies.items) line (names_stated parties.now)) [] parties.now) }
-{
-    let all = names_stated(alloc, parties)?;
-    names_among(alloc, kit, line, &all, parties)
+    Ok(())
 }
 
 #[tactic(auto, using(swap_base::proofs::Steps::position_map), unfolding(offer_fields::specs::Names::party_of_name))]
@@ -330,6 +317,40 @@ fn kept_names(alloc: Global, names: &IndexSet<&[u8]>) -> Result<Listed<ByteText>
     Ok(Listed::new(list))
 }
 
+/// The arcs and the leaders by the numbers of their names, or the first reason why a name is refused.
+fn numbered_by(
+    alloc: Global,
+    line: u32,
+    names: &IndexSet<&[u8]>,
+    header: &RawHeader<'_>,
+) -> Result<Numbered, OfferFault>
+    ensures { Gives (λ n. n) result (numbered_by line (map (λ k. k.now) names.now.keys) header.now) }
+{
+    let arcs = ends_in(alloc, line, names, header.arcs.as_slice())?;
+    let leaders = leaders_in(alloc, line, names, header.leaders.as_slice())?;
+    Ok(Numbered {
+        names: kept_names(alloc, names)?,
+        arcs,
+        leaders,
+    })
+}
+
+/// The same, where all names that the header states are known.
+fn numbered_among(
+    alloc: Global,
+    kit: &Kit,
+    line: u32,
+    all: &IndexSet<&[u8]>,
+    header: &RawHeader<'_>,
+) -> Result<Numbered, OfferFault>
+    ensures { Gives (λ n. n) result
+        (numbered_among (has_strategy kit.now.names kit.now.strategies.items) line (map (λ k. k.now) all.now.keys) header.now) }
+{
+    let mut names = IndexSet::new(alloc);
+    add_parties(alloc, kit, line, all, &mut names, header.parties.as_slice())?;
+    numbered_by(alloc, line, &names, header)
+}
+
 /// The names of the header and the numbers that stand for them, or the first reason why a name is refused.
 #[tactic(auto, unfolding(crate::specs::Names::numbered_of))]
 pub(crate) fn numbered_in(
@@ -340,12 +361,7 @@ pub(crate) fn numbered_in(
 ) -> Result<Numbered, OfferFault>
     ensures { Gives (λ n. n) result (numbered_of (has_strategy kit.now.names kit.now.strategies.items) line header.now) }
 {
-    let names = names_in(alloc, kit, line, header.parties.as_slice())?;
-    let arcs = ends_in(alloc, line, &names, header.arcs.as_slice())?;
-    let leaders = leaders_in(alloc, line, &names, header.leaders.as_slice())?;
-    Ok(Numbered {
-        names: kept_names(alloc, &names)?,
-        arcs,
-        leaders,
-    })
+    let mut all = IndexSet::new(alloc);
+    state_names(&mut all, header.parties.as_slice())?;
+    numbered_among(alloc, kit, line, &all, header)
 }

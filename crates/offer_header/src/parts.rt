@@ -5,7 +5,7 @@ ghost use Rattle.serde_json.specs.View.{view};
 ghost use Rattle.swap_base.specs.Fault.{Gives};
 ghost use Rattle.offer_fields.specs.Fields.{only, optional_text_at, text_at};
 ghost use Rattle.offer_header.specs.Raw.{script_at, strategy_at, planned_actor, object_actor, actor_of_word, actor_at, seed_at, party_fields, party_of};
-ghost use Rattle.offer_header.specs.Raw.{timelock_at, arc_fields, arc_of};
+ghost use Rattle.offer_header.specs.Raw.{timelock_at, arc_fields, arc_between, arc_of};
 ghost use Rattle.offer_header.specs.Raw.{hashlock_at, leader_fields, leader_of, row_of};
 
 use crate::raw::{RawActor, RawArc, RawLeader, RawParty, RawRow, Reading, is_plain};
@@ -179,6 +179,28 @@ fn only_arc_fields(alloc: Global, line: u32, stated: bool, object: &Value) -> Re
     only_in(alloc, line, &["amount", "from", "to"], object)
 }
 
+/// The arc between parties of these names.
+fn arc_between<'v>(
+    alloc: Global,
+    stated: bool,
+    line: u32,
+    object: &'v Value,
+    from: &'v str,
+    to: &'v str,
+) -> Result<RawArc<'v>, OfferFault>
+    ensures { Gives (λ a. a) result (arc_between stated line (view object.now) from.now to.now) }
+{
+    let amount = number_in(alloc, line, "amount", object)?;
+    let timelock = timelock_in(alloc, line, stated, object)?;
+    only_arc_fields(alloc, line, stated, object)?;
+    Ok(RawArc {
+        from: TextRef::new(from.as_bytes()),
+        to: TextRef::new(to.as_bytes()),
+        amount,
+        timelock,
+    })
+}
+
 impl<'v> Member<'v, Reading> for RawArc<'v> {
     ghost said = { arc_of };
 
@@ -192,15 +214,7 @@ impl<'v> Member<'v, Reading> for RawArc<'v> {
         is_object(alloc, line, "arcs", value)?;
         let from = text_in(alloc, line, "from", value)?;
         let to = text_in(alloc, line, "to", value)?;
-        let amount = number_in(alloc, line, "amount", value)?;
-        let timelock = timelock_in(alloc, line, reading.states_timelocks(), value)?;
-        only_arc_fields(alloc, line, reading.states_timelocks(), value)?;
-        Ok(RawArc {
-            from: TextRef::new(from.as_bytes()),
-            to: TextRef::new(to.as_bytes()),
-            amount,
-            timelock,
-        })
+        arc_between(alloc, reading.states_timelocks(), line, value, from, to)
     }
 }
 

@@ -10,7 +10,7 @@ use swap_base::{ByteText, Listed};
 use swap_digraph::{Mode, Version};
 
 /// What a header's parts are read for, and in which mode.
-#[derive(Clone, Copy, Debug, PartialEq, Eq)]
+#[derive(Clone, Copy)]
 pub struct Reading {
     pub purpose: Purpose,
     pub mode: Mode,
@@ -45,8 +45,18 @@ impl Reading {
     }
 }
 
+/// The version, the mode and the numbers of a header.
+#[derive(Clone, Copy)]
+pub struct Front {
+    pub version: Version,
+    pub mode: Mode,
+    pub start: u64,
+    pub delta: u64,
+    pub bound: u64,
+}
+
 /// Who makes a party's calls: the party itself, which conforms, the offer's events, a script, or a strategy.
-#[derive(Debug, Drop)]
+#[derive(Drop)]
 pub enum RawActor<'v> {
     Conforming,
     Manual,
@@ -54,14 +64,14 @@ pub enum RawActor<'v> {
     Strategy(ByteText),
 }
 
-#[derive(Debug, Drop)]
+#[derive(Drop)]
 pub struct RawParty<'v> {
     pub name: TextRef<'v>,
     pub actor: RawActor<'v>,
     pub seed: Option<TextRef<'v>>,
 }
 
-#[derive(Debug, Drop)]
+#[derive(Drop)]
 pub struct RawArc<'v> {
     pub from: TextRef<'v>,
     pub to: TextRef<'v>,
@@ -70,7 +80,7 @@ pub struct RawArc<'v> {
     pub timelock: u64,
 }
 
-#[derive(Debug, Drop)]
+#[derive(Drop)]
 pub struct RawLeader<'v> {
     pub party: TextRef<'v>,
     /// No text where none is stated.
@@ -78,12 +88,12 @@ pub struct RawLeader<'v> {
 }
 
 /// The keys of a party, by lock.
-#[derive(Debug, Drop)]
+#[derive(Drop)]
 pub struct RawRow<'v> {
     pub texts: Listed<TextRef<'v>>,
 }
 
-#[derive(Debug, Drop)]
+#[derive(Drop)]
 pub struct RawHeader<'v> {
     pub version: Version,
     pub mode: Mode,

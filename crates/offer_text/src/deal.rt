@@ -1,37 +1,57 @@
-//! The JSON of a deal's arcs, leaders and keys.
+//! The JSON of a deal's arcs and leaders.
 
-ghost use Rattle.std.specs.Prelude.{◌≡◌, ◌<◌, IfOk, length};
-ghost use Rattle.serde_json.specs.View.{view};
+ghost use Rattle.std.specs.Prelude.{◌≡◌, ◌<◌, IfOk, OnOk, codes, length};
+ghost use Rattle.serde_json.specs.Data.{member, no_members, object, string};
+ghost use Rattle.serde_json.specs.View.{view, members_view};
 ghost use Rattle.swap_digraph.specs.Deal.{IsWellSized};
-ghost use Rattle.offer_text.specs.Words.{AreTexts};
-ghost use Rattle.offer_text.specs.HeaderLine.{arc_data, arc_at, arcs_data, keys_data, leader_at, leaders_data};
+ghost use Rattle.offer_text.specs.Words.{number_data, AreTexts, IsBelow};
+ghost use Rattle.offer_text.specs.HeaderLine.{arc_data, arc_at, arcs_data, leader_at, leaders_data};
 
-use crate::words::{digest_value, digests_value, name_of};
-use serde_json::{Value, json};
+use crate::fields::{put_first, put_number, put_text};
+use crate::words::{digest_value, name_of};
+use serde_json::{Map, Value};
 use std::alloc::Global;
-use swap_base::{ArcId, ByteText, Digest, Listed, LockId, NoMemory};
+use swap_base::{ArcId, ByteText, LockId, NoMemory};
 use swap_digraph::{ArcEnds, Deal, Mode};
 
-fn arc_value(
+/// Puts an arc's origin and units before the others.
+fn put_origin(
     alloc: Global,
+    fields: &mut Map<String, Value>,
+    from: &str,
+    amount: u64,
+) -> Result<(), NoMemory>
+    requires { IsBelow (codes "from") (members_view fields.old.entries) }
+    ensures { OnOk result (members_view fields.new.entries
+        ≡ member (codes "amount") (number_data amount) (member (codes "from") (string from.now) (members_view fields.old.entries))) }
+{
+    put_text(alloc, fields, "from", from)?;
+    put_number(alloc, fields, "amount", amount)
+}
+
+fn put_arc(
+    alloc: Global,
+    fields: &mut Map<String, Value>,
     mode: Mode,
     names: &[ByteText],
     arc: ArcEnds,
     amount: u64,
     timelock: u32,
-) -> Result<Value, NoMemory>
+) -> Result<(), NoMemory>
+    requires none { members_view fields.old.entries ≡ no_members }
     requires from { arc.from < length names.now }
     requires to { arc.to < length names.now }
     requires texts { AreTexts names.now }
-    ensures { IfOk result (λ v. view v ≡ arc_data mode names.now arc amount timelock) }
+    ensures { OnOk result (object (members_view fields.new.entries) ≡ arc_data mode names.now arc amount timelock) }
 {
     let from = name_of(names, arc.from);
-    let to = name_of(names, arc.to);
+    put_text(alloc, fields, "to", name_of(names, arc.to))?;
     match mode {
-        Mode::Timelocks => Ok(
-            json!(in alloc; {"amount": amount, "from": from, "timelock": timelock, "to": to})?,
-        ),
-        Mode::Hashkeys => Ok(json!(in alloc; {"amount": amount, "from": from, "to": to})?),
+        Mode::Timelocks => {
+            put_number(alloc, fields, "timelock", timelock as u64)?;
+            put_origin(alloc, fields, from, amount)
+        }
+        Mode::Hashkeys => put_origin(alloc, fields, from, amount),
     }
 }
 
@@ -45,7 +65,9 @@ fn arc_at(alloc: Global, names: &[ByteText], deal: &Deal, arc: ArcId) -> Result<
     let ends = deal.graph.arcs()[arc as usize];
     let amount = deal.amounts.as_slice()[arc as usize];
     let timelock = deal.timelocks.as_slice()[arc as usize];
-    arc_value(alloc, deal.mode, names, ends, amount, timelock)
+    let mut fields = Map::new(alloc);
+    put_arc(alloc, &mut fields, deal.mode, names, ends, amount, timelock)?;
+    Ok(Value::Object(fields))
 }
 
 /// The arcs of a deal, as a list.
@@ -62,6 +84,26 @@ pub(crate) fn arcs_value(alloc: Global, names: &[ByteText], deal: &Deal) -> Resu
     Ok(Value::Array(list))
 }
 
+fn put_leader(
+    alloc: Global,
+    fields: &mut Map<String, Value>,
+    names: &[ByteText],
+    deal: &Deal,
+    lock: LockId,
+) -> Result<(), NoMemory>
+    requires none { members_view fields.old.entries ≡ no_members }
+    requires sized { IsWellSized deal.now }
+    requires lock { lock < length deal.now.leaders }
+    requires names { length names.now ≡ deal.now.graph.n }
+    requires texts { AreTexts names.now }
+    ensures { OnOk result (object (members_view fields.new.entries) ≡ leader_at names.now deal.now lock) }
+{
+    let party = name_of(names, deal.leaders.as_slice()[lock as usize]);
+    put_text(alloc, fields, "party", party)?;
+    let hashlock = digest_value(alloc, &deal.hashlocks.as_slice()[lock as usize])?;
+    put_first(alloc, fields, "hashlock", hashlock)
+}
+
 fn leader_at(
     alloc: Global,
     names: &[ByteText],
@@ -74,9 +116,9 @@ fn leader_at(
     requires texts { AreTexts names.now }
     ensures { IfOk result (λ v. view v ≡ leader_at names.now deal.now lock) }
 {
-    let party = name_of(names, deal.leaders.as_slice()[lock as usize]);
-    let hashlock = digest_value(alloc, &deal.hashlocks.as_slice()[lock as usize])?;
-    Ok(json!(in alloc; {"hashlock": hashlock, "party": party})?)
+    let mut fields = Map::new(alloc);
+    put_leader(alloc, &mut fields, names, deal, lock)?;
+    Ok(Value::Object(fields))
 }
 
 /// The leaders of a deal with their hashlocks, as a list.
@@ -93,17 +135,6 @@ pub(crate) fn leaders_value(
     let mut list = Vec::new(alloc);
     for lock in 0..deal.leaders.len() as LockId {
         list.push(leader_at(alloc, names, deal, lock)?)?;
-    }
-    Ok(Value::Array(list))
-}
-
-/// The keys of each party, as a list of lists.
-pub(crate) fn keys_value(alloc: Global, keys: &[Listed<Digest>]) -> Result<Value, NoMemory>
-    ensures { IfOk result (λ v. view v ≡ keys_data keys.now) }
-{
-    let mut list = Vec::new(alloc);
-    for row in keys {
-        list.push(digests_value(alloc, row.as_slice())?)?;
     }
     Ok(Value::Array(list))
 }

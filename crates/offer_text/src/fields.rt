@@ -5,6 +5,7 @@ ghost use Rattle.serde_json.specs.Data.{member, string};
 ghost use Rattle.serde_json.specs.View.{view, members_view};
 ghost use Rattle.offer_text.specs.Words.{number_data, IsBelow};
 
+use crate::words::word_value;
 use serde_json::{Map, Value, put};
 use std::alloc::Global;
 use swap_base::NoMemory;
@@ -33,12 +34,7 @@ pub(crate) fn put_text(
     requires { IsBelow name.now (members_view fields.old.entries) }
     ensures { OnOk result (members_view fields.new.entries ≡ member name.now (string text.now) (members_view fields.old.entries)) }
 {
-    put_first(
-        alloc,
-        fields,
-        name,
-        Value::String(String::from_str(alloc, text)?),
-    )
+    put_first(alloc, fields, name, word_value(alloc, text)?)
 }
 
 /// Puts a number before the others.

@@ -1,15 +1,16 @@
 //! The header line of a job.
 
 ghost use Rattle.std.specs.Prelude.{◌≡◌, IfOk, OnOk, codes, true};
-ghost use Rattle.serde_json.specs.Data.{string, no_members};
+ghost use Rattle.serde_json.specs.Data.{member, string, no_members};
 ghost use Rattle.serde_json.specs.View.{view, members_view};
-ghost use Rattle.offer_text.specs.Words.{IsBelow};
+ghost use Rattle.offer_text.specs.Words.{number_data, IsBelow};
 ghost use Rattle.offer_text.specs.HeaderLine.{first_fields, fields_by_mode, last_fields, leaders_data, finish_word, shown_header, made_header, header_data};
 ghost use Rattle.offer_text.specs.HeaderLine.{header_line, is_make, number_of, AreSayable, IsWritable};
 
-use crate::deal::{arcs_value, keys_value, leaders_value};
+use crate::deal::{arcs_value, leaders_value};
 use crate::fields::{put_first, put_number, put_text};
 use crate::parties::{made_parties, shown_parties};
+use crate::shown::list_value;
 use deviator_script::{Finish, Job, Purpose};
 use serde_json::{Map, Value};
 use std::alloc::Global;
@@ -25,6 +26,22 @@ fn number_of(version: Version) -> u64
     }
 }
 
+/// The last three fields of a header.
+fn put_parties(
+    alloc: Global,
+    fields: &mut Map<String, Value>,
+    job: &Job,
+    parties: Value,
+) -> Result<(), NoMemory>
+    requires { members_view fields.old.entries ≡ no_members }
+    ensures { OnOk result (members_view fields.new.entries ≡ member (codes "parties") (view parties)
+        (member (codes "start") (number_data job.now.deal.start) (member (codes "swap") (number_data (number_of job.now.deal.version)) no_members))) }
+{
+    put_number(alloc, fields, "swap", number_of(job.deal.version))?;
+    put_number(alloc, fields, "start", job.deal.start as u64)?;
+    put_first(alloc, fields, "parties", parties)
+}
+
 /// The fields that every header has last.
 fn put_last_fields(
     alloc: Global,
@@ -38,11 +55,9 @@ fn put_last_fields(
     ensures { OnOk result (members_view fields.new.entries
         ≡ last_fields (leaders_data job.now.names job.now.deal) (string mode.now) (view parties) job.now.deal) }
 {
-    let leaders = leaders_value(alloc, job.names.as_slice(), &job.deal)?;
-    put_number(alloc, fields, "swap", number_of(job.deal.version))?;
-    put_number(alloc, fields, "start", job.deal.start as u64)?;
-    put_first(alloc, fields, "parties", parties)?;
+    put_parties(alloc, fields, job, parties)?;
     put_text(alloc, fields, "mode", mode)?;
+    let leaders = leaders_value(alloc, job.names.as_slice(), &job.deal)?;
     put_first(alloc, fields, "leaders", leaders)
 }
 
@@ -60,8 +75,8 @@ fn put_by_mode(
     match job.deal.mode {
         Mode::Timelocks => put_last_fields(alloc, fields, job, "timelocks", parties),
         Mode::Hashkeys => {
-            let keys = keys_value(alloc, job.deal.keys.as_slice())?;
             put_last_fields(alloc, fields, job, "hashkeys", parties)?;
+            let keys = list_value(alloc, job.deal.keys.as_slice())?;
             put_first(alloc, fields, "keys", keys)
         }
     }
@@ -77,9 +92,9 @@ fn put_first_fields(
     requires writable { IsWritable job.now }
     ensures { OnOk result (members_view fields.new.entries ≡ first_fields job.now.names job.now.deal (members_view fields.old.entries)) }
 {
-    let arcs = arcs_value(alloc, job.names.as_slice(), &job.deal)?;
     put_number(alloc, fields, "delta", job.deal.delta as u64)?;
     put_number(alloc, fields, "bound", job.deal.bound as u64)?;
+    let arcs = arcs_value(alloc, job.names.as_slice(), &job.deal)?;
     put_first(alloc, fields, "arcs", arcs)
 }
 

@@ -8,6 +8,7 @@ mod fields;
 mod header;
 mod moves;
 mod parties;
+mod shown;
 mod terms;
 mod words;
 

@@ -9,9 +9,9 @@ ghost use Rattle.offer_text.specs.HeaderLine.{shown_party, made_party, parties_d
 
 use crate::fields::{put_first, put_text};
 use crate::moves::moves_value;
-use crate::words::{digest_value, name_of};
+use crate::words::{digest_value, name_of, word_value};
 use deviator_script::{Job, Role};
-use serde_json::{Map, Value, json};
+use serde_json::{Map, Value};
 use std::alloc::Global;
 use swap_base::{ByteText, Digest, NoMemory, PartyId};
 
@@ -21,14 +21,30 @@ fn word_of_conforming(conforms: bool) -> &'static str
     if conforms { "conforming" } else { "manual" }
 }
 
+fn put_shown_party(
+    alloc: Global,
+    fields: &mut Map<String, Value>,
+    job: &Job,
+    p: PartyId,
+) -> Result<(), NoMemory>
+    requires none { members_view fields.old.entries ≡ no_members }
+    requires writable { IsWritable job.now }
+    requires party { p < job.now.deal.graph.n }
+    ensures { OnOk result (object (members_view fields.new.entries) ≡ shown_party job.now p) }
+{
+    put_text(alloc, fields, "name", name_of(job.names.as_slice(), p))?;
+    let actor = word_of_conforming(job.conforming.as_slice()[p as usize]);
+    put_text(alloc, fields, "actor", actor)
+}
+
 fn shown_party(alloc: Global, job: &Job, p: PartyId) -> Result<Value, NoMemory>
     requires writable { IsWritable job.now }
     requires party { p < job.now.deal.graph.n }
     ensures { IfOk result (λ v. view v ≡ shown_party job.now p) }
 {
-    let actor = word_of_conforming(job.conforming.as_slice()[p as usize]);
-    let name = name_of(job.names.as_slice(), p);
-    Ok(json!(in alloc; {"actor": actor, "name": name})?)
+    let mut fields = Map::new(alloc);
+    put_shown_party(alloc, &mut fields, job, p)?;
+    Ok(Value::Object(fields))
 }
 
 /// The parties as a transcript shows them, as a list.
@@ -50,12 +66,6 @@ fn one_field(alloc: Global, name: &str, value: Value) -> Result<Value, NoMemory>
     let mut fields = Map::new(alloc);
     put_first(alloc, &mut fields, name, value)?;
     Ok(Value::Object(fields))
-}
-
-fn word_value(alloc: Global, word: &str) -> Result<Value, NoMemory>
-    ensures { IfOk result (λ v. view v ≡ string word.now) }
-{
-    Ok(Value::String(String::from_str(alloc, word)?))
 }
 
 /// The name of a strategy, as an actor.
@@ -98,18 +108,33 @@ fn put_seed(
     }
 }
 
+fn put_made_party(
+    alloc: Global,
+    fields: &mut Map<String, Value>,
+    job: &Job,
+    p: PartyId,
+) -> Result<(), NoMemory>
+    requires none { members_view fields.old.entries ≡ no_members }
+    requires writable { IsWritable job.now }
+    requires sayable { AreSayable job.now }
+    requires party { p < job.now.deal.graph.n }
+    ensures { OnOk result (object (members_view fields.new.entries) ≡ made_party job.now p) }
+{
+    let names = job.names.as_slice();
+    put_seed(alloc, fields, &job.seeds.as_slice()[p as usize])?;
+    put_text(alloc, fields, "name", name_of(names, p))?;
+    let actor = actor_value(alloc, names, &job.roles.as_slice()[p as usize])?;
+    put_first(alloc, fields, "actor", actor)
+}
+
 fn made_party(alloc: Global, job: &Job, p: PartyId) -> Result<Value, NoMemory>
     requires writable { IsWritable job.now }
     requires sayable { AreSayable job.now }
     requires party { p < job.now.deal.graph.n }
     ensures { IfOk result (λ v. view v ≡ made_party job.now p) }
 {
-    let names = job.names.as_slice();
-    let actor = actor_value(alloc, names, &job.roles.as_slice()[p as usize])?;
     let mut fields = Map::new(alloc);
-    put_seed(alloc, &mut fields, &job.seeds.as_slice()[p as usize])?;
-    put_text(alloc, &mut fields, "name", name_of(names, p))?;
-    put_first(alloc, &mut fields, "actor", actor)?;
+    put_made_party(alloc, &mut fields, job, p)?;
     Ok(Value::Object(fields))
 }
 

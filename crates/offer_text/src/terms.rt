@@ -1,7 +1,7 @@
 //! The JSON of a publish: just the terms that were given.
 
 ghost use Rattle.std.specs.Prelude.{◌≡◌, ℕ, List, IfOk, OnOk, codes};
-ghost use Rattle.serde_json.specs.Data.{member, no_members};
+ghost use Rattle.serde_json.specs.Data.{member, no_members, object};
 ghost use Rattle.serde_json.specs.View.{view, members_view};
 ghost use Rattle.deviator_script.specs.declared.moves.Move.TheVariants.{Publish as publishes};
 ghost use Rattle.offer_text.specs.Words.{digest_data, list_data, number_data, with_optional, IsBelow};
@@ -114,10 +114,11 @@ fn put_first_terms(
     put_amount(alloc, fields, amount)
 }
 
-/// A publish.
+/// Puts the fields of a publish.
 #[tactic(auto, unfolding(crate::specs::Moves::move_data))]
-pub(crate) fn publish_value(
+pub(crate) fn put_publish(
     alloc: Global,
+    fields: &mut Map<String, Value>,
     arc: ArcId,
     start: Option<u32>,
     delta: Option<u32>,
@@ -125,12 +126,12 @@ pub(crate) fn publish_value(
     timelock: Option<u32>,
     amount: Option<u64>,
     locks: &Option<LockList>,
-) -> Result<Value, NoMemory>
-    ensures { IfOk result (λ v. (names : List (List ℕ)) → view v ≡ move_data names (publishes arc start delta bound timelock amount locks.now)) }
+) -> Result<(), NoMemory>
+    requires { members_view fields.old.entries ≡ no_members }
+    ensures { OnOk result ((names : List (List ℕ)) → object (members_view fields.new.entries)
+        ≡ move_data names (publishes arc start delta bound timelock amount locks.now)) }
 {
-    let mut fields = Map::new(alloc);
-    put_last_terms(alloc, &mut fields, locks, start, timelock)?;
-    put_text(alloc, &mut fields, "do", "publish")?;
-    put_first_terms(alloc, &mut fields, amount, arc, bound, delta)?;
-    Ok(Value::Object(fields))
+    put_last_terms(alloc, fields, locks, start, timelock)?;
+    put_text(alloc, fields, "do", "publish")?;
+    put_first_terms(alloc, fields, amount, arc, bound, delta)
 }

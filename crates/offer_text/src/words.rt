@@ -1,14 +1,12 @@
-//! The JSON of names, digests and lists of them.
+//! The JSON of names and digests.
 
 ghost use Rattle.std.specs.Prelude.{◌≡◌, ◌<◌, IfOk, length, map};
 ghost use Rattle.std.specs.Str.{IsUtf8};
 ghost use Rattle.serde_json.specs.Data.{string};
 ghost use Rattle.serde_json.specs.View.{view};
-ghost use Rattle.swap_base.specs.Text.{joined};
 ghost use Rattle.offer_text.specs.Words.{digest_data, list_data, name_data, AreTexts};
-ghost use Rattle.offer_text.specs.Moves.{signature_data, AreBelow};
+ghost use Rattle.offer_text.specs.Moves.{AreBelow};
 
-use hash_signature::Sig;
 use serde_json::Value;
 use std::alloc::Global;
 use std::str;
@@ -34,12 +32,11 @@ pub(crate) fn name_of(names: &[ByteText], p: PartyId) -> &str
     text_of(names[p as usize].as_slice())
 }
 
-fn name_value(alloc: Global, names: &[ByteText], p: PartyId) -> Result<Value, NoMemory>
-    requires party { p < length names.now }
-    requires texts { AreTexts names.now }
-    ensures { IfOk result (λ v. view v ≡ name_data names.now p) }
+/// A word, as it is.
+pub(crate) fn word_value(alloc: Global, word: &str) -> Result<Value, NoMemory>
+    ensures { IfOk result (λ v. view v ≡ string word.now) }
 {
-    Ok(Value::String(String::from_str(alloc, name_of(names, p))?))
+    Ok(Value::String(String::from_str(alloc, word)?))
 }
 
 /// The names of parties, as a list.
@@ -54,7 +51,7 @@ pub(crate) fn names_value(
 {
     let mut list = Vec::new(alloc);
     for p in parties {
-        list.push(name_value(alloc, names, *p)?)?;
+        list.push(word_value(alloc, name_of(names, *p))?)?;
     }
     Ok(Value::Array(list))
 }
@@ -64,33 +61,4 @@ pub(crate) fn digest_value(alloc: Global, digest: &Digest) -> Result<Value, NoMe
     ensures { IfOk result (λ v. view v ≡ digest_data digest.now) }
 {
     Ok(Value::String(hex::encode(alloc, digest.as_slice())?))
-}
-
-/// The digits of digests, as a list.
-pub(crate) fn digests_value(alloc: Global, digests: &[Digest]) -> Result<Value, NoMemory>
-    ensures { IfOk result (λ v. view v ≡ list_data digest_data digests.now) }
-{
-    let mut list = Vec::new(alloc);
-    for digest in digests {
-        list.push(digest_value(alloc, digest)?)?;
-    }
-    Ok(Value::Array(list))
-}
-
-fn signature_value(alloc: Global, sig: &Sig) -> Result<Value, NoMemory>
-    ensures { IfOk result (λ v. view v ≡ signature_data sig.now) }
-{
-    let bytes = sig.to_bytes();
-    Ok(Value::String(hex::encode(alloc, bytes.as_slice())?))
-}
-
-/// The digits of signatures, as a list.
-pub(crate) fn signatures_value(alloc: Global, sigs: &[Sig]) -> Result<Value, NoMemory>
-    ensures { IfOk result (λ v. view v ≡ list_data signature_data sigs.now) }
-{
-    let mut list = Vec::new(alloc);
-    for sig in sigs {
-        list.push(signature_value(alloc, sig)?)?;
-    }
-    Ok(Value::Array(list))
 }

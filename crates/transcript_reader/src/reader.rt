@@ -1,9 +1,8 @@
 //! The reader of a transcript's lines.
 
-ghost use Rattle.std.specs.Prelude.{◌≡◌, IfOk, Ok, Err, true};
+ghost use Rattle.std.specs.Prelude.{◌≡◌, IfOk, MatchOption, Ok, Err};
 ghost use Rattle.swap_base.specs.Fault.{Gives};
 ghost use Rattle.transcript_reader.specs.Header.{header_read, IsTold};
-ghost use Rattle.transcript_book.specs.Stages.{is_over};
 ghost use Rattle.transcript_reader.specs.Reading.{ReadsLine, Story, finished, ledgers_told, story_of, story_so_far, unless_long};
 ghost use Rattle.transcript_reader.specs.Stages.{more_bytes, no_lines, with_line};
 
@@ -20,7 +19,7 @@ use transcript_book::BookReader;
 const LIMIT: u64 = 16_777_216;
 
 /// Reads a transcript line by line. It keeps the book that the lines state, and none of their text.
-#[derive(Debug, Drop)]
+#[derive(Drop)]
 pub struct TranscriptReader {
     stage: Stage,
     lines: u32,
@@ -97,40 +96,29 @@ fn cut_or_long(bytes: u64) -> TranscriptReason
     }
 }
 
-/// The job and the book, unless there are too many bytes.
-fn unless_long(reader: BookReader, bytes: u64) -> Result<(Job, Book), TranscriptFault>
-    requires { IsTold reader.job }
-    ensures exact { Gives story_of result (unless_long bytes (Ok (story_so_far reader))) }
-    ensures told { IfOk result (λ p. IsTold p.0) }
-{
-    if bytes > LIMIT {
-        Err(Fault::Refused(TranscriptReason::TooLong))
-    } else {
-        Ok(reader.into_book())
-    }
-}
-
-/// The job and the book of ledgers of which the last line was read.
-#[tactic(auto, using(crate::proofs::Told::with_more, crate::proofs::Told::without_more))]
-fn told_over(
-    reader: BookReader,
+/// Why ledgers that were read are no whole transcript, if they aren't.
+#[tactic(auto, using(crate::proofs::Told::with_more, crate::proofs::Told::too_long, crate::proofs::Told::without_more, crate::proofs::Told::not_over))]
+fn wrong_at_end(
+    reader: &BookReader,
     lines: u32,
     bytes: u64,
     rest: &[u8],
-) -> Result<(Job, Book), TranscriptFault>
-    requires told { IsTold reader.job }
-    requires over { is_over reader.place ≡ true }
-    ensures exact { Gives story_of result (ledgers_told lines bytes reader rest.now) }
-    ensures told { IfOk result (λ p. IsTold p.0) }
+) -> Option<TranscriptReason>
+    ensures { MatchOption result (ledgers_told lines bytes reader.now rest.now ≡ Ok (story_so_far reader.now))
+        (λ r. ledgers_told lines bytes reader.now rest.now ≡ Err r) }
 {
-    match rest {
-        [] => unless_long(reader, bytes),
-        _ => Err(Fault::Refused(TranscriptReason::BadLine(lines.saturating_add(1)))),
+    if !reader.is_over() {
+        Some(cut_or_long(bytes))
+    } else if !rest.is_empty() {
+        Some(TranscriptReason::BadLine(lines.saturating_add(1)))
+    } else if bytes > LIMIT {
+        Some(TranscriptReason::TooLong)
+    } else {
+        None
     }
 }
 
 /// The job and the book of the ledgers that were read.
-#[tactic(auto, using(crate::proofs::Told::not_over))]
 fn told(
     reader: BookReader,
     lines: u32,
@@ -141,9 +129,8 @@ fn told(
     ensures exact { Gives story_of result (ledgers_told lines bytes reader rest.now) }
     ensures told { IfOk result (λ p. IsTold p.0) }
 {
-    if reader.is_over() {
-        told_over(reader, lines, bytes, rest)
-    } else {
-        Err(Fault::Refused(cut_or_long(bytes)))
+    match wrong_at_end(&reader, lines, bytes, rest) {
+        Some(reason) => Err(Fault::Refused(reason)),
+        None => Ok(reader.into_book()),
     }
 }

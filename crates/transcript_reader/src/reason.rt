@@ -5,7 +5,7 @@ use refusals::Refusal;
 use swap_base::{Fault, NoMemory, TryCopy};
 
 /// Why a text is no transcript. Lines are counted from 1.
-#[derive(Debug, Drop)]
+#[derive(Drop)]
 pub enum TranscriptReason {
     /// The first line that isn't of the form that stands next, or that states what doesn't fit the deal.
     BadLine(u32),

@@ -14,7 +14,7 @@ use swap_base::{Fault, TryCopy};
 use transcript_book::BookReader;
 
 /// Which line of a transcript stands next.
-#[derive(Debug, Drop)]
+#[derive(Drop)]
 pub enum Stage {
     /// The first line.
     First,

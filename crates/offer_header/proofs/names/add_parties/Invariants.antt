@@ -1,7 +1,7 @@
 use Rattle.std.proofs.Common.{◌≡◌, [], map, drop}
 use Rattle.swap_base.specs.Fault.{steps}
 use Rattle.offer_header.specs.Names.{has_strategy, name_step}
-use Rattle.offer_header.proofs.names.names_among.Given as goal
+use Rattle.offer_header.proofs.names.add_parties.Given as goal
 
 abbrev pub invariant-loop-party : goal.invariant-loop-party
 invariant-loop-party g l =

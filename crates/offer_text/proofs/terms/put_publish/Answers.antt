@@ -3,7 +3,7 @@ use Rattle.std.specs.Prelude.{codes}
 use Rattle.serde_json.specs.Data.{no_members}
 use Rattle.offer_text.specs.Words.{digest_data, list_data, number_data, with_optional, IsBelow}
 use Rattle.offer_text.proofs.Values.{below_optional}
-use Rattle.offer_text.proofs.terms.publish_value.Goals as goal
+use Rattle.offer_text.proofs.terms.put_publish.Goals as goal
 
 pub put_text-requires : goal.put_text-requires
 put_text-requires c =

@@ -1,0 +1,117 @@
+-- What the fields of a header say, and what holds of the header that they give.
+use Rattle.std.proofs.Common.{◌≡◌, ℕ, Bool, List, Result, Ok, Err, sym, ap, codes}
+use Rattle.std.specs.Prelude.{IfOk}
+use Rattle.serde_json.specs.Data.{Data}
+use Rattle.swap_base.specs.Fault.{Gives}
+use Rattle.swap_base.specs.declared.fault.Fault.{Fault}
+use Rattle.deviator_script.specs.declared.job.Purpose.{Purpose}
+use Rattle.refusals.specs.declared.reason.Reason.{Reason}
+use Rattle.offer_fields.specs.Fields.{number_at, list_at, only}
+use Rattle.offer_header.specs.Raw.{arc_of, finish_at, header_fields, keys_at, leader_of, mode_at, party_of, raw_of, states_keys, version_at}
+use Rattle.offer_header.specs.Raw.{IsModeOf, IsUntimed, IsUntold, HasWords}
+use Rattle.offer_header.specs.Names.{numbered_of}
+use Rattle.offer_header.specs.Limits.{limited_of, HoldsEach}
+use Rattle.offer_header.specs.Scripts.{scripts_placed, AreMade}
+use Rattle.offer_header.specs.Header.{header_by, AreSimpleFor, IsUntoldFor, IsWithin}
+use Rattle.offer_header.specs.declared.raw.RawHeader.{RawHeader}
+use Rattle.offer_header.specs.declared.names.Numbered.{Numbered}
+use Rattle.offer_header.specs.declared.header.Header.{Header}
+use Rattle.offer_header.proofs.Allowed.{is_mode_of}
+use Rattle.offer_header.proofs.Answered.{after, answered, by_value}
+use Rattle.offer_header.proofs.Held.{are_held}
+use Rattle.offer_header.proofs.Limited.{is_within, opened}
+use Rattle.offer_header.proofs.Numbered.{is_numbered}
+use Rattle.offer_header.proofs.Simple.{are_simple, has_words}
+use Rattle.offer_header.proofs.Standing.{all_made}
+use Rattle.offer_header.proofs.Untimed.{arcs_untimed}
+use Rattle.offer_header.proofs.Untold.{is_untold, limited_untold}
+
+-- ---- the fields
+
+record IsFit (purpose : Purpose) (h : RawHeader) : Type 0 where
+  mode : IsModeOf h.version h.mode
+  untimed : IsUntimed h
+  untold : IsUntold purpose h
+  words : HasWords purpose h
+
+fits : (purpose : Purpose) (line : ℕ) (d : Data) (h : RawHeader) → mode_at line h.version d ≡ Ok h.mode
+    → list_at line (codes "parties") (party_of (record { purpose = purpose; mode = h.mode }) line) d ≡ Ok h.parties
+    → list_at line (codes "arcs") (arc_of (record { purpose = purpose; mode = h.mode }) line) d ≡ Ok h.arcs
+    → finish_at line purpose d ≡ Ok h.finish → IsFit purpose h
+fits purpose line d h m ps arcs f = record {
+  mode = is_mode_of line h.version d h.mode m;
+  untimed = λ is. arcs_untimed (record { purpose = purpose; mode = h.mode }) line d h.arcs is arcs;
+  untold = is_untold purpose h.mode line d h ps f;
+  words = has_words purpose h.mode line d h ps;
+}
+
+raw_fits : (purpose : Purpose) (line : ℕ) (d : Data) → IfOk (raw_of purpose line d) (IsFit purpose)
+unfolding raw_of
+raw_fits purpose line d =
+    after (version_at line d) _ (IsFit purpose) (λ version v.
+    after (mode_at line version d) _ (IsFit purpose) (λ mode m.
+    after (number_at line (codes "start") d) _ (IsFit purpose) (λ start s.
+    after (number_at line (codes "delta") d) _ (IsFit purpose) (λ delta t.
+    after (number_at line (codes "bound") d) _ (IsFit purpose) (λ bound b.
+    after (list_at line (codes "parties") (party_of (record { purpose = purpose; mode = mode }) line) d) _ (IsFit purpose) (λ parties ps.
+    after (list_at line (codes "arcs") (arc_of (record { purpose = purpose; mode = mode }) line) d) _ (IsFit purpose) (λ arcs some.
+    after (list_at line (codes "leaders") (leader_of (record { purpose = purpose; mode = mode }) line) d) _ (IsFit purpose) (λ leaders ls.
+    after (keys_at line (states_keys purpose mode) d) _ (IsFit purpose) (λ keys ks.
+    after (finish_at line purpose d) _ (IsFit purpose) (λ finish f.
+    after (only line (header_fields purpose (states_keys purpose mode)) d) _ (IsFit purpose) (λ u o.
+    fits purpose line d (record {
+      version = version;
+      mode = mode;
+      start = start;
+      delta = delta;
+      bound = bound;
+      parties = parties;
+      arcs = arcs;
+      leaders = leaders;
+      keys = keys;
+      finish = finish;
+    }) m ps some f)))))))))))
+
+-- ---- the header
+
+-- What holds of each header that is read.
+pub record IsRead (has : List ℕ → Bool) (purpose : Purpose) (line : ℕ) (h : Header) : Type 0 where
+  pub purpose_is : h.purpose ≡ purpose
+  pub within : IsWithin h
+  pub untold : IsUntoldFor purpose h
+  pub simple : AreSimpleFor purpose h
+  pub strategies : HoldsEach has h.roles
+  pub placed : scripts_placed line h ≡ Ok tt
+  pub made : AreMade line h
+
+is_read : (has : List ℕ → Bool) (purpose : Purpose) (line : ℕ) (raw : RawHeader) (n : Numbered) (h : Header) → IsFit purpose raw
+    → numbered_of has line raw ≡ Ok n → limited_of purpose line raw n ≡ Ok h → scripts_placed line h ≡ Ok tt → IsRead has purpose line h
+is_read has purpose line raw n h fit m l s =
+    let numbered = is_numbered has line raw n m in
+    let o = opened line purpose raw n h l in record {
+      purpose_is = ap (λ (x : Header). x.purpose) (sym o.same);
+      within = is_within line purpose raw n h numbered fit.mode fit.untimed l;
+      untold = limited_untold line purpose raw n h fit.untold l;
+      simple = are_simple line purpose raw n h fit.words l;
+      strategies = are_held has line purpose raw n h m l;
+      placed = s;
+      made = all_made line purpose raw n h numbered l;
+    }
+
+all_read : (has : List ℕ → Bool) (purpose : Purpose) (line : ℕ) (raw : RawHeader) → IsFit purpose raw
+    → IfOk (header_by has purpose line raw) (IsRead has purpose line)
+all_read has purpose line raw fit =
+    after (numbered_of has line raw) _ (IsRead has purpose line) (λ n m.
+    after (limited_of purpose line raw n) _ (IsRead has purpose line) (λ h l.
+    after (scripts_placed line h) _ (IsRead has purpose line) (λ u s. is_read has purpose line raw n h fit m l s)))
+
+weaker : {A E : Type 0} (r : Result A E) (P Q : A → Type 0) → ((x : A) → P x → Q x) → IfOk r P → IfOk r Q
+weaker (Ok x) P Q h p = h x p
+weaker (Err e) P Q h p = tt
+
+-- and so it holds of what is answered once the fields are read
+pub read_so : (has : List ℕ → Bool) (purpose : Purpose) (line : ℕ) (d : Data) (raw : RawHeader) (r : Result Header (Fault Reason)) (Q : Header → Type 0)
+    → raw_of purpose line d ≡ Ok raw → Gives (λ h. h) r (header_by has purpose line raw) → ((h : Header) → IsRead has purpose line h → Q h) → IfOk r Q
+read_so has purpose line d raw r Q e g h =
+    let fit = by_value raw (raw_of purpose line d) (IsFit purpose) e (raw_fits purpose line d) in
+    weaker r (IsRead has purpose line) Q h (answered r (header_by has purpose line raw) (IsRead has purpose line) g (all_read has purpose line raw fit))
