@@ -6,7 +6,7 @@ use Rattle.std.proofs.Math.ListN.{drop_of_length-le}
 use Rattle.std.proofs.Math.Nat.{mul-le-mul_left}
 use Rattle.std.proofs.Math.Seq.{drop-append-add}
 use Rattle.std.proofs.lemmas.Grind.{flat_map-append}
-use Rattle.std.proofs.lemmas.List.{drop-append-le, drop_more, length-drop, take_more, take-append-drop}
+use Rattle.std.proofs.lemmas.List.{drop-append-le, drop_more, length-drop, take_all, take_more, take-append-drop}
 use Rattle.std.proofs.lemmas.List.Concat.{flat_map-cons}
 use Rattle.std.proofs.lemmas.List.Sums.{sum_by-append, sum_by_push}
 use Rattle.ledger_core.proofs.History.{height_append}
@@ -48,6 +48,16 @@ last_ticks r n l e =
 
 pub below_last : (r : Run) (n : ℕ) → n ≤ r.count → IsRightRun r → r.by * n ≤ r.last
 below_last r n l e = let f : r.by * n ≤ r.by * r.count = mul-le-mul_left r.by l in omega arith
+
+-- one more tick of a run
+pub put_tick : (start out out' : List Entry) (r : Run) (n high : ℕ) → out ≡ start ++ ticks_above r.above r.by n → high ≡ r.above + r.by * n
+    → out' ≡ out ++ tick_entry r.by (high + r.by) Accepted ∷ [] → out' ≡ start ++ ticks_above r.above r.by (n + 1)
+put_tick start out out' r n high so_far at put =
+    let next : high + r.by ≡ r.above + r.by * suc n = omega arith in
+    let more : suc n ≡ n + 1 = omega arith in
+    put ∙ ap₂ (λ z h. z ++ tick_entry r.by h Accepted ∷ []) so_far next
+    ∙ append_assoc start (ticks_above r.above r.by n) (tick_entry r.by (r.above + r.by * suc n) Accepted ∷ [])
+    ∙ ap (λ z. start ++ ticks_above r.above r.by z) more
 
 pub height_ticks : (at k n : ℕ) → height (ticks_above at k n) ≡ k * n
 height_ticks at k zero = omega arith
@@ -110,6 +120,16 @@ pub expand_split : (xs : List Item) (i : ℕ) (x : Item) → i < length xs → x
 expand_split xs i x l e =
     ap expand (sym (take-append-drop i xs)) ∙ expand_append (take i xs) (drop i xs)
     ∙ ap (λ ys. expand (take i xs) ++ ys) (ap expand (drop_more xs i x l ∙ ap (λ z. z ∷ drop (i + 1) xs) (sym e)) ∙ expand_cons x (drop (i + 1) xs))
+
+-- so far the items' entries were put, and then one more's
+pub put_more : (start out out' : List Entry) (xs : List Item) (i : ℕ) (x : Item) → i < length xs → x ≡ get_or xs i x
+    → out ≡ start ++ expand (take i xs) → out' ≡ out ++ entries_of x → out' ≡ start ++ expand (take (i + 1) xs)
+put_more start out out' xs i x l e so_far put =
+    put ∙ ap (λ z. z ++ entries_of x) so_far ∙ append_assoc start (expand (take i xs)) (entries_of x)
+    ∙ ap (λ z. start ++ z) (sym (expand_more xs i x l e))
+
+pub put_all : (start out : List Entry) (xs : List Item) (i : ℕ) → length xs ≤ i → out ≡ start ++ expand (take i xs) → out ≡ start ++ expand xs
+put_all start out xs i l so_far = so_far ∙ ap (λ z. start ++ expand z) (take_all i xs l)
 
 -- what an item raises the height to is at most what all items do
 pub height_to : (xs : List Item) (i : ℕ) (x : Item) → i < length xs → x ≡ get_or xs i x

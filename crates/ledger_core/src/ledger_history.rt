@@ -212,9 +212,9 @@ fn copy_last(alloc: Global, items: &[Item], n: usize) -> Result<Vec<Item>, NoMem
     ensures list { IfOk result (λ v. expand v.items ≡ drop (length (expand items.now) - n) (expand items.now)) }
     ensures right { IfOk result (λ v. AllByRecursion IsRight v.items) }
 {
-    let begin = begin_of(items, n)?;
-    let mut list = Vec::with_capacity(alloc, items.len() - begin.next + 1)?;
-    list.push(begin.first)?;
-    copy_onto(&mut list, &items[begin.next..])?;
+    let Begin { first, next } = begin_of(items, n)?;
+    let mut list = Vec::with_capacity(alloc, items.len() - next + 1)?;
+    list.push(first)?;
+    copy_onto(&mut list, &items[next..])?;
     Ok(list)
 }

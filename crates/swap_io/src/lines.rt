@@ -90,7 +90,6 @@ impl Lines {
         ensures later { S.faults source.old ≤ S.faults source.new }
         ensures failed { IsErrOf result DrainFault.ReadFault → Rose (S.faults source.old) (S.faults source.new) }
         ensures kept { self.new.kept ≡ self.old.kept }
-        ensures few { length self.new.kept ≤ 8192 }
         ensures most { self.new.taken ≤ self.new.limit + 1 }
     {
         let room = self.limit - self.taken;
@@ -151,8 +150,6 @@ impl Lines {
         ensures line { IfOk result (λ ended. TakesLine ended self.old self.new line.old.items line.new.items) }
         ensures taken { self.new.taken ≡ self.old.taken }
         ensures limit { self.new.limit ≡ self.old.limit }
-        ensures few { length self.new.kept ≤ 8192 }
-        ensures most { self.new.taken ≤ self.new.limit + 1 }
     {
         let rest = &self.buffer[self.at..];
         match cut(rest) {

@@ -8,6 +8,7 @@ invariant-parts g l = record {
       × (l.fn.self.kept ++ bytes ≡ l.line.items ++ l.self.kept);
   one : IsTrue (lacks_feed l.line.items);
   no_more : length l.self.kept + l.fn.self.taken ≤ length l.fn.self.kept + l.self.taken;
+  few : length l.self.kept ≤ 8192;
   within : l.self.taken ≤ l.self.limit;
   later : g.S.Source.faults l.fn.source ≤ g.S.Source.faults l.source;
 }
