@@ -4,6 +4,8 @@
 #[cfg(test)]
 mod attackers;
 #[cfg(test)]
+mod attacking;
+#[cfg(test)]
 mod fast_clock;
 #[cfg(test)]
 mod keys;

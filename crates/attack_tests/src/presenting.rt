@@ -1,17 +1,10 @@
 //! Hashkeys that are presented where they don't belong, that come late, and that parties craft together.
 
-ghost use Rattle.std.specs.Prelude.{IfOk};
-ghost use Rattle.deviator_script.specs.View.{IsView, MayAnswer};
-
-use crate::attackers::{Answered, presenter_rule};
+use crate::attacking::{Attacker, attacks_of};
 use crate::tables::{Same, attacks};
-use deviator_script::{Kit, Rule};
-use ledger_core::Book;
+use deviator_script::Kit;
 use std::test::Fail;
-use swap_base::PartyId;
-use swap_digraph::Deal;
 use table_runner::deals::{HASHKEYS, TIMELOCKS};
-use table_runner::kit_with;
 
 /// Three parties of whom two lead.
 const TWO_LEADERS: &str = concat!(
@@ -348,23 +341,34 @@ findings 0
 
 #[test]
 fn every_known_hashkey_is_presented(rt: HostRuntime) -> Result<(), Fail> {
-    let alloc = rt.alloc();
-    let rule: Rule = Box::new(
-        alloc,
-        move |deal: &Deal, me: PartyId, turn: u32, known: &Book| -> Answered
-            requires view { IsView deal.now me known.now.histories }
-            ensures fits { IfOk result (MayAnswer deal.now me) }
-        { presenter_rule(alloc, deal, me, turn, known) },
+    attacks_of(
+        &rt,
+        rt.alloc(),
+        Attacker::Presenter,
+        HASHKEYS,
+        WITH_HASHKEYS,
+        &Same::Entries,
     )?;
-    let kit = kit_with(alloc, "attacker", rule)?;
-    attacks(&rt, alloc, &kit, HASHKEYS, WITH_HASHKEYS, Same::Entries)?;
-    attacks(&rt, alloc, &kit, TIMELOCKS, WITH_TIMELOCKS, Same::Entries)?;
-    attacks(&rt, alloc, &kit, TWO_LEADERS, OF_TWO, Same::Endings)
+    attacks_of(
+        &rt,
+        rt.alloc(),
+        Attacker::Presenter,
+        TIMELOCKS,
+        WITH_TIMELOCKS,
+        &Same::Entries,
+    )?;
+    attacks_of(
+        &rt,
+        rt.alloc(),
+        Attacker::Presenter,
+        TWO_LEADERS,
+        OF_TWO,
+        &Same::Endings,
+    )
 }
 
 #[test]
 fn scripts_replay_and_craft(rt: HostRuntime) -> Result<(), Fail> {
-    let alloc = rt.alloc();
-    let kit = Kit::new(alloc);
-    attacks(&rt, alloc, &kit, HASHKEYS, SCRIPTS, Same::Entries)
+    let kit = Kit::new(rt.alloc());
+    attacks(&rt, rt.alloc(), &kit, HASHKEYS, SCRIPTS, &Same::Entries)
 }

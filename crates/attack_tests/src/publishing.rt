@@ -1,17 +1,9 @@
 //! Contracts that stand and are left alone, contracts of other terms, and contracts without units.
 
-ghost use Rattle.std.specs.Prelude.{IfOk};
-ghost use Rattle.deviator_script.specs.View.{IsView, MayAnswer};
-
-use crate::attackers::{Answered, mover_rule, relocker_rule, starter_rule};
-use crate::tables::{Same, attacks};
-use deviator_script::{Rule, spoiler_rule};
-use ledger_core::Book;
+use crate::attacking::{Attacker, attacks_of};
+use crate::tables::Same;
 use std::test::Fail;
-use swap_base::PartyId;
-use swap_digraph::Deal;
 use table_runner::deals::HASHKEYS;
-use table_runner::kit_with;
 
 /// Alice, who leads, locks her units, and that is all.
 const STARTER: &str = r#"== alice publishes and does nothing more
@@ -93,56 +85,48 @@ findings 0
 
 #[test]
 fn a_leader_publishes_and_does_nothing_more(rt: HostRuntime) -> Result<(), Fail> {
-    let alloc = rt.alloc();
-    let rule: Rule = Box::new(
-        alloc,
-        move |deal: &Deal, me: PartyId, turn: u32, known: &Book| -> Answered
-            requires view { IsView deal.now me known.now.histories }
-            ensures fits { IfOk result (MayAnswer deal.now me) }
-        { starter_rule(alloc, deal, me, turn, known) },
-    )?;
-    let kit = kit_with(alloc, "attacker", rule)?;
-    attacks(&rt, alloc, &kit, HASHKEYS, STARTER, Same::Entries)
+    attacks_of(
+        &rt,
+        rt.alloc(),
+        Attacker::Starter,
+        HASHKEYS,
+        STARTER,
+        &Same::Entries,
+    )
 }
 
 #[test]
 fn a_contract_has_another_hashlock(rt: HostRuntime) -> Result<(), Fail> {
-    let alloc = rt.alloc();
-    let rule: Rule = Box::new(
-        alloc,
-        move |deal: &Deal, me: PartyId, turn: u32, known: &Book| -> Answered
-            requires view { IsView deal.now me known.now.histories }
-            ensures fits { IfOk result (MayAnswer deal.now me) }
-        { relocker_rule(alloc, deal, me, turn, known) },
-    )?;
-    let kit = kit_with(alloc, "attacker", rule)?;
-    attacks(&rt, alloc, &kit, HASHKEYS, RELOCKER, Same::Entries)
+    attacks_of(
+        &rt,
+        rt.alloc(),
+        Attacker::Relocker,
+        HASHKEYS,
+        RELOCKER,
+        &Same::Entries,
+    )
 }
 
 #[test]
 fn units_are_moved_away(rt: HostRuntime) -> Result<(), Fail> {
-    let alloc = rt.alloc();
-    let rule: Rule = Box::new(
-        alloc,
-        move |deal: &Deal, me: PartyId, turn: u32, known: &Book| -> Answered
-            requires view { IsView deal.now me known.now.histories }
-            ensures fits { IfOk result (MayAnswer deal.now me) }
-        { mover_rule(alloc, deal, me, turn, known) },
-    )?;
-    let kit = kit_with(alloc, "attacker", rule)?;
-    attacks(&rt, alloc, &kit, HASHKEYS, MOVER, Same::Entries)
+    attacks_of(
+        &rt,
+        rt.alloc(),
+        Attacker::Mover,
+        HASHKEYS,
+        MOVER,
+        &Same::Entries,
+    )
 }
 
 #[test]
 fn an_arc_is_spoiled(rt: HostRuntime) -> Result<(), Fail> {
-    let alloc = rt.alloc();
-    let rule: Rule = Box::new(
-        alloc,
-        move |deal: &Deal, me: PartyId, turn: u32, known: &Book| -> Answered
-            requires view { IsView deal.now me known.now.histories }
-            ensures fits { IfOk result (MayAnswer deal.now me) }
-        { spoiler_rule(alloc, deal, me, turn, known) },
-    )?;
-    let kit = kit_with(alloc, "attacker", rule)?;
-    attacks(&rt, alloc, &kit, HASHKEYS, SPOILER, Same::Entries)
+    attacks_of(
+        &rt,
+        rt.alloc(),
+        Attacker::Spoiler,
+        HASHKEYS,
+        SPOILER,
+        &Same::Entries,
+    )
 }

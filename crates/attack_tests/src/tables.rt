@@ -10,7 +10,6 @@ use std::thread::Threads;
 use table_runner::edited;
 
 /// What of a race's report is compared with a run's.
-#[derive(Clone, Copy, PartialEq, Eq)]
 pub(crate) enum Same {
     /// All of it but for the heights of entries.
     Entries,
@@ -32,33 +31,72 @@ fn without_height(line: &str) -> &str {
     }
 }
 
+/// Whether a line of a report is compared.
+fn is_compared(line: &str, same: &Same) -> bool {
+    match same {
+        Same::Entries => true,
+        Same::Endings => line.starts_with("party ") || line.starts_with("findings "),
+    }
+}
+
+fn push_line(text: &mut String, line: &str) -> Result<(), Fail> {
+    text.push_str(line)?;
+    text.push('\n')?;
+    Ok(())
+}
+
 /// What of a report no order of turns changes.
-fn unchanging(alloc: Global, report: &str, same: Same) -> Result<String, Fail> {
+fn unchanging(alloc: Global, report: &str, same: &Same) -> Result<String, Fail> {
     let mut text = String::new(alloc);
     for line in report.lines() {
-        let is_ending = line.starts_with("party ") || line.starts_with("findings ");
-        if same == Same::Entries || is_ending {
-            text.push_str(without_height(line))?;
-            text.push('\n')?;
+        if is_compared(line, same) {
+            push_line(&mut text, without_height(line))?;
         }
     }
     Ok(text)
 }
 
-fn missed(alloc: Global, name: &str, told: &str) -> Result<Fail, Fail> {
-    Ok(Fail::from(format!(in alloc; "{name}: {told}")?))
-}
-
-/// A race's report is that of a run in whatever no order of turns changes.
-fn is_same(alloc: Global, name: &str, run: &str, raced: &str, same: Same) -> Result<(), Fail> {
-    let wanted = unchanging(alloc, run, same)?;
-    if unchanging(alloc, raced, same)? != wanted {
-        return Err(missed(alloc, name, raced)?);
+/// Asks that something holds of a report, and else tells it.
+fn asks(alloc: Global, holds: bool, name: &str, told: &str) -> Result<(), Fail> {
+    if !holds {
+        return Err(Fail::from(format!(in alloc; "{name}: {told}")?));
     }
     Ok(())
 }
 
-/// A run's report ends with the wanted text, and a race comes to the same, as an audit of its transcript says, too.
+/// A race's report is the wanted one in whatever no order of turns changes.
+fn is_wanted(
+    alloc: Global,
+    name: &str,
+    wanted: &str,
+    raced: &str,
+    same: &Same,
+) -> Result<(), Fail> {
+    let told = unchanging(alloc, raced, same)?;
+    asks(alloc, told.as_str() == wanted, name, raced)
+}
+
+/// A race's report is that of a run in whatever no order of turns changes.
+fn is_same(alloc: Global, name: &str, run: &str, raced: &str, same: &Same) -> Result<(), Fail> {
+    let wanted = unchanging(alloc, run, same)?;
+    is_wanted(alloc, name, wanted.as_str(), raced, same)
+}
+
+/// A race comes to the same as a run of that report, as an audit of its transcript says, too.
+fn races_alike<R: Threads + Wait + Sync>(
+    rt: &R,
+    alloc: Global,
+    kit: &Kit,
+    name: &str,
+    header: &str,
+    run: &str,
+    same: &Same,
+) -> Result<(), Fail> {
+    let raced = race_report(rt, alloc, header, 1, kit, &Open)?;
+    is_same(alloc, name, run, raced.as_str(), same)
+}
+
+/// A run's report ends with the wanted text, and a race comes to the same.
 fn attack<R: Threads + Wait + Sync>(
     rt: &R,
     alloc: Global,
@@ -66,14 +104,41 @@ fn attack<R: Threads + Wait + Sync>(
     name: &str,
     header: &str,
     wanted: &str,
-    same: Same,
+    same: &Same,
 ) -> Result<(), Fail> {
     let run = report_of_run(alloc, kit, header)?;
-    if !run.as_str().ends_with(wanted) {
-        return Err(missed(alloc, name, run.as_str())?);
+    asks(alloc, run.as_str().ends_with(wanted), name, run.as_str())?;
+    races_alike(rt, alloc, kit, name, header, run.as_str(), same)
+}
+
+/// The same of the deal with those edits.
+fn attack_on<R: Threads + Wait + Sync>(
+    rt: &R,
+    alloc: Global,
+    kit: &Kit,
+    deal: &str,
+    named: &str,
+    wanted: &str,
+    same: &Same,
+) -> Result<(), Fail> {
+    let (name, edits) = named.split_once('\n').ok_or("no name")?;
+    let header = edited(alloc, deal, edits.trim())?;
+    attack(rt, alloc, kit, name, header.as_str(), wanted, same)
+}
+
+/// One case.
+fn attack_of<R: Threads + Wait + Sync>(
+    rt: &R,
+    alloc: Global,
+    kit: &Kit,
+    deal: &str,
+    case: &str,
+    same: &Same,
+) -> Result<(), Fail> {
+    match case.split_once("--\n") {
+        Some((named, wanted)) => attack_on(rt, alloc, kit, deal, named, wanted, same),
+        None => Err("no report".into()),
     }
-    let raced = race_report(rt, alloc, header, 1, kit, &Open)?;
-    is_same(alloc, name, run.as_str(), raced.as_str(), same)
 }
 
 /// Each case begins with `== ` and its name. Then come a line with edits of the deal, a line `--`, and the last lines of a run's report, or all.
@@ -83,13 +148,12 @@ pub(crate) fn attacks<R: Threads + Wait + Sync>(
     kit: &Kit,
     deal: &str,
     table: &str,
-    same: Same,
+    same: &Same,
 ) -> Result<(), Fail> {
-    for case in table.split("== ").filter(|case| !case.is_empty()) {
-        let (asked, wanted) = case.split_once("--\n").ok_or("no report")?;
-        let (name, edits) = asked.split_once('\n').ok_or("no name")?;
-        let header = edited(alloc, deal, edits.trim())?;
-        attack(rt, alloc, kit, name, header.as_str(), wanted, same)?;
+    for case in table.split("== ") {
+        if !case.is_empty() {
+            attack_of(rt, alloc, kit, deal, case, same)?;
+        }
     }
     Ok(())
 }

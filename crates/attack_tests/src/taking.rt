@@ -1,17 +1,9 @@
 //! Claims, refunds and transfers in turn, whatever stands.
 
-ghost use Rattle.std.specs.Prelude.{IfOk};
-ghost use Rattle.deviator_script.specs.View.{IsView, MayAnswer};
-
-use crate::attackers::{Answered, taker_rule};
-use crate::tables::{Same, attacks};
-use deviator_script::Rule;
-use ledger_core::Book;
+use crate::attacking::{Attacker, attacks_of};
+use crate::tables::Same;
 use std::test::Fail;
-use swap_base::PartyId;
-use swap_digraph::Deal;
 use table_runner::deals::{HASHKEYS, TIMELOCKS};
-use table_runner::kit_with;
 
 /// Bob asks for what he may not have, and gives away what he was to lock.
 const WITH_HASHKEYS: &str = r#"== bob takes what he can
@@ -183,15 +175,20 @@ findings 0
 
 #[test]
 fn bob_claims_refunds_and_transfers(rt: HostRuntime) -> Result<(), Fail> {
-    let alloc = rt.alloc();
-    let rule: Rule = Box::new(
-        alloc,
-        |deal: &Deal, me: PartyId, turn: u32, known: &Book| -> Answered
-            requires view { IsView deal.now me known.now.histories }
-            ensures fits { IfOk result (MayAnswer deal.now me) }
-        { taker_rule(deal, me, turn, known) },
+    attacks_of(
+        &rt,
+        rt.alloc(),
+        Attacker::Taker,
+        HASHKEYS,
+        WITH_HASHKEYS,
+        &Same::Entries,
     )?;
-    let kit = kit_with(alloc, "attacker", rule)?;
-    attacks(&rt, alloc, &kit, HASHKEYS, WITH_HASHKEYS, Same::Entries)?;
-    attacks(&rt, alloc, &kit, TIMELOCKS, WITH_TIMELOCKS, Same::Entries)
+    attacks_of(
+        &rt,
+        rt.alloc(),
+        Attacker::Taker,
+        TIMELOCKS,
+        WITH_TIMELOCKS,
+        &Same::Entries,
+    )
 }

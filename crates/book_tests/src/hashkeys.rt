@@ -4,7 +4,7 @@ ghost use Rattle.std.specs.Prelude.{IfOk};
 ghost use Rattle.swap_digraph.specs.Deal.{IsWellSized};
 
 use crate::{jobs, rings};
-use deviator_script::{Job, Kit, Purpose};
+use deviator_script::{Kit, Purpose};
 use hash_signature::{Sig, keygen};
 use hashkey_path::{Hashkey, HashkeyAnswer, check, deal_digest, extend, first};
 use hex::FromHex;
@@ -18,13 +18,11 @@ use swap_offer::{Prepared, read_header};
 /// The secret of the rings' leader.
 const SECRET: Digest = [9; 32];
 
-fn deal_of(alloc: Global, header: &str) -> Result<Deal, Fail>
-    ensures { IfOk result (λ d. IsWellSized d) }
+fn read(alloc: Global, header: &str) -> Result<Prepared, Fail>
+    ensures { IfOk result (λ p. IsWellSized p.job.deal) }
 {
     let kit = Kit::new(alloc);
-    let Prepared { job, .. } = read_header(alloc, 1, header.as_bytes(), Purpose::Run, &kit)?;
-    let Job { deal, .. } = job;
-    Ok(deal)
+    Ok(read_header(alloc, 1, header.as_bytes(), Purpose::Run, &kit)?)
 }
 
 fn answer(rt: &impl Abort, deal: &Deal, arc: ArcId, key: &Hashkey) -> HashkeyAnswer
@@ -59,14 +57,23 @@ fn longer(
     )
 }
 
+/// The hashkey of the ring's leader.
+fn leaders_own(alloc: Global, deal: &Deal) -> Result<Hashkey, Fail>
+    requires { IsWellSized deal.now }
+{
+    let (key, _public) = keygen(&[0; 32], 0, 0);
+    Ok(
+        first(alloc, deal, 0, &SECRET, 0, key)
+            .ok()
+            .ok_or("no memory")?,
+    )
+}
+
 /// The hashkey of the ring's leader, extended around the ring back to the party `until`.
 fn chain(rt: &impl Abort, alloc: Global, deal: &Deal, until: PartyId) -> Result<Hashkey, Fail>
     requires { IsWellSized deal.now }
 {
-    let (key, _public) = keygen(&[0; 32], 0, 0);
-    let mut hashkey = first(alloc, deal, 0, &SECRET, 0, key)
-        .ok()
-        .ok_or("no memory")?;
+    let mut hashkey = leaders_own(alloc, deal)?;
     for party in (until..deal.graph.n()).rev() {
         hashkey = longer(rt, alloc, deal, &hashkey, party)?;
     }
@@ -80,31 +87,17 @@ fn changed(sig: &Sig) -> Sig {
     Sig::new(values)
 }
 
-/// The same signatures, of which the one at that place is changed.
-fn with_change(alloc: Global, sigs: &[Sig], place: usize) -> Result<Vec<Sig>, Fail> {
-    let mut list = Vec::new(alloc);
-    for (number, sig) in sigs.iter().enumerate() {
-        let sig = if number == place {
-            changed(sig)
-        } else {
-            sig.copy()?
-        };
-        list.push(sig)?;
+/// Changes the signature at that place, or takes the last away where there is none.
+fn edit(sigs: &mut Vec<Sig>, place: usize) {
+    if place < sigs.len() {
+        sigs[place] = changed(&sigs[place]);
+    } else {
+        let _last = sigs.pop();
     }
-    Ok(list)
 }
 
-fn with_changed_signature(key: &Hashkey, place: usize) -> Result<Hashkey, Fail> {
-    let sigs = with_change(key.sigs.allocator(), key.sigs.as_slice(), place)?;
-    Ok(Hashkey {
-        lock: key.lock,
-        secret: key.secret,
-        path: key.path.copy()?,
-        sigs: Listed::new(sigs),
-    })
-}
-
-fn without_last_signature(key: &Hashkey) -> Result<Hashkey, Fail> {
+/// The hashkey with the signature at that place changed, or without its last where there is none.
+fn edited(key: &Hashkey, place: usize) -> Result<Hashkey, Fail> {
     let Hashkey {
         lock,
         secret,
@@ -112,7 +105,7 @@ fn without_last_signature(key: &Hashkey) -> Result<Hashkey, Fail> {
         sigs,
     } = key.copy()?;
     let mut sigs = sigs.into_vec();
-    let _last = sigs.pop();
+    edit(&mut sigs, place);
     Ok(Hashkey {
         lock,
         secret,
@@ -121,7 +114,16 @@ fn without_last_signature(key: &Hashkey) -> Result<Hashkey, Fail> {
     })
 }
 
-/// The hashkey that went around to the party `until` has so many signatures, and is valid on the arc that enters that party.
+/// A hashkey has so many signatures, and is valid on the arc that enters the party `until`.
+fn is_valid(rt: &impl Abort, deal: &Deal, key: &Hashkey, until: PartyId, length: usize)
+    requires { IsWellSized deal.now }
+{
+    assert!(rt; key.path.len() == length);
+    assert!(rt; 0 < until);
+    assert!(rt; answer(rt, deal, until - 1, key) == HashkeyAnswer::Valid);
+}
+
+/// The hashkey that went around to the party `until` is valid there.
 fn is_valid_around(
     rt: &impl Abort,
     alloc: Global,
@@ -132,9 +134,7 @@ fn is_valid_around(
     requires { IsWellSized deal.now }
 {
     let key = chain(rt, alloc, deal, until)?;
-    assert_eq!(rt; key.path.len(), length);
-    assert!(rt; 0 < until);
-    assert_eq!(rt; answer(rt, deal, until - 1, &key), HashkeyAnswer::Valid);
+    is_valid(rt, deal, &key, until, length);
     Ok(())
 }
 
@@ -149,14 +149,20 @@ fn are_valid_around(rt: &impl Abort, alloc: Global, deal: &Deal) -> Result<(), F
 
 #[test]
 fn hashkeys_go_around(rt: HostRuntime) -> Result<(), Fail> {
-    let deal = deal_of(rt.alloc(), rings::three())?;
-    are_valid_around(&rt, rt.alloc(), &deal)
+    let ring = read(rt.alloc(), rings::three())?;
+    are_valid_around(&rt, rt.alloc(), &ring.job.deal)
 }
 
 #[test]
 fn a_hashkey_goes_around_the_longest_ring(rt: HostRuntime) -> Result<(), Fail> {
-    let deal = deal_of(rt.alloc(), rings::twenty_four())?;
-    is_valid_around(&rt, rt.alloc(), &deal, 1, 24)
+    let ring = read(rt.alloc(), rings::twenty_four())?;
+    is_valid_around(&rt, rt.alloc(), &ring.job.deal, 1, 24)
+}
+
+fn is_answered(rt: &impl Abort, deal: &Deal, arc: ArcId, key: &Hashkey, wanted: HashkeyAnswer)
+    requires { IsWellSized deal.now }
+{
+    assert!(rt; answer(rt, deal, arc, key) == wanted, "{wanted:?}");
 }
 
 /// Another secret is found before all else.
@@ -165,35 +171,31 @@ fn finds_the_secret(rt: &impl Abort, deal: &Deal, key: &Hashkey) -> Result<(), F
 {
     let mut other = key.copy()?;
     other.secret[31] = 8;
-    assert!(rt; answer(rt, deal, 0, &other) == HashkeyAnswer::WrongSecret);
+    is_answered(rt, deal, 0, &other, HashkeyAnswer::WrongSecret);
     Ok(())
 }
 
-/// A path of another arc's, one that goes around twice, and one with fewer signatures.
+/// A path that goes around twice.
 fn finds_the_path(rt: &impl Abort, alloc: Global, deal: &Deal, key: &Hashkey) -> Result<(), Fail>
     requires { IsWellSized deal.now }
 {
     let around = longer(rt, alloc, deal, key, 0)?;
-    let short = without_last_signature(key)?;
-    assert!(rt; answer(rt, deal, 1, key) == HashkeyAnswer::WrongPath);
-    assert!(rt; answer(rt, deal, 2, &around) == HashkeyAnswer::WrongPath);
-    assert!(rt; answer(rt, deal, 0, &short) == HashkeyAnswer::WrongPath);
+    is_answered(rt, deal, 2, &around, HashkeyAnswer::WrongPath);
     Ok(())
 }
 
-/// Where the signature at that place is changed, the one at the least place is found to be wrong.
-fn finds_the_signature(
+/// What is found where the signature at that place is changed, or the last is missing.
+fn finds(
     rt: &impl Abort,
     deal: &Deal,
     key: &Hashkey,
     place: usize,
-    least: u8,
+    wanted: HashkeyAnswer,
 ) -> Result<(), Fail>
     requires { IsWellSized deal.now }
 {
-    let changed = with_changed_signature(key, place)?;
-    let answer = answer(rt, deal, 0, &changed);
-    assert!(rt; answer == HashkeyAnswer::WrongSignature(least), "{place}");
+    let other = edited(key, place)?;
+    is_answered(rt, deal, 0, &other, wanted);
     Ok(())
 }
 
@@ -202,25 +204,39 @@ fn finds_the_faults(rt: &impl Abort, alloc: Global, deal: &Deal, key: &Hashkey) 
     requires { IsWellSized deal.now }
 {
     finds_the_secret(rt, deal, key)?;
+    // A path of another arc's, one that goes around twice, and one with fewer signatures.
+    is_answered(rt, deal, 1, key, HashkeyAnswer::WrongPath);
     finds_the_path(rt, alloc, deal, key)?;
-    // A signature is part of what the one before it signs.
-    finds_the_signature(rt, deal, key, 0, 0)?;
-    finds_the_signature(rt, deal, key, 1, 0)?;
-    finds_the_signature(rt, deal, key, 2, 1)
+    finds(rt, deal, key, 3, HashkeyAnswer::WrongPath)?;
+    // The wrong signature at the least place is found; a signature is part of what the one before it signs.
+    finds(rt, deal, key, 0, HashkeyAnswer::WrongSignature(0))?;
+    finds(rt, deal, key, 1, HashkeyAnswer::WrongSignature(0))?;
+    finds(rt, deal, key, 2, HashkeyAnswer::WrongSignature(1))
+}
+
+fn finds_the_faults_around(rt: &impl Abort, alloc: Global, deal: &Deal) -> Result<(), Fail>
+    requires { IsWellSized deal.now }
+{
+    let key = chain(rt, alloc, deal, 1)?;
+    finds_the_faults(rt, alloc, deal, &key)
 }
 
 #[test]
 fn the_first_fault_is_named(rt: HostRuntime) -> Result<(), Fail> {
-    let deal = deal_of(rt.alloc(), rings::three())?;
-    let key = chain(&rt, rt.alloc(), &deal, 1)?;
-    finds_the_faults(&rt, rt.alloc(), &deal, &key)
+    let ring = read(rt.alloc(), rings::three())?;
+    finds_the_faults_around(&rt, rt.alloc(), &ring.job.deal)
+}
+
+fn digest_of(alloc: Global, header: &str) -> Result<Digest, Fail> {
+    let prepared = read(alloc, header)?;
+    Ok(deal_digest(&prepared.job.deal))
 }
 
 /// The digest of the offer's deal is that of the text.
 fn has_digest(rt: &impl Abort, alloc: Global, header: &str, text: &str) -> Result<(), Fail> {
     let wanted = <Digest as FromHex>::from_hex(text)?;
-    let deal = deal_of(alloc, header)?;
-    assert_eq!(rt; deal_digest(&deal), wanted);
+    let digest = digest_of(alloc, header)?;
+    assert!(rt; digest == wanted, "{text}");
     Ok(())
 }
 

@@ -1,18 +1,17 @@
-//! Calls that may answer that memory is wanting, and that no run, check or other test makes, answer with ample memory.
+//! What is told of a book without a report, by calls that may answer that memory is wanting and that no run and no check makes.
 
+ghost use Rattle.std.specs.Prelude.{◌≡◌, length};
 ghost use Rattle.swap_digraph.specs.Deal.{IsWellSized};
 ghost use Rattle.ledger_core.specs.Book.{IsLegalBook};
-ghost use Rattle.swap_offer.specs.Job.{IsWhole};
 
-use crate::jobs;
-use crate::schedule::played;
 use deviator_script::Job;
 use ledger_core::{Book, Scan};
-use outcome_rules::{findings, unfinished};
+use outcome_rules::{Report, findings, unfinished};
 use std::alloc::Global;
 use std::process::Abort;
 use std::test::Fail;
 use swap_digraph::Deal;
+use swap_rules::Finding;
 
 fn count_unfinished(alloc: Global, deal: &Deal, book: &Book) -> Result<usize, Fail>
     requires sized { IsWellSized deal.now }
@@ -23,8 +22,9 @@ fn count_unfinished(alloc: Global, deal: &Deal, book: &Book) -> Result<usize, Fa
 }
 
 fn count_findings(alloc: Global, job: &Job, book: &Book) -> Result<usize, Fail>
-    requires whole { IsWhole job.now }
+    requires sized { IsWellSized job.now.deal }
     requires legal { IsLegalBook job.now.deal book.now.histories }
+    requires conforming { length job.now.conforming ≡ job.now.deal.graph.n }
 {
     let list = findings(alloc, &job.deal, &job.conforming, book)?;
     Ok(list.len())
@@ -39,23 +39,29 @@ fn reserve(rt: &impl Abort, alloc: Global, deal: &Deal) -> Result<(), Fail>
     Ok(())
 }
 
-/// The calls over a book of which one ledger is above the horizon, and nobody conforms.
-fn succeed_over(rt: &impl Abort, alloc: Global, job: &Job, book: &Book) -> Result<(), Fail>
-    requires whole { IsWhole job.now }
+/// How many ledgers a report tells to be unfinished.
+fn unfinished_in(report: &Report) -> usize {
+    report
+        .findings
+        .as_slice()
+        .iter()
+        .filter(|found| matches!(found, Finding::Unfinished(..)))
+        .count()
+}
+
+/// As many findings, and as many ledgers that are unfinished, as a report has; and a scan takes room.
+pub(crate) fn tell_the_same(
+    rt: &impl Abort,
+    alloc: Global,
+    job: &Job,
+    book: &Book,
+    report: &Report,
+) -> Result<(), Fail>
+    requires sized { IsWellSized job.now.deal }
     requires legal { IsLegalBook job.now.deal book.now.histories }
+    requires conforming { length job.now.conforming ≡ job.now.deal.graph.n }
 {
-    assert_eq!(rt; count_unfinished(alloc, &job.deal, book)?, 3);
-    assert_eq!(rt; count_findings(alloc, job, book)?, 3);
+    assert!(rt; count_unfinished(alloc, &job.deal, book)? == unfinished_in(report));
+    assert!(rt; count_findings(alloc, job, book)? == report.findings.len());
     reserve(rt, alloc, &job.deal)
-}
-
-fn succeed(rt: &impl Abort, alloc: Global, header: &str) -> Result<(), Fail> {
-    let (job, book) = played(rt, alloc, header, "tick 0 by 71;")?;
-    succeed_over(rt, alloc, &job, &book)
-}
-
-#[test]
-fn further_calls_succeed(rt: HostRuntime) -> Result<(), Fail> {
-    succeed(&rt, rt.alloc(), jobs::TIMELOCKS)?;
-    succeed(&rt, rt.alloc(), jobs::HASHKEYS)
 }

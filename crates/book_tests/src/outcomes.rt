@@ -22,6 +22,8 @@ publish on 2 by carol; unlock on 2 by alice; claim on 2 by alice; tick 0 by 71; 
 # Nothing happens, and then too little.
 tick 0 by 71; tick 1 by 71; tick 2 by 71; tick 3 by 71; \
     => nobody => party alice deviator: NoDeal, party bob deviator: NoDeal, party carol deviator: NoDeal, findings 0
+tick 0 by 71; => nobody => party alice deviator: open, party bob deviator: open, party carol deviator: open, unfinished 1 height 0, unfinished 2 height 0, \
+    unfinished 3 height 0, findings 3
 tick 0 by 71; tick 1 by 70; tick 3; \
     => nobody => party alice deviator: open, party bob deviator: open, party carol deviator: open, unfinished 1 height 70, unfinished 2 height 0, \
     unfinished 3 height 1, findings 3";
@@ -45,6 +47,8 @@ publish on 2 by carol; unlock via alice on 2 by alice; claim on 2 by alice; tick
 # Nothing happens, and then too little.
 tick 0 by 71; tick 1 by 71; tick 2 by 71; tick 3 by 71; \
     => nobody => party alice deviator: NoDeal, party bob deviator: NoDeal, party carol deviator: NoDeal, findings 0
+tick 0 by 71; => nobody => party alice deviator: open, party bob deviator: open, party carol deviator: open, unfinished 1 height 0, unfinished 2 height 0, \
+    unfinished 3 height 0, findings 3
 tick 0 by 71; tick 1 by 70; tick 3; \
     => nobody => party alice deviator: open, party bob deviator: open, party carol deviator: open, unfinished 1 height 70, unfinished 2 height 0, \
     unfinished 3 height 1, findings 3";

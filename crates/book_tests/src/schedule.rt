@@ -1,6 +1,6 @@
 //! Schedules in words, and what is found of the books that they make.
 
-ghost use Rattle.std.specs.Prelude.{◌≡◌, true, IfOk, All};
+ghost use Rattle.std.specs.Prelude.{◌≡◌, true, IfOk, All, length};
 ghost use Rattle.deviator_script.specs.Step.{IsEventOf};
 ghost use Rattle.swap_digraph.specs.Deal.{IsWellSized};
 ghost use Rattle.swap_rules.specs.Accepted.{IsAccepted};
@@ -12,10 +12,11 @@ ghost use Rattle.offer_header.specs.Names.{has_strategy};
 ghost use Rattle.swap_offer.specs.Job.{IsWhole};
 ghost use Rattle.swap_offer.specs.Wallets.{HaveScripts, HaveWallets};
 
+use crate::memory::tell_the_same;
 use crate::words::lines_of;
 use deviator_script::{Event, Job, Kit, Purpose};
 use ledger_core::Book;
-use outcome_rules::report_of;
+use outcome_rules::{Report, report_of};
 use party_wallet::Wallet;
 use std::alloc::Global;
 use std::process::Abort;
@@ -39,6 +40,16 @@ fn events_of(alloc: Global, job: &Job, lines: &[(u32, &[u8])]) -> Result<Vec<Eve
     Ok(events)
 }
 
+fn events_on(rt: &impl Abort, alloc: Global, job: &Job, text: &[u8]) -> Result<Vec<Event>, Fail>
+    requires whole { IsWhole job.now }
+    requires seeds { needs_seeds job.now.purpose ≡ true }
+    ensures { IfOk result (λ v. All (IsEventOf job.now) v.items) }
+{
+    assert!(rt; text.len() < 1_000_000);
+    let lines = filled_lines(alloc, text)?;
+    events_of(alloc, job, &lines)
+}
+
 /// The events of a schedule.
 fn events_in(rt: &impl Abort, alloc: Global, job: &Job, schedule: &str) -> Result<Vec<Event>, Fail>
     requires whole { IsWhole job.now }
@@ -46,9 +57,30 @@ fn events_in(rt: &impl Abort, alloc: Global, job: &Job, schedule: &str) -> Resul
     ensures { IfOk result (λ v. All (IsEventOf job.now) v.items) }
 {
     let text = lines_of(alloc, schedule)?;
-    assert!(rt; text.len() < 1_000_000);
-    let lines = filled_lines(alloc, text.as_bytes())?;
-    events_of(alloc, job, &lines)
+    events_on(rt, alloc, job, text.as_bytes())
+}
+
+/// The book of events.
+fn play(
+    alloc: Global,
+    job: &Job,
+    kit: &Kit,
+    wallets: Vec<Option<Wallet>>,
+    events: &[Event],
+) -> Result<Book, Fail>
+    requires whole { IsWhole job.now }
+    requires seeds { needs_seeds job.now.purpose ≡ true }
+    requires accepted { IsAccepted job.now.deal }
+    requires wallets { HaveWallets job.now }
+    requires scripts { HaveScripts job.now }
+    requires strategies { HoldsEach (has_strategy kit.now.names kit.now.strategies.items) job.now.roles }
+    requires made { wallets.items ≡ wallets_of job.now.deal job.now.conforming job.now.seeds }
+    requires events { All (IsEventOf job.now) events.now }
+    ensures { IfOk result (λ b. IsLegalBook job.now.deal b.histories) }
+{
+    let mut world = World::new(alloc, job, wallets)?;
+    world.run(kit, events)?;
+    Ok(world.into_book(alloc)?)
 }
 
 /// The book of a schedule.
@@ -70,60 +102,7 @@ fn book_of(
     ensures { IfOk result (λ b. IsLegalBook job.now.deal b.histories) }
 {
     let events = events_in(rt, alloc, job, schedule)?;
-    let mut world = World::new(alloc, job, wallets)?;
-    world.run(kit, &events)?;
-    Ok(world.into_book(alloc)?)
-}
-
-/// A job with the book of a schedule.
-fn played_by(
-    rt: &impl Abort,
-    alloc: Global,
-    kit: &Kit,
-    prepared: Prepared,
-    schedule: &str,
-) -> Result<(Job, Book), Fail>
-    requires whole { IsWhole prepared.job }
-    requires seeds { needs_seeds prepared.job.purpose ≡ true }
-    requires accepted { IsAccepted prepared.job.deal }
-    requires wallets { HaveWallets prepared.job }
-    requires scripts { HaveScripts prepared.job }
-    requires strategies { HoldsEach (has_strategy kit.now.names kit.now.strategies.items) prepared.job.roles }
-    requires made { prepared.wallets.items ≡ wallets_of prepared.job.deal prepared.job.conforming prepared.job.seeds }
-    ensures whole { IfOk result (λ r. IsWhole r.0) }
-    ensures legal { IfOk result (λ r. IsLegalBook r.0.deal r.1.histories) }
-{
-    let Prepared { job, wallets, .. } = prepared;
-    let book = book_of(rt, alloc, &job, kit, wallets, schedule)?;
-    Ok((job, book))
-}
-
-fn played_with(
-    rt: &impl Abort,
-    alloc: Global,
-    kit: &Kit,
-    header: &str,
-    schedule: &str,
-) -> Result<(Job, Book), Fail>
-    ensures whole { IfOk result (λ r. IsWhole r.0) }
-    ensures legal { IfOk result (λ r. IsLegalBook r.0.deal r.1.histories) }
-{
-    let prepared = read_header(alloc, 1, header.as_bytes(), Purpose::Run, kit)?;
-    played_by(rt, alloc, kit, prepared, schedule)
-}
-
-/// The job of a header with the book of a schedule.
-pub(crate) fn played(
-    rt: &impl Abort,
-    alloc: Global,
-    header: &str,
-    schedule: &str,
-) -> Result<(Job, Book), Fail>
-    ensures whole { IfOk result (λ r. IsWhole r.0) }
-    ensures legal { IfOk result (λ r. IsLegalBook r.0.deal r.1.histories) }
-{
-    let kit = Kit::new(alloc);
-    played_with(rt, alloc, &kit, header, schedule)
+    play(alloc, job, kit, wallets, &events)
 }
 
 /// The names of the parties of each job here, in their order.
@@ -138,30 +117,83 @@ fn named(alloc: Global, n: u8, taken: &str) -> Result<Listed<bool>, Fail> {
     Ok(Listed::new(list))
 }
 
-/// The report of a job's book.
+/// The report of a job's book, whose findings are those that are told without a report.
+fn text_of(
+    rt: &impl Abort,
+    alloc: Global,
+    job: &Job,
+    book: &Book,
+    report: &Report,
+) -> Result<ByteText, Fail>
+    requires sized { IsWellSized job.now.deal }
+    requires legal { IsLegalBook job.now.deal book.now.histories }
+    requires conforming { length job.now.conforming ≡ job.now.deal.graph.n }
+{
+    tell_the_same(rt, alloc, job, book, report)?;
+    assert!(rt; report.outcomes.len() <= 256);
+    Ok(report_text(alloc, job, book, report)?)
+}
+
 fn told_of(rt: &impl Abort, alloc: Global, job: &Job, book: &Book) -> Result<ByteText, Fail>
     requires sized { IsWellSized job.now.deal }
     requires legal { IsLegalBook job.now.deal book.now.histories }
 {
-    assert_eq!(rt; job.conforming.len(), job.deal.graph.n() as usize);
+    assert!(rt; job.conforming.len() == job.deal.graph.n() as usize);
     let report = report_of(alloc, &job.deal, &job.conforming, book)?;
-    assert!(rt; report.outcomes.len() <= 256);
-    Ok(report_text(alloc, job, book, &report)?)
+    text_of(rt, alloc, job, book, &report)
 }
 
 /// The report of a job's book, where the named parties are taken as conforming.
 fn told_as(
     rt: &impl Abort,
     alloc: Global,
-    mut job: Job,
+    job: &mut Job,
     book: &Book,
     taken: &str,
 ) -> Result<ByteText, Fail>
-    requires sized { IsWellSized job.deal }
-    requires legal { IsLegalBook job.deal book.now.histories }
+    requires sized { IsWellSized job.old.deal }
+    requires legal { IsLegalBook job.old.deal book.now.histories }
 {
     job.conforming = named(alloc, job.deal.graph.n(), taken)?;
-    told_of(rt, alloc, &job, book)
+    told_of(rt, alloc, job, book)
+}
+
+/// The report of the book of a schedule.
+fn told_by(
+    rt: &impl Abort,
+    alloc: Global,
+    kit: &Kit,
+    job: &mut Job,
+    wallets: Vec<Option<Wallet>>,
+    schedule: &str,
+    taken: &str,
+) -> Result<ByteText, Fail>
+    requires whole { IsWhole job.old }
+    requires seeds { needs_seeds job.old.purpose ≡ true }
+    requires accepted { IsAccepted job.old.deal }
+    requires wallets { HaveWallets job.old }
+    requires scripts { HaveScripts job.old }
+    requires strategies { HoldsEach (has_strategy kit.now.names kit.now.strategies.items) job.old.roles }
+    requires made { wallets.items ≡ wallets_of job.old.deal job.old.conforming job.old.seeds }
+{
+    let book = book_of(rt, alloc, job, kit, wallets, schedule)?;
+    told_as(rt, alloc, job, &book, taken)
+}
+
+fn told_with(
+    rt: &impl Abort,
+    alloc: Global,
+    kit: &Kit,
+    header: &str,
+    schedule: &str,
+    taken: &str,
+) -> Result<ByteText, Fail> {
+    let Prepared {
+        mut job,
+        wallets,
+        ..
+    } = read_header(alloc, 1, header.as_bytes(), Purpose::Run, kit)?;
+    told_by(rt, alloc, kit, &mut job, wallets, schedule, taken)
 }
 
 /// The report of the book of a row's first two parts.
@@ -172,8 +204,8 @@ fn told_of_row(
     asked: &str,
 ) -> Result<ByteText, Fail> {
     let (schedule, taken) = asked.split_once(" => ").ok_or("no row")?;
-    let (job, book) = played(rt, alloc, header, schedule)?;
-    told_as(rt, alloc, job, &book, taken)
+    let kit = Kit::new(alloc);
+    told_with(rt, alloc, &kit, header, schedule, taken)
 }
 
 /// The members of a list that are parted by commas, on a line each; the word `nothing` stands for no line.
@@ -186,38 +218,69 @@ fn on_lines(alloc: Global, list: &str) -> Result<String, Fail> {
     Ok(lines)
 }
 
-/// Whether just the findings of a list stand between the parties of a report, who all are open, and the ledgers that are unfinished.
-fn is_found(alloc: Global, report: &ByteText, found: &str) -> Result<bool, Fail> {
+/// What stands behind the last line of a report.
+const END: &str = "<end>";
+
+/// Whether a report, behind which its end is written, has that part.
+fn has_part(alloc: Global, report: &ByteText, part: &str) -> Result<bool, Fail> {
     let text = str::from_utf8(report.as_slice())?;
-    let lines = on_lines(alloc, found)?;
-    let part = format!(in alloc; "open\n{lines}unfinished ")?;
-    Ok(text.contains(part.as_str()))
+    let whole = format!(in alloc; "{text}{END}")?;
+    Ok(whole.contains(part))
 }
 
-/// Each row has a schedule, the names of those who are taken as conforming, and what stands in the report between the parties,
-/// who all are open, and the ledgers that are unfinished: `SCHEDULE => NAMES => FINDINGS`. A line with `#` heads the rows below it.
+fn part_of(alloc: Global, before: &str, list: &str, behind: &str) -> Result<String, Fail> {
+    let lines = on_lines(alloc, list)?;
+    Ok(format!(in alloc; "{before}{lines}{behind}")?)
+}
+
+/// Whether just the lines of a list stand in a report between what comes before and what comes behind.
+fn is_told(
+    alloc: Global,
+    report: &ByteText,
+    before: &str,
+    list: &str,
+    behind: &str,
+) -> Result<bool, Fail> {
+    let part = part_of(alloc, before, list, behind)?;
+    has_part(alloc, report, part.as_str())
+}
+
+fn is_row_told(
+    rt: &impl Abort,
+    alloc: Global,
+    header: &str,
+    row: &str,
+    before: &str,
+    behind: &str,
+) -> Result<bool, Fail> {
+    let (asked, lines) = row.rsplit_once(" => ").ok_or("no row")?;
+    let report = told_of_row(rt, alloc, header, asked)?;
+    is_told(alloc, &report, before, lines, behind)
+}
+
+/// Each row has a schedule, the names of those who are taken as conforming, and what stands in the report between the two words:
+/// `SCHEDULE => NAMES => LINES`. A line with `#` heads the rows below it.
+fn tells(
+    rt: &impl Abort,
+    alloc: Global,
+    header: &str,
+    table: &str,
+    before: &str,
+    behind: &str,
+) -> Result<(), Fail> {
+    for row in table.lines().filter(|row| !row.starts_with('#')) {
+        let told = is_row_told(rt, alloc, header, row, before, behind)?;
+        assert!(rt; told, "{row}");
+    }
+    Ok(())
+}
+
+/// The last part of each row has what is found, which stands between the parties, who all are open, and the ledgers that are unfinished.
 pub(crate) fn finds(rt: &impl Abort, alloc: Global, header: &str, table: &str) -> Result<(), Fail> {
-    for row in table.lines().filter(|row| !row.starts_with('#')) {
-        let (asked, found) = row.rsplit_once(" => ").ok_or("no row")?;
-        let report = told_of_row(rt, alloc, header, asked)?;
-        assert!(rt; is_found(alloc, &report, found)?, "{row}");
-    }
-    Ok(())
+    tells(rt, alloc, header, table, "open\n", "unfinished ")
 }
 
-/// Whether a report ends with the lines of a list.
-fn is_end(alloc: Global, report: &ByteText, end: &str) -> Result<bool, Fail> {
-    let text = str::from_utf8(report.as_slice())?;
-    let lines = on_lines(alloc, end)?;
-    Ok(text.ends_with(lines.as_str()))
-}
-
-/// The same, where the last part of each row has the lines that end the report.
+/// The last part of each row has the lines that end the report.
 pub(crate) fn ends(rt: &impl Abort, alloc: Global, header: &str, table: &str) -> Result<(), Fail> {
-    for row in table.lines().filter(|row| !row.starts_with('#')) {
-        let (asked, end) = row.rsplit_once(" => ").ok_or("no row")?;
-        let report = told_of_row(rt, alloc, header, asked)?;
-        assert!(rt; is_end(alloc, &report, end)?, "{row}");
-    }
-    Ok(())
+    tells(rt, alloc, header, table, "", END)
 }

@@ -373,14 +373,23 @@ fn alices_second() -> &'static str {
      04f283aefc17813a3752dcbc41269a6303eff3c9ed6699883d21fa054ba99388"
 }
 
+/// The text with another word in the place of each of that name.
+pub(crate) fn put(
+    alloc: Global,
+    text: String,
+    name: &str,
+    word: &str,
+) -> Result<String, AllocError> {
+    text.replace(alloc, name, word)
+}
+
 /// The text with each signature in the place of its name.
-pub(crate) fn put_signatures(alloc: Global, text: &str) -> Result<String, AllocError> {
-    let text = text.replace(alloc, "ALICES_FIRST", alices_first())?;
-    let text = text.replace(alloc, "ALICES_SECOND", alices_second())?;
-    let text = text.replace(alloc, "BOBS_FIRST", bobs_first())?;
-    let text = text.replace(alloc, "BOBS_SECOND", bobs_second())?;
-    let text = text.replace(alloc, "ALICE", alice())?;
-    let text = text.replace(alloc, "BOB", bob())?;
-    let text = text.replace(alloc, "CAROL", carol())?;
-    Ok(text)
+pub(crate) fn put_signatures(alloc: Global, text: String) -> Result<String, AllocError> {
+    let text = put(alloc, text, "ALICES_FIRST", alices_first())?;
+    let text = put(alloc, text, "ALICES_SECOND", alices_second())?;
+    let text = put(alloc, text, "BOBS_FIRST", bobs_first())?;
+    let text = put(alloc, text, "BOBS_SECOND", bobs_second())?;
+    let text = put(alloc, text, "ALICE", alice())?;
+    let text = put(alloc, text, "BOB", bob())?;
+    put(alloc, text, "CAROL", carol())
 }

@@ -1,6 +1,6 @@
 //! The words of schedules.
 
-use crate::signatures::put_signatures;
+use crate::signatures::{put, put_signatures};
 use std::alloc::Global;
 use std::test::Fail;
 
@@ -37,11 +37,16 @@ SECOND_SECRET|18e5548675f23b9524570db394760f0b79c8ce78aa7184fe338fe10eca54ea1b
 ONES|0101010101010101010101010101010101010101010101010101010101010101
 ZEROS|0000000000000000000000000000000000000000000000000000000000000000"#;
 
+/// The text with the word of a row replaced.
+fn replaced_by(alloc: Global, text: &str, row: &str) -> Result<String, Fail> {
+    let (word, meaning) = row.split_once("|").ok_or("no word")?;
+    Ok(text.replace(alloc, word, meaning)?)
+}
+
 fn replaced(alloc: Global, text: &str, words: &str) -> Result<String, Fail> {
     let mut text = String::from_str(alloc, text)?;
     for row in words.lines() {
-        let (word, meaning) = row.split_once("|").ok_or("no word")?;
-        text = text.replace(alloc, word, meaning)?;
+        text = replaced_by(alloc, text.as_str(), row)?;
     }
     Ok(text)
 }
@@ -49,6 +54,6 @@ fn replaced(alloc: Global, text: &str, words: &str) -> Result<String, Fail> {
 /// The event lines that a schedule stands for, each of which ends where a `;` stands.
 pub(crate) fn lines_of(alloc: Global, schedule: &str) -> Result<String, Fail> {
     let text = replaced(alloc, schedule, WORDS)?;
-    let lines = text.replace(alloc, ";", "}\n")?;
-    Ok(put_signatures(alloc, lines.as_str())?)
+    let lines = put(alloc, text, ";", "}\n")?;
+    Ok(put_signatures(alloc, lines)?)
 }

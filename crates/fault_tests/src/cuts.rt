@@ -3,9 +3,8 @@
 ghost use Rattle.std.specs.Prelude.{◌≤◌, length};
 
 use crate::jobs::{idle_job, plain_job, text_of};
-use crate::runner::answer;
+use crate::runner::{answer, asks, is_told};
 use std::alloc::Global;
-use std::process::Abort;
 use std::sync::Wait;
 use std::test::Fail;
 use std::thread::Threads;
@@ -13,45 +12,47 @@ use table_runner::deals::{HASHKEYS, JOB, TIMELOCKS};
 use table_runner::edited;
 
 /// The input is no JSON text at that line.
-fn is_no_json<R: Threads + Wait + Abort + Sync>(
+fn is_no_json<R: Threads + Wait + Sync>(
     rt: &R,
     alloc: Global,
     command: &str,
     input: &[u8],
     line: usize,
 ) -> Result<(), Fail> {
-    let answered = answer(rt, alloc, command, input)?;
     let wanted = format!(in alloc; "swap: refused: NotJson {line}\n")?;
-    assert!(rt;
-        answered.as_slice() == wanted.as_bytes(),
-        "{command} of {} bytes",
-        input.len()
-    );
-    Ok(())
+    is_told(rt, alloc, command, input, wanted.as_bytes())
+}
+
+/// Into how many pieces the mark parts the text.
+fn pieces(text: &str, mark: &str) -> usize {
+    text.split(mark).count()
+}
+
+/// Whether a transcript has so many entries.
+fn has_entries(text: &str, entries: usize) -> bool {
+    let pieces = pieces(text, "\nt ").saturating_add(pieces(text, "\nc "));
+    pieces == entries.saturating_add(2) && text.ends_with("\nend\n")
 }
 
 /// A run of the input goes over its events, each of which is one entry of a ledger.
-fn is_run<R: Threads + Wait + Abort + Sync>(
+fn is_run<R: Threads + Wait + Sync>(
     rt: &R,
     alloc: Global,
     input: &[u8],
     events: usize,
 ) -> Result<(), Fail> {
     let text = text_of(rt, alloc, "run --transcript", input)?;
-    let text = text.as_str();
-    let pieces = text
-        .split("\nt ")
-        .count()
-        .saturating_add(text.split("\nc ").count());
-    assert!(rt;
-        pieces == events.saturating_add(2) && text.ends_with("\nend\n"),
-        "{events} events"
-    );
-    Ok(())
+    asks(
+        alloc,
+        has_entries(text.as_str(), events),
+        "run",
+        "events",
+        events,
+    )
 }
 
 /// The first bytes of a job get their answer: a line that is cut is no JSON text, and whole lines are run, whether the last has its line feed or not.
-fn answers_cut<R: Threads + Wait + Abort + Sync>(
+fn answers_cut<R: Threads + Wait + Sync>(
     rt: &R,
     alloc: Global,
     job: &[u8],
@@ -60,18 +61,18 @@ fn answers_cut<R: Threads + Wait + Abort + Sync>(
     requires { cut ≤ length job.now }
 {
     let (before, after) = job.split_at(cut);
-    let feeds = before.iter().filter(|b| **b == b'\n').count();
+    let lines = pieces(str::from_utf8(before).unwrap_or("no text"), "\n");
     if before.ends_with(b"\n") {
-        return is_run(rt, alloc, before, feeds.saturating_sub(1));
+        return is_run(rt, alloc, before, lines.saturating_sub(2));
     }
     if after.starts_with(b"\n") {
-        return is_run(rt, alloc, before, feeds);
+        return is_run(rt, alloc, before, lines.saturating_sub(1));
     }
-    is_no_json(rt, alloc, "run", before, feeds + 1)
+    is_no_json(rt, alloc, "run", before, lines)
 }
 
 /// The job is cut at each length, from none of its bytes to all.
-fn answers_each_cut<R: Threads + Wait + Abort + Sync>(
+fn answers_each_cut<R: Threads + Wait + Sync>(
     rt: &R,
     alloc: Global,
     job: &str,
@@ -83,15 +84,18 @@ fn answers_each_cut<R: Threads + Wait + Abort + Sync>(
     Ok(())
 }
 
+fn joined(alloc: Global, first: &str, second: &str) -> Result<String, Fail> {
+    Ok(format!(in alloc; "{first}{second}")?)
+}
+
 /// A deal with those edits and events is a job. Each event is one entry.
 fn job_of(alloc: Global, deal: &str, edits: &str, events: &str) -> Result<String, Fail> {
-    let mut job = edited(alloc, deal, edits)?;
-    job.push_str(events)?;
-    Ok(job)
+    let deal = edited(alloc, deal, edits)?;
+    joined(alloc, deal.as_str(), events)
 }
 
 /// That job, cut at each length.
-fn answers_each_cut_of<R: Threads + Wait + Abort + Sync>(
+fn answers_each_cut_of<R: Threads + Wait + Sync>(
     rt: &R,
     alloc: Global,
     deal: &str,
@@ -139,15 +143,14 @@ const UNFINISHED: &[u8] =
     b"\nunfinished 0 height 0\nunfinished 1 height 0\nunfinished 2 height 0\nfindings 3\n";
 
 /// A run of the header alone is unfinished.
-fn is_unfinished<R: Threads + Wait + Abort + Sync>(
+fn is_unfinished<R: Threads + Wait + Sync>(
     rt: &R,
     alloc: Global,
     header: &str,
 ) -> Result<(), Fail> {
     let answered = answer(rt, alloc, "run", header.as_bytes())?;
-    assert!(rt; answered.starts_with(b"named\nswap report 1\n"), "{header}");
-    assert!(rt; answered.ends_with(UNFINISHED), "{header}");
-    Ok(())
+    let told = answered.starts_with(b"named\nswap report 1\n") && answered.ends_with(UNFINISHED);
+    asks(alloc, told, "run", "bytes of a header", header.len())
 }
 
 #[test]
@@ -160,7 +163,7 @@ fn a_header_alone_is_unfinished(rt: HostRuntime) -> Result<(), Fail> {
 }
 
 /// A header that is cut is no JSON text, for each command that reads one.
-fn refuses_each_cut<R: Threads + Wait + Abort + Sync>(
+fn refuses_each_cut<R: Threads + Wait + Sync>(
     rt: &R,
     alloc: Global,
     command: &str,
@@ -182,14 +185,32 @@ fn a_header_is_cut(rt: HostRuntime) -> Result<(), Fail> {
     refuses_each_cut(&rt, rt.alloc(), "make", plain.as_str())
 }
 
-fn joined(alloc: Global, first: &str, second: &str) -> Result<String, Fail> {
-    let mut text = String::from_str(alloc, first)?;
-    text.push_str(second)?;
-    Ok(text)
+/// Whether a made job ends so, and has no other lines but the header before.
+fn is_copied(text: &str, copied: &str) -> bool {
+    text.ends_with(copied)
+        && text.starts_with("{\"arcs\":")
+        && pieces(text, "\n") == pieces(copied, "\n")
+}
+
+/// What is made of the input ends so.
+fn makes<R: Threads + Wait + Sync>(
+    rt: &R,
+    alloc: Global,
+    input: &str,
+    copied: &str,
+) -> Result<(), Fail> {
+    let text = text_of(rt, alloc, "make", input.as_bytes())?;
+    asks(
+        alloc,
+        is_copied(text.as_str(), copied),
+        "make",
+        "bytes",
+        input.len(),
+    )
 }
 
 /// What is made of a plain job and further lines is what is made of the job, and those lines behind it.
-fn copies<R: Threads + Wait + Abort + Sync>(
+fn copies<R: Threads + Wait + Sync>(
     rt: &R,
     alloc: Global,
     plain: &str,
@@ -197,15 +218,20 @@ fn copies<R: Threads + Wait + Abort + Sync>(
     copied: &str,
 ) -> Result<(), Fail> {
     let input = joined(alloc, plain, lines)?;
-    let text = text_of(rt, alloc, "make", input.as_str().as_bytes())?;
-    assert!(rt;
-        text.as_str().ends_with(copied) && text.as_str().starts_with("{\"arcs\":"),
-        "{lines}"
-    );
-    assert!(rt;
-        text.as_str().split('\n').count() == copied.split('\n').count(),
-        "{lines}"
-    );
+    makes(rt, alloc, input.as_str(), copied)
+}
+
+/// The same of each row, `LINES=>COPIED`. A `;` parts the rows.
+fn copies_each<R: Threads + Wait + Sync>(
+    rt: &R,
+    alloc: Global,
+    plain: &str,
+    rows: &str,
+) -> Result<(), Fail> {
+    for row in rows.split(';') {
+        let (lines, copied) = row.split_once("=>").ok_or("no row")?;
+        copies(rt, alloc, plain, lines, copied)?;
+    }
     Ok(())
 }
 
@@ -216,40 +242,44 @@ const BEGINNINGS: &str =
 #[test]
 fn the_lines_of_a_plain_job_are_cut(rt: HostRuntime) -> Result<(), Fail> {
     let plain = plain_job(rt.alloc())?;
-    for row in BEGINNINGS.split(';') {
-        let (lines, copied) = row.split_once("=>").ok_or("no row")?;
-        copies(&rt, rt.alloc(), plain.as_str(), lines, copied)?;
-    }
-    Ok(())
+    copies_each(&rt, rt.alloc(), plain.as_str(), BEGINNINGS)
 }
 
 /// Each proper beginning of the transcript is cut short.
-fn cuts_short<R: Threads + Wait + Abort + Sync>(
-    rt: &R,
-    alloc: Global,
-    text: &str,
-) -> Result<(), Fail> {
+fn cuts_short<R: Threads + Wait + Sync>(rt: &R, alloc: Global, text: &str) -> Result<(), Fail> {
     let text = text.as_bytes();
     for cut in 0..text.len() {
-        let answered = answer(rt, alloc, "audit", &text[..cut])?;
-        assert!(rt;
-            answered.as_slice() == b"swap: refused: CutShort\n".as_slice(),
-            "cut at {cut}"
-        );
+        is_told(
+            rt,
+            alloc,
+            "audit",
+            &text[..cut],
+            b"swap: refused: CutShort\n",
+        )?;
     }
     Ok(())
 }
 
 /// Each proper beginning of what is written of a run is cut short.
-fn cuts_its_transcript_short<R: Threads + Wait + Abort + Sync>(
+fn cuts_transcript_short<R: Threads + Wait + Sync>(
+    rt: &R,
+    alloc: Global,
+    command: &str,
+    job: &str,
+) -> Result<(), Fail> {
+    let text = text_of(rt, alloc, command, job.as_bytes())?;
+    cuts_short(rt, alloc, text.as_str())
+}
+
+/// The same of a job with hashkeys.
+fn cuts_its_transcript_short<R: Threads + Wait + Sync>(
     rt: &R,
     alloc: Global,
     edits: &str,
     events: &str,
 ) -> Result<(), Fail> {
     let job = job_of(alloc, HASHKEYS, edits, events)?;
-    let text = text_of(rt, alloc, "run --transcript", job.as_str().as_bytes())?;
-    cuts_short(rt, alloc, text.as_str())
+    cuts_transcript_short(rt, alloc, "run --transcript", job.as_str())
 }
 
 #[test]
@@ -260,7 +290,10 @@ fn transcripts_are_cut(rt: HostRuntime) -> Result<(), Fail> {
 
 #[test]
 fn the_transcript_of_a_race_is_cut(rt: HostRuntime) -> Result<(), Fail> {
-    let command = "race --ticks 1000 --transcript";
-    let text = text_of(&rt, rt.alloc(), command, idle_job().as_bytes())?;
-    cuts_short(&rt, rt.alloc(), text.as_str())
+    cuts_transcript_short(
+        &rt,
+        rt.alloc(),
+        "race --ticks 1000 --transcript",
+        idle_job(),
+    )
 }

@@ -1,8 +1,7 @@
 //! Fields that are absent or of another kind: in a job's header, in a plain one, in actors and in events.
 
-use crate::runner::answer;
+use crate::runner::is_told;
 use std::alloc::Global;
-use std::process::Abort;
 use std::sync::Wait;
 use std::test::Fail;
 use std::thread::Threads;
@@ -187,24 +186,21 @@ fn line_of(alloc: Global, reason: &str, place: &str, field: &str) -> Result<Stri
     Ok(format!(in alloc; "swap: refused: {reason} {line} {}\n", name_of(field))?)
 }
 
-/// The input gets that answer.
-fn is_told<R: Threads + Wait + Abort + Sync>(
+/// The input with that piece at its place gets that answer.
+fn is_told_at<R: Threads + Wait + Sync>(
     rt: &R,
     alloc: Global,
     command: &str,
-    input: &str,
+    place: &str,
+    piece: &str,
     wanted: &str,
 ) -> Result<(), Fail> {
-    let answered = answer(rt, alloc, command, input.as_bytes())?;
-    assert!(rt;
-        answered.as_slice() == wanted.as_bytes(),
-        "{command}, and not {wanted}"
-    );
-    Ok(())
+    let input = put(alloc, place, piece)?;
+    is_told(rt, alloc, command, input.as_bytes(), wanted.as_bytes())
 }
 
-/// The input with that piece at its place is refused for that reason against the field.
-fn is_refused<R: Threads + Wait + Abort + Sync>(
+/// It is refused for that reason against the field.
+fn is_refused<R: Threads + Wait + Sync>(
     rt: &R,
     alloc: Global,
     command: &str,
@@ -213,26 +209,27 @@ fn is_refused<R: Threads + Wait + Abort + Sync>(
     reason: &str,
     field: &str,
 ) -> Result<(), Fail> {
-    let input = put(alloc, place, piece)?;
     let wanted = line_of(alloc, reason, place, field)?;
-    is_told(rt, alloc, command, input.as_str(), wanted.as_str())
+    is_told_at(rt, alloc, command, place, piece, wanted.as_str())
 }
 
-/// A piece without the field is refused for want of it.
-fn is_missed<R: Threads + Wait + Abort + Sync>(
+/// A piece with that in the place of its field is refused for that reason.
+fn is_refused_with<R: Threads + Wait + Sync>(
     rt: &R,
     alloc: Global,
     command: &str,
     place: &str,
     piece: &str,
     field: &str,
+    instead: &str,
+    reason: &str,
 ) -> Result<(), Fail> {
-    let absent = piece.replacen(alloc, field, "", 1)?;
-    is_refused(rt, alloc, command, place, absent.as_str(), "Missing", field)
+    let changed = piece.replacen(alloc, field, instead, 1)?;
+    is_refused(rt, alloc, command, place, changed.as_str(), reason, field)
 }
 
 /// A piece with a list of a list for the field's value is refused, since it is of another kind.
-fn is_of_another_kind<R: Threads + Wait + Abort + Sync>(
+fn is_of_another_kind<R: Threads + Wait + Sync>(
     rt: &R,
     alloc: Global,
     command: &str,
@@ -241,39 +238,65 @@ fn is_of_another_kind<R: Threads + Wait + Abort + Sync>(
     field: &str,
 ) -> Result<(), Fail> {
     let lists = with_lists(alloc, field)?;
-    let changed = piece.replacen(alloc, field, lists.as_str(), 1)?;
-    is_refused(
+    is_refused_with(
         rt,
         alloc,
         command,
         place,
-        changed.as_str(),
-        "WrongKind",
+        piece,
         field,
+        lists.as_str(),
+        "WrongKind",
     )
 }
 
-/// Each field of a piece is needed, but for those with a `?` before them, and may not be a list of a list.
-fn tries_fields<R: Threads + Wait + Abort + Sync>(
+/// A field of a piece is needed, but where the row has a `?` before it, and may not be a list of a list.
+fn tries_field<R: Threads + Wait + Sync>(
+    rt: &R,
+    alloc: Global,
+    command: &str,
+    place: &str,
+    piece: &str,
+    row: &str,
+) -> Result<(), Fail> {
+    if let Some(field) = row.strip_prefix("? ") {
+        return is_of_another_kind(rt, alloc, command, place, piece, field);
+    }
+    is_refused_with(rt, alloc, command, place, piece, row, "", "Missing")?;
+    is_of_another_kind(rt, alloc, command, place, piece, row)
+}
+
+/// Each field of a piece, a row each.
+fn tries_fields<R: Threads + Wait + Sync>(
+    rt: &R,
+    alloc: Global,
+    command: &str,
+    place: &str,
+    piece: &str,
+    rows: &str,
+) -> Result<(), Fail> {
+    for row in rows.lines() {
+        tries_field(rt, alloc, command, place, piece, row)?;
+    }
+    Ok(())
+}
+
+/// A case of a table: a piece, and its fields.
+fn tries_case<R: Threads + Wait + Sync>(
     rt: &R,
     alloc: Global,
     command: &str,
     place: &str,
     case: &str,
 ) -> Result<(), Fail> {
-    let (piece, rows) = case.split_once('\n').ok_or("no rows")?;
-    for row in rows.lines() {
-        let field = row.strip_prefix("? ").unwrap_or(row);
-        if field.len() == row.len() {
-            is_missed(rt, alloc, command, place, piece, field)?;
-        }
-        is_of_another_kind(rt, alloc, command, place, piece, field)?;
+    match case.split_once('\n') {
+        Some((piece, rows)) => tries_fields(rt, alloc, command, place, piece, rows),
+        None => Err("no rows".into()),
     }
-    Ok(())
 }
 
 /// Each piece of the table stands at the place in turn, and its fields are tried.
-fn tries<R: Threads + Wait + Abort + Sync>(
+fn tries<R: Threads + Wait + Sync>(
     rt: &R,
     alloc: Global,
     command: &str,
@@ -281,7 +304,7 @@ fn tries<R: Threads + Wait + Abort + Sync>(
     table: &str,
 ) -> Result<(), Fail> {
     for case in table.split("== ").skip(1) {
-        tries_fields(rt, alloc, command, place, case)?;
+        tries_case(rt, alloc, command, place, case)?;
     }
     Ok(())
 }
@@ -295,7 +318,7 @@ fn headers_need_their_fields(rt: HostRuntime) -> Result<(), Fail> {
 }
 
 /// What stands in the place of the actor and of the event, and what is tried at the mark in them.
-fn tries_in_job<R: Threads + Wait + Abort + Sync>(
+fn tries_in_job<R: Threads + Wait + Sync>(
     rt: &R,
     alloc: Global,
     command: &str,

@@ -27,6 +27,15 @@ pub(crate) fn idle_job() -> &'static str {
     }
 }
 
+/// The text that was written, behind the line for the status.
+fn written(alloc: Global, answered: &[u8]) -> Result<String, Fail> {
+    let text = str::from_utf8(answered).unwrap_or("no text");
+    match text.split_once('\n') {
+        Some((_status, written)) => Ok(String::from_str(alloc, written)?),
+        None => Err("no line".into()),
+    }
+}
+
 /// What the program writes of an input.
 pub(crate) fn text_of<R: Threads + Wait + Sync>(
     rt: &R,
@@ -35,9 +44,7 @@ pub(crate) fn text_of<R: Threads + Wait + Sync>(
     input: &[u8],
 ) -> Result<String, Fail> {
     let answered = answer(rt, alloc, command, input)?;
-    let text = str::from_utf8(&answered).unwrap_or("no text");
-    let (_status, written) = text.split_once('\n').ok_or("no line")?;
-    Ok(String::from_str(alloc, written)?)
+    written(alloc, &answered)
 }
 
 /// The transcript of the job by hand.

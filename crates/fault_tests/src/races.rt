@@ -1,37 +1,36 @@
 //! Writes that fail of a race in which all conform, whose text isn't the same each time.
 
-use crate::runner::{answer, answer_unwritten};
+use crate::runner::{answer_unwritten, asks, is_told};
 use std::alloc::Global;
-use std::process::Abort;
 use std::sync::Wait;
 use std::test::Fail;
 use std::thread::Threads;
 use table_runner::deals::HASHKEYS;
 
-/// An audit tells that the text is a part of a transcript.
-fn is_a_part<R: Threads + Wait + Abort + Sync>(
+/// A part of a transcript, of at most as many bytes as the writes before that one may take. An audit tells that it is cut short.
+fn is_a_part<R: Threads + Wait + Sync>(
     rt: &R,
     alloc: Global,
-    text: &[u8],
+    answered: &[u8],
+    write: usize,
 ) -> Result<(), Fail> {
-    let audited = answer(rt, alloc, "audit", text)?;
-    let wanted = b"swap: refused: CutShort\n".as_slice();
-    assert!(rt; audited.as_slice() == wanted, "{} bytes", text.len());
-    Ok(())
+    let Some(taken) = answered.strip_prefix(b"write fault\n") else {
+        return Err("no fault".into());
+    };
+    let fits = taken.len() <= write.saturating_mul(100) && taken.is_empty() == (write == 0);
+    asks(alloc, fits, "race", "write", write)?;
+    is_told(rt, alloc, "audit", taken, b"swap: refused: CutShort\n")
 }
 
-/// Where that write fails the sink holds a part of a transcript, of at most as many bytes as the writes before it may take.
-fn write_of_a_race_fails<R: Threads + Wait + Abort + Sync>(
+/// Where that write fails the sink holds a part of a transcript.
+fn write_of_a_race_fails<R: Threads + Wait + Sync>(
     rt: &R,
     alloc: Global,
     write: usize,
 ) -> Result<(), Fail> {
     let command = "race --ticks 5 --transcript";
     let answered = answer_unwritten(rt, alloc, command, HASHKEYS.as_bytes(), 100, write)?;
-    let taken = answered.strip_prefix(b"write fault\n").ok_or("no fault")?;
-    assert!(rt; taken.len() <= write.saturating_mul(100), "write {write}");
-    assert!(rt; taken.is_empty() == (write == 0), "write {write}");
-    is_a_part(rt, alloc, taken)
+    is_a_part(rt, alloc, &answered, write)
 }
 
 #[test]

@@ -1,9 +1,8 @@
 //! Reads that fail.
 
 use crate::jobs::{idle_job, plain_job, transcript};
-use crate::runner::{answer, answer_unread};
+use crate::runner::{answer, answer_unread, asks};
 use std::alloc::Global;
-use std::process::Abort;
 use std::sync::Wait;
 use std::test::Fail;
 use std::thread::Threads;
@@ -12,24 +11,21 @@ use table_runner::deals::JOB;
 /// The most bytes of one read.
 const PER_READ: usize = 7;
 
-/// Where that read fails a read fault is answered, and nothing is written.
-fn read_fails<R: Threads + Wait + Abort + Sync>(
+/// Where the read of that number fails that is the answer.
+fn is_told_unread<R: Threads + Wait + Sync>(
     rt: &R,
     alloc: Global,
     command: &str,
     input: &[u8],
     read: usize,
+    wanted: &[u8],
 ) -> Result<(), Fail> {
     let answered = answer_unread(rt, alloc, command, input, PER_READ, read)?;
-    assert!(rt;
-        answered.as_slice() == b"read fault\n".as_slice(),
-        "{command}: read {read}"
-    );
-    Ok(())
+    asks(alloc, answered.as_slice() == wanted, command, "read", read)
 }
 
-/// Where a read fails that isn't made the answer is the usual one.
-fn is_not_read<R: Threads + Wait + Abort + Sync>(
+/// Where a read fails that isn't made the answer is the usual one, and no refusal.
+fn is_not_read<R: Threads + Wait + Sync>(
     rt: &R,
     alloc: Global,
     command: &str,
@@ -37,17 +33,13 @@ fn is_not_read<R: Threads + Wait + Abort + Sync>(
     read: usize,
 ) -> Result<(), Fail> {
     let usual = answer(rt, alloc, command, input)?;
-    let answered = answer_unread(rt, alloc, command, input, PER_READ, read)?;
-    assert!(rt;
-        answered.as_slice() == usual.as_slice(),
-        "{command}: no read {read}"
-    );
-    assert!(rt; !usual.starts_with(b"swap: refused"), "{command}: refused");
-    Ok(())
+    let refused = usual.starts_with(b"swap: refused");
+    asks(alloc, !refused, command, "refused", read)?;
+    is_told_unread(rt, alloc, command, input, read, &usual)
 }
 
-/// Each read fails in turn, up to the one that finds the end of the input. It is the last.
-fn each_read_fails<R: Threads + Wait + Abort + Sync>(
+/// Each read fails in turn, up to the one that finds the end of the input, and nothing is written. It is the last.
+fn each_read_fails<R: Threads + Wait + Sync>(
     rt: &R,
     alloc: Global,
     command: &str,
@@ -55,7 +47,7 @@ fn each_read_fails<R: Threads + Wait + Abort + Sync>(
 ) -> Result<(), Fail> {
     let last = input.len().div_ceil(PER_READ);
     for read in 0..=last {
-        read_fails(rt, alloc, command, input, read)?;
+        is_told_unread(rt, alloc, command, input, read, b"read fault\n")?;
     }
     is_not_read(rt, alloc, command, input, last + 1)
 }

@@ -1,4 +1,4 @@
-//! One run of the program, with races, over a source and a sink of which some calls fail.
+//! One run of the program, with races, over a source and a sink of which some calls fail, and what is asked of its answer.
 
 ghost use Rattle.std.specs.Prelude.{◌<◌};
 
@@ -14,24 +14,8 @@ use table_runner::told;
 /// More bytes than any text has here that is written.
 const ROOM: usize = 65_536;
 
-/// Calls of a source or a sink.
-#[derive(Drop)]
-struct Calls {
-    /// The most bytes of one.
-    most: usize,
-    /// The number of the one that fails.
-    failing: u64,
-}
-
-/// Calls none of which fails.
-fn usual() -> Calls
-    ensures { 0 < result.most }
-{
-    Calls {
-        most: 512,
-        failing: u64::MAX,
-    }
-}
+/// The most bytes of a call, where none fails.
+const USUAL: usize = 512;
 
 /// A gate that keeps nobody.
 struct Open;
@@ -51,28 +35,35 @@ fn status_of<R: Threads + Wait + Sync>(
     swap_top(rt, alloc, words, source, sink, &Open, &Program { alloc })
 }
 
+fn push_word(alloc: Global, words: &mut Vec<String>, word: &str) -> Result<(), Fail> {
+    words.push(String::from_str(alloc, word)?)?;
+    Ok(())
+}
+
 /// The words of a command, which single spaces part.
 fn words_of(alloc: Global, command: &str) -> Result<Vec<String>, Fail> {
     let mut words = Vec::new(alloc);
     for word in command.split(' ') {
-        words.push(String::from_str(alloc, word)?)?;
+        push_word(alloc, &mut words, word)?;
     }
     Ok(words)
 }
 
-fn source_of(alloc: Global, input: &[u8], calls: Calls) -> Result<VecSource, Fail>
-    requires { 0 < calls.most }
+/// The input, of which a call reads so many bytes, and the read of that number fails.
+fn source_of(alloc: Global, input: &[u8], per_read: usize, read: u64) -> Result<VecSource, Fail>
+    requires { 0 < per_read }
 {
     let bytes = Vec::from_slice(alloc, input)?;
-    let failing = Vec::from_slice(alloc, &[calls.failing])?;
-    Ok(VecSource::new(bytes, calls.most, failing))
+    let failing = Vec::from_slice(alloc, &[read])?;
+    Ok(VecSource::new(bytes, per_read, failing))
 }
 
-fn sink_of(alloc: Global, calls: Calls) -> Result<VecSink, Fail>
-    requires { 0 < calls.most }
+/// A sink, of which a call takes so many bytes, and the write of that number fails.
+fn sink_of(alloc: Global, per_write: usize, write: u64) -> Result<VecSink, Fail>
+    requires { 0 < per_write }
 {
-    let failing = Vec::from_slice(alloc, &[calls.failing])?;
-    Ok(VecSink::new(alloc, ROOM, calls.most, failing)?)
+    let failing = Vec::from_slice(alloc, &[write])?;
+    Ok(VecSink::new(alloc, ROOM, per_write, failing)?)
 }
 
 fn told_of<R: Threads + Wait + Sync>(
@@ -86,25 +77,37 @@ fn told_of<R: Threads + Wait + Sync>(
     told(alloc, &status, sink.taken())
 }
 
-/// What the program answers to a command and an input, which it reads and writes by such calls: a line for the status, and then all that it wrote.
-fn answer_by<R: Threads + Wait + Sync>(
+/// The answer to words and what a source gives: a line for the status, and then all that was written, by such calls.
+fn answer_from<R: Threads + Wait + Sync>(
     rt: &R,
     alloc: Global,
-    command: &str,
-    input: &[u8],
-    reads: Calls,
-    writes: Calls,
+    words: &Vec<String>,
+    source: &mut VecSource,
+    per_write: usize,
+    write: u64,
 ) -> Result<Vec<u8>, Fail>
-    requires reads { 0 < reads.most }
-    requires writes { 0 < writes.most }
+    requires { 0 < per_write }
 {
-    let words = words_of(alloc, command)?;
-    let mut source = source_of(alloc, input, reads)?;
-    let mut sink = sink_of(alloc, writes)?;
-    told_of(rt, alloc, &words, &mut source, &mut sink)
+    let mut sink = sink_of(alloc, per_write, write)?;
+    told_of(rt, alloc, words, source, &mut sink)
 }
 
-/// The answer where it reads so many bytes a call, and the read of that number fails.
+/// The answer to words where it reads so many bytes a call, and the read of that number fails.
+fn answer_read<R: Threads + Wait + Sync>(
+    rt: &R,
+    alloc: Global,
+    words: &Vec<String>,
+    input: &[u8],
+    per_read: usize,
+    read: u64,
+) -> Result<Vec<u8>, Fail>
+    requires { 0 < per_read }
+{
+    let mut source = source_of(alloc, input, per_read, read)?;
+    answer_from(rt, alloc, words, &mut source, USUAL, u64::MAX)
+}
+
+/// What the program answers to a command and an input where it reads so many bytes a call, and the read of that number fails.
 pub(crate) fn answer_unread<R: Threads + Wait + Sync>(
     rt: &R,
     alloc: Global,
@@ -115,14 +118,26 @@ pub(crate) fn answer_unread<R: Threads + Wait + Sync>(
 ) -> Result<Vec<u8>, Fail>
     requires { 0 < per_read }
 {
-    let reads = Calls {
-        most: per_read,
-        failing: read as u64,
-    };
-    answer_by(rt, alloc, command, input, reads, usual())
+    let words = words_of(alloc, command)?;
+    answer_read(rt, alloc, &words, input, per_read, read as u64)
 }
 
-/// The same where it writes so many bytes a call, and the write of that number fails.
+/// The answer to words where it writes so many bytes a call, and the write of that number fails.
+fn answer_written<R: Threads + Wait + Sync>(
+    rt: &R,
+    alloc: Global,
+    words: &Vec<String>,
+    input: &[u8],
+    per_write: usize,
+    write: u64,
+) -> Result<Vec<u8>, Fail>
+    requires { 0 < per_write }
+{
+    let mut source = source_of(alloc, input, USUAL, u64::MAX)?;
+    answer_from(rt, alloc, words, &mut source, per_write, write)
+}
+
+/// The same to a command.
 pub(crate) fn answer_unwritten<R: Threads + Wait + Sync>(
     rt: &R,
     alloc: Global,
@@ -133,11 +148,8 @@ pub(crate) fn answer_unwritten<R: Threads + Wait + Sync>(
 ) -> Result<Vec<u8>, Fail>
     requires { 0 < per_write }
 {
-    let writes = Calls {
-        most: per_write,
-        failing: write as u64,
-    };
-    answer_by(rt, alloc, command, input, usual(), writes)
+    let words = words_of(alloc, command)?;
+    answer_written(rt, alloc, &words, input, per_write, write as u64)
 }
 
 /// The same where no call fails.
@@ -147,5 +159,38 @@ pub(crate) fn answer<R: Threads + Wait + Sync>(
     command: &str,
     input: &[u8],
 ) -> Result<Vec<u8>, Fail> {
-    answer_by(rt, alloc, command, input, usual(), usual())
+    answer_unwritten(rt, alloc, command, input, USUAL, usize::MAX)
+}
+
+/// Asks that something holds of the answer to a command, and else tells what, and at which place. Tests ask with this and lend what they own: an `assert!`
+/// over what a function owns is dearer by far.
+pub(crate) fn asks(
+    alloc: Global,
+    holds: bool,
+    command: &str,
+    what: &str,
+    place: usize,
+) -> Result<(), Fail> {
+    if !holds {
+        return Err(Fail::from(format!(in alloc; "{command}: {what} {place}")?));
+    }
+    Ok(())
+}
+
+/// The command and the input get that answer.
+pub(crate) fn is_told<R: Threads + Wait + Sync>(
+    rt: &R,
+    alloc: Global,
+    command: &str,
+    input: &[u8],
+    wanted: &[u8],
+) -> Result<(), Fail> {
+    let answered = answer(rt, alloc, command, input)?;
+    asks(
+        alloc,
+        answered.as_slice() == wanted,
+        command,
+        "bytes",
+        input.len(),
+    )
 }

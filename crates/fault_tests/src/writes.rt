@@ -3,16 +3,30 @@
 ghost use Rattle.std.specs.Prelude.{◌<◌};
 
 use crate::jobs::{idle_job, plain_job, text_of, transcript};
-use crate::runner::answer_unwritten;
+use crate::runner::{answer_unwritten, asks};
 use std::alloc::Global;
-use std::process::Abort;
 use std::sync::Wait;
 use std::test::Fail;
 use std::thread::Threads;
 use table_runner::deals::JOB;
 
+/// What was taken before a write failed, where one did.
+fn taken_in(answered: &[u8]) -> Option<&[u8]> {
+    answered.strip_prefix(b"write fault\n")
+}
+
+/// Whether a write failed, and so many bytes were taken before, a proper prefix of the text.
+fn has_taken(answered: &[u8], count: usize, text: &[u8]) -> bool {
+    match taken_in(answered) {
+        Some(taken) => {
+            taken.len() == count && taken.len() < text.len() && text.starts_with(taken)
+        }
+        None => false,
+    }
+}
+
 /// Where that write fails the sink holds what the writes before it took, a proper prefix of the text.
-fn write_fails<R: Threads + Wait + Abort + Sync>(
+fn write_fails<R: Threads + Wait + Sync>(
     rt: &R,
     alloc: Global,
     command: &str,
@@ -24,20 +38,18 @@ fn write_fails<R: Threads + Wait + Abort + Sync>(
     requires { 0 < per_write }
 {
     let answered = answer_unwritten(rt, alloc, command, input, per_write, write)?;
-    let taken = answered.strip_prefix(b"write fault\n").ok_or("no fault")?;
-    assert!(rt;
-        taken.len() == write.saturating_mul(per_write),
-        "{command}: write {write} of {per_write} bytes"
-    );
-    assert!(rt;
-        taken.len() < text.len() && text.starts_with(taken),
-        "{command}: write {write} of {per_write} bytes"
-    );
-    Ok(())
+    let count = write.saturating_mul(per_write);
+    asks(
+        alloc,
+        has_taken(&answered, count, text),
+        command,
+        "write",
+        write,
+    )
 }
 
 /// Where a write fails that isn't made the text is whole.
-fn is_not_written<R: Threads + Wait + Abort + Sync>(
+fn is_not_written<R: Threads + Wait + Sync>(
     rt: &R,
     alloc: Global,
     command: &str,
@@ -49,16 +61,35 @@ fn is_not_written<R: Threads + Wait + Abort + Sync>(
     requires { 0 < per_write }
 {
     let answered = answer_unwritten(rt, alloc, command, input, per_write, write)?;
-    assert!(rt;
-        answered.ends_with(text) && !answered.starts_with(b"write fault\n"),
-        "{command}: no write {write} of {per_write} bytes"
-    );
-    Ok(())
+    let whole = answered.ends_with(text) && taken_in(&answered).is_none();
+    asks(alloc, whole, command, "no write", write)
 }
 
-/// Each write whose number is a multiple of `every` fails in turn, up to the last.
+/// Each write of the text whose number is a multiple of `every` fails in turn, up to the last.
 /// The text is shorter than a page, so each write but the last takes as many bytes as it may.
-fn writes_fail<R: Threads + Wait + Abort + Sync>(
+fn writes_of_fail<R: Threads + Wait + Sync>(
+    rt: &R,
+    alloc: Global,
+    command: &str,
+    input: &[u8],
+    per_write: usize,
+    every: usize,
+    text: &[u8],
+) -> Result<(), Fail>
+    requires some { 0 < per_write }
+    requires steps { 0 < every }
+{
+    let count = text.len().div_ceil(per_write);
+    for write in 0..count {
+        if write % every == 0 {
+            write_fails(rt, alloc, command, input, per_write, write, text)?;
+        }
+    }
+    is_not_written(rt, alloc, command, input, per_write, count, text)
+}
+
+/// The same of what the program writes.
+fn writes_fail<R: Threads + Wait + Sync>(
     rt: &R,
     alloc: Global,
     command: &str,
@@ -70,18 +101,19 @@ fn writes_fail<R: Threads + Wait + Abort + Sync>(
     requires steps { 0 < every }
 {
     let text = text_of(rt, alloc, command, input)?;
-    let text = text.as_str().as_bytes();
-    let count = text.len().div_ceil(per_write);
-    for write in 0..count {
-        if write % every == 0 {
-            write_fails(rt, alloc, command, input, per_write, write, text)?;
-        }
-    }
-    is_not_written(rt, alloc, command, input, per_write, count, text)
+    writes_of_fail(
+        rt,
+        alloc,
+        command,
+        input,
+        per_write,
+        every,
+        text.as_str().as_bytes(),
+    )
 }
 
 /// Each write fails in turn, of sinks that take a byte a call and of such that take seven.
-fn each_write_fails<R: Threads + Wait + Abort + Sync>(
+fn each_write_fails<R: Threads + Wait + Sync>(
     rt: &R,
     alloc: Global,
     command: &str,
@@ -92,18 +124,11 @@ fn each_write_fails<R: Threads + Wait + Abort + Sync>(
 }
 
 #[test]
-fn each_write_of_a_check_fails(rt: HostRuntime) -> Result<(), Fail> {
-    each_write_fails(&rt, rt.alloc(), "check", JOB.as_bytes())
-}
-
-#[test]
-fn each_write_of_a_report_fails(rt: HostRuntime) -> Result<(), Fail> {
-    each_write_fails(&rt, rt.alloc(), "run", JOB.as_bytes())
-}
-
-#[test]
-fn each_write_of_a_transcript_fails(rt: HostRuntime) -> Result<(), Fail> {
-    each_write_fails(&rt, rt.alloc(), "run --transcript", JOB.as_bytes())
+fn each_write_of_a_job_fails(rt: HostRuntime) -> Result<(), Fail> {
+    for command in ["check", "run", "run --transcript"] {
+        each_write_fails(&rt, rt.alloc(), command, JOB.as_bytes())?;
+    }
+    Ok(())
 }
 
 #[test]
@@ -149,29 +174,26 @@ const REFUSED: &str = r#"{"call":"alice","move":{"do":"publish","arc":0}}
 
 /// A job of so many calls that its report has some pages.
 fn long_job(alloc: Global) -> Result<String, Fail> {
-    let mut job = String::from_str(alloc, JOB)?;
-    job.push_str(REFUSED.repeat(alloc, 28)?.as_str())?;
-    Ok(job)
+    let calls = REFUSED.repeat(alloc, 28)?;
+    Ok(format!(in alloc; "{JOB}{calls}")?)
 }
 
-/// How many bytes of the text were taken before that write failed; none are told where there is no such write.
-fn taken_before<R: Threads + Wait + Abort + Sync>(
+/// How many bytes of the text were taken before that write failed; all where there is no such write.
+fn taken_before<R: Threads + Wait + Sync>(
     rt: &R,
     alloc: Global,
     input: &[u8],
     write: usize,
     text: &[u8],
-) -> Result<Option<usize>, Fail> {
+) -> Result<usize, Fail> {
     let answered = answer_unwritten(rt, alloc, "run", input, 100, write)?;
-    let Some(taken) = answered.strip_prefix(b"write fault\n") else {
-        return Ok(None);
-    };
-    assert!(rt; text.starts_with(taken), "write {write}");
-    Ok(Some(taken.len()))
+    let taken = taken_in(&answered).unwrap_or(text);
+    asks(alloc, text.starts_with(taken), "run", "write", write)?;
+    Ok(taken.len())
 }
 
 /// Each write fails in turn, and the one before it took at least a byte and at most a hundred.
-fn each_write_of_pages_fails<R: Threads + Wait + Abort + Sync>(
+fn each_write_of_pages_fails<R: Threads + Wait + Sync>(
     rt: &R,
     alloc: Global,
     input: &[u8],
@@ -179,11 +201,9 @@ fn each_write_of_pages_fails<R: Threads + Wait + Abort + Sync>(
 ) -> Result<(), Fail> {
     let mut before = 0;
     for write in 0..text.len() {
-        let taken = taken_before(rt, alloc, input, write, text)?.unwrap_or(text.len());
-        assert!(rt;
-            before <= taken && taken - before <= 100 && (write == 0) == (before == taken),
-            "write {write}"
-        );
+        let taken = taken_before(rt, alloc, input, write, text)?;
+        let fits = before <= taken && taken - before <= 100 && (write == 0) == (before == taken);
+        asks(alloc, fits, "run", "write", write)?;
         before = taken;
         if taken == text.len() {
             return Ok(());
@@ -192,15 +212,21 @@ fn each_write_of_pages_fails<R: Threads + Wait + Abort + Sync>(
     Err(Fail::new("no last write"))
 }
 
+/// The same of a report that is longer than a page.
+fn pages_fail<R: Threads + Wait + Sync>(rt: &R, alloc: Global, input: &[u8]) -> Result<(), Fail> {
+    let text = text_of(rt, alloc, "run", input)?;
+    asks(
+        alloc,
+        text.as_str().len() > 4_500,
+        "run",
+        "bytes",
+        text.as_str().len(),
+    )?;
+    each_write_of_pages_fails(rt, alloc, input, text.as_str().as_bytes())
+}
+
 #[test]
 fn each_write_of_some_pages_fails(rt: HostRuntime) -> Result<(), Fail> {
     let job = long_job(rt.alloc())?;
-    let text = text_of(&rt, rt.alloc(), "run", job.as_str().as_bytes())?;
-    assert!(rt; text.as_str().len() > 4_500);
-    each_write_of_pages_fails(
-        &rt,
-        rt.alloc(),
-        job.as_str().as_bytes(),
-        text.as_str().as_bytes(),
-    )
+    pages_fail(&rt, rt.alloc(), job.as_str().as_bytes())
 }

@@ -1,85 +1,49 @@
 //! Sources and sinks that are read and written whole.
 
+use crate::rows::answers;
 use std::alloc::Global;
 use std::io::{self, Read};
-use std::process::Abort;
 use std::test::Fail;
-use swap_base::NoMemory;
+use swap_base::{ByteText, NoMemory};
 use swap_io::{
-    ReadAllFault, ReaderSource, TextSink, VecSink, VecSource, WriteFault, WriterSink, flush,
-    pass_on, read_all, write_all,
+    ReaderSource, Source, TextSink, VecSink, VecSource, WriteFault, WriterSink, flush, pass_on,
+    read_all, write_all,
 };
 
-fn read_hello(alloc: Global, limit: usize, failing: &[u64]) -> Result<Vec<u8>, ReadAllFault> {
-    let bytes = Vec::from_slice(alloc, b"hello")?;
-    let failing = Vec::from_slice(alloc, failing)?;
-    let mut source = VecSource::new(bytes, 2, failing);
-    read_all(alloc, &mut source, limit)
+fn text_of(alloc: Global, bytes: &[u8]) -> Result<String, Fail> {
+    Ok(String::from_str(alloc, str::from_utf8(bytes)?)?)
 }
 
-#[test]
-fn reads_to_the_end(rt: HostRuntime) -> Result<(), Fail> {
-    for limit in [5, 6, usize::MAX] {
-        let all = read_hello(rt.alloc(), limit, &[]).ok().ok_or("not read")?;
-        assert_eq!(rt; all.as_slice(), b"hello".as_slice(), "limit {limit}");
+/// All that a source gives, or why it was not read whole.
+fn all_of<S: Source>(alloc: Global, source: &mut S, limit: usize) -> Result<String, Fail> {
+    match read_all(alloc, source, limit) {
+        Ok(all) => text_of(alloc, &all),
+        Err(fault) => Ok(format!(in alloc; "{fault:?}")?),
     }
-    Ok(())
 }
 
-/// Why five bytes were not read whole.
-fn fault_of_hello(alloc: Global, limit: usize, failing: &[u64]) -> Option<ReadAllFault> {
-    read_hello(alloc, limit, failing).err()
-}
-
-#[test]
-fn reads_no_further_than_the_limit(rt: HostRuntime) {
-    let alloc = rt.alloc();
-    assert_eq!(rt; fault_of_hello(alloc, 4, &[]), Some(ReadAllFault::TooLong));
-    assert_eq!(rt; fault_of_hello(alloc, 0, &[]), Some(ReadAllFault::TooLong));
-    assert_eq!(rt;
-        fault_of_hello(alloc, 5, &[3]),
-        Some(ReadAllFault::ReadFault)
-    );
-    assert_eq!(rt;
-        fault_of_hello(alloc, 4, &[0]),
-        Some(ReadAllFault::ReadFault)
-    );
-}
-
-fn hello_sink(alloc: Global, room: usize, failing: &[u64]) -> Result<VecSink, NoMemory> {
-    let failing = Vec::from_slice(alloc, failing)?;
-    VecSink::new(alloc, room, 2, failing)
-}
-
-/// Five bytes to a sink of so much room, some of whose writes fail: what is answered, and what was taken.
-fn writes(
-    rt: &impl Abort,
+/// A source of these bytes, some of whose reads fail.
+pub(crate) fn source_of(
     alloc: Global,
-    room: usize,
+    input: &[u8],
+    per_call: usize,
     failing: &[u64],
-    want: Result<(), WriteFault>,
-    taken: &[u8],
-) -> Result<(), Fail> {
-    let mut sink = hello_sink(alloc, room, failing)?;
-    assert_eq!(rt; write_all(&mut sink, b"hello"), want, "room {room}");
-    assert_eq!(rt; sink.taken(), taken, "room {room}");
-    Ok(())
+) -> Result<VecSource, NoMemory> {
+    let bytes = Vec::from_slice(alloc, input)?;
+    let failing = Vec::from_slice(alloc, failing)?;
+    Ok(VecSource::new(bytes, per_call.max(1), failing))
 }
 
-#[test]
-fn writes_all_or_a_proper_prefix(rt: HostRuntime) -> Result<(), Fail> {
-    writes(&rt, rt.alloc(), 5, &[3], Ok(()), b"hello")?;
-    writes(&rt, rt.alloc(), 4, &[], Err(WriteFault), b"hell")?;
-    writes(&rt, rt.alloc(), 0, &[], Err(WriteFault), b"")?;
-    writes(&rt, rt.alloc(), 9, &[1], Err(WriteFault), b"he")
+/// Five bytes from memory.
+pub(crate) fn vec_read(alloc: Global, limit: usize, failing: &[u64]) -> Result<String, Fail> {
+    let mut source = source_of(alloc, b"hello", 2, failing)?;
+    all_of(alloc, &mut source, limit)
 }
 
-#[test]
-fn reads_a_reader(rt: HostRuntime) -> Result<(), Fail> {
+/// Five bytes from a reader.
+pub(crate) fn reader_read(alloc: Global, limit: usize) -> Result<String, Fail> {
     let mut source = ReaderSource::new(b"hello".as_slice());
-    let all = read_all(rt.alloc(), &mut source, 5).ok().ok_or("not read")?;
-    assert_eq!(rt; all.as_slice(), b"hello".as_slice());
-    Ok(())
+    all_of(alloc, &mut source, limit)
 }
 
 #[derive(Drop)]
@@ -91,39 +55,94 @@ impl Read for Broken {
     }
 }
 
-#[test]
-fn a_reader_fails(rt: HostRuntime) {
+/// A reader whose reads all fail.
+pub(crate) fn broken_read(alloc: Global, limit: usize) -> Result<String, Fail> {
     let mut source = ReaderSource::new(Broken);
-    let fault = read_all(rt.alloc(), &mut source, 5).err();
-    assert_eq!(rt; fault, Some(ReadAllFault::ReadFault));
+    all_of(alloc, &mut source, limit)
 }
 
-#[test]
-fn writes_to_a_writer(rt: HostRuntime) {
-    let mut out = Vec::new(rt.alloc());
-    let mut sink = WriterSink::new(&mut out);
-    assert_eq!(rt; write_all(&mut sink, b"hello"), Ok(()));
-    assert_eq!(rt; out.as_slice(), b"hello".as_slice());
+/// What was taken of a text, and what was answered.
+fn taken_of(alloc: Global, taken: &[u8], done: Result<(), WriteFault>) -> Result<String, Fail> {
+    let text = str::from_utf8(taken)?;
+    Ok(format!(in alloc; "[{text}] {done:?}")?)
 }
 
-#[test]
-fn a_writer_is_full(rt: HostRuntime) {
+fn sink_of(alloc: Global, room: usize, failing: &[u64]) -> Result<VecSink, NoMemory> {
+    let failing = Vec::from_slice(alloc, failing)?;
+    VecSink::new(alloc, room, 2, failing)
+}
+
+/// Five bytes to a sink in memory of so much room.
+pub(crate) fn vec_written(alloc: Global, room: usize, failing: &[u64]) -> Result<String, Fail> {
+    let mut sink = sink_of(alloc, room, failing)?;
+    let done = write_all(&mut sink, b"hello");
+    taken_of(alloc, sink.taken(), done)
+}
+
+fn write_to(out: &mut Vec<u8>) -> Result<(), WriteFault> {
+    let mut sink = WriterSink::new(out);
+    write_all(&mut sink, b"hello")
+}
+
+/// Five bytes to a writer that grows.
+pub(crate) fn writer_written(alloc: Global) -> Result<String, Fail> {
+    let mut out = Vec::new(alloc);
+    let done = write_to(&mut out);
+    taken_of(alloc, &out, done)
+}
+
+/// Five bytes to a writer with room for three.
+pub(crate) fn full_writer(alloc: Global) -> Result<String, Fail> {
     let mut room = [0; 3];
     let mut sink = WriterSink::new(room.as_mut_slice());
-    assert_eq!(rt; write_all(&mut sink, b"hello"), Err(WriteFault));
-    assert_eq!(rt; room.as_slice(), b"hel".as_slice());
+    let done = write_all(&mut sink, b"hello");
+    taken_of(alloc, &room, done)
 }
 
-#[test]
-fn a_text_grows(rt: HostRuntime) -> Result<(), Fail> {
-    let mut sink = TextSink::new(rt.alloc());
-    let mut waiting = vec![in rt.alloc(); b'x'; 5_000]?;
-    pass_on(&mut sink, &mut waiting)?;
-    assert!(rt; waiting.is_empty());
+/// How many bytes wait behind a call with those that wait, and behind one with one byte more; then all are written.
+fn waits(sink: &mut TextSink, waiting: &mut Vec<u8>) -> Result<(usize, usize), Fail> {
+    pass_on(sink, waiting)?;
+    let first = waiting.len();
     waiting.push(b'y')?;
-    pass_on(&mut sink, &mut waiting)?;
-    assert_eq!(rt; waiting.len(), 1);
-    flush(&mut sink, &mut waiting)?;
-    assert_eq!(rt; sink.into_text().as_slice().len(), 5_001);
-    Ok(())
+    pass_on(sink, waiting)?;
+    let then = waiting.len();
+    flush(sink, waiting)?;
+    Ok((first, then))
+}
+
+fn counts_of(alloc: Global, first: usize, then: usize, text: &ByteText) -> Result<String, Fail> {
+    let written = text.as_slice().len();
+    Ok(format!(in alloc; "{first} {then} {written}")?)
+}
+
+/// So many bytes to a text that grows, and one more: how many wait after each, and how many were written at the end.
+pub(crate) fn grown(alloc: Global, bytes: usize) -> Result<String, Fail> {
+    let mut waiting = vec![in alloc; b'x'; bytes]?;
+    let mut sink = TextSink::new(alloc);
+    let (first, then) = waits(&mut sink, &mut waiting)?;
+    counts_of(alloc, first, then, &sink.into_text())
+}
+
+/// A number is the most bytes that are read, the room, or how many bytes are written; one behind it is that of a call that fails.
+const TABLE: &str = "\
+read 5 => hello
+read 6 => hello
+read 18446744073709551615 => hello
+read 4 => TooLong
+read 0 => TooLong
+read 5 3 => ReadFault
+read 4 0 => ReadFault
+reader 5 => hello
+broken 5 => ReadFault
+write 5 3 => [hello] Ok(())
+write 4 => [hell] Err(WriteFault)
+write 0 => [] Err(WriteFault)
+write 9 1 => [he] Err(WriteFault)
+writer 5 => [hello] Ok(())
+full 3 => [hel] Err(WriteFault)
+text 5000 => 0 1 5001";
+
+#[test]
+fn reads_and_writes_whole(rt: HostRuntime) -> Result<(), Fail> {
+    answers(rt.alloc(), "bytes", TABLE)
 }

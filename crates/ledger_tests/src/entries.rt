@@ -7,7 +7,7 @@ use ledger_core::{Entry, EntryList, Ledger, Run};
 use std::alloc::Global;
 use std::process::Abort;
 use std::test::Fail;
-use swap_base::TryCopy;
+use swap_base::{NoMemory, TryCopy};
 
 /// Ticks by 1 and by 2, and calls between them: 12 entries.
 const APART: &str = "\
@@ -34,11 +34,19 @@ fn has_from(alloc: Global, ledger: &Ledger, k: usize, count: usize) -> Result<bo
     has(alloc, &rest, count)
 }
 
+fn copies_from(rt: &impl Abort, alloc: Global, ledger: &Ledger, k: usize) -> Result<(), Fail>
+    requires { k ≤ 12 }
+{
+    assert!(rt; k <= ledger.len() as usize);
+    let has = has_from(alloc, ledger, k, 12 - k)?;
+    assert!(rt; has, "from {k}");
+    Ok(())
+}
+
 /// A copy from each entry on has the entries after it.
 fn copies(rt: &impl Abort, alloc: Global, ledger: &Ledger) -> Result<(), Fail> {
     for k in 0..13 {
-        assert!(rt; k <= ledger.len() as usize);
-        assert!(rt; has_from(alloc, ledger, k, 12 - k)?, "from {k}");
+        copies_from(rt, alloc, ledger, k)?;
     }
     Ok(())
 }
@@ -72,11 +80,21 @@ fn put_again(alloc: Global, ledger: &Ledger) -> Result<EntryList, Fail> {
     pushed(alloc, &entries)
 }
 
+fn copy_is_in_runs(list: &EntryList) -> Result<bool, NoMemory> {
+    Ok(is_in_runs(list.copy()?))
+}
+
+/// Whether the last ticks stand in both, a copy of a list and the list.
+fn are_in_runs(list: EntryList) -> Result<(bool, bool), NoMemory> {
+    let of_copy = copy_is_in_runs(&list)?;
+    Ok((of_copy, is_in_runs(list)))
+}
+
 /// The ticks of a ledger are runs where its entries are put into a list anew, and in a copy of that.
 fn are_runs(rt: &impl Abort, alloc: Global, ledger: &Ledger) -> Result<(), Fail> {
-    let list = put_again(alloc, ledger)?;
-    assert!(rt; is_in_runs(list.copy()?), "a copy");
-    assert!(rt; is_in_runs(list), "one by one");
+    let (of_copy, of_list) = are_in_runs(put_again(alloc, ledger)?)?;
+    assert!(rt; of_copy, "a copy");
+    assert!(rt; of_list, "one by one");
     Ok(())
 }
 
@@ -86,11 +104,15 @@ fn keeps_runs(rt: &impl Abort, alloc: Global, ledger: &mut Ledger) -> Result<(),
     are_runs(rt, alloc, ledger)
 }
 
+fn ends_in_runs(rt: &impl Abort, ledger: Ledger) {
+    assert!(rt; is_in_runs(ledger.into_history()), "the ledger's");
+}
+
 #[test]
 fn ticks_are_runs(rt: HostRuntime) -> Result<(), Fail> {
     let mut ledger = first_ledger(rt.alloc())?;
     keeps_runs(&rt, rt.alloc(), &mut ledger)?;
-    assert!(rt; is_in_runs(ledger.into_history()), "the ledger's");
+    ends_in_runs(&rt, ledger);
     Ok(())
 }
 

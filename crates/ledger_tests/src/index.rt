@@ -162,26 +162,28 @@ fn compare<L: Counted>(
     Ok(())
 }
 
-/// The index of entries, each of whose answers was compared with a scan's.
-fn indexed<L: Counted>(
+/// Puts entries into an index, each of whose answers is compared with a scan's.
+fn fill<L: Counted>(
     rt: &impl Abort,
     alloc: Global,
     deal: &Deal,
     arc: ArcId,
     history: &[Entry],
+    index: &mut Index,
     steps: &mut Steps<L>,
-) -> Result<Index, Fail>
+) -> Result<(), Fail>
     requires sized { IsWellSized deal.now }
     requires arc { arc < length deal.now.graph.arcs }
     requires legal { IsLegal deal.now arc history.now }
-    ensures from { IfOk result (λ i. i.from ≡ party deal.now arc) }
-    ensures to { IfOk result (λ i. i.to ≡ counterparty deal.now arc) }
+    requires index { index.old.entries ≡ [] }
+    requires from { index.old.from ≡ party deal.now arc }
+    requires to { index.old.to ≡ counterparty deal.now arc }
+    ensures from { OnOk result (index.new.from ≡ party deal.now arc) }
+    ensures to { OnOk result (index.new.to ≡ counterparty deal.now arc) }
 {
-    let mut index = Index::new(alloc, deal, arc)?;
     index.reserve(history.len())?;
     let mut scan = Scan::new(alloc, deal, arc);
-    compare(rt, deal, arc, history, &mut index, &mut scan, steps)?;
-    Ok(index)
+    compare(rt, deal, arc, history, index, &mut scan, steps)
 }
 
 /// The entries of a ledger, one by one.
@@ -192,11 +194,17 @@ fn entries_of(alloc: Global, ledger: &Ledger) -> Result<Vec<Entry>, Fail>
     Ok(ledger.copy_from(0)?.to_vec(alloc)?)
 }
 
-fn count_of(entries: &[Entry], by: PartyId) -> usize {
-    entries
-        .iter()
-        .filter(|e| e.sender == Sender::Party(by))
-        .count()
+/// Whether an entry is a call by that party, or by anybody where none is given.
+fn is_by(entry: &Entry, by: Option<PartyId>) -> bool {
+    match (entry.sender, by) {
+        (Sender::Party(party), Some(by)) => party == by,
+        (Sender::Party(_), None) => true,
+        (Sender::Clock, _) => false,
+    }
+}
+
+fn count_of(entries: &[Entry], by: Option<PartyId>) -> usize {
+    entries.iter().filter(|e| is_by(e, by)).count()
 }
 
 fn compare_calls(rt: &impl Abort, index: &Index, ledger: &Ledger, entries: &[Entry], by: PartyId)
@@ -204,7 +212,10 @@ fn compare_calls(rt: &impl Abort, index: &Index, ledger: &Ledger, entries: &[Ent
     requires to { index.now.to ≡ counterparty ledger.now.deal ledger.now.arc }
 {
     assert!(rt; is_adjacent(ledger.deal(), ledger.arc(), by));
-    assert!(rt; index.calls(by).len() == count_of(entries, by), "{by}");
+    assert!(rt;
+        index.calls(by).len() == count_of(entries, Some(by)),
+        "{by}"
+    );
 }
 
 /// Whether a call stands in the place of its number.
@@ -215,16 +226,9 @@ fn is_in_place(call: &Made, entries: &[Entry]) -> bool {
     }
 }
 
-fn calls_in(entries: &[Entry]) -> usize {
-    entries
-        .iter()
-        .filter(|e| matches!(e.sender, Sender::Party(_)))
-        .count()
-}
-
 /// Whether the calls are those of the entries.
 fn are_made(made: &[Made], entries: &[Entry]) -> bool {
-    if made.len() != calls_in(entries) {
+    if made.len() != count_of(entries, None) {
         return false;
     }
     for call in made {
@@ -235,19 +239,42 @@ fn are_made(made: &[Made], entries: &[Entry]) -> bool {
     true
 }
 
-/// The index of a ledger, each of whose answers was compared.
+/// The calls of an index are those of a ledger's entries, of each party and of both.
+fn compare_all(rt: &impl Abort, index: &Index, ledger: &Ledger, entries: &[Entry])
+    requires from { index.now.from ≡ party ledger.now.deal ledger.now.arc }
+    requires to { index.now.to ≡ counterparty ledger.now.deal ledger.now.arc }
+{
+    compare_calls(rt, index, ledger, entries, 0);
+    compare_calls(rt, index, ledger, entries, 1);
+    assert!(rt; are_made(index.made(), entries));
+}
+
+/// How an index of a ledger's entries tells that the contract is settled, and whether it tells of the claimed one below; each of its answers
+/// is compared.
+fn compared_in<L: Counted>(
+    rt: &impl Abort,
+    alloc: Global,
+    ledger: &Ledger,
+    entries: &[Entry],
+    steps: &mut Steps<L>,
+) -> Result<(Option<Settlement>, bool), Fail>
+    requires { IsLegal ledger.now.deal ledger.now.arc entries.now }
+{
+    let (deal, arc) = (ledger.deal(), ledger.arc());
+    let mut index = Index::new(alloc, deal, arc)?;
+    fill(rt, alloc, deal, arc, entries, &mut index, steps)?;
+    compare_all(rt, &index, ledger, entries);
+    Ok((index.settled(), tells(&index)))
+}
+
 fn compared<L: Counted>(
     rt: &impl Abort,
     alloc: Global,
     ledger: &Ledger,
     steps: &mut Steps<L>,
-) -> Result<Index, Fail> {
+) -> Result<(Option<Settlement>, bool), Fail> {
     let entries = entries_of(alloc, ledger)?;
-    let index = indexed(rt, alloc, ledger.deal(), ledger.arc(), &entries, steps)?;
-    compare_calls(rt, &index, ledger, &entries, 0);
-    compare_calls(rt, &index, ledger, &entries, 1);
-    assert!(rt; are_made(index.made(), &entries));
-    Ok(index)
+    compared_in(rt, alloc, ledger, &entries, steps)
 }
 
 fn counted<L: Counted>(
@@ -255,7 +282,7 @@ fn counted<L: Counted>(
     alloc: Global,
     ledger: &Ledger,
     blank: Blank,
-) -> Result<Index, Fail>
+) -> Result<(Option<Settlement>, bool), Fail>
     requires name { blank.name ≡ L.name }
     requires parts { blank.parts ≡ L.parts }
     requires one { blank.parts ≡ 1 }
@@ -264,7 +291,12 @@ fn counted<L: Counted>(
     compared(rt, alloc, ledger, &mut steps)
 }
 
-fn index_of(rt: &impl Abort, alloc: Global, ledger: &Ledger) -> Result<Index, Fail> {
+/// What the index of a ledger tells, each of whose answers was compared.
+fn indexed(
+    rt: &impl Abort,
+    alloc: Global,
+    ledger: &Ledger,
+) -> Result<(Option<Settlement>, bool), Fail> {
     counted::<Brand>(rt, alloc, ledger, Blank::new(1))
 }
 
@@ -276,8 +308,8 @@ fn settled_after(
     random: &mut Random,
 ) -> Result<Option<Settlement>, Fail> {
     act_often(rt, alloc, ledger, 80, random)?;
-    let index = index_of(rt, alloc, ledger)?;
-    Ok(index.settled())
+    let (settled, _) = indexed(rt, alloc, ledger)?;
+    Ok(settled)
 }
 
 fn settled_at_random(
@@ -335,17 +367,19 @@ fn tells_called(index: &Index) -> bool {
         && !index.called(0, CallKind::Refund)
 }
 
-fn tells(rt: &impl Abort, alloc: Global, ledger: &mut Ledger) -> Result<(), Fail> {
+fn tells(index: &Index) -> bool {
+    tells_settled(index) && tells_opened(index) && tells_called(index)
+}
+
+fn is_settled(rt: &impl Abort, alloc: Global, ledger: &mut Ledger) -> Result<(), Fail> {
     follow(rt, alloc, ledger, SETTLED)?;
-    let index = index_of(rt, alloc, ledger)?;
-    assert!(rt; tells_settled(&index));
-    assert!(rt; tells_opened(&index));
-    assert!(rt; tells_called(&index));
+    let (_, told) = indexed(rt, alloc, ledger)?;
+    assert!(rt; told);
     Ok(())
 }
 
 #[test]
 fn answers_of_a_settled_contract(rt: HostRuntime) -> Result<(), Fail> {
     let mut ledger = first_ledger(rt.alloc())?;
-    tells(&rt, rt.alloc(), &mut ledger)
+    is_settled(&rt, rt.alloc(), &mut ledger)
 }

@@ -136,14 +136,21 @@ fn accounts_read(ledger: &Ledger) -> Result<Accounts, NoMemory> {
     Ok(accounts_of(ledger.deal(), ledger.arc(), &list))
 }
 
-/// A reply, and the units after it.
-fn told(rt: &impl Abort, alloc: Global, ledger: &Ledger, reply: Reply) -> Result<String, Fail> {
+/// Whether the text is a reply, and the units after it.
+fn is_told(
+    rt: &impl Abort,
+    alloc: Global,
+    ledger: &Ledger,
+    reply: Reply,
+    wanted: &str,
+) -> Result<bool, Fail> {
     let Accounts {
         party,
         counterparty,
         held,
     } = accounts(rt, ledger);
-    Ok(format!(in alloc; "{reply:?} {party} {counterparty} {held}")?)
+    let text = format!(in alloc; "{reply:?} {party} {counterparty} {held}")?;
+    Ok(text.as_str() == wanted)
 }
 
 /// How often something is asked, and what.
@@ -159,7 +166,8 @@ fn follow_row(rt: &impl Abort, alloc: Global, ledger: &mut Ledger, row: &str) ->
     let (count, words) = counted(asked)?;
     for _ in 0..count {
         let reply = act(rt, alloc, ledger, words)?;
-        assert!(rt; told(rt, alloc, ledger, reply)?.as_str() == wanted, "{row}");
+        let told = is_told(rt, alloc, ledger, reply, wanted)?;
+        assert!(rt; told, "{row}");
     }
     Ok(())
 }

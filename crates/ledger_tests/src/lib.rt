@@ -1,6 +1,8 @@
-//! Tests of single ledgers, their entries and the indexes over them, and of what a party learns, as tables.
+//! Tests of single ledgers, their entries and the indexes over them, of what a party learns, most as tables, and of ledgers on threads.
 #![tactic(auto)]
 
+#[cfg(test)]
+mod beside;
 #[cfg(test)]
 mod deals;
 #[cfg(test)]
@@ -12,6 +14,12 @@ mod learning;
 #[cfg(test)]
 mod ledgers;
 #[cfg(test)]
+mod passes;
+#[cfg(test)]
+mod raced;
+#[cfg(test)]
 mod random;
+#[cfg(test)]
+mod replayed;
 #[cfg(test)]
 mod replies;

@@ -67,16 +67,18 @@ tick 1 => Accepted 100 0 0
 tick 1 => ClockFull 100 0 0
 end at 1000000 with 2";
 
-/// The height of a ledger, and the number of its entries.
-fn end_of(alloc: Global, ledger: &Ledger) -> Result<String, Fail> {
+/// Whether the text is the height of a ledger, and the number of its entries.
+fn is_end(alloc: Global, ledger: &Ledger, end: &str) -> Result<bool, Fail> {
     let (height, len) = (ledger.height(), ledger.len());
-    Ok(format!(in alloc; "{height} with {len}")?)
+    let text = format!(in alloc; "{height} with {len}")?;
+    Ok(text.as_str() == end)
 }
 
 fn ends(rt: &impl Abort, alloc: Global, ledger: &mut Ledger, table: &str) -> Result<(), Fail> {
     let (rows, end) = table.rsplit_once("\nend at ").ok_or("no end")?;
     follow(rt, alloc, ledger, rows)?;
-    assert!(rt; end_of(alloc, ledger)?.as_str() == end, "{table}");
+    let ends = is_end(alloc, ledger, end)?;
+    assert!(rt; ends, "{table}");
     Ok(())
 }
 

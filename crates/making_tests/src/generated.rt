@@ -1,7 +1,6 @@
 //! Jobs that numbers give, by the program: their summaries, and what `check` and `run` say of their texts.
 
 use std::alloc::Global;
-use std::process::Abort;
 use std::test::Fail;
 use table_runner::answer;
 
@@ -122,103 +121,118 @@ const ENDS: &str = "0 2 0 2 1 208
 7 6 500 9 3 2394
 ";
 
-/// A row's fields.
-#[derive(Drop)]
-struct Row<'a> {
-    seed: &'a str,
-    parties: &'a str,
-    events: &'a str,
-    arcs: &'a str,
-    leaders: &'a str,
-    entries: &'a str,
-}
-
-fn row_of(line: &str) -> Result<Row<'_>, Fail> {
-    let mut fields = line.split(' ');
-    Ok(Row {
-        seed: fields.next().ok_or("no number")?,
-        parties: fields.next().ok_or("no parties")?,
-        events: fields.next().ok_or("no events")?,
-        arcs: fields.next().ok_or("no arcs")?,
-        leaders: fields.next().ok_or("no leaders")?,
-        entries: fields.next().ok_or("no entries")?,
-    })
-}
-
-/// What `gen` answers to a row's numbers, with or without its summary.
-fn generated<'x>(alloc: Global, row: &Row<'x>, more: &[&'x str]) -> Result<Vec<u8>, Fail> {
-    let mut words = vec![in alloc;
-        "gen",
-        "--seed",
-        row.seed,
-        "--parties",
-        row.parties,
-        "--events",
-        row.events,
-    ]?;
-    words.extend_from_slice(more)?;
-    answer(alloc, &words, Vec::new(alloc))
-}
-
-/// The summary of a run in which each party has its deal and nothing is found.
-fn summary(alloc: Global, row: &Row<'_>) -> Result<String, Fail> {
-    Ok(format!(in alloc;
-        "done\nswap summary 1\nparties {} arcs {} leaders {}\nevents {} entries {} refused 0\n\
-         Deal {} NoDeal 0 FreeRide 0 Discount 0 Underwater 0\nfindings 0\n",
-        row.parties, row.arcs, row.leaders, row.events, row.entries, row.parties
-    )?)
-}
-
-/// The row's run has its summary.
-fn sums_up(rt: &impl Abort, alloc: Global, row: &Row<'_>) -> Result<(), Fail> {
-    let answered = generated(alloc, row, &["--summary"])?;
-    let wanted = summary(alloc, row)?;
-    assert!(rt; answered.as_slice() == wanted.as_bytes(), "{}", row.seed);
+/// Asks that something holds of an answer, and else tells what, and at which place.
+fn asks(alloc: Global, holds: bool, what: &str, place: usize) -> Result<(), Fail> {
+    if !holds {
+        return Err(Fail::from(format!(in alloc; "{what}: {place}")?));
+    }
     Ok(())
 }
 
+/// The words of a text, which single blanks part.
+fn words_in(alloc: Global, text: &str) -> Result<Vec<&str>, Fail> {
+    let mut words = Vec::new(alloc);
+    for word in text.split(' ') {
+        words.push(word)?;
+    }
+    Ok(words)
+}
+
+/// What the program answers to such words, where its input is empty.
+fn answer_to(alloc: Global, words: &str) -> Result<Vec<u8>, Fail> {
+    let words = words_in(alloc, words)?;
+    answer(alloc, &words, Vec::new(alloc))
+}
+
+/// The field of a row in that place: number, parties, events, arcs, leaders, entries.
+fn field<'x>(row: &[&'x str], at: usize) -> &'x str {
+    match row.get(at) {
+        Some(field) => *field,
+        None => "",
+    }
+}
+
+/// What `gen` answers to a row's numbers, with or without its summary.
+fn generated(alloc: Global, row: &[&str], more: &str) -> Result<Vec<u8>, Fail> {
+    let words = format!(in alloc;
+        "gen --seed {} --parties {} --events {}{more}",
+        field(row, 0),
+        field(row, 1),
+        field(row, 2)
+    )?;
+    answer_to(alloc, words.as_str())
+}
+
+/// The summary of a run in which each party has its deal and nothing is found.
+fn summary(alloc: Global, row: &[&str]) -> Result<String, Fail> {
+    let (parties, events, arcs) = (field(row, 1), field(row, 2), field(row, 3));
+    let (leaders, entries) = (field(row, 4), field(row, 5));
+    Ok(format!(in alloc;
+        "done\nswap summary 1\nparties {parties} arcs {arcs} leaders {leaders}\nevents {events} entries {entries} refused 0\n\
+         Deal {parties} NoDeal 0 FreeRide 0 Discount 0 Underwater 0\nfindings 0\n"
+    )?)
+}
+
+/// An answer is the row's summary.
+fn is_summary(alloc: Global, row: &[&str], answered: &[u8]) -> Result<(), Fail> {
+    let wanted = summary(alloc, row)?;
+    asks(
+        alloc,
+        answered == wanted.as_bytes(),
+        field(row, 0),
+        answered.len(),
+    )
+}
+
+/// The row's run has its summary.
+fn sums_up_row(alloc: Global, row: &[&str]) -> Result<(), Fail> {
+    let answered = generated(alloc, row, " --summary")?;
+    is_summary(alloc, row, &answered)
+}
+
+fn sums_up(alloc: Global, line: &str) -> Result<(), Fail> {
+    let row = words_in(alloc, line)?;
+    sums_up_row(alloc, &row)
+}
+
 /// Each row's run has its summary.
-fn sums(rt: &impl Abort, alloc: Global, table: &str) -> Result<(), Fail> {
+fn sums(alloc: Global, table: &str) -> Result<(), Fail> {
     for line in table.lines() {
-        sums_up(rt, alloc, &row_of(line)?)?;
+        sums_up(alloc, line)?;
     }
     Ok(())
 }
 
 /// What a command answers to a job begins and ends so.
-fn answers(
-    rt: &impl Abort,
-    alloc: Global,
-    command: &str,
-    job: &[u8],
-    first: &str,
-    last: &str,
-) -> Result<(), Fail> {
+fn answers(alloc: Global, command: &str, job: &[u8], first: &str, last: &str) -> Result<(), Fail> {
     let answered = answer(alloc, &[command], Vec::from_slice(alloc, job)?)?;
-    assert!(rt; answered.starts_with(first.as_bytes()), "{command}");
-    assert!(rt; answered.ends_with(last.as_bytes()), "{command}");
-    Ok(())
+    let told = answered.starts_with(first.as_bytes()) && answered.ends_with(last.as_bytes());
+    asks(alloc, told, command, answered.len())
 }
 
 /// The job is accepted, and its run finds nothing.
-fn finds_nothing(rt: &impl Abort, alloc: Global, made: &[u8]) -> Result<(), Fail> {
-    let job = made.strip_prefix(b"done\n").ok_or("no job")?;
-    answers(rt, alloc, "check", job, "done\nswap accepted\n", "\n")?;
-    answers(
-        rt,
-        alloc,
-        "run",
-        job,
-        "done\nswap report 1\n",
-        "\nfindings 0\n",
-    )
+fn finds_nothing(alloc: Global, made: &[u8]) -> Result<(), Fail> {
+    let Some(job) = made.strip_prefix(b"done\n") else {
+        return Err("no job".into());
+    };
+    answers(alloc, "check", job, "done\nswap accepted\n", "\n")?;
+    answers(alloc, "run", job, "done\nswap report 1\n", "\nfindings 0\n")
+}
+
+fn finishes_row(alloc: Global, row: &[&str]) -> Result<(), Fail> {
+    let made = generated(alloc, row, "")?;
+    finds_nothing(alloc, &made)
+}
+
+fn finishes_line(alloc: Global, line: &str) -> Result<(), Fail> {
+    let row = words_in(alloc, line)?;
+    finishes_row(alloc, &row)
 }
 
 /// Each row's job is accepted, and its run finds nothing.
-fn finishes(rt: &impl Abort, alloc: Global, table: &str) -> Result<(), Fail> {
+fn finishes(alloc: Global, table: &str) -> Result<(), Fail> {
     for line in table.lines() {
-        let made = generated(alloc, &row_of(line)?, &[])?;
-        finds_nothing(rt, alloc, &made)?;
+        finishes_line(alloc, line)?;
     }
     Ok(())
 }
@@ -227,36 +241,44 @@ fn finishes(rt: &impl Abort, alloc: Global, table: &str) -> Result<(), Fail> {
 fn fifty_jobs_have_the_summaries_that_an_independent_program_counts(
     rt: HostRuntime,
 ) -> Result<(), Fail> {
-    sums(&rt, rt.alloc(), FIRST_FIFTY)
+    sums(rt.alloc(), FIRST_FIFTY)
 }
 
 #[test]
 fn so_have_fifty_more(rt: HostRuntime) -> Result<(), Fail> {
-    sums(&rt, rt.alloc(), LAST_FIFTY)
+    sums(rt.alloc(), LAST_FIFTY)
 }
 
 #[test]
 fn so_have_jobs_at_the_ends_of_their_numbers(rt: HostRuntime) -> Result<(), Fail> {
-    sums(&rt, rt.alloc(), ENDS)
+    sums(rt.alloc(), ENDS)
 }
 
 #[test]
 fn fifty_jobs_are_accepted_and_finish(rt: HostRuntime) -> Result<(), Fail> {
-    finishes(&rt, rt.alloc(), FIRST_FIFTY)
+    finishes(rt.alloc(), FIRST_FIFTY)
 }
 
 #[test]
 fn so_are_fifty_more(rt: HostRuntime) -> Result<(), Fail> {
-    finishes(&rt, rt.alloc(), LAST_FIFTY)
+    finishes(rt.alloc(), LAST_FIFTY)
+}
+
+/// The row's job is that one.
+fn is_given(alloc: Global, row: &[&str], job: &[u8]) -> Result<(), Fail> {
+    let again = generated(alloc, row, "")?;
+    asks(alloc, again.as_slice() == job, "another job", job.len())
+}
+
+fn is_given_twice(alloc: Global, row: &[&str]) -> Result<(), Fail> {
+    let once = generated(alloc, row, "")?;
+    is_given(alloc, row, &once)
 }
 
 #[test]
 fn a_number_gives_the_same_job_twice(rt: HostRuntime) -> Result<(), Fail> {
-    let row = row_of("7 6 500 9 3 2394")?;
-    let once = generated(rt.alloc(), &row, &[])?;
-    let again = generated(rt.alloc(), &row, &[])?;
-    assert_eq!(rt; once, again);
-    Ok(())
+    let row = words_in(rt.alloc(), "7 6 500 9 3 2394")?;
+    is_given_twice(rt.alloc(), &row)
 }
 
 /// Words that are no command, or are one that isn't built yet.
@@ -281,32 +303,33 @@ race --ticks 1
 audit audit
 audit --transcript";
 
-/// What the program answers to words that stand between single blanks, where its input is empty.
-fn answer_to(alloc: Global, words: &str) -> Result<Vec<u8>, Fail> {
-    let mut list = Vec::new(alloc);
-    for word in words.split(' ') {
-        list.push(word)?;
-    }
-    answer(alloc, &list, Vec::new(alloc))
+fn are_wrong(alloc: Global, words: &str) -> Result<(), Fail> {
+    let answered = answer_to(alloc, words)?;
+    asks(
+        alloc,
+        answered.as_slice() == b"wrong words\n".as_slice(),
+        words,
+        answered.len(),
+    )
 }
 
 #[test]
 fn other_words_are_wrong(rt: HostRuntime) -> Result<(), Fail> {
     for words in WRONG.lines() {
-        let answered = answer_to(rt.alloc(), words)?;
-        assert_eq!(rt; answered.as_slice(), b"wrong words\n".as_slice(), "{words}");
+        are_wrong(rt.alloc(), words)?;
     }
     Ok(())
 }
 
+/// The words have the row's summary.
+fn sum_up(alloc: Global, words: &str, row: &[&str]) -> Result<(), Fail> {
+    let answered = answer_to(alloc, words)?;
+    is_summary(alloc, row, &answered)
+}
+
 #[test]
 fn a_number_may_stand_behind_its_option(rt: HostRuntime) -> Result<(), Fail> {
+    let row = words_in(rt.alloc(), "7 6 500 9 3 2394")?;
     let words = "gen --events=500 --summary --parties=6 --seed=0000000007";
-    let answered = answer_to(rt.alloc(), words)?;
-    let wanted = summary(rt.alloc(), &row_of("7 6 500 9 3 2394")?)?;
-    assert_eq!(rt;
-        str::from_utf8(&answered).unwrap_or("no text"),
-        wanted.as_str()
-    );
-    Ok(())
+    sum_up(rt.alloc(), words, &row)
 }

@@ -1,9 +1,8 @@
 //! Jobs made from plain ones, by the program: what is written, byte for byte, and why a plain job is refused.
 
 use std::alloc::Global;
-use std::process::Abort;
 use std::test::Fail;
-use table_runner::{answer, answers};
+use table_runner::{answers, edited};
 
 /// A plain job with hashkeys.
 const PLAIN: &str = "\
@@ -95,101 +94,115 @@ const ACTORS: &str = concat!(
     r#""secret":"2bd806c97f0e00af1a1fc3328fa763a9269723c8db8fac4f93af71db186d6e90","sigs":[]}]}"#,
 );
 
+/// What is made of the plain job of that name.
+fn makes(alloc: Global, name: &str, plain: &str, made: &str) -> Result<(), Fail> {
+    let wanted = format!(in alloc; "done\n{made}")?;
+    answers(alloc, "make", name, plain, wanted.as_str())
+}
+
+/// The plain job with that actor of its second party.
+fn plain_with(alloc: Global, actor: &str) -> Result<String, Fail> {
+    let bob = format!(in alloc; "{{\"name\":\"bob\",\"actor\":{actor},")?;
+    Ok(PLAIN.replacen(alloc, "{\"name\":\"bob\",", bob.as_str(), 1)?)
+}
+
+/// The job with that actor of its second party.
+fn made_with(alloc: Global, actor: &str) -> Result<String, Fail> {
+    let bob = format!(in alloc; "\"actor\":{actor},\"name\":\"bob\"")?;
+    Ok(MADE.replacen(
+        alloc,
+        "\"actor\":\"conforming\",\"name\":\"bob\"",
+        bob.as_str(),
+        1,
+    )?)
+}
+
+/// What is made of the plain job has that actor.
+fn shows(alloc: Global, row: &str, plain: &str, actor: &str) -> Result<(), Fail> {
+    let made = made_with(alloc, actor)?;
+    makes(alloc, row, plain, made.as_str())
+}
+
 /// The job whose second party has that actor is written with it.
 fn written(alloc: Global, row: &str) -> Result<(), Fail> {
     let (actor, said) = row.split_once(" => ").ok_or("no row")?;
-    let mut read = String::from_str(alloc, "{\"name\":\"bob\",\"actor\":")?;
-    read.push_str(actor)?;
-    read.push(',')?;
-    let mut shown = String::from_str(alloc, "\"actor\":")?;
-    shown.push_str(said)?;
-    shown.push_str(",\"name\":\"bob\"")?;
-    let input = PLAIN.replacen(alloc, "{\"name\":\"bob\",", read.as_str(), 1)?;
-    let made = MADE.replacen(
-        alloc,
-        "\"actor\":\"conforming\",\"name\":\"bob\"",
-        shown.as_str(),
-        1,
-    )?;
-    let mut wanted = String::from_str(alloc, "done\n")?;
-    wanted.push_str(made.as_str())?;
-    answers(alloc, "make", row, input.as_str(), wanted.as_str())
+    let plain = plain_with(alloc, actor)?;
+    shows(alloc, row, plain.as_str(), said)
 }
 
-/// The plain job with that edit is refused for that reason, and nothing is written.
-fn refused(rt: &impl Abort, alloc: Global, row: &str) -> Result<(), Fail> {
+/// A plain job is refused for that reason, and nothing is written.
+fn is_refused(alloc: Global, row: &str, plain: &str, reason: &str) -> Result<(), Fail> {
+    let wanted = format!(in alloc; "swap: refused: {reason}\n")?;
+    answers(alloc, "make", row, plain, wanted.as_str())
+}
+
+/// The plain job with that edit is.
+fn refused(alloc: Global, row: &str) -> Result<(), Fail> {
     let (edit, reason) = row.rsplit_once(" => ").ok_or("no row")?;
-    let (from, to) = edit.split_once(" => ").ok_or("no edit")?;
-    assert!(rt; PLAIN.contains(from), "{from}");
-    let input = String::from_str(alloc, PLAIN)?.replacen(alloc, from, to, 1)?;
-    let mut wanted = String::from_str(alloc, "swap: refused: ")?;
-    wanted.push_str(reason)?;
-    wanted.push('\n')?;
-    answers(alloc, "make", row, input.as_str(), wanted.as_str())
+    let plain = edited(alloc, PLAIN, edit)?;
+    is_refused(alloc, row, plain.as_str(), reason)
 }
 
 #[test]
 fn a_plain_job_is_made_byte_for_byte(rt: HostRuntime) -> Result<(), Fail> {
-    let mut wanted = String::from_str(rt.alloc(), "done\n")?;
-    wanted.push_str(MADE)?;
-    answers(rt.alloc(), "make", "with hashkeys", PLAIN, wanted.as_str())
+    makes(rt.alloc(), "with hashkeys", PLAIN, MADE)
 }
 
 #[test]
 fn timelocks_come_from_the_distances(rt: HostRuntime) -> Result<(), Fail> {
-    let mut wanted = String::from_str(rt.alloc(), "done\n")?;
-    wanted.push_str(MADE_TIMELOCKS)?;
-    answers(
+    makes(
         rt.alloc(),
-        "make",
         "with timelocks",
         PLAIN_TIMELOCKS,
-        wanted.as_str(),
+        MADE_TIMELOCKS,
     )
+}
+
+/// What is made of the plain job with further lines.
+fn copies(alloc: Global, plain: &str) -> Result<(), Fail> {
+    let made = format!(in alloc; "{MADE}{COPIED}")?;
+    makes(alloc, "with lines", plain, made.as_str())
 }
 
 #[test]
 fn further_lines_are_copied_and_blank_ones_left_out(rt: HostRuntime) -> Result<(), Fail> {
-    let mut input = String::from_str(rt.alloc(), PLAIN)?;
-    input.push_str(LINES)?;
-    let mut wanted = String::from_str(rt.alloc(), "done\n")?;
-    wanted.push_str(MADE)?;
-    wanted.push_str(COPIED)?;
-    answers(
-        rt.alloc(),
-        "make",
-        "with lines",
-        input.as_str(),
-        wanted.as_str(),
+    let plain = format!(in rt.alloc(); "{PLAIN}{LINES}")?;
+    copies(rt.alloc(), plain.as_str())
+}
+
+/// So many further lines are refused.
+fn is_over(alloc: Global, lines: &str) -> Result<(), Fail> {
+    let plain = format!(in alloc; "{PLAIN}{lines}")?;
+    is_refused(
+        alloc,
+        "too many lines",
+        plain.as_str(),
+        "OverLimit 200002 events 200001",
     )
 }
 
 #[test]
 fn further_lines_are_counted(rt: HostRuntime) -> Result<(), Fail> {
-    let mut input = Vec::from_slice(rt.alloc(), PLAIN.as_bytes())?;
-    for _ in 0..200_001 {
-        input.extend_from_slice(b"x\n")?;
-    }
-    let answered = answer(rt.alloc(), &["make"], input)?;
-    assert_eq!(rt;
-        str::from_utf8(&answered).unwrap_or("no text"),
-        "swap: refused: OverLimit 200002 events 200001\n"
-    );
-    Ok(())
+    let lines = "x\n".repeat(rt.alloc(), 200_001)?;
+    is_over(rt.alloc(), lines.as_str())
 }
 
 #[test]
 fn plain_jobs_are_refused_for_the_first_reason(rt: HostRuntime) -> Result<(), Fail> {
-    for row in REFUSED.lines().filter(|row| !row.starts_with('#')) {
-        refused(&rt, rt.alloc(), row)?;
+    for row in REFUSED.lines() {
+        if !row.starts_with('#') {
+            refused(rt.alloc(), row)?;
+        }
     }
     Ok(())
 }
 
 #[test]
 fn actors_are_written_as_the_moves_that_they_stand_for(rt: HostRuntime) -> Result<(), Fail> {
-    for row in ACTORS.lines().filter(|row| !row.starts_with('#')) {
-        written(rt.alloc(), row)?;
+    for row in ACTORS.lines() {
+        if !row.starts_with('#') {
+            written(rt.alloc(), row)?;
+        }
     }
     Ok(())
 }

@@ -1,15 +1,15 @@
 //! The digraphs of the tables.
 
-ghost use Rattle.std.specs.Prelude.{◌≤◌, IfOk, length};
+ghost use Rattle.std.specs.Prelude.{◌≤◌, IfSome, length};
 ghost use Rattle.swap_digraph.specs.Graph.{HasEnds};
 
+use crate::rows::{number_of, parted};
 use std::alloc::Global;
-use std::test::Fail;
-use swap_base::TryCopy;
+use swap_base::{NoMemory, TryCopy};
 use swap_digraph::{ArcEnds, Digraph, Version};
 
 /// From each of n parties the arcs to the next few.
-fn onward(alloc: Global, n: u8, few: u8) -> Result<Vec<ArcEnds>, Fail>
+fn onward(alloc: Global, n: u8, few: u8) -> Result<Vec<ArcEnds>, NoMemory>
     requires parties { n ≤ 24 }
     requires few { few ≤ 8 }
 {
@@ -24,7 +24,7 @@ fn onward(alloc: Global, n: u8, few: u8) -> Result<Vec<ArcEnds>, Fail>
 }
 
 /// A ring of 24 parties with chords of up to four places, none of which jumps over party 0, and with longer ones from it: 96 arcs.
-fn chorded(alloc: Global) -> Result<Vec<ArcEnds>, Fail> {
+fn chorded(alloc: Global) -> Result<Vec<ArcEnds>, NoMemory> {
     let mut arcs = Vec::new(alloc);
     for from in 0..24u8 {
         for step in 1..11u8 {
@@ -37,19 +37,26 @@ fn chorded(alloc: Global) -> Result<Vec<ArcEnds>, Fail> {
     Ok(arcs)
 }
 
+/// The arc of a word, such as `0>1`. A word that is none stands for party 255, which no digraph has.
+fn arc_of(word: &str) -> ArcEnds {
+    let (from, to) = parted(word, ">");
+    ArcEnds {
+        from: number_of(from),
+        to: number_of(to),
+    }
+}
+
 /// The arcs of a text, such as `0>1 1>0`.
-fn listed(alloc: Global, text: &str) -> Result<Vec<ArcEnds>, Fail> {
+fn listed(alloc: Global, text: &str) -> Result<Vec<ArcEnds>, NoMemory> {
     let mut arcs = Vec::new(alloc);
     for word in text.split(" ") {
-        let (from, to) = word.split_once(">").ok_or("no arc")?;
-        let (from, to): (u8, u8) = (from.parse()?, to.parse()?);
-        arcs.push(ArcEnds { from, to })?;
+        arcs.push(arc_of(word))?;
     }
     Ok(arcs)
 }
 
 /// The arcs that a text stands for.
-fn arcs_of(alloc: Global, text: &str) -> Result<Vec<ArcEnds>, Fail> {
+fn arcs_of(alloc: Global, text: &str) -> Result<Vec<ArcEnds>, NoMemory> {
     match text {
         "a pair" => onward(alloc, 2, 1),
         "a triangle" => onward(alloc, 3, 1),
@@ -71,17 +78,26 @@ fn parties_of(arcs: &[ArcEnds]) -> u8 {
     n
 }
 
-/// A copy of the digraph with the arcs that a text stands for.
-pub(crate) fn graph_of(alloc: Global, text: &str) -> Result<Digraph, Fail>
-    ensures parties { IfOk result (λ g. (2 ≤ g.n) × (g.n ≤ 32)) }
-    ensures few { IfOk result (λ g. length g.arcs ≤ 128) }
-    ensures ends { IfOk result (λ g. HasEnds g) }
+/// The digraph with these arcs, if there is one.
+fn digraph_of(alloc: Global, arcs: Vec<ArcEnds>) -> Option<Digraph>
+    ensures parties { IfSome result (λ g. (2 ≤ g.n) × (g.n ≤ 32)) }
+    ensures few { IfSome result (λ g. length g.arcs ≤ 128) }
+    ensures ends { IfSome result (λ g. HasEnds g) }
 {
-    let arcs = arcs_of(alloc, text)?;
     let n = parties_of(&arcs);
     if n < 2 || n > 32 || arcs.len() > 128 {
-        return Err("too few or too many".into());
+        return None;
     }
-    let graph = Digraph::new(alloc, n, arcs, Version::One)?;
-    Ok(graph.copy()?)
+    Digraph::new(alloc, n, arcs, Version::One).ok()
+}
+
+/// A copy of the digraph with the arcs that a text stands for, if there is one.
+pub(crate) fn graph_of(alloc: Global, text: &str) -> Option<Digraph>
+    ensures parties { IfSome result (λ g. (2 ≤ g.n) × (g.n ≤ 32)) }
+    ensures few { IfSome result (λ g. length g.arcs ≤ 128) }
+    ensures ends { IfSome result (λ g. HasEnds g) }
+{
+    let arcs = arcs_of(alloc, text).ok()?;
+    let graph = digraph_of(alloc, arcs)?;
+    graph.copy().ok()
 }

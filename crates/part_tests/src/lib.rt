@@ -6,6 +6,8 @@ mod graphs;
 #[cfg(test)]
 mod lists;
 #[cfg(test)]
+mod rows;
+#[cfg(test)]
 mod signatures;
 #[cfg(test)]
 mod told;

@@ -1,109 +1,166 @@
 //! Keys, signatures, secrets and hashlocks, against what an independent program gives, and changed ones.
 
+ghost use Rattle.std.specs.Prelude.{◌<◌};
+
+use crate::rows::{answers, number_of, parted};
 use hash_signature::{LockId, PartyId, Sig, hash_of, keygen, secret_of, verify};
 use hex::FromHex;
 use sha2::{Digest as Hasher, Sha256};
+use std::alloc::{AllocError, Global};
 use std::test::Fail;
 use swap_base::{Digest, TryCopy};
 
-/// A key, a message, and what an independent program gives for them: the public key and the digest of the signature's bytes.
-struct Row {
-    seed: &'static str,
-    party: PartyId,
-    lock: LockId,
-    message: &'static str,
-    public: &'static str,
-    signature: &'static str,
+/// The digest of 64 hex digits, and zeros for another text.
+fn digest(text: &str) -> Digest {
+    <[u8; 32] as FromHex>::from_hex(text).unwrap_or([0; 32])
 }
 
-/// The checksum's digits of the four messages are 3, 12, 0; 0, 0, 0; 1, 13, 14; and 1, 13, 12.
-const ROWS: [Row; 4] = [
-    Row {
-        seed: "0000000000000000000000000000000000000000000000000000000000000000",
-        party: 0,
-        lock: 0,
-        message: "0000000000000000000000000000000000000000000000000000000000000000",
-        public: "6d38fd065055be89fda3637d7feeb578084b27021313f045a9ef5a58c4e7f1e0",
-        signature: "b21be770c1399fd22497599a417b4530836c555acd72b690913c3812a696d8ac",
-    },
-    Row {
-        seed: "000102030405060708090a0b0c0d0e0f101112131415161718191a1b1c1d1e1f",
-        party: 23,
-        lock: 7,
-        message: "ffffffffffffffffffffffffffffffffffffffffffffffffffffffffffffffff",
-        public: "ad9d5184849a5dbe9a40638cc1ae10162c6425744ed81b73fda2835e98bf7aed",
-        signature: "24a56bc23ea9542075ef49c3f2a6d8f4c31f1892aa45367b3062d95c0ea81cbd",
-    },
-    Row {
-        seed: "0707070707070707070707070707070707070707070707070707070707070707",
-        party: 3,
-        lock: 1,
-        message: "f53c09ca39717a45c62d9aca8f8113eddbfd5f81dcab0b33b1c1834075225e68",
-        public: "3d27c828e35d69b4612b99f89f0d33ddd4ee83c686947201b4e86a5ccbe38bcd",
-        signature: "582615bf62840b1b0c972694bcf95a8175d24ac483936c4392210d226cfd1a31",
-    },
-    Row {
-        seed: "ffffffffffffffffffffffffffffffffffffffffffffffffffffffffffffffff",
-        party: 255,
-        lock: 255,
-        message: "e3b0c44298fc1c149afbf4c8996fb92427ae41e4649b934ca495991b7852b855",
-        public: "cd1ea73666db24c43cee33957175d3eec485d501b8b9bbcd34d400141b9132fc",
-        signature: "91494d47e79747c3be950210134805bd4dd8fe316d87ca9637d144f452f5d793",
-    },
-];
-
-fn digest(text: &str) -> Result<Digest, Fail> {
-    Ok(<[u8; 32] as FromHex>::from_hex(text)?)
+/// Whether a signature comes back from its bytes.
+fn is_in_bytes(sig: &Sig) -> bool {
+    *sig == Sig::from_bytes(&sig.to_bytes())
 }
 
-#[test]
-fn keys_and_signatures_are_those_of_another_program(rt: HostRuntime) -> Result<(), Fail> {
-    for row in &ROWS {
-        let message = digest(row.message)?;
-        let (key, public) = keygen(&digest(row.seed)?, row.party, row.lock);
-        assert_eq!(rt; public, digest(row.public)?);
-        let sig = key.sign(&message);
-        assert_eq!(rt; Sha256::digest(sig.to_bytes()), digest(row.signature)?);
-        assert!(rt; verify(&public, &message, &sig));
-        assert!(rt; sig == Sig::from_bytes(&sig.to_bytes()));
-        assert!(rt; sig == sig.copy()?);
+/// Whether a copy of a signature equals it.
+fn is_copied(sig: &Sig) -> bool {
+    match sig.copy() {
+        Ok(other) => *sig == other,
+        Err(_) => false,
     }
-    Ok(())
 }
 
+/// The digest of the bytes of a signature that holds, comes back from its bytes, and equals a copy; zeros for another.
+fn digest_of(public: &Digest, message: &Digest, sig: &Sig) -> Digest {
+    if verify(public, message, sig) && is_in_bytes(sig) && is_copied(sig) {
+        Sha256::digest(sig.to_bytes())
+    } else {
+        [0; 32]
+    }
+}
+
+/// The public key, and the digest of the signature of a message.
+fn signed(seed: &Digest, party: PartyId, lock: LockId, message: &Digest) -> (Digest, Digest) {
+    let (key, public) = keygen(seed, party, lock);
+    let sig = key.sign(message);
+    (public, digest_of(&public, message, &sig))
+}
+
+/// The same for a seed, a party, a lock and a message in words.
+fn signed_of(words: &str) -> (Digest, Digest) {
+    let (seed, rest) = parted(words, " ");
+    let (party, rest) = parted(rest, " ");
+    let (lock, message) = parted(rest, " ");
+    signed(
+        &digest(seed),
+        number_of(party),
+        number_of(lock),
+        &digest(message),
+    )
+}
+
+fn hex_of(alloc: Global, digest: &Digest) -> Result<String, AllocError> {
+    hex::encode(alloc, digest.as_slice())
+}
+
+fn two_in_hex(alloc: Global, first: &Digest, second: &Digest) -> Result<String, AllocError> {
+    let first = hex_of(alloc, first)?;
+    let second = hex_of(alloc, second)?;
+    format!(in alloc; "{first} {second}")
+}
+
+/// The public key and the digest of the signature that words ask for.
+fn signed_told(alloc: Global, words: &str) -> Result<String, AllocError> {
+    let (public, signature) = signed_of(words);
+    two_in_hex(alloc, &public, &signature)
+}
+
+/// The digests that words ask for, the first of which says of what.
+pub(crate) fn digests_of(alloc: Global, asked: &str) -> Result<String, AllocError> {
+    let (word, rest) = parted(asked, " ");
+    match word {
+        "hash" => hex_of(alloc, &hash_of(&digest(rest))),
+        "secret" => hex_of(alloc, &secret_of(&digest(rest))),
+        _ => signed_told(alloc, rest),
+    }
+}
+
+/// A key's seed, party and lock, and a message, and what an independent program gives for them: the public key and the digest of the signature's
+/// bytes. The checksum's digits of the four messages are 3, 12, 0; 0, 0, 0; 1, 13, 14; and 1, 13, 12.
+const SIGNATURES: &str = "\
+signed 0000000000000000000000000000000000000000000000000000000000000000 0 0 0000000000000000000000000000000000000000000000000000000000000000 => \
+    6d38fd065055be89fda3637d7feeb578084b27021313f045a9ef5a58c4e7f1e0 b21be770c1399fd22497599a417b4530836c555acd72b690913c3812a696d8ac
+signed 000102030405060708090a0b0c0d0e0f101112131415161718191a1b1c1d1e1f 23 7 ffffffffffffffffffffffffffffffffffffffffffffffffffffffffffffffff => \
+    ad9d5184849a5dbe9a40638cc1ae10162c6425744ed81b73fda2835e98bf7aed 24a56bc23ea9542075ef49c3f2a6d8f4c31f1892aa45367b3062d95c0ea81cbd
+signed 0707070707070707070707070707070707070707070707070707070707070707 3 1 f53c09ca39717a45c62d9aca8f8113eddbfd5f81dcab0b33b1c1834075225e68 => \
+    3d27c828e35d69b4612b99f89f0d33ddd4ee83c686947201b4e86a5ccbe38bcd 582615bf62840b1b0c972694bcf95a8175d24ac483936c4392210d226cfd1a31
+signed ffffffffffffffffffffffffffffffffffffffffffffffffffffffffffffffff 255 255 e3b0c44298fc1c149afbf4c8996fb92427ae41e4649b934ca495991b7852b855 => \
+    cd1ea73666db24c43cee33957175d3eec485d501b8b9bbcd34d400141b9132fc 91494d47e79747c3be950210134805bd4dd8fe316d87ca9637d144f452f5d793";
+
+/// A hashlock of a secret, and the secret of a seed.
+const SECRETS: &str = "\
+hash 0000000000000000000000000000000000000000000000000000000000000000 => 66687aadf862bd776c8fc18b8e9f8e20089714856ee233b3902a591d0d5f2925
+secret 0000000000000000000000000000000000000000000000000000000000000000 => 96a01e6b435b11ab3359c9bb87ce0223466f1de49448524da0d501bdeefa96ec";
+
 #[test]
-fn one_changed_byte_at_any_chain_is_refused(rt: HostRuntime) {
-    let message = [0x5a; 32];
-    let (key, public) = keygen(&[1; 32], 2, 3);
-    let sig = key.sign(&message);
+fn digests_are_those_of_another_program(rt: HostRuntime) -> Result<(), Fail> {
+    answers(rt.alloc(), "signatures", SIGNATURES)?;
+    answers(rt.alloc(), "signatures", SECRETS)
+}
+
+/// The signature with one byte of a chain changed.
+fn changed(sig: &Sig, j: usize) -> Sig
+    requires { j < 67 }
+{
+    let mut values = *sig.values();
+    values[j][j % 32] ^= 1;
+    Sig::new(values)
+}
+
+/// Whether the signature with one byte of a chain changed is another, and is refused.
+fn is_refused(public: &Digest, message: &Digest, sig: &Sig, j: usize) -> bool
+    requires { j < 67 }
+{
+    let other = changed(sig, j);
+    *sig != other && !verify(public, message, &other)
+}
+
+fn refuses_changes(public: &Digest, message: &Digest, sig: &Sig) -> Result<(), Fail> {
     for j in 0..67 {
-        let mut values = *sig.values();
-        values[j][j % 32] ^= 1;
-        let changed = Sig::new(values);
-        assert!(rt; !verify(&public, &message, &changed));
-        assert!(rt; sig != changed);
+        if !is_refused(public, message, sig, j) {
+            return Err(Fail::new(format_args!("chain {j}")));
+        }
     }
+    Ok(())
+}
+
+/// Whether the signature holds for the message by the key of that seed, party and lock.
+fn is_by(seed: u8, party: PartyId, lock: LockId, message: &Digest, sig: &Sig) -> bool {
+    let (_key, public) = keygen(&[seed; 32], party, lock);
+    verify(&public, message, sig)
+}
+
+/// Whether only the message that was signed, by the seed, party and lock that signed it, is the signature's.
+fn is_of_one(message: &Digest, sig: &Sig) -> bool {
+    let mut other = *message;
+    other[31] = 0x5b;
+    is_by(1, 2, 3, message, sig)
+        && !is_by(1, 2, 3, &other, sig)
+        && !is_by(2, 2, 3, message, sig)
+        && !is_by(1, 3, 3, message, sig)
+        && !is_by(1, 2, 2, message, sig)
+}
+
+fn refuses_others(public: &Digest, message: &Digest, sig: &Sig) -> Result<(), Fail> {
+    refuses_changes(public, message, sig)?;
+    if !is_of_one(message, sig) {
+        return Err("another message or key".into());
+    }
+    Ok(())
 }
 
 #[test]
-fn another_message_or_key_is_refused(rt: HostRuntime) {
+fn one_changed_byte_another_message_or_key_is_refused(_rt: HostRuntime) -> Result<(), Fail> {
     let message = [0x5a; 32];
     let (key, public) = keygen(&[1; 32], 2, 3);
     let sig = key.sign(&message);
-    let mut other = message;
-    other[31] = 0x5b;
-    assert!(rt; !verify(&public, &other, &sig));
-    for (seed, party, lock) in [([2u8; 32], 2u8, 3u8), ([1; 32], 3, 3), ([1; 32], 2, 2)] {
-        let (_key, foreign) = keygen(&seed, party, lock);
-        assert!(rt; !verify(&foreign, &message, &sig));
-    }
-}
-
-#[test]
-fn secrets_and_hashlocks(rt: HostRuntime) -> Result<(), Fail> {
-    let hashlock = digest("66687aadf862bd776c8fc18b8e9f8e20089714856ee233b3902a591d0d5f2925")?;
-    assert_eq!(rt; hash_of(&[0; 32]), hashlock);
-    let secret = digest("96a01e6b435b11ab3359c9bb87ce0223466f1de49448524da0d501bdeefa96ec")?;
-    assert_eq!(rt; secret_of(&[0; 32]), secret);
-    Ok(())
+    refuses_others(&public, &message, &sig)
 }

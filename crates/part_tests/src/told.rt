@@ -1,114 +1,140 @@
 //! What is told of digraphs and their leaders: a closed set, trees, levels, a cycle of followers, distances.
 
-ghost use Rattle.std.specs.Prelude.{◌≤◌, ◌<◌, length};
-ghost use Rattle.swap_digraph.specs.Graph.{HasEnds};
+ghost use Rattle.std.specs.Prelude.{◌≡◌, ◌≤◌, ◌<◌, true, length};
+ghost use Rattle.swap_digraph.specs.Graph.{HasEnds, IsStronglyConnected};
 
-use crate::graphs::graph_of;
-use digraph_check::{Strength, strong};
-use leader_check::{LeaderAnswer, levels};
+use crate::rows::{answers, no_memory, number_of, parted};
+use digraph_check::{Strength, Trees, strong};
+use leader_check::{LeaderAnswer, Levels, levels};
 use single_leader::dist;
-use std::alloc::Global;
-use std::process::Abort;
+use std::alloc::{AllocError, Global};
 use std::test::Fail;
+use swap_base::{Listed, NoMemory};
 use swap_digraph::Digraph;
 
+fn trees_told(alloc: Global, trees: &Trees) -> Result<String, AllocError> {
+    let (from, to) = (trees.from_zero.as_slice(), trees.to_zero.as_slice());
+    format!(in alloc; "from zero {from:?} to zero {to:?}")
+}
+
 /// The closed set, or the two trees.
-fn strength(alloc: Global, graph: &Digraph) -> Result<String, Fail>
+fn strength(alloc: Global, graph: &Digraph) -> Result<String, AllocError>
     requires parties { (2 ≤ graph.now.n) × (graph.now.n ≤ 32) }
     requires few { length graph.now.arcs ≤ 128 }
     requires ends { HasEnds graph.now }
 {
-    match strong(alloc, graph)? {
-        Strength::Closed(set) => Ok(format!(in alloc; "closed {:?}", set.as_slice())?),
-        Strength::Strong(trees) => {
-            let (from, to) = (trees.from_zero.as_slice(), trees.to_zero.as_slice());
-            Ok(format!(in alloc; "from zero {from:?} to zero {to:?}")?)
-        }
+    match strong(alloc, graph) {
+        Ok(Strength::Closed(set)) => format!(in alloc; "closed {:?}", set.as_slice()),
+        Ok(Strength::Strong(trees)) => trees_told(alloc, &trees),
+        Err(_) => no_memory(alloc),
     }
 }
 
 /// Whether it is strongly connected.
-fn strong_or_not(alloc: Global, graph: &Digraph) -> Result<String, Fail>
+fn is_strong(alloc: Global, graph: &Digraph) -> bool
     requires parties { (2 ≤ graph.now.n) × (graph.now.n ≤ 32) }
     requires few { length graph.now.arcs ≤ 128 }
     requires ends { HasEnds graph.now }
+    ensures { result ≡ true → IsStronglyConnected graph.now }
 {
-    let is_strong = matches!(strong(alloc, graph)?, Strength::Strong(_));
-    Ok(format!(in alloc; "{is_strong}")?)
+    match strong(alloc, graph) {
+        Ok(Strength::Strong(_)) => true,
+        Ok(Strength::Closed(_)) => false,
+        Err(_) => false,
+    }
+}
+
+fn level_told(alloc: Global, levels: &Levels) -> Result<String, AllocError> {
+    format!(in alloc; "{:?} most {}", levels.level.as_slice(), levels.h)
 }
 
 /// The levels and their greatest, or the cycle.
-fn levels_told(alloc: Global, graph: &Digraph, leaders: &[u8]) -> Result<String, Fail>
+fn levels_told(alloc: Global, graph: &Digraph, leaders: &[u8]) -> Result<String, AllocError>
     requires parties { graph.now.n ≤ 32 }
     requires ends { HasEnds graph.now }
 {
-    match levels(alloc, graph, leaders)? {
-        LeaderAnswer::Cycle(cycle) => Ok(format!(in alloc; "cycle {:?}", cycle.as_slice())?),
-        LeaderAnswer::Levels(levels) => {
-            Ok(format!(in alloc; "{:?} most {}", levels.level.as_slice(), levels.h)?)
-        }
+    match levels(alloc, graph, leaders) {
+        Ok(LeaderAnswer::Cycle(cycle)) => format!(in alloc; "cycle {:?}", cycle.as_slice()),
+        Ok(LeaderAnswer::Levels(levels)) => level_told(alloc, &levels),
+        Err(_) => no_memory(alloc),
     }
 }
 
-/// The distances from the leader, where it breaks every cycle of a strongly connected digraph.
-fn distances(alloc: Global, graph: &Digraph, leader: u8) -> Result<String, Fail>
-    requires parties { (2 ≤ graph.now.n) × (graph.now.n ≤ 32) }
-    requires few { length graph.now.arcs ≤ 128 }
+fn row_told(alloc: Global, row: Result<Listed<u32>, NoMemory>) -> Result<String, AllocError> {
+    match row {
+        Ok(row) => format!(in alloc; "{:?}", row.as_slice()),
+        Err(_) => no_memory(alloc),
+    }
+}
+
+/// The distances from the leader of a strongly connected digraph, where it breaks every cycle.
+fn distances(alloc: Global, graph: &Digraph, leader: u8) -> Result<String, AllocError>
+    requires parties { graph.now.n ≤ 32 }
     requires ends { HasEnds graph.now }
+    requires strong { IsStronglyConnected graph.now }
     requires leader { leader < graph.now.n }
 {
-    match strong(alloc, graph)? {
-        Strength::Closed(_) => Err("not strong".into()),
-        Strength::Strong(_) => match levels(alloc, graph, &[leader])? {
-            LeaderAnswer::Cycle(_) => Err("a cycle".into()),
-            LeaderAnswer::Levels(levels) => {
-                let row = dist(alloc, graph, leader, &levels)?;
-                Ok(format!(in alloc; "{:?}", row.as_slice())?)
-            }
-        },
+    match levels(alloc, graph, &[leader]) {
+        Ok(LeaderAnswer::Levels(levels)) => row_told(alloc, dist(alloc, graph, leader, &levels)),
+        Ok(LeaderAnswer::Cycle(_)) => String::from_str(alloc, "a cycle"),
+        Err(_) => no_memory(alloc),
     }
 }
 
-fn numbers(alloc: Global, text: &str) -> Result<Vec<u8>, Fail> {
+/// The numbers of a text.
+fn numbers(alloc: Global, text: &str) -> Result<Vec<u8>, NoMemory> {
     let mut numbers = Vec::new(alloc);
     for word in text.split(" ") {
-        numbers.push(word.parse::<u8>()?)?;
+        numbers.push(number_of(word))?;
     }
     Ok(numbers)
 }
 
-/// The answer to a question about a digraph that may name leaders.
-fn told(alloc: Global, question: &str, graph: &Digraph) -> Result<String, Fail>
+/// The answer to a question that names leaders.
+fn told_of(alloc: Global, word: &str, leaders: &[u8], graph: &Digraph) -> Result<String, AllocError>
     requires parties { (2 ≤ graph.now.n) × (graph.now.n ≤ 32) }
     requires few { length graph.now.arcs ≤ 128 }
     requires ends { HasEnds graph.now }
 {
-    if question == "strong" {
-        return strong_or_not(alloc, graph);
-    }
-    let Some((word, leaders)) = question.split_once(" of ") else {
-        return strength(alloc, graph);
-    };
-    let leaders = numbers(alloc, leaders)?;
     if word == "levels" {
-        return levels_told(alloc, graph, &leaders);
+        return levels_told(alloc, graph, leaders);
     }
-    let leader = *leaders.first().ok_or("no leader")?;
-    if leader >= graph.n() {
-        return Err("no party".into());
+    let leader = leaders.first().copied().unwrap_or(255);
+    if leader < graph.n() && is_strong(alloc, graph) {
+        distances(alloc, graph, leader)
+    } else {
+        String::from_str(alloc, "no leader of a strong digraph")
     }
-    distances(alloc, graph, leader)
 }
 
-fn answers(rt: &impl Abort, alloc: Global, table: &str) -> Result<(), Fail> {
-    for row in table.lines() {
-        let (asked, wanted) = row.split_once(" => ").ok_or("no row")?;
-        let (question, arcs) = asked.split_once(": ").ok_or("no question")?;
-        let graph = graph_of(alloc, arcs)?;
-        let answer = told(alloc, question, &graph)?;
-        assert_eq!(rt; answer.as_str(), wanted, "{row}");
+fn strong_told(alloc: Global, is_strong: bool) -> Result<String, AllocError> {
+    format!(in alloc; "{is_strong}")
+}
+
+/// The answer to a question that names leaders in words.
+fn led_told(alloc: Global, word: &str, leaders: &str, graph: &Digraph) -> Result<String, AllocError>
+    requires parties { (2 ≤ graph.now.n) × (graph.now.n ≤ 32) }
+    requires few { length graph.now.arcs ≤ 128 }
+    requires ends { HasEnds graph.now }
+{
+    match numbers(alloc, leaders) {
+        Ok(leaders) => told_of(alloc, word, &leaders, graph),
+        Err(_) => no_memory(alloc),
     }
-    Ok(())
+}
+
+/// The answer to a question about a digraph that may name leaders.
+pub(crate) fn told(alloc: Global, question: &str, graph: &Digraph) -> Result<String, AllocError>
+    requires parties { (2 ≤ graph.now.n) × (graph.now.n ≤ 32) }
+    requires few { length graph.now.arcs ≤ 128 }
+    requires ends { HasEnds graph.now }
+{
+    let (word, leaders) = parted(question, " of ");
+    match word {
+        "strong" => strong_told(alloc, is_strong(alloc, graph)),
+        "strength" => strength(alloc, graph),
+        _ => led_told(alloc, word, leaders, graph),
+    }
 }
 
 /// Each row is a question, arcs, and the answer, which was worked out by hand.
@@ -143,7 +169,7 @@ distances of 0: a ring with chords => [0, 23, 22, 21, 20, 19, 18, 17, 16, 15, 14
 
 #[test]
 fn answers_by_hand(rt: HostRuntime) -> Result<(), Fail> {
-    answers(&rt, rt.alloc(), STRENGTHS)?;
-    answers(&rt, rt.alloc(), LEVELS)?;
-    answers(&rt, rt.alloc(), DISTANCES)
+    answers(rt.alloc(), "digraphs", STRENGTHS)?;
+    answers(rt.alloc(), "digraphs", LEVELS)?;
+    answers(rt.alloc(), "digraphs", DISTANCES)
 }

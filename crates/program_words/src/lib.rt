@@ -13,6 +13,3 @@ mod well_formed;
 
 pub use command::Command;
 pub use read::read_command;
-
-#[cfg(test)]
-mod tests;

@@ -13,6 +13,13 @@ fn missed(alloc: Global, name: &str, ended: &str) -> Result<Fail, Fail> {
     Ok(Fail::from(format!(in alloc; "{name} ended: {ended}")?))
 }
 
+fn is_wanted(alloc: Global, name: &str, ended: &str, wanted: &str) -> Result<(), Fail> {
+    if ended != wanted {
+        return Err(missed(alloc, name, ended)?);
+    }
+    Ok(())
+}
+
 /// A race of the job of that name ends so.
 fn ends<R: Threads + Wait + Sync>(
     rt: &R,
@@ -22,19 +29,16 @@ fn ends<R: Threads + Wait + Sync>(
     wanted: &str,
 ) -> Result<(), Fail> {
     let ended = race_ends(rt, alloc, job, 1, &Program { alloc }, &Open)?;
-    if ended.as_str() != wanted {
-        return Err(missed(alloc, name, ended.as_str())?);
-    }
-    Ok(())
+    is_wanted(alloc, name, ended.as_str(), wanted)
 }
 
-fn edited_ends<R: Threads + Wait + Sync>(
+fn row_ends<R: Threads + Wait + Sync>(
     rt: &R,
     alloc: Global,
     deal: &str,
-    edits: &str,
-    wanted: &str,
+    row: &str,
 ) -> Result<(), Fail> {
+    let (edits, wanted) = row.rsplit_once(" => ").ok_or("no row")?;
     let job = edited(alloc, deal, edits)?;
     ends(rt, alloc, edits, job.as_str(), wanted)
 }
@@ -47,16 +51,20 @@ pub fn races<R: Threads + Wait + Sync>(
     table: &str,
 ) -> Result<(), Fail> {
     for row in table.lines().filter(|row| !row.starts_with('#')) {
-        let (edits, wanted) = row.rsplit_once(" => ").ok_or("no row")?;
-        edited_ends(rt, alloc, deal, edits, wanted)?;
+        row_ends(rt, alloc, deal, row)?;
     }
     Ok(())
 }
 
-/// The deal, in which the named party follows a script of these moves, a move a line.
-fn scripted(alloc: Global, deal: &str, name: &str, moves: &str) -> Result<String, Fail> {
+/// The edit after which the named party follows a script of these moves, a move a line.
+fn script_edit(alloc: Global, name: &str, moves: &str) -> Result<String, Fail> {
     let moves = moves.trim().replace(alloc, "\n", ",")?;
-    let edit = format!(in alloc; "\"{name}\", => \"{name}\",\"actor\":{{\"script\":[{moves}]}},")?;
+    Ok(format!(in alloc; "\"{name}\", => \"{name}\",\"actor\":{{\"script\":[{moves}]}},")?)
+}
+
+/// The deal, in which the named party follows a script of these moves.
+fn scripted(alloc: Global, deal: &str, name: &str, moves: &str) -> Result<String, Fail> {
+    let edit = script_edit(alloc, name, moves)?;
     edited(alloc, deal, edit.as_str())
 }
 

@@ -112,18 +112,48 @@ fn ending_in(line: &str) -> Option<&str> {
     }
 }
 
+/// Adds what a line of a report tells so, behind a blank.
+fn put_ending(ends: &mut String, line: &str) -> Result<(), Fail> {
+    let Some(ending) = ending_in(line) else {
+        return Ok(());
+    };
+    if !ends.as_str().is_empty() {
+        ends.push(' ')?;
+    }
+    ends.push_str(ending)?;
+    Ok(())
+}
+
 /// How the parties of a report ended, and then what is found, without its number.
 pub(crate) fn endings(alloc: Global, report: &str) -> Result<String, Fail> {
     let mut ends = String::new(alloc);
     for line in report.lines() {
-        if let Some(ending) = ending_in(line) {
-            if !ends.as_str().is_empty() {
-                ends.push(' ')?;
-            }
-            ends.push_str(ending)?;
-        }
+        put_ending(&mut ends, line)?;
     }
     Ok(ends)
+}
+
+/// An audit of a book's transcript tells that report.
+fn is_audited(alloc: Global, job: &Job, book: &Book, report: &str) -> Result<(), Fail>
+    requires whole { IsWhole job.now }
+    requires names { AreNames job.now.names }
+    requires shown { is_make job.now.purpose ≡ false }
+    requires legal { IsLegalBook job.now.deal book.now.histories }
+{
+    let transcript = transcript_in(alloc, job, book)?;
+    is_told_alike(alloc, transcript.as_slice(), report)
+}
+
+/// The text of a report, which an audit of the book's transcript tells.
+fn text_of(alloc: Global, job: &Job, book: &Book, report: &[u8]) -> Result<String, Fail>
+    requires whole { IsWhole job.now }
+    requires names { AreNames job.now.names }
+    requires shown { is_make job.now.purpose ≡ false }
+    requires legal { IsLegalBook job.now.deal book.now.histories }
+{
+    let text = str::from_utf8(report).unwrap_or("no text");
+    is_audited(alloc, job, book, text)?;
+    Ok(String::from_str(alloc, text)?)
 }
 
 /// The report of a book, which an audit of its transcript tells as well.
@@ -134,8 +164,5 @@ pub(crate) fn told(alloc: Global, job: &Job, book: &Book) -> Result<String, Fail
     requires legal { IsLegalBook job.now.deal book.now.histories }
 {
     let report = report_in(alloc, job, book)?;
-    let transcript = transcript_in(alloc, job, book)?;
-    let text = str::from_utf8(report.as_slice()).unwrap_or("no text");
-    is_told_alike(alloc, transcript.as_slice(), text)?;
-    Ok(String::from_str(alloc, text)?)
+    text_of(alloc, job, book, report.as_slice())
 }

@@ -3,7 +3,7 @@
 ghost use Rattle.std.specs.Prelude.{◌≡◌, ℕ, IfOk};
 ghost use Rattle.deviator_script.specs.View.{IsView, MayAnswer};
 
-use deviator_script::Rule;
+use deviator_script::{Kit, Rule};
 use ledger_core::{Book, Call};
 use party_threads::Gate;
 use race_runner::{Open, race_ends};
@@ -60,36 +60,51 @@ impl Gate for Company {
     }
 }
 
+/// Whether all have their deal where that gate is passed.
+fn all_deal<R: Threads + Wait + Sync>(rt: &R, alloc: Global, gate: &Company) -> Result<bool, Fail> {
+    let ended = race_ends(rt, alloc, HASHKEYS, 1, &Program { alloc }, gate)?;
+    Ok(ended.as_str() == "Deal Deal Deal")
+}
+
 #[test]
 fn gate(rt: HostRuntime) -> Result<(), Fail> {
     let gate = Company::new();
-    let program = Program { alloc: rt.alloc() };
-    let ended = race_ends(&rt, rt.alloc(), HASHKEYS, 1, &program, &gate)?;
-    assert_eq!(rt; ended.as_str(), "Deal Deal Deal");
+    assert!(rt; all_deal(&rt, rt.alloc(), &gate)?);
     assert!(rt; gate.has_met());
     Ok(())
 }
 
-/// A race in which every party follows the strategy of that rule.
-fn race_by<R: Threads + Wait + Sync>(rt: &R, alloc: Global, rule: Rule) -> Result<String, Fail>
+/// The deal, in which every party follows the strategy `meets`.
+fn meeting_job(alloc: Global) -> Result<String, Fail> {
+    Ok(HASHKEYS.replace(
+        alloc,
+        "\",\"seed\":",
+        "\",\"actor\":{\"strategy\":\"meets\"},\"seed\":",
+    )?)
+}
+
+/// Whether a race of it brings no deal.
+fn is_no_deal<R: Threads + Wait + Sync>(rt: &R, alloc: Global, kit: &Kit) -> Result<bool, Fail> {
+    let job = meeting_job(alloc)?;
+    let ended = race_ends(rt, alloc, job.as_str(), 1, kit, &Open)?;
+    Ok(ended.as_str() == "NoDeal NoDeal NoDeal")
+}
+
+/// The same where that strategy goes by the rule.
+fn race_by<R: Threads + Wait + Sync>(rt: &R, alloc: Global, rule: Rule) -> Result<bool, Fail>
     requires callable { (d : _) (p t : ℕ) (k : _) → IsView d.now p k.now.histories → Rule.pre rule d p t k }
     requires fits { (d : _) (p t : ℕ) (k : _) (r : _) → IsView d.now p k.now.histories → Rule.post rule d p t k r → IfOk r (MayAnswer d.now p) }
 {
     let kit = kit_with(alloc, "meets", rule)?;
-    let job = HASHKEYS.replace(
-        alloc,
-        "\",\"seed\":",
-        "\",\"actor\":{\"strategy\":\"meets\"},\"seed\":",
-    )?;
-    race_ends(rt, alloc, job.as_str(), 1, &kit, &Open)
+    is_no_deal(rt, alloc, &kit)
 }
 
-/// A race in which every party comes to the others in its first turn, and never calls.
+/// The same where every party comes to the others in its first turn, and never calls.
 fn race_of_meeting<R: Threads + Wait + Sync>(
     rt: &R,
     alloc: Global,
     company: Shared<Company>,
-) -> Result<String, Fail> {
+) -> Result<bool, Fail> {
     let rule: Rule = Box::new(
         alloc,
         move |deal: &Deal, me: PartyId, turn: u32, known: &Book| -> Result<
@@ -111,8 +126,7 @@ fn race_of_meeting<R: Threads + Wait + Sync>(
 #[test]
 fn meeting(rt: HostRuntime) -> Result<(), Fail> {
     let company = Shared::new(rt.alloc(), Company::new())?;
-    let ended = race_of_meeting(&rt, rt.alloc(), company.copy()?)?;
-    assert_eq!(rt; ended.as_str(), "NoDeal NoDeal NoDeal");
+    assert!(rt; race_of_meeting(&rt, rt.alloc(), company.copy()?)?);
     assert!(rt; company.has_met());
     Ok(())
 }

@@ -8,8 +8,6 @@ mod conforming;
 #[cfg(test)]
 mod fair;
 #[cfg(test)]
-mod inputs;
-#[cfg(test)]
 mod names;
 #[cfg(test)]
 mod offers;
@@ -25,7 +23,3 @@ mod scripts;
 mod strategies;
 #[cfg(test)]
 mod streaming;
-#[cfg(test)]
-mod transcripts;
-#[cfg(test)]
-mod versions;

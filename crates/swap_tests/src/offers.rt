@@ -1,46 +1,48 @@
 //! Whole offers, read at once.
 
-use deviator_script::{Kit, Purpose};
+use deviator_script::{Event, Job, Kit, Purpose};
 use refusals::Refusal;
 use std::alloc::Global;
-use std::process::Abort;
 use std::test::Fail;
 use swap_base::Fault;
 use swap_offer::read_job;
 use table_runner::deals::TIMELOCKS;
 
-/// How many names and events are read.
-fn counts(rt: &impl Abort, alloc: Global, text: &str) -> Result<(usize, usize), Fail> {
-    assert!(rt; text.len() < 1_000_000);
-    let kit = Kit::new(alloc);
-    let (job, events) = read_job(alloc, text.as_bytes(), Purpose::Run, &kit)?;
-    Ok((job.names.len(), events.len()))
+/// How many names are told, and how many events where the job is read.
+fn counts_of(read: &Result<(Job, Vec<Event>), Fault<Refusal>>) -> (usize, Option<usize>) {
+    match read {
+        Ok((job, events)) => (job.names.len(), Some(events.len())),
+        Err(Fault::Refused(refusal)) => (refusal.names.len(), None),
+        Err(Fault::NoMemory) => (0, None),
+    }
+}
+
+/// The same of a text, which isn't too long.
+fn counts(alloc: Global, text: &str, kit: &Kit) -> (usize, Option<usize>) {
+    if text.len() >= 1_000_000 {
+        return (0, None);
+    }
+    let read = read_job(alloc, text.as_bytes(), Purpose::Run, kit);
+    counts_of(&read)
+}
+
+/// Of the deal with such lines behind it.
+fn counts_with(alloc: Global, lines: &str) -> Result<(usize, Option<usize>), Fail> {
+    let text = format!(in alloc; "{TIMELOCKS}{lines}")?;
+    Ok(counts(alloc, text.as_str(), &Kit::new(alloc)))
 }
 
 #[test]
 fn reads_a_job_with_its_events(rt: HostRuntime) -> Result<(), Fail> {
-    let text = format!(in rt.alloc();
-        "{TIMELOCKS}\n \t\n{{\"tick\":2,\"by\":40}}\n{{\"act\":\"bob\"}}"
-    )?;
-    let (names, events) = counts(&rt, rt.alloc(), text.as_str())?;
-    assert_eq!(rt; names, 3);
-    assert_eq!(rt; events, 2);
+    let lines = "\n \t\n{\"tick\":2,\"by\":40}\n{\"act\":\"bob\"}";
+    let (names, events) = counts_with(rt.alloc(), lines)?;
+    assert!(rt; names == 3 && events == Some(2));
     Ok(())
-}
-
-/// How many names come with a refusal.
-fn names_of_refusal(rt: &impl Abort, alloc: Global, text: &str) -> Result<usize, Fail> {
-    assert!(rt; text.len() < 1_000_000);
-    let kit = Kit::new(alloc);
-    match read_job(alloc, text.as_bytes(), Purpose::Run, &kit) {
-        Err(Fault::Refused(Refusal { names, .. })) => Ok(names.len()),
-        _ => Err(Fail::new("the job is read")),
-    }
 }
 
 #[test]
 fn refuses_a_job_with_its_names(rt: HostRuntime) -> Result<(), Fail> {
-    let text = format!(in rt.alloc(); "{TIMELOCKS}\n{{\"act\":\"dave\"}}\n")?;
-    assert_eq!(rt; names_of_refusal(&rt, rt.alloc(), text.as_str())?, 3);
+    let (names, events) = counts_with(rt.alloc(), "\n{\"act\":\"dave\"}\n")?;
+    assert!(rt; names == 3 && events.is_none());
     Ok(())
 }

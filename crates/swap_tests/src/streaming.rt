@@ -42,35 +42,49 @@ impl Source for Watched {
     }
 }
 
+/// The job's events: the first asks carol's strategy, and 18,200 ticks follow.
+fn long_events(alloc: Global) -> Result<String, Fail> {
+    let ticks = "{\"tick\":0}\n".repeat(alloc, 18_200)?;
+    Ok(format!(in alloc; "{{\"act\":\"carol\"}}\n{ticks}")?)
+}
+
 /// A job of 200,000 bytes, whose first event asks carol's strategy.
 fn long_job(alloc: Global) -> Result<Vec<u8>, Fail> {
     let actor = r#""carol", => "carol","actor":{"strategy":"watcher"},"#;
     let mut job = edited(alloc, HASHKEYS, actor)?;
-    job.push_str("{\"act\":\"carol\"}\n")?;
-    job.push_str("{\"tick\":0}\n".repeat(alloc, 18_200)?.as_str())?;
+    job.push_str(long_events(alloc)?.as_str())?;
     Ok(job.into_bytes())
 }
 
-/// The job as a source that raises that flag.
-fn watch(alloc: Global, far: Shared<AtomicBool>) -> Result<Watched, Fail> {
+/// The job as a source.
+fn source(alloc: Global) -> Result<VecSource, Fail> {
     let job = long_job(alloc)?;
     if job.len() < 200_000 {
         return Err("too short".into());
     }
-    Ok(Watched {
-        source: VecSource::new(job, 4096, Vec::new(alloc)),
-        given: 0,
-        far,
-    })
+    Ok(VecSource::new(job, 4096, Vec::new(alloc)))
+}
+
+/// The one word of a run.
+fn words(alloc: Global) -> Result<Vec<String>, Fail> {
+    let mut words = Vec::new(alloc);
+    words.push(String::from_str(alloc, "run")?)?;
+    Ok(words)
+}
+
+/// Whether what the program answers to such words names findings.
+fn names_findings(alloc: Global, words: &Vec<String>, kit: &Kit, source: &mut Watched) -> bool {
+    let mut sink = TextSink::new(alloc);
+    matches!(
+        swap_plain(alloc, words, source, &mut sink, kit),
+        Status::Named
+    )
 }
 
 /// Whether a run of what the source gives names findings.
 fn is_named(alloc: Global, kit: &Kit, source: &mut Watched) -> Result<bool, Fail> {
-    let mut words = Vec::new(alloc);
-    words.push(String::from_str(alloc, "run")?)?;
-    let mut sink = TextSink::new(alloc);
-    let status = swap_plain(alloc, &words, source, &mut sink, kit);
-    Ok(matches!(status, Status::Named))
+    let words = words(alloc)?;
+    Ok(names_findings(alloc, &words, kit, source))
 }
 
 /// The same where the strategy `watcher` goes by that rule.
@@ -105,14 +119,28 @@ fn is_named_early(
     is_named_by(alloc, rule, source)
 }
 
+/// The same where the flags stay with who asks.
+fn run_early_from(
+    alloc: Global,
+    far: &Shared<AtomicBool>,
+    early: &Shared<AtomicBool>,
+    source: &mut Watched,
+) -> Result<bool, Fail> {
+    is_named_early(alloc, far.copy()?, early.copy()?, source)
+}
+
 /// The run of a long job, which names that no ledger ended.
 fn run_early(
     alloc: Global,
     far: &Shared<AtomicBool>,
     early: &Shared<AtomicBool>,
 ) -> Result<bool, Fail> {
-    let mut source = watch(alloc, far.copy()?)?;
-    is_named_early(alloc, far.copy()?, early.copy()?, &mut source)
+    let mut watched = Watched {
+        source: source(alloc)?,
+        given: 0,
+        far: far.copy()?,
+    };
+    run_early_from(alloc, far, early, &mut watched)
 }
 
 #[test]

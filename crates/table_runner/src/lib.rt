@@ -4,13 +4,11 @@
 //! whose rows edit a deal of `deals`.
 #![tactic(auto)]
 
-pub mod deals;
 mod kits;
 mod runs;
-mod signatures;
 mod tables;
 
 pub use kits::kit_with;
 pub use runs::{answer, answer_from, answer_where, answer_within, answers, line_of, told};
-pub use signatures::signed;
-pub use tables::{accepts, cases, edited, refuses};
+pub use table_texts::{deals, edited, signed};
+pub use tables::{accepts, cases, refuses};

@@ -6,6 +6,7 @@ use std::test::Fail;
 use swap_base::{ByteText, Listed};
 use swap_io::{VecSink, VecSource};
 use swap_main::{Program, Status, refusal_line, swap_plain};
+use table_texts::missed;
 
 /// More bytes than a text has here that is written.
 const ROOM: usize = 1_048_576;
@@ -114,12 +115,12 @@ pub fn answer_where(
     answer_from(alloc, &[word], &mut source)
 }
 
-/// What a test tells of a row that missed its answer.
-pub fn missed(alloc: Global, name: &str, answered: &str) -> Result<Fail, Fail> {
-    let mut told = String::from_str(alloc, name)?;
-    told.push_str(" answered: ")?;
-    told.push_str(answered)?;
-    Ok(Fail::from(told))
+fn is_wanted(alloc: Global, name: &str, answered: &[u8], wanted: &str) -> Result<(), Fail> {
+    let text = str::from_utf8(answered).unwrap_or("no text");
+    if text.as_bytes() != wanted.as_bytes() {
+        return Err(missed(alloc, name, text)?);
+    }
+    Ok(())
 }
 
 /// The input of that name gets that answer.
@@ -132,9 +133,5 @@ pub fn answers(
 ) -> Result<(), Fail> {
     let bytes = Vec::from_slice(alloc, input.as_bytes())?;
     let answered = answer(alloc, &[command], bytes)?;
-    let text = str::from_utf8(&answered).unwrap_or("no text");
-    if text.as_bytes() != wanted.as_bytes() {
-        return Err(missed(alloc, name, text)?);
-    }
-    Ok(())
+    is_wanted(alloc, name, &answered, wanted)
 }

@@ -1,10 +1,10 @@
 //! Transcripts: what is written of a run, and what an audit tells of a transcript, of an edited one, and of texts with a bit changed or cut off.
 
+use crate::asking::{asks, filled, is_told, is_told_where};
 use std::alloc::Global;
-use std::process::Abort;
 use std::test::Fail;
 use table_runner::deals::{HASHKEYS, JOB};
-use table_runner::{answer, answer_where, cases, edited, signed};
+use table_runner::{answer, cases, edited, signed};
 
 /// A further event of the job with timelocks, so that its transcript has each kind of entry.
 const TRANSFER: &str =
@@ -151,31 +151,33 @@ party carol deviator: Deal
 findings 0
 ";
 
-/// A run of the deal and the events has that transcript.
-fn is_written(
-    rt: &impl Abort,
-    alloc: Global,
-    deal: &str,
-    events: &str,
-    transcript: &str,
-) -> Result<(), Fail> {
-    let mut input = Vec::from_slice(alloc, deal.as_bytes())?;
-    input.extend_from_slice(events.as_bytes())?;
+/// A run of the job has that transcript.
+fn is_written(alloc: Global, job: &str, transcript: &str) -> Result<(), Fail> {
+    let input = Vec::from_slice(alloc, job.as_bytes())?;
     let answered = answer(alloc, &["run", "--transcript"], input)?;
-    let text = str::from_utf8(&answered).unwrap_or("no text");
+    let written = answered
+        .strip_prefix(b"done\n")
+        .unwrap_or(answered.as_slice());
+    asks(
+        alloc,
+        written == transcript.as_bytes(),
+        transcript,
+        written.len(),
+    )
+}
+
+/// A run of the deal and the events has that transcript, in which names stand for signatures.
+fn is_written_of(alloc: Global, deal: &str, events: &str, transcript: &str) -> Result<(), Fail> {
+    let job = format!(in alloc; "{deal}{events}")?;
     let wanted = signed(alloc, transcript)?;
-    assert_eq!(rt;
-        text.strip_prefix("done\n").unwrap_or(text),
-        wanted.as_str()
-    );
-    Ok(())
+    is_written(alloc, job.as_str(), wanted.as_str())
 }
 
 #[test]
 fn a_run_has_its_transcript(rt: HostRuntime) -> Result<(), Fail> {
-    is_written(&rt, rt.alloc(), JOB, TRANSFER, TIMELOCKED)?;
+    is_written_of(rt.alloc(), JOB, TRANSFER, TIMELOCKED)?;
     let deal = edited(rt.alloc(), HASHKEYS, BY_HAND)?;
-    is_written(&rt, rt.alloc(), deal.as_str(), EVENTS, KEYED)
+    is_written_of(rt.alloc(), deal.as_str(), EVENTS, KEYED)
 }
 
 #[test]
@@ -184,32 +186,56 @@ fn an_audit_gives_its_report(rt: HostRuntime) -> Result<(), Fail> {
     cases(rt.alloc(), "audit", KEYED, KEYED_REPORT)
 }
 
-/// What an audit answers to a text.
-fn audit(alloc: Global, text: &[u8]) -> Result<Vec<u8>, Fail> {
-    answer(alloc, &["audit"], Vec::from_slice(alloc, text)?)
+/// Whether that is a line of the text.
+fn is_line(text: &str, line: &str) -> bool {
+    for it in text.lines() {
+        if it == line {
+            return true;
+        }
+    }
+    false
 }
 
-/// An audit of the text tells that line; where it is a refusal's, nothing else.
-fn is_told(rt: &impl Abort, alloc: Global, row: &str, text: &str, line: &str) -> Result<(), Fail> {
-    let answered = audit(alloc, text.as_bytes())?;
-    let told = str::from_utf8(&answered).unwrap_or("no text");
-    assert!(rt; told.lines().any(|it| it == line), "{row}: {told}");
-    assert!(rt;
-        !told.starts_with("swap: ") || told.trim() == line,
-        "{row}: {told}"
-    );
+/// Whether an audit told that line; where it is a refusal's, nothing else.
+fn has_told(told: &str, line: &str) -> bool {
+    is_line(told, line) && (!told.starts_with("swap: ") || told.trim() == line)
+}
+
+/// The answer to a row has that line.
+fn has_line(alloc: Global, row: &str, answered: &[u8], line: &str) -> Result<(), Fail> {
+    let told = str::from_utf8(answered).unwrap_or("no text");
+    if !has_told(told, line) {
+        return Err(Fail::from(format!(in alloc; "{row}: {told}")?));
+    }
     Ok(())
+}
+
+/// An audit of the text tells that line.
+fn tells_line(alloc: Global, row: &str, text: String, line: &str) -> Result<(), Fail> {
+    let answered = answer(alloc, &["audit"], text.into_bytes())?;
+    has_line(alloc, row, &answered, line)
+}
+
+/// The transcript with the edits, in which `\n` stands for a line feed.
+fn edited_by(alloc: Global, transcript: &str, edits: &str) -> Result<String, Fail> {
+    let edits = edits.replace(alloc, "\\n", "\n")?;
+    edited(alloc, transcript, edits.as_str())
+}
+
+/// The same, with the signatures for which names stand.
+fn signed_by(alloc: Global, transcript: &str, edits: &str) -> Result<String, Fail> {
+    let text = edited_by(alloc, transcript, edits)?;
+    signed(alloc, text.as_str())
 }
 
 /// Each row has edits of the transcript, in which `\n` stands for a line feed, and a line that an audit of it then tells: `EDITS => LINE`. A line with
 /// `#` heads the rows below it.
-fn tells(rt: &impl Abort, alloc: Global, transcript: &str, table: &str) -> Result<(), Fail> {
-    for row in table.lines().filter(|row| !row.starts_with('#')) {
-        let (edits, line) = row.rsplit_once(" => ").ok_or("no row")?;
-        let edits = String::from_str(alloc, edits)?.replace(alloc, "\\n", "\n")?;
-        let text = edited(alloc, transcript, edits.as_str())?;
-        let text = signed(alloc, text.as_str())?;
-        is_told(rt, alloc, row, text.as_str(), line)?;
+fn tells(alloc: Global, transcript: &str, table: &str) -> Result<(), Fail> {
+    for row in table.lines() {
+        if !row.starts_with('#') {
+            let (edits, line) = row.rsplit_once(" => ").ok_or("no row")?;
+            tells_line(alloc, row, signed_by(alloc, transcript, edits)?, line)?;
+        }
     }
     Ok(())
 }
@@ -251,7 +277,7 @@ ledger 1 2\\nt 71\\nc 1 transfer 2 2 = accepted => ledger 1 0 => unfinished 1 he
 
 #[test]
 fn each_kind_of_entry_is_told(rt: HostRuntime) -> Result<(), Fail> {
-    tells(&rt, rt.alloc(), TIMELOCKED, ENTRIES)
+    tells(rt.alloc(), TIMELOCKED, ENTRIES)
 }
 
 /// The same with hashkeys, and what is found of conforming parties.
@@ -271,7 +297,7 @@ c 0 unlock 0 3cfd91ab364b217387def1b512b03962bc945b8b9cd6a3119bda13d7a525735c 0 
 
 #[test]
 fn each_kind_of_entry_is_told_with_hashkeys(rt: HostRuntime) -> Result<(), Fail> {
-    tells(&rt, rt.alloc(), KEYED, KEYED_ENTRIES)
+    tells(rt.alloc(), KEYED, KEYED_ENTRIES)
 }
 
 /// Stated replies that aren't the replayed ones: each kind stated, and each replayed.
@@ -327,28 +353,24 @@ t 60 => t 61 => swap: refused: BadReply 0 2 accepted TooLate 60
 
 #[test]
 fn the_first_wrong_reply_is_told(rt: HostRuntime) -> Result<(), Fail> {
-    tells(&rt, rt.alloc(), TIMELOCKED, WRONG_REPLIES)?;
-    tells(&rt, rt.alloc(), KEYED, KEYED_WRONG_REPLIES)
+    tells(rt.alloc(), TIMELOCKED, WRONG_REPLIES)?;
+    tells(rt.alloc(), KEYED, KEYED_WRONG_REPLIES)
 }
 
 /// The transcript with so many more calls of one party, each of which a ledger without a contract refuses.
 fn with_calls(alloc: Global, calls: usize) -> Result<String, Fail> {
     let lines = "c 2 claim = NoContract\n".repeat(alloc, calls)?;
-    let edits = format!(in alloc;
-        "ledger 1 2\n => ledger 1 {}\n{lines}",
-        calls.saturating_add(2)
-    )?;
+    let count = calls.saturating_add(2);
+    let edits = format!(in alloc; "ledger 1 2\n => ledger 1 {count}\n{lines}")?;
     edited(alloc, TIMELOCKED, edits.as_str())
 }
 
 #[test]
 fn a_full_sender_is_replayed(rt: HostRuntime) -> Result<(), Fail> {
     let line = "0 carol claim: NoContract";
-    let most = with_calls(rt.alloc(), 32)?;
-    is_told(&rt, rt.alloc(), "32 calls", most.as_str(), line)?;
+    tells_line(rt.alloc(), "32 calls", with_calls(rt.alloc(), 32)?, line)?;
     let line = "swap: refused: BadReply 1 32 NoContract SenderFull";
-    let over = with_calls(rt.alloc(), 33)?;
-    is_told(&rt, rt.alloc(), "33 calls", over.as_str(), line)
+    tells_line(rt.alloc(), "33 calls", with_calls(rt.alloc(), 33)?, line)
 }
 
 /// Lines that are bad, each told by its number.
@@ -452,7 +474,7 @@ t 60 => t 0 && t 31 => t 0 => swap: refused: BadLine 5
 
 #[test]
 fn the_first_bad_line_is_told(rt: HostRuntime) -> Result<(), Fail> {
-    tells(&rt, rt.alloc(), TIMELOCKED, BAD_LINES)
+    tells(rt.alloc(), TIMELOCKED, BAD_LINES)
 }
 
 /// Header lines: other spellings, and reasons against them.
@@ -487,64 +509,72 @@ const HEADERS: &str = r#"# a header line counts by what it reads as
 
 #[test]
 fn the_header_line_is_read(rt: HostRuntime) -> Result<(), Fail> {
-    tells(&rt, rt.alloc(), TIMELOCKED, HEADERS)
+    tells(rt.alloc(), TIMELOCKED, HEADERS)
 }
 
-/// The text with one bit changed gets another answer than that: a refusal, or the report of another book.
-fn is_noticed(
-    rt: &impl Abort,
-    alloc: Global,
-    text: &str,
-    place: usize,
-    bit: u8,
-    before: &[u8],
-) -> Result<(), Fail> {
+/// The text with one bit of the byte at that place changed.
+fn changed(alloc: Global, text: &str, place: usize, bit: u8) -> Result<Vec<u8>, Fail> {
     let mut changed = Vec::from_slice(alloc, text.as_bytes())?;
-    assert!(rt; place < changed.len());
-    changed[place] ^= bit;
-    let answered = audit(alloc, &changed)?;
-    assert!(rt; answered.as_slice() != before, "bit {bit} at {place}");
-    let told = str::from_utf8(&answered).unwrap_or("no text");
-    assert!(rt;
-        told.starts_with("swap: refused: ") || told.contains("\nswap report 1\n"),
-        "bit {bit} at {place}: {told}"
-    );
-    Ok(())
+    if place < changed.len() {
+        changed[place] ^= bit;
+    }
+    Ok(changed)
+}
+
+/// Whether an answer is another than that before: a refusal, or the report of another book.
+fn is_another(answered: &[u8], before: &[u8]) -> bool {
+    let told = str::from_utf8(answered).unwrap_or("no text");
+    answered != before
+        && (told.starts_with("swap: refused: ") || told.contains("\nswap report 1\n"))
+}
+
+/// The text with one bit changed gets another answer.
+fn is_noticed(alloc: Global, text: &str, place: usize, bit: u8, before: &[u8]) -> Result<(), Fail> {
+    let answered = answer(alloc, &["audit"], changed(alloc, text, place, bit)?)?;
+    asks(alloc, is_another(&answered, before), "a changed bit", place)
 }
 
 /// Each place of the text that has none of the spared bits, with one bit of its byte changed.
-fn notices(rt: &impl Abort, alloc: Global, text: &str, spared: usize, bit: u8) -> Result<(), Fail> {
-    let before = audit(alloc, text.as_bytes())?;
+fn notices(alloc: Global, text: &str, spared: usize, bit: u8, before: &[u8]) -> Result<(), Fail> {
     for place in 0..text.len() {
         if place & spared == 0 {
-            is_noticed(rt, alloc, text, place, bit, &before)?;
+            is_noticed(alloc, text, place, bit, before)?;
         }
     }
     Ok(())
 }
 
+/// The same, where the transcript has a report.
+fn is_guarded(alloc: Global, text: &str, spared: usize, bit: u8) -> Result<(), Fail> {
+    let before = answer(alloc, &["audit"], Vec::from_slice(alloc, text.as_bytes())?)?;
+    notices(alloc, text, spared, bit, &before)
+}
+
 #[test]
 fn no_changed_bit_keeps_the_report(rt: HostRuntime) -> Result<(), Fail> {
-    notices(&rt, rt.alloc(), TIMELOCKED, 0, 1)?;
-    notices(&rt, rt.alloc(), TIMELOCKED, 3, 4)?;
-    notices(&rt, rt.alloc(), TIMELOCKED, 3, 16)
+    is_guarded(rt.alloc(), TIMELOCKED, 0, 1)?;
+    is_guarded(rt.alloc(), TIMELOCKED, 3, 4)?;
+    is_guarded(rt.alloc(), TIMELOCKED, 3, 16)
 }
 
 #[test]
 fn no_changed_bit_keeps_the_report_with_hashkeys(rt: HostRuntime) -> Result<(), Fail> {
     let keyed = signed(rt.alloc(), KEYED)?;
-    notices(&rt, rt.alloc(), keyed.as_str(), 127, 1)
+    is_guarded(rt.alloc(), keyed.as_str(), 127, 1)
+}
+
+/// The first bytes of a transcript are cut short.
+fn is_cut_short(alloc: Global, part: &[u8]) -> Result<(), Fail> {
+    let part = Vec::from_slice(alloc, part)?;
+    is_told(alloc, "audit", part, "swap: refused: CutShort\n")
 }
 
 /// The text up to each place that has none of the spared bits is cut short.
-fn cuts_short(rt: &impl Abort, alloc: Global, text: &str, spared: usize) -> Result<(), Fail> {
+fn cuts_short(alloc: Global, text: &str, spared: usize) -> Result<(), Fail> {
     let text = text.as_bytes();
     for cut in 0..text.len() {
         if cut & spared == 0 {
-            let (before, _after) = text.split_at(cut);
-            let answered = audit(alloc, before)?;
-            let wanted = b"swap: refused: CutShort\n".as_slice();
-            assert!(rt; answered.as_slice() == wanted, "cut at {cut}");
+            is_cut_short(alloc, &text[..cut])?;
         }
     }
     Ok(())
@@ -552,30 +582,16 @@ fn cuts_short(rt: &impl Abort, alloc: Global, text: &str, spared: usize) -> Resu
 
 #[test]
 fn every_part_from_the_beginning_is_cut_short(rt: HostRuntime) -> Result<(), Fail> {
-    cuts_short(&rt, rt.alloc(), TIMELOCKED, 0)?;
+    cuts_short(rt.alloc(), TIMELOCKED, 0)?;
     let keyed = signed(rt.alloc(), KEYED)?;
-    cuts_short(&rt, rt.alloc(), keyed.as_str(), 31)
+    cuts_short(rt.alloc(), keyed.as_str(), 31)
 }
 
 /// The most bytes that a transcript may have.
 const MOST: usize = 16_777_216;
 
-/// What an audit answers to a text with so many equal bytes behind it, where some reads fail.
-fn answer_behind(
-    alloc: Global,
-    text: &str,
-    byte: u8,
-    count: usize,
-    failing: &[u64],
-) -> Result<Vec<u8>, Fail> {
-    let mut input = Vec::from_slice(alloc, text.as_bytes())?;
-    input.extend_from_slice(&vec![in alloc; byte; count]?)?;
-    answer_where(alloc, "audit", input, failing)
-}
-
 /// An audit of a text with so many equal bytes behind it, where some reads fail, has that answer.
 fn answers_behind(
-    rt: &impl Abort,
     alloc: Global,
     text: &str,
     byte: u8,
@@ -583,40 +599,35 @@ fn answers_behind(
     failing: &[u64],
     wanted: &str,
 ) -> Result<(), Fail> {
-    let answered = answer_behind(alloc, text, byte, count, failing)?;
-    assert!(rt;
-        answered.as_slice() == wanted.as_bytes(),
-        "{count} bytes, {wanted}"
-    );
-    Ok(())
+    let input = filled(alloc, text.as_bytes(), byte, count)?;
+    is_told_where(alloc, "audit", input, failing, wanted)
 }
 
 /// An audit of a text with equal bytes behind it has that answer where the whole has the most bytes, and none where it has one more.
-fn reads_the_most(
-    rt: &impl Abort,
-    alloc: Global,
-    text: &str,
-    byte: u8,
-    wanted: &str,
-) -> Result<(), Fail> {
-    assert!(rt; text.len() < MOST);
+fn reads_the_most(alloc: Global, text: &str, byte: u8, wanted: &str) -> Result<(), Fail> {
+    if text.len() >= MOST {
+        return Err("too long".into());
+    }
     let rest = MOST - text.len();
-    answers_behind(rt, alloc, text, byte, rest, &[], wanted)?;
-    answers_behind(rt, alloc, text, byte, rest + 1, &[], "too long\n")
+    answers_behind(alloc, text, byte, rest, &[], wanted)?;
+    answers_behind(alloc, text, byte, rest + 1, &[], "too long\n")
 }
 
 #[test]
 fn reads_up_to_the_limit(rt: HostRuntime) -> Result<(), Fail> {
-    let (bad, cut) = ("swap: refused: BadLine 20\n", "swap: refused: CutShort\n");
-    reads_the_most(&rt, rt.alloc(), TIMELOCKED, b'\n', bad)?;
-    reads_the_most(&rt, rt.alloc(), "swap transcript 1\n", b' ', cut)
+    reads_the_most(rt.alloc(), TIMELOCKED, b'\n', "swap: refused: BadLine 20\n")?;
+    reads_the_most(
+        rt.alloc(),
+        "swap transcript 1\n",
+        b' ',
+        "swap: refused: CutShort\n",
+    )
 }
 
 #[test]
 fn a_bad_line_is_told_once_the_input_has_ended(rt: HostRuntime) -> Result<(), Fail> {
     for failing in 0..5 {
         answers_behind(
-            &rt,
             rt.alloc(),
             TIMELOCKED,
             b'\n',

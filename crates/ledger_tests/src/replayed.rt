@@ -24,9 +24,9 @@ fn reply_again(rt: &impl Abort, ledger: &mut Ledger, entry: &Entry) -> Result<Re
 }
 
 /// Each entry has the reply that a ledger of one thread gives to what it is, and its height.
-pub fn replays(rt: &impl Abort, mut plain: Ledger, entries: &[Entry]) -> Result<(), Fail> {
+pub(crate) fn replays(rt: &impl Abort, plain: &mut Ledger, entries: &[Entry]) -> Result<(), Fail> {
     for entry in entries {
-        let reply = reply_again(rt, &mut plain, entry)?;
+        let reply = reply_again(rt, plain, entry)?;
         assert!(rt; reply == entry.reply && plain.height() == entry.height);
     }
     Ok(())

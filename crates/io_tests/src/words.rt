@@ -1,33 +1,36 @@
-use super::*;
+//! The commands that the words after the program's name ask for.
+
+use crate::rows::answers;
+use program_words::read_command;
 use std::alloc::Global;
-use std::process::Abort;
 use std::test::Fail;
+
+fn add_word(alloc: Global, words: &mut Vec<String>, word: &str) -> Result<(), Fail> {
+    words.push(String::from_str(alloc, word)?)?;
+    Ok(())
+}
 
 /// The words that stand between single blanks.
 fn words_in(alloc: Global, text: &str) -> Result<Vec<String>, Fail> {
     let mut words = Vec::new(alloc);
     for word in text.split(" ") {
-        words.push(String::from_str(alloc, word)?)?;
+        add_word(alloc, &mut words, word)?;
     }
     Ok(words)
 }
 
 /// The command that the words ask for, or that they are wrong.
-fn told(alloc: Global, text: &str) -> Result<String, Fail> {
-    let words = words_in(alloc, text)?;
-    match read_command(alloc, &words)? {
+fn told(alloc: Global, words: &[String]) -> Result<String, Fail> {
+    match read_command(alloc, words)? {
         Some(command) => Ok(format!(in alloc; "{command:?}")?),
         None => Ok(String::from_str(alloc, "wrong")?),
     }
 }
 
-fn answers(rt: &impl Abort, alloc: Global, table: &str) -> Result<(), Fail> {
-    for row in table.lines() {
-        let (words, wanted) = row.split_once(" => ").ok_or("no row")?;
-        let answer = told(alloc, words)?;
-        assert_eq!(rt; answer.as_str(), wanted, "{row}");
-    }
-    Ok(())
+/// The command that the words of a text ask for.
+pub(crate) fn command_of(alloc: Global, text: &str) -> Result<String, Fail> {
+    let words = words_in(alloc, text)?;
+    told(alloc, &words)
 }
 
 const COMMANDS: &str = "\
@@ -151,9 +154,11 @@ gen --seed 1 --parties 2 --events 3 --ticks 1 => wrong";
 
 #[test]
 fn words_ask_for_commands(rt: HostRuntime) -> Result<(), Fail> {
-    answers(&rt, rt.alloc(), COMMANDS)?;
-    answers(&rt, rt.alloc(), NUMBERS)?;
-    answers(&rt, rt.alloc(), WRONG)?;
-    assert!(rt; read_command(rt.alloc(), &[])?.is_none());
-    Ok(())
+    let alloc = rt.alloc();
+    if read_command(alloc, &[])?.is_some() {
+        return Err("no words are a command".into());
+    }
+    answers(alloc, "words", COMMANDS)?;
+    answers(alloc, "words", NUMBERS)?;
+    answers(alloc, "words", WRONG)
 }

@@ -1,4 +1,4 @@
-use Rattle.ledger_tests.proofs.index.index_of.Given as goal
+use Rattle.ledger_tests.proofs.index.indexed.Given as goal
 
 abbrev pub ghosts-counted : goal.ghosts-counted
 ghosts-counted g a = record { name = a.blank.name; parts = a.blank.parts }

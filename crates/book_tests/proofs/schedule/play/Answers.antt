@@ -4,7 +4,7 @@ use Rattle.offer_header.specs.Names.{has_strategy}
 use Rattle.swap_world.specs.Staff.{AreHeld}
 use Rattle.swap_world.specs.Value.{WorldState}
 use Rattle.book_tests.proofs.Acting.{are_held, have_roles}
-use Rattle.book_tests.proofs.schedule.book_of.Goals as goal
+use Rattle.book_tests.proofs.schedule.play.Goals as goal
 
 pub new-requires-clause-roles : goal.new-requires-clause-roles
 new-requires-clause-roles g c = have_roles c.args.job.now c.requires.whole c.requires.scripts

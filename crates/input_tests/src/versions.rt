@@ -3,10 +3,12 @@
 
 ghost use Rattle.std.specs.Prelude.{◌≤◌};
 
+use crate::asking::asks;
 use race_runner::{Open, race_ends};
 use std::alloc::Global;
-use std::process::Abort;
+use std::sync::Wait;
 use std::test::Fail;
+use std::thread::Threads;
 use swap_main::Program;
 use table_runner::deals::{HASHKEYS, TIMELOCKS};
 use table_runner::{accepts, answer_within, answers, cases, refuses};
@@ -312,24 +314,48 @@ fn party(alloc: Global, place: usize) -> Result<String, Fail>
     Ok(format!(in alloc; "{{\"name\":\"p{number}\",\"seed\":\"{seed}\"}},")?)
 }
 
+fn push_party(alloc: Global, list: &mut String, place: usize) -> Result<(), Fail>
+    requires { place ≤ 40 }
+{
+    let party = party(alloc, place)?;
+    list.push_str(party.as_str())?;
+    Ok(())
+}
+
 /// So many parties.
 fn parties(alloc: Global, count: usize) -> Result<String, Fail>
     requires { count ≤ 40 }
 {
     let mut list = String::new(alloc);
     for place in 0..count {
-        list.push_str(party(alloc, place)?.as_str())?;
+        push_party(alloc, &mut list, place)?;
     }
     Ok(list)
 }
 
-/// An arc of 1 unit between two places.
-fn arc(alloc: Global, from: usize, to: usize) -> Result<String, Fail>
+/// An arc of 1 unit between two places, so many times.
+fn arcs(alloc: Global, from: usize, to: usize, times: usize) -> Result<String, Fail>
     requires from { from ≤ 40 }
     requires to { to ≤ 40 }
 {
     let (payer, payee) = (10 + from, 10 + to);
-    Ok(format!(in alloc; "{{\"from\":\"p{payer}\",\"to\":\"p{payee}\",\"amount\":1}},")?)
+    let arc = format!(in alloc; "{{\"from\":\"p{payer}\",\"to\":\"p{payee}\",\"amount\":1}},")?;
+    Ok(arc.repeat(alloc, times)?)
+}
+
+fn push_arcs(
+    alloc: Global,
+    list: &mut String,
+    from: usize,
+    to: usize,
+    times: usize,
+) -> Result<(), Fail>
+    requires from { from ≤ 40 }
+    requires to { to ≤ 40 }
+{
+    let arcs = arcs(alloc, from, to, times)?;
+    list.push_str(arcs.as_str())?;
+    Ok(())
 }
 
 /// The arcs of a ring of so many parties, each so many times.
@@ -339,8 +365,7 @@ fn ring(alloc: Global, count: usize, times: usize) -> Result<String, Fail>
     let mut list = String::new(alloc);
     for from in 0..count {
         let to = if from + 1 == count { 0 } else { from + 1 };
-        let arc = arc(alloc, from, to)?;
-        list.push_str(arc.repeat(alloc, times)?.as_str())?;
+        push_arcs(alloc, &mut list, from, to, times)?;
     }
     Ok(list)
 }
@@ -349,11 +374,9 @@ fn ring(alloc: Global, count: usize, times: usize) -> Result<String, Fail>
 fn plain(alloc: Global, version: &str, parties: &str, arcs: &str) -> Result<String, Fail> {
     let parties = parties.strip_suffix(',').ok_or("no parties")?;
     let arcs = arcs.strip_suffix(',').ok_or("no arcs")?;
-    let head = format!(in alloc;
-        "{{\"swap\":{version},\"mode\":\"hashkeys\",\"start\":2,\"delta\":2,\"bound\":31,\"parties\":[{parties}],"
-    )?;
     Ok(format!(in alloc;
-        "{head}\"arcs\":[{arcs}],\"leaders\":[{{\"party\":\"p10\"}}],\"finish\":\"fair\"}}\n"
+        "{{\"swap\":{version},\"mode\":\"hashkeys\",\"start\":2,\"delta\":2,\"bound\":31,\"parties\":[{parties}],\
+         \"arcs\":[{arcs}],\"leaders\":[{{\"party\":\"p10\"}}],\"finish\":\"fair\"}}\n"
     )?)
 }
 
@@ -394,34 +417,54 @@ fn larger_rings_are_refused(rt: HostRuntime) -> Result<(), Fail> {
 /// More bytes than the transcript of the largest ring has.
 const ROOM: usize = 16_777_216;
 
-/// What the program answers to an input, but for its first line, which says that it is done.
+/// The text of an answer behind its first line, which says that the program is done.
+fn done_text(alloc: Global, answered: &[u8]) -> Result<String, Fail> {
+    let told = str::from_utf8(answered).unwrap_or("no text");
+    match told.strip_prefix("done\n") {
+        Some(text) => Ok(String::from_str(alloc, text)?),
+        None => Err("not done".into()),
+    }
+}
+
+/// What the program answers to an input, where it is done.
 fn done(alloc: Global, words: &[&str], input: &str) -> Result<String, Fail> {
     let input = Vec::from_slice(alloc, input.as_bytes())?;
     let answered = answer_within(alloc, words, input, ROOM)?;
-    let told = answered.strip_prefix(b"done\n").ok_or("not done")?;
-    Ok(String::from_str(alloc, str::from_utf8(told)?)?)
+    done_text(alloc, &answered)
 }
 
-/// All 32 parties end with the whole deal of 128 arcs, and nothing is found.
-fn is_whole(rt: &impl Abort, report: &str) {
-    assert_eq!(rt; report.matches(" conforming: Deal\n").count(), 32);
-    assert_eq!(rt; report.matches(" claim: accepted\n").count(), 128);
-    assert!(rt; report.ends_with("\nfindings 0\n"));
+/// How often a text has a part.
+fn count_of(text: &str, part: &str) -> usize {
+    text.matches(part).count()
+}
+
+/// Whether all 32 parties end with the whole deal of 128 arcs, and nothing is found.
+fn is_whole(report: &str) -> bool {
+    count_of(report, " conforming: Deal\n") == 32
+        && count_of(report, " claim: accepted\n") == 128
+        && report.ends_with("\nfindings 0\n")
 }
 
 /// What a check tells of 32 parties with 128 arcs.
 const CHECKED: &str = "done\nswap accepted\nneed 31\nopen by 64\nexpiry 128\nhorizon 130\n";
 
-/// An audit of the transcript of a job's run.
-fn audit_of(alloc: Global, job: &str) -> Result<String, Fail> {
-    let transcript = done(alloc, &["run", "--transcript"], job)?;
-    done(alloc, &["audit"], transcript.as_str())
+/// An audit of a transcript gives that report.
+fn is_audited_so(alloc: Global, transcript: &str, report: &str) -> Result<(), Fail> {
+    let audited = done(alloc, &["audit"], transcript)?;
+    asks(alloc, audited.as_str() == report, "audited", report.len())
 }
 
-/// A check of the job, and then its run's report and an audit of its transcript.
-fn reports_of(alloc: Global, job: &str) -> Result<(String, String), Fail> {
-    answers(alloc, "check", "128 arcs", job, CHECKED)?;
-    Ok((done(alloc, &["run"], job)?, audit_of(alloc, job)?))
+/// That report is whole, and an audit of the transcript of the job's run gives it.
+fn is_report_of(alloc: Global, job: &str, report: &str) -> Result<(), Fail> {
+    asks(alloc, is_whole(report), "a whole report", report.len())?;
+    let transcript = done(alloc, &["run", "--transcript"], job)?;
+    is_audited_so(alloc, transcript.as_str(), report)
+}
+
+/// A run of the job brings every deal, and an audit of its transcript tells the same.
+fn runs_whole(alloc: Global, job: &str) -> Result<(), Fail> {
+    let report = done(alloc, &["run"], job)?;
+    is_report_of(alloc, job, report.as_str())
 }
 
 fn made_ring(alloc: Global) -> Result<String, Fail> {
@@ -433,19 +476,24 @@ fn made_ring(alloc: Global) -> Result<String, Fail> {
 #[test]
 fn a_ring_of_32_parties_with_128_arcs(rt: HostRuntime) -> Result<(), Fail> {
     let job = made_ring(rt.alloc())?;
-    let (report, audited) = reports_of(rt.alloc(), job.as_str())?;
-    is_whole(&rt, report.as_str());
-    assert!(rt; audited.as_str() == report.as_str());
-    Ok(())
+    answers(rt.alloc(), "check", "128 arcs", job.as_str(), CHECKED)?;
+    runs_whole(rt.alloc(), job.as_str())
 }
 
-/// A race of it, and an audit of its transcript, end with 32 deals, and find nothing.
+/// A race of the job, and an audit of its transcript, end with 32 deals, and find nothing.
+fn races_whole<R: Threads + Wait + Sync>(rt: &R, alloc: Global, job: &str) -> Result<(), Fail> {
+    let ended = race_ends(rt, alloc, job, 1, &Program { alloc }, &Open)?;
+    let ends = ended.as_str();
+    asks(
+        alloc,
+        count_of(ends, "Deal") == 32 && ends.len() == 32 * 5 - 1,
+        ends,
+        32,
+    )
+}
+
 #[test]
 fn a_ring_of_32_parties_is_raced(rt: HostRuntime) -> Result<(), Fail> {
     let job = made_ring(rt.alloc())?;
-    let program = Program { alloc: rt.alloc() };
-    let ended = race_ends(&rt, rt.alloc(), job.as_str(), 1, &program, &Open)?;
-    assert_eq!(rt; ended.as_str().matches("Deal").count(), 32);
-    assert_eq!(rt; ended.as_str().len(), 32 * 5 - 1);
-    Ok(())
+    races_whole(&rt, rt.alloc(), job.as_str())
 }

@@ -1,11 +1,12 @@
 //! Three passes on threads of their own, and the ledger that they leave.
 
-ghost use Rattle.std.specs.Prelude.{◌≡◌, IfSome};
+ghost use Rattle.std.specs.Prelude.{◌≡◌};
 ghost use Rattle.swap_digraph.specs.Deal.{IsWellSized};
 ghost use Rattle.ledger_shared.specs.Value.{IsFirstAt, IsSecondAt};
-ghost use Rattle.shared_tests.specs.Stays.{Stays};
+ghost use Rattle.ledger_tests.specs.Stays.{Stays};
 
-use crate::passes::{make_all, shared_ledger, small_deal, tick_all};
+use crate::deals::small_deal;
+use crate::passes::{make_all, shared_ledger, tick_all};
 use crate::replayed::replays;
 use ledger_core::{EntryList, Ledger};
 use ledger_shared::{ClockPass, Pass, SharedLedger};
@@ -25,12 +26,12 @@ fn two_at_once<R: Threads + Wait + Sync>(
     ledger: &SharedLedger,
     pass: Pass,
     clock: ClockPass,
-) -> (Option<Pass>, Option<ClockPass>)
+) -> (Pass, ClockPass)
     requires sized { IsWellSized deal.now }
     requires pass { (pass.lock ≡ ledger.now.lock) × (pass.deal ≡ deal.now) × (pass.arc ≡ 0) }
     requires clock { clock.lock ≡ ledger.now.lock }
-    ensures pass { IfSome result.0 (λ p. Stays pass p) }
-    ensures clock { IfSome result.1 (λ p. p.lock ≡ clock.lock) }
+    ensures pass { Stays pass result.0 }
+    ensures clock { result.1.lock ≡ clock.lock }
 {
     thread::join(
         rt,
@@ -52,7 +53,7 @@ fn raced<R: Threads + Wait + Sync>(
     first: Pass,
     second: Pass,
     clock: ClockPass,
-) -> Option<Ledger>
+) -> Ledger
     requires sized { IsWellSized deal.now }
     requires first { IsFirstAt ledger.lock first × (first.deal ≡ deal.now) × (first.arc ≡ 0) }
     requires second { IsSecondAt ledger.lock second × (second.deal ≡ deal.now) × (second.arc ≡ 0) }
@@ -70,7 +71,7 @@ fn raced<R: Threads + Wait + Sync>(
         { two_at_once(rt, alloc, deal, shared, second, clock) },
     );
     let (second, clock) = rest;
-    Some(ledger.close(first?, second?, clock?))
+    ledger.close(first, second, clock)
 }
 
 /// The history has the replies of a ledger of one thread.
@@ -78,8 +79,8 @@ fn is_replayed(rt: &impl Abort, alloc: Global, deal: &Deal, history: &EntryList)
     requires { IsWellSized deal.now }
 {
     let entries = history.to_vec(alloc)?;
-    let plain = Ledger::new(alloc, deal, 0)?;
-    replays(rt, plain, &entries)
+    let mut plain = Ledger::new(alloc, deal, 0)?;
+    replays(rt, &mut plain, &entries)
 }
 
 /// The history that three threads leave has all their entries, and the replies of one thread.
@@ -99,8 +100,12 @@ fn is_left_of<R: Threads + Wait + Sync + Abort>(
     requires { IsWellSized deal.now }
 {
     let (ledger, first, second, clock) = shared_ledger(rt, alloc, deal)?;
-    let closed = raced(rt, alloc, deal, ledger, first, second, clock).ok_or("no memory")?;
-    is_left(rt, alloc, deal, closed)
+    is_left(
+        rt,
+        alloc,
+        deal,
+        raced(rt, alloc, deal, ledger, first, second, clock),
+    )
 }
 
 #[test]

@@ -4,10 +4,12 @@ ghost use Rattle.std.specs.Prelude.{◌≡◌, ◌∷◌, [], length, IfOk};
 ghost use Rattle.turn_lock.specs.Turns.{IsIdle};
 ghost use Rattle.swap_digraph.specs.Deal.{IsWellSized};
 
-use crate::passes::{shared_ledger, small_deal};
+use crate::deals::small_deal;
+use crate::passes::shared_ledger;
 use ledger_core::{Call, Entry, Ledger};
 use ledger_shared::{Pass, SharedLedger};
 use std::alloc::Global;
+use std::process::Abort;
 use std::sync::Wait;
 use std::sync::atomic::{AtomicU64, Ordering};
 use std::test::Fail;
@@ -87,6 +89,12 @@ fn keep_until<R: Wait>(
     answered
 }
 
+fn claims<R: Wait>(rt: &R, ledger: &SharedLedger, pass: &mut Pass) -> bool
+    requires { pass.old.lock ≡ ledger.now.lock }
+{
+    ledger.call(rt, pass, Call::Claim).is_ok()
+}
+
 /// Claims once the flag is set, and then sets the other.
 fn claim_after<R: Wait>(
     rt: &R,
@@ -97,18 +105,19 @@ fn claim_after<R: Wait>(
 )
     requires { pass.lock ≡ ledger.now.lock }
 {
-    if is_set(taken) && ledger.call(rt, &mut pass, Call::Claim).is_ok() {
+    if is_set(taken) && claims(rt, ledger, &mut pass) {
         done.store(1, Ordering::SeqCst);
     }
 }
 
-fn is_answered_beside<R: Threads + Wait + Sync>(
+/// A call on a ledger is answered beside the turn.
+fn is_answered_beside<R: Threads + Wait + Sync + Abort>(
     rt: &R,
     lock: &TurnLock<Held>,
     seat: TurnSeat<Held>,
     ledger: &SharedLedger,
     pass: Pass,
-) -> bool
+)
     requires lock { seat.table_id ≡ lock.now.lock }
     requires idle { IsIdle seat.me }
     requires pass { pass.lock ≡ ledger.now.lock }
@@ -125,30 +134,31 @@ fn is_answered_beside<R: Threads + Wait + Sync>(
             requires { (seat.table_id ≡ lock.now.lock) × IsIdle seat.me }
         { keep_until(rt, lock, seat, taken, done) },
     );
-    answered
+    assert!(rt; answered);
 }
 
-/// Whether a call on another ledger, shared anew, is answered beside the turn.
-fn is_answered<R: Threads + Wait + Sync>(
+/// The same on another ledger, shared anew.
+fn is_answered<R: Threads + Wait + Sync + Abort>(
     rt: &R,
     alloc: Global,
     deal: &Deal,
     lock: &TurnLock<Held>,
     seat: TurnSeat<Held>,
-) -> Result<bool, Fail>
+) -> Result<(), Fail>
     requires sized { IsWellSized deal.now }
     requires lock { seat.table_id ≡ lock.now.lock }
     requires idle { IsIdle seat.me }
 {
     let (ledger, pass, _, _) = shared_ledger(rt, alloc, deal)?;
-    Ok(is_answered_beside(rt, lock, seat, &ledger, pass))
+    is_answered_beside(rt, lock, seat, &ledger, pass);
+    Ok(())
 }
 
-fn is_answered_of<R: Threads + Wait + Sync>(
+fn is_answered_of<R: Threads + Wait + Sync + Abort>(
     rt: &R,
     alloc: Global,
     deal: &Deal,
-) -> Result<bool, Fail>
+) -> Result<(), Fail>
     requires { IsWellSized deal.now }
 {
     let (lock, seat) = locked(rt, alloc, deal)?;
@@ -158,6 +168,5 @@ fn is_answered_of<R: Threads + Wait + Sync>(
 #[test]
 fn a_call_is_answered_while_another_ledgers_turn_is_taken(rt: HostRuntime) -> Result<(), Fail> {
     let deal = small_deal(rt.alloc())?;
-    assert!(rt; is_answered_of(&rt, rt.alloc(), &deal)?);
-    Ok(())
+    is_answered_of(&rt, rt.alloc(), &deal)
 }
