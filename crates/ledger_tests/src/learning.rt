@@ -5,10 +5,10 @@ ghost use Rattle.swap_digraph.specs.Deal.{IsWellSized};
 ghost use Rattle.party_machine.specs.Machine.{new_machine};
 ghost use Rattle.ledger_tests.specs.UpTo.{IsLonger, IsUpTo};
 
-use crate::deals::small_deal;
 use escrow_core::Reply;
 use history_index::{Index, Steps};
 use ledger_core::{Facts, Ledger};
+use ledger_deals::small_deal;
 use party_machine::Machine;
 use party_wallet::Wallet;
 use std::alloc::Global;

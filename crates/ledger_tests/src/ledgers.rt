@@ -3,10 +3,10 @@
 ghost use Rattle.std.specs.Prelude.{◌<◌, length};
 ghost use Rattle.swap_digraph.specs.Deal.{IsWellSized};
 
-use crate::deals::small_deal;
 use escrow_core::{Reply, terms_of};
 use hashkey_path::Hashkey;
 use ledger_core::{Accounts, Call, Ledger, accounts_of, fits, is_adjacent};
+use ledger_deals::small_deal;
 use std::alloc::Global;
 use std::process::Abort;
 use std::test::Fail;

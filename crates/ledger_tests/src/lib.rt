@@ -1,10 +1,6 @@
-//! Tests of single ledgers, their entries and the indexes over them, of what a party learns, most as tables, and of ledgers on threads.
+//! Tests of single ledgers, their entries and the indexes over them, and of what a party learns, most as tables.
 #![tactic(auto)]
 
-#[cfg(test)]
-mod beside;
-#[cfg(test)]
-mod deals;
 #[cfg(test)]
 mod entries;
 #[cfg(test)]
@@ -14,12 +10,6 @@ mod learning;
 #[cfg(test)]
 mod ledgers;
 #[cfg(test)]
-mod passes;
-#[cfg(test)]
-mod raced;
-#[cfg(test)]
 mod random;
-#[cfg(test)]
-mod replayed;
 #[cfg(test)]
 mod replies;

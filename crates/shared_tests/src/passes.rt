@@ -3,11 +3,11 @@
 ghost use Rattle.std.specs.Prelude.{◌≡◌, ◌≤◌, IfOk};
 ghost use Rattle.swap_digraph.specs.Deal.{IsWellSized};
 ghost use Rattle.ledger_shared.specs.Value.{IsFirstAt, IsSecondAt};
-ghost use Rattle.ledger_tests.specs.Stays.{Stays};
+ghost use Rattle.shared_tests.specs.Stays.{Stays};
 
-use crate::deals::small_deal;
 use escrow_core::{Reply, terms_of};
 use ledger_core::{Call, Entry, Ledger, Sender, What, fits};
+use ledger_deals::small_deal;
 use ledger_shared::{ClockPass, Pass, SharedLedger, share};
 use std::alloc::Global;
 use std::process::Abort;

@@ -1,5 +1,5 @@
 use Rattle.std.proofs.Common.{◌≡◌}
-use Rattle.ledger_tests.proofs.passes.tick_all.Given as goal
+use Rattle.shared_tests.proofs.passes.tick_all.Given as goal
 
 abbrev pub invariant-ticks : goal.invariant-ticks
 invariant-ticks g l = l.pass.lock ≡ l.fn.pass.lock

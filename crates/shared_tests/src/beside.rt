@@ -4,9 +4,9 @@ ghost use Rattle.std.specs.Prelude.{◌≡◌, ◌∷◌, [], length, IfOk};
 ghost use Rattle.turn_lock.specs.Turns.{IsIdle};
 ghost use Rattle.swap_digraph.specs.Deal.{IsWellSized};
 
-use crate::deals::small_deal;
 use crate::passes::shared_ledger;
 use ledger_core::{Call, Entry, Ledger};
+use ledger_deals::small_deal;
 use ledger_shared::{Pass, SharedLedger};
 use std::alloc::Global;
 use std::process::Abort;

@@ -3,12 +3,12 @@
 ghost use Rattle.std.specs.Prelude.{◌≡◌};
 ghost use Rattle.swap_digraph.specs.Deal.{IsWellSized};
 ghost use Rattle.ledger_shared.specs.Value.{IsFirstAt, IsSecondAt};
-ghost use Rattle.ledger_tests.specs.Stays.{Stays};
+ghost use Rattle.shared_tests.specs.Stays.{Stays};
 
-use crate::deals::small_deal;
 use crate::passes::{make_all, shared_ledger, tick_all};
 use crate::replayed::replays;
 use ledger_core::{EntryList, Ledger};
+use ledger_deals::small_deal;
 use ledger_shared::{ClockPass, Pass, SharedLedger};
 use std::alloc::Global;
 use std::process::Abort;
