@@ -170,5 +170,5 @@ made_is_accepted seeds d k =
       id = sym (any_id (filled seeds d) (made_deal seeds d).id);
     }
 
-pub made_accepted : (seeds : List (Option (List ℕ))) (d copied e : Deal) → IsProposed d → copied ≡ d → e ≡ made_deal seeds copied → IsAccepted e
-made_accepted seeds d copied e k same is = subst IsAccepted (sym (is ∙ ap (made_deal seeds) same)) (made_is_accepted seeds d k)
+pub made_accepted : (seeds : List (Option (List ℕ))) (d e : Deal) → IsProposed d → e ≡ made_deal seeds d → IsAccepted e
+made_accepted seeds d e k is = subst IsAccepted (sym is) (made_is_accepted seeds d k)

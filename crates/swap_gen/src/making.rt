@@ -1,6 +1,6 @@
 //! A deal with all that its parties' seeds give.
 
-ghost use Rattle.std.specs.Prelude.{◌≡◌, ◌≤◌, ◌<◌, ℕ, IfOk, IsSome, None, length, map, slice_index, slice_index_or};
+ghost use Rattle.std.specs.Prelude.{◌≡◌, ◌≤◌, ◌<◌, ℕ, IfOk, OnOk, IsSome, None, length, map, slice_index, slice_index_or};
 ghost use Rattle.swap_digraph.specs.Deal.{leader_of};
 ghost use Rattle.swap_digraph.specs.Graph.{arcs};
 ghost use Rattle.swap_digraph.specs.declared.deal.Mode.TheVariants.{Timelocks};
@@ -66,22 +66,33 @@ fn all_timelocks(alloc: Global, deal: &Deal) -> Result<Listed<u32>, NoMemory>
     }
 }
 
-/// Fills in what the seeds give, where their public keys are at hand.
+/// Fills in what the seeds give, where their public keys are at hand. Want of memory may leave a part of it filled in.
 #[tactic(auto, unfolding(crate::specs::Made::made_deal))]
 pub(crate) fn fill(
     alloc: Global,
-    mut deal: Deal,
+    deal: &mut Deal,
     seeds: &[Option<Digest>],
     keys: Listed<Listed<Digest>>,
-) -> Result<Deal, NoMemory>
-    requires proposed { IsProposed deal }
-    requires keys { keys ≡ all_keys deal.mode seeds.now deal }
-    ensures { IfOk result (λ d. d ≡ made_deal seeds.now deal) }
+) -> Result<(), NoMemory>
+    requires proposed { IsProposed deal.old }
+    requires keys { keys ≡ all_keys deal.old.mode seeds.now deal.old }
+    ensures { OnOk result (deal.new ≡ made_deal seeds.now deal.old) }
 {
     deal.hashlocks = hashlocks_from(alloc, seeds, deal.leaders.as_slice())?;
     deal.keys = keys;
-    deal.timelocks = all_timelocks(alloc, &deal)?;
-    deal.id = deal_digest(&deal);
+    deal.timelocks = all_timelocks(alloc, deal)?;
+    deal.id = deal_digest(deal);
+    Ok(())
+}
+
+/// The job's deal with what its parties' seeds give.
+fn made_deal(alloc: Global, job: &Job) -> Result<Deal, NoMemory>
+    requires { IsProposed job.now.deal }
+    ensures { IfOk result (λ d. d ≡ made_deal job.now.seeds job.now.deal) }
+{
+    let keys = all_keys(alloc, job.seeds.as_slice(), &job.deal)?;
+    let mut deal = copy_deal(&job.deal)?;
+    fill(alloc, &mut deal, job.seeds.as_slice(), keys)?;
     Ok(deal)
 }
 
@@ -95,15 +106,13 @@ pub fn make(alloc: Global, job: &Job) -> Result<Job, NoMemory>
     // Each party's seed gives it what the deal states of it.
     ensures owned { IfOk result (λ j. (p : ℕ) → p < j.deal.graph.n → OwnsKeys j p) }
 {
-    let keys = all_keys(alloc, job.seeds.as_slice(), &job.deal)?;
-    let deal = fill(alloc, copy_deal(&job.deal)?, job.seeds.as_slice(), keys)?;
     Ok(Job {
         purpose: Purpose::Make,
-        deal,
         names: job.names.copy()?,
         roles: job.roles.copy()?,
         conforming: Listed::new(Vec::from_slice(alloc, job.conforming.as_slice())?),
         seeds: job.seeds.copy()?,
+        deal: made_deal(alloc, job)?,
         finish: job.finish,
     })
 }

@@ -125,11 +125,11 @@ pub(crate) fn plain_job(
 {
     Ok(Job {
         purpose: Purpose::Make,
-        deal: plain_deal(alloc, draws, parties)?,
         names: names(alloc, parties)?,
         roles: roles(alloc, parties)?,
         conforming: Listed::new(vec![in alloc; true; parties as usize]?),
         seeds: seeds(alloc, seed, parties)?,
+        deal: plain_deal(alloc, draws, parties)?,
         finish: Finish::Fair,
     })
 }

@@ -107,6 +107,11 @@ pub(crate) fn made_job(
 {
     let mut job = plain_job(alloc, draws, seed, parties)?;
     let KeyedWallets { wallets, keys } = wallets_for(alloc, &job)?;
-    job.deal = fill(alloc, job.deal, job.seeds.as_slice(), Listed::new(keys))?;
+    fill(
+        alloc,
+        &mut job.deal,
+        job.seeds.as_slice(),
+        Listed::new(keys),
+    )?;
     Ok(MadeJob { job, wallets })
 }

@@ -98,11 +98,11 @@ impl World {
     {
         let actors = actors_of(alloc, job, wallets)?;
         Ok(World {
-            deal: copy_deal(&job.deal)?,
             conforming: Listed::new(Vec::from_slice(alloc, job.conforming.as_slice())?),
             seeds: job.seeds.copy()?,
             roles: job.roles.copy()?,
             ledgers: ledgers_of(alloc, &job.deal)?,
+            deal: copy_deal(&job.deal)?,
             actors,
             askers: Past::new(),
             told: Past::new(),
@@ -431,6 +431,16 @@ impl World {
         self.ledgers[arc as usize].height()
     }
 
+    /// The ledgers, without taking memory.
+    fn into_ledgers(self) -> Vec<Ledger>
+        ensures value { map (λ l. l.history) result.items ≡ self.state.book }
+        ensures legal { IsLegalBook self.deal self.state.book }
+        ensures kept { IsKept (cast_at self) self.state.book }
+    {
+        let World { ledgers, .. } = self;
+        ledgers
+    }
+
     /// The book of the histories so far, also where memory ran out on the way.
     pub fn into_book(self, alloc: Global) -> Result<Book, NoMemory>
         ensures value { IfOk result (λ b. b.histories ≡ self.state.book) }
@@ -438,7 +448,7 @@ impl World {
         // Whatever the others do, every conforming party keeps its conduct.
         ensures kept { IsKept (cast_at self) self.state.book }
     {
-        let World { ledgers, .. } = self;
+        let ledgers = self.into_ledgers();
         Ok(Book {
             histories: histories_of(alloc, ledgers)?,
         })

@@ -19,8 +19,8 @@ fill-requires-clause-keys c =
 
 pub returns-clause-job : goal.returns-clause-job
 returns-clause-job c =
-    is_made c.args.seed c.args.parties c.in_ok-job.job c.in_ok-job.ensures.job c.as_slice.result.now c.in_ok-job-2.field-0 c.as_slice.ensures
-    c.in_ok-job-2.ensures
+    is_made c.args.seed c.args.parties c.in_ok-job.job c.in_ok-job.ensures.job c.as_slice.result.now c.fill.new.deal c.as_slice.ensures
+    c.in_ok-fill.ensures
 
 pub returns-clause-wallets : goal.returns-clause-wallets
 returns-clause-wallets c =
