@@ -1,9 +1,11 @@
 """Random jobs with their events, from a generator of numbers, and random edits of the texts that the program reads."""
 import json
+import os
 import re
 import sys
 
 sys.dont_write_bytecode = True
+sys.path.insert(1, os.path.join(os.path.dirname(os.path.abspath(__file__)), "..", "tests"))
 from signer import deal_id, hashkey, public_key, digest, secret_of
 
 # (few, so that their keys are made once)

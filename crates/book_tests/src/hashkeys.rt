@@ -13,16 +13,25 @@ use std::process::Abort;
 use std::test::Fail;
 use swap_base::{ArcId, Digest, Listed, PartyId, TryCopy};
 use swap_digraph::{Deal, path_limit};
-use swap_offer::{Prepared, read_header};
+use swap_offer::{HeaderFault, Prepared, read_header};
 
 /// The secret of the rings' leader.
 const SECRET: Digest = [9; 32];
 
-fn read(alloc: Global, header: &str) -> Result<Prepared, Fail>
+fn prepared(alloc: Global, header: &str) -> Result<Prepared, HeaderFault>
     ensures { IfOk result (λ p. IsWellSized p.job.deal) }
 {
-    let kit = Kit::new(alloc);
-    Ok(read_header(alloc, 1, header.as_bytes(), Purpose::Run, &kit)?)
+    read_header(alloc, 1, header.as_bytes(), Purpose::Run, &Kit::new(alloc))
+}
+
+/// The deal of an offer.
+fn read(alloc: Global, header: &str) -> Result<Deal, Fail>
+    ensures { IfOk result IsWellSized }
+{
+    match prepared(alloc, header) {
+        Ok(prepared) => Ok(prepared.job.deal),
+        Err(_) => Err("no deal".into()),
+    }
 }
 
 fn answer(rt: &impl Abort, deal: &Deal, arc: ArcId, key: &Hashkey) -> HashkeyAnswer
@@ -150,13 +159,13 @@ fn are_valid_around(rt: &impl Abort, alloc: Global, deal: &Deal) -> Result<(), F
 #[test]
 fn hashkeys_go_around(rt: HostRuntime) -> Result<(), Fail> {
     let ring = read(rt.alloc(), rings::three())?;
-    are_valid_around(&rt, rt.alloc(), &ring.job.deal)
+    are_valid_around(&rt, rt.alloc(), &ring)
 }
 
 #[test]
 fn a_hashkey_goes_around_the_longest_ring(rt: HostRuntime) -> Result<(), Fail> {
     let ring = read(rt.alloc(), rings::twenty_four())?;
-    is_valid_around(&rt, rt.alloc(), &ring.job.deal, 1, 24)
+    is_valid_around(&rt, rt.alloc(), &ring, 1, 24)
 }
 
 fn is_answered(rt: &impl Abort, deal: &Deal, arc: ArcId, key: &Hashkey, wanted: HashkeyAnswer)
@@ -224,12 +233,12 @@ fn finds_the_faults_around(rt: &impl Abort, alloc: Global, deal: &Deal) -> Resul
 #[test]
 fn the_first_fault_is_named(rt: HostRuntime) -> Result<(), Fail> {
     let ring = read(rt.alloc(), rings::three())?;
-    finds_the_faults_around(&rt, rt.alloc(), &ring.job.deal)
+    finds_the_faults_around(&rt, rt.alloc(), &ring)
 }
 
 fn digest_of(alloc: Global, header: &str) -> Result<Digest, Fail> {
-    let prepared = read(alloc, header)?;
-    Ok(deal_digest(&prepared.job.deal))
+    let deal = read(alloc, header)?;
+    Ok(deal_digest(&deal))
 }
 
 /// The digest of the offer's deal is that of the text.

@@ -1,17 +1,30 @@
-//! What is told of a book without a report, by calls that may answer that memory is wanting and that no run and no check makes.
+//! Calls of libraries that may answer that memory is wanting, and that the program never makes.
 
-ghost use Rattle.std.specs.Prelude.{◌≡◌, length};
-ghost use Rattle.swap_digraph.specs.Deal.{IsWellSized};
+ghost use Rattle.std.specs.Prelude.{◌≡◌, true, IfOk, All, length};
+ghost use Rattle.deviator_script.specs.Step.{IsEventOf};
 ghost use Rattle.ledger_core.specs.Book.{IsLegalBook};
+ghost use Rattle.offer_events.specs.Event.{needs_seeds};
+ghost use Rattle.offer_header.specs.Limits.{HoldsEach};
+ghost use Rattle.offer_header.specs.Names.{has_strategy};
+ghost use Rattle.party_wallet.specs.Wallets.{wallets_of};
+ghost use Rattle.swap_digraph.specs.Deal.{IsWellSized};
+ghost use Rattle.swap_offer.specs.Job.{IsWhole};
+ghost use Rattle.swap_offer.specs.Wallets.{HaveScripts, HaveWallets};
+ghost use Rattle.swap_rules.specs.Accepted.{IsAccepted};
 
-use deviator_script::Job;
+use crate::jobs;
+use deviator_script::{Event, Job, Kit, Purpose};
 use ledger_core::{Book, Scan};
-use outcome_rules::{Report, findings, unfinished};
+use outcome_rules::{findings, report_of, unfinished};
+use party_wallet::Wallet;
 use std::alloc::Global;
 use std::process::Abort;
 use std::test::Fail;
 use swap_digraph::Deal;
-use swap_rules::Finding;
+use swap_gen::generate;
+use swap_offer::{Prepared, next_event, read_header};
+use swap_world::World;
+use transcript_text::report_text;
 
 fn count_unfinished(alloc: Global, deal: &Deal, book: &Book) -> Result<usize, Fail>
     requires sized { IsWellSized deal.now }
@@ -39,29 +52,108 @@ fn reserve(rt: &impl Abort, alloc: Global, deal: &Deal) -> Result<(), Fail>
     Ok(())
 }
 
-/// How many ledgers a report tells to be unfinished.
-fn unfinished_in(report: &Report) -> usize {
-    report
-        .findings
-        .as_slice()
-        .iter()
-        .filter(|found| matches!(found, Finding::Unfinished(..)))
-        .count()
-}
-
-/// As many findings, and as many ledgers that are unfinished, as a report has; and a scan takes room.
-pub(crate) fn tell_the_same(
-    rt: &impl Abort,
-    alloc: Global,
-    job: &Job,
-    book: &Book,
-    report: &Report,
-) -> Result<(), Fail>
+/// Whether the report's text ends so.
+fn has_end(rt: &impl Abort, alloc: Global, job: &Job, book: &Book, end: &[u8]) -> Result<bool, Fail>
     requires sized { IsWellSized job.now.deal }
     requires legal { IsLegalBook job.now.deal book.now.histories }
     requires conforming { length job.now.conforming ≡ job.now.deal.graph.n }
 {
-    assert!(rt; count_unfinished(alloc, &job.deal, book)? == unfinished_in(report));
-    assert!(rt; count_findings(alloc, job, book)? == report.findings.len());
+    let report = report_of(alloc, &job.deal, &job.conforming, book)?;
+    assert!(rt; report.outcomes.len() <= 256);
+    Ok(
+        report_text(alloc, job, book, &report)?
+            .as_slice()
+            .ends_with(end),
+    )
+}
+
+/// The first ledger has ticked: no ledger has ended, and nothing else is found. A scan takes room.
+fn tells_of_little(rt: &impl Abort, alloc: Global, job: &Job, book: &Book) -> Result<(), Fail>
+    requires sized { IsWellSized job.now.deal }
+    requires legal { IsLegalBook job.now.deal book.now.histories }
+{
+    assert!(rt; job.conforming.len() == job.deal.graph.n() as usize);
+    assert!(rt; count_unfinished(alloc, &job.deal, book)? == 3);
+    assert!(rt; count_findings(alloc, job, book)? == 3);
+    assert!(rt;
+        has_end(
+            rt,
+            alloc,
+            job,
+            book,
+            b"\nunfinished 0 height 2\nunfinished 1 height 0\nunfinished 2 height 0\nfindings 3\n"
+        )?
+    );
     reserve(rt, alloc, &job.deal)
+}
+
+/// The book of these events.
+fn played(
+    alloc: Global,
+    job: &Job,
+    kit: &Kit,
+    wallets: Vec<Option<Wallet>>,
+    events: &[Event],
+) -> Result<Book, Fail>
+    requires whole { IsWhole job.now }
+    requires seeds { needs_seeds job.now.purpose ≡ true }
+    requires accepted { IsAccepted job.now.deal }
+    requires wallets { HaveWallets job.now }
+    requires scripts { HaveScripts job.now }
+    requires strategies { HoldsEach (has_strategy kit.now.names kit.now.strategies.items) job.now.roles }
+    requires made { wallets.items ≡ wallets_of job.now.deal job.now.conforming job.now.seeds }
+    requires events { All (IsEventOf job.now) events.now }
+    ensures { IfOk result (λ b. IsLegalBook job.now.deal b.histories) }
+{
+    let mut world = World::new(alloc, job, wallets)?;
+    world.run(kit, events)?;
+    Ok(world.into_book(alloc)?)
+}
+
+/// Tells of the book after a tick.
+fn tells(
+    rt: &impl Abort,
+    alloc: Global,
+    job: &Job,
+    kit: &Kit,
+    wallets: Vec<Option<Wallet>>,
+) -> Result<(), Fail>
+    requires whole { IsWhole job.now }
+    requires seeds { needs_seeds job.now.purpose ≡ true }
+    requires accepted { IsAccepted job.now.deal }
+    requires wallets { HaveWallets job.now }
+    requires scripts { HaveScripts job.now }
+    requires strategies { HoldsEach (has_strategy kit.now.names kit.now.strategies.items) job.now.roles }
+    requires made { wallets.items ≡ wallets_of job.now.deal job.now.conforming job.now.seeds }
+{
+    let events = [next_event(alloc, job, 0, 2, b"{\"tick\":0,\"by\":2}")?];
+    let book = played(alloc, job, kit, wallets, &events)?;
+    tells_of_little(rt, alloc, job, &book)
+}
+
+#[test]
+fn a_book_is_told_without_the_program(rt: HostRuntime) -> Result<(), Fail> {
+    let kit = Kit::new(rt.alloc());
+    let Prepared { job, wallets, .. } = read_header(
+        rt.alloc(),
+        1,
+        jobs::THREE.as_bytes(),
+        Purpose::Run,
+        &kit,
+    )?;
+    tells(&rt, rt.alloc(), &job, &kit, wallets)
+}
+
+/// How many parties the job of number 7 has, and how many events.
+fn counts_of_seven(alloc: Global) -> (u8, usize) {
+    match generate(alloc, 7, 6, 500) {
+        Ok((job, events)) => (job.deal.graph.n(), events.len()),
+        Err(_) => (0, 0),
+    }
+}
+
+#[test]
+fn a_number_gives_a_job_and_its_events(rt: HostRuntime) -> Result<(), Fail> {
+    assert!(rt; counts_of_seven(rt.alloc()) == (6, 500));
+    Ok(())
 }

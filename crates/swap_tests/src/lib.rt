@@ -1,25 +1,26 @@
-//! Tests of the program from an input's bytes to what is written, as tables.
+//! Tests of the whole program that need something within its process: a strategy or a gate of a test's own, a source that is watched, a call of a library.
+//! What is told of the program by texts alone is asked of the built program.
 #![tactic(auto)]
 
 #[cfg(test)]
-mod checks;
+mod attackers;
 #[cfg(test)]
-mod conforming;
+mod attacks;
 #[cfg(test)]
-mod fair;
+mod deals;
+#[cfg(test)]
+mod meetings;
 #[cfg(test)]
 mod names;
 #[cfg(test)]
 mod offers;
 #[cfg(test)]
-mod reasons;
+mod presenting;
 #[cfg(test)]
-mod replies;
+mod publishing;
 #[cfg(test)]
-mod replies_to_keys;
-#[cfg(test)]
-mod scripts;
-#[cfg(test)]
-mod strategies;
+mod runs;
 #[cfg(test)]
 mod streaming;
+#[cfg(test)]
+mod taking;

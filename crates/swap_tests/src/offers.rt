@@ -1,12 +1,12 @@
 //! Whole offers, read at once.
 
+use crate::deals::TIMELOCKS;
 use deviator_script::{Event, Job, Kit, Purpose};
 use refusals::Refusal;
 use std::alloc::Global;
 use std::test::Fail;
 use swap_base::Fault;
 use swap_offer::read_job;
-use table_runner::deals::TIMELOCKS;
 
 /// How many names are told, and how many events where the job is read.
 fn counts_of(read: &Result<(Job, Vec<Event>), Fault<Refusal>>) -> (usize, Option<usize>) {

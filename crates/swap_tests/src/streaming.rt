@@ -3,6 +3,8 @@
 ghost use Rattle.std.specs.Prelude.{◌≡◌, ℕ, IfOk, Some};
 ghost use Rattle.deviator_script.specs.View.{IsView, MayAnswer};
 
+use crate::deals::{HASHKEYS, edited};
+use crate::runs::{kit_with, words_of};
 use deviator_script::{Kit, Rule};
 use ledger_core::{Book, Call};
 use std::alloc::Global;
@@ -13,8 +15,6 @@ use swap_base::{ArcId, NoMemory, PartyId, Shared, TryCopy};
 use swap_digraph::Deal;
 use swap_io::{Failed, Source, TextSink, VecSource};
 use swap_main::{Status, swap_plain};
-use table_runner::deals::HASHKEYS;
-use table_runner::{edited, kit_with};
 
 /// Up to which byte a source may be asked before the first event is over.
 const NEAR: usize = 65_536;
@@ -42,18 +42,12 @@ impl Source for Watched {
     }
 }
 
-/// The job's events: the first asks carol's strategy, and 18,200 ticks follow.
-fn long_events(alloc: Global) -> Result<String, Fail> {
-    let ticks = "{\"tick\":0}\n".repeat(alloc, 18_200)?;
-    Ok(format!(in alloc; "{{\"act\":\"carol\"}}\n{ticks}")?)
-}
-
 /// A job of 200,000 bytes, whose first event asks carol's strategy.
 fn long_job(alloc: Global) -> Result<Vec<u8>, Fail> {
     let actor = r#""carol", => "carol","actor":{"strategy":"watcher"},"#;
-    let mut job = edited(alloc, HASHKEYS, actor)?;
-    job.push_str(long_events(alloc)?.as_str())?;
-    Ok(job.into_bytes())
+    let header = edited(alloc, HASHKEYS, actor)?;
+    let ticks = "{\"tick\":0}\n".repeat(alloc, 18_200)?;
+    Ok(format!(in alloc; "{header}{{\"act\":\"carol\"}}\n{ticks}")?.into_bytes())
 }
 
 /// The job as a source.
@@ -65,15 +59,8 @@ fn source(alloc: Global) -> Result<VecSource, Fail> {
     Ok(VecSource::new(job, 4096, Vec::new(alloc)))
 }
 
-/// The one word of a run.
-fn words(alloc: Global) -> Result<Vec<String>, Fail> {
-    let mut words = Vec::new(alloc);
-    words.push(String::from_str(alloc, "run")?)?;
-    Ok(words)
-}
-
-/// Whether what the program answers to such words names findings.
-fn names_findings(alloc: Global, words: &Vec<String>, kit: &Kit, source: &mut Watched) -> bool {
+/// Whether what the program answers to such words, without races, names findings.
+fn names_findings(alloc: Global, words: &Vec<String>, source: &mut Watched, kit: &Kit) -> bool {
     let mut sink = TextSink::new(alloc);
     matches!(
         swap_plain(alloc, words, source, &mut sink, kit),
@@ -81,22 +68,7 @@ fn names_findings(alloc: Global, words: &Vec<String>, kit: &Kit, source: &mut Wa
     )
 }
 
-/// Whether a run of what the source gives names findings.
-fn is_named(alloc: Global, kit: &Kit, source: &mut Watched) -> Result<bool, Fail> {
-    let words = words(alloc)?;
-    Ok(names_findings(alloc, &words, kit, source))
-}
-
-/// The same where the strategy `watcher` goes by that rule.
-fn is_named_by(alloc: Global, rule: Rule, source: &mut Watched) -> Result<bool, Fail>
-    requires callable { (d : _) (p t : ℕ) (k : _) → IsView d.now p k.now.histories → Rule.pre rule d p t k }
-    requires fits { (d : _) (p t : ℕ) (k : _) (r : _) → IsView d.now p k.now.histories → Rule.post rule d p t k r → IfOk r (MayAnswer d.now p) }
-{
-    let kit = kit_with(alloc, "watcher", rule)?;
-    is_named(alloc, &kit, source)
-}
-
-/// The same where it makes no call, and notes that the first flag is down.
+/// Whether a run of what the source gives names findings, where the strategy `watcher` makes no call, and notes that the first flag is down.
 fn is_named_early(
     alloc: Global,
     far: Shared<AtomicBool>,
@@ -116,17 +88,9 @@ fn is_named_early(
             Ok(None)
         },
     )?;
-    is_named_by(alloc, rule, source)
-}
-
-/// The same where the flags stay with who asks.
-fn run_early_from(
-    alloc: Global,
-    far: &Shared<AtomicBool>,
-    early: &Shared<AtomicBool>,
-    source: &mut Watched,
-) -> Result<bool, Fail> {
-    is_named_early(alloc, far.copy()?, early.copy()?, source)
+    let kit = kit_with(alloc, "watcher", rule)?;
+    let words = words_of(alloc, "run")?;
+    Ok(names_findings(alloc, &words, source, &kit))
 }
 
 /// The run of a long job, which names that no ledger ended.
@@ -140,7 +104,7 @@ fn run_early(
         given: 0,
         far: far.copy()?,
     };
-    run_early_from(alloc, far, early, &mut watched)
+    is_named_early(alloc, far.copy()?, early.copy()?, &mut watched)
 }
 
 #[test]

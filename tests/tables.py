@@ -1,0 +1,206 @@
+"""Tests that are rows of tables: each file of tables/ has some, but those of tables/fields.
+
+A table begins with a line `%% COMMAND: KIND of DEAL, DEAL`, behind which lines with `%` say what it shows. Each row is tested of each
+deal. In rows `<u+20>` stands for the character of that number, and other names in angle brackets for signatures.
+
+Tables of texts have cases, each of which begins with `== ` and its name:
+  cases    a line with edits of the deal, if any, a line `--`, events, a line `--`, and the answer. What a run answers is what an audit
+           of its transcript answers.
+  scripts  the name of a party, the moves of its script, a line `--`, and how a race ends in which it follows that script.
+  attacks  a line with edits, a line `--`, and the last lines of a run's report, or all. A race's report has the same lines but for heights.
+Others have a row a line, but those that begin with `#`:
+  refused  EDITS => REASON
+  accepted EDITS, after which a run goes on to its report
+  ends     EDITS => ENDS, how each party of a race ends, and then what is found
+  lines    EDITS => LINE, a line that an audit of the transcript tells. In the edits `\\n` stands for a line feed.
+  actors   ACTOR => WRITTEN, an actor of a plain job's second party, and how the made job writes it
+  sums     NUMBER PARTIES EVENTS ARCS LEADERS ENTRIES, numbers of a generated job, and what its summary counts
+  wrong    words that are no command's
+  found    SCHEDULE => NAMES => FINDINGS, a schedule in words (`findings.py`), who are taken as conforming, and what is found of them
+  ended    SCHEDULE => NAMES => LINES, the same, and the lines that end the report
+A row that is long goes on in lines that begin with four blanks.
+"""
+import os
+import re
+import sys
+from functools import partial
+
+sys.dont_write_bytecode = True
+from findings import report_of
+from program import HERE, must
+from races import ends_of, raced
+from texts import asked, deal, edited, is_wanted, signed, stored, table
+
+TICK = '{"tick":0}\n'
+REPORT = "swap report 1\n"
+
+
+# ---- cases
+
+
+def tested_case(program, command, text, case):
+    asked_for, _, wanted = case.rpartition("--\n")
+    edits, _, events = asked_for.partition("--\n")
+    job = signed(edited(text, edits.strip()) + events)
+    is_wanted(asked(program, [command], job), wanted)
+    if command == "run":
+        is_audited(program, job, wanted)
+
+
+def is_audited(program, job, wanted):
+    """The transcript of a run has its status, and an audit of it its status and report. A run that is refused has none."""
+    status, _, transcript = asked(program, ["run", "--transcript"], job).partition("\n")
+    must(status == wanted.partition("\n")[0], f"with a transcript: {status}")
+    if wanted.partition("\n")[2]:
+        is_wanted(asked(program, ["audit"], transcript), wanted)
+    else:
+        must(not transcript, "a transcript of what is refused")
+
+
+# ---- races
+
+
+def tested_end(program, _, text, row):
+    edits, _, wanted = row.rpartition(" => ")
+    is_wanted(ends_of(raced(program, edited(text, edits))) + "\n", wanted + "\n")
+
+
+def scripted(text, name, moves):
+    """The deal, in which the named party follows a script of such moves."""
+    return edited(text, f'"{name}", => "{name}","actor":{{"script":[{",".join(moves)}]}},')
+
+
+def tested_script(program, _, text, case):
+    script, _, wanted = case.rpartition("--\n")
+    name, *moves = script.splitlines()
+    is_wanted(ends_of(raced(program, scripted(text, name, moves))) + "\n", wanted)
+
+
+def without_heights(report):
+    return re.sub(r"(?m)^\d+ ", "", report)
+
+
+def tested_attack(program, _, text, case):
+    edits, _, wanted = case.partition("--\n")
+    job = edited(text, edits.strip())
+    report = asked(program, ["run"], job)
+    must(report.startswith("done\n" + REPORT) and report.endswith(wanted), f"a run:\n{report}")
+    is_wanted(without_heights("done\n" + raced(program, job)), without_heights(report))
+
+
+# ---- rows
+
+
+def with_tick(command, text):
+    """A job has one event for `run`, which rows may edit too."""
+    return text + TICK if command == "run" else text
+
+
+def tested_refusal(program, command, text, row):
+    edits, _, reason = row.rpartition(" => ")
+    is_wanted(asked(program, [command], edited(with_tick(command, text), edits)), f"swap: refused: {reason}\n")
+
+
+def tested_accepted(program, command, text, row):
+    answered = asked(program, [command], edited(with_tick(command, text), row))
+    must(answered.startswith("named\n" + REPORT), f"it answered:\n{answered}")
+
+
+def tested_line(program, command, text, row):
+    edits, _, line = row.rpartition(" => ")
+    answered = asked(program, [command], signed(edited(text, edits.replace("\\n", "\n"))))
+    must(line in answered.splitlines(), f"it answered:\n{answered}")
+    must(not answered.startswith("swap: ") or answered == line + "\n", f"more than its line:\n{answered}")
+
+
+def tested_actor(program, command, text, row):
+    actor, _, written = row.partition(" => ")
+    job = edited(text, f'{{"name":"bob", => {{"name":"bob","actor":{actor},')
+    made = edited(stored("plain.made"), f'"actor":"conforming","name":"bob" => "actor":{written},"name":"bob"')
+    is_wanted(asked(program, [command], job), "done\n" + made)
+
+
+def generated(number, parties, events, *more):
+    return ["gen", "--seed", number, "--parties", parties, "--events", events, *more]
+
+
+def summary(parties, events, arcs, leaders, entries):
+    return (
+        f"done\nswap summary 1\nparties {parties} arcs {arcs} leaders {leaders}\nevents {events} entries {entries} refused 0\n"
+        f"Deal {parties} NoDeal 0 FreeRide 0 Discount 0 Underwater 0\nfindings 0\n"
+    )
+
+
+def tested_sum(program, _, __, row):
+    """The summary of a number's job. The job itself is accepted, and its run finds nothing."""
+    number, *counts = row.split(" ")
+    is_wanted(asked(program, generated(number, *counts[:2], "--summary"), ""), summary(*counts))
+    made, _, job = asked(program, generated(number, *counts[:2]), "").partition("\n")
+    must(made == "done", f"a job of a number: {made}")
+    must(asked(program, ["check"], job).startswith("done\nswap accepted\n"), "it isn't accepted")
+    report = asked(program, ["run"], job)
+    must(report.startswith("done\n" + REPORT) and report.endswith("\nfindings 0\n"), "its run isn't done")
+
+
+def tested_words(program, _, __, row):
+    answered = asked(program, row.split(" "), stored("by_hand.job"))
+    must(answered.startswith("swap: wrong words\n"), f"it answered:\n{answered}")
+
+
+def told_of_schedule(program, text, row):
+    """A schedule's report, and the lines that a row wants of it."""
+    schedule, names, lines = row.split(" => ")
+    taken = [] if names == "nobody" else names.split(", ")
+    return report_of(program, text, schedule, taken), "" if lines == "nothing" else lines.replace(", ", "\n") + "\n"
+
+
+def tested_findings(program, _, text, row):
+    report, lines = told_of_schedule(program, text, row)
+    must(f"open\n{lines}unfinished " in report, f"its report:\n{report}")
+
+
+def tested_endings(program, _, text, row):
+    report, lines = told_of_schedule(program, text, row)
+    must(report.endswith(lines), f"its report:\n{report}")
+
+
+# ---- the tables
+
+CASES = {"cases": tested_case, "scripts": tested_script, "attacks": tested_attack}
+ROWS = {
+    "refused": tested_refusal, "accepted": tested_accepted, "ends": tested_end, "lines": tested_line,
+    "actors": tested_actor, "sums": tested_sum, "wrong": tested_words, "found": tested_findings, "ended": tested_endings,
+}  # fmt: skip
+
+
+def shown(text):
+    """The text with the characters that their numbers stand for."""
+    return re.sub(r"<u\+([0-9a-f]+)>", lambda found: chr(int(found[1], 16)), text)
+
+
+def cases_of(body):
+    return [case.partition("\n")[::2] for case in re.split(r"(?m)^== ", body)[1:]]
+
+
+def rows_of(body):
+    return [(row, row) for row in re.sub(r"\n {4,}", " ", body).split("\n") if row and not row.startswith("#")]
+
+
+def tables_of(name):
+    """The tables of a file: command, kind, deals and body of each."""
+    before, *parts = re.split(r"(?m)^%% (\S+): (\w+) of (.+)\n((?:%  .*\n)*)", table(name))
+    must(not before and not any(re.search(r"(?m)^%", body) for body in parts[4::5]), f"no head of a table in {name}")
+    return [(command, kind, deals.split(", "), shown(body)) for command, kind, deals, _, body in zip(*[iter(parts)] * 5)]
+
+
+def tested(kind, command, of, row, program):
+    (CASES | ROWS)[kind](program, command, deal(of), row)
+
+
+def tests():
+    """Each row of each table with the function that tests it."""
+    for name in sorted(file.removesuffix(".txt") for file in os.listdir(os.path.join(HERE, "tables")) if file.endswith(".txt")):
+        for command, kind, deals, body in tables_of(name):
+            for title, row in cases_of(body) if kind in CASES else rows_of(body):
+                for of in deals:
+                    yield f"{name}: {command} of {of}: {title}", partial(tested, kind, command, of, row)
