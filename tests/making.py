@@ -6,7 +6,7 @@ from hashlib import sha256
 
 sys.dont_write_bytecode = True
 from program import must
-from races import ends_of, raced
+from races import raced_ends
 from signer import deal_id
 from tables import generated, summary
 from texts import asked, deal, is_wanted, stored
@@ -96,7 +96,7 @@ def runs_the_largest_ring(program):
 
 def races_the_largest_ring(program):
     job = done(program, ["make"], ring(2, 32, 4))
-    is_wanted(ends_of(raced(program, job)), " ".join(32 * ["Deal"]))
+    is_wanted(raced_ends(program, job), " ".join(32 * ["Deal"]))
 
 
 REFUSED_RINGS = {

@@ -14,14 +14,28 @@ LATE = (
 )
 
 
+def must_be_safe(report):
+    """Nobody who conforms is underwater without being named."""
+    for name in re.findall(r"(?m)^party (.*) conforming: Underwater$", report):
+        must(re.search(rf"(?m)^(broke|late|forged) {re.escape(name)} ", report), f"{name} is underwater and isn't named")
+
+
 def raced(program, job, ticks=1):
-    """The report of a race, as an audit of its transcript tells it. Nobody who conforms is underwater without being named."""
+    """The report of a race, as an audit of its transcript tells it."""
     status, _, transcript = asked(program, ["race", "--ticks", str(ticks), "--transcript"], job).partition("\n")
     told, _, report = asked(program, ["audit"], transcript).partition("\n")
     must(status in ("done", "named") and told == status, f"a race's status {status}, and an audit's {told}")
-    for name in re.findall(r"(?m)^party (.*) conforming: Underwater$", report):
-        must(re.search(rf"(?m)^(broke|late|forged) {re.escape(name)} ", report), f"{name} is underwater and isn't named")
+    must_be_safe(report)
     return report
+
+
+def raced_ends(program, job):
+    """How races of a job end, as the report of one tells and an audit of another's transcript."""
+    report = asked(program, ["race", "--ticks", "1"], job)
+    must_be_safe(report)
+    told, audited = ends_of(report), ends_of(raced(program, job))
+    must(told == audited, f"a report tells {told}, and an audit {audited}")
+    return told
 
 
 def ending_of(line):

@@ -28,7 +28,7 @@ from functools import partial
 sys.dont_write_bytecode = True
 from findings import report_of
 from program import HERE, must
-from races import ends_of, raced
+from races import raced, raced_ends
 from texts import asked, deal, edited, is_wanted, signed, stored, table
 
 TICK = '{"tick":0}\n'
@@ -62,7 +62,7 @@ def is_audited(program, job, wanted):
 
 def tested_end(program, _, text, row):
     edits, _, wanted = row.rpartition(" => ")
-    is_wanted(ends_of(raced(program, edited(text, edits))) + "\n", wanted + "\n")
+    is_wanted(raced_ends(program, edited(text, edits)) + "\n", wanted + "\n")
 
 
 def scripted(text, name, moves):
@@ -73,7 +73,7 @@ def scripted(text, name, moves):
 def tested_script(program, _, text, case):
     script, _, wanted = case.rpartition("--\n")
     name, *moves = script.splitlines()
-    is_wanted(ends_of(raced(program, scripted(text, name, moves))) + "\n", wanted)
+    is_wanted(raced_ends(program, scripted(text, name, moves)) + "\n", wanted)
 
 
 def without_heights(report):
