@@ -9,7 +9,8 @@ from typing import NamedTuple
 sys.dont_write_bytecode = True
 
 HERE = os.path.dirname(os.path.abspath(__file__))
-BUILT = os.path.join(HERE, "..", "crates", "swap", "out", "swap")
+BUILT = os.path.join(HERE, "..", "out", "proved", "swap")
+UNPROVED = os.path.join(HERE, "..", "out", "unproved", "swap")
 MOST = 1 << 24
 # (more a socket may not take before anybody reads it)
 MOST_UNREAD = 50_000
