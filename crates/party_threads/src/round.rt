@@ -1,4 +1,4 @@
-//! A round: every ledger is shared, every party and the clock have their turns on threads of their own, and every ledger is closed.
+//! A round: every ledger is shared, every party and the clock have their turns, and every ledger is closed.
 
 ghost use Rattle.std.specs.Prelude.{◌≡◌, ◌<◌, ◌≤◌, ℕ, OnOk, length, slice_index_or, All, false, true};
 ghost use Rattle.swap_world.specs.Staff.{AreHeld};
@@ -72,7 +72,7 @@ fn take_turn<R: Wait, K: Strategies>(
     turn.failed = play(rt, job, kit, ledgers, ticks, v, turn).is_err();
 }
 
-/// Every actor's turn, each on a thread of its own.
+/// Every actor's turn, on at most 16 threads, each of which takes some that follow one another; or, in a quiet round, all on this one.
 fn take_turns<R: Threads + Wait + Sync, K: Strategies + Sync, G: Gate>(
     rt: &R,
     job: &Job,
@@ -81,6 +81,7 @@ fn take_turns<R: Threads + Wait + Sync, K: Strategies + Sync, G: Gate>(
     round: u32,
     ledgers: &[SharedLedger],
     ticks: u32,
+    quiet: bool,
     turns: &mut [Turn],
 )
     requires actors { 0 < length turns.old }
@@ -92,7 +93,7 @@ fn take_turns<R: Threads + Wait + Sync, K: Strategies + Sync, G: Gate>(
         → Took (K.gives kit.now) job.now ticks i (slice_index_or turns.old i t) (slice_index_or turns.new i t) }
     ensures number { length turns.new ≡ length turns.old }
 {
-    let threads = turns.len();
+    let threads = if quiet { 1 } else { turns.len().min(16) };
     thread::for_each_mut(
         rt,
         turns,
@@ -123,6 +124,7 @@ pub(crate) fn round<R: Threads + Wait + Sync, K: Strategies + Sync, G: Gate>(
     gate: &G,
     number: u32,
     ticks: u32,
+    quiet: bool,
     ledgers: &mut [Option<Ledger>],
     turns: &mut [Turn],
 ) -> Result<(), NoMemory>
@@ -136,7 +138,17 @@ pub(crate) fn round<R: Threads + Wait + Sync, K: Strategies + Sync, G: Gate>(
         (state_of job.now ledgers.new turns.new)) }
 {
     let shared = deal(rt, alloc, &job.deal, ledgers, turns)?;
-    take_turns(rt, job, kit, gate, number, shared.as_slice(), ticks, turns);
+    take_turns(
+        rt,
+        job,
+        kit,
+        gate,
+        number,
+        shared.as_slice(),
+        ticks,
+        quiet,
+        turns,
+    );
     let done = all_done(turns);
     close(&job.deal, shared, ledgers, turns);
     if done { Ok(()) } else { Err(NoMemory) }

@@ -69,7 +69,19 @@ fn rounds_for(deal: &Deal, ticks: u32) -> u32
     (horizon(deal.start, deal.delta, deal.bound) / ticks as u64 + 1) as u32
 }
 
-/// Rounds until each ledger is above the horizon.
+/// How many entries the ledgers have.
+fn entries_in(ledgers: &[Option<Ledger>]) -> usize {
+    let mut all = 0usize;
+    for ledger in ledgers {
+        if let Some(ledger) = ledger {
+            all = all.saturating_add(ledger.len() as usize);
+        }
+    }
+    all
+}
+
+/// Rounds until each ledger is above the horizon. A round is taken to be quiet where the one before it brought each ledger a tick and no call: hardly any
+/// actor then does more than look, which takes far less time than to start a thread.
 fn run_rounds<R: Threads + Wait + Sync, K: Strategies + Sync, G: Gate>(
     rt: &R,
     alloc: Global,
@@ -87,14 +99,19 @@ fn run_rounds<R: Threads + Wait + Sync, K: Strategies + Sync, G: Gate>(
     requires first { state_of job.now ledgers.old turns.old ≡ start (cast_of job.now) }
     ensures raced { OnOk result (IsRaced (K.gives kit.now) (cast_of job.now) ticks (rounds_for job.now.deal ticks) (state_of job.now ledgers.new turns.new)) }
 {
+    let mut quiet = false;
     'rounds: for number in 0..rounds_for(&job.deal, ticks) {
-        round(rt, alloc, job, kit, gate, number, ticks, ledgers, turns)?;
+        let before = entries_in(ledgers);
+        round(
+            rt, alloc, job, kit, gate, number, ticks, quiet, ledgers, turns,
+        )?;
+        quiet = entries_in(ledgers) <= before.saturating_add(ledgers.len());
     }
     Ok(())
 }
 
-/// Races a job: every party and the clock have a turn in each round, on threads of their own; strategies answer from the kit. It waits for locks and
-/// at the gate.
+/// Races a job: every party and the clock have a turn in each round, on threads unless the round is quiet; strategies answer from the
+/// kit. It waits for locks and at the gate.
 pub fn race<R: Threads + Wait + Sync, K: Strategies + Sync, G: Gate>(
     rt: &R,
     alloc: Global,
