@@ -9,9 +9,10 @@ use Rattle.swap_digraph.specs.Value.{Graph}
 use Rattle.swap_digraph.specs.Graph.{parties, is_path, has_arc, is_among, first_is, last_is, are_followers, IsPathBetween, IsFeedback}
 use Rattle.leader_check.specs.Followers.{is_follower}
 use Rattle.leader_check.specs.Cycles.{only_if, leads_into, first_step, walks, walk_of, cycle_of, cycle_from, follower_cycle, IsFollowerCycle}
+use Rattle.leader_check.specs.Cycles.{IsCycleThrough}
 use Rattle.leader_check.specs.Laws.{NoCycleIsFeedback}
 use Rattle.leader_check.proofs.Followers.{follower_parts, follower_from, arc_of, arc_from}
-use Rattle.swap_digraph.proofs.Paths.{path_step, path_more, path_below, path_length}
+use Rattle.swap_digraph.proofs.Paths.{path_step, path_more, path_below, path_length, some_length}
 
 -- The first answer along a range.
 
@@ -313,6 +314,102 @@ module _ (g : Graph) (ls : List ℕ) where
       by_option : (o : Option (List ℕ)) → ((c : List ℕ) → o ≡ Some c → ⊥) → o ≡ None
       by_option None h = refl
       by_option (Some c) h = absurd (h c refl)
+
+  -- A cycle through a given vertex.
+
+  walk_length : (f : ℕ → ℕ → Bool) (k u : ℕ) → length (walk_of g f k u) ≡ k
+  unfolding walk_of
+  walk_length f zero u = refl
+  walk_length f (suc k) u = ap (λ (n : ℕ). suc n) (walk_length f k (first_step g (f k) u))
+
+  cycle_walks : (v end : ℕ) (p : List ℕ) → IsPathBetween g v end p → are_followers ls p ≡ true → has_arc g end v ≡ true → walks g ls v (length p) v ≡ true
+  cycle_walks v end [] b o a = absurd (cc b.0)
+  cycle_walks v end (x ∷ q) b o a =
+      let same : x ≡ v = eqb-true x v b.1 in
+      let k = and_parts (not (is_among x ls)) (are_followers ls q) o in
+      let below = path_below g (x ∷ q) x b.0 (inl refl) in
+      subst (λ (y : ℕ). walks g ls y (suc (length q)) y ≡ true) same
+      (path_walks x q end x b.0 b.2 o (ap (has_arc g end) same ∙ a) (follower_from g ls x below k.0))
+
+  through_by_size : (v m : ℕ) (c : List ℕ) → (k : Closed v c) → k.size ≡ m → IsCycleThrough g ls v c
+  through_by_size v zero c k s = let l = k.low in absurd (omega arith)
+  through_by_size v (suc m) c k s =
+      let r = chain v m v (ap (λ j. walks g ls v j v) (sym s) ∙ k.walk) (λ j low below. k.shortest j low (omega arith)) in
+      let e : walk_of g (walks g ls v) (suc m) v ≡ c = ap (λ j. walk_of g (walks g ls v) j v) (sym s) ∙ k.is in
+      let h : Chain v v c = subst (Chain v v) e r in
+      let long : length c ≡ k.size = ap length (sym k.is) ∙ walk_length (walks g ls v) k.size v in
+      record {
+        last = h.end;
+        path = (h.path, h.first, h.last);
+        followers = h.followers;
+        closes = h.closes;
+        shortest = λ other end b o a. no_shorter other end long b o a (below_or (length other) k.size);
+      }
+    where
+      no_shorter : (other : List ℕ) (end : ℕ) → length c ≡ k.size → IsPathBetween g v end other → are_followers ls other ≡ true → has_arc g end v ≡ true
+          → (length other < k.size) ⊎ (k.size ≤ length other) → length c ≤ length other
+      no_shorter other end long b o a (inl lt) = absurd (k.shortest (length other) (some_length g other b.0) lt (cycle_walks v end other b o a))
+      no_shorter other end long b o a (inr le) = omega (arith, le, long)
+
+  pub through : (v : ℕ) (c : List ℕ) → cycle_from g ls v ≡ Some c → IsCycleThrough g ls v c
+  through v c e = let k = closed_from v c e in through_by_size v k.size c k refl
+
+  pub none_through : (v end : ℕ) (p : List ℕ) → cycle_from g ls v ≡ None → IsPathBetween g v end p → are_followers ls p ≡ true → has_arc g end v ≡ true → ⊥
+  none_through v end p none b o a = walk_found v (length p) (some_length g p b.0) (path_length g p b.0) (cycle_walks v end p b o a) none
+
+  -- A cycle that meets a vertex goes through it: from its first vertex on to v, and from v on to its end.
+  record Meets (v u w : ℕ) (size : ℕ) : Type 0 where
+    pub before : ℕ
+    pub after : List ℕ
+    pub to : walks g ls v before u ≡ true
+    pub on : is_path g (v ∷ after) ≡ true
+    pub last : last_is w (v ∷ after) ≡ true
+    pub followers : are_followers ls (v ∷ after) ≡ true
+    pub sum : before + suc (length after) ≡ size
+
+  meets : (v u w : ℕ) (q : List ℕ) → is_path g (u ∷ q) ≡ true → last_is w (u ∷ q) ≡ true → are_followers ls (u ∷ q) ≡ true → IsIn v (u ∷ q)
+      → Meets v u w (suc (length q))
+  meets v u w q e last o (inl s) =
+      let k = and_parts (not (is_among u ls)) (are_followers ls q) o in
+      let f = follower_from g ls u (path_below g (u ∷ q) u e (inl refl)) k.0 in
+      record {
+        before = 0;
+        after = q;
+        to = subst (λ (x : ℕ). walks g ls x 0 u ≡ true) (sym s) (walks-none u f);
+        on = subst (λ (x : ℕ). is_path g (x ∷ q) ≡ true) (sym s) e;
+        last = subst (λ (x : ℕ). last_is w (x ∷ q) ≡ true) (sym s) last;
+        followers = subst (λ (x : ℕ). are_followers ls (x ∷ q) ≡ true) (sym s) o;
+        sum = omega arith;
+      }
+  meets v u w [] e last o (inr i) = absurd i
+  meets v u w (x ∷ q) e last o (inr i) =
+      let s = path_step g u x q e in
+      let k = and_parts (not (is_among u ls)) (are_followers ls (x ∷ q)) o in
+      let m = meets v x w q s.rest last k.1 i in
+      let l = m.sum in
+      record {
+        before = suc m.before;
+        after = m.after;
+        to = walks-step v m.before u x (follower_from g ls u s.below k.0) s.arc m.to;
+        on = m.on;
+        last = m.last;
+        followers = m.followers;
+        sum = omega (arith, l);
+      }
+
+  pub none_meets : (v u w : ℕ) (p : List ℕ) → cycle_from g ls v ≡ None → IsPathBetween g u w p → are_followers ls p ≡ true → has_arc g w u ≡ true
+      → IsIn v p → ⊥
+  none_meets v u w [] none b o a i = absurd (cc b.0)
+  none_meets v u w (x ∷ q) none b o a i =
+      let same : x ≡ u = eqb-true x u b.1 in
+      let k = and_parts (not (is_among x ls)) (are_followers ls q) o in
+      let below = path_below g (x ∷ q) x b.0 (inl refl) in
+      let m = meets v x w q b.0 b.2 o i in
+      let l = m.sum in
+      let n = path_length g (x ∷ q) b.0 in
+      let back = path_walks v m.after w x m.on m.last m.followers (ap (has_arc g w) same ∙ a) (follower_from g ls x below k.0) in
+      let round = walks-join x v (suc (length m.after)) m.before (suc (length q)) v (omega (arith, l)) back m.to in
+      walk_found v (suc (length q)) (omega arith) (omega arith) round none
 
 pub no_cycle_is_feedback : NoCycleIsFeedback
 no_cycle_is_feedback g ls = (none_feedback g ls, feedback_none g ls)

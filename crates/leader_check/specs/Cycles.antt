@@ -74,3 +74,13 @@ pub record IsFollowerCycle (g : Graph) (leaders list : List ℕ) : Type 0 where
   pub followers : IsTrue (are_followers leaders list)
   pub closes : IsTrue (has_arc g last first)
   pub least : (v : ℕ) → IsIn v list → first ≤ v
+
+-- The list is a cycle of distinct followers that begins with v, and no such cycle is shorter.
+pub record IsCycleThrough (g : Graph) (leaders : List ℕ) (v : ℕ) (list : List ℕ) : Type 0 where
+  pub last : ℕ
+  -- distinct vertices, each with an arc to the next
+  pub path : IsPathBetween g v last list
+  pub followers : IsTrue (are_followers leaders list)
+  pub closes : IsTrue (has_arc g last v)
+  pub shortest : (other : List ℕ) (end : ℕ) → IsPathBetween g v end other → IsTrue (are_followers leaders other) → IsTrue (has_arc g end v)
+      → length list ≤ length other

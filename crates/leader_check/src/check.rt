@@ -1,6 +1,6 @@
 //! The check of leaders.
 
-ghost use Rattle.std.specs.Prelude.{◌≡◌, ◌≤◌, ◌<◌, ℕ, length, map, slice_index, IfOk};
+ghost use Rattle.std.specs.Prelude.{◌≡◌, ◌≤◌, ◌<◌, ◌↔◌, ℕ, true, not, length, map, slice_index, is_some, IfOk};
 ghost use Rattle.swap_digraph.specs.Graph.{parties, HasEnds, IsFeedback, IsHeight};
 ghost use Rattle.leader_check.specs.Levels.{level_of, height_of, IsLevel};
 ghost use Rattle.leader_check.specs.Cycles.{follower_cycle, IsFollowerCycle};
@@ -57,4 +57,26 @@ pub fn levels(alloc: Global, graph: &Digraph, leaders: &[PartyId]) -> Result<Lea
         Some(cycle) => Ok(LeaderAnswer::Cycle(cycle)),
         None => Ok(LeaderAnswer::Levels(with_greatest(row))),
     }
+}
+
+/// Whether the leaders are a feedback vertex set.
+pub fn is_feedback(alloc: Global, graph: &Digraph, leaders: &[PartyId]) -> Result<bool, NoMemory>
+    requires parties { graph.now.n ≤ 32 }
+    requires ends { HasEnds graph.now }
+    ensures exact { IfOk result (λ b. b ≡ not (is_some (follower_cycle graph.now leaders.now))) }
+    ensures feedback { IfOk result (λ b. (b ≡ true) ↔ IsFeedback graph.now leaders.now) }
+{
+    let row = level_row(alloc, graph, leaders)?;
+    Ok(!rise_on(alloc, graph, leaders, &row)?)
+}
+
+/// The greatest level: where the leaders are a feedback vertex set, the most vertices on a path of followers alone.
+pub fn height(alloc: Global, graph: &Digraph, leaders: &[PartyId]) -> Result<u8, NoMemory>
+    requires parties { graph.now.n ≤ 32 }
+    requires ends { HasEnds graph.now }
+    ensures exact { IfOk result (λ h. h ≡ height_of graph.now leaders.now) }
+    ensures height { IfOk result (λ h. IsFeedback graph.now leaders.now → IsHeight graph.now leaders.now h) }
+{
+    let row = level_row(alloc, graph, leaders)?;
+    Ok(with_greatest(row).h)
 }

@@ -1,12 +1,13 @@
 //! The search for a cycle of followers.
 
-ghost use Rattle.std.specs.Prelude.{◌≡◌, ◌==◌, ◌≤◌, ◌<◌, ◌+◌, ◌&&◌, ℕ, [], length, slice_index_or, IfOk};
+ghost use Rattle.std.specs.Prelude.{◌≡◌, ◌==◌, ◌≤◌, ◌<◌, ◌+◌, ◌&&◌, ℕ, List, [], length, slice_index_or, IfOk, IfSome, IfNone};
 ghost use Rattle.std.specs.Int.{bit_at};
 ghost use Rattle.std.specs.List.{range_with_len};
 ghost use Rattle.swap_base.specs.Lists.{first_of};
 ghost use Rattle.swap_digraph.specs.Graph.{parties, has_arc, HasEnds};
 ghost use Rattle.leader_check.specs.Followers.{is_follower, at};
-ghost use Rattle.leader_check.specs.Cycles.{has_bit, has_bit_in, leads_into, first_step, walk_of, cycle_by, follower_cycle, TellsWalks, TellAllWalks};
+ghost use Rattle.leader_check.specs.Cycles.{has_bit, has_bit_in, leads_into, first_step, walk_of, cycle_by, cycle_from, follower_cycle};
+ghost use Rattle.leader_check.specs.Cycles.{TellsWalks, TellAllWalks, IsCycleThrough};
 
 use crate::rounds::followers;
 use std::alloc::Global;
@@ -69,7 +70,7 @@ fn first_step(graph: &Digraph, row: &[u32], v: PartyId, u: PartyId) -> PartyId
 }
 
 /// For each party what the bits in the row of the vertices to which it has arcs hold.
-fn leads_each(alloc: Global, graph: &Digraph, row: &[u32]) -> Result<Vec<u32>, NoMemory>
+pub fn leads_each(alloc: Global, graph: &Digraph, row: &[u32]) -> Result<Vec<u32>, NoMemory>
     requires ends { HasEnds graph.now }
     requires row { length row.now ≡ graph.now.n }
     ensures parties { IfOk result (λ l. length l.items ≡ graph.now.n) }
@@ -204,4 +205,22 @@ pub fn follower_cycle(
         }
     }
     Ok(None)
+}
+
+/// A shortest cycle that begins with v and whose parties all follow.
+pub fn cycle_through(
+    alloc: Global,
+    graph: &Digraph,
+    leaders: &[PartyId],
+    v: PartyId,
+) -> Result<Option<PathList>, NoMemory>
+    requires parties { graph.now.n ≤ 32 }
+    requires ends { HasEnds graph.now }
+    requires v { v < graph.now.n }
+    ensures exact { IfOk result (λ o. o ≡ cycle_from graph.now leaders.now v) }
+    ensures cycle { IfOk result (λ o. IfSome o (λ list. IsCycleThrough graph.now leaders.now v list)) }
+    ensures none { IfOk result (λ o. IfNone o ((list : List ℕ) → IsCycleThrough graph.now leaders.now v list → ⊥)) }
+{
+    let rows = walk_rows(alloc, graph, leaders)?;
+    cycle_from(alloc, graph, &rows, v)
 }

@@ -9,6 +9,7 @@ mod laws;
 mod leader_answer;
 mod rounds;
 
-pub use check::levels;
+pub use check::{height, is_feedback, levels};
+pub use cycle::{cycle_through, leads_each};
 pub use laws::{greatest_level_is_height, no_cycle_is_feedback, paths_to_leaders_are_bounded};
 pub use leader_answer::{LeaderAnswer, Levels};

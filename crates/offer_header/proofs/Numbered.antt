@@ -113,7 +113,7 @@ fresh_name name seen none i lt e =
     let some : list_any (bytes_eq name) seen ≡ true = list_any_at (bytes_eq name) seen i [] lt same in
     cc (sym none ∙ some)
 
-keeps_names : (has : List ℕ → Bool) (line : ℕ) (all seen : List (List ℕ)) (p : RawParty) (t : List (List ℕ)) → AreNames seen
+pub keeps_names : (has : List ℕ → Bool) (line : ℕ) (all seen : List (List ℕ)) (p : RawParty) (t : List (List ℕ)) → AreNames seen
     → name_step has line all seen p ≡ Ok t → AreNames t
 keeps_names has line all seen p t names h =
     let r = name_step_ok has line all seen p t h in
@@ -135,10 +135,10 @@ are_names has line all parties names h =
 
 -- ---- numbers
 
-abbrev EndsBelow : ℕ → Ends → Type 0
+abbrev pub EndsBelow : ℕ → Ends → Type 0
 EndsBelow n e = (e.from < n) × (e.to < n)
 
-ends_below : (line : ℕ) (names : List (List ℕ)) (a : RawArc) (e : Ends) → ends_of line names a ≡ Ok e → EndsBelow (length names) e
+pub ends_below : (line : ℕ) (names : List (List ℕ)) (a : RawArc) (e : Ends) → ends_of line names a ≡ Ok e → EndsBelow (length names) e
 unfolding ends_of
 ends_below line names a e h =
     let one = went (party_of_name line names a.from) (λ from. party_of_name line names a.to >>= λ to. Ok (record { from = from; to = to })) e h in

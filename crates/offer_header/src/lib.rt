@@ -13,4 +13,5 @@ mod scripts;
 mod versions;
 
 pub use header::{Header, header_in};
-pub use raw::is_plain;
+pub use names::{Ends, add_name, ends_of, kept_names};
+pub use raw::{RawActor, RawArc, RawParty, Reading, is_plain};

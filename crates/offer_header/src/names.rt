@@ -173,8 +173,9 @@ fn check_actor(
     }
 }
 
+/// One more party's name, where it has the form of a name and no party before has it.
 #[tactic(auto, using(swap_base::proofs::Steps::any_map, std::proofs::lemmas::List::map_push), unfolding(crate::specs::Names::name_added))]
-fn add_name<'h>(
+pub fn add_name<'h>(
     alloc: Global,
     line: u32,
     names: &mut IndexSet<&'h [u8]>,
@@ -244,8 +245,9 @@ fn number_among(
     }
 }
 
+/// The ends of an arc by their parties' numbers.
 #[tactic(auto, unfolding(crate::specs::Names::ends_of))]
-fn ends_of(
+pub fn ends_of(
     alloc: Global,
     line: u32,
     names: &IndexSet<&[u8]>,
@@ -307,7 +309,8 @@ fn leaders_in(
     Ok(Listed::new(numbers))
 }
 
-fn kept_names(alloc: Global, names: &IndexSet<&[u8]>) -> Result<Listed<ByteText>, NoMemory>
+/// The names, as texts of their own.
+pub fn kept_names(alloc: Global, names: &IndexSet<&[u8]>) -> Result<Listed<ByteText>, NoMemory>
     ensures { IfOk result (λ l. l ≡ map (λ k. k.now) names.now.keys) }
 {
     let mut list = Vec::new(alloc);

@@ -11,7 +11,7 @@ use std::alloc::Global;
 use swap_base::NoMemory;
 
 /// Puts a field before the others, whose names are greater by their bytes.
-pub(crate) fn put_first(
+pub fn put_first(
     alloc: Global,
     fields: &mut Map<String, Value>,
     name: &str,
@@ -25,7 +25,7 @@ pub(crate) fn put_first(
 }
 
 /// Puts a text before the others.
-pub(crate) fn put_text(
+pub fn put_text(
     alloc: Global,
     fields: &mut Map<String, Value>,
     name: &str,
@@ -38,7 +38,7 @@ pub(crate) fn put_text(
 }
 
 /// Puts a number before the others.
-pub(crate) fn put_number(
+pub fn put_number(
     alloc: Global,
     fields: &mut Map<String, Value>,
     name: &str,

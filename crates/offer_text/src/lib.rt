@@ -12,4 +12,6 @@ mod shown;
 mod terms;
 mod words;
 
+pub use fields::{put_first, put_number, put_text};
 pub use header::write_deal;
+pub use words::text_of;

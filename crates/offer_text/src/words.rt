@@ -13,7 +13,7 @@ use std::str;
 use swap_base::{ByteText, Digest, NoMemory, PartyId};
 
 /// The bytes as text.
-pub(crate) fn text_of(bytes: &[u8]) -> &str
+pub fn text_of(bytes: &[u8]) -> &str
     requires { IsUtf8 bytes.now }
     ensures { result.now ≡ bytes.now }
 {

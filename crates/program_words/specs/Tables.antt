@@ -4,7 +4,7 @@ use Rattle.std.specs.Str.{bytes_eq}
 use Rattle.program_words.specs.declared.choice.Choice.{Choice}
 use Rattle.program_words.specs.declared.choice.Choice.TheVariants.{Ticks, Transcript, Seed, Parties, Events, Summary}
 use Rattle.program_words.specs.declared.verb.Verb.{Verb}
-use Rattle.program_words.specs.declared.verb.Verb.TheVariants.{Check, Run, Race, Audit, Make, Gen}
+use Rattle.program_words.specs.declared.verb.Verb.TheVariants.{Check, Run, Race, Audit, Make, Gen, Clear}
 
 -- the first words
 abbrev pub verb_of : List ℕ → Option Verb
@@ -14,6 +14,7 @@ verb_of word = if bytes_eq word (codes "check") then Some Check
     else if bytes_eq word (codes "audit") then Some Audit
     else if bytes_eq word (codes "make") then Some Make
     else if bytes_eq word (codes "gen") then Some Gen
+    else if bytes_eq word (codes "clear") then Some Clear
     else None
 
 -- the options that may follow each
@@ -24,6 +25,7 @@ choices Race = Ticks ∷ Transcript ∷ []
 choices Audit = []
 choices Make = []
 choices Gen = Seed ∷ Parties ∷ Events ∷ Summary ∷ []
+choices Clear = []
 
 -- and those that must
 abbrev pub needed : Verb → List Choice
@@ -33,6 +35,7 @@ needed Race = []
 needed Audit = []
 needed Make = []
 needed Gen = Seed ∷ Parties ∷ Events ∷ []
+needed Clear = []
 
 -- the options' names
 abbrev pub name_of : Choice → List ℕ

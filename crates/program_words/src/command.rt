@@ -18,6 +18,8 @@ pub enum Command {
     Audit,
     /// A plain job is read, and the made one is written.
     Make,
+    /// Proposed transfers are read, and those that can be swapped are written as plain jobs.
+    Clear,
     /// The job that a number gives is written, or run and its summary written.
     Gen {
         seed: u32,

@@ -76,6 +76,7 @@ fn command_for<'a>(alloc: Global, verb: Verb) -> Result<clap::Command<'a>, Alloc
         Verb::Audit => Ok(bare(alloc, "audit")),
         Verb::Make => Ok(bare(alloc, "make")),
         Verb::Gen => gen_command(alloc),
+        Verb::Clear => Ok(bare(alloc, "clear")),
     }
 }
 
@@ -149,6 +150,7 @@ fn command_in(verb: Verb, matches: &ArgMatches<'_>) -> Command
         Verb::Audit => Command::Audit,
         Verb::Make => Command::Make,
         Verb::Gen => gen_in(matches),
+        Verb::Clear => Command::Clear,
     }
 }
 

@@ -14,6 +14,7 @@ pub(crate) enum Verb {
     Audit,
     Make,
     Gen,
+    Clear,
 }
 
 /// The command that the first word asks for.
@@ -27,6 +28,7 @@ pub(crate) fn verb_of(word: &str) -> Option<Verb>
         "audit" => Some(Verb::Audit),
         "make" => Some(Verb::Make),
         "gen" => Some(Verb::Gen),
+        "clear" => Some(Verb::Clear),
         _ => None,
     }
 }
@@ -37,7 +39,7 @@ impl Verb {
         ensures { result.now ≡ choices self }
     {
         match self {
-            Verb::Check | Verb::Audit | Verb::Make => &[],
+            Verb::Check | Verb::Audit | Verb::Make | Verb::Clear => &[],
             Verb::Run => &[Choice::Transcript],
             Verb::Race => &[Choice::Ticks, Choice::Transcript],
             Verb::Gen => &[

@@ -10,7 +10,7 @@ mod reason;
 mod refusal;
 mod words;
 
-pub use line::refusal_line;
+pub use line::{put_names, refusal_line};
 pub use makers::{
     bad_name, duplicate, missing, over_limit, unknown, unknown_field, wrong_hex, wrong_kind,
 };

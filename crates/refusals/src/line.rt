@@ -29,8 +29,9 @@ fn put_further(out: &mut Vec<u8>, names: &[ByteText], parties: &[PartyId]) -> Re
     Ok(())
 }
 
+/// Appends the names of parties, joined by commas.
 #[tactic(auto, unfolding(crate::specs::Line::all_named))]
-fn put_names(out: &mut Vec<u8>, names: &[ByteText], parties: &[PartyId]) -> Result<(), NoMemory>
+pub fn put_names(out: &mut Vec<u8>, names: &[ByteText], parties: &[PartyId]) -> Result<(), NoMemory>
     ensures { OnOk result (out.new.items ≡ out.old.items ++ all_named names.now parties.now) }
 {
     match parties {
@@ -197,6 +198,12 @@ fn put_reason(out: &mut Vec<u8>, names: &[ByteText], reason: &Reason) -> Result<
             (*arc, *entry),
             *old,
             *new,
+        ),
+        Reason::TooManyLeaders(group, count) => put_two(
+            out,
+            "TooManyLeaders",
+            *group as u64,
+            *count as u64,
         ),
     }
 }

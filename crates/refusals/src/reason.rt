@@ -40,6 +40,8 @@ pub enum Reason {
     CutShort,
     /// The reply that was stated, and the one of the replay.
     BadReply(ArcId, u32, Reply, Reply),
+    /// The group of parties, and how many leaders it needs.
+    TooManyLeaders(u32, u32),
 }
 
 /// Why an offer gives no job: a reason, or want of memory.

@@ -8,3 +8,4 @@ pub mod Reading
 pub mod Saying
 pub mod Acting
 pub mod Audits
+pub mod Clearings

@@ -156,7 +156,7 @@ module _ (has : List ℕ → Bool) where
   -- What is said against an input.
 
   -- the end wasn't met before the first line
-  not_over_yet : (rest : List ℕ) → CanCome fresh rest
+  pub not_over_yet : (rest : List ℕ) → CanCome fresh rest
   not_over_yet rest over = absurd (cc over)
 
   -- it has no line

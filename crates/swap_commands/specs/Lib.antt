@@ -1,5 +1,6 @@
 pub mod Words
 pub mod Output
+pub mod Cleared
 pub mod Promised
 pub mod Faults
 pub mod Input

@@ -14,6 +14,8 @@ use Rattle.transcript_text.specs.Report.{report}
 use Rattle.transcript_lines.specs.Lines.{transcript as transcript_text}
 use Rattle.audit_command.specs.Output.{Written, audit_of}
 use Rattle.refusals.specs.declared.reason.Reason.{Reason}
+use Rattle.refusals.specs.declared.reason.Reason.TheVariants.{BadLine, NotJson}
+use Rattle.clear_text.specs.ClearedText.{cleared_line}
 use Rattle.refusals.specs.declared.refusal.Refusal.{Refusal}
 use Rattle.deviator_script.specs.declared.job.Purpose.{Purpose}
 use Rattle.swap_offer.specs.Checks.{need_of}
@@ -28,7 +30,7 @@ use Rattle.swap_run.specs.Fair.{finish}
 use Rattle.swap_world.specs.Cast.{cast_of}
 use Rattle.swap_world.specs.Gone.{Gives}
 use Rattle.swap_commands.specs.declared.words.Command.{Command}
-use Rattle.swap_commands.specs.declared.words.Command.TheVariants.{OfJob, Audit}
+use Rattle.swap_commands.specs.declared.words.Command.TheVariants.{OfJob, Audit, Clear}
 use Rattle.swap_commands.specs.declared.words.JobCommand.{JobCommand}
 use Rattle.swap_commands.specs.declared.words.JobCommand.TheVariants.{Check, Run, Race, Make}
 
@@ -111,6 +113,19 @@ output_for chance (Race ticks transcript) lines read = read >>= λ j. Ok (report
 output_for chance Check lines read = read >>= λ j. Ok (told j.0)
 output_for chance Make lines read = read >>= λ j. Ok (plain_text (made_text j.0 (drop 1 lines)))
 
+-- no further line
+abbrev pub alone : List (ℕ × List ℕ) → Result (Unit {0}) Reason
+alone [] = Ok tt
+alone (l ∷ ls) = Err (BadLine l.0)
+
+-- what is written of wishes, by the lines of their input, or the first reason why they are refused: the line's own first, and then a further line
+abbrev pub wishes_of : List (ℕ × List ℕ) → Result Written Reason
+wishes_of [] = Err (NotJson 1)
+wishes_of (l ∷ ls) = cleared_line l.0 l.1 >>= λ text. alone ls >>= λ u. Ok (plain_text text)
+
+unfoldable pub clear_output : List ℕ → Result Written Reason
+clear_output input = wishes_of (filled_lines 1 (lines_of input))
+
 -- the reason of a refusal
 abbrev pub by_reason : Result Written Refusal → Result Written Reason
 by_reason (Ok output) = Ok output
@@ -125,6 +140,7 @@ names_told (Err refusal) = refusal.names
 unfoldable pub output_by : (List ℕ → Bool) → Chance → Command → List ℕ → Result Written Reason
 output_by has chance (OfJob command) input = output_for chance command (filled_lines 1 (lines_of input)) (job_of has (purpose_of command) input)
 output_by has chance Audit input = by_reason (audit_of input)
+output_by has chance Clear input = clear_output input
 
 -- strategies that never call, and a race without a ledger
 abbrev pub no_chance : Chance
@@ -134,7 +150,9 @@ no_chance = by_answers (λ k. None)
 abbrev pub output_of : (List ℕ → Bool) → Command → List ℕ → Result Written Reason
 output_of has command input = output_by has no_chance command input
 
--- the names that the reason may speak of: those in the input's header, none where it has no header within its limits; of an audit those of the refusal
+-- the names that the reason may speak of: those in the input's header, none where it has no header within its limits; of an audit those of the refusal;
+-- none of wishes, since no reason against them speaks of a party by its number
 unfoldable pub names_of : (List ℕ → Bool) → Command → List ℕ → List (List ℕ)
 names_of has (OfJob command) input = names_of_offer has (purpose_of command) input
 names_of has Audit input = names_told (audit_of input)
+names_of has Clear input = []

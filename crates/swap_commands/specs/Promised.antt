@@ -23,10 +23,11 @@ use Rattle.audit_command.specs.Promised.{IsAudit}
 use Rattle.refusals.specs.declared.reason.Reason.{Reason}
 use Rattle.swap_offer.specs.Job.{job_of}
 use Rattle.party_threads.specs.Race.{IsRaceBook}
+use Rattle.swap_commands.specs.Cleared.{IsClearing}
 use Rattle.swap_commands.specs.Output.{AreGiven, Chance, book_of, state_of, purpose_of, report_for, reported, told}
 use Rattle.made_jobs.specs.Making.{IsMade}
 use Rattle.swap_commands.specs.declared.words.Command.{Command}
-use Rattle.swap_commands.specs.declared.words.Command.TheVariants.{OfJob, Audit}
+use Rattle.swap_commands.specs.declared.words.Command.TheVariants.{OfJob, Audit, Clear}
 use Rattle.swap_commands.specs.declared.words.JobCommand.{JobCommand}
 use Rattle.swap_commands.specs.declared.words.JobCommand.TheVariants.{Check, Run, Race, Make}
 
@@ -97,3 +98,4 @@ AsRead gives chance Make read output = IsMaking read output
 abbrev pub AsPromised : (List ℕ → Bool) → Gives → Chance → Command → List ℕ → Written → Type 0
 AsPromised has gives chance (OfJob command) input output = AsRead gives chance command (job_of has (purpose_of command) input) output
 AsPromised has gives chance Audit input output = IsAudit input output
+AsPromised has gives chance Clear input output = IsClearing input output

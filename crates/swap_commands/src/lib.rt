@@ -7,6 +7,7 @@
 
 mod audit;
 mod check;
+mod clear;
 mod fault;
 mod finish;
 mod generating;

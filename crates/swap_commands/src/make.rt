@@ -67,7 +67,7 @@ fn copy<S: Source>(
 }
 
 /// Writes a text.
-fn tell<K: Sink>(sink: &mut K, text: &[u8]) -> Status
+pub(crate) fn tell<K: Sink>(sink: &mut K, text: &[u8]) -> Status
     ensures { Writes (K.taken sink.old) (K.taken sink.new) (K.faults sink.old) (K.faults sink.new) (plain_text text.now) result }
 {
     match write_all(sink, text) {

@@ -8,6 +8,7 @@ ghost use Rattle.swap_commands.specs.Entered.{Obeys};
 
 use crate::audit::audit;
 use crate::check::check;
+use crate::clear::clear;
 use crate::input::Input;
 use crate::make::make;
 use crate::racing::enter;
@@ -101,6 +102,7 @@ impl Staff for Kit {
         match command {
             Command::OfJob(command) => read_job(alloc, self, command, source, sink),
             Command::Audit => Obeyed::Ended(audit(alloc, self, source, sink)),
+            Command::Clear => Obeyed::Ended(clear(alloc, self, source, sink)),
         }
     }
 }

@@ -21,11 +21,12 @@ pub enum JobCommand {
     Make,
 }
 
-/// A command that reads an input: a job, or a transcript.
+/// A command that reads an input: a job, a transcript, or wishes.
 #[derive(Clone, Copy, Debug, PartialEq, Eq)]
 pub enum Command {
     OfJob(JobCommand),
     Audit,
+    Clear,
 }
 
 /// The job of a number: it is written with so many events, or run and its summary written.
@@ -55,6 +56,7 @@ fn asked_task(asked: Asked) -> Task
             Task::Input(Command::OfJob(JobCommand::Race { ticks, transcript }))
         }
         Asked::Audit => Task::Input(Command::Audit),
+        Asked::Clear => Task::Input(Command::Clear),
         Asked::Make => Task::Input(Command::OfJob(JobCommand::Make)),
         Asked::Gen {
             seed,

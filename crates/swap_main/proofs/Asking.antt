@@ -32,6 +32,7 @@ task_within (asked.Race ticks transcript) w = w
 task_within asked.Audit w = tt
 task_within asked.Make w = tt
 task_within (asked.Gen seed parties events summary) w = (w.0, w.1)
+task_within asked.Clear w = tt
 
 -- the numbers of the words' task are within their ranges
 pub is_within : (words : List (List ℕ)) (task : Task) → task_of words ≡ Some task → IsWithin task

@@ -32,7 +32,7 @@ use Rattle.audit_command.specs.Output.{Written}
 use Rattle.swap_main.specs.Laws.{SameWithoutStrategies, RulesDecide}
 use Rattle.swap_main.specs.Staff.{by_rule}
 use Rattle.swap_commands.specs.Output.{AreGiven, Chance, cast_by, finished, output_by, output_for, reported, state_of}
-use Rattle.swap_commands.specs.declared.words.Command.TheVariants.{OfJob, Audit}
+use Rattle.swap_commands.specs.declared.words.Command.TheVariants.{OfJob, Audit, Clear}
 use Rattle.swap_commands.specs.declared.words.JobCommand.TheVariants.{Check, Run, Race, Make}
 
 -- What is written depends on the state alone.
@@ -188,3 +188,4 @@ rules_decide rule has a b (OfJob (Race ticks transcript)) input one other plain 
 rules_decide rule has a b (OfJob Check) input one other plain e p f q = as_one one other (sym e ∙ f)
 rules_decide rule has a b (OfJob Make) input one other plain e p f q = as_one one other (sym e ∙ f)
 rules_decide rule has a b Audit input one other plain e p f q = as_one one other (sym e ∙ f)
+rules_decide rule has a b Clear input one other plain e p f q = as_one one other (sym e ∙ f)

@@ -15,7 +15,7 @@ use Rattle.swap_commands.specs.declared.words.Command.{Command}
 use Rattle.swap_run.specs.Asked.{Answers}
 use Rattle.ledger_core.specs.Book.{Histories}
 use Rattle.swap_world.specs.Gone.{Gives}
-use Rattle.swap_commands.specs.declared.words.Command.TheVariants.{OfJob, Audit}
+use Rattle.swap_commands.specs.declared.words.Command.TheVariants.{OfJob, Audit, Clear}
 use Rattle.swap_commands.specs.declared.words.JobCommand.TheVariants.{Check, Run, Race, Make}
 use Rattle.swap_commands.specs.Words.{command_of}
 use Rattle.swap_offer.specs.Lines.{lines_of, filled_lines}
@@ -138,3 +138,4 @@ module _ (has : List ℕ → Bool) where
   fails_by a (OfJob Check) input reason e = e
   fails_by a (OfJob Make) input reason e = e
   fails_by a Audit input reason e = e
+  fails_by a Clear input reason e = e

@@ -25,7 +25,7 @@ use Rattle.swap_main.specs.Staff.{is_known}
 use Rattle.swap_commands.specs.declared.staff.Obeyed.{Obeyed}
 use Rattle.swap_commands.specs.declared.staff.Obeyed.TheVariants.{Ended, Entered}
 use Rattle.swap_commands.specs.declared.words.Command.{Command}
-use Rattle.swap_commands.specs.declared.words.Command.TheVariants.{OfJob, Audit}
+use Rattle.swap_commands.specs.declared.words.Command.TheVariants.{OfJob, Audit, Clear}
 use Rattle.swap_commands.specs.declared.words.JobCommand.TheVariants.{Check, Run, Race, Make}
 use Rattle.swap_commands.specs.declared.status.Status.{Status}
 use Rattle.swap_commands.specs.declared.status.Status.TheVariants.{Done, Named, WrongWords, Refused, ReadFault, WriteFault, NoMemory, TooLong}
@@ -102,6 +102,7 @@ module _ (gives other : Gives)
     promised_more a (OfJob Check) input output r = r
     promised_more a (OfJob Make) input output r = r
     promised_more a Audit input output r = r
+    promised_more a Clear input output r = r
 
     output_more : (P : Written → Type 0) (command : Command) (left left' : Option (List ℕ)) → HasOutput has gives P command left left'
         → HasOutput has other P command left left'

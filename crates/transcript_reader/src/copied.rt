@@ -42,6 +42,7 @@ fn copy_reason(reason: &Reason) -> Result<Reason, NoMemory>
         Reason::BadReply(arc, entry, stated, replayed) => Ok(Reason::BadReply(
             *arc, *entry, *stated, *replayed,
         )),
+        Reason::TooManyLeaders(group, count) => Ok(Reason::TooManyLeaders(*group, *count)),
     }
 }
 

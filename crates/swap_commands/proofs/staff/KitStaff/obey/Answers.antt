@@ -5,3 +5,6 @@ returns-in-OfJob g c = rw c.in-OfJob.is c.read_job.ensures
 
 pub returns-in-Audit : goal.returns-in-Audit
 returns-in-Audit g c = rw c.in-Audit.is c.audit.ensures
+
+pub returns-in-Clear : goal.returns-in-Clear
+returns-in-Clear g c = rw c.in-Clear.is c.clear.ensures

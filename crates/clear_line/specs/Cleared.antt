@@ -1,0 +1,89 @@
+-- What is cleared of a line of wishes, or the first reason why the line is refused.
+use Rattle.std.specs.Prelude.{◌==◌, ℕ, ◌<◌, nat_lt, List, length, position, Option, Some, None, Result, Ok, Err, if◌then◌else◌}
+use Rattle.swap_base.specs.Fault.{◌>>=◌}
+use Rattle.swap_base.specs.Lists.{IsIn}
+use Rattle.swap_base.specs.declared.fault.Fault.{Fault}
+use Rattle.swap_base.specs.declared.fault.Fault.TheVariants.{Refused, NoMemory}
+use Rattle.swap_digraph.specs.Value.{Graph}
+use Rattle.swap_digraph.specs.Graph.{IsStronglyConnected}
+use Rattle.refusals.specs.declared.reason.Reason.{Reason}
+use Rattle.refusals.specs.declared.reason.Reason.TheVariants as reasons
+use Rattle.swap_clear.specs.Proposals.{proposed_graph}
+use Rattle.swap_clear.specs.Clearing.{clearing_of}
+use Rattle.swap_clear.specs.Cyclic.{TellsLeftOut}
+use Rattle.swap_clear.specs.Together.{AreGroups}
+use Rattle.swap_clear.specs.Led.{own, IsLed, HasCycles, NoFewerLead, IsBound}
+use Rattle.swap_clear.specs.Ready.{MakesADeal}
+use Rattle.swap_clear.specs.declared.answer.Group.{Group}
+use Rattle.swap_clear.specs.declared.answer.Clearing.{Clearing}
+use Rattle.swap_clear.specs.declared.fault.ClearReason.{ClearReason}
+use Rattle.swap_clear.specs.declared.fault.ClearReason.TheVariants.{OutOfRange, SelfArc, TooManyLeaders}
+use Rattle.swap_clear.specs.declared.proposed.Proposed.{Proposed}
+use Rattle.clear_line.specs.Limits.{wishes_of}
+use Rattle.clear_line.specs.declared.limits.Wishes.{Wishes}
+use Rattle.clear_line.specs.declared.cleared.Cleared.{Cleared}
+
+-- the least arc that leads from a party to itself
+abbrev pub first_self : List Proposed → Option ℕ
+first_self arcs = position (λ p. p.from == p.to) arcs
+
+abbrev pub unless_self : Option ℕ → Result (Unit {0}) Reason
+unless_self None = Ok tt
+unless_self (Some arc) = Err (reasons.SelfArc arc)
+
+-- no arc leads from a party to itself
+unfoldable pub without_self_arcs : List Proposed → Result (Unit {0}) Reason
+without_self_arcs arcs = unless_self (first_self arcs)
+
+-- the start is at least delta
+unfoldable pub started : (start delta : ℕ) → Result (Unit {0}) Reason
+started start delta = if nat_lt start delta then Err (reasons.StartTooSoon start delta) else Ok tt
+
+-- A reason of the proposals. The ends of a line's arcs are parties, and none leads from a party to itself, so that the first two never come.
+abbrev pub reason_of : ClearReason → Reason
+reason_of (OutOfRange arc) = reasons.SelfArc arc
+reason_of (SelfArc arc) = reasons.SelfArc arc
+reason_of (TooManyLeaders group count) = reasons.TooManyLeaders group count
+
+abbrev pub fault_of : Fault ClearReason → Fault Reason
+fault_of (Refused reason) = Refused (reason_of reason)
+fault_of NoMemory = NoMemory
+
+-- an arc that a reason names has a small number
+abbrev pub small : ClearReason → Type 0
+small (OutOfRange arc) = arc < 256
+small (SelfArc arc) = arc < 256
+small (TooManyLeaders group count) = Unit {0}
+
+abbrev pub by_clearing : {A : Type 0} → Result A ClearReason → Result A Reason
+by_clearing (Ok x) = Ok x
+by_clearing (Err reason) = Err (reason_of reason)
+
+-- what of the wishes can be swapped: first the ends of the arcs, then the start, then the leaders
+unfoldable pub clearing_for : Wishes → Result Clearing Reason
+clearing_for w = do
+  u ← without_self_arcs w.arcs
+  v ← started w.start w.delta
+  by_clearing (clearing_of (length w.names) w.arcs)
+
+-- what is cleared of a line, or the first reason why it is refused
+unfoldable pub cleared_of : ℕ → List ℕ → Result Cleared Reason
+cleared_of line text = do
+  wishes ← wishes_of line text
+  clearing ← clearing_for wishes
+  Ok (record { wishes = wishes; clearing = clearing })
+
+-- What holds of a clearing of proposals: what is left out lies on no cycle, and each group makes a deal.
+pub record IsShown (g : Graph) (arcs : List Proposed) (c : Clearing) : Type 0 where
+  pub left_out : TellsLeftOut g c.left_out
+  pub groups : AreGroups g c.groups
+  pub strong : (group : Group) → IsIn group c.groups → IsStronglyConnected (own g group)
+  pub leaders : (group : Group) → IsIn group c.groups → IsLed g group
+  pub cycles : (group : Group) → IsIn group c.groups → HasCycles g group
+  pub no_fewer : (group : Group) → IsIn group c.groups → NoFewerLead g group
+  pub bound : (group : Group) → IsIn group c.groups → IsBound g group
+  pub ready : (group : Group) → IsIn group c.groups → MakesADeal g arcs group
+
+-- what is cleared of wishes shows so
+abbrev pub Shows : Cleared → Type 0
+Shows c = IsShown (proposed_graph (length c.wishes.names) c.wishes.arcs) c.wishes.arcs c.clearing

@@ -1,0 +1,4 @@
+pub mod Fields
+pub mod Names
+pub mod Limits
+pub mod Cleared

@@ -1,0 +1,62 @@
+-- The limits of a line of wishes, and the wishes that it gives.
+use Rattle.std.specs.Prelude.{ℕ, ◌^◌, ◌<◌, ◌≤◌, List, codes, length, slice_index_or, Result, Ok}
+use Rattle.swap_base.specs.Fault.{◌>>=◌}
+use Rattle.refusals.specs.declared.reason.Reason.{Reason}
+use Rattle.offer_fields.specs.Fields.{object_of}
+use Rattle.offer_fields.specs.Limits.{number_within, within}
+use Rattle.offer_fields.specs.Lists.{each_of}
+use Rattle.offer_header.specs.Names.{AreNames}
+use Rattle.swap_clear.specs.Ready.{AreAmounts}
+use Rattle.swap_clear.specs.declared.proposed.Proposed.{Proposed}
+use Rattle.clear_line.specs.Fields.{raw_of}
+use Rattle.clear_line.specs.Names.{numbered_of}
+use Rattle.clear_line.specs.declared.fields.RawWishes.{RawWishes}
+use Rattle.clear_line.specs.declared.names.Numbered.{Numbered}
+use Rattle.clear_line.specs.declared.names.NumberedArc.{NumberedArc}
+use Rattle.clear_line.specs.declared.limits.Wishes.{Wishes}
+
+-- a proposed transfer
+unfoldable pub proposed_of : ℕ → NumberedArc → Result Proposed Reason
+proposed_of line a = do
+  u ← within line (codes "amount") 1 (10 ^ 12) a.amount
+  Ok (record { from = a.ends.from; to = a.ends.to; amount = a.amount })
+
+-- the start and delta
+unfoldable pub times_of : ℕ → RawWishes → Result (ℕ × ℕ) Reason
+times_of line w = do
+  start ← number_within line (codes "start") 1 1000 w.start
+  delta ← number_within line (codes "delta") 1 100 w.delta
+  Ok (start, delta)
+
+-- the lengths of the lists, and then each arc
+unfoldable pub proposals_of : ℕ → Numbered → Result (List Proposed) Reason
+proposals_of line numbered = do
+  u ← within line (codes "parties") 2 32 (length numbered.names)
+  v ← within line (codes "arcs") 1 128 (length numbered.arcs)
+  each_of (proposed_of line) numbered.arcs
+
+-- the wishes that fields give: the names first, and then the limits
+unfoldable pub wishes_by : ℕ → RawWishes → Result Wishes Reason
+wishes_by line w = do
+  numbered ← numbered_of line w
+  times ← times_of line w
+  arcs ← proposals_of line numbered
+  Ok (record { start = times.0; delta = times.1; names = numbered.names; arcs = arcs })
+
+-- the wishes that a line gives, or the first reason why it is refused
+unfoldable pub wishes_of : ℕ → List ℕ → Result Wishes Reason
+wishes_of line text = do
+  object ← object_of line text
+  raw ← raw_of line object
+  wishes_by line raw
+
+-- Wishes within their limits.
+pub record IsWithin (w : Wishes) : Type 0 where
+  pub start : (1 ≤ w.start) × (w.start ≤ 1000)
+  pub delta : (1 ≤ w.delta) × (w.delta ≤ 100)
+  pub parties : (2 ≤ length w.names) × (length w.names ≤ 32)
+  pub names : AreNames w.names
+  pub arcs : (1 ≤ length w.arcs) × (length w.arcs ≤ 128)
+  pub from : (a : ℕ) (d : Proposed) → a < length w.arcs → (slice_index_or w.arcs a d).from < length w.names
+  pub to : (a : ℕ) (d : Proposed) → a < length w.arcs → (slice_index_or w.arcs a d).to < length w.names
+  pub amounts : AreAmounts w.arcs

@@ -1,0 +1,40 @@
+-- The names of a line of wishes, and the numbers that stand for them.
+use Rattle.std.specs.Prelude.{ℕ, ◌<◌, List, [], length, slice_index_or, None, Result, Ok}
+use Rattle.swap_base.specs.Fault.{◌>>=◌, steps}
+use Rattle.refusals.specs.declared.reason.Reason.{Reason}
+use Rattle.offer_fields.specs.Lists.{each_of}
+use Rattle.offer_header.specs.Names.{ends_of, name_added}
+use Rattle.offer_header.specs.declared.raw.RawActor.TheVariants.{Conforming}
+use Rattle.offer_header.specs.declared.raw.RawParty.{RawParty}
+use Rattle.offer_header.specs.declared.raw.RawArc.{RawArc}
+use Rattle.clear_line.specs.declared.fields.RawWishes.{RawWishes}
+use Rattle.clear_line.specs.declared.names.Numbered.{Numbered}
+use Rattle.clear_line.specs.declared.names.NumberedArc.{NumberedArc}
+
+-- the party of that name in a header
+abbrev pub party_named : List ℕ → RawParty
+party_named name = record { name = name; actor = Conforming; seed = None }
+
+-- one more name, as in a header
+abbrev pub name_step : ℕ → List (List ℕ) → List ℕ → Result (List (List ℕ)) Reason
+name_step line names name = name_added line names (party_named name)
+
+-- an arc by its parties' numbers
+unfoldable pub numbered_arc : ℕ → List (List ℕ) → RawArc → Result NumberedArc Reason
+numbered_arc line names a = do
+  ends ← ends_of line names a
+  Ok (record { ends = ends; amount = a.amount })
+
+-- the names in their order, then the ends of the arcs
+unfoldable pub numbered_of : ℕ → RawWishes → Result Numbered Reason
+numbered_of line w = do
+  names ← steps (name_step line) [] w.parties
+  arcs ← each_of (numbered_arc line names) w.arcs
+  Ok (record { names = names; arcs = arcs })
+
+abbrev pub IsBelow : ℕ → NumberedArc → Type 0
+IsBelow n a = (a.ends.from < n) × (a.ends.to < n)
+
+-- each end is the number of a party
+abbrev pub AreEndsBelow : Numbered → Type 0
+AreEndsBelow numbered = (a : ℕ) (d : NumberedArc) → a < length numbered.arcs → IsBelow (length numbered.names) (slice_index_or numbered.arcs a d)

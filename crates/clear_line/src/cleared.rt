@@ -1,0 +1,93 @@
+//! What is cleared of a line of wishes.
+
+ghost use Rattle.std.specs.Prelude.{◌≡◌, ◌<◌, ◌≤◌, length, position, IfOk};
+ghost use Rattle.swap_base.specs.Fault.{Gives};
+ghost use Rattle.swap_clear.specs.Refused.{IfRefused};
+ghost use Rattle.clear_line.specs.Cleared.{cleared_of, clearing_for, fault_of, first_self, small, started, without_self_arcs, Shows};
+ghost use Rattle.clear_line.specs.Limits.{IsWithin};
+
+use crate::limits::{Wishes, wishes_in};
+use refusals::{OfferFault, Reason};
+use std::alloc::Global;
+use swap_base::{ArcId, Fault};
+use swap_clear::{ClearFault, ClearReason, Clearing, Proposed, clear};
+
+/// Wishes, and what of them can be swapped.
+#[derive(Drop)]
+pub struct Cleared {
+    pub wishes: Wishes,
+    pub clearing: Clearing,
+}
+
+/// The least arc that leads from a party to itself.
+fn first_self(arcs: &[Proposed]) -> Option<usize>
+    ensures { result ≡ first_self arcs.now }
+{
+    arcs.iter().position(|arc| arc.from == arc.to)
+}
+
+/// No arc leads from a party to itself.
+#[tactic(auto, unfolding(crate::specs::Cleared::without_self_arcs))]
+fn without_self_arcs(arcs: &[Proposed]) -> Result<(), OfferFault>
+    requires { length arcs.now ≤ 128 }
+    ensures { Gives (λ u. u) result (without_self_arcs arcs.now) }
+{
+    match first_self(arcs) {
+        None => Ok(()),
+        Some(arc) => Err(Fault::Refused(Reason::SelfArc(arc as ArcId))),
+    }
+}
+
+/// The start is at least delta.
+#[tactic(auto, unfolding(crate::specs::Cleared::started))]
+fn started(start: u32, delta: u32) -> Result<(), OfferFault>
+    ensures { Gives (λ u. u) result (started start delta) }
+{
+    if start < delta {
+        return Err(Fault::Refused(Reason::StartTooSoon(start as u64, delta as u64)));
+    }
+    Ok(())
+}
+
+fn fault_of(fault: ClearFault) -> OfferFault
+    requires { IfRefused fault small }
+    ensures { result ≡ fault_of fault }
+{
+    match fault {
+        Fault::Refused(ClearReason::OutOfRange(arc)) => Fault::Refused(Reason::SelfArc(
+            arc as ArcId,
+        )),
+        Fault::Refused(ClearReason::SelfArc(arc)) => Fault::Refused(Reason::SelfArc(arc as ArcId)),
+        Fault::Refused(ClearReason::TooManyLeaders(group, count)) => {
+            Fault::Refused(Reason::TooManyLeaders(group, count))
+        }
+        Fault::NoMemory => Fault::NoMemory,
+    }
+}
+
+/// What of the wishes can be swapped, or the first reason against them.
+#[tactic(auto, unfolding(crate::specs::Cleared::clearing_for))]
+fn clearing_for(alloc: Global, wishes: &Wishes) -> Result<Clearing, OfferFault>
+    requires { IsWithin wishes.now }
+    ensures exact { Gives (λ c. c) result (clearing_for wishes.now) }
+    ensures shows { IfOk result (λ c. Shows (record { wishes = wishes.now; clearing = c })) }
+{
+    without_self_arcs(wishes.arcs.as_slice())?;
+    started(wishes.start, wishes.delta)?;
+    match clear(alloc, wishes.names.len() as u8, wishes.arcs.as_slice()) {
+        Ok(clearing) => Ok(clearing),
+        Err(fault) => Err(fault_of(fault)),
+    }
+}
+
+/// What is cleared of a line's wishes, or the first reason why the line is refused.
+#[tactic(auto, unfolding(crate::specs::Cleared::cleared_of))]
+pub fn cleared_in(alloc: Global, line: u32, text: &[u8]) -> Result<Cleared, OfferFault>
+    ensures exact { Gives (λ c. c) result (cleared_of line text.now) }
+    ensures within { IfOk result (λ c. IsWithin c.wishes) }
+    ensures shows { IfOk result Shows }
+{
+    let wishes = wishes_in(alloc, line, text)?;
+    let clearing = clearing_for(alloc, &wishes)?;
+    Ok(Cleared { wishes, clearing })
+}

@@ -1,0 +1,84 @@
+//! The fields of a line of wishes, in the order in which they are examined.
+
+ghost use Rattle.std.specs.Prelude.{codes};
+ghost use Rattle.serde_json.specs.View.{view};
+ghost use Rattle.swap_base.specs.Fault.{Gives};
+ghost use Rattle.offer_fields.specs.Fields.{list_at, member_text_of, only};
+ghost use Rattle.clear_line.specs.Fields.{fields, kind_at, raw_of};
+
+use deviator_script::Purpose;
+use offer_fields::{TextRef, array_in, list_in, number_in, only_in, texts_in};
+use offer_header::{RawArc, Reading};
+use refusals::{OfferFault, wrong_kind};
+use serde_json::Value;
+use std::alloc::Global;
+use swap_base::Listed;
+use swap_digraph::Mode;
+
+/// Wishes as their line states them: its texts lie in the line that was read.
+#[derive(Drop)]
+pub struct RawWishes<'v> {
+    pub start: u64,
+    pub delta: u64,
+    /// The names of the parties.
+    pub parties: Listed<TextRef<'v>>,
+    pub arcs: Listed<RawArc<'v>>,
+}
+
+/// The line says that it is one of wishes.
+#[tactic(auto, unfolding(crate::specs::Fields::kind_at))]
+fn check_kind(alloc: Global, line: u32, object: &Value) -> Result<(), OfferFault>
+    ensures { Gives (λ u. u) result (kind_at line (view object.now)) }
+{
+    let number = number_in(alloc, line, "clear", object)?;
+    if number == 1 {
+        return Ok(());
+    }
+    Err(wrong_kind(alloc, line, b"clear"))
+}
+
+#[tactic(auto, unfolding(offer_fields::specs::Fields::list_at))]
+fn parties_in<'v>(
+    alloc: Global,
+    line: u32,
+    object: &'v Value,
+) -> Result<Listed<TextRef<'v>>, OfferFault>
+    ensures { Gives (λ x. x) result (list_at line (codes "parties") (member_text_of line (codes "parties")) (view object.now)) }
+{
+    let values = array_in(alloc, line, "parties", object)?;
+    texts_in(alloc, line, "parties", values)
+}
+
+fn only_fields(alloc: Global, line: u32, object: &Value) -> Result<(), OfferFault>
+    ensures { Gives (λ u. u) result (only line fields (view object.now)) }
+{
+    let allowed = ["arcs", "clear", "delta", "parties", "start"];
+    only_in(alloc, line, &allowed, object)
+}
+
+/// The fields of the line, or the first reason why one is refused. An arc has the fields that it has in a plain job with hashkeys.
+#[tactic(auto, unfolding(crate::specs::Fields::raw_of))]
+pub(crate) fn raw_in<'v>(
+    alloc: Global,
+    line: u32,
+    object: &'v Value,
+) -> Result<RawWishes<'v>, OfferFault>
+    ensures { Gives (λ w. w) result (raw_of line (view object.now)) }
+{
+    check_kind(alloc, line, object)?;
+    let start = number_in(alloc, line, "start", object)?;
+    let delta = number_in(alloc, line, "delta", object)?;
+    let parties = parties_in(alloc, line, object)?;
+    let reading = Reading {
+        purpose: Purpose::Make,
+        mode: Mode::Hashkeys,
+    };
+    let arcs = list_in(alloc, reading, line, "arcs", object)?;
+    only_fields(alloc, line, object)?;
+    Ok(RawWishes {
+        start,
+        delta,
+        parties,
+        arcs,
+    })
+}

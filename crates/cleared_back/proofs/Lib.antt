@@ -1,0 +1,10 @@
+pub mod Lists
+pub mod Fields
+pub mod Shape
+pub mod Named
+pub mod Limited
+pub mod Deal
+pub mod Shown
+pub mod OneLine
+pub mod Cleared
+pub mod Whole

@@ -1,0 +1,136 @@
+-- The digraph of proposals, and of sound arcs.
+use Rattle.std.proofs.Common.{◌≡◌, ◌≢◌, ℕ, suc, ◌+◌, ◌<◌, ◌==◌, Bool, true, false, cond, not, ◌&&◌, nat_lt, List, [], ◌∷◌, ◌++◌, length}
+use Rattle.std.proofs.Common.{map, Option, Some, None, Ok, Err, refl, sym, ap, ◌∙◌, subst, arith, lt-ltb, ne_eqb, length-append}
+use Rattle.swap_base.specs.Lists.{or_else}
+use Rattle.swap_base.specs.declared.fault.Fault.{Fault}
+use Rattle.swap_base.specs.declared.fault.Fault.TheVariants.{Refused}
+use Rattle.swap_base.specs.Fault.{Fails}
+use Rattle.swap_digraph.specs.declared.arc_ends.ArcEnds.{ArcEnds}
+use Rattle.swap_digraph.specs.declared.fault.ArcFault.{ArcFault}
+use Rattle.swap_digraph.specs.declared.fault.ArcFault.TheVariants.{OutOfRange as OutOfRangeArc, SelfArc as SelfArcOf, Parallel}
+use Rattle.swap_digraph.specs.declared.deal.Version.TheVariants.{Two}
+use Rattle.swap_digraph.specs.Arcs.{fault_at, first_fault_after, digraph_of, graph_or as digraph_or, same_ends}
+use Rattle.swap_digraph.specs.Arcs as digraph
+use Rattle.swap_digraph.specs.Graph.{HasEnds}
+use Rattle.swap_digraph.specs.Value.{Graph}
+use Rattle.swap_clear.specs.declared.proposed.Proposed.{Proposed}
+use Rattle.swap_clear.specs.declared.fault.ClearReason.{ClearReason}
+use Rattle.swap_clear.specs.declared.fault.ClearReason.TheVariants.{OutOfRange, SelfArc}
+use Rattle.swap_clear.specs.Proposals.{ends_of, proposed_graph, fault_of, first_fault, graph_or, graph_of}
+
+-- Sound arcs make a digraph.
+
+sound_at : (n : ℕ) (before : List ArcEnds) (k : ℕ) (a : ArcEnds) → a.from < n → a.to < n → a.from ≢ a.to → fault_at n Two before k a ≡ None
+unfolding fault_at
+sound_at n before k a f t apart = rw (lt-ltb a.from n f, lt-ltb a.to n t, ne_eqb a.from a.to apart) refl
+
+sound_after : (n : ℕ) (before arcs : List ArcEnds) → HasEnds (record { n = n; arcs = arcs }) → first_fault_after n Two before arcs ≡ None
+sound_after n before [] ends = refl
+sound_after n before (a ∷ arcs) ends =
+    ap (λ (o : Option ArcFault). or_else o (first_fault_after n Two (before ++ a ∷ []) arcs))
+    (sound_at n before (length before) a (ends.from 0 (omega arith)) (ends.to 0 (omega arith)) (ends.apart 0 (omega arith)))
+    ∙ sound_after n (before ++ a ∷ []) arcs (record {
+      from = λ i lt. ends.from (suc i) (omega arith);
+      to = λ i lt. ends.to (suc i) (omega arith);
+      apart = λ i lt. ends.apart (suc i) (omega arith);
+    })
+
+pub sound_graph : (n : ℕ) (arcs : List ArcEnds) → HasEnds (record { n = n; arcs = arcs }) → digraph_of n Two arcs ≡ Ok (record { n = n; arcs = arcs })
+unfolding digraph_of digraph.first_fault
+sound_graph n arcs ends = ap (λ (o : Option ArcFault). digraph_or n arcs o) (sound_after n [] arcs ends)
+
+pub never_refused : (n : ℕ) (arcs : List ArcEnds) (e : Fault ArcFault) (reason : ArcFault) → HasEnds (record { n = n; arcs = arcs }) → e ≡ Refused reason
+    → Fails e (digraph_of n Two arcs) → ⊥
+never_refused n arcs e reason ends is fails =
+    let f : digraph_of n Two arcs ≡ Err reason = subst (λ (d : Fault ArcFault). Fails d (digraph_of n Two arcs)) is fails in
+    cc (f, sound_graph n arcs ends)
+
+-- The first fault of proposals is that of their ends.
+
+abbrev pub told : ArcFault → ClearReason
+told (OutOfRangeArc k) = OutOfRange k
+told (SelfArcOf k) = SelfArc k
+told (Parallel j k) = SelfArc k
+
+abbrev pub tell : Option ArcFault → Option ClearReason
+tell None = None
+tell (Some f) = Some (told f)
+
+tell_or : (o r : Option ArcFault) → tell (or_else o r) ≡ or_else (tell o) (tell r)
+tell_or None r = refl
+tell_or (Some f) r = refl
+
+same_fault : (n : ℕ) (before : List ArcEnds) (k : ℕ) (p : Proposed) → fault_of n k p ≡ tell (fault_at n Two before k (ends_of p))
+unfolding fault_at
+same_fault n before k p = go (nat_lt p.from n && nat_lt p.to n) (p.from == p.to)
+  where
+    go : (within same : Bool) → cond (not within) (Some (OutOfRange k)) (cond same (Some (SelfArc k)) None)
+        ≡ tell (cond (not within) (Some (OutOfRangeArc k)) (cond same (Some (SelfArcOf k)) None))
+    go true true = refl
+    go true false = refl
+    go false same = refl
+
+pub same_first : (n : ℕ) (before : List ArcEnds) (k : ℕ) (arcs : List Proposed) → k ≡ length before
+    → first_fault n k arcs ≡ tell (first_fault_after n Two before (map ends_of arcs))
+unfolding first_fault
+same_first n before k [] e = refl
+same_first n before k (p ∷ arcs) e =
+    ap (λ (o : Option ClearReason). or_else o (first_fault n (k + 1) arcs)) (same_fault n before k p
+    ∙ ap (λ (j : ℕ). tell (fault_at n Two before j (ends_of p))) e)
+    ∙ ap (λ (o : Option ClearReason). or_else (tell (fault_at n Two before (length before) (ends_of p))) o)
+    (same_first n (before ++ ends_of p ∷ []) (k + 1) arcs (let l = length-append before (ends_of p ∷ []) in omega (arith, l, e)))
+    ∙ sym (tell_or (fault_at n Two before (length before) (ends_of p)) (first_fault_after n Two (before ++ ends_of p ∷ []) (map ends_of arcs)))
+
+pub refused_so : (n : ℕ) (arcs : List Proposed) (f : ArcFault) → digraph_of n Two (map ends_of arcs) ≡ Err f → graph_of n arcs ≡ Err (told f)
+unfolding graph_of digraph_of digraph.first_fault
+refused_so n arcs f e = go (first_fault_after n Two [] (map ends_of arcs)) (same_first n [] 0 arcs refl) e
+  where
+    go : (o : Option ArcFault) → first_fault n 0 arcs ≡ tell o → digraph_or n (map ends_of arcs) o ≡ Err f
+        → graph_or (proposed_graph n arcs) (first_fault n 0 arcs) ≡ Err (told f)
+    go None s h = absurd (cc h)
+    go (Some x) s h =
+        let same : x ≡ f = cc h in
+        ap (graph_or (proposed_graph n arcs)) s ∙ ap (λ (y : ArcFault). Err (told y)) same
+
+pub accepted_so : (n : ℕ) (arcs : List Proposed) (g : Graph) → digraph_of n Two (map ends_of arcs) ≡ Ok g → graph_of n arcs ≡ Ok g
+unfolding graph_of digraph_of digraph.first_fault
+accepted_so n arcs g e = go (first_fault_after n Two [] (map ends_of arcs)) (same_first n [] 0 arcs refl) e
+  where
+    go : (o : Option ArcFault) → first_fault n 0 arcs ≡ tell o → digraph_or n (map ends_of arcs) o ≡ Ok g
+        → graph_or (proposed_graph n arcs) (first_fault n 0 arcs) ≡ Ok g
+    go None s h = let same : proposed_graph n arcs ≡ g = cc h in ap (graph_or (proposed_graph n arcs)) s ∙ ap (λ (x : Graph). Ok x) same
+    go (Some x) s h = absurd (cc h)
+
+not_parallel_at : (n : ℕ) (before : List ArcEnds) (k i j : ℕ) (a : ArcEnds) → fault_at n Two before k a ≡ Some (Parallel i j) → ⊥
+unfolding fault_at
+not_parallel_at n before k i j a e = go (nat_lt a.from n && nat_lt a.to n) (a.from == a.to) e
+  where
+    go : (within same : Bool) → cond (not within) (Some (OutOfRangeArc k)) (cond same (Some (SelfArcOf k)) None) ≡ Some (Parallel i j) → ⊥
+    go true true h = cc h
+    go true false h = cc h
+    go false same h = cc h
+
+not_parallel_after : (n : ℕ) (before arcs : List ArcEnds) (i j : ℕ) → first_fault_after n Two before arcs ≡ Some (Parallel i j) → ⊥
+not_parallel_after n before [] i j e = cc e
+not_parallel_after n before (a ∷ arcs) i j e =
+    go (fault_at n Two before (length before) a) refl e (not_parallel_after n (before ++ a ∷ []) arcs i j)
+  where
+    go : (o : Option ArcFault) → fault_at n Two before (length before) a ≡ o
+        → or_else o (first_fault_after n Two (before ++ a ∷ []) arcs) ≡ Some (Parallel i j)
+        → (first_fault_after n Two (before ++ a ∷ []) arcs ≡ Some (Parallel i j) → ⊥) → ⊥
+    go None s h rest = rest h
+    go (Some f) s h rest = not_parallel_at n before (length before) i j a (s ∙ h)
+
+pub not_parallel : (n : ℕ) (arcs : List ArcEnds) (i j : ℕ) → digraph_of n Two arcs ≡ Err (Parallel i j) → ⊥
+unfolding digraph_of digraph.first_fault
+not_parallel n arcs i j e = go (first_fault_after n Two [] arcs) refl e
+  where
+    go : (o : Option ArcFault) → first_fault_after n Two [] arcs ≡ o → digraph_or n arcs o ≡ Err (Parallel i j) → ⊥
+    go None s h = cc h
+    go (Some f) s h = let same : f ≡ Parallel i j = cc h in not_parallel_after n [] arcs i j (s ∙ ap (λ (x : ArcFault). Some x) same)
+
+pub refused_as : (n : ℕ) (arcs : List Proposed) (made : List ArcEnds) (e : Fault ArcFault) (f is : ArcFault) → made ≡ map ends_of arcs → e ≡ Refused f → f ≡ is
+    → Fails e (digraph_of n Two made) → digraph_of n Two (map ends_of arcs) ≡ Err is
+refused_as n arcs made e f is same refused kind fails =
+    let h : digraph_of n Two made ≡ Err f = subst (λ (d : Fault ArcFault). Fails d (digraph_of n Two made)) refused fails in
+    sym (ap (digraph_of n Two) same) ∙ h ∙ ap (λ (x : ArcFault). Err x) kind

@@ -1,0 +1,14 @@
+pub mod Loops
+pub mod Faults
+pub mod Rounds
+pub mod Cyclic
+pub mod Gathered
+pub mod Together
+pub mod Places
+pub mod Cleared
+pub mod Remaining
+pub mod Leading
+pub mod Sizes
+pub mod Deals
+pub mod Told
+pub mod Refusals

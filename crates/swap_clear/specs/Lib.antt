@@ -1,0 +1,10 @@
+pub mod Proposals
+pub mod Groups
+pub mod Leaders
+pub mod Clearing
+pub mod Cyclic
+pub mod Together
+pub mod Led
+pub mod Ready
+pub mod Refused
+pub mod Rows

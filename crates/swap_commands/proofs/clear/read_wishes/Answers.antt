@@ -1,0 +1,17 @@
+use Rattle.std.proofs.lemmas.Result.{err_from_is_err_and}
+use Rattle.swap_commands.proofs.Clearings.{against_further, is_cleared}
+use Rattle.swap_commands.proofs.clear.read_wishes.Goals as goal
+
+pub returns-in-Ok-clause-cleared : goal.returns-in-Ok-clause-cleared
+returns-in-Ok-clause-cleared g c =
+    is_cleared _ _ _ _ _ _ c.in_ok-text.ensures.line c.in_ok-text.ensures.cleared c.in-Ok.ensures.none c.in-Ok.ensures.within c.in-Ok.ensures.ended
+
+pub returns-in-Err-clause-stops : goal.returns-in-Err-clause-stops
+returns-in-Err-clause-stops g c = λ has.
+    against_further has _ _ _ _ _ _ c.in_ok-text.ensures.cleared c.in-Err.fault _ _ _ c.in_ok-text.ensures.line c.first_wishes.ensures.later
+    c.in-Err.ensures.stops
+
+pub returns-in_err-text-clause-stops : goal.returns-in_err-text-clause-stops
+returns-in_err-text-clause-stops g c = λ has.
+    let p = err_from_is_err_and c.from_residual.result c.from_residual.ensures.1 in
+    rw (p.1, p.2) (c.in_err-text.ensures.stops has)

@@ -1,0 +1,25 @@
+-- An input of wishes: one line, and no further one that isn't blank.
+use Rattle.std.specs.Prelude.{◌≡◌, ℕ, List, [], ◌∷◌, Err}
+use Rattle.refusals.specs.declared.refusal.Refusal.{Refusal}
+use Rattle.swap_offer.specs.Lines.{lines_of, filled_lines}
+use Rattle.audit_command.specs.Output.{Written}
+use Rattle.clear_text.specs.ClearedText.{IsClearedLine}
+use Rattle.swap_commands.specs.Input.{At, ahead}
+use Rattle.swap_commands.specs.Output.{alone, plain_text}
+
+-- The input is one line of wishes, and the text is what is cleared of it.
+pub record IsCleared (bytes text : List ℕ) : Type 0 where
+  pub line : ℕ
+  pub wishes : List ℕ
+  pub lines : filled_lines 1 (lines_of bytes) ≡ (line, wishes) ∷ []
+  pub cleared : IsClearedLine line wishes text
+
+-- what is said against further lines
+abbrev pub IsFurther : At → List ℕ → Refusal → Type 0
+IsFurther s bytes refusal = (alone (ahead s bytes) ≡ Err refusal.reason) × (refusal.names ≡ [])
+
+-- what a clearing promises that wrote its output
+pub record IsClearing (input : List ℕ) (output : Written) : Type 0 where
+  pub text : List ℕ
+  pub shown : output ≡ plain_text text
+  pub cleared : IsCleared input text

@@ -1,0 +1,123 @@
+//! The command `clear`: wishes are read, and what of them can be swapped is written.
+
+ghost use Rattle.std.specs.Prelude.{◌≡◌, ◌≤◌, ℕ, Bool, List, IfOk, IfErr, OnOk};
+ghost use Rattle.clear_text.specs.ClearedText.{IsClearedLine};
+ghost use Rattle.offer_header.specs.Names.{has_strategy};
+ghost use Rattle.swap_commands.specs.Cleared.{IsCleared, IsFurther};
+ghost use Rattle.swap_commands.specs.Input.{Ends, EndsAt, IsLast, IsLine, Stops, fresh, limit};
+ghost use Rattle.swap_commands.specs.Says.{IsAgainst, Says};
+
+use crate::fault::{InputFault, empty};
+use crate::input::Input;
+use crate::make::tell;
+use crate::status::Status;
+use crate::stop::stop;
+use crate::words::Command;
+use clear_text::cleared_line;
+use deviator_script::{Kit, Strategies};
+use refusals::{Reason, Refusal};
+use std::alloc::Global;
+use swap_base::Listed;
+use swap_io::{Sink, Source};
+
+/// The text of an input's first line, or what is said against it.
+fn first_wishes<S: Source>(
+    alloc: Global,
+    input: &mut Input,
+    source: &mut S,
+) -> Result<Vec<u8>, InputFault<Refusal>>
+    requires { input.old ≡ fresh }
+    ensures line { OnOk result (IsLine (S.left source.old) (S.left source.new) fresh input.new) }
+    ensures within { OnOk result (input.new.reading.taken ≤ limit) }
+    ensures ended { OnOk result (EndsAt (S.left source.new) input.new) }
+    ensures cleared { IfOk result (λ t. IsClearedLine input.new.number input.new.text t.items) }
+    ensures stops { (has : List ℕ → Bool) → IfErr result (λ e. Stops (IsAgainst has Command.Clear) (S.left source.old) (S.left source.new)
+        (S.faults source.old) (S.faults source.new) fresh input.new e) }
+    ensures later { S.faults source.old ≤ S.faults source.new }
+{
+    if !input.next(source)? {
+        return Err(empty(alloc));
+    }
+    match cleared_line(alloc, input.number(), input.text()) {
+        Ok(text) => Ok(text),
+        Err(fault) => Err(InputFault::from(fault).with_names(Listed::empty(alloc))),
+    }
+}
+
+/// A further line that isn't blank is a bad one.
+fn alone<S: Source>(
+    alloc: Global,
+    input: &mut Input,
+    source: &mut S,
+) -> Result<(), InputFault<Refusal>>
+    requires ended { EndsAt (S.left source.old) input.old }
+    ensures none { OnOk result (IsLast (S.left source.old) (S.left source.new) input.old input.new) }
+    ensures within { OnOk result (input.new.reading.taken ≤ limit) }
+    ensures ended { OnOk result (EndsAt (S.left source.new) input.new) }
+    ensures stops { IfErr result (λ e. Stops (IsFurther input.old) (S.left source.old) (S.left source.new)
+        (S.faults source.old) (S.faults source.new) input.old input.new e) }
+    ensures later { S.faults source.old ≤ S.faults source.new }
+{
+    if !input.next(source)? {
+        return Ok(());
+    }
+    Err(InputFault::Refused(Refusal {
+        reason: Reason::BadLine(input.number()),
+        names: Listed::empty(alloc),
+    }))
+}
+
+/// The text of what is cleared of an input, or what is said against it.
+fn read_wishes<S: Source>(
+    alloc: Global,
+    input: &mut Input,
+    source: &mut S,
+) -> Result<Vec<u8>, InputFault<Refusal>>
+    requires { input.old ≡ fresh }
+    ensures cleared { IfOk result (λ t. Ends (λ bytes. IsCleared bytes t.items) (S.left source.old) (S.left source.new) fresh input.new) }
+    ensures stops { (has : List ℕ → Bool) → IfErr result (λ e. Stops (IsAgainst has Command.Clear) (S.left source.old) (S.left source.new)
+        (S.faults source.old) (S.faults source.new) fresh input.new e) }
+    ensures later { S.faults source.old ≤ S.faults source.new }
+{
+    let text = first_wishes(alloc, input, source)?;
+    match alone(alloc, input, source) {
+        Ok(()) => Ok(text),
+        Err(fault) => Err(fault),
+    }
+}
+
+/// Clears the wishes of an input that wasn't read yet.
+fn clear_input<S: Source, K: Sink>(
+    alloc: Global,
+    _kit: &Kit,
+    input: &mut Input,
+    source: &mut S,
+    sink: &mut K,
+) -> Status
+    requires { input.old ≡ fresh }
+    ensures { Says (has_strategy _kit.now.names _kit.now.strategies.items) (⟦<Kit as Strategies>⟧.gives _kit.now) Command.Clear (S.left source.old)
+        (S.left source.new) (S.faults source.old) (S.faults source.new) (K.taken sink.old) (K.taken sink.new)
+        (K.faults sink.old) (K.faults sink.new) result }
+{
+    match read_wishes(alloc, input, source) {
+        Ok(text) => tell(sink, &text),
+        Err(fault) => stop(input, source, fault),
+    }
+}
+
+/// Clears wishes, for which no strategy is asked.
+pub(crate) fn clear<S: Source, K: Sink>(
+    alloc: Global,
+    _kit: &Kit,
+    source: &mut S,
+    sink: &mut K,
+) -> Status
+    ensures { Says (has_strategy _kit.now.names _kit.now.strategies.items) (⟦<Kit as Strategies>⟧.gives _kit.now) Command.Clear (S.left source.old)
+        (S.left source.new) (S.faults source.old) (S.faults source.new) (K.taken sink.old) (K.taken sink.new)
+        (K.faults sink.old) (K.faults sink.new) result }
+{
+    match Input::new(alloc) {
+        Ok(mut input) => clear_input(alloc, _kit, &mut input, source, sink),
+        Err(_) => Status::NoMemory,
+    }
+}
