@@ -3,6 +3,7 @@ import json
 import os
 import re
 import sys
+from itertools import permutations
 
 sys.dont_write_bytecode = True
 sys.path.insert(1, os.path.join(os.path.dirname(os.path.abspath(__file__)), "..", "tests"))
@@ -198,6 +199,63 @@ class Job:
         if self.conforming[party] or self.header["parties"][party]["actor"] != "manual" and rng.random() < 0.8:
             return {"act": self.names[party]}
         return {"call": self.names[party], "move": self.move(party)}
+
+
+# ---- wishes
+
+LETTERS = "abcdefghijklmnopqrstuvwxyzABCDEF"
+# (values of another kind, out of their ranges, or of a name that is ill-formed or no party's)
+BAD_NAMES = ("", "a b", "a\u0085", "\u00e4", "a-name_of-17chars", "a")
+MISSTATED = (0, 0, 1, 100, 101, 1000, 1001, 10**12 + 1, 1 << 64, -1, 1.5, True, None, *BAD_NAMES, [], ["a"], ["a", "b", 1], {}, [{}])
+
+
+def wished(rng, names, most):
+    return [rng.sample(names, 2) for _ in range(rng.randint(1, most))]
+
+
+def crowded(rng, names, most):
+    """Nearly each of some parties wishes for a transfer to each other, which may take more leaders than are allowed; the others for some."""
+    crowd, others = names[:most], names[most:]
+    return [list(ends) for ends in permutations(crowd, 2) if rng.random() > 0.01] + wished(rng, rng.choice((names, others)), 10)
+
+
+def wishes(rng):
+    """Wishes, mostly of few parties; some have a fault."""
+    names, roll = rng.sample(LETTERS, rng.choice((2, 3, 4, 4, 5, 6, 7, 8))), rng.random()
+    pairs = wished(rng, names, 20)
+    if roll < 0.04:
+        names = rng.sample(LETTERS, rng.randint(13, 15))
+        pairs = crowded(rng, names, rng.randint(8, 11))
+    elif roll < 0.08:
+        names = rng.sample(LETTERS, rng.randint(9, 32))
+        pairs = wished(rng, names, rng.choice((60, 129)))
+    names, delta = sorted(names, key=lambda _: rng.random()), rng.choice((1, 2, 10, 100))
+    line = {"clear": 1, "start": delta + rng.choice((0, 1, 10, 900)), "delta": delta, "parties": names}
+    line["arcs"] = [{"from": a, "to": b, "amount": rng.choice((1, 5, 100, 10**12))} for a, b in rng.sample(pairs, len(pairs))]
+    return misstated(rng, line) if rng.random() < 0.2 else line
+
+
+def misstated(rng, line):
+    """The wishes with some fields, of the line or of an arc, that are left out, added, or have a value that may be wrong."""
+    pieces, names = [line, line, *line["arcs"]], line["parties"]
+    for _ in range(rng.choice((1, 1, 2, 3))):
+        piece = rng.choice(pieces)
+        field = rng.choice((*piece, *piece, *piece, "seed", "bound", "from"))
+        values = [*MISSTATED, *piece.values(), *piece.values(), [*names, rng.choice((*BAD_NAMES, *names))]]
+        alike = [it for it in values if type(it) is type(piece.get(field))] or values
+        if rng.random() < 0.1:
+            piece.pop(field, None)
+        else:
+            piece[field] = rng.choice(alike if rng.random() < 0.8 else values)
+    return line
+
+
+def wishes_text(rng):
+    """The text of wishes, some with lines before or behind them, or with edited bytes."""
+    text = line_of(wishes(rng))
+    if rng.random() < 0.1:
+        text = rng.choice((b"", b"\n", b" \t\r\n")) + text + rng.choice((b"", b"\n \r\n", b"\nx\n", text))
+    return edited(rng, text) if rng.random() < 0.15 else text
 
 
 # ---- edits

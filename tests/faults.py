@@ -172,6 +172,7 @@ def rows():
         yield row_of(words, "by_hand", deal("by_hand"))
     yield row_of("audit", "by_hand", deal("by_hand"), told_by=["run", "--transcript"])
     yield row_of("make", "a plain job", plain_job())
+    yield row_of("clear", "wishes", deal("wishes.clear"))
     for words in ("race --ticks 1000", "race --ticks 1000 --transcript"):
         yield row_of(words, "idle parties", idle_job())
 
@@ -190,6 +191,7 @@ def rows_of_cuts():
     for words in ("check", "race", "run --transcript"):
         yield tested_cut, row_of(words, "idle parties", idle_job())
     yield tested_cut, row_of("make", "a plain job", plain_job())
+    yield tested_cut, row_of("clear", "wishes", deal("wishes.clear"))
     told = ["run", "--transcript"]
     yield tested_cut, row_of("audit", "hashkeys", deal("hashkeys") + ACTS, told_by=told)
     yield tested_cut, row_of("audit", "version 2", second_job(), told_by=told)

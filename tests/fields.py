@@ -23,6 +23,7 @@ def tables():
     """What has the fields, in which table, the words that read it, and its place."""
     yield "headers", "headers", ("check", "run", "run --transcript", "race"), MARK + "\n"
     yield "plain headers", "plain_headers", ("make",), "\n" + MARK
+    yield "wishes", "wishes", ("clear",), "\n" + MARK
     yield "events", "events", ("check", "run", "race"), in_job('"manual"', MARK + "\n")
     yield "moves of calls", "moves", ("run",), in_job('"manual"', '{"call":"ann","move":%s}' % MARK)
     yield "actors", "actors", ("check", "run", "race"), in_job(MARK, "")

@@ -58,6 +58,8 @@ def limits():
         ("blanks before a job", "run", Filled("", " ", job), answer),
         ("feeds behind an offer", "check", Filled(job, "\n"), ACCEPTED),
         ("feeds behind a refused line", "check", Filled("x", "\n"), NO_JSON),
+        ("feeds behind wishes", "clear", Filled(deal("wishes.clear"), "\n"), stored("wishes.cleared")),
+        ("blanks alone, for wishes", "clear", Filled("", " "), NO_JSON),
         ("feeds behind a transcript", "audit", Filled(transcript, "\n"), "swap: refused: BadLine 20\n"),
         ("blanks behind a transcript's first line", "audit", Filled("swap transcript 1\n", " "), "swap: refused: CutShort\n"),
     ):

@@ -1,0 +1,159 @@
+"""The commands: what is written for words and an input, by which status. docs/FORMATS.md, 'Status and standard error'."""
+import re
+from functools import lru_cache
+from typing import NamedTuple
+
+from .clearing import cleared
+from .hashes import hashlock_of, public_key, secret_of
+from .drawn import plain_job
+from .offer import MOST_EVENTS, PLAIN, Offer, Refused, examine_seeds, header_of, job_of, lines_of, refuse
+from .play import race, run
+from .texts import check_text, compact, joined, made_header, report, summary, transcript
+from .transcripts import MOST_BYTES, replayed, transcript_of
+
+USAGE = ("usage: swap check | run [--transcript] | race [--ticks K] [--transcript] | audit | make"
+         " | gen --seed S --parties N --events E [--summary] | clear | many")
+FOUND_NOTHING, FOUND, WRONG_WORDS, REFUSED, TOO_LONG = 0, 1, 2, 3, 7
+
+
+class Answer(NamedTuple):
+    status: int
+    out: bytes
+    err: bytes
+
+
+# ---- words
+
+def command_of(words):
+    """The command that words ask for and its options, in any order, or None where they aren't well formed.
+
+    A number has 1 to 10 digits and stands behind its option, in a word of its own or after `=`.
+    """
+    if not words or words[0] not in OPTIONS:
+        return None
+    allowed, options, left = OPTIONS[words[0]], {}, list(words[1:])
+    while left:
+        name, is_joined, given = left.pop(0).partition("=")
+        if name not in allowed or name in options or is_joined and not allowed[name]:
+            return None
+        options[name] = True
+        if allowed[name]:
+            least, most = allowed[name]
+            given = given if is_joined else left.pop(0) if left else ""
+            if not re.fullmatch("[0-9]{1,10}", given) or not least <= int(given) <= most:
+                return None
+            options[name] = int(given)
+    are_there = words[0] != "gen" or {"--seed", "--parties", "--events"} <= set(options)
+    return (words[0], options) if are_there else None
+
+
+OPTIONS = {
+    "check": {},
+    "run": {"--transcript": None},
+    "race": {"--ticks": (1, 1000), "--transcript": None},
+    "audit": {},
+    "make": {},
+    "gen": {"--seed": (0, 2**32 - 1), "--parties": (2, 24), "--events": (0, MOST_EVENTS), "--summary": None},
+    "clear": {},
+}
+
+
+# ---- commands: each answers a text and how many findings it tells
+
+def check(text, _options):
+    """`check` writes a deal's times."""
+    offer, _ = job_of(text, "check")
+    return check_text(offer.deal), 0
+
+
+@lru_cache(maxsize=2)
+def ran(text):
+    """The offer, the book and the report of a job (kept, since a run is asked for its report and for its transcript)."""
+    offer, events = job_of(text, "run")
+    book = run(offer, events)
+    return offer, book, report(book, offer.conforming)
+
+
+def told(options, offer, book, reported):
+    """A report, or a transcript with the status of the report."""
+    return (transcript(book, offer), reported[1]) if "--transcript" in options else reported
+
+
+def run_job(text, options):
+    """`run` writes what comes of a job."""
+    return told(options, *ran(text))
+
+
+def race_job(text, options):
+    """`race`: the report of one legal order of its calls."""
+    offer, _ = job_of(text, "race")
+    book = race(offer, options.get("--ticks", 1))
+    return told(options, offer, book, report(book, offer.conforming))
+
+
+def audit(text, _options):
+    """`audit` replays a transcript and writes the report of its job and its ledgers."""
+    offer, stated = transcript_of(text)
+    return report(replayed(offer, stated), offer.conforming)
+
+
+def made_offer(offer):
+    """A plain offer with what its seeds and its times give."""
+    deal, seeds = offer.deal, offer.seeds
+    deal.hashlocks = [hashlock_of(secret_of(seeds[leader])) for leader in deal.leaders]
+    if deal.is_keyed:
+        deal.keys = [[public_key(seeds[party], party, lock) for lock in deal.locks] for party in deal.parties]
+    else:
+        deal.timelocks = [deal.timelock_of(arc) for arc in deal.arcs]
+    return offer
+
+
+def make(text, _options):
+    """`make` writes a job from a plain one; its further lines are copied."""
+    lines = lines_of(text)
+    if not lines:
+        refuse("NotJson", 1)
+    offer = header_of(lines[0][1], lines[0][0], PLAIN)
+    for name, seed in zip(offer.deal.names, offer.seeds):
+        if seed is None:
+            refuse("NoSeed", name)
+    if len(lines) - 1 > MOST_EVENTS:
+        refuse("OverLimit", lines[MOST_EVENTS + 1][0], "events", MOST_EVENTS + 1)
+    return made_header(made_offer(offer)).encode() + b"\n" + b"".join(line + b"\n" for _, line in lines[1:]), 0
+
+
+def gen(_text, options):
+    """`gen` writes the job of a number, or the summary of its run."""
+    header, events = plain_job(options["--seed"], options["--parties"], options["--events"])
+    offer = made_offer(Offer(header, PLAIN))
+    if "--summary" in options:
+        return summary(run(offer, events), offer.conforming, len(events))
+    return joined([made_header(offer), *map(compact, events)]), 0
+
+
+def clear(text, _options):
+    """`clear` makes plain jobs of wishes."""
+    return cleared(text), 0
+
+
+COMMANDS = {"check": check, "run": run_job, "race": race_job, "audit": audit, "make": make, "gen": gen, "clear": clear}
+
+
+def printable(word):
+    """A control character inside a name or a field is written as `\\u{HEX}`."""
+    return "".join("\\u{%x}" % ord(it) if ord(it) < 32 or 127 <= ord(it) < 160 else it for it in str(word))
+
+
+def answer(words, text):
+    """The status, the output and the standard error for words and an input."""
+    asked = command_of(words)
+    if asked is None:
+        return Answer(WRONG_WORDS, b"", ("swap: wrong words\n%s\n" % USAGE).encode())
+    command, options = asked
+    if command != "gen" and len(text) > MOST_BYTES:
+        return Answer(TOO_LONG, b"", b"swap: too long\n")
+    try:
+        out, found = COMMANDS[command](text, options)
+    except Refused as why:
+        return Answer(REFUSED, b"", ("swap: refused: %s\n" % " ".join(map(printable, why.args))).encode())
+    return Answer(FOUND if found else FOUND_NOTHING, out, b"")

@@ -1,0 +1,335 @@
+"""The rules of the swap over a book: what is due, conduct, lateness, forgery, outcomes and findings.
+
+docs/DEFINITIONS.md, 'A book'. A view is a book, or what a party knows of it: of each ledger the first entries.
+"""
+from .hashes import Hashkey, extended, hashlock_of, secret_of
+from .ledger import CLAIM, PUBLISH, REFUND, TRANSFER, UNLOCK, Call, expiry, what_is_wrong
+
+
+class View:
+    """Of each ledger its first `ends[arc]` entries."""
+
+    def __init__(self, deal, ledgers, ends):
+        self.deal, self.ledgers, self.ends = deal, ledgers, ends
+
+    # ---- arcs
+    def height(self, arc):
+        return self.ledgers[arc].height_at(self.ends[arc])
+
+    def published(self, arc):
+        return self.ledgers[arc].published(self.ends[arc])
+
+    def settled(self, arc):
+        return self.ledgers[arc].settled(self.ends[arc])
+
+    def opened(self, arc, lock):
+        return self.ledgers[arc].opened(lock, self.ends[arc])
+
+    def least_expiry(self, arc):
+        return self.ledgers[arc].least_expiry(self.ends[arc])
+
+    def calls(self, party, arc, kind, lock=None):
+        """The entries of a party's calls of a kind (for a lock) on an arc, with their numbers."""
+        entries, end = self.ledgers[arc].entries, self.ends[arc]
+        numbered = [(at, entries[at]) for at in self.ledgers[arc].calls[party] if at < end and entries[at].call.kind == kind]
+        return numbered if lock is None else [(at, entry) for at, entry in numbered if entry.call.stated.lock == lock]
+
+    def is_correct(self, arc):
+        """An arc is correct where its accepted publish has the correct terms."""
+        entry = self.published(arc)
+        return entry is not None and entry.call.stated == self.ledgers[arc].correct_terms
+
+    def is_good(self, arc):
+        """An arc is good where it is correct and was published at `open_by` at the latest."""
+        return self.is_correct(arc) and self.published(arc).height <= self.deal.open_by
+
+    def is_triggered(self, arc):
+        """An arc is triggered where every lock is opened."""
+        return all(self.opened(arc, lock) for lock in self.deal.locks)
+
+    # ---- parties
+    def is_ready(self, party):
+        """A party is ready where every arc that enters it is good."""
+        return all(self.is_good(arc) for arc in self.deal.entering[party])
+
+    def ready_height(self, party):
+        """The height at which a party became ready: the greatest at which an arc that enters it was published."""
+        return max(self.published(arc).height for arc in self.deal.entering[party])
+
+    def seen_opening(self, party, lock):
+        """The opening of a lock on the least-numbered leaving arc whose opening path lacks the party, or None."""
+        for arc in self.deal.leaving[party]:
+            opening = self.opened(arc, lock)
+            if opening and party not in opening.hashkey.path:
+                return opening
+        return None
+
+    def first_unlock(self, party, lock):
+        """The hashkey of the party's first unlock call for a lock, by arc and entry, or None."""
+        for arc in self.deal.touching[party]:
+            for _, entry in self.calls(party, arc, UNLOCK, lock):
+                return entry.call.stated
+        return None
+
+
+# ---- what is due
+
+def first_due(view, party, seed, signed):
+    """The first call that is due for a party over what it knows, as an arc and a call, or None.
+
+    Due, by rule and then by arc, each on an arc on which the party has no such call yet. `signed` are the hashkeys that it noted.
+    """
+    deal, is_ready = view.deal, view.is_ready(party)
+    return (due_publish(view, party, is_ready) or (is_ready and due_unlock(view, party, seed, signed))
+            or due_claim(view, party) or due_refund(view, party) or None)
+
+
+def due_publish(view, party, is_ready):
+    """A publish of the correct terms on each leaving arc: for a leader at once, for a follower where it is ready."""
+    if party in view.deal.leaders or is_ready:
+        for arc in view.deal.leaving[party]:
+            if not view.calls(party, arc, PUBLISH):
+                return arc, Call(PUBLISH, view.ledgers[arc].correct_terms)
+    return None
+
+
+def due_unlock(view, party, seed, signed):
+    """Where the party is ready, an unlock for each lock on each entering arc, by lock and then by arc, with its hashkey for the lock."""
+    for lock in view.deal.locks:
+        for arc in view.deal.entering[party]:
+            if not view.calls(party, arc, UNLOCK, lock):
+                hashkey = due_key(view, party, lock, seed, signed)
+                if hashkey:
+                    return arc, Call(UNLOCK, hashkey)
+    return None
+
+
+def due_key(view, party, lock, seed, signed):
+    """The hashkey that a party signed before for a lock; else, where it leads the lock, its own; else its extension of one that it has seen."""
+    deal = view.deal
+    if lock in signed:
+        return signed[lock]
+    if deal.leaders[lock] == party:
+        inner = Hashkey(lock, secret_of(seed), (), ())
+    else:
+        opening = view.seen_opening(party, lock)
+        if opening is None:
+            return None
+        inner = opening.hashkey
+    return extended(deal.id, inner, party, seed) if deal.is_keyed else inner
+
+
+def due_claim(view, party):
+    """A claim on each entering arc that is correct and triggered."""
+    for arc in view.deal.entering[party]:
+        if view.is_triggered(arc) and view.is_correct(arc) and not view.calls(party, arc, CLAIM):
+            return arc, Call(CLAIM)
+    return None
+
+
+def due_refund(view, party):
+    """A refund on each leaving arc that was published, is neither settled nor triggered, and is known above the expiry of a closed lock."""
+    for arc in view.deal.leaving[party]:
+        if view.published(arc) and not view.settled(arc) and not view.is_triggered(arc):
+            if view.height(arc) > view.least_expiry(arc) and not view.calls(party, arc, REFUND):
+                return arc, Call(REFUND)
+    return None
+
+
+# ---- conduct
+
+def breaches(book, party):
+    """Where a party broke its conduct, by arc and then entry."""
+    for arc in book.deal.touching[party]:
+        ledger = book.ledgers[arc]
+        for at in ledger.calls[party]:
+            if not keeps_rules(book, party, arc, at, ledger.entries[at]):
+                yield arc, at
+
+
+def keeps_rules(book, party, arc, at, entry):
+    """Whether a call of the party keeps the rules of conduct. There is no transfer."""
+    kind = entry.call.kind
+    if kind == PUBLISH:
+        return is_conducted_publish(book, party, arc, entry)
+    if kind == UNLOCK:
+        return is_conducted_unlock(book, party, arc, at, entry.call.stated)
+    if kind == CLAIM:
+        return not book.ledgers[arc].closed_locks(at)
+    if kind == REFUND:
+        return is_conducted_refund(book, arc, at, entry)
+    assert kind == TRANSFER
+    return False
+
+
+def is_conducted_publish(book, party, arc, entry):
+    """A publish has the correct terms, is the party's only one on its arc, and a follower makes it only where it is ready."""
+    is_allowed = party in book.deal.leaders or book.is_ready(party)
+    is_only = len(book.calls(party, arc, PUBLISH)) == 1
+    return is_allowed and is_only and entry.call.stated == book.ledgers[arc].correct_terms
+
+
+def is_conducted_unlock(book, party, arc, at, hashkey):
+    """An unlock comes after its arc's publish, where the party is ready; all unlocks for one lock carry one hashkey, valid on the arc."""
+    if not book.ledgers[arc].published(at) or not book.is_ready(party):
+        return False
+    if hashkey != book.first_unlock(party, hashkey.lock):
+        return False
+    if what_is_wrong(book.deal, arc, book.deal.hashlocks[hashkey.lock], hashkey):
+        return False
+    return book.deal.leaders[hashkey.lock] == party or extends_accepted(book, party, hashkey)
+
+
+def extends_accepted(book, party, hashkey):
+    """Whether a hashkey extends one that was accepted on a leaving arc and whose path lacks the party."""
+    inner = hashkey.tail() if book.deal.is_keyed else hashkey
+    return party not in inner.path and bool(accepted_heights(book, party, inner))
+
+
+def accepted_heights(book, party, hashkey):
+    """The heights at which a hashkey was accepted on arcs that leave a party."""
+    openings = [book.opened(arc, hashkey.lock) for arc in book.deal.leaving[party]]
+    return [opening.height for opening in openings if opening and opening.hashkey == hashkey]
+
+
+def is_conducted_refund(book, arc, at, entry):
+    """A refund comes above the expiry of a lock that is closed."""
+    ledger = book.ledgers[arc]
+    terms = ledger.terms(at)
+    return terms is not None and any(entry.height > expiry(book.deal, arc, terms, lock) for lock in ledger.closed_locks(at))
+
+
+# ---- lateness
+
+def lateness(book, party):
+    """Where a party was late, as a rule, an arc and the due height: publish, then unlock by lock, then claim, then refund, each by arc."""
+    deal = book.deal
+    for arc in deal.leaving[party]:
+        yield from late(book, arc, PUBLISH, publish_reference(book, party), counted(book, party, arc, PUBLISH))
+    for lock in deal.locks:
+        first = book.first_unlock(party, lock)
+        reference = unlock_reference(book, party, lock, first)
+        for arc in deal.entering[party]:
+            heights = [entry.height for _, entry in book.calls(party, arc, UNLOCK, lock) if entry.call.stated == first]
+            yield from late(book, arc, "unlock %d" % lock, reference, heights)
+    for arc in deal.entering[party]:
+        yield from late(book, arc, CLAIM, claim_reference(book, arc), counted(book, party, arc, CLAIM))
+    for arc in deal.leaving[party]:
+        reference = refund_reference(book, arc)
+        heights = counted(book, party, arc, REFUND)
+        yield from late(book, arc, REFUND, reference, [it for it in heights if reference is not None and it > reference])
+
+
+def counted(book, party, arc, kind):
+    """The heights of a party's calls of a kind on an arc."""
+    return [entry.height for _, entry in book.calls(party, arc, kind)]
+
+
+def late(book, arc, rule, reference, heights):
+    """Late: an action is enabled (has a reference), its ledger stands above its due height, and no call that counts stands by then."""
+    if reference is not None:
+        due = reference + book.deal.delta
+        if book.height(arc) > due and not any(height <= due for height in heights):
+            yield rule, arc, due
+
+
+def publish_reference(book, party):
+    """Enabled where the party leads, or is ready."""
+    if party in book.deal.leaders:
+        return 0
+    return book.ready_height(party) if book.is_ready(party) else None
+
+
+def unlock_reference(book, party, lock, first):
+    """Enabled where the party is ready, and leads the lock, or made an unlock call for it, or has seen it opened."""
+    if not book.is_ready(party):
+        return None
+    ready = book.ready_height(party)
+    if book.deal.leaders[lock] == party:
+        return ready
+    if first is None and book.seen_opening(party, lock) is None:
+        return None
+    return max(ready, base_height(book, party, lock, first))
+
+
+def base_height(book, party, lock, first):
+    """The greatest height at which the used hashkey was accepted on a leaving arc, 0 where on none."""
+    if not book.deal.is_keyed:
+        openings = [book.opened(arc, lock) for arc in book.deal.leaving[party]]
+        return max([opening.height for opening in openings if opening], default=0)
+    if first is None:
+        used = book.seen_opening(party, lock).hashkey
+    elif first.path[:1] == (party,):
+        used = first.tail()
+    else:
+        return 0
+    return max(accepted_heights(book, party, used), default=0)
+
+
+def claim_reference(book, arc):
+    """Enabled where the arc is correct and triggered: the height at which its last lock was opened."""
+    if book.is_correct(arc) and book.is_triggered(arc):
+        return max(book.opened(arc, lock).height for lock in book.deal.locks)
+    return None
+
+
+def refund_reference(book, arc):
+    """Enabled where the arc carries an accepted publish and isn't triggered: the least expiry of a lock that isn't opened."""
+    if book.published(arc) and not book.is_triggered(arc):
+        return book.least_expiry(arc)
+    return None
+
+
+# ---- forgery
+
+def forgeries(book, party):
+    """Where an accepted unlock carries a suffix that begins with the party (with timelocks, the leader's secret) that it never presented."""
+    presented = {entry.call.stated for arc in book.deal.touching[party] for _, entry in book.calls(party, arc, UNLOCK)}
+    for arc in book.deal.arcs:
+        for opening in sorted(book.ledgers[arc].openings.values()):
+            suffix = own_suffix(book.deal, party, opening.hashkey)
+            if suffix and suffix not in presented:
+                yield arc, opening.entry
+
+
+def own_suffix(deal, party, hashkey):
+    """What of a hashkey is a party's own: the suffix that begins with it; with timelocks the leader's secret; or None."""
+    if deal.is_keyed:
+        return hashkey.suffix(party) if party in hashkey.path else None
+    is_own = party == deal.leaders[0] and hashlock_of(hashkey.secret) == deal.hashlocks[0]
+    return hashkey if is_own else None
+
+
+# ---- outcomes and findings
+
+def has_ended(book):
+    """A book has ended where every ledger is above the horizon."""
+    return all(book.height(arc) > book.deal.horizon for arc in book.deal.arcs)
+
+
+def outcome(book, party):
+    """The outcome of a party, by the leaving arcs that were triggered (lost) and the entering arcs that are correct and were claimed (got)."""
+    lost = [book.is_triggered(arc) for arc in book.deal.leaving[party]]
+    got = [book.is_correct(arc) and is_claimed(book, arc) for arc in book.deal.entering[party]]
+    if not any(lost):
+        return "FreeRide" if any(got) else "NoDeal"
+    if not all(got):
+        return "Underwater"
+    return "Deal" if all(lost) else "Discount"
+
+
+def is_claimed(book, arc):
+    settled = book.settled(arc)
+    return settled is not None and settled.call.kind == CLAIM
+
+
+def findings(book, conforming):
+    """The findings of a book, in their order; of parties that don't conform nothing is found."""
+    found = []
+    for party, name in enumerate(book.deal.names):
+        if conforming[party]:
+            found += ["broke %s on %d entry %d" % (name, arc, at) for arc, at in breaches(book, party)]
+            found += ["late %s %s on %d due %d" % (name, rule, arc, due) for rule, arc, due in lateness(book, party)]
+            found += ["forged %s on %d entry %d" % (name, arc, at) for arc, at in forgeries(book, party)]
+    unfinished = [arc for arc in book.deal.arcs if book.height(arc) <= book.deal.horizon]
+    return found + ["unfinished %d height %d" % (arc, book.height(arc)) for arc in unfinished]

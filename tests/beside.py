@@ -1,0 +1,73 @@
+"""The program beside the model (`model/`): each answer of the one has to be that of the other, byte for byte.
+
+The tests here are the stored offers: those of `examples/` by each command, its wishes by `clear`, and the runs of `.ci/runs`. The rows
+of `tables/` are asked so too.
+"""
+import os
+import re
+import sys
+from functools import partial
+from pathlib import Path
+
+sys.dont_write_bytecode = True
+from program import HERE, Program, must
+
+sys.path.insert(1, os.path.join(HERE, ".."))
+from model.commands import answer
+
+
+def shortened(text):
+    return text if len(text) < 600 else text[:300] + b" .. " + text[-300:]
+
+
+def must_agree(words, text, found):
+    """Tests an answer of the program against the model's. A race has no one text: of it a refusal is determined, and who takes part."""
+    wanted = answer(words, text)
+    told = "the model answers %d %r %r" % (wanted.status, shortened(wanted.out), shortened(wanted.err))
+    if words[:1] == ["race"] and wanted.status in (0, 1):
+        must(found.status in (0, 1) and determined(found.out) == determined(wanted.out), told)
+    else:
+        must(tuple(found) == tuple(wanted), told)
+
+
+def determined(race):
+    """What is determined of a race's text: the swap, its arcs and parties, and a transcript's header line."""
+    return re.findall(rb"(?m)^(?:swap .*|ledger .* -> .*|party \S+ \w+|\{.*)", race)
+
+
+TOP = Path(HERE).parent
+
+
+class Compared(Program):
+    """The program, of which each answer is compared with the model's."""
+
+    def run(self, words, text):
+        found = super().run(words, text)
+        must_agree(words, text, found)
+        return found
+
+
+def stored_run(folder, program):
+    words = (folder / "args").read_text().split("\n")
+    program.run([word for word in words if word], (folder / "stdin").read_bytes())
+
+
+def stored_offer(file, program):
+    """An offer by each command that reads one, and an audit of what its run tells."""
+    text = file.read_bytes()
+    for words in (["check"], ["run"], ["make"], ["race"]):
+        program.run(words, text)
+    program.run(["audit"], program.run(["run", "--transcript"], text).out)
+
+
+def stored_wishes(file, program):
+    program.run(["clear"], file.read_bytes())
+
+
+def tests():
+    for folder in sorted((TOP / ".ci" / "runs").iterdir()):
+        yield f"beside: {folder.name}", partial(stored_run, folder)
+    for file in sorted((TOP / "examples").glob("*.[jp][ol]*")):
+        yield f"beside: {file.name}", partial(stored_offer, file)
+    for file in sorted((TOP / "examples").glob("*.clear")):
+        yield f"beside: {file.name}", partial(stored_wishes, file)
