@@ -1,0 +1,84 @@
+"""The transcripts that the page is tried with: those that are stored, those of the examples' jobs, and those of the tests' tables."""
+import re
+import sys
+from pathlib import Path
+
+sys.dont_write_bytecode = True
+TOP = Path(__file__).resolve().parent.parent
+sys.path.insert(0, str(TOP / "tests"))
+import findings
+import tables
+from texts import deal, edited, signed
+
+TABLES = ["attacks", "conforming", "fair", "findings", "replies", "replies_to_keys", "scripts", "strategies", "versions"]
+BUILT = TOP / "out" / "proved" / "swap"
+
+
+def transcript_of(program, job):
+    """The transcript of a job's run, or nothing where it has none."""
+    return program.run(["run", "--transcript"], job.encode()).out
+
+
+def audit_of(program, transcript):
+    """The report of an audit, and the reason of its refusal; one of the two is empty."""
+    answer = program.run(["audit"], transcript)
+    return answer.out.decode(), answer.err.decode().strip().removeprefix("swap: ").removeprefix("refused: ")
+
+
+def stored():
+    for path in sorted([*TOP.glob("examples/*.transcript"), *TOP.glob("tests/deals/*.transcript")]):
+        yield path.name, signed(path.read_text()).encode()
+    for path in sorted(TOP.glob(".ci/runs/*/args")):
+        if path.read_text().split() == ["audit"]:
+            yield f"run {path.parent.name}", (path.parent / "stdin").read_bytes()
+
+
+def of_examples(program):
+    for path in sorted(TOP.glob("examples/*.job")):
+        yield path.stem, transcript_of(program, path.read_text())
+
+
+def of_number(program, *words):
+    """The transcript of the job of a number."""
+    return transcript_of(program, program.run(["gen", *words], b"").out.decode())
+
+
+def taken_as(transcript, names):
+    """The transcript with those parties told as conforming."""
+    for name in names:
+        transcript = transcript.replace(f'{{"actor":"manual","name":"{name}"}}', f'{{"actor":"conforming","name":"{name}"}}')
+    return transcript
+
+
+def of_case(program, text, case):
+    edits, _, events = case.rpartition("--\n")[0].partition("--\n")
+    return transcript_of(program, signed(edited(text, edits.strip()) + events))
+
+
+def of_schedule(program, text, row):
+    schedule, names, _ = row.split(" => ")
+    transcript = transcript_of(program, findings.job_of(text, schedule)).decode()
+    return taken_as(transcript, [] if names == "nobody" else names.split(", ")).encode()
+
+
+def in_single_ticks(transcript):
+    """The same book, told by ticks of one height each."""
+    head, *ledgers = re.split(r"(?m)^ledger [0-9]+ [0-9]+\n", transcript.removesuffix("end\n"))
+    slow = [re.sub(r"(?m)^t ([0-9]+)\n", lambda found: int(found[1]) * "t 1\n", ledger) for ledger in ledgers]
+    return head + "".join(f"ledger {arc} {lines.count(chr(10))}\n{lines}" for arc, lines in enumerate(slow)) + "end\n"
+
+
+def of_tables(program):
+    """Each run of a table's case, and each book of a table's schedule."""
+    for table in TABLES:
+        for command, kind, deals, body in tables.tables_of(table):
+            rows = tables.cases_of(body) if kind in tables.CASES else tables.rows_of(body)
+            for name in deals:
+                for title, row in rows:
+                    if kind == "cases" and command == "run":
+                        yield f"{table}: {title}", of_case(program, deal(name), row)
+                    elif kind in ("found", "ended"):
+                        transcript = of_schedule(program, deal(name), row)
+                        yield f"{table}: {title}", transcript
+                        if "=> late" in row:
+                            yield f"{table}, slowly: {title}", in_single_ticks(transcript.decode()).encode()
