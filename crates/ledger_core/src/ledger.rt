@@ -1,8 +1,8 @@
 //! The ledger of one arc.
 
-ghost use Rattle.std.specs.Prelude.{◌≡◌, ◌≢◌, ◌<◌, ◌≤◌, ◌+◌, ◌++◌, ◌==◌, ◌||◌, ◌∷◌, [], ℕ, IsTrue, length, drop, OnOk, OnErr, IfOk};
+ghost use Rattle.std.specs.Prelude.{◌≡◌, ◌≢◌, ◌<◌, ◌≤◌, ◌+◌, ◌++◌, ◌==◌, ◌||◌, ◌&&◌, ◌∷◌, [], ℕ, IsTrue, length, drop, is_some, is_none, OnOk, OnErr, IfOk};
 ghost use Rattle.swap_digraph.specs.Deal.{party, counterparty, IsWellSized, touches};
-ghost use Rattle.ledger_core.specs.History.{height, held, balance, fit, is_full, is_clock_full, reply_to, reply_to_tick, IsLegal};
+ghost use Rattle.ledger_core.specs.History.{height, held, balance, accounts, published, settled, fit, is_full, is_clock_full, reply_to, reply_to_tick, IsLegal};
 ghost use Rattle.ledger_core.specs.Known.{is_known_in};
 ghost use Rattle.ledger_core.specs.Ledger.{call_entry, tick_entry, IsAfter, AreKept, AddUp};
 
@@ -213,6 +213,30 @@ impl Ledger {
         ensures { result ≡ held self.now.history }
     {
         self.accounts.held
+    }
+
+    /// Both balances and the held amount, in units.
+    pub fn accounts(&self) -> Accounts
+        ensures { result ≡ accounts self.now.deal self.now.arc self.now.history }
+    {
+        self.accounts
+    }
+
+    /// Whether a publish was accepted.
+    pub fn is_published(&self) -> bool
+        ensures { result ≡ is_some (published self.now.history) }
+    {
+        self.contract.is_some()
+    }
+
+    /// Whether what was published is neither claimed nor refunded.
+    pub fn is_unsettled(&self) -> bool
+        ensures { result ≡ (is_some (published self.now.history) && is_none (settled self.now.history)) }
+    {
+        match &self.contract {
+            Some(contract) => !contract.is_settled(),
+            None => false,
+        }
     }
 
     pub fn arc(&self) -> ArcId

@@ -1,9 +1,11 @@
 -- A machine that rests may: nothing is due when it begins to, and it ends with what could make something due.
-use Rattle.std.proofs.Common.{◌≡◌, ℕ, ◌+◌, ◌==◌, ◌&&◌, count_by, zero-add, ◌≤◌, nat_le, Bool, true, false, cond, List, [], ◌∷◌, ◌++◌, get_or, set}
+use Rattle.std.proofs.Common.{◌≡◌, ℕ, zero, suc, ◌+◌, ◌*◌, ◌==◌, ◌&&◌, count_by, zero-add, ◌≤◌, nat_le, Bool, true}
+use Rattle.std.proofs.Common.{false, cond, List, [], ◌∷◌, ◌++◌, get_or, set}
 use Rattle.std.proofs.Common.{Option, Some, None, is_some, option_map, refl, sym, ap, ◌∙◌, subst, leb-true, arith, ◌<◌, length}
 use Rattle.std.specs.Prelude.{Result, Ok, Err, OnOk, OnErr}
 use Rattle.std.proofs.Math.Seq.{map-set_same}
 use Rattle.std.proofs.lemmas.Bool.{ne_eqb}
+use Rattle.std.proofs.lemmas.List.Folds.{list_all-append}
 use Rattle.std.proofs.lemmas.List.Sums.{sum_by-cons}
 use Rattle.swap_digraph.specs.declared.deal.Deal.{Deal}
 use Rattle.ledger_core.specs.declared.entry.Call.{Call}
@@ -11,6 +13,10 @@ use Rattle.ledger_core.specs.declared.entry.What.{What}
 use Rattle.ledger_core.specs.declared.entry.What.TheVariants.{Call as Made, Tick}
 use Rattle.ledger_core.specs.declared.entry.Entry.{Entry}
 use Rattle.ledger_core.specs.Facts.{is_call}
+use Rattle.escrow_core.specs.declared.reply.Reply.TheVariants.{Accepted}
+use Rattle.ledger_core.specs.declared.runs.Run.{Run}
+use Rattle.ledger_core.specs.Ledger.{tick_entry}
+use Rattle.ledger_core.specs.Runs.{ticks_above, ticks_of}
 use Rattle.ledger_core.specs.History.{height}
 use Rattle.ledger_core.specs.Book.{Histories, history}
 use Rattle.history_index.specs.Value.{IndexState}
@@ -48,13 +54,23 @@ begins s o until e n u = record {
       subst (λ t. EndsBy t (least_expiry s.deal a (history s.known a))) (sym (u ∙ b.1)) b.2;
 }
 
+-- Rest, by the machine's own word for it.
+
+pub rests_by : (r : Rest) (s : MachineState) (t : ℕ) → r ≡ Until (Some t) → MayRest r s → IsAtRest (Some t) s
+rests_by r s t e m = subst (λ x. MayRest x s) e m
+
+pub rests_always : (r : Rest) (s : MachineState) (t : ℕ) → r ≡ Until None → MayRest r s → IsAtRest (Some t) s
+rests_always r s t e m =
+    let n : IsAtRest None s = subst (λ x. MayRest x s) e m in
+    record { nothing = n.nothing; ends = λ a i waits. absurd (n.ends a i waits) }
+
 -- Rest goes on.
 
 first_none : (xs : List Action) → first xs ≡ None → xs ≡ []
 first_none [] e = refl
 first_none (x ∷ xs) e = absurd (cc e)
 
-still : (until : Option ℕ) (s : MachineState) (a : ℕ) (more : List Entry) → are_ticks more ≡ true
+pub still : (until : Option ℕ) (s : MachineState) (a : ℕ) (more : List Entry) → are_ticks more ≡ true
     → ((e : ℕ) → EndsBy until e → height (history s.known a ++ more) ≤ e)
     → IsAtRest until s → IsAtRest until (learnt s a more)
 still until s a more ticks low r =
@@ -129,3 +145,14 @@ no_calls [] = refl
 no_calls (e ∷ h) =
     ap (λ n. n == 0) (sum_by-cons (λ x. cond (is_call x.what) 1 0) e h)
     ∙ first_no_call e.what (count_by (λ e. is_call e.what) h) (are_ticks h) (no_calls h)
+
+-- a run is all ticks
+
+ticks_above_are : (at k n : ℕ) → are_ticks (ticks_above at k n) ≡ true
+ticks_above_are at k zero = refl
+ticks_above_are at k (suc n) =
+    list_all-append (λ e. is_ticking e.what) (ticks_above at k n) (tick_entry k (at + k * suc n) Accepted ∷ [])
+    ∙ ap (λ b. b && true) (ticks_above_are at k n)
+
+pub are_all_ticks : (r : Run) → are_ticks (ticks_of r) ≡ true
+are_all_ticks r = ticks_above_are r.above r.by r.count

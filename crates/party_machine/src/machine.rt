@@ -1,17 +1,19 @@
 //! A party that acts on what it knows.
 
-ghost use Rattle.std.specs.Prelude.{◌≡◌, ◌<◌, ◌+◌, ◌++◌, ℕ, length, Some, option_map, IfOk, OnOk, OnErr};
+ghost use Rattle.std.specs.Prelude.{◌≡◌, ◌<◌, ◌+◌, ◌++◌, ℕ, length, Some, option_map, IfOk, IfSome, OnOk, OnErr};
 ghost use Rattle.swap_base.specs.Fault.{Gives};
 ghost use Rattle.swap_digraph.specs.Deal.{IsWellSized};
 ghost use Rattle.hashkey_path.specs.declared.hashkey.Hashkey.{Hashkey};
 ghost use Rattle.ledger_core.specs.Book.{history};
 ghost use Rattle.ledger_core.specs.History.{IsLegal};
+ghost use Rattle.ledger_core.specs.Runs.{ticks_of, IsRightRun};
 ghost use Rattle.history_index.specs.Value.{new_index, IsSameArc};
 ghost use Rattle.swap_rules.specs.Accepted.{IsAccepted};
 ghost use Rattle.swap_laws.specs.Machine.{IsWallet};
 ghost use Rattle.party_wallet.specs.Value.{signed_in};
 ghost use Rattle.party_wallet.specs.Keys.{new_wallet};
 ghost use Rattle.party_machine.specs.Wallet.{wallet_of};
+ghost use Rattle.party_machine.specs.Rest.{IsAtRest};
 ghost use Rattle.party_machine.specs.Machine.{machine_for, new_machine, learnt, action_of, next_of, noted_for, IsOfSame};
 
 use crate::actions::{due_first, due_last};
@@ -20,7 +22,7 @@ use crate::misfit::{MachineFault, Misfit};
 use crate::rest::{Rest, are_ticks};
 use crate::signing::hashkey_for;
 use history_index::{Index, Steps};
-use ledger_core::{Call, EntryList, Facts};
+use ledger_core::{Call, EntryList, Facts, Run};
 use party_phase_two::{due_unlock, rest_until};
 use party_wallet::Wallet;
 use std::alloc::Global;
@@ -100,6 +102,20 @@ impl Machine {
         added
     }
 
+    /// Adds ticks to what is known of an arc, a step each. It takes no memory, and as long for many as for one.
+    pub fn learn_ticks<L: Ledger>(&mut self, arc: ArcId, run: Run, steps: &mut Steps<L>)
+        requires arc { arc < length self.old.deal.graph.arcs }
+        requires right { IsRightRun run }
+        requires legal { IsLegal self.old.deal arc (history self.old.known arc ++ ticks_of run) }
+        ensures learnt { self.new ≡ learnt self.old arc (ticks_of run) }
+        ensures steps { steps.new ≡ steps.old + run.count }
+    {
+        let index = &mut self.known[arc as usize];
+        index.push_ticks(run, steps);
+        let height = index.height();
+        self.rest = self.rest.after(true, height);
+    }
+
     /// The first call that is due, with its arc. It signs a hashkey only for the call that it answers, and keeps it.
     /// Once nothing is due it rests: it looks again only after it has learnt a call, or a tick above an expiry that it waits for.
     pub fn next(&mut self) -> Result<Option<(ArcId, Call)>, NoMemory>
@@ -131,6 +147,17 @@ impl Machine {
                 }
                 Ok(last)
             }
+        }
+    }
+
+    /// A height up to which no tick makes anything due, where nothing is due and the party rests.
+    pub fn rests_until(&self) -> Option<u64>
+        ensures { IfSome result (λ t. IsAtRest (Some t) self.now) }
+    {
+        match self.rest {
+            Rest::Awake => None,
+            Rest::Until(Some(until)) => Some(until),
+            Rest::Until(None) => Some(u32::MAX as u64),
         }
     }
 

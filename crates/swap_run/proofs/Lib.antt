@@ -14,6 +14,10 @@ pub mod Turns
 pub mod Ticks
 pub mod Rounds
 pub mod Finish
+pub mod Quiet
 pub mod Fair
 pub mod Reached
 pub mod Asked
+-- steps taken apart, and steps where slots are swept
+pub mod Calls
+pub mod Swept

@@ -2,11 +2,13 @@
 //! function without a body; its contract is the law.
 //!
 //! Read `specs/Run.antt` first, then `specs/Laws.antt`; `specs/Fair.antt` has the fair finish of a run, and `specs/FairLaws.antt` its
-//! laws. `specs/Asked.antt` says what strategies are asked.
+//! laws. `specs/Asked.antt` says what strategies are asked, and `specs/Called.antt` takes a
+//! step apart, for swaps whose ledgers stand on shared chains.
 #![tactic(auto)]
 
 ghost use Rattle.swap_run.specs.Asked.{RunsAskInOrder, FinishesAskInOrder, RunsWithoutStrategies, FinishesWithoutStrategies, RulesDecideRuns};
 ghost use Rattle.swap_run.specs.Asked.{RulesDecideFinishes};
+ghost use Rattle.swap_run.specs.CalledLaws.{CallsSplit, CallsArePlaced, PassedIsGood, NoneSwept, StepsOnAreGood};
 ghost use Rattle.swap_run.specs.FairLaws.{FinishesAreRuns, FinishesEnd, FinishesAreGood, FinishHeights, FairIsDealt, ActsComeToRest, ActsAreEnough};
 ghost use Rattle.swap_run.specs.FairLaws.{OthersRest, TurnsAreGood, RoundsAreGood, RoundsRaise, RoundsCountDown, FinishStops, FinishGoesOn};
 ghost use Rattle.swap_run.specs.Laws.{StartIsGood, StepsAreGood, DueCallsCanBeMade, GoodIsKept, RunsAreKept};
@@ -66,4 +68,18 @@ pub fn every_run_asks_in_order()
     ensures no_strategy_fair { FinishesWithoutStrategies }
     ensures decided { RulesDecideRuns }
     ensures decided_fair { RulesDecideFinishes }
+{}
+
+/// What an event does is what it does before its call, the call, and what the call's party then knows. Where a call leaves no entry on a swept slot,
+/// the state stays good.
+pub fn every_event_splits()
+    ensures split { CallsSplit }
+    ensures placed { CallsArePlaced }
+    ensures passed { PassedIsGood }
+{}
+
+/// Where slots are swept a step leaves the state good; where none is, steps and turns are those of a run.
+pub fn every_swept_step_is_good()
+    ensures none { NoneSwept }
+    ensures good { StepsOnAreGood }
 {}

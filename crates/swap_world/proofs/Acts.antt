@@ -1,5 +1,5 @@
--- What an act of a machine makes of the ledgers and of the machine.
-use Rattle.std.proofs.Common.{◌≡◌, ◌⊎◌, inl, inr, ℕ, ◌<◌, List, length, get_or, set, Option, Some, None, option_map, refl, sym, ap, ap₂, ◌∙◌}
+-- What an act of a machine makes of the ledgers and of the machine, and what its party is told.
+use Rattle.std.proofs.Common.{◌≡◌, ℕ, ◌<◌, Bool, List, length, get_or, set, Option, Some, None, option_map, refl, sym, ap, ap₂, ◌∙◌}
 use Rattle.swap_digraph.specs.declared.deal.Deal.{Deal}
 use Rattle.hashkey_path.specs.declared.hashkey.Hashkey.{Hashkey}
 use Rattle.ledger_core.specs.declared.entry.Entry.{Entry}
@@ -8,11 +8,12 @@ use Rattle.ledger_core.specs.Value.{LedgerState}
 use Rattle.ledger_core.specs.Book.{Histories, history}
 use Rattle.swap_laws.specs.Machine.{noted}
 use Rattle.swap_rules.specs.Due.{Action}
-use Rattle.ledger_core.specs.Ledger.{after_call}
 use Rattle.party_wallet.specs.Value.{signed_in}
 use Rattle.party_machine.specs.Machine.{MachineState, IsOfSame, action_of, next_of, noted_for}
-use Rattle.swap_world.specs.Acting.{histories, book_after, machine_after}
-use Rattle.swap_world.proofs.Ledgers.{history_at, book_ok, book_err}
+use Rattle.swap_world.specs.declared.told.Told.{Told}
+use Rattle.swap_world.specs.On.{told_by}
+use Rattle.swap_world.specs.Acting.{histories, landed, book_after, machine_after, told_of}
+use Rattle.swap_world.proofs.Ledgers.{history_at, book_ok}
 use Rattle.swap_world.proofs.Signed.{signed_by, signed_still}
 
 -- the action of a call that a machine answers
@@ -31,41 +32,42 @@ same_machine : (n : MachineState) (d : Deal) (v : ℕ) (z : List ℕ) (k : Histo
     → n ≡ record { deal = d; me = v; seed = z; known = k; signed = g }
 same_machine n d v z k g e1 e2 e3 e4 e5 = rw (sym e1, sym e2, sym e3, sym e4, sym e5) refl
 
-pub still : (m n : MachineState) (o : Option (ℕ × Call)) (b : Histories) → o ≡ None → option_map action_of o ≡ next_of m → IsOfSame m n
-    → ((i : ℕ) → signed_in n.signed i ≡ noted_for (signed_in m.signed) o i) → n ≡ machine_after m (next_of m) b
-still m n o b e f k g =
+pub still : (sw : ℕ → Bool) (m n : MachineState) (o : Option (ℕ × Call)) (b : Histories) → o ≡ None → option_map action_of o ≡ next_of m → IsOfSame m n
+    → ((i : ℕ) → signed_in n.signed i ≡ noted_for (signed_in m.signed) o i) → n ≡ machine_after sw m (next_of m) b
+still sw m n o b e f k g =
     let none : (i : ℕ) → signed_in n.signed i ≡ signed_in m.signed i = λ i. g i ∙ ap (λ x. noted_for (signed_in m.signed) x i) e in
     same_machine n m.deal m.me m.seed m.known m.signed k.deal k.me k.seed k.known (signed_still n.signed m.signed k.places none)
-    ∙ sym (ap (λ x. machine_after m x b) (silent m o e f))
+    ∙ sym (ap (λ x. machine_after sw m x b) (silent m o e f))
 
-module _ (m n : MachineState) (ls : List LedgerState) (a : ℕ) (c : Call) (l : LedgerState) (same : IsOfSame m n) (below : a < length ls)
+module _ (sw : ℕ → Bool) (m n : MachineState) (ls : List LedgerState) (a : ℕ) (c : Call) (l : LedgerState) (same : IsOfSame m n) (below : a < length ls)
     (is : l ≡ get_or ls a l) (next : next_of m ≡ Some (action a c)) where
-  called : after_call n.deal a n.me c l.history ≡ after_call m.deal a m.me c l.history
-  called = ap₂ (λ (d : Deal) (v : ℕ). after_call d a v c l.history) same.deal same.me
+  called : landed (sw a) n.deal a n.me c l.history ≡ landed (sw a) m.deal a m.me c l.history
+  called = ap₂ (λ (d : Deal) (v : ℕ). landed (sw a) d a v c l.history) same.deal same.me
 
-  pub book_is : (new : LedgerState) → new.history ≡ after_call n.deal a n.me c l.history → histories (set ls a new) ≡ book_after m (next_of m) (histories ls)
-  book_is new e = book_ok ls a l new (after_call m.deal a m.me c) below is (e ∙ called) ∙ sym (ap (λ o. book_after m o (histories ls)) next)
-
-  pub book_or : (new : LedgerState) → (new.history ≡ l.history) ⊎ (new.history ≡ after_call n.deal a n.me c l.history)
-      → (histories (set ls a new) ≡ histories ls) ⊎ (histories (set ls a new) ≡ book_after m (next_of m) (histories ls))
-  book_or new (inl e) = inl (book_err ls a l new is e)
-  book_or new (inr e) = inr (book_is new e)
+  pub book_is : (new : LedgerState) → new.history ≡ landed (sw a) n.deal a n.me c l.history
+      → histories (set ls a new) ≡ book_after sw m (next_of m) (histories ls)
+  book_is new e = book_ok ls a l new (landed (sw a) m.deal a m.me c) below is (e ∙ called) ∙ sym (ap (λ o. book_after sw m o (histories ls)) next)
 
   pub machine_is : (new : MachineState) → ((i : ℕ) → signed_in n.signed i ≡ noted (signed_in m.signed) c i)
-      → new ≡ record { deal = n.deal; me = n.me; seed = n.seed; known = set n.known a (after_call n.deal a n.me c l.history); signed = n.signed }
-      → new ≡ machine_after m (next_of m) (histories ls)
+      → new ≡ record { deal = n.deal; me = n.me; seed = n.seed; known = set n.known a (landed (sw a) n.deal a n.me c l.history); signed = n.signed }
+      → new ≡ machine_after sw m (next_of m) (histories ls)
   machine_is new g e =
-      let k : set n.known a (after_call n.deal a n.me c l.history) ≡ set m.known a (after_call m.deal a m.me c (history (histories ls) a))
+      let k : set n.known a (landed (sw a) n.deal a n.me c l.history) ≡ set m.known a (landed (sw a) m.deal a m.me c (history (histories ls) a))
       =
       ap₂ (λ (x : Histories) (h : List Entry). set x a h) same.known (called
-      ∙ ap (λ (h : List Entry). after_call m.deal a m.me c h) (sym (history_at ls a l below is))) in
+      ∙ ap (λ (h : List Entry). landed (sw a) m.deal a m.me c h) (sym (history_at ls a l below is))) in
       e ∙ (same_machine (record {
         deal = n.deal;
         me = n.me;
         seed = n.seed;
-        known = set n.known a (after_call n.deal a n.me c l.history);
+        known = set n.known a (landed (sw a) n.deal a n.me c l.history);
         signed =
             n.signed;
       }) m.deal m.me m.seed _ _
       same.deal same.me same.seed k (signed_by n.signed m.signed c same.places g)
-      ∙ sym (ap (λ o. machine_after m o (histories ls)) next))
+      ∙ sym (ap (λ o. machine_after sw m o (histories ls)) next))
+
+  pub told_is : (t : Told) → t ≡ told_by (sw a) n.deal a n.me c l.history → t ≡ told_of sw m (next_of m) (histories ls)
+  told_is t e =
+      e ∙ (ap₂ (λ (d : Deal) (v : ℕ). told_by (sw a) d a v c l.history) same.deal same.me
+      ∙ (ap (told_by (sw a) m.deal a m.me c) (sym (history_at ls a l below is)) ∙ sym (ap (λ o. told_of sw m o (histories ls)) next)))

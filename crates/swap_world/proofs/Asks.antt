@@ -1,4 +1,4 @@
--- A party that asks its strategy: what is asked and answered, and what comes of it.
+-- A party that asks its strategy: what is asked and answered, and what comes of it where slots may be swept.
 use Rattle.std.proofs.Common.{◌≡◌, ◌⊎◌, inl, inr, Result, Ok, Err, OnOk, OnErr, ℕ, ◌+◌, ◌<◌, Bool, false, List, [], ◌∷◌, ◌++◌, length, set, Option}
 use Rattle.std.proofs.Common.{get_or, None, refl, sym, ap, ap₂, ◌∙◌, subst, arith, length-append}
 use Rattle.std.specs.Result.{is_err}
@@ -14,17 +14,18 @@ use Rattle.deviator_script.specs.declared.event.Event.TheVariants.{Act}
 use Rattle.deviator_script.specs.declared.job.Role.{Role}
 use Rattle.deviator_script.specs.declared.job.Role.TheVariants as kinds
 use Rattle.swap_run.specs.Asked.{Answers, with_answers}
-use Rattle.swap_run.specs.Run.{Cast, Plan, Question, State, step}
+use Rattle.swap_run.specs.Run.{Cast, Plan, Question, State}
+use Rattle.swap_run.specs.Called.{step_on}
 use Rattle.swap_run.specs.Laws.{IsReadyCast, IsGood, IsKept}
-use Rattle.swap_run.proofs.Good.{good_is_kept}
 use Rattle.swap_world.specs.Cast.{cast_with}
 use Rattle.swap_world.specs.Value.{WorldState, cast_for, Continues}
-use Rattle.swap_world.specs.Acting.{histories, taken, seen, asked_once, question_of}
-use Rattle.swap_world.specs.Gone.{Gives, Answered, MayCome, HasAsked, HasGone, IsCut}
+use Rattle.swap_world.specs.Acting.{histories, taken, seen, told_to, asked_once, question_of}
+use Rattle.swap_world.specs.Gone.{Gives, Answered, MayCome, HasAsked, HasGone}
+use Rattle.swap_world.specs.On.{IsCutOn, told_in}
 use Rattle.swap_world.specs.Inside.{name_in, questions_in}
 use Rattle.swap_world.specs.declared.actor.Actor.{Actor}
 use Rattle.swap_world.specs.declared.actor.Actor.TheVariants.{Planned}
-use Rattle.swap_world.proofs.States.{IsPlanAt, answered, state}
+use Rattle.swap_world.proofs.States.{IsPlanAt, answered, answered_told, state}
 use Rattle.swap_world.proofs.Worlds.{Seeds, good_step, kept_step, world}
 
 -- as many questions as parties that asked
@@ -58,7 +59,7 @@ pub record IsAsking (gives : Gives) (d : Deal) (conforming : List Bool) (seeds :
 
 module _ {gives : Gives} {d : Deal} {conforming : List Bool} {seeds : Seeds} {roles : List Role} {ps : List ℕ} {ns : List Plan}
     {os : List (Option (ℕ × Call))} {ls : List LedgerState} {xs : List Actor} {p : ℕ} {n : Plan} {name : List ℕ} {o : Option (ℕ × Call)}
-    {ps' : List ℕ} {ns' : List Plan} {os' : List (Option (ℕ × Call))}
+    {ps' : List ℕ} {ns' : List Plan} {os' : List (Option (ℕ × Call))} (sw : ℕ → Bool)
     (k : IsAsking gives d conforming seeds roles ps ns os ls xs p n name o ps' ns' os') where
   abbrev c : Cast
   c = cast_with d conforming seeds roles
@@ -90,16 +91,16 @@ module _ {gives : Gives} {d : Deal} {conforming : List Bool} {seeds : Seeds} {ro
       ∙ (ap (λ (x : List (Option (ℕ × Call))). get_or x (length os) None) k.answer ∙ get_or_at os o [] None (length os) refl))
 
   -- what the act comes to, with any answers that go on so
-  stepped : (g : Answers) → Follows g → (new : Plan) (b : Histories) → b ≡ taken d p o (histories ls)
-      → new ≡ seen d p o (histories ls) (asked_once n) → state d after (set xs p (Planned new)) b ≡ step (with_answers c g) s (Act p)
+  stepped : (g : Answers) → Follows g → (new : Plan) (b : Histories) → b ≡ taken sw d p o (histories ls)
+      → new ≡ seen sw d p o (histories ls) (asked_once n) → state d after (set xs p (Planned new)) b ≡ step_on sw (with_answers c g) s (Act p)
   stepped g e new b eb en =
       ap (λ (x : List Question). state d x (set xs p (Planned new)) b) asks_more
-      ∙ answered d conforming seeds roles before ls xs g p n new b name o k.place k.role (now_is g e) k.may eb en
+      ∙ answered d conforming seeds roles before ls xs sw g p n new b name o k.place k.role (now_is g e) k.may eb en
 
   -- the histories alone
-  stepped_book : (g : Answers) → Follows g → taken d p o (histories ls) ≡ (step (with_answers c g) s (Act p)).book
+  stepped_book : (g : Answers) → Follows g → taken sw d p o (histories ls) ≡ (step_on sw (with_answers c g) s (Act p)).book
   stepped_book g e =
-      ap (λ (t : State). t.book) (stepped g e (seen d p o (histories ls) (asked_once n)) (taken d p o (histories ls)) refl refl)
+      ap (λ (t : State). t.book) (stepped g e (seen sw d p o (histories ls) (asked_once n)) (taken sw d p o (histories ls)) refl refl)
 
   -- the world before
   abbrev pub old : Bool → WorldState
@@ -120,8 +121,8 @@ module _ {gives : Gives} {d : Deal} {conforming : List Bool} {seeds : Seeds} {ro
       }
 
   pub has_gone : {A E : Type 0} (r : Result A E) (x y : Bool) (new : Plan) (b : Histories) → y ≡ is_err r → x ≡ false
-      → OnOk r (b ≡ taken d p o (histories ls)) → OnOk r (new ≡ seen d p o (histories ls) (asked_once n))
-      → OnOk r (HasGone gives (λ c s. step c s (Act p)) (old x) (now y new b))
+      → b ≡ taken sw d p o (histories ls) → OnOk r (new ≡ seen sw d p o (histories ls) (asked_once n))
+      → OnOk r (HasGone gives (λ c s. step_on sw c s (Act p)) (old x) (now y new b))
   has_gone (Ok u) x y new b is on eb en = record {
     asked = has_asked x y new b;
     same = ap (λ (z : Bool). now z new b) (is ∙ sym on);
@@ -129,35 +130,26 @@ module _ {gives : Gives} {d : Deal} {conforming : List Bool} {seeds : Seeds} {ro
   }
   has_gone (Err u) x y new b is on eb en = tt
 
-  pub is_cut : {A E : Type 0} (r : Result A E) (x y : Bool) (new : Plan) (b : Histories)
-      → OnErr r ((b ≡ histories ls) ⊎ (b ≡ taken d p o (histories ls))) → OnErr r (IsCut gives (Act p) (old x) (now y new b))
-  is_cut (Ok u) x y new b err = tt
-  is_cut (Err u) x y new b err = record { cast = refl; asked = has_asked x y new b; book = by err }
-    where
-      by : (b ≡ histories ls) ⊎ (b ≡ taken d p o (histories ls))
-          → (b ≡ histories ls) ⊎ ((g : Answers) → Continues (now y new b) g → b ≡ (step (cast_for (old x) g) s (Act p)).book)
-      by (inl h) = inl h
-      by (inr h) = inr (λ g e. h ∙ stepped_book g e)
+  pub is_cut : {A E : Type 0} (r : Result A E) (x y : Bool) (new : Plan) (b : Histories) → b ≡ taken sw d p o (histories ls)
+      → OnErr r (IsCutOn gives sw (Act p) (old x) (now y new b))
+  is_cut (Ok u) x y new b eb = tt
+  is_cut (Err u) x y new b eb = record { cast = refl; asked = has_asked x y new b; book = inr (λ g e. eb ∙ stepped_book g e) }
+
+  -- what the party is told
+  pub told_asked : (g : Answers) → Follows g → told_to sw d p o (histories ls) ≡ told_in sw (with_answers c g) s (Act p)
+  told_asked g e = answered_told d conforming seeds roles before ls xs sw g p n name o k.place k.role (now_is g e) k.may
 
   -- the answers so far
   abbrev so_far : Answers
   so_far i = get_or os' i None
 
   pub good_asked : {A E : Type 0} (r : Result A E) (y : Bool) (new : Plan) (b : Histories) → y ≡ is_err r → y ≡ false
-      → OnOk r (b ≡ taken d p o (histories ls)) → OnOk r (new ≡ seen d p o (histories ls) (asked_once n))
+      → b ≡ taken sw d p o (histories ls) → OnOk r (new ≡ seen sw d p o (histories ls) (asked_once n))
       → IsReadyCast c → p < d.graph.n → IsGood c s → IsGood c (state d after (set xs p (Planned new)) b)
   good_asked (Ok u) y new b is on eb en ready can good =
-      subst (IsGood c) (sym (stepped so_far (λ i l. refl) new b eb en)) (good_step c so_far s (Act p) ready can good)
+      subst (IsGood c) (sym (stepped so_far (λ i l. refl) new b eb en)) (good_step c so_far sw s (Act p) ready can good)
   good_asked (Err u) y new b is on eb en ready can good = absurd (false≢true (sym on ∙ is))
 
-  kept_after : IsReadyCast c → p < d.graph.n → IsGood c s → IsKept c (taken d p o (histories ls))
-  kept_after ready can good = subst (IsKept c) (sym (stepped_book so_far (λ i l. refl))) (kept_step c so_far s (Act p) ready can good)
-
-  pub kept_asked : {A E : Type 0} (r : Result A E) (b : Histories) → OnOk r (b ≡ taken d p o (histories ls))
-      → OnErr r ((b ≡ histories ls) ⊎ (b ≡ taken d p o (histories ls))) → IsReadyCast c → p < d.graph.n → IsGood c s → IsKept c b
-  kept_asked (Ok u) b ok err ready can good = subst (IsKept c) (sym ok) (kept_after ready can good)
-  kept_asked (Err u) b ok err ready can good = by err
-    where
-      by : (b ≡ histories ls) ⊎ (b ≡ taken d p o (histories ls)) → IsKept c b
-      by (inl h) = subst (IsKept c) (sym h) (good_is_kept c s ready good)
-      by (inr h) = subst (IsKept c) (sym h) (kept_after ready can good)
+  pub kept_asked : (b : Histories) → b ≡ taken sw d p o (histories ls) → IsReadyCast c → p < d.graph.n → IsGood c s → IsKept c b
+  kept_asked b eb ready can good =
+      subst (IsKept c) (sym (eb ∙ stepped_book so_far (λ i l. refl))) (kept_step c so_far sw s (Act p) ready can good)

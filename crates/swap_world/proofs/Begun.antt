@@ -1,5 +1,5 @@
 -- A world before any event.
-use Rattle.std.proofs.Common.{◌≡◌, Bool, false, List, [], map, Result, Ok, sym, ap, ap₂, ◌∙◌, subst}
+use Rattle.std.proofs.Common.{◌≡◌, Bool, false, List, [], length, map, Result, Ok, sym, ap, ap₂, ◌∙◌, subst}
 use Rattle.swap_base.specs.Fault.{◌>>=◌, Fails}
 use Rattle.swap_base.specs.declared.fault.Fault.{Fault}
 use Rattle.swap_base.specs.declared.fault.Fault.TheVariants.{Refused, NoMemory}
@@ -16,10 +16,10 @@ use Rattle.swap_world.specs.Cast.{cast_with, cast_of}
 use Rattle.swap_world.specs.Value.{WorldState, new_world}
 use Rattle.swap_world.specs.Staff.{actors_of, world_of, HaveRoles, HaveSeeds}
 use Rattle.swap_world.specs.Acting.{histories}
-use Rattle.swap_world.specs.Inside.{plan_in, new_ledgers, AreLedgersOf, AreActorsOf}
+use Rattle.swap_world.specs.Inside.{plan_in, AreNewLedgers, HaveRoom, AreLedgersOf, AreActorsOf}
 use Rattle.swap_world.specs.declared.actor.Actor.{Actor}
 use Rattle.swap_world.specs.declared.staff.WrongWallet.{WrongWallet}
-use Rattle.swap_world.proofs.Ledgers.{none_yet, opened}
+use Rattle.swap_world.proofs.Rooms.{new_histories, new_ledgers_of, new_room}
 use Rattle.swap_world.proofs.States.{state}
 use Rattle.swap_world.proofs.Team.{are_actors, no_notes_yet, first_plans, is_ready}
 use Rattle.swap_world.proofs.Worlds.{Seeds, world}
@@ -30,7 +30,8 @@ refused job NoMemory h = tt
 refused job (Refused r) h = ap (λ (x : Result (List Actor) WrongWallet). x >>= λ xs. Ok (new_world job)) h
 
 module _ (job : Job) (d : Deal) (conforming : List Bool) (seeds : Seeds) (roles : List Role) (ls : List LedgerState) (ys : List Actor) (ed : d ≡ job.deal)
-    (ec : conforming ≡ job.conforming) (es : seeds ≡ job.seeds) (er : roles ≡ job.roles) (el : ls ≡ new_ledgers job.deal) (ea : actors_of job ≡ Ok ys)
+    (ec : conforming ≡ job.conforming) (es : seeds ≡ job.seeds) (er : roles ≡ job.roles)
+    (el : AreNewLedgers job.deal (length job.deal.graph.arcs) ls) (ea : actors_of job ≡ Ok ys)
     (have : HaveSeeds job) (act : HaveRoles job)
   where
     abbrev parts : Histories → List Notes → List Plan → State
@@ -39,7 +40,7 @@ module _ (job : Job) (d : Deal) (conforming : List Bool) (seeds : Seeds) (roles 
     state_is : state d [] ys (histories ls) ≡ start (cast_of job)
     state_is =
         ap (λ (e : Deal). state e [] ys (histories ls)) ed
-        ∙ (ap₂ (λ (b : Histories) (ns : List Notes). parts b ns (map (plan_in job.deal) ys)) (ap histories el ∙ none_yet job.deal)
+        ∙ (ap₂ (λ (b : Histories) (ns : List Notes). parts b ns (map (plan_in job.deal) ys)) (new_histories job.deal ls el)
         (no_notes_yet job ys have act ea)
         ∙ ap (λ (ps : List Plan). record (start (cast_of job)) { plans = ps }) (first_plans job ys have act ea))
 
@@ -63,7 +64,10 @@ module _ (job : Job) (d : Deal) (conforming : List Bool) (seeds : Seeds) (roles 
     actors = rw (ed, ec, es, er) (are_actors job ys have act ea)
 
     pub ledgers : AreLedgersOf d ls
-    ledgers = opened job.deal d ls ed el
+    ledgers = new_ledgers_of job.deal d ls ed el
+
+    pub room : HaveRoom ls
+    room = new_room job.deal (length job.deal.graph.arcs) ls el
 
     pub good : IsAccepted job.deal → IsGood (cast_with d conforming seeds roles) (state d [] ys (histories ls))
     good accepted =

@@ -1,18 +1,24 @@
 -- The parts of a fair finish: what each leads to, and where it stops.
-use Rattle.std.proofs.Common.{◌≡◌, ℕ, ◌+◌, ◌<◌, ◌≤◌, ◌==◌, ◌||◌, nat_le, leb-true, leb-false}
+use Rattle.std.proofs.Common.{◌≡◌, ℕ, suc, ◌+◌, ◌-◌, ◌<◌, ◌≤◌, ◌==◌, ◌||◌, nat_le, leb-true, leb-false, zero-add, get_or}
 use Rattle.std.proofs.Common.{Bool, true, false, cond, List, [], ◌∷◌, length, fold, filter, refl}
 use Rattle.std.proofs.Common.{sym, ap, ◌∙◌, subst, arith, Result, Ok, Err, OnOk}
-use Rattle.std.specs.List.{range_with_len}
+use Rattle.std.specs.List.{All, range_with_len}
+use Rattle.std.proofs.lemmas.List.FromFn.{get_or-map-range_with_len, length-map-range_with_len}
+use Rattle.std.proofs.lemmas.List.Elements.{All-filter, All-from_get_or, All-get_or, All-weaker, filter_passes}
 use Rattle.swap_base.proofs.Lists.{from_range}
+use Rattle.swap_digraph.specs.declared.deal.Deal.{Deal}
 use Rattle.swap_digraph.specs.Deal.{party, counterparty}
 use Rattle.swap_digraph.specs.Graph.{arcs}
 use Rattle.ledger_core.specs.History.{height}
 use Rattle.ledger_core.specs.Book.{history}
 use Rattle.deviator_script.specs.declared.event.Event.TheVariants.{Look, Act, Tick}
+use Rattle.deviator_script.specs.Step.{CanLook}
 use Rattle.swap_run.specs.Run.{Cast, State, conforms, step}
-use Rattle.swap_run.specs.Fair.{repeat, looks, acts, most_acts, turn, turns, the_horizon, tick_low, ticks, round, has_ended, round_unless_ended, finish}
+use Rattle.swap_run.specs.Fair.{repeat, adjacent, looks, acts, most_acts, turn, turns, the_horizon, tick_low}
+use Rattle.swap_run.specs.Fair.{ticks, round, has_ended, round_unless_ended, finish}
+use Rattle.swap_run.specs.Quiet.{SkipsTo}
 use Rattle.swap_run.specs.FairLaws.{IsReached}
-use Rattle.swap_run.proofs.Reached.{no_event, one_event, fold_events, repeat_events, turn_events, tick_events, round_events}
+use Rattle.swap_run.proofs.Reached.{no_event, one_event, fold_events, repeat_events, turn_events, tick_events, round_events, finish_events}
 use Rattle.swap_run.specs.Run.{start}
 use Rattle.swap_run.specs.Asked.{Answers}
 use Rattle.swap_run.specs.Laws.{IsReadyCast, IsGood}
@@ -22,48 +28,53 @@ use Rattle.swap_rules.specs.Outcome.{IsEnded}
 use Rattle.swap_laws.specs.Laws.{IsDealt}
 use Rattle.swap_world.specs.Value.{WorldState, answers_of, cast_at, cast_for}
 use Rattle.swap_world.specs.Gone.{Gives, HasGone}
-use Rattle.swap_world.specs.Stopped.{AllConform, IsStopped, look_near}
-use Rattle.swap_world.proofs.Ways.{range_all, fold_reached, way_then}
-use Rattle.swap_world.proofs.Gone.{gone_as, gone_then, cast_gone, stopped_as, stopped_after, stopped_then}
+use Rattle.swap_world.specs.Near.{all_adjacent}
+use Rattle.swap_world.specs.Stopped.{AllConform, IsStopped}
+use Rattle.swap_world.proofs.Ways.{repeat_split, range_all, fold_reached, way_then}
+use Rattle.swap_world.proofs.Gone.{gone_as, gone_then, cast_gone, nothing_asked, stopped_as, stopped_after, stopped_then}
 use Rattle.swap_world.proofs.Worlds.{ready_for, good_for}
 
 -- A party's looks.
 
-abbrev near : Cast → ℕ → ℕ → Bool
-near c v a = (v == party c.deal a) || (v == counterparty c.deal a)
+abbrev near : Deal → ℕ → ℕ → Bool
+near d v a = (v == party d a) || (v == counterparty d a)
 
-pub is_near : (c : Cast) (v : ℕ) (s : State) (a : ℕ) → near c v a ≡ true → look_near c v s a ≡ step c s (Look v a)
-is_near c v s a e = ap (λ (b : Bool). cond b (step c s (Look v a)) s) e
+-- each arc that touches a party is one of the deal's
+pub near_low : (d : Deal) (v : ℕ) → All (λ a. a < length d.graph.arcs) (adjacent d v)
+near_low d v =
+    let m = length d.graph.arcs in
+    All-filter (near d v) (λ a. a < m) (arcs d.graph) (range_all (λ a. a < m) m (λ i lt. lt))
 
-pub is_far : (c : Cast) (v : ℕ) (s : State) (a : ℕ) → near c v a ≡ false → look_near c v s a ≡ s
-is_far c v s a e = ap (λ (b : Bool). cond b (step c s (Look v a)) s) e
+-- the list of a party in the lists of all
+pub near_at : (d : Deal) (lists : List (List ℕ)) (p : ℕ) (x : List ℕ) → lists ≡ all_adjacent d → p < d.graph.n → x ≡ get_or lists p x → x ≡ adjacent d p
+near_at d lists p x e l is =
+    is ∙ ap (λ (xs : List (List ℕ)). get_or xs p x) e ∙ get_or-map-range_with_len (adjacent d) 0 d.graph.n p p x l (zero-add p)
 
--- the arcs that are passed over change nothing
-passed : (c : Cast) (v x : ℕ) (xs : List ℕ) (s : State) (b : Bool)
-    → ((t : State) → fold (look_near c v) t xs ≡ fold (λ t a. step c t (Look v a)) t (filter (near c v) xs))
-    → fold (look_near c v) (cond b (step c s (Look v x)) s) xs ≡ fold (λ t a. step c t (Look v a)) s (cond b (x ∷ filter (near c v) xs) (filter (near c v) xs))
-passed c v x xs s true rest = rest (step c s (Look v x))
-passed c v x xs s false rest = rest s
+pub near_many : (d : Deal) (lists : List (List ℕ)) → lists ≡ all_adjacent d → length lists ≡ d.graph.n
+near_many d lists e = ap (λ (xs : List (List ℕ)). length xs) e ∙ length-map-range_with_len (adjacent d) 0 d.graph.n
 
-all_passed : (c : Cast) (v : ℕ) (xs : List ℕ) (s : State) → fold (look_near c v) s xs ≡ fold (λ t a. step c t (Look v a)) s (filter (near c v) xs)
-all_passed c v [] s = refl
-all_passed c v (x ∷ xs) s = passed c v x xs s (near c v x) (λ t. all_passed c v xs t)
+-- each arc that touches a party can be looked at
+pub can_look : (d : Deal) (v : ℕ) → v < d.graph.n → All (CanLook d v) (adjacent d v)
+can_look d v l =
+    let m = length d.graph.arcs in
+    let low : All (λ a. a < m) (adjacent d v) = near_low d v in
+    let touches : All (λ a. near d v a ≡ true) (adjacent d v) = filter_passes (near d v) (arcs d.graph) in
+    All-from_get_or (CanLook d v) (adjacent d v) 0 (λ i lt. record {
+      known = l;
+      arc = All-get_or (λ a. a < m) (adjacent d v) i 0 lt low;
+      adjacent = All-get_or (λ a. near d v a ≡ true) (adjacent d v) i 0 lt touches;
+    })
 
-pub looks_are : (c : Cast) (v : ℕ) (s : State) → fold (look_near c v) s (range_with_len 0 (length c.deal.graph.arcs)) ≡ looks c v s
+pub looks_over : (c : Cast) (v : ℕ) (s : State) (xs : List ℕ) → xs ≡ adjacent c.deal v → fold (λ t a. step c t (Look v a)) s xs ≡ looks c v s
 unfolding looks
-looks_are c v s = all_passed c v (arcs c.deal.graph) s
-
-pub near_leads : (c : Cast) (v : ℕ) → v < c.deal.graph.n → (a : ℕ) → a < length c.deal.graph.arcs → (s : State) → IsReached c s (look_near c v s a)
-near_leads c v l a la s = go (near c v a) refl
-  where
-    go : (b : Bool) → near c v a ≡ b → IsReached c s (cond b (step c s (Look v a)) s)
-    go true e = one_event c s (Look v a) (record { known = l; arc = la; adjacent = e })
-    go false e = no_event c s
+looks_over c v s xs e = ap (λ (ys : List ℕ). fold (λ t a. step c t (Look v a)) s ys) e
 
 looks_lead : (c : Cast) (v : ℕ) (s : State) → v < c.deal.graph.n → IsReached c s (looks c v s)
+unfolding looks
 looks_lead c v s l =
-    subst (λ t. IsReached c s t) (looks_are c v s) (fold_reached c (look_near c v) (range_with_len 0 (length c.deal.graph.arcs)) s
-    (range_all (λ a. (t : State) → IsReached c t (look_near c v t a)) (length c.deal.graph.arcs) (near_leads c v l)))
+    fold_reached c (λ t a. step c t (Look v a)) (adjacent c.deal v) s
+    (All-weaker (CanLook c.deal v) (λ a. (t : State) → IsReached c t (step c t (Look v a))) (λ a can t. one_event c t (Look v a) can) (adjacent c.deal v)
+    (can_look c.deal v l))
 
 -- A party's turn.
 
@@ -159,7 +170,7 @@ turns_lead : (c : Cast) (s : State) → IsReached c s (turns c s)
 unfolding turns
 turns_lead c s = fold_events c (turn c) (range_with_len 0 c.deal.graph.n) s (λ t v i. turn_events c t v (from_range v c.deal.graph.n i))
 
-ticks_lead : (c : Cast) (s : State) → IsReached c s (ticks c s)
+pub ticks_lead : (c : Cast) (s : State) → IsReached c s (ticks c s)
 unfolding ticks
 ticks_lead c s = fold_events c (tick_low c) (arcs c.deal.graph) s (λ t a i. tick_events c t a (from_range a (length c.deal.graph.arcs) i))
 
@@ -194,6 +205,61 @@ is_round c s e = ap (λ (b : Bool). cond b s (round c s)) e
 pub is_rest : (c : Cast) (s : State) → has_ended c.deal s.book ≡ true → round_unless_ended c s ≡ s
 is_rest c s e = ap (λ (b : Bool). cond b s (round c s)) e
 
+-- Rounds of which only the ticks are taken, and one more.
+module _ (gives : Gives) (old mid new : WorldState) (n : ℕ) (skips : (g : Answers) → SkipsTo (cast_for old g) n old.state) where
+  are_rounds : (g : Answers) → round (cast_for old g) (repeat n (ticks (cast_for old g)) old.state)
+      ≡ repeat (n + 1) (round_unless_ended (cast_for old g)) old.state
+  are_rounds g = let e : suc n ≡ n + 1 = omega arith in sym (skips g) ∙ ap (λ k. repeat k (round_unless_ended (cast_for old g)) old.state) e
+
+  pub advance_cut : IsStopped gives (λ c s. repeat n (ticks c) s) old new → IsStopped gives (λ c s. repeat (n + 1) (round_unless_ended c) s) old new
+  advance_cut k =
+      stopped_as gives (λ c s. round c (repeat n (ticks c) s)) (λ c s. repeat (n + 1) (round_unless_ended c) s) old new are_rounds
+      (stopped_then gives (λ c s. repeat n (ticks c) s) round old new k (λ g s. round_events (cast_for old g) s))
+
+  pub advance_ends : HasGone gives (λ c s. repeat n (ticks c) s) old mid → HasGone gives round mid new
+      → HasGone gives (λ c s. repeat (n + 1) (round_unless_ended c) s) old new
+  advance_ends a b =
+      gone_as gives (λ c s. round c (repeat n (ticks c) s)) (λ c s. repeat (n + 1) (round_unless_ended c) s) old new are_rounds
+      (gone_then gives (λ c s. repeat n (ticks c) s) round old mid new a b)
+
+  pub advance_stops : HasGone gives (λ c s. repeat n (ticks c) s) old mid → IsStopped gives round mid new
+      → IsStopped gives (λ c s. repeat (n + 1) (round_unless_ended c) s) old new
+  advance_stops a k =
+      stopped_as gives (λ c s. round c (repeat n (ticks c) s)) (λ c s. repeat (n + 1) (round_unless_ended c) s) old new are_rounds
+      (stopped_after gives (λ c s. repeat n (ticks c) s) round old mid new a
+      (λ g s. repeat_events (cast_for old g) n (ticks (cast_for old g)) s (ticks_lead (cast_for old g))) k)
+
+-- Rounds of which m are left of so many.
+module _ (gives : Gives) (old mid new : WorldState) (all left n : ℕ) (few : left ≤ all) (some : n ≤ left)
+    (so_far : HasGone gives (λ c s. repeat (all - left) (round_unless_ended c) s) old mid) where
+  in_a_row : (f : State → State) (s : State) → repeat n f (repeat (all - left) f s) ≡ repeat (all - (left - n)) f s
+  in_a_row f s =
+      let e : n + (all - left) ≡ all - (left - n) = omega arith in
+      sym (repeat_split n (all - left) f s) ∙ ap (λ k. repeat k f s) e
+
+  pub goes_further : HasGone gives (λ c s. repeat n (round_unless_ended c) s) mid new
+      → HasGone gives (λ c s. repeat (all - (left - n)) (round_unless_ended c) s) old new
+  goes_further h =
+      gone_as gives (λ c s. repeat n (round_unless_ended c) (repeat (all - left) (round_unless_ended c) s))
+      (λ c s. repeat (all - (left - n)) (round_unless_ended c) s) old new
+      (λ g. in_a_row (round_unless_ended (cast_for old g)) old.state)
+      (gone_then gives (λ c s. repeat (all - left) (round_unless_ended c) s) (λ c s. repeat n (round_unless_ended c) s) old mid new so_far h)
+
+  all_of_them : (f : State → State) (s : State) → repeat (left - n) f (repeat n f (repeat (all - left) f s)) ≡ repeat all f s
+  all_of_them f s =
+      let e : (left - n) + (all - (left - n)) ≡ all = omega arith in
+      ap (λ t. repeat (left - n) f t) (in_a_row f s) ∙ sym (repeat_split (left - n) (all - (left - n)) f s) ∙ ap (λ k. repeat k f s) e
+
+  pub stops_further : IsStopped gives (λ c s. repeat n (round_unless_ended c) s) mid new → IsStopped gives (λ c s. repeat all (round_unless_ended c) s) old new
+  stops_further k =
+      stopped_as gives (λ c s. repeat (left - n) (round_unless_ended c) (repeat n (round_unless_ended c) (repeat (all - left) (round_unless_ended c) s)))
+      (λ c s. repeat all (round_unless_ended c) s) old new (λ g. all_of_them (round_unless_ended (cast_for old g)) old.state)
+      (stopped_then gives (λ c s. repeat n (round_unless_ended c) (repeat (all - left) (round_unless_ended c) s))
+      (λ c s. repeat (left - n) (round_unless_ended c) s) old new
+      (stopped_after gives (λ c s. repeat (all - left) (round_unless_ended c) s) (λ c s. repeat n (round_unless_ended c) s) old mid new so_far
+      (λ g s. repeat_events (cast_for old g) (all - left) (round_unless_ended (cast_for old g)) s (unless_leads (cast_for old g))) k)
+      (λ g s. repeat_events (cast_for old g) (left - n) (round_unless_ended (cast_for old g)) s (unless_leads (cast_for old g))))
+
 module _ (gives : Gives) (w new : WorldState) where
   pub finish_stops_at : IsStopped gives (λ c s. repeat (the_horizon w.deal + 1) (round_unless_ended c) s) w new → IsStopped gives finish w new
   unfolding finish
@@ -202,6 +268,17 @@ module _ (gives : Gives) (w new : WorldState) where
   pub finish_is : HasGone gives (λ c s. repeat (the_horizon w.deal + 1) (round_unless_ended c) s) w new → HasGone gives finish w new
   unfolding finish
   finish_is k = gone_as gives (λ c s. repeat (the_horizon w.deal + 1) (round_unless_ended c) s) finish w new (λ g. refl) k
+
+  -- where memory runs out before the first round
+  pub finish_stops_first : new ≡ record w { stopped = true } → IsStopped gives finish w new
+  finish_stops_first e =
+      subst (IsStopped gives finish w) (sym e) (record {
+        stopped = refl;
+        cast = refl;
+        asked = nothing_asked gives w (record w { stopped = true }) refl refl;
+        book = λ g x. let c = cast_for w g in
+            record { there = w.state; before = no_event c w.state; after = finish_events c w.state; book = refl };
+      })
 
 -- What a finish leaves.
 

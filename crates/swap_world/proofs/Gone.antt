@@ -16,14 +16,17 @@ use Rattle.deviator_script.specs.declared.job.Role.TheVariants.{Conforming, Manu
 use Rattle.deviator_script.specs.declared.moves.Move.{Move}
 use Rattle.swap_rules.specs.Due.{Action}
 use Rattle.swap_run.specs.Asked.{Answers, with_answers, is_strategy}
-use Rattle.swap_run.specs.Run.{Cast, Question, State, conforms, role_of, plan_of, look, make, next_of, act, watch, take_call, after_turn, act_as, step}
+use Rattle.swap_run.specs.Run.{Cast, Question, State, conforms, role_of, plan_of, look, next_of, watch, after_turn, step}
+use Rattle.swap_run.specs.Called.{Called, by_due, called_as, step_on}
 use Rattle.swap_run.specs.FairLaws.{IsReached}
 use Rattle.swap_run.proofs.Reached.{no_event}
 use Rattle.swap_world.specs.Cast.{asks}
 use Rattle.swap_world.specs.Value.{WorldState, cast_at, cast_for, Continues}
 use Rattle.swap_world.specs.Staff.{AreHeld}
-use Rattle.swap_world.specs.Gone.{Gives, Answered, MayCome, HasAsked, HasGone, IsCut}
+use Rattle.swap_world.specs.Gone.{Gives, Answered, MayCome, HasAsked, HasGone, IsCutBy, IsCut}
+use Rattle.swap_world.specs.On.{told_in, told_of_call}
 use Rattle.swap_world.specs.Stopped.{IsOnTheWay, IsStopped}
+use Rattle.swap_world.proofs.On.{make_on, take_on, act_on, act_is, call_is, plainly}
 use Rattle.swap_world.proofs.Plans.{take_same}
 use Rattle.swap_world.proofs.Ways.{at, way_then, way_after, way_of_step}
 
@@ -188,61 +191,100 @@ module _ (gives : Gives) where
 
 -- Events in which nothing is asked.
 
--- Whatever is answered, the event does the same, and it asks nothing.
-pub record IsQuiet (c : Cast) (s : State) (e : Event) : Type 0 where
-  pub same : (g : Answers) → step (with_answers c g) s e ≡ step c s e
-  pub asked : (step c s e).asked ≡ s.asked
+-- Whatever is answered, f does the same, and it asks nothing.
+pub record IsQuiet (f : Cast → State → State) (c : Cast) (s : State) : Type 0 where
+  pub same : (g : Answers) → f (with_answers c g) s ≡ f c s
+  pub asked : (f c s).asked ≡ s.asked
+
+-- an event, where slots may be swept
+abbrev pub stepping : (ℕ → Bool) → Event → Cast → State → State
+stepping sw e c s = step_on sw c s e
 
 either_asked : (b : Bool) (s t u : State) → t.asked ≡ s.asked → u.asked ≡ s.asked → (cond b t u).asked ≡ s.asked
 either_asked true s t u x y = x
 either_asked false s t u x y = y
 
-take_asked : (c : Cast) (s : State) (v : ℕ) (o : Option (ℕ × Call)) → (take_call c s v o).asked ≡ s.asked
-take_asked c s v None = refl
-take_asked c s v (Some x) = refl
+take_asked : (sw : ℕ → Bool) (c : Cast) (s : State) (v : ℕ) (o : Option (ℕ × Call)) → (take_on sw c s v o).asked ≡ s.asked
+take_asked sw c s v None = refl
+take_asked sw c s v (Some x) = refl
 
-make_asked : (c : Cast) (s : State) (v : ℕ) (o : Option Action) → (make c.deal s v o).asked ≡ s.asked
-make_asked c s v None = refl
-make_asked c s v (Some x) = refl
+make_asked : (sw : ℕ → Bool) (c : Cast) (s : State) (v : ℕ) (o : Option Action) → (make_on sw c.deal s v o).asked ≡ s.asked
+make_asked sw c s v None = refl
+make_asked sw c s v (Some x) = refl
 
-pub quiet_tick : (c : Cast) (s : State) (a k : ℕ) → IsQuiet c s (Tick a k)
-quiet_tick c s a k = record { same = λ g. refl; asked = refl }
+pub quiet_tick : (sw : ℕ → Bool) (c : Cast) (s : State) (a k : ℕ) → IsQuiet (stepping sw (Tick a k)) c s
+quiet_tick sw c s a k = record { same = λ g. refl; asked = refl }
 
-pub quiet_look : (c : Cast) (s : State) (v a : ℕ) → IsQuiet c s (Look v a)
-quiet_look c s v a = record { same = λ g. refl; asked = either_asked (conforms c v) s (look s v a) (watch c s v a) refl refl }
+pub quiet_look : (sw : ℕ → Bool) (c : Cast) (s : State) (v a : ℕ) → IsQuiet (stepping sw (Look v a)) c s
+quiet_look sw c s v a = record { same = λ g. refl; asked = either_asked (conforms c v) s (look s v a) (watch c s v a) refl refl }
 
-pub quiet_call : (c : Cast) (s : State) (v : ℕ) (mv : Move) → IsQuiet c s (Made v mv)
-quiet_call c s v mv = record {
-  same = λ g. take_same c g s v (resolved c.deal c.seeds s.book mv);
-  asked = take_asked c s v (resolved c.deal c.seeds s.book mv);
+pub quiet_call : (sw : ℕ → Bool) (c : Cast) (s : State) (v : ℕ) (mv : Move) → IsQuiet (stepping sw (Made v mv)) c s
+quiet_call sw c s v mv = record {
+  same = λ g. call_is sw (with_answers c g) s v mv ∙ (take_same sw c g s v (resolved c.deal c.seeds s.book mv) ∙ sym (call_is sw c s v mv));
+  asked = ap (λ (t : State). t.asked) (call_is sw c s v mv) ∙ take_asked sw c s v (resolved c.deal c.seeds s.book mv);
 }
 
-act_quiet : (c : Cast) (s : State) (v : ℕ) (role : Role) → is_strategy role ≡ false → ((g : Answers) → act_as (with_answers c g) s v role ≡ act_as c s v role)
-    × ((act_as c s v role).asked ≡ s.asked)
-act_quiet c s v Conforming e = ((λ g. refl), refl)
-act_quiet c s v Manual e = ((λ g. refl), refl)
-act_quiet c s v (Script moves) e =
+act_quiet : (sw : ℕ → Bool) (c : Cast) (s : State) (v : ℕ) (role : Role) → is_strategy role ≡ false
+    → ((g : Answers) → act_on sw (with_answers c g) s v role ≡ act_on sw c s v role) × ((act_on sw c s v role).asked ≡ s.asked)
+act_quiet sw c s v Conforming e = ((λ g. refl), refl)
+act_quiet sw c s v Manual e = ((λ g. refl), refl)
+act_quiet sw c s v (Script moves) e =
     let t = after_turn s v (moves_left (plan_of s v).known (plan_of s v).moves) in
     let o = next_call c.deal c.seeds (plan_of s v).known (plan_of s v).moves in
-    ((λ g. take_same c g t v o), take_asked c t v o)
-act_quiet c s v (Strategy name) e = absurd (cc e)
+    ((λ g. take_same sw c g t v o), take_asked sw c t v o)
+act_quiet sw c s v (Strategy name) e = absurd (cc e)
 
-own_quiet : (c : Cast) (s : State) (v : ℕ) (b : Bool) → conforms c v ≡ b → cond b false (is_strategy (role_of c v)) ≡ false → IsQuiet c s (Act v)
-own_quiet c s v true e alone = record {
-  same = λ g. ap (λ (b : Bool). cond b (act c s v) (act_as (with_answers c g) s v (role_of c v))) e
-      ∙ sym (ap (λ (b : Bool). cond b (act c s v) (act_as c s v (role_of c v))) e);
-  asked = ap (λ (b : Bool). (cond b (act c s v) (act_as c s v (role_of c v))).asked) e ∙ make_asked c s v (next_of c s v);
-}
-own_quiet c s v false e alone =
-    let k = act_quiet c s v (role_of c v) alone in
+own_quiet : (sw : ℕ → Bool) (c : Cast) (s : State) (v : ℕ) (b : Bool) → conforms c v ≡ b → cond b false (is_strategy (role_of c v)) ≡ false
+    → IsQuiet (λ c s. cond (conforms c v) (make_on sw c.deal s v (next_of c s v)) (act_on sw c s v (role_of c v))) c s
+own_quiet sw c s v true e alone =
+    let made : State = make_on sw c.deal s v (next_of c s v) in
     record {
-      same = λ g. ap (λ (t : State). cond (conforms c v) (act c s v) t) (k.0 g);
-      asked = ap (λ (b : Bool). (cond b (act c s v) (act_as c s v (role_of c v))).asked) e ∙ k.1;
+      same = λ g. ap (λ (b : Bool). cond b made (act_on sw (with_answers c g) s v (role_of c v))) e
+          ∙ sym (ap (λ (b : Bool). cond b made (act_on sw c s v (role_of c v))) e);
+      asked = ap (λ (b : Bool). (cond b made (act_on sw c s v (role_of c v))).asked) e ∙ make_asked sw c s v (next_of c s v);
+    }
+own_quiet sw c s v false e alone =
+    let made : State = make_on sw c.deal s v (next_of c s v) in
+    let k = act_quiet sw c s v (role_of c v) alone in
+    record {
+      same = λ g. ap (λ (t : State). cond (conforms c v) made t) (k.0 g);
+      asked = ap (λ (b : Bool). (cond b made (act_on sw c s v (role_of c v))).asked) e ∙ k.1;
     }
 
 -- an act of a party that asks no strategy
-pub quiet_act : (c : Cast) (s : State) (v : ℕ) → asks c v ≡ false → IsQuiet c s (Act v)
-quiet_act c s v alone = own_quiet c s v (conforms c v) refl alone
+pub quiet_act : (sw : ℕ → Bool) (c : Cast) (s : State) (v : ℕ) → asks c v ≡ false → IsQuiet (stepping sw (Act v)) c s
+quiet_act sw c s v alone =
+    let k = own_quiet sw c s v (conforms c v) refl alone in
+    record {
+      same = λ g. act_is sw (with_answers c g) s v ∙ (k.same g ∙ sym (act_is sw c s v));
+      asked = ap (λ (t : State). t.asked) (act_is sw c s v) ∙ k.asked;
+    }
+
+-- and so in a run
+pub quiet_run : (c : Cast) (s : State) (v : ℕ) → asks c v ≡ false → IsQuiet (λ c s. step c s (Act v)) c s
+quiet_run c s v alone = subst (λ (f : Cast → State → State). IsQuiet f c s) (plainly (Act v)) (quiet_act (λ a. false) c s v alone)
+
+-- What is told where nothing is asked.
+
+told_as : (sw : ℕ → Bool) (c : Cast) (s : State) (v : ℕ) (role : Role) (g : Answers) → is_strategy role ≡ false
+    → called_as (with_answers c g) s v role ≡ called_as c s v role
+told_as sw c s v Conforming g e = refl
+told_as sw c s v Manual g e = refl
+told_as sw c s v (Script moves) g e = refl
+told_as sw c s v (Strategy name) g e = absurd (cc e)
+
+own_told : (sw : ℕ → Bool) (c : Cast) (s : State) (v : ℕ) (b : Bool) (g : Answers) → conforms c v ≡ b
+    → cond b false (is_strategy (role_of c v)) ≡ false → told_in sw (with_answers c g) s (Act v) ≡ told_in sw c s (Act v)
+own_told sw c s v true g e alone =
+    let due : Option Called = by_due v (next_of c s v) in
+    ap (λ (b : Bool). told_of_call sw c s (cond b due (called_as (with_answers c g) s v (role_of c v)))) e
+    ∙ sym (ap (λ (b : Bool). told_of_call sw c s (cond b due (called_as c s v (role_of c v)))) e)
+own_told sw c s v false g e alone =
+    ap (λ (o : Option Called). told_of_call sw c s (cond (conforms c v) (by_due v (next_of c s v)) o)) (told_as sw c s v (role_of c v) g alone)
+
+pub told_same : (sw : ℕ → Bool) (c : Cast) (s : State) (v : ℕ) (g : Answers) → asks c v ≡ false
+    → told_in sw (with_answers c g) s (Act v) ≡ told_in sw c s (Act v)
+told_same sw c s v g alone = own_told sw c s v (conforms c v) g refl alone
 
 not_asking_as : (c : Cast) (v : ℕ) (b : Bool) → b ≡ false → cond b false (is_strategy (role_of c v)) ≡ false → is_strategy (role_of c v) ≡ false
 not_asking_as c v true e f = absurd (cc e)
@@ -269,49 +311,50 @@ pub alone_conforming : (c : Cast) (v : ℕ) → conforms c v ≡ true → asks c
 alone_conforming c v e = conforming_alone c v (conforms c v) e
 
 -- a quiet event that a world took
-pub went_to : (gives : Gives) (old new : WorldState) (e : Event) → IsQuiet (cast_at old) old.state e → new ≡ at old (step (cast_at old) old.state e)
-    → HasGone gives (λ c s. step c s e) old new
-went_to gives old new e quiet is = record {
+pub went_to : (gives : Gives) (f : Cast → State → State) (old new : WorldState) → IsQuiet f (cast_at old) old.state
+    → new ≡ at old (f (cast_at old) old.state) → HasGone gives f old new
+went_to gives f old new quiet is = record {
   asked = nothing_asked gives old new (ap (λ (w : WorldState). w.state.asked) is ∙ quiet.asked) (ap (λ (w : WorldState). w.answers) is);
   same = is ∙ ap (λ (w : WorldState). record old { answers = w.answers; state = w.state }) (sym is);
   state = λ g k. ap (λ (w : WorldState). w.state) is ∙ sym (quiet.same g);
 }
 
-pub went : {A E : Type 0} (r : Result A E) (gives : Gives) (old new : WorldState) (e : Event) → IsQuiet (cast_at old) old.state e
-    → OnOk r (new ≡ at old (step (cast_at old) old.state e)) → OnOk r (HasGone gives (λ c s. step c s e) old new)
-went (Ok x) gives old new e quiet is = went_to gives old new e quiet is
-went (Err x) gives old new e quiet is = tt
+pub went : {A E : Type 0} (r : Result A E) (gives : Gives) (f : Cast → State → State) (old new : WorldState) → IsQuiet f (cast_at old) old.state
+    → OnOk r (new ≡ at old (f (cast_at old) old.state)) → OnOk r (HasGone gives f old new)
+went (Ok x) gives f old new quiet is = went_to gives f old new quiet is
+went (Err x) gives f old new quiet is = tt
 
 -- and one in which memory ran out, with nothing changed
-pub unmoved : {A E : Type 0} (r : Result A E) (gives : Gives) (old new : WorldState) (e : Event) → OnErr r (new ≡ old) → OnErr r (IsCut gives e old new)
-unmoved (Ok x) gives old new e is = tt
-unmoved (Err x) gives old new e is = record {
+pub unmoved : {A E : Type 0} (r : Result A E) (gives : Gives) (f : Cast → State → State) (old new : WorldState) → OnErr r (new ≡ old)
+    → OnErr r (IsCutBy gives f old new)
+unmoved (Ok x) gives f old new is = tt
+unmoved (Err x) gives f old new is = record {
   cast = ap cast_at is;
   asked = nothing_asked gives old new (ap (λ (w : WorldState). w.state.asked) is) (ap (λ (w : WorldState). w.answers) is);
   book = inl (ap (λ (w : WorldState). w.state.book) is);
 }
 
 -- or after the call
-pub cut_to : (gives : Gives) (old new : WorldState) (e : Event) → IsQuiet (cast_at old) old.state e → cast_at new ≡ cast_at old
+pub cut_to : (gives : Gives) (f : Cast → State → State) (old new : WorldState) → IsQuiet f (cast_at old) old.state → cast_at new ≡ cast_at old
     → new.state.asked ≡ old.state.asked → new.answers ≡ old.answers
-    → (new.state.book ≡ old.state.book) ⊎ (new.state.book ≡ (step (cast_at old) old.state e).book) → IsCut gives e old new
-cut_to gives old new e quiet cast asked answers book = record { cast = cast; asked = nothing_asked gives old new asked answers; book = by book }
+    → (new.state.book ≡ old.state.book) ⊎ (new.state.book ≡ (f (cast_at old) old.state).book) → IsCutBy gives f old new
+cut_to gives f old new quiet cast asked answers book = record { cast = cast; asked = nothing_asked gives old new asked answers; book = by book }
   where
-    by : (new.state.book ≡ old.state.book) ⊎ (new.state.book ≡ (step (cast_at old) old.state e).book)
-        → (new.state.book ≡ old.state.book) ⊎ ((g : Answers) → Continues new g → new.state.book ≡ (step (cast_for old g) old.state e).book)
+    by : (new.state.book ≡ old.state.book) ⊎ (new.state.book ≡ (f (cast_at old) old.state).book)
+        → (new.state.book ≡ old.state.book) ⊎ ((g : Answers) → Continues new g → new.state.book ≡ (f (cast_for old g) old.state).book)
     by (inl h) = inl h
     by (inr h) = inr (λ g k. h ∙ ap (λ (s : State). s.book) (sym (quiet.same g)))
 
-pub cut : {A E : Type 0} (r : Result A E) (gives : Gives) (old new : WorldState) (e : Event) → IsQuiet (cast_at old) old.state e
+pub cut : {A E : Type 0} (r : Result A E) (gives : Gives) (f : Cast → State → State) (old new : WorldState) → IsQuiet f (cast_at old) old.state
     → OnErr r (cast_at new ≡ cast_at old) → OnErr r (new.state.asked ≡ old.state.asked) → OnErr r (new.answers ≡ old.answers)
-    → OnErr r ((new.state.book ≡ old.state.book) ⊎ (new.state.book ≡ (step (cast_at old) old.state e).book)) → OnErr r (IsCut gives e old new)
-cut (Ok x) gives old new e quiet cast asked answers book = tt
-cut (Err x) gives old new e quiet cast asked answers book = cut_to gives old new e quiet cast asked answers book
+    → OnErr r ((new.state.book ≡ old.state.book) ⊎ (new.state.book ≡ (f (cast_at old) old.state).book)) → OnErr r (IsCutBy gives f old new)
+cut (Ok x) gives f old new quiet cast asked answers book = tt
+cut (Err x) gives f old new quiet cast asked answers book = cut_to gives f old new quiet cast asked answers book
 
 -- a cut world that stops
-pub cut_still : (gives : Gives) (e : Event) (old mid new : WorldState) → cast_at new ≡ cast_at mid → new.answers ≡ mid.answers → new.state ≡ mid.state
-    → IsCut gives e old mid → IsCut gives e old new
-cut_still gives e old mid new cast answers state k = record {
+pub cut_still : (gives : Gives) (f : Cast → State → State) (old mid new : WorldState) → cast_at new ≡ cast_at mid → new.answers ≡ mid.answers
+    → new.state ≡ mid.state → IsCutBy gives f old mid → IsCutBy gives f old new
+cut_still gives f old mid new cast answers state k = record {
   cast = cast ∙ k.cast;
   asked = record {
     more = k.asked.more;
@@ -322,8 +365,18 @@ cut_still gives e old mid new cast answers state k = record {
   book = by k.book;
 }
   where
-    by : (mid.state.book ≡ old.state.book) ⊎ ((g : Answers) → Continues mid g → mid.state.book ≡ (step (cast_for old g) old.state e).book)
-        → (new.state.book ≡ old.state.book) ⊎ ((g : Answers) → Continues new g → new.state.book ≡ (step (cast_for old g) old.state e).book)
+    by : (mid.state.book ≡ old.state.book) ⊎ ((g : Answers) → Continues mid g → mid.state.book ≡ (f (cast_for old g) old.state).book)
+        → (new.state.book ≡ old.state.book) ⊎ ((g : Answers) → Continues new g → new.state.book ≡ (f (cast_for old g) old.state).book)
     by (inl h) = inl (ap (λ (s : State). s.book) state ∙ h)
     by (inr h) = inr (λ g c.
         ap (λ (s : State). s.book) state ∙ h g (subst (λ (xs : List (Option (ℕ × Call))). (i : ℕ) → i < length xs → g i ≡ get_or xs i None) answers c))
+
+-- a cut by a function that is the same
+pub cut_as : (gives : Gives) (f h : Cast → State → State) (old new : WorldState)
+    → ((g : Answers) → f (cast_for old g) old.state ≡ h (cast_for old g) old.state) → IsCutBy gives f old new → IsCutBy gives h old new
+cut_as gives f h old new e k = record { cast = k.cast; asked = k.asked; book = by k.book }
+  where
+    by : (new.state.book ≡ old.state.book) ⊎ ((g : Answers) → Continues new g → new.state.book ≡ (f (cast_for old g) old.state).book)
+        → (new.state.book ≡ old.state.book) ⊎ ((g : Answers) → Continues new g → new.state.book ≡ (h (cast_for old g) old.state).book)
+    by (inl x) = inl x
+    by (inr x) = inr (λ g c. x g c ∙ ap (λ (s : State). s.book) (e g))

@@ -1,7 +1,7 @@
 -- The ledgers of a world, and their histories.
-use Rattle.std.proofs.Common.{◌≡◌, ◌≢◌, ◌⊎◌, inl, inr, ℕ, zero, suc, ◌+◌, ◌<◌, List, [], ◌∷◌, length, get_or, map, replicate, refl, sym, ap, subst, ◌∙◌}
-use Rattle.std.proofs.Common.{arith, Result, Ok, Err, OnOk, OnErr}
-use Rattle.std.proofs.lemmas.List.{map-set, length-map, get_or-map, get_or_default, length-set, get_or-set_same, get_or-set_other}
+use Rattle.std.proofs.Common.{◌≡◌, ◌≢◌, ◌⊎◌, inl, inr, ℕ, zero, suc, ◌+◌, ◌<◌, List, [], ◌∷◌, ◌++◌, length, get_or, map, take, replicate, refl}
+use Rattle.std.proofs.Common.{sym, ap, subst, ◌∙◌, arith, Result, Ok, Err, OnOk, OnErr}
+use Rattle.std.proofs.lemmas.List.{map-append, take_more, map-set, length-map, get_or-map, get_or_default, length-set, get_or-set_same, get_or-set_other}
 use Rattle.swap_laws.proofs.Prefixes.{same_or_not}
 use Rattle.std.proofs.Math.Seq.{map-set_same}
 use Rattle.std.proofs.Math.ListN.{set}
@@ -13,9 +13,7 @@ use Rattle.ledger_core.specs.History.{IsLegal}
 use Rattle.std.specs.List.{range_with_len}
 use Rattle.std.proofs.lemmas.List.FromFn.{length-map-range_with_len}
 use Rattle.swap_digraph.proofs.Ranges.{place_is}
-use Rattle.ledger_core.specs.declared.entry.Call.{Call}
 use Rattle.swap_run.specs.Run.{no_histories}
-use Rattle.ledger_core.specs.Ledger.{after_call}
 use Rattle.swap_world.specs.Acting.{histories}
 use Rattle.swap_world.specs.Inside.{AreLedgersOf, IsLedgerOf, new_ledger, new_ledgers}
 
@@ -64,17 +62,6 @@ no_more d a (suc n) = ap (λ (b : Histories). [] ∷ b) (no_more d (a + 1) n)
 pub none_yet : (d : Deal) → histories (new_ledgers d) ≡ no_histories d
 none_yet d = no_more d 0 (length d.graph.arcs)
 
-new_is : (d : Deal) (a : ℕ) (l : LedgerState) → l ≡ new_ledger d a → IsLedgerOf d a l
-new_is d a l e = record { deal = ap (λ (x : LedgerState). x.deal) e; arc = ap (λ (x : LedgerState). x.arc) e; legal = rw e tt }
-
-pub are_new : (d : Deal) → AreLedgersOf d (new_ledgers d)
-are_new d = record {
-  one_each = length-map-range_with_len (new_ledger d) 0 (length d.graph.arcs);
-  each = λ a l lt is. let n =
-      length-map-range_with_len (new_ledger d) 0 (length d.graph.arcs) in
-      new_is d a l (place_is (new_ledger d) (length d.graph.arcs) a (new_ledgers d) l refl (omega arith) is);
-}
-
 pub book_ok : (ls : List LedgerState) (a : ℕ) (old new : LedgerState) (f : List Entry → List Entry) → a < length ls → old ≡ get_or ls a old
     → new.history ≡ f old.history → histories (set ls a new) ≡ set (histories ls) a (f (history (histories ls) a))
 book_ok ls a old new f lt is e = changed ls a new (f old.history) e ∙ ap (λ (h : List Entry). set (histories ls) a (f h)) (sym (history_at ls a old lt is))
@@ -82,15 +69,6 @@ book_ok ls a old new f lt is e = changed ls a new (f old.history) e ∙ ap (λ (
 pub book_err : (ls : List LedgerState) (a : ℕ) (old new : LedgerState) → old ≡ get_or ls a old → new.history ≡ old.history
     → histories (set ls a new) ≡ histories ls
 book_err ls a old new is e = unchanged ls a old new is e
-
--- what a call makes of the ledger of arc a
-pub called : (d : Deal) (a p : ℕ) (c : Call) (old new : LedgerState) → IsLedgerOf d a old → new.history ≡ after_call old.deal old.arc p c old.history
-    → new.history ≡ after_call d a p c old.history
-called d a p c old new k e =
-    e ∙ ap (λ (x : Deal). after_call x old.arc p c old.history) k.deal ∙ ap (λ (x : ℕ). after_call d x p c old.history) k.arc
-
-pub opened : (d d' : Deal) (ls : List LedgerState) → d' ≡ d → ls ≡ new_ledgers d → AreLedgersOf d' ls
-opened d d' ls e f = subst (λ x. AreLedgersOf x ls) (sym e) (subst (λ x. AreLedgersOf d x) (sym f) (are_new d))
 
 -- A ledger in the place of another.
 
@@ -113,3 +91,11 @@ ledger_set d ls a y k lt i = record {
     at b x l e (inl s) =
         subst (λ u. IsLedgerOf d u x) (sym s) (subst (IsLedgerOf d a) (sym (e ∙ (ap (λ u. get_or (set ls a y) u x) s ∙ get_or-set_same ls a y x lt))) i)
     at b x l e (inr n) = k.each b x l (e ∙ get_or-set_other ls a b y x n)
+
+-- one more history
+pub one_more : (ls : List LedgerState) (k : ℕ) (l : LedgerState) (hs : List (List Entry)) → k < length ls → l ≡ get_or ls k l
+    → hs ≡ histories (take k ls) → hs ++ l.history ∷ [] ≡ histories (take (k + 1) ls)
+one_more ls k l hs lt is e =
+    ap (λ (b : Histories). b ++ l.history ∷ []) e
+    ∙ (sym (map-append (λ (x : LedgerState). x.history) (take k ls) (l ∷ []))
+    ∙ ap (λ (xs : List LedgerState). histories xs) (sym (take_more ls k l lt ∙ ap (λ (x : LedgerState). take k ls ++ x ∷ []) (sym is))))

@@ -1,4 +1,5 @@
 pub mod Turns
+pub mod On
 pub mod Ledgers
 pub mod Signed
 pub mod Known
@@ -14,3 +15,5 @@ pub mod Gone
 pub mod Loops
 pub mod Finishes
 pub mod Plain
+pub mod Rooms
+pub mod Idle

@@ -1,10 +1,11 @@
--- What parties do that don't conform: those that plan nothing rest, and those that follow a script or a strategy call and know.
+-- What parties do that don't conform, where slots may be swept: those that plan nothing rest, and those that follow a script or a strategy call and know.
 use Rattle.std.proofs.Common.{◌≡◌, ℕ, ◌<◌, Bool, true, false, cond, List, [], length, set, slice_index_or, Option, Some, None, refl, sym, subst}
 use Rattle.std.proofs.Common.{ap, ◌∙◌, ◌∷◌, ◌++◌, nat_lt, lt-ltb, length-set, set-set}
 use Rattle.swap_base.proofs.Lists.{and_both}
 use Rattle.std.proofs.lemmas.List.{set-get_or, get_or-set_same}
 use Rattle.swap_digraph.specs.declared.deal.Deal.{Deal}
 use Rattle.ledger_core.specs.declared.entry.Call.{Call}
+use Rattle.ledger_core.specs.declared.entry.Entry.{Entry}
 use Rattle.ledger_core.specs.Book.{history}
 use Rattle.deviator_script.specs.Crafted.{Seeds}
 use Rattle.deviator_script.specs.Script.{next_call}
@@ -13,13 +14,15 @@ use Rattle.deviator_script.specs.declared.moves.Move.{Move}
 use Rattle.deviator_script.specs.declared.job.Role.{Role}
 use Rattle.deviator_script.specs.declared.job.Role.TheVariants.{Conforming, Manual, Script, Strategy}
 use Rattle.deviator_script.specs.declared.event.Event.TheVariants.{Look, Act}
-use Rattle.swap_run.specs.Run.{Cast, Plan, State, role_of, plan_of, plan_up_to, is_planned, look, act, watch, take_call, follow, act_as}
-use Rattle.swap_run.specs.Run.{step, ask, answer_for, is_answer_of}
+use Rattle.swap_run.specs.Run.{Cast, Plan, State, role_of, plan_of, plan_up_to, is_planned, look, next_of, watch, step, answer_for, is_answer_of}
+use Rattle.swap_run.specs.Called.{called_as, step_on}
 use Rattle.swap_run.specs.Asked.{Answers, with_answers, is_strategy}
-use Rattle.ledger_core.specs.Ledger.{after_call}
 use Rattle.swap_world.specs.Cast.{cast_with}
-use Rattle.swap_world.specs.Acting.{taken, seen, turned, asked_once, question_of}
+use Rattle.swap_world.specs.Acting.{landed, taken, seen, turned, asked_once, question_of}
 use Rattle.swap_world.specs.Inside.{name_in}
+use Rattle.swap_world.specs.On.{told_of_call, told_in}
+use Rattle.swap_world.specs.declared.told.Told.TheVariants.{Nothing}
+use Rattle.swap_world.proofs.On.{make_on, take_on, act_on, act_is, told_act}
 
 -- the role is a script
 abbrev pub IsScript : Role → Type 0
@@ -46,7 +49,7 @@ keep_if true x e = refl
 keep_if false x e = absurd (cc e)
 
 -- an answer that the party may make is made
-answer_is : (d : Deal) (v : ℕ) (o : Option (ℕ × Call)) → MayAnswer d v o → answer_for d v o ≡ o
+pub answer_is : (d : Deal) (v : ℕ) (o : Option (ℕ × Call)) → MayAnswer d v o → answer_for d v o ≡ o
 answer_is d v None may = refl
 answer_is d v (Some x) may =
     let k = may x refl in
@@ -54,9 +57,10 @@ answer_is d v (Some x) may =
     keep_if (is_answer_of d v x) x (and_both _ _ (and_both _ _ low k.near) k.fits)
 
 -- answers matter for no call
-pub take_same : (c : Cast) (g : Answers) (s : State) (v : ℕ) (o : Option (ℕ × Call)) → take_call (with_answers c g) s v o ≡ take_call c s v o
-take_same c g s v None = refl
-take_same c g s v (Some x) = refl
+pub take_same : (sw : ℕ → Bool) (c : Cast) (g : Answers) (s : State) (v : ℕ) (o : Option (ℕ × Call))
+    → take_on sw (with_answers c g) s v o ≡ take_on sw c s v o
+take_same sw c g s v None = refl
+take_same sw c g s v (Some x) = refl
 
 -- the plan of a party that has none in the list
 abbrev pub absent : Plan
@@ -71,27 +75,43 @@ module _ (d : Deal) (conforming : List Bool) (seeds : Seeds) (roles : List Role)
   watch_rests : (s : State) (v a : ℕ) → is_planned (role_of c v) ≡ false → watch c s v a ≡ s
   watch_rests s v a r = ap (λ b. record s { plans = cond b (set s.plans v (plan_up_to (plan_of s v) a (history s.book a))) s.plans }) r
 
-  as_planned : (s : State) (v : ℕ) (role : Role) → is_planned role ≡ false → act_as c s v role ≡ s
-  as_planned s v Conforming e = refl
-  as_planned s v Manual e = refl
-  as_planned s v (Script moves) e = absurd (cc e)
-  as_planned s v (Strategy name) e = absurd (cc e)
+  as_planned : (sw : ℕ → Bool) (s : State) (v : ℕ) (role : Role) → is_planned role ≡ false → act_on sw c s v role ≡ s
+  as_planned sw s v Conforming e = refl
+  as_planned sw s v Manual e = refl
+  as_planned sw s v (Script moves) e = absurd (cc e)
+  as_planned sw s v (Strategy name) e = absurd (cc e)
 
   pub other_look : (s : State) (v a : ℕ) → slice_index_or conforming v false ≡ false → is_planned (role_of c v) ≡ false → step c s (Look v a) ≡ s
   other_look s v a e r = ap (λ b. cond b (look s v a) (watch c s v a)) e ∙ watch_rests s v a r
 
-  pub other_act : (s : State) (v : ℕ) → slice_index_or conforming v false ≡ false → is_planned (role_of c v) ≡ false → step c s (Act v) ≡ s
-  other_act s v e r = ap (λ b. cond b (act c s v) (act_as c s v (role_of c v))) e ∙ as_planned s v (role_of c v) r
+  -- which role an act goes by
+  by_role : (sw : ℕ → Bool) (g : Answers) (s : State) (v : ℕ) → slice_index_or conforming v false ≡ false
+      → step_on sw (with_answers c g) s (Act v) ≡ act_on sw (with_answers c g) s v (role_of c v)
+  by_role sw g s v e =
+      act_is sw (with_answers c g) s v
+      ∙ ap (λ b. cond b (make_on sw d s v (next_of c s v)) (act_on sw (with_answers c g) s v (role_of c v))) e
+
+  pub other_act : (sw : ℕ → Bool) (s : State) (v : ℕ) → slice_index_or conforming v false ≡ false → is_planned (role_of c v) ≡ false
+      → step_on sw c s (Act v) ≡ s
+  other_act sw s v e r = by_role sw (λ k. None) s v e ∙ as_planned sw s v (role_of c v) r
+
+  silent_as : (sw : ℕ → Bool) (s : State) (v : ℕ) (role : Role) → is_planned role ≡ false → told_of_call sw c s (called_as c s v role) ≡ Nothing
+  silent_as sw s v Conforming e = refl
+  silent_as sw s v Manual e = refl
+  silent_as sw s v (Script moves) e = absurd (cc e)
+  silent_as sw s v (Strategy name) e = absurd (cc e)
+
+  pub other_told : (sw : ℕ → Bool) (s : State) (v : ℕ) → slice_index_or conforming v false ≡ false → is_planned (role_of c v) ≡ false
+      → told_in sw c s (Act v) ≡ Nothing
+  other_told sw s v e r = told_act sw c s v (role_of c v) e refl ∙ silent_as sw s v (role_of c v) r
 
   -- a call changes the histories alone
-  pub take_is : (s : State) (v : ℕ) (o : Option (ℕ × Call)) → is_planned (role_of c v) ≡ false → take_call c s v o ≡ record s { book = taken d v o s.book }
-  take_is s v None r = refl
-  take_is s v (Some x) r =
-      ap (λ b. record s {
-        book = set s.book x.0 (after_call d x.0 v x.1 (history s.book x.0));
-        plans =
-            cond b (set s.plans v (plan_up_to (plan_of s v) x.0 (after_call d x.0 v x.1 (history s.book x.0)))) s.plans;
-      }) r
+  pub take_is : (sw : ℕ → Bool) (s : State) (v : ℕ) (o : Option (ℕ × Call)) → is_planned (role_of c v) ≡ false
+      → take_on sw c s v o ≡ record s { book = taken sw d v o s.book }
+  take_is sw s v None r = refl
+  take_is sw s v (Some x) r =
+      let h : List Entry = landed (sw x.0) d x.0 v x.1 (history s.book x.0) in
+      ap (λ b. record s { book = set s.book x.0 h; plans = cond b (set s.plans v (plan_up_to (plan_of s v) x.0 h)) s.plans }) r
 
   -- Parties that follow a script.
 
@@ -107,43 +127,37 @@ module _ (d : Deal) (conforming : List Bool) (seeds : Seeds) (roles : List Role)
       ∙ ap (λ (m : Plan). record s { plans = set s.plans v (plan_up_to m a (history s.book a)) }) k.1)
 
   -- a call that v makes is known to it
-  pub planned_call : (s : State) (v : ℕ) (n : Plan) (o : Option (ℕ × Call)) → is_planned (role_of c v) ≡ true → Plans s v n
-      → take_call c s v o ≡ record s { book = taken d v o s.book; plans = set s.plans v (seen d v o s.book n) }
-  planned_call s v n None r k =
+  pub planned_call : (sw : ℕ → Bool) (s : State) (v : ℕ) (n : Plan) (o : Option (ℕ × Call)) → is_planned (role_of c v) ≡ true → Plans s v n
+      → take_on sw c s v o ≡ record s { book = taken sw d v o s.book; plans = set s.plans v (seen sw d v o s.book n) }
+  planned_call sw s v n None r k =
       ap (λ (ps : List Plan). record s { plans = ps })
       (sym (ap (λ (m : Plan). set s.plans v m) (sym k.1) ∙ set-get_or s.plans v absent))
-  planned_call s v n (Some x) r k =
-      ap (λ b. record s {
-        book = set s.book x.0 (after_call d x.0 v x.1 (history s.book x.0));
-        plans =
-            cond b (set s.plans v (plan_up_to (plan_of s v) x.0 (after_call d x.0 v x.1 (history s.book x.0)))) s.plans;
-      }) r
-      ∙ ap (λ (m : Plan). record s {
-        book = set s.book x.0 (after_call d x.0 v x.1 (history s.book x.0));
-        plans =
-            set s.plans v (plan_up_to m x.0 (after_call d x.0 v x.1 (history s.book x.0)));
-      }) k.1
+  planned_call sw s v n (Some x) r k =
+      let h : List Entry = landed (sw x.0) d x.0 v x.1 (history s.book x.0) in
+      ap (λ b. record s { book = set s.book x.0 h; plans = cond b (set s.plans v (plan_up_to (plan_of s v) x.0 h)) s.plans }) r
+      ∙ ap (λ (m : Plan). record s { book = set s.book x.0 h; plans = set s.plans v (plan_up_to m x.0 h) }) k.1
 
   -- the call that v's script makes next
   abbrev pub due_call : Plan → Option (ℕ × Call)
   due_call n = next_call d seeds n.known n.moves
 
-  pub followed_is : (s : State) (v : ℕ) (n : Plan) → is_planned (role_of c v) ≡ true → Plans s v n
-      → follow c s v ≡ record s { book = taken d v (due_call n) s.book; plans = set s.plans v (seen d v (due_call n) s.book (turned n)) }
-  followed_is s v n r k =
+  pub followed_is : (sw : ℕ → Bool) (s : State) (v : ℕ) (n : Plan) (moves : List Move) → is_planned (role_of c v) ≡ true → Plans s v n
+      → act_on sw c s v (Script moves)
+      ≡ record s { book = taken sw d v (due_call n) s.book; plans = set s.plans v (seen sw d v (due_call n) s.book (turned n)) }
+  followed_is sw s v n moves r k =
       let t : State = record s { plans = set s.plans v (turned n) } in
       let there : v < length t.plans = subst (λ l. v < l) (sym (length-set s.plans v (turned n))) k.0 in
       let now : plan_of t v ≡ turned n = get_or-set_same s.plans v (turned n) absent k.0 in
-      ap (λ (m : Plan). take_call c (record s { plans = set s.plans v (turned m) }) v (due_call m)) k.1
-      ∙ (planned_call t v (turned n) (due_call n) r (there, now)
-      ∙ ap (λ (ps : List Plan). record s { book = taken d v (due_call n) s.book; plans = ps })
-      (set-set s.plans v (turned n) (seen d v (due_call n) s.book (turned n))))
+      ap (λ (m : Plan). take_on sw c (record s { plans = set s.plans v (turned m) }) v (due_call m)) k.1
+      ∙ (planned_call sw t v (turned n) (due_call n) r (there, now)
+      ∙ ap (λ (ps : List Plan). record s { book = taken sw d v (due_call n) s.book; plans = ps })
+      (set-set s.plans v (turned n) (seen sw d v (due_call n) s.book (turned n))))
 
-  pub planned_act : (s : State) (v : ℕ) (n : Plan) → slice_index_or conforming v false ≡ false → IsScript (role_of c v) → Plans s v n
-      → step c s (Act v) ≡ record s { book = taken d v (due_call n) s.book; plans = set s.plans v (seen d v (due_call n) s.book (turned n)) }
-  planned_act s v n e i k =
-      ap (λ b. cond b (act c s v) (act_as c s v (role_of c v))) e
-      ∙ (ap (λ (role : Role). act_as c s v role) i.1 ∙ followed_is s v n (ap is_planned i.1) k)
+  pub planned_act : (sw : ℕ → Bool) (s : State) (v : ℕ) (n : Plan) → slice_index_or conforming v false ≡ false → IsScript (role_of c v) → Plans s v n
+      → step_on sw c s (Act v) ≡ record s { book = taken sw d v (due_call n) s.book; plans = set s.plans v (seen sw d v (due_call n) s.book (turned n)) }
+  planned_act sw s v n e i k =
+      by_role sw (λ k. None) s v e
+      ∙ (ap (λ (role : Role). act_on sw c s v role) i.1 ∙ followed_is sw s v n i.0 (ap is_planned i.1) k)
 
   -- Parties that follow a strategy.
 
@@ -157,30 +171,29 @@ module _ (d : Deal) (conforming : List Bool) (seeds : Seeds) (roles : List Role)
   }
 
   -- the state after v has asked and made the call that was answered
-  abbrev pub answered_with : State → ℕ → List ℕ → Plan → Option (ℕ × Call) → State
-  answered_with s v name n o = record {
-    book = taken d v o s.book;
+  abbrev pub answered_with : (ℕ → Bool) → State → ℕ → List ℕ → Plan → Option (ℕ × Call) → State
+  answered_with sw s v name n o = record {
+    book = taken sw d v o s.book;
     notes = s.notes;
-    plans = set s.plans v (seen d v o s.book (asked_once n));
+    plans = set s.plans v (seen sw d v o s.book (asked_once n));
     asked = s.asked ++ question_of name v n ∷ [];
   }
 
-  asked_is : (g : Answers) (s : State) (v : ℕ) (n : Plan) (name : List ℕ) (o : Option (ℕ × Call)) → is_planned (role_of c v) ≡ true → Plans s v n
-      → g (length s.asked) ≡ o → MayAnswer d v o → ask (with_answers c g) s v name ≡ answered_with s v name n o
-  asked_is g s v n name o r k at may =
+  asked_is : (sw : ℕ → Bool) (g : Answers) (s : State) (v : ℕ) (n : Plan) (name : List ℕ) (o : Option (ℕ × Call)) → is_planned (role_of c v) ≡ true
+      → Plans s v n → g (length s.asked) ≡ o → MayAnswer d v o → act_on sw (with_answers c g) s v (Strategy name) ≡ answered_with sw s v name n o
+  asked_is sw g s v n name o r k at may =
       let t : State = asked_with s v name n in
       let there : v < length t.plans = subst (λ l. v < l) (sym (length-set s.plans v (asked_once n))) k.0 in
       let now : plan_of t v ≡ asked_once n = get_or-set_same s.plans v (asked_once n) absent k.0 in
-      ap (λ (m : Plan). take_call (with_answers c g) (asked_with s v name m) v (answer_for d v (g (length s.asked)))) k.1
-      ∙ (ap (λ (x : Option (ℕ × Call)). take_call (with_answers c g) t v (answer_for d v x)) at
-      ∙ (ap (λ (x : Option (ℕ × Call)). take_call (with_answers c g) t v x) (answer_is d v o may)
-      ∙ (take_same c g t v o ∙ (planned_call t v (asked_once n) o r (there, now)
-      ∙ ap (λ (ps : List Plan). record t { book = taken d v o s.book; plans = ps })
-      (set-set s.plans v (asked_once n) (seen d v o s.book (asked_once n)))))))
+      ap (λ (m : Plan). take_on sw (with_answers c g) (asked_with s v name m) v (answer_for d v (g (length s.asked)))) k.1
+      ∙ (ap (λ (x : Option (ℕ × Call)). take_on sw (with_answers c g) t v (answer_for d v x)) at
+      ∙ (ap (λ (x : Option (ℕ × Call)). take_on sw (with_answers c g) t v x) (answer_is d v o may)
+      ∙ (take_same sw c g t v o ∙ (planned_call sw t v (asked_once n) o r (there, now)
+      ∙ ap (λ (ps : List Plan). record t { book = taken sw d v o s.book; plans = ps })
+      (set-set s.plans v (asked_once n) (seen sw d v o s.book (asked_once n)))))))
 
-  pub planned_ask : (g : Answers) (s : State) (v : ℕ) (n : Plan) (name : List ℕ) (o : Option (ℕ × Call)) → slice_index_or conforming v false ≡ false
-      → is_planned (role_of c v) ≡ true → role_of c v ≡ Strategy name → Plans s v n → g (length s.asked) ≡ o → MayAnswer d v o
-      → step (with_answers c g) s (Act v) ≡ answered_with s v name n o
-  planned_ask g s v n name o e r i k at may =
-      ap (λ b. cond b (act c s v) (act_as (with_answers c g) s v (role_of c v))) e
-      ∙ (ap (λ (role : Role). act_as (with_answers c g) s v role) i ∙ asked_is g s v n name o r k at may)
+  pub planned_ask : (sw : ℕ → Bool) (g : Answers) (s : State) (v : ℕ) (n : Plan) (name : List ℕ) (o : Option (ℕ × Call))
+      → slice_index_or conforming v false ≡ false → is_planned (role_of c v) ≡ true → role_of c v ≡ Strategy name → Plans s v n
+      → g (length s.asked) ≡ o → MayAnswer d v o → step_on sw (with_answers c g) s (Act v) ≡ answered_with sw s v name n o
+  planned_ask sw g s v n name o e r i k at may =
+      by_role sw g s v e ∙ (ap (λ (role : Role). act_on sw (with_answers c g) s v role) i ∙ asked_is sw g s v n name o r k at may)

@@ -1,4 +1,4 @@
--- The state that ledgers and actors show, after a look, an act and a call.
+-- The state that ledgers and actors show, after a look, an act and a call, where slots may be swept.
 use Rattle.std.proofs.Common.{◌≡◌, ◌≢◌, ◌⊎◌, inl, inr, ℕ, ◌<◌, Bool, true, false, cond, List, [], ◌∷◌, ◌++◌, length, get_or, set, slice_index_or, map, Option}
 use Rattle.std.proofs.Common.{Some, None, refl, sym, ap, ap₂, ◌∙◌, subst}
 use Rattle.std.proofs.Math.Seq.{map-set_same}
@@ -18,16 +18,18 @@ use Rattle.deviator_script.specs.declared.job.Role.TheVariants as kinds
 use Rattle.deviator_script.specs.declared.moves.Move.{Move}
 use Rattle.swap_rules.specs.Due.{Wallet, Action, due, first}
 use Rattle.party_wallet.specs.Value.{signed_in}
-use Rattle.swap_run.specs.Run.{Cast, Notes, Plan, State, conforms, role_of, notes_of, plan_of, plan_up_to, signed_after, known_up_to, look, make, next_of, act}
-use Rattle.swap_run.specs.Run.{Question, watch, act_as, step}
+use Rattle.swap_run.specs.Run.{Cast, Notes, Plan, State, conforms, role_of, notes_of, plan_of, plan_up_to, signed_after, known_up_to, look, next_of}
+use Rattle.swap_run.specs.Run.{Question, watch, step, answer_for}
+use Rattle.swap_run.specs.Called.{step_on}
 use Rattle.swap_run.specs.Asked.{Answers, with_answers}
-use Rattle.ledger_core.specs.Ledger.{after_call}
 use Rattle.party_machine.specs.Wallet.{wallet_of}
 use Rattle.party_machine.specs.Machine as machines
 use Rattle.party_machine.specs.Machine.{MachineState}
-use Rattle.swap_world.proofs.Plans.{IsScript, absent, due_call, planned_look, planned_call, planned_act, planned_ask}
+use Rattle.swap_world.proofs.Plans.{IsScript, absent, due_call, answer_is, planned_look, planned_call, planned_act, planned_ask}
 use Rattle.swap_world.specs.Cast.{cast_with, wallet_with}
-use Rattle.swap_world.specs.Acting.{histories, book_after, machine_after, taken, seen, turned, asked_once, question_of}
+use Rattle.swap_world.specs.Acting.{histories, landed, book_after, machine_after, told_of, taken, seen, told_to, turned, asked_once, question_of}
+use Rattle.swap_world.specs.On.{told_in}
+use Rattle.swap_world.proofs.On.{make_on, act_on, act_is, call_is, told_due, told_call, told_script, told_strategy}
 use Rattle.swap_world.specs.Inside.{notes_in, plan_in, IsActorOf, AreActorsOf}
 use Rattle.swap_world.specs.declared.actor.Actor.{Actor}
 use Rattle.swap_world.specs.declared.actor.Actor.TheVariants.{Conforming, Planned}
@@ -124,41 +126,49 @@ module _ (d : Deal) (conforming : List Bool) (seeds : List (Option (List ℕ))) 
       ∙ (ap (λ (w : Wallet). first (due d p w (signed_in m.signed) m.known)) w
       ∙ ap₂ (λ (v : ℕ) (e : Deal). first (due e v (wallet_of m.seed m.me m.deal) (signed_in m.signed) m.known)) (sym i.is.2) (sym i.is.1))
 
-  made : (p : ℕ) (m new : MachineState) (b : Histories) (o : Option Action) → IsAt p m → b ≡ book_after m o (histories ls)
-      → new ≡ machine_after m o (histories ls)
-      → replaced p (Conforming new) b ≡ make d s p o
-  made p m new b None i eb en =
+  made : (sw : ℕ → Bool) (p : ℕ) (m new : MachineState) (b : Histories) (o : Option Action) → IsAt p m → b ≡ book_after sw m o (histories ls)
+      → new ≡ machine_after sw m o (histories ls)
+      → replaced p (Conforming new) b ≡ make_on sw d s p o
+  made sw p m new b None i eb en =
       same_actor p (Conforming m) (Conforming new) b i.here (ap (λ (x : MachineState). Conforming x) en) ∙ ap (λ (x : Histories). state d qs xs x) eb
-  made p m new b (Some x) i eb en =
-      let h : after_call m.deal x.arc m.me x.call (history (histories ls) x.arc) ≡ after_call d x.arc p x.call (history (histories ls) x.arc)
-      = ap₂ (λ (e : Deal) (v : ℕ). after_call e x.arc v x.call (history (histories ls) x.arc)) i.is.1 i.is.2 in
+  made sw p m new b (Some x) i eb en =
+      let h : landed (sw x.arc) m.deal x.arc m.me x.call (history (histories ls) x.arc)
+      ≡ landed (sw x.arc) d x.arc p x.call (history (histories ls) x.arc)
+      = ap₂ (λ (e : Deal) (v : ℕ). landed (sw x.arc) e x.arc v x.call (history (histories ls) x.arc)) i.is.1 i.is.2 in
       let n : notes_in d (Conforming new) ≡ record {
         known =
-            set (notes_of s p).known x.arc (after_call d x.arc p x.call (history (histories ls) x.arc));
+            set (notes_of s p).known x.arc (landed (sw x.arc) d x.arc p x.call (history (histories ls) x.arc));
         signed =
             signed_after (notes_of s p).signed x.call;
       }
       = ap (λ (y : MachineState). notes_in d (Conforming y)) en
       ∙ (ap (λ (k : List Entry). note (set m.known x.arc k) (signed_after m.signed x.call)) h
-      ∙ ap (λ (z : Notes). note (set z.known x.arc (after_call d x.arc p x.call (history (histories ls) x.arc))) (signed_after z.signed x.call))
+      ∙ ap (λ (z : Notes). note (set z.known x.arc (landed (sw x.arc) d x.arc p x.call (history (histories ls) x.arc))) (signed_after z.signed x.call))
       (sym (notes_at p m i))) in
       same_parts _ _ _ _ _ _ (eb ∙ ap (λ (k : List Entry). set (histories ls) x.arc k) h) (noted p new _ n) (plans_still p m new i)
     where
       note : Histories → List (Option Hashkey) → Notes
       note k ss = record { known = k; signed = ss }
 
-  pub acted : (p : ℕ) (m new : MachineState) (b : Histories) → IsAt p m → b ≡ book_after m (machines.next_of m) (histories ls)
-      → new ≡ machine_after m (machines.next_of m) (histories ls)
-      → replaced p (Conforming new) b ≡ step c s (Act p)
-  acted p m new b i eb en =
-      made p m new b (machines.next_of m) i eb en ∙ (ap (λ (o : Option Action). make d s p o) (sym (next_is p m i))
-      ∙ where_it_conforms p (act c s p) (act_as c s p (role_of c p)) i.is.0)
+  pub acted : (sw : ℕ → Bool) (p : ℕ) (m new : MachineState) (b : Histories) → IsAt p m → b ≡ book_after sw m (machines.next_of m) (histories ls)
+      → new ≡ machine_after sw m (machines.next_of m) (histories ls)
+      → replaced p (Conforming new) b ≡ step_on sw c s (Act p)
+  acted sw p m new b i eb en =
+      made sw p m new b (machines.next_of m) i eb en ∙ (ap (λ (o : Option Action). make_on sw d s p o) (sym (next_is p m i))
+      ∙ (where_it_conforms p (make_on sw d s p (next_of c s p)) (act_on sw c s p (role_of c p)) i.is.0 ∙ sym (act_is sw c s p)))
 
   -- the histories after it, whatever became of the machine
-  pub acted_book : (p : ℕ) (m : MachineState) → IsAt p m → book_after m (machines.next_of m) (histories ls) ≡ (step c s (Act p)).book
-  acted_book p m i =
+  pub acted_book : (sw : ℕ → Bool) (p : ℕ) (m : MachineState) → IsAt p m
+      → book_after sw m (machines.next_of m) (histories ls) ≡ (step_on sw c s (Act p)).book
+  acted_book sw p m i =
       ap (λ (t : State). t.book)
-      (acted p m (machine_after m (machines.next_of m) (histories ls)) (book_after m (machines.next_of m) (histories ls)) i refl refl)
+      (acted sw p m (machine_after sw m (machines.next_of m) (histories ls)) (book_after sw m (machines.next_of m) (histories ls)) i refl refl)
+
+  -- what the party is told
+  pub acted_told : (sw : ℕ → Bool) (p : ℕ) (m : MachineState) → IsAt p m
+      → told_of sw m (machines.next_of m) (histories ls) ≡ told_in sw c s (Act p)
+  acted_told sw p m i =
+      ap (λ (o : Option Action). told_of sw m o (histories ls)) (sym (next_is p m i)) ∙ told_due sw c s m p i.is.0 i.is.1 i.is.2
 
   -- Parties that follow a script or a strategy.
 
@@ -186,33 +196,51 @@ module _ (d : Deal) (conforming : List Bool) (seeds : List (Option (List ℕ))) 
       planned p n new (histories ls) i ∙ (ap (λ (m : Plan). st (histories ls) s.notes (set s.plans p m)) e
       ∙ sym (planned_look d conforming seeds roles s p a n i.is.0 i.is.1 (has_plan p n i)))
 
-  pub followed : (p : ℕ) (n new : Plan) (b : Histories) → IsPlanAt p n → IsScript (role_of c p)
-      → b ≡ taken d p (due_call d conforming seeds roles n) (histories ls)
-      → new ≡ seen d p (due_call d conforming seeds roles n) (histories ls) (turned n) → replaced p (Planned new) b ≡ step c s (Act p)
-  followed p n new b i script eb en =
+  pub followed : (sw : ℕ → Bool) (p : ℕ) (n new : Plan) (b : Histories) → IsPlanAt p n → IsScript (role_of c p)
+      → b ≡ taken sw d p (due_call d conforming seeds roles n) (histories ls)
+      → new ≡ seen sw d p (due_call d conforming seeds roles n) (histories ls) (turned n) → replaced p (Planned new) b ≡ step_on sw c s (Act p)
+  followed sw p n new b i script eb en =
       planned p n new b i ∙ (ap₂ (λ (x : Histories) (m : Plan). st x s.notes (set s.plans p m)) eb en
-      ∙ sym (planned_act d conforming seeds roles s p n i.is.0 script (has_plan p n i)))
+      ∙ sym (planned_act d conforming seeds roles sw s p n i.is.0 script (has_plan p n i)))
 
-  pub followed_book : (p : ℕ) (n : Plan) → IsPlanAt p n → IsScript (role_of c p)
-      → taken d p (due_call d conforming seeds roles n) (histories ls) ≡ (step c s (Act p)).book
-  followed_book p n i script = ap (λ (t : State). t.book) (followed p n _ _ i script refl refl)
+  pub followed_book : (sw : ℕ → Bool) (p : ℕ) (n : Plan) → IsPlanAt p n → IsScript (role_of c p)
+      → taken sw d p (due_call d conforming seeds roles n) (histories ls) ≡ (step_on sw c s (Act p)).book
+  followed_book sw p n i script = ap (λ (t : State). t.book) (followed sw p n _ _ i script refl refl)
+
+  pub followed_told : (sw : ℕ → Bool) (p : ℕ) (n : Plan) → IsPlanAt p n → IsScript (role_of c p)
+      → told_to sw d p (due_call d conforming seeds roles n) (histories ls) ≡ told_in sw c s (Act p)
+  followed_told sw p n i script =
+      ap (λ (m : Plan). told_to sw d p (due_call d conforming seeds roles m) (histories ls)) (sym (plan_at p n i))
+      ∙ sym (told_script sw c s p script.0 i.is.0 script.1)
 
   -- the party has asked its strategy, and made the call that was answered
-  pub answered : (g : Answers) (p : ℕ) (n new : Plan) (b : Histories) (name : List ℕ) (o : Option (ℕ × Call)) → IsPlanAt p n
-      → role_of c p ≡ kinds.Strategy name → g (length qs) ≡ o → MayAnswer d p o → b ≡ taken d p o (histories ls)
-      → new ≡ seen d p o (histories ls) (asked_once n)
-      → state d (qs ++ question_of name p n ∷ []) (set xs p (Planned new)) b ≡ step (with_answers c g) s (Act p)
-  answered g p n new b name o i role at may eb en =
+  pub answered : (sw : ℕ → Bool) (g : Answers) (p : ℕ) (n new : Plan) (b : Histories) (name : List ℕ) (o : Option (ℕ × Call)) → IsPlanAt p n
+      → role_of c p ≡ kinds.Strategy name → g (length qs) ≡ o → MayAnswer d p o → b ≡ taken sw d p o (histories ls)
+      → new ≡ seen sw d p o (histories ls) (asked_once n)
+      → state d (qs ++ question_of name p n ∷ []) (set xs p (Planned new)) b ≡ step_on sw (with_answers c g) s (Act p)
+  answered sw g p n new b name o i role at may eb en =
       ap (λ (t : State). record t { asked = qs ++ question_of name p n ∷ [] }) (planned p n new b i)
       ∙ (ap₂ (λ (x : Histories) (m : Plan). record (st x s.notes (set s.plans p m)) { asked = qs ++ question_of name p n ∷ [] }) eb en
-      ∙ sym (planned_ask d conforming seeds roles g s p n name o i.is.0 i.is.1 role (has_plan p n i) at may))
+      ∙ sym (planned_ask d conforming seeds roles sw g s p n name o i.is.0 i.is.1 role (has_plan p n i) at may))
 
-  pub made_by_hand : (p : ℕ) (mv : Move) (n new : Plan) (b : Histories) → IsPlanAt p n → b ≡ taken d p (resolved d seeds (histories ls) mv) (histories ls)
-      → new ≡ seen d p (resolved d seeds (histories ls) mv) (histories ls) n → replaced p (Planned new) b ≡ step c s (Made p mv)
-  made_by_hand p mv n new b i eb en =
+  pub answered_told : (sw : ℕ → Bool) (g : Answers) (p : ℕ) (n : Plan) (name : List ℕ) (o : Option (ℕ × Call)) → IsPlanAt p n
+      → role_of c p ≡ kinds.Strategy name → g (length qs) ≡ o → MayAnswer d p o
+      → told_to sw d p o (histories ls) ≡ told_in sw (with_answers c g) s (Act p)
+  answered_told sw g p n name o i role at may =
+      sym (told_strategy sw (with_answers c g) s p name i.is.0 role
+      ∙ (ap (λ (x : Option (ℕ × Call)). told_to sw d p (answer_for d p x) (histories ls)) at
+      ∙ ap (λ (x : Option (ℕ × Call)). told_to sw d p x (histories ls)) (answer_is d p o may)))
+
+  pub made_by_hand : (sw : ℕ → Bool) (p : ℕ) (mv : Move) (n new : Plan) (b : Histories) → IsPlanAt p n
+      → b ≡ taken sw d p (resolved d seeds (histories ls) mv) (histories ls)
+      → new ≡ seen sw d p (resolved d seeds (histories ls) mv) (histories ls) n → replaced p (Planned new) b ≡ step_on sw c s (Made p mv)
+  made_by_hand sw p mv n new b i eb en =
       planned p n new b i ∙ (ap₂ (λ (x : Histories) (m : Plan). st x s.notes (set s.plans p m)) eb en
-      ∙ sym (planned_call d conforming seeds roles s p n (resolved d seeds (histories ls) mv) i.is.1 (has_plan p n i)))
+      ∙ sym (call_is sw c s p mv ∙ planned_call d conforming seeds roles sw s p n (resolved d seeds (histories ls) mv) i.is.1 (has_plan p n i)))
 
-  pub made_book : (p : ℕ) (mv : Move) (n : Plan) → IsPlanAt p n
-      → taken d p (resolved d seeds (histories ls) mv) (histories ls) ≡ (step c s (Made p mv)).book
-  made_book p mv n i = ap (λ (t : State). t.book) (made_by_hand p mv n _ _ i refl refl)
+  pub made_book : (sw : ℕ → Bool) (p : ℕ) (mv : Move) (n : Plan) → IsPlanAt p n
+      → taken sw d p (resolved d seeds (histories ls) mv) (histories ls) ≡ (step_on sw c s (Made p mv)).book
+  made_book sw p mv n i = ap (λ (t : State). t.book) (made_by_hand sw p mv n _ _ i refl refl)
+
+  pub made_told : (sw : ℕ → Bool) (p : ℕ) (mv : Move) → told_to sw d p (resolved d seeds (histories ls) mv) (histories ls) ≡ told_in sw c s (Made p mv)
+  made_told sw p mv = sym (told_call sw c s p mv)

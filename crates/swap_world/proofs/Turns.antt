@@ -16,23 +16,27 @@ full_or_kept : (r : Reply) (h h' : List Entry) (e : Entry) → (r ≡ SenderFull
 full_or_kept SenderFull h h' e full kept = full refl
 full_or_kept _ h h' e full kept = kept (λ k. cc k)
 
--- the ledger has the same deal, arc and history
-pub record IsSame (old new : LedgerState) : Type 0 where
+full_or : {P : Type 0} (r : Reply) → (r ≡ SenderFull → P) → (r ≢ SenderFull → P) → P
+full_or SenderFull full kept = full refl
+full_or _ full kept = kept (λ k. cc k)
+
+-- A ledger after a call of p.
+pub record IsCalled (old new : LedgerState) (p : ℕ) (c : Call) : Type 0 where
   pub deal : new.deal ≡ old.deal
   pub arc : new.arc ≡ old.arc
-  pub history : new.history ≡ old.history
+  pub history : new.history ≡ after_call old.deal old.arc p c old.history
 
-pub called : (old mid new : LedgerState) (p : ℕ) (c : Call) (r : Reply) → IsSame old mid → r ≡ reply_to mid.deal mid.arc mid.history p c
-    → (r ≡ SenderFull → new ≡ mid) → (r ≢ SenderFull → IsAfter mid (call_entry p (height mid.history) c r) new)
-    → new.history ≡ after_call old.deal old.arc p c old.history
+pub called : (old new : LedgerState) (p : ℕ) (c : Call) (r : Reply) → r ≡ reply_to old.deal old.arc old.history p c → (r ≡ SenderFull → new ≡ old)
+    → (r ≢ SenderFull → IsAfter old (call_entry p (height old.history) c r) new) → IsCalled old new p c
 unfolding after_call
-called old mid new p c r same reply full kept =
-    let now : r ≡ reply_to old.deal old.arc old.history p c =
-    reply ∙ ap (λ (d : Deal). reply_to d mid.arc mid.history p c) same.deal ∙ ap (λ (a : ℕ). reply_to old.deal a mid.history p c) same.arc
-    ∙ ap (λ (h : List Entry). reply_to old.deal old.arc h p c) same.history in
-    full_or_kept r mid.history new.history (call_entry p (height mid.history) c r) (λ k. ap (λ (l : LedgerState). l.history) (full k)) (λ k. (kept k).history)
-    ∙ ap (λ (h : List Entry). cond (is_sender_full r) h (h ++ call_entry p (height h) c r ∷ [])) same.history
-    ∙ ap (λ (x : Reply). cond (is_sender_full x) old.history (old.history ++ call_entry p (height old.history) c x ∷ [])) now
+called old new p c r reply full kept = record {
+  deal = full_or r (λ k. ap (λ (l : LedgerState). l.deal) (full k)) (λ k. (kept k).deal);
+  arc = full_or r (λ k. ap (λ (l : LedgerState). l.arc) (full k)) (λ k. (kept k).arc);
+  history =
+      full_or_kept r old.history new.history (call_entry p (height old.history) c r) (λ k. ap (λ (l : LedgerState). l.history) (full k))
+      (λ k. (kept k).history)
+      ∙ ap (λ (x : Reply). cond (is_sender_full x) old.history (old.history ++ call_entry p (height old.history) c x ∷ [])) reply;
+}
 
 -- a call leaves the entries before it
 pub call_begins : (d : Deal) (a p : ℕ) (c : Call) (h : List Entry) → Begins h (after_call d a p c h)

@@ -1,5 +1,5 @@
 -- Histories on the way to a state: by a step, in a loop over a list, and in a loop that repeats.
-use Rattle.std.proofs.Common.{◌≡◌, ◌⊎◌, inl, inr, Result, Ok, Err, OnErr, ℕ, suc, zero, ◌+◌, ◌-◌, ◌<◌, ◌≤◌, Bool, true, false, List, [], ◌∷◌, length}
+use Rattle.std.proofs.Common.{◌≡◌, ◌⊎◌, inl, inr, Result, Ok, Err, OnOk, OnErr, ℕ, suc, zero, ◌+◌, ◌-◌, ◌<◌, ◌≤◌, Bool, true, false, List, [], ◌∷◌, length}
 use Rattle.std.proofs.Common.{get_or, take, drop, fold, sym, ap, ◌∙◌, subst, arith, add-one, drop-cons}
 use Rattle.std.specs.List.{range_with_len, list_all, All}
 use Rattle.std.proofs.lemmas.List.Folds.{list_all_at, list_all_more}
@@ -56,7 +56,7 @@ range_holds_more p m k l so_far h =
 pub range_holds : (p : ℕ → Bool) (m k : ℕ) → m ≤ k → list_all p (take k (range_with_len 0 m)) ≡ true → list_all p (range_with_len 0 m) ≡ true
 range_holds p m k le so_far = let n = length-range_with_len 0 m in sym (ap (list_all p) (take_all k (range_with_len 0 m) (omega (arith, n, le)))) ∙ so_far
 
-repeat_split : {A : Type 0} (j k : ℕ) (f : A → A) (x : A) → repeat (j + k) f x ≡ repeat j f (repeat k f x)
+pub repeat_split : {A : Type 0} (j k : ℕ) (f : A → A) (x : A) → repeat (j + k) f x ≡ repeat j f (repeat k f x)
 repeat_split zero k f x = let z : 0 + k ≡ k = omega arith in ap (λ i. repeat i f x) z
 repeat_split (suc j) k f x = let z : suc j + k ≡ suc (j + k) = omega arith in ap (λ i. repeat i f x) z ∙ ap f (repeat_split j k f x)
 
@@ -124,6 +124,10 @@ module _ (c : Cast) where
 -- the world with another state
 abbrev pub at : WorldState → State → WorldState
 at w st = record { deal = w.deal; conforming = w.conforming; seeds = w.seeds; roles = w.roles; answers = w.answers; state = st; stopped = w.stopped }
+
+pub if_ok : {A E : Type 0} {P : Type 0} (r : Result A E) → P → OnOk r P
+if_ok (Ok x) p = p
+if_ok (Err e) p = tt
 
 pub if_err : {A E : Type 0} {P : Type 0} (r : Result A E) → P → OnErr r P
 if_err (Ok x) p = tt

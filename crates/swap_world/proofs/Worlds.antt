@@ -24,12 +24,15 @@ use Rattle.swap_run.specs.FairLaws.{IsReached}
 use Rattle.party_wallet.specs.Value.{signed_in}
 use Rattle.swap_laws.proofs.Due.{due_is_valid}
 use Rattle.swap_run.proofs.Noted.{due_now}
+use Rattle.swap_run.specs.Called.{step_on}
 use Rattle.swap_run.proofs.Good.{holds, first_in, steps_are_good, good_is_kept}
+use Rattle.swap_run.proofs.Swept.{steps_on_are_good}
 use Rattle.swap_run.proofs.Plans.{plan_view}
 use Rattle.party_machine.specs.Machine as machines
 use Rattle.party_machine.specs.Machine.{MachineState}
 use Rattle.swap_world.specs.Value.{WorldState, answers_of, cast_at, cast_for, Continues}
-use Rattle.swap_world.specs.Gone.{Gives, HasGone, IsCut}
+use Rattle.swap_world.specs.Gone.{Gives, HasGone}
+use Rattle.swap_world.specs.On.{IsCutOn}
 use Rattle.swap_world.specs.Stopped.{IsStopped}
 use Rattle.swap_world.specs.Inside.{IsActorOf, AreActorsOf}
 use Rattle.swap_world.specs.Acting.{IsMakable, IsSameOwner, histories}
@@ -98,25 +101,26 @@ pub owned : (d : Deal) (conforms : Bool) (seed : Option (List ℕ)) (role : Role
 owned d conforms seed role p m new k i = (i.0, k.deal ∙ i.1, k.me ∙ i.2, i.3 ∙ ap (λ (z : List ℕ). Some z) (sym k.seed))
 
 -- the state after an event, or as before where memory ran out, is good
-pub good_on : {A E : Type 0} (r : Result A E) (cast : Cast) (old new : State) (e : Event) → OnOk r (new ≡ step cast old e) → OnErr r (new ≡ old)
-    → IsReadyCast cast → CanStep cast.deal cast.conforming cast.seeds e → IsGood cast old → IsGood cast new
-good_on (Ok x) cast old new e ok err ready can g = subst (IsGood cast) (sym ok) (steps_are_good cast old e ready can g)
-good_on (Err x) cast old new e ok err ready can g = subst (IsGood cast) (sym err) g
+pub good_on : {A E : Type 0} (r : Result A E) (sw : ℕ → Bool) (cast : Cast) (old new : State) (e : Event) → OnOk r (new ≡ step_on sw cast old e)
+    → OnErr r (new ≡ old) → IsReadyCast cast → CanStep cast.deal cast.conforming cast.seeds e → IsGood cast old → IsGood cast new
+good_on (Ok x) sw cast old new e ok err ready can g = subst (IsGood cast) (sym ok) (steps_on_are_good sw cast old e ready can g)
+good_on (Err x) sw cast old new e ok err ready can g = subst (IsGood cast) (sym err) g
 
 -- before an event and after it every conforming party has kept its conduct
-kept_either : (cast : Cast) (old : State) (b : Histories) (e : Event) → (b ≡ old.book) ⊎ (b ≡ (step cast old e).book)
+kept_either : (sw : ℕ → Bool) (cast : Cast) (old : State) (b : Histories) (e : Event) → (b ≡ old.book) ⊎ (b ≡ (step_on sw cast old e).book)
     → IsReadyCast cast → CanStep cast.deal cast.conforming cast.seeds e → IsGood cast old → IsKept cast b
-kept_either cast old b e (inl h) ready can g = subst (IsKept cast) (sym h) (good_is_kept cast old ready g)
-kept_either cast old b e (inr h) ready can g =
-    subst (IsKept cast) (sym h) (good_is_kept cast (step cast old e) ready (steps_are_good cast old e ready can g))
+kept_either sw cast old b e (inl h) ready can g = subst (IsKept cast) (sym h) (good_is_kept cast old ready g)
+kept_either sw cast old b e (inr h) ready can g =
+    subst (IsKept cast) (sym h) (good_is_kept cast (step_on sw cast old e) ready (steps_on_are_good sw cast old e ready can g))
 
 -- whether memory ran out or not, every conforming party has kept its conduct
-pub kept_on : {A E : Type 0} (r : Result A E) (cast : Cast) (old new : State) (e : Event) → OnOk r (new ≡ step cast old e)
-    → OnErr r ((new.book ≡ old.book) ⊎ (new.book ≡ (step cast old e).book)) → IsReadyCast cast → CanStep cast.deal cast.conforming cast.seeds e
-    → IsGood cast old
+pub kept_on : {A E : Type 0} (r : Result A E) (sw : ℕ → Bool) (cast : Cast) (old new : State) (e : Event) → OnOk r (new ≡ step_on sw cast old e)
+    → OnErr r ((new.book ≡ old.book) ⊎ (new.book ≡ (step_on sw cast old e).book)) → IsReadyCast cast
+    → CanStep cast.deal cast.conforming cast.seeds e → IsGood cast old
     → IsKept cast new.book
-kept_on (Ok x) cast old new e ok err ready can g = good_is_kept cast new ready (subst (IsGood cast) (sym ok) (steps_are_good cast old e ready can g))
-kept_on (Err x) cast old new e ok err ready can g = kept_either cast old new.book e err ready can g
+kept_on (Ok x) sw cast old new e ok err ready can g =
+    good_is_kept cast new ready (subst (IsGood cast) (sym ok) (steps_on_are_good sw cast old e ready can g))
+kept_on (Err x) sw cast old new e ok err ready can g = kept_either sw cast old new.book e err ready can g
 
 -- Answers matter for no law of a state.
 
@@ -152,27 +156,31 @@ module _ (c : Cast) (g : Answers) where
   kept_of_any b k = record { legal = k.legal; conducted = k.conducted }
 
   -- an event leaves a good state good, whatever is answered
-  pub good_step : (s : State) (e : Event) → IsReadyCast c → CanStep c.deal c.conforming c.seeds e → IsGood c s → IsGood c (step (with_answers c g) s e)
-  good_step s e ready can k = good_of_any (step (with_answers c g) s e) (steps_are_good (with_answers c g) s e (ready_for ready) can (good_for s k))
+  pub good_step : (sw : ℕ → Bool) (s : State) (e : Event) → IsReadyCast c → CanStep c.deal c.conforming c.seeds e → IsGood c s
+      → IsGood c (step_on sw (with_answers c g) s e)
+  good_step sw s e ready can k =
+      good_of_any (step_on sw (with_answers c g) s e) (steps_on_are_good sw (with_answers c g) s e (ready_for ready) can (good_for s k))
 
-  pub kept_step : (s : State) (e : Event) → IsReadyCast c → CanStep c.deal c.conforming c.seeds e → IsGood c s → IsKept c (step (with_answers c g) s e).book
-  kept_step s e ready can k = good_is_kept c (step (with_answers c g) s e) ready (good_step s e ready can k)
+  pub kept_step : (sw : ℕ → Bool) (s : State) (e : Event) → IsReadyCast c → CanStep c.deal c.conforming c.seeds e → IsGood c s
+      → IsKept c (step_on sw (with_answers c g) s e).book
+  kept_step sw s e ready can k = good_is_kept c (step_on sw (with_answers c g) s e) ready (good_step sw s e ready can k)
 
 -- the same of a world after a step
-pub kept_by : {A E : Type 0} (r : Result A E) (gives : Gives) (old new : WorldState) (e : Event) → OnOk r (HasGone gives (λ c s. step c s e) old new)
-    → OnErr r (IsCut gives e old new) → IsReadyCast (cast_at old) → CanStep old.deal old.conforming old.seeds e → IsGood (cast_at old) old.state
+pub kept_by : {A E : Type 0} (r : Result A E) (gives : Gives) (sw : ℕ → Bool) (old new : WorldState) (e : Event)
+    → OnOk r (HasGone gives (λ c s. step_on sw c s e) old new)
+    → OnErr r (IsCutOn gives sw e old new) → IsReadyCast (cast_at old) → CanStep old.deal old.conforming old.seeds e → IsGood (cast_at old) old.state
     → IsKept (cast_at new) new.state.book
-kept_by (Ok x) gives old new e ok cut ready can k =
+kept_by (Ok x) gives sw old new e ok cut ready can k =
     subst (λ c. IsKept c new.state.book) (sym (ap cast_at ok.same))
     (subst (λ (s : State). IsKept (cast_at old) s.book) (sym (ok.state (answers_of new) (λ i l. refl)))
-    (kept_step (cast_at old) (answers_of new) old.state e ready can k))
-kept_by (Err x) gives old new e ok cut ready can k = subst (λ c. IsKept c new.state.book) (sym cut.cast) (by cut.book)
+    (kept_step (cast_at old) (answers_of new) sw old.state e ready can k))
+kept_by (Err x) gives sw old new e ok cut ready can k = subst (λ c. IsKept c new.state.book) (sym cut.cast) (by cut.book)
   where
-    by : (new.state.book ≡ old.state.book) ⊎ ((g : Answers) → Continues new g → new.state.book ≡ (step (cast_for old g) old.state e).book)
+    by : (new.state.book ≡ old.state.book) ⊎ ((g : Answers) → Continues new g → new.state.book ≡ (step_on sw (cast_for old g) old.state e).book)
         → IsKept (cast_at old) new.state.book
     by (inl h) = subst (IsKept (cast_at old)) (sym h) (good_is_kept (cast_at old) old.state ready k)
     by (inr h) =
-        subst (IsKept (cast_at old)) (sym (h (answers_of new) (λ i l. refl))) (kept_step (cast_at old) (answers_of new) old.state e ready can k)
+        subst (IsKept (cast_at old)) (sym (h (answers_of new) (λ i l. refl))) (kept_step (cast_at old) (answers_of new) sw old.state e ready can k)
 
 -- every state that events lead to from a good one is good
 reached_good : (c : Cast) (s : State) (events : List Event) → IsReadyCast c → All (CanStep c.deal c.conforming c.seeds) events → IsGood c s
@@ -209,10 +217,11 @@ both (Ok x) f p q = f p q
 both (Err e) f p q = tt
 
 -- the state after an act that didn't run out of memory is good
-pub good_unless : {A E : Type 0} (r : Result A E) (stopped : Bool) (cast : Cast) (old new : State) (e : Event) → stopped ≡ is_err r → stopped ≡ false
-    → OnOk r (new ≡ step cast old e) → IsReadyCast cast → CanStep cast.deal cast.conforming cast.seeds e → IsGood cast old → IsGood cast new
-good_unless (Ok x) stopped cast old new e is goes_on ok ready can g = subst (IsGood cast) (sym ok) (steps_are_good cast old e ready can g)
-good_unless (Err x) stopped cast old new e is goes_on ok ready can g = absurd (false≢true (sym goes_on ∙ is))
+pub good_unless : {A E : Type 0} (r : Result A E) (stopped : Bool) (sw : ℕ → Bool) (cast : Cast) (old new : State) (e : Event) → stopped ≡ is_err r
+    → stopped ≡ false → OnOk r (new ≡ step_on sw cast old e) → IsReadyCast cast → CanStep cast.deal cast.conforming cast.seeds e → IsGood cast old
+    → IsGood cast new
+good_unless (Ok x) stopped sw cast old new e is goes_on ok ready can g = subst (IsGood cast) (sym ok) (steps_on_are_good sw cast old e ready can g)
+good_unless (Err x) stopped sw cast old new e is goes_on ok ready can g = absurd (false≢true (sym goes_on ∙ is))
 
 -- an act that didn't run out of memory leaves the world going on
 pub acted_on : {A E : Type 0} (r : Result A E) (d : Deal) (conforming : List Bool) (seeds : Seeds) (roles : List Role)

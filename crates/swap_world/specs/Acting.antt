@@ -1,8 +1,10 @@
--- What the act of a machine makes of the histories and of the machine.
-use Rattle.std.specs.Prelude.{◌≡◌, ◌==◌, ◌||◌, ◌<◌, ℕ, ◌+◌, true, IsTrue, List, length, map, slice_set, Option, Some, None}
+-- What the act of a machine makes of the histories and of the machine, and a call of the others of theirs, where slots may be swept.
+use Rattle.std.specs.Prelude.{◌≡◌, ◌==◌, ◌||◌, ◌<◌, ℕ, ◌+◌, Bool, true, false, IsTrue, List, length, map, slice_set}
+use Rattle.std.specs.Prelude.{slice_index_or, Option, Some, None, if◌then◌else◌}
 use Rattle.swap_digraph.specs.declared.deal.Deal.{Deal}
 use Rattle.swap_digraph.specs.Deal.{party, counterparty}
 use Rattle.ledger_core.specs.declared.entry.Call.{Call}
+use Rattle.ledger_core.specs.declared.entry.Entry.{Entry}
 use Rattle.ledger_core.specs.Value.{LedgerState}
 use Rattle.ledger_core.specs.History.{fit}
 use Rattle.ledger_core.specs.Known.{presents_valid}
@@ -10,8 +12,12 @@ use Rattle.ledger_core.specs.Book.{Histories, history}
 use Rattle.deviator_script.specs.Script.{moves_left}
 use Rattle.swap_rules.specs.Due.{Action}
 use Rattle.ledger_core.specs.Ledger.{after_call}
-use Rattle.swap_run.specs.Run.{Plan, Question, plan_up_to, signed_after}
+use Rattle.swap_run.specs.Run.{Plan, Question, plan_up_to, signed_after, after_tick}
+use Rattle.swap_run.specs.Called.{is_barred}
 use Rattle.party_machine.specs.Machine.{MachineState}
+use Rattle.swap_world.specs.On.{told_by}
+use Rattle.swap_world.specs.declared.told.Told.{Told}
+use Rattle.swap_world.specs.declared.told.Told.TheVariants.{Nothing}
 
 -- The call fits, stands on an arc that touches party v, and presents no hashkey that isn't valid.
 pub record IsMakable (d : Deal) (v : ℕ) (x : Action) : Type 0 where
@@ -30,31 +36,45 @@ pub record IsSameOwner (old new : MachineState) : Type 0 where
 abbrev pub histories : List LedgerState → Histories
 histories ls = map (λ l. l.history) ls
 
+-- the history of arc a after a call of p, which leaves no entry where it is barred
+abbrev pub landed : (swept : Bool) → Deal → (a p : ℕ) → Call → List Entry → List Entry
+landed swept d a p c h = if is_barred swept h c then h else after_call d a p c h
+
 -- the histories after a call of the machine, if any
-abbrev pub book_after : MachineState → Option Action → Histories → Histories
-book_after m None b = b
-book_after m (Some x) b = slice_set b x.arc (after_call m.deal x.arc m.me x.call (history b x.arc))
+abbrev pub book_after : (ℕ → Bool) → MachineState → Option Action → Histories → Histories
+book_after swept m None b = b
+book_after swept m (Some x) b = slice_set b x.arc (landed (swept x.arc) m.deal x.arc m.me x.call (history b x.arc))
 
 -- the machine after its call, if any: it notes what it signed, and knows the ledger up to its end
-abbrev pub machine_after : MachineState → Option Action → Histories → MachineState
-machine_after m None b = m
-machine_after m (Some x) b = record {
+abbrev pub machine_after : (ℕ → Bool) → MachineState → Option Action → Histories → MachineState
+machine_after swept m None b = m
+machine_after swept m (Some x) b = record {
   deal = m.deal;
   me = m.me;
   seed = m.seed;
-  known = slice_set m.known x.arc (after_call m.deal x.arc m.me x.call (history b x.arc));
+  known = slice_set m.known x.arc (landed (swept x.arc) m.deal x.arc m.me x.call (history b x.arc));
   signed = signed_after m.signed x.call;
 }
 
+-- what the machine's party is told
+abbrev pub told_of : (ℕ → Bool) → MachineState → Option Action → Histories → Told
+told_of swept m None b = Nothing
+told_of swept m (Some x) b = told_by (swept x.arc) m.deal x.arc m.me x.call (history b x.arc)
+
 -- the histories after a call of party v that doesn't conform, if any
-abbrev pub taken : Deal → ℕ → Option (ℕ × Call) → Histories → Histories
-taken d v None b = b
-taken d v (Some x) b = slice_set b x.0 (after_call d x.0 v x.1 (history b x.0))
+abbrev pub taken : (ℕ → Bool) → Deal → ℕ → Option (ℕ × Call) → Histories → Histories
+taken swept d v None b = b
+taken swept d v (Some x) b = slice_set b x.0 (landed (swept x.0) d x.0 v x.1 (history b x.0))
 
 -- the plan of party v after its call, if any: it knows the ledger up to its end
-abbrev pub seen : Deal → ℕ → Option (ℕ × Call) → Histories → Plan → Plan
-seen d v None b n = n
-seen d v (Some x) b n = plan_up_to n x.0 (after_call d x.0 v x.1 (history b x.0))
+abbrev pub seen : (ℕ → Bool) → Deal → ℕ → Option (ℕ × Call) → Histories → Plan → Plan
+seen swept d v None b n = n
+seen swept d v (Some x) b n = plan_up_to n x.0 (landed (swept x.0) d x.0 v x.1 (history b x.0))
+
+-- what party v is told
+abbrev pub told_to : (ℕ → Bool) → Deal → ℕ → Option (ℕ × Call) → Histories → Told
+told_to swept d v None b = Nothing
+told_to swept d v (Some x) b = told_by (swept x.0) d x.0 v x.1 (history b x.0)
 
 -- the plan of a party that has asked its strategy once more
 abbrev pub asked_once : Plan → Plan
@@ -67,3 +87,11 @@ question_of name v n = record { strategy = name; party = v; turn = n.turns; know
 -- the plan of a party that has acted once more by its script
 abbrev pub turned : Plan → Plan
 turned n = record n { moves = moves_left n.known n.moves; turns = n.turns + 1 }
+
+-- a history after a tick by k, where its ledger stands on the chain
+abbrev pub ticked_where : Bool → ℕ → List Entry → List Entry
+ticked_where on k h = if on then after_tick k h else h
+
+-- the histories after a tick of the ledger of arc a by k, where it stands on the chain
+abbrev pub tick_book : List Bool → ℕ → Histories → ℕ → Histories
+tick_book on k b a = if slice_index_or on a false then slice_set b a (after_tick k (history b a)) else b

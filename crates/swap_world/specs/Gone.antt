@@ -35,8 +35,12 @@ pub record HasGone (gives : Gives) (f : Cast → State → State) (old new : Wor
   pub same : new ≡ record old { answers = new.answers; state = new.state }
   pub state : (g : Answers) → Continues new g → new.state ≡ f (cast_for old g) old.state
 
--- Memory ran out in an event: the histories are those before it or after it.
-pub record IsCut (gives : Gives) (event : Event) (old new : WorldState) : Type 0 where
+-- Memory ran out on the way to where f leads: the histories are those before it or after it.
+pub record IsCutBy (gives : Gives) (f : Cast → State → State) (old new : WorldState) : Type 0 where
   pub cast : cast_at new ≡ cast_at old
   pub asked : HasAsked gives old new
-  pub book : (new.state.book ≡ old.state.book) ⊎ ((g : Answers) → Continues new g → new.state.book ≡ (step (cast_for old g) old.state event).book)
+  pub book : (new.state.book ≡ old.state.book) ⊎ ((g : Answers) → Continues new g → new.state.book ≡ (f (cast_for old g) old.state).book)
+
+-- memory ran out in an event: the histories are those before it or after it
+abbrev pub IsCut : Gives → Event → (old new : WorldState) → Type 0
+IsCut gives event old new = IsCutBy gives (λ c s. step c s event) old new

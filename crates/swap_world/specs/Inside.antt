@@ -74,6 +74,22 @@ pub record IsLedgerOf (d : Deal) (a : ℕ) (l : LedgerState) : Type 0 where
   pub arc : l.arc ≡ a
   pub legal : IsLegal d a l.history
 
+-- The ledger is that of arc a before any entry, with room for one.
+pub record IsNewLedger (d : Deal) (a : ℕ) (l : LedgerState) : Type 0 where
+  pub deal : l.deal ≡ d
+  pub arc : l.arc ≡ a
+  pub history : l.history ≡ []
+  pub room : 0 < l.spare
+
+-- There is one for each of the first n arcs, in order.
+pub record AreNewLedgers (d : Deal) (n : ℕ) (ls : List LedgerState) : Type 0 where
+  pub one_each : length ls ≡ n
+  pub each : (a : ℕ) (l : LedgerState) → a < length ls → l ≡ slice_index_or ls a l → IsNewLedger d a l
+
+-- each ledger has room for an entry
+abbrev pub HaveRoom : List LedgerState → Type 0
+HaveRoom ls = (a : ℕ) (l : LedgerState) → a < length ls → l ≡ slice_index_or ls a l → 0 < l.spare
+
 -- There is one ledger per arc, in order.
 pub record AreLedgersOf (d : Deal) (ls : List LedgerState) : Type 0 where
   pub one_each : length ls ≡ length d.graph.arcs
@@ -98,5 +114,6 @@ pub record Holds (w : Inside) : Type 0 where
   pub askers : length w.askers.items ≡ length w.answers.items
   pub told : length w.told.items ≡ length w.answers.items
   pub good : w.stopped ≡ false → IsGood (cast_in w) (state_in w)
+  pub room : w.stopped ≡ false → HaveRoom w.ledgers.items
   -- also where memory ran out
   pub kept : IsKept (cast_in w) (state_in w).book

@@ -1,7 +1,10 @@
 pub mod Cast
 pub mod Value
 pub mod Gone
+pub mod On
 pub mod Staff
 pub mod Stopped
 pub mod Acting
+pub mod Near
 pub mod Inside
+pub mod Quiet

@@ -1,9 +1,7 @@
 -- What want of memory leaves of a world, and where all parties conform.
-use Rattle.std.specs.Prelude.{◌≡◌, ◌<◌, ◌==◌, ◌||◌, ℕ, true, if◌then◌else◌}
-use Rattle.swap_digraph.specs.Deal.{party, counterparty}
+use Rattle.std.specs.Prelude.{◌≡◌, ◌<◌, ℕ, true}
 use Rattle.ledger_core.specs.Book.{Histories}
-use Rattle.deviator_script.specs.declared.event.Event.TheVariants.{Look}
-use Rattle.swap_run.specs.Run.{Cast, State, conforms, step}
+use Rattle.swap_run.specs.Run.{Cast, State, conforms}
 use Rattle.swap_run.specs.FairLaws.{IsReached}
 use Rattle.swap_run.specs.Asked.{Answers}
 use Rattle.swap_world.specs.Value.{WorldState, cast_at, cast_for, Continues}
@@ -26,7 +24,3 @@ pub record IsStopped (gives : Gives) (f : Cast → State → State) (old new : W
 -- every party conforms
 abbrev pub AllConform : WorldState → Type 0
 AllConform w = (v : ℕ) → v < w.deal.graph.n → conforms (cast_at w) v ≡ true
-
--- v looks at arc a, where the arc touches it
-abbrev pub look_near : Cast → ℕ → State → ℕ → State
-look_near c v s a = if (v == party c.deal a) || (v == counterparty c.deal a) then step c s (Look v a) else s

@@ -1,49 +1,38 @@
 //! The fair finish, by turns and rounds.
 
-ghost use Rattle.std.specs.Prelude.{◌≡◌, ◌<◌, ◌+◌, OnOk, OnErr, length, true, false};
+ghost use Rattle.std.specs.Prelude.{◌≡◌, ◌<◌, ◌≤◌, ◌+◌, ℕ, IfOk, OnOk, OnErr, length, true, false};
 ghost use Rattle.swap_digraph.specs.Deal.{IsWellSized};
 ghost use Rattle.swap_run.specs.Run.{conforms};
-ghost use Rattle.swap_run.specs.Fair.{acts, finish, has_ended, looks, most_acts, round, the_horizon, tick_low, ticks, turn, turns};
+ghost use Rattle.swap_run.specs.Fair.{acts, adjacent, finish, has_ended, looks, most_acts, repeat, round, round_unless_ended};
+ghost use Rattle.swap_run.specs.Fair.{the_horizon, tick_low, ticks, turn, turns};
 ghost use Rattle.swap_world.specs.Value.{cast_at};
 ghost use Rattle.swap_world.specs.Gone.{HasGone};
 ghost use Rattle.swap_world.specs.Staff.{AreHeld};
-ghost use Rattle.swap_world.specs.Stopped.{IsStopped, look_near};
+ghost use Rattle.swap_world.specs.Near.{all_adjacent};
+ghost use Rattle.swap_world.specs.Stopped.{IsStopped};
 
+use crate::near::arcs_by_party;
 use crate::world::World;
 use deviator_script::{Event, Strategies};
-use ledger_core::is_adjacent;
-use swap_base::{ArcId, NoMemory, PartyId};
+use swap_base::{ArcId, Listed, NoMemory, PartyId};
 use swap_digraph::Deal;
 use time_bounds::horizon;
 
-/// Lets a party look at an arc, where the arc touches it.
-fn look_near<K: Strategies>(
+/// Lets a party look at each of these arcs, which are those that touch it.
+fn look_around<K: Strategies>(
     world: &mut World,
     kit: &K,
     p: PartyId,
-    arc: ArcId,
+    near: &[ArcId],
 ) -> Result<(), NoMemory>
     requires party { p < world.old.deal.graph.n }
-    requires arc { arc < length world.old.deal.graph.arcs }
-    requires kit { AreHeld (K.holds kit.now) world.old.roles }
-    ensures ok { OnOk result (HasGone (K.gives kit.now) (λ c s. look_near c p s arc) world.old world.new) }
-    ensures err { OnErr result (IsStopped (K.gives kit.now) (λ c s. look_near c p s arc) world.old world.new) }
-{
-    if !is_adjacent(world.deal(), arc, p) {
-        return Ok(());
-    }
-    world.step(kit, &Event::Look(p, arc))
-}
-
-/// Lets a party look at each arc that touches it.
-fn look_around<K: Strategies>(world: &mut World, kit: &K, p: PartyId) -> Result<(), NoMemory>
-    requires party { p < world.old.deal.graph.n }
+    requires near { near.now ≡ adjacent world.old.deal p }
     requires kit { AreHeld (K.holds kit.now) world.old.roles }
     ensures ok { OnOk result (HasGone (K.gives kit.now) (λ c s. looks c p s) world.old world.new) }
     ensures err { OnErr result (IsStopped (K.gives kit.now) (λ c s. looks c p s) world.old world.new) }
 {
-    'arcs: for arc in 0..world.deal().graph.arcs().len() as ArcId {
-        look_near(world, kit, p, arc)?;
+    'arcs: for arc in near {
+        world.step(kit, &Event::Look(p, *arc))?;
     }
     Ok(())
 }
@@ -73,14 +62,20 @@ fn act_to_rest<K: Strategies>(world: &mut World, _kit: &K, p: PartyId) -> Result
 }
 
 /// A party's turn: it looks around, and then acts: until nothing is due where it conforms, else once.
-fn turn<K: Strategies>(world: &mut World, kit: &K, p: PartyId) -> Result<(), NoMemory>
+fn turn<K: Strategies>(
+    world: &mut World,
+    kit: &K,
+    p: PartyId,
+    near: &[ArcId],
+) -> Result<(), NoMemory>
     requires party { p < world.old.deal.graph.n }
+    requires near { near.now ≡ adjacent world.old.deal p }
     requires goes_on { world.old.stopped ≡ false }
     requires kit { AreHeld (K.holds kit.now) world.old.roles }
     ensures ok { OnOk result (HasGone (K.gives kit.now) (λ c s. turn c s p) world.old world.new) }
     ensures err { OnErr result (IsStopped (K.gives kit.now) (λ c s. turn c s p) world.old world.new) }
 {
-    look_around(world, kit, p)?;
+    look_around(world, kit, p, near)?;
     if world.conforms(p) {
         return act_to_rest(world, kit, p);
     }
@@ -88,20 +83,22 @@ fn turn<K: Strategies>(world: &mut World, kit: &K, p: PartyId) -> Result<(), NoM
 }
 
 /// Every party's turn, in their order.
-fn turns<K: Strategies>(world: &mut World, kit: &K) -> Result<(), NoMemory>
+fn turns<K: Strategies>(world: &mut World, kit: &K, near: &[Listed<ArcId>]) -> Result<(), NoMemory>
+    requires near { near.now ≡ all_adjacent world.old.deal }
     requires goes_on { world.old.stopped ≡ false }
     requires kit { AreHeld (K.holds kit.now) world.old.roles }
     ensures ok { OnOk result (HasGone (K.gives kit.now) turns world.old world.new) }
     ensures err { OnErr result (IsStopped (K.gives kit.now) turns world.old world.new) }
 {
     'parties: for p in 0..world.deal().graph.n() {
-        turn(world, kit, p)?;
+        let place = p as usize;
+        turn(world, kit, p, near[place].as_slice())?;
     }
     Ok(())
 }
 
 /// The height above which a ledger of the world has ended.
-fn horizon_of(deal: &Deal) -> u64
+pub(crate) fn horizon_of(deal: &Deal) -> u64
     requires { IsWellSized deal.now }
     ensures { result ≡ the_horizon deal.now }
 {
@@ -148,28 +145,83 @@ fn has_ended(world: &World) -> bool
 
 /// Every party's turn, and then the ledgers tick.
 #[tactic(auto, unfolding(swap_run::specs::Fair::round))]
-fn round<K: Strategies>(world: &mut World, kit: &K) -> Result<(), NoMemory>
+fn round<K: Strategies>(world: &mut World, kit: &K, near: &[Listed<ArcId>]) -> Result<(), NoMemory>
+    requires near { near.now ≡ all_adjacent world.old.deal }
     requires goes_on { world.old.stopped ≡ false }
     requires kit { AreHeld (K.holds kit.now) world.old.roles }
     ensures ok { OnOk result (HasGone (K.gives kit.now) round world.old world.new) }
     ensures err { OnErr result (IsStopped (K.gives kit.now) round world.old world.new) }
 {
-    turns(world, kit)?;
+    turns(world, kit, near)?;
     ticks(world, kit)
 }
 
+/// So many ticks of each ledger that isn't above the horizon.
+fn pass<K: Strategies>(world: &mut World, kit: &K, count: u64) -> Result<(), NoMemory>
+    requires kit { AreHeld (K.holds kit.now) world.old.roles }
+    ensures ok { OnOk result (HasGone (K.gives kit.now) (λ c s. repeat count (ticks c) s) world.old world.new) }
+    ensures err { OnErr result (IsStopped (K.gives kit.now) (λ c s. repeat count (ticks c) s) world.old world.new) }
+{
+    'rounds: for _ in 0..count {
+        ticks(world, kit)?;
+    }
+    Ok(())
+}
+
+/// Some rounds, at most so many: those in which nobody makes a call, of which only the ticks are taken, and one more. It answers how many.
+fn advance<K: Strategies>(
+    world: &mut World,
+    kit: &K,
+    near: &[Listed<ArcId>],
+    most: u64,
+) -> Result<u64, NoMemory>
+    requires near { near.now ≡ all_adjacent world.old.deal }
+    requires goes_on { world.old.stopped ≡ false }
+    requires low { has_ended world.old.deal world.old.state.book ≡ false }
+    requires some { 1 ≤ most }
+    requires kit { AreHeld (K.holds kit.now) world.old.roles }
+    ensures ok { IfOk result (λ n. HasGone (K.gives kit.now) (λ c s. repeat n (round_unless_ended c) s) world.old world.new) }
+    ensures some { IfOk result (λ n. 1 ≤ n) }
+    ensures few { IfOk result (λ n. n ≤ most) }
+    ensures err { OnErr result ((n : ℕ) × (n ≤ most) × IsStopped (K.gives kit.now) (λ c s. repeat n (round_unless_ended c) s) world.old world.new) }
+{
+    let quiet = world.quiet_rounds(near, most - 1);
+    pass(world, kit, quiet)?;
+    round(world, kit, near)?;
+    Ok(quiet + 1)
+}
+
 /// Rounds until each ledger is above the horizon, for which one more than the horizon are enough.
+fn rounds<K: Strategies>(world: &mut World, kit: &K, near: &[Listed<ArcId>]) -> Result<(), NoMemory>
+    requires near { near.now ≡ all_adjacent world.old.deal }
+    requires goes_on { world.old.stopped ≡ false }
+    requires kit { AreHeld (K.holds kit.now) world.old.roles }
+    ensures ok { OnOk result (HasGone (K.gives kit.now) finish world.old world.new) }
+    ensures err { OnErr result (IsStopped (K.gives kit.now) finish world.old world.new) }
+{
+    let mut left = horizon_of(world.deal()) + 1;
+    'rounds: while left > 0 {
+        if has_ended(world) {
+            return Ok(());
+        }
+        let taken = advance(world, kit, near, left)?;
+        left -= taken;
+    }
+    Ok(())
+}
+
+/// The fair finish. The arcs that touch each party are listed once.
 pub(crate) fn finish<K: Strategies>(world: &mut World, kit: &K) -> Result<(), NoMemory>
     requires goes_on { world.old.stopped ≡ false }
     requires kit { AreHeld (K.holds kit.now) world.old.roles }
     ensures ok { OnOk result (HasGone (K.gives kit.now) finish world.old world.new) }
     ensures err { OnErr result (IsStopped (K.gives kit.now) finish world.old world.new) }
 {
-    'rounds: for _ in 0..horizon_of(world.deal()) + 1 {
-        if has_ended(world) {
-            return Ok(());
+    match arcs_by_party(world.allocator(), world.deal()) {
+        Ok(near) => rounds(world, kit, &near),
+        Err(NoMemory) => {
+            world.stop();
+            Err(NoMemory)
         }
-        round(world, kit)?;
     }
-    Ok(())
 }

@@ -4,11 +4,16 @@
 #![tactic(auto)]
 
 mod actor;
+mod chain;
 mod fair;
 mod many;
+mod near;
+mod quiet;
 mod staff;
+mod told;
 mod turn;
 mod world;
 
 pub use staff::{WorldFault, WrongWallet};
+pub use told::Told;
 pub use world::World;

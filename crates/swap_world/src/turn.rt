@@ -1,10 +1,12 @@
-//! What an event does to one ledger, and to the machine or the plan of a party beside it.
+//! What an event does to one ledger, some of whose slots may be swept, and to the machine or the plan of a party beside it.
 
-ghost use Rattle.std.specs.Prelude.{◌≡◌, ◌==◌, ◌||◌, ◌<◌, ◌≤◌, ◌+◌, ◌⊎◌, ℕ, Some, None, false, IsTrue, OnOk, OnErr, IfOk, length, slice_set, option_copied};
+ghost use Rattle.std.specs.Prelude.{◌≡◌, ◌==◌, ◌||◌, ◌<◌, ◌≤◌, ◌+◌, ◌-◌, ◌⊎◌, ℕ, Some, None, false, IsTrue, OnOk};
+ghost use Rattle.std.specs.Prelude.{OnErr, IfOk, IfSome, length, drop, slice_set, option_copied};
 ghost use Rattle.swap_digraph.specs.Deal.{IsWellSized, party, counterparty};
 ghost use Rattle.ledger_core.specs.Known.{is_known_in};
 ghost use Rattle.ledger_core.specs.History.{IsLegal, fit};
 ghost use Rattle.ledger_core.specs.Book.{history};
+ghost use Rattle.ledger_core.specs.Runs.{ticks_of, IsRightRun};
 ghost use Rattle.std.specs.Option.{ForSome};
 ghost use Rattle.deviator_script.specs.Fitting.{IsFitting};
 ghost use Rattle.deviator_script.specs.Resolved.{arc_of, opening_named, key_opened, resolved};
@@ -13,16 +15,18 @@ ghost use Rattle.deviator_script.specs.View.{is_near, MayAnswer};
 ghost use Rattle.party_plan.specs.Shown.{IsShown};
 ghost use Rattle.swap_laws.specs.Machine.{Begins};
 ghost use Rattle.swap_rules.specs.Due.{Action};
-ghost use Rattle.ledger_core.specs.Ledger.{after_call};
 ghost use Rattle.swap_run.specs.Run.{after_tick, plan_up_to};
+ghost use Rattle.swap_run.specs.Called.{is_barred};
 ghost use Rattle.party_machine.specs.Machine.{next_of};
-ghost use Rattle.swap_world.specs.Acting.{IsMakable, IsSameOwner, histories, book_after, machine_after, seen, taken, turned};
-ghost use Rattle.swap_world.specs.Inside.{AreLedgersOf, IsLedgerOf};
+ghost use Rattle.swap_world.specs.Acting.{IsMakable, IsSameOwner, histories, landed, book_after, machine_after, told_of, seen, taken, told_to, turned};
+ghost use Rattle.swap_world.specs.On.{swept_in, told_by};
+ghost use Rattle.swap_world.specs.Inside.{AreLedgersOf, IsLedgerOf, HaveRoom};
 
+use crate::told::Told;
 use deviator_script::{Move, opened_key_in, opening_named, resolve_with};
 use hashkey_path::Hashkey;
 use history_index::Steps;
-use ledger_core::{Call, Ledger};
+use ledger_core::{Call, Ledger, Run};
 use party_machine::Machine;
 use party_plan::Planner;
 use std::alloc::Global;
@@ -31,44 +35,72 @@ use std::sync::ledger::{Blank, Ledger as Counted};
 use swap_base::{ArcId, Digest, NoMemory, PartyId};
 use swap_digraph::Deal;
 
-/// Ticks a ledger by k heights.
+/// Ticks a ledger that has room by k heights, and makes room for a further entry.
 #[tactic(auto, unfolding(swap_run::specs::Run::after_tick))]
 pub(crate) fn tick(ledger: &mut Ledger, k: u32) -> Result<(), NoMemory>
     requires some { 1 ≤ k }
     requires below { k ≤ 1000000 }
+    requires room { 0 < ledger.old.spare }
     requires legal { IsLegal ledger.old.deal ledger.old.arc ledger.old.history }
-    ensures ok { OnOk result (ledger.new.history ≡ after_tick k ledger.old.history) }
-    ensures err { OnErr result (ledger.new.history ≡ ledger.old.history) }
+    ensures ticked { ledger.new.history ≡ after_tick k ledger.old.history }
+    ensures room { OnOk result (0 < ledger.new.spare) }
     ensures deal { ledger.new.deal ≡ ledger.old.deal }
     ensures arc { ledger.new.arc ≡ ledger.old.arc }
     ensures legal { IsLegal ledger.new.deal ledger.new.arc ledger.new.history }
 {
-    ledger.reserve()?;
     let _ = ledger.tick(k);
-    Ok(())
+    ledger.reserve()
 }
 
-/// Makes a call on a ledger.
-#[tactic(auto, unfolding(ledger_core::specs::Ledger::after_call))]
-pub(crate) fn call(
+/// Whether a call is answered before its ledger's rows: on a swept slot a transfer, and every call where nothing was published.
+fn is_barred(ledger: &Ledger, call: &Call, swept: bool) -> bool
+    ensures { result ≡ is_barred swept ledger.now.history call.now }
+{
+    match call {
+        Call::Publish(_) => swept && !ledger.is_published(),
+        Call::Unlock(_) => swept && !ledger.is_published(),
+        Call::Claim => swept && !ledger.is_published(),
+        Call::Refund => swept && !ledger.is_published(),
+        Call::Transfer(_, _) => swept,
+    }
+}
+
+/// Makes a call on a ledger that has room, whose slot may be swept, and answers what its party is told. It makes room for a further entry.
+fn call(
     ledger: &mut Ledger,
     sender: PartyId,
     call: Call,
     known: usize,
-) -> Result<(), NoMemory>
+    swept: bool,
+) -> Result<Told, NoMemory>
     requires of_the_two { IsTrue ((sender == party ledger.old.deal ledger.old.arc) || (sender == counterparty ledger.old.deal ledger.old.arc)) }
     requires fits { IsTrue (fit ledger.old.deal ledger.old.arc call) }
     requires known { IsTrue (is_known_in known ledger.old.deal call) }
     requires legal { IsLegal ledger.old.deal ledger.old.arc ledger.old.history }
-    ensures ok { OnOk result (ledger.new.history ≡ after_call ledger.old.deal ledger.old.arc sender call ledger.old.history) }
-    ensures err { OnErr result (ledger.new.history ≡ ledger.old.history) }
+    requires room { 0 < ledger.old.spare }
+    ensures leaves { ledger.new.history ≡ landed swept ledger.old.deal ledger.old.arc sender call ledger.old.history }
+    ensures told { IfOk result (λ r. r ≡ told_by swept ledger.old.deal ledger.old.arc sender call ledger.old.history) }
+    ensures room { OnOk result (0 < ledger.new.spare) }
     ensures deal { ledger.new.deal ≡ ledger.old.deal }
     ensures arc { ledger.new.arc ≡ ledger.old.arc }
     ensures legal { IsLegal ledger.new.deal ledger.new.arc ledger.new.history }
 {
+    if is_barred(ledger, &call, swept) {
+        return Ok(Told::Passed);
+    }
+    let reply = ledger.apply(sender, call, known);
     ledger.reserve()?;
-    let _ = ledger.apply(sender, call, known);
-    Ok(())
+    Ok(Told::Replied(reply))
+}
+
+/// Whether the slot of an arc is swept, by a list that is empty where none is.
+fn is_swept(swept: &[bool], arc: ArcId) -> bool
+    ensures { result ≡ swept_in swept.now arc }
+{
+    match swept.get(arc as usize) {
+        Some(is) => *is,
+        None => false,
+    }
 }
 
 /// The hashkey of the opening that a move names, where it came.
@@ -99,28 +131,90 @@ fn resolve_on(
     resolve_with(alloc, deal, seeds, mv, key_named(ledgers, mv))
 }
 
-/// Makes the call that a move stands for, if any, over the ledgers as they stand.
+/// Makes the call that a move stands for, if any, over the ledgers as they stand, and answers what its party is told.
 pub(crate) fn make(
     ledgers: &mut Vec<Ledger>,
     deal: &Deal,
     seeds: &[Option<Digest>],
     sender: PartyId,
     mv: &Move,
-) -> Result<(), NoMemory>
+    swept: &[bool],
+) -> Result<Told, NoMemory>
     requires sized { IsWellSized deal.now }
     requires ledgers { AreLedgersOf deal.now ledgers.old.items }
     requires fits { IsFitting deal.now seeds.now mv.now }
     requires near { IsTrue (is_near deal.now sender (arc_of mv.now)) }
+    requires room { HaveRoom ledgers.old.items }
     ensures ok { OnOk result (histories ledgers.new.items
-        ≡ taken deal.now sender (resolved deal.now seeds.now (histories ledgers.old.items) mv.now) (histories ledgers.old.items)) }
-    ensures err { OnErr result (histories ledgers.new.items ≡ histories ledgers.old.items) }
+        ≡ taken (swept_in swept.now) deal.now sender (resolved deal.now seeds.now (histories ledgers.old.items) mv.now) (histories ledgers.old.items)) }
+    ensures told { IfOk result (λ r.
+        r ≡ told_to (swept_in swept.now) deal.now sender (resolved deal.now seeds.now (histories ledgers.old.items) mv.now) (histories ledgers.old.items)) }
+    ensures err { OnErr result ((histories ledgers.new.items ≡ histories ledgers.old.items)
+        ⊎ (histories ledgers.new.items
+        ≡ taken (swept_in swept.now) deal.now sender (resolved deal.now seeds.now (histories ledgers.old.items) mv.now) (histories ledgers.old.items))) }
     ensures ledgers { AreLedgersOf deal.now ledgers.new.items }
+    ensures room { OnOk result (HaveRoom ledgers.new.items) }
 {
     let alloc = *ledgers.allocator();
     match resolve_on(alloc, ledgers, deal, seeds, mv)? {
-        Some((arc, made)) => call(&mut ledgers[arc as usize], sender, made, 0),
-        None => Ok(()),
+        Some((arc, made)) => {
+            let is = is_swept(swept, arc);
+            call(&mut ledgers[arc as usize], sender, made, 0, is)
+        }
+        None => Ok(Told::Nothing),
     }
+}
+
+/// The last n ticks of a run.
+#[tactic(auto, using(ledger_core::proofs::Ticks::last_ticks, ledger_core::proofs::Ticks::below_last))]
+fn last_of(run: Run, n: u32) -> Run
+    requires within { n ≤ run.count }
+    requires right { IsRightRun run }
+    ensures ticks { ticks_of result ≡ drop (run.count - n) (ticks_of run) }
+    ensures right { IsRightRun result }
+    ensures count { result.count ≡ n }
+{
+    Run {
+        above: run.last - run.by * n,
+        by: run.by,
+        count: n,
+        last: run.last,
+    }
+}
+
+/// The entries from `seen` on, where they are ticks after the ledger's last item, as nearly always.
+pub(crate) fn fresh_ticks(ledger: &Ledger, seen: u32) -> Option<Run>
+    requires { seen ≤ length ledger.now.history }
+    ensures ticks { IfSome result (λ r. ticks_of r ≡ drop seen ledger.now.history) }
+    ensures right { IfSome result IsRightRun }
+    ensures count { IfSome result (λ r. seen + r.count ≡ length ledger.now.history) }
+{
+    let (_, open) = ledger.history().parts();
+    let fresh = ledger.len() - seen;
+    if fresh <= open.count {
+        Some(last_of(open, fresh))
+    } else {
+        None
+    }
+}
+
+/// The same by a copy of what is fresh, whatever that is.
+fn learn_copied<L: Counted>(
+    machine: &mut Machine,
+    ledger: &Ledger,
+    steps: &mut Steps<L>,
+) -> Result<(), NoMemory>
+    requires same { ledger.now.deal ≡ machine.old.deal }
+    requires legal { IsLegal ledger.now.deal ledger.now.arc ledger.now.history }
+    requires arc { ledger.now.arc < length ledger.now.deal.graph.arcs }
+    requires begins { Begins (history machine.old.known ledger.now.arc) ledger.now.history }
+    ensures ok { OnOk result (machine.new ≡ record machine.old { known = slice_set machine.old.known ledger.now.arc ledger.now.history }) }
+    ensures err { OnErr result (machine.new ≡ machine.old) }
+    ensures counted { OnOk result (steps.new + length (history machine.old.known ledger.now.arc) ≡ steps.old + length ledger.now.history) }
+{
+    let arc = ledger.arc();
+    let fresh = ledger.copy_from(machine.known(arc).count() as usize)?;
+    machine.learn(arc, fresh, steps)
 }
 
 /// Lets a machine know a ledger up to its end, in as many steps as there are entries that it doesn't know.
@@ -138,8 +232,13 @@ fn learn_in<L: Counted>(
     ensures counted { OnOk result (steps.new + length (history machine.old.known ledger.now.arc) ≡ steps.old + length ledger.now.history) }
 {
     let arc = ledger.arc();
-    let fresh = ledger.copy_from(machine.known(arc).count() as usize)?;
-    machine.learn(arc, fresh, steps)
+    match fresh_ticks(ledger, machine.known(arc).count()) {
+        Some(run) => {
+            machine.learn_ticks(arc, run, steps);
+            Ok(())
+        }
+        None => learn_copied(machine, ledger, steps),
+    }
 }
 
 fn learn_counted<L: Counted>(
@@ -180,42 +279,53 @@ fn make_due(
     ledger: &mut Ledger,
     arc: ArcId,
     due: Call,
-) -> Result<(), NoMemory>
+    swept: bool,
+) -> Result<Told, NoMemory>
     requires ledger { IsLedgerOf machine.old.deal arc ledger.old }
     requires makable { IsMakable machine.old.deal machine.old.me (record { arc = arc; call = due }) }
     requires begins { Begins (history machine.old.known arc) ledger.old.history }
-    ensures ok { OnOk result (ledger.new.history ≡ after_call machine.old.deal arc machine.old.me due ledger.old.history) }
+    requires room { 0 < ledger.old.spare }
+    ensures leaves { ledger.new.history ≡ landed swept machine.old.deal arc machine.old.me due ledger.old.history }
+    ensures told { IfOk result (λ r. r ≡ told_by swept machine.old.deal arc machine.old.me due ledger.old.history) }
+    ensures room { OnOk result (0 < ledger.new.spare) }
     ensures knows { OnOk result (machine.new ≡ record machine.old {
       known =
-          slice_set machine.old.known arc (after_call machine.old.deal arc machine.old.me due ledger.old.history);
+          slice_set machine.old.known arc (landed swept machine.old.deal arc machine.old.me due ledger.old.history);
     }) }
-    ensures err { OnErr result ((ledger.new.history ≡ ledger.old.history)
-        ⊎ (ledger.new.history ≡ after_call machine.old.deal arc machine.old.me due ledger.old.history)) }
     ensures ledger { IsLedgerOf machine.old.deal arc ledger.new }
     ensures owner { IsSameOwner machine.old machine.new }
 {
-    call(ledger, machine.me(), due, usize::MAX)?;
-    learn(machine, ledger)
+    let told = call(ledger, machine.me(), due, usize::MAX, swept)?;
+    learn(machine, ledger)?;
+    Ok(told)
 }
 
-/// Makes the first call that is due for a machine, and answers whether there was one.
-pub(crate) fn act(machine: &mut Machine, ledgers: &mut Vec<Ledger>) -> Result<bool, NoMemory>
+/// Makes the first call that is due for a machine, if any, and answers what its party is told.
+pub(crate) fn act(
+    machine: &mut Machine,
+    ledgers: &mut Vec<Ledger>,
+    swept: &[bool],
+) -> Result<Told, NoMemory>
     requires ledgers { AreLedgersOf machine.old.deal ledgers.old.items }
     requires makable { (x : Action) → next_of machine.old ≡ Some x → IsMakable machine.old.deal machine.old.me x }
     requires begins { (a : ℕ) → Begins (history machine.old.known a) (history (histories ledgers.old.items) a) }
-    ensures ok { OnOk result (histories ledgers.new.items ≡ book_after machine.old (next_of machine.old) (histories ledgers.old.items)) }
-    ensures knows { OnOk result (machine.new ≡ machine_after machine.old (next_of machine.old) (histories ledgers.old.items)) }
-    ensures idle { IfOk result (λ made. made ≡ false → next_of machine.old ≡ None) }
+    requires room { HaveRoom ledgers.old.items }
+    ensures ok { OnOk result (histories ledgers.new.items
+        ≡ book_after (swept_in swept.now) machine.old (next_of machine.old) (histories ledgers.old.items)) }
+    ensures knows { OnOk result (machine.new ≡ machine_after (swept_in swept.now) machine.old (next_of machine.old) (histories ledgers.old.items)) }
+    ensures told { IfOk result (λ r. r ≡ told_of (swept_in swept.now) machine.old (next_of machine.old) (histories ledgers.old.items)) }
     ensures err { OnErr result ((histories ledgers.new.items ≡ histories ledgers.old.items)
-        ⊎ (histories ledgers.new.items ≡ book_after machine.old (next_of machine.old) (histories ledgers.old.items))) }
+        ⊎ (histories ledgers.new.items ≡ book_after (swept_in swept.now) machine.old (next_of machine.old) (histories ledgers.old.items))) }
     ensures ledgers { AreLedgersOf machine.old.deal ledgers.new.items }
+    ensures room { OnOk result (HaveRoom ledgers.new.items) }
     ensures owner { IsSameOwner machine.old machine.new }
 {
     match machine.next()? {
-        None => Ok(false),
+        None => Ok(Told::Nothing),
         Some((arc, due)) => {
-            make_due(machine, &mut ledgers[arc as usize], arc, due)?;
-            Ok(true)
+            let is = is_swept(swept, arc);
+            let told = make_due(machine, &mut ledgers[arc as usize], arc, due, is)?;
+            Ok(told)
         }
     }
 }
@@ -238,44 +348,52 @@ fn make_planned(
     arc: ArcId,
     sender: PartyId,
     made: Call,
-) -> Result<(), NoMemory>
+    swept: bool,
+) -> Result<Told, NoMemory>
     requires arc { arc < length planner.old.known }
     requires of_the_two { IsTrue ((sender == party ledger.old.deal ledger.old.arc) || (sender == counterparty ledger.old.deal ledger.old.arc)) }
     requires fits { IsTrue (fit ledger.old.deal ledger.old.arc made) }
     requires legal { IsLegal ledger.old.deal ledger.old.arc ledger.old.history }
-    ensures ok { OnOk result (ledger.new.history ≡ after_call ledger.old.deal ledger.old.arc sender made ledger.old.history) }
+    requires room { 0 < ledger.old.spare }
+    ensures leaves { ledger.new.history ≡ landed swept ledger.old.deal ledger.old.arc sender made ledger.old.history }
+    ensures told { IfOk result (λ r. r ≡ told_by swept ledger.old.deal ledger.old.arc sender made ledger.old.history) }
+    ensures room { OnOk result (0 < ledger.new.spare) }
     ensures knows { OnOk result (planner.new
-        ≡ plan_up_to planner.old arc (after_call ledger.old.deal ledger.old.arc sender made ledger.old.history)) }
-    ensures err { OnErr result ((ledger.new.history ≡ ledger.old.history)
-        ⊎ (ledger.new.history ≡ after_call ledger.old.deal ledger.old.arc sender made ledger.old.history)) }
+        ≡ plan_up_to planner.old arc (landed swept ledger.old.deal ledger.old.arc sender made ledger.old.history)) }
     ensures deal { ledger.new.deal ≡ ledger.old.deal }
     ensures arc { ledger.new.arc ≡ ledger.old.arc }
     ensures legal { IsLegal ledger.new.deal ledger.new.arc ledger.new.history }
 {
-    call(ledger, sender, made, 0)?;
-    watch(planner, ledger, arc)
+    let told = call(ledger, sender, made, 0, swept)?;
+    watch(planner, ledger, arc)?;
+    Ok(told)
 }
 
-/// Makes a call, if there is one, of a party that follows a script or a strategy.
+/// Makes a call, if there is one, of a party that follows a script or a strategy, and answers what the party is told.
 pub(crate) fn take(
     planner: &mut Planner,
     ledgers: &mut Vec<Ledger>,
     deal: &Deal,
     sender: PartyId,
     made: Option<(ArcId, Call)>,
-) -> Result<(), NoMemory>
+    swept: &[bool],
+) -> Result<Told, NoMemory>
     requires ledgers { AreLedgersOf deal.now ledgers.old.items }
     requires known { length planner.old.known ≡ length deal.now.graph.arcs }
     requires may { MayAnswer deal.now sender made }
-    ensures ok { OnOk result (histories ledgers.new.items ≡ taken deal.now sender made (histories ledgers.old.items)) }
-    ensures knows { OnOk result (planner.new ≡ seen deal.now sender made (histories ledgers.old.items) planner.old) }
-    ensures err { OnErr result ((histories ledgers.new.items ≡ histories ledgers.old.items)
-        ⊎ (histories ledgers.new.items ≡ taken deal.now sender made (histories ledgers.old.items))) }
+    requires room { HaveRoom ledgers.old.items }
+    ensures leaves { histories ledgers.new.items ≡ taken (swept_in swept.now) deal.now sender made (histories ledgers.old.items) }
+    ensures told { IfOk result (λ r. r ≡ told_to (swept_in swept.now) deal.now sender made (histories ledgers.old.items)) }
+    ensures knows { OnOk result (planner.new ≡ seen (swept_in swept.now) deal.now sender made (histories ledgers.old.items) planner.old) }
     ensures ledgers { AreLedgersOf deal.now ledgers.new.items }
+    ensures room { OnOk result (HaveRoom ledgers.new.items) }
 {
     match made {
-        Some((arc, due)) => { make_planned(planner, &mut ledgers[arc as usize], arc, sender, due) }
-        None => Ok(()),
+        Some((arc, due)) => {
+            let is = is_swept(swept, arc);
+            make_planned(planner, &mut ledgers[arc as usize], arc, sender, due, is)
+        }
+        None => Ok(Told::Nothing),
     }
 }
 
@@ -287,46 +405,56 @@ pub(crate) fn make_by_hand(
     seeds: &[Option<Digest>],
     sender: PartyId,
     mv: &Move,
-) -> Result<(), NoMemory>
+    swept: &[bool],
+) -> Result<Told, NoMemory>
     requires sized { IsWellSized deal.now }
     requires ledgers { AreLedgersOf deal.now ledgers.old.items }
     requires known { length planner.old.known ≡ length deal.now.graph.arcs }
     requires fits { IsFitting deal.now seeds.now mv.now }
     requires near { IsTrue (is_near deal.now sender (arc_of mv.now)) }
+    requires room { HaveRoom ledgers.old.items }
     ensures ok { OnOk result (histories ledgers.new.items
-        ≡ taken deal.now sender (resolved deal.now seeds.now (histories ledgers.old.items) mv.now) (histories ledgers.old.items)) }
-    ensures knows { OnOk result (planner.new
-        ≡ seen deal.now sender (resolved deal.now seeds.now (histories ledgers.old.items) mv.now) (histories ledgers.old.items) planner.old) }
+        ≡ taken (swept_in swept.now) deal.now sender (resolved deal.now seeds.now (histories ledgers.old.items) mv.now) (histories ledgers.old.items)) }
+    ensures told { IfOk result (λ r.
+        r ≡ told_to (swept_in swept.now) deal.now sender (resolved deal.now seeds.now (histories ledgers.old.items) mv.now) (histories ledgers.old.items)) }
+    ensures knows { OnOk result (planner.new ≡ seen (swept_in swept.now) deal.now sender
+        (resolved deal.now seeds.now (histories ledgers.old.items) mv.now) (histories ledgers.old.items) planner.old) }
     ensures err { OnErr result ((histories ledgers.new.items ≡ histories ledgers.old.items)
         ⊎ (histories ledgers.new.items
-        ≡ taken deal.now sender (resolved deal.now seeds.now (histories ledgers.old.items) mv.now) (histories ledgers.old.items))) }
+        ≡ taken (swept_in swept.now) deal.now sender (resolved deal.now seeds.now (histories ledgers.old.items) mv.now) (histories ledgers.old.items))) }
     ensures ledgers { AreLedgersOf deal.now ledgers.new.items }
+    ensures room { OnOk result (HaveRoom ledgers.new.items) }
 {
     let alloc = *ledgers.allocator();
     let made = resolve_on(alloc, ledgers, deal, seeds, mv)?;
-    take(planner, ledgers, deal, sender, made)
+    take(planner, ledgers, deal, sender, made, swept)
 }
 
-/// Makes the next call of a party's script, if any.
+/// Makes the next call of a party's script, if any, and answers what the party is told.
 pub(crate) fn follow(
     planner: &mut Planner,
     ledgers: &mut Vec<Ledger>,
     deal: &Deal,
     seeds: &[Option<Digest>],
     me: PartyId,
-) -> Result<(), NoMemory>
+    swept: &[bool],
+) -> Result<Told, NoMemory>
     requires ledgers { AreLedgersOf deal.now ledgers.old.items }
     requires known { length planner.old.known ≡ length deal.now.graph.arcs }
     requires shown { IsShown deal.now seeds.now me planner.old }
+    requires room { HaveRoom ledgers.old.items }
     ensures ok { OnOk result (histories ledgers.new.items
-        ≡ taken deal.now me (next_call deal.now seeds.now planner.old.known planner.old.moves) (histories ledgers.old.items)) }
-    ensures knows { OnOk result (planner.new ≡ seen deal.now me (next_call deal.now seeds.now planner.old.known planner.old.moves)
+        ≡ taken (swept_in swept.now) deal.now me (next_call deal.now seeds.now planner.old.known planner.old.moves) (histories ledgers.old.items)) }
+    ensures told { IfOk result (λ r.
+        r ≡ told_to (swept_in swept.now) deal.now me (next_call deal.now seeds.now planner.old.known planner.old.moves) (histories ledgers.old.items)) }
+    ensures knows { OnOk result (planner.new ≡ seen (swept_in swept.now) deal.now me (next_call deal.now seeds.now planner.old.known planner.old.moves)
         (histories ledgers.old.items) (turned planner.old)) }
     ensures err { OnErr result ((histories ledgers.new.items ≡ histories ledgers.old.items)
         ⊎ (histories ledgers.new.items
-        ≡ taken deal.now me (next_call deal.now seeds.now planner.old.known planner.old.moves) (histories ledgers.old.items))) }
+        ≡ taken (swept_in swept.now) deal.now me (next_call deal.now seeds.now planner.old.known planner.old.moves) (histories ledgers.old.items))) }
     ensures ledgers { AreLedgersOf deal.now ledgers.new.items }
+    ensures room { OnOk result (HaveRoom ledgers.new.items) }
 {
     let made = planner.follow(deal, me, seeds)?;
-    take(planner, ledgers, deal, me, made)
+    take(planner, ledgers, deal, me, made, swept)
 }

@@ -1,9 +1,10 @@
 //! A world.
 
-ghost use Rattle.std.specs.Prelude.{◌≡◌, ◌<◌, ◌⊎◌, IsTrue, OnOk, OnErr, IfOk, IsErr, false, true, length, map, All};
+ghost use Rattle.std.specs.Prelude.{◌≡◌, ◌<◌, ◌≤◌, ◌⊎◌, ◌&&◌, IsTrue, OnOk, OnErr, IfOk, IsErr, false, true, is_some, is_none};
+ghost use Rattle.std.specs.Prelude.{length, map, All};
 ghost use Rattle.swap_base.specs.Fault.{Gives};
 ghost use Rattle.swap_digraph.specs.Deal.{IsWellSized};
-ghost use Rattle.ledger_core.specs.History.{height};
+ghost use Rattle.ledger_core.specs.History.{height, accounts, published, settled};
 ghost use Rattle.ledger_core.specs.Book.{IsLegalBook, history};
 ghost use Rattle.deviator_script.specs.Step.{CanStep, CanTick, CanLook, CanCall};
 ghost use Rattle.swap_rules.specs.Accepted.{IsAccepted};
@@ -11,21 +12,27 @@ ghost use Rattle.swap_rules.specs.Outcome.{IsEnded};
 ghost use Rattle.swap_laws.specs.Laws.{IsDealt};
 ghost use Rattle.swap_run.specs.Asked.{is_strategy};
 ghost use Rattle.swap_run.specs.Run.{conforms, is_planned, role_of, start, step, run_from};
-ghost use Rattle.swap_run.specs.Fair.{finish};
-ghost use Rattle.swap_run.specs.Laws.{IsKept};
+ghost use Rattle.swap_run.specs.Called.{step_on};
+ghost use Rattle.swap_run.specs.Asked.{Answers};
+ghost use Rattle.swap_run.specs.Fair.{finish, has_ended};
+ghost use Rattle.swap_run.specs.Quiet.{SkipsTo};
+ghost use Rattle.swap_run.specs.Laws.{IsKept, IsReadyCast};
 ghost use Rattle.party_wallet.specs.Wallets.{wallets_of};
 ghost use Rattle.swap_world.specs.Stopped.{IsStopped, AllConform};
 ghost use Rattle.swap_world.specs.Cast.{asks};
-ghost use Rattle.swap_world.specs.Value.{cast_at, new_world};
+ghost use Rattle.swap_world.specs.Value.{cast_at, cast_for, new_world, Continues};
+ghost use Rattle.swap_world.specs.Near.{all_adjacent};
 ghost use Rattle.swap_world.specs.Gone.{HasGone, IsCut};
+ghost use Rattle.swap_world.specs.On.{swept_in, told_in, ticked_on, IsCutOn};
 ghost use Rattle.swap_world.specs.Staff.{world_of, AreHeld, HaveRoles, HaveSeeds};
-ghost use Rattle.swap_world.specs.Inside.{new_ledgers};
+ghost use Rattle.swap_world.specs.Inside.{AreNewLedgers};
 
 use crate::actor::Actor;
 use crate::staff::{WorldFault, actors_of};
-use crate::{fair, many, turn};
+use crate::told::Told;
+use crate::{chain, fair, many, quiet, turn};
 use deviator_script::{Event, Job, Move, Role, Strategies};
-use ledger_core::{Book, Call, EntryList, Ledger};
+use ledger_core::{Accounts, Book, Call, EntryList, Ledger};
 use party_plan::Planner;
 use party_wallet::Wallet;
 use std::alloc::Global;
@@ -66,11 +73,13 @@ impl Model for World {
 
 fn ledgers_of(alloc: Global, deal: &Deal) -> Result<Vec<Ledger>, NoMemory>
     requires { IsWellSized deal.now }
-    ensures { IfOk result (λ v. v.items ≡ new_ledgers deal.now) }
+    ensures { IfOk result (λ v. AreNewLedgers deal.now (length deal.now.graph.arcs) v.items) }
 {
     let mut ledgers = Vec::new(alloc);
     for arc in 0..deal.graph.arcs().len() as ArcId {
-        ledgers.push(Ledger::new(alloc, deal, arc)?)?;
+        let mut ledger = Ledger::new(alloc, deal, arc)?;
+        ledger.reserve()?;
+        ledgers.push(ledger)?;
     }
     Ok(ledgers)
 }
@@ -81,6 +90,16 @@ fn histories_of(alloc: Global, ledgers: Vec<Ledger>) -> Result<Listed<EntryList>
     let mut histories = Vec::new(alloc);
     for ledger in ledgers {
         histories.push(ledger.into_history())?;
+    }
+    Ok(Listed::new(histories))
+}
+
+fn copies_of(alloc: Global, ledgers: &[Ledger]) -> Result<Listed<EntryList>, NoMemory>
+    ensures { IfOk result (λ v. v ≡ map (λ l. l.history) ledgers.now) }
+{
+    let mut histories = Vec::new(alloc);
+    'copies: for ledger in ledgers {
+        histories.push(ledger.copy_from(0)?)?;
     }
     Ok(Listed::new(histories))
 }
@@ -115,10 +134,16 @@ impl World {
         requires event { CanTick self.old.deal arc k }
         requires goes_on { self.old.stopped ≡ false }
         ensures ok { OnOk result (self.new ≡ record self.old { state = step (cast_at self.old) self.old.state (Event.Tick arc k) }) }
-        ensures err { OnErr result (self.new ≡ self.old) }
+        ensures cast { OnErr result (cast_at self.new ≡ cast_at self.old) }
+        ensures asked { OnErr result (self.new.state.asked ≡ self.old.state.asked) }
+        ensures answers { OnErr result (self.new.answers ≡ self.old.answers) }
+        ensures book { OnErr result ((self.new.state.book ≡ self.old.state.book)
+            ⊎ (self.new.state.book ≡ (step (cast_at self.old) self.old.state (Event.Tick arc k)).book)) }
     {
         let ledger = &mut self.ledgers[arc as usize];
-        turn::tick(ledger, k)
+        let done = turn::tick(ledger, k);
+        self.stopped = done.is_err();
+        done
     }
 
     /// Lets a party look that doesn't conform: one that follows a script or a strategy knows the ledger up to its end.
@@ -148,14 +173,37 @@ impl World {
     }
 
     /// Whether a party conforms.
-    pub(crate) fn conforms(&self, p: PartyId) -> bool
+    pub fn conforms(&self, p: PartyId) -> bool
         requires { p < self.now.deal.graph.n }
         ensures { result ≡ conforms (cast_at self.now) p }
     {
         self.conforming.as_slice()[p as usize]
     }
 
-    /// Lets a conforming party act, and answers whether it may have more to do: after `false` the act changed nothing.
+    /// Lets a conforming party act, and answers what it is told.
+    fn act_due(&mut self, p: PartyId, swept: &[bool]) -> Result<Told, NoMemory>
+        requires party { p < self.old.deal.graph.n }
+        requires conforms { conforms (cast_at self.old) p ≡ true }
+        requires goes_on { self.old.stopped ≡ false }
+        ensures ok { OnOk result (self.new
+            ≡ record self.old { state = step_on (swept_in swept.now) (cast_at self.old) self.old.state (Event.Act p) }) }
+        ensures told { IfOk result (λ r. r ≡ told_in (swept_in swept.now) (cast_at self.old) self.old.state (Event.Act p)) }
+        ensures stopped { OnErr result (self.new.stopped ≡ true) }
+        ensures cast { OnErr result (cast_at self.new ≡ cast_at self.old) }
+        ensures asked { OnErr result (self.new.state.asked ≡ self.old.state.asked) }
+        ensures answers { OnErr result (self.new.answers ≡ self.old.answers) }
+        ensures book { OnErr result ((self.new.state.book ≡ self.old.state.book)
+            ⊎ (self.new.state.book ≡ (step_on (swept_in swept.now) (cast_at self.old) self.old.state (Event.Act p)).book)) }
+    {
+        let Actor::Conforming(machine) = &mut self.actors[p as usize] else {
+            unreachable!();
+        };
+        let done = turn::act(machine, &mut self.ledgers, swept);
+        self.stopped = done.is_err();
+        done
+    }
+
+    /// Lets a conforming party act where no slot is swept, and answers whether it may have more to do: after `false` the act changed nothing.
     pub(crate) fn act_if_due(&mut self, p: PartyId) -> Result<bool, NoMemory>
         requires party { p < self.old.deal.graph.n }
         requires conforms { conforms (cast_at self.old) p ≡ true }
@@ -169,12 +217,11 @@ impl World {
         ensures book { OnErr result ((self.new.state.book ≡ self.old.state.book)
             ⊎ (self.new.state.book ≡ (step (cast_at self.old) self.old.state (Event.Act p)).book)) }
     {
-        let Actor::Conforming(machine) = &mut self.actors[p as usize] else {
-            unreachable!();
-        };
-        let done = turn::act(machine, &mut self.ledgers);
-        self.stopped = done.is_err();
-        done
+        match self.act_due(p, &[]) {
+            Ok(Told::Nothing) => Ok(false),
+            Ok(_) => Ok(true),
+            Err(NoMemory) => Err(NoMemory),
+        }
     }
 
     /// Whether a party follows a strategy.
@@ -200,21 +247,23 @@ impl World {
     }
 
     /// Lets a party act that neither conforms nor follows a strategy: one that follows a script makes its next call.
-    fn follow(&mut self, p: PartyId) -> Result<(), NoMemory>
+    fn follow(&mut self, p: PartyId, swept: &[bool]) -> Result<Told, NoMemory>
         requires party { p < self.old.deal.graph.n }
         requires deviates { conforms (cast_at self.old) p ≡ false }
         requires alone { asks (cast_at self.old) p ≡ false }
         requires goes_on { self.old.stopped ≡ false }
-        ensures ok { OnOk result (self.new ≡ record self.old { state = step (cast_at self.old) self.old.state (Event.Act p) }) }
+        ensures ok { OnOk result (self.new
+            ≡ record self.old { state = step_on (swept_in swept.now) (cast_at self.old) self.old.state (Event.Act p) }) }
+        ensures told { IfOk result (λ r. r ≡ told_in (swept_in swept.now) (cast_at self.old) self.old.state (Event.Act p)) }
         ensures stopped { OnErr result (self.new.stopped ≡ true) }
         ensures cast { OnErr result (cast_at self.new ≡ cast_at self.old) }
         ensures asked { OnErr result (self.new.state.asked ≡ self.old.state.asked) }
         ensures answers { OnErr result (self.new.answers ≡ self.old.answers) }
         ensures book { OnErr result ((self.new.state.book ≡ self.old.state.book)
-            ⊎ (self.new.state.book ≡ (step (cast_at self.old) self.old.state (Event.Act p)).book)) }
+            ⊎ (self.new.state.book ≡ (step_on (swept_in swept.now) (cast_at self.old) self.old.state (Event.Act p)).book)) }
     {
         let Actor::Planned(planner) = &mut self.actors[p as usize] else {
-            return Ok(());
+            return Ok(Told::Nothing);
         };
         let done = turn::follow(
             planner,
@@ -222,38 +271,42 @@ impl World {
             &self.deal,
             self.seeds.as_slice(),
             p,
+            swept,
         );
         self.stopped = done.is_err();
         done
     }
 
     /// Lets a party act that asks no strategy.
-    fn act_alone(&mut self, p: PartyId) -> Result<(), NoMemory>
+    fn act_alone(&mut self, p: PartyId, swept: &[bool]) -> Result<Told, NoMemory>
         requires party { p < self.old.deal.graph.n }
         requires alone { asks (cast_at self.old) p ≡ false }
         requires goes_on { self.old.stopped ≡ false }
-        ensures ok { OnOk result (self.new ≡ record self.old { state = step (cast_at self.old) self.old.state (Event.Act p) }) }
+        ensures ok { OnOk result (self.new
+            ≡ record self.old { state = step_on (swept_in swept.now) (cast_at self.old) self.old.state (Event.Act p) }) }
+        ensures told { IfOk result (λ r. r ≡ told_in (swept_in swept.now) (cast_at self.old) self.old.state (Event.Act p)) }
         ensures cast { OnErr result (cast_at self.new ≡ cast_at self.old) }
         ensures asked { OnErr result (self.new.state.asked ≡ self.old.state.asked) }
         ensures answers { OnErr result (self.new.answers ≡ self.old.answers) }
         ensures book { OnErr result ((self.new.state.book ≡ self.old.state.book)
-            ⊎ (self.new.state.book ≡ (step (cast_at self.old) self.old.state (Event.Act p)).book)) }
+            ⊎ (self.new.state.book ≡ (step_on (swept_in swept.now) (cast_at self.old) self.old.state (Event.Act p)).book)) }
     {
         if !self.conforms(p) {
-            return self.follow(p);
+            return self.follow(p, swept);
         }
-        self.act_if_due(p)?;
-        Ok(())
+        self.act_due(p, swept)
     }
 
     /// Lets a party act that follows a strategy: it asks, and makes the call that is answered.
-    fn ask<K: Strategies>(&mut self, kit: &K, p: PartyId) -> Result<(), NoMemory>
+    fn ask<K: Strategies>(&mut self, kit: &K, p: PartyId, swept: &[bool]) -> Result<Told, NoMemory>
         requires party { p < self.old.deal.graph.n }
         requires asks { asks (cast_at self.old) p ≡ true }
         requires goes_on { self.old.stopped ≡ false }
         requires kit { AreHeld (K.holds kit.now) self.old.roles }
-        ensures ok { OnOk result (HasGone (K.gives kit.now) (λ c s. step c s (Event.Act p)) self.old self.new) }
-        ensures cut { OnErr result (IsCut (K.gives kit.now) (Event.Act p) self.old self.new) }
+        ensures ok { OnOk result (HasGone (K.gives kit.now) (λ c s. step_on (swept_in swept.now) c s (Event.Act p)) self.old self.new) }
+        ensures told { IfOk result (λ r. (g : Answers) → Continues self.new g
+            → r ≡ told_in (swept_in swept.now) (cast_for self.old g) self.old.state (Event.Act p)) }
+        ensures cut { OnErr result (IsCutOn (K.gives kit.now) (swept_in swept.now) (Event.Act p) self.old self.new) }
     {
         let Role::Strategy(name) = &self.roles.as_slice()[p as usize] else {
             unreachable!();
@@ -267,54 +320,67 @@ impl World {
         self.askers = askers;
         self.told = told;
         self.answers = self.answers.and(&answer);
-        let done = turn::take(planner, &mut self.ledgers, &self.deal, p, answer);
+        let done = turn::take(planner, &mut self.ledgers, &self.deal, p, answer, swept);
         self.stopped = done.is_err();
         done
     }
 
     /// Lets a party act.
-    fn act<K: Strategies>(&mut self, kit: &K, p: PartyId) -> Result<(), NoMemory>
+    fn act<K: Strategies>(&mut self, kit: &K, p: PartyId, swept: &[bool]) -> Result<Told, NoMemory>
         requires party { p < self.old.deal.graph.n }
         requires goes_on { self.old.stopped ≡ false }
         requires kit { AreHeld (K.holds kit.now) self.old.roles }
-        ensures ok { OnOk result (HasGone (K.gives kit.now) (λ c s. step c s (Event.Act p)) self.old self.new) }
-        ensures cut { OnErr result (IsCut (K.gives kit.now) (Event.Act p) self.old self.new) }
+        ensures ok { OnOk result (HasGone (K.gives kit.now) (λ c s. step_on (swept_in swept.now) c s (Event.Act p)) self.old self.new) }
+        ensures told { IfOk result (λ r. (g : Answers) → Continues self.new g
+            → r ≡ told_in (swept_in swept.now) (cast_for self.old g) self.old.state (Event.Act p)) }
+        ensures cut { OnErr result (IsCutOn (K.gives kit.now) (swept_in swept.now) (Event.Act p) self.old self.new) }
     {
         if self.asks(p) {
-            return self.ask(kit, p);
+            return self.ask(kit, p, swept);
         }
-        self.act_alone(p)
+        self.act_alone(p, swept)
     }
 
     /// Makes the move of a party that follows neither a script nor a strategy.
-    fn make_plain(&mut self, sender: PartyId, mv: &Move) -> Result<(), NoMemory>
+    fn make_plain(&mut self, sender: PartyId, mv: &Move, swept: &[bool]) -> Result<Told, NoMemory>
         requires event { CanCall self.old.deal self.old.conforming self.old.seeds sender mv.now }
         requires plain { is_planned (role_of (cast_at self.old) sender) ≡ false }
         requires goes_on { self.old.stopped ≡ false }
-        ensures ok { OnOk result (self.new ≡ record self.old { state = step (cast_at self.old) self.old.state (Event.Call sender mv.now) }) }
-        ensures err { OnErr result (self.new ≡ self.old) }
+        ensures ok { OnOk result (self.new
+            ≡ record self.old { state = step_on (swept_in swept.now) (cast_at self.old) self.old.state (Event.Call sender mv.now) }) }
+        ensures told { IfOk result (λ r. r ≡ told_in (swept_in swept.now) (cast_at self.old) self.old.state (Event.Call sender mv.now)) }
+        ensures cast { OnErr result (cast_at self.new ≡ cast_at self.old) }
+        ensures asked { OnErr result (self.new.state.asked ≡ self.old.state.asked) }
+        ensures answers { OnErr result (self.new.answers ≡ self.old.answers) }
+        ensures book { OnErr result ((self.new.state.book ≡ self.old.state.book)
+            ⊎ (self.new.state.book ≡ (step_on (swept_in swept.now) (cast_at self.old) self.old.state (Event.Call sender mv.now)).book)) }
     {
-        turn::make(
+        let done = turn::make(
             &mut self.ledgers,
             &self.deal,
             self.seeds.as_slice(),
             sender,
             mv,
-        )
+            swept,
+        );
+        self.stopped = done.is_err();
+        done
     }
 
-    fn make(&mut self, sender: PartyId, mv: &Move) -> Result<(), NoMemory>
+    fn make(&mut self, sender: PartyId, mv: &Move, swept: &[bool]) -> Result<Told, NoMemory>
         requires event { CanCall self.old.deal self.old.conforming self.old.seeds sender mv.now }
         requires goes_on { self.old.stopped ≡ false }
-        ensures ok { OnOk result (self.new ≡ record self.old { state = step (cast_at self.old) self.old.state (Event.Call sender mv.now) }) }
+        ensures ok { OnOk result (self.new
+            ≡ record self.old { state = step_on (swept_in swept.now) (cast_at self.old) self.old.state (Event.Call sender mv.now) }) }
+        ensures told { IfOk result (λ r. r ≡ told_in (swept_in swept.now) (cast_at self.old) self.old.state (Event.Call sender mv.now)) }
         ensures cast { OnErr result (cast_at self.new ≡ cast_at self.old) }
         ensures asked { OnErr result (self.new.state.asked ≡ self.old.state.asked) }
         ensures answers { OnErr result (self.new.answers ≡ self.old.answers) }
         ensures book { OnErr result ((self.new.state.book ≡ self.old.state.book)
-            ⊎ (self.new.state.book ≡ (step (cast_at self.old) self.old.state (Event.Call sender mv.now)).book)) }
+            ⊎ (self.new.state.book ≡ (step_on (swept_in swept.now) (cast_at self.old) self.old.state (Event.Call sender mv.now)).book)) }
     {
         let Actor::Planned(planner) = &mut self.actors[sender as usize] else {
-            return self.make_plain(sender, mv);
+            return self.make_plain(sender, mv, swept);
         };
         let done = turn::make_by_hand(
             planner,
@@ -323,43 +389,113 @@ impl World {
             self.seeds.as_slice(),
             sender,
             mv,
+            swept,
         );
         self.stopped = done.is_err();
         done
     }
 
     /// Lets an event happen.
-    fn happen<K: Strategies>(&mut self, kit: &K, event: &Event) -> Result<(), NoMemory>
+    fn happen<K: Strategies>(
+        &mut self,
+        kit: &K,
+        event: &Event,
+        swept: &[bool],
+    ) -> Result<Told, NoMemory>
         requires event { CanStep self.old.deal self.old.conforming self.old.seeds event.now }
         requires goes_on { self.old.stopped ≡ false }
         requires kit { AreHeld (K.holds kit.now) self.old.roles }
-        ensures ok { OnOk result (HasGone (K.gives kit.now) (λ c s. step c s event.now) self.old self.new) }
-        ensures cut { OnErr result (IsCut (K.gives kit.now) event.now self.old self.new) }
+        ensures ok { OnOk result (HasGone (K.gives kit.now) (λ c s. step_on (swept_in swept.now) c s event.now) self.old self.new) }
+        ensures told { IfOk result (λ r. (g : Answers) → Continues self.new g
+            → r ≡ told_in (swept_in swept.now) (cast_for self.old g) self.old.state event.now) }
+        ensures cut { OnErr result (IsCutOn (K.gives kit.now) (swept_in swept.now) event.now self.old self.new) }
     {
         match event {
-            Event::Tick(arc, k) => self.tick(*arc, *k),
-            Event::Look(p, arc) => self.look(*p, *arc),
-            Event::Act(p) => self.act(kit, *p),
-            Event::Call(sender, mv) => self.make(*sender, mv),
+            Event::Tick(arc, k) => {
+                self.tick(*arc, *k)?;
+                Ok(Told::Nothing)
+            }
+            Event::Look(p, arc) => {
+                self.look(*p, *arc)?;
+                Ok(Told::Nothing)
+            }
+            Event::Act(p) => self.act(kit, *p, swept),
+            Event::Call(sender, mv) => self.make(*sender, mv, swept),
         }
     }
 
     /// Takes an event, where memory never ran out.
-    fn take<K: Strategies>(&mut self, kit: &K, event: &Event) -> Result<(), NoMemory>
+    fn take<K: Strategies>(
+        &mut self,
+        kit: &K,
+        event: &Event,
+        swept: &[bool],
+    ) -> Result<Told, NoMemory>
         requires event { CanStep self.old.deal self.old.conforming self.old.seeds event.now }
         requires goes_on { self.old.stopped ≡ false }
         requires kit { AreHeld (K.holds kit.now) self.old.roles }
-        ensures ok { OnOk result (HasGone (K.gives kit.now) (λ c s. step c s event.now) self.old self.new) }
+        ensures ok { OnOk result (HasGone (K.gives kit.now) (λ c s. step_on (swept_in swept.now) c s event.now) self.old self.new) }
+        ensures told { IfOk result (λ r. (g : Answers) → Continues self.new g
+            → r ≡ told_in (swept_in swept.now) (cast_for self.old g) self.old.state event.now) }
         ensures err { OnErr result (self.new.stopped ≡ true) }
-        ensures cut { OnErr result (IsCut (K.gives kit.now) event.now self.old self.new) }
+        ensures cut { OnErr result (IsCutOn (K.gives kit.now) (swept_in swept.now) event.now self.old self.new) }
     {
-        match self.happen(kit, event) {
-            Ok(()) => Ok(()),
+        match self.happen(kit, event, swept) {
+            Ok(told) => Ok(told),
             Err(NoMemory) => {
                 self.stopped = true;
                 Err(NoMemory)
             }
         }
+    }
+
+    /// Where further memory of this world would lie.
+    pub(crate) fn allocator(&self) -> Global {
+        *self.ledgers.allocator()
+    }
+
+    /// For how many rounds, of at most so many, nobody makes a call, so that ticks alone lead to where they lead once a further round follows.
+    pub(crate) fn quiet_rounds(&self, near: &[Listed<ArcId>], most: u64) -> u64
+        requires near { near.now ≡ all_adjacent self.now.deal }
+        requires goes_on { self.now.stopped ≡ false }
+        requires low { has_ended self.now.deal self.now.state.book ≡ false }
+        ensures few { result ≤ most }
+        ensures skips { (g : Answers) → SkipsTo (cast_for self.now g) result self.now.state }
+    {
+        let low = quiet::rounds_below(&self.ledgers, fair::horizon_of(&self.deal), most);
+        quiet::rounds(&self.deal, &self.ledgers, &self.actors, near, low)
+    }
+
+    /// Memory ran out: every later step wants it too.
+    pub(crate) fn stop(&mut self)
+        ensures { self.new ≡ record self.old { stopped = true } }
+    {
+        self.stopped = true;
+    }
+
+    /// Takes an event, some of whose slots may be swept (an empty list: none is), and answers what its party is told of its call. After want of memory
+    /// the histories are those before the event or after it, and every later step wants memory too.
+    pub fn step_on<K: Strategies>(
+        &mut self,
+        kit: &K,
+        event: &Event,
+        swept: &[bool],
+    ) -> Result<Told, NoMemory>
+        requires event { CanStep self.old.deal self.old.conforming self.old.seeds event.now }
+        requires kit { AreHeld (K.holds kit.now) self.old.roles }
+        ensures ok { OnOk result (HasGone (K.gives kit.now) (λ c s. step_on (swept_in swept.now) c s event.now) self.old self.new) }
+        ensures told { IfOk result (λ r. (g : Answers) → Continues self.new g
+            → r ≡ told_in (swept_in swept.now) (cast_for self.old g) self.old.state event.now) }
+        ensures err { OnErr result (self.new.stopped ≡ true) }
+        ensures cut { OnErr result (IsCutOn (K.gives kit.now) (swept_in swept.now) event.now self.old self.new) }
+        ensures stopped { IsTrue self.old.stopped → IsErr result × (self.new.state.book ≡ self.old.state.book) }
+        // Whatever the others do, and whether memory ran out or not, every conforming party has kept its conduct.
+        ensures kept { IsKept (cast_at self.new) self.new.state.book }
+    {
+        if self.stopped {
+            return Err(NoMemory);
+        }
+        self.take(kit, event, swept)
     }
 
     /// Takes one event, where the kit answers for strategies. After want of memory the histories are those before the event or after it, and
@@ -374,10 +510,10 @@ impl World {
         // Whatever the others do, and whether memory ran out or not, every conforming party has kept its conduct.
         ensures kept { IsKept (cast_at self.new) self.new.state.book }
     {
-        if self.stopped {
-            return Err(NoMemory);
+        match self.step_on(kit, event, &[]) {
+            Ok(_) => Ok(()),
+            Err(NoMemory) => Err(NoMemory),
         }
-        self.take(kit, event)
     }
 
     /// Takes events in their order. After want of memory every later step wants memory too.
@@ -419,6 +555,7 @@ impl World {
     pub fn deal(&self) -> &Deal
         ensures value { result.now ≡ self.now.deal }
         ensures sized { IsWellSized result.now }
+        ensures ready { IsReadyCast (cast_at self.now) }
     {
         &self.deal
     }
@@ -431,6 +568,52 @@ impl World {
         self.ledgers[arc as usize].height()
     }
 
+    /// Ticks each ledger of these arcs by k heights. It makes all ticks; where there is no memory for further ones then, the world is stopped.
+    pub fn tick_on(&mut self, on: &[bool], k: u32)
+        requires some { 1 ≤ k }
+        requires below { k ≤ 1000000 }
+        requires one_each { length on.now ≡ length self.old.deal.graph.arcs }
+        requires goes_on { self.old.stopped ≡ false }
+        ensures ticked { self.new.state ≡ ticked_on on.now k (cast_at self.old) self.old.state }
+        ensures same { self.new ≡ record self.old { state = self.new.state; stopped = self.new.stopped } }
+        // Every conforming party has kept its conduct.
+        ensures kept { IsKept (cast_at self.new) self.new.state.book }
+    {
+        let ready = chain::tick_all(&mut self.ledgers, &self.deal, on, k);
+        self.stopped = !ready;
+    }
+
+    /// Whether memory ran out in an earlier step.
+    pub fn is_stopped(&self) -> bool
+        ensures { result ≡ self.now.stopped }
+    {
+        self.stopped
+    }
+
+    /// Both balances and the held amount of an arc, in units.
+    pub fn accounts(&self, arc: ArcId) -> Accounts
+        requires { arc < length self.now.deal.graph.arcs }
+        ensures { result ≡ accounts self.now.deal arc (history self.now.state.book arc) }
+    {
+        self.ledgers[arc as usize].accounts()
+    }
+
+    /// Whether a publish was accepted on an arc.
+    pub fn is_published(&self, arc: ArcId) -> bool
+        requires { arc < length self.now.deal.graph.arcs }
+        ensures { result ≡ is_some (published (history self.now.state.book arc)) }
+    {
+        self.ledgers[arc as usize].is_published()
+    }
+
+    /// Whether what was published on an arc is neither claimed nor refunded.
+    pub fn is_unsettled(&self, arc: ArcId) -> bool
+        requires { arc < length self.now.deal.graph.arcs }
+        ensures { result ≡ (is_some (published (history self.now.state.book arc)) && is_none (settled (history self.now.state.book arc))) }
+    {
+        self.ledgers[arc as usize].is_unsettled()
+    }
+
     /// The ledgers, without taking memory.
     fn into_ledgers(self) -> Vec<Ledger>
         ensures value { map (λ l. l.history) result.items ≡ self.state.book }
@@ -439,6 +622,18 @@ impl World {
     {
         let World { ledgers, .. } = self;
         ledgers
+    }
+
+    /// A copy of the book of the histories so far, also where memory ran out on the way.
+    pub fn copy_book(&self, alloc: Global) -> Result<Book, NoMemory>
+        ensures value { IfOk result (λ b. b.histories ≡ self.now.state.book) }
+        ensures legal { IsLegalBook self.now.deal self.now.state.book }
+        // Whatever the others do, every conforming party keeps its conduct.
+        ensures kept { IsKept (cast_at self.now) self.now.state.book }
+    {
+        Ok(Book {
+            histories: copies_of(alloc, &self.ledgers)?,
+        })
     }
 
     /// The book of the histories so far, also where memory ran out on the way.

@@ -5,7 +5,7 @@ use Rattle.swap_run.specs.Fair.{repeat, most_acts}
 use Rattle.swap_world.specs.Value.{cast_at, cast_for}
 use Rattle.swap_world.specs.Gone.{HasGone}
 use Rattle.swap_world.proofs.Ways.{at, if_err}
-use Rattle.swap_world.proofs.Gone.{alone_conforming, begun, cast_gone, cut_to, deal_gone, goes_on_gone, quiet_act, stopped_in, went_to}
+use Rattle.swap_world.proofs.Gone.{alone_conforming, begun, cast_gone, cut_to, deal_gone, goes_on_gone, quiet_run, stopped_in, went_to}
 use Rattle.swap_world.proofs.Loops.{repeat_on, repeat_rests, repeat_stops}
 use Rattle.swap_world.proofs.Finishes.{act_leads}
 use Rattle.swap_world.proofs.fair.act_to_rest.Goals as goal
@@ -40,8 +40,8 @@ acts-preserved g c =
     subst (λ x. conforms x c.args.p ≡ true) (sym (cast_gone gives (λ x s. repeat c.acts.counter (act_of c.args.p x) s) w mid c.acts.invariant))
     c.requires.conforms in
     repeat_on gives (act_of c.args.p) w mid c.act_if_due.new.self (most_acts w.deal) c.acts.counter c.acts.invariant
-    (went_to gives mid c.act_if_due.new.self (Act c.args.p)
-    (quiet_act (cast_at mid) mid.state c.args.p (alone_conforming (cast_at mid) c.args.p conforming)) c.in_ok-act_if_due.ensures.ok)
+    (went_to gives (act_of c.args.p) mid c.act_if_due.new.self
+    (quiet_run (cast_at mid) mid.state c.args.p (alone_conforming (cast_at mid) c.args.p conforming)) c.in_ok-act_if_due.ensures.ok)
 
 pub returns-in_err-act_if_due-clause-err : goal.returns-in_err-act_if_due-clause-err
 returns-in_err-act_if_due-clause-err g c =
@@ -57,7 +57,7 @@ returns-in_err-act_if_due-clause-err g c =
     subst (λ x. conforms x c.args.p ≡ true) (sym (cast_gone gives (λ x s. repeat c.acts.counter (act_of c.args.p x) s) w mid c.acts.invariant))
     c.requires.conforms in
     let cut =
-    cut_to gives mid new (Act c.args.p) (quiet_act (cast_at mid) mid.state c.args.p (alone_conforming (cast_at mid) c.args.p conforming)) e.cast e.asked
+    cut_to gives (act_of c.args.p) mid new (quiet_run (cast_at mid) mid.state c.args.p (alone_conforming (cast_at mid) c.args.p conforming)) e.cast e.asked
     e.answers e.book in
     if_err _ (repeat_stops gives (act_of c.args.p) w mid new (most_acts w.deal) c.acts.counter c.acts.invariant l
     (λ a. act_leads (cast_for w a) c.args.p c.requires.party) (stopped_in gives mid new (Act c.args.p) low e.stopped cut))
@@ -73,7 +73,7 @@ returns-then-not-branch-clause-ok g c =
     let conforming : conforms (cast_at mid) c.args.p ≡ true =
     subst (λ x. conforms x c.args.p ≡ true) (sym (cast_gone gives (λ x s. repeat c.acts.counter (act_of c.args.p x) s) w mid c.acts.invariant))
     c.requires.conforms in
-    let quiet = quiet_act (cast_at mid) mid.state c.args.p (alone_conforming (cast_at mid) c.args.p conforming) in
+    let quiet = quiet_run (cast_at mid) mid.state c.args.p (alone_conforming (cast_at mid) c.args.p conforming) in
     subst (λ x. HasGone gives (λ y s. repeat (most_acts w.deal) (act_of c.args.p y) s) w x) (sym (e.ok ∙ ap (λ s. at mid s) idle))
     (repeat_rests gives (act_of c.args.p) w mid mid (most_acts w.deal) c.acts.counter c.acts.invariant (omega (arith, l))
     (λ a. quiet.same a ∙ idle))

@@ -1,58 +1,80 @@
-use Rattle.std.proofs.Common.{◌<◌, ◌≤◌, length, fold, take, sym, subst}
-use Rattle.std.specs.List.{range_with_len}
-use Rattle.swap_run.specs.Fair.{looks}
+use Rattle.std.proofs.Common.{◌≡◌, ℕ, ◌<◌, List, length, get_or, slice_index, fold, take, refl, sym, subst}
+use Rattle.std.proofs.lemmas.List.Elements.{All-get_or, All-same, All-weaker}
+use Rattle.swap_digraph.specs.declared.deal.Deal.{Deal}
+use Rattle.deviator_script.specs.declared.event.Event.TheVariants.{Look}
+use Rattle.deviator_script.specs.Step.{CanLook}
+use Rattle.swap_run.specs.Run.{Cast, State, step}
+use Rattle.swap_run.specs.Fair.{adjacent, looks}
+use Rattle.swap_run.specs.FairLaws.{IsReached}
+use Rattle.swap_run.proofs.Reached.{one_event}
 use Rattle.swap_world.specs.Value.{cast_for}
-use Rattle.swap_world.specs.Stopped.{look_near}
 use Rattle.swap_world.proofs.Ways.{if_err}
-use Rattle.swap_world.proofs.Gone.{begun, deal_gone, gone_as, held_gone, stopped_as}
-use Rattle.swap_world.proofs.Loops.{range_on, range_done, range_stops}
-use Rattle.swap_world.proofs.Finishes.{near_leads, looks_are}
+use Rattle.swap_world.proofs.Gone.{begun, can_gone, gone_as, held_gone, stopped_as, stopped_in}
+use Rattle.swap_world.proofs.Loops.{list_on, list_done, list_stops}
+use Rattle.swap_world.proofs.Finishes.{looks_over, can_look}
+use Rattle.swap_world.proofs.Idle.{any_default}
 use Rattle.swap_world.proofs.fair.look_around.Goals as goal
+
+-- what a look does
+abbrev look_at : ℕ → Cast → State → ℕ → State
+look_at p c s a = step c s (Look p a)
+
+-- the arc that stands there
+item : (xs : List ℕ) (k : ℕ) → k < length xs → slice_index xs k ≡ get_or xs k (slice_index xs k)
+item xs k l = any_default xs k 0 (slice_index xs k) l
+
+-- an arc of the list can be looked at
+can_at : (d : Deal) (p k x : ℕ) (xs : List ℕ) → p < d.graph.n → xs ≡ adjacent d p → k < length xs → x ≡ get_or xs k x → CanLook d p x
+can_at d p k x xs l e lt is = subst (CanLook d p) (sym is) (All-get_or (CanLook d p) xs k x lt (All-same (CanLook d p) xs (adjacent d p) e (can_look d p l)))
 
 pub arcs-init : goal.arcs-init
 arcs-init g c = begun (g.K.Strategies.gives c.args.kit.now) c.args.world.now
 
-pub look_near-requires-clause-party : goal.look_near-requires-clause-party
-look_near-requires-clause-party g c =
+pub step-requires-clause-event : goal.step-requires-clause-event
+step-requires-clause-event g c =
     let w = c.args.world.now in
-    subst (λ d. c.args.p < d.graph.n) (sym (deal_gone (g.K.Strategies.gives c.args.kit.now)
-    (λ x s. fold (look_near x c.args.p) s (take c.arcs.arc (range_with_len 0 (length w.deal.graph.arcs)))) w
-    c.arcs.world c.arcs.invariant)) c.requires.party
+    can_gone (g.K.Strategies.gives c.args.kit.now) (λ x s. fold (look_at c.args.p x) s (take c.arcs.arc-index c.args.near.now)) w c.arcs.world
+    (Look c.args.p (slice_index c.args.near.now c.arcs.arc-index)) c.arcs.invariant
+    (can_at w.deal c.args.p c.arcs.arc-index (slice_index c.args.near.now c.arcs.arc-index) c.args.near.now c.requires.party c.requires.near
+    c.arcs-test.true (item c.args.near.now c.arcs.arc-index c.arcs-test.true))
 
-pub look_near-requires-clause-arc : goal.look_near-requires-clause-arc
-look_near-requires-clause-arc g c =
-    let w = c.args.world.now in
-    let l : c.arcs.arc < length w.deal.graph.arcs = rw (← c.deal.ensures.value, ← c.arcs-2.ensures) c.arcs-test.true in
-    subst (λ d. c.arcs.arc < length d.graph.arcs) (sym (deal_gone (g.K.Strategies.gives c.args.kit.now)
-    (λ x s. fold (look_near x c.args.p) s (take c.arcs.arc (range_with_len 0 (length w.deal.graph.arcs)))) w c.arcs.world c.arcs.invariant)) l
-
-pub look_near-requires-clause-kit : goal.look_near-requires-clause-kit
-look_near-requires-clause-kit g c =
-    let w = c.args.world.now in
-    held_gone (g.K.Strategies.gives c.args.kit.now)
-    (λ x s. fold (look_near x c.args.p) s (take c.arcs.arc (range_with_len 0 (length w.deal.graph.arcs)))) w c.arcs.world _
-    c.arcs.invariant c.requires.kit
-
-pub returns-in_err-look_near-clause-err : goal.returns-in_err-look_near-clause-err
-returns-in_err-look_near-clause-err g c =
-    let w = c.args.world.now in
-    let l : c.arcs.arc < length w.deal.graph.arcs = rw (← c.deal.ensures.value, ← c.arcs-2.ensures) c.arcs-test.true in
-    if_err _ (stopped_as (g.K.Strategies.gives c.args.kit.now) (λ x s. fold (look_near x c.args.p) s (range_with_len 0 (length w.deal.graph.arcs)))
-    (λ x s. looks x c.args.p s) w c.look_near.new.world (λ a. looks_are (cast_for w a) c.args.p w.state)
-    (range_stops (g.K.Strategies.gives c.args.kit.now) (λ x. look_near x c.args.p) w c.arcs.world c.look_near.new.world (length w.deal.graph.arcs)
-    c.arcs.arc c.arcs.invariant l (λ x lt a. near_leads (cast_for w a) c.args.p c.requires.party x lt) c.in_err-look_near.ensures.err))
+pub step-requires-clause-kit : goal.step-requires-clause-kit
+step-requires-clause-kit g c =
+    held_gone (g.K.Strategies.gives c.args.kit.now) (λ x s. fold (look_at c.args.p x) s (take c.arcs.arc-index c.args.near.now)) c.args.world.now
+    c.arcs.world _ c.arcs.invariant c.requires.kit
 
 pub arcs-preserved : goal.arcs-preserved
 arcs-preserved g c =
+    list_on (g.K.Strategies.gives c.args.kit.now) (look_at c.args.p) c.args.world.now c.arcs.world c.step.new.self c.args.near.now c.arcs.arc-index
+    (slice_index c.args.near.now c.arcs.arc-index) c.arcs.invariant c.arcs-test.true (item c.args.near.now c.arcs.arc-index c.arcs-test.true)
+    c.in_ok-step.ensures.ok
+
+pub returns-in_err-step-clause-err : goal.returns-in_err-step-clause-err
+returns-in_err-step-clause-err g c =
+    let gives = g.K.Strategies.gives c.args.kit.now in
     let w = c.args.world.now in
-    let l : c.arcs.arc < length w.deal.graph.arcs = rw (← c.deal.ensures.value, ← c.arcs-2.ensures) c.arcs-test.true in
-    range_on (g.K.Strategies.gives c.args.kit.now) (λ x. look_near x c.args.p) w c.arcs.world c.look_near.new.world (length w.deal.graph.arcs) c.arcs.arc
-    c.arcs.invariant l c.in_ok-look_near.ensures.ok
+    let mid = c.arcs.world in
+    let new = c.step.new.self in
+    let p = c.args.p in
+    let near = c.args.near.now in
+    let e = Look p (slice_index c.args.near.now c.arcs.arc-index) in
+    let can =
+    can_gone gives (λ x s. fold (look_at p x) s (take c.arcs.arc-index near)) w mid e c.arcs.invariant
+    (can_at w.deal p c.arcs.arc-index (slice_index c.args.near.now c.arcs.arc-index) near c.requires.party c.requires.near c.arcs-test.true (item
+    c.args.near.now c.arcs.arc-index c.arcs-test.true)) in
+    if_err _ (stopped_as gives (λ x s. fold (look_at p x) s near) (λ x s. looks x p s) w new
+    (λ a. looks_over (cast_for w a) p w.state near c.requires.near)
+    (list_stops gives (look_at p) w mid new near c.arcs.arc-index (slice_index c.args.near.now c.arcs.arc-index) c.arcs.invariant c.arcs-test.true
+    (item c.args.near.now c.arcs.arc-index c.arcs-test.true)
+    (λ a. All-weaker (CanLook w.deal p) (λ x. (s : State) → IsReached (cast_for w a) s (look_at p (cast_for w a) s x))
+    (λ x can s. one_event (cast_for w a) s (Look p x) can) near (All-same (CanLook w.deal p) near (adjacent w.deal p) c.requires.near
+    (can_look w.deal p c.requires.party)))
+    (stopped_in gives mid new e can c.in_err-step.ensures.err c.in_err-step.ensures.cut)))
 
 pub returns-clause-ok : goal.returns-clause-ok
 returns-clause-ok g c =
+    let gives = g.K.Strategies.gives c.args.kit.now in
     let w = c.args.world.now in
-    let l : length w.deal.graph.arcs ≤ c.arcs.arc = rw (← c.deal.ensures.value, ← c.arcs-2.ensures) c.arcs-test.false in
-    gone_as (g.K.Strategies.gives c.args.kit.now) (λ x s. fold (look_near x c.args.p) s (range_with_len 0 (length w.deal.graph.arcs)))
-    (λ x s. looks x c.args.p s) w c.arcs.world (λ a. looks_are (cast_for w a) c.args.p w.state)
-    (range_done (g.K.Strategies.gives c.args.kit.now) (λ x. look_near x c.args.p) w c.arcs.world (length w.deal.graph.arcs) c.arcs.arc l c.arcs.invariant)
+    gone_as gives (λ x s. fold (look_at c.args.p x) s c.args.near.now) (λ x s. looks x c.args.p s) w c.arcs.world
+    (λ a. looks_over (cast_for w a) c.args.p w.state c.args.near.now c.requires.near)
+    (list_done gives (look_at c.args.p) w c.arcs.world c.args.near.now c.arcs.arc-index c.arcs-test.false c.arcs.invariant)

@@ -1,10 +1,8 @@
-use Rattle.std.proofs.Common.{take, fold, length}
-use Rattle.std.specs.List.{range_with_len}
+use Rattle.std.proofs.Common.{take, fold}
+use Rattle.deviator_script.specs.declared.event.Event.TheVariants.{Look}
+use Rattle.swap_run.specs.Run.{step}
 use Rattle.swap_world.specs.Gone.{HasGone}
-use Rattle.swap_world.specs.Stopped.{look_near}
 use Rattle.swap_world.proofs.fair.look_around.Given as goal
 
 abbrev pub invariant-arcs : goal.invariant-arcs
-invariant-arcs g l =
-    HasGone (g.K.Strategies.gives l.kit) (λ c s. fold (look_near c l.p) s (take l.arc (range_with_len 0 (length l.fn.world.deal.graph.arcs)))) l.fn.world
-    l.world
+invariant-arcs g l = HasGone (g.K.Strategies.gives l.kit) (λ c s. fold (λ t a. step c t (Look l.p a)) s (take l.arc-index l.near)) l.fn.world l.world

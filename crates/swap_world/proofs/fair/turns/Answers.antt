@@ -1,11 +1,11 @@
-use Rattle.std.proofs.Common.{◌<◌, ◌≤◌, arith, fold, take, sym, subst}
+use Rattle.std.proofs.Common.{◌<◌, ◌≤◌, arith, fold, take, sym, ap, ◌∙◌, subst}
 use Rattle.std.specs.List.{range_with_len}
-use Rattle.swap_run.specs.Fair.{turn}
+use Rattle.swap_run.specs.Fair.{adjacent, turn}
 use Rattle.swap_world.specs.Value.{cast_for}
 use Rattle.swap_world.proofs.Ways.{if_err}
 use Rattle.swap_world.proofs.Gone.{begun, deal_gone, goes_on_gone, held_gone}
 use Rattle.swap_world.proofs.Loops.{range_on, range_done, range_stops}
-use Rattle.swap_world.proofs.Finishes.{turn_leads, turns_stop, turns_are}
+use Rattle.swap_world.proofs.Finishes.{near_at, near_many, turn_leads, turns_stop, turns_are}
 use Rattle.swap_world.proofs.fair.turns.Goals as goal
 
 pub parties-init : goal.parties-init
@@ -18,6 +18,21 @@ turn-requires-clause-party g c =
     subst (λ d. c.parties.p < d.graph.n) (sym (deal_gone (g.K.Strategies.gives c.args.kit.now)
     (λ x s. fold (turn x) s (take c.parties.p (range_with_len 0 w.deal.graph.n))) w
     c.parties.world c.parties.invariant)) l
+
+pub bounds-near-place : goal.bounds-near-place
+bounds-near-place g c =
+    let w = c.args.world.now in
+    let l : c.parties.p < w.deal.graph.n = rw (← c.deal.ensures.value) (omega (arith, c.parties-test.true, c.n-p-end.ensures)) in
+    subst (λ n. c.parties.p < n) (sym (near_many w.deal c.args.near.now c.requires.near)) l
+
+pub turn-requires-clause-near : goal.turn-requires-clause-near
+turn-requires-clause-near g c =
+    let w = c.args.world.now in
+    let l : c.parties.p < w.deal.graph.n = rw (← c.deal.ensures.value) (omega (arith, c.parties-test.true, c.n-p-end.ensures)) in
+    let same = deal_gone (g.K.Strategies.gives c.args.kit.now) (λ x s. fold (turn x) s (take c.parties.p (range_with_len 0 w.deal.graph.n))) w
+    c.parties.world c.parties.invariant in
+    c.as_slice.ensures ∙ near_at w.deal c.args.near.now c.parties.p c.index-near-place.result c.requires.near l c.index-near-place.is
+    ∙ ap (λ d. adjacent d c.parties.p) (sym same)
 
 pub turn-requires-clause-goes_on : goal.turn-requires-clause-goes_on
 turn-requires-clause-goes_on g c =

@@ -1,9 +1,11 @@
-use Rattle.std.proofs.Common.{◌<◌, ℕ, length, Option, arith, sym, ap, subst}
+use Rattle.std.proofs.Common.{◌<◌, ℕ, length, Option, arith, inr, sym, ap, subst}
 use Rattle.hashkey_path.specs.declared.hashkey.Hashkey.{Hashkey}
 use Rattle.swap_world.specs.Inside.{IsLedgerOf}
 use Rattle.swap_world.proofs.Ledgers.{history_at}
 use Rattle.swap_world.proofs.Ways.{if_err}
-use Rattle.swap_world.proofs.Acts.{action, answered, still, book_is, book_or, machine_is}
+use Rattle.swap_world.specs.On.{swept_in}
+use Rattle.swap_world.proofs.Rooms.{room_set}
+use Rattle.swap_world.proofs.Acts.{action, answered, still, book_is, machine_is, told_is}
 use Rattle.swap_world.proofs.turn.act.Goals as goal
 
 pub index_mut-requires : goal.index_mut-requires
@@ -40,28 +42,50 @@ make_due-requires-clause-begins c =
 
 pub returns-in-None-clause-knows : goal.returns-in-None-clause-knows
 returns-in-None-clause-knows c =
-    still c.args.machine.now c.next.new.self c.in_ok-next.field-0 _ c.in-None.is c.in_ok-next.ensures.due c.in_ok-next.ensures.same (λ i.
-    ap (λ (f : ℕ → Option Hashkey). f i) c.in_ok-next.ensures.signed)
+    still (swept_in c.args.swept.now) c.args.machine.now c.next.new.self c.in_ok-next.field-0 _ c.in-None.is c.in_ok-next.ensures.due
+    c.in_ok-next.ensures.same (λ i. ap (λ (f : ℕ → Option Hashkey). f i) c.in_ok-next.ensures.signed)
 
-pub returns-in_ok-make_due-in-Some-clause-ok : goal.returns-in_ok-make_due-in-Some-clause-ok
-returns-in_ok-make_due-in-Some-clause-ok c =
+pub returns-in_ok-told-in-Some-clause-ok : goal.returns-in_ok-told-in-Some-clause-ok
+returns-in_ok-told-in-Some-clause-ok c =
     let next = answered c.args.machine.now c.in_ok-next.field-0 c.in-Some.arc c.in-Some.due c.in-Some.is c.in_ok-next.ensures.due in
     let below = subst (λ n. c.in-Some.arc < n) (sym c.requires.ledgers.one_each) (c.requires.makable (action c.in-Some.arc c.in-Some.due) next).arc in
-    book_is c.args.machine.now c.next.new.self c.args.ledgers.now.items c.in-Some.arc c.in-Some.due c.index_mut.result.now c.in_ok-next.ensures.same
-    below c.index_mut.ensures.value next c.make_due.new.ledger c.in_ok-make_due-in-Some.ensures.ok
+    book_is (swept_in c.args.swept.now) c.args.machine.now c.next.new.self c.args.ledgers.now.items c.in-Some.arc c.in-Some.due c.index_mut.result.now
+    c.in_ok-next.ensures.same below c.index_mut.ensures.value next
+    c.make_due.new.ledger (rw c.is_swept-is.ensures at c.make_due.ensures.leaves)
 
-pub returns-in_ok-make_due-in-Some-clause-knows : goal.returns-in_ok-make_due-in-Some-clause-knows
-returns-in_ok-make_due-in-Some-clause-knows c =
-    let m = c.args.machine.now in
-    let next = answered m c.in_ok-next.field-0 c.in-Some.arc c.in-Some.due c.in-Some.is c.in_ok-next.ensures.due in
-    let below = subst (λ n. c.in-Some.arc < n) (sym c.requires.ledgers.one_each) (c.requires.makable (action c.in-Some.arc c.in-Some.due) next).arc in
-    machine_is m c.next.new.self c.args.ledgers.now.items c.in-Some.arc c.in-Some.due c.index_mut.result.now c.in_ok-next.ensures.same below
-    c.index_mut.ensures.value next c.make_due.new.machine
-    (λ i. ap (λ (f : ℕ → Option Hashkey). f i) (rw c.in-Some.is at c.in_ok-next.ensures.signed)) c.in_ok-make_due-in-Some.ensures.knows
-
-pub returns-in_err-make_due-in-Some-clause-err : goal.returns-in_err-make_due-in-Some-clause-err
-returns-in_err-make_due-in-Some-clause-err c =
+pub returns-in_ok-told-in-Some-clause-knows : goal.returns-in_ok-told-in-Some-clause-knows
+returns-in_ok-told-in-Some-clause-knows c =
     let next = answered c.args.machine.now c.in_ok-next.field-0 c.in-Some.arc c.in-Some.due c.in-Some.is c.in_ok-next.ensures.due in
     let below = subst (λ n. c.in-Some.arc < n) (sym c.requires.ledgers.one_each) (c.requires.makable (action c.in-Some.arc c.in-Some.due) next).arc in
-    if_err _ (book_or c.args.machine.now c.next.new.self c.args.ledgers.now.items c.in-Some.arc c.in-Some.due c.index_mut.result.now
-    c.in_ok-next.ensures.same below c.index_mut.ensures.value next c.make_due.new.ledger c.in_err-make_due-in-Some.ensures.err)
+    machine_is (swept_in c.args.swept.now) c.args.machine.now c.next.new.self c.args.ledgers.now.items c.in-Some.arc c.in-Some.due c.index_mut.result.now
+    c.in_ok-next.ensures.same below c.index_mut.ensures.value next
+    c.make_due.new.machine (λ i. ap (λ (f : ℕ → Option Hashkey). f i) (rw c.in-Some.is at c.in_ok-next.ensures.signed))
+    (rw c.is_swept-is.ensures at c.in_ok-told-in-Some.ensures.knows)
+
+pub returns-in_err-told-in-Some-clause-err : goal.returns-in_err-told-in-Some-clause-err
+returns-in_err-told-in-Some-clause-err c =
+    let next = answered c.args.machine.now c.in_ok-next.field-0 c.in-Some.arc c.in-Some.due c.in-Some.is c.in_ok-next.ensures.due in
+    let below = subst (λ n. c.in-Some.arc < n) (sym c.requires.ledgers.one_each) (c.requires.makable (action c.in-Some.arc c.in-Some.due) next).arc in
+    if_err _ (inr (
+    book_is (swept_in c.args.swept.now) c.args.machine.now c.next.new.self c.args.ledgers.now.items c.in-Some.arc c.in-Some.due c.index_mut.result.now
+    c.in_ok-next.ensures.same below c.index_mut.ensures.value next
+    c.make_due.new.ledger (rw c.is_swept-is.ensures at c.make_due.ensures.leaves)))
+
+pub returns-in_ok-told-in-Some-clause-told : goal.returns-in_ok-told-in-Some-clause-told
+returns-in_ok-told-in-Some-clause-told c =
+    let next = answered c.args.machine.now c.in_ok-next.field-0 c.in-Some.arc c.in-Some.due c.in-Some.is c.in_ok-next.ensures.due in
+    let below = subst (λ n. c.in-Some.arc < n) (sym c.requires.ledgers.one_each) (c.requires.makable (action c.in-Some.arc c.in-Some.due) next).arc in
+    told_is (swept_in c.args.swept.now) c.args.machine.now c.next.new.self c.args.ledgers.now.items c.in-Some.arc c.in-Some.due c.index_mut.result.now
+    c.in_ok-next.ensures.same below c.index_mut.ensures.value next
+    c.in_ok-told-in-Some.told (rw c.is_swept-is.ensures at c.in_ok-told-in-Some.ensures.told)
+
+pub make_due-requires-clause-room : goal.make_due-requires-clause-room
+make_due-requires-clause-room c =
+    let k =
+    c.requires.makable (action c.in-Some.arc c.in-Some.due)
+    (answered c.args.machine.now c.in_ok-next.field-0 c.in-Some.arc c.in-Some.due c.in-Some.is c.in_ok-next.ensures.due) in
+    c.requires.room c.in-Some.arc c.index_mut.result.now (subst (λ n. c.in-Some.arc < n) (sym c.requires.ledgers.one_each) k.arc) c.index_mut.ensures.value
+
+pub returns-in_ok-told-in-Some-clause-room : goal.returns-in_ok-told-in-Some-clause-room
+returns-in_ok-told-in-Some-clause-room c =
+    room_set c.args.ledgers.now.items c.in-Some.arc c.make_due.new.ledger c.requires.room c.in_ok-told-in-Some.ensures.room

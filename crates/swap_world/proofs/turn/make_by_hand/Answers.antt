@@ -1,7 +1,10 @@
-use Rattle.std.proofs.Common.{sym, ap, ◌∙◌}
+use Rattle.std.proofs.Common.{ℕ, Option, inr, sym, ap, ◌∙◌}
+use Rattle.ledger_core.specs.declared.entry.Call.{Call}
 use Rattle.deviator_script.specs.Resolved.{resolved}
 use Rattle.deviator_script.proofs.Scripts.{may_resolve}
-use Rattle.swap_world.specs.Acting.{histories}
+use Rattle.swap_world.specs.Acting.{histories, taken}
+use Rattle.swap_world.specs.On.{swept_in}
+use Rattle.swap_world.proofs.Ways.{if_ok, if_err}
 use Rattle.swap_world.proofs.Ledgers.{legal_book}
 use Rattle.swap_world.proofs.turn.make_by_hand.Goals as goal
 
@@ -12,3 +15,23 @@ take-requires-clause-may c =
     λ x q. may_resolve d c.args.seeds.now c.args.sender (histories ls) c.args.mv.now (legal_book d ls c.requires.ledgers)
     (record { fits = c.requires.fits; adjacent = c.requires.near }) x
     (ap (λ xs. resolved d c.args.seeds.now (histories xs) c.args.mv.now) (sym c.deref.ensures.value) ∙ (sym c.in_ok-made.ensures.exact ∙ q))
+
+pub returns-clause-ok : goal.returns-clause-ok
+returns-clause-ok c =
+    let d = c.args.deal.now in
+    let ls = c.args.ledgers.now.items in
+    let is =
+    c.take.ensures.leaves
+    ∙ ap (λ (o : Option (ℕ × Call)). taken (swept_in c.args.swept.now) d c.args.sender o (histories ls))
+    (c.in_ok-made.ensures.exact ∙ ap (λ xs. resolved d c.args.seeds.now (histories xs) c.args.mv.now) c.deref.ensures.value) in
+    if_ok c.take.result is
+
+pub returns-clause-err : goal.returns-clause-err
+returns-clause-err c =
+    let d = c.args.deal.now in
+    let ls = c.args.ledgers.now.items in
+    let is =
+    c.take.ensures.leaves
+    ∙ ap (λ (o : Option (ℕ × Call)). taken (swept_in c.args.swept.now) d c.args.sender o (histories ls))
+    (c.in_ok-made.ensures.exact ∙ ap (λ xs. resolved d c.args.seeds.now (histories xs) c.args.mv.now) c.deref.ensures.value) in
+    if_err c.take.result (inr is)

@@ -1,6 +1,6 @@
 use Rattle.ledger_core.specs.Book.{history}
 use Rattle.swap_laws.proofs.Prefixes.{begins_more}
-use Rattle.swap_world.proofs.Turns.{call_begins}
+use Rattle.swap_world.proofs.On.{landed_begins}
 use Rattle.swap_world.proofs.turn.make_due.Goals as goal
 
 pub call-requires-clause-of_the_two : goal.call-requires-clause-of_the_two
@@ -13,5 +13,5 @@ pub learn-requires-clause-begins : goal.learn-requires-clause-begins
 learn-requires-clause-begins c =
     let l = c.args.ledger.now in
     let k = history c.args.machine.now.known c.args.arc in
-    rw (c.in_ok-call.ensures.arc, c.requires.ledger.arc, c.in_ok-call.ensures.ok)
-    (begins_more k l.history _ c.requires.begins (call_begins l.deal l.arc c.me.result c.args.due l.history))
+    rw (c.in_ok-told.ensures.arc, c.requires.ledger.arc, c.in_ok-told.ensures.leaves)
+    (begins_more k l.history _ c.requires.begins (landed_begins c.args.swept l.deal l.arc c.me.result c.args.due l.history))

@@ -3,10 +3,12 @@ use Rattle.std.specs.Prelude.{IsTrue}
 use Rattle.ledger_core.specs.declared.entry.Call.{Call}
 use Rattle.swap_digraph.specs.Deal.{party, counterparty}
 use Rattle.ledger_core.specs.History.{IsLegal, fit}
-use Rattle.ledger_core.specs.Ledger.{after_call}
 use Rattle.swap_run.specs.Run.{plan_up_to}
-use Rattle.swap_world.specs.Acting.{histories, taken, seen}
-use Rattle.swap_world.proofs.Ledgers.{on_ok, on_err, either, history_at, book_ok, book_err, called}
+use Rattle.swap_world.specs.Acting.{histories, landed, taken, seen, told_to}
+use Rattle.swap_world.specs.On.{swept_in, told_by}
+use Rattle.swap_world.proofs.Ledgers.{on_ok, history_at, book_ok}
+use Rattle.swap_world.proofs.Rooms.{room_on}
+use Rattle.swap_world.proofs.On.{landed_called, told_called, if_told}
 use Rattle.swap_world.proofs.turn.take.Goals as goal
 
 pub index_mut-requires : goal.index_mut-requires
@@ -46,44 +48,59 @@ make_planned-requires-clause-fits c =
     let k = c.requires.ledgers.each c.in-Some.arc l below c.index_mut.ensures.value in
     subst (λ x. IsTrue (fit x l.arc c.in-Some.due)) (sym k.deal) (subst (λ y. IsTrue (fit c.args.deal.now y c.in-Some.due)) (sym k.arc) is.fits)
 
-pub returns-in-Some-clause-ok : goal.returns-in-Some-clause-ok
-returns-in-Some-clause-ok c =
+pub returns-in-Some-clause-leaves : goal.returns-in-Some-clause-leaves
+returns-in-Some-clause-leaves c =
     let d = c.args.deal.now in
     let ls = c.args.ledgers.now.items in
     let l = c.index_mut.result.now in
     let is = c.requires.may (c.in-Some.arc, c.in-Some.due) c.in-Some.is in
     let below = subst (λ n. c.in-Some.arc < n) (sym c.requires.ledgers.one_each) is.arc in
     let k = c.requires.ledgers.each c.in-Some.arc l below c.index_mut.ensures.value in
-    on_ok c.make_planned.result (λ e.
-    book_ok ls c.in-Some.arc l c.make_planned.new.ledger (after_call d c.in-Some.arc c.args.sender c.in-Some.due) below c.index_mut.ensures.value
-    (called d c.in-Some.arc c.args.sender c.in-Some.due l c.make_planned.new.ledger k e)
-    ∙ ap (λ (o : Option (ℕ × Call)). taken d c.args.sender o (histories ls)) (sym c.in-Some.is)) c.make_planned.ensures.ok
+    let sw = swept_in c.args.swept.now in
+    let w = sw c.in-Some.arc in
+    book_ok ls c.in-Some.arc l c.make_planned.new.ledger (landed w d c.in-Some.arc c.args.sender c.in-Some.due) below c.index_mut.ensures.value
+    (landed_called w d c.in-Some.arc c.args.sender c.in-Some.due l c.make_planned.new.ledger k (rw c.is_swept-is.ensures at c.make_planned.ensures.leaves))
+    ∙ ap (λ (o : Option (ℕ × Call)). taken sw d c.args.sender o (histories ls)) (sym c.in-Some.is)
 
 pub returns-in-Some-clause-knows : goal.returns-in-Some-clause-knows
 returns-in-Some-clause-knows c =
     let d = c.args.deal.now in
-    let n = c.args.planner.now in
     let ls = c.args.ledgers.now.items in
     let l = c.index_mut.result.now in
     let is = c.requires.may (c.in-Some.arc, c.in-Some.due) c.in-Some.is in
     let below = subst (λ n. c.in-Some.arc < n) (sym c.requires.ledgers.one_each) is.arc in
     let k = c.requires.ledgers.each c.in-Some.arc l below c.index_mut.ensures.value in
+    let sw = swept_in c.args.swept.now in
+    let w = sw c.in-Some.arc in
+    let n = c.args.planner.now in
     let same =
-    ap (λ x. after_call x l.arc c.args.sender c.in-Some.due l.history) k.deal ∙ ap (λ x. after_call d x c.args.sender c.in-Some.due l.history) k.arc
-    ∙ ap (λ h. after_call d c.in-Some.arc c.args.sender c.in-Some.due h) (sym (history_at ls c.in-Some.arc l below c.index_mut.ensures.value)) in
+    ap (λ x. landed w x l.arc c.args.sender c.in-Some.due l.history) k.deal ∙ ap (λ x. landed w d x c.args.sender c.in-Some.due l.history) k.arc
+    ∙ ap (λ h. landed w d c.in-Some.arc c.args.sender c.in-Some.due h) (sym (history_at ls c.in-Some.arc l below c.index_mut.ensures.value)) in
     on_ok c.make_planned.result (λ e.
-    e ∙ ap (λ h. plan_up_to n c.in-Some.arc h) same ∙ ap (λ (o : Option (ℕ × Call)). seen d c.args.sender o (histories ls) n) (sym c.in-Some.is))
-    c.make_planned.ensures.knows
+    e ∙ ap (λ h. plan_up_to n c.in-Some.arc h) same ∙ ap (λ (o : Option (ℕ × Call)). seen sw d c.args.sender o (histories ls) n) (sym c.in-Some.is))
+    (rw c.is_swept-is.ensures at c.make_planned.ensures.knows)
 
-pub returns-in-Some-clause-err : goal.returns-in-Some-clause-err
-returns-in-Some-clause-err c =
+pub returns-in-Some-clause-told : goal.returns-in-Some-clause-told
+returns-in-Some-clause-told c =
     let d = c.args.deal.now in
     let ls = c.args.ledgers.now.items in
     let l = c.index_mut.result.now in
     let is = c.requires.may (c.in-Some.arc, c.in-Some.due) c.in-Some.is in
     let below = subst (λ n. c.in-Some.arc < n) (sym c.requires.ledgers.one_each) is.arc in
     let k = c.requires.ledgers.each c.in-Some.arc l below c.index_mut.ensures.value in
-    on_err c.make_planned.result (either (book_err ls c.in-Some.arc l c.make_planned.new.ledger c.index_mut.ensures.value) (λ e.
-    book_ok ls c.in-Some.arc l c.make_planned.new.ledger (after_call d c.in-Some.arc c.args.sender c.in-Some.due) below c.index_mut.ensures.value
-    (called d c.in-Some.arc c.args.sender c.in-Some.due l c.make_planned.new.ledger k e)
-    ∙ ap (λ (o : Option (ℕ × Call)). taken d c.args.sender o (histories ls)) (sym c.in-Some.is))) c.make_planned.ensures.err
+    let sw = swept_in c.args.swept.now in
+    let w = sw c.in-Some.arc in
+    if_told c.make_planned.result (λ t e.
+    told_called w d c.in-Some.arc c.args.sender c.in-Some.due l t k e
+    ∙ (ap (told_by w d c.in-Some.arc c.args.sender c.in-Some.due) (sym (history_at ls c.in-Some.arc l below c.index_mut.ensures.value))
+    ∙ ap (λ (o : Option (ℕ × Call)). told_to sw d c.args.sender o (histories ls)) (sym c.in-Some.is)))
+    (rw c.is_swept-is.ensures at c.make_planned.ensures.told)
+
+pub make_planned-requires-clause-room : goal.make_planned-requires-clause-room
+make_planned-requires-clause-room c =
+    let is = c.requires.may (c.in-Some.arc, c.in-Some.due) c.in-Some.is in
+    c.requires.room c.in-Some.arc c.index_mut.result.now (subst (λ n. c.in-Some.arc < n) (sym c.requires.ledgers.one_each) is.arc) c.index_mut.ensures.value
+
+pub returns-in-Some-clause-room : goal.returns-in-Some-clause-room
+returns-in-Some-clause-room c =
+    room_on c.make_planned.result c.args.ledgers.now.items c.in-Some.arc c.make_planned.new.ledger c.requires.room c.make_planned.ensures.room

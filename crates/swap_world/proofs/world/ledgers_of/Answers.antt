@@ -1,10 +1,16 @@
-use Rattle.std.proofs.Common.{◌∙◌, ap, ◌++◌, ◌∷◌, []}
-use Rattle.swap_digraph.proofs.Ranges.{map_more}
+use Rattle.std.proofs.Common.{◌+◌, ◌∙◌, ap, subst, sym}
 use Rattle.ledger_core.specs.Value.{LedgerState}
-use Rattle.swap_world.specs.Inside.{new_ledger}
+use Rattle.swap_world.specs.Inside.{AreNewLedgers}
+use Rattle.swap_world.proofs.Rooms.{new_more}
 use Rattle.swap_world.proofs.world.ledgers_of.Goals as goal
 
 pub loop-arc-preserved : goal.loop-arc-preserved
 loop-arc-preserved c =
-    map_more (new_ledger c.args.deal.now) c.loop-arc.arc c.loop-arc.ledgers.items c.push.new.self.items
-    (c.in_ok-push.ensures.items ∙ ap (λ (x : LedgerState). c.loop-arc.ledgers.items ++ x ∷ []) c.in_ok-new.ensures) c.loop-arc.invariant
+    let d = c.args.deal.now in
+    subst (AreNewLedgers d (c.loop-arc.arc + 1)) (sym c.in_ok-push.ensures.items)
+    (new_more d c.loop-arc.arc c.loop-arc.ledgers.items c.reserve.new.self c.loop-arc.invariant (record {
+      deal = c.reserve.ensures.deal ∙ ap (λ (l : LedgerState). l.deal) c.in_ok-ledger.ensures;
+      arc = c.reserve.ensures.arc ∙ ap (λ (l : LedgerState). l.arc) c.in_ok-ledger.ensures;
+      history = c.reserve.ensures.history ∙ ap (λ (l : LedgerState). l.history) c.in_ok-ledger.ensures;
+      room = c.in_ok-reserve.ensures.ok;
+    }))

@@ -4,11 +4,14 @@ use Rattle.deviator_script.specs.declared.job.Role.TheVariants as kinds
 use Rattle.swap_run.specs.Run.{Plan}
 use Rattle.swap_world.specs.Acting.{histories, seen}
 use Rattle.swap_world.specs.Inside.{asked_in}
+use Rattle.swap_world.specs.On.{swept_in}
 use Rattle.swap_world.specs.declared.actor.Actor.TheVariants.{Planned}
-use Rattle.swap_world.proofs.Asks.{IsAsking, good_asked, has_gone, is_cut, kept_asked}
+use Rattle.swap_world.proofs.Asks.{IsAsking, good_asked, has_gone, is_cut, kept_asked, told_asked}
 use Rattle.swap_world.proofs.Ledgers.{on_ok}
+use Rattle.swap_world.proofs.On.{if_told}
 use Rattle.swap_world.proofs.States.{actor_set}
 use Rattle.swap_world.proofs.Worlds.{plan_placed, knows_each, shown}
+use Rattle.swap_world.proofs.Rooms.{room_unless}
 use Rattle.swap_world.proofs.world.World.ask.Goals as goal
 
 pub ask-requires-clause-view : goal.ask-requires-clause-view
@@ -41,6 +44,7 @@ take-done-requires-clause-known g c =
 pub invariant_of-self-2 : goal.invariant_of-self-2
 invariant_of-self-2 g c =
     let i = c.self.inside in
+    let sw = swept_in c.args.swept.now in
     let ls = i.ledgers.items in
     let xs = i.actors.items in
     let n = c.in-Planned.planner in
@@ -68,8 +72,8 @@ invariant_of-self-2 g c =
     let new = c.take-done.new.planner in
     let b = histories c.take-done.new.ledgers.items in
     let knows =
-    on_ok c.take-done.result (λ (e : new ≡ seen i.deal c.args.p c.in_ok-answer.answer (histories ls) c.ask.new.self).
-    e ∙ ap (λ (m : Plan). seen i.deal c.args.p c.in_ok-answer.answer (histories ls) m) c.in_ok-answer.ensures.turned) c.take-done.ensures.knows in
+    on_ok c.take-done.result (λ (e : new ≡ seen sw i.deal c.args.p c.in_ok-answer.answer (histories ls) c.ask.new.self).
+    e ∙ ap (λ (m : Plan). seen sw i.deal c.args.p c.in_ok-answer.answer (histories ls) m) c.in_ok-answer.ensures.turned) c.take-done.ensures.knows in
     let more = ap length c.and-self-inside.ensures ∙ length-append i.answers.items (c.in_ok-answer.answer ∷ []) in
     record {
       ready = c.self.invariant.ready;
@@ -77,14 +81,18 @@ invariant_of-self-2 g c =
       actors = actor_set i.deal i.conforming i.seeds i.roles xs c.args.p (Planned new) c.self.invariant.actors place.below place.is;
       askers = ap length c.and-askers.ensures ∙ (length-append i.askers.items (c.args.p ∷ []) ∙ (ap (λ m. m + 1) c.self.invariant.askers ∙ sym more));
       told = ap length c.and-told.ensures ∙ (length-append i.told.items (n ∷ []) ∙ (ap (λ m. m + 1) c.self.invariant.told ∙ sym more));
-      good = λ on. good_asked k c.take-done.result c.is_err-self-inside.result new b c.is_err-self-inside.ensures.value on c.take-done.ensures.ok knows
+      good = λ on. good_asked sw k c.take-done.result c.is_err-self-inside.result new b c.is_err-self-inside.ensures.value on c.take-done.ensures.leaves knows
           c.self.invariant.ready known (c.self.invariant.good goes_on);
-      kept = kept_asked k c.take-done.result b c.take-done.ensures.ok c.take-done.ensures.err c.self.invariant.ready known (c.self.invariant.good goes_on);
+      room =
+          λ on. room_unless c.take-done.result c.is_err-self-inside.result c.take-done.new.ledgers.items c.is_err-self-inside.ensures.value on
+          c.take-done.ensures.room;
+      kept = kept_asked sw k b c.take-done.ensures.leaves c.self.invariant.ready known (c.self.invariant.good goes_on);
     }
 
 pub returns-clause-ok : goal.returns-clause-ok
 returns-clause-ok g c =
     let i = c.self.inside in
+    let sw = swept_in c.args.swept.now in
     let ls = i.ledgers.items in
     let xs = i.actors.items in
     let n = c.in-Planned.planner in
@@ -112,14 +120,15 @@ returns-clause-ok g c =
     let new = c.take-done.new.planner in
     let b = histories c.take-done.new.ledgers.items in
     let knows =
-    on_ok c.take-done.result (λ (e : new ≡ seen i.deal c.args.p c.in_ok-answer.answer (histories ls) c.ask.new.self).
-    e ∙ ap (λ (m : Plan). seen i.deal c.args.p c.in_ok-answer.answer (histories ls) m) c.in_ok-answer.ensures.turned) c.take-done.ensures.knows in
-    rw (← c.self.view_is) (has_gone k c.take-done.result i.stopped c.is_err-self-inside.result new b c.is_err-self-inside.ensures.value goes_on
-    c.take-done.ensures.ok knows)
+    on_ok c.take-done.result (λ (e : new ≡ seen sw i.deal c.args.p c.in_ok-answer.answer (histories ls) c.ask.new.self).
+    e ∙ ap (λ (m : Plan). seen sw i.deal c.args.p c.in_ok-answer.answer (histories ls) m) c.in_ok-answer.ensures.turned) c.take-done.ensures.knows in
+    rw (← c.self.view_is) (has_gone sw k c.take-done.result i.stopped c.is_err-self-inside.result new b c.is_err-self-inside.ensures.value goes_on
+    c.take-done.ensures.leaves knows)
 
 pub returns-clause-cut : goal.returns-clause-cut
 returns-clause-cut g c =
     let i = c.self.inside in
+    let sw = swept_in c.args.swept.now in
     let ls = i.ledgers.items in
     let xs = i.actors.items in
     let n = c.in-Planned.planner in
@@ -145,4 +154,36 @@ returns-clause-cut g c =
     } in
     let new = c.take-done.new.planner in
     let b = histories c.take-done.new.ledgers.items in
-    rw (← c.self.view_is) (is_cut k c.take-done.result i.stopped c.is_err-self-inside.result new b c.take-done.ensures.err)
+    rw (← c.self.view_is) (is_cut sw k c.take-done.result i.stopped c.is_err-self-inside.result new b c.take-done.ensures.leaves)
+
+pub returns-clause-told : goal.returns-clause-told
+returns-clause-told g c =
+    let i = c.self.inside in
+    let sw = swept_in c.args.swept.now in
+    let ls = i.ledgers.items in
+    let xs = i.actors.items in
+    let n = c.in-Planned.planner in
+    let r = c.index-as_slice-p.result in
+    let known : c.args.p < i.deal.graph.n = rw (← c.self.view_is) at c.requires.party in
+    let place =
+    plan_placed i.deal i.conforming i.seeds i.roles (asked_in i) ls xs c.args.p c.index_mut.result.now n c.self.invariant.actors known c.in-Planned.is
+    c.index_mut.ensures.value in
+    let low : c.args.p < length i.roles = subst (λ m. c.args.p < m) (sym c.self.invariant.ready.roles) known in
+    let k : IsAsking (g.K.Strategies.gives c.args.kit.now) i.deal i.conforming i.seeds i.roles i.askers.items i.told.items i.answers.items ls xs c.args.p n
+    c.in-Strategy.name c.in_ok-answer.answer c.and-askers.result.items c.and-told.result.items c.and-self-inside.result.items = record {
+      askers = c.self.invariant.askers;
+      told = c.self.invariant.told;
+      place = place;
+      role =
+          get_or_default i.roles c.args.p kinds.Manual r low
+          ∙ (sym (subst (λ rs. r ≡ get_or rs c.args.p r) c.as_slice.ensures c.index-as_slice-p.is) ∙ c.in-Strategy.is);
+      may = c.in_ok-answer.ensures.fits;
+      given = c.in_ok-answer.ensures.gives;
+      asker = c.and-askers.ensures;
+      plan = c.and-told.ensures;
+      answer = c.and-self-inside.ensures;
+    } in
+    rw (← c.self.view_is) (if_told c.take-done.result (λ t e a f. e ∙ told_asked sw k a f) c.take-done.ensures.told)
+
+pub take-done-requires-clause-room : goal.take-done-requires-clause-room
+take-done-requires-clause-room g c = c.self.invariant.room (rw (← c.self.view_is) at c.requires.goes_on)

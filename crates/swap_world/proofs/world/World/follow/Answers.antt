@@ -1,21 +1,25 @@
-use Rattle.std.proofs.Common.{◌≡◌, ◌⊎◌, ◌<◌, OnOk, OnErr, set, slice_index_or, false, sym, ◌∙◌, subst}
+use Rattle.std.proofs.Common.{◌≡◌, ◌⊎◌, ◌<◌, OnOk, OnErr, IfOk, set, slice_index_or, false, sym, ◌∙◌, subst}
 use Rattle.deviator_script.specs.Script.{next_call}
 use Rattle.deviator_script.specs.declared.event.Event.TheVariants.{Act}
 use Rattle.deviator_script.specs.declared.job.Role.TheVariants as kinds
 use Rattle.party_plan.specs.Shown.{IsShown}
-use Rattle.swap_world.specs.Acting.{histories, taken, seen, turned}
+use Rattle.swap_world.specs.Acting.{histories, taken, seen, told_to, turned}
+use Rattle.swap_world.specs.On.{swept_in}
 use Rattle.swap_world.specs.Inside.{asked_in, cast_in, state_in}
 use Rattle.swap_world.specs.declared.actor.Actor.TheVariants.{Planned}
 use Rattle.swap_world.proofs.Ledgers.{on_err, either}
 use Rattle.swap_world.proofs.Gone.{not_asking}
+use Rattle.swap_world.proofs.On.{if_told}
 use Rattle.swap_world.proofs.Plans.{scripted}
-use Rattle.swap_world.proofs.States.{actor_set, state, followed, followed_book}
+use Rattle.swap_world.proofs.States.{actor_set, state, followed, followed_book, followed_told}
 use Rattle.swap_world.proofs.Worlds.{good_unless, kept_on, acted_on, both, plan_placed, knows_each, shown}
+use Rattle.swap_world.proofs.Rooms.{room_unless}
 use Rattle.swap_world.proofs.world.World.follow.Goals as goal
 
 pub follow-done-requires-clause-known : goal.follow-done-requires-clause-known
 follow-done-requires-clause-known c =
     let i = c.self.inside in
+    let sw = swept_in c.args.swept.now in
     let ls = i.ledgers.items in
     let xs = i.actors.items in
     let n = c.in-Planned.planner in
@@ -29,6 +33,7 @@ follow-done-requires-clause-known c =
 pub follow-done-requires-clause-shown : goal.follow-done-requires-clause-shown
 follow-done-requires-clause-shown c =
     let i = c.self.inside in
+    let sw = swept_in c.args.swept.now in
     let ls = i.ledgers.items in
     let xs = i.actors.items in
     let n = c.in-Planned.planner in
@@ -43,6 +48,7 @@ follow-done-requires-clause-shown c =
 pub invariant_of-self-2 : goal.invariant_of-self-2
 invariant_of-self-2 c =
     let i = c.self.inside in
+    let sw = swept_in c.args.swept.now in
     let ls = i.ledgers.items in
     let xs = i.actors.items in
     let n = c.in-Planned.planner in
@@ -57,16 +63,16 @@ invariant_of-self-2 c =
     let new = c.follow-done.new.planner in
     let b = histories c.follow-done.new.ledgers.items in
     let ok =
-    subst (λ ss. OnOk c.follow-done.result (b ≡ taken i.deal c.args.p (next_call i.deal ss n.known n.moves) (histories ls))) c.as_slice.ensures
+    subst (λ ss. OnOk c.follow-done.result (b ≡ taken sw i.deal c.args.p (next_call i.deal ss n.known n.moves) (histories ls))) c.as_slice.ensures
     c.follow-done.ensures.ok in
     let knows =
-    subst (λ ss. OnOk c.follow-done.result (new ≡ seen i.deal c.args.p (next_call i.deal ss n.known n.moves) (histories ls) (turned n))) c.as_slice.ensures
+    subst (λ ss. OnOk c.follow-done.result (new ≡ seen sw i.deal c.args.p (next_call i.deal ss n.known n.moves) (histories ls) (turned n))) c.as_slice.ensures
     c.follow-done.ensures.knows in
     let done =
-    both c.follow-done.result (followed i.deal i.conforming i.seeds i.roles (asked_in i) ls xs c.args.p n new b place script) ok knows in
+    both c.follow-done.result (followed i.deal i.conforming i.seeds i.roles (asked_in i) ls xs sw c.args.p n new b place script) ok knows in
     let err =
-    on_err c.follow-done.result (either (λ e. e) (λ e. e ∙ followed_book i.deal i.conforming i.seeds i.roles (asked_in i) ls xs c.args.p n place script))
-    (subst (λ ss. OnErr c.follow-done.result ((b ≡ histories ls) ⊎ (b ≡ taken i.deal c.args.p (next_call i.deal ss n.known n.moves) (histories ls))))
+    on_err c.follow-done.result (either (λ e. e) (λ e. e ∙ followed_book i.deal i.conforming i.seeds i.roles (asked_in i) ls xs sw c.args.p n place script))
+    (subst (λ ss. OnErr c.follow-done.result ((b ≡ histories ls) ⊎ (b ≡ taken sw i.deal c.args.p (next_call i.deal ss n.known n.moves) (histories ls))))
     c.as_slice.ensures c.follow-done.ensures.err) in
     record {
       ready = c.self.invariant.ready;
@@ -74,16 +80,20 @@ invariant_of-self-2 c =
       actors = actor_set i.deal i.conforming i.seeds i.roles xs c.args.p (Planned new) c.self.invariant.actors place.below place.is;
       askers = c.self.invariant.askers;
       told = c.self.invariant.told;
-      good = λ g. good_unless c.follow-done.result c.is_err-self-inside.result (cast_in i) (state_in i) (state i.deal (asked_in i)
+      good = λ g. good_unless c.follow-done.result c.is_err-self-inside.result sw (cast_in i) (state_in i) (state i.deal (asked_in i)
           (set xs c.args.p (Planned new)) b)
           (Act c.args.p) c.is_err-self-inside.ensures.value g done c.self.invariant.ready known (c.self.invariant.good goes_on);
-      kept = kept_on c.follow-done.result (cast_in i) (state_in i) (state i.deal (asked_in i) (set xs c.args.p (Planned new)) b) (Act c.args.p) done err
+      room =
+          λ on. room_unless c.follow-done.result c.is_err-self-inside.result c.follow-done.new.ledgers.items c.is_err-self-inside.ensures.value on
+          c.follow-done.ensures.room;
+      kept = kept_on c.follow-done.result sw (cast_in i) (state_in i) (state i.deal (asked_in i) (set xs c.args.p (Planned new)) b) (Act c.args.p) done err
           c.self.invariant.ready known (c.self.invariant.good goes_on);
     }
 
 pub returns-clause-ok : goal.returns-clause-ok
 returns-clause-ok c =
     let i = c.self.inside in
+    let sw = swept_in c.args.swept.now in
     let ls = i.ledgers.items in
     let xs = i.actors.items in
     let n = c.in-Planned.planner in
@@ -98,13 +108,13 @@ returns-clause-ok c =
     let new = c.follow-done.new.planner in
     let b = histories c.follow-done.new.ledgers.items in
     let ok =
-    subst (λ ss. OnOk c.follow-done.result (b ≡ taken i.deal c.args.p (next_call i.deal ss n.known n.moves) (histories ls))) c.as_slice.ensures
+    subst (λ ss. OnOk c.follow-done.result (b ≡ taken sw i.deal c.args.p (next_call i.deal ss n.known n.moves) (histories ls))) c.as_slice.ensures
     c.follow-done.ensures.ok in
     let knows =
-    subst (λ ss. OnOk c.follow-done.result (new ≡ seen i.deal c.args.p (next_call i.deal ss n.known n.moves) (histories ls) (turned n))) c.as_slice.ensures
+    subst (λ ss. OnOk c.follow-done.result (new ≡ seen sw i.deal c.args.p (next_call i.deal ss n.known n.moves) (histories ls) (turned n))) c.as_slice.ensures
     c.follow-done.ensures.knows in
     let done =
-    both c.follow-done.result (followed i.deal i.conforming i.seeds i.roles (asked_in i) ls xs c.args.p n new b place script) ok knows in
+    both c.follow-done.result (followed i.deal i.conforming i.seeds i.roles (asked_in i) ls xs sw c.args.p n new b place script) ok knows in
     rw (← c.self.view_is)
     (acted_on c.follow-done.result i.deal i.conforming i.seeds i.roles i.answers.items i.stopped c.is_err-self-inside.result _ _
     c.is_err-self-inside.ensures.value
@@ -113,6 +123,7 @@ returns-clause-ok c =
 pub returns-clause-book : goal.returns-clause-book
 returns-clause-book c =
     let i = c.self.inside in
+    let sw = swept_in c.args.swept.now in
     let ls = i.ledgers.items in
     let xs = i.actors.items in
     let n = c.in-Planned.planner in
@@ -126,7 +137,30 @@ returns-clause-book c =
     (not_asking (cast_in i) c.args.p (rw (← c.self.view_is) at c.requires.deviates) (rw (← c.self.view_is) at c.requires.alone)) in
     let b = histories c.follow-done.new.ledgers.items in
     let err =
-    on_err c.follow-done.result (either (λ e. e) (λ e. e ∙ followed_book i.deal i.conforming i.seeds i.roles (asked_in i) ls xs c.args.p n place script))
-    (subst (λ ss. OnErr c.follow-done.result ((b ≡ histories ls) ⊎ (b ≡ taken i.deal c.args.p (next_call i.deal ss n.known n.moves) (histories ls))))
+    on_err c.follow-done.result (either (λ e. e) (λ e. e ∙ followed_book i.deal i.conforming i.seeds i.roles (asked_in i) ls xs sw c.args.p n place script))
+    (subst (λ ss. OnErr c.follow-done.result ((b ≡ histories ls) ⊎ (b ≡ taken sw i.deal c.args.p (next_call i.deal ss n.known n.moves) (histories ls))))
     c.as_slice.ensures c.follow-done.ensures.err) in
     rw (← c.self.view_is) err
+
+pub returns-clause-told : goal.returns-clause-told
+returns-clause-told c =
+    let i = c.self.inside in
+    let sw = swept_in c.args.swept.now in
+    let ls = i.ledgers.items in
+    let xs = i.actors.items in
+    let n = c.in-Planned.planner in
+    let known : c.args.p < i.deal.graph.n = rw (← c.self.view_is) at c.requires.party in
+    let place =
+    plan_placed i.deal i.conforming i.seeds i.roles (asked_in i) ls xs c.args.p c.index_mut.result.now n c.self.invariant.actors known c.in-Planned.is
+    c.index_mut.ensures.value in
+    let script =
+    scripted (slice_index_or i.roles c.args.p kinds.Manual) place.is.1
+    (not_asking (cast_in i) c.args.p (rw (← c.self.view_is) at c.requires.deviates) (rw (← c.self.view_is) at c.requires.alone)) in
+    let told =
+    subst (λ ss. IfOk c.follow-done.result (λ r. r ≡ told_to sw i.deal c.args.p (next_call i.deal ss n.known n.moves) (histories ls))) c.as_slice.ensures
+    c.follow-done.ensures.told in
+    rw (← c.self.view_is)
+    (if_told c.follow-done.result (λ t e. e ∙ followed_told i.deal i.conforming i.seeds i.roles (asked_in i) ls xs sw c.args.p n place script) told)
+
+pub follow-done-requires-clause-room : goal.follow-done-requires-clause-room
+follow-done-requires-clause-room c = c.self.invariant.room (rw (← c.self.view_is) at c.requires.goes_on)

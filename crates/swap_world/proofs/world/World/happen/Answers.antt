@@ -1,16 +1,47 @@
-use Rattle.std.proofs.Common.{sym, subst}
+use Rattle.std.proofs.Common.{sym, subst, OnOk, OnErr, IfOk, ◌≡◌, ◌∙◌}
 use Rattle.deviator_script.specs.declared.event.Event.{Event}
-use Rattle.deviator_script.specs.declared.event.Event.TheVariants.{Call as Made}
-use Rattle.std.specs.Result.{OnErr}
-use Rattle.swap_world.specs.Gone.{IsCut}
-use Rattle.swap_world.specs.Value.{cast_at}
-use Rattle.swap_world.proofs.Gone.{cut, quiet_call}
+use Rattle.deviator_script.specs.declared.event.Event.TheVariants.{Tick, Look, Call as Made}
+use Rattle.swap_run.specs.Asked.{Answers}
+use Rattle.swap_world.specs.Gone.{HasGone, IsCutBy}
+use Rattle.swap_world.specs.On.{swept_in, told_in}
+use Rattle.swap_world.specs.Value.{cast_at, cast_for, Continues}
+use Rattle.swap_world.proofs.On.{if_told}
+use Rattle.swap_world.proofs.Gone.{cut, cut_to, went, went_to, unmoved, quiet_tick, quiet_look, quiet_call, stepping}
+use Rattle.swap_world.proofs.Ways.{if_err}
 use Rattle.swap_world.proofs.world.World.happen.Goals as goal
+
+pub returns-in-Call-clause-ok : goal.returns-in-Call-clause-ok
+returns-in-Call-clause-ok g c =
+    let w = c.args.self.now in
+    let sw = swept_in c.args.swept.now in
+    let gives = g.K.Strategies.gives c.args.kit.now in
+    subst (λ (e : Event). OnOk c.make.result (HasGone gives (stepping sw e) w c.make.new.self)) (sym c.in-Call.is)
+    (went c.make.result gives (stepping sw (Made c.in-Call.sender c.in-Call.mv)) w c.make.new.self
+    (quiet_call sw (cast_at w) w.state c.in-Call.sender c.in-Call.mv) c.make.ensures.ok)
+
+pub returns-in-Call-clause-told : goal.returns-in-Call-clause-told
+returns-in-Call-clause-told g c =
+    let w = c.args.self.now in
+    let sw = swept_in c.args.swept.now in
+    subst (λ (e : Event). IfOk c.make.result (λ r. (a : Answers) → Continues c.make.new.self a → r ≡ told_in sw (cast_for w a) w.state e)) (sym c.in-Call.is)
+    (if_told c.make.result (λ t e a k. e) c.make.ensures.told)
 
 pub returns-in-Call-clause-cut : goal.returns-in-Call-clause-cut
 returns-in-Call-clause-cut g c =
     let w = c.args.self.now in
+    let sw = swept_in c.args.swept.now in
     let gives = g.K.Strategies.gives c.args.kit.now in
-    subst (λ (e : Event). OnErr c.make.result (IsCut gives e w c.make.new.self)) (sym c.in-Call.is)
-    (cut c.make.result gives w c.make.new.self (Made c.in-Call.sender c.in-Call.mv) (quiet_call (cast_at w) w.state c.in-Call.sender c.in-Call.mv)
+    subst (λ (e : Event). OnErr c.make.result (IsCutBy gives (stepping sw e) w c.make.new.self)) (sym c.in-Call.is)
+    (cut c.make.result gives (stepping sw (Made c.in-Call.sender c.in-Call.mv)) w c.make.new.self
+    (quiet_call sw (cast_at w) w.state c.in-Call.sender c.in-Call.mv)
     c.make.ensures.cast c.make.ensures.asked c.make.ensures.answers c.make.ensures.book)
+
+pub returns-in_err-tick-in-Tick-clause-cut : goal.returns-in_err-tick-in-Tick-clause-cut
+returns-in_err-tick-in-Tick-clause-cut g c =
+    let w = c.args.self.now in
+    let sw = swept_in c.args.swept.now in
+    let gives = g.K.Strategies.gives c.args.kit.now in
+    let e = c.in_err-tick-in-Tick.ensures in
+    if_err _ (subst (λ (x : Event). IsCutBy gives (stepping sw x) w c.tick.new.self) (sym c.in-Tick.is)
+    (cut_to gives (stepping sw (Tick c.in-Tick.arc c.in-Tick.k)) w c.tick.new.self (quiet_tick sw (cast_at w) w.state c.in-Tick.arc c.in-Tick.k)
+    e.cast e.asked e.answers e.book))

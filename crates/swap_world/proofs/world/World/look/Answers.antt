@@ -56,13 +56,14 @@ invariant_of-self-2 c =
           (on_ok c.learn.result (know m new ls c.args.arc l k.arc below c.index.ensures) c.learn.ensures.ok) c.learn.ensures.err) place.is);
       askers = c.self.invariant.askers;
       told = c.self.invariant.told;
-      good = λ g. good_on c.learn.result (cast_in i) (state_in i) (state i.deal (asked_in i) (set xs c.args.p (Conforming new)) (histories ls))
+      good = λ g. good_on c.learn.result (λ a. false) (cast_in i) (state_in i) (state i.deal (asked_in i) (set xs c.args.p (Conforming new)) (histories ls))
           (Look c.args.p c.args.arc)
           (on_ok c.learn.result (λ e. looked i.deal i.conforming i.seeds i.roles (asked_in i) ls xs c.args.p c.args.arc m new place
           (know m new ls c.args.arc l k.arc below c.index.ensures e)) c.learn.ensures.ok)
           (on_err c.learn.result (λ e. same_actor i.deal i.conforming i.seeds i.roles (asked_in i) ls xs c.args.p (Conforming m) (Conforming new) (histories ls)
           place.here (ap (λ x. Conforming x) e)) c.learn.ensures.err)
           c.self.invariant.ready can (c.self.invariant.good g);
+      room = c.self.invariant.room;
       kept = c.self.invariant.kept;
     }
 

@@ -3,7 +3,7 @@ use Rattle.std.proofs.lemmas.Result.{err_from_is_err_and}
 use Rattle.swap_run.proofs.Good.{good_is_kept}
 use Rattle.swap_laws.proofs.Accepted.{accepted_is_well_sized}
 use Rattle.swap_world.proofs.Team.{world_of_new, role_each}
-use Rattle.swap_world.proofs.Begun.{refused, world_is, ready, actors, ledgers, good}
+use Rattle.swap_world.proofs.Begun.{refused, world_is, ready, actors, ledgers, good, room}
 use Rattle.swap_world.proofs.world.World.new.Goals as goal
 
 pub actors_of-requires-clause-sized : goal.actors_of-requires-clause-sized
@@ -43,6 +43,8 @@ invariant_of-result c =
       good =
           λ g. rw c.new-2.ensures (good job d c.new.result c.in_ok-copy.field-0 c.in_ok-copy-2.field-0 ls ys c.in_ok-copy_deal.ensures ec
           c.in_ok-copy.ensures er c.in_ok-ledgers_of.ensures c.in_ok-actors.ensures c.requires.seeds c.requires.roles c.requires.accepted);
+      room = λ on. room job d c.new.result c.in_ok-copy.field-0 c.in_ok-copy-2.field-0 ls ys c.in_ok-copy_deal.ensures ec c.in_ok-copy.ensures er
+          c.in_ok-ledgers_of.ensures c.in_ok-actors.ensures c.requires.seeds c.requires.roles;
       kept =
           good_is_kept _ _ (ready job d c.new.result c.in_ok-copy.field-0 c.in_ok-copy-2.field-0 ls ys c.in_ok-copy_deal.ensures ec c.in_ok-copy.ensures er
           c.in_ok-ledgers_of.ensures c.in_ok-actors.ensures c.requires.seeds c.requires.roles c.requires.accepted)

@@ -1,17 +1,21 @@
-use Rattle.std.proofs.Common.{refl, inl}
-use Rattle.swap_world.proofs.Gone.{nothing_asked}
-use Rattle.swap_world.proofs.Worlds.{kept_by}
+use Rattle.std.proofs.Common.{[]}
+use Rattle.swap_run.specs.Run.{step}
+use Rattle.swap_run.proofs.Swept.{none_swept}
+use Rattle.swap_world.specs.On.{swept_in}
+use Rattle.swap_world.specs.Value.{cast_for}
+use Rattle.swap_world.proofs.Gone.{cut_as, gone_as, stepping}
 use Rattle.swap_world.proofs.world.World.step.Goals as goal
 
-pub returns-then-self-clause-cut : goal.returns-then-self-clause-cut
-returns-then-self-clause-cut g c =
+pub returns-in-Ok-clause-ok : goal.returns-in-Ok-clause-ok
+returns-in-Ok-clause-ok g c =
     let w = c.args.self.now in
-    record { cast = refl; asked = nothing_asked (g.K.Strategies.gives c.args.kit.now) w w refl refl; book = inl refl }
+    let e = c.args.event.now in
+    gone_as (g.K.Strategies.gives c.args.kit.now) (stepping (swept_in []) e) (λ x s. step x s e) w c.step_on.new.self
+    (λ a. (none_swept (cast_for w a) w.state).0 e) c.in-Ok.ensures.ok
 
-pub returns-then-self-clause-kept : goal.returns-then-self-clause-kept
-returns-then-self-clause-kept g c = rw (← c.self.view_is) c.self.invariant.kept
-
-pub returns-clause-kept : goal.returns-clause-kept
-returns-clause-kept g c =
-    kept_by c.take.result (g.K.Strategies.gives c.args.kit.now) c.args.self.now c.take.new.self c.args.event.now c.take.ensures.ok c.take.ensures.cut
-    (rw (← c.self.view_is) c.self.invariant.ready) c.requires.event (rw (← c.self.view_is) (c.self.invariant.good c.if-self.false))
+pub returns-in-Err-clause-cut : goal.returns-in-Err-clause-cut
+returns-in-Err-clause-cut g c =
+    let w = c.args.self.now in
+    let e = c.args.event.now in
+    cut_as (g.K.Strategies.gives c.args.kit.now) (stepping (swept_in []) e) (λ x s. step x s e) w c.step_on.new.self
+    (λ a. (none_swept (cast_for w a) w.state).0 e) c.in-Err.ensures.cut

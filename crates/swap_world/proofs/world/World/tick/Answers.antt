@@ -1,44 +1,49 @@
-use Rattle.std.proofs.Common.{◌<◌, set, sym, ap, subst, inl}
+use Rattle.std.proofs.Common.{false, ◌<◌, set, sym, ap, subst, inr}
+use Rattle.ledger_core.specs.Book.{Histories}
 use Rattle.deviator_script.specs.declared.event.Event.TheVariants.{Tick}
-use Rattle.swap_run.specs.Run.{after_tick}
-use Rattle.swap_world.specs.Acting.{histories}
+use Rattle.swap_run.specs.Run.{State, after_tick}
+use Rattle.swap_run.specs.Laws.{IsGood, IsKept}
+use Rattle.swap_run.proofs.Good.{good_is_kept, steps_are_good}
 use Rattle.swap_world.specs.Inside.{asked_in, cast_in, state_in}
-use Rattle.swap_world.proofs.Ledgers.{on_ok, on_err, book_ok, book_err, moved, ledger_set}
+use Rattle.swap_world.proofs.Ledgers.{book_ok, moved, ledger_set}
+use Rattle.swap_world.proofs.Rooms.{room_on, room_unless}
 use Rattle.swap_world.proofs.States.{state}
-use Rattle.swap_world.proofs.Worlds.{world, good_on, kept_on}
+use Rattle.swap_world.proofs.Ways.{if_ok, if_err}
+use Rattle.swap_world.proofs.Worlds.{acted_on}
 use Rattle.swap_world.proofs.world.World.tick.Goals as goal
+
+pub tick-done-requires-clause-room : goal.tick-done-requires-clause-room
+tick-done-requires-clause-room c =
+    let can = rw (← c.self.view_is) at c.requires.event in
+    let below = subst (λ n. c.args.arc < n) (sym c.self.invariant.ledgers.one_each) can.arc in
+    c.self.invariant.room (rw (← c.self.view_is) at c.requires.goes_on) c.args.arc c.index_mut-ledger.result.now below c.index_mut-ledger.ensures.value
 
 pub invariant_of-self : goal.invariant_of-self
 invariant_of-self c =
     let i = c.self.inside in
     let ls = i.ledgers.items in
     let l = c.index_mut-ledger.result.now in
+    let new = c.tick-done.new.ledger in
     let xs = i.actors.items in
     let can = rw (← c.self.view_is) at c.requires.event in
     let below = subst (λ n. c.args.arc < n) (sym c.self.invariant.ledgers.one_each) can.arc in
+    let to =
+    ap (λ (b : Histories). state i.deal (asked_in i) xs b)
+    (book_ok ls c.args.arc l new (after_tick c.args.k) below c.index_mut-ledger.ensures.value c.tick-done.ensures.ticked) in
+    let goes_on = rw (← c.self.view_is) at c.requires.goes_on in
+    let good = steps_are_good (cast_in i) (state_in i) (Tick c.args.arc c.args.k) c.self.invariant.ready can (c.self.invariant.good goes_on) in
     record {
       ready = c.self.invariant.ready;
-      ledgers = ledger_set i.deal ls c.args.arc c.tick.new.ledger c.self.invariant.ledgers below
-          (moved i.deal c.args.arc l c.tick.new.ledger (c.self.invariant.ledgers.each c.args.arc l below c.index_mut-ledger.ensures.value)
-          c.tick.ensures.deal c.tick.ensures.arc c.tick.ensures.legal);
+      ledgers = ledger_set i.deal ls c.args.arc new c.self.invariant.ledgers below
+          (moved i.deal c.args.arc l new (c.self.invariant.ledgers.each c.args.arc l below c.index_mut-ledger.ensures.value)
+          c.tick-done.ensures.deal c.tick-done.ensures.arc c.tick-done.ensures.legal);
       actors = c.self.invariant.actors;
       askers = c.self.invariant.askers;
       told = c.self.invariant.told;
-      good =
-          λ goes_on. good_on c.tick.result (cast_in i) (state_in i) (state i.deal (asked_in i) xs (histories (set ls c.args.arc c.tick.new.ledger)))
-          (Tick c.args.arc c.args.k)
-          (on_ok c.tick.result (λ e. ap (λ b. state i.deal (asked_in i) xs b)
-          (book_ok ls c.args.arc l c.tick.new.ledger (after_tick c.args.k) below c.index_mut-ledger.ensures.value e)) c.tick.ensures.ok)
-          (on_err c.tick.result (λ e. ap (λ b. state i.deal (asked_in i) xs b)
-          (book_err ls c.args.arc l c.tick.new.ledger c.index_mut-ledger.ensures.value e)) c.tick.ensures.err)
-          c.self.invariant.ready can (c.self.invariant.good goes_on);
-      kept =
-          kept_on c.tick.result (cast_in i) (state_in i) (state i.deal (asked_in i) xs (histories (set ls c.args.arc c.tick.new.ledger)))
-          (Tick c.args.arc c.args.k)
-          (on_ok c.tick.result (λ e. ap (λ b. state i.deal (asked_in i) xs b)
-          (book_ok ls c.args.arc l c.tick.new.ledger (after_tick c.args.k) below c.index_mut-ledger.ensures.value e)) c.tick.ensures.ok)
-          (on_err c.tick.result (λ e. inl (book_err ls c.args.arc l c.tick.new.ledger c.index_mut-ledger.ensures.value e)) c.tick.ensures.err)
-          c.self.invariant.ready can (c.self.invariant.good (rw (← c.self.view_is) at c.requires.goes_on));
+      good = λ on. subst (IsGood (cast_in i)) (sym to) good;
+      room = λ on. room_unless c.tick-done.result c.is_err-self-inside.result (set ls c.args.arc new) c.is_err-self-inside.ensures.value on
+          (room_on c.tick-done.result ls c.args.arc new (c.self.invariant.room goes_on) c.tick-done.ensures.room);
+      kept = subst (λ (t : State). IsKept (cast_in i) t.book) (sym to) (good_is_kept (cast_in i) _ c.self.invariant.ready good);
     }
 
 pub returns-clause-ok : goal.returns-clause-ok
@@ -46,17 +51,27 @@ returns-clause-ok c =
     let i = c.self.inside in
     let ls = i.ledgers.items in
     let l = c.index_mut-ledger.result.now in
+    let new = c.tick-done.new.ledger in
     let xs = i.actors.items in
     let can = rw (← c.self.view_is) at c.requires.event in
     let below = subst (λ n. c.args.arc < n) (sym c.self.invariant.ledgers.one_each) can.arc in
+    let to =
+    ap (λ (b : Histories). state i.deal (asked_in i) xs b)
+    (book_ok ls c.args.arc l new (after_tick c.args.k) below c.index_mut-ledger.ensures.value c.tick-done.ensures.ticked) in
     rw (← c.self.view_is)
-    (on_ok c.tick.result (λ e. ap (λ b. world i.deal i.conforming i.seeds i.roles i.answers.items i.stopped (state i.deal (asked_in i) xs b))
-    (book_ok ls c.args.arc l c.tick.new.ledger (after_tick c.args.k) below c.index_mut-ledger.ensures.value e)) c.tick.ensures.ok)
+    (acted_on c.tick-done.result i.deal i.conforming i.seeds i.roles i.answers.items i.stopped c.is_err-self-inside.result _ _
+    c.is_err-self-inside.ensures.value (rw (← c.self.view_is) at c.requires.goes_on) (if_ok c.tick-done.result to))
 
-pub returns-clause-err : goal.returns-clause-err
-returns-clause-err c =
+pub returns-clause-book : goal.returns-clause-book
+returns-clause-book c =
     let i = c.self.inside in
+    let ls = i.ledgers.items in
+    let l = c.index_mut-ledger.result.now in
+    let new = c.tick-done.new.ledger in
     let xs = i.actors.items in
-    rw (← c.self.view_is)
-    (on_err c.tick.result (λ e. ap (λ b. world i.deal i.conforming i.seeds i.roles i.answers.items i.stopped (state i.deal (asked_in i) xs b))
-    (book_err i.ledgers.items c.args.arc c.index_mut-ledger.result.now c.tick.new.ledger c.index_mut-ledger.ensures.value e)) c.tick.ensures.err)
+    let can = rw (← c.self.view_is) at c.requires.event in
+    let below = subst (λ n. c.args.arc < n) (sym c.self.invariant.ledgers.one_each) can.arc in
+    let to =
+    ap (λ (b : Histories). state i.deal (asked_in i) xs b)
+    (book_ok ls c.args.arc l new (after_tick c.args.k) below c.index_mut-ledger.ensures.value c.tick-done.ensures.ticked) in
+    rw (← c.self.view_is) (if_err c.tick-done.result (inr (ap (λ (t : State). t.book) to)))

@@ -1,4 +1,4 @@
-use Rattle.std.proofs.Common.{◌≡◌, ◌<◌, set, sym, ap, ◌∙◌, subst}
+use Rattle.std.proofs.Common.{false, ◌≡◌, ◌<◌, set, sym, ap, ◌∙◌, subst}
 use Rattle.deviator_script.specs.declared.event.Event.TheVariants.{Look}
 use Rattle.swap_run.specs.Run.{plan_up_to}
 use Rattle.swap_world.specs.Acting.{histories}
@@ -54,9 +54,10 @@ invariant_of-self-2 c =
       actors = actor_set i.deal i.conforming i.seeds i.roles xs c.args.p (Planned new) c.self.invariant.actors place.below place.is;
       askers = c.self.invariant.askers;
       told = c.self.invariant.told;
-      good = λ g. good_on c.watch.result (cast_in i) (state_in i) (state i.deal (asked_in i) (set xs c.args.p (Planned new)) (histories ls))
+      good = λ g. good_on c.watch.result (λ a. false) (cast_in i) (state_in i) (state i.deal (asked_in i) (set xs c.args.p (Planned new)) (histories ls))
           (Look c.args.p c.args.arc)
           saw same c.self.invariant.ready can (c.self.invariant.good g);
+      room = c.self.invariant.room;
       kept = c.self.invariant.kept;
     }
 

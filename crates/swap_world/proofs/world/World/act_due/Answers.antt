@@ -3,15 +3,19 @@ use Rattle.deviator_script.specs.declared.event.Event.TheVariants.{Act}
 use Rattle.deviator_script.specs.declared.job.Role.TheVariants as kinds
 use Rattle.swap_world.specs.Acting.{histories}
 use Rattle.swap_world.specs.Inside.{asked_in, cast_in, state_in, AreLedgersOf}
+use Rattle.swap_world.specs.On.{swept_in}
 use Rattle.swap_world.specs.declared.actor.Actor.TheVariants.{Conforming}
-use Rattle.swap_world.proofs.States.{actor_set, state, acted, acted_book}
+use Rattle.swap_world.proofs.States.{actor_set, state, acted, acted_book, acted_told}
 use Rattle.swap_world.proofs.Ledgers.{on_err, either}
+use Rattle.swap_world.proofs.On.{if_told}
 use Rattle.swap_world.proofs.Worlds.{good_unless, kept_on, acted_on, both, placed, owned, begins, makable}
-use Rattle.swap_world.proofs.world.World.act_if_due.Goals as goal
+use Rattle.swap_world.proofs.Rooms.{room_unless}
+use Rattle.swap_world.proofs.world.World.act_due.Goals as goal
 
 pub act-done-requires-clause-makable : goal.act-done-requires-clause-makable
 act-done-requires-clause-makable c =
     let i = c.self.inside in
+    let sw = swept_in c.args.swept.now in
     let ls = i.ledgers.items in
     let xs = i.actors.items in
     let m = c.in-Conforming.machine in
@@ -25,6 +29,7 @@ act-done-requires-clause-makable c =
 pub act-done-requires-clause-begins : goal.act-done-requires-clause-begins
 act-done-requires-clause-begins c =
     let i = c.self.inside in
+    let sw = swept_in c.args.swept.now in
     let ls = i.ledgers.items in
     let xs = i.actors.items in
     let m = c.in-Conforming.machine in
@@ -38,6 +43,7 @@ act-done-requires-clause-begins c =
 pub invariant_of-self : goal.invariant_of-self
 invariant_of-self c =
     let i = c.self.inside in
+    let sw = swept_in c.args.swept.now in
     let ls = i.ledgers.items in
     let xs = i.actors.items in
     let m = c.in-Conforming.machine in
@@ -57,25 +63,29 @@ invariant_of-self c =
       askers = c.self.invariant.askers;
       told = c.self.invariant.told;
       good =
-          λ g. good_unless c.act-done.result c.is_err-self-inside.result (cast_in i) (state_in i)
+          λ g. good_unless c.act-done.result c.is_err-self-inside.result sw (cast_in i) (state_in i)
           (state i.deal (asked_in i) (set xs c.args.p (Conforming new)) b) (Act c.args.p) c.is_err-self-inside.ensures.value g
           (both c.act-done.result
-          (acted i.deal i.conforming i.seeds i.roles (asked_in i) ls xs c.args.p m c.act-done.new.machine (histories c.act-done.new.ledgers.items)
+          (acted i.deal i.conforming i.seeds i.roles (asked_in i) ls xs sw c.args.p m c.act-done.new.machine (histories c.act-done.new.ledgers.items)
           place) c.act-done.ensures.ok c.act-done.ensures.knows)
           c.self.invariant.ready known (c.self.invariant.good goes_on);
+      room =
+          λ on. room_unless c.act-done.result c.is_err-self-inside.result c.act-done.new.ledgers.items c.is_err-self-inside.ensures.value on
+          c.act-done.ensures.room;
       kept =
-          kept_on c.act-done.result (cast_in i) (state_in i) (state i.deal (asked_in i) (set xs c.args.p (Conforming new)) b)
+          kept_on c.act-done.result sw (cast_in i) (state_in i) (state i.deal (asked_in i) (set xs c.args.p (Conforming new)) b)
           (Act c.args.p)
-          (both c.act-done.result (acted i.deal i.conforming i.seeds i.roles (asked_in i) ls xs c.args.p m new b place) c.act-done.ensures.ok
+          (both c.act-done.result (acted i.deal i.conforming i.seeds i.roles (asked_in i) ls xs sw c.args.p m new b place) c.act-done.ensures.ok
           c.act-done.ensures.knows)
           (on_err c.act-done.result
-          (either (λ e. e) (λ e. e ∙ acted_book i.deal i.conforming i.seeds i.roles (asked_in i) ls xs c.args.p m place)) c.act-done.ensures.err)
+          (either (λ e. e) (λ e. e ∙ acted_book i.deal i.conforming i.seeds i.roles (asked_in i) ls xs sw c.args.p m place)) c.act-done.ensures.err)
           c.self.invariant.ready known (c.self.invariant.good goes_on);
     }
 
 pub returns-clause-ok : goal.returns-clause-ok
 returns-clause-ok c =
     let i = c.self.inside in
+    let sw = swept_in c.args.swept.now in
     let ls = i.ledgers.items in
     let xs = i.actors.items in
     let m = c.in-Conforming.machine in
@@ -88,5 +98,37 @@ returns-clause-ok c =
     (acted_on c.act-done.result i.deal i.conforming i.seeds i.roles i.answers.items i.stopped c.is_err-self-inside.result _ _
     c.is_err-self-inside.ensures.value goes_on
     (both c.act-done.result
-    (acted i.deal i.conforming i.seeds i.roles (asked_in i) ls xs c.args.p m c.act-done.new.machine (histories c.act-done.new.ledgers.items) place)
+    (acted i.deal i.conforming i.seeds i.roles (asked_in i) ls xs sw c.args.p m c.act-done.new.machine (histories c.act-done.new.ledgers.items) place)
     c.act-done.ensures.ok c.act-done.ensures.knows))
+
+pub returns-clause-told : goal.returns-clause-told
+returns-clause-told c =
+    let i = c.self.inside in
+    let sw = swept_in c.args.swept.now in
+    let ls = i.ledgers.items in
+    let xs = i.actors.items in
+    let m = c.in-Conforming.machine in
+    let known : c.args.p < i.deal.graph.n = rw (← c.self.view_is) at c.requires.party in
+    let place =
+    placed i.deal i.conforming i.seeds i.roles (asked_in i) ls xs c.args.p c.index_mut.result.now m c.self.invariant.actors known c.in-Conforming.is
+    c.index_mut.ensures.value in
+    rw (← c.self.view_is)
+    (if_told c.act-done.result (λ t e. e ∙ acted_told i.deal i.conforming i.seeds i.roles (asked_in i) ls xs sw c.args.p m place) c.act-done.ensures.told)
+
+pub returns-clause-book : goal.returns-clause-book
+returns-clause-book c =
+    let i = c.self.inside in
+    let sw = swept_in c.args.swept.now in
+    let ls = i.ledgers.items in
+    let xs = i.actors.items in
+    let m = c.in-Conforming.machine in
+    let known : c.args.p < i.deal.graph.n = rw (← c.self.view_is) at c.requires.party in
+    let place =
+    placed i.deal i.conforming i.seeds i.roles (asked_in i) ls xs c.args.p c.index_mut.result.now m c.self.invariant.actors known c.in-Conforming.is
+    c.index_mut.ensures.value in
+    rw (← c.self.view_is)
+    (on_err c.act-done.result
+    (either (λ e. e) (λ e. e ∙ acted_book i.deal i.conforming i.seeds i.roles (asked_in i) ls xs sw c.args.p m place)) c.act-done.ensures.err)
+
+pub act-done-requires-clause-room : goal.act-done-requires-clause-room
+act-done-requires-clause-room c = c.self.invariant.room (rw (← c.self.view_is) at c.requires.goes_on)

@@ -1,0 +1,180 @@
+-- Room for a further entry: in new ledgers, in a ledger in the place of another, and after a tick of the ledgers that stand on a chain.
+use Rattle.std.proofs.Common.{◌≡◌, ◌≢◌, ◌⊎◌, inl, inr, Result, Ok, Err, OnOk, ℕ, ◌+◌, ◌<◌, ◌≤◌, Bool, true, false, cond, not, List, [], ◌∷◌, ◌++◌}
+use Rattle.std.proofs.Common.{length, get_or, set, take, fold, replicate, slice_index_or, slice_set, refl, sym, ap, ap₂, ◌∙◌, subst, arith, length-append}
+use Rattle.std.specs.Result.{is_err}
+use Rattle.std.specs.List.{range_with_len, All}
+use Rattle.std.proofs.lemmas.Bool.{false≢true}
+use Rattle.std.proofs.lemmas.List.{length-map, length-set, get_or-set_same, get_or-set_other, get_or_append_left, get_or_at, same_lists}
+use Rattle.std.proofs.lemmas.List.{get_or-map, get_or_default, length-replicate, get_or-replicate}
+use Rattle.std.proofs.lemmas.List.Elements.{All-head, All-tail}
+use Rattle.swap_digraph.specs.declared.deal.Deal.{Deal}
+use Rattle.swap_digraph.specs.Graph.{arcs}
+use Rattle.ledger_core.specs.declared.entry.Entry.{Entry}
+use Rattle.ledger_core.specs.Value.{LedgerState}
+use Rattle.ledger_core.specs.History.{IsLegal}
+use Rattle.ledger_core.specs.Book.{Histories, history}
+use Rattle.deviator_script.specs.Step.{CanTick}
+use Rattle.deviator_script.specs.declared.event.Event.TheVariants.{Tick}
+use Rattle.swap_laws.proofs.Prefixes.{same_or_not}
+use Rattle.swap_run.specs.Run.{Cast, State, after_tick, no_histories, step}
+use Rattle.swap_run.specs.Laws.{IsReadyCast, IsGood}
+use Rattle.swap_run.proofs.Good.{steps_are_good}
+use Rattle.swap_world.specs.Acting.{histories, ticked_where, tick_book}
+use Rattle.swap_world.specs.On.{tick_where, ticked_on}
+use Rattle.swap_world.specs.Inside.{AreLedgersOf, IsLedgerOf, new_ledger, IsNewLedger, AreNewLedgers, HaveRoom}
+use Rattle.swap_world.proofs.Ledgers.{book_ok, book_err, moved, ledger_set}
+use Rattle.swap_world.proofs.Ways.{range_all, range_more, range_whole}
+
+pub on_from : (b : Bool) → not b ≡ false → b ≡ true
+on_from true e = refl
+on_from false e = absurd (false≢true (sym e))
+
+-- A ledger in the place of another.
+
+pub room_set : (ls : List LedgerState) (a : ℕ) (y : LedgerState) → HaveRoom ls → 0 < y.spare → HaveRoom (set ls a y)
+room_set ls a y k r b x l e = at (same_or_not b a)
+  where
+    low : b < length ls
+    low = subst (λ n. b < n) (length-set ls a y) l
+
+    at : (b ≡ a) ⊎ (b ≢ a) → 0 < x.spare
+    at (inl s) =
+        let is : x ≡ y = e ∙ (ap (λ u. get_or (set ls a y) u x) s ∙ get_or-set_same ls a y x (subst (λ u. u < length ls) s low)) in
+        subst (λ (z : LedgerState). 0 < z.spare) (sym is) r
+    at (inr n) = k b x low (e ∙ get_or-set_other ls a b y x n)
+
+-- where memory sufficed
+pub room_on : {A E : Type 0} (r : Result A E) (ls : List LedgerState) (a : ℕ) (y : LedgerState) → HaveRoom ls → OnOk r (0 < y.spare)
+    → OnOk r (HaveRoom (set ls a y))
+room_on (Ok x) ls a y k h = room_set ls a y k h
+room_on (Err e) ls a y k h = tt
+
+pub room_unless : {A E : Type 0} (r : Result A E) (stopped : Bool) (ls : List LedgerState) → stopped ≡ is_err r → stopped ≡ false
+    → OnOk r (HaveRoom ls) → HaveRoom ls
+room_unless (Ok x) stopped ls is on h = h
+room_unless (Err e) stopped ls is on h = absurd (false≢true (sym on ∙ is))
+
+-- New ledgers.
+
+pub none_new : (d : Deal) → AreNewLedgers d 0 []
+none_new d = record { one_each = refl; each = λ a l lt e. absurd (omega arith) }
+
+pub new_more : (d : Deal) (n : ℕ) (ls : List LedgerState) (y : LedgerState) → AreNewLedgers d n ls → IsNewLedger d n y
+    → AreNewLedgers d (n + 1) (ls ++ y ∷ [])
+new_more d n ls y k i = record {
+  one_each = length-append ls (y ∷ []) ∙ ap (λ m. m + 1) k.one_each;
+  each = λ a l lt e. at a l lt e (same_or_not a n);
+}
+  where
+    at : (a : ℕ) (l : LedgerState) → a < length (ls ++ y ∷ []) → l ≡ get_or (ls ++ y ∷ []) a l → (a ≡ n) ⊎ (a ≢ n) → IsNewLedger d a l
+    at a l lt e (inl s) =
+        let is : l ≡ y = e ∙ get_or_at ls y [] l a (k.one_each ∙ sym s) in
+        subst (λ (x : LedgerState). IsNewLedger d a x) (sym is) (subst (λ b. IsNewLedger d b y) (sym s) i)
+    at a l lt e (inr w) =
+        let q : ◌≢◌ {A = ℕ} a n = w in
+        let m : length (ls ++ y ∷ []) ≡ length ls + 1 = length-append ls (y ∷ []) in
+        let o : length ls ≡ n = k.one_each in
+        let low : a < length ls = omega (arith, lt, m, o, q) in
+        k.each a l low (e ∙ get_or_append_left ls (y ∷ []) l a low)
+
+new_is : (d : Deal) (a : ℕ) (l : LedgerState) → IsNewLedger d a l → IsLedgerOf d a l
+new_is d a l k = record { deal = k.deal; arc = k.arc; legal = subst (IsLegal d a) (sym k.history) tt }
+
+pub new_ledgers_of : (d d' : Deal) (ls : List LedgerState) → d' ≡ d → AreNewLedgers d (length d.graph.arcs) ls → AreLedgersOf d' ls
+new_ledgers_of d d' ls e k =
+    subst (λ x. AreLedgersOf x ls) (sym e) (record { one_each = k.one_each; each = λ a l lt is. new_is d a l (k.each a l lt is) })
+
+pub new_room : (d : Deal) (n : ℕ) (ls : List LedgerState) → AreNewLedgers d n ls → HaveRoom ls
+new_room d n ls k a l lt e = (k.each a l lt e).room
+
+-- their histories are empty
+pub new_histories : (d : Deal) (ls : List LedgerState) → AreNewLedgers d (length d.graph.arcs) ls → histories ls ≡ no_histories d
+new_histories d ls k =
+    let many : length (histories ls) ≡ length ls = length-map ls (λ (l : LedgerState). l.history) in
+    let all : length (no_histories d) ≡ length d.graph.arcs = length-replicate (length d.graph.arcs) [] in
+    same_lists (histories ls) (no_histories d) (many ∙ (k.one_each ∙ sym all)) (λ i x lt.
+    let low : i < length ls = subst (λ n. i < n) many lt in
+    let l : LedgerState = get_or ls i (new_ledger d 0) in
+    let here : l ≡ get_or ls i l = get_or_default ls i (new_ledger d 0) l low in
+    get_or-map (λ (l : LedgerState). l.history) ls i (new_ledger d 0) x low
+    ∙ ((k.each i l low here).history ∙ sym (get_or-replicate (length d.graph.arcs) i [] x (subst (λ n. i < n) k.one_each low))))
+
+-- A tick of the ledgers that stand on a chain.
+
+-- The first i ledgers have ticked, where they stand on the chain, and the others are as they were. Where all are ready each has room again.
+pub record AreTicked (d : Deal) (on : List Bool) (k : ℕ) (ready : Bool) (old new : List LedgerState) (i : ℕ) : Type 0 where
+  pub ledgers : AreLedgersOf d new
+  pub one_each : length new ≡ length old
+  pub book : histories new ≡ fold (tick_book on k) (histories old) (take i (range_with_len 0 (length on)))
+  pub room : (a : ℕ) (l : LedgerState) → a < length new → l ≡ get_or new a l → (a < i → ready ≡ true) → 0 < l.spare
+
+one_book : (w : Bool) (k : ℕ) (ls : List LedgerState) (a : ℕ) (l m : LedgerState) → a < length ls → l ≡ get_or ls a l
+    → m.history ≡ ticked_where w k l.history
+    → histories (set ls a m) ≡ cond w (set (histories ls) a (after_tick k (history (histories ls) a))) (histories ls)
+one_book true k ls a l m lt is e = book_ok ls a l m (after_tick k) lt is e
+one_book false k ls a l m lt is e = book_err ls a l m is e
+
+module _ (d : Deal) (on : List Bool) (k : ℕ) (old : List LedgerState) where
+  pub none_ticked : AreLedgersOf d old → HaveRoom old → AreTicked d on k true old old 0
+  none_ticked g h = record { ledgers = g; one_each = refl; book = refl; room = λ a l lt e q. h a l lt e }
+
+  pub one_ticked : (new : List LedgerState) (i : ℕ) (ready has next : Bool) (l m : LedgerState) → AreTicked d on k ready old new i → i < length on
+      → i < length new → l ≡ get_or new i l → m.history ≡ ticked_where (slice_index_or on i false) k l.history → m.deal ≡ l.deal → m.arc ≡ l.arc
+      → IsLegal m.deal m.arc m.history → (has ≡ true → 0 < m.spare)
+      → (next ≡ true → (ready ≡ true) × (has ≡ true)) → AreTicked d on k next old (set new i m) (i + 1)
+  one_ticked new i ready has next l m t below li e h ed ea legal r both = record {
+    ledgers = ledger_set d new i m t.ledgers li (moved d i l m (t.ledgers.each i l li e) ed ea legal);
+    one_each = length-set new i m ∙ t.one_each;
+    book =
+        one_book (slice_index_or on i false) k new i l m li e h
+        ∙ (ap (λ (b : Histories). tick_book on k b i) t.book ∙ sym (range_more (tick_book on k) (histories old) (length on) i below));
+    room = λ a x lt q f. at a x lt q f (same_or_not a i);
+  }
+    where
+      at : (a : ℕ) (x : LedgerState) → a < length (set new i m) → x ≡ get_or (set new i m) a x → (a < i + 1 → next ≡ true)
+          → (a ≡ i) ⊎ (a ≢ i) → 0 < x.spare
+      at a x lt q f (inl s) =
+          let is : x ≡ m = q ∙ (ap (λ u. get_or (set new i m) u x) s ∙ get_or-set_same new i m x li) in
+          let now : a < i + 1 = let z : ◌≡◌ {A = ℕ} a i = s in omega (arith, z) in
+          subst (λ (z : LedgerState). 0 < z.spare) (sym is) (r (both (f now)).1)
+      at a x lt q f (inr n) =
+          t.room a x (subst (λ n. a < n) (length-set new i m) lt) (q ∙ get_or-set_other new i a m x n)
+          (λ less. (both (f (omega (arith, less)))).0)
+
+  pub all_ticked : (new : List LedgerState) (i : ℕ) (ready : Bool) → AreTicked d on k ready old new i → length on ≤ i
+      → histories new ≡ fold (tick_book on k) (histories old) (range_with_len 0 (length on))
+  all_ticked new i ready t l = t.book ∙ range_whole (tick_book on k) (histories old) (length on) i l
+
+  pub all_room : (new : List LedgerState) (i : ℕ) (ready : Bool) → AreTicked d on k ready old new i → ready ≡ true → HaveRoom new
+  all_room new i ready t e a l lt is = t.room a l lt is (λ q. e)
+
+-- The state after it.
+
+module _ (on : List Bool) (k : ℕ) (c : Cast) where
+  one_state : (w : Bool) (s : State) (a : ℕ)
+      → cond w (step c s (Tick a k)) s ≡ record s { book = cond w (slice_set s.book a (after_tick k (history s.book a))) s.book }
+  one_state true s a = refl
+  one_state false s a = refl
+
+  -- ticks change the histories alone
+  pub ticked_state : (s : State) (xs : List ℕ) → fold (tick_where on k c) s xs ≡ record s { book = fold (tick_book on k) s.book xs }
+  ticked_state s [] = refl
+  ticked_state s (a ∷ xs) =
+      ap (λ (t : State). fold (tick_where on k c) t xs) (one_state (slice_index_or on a false) s a)
+      ∙ ticked_state (record s { book = tick_book on k s.book a }) xs
+
+  one_good : (w : Bool) (s : State) (a : ℕ) → IsReadyCast c → CanTick c.deal a k → IsGood c s → IsGood c (cond w (step c s (Tick a k)) s)
+  one_good true s a ready can g = steps_are_good c s (Tick a k) ready can g
+  one_good false s a ready can g = g
+
+  good_ticks : (s : State) (xs : List ℕ) → IsReadyCast c → All (λ a. CanTick c.deal a k) xs → IsGood c s → IsGood c (fold (tick_where on k c) s xs)
+  good_ticks s [] ready can g = g
+  good_ticks s (a ∷ xs) ready can g =
+      good_ticks (tick_where on k c s a) xs ready (All-tail (λ a. CanTick c.deal a k) a xs can)
+      (one_good (slice_index_or on a false) s a ready (All-head (λ a. CanTick c.deal a k) a xs can) g)
+
+  -- and leave a good state good
+  pub ticked_good : (s : State) → 1 ≤ k → k ≤ 1000000 → IsReadyCast c → IsGood c s → IsGood c (ticked_on on k c s)
+  ticked_good s some few ready g =
+      good_ticks s (arcs c.deal.graph) ready
+      (range_all (λ a. CanTick c.deal a k) (length c.deal.graph.arcs) (λ a lt. record { arc = lt; some = some; few = few })) g

@@ -1,0 +1,33 @@
+use Rattle.std.proofs.Common.{◌≡◌, arith, subst}
+use Rattle.swap_run.specs.Fair.{repeat, ticks}
+use Rattle.swap_world.specs.Gone.{HasGone}
+use Rattle.swap_world.specs.Value.{cast_for}
+use Rattle.swap_world.proofs.Ways.{if_err}
+use Rattle.swap_world.proofs.Gone.{begun, held_gone}
+use Rattle.swap_world.proofs.Loops.{repeat_on, repeat_stops}
+use Rattle.swap_world.proofs.Finishes.{ticks_lead}
+use Rattle.swap_world.proofs.fair.pass.Goals as goal
+
+pub rounds-init : goal.rounds-init
+rounds-init g c = begun (g.K.Strategies.gives c.args.kit.now) c.args.world.now
+
+pub ticks-requires : goal.ticks-requires
+ticks-requires g c = record {
+  kit = held_gone (g.K.Strategies.gives c.args.kit.now) (λ x s. repeat c.rounds.counter (ticks x) s) c.args.world.now c.rounds.world _ c.rounds.invariant
+      c.requires.kit;
+}
+
+pub rounds-preserved : goal.rounds-preserved
+rounds-preserved g c =
+    repeat_on (g.K.Strategies.gives c.args.kit.now) ticks c.args.world.now c.rounds.world c.ticks.new.world c.args.count c.rounds.counter
+    c.rounds.invariant c.in_ok-ticks.ensures.ok
+
+pub returns-in_err-ticks-clause-err : goal.returns-in_err-ticks-clause-err
+returns-in_err-ticks-clause-err g c =
+    if_err _ (repeat_stops (g.K.Strategies.gives c.args.kit.now) ticks c.args.world.now c.rounds.world c.ticks.new.world c.args.count c.rounds.counter
+    c.rounds.invariant c.rounds-test.true (λ a. ticks_lead (cast_for c.args.world.now a)) c.in_err-ticks.ensures.err)
+
+pub returns-clause-ok : goal.returns-clause-ok
+returns-clause-ok g c =
+    let e : c.rounds.counter ≡ c.args.count = omega (arith, c.rounds-test.false, c.rounds.auto) in
+    subst (λ n. HasGone (g.K.Strategies.gives c.args.kit.now) (λ x s. repeat n (ticks x) s) c.args.world.now c.rounds.world) e c.rounds.invariant

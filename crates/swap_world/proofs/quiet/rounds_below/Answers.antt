@@ -1,0 +1,11 @@
+use Rattle.std.proofs.Common.{◌≡◌, ◌<◌, ◌≤◌, ◌+◌, List, arith, sym, ap, ◌∙◌, subst}
+use Rattle.ledger_core.specs.declared.entry.Entry.{Entry}
+use Rattle.ledger_core.specs.History.{height}
+use Rattle.swap_world.proofs.Ledgers.{history_at}
+use Rattle.swap_world.proofs.quiet.rounds_below.Goals as goal
+
+pub returns-then-is_empty-clause-some : goal.returns-then-is_empty-clause-some
+returns-then-is_empty-clause-some c = λ l. absurd (omega (arith, l))
+
+pub returns-then-is_empty-clause-low : goal.returns-then-is_empty-clause-low
+returns-then-is_empty-clause-low c = λ l. absurd (omega (arith, l))

@@ -1,0 +1,45 @@
+-- Where slots are swept: what the party of a call is told, what want of memory leaves of a world, and the tick of a chain.
+use Rattle.std.specs.Prelude.{ℕ, Bool, false, List, fold, slice_index_or, Option, Some, None, if◌then◌else◌}
+use Rattle.swap_digraph.specs.declared.deal.Deal.{Deal}
+use Rattle.swap_digraph.specs.Graph.{arcs}
+use Rattle.ledger_core.specs.declared.entry.Call.{Call}
+use Rattle.ledger_core.specs.declared.entry.Entry.{Entry}
+use Rattle.ledger_core.specs.History.{reply_to}
+use Rattle.ledger_core.specs.Book.{history}
+use Rattle.deviator_script.specs.declared.event.Event.{Event}
+use Rattle.deviator_script.specs.declared.event.Event.TheVariants.{Tick}
+use Rattle.swap_run.specs.Run.{Cast, State, step}
+use Rattle.swap_run.specs.Called.{Called, called, is_barred, step_on}
+use Rattle.swap_world.specs.Value.{WorldState}
+use Rattle.swap_world.specs.Gone.{Gives, IsCutBy}
+use Rattle.swap_world.specs.declared.told.Told.{Told}
+use Rattle.swap_world.specs.declared.told.Told.TheVariants.{Nothing, Passed, Replied}
+
+-- whether the slot of arc a is swept, by a list that is empty where none is
+abbrev pub swept_in : List Bool → ℕ → Bool
+swept_in swept a = slice_index_or swept a false
+
+-- what party p is told of its call on arc a, over that history
+abbrev pub told_by : (swept : Bool) → Deal → (a p : ℕ) → Call → List Entry → Told
+told_by swept d a p c h = if is_barred swept h c then Passed else Replied (reply_to d a h p c)
+
+-- the same of a call, if there is one
+abbrev pub told_of_call : (ℕ → Bool) → Cast → State → Option Called → Told
+told_of_call swept c s None = Nothing
+told_of_call swept c s (Some x) = told_by (swept x.arc) c.deal x.arc x.sender x.call (history s.book x.arc)
+
+-- what a party is told of the call that an event makes, if any
+abbrev pub told_in : (ℕ → Bool) → Cast → State → Event → Told
+told_in swept c s e = told_of_call swept c s (called c s e)
+
+-- Memory ran out in an event: the histories are those before it or after it.
+abbrev pub IsCutOn : Gives → (swept : ℕ → Bool) → Event → (old new : WorldState) → Type 0
+IsCutOn gives swept event old new = IsCutBy gives (λ c s. step_on swept c s event) old new
+
+-- the ledger of arc a ticks by k, where it stands on the chain
+abbrev pub tick_where : List Bool → ℕ → Cast → State → ℕ → State
+tick_where on k c s a = if slice_index_or on a false then step c s (Tick a k) else s
+
+-- each ledger that stands on the chain ticks, in order
+abbrev pub ticked_on : List Bool → ℕ → Cast → State → State
+ticked_on on k c s = fold (tick_where on k c) s (arcs c.deal.graph)

@@ -1,0 +1,49 @@
+-- When ticks give nobody anything to do.
+use Rattle.std.specs.Prelude.{◌≡◌, ◌<◌, ◌≤◌, ◌+◌, ℕ, true, List, length, drop, Some}
+use Rattle.std.specs.List.{All}
+use Rattle.swap_digraph.specs.declared.deal.Deal.{Deal}
+use Rattle.ledger_core.specs.declared.entry.Entry.{Entry}
+use Rattle.ledger_core.specs.History.{height}
+use Rattle.ledger_core.specs.Book.{Histories, history}
+use Rattle.swap_laws.specs.Machine.{Begins}
+use Rattle.swap_laws.specs.Rest.{are_ticks}
+use Rattle.party_machine.specs.Machine.{MachineState}
+use Rattle.party_machine.specs.Rest.{IsAtRest}
+use Rattle.swap_world.specs.declared.actor.Actor.{Actor}
+use Rattle.swap_world.specs.declared.actor.Actor.TheVariants.{Conforming, Planned, Manual}
+
+-- of the entries after those that were seen all are ticks, and n further ticks by 1 don't bring the ledger above that height
+pub record IsLow (seen until n : ℕ) (h : List Entry) : Type 0 where
+  pub ticks : are_ticks (drop seen h) ≡ true
+  pub low : height h + n ≤ until
+
+-- the same of each of these arcs, of which so much is known
+abbrev pub AreLow : (known : Histories) → (until n : ℕ) → Histories → List ℕ → Type 0
+AreLow known until n b near = All (λ a. IsLow (length (history known a)) until n (history b a)) near
+
+-- The machine rests, and no tick of the next n rounds ends its rest.
+pub record IsCalm (n : ℕ) (b : Histories) (near : List ℕ) (m : MachineState) : Type 0 where
+  pub until : ℕ
+  pub rests : IsAtRest (Some until) m
+  pub low : AreLow m.known until n b near
+
+-- what acts for a party makes no call in the next n rounds
+abbrev pub IsCalmActor : ℕ → Histories → List ℕ → Actor → Type 0
+IsCalmActor n b near (Conforming m) = IsCalm n b near m
+IsCalmActor n b near (Planned x) = ⊥
+IsCalmActor n b near Manual = Unit {0}
+
+-- each of the arcs has its ledger and its index
+pub record HaveArcs (ledgers : ℕ) (d : Deal) (near : List ℕ) : Type 0 where
+  pub one_each : ledgers ≡ length d.graph.arcs
+  pub each : All (λ a. a < length d.graph.arcs) near
+
+-- what the machine knows is of these histories
+abbrev pub HasSeen : MachineState → Histories → Type 0
+HasSeen m b = (a : ℕ) → Begins (history m.known a) (history b a)
+
+-- what is asked of an actor before its rest is
+abbrev pub IsReadyActor : ℕ → Histories → List ℕ → Actor → Type 0
+IsReadyActor ledgers b near (Conforming m) = HaveArcs ledgers m.deal near × HasSeen m b
+IsReadyActor ledgers b near (Planned x) = Unit {0}
+IsReadyActor ledgers b near Manual = Unit {0}

@@ -1,0 +1,118 @@
+//! For how many rounds nobody has anything to do.
+
+ghost use Rattle.std.specs.Prelude.{◌≡◌, ◌<◌, ◌≤◌, ◌+◌, ℕ, length, slice_index_or};
+ghost use Rattle.ledger_core.specs.History.{height};
+ghost use Rattle.ledger_core.specs.Book.{history};
+ghost use Rattle.swap_run.specs.Fair.{adjacent};
+ghost use Rattle.swap_world.specs.Acting.{histories};
+ghost use Rattle.swap_world.specs.Near.{all_adjacent};
+ghost use Rattle.swap_world.specs.Quiet.{IsLow, AreLow, IsCalm, IsCalmActor, IsReadyActor, HasSeen, HaveArcs};
+
+use crate::actor::Actor;
+use crate::turn::fresh_ticks;
+use ledger_core::Ledger;
+use party_machine::Machine;
+use swap_base::{ArcId, Listed};
+use swap_digraph::Deal;
+
+/// For how many rounds, of so many, a height stays at most that one.
+fn rounds_up_to(height: u32, until: u64, most: u64) -> u64
+    ensures few { result ≤ most }
+    ensures low { 0 < result → height + result ≤ until }
+{
+    let height = height as u64;
+    if until < height {
+        return 0;
+    }
+    let room = until - height;
+    if most < room { most } else { room }
+}
+
+/// For how many rounds, of so many, a ledger's ticks end the rest of nobody who rests until that height and has seen so many of its entries.
+fn rounds_at(ledger: &Ledger, seen: u32, until: u64, most: u64) -> u64
+    requires { seen ≤ length ledger.now.history }
+    ensures few { result ≤ most }
+    ensures low { 0 < result → IsLow seen until result ledger.now.history }
+{
+    match fresh_ticks(ledger, seen) {
+        None => 0,
+        Some(_) => rounds_up_to(ledger.height(), until, most),
+    }
+}
+
+/// For how many rounds, of so many, ticks end the rest of no machine that looks at these arcs and rests until that height.
+fn rounds_until(ledgers: &[Ledger], machine: &Machine, near: &[ArcId], until: u64, most: u64) -> u64
+    requires arcs { HaveArcs (length ledgers.now) machine.now.deal near.now }
+    requires seen { HasSeen machine.now (histories ledgers.now) }
+    ensures few { result ≤ most }
+    ensures low { 0 < result → AreLow machine.now.known until result (histories ledgers.now) near.now }
+{
+    let mut rounds = most;
+    'arcs: for arc in near {
+        let place = *arc as usize;
+        let seen = machine.known(*arc).count();
+        rounds = rounds_at(&ledgers[place], seen, until, rounds);
+    }
+    rounds
+}
+
+/// For how many rounds, of so many, a machine that looks at these arcs makes no call.
+fn rounds_of(ledgers: &[Ledger], machine: &Machine, near: &[ArcId], most: u64) -> u64
+    requires arcs { HaveArcs (length ledgers.now) machine.now.deal near.now }
+    requires seen { HasSeen machine.now (histories ledgers.now) }
+    ensures few { result ≤ most }
+    ensures calm { 0 < result → IsCalm result (histories ledgers.now) near.now machine.now }
+{
+    match machine.rests_until() {
+        None => 0,
+        Some(until) => rounds_until(ledgers, machine, near, until, most),
+    }
+}
+
+/// For how many rounds, of so many, what acts for a party makes no call.
+fn rounds_for(ledgers: &[Ledger], actor: &Actor, near: &[ArcId], most: u64) -> u64
+    requires { IsReadyActor (length ledgers.now) (histories ledgers.now) near.now actor.now }
+    ensures few { result ≤ most }
+    ensures calm { 0 < result → IsCalmActor result (histories ledgers.now) near.now actor.now }
+{
+    match actor {
+        Actor::Conforming(machine) => rounds_of(ledgers, machine, near, most),
+        Actor::Planned(_) => 0,
+        Actor::Manual => most,
+    }
+}
+
+/// For how many rounds, of so many, nobody makes a call.
+pub(crate) fn rounds(
+    deal: &Deal,
+    ledgers: &[Ledger],
+    actors: &[Actor],
+    near: &[Listed<ArcId>],
+    most: u64,
+) -> u64
+    requires near { near.now ≡ all_adjacent deal.now }
+    requires parties { length actors.now ≡ deal.now.graph.n }
+    requires ready { (v : ℕ) (x : Actor) → v < length actors.now
+        → IsReadyActor (length ledgers.now) (histories ledgers.now) (adjacent deal.now v) (slice_index_or actors.now v x) }
+    ensures few { result ≤ most }
+    ensures calm { 0 < result → (v : ℕ) (x : Actor) → v < length actors.now
+        → IsCalmActor result (histories ledgers.now) (adjacent deal.now v) (slice_index_or actors.now v x) }
+{
+    let mut rounds = most;
+    'parties: for p in 0..actors.len() {
+        rounds = rounds_for(ledgers, &actors[p], near[p].as_slice(), rounds);
+    }
+    rounds
+}
+
+/// For how many rounds, of so many, the first ledger stays at the horizon or below it.
+pub(crate) fn rounds_below(ledgers: &[Ledger], horizon: u64, most: u64) -> u64
+    ensures few { result ≤ most }
+    ensures some { 0 < result → 0 < length ledgers.now }
+    ensures low { 0 < result → height (history (histories ledgers.now) 0) + result ≤ horizon }
+{
+    if ledgers.is_empty() {
+        return 0;
+    }
+    rounds_up_to(ledgers[0].height(), horizon, most)
+}
