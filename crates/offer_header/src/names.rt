@@ -51,8 +51,9 @@ fn are_name_bytes(name: &[u8]) -> bool
     true
 }
 
+/// Whether a party may have the name.
 #[tactic(auto, unfolding(crate::specs::Names::is_name))]
-fn is_name(name: &[u8]) -> bool
+pub fn is_name(name: &[u8]) -> bool
     ensures { result ≡ is_name name.now }
 {
     !name.is_empty() && name.len() <= 16 && are_name_bytes(name)

@@ -6,7 +6,7 @@ use Rattle.refusals.specs.declared.reason.Reason.{Reason}
 use Rattle.refusals.specs.declared.reason.Reason.TheVariants.{NotJson, Missing, WrongKind, UnknownField, BadName, Duplicate, Unknown, OverLimit, WrongHex}
 use Rattle.refusals.specs.declared.reason.Reason.TheVariants.{NotAdjacent, ConformingCall, EventInRace, SelfArc, Parallel, NotStrong, ManyLeaders}
 use Rattle.refusals.specs.declared.reason.Reason.TheVariants.{NotFeedback, BoundTooSmall, StartTooSoon, WrongTimelock, NoSeed, WrongWallet, BadLine, CutShort}
-use Rattle.refusals.specs.declared.reason.Reason.TheVariants.{BadReply, TooManyLeaders}
+use Rattle.refusals.specs.declared.reason.Reason.TheVariants.{BadReply, TooManyLeaders, NoAccount, Overdrawn}
 use Rattle.refusals.specs.Escaped.{escaped}
 
 -- a word and a number
@@ -71,6 +71,9 @@ reason_text names CutShort = codes "CutShort"
 reason_text names (BadReply arc entry stated replayed) = joined (numbered_twice
     (codes "BadReply") arc entry ∷ codes " " ∷ reply_text stated ∷ codes " " ∷ reply_text replayed ∷ [])
 reason_text names (TooManyLeaders group count) = numbered_twice (codes "TooManyLeaders") group count
+reason_text names (NoAccount swap arc) = numbered_twice (codes "NoAccount") swap arc
+reason_text names (Overdrawn chain name have wanted) =
+    joined (lined (codes "Overdrawn") chain name ∷ codes " " ∷ decimal have ∷ codes " " ∷ decimal wanted ∷ [])
 
 -- the line of a refusal, without a line feed
 unfoldable pub line_of : List (List ℕ) → Reason → List ℕ

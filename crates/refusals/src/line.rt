@@ -2,7 +2,7 @@
 
 ghost use Rattle.std.specs.Prelude.{◌≡◌, ◌++◌, ◌∷◌, IfOk, OnOk};
 ghost use Rattle.swap_base.specs.Text.{lines};
-ghost use Rattle.refusals.specs.declared.reason.Reason.TheVariants.{OverLimit, WrongWallet, WrongTimelock, BadReply};
+ghost use Rattle.refusals.specs.declared.reason.Reason.TheVariants.{OverLimit, WrongWallet, WrongTimelock, BadReply, Overdrawn};
 ghost use Rattle.refusals.specs.Line.{numbered, numbered_twice, lined, comma_named, all_named, of_party, of_parties, reason_text, line_of};
 
 use crate::escaped::put_escaped;
@@ -162,6 +162,29 @@ fn put_replies(
     put_reply(out, replayed)
 }
 
+#[tactic(auto, unfolding(crate::specs::Line::reason_text))]
+fn put_overdrawn(
+    out: &mut Vec<u8>,
+    names: &[ByteText],
+    chain: u8,
+    name: &ByteText,
+    have: u64,
+    wanted: u64,
+) -> Result<(), NoMemory>
+    ensures { OnOk result (out.new.items ≡ out.old.items ++ reason_text names.now (Overdrawn chain name.now have wanted)) }
+{
+    put_lined(out, "Overdrawn", chain as u32, name)?;
+    put(
+        out,
+        &[
+            Piece::Text(" "),
+            Piece::Number(have),
+            Piece::Text(" "),
+            Piece::Number(wanted),
+        ],
+    )
+}
+
 /// The reason's name and its fields.
 #[tactic(auto, unfolding(crate::specs::Line::reason_text))]
 fn put_reason(out: &mut Vec<u8>, names: &[ByteText], reason: &Reason) -> Result<(), NoMemory>
@@ -204,6 +227,10 @@ fn put_reason(out: &mut Vec<u8>, names: &[ByteText], reason: &Reason) -> Result<
             "TooManyLeaders",
             *group as u64,
             *count as u64,
+        ),
+        Reason::NoAccount(swap, arc) => put_two(out, "NoAccount", *swap as u64, *arc as u64),
+        Reason::Overdrawn(chain, name, have, wanted) => put_overdrawn(
+            out, names, *chain, name, *have, *wanted,
         ),
     }
 }

@@ -42,6 +42,10 @@ pub enum Reason {
     BadReply(ArcId, u32, Reply, Reply),
     /// The group of parties, and how many leaders it needs.
     TooManyLeaders(u32, u32),
+    /// The swap and its arc one of whose parties has no account on the arc's chain.
+    NoAccount(u8, ArcId),
+    /// The chain and the name of its account, the units that this has, and those that are wanted of it.
+    Overdrawn(u8, ByteText, u64, u64),
 }
 
 /// Why an offer gives no job: a reason, or want of memory.

@@ -15,7 +15,7 @@ use swap_base::Digest;
 use swap_digraph::PathList;
 
 /// A field as it stands.
-pub(crate) fn word<'a>(fields: &mut Parts<'a>) -> Result<&'a [u8], WordFault>
+pub fn word<'a>(fields: &mut Parts<'a>) -> Result<&'a [u8], WordFault>
     ensures { Takes (λ w. w.now) result fields.new (first_field fields.old) }
 {
     match fields.next() {
@@ -85,7 +85,7 @@ pub(crate) fn sign_field(fields: &mut Parts<'_>) -> Result<(), WordFault>
 }
 
 /// No further field.
-pub(crate) fn nothing_more(fields: &mut Parts<'_>) -> Result<(), WordFault>
+pub fn nothing_more(fields: &mut Parts<'_>) -> Result<(), WordFault>
     ensures { Gives (λ u. u) result (nothing_more fields.old) }
 {
     match fields.next() {

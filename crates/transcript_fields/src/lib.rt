@@ -15,4 +15,6 @@ mod reply;
 
 pub use count::read_count;
 pub use entry::read_entry;
-pub use number::{WordFault, misspelt};
+pub use field::{nothing_more, word};
+pub use number::{WordFault, misspelt, number_of};
+pub use parts::Parts;

@@ -42,7 +42,7 @@ fn read_on(digits: &[u8]) -> Result<u64, WordFault>
 }
 
 /// The number that a field says, below 2^64.
-pub(crate) fn number_of(word: &[u8]) -> Result<u64, WordFault>
+pub fn number_of(word: &[u8]) -> Result<u64, WordFault>
     ensures { Gives (λ n. n) result (number_of word.now) }
 {
     match word {

@@ -8,7 +8,7 @@ use std::marker::Model;
 
 /// What stands between the bytes of one value in a text. Contracts see the parts that are to come.
 #[derive(Debug, Drop)]
-pub(crate) struct Parts<'a> {
+pub struct Parts<'a> {
     text: &'a [u8],
     by: u8,
     at: usize,
@@ -29,7 +29,7 @@ impl<'a> Model for Parts<'a> {
 
 impl<'a> Parts<'a> {
     /// All parts of a text: always one more than it has such bytes.
-    pub(crate) fn new(by: u8, text: &'a [u8]) -> Parts<'a>
+    pub fn new(by: u8, text: &'a [u8]) -> Parts<'a>
         ensures { result ≡ parts_at by text.now }
     {
         Parts {
@@ -41,7 +41,7 @@ impl<'a> Parts<'a> {
     }
 
     /// Takes the next part.
-    pub(crate) fn next(&mut self) -> Option<&'a [u8]>
+    pub fn next(&mut self) -> Option<&'a [u8]>
         ensures { MatchOption result ((self.old ≡ []) × (self.new ≡ [])) (λ w. self.old ≡ w.now ∷ self.new) }
     {
         if self.is_over {

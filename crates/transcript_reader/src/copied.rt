@@ -43,6 +43,13 @@ fn copy_reason(reason: &Reason) -> Result<Reason, NoMemory>
             *arc, *entry, *stated, *replayed,
         )),
         Reason::TooManyLeaders(group, count) => Ok(Reason::TooManyLeaders(*group, *count)),
+        Reason::NoAccount(swap, arc) => Ok(Reason::NoAccount(*swap, *arc)),
+        Reason::Overdrawn(chain, name, have, wanted) => Ok(Reason::Overdrawn(
+            *chain,
+            name.copy()?,
+            *have,
+            *wanted,
+        )),
     }
 }
 
