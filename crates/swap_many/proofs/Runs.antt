@@ -1,0 +1,159 @@
+-- What is kept stays that of the run of all that was done, by the chains' histories.
+use Rattle.std.proofs.Common.{◌≡◌, ℕ, ◌<◌, false, List, [], ◌∷◌, ◌++◌, length, refl, sym, ap, ap₂, ◌∙◌, subst, Option}
+use Rattle.std.proofs.Common.{Result, Ok, Err, OnOk, OnErr, IfOk}
+use Rattle.std.proofs.lemmas.Bool.{false≢true}
+use Rattle.std.proofs.Common.{map, append_assoc, append-nil}
+use Rattle.std.specs.List.{flat_map}
+use Rattle.std.proofs.lemmas.Grind.{flat_map-append}
+use Rattle.std.proofs.lemmas.List.{map-append}
+use Rattle.std.proofs.lemmas.List.Concat.{flat_map-cons}
+use Rattle.std.proofs.lemmas.List.Sums.{fold-append}
+use Rattle.swap_rules.specs.Outcome.{IsEnded}
+use Rattle.swap_digraph.specs.declared.deal.Deal.{Deal}
+use Rattle.swap_run.specs.Asked.{Answers}
+use Rattle.swap_run.specs.Run.{State}
+use Rattle.swap_world.specs.Value.{answers_of}
+use Rattle.swap_world.specs.Gone.{Gives}
+use Rattle.swap_many.specs.declared.many_event.ManyEvent.{ManyEvent}
+use Rattle.swap_many.specs.declared.many_reply.ManyReply.{ManyReply}
+use Rattle.swap_many.specs.Chains.{Setup}
+use Rattle.swap_many.specs.Many.{Run, many_reply, many_start, many_finish}
+use Rattle.swap_many.specs.Kept.{Kept, kept_done, kept_reply, kept_finish}
+use Rattle.swap_many.specs.Laws.{CanCome, Follows}
+use Rattle.swap_many.specs.Sound.{Keeps}
+use Rattle.swap_many.specs.Stages.{Stage, Came, Finished, run_stage, run_by, stages_in}
+use Rattle.swap_many.specs.Value.{ManyState, AreReady, world_at, setup_of, setup_for, kept_of, run_of, ContinueAll, AreSame, HasManyGone}
+use Rattle.swap_many.specs.Value.{IsManyStopped, UnitsArePlacedIn}
+use Rattle.swap_many.specs.Inside.{AreWhole}
+use Rattle.swap_many.specs.Whole.{IsOfRun}
+use Rattle.swap_many.proofs.Follow.{replies_follow}
+use Rattle.swap_many.proofs.Units.{keeps_step, counted_is_placed}
+use Rattle.swap_many.proofs.Finish.{both_finish, finish_above, swap_ended}
+use Rattle.swap_many.proofs.Values.{can_for, same_deal, same_setup, continue_less}
+use Rattle.swap_many.proofs.Way.{one_step, finish_steps}
+use Rattle.swap_many.proofs.Gone.{LeadOn}
+
+-- With other stages all else is the same.
+
+pub whole_staged : (w : ManyState) (y : List Stage) → AreWhole w → AreWhole (record w { stages = y })
+whole_staged w y k = record {
+  few = k.few;
+  few_chains = k.few_chains;
+  places = k.places;
+  arcs = k.arcs;
+  swept = k.swept;
+  slots = k.slots;
+  chains = k.chains;
+  accounts = k.accounts;
+  units = k.units;
+  ready = k.ready;
+  on = k.on;
+  sound = k.sound;
+  kept = k.kept;
+}
+
+module _ (gives : Gives) (f : Setup → Kept → Kept) (old new : ManyState) (x y : List Stage) where
+  same_staged : AreSame gives old new → AreSame gives (record old { stages = x }) (record new { stages = y })
+  same_staged k = record { swaps = k.swaps; casts = k.casts; asked = k.asked; places = k.places; openings = k.openings }
+
+  pub gone_staged : HasManyGone gives f old new → HasManyGone gives f (record old { stages = x }) (record new { stages = y })
+  gone_staged k = record { same = same_staged k.same; goes_on = k.goes_on; kept = k.kept }
+
+  pub stopped_staged : IsManyStopped gives f old new → IsManyStopped gives f (record old { stages = x }) (record new { stages = y })
+  stopped_staged k = record {
+    stopped = k.stopped;
+    same = same_staged k.same;
+    way = λ g c. let w = k.way g c in
+        record { there = w.there; before = w.before; after = w.after; books = w.books; clocks = w.clocks; free = w.free };
+  }
+
+-- One more stage.
+
+pub came_more : (xs : List (List ManyEvent)) (es : List ManyEvent) (e : ManyEvent) → stages_in xs (es ++ e ∷ []) ≡ stages_in xs es ++ Came e ∷ []
+came_more xs es e =
+    let part = flat_map (λ es. map Came es ++ Finished ∷ []) xs in
+    ap (λ ys. part ++ ys) (map-append Came es (e ∷ [])) ∙ sym (append_assoc part (map Came es) (Came e ∷ []))
+
+pub finished_more : (xs : List (List ManyEvent)) (es : List ManyEvent) → stages_in (xs ++ es ∷ []) [] ≡ stages_in xs es ++ Finished ∷ []
+finished_more xs es =
+    let f : List ManyEvent → List Stage = λ es. map Came es ++ Finished ∷ [] in
+    append-nil (flat_map f (xs ++ es ∷ []))
+    ∙ (flat_map-append f xs (es ∷ [])
+    ∙ (ap (λ ys. flat_map f xs ++ ys) (flat_map-cons f es [] ∙ append-nil (f es)) ∙ sym (append_assoc (flat_map f xs) (map Came es) (Finished ∷ []))))
+
+run_more : (m : Setup) (xs : List Stage) (x : Stage) → run_by m (xs ++ x ∷ []) ≡ run_stage m (run_by m xs) x
+run_more m xs x = fold-append (run_stage m) (many_start m) xs (x ∷ [])
+
+pub stretch_more : {A : Type 0} (f : A → List ManyEvent) (ps qs : List A) (p : A) (es : List ManyEvent) → qs ≡ ps ++ p ∷ [] → es ≡ []
+    → stages_in (map f qs) es ≡ stages_in (map f ps) (f p) ++ Finished ∷ []
+stretch_more f ps qs p es more none =
+    ap₂ stages_in (ap (map f) more ∙ map-append f ps (p ∷ [])) none ∙ finished_more (map f ps) (f p)
+
+-- f does to what is kept what the stage does to the run
+abbrev pub IsStage : (Setup → Kept → Kept) → Stage → ManyState → Type 0
+IsStage f x w = (g : ℕ → Answers) (r : Run) (z : Kept) → Keeps (setup_for w g) r z → Keeps (setup_for w g) (run_stage (setup_for w g) r x) (f (setup_for w g) z)
+
+pub step_is_stage : (w : ManyState) (e : ManyEvent) → AreReady w → CanCome (setup_of w) e → IsStage (λ m z. kept_done false m z e) (Came e) w
+step_is_stage w e ready can g r z k = keeps_step false (setup_for w g) r z e (ready g) (can_for w g e can) k
+
+pub finish_is_stage : (w : ManyState) → AreReady w → IsStage kept_finish Finished w
+finish_is_stage w ready g r z k = both_finish (setup_for w g) (ready g) r z k
+
+pub step_leads : (w : ManyState) (e : ManyEvent) → AreReady w → CanCome (setup_of w) e → LeadOn w (λ m z. kept_done false m z e)
+step_leads w e ready can g z = one_step (setup_for w g) (ready g) z (record { fair = false; event = e }) (can_for w g e can)
+
+pub finish_leads : (w : ManyState) → AreReady w → LeadOn w kept_finish
+finish_leads w ready g z = finish_steps (setup_for w g) (ready g) z
+
+module _ (gives : Gives) (f : Setup → Kept → Kept) (x : Stage) (old new : ManyState) (stage : IsStage f x old) (runs : IsOfRun old)
+    (more : new.stages ≡ old.stages ++ x ∷ []) (on : old.stopped ≡ false) where
+  still_of_run : HasManyGone gives f old new → IsOfRun new
+  still_of_run k goes g c =
+      let m = setup_for old g in
+      let was = runs on g (continue_less gives old new g k.same c) in
+      subst (λ (n : Setup). Keeps n (run_by n new.stages) (kept_of new)) (sym (same_setup gives old new g k.same))
+      (subst (λ (xs : List Stage). Keeps m (run_by m xs) (kept_of new)) (sym more)
+      (subst (λ (r : Run). Keeps m r (kept_of new)) (sym (run_more m old.stages x))
+      (subst (Keeps m (run_stage m (run_by m old.stages) x)) (sym (k.kept g c)) (stage g (run_by m old.stages) (kept_of old) was))))
+
+  pub of_run : {A E : Type 0} (r : Result A E) → OnOk r (HasManyGone gives f old new) → OnErr r (IsManyStopped gives f old new) → IsOfRun new
+  of_run (Ok a) ok err = λ goes. still_of_run ok goes
+  of_run (Err e) ok err = λ goes. absurd (false≢true (sym goes ∙ err.stopped))
+
+  pub then_follows : {A E : Type 0} (r : Result A E) → OnOk r (HasManyGone gives f old new)
+      → OnOk r ((g : ℕ → Answers) → ContinueAll new g → Follows (setup_for new g) (run_of new g) (kept_of new))
+  then_follows (Err e) ok = tt
+  then_follows (Ok a) ok = λ g c. (still_of_run ok (ok.goes_on ∙ on) g c).follows
+
+  pub then_placed : {A E : Type 0} (r : Result A E) → OnOk r (HasManyGone gives f old new)
+      → OnOk r ((g : ℕ → Answers) → ContinueAll new g → UnitsArePlacedIn (setup_for new g) (run_of new g))
+  then_placed (Err e) ok = tt
+  then_placed (Ok a) ok = λ g c i l. counted_is_placed (setup_for new g) (run_of new g) (kept_of new) i l (still_of_run ok (ok.goes_on ∙ on) g c)
+
+-- The reply is that of the run.
+pub then_reply : {E : Type 0} (gives : Gives) (f : Setup → Kept → Kept) (old new : ManyState) (e : ManyEvent) (r : Result (Option ManyReply) E)
+    → AreReady old → CanCome (setup_of old) e → IsOfRun old → old.stopped ≡ false → OnOk r (HasManyGone gives f old new)
+    → IfOk r (λ o. (g : ℕ → Answers) → ContinueAll new g → o ≡ kept_reply false (setup_for old g) (kept_of old) e)
+    → IfOk r (λ o. (g : ℕ → Answers) → ContinueAll new g → o ≡ many_reply (setup_for old g) (run_of old g) e)
+then_reply gives f old new e (Err x) ready can runs on ok reply = tt
+then_reply gives f old new e (Ok o) ready can runs on ok reply = λ g c.
+    let k = runs on g (continue_less gives old new g ok.same c) in
+    reply g c ∙ replies_follow (setup_for old g) (run_of old g) (kept_of old) e (ready g) (can_for old g e can) k.follows k.good
+
+-- After a fair finish every swap's book has ended.
+pub then_ended : {A E : Type 0} (gives : Gives) (old new : ManyState) (r : Result A E) → AreReady old → IsOfRun old → old.stopped ≡ false
+    → OnOk r (HasManyGone gives kept_finish old new)
+    → OnOk r ((s : ℕ) → s < length new.worlds → IsEnded (world_at new s).deal (world_at new s).state.book)
+then_ended gives old new (Err x) ready runs on ok = tt
+then_ended gives old new (Ok a) ready runs on ok = λ s l.
+    let g : ℕ → Answers = λ t. answers_of (world_at new t) in
+    let c : ContinueAll new g = λ t l i lt. refl in
+    let m = setup_for old g in
+    let k = runs on g (continue_less gives old new g ok.same c) in
+    let done = both_finish m (ready g) (run_of old g) (kept_of old) k in
+    let low = subst (λ n. s < n) ok.same.swaps l in
+    let ended = swap_ended m (ready g) (many_finish m (run_of old g)) (kept_finish m (kept_of old)) s low done
+    (finish_above m (ready g) (kept_of old) k.timed) in
+    let book = ap (λ (z : Kept). (z.swaps s).book) (ok.kept g c) ∙ ap (λ (t : State). t.book) (done.follows.swaps s low) in
+    subst (λ (d : Deal). IsEnded d (world_at new s).state.book) (sym (same_deal gives old new s ok.same))
+    (subst (IsEnded (world_at old s).deal) (sym book) ended)

@@ -1,0 +1,154 @@
+-- Many swaps before any event: all is whole, and what is kept is that of the run before any event.
+use Rattle.std.proofs.Common.{◌≡◌, ◌⊎◌, ℕ, ◌+◌, ◌-◌, ◌<◌, ◌≤◌, Bool, false, List, [], length, map, replicate, refl, sym, ap, ◌∙◌, subst, inl, inr}
+use Rattle.std.proofs.Common.{arith, slice_index_or, None}
+use Rattle.std.specs.List.{range_with_len}
+use Rattle.std.proofs.lemmas.List.{length-map, length-replicate, get_or-replicate}
+use Rattle.std.proofs.lemmas.List.FromFn.{get_or-map-range_with_len, length-map-range_with_len}
+use Rattle.swap_base.proofs.Lists.{below_or}
+use Rattle.swap_run.specs.Asked.{Answers, with_answers}
+use Rattle.swap_run.specs.Run.{Cast, State, start}
+use Rattle.swap_run.specs.Laws.{IsReadyCast, IsKept}
+use Rattle.swap_run.proofs.Good.{start_is_good, good_is_kept}
+use Rattle.swap_world.specs.Value.{WorldState, cast_at, cast_for}
+use Rattle.swap_many.specs.declared.place.Place.{Place}
+use Rattle.swap_many.specs.Accounts.{ChainState, units_in}
+use Rattle.swap_many.specs.Chains.{Setup, opening, set_aside, first_free}
+use Rattle.swap_many.specs.Many.{many_start}
+use Rattle.swap_many.specs.Kept.{kept_start}
+use Rattle.swap_many.specs.Laws.{IsReady}
+use Rattle.swap_many.specs.Sound.{Keeps}
+use Rattle.swap_many.specs.Opened.{overdrawn}
+use Rattle.swap_many.specs.Opening.{AreOpenable, setup_by, new_chain, none_swept, new_many}
+use Rattle.swap_many.specs.Ticking.{nth}
+use Rattle.swap_many.specs.Value.{ManyState, no_world, no_chain, chain_at, swept_at, setup_for, kept_of}
+use Rattle.swap_many.specs.Inside.{AreWhole}
+use Rattle.swap_many.proofs.Units.{keeps_start}
+use Rattle.swap_many.proofs.Opened.{no_lack_is_covered}
+use Rattle.swap_many.proofs.Ticked.{past_end, map_at}
+
+-- whatever strategies may answer
+ready_for : (c : Cast) (g : Answers) → IsReadyCast c → IsReadyCast (with_answers c g)
+ready_for c g k = record { accepted = k.accepted; one_each = k.one_each; roles = k.roles; wallets = k.wallets; scripts = k.scripts }
+
+kept_new : (c : Cast) (t : State) → IsReadyCast c → t ≡ start c → IsKept c t.book
+kept_new c t ready e = subst (λ (t : State). IsKept c t.book) (sym e) (good_is_kept c (start c) ready (start_is_good c ready))
+
+module _ (chains : List (List ℕ)) (ws : List WorldState) (places : List (List Place)) (open_by : AreOpenable chains ws places) where
+  abbrev m : Setup
+  m = setup_by ws places chains
+
+  abbrev new : ManyState
+  new = new_many chains ws places
+
+  chain_in : (i : ℕ) → i < length chains → chain_at new i ≡ new_chain m i
+  chain_in i l =
+      let z : 0 + i ≡ i = omega arith in get_or-map-range_with_len (new_chain (setup_by ws places chains)) 0 (length chains) i i no_chain l z
+
+  chain_out : (i : ℕ) → length chains ≤ i → chain_at new i ≡ no_chain
+  chain_out i l =
+      let e = length-map-range_with_len (new_chain (setup_by ws places chains)) 0 (length chains) in
+      past_end (map (new_chain (setup_by ws places chains)) (range_with_len 0 (length chains))) i no_chain (omega (arith, e, l))
+
+  accounts_new : (i : ℕ) → length (chain_at new i).free ≡ length (slice_index_or chains i [])
+  accounts_new i = go (below_or i (length chains))
+    where
+      go : (i < length chains) ⊎ (length chains ≤ i) → length (chain_at new i).free ≡ length (slice_index_or chains i [])
+      go (inl l) =
+          ap (λ (y : ChainState). length y.free) (chain_in i l)
+          ∙ length-map-range_with_len (first_free (setup_by ws places chains) i) 0 (length (slice_index_or chains i []))
+      go (inr l) = ap (λ (y : ChainState). length y.free) (chain_out i l) ∙ sym (ap (λ xs. length xs) (past_end chains i [] l))
+
+  free_new : (i x : ℕ) → units_in (chain_at new i).free x ≡ first_free m i x
+  free_new i x = go (below_or i (length chains)) (below_or x (length (slice_index_or chains i [])))
+    where
+      none : (o a : ℕ) → o ≡ 0 → 0 ≡ o - a
+      none o a e = omega (arith, e)
+
+      go : (i < length chains) ⊎ (length chains ≤ i) → (x < length (slice_index_or chains i [])) ⊎ (length (slice_index_or chains i []) ≤ x)
+          → units_in (chain_at new i).free x ≡ first_free m i x
+      go (inl l) (inl k) =
+          let z : 0 + x ≡ x = omega arith in
+          ap (λ (y : ChainState). units_in y.free x) (chain_in i l)
+          ∙ get_or-map-range_with_len (first_free (setup_by ws places chains) i) 0 (length (slice_index_or chains i [])) x x 0 k z
+      go (inl l) (inr k) =
+          let e = accounts_new i in
+          past_end (chain_at new i).free x 0 (omega (arith, e, k))
+          ∙ none (opening m i x) (set_aside m i x) (past_end (slice_index_or chains i []) x 0 k)
+      go (inr l) k =
+          ap (λ (y : ChainState). units_in y.free x) (chain_out i l)
+          ∙ none (opening m i x) (set_aside m i x) (ap (λ (xs : List ℕ). slice_index_or xs x 0) (past_end chains i [] l))
+
+  clock_new : (i : ℕ) → (chain_at new i).clock ≡ no_chain.clock
+  clock_new i = go (below_or i (length chains))
+    where
+      go : (i < length chains) ⊎ (length chains ≤ i) → (chain_at new i).clock ≡ no_chain.clock
+      go (inl l) = ap (λ (y : ChainState). y.clock) (chain_in i l)
+      go (inr l) = ap (λ (y : ChainState). y.clock) (chain_out i l)
+
+  flags_in : (s : ℕ) → s < length ws → swept_at new s ≡ none_swept (nth ws s)
+  flags_in s l = map_at none_swept ws s no_world [] l
+
+  swept_new : (s a : ℕ) → slice_index_or (swept_at new s) a false ≡ false
+  swept_new s a = go (below_or s (length ws))
+    where
+      never : (n : ℕ) → (a < n) ⊎ (n ≤ a) → slice_index_or (replicate n false) a false ≡ false
+      never n (inl l) = get_or-replicate n a false false l
+      never n (inr l) = let e = length-replicate n false in past_end (replicate n false) a false (omega (arith, e, l))
+
+      go : (s < length ws) ⊎ (length ws ≤ s) → slice_index_or (swept_at new s) a false ≡ false
+      go (inl l) =
+          ap (λ (xs : List Bool). slice_index_or xs a false) (flags_in s l)
+          ∙ never (length (nth ws s).deal.graph.arcs) (below_or a (length (nth ws s).deal.graph.arcs))
+      go (inr l) =
+          let e = length-map ws none_swept in
+          ap (λ (xs : List Bool). slice_index_or xs a false) (past_end (map none_swept ws) s [] (omega (arith, e, l)))
+
+  state_new : (g : ℕ → Answers) (s : ℕ) → (nth ws s).state ≡ start (cast_for (nth ws s) (g s))
+  state_new g s = go (below_or s (length ws))
+    where
+      go : (s < length ws) ⊎ (length ws ≤ s) → (nth ws s).state ≡ start (cast_for (nth ws s) (g s))
+      go (inl l) = (open_by.new s l).state
+      go (inr l) =
+          subst (λ (y : WorldState). y.state ≡ start (cast_for y (g s))) (sym (past_end ws s no_world l)) refl
+
+  pub kept_is : (g : ℕ → Answers) → kept_of new ≡ kept_start (setup_for new g)
+  kept_is g = λ j. record {
+    swaps = λ s. state_new g s j;
+    clocks = λ i. clock_new i j;
+    free = λ i x. free_new i x j;
+    swept = λ s a. swept_new s a j;
+  }
+
+  pub start_keeps : (g : ℕ → Answers) → IsReady (setup_for new g) → Keeps (setup_for new g) (many_start (setup_for new g)) (kept_of new)
+  start_keeps g ready = subst (Keeps (setup_for new g) (many_start (setup_for new g))) (sym (kept_is g)) (keeps_start (setup_for new g) ready)
+
+  module _ (none : overdrawn (setup_by ws places chains) ≡ None) (casts : (s : ℕ) → s < length ws → IsReadyCast (cast_at (nth ws s))) where
+    ready_new : (g : ℕ → Answers) → IsReady (setup_for new g)
+    ready_new g = record {
+      casts = λ s l. ready_for (cast_at (nth ws s)) (g s) (casts s l);
+      chain = λ s a l k. (open_by.known s a l k).chain;
+      from = λ s a l k. (open_by.known s a l k).from;
+      to = λ s a l k. (open_by.known s a l k).to;
+      covered = no_lack_is_covered (setup_for new g) (record {
+        chain = λ s a l k. (open_by.known s a l k).chain;
+        from = λ s a l k. (open_by.known s a l k).from;
+      }) none;
+    }
+
+    pub new_whole : AreWhole new
+    new_whole = record {
+      few = open_by.placed.few;
+      few_chains = subst (λ n. n ≤ 32) (sym (length-map-range_with_len (new_chain (setup_by ws places chains)) 0 (length chains))) open_by.few_chains;
+      places = open_by.placed.one_each;
+      arcs = open_by.placed.arcs;
+      swept = length-map ws none_swept;
+      slots =
+          λ s l. ap (λ (xs : List Bool). length xs) (flags_in s l) ∙ length-replicate (length (nth ws s).deal.graph.arcs) false;
+      chains = length-map-range_with_len (new_chain (setup_by ws places chains)) 0 (length chains);
+      accounts = accounts_new;
+      units = open_by.units;
+      ready = ready_new;
+      on = λ q s l. (open_by.new s l).goes_on;
+      sound = λ q g c. (many_start (setup_for new g), start_keeps g (ready_new g));
+      kept = λ s l. kept_new (cast_at (nth ws s)) (nth ws s).state (casts s l) (open_by.new s l).state;
+    }

@@ -1,0 +1,202 @@
+-- What a tick of a chain does to many worlds.
+use Rattle.std.proofs.Common.{◌≡◌, ◌⊎◌, ℕ, suc, zero, ◌+◌, ◌<◌, ◌≤◌, ◌==◌, Bool, true, false, cond, List, [], ◌∷◌, length, map, fold, refl, sym, ap}
+use Rattle.std.proofs.Common.{ap₂, ◌∙◌, subst, inl, inr, arith, slice_set, slice_index_or}
+use Rattle.std.proofs.Common.{Result, Ok, Err, IsErr, OnOk, OnErr}
+use Rattle.std.proofs.lemmas.List.{length-map, length-set}
+use Rattle.std.proofs.lemmas.List.FromFn.{get_or-map-range_with_len, length-map-range_with_len}
+use Rattle.escrow_core.specs.declared.reply.Reply.TheVariants.{Accepted, ClockFull}
+use Rattle.swap_many.specs.declared.many_reply.ManyReply.TheVariants.{Plain}
+use Rattle.swap_base.specs.Lists.{IsIn}
+use Rattle.swap_base.proofs.Lists.{from_range, below_or}
+use Rattle.swap_digraph.specs.Graph.{arcs}
+use Rattle.deviator_script.specs.declared.event.Event.TheVariants as events
+use Rattle.swap_run.specs.Asked.{Answers}
+use Rattle.swap_run.specs.Run.{Cast, State, step}
+use Rattle.swap_run.specs.Laws.{IsKept}
+use Rattle.swap_world.specs.Value.{WorldState, cast_at, cast_for}
+use Rattle.swap_world.specs.Gone.{Gives, HasAsked}
+use Rattle.swap_world.specs.On.{tick_where, ticked_on}
+use Rattle.swap_world.proofs.Gone.{nothing_asked}
+use Rattle.swap_many.specs.declared.many_event.ManyEvent.TheVariants.{Tick}
+use Rattle.swap_many.specs.declared.place.Place.{Place}
+use Rattle.swap_many.specs.Accounts.{ChainState, units_in}
+use Rattle.swap_many.specs.Chains.{Setup, put, has_no_tick, nowhere, Units, is_done, reply_to_tick_of}
+use Rattle.swap_many.specs.Kept.{Kept, Time, later, tick_on, ticked, kept_done}
+use Rattle.swap_many.specs.Laws.{CanTickChain}
+use Rattle.swap_many.specs.Ticking.{nth, IsTicked, AreTicked, AreTickable, some_stopped}
+use Rattle.swap_many.specs.Value.{ManyState, no_world, world_at, chain_at, setup_of, setup_for, kept_of, AreSame, HasManyGone, IsManyStopped}
+use Rattle.swap_many.specs.Inside.{stands, standing, AreWhole}
+use Rattle.swap_many.proofs.Projections.{put_still}
+use Rattle.swap_many.proofs.Each.{none_stopped}
+use Rattle.swap_many.proofs.Values.{can_for, with_chain, each_chain, chains_put, put_map, whole_next, sound_step}
+use Rattle.swap_many.proofs.Way.{no_step, one_step}
+
+fold_in : {A B : Type 0} (f h : A → B → A) (x : A) (ys : List B) → ((x : A) (y : B) → IsIn y ys → f x y ≡ h x y) → fold f x ys ≡ fold h x ys
+fold_in f h x [] e = refl
+fold_in f h x (y ∷ ys) e = ap (λ z. fold f z ys) (e x y (inl refl)) ∙ fold_in f h (h x y) ys (λ x y i. e x y (inr i))
+
+stands_at : (i : ℕ) (ps : List Place) (a : ℕ) → a < length ps → slice_index_or (stands i ps) a false ≡ ((slice_index_or ps a nowhere).chain == i)
+stands_at i [] a l = absurd (omega arith)
+stands_at i (p ∷ ps) zero l = refl
+stands_at i (p ∷ ps) (suc a) l = stands_at i ps a (omega arith)
+
+-- the ledgers that are told to tick are those on the chain
+pub ticked_is : (m : Setup) (s i k : ℕ) (w : WorldState) (g : Answers) (ps : List Place) (t : State) → cast_for w g ≡ m.cast s
+    → ps ≡ slice_index_or m.places s [] → length ps ≡ length w.deal.graph.arcs → ticked_on (stands i ps) k (cast_at w) t ≡ ticked m i k s t
+ticked_is m s i k w g ps t is here many =
+    fold_in (tick_where (stands i ps) k (cast_at w)) (tick_on m i k s) t (arcs w.deal.graph) (λ t a j. one t a (from_range a (length w.deal.graph.arcs) j))
+    ∙ ap (λ (c : Cast). fold (tick_on m i k s) t (arcs c.deal.graph)) is
+  where
+    one : (t : State) (a : ℕ) → a < length w.deal.graph.arcs → tick_where (stands i ps) k (cast_at w) t a ≡ tick_on m i k s t a
+    one t a l =
+        ap₂ (λ (b : Bool) (c : Cast). cond b (step c t (events.Tick a k)) t)
+        (stands_at i ps a (subst (λ n. a < n) (sym many) l) ∙ ap (λ ps. (slice_index_or ps a nowhere).chain == i) here) is
+
+asked_ticked : (on : List Bool) (k : ℕ) (c : Cast) (t : State) (xs : List ℕ) → (fold (tick_where on k c) t xs).asked ≡ t.asked
+asked_ticked on k c t [] = refl
+asked_ticked on k c t (a ∷ xs) = asked_ticked on k c (tick_where on k c t a) xs ∙ one (slice_index_or on a false)
+  where
+    one : (b : Bool) → (cond b (step c t (events.Tick a k)) t).asked ≡ t.asked
+    one true = refl
+    one false = refl
+
+-- past the last one nothing is there
+pub past_end : {A : Type 0} (xs : List A) (s : ℕ) (d : A) → length xs ≤ s → slice_index_or xs s d ≡ d
+past_end [] s d l = refl
+past_end (x ∷ xs) zero d l = absurd (omega arith)
+past_end (x ∷ xs) (suc s) d l = past_end xs s d (omega arith)
+
+pub map_at : {A B : Type 0} (f : A → B) (xs : List A) (i : ℕ) (d : A) (e : B) → i < length xs → slice_index_or (map f xs) i e ≡ f (slice_index_or xs i d)
+map_at f [] i d e l = absurd (omega arith)
+map_at f (x ∷ xs) zero d e l = refl
+map_at f (x ∷ xs) (suc i) d e l = map_at f xs i d e (omega arith)
+
+-- which arcs of each swap stand on chain i, as it is looked up
+pub looked_up : (on : List (List (List Bool))) (n : ℕ) (ps : List (List Place)) (i : ℕ) → on ≡ standing n ps → i < n
+    → (i < length on) × (slice_index_or on i [] ≡ map (stands i) ps)
+looked_up on n ps i e l = (
+  subst (λ m. i < m) (sym (ap length e ∙ length-map-range_with_len (λ i. map (stands i) ps) 0 n)) l,
+  ap (λ xs. slice_index_or xs i []) e ∙ (let z : 0 + i ≡ i = omega arith in get_or-map-range_with_len (λ i. map (stands i) ps) 0 n i i [] l z),
+)
+
+pub may_tick : (w : ManyState) (i : ℕ) → AreWhole w → w.stopped ≡ false → AreTickable (map (stands i) w.places) w.worlds
+may_tick w i whole on = record {
+  one_each = length-map w.places (stands i) ∙ whole.places;
+  arcs = λ s l. ap length (map_at (stands i) w.places s [] [] (subst (λ n. s < n) (sym whole.places) l))
+      ∙ (length-map (slice_index_or w.places s []) (λ (p : Place). p.chain == i) ∙ whole.arcs s l);
+  go_on = whole.on on;
+}
+
+-- a tick that is accepted has room
+pub has_room : (ticks height k : ℕ) → is_done (reply_to_tick_of ticks height k) ≡ true → has_no_tick ticks height k ≡ false
+has_room ticks height k e = go (has_no_tick ticks height k) e
+  where
+    go : (b : Bool) → is_done (cond b (Plain ClockFull) (Plain Accepted)) ≡ true → b ≡ false
+    go true e = absurd (cc e)
+    go false e = refl
+
+pub ok_unless : {A E : Type 0} (r : Result A E) (b : Bool) (P : Type 0) → (b ≡ true → IsErr r) → (b ≡ false → P) → OnOk r P
+ok_unless (Err e) b P err ok = tt
+ok_unless (Ok x) true P err ok = absurd (cc (err refl))
+ok_unless (Ok x) false P err ok = ok refl
+
+pub err_unless : {A E : Type 0} (r : Result A E) (b : Bool) (x : A) (P : Type 0) → (b ≡ false → r ≡ Ok x) → (b ≡ true → P) → OnErr r P
+err_unless (Ok y) b x P ok err = tt
+err_unless (Err e) true x P ok err = err refl
+err_unless (Err e) false x P ok err = absurd (cc (ok refl))
+
+module _ (gives : Gives) (w : ManyState) (i k : ℕ) (x : ChainState) (ws : List WorldState) (b : Bool) (low : i < length w.chains) (whole : AreWhole w)
+    (room : has_no_tick (chain_at w i).clock.ticks (chain_at w i).clock.height k ≡ false)
+    (clock : x ≡ record (chain_at w i) { clock = later (chain_at w i).clock k })
+    (all : AreTicked (map (stands i) w.places) k (length w.worlds) w.worlds ws) where
+  abbrev pub with_ticks : ManyState
+  with_ticks = record w { worlds = ws; chains = slice_set w.chains i x; stopped = b }
+
+  on_at : (s : ℕ) → s < length w.worlds → slice_index_or (map (stands i) w.places) s [] ≡ stands i (slice_index_or w.places s [])
+  on_at s l = map_at (stands i) w.places s [] [] (subst (λ n. s < n) (sym whole.places) l)
+
+  each : (P : ℕ → WorldState → Type 0)
+      → ((s : ℕ) → s < length w.worlds → IsTicked (stands i (slice_index_or w.places s [])) k (world_at w s) (nth ws s) → P s (nth ws s))
+      → ((s : ℕ) → length w.worlds ≤ s → P s (world_at w s)) → (s : ℕ) → P s (nth ws s)
+  each P at other s = go (below_or s (length w.worlds))
+    where
+      go : (s < length w.worlds) ⊎ (length w.worlds ≤ s) → P s (nth ws s)
+      go (inl l) = at s l (subst (λ on. IsTicked on k (world_at w s) (nth ws s)) (on_at s l) (all.ticked s l l))
+      go (inr l) = subst (P s) (sym (all.others s l)) (other s l)
+
+  pub ticks_same : AreSame gives w with_ticks
+  ticks_same = record {
+    swaps = all.one_each;
+    casts = each (λ s y. cast_at y ≡ cast_at (world_at w s)) (λ s l t. ap cast_at t.same) (λ s l. refl);
+    asked = each (λ s y. HasAsked gives (world_at w s) y)
+        (λ s l t. nothing_asked gives (world_at w s) (nth ws s)
+        (ap (λ (y : State). y.asked) t.state
+        ∙ asked_ticked (stands i (slice_index_or w.places s [])) k (cast_at (world_at w s)) (world_at w s).state (arcs (world_at w s).deal.graph))
+        (ap (λ (y : WorldState). y.answers) t.same))
+        (λ s l. nothing_asked gives (world_at w s) (world_at w s) refl refl);
+    places = refl;
+    openings = refl;
+  }
+
+  rests : (g : ℕ → Answers) (s : ℕ) → length w.worlds ≤ s → (world_at w s).state ≡ ticked (setup_for w g) i k s (world_at w s).state
+  rests g s l =
+      sym (ap (λ (y : WorldState). fold (tick_on (setup_for w g) i k s) (world_at w s).state (arcs y.deal.graph)) (past_end w.worlds s no_world l))
+
+  pub ticks_kept : (g : ℕ → Answers) → kept_of with_ticks ≡ kept_done false (setup_for w g) (kept_of w) (Tick i k)
+  ticks_kept g =
+      (λ j. record {
+        swaps = λ s. swaps s j;
+        clocks = clocks j;
+        free = frees j;
+        swept = (kept_of w).swept;
+      })
+      ∙ sym (ap (λ b. cond b (kept_of w) (record (kept_of w) {
+        clocks = put (kept_of w).clocks i (later (chain_at w i).clock k);
+        swaps = λ s. ticked (setup_for w g) i k s (world_at w s).state;
+      })) room)
+    where
+      swaps : (s : ℕ) → (nth ws s).state ≡ ticked (setup_for w g) i k s (world_at w s).state
+      swaps = each (λ s y. y.state ≡ ticked (setup_for w g) i k s (world_at w s).state)
+          (λ s l t. t.state ∙ ticked_is (setup_for w g) s i k (world_at w s) (g s) (slice_index_or w.places s []) (world_at w s).state refl refl
+          (whole.arcs s l))
+          (rests g)
+
+      clocks : (λ j. (chain_at (with_chain w i x low) j).clock) ≡ put (kept_of w).clocks i (later (chain_at w i).clock k)
+      clocks =
+          ap (λ (f : ℕ → ChainState). let h : ℕ → Time = λ j. (f j).clock in h) (chains_put w i x low) ∙ (put_map (λ (y : ChainState). y.clock) (chain_at w) i x
+          ∙ ap (λ (y : ChainState). put (kept_of w).clocks i y.clock) clock)
+
+      frees : (λ j. units_in (chain_at (with_chain w i x low) j).free) ≡ (kept_of w).free
+      frees =
+          ap (λ (f : ℕ → ChainState). let h : ℕ → Units = λ j. units_in (f j).free in h) (chains_put w i x low)
+          ∙ (put_map (λ (y : ChainState). units_in y.free) (chain_at w) i x
+          ∙ put_still (kept_of w).free i (units_in x.free) (ap (λ (y : ChainState). units_in y.free) clock))
+
+  pub ticks_gone : b ≡ w.stopped → HasManyGone gives (λ m z. kept_done false m z (Tick i k)) w with_ticks
+  ticks_gone on = record { same = ticks_same; goes_on = on; kept = λ g c. ticks_kept g }
+
+  pub ticks_stop : b ≡ true → CanTickChain (setup_of w) i k → IsManyStopped gives (λ m z. kept_done false m z (Tick i k)) w with_ticks
+  ticks_stop on can = record {
+    stopped = on;
+    same = ticks_same;
+    way = λ g c. let m = setup_for w g in
+        record {
+          there = kept_done false m (kept_of w) (Tick i k);
+          before = one_step m (whole.ready g) (kept_of w) (record { fair = false; event = Tick i k }) (can_for w g (Tick i k) can);
+          after = no_step m (whole.ready g) (kept_done false m (kept_of w) (Tick i k));
+          books = λ s l. ap (λ (z : Kept). (z.swaps s).book) (ticks_kept g);
+          clocks = λ j. ap (λ (z : Kept). z.clocks j) (ticks_kept g);
+          free = λ j. ap (λ (z : Kept). z.free j) (ticks_kept g);
+        };
+  }
+
+  pub ticks_whole : w.stopped ≡ false → b ≡ some_stopped ws → CanTickChain (setup_of w) i k → AreWhole with_ticks
+  ticks_whole on is can =
+      whole_next gives w with_ticks whole ticks_same (length-set w.chains i x)
+      (each_chain w i x low (λ j y. length y.free ≡ length (chain_at w j).free) (ap (λ (y : ChainState). length y.free) clock) (λ j. refl))
+      refl (λ s. refl) (λ q s l. none_stopped (λ (y : WorldState). y.stopped) ws s no_world (sym is ∙ q) l)
+      (λ q. sound_step gives w with_ticks false (Tick i k) whole on (λ g. can_for w g (Tick i k) can) (ticks_gone (q ∙ sym on)))
+      (each (λ s y. s < length ws → IsKept (cast_at y) y.state.book) (λ s l t k. t.kept) (λ s l k. absurd (past s l k)))
+    where
+      past : (s : ℕ) → length w.worlds ≤ s → s < length ws → ⊥
+      past s l k = let e = all.one_each in absurd (omega (arith, l, k, e))

@@ -1,0 +1,297 @@
+-- The parts of a fair finish: looks, acts, turns, ticks, rounds and sweeps.
+use Rattle.std.proofs.Common.{◌≡◌, ℕ, suc, zero, ◌+◌, ◌<◌, ◌≤◌, ◌==◌, ◌||◌, Bool, true, false, cond, List, [], ◌∷◌, length, map, filter, fold}
+use Rattle.std.proofs.Common.{refl, sym, ap, ◌∙◌, arith, Option, Some, None, is_some}
+use Rattle.std.specs.Prelude.{option_map}
+use Rattle.std.specs.List.{range_with_len, flat_map}
+use Rattle.std.proofs.Common.{get_or, max, take}
+use Rattle.std.proofs.lemmas.List.{take_all}
+use Rattle.std.proofs.lemmas.List.FromFn.{length-range_with_len, get_or-range_with_len}
+use Rattle.std.proofs.lemmas.List.Concat.{flat_map-cons}
+use Rattle.swap_base.specs.Lists.{greatest}
+use Rattle.std.proofs.lemmas.List.Sums.{fold-append}
+use Rattle.swap_digraph.specs.Deal.{touches, party, counterparty}
+use Rattle.swap_digraph.specs.Graph.{arcs}
+use Rattle.swap_base.proofs.Lists.{from_range}
+use Rattle.deviator_script.specs.declared.event.Event.TheVariants.{Look, Act}
+use Rattle.swap_run.specs.Asked.{Answers}
+use Rattle.swap_run.specs.Fair.{repeat, most_acts}
+use Rattle.swap_run.specs.Run.{Cast, State, conforms, role_of, next_of}
+use Rattle.swap_run.specs.Called.{called, by_due, called_as, turned_as, landed_on, step_on}
+use Rattle.swap_run.proofs.Calls.{calls_split}
+use Rattle.swap_world.specs.Value.{cast_at, cast_for, answers_of}
+use Rattle.swap_world.specs.Gone.{Gives}
+use Rattle.swap_world.specs.On.{swept_in}
+use Rattle.swap_many.specs.declared.many_event.ManyEvent.TheVariants.{Tick, In, Sweep}
+use Rattle.swap_many.specs.declared.many_reply.ManyReply.{ManyReply}
+use Rattle.swap_many.specs.Chains.{Setup, Slot, slots, slots_of, put}
+use Rattle.swap_many.specs.Kept.{Kept, kept_done, kept_reply, answer_in}
+use Rattle.swap_many.specs.Laws.{CanHappen}
+use Rattle.swap_many.specs.Way.{Leads}
+use Rattle.swap_many.specs.Fair.{look_if, kept_looks, kept_act, kept_acts, kept_turn, kept_turns, tick_of, kept_ticks, kept_round, kept_round_or_rest}
+use Rattle.swap_many.specs.Fair.{sweeps_of, kept_sweeps, have_ended}
+use Rattle.swap_many.specs.Value.{ManyState, IsPartyOf, AreReady, world_at, swept_at, setup_of, setup_for, kept_of, ContinueAll, HasManyGone}
+use Rattle.swap_many.specs.Value.{IsManyStopped}
+use Rattle.swap_many.proofs.Projections.{put_still}
+use Rattle.swap_many.proofs.Values.{same_setup}
+use Rattle.swap_many.proofs.Finish.{slot_known}
+use Rattle.swap_many.proofs.Way.{no_step, one_step, fold_steps, repeat_steps, act_steps, looks_steps, turn_steps, unless_steps}
+use Rattle.swap_many.proofs.Gone.{LeadOn, begun, gone_as, gone_then, stopped_as, stopped_then, stopped_after, repeat_on, repeat_rests}
+
+-- Folds.
+
+pub fold_filter : {A B : Type 0} (p : B → Bool) (f : A → B → A) (x : A) (ys : List B)
+    → fold f x (filter p ys) ≡ fold (λ x y. cond (p y) (f x y) x) x ys
+fold_filter p f x [] = refl
+fold_filter {A} {B} p f x (y ∷ ys) = go (p y) (λ x. fold_filter p f x ys)
+  where
+    go : (b : Bool) → ((x : A) → fold f x (filter p ys) ≡ fold (λ x y. cond (p y) (f x y) x) x ys)
+        → fold f x (cond b (y ∷ filter p ys) (filter p ys)) ≡ fold (λ x y. cond (p y) (f x y) x) (cond b (f x y) x) ys
+    go true rest = rest (f x y)
+    go false rest = rest x
+
+pub fold_map : {A B C : Type 0} (f : A → C → A) (h : B → C) (x : A) (ys : List B) → fold f x (map h ys) ≡ fold (λ x y. f x (h y)) x ys
+fold_map f h x [] = refl
+fold_map f h x (y ∷ ys) = fold_map f h (f x (h y)) ys
+
+pub fold_flat : {A B C : Type 0} (f : A → C → A) (h : B → List C) (x : A) (ys : List B)
+    → fold f x (flat_map h ys) ≡ fold (λ x y. fold f x (h y)) x ys
+fold_flat f h x [] = refl
+fold_flat f h x (y ∷ ys) =
+    ap (fold f x) (flat_map-cons h y ys) ∙ (fold-append f x (h y) (flat_map h ys) ∙ fold_flat f h (fold f x (h y)) ys)
+
+pub same_fold : {A B : Type 0} (f h : A → B → A) (x : A) (ys : List B) → ((x : A) (y : B) → f x y ≡ h x y) → fold f x ys ≡ fold h x ys
+same_fold f h x [] e = refl
+same_fold f h x (y ∷ ys) e = ap (λ z. fold f z ys) (e x y) ∙ same_fold f h (h x y) ys e
+
+-- What may come.
+
+pub can_look : (w : ManyState) (s p a : ℕ) → IsPartyOf w s p → a < length (world_at w s).deal.graph.arcs → touches (world_at w s).deal p a ≡ true
+    → CanHappen (setup_of w) s (Look p a)
+can_look w s p a k l e = record { swap = k.swap; no_tick = refl; can = record { known = k.party; arc = l; adjacent = e } }
+
+pub can_act : (w : ManyState) (s p : ℕ) → IsPartyOf w s p → CanHappen (setup_of w) s (Act p)
+can_act w s p k = record { swap = k.swap; no_tick = refl; can = k.party }
+
+-- Steps lead on.
+
+module _ (w : ManyState) (ready : AreReady w) where
+  pub look_leads : (s p a : ℕ) → IsPartyOf w s p → a < length (world_at w s).deal.graph.arcs → LeadOn w (λ m z. look_if s p m z a)
+  look_leads s p a k l g z = go (touches (world_at w s).deal p a) refl
+    where
+      go : (b : Bool) → touches (world_at w s).deal p a ≡ b → Leads (setup_for w g) z (cond b (kept_done false (setup_for w g) z (In s (Look p a))) z)
+      go true e =
+          one_step (setup_for w g) (ready g) z (record { fair = false; event = In s (Look p a) })
+          (record { swap = k.swap; no_tick = refl; can = record { known = k.party; arc = l; adjacent = e } })
+      go false e = no_step (setup_for w g) (ready g) z
+
+  pub act_leads : (s p : ℕ) → IsPartyOf w s p → LeadOn w (kept_act s p)
+  act_leads s p k g z = act_steps (setup_for w g) (ready g) s p z k.swap k.party
+
+  pub acts_lead : (s p : ℕ) → IsPartyOf w s p → LeadOn w (kept_acts s p)
+  acts_lead s p k g z =
+      repeat_steps (setup_for w g) (ready g) (most_acts (world_at w s).deal) (kept_act s p (setup_for w g)) z (λ z. act_leads s p k g z)
+
+  pub looks_lead : (s p : ℕ) → IsPartyOf w s p → LeadOn w (kept_looks s p)
+  looks_lead s p k g z = looks_steps (setup_for w g) (ready g) s p z k.swap k.party
+
+  pub turn_leads : (s p : ℕ) → IsPartyOf w s p → LeadOn w (λ m z. kept_turn s m z p)
+  turn_leads s p k g z = turn_steps (setup_for w g) (ready g) s p z k.swap k.party
+
+  pub turns_lead : (s : ℕ) → s < length w.worlds → LeadOn w (λ m z. kept_turns m z s)
+  turns_lead s l g z =
+      fold_steps (setup_for w g) (ready g) (kept_turn s (setup_for w g)) (range_with_len 0 (world_at w s).deal.graph.n) z
+      (λ z v j. turn_leads s v (record { swap = l; party = from_range v (world_at w s).deal.graph.n j }) g z)
+
+  pub all_turns_lead : LeadOn w (λ m z. fold (kept_turns m) z (range_with_len 0 m.swaps))
+  all_turns_lead g z =
+      fold_steps (setup_for w g) (ready g) (kept_turns (setup_for w g)) (range_with_len 0 (length w.worlds)) z
+      (λ z s j. turns_lead s (from_range s (length w.worlds) j) g z)
+
+  pub tick_leads : (i : ℕ) → i < length w.openings → LeadOn w (λ m z. tick_of m z i)
+  tick_leads i l g z =
+      one_step (setup_for w g) (ready g) z (record { fair = false; event = Tick i 1 }) (record { chain = l; some = omega arith; few = omega arith })
+
+  pub ticks_lead : LeadOn w kept_ticks
+  ticks_lead g z =
+      fold_steps (setup_for w g) (ready g) (tick_of (setup_for w g)) (range_with_len 0 (length w.openings)) z
+      (λ z i j. tick_leads i (from_range i (length w.openings) j) g z)
+
+  pub unless_leads : LeadOn w kept_round_or_rest
+  unless_leads g z = unless_steps (setup_for w g) (ready g) z
+
+-- Looks.
+
+module _ (gives : Gives) (w : ManyState) (s p a : ℕ) where
+  look_is : (b : Bool) → touches (world_at w s).deal p a ≡ b → (g : ℕ → Answers)
+      → cond b (kept_done false (setup_for w g) (kept_of w) (In s (Look p a))) (kept_of w) ≡ look_if s p (setup_for w g) (kept_of w) a
+  look_is b e g = sym (ap (λ b. cond b (kept_done false (setup_for w g) (kept_of w) (In s (Look p a))) (kept_of w)) e)
+
+  pub look_rests : touches (world_at w s).deal p a ≡ false → HasManyGone gives (λ m z. look_if s p m z a) w w
+  look_rests e = gone_as gives (λ m z. z) (λ m z. look_if s p m z a) w w (look_is false e) (begun gives w)
+
+  pub look_gone : (new : ManyState) → touches (world_at w s).deal p a ≡ true → HasManyGone gives (λ m z. kept_done false m z (In s (Look p a))) w new
+      → HasManyGone gives (λ m z. look_if s p m z a) w new
+  look_gone new e k = gone_as gives (λ m z. kept_done false m z (In s (Look p a))) (λ m z. look_if s p m z a) w new (look_is true e) k
+
+  pub look_stops : (new : ManyState) → touches (world_at w s).deal p a ≡ true → IsManyStopped gives (λ m z. kept_done false m z (In s (Look p a))) w new
+      → IsManyStopped gives (λ m z. look_if s p m z a) w new
+  look_stops new e k = stopped_as gives (λ m z. kept_done false m z (In s (Look p a))) (λ m z. look_if s p m z a) w new (look_is true e) k
+
+-- all arcs, of which those that touch the party are looked at
+pub looks_are : (w : ManyState) (s p : ℕ) (g : ℕ → Answers)
+    → fold (look_if s p (setup_for w g)) (kept_of w) (range_with_len 0 (length (world_at w s).deal.graph.arcs)) ≡ kept_looks s p (setup_for w g) (kept_of w)
+looks_are w s p g =
+    sym (fold_filter (λ a. (p == party (world_at w s).deal a) || (p == counterparty (world_at w s).deal a))
+    (λ z a. kept_done false (setup_for w g) z (In s (Look p a))) (kept_of w) (arcs (world_at w s).deal.graph))
+
+-- Acts of a party that conforms.
+
+none_of : {A B : Type 0} (f : A → B) (o : Option A) → None ≡ option_map f o → o ≡ None
+none_of f None e = refl
+none_of f (Some x) e = absurd (cc e)
+
+module _ (w : ManyState) (s p : ℕ) (c : conforms (cast_at (world_at w s)) p ≡ true) where
+  due_is : (g : Answers) → called (cast_for (world_at w s) g) (world_at w s).state (Act p) ≡ by_due p (next_of (cast_at (world_at w s)) (world_at w s).state p)
+  due_is g =
+      ap (λ b. cond b (by_due p (next_of (cast_at (world_at w s)) (world_at w s).state p))
+      (called_as (cast_for (world_at w s) g) (world_at w s).state p (role_of (cast_at (world_at w s)) p))) c
+
+  -- where it calls nothing its act changes nothing
+  pub idle : (h g : ℕ → Answers) → None ≡ kept_reply false (setup_for w h) (kept_of w) (In s (Act p)) → kept_act s p (setup_for w g) (kept_of w) ≡ kept_of w
+  idle h g e =
+      let x = cast_for (world_at w s) (g s) in
+      let t = (world_at w s).state in
+      let sw = swept_in (swept_at w s) in
+      let none : called x t (Act p) ≡ None =
+      due_is (g s) ∙ (sym (due_is (h s)) ∙ none_of (answer_in (setup_for w h) (kept_of w) s) (called (cast_for (world_at w s) (h s)) t (Act p)) e) in
+      let rests : step_on sw x t (Act p) ≡ t =
+      ap (landed_on sw x t (Act p)) none
+      ∙ ((calls_split x t (Act p) refl).alone none ∙ ap (λ b. cond b t (turned_as x t p (role_of x p))) c) in
+      ap (λ (y : State). let z : Kept = record (kept_of w) { swaps = put (kept_of w).swaps s y } in z) rests
+      ∙ ap (λ (f : ℕ → State). let z : Kept = record (kept_of w) { swaps = f } in z) (put_still (kept_of w).swaps s t refl)
+
+none_if : {A : Type 0} (o : Option A) → is_some o ≡ false → o ≡ None
+none_if None e = refl
+none_if (Some x) e = absurd (cc e)
+
+-- once an act made no call, more acts change nothing
+pub acts_done : (gives : Gives) (old mid new : ManyState) (s p n k : ℕ) (o : Option ManyReply) → k < n → conforms (cast_at (world_at mid s)) p ≡ true
+    → is_some o ≡ false
+    → ((g : ℕ → Answers) → ContinueAll new g → o ≡ kept_reply false (setup_for mid g) (kept_of mid) (In s (Act p)))
+    → HasManyGone gives (λ m z. repeat k (kept_act s p m) z) old mid → HasManyGone gives (λ m z. kept_done false m z (In s (Act p))) mid new
+    → HasManyGone gives (λ m z. repeat n (kept_act s p m) z) old new
+acts_done gives old mid new s p n k o l c none reply so_far act =
+    repeat_rests gives (kept_act s p) old new new n (k + 1) (repeat_on gives (kept_act s p) old mid new n k so_far act) (omega (arith, l)) (λ g.
+    ap (λ z. kept_act s p (setup_for new g) z) same ∙ (ap (λ m. kept_act s p m (kept_of mid)) (same_setup gives mid new g act.same)
+    ∙ (idle mid s p c (λ t. answers_of (world_at new t)) g nothing ∙ sym same)))
+  where
+    nothing : None ≡ kept_reply false (setup_for mid (λ t. answers_of (world_at new t))) (kept_of mid) (In s (Act p))
+    nothing = sym (none_if o none) ∙ reply (λ t. answers_of (world_at new t)) (λ t l i lt. refl)
+
+    same : kept_of new ≡ kept_of mid
+    same =
+        act.kept (λ t. answers_of (world_at new t)) (λ t l i lt. refl)
+        ∙ idle mid s p c (λ t. answers_of (world_at new t)) (λ t. answers_of (world_at new t)) nothing
+
+-- Turns.
+
+-- what follows the looks of a turn
+abbrev pub rest_of : ℕ → ℕ → Setup → Kept → Kept
+rest_of s p m z = cond (conforms (m.cast s) p) (kept_acts s p m z) (kept_act s p m z)
+
+module _ (gives : Gives) (w mid new : ManyState) (s p : ℕ) (ready : AreReady w) (k : IsPartyOf w s p) where
+  rest_leads : LeadOn w (rest_of s p)
+  rest_leads g z = go (conforms (cast_at (world_at w s)) p)
+    where
+      go : (b : Bool) → Leads (setup_for w g) z (cond b (kept_acts s p (setup_for w g) z) (kept_act s p (setup_for w g) z))
+      go true = acts_lead w ready s p k g z
+      go false = act_leads w ready s p k g z
+
+  pub turn_cut : IsManyStopped gives (kept_looks s p) w mid → IsManyStopped gives (λ m z. kept_turn s m z p) w mid
+  turn_cut h = stopped_then gives (kept_looks s p) (rest_of s p) w mid ready rest_leads h
+
+  module _ (looked : HasManyGone gives (kept_looks s p) w mid) where
+    same_conforms : conforms (cast_at (world_at w s)) p ≡ conforms (cast_at (world_at mid s)) p
+    same_conforms = ap (λ (c : Cast). conforms c p) (sym (looked.same.casts s))
+
+    rest_is : (b : Bool) → conforms (cast_at (world_at mid s)) p ≡ b → (g : ℕ → Answers)
+        → cond b (kept_acts s p (setup_for w g) (kept_looks s p (setup_for w g) (kept_of w)))
+        (kept_act s p (setup_for w g) (kept_looks s p (setup_for w g) (kept_of w)))
+        ≡ kept_turn s (setup_for w g) (kept_of w) p
+    rest_is b e g =
+        sym (ap (λ b. cond b (kept_acts s p (setup_for w g) (kept_looks s p (setup_for w g) (kept_of w)))
+        (kept_act s p (setup_for w g) (kept_looks s p (setup_for w g) (kept_of w)))) (same_conforms ∙ e))
+
+    pub turn_acts : conforms (cast_at (world_at mid s)) p ≡ true → HasManyGone gives (kept_acts s p) mid new
+        → HasManyGone gives (λ m z. kept_turn s m z p) w new
+    turn_acts e h =
+        gone_as gives (λ m z. kept_acts s p m (kept_looks s p m z)) (λ m z. kept_turn s m z p) w new (rest_is true e)
+        (gone_then gives (kept_looks s p) (kept_acts s p) w mid new looked h)
+
+    pub turn_acts_stop : conforms (cast_at (world_at mid s)) p ≡ true → IsManyStopped gives (kept_acts s p) mid new
+        → IsManyStopped gives (λ m z. kept_turn s m z p) w new
+    turn_acts_stop e h =
+        stopped_as gives (λ m z. kept_acts s p m (kept_looks s p m z)) (λ m z. kept_turn s m z p) w new (rest_is true e)
+        (stopped_after gives (kept_looks s p) (kept_acts s p) w mid new ready (looks_lead w ready s p k) looked h)
+
+    pub turn_act : conforms (cast_at (world_at mid s)) p ≡ false → HasManyGone gives (λ m z. kept_done false m z (In s (Act p))) mid new
+        → HasManyGone gives (λ m z. kept_turn s m z p) w new
+    turn_act e h =
+        gone_as gives (λ m z. kept_act s p m (kept_looks s p m z)) (λ m z. kept_turn s m z p) w new (rest_is false e)
+        (gone_then gives (kept_looks s p) (kept_act s p) w mid new looked h)
+
+    pub turn_act_stop : conforms (cast_at (world_at mid s)) p ≡ false → IsManyStopped gives (λ m z. kept_done false m z (In s (Act p))) mid new
+        → IsManyStopped gives (λ m z. kept_turn s m z p) w new
+    turn_act_stop e h =
+        stopped_as gives (λ m z. kept_act s p m (kept_looks s p m z)) (λ m z. kept_turn s m z p) w new (rest_is false e)
+        (stopped_after gives (kept_looks s p) (kept_act s p) w mid new ready (looks_lead w ready s p k) looked h)
+
+-- Sweeps.
+
+pub sweeps_are : (m : Setup) (z : Kept) → fold (sweeps_of m) z (range_with_len 0 m.swaps) ≡ kept_sweeps m z
+sweeps_are m z =
+    sym (fold_flat (λ z t. kept_done true m z (Sweep t.swap t.arc)) (slots_of m) z (range_with_len 0 m.swaps)
+    ∙ same_fold (λ z s. fold (λ z t. kept_done true m z (Sweep t.swap t.arc)) z (slots_of m s)) (sweeps_of m) z (range_with_len 0 m.swaps)
+    (λ z s. fold_map (λ z t. kept_done true m z (Sweep t.swap t.arc)) (λ a. (let t : Slot = record { swap = s; arc = a } in t)) z
+    (arcs (m.cast s).deal.graph)))
+
+pub sweeps_lead : (w : ManyState) → AreReady w → LeadOn w kept_sweeps
+sweeps_lead w ready g z =
+    fold_steps (setup_for w g) (ready g) (λ z t. kept_done true (setup_for w g) z (Sweep t.swap t.arc)) (slots (setup_for w g)) z (λ z t i.
+    let l = slot_known (setup_for w g) (ready g) t i in
+    one_step (setup_for w g) (ready g) z (record { fair = true; event = Sweep t.swap t.arc }) (record { swap = l.0; arc = l.1 }))
+
+-- Rounds.
+
+-- where every chain is above every horizon, a round is a rest, and else it is a round
+pub rests : (w : ManyState) (g : ℕ → Answers) → have_ended (setup_of w) (kept_of w) ≡ true → kept_round_or_rest (setup_for w g) (kept_of w) ≡ kept_of w
+rests w g e = ap (λ b. cond b (kept_of w) (kept_round (setup_for w g) (kept_of w))) e
+
+pub is_round : (w : ManyState) (g : ℕ → Answers) → have_ended (setup_of w) (kept_of w) ≡ false
+    → kept_round (setup_for w g) (kept_of w) ≡ kept_round_or_rest (setup_for w g) (kept_of w)
+is_round w g e = sym (ap (λ b. cond b (kept_of w) (kept_round (setup_for w g) (kept_of w))) e)
+
+-- The greatest horizon, swap by swap.
+
+greatest_next : {A : Type 0} (f : A → ℕ) (xs : List A) (k : ℕ) (d : A) → k < length xs
+    → greatest f (take (suc k) xs) ≡ max (greatest f (take k xs)) (f (get_or xs k d))
+greatest_next f [] k d l = absurd (omega arith)
+greatest_next f (x ∷ xs) zero d l = omega arith
+greatest_next f (x ∷ xs) (suc k) d l =
+    let e = greatest_next f xs k d (omega arith) in
+    ap (max (f x)) e ∙ join (f x) (greatest f (take k xs)) (f (get_or xs k d))
+  where
+    join : (a b c : ℕ) → max a (max b c) ≡ max (max a b) c
+    join a b c = omega arith
+
+pub greatest_more : (f : ℕ → ℕ) (n k : ℕ) → k < n → greatest f (take (k + 1) (range_with_len 0 n)) ≡ max (greatest f (take k (range_with_len 0 n))) (f k)
+greatest_more f n k l =
+    let e : k + 1 ≡ suc k = omega arith in
+    let m = length-range_with_len 0 n in
+    let z : 0 + k ≡ k = omega arith in
+    ap (λ j. greatest f (take j (range_with_len 0 n))) e
+    ∙ (greatest_next f (range_with_len 0 n) k 0 (omega (arith, m, l))
+    ∙ ap (λ j. max (greatest f (take k (range_with_len 0 n))) (f j)) (get_or-range_with_len 0 n k 0 l ∙ z))
+
+pub greatest_all : (f : ℕ → ℕ) (n k : ℕ) → n ≤ k → greatest f (take k (range_with_len 0 n)) ≡ greatest f (range_with_len 0 n)
+greatest_all f n k l = let m = length-range_with_len 0 n in ap (greatest f) (take_all k (range_with_len 0 n) (omega (arith, m, l)))

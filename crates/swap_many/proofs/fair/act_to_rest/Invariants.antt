@@ -1,0 +1,7 @@
+use Rattle.swap_run.specs.Fair.{repeat}
+use Rattle.swap_many.specs.Fair.{kept_act}
+use Rattle.swap_many.specs.Value.{HasManyGone}
+use Rattle.swap_many.proofs.fair.act_to_rest.Given as goal
+
+abbrev pub invariant-acts : goal.invariant-acts
+invariant-acts g l = HasManyGone (g.K.Strategies.gives l.kit) (λ m z. repeat l.counter (kept_act l.swap l.p m) z) l.fn.worlds l.worlds

@@ -1,0 +1,9 @@
+use Rattle.std.proofs.Common.{take, fold, length}
+use Rattle.std.specs.List.{range_with_len}
+use Rattle.swap_many.specs.Fair.{kept_turns}
+use Rattle.swap_many.specs.Value.{HasManyGone}
+use Rattle.swap_many.proofs.fair.all_turns.Given as goal
+
+abbrev pub invariant-each : goal.invariant-each
+invariant-each g l = HasManyGone (g.K.Strategies.gives l.kit) (λ m z. fold (kept_turns m) z
+    (take l.swap (range_with_len 0 (length l.fn.worlds.worlds)))) l.fn.worlds l.worlds

@@ -1,0 +1,30 @@
+use Rattle.std.proofs.Common.{◌<◌, ◌≤◌, length, fold, take, arith}
+use Rattle.std.specs.List.{range_with_len}
+use Rattle.swap_many.specs.Fair.{sweeps_of, kept_sweeps}
+use Rattle.swap_many.specs.Value.{kept_of, setup_for}
+use Rattle.swap_many.proofs.Gone.{gone_as, on_gone}
+use Rattle.swap_many.proofs.Gone.{range_on, range_done}
+use Rattle.swap_many.proofs.Turning as lemmas
+use Rattle.swap_many.proofs.fair.sweeps.Goals as goal
+
+pub sweep_all-requires-clause-on : goal.sweep_all-requires-clause-on
+sweep_all-requires-clause-on g c =
+    let gives = g.K.Strategies.gives c.args.kit.now in
+    let w = c.args.worlds.now in
+    on_gone gives (λ m z. fold (sweeps_of m) z (take c.each.swap (range_with_len 0 (length w.worlds)))) w c.each.worlds _ c.each.invariant c.requires.on
+
+pub each-preserved : goal.each-preserved
+each-preserved g c =
+    let gives = g.K.Strategies.gives c.args.kit.now in
+    let w = c.args.worlds.now in
+    let l : c.each.swap < length w.worlds = omega (arith, c.each-test.true, c.swaps-swap-end.ensures) in
+    range_on gives sweeps_of w c.each.worlds c.sweep_all.new.worlds (length w.worlds) c.each.swap c.each.invariant l c.sweep_all.ensures
+
+pub returns : goal.returns
+returns g c =
+    let gives = g.K.Strategies.gives c.args.kit.now in
+    let w = c.args.worlds.now in
+    let l : length w.worlds ≤ c.each.swap = omega (arith, c.each-test.false, c.swaps-swap-end.ensures) in
+    gone_as gives (λ m z. fold (sweeps_of m) z (range_with_len 0 (length w.worlds))) kept_sweeps w c.each.worlds
+    (λ a. lemmas.sweeps_are (setup_for w a) (kept_of w))
+    (range_done gives sweeps_of w c.each.worlds (length w.worlds) c.each.swap l c.each.invariant)

@@ -1,0 +1,30 @@
+use Rattle.std.proofs.Common.{◌≡◌, List, [], Ok, map, sym, ap₂, subst}
+use Rattle.swap_many.specs.Many.{many_start}
+use Rattle.swap_many.specs.Laws.{IsReady}
+use Rattle.swap_many.specs.Sound.{Keeps}
+use Rattle.swap_many.specs.Opened.{overdrawn}
+use Rattle.swap_many.specs.Opening.{setup_by, new_many, opened}
+use Rattle.swap_many.specs.Stages.{Stage, stages_in, run_by}
+use Rattle.swap_many.specs.Value.{ManyState, setup_for, kept_of}
+use Rattle.swap_many.proofs.Begun.{was_opened}
+use Rattle.swap_many.proofs.Starting.{start_keeps}
+use Rattle.swap_many.proofs.Runs.{whole_staged}
+use Rattle.swap_many.proofs.many_world.ManyWorld.new.Goals as goal
+
+pub invariant_of-result : goal.invariant_of-result
+invariant_of-result c =
+    let ws = c.args.worlds.items in
+    let ps = c.args.places in
+    let cs = c.args.chains.now in
+    let made = c.in-Ok.worlds in
+    let e : opened cs ws ps ≡ Ok made = c.in-Ok.ensures in
+    let k = was_opened (overdrawn (setup_by ws ps cs)) (new_many cs ws ps) made e in
+    let ys : List Stage = stages_in (map (λ p. p.items) c.new-in-Ok.result.items) c.new-in-Ok-2.result.items in
+    let none : ys ≡ [] = ap₂ (λ xs es. stages_in (map (λ p. p.items) xs) es) c.new-in-Ok.ensures c.new-in-Ok-2.ensures in
+    record {
+      whole = whole_staged made ys c.keep.ensures;
+      runs =
+          λ on g more. subst (λ (xs : List Stage). Keeps (setup_for made g) (run_by (setup_for made g) xs) (kept_of made)) (sym none)
+          (subst (λ (v : ManyState). Keeps (setup_for v g) (many_start (setup_for v g)) (kept_of v)) (sym k.1)
+          (start_keeps cs ws ps c.requires g (subst (λ (v : ManyState). IsReady (setup_for v g)) k.1 (c.keep.ensures.ready g))));
+    }

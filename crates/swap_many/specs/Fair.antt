@@ -1,0 +1,62 @@
+-- The fair finish of what is kept, part by part.
+use Rattle.std.specs.Prelude.{ℕ, ◌+◌, Bool, true, false, length, fold, if◌then◌else◌}
+use Rattle.std.specs.List.{range_with_len}
+use Rattle.swap_digraph.specs.Deal.{touches}
+use Rattle.swap_digraph.specs.Graph.{arcs}
+use Rattle.deviator_script.specs.declared.event.Event.TheVariants.{Look, Act}
+use Rattle.swap_run.specs.Fair.{repeat, most_acts}
+use Rattle.swap_many.specs.declared.many_event.ManyEvent.TheVariants.{Tick, In, Sweep}
+use Rattle.swap_many.specs.Chains.{Setup, slots}
+use Rattle.swap_many.specs.Many.{last_horizon, looks_in, turn_in, turns_in, many_round, all_ended, round_or_rest}
+use Rattle.swap_many.specs.Kept.{Kept, kept_done}
+
+abbrev pub high : Kept → ℕ → ℕ
+high z i = (z.clocks i).height
+
+-- party v of swap s looks at arc a, where that touches it
+abbrev pub look_if : ℕ → ℕ → Setup → Kept → ℕ → Kept
+look_if s v m z a = if touches (m.cast s).deal v a then kept_done false m z (In s (Look v a)) else z
+
+abbrev pub kept_looks : ℕ → ℕ → Setup → Kept → Kept
+kept_looks s v m z = looks_in m (kept_done false m) (kept_done true m) high s v z
+
+abbrev pub kept_act : ℕ → ℕ → Setup → Kept → Kept
+kept_act s v m z = kept_done false m z (In s (Act v))
+
+-- a party that conforms acts until nothing is due
+abbrev pub kept_acts : ℕ → ℕ → Setup → Kept → Kept
+kept_acts s v m z = repeat (most_acts (m.cast s).deal) (kept_act s v m) z
+
+abbrev pub kept_turn : ℕ → Setup → Kept → ℕ → Kept
+kept_turn s m z v = turn_in m (kept_done false m) (kept_done true m) high s z v
+
+abbrev pub kept_turns : Setup → Kept → ℕ → Kept
+kept_turns m z s = turns_in m (kept_done false m) (kept_done true m) high z s
+
+abbrev pub tick_of : Setup → Kept → ℕ → Kept
+tick_of m z i = kept_done false m z (Tick i 1)
+
+abbrev pub kept_ticks : Setup → Kept → Kept
+kept_ticks m z = fold (tick_of m) z (range_with_len 0 (length m.chains))
+
+abbrev pub kept_round : Setup → Kept → Kept
+kept_round m z = many_round m (kept_done false m) (kept_done true m) high z
+
+abbrev pub have_ended : Setup → Kept → Bool
+have_ended m z = all_ended m (kept_done false m) (kept_done true m) high z
+
+abbrev pub kept_round_or_rest : Setup → Kept → Kept
+kept_round_or_rest m z = round_or_rest m (kept_done false m) (kept_done true m) high z
+
+abbrev pub kept_rounds : Setup → Kept → Kept
+kept_rounds m z = repeat (last_horizon m + 1) (kept_round_or_rest m) z
+
+-- a sweep of the slot of arc a of swap s
+abbrev pub sweep_of : ℕ → Setup → Kept → ℕ → Kept
+sweep_of s m z a = kept_done true m z (Sweep s a)
+
+abbrev pub sweeps_of : Setup → Kept → ℕ → Kept
+sweeps_of m z s = fold (sweep_of s m) z (arcs (m.cast s).deal.graph)
+
+abbrev pub kept_sweeps : Setup → Kept → Kept
+kept_sweeps m z = fold (λ z t. kept_done true m z (Sweep t.swap t.arc)) z (slots m)

@@ -1,0 +1,16 @@
+pub mod Chains
+pub mod Many
+pub mod Kept
+pub mod Laws
+pub mod Sound
+pub mod Way
+pub mod Stages
+pub mod Opened
+pub mod Accounts
+pub mod Value
+pub mod Told
+pub mod Ticking
+pub mod Inside
+pub mod Fair
+pub mod Whole
+pub mod Opening

@@ -1,0 +1,19 @@
+-- What the fields of many swaps on shared chains mean, and what holds of them.
+use Rattle.std.specs.Prelude.{◌≡◌, ℕ, false, map}
+use Rattle.swap_run.specs.Asked.{Answers}
+use Rattle.swap_many.specs.declared.many_world.ManyWorld.TheInside.{Inside}
+use Rattle.swap_many.specs.Sound.{Keeps}
+use Rattle.swap_many.specs.Stages.{stages_in}
+use Rattle.swap_many.specs.Value.{ManyState, setup_for, kept_of, run_of, ContinueAll}
+use Rattle.swap_many.specs.Inside.{AreWhole}
+
+abbrev pub many_in : Inside → ManyState
+many_in w = record w.worlds { stages = stages_in (map (λ p. p.items) w.stretches.items) w.events.items }
+
+-- what is kept is that of the run of all that was done
+abbrev pub IsOfRun : ManyState → Type 0
+IsOfRun w = w.stopped ≡ false → (g : ℕ → Answers) → ContinueAll w g → Keeps (setup_for w g) (run_of w g) (kept_of w)
+
+pub record Holds (w : Inside) : Type 0 where
+  pub whole : AreWhole (many_in w)
+  pub runs : IsOfRun (many_in w)

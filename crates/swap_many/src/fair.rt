@@ -1,0 +1,210 @@
+//! The fair finish of many swaps, by turns and rounds.
+
+ghost use Rattle.std.specs.Prelude.{◌≡◌, ◌<◌, ◌+◌, ℕ, IfOk, OnOk, OnErr, fold, length, true, false};
+ghost use Rattle.std.specs.List.{range_with_len};
+ghost use Rattle.swap_digraph.specs.Deal.{IsWellSized};
+ghost use Rattle.swap_run.specs.Fair.{most_acts};
+ghost use Rattle.swap_run.specs.Run.{conforms};
+ghost use Rattle.swap_world.specs.Value.{cast_at};
+ghost use Rattle.swap_many.specs.Fair.{kept_acts, kept_looks, kept_round, kept_round_or_rest, kept_rounds, kept_sweeps, kept_ticks, kept_turn, kept_turns};
+ghost use Rattle.swap_many.specs.Fair.{have_ended, look_if, sweeps_of};
+ghost use Rattle.swap_many.specs.Kept.{kept_done, kept_finish};
+ghost use Rattle.swap_many.specs.Many.{last_horizon};
+ghost use Rattle.swap_many.specs.Value.{HasManyGone, IsManyStopped, IsOn, IsPartyOf, kept_of, setup_of, world_at};
+
+use crate::worlds::Worlds;
+use deviator_script::{Event, Strategies};
+use ledger_core::is_adjacent;
+use swap_base::{ArcId, NoMemory, PartyId};
+use swap_digraph::Deal;
+
+/// Lets a party of a swap look at an arc, where that touches it.
+fn look_if_near<K: Strategies>(
+    worlds: &mut Worlds,
+    kit: &K,
+    swap: u8,
+    p: PartyId,
+    arc: ArcId,
+) -> Result<(), NoMemory>
+    requires party { IsPartyOf worlds.old swap p }
+    requires arc { arc < length (world_at worlds.old swap).deal.graph.arcs }
+    requires on { IsOn (K.holds kit.now) worlds.old }
+    ensures ok { OnOk result (HasManyGone (K.gives kit.now) (λ m z. look_if swap p m z arc) worlds.old worlds.new) }
+    ensures err { OnErr result (IsManyStopped (K.gives kit.now) (λ m z. look_if swap p m z arc) worlds.old worlds.new) }
+{
+    if !is_adjacent(worlds.deal(swap), arc, p) {
+        return Ok(());
+    }
+    worlds.happen(kit, swap, &Event::Look(p, arc))?;
+    Ok(())
+}
+
+/// Lets a party of a swap look at each arc that touches it.
+fn look_around<K: Strategies>(
+    worlds: &mut Worlds,
+    kit: &K,
+    swap: u8,
+    p: PartyId,
+) -> Result<(), NoMemory>
+    requires party { IsPartyOf worlds.old swap p }
+    requires on { IsOn (K.holds kit.now) worlds.old }
+    ensures ok { OnOk result (HasManyGone (K.gives kit.now) (kept_looks swap p) worlds.old worlds.new) }
+    ensures err { OnErr result (IsManyStopped (K.gives kit.now) (kept_looks swap p) worlds.old worlds.new) }
+{
+    'arcs: for arc in 0..worlds.deal(swap).graph.arcs().len() as ArcId {
+        look_if_near(worlds, kit, swap, p, arc)?;
+    }
+    Ok(())
+}
+
+/// The most calls of a party that conforms.
+fn most_acts(deal: &Deal) -> u32
+    requires { IsWellSized deal.now }
+    ensures { result ≡ most_acts deal.now }
+{
+    (deal.leaders.len() as u32 + 3) * deal.graph.arcs().len() as u32
+}
+
+/// Lets a conforming party act until nothing is due.
+fn act_to_rest<K: Strategies>(
+    worlds: &mut Worlds,
+    kit: &K,
+    swap: u8,
+    p: PartyId,
+) -> Result<(), NoMemory>
+    requires party { IsPartyOf worlds.old swap p }
+    requires conforms { conforms (cast_at (world_at worlds.old swap)) p ≡ true }
+    requires on { IsOn (K.holds kit.now) worlds.old }
+    ensures ok { OnOk result (HasManyGone (K.gives kit.now) (kept_acts swap p) worlds.old worlds.new) }
+    ensures err { OnErr result (IsManyStopped (K.gives kit.now) (kept_acts swap p) worlds.old worlds.new) }
+{
+    'acts: for _ in 0..most_acts(worlds.deal(swap)) {
+        if worlds.happen(kit, swap, &Event::Act(p))?.is_none() {
+            return Ok(());
+        }
+    }
+    Ok(())
+}
+
+/// A party's turn: it looks around, and then acts: until nothing is due where it conforms, else once.
+fn turn<K: Strategies>(worlds: &mut Worlds, kit: &K, swap: u8, p: PartyId) -> Result<(), NoMemory>
+    requires party { IsPartyOf worlds.old swap p }
+    requires on { IsOn (K.holds kit.now) worlds.old }
+    ensures ok { OnOk result (HasManyGone (K.gives kit.now) (λ m z. kept_turn swap m z p) worlds.old worlds.new) }
+    ensures err { OnErr result (IsManyStopped (K.gives kit.now) (λ m z. kept_turn swap m z p) worlds.old worlds.new) }
+{
+    look_around(worlds, kit, swap, p)?;
+    if worlds.conforms(swap, p) {
+        return act_to_rest(worlds, kit, swap, p);
+    }
+    worlds.happen(kit, swap, &Event::Act(p))?;
+    Ok(())
+}
+
+/// The turns of a swap's parties, in their order.
+fn turns<K: Strategies>(worlds: &mut Worlds, kit: &K, swap: u8) -> Result<(), NoMemory>
+    requires swap { swap < length worlds.old.worlds }
+    requires on { IsOn (K.holds kit.now) worlds.old }
+    ensures ok { OnOk result (HasManyGone (K.gives kit.now) (λ m z. kept_turns m z swap) worlds.old worlds.new) }
+    ensures err { OnErr result (IsManyStopped (K.gives kit.now) (λ m z. kept_turns m z swap) worlds.old worlds.new) }
+{
+    'parties: for p in 0..worlds.deal(swap).graph.n() {
+        turn(worlds, kit, swap, p)?;
+    }
+    Ok(())
+}
+
+/// Every swap's turns.
+fn all_turns<K: Strategies>(worlds: &mut Worlds, kit: &K) -> Result<(), NoMemory>
+    requires on { IsOn (K.holds kit.now) worlds.old }
+    ensures ok { OnOk result (HasManyGone (K.gives kit.now) (λ m z. fold (kept_turns m) z (range_with_len 0 m.swaps)) worlds.old worlds.new) }
+    ensures err { OnErr result (IsManyStopped (K.gives kit.now) (λ m z. fold (kept_turns m) z (range_with_len 0 m.swaps)) worlds.old worlds.new) }
+{
+    'each: for swap in 0..worlds.swaps() {
+        turns(worlds, kit, swap)?;
+    }
+    Ok(())
+}
+
+/// Each chain ticks by one height.
+fn ticks<K: Strategies>(worlds: &mut Worlds, kit: &K) -> Result<(), NoMemory>
+    requires on { IsOn (K.holds kit.now) worlds.old }
+    ensures ok { OnOk result (HasManyGone (K.gives kit.now) kept_ticks worlds.old worlds.new) }
+    ensures err { OnErr result (IsManyStopped (K.gives kit.now) kept_ticks worlds.old worlds.new) }
+{
+    'each: for chain in 0..worlds.chains() {
+        worlds.tick(kit, chain, 1)?;
+    }
+    Ok(())
+}
+
+/// Every swap's turns, and then the chains tick.
+fn round<K: Strategies>(worlds: &mut Worlds, kit: &K) -> Result<(), NoMemory>
+    requires on { IsOn (K.holds kit.now) worlds.old }
+    ensures ok { OnOk result (HasManyGone (K.gives kit.now) kept_round worlds.old worlds.new) }
+    ensures err { OnErr result (IsManyStopped (K.gives kit.now) kept_round worlds.old worlds.new) }
+{
+    all_turns(worlds, kit)?;
+    ticks(worlds, kit)
+}
+
+/// Whether each chain is above that height.
+fn have_ended(worlds: &Worlds, horizon: u64) -> bool
+    requires { horizon ≡ last_horizon (setup_of worlds.now) }
+    ensures { result ≡ have_ended (setup_of worlds.now) (kept_of worlds.now) }
+{
+    'each: for chain in 0..worlds.chains() {
+        if worlds.height(chain) as u64 <= horizon {
+            return false;
+        }
+    }
+    true
+}
+
+/// Rounds until each chain is above every horizon, for which one more than the greatest are enough.
+fn rounds<K: Strategies>(worlds: &mut Worlds, kit: &K) -> Result<(), NoMemory>
+    requires on { IsOn (K.holds kit.now) worlds.old }
+    ensures ok { OnOk result (HasManyGone (K.gives kit.now) kept_rounds worlds.old worlds.new) }
+    ensures err { OnErr result (IsManyStopped (K.gives kit.now) kept_rounds worlds.old worlds.new) }
+{
+    let horizon = worlds.last_horizon();
+    'rounds: for _ in 0..horizon + 1 {
+        if have_ended(worlds, horizon) {
+            return Ok(());
+        }
+        round(worlds, kit)?;
+    }
+    Ok(())
+}
+
+/// Sweeps every slot of a swap.
+fn sweep_all<K: Strategies>(worlds: &mut Worlds, kit: &K, swap: u8)
+    requires swap { swap < length worlds.old.worlds }
+    requires on { IsOn (K.holds kit.now) worlds.old }
+    ensures { HasManyGone (K.gives kit.now) (λ m z. sweeps_of m z swap) worlds.old worlds.new }
+{
+    'arcs: for arc in 0..worlds.deal(swap).graph.arcs().len() as ArcId {
+        worlds.sweep(kit, swap, arc, true);
+    }
+}
+
+/// Sweeps every slot.
+fn sweeps<K: Strategies>(worlds: &mut Worlds, kit: &K)
+    requires on { IsOn (K.holds kit.now) worlds.old }
+    ensures { HasManyGone (K.gives kit.now) kept_sweeps worlds.old worlds.new }
+{
+    'each: for swap in 0..worlds.swaps() {
+        sweep_all(worlds, kit, swap);
+    }
+}
+
+/// The fair finish: rounds, and then a sweep of every slot.
+pub(crate) fn finish<K: Strategies>(worlds: &mut Worlds, kit: &K) -> Result<(), NoMemory>
+    requires on { IsOn (K.holds kit.now) worlds.old }
+    ensures ok { OnOk result (HasManyGone (K.gives kit.now) kept_finish worlds.old worlds.new) }
+    ensures err { OnErr result (IsManyStopped (K.gives kit.now) kept_finish worlds.old worlds.new) }
+{
+    rounds(worlds, kit)?;
+    sweeps(worlds, kit);
+    Ok(())
+}

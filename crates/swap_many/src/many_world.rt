@@ -1,0 +1,186 @@
+//! Many swaps on shared chains.
+
+ghost use Rattle.std.specs.Prelude.{◌≡◌, ◌<◌, ◌∷◌, ◌++◌, [], ℕ, false, IsTrue, IfOk, IsErr, OnOk, OnErr, length, slice_index_or};
+ghost use Rattle.swap_base.specs.Fault.{Gives};
+ghost use Rattle.swap_digraph.specs.Deal.{IsWellSized};
+ghost use Rattle.swap_rules.specs.Outcome.{IsEnded};
+ghost use Rattle.swap_run.specs.Asked.{Answers};
+ghost use Rattle.swap_run.specs.Laws.{IsKept};
+ghost use Rattle.swap_world.specs.Value.{cast_at};
+ghost use Rattle.swap_many.specs.Accounts.{units_in};
+ghost use Rattle.swap_many.specs.Kept.{kept_done, kept_finish};
+ghost use Rattle.swap_many.specs.Laws.{CanCome, Follows};
+ghost use Rattle.swap_many.specs.Many.{many_reply};
+ghost use Rattle.swap_many.specs.Opening.{AreOpenable, opened};
+ghost use Rattle.swap_many.specs.Stages.{Came, Finished};
+ghost use Rattle.swap_many.specs.Value.{AreAllHeld, ContinueAll, HasManyGone, IsManyStopped, UnitsArePlacedIn, chain_at, kept_of, run_of, setup_for, setup_of};
+ghost use Rattle.swap_many.specs.Value.{world_at};
+
+use crate::fair;
+use crate::many_event::ManyEvent;
+use crate::many_reply::ManyReply;
+use crate::overdrawn::ManyFault;
+use crate::place::Place;
+use crate::worlds::Worlds;
+use deviator_script::Strategies;
+use ledger_core::Book;
+use std::alloc::Global;
+use std::marker::Model;
+use swap_base::{Listed, NoMemory, Past};
+use swap_digraph::Deal;
+use swap_world::World;
+
+/// Swaps whose arcs stand on shared chains with shared accounts.
+#[derive(Drop)]
+pub struct ManyWorld {
+    worlds: Worlds,
+    /// The events up to each fair finish, and those since the last one, for clauses alone.
+    stretches: Past<Past<ManyEvent>>,
+    events: Past<ManyEvent>,
+}
+
+impl Model for ManyWorld {
+    ghost use Rattle.swap_many.specs.Value.{ManyState};
+
+    ghost Value = { ManyState };
+
+    ghost use Rattle.swap_many.specs.Whole.{many_in, Holds};
+
+    ghost view = { many_in };
+
+    ghost invariant = { Holds };
+}
+
+impl ManyWorld {
+    /// Swaps before any event, or the first account of a chain that has fewer units than the arcs that it pays for. What each arc moves is set aside from
+    /// its party's account.
+    pub fn new(
+        alloc: Global,
+        chains: &[Listed<u64>],
+        worlds: Vec<World>,
+        places: Listed<Listed<Place>>,
+    ) -> Result<ManyWorld, ManyFault>
+        requires { AreOpenable chains.now worlds.items places }
+        ensures { Gives (λ w. w) result (opened chains.now worlds.items places) }
+    {
+        match Worlds::new(alloc, chains, worlds, places) {
+            Ok(worlds) => {
+                worlds.keep();
+                Ok(ManyWorld {
+                    worlds,
+                    stretches: Past::new(),
+                    events: Past::new(),
+                })
+            }
+            Err(fault) => Err(fault),
+        }
+    }
+
+    /// Takes one event, where the kit answers for strategies, and answers the reply of its tick, its call, its payment or its sweep, if it makes one.
+    /// After want of memory the books are those before the event or after it, and every later step wants memory too.
+    pub fn step<K: Strategies>(
+        &mut self,
+        kit: &K,
+        event: &ManyEvent,
+    ) -> Result<Option<ManyReply>, NoMemory>
+        requires event { CanCome (setup_of self.old) event.now }
+        requires kit { AreAllHeld (K.holds kit.now) self.old }
+        ensures ok { OnOk result (HasManyGone (K.gives kit.now) (λ m z. kept_done false m z event.now) self.old self.new) }
+        ensures stages { OnOk result (self.new.stages ≡ self.old.stages ++ Came event.now ∷ []) }
+        // The reply, and all that is kept, are those of the run by the chains' histories.
+        ensures reply { IfOk result (λ r. (g : ℕ → Answers) → ContinueAll self.new g
+            → r ≡ many_reply (setup_for self.old g) (run_of self.old g) event.now) }
+        ensures history { OnOk result ((g : ℕ → Answers) → ContinueAll self.new g
+            → Follows (setup_for self.new g) (run_of self.new g) (kept_of self.new)) }
+        // On every chain all units are in one place.
+        ensures units { OnOk result ((g : ℕ → Answers) → ContinueAll self.new g → UnitsArePlacedIn (setup_for self.new g) (run_of self.new g)) }
+        ensures err { OnErr result (IsManyStopped (K.gives kit.now) (λ m z. kept_done false m z event.now) self.old self.new) }
+        ensures stopped { IsTrue self.old.stopped → IsErr result × (self.new ≡ self.old) }
+        // Whatever the others do, and whether memory ran out or not, every swap's book is legal and its conforming parties have kept their conduct.
+        ensures kept { (s : ℕ) → s < length self.new.worlds → IsKept (cast_at (world_at self.new s)) (world_at self.new s).state.book }
+    {
+        if self.worlds.is_stopped() {
+            return Err(NoMemory);
+        }
+        let events = self.events.and(event);
+        self.events = events;
+        let done = self.worlds.step(kit, event);
+        self.worlds.keep();
+        done
+    }
+    /// The fair finish: rounds until every chain is above every horizon, and then a sweep of every slot. In a round the swaps have their turns, in
+    /// order: each party in its order looks at each arc that touches it and acts, until nothing is due where it conforms, else once. Then each chain ticks
+    /// by one height. After want of memory the books are those after some of its steps, and every later step wants memory too.
+    pub fn finish_fair<K: Strategies>(&mut self, kit: &K) -> Result<(), NoMemory>
+        requires kit { AreAllHeld (K.holds kit.now) self.old }
+        ensures ok { OnOk result (HasManyGone (K.gives kit.now) kept_finish self.old self.new) }
+        ensures stages { OnOk result (self.new.stages ≡ self.old.stages ++ Finished ∷ []) }
+        ensures history { OnOk result ((g : ℕ → Answers) → ContinueAll self.new g
+            → Follows (setup_for self.new g) (run_of self.new g) (kept_of self.new)) }
+        ensures units { OnOk result ((g : ℕ → Answers) → ContinueAll self.new g → UnitsArePlacedIn (setup_for self.new g) (run_of self.new g)) }
+        ensures ended { OnOk result ((s : ℕ) → s < length self.new.worlds → IsEnded (world_at self.new s).deal (world_at self.new s).state.book) }
+        ensures err { OnErr result (IsManyStopped (K.gives kit.now) kept_finish self.old self.new) }
+        ensures stopped { IsTrue self.old.stopped → IsErr result × (self.new ≡ self.old) }
+        ensures kept { (s : ℕ) → s < length self.new.worlds → IsKept (cast_at (world_at self.new s)) (world_at self.new s).state.book }
+    {
+        if self.worlds.is_stopped() {
+            return Err(NoMemory);
+        }
+        self.worlds.keep();
+        let stretches = self.stretches.and(&self.events);
+        self.stretches = stretches;
+        self.events = Past::new();
+        let done = fair::finish(&mut self.worlds, kit);
+        self.worlds.keep();
+        done
+    }
+
+    /// The book of a swap so far, also where memory ran out on the way.
+    pub fn copy_book(&self, alloc: Global, swap: u8) -> Result<Book, NoMemory>
+        requires { swap < length self.now.worlds }
+        ensures value { IfOk result (λ b. b.histories ≡ (world_at self.now swap).state.book) }
+        ensures kept { IsKept (cast_at (world_at self.now swap)) (world_at self.now swap).state.book }
+    {
+        self.worlds.copy_book(alloc, swap)
+    }
+
+    /// The free units of an account of a chain.
+    pub fn free(&self, chain: u8, account: u8) -> u64
+        requires chain { chain < length self.now.openings }
+        requires account { account < length (slice_index_or self.now.openings chain []) }
+        ensures { result ≡ units_in (chain_at self.now chain).free account }
+    {
+        self.worlds.free(chain, account)
+    }
+
+    /// The height of a chain.
+    pub fn height(&self, chain: u8) -> u32
+        requires { chain < length self.now.openings }
+        ensures { result ≡ (chain_at self.now chain).clock.height }
+    {
+        self.worlds.height(chain)
+    }
+
+    /// How many swaps there are.
+    pub fn swaps(&self) -> u8
+        ensures { result ≡ length self.now.worlds }
+    {
+        self.worlds.swaps()
+    }
+
+    /// How many chains there are.
+    pub fn chains(&self) -> u8
+        ensures { result ≡ length self.now.openings }
+    {
+        self.worlds.chains()
+    }
+
+    /// The deal of a swap.
+    pub fn deal(&self, swap: u8) -> &Deal
+        requires { swap < length self.now.worlds }
+        ensures value { result.now ≡ (world_at self.now swap).deal }
+        ensures sized { IsWellSized result.now }
+    {
+        self.worlds.deal(swap)
+    }
+}
