@@ -1,0 +1,52 @@
+-- A record keeps what all crashes leave.
+use Rattle.std.proofs.Common.{◌≡◌, ◌<◌, ℕ, List, length, true, Option, Some, None, sym, ◌∙◌, ap, subst}
+use Rattle.swap_digraph.specs.declared.deal.Deal.{Deal}
+use Rattle.hashkey_path.specs.declared.hashkey.Hashkey.{Hashkey}
+use Rattle.wallet_journal.specs.Device.{Write, LeavesOnly}
+use Rattle.wallet_journal.specs.Journal.{JournalState, IsKeptOn, IsBeforeOrAfter, IsMadeFor, KeepsRecorded, signed_at}
+use Rattle.wallet_journal.specs.Own.{IsInRecord, IsOwn, FitsDeal}
+use Rattle.wallet_journal.proofs.Moments.{weaker}
+use Rattle.wallet_journal.specs.Layout.{id_in, is_made, party_in, recorded}
+use Rattle.wallet_journal.proofs.Crash.{keeps, recorded_lock}
+
+module _ {D : Type 0} (seen : D → List ℕ) (may_leave : D → List ℕ → Type 0) (loose : D → List Write) (moment : D → ℕ) (left_since : D → ℕ → List ℕ → Type 0)
+    (j : JournalState D) (new : D) (k : Hashkey) (kept : IsKeptOn (seen j.disk) (may_leave j.disk) (loose j.disk) j.id j.me j.signed)
+    (lt : k.lock < length j.signed) (none : signed_at j.signed k.lock ≡ None)
+    (h : LeavesOnly moment left_since j.disk new (IsInRecord (seen j.disk) k)) where
+  pub keeps_recorded : LeavesOnly moment left_since j.disk new (KeepsRecorded (may_leave j.disk))
+  keeps_recorded =
+      weaker moment left_since j.disk new _ _ h (λ e there. keeps (may_leave j.disk) (seen j.disk) e k kept.still.among (sym (kept.shown k.lock lt) ∙ none)
+      there.whole)
+
+  pub keeps_whole : LeavesOnly moment left_since j.disk new (IsBeforeOrAfter (seen j.disk) k)
+  keeps_whole = weaker moment left_since j.disk new _ _ h (λ e there. there.whole)
+
+  pub keeps_own : (d : Deal) → FitsDeal d k → ((c : List ℕ) → may_leave j.disk c → IsOwn d j.me c) → LeavesOnly moment left_since j.disk new (IsOwn d j.me)
+  keeps_own d fits own = weaker moment left_since j.disk new _ _ h (λ e there. there.own d j.me fits (own (seen j.disk) kept.still.among))
+
+-- what a journal that is kept shows
+module _ (bytes : List ℕ) (may_leave : List ℕ → Type 0) (loose : List Write) (id : List ℕ) (me : ℕ) (signed : List (Option Hashkey))
+    (kept : IsKeptOn bytes may_leave loose id me signed)
+    (i : ℕ) (lt : i < length signed) where
+  pub shows : recorded bytes i ≡ signed_at signed i
+  shows = sym (kept.shown i lt)
+
+  pub shows_on : (c : List ℕ) → may_leave c → recorded c i ≡ signed_at signed i
+  shows_on c left = ap (λ (b : List ℕ). recorded b i) (kept.still.only c left) ∙ shows
+
+  pub shows_lock : (k : Hashkey) → signed_at signed i ≡ Some k → k.lock ≡ i
+  shows_lock k is = recorded_lock bytes i k (shows ∙ is)
+
+-- and what a crash leaves of it
+pub made_on : (bytes : List ℕ) (may_leave : List ℕ → Type 0) (loose : List Write) (id : List ℕ) (me : ℕ) (signed : List (Option Hashkey))
+    → IsKeptOn bytes may_leave loose id me signed → (c : List ℕ) → may_leave c → IsMadeFor id me c
+made_on bytes may_leave loose id me signed kept c left =
+    let is = kept.still.only c left in
+    record { made = ap is_made is ∙ kept.made; id_there = ap id_in is ∙ kept.id_there; party_there = ap party_in is ∙ kept.party_there }
+
+-- what a journal's invariant says of its value
+pub kept_of : {D : Type 0} (seen : D → List ℕ) (may_leave : D → List ℕ → Type 0) (loose : D → List Write) (i j : JournalState D) → i ≡ j → j.sound ≡ true
+    → (i.sound ≡ true → IsKeptOn (seen i.disk) (may_leave i.disk) (loose i.disk) i.id i.me i.signed)
+    → IsKeptOn (seen j.disk) (may_leave j.disk) (loose j.disk) j.id j.me j.signed
+kept_of {D = D} seen may_leave loose i j is sound inv =
+    subst (λ (x : JournalState D). x.sound ≡ true → IsKeptOn (seen x.disk) (may_leave x.disk) (loose x.disk) x.id x.me x.signed) is inv sound

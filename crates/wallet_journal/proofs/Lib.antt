@@ -1,0 +1,15 @@
+mod Bytes
+mod Crash
+mod Moments
+mod Tells
+mod Head
+mod Locks
+mod Finds
+mod Stays
+mod Fates
+mod Keeping
+mod Writes
+mod Moment
+mod Holds
+mod Overlay
+pub mod Stops

@@ -1,0 +1,81 @@
+-- A record that is stopped within one of its four calls of a disk in memory, which then crashes: the hashkey is recorded exactly where the gate was
+-- written and what isn't synced holds its new bytes.
+use Rattle.std.proofs.Common.{◌≡◌, ℕ, suc, ◌+◌, ◌≤◌, ◌<◌, true, false, ◌==◌, List, [], ◌∷◌, ◌++◌, length, get_or, Some, None, sym, ◌∙◌, ap, arith}
+use Rattle.std.specs.List.{AllByRecursion}
+use Rattle.std.proofs.lemmas.List.{get_or-drop}
+use Rattle.std.proofs.lemmas.Bool.Decides.{nat_tests}
+use Rattle.hashkey_path.specs.declared.hashkey.Hashkey.{Hashkey}
+use Rattle.wallet_journal.specs.Device.{Write, written}
+use Rattle.wallet_journal.specs.Layout.{byte, is_made, recorded, gate_at, body_at, body_of, IsTold}
+use Rattle.wallet_journal.specs.Held.{Held, no_bytes, after_writes, read_bytes, IsOnDisk}
+use Rattle.wallet_journal.specs.Memory.{crashed}
+use Rattle.wallet_journal.specs.Recording.{body_write, gate_write}
+use Rattle.wallet_journal.proofs.Bytes.{drop_written, written_torn}
+use Rattle.wallet_journal.proofs.Tells.{body_size}
+use Rattle.wallet_journal.proofs.Crash.{body_torn, shut, stored, mid}
+use Rattle.wallet_journal.proofs.Writes.{after_push}
+use Rattle.wallet_journal.proofs.Holds.{none_size, writes_size, crash_left}
+
+module _ (k : Hashkey) (ws : List Write) (spare : ℕ) (on : AllByRecursion IsOnDisk ws) (made : is_made (after_writes no_bytes ws) ≡ true) (lt : k.lock < 8)
+    (none : recorded (after_writes no_bytes ws) k.lock ≡ None) (few : length k.path ≤ 32) (paired : length k.sigs ≡ length k.path) (told : IsTold k) where
+  abbrev old : List ℕ
+  old = after_writes no_bytes ws
+
+  sized : length (after_writes no_bytes ws) ≡ 549426
+  sized = writes_size no_bytes ws none_size on
+
+  -- stopped within the first write or the first sync
+  abbrev pub early : Held
+  early = record { synced = ws; loose = body_write k ∷ []; spare = spare }
+
+  -- stopped within the second write or the second sync
+  abbrev pub late : Held
+  late = record { synced = ws ++ body_write k ∷ []; loose = gate_write k ∷ []; spare = spare }
+
+  fits : body_at k.lock + length (body_of k) ≤ 549426
+  fits = omega (arith, body_size k paired told, few, lt)
+
+  pub early_none : (image : ℕ) → recorded (read_bytes (crashed image early)) k.lock ≡ None
+  early_none image =
+      let left = crash_left image early (on, (fits, tt)) in
+      let small : length (body_of k) ≤ 68673 = omega (arith, body_size k paired told, few) in
+      ap (λ (c : List ℕ). recorded c k.lock) left.2
+      ∙ body_torn k.lock (length (body_of k)) lt small old left.0 left.1 none k.lock lt ∙ none
+
+  abbrev staged : List ℕ
+  staged = mid k old sized made lt none few paired told
+
+  is_staged : after_writes no_bytes (ws ++ body_write k ∷ []) ≡ staged
+  is_staged = after_push no_bytes ws (body_write k)
+
+  staged_size : length staged ≡ 549426
+  staged_size = (written_torn old (body_at k.lock) (body_of k) (omega (arith, fits, sized))).as_long ∙ sized
+
+  staged_none : recorded staged k.lock ≡ None
+  staged_none =
+      let small : length (body_of k) ≤ 68673 = omega (arith, body_size k paired told, few) in
+      body_torn k.lock (length (body_of k)) lt small old staged (written_torn old (body_at k.lock) (body_of k) (omega (arith, fits, sized))) none k.lock lt
+      ∙ none
+
+  pub late_one : recorded (read_bytes (crashed 1 late)) k.lock ≡ Some k
+  late_one =
+      ap (λ (c : List ℕ). recorded c k.lock) (after_push no_bytes (ws ++ body_write k ∷ []) (gate_write k)
+      ∙ ap (λ (b : List ℕ). written b (gate_at k.lock) (1 ∷ [])) is_staged)
+      ∙ (stored k old sized made lt none few paired told).here
+
+  pub late_zero : recorded (read_bytes (crashed 0 late)) k.lock ≡ None
+  late_zero = ap (λ (c : List ℕ). recorded c k.lock) is_staged ∙ staged_none
+
+  pub late_other : (n : ℕ) → recorded (read_bytes (crashed (suc (suc n)) late)) k.lock ≡ None
+  late_other n =
+      let image = suc (suc n) in
+      let end = written staged (gate_at k.lock) (suc (suc n) ∷ []) in
+      let closed : (suc (suc n) == 1) ≡ false = grind (arith, nat_tests) in
+      let room : gate_at k.lock + 1 ≤ length staged = omega (arith, staged_size, lt) in
+      let gate : byte (written staged (gate_at k.lock) (suc (suc n) ∷ [])) (gate_at k.lock) ≡ suc (suc n) =
+      sym (get_or-drop (gate_at k.lock) (written staged (gate_at k.lock) (suc (suc n) ∷ [])) 0 0
+      ∙ ap (λ (m : ℕ). get_or (written staged (gate_at k.lock) (suc (suc n) ∷ [])) m 0) (omega arith))
+      ∙ ap (λ (l : List ℕ). get_or l 0 0) (drop_written staged (gate_at k.lock) (suc (suc n) ∷ []) room) in
+      ap (λ (c : List ℕ). recorded c k.lock) (after_push no_bytes (ws ++ body_write k ∷ []) (record { at = gate_at k.lock; bytes = suc (suc n) ∷ [] })
+      ∙ ap (λ (b : List ℕ). written b (gate_at k.lock) (suc (suc n) ∷ [])) is_staged)
+      ∙ shut (written staged (gate_at k.lock) (suc (suc n) ∷ [])) k.lock (ap (λ (b : ℕ). b == 1) gate ∙ closed)

@@ -1,0 +1,65 @@
+-- A disk in memory, as its callers see it.
+use Rattle.std.specs.Prelude.{◌==◌, ◌||◌, ℕ, ◌+◌, Bool, false, List, [], ◌∷◌, ◌++◌, length, take, drop, replicate, map, zero, suc, Option, Some, None, nat_eq}
+use Rattle.std.specs.List.{list_any}
+use Rattle.wallet_journal.specs.Device.{Write}
+use Rattle.wallet_journal.specs.Held.{Held}
+use Rattle.wallet_journal.specs.declared.contents.Span.{Span}
+
+-- Which calls fail.
+pub record Failures : Type 0 where
+  -- the numbers, from 0, of the calls that fail
+  pub failing : List ℕ
+  -- the number of the next call
+  pub calls : ℕ
+  -- how many calls pass before every later one fails, where that is said
+  pub left : Option ℕ
+  pub count : ℕ
+
+abbrev pub is_stopped : Option ℕ → Bool
+is_stopped None = false
+is_stopped (Some n) = n == 0
+
+-- the next call fails
+abbrev pub is_failing : Failures → Bool
+is_failing f = is_stopped f.left || list_any (nat_eq f.calls) f.failing
+
+pub record DiskState : Type 0 where
+  pub held : Held
+  -- what was held before each write and sync so far
+  pub past : List Held
+  pub failing : List ℕ
+  pub calls : ℕ
+  pub left : Option ℕ
+  pub faults : ℕ
+
+-- the writes whose bytes follow each other in one list
+abbrev pub writes_in : List ℕ → List Span → List Write
+writes_in bytes [] = []
+writes_in bytes (s ∷ ss) = record { at = s.at; bytes = take s.len bytes } ∷ writes_in (drop s.len bytes) ss
+
+-- how many bytes the spans have
+abbrev pub total : List Span → ℕ
+total [] = 0
+total (s ∷ ss) = s.len + total ss
+
+-- one write more
+abbrev pub with_write : Held → ℕ → List ℕ → ℕ → Held
+with_write h at bytes spare = record { synced = h.synced; loose = h.loose ++ record { at = at; bytes = bytes } ∷ []; spare = spare }
+
+-- all is synced
+abbrev pub settled : Held → Held
+settled h = record { synced = h.synced ++ h.loose; loose = []; spare = h.spare }
+
+-- a write whose bytes are all of one value
+abbrev pub filled : ℕ → Write → Write
+filled n w = record { at = w.at; bytes = replicate (length w.bytes) n }
+
+-- the writes after a crash, of those that were synced and those that weren't: what isn't synced holds its old bytes for 0, its new ones for 1,
+-- and else that value
+abbrev pub left_of : ℕ → List Write → List Write → List Write
+left_of zero synced loose = synced
+left_of (suc zero) synced loose = synced ++ loose
+left_of (suc (suc n)) synced loose = synced ++ map (filled (suc (suc n))) loose
+
+abbrev pub crashed : ℕ → Held → Held
+crashed n h = record { synced = left_of n h.synced h.loose; loose = []; spare = 0 }
