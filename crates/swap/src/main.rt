@@ -9,7 +9,7 @@ use std::process::ExitCode;
 use std::sync::Wait;
 use std::{env, io};
 use swap_io::{ReaderSource, WriterSink, write_all};
-use swap_main::{Exit, Program, Status, ending, swap_top};
+use swap_main::{Exit, Program, Status, ending, swap_plain, swap_top};
 
 /// A gate that keeps nobody.
 struct OpenGate;
@@ -30,20 +30,33 @@ fn words_of(alloc: Global, args: io::Result<Args>) -> Result<Vec<String>, Status
     }
 }
 
+/// Whether the words may ask for a race, for which alone threads are started and waited for.
+fn may_race(words: &[String]) -> bool {
+    match words.first() {
+        Some(word) => word.as_str() == "race",
+        None => false,
+    }
+}
+
 fn main(rt: HostRuntime) -> ExitCode {
     let status = match words_of(rt.alloc(), env::args(&rt)) {
         Ok(words) => {
             let mut source = ReaderSource::new(rt.reader());
             let mut sink = WriterSink::new(io::writer(&rt));
-            swap_top(
-                &rt,
-                rt.alloc(),
-                &words,
-                &mut source,
-                &mut sink,
-                &OpenGate,
-                &Program { alloc: rt.alloc() },
-            )
+            let staff = Program { alloc: rt.alloc() };
+            if may_race(&words) {
+                swap_top(
+                    &rt,
+                    rt.alloc(),
+                    &words,
+                    &mut source,
+                    &mut sink,
+                    &OpenGate,
+                    &staff,
+                )
+            } else {
+                swap_plain(rt.alloc(), &words, &mut source, &mut sink, &staff)
+            }
         }
         Err(status) => status,
     };

@@ -99,7 +99,8 @@ add_many g before v h m =
 pub gathered : (g : Graph) (vs : List ℕ) (before groups : List Group) → steps (add_group g) before vs ≡ Ok groups → Gathered g before vs groups
 unfolding steps
 gathered g [] before groups e = record { list = sym (cc e) ∙ sym (append-nil before); few = λ v i h. absurd i }
-gathered g (v ∷ vs) before groups e = by_tests (is_head g v) (many g v) refl refl (gathered g vs before groups) (gathered g vs (before ++ the_group g v ∷ []) groups)
+gathered g (v ∷ vs) before groups e =
+    by_tests (is_head g v) (many g v) refl refl (gathered g vs before groups) (gathered g vs (before ++ the_group g v ∷ []) groups)
   where
     onward : (r : Result (List Group) ClearReason) → add_group g before v ≡ r → r >>= (λ t. steps (add_group g) t vs) ≡ Ok groups
     onward r a = ap (λ (x : Result (List Group) ClearReason). x >>= λ t. steps (add_group g) t vs) (sym a) ∙ e

@@ -141,7 +141,9 @@ module _ (g : Graph) (has : HasEnds g) (v : ℕ) (party : v < g.n) (head : is_he
   is_led = record {
     ascending = named_rises (leaders_of (own_with g v)) own_up (lead_in (own_with g v));
     among = λ w i.
-        let m = from_map (party_at (group_with g v)) (leaders_of (own_with g v)) w (is_among-true w (map (party_at (group_with g v)) (leaders_of (own_with g v))) i) in
+        let m =
+        from_map (party_at (group_with g v)) (leaders_of (own_with g v)) w
+        (is_among-true w (map (party_at (group_with g v)) (leaders_of (own_with g v))) i) in
         in-is_among w (group_with g v) (subst (λ (x : ℕ). IsIn x (group_with g v)) (sym m.2)
         (in_place (group_with g v) m.0 0 (lead_in (own_with g v) m.0 m.1)));
     order = order (own_with g v);
@@ -193,7 +195,8 @@ module _ (g : Graph) (has : HasEnds g) (v : ℕ) (party : v < g.n) (head : is_he
           let stands = in_place (leaders_of (own_with g v)) i 0 low in
           let back : map (place (group_with g v)) (get_or (the_group g v).cycles i []) ≡ cycle_for (own_with g v) (leaders_of (own_with g v)) k =
           ap (map (place (group_with g v)))
-          (get_or-map (λ (j : ℕ). map (party_at (group_with g v)) (cycle_for (own_with g v) (leaders_of (own_with g v)) j)) (leaders_of (own_with g v)) i 0 [] low)
+          (get_or-map (λ (j : ℕ). map (party_at (group_with g v)) (cycle_for (own_with g v) (leaders_of (own_with g v)) j))
+          (leaders_of (own_with g v)) i 0 [] low)
           ∙ map_back (party_at (group_with g v)) (place (group_with g v)) (cycle_for (own_with g v) (leaders_of (own_with g v)) k) (λ x j.
           place_back (group_with g v) set_rises x (cycle_below k x stands j)) in
           subst (λ (xs : List ℕ). IsCycleThrough (own_with g v) (without (get_or xs i 0) xs) (get_or xs i 0)
@@ -218,7 +221,8 @@ module _ (g : Graph) (has : HasEnds g) (v : ℕ) (party : v < g.n) (head : is_he
               let o = list_all-from (λ x. not (is_among x part)) (cycle_for (own_with g v) (leaders_of (own_with g v)) w) (λ x j.
               ap not (never (is_among x part) (λ h.
               not_it (is_among x (without w (leaders_of (own_with g v))))
-              (list_all-in (λ y. not (is_among y (without w (leaders_of (own_with g v))))) (cycle_for (own_with g v) (leaders_of (own_with g v)) w) x c.followers j)
+              (list_all-in (λ y. not (is_among y (without w (leaders_of (own_with g v)))))
+              (cycle_for (own_with g v) (leaders_of (own_with g v)) w) x c.followers j)
               (in-is_among x (without w (leaders_of (own_with g v)))
               (in_filter (λ y. not (y == w)) x (leaders_of (own_with g v)) (is_among-true x (leaders_of (own_with g v)) (within x h))
               (ap not (never (x == w) (λ s. true_false (is_among w part) (subst (λ (z : ℕ). is_among z part ≡ true) (eqb-true x w s) h) e)))))))) in

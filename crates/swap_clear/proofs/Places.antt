@@ -153,7 +153,9 @@ module _ (g : Graph) (has : HasEnds g) (v : ℕ) (party : v < g.n) where
       go (inr a) rest =
           let mu = from_group g v u iu in
           let mw = from_group g v w iw in
-          let there = on_to g v u a.next party (and_parts _ _ mu.1).0 (walk_reaches g 1 u a.next mu.0 (along g 0 u a.next a.next a.party a.arc (is_there g 0 a.next a.next refl))) in
+          let there =
+          on_to g v u a.next party (and_parts _ _ mu.1).0
+          (walk_reaches g 1 u a.next mu.0 (along g 0 u a.next a.next a.party a.arc (is_there g 0 a.next a.next refl))) in
           let back = on_to g a.next w v a.party (walk_reaches g k a.next w a.party a.rest) (and_parts _ _ mw.1).1 in
           let ix = in_group g v a.next a.party (and_both _ _ there back) in
           let s = stands (group_with g v) a.next ix in

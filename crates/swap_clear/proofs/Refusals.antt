@@ -158,9 +158,11 @@ extend_at g a m k j group count head is few sum rest =
     let high = rest.to in
     let n = rest.number in
     let one : length (filter (is_head g) (range_with_len a (rest.head - a)))
-    ≡ length (cond head (a ∷ filter (is_head g) (range_with_len (a + 1) (rest.head - (a + 1)))) (filter (is_head g) (range_with_len (a + 1) (rest.head - (a + 1))))) =
+    ≡ length (cond head (a ∷ filter (is_head g) (range_with_len (a + 1) (rest.head - (a + 1))))
+    (filter (is_head g) (range_with_len (a + 1) (rest.head - (a + 1))))) =
     ap (λ (xs : List ℕ). length (filter (is_head g) xs)) (range-next a rest.head (omega (arith, low)))
-    ∙ ap (λ (b : Bool). length (cond b (a ∷ filter (is_head g) (range_with_len (a + 1) (rest.head - (a + 1)))) (filter (is_head g) (range_with_len (a + 1) (rest.head - (a + 1)))))) is in
+    ∙ ap (λ (b : Bool). length (cond b (a ∷ filter (is_head g) (range_with_len (a + 1) (rest.head - (a + 1))))
+    (filter (is_head g) (range_with_len (a + 1) (rest.head - (a + 1)))))) is in
     let size = longer head (filter (is_head g) (range_with_len (a + 1) (rest.head - (a + 1)))) in
     record {
       head = rest.head;

@@ -189,12 +189,14 @@ module _ (g : Graph) where
   needed (x ∷ order) ls v (inr i) r f = needed order (tried g ls x) v i r f
   needed (x ∷ order) ls v (inl s) r f = go (breaks g (without x ls)) refl (remaining_in order (tried g ls x))
     where
-      rest_in : ((y : ℕ) → IsIn y (remaining g (tried g ls x) order) → IsIn y ls) → (y : ℕ) → IsIn y (without v (remaining g (tried g ls x) order)) → IsIn y (without x ls)
+      rest_in : ((y : ℕ) → IsIn y (remaining g (tried g ls x) order) → IsIn y ls) → (y : ℕ)
+          → IsIn y (without v (remaining g (tried g ls x) order)) → IsIn y (without x ls)
       rest_in within y j =
           let k = from_filter (λ w. not (w == v)) y (remaining g (tried g ls x) order) j in
           subst (λ (z : ℕ). IsIn y (without z ls)) s (in_filter (λ w. not (w == v)) y ls (within y k.0) k.1)
 
-      go : (b : Bool) → breaks g (without x ls) ≡ b → ((y : ℕ) → IsIn y (remaining g (tried g ls x) order) → IsIn y (cond (breaks g (without x ls)) (without x ls) ls)) → ⊥
+      go : (b : Bool) → breaks g (without x ls) ≡ b
+          → ((y : ℕ) → IsIn y (remaining g (tried g ls x) order) → IsIn y (cond (breaks g (without x ls)) (without x ls) ls)) → ⊥
       go true e within =
           gone x ls (subst (λ (z : ℕ). IsIn z (without x ls)) s (subst (λ (b : Bool). IsIn v (cond b (without x ls) ls)) e (within v r)))
       go false e within =

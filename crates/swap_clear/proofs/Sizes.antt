@@ -119,7 +119,8 @@ unfolding steps add_group
 groups_on g before after v n next total lt made is so_far =
     ap (λ (xs : List Group). steps (add_group g) xs (range_with_len (v + 1) (n - (v + 1)))) is
     ∙ sym (ap (steps (add_group g) before) (range-next v n lt)
-    ∙ ap (λ (r : Result (Option Group) ClearReason). (r >>= λ o. Ok (with_group before o)) >>= λ t. steps (add_group g) t (range_with_len (v + 1) (n - (v + 1)))) made)
+    ∙ ap (λ (r : Result (Option Group) ClearReason). (r >>= λ o. Ok (with_group before o))
+    >>= λ t. steps (add_group g) t (range_with_len (v + 1) (n - (v + 1)))) made)
     ∙ so_far
 
 pub groups_fail : (fault : Fault ClearReason) (g : Graph) (before : List Group) (v n : ℕ) (total : Result (List Group) ClearReason) → v < n
@@ -128,7 +129,8 @@ unfolding steps add_group
 groups_fail NoMemory g before v n total lt made so_far = tt
 groups_fail (Refused reason) g before v n total lt made so_far =
     sym so_far ∙ ap (steps (add_group g) before) (range-next v n lt)
-    ∙ ap (λ (r : Result (Option Group) ClearReason). (r >>= λ o. Ok (with_group before o)) >>= λ t. steps (add_group g) t (range_with_len (v + 1) (n - (v + 1)))) made
+    ∙ ap (λ (r : Result (Option Group) ClearReason). (r >>= λ o. Ok (with_group before o))
+    >>= λ t. steps (add_group g) t (range_with_len (v + 1) (n - (v + 1)))) made
 
 pub groups_end : (g : Graph) (groups : List Group) (v n : ℕ) (total : Result (List Group) ClearReason) → n ≤ v
     → steps (add_group g) groups (range_with_len v (n - v)) ≡ total → total ≡ Ok groups

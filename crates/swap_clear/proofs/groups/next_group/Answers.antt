@@ -25,24 +25,28 @@ own_graph-requires-clause-few c =
 
 pub own_graph-requires-clause-few_arcs : goal.own_graph-requires-clause-few_arcs
 own_graph-requires-clause-few_arcs c =
-    let l = arcs_few c.args.graph.now c.in_ok-set.set c.as_slice-4.result.now (c.as_slice-4.ensures ∙ (c.in_ok-numbers.ensures ∙ ap (arcs_within c.args.graph.now) c.as_slice-2.ensures)) in
+    let l = arcs_few c.args.graph.now c.in_ok-set.set c.as_slice-4.result.now
+    (c.as_slice-4.ensures ∙ (c.in_ok-numbers.ensures ∙ ap (arcs_within c.args.graph.now) c.as_slice-2.ensures)) in
     omega (arith, l)
 
 pub own_graph-requires-clause-numbers : goal.own_graph-requires-clause-numbers
 own_graph-requires-clause-numbers c =
-    arcs_in c.args.graph.now c.in_ok-set.set c.as_slice-4.result.now (c.as_slice-4.ensures ∙ (c.in_ok-numbers.ensures ∙ ap (arcs_within c.args.graph.now) c.as_slice-2.ensures))
+    arcs_in c.args.graph.now c.in_ok-set.set c.as_slice-4.result.now
+    (c.as_slice-4.ensures ∙ (c.in_ok-numbers.ensures ∙ ap (arcs_within c.args.graph.now) c.as_slice-2.ensures))
 
 pub own_graph-requires-clause-ends : goal.own_graph-requires-clause-ends
 own_graph-requires-clause-ends c =
     own_ends_hold c.args.graph.now c.requires.ends c.args.v c.requires.v c.as_slice-3.result.now c.as_slice-4.result.now
     (c.as_slice-3.ensures ∙ c.in_ok-set.ensures)
-    (c.as_slice-4.ensures ∙ (c.in_ok-numbers.ensures ∙ ap (arcs_within c.args.graph.now) c.as_slice-2.ensures) ∙ sym (ap (arcs_within c.args.graph.now) c.as_slice-3.ensures))
+    (c.as_slice-4.ensures ∙ (c.in_ok-numbers.ensures ∙ ap (arcs_within c.args.graph.now) c.as_slice-2.ensures)
+    ∙ sym (ap (arcs_within c.args.graph.now) c.as_slice-3.ensures))
 
 pub group_of-requires-clause-parties : goal.group_of-requires-clause-parties
 group_of-requires-clause-parties c =
     let few = set_few c.args.graph.now c.args.v c.in_ok-set.set c.in_ok-set.ensures in
     let some = set_some c.args.graph.now c.args.v c.in_ok-set.set c.in_ok-set.ensures c.requires.v in
-    let size : c.in_ok-own.own.n ≡ length c.in_ok-set.set = ap (λ (x : Graph). x.n) (c.in_ok-own.ensures ∙ ap₂ (own_graph c.args.graph.now) c.as_slice-3.ensures c.as_slice-4.ensures) in
+    let size : c.in_ok-own.own.n ≡ length c.in_ok-set.set =
+    ap (λ (x : Graph). x.n) (c.in_ok-own.ensures ∙ ap₂ (own_graph c.args.graph.now) c.as_slice-3.ensures c.as_slice-4.ensures) in
     (omega (arith, some, size), omega (arith, few, size))
 
 pub group_of-requires-clause-ends : goal.group_of-requires-clause-ends
