@@ -25,8 +25,13 @@ class View:
     def opened(self, arc, lock):
         return self.ledgers[arc].opened(lock, self.ends[arc])
 
+    def expiries(self, arc, end):
+        """The expiry of each lock that isn't opened after the first entries of an arc: that of the correct terms, whatever was published."""
+        ledger = self.ledgers[arc]
+        return [expiry(self.deal, arc, ledger.correct_terms, lock) for lock in ledger.closed_locks(end)]
+
     def least_expiry(self, arc):
-        return self.ledgers[arc].least_expiry(self.ends[arc])
+        return min(self.expiries(arc, self.ends[arc]))
 
     def calls(self, party, arc, kind, lock=None):
         """The entries of a party's calls of a kind (for a lock) on an arc, with their numbers."""
@@ -194,9 +199,7 @@ def accepted_heights(book, party, hashkey):
 
 def is_conducted_refund(book, arc, at, entry):
     """A refund comes above the expiry of a lock that is closed."""
-    ledger = book.ledgers[arc]
-    terms = ledger.terms(at)
-    return terms is not None and any(entry.height > expiry(book.deal, arc, terms, lock) for lock in ledger.closed_locks(at))
+    return any(entry.height > it for it in book.expiries(arc, at))
 
 
 # ---- lateness

@@ -39,8 +39,8 @@ def signature(seed, party, lock, message):
     return b"".join(chain[digit] for chain, digit in zip(chains(seed, party, lock), digits_of(message)))
 
 
-def deal_id(header, keyed):
-    """The id of a header's deal; keyed says whether the mode is hashkeys."""
+def deal_bytes(header, keyed):
+    """What the id of a header's deal is a digest of; keyed says whether the mode is hashkeys."""
     number = {party["name"]: at for at, party in enumerate(header["parties"])}
     wide = lambda value, count: value.to_bytes(count, "big")
     told = [bytes([header["swap"], keyed, len(number), len(header["arcs"])])]
@@ -50,15 +50,23 @@ def deal_id(header, keyed):
     told += [wide(header[it], 4) for it in ("start", "delta", "bound")]
     told += [bytes.fromhex(it["hashlock"]) for it in header["leaders"]]
     told += [bytes.fromhex(key) for row in header.get("keys", []) for key in row]
-    return digest(b"\6", *told)
+    return b"".join(told)
 
 
-def hashkey(identity, seeds, lock, path):
-    """The secret of the path's last party, and the signatures of all on it, first to last, over the path from each."""
-    secret, sigs = secret_of(seeds[path[-1]]), []
+def deal_id(header, keyed):
+    """The id of a header's deal."""
+    return digest(b"\6", deal_bytes(header, keyed))
+
+
+def message_of(identity, lock, suffix, secret, inner):
+    """What the first party of a path's suffix signs; inner is the next party's signature, or no bytes."""
+    return digest(b"\4", identity, bytes([lock, len(suffix), *suffix]), secret, inner)
+
+
+def hashkey(identity, seeds, lock, path, secret=None):
+    """The secret of the path's last party if none is given, and the signatures of all on it, first to last, over the path from each."""
+    secret, sigs = secret or secret_of(seeds[path[-1]]), []
     for at in reversed(range(len(path))):
-        suffix = path[at:]
-        inner = sigs[0] if sigs else b""
-        message = digest(b"\4", identity, bytes([lock, len(suffix), *suffix]), secret, inner)
+        message = message_of(identity, lock, path[at:], secret, sigs[0] if sigs else b"")
         sigs.insert(0, signature(seeds[path[at]], path[at], lock, message))
     return secret, sigs
