@@ -96,13 +96,8 @@ pub(crate) fn take<R: Wait>(rt: &R, lock: &TurnLock<Shelf>, seat: &mut LedgerSea
     ledger
 }
 
-/// Gives the turn back, where each further entry is of the seat's side.
-pub(crate) fn give<R: Wait>(
-    rt: &R,
-    lock: &TurnLock<Shelf>,
-    seat: &mut LedgerSeat,
-    ledger: Box<Ledger>,
-)
+/// Gives the turn back, where each further entry is of the seat's side. It waits for nobody.
+pub(crate) fn give(lock: &TurnLock<Shelf>, seat: &mut LedgerSeat, ledger: Box<Ledger>)
     requires lock { seat.old.lock ≡ lock.now.lock }
     requires turn { seat.old.holds ≡ true }
     requires deal { ledger.value.deal ≡ seat.old.deal }
@@ -110,7 +105,7 @@ pub(crate) fn give<R: Wait>(
     requires further { IsContinued seat.old ledger.value.history }
     ensures { seat.new ≡ knowing seat.old false ledger.value.history }
 {
-    lock.give(rt, &mut seat.seat, Shelf { ledger });
+    lock.give(&mut seat.seat, Shelf { ledger });
 }
 
 /// The ledger, which goes on from what each seat knows, and has of each side just what its seat knows.

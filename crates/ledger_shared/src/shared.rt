@@ -133,11 +133,11 @@ impl SharedLedger {
         match call_at_end(&mut ledger, pass.seen, pass.party, call, known) {
             Ok(called) => {
                 pass.seen = ledger.len();
-                give(rt, &self.lock, &mut pass.seat, ledger);
+                give(&self.lock, &mut pass.seat, ledger);
                 Ok(called)
             }
             Err(call) => {
-                give(rt, &self.lock, &mut pass.seat, ledger);
+                give(&self.lock, &mut pass.seat, ledger);
                 Err(CallBack { call })
             }
         }
@@ -156,11 +156,11 @@ impl SharedLedger {
         match fresh_in(&ledger, pass.seen) {
             Ok(fresh) => {
                 pass.seen = ledger.len();
-                give(rt, &self.lock, &mut pass.seat, ledger);
+                give(&self.lock, &mut pass.seat, ledger);
                 Ok(fresh)
             }
             Err(NoMemory) => {
-                give(rt, &self.lock, &mut pass.seat, ledger);
+                give(&self.lock, &mut pass.seat, ledger);
                 Err(NoMemory)
             }
         }
@@ -180,11 +180,11 @@ impl SharedLedger {
         match tick_at_end(&mut ledger, k) {
             Ok(reply) => {
                 pass.seen = ledger.len();
-                give(rt, &self.lock, &mut pass.seat, ledger);
+                give(&self.lock, &mut pass.seat, ledger);
                 Ok(reply)
             }
             Err(NoMemory) => {
-                give(rt, &self.lock, &mut pass.seat, ledger);
+                give(&self.lock, &mut pass.seat, ledger);
                 Err(NoMemory)
             }
         }

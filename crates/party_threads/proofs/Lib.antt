@@ -5,7 +5,9 @@ pub mod Seating
 pub mod Rounding
 pub mod Rounded
 pub mod Viewing
+pub mod Resting
 pub mod Racing
+pub mod Others
 pub mod Running
 pub mod Starting
 pub mod Staffing

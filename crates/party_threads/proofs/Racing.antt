@@ -1,7 +1,9 @@
 -- Races keep what they promise: by the laws of rounds, which are in time with a round's ticks and a slack of as many.
 use Rattle.std.proofs.Common.{◌≡◌, ℕ, zero, suc, ◌+◌, ◌*◌, ◌<◌, ◌≤◌, true, false, List, [], ◌∷◌, ◌++◌, length, refl, sym, ap, ◌∙◌, subst, arith, ◌⊎◌, inl, inr}
+use Rattle.std.proofs.Common.{zero-add}
 use Rattle.std.proofs.Math.Nat.{lt-mul-div-succ, mul_comm}
 use Rattle.std.proofs.Math.ListN.{get_or-eq_default}
+use Rattle.std.proofs.lemmas.List.FromFn.{get_or-map-range_with_len, length-map-range_with_len}
 use Rattle.std.proofs.lemmas.List.Sums.{sum_by-append}
 use Rattle.swap_base.specs.Lists.{IsIn}
 use Rattle.swap_base.proofs.Lists.{from_range, in_range, below_or}
@@ -10,11 +12,13 @@ use Rattle.escrow_core.specs.declared.reply.Reply.TheVariants.{Accepted}
 use Rattle.ledger_core.specs.declared.entry.Entry.{Entry}
 use Rattle.ledger_core.specs.History.{height, ticks_in}
 use Rattle.ledger_core.specs.Ledger.{tick_entry}
-use Rattle.ledger_core.specs.Book.{history}
+use Rattle.ledger_core.specs.Book.{Histories, history, IsLegalBook}
 use Rattle.ledger_shared.specs.Value.{made_by, ticks_in_order}
+use Rattle.swap_rules.specs.Conduct.{IsConducted}
 use Rattle.swap_rules.specs.Due.{due}
-use Rattle.swap_laws.specs.Machine.{Knows}
-use Rattle.swap_laws.specs.Rounds.{IsRounds, IsTurn, IsDoneBy}
+use Rattle.swap_laws.specs.Machine.{Begins, Knows}
+use Rattle.swap_laws.specs.Rounds.{IsRounds, IsTurn, IsDoneBy, IsRaceTurn, book_at}
+use Rattle.swap_laws.specs.Rounds as laws
 use Rattle.swap_laws.proofs.Rounds.{rounds_in_time, rounds_on_time}
 use Rattle.swap_laws.proofs.Dealing.{all_dealt}
 use Rattle.party_wallet.specs.Value.{signed_in}
@@ -23,10 +27,11 @@ use Rattle.swap_run.specs.Laws.{IsReadyCast, IsGood}
 use Rattle.swap_run.specs.Fair.{the_horizon}
 use Rattle.swap_run.proofs.Acts.{first_none}
 use Rattle.swap_run.proofs.Good.{start_is_good, good_is_kept, empty_at}
-use Rattle.party_threads.specs.Race.{rounds_for, IsRound, IsRaced, IsRaceBook, RacesAreKept, ticks_of_rounds}
+use Rattle.party_threads.specs.Race.{rounds_for, IsRound, IsRaced, books_of, IsOfRounds, IsRaceBook, RacesAreKept, ticks_of_rounds}
 use Rattle.race_turns.specs.Played.{Gives}
 use Rattle.party_threads.specs.Views.{PlaysByViews}
 use Rattle.race_turns.proofs.Clocks.{height_of_ticks}
+use Rattle.party_threads.proofs.Resting.{rest_shows_in_calls}
 use Rattle.party_threads.proofs.Viewing.{plays_by_views}
 
 height_append : (h k : List Entry) → height (h ++ k) ≡ height h + height k
@@ -118,6 +123,50 @@ module _ (gives : Gives) (c : Cast) (ticks rounds : ℕ) (ready : IsReadyCast c)
     turn = λ r l. subst (λ n. IsTurn c.deal v (c.wallet v) (states r).book (states n).book (r * ticks + ticks)) (next r) (turn r v l lv cv);
   }
 
+  -- The books at the ends of the rounds.
+
+  book_is : (r : ℕ) → r ≤ rounds → book_at (books_of states rounds) r ≡ (states r).book
+  book_is r l = get_or-map-range_with_len (λ r. (states r).book) 0 (rounds + 1) r r [] (omega (arith, l)) (zero-add r)
+
+  race_turn : (r v : ℕ) → r < rounds → v < c.deal.graph.n → conforms c v ≡ true → IsRaceTurn c.deal v (c.wallet v) (states r).book (states (r + 1)).book
+  race_turn r v l lv cv =
+      let n = notes_of (states (r + 1)) v in
+      let notes = (each r l).good.notes v lv cv in
+      record {
+        known = n.known;
+        seen = λ a near. (each r l).seen v a lv cv near;
+        knows = notes.knows;
+        done =
+            (rest_shows_in_calls c.deal v (c.wallet v) n.known (signed_in n.signed) ready.accepted notes.sound).0
+            (first_none (due c.deal v (c.wallet v) (signed_in n.signed) n.known) ((each r l).rests v lv cv));
+      }
+
+  listed : (v : ℕ) → v < c.deal.graph.n → conforms c v ≡ true → laws.IsRaced c.deal v (c.wallet v) ticks rounds (books_of states rounds)
+  listed v lv cv = record {
+    number = length-map-range_with_len (λ r. (states r).book) 0 (rounds + 1);
+    legal = λ r l. subst (IsLegalBook c.deal) (sym (book_is r l)) (good r l).legal;
+    conducted =
+        subst (λ b. IsConducted c.deal b v) (sym (book_is rounds (omega arith)))
+        ((good_is_kept c (states rounds) ready (good rounds (omega arith))).conducted v lv cv);
+    empty = λ a. ap (λ b. history b a) (book_is 0 (omega arith)) ∙ at_start a;
+    grows = λ r a l. both_are r l (λ old new. Begins (history old a) (history new a)) ((each r l).grows a);
+    at = λ r a l i. ap (λ b. height (history b a)) (book_is r l) ∙ level r a l i;
+    turn = λ r l. both_are r l (IsRaceTurn c.deal v (c.wallet v)) (race_turn r v l lv cv);
+  }
+    where
+      both_are : (r : ℕ) → r < rounds → (P : Histories → Histories → Type 0) → P (states r).book (states (r + 1)).book
+          → P (book_at (books_of states rounds) r) (book_at (books_of states rounds) (r + 1))
+      both_are r l P p =
+          subst (λ (w : Histories × Histories). P w.0 w.1) (λ i. (sym (book_is r (omega (arith, l))) i, sym (book_is (r + 1) (omega (arith, l))) i)) p
+
+  of_rounds : rounds ≡ rounds_for c.deal ticks → IsOfRounds gives c ticks (states rounds).book
+  of_rounds is = record {
+    end = states rounds;
+    raced = record { states = states; first = first; last = ap states (sym is); each = λ r l. each r (subst (λ n. r < n) (sym is) l) };
+    book = refl;
+    listed = λ v lv cv. subst (λ n. laws.IsRaced c.deal v (c.wallet v) ticks n (books_of states n)) is (listed v lv cv);
+  }
+
   kept : the_horizon c.deal < rounds * ticks → rounds ≡ rounds_for c.deal ticks → IsRaceBook gives c ticks (states rounds).book
   kept past is =
       let whole = good rounds (omega arith) in
@@ -127,6 +176,7 @@ module _ (gives : Gives) (c : Cast) (ticks rounds : ℕ) (ready : IsReadyCast c)
       let on_time = λ (two : 2 * ticks ≤ c.deal.delta) (v : ℕ) (lv : v < c.deal.graph.n) (cv : conforms c v ≡ true).
       rounds_on_time c.deal v (c.wallet v) ticks ticks rounds (λ r. (states r).book) ready.accepted some (omega (arith, two)) (rounds_of v lv cv) in
       record {
+        came = of_rounds is;
         legal = whole.legal;
         ticked = λ a i. ticked rounds a (omega arith) i ∙ ap (ticks_of_rounds ticks) is;
         ended = ended;

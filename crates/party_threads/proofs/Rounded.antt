@@ -421,6 +421,7 @@ module _ (gives : Gives) (job : Job) (ticks : ℕ) (ls ls' : List (Option Ledger
       answered =
           subst (λ (x : Plan × Plan). IsAnswered gives d job.seeds v view w.acted.played.answer x.0 x.1 (role_in job v)) (λ i. (sym w.was i, sym w.is i))
           w.acted.played.answered;
+      may = w.acted.played.may;
       turns = ap (λ (x : Plan). x.turns) w.is ∙ (w.acted.played.turns ∙ ap (λ (x : Plan). x.turns + 1) (sym w.was));
     }
 

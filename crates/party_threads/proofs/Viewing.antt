@@ -11,7 +11,7 @@ use Rattle.deviator_script.specs.declared.moves.Move.{Move}
 use Rattle.deviator_script.specs.declared.job.Role.{Role}
 use Rattle.deviator_script.specs.declared.job.Role.TheVariants.{Conforming, Manual, Script, Strategy}
 use Rattle.deviator_script.specs.Script.{next_call, moves_left}
-use Rattle.deviator_script.specs.View.{is_near, IsView}
+use Rattle.deviator_script.specs.View.{is_near, IsView, MayAnswer}
 use Rattle.swap_laws.specs.Machine.{Begins}
 use Rattle.swap_laws.proofs.Prefixes.{begins_refl, begins_more, begins_height}
 use Rattle.swap_run.specs.Run.{Cast, State, Plan, plan_of, role_of, script_of, first_plan, start}
@@ -56,6 +56,7 @@ module _ (gives : Gives) (c : Cast) (ticks rounds : ℕ) (states : ℕ → State
     called : (a : ℕ) → a < length c.deal.graph.arcs
         → calls_by v (history (states (suc r)).book a) ≡ take 32 (calls_by v (history (states r).book a) ++ answer_on a answer)
     answered : IsAnswered gives c.deal c.seeds v view answer (plan_of (states r) v) (plan_of (states (suc r)) v) (role_of c v)
+    may : MayAnswer c.deal v answer
     turns : (plan_of (states (suc r)) v).turns ≡ (plan_of (states r) v).turns + 1
 
   played_next : (r : ℕ) (l : r < rounds) (t : ℕ) → r + 1 ≡ t
@@ -73,6 +74,7 @@ module _ (gives : Gives) (c : Cast) (ticks rounds : ℕ) (states : ℕ → State
         own = k.0.own;
         called = k.0.called;
         answered = k.0.answered;
+        may = k.0.may;
         turns = k.0.turns;
       })
   is_turn_in r lt (inr ge) = absurd (omega (arith, lt, ge))
@@ -173,6 +175,7 @@ module _ (gives : Gives) (c : Cast) (ticks rounds : ℕ) (states : ℕ → State
           omega (arith, h, at);
       grows = λ r a l. grown_views r a l;
       own = λ r a l la. (is_turn r l).own a la ∙ called_so_far r a (omega (arith, l)) la;
+      may = λ r l. (is_turn r l).may;
       calls = λ a la. called_so_far rounds a (omega arith) la;
     };
     answered = answered_by (role_of c v) refl;

@@ -1,22 +1,29 @@
 -- Races: rounds in which every party and the clock have their turns at once.
-use Rattle.std.specs.Prelude.{◌≡◌, ℕ, zero, suc, ◌+◌, ◌*◌, ◌/◌, ◌<◌, ◌≤◌, true, false, List, [], ◌∷◌, ◌++◌, Some, None}
+use Rattle.std.specs.Prelude.{◌≡◌, ◌↔◌, ℕ, zero, suc, ◌+◌, ◌*◌, ◌/◌, ◌<◌, ◌≤◌, true, false, List, [], ◌∷◌, ◌++◌, map, Option, Some, None}
+use Rattle.std.specs.List.{range_with_len}
 use Rattle.swap_base.specs.Lists.{IsIn}
 use Rattle.swap_digraph.specs.Graph.{arcs}
 use Rattle.swap_digraph.specs.declared.deal.Deal.{Deal}
+use Rattle.hashkey_path.specs.declared.hashkey.Hashkey.{Hashkey}
 use Rattle.escrow_core.specs.declared.reply.Reply.TheVariants.{Accepted}
+use Rattle.ledger_core.specs.declared.entry.Call.{Call}
 use Rattle.ledger_core.specs.declared.entry.Entry.{Entry}
 use Rattle.ledger_core.specs.History.{height}
 use Rattle.ledger_core.specs.Ledger.{tick_entry}
 use Rattle.ledger_core.specs.Book.{Histories, history, IsLegalBook}
 use Rattle.ledger_shared.specs.Value.{made_by, ticks_in_order}
+use Rattle.swap_rules.specs.Accepted.{IsAccepted}
 use Rattle.swap_rules.specs.Outcome.{IsEnded}
+use Rattle.swap_rules.specs.Party.{first_key}
+use Rattle.swap_rules.specs.Due.{Wallet, due}
 use Rattle.swap_rules.specs.declared.finding.Rule.{Rule}
 use Rattle.swap_rules.specs.Conduct.{IsConducted}
 use Rattle.swap_rules.specs.Late.{ref_of}
 use Rattle.swap_rules.specs.Findings.{rules_of}
-use Rattle.swap_laws.specs.Machine.{Begins}
+use Rattle.swap_laws.specs.Machine.{Begins, IsSound}
 use Rattle.swap_laws.specs.Laws.{IsOnTime, IsDealt}
 use Rattle.swap_laws.specs.Rounds.{IsNear, IsDoneBy}
+use Rattle.swap_laws.specs.Rounds as laws
 use Rattle.swap_run.specs.Run.{Cast, State, conforms, role_of, is_planned, notes_of, next_of, start}
 use Rattle.swap_run.specs.Laws.{IsReadyCast, IsGood}
 use Rattle.swap_run.specs.Fair.{the_horizon}
@@ -48,6 +55,19 @@ pub record IsRaced (gives : Gives) (c : Cast) (ticks rounds : ℕ) (t : State) :
   pub last : states rounds ≡ t
   pub each : (r : ℕ) → r < rounds → IsRound gives c ticks (states r) (states (r + 1))
 
+-- the books at the ends of so many rounds, oldest first, and before them that of the start
+abbrev pub books_of : (ℕ → State) → ℕ → List Histories
+books_of states rounds = map (λ r. (states r).book) (range_with_len 0 (rounds + 1))
+
+-- The book came of rounds from the start, the fewest that pass the horizon. The books at their ends are, for each conforming party, such a list as the law
+-- speaks of by which races are in time.
+pub record IsOfRounds (gives : Gives) (c : Cast) (ticks : ℕ) (b : Histories) : Type 0 where
+  pub end : State
+  pub raced : IsRaced gives c ticks (rounds_for c.deal ticks) end
+  pub book : b ≡ end.book
+  pub listed : (v : ℕ) → v < c.deal.graph.n → conforms c v ≡ true
+      → laws.IsRaced c.deal v (c.wallet v) ticks (rounds_for c.deal ticks) (books_of raced.states (rounds_for c.deal ticks))
+
 -- the ticks of so many rounds
 abbrev pub ticks_of_rounds : ℕ → ℕ → List Entry
 ticks_of_rounds ticks zero = []
@@ -55,6 +75,9 @@ ticks_of_rounds ticks (suc r) = ticks_of_rounds ticks r ++ tick_entry ticks (suc
 
 -- What a race promises of its book, whatever the order of the threads.
 pub record IsRaceBook (gives : Gives) (c : Cast) (ticks : ℕ) (b : Histories) : Type 0 where
+  -- it came by rounds, in each of which every conforming party ends its turn with nothing due, past all that stood as the round began, and every view shows
+  -- all of that
+  pub came : IsOfRounds gives c ticks b
   pub legal : IsLegalBook c.deal b
   pub ticked : (a : ℕ) → IsIn a (arcs c.deal.graph) → ticks_in_order (history b a) ≡ ticks_of_rounds ticks (rounds_for c.deal ticks)
   pub ended : IsEnded c.deal b
@@ -75,3 +98,17 @@ abbrev pub RacesAreKept : Type 1
 RacesAreKept =
     (gives : Gives) (c : Cast) (ticks : ℕ) (t : State) → IsReadyCast c → 1 ≤ ticks → IsRaced gives c ticks (rounds_for c.deal ticks) t
     → IsRaceBook gives c ticks t.book
+
+-- what strategies may answer, the other says too
+abbrev pub SaysMore : Gives → Gives → Type 0
+SaysMore gives other = (name : List ℕ) (d : Deal) (v t : ℕ) (k : Histories) (o : Option (ℕ × Call)) → gives name d v t k o → other name d v t k o
+
+-- a race's book is one for all who say of the strategies' answers no more than that
+abbrev pub RacesSayLess : Type 1
+RacesSayLess = (gives other : Gives) (c : Cast) (ticks : ℕ) (b : Histories) → SaysMore gives other → IsRaceBook gives c ticks b → IsRaceBook other c ticks b
+
+-- Where the calls of v in what it knows keep its rules, nothing is due by the hashkeys that it signed exactly where nothing is by those of its unlock calls.
+abbrev pub RestShowsInCalls : Type 0
+RestShowsInCalls =
+    (d : Deal) (v : ℕ) (w : Wallet) (known : Histories) (signed : ℕ → Option Hashkey) → IsAccepted d → IsSound d known signed v
+    → (due d v w signed known ≡ []) ↔ (due d v w (first_key known v) known ≡ [])

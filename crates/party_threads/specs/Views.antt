@@ -8,7 +8,7 @@ use Rattle.deviator_script.specs.declared.moves.Move.{Move}
 use Rattle.deviator_script.specs.declared.job.Role.{Role}
 use Rattle.deviator_script.specs.declared.job.Role.TheVariants.{Conforming, Manual, Script, Strategy}
 use Rattle.deviator_script.specs.Script.{next_call, moves_left}
-use Rattle.deviator_script.specs.View.{is_near, IsView}
+use Rattle.deviator_script.specs.View.{is_near, IsView, MayAnswer}
 use Rattle.swap_laws.specs.Machine.{Begins}
 use Rattle.swap_run.specs.Run.{Cast, State, plan_of, role_of}
 use Rattle.race_turns.specs.Played.{Gives, calls_by, answer_on, IsAnswered}
@@ -27,14 +27,16 @@ abbrev pub moves_at : (ℕ → Histories) → List Move → ℕ → List Move
 moves_at views moves zero = moves
 moves_at views moves (suc r) = moves_left (views r) (moves_at views moves r)
 
--- One view a round, each of which begins with that of the round before, shows what stood as its round began, and shows of the party's own calls just those
--- made for earlier views; and the party's calls in the book are the answers to these views.
+-- One view a round, each of which begins with that of the round before, has the height at which its round began, and shows of the party's own calls just
+-- those made for earlier views; and the party's calls in the book are the answers to these views. An answer is no call, or one that stands on an arc that
+-- touches the party and fits. That a view shows all that stood as its round began is said of the rounds (`Race.IsRound`).
 pub record AreRoundViews (d : Deal) (ticks rounds : ℕ) (b : Histories) (v : ℕ) (views : ℕ → Histories) (answers : ℕ → Option (ℕ × Call)) : Type 0 where
   pub shown : (r : ℕ) → r < rounds → IsView d v (views r)
   pub begins : (r a : ℕ) → r < rounds → Begins (history (views r) a) (history b a)
   pub high : (r a : ℕ) → r < rounds → a < length d.graph.arcs → is_near d v a ≡ true → r * ticks ≤ height (history (views r) a)
   pub grows : (r a : ℕ) → r + 1 < rounds → Begins (history (views r) a) (history (views (r + 1)) a)
   pub own : (r a : ℕ) → r < rounds → a < length d.graph.arcs → calls_by v (history (views r) a) ≡ made_on a answers r
+  pub may : (r : ℕ) → r < rounds → MayAnswer d v (answers r)
   pub calls : (a : ℕ) → a < length d.graph.arcs → calls_by v (history b a) ≡ made_on a answers rounds
 
 -- each view is answered once: by the script from its first move, or by the strategy
@@ -53,7 +55,8 @@ pub record PlaysByViews (gives : Gives) (c : Cast) (ticks rounds : ℕ) (b : His
 
 -- One round.
 
--- The party was shown what stood as the round began at least, and of its own calls no others; it made the call that is the answer, if any.
+-- The party was shown what stood as the round began at least, and of its own calls no others; it made the call that is the answer, if any, which stands on an
+-- arc that touches it and fits.
 pub record HasPlayed (gives : Gives) (c : Cast) (s t : State) (v : ℕ) : Type 0 where
   pub view : Histories
   pub answer : Option (ℕ × Call)
@@ -63,4 +66,5 @@ pub record HasPlayed (gives : Gives) (c : Cast) (s t : State) (v : ℕ) : Type 0
   pub own : (a : ℕ) → a < length c.deal.graph.arcs → calls_by v (history view a) ≡ calls_by v (history s.book a)
   pub called : (a : ℕ) → a < length c.deal.graph.arcs → calls_by v (history t.book a) ≡ take 32 (calls_by v (history s.book a) ++ answer_on a answer)
   pub answered : IsAnswered gives c.deal c.seeds v view answer (plan_of s v) (plan_of t v) (role_of c v)
+  pub may : MayAnswer c.deal v answer
   pub turns : (plan_of t v).turns ≡ (plan_of s v).turns + 1

@@ -6,16 +6,20 @@
 //! a conforming party is done within two rounds' ticks, so that nobody conforming is late where two ticks fit in delta; where all conform besides, nothing
 //! is found and everything moves. Nothing is said of time, nor that a turn ever ends.
 //!
+//! The book comes by such rounds, and the books at their ends are what the law on races in time speaks of.
+//!
 //! Read `specs/Race.antt` first: what a round does to the book and to what each party has noted, and what a race is.
 #![tactic(auto)]
 
 mod deal;
 mod gate;
+mod laws;
 mod round;
 mod rounds;
 mod staff;
 mod turn;
 
 pub use gate::Gate;
+pub use laws::rest_shows_in_calls;
 pub use rounds::race;
 pub use staff::RaceFault;

@@ -1,5 +1,6 @@
 -- A machine that acts: what holds after each of its calls.
-use Rattle.std.proofs.Common.{◌≡◌, ◌≢◌, ℕ, ◌<◌, ◌++◌, List, length, set, slice_index_or, Option, Some, None, option_map, refl, sym, ap, ◌∙◌, subst}
+use Rattle.std.proofs.Common.{◌≡◌, ◌≢◌, ℕ, ◌+◌, ◌<◌, ◌≤◌, ◌++◌, List, length, set, slice_index_or, Option, Some, None, option_map, refl, sym, ap, ◌∙◌}
+use Rattle.std.proofs.Common.{subst, arith}
 use Rattle.std.proofs.lemmas.Option.{none-some}
 use Rattle.swap_digraph.specs.declared.deal.Deal.{Deal}
 use Rattle.hashkey_path.specs.declared.hashkey.Hashkey.{Hashkey}
@@ -12,10 +13,12 @@ use Rattle.party_wallet.specs.Value.{signed_in}
 use Rattle.party_machine.specs.Machine.{MachineState, action_of, next_of, noted_for, IsOfSame}
 use Rattle.swap_rules.specs.Due.{Action}
 use Rattle.swap_laws.specs.Machine.{noted}
+use Rattle.swap_run.specs.Fair.{most_acts}
+use Rattle.swap_run.proofs.Slots.{left, left_most}
 use Rattle.race_turns.specs.Able.{watcher, machine_with, IsAble, IsMakable, IsSameOwner}
 use Rattle.race_turns.specs.Later.{pass_in, WentOn, HaveGoneOn}
 use Rattle.race_turns.specs.Tracks.{Tracks, HaveSeenAll, HasItsPasses, IsSameElsewhere, IsPlaceOf, HasMade, MadeIf}
-use Rattle.race_turns.proofs.Machines.{makable, made_of, able_made, owner_more}
+use Rattle.race_turns.proofs.Machines.{makable, made_of, able_made, owner_more, left_made, none_left}
 use Rattle.race_turns.proofs.Passes.{none_went, all_more, any_default, place_of, tracks_on, seen_again, elsewhere_on}
 
 -- passes that went on are at the same places
@@ -29,7 +32,8 @@ stay d v ps qs gone same h = record {
     there a None w h0 = absurd (none-some h0.0 h0.1)
     there a (Some p) w h0 = (w.0, w.1)
 
-pub record IsActing (ledgers : List SharedState) (m : MachineState) (ps : List (Option PassState)) (n : MachineState) (qs : List (Option PassState))
+-- what holds after k acts
+pub record IsActing (ledgers : List SharedState) (m : MachineState) (ps : List (Option PassState)) (k : ℕ) (n : MachineState) (qs : List (Option PassState))
     : Type 0 where
   pub able : IsAble n
   pub tracks : Tracks ledgers (watcher n) qs
@@ -38,10 +42,12 @@ pub record IsActing (ledgers : List SharedState) (m : MachineState) (ps : List (
   pub seen : HaveSeenAll ps → HaveSeenAll qs
   pub owner : IsSameOwner m n
   pub elsewhere : IsSameElsewhere ps m.known n.known
+  -- of all calls that a party may make, k are made
+  pub few : left n.deal n.me n.known + k ≤ most_acts m.deal
 
-pub acts_begin : (ledgers : List SharedState) (m : MachineState) (ps : List (Option PassState)) → IsAble m → Tracks ledgers (watcher m) ps
-    → HasItsPasses m.deal m.me ps → IsActing ledgers m ps m ps
-acts_begin ledgers m ps able tracks passes = record {
+pub acts_begin : (ledgers : List SharedState) (m : MachineState) (ps : List (Option PassState)) (k : ℕ) → k ≡ 0 → IsAble m → Tracks ledgers (watcher m) ps
+    → HasItsPasses m.deal m.me ps → IsActing ledgers m ps k m ps
+acts_begin ledgers m ps k none able tracks passes = record {
   able = able;
   tracks = tracks;
   passes = passes;
@@ -49,7 +55,14 @@ acts_begin ledgers m ps able tracks passes = record {
   seen = λ h. h;
   owner = record { deal = refl; me = refl; seed = refl };
   elsewhere = λ a none. refl;
+  few = let most = left_most m.deal m.me m.known in omega (arith, most, none);
 }
+
+-- after as many acts as there are calls nothing is due
+pub acts_end : (ledgers : List SharedState) (m : MachineState) (ps : List (Option PassState)) (k : ℕ) (n : MachineState) (qs : List (Option PassState))
+    → IsActing ledgers m ps k n qs → most_acts m.deal ≤ k → next_of n ≡ None
+acts_end ledgers m ps k n qs h all =
+    none_left n h.able (let few = h.few in omega (arith, few, all))
 
 -- the machine that has signed more
 abbrev with_signed : MachineState → List (Option Hashkey) → MachineState
@@ -79,6 +92,7 @@ pub record HasActed (ledgers : List SharedState) (m : MachineState) (ps : List (
   pub seen : HaveSeenAll ps → HaveSeenAll qs
   pub owner : IsSameOwner m n
   pub elsewhere : IsSameElsewhere ps m.known n.known
+  pub fewer : left m.deal m.me n.known + 1 ≤ left m.deal m.me m.known
 
 module _ (ledgers : List SharedState) (m n : MachineState) (s : List (Option Hashkey)) (ps : List (Option PassState)) (a : ℕ) (c : Call) (p q : PassState)
     (able : IsAble m) (tracks : Tracks ledgers (watcher m) ps) (due : next_of m ≡ Some (an_action a c)) (many : length s ≡ length m.signed)
@@ -100,6 +114,7 @@ module _ (ledgers : List SharedState) (m n : MachineState) (s : List (Option Has
     seen = λ all. seen_again ps a q below all made.whole;
     owner = record { deal = refl; me = refl; seed = refl };
     elsewhere = elsewhere_on ps ps m.known m.known a p h (none_went ps) here (λ b none. refl);
+    fewer = left_made m s (an_action a c) made.others able due made.foreign made.legal;
   }
 
   pub has_acted : HasActed ledgers m ps n (set ps a (Some q))
@@ -159,10 +174,10 @@ module _ (ledgers : List SharedState) (m m1 : MachineState) (o : Option (ℕ × 
       acted_at ledgers m m1 n ps a c q able tracks due same (noted_is (signed_in m.signed) m1 o a c is signed) place_below
       (subst (λ x. MadeIf (watcher m1) (machine_with m1 a) a c x n q) (any_default ps a r None place_below) made)
 
-pub acts_on : (ledgers : List SharedState) (m n o : MachineState) (ps qs rs : List (Option PassState)) → IsActing ledgers m ps n qs → HaveGoneOn qs rs
-    → IsAble o
-    → Tracks ledgers (watcher o) rs → (HaveSeenAll qs → HaveSeenAll rs) → IsSameOwner n o → IsSameElsewhere qs n.known o.known → IsActing ledgers m ps o rs
-acts_on ledgers m n o ps qs rs h gone able tracks seen owner elsewhere = record {
+pub acts_on : (ledgers : List SharedState) (m n o : MachineState) (ps qs rs : List (Option PassState)) (k : ℕ) → IsActing ledgers m ps k n qs
+    → HaveGoneOn qs rs → IsAble o → Tracks ledgers (watcher o) rs → (HaveSeenAll qs → HaveSeenAll rs) → IsSameOwner n o
+    → IsSameElsewhere qs n.known o.known → left n.deal n.me o.known + 1 ≤ left n.deal n.me n.known → IsActing ledgers m ps (k + 1) o rs
+acts_on ledgers m n o ps qs rs k h gone able tracks seen owner elsewhere fewer = record {
   able = able;
   tracks = tracks;
   passes =
@@ -172,4 +187,8 @@ acts_on ledgers m n o ps qs rs h gone able tracks seen owner elsewhere = record 
   seen = λ all. seen (h.seen all);
   owner = owner_more m n o h.owner owner;
   elsewhere = λ a none. elsewhere a (subst (λ x. WentOn x (pass_in qs a)) none (h.gone_on a)) ∙ h.elsewhere a none;
+  few =
+      let same : left o.deal o.me o.known ≡ left n.deal n.me o.known = λ i. left (owner.deal i) (owner.me i) o.known in
+      let few = h.few in
+      omega (arith, same, few, fewer);
 }

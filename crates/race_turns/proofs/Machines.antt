@@ -1,10 +1,11 @@
 -- What looks and calls leave of a machine.
-use Rattle.std.proofs.Common.{◌≡◌, ℕ, ◌<◌, ◌++◌, List, [], ◌∷◌, length, set, Option, Some, None, refl, sym, ◌∙◌, subst, inl}
+use Rattle.std.proofs.Common.{◌≡◌, ℕ, ◌+◌, ◌<◌, ◌≤◌, ◌++◌, false, cond, List, [], ◌∷◌, length, set, Option, Some, None, refl, sym, ap, ◌∙◌, subst, inl}
+use Rattle.std.proofs.Common.{arith, eq-eqb}
 use Rattle.std.proofs.lemmas.List.{length-set, set-set}
 use Rattle.swap_base.specs.Lists.{IsIn}
 use Rattle.hashkey_path.specs.declared.hashkey.Hashkey.{Hashkey}
 use Rattle.ledger_core.specs.declared.entry.Entry.{Entry}
-use Rattle.ledger_core.specs.History.{sent_by, IsLegal}
+use Rattle.ledger_core.specs.History.{sent_by, is_full, IsLegal}
 use Rattle.ledger_core.specs.Ledger.{after_call}
 use Rattle.ledger_core.specs.Book.{history}
 use Rattle.ledger_shared.specs.Value.{PassState, made_by}
@@ -12,10 +13,14 @@ use Rattle.party_wallet.specs.Value.{signed_in}
 use Rattle.party_machine.specs.Wallet.{wallet_of}
 use Rattle.party_machine.specs.Machine.{MachineState, next_of}
 use Rattle.swap_rules.specs.Due.{Action, first}
-use Rattle.swap_laws.specs.Machine.{IsSound, noted}
+use Rattle.swap_laws.specs.Machine.{IsSound, noted, entry_of, test_of}
 use Rattle.swap_laws.proofs.Machines.{learn_sound, call_sound}
 use Rattle.swap_laws.proofs.Due.{IsDue, is_due, due_is_valid}
-use Rattle.swap_laws.proofs.Conducting.{knows_all}
+use Rattle.swap_laws.proofs.Conducting.{knows_all, history_same}
+use Rattle.swap_laws.proofs.Prefixes.{begins_refl}
+use Rattle.swap_laws.proofs.Room.{rules_leave_room}
+use Rattle.swap_run.proofs.Entries.{call_pushes}
+use Rattle.swap_run.proofs.Slots.{left, left_less}
 use Rattle.race_turns.specs.Able.{watcher, machine_with, IsAble, IsMakable, IsSameOwner}
 use Rattle.race_turns.specs.Tracks.{HasLooked, LookedIf}
 use Rattle.race_turns.proofs.Calls.{none_passes}
@@ -97,3 +102,49 @@ able_made m signed x others k e many is none legal =
           subst (λ f. IsSound m.deal (set m.known x.arc (after_call m.deal x.arc m.me x.call h)) f m.me) (sym is)
           (subst (λ b. IsSound m.deal b (noted (signed_in m.signed) x.call) m.me) (set-set m.known x.arc h (after_call m.deal x.arc m.me x.call h)) sound);
     }
+
+-- What it may still call.
+
+-- the ledger of a due call has room for it
+room_made : (m : MachineState) (x : Action) (others : List Entry) → IsAble m → next_of m ≡ Some x → made_by m.me others ≡ []
+    → IsLegal m.deal x.arc (history m.known x.arc ++ others) → is_full (history m.known x.arc ++ others) m.me ≡ false
+room_made m x others k e none legal =
+    let below : x.arc < length m.known = subst (λ z. x.arc < z) (sym k.arcs) (due_of m x k e).below in
+    let s =
+    learn_sound m.deal m.known (signed_in m.signed) m.me x.arc others below (none_passes (λ (y : Entry). sent_by m.me y.sender) others none) legal
+    k.sound in
+    subst (λ h. is_full h m.me ≡ false) (history_same m.known x.arc (history m.known x.arc ++ others) below)
+    (rules_leave_room m.deal (set m.known x.arc (history m.known x.arc ++ others)) (signed_in m.signed) m.me x.arc k.accepted s.legal s.rules)
+
+-- a due call leaves one less
+pub left_made : (m : MachineState) (signed : List (Option Hashkey)) (x : Action) (others : List Entry) → IsAble m → next_of m ≡ Some x
+    → made_by m.me others ≡ [] → IsLegal m.deal x.arc (history m.known x.arc ++ others)
+    → left m.deal m.me (made_of m signed x others).known + 1 ≤ left m.deal m.me m.known
+left_made m signed x others k e none legal =
+    let is = due_of m x k e in
+    let below : x.arc < length m.known = subst (λ z. x.arc < z) (sym k.arcs) is.below in
+    let h : List Entry = history m.known x.arc ++ others in
+    let there : history (set m.known x.arc (after_call m.deal x.arc m.me x.call h)) x.arc ≡ h ++ entry_of m.deal x.arc h m.me x.call ∷ [] =
+    history_same m.known x.arc (after_call m.deal x.arc m.me x.call h) below
+    ∙ call_pushes m.deal x.arc h m.me x.call (room_made m x others k e none legal) in
+    left_less m.deal m.me m.known (after_call m.deal x.arc m.me x.call h) h x.arc (entry_of m.deal x.arc h m.me x.call) is.slot there (others, refl)
+    is.slot_in is.below is.fresh (ap (test_of is.slot) (ap (λ z. cond z (Some x.call) None) (eq-eqb m.me m.me refl)) ∙ is.passes)
+
+-- who may make no further call has nothing due
+pub none_left : (m : MachineState) → IsAble m → left m.deal m.me m.known ≡ 0 → next_of m ≡ None
+none_left m k none = go (next_of m) refl
+  where
+    go : (o : Option Action) → next_of m ≡ o → next_of m ≡ None
+    go None e = e
+    go (Some x) e =
+        let is = due_of m x k e in
+        let below : x.arc < length m.known = subst (λ z. x.arc < z) (sym k.arcs) is.below in
+        let h : List Entry = history m.known x.arc in
+        let entry : Entry = entry_of m.deal x.arc h m.me x.call in
+        let less =
+        left_less m.deal m.me m.known (h ++ entry ∷ []) h x.arc entry is.slot (history_same m.known x.arc (h ++ entry ∷ []) below) (begins_refl h)
+        is.slot_in is.below is.fresh (ap (test_of is.slot) (ap (λ z. cond z (Some x.call) None) (eq-eqb m.me m.me refl)) ∙ is.passes) in
+        absurd (over (left m.deal m.me (set m.known x.arc (h ++ entry ∷ []))) (left m.deal m.me m.known) less none)
+      where
+        over : (less all : ℕ) → less + 1 ≤ all → all ≡ 0 → ⊥
+        over less all a b = omega (arith, a, b)

@@ -233,9 +233,10 @@ answered_as gives d seeds v view answer n0 n1 n2 n3 Manual m t u h = tt
 pub has_played : (gives : Gives) (ledgers : List SharedState) (d : Deal) (seeds : Seeds) (role : Role) (v : ℕ) (answer : Option (ℕ × Call)) (n0 n1 n2 n3 : Plan)
     (ps qs : List (Option PassState)) → Tracks ledgers (planner_of d v n1) qs → HaveGoneOn ps qs → HaveSeenAll qs → length qs ≡ length ps → IsView d v n1.known
     → HaveFresh v n0.known n1.known → n1.moves ≡ n0.moves → n1.turns ≡ n0.turns → IsAnswered gives d seeds v n1.known answer n1 n2 role
-    → n2.turns ≡ n1.turns + 1 → n2.known ≡ n1.known → HaveGrown n2.known n3.known → HasCalled d v answer n2.known n3.known → n3.moves ≡ n2.moves
-    → n3.turns ≡ n2.turns → HasPlayed gives d seeds role v ps n0 n3
-has_played gives ledgers d seeds role v answer n0 n1 n2 n3 ps qs tracks gone all places view fresh moves turns answered once same grown called moves3 turns3 =
+    → MayAnswer d v answer → n2.turns ≡ n1.turns + 1 → n2.known ≡ n1.known → HaveGrown n2.known n3.known → HasCalled d v answer n2.known n3.known
+    → n3.moves ≡ n2.moves → n3.turns ≡ n2.turns → HasPlayed gives d seeds role v ps n0 n3
+has_played gives ledgers d seeds role v answer n0 n1 n2 n3 ps qs tracks gone all places view fresh moves turns answered may once same grown called moves3
+    turns3 =
     let own = fresh_own v n0.known n1.known fresh in
     record {
       view = n1.known;
@@ -247,5 +248,6 @@ has_played gives ledgers d seeds role v answer n0 n1 n2 n3 ps qs tracks gone all
       own = own;
       called = λ a lt. called a lt ∙ ap (λ cs. take 32 (cs ++ answer_on a answer)) (ap (λ k. calls_by v (history k a)) same ∙ own a);
       answered = answered_as gives d seeds v n1.known answer n0 n1 n2 n3 role moves turns moves3 answered;
+      may = may;
       turns = turns3 ∙ (once ∙ ap (λ t. t + 1) turns);
     }

@@ -11,7 +11,7 @@ use Rattle.deviator_script.specs.declared.job.Role.{Role}
 use Rattle.deviator_script.specs.declared.job.Role.TheVariants.{Conforming, Manual, Script, Strategy}
 use Rattle.deviator_script.specs.Crafted.{Seeds}
 use Rattle.deviator_script.specs.Script.{next_call, moves_left}
-use Rattle.deviator_script.specs.View.{IsView}
+use Rattle.deviator_script.specs.View.{IsView, MayAnswer}
 use Rattle.swap_rules.specs.Party.{call_by}
 use Rattle.swap_laws.specs.Machine.{Begins}
 use Rattle.swap_run.specs.Run.{Plan}
@@ -75,7 +75,7 @@ abbrev pub HasCalled : Deal → ℕ → Option (ℕ × Call) → Histories → H
 HasCalled d v answer old new = (a : ℕ) → a < length d.graph.arcs → calls_by v (history new a) ≡ take 32 (calls_by v (history old a) ++ answer_on a answer)
 
 -- The party with the plan n was shown a view, with all that was shared and none of its own calls that it didn't know, and made the call that is the answer,
--- if any, unless the ledger had 32 of it. Then it has the plan m.
+-- if any, unless the ledger had 32 of it; the call stands on an arc that touches it, and fits. Then it has the plan m.
 pub record HasPlayed (gives : Gives) (d : Deal) (seeds : Seeds) (role : Role) (v : ℕ) (ps : List (Option PassState)) (n m : Plan) : Type 0 where
   pub view : Histories
   pub answer : Option (ℕ × Call)
@@ -86,4 +86,5 @@ pub record HasPlayed (gives : Gives) (d : Deal) (seeds : Seeds) (role : Role) (v
   pub own : (a : ℕ) → calls_by v (history view a) ≡ calls_by v (history n.known a)
   pub called : HasCalled d v answer n.known m.known
   pub answered : IsAnswered gives d seeds v view answer n m role
+  pub may : MayAnswer d v answer
   pub turns : m.turns ≡ n.turns + 1

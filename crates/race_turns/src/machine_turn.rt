@@ -1,9 +1,12 @@
 //! A conforming party's turn: it looks at each of its ledgers, and then acts until nothing is due.
 
-ghost use Rattle.std.specs.Prelude.{◌≡◌, ◌≢◌, ◌<◌, ◌++◌, None, true, false, OnOk, OnErr, IfOk, length};
+ghost use Rattle.std.specs.Prelude.{◌≡◌, ◌≢◌, ◌+◌, ◌<◌, ◌≤◌, ◌++◌, None, true, false, OnOk, OnErr, IfOk, length};
+ghost use Rattle.swap_digraph.specs.Deal.{IsWellSized};
 ghost use Rattle.ledger_core.specs.Book.{history};
 ghost use Rattle.ledger_core.specs.History.{IsLegal};
 ghost use Rattle.party_machine.specs.Machine.{learnt, next_of};
+ghost use Rattle.swap_run.specs.Fair.{most_acts};
+ghost use Rattle.swap_run.proofs.Slots.{left};
 ghost use Rattle.race_turns.specs.Able.{watcher, machine_with, IsAble, IsMakable, IsSameOwner};
 ghost use Rattle.race_turns.specs.Later.{IsLater, WentOn, HaveGoneOn};
 ghost use Rattle.race_turns.specs.Tracks.{IsPassOf, Tracks, HaveSeenAll, HasItsPasses, HasLooked, HasMade, IsSameElsewhere, IsPlaceOf, LookedIf, MadeIf};
@@ -16,6 +19,7 @@ use std::marker::Brand;
 use std::sync::Wait;
 use std::sync::ledger::{Blank, Ledger as Counted};
 use swap_base::{ArcId, NoMemory};
+use swap_digraph::Deal;
 
 fn learn_counted<L: Counted>(
     machine: &mut Machine,
@@ -167,6 +171,9 @@ fn act<R: Wait>(
     ensures seen { OnOk result (HaveSeenAll passes.old → HaveSeenAll passes.new) }
     ensures idle { IfOk result (λ made. made ≡ false → next_of machine.new ≡ None) }
     ensures due { IfOk result (λ made. made ≡ true → next_of machine.old ≢ None) }
+    // it may make one call less
+    ensures fewer { IfOk result (λ made. made ≡ true → left machine.old.deal machine.old.me machine.new.known + 1
+        ≤ left machine.old.deal machine.old.me machine.old.known) }
     ensures owner { IsSameOwner machine.old machine.new }
     ensures elsewhere { IsSameElsewhere passes.old machine.old.known machine.new.known }
 {
@@ -180,7 +187,15 @@ fn act<R: Wait>(
     }
 }
 
-/// Acts until nothing is due.
+/// The most calls of a party that conforms.
+fn most_acts(deal: &Deal) -> u32
+    requires { IsWellSized deal.now }
+    ensures { result ≡ most_acts deal.now }
+{
+    (deal.leaders.len() as u32 + 3) * deal.graph.arcs().len() as u32
+}
+
+/// Acts until nothing is due, for which as many acts are enough as there are calls that the party may make.
 fn act_to_rest<R: Wait>(
     rt: &R,
     ledgers: &[SharedLedger],
@@ -198,12 +213,12 @@ fn act_to_rest<R: Wait>(
     ensures owner { IsSameOwner machine.old machine.new }
     ensures elsewhere { IsSameElsewhere passes.old machine.old.known machine.new.known }
 {
-    'acts: for _ in rt.forever() {
+    'acts: for _ in 0..most_acts(machine.deal()) {
         if !act(rt, ledgers, machine, passes)? {
             return Ok(());
         }
     }
-    unreachable!()
+    Ok(())
 }
 
 /// The turn of a conforming party.

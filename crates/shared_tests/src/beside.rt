@@ -85,7 +85,7 @@ fn keep_until<R: Wait>(
     let value = lock.take(rt, &mut seat);
     taken.store(1, Ordering::SeqCst);
     let answered = is_set(done);
-    lock.give(rt, &mut seat, value);
+    lock.give(&mut seat, value);
     answered
 }
 

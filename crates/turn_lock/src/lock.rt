@@ -101,8 +101,8 @@ impl<T: Journal> TurnLock<T> {
         unreachable!()
     }
 
-    /// Gives the turn back. Each entry past those that were taken has the seat's number.
-    pub fn give<R: Wait>(&self, _rt: &R, seat: &mut TurnSeat<T>, value: T)
+    /// Gives the turn back, and waits for nobody. Each entry past those that were taken has the seat's number.
+    pub fn give(&self, seat: &mut TurnSeat<T>, value: T)
         requires lock { seat.old.table_id ≡ self.now.lock }
         requires turn { IsBusy seat.old.me }
         requires further { IsContinuedBy T.author (number_of seat.old.me) (known_of seat.old.me) (T.history value) }

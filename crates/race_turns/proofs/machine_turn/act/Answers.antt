@@ -38,3 +38,9 @@ returns-in_ok-call_at-in-Some-clause-tracks g c =
     (has_acted_so c.args.ledgers.now c.args.machine.now c.next.new.self c.in_ok-next.field-0 c.in-Some.arc c.in-Some.due c.args.passes.now
     c.requires.able c.requires.tracks c.in-Some.is c.in_ok-next.ensures.due c.in_ok-next.ensures.same c.in_ok-next.ensures.signed
     c.index-passes-place.result c.call_at.new.machine c.call_at.new.place c.in_ok-call_at-in-Some.ensures.made).tracks
+
+pub returns-in_ok-call_at-in-Some-clause-fewer : goal.returns-in_ok-call_at-in-Some-clause-fewer
+returns-in_ok-call_at-in-Some-clause-fewer g c = λ e.
+    (has_acted_so c.args.ledgers.now c.args.machine.now c.next.new.self c.in_ok-next.field-0 c.in-Some.arc c.in-Some.due c.args.passes.now
+    c.requires.able c.requires.tracks c.in-Some.is c.in_ok-next.ensures.due c.in_ok-next.ensures.same c.in_ok-next.ensures.signed
+    c.index-passes-place.result c.call_at.new.machine c.call_at.new.place c.in_ok-call_at-in-Some.ensures.made).fewer

@@ -13,4 +13,5 @@ returns-clause-played g c =
     on_both c.make.result (λ grown called.
     has_played _ c.args.ledgers.now d c.args.job.now.seeds (role_in c.args.job.now c.args.me) c.args.me c.in_ok-call.call c.args.planner.now
     c.look_round.new.planner c.answer.new.planner c.make.new.planner c.args.passes.now c.look_round.new.passes l.tracks l.gone_on l.whole
-    (l.tracks.places ∙ sym c.requires.tracks.places) l.view l.fresh l.moves l.turns t.answered t.turns t.known grown called e.moves e.turns) e.grown e.called
+    (l.tracks.places ∙ sym c.requires.tracks.places) l.view l.fresh l.moves l.turns t.answered t.fits t.turns t.known grown called e.moves e.turns) e.grown
+    e.called
