@@ -8,10 +8,10 @@ use Rattle.swap_world.specs.Value.{WorldState}
 use Rattle.swap_many.specs.Value.{no_world}
 use Rattle.swap_many.specs.Ticking.{nth, IsTicked, AreTicked}
 
-pub none_ticked : (on : List (List Bool)) (k : ℕ) (ws : List WorldState) → AreTicked on k 0 ws ws
+pub none_ticked : (on : List (List ℕ)) (k : ℕ) (ws : List WorldState) → AreTicked on k 0 ws ws
 none_ticked on k ws = record { one_each = refl; ticked = λ s l z. absurd (omega arith); others = λ s l. refl }
 
-pub one_ticked : (on : List (List Bool)) (k n : ℕ) (old mid : List WorldState) (x : WorldState) → n < length old → AreTicked on k n old mid
+pub one_ticked : (on : List (List ℕ)) (k n : ℕ) (old mid : List WorldState) (x : WorldState) → n < length old → AreTicked on k n old mid
     → IsTicked (slice_index_or on n []) k (nth mid n) x → AreTicked on k (n + 1) old (slice_set mid n x)
 one_ticked on k n old mid x l so_far new = record {
   one_each = length-set mid n x ∙ so_far.one_each;

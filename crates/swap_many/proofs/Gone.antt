@@ -11,6 +11,7 @@ use Rattle.swap_run.specs.Asked.{Answers}
 use Rattle.swap_run.specs.Fair.{repeat}
 use Rattle.swap_run.proofs.Repeats.{repeat_one, rest_more}
 use Rattle.swap_world.specs.Gone.{Gives}
+use Rattle.swap_world.proofs.Gone.{nothing_asked}
 use Rattle.swap_many.specs.Chains.{Setup}
 use Rattle.swap_many.specs.Kept.{Kept}
 use Rattle.swap_many.specs.Laws.{IsReady}
@@ -142,6 +143,27 @@ module _ (gives : Gives) where
     };
   }
 
+  -- memory ran out before the first step
+  pub stops_here : (f : Setup → Kept → Kept) (w : ManyState) → AreReady w → LeadOn w f → IsManyStopped gives f w (record w { stopped = true })
+  stops_here f w ready leads = record {
+    stopped = refl;
+    same = record {
+      swaps = refl;
+      casts = λ s. refl;
+      asked = λ s. nothing_asked gives (world_at w s) (world_at w s) refl refl;
+      places = refl;
+      openings = refl;
+    };
+    way = λ g c. record {
+      there = kept_of w;
+      before = no_step (setup_for w g) (ready g) (kept_of w);
+      after = leads g (kept_of w);
+      books = λ s l. refl;
+      clocks = λ i. refl;
+      free = λ i. refl;
+    };
+  }
+
 -- Loops over a list.
 
 split_at : {A B : Type 0} (f : A → B → A) (s : A) (xs : List B) (k : ℕ) (x : B) → k < length xs → x ≡ get_or xs k x
@@ -226,7 +248,7 @@ module _ (w : ManyState) (ready : AreReady w) (f : Setup → Kept → Kept) (lea
       let m = setup_for w g in
       more_steps m (ready g) z (repeat n (f m) z) (f m (repeat n (f m) z)) (leads_repeat n g z) (leads g (repeat n (f m) z))
 
-repeat_split : {A : Type 0} (j k : ℕ) (f : A → A) (x : A) → repeat (j + k) f x ≡ repeat j f (repeat k f x)
+pub repeat_split : {A : Type 0} (j k : ℕ) (f : A → A) (x : A) → repeat (j + k) f x ≡ repeat j f (repeat k f x)
 repeat_split zero k f x = let z : 0 + k ≡ k = omega arith in ap (λ i. repeat i f x) z
 repeat_split (suc j) k f x = let z : suc j + k ≡ suc (j + k) = omega arith in ap (λ i. repeat i f x) z ∙ ap f (repeat_split j k f x)
 

@@ -20,11 +20,15 @@ pub mod Values
 pub mod Happened
 pub mod Chained
 pub mod Each
-pub mod Ticked
 pub mod Rows
 pub mod Gone
 pub mod Emptied
 pub mod Turning
+pub mod Ticked
+pub mod Nearby
+pub mod Still
+pub mod Skips
+pub mod Advancing
 pub mod Runs
 pub mod Begun
 pub mod Starting

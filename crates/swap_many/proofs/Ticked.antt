@@ -3,11 +3,14 @@ use Rattle.std.proofs.Common.{◌≡◌, ◌⊎◌, ℕ, suc, zero, ◌+◌, ◌
 use Rattle.std.proofs.Common.{ap₂, ◌∙◌, subst, inl, inr, arith, slice_set, slice_index_or}
 use Rattle.std.proofs.Common.{Result, Ok, Err, IsErr, OnOk, OnErr}
 use Rattle.std.proofs.lemmas.List.{length-map, length-set}
-use Rattle.std.proofs.lemmas.List.FromFn.{get_or-map-range_with_len, length-map-range_with_len}
+use Rattle.std.specs.List.{All, range_with_len}
+use Rattle.std.specs.List.Sorted.{IsStrictlyIncreasing}
+use Rattle.std.proofs.lemmas.List.Elements.{All-filter}
+use Rattle.std.proofs.lemmas.List.Kept.{IsStrictlyIncreasing-filter}
+use Rattle.std.proofs.lemmas.List.FromFn.{get_or-map-range_with_len, length-map-range_with_len, length-range_with_len, get_or-range_with_len}
 use Rattle.escrow_core.specs.declared.reply.Reply.TheVariants.{Accepted, ClockFull}
 use Rattle.swap_many.specs.declared.many_reply.ManyReply.TheVariants.{Plain}
-use Rattle.swap_base.specs.Lists.{IsIn}
-use Rattle.swap_base.proofs.Lists.{from_range, below_or}
+use Rattle.swap_base.proofs.Lists.{below_or}
 use Rattle.swap_digraph.specs.Graph.{arcs}
 use Rattle.deviator_script.specs.declared.event.Event.TheVariants as events
 use Rattle.swap_run.specs.Asked.{Answers}
@@ -15,8 +18,9 @@ use Rattle.swap_run.specs.Run.{Cast, State, step}
 use Rattle.swap_run.specs.Laws.{IsKept}
 use Rattle.swap_world.specs.Value.{WorldState, cast_at, cast_for}
 use Rattle.swap_world.specs.Gone.{Gives, HasAsked}
-use Rattle.swap_world.specs.On.{tick_where, ticked_on}
+use Rattle.swap_world.specs.On.{tick_at, ticked_on}
 use Rattle.swap_world.proofs.Gone.{nothing_asked}
+use Rattle.swap_world.proofs.Ways.{range_all}
 use Rattle.swap_many.specs.declared.many_event.ManyEvent.TheVariants.{Tick}
 use Rattle.swap_many.specs.declared.place.Place.{Place}
 use Rattle.swap_many.specs.Accounts.{ChainState, units_in}
@@ -29,36 +33,39 @@ use Rattle.swap_many.specs.Inside.{stands, standing, AreWhole}
 use Rattle.swap_many.proofs.Projections.{put_still}
 use Rattle.swap_many.proofs.Each.{none_stopped}
 use Rattle.swap_many.proofs.Values.{can_for, with_chain, each_chain, chains_put, put_map, whole_next, sound_step}
+use Rattle.swap_many.proofs.Turning.{fold_filter}
 use Rattle.swap_many.proofs.Way.{no_step, one_step}
-
-fold_in : {A B : Type 0} (f h : A → B → A) (x : A) (ys : List B) → ((x : A) (y : B) → IsIn y ys → f x y ≡ h x y) → fold f x ys ≡ fold h x ys
-fold_in f h x [] e = refl
-fold_in f h x (y ∷ ys) e = ap (λ z. fold f z ys) (e x y (inl refl)) ∙ fold_in f h (h x y) ys (λ x y i. e x y (inr i))
-
-stands_at : (i : ℕ) (ps : List Place) (a : ℕ) → a < length ps → slice_index_or (stands i ps) a false ≡ ((slice_index_or ps a nowhere).chain == i)
-stands_at i [] a l = absurd (omega arith)
-stands_at i (p ∷ ps) zero l = refl
-stands_at i (p ∷ ps) (suc a) l = stands_at i ps a (omega arith)
 
 -- the ledgers that are told to tick are those on the chain
 pub ticked_is : (m : Setup) (s i k : ℕ) (w : WorldState) (g : Answers) (ps : List Place) (t : State) → cast_for w g ≡ m.cast s
     → ps ≡ slice_index_or m.places s [] → length ps ≡ length w.deal.graph.arcs → ticked_on (stands i ps) k (cast_at w) t ≡ ticked m i k s t
 ticked_is m s i k w g ps t is here many =
-    fold_in (tick_where (stands i ps) k (cast_at w)) (tick_on m i k s) t (arcs w.deal.graph) (λ t a j. one t a (from_range a (length w.deal.graph.arcs) j))
-    ∙ ap (λ (c : Cast). fold (tick_on m i k s) t (arcs c.deal.graph)) is
-  where
-    one : (t : State) (a : ℕ) → a < length w.deal.graph.arcs → tick_where (stands i ps) k (cast_at w) t a ≡ tick_on m i k s t a
-    one t a l =
-        ap₂ (λ (b : Bool) (c : Cast). cond b (step c t (events.Tick a k)) t)
-        (stands_at i ps a (subst (λ n. a < n) (sym many) l) ∙ ap (λ ps. (slice_index_or ps a nowhere).chain == i) here) is
+    fold_filter (λ a. (slice_index_or ps a nowhere).chain == i) (tick_at k (cast_at w)) t (range_with_len 0 (length ps))
+    ∙ (ap (λ n. fold (λ t a. cond ((slice_index_or ps a nowhere).chain == i) (step (cast_at w) t (events.Tick a k)) t) t (range_with_len 0 n)) many
+    ∙ ap₂ (λ (c : Cast) (ps : List Place).
+    fold (λ t a. cond ((slice_index_or ps a nowhere).chain == i) (step c t (events.Tick a k)) t) t (arcs c.deal.graph)) is here)
 
-asked_ticked : (on : List Bool) (k : ℕ) (c : Cast) (t : State) (xs : List ℕ) → (fold (tick_where on k c) t xs).asked ≡ t.asked
-asked_ticked on k c t [] = refl
-asked_ticked on k c t (a ∷ xs) = asked_ticked on k c (tick_where on k c t a) xs ∙ one (slice_index_or on a false)
-  where
-    one : (b : Bool) → (cond b (step c t (events.Tick a k)) t).asked ≡ t.asked
-    one true = refl
-    one false = refl
+asked_ticked : (k : ℕ) (c : Cast) (t : State) (on : List ℕ) → (ticked_on on k c t).asked ≡ t.asked
+asked_ticked k c t [] = refl
+asked_ticked k c t (a ∷ on) = asked_ticked k c (step c t (events.Tick a k)) on
+
+-- the arcs that stand on a chain are arcs, and ascend
+
+stands_low : (i : ℕ) (ps : List Place) → All (λ a. a < length ps) (stands i ps)
+stands_low i ps =
+    All-filter (λ a. (slice_index_or ps a nowhere).chain == i) (λ a. a < length ps) (range_with_len 0 (length ps))
+    (range_all (λ a. a < length ps) (length ps) (λ a l. l))
+
+range_up : (n : ℕ) → IsStrictlyIncreasing (range_with_len 0 n)
+range_up n k l =
+    let many = length-range_with_len 0 n in
+    let here = get_or-range_with_len 0 n k 0 (omega (arith, l, many)) in
+    let next = get_or-range_with_len 0 n (k + 1) 0 (omega (arith, l, many)) in
+    omega (arith, here, next)
+
+stands_up : (i : ℕ) (ps : List Place) → IsStrictlyIncreasing (stands i ps)
+stands_up i ps =
+    IsStrictlyIncreasing-filter (λ a. (slice_index_or ps a nowhere).chain == i) (range_with_len 0 (length ps)) (range_up (length ps))
 
 -- past the last one nothing is there
 pub past_end : {A : Type 0} (xs : List A) (s : ℕ) (d : A) → length xs ≤ s → slice_index_or xs s d ≡ d
@@ -72,7 +79,7 @@ map_at f (x ∷ xs) zero d e l = refl
 map_at f (x ∷ xs) (suc i) d e l = map_at f xs i d e (omega arith)
 
 -- which arcs of each swap stand on chain i, as it is looked up
-pub looked_up : (on : List (List (List Bool))) (n : ℕ) (ps : List (List Place)) (i : ℕ) → on ≡ standing n ps → i < n
+pub looked_up : (on : List (List (List ℕ))) (n : ℕ) (ps : List (List Place)) (i : ℕ) → on ≡ standing n ps → i < n
     → (i < length on) × (slice_index_or on i [] ≡ map (stands i) ps)
 looked_up on n ps i e l = (
   subst (λ m. i < m) (sym (ap length e ∙ length-map-range_with_len (λ i. map (stands i) ps) 0 n)) l,
@@ -82,10 +89,14 @@ looked_up on n ps i e l = (
 pub may_tick : (w : ManyState) (i : ℕ) → AreWhole w → w.stopped ≡ false → AreTickable (map (stands i) w.places) w.worlds
 may_tick w i whole on = record {
   one_each = length-map w.places (stands i) ∙ whole.places;
-  arcs = λ s l. ap length (map_at (stands i) w.places s [] [] (subst (λ n. s < n) (sym whole.places) l))
-      ∙ (length-map (slice_index_or w.places s []) (λ (p : Place). p.chain == i) ∙ whole.arcs s l);
+  arcs = λ s l. subst (λ (xs : List ℕ). All (λ a. a < length (nth w.worlds s).deal.graph.arcs) xs) (sym (here s l))
+      (subst (λ n. All (λ a. a < n) (stands i (slice_index_or w.places s []))) (whole.arcs s l) (stands_low i (slice_index_or w.places s [])));
+  ascending = λ s l. subst IsStrictlyIncreasing (sym (here s l)) (stands_up i (slice_index_or w.places s []));
   go_on = whole.on on;
 }
+  where
+    here : (s : ℕ) → s < length w.worlds → slice_index_or (map (stands i) w.places) s [] ≡ stands i (slice_index_or w.places s [])
+    here s l = map_at (stands i) w.places s [] [] (subst (λ n. s < n) (sym whole.places) l)
 
 -- a tick that is accepted has room
 pub has_room : (ticks height k : ℕ) → is_done (reply_to_tick_of ticks height k) ≡ true → has_no_tick ticks height k ≡ false
@@ -131,7 +142,7 @@ module _ (gives : Gives) (w : ManyState) (i k : ℕ) (x : ChainState) (ws : List
     asked = each (λ s y. HasAsked gives (world_at w s) y)
         (λ s l t. nothing_asked gives (world_at w s) (nth ws s)
         (ap (λ (y : State). y.asked) t.state
-        ∙ asked_ticked (stands i (slice_index_or w.places s [])) k (cast_at (world_at w s)) (world_at w s).state (arcs (world_at w s).deal.graph))
+        ∙ asked_ticked k (cast_at (world_at w s)) (world_at w s).state (stands i (slice_index_or w.places s [])))
         (ap (λ (y : WorldState). y.answers) t.same))
         (λ s l. nothing_asked gives (world_at w s) (world_at w s) refl refl);
     places = refl;

@@ -1,41 +1,45 @@
 -- The parts of a fair finish: looks, acts, turns, ticks, rounds and sweeps.
-use Rattle.std.proofs.Common.{◌≡◌, ℕ, suc, zero, ◌+◌, ◌<◌, ◌≤◌, ◌==◌, ◌||◌, Bool, true, false, cond, List, [], ◌∷◌, length, map, filter, fold}
-use Rattle.std.proofs.Common.{refl, sym, ap, ◌∙◌, arith, Option, Some, None, is_some}
+use Rattle.std.proofs.Common.{◌≡◌, ℕ, suc, zero, ◌+◌, ◌<◌, ◌≤◌, Bool, true, false, cond, List, [], ◌∷◌, length, map, filter, fold}
+use Rattle.std.proofs.Common.{refl, sym, ap, ◌∙◌, subst, arith, Option, Some, None, is_some}
 use Rattle.std.specs.Prelude.{option_map}
-use Rattle.std.specs.List.{range_with_len, flat_map}
+use Rattle.std.specs.List.{All, range_with_len, flat_map}
+use Rattle.std.proofs.lemmas.List.Elements.{All-get_or, All-same, All-weaker}
 use Rattle.std.proofs.Common.{get_or, max, take}
 use Rattle.std.proofs.lemmas.List.{take_all}
 use Rattle.std.proofs.lemmas.List.FromFn.{length-range_with_len, get_or-range_with_len}
 use Rattle.std.proofs.lemmas.List.Concat.{flat_map-cons}
 use Rattle.swap_base.specs.Lists.{greatest}
 use Rattle.std.proofs.lemmas.List.Sums.{fold-append}
-use Rattle.swap_digraph.specs.Deal.{touches, party, counterparty}
+use Rattle.swap_digraph.specs.declared.deal.Deal.{Deal}
 use Rattle.swap_digraph.specs.Graph.{arcs}
 use Rattle.swap_base.proofs.Lists.{from_range}
+use Rattle.deviator_script.specs.Step.{CanLook}
 use Rattle.deviator_script.specs.declared.event.Event.TheVariants.{Look, Act}
 use Rattle.swap_run.specs.Asked.{Answers}
-use Rattle.swap_run.specs.Fair.{repeat, most_acts}
+use Rattle.swap_run.specs.Fair.{repeat, adjacent, most_acts}
 use Rattle.swap_run.specs.Run.{Cast, State, conforms, role_of, next_of}
 use Rattle.swap_run.specs.Called.{called, by_due, called_as, turned_as, landed_on, step_on}
 use Rattle.swap_run.proofs.Calls.{calls_split}
 use Rattle.swap_world.specs.Value.{cast_at, cast_for, answers_of}
 use Rattle.swap_world.specs.Gone.{Gives}
+use Rattle.swap_world.proofs.Finishes.{can_look}
 use Rattle.swap_world.specs.On.{swept_in}
 use Rattle.swap_many.specs.declared.many_event.ManyEvent.TheVariants.{Tick, In, Sweep}
 use Rattle.swap_many.specs.declared.many_reply.ManyReply.{ManyReply}
 use Rattle.swap_many.specs.Chains.{Setup, Slot, slots, slots_of, put}
+use Rattle.swap_many.specs.Many.{last_horizon}
 use Rattle.swap_many.specs.Kept.{Kept, kept_done, kept_reply, answer_in}
 use Rattle.swap_many.specs.Laws.{CanHappen}
 use Rattle.swap_many.specs.Way.{Leads}
-use Rattle.swap_many.specs.Fair.{look_if, kept_looks, kept_act, kept_acts, kept_turn, kept_turns, tick_of, kept_ticks, kept_round, kept_round_or_rest}
-use Rattle.swap_many.specs.Fair.{sweeps_of, kept_sweeps, have_ended}
+use Rattle.swap_many.specs.Fair.{look_of, kept_looks, kept_act, kept_acts, kept_turn, kept_turns, tick_of, kept_ticks, kept_round}
+use Rattle.swap_many.specs.Fair.{kept_round_or_rest, kept_rounds, sweeps_of, kept_sweeps, have_ended}
 use Rattle.swap_many.specs.Value.{ManyState, IsPartyOf, AreReady, world_at, swept_at, setup_of, setup_for, kept_of, ContinueAll, HasManyGone}
 use Rattle.swap_many.specs.Value.{IsManyStopped}
 use Rattle.swap_many.proofs.Projections.{put_still}
 use Rattle.swap_many.proofs.Values.{same_setup}
 use Rattle.swap_many.proofs.Finish.{slot_known}
-use Rattle.swap_many.proofs.Way.{no_step, one_step, fold_steps, repeat_steps, act_steps, looks_steps, turn_steps, unless_steps}
-use Rattle.swap_many.proofs.Gone.{LeadOn, begun, gone_as, gone_then, stopped_as, stopped_then, stopped_after, repeat_on, repeat_rests}
+use Rattle.swap_many.proofs.Way.{one_step, fold_steps, repeat_steps, act_steps, looks_steps, turn_steps, unless_steps}
+use Rattle.swap_many.proofs.Gone.{LeadOn, AllLead, gone_as, gone_then, stopped_as, stopped_then, stopped_after, leads_repeat, repeat_on, repeat_rests}
 
 -- Folds.
 
@@ -65,24 +69,28 @@ same_fold f h x (y ∷ ys) e = ap (λ z. fold f z ys) (e x y) ∙ same_fold f h 
 
 -- What may come.
 
-pub can_look : (w : ManyState) (s p a : ℕ) → IsPartyOf w s p → a < length (world_at w s).deal.graph.arcs → touches (world_at w s).deal p a ≡ true
-    → CanHappen (setup_of w) s (Look p a)
-can_look w s p a k l e = record { swap = k.swap; no_tick = refl; can = record { known = k.party; arc = l; adjacent = e } }
+near_look : (d : Deal) (p : ℕ) (near : List ℕ) → p < d.graph.n → near ≡ adjacent d p → All (CanLook d p) near
+near_look d p near l e = All-same (CanLook d p) near (adjacent d p) e (can_look d p l)
 
-pub can_act : (w : ManyState) (s p : ℕ) → IsPartyOf w s p → CanHappen (setup_of w) s (Act p)
-can_act w s p k = record { swap = k.swap; no_tick = refl; can = k.party }
+-- a look at an arc of the list of those that touch the party
+pub may_look : (w : ManyState) (s p k a : ℕ) (near : List ℕ) → IsPartyOf w s p → near ≡ adjacent (world_at w s).deal p → k < length near
+    → a ≡ get_or near k a → CanHappen (setup_of w) s (Look p a)
+may_look w s p k a near party e l is = record {
+  swap = party.swap;
+  no_tick = refl;
+  can =
+      subst (CanLook (world_at w s).deal p) (sym is)
+      (All-get_or (CanLook (world_at w s).deal p) near k a l (near_look (world_at w s).deal p near party.party e));
+}
 
 -- Steps lead on.
 
 module _ (w : ManyState) (ready : AreReady w) where
-  pub look_leads : (s p a : ℕ) → IsPartyOf w s p → a < length (world_at w s).deal.graph.arcs → LeadOn w (λ m z. look_if s p m z a)
-  look_leads s p a k l g z = go (touches (world_at w s).deal p a) refl
-    where
-      go : (b : Bool) → touches (world_at w s).deal p a ≡ b → Leads (setup_for w g) z (cond b (kept_done false (setup_for w g) z (In s (Look p a))) z)
-      go true e =
-          one_step (setup_for w g) (ready g) z (record { fair = false; event = In s (Look p a) })
-          (record { swap = k.swap; no_tick = refl; can = record { known = k.party; arc = l; adjacent = e } })
-      go false e = no_step (setup_for w g) (ready g) z
+  pub look_leads : (s p : ℕ) (near : List ℕ) → IsPartyOf w s p → near ≡ adjacent (world_at w s).deal p → AllLead w (look_of s p) near
+  look_leads s p near k e =
+      All-weaker (CanLook (world_at w s).deal p) (λ a. LeadOn w (λ m z. look_of s p m z a)) (λ a can g z.
+      one_step (setup_for w g) (ready g) z (record { fair = false; event = In s (Look p a) }) (record { swap = k.swap; no_tick = refl; can = can })) near
+      (near_look (world_at w s).deal p near k.party e)
 
   pub act_leads : (s p : ℕ) → IsPartyOf w s p → LeadOn w (kept_act s p)
   act_leads s p k g z = act_steps (setup_for w g) (ready g) s p z k.swap k.party
@@ -118,33 +126,6 @@ module _ (w : ManyState) (ready : AreReady w) where
 
   pub unless_leads : LeadOn w kept_round_or_rest
   unless_leads g z = unless_steps (setup_for w g) (ready g) z
-
--- Looks.
-
-module _ (gives : Gives) (w : ManyState) (s p a : ℕ) where
-  look_is : (b : Bool) → touches (world_at w s).deal p a ≡ b → (g : ℕ → Answers)
-      → cond b (kept_done false (setup_for w g) (kept_of w) (In s (Look p a))) (kept_of w) ≡ look_if s p (setup_for w g) (kept_of w) a
-  look_is b e g = sym (ap (λ b. cond b (kept_done false (setup_for w g) (kept_of w) (In s (Look p a))) (kept_of w)) e)
-
-  pub look_rests : touches (world_at w s).deal p a ≡ false → HasManyGone gives (λ m z. look_if s p m z a) w w
-  look_rests e = gone_as gives (λ m z. z) (λ m z. look_if s p m z a) w w (look_is false e) (begun gives w)
-
-  pub look_gone : (new : ManyState) → touches (world_at w s).deal p a ≡ true → HasManyGone gives (λ m z. kept_done false m z (In s (Look p a))) w new
-      → HasManyGone gives (λ m z. look_if s p m z a) w new
-  look_gone new e k = gone_as gives (λ m z. kept_done false m z (In s (Look p a))) (λ m z. look_if s p m z a) w new (look_is true e) k
-
-  pub look_stops : (new : ManyState) → touches (world_at w s).deal p a ≡ true → IsManyStopped gives (λ m z. kept_done false m z (In s (Look p a))) w new
-      → IsManyStopped gives (λ m z. look_if s p m z a) w new
-  look_stops new e k = stopped_as gives (λ m z. kept_done false m z (In s (Look p a))) (λ m z. look_if s p m z a) w new (look_is true e) k
-
--- all arcs, of which those that touch the party are looked at
-pub looks_are : (w : ManyState) (s p : ℕ) (g : ℕ → Answers)
-    → fold (look_if s p (setup_for w g)) (kept_of w) (range_with_len 0 (length (world_at w s).deal.graph.arcs)) ≡ kept_looks s p (setup_for w g) (kept_of w)
-looks_are w s p g =
-    sym (fold_filter (λ a. (p == party (world_at w s).deal a) || (p == counterparty (world_at w s).deal a))
-    (λ z a. kept_done false (setup_for w g) z (In s (Look p a))) (kept_of w) (arcs (world_at w s).deal.graph))
-
--- Acts of a party that conforms.
 
 none_of : {A B : Type 0} (f : A → B) (o : Option A) → None ≡ option_map f o → o ≡ None
 none_of f None e = refl
@@ -245,6 +226,9 @@ module _ (gives : Gives) (w mid new : ManyState) (s p : ℕ) (ready : AreReady w
     turn_act_stop e h =
         stopped_as gives (λ m z. kept_act s p m (kept_looks s p m z)) (λ m z. kept_turn s m z p) w new (rest_is false e)
         (stopped_after gives (kept_looks s p) (kept_act s p) w mid new ready (looks_lead w ready s p k) looked h)
+
+pub rounds_lead : (w : ManyState) → AreReady w → LeadOn w kept_rounds
+rounds_lead w ready = leads_repeat w ready kept_round_or_rest (unless_leads w ready) (last_horizon (setup_of w) + 1)
 
 -- Sweeps.
 

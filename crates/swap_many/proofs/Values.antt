@@ -205,3 +205,21 @@ module _ (w : ManyState) (s a : ℕ) (whole : AreWhole w) (can : CanSweep (setup
 
   pub legal_at : IsLegal (world_at w s).deal a (history (world_at w s).state.book a)
   legal_at = let k = (whole.kept s can.swap).legal in k.legal a (subst (λ n. a < n) (sym k.one_each) can.arc)
+
+-- memory ran out, and nothing else changed
+pub stopped_whole : (w : ManyState) → AreWhole w → AreWhole (record w { stopped = true })
+stopped_whole w k = record {
+  few = k.few;
+  few_chains = k.few_chains;
+  places = k.places;
+  arcs = k.arcs;
+  swept = k.swept;
+  slots = k.slots;
+  chains = k.chains;
+  accounts = k.accounts;
+  units = k.units;
+  ready = k.ready;
+  on = λ e. absurd (cc e);
+  sound = λ e. absurd (cc e);
+  kept = k.kept;
+}

@@ -1,7 +1,6 @@
 -- The fair finish of what is kept, part by part.
-use Rattle.std.specs.Prelude.{ℕ, ◌+◌, Bool, true, false, length, fold, if◌then◌else◌}
+use Rattle.std.specs.Prelude.{◌≡◌, ℕ, suc, ◌+◌, Bool, true, false, length, fold}
 use Rattle.std.specs.List.{range_with_len}
-use Rattle.swap_digraph.specs.Deal.{touches}
 use Rattle.swap_digraph.specs.Graph.{arcs}
 use Rattle.deviator_script.specs.declared.event.Event.TheVariants.{Look, Act}
 use Rattle.swap_run.specs.Fair.{repeat, most_acts}
@@ -13,9 +12,9 @@ use Rattle.swap_many.specs.Kept.{Kept, kept_done}
 abbrev pub high : Kept → ℕ → ℕ
 high z i = (z.clocks i).height
 
--- party v of swap s looks at arc a, where that touches it
-abbrev pub look_if : ℕ → ℕ → Setup → Kept → ℕ → Kept
-look_if s v m z a = if touches (m.cast s).deal v a then kept_done false m z (In s (Look v a)) else z
+-- party v of swap s looks at arc a
+abbrev pub look_of : ℕ → ℕ → Setup → Kept → ℕ → Kept
+look_of s v m z a = kept_done false m z (In s (Look v a))
 
 abbrev pub kept_looks : ℕ → ℕ → Setup → Kept → Kept
 kept_looks s v m z = looks_in m (kept_done false m) (kept_done true m) high s v z
@@ -60,3 +59,7 @@ sweeps_of m z s = fold (sweep_of s m) z (arcs (m.cast s).deal.graph)
 
 abbrev pub kept_sweeps : Setup → Kept → Kept
 kept_sweeps m z = fold (λ z t. kept_done true m z (Sweep t.swap t.arc)) z (slots m)
+
+-- a round after n ticks of each chain leads from z to where n + 1 rounds lead
+abbrev pub SkipsTo : Setup → ℕ → Kept → Type 0
+SkipsTo m n z = repeat (suc n) (kept_round_or_rest m) z ≡ kept_round m (repeat n (kept_ticks m) z)

@@ -1,11 +1,12 @@
 -- What the fields of many worlds mean, and what holds of them.
-use Rattle.std.specs.Prelude.{◌≡◌, ℕ, ◌<◌, ◌≤◌, ◌^◌, ◌==◌, Bool, false, List, [], length, map, slice_index_or, sum_by}
+use Rattle.std.specs.Prelude.{◌≡◌, ℕ, ◌<◌, ◌≤◌, ◌^◌, ◌==◌, false, List, [], length, filter, map, slice_index_or, sum_by}
 use Rattle.std.specs.List.{range_with_len}
 use Rattle.swap_run.specs.Asked.{Answers}
 use Rattle.swap_run.specs.Laws.{IsKept}
 use Rattle.swap_world.specs.Value.{cast_at}
 use Rattle.swap_many.specs.declared.place.Place.{Place}
 use Rattle.swap_many.specs.declared.worlds.Worlds.TheInside.{Inside}
+use Rattle.swap_many.specs.Chains.{nowhere}
 use Rattle.swap_many.specs.Many.{Run}
 use Rattle.swap_many.specs.Laws.{IsReady}
 use Rattle.swap_many.specs.Sound.{Keeps}
@@ -22,12 +23,12 @@ worlds_in w = record {
   stopped = w.stopped;
 }
 
--- which of these arcs stand on chain i
-abbrev pub stands : ℕ → List Place → List Bool
-stands i places = map (λ p. p.chain == i) places
+-- those of the arcs with these places that stand on chain i, ascending
+abbrev pub stands : ℕ → List Place → List ℕ
+stands i places = filter (λ a. (slice_index_or places a nowhere).chain == i) (range_with_len 0 (length places))
 
--- which arcs stand on each of so many chains, by chain and swap
-abbrev pub standing : ℕ → List (List Place) → List (List (List Bool))
+-- the arcs that stand on each of so many chains, by chain and swap
+abbrev pub standing : ℕ → List (List Place) → List (List (List ℕ))
 standing n places = map (λ i. map (stands i) places) (range_with_len 0 n)
 
 -- the arcs, the chains and their accounts fit each other, and what is kept is that of some run
@@ -48,5 +49,5 @@ pub record AreWhole (w : ManyState) : Type 0 where
 
 pub record Holds (w : Inside) : Type 0 where
   pub whole : AreWhole (worlds_in w)
-  -- which arcs stand on each chain is looked up
+  -- the arcs that stand on each chain are looked up
   pub on : w.on ≡ standing (length w.openings.items) w.places

@@ -10,6 +10,7 @@ pub mod Accounts
 pub mod Value
 pub mod Told
 pub mod Ticking
+pub mod Near
 pub mod Inside
 pub mod Fair
 pub mod Whole

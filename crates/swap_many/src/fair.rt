@@ -1,58 +1,39 @@
 //! The fair finish of many swaps, by turns and rounds.
 
-ghost use Rattle.std.specs.Prelude.{◌≡◌, ◌<◌, ◌+◌, ℕ, IfOk, OnOk, OnErr, fold, length, true, false};
+ghost use Rattle.std.specs.Prelude.{◌≡◌, ◌<◌, ◌≤◌, ◌+◌, ℕ, IfOk, OnOk, OnErr, fold, length, true, false};
 ghost use Rattle.std.specs.List.{range_with_len};
 ghost use Rattle.swap_digraph.specs.Deal.{IsWellSized};
-ghost use Rattle.swap_run.specs.Fair.{most_acts};
+ghost use Rattle.swap_run.specs.Fair.{adjacent, most_acts, repeat};
 ghost use Rattle.swap_run.specs.Run.{conforms};
 ghost use Rattle.swap_world.specs.Value.{cast_at};
 ghost use Rattle.swap_many.specs.Fair.{kept_acts, kept_looks, kept_round, kept_round_or_rest, kept_rounds, kept_sweeps, kept_ticks, kept_turn, kept_turns};
-ghost use Rattle.swap_many.specs.Fair.{have_ended, look_if, sweeps_of};
+ghost use Rattle.swap_many.specs.Fair.{have_ended, sweeps_of};
 ghost use Rattle.swap_many.specs.Kept.{kept_done, kept_finish};
 ghost use Rattle.swap_many.specs.Many.{last_horizon};
+ghost use Rattle.swap_many.specs.Near.{AreNear, near_in};
 ghost use Rattle.swap_many.specs.Value.{HasManyGone, IsManyStopped, IsOn, IsPartyOf, kept_of, setup_of, world_at};
 
 use crate::worlds::Worlds;
 use deviator_script::{Event, Strategies};
-use ledger_core::is_adjacent;
-use swap_base::{ArcId, NoMemory, PartyId};
+use swap_base::{ArcId, Listed, NoMemory, PartyId};
 use swap_digraph::Deal;
 
-/// Lets a party of a swap look at an arc, where that touches it.
-fn look_if_near<K: Strategies>(
-    worlds: &mut Worlds,
-    kit: &K,
-    swap: u8,
-    p: PartyId,
-    arc: ArcId,
-) -> Result<(), NoMemory>
-    requires party { IsPartyOf worlds.old swap p }
-    requires arc { arc < length (world_at worlds.old swap).deal.graph.arcs }
-    requires on { IsOn (K.holds kit.now) worlds.old }
-    ensures ok { OnOk result (HasManyGone (K.gives kit.now) (λ m z. look_if swap p m z arc) worlds.old worlds.new) }
-    ensures err { OnErr result (IsManyStopped (K.gives kit.now) (λ m z. look_if swap p m z arc) worlds.old worlds.new) }
-{
-    if !is_adjacent(worlds.deal(swap), arc, p) {
-        return Ok(());
-    }
-    worlds.happen(kit, swap, &Event::Look(p, arc))?;
-    Ok(())
-}
-
-/// Lets a party of a swap look at each arc that touches it.
+/// Lets a party of a swap look at each of these arcs, which are those that touch it.
 fn look_around<K: Strategies>(
     worlds: &mut Worlds,
     kit: &K,
     swap: u8,
     p: PartyId,
+    near: &[ArcId],
 ) -> Result<(), NoMemory>
     requires party { IsPartyOf worlds.old swap p }
+    requires near { near.now ≡ adjacent (world_at worlds.old swap).deal p }
     requires on { IsOn (K.holds kit.now) worlds.old }
     ensures ok { OnOk result (HasManyGone (K.gives kit.now) (kept_looks swap p) worlds.old worlds.new) }
     ensures err { OnErr result (IsManyStopped (K.gives kit.now) (kept_looks swap p) worlds.old worlds.new) }
 {
-    'arcs: for arc in 0..worlds.deal(swap).graph.arcs().len() as ArcId {
-        look_if_near(worlds, kit, swap, p, arc)?;
+    'arcs: for arc in near {
+        worlds.happen(kit, swap, &Event::Look(p, *arc))?;
     }
     Ok(())
 }
@@ -87,13 +68,20 @@ fn act_to_rest<K: Strategies>(
 }
 
 /// A party's turn: it looks around, and then acts: until nothing is due where it conforms, else once.
-fn turn<K: Strategies>(worlds: &mut Worlds, kit: &K, swap: u8, p: PartyId) -> Result<(), NoMemory>
+fn turn<K: Strategies>(
+    worlds: &mut Worlds,
+    kit: &K,
+    swap: u8,
+    p: PartyId,
+    near: &[ArcId],
+) -> Result<(), NoMemory>
     requires party { IsPartyOf worlds.old swap p }
+    requires near { near.now ≡ adjacent (world_at worlds.old swap).deal p }
     requires on { IsOn (K.holds kit.now) worlds.old }
     ensures ok { OnOk result (HasManyGone (K.gives kit.now) (λ m z. kept_turn swap m z p) worlds.old worlds.new) }
     ensures err { OnErr result (IsManyStopped (K.gives kit.now) (λ m z. kept_turn swap m z p) worlds.old worlds.new) }
 {
-    look_around(worlds, kit, swap, p)?;
+    look_around(worlds, kit, swap, p, near)?;
     if worlds.conforms(swap, p) {
         return act_to_rest(worlds, kit, swap, p);
     }
@@ -102,26 +90,39 @@ fn turn<K: Strategies>(worlds: &mut Worlds, kit: &K, swap: u8, p: PartyId) -> Re
 }
 
 /// The turns of a swap's parties, in their order.
-fn turns<K: Strategies>(worlds: &mut Worlds, kit: &K, swap: u8) -> Result<(), NoMemory>
+fn turns<K: Strategies>(
+    worlds: &mut Worlds,
+    kit: &K,
+    swap: u8,
+    near: &[Listed<ArcId>],
+) -> Result<(), NoMemory>
     requires swap { swap < length worlds.old.worlds }
+    requires near { near.now ≡ near_in (world_at worlds.old swap) }
     requires on { IsOn (K.holds kit.now) worlds.old }
     ensures ok { OnOk result (HasManyGone (K.gives kit.now) (λ m z. kept_turns m z swap) worlds.old worlds.new) }
     ensures err { OnErr result (IsManyStopped (K.gives kit.now) (λ m z. kept_turns m z swap) worlds.old worlds.new) }
 {
     'parties: for p in 0..worlds.deal(swap).graph.n() {
-        turn(worlds, kit, swap, p)?;
+        let place = p as usize;
+        turn(worlds, kit, swap, p, near[place].as_slice())?;
     }
     Ok(())
 }
 
 /// Every swap's turns.
-fn all_turns<K: Strategies>(worlds: &mut Worlds, kit: &K) -> Result<(), NoMemory>
+fn all_turns<K: Strategies>(
+    worlds: &mut Worlds,
+    kit: &K,
+    near: &[Listed<Listed<ArcId>>],
+) -> Result<(), NoMemory>
+    requires near { AreNear near.now worlds.old.worlds }
     requires on { IsOn (K.holds kit.now) worlds.old }
     ensures ok { OnOk result (HasManyGone (K.gives kit.now) (λ m z. fold (kept_turns m) z (range_with_len 0 m.swaps)) worlds.old worlds.new) }
     ensures err { OnErr result (IsManyStopped (K.gives kit.now) (λ m z. fold (kept_turns m) z (range_with_len 0 m.swaps)) worlds.old worlds.new) }
 {
     'each: for swap in 0..worlds.swaps() {
-        turns(worlds, kit, swap)?;
+        let place = swap as usize;
+        turns(worlds, kit, swap, near[place].as_slice())?;
     }
     Ok(())
 }
@@ -139,12 +140,17 @@ fn ticks<K: Strategies>(worlds: &mut Worlds, kit: &K) -> Result<(), NoMemory>
 }
 
 /// Every swap's turns, and then the chains tick.
-fn round<K: Strategies>(worlds: &mut Worlds, kit: &K) -> Result<(), NoMemory>
+fn round<K: Strategies>(
+    worlds: &mut Worlds,
+    kit: &K,
+    near: &[Listed<Listed<ArcId>>],
+) -> Result<(), NoMemory>
+    requires near { AreNear near.now worlds.old.worlds }
     requires on { IsOn (K.holds kit.now) worlds.old }
     ensures ok { OnOk result (HasManyGone (K.gives kit.now) kept_round worlds.old worlds.new) }
     ensures err { OnErr result (IsManyStopped (K.gives kit.now) kept_round worlds.old worlds.new) }
 {
-    all_turns(worlds, kit)?;
+    all_turns(worlds, kit, near)?;
     ticks(worlds, kit)
 }
 
@@ -161,18 +167,62 @@ fn have_ended(worlds: &Worlds, horizon: u64) -> bool
     true
 }
 
+/// So many ticks of each chain.
+fn pass<K: Strategies>(worlds: &mut Worlds, kit: &K, count: u64) -> Result<(), NoMemory>
+    requires on { IsOn (K.holds kit.now) worlds.old }
+    ensures ok { OnOk result (HasManyGone (K.gives kit.now) (λ m z. repeat count (kept_ticks m) z) worlds.old worlds.new) }
+    ensures err { OnErr result (IsManyStopped (K.gives kit.now) (λ m z. repeat count (kept_ticks m) z) worlds.old worlds.new) }
+{
+    'rounds: for _ in 0..count {
+        ticks(worlds, kit)?;
+    }
+    Ok(())
+}
+
+/// Some rounds, at most so many: those in which nobody makes a call, of which only the ticks are taken, and one more. It answers how many.
+fn advance<K: Strategies>(
+    worlds: &mut Worlds,
+    kit: &K,
+    near: &[Listed<Listed<ArcId>>],
+    horizon: u64,
+    most: u64,
+) -> Result<u64, NoMemory>
+    requires near { AreNear near.now worlds.old.worlds }
+    requires horizon { horizon ≡ last_horizon (setup_of worlds.old) }
+    requires low { have_ended (setup_of worlds.old) (kept_of worlds.old) ≡ false }
+    requires some { 1 ≤ most }
+    requires on { IsOn (K.holds kit.now) worlds.old }
+    ensures ok { IfOk result (λ n. HasManyGone (K.gives kit.now) (λ m z. repeat n (kept_round_or_rest m) z) worlds.old worlds.new) }
+    ensures some { IfOk result (λ n. 1 ≤ n) }
+    ensures few { IfOk result (λ n. n ≤ most) }
+    ensures err { OnErr result ((n : ℕ) × (n ≤ most)
+        × IsManyStopped (K.gives kit.now) (λ m z. repeat n (kept_round_or_rest m) z) worlds.old worlds.new) }
+{
+    let quiet = worlds.quiet_rounds(near, horizon, most - 1);
+    pass(worlds, kit, quiet)?;
+    round(worlds, kit, near)?;
+    Ok(quiet + 1)
+}
+
 /// Rounds until each chain is above every horizon, for which one more than the greatest are enough.
-fn rounds<K: Strategies>(worlds: &mut Worlds, kit: &K) -> Result<(), NoMemory>
+fn rounds<K: Strategies>(
+    worlds: &mut Worlds,
+    kit: &K,
+    near: &[Listed<Listed<ArcId>>],
+) -> Result<(), NoMemory>
+    requires near { AreNear near.now worlds.old.worlds }
     requires on { IsOn (K.holds kit.now) worlds.old }
     ensures ok { OnOk result (HasManyGone (K.gives kit.now) kept_rounds worlds.old worlds.new) }
     ensures err { OnErr result (IsManyStopped (K.gives kit.now) kept_rounds worlds.old worlds.new) }
 {
     let horizon = worlds.last_horizon();
-    'rounds: for _ in 0..horizon + 1 {
+    let mut left = horizon + 1;
+    'rounds: while left > 0 {
         if have_ended(worlds, horizon) {
             return Ok(());
         }
-        round(worlds, kit)?;
+        let taken = advance(worlds, kit, near, horizon, left)?;
+        left -= taken;
     }
     Ok(())
 }
@@ -198,13 +248,28 @@ fn sweeps<K: Strategies>(worlds: &mut Worlds, kit: &K)
     }
 }
 
+/// The rounds, for which the arcs that touch each party are listed once.
+fn listed_rounds<K: Strategies>(worlds: &mut Worlds, kit: &K) -> Result<(), NoMemory>
+    requires on { IsOn (K.holds kit.now) worlds.old }
+    ensures ok { OnOk result (HasManyGone (K.gives kit.now) kept_rounds worlds.old worlds.new) }
+    ensures err { OnErr result (IsManyStopped (K.gives kit.now) kept_rounds worlds.old worlds.new) }
+{
+    match worlds.near() {
+        Ok(near) => rounds(worlds, kit, &near),
+        Err(NoMemory) => {
+            worlds.stop();
+            Err(NoMemory)
+        }
+    }
+}
+
 /// The fair finish: rounds, and then a sweep of every slot.
 pub(crate) fn finish<K: Strategies>(worlds: &mut Worlds, kit: &K) -> Result<(), NoMemory>
     requires on { IsOn (K.holds kit.now) worlds.old }
     ensures ok { OnOk result (HasManyGone (K.gives kit.now) kept_finish worlds.old worlds.new) }
     ensures err { OnErr result (IsManyStopped (K.gives kit.now) kept_finish worlds.old worlds.new) }
 {
-    rounds(worlds, kit)?;
+    listed_rounds(worlds, kit)?;
     sweeps(worlds, kit);
     Ok(())
 }

@@ -9,9 +9,11 @@ mod flags;
 mod many_event;
 mod many_reply;
 mod many_world;
+mod near;
 mod opening;
 mod overdrawn;
 mod place;
+mod quiet;
 mod ticking;
 mod worlds;
 

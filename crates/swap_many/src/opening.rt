@@ -126,43 +126,56 @@ pub(crate) fn none_swept(alloc: Global, worlds: &[World]) -> Result<Vec<Flags>, 
     Ok(all)
 }
 
-/// Which of these arcs stand on a chain.
-fn stands(alloc: Global, places: &[Place], chain: u8) -> Result<Listed<bool>, NoMemory>
+/// Those of a deal's arcs that stand on a chain.
+fn stands(
+    alloc: Global,
+    deal: &Deal,
+    places: &[Place],
+    chain: u8,
+) -> Result<Listed<ArcId>, NoMemory>
+    requires sized { IsWellSized deal.now }
+    requires one_each { length places.now ≡ length deal.now.graph.arcs }
     ensures { IfOk result (λ l. l ≡ stands chain places.now) }
 {
     let mut on = Vec::new(alloc);
-    'arcs: for place in places {
-        on.push(place.chain == chain)?;
+    'arcs: for arc in 0..deal.graph.arcs().len() as ArcId {
+        if places[arc as usize].chain == chain {
+            on.push(arc)?;
+        }
     }
     Ok(Listed::new(on))
 }
 
-/// Which arcs of each swap stand on a chain.
+/// Those of each swap's arcs that stand on a chain.
 fn stand(
     alloc: Global,
+    worlds: &[World],
     places: &[Listed<Place>],
     chain: u8,
-) -> Result<Listed<Listed<bool>>, NoMemory>
+) -> Result<Listed<Listed<ArcId>>, NoMemory>
+    requires { ArePlacesOf worlds.now places.now }
     ensures { IfOk result (λ l. l ≡ map (stands chain) places.now) }
 {
     let mut on = Vec::new(alloc);
-    'swaps: for places in places {
-        on.push(stands(alloc, places.as_slice(), chain)?)?;
+    'swaps: for s in 0..worlds.len() {
+        on.push(stands(alloc, worlds[s].deal(), places[s].as_slice(), chain)?)?;
     }
     Ok(Listed::new(on))
 }
 
-/// Which arcs of each swap stand on each of so many chains.
+/// Those of each swap's arcs that stand on each of so many chains.
 pub(crate) fn standing(
     alloc: Global,
+    worlds: &[World],
     places: &[Listed<Place>],
     chains: u8,
-) -> Result<Listed<Listed<Listed<bool>>>, NoMemory>
+) -> Result<Listed<Listed<Listed<ArcId>>>, NoMemory>
+    requires { ArePlacesOf worlds.now places.now }
     ensures { IfOk result (λ l. l ≡ standing chains places.now) }
 {
     let mut on = Vec::new(alloc);
     'chains: for chain in 0..chains {
-        on.push(stand(alloc, places, chain)?)?;
+        on.push(stand(alloc, worlds, places, chain)?)?;
     }
     Ok(Listed::new(on))
 }

@@ -10,11 +10,13 @@ ghost use Rattle.swap_run.specs.Fair.{the_horizon};
 ghost use Rattle.swap_run.specs.Run.{conforms};
 ghost use Rattle.swap_world.specs.Value.{cast_at};
 ghost use Rattle.swap_many.specs.Accounts.{units_in};
+ghost use Rattle.swap_many.specs.Fair.{SkipsTo, have_ended};
 ghost use Rattle.swap_many.specs.Inside.{AreWhole};
 ghost use Rattle.swap_many.specs.Many.{last_horizon};
 ghost use Rattle.swap_many.specs.Chains.{chain_of, place};
 ghost use Rattle.swap_many.specs.Kept.{answer_payment, answer_sweep, answer_tick, kept_done, kept_reply};
 ghost use Rattle.swap_many.specs.Laws.{CanCome, CanHappen, CanPay, CanSweep, CanTickChain};
+ghost use Rattle.swap_many.specs.Near.{AreNear};
 ghost use Rattle.swap_many.specs.Opening.{AreOpenable, opened};
 ghost use Rattle.swap_many.specs.Told.{told_result};
 ghost use Rattle.swap_many.specs.Value.{AreAllHeld, ContinueAll, HasManyGone, IsManyStopped, chain_at, kept_of, setup_for, setup_of, world_at};
@@ -23,9 +25,11 @@ use crate::chain::Chain;
 use crate::flags::Flags;
 use crate::many_event::ManyEvent;
 use crate::many_reply::ManyReply;
+use crate::near::arcs_by_swap;
 use crate::opening::{none_swept, open_chains, standing, told_of};
 use crate::overdrawn::ManyFault;
 use crate::place::Place;
+use crate::quiet::{rounds_below, rounds_still};
 use crate::ticking::{has_stopped, tick_worlds};
 use deviator_script::{Event, Strategies};
 use escrow_core::Reply;
@@ -46,8 +50,8 @@ pub(crate) struct Worlds {
     openings: Past<Listed<u64>>,
     chains: Vec<Chain>,
     swept: Vec<Flags>,
-    /// Which arcs stand on each chain, by chain, swap and arc.
-    on: Listed<Listed<Listed<bool>>>,
+    /// The arcs that stand on each chain, by chain and swap.
+    on: Listed<Listed<Listed<ArcId>>>,
     stopped: bool,
 }
 
@@ -111,7 +115,7 @@ impl Worlds {
             Err(fault) => return Err(fault),
         };
         let swept = none_swept(alloc, &worlds)?;
-        let on = standing(alloc, places.as_slice(), chains.len() as u8)?;
+        let on = standing(alloc, &worlds, places.as_slice(), chains.len() as u8)?;
         Ok(Worlds {
             openings: told_of(chains),
             chains: opened,
@@ -396,6 +400,39 @@ impl Worlds {
         ensures { IfOk result (λ b. b.histories ≡ (world_at self.now swap).state.book) }
     {
         self.worlds[swap as usize].copy_book(alloc)
+    }
+
+    /// The arcs that touch each party, by swap and party.
+    pub(crate) fn near(&self) -> Result<Vec<Listed<Listed<ArcId>>>, NoMemory>
+        ensures { IfOk result (λ v. AreNear v.items self.now.worlds) }
+    {
+        arcs_by_swap(*self.worlds.allocator(), &self.worlds)
+    }
+
+    /// For how many rounds, of at most so many, nobody of any swap makes a call, so that ticks alone lead to where they lead once a further round
+    /// follows.
+    pub(crate) fn quiet_rounds(
+        &self,
+        near: &[Listed<Listed<ArcId>>],
+        horizon: u64,
+        most: u64,
+    ) -> u64
+        requires near { AreNear near.now self.now.worlds }
+        requires goes_on { self.now.stopped ≡ false }
+        requires horizon { horizon ≡ last_horizon (setup_of self.now) }
+        requires low { have_ended (setup_of self.now) (kept_of self.now) ≡ false }
+        ensures few { result ≤ most }
+        ensures skips { (g : ℕ → Answers) → SkipsTo (setup_for self.now g) result (kept_of self.now) }
+    {
+        let low = rounds_below(&self.chains, horizon, most);
+        rounds_still(&self.worlds, near, low)
+    }
+
+    /// Memory ran out: every later step wants it too.
+    pub(crate) fn stop(&mut self)
+        ensures { self.new ≡ record self.old { stopped = true } }
+    {
+        self.stopped = true;
     }
 
     /// The greatest horizon of a swap.

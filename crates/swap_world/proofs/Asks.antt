@@ -1,5 +1,5 @@
 -- A party that asks its strategy: what is asked and answered, and what comes of it where slots may be swept.
-use Rattle.std.proofs.Common.{◌≡◌, ◌⊎◌, inl, inr, Result, Ok, Err, OnOk, OnErr, ℕ, ◌+◌, ◌<◌, Bool, false, List, [], ◌∷◌, ◌++◌, length, set, Option}
+use Rattle.std.proofs.Common.{◌≡◌, inr, Result, Ok, Err, OnOk, OnErr, IfOk, ℕ, ◌+◌, ◌<◌, Bool, false, List, [], ◌∷◌, ◌++◌, length, set, Option}
 use Rattle.std.proofs.Common.{get_or, None, refl, sym, ap, ap₂, ◌∙◌, subst, arith, length-append}
 use Rattle.std.specs.Result.{is_err}
 use Rattle.std.proofs.lemmas.List.{get_or_at}
@@ -18,10 +18,11 @@ use Rattle.swap_run.specs.Run.{Cast, Plan, Question, State}
 use Rattle.swap_run.specs.Called.{step_on}
 use Rattle.swap_run.specs.Laws.{IsReadyCast, IsGood, IsKept}
 use Rattle.swap_world.specs.Cast.{cast_with}
-use Rattle.swap_world.specs.Value.{WorldState, cast_for, Continues}
+use Rattle.swap_world.specs.Value.{WorldState}
 use Rattle.swap_world.specs.Acting.{histories, taken, seen, told_to, asked_once, question_of}
 use Rattle.swap_world.specs.Gone.{Gives, Answered, MayCome, HasAsked, HasGone}
 use Rattle.swap_world.specs.On.{IsCutOn, told_in}
+use Rattle.swap_world.specs.declared.told.Told.{Told}
 use Rattle.swap_world.specs.Inside.{name_in, questions_in}
 use Rattle.swap_world.specs.declared.actor.Actor.{Actor}
 use Rattle.swap_world.specs.declared.actor.Actor.TheVariants.{Planned}
@@ -136,8 +137,13 @@ module _ {gives : Gives} {d : Deal} {conforming : List Bool} {seeds : Seeds} {ro
   is_cut (Err u) x y new b eb = record { cast = refl; asked = has_asked x y new b; book = inr (λ g e. eb ∙ stepped_book g e) }
 
   -- what the party is told
-  pub told_asked : (g : Answers) → Follows g → told_to sw d p o (histories ls) ≡ told_in sw (with_answers c g) s (Act p)
+  told_asked : (g : Answers) → Follows g → told_to sw d p o (histories ls) ≡ told_in sw (with_answers c g) s (Act p)
   told_asked g e = answered_told d conforming seeds roles before ls xs sw g p n name o k.place k.role (now_is g e) k.may
+
+  pub has_told : {E : Type 0} (r : Result Told E) → IfOk r (λ t. t ≡ told_to sw d p o (histories ls))
+      → IfOk r (λ t. (g : Answers) → Follows g → t ≡ told_in sw (with_answers c g) s (Act p))
+  has_told (Ok t) e = λ g f. e ∙ told_asked g f
+  has_told (Err u) e = tt
 
   -- the answers so far
   abbrev so_far : Answers

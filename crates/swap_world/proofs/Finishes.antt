@@ -1,6 +1,6 @@
 -- The parts of a fair finish: what each leads to, and where it stops.
 use Rattle.std.proofs.Common.{◌≡◌, ℕ, suc, ◌+◌, ◌-◌, ◌<◌, ◌≤◌, ◌==◌, ◌||◌, nat_le, leb-true, leb-false, zero-add, get_or}
-use Rattle.std.proofs.Common.{Bool, true, false, cond, List, [], ◌∷◌, length, fold, filter, refl}
+use Rattle.std.proofs.Common.{Bool, true, false, cond, List, length, fold, refl}
 use Rattle.std.proofs.Common.{sym, ap, ◌∙◌, subst, arith, Result, Ok, Err, OnOk}
 use Rattle.std.specs.List.{All, range_with_len}
 use Rattle.std.proofs.lemmas.List.FromFn.{get_or-map-range_with_len, length-map-range_with_len}

@@ -1,5 +1,5 @@
 -- Worlds that go on, and worlds that stop: one after another, and whatever is answered.
-use Rattle.std.proofs.Common.{◌≡◌, ◌⊎◌, inl, inr, Result, Ok, Err, OnOk, OnErr, ℕ, ◌+◌, ◌<◌, Bool, true, false, cond, List, [], ◌++◌, length, map, Option}
+use Rattle.std.proofs.Common.{◌≡◌, ◌⊎◌, inl, inr, Result, Ok, Err, OnOk, OnErr, IfOk, ℕ, ◌+◌, ◌<◌, Bool, true, false, cond, List, [], ◌++◌, length, map, Option}
 use Rattle.std.proofs.Common.{Some, None, get_or, refl, sym, ap, ap₂, ◌∙◌, subst, arith, append_assoc, length-append}
 use Rattle.std.proofs.lemmas.List.{append-nil, map-append, get_or_append_left}
 use Rattle.std.proofs.lemmas.List.Elements.{All-nil, All-append}
@@ -25,6 +25,7 @@ use Rattle.swap_world.specs.Value.{WorldState, cast_at, cast_for, Continues}
 use Rattle.swap_world.specs.Staff.{AreHeld}
 use Rattle.swap_world.specs.Gone.{Gives, Answered, MayCome, HasAsked, HasGone, IsCutBy, IsCut}
 use Rattle.swap_world.specs.On.{told_in, told_of_call}
+use Rattle.swap_world.specs.declared.told.Told.{Told}
 use Rattle.swap_world.specs.Stopped.{IsOnTheWay, IsStopped}
 use Rattle.swap_world.proofs.On.{make_on, take_on, act_on, act_is, call_is, plainly}
 use Rattle.swap_world.proofs.Plans.{take_same}
@@ -264,6 +265,10 @@ quiet_act sw c s v alone =
 pub quiet_run : (c : Cast) (s : State) (v : ℕ) → asks c v ≡ false → IsQuiet (λ c s. step c s (Act v)) c s
 quiet_run c s v alone = subst (λ (f : Cast → State → State). IsQuiet f c s) (plainly (Act v)) (quiet_act (λ a. false) c s v alone)
 
+-- where it changes nothing it does so whatever is answered
+pub quiet_rests : (f : Cast → State → State) (c : Cast) (s : State) → IsQuiet f c s → f c s ≡ s → (g : Answers) → f (with_answers c g) s ≡ s
+quiet_rests f c s k e g = k.same g ∙ e
+
 -- What is told where nothing is asked.
 
 told_as : (sw : ℕ → Bool) (c : Cast) (s : State) (v : ℕ) (role : Role) (g : Answers) → is_strategy role ≡ false
@@ -309,6 +314,16 @@ conforming_alone c v false e = absurd (cc e)
 -- and so of one that conforms
 pub alone_conforming : (c : Cast) (v : ℕ) → conforms c v ≡ true → asks c v ≡ false
 alone_conforming c v e = conforming_alone c v (conforms c v) e
+
+-- what is told of a call, whatever is answered
+pub told_any : {E : Type 0} (r : Result Told E) (new : WorldState) (f : Answers → Told) (t : Told) → ((g : Answers) → f g ≡ t) → IfOk r (λ u. u ≡ t)
+    → IfOk r (λ u. (g : Answers) → Continues new g → u ≡ f g)
+told_any (Ok u) new f t same e = λ g k. e ∙ sym (same g)
+told_any (Err x) new f t same e = tt
+
+-- where the new state is the old one the world is
+pub still_at : (w new : WorldState) (t : State) → new ≡ at w t → t ≡ w.state → new ≡ w
+still_at w new t e same = e ∙ ap (λ (s : State). at w s) same
 
 -- a quiet event that a world took
 pub went_to : (gives : Gives) (f : Cast → State → State) (old new : WorldState) → IsQuiet f (cast_at old) old.state

@@ -22,11 +22,11 @@ use Rattle.swap_laws.proofs.Prefixes.{same_or_not}
 use Rattle.swap_laws.proofs.Conducting.{history_same, history_other}
 use Rattle.party_machine.specs.Wallet.{wallet_of}
 use Rattle.party_machine.specs.Machine.{MachineState, learnt}
-use Rattle.party_machine.specs.Rest.{EndsBy, IsAtRest}
+use Rattle.party_machine.specs.Rest.{IsAtRest}
 use Rattle.party_machine.proofs.Resting.{still}
 use Rattle.swap_run.specs.Asked.{Answers, with_answers}
 use Rattle.swap_run.specs.Run.{Cast, Notes, Question, State, conforms, role_of, is_planned, notes_of}
-use Rattle.swap_run.specs.Fair.{repeat, adjacent, the_horizon, ticks, round, has_ended, round_unless_ended}
+use Rattle.swap_run.specs.Fair.{repeat, adjacent, the_horizon, ticks, has_ended}
 use Rattle.swap_run.specs.Quiet.{over, IsIdle, SkipsTo}
 use Rattle.swap_run.specs.Laws.{IsReadyCast, IsGood}
 use Rattle.swap_run.proofs.Quiet.{Risen, rises, stays_low, notes_kept, finish_skips}
@@ -34,7 +34,7 @@ use Rattle.swap_run.proofs.Finish.{round_goes_on}
 use Rattle.swap_world.specs.Cast.{wallet_with}
 use Rattle.swap_world.specs.Acting.{histories}
 use Rattle.swap_world.specs.Inside.{IsActorOf, AreActorsOf, AreLedgersOf}
-use Rattle.swap_world.specs.Quiet.{IsLow, AreLow, IsCalm, IsCalmActor, IsReadyActor, HaveArcs}
+use Rattle.swap_world.specs.Quiet.{IsRaised, AreRaised, IsStill, IsLow, IsCalm, IsCalmActor, IsReadyActor, HaveArcs}
 use Rattle.swap_world.specs.declared.actor.Actor.{Actor}
 use Rattle.swap_world.specs.declared.actor.Actor.TheVariants.{Conforming, Planned, Manual}
 use Rattle.swap_world.proofs.Known.{whole}
@@ -121,10 +121,10 @@ all_in P (y ∷ xs) x h (inr i) = all_in P xs x (All-tail P y xs h) i
 
 -- A world in which nobody makes a call.
 module _ (d : Deal) (conforming : List Bool) (seeds : List (Option (List ℕ))) (roles : List Role) (qs : List Question) (ls : List LedgerState)
-    (xs : List Actor) (g : Answers) (ready : IsReadyCast (c d conforming seeds roles qs ls xs))
+    (xs : List Actor) (ready : IsReadyCast (c d conforming seeds roles qs ls xs))
     (good : IsGood (c d conforming seeds roles qs ls xs) (s d conforming seeds roles qs ls xs)) where
   abbrev cast : Cast
-  cast = with_answers (c d conforming seeds roles qs ls xs) g
+  cast = c d conforming seeds roles qs ls xs
 
   abbrev now : State
   now = s d conforming seeds roles qs ls xs
@@ -132,39 +132,33 @@ module _ (d : Deal) (conforming : List Bool) (seeds : List (Option (List ℕ))) 
   abbrev book : Histories
   book = histories ls
 
-  -- the state after so many ticks of each ledger
-  abbrev later : ℕ → State
-  later i = repeat i (ticks cast) now
-
-  machine_idles : (n i : ℕ) (p : ℕ) (m : MachineState) → i < n → p < d.graph.n → IsAt d conforming seeds roles qs ls xs p m
-      → IsCalm n book (adjacent d p) m → IsIdle cast (later i).book p (notes_of (later i) p)
-  machine_idles n i p m l lp at calm =
+  machine_idles : (n i : ℕ) (p : ℕ) (m : MachineState) (after : Histories) → i < n → p < d.graph.n → IsAt d conforming seeds roles qs ls xs p m
+      → IsCalm n book (adjacent d p) m → AreRaised i book after → IsIdle cast after p (notes_of now p)
+  machine_idles n i p m after l lp at calm raised =
       let near = adjacent d p in
       let k = m.known in
       let noted : notes_of now p ≡ record { known = k; signed = m.signed } = notes_at d conforming seeds roles qs ls xs p m at in
-      let same : notes_of (later i) p ≡ record { known = k; signed = m.signed }
-      = ap (λ (ns : List Notes). slice_index_or ns p (record { known = []; signed = [] })) (notes_kept cast i now) ∙ noted in
       let long : length k ≡ length d.graph.arcs = ap (λ (z : Notes). length z.known) (sym noted) ∙ (good.notes p lp at.is.0).one_each in
       let low : All (λ a. a < length d.graph.arcs) near = near_low d p in
       let fresh = λ (x : ℕ) (j : IsIn x near).
       let b = begins d conforming seeds roles qs ls xs ready good p lp m at x in
       let quiet = all_in (λ a. IsLow (length (history k a)) calm.until n (history book a)) near x calm.low j in
       let lx : x < length d.graph.arcs = all_in (λ a. a < length d.graph.arcs) near x low j in
-      let r = rises cast i now x (subst (λ z. x < z) (sym good.legal.one_each) lx) in
-      fresh_by k (later i).book book x calm.until n i l b quiet r in
-      let rests = rests_over calm.until m (later i).book k near calm.rests fresh
+      let r = raised x (subst (λ z. x < z) (sym good.legal.one_each) lx) in
+      fresh_by k after book x calm.until n i l b quiet r in
+      let rests = rests_over calm.until m after k near calm.rests fresh
       (λ x j. subst (λ z. x < z) (sym long) (all_in (λ a. a < length d.graph.arcs) near x low j)) in
       let w : cast.wallet p ≡ wallet_of m.seed m.me m.deal
       = ap (λ (o : Option (List ℕ)). wallet_with o p d) at.is.3 ∙ ap₂ (λ (v : ℕ) (e : Deal). wallet_of m.seed v e) (sym at.is.2) (sym at.is.1) in
-      let none : first (due d p (cast.wallet p) (signed_in m.signed) (over (later i).book near k)) ≡ None
-      = ap (λ (w : Wallet). first (due d p w (signed_in m.signed) (over (later i).book near k))) w
-      ∙ ap₂ (λ (v : ℕ) (e : Deal). first (due e v (wallet_of m.seed m.me m.deal) (signed_in m.signed) (over (later i).book near k))) (sym at.is.2)
+      let none : first (due d p (cast.wallet p) (signed_in m.signed) (over after near k)) ≡ None
+      = ap (λ (w : Wallet). first (due d p w (signed_in m.signed) (over after near k))) w
+      ∙ ap₂ (λ (v : ℕ) (e : Deal). first (due e v (wallet_of m.seed m.me m.deal) (signed_in m.signed) (over after near k))) (sym at.is.2)
       (sym at.is.1)
       ∙ rests.nothing in
-      subst (IsIdle cast (later i).book p) (sym same) none
+      subst (IsIdle cast after p) (sym noted) none
     where
       fresh_by : (k after b : Histories) (x until n i : ℕ) → i < n → Begins (history k x) (history b x)
-          → IsLow (length (history k x)) until n (history b x) → Risen i (history b x) (history after x) → IsFresh k x until (history after x)
+          → IsLow (length (history k x)) until n (history b x) → IsRaised i (history b x) (history after x) → IsFresh k x until (history after x)
       fresh_by k after b x until n i l starts quiet r =
           let more = drop (length (history k x)) (history b x) in
           let low = quiet.low in
@@ -176,12 +170,13 @@ module _ (d : Deal) (conforming : List Bool) (seeds : List (Option (List ℕ))) 
             low = omega (arith, low, high, l);
           }
 
-  idles_by : (n i : ℕ) (p : ℕ) (x : Actor) → i < n → p < d.graph.n → p < length xs → x ≡ get_or xs p x
+  idles_by : (n i : ℕ) (p : ℕ) (x : Actor) (after : Histories) → i < n → p < d.graph.n → p < length xs → x ≡ get_or xs p x
       → IsActorOf d (slice_index_or conforming p false) (slice_index_or seeds p None) (slice_index_or roles p kinds.Manual) p x
-      → conforms cast p ≡ true → IsCalmActor n book (adjacent d p) x → IsIdle cast (later i).book p (notes_of (later i) p)
-  idles_by n i p (Conforming m) l lp lx here is cp calm = machine_idles n i p m l lp (record { below = lx; here = here; is = is }) calm
-  idles_by n i p (Planned x) l lp lx here is cp calm = absurd calm
-  idles_by n i p Manual l lp lx here is cp calm = absurd (false≢true (sym is.0 ∙ cp))
+      → conforms cast p ≡ true → IsCalmActor n book (adjacent d p) x → AreRaised i book after → IsIdle cast after p (notes_of now p)
+  idles_by n i p (Conforming m) after l lp lx here is cp calm raised =
+      machine_idles n i p m after l lp (record { below = lx; here = here; is = is }) calm raised
+  idles_by n i p (Planned x) after l lp lx here is cp calm raised = absurd calm
+  idles_by n i p Manual after l lp lx here is cp calm raised = absurd (false≢true (sym is.0 ∙ cp))
 
   plain_by : (n p : ℕ) (x : Actor)
       → IsActorOf d (slice_index_or conforming p false) (slice_index_or seeds p None) (slice_index_or roles p kinds.Manual) p x
@@ -190,22 +185,19 @@ module _ (d : Deal) (conforming : List Bool) (seeds : List (Option (List ℕ))) 
   plain_by n p (Planned x) is cp calm = absurd calm
   plain_by n p Manual is cp calm = is.1
 
-  -- rounds in which nobody makes a call, and one more
-  pub skips : (n : ℕ) → AreActorsOf d conforming seeds roles xs → has_ended d book ≡ false
-      → (0 < n → 0 < length d.graph.arcs) → (0 < n → height (history book 0) + n ≤ the_horizon d)
-      → (0 < n → (v : ℕ) (x : Actor) → v < length xs → IsCalmActor n book (adjacent d v) (slice_index_or xs v x)) → SkipsTo cast n now
-  skips zero actors on some low calm = round_goes_on cast now on
-  skips (suc k) actors on some low calm =
-      let n = suc k in
-      let more : 0 < n = omega arith in
+  -- rounds in which nobody makes a call
+  pub rests : (n : ℕ) → AreActorsOf d conforming seeds roles xs
+      → ((v : ℕ) (x : Actor) → v < length xs → IsCalmActor n book (adjacent d v) (slice_index_or xs v x)) → IsStill cast n now
+  rests n actors calm =
       let at = λ (v : ℕ) (lv : v < d.graph.n). subst (λ z. v < z) (sym actors.one_each) lv in
       let x = λ (v : ℕ). get_or xs v Manual in
       let here = λ (v : ℕ) (lv : v < d.graph.n). any_default xs v Manual (x v) (at v lv) in
-      finish_skips cast
-      (λ v lv cv. plain_by n v (x v) (actors.each v (x v) (at v lv) (here v lv)) cv (calm more v Manual (at v lv)))
-      n now good.one_each
-      (stays_low cast n now 0 (some more) (subst (λ z. 0 < z) (sym good.legal.one_each) (some more)) (low more))
-      (λ i l v lv cv. idles_by n i v (x v) l lv (at v lv) (here v lv) (actors.each v (x v) (at v lv) (here v lv)) cv (calm more v Manual (at v lv)))
+      record {
+        noted = good.one_each;
+        plain = λ v lv cv. plain_by n v (x v) (actors.each v (x v) (at v lv) (here v lv)) cv (calm v Manual (at v lv));
+        idle = λ i after l raised v lv cv.
+            idles_by n i v (x v) after l lv (at v lv) (here v lv) (actors.each v (x v) (at v lv) (here v lv)) cv (calm v Manual (at v lv)) raised;
+      }
 
   ready_by : (p : ℕ) (x : Actor) → AreLedgersOf d ls → p < d.graph.n → p < length xs → x ≡ get_or xs p x
       → IsActorOf d (slice_index_or conforming p false) (slice_index_or seeds p None) (slice_index_or roles p kinds.Manual) p x
@@ -227,3 +219,22 @@ module _ (d : Deal) (conforming : List Bool) (seeds : List (Option (List ℕ))) 
       let y = get_or xs v x in
       let here = any_default xs v x y l in
       ready_by v y ledgers (subst (λ z. v < z) actors.one_each l) l here (actors.each v y l here)
+
+raised_by : (n : ℕ) (h after : List Entry) → Risen n h after → IsRaised n h after
+raised_by n h after r = record { more = r.more; ticks = r.ticks; is = r.is; high = r.high }
+
+-- such rounds, and one more, where a ledger stays low
+pub skips : (c : Cast) (n : ℕ) (s : State) (g : Answers) → IsReadyCast c → IsGood c s → has_ended c.deal s.book ≡ false
+    → (0 < n → 0 < length c.deal.graph.arcs) → (0 < n → height (history s.book 0) + n ≤ the_horizon c.deal) → (0 < n → IsStill c n s)
+    → SkipsTo (with_answers c g) n s
+skips c zero s g ready good on some low still = round_goes_on (with_answers c g) s on
+skips c (suc k) s g ready good on some low still =
+    let n = suc k in
+    let more : 0 < n = omega arith in
+    let x = with_answers c g in
+    let quiet = still more in
+    finish_skips x quiet.plain n s quiet.noted
+    (stays_low x n s 0 (some more) (subst (λ z. 0 < z) (sym good.legal.one_each) (some more)) (low more))
+    (λ i l v lv cv.
+    subst (IsIdle x (repeat i (ticks x) s).book v) (ap (λ (ns : List Notes). slice_index_or ns v (record { known = []; signed = [] })) (sym (notes_kept x i s)))
+    (quiet.idle i (repeat i (ticks x) s).book l (λ a la. raised_by i (history s.book a) _ (rises x i s a la)) v lv cv))

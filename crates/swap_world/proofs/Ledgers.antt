@@ -11,8 +11,6 @@ use Rattle.ledger_core.specs.Value.{LedgerState}
 use Rattle.ledger_core.specs.Book.{Histories, history, IsLegalBook}
 use Rattle.ledger_core.specs.History.{IsLegal}
 use Rattle.std.specs.List.{range_with_len}
-use Rattle.std.proofs.lemmas.List.FromFn.{length-map-range_with_len}
-use Rattle.swap_digraph.proofs.Ranges.{place_is}
 use Rattle.swap_run.specs.Run.{no_histories}
 use Rattle.swap_world.specs.Acting.{histories}
 use Rattle.swap_world.specs.Inside.{AreLedgersOf, IsLedgerOf, new_ledger, new_ledgers}

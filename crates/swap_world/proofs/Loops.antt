@@ -1,18 +1,19 @@
 -- Loops of a world: over a list, over the first m numbers, and m times. Each has gone by f so far.
-use Rattle.std.proofs.Common.{◌≡◌, ℕ, ◌+◌, ◌<◌, ◌≤◌, List, length, get_or, take, fold, sym, ap, ◌∙◌, arith}
+use Rattle.std.proofs.Common.{◌≡◌, ◌⊎◌, inl, inr, ℕ, ◌+◌, ◌<◌, ◌≤◌, List, length, get_or, take, fold, sym, ap, ap₂, ◌∙◌, arith}
 use Rattle.std.specs.List.{range_with_len}
 use Rattle.std.proofs.lemmas.List.{take_all}
 use Rattle.std.proofs.lemmas.List.FromFn.{length-range_with_len, get_or-range_with_len}
 use Rattle.std.proofs.lemmas.List.Sums.{fold_more}
+use Rattle.deviator_script.specs.declared.event.Event.{Event}
 use Rattle.swap_run.specs.Asked.{Answers}
-use Rattle.swap_run.specs.Run.{Cast, State}
+use Rattle.swap_run.specs.Run.{Cast, State, run_from, step}
 use Rattle.swap_run.specs.Fair.{repeat}
 use Rattle.swap_run.specs.FairLaws.{IsReached}
 use Rattle.swap_run.proofs.Repeats.{repeat_one, rest_more}
-use Rattle.swap_world.specs.Value.{WorldState, cast_for}
-use Rattle.swap_world.specs.Gone.{Gives, HasGone}
-use Rattle.swap_world.specs.Stopped.{IsStopped}
-use Rattle.swap_world.proofs.Gone.{gone_as, gone_then, cast_gone, deal_gone, more_asked, way_from, for_gone}
+use Rattle.swap_world.specs.Value.{WorldState, cast_for, Continues}
+use Rattle.swap_world.specs.Gone.{Gives, HasGone, IsCut}
+use Rattle.swap_world.specs.Stopped.{IsAfterSome, IsStopped}
+use Rattle.swap_world.proofs.Gone.{gone_as, gone_then, cast_gone, continues_less, deal_gone, more_asked, way_from, for_gone}
 use Rattle.swap_world.proofs.Ways.{fold_way, range_all, repeat_way, LeadOn}
 
 -- Over a list.
@@ -92,3 +93,23 @@ module _ (gives : Gives) (f : Cast → State → State) (old mid new : WorldStat
         = sym (ap (λ (x : Cast). f x mid.state) (for_gone gives (λ c s. repeat k (f c) s) old mid g so_far)) ∙ rests g in
         is ∙ sym (rest_more k m (f c) old.state (sym (ap (f c) is) ∙ (rest ∙ is)) l);
   }
+
+-- memory ran out in an event of a list
+pub after_some : (gives : Gives) (old mid new : WorldState) (xs : List Event) (k : ℕ) (x : Event) → k < length xs → x ≡ get_or xs k x
+    → HasGone gives (λ c s. run_from c s (take k xs)) old mid → IsCut gives x mid new → IsAfterSome xs old new
+after_some gives old mid new xs k x l is so_far cut = go cut.book
+  where
+    there : (g : Answers) → Continues new g → mid.state ≡ run_from (cast_for old g) old.state (take k xs)
+    there g e = so_far.state g (continues_less gives mid new g cut.asked e)
+
+    go : (new.state.book ≡ mid.state.book) ⊎ ((g : Answers) → Continues new g → new.state.book ≡ (step (cast_for mid g) mid.state x).book)
+        → IsAfterSome xs old new
+    go (inl e) = record { count = k; few = omega (arith, l); book = λ g h. e ∙ ap (λ (t : State). t.book) (there g h) }
+    go (inr e) = record {
+      count = k + 1;
+      few = omega (arith, l);
+      book = λ g h. let c = cast_for old g in
+          e g h ∙ ap (λ (t : State). t.book)
+          (ap₂ (λ (c : Cast) (s : State). step c s x) (for_gone gives (λ c s. run_from c s (take k xs)) old mid g so_far) (there g h)
+          ∙ (ap (λ (y : Event). step c (run_from c old.state (take k xs)) y) is ∙ sym (fold_more (step c) old.state xs k x l)));
+    }

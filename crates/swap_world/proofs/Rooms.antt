@@ -1,29 +1,29 @@
 -- Room for a further entry: in new ledgers, in a ledger in the place of another, and after a tick of the ledgers that stand on a chain.
-use Rattle.std.proofs.Common.{◌≡◌, ◌≢◌, ◌⊎◌, inl, inr, Result, Ok, Err, OnOk, ℕ, ◌+◌, ◌<◌, ◌≤◌, Bool, true, false, cond, not, List, [], ◌∷◌, ◌++◌}
-use Rattle.std.proofs.Common.{length, get_or, set, take, fold, replicate, slice_index_or, slice_set, refl, sym, ap, ap₂, ◌∙◌, subst, arith, length-append}
+use Rattle.std.proofs.Common.{◌≡◌, ◌≢◌, ◌⊎◌, inl, inr, Result, Ok, Err, OnOk, ℕ, ◌+◌, ◌<◌, ◌≤◌, Bool, true, false, not, List, [], ◌∷◌, ◌++◌}
+use Rattle.std.proofs.Common.{length, get_or, set, take, fold, refl, sym, ap, ◌∙◌, subst, arith, length-append}
 use Rattle.std.specs.Result.{is_err}
-use Rattle.std.specs.List.{range_with_len, All}
+use Rattle.std.specs.List.{All}
+use Rattle.std.specs.List.Sorted.{IsStrictlyIncreasing}
 use Rattle.std.proofs.lemmas.Bool.{false≢true}
 use Rattle.std.proofs.lemmas.List.{length-map, length-set, get_or-set_same, get_or-set_other, get_or_append_left, get_or_at, same_lists}
 use Rattle.std.proofs.lemmas.List.{get_or-map, get_or_default, length-replicate, get_or-replicate}
+use Rattle.std.proofs.lemmas.List.{take_all}
 use Rattle.std.proofs.lemmas.List.Elements.{All-head, All-tail}
+use Rattle.std.proofs.lemmas.List.Kept.{AllPairs-from_increasing}
+use Rattle.std.proofs.lemmas.List.Sums.{fold_more}
 use Rattle.swap_digraph.specs.declared.deal.Deal.{Deal}
-use Rattle.swap_digraph.specs.Graph.{arcs}
-use Rattle.ledger_core.specs.declared.entry.Entry.{Entry}
 use Rattle.ledger_core.specs.Value.{LedgerState}
 use Rattle.ledger_core.specs.History.{IsLegal}
-use Rattle.ledger_core.specs.Book.{Histories, history}
-use Rattle.deviator_script.specs.Step.{CanTick}
+use Rattle.ledger_core.specs.Book.{Histories}
 use Rattle.deviator_script.specs.declared.event.Event.TheVariants.{Tick}
 use Rattle.swap_laws.proofs.Prefixes.{same_or_not}
 use Rattle.swap_run.specs.Run.{Cast, State, after_tick, no_histories, step}
 use Rattle.swap_run.specs.Laws.{IsReadyCast, IsGood}
 use Rattle.swap_run.proofs.Good.{steps_are_good}
-use Rattle.swap_world.specs.Acting.{histories, ticked_where, tick_book}
-use Rattle.swap_world.specs.On.{tick_where, ticked_on}
+use Rattle.swap_world.specs.Acting.{histories, tick_book}
+use Rattle.swap_world.specs.On.{ticked_on}
 use Rattle.swap_world.specs.Inside.{AreLedgersOf, IsLedgerOf, new_ledger, IsNewLedger, AreNewLedgers, HaveRoom}
-use Rattle.swap_world.proofs.Ledgers.{book_ok, book_err, moved, ledger_set}
-use Rattle.swap_world.proofs.Ways.{range_all, range_more, range_whole}
+use Rattle.swap_world.proofs.Ledgers.{book_ok, moved, ledger_set}
 
 pub on_from : (b : Bool) → not b ≡ false → b ≡ true
 on_from true e = refl
@@ -101,80 +101,69 @@ new_histories d ls k =
 
 -- A tick of the ledgers that stand on a chain.
 
--- The first i ledgers have ticked, where they stand on the chain, and the others are as they were. Where all are ready each has room again.
-pub record AreTicked (d : Deal) (on : List Bool) (k : ℕ) (ready : Bool) (old new : List LedgerState) (i : ℕ) : Type 0 where
+-- The first i ledgers of a list have ticked, and the others are as they were. Where all are ready each has room again.
+pub record AreTicked (d : Deal) (on : List ℕ) (k : ℕ) (ready : Bool) (old new : List LedgerState) (i : ℕ) : Type 0 where
   pub ledgers : AreLedgersOf d new
   pub one_each : length new ≡ length old
-  pub book : histories new ≡ fold (tick_book on k) (histories old) (take i (range_with_len 0 (length on)))
-  pub room : (a : ℕ) (l : LedgerState) → a < length new → l ≡ get_or new a l → (a < i → ready ≡ true) → 0 < l.spare
+  pub book : histories new ≡ fold (tick_book k) (histories old) (take i on)
+  pub room : (a : ℕ) (l : LedgerState) → a < length new → l ≡ get_or new a l → ((j : ℕ) → j < i → get_or on j a ≡ a → ready ≡ true) → 0 < l.spare
 
-one_book : (w : Bool) (k : ℕ) (ls : List LedgerState) (a : ℕ) (l m : LedgerState) → a < length ls → l ≡ get_or ls a l
-    → m.history ≡ ticked_where w k l.history
-    → histories (set ls a m) ≡ cond w (set (histories ls) a (after_tick k (history (histories ls) a))) (histories ls)
-one_book true k ls a l m lt is e = book_ok ls a l m (after_tick k) lt is e
-one_book false k ls a l m lt is e = book_err ls a l m is e
-
-module _ (d : Deal) (on : List Bool) (k : ℕ) (old : List LedgerState) where
+module _ (d : Deal) (on : List ℕ) (k : ℕ) (old : List LedgerState) where
   pub none_ticked : AreLedgersOf d old → HaveRoom old → AreTicked d on k true old old 0
   none_ticked g h = record { ledgers = g; one_each = refl; book = refl; room = λ a l lt e q. h a l lt e }
 
-  pub one_ticked : (new : List LedgerState) (i : ℕ) (ready has next : Bool) (l m : LedgerState) → AreTicked d on k ready old new i → i < length on
-      → i < length new → l ≡ get_or new i l → m.history ≡ ticked_where (slice_index_or on i false) k l.history → m.deal ≡ l.deal → m.arc ≡ l.arc
+  -- the next ledger of an ascending list is none of those before it
+  pub next_room : (new : List LedgerState) (i x : ℕ) (ready : Bool) (l : LedgerState) → AreTicked d on k ready old new i → IsStrictlyIncreasing on
+      → i < length on → x ≡ get_or on i x → x < length new → l ≡ get_or new x l → 0 < l.spare
+  next_room new i x ready l t up below is li e =
+      t.room x l li e (λ j lj same.
+      let less : get_or on j x < get_or on i x = AllPairs-from_increasing on up j i x lj below in
+      absurd (omega (arith, less, same, is)))
+
+  pub one_ticked : (new : List LedgerState) (i x : ℕ) (ready has next : Bool) (l m : LedgerState) → AreTicked d on k ready old new i → i < length on
+      → x ≡ get_or on i x → x < length new → l ≡ get_or new x l → m.history ≡ after_tick k l.history → m.deal ≡ l.deal → m.arc ≡ l.arc
       → IsLegal m.deal m.arc m.history → (has ≡ true → 0 < m.spare)
-      → (next ≡ true → (ready ≡ true) × (has ≡ true)) → AreTicked d on k next old (set new i m) (i + 1)
-  one_ticked new i ready has next l m t below li e h ed ea legal r both = record {
-    ledgers = ledger_set d new i m t.ledgers li (moved d i l m (t.ledgers.each i l li e) ed ea legal);
-    one_each = length-set new i m ∙ t.one_each;
+      → (next ≡ true → (ready ≡ true) × (has ≡ true)) → AreTicked d on k next old (set new x m) (i + 1)
+  one_ticked new i x ready has next l m t below is li e h ed ea legal r both = record {
+    ledgers = ledger_set d new x m t.ledgers li (moved d x l m (t.ledgers.each x l li e) ed ea legal);
+    one_each = length-set new x m ∙ t.one_each;
     book =
-        one_book (slice_index_or on i false) k new i l m li e h
-        ∙ (ap (λ (b : Histories). tick_book on k b i) t.book ∙ sym (range_more (tick_book on k) (histories old) (length on) i below));
-    room = λ a x lt q f. at a x lt q f (same_or_not a i);
+        book_ok new x l m (after_tick k) li e h
+        ∙ (ap (λ (b : Histories). tick_book k b x) t.book
+        ∙ (ap (λ (y : ℕ). tick_book k (fold (tick_book k) (histories old) (take i on)) y) is ∙ sym (fold_more (tick_book k) (histories old) on i x below)));
+    room = λ a y lt q f. at a y lt q f (same_or_not a x);
   }
     where
-      at : (a : ℕ) (x : LedgerState) → a < length (set new i m) → x ≡ get_or (set new i m) a x → (a < i + 1 → next ≡ true)
-          → (a ≡ i) ⊎ (a ≢ i) → 0 < x.spare
-      at a x lt q f (inl s) =
-          let is : x ≡ m = q ∙ (ap (λ u. get_or (set new i m) u x) s ∙ get_or-set_same new i m x li) in
-          let now : a < i + 1 = let z : ◌≡◌ {A = ℕ} a i = s in omega (arith, z) in
-          subst (λ (z : LedgerState). 0 < z.spare) (sym is) (r (both (f now)).1)
-      at a x lt q f (inr n) =
-          t.room a x (subst (λ n. a < n) (length-set new i m) lt) (q ∙ get_or-set_other new i a m x n)
-          (λ less. (both (f (omega (arith, less)))).0)
+      at : (a : ℕ) (y : LedgerState) → a < length (set new x m) → y ≡ get_or (set new x m) a y
+          → ((j : ℕ) → j < i + 1 → get_or on j a ≡ a → next ≡ true) → (a ≡ x) ⊎ (a ≢ x) → 0 < y.spare
+      at a y lt q f (inl s) =
+          let here : y ≡ m = q ∙ (ap (λ u. get_or (set new x m) u y) s ∙ get_or-set_same new x m y li) in
+          let now : next ≡ true
+          = subst (λ (z : ℕ). ((j : ℕ) → j < i + 1 → get_or on j z ≡ z → next ≡ true) → next ≡ true) (sym s) (λ h. h i (omega arith) (sym is)) f in
+          subst (λ (z : LedgerState). 0 < z.spare) (sym here) (r (both now).1)
+      at a y lt q f (inr n) =
+          t.room a y (subst (λ n. a < n) (length-set new x m) lt) (q ∙ get_or-set_other new x a m y n)
+          (λ j less same. (both (f j (omega (arith, less)) same)).0)
 
   pub all_ticked : (new : List LedgerState) (i : ℕ) (ready : Bool) → AreTicked d on k ready old new i → length on ≤ i
-      → histories new ≡ fold (tick_book on k) (histories old) (range_with_len 0 (length on))
-  all_ticked new i ready t l = t.book ∙ range_whole (tick_book on k) (histories old) (length on) i l
+      → histories new ≡ fold (tick_book k) (histories old) on
+  all_ticked new i ready t l = t.book ∙ ap (λ (xs : List ℕ). fold (tick_book k) (histories old) xs) (take_all i on l)
 
   pub all_room : (new : List LedgerState) (i : ℕ) (ready : Bool) → AreTicked d on k ready old new i → ready ≡ true → HaveRoom new
-  all_room new i ready t e a l lt is = t.room a l lt is (λ q. e)
+  all_room new i ready t e a l lt is = t.room a l lt is (λ j less same. e)
 
 -- The state after it.
 
-module _ (on : List Bool) (k : ℕ) (c : Cast) where
-  one_state : (w : Bool) (s : State) (a : ℕ)
-      → cond w (step c s (Tick a k)) s ≡ record s { book = cond w (slice_set s.book a (after_tick k (history s.book a))) s.book }
-  one_state true s a = refl
-  one_state false s a = refl
-
+module _ (k : ℕ) (c : Cast) where
   -- ticks change the histories alone
-  pub ticked_state : (s : State) (xs : List ℕ) → fold (tick_where on k c) s xs ≡ record s { book = fold (tick_book on k) s.book xs }
+  pub ticked_state : (s : State) (on : List ℕ) → ticked_on on k c s ≡ record s { book = fold (tick_book k) s.book on }
   ticked_state s [] = refl
-  ticked_state s (a ∷ xs) =
-      ap (λ (t : State). fold (tick_where on k c) t xs) (one_state (slice_index_or on a false) s a)
-      ∙ ticked_state (record s { book = tick_book on k s.book a }) xs
-
-  one_good : (w : Bool) (s : State) (a : ℕ) → IsReadyCast c → CanTick c.deal a k → IsGood c s → IsGood c (cond w (step c s (Tick a k)) s)
-  one_good true s a ready can g = steps_are_good c s (Tick a k) ready can g
-  one_good false s a ready can g = g
-
-  good_ticks : (s : State) (xs : List ℕ) → IsReadyCast c → All (λ a. CanTick c.deal a k) xs → IsGood c s → IsGood c (fold (tick_where on k c) s xs)
-  good_ticks s [] ready can g = g
-  good_ticks s (a ∷ xs) ready can g =
-      good_ticks (tick_where on k c s a) xs ready (All-tail (λ a. CanTick c.deal a k) a xs can)
-      (one_good (slice_index_or on a false) s a ready (All-head (λ a. CanTick c.deal a k) a xs can) g)
+  ticked_state s (a ∷ on) = ticked_state (step c s (Tick a k)) on
 
   -- and leave a good state good
-  pub ticked_good : (s : State) → 1 ≤ k → k ≤ 1000000 → IsReadyCast c → IsGood c s → IsGood c (ticked_on on k c s)
-  ticked_good s some few ready g =
-      good_ticks s (arcs c.deal.graph) ready
-      (range_all (λ a. CanTick c.deal a k) (length c.deal.graph.arcs) (λ a lt. record { arc = lt; some = some; few = few })) g
+  pub ticked_good : (s : State) (on : List ℕ) → 1 ≤ k → k ≤ 1000000 → All (λ a. a < length c.deal.graph.arcs) on → IsReadyCast c → IsGood c s
+      → IsGood c (ticked_on on k c s)
+  ticked_good s [] some few low ready g = g
+  ticked_good s (a ∷ on) some few low ready g =
+      ticked_good (step c s (Tick a k)) on some few (All-tail (λ a. a < length c.deal.graph.arcs) a on low) ready
+      (steps_are_good c s (Tick a k) ready (record { arc = All-head (λ a. a < length c.deal.graph.arcs) a on low; some = some; few = few }) g)

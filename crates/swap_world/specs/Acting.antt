@@ -1,6 +1,5 @@
 -- What the act of a machine makes of the histories and of the machine, and a call of the others of theirs, where slots may be swept.
-use Rattle.std.specs.Prelude.{◌≡◌, ◌==◌, ◌||◌, ◌<◌, ℕ, ◌+◌, Bool, true, false, IsTrue, List, length, map, slice_set}
-use Rattle.std.specs.Prelude.{slice_index_or, Option, Some, None, if◌then◌else◌}
+use Rattle.std.specs.Prelude.{◌≡◌, ◌==◌, ◌||◌, ◌<◌, ℕ, ◌+◌, Bool, true, IsTrue, List, length, map, slice_set, Option, Some, None, if◌then◌else◌}
 use Rattle.swap_digraph.specs.declared.deal.Deal.{Deal}
 use Rattle.swap_digraph.specs.Deal.{party, counterparty}
 use Rattle.ledger_core.specs.declared.entry.Call.{Call}
@@ -88,10 +87,6 @@ question_of name v n = record { strategy = name; party = v; turn = n.turns; know
 abbrev pub turned : Plan → Plan
 turned n = record n { moves = moves_left n.known n.moves; turns = n.turns + 1 }
 
--- a history after a tick by k, where its ledger stands on the chain
-abbrev pub ticked_where : Bool → ℕ → List Entry → List Entry
-ticked_where on k h = if on then after_tick k h else h
-
--- the histories after a tick of the ledger of arc a by k, where it stands on the chain
-abbrev pub tick_book : List Bool → ℕ → Histories → ℕ → Histories
-tick_book on k b a = if slice_index_or on a false then slice_set b a (after_tick k (history b a)) else b
+-- the histories after a tick of the ledger of arc a by k
+abbrev pub tick_book : ℕ → Histories → ℕ → Histories
+tick_book k b a = slice_set b a (after_tick k (history b a))

@@ -1,7 +1,6 @@
 -- Where slots are swept: what the party of a call is told, what want of memory leaves of a world, and the tick of a chain.
 use Rattle.std.specs.Prelude.{ℕ, Bool, false, List, fold, slice_index_or, Option, Some, None, if◌then◌else◌}
 use Rattle.swap_digraph.specs.declared.deal.Deal.{Deal}
-use Rattle.swap_digraph.specs.Graph.{arcs}
 use Rattle.ledger_core.specs.declared.entry.Call.{Call}
 use Rattle.ledger_core.specs.declared.entry.Entry.{Entry}
 use Rattle.ledger_core.specs.History.{reply_to}
@@ -36,10 +35,10 @@ told_in swept c s e = told_of_call swept c s (called c s e)
 abbrev pub IsCutOn : Gives → (swept : ℕ → Bool) → Event → (old new : WorldState) → Type 0
 IsCutOn gives swept event old new = IsCutBy gives (λ c s. step_on swept c s event) old new
 
--- the ledger of arc a ticks by k, where it stands on the chain
-abbrev pub tick_where : List Bool → ℕ → Cast → State → ℕ → State
-tick_where on k c s a = if slice_index_or on a false then step c s (Tick a k) else s
+-- the ledger of arc a ticks by k
+abbrev pub tick_at : ℕ → Cast → State → ℕ → State
+tick_at k c s a = step c s (Tick a k)
 
--- each ledger that stands on the chain ticks, in order
-abbrev pub ticked_on : List Bool → ℕ → Cast → State → State
-ticked_on on k c s = fold (tick_where on k c) s (arcs c.deal.graph)
+-- each ledger of these arcs ticks, in order
+abbrev pub ticked_on : List ℕ → ℕ → Cast → State → State
+ticked_on on k c s = fold (tick_at k c) s on

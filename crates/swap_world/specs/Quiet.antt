@@ -1,5 +1,5 @@
 -- When ticks give nobody anything to do.
-use Rattle.std.specs.Prelude.{◌≡◌, ◌<◌, ◌≤◌, ◌+◌, ℕ, true, List, length, drop, Some}
+use Rattle.std.specs.Prelude.{◌≡◌, ◌<◌, ◌≤◌, ◌+◌, ◌++◌, ℕ, true, false, List, length, drop, Some}
 use Rattle.std.specs.List.{All}
 use Rattle.swap_digraph.specs.declared.deal.Deal.{Deal}
 use Rattle.ledger_core.specs.declared.entry.Entry.{Entry}
@@ -9,8 +9,28 @@ use Rattle.swap_laws.specs.Machine.{Begins}
 use Rattle.swap_laws.specs.Rest.{are_ticks}
 use Rattle.party_machine.specs.Machine.{MachineState}
 use Rattle.party_machine.specs.Rest.{IsAtRest}
+use Rattle.swap_run.specs.Run.{Cast, State, conforms, role_of, is_planned, notes_of}
+use Rattle.swap_run.specs.Quiet.{IsIdle}
 use Rattle.swap_world.specs.declared.actor.Actor.{Actor}
 use Rattle.swap_world.specs.declared.actor.Actor.TheVariants.{Conforming, Planned, Manual}
+
+-- A history is longer by ticks alone, which raise it by at most so many heights.
+pub record IsRaised (n : ℕ) (h after : List Entry) : Type 0 where
+  pub more : List Entry
+  pub ticks : are_ticks more ≡ true
+  pub is : after ≡ h ++ more
+  pub high : height after ≤ height h + n
+
+-- each history of a book is
+abbrev pub AreRaised : ℕ → (b after : Histories) → Type 0
+AreRaised n b after = (a : ℕ) → a < length b → IsRaised n (history b a) (history after a)
+
+-- Nobody makes a call in the next n rounds, where ticks alone come between them, which raise each ledger by at most one height a round.
+pub record IsStill (c : Cast) (n : ℕ) (s : State) : Type 0 where
+  pub noted : length s.notes ≡ c.deal.graph.n
+  pub plain : (v : ℕ) → v < c.deal.graph.n → conforms c v ≡ false → is_planned (role_of c v) ≡ false
+  pub idle : (i : ℕ) (b : Histories) → i < n → AreRaised i s.book b → (v : ℕ) → v < c.deal.graph.n → conforms c v ≡ true
+      → IsIdle c b v (notes_of s v)
 
 -- of the entries after those that were seen all are ticks, and n further ticks by 1 don't bring the ledger above that height
 pub record IsLow (seen until n : ℕ) (h : List Entry) : Type 0 where

@@ -1,7 +1,8 @@
 -- What want of memory leaves of a world, and where all parties conform.
-use Rattle.std.specs.Prelude.{◌≡◌, ◌<◌, ℕ, true}
+use Rattle.std.specs.Prelude.{◌≡◌, ◌<◌, ◌≤◌, ℕ, true, List, length, take}
 use Rattle.ledger_core.specs.Book.{Histories}
-use Rattle.swap_run.specs.Run.{Cast, State, conforms}
+use Rattle.deviator_script.specs.declared.event.Event.{Event}
+use Rattle.swap_run.specs.Run.{Cast, State, conforms, run_from}
 use Rattle.swap_run.specs.FairLaws.{IsReached}
 use Rattle.swap_run.specs.Asked.{Answers}
 use Rattle.swap_world.specs.Value.{WorldState, cast_at, cast_for, Continues}
@@ -20,6 +21,12 @@ pub record IsStopped (gives : Gives) (f : Cast → State → State) (old new : W
   pub cast : cast_at new ≡ cast_at old
   pub asked : HasAsked gives old new
   pub book : (g : Answers) → Continues new g → IsOnTheWay (cast_for old g) old.state (f (cast_for old g) old.state) new.state.book
+
+-- The histories are those after the first so many of these events, whatever would have been answered.
+pub record IsAfterSome (events : List Event) (old new : WorldState) : Type 0 where
+  pub count : ℕ
+  pub few : count ≤ length events
+  pub book : (g : Answers) → Continues new g → new.state.book ≡ (run_from (cast_for old g) old.state (take count events)).book
 
 -- every party conforms
 abbrev pub AllConform : WorldState → Type 0

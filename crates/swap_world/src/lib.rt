@@ -14,6 +14,7 @@ mod told;
 mod turn;
 mod world;
 
+pub use near::arcs_by_party;
 pub use staff::{WorldFault, WrongWallet};
 pub use told::Told;
 pub use world::World;

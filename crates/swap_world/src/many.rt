@@ -5,7 +5,7 @@ ghost use Rattle.deviator_script.specs.Step.{CanStep};
 ghost use Rattle.swap_run.specs.Run.{run_from};
 ghost use Rattle.swap_world.specs.Gone.{HasGone};
 ghost use Rattle.swap_world.specs.Staff.{AreHeld};
-ghost use Rattle.swap_world.specs.Stopped.{IsStopped};
+ghost use Rattle.swap_world.specs.Stopped.{IsAfterSome, IsStopped};
 
 use crate::world::World;
 use deviator_script::{Event, Strategies};
@@ -21,6 +21,7 @@ pub(crate) fn run<K: Strategies>(
     requires kit { AreHeld (K.holds kit.now) world.old.roles }
     ensures ok { OnOk result (HasGone (K.gives kit.now) (λ c s. run_from c s events.now) world.old world.new) }
     ensures err { OnErr result (IsStopped (K.gives kit.now) (λ c s. run_from c s events.now) world.old world.new) }
+    ensures prefix { OnErr result (IsAfterSome events.now world.old world.new) }
 {
     'events: for event in events {
         world.step(kit, event)?;

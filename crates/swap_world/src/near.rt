@@ -24,8 +24,8 @@ fn arcs_near(alloc: Global, deal: &Deal, p: PartyId) -> Result<Listed<ArcId>, No
     Ok(Listed::new(near))
 }
 
-/// The arcs that touch each party, by party.
-pub(crate) fn arcs_by_party(alloc: Global, deal: &Deal) -> Result<Vec<Listed<ArcId>>, NoMemory>
+/// The arcs that touch each party, by party, each list ascending.
+pub fn arcs_by_party(alloc: Global, deal: &Deal) -> Result<Vec<Listed<ArcId>>, NoMemory>
     requires { IsWellSized deal.now }
     ensures { IfOk result (λ v. v.items ≡ all_adjacent deal.now) }
 {

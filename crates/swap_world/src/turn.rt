@@ -1,4 +1,4 @@
-//! What an event does to one ledger, some of whose slots may be swept, and to the machine or the plan of a party beside it.
+//! What an event does to one ledger, whose slot may be swept, and to the machine or the plan of a party beside it.
 
 ghost use Rattle.std.specs.Prelude.{◌≡◌, ◌==◌, ◌||◌, ◌<◌, ◌≤◌, ◌+◌, ◌-◌, ◌⊎◌, ℕ, Some, None, false, IsTrue, OnOk};
 ghost use Rattle.std.specs.Prelude.{OnErr, IfOk, IfSome, length, drop, slice_set, option_copied};

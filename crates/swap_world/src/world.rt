@@ -2,6 +2,7 @@
 
 ghost use Rattle.std.specs.Prelude.{◌≡◌, ◌<◌, ◌≤◌, ◌⊎◌, ◌&&◌, IsTrue, OnOk, OnErr, IfOk, IsErr, false, true, is_some, is_none};
 ghost use Rattle.std.specs.Prelude.{length, map, All};
+ghost use Rattle.std.specs.List.Sorted.{IsStrictlyIncreasing};
 ghost use Rattle.swap_base.specs.Fault.{Gives};
 ghost use Rattle.swap_digraph.specs.Deal.{IsWellSized};
 ghost use Rattle.ledger_core.specs.History.{height, accounts, published, settled};
@@ -18,10 +19,11 @@ ghost use Rattle.swap_run.specs.Fair.{finish, has_ended};
 ghost use Rattle.swap_run.specs.Quiet.{SkipsTo};
 ghost use Rattle.swap_run.specs.Laws.{IsKept, IsReadyCast};
 ghost use Rattle.party_wallet.specs.Wallets.{wallets_of};
-ghost use Rattle.swap_world.specs.Stopped.{IsStopped, AllConform};
+ghost use Rattle.swap_world.specs.Stopped.{IsAfterSome, IsStopped, AllConform};
 ghost use Rattle.swap_world.specs.Cast.{asks};
 ghost use Rattle.swap_world.specs.Value.{cast_at, cast_for, new_world, Continues};
 ghost use Rattle.swap_world.specs.Near.{all_adjacent};
+ghost use Rattle.swap_world.specs.Quiet.{IsStill};
 ghost use Rattle.swap_world.specs.Gone.{HasGone, IsCut};
 ghost use Rattle.swap_world.specs.On.{swept_in, told_in, ticked_on, IsCutOn};
 ghost use Rattle.swap_world.specs.Staff.{world_of, AreHeld, HaveRoles, HaveSeeds};
@@ -463,7 +465,17 @@ impl World {
         ensures skips { (g : Answers) → SkipsTo (cast_for self.now g) result self.now.state }
     {
         let low = quiet::rounds_below(&self.ledgers, fair::horizon_of(&self.deal), most);
-        quiet::rounds(&self.deal, &self.ledgers, &self.actors, near, low)
+        self.rests_for(near, low)
+    }
+
+    /// For how many rounds, of at most so many, nobody makes a call, where ticks alone come between them.
+    pub fn rests_for(&self, near: &[Listed<ArcId>], most: u64) -> u64
+        requires near { near.now ≡ all_adjacent self.now.deal }
+        requires goes_on { self.now.stopped ≡ false }
+        ensures few { result ≤ most }
+        ensures still { 0 < result → IsStill (cast_at self.now) result self.now.state }
+    {
+        quiet::rounds(&self.deal, &self.ledgers, &self.actors, near, most)
     }
 
     /// Memory ran out: every later step wants it too.
@@ -473,7 +485,7 @@ impl World {
         self.stopped = true;
     }
 
-    /// Takes an event, some of whose slots may be swept (an empty list: none is), and answers what its party is told of its call. After want of memory
+    /// Takes one event, where some slots may be swept (an empty list: none is), and answers what its party is told of its call. After want of memory
     /// the histories are those before the event or after it, and every later step wants memory too.
     pub fn step_on<K: Strategies>(
         &mut self,
@@ -522,6 +534,7 @@ impl World {
         requires kit { AreHeld (K.holds kit.now) self.old.roles }
         ensures ok { OnOk result (HasGone (K.gives kit.now) (λ c s. run_from c s events.now) self.old self.new) }
         ensures err { OnErr result (IsStopped (K.gives kit.now) (λ c s. run_from c s events.now) self.old self.new) }
+        ensures prefix { OnErr result (IsAfterSome events.now self.old self.new) }
         ensures stopped { IsTrue self.old.stopped → IsErr result × (self.new.state.book ≡ self.old.state.book) }
         ensures kept { IsKept (cast_at self.new) self.new.state.book }
     {
@@ -568,11 +581,13 @@ impl World {
         self.ledgers[arc as usize].height()
     }
 
-    /// Ticks each ledger of these arcs by k heights. It makes all ticks; where there is no memory for further ones then, the world is stopped.
-    pub fn tick_on(&mut self, on: &[bool], k: u32)
+    /// Ticks each ledger of these arcs, those that stand on a chain, by k heights. It makes all ticks; where there is no memory for a further entry
+    /// then, the world is stopped.
+    pub fn tick_on(&mut self, on: &[ArcId], k: u32)
         requires some { 1 ≤ k }
         requires below { k ≤ 1000000 }
-        requires one_each { length on.now ≡ length self.old.deal.graph.arcs }
+        requires arcs { All (λ a. a < length self.old.deal.graph.arcs) on.now }
+        requires ascending { IsStrictlyIncreasing on.now }
         requires goes_on { self.old.stopped ≡ false }
         ensures ticked { self.new.state ≡ ticked_on on.now k (cast_at self.old) self.old.state }
         ensures same { self.new ≡ record self.old { state = self.new.state; stopped = self.new.stopped } }

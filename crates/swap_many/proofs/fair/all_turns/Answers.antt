@@ -1,10 +1,28 @@
-use Rattle.std.proofs.Common.{◌<◌, ◌≤◌, length, fold, take, arith, refl}
+use Rattle.std.proofs.Common.{◌<◌, ◌≤◌, [], length, fold, take, arith, refl, sym, ap, ◌∙◌, subst}
 use Rattle.std.specs.List.{range_with_len}
 use Rattle.swap_many.specs.Fair.{kept_turns}
-use Rattle.swap_many.proofs.Gone.{gone_as, on_gone, stopped_as}
+use Rattle.swap_world.specs.Near.{all_adjacent}
+use Rattle.swap_many.proofs.Values.{item_is}
+use Rattle.swap_many.proofs.Gone.{deal_gone, gone_as, on_gone, stopped_as}
 use Rattle.swap_many.proofs.Gone.{if_err, range_on, range_done, range_stops}
 use Rattle.swap_many.proofs.Turning as lemmas
 use Rattle.swap_many.proofs.fair.all_turns.Goals as goal
+
+pub bounds-near-place : goal.bounds-near-place
+bounds-near-place g c =
+    let l : c.each.swap < length c.args.worlds.now.worlds = omega (arith, c.each-test.true, c.swaps-swap-end.ensures) in
+    subst (λ n. c.each.swap < n) (sym c.requires.near.one_each) l
+
+pub turns-requires-clause-near : goal.turns-requires-clause-near
+turns-requires-clause-near g c =
+    let gives = g.K.Strategies.gives c.args.kit.now in
+    let w = c.args.worlds.now in
+    let near = c.args.near.now in
+    let l : c.each.swap < length w.worlds = omega (arith, c.each-test.true, c.swaps-swap-end.ensures) in
+    let there = item_is near c.each.swap [] c.index-near-place.result (subst (λ n. c.each.swap < n) (sym c.requires.near.one_each) l) c.index-near-place.is in
+    c.as_slice.ensures ∙ (there ∙ (c.requires.near.each c.each.swap l
+    ∙ ap all_adjacent (sym (deal_gone gives (λ m z. fold (kept_turns m) z (take c.each.swap (range_with_len 0 (length w.worlds)))) w c.each.worlds
+    c.each.swap c.each.invariant))))
 
 pub turns-requires-clause-on : goal.turns-requires-clause-on
 turns-requires-clause-on g c =

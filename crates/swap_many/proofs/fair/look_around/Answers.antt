@@ -1,43 +1,61 @@
-use Rattle.std.proofs.Common.{◌<◌, ◌≤◌, length, fold, take}
-use Rattle.std.specs.List.{range_with_len}
-use Rattle.swap_many.specs.Fair.{look_if, kept_looks}
-use Rattle.swap_many.specs.Value.{world_at}
-use Rattle.swap_many.proofs.Gone.{gone_as, on_gone, stopped_as}
-use Rattle.swap_many.proofs.Gone.{if_err, range_on, range_done, range_stops}
-use Rattle.swap_many.proofs.Turning as lemmas
+use Rattle.std.proofs.Common.{ℕ, List, slice_index, fold, take, sym, ap, ◌∙◌}
+use Rattle.swap_run.specs.Fair.{adjacent}
+use Rattle.swap_world.proofs.Idle.{any_default}
+use Rattle.swap_many.specs.Chains.{Setup}
+use Rattle.swap_many.specs.Kept.{Kept}
+use Rattle.swap_many.specs.Fair.{look_of, kept_looks}
+use Rattle.swap_many.specs.Value.{setup_for, kept_of}
+use Rattle.swap_many.proofs.Gone.{deal_gone, gone_as, if_err, list_done, list_on, list_stops, on_gone, party_gone, stopped_as}
+use Rattle.swap_many.proofs.Turning.{look_leads, may_look}
 use Rattle.swap_many.proofs.fair.look_around.Goals as goal
 
-pub look_if_near-requires-clause-on : goal.look_if_near-requires-clause-on
-look_if_near-requires-clause-on g c =
+pub happen-requires-clause-event : goal.happen-requires-clause-event
+happen-requires-clause-event g c =
     let gives = g.K.Strategies.gives c.args.kit.now in
     let w = c.args.worlds.now in
-    on_gone gives (λ m z. fold (look_if c.args.swap c.args.p m) z (take c.arcs.arc
-    (range_with_len 0 (length (world_at w c.args.swap).deal.graph.arcs)))) w c.arcs.worlds _ c.arcs.invariant c.requires.on
+    let mid = c.arcs.worlds in
+    let near = c.args.near.now in
+    let k = c.arcs.arc-index in
+    let f = λ (m : Setup) (z : Kept). fold (look_of c.args.swap c.args.p m) z (take k near) in
+    may_look mid c.args.swap c.args.p k (slice_index near k) near (party_gone gives f w mid c.args.swap c.args.p c.arcs.invariant c.requires.party)
+    (c.requires.near ∙ ap (λ d. adjacent d c.args.p) (sym (deal_gone gives f w mid c.args.swap c.arcs.invariant))) c.arcs-test.true
+    (any_default near k 0 (slice_index near k) c.arcs-test.true)
 
-pub returns-in_err-look_if_near-clause-err : goal.returns-in_err-look_if_near-clause-err
-returns-in_err-look_if_near-clause-err g c =
+pub happen-requires-clause-kit : goal.happen-requires-clause-kit
+happen-requires-clause-kit g c =
     let gives = g.K.Strategies.gives c.args.kit.now in
     let w = c.args.worlds.now in
-    let l : c.arcs.arc < length (world_at w c.args.swap).deal.graph.arcs = rw (← c.deal.ensures.value, ← c.arcs-2.ensures) c.arcs-test.true in
-    if_err _ (stopped_as gives (λ m z. fold (look_if c.args.swap c.args.p m) z (range_with_len 0 (length (world_at w c.args.swap).deal.graph.arcs)))
-    (kept_looks c.args.swap c.args.p) w c.look_if_near.new.worlds (λ a. lemmas.looks_are w c.args.swap c.args.p a)
-    (range_stops gives (look_if c.args.swap c.args.p) w c.arcs.worlds c.look_if_near.new.worlds (length (world_at w c.args.swap).deal.graph.arcs)
-    c.arcs.arc c.arcs.invariant l c.requires.on.ready (λ x lt. lemmas.look_leads w c.requires.on.ready c.args.swap c.args.p x c.requires.party lt)
-    c.in_err-look_if_near.ensures.err))
+    (on_gone gives (λ m z. fold (look_of c.args.swap c.args.p m) z (take c.arcs.arc-index c.args.near.now)) w c.arcs.worlds _ c.arcs.invariant
+    c.requires.on).held
+
+pub happen-requires-clause-goes_on : goal.happen-requires-clause-goes_on
+happen-requires-clause-goes_on g c = c.arcs.invariant.goes_on ∙ c.requires.on.goes_on
 
 pub arcs-preserved : goal.arcs-preserved
 arcs-preserved g c =
     let gives = g.K.Strategies.gives c.args.kit.now in
+    let near = c.args.near.now in
+    let k = c.arcs.arc-index in
+    list_on gives (look_of c.args.swap c.args.p) c.args.worlds.now c.arcs.worlds c.happen.new.self near k (slice_index near k) c.arcs.invariant
+    c.arcs-test.true (any_default near k 0 (slice_index near k) c.arcs-test.true) c.in_ok-happen.ensures.ok
+
+pub returns-in_err-happen-clause-err : goal.returns-in_err-happen-clause-err
+returns-in_err-happen-clause-err g c =
+    let gives = g.K.Strategies.gives c.args.kit.now in
     let w = c.args.worlds.now in
-    let l : c.arcs.arc < length (world_at w c.args.swap).deal.graph.arcs = rw (← c.deal.ensures.value, ← c.arcs-2.ensures) c.arcs-test.true in
-    range_on gives (look_if c.args.swap c.args.p) w c.arcs.worlds c.look_if_near.new.worlds (length (world_at w c.args.swap).deal.graph.arcs) c.arcs.arc
-    c.arcs.invariant l c.in_ok-look_if_near.ensures.ok
+    let near = c.args.near.now in
+    let k = c.arcs.arc-index in
+    if_err _ (stopped_as gives (λ m z. fold (look_of c.args.swap c.args.p m) z near) (kept_looks c.args.swap c.args.p) w c.happen.new.self
+    (λ a. ap (λ (xs : List ℕ). fold (look_of c.args.swap c.args.p (setup_for w a)) (kept_of w) xs) c.requires.near)
+    (list_stops gives (look_of c.args.swap c.args.p) w c.arcs.worlds c.happen.new.self near k (slice_index near k) c.arcs.invariant c.arcs-test.true
+    (any_default near k 0 (slice_index near k) c.arcs-test.true) c.requires.on.ready
+    (look_leads w c.requires.on.ready c.args.swap c.args.p near c.requires.party c.requires.near) c.in_err-happen.ensures.err))
 
 pub returns-clause-ok : goal.returns-clause-ok
 returns-clause-ok g c =
     let gives = g.K.Strategies.gives c.args.kit.now in
     let w = c.args.worlds.now in
-    let l : length (world_at w c.args.swap).deal.graph.arcs ≤ c.arcs.arc = rw (← c.deal.ensures.value, ← c.arcs-2.ensures) c.arcs-test.false in
-    gone_as gives (λ m z. fold (look_if c.args.swap c.args.p m) z (range_with_len 0 (length (world_at w c.args.swap).deal.graph.arcs)))
-    (kept_looks c.args.swap c.args.p) w c.arcs.worlds (λ a. lemmas.looks_are w c.args.swap c.args.p a)
-    (range_done gives (look_if c.args.swap c.args.p) w c.arcs.worlds (length (world_at w c.args.swap).deal.graph.arcs) c.arcs.arc l c.arcs.invariant)
+    let near = c.args.near.now in
+    gone_as gives (λ m z. fold (look_of c.args.swap c.args.p m) z near) (kept_looks c.args.swap c.args.p) w c.arcs.worlds
+    (λ a. ap (λ (xs : List ℕ). fold (look_of c.args.swap c.args.p (setup_for w a)) (kept_of w) xs) c.requires.near)
+    (list_done gives (look_of c.args.swap c.args.p) w c.arcs.worlds near c.arcs.arc-index c.arcs-test.false c.arcs.invariant)

@@ -1,14 +1,14 @@
-use Rattle.std.proofs.Common.{◌≡◌, ◌<◌, ◌+◌, true, false, arith, sym, ap, ◌∙◌, subst, refl}
+use Rattle.std.proofs.Common.{◌≡◌, ◌+◌, ◌-◌, true, arith, sym, ap, ◌∙◌, subst, refl}
 use Rattle.swap_run.specs.Fair.{repeat}
 use Rattle.swap_many.specs.Many.{last_horizon}
 use Rattle.swap_many.specs.Chains.{Setup}
 use Rattle.swap_many.specs.Kept.{Kept}
-use Rattle.swap_many.proofs.Values.{same_setup_of}
-use Rattle.swap_many.specs.Fair.{kept_round, kept_round_or_rest}
-use Rattle.swap_many.specs.Fair.{kept_rounds, have_ended}
+use Rattle.swap_many.specs.Fair.{kept_round_or_rest, kept_rounds, have_ended}
 use Rattle.swap_many.specs.Value.{HasManyGone, kept_of, setup_of}
-use Rattle.swap_many.proofs.Gone.{begun, gone_as, on_gone, stopped_as}
-use Rattle.swap_many.proofs.Gone.{if_err, repeat_on, repeat_rests, repeat_stops}
+use Rattle.swap_many.proofs.Values.{same_setup_of}
+use Rattle.swap_many.proofs.Gone.{begun, gone_as, if_err, on_gone, repeat_rests, stopped_as}
+use Rattle.swap_many.proofs.Nearby.{near_gone}
+use Rattle.swap_many.proofs.Advancing.{goes_further, stops_further}
 use Rattle.swap_many.proofs.Turning as lemmas
 use Rattle.swap_many.proofs.fair.rounds.Goals as goal
 
@@ -16,65 +16,77 @@ pub rounds-init : goal.rounds-init
 rounds-init g c =
     let gives = g.K.Strategies.gives c.args.kit.now in
     let w = c.args.worlds.now in
-    begun gives w
+    let h = c.last_horizon-horizon.ensures.value in
+    let none : 0 ≡ (last_horizon (setup_of w) + 1) - (c.last_horizon-horizon.result + 1) = omega (arith, h) in
+    record {
+      few = omega (arith, h);
+      gone = subst (λ n. HasManyGone gives (λ m z. repeat n (kept_round_or_rest m) z) w w) none (begun gives w);
+    }
 
 pub have_ended-requires : goal.have_ended-requires
 have_ended-requires g c =
-    let gives = g.K.Strategies.gives c.args.kit.now in
-    let w = c.args.worlds.now in
-    c.last_horizon-horizon.ensures.value ∙ ap last_horizon (sym (same_setup_of gives w c.rounds.worlds c.rounds.invariant.same))
+    c.last_horizon-horizon.ensures.value
+    ∙ ap last_horizon (sym (same_setup_of (g.K.Strategies.gives c.args.kit.now) c.args.worlds.now c.rounds.worlds c.rounds.invariant.gone.same))
 
-pub round-requires : goal.round-requires
-round-requires g c =
-    let gives = g.K.Strategies.gives c.args.kit.now in
+pub advance-requires-clause-near : goal.advance-requires-clause-near
+advance-requires-clause-near g c =
     let w = c.args.worlds.now in
-    record { on = on_gone gives (λ m z. repeat c.rounds.counter (kept_round_or_rest m) z) w c.rounds.worlds _ c.rounds.invariant c.requires.on }
+    near_gone (g.K.Strategies.gives c.args.kit.now) (λ m z. repeat ((last_horizon (setup_of w) + 1) - c.rounds.left) (kept_round_or_rest m) z) w
+    c.rounds.worlds c.args.near.now c.rounds.invariant.gone c.requires.near
+
+pub advance-requires-clause-horizon : goal.advance-requires-clause-horizon
+advance-requires-clause-horizon g c =
+    c.last_horizon-horizon.ensures.value
+    ∙ ap last_horizon (sym (same_setup_of (g.K.Strategies.gives c.args.kit.now) c.args.worlds.now c.rounds.worlds c.rounds.invariant.gone.same))
+
+pub advance-requires-clause-low : goal.advance-requires-clause-low
+advance-requires-clause-low g c = sym c.have_ended.ensures ∙ c.if-have_ended.false
+
+pub advance-requires-clause-on : goal.advance-requires-clause-on
+advance-requires-clause-on g c =
+    let w = c.args.worlds.now in
+    on_gone (g.K.Strategies.gives c.args.kit.now) (λ m z. repeat ((last_horizon (setup_of w) + 1) - c.rounds.left) (kept_round_or_rest m) z) w
+    c.rounds.worlds _ c.rounds.invariant.gone c.requires.on
+
+pub rounds-preserved : goal.rounds-preserved
+rounds-preserved g c =
+    let w = c.args.worlds.now in
+    let i = c.rounds.invariant in
+    let n = c.in_ok-taken.taken in
+    let less = c.in_ok-taken.ensures.few in
+    let few = i.few in
+    record {
+      few = omega (arith, few);
+      gone = goes_further (g.K.Strategies.gives c.args.kit.now) w c.rounds.worlds c.advance.new.worlds (last_horizon (setup_of w) + 1) c.rounds.left n
+          i.few less i.gone c.in_ok-taken.ensures.ok;
+    }
 
 pub returns-then-have_ended-clause-ok : goal.returns-then-have_ended-clause-ok
 returns-then-have_ended-clause-ok g c =
     let gives = g.K.Strategies.gives c.args.kit.now in
     let w = c.args.worlds.now in
     let mid = c.rounds.worlds in
-    let n = last_horizon (setup_of w) + 1 in
+    let all = last_horizon (setup_of w) + 1 in
     let part = λ (m : Setup) (z : Kept). repeat (last_horizon (setup_of w) + 1) (kept_round_or_rest m) z in
-    let l : c.rounds.counter < last_horizon (setup_of w) + 1 = omega (arith, c.rounds-test.true, c.last_horizon-horizon.ensures.value) in
     let ended : have_ended (setup_of mid) (kept_of mid) ≡ true = sym c.have_ended.ensures ∙ c.if-have_ended.true in
     gone_as gives part kept_rounds w mid (λ a. refl)
-    (repeat_rests gives kept_round_or_rest w mid mid n c.rounds.counter c.rounds.invariant (omega (arith, l)) (λ a. lemmas.rests mid a ended))
+    (repeat_rests gives kept_round_or_rest w mid mid all (all - c.rounds.left) c.rounds.invariant.gone (omega arith) (λ a. lemmas.rests mid a ended))
 
-pub returns-in_err-round-clause-err : goal.returns-in_err-round-clause-err
-returns-in_err-round-clause-err g c =
+pub returns-in_err-taken-clause-err : goal.returns-in_err-taken-clause-err
+returns-in_err-taken-clause-err g c =
     let gives = g.K.Strategies.gives c.args.kit.now in
     let w = c.args.worlds.now in
-    let mid = c.rounds.worlds in
-    let n = last_horizon (setup_of w) + 1 in
+    let i = c.rounds.invariant in
+    let k = c.in_err-taken.ensures.err in
     let part = λ (m : Setup) (z : Kept). repeat (last_horizon (setup_of w) + 1) (kept_round_or_rest m) z in
-    let l : c.rounds.counter < last_horizon (setup_of w) + 1 = omega (arith, c.rounds-test.true, c.last_horizon-horizon.ensures.value) in
-    let ended : have_ended (setup_of mid) (kept_of mid) ≡ false = sym c.have_ended.ensures ∙ c.if-have_ended.false in
-    if_err _ (stopped_as gives part kept_rounds w c.round.new.worlds (λ a. refl)
-    (repeat_stops gives kept_round_or_rest w mid c.round.new.worlds n c.rounds.counter c.rounds.invariant l c.requires.on.ready
-    (lemmas.unless_leads w c.requires.on.ready)
-    (stopped_as gives kept_round kept_round_or_rest mid c.round.new.worlds (λ a. lemmas.is_round mid a ended) c.in_err-round.ensures.err)))
-
-pub rounds-preserved : goal.rounds-preserved
-rounds-preserved g c =
-    let gives = g.K.Strategies.gives c.args.kit.now in
-    let w = c.args.worlds.now in
-    let mid = c.rounds.worlds in
-    let n = last_horizon (setup_of w) + 1 in
-    let part = λ (m : Setup) (z : Kept). repeat (last_horizon (setup_of w) + 1) (kept_round_or_rest m) z in
-    let ended : have_ended (setup_of mid) (kept_of mid) ≡ false = sym c.have_ended.ensures ∙ c.if-have_ended.false in
-    repeat_on gives kept_round_or_rest w mid c.round.new.worlds n c.rounds.counter c.rounds.invariant
-    (gone_as gives kept_round kept_round_or_rest mid c.round.new.worlds (λ a. lemmas.is_round mid a ended) c.in_ok-round.ensures.ok)
+    if_err _ (stopped_as gives part kept_rounds w c.advance.new.worlds (λ a. refl)
+    (stops_further gives w c.rounds.worlds c.advance.new.worlds (last_horizon (setup_of w) + 1) c.rounds.left k.0 i.few k.1 i.gone c.requires.on.ready k.2))
 
 pub returns-clause-ok : goal.returns-clause-ok
 returns-clause-ok g c =
     let gives = g.K.Strategies.gives c.args.kit.now in
     let w = c.args.worlds.now in
-    let mid = c.rounds.worlds in
-    let n = last_horizon (setup_of w) + 1 in
     let part = λ (m : Setup) (z : Kept). repeat (last_horizon (setup_of w) + 1) (kept_round_or_rest m) z in
-    let e : c.rounds.counter ≡ last_horizon (setup_of w) + 1 =
-    omega (arith, c.rounds-test.false, c.rounds.auto, c.last_horizon-horizon.ensures.value) in
-    gone_as gives part kept_rounds w mid (λ a. refl)
-    (subst (λ k. HasManyGone gives (λ m z. repeat k (kept_round_or_rest m) z) w mid) e c.rounds.invariant)
+    let none : (last_horizon (setup_of w) + 1) - c.rounds.left ≡ last_horizon (setup_of w) + 1 = omega (arith, c.rounds-test.false) in
+    gone_as gives part kept_rounds w c.rounds.worlds (λ a. refl)
+    (subst (λ n. HasManyGone gives (λ m z. repeat n (kept_round_or_rest m) z) w c.rounds.worlds) none c.rounds.invariant.gone)

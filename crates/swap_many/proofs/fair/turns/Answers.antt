@@ -1,11 +1,29 @@
-use Rattle.std.proofs.Common.{◌<◌, ◌≤◌, fold, take, arith, refl}
+use Rattle.std.proofs.Common.{◌<◌, ◌≤◌, fold, take, arith, refl, sym, ap, ◌∙◌, subst}
 use Rattle.std.specs.List.{range_with_len}
 use Rattle.swap_many.specs.Fair.{kept_turn, kept_turns}
 use Rattle.swap_many.specs.Value.{world_at}
-use Rattle.swap_many.proofs.Gone.{gone_as, on_gone, stopped_as}
+use Rattle.swap_run.specs.Fair.{adjacent}
+use Rattle.swap_world.proofs.Finishes.{near_at, near_many}
+use Rattle.swap_many.proofs.Gone.{deal_gone, gone_as, on_gone, stopped_as}
 use Rattle.swap_many.proofs.Gone.{if_err, range_on, range_done, range_stops}
 use Rattle.swap_many.proofs.Turning as lemmas
 use Rattle.swap_many.proofs.fair.turns.Goals as goal
+
+pub bounds-near-place : goal.bounds-near-place
+bounds-near-place g c =
+    let w = c.args.worlds.now in
+    let l : c.parties.p < (world_at w c.args.swap).deal.graph.n = rw (← c.deal.ensures.value) (omega (arith, c.parties-test.true, c.n-p-end.ensures)) in
+    subst (λ n. c.parties.p < n) (sym (near_many (world_at w c.args.swap).deal c.args.near.now c.requires.near)) l
+
+pub turn-requires-clause-near : goal.turn-requires-clause-near
+turn-requires-clause-near g c =
+    let gives = g.K.Strategies.gives c.args.kit.now in
+    let w = c.args.worlds.now in
+    let l : c.parties.p < (world_at w c.args.swap).deal.graph.n = rw (← c.deal.ensures.value) (omega (arith, c.parties-test.true, c.n-p-end.ensures)) in
+    c.as_slice.ensures
+    ∙ (near_at (world_at w c.args.swap).deal c.args.near.now c.parties.p c.index-near-place.result c.requires.near l c.index-near-place.is
+    ∙ ap (λ d. adjacent d c.parties.p) (sym (deal_gone gives (λ m z. fold (kept_turn c.args.swap m) z (take c.parties.p
+    (range_with_len 0 ((world_at w c.args.swap).deal.graph.n)))) w c.parties.worlds c.args.swap c.parties.invariant)))
 
 pub turn-requires-clause-on : goal.turn-requires-clause-on
 turn-requires-clause-on g c =

@@ -1,11 +1,11 @@
-use Rattle.std.proofs.Common.{◌≡◌, ◌<◌, ℕ, true, arith, sym, ap, ◌∙◌, subst}
+use Rattle.std.proofs.Common.{◌≡◌, ◌<◌, ℕ, true, arith, sym, ◌∙◌, subst}
 use Rattle.deviator_script.specs.declared.event.Event.TheVariants.{Act}
 use Rattle.swap_run.specs.Run.{Cast, State, conforms, step}
 use Rattle.swap_run.specs.Fair.{repeat, most_acts}
 use Rattle.swap_world.specs.Value.{cast_at, cast_for}
 use Rattle.swap_world.specs.Gone.{HasGone}
-use Rattle.swap_world.proofs.Ways.{at, if_err}
-use Rattle.swap_world.proofs.Gone.{alone_conforming, begun, cast_gone, cut_to, deal_gone, goes_on_gone, quiet_run, stopped_in, went_to}
+use Rattle.swap_world.proofs.Ways.{if_err}
+use Rattle.swap_world.proofs.Gone.{alone_conforming, begun, cast_gone, cut_to, deal_gone, goes_on_gone, quiet_rests, quiet_run, still_at, stopped_in, went_to}
 use Rattle.swap_world.proofs.Loops.{repeat_on, repeat_rests, repeat_stops}
 use Rattle.swap_world.proofs.Finishes.{act_leads}
 use Rattle.swap_world.proofs.fair.act_to_rest.Goals as goal
@@ -73,10 +73,11 @@ returns-then-not-branch-clause-ok g c =
     let conforming : conforms (cast_at mid) c.args.p ≡ true =
     subst (λ x. conforms x c.args.p ≡ true) (sym (cast_gone gives (λ x s. repeat c.acts.counter (act_of c.args.p x) s) w mid c.acts.invariant))
     c.requires.conforms in
-    let quiet = quiet_run (cast_at mid) mid.state c.args.p (alone_conforming (cast_at mid) c.args.p conforming) in
-    subst (λ x. HasGone gives (λ y s. repeat (most_acts w.deal) (act_of c.args.p y) s) w x) (sym (e.ok ∙ ap (λ s. at mid s) idle))
+    let same = still_at mid c.act_if_due.new.self (step (cast_at mid) mid.state (Act c.args.p)) e.ok idle in
+    subst (λ x. HasGone gives (λ y s. repeat (most_acts w.deal) (act_of c.args.p y) s) w x) (sym same)
     (repeat_rests gives (act_of c.args.p) w mid mid (most_acts w.deal) c.acts.counter c.acts.invariant (omega (arith, l))
-    (λ a. quiet.same a ∙ idle))
+    (quiet_rests (act_of c.args.p) (cast_at mid) mid.state
+    (quiet_run (cast_at mid) mid.state c.args.p (alone_conforming (cast_at mid) c.args.p conforming)) idle))
 
 pub returns-clause-ok : goal.returns-clause-ok
 returns-clause-ok g c =

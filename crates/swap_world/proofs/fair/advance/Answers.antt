@@ -2,7 +2,6 @@ use Rattle.std.proofs.Common.{◌≡◌, ℕ, ◌+◌, ◌≤◌, arith, sym, su
 use Rattle.swap_run.specs.Fair.{repeat, ticks, round_unless_ended}
 use Rattle.swap_world.specs.Near.{all_adjacent}
 use Rattle.swap_world.specs.Stopped.{IsStopped}
-use Rattle.swap_world.proofs.Ledgers.{on_ok, on_err}
 use Rattle.swap_world.proofs.Ways.{if_err}
 use Rattle.swap_world.proofs.Gone.{deal_gone, goes_on_gone, held_gone}
 use Rattle.swap_world.proofs.Finishes.{advance_cut, advance_ends, advance_stops}

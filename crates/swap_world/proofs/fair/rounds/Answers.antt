@@ -1,10 +1,10 @@
-use Rattle.std.proofs.Common.{◌≡◌, ◌<◌, ◌≤◌, ◌+◌, ◌-◌, true, false, arith, sym, ap, ◌∙◌, subst}
+use Rattle.std.proofs.Common.{◌≡◌, ◌+◌, ◌-◌, true, arith, sym, ◌∙◌, subst}
 use Rattle.swap_run.specs.Fair.{repeat, the_horizon, has_ended, round_unless_ended}
 use Rattle.swap_world.specs.Value.{cast_for}
 use Rattle.swap_world.specs.Gone.{HasGone}
 use Rattle.swap_world.specs.Near.{all_adjacent}
 use Rattle.swap_world.proofs.Ways.{if_err}
-use Rattle.swap_world.proofs.Gone.{begun, deal_gone, goes_on_gone, held_gone, stopped_as}
+use Rattle.swap_world.proofs.Gone.{begun, deal_gone, goes_on_gone, held_gone}
 use Rattle.swap_world.proofs.Loops.{repeat_rests}
 use Rattle.swap_world.proofs.Finishes.{is_rest, goes_further, stops_further, finish_is, finish_stops_at}
 use Rattle.swap_world.proofs.fair.rounds.Goals as goal

@@ -7,7 +7,7 @@ use Rattle.swap_run.proofs.Reached.{one_event}
 use Rattle.swap_world.specs.Value.{cast_for}
 use Rattle.swap_world.proofs.Ways.{if_err}
 use Rattle.swap_world.proofs.Gone.{begun, can_gone, held_gone, stopped_in}
-use Rattle.swap_world.proofs.Loops.{list_on, list_done, list_stops}
+use Rattle.swap_world.proofs.Loops.{after_some, list_on, list_done, list_stops}
 use Rattle.swap_world.proofs.many.run.Goals as goal
 
 pub events-init : goal.events-init
@@ -45,6 +45,11 @@ returns-in_err-step-clause-err g c =
     (λ a. All-weaker (CanStep w.deal w.conforming w.seeds) (λ x. (s : State)
     → IsReached (cast_for w a) s (step (cast_for w a) s x)) (λ x can s. one_event (cast_for w a) s x can) c.args.events.now c.requires.events)
     (stopped_in gives mid new c.event-item.result can c.in_err-step.ensures.err c.in_err-step.ensures.cut))
+
+pub returns-in_err-step-clause-prefix : goal.returns-in_err-step-clause-prefix
+returns-in_err-step-clause-prefix g c =
+    if_err _ (after_some (g.K.Strategies.gives c.args.kit.now) c.args.world.now c.events.world c.step.new.self c.args.events.now c.events.event-index
+    c.event-item.result c.events-test.true c.event-item.is c.events.invariant c.in_err-step.ensures.cut)
 
 pub returns-clause-ok : goal.returns-clause-ok
 returns-clause-ok g c =

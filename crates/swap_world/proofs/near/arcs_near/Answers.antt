@@ -1,4 +1,4 @@
-use Rattle.std.proofs.Common.{ℕ, Bool, ◌≡◌, ◌==◌, ◌||◌, ◌∙◌, ap, sym}
+use Rattle.std.proofs.Common.{ℕ, Bool, ◌==◌, ◌||◌, ◌∙◌, ap, sym}
 use Rattle.swap_digraph.specs.Deal.{party, counterparty}
 use Rattle.swap_digraph.proofs.Ranges.{filter_on, filter_off}
 use Rattle.swap_world.proofs.near.arcs_near.Goals as goal

@@ -1,7 +1,4 @@
-use Rattle.std.proofs.Common.{◌≡◌, ◌<◌, ◌≤◌, ◌+◌, List, arith, sym, ap, ◌∙◌, subst}
-use Rattle.ledger_core.specs.declared.entry.Entry.{Entry}
-use Rattle.ledger_core.specs.History.{height}
-use Rattle.swap_world.proofs.Ledgers.{history_at}
+use Rattle.std.proofs.Common.{arith}
 use Rattle.swap_world.proofs.quiet.rounds_below.Goals as goal
 
 pub returns-then-is_empty-clause-some : goal.returns-then-is_empty-clause-some

@@ -1,4 +1,4 @@
-use Rattle.std.proofs.Common.{◌<◌, length, arith, sym, subst}
+use Rattle.std.proofs.Common.{length, arith, sym, subst}
 use Rattle.swap_world.specs.Acting.{histories}
 use Rattle.swap_world.specs.Quiet.{IsCalmActor, IsReadyActor}
 use Rattle.swap_world.proofs.quiet.rounds_for.Goals as goal

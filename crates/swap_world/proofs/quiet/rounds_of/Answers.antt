@@ -1,4 +1,4 @@
-use Rattle.std.proofs.Common.{◌<◌, arith}
+use Rattle.std.proofs.Common.{arith}
 use Rattle.swap_world.proofs.quiet.rounds_of.Goals as goal
 
 pub returns-in-None-clause-calm : goal.returns-in-None-clause-calm

@@ -11,6 +11,9 @@ use Rattle.swap_many.proofs.Begun.{was_opened}
 use Rattle.swap_many.proofs.Starting.{new_whole}
 use Rattle.swap_many.proofs.worlds.Worlds.new.Goals as goal
 
+pub standing-requires : goal.standing-requires
+standing-requires c = rw (c.deref-3.ensures.value, c.as_slice-2.ensures) c.requires.placed
+
 pub invariant_of-result : goal.invariant_of-result
 invariant_of-result c =
     let ws = c.args.worlds.items in

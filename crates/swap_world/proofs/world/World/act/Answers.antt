@@ -1,9 +1,8 @@
 use Rattle.std.proofs.Common.{sym, ◌∙◌}
 use Rattle.deviator_script.specs.declared.event.Event.TheVariants.{Act}
-use Rattle.swap_world.specs.Value.{cast_at}
-use Rattle.swap_world.specs.On.{swept_in}
-use Rattle.swap_world.proofs.On.{if_told}
-use Rattle.swap_world.proofs.Gone.{cut, went, quiet_act, stepping, told_same}
+use Rattle.swap_world.specs.Value.{cast_at, cast_for}
+use Rattle.swap_world.specs.On.{swept_in, told_in}
+use Rattle.swap_world.proofs.Gone.{cut, went, quiet_act, stepping, told_any, told_same}
 use Rattle.swap_world.proofs.world.World.act.Goals as goal
 
 pub returns-clause-ok : goal.returns-clause-ok
@@ -17,8 +16,9 @@ pub returns-clause-told : goal.returns-clause-told
 returns-clause-told g c =
     let w = c.args.self.now in
     let sw = swept_in c.args.swept.now in
-    if_told c.act_alone.result (λ t e a k. e ∙ sym (told_same sw (cast_at w) w.state c.args.p a (sym c.asks.ensures ∙ c.if-asks.false)))
-    c.act_alone.ensures.told
+    told_any c.act_alone.result c.act_alone.new.self (λ a. told_in sw (cast_for w a) w.state (Act c.args.p))
+    (told_in sw (cast_at w) w.state (Act c.args.p))
+    (λ a. told_same sw (cast_at w) w.state c.args.p a (sym c.asks.ensures ∙ c.if-asks.false)) c.act_alone.ensures.told
 
 pub returns-clause-cut : goal.returns-clause-cut
 returns-clause-cut g c =

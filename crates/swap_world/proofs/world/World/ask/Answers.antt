@@ -6,9 +6,8 @@ use Rattle.swap_world.specs.Acting.{histories, seen}
 use Rattle.swap_world.specs.Inside.{asked_in}
 use Rattle.swap_world.specs.On.{swept_in}
 use Rattle.swap_world.specs.declared.actor.Actor.TheVariants.{Planned}
-use Rattle.swap_world.proofs.Asks.{IsAsking, good_asked, has_gone, is_cut, kept_asked, told_asked}
+use Rattle.swap_world.proofs.Asks.{IsAsking, good_asked, has_gone, is_cut, kept_asked, has_told}
 use Rattle.swap_world.proofs.Ledgers.{on_ok}
-use Rattle.swap_world.proofs.On.{if_told}
 use Rattle.swap_world.proofs.States.{actor_set}
 use Rattle.swap_world.proofs.Worlds.{plan_placed, knows_each, shown}
 use Rattle.swap_world.proofs.Rooms.{room_unless}
@@ -183,7 +182,7 @@ returns-clause-told g c =
       plan = c.and-told.ensures;
       answer = c.and-self-inside.ensures;
     } in
-    rw (← c.self.view_is) (if_told c.take-done.result (λ t e a f. e ∙ told_asked sw k a f) c.take-done.ensures.told)
+    rw (← c.self.view_is) (has_told sw k c.take-done.result c.take-done.ensures.told)
 
 pub take-done-requires-clause-room : goal.take-done-requires-clause-room
 take-done-requires-clause-room g c = c.self.invariant.room (rw (← c.self.view_is) at c.requires.goes_on)

@@ -1,12 +1,11 @@
-use Rattle.std.proofs.Common.{sym, subst, OnOk, OnErr, IfOk, ◌≡◌, ◌∙◌}
+use Rattle.std.proofs.Common.{refl, sym, subst, OnOk, OnErr, IfOk, ◌≡◌}
 use Rattle.deviator_script.specs.declared.event.Event.{Event}
-use Rattle.deviator_script.specs.declared.event.Event.TheVariants.{Tick, Look, Call as Made}
+use Rattle.deviator_script.specs.declared.event.Event.TheVariants.{Tick, Call as Made}
 use Rattle.swap_run.specs.Asked.{Answers}
 use Rattle.swap_world.specs.Gone.{HasGone, IsCutBy}
 use Rattle.swap_world.specs.On.{swept_in, told_in}
 use Rattle.swap_world.specs.Value.{cast_at, cast_for, Continues}
-use Rattle.swap_world.proofs.On.{if_told}
-use Rattle.swap_world.proofs.Gone.{cut, cut_to, went, went_to, unmoved, quiet_tick, quiet_look, quiet_call, stepping}
+use Rattle.swap_world.proofs.Gone.{cut, cut_to, went, quiet_tick, quiet_call, stepping, told_any}
 use Rattle.swap_world.proofs.Ways.{if_err}
 use Rattle.swap_world.proofs.world.World.happen.Goals as goal
 
@@ -24,7 +23,8 @@ returns-in-Call-clause-told g c =
     let w = c.args.self.now in
     let sw = swept_in c.args.swept.now in
     subst (λ (e : Event). IfOk c.make.result (λ r. (a : Answers) → Continues c.make.new.self a → r ≡ told_in sw (cast_for w a) w.state e)) (sym c.in-Call.is)
-    (if_told c.make.result (λ t e a k. e) c.make.ensures.told)
+    (told_any c.make.result c.make.new.self (λ a. told_in sw (cast_for w a) w.state (Made c.in-Call.sender c.in-Call.mv))
+    (told_in sw (cast_at w) w.state (Made c.in-Call.sender c.in-Call.mv)) (λ a. refl) c.make.ensures.told)
 
 pub returns-in-Call-clause-cut : goal.returns-in-Call-clause-cut
 returns-in-Call-clause-cut g c =

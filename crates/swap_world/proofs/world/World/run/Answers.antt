@@ -1,4 +1,4 @@
-use Rattle.std.proofs.Common.{refl}
+use Rattle.std.proofs.Common.{arith, refl}
 use Rattle.swap_run.specs.Run.{run_from}
 use Rattle.swap_world.proofs.Gone.{stopped_before}
 use Rattle.swap_world.proofs.Worlds.{kept_to}
@@ -8,6 +8,9 @@ pub returns-then-self-clause-err : goal.returns-then-self-clause-err
 returns-then-self-clause-err g c =
     stopped_before (g.K.Strategies.gives c.args.kit.now) (λ x s. run_from x s c.args.events.now) c.args.self.now (rw (← c.self.view_is) c.if-self.true)
     (λ a s. record { events = c.args.events.now; can = c.requires.events; state = refl })
+
+pub returns-then-self-clause-prefix : goal.returns-then-self-clause-prefix
+returns-then-self-clause-prefix g c = record { count = 0; few = omega arith; book = λ a h. refl }
 
 pub returns-then-self-clause-kept : goal.returns-then-self-clause-kept
 returns-then-self-clause-kept g c = rw (← c.self.view_is) c.self.invariant.kept

@@ -1,4 +1,4 @@
-use Rattle.std.proofs.Common.{false, ◌<◌, set, sym, ap, subst, inr}
+use Rattle.std.proofs.Common.{◌<◌, set, sym, ap, subst, inr}
 use Rattle.ledger_core.specs.Book.{Histories}
 use Rattle.deviator_script.specs.declared.event.Event.TheVariants.{Tick}
 use Rattle.swap_run.specs.Run.{State, after_tick}

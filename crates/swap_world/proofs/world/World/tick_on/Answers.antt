@@ -1,15 +1,17 @@
-use Rattle.std.proofs.Common.{◌≡◌, Bool, true, false, length, fold, not, refl, sym, ap, ◌∙◌, subst}
-use Rattle.std.specs.List.{range_with_len}
-use Rattle.swap_digraph.specs.Graph.{arcs}
+use Rattle.std.proofs.Common.{◌<◌, sym, ap, ◌∙◌, subst}
+use Rattle.std.specs.List.{All}
 use Rattle.ledger_core.specs.Book.{Histories}
 use Rattle.swap_run.specs.Run.{State}
 use Rattle.swap_run.specs.Laws.{IsGood, IsKept}
 use Rattle.swap_run.proofs.Good.{good_is_kept}
-use Rattle.swap_world.specs.Acting.{histories, tick_book}
 use Rattle.swap_world.specs.Inside.{asked_in, cast_in, state_in}
 use Rattle.swap_world.proofs.Rooms.{ticked_state, ticked_good, on_from}
 use Rattle.swap_world.proofs.States.{state}
 use Rattle.swap_world.proofs.world.World.tick_on.Goals as goal
+
+pub tick_all-ready-requires-clause-arcs : goal.tick_all-ready-requires-clause-arcs
+tick_all-ready-requires-clause-arcs c =
+    subst (λ n. All (λ a. a < n) c.args.on.now) (sym c.self.invariant.ledgers.one_each) (rw (← c.self.view_is) at c.requires.arcs)
 
 pub tick_all-ready-requires-clause-room : goal.tick_all-ready-requires-clause-room
 tick_all-ready-requires-clause-room c = c.self.invariant.room (rw (← c.self.view_is) at c.requires.goes_on)
@@ -17,18 +19,12 @@ tick_all-ready-requires-clause-room c = c.self.invariant.room (rw (← c.self.vi
 pub invariant_of-self : goal.invariant_of-self
 invariant_of-self c =
     let i = c.self.inside in
-    let ls = i.ledgers.items in
-    let xs = i.actors.items in
     let on = c.args.on.now in
     let k = c.args.k in
     let s = state_in i in
-    let many : length on ≡ length i.deal.graph.arcs = rw (← c.self.view_is) at c.requires.one_each in
-    let book : histories c.tick_all-ready.new.ledgers.items ≡ fold (tick_book on k) (histories ls) (range_with_len 0 (length i.deal.graph.arcs)) =
-    subst (λ n. histories c.tick_all-ready.new.ledgers.items ≡ fold (tick_book on k) (histories ls) (range_with_len 0 n)) many
-    c.tick_all-ready.ensures.ticked in
-    let to = ap (λ (b : Histories). state i.deal (asked_in i) xs b) book ∙ sym (ticked_state on k (cast_in i) s (arcs i.deal.graph)) in
+    let to = ap (λ (b : Histories). state i.deal (asked_in i) i.actors.items b) c.tick_all-ready.ensures.ticked ∙ sym (ticked_state k (cast_in i) s on) in
     let good =
-    ticked_good on k (cast_in i) s c.requires.some c.requires.below c.self.invariant.ready
+    ticked_good k (cast_in i) s on c.requires.some c.requires.below (rw (← c.self.view_is) at c.requires.arcs) c.self.invariant.ready
     (c.self.invariant.good (rw (← c.self.view_is) at c.requires.goes_on)) in
     record {
       ready = c.self.invariant.ready;
@@ -44,32 +40,17 @@ invariant_of-self c =
 pub returns-clause-ticked : goal.returns-clause-ticked
 returns-clause-ticked c =
     let i = c.self.inside in
-    let ls = i.ledgers.items in
-    let xs = i.actors.items in
-    let on = c.args.on.now in
-    let k = c.args.k in
-    let s = state_in i in
-    let many : length on ≡ length i.deal.graph.arcs = rw (← c.self.view_is) at c.requires.one_each in
-    let book : histories c.tick_all-ready.new.ledgers.items ≡ fold (tick_book on k) (histories ls) (range_with_len 0 (length i.deal.graph.arcs)) =
-    subst (λ n. histories c.tick_all-ready.new.ledgers.items ≡ fold (tick_book on k) (histories ls) (range_with_len 0 n)) many
-    c.tick_all-ready.ensures.ticked in
-    let to = ap (λ (b : Histories). state i.deal (asked_in i) xs b) book ∙ sym (ticked_state on k (cast_in i) s (arcs i.deal.graph)) in
-    rw (← c.self.view_is) to
+    rw (← c.self.view_is) (ap (λ (b : Histories). state i.deal (asked_in i) i.actors.items b) c.tick_all-ready.ensures.ticked
+    ∙ sym (ticked_state c.args.k (cast_in i) (state_in i) c.args.on.now))
 
 pub returns-clause-kept : goal.returns-clause-kept
 returns-clause-kept c =
     let i = c.self.inside in
-    let ls = i.ledgers.items in
-    let xs = i.actors.items in
     let on = c.args.on.now in
     let k = c.args.k in
     let s = state_in i in
-    let many : length on ≡ length i.deal.graph.arcs = rw (← c.self.view_is) at c.requires.one_each in
-    let book : histories c.tick_all-ready.new.ledgers.items ≡ fold (tick_book on k) (histories ls) (range_with_len 0 (length i.deal.graph.arcs)) =
-    subst (λ n. histories c.tick_all-ready.new.ledgers.items ≡ fold (tick_book on k) (histories ls) (range_with_len 0 n)) many
-    c.tick_all-ready.ensures.ticked in
-    let to = ap (λ (b : Histories). state i.deal (asked_in i) xs b) book ∙ sym (ticked_state on k (cast_in i) s (arcs i.deal.graph)) in
+    let to = ap (λ (b : Histories). state i.deal (asked_in i) i.actors.items b) c.tick_all-ready.ensures.ticked ∙ sym (ticked_state k (cast_in i) s on) in
     let good =
-    ticked_good on k (cast_in i) s c.requires.some c.requires.below c.self.invariant.ready
+    ticked_good k (cast_in i) s on c.requires.some c.requires.below (rw (← c.self.view_is) at c.requires.arcs) c.self.invariant.ready
     (c.self.invariant.good (rw (← c.self.view_is) at c.requires.goes_on)) in
     subst (λ (t : State). IsKept (cast_in i) t.book) (sym to) (good_is_kept (cast_in i) _ c.self.invariant.ready good)

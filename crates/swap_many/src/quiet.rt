@@ -1,0 +1,62 @@
+//! For how many rounds nobody of any swap has anything to do.
+
+ghost use Rattle.std.specs.Prelude.{◌≡◌, ◌⊎◌, ◌<◌, ◌≤◌, ◌+◌, ℕ, false, length, slice_index_or};
+ghost use Rattle.swap_world.specs.Quiet.{IsStill};
+ghost use Rattle.swap_world.specs.Value.{cast_at};
+ghost use Rattle.swap_many.specs.Near.{AreNear};
+ghost use Rattle.swap_many.specs.Ticking.{nth};
+ghost use Rattle.swap_many.specs.Value.{no_chain};
+
+use crate::chain::Chain;
+use swap_base::{ArcId, Listed};
+use swap_world::World;
+
+/// For how many rounds, of so many, a height stays at most the horizon.
+fn rounds_up_to(height: u32, horizon: u64, most: u64) -> u64
+    ensures few { result ≤ most }
+    ensures low { 0 < result → height + result ≤ horizon }
+{
+    let height = height as u64;
+    if horizon < height {
+        return 0;
+    }
+    let room = horizon - height;
+    if most < room { most } else { room }
+}
+
+/// The greater of two numbers of rounds.
+fn more(a: u64, b: u64) -> u64
+    ensures one { (result ≡ a) ⊎ (result ≡ b) }
+    ensures first { a ≤ result }
+{
+    if a < b { b } else { a }
+}
+
+/// For how many rounds, of so many, a chain stays at the horizon or below it.
+pub(crate) fn rounds_below(chains: &[Chain], horizon: u64, most: u64) -> u64
+    ensures few { result ≤ most }
+    ensures low { 0 < result → (q : ℕ) × (q < length chains.now) × ((slice_index_or chains.now q no_chain).clock.height + result ≤ horizon) }
+{
+    let mut rounds = 0;
+    'chains: for i in 0..chains.len() {
+        rounds = more(rounds, rounds_up_to(chains[i].height(), horizon, most));
+    }
+    rounds
+}
+
+/// For how many rounds, of so many, nobody makes a call.
+pub(crate) fn rounds_still(worlds: &[World], near: &[Listed<Listed<ArcId>>], most: u64) -> u64
+    requires near { AreNear near.now worlds.now }
+    requires go_on { (s : ℕ) → s < length worlds.now → (nth worlds.now s).stopped ≡ false }
+    ensures few { result ≤ most }
+    ensures still { 0 < result → (s : ℕ) → s < length worlds.now → IsStill (cast_at (nth worlds.now s)) result (nth worlds.now s).state }
+{
+    let mut rounds = most;
+    'swaps: for s in 0..worlds.len() {
+        if rounds == 0 {
+            return 0;
+        }
+        rounds = worlds[s].rests_for(near[s].as_slice(), rounds);
+    }
+    rounds
+}
