@@ -7,3 +7,5 @@ pub mod Next
 pub mod Chosen
 pub mod Step
 pub mod Resting
+pub mod Whole
+pub mod Recorded

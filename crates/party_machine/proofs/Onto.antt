@@ -1,9 +1,9 @@
 -- A hashkey that a party saw is one that it can put its signature onto.
 use Rattle.std.proofs.Common.{◌≡◌, ℕ, ◌<◌, ◌≤◌, ◌==◌, Bool, true, false, cond, List, [], ◌∷◌, length, get_or, Option, Some, None, option_map, refl, sym}
-use Rattle.std.proofs.Common.{ap, ◌∙◌, subst, inl, inr, arith, eqb-true}
+use Rattle.std.proofs.Common.{ap, ◌∙◌, subst, inl, inr, arith, eqb-true, nat_lt, lt-ltb}
 use Rattle.std.specs.List.{find}
 use Rattle.swap_base.specs.Lists.{IsIn}
-use Rattle.swap_base.proofs.Lists.{and_parts}
+use Rattle.swap_base.proofs.Lists.{and_parts, and_both}
 use Rattle.std.proofs.lemmas.Bool.{not-false, not-true}
 use Rattle.swap_digraph.specs.Graph.{leaving, is_among, has_arc}
 use Rattle.swap_digraph.specs.declared.deal.Deal.{Deal}
@@ -20,11 +20,12 @@ use Rattle.ledger_core.specs.History.{Opening, opened, IsLegal}
 use Rattle.ledger_core.specs.Book.{Histories, history}
 use Rattle.swap_rules.specs.Party.{opens_without}
 use Rattle.swap_laws.proofs.Words.{leaves}
-use Rattle.swap_digraph.proofs.Paths.{path_length}
+use Rattle.swap_digraph.proofs.Paths.{path_below, path_length}
 use Rattle.swap_laws.proofs.Times.{path_of, path_of_valid}
 use Rattle.ledger_core.proofs.History.{opened_done, of_unlock}
 use Rattle.swap_laws.proofs.Entering.{valid_of_unlock}
 use Rattle.party_phase_two.specs.Unlocks.{key_on, seen_on}
+use Rattle.wallet_journal.specs.Layout.{are_below}
 use Rattle.party_machine.specs.Unlocking.{CanPutOnto}
 use Rattle.party_machine.proofs.Good.{valid_of_test}
 
@@ -51,20 +52,29 @@ enough : (ver : Version) (n : ℕ) → n ≤ most_parties ver → n ≤ path_lim
 enough One n h = h
 enough Two n h = h
 
-some_room : (ver : Version) → 0 < path_limit_of ver
+pub some_room : (ver : Version) → 0 < path_limit_of ver
 some_room One = omega arith
 some_room Two = omega arith
 
+none_below : (n : ℕ) (xs : List ℕ) → length xs ≡ 0 → are_below n xs ≡ true
+none_below n [] e = refl
+none_below n (x ∷ xs) e = absurd (cc e)
+
+all_below : (n : ℕ) (xs : List ℕ) → ((x : ℕ) → IsIn x xs → x < n) → are_below n xs ≡ true
+all_below n [] f = refl
+all_below n (x ∷ xs) f = and_both (nat_lt x n) (are_below n xs) (lt-ltb x n (f x (inl refl))) (all_below n xs (λ y i. f y (inr i)))
+
 module _ (d : Deal) (v a : ℕ) (key : Hashkey) (hashlock : List ℕ) (sized : IsWellSized d) (below : v < d.graph.n) (arc : IsIn a (leaving d.graph v))
     (valid : is_valid d a hashlock key ≡ true) (apart : is_among v key.path ≡ false) where
-  fits_path : (m : Mode) → d.mode ≡ m → (length key.path < path_limit d) × (length key.sigs ≡ length key.path)
+  fits_path : (m : Mode) → d.mode ≡ m
+      → (length key.path < path_limit d) × (length key.sigs ≡ length key.path) × (are_below d.graph.n key.path ≡ true)
   fits_path Timelocks e =
       let w : is_wrong_path d a Timelocks key ≡ false = ap (λ m. is_wrong_path d a m key) (sym e) ∙ path_of_valid d a hashlock key valid in
       let p = and_parts (length key.path == 0) (length key.sigs == 0) (not-false _ w) in
       let lp = eqb-true (length key.path) 0 p.0 in
       let ls = eqb-true (length key.sigs) 0 p.1 in
       let room = some_room d.version in
-      (omega arith, ls ∙ sym lp)
+      (omega arith, ls ∙ sym lp, none_below d.graph.n key.path lp)
   fits_path Hashkeys e =
       let p = path_of d a key e (path_of_valid d a hashlock key valid) in
       let l = leaves d v a arc in
@@ -72,7 +82,7 @@ module _ (d : Deal) (v a : ℕ) (key : Hashkey) (hashlock : List ℕ) (sized : I
       let longer = longer_path d.graph v (counterparty d a) (leader_of d key.lock) key.path below apart leads (p.path, p.first, p.last) in
       let most = path_length d.graph (v ∷ key.path) longer.0 in
       let limit : d.graph.n ≤ path_limit d = enough d.version d.graph.n sized.parties.1 in
-      (omega arith, sym p.lengths)
+      (omega arith, sym p.lengths, all_below d.graph.n key.path (λ x i. path_below d.graph key.path x p.path i))
 
 pub can_put_onto : (d : Deal) (v i a : ℕ) (k : Histories) → IsWellSized d → v < d.graph.n
     → ((c : ℕ) → c < length d.graph.arcs → IsLegal d c (history k c)) → seen_on d v k i ≡ Some a → CanPutOnto d i (key_on k a i)
@@ -84,4 +94,4 @@ can_put_onto d v i a k sized below legal seen =
     let of_u = of_unlock d a u.0.past u.0.act.by s.opening.key u.0.clear in
     let valid = valid_of_unlock d a u.0.past u.0.act.by s.opening.key of_u in
     let fits = fits_path d v a s.opening.key (hashlock_in of_u.contract.terms s.opening.key.lock) sized below f.0 valid s.apart d.mode refl in
-    subst (λ (o : Option Opening). CanPutOnto d i (option_map (λ x. x.key) o)) (sym s.is) (u.1, fits.0, fits.1)
+    subst (λ (o : Option Opening). CanPutOnto d i (option_map (λ x. x.key) o)) (sym s.is) (u.1, fits.0, fits.1, fits.2)

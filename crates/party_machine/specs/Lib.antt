@@ -3,4 +3,5 @@ pub mod Machine
 pub mod Rest
 pub mod Within
 pub mod Unlocking
+pub mod Recording
 pub mod Law

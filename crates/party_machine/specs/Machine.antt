@@ -34,6 +34,18 @@ machine_or d v seed (Some i) = Err (WrongWallet i)
 abbrev pub machine_for : Deal → ℕ → List ℕ → Result MachineState Misfit
 machine_for d v seed = machine_or d v seed (wrong_lock d v seed)
 
+-- the machine of v, which knows nothing, with the hashkeys that it signed before
+abbrev pub resumed_machine : Deal → ℕ → List ℕ → List (Option Hashkey) → MachineState
+resumed_machine d v seed signed = record { deal = d; me = v; seed = seed; known = replicate (length d.graph.arcs) []; signed = signed }
+
+abbrev pub resumed_or : Deal → ℕ → List ℕ → List (Option Hashkey) → Option ℕ → Result MachineState Misfit
+resumed_or d v seed signed None = Ok (resumed_machine d v seed signed)
+resumed_or d v seed signed (Some i) = Err (WrongWallet i)
+
+-- the same, or the least lock for which the seed is wrong
+abbrev pub resumed_for : Deal → ℕ → List ℕ → List (Option Hashkey) → Result MachineState Misfit
+resumed_for d v seed signed = resumed_or d v seed signed (wrong_lock d v seed)
+
 -- after more entries of arc a
 abbrev pub learnt : MachineState → ℕ → List Entry → MachineState
 learnt m a more = record { deal = m.deal; me = m.me; seed = m.seed; known = set m.known a (history m.known a ++ more); signed = m.signed }

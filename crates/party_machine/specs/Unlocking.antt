@@ -1,5 +1,5 @@
 -- The hashkey of an unlock that is due.
-use Rattle.std.specs.Prelude.{◌≡◌, ℕ, ◌<◌, List, length, Option, Some, None, option_map}
+use Rattle.std.specs.Prelude.{◌≡◌, ℕ, ◌<◌, true, List, length, Option, Some, None, option_map}
 use Rattle.swap_base.specs.Lists.{or_else}
 use Rattle.swap_digraph.specs.declared.deal.Deal.{Deal}
 use Rattle.swap_digraph.specs.Deal.{path_limit}
@@ -14,6 +14,7 @@ use Rattle.party_wallet.specs.Value.{signed_in}
 use Rattle.party_phase_two.specs.Unlocks.{key_from}
 use Rattle.party_phase_two.specs.declared.unlock_due.UnlockDue.{UnlockDue}
 use Rattle.party_wallet.specs.Value.{WalletState}
+use Rattle.wallet_journal.specs.Layout.{are_below}
 use Rattle.party_machine.specs.Wallet.{wallet_of}
 
 -- the hashkey of an unlock, if it is one
@@ -28,7 +29,7 @@ opened_key h i = option_map (λ o. o.key) (opened h i)
 -- A hashkey for lock i that the party can put its signature onto.
 abbrev pub CanPutOnto : Deal → ℕ → Option Hashkey → Type 0
 CanPutOnto d i None = ⊥
-CanPutOnto d i (Some k) = (k.lock ≡ i) × (length k.path < path_limit d) × (length k.sigs ≡ length k.path)
+CanPutOnto d i (Some k) = (k.lock ≡ i) × (length k.path < path_limit d) × (length k.sigs ≡ length k.path) × (are_below d.graph.n k.path ≡ true)
 
 -- where a due unlock's hashkey comes from, over what is known
 abbrev pub base_key : Deal → WalletState → Histories → UnlockDue → Option Hashkey

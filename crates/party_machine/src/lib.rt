@@ -1,6 +1,6 @@
 //! A conforming party of the swap: what it knows, what is due for it, and the call that it makes next.
 //!
-//! Read `specs/Machine.antt` first: `next_of` is the first of what is due.
+//! Read `specs/Machine.antt` first: `next_of` is the first of what is due. `specs/Recording.antt` says what is recorded before a call is answered.
 #![tactic(auto)]
 
 mod actions;
@@ -9,6 +9,7 @@ mod law;
 mod machine;
 mod misfit;
 mod reading;
+mod recording;
 mod rest;
 mod signing;
 

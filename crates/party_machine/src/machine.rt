@@ -1,6 +1,7 @@
 //! A party that acts on what it knows.
 
-ghost use Rattle.std.specs.Prelude.{◌≡◌, ◌<◌, ◌+◌, ◌++◌, ℕ, length, Some, option_map, IfOk, IfSome, OnOk, OnErr};
+ghost use Rattle.std.specs.Prelude.{◌≡◌, ◌⊎◌, ◌<◌, ◌≤◌, ◌+◌, ◌++◌, ℕ, List, length, true, None, Some, replicate, option_map, IfOk, IfErr, IfSome, OnOk, OnErr};
+ghost use Rattle.swap_base.specs.Fault.{IsNoMemory};
 ghost use Rattle.swap_base.specs.Fault.{Gives};
 ghost use Rattle.swap_digraph.specs.Deal.{IsWellSized};
 ghost use Rattle.hashkey_path.specs.declared.hashkey.Hashkey.{Hashkey};
@@ -14,13 +15,21 @@ ghost use Rattle.party_wallet.specs.Value.{signed_in};
 ghost use Rattle.party_wallet.specs.Keys.{new_wallet};
 ghost use Rattle.party_machine.specs.Wallet.{wallet_of};
 ghost use Rattle.party_machine.specs.Rest.{IsAtRest};
-ghost use Rattle.party_machine.specs.Machine.{machine_for, new_machine, learnt, action_of, next_of, noted_for, IsOfSame};
+ghost use Rattle.wallet_journal.specs.Device.{LeavesOnly, IsUntouched};
+ghost use Rattle.wallet_journal.specs.Journal.{KeepsRecorded};
+ghost use Rattle.wallet_journal.specs.Own.{IsOwn};
+ghost use Rattle.wallet_journal.specs.Recording.{IsRefused, IsWritten};
+ghost use Rattle.wallet_journal.specs.declared.fault.RecordFault.TheVariants.{NoMemory as Wanting};
+ghost use Rattle.party_machine.specs.Machine.{machine_for, new_machine, resumed_for, resumed_machine, learnt, action_of, next_of, noted_for, IsOfSame};
+ghost use Rattle.party_machine.specs.Recording.{new_key, signs_next, IsRecorded, IsStoppedNext, IsWhole, MayHave};
 
 use crate::actions::{due_first, due_last};
 use crate::knowledge::indexes_of;
 use crate::misfit::{MachineFault, Misfit};
+use crate::recording::key_to_record;
 use crate::rest::{Rest, are_ticks};
 use crate::signing::hashkey_for;
+use hashkey_path::Hashkey as SignedKey;
 use history_index::{Index, Steps};
 use ledger_core::{Call, EntryList, Facts, Run};
 use party_phase_two::{due_unlock, rest_until};
@@ -28,8 +37,9 @@ use party_wallet::Wallet;
 use std::alloc::Global;
 use std::marker::Model;
 use std::sync::ledger::Ledger;
-use swap_base::{ArcId, Fault, NoMemory, PartyId};
+use swap_base::{ArcId, Fault, NoMemory, PartyId, Shared};
 use swap_digraph::{Deal, copy_deal};
+use wallet_journal::{Disk, Journal, RecordFault};
 
 /// A conforming party: its deal, its wallet, and what it knows of each arc. It rests while it has nothing to do.
 #[derive(Drop)]
@@ -80,6 +90,50 @@ impl Machine {
         })
     }
 
+    /// The machine with the hashkeys that it signed before it was restarted.
+    fn restored(self, signed: &[Option<Shared<SignedKey>>]) -> Result<Machine, MachineFault>
+        requires new { self.signed ≡ replicate (length self.deal.leaders) None }
+        requires places { length signed.now ≡ length self.deal.leaders }
+        requires locks { (i : ℕ) (k : Hashkey) → i < length signed.now → signed_in signed.now i ≡ Some k → k.lock ≡ i }
+        ensures value { IfOk result (λ m. m ≡ record self { signed = signed.now }) }
+        ensures fault { IfErr result IsNoMemory }
+    {
+        let Machine {
+            deal,
+            wallet,
+            known,
+            rest: _,
+        } = self;
+        let wallet = wallet.restored(signed)?;
+        Ok(Machine {
+            deal,
+            wallet,
+            known,
+            rest: Rest::Awake,
+        })
+    }
+
+    /// A party that is restarted: it knows nothing, and signed what its journal has recorded; or the least lock for which its new wallet lacks what the
+    /// deal states.
+    pub fn resume<D: Disk>(
+        alloc: Global,
+        deal: &Deal,
+        me: PartyId,
+        wallet: Wallet,
+        journal: &Journal<D>,
+    ) -> Result<Machine, MachineFault>
+        requires sized { IsWellSized deal.now }
+        requires party { me < deal.now.graph.n }
+        requires wallet { wallet ≡ new_wallet wallet.seed me deal.now }
+        requires sound { journal.now.sound ≡ true }
+        requires places { length journal.now.signed ≡ length deal.now.leaders }
+        ensures exact { Gives (λ m. m) result (resumed_for deal.now me wallet.seed journal.now.signed) }
+        ensures resumed { IfOk result (λ m. m ≡ resumed_machine deal.now me wallet.seed journal.now.signed) }
+    {
+        let machine = Machine::new(alloc, deal, me, wallet)?;
+        machine.restored(journal.keys().as_slice())
+    }
+
     /// Adds entries to what is known of an arc, a step each. Want of memory leaves everything as it was, in no step.
     pub fn learn<L: Ledger>(
         &mut self,
@@ -122,6 +176,7 @@ impl Machine {
         ensures due { IfOk result (λ o. option_map action_of o ≡ next_of self.old) }
         ensures signed { IfOk result (λ o. signed_in self.new.signed ≡ noted_for (signed_in self.old.signed) o) }
         ensures once { (i : ℕ) (k : Hashkey) → signed_in self.old.signed i ≡ Some k → signed_in self.new.signed i ≡ Some k }
+        ensures whole { IfOk result (λ o. (k : Hashkey) → new_key self.old.signed (option_map action_of o) ≡ Some k → IsWhole self.old.deal k) }
         ensures same { IsOfSame self.old self.new }
         ensures err { OnErr result (self.new ≡ self.old) }
     {
@@ -148,6 +203,56 @@ impl Machine {
                 Ok(last)
             }
         }
+    }
+
+    /// The first call that is due, where a hashkey that it signs is recorded in the party's journal before it is answered. After a fault the journal is
+    /// to be opened again, and the machine to be made again by `resume`.
+    pub fn next_recorded<D: Disk>(
+        &mut self,
+        journal: &mut Journal<D>,
+    ) -> Result<Option<(ArcId, Call)>, RecordFault>
+        requires sound { journal.old.sound ≡ true }
+        requires recorded { journal.old.signed ≡ self.old.signed }
+        ensures due { IfOk result (λ o. option_map action_of o ≡ next_of self.old) }
+        ensures signed { IfOk result (λ o. signed_in self.new.signed ≡ noted_for (signed_in self.old.signed) o) }
+        ensures once { (i : ℕ) (k : Hashkey) → signed_in self.old.signed i ≡ Some k → signed_in self.new.signed i ≡ Some k }
+        ensures same { IsOfSame self.old self.new }
+
+        // The journal has the hashkeys that were signed, and the one that is answered is recorded on each device that a crash leaves.
+        ensures noted { OnOk result (journal.new.signed ≡ self.new.signed) }
+        ensures sound { OnOk result (journal.new.sound ≡ true) }
+        ensures recorded { IfOk result (IsRecorded (D.may_leave journal.new.disk)) }
+
+        // The journal is written where a hashkey is signed, and only there.
+        ensures unwritten { signs_next self.old ≡ None → journal.new ≡ journal.old }
+        ensures written { OnOk result ((k : Hashkey) → signs_next self.old ≡ Some k
+            → IsWritten k (D.synced journal.old.disk) (D.synced journal.new.disk) (D.loose journal.new.disk)) }
+
+        // A crash at any moment leaves what was recorded, and else the new hashkey whole or not at all.
+        ensures any_moment { LeavesOnly D.moment D.left_since journal.old.disk journal.new.disk (KeepsRecorded (D.may_leave journal.old.disk)) }
+        ensures whole { LeavesOnly D.moment D.left_since journal.old.disk journal.new.disk
+            (λ c. D.may_leave journal.old.disk c ⊎ MayHave (D.seen journal.old.disk) (signs_next self.old) c) }
+        ensures own { ((c : List ℕ) → D.may_leave journal.old.disk c → IsOwn self.old.deal journal.old.me c)
+            → LeavesOnly D.moment D.left_since journal.old.disk journal.new.disk (IsOwn self.old.deal journal.old.me) }
+
+        // A disk that never fails stays one, and gives no fault. One that stops within the four calls of a record has the writes of those so far.
+        ensures never { D.never_fails journal.old.disk → D.never_fails journal.new.disk }
+        ensures passes { D.never_fails journal.old.disk → IfErr result (λ e. e ≡ Wanting) }
+        ensures stops { (n : ℕ) (k : Hashkey) → n < 4 → D.stops_after journal.old.disk n → signs_next self.old ≡ Some k
+            → IsStoppedNext n k (D.synced journal.old.disk) (D.synced journal.new.disk) (D.loose journal.new.disk) result }
+        ensures journal { (journal.new.id ≡ journal.old.id) × (journal.new.me ≡ journal.old.me) }
+        ensures later { D.faults journal.old.disk ≤ D.faults journal.new.disk }
+        ensures untouched { IfErr result (λ e. e ≡ Wanting
+            → IsUntouched (D.seen journal.old.disk) (D.seen journal.new.disk) (D.may_leave journal.old.disk) (D.may_leave journal.new.disk)) }
+        ensures fault { IfErr result (λ e. IsRefused (D.faults journal.old.disk) (D.faults journal.new.disk) e journal.old.signed journal.new.signed
+            journal.new.sound) }
+    {
+        let answer = self.next()?;
+        let Some(key) = key_to_record(journal, &answer) else {
+            return Ok(answer);
+        };
+        journal.record(key)?;
+        Ok(answer)
     }
 
     /// A height up to which no tick makes anything due, where nothing is due and the party rests.

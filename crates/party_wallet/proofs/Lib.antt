@@ -1,2 +1,3 @@
 pub mod Unspent
 pub mod Least
+pub mod Restored

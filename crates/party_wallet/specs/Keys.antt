@@ -41,6 +41,10 @@ empty_wallet m seed v locks = record { mode = m; seed = seed; party = v; signed 
 abbrev pub new_wallet : List ℕ → ℕ → Deal → WalletState
 new_wallet seed v d = record { mode = d.mode; seed = seed; party = v; signed = replicate (length d.leaders) None }
 
+-- with the hashkeys that were signed before
+abbrev pub with_recorded : WalletState → List (Option Hashkey) → WalletState
+with_recorded w recorded = record { mode = w.mode; seed = w.seed; party = w.party; signed = recorded }
+
 -- after hashkey k was signed for lock i
 abbrev pub with_signed : WalletState → ℕ → Hashkey → WalletState
 with_signed w i k = record { mode = w.mode; seed = w.seed; party = w.party; signed = slice_set w.signed i (Some k) }

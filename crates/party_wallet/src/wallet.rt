@@ -6,7 +6,7 @@ ghost use Rattle.swap_digraph.specs.Deal.{IsWellSized};
 ghost use Rattle.swap_digraph.specs.Deal.{path_limit};
 ghost use Rattle.party_wallet.specs.Value.{signed_in};
 ghost use Rattle.party_wallet.specs.Fits.{wrong_lock};
-ghost use Rattle.party_wallet.specs.Keys.{empty_wallet, new_wallet, public_for, unspent, own_key, onto_key, with_signed};
+ghost use Rattle.party_wallet.specs.Keys.{empty_wallet, new_wallet, public_for, unspent, own_key, onto_key, with_recorded, with_signed};
 
 use crate::fitting::fits_lock;
 use crate::hashkeys::{onto_hashkey, own_hashkey};
@@ -117,6 +117,33 @@ impl Wallet {
         ensures { IfOk result (λ w. w ≡ new_wallet seed.now me deal.now) }
     {
         Wallet::new(alloc, deal.mode, seed, me, deal.leaders.len() as u8)
+    }
+
+    /// Keeps a hashkey that was signed before for a lock, whose key is spent. It takes no memory.
+    fn restore(&mut self, lock: LockId, hashkey: Shared<Hashkey>)
+        requires { lock < length self.old.signed }
+        ensures { self.new ≡ with_signed self.old lock hashkey }
+    {
+        let alloc = *self.keys.allocator();
+        self.keys[lock as usize] = None;
+        keep(&mut self.signed, alloc, lock, hashkey);
+    }
+
+    /// A wallet with the hashkeys that were signed before, for each of whose locks the key is spent.
+    pub fn restored(self, recorded: &[Option<Shared<Hashkey>>]) -> Result<Wallet, NoMemory>
+        requires few { length recorded.now ≤ 8 }
+        requires places { length self.signed ≡ length recorded.now }
+        requires unsigned { self.signed ≡ replicate (length self.signed) None }
+        ensures value { IfOk result (λ w. w ≡ with_recorded self recorded.now) }
+    {
+        let mut wallet = self;
+        'locks: for lock in 0..recorded.len() as u8 {
+            let Some(hashkey) = &recorded[lock as usize] else {
+                continue;
+            };
+            wallet.restore(lock, hashkey.copy()?);
+        }
+        Ok(wallet)
     }
 
     /// The least lock for which a new wallet lacks what the deal states of its party.

@@ -1,4 +1,5 @@
 use Rattle.std.proofs.Common.{◌≡◌, ◌∙◌, ℕ, not, Some, List, refl, sym, ap, ap₂, subst}
+use Rattle.hashkey_path.specs.declared.hashkey.Hashkey.{Hashkey}
 use Rattle.ledger_core.specs.declared.entry.Call.TheVariants.{Unlock}
 use Rattle.swap_laws.specs.Rest.{rest_until}
 use Rattle.swap_laws.specs.Machine.{noted}
@@ -7,9 +8,11 @@ use Rattle.history_index.specs.Value.{IndexState}
 use Rattle.party_machine.specs.Machine.{MachineState, next_of}
 use Rattle.party_machine.specs.Within.{entries_in}
 use Rattle.party_machine.specs.Unlocking.{due_hashkey}
+use Rattle.party_machine.specs.Recording.{unsigned_key, IsWhole}
 use Rattle.party_machine.proofs.Next.{at_once}
 use Rattle.party_machine.proofs.Step.{answered_ready, publishes, first_unlock, from_some, seen_by, unlocks, unlocks_next, settles_next, noted_as}
 use Rattle.party_machine.proofs.Resting.{awake, begins, shown}
+use Rattle.party_machine.proofs.Whole.{due_whole, none_whole}
 use Rattle.party_machine.proofs.machine.Machine.next.Goals as goal
 use Rattle.party_machine.proofs.machine.Machine.next.Goals.{then-is_none, else-is_none}
 
@@ -117,3 +120,23 @@ pub returns-clause-signed : goal.returns-clause-signed
 returns-clause-signed c =
     let kept : c.if-is_none.self ≡ c.args.self.now = elim c.if-is_none.branch [ then-is_none w ↦ w.self-is ∙ c.self.view_is | else-is_none w ↦ w.self-is ] in
     ap (λ (s : MachineState). signed_in s.signed) kept ∙ sym (c.due_last-last.ensures.no_key (signed_in c.args.self.now.signed))
+
+pub returns-then-is_some-clause-whole : goal.returns-then-is_some-clause-whole
+returns-then-is_some-clause-whole c =
+    none_whole c.args.self.now.signed c.args.self.now.deal c.in_ok-first.first c.in_ok-first.ensures.no_key
+
+pub returns-in-Some-clause-whole : goal.returns-in-Some-clause-whole
+returns-in-Some-clause-whole c =
+    let i = c.self.inside in
+    let seen =
+    seen_by i.deal i.wallet i.known.items c.self.invariant.ready c.party-me.result c.deref-2.result.now c.in-Some.due c.party-me.ensures
+    c.deref-2.ensures.value c.in-Some.ensures.base in
+    let value : due_hashkey i.deal i.wallet (entries_in i.known.items) c.in-Some.due ≡ Some c.in_ok-key-in-Some.key =
+    subst (λ (ys : List IndexState). due_hashkey i.deal i.wallet (entries_in ys) c.in-Some.due ≡ Some c.in_ok-key-in-Some.key)
+    c.deref-in-Some.ensures.value c.in_ok-key-in-Some.ensures.value in
+    subst (λ (s : MachineState). (k : Hashkey) → unsigned_key s.signed (Unlock c.in_ok-key-in-Some.key) ≡ Some k → IsWhole s.deal k)
+    c.self.view_is
+    (due_whole i.deal i.wallet i.known.items c.self.invariant.ready c.in-Some.due c.in_ok-key-in-Some.key seen value)
+
+pub returns-clause-whole : goal.returns-clause-whole
+returns-clause-whole c = none_whole c.args.self.now.signed c.args.self.now.deal c.due_last-last.result c.due_last-last.ensures.no_key
