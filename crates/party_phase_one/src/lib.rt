@@ -8,4 +8,4 @@
 
 mod publish;
 
-pub use publish::due_publish;
+pub use publish::{due_publish, has_published, may_publish};

@@ -17,7 +17,7 @@ use swap_base::{ArcId, PartyId};
 use swap_digraph::Deal;
 
 /// Whether the party made a publish on the arc, whatever the reply.
-fn has_published<F: Facts>(me: PartyId, known: &[F], arc: ArcId) -> bool
+pub fn has_published<F: Facts>(me: PartyId, known: &[F], arc: ArcId) -> bool
     ensures { result ≡ has_called me is_publish (history (map F.entries known.now) arc) }
 {
     match known.get(arc as usize) {
@@ -39,7 +39,7 @@ fn first_unpublished<F: Facts>(deal: &Deal, me: PartyId, known: &[F]) -> Option<
 }
 
 /// Whether the party leads or is ready.
-fn may_publish<F: Facts>(deal: &Deal, me: PartyId, known: &[F]) -> bool
+pub fn may_publish<F: Facts>(deal: &Deal, me: PartyId, known: &[F]) -> bool
     requires sized { IsWellSized deal.now }
     requires me { me < deal.now.graph.n }
     requires known { AreMadeFor F.terms deal.now known.now }

@@ -26,7 +26,7 @@ fn has_claimed<F: Facts>(me: PartyId, known: &[F], arc: ArcId) -> bool
 
 /// Whether the arc is correct and triggered, and the party made no claim there.
 #[tactic(auto, unfolding(swap_rules::specs::Due::is_due_claim))]
-fn is_due_claim<F: Facts>(deal: &Deal, me: PartyId, known: &[F], arc: ArcId) -> bool
+pub fn is_due_claim<F: Facts>(deal: &Deal, me: PartyId, known: &[F], arc: ArcId) -> bool
     requires sized { IsWellSized deal.now }
     requires known { AreMadeFor F.terms deal.now known.now }
     ensures { result ≡ is_due_claim deal.now me (map F.entries known.now) arc }

@@ -12,8 +12,8 @@ mod rest;
 mod unlock;
 mod unlock_due;
 
-pub use claim::due_claim;
-pub use refund::due_refund;
+pub use claim::{due_claim, is_due_claim};
+pub use refund::{due_refund, is_due_refund};
 pub use rest::rest_until;
-pub use unlock::due_unlock;
+pub use unlock::{due_base, due_unlock};
 pub use unlock_due::{Base, UnlockDue};

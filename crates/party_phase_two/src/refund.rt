@@ -38,7 +38,7 @@ pub(crate) fn has_refunded<F: Facts>(me: PartyId, known: &[F], arc: ArcId) -> bo
 
 /// Whether the arc carries an accepted publish, is neither settled nor triggered, and is above the expiry of a closed lock, and the party made no refund there.
 #[tactic(auto, unfolding(swap_rules::specs::Due::is_due_refund))]
-fn is_due_refund<F: Facts>(deal: &Deal, me: PartyId, known: &[F], arc: ArcId) -> bool
+pub fn is_due_refund<F: Facts>(deal: &Deal, me: PartyId, known: &[F], arc: ArcId) -> bool
     requires sized { IsWellSized deal.now }
     requires known { AreMadeFor F.terms deal.now known.now }
     ensures { result ≡ is_due_refund deal.now me (map F.entries known.now) arc }

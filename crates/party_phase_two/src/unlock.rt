@@ -60,7 +60,7 @@ fn seen_on<F: Facts>(deal: &Deal, me: PartyId, known: &[F], lock: LockId) -> Opt
 
 /// Where the hashkey for the lock comes from, if there is one.
 #[tactic(auto, unfolding(crate::specs::Parts::due_base))]
-fn due_base<F: Facts>(
+pub fn due_base<F: Facts>(
     deal: &Deal,
     me: PartyId,
     known: &[F],

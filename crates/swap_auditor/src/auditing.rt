@@ -19,8 +19,8 @@ use std::alloc::Global;
 use swap_base::{ArcId, Listed};
 use swap_digraph::Deal;
 
-/// Replays each history of a book.
-fn replay_book(alloc: Global, deal: &Deal, book: &Book) -> Result<(), AuditFault>
+/// Replays each history of a book: every stated reply has to be the ledger's. Each signature is verified once.
+pub fn replay_book(alloc: Global, deal: &Deal, book: &Book) -> Result<(), AuditFault>
     requires sized { IsWellSized deal.now }
     requires formed { IsWellFormed deal.now book.now.histories }
     ensures exact { Gives (λ u. u) result (replay_from deal.now 0 book.now.histories) }

@@ -49,8 +49,9 @@ fn terms_of(alloc: Global, count: usize, fields: &mut Parts<'_>) -> Result<Call,
     Ok(Call::Publish(Shared::new(alloc, terms)?))
 }
 
+/// The unlock whose hashkey the next fields say.
 #[tactic(auto, unfolding(transcript_lines::specs::Reading::key_of))]
-fn key_of(alloc: Global, fields: &mut Parts<'_>) -> Result<Call, WordFault>
+pub fn key_of(alloc: Global, fields: &mut Parts<'_>) -> Result<Call, WordFault>
     ensures { Takes (λ c. c) result fields.new (key_of fields.old) }
 {
     let lock = byte_field(fields)?;

@@ -45,8 +45,9 @@ pub(crate) fn byte_field(fields: &mut Parts<'_>) -> Result<u8, WordFault>
     byte_of(word(fields)?)
 }
 
+/// A digest.
 #[tactic(auto, unfolding(transcript_lines::specs::Reading::field_of))]
-pub(crate) fn digest_field(fields: &mut Parts<'_>) -> Result<Digest, WordFault>
+pub fn digest_field(fields: &mut Parts<'_>) -> Result<Digest, WordFault>
     ensures { Takes (λ d. d) result fields.new (field_of digest_of fields.old) }
 {
     digest_of(word(fields)?)

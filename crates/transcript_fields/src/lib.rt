@@ -13,8 +13,9 @@ mod number;
 mod parts;
 mod reply;
 
+pub use call::key_of;
 pub use count::read_count;
 pub use entry::read_entry;
-pub use field::{nothing_more, word};
+pub use field::{digest_field, nothing_more, word};
 pub use number::{WordFault, misspelt, number_of};
 pub use parts::Parts;

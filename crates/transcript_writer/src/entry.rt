@@ -41,18 +41,11 @@ fn put_terms(out: &mut Vec<u8>, terms: &Terms) -> Result<(), NoMemory>
     put_locks(out, &terms.locks)
 }
 
-/// Appends what an unlock presents.
-fn put_key(out: &mut Vec<u8>, key: &Hashkey) -> Result<(), NoMemory>
-    ensures { OnOk result (out.new.items ≡ out.old.items ++ spaced (codes "unlock" ∷ key_words key.now)) }
+/// Appends the fields of a hashkey.
+pub fn put_hashkey(out: &mut Vec<u8>, key: &Hashkey) -> Result<(), NoMemory>
+    ensures { OnOk result (out.new.items ≡ out.old.items ++ spaced (key_words key.now)) }
 {
-    put(
-        out,
-        &[
-            Piece::Text("unlock "),
-            Piece::Number(key.lock as u64),
-            Piece::Text(" "),
-        ],
-    )?;
+    put(out, &[Piece::Number(key.lock as u64), Piece::Text(" ")])?;
     put_digits(out, key.secret.as_slice())?;
     put(out, &[Piece::Text(" ")])?;
     put_path(out, key.path.as_slice())?;
@@ -60,7 +53,16 @@ fn put_key(out: &mut Vec<u8>, key: &Hashkey) -> Result<(), NoMemory>
     put_signatures(out, key.sigs.as_slice())
 }
 
-fn put_call(out: &mut Vec<u8>, call: &Call) -> Result<(), NoMemory>
+/// Appends what an unlock presents.
+fn put_key(out: &mut Vec<u8>, key: &Hashkey) -> Result<(), NoMemory>
+    ensures { OnOk result (out.new.items ≡ out.old.items ++ spaced (codes "unlock" ∷ key_words key.now)) }
+{
+    put(out, &[Piece::Text("unlock ")])?;
+    put_hashkey(out, key)
+}
+
+/// Appends the fields of a call.
+pub fn put_call(out: &mut Vec<u8>, call: &Call) -> Result<(), NoMemory>
     ensures { OnOk result (out.new.items ≡ out.old.items ++ spaced (call_words call.now)) }
 {
     match call {

@@ -8,4 +8,5 @@ mod ledgers;
 mod transcript;
 mod words;
 
+pub use entry::{put_call, put_hashkey};
 pub use transcript::write_transcript;

@@ -1,0 +1,236 @@
+-- What is kept: good hashkeys, one for a lock, and never another.
+use Rattle.std.proofs.Common.{◌≡◌, ◌⊎◌, ℕ, ◌<◌, ◌==◌, Bool, true, false, cond, List, [], ◌∷◌, length, Option, Some, None}
+use Rattle.std.proofs.Common.{refl, sym, ap, ◌∙◌, subst, inl, inr, eqb-true}
+use Rattle.std.specs.List.{list_any}
+use Rattle.std.proofs.lemmas.Bool.{false≢true}
+use Rattle.std.proofs.lemmas.Option.{same_Some}
+use Rattle.swap_base.specs.Lists.{or_else, IsIn}
+use Rattle.swap_base.proofs.Lists.{first_at, list_any-in, or-right, in_from_moment}
+use Rattle.swap_digraph.specs.declared.deal.Mode.{Mode}
+use Rattle.swap_digraph.specs.declared.deal.Mode.TheVariants.{Timelocks, Hashkeys}
+use Rattle.swap_digraph.specs.declared.deal.Deal.{Deal}
+use Rattle.swap_digraph.specs.Graph.{leaving}
+use Rattle.swap_digraph.specs.Deal.{leads, hashlock_of}
+use Rattle.hashkey_path.specs.declared.hashkey.Hashkey.{Hashkey}
+use Rattle.hashkey_path.specs.Hashkey.{is_valid}
+use Rattle.escrow_core.specs.Terms.{hashlock_in, terms_of}
+use Rattle.ledger_core.specs.declared.entry.Call.{Call}
+use Rattle.ledger_core.specs.declared.entry.Call.TheVariants.{Publish, Unlock, Claim, Refund, Transfer}
+use Rattle.ledger_core.specs.declared.entry.Entry.{Entry}
+use Rattle.ledger_core.specs.History.{accepted, Publication, published, opened, IsLegal}
+use Rattle.ledger_core.specs.Book.{Histories, history, IsLegalBook}
+use Rattle.ledger_core.proofs.History.{opened_done, of_unlock, published-past, lock-below}
+use Rattle.swap_rules.specs.Party.{first_seen_key, key_without}
+use Rattle.swap_rules.specs.Conduct.{has_origin, carries, extends_without, is_alone, is_first_key}
+use Rattle.swap_rules.specs.Due.{Wallet, Action, seen_key, extended, due_key}
+use Rattle.swap_laws.specs.Machine.{KeepsKey, IsGoodKey, IsWallet, IsOwn, IsOnto}
+use Rattle.swap_laws.proofs.Entering.{valid_of_unlock}
+use Rattle.swap_laws.proofs.Words.{key_without_parts, leaves, or-left, same_key-refl}
+use Rattle.swap_laws.proofs.Growth.{Grows, opened-more}
+use Rattle.wallet_promise.specs.Life.{Asking, is_kept, Make, Keep, keep_of, make_if, answer_for, IsPart, IsKeptAfter, MayKeep}
+use Rattle.wallet_promise.specs.Life.{IsJournal, IsTold}
+use Rattle.wallet_promise.proofs.Cases.{Case, ToPublish, ToUnlock, ToClaim, ToRefund, case_of}
+
+-- every kept hashkey is good for its lock
+abbrev pub AreGood : Deal → Histories → ℕ → (ℕ → Option Hashkey) → Type 0
+AreGood d b v kept = (i : ℕ) (key : Hashkey) → kept i ≡ Some key → KeepsKey d b v i key
+
+-- what v published on a leaving arc is correct
+abbrev pub OwnTerms : Deal → Histories → ℕ → Type 0
+OwnTerms d b v = (c : ℕ) (p : Publication) → IsIn c (leaving d.graph v) → published (history b c) ≡ Some p → p.terms ≡ terms_of d c
+
+-- What a hashkey that is due keeps (as of a machine, but from what v published alone).
+
+module _ (d : Deal) (v : ℕ) (w : Wallet) (b : Histories) (legal : IsLegalBook d b) (wallet : IsWallet d v w) (own_terms : OwnTerms d b v) where
+  legal_on : (a : ℕ) → a < length d.graph.arcs → IsLegal d a (history b a)
+  legal_on a l = legal.legal a (rw legal.one_each l)
+
+  onto_origin : (m : Mode) → d.mode ≡ m → (c : ℕ) (inner key : Hashkey) (e : Entry) → IsIn c (leaving d.graph v) → IsIn e (history b c)
+      → accepted e ≡ Some (Unlock inner) → leads d v key.lock ≡ false → IsOnto m v inner key → has_origin m d b v key ≡ true
+  onto_origin Timelocks em c inner key e i j took f o =
+      or-right (leads d v key.lock) _ (list_any-in (λ a. list_any (λ e. carries key.secret (accepted e)) (history b a)) (leaving d.graph v) c
+      (list_any-in (λ e. carries key.secret (accepted e)) (history b c) e (ap (carries key.secret) took ∙ o) j) i)
+  onto_origin Hashkeys em c inner key e i j took f o =
+      ap (λ x. cond x (is_alone v key.path) (list_any (λ a. list_any (λ e. extends_without v key (accepted e)) (history b a)) (leaving d.graph v))) f
+      ∙ list_any-in (λ a. list_any (λ e. extends_without v key (accepted e)) (history b a)) (leaving d.graph v) c
+      (list_any-in (λ e. extends_without v key (accepted e)) (history b c) e (ap (extends_without v key) took ∙ o) j) i
+
+  own_origin : (m : Mode) → (key : Hashkey) → leads d v key.lock ≡ true → IsOwn m v key → has_origin m d b v key ≡ true
+  own_origin Timelocks key l o = or-left (leads d v key.lock) _ l
+  own_origin Hashkeys key l o =
+      ap (λ x. cond x (is_alone v key.path) (list_any (λ a. list_any (λ e. extends_without v key (accepted e)) (history b a)) (leaving d.graph v))) l
+      ∙ o
+
+  pub key_rule : (signed : ℕ → Option Hashkey) (known : Histories) → AreGood d b v signed → Grows known b → (i : ℕ) (key : Hashkey) → i < length d.leaders
+      → due_key d v w (signed i) known i ≡ Some key → KeepsKey d b v i key
+  unfolding due_key seen_key
+  key_rule signed known good grows i key below e = go (signed i) refl e
+    where
+      onto : (o : Option Hashkey) → first_seen_key d known v i ≡ o → leads d v i ≡ false → extended w o ≡ Some key → KeepsKey d b v i key
+      onto None q f e = absurd (cc e)
+      onto (Some inner) q f e =
+          let x = first_at (λ a. key_without v (opened (history known a) i)) (leaving d.graph v) inner q in
+          let c : IsIn x.now (leaving d.graph v) = subst (IsIn x.now) (sym x.stands.1) (in_from_moment x.past x.now x.stands.0) in
+          let l = leaves d v x.now c in
+          let p = key_without_parts v (opened (history known x.now) i) inner x.gives in
+          let o : opened (history b x.now) i ≡ Some p.0 = opened-more (history known x.now) (history b x.now) i p.0 (grows x.now) p.1 in
+          let u = opened_done d x.now (history b x.now) i p.0 (legal_on x.now l.0) o in
+          let of_u = of_unlock d x.now u.0.past u.0.act.by p.0.key u.0.clear in
+          let terms : of_u.contract.terms ≡ terms_of d x.now =
+          own_terms x.now of_u.contract c (published-past (history b x.now) u.0.past u.0.now of_u.contract u.0.stands of_u.published) in
+          let valid : is_valid d x.now (hashlock_of d p.0.key.lock) p.0.key ≡ true =
+          subst (λ t. is_valid d x.now (hashlock_in t p.0.key.lock) p.0.key ≡ true) terms (valid_of_unlock d x.now u.0.past u.0.act.by p.0.key of_u)
+          in
+          let good = wallet.onto x.now p.0.key c (lock-below d x.now p.0.key u.0.act.fits) valid p.3 in
+          let key_is : w.onto p.0.key ≡ key = ap w.onto p.2 ∙ same_Some (w.onto inner) key e in
+          let lock_is : p.0.key.lock ≡ i = u.1 in
+          let g1 : IsGoodKey d v i key = subst (λ z. IsGoodKey d v i z) key_is (subst (λ j. IsGoodKey d v j (w.onto p.0.key)) lock_is good.0) in
+          let g2 : IsOnto d.mode v p.0.key key = subst (λ z. IsOnto d.mode v p.0.key z) key_is good.1 in
+          record {
+            below = below;
+            good = g1;
+            origin =
+                onto_origin d.mode refl x.now p.0.key key u.0.now c
+                (subst (IsIn u.0.now) (sym u.0.stands.1) (in_from_moment u.0.past u.0.now u.0.stands.0)) u.0.took (ap (leads d v) g1.lock ∙ f) g2;
+          }
+
+      fresh : (x : Bool) → leads d v i ≡ x → cond x (Some (w.first i)) (extended w (first_seen_key d known v i)) ≡ Some key → KeepsKey d b v i key
+      fresh true l e =
+          let f = wallet.first i below l in
+          let key_is : w.first i ≡ key = same_Some (w.first i) key e in
+          let g1 : IsGoodKey d v i key = subst (λ z. IsGoodKey d v i z) key_is f.0 in
+          record { below = below; good = g1; origin = own_origin d.mode key (ap (leads d v) g1.lock ∙ l) (subst (λ z. IsOwn d.mode v z) key_is f.1) }
+      fresh false l e = onto (first_seen_key d known v i) refl l e
+
+      go : (s : Option Hashkey) → signed i ≡ s → or_else s (cond (leads d v i) (Some (w.first i)) (extended w (first_seen_key d known v i))) ≡ Some key
+          → KeepsKey d b v i key
+      go (Some k) q e = good i key (q ∙ e)
+      go None q e = fresh (leads d v i) refl e
+
+-- a hashkey that was kept is the one that is due
+due_is_kept : (d : Deal) (v : ℕ) (w : Wallet) (known : Histories) (i : ℕ) (s : Option Hashkey) (old key : Hashkey) → s ≡ Some old
+    → due_key d v w s known i ≡ Some key → old ≡ key
+unfolding due_key
+due_is_kept d v w known i (Some k) old key q e = same_Some old key (sym q ∙ e)
+due_is_kept d v w known i None old key q e = absurd (cc q)
+
+-- Answers.
+
+make_of : (test : Bool) (x y : Action) → make_if test y ≡ Make x → (test ≡ true) × (y ≡ x)
+make_of true x y e = (refl, cc e)
+make_of false x y e = absurd (none y.call e)
+  where
+    none : (c : Call) → keep_of c ≡ Make x → ⊥
+    none (Publish t) q = cc q
+    none (Unlock k) q = cc q
+    none Claim q = cc q
+    none Refund q = cc q
+    none (Transfer u z) q = cc q
+
+pub made_of : (kept : ℕ → Option Hashkey) (o : Option Action) (x : Action) → answer_for kept o ≡ Make x → (o ≡ Some x) × (is_kept kept x.call ≡ true)
+made_of kept None x e = absurd (cc e)
+made_of kept (Some y) x e = let m = make_of (is_kept kept y.call) x y e in (ap (λ z. Some z) m.1, subst (λ z. is_kept kept z.call ≡ true) m.1 m.0)
+
+keep_if : (test : Bool) (y : Action) (key : Hashkey) → make_if test y ≡ Keep key → (test ≡ false) × (y.call ≡ Unlock key)
+keep_if true y key e = absurd (cc e)
+keep_if false y key e = (refl, go y.call e)
+  where
+    go : (c : Call) → keep_of c ≡ Keep key → c ≡ Unlock key
+    go (Publish t) q = absurd (cc q)
+    go (Unlock k) q = cc q
+    go Claim q = absurd (cc q)
+    go Refund q = absurd (cc q)
+    go (Transfer u z) q = absurd (cc q)
+
+pub kept_of : (kept : ℕ → Option Hashkey) (x : Action) (key : Hashkey) → answer_for kept (Some x) ≡ Keep key
+    → (x.call ≡ Unlock key) × (is_first_key (kept key.lock) key ≡ false)
+kept_of kept x key e = let m = keep_if (is_kept kept x.call) x key e in (m.1, subst (λ c. is_kept kept c ≡ false) m.1 m.0)
+
+pub keep_first : (kept : ℕ → Option Hashkey) (o : Option Action) (key : Hashkey) → answer_for kept o ≡ Keep key
+    → (x : Action) × (o ≡ Some x) × (answer_for kept (Some x) ≡ Keep key)
+keep_first kept None key e = absurd (cc e)
+keep_first kept (Some x) key e = (x, refl, e)
+
+-- What may be kept: a good hashkey for a lock for which nothing was kept.
+pub record IsNew (d : Deal) (v : ℕ) (b : Histories) (q : Asking) (key : Hashkey) : Type 0 where
+  pub rule : KeepsKey d b v key.lock key
+  pub free : q.kept key.lock ≡ None
+
+not_first : (o : Option Hashkey) (key : Hashkey) → is_first_key o key ≡ false → ((old : Hashkey) → o ≡ Some old → old ≡ key) → o ≡ None
+not_first None key e same = refl
+not_first (Some old) key e same =
+    absurd (false≢true (sym e ∙ (ap (λ z. is_first_key (Some z) key) (same old refl) ∙ same_key-refl key)))
+
+module _ (d : Deal) (v : ℕ) (w : Wallet) (b : Histories) (legal : IsLegalBook d b) (wallet : IsWallet d v w) (own_terms : OwnTerms d b v) where
+  -- an unlock that is due has the kept hashkey for its lock, if any was kept
+  pub of_unlock_due : (q : Asking) (a : ℕ) (key : Hashkey) → IsTold b q → AreGood d b v q.kept → Case d v w q.kept q.known a (Unlock key)
+      → KeepsKey d b v key.lock key × ((old : Hashkey) → q.kept key.lock ≡ Some old → old ≡ key)
+  of_unlock_due q a key told good (ToPublish i e c) = absurd (cc c)
+  of_unlock_due q a key told good (ToClaim i e c) = absurd (cc c)
+  of_unlock_due q a key told good (ToRefund i e c) = absurd (cc c)
+  of_unlock_due q a key told good (ToUnlock i k below en may e c) =
+      let same : key ≡ k = cc c in
+      let r : KeepsKey d b v i key = key_rule d v w b legal wallet own_terms q.kept q.known good told i key below (e ∙ ap (λ z. Some z) (sym same)) in
+      let lock : key.lock ≡ i = r.good.lock in (
+        subst (λ j. KeepsKey d b v j key) (sym lock) r,
+        λ old o. due_is_kept d v w q.known i (q.kept i) old key (ap q.kept (sym lock) ∙ o) (e ∙ ap (λ z. Some z) (sym same)),
+      )
+
+  pub is_new : (q : Asking) (key : Hashkey) → IsTold b q → AreGood d b v q.kept → MayKeep d v w q key → IsNew d v b q key
+  is_new q key told good e =
+      let k = kept_of q.kept e.unlock key e.asks in
+      let c = case_of d v w q.kept q.known e.unlock e.is_due in
+      let u = of_unlock_due q e.unlock.arc key told good (subst (λ z. Case d v w q.kept q.known e.unlock.arc z) k.0 c) in
+      record { rule = u.0; free = not_first (q.kept key.lock) key k.1 u.1 }
+
+  -- what is kept next is good, and holds what was kept
+  next_good : (before : ℕ → Option Hashkey) (q : Asking) (next : ℕ → Option Hashkey) → IsTold b q → AreGood d b v before → IsPart q.kept before
+      → IsKeptAfter d v w before q next → AreGood d b v next × IsPart before next
+  next_good before q next told good part (inl e) = (subst (AreGood d b v) (sym e) good, λ i key z. ap (λ f. f i) e ∙ z)
+  next_good before q next told good part (inr k) =
+      let n = is_new q k.0 told (λ i key z. good i key (part i key z)) k.1 in (
+        subst (AreGood d b v) (sym k.3) (λ i key z. at n i key (i == k.0.lock) refl z),
+        λ i key z. ap (λ f. f i) k.3 ∙ keep i key z (i == k.0.lock) refl,
+      )
+    where
+      at : IsNew d v b q k.0 → (i : ℕ) (key : Hashkey) (x : Bool) → (i == k.0.lock) ≡ x → cond x (Some k.0) (before i) ≡ Some key → KeepsKey d b v i key
+      at n i key true h z =
+          subst (λ y. KeepsKey d b v i y) (same_Some k.0 key z) (subst (λ j. KeepsKey d b v j k.0) (sym (eqb-true i k.0.lock h)) n.rule)
+      at n i key false h z = good i key z
+
+      keep : (i : ℕ) (key : Hashkey) → before i ≡ Some key → (x : Bool) → (i == k.0.lock) ≡ x → cond x (Some k.0) (before i) ≡ Some key
+      keep i key z true h = absurd (cc (sym z ∙ (ap before (eqb-true i k.0.lock h) ∙ k.2)))
+      keep i key z false h = z
+
+  -- What a journal keeps.
+  pub record Keeps (before : ℕ → Option Hashkey) (askings : List Asking) (after : ℕ → Option Hashkey) : Type 0 where
+    pub good : AreGood d b v after
+    pub grows : IsPart before after
+    pub each : (q : Asking) → IsIn q askings → AreGood d b v q.kept
+    pub lasts : (q : Asking) → IsIn q askings → IsPart q.kept after
+
+  pub journal_keeps : (before : ℕ → Option Hashkey) (askings : List Asking) (after : ℕ → Option Hashkey) → ((q : Asking) → IsIn q askings → IsTold b q)
+      → AreGood d b v before → IsJournal d v w before askings after → Keeps before askings after
+  journal_keeps before [] after told good e = record {
+    good = subst (AreGood d b v) (sym e) good;
+    grows = λ i key z. ap (λ f. f i) e ∙ z;
+    each = λ q i. absurd i;
+    lasts = λ q i. absurd i;
+  }
+  journal_keeps before (q ∷ qs) after told good j =
+      let n = next_good before q j.1 (told q (inl refl)) good j.0 j.2 in
+      let r = journal_keeps j.1 qs after (λ p i. told p (inr i)) n.0 j.3 in
+      record {
+        good = r.good;
+        grows = λ i key z. r.grows i key (n.1 i key z);
+        each = λ p i. each r p i;
+        lasts = λ p i. lasts n.1 r p i;
+      }
+    where
+      each : Keeps j.1 qs after → (p : Asking) → (p ≡ q) ⊎ IsIn p qs → AreGood d b v p.kept
+      each r p (inl e) = subst (λ z. AreGood d b v z.kept) (sym e) (λ i key z. good i key (j.0 i key z))
+      each r p (inr i) = r.each p i
+
+      lasts : IsPart before j.1 → Keeps j.1 qs after → (p : Asking) → (p ≡ q) ⊎ IsIn p qs → IsPart p.kept after
+      lasts n r p (inl e) i key z = r.grows i key (n i key (j.0 i key (ap (λ y. y.kept i) (sym e) ∙ z)))
+      lasts n r p (inr k) i key z = r.lasts p k i key z

@@ -1,0 +1,66 @@
+-- All that is answered at once: every call that is due, in its order, and not the first alone.
+use Rattle.std.specs.Prelude.{◌≡◌, ◌==◌, ◌&&◌, not, ℕ, Bool, false, List, [], ◌∷◌, map, filter, Option, Some, None, if◌then◌else◌}
+use Rattle.swap_base.specs.Lists.{IsIn}
+use Rattle.swap_digraph.specs.declared.deal.Deal.{Deal}
+use Rattle.hashkey_path.specs.declared.hashkey.Hashkey.{Hashkey}
+use Rattle.swap_rules.specs.Conduct.{is_publish}
+use Rattle.swap_rules.specs.Due.{Wallet, Action, due}
+use Rattle.wallet_promise.specs.Life.{Asking, Answer, Rest, Make, Keep, answer, answer_for, MayGo, MayKeep}
+
+-- whether the call is a publish, and one was written down as sent on its arc: it may have gone out, so it never goes again
+abbrev pub was_sent : (ℕ → Bool) → Action → Bool
+was_sent sent x = is_publish (Some x.call) && sent x.arc
+
+-- whether the hashkey that was asked for last is for this lock
+abbrev pub is_asked : Option ℕ → ℕ → Bool
+is_asked None i = false
+is_asked (Some j) i = j == i
+
+-- the answers with each hashkey asked for once: unlocks for one lock that are due stand together, and carry one
+abbrev pub once : Option ℕ → List Answer → List Answer
+once asked [] = []
+once asked (Rest ∷ xs) = once asked xs
+once asked (Make x ∷ xs) = Make x ∷ once asked xs
+once asked (Keep key ∷ xs) = if is_asked asked key.lock then once asked xs else Keep key ∷ once (Some key.lock) xs
+
+-- the calls of these that aren't publishes which were sent
+abbrev pub unsent : (ℕ → Bool) → List Action → List Action
+unsent sent xs = filter (λ x. not (was_sent sent x)) xs
+
+-- what is answered for these calls
+abbrev pub answers_for : (ℕ → Option Hashkey) → (ℕ → Bool) → List Action → List Answer
+answers_for kept sent xs = once None (map (λ x. answer_for kept (Some x)) (unsent sent xs))
+
+-- all that is answered to an asking
+abbrev pub answers : Deal → ℕ → Wallet → Asking → (ℕ → Bool) → List Answer
+answers d v w q sent = answers_for q.kept sent (due d v w q.kept q.known)
+
+-- A law of all answers to an asking.
+abbrev pub OfAllAnswers : (Deal → ℕ → Wallet → Asking → (ℕ → Bool) → Type 0) → Type 0
+OfAllAnswers P = (d : Deal) (v : ℕ) (w : Wallet) (q : Asking) (sent : ℕ → Bool) → P d v w q sent
+
+-- each call that is answered may go out, and each hashkey that is answered may be kept
+abbrev pub AllMayGo : Type 0
+AllMayGo = OfAllAnswers (λ d v w q sent. (x : Action) → IsIn (Make x) (answers d v w q sent) → MayGo d v w q x)
+
+abbrev pub AllMayBeKept : Type 0
+AllMayBeKept = OfAllAnswers (λ d v w q sent. (key : Hashkey) → IsIn (Keep key) (answers d v w q sent) → MayKeep d v w q key)
+
+-- no publish goes out that was sent
+abbrev pub NoneIsSentTwice : Type 0
+NoneIsSentTwice = OfAllAnswers (λ d v w q sent. (x : Action) → IsIn (Make x) (answers d v w q sent) → was_sent sent x ≡ false)
+
+-- nothing that may go out is left out but what was sent
+abbrev pub NothingIsLeftOut : Type 0
+NothingIsLeftOut = OfAllAnswers (λ d v w q sent. (x : Action) → MayGo d v w q x → was_sent sent x ≡ false → IsIn (Make x) (answers d v w q sent))
+
+-- for each lock for which a hashkey may be kept one is asked for
+abbrev pub EachKeyIsAsked : Type 0
+EachKeyIsAsked =
+    OfAllAnswers (λ d v w q sent. (key : Hashkey) → MayKeep d v w q key
+    → (asked : Hashkey) × IsIn (Keep asked) (answers d v w q sent) × (asked.lock ≡ key.lock))
+
+-- a wallet rests exactly where nothing is due; then nothing is answered
+abbrev pub RestIsNothing : Type 0
+RestIsNothing =
+    OfAllAnswers (λ d v w q sent. (answer d v w q ≡ Rest → due d v w q.kept q.known ≡ []) × (due d v w q.kept q.known ≡ [] → answer d v w q ≡ Rest))

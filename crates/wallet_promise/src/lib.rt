@@ -1,0 +1,57 @@
+//! What a wallet is promised that asks for each of its calls anew, and keeps nothing but hashkeys.
+//!
+//! Read `specs/Life.antt` first, then `specs/Laws.antt`, then `specs/Answers.antt`: all that is answered at once.
+#![tactic(auto)]
+
+ghost use Rattle.wallet_promise.specs.Laws.{LifeConducts, LifeIsSafe, OneHashkey, AskedIsNotKept, KeptMayGo};
+ghost use Rattle.wallet_promise.specs.Laws.{NothingIsLost, AnswersMayGo, AnswersMayBeKept, ToldIsOnce, TwiceIsBroken};
+ghost use Rattle.wallet_promise.specs.Laws.{TwoKeysAreBroken, LifeLeavesRoom, PatienceLeavesRoom, AttentiveIsSafe, LedgersHoldKeys};
+ghost use Rattle.wallet_promise.specs.Laws.{LifeBegins, OthersGoOn, AskingGoesOn, CallsLand};
+ghost use Rattle.wallet_promise.specs.Answers.{AllMayGo, AllMayBeKept, EachKeyIsAsked, NoneIsSentTwice, NothingIsLeftOut, RestIsNothing};
+
+/// In every legal book of an accepted deal a wallet's life conducts its party, which is then safe where it was on time and the book has ended; on
+/// time is one that comes to rest within delta of whatever it has to do.
+pub fn life_conducts()
+    ensures conducts { LifeConducts }
+    ensures safe { LifeIsSafe }
+    ensures room { LifeLeavesRoom }
+    ensures patient { PatienceLeavesRoom }
+    ensures attentive { AttentiveIsSafe }
+{}
+
+/// All unlock calls for a lock carry one hashkey, which was kept before it went out; none is kept for a lock that has one, and none is lost.
+pub fn one_hashkey()
+    ensures one { OneHashkey }
+    ensures asked { AskedIsNotKept }
+    ensures goes { KeptMayGo }
+    ensures lost { NothingIsLost }
+    ensures shown { LedgersHoldKeys }
+{}
+
+/// What is answered may go out, and is new where what was told holds what landed before it; a publish that lands twice breaks conduct,
+/// and so do two hashkeys for a lock.
+pub fn answers_may_go()
+    ensures go { AnswersMayGo }
+    ensures keep { AnswersMayBeKept }
+    ensures once { ToldIsOnce }
+    ensures twice { TwiceIsBroken }
+    ensures keys { TwoKeysAreBroken }
+{}
+
+/// A life begins with nothing and goes on by entries of others, askings and calls that land: all that a wallet does is such a life.
+pub fn life_goes_on()
+    ensures begins { LifeBegins }
+    ensures others { OthersGoOn }
+    ensures asks { AskingGoesOn }
+    ensures lands { CallsLand }
+{}
+
+/// Of all that is answered at once each call may go out and each hashkey may be kept, and nothing that may is left out but a publish that was sent.
+pub fn answers_are_whole()
+    ensures go { AllMayGo }
+    ensures keep { AllMayBeKept }
+    ensures once { NoneIsSentTwice }
+    ensures all { NothingIsLeftOut }
+    ensures asked { EachKeyIsAsked }
+    ensures rest { RestIsNothing }
+{}
