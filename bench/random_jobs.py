@@ -64,8 +64,8 @@ def distance(arcs, party, leader, seen=()):
 
 
 class Job:
-    def __init__(self, rng):
-        self.rng, self.parties, self.leaders = rng, rng.choice((2, 2, 3, 3, 3, 4, 5, 6)), None
+    def __init__(self, rng, parties=(2, 2, 3, 3, 3, 4, 5, 6), events=(0, 0, 5, 20, 60)):
+        self.rng, self.parties, self.leaders = rng, rng.choice(parties), None
         self.keyed = rng.random() < 0.6
         self.version = rng.choice((1, 1, 2)) if self.keyed else 1
         while not self.leaders:
@@ -81,7 +81,7 @@ class Job:
         for number, party in enumerate(self.header["parties"]):
             if not self.conforming[number]:
                 party["actor"] = self.actor(number)
-        self.events = [self.event() for _ in range(rng.choice((0, 0, 5, 20, 60)))]
+        self.events = [self.event() for _ in range(rng.choice(events))]
         self.text = b"".join(map(line_of, [self.header, *self.events]))
 
     def made_header(self):
@@ -199,6 +199,112 @@ class Job:
         if self.conforming[party] or self.header["parties"][party]["actor"] != "manual" and rng.random() < 0.8:
             return {"act": self.names[party]}
         return {"call": self.names[party], "move": self.move(party)}
+
+
+# ---- many swaps
+
+
+class Many:
+    """A few swaps on a few chains. Most accounts have the units that are set aside of them; some have more, and a few have less or are missing."""
+
+    def __init__(self, rng, alone=None):
+        """Of swaps and their events, or of one job alone without any."""
+        self.rng = rng
+        self.jobs = [alone] if alone else [Job(rng, (2, 2, 3, 3, 4, 5), (0,)) for _ in range(rng.choice((1, 2, 2, 3, 4)))]
+        self.is_fair = alone.header["finish"] == "fair" if alone else rng.random() < 0.5
+        count = rng.choice((1, 2, 3, 4, 5))
+        self.places = [[rng.randrange(count) for _ in job.arcs] for job in self.jobs]
+        self.chains = [self.accounts(chain) for chain in range(count)]
+        # (low heights, or such that are soon above each horizon)
+        self.by = rng.choice(((1, 1, 2, 10), (1, 10, 30), (10, 100, 200)))
+        self.events = [self.event() for _ in range(0 if alone else rng.choice((0, 5, 20, 60, 60)))]
+        if not alone and rng.random() < 0.4:
+            self.events += [*self.ending(), *(self.event() for _ in range(rng.choice((5, 20, 60))))]
+
+    def ending(self):
+        """Events after which most slots are swept: every chain is above each horizon, and who conforms has looked around and acted."""
+        yield from (b"tick %d 200" % chain for chain in range(len(self.chains)))
+        for swap, job in enumerate(self.jobs):
+            for number, name in enumerate(job.names):
+                acts = [{"look": name, "arc": arc} for arc in job.beside(number)] + [{"act": name}] * self.rng.choice((1, 3))
+                yield from (b"%d %s" % (swap, line_of(act).rstrip(b"\n")) for act in acts)
+        yield from (b"sweep %d %d" % (swap, arc) for swap, job in enumerate(self.jobs) for arc in range(len(job.arcs)))
+
+    def standing(self, chain):
+        """Each arc that stands on a chain: its two names, and its amount."""
+        for job, places in zip(self.jobs, self.places):
+            for arc, place in zip(job.header["arcs"], places):
+                if place == chain:
+                    yield arc["from"], arc["to"], arc["amount"]
+
+    def accounts(self, chain):
+        """The accounts of a chain, in random order, with their units."""
+        rng, units = self.rng, {}
+        for party, counterparty, amount in self.standing(chain):
+            units[party] = units.get(party, 0) + amount
+            units.setdefault(counterparty, 0)
+        for name in rng.sample(("alice", "p0", "p1", "yan", "zoe"), rng.choice((0, 1, 2)) if len(units) >= 2 else 4):
+            units.setdefault(name, 0)
+        for name in units:
+            units[name] = max(0, units[name] + rng.choice((0, 0, 1, 7, 100)) - (rng.random() < 0.005))
+        names = rng.sample(list(units), len(units))
+        return {name: units[name] for name in names[1 if len(names) > 2 and rng.random() < 0.01 else 0 :]}
+
+    def event(self):
+        """An event line: of a chain, of two accounts, of a slot, or of a swap."""
+        rng, swap, chain = self.rng, self.rng.randrange(len(self.jobs)), self.rng.randrange(len(self.chains))
+        roll = rng.random()
+        if roll < 0.2:
+            return b"tick %d %d" % (chain, rng.choice(self.by))
+        if roll < 0.3:
+            names = [rng.choice(list(self.chains[chain])) for _ in range(2)]
+            return b"pay %d %s %s %d" % (chain, names[0].encode(), names[1].encode(), rng.choice((0, 1, 1, 5, 50, 10**15)))
+        if roll < 0.4:
+            return b"sweep %d %d" % (swap, rng.randrange(len(self.jobs[swap].arcs)))
+        return b"%d %s" % (swap, line_of(self.untimed(swap)).rstrip(b"\n"))
+
+    def untimed(self, swap):
+        """An event of a swap, nearly always one that is no tick."""
+        while "tick" in (event := self.jobs[swap].event()) and self.rng.random() < 0.999:
+            pass
+        return event
+
+    def text(self):
+        lines = [b"swap many 1"]
+        for units in self.chains:
+            lines.append(b"chain " + b" ".join(b"%s %d" % (name.encode(), units[name]) for name in units))
+        for job, places in zip(self.jobs, self.places):
+            header = {field: value for field, value in job.header.items() if field != "finish"}
+            lines += [b"swap " + b" ".join(b"%d" % place for place in places), line_of(header).rstrip(b"\n")]
+        return b"\n".join([*lines, b"finish fair" if self.is_fair else b"finish stop", *self.events]) + b"\n"
+
+
+def respelled(rng, text):
+    """Many swaps with a fault, mostly: lines that are left out, repeated, moved or joined, and edits of those that are words."""
+    lines = text.split(b"\n")[:-1]
+    for _ in range(rng.choice((1, 1, 1, 2))):
+        at, kind = rng.randrange(len(lines)), rng.randrange(7)
+        if kind == 0:
+            del lines[at]
+        elif kind == 1:
+            lines.insert(rng.randrange(len(lines) + 1), lines[at])
+        elif kind == 2:
+            lines.insert(at, rng.choice((b"", b" \t\r", b"x", b"finish fair", b"chain yan 1 zoe 2")))
+        elif kind == 3:
+            lines[at] = renumbered(rng, lines[at])
+        else:
+            at = rng.choice([number for number, line in enumerate(lines) if b"{" not in line[:3]] or [at])
+            lines[at] = edited(rng, lines[at]) if lines[at] and kind < 6 else renumbered(rng, lines[at])
+        if not lines:
+            return b""
+    return b"\n".join(lines) + rng.choice((b"", b"\n"))
+
+
+def many_text(rng):
+    """The text of many swaps, some with a fault."""
+    text = Many(rng).text()
+    roll = rng.random()
+    return respelled(rng, text) if roll < 0.25 else edited(rng, text) if roll < 0.3 else text
 
 
 # ---- wishes

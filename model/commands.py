@@ -6,6 +6,7 @@ from typing import NamedTuple
 from .clearing import cleared
 from .hashes import hashlock_of, public_key, secret_of
 from .drawn import plain_job
+from .many import many
 from .offer import MOST_EVENTS, PLAIN, Offer, Refused, examine_seeds, header_of, job_of, lines_of, refuse
 from .play import race, run
 from .texts import check_text, compact, joined, made_header, report, summary, transcript
@@ -55,6 +56,7 @@ OPTIONS = {
     "make": {},
     "gen": {"--seed": (0, 2**32 - 1), "--parties": (2, 24), "--events": (0, MOST_EVENTS), "--summary": None},
     "clear": {},
+    "many": {},
 }
 
 
@@ -136,7 +138,7 @@ def clear(text, _options):
     return cleared(text), 0
 
 
-COMMANDS = {"check": check, "run": run_job, "race": race_job, "audit": audit, "make": make, "gen": gen, "clear": clear}
+COMMANDS = {"check": check, "run": run_job, "race": race_job, "audit": audit, "make": make, "gen": gen, "clear": clear, "many": many}
 
 
 def printable(word):

@@ -9,9 +9,9 @@ from .strategies import STRATEGIES
 class World:
     """The ledgers of a run, and of each party what it knows, the hashkeys that it noted, its place in its script and its turn number."""
 
-    def __init__(self, offer):
+    def __init__(self, offer, kind=Ledger):
         self.offer, self.deal = offer, offer.deal
-        self.ledgers = [Ledger(self.deal, arc) for arc in self.deal.arcs]
+        self.ledgers = [kind(self.deal, arc) for arc in self.deal.arcs]
         self.knowledge = [View(self.deal, self.ledgers, [0] * len(self.ledgers)) for _ in self.deal.parties]
         self.signed = [{} for _ in self.deal.parties]
         self.places = [0] * len(offer.actors)

@@ -1,8 +1,10 @@
 """The program beside the model (`model/`): each answer of the one has to be that of the other, byte for byte.
 
-The tests here are the stored offers: those of `examples/` by each command, its wishes by `clear`, and the runs of `.ci/runs`. The rows
-of `tables/` are asked so too.
+The tests here are the stored offers: those of `examples/` by each command, its wishes by `clear`, its swaps on shared chains by `many`, an
+exchange's day by all that it takes, and the runs of `.ci/runs`. The rows of `tables/` are asked so too.
 """
+import importlib.machinery
+import importlib.util
 import os
 import re
 import sys
@@ -64,6 +66,30 @@ def stored_wishes(file, program):
     program.run(["clear"], file.read_bytes())
 
 
+def must_report(program, many, reports):
+    """Tests that many swaps are written as is stored, with status 0."""
+    must(program.run(["many"], many) == (0, reports.read_bytes(), b""), "it isn't " + reports.name)
+
+
+def stored_swaps(file, program):
+    must_report(program, file.read_bytes(), file.with_suffix(".reports"))
+
+
+def exchange():
+    """The script that makes swaps on shared chains of a day's wishes."""
+    loader = importlib.machinery.SourceFileLoader("exchange", str(TOP / "examples" / "exchange"))
+    module = importlib.util.module_from_spec(importlib.util.spec_from_loader("exchange", loader))
+    loader.exec_module(module)
+    return module
+
+
+def exchange_day(program):
+    wishes = TOP / "examples" / "exchange.wishes"
+    many, left_out = exchange().many_text(lambda words, text: program.run(words, text.encode()).out.decode(), wishes.read_text())
+    must(left_out == ["left out 4 closed alice,bob,carol"], "what is left out: %r" % left_out)
+    must_report(program, many.encode(), wishes.with_suffix(".reports"))
+
+
 def tests():
     for folder in sorted((TOP / ".ci" / "runs").iterdir()):
         yield f"beside: {folder.name}", partial(stored_run, folder)
@@ -71,3 +97,6 @@ def tests():
         yield f"beside: {file.name}", partial(stored_offer, file)
     for file in sorted((TOP / "examples").glob("*.clear")):
         yield f"beside: {file.name}", partial(stored_wishes, file)
+    for file in sorted((TOP / "examples").glob("*.many")):
+        yield f"beside: {file.name}", partial(stored_swaps, file)
+    yield "beside: an exchange's day", exchange_day

@@ -1,7 +1,8 @@
 """Fails each read and each write of the program at each byte, cuts its inputs at each byte, and tests what it answers.
 
 - A job that is cut within a line is no JSON text at that line; cut behind a line, with or without its line feed, it is the job of
-  the lines so far. A cut transcript is cut short.
+  the lines so far. A cut transcript is cut short. Many swaps are cut short up to the line of their finish, and within a line that is a
+  bad line or no JSON text.
 - A read that fails behind any bytes has status 4, and nothing is written.
 - A write that fails behind any bytes has status 5, and those bytes are a proper beginning of the usual text. The transcript of a
   race in which all act has no one text: what was written of it is cut short, as an audit says.
@@ -37,11 +38,24 @@ def is_whole(text, cut):
     return text[:cut].endswith(b"\n") or text[cut : cut + 1] in (b"", b"\n")
 
 
+def tested_many(program, some, whole, found):
+    """The answer to many swaps that are cut, of which no line behind the finish begins with another line."""
+    last, is_headed = some.count(b"\n") + 1, b"\nfinish " in some
+    if whole and is_headed:
+        must(found.status in (0, 1) and not found.err, "whole lines of swaps")
+        must(found == program.run(["many"], some.rstrip(b"\n")), "the last line feed of swaps")
+    else:
+        reasons = [b"CutShort"] * (not is_headed) + [b"BadLine %d" % last, b"NotJson %d" % last] * (not whole)
+        must(found in [(3, b"", b"swap: refused: %s\n" % reason) for reason in reasons], "swaps that are cut")
+
+
 def tested_cut(program, row, _, cut):
     some = row.text[:cut]
     found = program.run(row.words, some)
     if row.words == ["audit"]:
         must(found == CUT_SHORT, "a transcript that is cut")
+    elif row.words == ["many"]:
+        tested_many(program, some, is_whole(row.text, cut), found)
     elif is_whole(row.text, cut):
         must(found.status in (0, 1) and not found.err, "whole lines")
         must(row.varies or found == program.run(row.words, some.rstrip(b"\n")), "the last line feed")
@@ -136,6 +150,13 @@ CALLS = """{"call":"alice","move":{"do":"publish","arc":0}}
 {"call":"bob","move":{"do":"transfer","arc":1,"to":"carol","units":2}}
 {"call":"carol","move":{"do":"refund","arc":2}}
 """
+# events of two swaps on shared chains
+SHARED = """0 {"act":"alice"}
+tick 1 7
+1 {"look":"bob","arc":0}
+pay 0 alice bob 0
+sweep 1 0
+"""
 # calls of which each is refused, and has its line in the report
 REFUSED = """{"call":"alice","move":{"do":"publish","arc":0}}
 {"call":"carol","move":{"do":"publish","arc":1}}
@@ -162,6 +183,10 @@ def second_job():
     return edited(deal("hashkeys"), SECOND) + CALLS
 
 
+def many_swaps():
+    return deal("shared.many") + SHARED
+
+
 def row_of(words, name, text, **other):
     return Row(words + " of " + name, words.split(), text.encode(), **other)
 
@@ -173,6 +198,7 @@ def rows():
     yield row_of("audit", "by_hand", deal("by_hand"), told_by=["run", "--transcript"])
     yield row_of("make", "a plain job", plain_job())
     yield row_of("clear", "wishes", deal("wishes.clear"))
+    yield row_of("many", "two swaps", many_swaps())
     for words in ("race --ticks 1000", "race --ticks 1000 --transcript"):
         yield row_of(words, "idle parties", idle_job())
 
@@ -192,6 +218,7 @@ def rows_of_cuts():
         yield tested_cut, row_of(words, "idle parties", idle_job())
     yield tested_cut, row_of("make", "a plain job", plain_job())
     yield tested_cut, row_of("clear", "wishes", deal("wishes.clear"))
+    yield tested_cut, row_of("many", "two swaps", many_swaps())
     told = ["run", "--transcript"]
     yield tested_cut, row_of("audit", "hashkeys", deal("hashkeys") + ACTS, told_by=told)
     yield tested_cut, row_of("audit", "version 2", second_job(), told_by=told)

@@ -48,6 +48,7 @@ race --transcript --ticks=7 => Race { ticks: 7, transcript: true }
 audit => Audit
 make => Make
 clear => Clear
+many => Many
 gen --seed 1 --parties 2 --events 3 => Gen { seed: 1, parties: 2, events: 3, summary: false }
 gen --seed=1 --parties=2 --events=3 => Gen { seed: 1, parties: 2, events: 3, summary: false }
 gen --summary --events 3 --parties=2 --seed 1 => Gen { seed: 1, parties: 2, events: 3, summary: true }

@@ -10,7 +10,7 @@ use Rattle.program_words.specs.Parsed.{AreRead, app_for, first_word, reading}
 use Rattle.program_words.specs.declared.choice.Choice.{Choice}
 use Rattle.program_words.specs.declared.choice.Choice.TheVariants.{Ticks, Transcript, Seed, Parties, Events, Summary}
 use Rattle.program_words.specs.declared.verb.Verb.{Verb}
-use Rattle.program_words.specs.declared.verb.Verb.TheVariants.{Check, Run, Race, Audit, Make, Gen, Clear}
+use Rattle.program_words.specs.declared.verb.Verb.TheVariants.{Check, Run, Race, Audit, Make, Gen, Clear, Many}
 use Rattle.program_words.proofs.Parses.{Builds, found, one_read}
 
 pub builds : (verb : Verb) → Builds (first_word verb) (choices verb) (app_for verb)
@@ -21,6 +21,7 @@ builds Audit = record { is_built = refl; is_simple = refl; has_name = refl; defa
 builds Make = record { is_built = refl; is_simple = refl; has_name = refl; defaults = refl; valid = λ rows. refl }
 builds Gen = record { is_built = refl; is_simple = refl; has_name = refl; defaults = refl; valid = λ rows. refl }
 builds Clear = record { is_built = refl; is_simple = refl; has_name = refl; defaults = refl; valid = λ rows. refl }
+builds Many = record { is_built = refl; is_simple = refl; has_name = refl; defaults = refl; valid = λ rows. refl }
 
 -- one option more, and one less
 more_read : (c : Choice) (row : List Choice) (words : List Text) (m : ArgMatches) → one_text (found_of m) (name_of c) ≡ reading c words
@@ -40,6 +41,7 @@ all_read Check first words m ok has = tt
 all_read Audit first words m ok has = tt
 all_read Make first words m ok has = tt
 all_read Clear first words m ok has = tt
+all_read Many first words m ok has = tt
 all_read Run first words m ok has =
     let b = builds Run in
     let rows = (has b.is_simple).0 in

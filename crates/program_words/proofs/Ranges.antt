@@ -8,7 +8,7 @@ use Rattle.program_words.specs.declared.choice.Choice.{Choice}
 use Rattle.program_words.specs.declared.choice.Choice.TheVariants.{Ticks, Seed, Parties, Events}
 use Rattle.program_words.specs.declared.command.Command.{Command}
 use Rattle.program_words.specs.declared.verb.Verb.{Verb}
-use Rattle.program_words.specs.declared.verb.Verb.TheVariants.{Check, Run, Race, Audit, Make, Gen, Clear}
+use Rattle.program_words.specs.declared.verb.Verb.TheVariants.{Check, Run, Race, Audit, Make, Gen, Clear, Many}
 use Rattle.program_words.proofs.Names.{both}
 use Rattle.program_words.proofs.Texts.{has_number}
 
@@ -33,6 +33,7 @@ asked_within Race words whole = ticks_within (choices Race) words (both _ _ whol
 asked_within Audit words whole = tt
 asked_within Make words whole = tt
 asked_within Clear words whole = tt
+asked_within Many words whole = tt
 asked_within Gen words whole =
     let ok = (both _ _ whole).0 in
     let seed_on = both (is_given Seed words) _ (both _ _ whole).1 in

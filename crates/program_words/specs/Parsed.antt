@@ -10,7 +10,7 @@ use Rattle.program_words.specs.Tables.{choices, name_of, range_of}
 use Rattle.program_words.specs.Words.{is_given, is_number, text_of}
 use Rattle.program_words.specs.declared.choice.Choice.{Choice}
 use Rattle.program_words.specs.declared.verb.Verb.{Verb}
-use Rattle.program_words.specs.declared.verb.Verb.TheVariants.{Check, Run, Race, Audit, Make, Gen, Clear}
+use Rattle.program_words.specs.declared.verb.Verb.TheVariants.{Check, Run, Race, Audit, Make, Gen, Clear, Many}
 
 abbrev pub first_word : Verb → Text
 first_word Check = codes "check"
@@ -20,6 +20,7 @@ first_word Audit = codes "audit"
 first_word Make = codes "make"
 first_word Gen = codes "gen"
 first_word Clear = codes "clear"
+first_word Many = codes "many"
 
 -- an option that takes no number, and one that takes a number
 abbrev pub flag_rule : Text → Rule

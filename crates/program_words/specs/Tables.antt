@@ -4,7 +4,7 @@ use Rattle.std.specs.Str.{bytes_eq}
 use Rattle.program_words.specs.declared.choice.Choice.{Choice}
 use Rattle.program_words.specs.declared.choice.Choice.TheVariants.{Ticks, Transcript, Seed, Parties, Events, Summary}
 use Rattle.program_words.specs.declared.verb.Verb.{Verb}
-use Rattle.program_words.specs.declared.verb.Verb.TheVariants.{Check, Run, Race, Audit, Make, Gen, Clear}
+use Rattle.program_words.specs.declared.verb.Verb.TheVariants.{Check, Run, Race, Audit, Make, Gen, Clear, Many}
 
 -- the first words
 abbrev pub verb_of : List ℕ → Option Verb
@@ -15,6 +15,7 @@ verb_of word = if bytes_eq word (codes "check") then Some Check
     else if bytes_eq word (codes "make") then Some Make
     else if bytes_eq word (codes "gen") then Some Gen
     else if bytes_eq word (codes "clear") then Some Clear
+    else if bytes_eq word (codes "many") then Some Many
     else None
 
 -- the options that may follow each
@@ -26,6 +27,7 @@ choices Audit = []
 choices Make = []
 choices Gen = Seed ∷ Parties ∷ Events ∷ Summary ∷ []
 choices Clear = []
+choices Many = []
 
 -- and those that must
 abbrev pub needed : Verb → List Choice
@@ -36,6 +38,7 @@ needed Audit = []
 needed Make = []
 needed Gen = Seed ∷ Parties ∷ Events ∷ []
 needed Clear = []
+needed Many = []
 
 -- the options' names
 abbrev pub name_of : Choice → List ℕ

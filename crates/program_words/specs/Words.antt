@@ -11,7 +11,7 @@ use Rattle.program_words.specs.declared.choice.Choice.TheVariants.{Ticks, Transc
 use Rattle.program_words.specs.declared.well_formed.Verdict.{Verdict}
 use Rattle.program_words.specs.declared.well_formed.Verdict.TheVariants.{Wrong, Done, Waits}
 use Rattle.program_words.specs.declared.verb.Verb.{Verb}
-use Rattle.program_words.specs.declared.verb.Verb.TheVariants.{Check, Run, Race, Audit, Make, Gen, Clear}
+use Rattle.program_words.specs.declared.verb.Verb.TheVariants.{Check, Run, Race, Audit, Make, Gen, Clear, Many}
 use Rattle.program_words.specs.declared.command.Command.{Command}
 use Rattle.program_words.specs.declared.command.Command.TheVariants as command
 
@@ -105,6 +105,7 @@ asked Audit words = command.Audit
 asked Make words = command.Make
 asked Gen words = command.Gen (number_of Seed words) (number_of Parties words) (number_of Events words) (is_given Summary words)
 asked Clear words = command.Clear
+asked Many words = command.Many
 
 abbrev pub asked_by : List (List ℕ) → Verb → Option Command
 asked_by words verb = if are_well_formed verb words then Some (asked verb words) else None

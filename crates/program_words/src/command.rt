@@ -20,6 +20,8 @@ pub enum Command {
     Make,
     /// Proposed transfers are read, and those that can be swapped are written as plain jobs.
     Clear,
+    /// Several swaps on shared chains are read and run, and their reports are written with what the chains' accounts hold.
+    Many,
     /// The job that a number gives is written, or run and its summary written.
     Gen {
         seed: u32,

@@ -77,6 +77,7 @@ fn command_for<'a>(alloc: Global, verb: Verb) -> Result<clap::Command<'a>, Alloc
         Verb::Make => Ok(bare(alloc, "make")),
         Verb::Gen => gen_command(alloc),
         Verb::Clear => Ok(bare(alloc, "clear")),
+        Verb::Many => Ok(bare(alloc, "many")),
     }
 }
 
@@ -151,6 +152,7 @@ fn command_in(verb: Verb, matches: &ArgMatches<'_>) -> Command
         Verb::Make => Command::Make,
         Verb::Gen => gen_in(matches),
         Verb::Clear => Command::Clear,
+        Verb::Many => Command::Many,
     }
 }
 

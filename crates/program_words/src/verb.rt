@@ -15,6 +15,7 @@ pub(crate) enum Verb {
     Make,
     Gen,
     Clear,
+    Many,
 }
 
 /// The command that the first word asks for.
@@ -29,6 +30,7 @@ pub(crate) fn verb_of(word: &str) -> Option<Verb>
         "make" => Some(Verb::Make),
         "gen" => Some(Verb::Gen),
         "clear" => Some(Verb::Clear),
+        "many" => Some(Verb::Many),
         _ => None,
     }
 }
@@ -39,7 +41,7 @@ impl Verb {
         ensures { result.now ≡ choices self }
     {
         match self {
-            Verb::Check | Verb::Audit | Verb::Make | Verb::Clear => &[],
+            Verb::Check | Verb::Audit | Verb::Make | Verb::Clear | Verb::Many => &[],
             Verb::Run => &[Choice::Transcript],
             Verb::Race => &[Choice::Ticks, Choice::Transcript],
             Verb::Gen => &[

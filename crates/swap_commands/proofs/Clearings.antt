@@ -63,7 +63,7 @@ module _ (has : List ℕ → Bool) where
   against_empty left left' now p within ended = record {
     bytes = p.bytes;
     took = p.took;
-    can = λ rest. not_over_yet has (p.bytes ++ rest);
+    can = λ rest can. not_over_yet has (p.bytes ++ rest);
     told = λ rest can.
         let e : filled_lines 1 (lines_of (p.bytes ++ rest)) ≡ [] = ap (λ (xs : List ℕ). filled_lines 1 (lines_of (p.bytes ++ xs))) (can p.met)
         ∙ ap (λ (xs : List ℕ). filled_lines 1 (lines_of xs)) (append-nil p.bytes) ∙ p.none in
@@ -88,7 +88,7 @@ module _ (has : List ℕ → Bool) where
   against_line left left' now (offer.Refused r) n m p within ended fails = record {
     bytes = p.bytes;
     took = p.took;
-    can = λ rest. not_over_yet has (p.bytes ++ rest);
+    can = λ rest can. not_over_yet has (p.bytes ++ rest);
     told = λ rest can.
         against (p.bytes ++ rest) ((now.number, now.text) ∷ ahead now rest) r [] (p.first rest can)
         (line_fails now.number now.text (ahead now rest) r fails) refl;
@@ -111,11 +111,11 @@ module _ (has : List ℕ → Bool) where
   against_further left left' left'' mid now text c (Refused r) n m k p le s = record {
     bytes = p.bytes ++ s.bytes;
     took = took_on left left' left'' fresh.reading mid.reading now.reading p.bytes s.bytes p.took s.took;
-    can = λ rest. not_over_yet has ((p.bytes ++ s.bytes) ++ rest);
+    can = λ rest can. not_over_yet has ((p.bytes ++ s.bytes) ++ rest);
     told = λ rest can.
         let bytes : List ℕ = (p.bytes ++ s.bytes) ++ rest in
         let e : filled_lines 1 (lines_of bytes) ≡ (mid.number, mid.text) ∷ ahead mid (s.bytes ++ rest) =
-        ap (λ (xs : List ℕ). filled_lines 1 (lines_of xs)) (append_assoc p.bytes s.bytes rest) ∙ p.first (s.bytes ++ rest) (s.can rest) in
+        ap (λ (xs : List ℕ). filled_lines 1 (lines_of xs)) (append_assoc p.bytes s.bytes rest) ∙ p.first (s.bytes ++ rest) (s.can rest can) in
         let f = s.told rest can in
         against bytes ((mid.number, mid.text) ∷ ahead mid (s.bytes ++ rest)) r.reason r.names e
         (further_fails mid.number mid.text text (ahead mid (s.bytes ++ rest)) r.reason (line_clears mid.number mid.text text c) f.0) f.1;
@@ -151,7 +151,7 @@ further_stops more a b n m s t fault some given within ended is =
     let told : Tells (λ bytes. IsFurther s bytes (record { reason = BadLine t.number; names = [] })) a b s t = record {
       bytes = p.bytes;
       took = p.took;
-      can = λ rest. can_come s (p.bytes ++ rest) p.open_yet;
+      can = λ rest can. can_come s (p.bytes ++ rest) p.open_yet;
       told = λ rest can. (ap alone (p.first rest can), refl);
       within = within;
       ended = ended;

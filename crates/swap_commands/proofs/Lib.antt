@@ -2,6 +2,7 @@ pub mod Replays
 pub mod Reports
 pub mod Raced
 pub mod Promises
+pub mod ManyPromises
 pub mod Ahead
 pub mod Streams
 pub mod Reading
@@ -9,3 +10,6 @@ pub mod Saying
 pub mod Acting
 pub mod Audits
 pub mod Clearings
+pub mod ManyWorlds
+pub mod ManyTold
+pub mod ManySaying

@@ -166,7 +166,7 @@ module _ (has : List ℕ → Bool) where
   against_empty command left left' now p within ended = record {
     bytes = p.bytes;
     took = p.took;
-    can = λ rest. not_over_yet (p.bytes ++ rest);
+    can = λ rest can. not_over_yet (p.bytes ++ rest);
     told = λ rest can.
         let e : filled_lines 1 (lines_of (p.bytes ++ rest)) ≡ [] = ap (λ (xs : List ℕ). filled_lines 1 (lines_of (p.bytes ++ xs))) (can p.met)
         ∙ ap (λ (xs : List ℕ). filled_lines 1 (lines_of xs)) (append-nil p.bytes) ∙ p.none in
@@ -186,7 +186,7 @@ module _ (has : List ℕ → Bool) where
       record {
         bytes = p.bytes;
         took = p.took;
-        can = λ rest. not_over_yet (p.bytes ++ rest);
+        can = λ rest can. not_over_yet (p.bytes ++ rest);
         told = λ rest can.
             let e = p.first rest can in (
               by_lines no_chance command (p.bytes ++ rest) ((now.number, now.text) ∷ ahead now rest) e
@@ -235,11 +235,11 @@ module _ (has : List ℕ → Bool) where
     against_event says names called (Refused reason) n m k p le s = record {
       bytes = p.bytes ++ s.bytes;
       took = took_on left left' left'' fresh.reading mid.reading now.reading p.bytes s.bytes p.took s.took;
-      can = λ rest. not_over_yet ((p.bytes ++ s.bytes) ++ rest);
+      can = λ rest can. not_over_yet ((p.bytes ++ s.bytes) ++ rest);
       told = λ rest can.
           let bytes : List ℕ = (p.bytes ++ s.bytes) ++ rest in
           let e : filled_lines 1 (lines_of bytes) ≡ (mid.number, mid.text) ∷ ahead mid (s.bytes ++ rest) =
-          ap (λ (xs : List ℕ). filled_lines 1 (lines_of xs)) (append_assoc p.bytes s.bytes rest) ∙ p.first (s.bytes ++ rest) (s.can rest) in (
+          ap (λ (xs : List ℕ). filled_lines 1 (lines_of xs)) (append_assoc p.bytes s.bytes rest) ∙ p.first (s.bytes ++ rest) (s.can rest can) in (
             by_lines no_chance command bytes ((mid.number, mid.text) ∷ ahead mid (s.bytes ++ rest)) e
                 ∙ says (ahead mid (s.bytes ++ rest)) reason (s.told rest can),
             called ∙ sym (names_by command bytes ((mid.number, mid.text) ∷ ahead mid (s.bytes ++ rest)) e),

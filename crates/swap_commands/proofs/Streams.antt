@@ -1,6 +1,6 @@
 -- A reading steps along the lines of its input.
 use Rattle.std.proofs.Common.{◌≡◌, ◌≤◌, ◌+◌, ℕ, Bool, true, false, List, [], ◌∷◌, ◌++◌, Result, Ok, Err, Option, refl, sym, ap, ◌∙◌, subst}
-use Rattle.std.proofs.Common.{append_assoc}
+use Rattle.std.proofs.Common.{append_assoc, append-nil}
 use Rattle.swap_base.specs.Fault.{◌>>=◌, Fails as Fails_by}
 use Rattle.swap_base.specs.declared.fault.Fault.{Fault}
 use Rattle.swap_base.specs.declared.fault.Fault.TheVariants as offer
@@ -10,7 +10,6 @@ use Rattle.swap_io.proofs.Feeds.{took_none, took_on}
 use Rattle.swap_io.proofs.Handing.{rose_before}
 use Rattle.swap_io.specs.declared.fault.LineFault.{LineFault}
 use Rattle.swap_io.specs.declared.fault.LineFault.TheVariants as line
-use Rattle.refusals.specs.declared.reason.Reason.{Reason}
 use Rattle.swap_commands.specs.declared.fault.InputFault.{InputFault}
 use Rattle.swap_commands.specs.declared.fault.InputFault.TheVariants.{Refused, ReadFault, TooLong}
 use Rattle.swap_commands.specs.Faults.{of_line, of_offer}
@@ -29,12 +28,15 @@ line_stops P a b c n m k r s t line.ReadFault p le q = rose_before n m k le q
 line_stops P a b c n m k r s t line.TooLong p le q = too_long_on a b c r s t p q
 line_stops P a b c n m k r s t line.NoMemory p le q = tt
 
--- what a walk makes of the next line, and then of those after it
-abbrev pub IsStep : {A : Type 0} → (ℕ → A → List (ℕ × List ℕ) → Result A Reason) → (ℕ → A → ℕ → List ℕ → Result A Reason) → Type 0
-IsStep {A = A} walk next = (n : ℕ) (y : A) (number : ℕ) (text : List ℕ) (rest : List (ℕ × List ℕ))
+-- what a walk that has come to y makes of the next line, where so many came before, and then of those after it
+abbrev pub IsStepAt : {A R E : Type 0} → (ℕ → A → List (ℕ × List ℕ) → Result R E) → (ℕ → A → ℕ → List ℕ → Result A E) → ℕ → A → Type 0
+IsStepAt walk next n y = (number : ℕ) (text : List ℕ) (rest : List (ℕ × List ℕ))
     → walk n y ((number, text) ∷ rest) ≡ next n y number text >>= λ z. walk (n + 1) z rest
 
-module _ {A : Type 0} (walk : ℕ → A → List (ℕ × List ℕ) → Result A Reason) (left : Option (List ℕ)) (first : At) (x : A) where
+abbrev pub IsStep : {A R E : Type 0} → (ℕ → A → List (ℕ × List ℕ) → Result R E) → (ℕ → A → ℕ → List ℕ → Result A E) → Type 0
+IsStep {A = A} walk next = (n : ℕ) (y : A) → IsStepAt walk next n y
+
+module _ {A R E : Type 0} (walk : ℕ → A → List (ℕ × List ℕ) → Result R E) (left : Option (List ℕ)) (first : At) (x : A) where
   -- What was read so far leads to y, whatever comes after it.
   pub record Led (left' : Option (List ℕ)) (now : At) (count : ℕ) (y : A) : Type 0 where
     pub bytes : List ℕ
@@ -58,41 +60,71 @@ module _ {A : Type 0} (walk : ℕ → A → List (ℕ × List ℕ) → Result A 
   not_over a b s t count y p q over = absurd (cc (sym q.open_yet ∙ p.stays over))
 
   -- the lines ahead were the next one and those ahead of it
-  stepped : (next : ℕ → A → ℕ → List ℕ → Result A Reason) → IsStep walk next → (a b : Option (List ℕ)) (s t : At) (count : ℕ) (y : A) (p : Led a s count y)
-      (q : IsLine a b s t) (rest : List ℕ) → CanCome t rest
+  stepped : (next : ℕ → A → ℕ → List ℕ → Result A E) (a b : Option (List ℕ)) (s t : At) (count : ℕ) (y : A) → IsStepAt walk next count y
+      → (p : Led a s count y) (q : IsLine a b s t) (rest : List ℕ) → CanCome t rest
       → walk 0 x (ahead first ((p.bytes ++ q.bytes) ++ rest)) ≡ next count y t.number t.text >>= λ z. walk (count + 1) z (ahead t rest)
-  stepped next one a b s t count y p q rest can =
+  stepped next a b s t count y one p q rest can =
       ap (λ (xs : List ℕ). walk 0 x (ahead first xs)) (append_assoc p.bytes q.bytes rest)
       ∙ p.leads (q.bytes ++ rest) (can_come s (q.bytes ++ rest) q.open_yet)
       ∙ ap (walk count y) (q.first rest can)
-      ∙ one count y t.number t.text (ahead t rest)
+      ∙ one t.number t.text (ahead t rest)
 
-  pub led_on : (next : ℕ → A → ℕ → List ℕ → Result A Reason) → IsStep walk next → (a b : Option (List ℕ)) (s t : At) (count : ℕ) (y z : A) → Led a s count y
-      → IsLine a b s t → next count y t.number t.text ≡ Ok z → Led b t (count + 1) z
-  led_on next one a b s t count y z p q e = record {
+  pub led_on_at : (next : ℕ → A → ℕ → List ℕ → Result A E) (a b : Option (List ℕ)) (s t : At) (count : ℕ) (y z : A) → IsStepAt walk next count y
+      → Led a s count y → IsLine a b s t → next count y t.number t.text ≡ Ok z → Led b t (count + 1) z
+  led_on_at next a b s t count y z one p q e = record {
     bytes = p.bytes ++ q.bytes;
     took = took_on left a b first.reading s.reading t.reading p.bytes q.bytes p.took q.took;
     can = λ over. absurd (not_over a b s t count y p q over);
     stays = λ over. absurd (not_over a b s t count y p q over);
-    leads = λ rest can. stepped next one a b s t count y p q rest can ∙ ap (λ (r : Result A Reason). r >>= λ z. walk (count + 1) z (ahead t rest)) e;
+    leads = λ rest can. stepped next a b s t count y one p q rest can ∙ ap (λ (r : Result A E). r >>= λ z. walk (count + 1) z (ahead t rest)) e;
   }
 
-  led_to_reason : (next : ℕ → A → ℕ → List ℕ → Result A Reason) → IsStep walk next → (a b : Option (List ℕ)) (s t : At) (count : ℕ) (y : A) (reason : Reason)
+  pub led_on : (next : ℕ → A → ℕ → List ℕ → Result A E) → IsStep walk next → (a b : Option (List ℕ)) (s t : At) (count : ℕ) (y z : A) → Led a s count y
+      → IsLine a b s t → next count y t.number t.text ≡ Ok z → Led b t (count + 1) z
+  led_on next one a b s t count y z p q e = led_on_at next a b s t count y z (one count y) p q e
+
+  led_to_reason : (next : ℕ → A → ℕ → List ℕ → Result A E) (a b : Option (List ℕ)) (s t : At) (count : ℕ) (y : A) (reason : E) → IsStepAt walk next count y
       → Led a s count y → IsLine a b s t → next count y t.number t.text ≡ Err reason → t.reading.taken ≤ limit → EndsAt b t
       → Tells (λ bytes. walk 0 x (ahead first bytes) ≡ Err reason) left b first t
-  led_to_reason next one a b s t count y reason p q e within ended = record {
+  led_to_reason next a b s t count y reason one p q e within ended = record {
     bytes = p.bytes ++ q.bytes;
     took = took_on left a b first.reading s.reading t.reading p.bytes q.bytes p.took q.took;
-    can = λ rest over. absurd (not_over a b s t count y p q over);
+    can = λ rest can over. absurd (not_over a b s t count y p q over);
     told = λ rest can.
-        stepped next one a b s t count y p q rest can ∙ ap (λ (r : Result A Reason). r >>= λ z. walk (count + 1) z (ahead t rest)) e;
+        stepped next a b s t count y one p q rest can ∙ ap (λ (r : Result A E). r >>= λ z. walk (count + 1) z (ahead t rest)) e;
     within = within;
     ended = ended;
   }
 
-  pub led_to_end : ((n : ℕ) (y : A) → walk n y [] ≡ Ok y) → (a b : Option (List ℕ)) (s t : At) (count : ℕ) (y : A) → Led a s count y → IsLast a b s t
-      → t.reading.taken ≤ limit → EndsAt b t → Ends (λ bytes. walk 0 x (ahead first bytes) ≡ Ok y) left b first t
-  led_to_end none a b s t count y p q within ended = record {
+  -- no line is ahead, whatever may still come
+  at_last : (a b : Option (List ℕ)) (s t : At) (count : ℕ) (y : A) (p : Led a s count y) (q : IsLast a b s t) (rest : List ℕ) → CanCome t rest
+      → walk 0 x (ahead first ((p.bytes ++ q.bytes) ++ rest)) ≡ walk count y []
+  at_last a b s t count y p q rest can =
+      ap (λ (xs : List ℕ). walk 0 x (ahead first ((p.bytes ++ q.bytes) ++ xs))) (can q.met)
+      ∙ ap (λ (xs : List ℕ). walk 0 x (ahead first xs)) (append-nil (p.bytes ++ q.bytes)) ∙ p.leads q.bytes q.can ∙ ap (walk count y) q.none
+
+  -- nothing may still come before what was read either
+  last_can : (a b : Option (List ℕ)) (s t : At) (count : ℕ) (y : A) (p : Led a s count y) (q : IsLast a b s t) (rest : List ℕ) → CanCome t rest
+      → CanCome first ((p.bytes ++ q.bytes) ++ rest)
+  last_can a b s t count y p q rest can = λ over.
+      ap (λ (xs : List ℕ). (p.bytes ++ q.bytes) ++ xs) (can q.met) ∙ append-nil (p.bytes ++ q.bytes)
+      ∙ ap (λ (xs : List ℕ). xs ++ q.bytes) (p.can over) ∙ q.can (p.stays over)
+
+  -- what is said of an input that ends here
+  pub led_to_last : (P : Result R E → Type 0) (a b : Option (List ℕ)) (s t : At) (count : ℕ) (y : A) → P (walk count y []) → Led a s count y → IsLast a b s t
+      → t.reading.taken ≤ limit → EndsAt b t → Tells (λ bytes. P (walk 0 x (ahead first bytes))) left b first t
+  led_to_last P a b s t count y says p q within ended = record {
+    bytes = p.bytes ++ q.bytes;
+    took = took_on left a b first.reading s.reading t.reading p.bytes q.bytes p.took q.took;
+    can = last_can a b s t count y p q;
+    told = λ rest can. subst P (sym (at_last a b s t count y p q rest can)) says;
+    within = within;
+    ended = ended;
+  }
+
+  pub led_to_end : (out : A → R) → ((n : ℕ) (y : A) → walk n y [] ≡ Ok (out y)) → (a b : Option (List ℕ)) (s t : At) (count : ℕ) (y : A) → Led a s count y
+      → IsLast a b s t → t.reading.taken ≤ limit → EndsAt b t → Ends (λ bytes. walk 0 x (ahead first bytes) ≡ Ok (out y)) left b first t
+  led_to_end out none a b s t count y p q within ended = record {
     bytes = p.bytes ++ q.bytes;
     took = took_on left a b first.reading s.reading t.reading p.bytes q.bytes p.took q.took;
     can = λ over. ap (λ (xs : List ℕ). xs ++ q.bytes) (p.can over) ∙ q.can (p.stays over);
@@ -105,12 +137,18 @@ module _ {A : Type 0} (walk : ℕ → A → List (ℕ × List ℕ) → Result A 
   some_led a s count y p = (p.bytes, p.took)
 
   -- a fault of the next line
-  pub led_to_fault : (next : ℕ → A → ℕ → List ℕ → Result A Reason) → IsStep walk next → (a b : Option (List ℕ)) (s t : At) (count : ℕ) (y : A) (n k : ℕ)
-      (fault : Fault Reason) → Led a s count y → IsLine a b s t → Fails_by fault (next count y t.number t.text) → t.reading.taken ≤ limit → EndsAt b t
+  pub led_to_fault_at : (next : ℕ → A → ℕ → List ℕ → Result A E) (a b : Option (List ℕ)) (s t : At) (count : ℕ) (y : A) (n k : ℕ) (fault : Fault E)
+      → IsStepAt walk next count y → Led a s count y → IsLine a b s t → Fails_by fault (next count y t.number t.text) → t.reading.taken ≤ limit → EndsAt b t
       → Stops (λ bytes reason. walk 0 x (ahead first bytes) ≡ Err reason) left b n k first t (of_offer fault)
-  led_to_fault next one a b s t count y n k offer.NoMemory p q fails within ended = tt
-  led_to_fault next one a b s t count y n k (offer.Refused reason) p q fails within ended =
-      led_to_reason next one a b s t count y reason p q fails within ended
+  led_to_fault_at next a b s t count y n k offer.NoMemory one p q fails within ended = tt
+  led_to_fault_at next a b s t count y n k (offer.Refused reason) one p q fails within ended =
+      led_to_reason next a b s t count y reason one p q fails within ended
+
+  pub led_to_fault : (next : ℕ → A → ℕ → List ℕ → Result A E) → IsStep walk next → (a b : Option (List ℕ)) (s t : At) (count : ℕ) (y : A) (n k : ℕ)
+      (fault : Fault E) → Led a s count y → IsLine a b s t → Fails_by fault (next count y t.number t.text) → t.reading.taken ≤ limit → EndsAt b t
+      → Stops (λ bytes reason. walk 0 x (ahead first bytes) ≡ Err reason) left b n k first t (of_offer fault)
+  led_to_fault next one a b s t count y n k fault p q fails within ended =
+      led_to_fault_at next a b s t count y n k fault (one count y) p q fails within ended
 
 -- What a call of `read_line` and of `next` gives, by its answer.
 

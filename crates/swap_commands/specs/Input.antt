@@ -93,7 +93,7 @@ Gives false left left' old new = IsLast left left' old new
 pub record Tells (P : List ℕ → Type 0) (left left' : Option (List ℕ)) (old new : At) : Type 0 where
   pub bytes : List ℕ
   pub took : Took left left' old.reading new.reading bytes
-  pub can : (rest : List ℕ) → CanCome old (bytes ++ rest)
+  pub can : (rest : List ℕ) → CanCome new rest → CanCome old (bytes ++ rest)
   pub told : (rest : List ℕ) → CanCome new rest → P (bytes ++ rest)
   pub within : new.reading.taken ≤ limit
   pub ended : EndsAt left' new

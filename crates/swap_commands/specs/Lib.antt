@@ -1,10 +1,12 @@
 pub mod Words
+pub mod Many
 pub mod Output
 pub mod Cleared
 pub mod Promised
 pub mod Faults
 pub mod Input
 pub mod Replay
+pub mod ManyRead
 pub mod Says
 pub mod Entered
 pub mod Generated

@@ -30,7 +30,8 @@ use Rattle.swap_run.specs.Fair.{finish}
 use Rattle.swap_world.specs.Cast.{cast_of}
 use Rattle.swap_world.specs.Gone.{Gives}
 use Rattle.swap_commands.specs.declared.words.Command.{Command}
-use Rattle.swap_commands.specs.declared.words.Command.TheVariants.{OfJob, Audit, Clear}
+use Rattle.swap_commands.specs.declared.words.Command.TheVariants.{OfJob, Audit, Clear, Many}
+use Rattle.swap_commands.specs.Many.{many_output}
 use Rattle.swap_commands.specs.declared.words.JobCommand.{JobCommand}
 use Rattle.swap_commands.specs.declared.words.JobCommand.TheVariants.{Check, Run, Race, Make}
 
@@ -93,18 +94,23 @@ purpose_of (Race ticks transcript) = purposes.Race
 purpose_of Check = purposes.Check
 purpose_of Make = purposes.Make
 
--- What an input doesn't decide: what strategies answer in a run, and the book that a race comes to.
+-- What an input doesn't decide: what strategies answer in a run, the book that a race comes to, and what the strategies of each of several swaps answer.
 pub record Chance : Type 0 where
   pub answers : Answers
   pub book : Histories
+  pub many : ℕ → Answers
 
 -- strategies answer a, and nothing is raced
 abbrev pub by_answers : Answers → Chance
-by_answers a = record { answers = a; book = [] }
+by_answers a = record { answers = a; book = []; many = λ s k. None }
 
 -- a race comes to the book, and no strategy is asked in a run
 abbrev pub by_book : Histories → Chance
-by_book b = record { answers = λ k. None; book = b }
+by_book b = record { answers = λ k. None; book = b; many = λ s k. None }
+
+-- the strategies of swap s answer g s, and nothing else is run
+abbrev pub by_many : (ℕ → Answers) → Chance
+by_many g = record { answers = λ k. None; book = []; many = g }
 
 -- what a command writes for a job and its events, which are those of these lines
 abbrev pub output_for : Chance → JobCommand → List (ℕ × List ℕ) → Result (Job × List Event) Reason → Result Written Reason
@@ -141,6 +147,7 @@ unfoldable pub output_by : (List ℕ → Bool) → Chance → Command → List �
 output_by has chance (OfJob command) input = output_for chance command (filled_lines 1 (lines_of input)) (job_of has (purpose_of command) input)
 output_by has chance Audit input = by_reason (audit_of input)
 output_by has chance Clear input = clear_output input
+output_by has chance Many input = by_reason (many_output has chance.many input)
 
 -- strategies that never call, and a race without a ledger
 abbrev pub no_chance : Chance
@@ -150,9 +157,10 @@ no_chance = by_answers (λ k. None)
 abbrev pub output_of : (List ℕ → Bool) → Command → List ℕ → Result Written Reason
 output_of has command input = output_by has no_chance command input
 
--- the names that the reason may speak of: those in the input's header, none where it has no header within its limits; of an audit those of the refusal;
--- none of wishes, since no reason against them speaks of a party by its number
+-- the names that the reason may speak of: those in the input's header, none where it has no header within its limits; of an audit and of several swaps those
+-- of the refusal; none of wishes, since no reason against them speaks of a party by its number
 unfoldable pub names_of : (List ℕ → Bool) → Command → List ℕ → List (List ℕ)
 names_of has (OfJob command) input = names_of_offer has (purpose_of command) input
 names_of has Audit input = names_told (audit_of input)
 names_of has Clear input = []
+names_of has Many input = names_told (many_output has (λ s k. None) input)

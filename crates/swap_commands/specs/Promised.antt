@@ -1,5 +1,5 @@
 -- What the program promises of the very histories that a report shows.
-use Rattle.std.specs.Prelude.{◌≡◌, ◌≤◌, ◌*◌, ℕ, Bool, List, [], Result, Ok}
+use Rattle.std.specs.Prelude.{◌≡◌, ◌<◌, ◌≤◌, ◌*◌, ℕ, Bool, List, [], length, Result, Ok}
 use Rattle.swap_base.specs.Lists.{IsIn}
 use Rattle.ledger_core.specs.Book.{Histories}
 use Rattle.deviator_script.specs.declared.event.Event.{Event}
@@ -22,12 +22,25 @@ use Rattle.audit_command.specs.Output.{Written}
 use Rattle.audit_command.specs.Promised.{IsAudit}
 use Rattle.refusals.specs.declared.reason.Reason.{Reason}
 use Rattle.swap_offer.specs.Job.{job_of}
+use Rattle.swap_offer.specs.Lines.{lines_of, filled_lines}
+use Rattle.swap_many.specs.Chains.{Setup}
+use Rattle.swap_many.specs.Many.{Run as ManyRun}
+use Rattle.swap_many.specs.Kept.{Kept}
+use Rattle.swap_many.specs.Laws.{Follows}
+use Rattle.swap_many.specs.Value.{UnitsArePlacedIn}
+use Rattle.swap_many.specs.declared.many_event.ManyEvent.{ManyEvent}
+use Rattle.swap_many.specs.declared.place.Place.{Place}
+use Rattle.many_lines.specs.Places.{job_at}
+use Rattle.many_lines.specs.Setup.{setup_by}
+use Rattle.many_lines.specs.declared.many_job.ManyJob.{ManyJob}
+use Rattle.many_text.specs.ManyText.{book_in, report_in}
 use Rattle.party_threads.specs.Race.{IsRaceBook}
 use Rattle.swap_commands.specs.Cleared.{IsClearing}
+use Rattle.swap_commands.specs.Many.{Headed, events_told, headed, many_state, many_written, opened, run_to}
 use Rattle.swap_commands.specs.Output.{AreGiven, Chance, book_of, state_of, purpose_of, report_for, reported, told}
 use Rattle.made_jobs.specs.Making.{IsMade}
 use Rattle.swap_commands.specs.declared.words.Command.{Command}
-use Rattle.swap_commands.specs.declared.words.Command.TheVariants.{OfJob, Audit, Clear}
+use Rattle.swap_commands.specs.declared.words.Command.TheVariants.{OfJob, Audit, Clear, Many}
 use Rattle.swap_commands.specs.declared.words.JobCommand.{JobCommand}
 use Rattle.swap_commands.specs.declared.words.JobCommand.TheVariants.{Check, Run, Race, Make}
 
@@ -87,6 +100,33 @@ pub record IsMaking (read : Result (Job × List Event) Reason) (output : Written
   pub is_read : read ≡ Ok (job, [])
   pub made : IsMade job
 
+-- What several swaps on the chains m promise: r is their run by the histories of the chains, and what z holds is shown.
+pub record AreManyPromised (many : ManyJob) (m : Setup) (r : ManyRun) (z : Kept) : Type 0 where
+  -- the books, the heights, the free accounts and the swept slots are those of the histories
+  pub follows : Follows m r z
+  -- each swap promises what a run of it alone does
+  pub swaps : (s : ℕ) → s < length many.jobs → IsPromised (job_at many.jobs s) (book_in z s) (report_in z s (job_at many.jobs s))
+  -- on each chain all units are in one place
+  pub units : UnitsArePlacedIn m r
+
+-- A run of several swaps that wrote its output, where the strategies of swap s answered g s: the swaps, their events and places, as they were read, and what
+-- they promise.
+pub record IsManyRun (has : List ℕ → Bool) (gives : Gives) (g : ℕ → Answers) (input : List ℕ) (output : Written) : Type 0 where
+  pub head : Headed
+  pub events : List ManyEvent
+  pub places : List (List Place)
+  pub is_headed : headed has (filled_lines 1 (lines_of input)) ≡ Ok head
+  pub are_told : events_told head.many 0 head.lines ≡ Ok events
+  pub are_placed : opened head.many ≡ Ok places
+  -- each answer is one that its strategy may give to what it was asked
+  pub given : (s : ℕ) → AreGiven gives (job_at head.many.jobs s).deal (g s) ((many_state g head.many places head.finish events).swaps s).asked
+  pub shown : output ≡ many_written head.many (many_state g head.many places head.finish events)
+  pub promised : AreManyPromised head.many (setup_by g head.many places) (run_to head.finish (setup_by g head.many places) events)
+      (many_state g head.many places head.finish events)
+  -- a fair finish ends every ledger of every swap
+  pub ended : head.finish ≡ Fair → (s : ℕ) → s < length head.many.jobs
+      → IsEnded (job_at head.many.jobs s).deal (book_in (many_state g head.many places head.finish events) s)
+
 -- what the output of a command promises, by what was read of a job
 abbrev pub AsRead : Gives → Chance → JobCommand → Result (Job × List Event) Reason → Written → Type 0
 AsRead gives chance (Run transcript) read output = IsRun gives chance.answers transcript read output
@@ -99,3 +139,4 @@ abbrev pub AsPromised : (List ℕ → Bool) → Gives → Chance → Command →
 AsPromised has gives chance (OfJob command) input output = AsRead gives chance command (job_of has (purpose_of command) input) output
 AsPromised has gives chance Audit input output = IsAudit input output
 AsPromised has gives chance Clear input output = IsClearing input output
+AsPromised has gives chance Many input output = IsManyRun has gives chance.many input output

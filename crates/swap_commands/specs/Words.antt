@@ -4,7 +4,7 @@ use Rattle.program_words.specs.Words.{command_of as asked_of}
 use Rattle.program_words.specs.declared.command.Command.{Command as Asked}
 use Rattle.program_words.specs.declared.command.Command.TheVariants as asked
 use Rattle.swap_commands.specs.declared.words.Command.{Command}
-use Rattle.swap_commands.specs.declared.words.Command.TheVariants.{OfJob, Audit, Clear}
+use Rattle.swap_commands.specs.declared.words.Command.TheVariants.{OfJob, Audit, Clear, Many}
 use Rattle.swap_commands.specs.declared.words.JobCommand.TheVariants.{Check, Run, Race, Make}
 use Rattle.swap_commands.specs.declared.words.Request.{Request}
 use Rattle.swap_commands.specs.declared.words.Task.{Task}
@@ -17,6 +17,7 @@ asked_task (asked.Run transcript) = Input (OfJob (Run transcript))
 asked_task (asked.Race ticks transcript) = Input (OfJob (Race ticks transcript))
 asked_task asked.Audit = Input Audit
 asked_task asked.Clear = Input Clear
+asked_task asked.Many = Input Many
 asked_task asked.Make = Input (OfJob Make)
 asked_task (asked.Gen seed parties events summary) = Number (record { seed = seed; parties = parties; events = events; summary = summary })
 

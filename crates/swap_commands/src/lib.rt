@@ -1,7 +1,7 @@
 //! What the program does for each command, over a source and a sink.
 //!
-//! Read `specs/Output.antt` first: what is written for an input; then `specs/Promised.antt`: what is promised of the histories that a report
-//! shows; then `specs/Says.antt`: what each status says of a command.
+//! Read `specs/Output.antt` first: what is written for an input (of several swaps, `specs/Many.antt`); then `specs/Promised.antt`: what is promised of the
+//! histories that a report shows; then `specs/Says.antt`: what each status says of a command.
 //! A job is read line by line (`specs/Input.antt`), and each command has a file of its own, whose function says `Says`.
 #![tactic(auto)]
 
@@ -14,6 +14,7 @@ mod generating;
 mod header;
 mod input;
 mod make;
+mod many;
 mod racing;
 mod replay;
 mod run;

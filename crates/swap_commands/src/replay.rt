@@ -27,6 +27,7 @@ use swap_base::{Fault, NoMemory};
 use swap_io::Source;
 use swap_offer::next_event;
 use swap_world::World;
+
 /// Steps the world by the event of a line, where so many events came before.
 #[tactic(auto, unfolding(crate::specs::Replay::next_by))]
 fn step_line<T: Strategies>(
@@ -57,7 +58,11 @@ fn step_line<T: Strategies>(
 }
 
 /// The world of a job whose conforming parties have their wallets.
-fn new_world(alloc: Global, job: &Job, wallets: Vec<Option<Wallet>>) -> Result<World, NoMemory>
+pub(crate) fn new_world(
+    alloc: Global,
+    job: &Job,
+    wallets: Vec<Option<Wallet>>,
+) -> Result<World, NoMemory>
     requires whole { IsWhole job.now }
     requires accepted { IsAccepted job.now.deal }
     requires wallets { HaveWallets job.now }

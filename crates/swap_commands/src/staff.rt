@@ -11,6 +11,7 @@ use crate::check::check;
 use crate::clear::clear;
 use crate::input::Input;
 use crate::make::make;
+use crate::many::many;
 use crate::racing::enter;
 use crate::run::run;
 use crate::status::Status;
@@ -103,6 +104,7 @@ impl Staff for Kit {
             Command::OfJob(command) => read_job(alloc, self, command, source, sink),
             Command::Audit => Obeyed::Ended(audit(alloc, self, source, sink)),
             Command::Clear => Obeyed::Ended(clear(alloc, self, source, sink)),
+            Command::Many => Obeyed::Ended(many(alloc, self, source, sink)),
         }
     }
 }

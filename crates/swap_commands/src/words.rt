@@ -21,12 +21,13 @@ pub enum JobCommand {
     Make,
 }
 
-/// A command that reads an input: a job, a transcript, or wishes.
+/// A command that reads an input: a job, a transcript, wishes, or several swaps.
 #[derive(Clone, Copy, Debug, PartialEq, Eq)]
 pub enum Command {
     OfJob(JobCommand),
     Audit,
     Clear,
+    Many,
 }
 
 /// The job of a number: it is written with so many events, or run and its summary written.
@@ -57,6 +58,7 @@ fn asked_task(asked: Asked) -> Task
         }
         Asked::Audit => Task::Input(Command::Audit),
         Asked::Clear => Task::Input(Command::Clear),
+        Asked::Many => Task::Input(Command::Many),
         Asked::Make => Task::Input(Command::OfJob(JobCommand::Make)),
         Asked::Gen {
             seed,

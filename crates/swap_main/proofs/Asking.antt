@@ -33,6 +33,7 @@ task_within asked.Audit w = tt
 task_within asked.Make w = tt
 task_within (asked.Gen seed parties events summary) w = (w.0, w.1)
 task_within asked.Clear w = tt
+task_within asked.Many w = tt
 
 -- the numbers of the words' task are within their ranges
 pub is_within : (words : List (List ℕ)) (task : Task) → task_of words ≡ Some task → IsWithin task

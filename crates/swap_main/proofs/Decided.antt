@@ -31,8 +31,9 @@ use Rattle.swap_offer.specs.Lines.{lines_of, filled_lines}
 use Rattle.audit_command.specs.Output.{Written}
 use Rattle.swap_main.specs.Laws.{SameWithoutStrategies, RulesDecide}
 use Rattle.swap_main.specs.Staff.{by_rule}
+use Rattle.swap_main.proofs.ManyTexts.{one_text}
 use Rattle.swap_commands.specs.Output.{AreGiven, Chance, cast_by, finished, output_by, output_for, reported, state_of}
-use Rattle.swap_commands.specs.declared.words.Command.TheVariants.{OfJob, Audit, Clear}
+use Rattle.swap_commands.specs.declared.words.Command.TheVariants.{OfJob, Audit, Clear, Many}
 use Rattle.swap_commands.specs.declared.words.JobCommand.TheVariants.{Check, Run, Race, Make}
 
 -- What is written depends on the state alone.
@@ -189,3 +190,4 @@ rules_decide rule has a b (OfJob Check) input one other plain e p f q = as_one o
 rules_decide rule has a b (OfJob Make) input one other plain e p f q = as_one one other (sym e ∙ f)
 rules_decide rule has a b Audit input one other plain e p f q = as_one one other (sym e ∙ f)
 rules_decide rule has a b Clear input one other plain e p f q = as_one one other (sym e ∙ f)
+rules_decide rule has a b Many input one other plain e p f q = one_text rule a.many b.many has input one other p q

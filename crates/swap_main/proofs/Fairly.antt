@@ -15,12 +15,13 @@ use Rattle.swap_commands.specs.declared.words.Command.{Command}
 use Rattle.swap_run.specs.Asked.{Answers}
 use Rattle.ledger_core.specs.Book.{Histories}
 use Rattle.swap_world.specs.Gone.{Gives}
-use Rattle.swap_commands.specs.declared.words.Command.TheVariants.{OfJob, Audit, Clear}
+use Rattle.swap_commands.specs.declared.words.Command.TheVariants.{OfJob, Audit, Clear, Many}
 use Rattle.swap_commands.specs.declared.words.JobCommand.TheVariants.{Check, Run, Race, Make}
 use Rattle.swap_commands.specs.Words.{command_of}
 use Rattle.swap_offer.specs.Lines.{lines_of, filled_lines}
 use Rattle.swap_commands.specs.Output.{Chance, book_of, no_chance, output_by, output_for, output_of, report_for, reported}
 use Rattle.swap_commands.specs.Promised.{AsPromised, IsRace, IsRun}
+use Rattle.swap_commands.proofs.ManySaying.{many_fails_by}
 use Rattle.swap_main.specs.Top.{AsksFairRace, AsksFairRun}
 
 module _ (has : List ℕ → Bool) where
@@ -139,3 +140,4 @@ module _ (has : List ℕ → Bool) where
   fails_by a (OfJob Make) input reason e = e
   fails_by a Audit input reason e = e
   fails_by a Clear input reason e = e
+  fails_by a Many input reason e = many_fails_by has a.many input reason e

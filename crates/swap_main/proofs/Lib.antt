@@ -1,3 +1,5 @@
+pub mod ManyDecided
+pub mod ManyTexts
 pub mod Decided
 pub mod Fairly
 pub mod Ends

@@ -7,16 +7,15 @@ use Rattle.swap_digraph.specs.declared.deal.Deal.{Deal}
 use Rattle.ledger_core.specs.declared.entry.Call.{Call}
 use Rattle.ledger_core.specs.Book.{Histories}
 use Rattle.deviator_script.specs.Names.{under}
-use Rattle.deviator_script.specs.declared.job.Role.{Role}
-use Rattle.deviator_script.specs.declared.job.Role.TheVariants.{Conforming, Manual, Script, Strategy}
 use Rattle.offer_header.specs.Names.{has_strategy}
 use Rattle.program_kit.specs.Program.{program_names}
-use Rattle.swap_run.specs.Run.{Cast, role_of}
+use Rattle.swap_run.specs.Run.{Cast}
 use Rattle.swap_world.specs.Cast.{cast_of}
 use Rattle.swap_world.specs.Gone.{Gives}
 use Rattle.audit_command.specs.Output.{Written}
-use Rattle.party_threads.specs.Race.{IsRaceBook, rounds_for}
-use Rattle.party_threads.specs.Views.{AreAnswered, PlaysByViews}
+use Rattle.many_lines.specs.Places.{job_at}
+use Rattle.party_threads.specs.Race.{IsRaceBook}
+use Rattle.party_threads.proofs.Others.{races_say_less}
 use Rattle.swap_commands.specs.Output.{Chance}
 use Rattle.swap_commands.specs.Promised.{AsPromised}
 use Rattle.swap_commands.specs.Entered.{Obeys}
@@ -25,7 +24,7 @@ use Rattle.swap_main.specs.Staff.{is_known}
 use Rattle.swap_commands.specs.declared.staff.Obeyed.{Obeyed}
 use Rattle.swap_commands.specs.declared.staff.Obeyed.TheVariants.{Ended, Entered}
 use Rattle.swap_commands.specs.declared.words.Command.{Command}
-use Rattle.swap_commands.specs.declared.words.Command.TheVariants.{OfJob, Audit, Clear}
+use Rattle.swap_commands.specs.declared.words.Command.TheVariants.{OfJob, Audit, Clear, Many}
 use Rattle.swap_commands.specs.declared.words.JobCommand.TheVariants.{Check, Run, Race, Make}
 use Rattle.swap_commands.specs.declared.status.Status.{Status}
 use Rattle.swap_commands.specs.declared.status.Status.TheVariants.{Done, Named, WrongWords, Refused, ReadFault, WriteFault, NoMemory, TooLong}
@@ -49,33 +48,8 @@ has_known {A = A} names xs is paired =
 
 module _ (gives other : Gives)
     (more : (name : List ℕ) (d : Deal) (p t : ℕ) (k : Histories) (o : Option (ℕ × Call)) → gives name d p t k o → other name d p t k o) where
-  answered_more : (c : Cast) (rounds v : ℕ) (views : ℕ → Histories) (answers : ℕ → Option (ℕ × Call)) (role : Role)
-      → AreAnswered gives c rounds v views answers role → AreAnswered other c rounds v views answers role
-  answered_more c rounds v views answers Conforming h = tt
-  answered_more c rounds v views answers Manual h = tt
-  answered_more c rounds v views answers (Script moves) h = h
-  answered_more c rounds v views answers (Strategy name) h = λ r lt. more name c.deal v r (views r) (answers r) (h r lt)
-
-  plays_more : (c : Cast) (ticks rounds : ℕ) (b : Histories) (v : ℕ) → PlaysByViews gives c ticks rounds b v → PlaysByViews other c ticks rounds b v
-  plays_more c ticks rounds b v p = record {
-    views = p.views;
-    answers = p.answers;
-    are = p.are;
-    answered = answered_more c rounds v p.views p.answers (role_of c v) p.answered;
-  }
-
   raced_more : (c : Cast) (ticks : ℕ) (b : Histories) → IsRaceBook gives c ticks b → IsRaceBook other c ticks b
-  raced_more c ticks b r = record {
-    legal = r.legal;
-    ticked = r.ticked;
-    ended = r.ended;
-    conducted = r.conducted;
-    played = λ v lt dev plan. plays_more c ticks (rounds_for c.deal ticks) b v (r.played v lt dev plan);
-    others = r.others;
-    in_time = r.in_time;
-    on_time = r.on_time;
-    dealt = r.dealt;
-  }
+  raced_more c ticks b r = races_say_less gives other c ticks b more r
 
   module _ (has : List ℕ → Bool) where
     promised_more : (a : Chance) (command : Command) (input : List ℕ) (output : Written) → AsPromised has gives a command input output
@@ -103,6 +77,18 @@ module _ (gives other : Gives)
     promised_more a (OfJob Make) input output r = r
     promised_more a Audit input output r = r
     promised_more a Clear input output r = r
+    promised_more a Many input output r = record {
+      head = r.head;
+      events = r.events;
+      places = r.places;
+      is_headed = r.is_headed;
+      are_told = r.are_told;
+      are_placed = r.are_placed;
+      given = λ s i q lt is. more q.strategy (job_at r.head.many.jobs s).deal q.party q.turn q.known (a.many s i) (r.given s i q lt is);
+      shown = r.shown;
+      promised = r.promised;
+      ended = r.ended;
+    }
 
     output_more : (P : Written → Type 0) (command : Command) (left left' : Option (List ℕ)) → HasOutput has gives P command left left'
         → HasOutput has other P command left left'

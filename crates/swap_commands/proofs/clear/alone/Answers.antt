@@ -28,5 +28,5 @@ returns-clause-stops g c =
     let left = g.S.Source.left in
     let faults = g.S.Source.faults in
     further_stops c.in_ok-next.field-0 (left c.args.source.now) (left c.next.new.source) (faults c.args.source.now) (faults c.next.new.source)
-    c.args.input.now c.next.new.self (Refused (record { reason = BadLine c.number.result; names = c.empty.result })) c.if-not-branch.false c.in_ok-next.ensures.gives c.in_ok-next.ensures.within c.in_ok-next.ensures.ended
-    (rw (c.number.ensures, c.empty.ensures) refl)
+    c.args.input.now c.next.new.self (Refused (record { reason = BadLine c.number.result; names = c.empty.result }))
+    c.if-not-branch.false c.in_ok-next.ensures.gives c.in_ok-next.ensures.within c.in_ok-next.ensures.ended (rw (c.number.ensures, c.empty.ensures) refl)

@@ -43,5 +43,5 @@ lines-smaller g c =
 
 pub returns-clause-exact : goal.returns-clause-exact
 returns-clause-exact g c =
-    led_to_end _ _ _ _ copied_none _ _ _ _ _ _ c.lines.invariant.led (last_of _ _ _ _ _ c.if-branch.false c.in_ok-next.ensures.gives)
+    led_to_end _ _ _ _ (λ y. y) copied_none _ _ _ _ _ _ c.lines.invariant.led (last_of _ _ _ _ _ c.if-branch.false c.in_ok-next.ensures.gives)
     c.in_ok-next.ensures.within c.in_ok-next.ensures.ended

@@ -51,5 +51,5 @@ lines-smaller g c =
 
 pub returns-clause-exact : goal.returns-clause-exact
 returns-clause-exact g c =
-    led_to_end _ _ _ _ (none_left passed_over c.args.job.now) _ _ _ _ _ _ c.lines.invariant.led (last_of _ _ _ _ _ c.if-branch.false c.in_ok-next.ensures.gives)
-    c.in_ok-next.ensures.within c.in_ok-next.ensures.ended
+    led_to_end _ _ _ _ (λ y. y) (none_left passed_over c.args.job.now) _ _ _ _ _ _ c.lines.invariant.led
+    (last_of _ _ _ _ _ c.if-branch.false c.in_ok-next.ensures.gives) c.in_ok-next.ensures.within c.in_ok-next.ensures.ended

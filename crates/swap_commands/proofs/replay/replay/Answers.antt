@@ -81,5 +81,5 @@ lines-smaller g c =
 pub returns-clause-exact : goal.returns-clause-exact
 returns-clause-exact g c = λ a x.
     let job = c.args.job.now in
-    led_to_end _ _ _ _ (none_left (step (cast_by a job)) job) _ _ _ _ _ _ (c.lines.invariant.led a x)
+    led_to_end _ _ _ _ (λ y. y) (none_left (step (cast_by a job)) job) _ _ _ _ _ _ (c.lines.invariant.led a x)
     (last_of _ _ _ _ _ c.if-branch.false c.in_ok-next.ensures.gives) c.in_ok-next.ensures.within c.in_ok-next.ensures.ended

@@ -8,3 +8,6 @@ returns-in-Audit g c = rw c.in-Audit.is c.audit.ensures
 
 pub returns-in-Clear : goal.returns-in-Clear
 returns-in-Clear g c = rw c.in-Clear.is c.clear.ensures
+
+pub returns-in-Many : goal.returns-in-Many
+returns-in-Many g c = rw c.in-Many.is c.many.ensures

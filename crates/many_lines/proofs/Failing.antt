@@ -1,0 +1,38 @@
+-- A reader of fields that fails still fails with the line.
+use Rattle.std.proofs.Common.{◌≡◌, ℕ, Bool, List, Result, Ok, refl}
+use Rattle.swap_base.specs.Fault.{Fails}
+use Rattle.swap_base.specs.declared.fault.Fault.{Fault}
+use Rattle.swap_base.specs.declared.fault.Fault.TheVariants.{Refused, NoMemory}
+use Rattle.transcript_lines.specs.declared.said.Misspelling.{Misspelling}
+use Rattle.refusals.specs.declared.reason.Reason.{Reason}
+use Rattle.refusals.specs.declared.refusal.Refusal.{Refusal}
+use Rattle.refusals.specs.Refusal.{named}
+use Rattle.deviator_script.specs.declared.job.Job.{Job}
+use Rattle.deviator_script.specs.declared.job.Purpose.TheVariants.{Run}
+use Rattle.swap_offer.specs.Job.{job_header_of, names_at}
+use Rattle.many_lines.specs.Heading.{by_field, by_fields, IsNamed, swap_job, without_finish}
+
+pub fails : {A : Type 0} (line : ℕ) (fault : Fault Misspelling) (read : Result A Misspelling) → Fails fault read
+    → Fails (by_field line fault) (by_fields line read)
+fails line NoMemory read e = tt
+fails line (Refused reason) read e = rw e refl
+
+-- and with a copy of the names
+pub named_copy : {A : Type 0} (names : List (List ℕ)) (fault : Fault Reason) (given : Fault Refusal) (read : Result A Reason) → IsNamed fault names given
+    → Fails fault read → Fails given (named names read)
+named_copy names fault NoMemory read is e = tt
+named_copy names NoMemory (Refused x) read is e = absurd (cc is)
+named_copy names (Refused reason) (Refused x) read is e = rw e (cc is)
+
+-- a header that states a finish, and one that states none
+pub job_bad : (has : List ℕ → Bool) (line : ℕ) (text : List ℕ) (fault : Fault Refusal) (job : Job)
+    → named (names_at has Run line text) (job_header_of has Run line text) ≡ Ok job → Fails fault (without_finish line text)
+    → Fails fault (swap_job has line text)
+unfolding swap_job
+job_bad has line text NoMemory job read e = tt
+job_bad has line text (Refused reason) job read e = rw (read, e) refl
+
+pub job_good : (has : List ℕ → Bool) (line : ℕ) (text : List ℕ) (job : Job)
+    → named (names_at has Run line text) (job_header_of has Run line text) ≡ Ok job → without_finish line text ≡ Ok tt → swap_job has line text ≡ Ok job
+unfolding swap_job
+job_good has line text job read e = rw (read, e) refl

@@ -1,0 +1,6 @@
+pub mod Failing
+pub mod Swaps
+pub mod Walks
+pub mod Placed
+pub mod Coming
+pub mod Opening

@@ -1,0 +1,75 @@
+-- The event of a line of many swaps.
+use Rattle.std.specs.Prelude.{ℕ, ◌==◌, Bool, false, nat_lt, List, [], ◌∷◌, length, codes}
+use Rattle.std.specs.Prelude.{Result, Ok, Err, if◌then◌else◌}
+use Rattle.swap_base.specs.Fault.{◌>>=◌}
+use Rattle.deviator_script.specs.declared.job.Job.{Job}
+use Rattle.deviator_script.specs.declared.event.Event.{Event}
+use Rattle.deviator_script.specs.declared.event.Event.TheVariants as events
+use Rattle.refusals.specs.declared.reason.Reason.TheVariants.{OverLimit}
+use Rattle.refusals.specs.declared.refusal.Refusal.{Refusal}
+use Rattle.refusals.specs.Refusal.{named, refusal}
+use Rattle.offer_events.specs.Event.{event_of}
+use Rattle.transcript_lines.specs.Between.{parts_at}
+use Rattle.transcript_lines.specs.Reading.{is_word, number_below}
+use Rattle.many_fields.specs.Fields.{payment_of, sweep_of, tick_of}
+use Rattle.swap_many.specs.declared.many_event.ManyEvent.{ManyEvent}
+use Rattle.swap_many.specs.declared.many_event.ManyEvent.TheVariants.{Tick, In, Pay, Sweep}
+use Rattle.many_lines.specs.Heading.{bad, by_fields}
+use Rattle.many_lines.specs.Places.{job_at}
+use Rattle.many_lines.specs.declared.many_job.ManyJob.{ManyJob}
+
+-- up to a line's first space, and after it
+abbrev pub before_space : List ℕ → List ℕ
+before_space [] = []
+before_space (b ∷ bs) = if b == 32 then [] else b ∷ before_space bs
+
+abbrev pub after_space : List ℕ → List ℕ
+after_space [] = []
+after_space (b ∷ bs) = if b == 32 then bs else after_space bs
+
+unfoldable pub tick_told : ManyJob → ℕ → List ℕ → Result ManyEvent Refusal
+tick_told many line rest = do
+  t ← by_fields line (tick_of (length many.names) (parts_at 32 rest))
+  Ok (Tick t.0 t.1)
+
+unfoldable pub payment_told : ManyJob → ℕ → List ℕ → Result ManyEvent Refusal
+payment_told many line rest = do
+  p ← by_fields line (payment_of many.names (parts_at 32 rest))
+  Ok (Pay p.chain p.from p.to p.units)
+
+-- the number is that of a swap, with an arc of that number
+abbrev pub is_slot : List Job → ℕ → ℕ → Bool
+is_slot jobs s a = if nat_lt s (length jobs) then nat_lt a (length (job_at jobs s).deal.graph.arcs) else false
+
+unfoldable pub sweep_told : ManyJob → ℕ → List ℕ → Result ManyEvent Refusal
+sweep_told many line rest = do
+  t ← by_fields line (sweep_of (parts_at 32 rest))
+  if is_slot many.jobs t.0 t.1 then Ok (Sweep t.0 t.1) else bad line
+
+-- an event of a swap is no tick, since chains tick
+abbrev pub untimed : ℕ → ℕ → Event → Result ManyEvent Refusal
+untimed line s (events.Tick a k) = bad line
+untimed line s e = Ok (In s e)
+
+-- an event line of swap s
+unfoldable pub event_in : ℕ → ℕ → Job → List ℕ → Result ManyEvent Refusal
+event_in line s job text = do
+  e ← named job.names (event_of job line text)
+  untimed line s e
+
+-- an event line behind the number of its swap
+unfoldable pub swap_told : ManyJob → ℕ → List ℕ → List ℕ → Result ManyEvent Refusal
+swap_told many line word text =
+    if length text == 0 then bad line else (by_fields line (number_below (length many.jobs) word) >>= λ s. event_in line s (job_at many.jobs s) text)
+
+abbrev pub told_by : ManyJob → ℕ → List ℕ → List ℕ → Result ManyEvent Refusal
+told_by many line word rest =
+    if is_word word (codes "tick") then tick_told many line rest
+    else if is_word word (codes "pay") then payment_told many line rest
+    else if is_word word (codes "sweep") then sweep_told many line rest
+    else swap_told many line word rest
+
+-- the event of a line, where so many event lines came before: what the line says goes by its first field
+unfoldable pub next_told : ManyJob → ℕ → ℕ → List ℕ → Result ManyEvent Refusal
+next_told many count line text =
+    if count == 200000 then Err (refusal [] (OverLimit line (codes "events") 200001)) else told_by many line (before_space text) (after_space text)

@@ -1,0 +1,31 @@
+-- What a reader of the lines before the events keeps.
+use Rattle.std.specs.Prelude.{◌≡◌, ◌≤◌, ◌<◌, ℕ, true, List, is_some, length, map, vec_capacity}
+use Rattle.deviator_script.specs.declared.job.Purpose.TheVariants.{Run}
+use Rattle.swap_offer.specs.Wallets.{wallets_for}
+use Rattle.many_fields.specs.Whole.{AreBelow}
+use Rattle.many_lines.specs.declared.heading.Heading.TheInside.{Inside}
+use Rattle.many_lines.specs.declared.many_job.ManyJob.{ManyJob}
+use Rattle.many_lines.specs.declared.stage.Stage.TheVariants.{Header}
+use Rattle.many_lines.specs.Heading.{HeadingState, finish_told}
+use Rattle.many_lines.specs.Whole.{AreChains, AreSwaps}
+
+abbrev pub many_in : Inside → ManyJob
+many_in h = record { names = h.names.items; units = h.units.items; jobs = h.jobs.items; chains = h.chains.items }
+
+abbrev pub heading_in : Inside → HeadingState
+heading_in h = record { many = many_in h; stage = h.stage }
+
+-- There is room for all chains and swaps, and the wallets are those of the swaps.
+pub record IsReading (h : Inside) : Type 0 where
+  pub names_room : 32 ≤ vec_capacity h.names
+  pub units_room : 32 ≤ vec_capacity h.units
+  pub jobs_room : 8 ≤ vec_capacity h.jobs
+  pub chains_room : 8 ≤ vec_capacity h.chains
+  pub wallets_room : 8 ≤ vec_capacity h.wallets
+  pub chains : AreChains (many_in h)
+  pub swaps : AreSwaps (many_in h)
+  pub next : (before : ℕ) (chains : List ℕ) → h.stage ≡ Header before chains → length h.jobs.items < 8
+  pub below : (before : ℕ) (chains : List ℕ) → h.stage ≡ Header before chains → AreBelow (length h.names.items) chains
+  pub some : is_some (finish_told h.stage) ≡ true → 1 ≤ length h.jobs.items
+  pub each_wallets : length h.wallets.items ≡ length h.jobs.items
+  pub wallets : map (λ v. v.items) h.wallets.items ≡ map (wallets_for Run) h.jobs.items

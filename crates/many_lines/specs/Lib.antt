@@ -1,0 +1,6 @@
+pub mod Heading
+pub mod Inside
+pub mod Places
+pub mod Event
+pub mod Whole
+pub mod Setup

@@ -1,0 +1,17 @@
+//! Swaps on shared chains.
+
+use deviator_script::Job;
+use swap_base::{ByteText, Listed};
+
+/// What is to be done with several swaps on shared chains.
+#[derive(Debug, Drop)]
+pub struct ManyJob {
+    /// For each chain the names of its accounts.
+    pub names: Listed<Listed<ByteText>>,
+    /// And the units that each of them has at first.
+    pub units: Listed<Listed<u64>>,
+    /// The swaps.
+    pub jobs: Listed<Job>,
+    /// For each swap the chain of each of its arcs.
+    pub chains: Listed<Listed<u8>>,
+}

@@ -1,0 +1,141 @@
+//! What the fields of a line say, or that the line has another form.
+
+ghost use Rattle.std.specs.Prelude.{◌<◌, ◌≤◌, [], ℕ, length, slice_index_or, IfOk};
+ghost use Rattle.swap_base.specs.Fault.{Gives};
+ghost use Rattle.transcript_lines.specs.Reading.{first_field, number_below};
+ghost use Rattle.many_fields.specs.Fields.{accounts_of, chains_of, finish_of, payment_of, sweep_of, tick_of};
+ghost use Rattle.many_fields.specs.Whole.{AreBelow, IsChain};
+ghost use Rattle.many_lines.specs.Heading.{by_fields};
+
+use crate::fault::by_field;
+use deviator_script::Finish;
+use many_fields::{
+    ChainAccounts, Payment, read_accounts, read_below, read_chains, read_finish, read_payment,
+    read_sweep, read_tick,
+};
+use refusals::HeaderFault;
+use std::alloc::Global;
+use swap_base::{ByteText, Listed};
+use transcript_fields::Parts;
+
+/// The accounts of a chain.
+#[tactic(auto, using(crate::proofs::Failing::fails))]
+pub(crate) fn accounts_in(
+    alloc: Global,
+    line: u32,
+    fields: &mut Parts<'_>,
+) -> Result<ChainAccounts, HeaderFault>
+    ensures exact { Gives (λ a. a) result (by_fields line (accounts_of fields.old)) }
+    ensures whole { IfOk result (λ a. IsChain a.names a.units) }
+{
+    match read_accounts(alloc, fields) {
+        Ok(accounts) => Ok(accounts),
+        Err(fault) => Err(by_field(alloc, line, fault)),
+    }
+}
+
+/// The chains of a swap's arcs, of which there are so many.
+#[tactic(auto, using(crate::proofs::Failing::fails))]
+pub(crate) fn chains_in(
+    alloc: Global,
+    line: u32,
+    count: usize,
+    fields: &mut Parts<'_>,
+) -> Result<Listed<u8>, HeaderFault>
+    requires { count ≤ 256 }
+    ensures exact { Gives (λ l. l) result (by_fields line (chains_of count fields.old)) }
+    ensures below { IfOk result (λ l. AreBelow count l) }
+{
+    match read_chains(alloc, count, fields) {
+        Ok(chains) => Ok(chains),
+        Err(fault) => Err(by_field(alloc, line, fault)),
+    }
+}
+
+/// The finish.
+#[tactic(auto, using(crate::proofs::Failing::fails))]
+pub(crate) fn finish_in(
+    alloc: Global,
+    line: u32,
+    fields: &mut Parts<'_>,
+) -> Result<Finish, HeaderFault>
+    ensures { Gives (λ f. f) result (by_fields line (finish_of fields.old)) }
+{
+    match read_finish(fields) {
+        Ok(finish) => Ok(finish),
+        Err(fault) => Err(by_field(alloc, line, fault)),
+    }
+}
+
+/// A tick of one of so many chains.
+#[tactic(auto, using(crate::proofs::Failing::fails))]
+pub(crate) fn tick_in(
+    alloc: Global,
+    line: u32,
+    chains: usize,
+    fields: &mut Parts<'_>,
+) -> Result<(u8, u32), HeaderFault>
+    requires { chains ≤ 256 }
+    ensures exact { Gives (λ t. t) result (by_fields line (tick_of chains fields.old)) }
+    ensures chain { IfOk result (λ t. t.0 < chains) }
+    ensures some { IfOk result (λ t. 1 ≤ t.1) }
+    ensures few { IfOk result (λ t. t.1 ≤ 1000000) }
+{
+    match read_tick(chains, fields) {
+        Ok(tick) => Ok(tick),
+        Err(fault) => Err(by_field(alloc, line, fault)),
+    }
+}
+
+/// A payment, by the names of each chain's accounts.
+#[tactic(auto, using(crate::proofs::Failing::fails))]
+pub(crate) fn payment_in(
+    alloc: Global,
+    line: u32,
+    names: &[Listed<ByteText>],
+    fields: &mut Parts<'_>,
+) -> Result<Payment, HeaderFault>
+    requires chains { length names.now ≤ 256 }
+    requires accounts { (i : ℕ) → i < length names.now → length (slice_index_or names.now i []) ≤ 256 }
+    ensures exact { Gives (λ p. p) result (by_fields line (payment_of names.now fields.old)) }
+    ensures chain { IfOk result (λ p. p.chain < length names.now) }
+    ensures from { IfOk result (λ p. p.from < length (slice_index_or names.now p.chain [])) }
+    ensures to { IfOk result (λ p. p.to < length (slice_index_or names.now p.chain [])) }
+{
+    match read_payment(names, fields) {
+        Ok(payment) => Ok(payment),
+        Err(fault) => Err(by_field(alloc, line, fault)),
+    }
+}
+
+/// A sweep.
+#[tactic(auto, using(crate::proofs::Failing::fails))]
+pub(crate) fn sweep_in(
+    alloc: Global,
+    line: u32,
+    fields: &mut Parts<'_>,
+) -> Result<(u8, u8), HeaderFault>
+    ensures { Gives (λ s. s) result (by_fields line (sweep_of fields.old)) }
+{
+    match read_sweep(fields) {
+        Ok(sweep) => Ok(sweep),
+        Err(fault) => Err(by_field(alloc, line, fault)),
+    }
+}
+
+/// The number of a swap, of so many.
+#[tactic(auto, using(crate::proofs::Failing::fails))]
+pub(crate) fn swap_in(
+    alloc: Global,
+    line: u32,
+    swaps: usize,
+    word: &[u8],
+) -> Result<u64, HeaderFault>
+    ensures exact { Gives (λ n. n) result (by_fields line (number_below swaps word.now)) }
+    ensures below { IfOk result (λ n. n < swaps) }
+{
+    match read_below(swaps as u64, word) {
+        Ok(swap) => Ok(swap),
+        Err(fault) => Err(by_field(alloc, line, fault)),
+    }
+}

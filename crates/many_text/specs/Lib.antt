@@ -1,0 +1,2 @@
+pub mod ManyText
+pub mod Shown

@@ -1,0 +1,53 @@
+-- The text of many swaps, line by line. Every number is in decimal.
+use Rattle.std.specs.Prelude.{ℕ, ◌+◌, ◌==◌, Bool, not, List, [], ◌∷◌, length, codes, decimal}
+use Rattle.swap_base.specs.Text.{joined, lines}
+use Rattle.ledger_core.specs.Book.{Histories}
+use Rattle.deviator_script.specs.declared.job.Job.{Job}
+use Rattle.outcome_rules.specs.declared.report.Report.{Report}
+use Rattle.outcome_rules.specs.Report.{report_of}
+use Rattle.transcript_text.specs.Report.{count_line, report}
+use Rattle.swap_many.specs.Chains.{Units}
+use Rattle.swap_many.specs.Kept.{Kept}
+
+-- the book of swap s
+abbrev pub book_in : Kept → ℕ → Histories
+book_in z s = (z.swaps s).book
+
+-- its report
+abbrev pub report_in : Kept → ℕ → Job → Report
+report_in z s job = report_of job.deal job.conforming (book_in z s)
+
+abbrev pub swap_line : ℕ → List ℕ
+swap_line s = joined (codes "swap " ∷ decimal s ∷ codes "\n" ∷ [])
+
+-- the number of a swap, and its report
+unfoldable pub swap_text : ℕ → Job → Histories → Report → List ℕ
+swap_text s job b r = joined (swap_line s ∷ report job b r ∷ [])
+
+abbrev pub swap_text_in : Kept → ℕ → Job → List ℕ
+swap_text_in z s job = swap_text s job (book_in z s) (report_in z s job)
+
+-- an account and its free units
+abbrev pub account_text : Units → ℕ → List ℕ → List ℕ
+account_text free x name = joined (codes " " ∷ name ∷ codes " " ∷ decimal (free x) ∷ [])
+
+-- a chain: its height, and its accounts
+unfoldable pub chain_text : ℕ → ℕ → Units → List (List ℕ) → List ℕ
+chain_text i height free names =
+    joined (codes "chain " ∷ decimal i ∷ codes " height " ∷ decimal height ∷ lines (account_text free) 0 names ∷ codes "\n" ∷ [])
+
+abbrev pub chain_text_in : Kept → ℕ → List (List ℕ) → List ℕ
+chain_text_in z i names = chain_text i (z.clocks i).height (z.free i) names
+
+-- how many findings there are from swap s on
+abbrev pub findings_from : Kept → ℕ → List Job → ℕ
+findings_from z s [] = 0
+findings_from z s (job ∷ jobs) = length (report_in z s job).findings + findings_from z (s + 1) jobs
+
+-- the whole text of swaps, where the chains' accounts have these names
+unfoldable pub many_text : List Job → List (List (List ℕ)) → Kept → List ℕ
+many_text jobs names z = joined (lines (swap_text_in z) 0 jobs ∷ lines (chain_text_in z) 0 names ∷ count_line (findings_from z 0 jobs) ∷ [])
+
+-- whether it tells of a finding
+abbrev pub has_finding : List Job → Kept → Bool
+has_finding jobs z = not (findings_from z 0 jobs == 0)

@@ -1,0 +1,80 @@
+-- What several swaps promise of what is shown of them: the laws of their run by the histories of the chains.
+use Rattle.std.proofs.Common.{◌≡◌, ◌<◌, ℕ, false, List, length, sym, ap, subst}
+use Rattle.std.specs.List.{All}
+use Rattle.ledger_core.specs.Book.{Histories}
+use Rattle.deviator_script.specs.declared.job.Finish.{Finish}
+use Rattle.deviator_script.specs.declared.job.Finish.TheVariants.{Stop, Fair}
+use Rattle.swap_rules.specs.Outcome.{IsEnded}
+use Rattle.swap_run.specs.Asked.{Answers, with_answers}
+use Rattle.swap_run.specs.Run.{Cast, State}
+use Rattle.swap_run.specs.Laws.{IsKept}
+use Rattle.swap_world.specs.Cast.{cast_of}
+use Rattle.swap_many.specs.declared.many_event.ManyEvent.{ManyEvent}
+use Rattle.swap_many.specs.declared.place.Place.{Place}
+use Rattle.swap_many.specs.Chains.{Setup, book}
+use Rattle.swap_many.specs.Many.{Run}
+use Rattle.swap_many.specs.Kept.{Kept, kept_run}
+use Rattle.swap_many.specs.Laws.{CanCome, Follows, IsReady}
+use Rattle.swap_many.specs.Value.{UnitsArePlacedIn}
+use Rattle.swap_many.proofs.Follow.{books_are_kept, runs_follow}
+use Rattle.swap_many.proofs.Finish.{many_finishes_end}
+use Rattle.swap_many.proofs.Units.{units_are_placed}
+use Rattle.many_lines.specs.Places.{job_at}
+use Rattle.many_lines.specs.Setup.{setup_by}
+use Rattle.many_lines.specs.Whole.{AreSwaps}
+use Rattle.many_lines.specs.declared.many_job.ManyJob.{ManyJob}
+use Rattle.many_text.specs.ManyText.{book_in}
+use Rattle.swap_commands.specs.Many.{ended_by, many_state, run_to}
+use Rattle.swap_commands.specs.Promised.{AreManyPromised}
+use Rattle.swap_commands.proofs.Promises.{is_promised}
+
+-- What holds of a run at its end, stopped or finished.
+record Holds (m : Setup) (r : Run) (z : Kept) : Type 0 where
+  pub follows : Follows m r z
+  pub kept : (s : ℕ) → s < m.swaps → IsKept (m.cast s) (book m r.chains s)
+  pub units : UnitsArePlacedIn m r
+
+module _ (m : Setup) (events : List ManyEvent) (ready : IsReady m) (can : All (CanCome m) events) where
+  all_holds : (finish : Finish) → Holds m (run_to finish m events) (ended_by finish m (kept_run m events))
+  all_holds Stop = record {
+    follows = (runs_follow m events ready can).0;
+    kept = λ s l. books_are_kept m events s ready can l;
+    units = λ i l. units_are_placed m events i ready can l;
+  }
+  all_holds Fair = let f = many_finishes_end m events ready can in record { follows = f.follows; kept = f.kept; units = f.units }
+
+  all_ended : (finish : Finish) → finish ≡ Fair → (s : ℕ) → s < m.swaps → IsEnded (m.cast s).deal (book m (run_to finish m events).chains s)
+  all_ended Stop e = absurd (cc e)
+  all_ended Fair e = (many_finishes_end m events ready can).ended
+
+-- the book that is kept is that of the histories
+book_is : (m : Setup) (r : Run) (z : Kept) (s : ℕ) → Follows m r z → s < m.swaps → book m r.chains s ≡ book_in z s
+book_is m r z s follows l = sym (ap (λ (t : State). t.book) (follows.swaps s l))
+
+without_answers : (c : Cast) (g : Answers) (b : Histories) → IsKept (with_answers c g) b → IsKept c b
+without_answers c g b k = record { legal = k.legal; conducted = k.conducted }
+
+module _ (many : ManyJob) (g : ℕ → Answers) (places : List (List Place)) (events : List ManyEvent) (swaps : AreSwaps many)
+    (ready : IsReady (setup_by g many places)) (can : All (CanCome (setup_by g many places)) events) (finish : Finish) where
+  pub are_promised : AreManyPromised many (setup_by g many places) (run_to finish (setup_by g many places) events) (many_state g many places finish events)
+  are_promised =
+      let m : Setup = setup_by g many places in
+      let r : Run = run_to finish m events in
+      let z : Kept = many_state g many places finish events in
+      let h : Holds m r z = all_holds m events ready can finish in
+      record {
+        follows = h.follows;
+        swaps = λ s l.
+            let job = job_at many.jobs s in
+            is_promised (λ name. false) job (book_in z s) (swaps.swaps s l).accepted
+            (subst (λ (b : Histories). IsKept (cast_of job) b) (book_is m r z s h.follows l)
+            (without_answers (cast_of job) (g s) (book m r.chains s) (h.kept s l)));
+        units = h.units;
+      }
+
+  pub are_ended : finish ≡ Fair → (s : ℕ) → s < length many.jobs → IsEnded (job_at many.jobs s).deal (book_in (many_state g many places finish events) s)
+  are_ended fair s l =
+      let m : Setup = setup_by g many places in
+      subst (λ (b : Histories). IsEnded (job_at many.jobs s).deal b)
+      (book_is m (run_to finish m events) (many_state g many places finish events) s (all_holds m events ready can finish).follows l)
+      (all_ended m events ready can finish fair s l)

@@ -1,0 +1,248 @@
+-- What the command `many` says, by how its parts ended.
+use Rattle.std.proofs.Common.{◌≡◌, ◌≤◌, ℕ, Bool, List, ◌++◌, fold, Option, Some, None, Result, Ok, Err, refl, sym, ap, ap₂, ◌∙◌, subst}
+use Rattle.std.proofs.Common.{append_assoc}
+use Rattle.swap_base.specs.Fault.{◌>>=◌}
+use Rattle.swap_io.proofs.Feeds.{took_on}
+use Rattle.deviator_script.specs.declared.job.Finish.{Finish}
+use Rattle.refusals.specs.declared.reason.Reason.{Reason}
+use Rattle.refusals.specs.declared.refusal.Refusal.{Refusal}
+use Rattle.audit_command.specs.Output.{Written}
+use Rattle.swap_offer.specs.Lines.{lines_of, filled_lines}
+use Rattle.swap_run.specs.Asked.{Answers}
+use Rattle.swap_world.specs.Gone.{Gives, HasAsked}
+use Rattle.swap_world.specs.Value.{WorldState, answers_of, new_world}
+use Rattle.swap_many.specs.Chains.{Setup}
+use Rattle.swap_many.specs.Kept.{Kept, kept_step}
+use Rattle.swap_many.specs.Value.{AreSame, HasManyGone, ManyState, kept_of, world_at}
+use Rattle.swap_many.specs.declared.many_event.ManyEvent.{ManyEvent}
+use Rattle.swap_many.specs.declared.place.Place.{Place}
+use Rattle.swap_many.proofs.Gone.{gone_then}
+use Rattle.many_lines.specs.Heading.{HeadingState, finish_told}
+use Rattle.many_lines.specs.Places.{job_at}
+use Rattle.many_lines.specs.Whole.{AreSwaps}
+use Rattle.many_lines.specs.declared.many_job.ManyJob.{ManyJob}
+use Rattle.swap_commands.specs.Input.{At, CanCome, Ends, Stops, Tells, ahead, fresh}
+use Rattle.swap_commands.specs.Many.{Headed, ended_by, events_told, headed, many_of_lines, many_output, many_state, many_written, opened}
+use Rattle.swap_commands.specs.ManyRead.{AreRun, IsHeading, IsManyPlayed, new_worlds, opened_after}
+use Rattle.swap_commands.specs.Output.{AreGiven, by_many, by_reason, names_of, names_told, output_by}
+use Rattle.swap_commands.specs.Promised.{IsManyRun}
+use Rattle.swap_commands.specs.Says.{IsAgainst, Says, Writes}
+use Rattle.swap_commands.specs.declared.fault.InputFault.{InputFault}
+use Rattle.swap_commands.specs.declared.status.Status.{Status}
+use Rattle.swap_commands.specs.declared.words.Command.TheVariants.{Many}
+use Rattle.swap_commands.proofs.ManyPromises.{are_ended, are_promised}
+use Rattle.swap_commands.proofs.ManyTold.{fails_with, stops_as, stops_later}
+use Rattle.swap_commands.proofs.ManyWorlds.{all_can, kept_before, new_are_of, new_at}
+use Rattle.swap_commands.proofs.Reading.{is_within, not_over_yet}
+use Rattle.swap_commands.proofs.Replays.{are_given}
+use Rattle.swap_commands.proofs.Saying.{says_written}
+
+module _ (has : List ℕ → Bool) where
+  -- What is written of an input, by its lines.
+
+  abbrev none : ℕ → Answers
+  none = λ s k. None
+
+  -- what is made of the lines, once they were read so far
+  abbrev rest_of : (g : ℕ → Answers) → Headed → Result Written Refusal
+  rest_of g h =
+      events_told h.many 0 h.lines >>= λ events. opened h.many >>= λ places. Ok (many_written h.many (many_state g h.many places h.finish events))
+
+  by_heading : (g : ℕ → Answers) (bytes : List ℕ) (r : Result Headed Refusal) → headed has (ahead fresh bytes) ≡ r → many_output has g bytes ≡ r >>= rest_of g
+  unfolding many_output many_of_lines
+  by_heading g bytes r e = ap (λ (x : Result Headed Refusal). x >>= rest_of g) e
+
+  -- a refusal of what was read after the heading
+  rest_fails : (g : ℕ → Answers) (h : Headed) (r : Refusal) → opened_after h.many h.lines ≡ Err r → rest_of g h ≡ Err r
+  rest_fails g h r e = go (events_told h.many 0 h.lines) e
+    where
+      last : (events : List ManyEvent) (x : Result (List (List Place)) Refusal) → x ≡ Err r
+          → (x >>= λ places. let w : Result Written Refusal = Ok (many_written h.many (many_state g h.many places h.finish events)) in w) ≡ Err r
+      last events x is = fails_with x (λ places. Ok (many_written h.many (many_state g h.many places h.finish events))) r is
+
+      go : (x : Result (List ManyEvent) Refusal) → (x >>= λ events. opened h.many) ≡ Err r
+          → (x >>= λ events. opened h.many >>= λ places.
+          let w : Result Written Refusal = Ok (many_written h.many (many_state g h.many places h.finish events)) in w) ≡ Err r
+      go (Ok events) is = last events (opened h.many) is
+      go (Err other) is = let same : other ≡ r = cc is in ap (λ (x : Refusal). let w : Result Written Refusal = Err x in w) same
+
+  -- a reason doesn't depend on what strategies answer
+  pub many_fails_by : (g : ℕ → Answers) (bytes : List ℕ) (reason : Reason) → by_reason (many_output has none bytes) ≡ Err reason
+      → by_reason (many_output has g bytes) ≡ Err reason
+  many_fails_by g bytes reason e =
+      let r = headed has (ahead fresh bytes) in
+      ap by_reason (by_heading g bytes r refl) ∙ go r (sym (ap by_reason (by_heading none bytes r refl)) ∙ e)
+    where
+      written : (x : ℕ → Answers) → Headed → List ManyEvent → List (List Place) → Result Written Refusal
+      written x h events places = Ok (many_written h.many (many_state x h.many places h.finish events))
+
+      placed : (h : Headed) (events : List ManyEvent) (x : Result (List (List Place)) Refusal)
+          → by_reason (x >>= λ places. written none h events places) ≡ Err reason → by_reason (x >>= λ places. written g h events places) ≡ Err reason
+      placed h events (Ok places) e = absurd (cc e)
+      placed h events (Err r) e = e
+
+      told : (h : Headed) (x : Result (List ManyEvent) Refusal)
+          → by_reason (x >>= λ events. opened h.many >>= λ places. written none h events places) ≡ Err reason
+          → by_reason (x >>= λ events. opened h.many >>= λ places. written g h events places) ≡ Err reason
+      told h (Ok events) e = placed h events (opened h.many) e
+      told h (Err r) e = e
+
+      go : (x : Result Headed Refusal) → by_reason (x >>= rest_of none) ≡ Err reason → by_reason (x >>= rest_of g) ≡ Err reason
+      go (Ok h) e = told h (events_told h.many 0 h.lines) e
+      go (Err r) e = e
+
+  pub gives_many : (g : ℕ → Answers) (bytes : List ℕ) (h : Headed) (events : List ManyEvent) (places : List (List Place))
+      → headed has (filled_lines 1 (lines_of bytes)) ≡ Ok h → events_told h.many 0 h.lines ≡ Ok events → opened h.many ≡ Ok places
+      → many_output has g bytes ≡ Ok (many_written h.many (many_state g h.many places h.finish events))
+  gives_many g bytes h events places e f k =
+      by_heading g bytes (Ok h) e
+      ∙ (ap (λ (x : Result (List ManyEvent) Refusal). x >>= λ events. opened h.many >>= λ places.
+      let w : Result Written Refusal = Ok (many_written h.many (many_state g h.many places h.finish events)) in w) f
+      ∙ ap (λ (x : Result (List (List Place)) Refusal). x >>= λ places.
+      let w : Result Written Refusal = Ok (many_written h.many (many_state g h.many places h.finish events)) in w) k)
+
+  -- What is said against an input.
+
+  against_many : (bytes : List ℕ) (r : Refusal) → many_output has none bytes ≡ Err r → IsAgainst has Many bytes r
+  unfolding output_by names_of
+  against_many bytes r e = (ap by_reason e, sym (ap names_told e))
+
+  against_heading : (bytes : List ℕ) (r : Refusal) → headed has (ahead fresh bytes) ≡ Err r → IsAgainst has Many bytes r
+  against_heading bytes r e = against_many bytes r (by_heading none bytes (Err r) e)
+
+  pub heading_stops : (a b : Option (List ℕ)) (n m : ℕ) (t : At) (fault : InputFault Refusal)
+      → Stops (λ bytes r. headed has (ahead fresh bytes) ≡ Err r) a b n m fresh t fault → Stops (IsAgainst has Many) a b n m fresh t fault
+  heading_stops a b n m t fault k =
+      stops_as (λ bytes r. headed has (ahead fresh bytes) ≡ Err r) (IsAgainst has Many) against_heading a b n m fresh t fault k
+
+  -- after the lines before the events
+  module _ (left left' left'' : Option (List ℕ)) (mid now : At) (h : HeadingState) (p : IsHeading has h left left' mid) where
+    -- what the bytes of both say
+    heading_first : (bytes rest : List ℕ) → CanCome mid (bytes ++ rest)
+        → headed has (ahead fresh ((p.bytes ++ bytes) ++ rest)) ≡ Ok (record { many = h.many; finish = p.finish; lines = ahead mid (bytes ++ rest) })
+    heading_first bytes rest can =
+        ap (λ (xs : List ℕ). headed has (ahead fresh xs)) (append_assoc p.bytes bytes rest) ∙ p.first (bytes ++ rest) can
+
+    events_against : (r : Refusal) → Tells (λ bytes. opened_after h.many (ahead mid bytes) ≡ Err r) left' left'' mid now
+        → Tells (λ bytes. IsAgainst has Many bytes r) left left'' fresh now
+    events_against r s = record {
+      bytes = p.bytes ++ s.bytes;
+      took = took_on left left' left'' fresh.reading mid.reading now.reading p.bytes s.bytes p.took s.took;
+      can = λ rest can. not_over_yet has ((p.bytes ++ s.bytes) ++ rest);
+      told = λ rest can.
+          let head : Headed = record { many = h.many; finish = p.finish; lines = ahead mid (s.bytes ++ rest) } in
+          against_many ((p.bytes ++ s.bytes) ++ rest) r
+          (by_heading none ((p.bytes ++ s.bytes) ++ rest) (Ok head) (heading_first s.bytes rest (s.can rest can))
+          ∙ rest_fails none head r (s.told rest can));
+      within = s.within;
+      ended = s.ended;
+    }
+
+    pub events_stop : (many : ManyJob) (n m k : ℕ) (fault : InputFault Refusal) → many ≡ h.many → n ≤ m
+        → Stops (λ bytes r. opened_after many (ahead mid bytes) ≡ Err r) left' left'' m k mid now fault
+        → Stops (IsAgainst has Many) left left'' n k fresh now fault
+    events_stop many n m k fault same le s =
+        stops_later left left' left'' n m k fresh mid now (λ bytes r. opened_after h.many (ahead mid bytes) ≡ Err r) fault (p.bytes, p.took) le
+        (IsAgainst has Many) events_against
+        (subst (λ (j : ManyJob). Stops (λ bytes r. opened_after j (ahead mid bytes) ≡ Err r) left' left'' m k mid now fault) same s)
+
+    finish_is : (finish : Finish) → finish_told h.stage ≡ Some finish → finish ≡ p.finish
+    finish_is finish e = let same : ◌≡◌ {A = Option Finish} (Some finish) (Some p.finish) = sym e ∙ ap finish_told p.stage in cc same
+
+    played : (gives : Gives) (w : ManyState) (finish : Finish) → finish ≡ p.finish → AreRun gives h.many w left' left'' mid now
+        → Ends (λ bytes. IsManyPlayed has gives bytes h.many finish w) left left'' fresh now
+    played gives w finish is k =
+        let e = k.replayed.told in
+        record {
+          bytes = p.bytes ++ e.bytes;
+          took = took_on left left' left'' fresh.reading mid.reading now.reading p.bytes e.bytes p.took e.took;
+          can = not_over_yet has (p.bytes ++ e.bytes);
+          told = record {
+            lines = ahead mid e.bytes;
+            events = k.replayed.events;
+            new = k.new;
+            is_headed = subst (λ (f : Finish). headed has (filled_lines 1 (lines_of (p.bytes ++ e.bytes)))
+                ≡ Ok (record { many = h.many; finish = f; lines = ahead mid e.bytes })) (sym is) (p.first e.bytes e.can);
+            are_told = e.told;
+            begun = k.begun;
+            gone = k.replayed.gone;
+            can = k.replayed.can;
+          };
+          within = e.within;
+          ended = e.ended;
+        }
+
+    pub is_played : (gives : Gives) (many : ManyJob) (w : ManyState) (finish : Finish) → many ≡ h.many → finish_told h.stage ≡ Some finish
+        → AreRun gives many w left' left'' mid now → Ends (λ bytes. IsManyPlayed has gives bytes many finish w) left left'' fresh now
+    is_played gives many w finish same told k =
+        subst (λ (j : ManyJob). Ends (λ bytes. IsManyPlayed has gives bytes j finish w) left left'' fresh now) (sym same)
+        (played gives w finish (finish_is finish told) (subst (λ (j : ManyJob). AreRun gives j w left' left'' mid now) same k))
+
+  -- What the command says whose input was read whole.
+
+  module _ (gives : Gives) (bytes : List ℕ) (many : ManyJob) (finish : Finish) (w last : ManyState) (k : IsManyPlayed has gives bytes many finish w)
+      (gone : HasManyGone gives (ended_by finish) w last) where
+    -- the answers are those that were given
+    abbrev g : ℕ → Answers
+    g = λ s. answers_of (world_at last s)
+
+    whole_way : HasManyGone gives (λ m z. ended_by finish m (fold (kept_step m) z k.events)) (new_worlds many k.begun.places) last
+    whole_way =
+        subst (λ (new : ManyState). HasManyGone gives (λ m z. ended_by finish m (fold (kept_step m) z k.events)) new last) k.begun.new
+        (gone_then gives (λ m z. fold (kept_step m) z k.events) (ended_by finish) k.new w last k.gone gone)
+
+    pub last_same : AreSame gives (new_worlds many k.begun.places) last
+    last_same = whole_way.same
+
+    state_is : kept_of last ≡ many_state g many k.begun.places finish k.events
+    state_is =
+        whole_way.kept g (λ s l i lt. refl)
+        ∙ ap₂ (λ (m : Setup) (z : Kept). ended_by finish m (fold (kept_step m) z k.events)) (new_are_of many k.begun.places g)
+        (kept_before many k.begun.places g k.begun.openable)
+
+    all_given : (s : ℕ) → AreGiven gives (job_at many.jobs s).deal (g s) ((many_state g many k.begun.places finish k.events).swaps s).asked
+    all_given s =
+        let job = job_at many.jobs s in
+        let all : HasAsked gives (new_world job) (world_at last s) =
+        subst (λ (v : WorldState). HasAsked gives v (world_at last s)) (new_at many.jobs s) (whole_way.same.asked s) in
+        subst (λ (z : Kept). AreGiven gives job.deal (g s) (z.swaps s).asked) state_is
+        (are_given gives job.deal all.more (world_at last s).state.asked (world_at last s).answers all.questions all.answers all.may)
+
+    pub is_many_run : AreSwaps many → IsManyRun has gives g bytes (many_written many (kept_of last))
+    is_many_run swaps =
+        let places = k.begun.places in
+        let can = all_can many g places k.events k.can in
+        record {
+          head = record { many = many; finish = finish; lines = k.lines };
+          events = k.events;
+          places = places;
+          is_headed = k.is_headed;
+          are_told = k.are_told;
+          are_placed = k.begun.are_placed;
+          given = all_given;
+          shown = ap (many_written many) state_is;
+          promised = are_promised many g places k.events swaps (k.begun.ready g) can finish;
+          ended = are_ended many g places k.events swaps (k.begun.ready g) can finish;
+        }
+
+    pub many_made : output_by has (by_many g) Many bytes ≡ Ok (many_written many (kept_of last))
+    unfolding output_by
+    many_made =
+        ap by_reason
+        (gives_many g bytes (record { many = many; finish = finish; lines = k.lines }) k.events k.begun.places k.is_headed k.are_told k.begun.are_placed
+        ∙ ap (λ (z : Kept). let r : Result Written Refusal = Ok (many_written many z) in r) (sym state_is))
+
+  pub says_many : (gives : Gives) (left left' : Option (List ℕ)) (n m : ℕ) (taken taken' : Option (List ℕ)) (p q : ℕ) (now : At) (many : ManyJob)
+      (finish : Finish) (w last : ManyState) (status : Status) (e : Ends (λ bytes. IsManyPlayed has gives bytes many finish w) left left' fresh now)
+      → AreSwaps many → HasManyGone gives (ended_by finish) w last → Writes taken taken' p q (many_written many (kept_of last)) status
+      → Says has gives Many left left' n m taken taken' p q status
+  says_many gives left left' n m taken taken' p q now many finish w last status e swaps gone wrote =
+      says_written has gives (by_many (λ s. answers_of (world_at last s))) Many left left' n m taken taken' p q (many_written many (kept_of last))
+      (record {
+        input = e.bytes;
+        taken = e.took.consumed;
+        ended = e.ended;
+        within = is_within has (λ bytes. IsManyPlayed has gives bytes many finish w) left left' now e;
+        gives = many_made gives e.bytes many finish w last e.told gone;
+      })
+      (is_many_run gives e.bytes many finish w last e.told gone swaps) status wrote

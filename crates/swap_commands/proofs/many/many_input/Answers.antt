@@ -1,0 +1,32 @@
+use Rattle.std.proofs.KnownBytes.{Keeps-refl}
+use Rattle.swap_commands.specs.declared.words.Command.TheVariants.{Many}
+use Rattle.swap_commands.proofs.ManySaying.{last_same, says_many}
+use Rattle.swap_commands.proofs.ManyWorlds.{chains_shown, worlds_shown}
+use Rattle.swap_commands.proofs.Saying.{says_unread}
+use Rattle.swap_commands.proofs.many.many_input.Goals as goal
+
+pub returns-in-Err : goal.returns-in-Err
+returns-in-Err g c =
+    let left = g.S.Source.left c.args.source.now in
+    let faults = g.S.Source.faults c.args.source.now in
+    says_unread _ _ Many left _ faults _ _ _ _ _ (Keeps-refl (g.K.Sink.taken c.args.sink.now)) c.stop.result
+    (c.stop.ensures _ Many left faults c.play.ensures.later c.in-Err.ensures.stops)
+
+pub tell-requires-clause-shown : goal.tell-requires-clause-shown
+tell-requires-clause-shown g c =
+    let e = c.in-Ok.ensures.played in
+    let k = e.told in
+    let same = last_same _ _ e.bytes c.in-Ok.played.many c.in-Ok.played.finish c.in-Ok.played.world c.in-Ok-conclude.world k c.in-Ok-conclude.ensures in
+    worlds_shown _ c.in-Ok.played.many k.begun.places c.in-Ok.ensures.swaps c.in-Ok.ensures.chains c.in-Ok-conclude.world same
+
+pub tell-requires-clause-chains : goal.tell-requires-clause-chains
+tell-requires-clause-chains g c =
+    let e = c.in-Ok.ensures.played in
+    let k = e.told in
+    let same = last_same _ _ e.bytes c.in-Ok.played.many c.in-Ok.played.finish c.in-Ok.played.world c.in-Ok-conclude.world k c.in-Ok-conclude.ensures in
+    chains_shown _ c.in-Ok.played.many k.begun.places c.in-Ok.ensures.swaps c.in-Ok.ensures.chains c.in-Ok-conclude.world same
+
+pub returns : goal.returns
+returns g c =
+    says_many _ _ _ _ _ _ _ _ _ _ c.play.new.input c.in-Ok.played.many c.in-Ok.played.finish c.in-Ok.played.world c.in-Ok-conclude.world c.tell.result
+    c.in-Ok.ensures.played c.in-Ok.ensures.swaps c.in-Ok-conclude.ensures c.tell.ensures

@@ -1,0 +1,20 @@
+use Rattle.std.proofs.Common.{◌≤◌, ◌-◌, ℕ}
+use Rattle.offer_header.specs.Names.{has_strategy}
+use Rattle.many_lines.specs.Heading.{unread}
+use Rattle.many_lines.specs.Whole.{HoldsEverySwap}
+use Rattle.swap_commands.specs.Input.{EndsAt, fresh, limit}
+use Rattle.swap_commands.proofs.ManyTold.{heading_walk}
+use Rattle.swap_commands.proofs.Streams.{Led}
+use Rattle.swap_commands.proofs.many.read_heading.Given as goal
+
+abbrev pub invariant-lines : goal.invariant-lines
+invariant-lines g l = record {
+  led : (count : ℕ) × Led (heading_walk (has_strategy l.kit.names l.kit.strategies.items)) (g.S.Source.left l.fn.source) fresh unread
+      (g.S.Source.left l.source) l.input count l.heading;
+  held : HoldsEverySwap (has_strategy l.kit.names l.kit.strategies.items) l.heading.many;
+  ended : EndsAt (g.S.Source.left l.source) l.input;
+  later : g.S.Source.faults l.fn.source ≤ g.S.Source.faults l.source;
+}
+
+abbrev pub decreases-lines : goal.decreases-lines
+decreases-lines g l = limit - l.input.number

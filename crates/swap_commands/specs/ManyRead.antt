@@ -1,0 +1,101 @@
+-- How an input of several swaps is read, line by line, and what their worlds come to.
+use Rattle.std.specs.Prelude.{◌≡◌, ℕ, Bool, List, ◌++◌, map, fold, Option, Result, Ok}
+use Rattle.std.specs.List.{All}
+use Rattle.swap_base.specs.Fault.{◌>>=◌}
+use Rattle.swap_base.specs.declared.fault.Fault.{Fault}
+use Rattle.swap_base.specs.declared.fault.Fault.TheVariants.{Refused, NoMemory}
+use Rattle.deviator_script.specs.declared.job.Finish.{Finish}
+use Rattle.refusals.specs.declared.refusal.Refusal.{Refusal}
+use Rattle.swap_io.specs.Lines.{Took}
+use Rattle.swap_offer.specs.Lines.{lines_of, filled_lines}
+use Rattle.swap_run.specs.Asked.{Answers}
+use Rattle.swap_world.specs.Gone.{Gives}
+use Rattle.swap_world.specs.Value.{new_world}
+use Rattle.swap_many.specs.Kept.{kept_step}
+use Rattle.swap_many.specs.Laws.{IsReady}
+use Rattle.swap_many.specs.Opening.{AreOpenable, new_many}
+use Rattle.swap_many.specs.Value.{HasManyGone, ManyState, setup_for}
+use Rattle.swap_many.specs.declared.many_event.ManyEvent.{ManyEvent}
+use Rattle.swap_many.specs.declared.overdrawn.Overdrawn.{Overdrawn}
+use Rattle.swap_many.specs.declared.place.Place.{Place}
+use Rattle.many_lines.specs.Event.{next_told}
+use Rattle.many_lines.specs.Heading.{HeadingState}
+use Rattle.many_lines.specs.Setup.{MayCome, setup_by}
+use Rattle.many_lines.specs.declared.many_job.ManyJob.{ManyJob}
+use Rattle.many_lines.specs.declared.stage.Stage.TheVariants.{Over}
+use Rattle.swap_commands.specs.Input.{At, CanCome, Ends, ahead, fresh}
+use Rattle.swap_commands.specs.Many.{events_told, headed, opened, overdrawn_by}
+
+-- The lines up to that of the finish were read: whatever comes after them are the lines of the events.
+pub record IsHeading (has : List ℕ → Bool) (h : HeadingState) (left left' : Option (List ℕ)) (now : At) : Type 0 where
+  pub bytes : List ℕ
+  pub took : Took left left' fresh.reading now.reading bytes
+  pub finish : Finish
+  pub stage : h.stage ≡ Over finish
+  pub first : (rest : List ℕ) → CanCome now rest
+      → headed has (ahead fresh (bytes ++ rest)) ≡ Ok (record { many = h.many; finish = finish; lines = ahead now rest })
+
+-- what is said of the account that lacks units, unless memory runs out
+abbrev pub IsLack : ManyJob → Fault Overdrawn → Fault Refusal → Type 0
+IsLack many lack NoMemory = Unit {0}
+IsLack many (Refused l) (Refused refusal) = refusal ≡ overdrawn_by many l
+IsLack many NoMemory (Refused refusal) = ⊥
+
+-- the worlds of the swaps before any event
+abbrev pub new_worlds : ManyJob → List (List Place) → ManyState
+new_worlds many places = new_many many.units (map new_world many.jobs) places
+
+-- The worlds are those of the swaps before any event, and each account has what is set aside from it.
+pub record IsOpened (many : ManyJob) (w : ManyState) : Type 0 where
+  pub places : List (List Place)
+  pub are_placed : opened many ≡ Ok places
+  pub openable : AreOpenable many.units (map new_world many.jobs) places
+  pub new : w ≡ new_worlds many places
+  pub ready : (g : ℕ → Answers) → IsReady (setup_by g many places)
+
+-- the worlds are those of the swaps
+abbrev pub AreWorldsOf : ManyJob → ManyState → Type 0
+AreWorldsOf many w = (g : ℕ → Answers) → setup_for w g ≡ setup_by g many w.places
+
+-- The line told an event, by which the worlds have stepped.
+pub record HasStepped (gives : Gives) (many : ManyJob) (count line : ℕ) (text : List ℕ) (old new : ManyState) : Type 0 where
+  pub event : ManyEvent
+  pub told : next_told many count line text ≡ Ok event
+  pub gone : HasManyGone gives (λ m z. kept_step m z event) old new
+  pub can : MayCome many event
+
+-- what events make of the worlds
+abbrev pub HasReplayed : Gives → List ManyEvent → (old new : ManyState) → Type 0
+HasReplayed gives events old new = HasManyGone gives (λ m z. fold (kept_step m) z events) old new
+
+-- The lines ahead told events, to which the worlds have come.
+pub record IsReplayed (gives : Gives) (many : ManyJob) (old new : ManyState) (left left' : Option (List ℕ)) (first now : At) : Type 0 where
+  pub events : List ManyEvent
+  pub told : Ends (λ bytes. events_told many 0 (ahead first bytes) ≡ Ok events) left left' first now
+  pub gone : HasReplayed gives events old new
+  pub can : All (MayCome many) events
+
+-- the lines ahead tell events, whatever may still come
+abbrev pub TellEvents : ManyJob → At → List ℕ → Type 0
+TellEvents many first bytes = (events : List ManyEvent) × (events_told many 0 (ahead first bytes) ≡ Ok events)
+
+-- the places of the arcs, once every line told an event
+abbrev pub opened_after : ManyJob → List (ℕ × List ℕ) → Result (List (List Place)) Refusal
+opened_after many ls = events_told many 0 ls >>= λ events. opened many
+
+-- The worlds were opened, and have come to where the lines ahead lead.
+pub record AreRun (gives : Gives) (many : ManyJob) (w : ManyState) (left left' : Option (List ℕ)) (first now : At) : Type 0 where
+  pub new : ManyState
+  pub begun : IsOpened many new
+  pub replayed : IsReplayed gives many new w left left' first now
+
+-- The bytes are several swaps, and the worlds have come to where their events lead.
+pub record IsManyPlayed (has : List ℕ → Bool) (gives : Gives) (bytes : List ℕ) (many : ManyJob) (finish : Finish) (w : ManyState) : Type 0 where
+  pub lines : List (ℕ × List ℕ)
+  pub events : List ManyEvent
+  pub new : ManyState
+  pub is_headed : headed has (filled_lines 1 (lines_of bytes)) ≡ Ok (record { many = many; finish = finish; lines = lines })
+  pub are_told : events_told many 0 lines ≡ Ok events
+  pub begun : IsOpened many new
+  pub gone : HasReplayed gives events new w
+  pub can : All (MayCome many) events

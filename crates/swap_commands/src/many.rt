@@ -1,0 +1,379 @@
+//! The command `many`: several swaps on shared chains are run, and their reports are written.
+
+ghost use Rattle.std.specs.Prelude.{◌≡◌, ◌<◌, ◌≤◌, IfOk, IfErr, OnOk, Err, length, map, slice_index_or, is_some, [], true};
+ghost use Rattle.swap_base.specs.Fault.{Fails};
+ghost use Rattle.offer_header.specs.Names.{has_strategy};
+ghost use Rattle.swap_offer.specs.Wallets.{wallets_for};
+ghost use Rattle.swap_world.specs.Value.{new_world};
+ghost use Rattle.swap_many.specs.Value.{AreAllHeld, HasManyGone, kept_of};
+ghost use Rattle.many_lines.specs.Heading.{finish_told};
+ghost use Rattle.many_lines.specs.Event.{next_told};
+ghost use Rattle.many_lines.specs.Whole.{AreChains, AreSwaps, HoldsEverySwap};
+ghost use Rattle.many_text.specs.Shown.{AreChainsShown, AreShown};
+ghost use Rattle.swap_commands.specs.Input.{Ends, EndsAt, Stops, Tells, ahead, fresh};
+ghost use Rattle.swap_commands.specs.Many.{ended_by, events_told, headed, many_written, opened};
+ghost use Rattle.swap_commands.specs.ManyRead.{AreRun, AreWorldsOf, HasStepped, IsHeading, IsLack, IsManyPlayed, IsOpened, IsReplayed};
+ghost use Rattle.swap_commands.specs.ManyRead.{TellEvents, opened_after};
+ghost use Rattle.swap_commands.specs.Says.{IsAgainst, Says, Writes};
+
+use crate::fault::InputFault;
+use crate::input::Input;
+use crate::replay::new_world;
+use crate::status::Status;
+use crate::stop::stop;
+use crate::words::Command;
+use deviator_script::{Finish, Kit, Purpose, Strategies};
+use many_lines::{Heading, ManyJob, next_many, places_of};
+use many_text::write_many;
+use party_wallet::Wallet;
+use refusals::{HeaderFault, Reason, Refusal};
+use std::alloc::Global;
+use swap_base::{ByteText, Fault, Listed, NoMemory, TryCopy};
+use swap_io::{Sink, Source, TextFault};
+use swap_many::{ManyWorld, Overdrawn};
+use swap_world::World;
+
+/// Several swaps, what is done after their last event, and their worlds after it.
+#[derive(Drop)]
+struct Played {
+    many: ManyJob,
+    finish: Finish,
+    world: ManyWorld,
+}
+
+/// What is said against an input that ends before its events.
+fn cut_short(alloc: Global) -> InputFault<Refusal>
+    ensures { result ≡ InputFault.Refused (record { reason = Reason.CutShort; names = [] }) }
+{
+    InputFault::Refused(Refusal {
+        reason: Reason::CutShort,
+        names: Listed::empty(alloc),
+    })
+}
+
+/// The lines before the events.
+fn read_heading<S: Source>(
+    alloc: Global,
+    kit: &Kit,
+    input: &mut Input,
+    source: &mut S,
+) -> Result<Heading, InputFault<Refusal>>
+    requires { input.old ≡ fresh }
+    ensures heading { IfOk result (λ h. IsHeading (has_strategy kit.now.names kit.now.strategies.items) h (S.left source.old) (S.left source.new)
+        input.new) }
+    ensures over { IfOk result (λ h. is_some (finish_told h.stage) ≡ true) }
+    ensures held { IfOk result (λ h. HoldsEverySwap (has_strategy kit.now.names kit.now.strategies.items) h.many) }
+    ensures ended { OnOk result (EndsAt (S.left source.new) input.new) }
+    ensures stops { IfErr result (λ e. Stops (λ bytes r. headed (has_strategy kit.now.names kit.now.strategies.items) (ahead fresh bytes) ≡ Err r)
+        (S.left source.old) (S.left source.new) (S.faults source.old) (S.faults source.new) fresh input.new e) }
+    ensures later { S.faults source.old ≤ S.faults source.new }
+{
+    let mut heading = Heading::new(alloc)?;
+    'lines: while heading.finish().is_none() {
+        if !input.next(source)? {
+            return Err(cut_short(alloc));
+        }
+        heading.push(alloc, kit, input.number(), input.text())?;
+    }
+    Ok(heading)
+}
+
+/// A copy of the name of an account.
+fn account_name(names: &[Listed<ByteText>], chain: u8, account: u8) -> Result<ByteText, NoMemory>
+    requires chain { chain < length names.now }
+    requires account { account < length (slice_index_or names.now chain []) }
+    ensures { IfOk result (λ n. n ≡ slice_index_or (slice_index_or names.now chain []) account []) }
+{
+    names[chain as usize].as_slice()[account as usize].copy()
+}
+
+/// What is said against chains one of whose accounts lacks units.
+fn overdrawn(alloc: Global, many: &ManyJob, lack: Overdrawn) -> HeaderFault
+    requires chain { lack.chain < length many.now.names }
+    requires account { lack.account < length (slice_index_or many.now.names lack.chain []) }
+    ensures { IsLack many.now (Fault.Refused lack) result }
+{
+    match account_name(many.names.as_slice(), lack.chain, lack.account) {
+        Ok(name) => Fault::Refused(Refusal {
+            reason: Reason::Overdrawn(lack.chain, name, lack.have, lack.wanted),
+            names: Listed::empty(alloc),
+        }),
+        Err(NoMemory) => Fault::NoMemory,
+    }
+}
+
+/// The worlds of swaps whose conforming parties have these wallets.
+fn new_worlds(
+    alloc: Global,
+    many: &ManyJob,
+    wallets: Vec<Vec<Option<Wallet>>>,
+) -> Result<Vec<World>, NoMemory>
+    requires swaps { AreSwaps many.now }
+    requires made { map (λ v. v.items) wallets.items ≡ map (wallets_for Purpose.Run) many.now.jobs }
+    ensures { IfOk result (λ v. v.items ≡ map new_world many.now.jobs) }
+{
+    let jobs = many.jobs.as_slice();
+    let mut worlds = Vec::new(alloc);
+    'swaps: for own in wallets {
+        let world = new_world(alloc, &jobs[worlds.len()], own)?;
+        worlds.push(world)?;
+    }
+    Ok(worlds)
+}
+
+/// The worlds on their chains, or what is said of an account that lacks units or isn't there.
+fn open(
+    alloc: Global,
+    many: &ManyJob,
+    wallets: Vec<Vec<Option<Wallet>>>,
+) -> Result<ManyWorld, HeaderFault>
+    requires chains { AreChains many.now }
+    requires swaps { AreSwaps many.now }
+    requires made { map (λ v. v.items) wallets.items ≡ map (wallets_for Purpose.Run) many.now.jobs }
+    ensures opened { IfOk result (IsOpened many.now) }
+    ensures refused { IfErr result (λ e. Fails e (opened many.now)) }
+{
+    let places = places_of(alloc, many)?;
+    let worlds = new_worlds(alloc, many, wallets)?;
+    match ManyWorld::new(alloc, many.units.as_slice(), worlds, places) {
+        Ok(world) => Ok(world),
+        Err(Fault::Refused(lack)) => Err(overdrawn(alloc, many, lack)),
+        Err(Fault::NoMemory) => Err(Fault::NoMemory),
+    }
+}
+
+/// Steps the worlds by the event of a line, where so many events came before.
+fn step_line<T: Strategies>(
+    alloc: Global,
+    many: &ManyJob,
+    world: &mut ManyWorld,
+    kit: &T,
+    count: u32,
+    line: u32,
+    text: &[u8],
+) -> Result<(), HeaderFault>
+    requires chains { AreChains many.now }
+    requires swaps { AreSwaps many.now }
+    requires of { AreWorldsOf many.now world.old }
+    requires kit { AreAllHeld (T.holds kit.now) world.old }
+    ensures stepped { OnOk result (HasStepped (T.gives kit.now) many.now count line text.now world.old world.new) }
+    ensures refused { IfErr result (λ e. Fails e (next_told many.now count line text.now)) }
+{
+    let event = next_many(alloc, many, count, line, text)?;
+    world.step(kit, &event)?;
+    Ok(())
+}
+
+/// Takes the events of the lines ahead.
+fn replay<S: Source, T: Strategies>(
+    alloc: Global,
+    many: &ManyJob,
+    world: &mut ManyWorld,
+    kit: &T,
+    input: &mut Input,
+    source: &mut S,
+) -> Result<(), InputFault<Refusal>>
+    requires chains { AreChains many.now }
+    requires swaps { AreSwaps many.now }
+    requires of { AreWorldsOf many.now world.old }
+    requires kit { AreAllHeld (T.holds kit.now) world.old }
+    requires ended { EndsAt (S.left source.old) input.old }
+    ensures replayed { OnOk result (IsReplayed (T.gives kit.now) many.now world.old world.new (S.left source.old) (S.left source.new) input.old input.new) }
+    ensures stops { IfErr result (λ e. Stops (λ bytes r. events_told many.now 0 (ahead input.old bytes) ≡ Err r) (S.left source.old) (S.left source.new)
+        (S.faults source.old) (S.faults source.new) input.old input.new e) }
+    ensures later { S.faults source.old ≤ S.faults source.new }
+{
+    let mut count: u32 = 0;
+    'lines: while input.next(source)? {
+        step_line(alloc, many, world, kit, count, input.number(), input.text())?;
+        count += 1;
+    }
+    Ok(())
+}
+
+/// Reads the events of the lines ahead.
+fn pass_over<S: Source>(
+    alloc: Global,
+    many: &ManyJob,
+    input: &mut Input,
+    source: &mut S,
+) -> Result<(), InputFault<Refusal>>
+    requires chains { AreChains many.now }
+    requires swaps { AreSwaps many.now }
+    requires ended { EndsAt (S.left source.old) input.old }
+    ensures told { OnOk result (Tells (TellEvents many.now input.old) (S.left source.old) (S.left source.new) input.old input.new) }
+    ensures stops { IfErr result (λ e. Stops (λ bytes r. events_told many.now 0 (ahead input.old bytes) ≡ Err r) (S.left source.old) (S.left source.new)
+        (S.faults source.old) (S.faults source.new) input.old input.new e) }
+    ensures later { S.faults source.old ≤ S.faults source.new }
+{
+    let mut count: u32 = 0;
+    'lines: while input.next(source)? {
+        next_many(alloc, many, count, input.number(), input.text())?;
+        count += 1;
+    }
+    Ok(())
+}
+
+/// What is said against an input that this refusal is said of, once no line of an event is refused.
+fn refuse<S: Source>(
+    alloc: Global,
+    many: &ManyJob,
+    refusal: Refusal,
+    input: &mut Input,
+    source: &mut S,
+) -> InputFault<Refusal>
+    requires chains { AreChains many.now }
+    requires swaps { AreSwaps many.now }
+    requires refused { opened many.now ≡ Err refusal }
+    requires ended { EndsAt (S.left source.old) input.old }
+    ensures stops { Stops (λ bytes r. opened_after many.now (ahead input.old bytes) ≡ Err r) (S.left source.old) (S.left source.new)
+        (S.faults source.old) (S.faults source.new) input.old input.new result }
+    ensures later { S.faults source.old ≤ S.faults source.new }
+{
+    match pass_over(alloc, many, input, source) {
+        Ok(()) => InputFault::Refused(refusal),
+        Err(fault) => fault,
+    }
+}
+
+/// The worlds of the swaps after all events.
+fn run_events<S: Source, T: Strategies>(
+    alloc: Global,
+    many: &ManyJob,
+    wallets: Vec<Vec<Option<Wallet>>>,
+    kit: &T,
+    input: &mut Input,
+    source: &mut S,
+) -> Result<ManyWorld, InputFault<Refusal>>
+    requires chains { AreChains many.now }
+    requires swaps { AreSwaps many.now }
+    requires made { map (λ v. v.items) wallets.items ≡ map (wallets_for Purpose.Run) many.now.jobs }
+    requires kit { HoldsEverySwap (T.holds kit.now) many.now }
+    requires ended { EndsAt (S.left source.old) input.old }
+    ensures run { IfOk result (λ w. AreRun (T.gives kit.now) many.now w (S.left source.old) (S.left source.new) input.old input.new) }
+    ensures held { IfOk result (AreAllHeld (T.holds kit.now)) }
+    ensures stops { IfErr result (λ e. Stops (λ bytes r. opened_after many.now (ahead input.old bytes) ≡ Err r) (S.left source.old) (S.left source.new)
+        (S.faults source.old) (S.faults source.new) input.old input.new e) }
+    ensures later { S.faults source.old ≤ S.faults source.new }
+{
+    match open(alloc, many, wallets) {
+        Ok(mut world) => {
+            replay(alloc, many, &mut world, kit, input, source)?;
+            Ok(world)
+        }
+        Err(Fault::Refused(refusal)) => Err(refuse(alloc, many, refusal, input, source)),
+        Err(Fault::NoMemory) => Err(InputFault::NoMemory),
+    }
+}
+
+/// The swaps of an input, and their worlds after all events.
+fn play<S: Source>(
+    alloc: Global,
+    kit: &Kit,
+    input: &mut Input,
+    source: &mut S,
+) -> Result<Played, InputFault<Refusal>>
+    requires { input.old ≡ fresh }
+    ensures played { IfOk result (λ p. Ends (λ bytes. IsManyPlayed (has_strategy kit.now.names kit.now.strategies.items)
+        (⟦<Kit as Strategies>⟧.gives kit.now) bytes p.many p.finish p.world) (S.left source.old) (S.left source.new) fresh input.new) }
+    ensures chains { IfOk result (λ p. AreChains p.many) }
+    ensures swaps { IfOk result (λ p. AreSwaps p.many) }
+    ensures held { IfOk result (λ p. AreAllHeld (⟦<Kit as Strategies>⟧.holds kit.now) p.world) }
+    ensures stops { IfErr result (λ e. Stops (IsAgainst (has_strategy kit.now.names kit.now.strategies.items) Command.Many) (S.left source.old)
+        (S.left source.new) (S.faults source.old) (S.faults source.new) fresh input.new e) }
+    ensures later { S.faults source.old ≤ S.faults source.new }
+{
+    let heading = read_heading(alloc, kit, input, source)?;
+    let finish = heading.finish().unwrap();
+    let (many, wallets) = heading.into_parts();
+    match run_events(alloc, &many, wallets, kit, input, source) {
+        Ok(world) => Ok(Played {
+            many,
+            finish,
+            world,
+        }),
+        Err(fault) => Err(fault),
+    }
+}
+
+/// The worlds after the finish of the swaps.
+fn conclude<T: Strategies>(
+    kit: &T,
+    finish: Finish,
+    mut world: ManyWorld,
+) -> Result<ManyWorld, NoMemory>
+    requires kit { AreAllHeld (T.holds kit.now) world }
+    ensures { IfOk result (λ w. HasManyGone (T.gives kit.now) (ended_by finish) world w) }
+{
+    match finish {
+        Finish::Stop => Ok(world),
+        Finish::Fair => {
+            world.finish_fair(kit)?;
+            Ok(world)
+        }
+    }
+}
+
+/// Writes the text of the swaps, and says whether it tells of a finding.
+fn tell<K: Sink>(alloc: Global, sink: &mut K, many: &ManyJob, world: &ManyWorld) -> Status
+    requires shown { AreShown world.now many.now.jobs }
+    requires chains { AreChainsShown world.now many.now.names }
+    ensures { Writes (K.taken sink.old) (K.taken sink.new) (K.faults sink.old) (K.faults sink.new) (many_written many.now (kept_of world.now)) result }
+{
+    match write_many(
+        alloc,
+        sink,
+        many.jobs.as_slice(),
+        many.names.as_slice(),
+        world,
+    ) {
+        Ok(false) => Status::Done,
+        Ok(true) => Status::Named,
+        Err(TextFault::WriteFault) => Status::WriteFault,
+        Err(TextFault::NoMemory) => Status::NoMemory,
+    }
+}
+
+/// Runs the swaps of an input that wasn't read yet.
+fn many_input<S: Source, K: Sink>(
+    alloc: Global,
+    kit: &Kit,
+    input: &mut Input,
+    source: &mut S,
+    sink: &mut K,
+) -> Status
+    requires { input.old ≡ fresh }
+    ensures { Says (has_strategy kit.now.names kit.now.strategies.items) (⟦<Kit as Strategies>⟧.gives kit.now) Command.Many (S.left source.old)
+        (S.left source.new) (S.faults source.old) (S.faults source.new) (K.taken sink.old) (K.taken sink.new)
+        (K.faults sink.old) (K.faults sink.new) result }
+{
+    let Played {
+        many,
+        finish,
+        world,
+    } = match play(alloc, kit, input, source) {
+        Ok(played) => played,
+        Err(fault) => return stop(input, source, fault),
+    };
+    let Ok(world) = conclude(kit, finish, world) else {
+        return Status::NoMemory;
+    };
+    tell(alloc, sink, &many, &world)
+}
+
+/// Runs several swaps on shared chains.
+pub(crate) fn many<S: Source, K: Sink>(
+    alloc: Global,
+    kit: &Kit,
+    source: &mut S,
+    sink: &mut K,
+) -> Status
+    ensures { Says (has_strategy kit.now.names kit.now.strategies.items) (⟦<Kit as Strategies>⟧.gives kit.now) Command.Many (S.left source.old)
+        (S.left source.new) (S.faults source.old) (S.faults source.new) (K.taken sink.old) (K.taken sink.new)
+        (K.faults sink.old) (K.faults sink.new) result }
+{
+    match Input::new(alloc) {
+        Ok(mut input) => many_input(alloc, kit, &mut input, source, sink),
+        Err(_) => Status::NoMemory,
+    }
+}
