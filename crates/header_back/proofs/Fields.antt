@@ -29,7 +29,7 @@ use Rattle.offer_text.specs.Words.{digest_data, list_data, number_data}
 use Rattle.offer_text.specs.HeaderLine.{arc_data, fields_by_mode, leader_at, number_of, shown_header, shown_party, word_of_conforming}
 use Rattle.header_back.proofs.Steps.{items_back, step}
 
-abbrev reading : Mode → Reading
+abbrev pub reading : Mode → Reading
 reading mode = record { purpose = Audit; mode = mode }
 
 -- ---- parties
@@ -66,7 +66,7 @@ raw_arc mode job a = record {
   timelock = stated mode (slice_index job.deal.timelocks a);
 }
 
-abbrev arc_shown : Mode → Job → ℕ → Data
+abbrev pub arc_shown : Mode → Job → ℕ → Data
 arc_shown mode job a = arc_data mode job.names (ends job.deal.graph a) (amount job.deal a) (slice_index job.deal.timelocks a)
 
 arc_by : (mode : Mode) (line : ℕ) (names : List (List ℕ)) (arc : ArcEnds) (units timelock : ℕ)
@@ -76,7 +76,7 @@ unfolding arc_of object_at text_at needed number_at only
 arc_by Timelocks line names arc units timelock = refl
 arc_by Hashkeys line names arc units timelock = refl
 
-arc_back : (mode : Mode) (line : ℕ) (job : Job) (a : ℕ) → arc_of (reading mode) line (arc_shown mode job a) ≡ Ok (raw_arc mode job a)
+pub arc_back : (mode : Mode) (line : ℕ) (job : Job) (a : ℕ) → arc_of (reading mode) line (arc_shown mode job a) ≡ Ok (raw_arc mode job a)
 arc_back mode line job a = arc_by mode line job.names (ends job.deal.graph a) (amount job.deal a) (slice_index job.deal.timelocks a)
 
 -- ---- leaders and keys
@@ -87,7 +87,7 @@ raw_leader job i = record {
   hashlock = encode_lower (slice_index_or job.deal.hashlocks i []);
 }
 
-leader_back : (mode : Mode) (line : ℕ) (job : Job) (i : ℕ) → leader_of (reading mode) line (leader_at job.names job.deal i) ≡ Ok (raw_leader job i)
+pub leader_back : (mode : Mode) (line : ℕ) (job : Job) (i : ℕ) → leader_of (reading mode) line (leader_at job.names job.deal i) ≡ Ok (raw_leader job i)
 unfolding leader_of object_at text_at needed only
 leader_back mode line job i = refl
 
@@ -98,7 +98,7 @@ text_back line key = refl
 abbrev pub raw_row : List (List ℕ) → RawRow
 raw_row keys = record { texts = map encode_lower keys }
 
-row_back : (line : ℕ) (keys : List (List ℕ)) → row_of line (list_data digest_data keys) ≡ Ok (raw_row keys)
+pub row_back : (line : ℕ) (keys : List (List ℕ)) → row_of line (list_data digest_data keys) ≡ Ok (raw_row keys)
 unfolding row_of
 row_back line keys =
     step _ (map encode_lower keys) _ (items_back (member_text_of line (codes "keys")) digest_data encode_lower keys (λ key i. text_back line key))
@@ -138,7 +138,7 @@ as_shown job = refl
 
 -- each field of it
 
-version_known : (line : ℕ) (v : Version) → version_of line (number_of v) ≡ Ok v
+pub version_known : (line : ℕ) (v : Version) → version_of line (number_of v) ≡ Ok v
 version_known line One = refl
 version_known line Two = refl
 
@@ -147,7 +147,7 @@ unfolding version_at number_at needed
 version_is Timelocks line job = version_known line job.deal.version
 version_is Hashkeys line job = version_known line job.deal.version
 
-mode_fits : (line : ℕ) (v : Version) (mode : Mode) → IsModeOf v mode → mode_for line v mode ≡ Ok mode
+pub mode_fits : (line : ℕ) (v : Version) (mode : Mode) → IsModeOf v mode → mode_for line v mode ≡ Ok mode
 mode_fits line One mode k = refl
 mode_fits line Two Timelocks k = absurd (cc k)
 mode_fits line Two Hashkeys k = refl

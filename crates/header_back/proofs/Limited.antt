@@ -39,42 +39,42 @@ use Rattle.header_back.proofs.Named.{ends_at, numbered_at}
 
 -- ---- ranges, digests and lists
 
-within_back : (line : ℕ) (field : List ℕ) (low high n : ℕ) → low ≤ n → n ≤ high → within line field low high n ≡ Ok tt
+pub within_back : (line : ℕ) (field : List ℕ) (low high n : ℕ) → low ≤ n → n ≤ high → within line field low high n ≡ Ok tt
 unfolding within
 within_back line field low high n l h = rw (and_both (nat_le low n) (nat_le n high) (le-leb low n l) (le-leb n high h)) refl
 
-number_back : (line : ℕ) (field : List ℕ) (low high n : ℕ) → low ≤ n → n ≤ high → number_within line field low high n ≡ Ok n
+pub number_back : (line : ℕ) (field : List ℕ) (low high n : ℕ) → low ≤ n → n ≤ high → number_within line field low high n ≡ Ok n
 unfolding number_within
 number_back line field low high n l h = step _ tt _ (within_back line field low high n l h)
 
-digest_back : (line : ℕ) (field x : List ℕ) → IsDigest x → digest_of line field (encode_lower x) ≡ Ok x
+pub digest_back : (line : ℕ) (field x : List ℕ) → IsDigest x → digest_of line field (encode_lower x) ≡ Ok x
 unfolding digest_of
 digest_back line field x k = ap (decoded line field) (decode_sized-encode_lower x 32 k.size k.bytes)
 
-all_in : {A : Type 0} (P : A → Type 0) (xs : List A) (x : A) → All P xs → IsIn x xs → P x
+pub all_in : {A : Type 0} (P : A → Type 0) (xs : List A) (x : A) → All P xs → IsIn x xs → P x
 all_in P [] x h i = absurd i
 all_in P (y ∷ ys) x h (inl e) = subst P (sym e) (h 0 y (omega arith))
 all_in P (y ∷ ys) x h (inr i) = all_in P ys x (λ j d lt. h (suc j) d (omega arith)) i
 
-map_self : {A : Type 0} (xs : List A) → map (λ x. x) xs ≡ xs
+pub map_self : {A : Type 0} (xs : List A) → map (λ x. x) xs ≡ xs
 map_self [] = refl
 map_self {A = A} (x ∷ xs) = ap (λ (ys : List A). x ∷ ys) (map_self xs)
 
-twice : {A B C : Type 0} (f : B → C) (g : A → B) (xs : List A) → map f (map g xs) ≡ map (λ x. f (g x)) xs
+pub twice : {A B C : Type 0} (f : B → C) (g : A → B) (xs : List A) → map f (map g xs) ≡ map (λ x. f (g x)) xs
 twice f g [] = refl
 twice {C = C} f g (x ∷ xs) = ap (λ (ys : List C). f (g x) ∷ ys) (twice f g xs)
 
 -- a list of the places of another
-places : {A B : Type 0} (f : A → B) (xs : List A) (d : A) (n : ℕ) → length xs ≡ n → map (λ i. f (slice_index_or xs i d)) (range_with_len 0 n) ≡ map f xs
+pub places : {A B : Type 0} (f : A → B) (xs : List A) (d : A) (n : ℕ) → length xs ≡ n → map (λ i. f (slice_index_or xs i d)) (range_with_len 0 n) ≡ map f xs
 places f xs d n e =
     ap (λ (m : ℕ). map (λ i. f (slice_index_or xs i d)) (range_with_len 0 m)) (sym e)
     ∙ sym (twice f (λ i. slice_index_or xs i d) (range_with_len 0 (length xs))) ∙ ap (map f) (by_places d [] xs)
 
 -- a list by its places
-placed : {A : Type 0} (xs : List A) (d : A) (n : ℕ) → length xs ≡ n → map (λ i. slice_index_or xs i d) (range_with_len 0 n) ≡ xs
+pub placed : {A : Type 0} (xs : List A) (d : A) (n : ℕ) → length xs ≡ n → map (λ i. slice_index_or xs i d) (range_with_len 0 n) ≡ xs
 placed xs d n e = places (λ x. x) xs d n e ∙ map_self xs
 
-same_map : {A B : Type 0} (f g : A → B) (xs : List A) → ((x : A) → IsIn x xs → f x ≡ g x) → map f xs ≡ map g xs
+pub same_map : {A B : Type 0} (f g : A → B) (xs : List A) → ((x : A) → IsIn x xs → f x ≡ g x) → map f xs ≡ map g xs
 same_map f g [] h = refl
 same_map {B = B} f g (x ∷ xs) h = ap₂ (λ (y : B) (ys : List B). y ∷ ys) (h x (inl refl)) (same_map f g xs (λ y i. h y (inr i)))
 
@@ -128,12 +128,12 @@ bound_by d [] h parties some tall le = absurd (omega arith)
 bound_by d (l ∷ []) h parties some tall le = one_leader d.graph.n h d.bound parties (tall_enough d l h parties tall) le
 bound_by d (l ∷ m ∷ ls) h parties some tall le = many_leaders d.graph.n (length (l ∷ m ∷ ls)) h d.bound parties (omega arith) le
 
-some_bound : (d : Deal) → IsAccepted d → 1 ≤ d.bound
+pub some_bound : (d : Deal) → IsAccepted d → 1 ≤ d.bound
 some_bound d a = bound_by d d.leaders a.height a.parties.0 a.leaders.0 a.is_height a.bound.0
 
 -- ---- the header
 
-abbrev header_by : Job → List Role → List Bool → List (Option (List ℕ)) → List ArcEnds → List ℕ → List ℕ → Header
+abbrev pub header_by : Job → List Role → List Bool → List (Option (List ℕ)) → List ArcEnds → List ℕ → List ℕ → Header
 header_by job roles conforming seeds ends amounts timelocks = record {
   purpose = Audit;
   version = job.deal.version;
@@ -154,7 +154,7 @@ header_by job roles conforming seeds ends amounts timelocks = record {
   finish = Stop;
 }
 
-same_header : (job : Job) (rs rs' : List Role) (cs cs' : List Bool) (ss ss' : List (Option (List ℕ))) (es es' : List ArcEnds) (ms ms' ts ts' : List ℕ)
+pub same_header : (job : Job) (rs rs' : List Role) (cs cs' : List Bool) (ss ss' : List (Option (List ℕ))) (es es' : List ArcEnds) (ms ms' ts ts' : List ℕ)
     → rs ≡ rs' → cs ≡ cs' → ss ≡ ss' → es ≡ es' → ms ≡ ms' → ts ≡ ts' → header_by job rs cs ss es ms ts ≡ header_by job rs' cs' ss' es' ms' ts'
 same_header job rs rs' cs cs' ss ss' es es' ms ms' ts ts' r c s e m t =
     ap (λ (x : List Role). header_by job x cs ss es ms ts) r
@@ -168,7 +168,7 @@ abbrev pub header_at : Job → Header
 header_at job =
     header_by job (map simple_role job.conforming) job.conforming (map (λ c. None) job.conforming) job.deal.graph.arcs job.deal.amounts job.deal.timelocks
 
-abbrev terms_at : Mode → Job → ℕ → ArcTerms
+abbrev pub terms_at : Mode → Job → ℕ → ArcTerms
 terms_at mode job a = record { amount = amount job.deal a; timelock = stated mode (slice_index job.deal.timelocks a) }
 
 module _ (job : Job) (k : IsShowable job) (line : ℕ) where
@@ -207,7 +207,7 @@ module _ (job : Job) (k : IsShowable job) (line : ℕ) where
       ∙ step _ (stated mode (slice_index job.deal.timelocks a)) _
       (number_back line (codes "timelock") 0 1000000 (stated mode (slice_index job.deal.timelocks a)) (omega arith) (stated_low mode a lt))
 
-  terms_back : (mode : Mode)
+  pub terms_back : (mode : Mode)
       → all_terms_of job.deal.version line (map (raw_arc mode job) (arcs job.deal.graph)) ≡ Ok (map (terms_at mode job) (arcs job.deal.graph))
   unfolding all_terms_of
   terms_back mode =
@@ -220,12 +220,12 @@ module _ (job : Job) (k : IsShowable job) (line : ℕ) where
       ∙ each_back (terms_of line) (raw_arc mode job) (terms_at mode job) (arcs job.deal.graph)
       (λ a i. term_back mode a (from_range a (length job.deal.graph.arcs) i))
 
-  ends_are : map arc_ends (map (ends_at job) (arcs job.deal.graph)) ≡ job.deal.graph.arcs
+  pub ends_are : map arc_ends (map (ends_at job) (arcs job.deal.graph)) ≡ job.deal.graph.arcs
   ends_are =
       twice arc_ends (ends_at job) (arcs job.deal.graph)
       ∙ placed job.deal.graph.arcs (record { from = 0; to = 0 }) (length job.deal.graph.arcs) refl
 
-  amounts_are : (mode : Mode) → map (λ (t : ArcTerms). t.amount) (map (terms_at mode job) (arcs job.deal.graph)) ≡ job.deal.amounts
+  pub amounts_are : (mode : Mode) → map (λ (t : ArcTerms). t.amount) (map (terms_at mode job) (arcs job.deal.graph)) ≡ job.deal.amounts
   amounts_are mode =
       twice (λ (t : ArcTerms). t.amount) (terms_at mode job) (arcs job.deal.graph)
       ∙ placed job.deal.amounts 0 (length job.deal.graph.arcs) k.accepted.one_amount_each
@@ -235,7 +235,7 @@ module _ (job : Job) (k : IsShowable job) (line : ℕ) where
   as_stated Timelocks t a lt = refl
   as_stated Hashkeys t a lt = sym (t a lt)
 
-  timelocks_are : (mode : Mode) → IsTimed mode job.deal
+  pub timelocks_are : (mode : Mode) → IsTimed mode job.deal
       → map (λ (t : ArcTerms). t.timelock) (map (terms_at mode job) (arcs job.deal.graph)) ≡ job.deal.timelocks
   timelocks_are mode timed =
       twice (λ (t : ArcTerms). t.timelock) (terms_at mode job) (arcs job.deal.graph)
@@ -251,7 +251,7 @@ module _ (job : Job) (k : IsShowable job) (line : ℕ) where
       let count : length job.deal.hashlocks ≡ length job.deal.leaders = k.accepted.hashlocks in
       digest_back line (codes "hashlock") (slice_index_or job.deal.hashlocks i []) (k.hashlocks i [] (omega (arith, count, lt)))
 
-  hashlocks_back : hashlocks_of false line (map (raw_leader job) (locks job.deal)) ≡ Ok job.deal.hashlocks
+  pub hashlocks_back : hashlocks_of false line (map (raw_leader job) (locks job.deal)) ≡ Ok job.deal.hashlocks
   unfolding hashlocks_of
   hashlocks_back =
       let low : 1 ≤ length job.deal.leaders = k.accepted.leaders.0 in
@@ -278,13 +278,13 @@ module _ (job : Job) (k : IsShowable job) (line : ℕ) where
       ∙ each_back (key_of line) encode_lower (λ x. x) keys (λ key i. key_back key (all_in IsDigest keys key all i))
       ∙ ap (λ (l : List (List ℕ)). Ok l) (map_self keys)
 
-  rows_back : (xs : List (List (List ℕ))) → ((x : List (List ℕ)) → IsIn x xs → (length x ≡ length job.deal.leaders) × All IsDigest x)
+  pub rows_back : (xs : List (List (List ℕ))) → ((x : List (List ℕ)) → IsIn x xs → (length x ≡ length job.deal.leaders) × All IsDigest x)
       → each_of (party_keys_of (length job.deal.leaders) line) (map raw_row xs) ≡ Ok xs
   rows_back xs each =
       each_back (party_keys_of (length job.deal.leaders) line) raw_row (λ x. x) xs (λ x i. row_back x (each x i).0 (each x i).1)
       ∙ ap (λ (l : List (List (List ℕ))). Ok l) (map_self xs)
 
-  in_place : (xs : List (List (List ℕ))) (x : List (List ℕ)) → ((p : ℕ) → p < length xs → length (slice_index_or xs p []) ≡ length job.deal.leaders)
+  pub in_place : (xs : List (List (List ℕ))) (x : List (List ℕ)) → ((p : ℕ) → p < length xs → length (slice_index_or xs p []) ≡ length job.deal.leaders)
       → IsIn x xs → length x ≡ length job.deal.leaders
   in_place [] x h i = absurd i
   in_place (y ∷ ys) x h (inl e) = ap (λ (l : List (List ℕ)). length l) e ∙ h 0 (omega arith)

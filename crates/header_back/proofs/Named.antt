@@ -64,13 +64,13 @@ module _ (job : Job) (k : IsShowable job) (line : ℕ) where
       (bytes_eq-true (slice_index_or job.names p []) (get_or (take i job.names) j []) t ∙ get_or-take i job.names j [] less) in
       omega (arith, same, less, le))
 
-  is_fresh : (p : ℕ) → p < length job.names → list_any (bytes_eq (slice_index_or job.names p [])) (take p job.names) ≡ false
+  pub is_fresh : (p : ℕ) → p < length job.names → list_any (bytes_eq (slice_index_or job.names p [])) (take p job.names) ≡ false
   is_fresh p lt =
       let size = length-take p job.names in
       any_false (bytes_eq (slice_index_or job.names p [])) (take p job.names) []
       (λ j less. other_name p j p lt (omega (arith, less, size)) (omega arith))
 
-  number_back : (p : ℕ) → p < length job.names → party_of_name line job.names (slice_index_or job.names p []) ≡ Ok p
+  pub number_back : (p : ℕ) → p < length job.names → party_of_name line job.names (slice_index_or job.names p []) ≡ Ok p
   unfolding party_of_name
   number_back p lt =
       let name : List ℕ = slice_index_or job.names p [] in
@@ -85,7 +85,7 @@ module _ (job : Job) (k : IsShowable job) (line : ℕ) where
 
   -- ---- names, arcs and leaders
 
-  name_on : (p : ℕ) → p < length job.names → name_added line (take p job.names) (raw_party job p) ≡ Ok (take (p + 1) job.names)
+  pub name_on : (p : ℕ) → p < length job.names → name_added line (take p job.names) (raw_party job p) ≡ Ok (take (p + 1) job.names)
   unfolding name_added
   name_on p lt =
       let is : is_name (slice_index_or job.names p []) ≡ true = k.names p [] lt in
@@ -146,7 +146,7 @@ module _ (job : Job) (k : IsShowable job) (line : ℕ) where
       (λ t. steps (leader_step line job.names) t (map (raw_leader job) (range_with_len (i + 1) m))) (leader_on i (omega arith))
       ∙ leaders_on m (i + 1) (omega arith)
 
-  all_arcs : (mode : Mode) → each_of (ends_of line job.names) (map (raw_arc mode job) (arcs job.deal.graph)) ≡ Ok (map (ends_at job) (arcs job.deal.graph))
+  pub all_arcs : (mode : Mode) → each_of (ends_of line job.names) (map (raw_arc mode job) (arcs job.deal.graph)) ≡ Ok (map (ends_at job) (arcs job.deal.graph))
   all_arcs mode =
       each_back (ends_of line job.names) (raw_arc mode job) (ends_at job) (arcs job.deal.graph)
       (λ a i. arc_on mode a (from_range a (length job.deal.graph.arcs) i))
@@ -155,7 +155,7 @@ module _ (job : Job) (k : IsShowable job) (line : ℕ) where
       → steps (name_step has line all) [] (map (raw_party job) (range_with_len 0 job.deal.graph.n)) ≡ Ok job.names
   all_names has all = let count : length job.names ≡ job.deal.graph.n = k.parties in parties_on has all job.deal.graph.n 0 (omega (arith, count))
 
-  all_leaders : steps (leader_step line job.names) [] (map (raw_leader job) (range_with_len 0 (length job.deal.leaders))) ≡ Ok job.deal.leaders
+  pub all_leaders : steps (leader_step line job.names) [] (map (raw_leader job) (range_with_len 0 (length job.deal.leaders))) ≡ Ok job.deal.leaders
   all_leaders = leaders_on (length job.deal.leaders) 0 (omega arith)
 
   pub numbered_back : (has : List ℕ → Bool) (mode : Mode) → numbered_of has line (raw_header mode job) ≡ Ok (numbered_at job)

@@ -30,7 +30,7 @@ use Rattle.header_back.specs.Laws.{HeaderIsOneLine}
 abbrev pub IsOneLine : List ℕ → Type 0
 IsOneLine l = list_all (λ x. not (x == 10)) l ≡ true
 
-both_lines : (v w : List ℕ) → IsOneLine v → IsOneLine w → IsOneLine (v ++ w)
+pub both_lines : (v w : List ℕ) → IsOneLine v → IsOneLine w → IsOneLine (v ++ w)
 both_lines [] w h k = k
 both_lines (x ∷ v) w h k =
     let p = and_parts (not (x == 10)) (list_all (λ y. not (y == 10)) v) h in
@@ -87,7 +87,7 @@ in_quotes s = both_lines (escape s) (34 ∷ []) (escaped s) refl
 
 -- ---- values
 
-high_line : (w : List ℕ) → IsHigh 48 w → IsOneLine w
+pub high_line : (w : List ℕ) → IsHigh 48 w → IsOneLine w
 high_line [] h = refl
 high_line (x ∷ w) h =
     let p = and_parts (nat_le 48 x) (list_all (λ y. nat_le 48 y) w) h in
@@ -149,7 +149,7 @@ pub low_version : (v : Version) → number_of v < 2 ^ 64
 low_version One = omega arith
 low_version Two = omega arith
 
-items_plain : {A : Type 0} (f : A → Data) (xs : List A) → ((x : A) → IsIn x xs → IsPlain (f x)) → ArePlain (items_of (map f xs))
+pub items_plain : {A : Type 0} (f : A → Data) (xs : List A) → ((x : A) → IsIn x xs → IsPlain (f x)) → ArePlain (items_of (map f xs))
 items_plain f [] h = tt
 items_plain f (x ∷ xs) h = (h x (inl refl), items_plain f xs (λ y i. h y (inr i)))
 
@@ -159,7 +159,7 @@ arc_plain Timelocks names arc units timelock u t = (u, (tt, (t, (tt, tt))))
 arc_plain Hashkeys names arc units timelock u t = (u, (tt, (tt, tt)))
 
 module _ (job : Job) (k : IsWellSized job.deal) where
-  arcs_plain : IsPlain (arcs_data job.names job.deal)
+  pub arcs_plain : IsPlain (arcs_data job.names job.deal)
   arcs_plain =
       items_plain (arc_at job.names job.deal) (arcs job.deal.graph) (λ a i.
       let lt = from_range a (length job.deal.graph.arcs) i in
@@ -167,10 +167,10 @@ module _ (job : Job) (k : IsWellSized job.deal) where
       let timelock : slice_index job.deal.timelocks a ≤ 1000000 = k.timelock a lt in
       arc_plain job.deal.mode job.names (ends job.deal.graph a) (amount job.deal a) (slice_index job.deal.timelocks a) (omega arith) (omega arith))
 
-  leaders_plain : IsPlain (leaders_data job.names job.deal)
+  pub leaders_plain : IsPlain (leaders_data job.names job.deal)
   leaders_plain = items_plain (leader_at job.names job.deal) (locks job.deal) (λ i is. (tt, (tt, tt)))
 
-  keys_plain : IsPlain (keys_data job.deal.keys)
+  pub keys_plain : IsPlain (keys_data job.deal.keys)
   keys_plain = items_plain (list_data digest_data) job.deal.keys (λ row i. items_plain digest_data row (λ x j. tt))
 
   parties_plain : IsPlain (parties_data shown_party job)

@@ -109,7 +109,7 @@ keys_are Hashkeys line h keys e = rows_are line h keys e
 
 -- ---- names
 
-abbrev IsGood : List ℕ → Type 0
+abbrev pub IsGood : List ℕ → Type 0
 IsGood name = is_name name ≡ true
 
 two_tests : {X : Type 0} (a b : Bool) (x y : Reason) (z t : X) → cond a (cond b (Err x) (Ok z)) (Err y) ≡ Ok t → (a ≡ true) × (z ≡ t)
@@ -135,7 +135,7 @@ good_step has line all seen p t good =
     onward (name_added line seen p) _ (All IsGood) (λ names n.
     onward (actor_known has line all p.actor) _ (All IsGood) (λ u k. landed names (All IsGood) (good_added line seen p names good n))) t
 
-good_names : (has : List ℕ → Bool) (line : ℕ) (raw : RawHeader) (n : Numbered) → numbered_of has line raw ≡ Ok n → All IsGood n.names
+pub good_names : (has : List ℕ → Bool) (line : ℕ) (raw : RawHeader) (n : Numbered) → numbered_of has line raw ≡ Ok n → All IsGood n.names
 unfolding numbered_of
 good_names has line raw =
     onward (steps (name_step has line (names_stated raw.parties)) [] raw.parties) _ (λ (n : Numbered). All IsGood n.names) (λ names e.
@@ -147,10 +147,10 @@ good_names has line raw =
 
 -- ---- the fields of a header
 
-abbrev IsFit : RawHeader → Type 0
+abbrev pub IsFit : RawHeader → Type 0
 IsFit raw = IsModeOf raw.version raw.mode × IsUntimed raw
 
-raw_fits : (purpose : Purpose) (line : ℕ) (d : Data) (raw : RawHeader) → raw_of purpose line d ≡ Ok raw → IsFit raw
+pub raw_fits : (purpose : Purpose) (line : ℕ) (d : Data) (raw : RawHeader) → raw_of purpose line d ≡ Ok raw → IsFit raw
 unfolding raw_of
 raw_fits purpose line d =
     onward (version_at line d) _ IsFit (λ version v.
@@ -226,7 +226,7 @@ graph_is h g e = go (first_fault (length h.names) h.version h.arcs) e
     go None k = ok_is (digraph_in h) g k
     go (Some f) k = absurd (cc k)
 
-admitted_graph : (h : Header) (g : Graph) → admitted h ≡ Ok g → digraph_in h ≡ g
+pub admitted_graph : (h : Header) (g : Graph) → admitted h ≡ Ok g → digraph_in h ≡ g
 unfolding admitted
 admitted_graph h =
     onward (graph_of h) _ (λ (g : Graph). digraph_in h ≡ g) (λ x m.

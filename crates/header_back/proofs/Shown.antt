@@ -47,7 +47,7 @@ name_text s h =
     IsUtf8-are_ascii s (ascii_name s (and_parts (nat_le 1 (length s) && nat_le (length s) 16) (list_all is_name_byte s) h).1)
 
 -- the name of a party, or of nobody
-names_are_text : (names : List (List ℕ)) → All (λ x. is_name x ≡ true) names → (p : ℕ) → IsUtf8 (slice_index_or names p [])
+pub names_are_text : (names : List (List ℕ)) → All (λ x. is_name x ≡ true) names → (p : ℕ) → IsUtf8 (slice_index_or names p [])
 names_are_text [] h p = IsUtf8-nil
 names_are_text (s ∷ names) h zero = name_text s (h 0 s (omega arith))
 names_are_text (s ∷ names) h (suc p) = names_are_text names (λ i d lt. h (suc i) d (omega arith)) p
@@ -56,12 +56,12 @@ is_ascii : (s : List ℕ) → are_ascii s ≡ true → IsAscii s
 is_ascii [] h = IsAscii-nil
 is_ascii (b ∷ s) h = let p = and_parts (nat_lt b 128) (are_ascii s) h in IsAscii-cons b s (ltb-true b 128 p.0) (is_ascii s p.1)
 
-digest_is : (n : ℕ) (x : List ℕ) → IsRead n (digest_data x)
+pub digest_is : (n : ℕ) (x : List ℕ) → IsRead n (digest_data x)
 digest_is n x =
     string_is n (encode_lower x) (IsUtf8-from_ascii (encode_lower x) (IsAscii-encode_with lower_digits x (is_ascii lower_digits refl)))
 
 -- the name of a field
-field : (s : List ℕ) → are_ascii s ≡ true → IsUtf8 s
+pub field : (s : List ℕ) → are_ascii s ≡ true → IsUtf8 s
 field s h = IsUtf8-are_ascii s h
 
 word_is : (n : ℕ) (c : Bool) → IsRead n (string (word_of_conforming c))
@@ -150,14 +150,14 @@ module _ (job : Job) (k : IsShowable job) where
   named : (p : ℕ) → IsUtf8 (slice_index_or job.names p [])
   named p = names_are_text job.names k.names p
 
-  arc_at_is : (a : ℕ) → IsIn a (arcs job.deal.graph) → IsRead 1 (arc_at job.names job.deal a)
+  pub arc_at_is : (a : ℕ) → IsIn a (arcs job.deal.graph) → IsRead 1 (arc_at job.names job.deal a)
   arc_at_is a i =
       let lt = from_range a (length job.deal.graph.arcs) i in
       let amount_is = (k.accepted.amounts a lt).1 in
       let timelock_is = k.sized.timelock a lt in
       arc_is job.deal.mode job.names (ends job.deal.graph a) (amount job.deal a) (slice_index job.deal.timelocks a) named (omega arith) (omega arith)
 
-  leader_is : (i : ℕ) → IsRead 1 (leader_at job.names job.deal i)
+  pub leader_is : (i : ℕ) → IsRead 1 (leader_at job.names job.deal i)
   leader_is i =
       object_is 0 (member (codes "hashlock") (digest_data (slice_index_or job.deal.hashlocks i [])) (member (codes "party")
       (name_data job.names (leader_of job.deal i)) no_members)) (

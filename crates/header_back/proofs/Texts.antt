@@ -122,12 +122,12 @@ members_are_text k later (member name d ms) h =
     (before 58 (compact_text d ++ members_text true ms) (IsUtf8-are_ascii (58 ∷ []) refl) rest))
 
 -- whether a field's name is greater than those of other fields
-abbrev is_greater : Ordering → Bool
+abbrev pub is_greater : Ordering → Bool
 is_greater Less = false
 is_greater Equal = false
 is_greater Greater = true
 
-abbrev all_below : Members → List ℕ → Bool
+abbrev pub all_below : Members → List ℕ → Bool
 all_below no_members name = true
 all_below (member other e ms) name = is_greater (slice_cmp nat_cmp name other) && all_below ms name
 

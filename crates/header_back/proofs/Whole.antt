@@ -49,7 +49,7 @@ none_given f [] h = refl
 none_given f (x ∷ xs) h = rw (h x) (none_given f xs h)
 
 -- in version 2 the mode is hashkeys
-mode_of_version : (v : Version) (d : Deal) → IsOfVersion v d → IsModeOf v d.mode
+pub mode_of_version : (v : Version) (d : Deal) → IsOfVersion v d → IsModeOf v d.mode
 mode_of_version One d k = tt
 mode_of_version Two d k = k
 
@@ -79,7 +79,7 @@ module _ (job : Job) (k : IsShowable job) (line : ℕ) where
       ∙ step _ (header_at job) _ (limited_back job k line)
       ∙ step _ tt _ all_placed
 
-  untimed : (mode : Mode) → IsUntimed (raw_header mode job)
+  pub untimed : (mode : Mode) → IsUntimed (raw_header mode job)
   untimed mode is a d lt =
       let size : length (map (raw_arc mode job) (arcs job.deal.graph)) ≡ length (arcs job.deal.graph) = length-map (arcs job.deal.graph) (raw_arc mode job) in
       ap (λ (x : RawArc). x.timelock) (get_or-map (raw_arc mode job) (arcs job.deal.graph) a 0 d (omega (arith, lt, size)))
@@ -93,7 +93,7 @@ module _ (job : Job) (k : IsShowable job) (line : ℕ) where
 
   -- the deal of the header is the job's
 
-  abbrev remade : ℕ → Deal
+  abbrev pub remade : ℕ → Deal
   remade n = record {
     version = job.deal.version;
     graph = record { n = n; arcs = job.deal.graph.arcs };
@@ -109,7 +109,7 @@ module _ (job : Job) (k : IsShowable job) (line : ℕ) where
     id = job.deal.id;
   }
 
-  is_remade : remade (length job.names) ≡ job.deal
+  pub is_remade : remade (length job.names) ≡ job.deal
   is_remade = ap remade k.parties
 
   id_is : deal_id (unnamed (header_at job) (digraph_in (header_at job)) (replicate 32 0)) ≡ job.deal.id

@@ -1,0 +1,24 @@
+-- The run of what `gen` writes is the one that the number's summary tells of.
+use Rattle.std.specs.Prelude.{◌≡◌, ◌≤◌, ℕ, Bool, List, Ok}
+use Rattle.deviator_script.specs.declared.job.Purpose.TheVariants as purposes
+use Rattle.swap_gen.specs.Drawn.{plain_job}
+use Rattle.made_jobs.specs.Generating.{generated_book, generated_text}
+use Rattle.made_back.specs.Laws.{told}
+use Rattle.audit_command.specs.Output.{Written}
+use Rattle.swap_commands.specs.Generated.{summary_output}
+use Rattle.swap_commands.specs.Output.{output_by, reported, Chance}
+use Rattle.swap_commands.specs.declared.words.Command.TheVariants.{OfJob}
+use Rattle.swap_commands.specs.declared.words.JobCommand.TheVariants.{Run}
+use Rattle.swap_commands.specs.declared.words.Request.{Request}
+
+-- What is reported of the book that the number's summary tells of: it is found whatever the summary finds.
+abbrev pub summed : Bool → Request → Written
+summed transcript r = reported transcript (told purposes.Run (plain_job r.seed r.parties)) (generated_book r.seed r.parties r.events)
+
+-- A run of what `gen` writes of a number, with at most 200,000 events, writes the report, or the transcript, of that book, whatever strategies are had and
+-- chance decides; and it tells of a finding where the summary does.
+abbrev pub GeneratedRunsAreSummed : Type 0
+GeneratedRunsAreSummed =
+    (has : List ℕ → Bool) (chance : Chance) (transcript : Bool) (r : Request) → 2 ≤ r.parties → r.parties ≤ 24 → r.events ≤ 200000
+    → (output_by has chance (OfJob (Run transcript)) (generated_text r.seed r.parties r.events) ≡ Ok (summed transcript r))
+    × ((summed transcript r).found ≡ (summary_output r).found)
