@@ -15,6 +15,8 @@ mod names;
 #[cfg(test)]
 mod offers;
 #[cfg(test)]
+mod passing;
+#[cfg(test)]
 mod presenting;
 #[cfg(test)]
 mod publishing;
