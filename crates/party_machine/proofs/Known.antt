@@ -1,5 +1,5 @@
 -- What a machine is made of, as a new one and after more entries of an arc.
-use Rattle.std.proofs.Common.{◌≡◌, ◌≢◌, ◌⊎◌, ℕ, zero, suc, ◌+◌, ◌<◌, ◌++◌, List, [], ◌∷◌, length, map, get_or, set, replicate, Option, None, refl, sym}
+use Rattle.std.proofs.Common.{◌≡◌, ◌≢◌, ◌⊎◌, ℕ, zero, suc, ◌+◌, ◌<◌, ◌++◌, List, [], ◌∷◌, length, map, get_or, set, replicate, Option, Some, None, refl, sym}
 use Rattle.std.proofs.Common.{ap, ◌∙◌, subst, inl, inr, zero-add}
 use Rattle.std.specs.Prelude.{Result, Ok, Err, OnOk, OnErr}
 use Rattle.std.specs.List.{range_with_len}
@@ -22,11 +22,11 @@ use Rattle.swap_rules.specs.Accepted.{IsAccepted}
 use Rattle.swap_laws.specs.Machine.{IsWallet}
 use Rattle.swap_laws.proofs.Prefixes.{same_or_not}
 use Rattle.swap_laws.proofs.Conducting.{history_same, history_other}
-use Rattle.party_wallet.specs.Value.{WalletState}
-use Rattle.party_wallet.specs.Keys.{new_wallet}
+use Rattle.party_wallet.specs.Value.{WalletState, signed_in}
+use Rattle.party_wallet.specs.Keys.{new_wallet, with_recorded}
 use Rattle.party_machine.specs.Wallet.{wallet_of}
 use Rattle.party_wallet.specs.Fits.{wrong_lock}
-use Rattle.party_machine.specs.Machine.{MachineState, new_machine, machine_or, machine_for, learnt}
+use Rattle.party_machine.specs.Machine.{MachineState, new_machine, machine_or, machine_for, resumed_machine, learnt}
 use Rattle.party_machine.specs.Within.{entries_in, machine_in, AreIndexes, IsPartys, IsReady, IsKept}
 use Rattle.party_machine.specs.declared.machine.Machine.TheInside.{Inside}
 use Rattle.party_machine.proofs.Good.{fitting_is_good}
@@ -143,6 +143,36 @@ pub new_shows : (c d : Deal) (v : ℕ) (w : WalletState) (known : List IndexStat
     → known ≡ map (new_index d) (arcs d.graph) → wrong_lock d v w.seed ≡ None
     → machine_for d v w.seed ≡ Ok (record { deal = c; me = w.party; seed = w.seed; known = entries_in known; signed = w.signed })
 new_shows c d v w known ec ew ek fits = ap (machine_or d v w.seed) fits ∙ ap (λ (m : MachineState). Ok m) (sym (new_is c d v w known ec ew ek))
+
+-- a machine that knows nothing, with recorded hashkeys in its wallet
+pub restarted_ready : (d : Deal) (w w' : WalletState) (old known : List IndexState) (recorded : List (Option Hashkey)) → IsReady d w old
+    → known ≡ map (new_index d) (arcs d.graph) → w' ≡ with_recorded w recorded → length recorded ≡ length d.leaders
+    → ((i : ℕ) (k : Hashkey) → signed_in recorded i ≡ Some k → k.lock ≡ i) → IsReady d w' known
+restarted_ready d w w' old known recorded r ek ew places locks = record {
+  sized = r.sized;
+  partys = subst (IsPartys d) (sym ew) (record {
+    party = r.partys.party;
+    mode = r.partys.mode;
+    places = places;
+    fits = r.partys.fits;
+    locks = locks;
+  });
+  indexes = subst (AreIndexes d) (sym ek) (indexes_new d);
+  arcs = ap (map (λ x. x.arc)) ek ∙ arcs_from d 0 (length d.graph.arcs);
+  legal = subst (IsLegalBook d) (sym (entries_new d known ek)) (legal_new d);
+}
+
+-- what it shows
+pub restarted_is : (d : Deal) (w w' : WalletState) (known : List IndexState) (recorded : List (Option Hashkey)) → known ≡ map (new_index d) (arcs d.graph)
+    → w' ≡ with_recorded w recorded
+    → ◌≡◌ {A = MachineState} (record { deal = d; me = w'.party; seed = w'.seed; known = entries_in known; signed = w'.signed })
+    (resumed_machine d w.party w.seed recorded)
+restarted_is d w w' known recorded ek ew =
+    let p : w'.party ≡ w.party = ap (λ (x : WalletState). x.party) ew in
+    let s : w'.seed ≡ w.seed = ap (λ (x : WalletState). x.seed) ew in
+    let g : w'.signed ≡ recorded = ap (λ (x : WalletState). x.signed) ew in
+    let k : entries_in known ≡ replicate (length d.graph.arcs) [] = entries_new d known ek in
+    λ i. record { deal = d; me = p i; seed = s i; known = k i; signed = g i }
 
 -- More entries of an arc.
 

@@ -19,7 +19,9 @@ ghost use Rattle.wallet_journal.specs.Device.{LeavesOnly, IsUntouched};
 ghost use Rattle.wallet_journal.specs.Journal.{KeepsRecorded};
 ghost use Rattle.wallet_journal.specs.Own.{IsOwn};
 ghost use Rattle.wallet_journal.specs.Recording.{IsRefused, IsWritten};
-ghost use Rattle.wallet_journal.specs.declared.fault.RecordFault.TheVariants.{NoMemory as Wanting};
+ghost use Rattle.wallet_journal.specs.Layout.{recorded};
+ghost use Rattle.wallet_journal.specs.Stopped.{bytes_left, kept_key, IsOfWrites};
+ghost use Rattle.wallet_journal.specs.declared.fault.RecordFault.TheVariants.{DiskFault as Stopped, NoMemory as Wanting};
 ghost use Rattle.party_machine.specs.Machine.{machine_for, new_machine, resumed_for, resumed_machine, learnt, action_of, next_of, noted_for, IsOfSame};
 ghost use Rattle.party_machine.specs.Recording.{new_key, signs_next, IsRecorded, IsStoppedNext, IsWhole, MayHave};
 
@@ -134,6 +136,22 @@ impl Machine {
         machine.restored(journal.keys().as_slice())
     }
 
+    /// The party restarts: it knows nothing, and signed what its journal has recorded. Want of memory leaves it as it was.
+    pub fn restart<D: Disk>(&mut self, journal: &Journal<D>) -> Result<(), NoMemory>
+        requires sound { journal.now.sound ≡ true }
+        requires places { length journal.now.signed ≡ length self.old.deal.leaders }
+        ensures ok { OnOk result (self.new ≡ resumed_machine self.old.deal self.old.me self.old.seed journal.now.signed) }
+        ensures err { OnErr result (self.new ≡ self.old) }
+    {
+        let alloc = *self.known.allocator();
+        let known = indexes_of(alloc, &self.deal)?;
+        let wallet = self.wallet.resumed(alloc, journal.keys().as_slice())?;
+        self.known = known;
+        self.wallet = wallet;
+        self.rest = Rest::Awake;
+        Ok(())
+    }
+
     /// Adds entries to what is known of an arc, a step each. Want of memory leaves everything as it was, in no step.
     pub fn learn<L: Ledger>(
         &mut self,
@@ -225,6 +243,7 @@ impl Machine {
 
         // The journal is written where a hashkey is signed, and only there.
         ensures unwritten { signs_next self.old ≡ None → journal.new ≡ journal.old }
+        ensures calm { signs_next self.old ≡ None → IfErr result (λ e. e ≡ Wanting) }
         ensures written { OnOk result ((k : Hashkey) → signs_next self.old ≡ Some k
             → IsWritten k (D.synced journal.old.disk) (D.synced journal.new.disk) (D.loose journal.new.disk)) }
 
@@ -240,6 +259,11 @@ impl Machine {
         ensures passes { D.never_fails journal.old.disk → IfErr result (λ e. e ≡ Wanting) }
         ensures stops { (n : ℕ) (k : Hashkey) → n < 4 → D.stops_after journal.old.disk n → signs_next self.old ≡ Some k
             → IsStoppedNext n k (D.synced journal.old.disk) (D.synced journal.new.disk) (D.loose journal.new.disk) result }
+
+        // Where the disk is one in memory, that tells what a crash then leaves recorded.
+        ensures left { (n image : ℕ) (k : Hashkey) → n < 4 → D.stops_after journal.old.disk n
+            → IsOfWrites (D.seen journal.old.disk) (D.synced journal.old.disk) → signs_next self.old ≡ Some k → IfErr result (λ e. e ≡ Stopped
+            → recorded (bytes_left image (D.synced journal.new.disk) (D.loose journal.new.disk)) k.lock ≡ kept_key k n image) }
         ensures journal { (journal.new.id ≡ journal.old.id) × (journal.new.me ≡ journal.old.me) }
         ensures later { D.faults journal.old.disk ≤ D.faults journal.new.disk }
         ensures untouched { IfErr result (λ e. e ≡ Wanting

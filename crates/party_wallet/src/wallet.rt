@@ -146,6 +146,20 @@ impl Wallet {
         Ok(wallet)
     }
 
+    /// The wallet of the same party with just the hashkeys that were recorded, for each of whose locks the key is spent.
+    pub fn resumed(
+        &self,
+        alloc: Global,
+        recorded: &[Option<Shared<Hashkey>>],
+    ) -> Result<Wallet, NoMemory>
+        requires places { length recorded.now ≡ length self.now.signed }
+        ensures value { IfOk result (λ w. w ≡ with_recorded self.now recorded.now) }
+    {
+        let locks = self.keys.len() as u8;
+        let wallet = Wallet::new(alloc, self.mode, &self.seed, self.party, locks)?;
+        wallet.restored(recorded)
+    }
+
     /// The least lock for which a new wallet lacks what the deal states of its party.
     pub fn wrong_lock(&self, deal: &Deal) -> Option<LockId>
         requires sized { IsWellSized deal.now }

@@ -13,3 +13,4 @@ mod Moment
 mod Holds
 mod Overlay
 pub mod Stops
+mod First

@@ -1,6 +1,7 @@
 -- A record that is stopped within one of its four calls of a disk in memory, which then crashes: the hashkey is recorded exactly where the gate was
 -- written and what isn't synced holds its new bytes.
-use Rattle.std.proofs.Common.{◌≡◌, ℕ, suc, ◌+◌, ◌≤◌, ◌<◌, true, false, ◌==◌, List, [], ◌∷◌, ◌++◌, length, get_or, Some, None, sym, ◌∙◌, ap, arith}
+use Rattle.std.proofs.Common.{◌≡◌, ℕ, zero, suc, ◌+◌, ◌≤◌, ◌<◌, Bool, true, false, cond, ◌==◌, ◌&&◌, nat_le, List, [], ◌∷◌, ◌++◌, length, get_or, Some, None, refl, sym, ◌∙◌, ap, arith}
+use Rattle.std.specs.Prelude.{Result, Ok, Err, IfErr}
 use Rattle.std.specs.List.{AllByRecursion}
 use Rattle.std.proofs.lemmas.List.{get_or-drop}
 use Rattle.std.proofs.lemmas.Bool.Decides.{nat_tests}
@@ -9,7 +10,8 @@ use Rattle.wallet_journal.specs.Device.{Write, written}
 use Rattle.wallet_journal.specs.Layout.{byte, is_made, recorded, gate_at, body_at, body_of, IsTold}
 use Rattle.wallet_journal.specs.Held.{Held, no_bytes, after_writes, read_bytes, IsOnDisk}
 use Rattle.wallet_journal.specs.Memory.{crashed}
-use Rattle.wallet_journal.specs.Recording.{body_write, gate_write}
+use Rattle.wallet_journal.specs.Recording.{body_write, gate_write, IsStoppedAt}
+use Rattle.wallet_journal.specs.Stopped.{bytes_left, is_kept, kept_key, IsOfWrites}
 use Rattle.wallet_journal.proofs.Bytes.{drop_written, written_torn}
 use Rattle.wallet_journal.proofs.Tells.{body_size}
 use Rattle.wallet_journal.proofs.Crash.{body_torn, shut, stored, mid}
@@ -79,3 +81,43 @@ module _ (k : Hashkey) (ws : List Write) (spare : ℕ) (on : AllByRecursion IsOn
       ap (λ (c : List ℕ). recorded c k.lock) (after_push no_bytes (ws ++ body_write k ∷ []) (record { at = gate_at k.lock; bytes = suc (suc n) ∷ [] })
       ∙ ap (λ (b : List ℕ). written b (gate_at k.lock) (suc (suc n) ∷ [])) is_staged)
       ∙ shut (written staged (gate_at k.lock) (suc (suc n) ∷ [])) k.lock (ap (λ (b : ℕ). b == 1) gate ∙ closed)
+
+and_false : (b : Bool) → (b && false) ≡ false
+and_false true = refl
+and_false false = refl
+
+-- what holds of each fault
+pub every_err : {A E : Type 0} {P : E → Type 0} (r : Result A E) → ((e : E) → P e) → IfErr r P
+every_err (Ok x) f = tt
+every_err (Err e) f = f e
+
+-- the same from what the record left of its writes
+module _ (k : Hashkey) (ws : List Write) (bytes : List ℕ) (of : IsOfWrites bytes ws) (is_there : is_made bytes ≡ true) (lt : k.lock < 8)
+    (unrecorded : recorded bytes k.lock ≡ None) (few : length k.path ≤ 32) (paired : length k.sigs ≡ length k.path) (told : IsTold k) where
+  made_of : is_made (after_writes no_bytes ws) ≡ true
+  made_of = ap is_made (sym of.reads) ∙ is_there
+
+  none_of : recorded (after_writes no_bytes ws) k.lock ≡ None
+  none_of = ap (λ (b : List ℕ). recorded b k.lock) (sym of.reads) ∙ unrecorded
+
+  at_first : (n image : ℕ) (ws' loose' : List Write) → is_kept n image ≡ false → ws' ≡ ws → loose' ≡ body_write k ∷ []
+      → recorded (bytes_left image ws' loose') k.lock ≡ kept_key k n image
+  at_first n image ws' loose' shut is is' =
+      (λ i. recorded (bytes_left image (is i) (is' i)) k.lock) ∙ early_none k ws 0 of.on made_of lt none_of few paired told image
+      ∙ sym (ap (λ (b : Bool). cond b (Some k) None) shut)
+
+  at_last : (image n : ℕ) → recorded (bytes_left image (ws ++ body_write k ∷ []) (gate_write k ∷ [])) k.lock ≡ kept_key k (suc (suc n)) image
+  at_last zero n =
+      late_zero k ws 0 of.on made_of lt none_of few paired told ∙ sym (ap (λ (b : Bool). cond b (Some k) None) (and_false (nat_le 2 (suc (suc n)))))
+  at_last (suc zero) n =
+      let late : nat_le 2 (suc (suc n)) ≡ true = grind (arith, nat_tests) in
+      late_one k ws 0 of.on made_of lt none_of few paired told ∙ sym (ap (λ (b : Bool). cond (b && true) (Some k) None) late)
+  at_last (suc (suc image)) n =
+      let closed : (suc (suc image) == 1) ≡ false = grind (arith, nat_tests) in
+      late_other k ws 0 of.on made_of lt none_of few paired told image
+      ∙ sym (ap (λ (b : Bool). cond b (Some k) None) (ap (λ (b : Bool). nat_le 2 (suc (suc n)) && b) closed ∙ and_false (nat_le 2 (suc (suc n)))))
+
+  pub left_as : (n image : ℕ) (ws' loose' : List Write) → IsStoppedAt n k ws ws' loose' → recorded (bytes_left image ws' loose') k.lock ≡ kept_key k n image
+  left_as zero image ws' loose' h = at_first 0 image ws' loose' refl h.0 h.1
+  left_as (suc zero) image ws' loose' h = at_first 1 image ws' loose' refl h.0 h.1
+  left_as (suc (suc n)) image ws' loose' h = (λ i. recorded (bytes_left image (h.0 i) (h.1 i)) k.lock) ∙ at_last image n

@@ -6,3 +6,4 @@ pub mod Own
 pub mod Recording
 pub mod Held
 pub mod Memory
+pub mod Stopped

@@ -1,6 +1,6 @@
 //! A journal of the hashkeys that a party signed.
 
-ghost use Rattle.std.specs.Prelude.{◌≡◌, ◌≢◌, ◌<◌, ◌≤◌, ℕ, List, length, true, None, Some, slice_set, MatchOption, MatchResult, IfOk, IfErr, OnOk};
+ghost use Rattle.std.specs.Prelude.{◌≡◌, ◌≢◌, ◌<◌, ◌≤◌, ℕ, List, length, replicate, true, None, Some, slice_set, MatchOption, MatchResult, IfOk, IfErr, OnOk};
 ghost use Rattle.swap_digraph.specs.Deal.{IsWellSized};
 ghost use Rattle.wallet_journal.specs.Device.{Only, LeavesOnly, IsUntouched};
 ghost use Rattle.wallet_journal.specs.Layout.{recorded};
@@ -11,8 +11,10 @@ ghost use Rattle.wallet_journal.specs.Recording.{IsRecordFault, IsRefused, IsSto
 ghost use Rattle.wallet_journal.specs.Memory.{DiskState};
 ghost use Rattle.swap_digraph.specs.declared.deal.Deal.{Deal as AnyDeal};
 ghost use Rattle.hashkey_path.specs.declared.hashkey.Hashkey.{Hashkey as AnyKey};
+ghost use Rattle.wallet_journal.specs.Held.{Leaves, read_bytes};
+ghost use Rattle.wallet_journal.specs.Stopped.{bytes_left, kept_key, IsOfWrites, IsOwnDisk, IsWrittenUp};
 ghost use Rattle.wallet_journal.specs.declared.fault.Unopened.TheVariants.{DiskFault as Failing};
-ghost use Rattle.wallet_journal.specs.declared.fault.RecordFault.TheVariants.{NoMemory as Wanting};
+ghost use Rattle.wallet_journal.specs.declared.fault.RecordFault.TheVariants.{DiskFault as Stopped, NoMemory as Wanting};
 
 use crate::disk::Disk;
 use crate::fault::{OpenFault, RecordFault};
@@ -24,7 +26,7 @@ use hashkey_path::Hashkey;
 use std::alloc::Global;
 use std::marker::Model;
 use std::mem;
-use swap_base::{Digest, Listed, LockId, PartyId, Shared, TryCopy};
+use swap_base::{Digest, Listed, LockId, NoMemory, PartyId, Shared, TryCopy};
 use swap_digraph::Deal;
 
 /// A journal on a disk.
@@ -81,6 +83,8 @@ fn record_on<D: Disk>(
     ensures never { D.never_fails disk.old → D.never_fails disk.new }
     ensures passes { D.never_fails disk.old → IfErr result (λ e. e ≡ Wanting) }
     ensures stops { (n : ℕ) → n < 4 → D.stops_after disk.old n → IsStoppedRecord n key.now (D.synced disk.old) (D.synced disk.new) (D.loose disk.new) result }
+    ensures left { (n image : ℕ) → n < 4 → D.stops_after disk.old n → IsOfWrites (D.seen disk.old) (D.synced disk.old) → IfErr result (λ e. e ≡ Stopped
+        → recorded (bytes_left image (D.synced disk.new) (D.loose disk.new)) key.now.lock ≡ kept_key key.now n image) }
     ensures later { D.faults disk.old ≤ D.faults disk.new }
     ensures fault { IfErr result (IsRecordFault (D.faults disk.old) (D.faults disk.new) (D.seen disk.old) (D.seen disk.new) (D.may_leave disk.new)
         (D.loose disk.new)) }
@@ -165,6 +169,11 @@ impl<D: Disk> Journal<D> {
         ensures passes { D.never_fails self.old.disk → IfErr result (λ e. e ≡ Wanting) }
         ensures stops { (n : ℕ) → n < 4 → D.stops_after self.old.disk n
             → IsStoppedRecord n key.now (D.synced self.old.disk) (D.synced self.new.disk) (D.loose self.new.disk) result }
+
+        // Where the disk is one in memory, that tells what a crash then leaves recorded.
+        ensures left { (n image : ℕ) → n < 4 → D.stops_after self.old.disk n → IsOfWrites (D.seen self.old.disk) (D.synced self.old.disk)
+            → IfErr result (λ e. e ≡ Stopped
+            → recorded (bytes_left image (D.synced self.new.disk) (D.loose self.new.disk)) key.now.lock ≡ kept_key key.now n image) }
         ensures same { (self.new.id ≡ self.old.id) × (self.new.me ≡ self.old.me) }
         ensures later { D.faults self.old.disk ≤ D.faults self.new.disk }
 
@@ -205,9 +214,12 @@ impl<D: Disk> Journal<D> {
         &self.signed
     }
 
-    /// The disk. Where no call answered that it failed, each crash leaves the journal of this deal and party there.
+    /// The disk. Where no call answered that it failed, each crash leaves the journal of this deal and party there, with the hashkeys that it shows.
     pub fn disk(&self) -> &D
         ensures value { result.now ≡ self.now.disk }
+        ensures shown { self.now.sound ≡ true → (i : ℕ) → i < length self.now.signed → recorded (D.seen self.now.disk) i ≡ signed_at self.now.signed i }
+        ensures durable { self.now.sound ≡ true → (i : ℕ) → i < length self.now.signed → (c : List ℕ) → D.may_leave self.now.disk c
+            → recorded c i ≡ signed_at self.now.signed i }
         ensures made { self.now.sound ≡ true → (c : List ℕ) → D.may_leave self.now.disk c → IsMadeFor self.now.id self.now.me c }
     {
         &self.disk
@@ -223,10 +235,54 @@ impl<D: Disk> Journal<D> {
 }
 
 impl Journal<MemoryDisk> {
+    /// The journal of a party of a deal on a new disk in memory, on which no call fails.
+    pub fn in_memory(
+        alloc: Global,
+        deal: &Deal,
+        me: PartyId,
+    ) -> Result<Journal<MemoryDisk>, NoMemory>
+        requires sized { IsWellSized deal.now }
+        ensures made { IfOk result (λ j. (j.id ≡ deal.now.id) × (j.me ≡ me) × (j.sound ≡ true)) }
+        ensures none { IfOk result (λ j. j.signed ≡ replicate (length deal.now.leaders) None) }
+        ensures own { IfOk result (λ j. IsOwnDisk deal.now me j.disk) }
+    {
+        let disk = MemoryDisk::new(alloc, Vec::new(alloc));
+        match Journal::open(alloc, disk, deal, me) {
+            Ok(journal) => Ok(journal),
+            Err(_) => Err(NoMemory),
+        }
+    }
+
     /// Lets the next `k` calls of the disk pass, and every later one fail.
     pub fn stop_after(&mut self, k: u8)
         ensures left { self.new ≡ record self.old { disk = record self.old.disk { left = Some k } } }
+        ensures ready { self.old.sound ≡ true → IsWrittenUp self.old.disk self.old.signed }
     {
         self.disk.stop_after(k);
+    }
+
+    /// The disk crashes with an image, and the journal is opened again. Where memory runs out, it is to be opened again.
+    pub fn crash(&mut self, alloc: Global, deal: &Deal, image: u8) -> Result<(), NoMemory>
+        requires sized { IsWellSized deal.now }
+        requires own { (c : List ℕ) → Leaves self.old.disk.held c → IsOwn deal.now self.old.me c }
+        ensures opened { OnOk result ((self.new.id ≡ deal.now.id) × (self.new.me ≡ self.old.me) × (self.new.sound ≡ true)) }
+        ensures places { OnOk result (length self.new.signed ≡ length deal.now.leaders) }
+        ensures shown { OnOk result ((i : ℕ) → i < length self.new.signed
+            → signed_at self.new.signed i ≡ recorded (bytes_left image self.old.disk.held.synced self.old.disk.held.loose) i) }
+        ensures left { Leaves self.old.disk.held (bytes_left image self.old.disk.held.synced self.old.disk.held.loose) }
+        ensures own { OnOk result (IsOwnDisk deal.now self.old.me self.new.disk) }
+    {
+        let disk = mem::replace(&mut self.disk, MemoryDisk::new(alloc, Vec::new(alloc)));
+        match Journal::open(alloc, disk.crash(image), deal, self.me) {
+            Ok(journal) => {
+                *self = journal;
+                Ok(())
+            }
+            Err(fault) => {
+                self.disk = fault.disk;
+                self.sound = false;
+                Err(NoMemory)
+            }
+        }
     }
 }

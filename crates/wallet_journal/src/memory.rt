@@ -3,7 +3,7 @@
 ghost use Rattle.std.specs.Prelude.{◌≡◌, ◌⊎◌, ◌<◌, ◌≤◌, ◌+◌, [], ◌∷◌, ◌++◌, length, drop, Some, None, OnOk};
 ghost use Rattle.swap_io.specs.Causes.{HasCause};
 ghost use Rattle.wallet_journal.specs.Device.{slice, written, Tears, AddsNone, Only, Elapses, IsFated, IsSettled};
-ghost use Rattle.wallet_journal.specs.Held.{Leaves, HadLeft, read_bytes, only_held};
+ghost use Rattle.wallet_journal.specs.Held.{AreOnDisk, Leaves, HadLeft, read_bytes, only_held};
 ghost use Rattle.wallet_journal.specs.Memory.{DiskState, crashed};
 ghost use Rattle.wallet_journal.specs.Layout.{byte};
 ghost use Rattle.std.proofs.Common.{inl};
@@ -69,6 +69,7 @@ impl MemoryDisk {
     /// Lets the next `k` calls pass, and every later one fail.
     pub fn stop_after(&mut self, k: u8)
         ensures left { self.new ≡ record self.old { left = Some k } }
+        ensures on { AreOnDisk self.old.held }
     {
         self.failures.left = Some(k);
     }

@@ -7,7 +7,8 @@ ghost use Rattle.wallet_journal.specs.Layout.{IsTold, body_of, is_made, id_in, p
 ghost use Rattle.wallet_journal.specs.Journal.{Gains};
 ghost use Rattle.wallet_journal.specs.Own.{IsInRecord};
 ghost use Rattle.wallet_journal.specs.Recording.{IsRecordFault, IsStoppedAt, IsStoppedRecord, IsWritten};
-ghost use Rattle.wallet_journal.specs.declared.fault.RecordFault.TheVariants.{NoMemory as Wanting};
+ghost use Rattle.wallet_journal.specs.Stopped.{bytes_left, kept_key, IsOfWrites};
+ghost use Rattle.wallet_journal.specs.declared.fault.RecordFault.TheVariants.{DiskFault as Failing, NoMemory as Wanting};
 
 use crate::bodies::body_of;
 use crate::disk::Disk;
@@ -62,6 +63,8 @@ pub(crate) fn store_ready<D: Disk>(
     ensures never { D.never_fails disk.old → D.never_fails disk.new }
     ensures passes { D.never_fails disk.old → IfErr result (λ e. e ≡ Wanting) }
     ensures stops { (n : ℕ) → n < 4 → D.stops_after disk.old n → IsStoppedRecord n key.now (D.synced disk.old) (D.synced disk.new) (D.loose disk.new) result }
+    ensures left { (n image : ℕ) → n < 4 → D.stops_after disk.old n → IsOfWrites (D.seen disk.old) (D.synced disk.old) → IfErr result (λ e. e ≡ Failing
+        → recorded (bytes_left image (D.synced disk.new) (D.loose disk.new)) key.now.lock ≡ kept_key key.now n image) }
     ensures later { D.faults disk.old ≤ D.faults disk.new }
     ensures fault { IfErr result (IsRecordFault (D.faults disk.old) (D.faults disk.new) (D.seen disk.old) (D.seen disk.new) (D.may_leave disk.new)
         (D.loose disk.new)) }
