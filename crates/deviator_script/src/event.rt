@@ -14,4 +14,7 @@ pub enum Event {
     Act(PartyId),
     /// A party that doesn't conform makes a move.
     Call(PartyId, Move),
+    /// A conforming party begins its act, is stopped within the disk call after so many of them, and restarts with what a crash leaves of its disk. Bytes that
+    /// aren't synced then hold their old values for 0, their new ones for 1, and else that value.
+    Crash(PartyId, u8, u8),
 }

@@ -206,6 +206,7 @@ module _ (gives : Gives) (job : Job) (ticks : ℕ) (ls ls' : List (Option Ledger
     known : length m.known ≡ length d.graph.arcs
     acted : HasActed m (passes_of (slice_get ts1 v)) n (passes_of (slice_get ts2 v))
     knew : (a : ℕ) → Knows v (history m.known a) (history old.book a)
+    far : (a : ℕ) → a < length d.graph.arcs → touches d v a ≡ false → history m.known a ≡ []
 
   went : (v : ℕ) → v < d.graph.n → conforms (cast_of job) v ≡ true → (m : MachineState) × (n : MachineState) × WentFrom v m n
   went v lv cv =
@@ -229,6 +230,7 @@ module _ (gives : Gives) (job : Job) (ticks : ℕ) (ls ls' : List (Option Ledger
               subst (λ (w : Actor × Actor). Did gives job ticks v (passes_of (slice_get ts1 v)) (passes_of (slice_get ts2 v)) (clocks_of (slice_get ts1 v))
               (clocks_of (slice_get ts2 v)) w.0 w.1) (λ i. (before i, n.1 i)) (done v (below_all v lv));
           knew = λ a. subst (λ (x : Notes). Knows v (history x.known a) (history old.book a)) note (g.knows a);
+          far = λ a lt far. ap (λ (x : Notes). history x.known a) (sym note) ∙ g.far a lt far;
         },
       )
 
@@ -293,6 +295,7 @@ module _ (gives : Gives) (job : Job) (ticks : ℕ) (ls ls' : List (Option Ledger
           one_each = known_now;
           places = w.acted.able.signs ∙ ap (λ x. length x.leaders) w.deal;
           knows = knows_now;
+          far = λ a lt far. w.acted.elsewhere a (held_far d ts1 locks ls s.home dealt many v a lv lt far) ∙ w.far a lt far;
           sound =
               subst (λ u. IsSound d n.known (signed_in n.signed) u) w.me
               (subst (λ x. IsSound x n.known (signed_in n.signed) n.me) w.deal w.acted.able.sound);

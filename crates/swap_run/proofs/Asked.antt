@@ -8,7 +8,7 @@ use Rattle.ledger_core.specs.declared.entry.Call.{Call}
 use Rattle.ledger_core.specs.History.{height}
 use Rattle.ledger_core.specs.Book.{history}
 use Rattle.deviator_script.specs.declared.event.Event.{Event}
-use Rattle.deviator_script.specs.declared.event.Event.TheVariants.{Tick, Look, Act, Call as Made}
+use Rattle.deviator_script.specs.declared.event.Event.TheVariants.{Tick, Look, Act, Call as Made, Crash}
 use Rattle.deviator_script.specs.declared.job.Role.{Role}
 use Rattle.deviator_script.specs.declared.job.Role.TheVariants.{Conforming, Manual, Script, Strategy}
 use Rattle.deviator_script.specs.declared.moves.Move.{Move}
@@ -143,6 +143,7 @@ module _
   step_orderly (Made v mv) s =
       at_once s (step c s (Made v mv)) (step w s (Made v mv)) (take_asked c s v (resolved c.deal c.seeds s.book mv))
       (take_same s v (resolved c.deal c.seeds s.book mv))
+  step_orderly (Crash v k image) s = at_once s (step c s (Crash v k image)) (step w s (Crash v k image)) refl refl
 
   events_orderly : (events : List Event) (s : State) → Orderly s (fold (step c) s events) (fold (step w) s events)
   events_orderly events = many (step c) (step w) events (λ s e. step_orderly e s)
@@ -237,6 +238,7 @@ module _ (c : Cast) (none : list_any is_strategy c.roles ≡ false) where
       quiet_either (conforms c v) s (act c s v) (act_as c s v (role_of c v)) (make_asked c s v (next_of c s v))
       (quiet_act s v (role_of c v) (among c.roles v none))
   quiet_step (Made v mv) s = take_asked c s v (resolved c.deal c.seeds s.book mv)
+  quiet_step (Crash v k image) s = refl
 
   quiet_looks : (v : ℕ) (s : State) → (looks c v s).asked ≡ s.asked
   unfolding looks

@@ -14,7 +14,7 @@ use Rattle.ledger_core.specs.declared.entry.Entry.{Entry}
 use Rattle.ledger_core.specs.History.{Publication, published}
 use Rattle.ledger_core.specs.Ledger.{after_call}
 use Rattle.ledger_core.specs.Book.{Histories, history}
-use Rattle.deviator_script.specs.declared.event.Event.TheVariants.{Tick, Look, Act, Call as Calls}
+use Rattle.deviator_script.specs.declared.event.Event.TheVariants.{Tick, Look, Act, Call as Calls, Crash}
 use Rattle.deviator_script.specs.declared.job.Role.{Role}
 use Rattle.deviator_script.specs.declared.job.Role.TheVariants.{Conforming, Manual, Script, Strategy}
 use Rattle.deviator_script.specs.Resolved.{resolved}
@@ -98,6 +98,7 @@ calls_split c s (Calls v mv) e = record {
   calls = λ x q. taken c s v (resolved c.deal c.seeds s.book mv) x q;
   calm = refl;
 }
+calls_split c s (Crash v k image) e = record { alone = λ q. refl; calls = λ x q. absurd (cc q); calm = refl }
 calls_split c s (Act v) e = record { alone = alone (conforms c v); calls = λ x. calls x (conforms c v); calm = calm (conforms c v) }
   where
     role : Role
@@ -171,6 +172,7 @@ due_in c s v (Some y) x q e =
 pub calls_are_placed : CallsArePlaced
 calls_are_placed c s (Tick a k) x ready can g e = absurd (cc e)
 calls_are_placed c s (Look v a) x ready can g e = absurd (cc e)
+calls_are_placed c s (Crash v k image) x ready can g e = absurd (cc e)
 calls_are_placed c s (Calls v mv) x ready can g e =
     (answered c.deal v (resolved c.deal c.seeds s.book mv) x
     (may_resolve c.deal c.seeds v s.book mv g.legal (record { fits = can.fits; adjacent = can.adjacent })) e).1.arc
@@ -245,7 +247,7 @@ passed_notes c s v x ready lv cv e i bar g =
         (let hv = holds c s v (g.notes v lv cv) in
         let is =
         due_now c.deal s.book (notes_of s v) v (c.wallet v) (record { arc = x.arc; call = x.call }) (ready.wallets v lv cv) ready.accepted i hv in
-        let k = hold_look c.deal s.book (notes_of s v) v x.arc is.below g.legal hv in
+        let k = hold_look c.deal s.book (notes_of s v) v x.arc is.below is.of_the_two g.legal hv in
         let same =
         signs_nothing c s v x.arc x.call (notes_of s v) is ((hv.knows x.arc).rest, (hv.knows x.arc).whole) bar in
         good_notes c (record s { notes = slice_set s.notes v (after v) }) v (after v)
@@ -253,6 +255,7 @@ passed_notes c s v x ready lv cv e i bar g =
           one_each = k.one_each;
           places = signed_length (notes_of s v).signed x.call ∙ hv.places;
           knows = k.knows;
+          far = k.far;
           sound = subst (λ f. IsSound c.deal (set (notes_of s v).known x.arc (history s.book x.arc)) f v) (sym same) k.sound;
         }))
     go u l cu (inr n) =
@@ -262,6 +265,7 @@ passed_notes c s v x ready lv cv e i bar g =
 pub passed_is_good : PassedIsGood
 passed_is_good c s (Tick a k) x ready can g e bar = absurd (cc e)
 passed_is_good c s (Look v a) x ready can g e bar = absurd (cc e)
+passed_is_good c s (Crash v k image) x ready can g e bar = absurd (cc e)
 passed_is_good c s (Calls v mv) x ready can g e bar =
     let k = answered c.deal v (resolved c.deal c.seeds s.book mv) x
     (may_resolve c.deal c.seeds v s.book mv g.legal (record { fits = can.fits; adjacent = can.adjacent })) e in

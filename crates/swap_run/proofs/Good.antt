@@ -1,5 +1,5 @@
 -- A run begins in a good state, each event leaves the state good, and in a good state the book is legal and every conforming party is conducted.
-use Rattle.std.proofs.Common.{◌≡◌, ◌≢◌, ◌⊎◌, ℕ, suc, ◌<◌, ◌≤◌, ◌==◌, nat_lt, Bool, true, false, cond, List, [], ◌∷◌, ◌++◌, length, fold, Option}
+use Rattle.std.proofs.Common.{if◌then◌else◌, ◌≡◌, ◌≢◌, ◌⊎◌, ℕ, suc, ◌<◌, ◌≤◌, ◌==◌, nat_lt, Bool, true, false, cond, List, [], ◌∷◌, ◌++◌, length, fold, Option}
 use Rattle.std.proofs.Common.{Some, None, refl, sym, ap, ◌∙◌, subst, inl, inr, arith, eqb-true, ltb-true, ltb-false, set, slice_set, replicate, get_or}
 use Rattle.std.proofs.Common.{All}
 use Rattle.std.proofs.lemmas.Bool.{false≢true}
@@ -8,6 +8,7 @@ use Rattle.std.proofs.Math.ListN.{get_or-eq_default}
 use Rattle.swap_base.specs.Lists.{IsIn, IsMoment}
 use Rattle.swap_digraph.specs.declared.deal.Deal.{Deal}
 use Rattle.ledger_core.specs.declared.entry.Call.{Call}
+use Rattle.ledger_core.specs.declared.entry.Call.TheVariants.{Unlock}
 use Rattle.ledger_core.specs.declared.entry.Sender.{Sender}
 use Rattle.ledger_core.specs.declared.entry.Sender.TheVariants.{Party, Clock}
 use Rattle.ledger_core.specs.declared.entry.What.{What}
@@ -17,7 +18,7 @@ use Rattle.ledger_core.specs.History.{sent_by, IsLegal}
 use Rattle.ledger_core.specs.Book.{Histories, history, IsLegalBook}
 use Rattle.deviator_script.specs.declared.moves.Move.{Move}
 use Rattle.deviator_script.specs.declared.event.Event.{Event}
-use Rattle.deviator_script.specs.declared.event.Event.TheVariants.{Tick, Look, Act, Call as Calls}
+use Rattle.deviator_script.specs.declared.event.Event.TheVariants.{Tick, Look, Act, Call as Calls, Crash}
 use Rattle.deviator_script.specs.Step.{CanStep, CanTick, CanCall}
 use Rattle.deviator_script.specs.Resolved.{resolved}
 use Rattle.deviator_script.specs.Script.{next_call, moves_left, IsMoveOf}
@@ -28,27 +29,29 @@ use Rattle.deviator_script.proofs.Scripts.{may_resolve, next_may, left_fit}
 use Rattle.swap_rules.specs.Due.{Action, due, first}
 use Rattle.ledger_core.proofs.History.{not-true}
 use Rattle.swap_laws.proofs.Prefixes.{begins_refl, same_or_not}
-use Rattle.swap_laws.proofs.Machines.{knowledge_conducts}
+use Rattle.swap_laws.proofs.Machines.{knowledge_conducts, rules_transfer}
 use Rattle.swap_laws.proofs.Conducting.{Next, next_call as next_of_call, next_legal, next_grows, knows_all, history_same}
 use Rattle.party_wallet.specs.Value.{signed_in}
 use Rattle.swap_run.specs.Run.{Cast, Notes, State, conforms, role_of, notes_of, plan_of, signed_after, after_tick, known_up_to, look, make, next_of}
-use Rattle.swap_run.specs.Run.{act, watch, take_call, after_turn, follow, question, after_question, ask, answer_for, act_as}
+use Rattle.swap_run.specs.Run.{act, is_recorded, recorded_after, relearnt, crash, watch, take_call, after_turn, follow, question, after_question, ask, answer_for, act_as}
 use Rattle.swap_run.specs.Run.{step, no_histories, no_notes, first_plan, start, run}
 use Rattle.ledger_core.specs.Ledger.{after_call}
 use Rattle.swap_run.specs.Laws.{IsReadyCast, AreGoodNotes, IsGoodPlan, IsGood, StartIsGood, StepsAreGood, GoodIsKept, RunsAreKept}
+use Rattle.swap_run.specs.Laws.{UnlocksAreSigned}
 use Rattle.swap_run.proofs.Entries.{next_tick}
 use Rattle.swap_run.proofs.Noted.{Holds, hold_other, hold_look, hold_act, due_now}
+use Rattle.swap_run.proofs.Crashes.{hold_restart, hold_recorded}
 use Rattle.swap_run.proofs.Plans.{plan_grown, good_seen, good_turn, good_asked, plan_legal, answer_may}
 
 -- Notes.
 
 pub holds : (c : Cast) (s : State) (v : ℕ) → AreGoodNotes c s v → Holds c.deal s.book (notes_of s v) v
-holds c s v g = record { one_each = g.one_each; places = g.places; knows = g.knows; sound = g.sound }
+holds c s v g = record { one_each = g.one_each; places = g.places; knows = g.knows; far = g.far; sound = g.sound }
 
 pub good_notes : (c : Cast) (s : State) (v : ℕ) (n : Notes) → notes_of s v ≡ n → Holds c.deal s.book n v → AreGoodNotes c s v
 good_notes c s v n e h =
     let k = subst (λ m. Holds c.deal s.book m v) (sym e) h in
-    record { one_each = k.one_each; places = k.places; knows = k.knows; sound = k.sound }
+    record { one_each = k.one_each; places = k.places; knows = k.knows; far = k.far; sound = k.sound }
 
 no_note : Notes
 no_note = record { known = []; signed = [] }
@@ -134,8 +137,9 @@ good_deviate c s v Manual lv out g = g
 good_deviate c s v (Script moves) lv out g = good_follow c s v lv out g
 good_deviate c s v (Strategy name) lv out g = good_ask c s v name lv out g
 
-pub good_look : (c : Cast) (s : State) (v a : ℕ) → v < c.deal.graph.n → a < length c.deal.graph.arcs → IsGood c s → IsGood c (look s v a)
-good_look c s v a lv below g = record {
+pub good_look : (c : Cast) (s : State) (v a : ℕ) → v < c.deal.graph.n → a < length c.deal.graph.arcs → is_near c.deal v a ≡ true → IsGood c s
+    → IsGood c (look s v a)
+good_look c s v a lv below near g = record {
   legal = g.legal;
   one_each = length-set s.notes v (known_up_to (notes_of s v) a (history s.book a)) ∙ g.one_each;
   notes = λ u l cu. go u l cu (same_or_not u v);
@@ -147,7 +151,7 @@ good_look c s v a lv below g = record {
     go u l cu (inl e) = subst (AreGoodNotes c (look s v a)) (sym e)
         (good_notes c (look s v a) v (known_up_to (notes_of s v) a (history s.book a))
         (note_same s s.book v (known_up_to (notes_of s v) a (history s.book a)) (subst (λ m. v < m) (sym g.one_each) lv))
-        (hold_look c.deal s.book (notes_of s v) v a below g.legal (holds c s v (g.notes v lv (ap (conforms c) (sym e) ∙ cu)))))
+        (hold_look c.deal s.book (notes_of s v) v a below near g.legal (holds c s v (g.notes v lv (ap (conforms c) (sym e) ∙ cu)))))
     go u l cu (inr n) =
         good_notes c (look s v a) u (notes_of s u) (note_other s s.book v u (known_up_to (notes_of s v) a (history s.book a)) n)
         (holds c s u (g.notes u l cu))
@@ -199,12 +203,50 @@ good_act c s v ready lv cv g = go (next_of c s v) refl
     go None e = g
     go (Some x) e = good_make c s v x ready lv cv (first_in (due c.deal v (c.wallet v) (signed_in (notes_of s v).signed) (notes_of s v).known) x e) g
 
+-- A crash leaves a run good.
+module _ (c : Cast) (s : State) (v k image : ℕ) (ready : IsReadyCast c) (lv : v < c.deal.graph.n) (cv : conforms c v ≡ true) (g : IsGood c s) where
+  hv : Holds c.deal s.book (notes_of s v) v
+  hv = holds c s v (g.notes v lv cv)
+
+  hold_crash : (o : Option Action) → next_of c s v ≡ o
+      → Holds c.deal s.book (record { known = relearnt c.deal v s.book; signed = recorded_after (notes_of s v).signed o k image }) v
+  hold_crash None e = hold_restart c.deal s.book (notes_of s v) v g.legal hv
+  hold_crash (Some x) e = kept (is_recorded k image)
+    where
+      kept : (y : Bool) → Holds c.deal s.book (record {
+        known = relearnt c.deal v s.book;
+        signed = if y then signed_after (notes_of s v).signed x.call else (notes_of s v).signed;
+      }) v
+      kept true =
+          hold_recorded c.deal s.book (notes_of s v) v g.legal hv (c.wallet v) x (ready.wallets v lv cv) ready.accepted
+          (first_in (due c.deal v (c.wallet v) (signed_in (notes_of s v).signed) (notes_of s v).known) x e)
+      kept false = hold_restart c.deal s.book (notes_of s v) v g.legal hv
+
+  pub crash_is_good : IsGood c (crash c s v k image)
+  crash_is_good = record {
+    legal = g.legal;
+    one_each = length-set s.notes v new ∙ g.one_each;
+    notes = λ u l cu. go u l cu (same_or_not u v);
+    plan_each = g.plan_each;
+    plans = g.plans;
+  }
+    where
+      new : Notes
+      new = record { known = relearnt c.deal v s.book; signed = recorded_after (notes_of s v).signed (next_of c s v) k image }
+
+      go : (u : ℕ) → u < c.deal.graph.n → conforms c u ≡ true → (u ≡ v) ⊎ (u ≢ v) → AreGoodNotes c (crash c s v k image) u
+      go u l cu (inl e) =
+          subst (AreGoodNotes c (crash c s v k image)) (sym e)
+          (good_notes c (crash c s v k image) v new (note_same s s.book v new (subst (λ m. v < m) (sym g.one_each) lv)) (hold_crash (next_of c s v) refl))
+      go u l cu (inr n) =
+          good_notes c (crash c s v k image) u (notes_of s u) (note_other s s.book v u new n) (holds c s u (g.notes u l cu))
+
 pub steps_are_good : StepsAreGood
 steps_are_good c s (Tick a k) ready can g = good_tick c s a k can g
 steps_are_good c s (Look v a) ready can g = go (conforms c v)
   where
     go : (x : Bool) → IsGood c (cond x (look s v a) (watch c s v a))
-    go true = good_look c s v a can.known can.arc g
+    go true = good_look c s v a can.known can.arc can.adjacent g
     go false = good_watch c s v a can.known can.arc can.adjacent g
 steps_are_good c s (Act v) ready can g = go (conforms c v) refl
   where
@@ -212,6 +254,7 @@ steps_are_good c s (Act v) ready can g = go (conforms c v) refl
     go true e = good_act c s v ready can e g
     go false e = good_deviate c s v (role_of c v) can e g
 steps_are_good c s (Calls p mv) ready can g = good_call c s p mv can g
+steps_are_good c s (Crash v k image) ready can g = crash_is_good c s v k image ready can.known can.conforms g
 
 -- The beginning.
 
@@ -253,6 +296,7 @@ start_is_good c ready = record {
         one_each = length-replicate (length c.deal.graph.arcs) [];
         places = length-replicate (length c.deal.leaders) None;
         knows = λ a. knows_all v (history (no_histories c.deal) a);
+        far = λ a la far. empty_at c.deal a;
         sound = record {
           legal = empty_legal c.deal;
           rules = record {
@@ -274,6 +318,11 @@ good_is_kept c s ready g = record {
   conducted = λ v l cv. let n =
       g.notes v l cv in knowledge_conducts c.deal (notes_of s v).known s.book (signed_in (notes_of s v).signed) v g.legal n.knows n.sound.rules;
 }
+
+pub unlocks_are_signed : UnlocksAreSigned
+unlocks_are_signed c s v a past e key g lv cv m q =
+    let n = g.notes v lv cv in
+    ((rules_transfer c.deal (notes_of s v).known s.book (signed_in (notes_of s v).signed) v n.knows n.sound.rules).own a past e (Unlock key) m q).2
 
 pub runs_are_good : (c : Cast) (events : List Event) (s : State) → IsReadyCast c → All (CanStep c.deal c.conforming c.seeds) events → IsGood c s
     → IsGood c (fold (step c) s events)

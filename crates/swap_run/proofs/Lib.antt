@@ -3,6 +3,7 @@
 -- steps and runs
 pub mod Entries
 pub mod Noted
+pub mod Crashes
 pub mod Plans
 pub mod Good
 -- turns

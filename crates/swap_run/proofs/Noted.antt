@@ -3,6 +3,7 @@ use Rattle.std.proofs.Common.{append_assoc, ◌≡◌, ◌≢◌, ◌⊎◌, ℕ
 use Rattle.std.proofs.Common.{Some, None, refl, sym, ap, ◌∙◌, subst, inl, inr, eqb-true, eq-eqb, ltb-true, ltb-false, arith, zero-add, set}
 use Rattle.std.proofs.lemmas.List.{length-set, set-set}
 use Rattle.std.proofs.lemmas.List.FromFn.{get_or-map-range_with_len, length-map-range_with_len}
+use Rattle.std.proofs.lemmas.Bool.{false≢true}
 use Rattle.std.proofs.Math.ListN.{get_or-eq_default}
 use Rattle.swap_base.specs.Lists.{IsIn}
 use Rattle.swap_base.proofs.Lists.{from_append}
@@ -15,6 +16,7 @@ use Rattle.ledger_core.specs.declared.entry.What.{What}
 use Rattle.ledger_core.specs.declared.entry.Entry.{Entry}
 use Rattle.ledger_core.specs.History.{sent_by, IsLegal}
 use Rattle.ledger_core.specs.Book.{Histories, history, IsLegalBook}
+use Rattle.deviator_script.specs.View.{is_near}
 use Rattle.swap_rules.specs.Accepted.{IsAccepted}
 use Rattle.swap_rules.specs.Due.{Wallet, Action, due}
 use Rattle.swap_laws.specs.Machine.{Knows, IsWallet, IsSound, noted}
@@ -56,7 +58,7 @@ signed_at signed c below i = go (nat_lt i (length signed)) refl
         let le : length signed ≤ i = ltb-false i (length signed) e in
         get_or-eq_default (signed_after signed c) None (subst (λ m. m ≤ i) (sym (signed_length signed c)) le) ∙ sym (none_above signed c below i le)
 
-signed_is : (signed : List (Option Hashkey)) (c : Call) → ((key : Hashkey) → c ≡ Unlock key → key.lock < length signed)
+pub signed_is : (signed : List (Option Hashkey)) (c : Call) → ((key : Hashkey) → c ≡ Unlock key → key.lock < length signed)
     → signed_in (signed_after signed c) ≡ noted (signed_in signed) c
 signed_is signed c below = λ j i. signed_at signed c below i j
 
@@ -65,6 +67,7 @@ pub record Holds (d : Deal) (b : Histories) (n : Notes) (v : ℕ) : Type 0 where
   pub one_each : length n.known ≡ length d.graph.arcs
   pub places : length n.signed ≡ length d.leaders
   pub knows : (a : ℕ) → Knows v (history n.known a) (history b a)
+  pub far : (a : ℕ) → a < length d.graph.arcs → is_near d v a ≡ false → history n.known a ≡ []
   pub sound : IsSound d n.known (signed_in n.signed) v
 
 -- Entries of others.
@@ -84,7 +87,13 @@ knows_on d v a k h g s w kn (Pushed e q es ew le) other = record {
 
 pub hold_other : (d : Deal) (b : Histories) (n : Notes) (v a : ℕ) (k : List Entry) (s : Sender) (w : What) → a < length b → Next d a (history b a) k s w
     → sent_by v s ≡ false → Holds d b n v → Holds d (set b a k) n v
-hold_other d b n v a k s w below next other h = record { one_each = h.one_each; places = h.places; knows = λ c. at c (same_or_not c a); sound = h.sound }
+hold_other d b n v a k s w below next other h = record {
+  one_each = h.one_each;
+  places = h.places;
+  knows = λ c. at c (same_or_not c a);
+  far = h.far;
+  sound = h.sound;
+}
   where
     at : (c : ℕ) → (c ≡ a) ⊎ (c ≢ a) → Knows v (history n.known c) (history (set b a k) c)
     at c (inl e) =
@@ -106,9 +115,19 @@ knows_end v b known c a h below whole others z = go (same_or_not z a)
         (subst (λ l. Knows v l (history c a)) (sym (history_same known a h below)) (subst (Knows v h) (sym whole) (knows_all v h)))
     go (inr e) = subst (λ l. Knows v l (history c z)) (sym (history_other known a z h e)) (others z e)
 
-pub hold_look : (d : Deal) (b : Histories) (n : Notes) (v a : ℕ) → a < length d.graph.arcs → IsLegalBook d b → Holds d b n v
+-- of ledgers that don't touch v nothing is known, where one that does is known up to its end
+still_far : (d : Deal) (n : Notes) (v a : ℕ) (k : List Entry) → is_near d v a ≡ true
+    → ((z : ℕ) → z < length d.graph.arcs → is_near d v z ≡ false → history n.known z ≡ [])
+    → (z : ℕ) → z < length d.graph.arcs → is_near d v z ≡ false → history (set n.known a k) z ≡ []
+still_far d n v a k near none z lz far = away (same_or_not z a)
+  where
+    away : (z ≡ a) ⊎ (z ≢ a) → history (set n.known a k) z ≡ []
+    away (inl q) = absurd (false≢true (sym far ∙ (ap (is_near d v) q ∙ near)))
+    away (inr apart) = history_other n.known a z k apart ∙ none z lz far
+
+pub hold_look : (d : Deal) (b : Histories) (n : Notes) (v a : ℕ) → a < length d.graph.arcs → is_near d v a ≡ true → IsLegalBook d b → Holds d b n v
     → Holds d b (known_up_to n a (history b a)) v
-hold_look d b n v a below legal h =
+hold_look d b n v a below near legal h =
     let kn = h.knows a in
     let here : a < length n.known = subst (λ m. a < m) (sym h.one_each) below in
     let there : a < length b = subst (λ m. a < m) (sym legal.one_each) below in
@@ -116,6 +135,7 @@ hold_look d b n v a below legal h =
       one_each = length-set n.known a (history b a) ∙ h.one_each;
       places = h.places;
       knows = knows_end v b n.known b a (history b a) here refl (λ z e. h.knows z);
+      far = still_far d n v a (history b a) near h.far;
       sound =
           subst (λ l. IsSound d (set n.known a l) (signed_in n.signed) v) (sym kn.whole)
           (learn_sound d n.known (signed_in n.signed) v a kn.rest here kn.others (subst (IsLegal d a) kn.whole (legal.legal a there)) h.sound);
@@ -155,6 +175,7 @@ hold_act d b n v w x wallet accepted legal i h =
           knows_end v b n.known (set b x.arc (after_call d x.arc v x.call (history b x.arc))) x.arc (after_call d x.arc v x.call (history b x.arc)) here
           (history_same b x.arc (after_call d x.arc v x.call (history b x.arc)) there)
           (λ z e. subst (Knows v (history n.known z)) (sym (history_other b x.arc z (after_call d x.arc v x.call (history b x.arc)) e)) (h.knows z));
+      far = still_far d n v x.arc (after_call d x.arc v x.call (history b x.arc)) is.of_the_two h.far;
       sound = subst (λ f. IsSound d (set n.known x.arc (after_call d x.arc v x.call (history b x.arc))) f v) (sym (signed_is n.signed x.call (low is))) two;
     }
   where

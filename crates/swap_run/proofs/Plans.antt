@@ -76,7 +76,7 @@ pub with_plans : (c : Cast) (s : State) (ps : List Plan) → length ps ≡ c.dea
 with_plans c s ps each good g = record {
   legal = g.legal;
   one_each = g.one_each;
-  notes = λ v l cv. let n = g.notes v l cv in record { one_each = n.one_each; places = n.places; knows = n.knows; sound = n.sound };
+  notes = λ v l cv. let n = g.notes v l cv in record { one_each = n.one_each; places = n.places; knows = n.knows; far = n.far; sound = n.sound };
   plan_each = each;
   plans = good;
 }
@@ -122,7 +122,7 @@ pub good_asked : (c : Cast) (s : State) (qs : List Question) → IsGood c s → 
 good_asked c s qs g = record {
   legal = g.legal;
   one_each = g.one_each;
-  notes = λ v l cv. let m = g.notes v l cv in record { one_each = m.one_each; places = m.places; knows = m.knows; sound = m.sound };
+  notes = λ v l cv. let m = g.notes v l cv in record { one_each = m.one_each; places = m.places; knows = m.knows; far = m.far; sound = m.sound };
   plan_each = g.plan_each;
   plans = g.plans;
 }

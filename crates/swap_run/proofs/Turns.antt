@@ -18,7 +18,7 @@ use Rattle.deviator_script.specs.declared.job.Role.{Role}
 use Rattle.deviator_script.specs.declared.job.Role.TheVariants.{Conforming, Manual, Script, Strategy}
 use Rattle.deviator_script.specs.Script.{next_call, moves_left, IsMoveOf}
 use Rattle.deviator_script.specs.Step.{CanLook}
-use Rattle.deviator_script.specs.View.{IsAnswerOf, MayAnswer}
+use Rattle.deviator_script.specs.View.{is_near, IsAnswerOf, MayAnswer}
 use Rattle.deviator_script.proofs.Scripts.{left_fit}
 use Rattle.swap_rules.specs.Due.{Action}
 use Rattle.swap_laws.specs.Machine.{Begins}
@@ -89,8 +89,10 @@ near_in d v a (inr i) =
     in_filter (λ a. (v == party d a) || (v == counterparty d a)) a (arcs d.graph) k.0
     (or-right (v == party d a) _ (eq-eqb v (counterparty d a) (sym (enters d v a i).1)))
 
-near_below : (d : Deal) (v a : ℕ) → IsIn a (adjacent d v) → a < length d.graph.arcs
-near_below d v a i = from_range a (length d.graph.arcs) (from_filter (λ a. (v == party d a) || (v == counterparty d a)) a (arcs d.graph) i).0
+near_below : (d : Deal) (v a : ℕ) → IsIn a (adjacent d v) → (a < length d.graph.arcs) × (is_near d v a ≡ true)
+near_below d v a i =
+    let k = from_filter (λ a. (v == party d a) || (v == counterparty d a)) a (arcs d.graph) i in
+    (from_range a (length d.graph.arcs) k.0, k.1)
 
 -- What a turn of v leaves of the book and of the others' notes.
 pub record Turned (c : Cast) (v : ℕ) (s t : State) : Type 0 where
@@ -113,10 +115,14 @@ module _ (c : Cast) (ready : IsReadyCast c) (v : ℕ) (lv : v < c.deal.graph.n) 
   look_is : (s : State) (a : ℕ) → step c s (Look v a) ≡ look s v a
   look_is s a = ap (λ z. cond z (look s v a) (watch c s v a)) cv
 
-  look_good : (s : State) (a : ℕ) → a < length c.deal.graph.arcs → IsGood c s → IsGood c (step c s (Look v a))
-  look_good s a l g = subst (IsGood c) (sym (look_is s a)) (good_look c s v a lv l g)
+  -- the arc touches v
+  abbrev Touches : ℕ → Type 0
+  Touches a = (a < length c.deal.graph.arcs) × (is_near c.deal v a ≡ true)
 
-  looks_good : (xs : List ℕ) (s : State) → ((a : ℕ) → IsIn a xs → a < length c.deal.graph.arcs) → IsGood c s → IsGood c (fold look_at s xs)
+  look_good : (s : State) (a : ℕ) → Touches a → IsGood c s → IsGood c (step c s (Look v a))
+  look_good s a l g = subst (IsGood c) (sym (look_is s a)) (good_look c s v a lv l.0 l.1 g)
+
+  looks_good : (xs : List ℕ) (s : State) → ((a : ℕ) → IsIn a xs → Touches a) → IsGood c s → IsGood c (fold look_at s xs)
   looks_good [] s h g = g
   looks_good (x ∷ xs) s h g = looks_good xs (look_at s x) (λ a i. h a (inr i)) (look_good s x (h x (inl refl)) g)
 
@@ -153,14 +159,14 @@ module _ (c : Cast) (ready : IsReadyCast c) (v : ℕ) (lv : v < c.deal.graph.n) 
           subst (Sees a) (sym (look_is s x)) (ap (λ n. history n.known a) (noted_look s x g)
           ∙ (history_other (notes_of s v).known x a (history s.book x) n ∙ h))
 
-  looks_see : (xs : List ℕ) (s : State) (a : ℕ) → ((a : ℕ) → IsIn a xs → a < length c.deal.graph.arcs) → IsGood c s → Sees a s ⊎ IsIn a xs
+  looks_see : (xs : List ℕ) (s : State) (a : ℕ) → ((a : ℕ) → IsIn a xs → Touches a) → IsGood c s → Sees a s ⊎ IsIn a xs
       → Sees a (fold look_at s xs)
   looks_see [] s a h g (inl e) = e
   looks_see [] s a h g (inr i) = absurd i
   looks_see (x ∷ xs) s a h g (inl e) =
-      looks_see xs (look_at s x) a (λ a i. h a (inr i)) (look_good s x (h x (inl refl)) g) (inl (look_sees x a s (h x (inl refl)) g (inr e)))
+      looks_see xs (look_at s x) a (λ a i. h a (inr i)) (look_good s x (h x (inl refl)) g) (inl (look_sees x a s (h x (inl refl)).0 g (inr e)))
   looks_see (x ∷ xs) s a h g (inr (inl e)) =
-      looks_see xs (look_at s x) a (λ a i. h a (inr i)) (look_good s x (h x (inl refl)) g) (inl (look_sees x a s (h x (inl refl)) g (inl e)))
+      looks_see xs (look_at s x) a (λ a i. h a (inr i)) (look_good s x (h x (inl refl)) g) (inl (look_sees x a s (h x (inl refl)).0 g (inl e)))
   looks_see (x ∷ xs) s a h g (inr (inr i)) = looks_see xs (look_at s x) a (λ a i. h a (inr i)) (look_good s x (h x (inl refl)) g) (inr i)
 
   -- Acts.
@@ -246,7 +252,7 @@ module _ (c : Cast) (ready : IsReadyCast c) (v : ℕ) (lv : v < c.deal.graph.n) 
   rested s g =
       subst (Rests c v s) (sym (turn_is s)) (
       let xs = adjacent c.deal v in
-      let low : (a : ℕ) → IsIn a (adjacent c.deal v) → a < length c.deal.graph.arcs = near_below c.deal v in
+      let low : (a : ℕ) → IsIn a (adjacent c.deal v) → Touches a = near_below c.deal v in
       let g1 = looks_good (adjacent c.deal v) s low g in
       let x = acts_acted (most_acts c.deal) (looks c v s) g1 in
       record {

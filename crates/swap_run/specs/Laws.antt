@@ -1,9 +1,14 @@
 -- The laws of runs.
 use Rattle.std.specs.Prelude.{◌≡◌, ◌≢◌, ◌==◌, ◌||◌, ℕ, ◌<◌, true, false, IsTrue, List, [], length, All, Some}
+use Rattle.swap_base.specs.Lists.{IsMoment}
 use Rattle.swap_digraph.specs.Deal.{party, counterparty}
+use Rattle.hashkey_path.specs.declared.hashkey.Hashkey.{Hashkey}
 use Rattle.escrow_core.specs.declared.reply.Reply.TheVariants.{SenderFull}
+use Rattle.ledger_core.specs.declared.entry.Call.TheVariants.{Unlock}
+use Rattle.ledger_core.specs.declared.entry.Entry.{Entry}
 use Rattle.ledger_core.specs.History.{fit, reply_to}
 use Rattle.swap_rules.specs.Due.{Action}
+use Rattle.swap_rules.specs.Party.{call_by}
 use Rattle.ledger_core.specs.Book.{Histories, history, IsLegalBook}
 use Rattle.deviator_script.specs.declared.event.Event.{Event}
 use Rattle.deviator_script.specs.Step.{CanStep}
@@ -25,11 +30,13 @@ pub record IsReadyCast (c : Cast) : Type 0 where
   pub wallets : (v : ℕ) → v < c.deal.graph.n → conforms c v ≡ true → IsWallet c.deal v (c.wallet v)
   pub scripts : (v : ℕ) → v < c.deal.graph.n → All (IsMoveOf c.deal c.seeds v) (script_of (role_of c v))
 
--- What a conforming party's notes keep: they are of this book, up to some entry of each ledger and past all calls of its own, and its calls keep its rules.
+-- What a conforming party's notes keep: they are of this book, up to some entry of each ledger and past all calls of its own, with nothing of ledgers that
+-- don't touch it, and its calls keep its rules.
 pub record AreGoodNotes (c : Cast) (s : State) (v : ℕ) : Type 0 where
   pub one_each : length (notes_of s v).known ≡ length c.deal.graph.arcs
   pub places : length (notes_of s v).signed ≡ length c.deal.leaders
   pub knows : (a : ℕ) → Knows v (history (notes_of s v).known a) (history s.book a)
+  pub far : (a : ℕ) → a < length c.deal.graph.arcs → is_near c.deal v a ≡ false → history (notes_of s v).known a ≡ []
   pub sound : IsSound c.deal (notes_of s v).known (signed_in (notes_of s v).signed) v
 
 -- What the plan of party v keeps over a book: what it knows is of this book, up to some entry of each ledger, and nothing of those that don't touch v;
@@ -81,3 +88,9 @@ GoodIsKept = (c : Cast) (s : State) → IsReadyCast c → IsGood c s → IsKept 
 -- after every list of events the book is legal and every conforming party is conducted
 abbrev pub RunsAreKept : Type 0
 RunsAreKept = (c : Cast) (events : List Event) → IsReadyCast c → All (CanStep c.deal c.conforming c.seeds) events → IsKept c (run c events).book
+
+-- in a good state each unlock call of a conforming party, on whatever arc, carries the hashkey that the party signed for its lock
+abbrev pub UnlocksAreSigned : Type 0
+UnlocksAreSigned =
+    (c : Cast) (s : State) (v a : ℕ) (past : List Entry) (e : Entry) (key : Hashkey) → IsGood c s → v < c.deal.graph.n → conforms c v ≡ true
+    → IsMoment (history s.book a) past e → call_by v e ≡ Some (Unlock key) → signed_in (notes_of s v).signed key.lock ≡ Some key

@@ -1,9 +1,10 @@
 -- The run of a schedule: the histories that its events lead to, what each conforming party has noted on the way, and what each script's or strategy's
 -- party plans.
-use Rattle.std.specs.Prelude.{ℕ, ◌+◌, ◌&&◌, Bool, true, false, nat_lt, List, [], ◌∷◌, ◌++◌, length, map, replicate, slice_set, slice_index_or, fold}
+use Rattle.std.specs.Prelude.{ℕ, ◌+◌, ◌==◌, ◌&&◌, Bool, true, false, nat_lt, nat_le, List, [], ◌∷◌, ◌++◌, length, map, replicate, slice_set, slice_index_or, fold}
 use Rattle.std.specs.Prelude.{Option, Some, None, if◌then◌else◌}
 use Rattle.std.specs.List.{range_with_len}
 use Rattle.swap_digraph.specs.declared.deal.Deal.{Deal}
+use Rattle.swap_digraph.specs.Graph.{arcs}
 use Rattle.hashkey_path.specs.declared.hashkey.Hashkey.{Hashkey}
 use Rattle.party_wallet.specs.Value.{signed_in}
 use Rattle.escrow_core.specs.declared.reply.Reply.{Reply}
@@ -14,7 +15,7 @@ use Rattle.ledger_core.specs.History.{height, fit, reply_to_tick}
 use Rattle.ledger_core.specs.Ledger.{after_call, tick_entry}
 use Rattle.ledger_core.specs.Book.{Histories, history}
 use Rattle.deviator_script.specs.declared.event.Event.{Event}
-use Rattle.deviator_script.specs.declared.event.Event.TheVariants.{Tick, Look, Act, Call as Made}
+use Rattle.deviator_script.specs.declared.event.Event.TheVariants.{Tick, Look, Act, Call as Made, Crash}
 use Rattle.deviator_script.specs.declared.job.Role.{Role}
 use Rattle.deviator_script.specs.declared.job.Role.TheVariants.{Conforming, Manual, Script, Strategy}
 use Rattle.deviator_script.specs.declared.moves.Move.{Move}
@@ -185,6 +186,33 @@ act_as c s v Manual = s
 act_as c s v (Script moves) = follow c s v
 act_as c s v (Strategy name) = ask c s v name
 
+-- Crashes.
+
+-- An act that is stopped within the disk call after k of them, of the four that record a hashkey, has it recorded after the crash: its gate was written,
+-- and what isn't synced holds its new bytes.
+abbrev pub is_recorded : (k image : ℕ) → Bool
+is_recorded k image = nat_le 2 k && (image == 1)
+
+-- the hashkeys that are recorded after the act was stopped
+abbrev pub recorded_after : List (Option Hashkey) → Option Action → (k image : ℕ) → List (Option Hashkey)
+recorded_after signed None k image = signed
+recorded_after signed (Some x) k image = if is_recorded k image then signed_after signed x.call else signed
+
+-- what v knows that has learnt the history of each ledger that touches it to its end
+abbrev pub relearnt : Deal → ℕ → Histories → Histories
+relearnt d v b = map (λ a. if is_near d v a then history b a else []) (arcs d.graph)
+
+-- v begins its act, is stopped within the disk call after k of them, and restarts with what a crash leaves of its disk
+abbrev pub crash : Cast → State → ℕ → (k image : ℕ) → State
+crash c s v k image =
+    record s {
+      notes =
+          slice_set s.notes v (record {
+            known = relearnt c.deal v s.book;
+            signed = recorded_after (notes_of s v).signed (next_of c s v) k image;
+          });
+    }
+
 -- Events.
 
 -- what an event does
@@ -193,6 +221,7 @@ step c s (Tick a k) = record s { book = slice_set s.book a (after_tick k (histor
 step c s (Look v a) = if conforms c v then look s v a else watch c s v a
 step c s (Act v) = if conforms c v then act c s v else act_as c s v (role_of c v)
 step c s (Made v mv) = take_call c s v (resolved c.deal c.seeds s.book mv)
+step c s (Crash v k image) = crash c s v k image
 
 -- empty histories
 abbrev pub no_histories : Deal → Histories

@@ -11,7 +11,7 @@ ghost use Rattle.swap_run.specs.Asked.{RulesDecideFinishes};
 ghost use Rattle.swap_run.specs.CalledLaws.{CallsSplit, CallsArePlaced, PassedIsGood, NoneSwept, StepsOnAreGood};
 ghost use Rattle.swap_run.specs.FairLaws.{FinishesAreRuns, FinishesEnd, FinishesAreGood, FinishHeights, FairIsDealt, ActsComeToRest, ActsAreEnough};
 ghost use Rattle.swap_run.specs.FairLaws.{OthersRest, TurnsAreGood, RoundsAreGood, RoundsRaise, RoundsCountDown, FinishStops, FinishGoesOn};
-ghost use Rattle.swap_run.specs.Laws.{StartIsGood, StepsAreGood, DueCallsCanBeMade, GoodIsKept, RunsAreKept};
+ghost use Rattle.swap_run.specs.Laws.{StartIsGood, StepsAreGood, DueCallsCanBeMade, GoodIsKept, RunsAreKept, UnlocksAreSigned};
 
 /// What every state of a run keeps: the book is legal, and each conforming party knows some prefix of each ledger that holds all its
 /// own calls, which keep its rules. What it makes, the ledger takes.
@@ -21,10 +21,12 @@ pub fn every_state_is_good()
     ensures calls { DueCallsCanBeMade }
 {}
 
-/// After every list of events the book is legal and every conforming party is conducted.
+/// After every list of events, crashes among them, the book is legal and every conforming party is conducted. All unlock calls of a conforming party for one
+/// lock carry one hashkey, the one that it signed.
 pub fn every_run_is_kept()
     ensures states { GoodIsKept }
     ensures runs { RunsAreKept }
+    ensures signed { UnlocksAreSigned }
 {}
 
 /// A turn ends: a conforming party acts until nothing is due, for which as many acts are enough as there are calls that it may make.

@@ -1,23 +1,31 @@
 -- A world before any event.
-use Rattle.std.proofs.Common.{◌≡◌, Bool, false, List, [], length, map, Result, Ok, sym, ap, ap₂, ◌∙◌, subst}
+use Rattle.std.proofs.Common.{◌≡◌, ◌<◌, ℕ, Bool, true, false, List, [], length, map, get_or, replicate, slice_index_or, Option, None, Result, Ok, sym, ap, ap₂}
+use Rattle.std.proofs.Common.{◌∙◌, subst}
+use Rattle.std.proofs.lemmas.List.{get_or-map, get_or-replicate}
 use Rattle.swap_base.specs.Fault.{◌>>=◌, Fails}
 use Rattle.swap_base.specs.declared.fault.Fault.{Fault}
 use Rattle.swap_base.specs.declared.fault.Fault.TheVariants.{Refused, NoMemory}
 use Rattle.swap_digraph.specs.declared.deal.Deal.{Deal}
+use Rattle.hashkey_path.specs.declared.hashkey.Hashkey.{Hashkey}
+use Rattle.party_machine.specs.Machine.{MachineState}
+use Rattle.wallet_journal.specs.Journal.{JournalState}
+use Rattle.wallet_journal.specs.Memory.{DiskState}
 use Rattle.ledger_core.specs.Value.{LedgerState}
 use Rattle.ledger_core.specs.Book.{Histories}
 use Rattle.deviator_script.specs.declared.job.Job.{Job}
 use Rattle.deviator_script.specs.declared.job.Role.{Role}
 use Rattle.swap_rules.specs.Accepted.{IsAccepted}
-use Rattle.swap_run.specs.Run.{Cast, Notes, Plan, State, start}
+use Rattle.swap_run.specs.Run.{Cast, Notes, Plan, State, no_notes, start}
 use Rattle.swap_run.specs.Laws.{IsReadyCast, IsGood}
 use Rattle.swap_run.proofs.Good.{start_is_good}
 use Rattle.swap_world.specs.Cast.{cast_with, cast_of}
 use Rattle.swap_world.specs.Value.{WorldState, new_world}
 use Rattle.swap_world.specs.Staff.{actors_of, world_of, HaveRoles, HaveSeeds}
 use Rattle.swap_world.specs.Acting.{histories}
-use Rattle.swap_world.specs.Inside.{plan_in, AreNewLedgers, HaveRoom, AreLedgersOf, AreActorsOf}
+use Rattle.swap_world.specs.Journals.{IsFirstJournal, IsSomeJournal, AreFirstJournals, AreJournalsOf}
+use Rattle.swap_world.specs.Inside.{notes_in, plan_in, AreNewLedgers, HaveRoom, AreLedgersOf, AreActorsOf}
 use Rattle.swap_world.specs.declared.actor.Actor.{Actor}
+use Rattle.swap_world.specs.declared.actor.Actor.TheVariants.{Conforming}
 use Rattle.swap_world.specs.declared.staff.WrongWallet.{WrongWallet}
 use Rattle.swap_world.proofs.Rooms.{new_histories, new_ledgers_of, new_room}
 use Rattle.swap_world.proofs.States.{state}
@@ -73,3 +81,21 @@ module _ (job : Job) (d : Deal) (conforming : List Bool) (seeds : Seeds) (roles 
     good accepted =
         subst (λ (c : Cast). IsGood c (state d [] ys (histories ls))) (sym cast_is)
         (subst (IsGood (cast_of job)) (sym state_is) (start_is_good (cast_of job) (is_ready job ys accepted have act ea)))
+
+    signed_none : (v : ℕ) (m : MachineState) → v < length ys → Conforming m ≡ get_or ys v (Conforming m) → m.signed ≡ replicate (length job.deal.leaders) None
+    signed_none v m lt here =
+        let none : Notes = record { known = []; signed = [] } in
+        let many = (are_actors job ys have act ea).one_each in
+        ap (λ (x : Notes). x.signed) (ap (notes_in job.deal) here ∙ sym (get_or-map (notes_in job.deal) ys v (Conforming m) none lt)
+        ∙ ap (λ (ns : List Notes). get_or ns v none) (no_notes_yet job ys have act ea)
+        ∙ get_or-replicate job.deal.graph.n v (no_notes job.deal) none (subst (λ n. v < n) many lt))
+
+    pub journals : (js : List (Option (JournalState DiskState))) → AreFirstJournals job.deal job.conforming job.deal.graph.n js → AreJournalsOf d ys js
+    journals js k = subst (λ (x : Deal). AreJournalsOf x ys js) (sym ed) (record {
+      one_each = k.one_each ∙ sym (are_actors job ys have act ea).one_each;
+      each = λ v m o lt here q.
+          let is : slice_index_or job.conforming v false ≡ true = ((are_actors job ys have act ea).each v (Conforming m) lt here).0 in
+          let low : v < length js = subst (λ n. v < n) ((are_actors job ys have act ea).one_each ∙ sym k.one_each) lt in
+          let first : IsFirstJournal job.deal v true o = subst (λ b. IsFirstJournal job.deal v b o) is (k.each v o low q) in
+          subst (λ (l : List (Option Hashkey)). IsSomeJournal job.deal v l o) (sym (signed_none v m lt here)) first;
+    })

@@ -5,6 +5,9 @@ pub mod Signed
 pub mod Known
 pub mod Plans
 pub mod States
+pub mod Kept
+pub mod Restarts
+pub mod Relearns
 pub mod Acts
 pub mod Worlds
 pub mod Asks

@@ -12,14 +12,14 @@ use Rattle.ledger_core.specs.Value.{LedgerState}
 use Rattle.ledger_core.specs.Book.{Histories, history}
 use Rattle.deviator_script.specs.Resolved.{resolved}
 use Rattle.deviator_script.specs.View.{MayAnswer}
-use Rattle.deviator_script.specs.declared.event.Event.TheVariants.{Look, Act, Call as Made}
+use Rattle.deviator_script.specs.declared.event.Event.TheVariants.{Look, Act, Call as Made, Crash}
 use Rattle.deviator_script.specs.declared.job.Role.{Role}
 use Rattle.deviator_script.specs.declared.job.Role.TheVariants as kinds
 use Rattle.deviator_script.specs.declared.moves.Move.{Move}
 use Rattle.swap_rules.specs.Due.{Wallet, Action, due, first}
 use Rattle.party_wallet.specs.Value.{signed_in}
 use Rattle.swap_run.specs.Run.{Cast, Notes, Plan, State, conforms, role_of, notes_of, plan_of, plan_up_to, signed_after, known_up_to, look, next_of}
-use Rattle.swap_run.specs.Run.{Question, watch, step, answer_for}
+use Rattle.swap_run.specs.Run.{Question, watch, step, answer_for, relearnt, recorded_after}
 use Rattle.swap_run.specs.Called.{step_on}
 use Rattle.swap_run.specs.Asked.{Answers, with_answers}
 use Rattle.party_machine.specs.Wallet.{wallet_of}
@@ -51,6 +51,16 @@ actor_set d conforming seeds roles xs p y k lt i = record {
     at : (v : ℕ) (x : Actor) → v < length xs → x ≡ get_or (set xs p y) v x → (v ≡ p) ⊎ (v ≢ p) → Is v x
     at v x l e (inl s) = subst (λ u. Is u x) (sym s) (subst (Is p) (sym (e ∙ (ap (λ u. get_or (set xs p y) u x) s ∙ get_or-set_same xs p y x lt))) i)
     at v x l e (inr n) = k.each v x l (e ∙ get_or-set_other xs p v y x n)
+
+-- a machine after a crash of its party, over the histories as they stand
+abbrev pub crashed_machine : Deal → MachineState → (k image : ℕ) → Histories → MachineState
+crashed_machine d m k image b = record {
+  deal = m.deal;
+  me = m.me;
+  seed = m.seed;
+  known = relearnt d m.me b;
+  signed = recorded_after m.signed (machines.next_of m) k image;
+}
 
 -- the state of those questions, actors and histories
 abbrev pub state : Deal → List Question → List Actor → Histories → State
@@ -156,6 +166,18 @@ module _ (d : Deal) (conforming : List Bool) (seeds : List (Option (List ℕ))) 
   acted sw p m new b i eb en =
       made sw p m new b (machines.next_of m) i eb en ∙ (ap (λ (o : Option Action). make_on sw d s p o) (sym (next_is p m i))
       ∙ (where_it_conforms p (make_on sw d s p (next_of c s p)) (act_on sw c s p (role_of c p)) i.is.0 ∙ sym (act_is sw c s p)))
+
+  -- a party crashes and restarts
+  pub crashed : (p k image : ℕ) (m new : MachineState) → IsAt p m → new ≡ crashed_machine d m k image (histories ls) → replaced p (Conforming new) (histories ls) ≡ step c s (Crash p k image)
+  crashed p k image m new i e =
+      let was : (notes_of s p).signed ≡ m.signed = ap (λ (n : Notes). n.signed) (notes_at p m i) in
+      let n : notes_in d (Conforming new) ≡ record {
+        known = relearnt d p (histories ls);
+        signed = recorded_after (notes_of s p).signed (next_of c s p) k image;
+      }
+      = ap (λ (x : MachineState). notes_in d (Conforming x)) e
+      ∙ (λ j. record { known = relearnt d (i.is.2 j) (histories ls); signed = recorded_after (sym was j) (sym (next_is p m i) j) k image }) in
+      same_parts _ _ _ _ _ _ refl (noted p new _ n) (plans_still p m new i)
 
   -- the histories after it, whatever became of the machine
   pub acted_book : (sw : ℕ → Bool) (p : ℕ) (m : MachineState) → IsAt p m

@@ -129,10 +129,10 @@ module _ (c : Cast) (g : Answers) where
   ready_for k = record { accepted = k.accepted; one_each = k.one_each; roles = k.roles; wallets = k.wallets; scripts = k.scripts }
 
   notes_for : (s : State) (v : ℕ) → AreGoodNotes c s v → AreGoodNotes (with_answers c g) s v
-  notes_for s v k = record { one_each = k.one_each; places = k.places; knows = k.knows; sound = k.sound }
+  notes_for s v k = record { one_each = k.one_each; places = k.places; knows = k.knows; far = k.far; sound = k.sound }
 
   notes_of_any : (s : State) (v : ℕ) → AreGoodNotes (with_answers c g) s v → AreGoodNotes c s v
-  notes_of_any s v k = record { one_each = k.one_each; places = k.places; knows = k.knows; sound = k.sound }
+  notes_of_any s v k = record { one_each = k.one_each; places = k.places; knows = k.knows; far = k.far; sound = k.sound }
 
   pub good_for : (s : State) → IsGood c s → IsGood (with_answers c g) s
   good_for s k = record {

@@ -10,6 +10,7 @@ use Rattle.swap_run.specs.Run.{Cast, Notes, Plan, Question, State, no_notes, fir
 use Rattle.swap_run.specs.Laws.{IsReadyCast, IsGood, IsKept}
 use Rattle.swap_world.specs.Cast.{cast_with}
 use Rattle.swap_world.specs.Acting.{question_of}
+use Rattle.swap_world.specs.Journals.{AreJournalsOf}
 use Rattle.swap_world.specs.Value.{WorldState}
 use Rattle.swap_world.specs.declared.actor.Actor.{Actor}
 use Rattle.swap_world.specs.declared.actor.Actor.TheVariants.{Conforming, Planned, Manual}
@@ -115,5 +116,6 @@ pub record Holds (w : Inside) : Type 0 where
   pub told : length w.told.items ≡ length w.answers.items
   pub good : w.stopped ≡ false → IsGood (cast_in w) (state_in w)
   pub room : w.stopped ≡ false → HaveRoom w.ledgers.items
+  pub journals : w.stopped ≡ false → AreJournalsOf w.deal w.actors.items w.journals.items
   -- also where memory ran out
   pub kept : IsKept (cast_in w) (state_in w).book

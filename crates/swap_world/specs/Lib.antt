@@ -6,5 +6,6 @@ pub mod Staff
 pub mod Stopped
 pub mod Acting
 pub mod Near
+pub mod Journals
 pub mod Inside
 pub mod Quiet

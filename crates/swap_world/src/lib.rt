@@ -6,6 +6,7 @@
 mod actor;
 mod chain;
 mod fair;
+mod journals;
 mod many;
 mod near;
 mod quiet;

@@ -1,7 +1,7 @@
 //! What an event does to one ledger, whose slot may be swept, and to the machine or the plan of a party beside it.
 
 ghost use Rattle.std.specs.Prelude.{◌≡◌, ◌==◌, ◌||◌, ◌<◌, ◌≤◌, ◌+◌, ◌-◌, ◌⊎◌, ℕ, Some, None, false, IsTrue, OnOk};
-ghost use Rattle.std.specs.Prelude.{OnErr, IfOk, IfSome, length, drop, slice_set, option_copied};
+ghost use Rattle.std.specs.Prelude.{OnErr, IfOk, IfSome, length, drop, slice_set, option_copied, option_map};
 ghost use Rattle.swap_digraph.specs.Deal.{IsWellSized, party, counterparty};
 ghost use Rattle.ledger_core.specs.Known.{is_known_in};
 ghost use Rattle.ledger_core.specs.History.{IsLegal, fit};
@@ -17,7 +17,9 @@ ghost use Rattle.swap_laws.specs.Machine.{Begins};
 ghost use Rattle.swap_rules.specs.Due.{Action};
 ghost use Rattle.swap_run.specs.Run.{after_tick, plan_up_to};
 ghost use Rattle.swap_run.specs.Called.{is_barred};
-ghost use Rattle.party_machine.specs.Machine.{next_of};
+ghost use Rattle.party_wallet.specs.Value.{signed_in};
+ghost use Rattle.party_machine.specs.Machine.{action_of, next_of, noted_for, IsOfSame};
+ghost use Rattle.swap_world.specs.Journals.{IsJournalOf};
 ghost use Rattle.swap_world.specs.Acting.{IsMakable, IsSameOwner, histories, landed, book_after, machine_after, told_of, seen, taken, told_to, turned};
 ghost use Rattle.swap_world.specs.On.{swept_in, told_by};
 ghost use Rattle.swap_world.specs.Inside.{AreLedgersOf, IsLedgerOf, HaveRoom};
@@ -34,6 +36,7 @@ use std::marker::Brand;
 use std::sync::ledger::{Blank, Ledger as Counted};
 use swap_base::{ArcId, Digest, NoMemory, PartyId};
 use swap_digraph::Deal;
+use wallet_journal::{Journal, MemoryDisk};
 
 /// Ticks a ledger that has room by k heights, and makes room for a further entry.
 #[tactic(auto, unfolding(swap_run::specs::Run::after_tick))]
@@ -300,12 +303,31 @@ fn make_due(
     Ok(told)
 }
 
-/// Makes the first call that is due for a machine, if any, and answers what its party is told.
+/// The first call that is due for a machine, whose hashkey is recorded in its journal.
+fn next(
+    machine: &mut Machine,
+    journal: &mut Journal<MemoryDisk>,
+) -> Result<Option<(ArcId, Call)>, NoMemory>
+    requires journal { IsJournalOf machine.old.deal machine.old.me machine.old.signed journal.old }
+    ensures due { IfOk result (λ o. option_map action_of o ≡ next_of machine.old) }
+    ensures signed { IfOk result (λ o. signed_in machine.new.signed ≡ noted_for (signed_in machine.old.signed) o) }
+    ensures same { IsOfSame machine.old machine.new }
+    ensures journal { OnOk result (IsJournalOf machine.old.deal machine.old.me machine.new.signed journal.new) }
+{
+    match machine.next_recorded(journal) {
+        Ok(answer) => Ok(answer),
+        Err(_) => Err(NoMemory),
+    }
+}
+
+/// Makes the first call that is due for a machine, if any, and answers what its party is told. A hashkey that it signs is recorded before.
 pub(crate) fn act(
     machine: &mut Machine,
+    journal: &mut Journal<MemoryDisk>,
     ledgers: &mut Vec<Ledger>,
     swept: &[bool],
 ) -> Result<Told, NoMemory>
+    requires journal { IsJournalOf machine.old.deal machine.old.me machine.old.signed journal.old }
     requires ledgers { AreLedgersOf machine.old.deal ledgers.old.items }
     requires makable { (x : Action) → next_of machine.old ≡ Some x → IsMakable machine.old.deal machine.old.me x }
     requires begins { (a : ℕ) → Begins (history machine.old.known a) (history (histories ledgers.old.items) a) }
@@ -319,8 +341,9 @@ pub(crate) fn act(
     ensures ledgers { AreLedgersOf machine.old.deal ledgers.new.items }
     ensures room { OnOk result (HaveRoom ledgers.new.items) }
     ensures owner { IsSameOwner machine.old machine.new }
+    ensures journal { OnOk result (IsJournalOf machine.old.deal machine.old.me machine.new.signed journal.new) }
 {
-    match machine.next()? {
+    match next(machine, journal)? {
         None => Ok(Told::Nothing),
         Some((arc, due)) => {
             let is = is_swept(swept, arc);

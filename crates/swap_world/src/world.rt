@@ -1,18 +1,26 @@
 //! A world.
 
 ghost use Rattle.std.specs.Prelude.{◌≡◌, ◌<◌, ◌≤◌, ◌⊎◌, ◌&&◌, IsTrue, OnOk, OnErr, IfOk, IsErr, false, true, is_some, is_none};
-ghost use Rattle.std.specs.Prelude.{length, map, All};
+ghost use Rattle.std.specs.Prelude.{ℕ, List, Some, length, map, All};
 ghost use Rattle.std.specs.List.Sorted.{IsStrictlyIncreasing};
+ghost use Rattle.wallet_journal.specs.Held.{Leaves, read_bytes};
+ghost use Rattle.wallet_journal.specs.Layout.{recorded};
+ghost use Rattle.party_wallet.specs.Value.{signed_in};
 ghost use Rattle.swap_base.specs.Fault.{Gives};
 ghost use Rattle.swap_digraph.specs.Deal.{IsWellSized};
+ghost use Rattle.swap_base.specs.Lists.{IsMoment};
+ghost use Rattle.hashkey_path.specs.declared.hashkey.Hashkey.{Hashkey};
+ghost use Rattle.ledger_core.specs.declared.entry.Entry.{Entry};
+ghost use Rattle.ledger_core.specs.declared.entry.Call.TheVariants.{Unlock};
+ghost use Rattle.swap_rules.specs.Party.{call_by};
 ghost use Rattle.ledger_core.specs.History.{height, accounts, published, settled};
 ghost use Rattle.ledger_core.specs.Book.{IsLegalBook, history};
-ghost use Rattle.deviator_script.specs.Step.{CanStep, CanTick, CanLook, CanCall};
+ghost use Rattle.deviator_script.specs.Step.{CanStep, CanTick, CanLook, CanCall, CanCrash};
 ghost use Rattle.swap_rules.specs.Accepted.{IsAccepted};
 ghost use Rattle.swap_rules.specs.Outcome.{IsEnded};
 ghost use Rattle.swap_laws.specs.Laws.{IsDealt};
 ghost use Rattle.swap_run.specs.Asked.{is_strategy};
-ghost use Rattle.swap_run.specs.Run.{conforms, is_planned, role_of, start, step, run_from};
+ghost use Rattle.swap_run.specs.Run.{conforms, is_planned, notes_of, role_of, start, step, run_from};
 ghost use Rattle.swap_run.specs.Called.{step_on};
 ghost use Rattle.swap_run.specs.Asked.{Answers};
 ghost use Rattle.swap_run.specs.Fair.{finish, has_ended};
@@ -30,9 +38,10 @@ ghost use Rattle.swap_world.specs.Staff.{world_of, AreHeld, HaveRoles, HaveSeeds
 ghost use Rattle.swap_world.specs.Inside.{AreNewLedgers};
 
 use crate::actor::Actor;
+use crate::journals::journals_of;
 use crate::staff::{WorldFault, actors_of};
 use crate::told::Told;
-use crate::{chain, fair, many, quiet, turn};
+use crate::{chain, fair, journals, many, quiet, turn};
 use deviator_script::{Event, Job, Move, Role, Strategies};
 use ledger_core::{Accounts, Book, Call, EntryList, Ledger};
 use party_plan::Planner;
@@ -41,6 +50,7 @@ use std::alloc::Global;
 use std::marker::Model;
 use swap_base::{ArcId, Digest, Listed, NoMemory, PartyId, Past, TryCopy};
 use swap_digraph::{Deal, copy_deal};
+use wallet_journal::{Journal, MemoryDisk};
 
 /// The ledgers of a job, and what acts for its parties.
 #[derive(Drop)]
@@ -52,6 +62,8 @@ pub struct World {
     roles: Listed<Role>,
     ledgers: Vec<Ledger>,
     actors: Vec<Actor>,
+    /// The journal of each party that conforms.
+    journals: Vec<Option<Journal<MemoryDisk>>>,
     /// Who asked a strategy, one after another.
     askers: Past<PartyId>,
     /// What each of them planned then.
@@ -123,6 +135,7 @@ impl World {
             seeds: job.seeds.copy()?,
             roles: job.roles.copy()?,
             ledgers: ledgers_of(alloc, &job.deal)?,
+            journals: journals_of(alloc, &job.deal, job.conforming.as_slice())?,
             deal: copy_deal(&job.deal)?,
             actors,
             askers: Past::new(),
@@ -200,7 +213,10 @@ impl World {
         let Actor::Conforming(machine) = &mut self.actors[p as usize] else {
             unreachable!();
         };
-        let done = turn::act(machine, &mut self.ledgers, swept);
+        let Some(journal) = &mut self.journals[p as usize] else {
+            unreachable!();
+        };
+        let done = turn::act(machine, journal, &mut self.ledgers, swept);
         self.stopped = done.is_err();
         done
     }
@@ -397,6 +413,28 @@ impl World {
         done
     }
 
+    /// Lets a conforming party crash within its act, and restart.
+    fn crash(&mut self, p: PartyId, k: u8, image: u8) -> Result<(), NoMemory>
+        requires event { CanCrash self.old.deal self.old.conforming p k }
+        requires goes_on { self.old.stopped ≡ false }
+        ensures ok { OnOk result (self.new ≡ record self.old { state = step (cast_at self.old) self.old.state (Event.Crash p k image) }) }
+        ensures cast { OnErr result (cast_at self.new ≡ cast_at self.old) }
+        ensures asked { OnErr result (self.new.state.asked ≡ self.old.state.asked) }
+        ensures answers { OnErr result (self.new.answers ≡ self.old.answers) }
+        ensures book { self.new.state.book ≡ self.old.state.book }
+    {
+        let alloc = *self.ledgers.allocator();
+        let Actor::Conforming(machine) = &mut self.actors[p as usize] else {
+            unreachable!();
+        };
+        let Some(journal) = &mut self.journals[p as usize] else {
+            unreachable!();
+        };
+        let done = journals::crash(alloc, machine, journal, &self.deal, &self.ledgers, k, image);
+        self.stopped = done.is_err();
+        done
+    }
+
     /// Lets an event happen.
     fn happen<K: Strategies>(
         &mut self,
@@ -423,6 +461,10 @@ impl World {
             }
             Event::Act(p) => self.act(kit, *p, swept),
             Event::Call(sender, mv) => self.make(*sender, mv, swept),
+            Event::Crash(p, k, image) => {
+                self.crash(*p, *k, *image)?;
+                Ok(Told::Nothing)
+            }
         }
     }
 
@@ -603,6 +645,25 @@ impl World {
         ensures { result ≡ self.now.stopped }
     {
         self.stopped
+    }
+
+    /// The disk of a conforming party: a read gives, and each crash leaves, just the hashkeys that the party signed as recorded.
+    pub fn disk(&self, p: PartyId) -> &MemoryDisk
+        requires party { p < self.now.deal.graph.n }
+        requires conforms { conforms (cast_at self.now) p ≡ true }
+        requires goes_on { self.now.stopped ≡ false }
+        ensures shown { (i : ℕ) → i < length self.now.deal.leaders
+            → recorded (read_bytes result.now.held) i ≡ signed_in (notes_of self.now.state p).signed i }
+        ensures durable { (i : ℕ) → i < length self.now.deal.leaders → (c : List ℕ) → Leaves result.now.held c
+            → recorded c i ≡ signed_in (notes_of self.now.state p).signed i }
+        // Each unlock call that the party made, on whatever arc, carries the hashkey that is recorded for its lock.
+        ensures calls { (a : ℕ) (past : List Entry) (e : Entry) (key : Hashkey) → IsMoment (history self.now.state.book a) past e
+            → call_by p e ≡ Some (Unlock key) → recorded (read_bytes result.now.held) key.lock ≡ Some key }
+    {
+        let Some(journal) = &self.journals[p as usize] else {
+            unreachable!();
+        };
+        journal.disk()
     }
 
     /// Both balances and the held amount of an arc, in units.

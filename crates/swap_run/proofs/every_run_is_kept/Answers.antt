@@ -6,3 +6,6 @@ returns-clause-states c = lemmas.good_is_kept
 
 pub returns-clause-runs : goal.returns-clause-runs
 returns-clause-runs c = lemmas.runs_are_kept
+
+pub returns-clause-signed : goal.returns-clause-signed
+returns-clause-signed c = lemmas.unlocks_are_signed

@@ -42,14 +42,14 @@ make_due-requires-clause-begins c =
 
 pub returns-in-None-clause-knows : goal.returns-in-None-clause-knows
 returns-in-None-clause-knows c =
-    still (swept_in c.args.swept.now) c.args.machine.now c.next.new.self c.in_ok-next.field-0 _ c.in-None.is c.in_ok-next.ensures.due
+    still (swept_in c.args.swept.now) c.args.machine.now c.next.new.machine c.in_ok-next.field-0 _ c.in-None.is c.in_ok-next.ensures.due
     c.in_ok-next.ensures.same (λ i. ap (λ (f : ℕ → Option Hashkey). f i) c.in_ok-next.ensures.signed)
 
 pub returns-in_ok-told-in-Some-clause-ok : goal.returns-in_ok-told-in-Some-clause-ok
 returns-in_ok-told-in-Some-clause-ok c =
     let next = answered c.args.machine.now c.in_ok-next.field-0 c.in-Some.arc c.in-Some.due c.in-Some.is c.in_ok-next.ensures.due in
     let below = subst (λ n. c.in-Some.arc < n) (sym c.requires.ledgers.one_each) (c.requires.makable (action c.in-Some.arc c.in-Some.due) next).arc in
-    book_is (swept_in c.args.swept.now) c.args.machine.now c.next.new.self c.args.ledgers.now.items c.in-Some.arc c.in-Some.due c.index_mut.result.now
+    book_is (swept_in c.args.swept.now) c.args.machine.now c.next.new.machine c.args.ledgers.now.items c.in-Some.arc c.in-Some.due c.index_mut.result.now
     c.in_ok-next.ensures.same below c.index_mut.ensures.value next
     c.make_due.new.ledger (rw c.is_swept-is.ensures at c.make_due.ensures.leaves)
 
@@ -57,7 +57,7 @@ pub returns-in_ok-told-in-Some-clause-knows : goal.returns-in_ok-told-in-Some-cl
 returns-in_ok-told-in-Some-clause-knows c =
     let next = answered c.args.machine.now c.in_ok-next.field-0 c.in-Some.arc c.in-Some.due c.in-Some.is c.in_ok-next.ensures.due in
     let below = subst (λ n. c.in-Some.arc < n) (sym c.requires.ledgers.one_each) (c.requires.makable (action c.in-Some.arc c.in-Some.due) next).arc in
-    machine_is (swept_in c.args.swept.now) c.args.machine.now c.next.new.self c.args.ledgers.now.items c.in-Some.arc c.in-Some.due c.index_mut.result.now
+    machine_is (swept_in c.args.swept.now) c.args.machine.now c.next.new.machine c.args.ledgers.now.items c.in-Some.arc c.in-Some.due c.index_mut.result.now
     c.in_ok-next.ensures.same below c.index_mut.ensures.value next
     c.make_due.new.machine (λ i. ap (λ (f : ℕ → Option Hashkey). f i) (rw c.in-Some.is at c.in_ok-next.ensures.signed))
     (rw c.is_swept-is.ensures at c.in_ok-told-in-Some.ensures.knows)
@@ -67,7 +67,7 @@ returns-in_err-told-in-Some-clause-err c =
     let next = answered c.args.machine.now c.in_ok-next.field-0 c.in-Some.arc c.in-Some.due c.in-Some.is c.in_ok-next.ensures.due in
     let below = subst (λ n. c.in-Some.arc < n) (sym c.requires.ledgers.one_each) (c.requires.makable (action c.in-Some.arc c.in-Some.due) next).arc in
     if_err _ (inr (
-    book_is (swept_in c.args.swept.now) c.args.machine.now c.next.new.self c.args.ledgers.now.items c.in-Some.arc c.in-Some.due c.index_mut.result.now
+    book_is (swept_in c.args.swept.now) c.args.machine.now c.next.new.machine c.args.ledgers.now.items c.in-Some.arc c.in-Some.due c.index_mut.result.now
     c.in_ok-next.ensures.same below c.index_mut.ensures.value next
     c.make_due.new.ledger (rw c.is_swept-is.ensures at c.make_due.ensures.leaves)))
 
@@ -75,7 +75,7 @@ pub returns-in_ok-told-in-Some-clause-told : goal.returns-in_ok-told-in-Some-cla
 returns-in_ok-told-in-Some-clause-told c =
     let next = answered c.args.machine.now c.in_ok-next.field-0 c.in-Some.arc c.in-Some.due c.in-Some.is c.in_ok-next.ensures.due in
     let below = subst (λ n. c.in-Some.arc < n) (sym c.requires.ledgers.one_each) (c.requires.makable (action c.in-Some.arc c.in-Some.due) next).arc in
-    told_is (swept_in c.args.swept.now) c.args.machine.now c.next.new.self c.args.ledgers.now.items c.in-Some.arc c.in-Some.due c.index_mut.result.now
+    told_is (swept_in c.args.swept.now) c.args.machine.now c.next.new.machine c.args.ledgers.now.items c.in-Some.arc c.in-Some.due c.index_mut.result.now
     c.in_ok-next.ensures.same below c.index_mut.ensures.value next
     c.in_ok-told-in-Some.told (rw c.is_swept-is.ensures at c.in_ok-told-in-Some.ensures.told)
 

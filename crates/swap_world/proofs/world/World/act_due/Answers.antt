@@ -1,14 +1,18 @@
-use Rattle.std.proofs.Common.{◌≡◌, ◌<◌, set, slice_index_or, false, None, ◌∙◌, subst}
+use Rattle.std.proofs.Common.{◌≡◌, ◌<◌, set, slice_index_or, false, None, sym, ◌∙◌, subst}
+use Rattle.std.specs.Prelude.{ℕ, OnOk}
+use Rattle.swap_digraph.specs.declared.deal.Deal.{Deal}
 use Rattle.deviator_script.specs.declared.event.Event.TheVariants.{Act}
 use Rattle.deviator_script.specs.declared.job.Role.TheVariants as kinds
 use Rattle.swap_world.specs.Acting.{histories}
 use Rattle.swap_world.specs.Inside.{asked_in, cast_in, state_in, AreLedgersOf}
+use Rattle.swap_world.specs.Journals.{IsJournalOf, IsSomeJournal}
 use Rattle.swap_world.specs.On.{swept_in}
 use Rattle.swap_world.specs.declared.actor.Actor.TheVariants.{Conforming}
 use Rattle.swap_world.proofs.States.{actor_set, state, acted, acted_book, acted_told}
 use Rattle.swap_world.proofs.Ledgers.{on_err, either}
 use Rattle.swap_world.proofs.On.{if_told}
 use Rattle.swap_world.proofs.Worlds.{good_unless, kept_on, acted_on, both, placed, owned, begins, makable}
+use Rattle.swap_world.proofs.Kept.{journals_act, journal_unless}
 use Rattle.swap_world.proofs.Rooms.{room_unless}
 use Rattle.swap_world.proofs.world.World.act_due.Goals as goal
 
@@ -72,6 +76,11 @@ invariant_of-self c =
       room =
           λ on. room_unless c.act-done.result c.is_err-self-inside.result c.act-done.new.ledgers.items c.is_err-self-inside.ensures.value on
           c.act-done.ensures.room;
+      journals =
+          λ on. journals_act i.deal xs i.journals.items c.args.p new c.act-done.new.journal (c.self.invariant.journals goes_on) place.below
+          (journal_unless c.act-done.result c.is_err-self-inside.result c.is_err-self-inside.ensures.value on
+          (subst (λ (x : Deal × ℕ). OnOk c.act-done.result (IsJournalOf x.0 x.1 new.signed c.act-done.new.journal)) (λ j. (place.is.1 j, place.is.2 j))
+          c.act-done.ensures.journal));
       kept =
           kept_on c.act-done.result sw (cast_in i) (state_in i) (state i.deal (asked_in i) (set xs c.args.p (Conforming new)) b)
           (Act c.args.p)
@@ -132,3 +141,29 @@ returns-clause-book c =
 
 pub act-done-requires-clause-room : goal.act-done-requires-clause-room
 act-done-requires-clause-room c = c.self.invariant.room (rw (← c.self.view_is) at c.requires.goes_on)
+
+pub unreachable-requires-in_default-index_mut : goal.unreachable-requires-in_default-index_mut
+unreachable-requires-in_default-index_mut c =
+    let i = c.self.inside in
+    let m = c.in-Conforming.machine in
+    let known : c.args.p < i.deal.graph.n = rw (← c.self.view_is) at c.requires.party in
+    let goes_on : i.stopped ≡ false = rw (← c.self.view_is) at c.requires.goes_on in
+    let place =
+    placed i.deal i.conforming i.seeds i.roles (asked_in i) i.ledgers.items i.actors.items c.args.p c.index_mut.result.now m c.self.invariant.actors known
+    c.in-Conforming.is c.index_mut.ensures.value in
+    subst (IsSomeJournal i.deal c.args.p m.signed) c.in_default-index_mut.is
+    ((c.self.invariant.journals goes_on).each c.args.p m c.index_mut-2.result.now place.below place.here c.index_mut-2.ensures.value)
+
+pub act-done-requires-clause-journal : goal.act-done-requires-clause-journal
+act-done-requires-clause-journal c =
+    let i = c.self.inside in
+    let m = c.in-Conforming.machine in
+    let known : c.args.p < i.deal.graph.n = rw (← c.self.view_is) at c.requires.party in
+    let goes_on : i.stopped ≡ false = rw (← c.self.view_is) at c.requires.goes_on in
+    let place =
+    placed i.deal i.conforming i.seeds i.roles (asked_in i) i.ledgers.items i.actors.items c.args.p c.index_mut.result.now m c.self.invariant.actors known
+    c.in-Conforming.is c.index_mut.ensures.value in
+    let is : IsJournalOf i.deal c.args.p m.signed c.in-Some.journal =
+    subst (IsSomeJournal i.deal c.args.p m.signed) c.in-Some.is
+    ((c.self.invariant.journals goes_on).each c.args.p m c.index_mut-2.result.now place.below place.here c.index_mut-2.ensures.value) in
+    subst (λ (x : Deal × ℕ). IsJournalOf x.0 x.1 m.signed c.in-Some.journal) (λ j. (sym place.is.1 j, sym place.is.2 j)) is

@@ -6,6 +6,7 @@ use Rattle.swap_world.specs.Acting.{histories, seen}
 use Rattle.swap_world.specs.Inside.{asked_in}
 use Rattle.swap_world.specs.On.{swept_in}
 use Rattle.swap_world.specs.declared.actor.Actor.TheVariants.{Planned}
+use Rattle.swap_world.proofs.Kept.{journals_planned}
 use Rattle.swap_world.proofs.Asks.{IsAsking, good_asked, has_gone, is_cut, kept_asked, has_told}
 use Rattle.swap_world.proofs.Ledgers.{on_ok}
 use Rattle.swap_world.proofs.States.{actor_set}
@@ -85,6 +86,7 @@ invariant_of-self-2 g c =
       room =
           λ on. room_unless c.take-done.result c.is_err-self-inside.result c.take-done.new.ledgers.items c.is_err-self-inside.ensures.value on
           c.take-done.ensures.room;
+      journals = λ on. journals_planned i.deal xs i.journals.items c.args.p new (c.self.invariant.journals goes_on) place.below;
       kept = kept_asked sw k b c.take-done.ensures.leaves c.self.invariant.ready known (c.self.invariant.good goes_on);
     }
 

@@ -7,6 +7,7 @@ use Rattle.swap_world.specs.Acting.{histories, taken, seen, told_to, turned}
 use Rattle.swap_world.specs.On.{swept_in}
 use Rattle.swap_world.specs.Inside.{asked_in, cast_in, state_in}
 use Rattle.swap_world.specs.declared.actor.Actor.TheVariants.{Planned}
+use Rattle.swap_world.proofs.Kept.{journals_planned}
 use Rattle.swap_world.proofs.Ledgers.{on_err, either}
 use Rattle.swap_world.proofs.Gone.{not_asking}
 use Rattle.swap_world.proofs.On.{if_told}
@@ -86,6 +87,7 @@ invariant_of-self-2 c =
       room =
           λ on. room_unless c.follow-done.result c.is_err-self-inside.result c.follow-done.new.ledgers.items c.is_err-self-inside.ensures.value on
           c.follow-done.ensures.room;
+      journals = λ on. journals_planned i.deal xs i.journals.items c.args.p new (c.self.invariant.journals goes_on) place.below;
       kept = kept_on c.follow-done.result sw (cast_in i) (state_in i) (state i.deal (asked_in i) (set xs c.args.p (Planned new)) b) (Act c.args.p) done err
           c.self.invariant.ready known (c.self.invariant.good goes_on);
     }

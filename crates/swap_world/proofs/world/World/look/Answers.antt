@@ -6,6 +6,7 @@ use Rattle.swap_laws.specs.Machine.{Begins}
 use Rattle.swap_world.specs.Acting.{histories}
 use Rattle.swap_world.specs.Inside.{asked_in, cast_in, state_in}
 use Rattle.swap_world.specs.declared.actor.Actor.TheVariants.{Conforming}
+use Rattle.swap_world.proofs.Kept.{journals_learnt, still_signed}
 use Rattle.swap_world.proofs.Ledgers.{on_ok, on_err, history_at}
 use Rattle.swap_world.proofs.States.{actor_set, same_actor, state, looked}
 use Rattle.swap_world.proofs.Worlds.{world, good_on, placed, same_owner, owned, begins, know}
@@ -64,6 +65,9 @@ invariant_of-self-2 c =
           place.here (ap (λ x. Conforming x) e)) c.learn.ensures.err)
           c.self.invariant.ready can (c.self.invariant.good g);
       room = c.self.invariant.room;
+      journals = λ on. journals_learnt i.deal xs i.journals.items c.args.p m new (c.self.invariant.journals on) place.below place.here
+          (still_signed c.learn.result m new (set m.known c.args.arc (history (histories ls) c.args.arc))
+          (on_ok c.learn.result (know m new ls c.args.arc l k.arc below c.index.ensures) c.learn.ensures.ok) c.learn.ensures.err);
       kept = c.self.invariant.kept;
     }
 

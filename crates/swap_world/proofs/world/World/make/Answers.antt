@@ -6,6 +6,7 @@ use Rattle.swap_world.specs.Acting.{histories, taken, seen, told_to}
 use Rattle.swap_world.specs.On.{swept_in}
 use Rattle.swap_world.specs.Inside.{asked_in, cast_in, state_in}
 use Rattle.swap_world.specs.declared.actor.Actor.TheVariants.{Planned}
+use Rattle.swap_world.proofs.Kept.{journals_planned}
 use Rattle.swap_world.proofs.Ledgers.{on_err, either}
 use Rattle.swap_world.proofs.On.{if_told}
 use Rattle.swap_world.proofs.States.{actor_set, state, made_by_hand, made_book, made_told}
@@ -71,6 +72,7 @@ invariant_of-self-2 c =
       room =
           λ on. room_unless c.make_by_hand-done.result c.is_err-self-inside.result c.make_by_hand-done.new.ledgers.items
           c.is_err-self-inside.ensures.value on c.make_by_hand-done.ensures.room;
+      journals = λ on. journals_planned i.deal xs i.journals.items c.args.sender new (c.self.invariant.journals goes_on) place.below;
       kept = kept_on c.make_by_hand-done.result sw (cast_in i) (state_in i) (state i.deal (asked_in i) (set xs c.args.sender (Planned new)) b)
           (Made c.args.sender c.args.mv.now) done err c.self.invariant.ready can (c.self.invariant.good goes_on);
     }

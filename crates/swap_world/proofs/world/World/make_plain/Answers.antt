@@ -54,6 +54,7 @@ invariant_of-self c =
       good = λ on. good_unless c.make-done.result c.is_err-self-inside.result sw (cast_in i) (state_in i) (state i.deal (asked_in i) xs (histories new))
           (Made c.args.sender c.args.mv.now) c.is_err-self-inside.ensures.value on made c.self.invariant.ready can (c.self.invariant.good goes_on);
       room = λ on. room_unless c.make-done.result c.is_err-self-inside.result new c.is_err-self-inside.ensures.value on c.make-done.ensures.room;
+      journals = λ on. c.self.invariant.journals goes_on;
       kept = kept_on c.make-done.result sw (cast_in i) (state_in i) (state i.deal (asked_in i) xs (histories new)) (Made c.args.sender c.args.mv.now) made
           err c.self.invariant.ready can (c.self.invariant.good goes_on);
     }

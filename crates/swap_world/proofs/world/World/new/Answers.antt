@@ -1,9 +1,10 @@
-use Rattle.std.proofs.Common.{◌∙◌, sym, ap, length}
+use Rattle.std.proofs.Common.{◌∙◌, sym, ap, length, subst, List, Bool}
 use Rattle.std.proofs.lemmas.Result.{err_from_is_err_and}
 use Rattle.swap_run.proofs.Good.{good_is_kept}
 use Rattle.swap_laws.proofs.Accepted.{accepted_is_well_sized}
+use Rattle.swap_world.specs.Journals.{AreFirstJournals}
 use Rattle.swap_world.proofs.Team.{world_of_new, role_each}
-use Rattle.swap_world.proofs.Begun.{refused, world_is, ready, actors, ledgers, good, room}
+use Rattle.swap_world.proofs.Begun.{refused, world_is, ready, actors, ledgers, good, room, journals}
 use Rattle.swap_world.proofs.world.World.new.Goals as goal
 
 pub actors_of-requires-clause-sized : goal.actors_of-requires-clause-sized
@@ -45,6 +46,10 @@ invariant_of-result c =
           c.in_ok-copy.ensures er c.in_ok-ledgers_of.ensures c.in_ok-actors.ensures c.requires.seeds c.requires.roles c.requires.accepted);
       room = λ on. room job d c.new.result c.in_ok-copy.field-0 c.in_ok-copy-2.field-0 ls ys c.in_ok-copy_deal.ensures ec c.in_ok-copy.ensures er
           c.in_ok-ledgers_of.ensures c.in_ok-actors.ensures c.requires.seeds c.requires.roles;
+      journals = λ on. journals job d c.new.result c.in_ok-copy.field-0 c.in_ok-copy-2.field-0 ls ys c.in_ok-copy_deal.ensures ec c.in_ok-copy.ensures er
+          c.in_ok-ledgers_of.ensures c.in_ok-actors.ensures c.requires.seeds c.requires.roles c.in_ok-journals_of.field-0.items
+          (subst (λ (l : List Bool). AreFirstJournals job.deal l job.deal.graph.n c.in_ok-journals_of.field-0.items) c.as_slice-2.ensures
+          c.in_ok-journals_of.ensures);
       kept =
           good_is_kept _ _ (ready job d c.new.result c.in_ok-copy.field-0 c.in_ok-copy-2.field-0 ls ys c.in_ok-copy_deal.ensures ec c.in_ok-copy.ensures er
           c.in_ok-ledgers_of.ensures c.in_ok-actors.ensures c.requires.seeds c.requires.roles c.requires.accepted)
@@ -68,3 +73,6 @@ returns-clause-new c = rw (c.new-2.ensures, c.new-4.ensures) (world_of_new c.arg
     c.in_ok-copy_deal.ensures
     (c.new.ensures ∙ (c.in_ok-from_slice.ensures.items ∙ c.as_slice.ensures)) c.in_ok-copy.ensures
     c.in_ok-copy-2.ensures c.in_ok-ledgers_of.ensures c.in_ok-actors.ensures c.requires.seeds c.requires.roles))
+
+pub journals_of-requires-clause-sized : goal.journals_of-requires-clause-sized
+journals_of-requires-clause-sized c = accepted_is_well_sized c.args.job.now.deal c.requires.accepted

@@ -43,6 +43,7 @@ invariant_of-self c =
       good = λ on. subst (IsGood (cast_in i)) (sym to) good;
       room = λ on. room_unless c.tick-done.result c.is_err-self-inside.result (set ls c.args.arc new) c.is_err-self-inside.ensures.value on
           (room_on c.tick-done.result ls c.args.arc new (c.self.invariant.room goes_on) c.tick-done.ensures.room);
+      journals = λ on. c.self.invariant.journals goes_on;
       kept = subst (λ (t : State). IsKept (cast_in i) t.book) (sym to) (good_is_kept (cast_in i) _ c.self.invariant.ready good);
     }
 

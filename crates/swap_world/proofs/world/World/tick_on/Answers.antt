@@ -34,6 +34,7 @@ invariant_of-self c =
       told = c.self.invariant.told;
       good = λ e. subst (IsGood (cast_in i)) (sym to) good;
       room = λ e. c.tick_all-ready.ensures.room (on_from c.tick_all-ready.result e);
+      journals = λ on. c.self.invariant.journals (rw (← c.self.view_is) at c.requires.goes_on);
       kept = subst (λ (t : State). IsKept (cast_in i) t.book) (sym to) (good_is_kept (cast_in i) _ c.self.invariant.ready good);
     }
 

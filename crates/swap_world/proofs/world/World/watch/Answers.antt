@@ -4,6 +4,7 @@ use Rattle.swap_run.specs.Run.{plan_up_to}
 use Rattle.swap_world.specs.Acting.{histories}
 use Rattle.swap_world.specs.Inside.{asked_in, cast_in, state_in}
 use Rattle.swap_world.specs.declared.actor.Actor.TheVariants.{Planned}
+use Rattle.swap_world.proofs.Kept.{journals_planned}
 use Rattle.swap_world.proofs.Ledgers.{on_ok, on_err, history_at}
 use Rattle.swap_world.proofs.States.{actor_set, same_actor, state, watched}
 use Rattle.swap_world.proofs.Worlds.{world, good_on, plan_placed, knows_each}
@@ -58,6 +59,7 @@ invariant_of-self-2 c =
           (Look c.args.p c.args.arc)
           saw same c.self.invariant.ready can (c.self.invariant.good g);
       room = c.self.invariant.room;
+      journals = λ on. journals_planned i.deal xs i.journals.items c.args.p new (c.self.invariant.journals on) place.below;
       kept = c.self.invariant.kept;
     }
 

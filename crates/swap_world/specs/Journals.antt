@@ -1,0 +1,45 @@
+-- The journals of the conforming parties of a world, on disks in memory.
+use Rattle.std.specs.Prelude.{◌≡◌, ◌<◌, ℕ, Bool, true, false, List, [], length, replicate, slice_index_or, Option, Some, None, if◌then◌else◌}
+use Rattle.swap_digraph.specs.declared.deal.Deal.{Deal}
+use Rattle.hashkey_path.specs.declared.hashkey.Hashkey.{Hashkey}
+use Rattle.ledger_core.specs.declared.entry.Entry.{Entry}
+use Rattle.ledger_core.specs.Book.{Histories, history}
+use Rattle.deviator_script.specs.View.{is_near}
+use Rattle.party_machine.specs.Machine.{MachineState}
+use Rattle.wallet_journal.specs.Journal.{JournalState}
+use Rattle.wallet_journal.specs.Memory.{DiskState}
+use Rattle.wallet_journal.specs.Stopped.{IsOwnDisk}
+use Rattle.swap_world.specs.declared.actor.Actor.{Actor}
+use Rattle.swap_world.specs.declared.actor.Actor.TheVariants.{Conforming}
+
+-- The journal of party v has just the hashkeys that were signed, on a disk on which no call fails.
+pub record IsJournalOf (d : Deal) (v : ℕ) (signed : List (Option Hashkey)) (j : JournalState DiskState) : Type 0 where
+  pub me : j.me ≡ v
+  pub sound : j.sound ≡ true
+  pub has : j.signed ≡ signed
+  pub own : IsOwnDisk d v j.disk
+
+abbrev pub IsSomeJournal : Deal → ℕ → List (Option Hashkey) → Option (JournalState DiskState) → Type 0
+IsSomeJournal d v signed None = ⊥
+IsSomeJournal d v signed (Some j) = IsJournalOf d v signed j
+
+-- Each machine has its journal.
+pub record AreJournalsOf (d : Deal) (xs : List Actor) (js : List (Option (JournalState DiskState))) : Type 0 where
+  pub one_each : length js ≡ length xs
+  pub each : (v : ℕ) (m : MachineState) (o : Option (JournalState DiskState)) → v < length xs → Conforming m ≡ slice_index_or xs v (Conforming m)
+      → o ≡ slice_index_or js v o → IsSomeJournal d v m.signed o
+
+-- the journal of party v before anything is signed, where it conforms
+abbrev pub IsFirstJournal : Deal → ℕ → Bool → Option (JournalState DiskState) → Type 0
+IsFirstJournal d v true o = IsSomeJournal d v (replicate (length d.leaders) None) o
+IsFirstJournal d v false o = o ≡ None
+
+-- There is one for each of the first n parties, in order.
+pub record AreFirstJournals (d : Deal) (conforming : List Bool) (n : ℕ) (js : List (Option (JournalState DiskState))) : Type 0 where
+  pub one_each : length js ≡ n
+  pub each : (v : ℕ) (o : Option (JournalState DiskState)) → v < length js → o ≡ slice_index_or js v o
+      → IsFirstJournal d v (slice_index_or conforming v false) o
+
+-- what v knows of arc a that has learnt its ledger, where that touches it
+abbrev pub near_known : Deal → ℕ → Histories → ℕ → List Entry
+near_known d v b a = if is_near d v a then history b a else []
