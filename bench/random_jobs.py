@@ -196,6 +196,8 @@ class Job:
             return {"tick": rng.randrange(len(self.arcs)), "by": rng.choice((1, 1, 2, self.header["delta"], 30))}
         if roll < 0.5:
             return {"look": self.names[party], "arc": rng.choice(self.beside(party))}
+        if self.conforming[party] and rng.random() < 0.15:
+            return {"crash": self.names[party], "after": rng.randrange(4), "image": rng.choice((0, 1, 1, 1, 7, 255))}
         if self.conforming[party] or self.header["parties"][party]["actor"] != "manual" and rng.random() < 0.8:
             return {"act": self.names[party]}
         return {"call": self.names[party], "move": self.move(party)}
@@ -264,8 +266,8 @@ class Many:
         return b"%d %s" % (swap, line_of(self.untimed(swap)).rstrip(b"\n"))
 
     def untimed(self, swap):
-        """An event of a swap, nearly always one that is no tick."""
-        while "tick" in (event := self.jobs[swap].event()) and self.rng.random() < 0.999:
+        """An event of a swap, nearly always one that is neither a tick nor a crash."""
+        while {"tick", "crash"} & (event := self.jobs[swap].event()).keys() and self.rng.random() < 0.999:
             pass
         return event
 

@@ -191,7 +191,7 @@ def head_of(reader):
 
 
 def event_in(text, line, chains, swaps):
-    """An event's line: `tick C K`, `pay C NAME NAME UNITS`, `sweep S A`, or a swap's number and an event that is no tick."""
+    """An event's line: `tick C K`, `pay C NAME NAME UNITS`, `sweep S A`, or a swap's number and an event that is neither a tick nor a crash."""
     words = words_of(text)
     if words[0] == "tick" and len(words) == 3:
         return "tick", number_in(words[1], line, len(chains) - 1), number_in(words[2], line, MOST_NUMBER, 1)
@@ -208,7 +208,7 @@ def event_in(text, line, chains, swaps):
         bad(line)
     swap = number_in(words[0], line, len(swaps) - 1)
     event = event_of(stated, line, swaps[swap][0], True)
-    if "tick" in event:
+    if "tick" in event or "crash" in event:
         bad(line)
     return "in", swap, event
 

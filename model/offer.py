@@ -192,6 +192,7 @@ EVENTS = {
     "look": {"look": text, "arc": number},
     "act": {"act": text},
     "call": {"call": text, "move": move_kind(False)},
+    "crash": {"crash": text, "after": number, "image": number},
 }
 
 
@@ -442,7 +443,16 @@ def event_of(line, number, offer, needs_seeds):
             refuse("NotAdjacent", number)
     if form == "call":
         examine_call(event, number, offer, needs_seeds)
+    if form == "crash":
+        examine_range(event["after"], number, "after", 0, 3)
+        examine_range(event["image"], number, "image", 0, 255)
     return event
+
+
+def examine_crash(event, line, offer):
+    """A crash is of a conforming party."""
+    if "crash" in event and not offer.places.conforming[event["crash"]]:
+        refuse("NotConforming", line)
 
 
 def examine_call(event, line, offer, needs_seeds):
@@ -472,4 +482,5 @@ def job_of(text, task):
         events.append(event_of(line, number, offer, task != "check"))
         if task == "race":
             refuse("EventInRace", number)
+        examine_crash(events[-1], number, offer)
     return offer, events

@@ -65,6 +65,18 @@ class World:
             self.signed[party][due[1].stated.lock] = due[1].stated
         return due
 
+    def crash(self, party, after, image):
+        """A conforming party is stopped in its act and restarts: it makes no call, has the hashkeys that its disk has, and knows each ledger it is next to.
+
+        Of the four disk calls that record a hashkey the third writes its gate. Stopped within that one or the next, the gate isn't synced: it is open
+        where what isn't synced holds its new bytes. Any other act makes no disk call.
+        """
+        due = first_due(self.knowledge[party], party, self.offer.seeds[party], self.signed[party])
+        if due and due[1].kind == UNLOCK and after >= 2 and image == 1:
+            self.signed[party][due[1].stated.lock] = due[1].stated
+        for arc in self.deal.touching[party]:
+            self.look(party, arc)
+
     def scripted_call(self, party, script):
         """A script passes over its waits whose height is reached, stops at one whose height isn't, and uses up one other move."""
         view = self.knowledge[party]
@@ -123,6 +135,8 @@ class World:
             self.look(self.offer.number_of(event["look"]), event["arc"])
         elif "act" in event:
             self.act(self.offer.number_of(event["act"]))
+        elif "crash" in event:
+            self.crash(self.offer.number_of(event["crash"]), event["after"], event["image"])
         else:
             self.call(self.offer.number_of(event["call"]), event["move"])
 

@@ -1,15 +1,10 @@
 -- A run of what `gen` writes writes the report of the book that the summary tells of.
 use Rattle.std.proofs.Common.{◌≡◌, ◌≤◌, ℕ, Bool, List, Ok, refl, ap, ◌∙◌}
 use Rattle.ledger_core.specs.Book.{Histories}
-use Rattle.deviator_script.specs.declared.event.Event.{Event}
 use Rattle.deviator_script.specs.declared.job.Job.{Job}
-use Rattle.deviator_script.specs.declared.job.Finish.{Finish}
-use Rattle.deviator_script.specs.declared.job.Finish.TheVariants.{Fair}
 use Rattle.deviator_script.specs.declared.job.Purpose.TheVariants as purposes
-use Rattle.refusals.specs.declared.reason.Reason.{Reason}
 use Rattle.swap_offer.specs.Lines.{filled_lines, lines_of}
-use Rattle.swap_run.specs.Run.{run, State}
-use Rattle.swap_gen.specs.Drawn.{plain_deal, plain_job}
+use Rattle.swap_gen.specs.Drawn.{plain_job}
 use Rattle.swap_gen.specs.Events.{generated_events}
 use Rattle.made_jobs.specs.Generating.{generated_book, generated_text}
 use Rattle.made_back.specs.Laws.{told}

@@ -9,7 +9,7 @@ use Rattle.swap_base.proofs.Lists.{and_both, and_parts}
 use Rattle.swap_digraph.specs.Value.{Graph}
 use Rattle.deviator_script.specs.Step.{CanLook, CanTick, IsEventOf}
 use Rattle.deviator_script.specs.declared.event.Event.{Event}
-use Rattle.deviator_script.specs.declared.event.Event.TheVariants.{Tick, Look, Act, Call}
+use Rattle.deviator_script.specs.declared.event.Event.TheVariants.{Tick, Look, Act, Call, Crash}
 use Rattle.deviator_script.specs.declared.job.Job.{Job}
 use Rattle.refusals.specs.declared.reason.Reason.TheVariants.{NotAdjacent, OverLimit}
 use Rattle.offer_fields.specs.Names.{party_of_name}
@@ -36,6 +36,7 @@ use Rattle.made_back.proofs.MoveLimits.{below_back}
 -- an event that can be drawn: no call
 abbrev pub IsDrawn : Event → Type 0
 IsDrawn (Call p mv) = ⊥
+IsDrawn (Crash p k image) = ⊥
 IsDrawn _ = Unit {0}
 
 -- its line, without the line feed
@@ -44,6 +45,7 @@ event_text names (Tick a k) = joined (codes "{\"by\":" ∷ decimal k ∷ codes "
 event_text names (Look p a) = joined (codes "{\"arc\":" ∷ decimal a ∷ codes ",\"look\":\"" ∷ name_at names p ∷ codes "\"}" ∷ [])
 event_text names (Act p) = joined (codes "{\"act\":\"" ∷ name_at names p ∷ codes "\"}" ∷ [])
 event_text names (Call p mv) = []
+event_text names (Crash p k image) = []
 
 with_feed : (names : List (List ℕ)) (e : Event) → IsDrawn e → event_line names e ≡ event_text names e ++ codes "\n"
 unfolding event_line
@@ -57,6 +59,7 @@ with_feed names (Look p a) d =
     ∙ sym (append_assoc (decimal a) (codes ",\"look\":\"" ++ (name_at names p ++ codes "\"}")) (codes "\n")))
 with_feed names (Act p) d = ap (λ (l : List ℕ). codes "{\"act\":\"" ++ l) (sym (append_assoc (name_at names p) (codes "\"}") (codes "\n")))
 with_feed names (Call p mv) d = absurd d
+with_feed names (Crash p k image) d = absurd d
 
 -- no event that a number gives is a call
 by_kind : (tick look : Bool) (x y z : Event × ℕ) → IsDrawn x.0 → IsDrawn y.0 → IsDrawn z.0
@@ -87,6 +90,7 @@ IsPlainEvent names (Tick a k) = (a < 2 ^ 64) × (k < 2 ^ 64)
 IsPlainEvent names (Look p a) = (a < 2 ^ 64) × (list_all is_plain (name_at names p) ≡ true)
 IsPlainEvent names (Act p) = list_all is_plain (name_at names p) ≡ true
 IsPlainEvent names (Call p mv) = ⊥
+IsPlainEvent names (Crash p k image) = ⊥
 
 event_is_line : (names : List (List ℕ)) (e : Event) → IsPlainEvent names e → IsOneLine (event_text names e)
 event_is_line names (Tick a k) h =
@@ -97,12 +101,14 @@ event_is_line names (Look p a) h =
     (both_lines (name_at names p) (codes "\"}") (plain_line (name_at names p) h.1) refl)
 event_is_line names (Act p) h = both_lines (name_at names p) (codes "\"}") (plain_line (name_at names p) h) refl
 event_is_line names (Call p mv) h = absurd h
+event_is_line names (Crash p k image) h = absurd h
 
 event_is_filled : (names : List (List ℕ)) (e : Event) → IsDrawn e → is_blank (event_text names e) ≡ false
 event_is_filled names (Tick a k) d = refl
 event_is_filled names (Look p a) d = refl
 event_is_filled names (Act p) d = refl
 event_is_filled names (Call p mv) d = absurd d
+event_is_filled names (Crash p k image) d = absurd d
 
 -- ---- read back
 
@@ -130,6 +136,7 @@ module _ (job : Job) (k : HasPlainNames job) where
   plain_event (Look p a) can d = let arcs = k.arcs in let arc = can.arc in (omega (arith, arcs, arc), k.plain p can.known)
   plain_event (Act p) can d = k.plain p can
   plain_event (Call p mv) can d = absurd d
+  plain_event (Crash p k image) can d = absurd d
 
   arc_back : (line : ℕ) (field : List ℕ) (a : ℕ) → a < length job.deal.graph.arcs → arc_of (sizes_of job.deal) line field a ≡ Ok a
   unfolding arc_of
@@ -175,6 +182,7 @@ module _ (job : Job) (k : HasPlainNames job) where
       ∙ step _ (Act p) _ (act_back line p can)
       ∙ step _ tt _ (k.outside line)
   event_back line (Call p mv) can d = absurd d
+  event_back line (Crash p k image) can d = absurd d
 
   -- ---- all of them
 

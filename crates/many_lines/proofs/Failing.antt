@@ -1,5 +1,5 @@
 -- A reader of fields that fails still fails with the line.
-use Rattle.std.proofs.Common.{◌≡◌, ℕ, Bool, List, Result, Ok, refl}
+use Rattle.std.proofs.Common.{◌≡◌, ℕ, Bool, true, false, List, Result, Ok, Err, refl}
 use Rattle.swap_base.specs.Fault.{Fails}
 use Rattle.swap_base.specs.declared.fault.Fault.{Fault}
 use Rattle.swap_base.specs.declared.fault.Fault.TheVariants.{Refused, NoMemory}
@@ -7,22 +7,35 @@ use Rattle.transcript_lines.specs.declared.said.Misspelling.{Misspelling}
 use Rattle.refusals.specs.declared.reason.Reason.{Reason}
 use Rattle.refusals.specs.declared.refusal.Refusal.{Refusal}
 use Rattle.refusals.specs.Refusal.{named}
+use Rattle.deviator_script.specs.declared.event.Event.{Event}
 use Rattle.deviator_script.specs.declared.job.Job.{Job}
 use Rattle.deviator_script.specs.declared.job.Purpose.TheVariants.{Run}
 use Rattle.swap_offer.specs.Job.{job_header_of, names_at}
-use Rattle.many_lines.specs.Heading.{by_field, by_fields, IsNamed, swap_job, without_finish}
+use Rattle.many_lines.specs.Event.{IsAgainst, is_of_crash, with_reason}
+use Rattle.many_lines.specs.Heading.{bad_line, by_field, by_fields, IsNamed, swap_job, without_finish}
 
 pub fails : {A : Type 0} (line : ℕ) (fault : Fault Misspelling) (read : Result A Misspelling) → Fails fault read
     → Fails (by_field line fault) (by_fields line read)
 fails line NoMemory read e = tt
 fails line (Refused reason) read e = rw e refl
 
--- and with a copy of the names
-pub named_copy : {A : Type 0} (names : List (List ℕ)) (fault : Fault Reason) (given : Fault Refusal) (read : Result A Reason) → IsNamed fault names given
-    → Fails fault read → Fails given (named names read)
-named_copy names fault NoMemory read is e = tt
-named_copy names NoMemory (Refused x) read is e = absurd (cc is)
-named_copy names (Refused reason) (Refused x) read is e = rw e (cc is)
+-- and an event line with the names, unless it is of a crash
+pub crash_is_bad : (line : ℕ) (names : List (List ℕ)) (fault : Fault Reason) → is_of_crash fault ≡ true
+    → IsAgainst line names fault (Refused (bad_line line))
+crash_is_bad line names NoMemory is = absurd (cc is)
+crash_is_bad line names (Refused reason) is = rw is refl
+
+pub named_stands : (line : ℕ) (names : List (List ℕ)) (fault : Fault Reason) (given : Fault Refusal) → is_of_crash fault ≡ false → IsNamed fault names given
+    → IsAgainst line names fault given
+named_stands line names fault NoMemory e is = tt
+named_stands line names NoMemory (Refused x) e is = absurd (cc is)
+named_stands line names (Refused reason) (Refused x) e is = rw e is
+
+pub against_line : (line : ℕ) (names : List (List ℕ)) (fault : Fault Reason) (given : Fault Refusal) (read : Result Event Reason)
+    → IsAgainst line names fault given → Fails fault read → Fails given (with_reason line names read)
+against_line line names fault NoMemory read is e = tt
+against_line line names NoMemory (Refused x) read is e = absurd (cc is)
+against_line line names (Refused reason) (Refused x) read is e = rw e (cc is)
 
 -- a header that states a finish, and one that states none
 pub job_bad : (has : List ℕ → Bool) (line : ℕ) (text : List ℕ) (fault : Fault Refusal) (job : Job)

@@ -1,20 +1,23 @@
 -- The event of a line of many swaps.
-use Rattle.std.specs.Prelude.{ℕ, ◌==◌, Bool, false, nat_lt, List, [], ◌∷◌, length, codes}
+use Rattle.std.specs.Prelude.{◌≡◌, ℕ, ◌==◌, Bool, true, false, nat_lt, List, [], ◌∷◌, length, codes}
 use Rattle.std.specs.Prelude.{Result, Ok, Err, if◌then◌else◌}
 use Rattle.swap_base.specs.Fault.{◌>>=◌}
+use Rattle.swap_base.specs.declared.fault.Fault.{Fault}
+use Rattle.swap_base.specs.declared.fault.Fault.TheVariants.{NoMemory, Refused}
 use Rattle.deviator_script.specs.declared.job.Job.{Job}
 use Rattle.deviator_script.specs.declared.event.Event.{Event}
 use Rattle.deviator_script.specs.declared.event.Event.TheVariants as events
-use Rattle.refusals.specs.declared.reason.Reason.TheVariants.{OverLimit}
+use Rattle.refusals.specs.declared.reason.Reason.{Reason}
+use Rattle.refusals.specs.declared.reason.Reason.TheVariants.{NotConforming, OverLimit}
 use Rattle.refusals.specs.declared.refusal.Refusal.{Refusal}
-use Rattle.refusals.specs.Refusal.{named, refusal}
+use Rattle.refusals.specs.Refusal.{refusal}
 use Rattle.offer_events.specs.Event.{event_of}
 use Rattle.transcript_lines.specs.Between.{parts_at}
 use Rattle.transcript_lines.specs.Reading.{is_word, number_below}
 use Rattle.many_fields.specs.Fields.{payment_of, sweep_of, tick_of}
 use Rattle.swap_many.specs.declared.many_event.ManyEvent.{ManyEvent}
 use Rattle.swap_many.specs.declared.many_event.ManyEvent.TheVariants.{Tick, In, Pay, Sweep}
-use Rattle.many_lines.specs.Heading.{bad, by_fields}
+use Rattle.many_lines.specs.Heading.{bad, bad_line, by_fields}
 use Rattle.many_lines.specs.Places.{job_at}
 use Rattle.many_lines.specs.declared.many_job.ManyJob.{ManyJob}
 
@@ -46,16 +49,39 @@ sweep_told many line rest = do
   t ← by_fields line (sweep_of (parts_at 32 rest))
   if is_slot many.jobs t.0 t.1 then Ok (Sweep t.0 t.1) else bad line
 
--- an event of a swap is no tick, since chains tick
-abbrev pub untimed : ℕ → ℕ → Event → Result ManyEvent Refusal
-untimed line s (events.Tick a k) = bad line
-untimed line s e = Ok (In s e)
+-- an event of a swap is no tick, since chains tick, and no crash
+abbrev pub own_event : ℕ → ℕ → Event → Result ManyEvent Refusal
+own_event line s (events.Tick a k) = bad line
+own_event line s (events.Crash p k image) = bad line
+own_event line s e = Ok (In s e)
+
+-- only a crash is refused so
+abbrev pub is_of_crash : Fault Reason → Bool
+is_of_crash (Refused (NotConforming line)) = true
+is_of_crash _ = false
+
+-- a crash has no form that may stand in the line, whoever crashes
+abbrev pub against_event : ℕ → List (List ℕ) → Reason → Refusal
+against_event line names reason = if is_of_crash (Refused reason) then bad_line line else refusal names reason
+
+abbrev pub with_reason : ℕ → List (List ℕ) → Result Event Reason → Result Event Refusal
+with_reason line names (Ok e) = Ok e
+with_reason line names (Err reason) = Err (against_event line names reason)
+
+-- the fault of such a line, or memory ran out
+abbrev pub event_fault : ℕ → List (List ℕ) → Fault Reason → Fault Refusal
+event_fault line names (Refused reason) = Refused (against_event line names reason)
+event_fault line names NoMemory = NoMemory
+
+abbrev pub IsAgainst : ℕ → List (List ℕ) → Fault Reason → Fault Refusal → Type 0
+IsAgainst line names fault NoMemory = Unit {0}
+IsAgainst line names fault (Refused refusal) = event_fault line names fault ≡ Refused refusal
 
 -- an event line of swap s
 unfoldable pub event_in : ℕ → ℕ → Job → List ℕ → Result ManyEvent Refusal
 event_in line s job text = do
-  e ← named job.names (event_of job line text)
-  untimed line s e
+  e ← with_reason line job.names (event_of job line text)
+  own_event line s e
 
 -- an event line behind the number of its swap
 unfoldable pub swap_told : ManyJob → ℕ → List ℕ → List ℕ → Result ManyEvent Refusal

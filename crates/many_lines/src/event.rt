@@ -5,7 +5,7 @@ ghost use Rattle.swap_base.specs.Fault.{Gives};
 ghost use Rattle.swap_offer.specs.Job.{IsWhole};
 ghost use Rattle.swap_run.specs.CalledLaws.{is_no_tick};
 ghost use Rattle.many_lines.specs.Event.{after_space, before_space, event_in, is_slot, next_told, payment_told, sweep_told, swap_told, tick_told, told_by};
-ghost use Rattle.many_lines.specs.Event.{untimed};
+ghost use Rattle.many_lines.specs.Event.{IsAgainst, is_of_crash, own_event};
 ghost use Rattle.many_lines.specs.Heading.{IsNamed};
 ghost use Rattle.many_lines.specs.Setup.{IsEventIn, MayCome};
 ghost use Rattle.many_lines.specs.Whole.{AreChains, AreSwaps};
@@ -14,7 +14,7 @@ use crate::fault::{bad, nameless};
 use crate::many_job::ManyJob;
 use crate::said::{payment_in, swap_in, sweep_in, tick_in};
 use deviator_script::{Event, Job, Purpose};
-use refusals::{HeaderFault, OfferFault, over_limit, with_names};
+use refusals::{HeaderFault, OfferFault, Reason, over_limit, with_names};
 use std::alloc::Global;
 use swap_base::{ByteText, Fault, Listed, NoMemory, TryCopy};
 use swap_many::ManyEvent;
@@ -100,9 +100,9 @@ fn told_sweep(
     Ok(ManyEvent::Sweep(swap, arc))
 }
 
-/// An event of a swap is no tick, since chains tick.
-fn untimed(alloc: Global, line: u32, swap: u8, event: Event) -> Result<ManyEvent, HeaderFault>
-    ensures exact { Gives (λ e. e) result (untimed line swap event) }
+/// An event of a swap is no tick, since chains tick, and no crash.
+fn own_event(alloc: Global, line: u32, swap: u8, event: Event) -> Result<ManyEvent, HeaderFault>
+    ensures exact { Gives (λ e. e) result (own_event line swap event) }
     ensures same { IfOk result (λ e. e ≡ ManyEvent.In swap event) }
     ensures no_tick { IfOk result (λ _. is_no_tick event ≡ true) }
 {
@@ -111,6 +111,7 @@ fn untimed(alloc: Global, line: u32, swap: u8, event: Event) -> Result<ManyEvent
         Event::Look(p, arc) => Ok(ManyEvent::In(swap, Event::Look(p, arc))),
         Event::Act(p) => Ok(ManyEvent::In(swap, Event::Act(p))),
         Event::Call(p, mv) => Ok(ManyEvent::In(swap, Event::Call(p, mv))),
+        Event::Crash(_, _, _) => Err(bad(alloc, line)),
     }
 }
 
@@ -124,8 +125,33 @@ fn with_copy(fault: OfferFault, names: &Listed<ByteText>) -> HeaderFault
     }
 }
 
+fn is_of_crash(fault: &OfferFault) -> bool
+    ensures { result ≡ is_of_crash fault.now }
+{
+    match fault {
+        Fault::Refused(Reason::NotConforming(_)) => true,
+        _ => false,
+    }
+}
+
+/// The fault of a swap's event line: a crash has no form that may stand there.
+#[tactic(auto, using(crate::proofs::Failing::crash_is_bad, crate::proofs::Failing::named_stands))]
+fn against_event(
+    alloc: Global,
+    line: u32,
+    fault: OfferFault,
+    names: &Listed<ByteText>,
+) -> HeaderFault
+    ensures { IsAgainst line names.now fault result }
+{
+    if is_of_crash(&fault) {
+        return bad(alloc, line);
+    }
+    with_copy(fault, names)
+}
+
 /// The event of a swap's event line.
-#[tactic(auto, using(crate::proofs::Failing::named_copy), unfolding(crate::specs::Event::event_in))]
+#[tactic(auto, using(crate::proofs::Failing::against_line), unfolding(crate::specs::Event::event_in))]
 fn event_in(
     alloc: Global,
     line: u32,
@@ -139,8 +165,8 @@ fn event_in(
     ensures can { IfOk result (λ e. IsEventIn swap job.now e) }
 {
     match read_event(alloc, job, line, text) {
-        Ok(event) => untimed(alloc, line, swap, event),
-        Err(fault) => Err(with_copy(fault, &job.names)),
+        Ok(event) => own_event(alloc, line, swap, event),
+        Err(fault) => Err(against_event(alloc, line, fault, &job.names)),
     }
 }
 

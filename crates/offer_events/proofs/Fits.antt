@@ -11,12 +11,12 @@ use Rattle.deviator_script.specs.declared.job.Job.{Job}
 use Rattle.deviator_script.specs.declared.moves.Move.{Move}
 use Rattle.deviator_script.specs.declared.moves.Move.TheVariants.{Publish, Craft, Replay, Raw, Claim, Refund, Transfer, Wait}
 use Rattle.deviator_script.specs.declared.event.Event.{Event}
-use Rattle.deviator_script.specs.declared.event.Event.TheVariants.{Tick, Look, Act, Call}
+use Rattle.deviator_script.specs.declared.event.Event.TheVariants.{Tick, Look, Act, Call, Crash}
 use Rattle.deviator_script.specs.Crafted.{Seeds}
 use Rattle.deviator_script.specs.Fitting.{IsFitting}
 use Rattle.deviator_script.specs.Resolved.{arc_of as stands_on}
 use Rattle.deviator_script.specs.Step.{CanStep, IsEventOf}
-use Rattle.refusals.specs.declared.reason.Reason.TheVariants.{NoSeed}
+use Rattle.refusals.specs.declared.reason.Reason.TheVariants.{NoSeed, NotConforming}
 use Rattle.offer_fields.specs.Limits.{number_within}
 use Rattle.offer_fields.specs.Names.{party_of_name}
 use Rattle.offer_moves.specs.declared.raw.RawMove.{RawMove}
@@ -26,8 +26,8 @@ use Rattle.offer_moves.specs.Kept.{AreSeeded, IsMade}
 use Rattle.offer_moves.proofs.Made.{arc_fits, adjacent_fits, move_made, placed_fits}
 use Rattle.offer_events.specs.declared.raw.RawEvent.{RawEvent}
 use Rattle.offer_events.specs.declared.raw.RawEvent.TheVariants as raw_events
-use Rattle.offer_events.specs.Event.{event_of_tick, event_of_look, event_of_act, permitted, event_of_call, checked}
-use Rattle.offer_events.specs.Event.{each_seeded, needs_seeds, crafted_with_seeds}
+use Rattle.offer_events.specs.Event.{event_of_tick, event_of_look, event_of_act, permitted, event_of_call, event_of_crash, checked}
+use Rattle.offer_events.specs.Event.{each_seeded, needs_seeds, crafted_with_seeds, conforming_crash}
 use Rattle.offer_fields.proofs.Chains.{went}
 use Rattle.offer_fields.proofs.Ranges.{number_within_ok, party_below}
 
@@ -119,9 +119,32 @@ tick_fits d c seeds line n by event e =
     let k = number_within_ok line (codes "by") 1 1000000 (unwrap_or by 1) q.0 q.1 in
     subst (λ x. CanStep d c seeds x) s (record { arc = arc_fits d line (codes "tick") n p.0 p.1; some = k.0; few = k.1 })
 
-pub checked_fits : (job : Job) (line : ℕ) (raw : RawEvent) (event : Event) → IsWellSized job.deal → length job.names ≡ job.deal.graph.n
-    → needs_seeds job.purpose ≡ true → checked job line raw ≡ Ok event → IsEventOf job event
-checked_fits job line (raw_events.Tick n by) event w same needs e = tick_fits job.deal job.conforming job.seeds line n by event e
-checked_fits job line (raw_events.Look name n) event w same needs e = look_fits job line name n event w same e
-checked_fits job line (raw_events.Act name) event w same needs e = act_fits job line name event same e
-checked_fits job line (raw_events.Call name raw) event w same needs e = call_fits job line name raw event w same needs e
+conforms_of : (line : ℕ) (b : Bool) (u : Unit {0}) → cond b (Ok tt) (Err (NotConforming line)) ≡ Ok u → b ≡ true
+conforms_of line true u e = refl
+conforms_of line false u e = absurd (cc e)
+
+crash_fits : (job : Job) (line : ℕ) (name : List ℕ) (n m : ℕ) (event : Event) (u : Unit {0}) → length job.names ≡ job.deal.graph.n
+    → event_of_crash job line name n m ≡ Ok event → conforming_crash job.conforming line event ≡ Ok u → IsEventOf job event
+unfolding event_of_crash
+crash_fits job line name n m event u same e conforming =
+    let p = went (party_of_name line job.names name) _ event e in
+    let q = went (number_within line (codes "after") 0 3 n) _ event p.2 in
+    let r = went (number_within line (codes "image") 0 255 m) _ event q.2 in
+    let s : Crash p.0 q.0 r.0 ≡ event = cc (r.2) in
+    let known : p.0 < length job.names = party_below line job.names name p.0 p.1 in
+    let few = number_within_ok line (codes "after") 0 3 n q.0 q.1 in
+    let own : conforming_crash job.conforming line (Crash p.0 q.0 r.0) ≡ Ok u =
+    subst (λ (x : Event). conforming_crash job.conforming line x ≡ Ok u) (sym s) conforming in
+    subst (IsEventOf job) s (record {
+      known = omega (arith, known, same);
+      conforms = conforms_of line (slice_index_or job.conforming p.0 false) u own;
+      few = few.1;
+    })
+
+pub checked_fits : (job : Job) (line : ℕ) (raw : RawEvent) (event : Event) (u : Unit {0}) → IsWellSized job.deal → length job.names ≡ job.deal.graph.n
+    → needs_seeds job.purpose ≡ true → checked job line raw ≡ Ok event → conforming_crash job.conforming line event ≡ Ok u → IsEventOf job event
+checked_fits job line (raw_events.Tick n by) event u w same needs e own = tick_fits job.deal job.conforming job.seeds line n by event e
+checked_fits job line (raw_events.Look name n) event u w same needs e own = look_fits job line name n event w same e
+checked_fits job line (raw_events.Act name) event u w same needs e own = act_fits job line name event same e
+checked_fits job line (raw_events.Call name raw) event u w same needs e own = call_fits job line name raw event w same needs e
+checked_fits job line (raw_events.Crash name after image) event u w same needs e own = crash_fits job line name after image event u same e own

@@ -9,9 +9,9 @@ use Rattle.deviator_script.specs.declared.moves.Move.{Move}
 use Rattle.deviator_script.specs.declared.moves.Move.TheVariants.{Craft}
 use Rattle.deviator_script.specs.Crafted.{Seeds}
 use Rattle.deviator_script.specs.declared.event.Event.{Event}
-use Rattle.deviator_script.specs.declared.event.Event.TheVariants.{Tick, Look, Act, Call}
+use Rattle.deviator_script.specs.declared.event.Event.TheVariants.{Tick, Look, Act, Call, Crash}
 use Rattle.refusals.specs.declared.reason.Reason.{Reason}
-use Rattle.refusals.specs.declared.reason.Reason.TheVariants.{NoSeed, EventInRace}
+use Rattle.refusals.specs.declared.reason.Reason.TheVariants.{NoSeed, EventInRace, NotConforming}
 use Rattle.offer_fields.specs.Fields.{object_of}
 use Rattle.offer_fields.specs.Limits.{number_within}
 use Rattle.offer_fields.specs.Names.{party_of_name}
@@ -73,23 +73,38 @@ event_of_call job line name raw = do
   w ← permitted job line p mv
   Ok (Call p mv)
 
+-- a party crashes
+unfoldable pub event_of_crash : Job → ℕ → List ℕ → ℕ → ℕ → Result Event Reason
+event_of_crash job line name n m = do
+  p ← party_of_name line job.names name
+  k ← number_within line (codes "after") 0 3 n
+  image ← number_within line (codes "image") 0 255 m
+  Ok (Crash p k image)
+
 -- the event of what a line says
 abbrev pub checked : Job → ℕ → RawEvent → Result Event Reason
 checked job line (raws.Tick n by) = event_of_tick job.deal line n by
 checked job line (raws.Look name n) = event_of_look job line name n
 checked job line (raws.Act name) = event_of_act job line name
 checked job line (raws.Call name raw) = event_of_call job line name raw
+checked job line (raws.Crash name after image) = event_of_crash job line name after image
 
 -- a race has no events of its own
 abbrev pub outside_race : ℕ → Purpose → Result (Unit {0}) Reason
 outside_race line Race = Err (EventInRace line)
 outside_race line _ = Ok tt
 
+-- only a party that conforms crashes
+abbrev pub conforming_crash : List Bool → ℕ → Event → Result (Unit {0}) Reason
+conforming_crash conforming line (Crash p k image) = if slice_index_or conforming p false then Ok tt else Err (NotConforming line)
+conforming_crash conforming line _ = Ok tt
+
 -- the event that a line asks for by what it says
 unfoldable pub asked : Job → ℕ → RawEvent → Result Event Reason
 asked job line raw = do
   event ← checked job line raw
   u ← outside_race line job.purpose
+  w ← conforming_crash job.conforming line event
   Ok event
 
 -- the event of a line

@@ -8,7 +8,7 @@ use Rattle.refusals.specs.declared.reason.Reason.TheVariants.{Missing}
 use Rattle.offer_fields.specs.Fields.{needed, number_at, text_at, optional_number_at, object_at, only}
 use Rattle.offer_moves.specs.Reading.{move_at}
 use Rattle.offer_events.specs.declared.raw.RawEvent.{RawEvent}
-use Rattle.offer_events.specs.declared.raw.RawEvent.TheVariants.{Tick, Look, Act, Call}
+use Rattle.offer_events.specs.declared.raw.RawEvent.TheVariants.{Tick, Look, Act, Call, Crash}
 
 unfoldable pub tick_at : ℕ → Data → Result RawEvent Reason
 tick_at line d = do
@@ -39,11 +39,20 @@ call_at line d = do
   u ← only line (codes "call" ∷ codes "move" ∷ []) d
   Ok (Call name mv)
 
--- The first of `tick`, `look`, `act` and `call` that the line holds decides its form.
+unfoldable pub crash_at : ℕ → Data → Result RawEvent Reason
+crash_at line d = do
+  name ← text_at line (codes "crash") d
+  after ← number_at line (codes "after") d
+  image ← number_at line (codes "image") d
+  u ← only line (codes "after" ∷ codes "crash" ∷ codes "image" ∷ []) d
+  Ok (Crash name after image)
+
+-- The first of `tick`, `look`, `act`, `call` and `crash` that the line holds decides its form.
 unfoldable pub event_at : ℕ → Data → Result RawEvent Reason
 event_at line d =
     if is_some (get (codes "tick") d) then tick_at line d
     else if is_some (get (codes "look") d) then look_at line d
     else if is_some (get (codes "act") d) then act_at line d
     else if is_some (get (codes "call") d) then call_at line d
+    else if is_some (get (codes "crash") d) then crash_at line d
     else Err (Missing line (codes "tick"))

@@ -1,14 +1,14 @@
 //! The event of a line.
 
-ghost use Rattle.std.specs.Prelude.{◌≡◌, ◌<◌, ◌≤◌, ℕ, List, true, false, nat_lt, length, IsTrue, IfOk};
+ghost use Rattle.std.specs.Prelude.{◌≡◌, ◌<◌, ◌≤◌, ℕ, List, true, false, nat_lt, length, slice_index_or, IsTrue, IfOk};
 ghost use Rattle.std.specs.List.{list_all};
 ghost use Rattle.swap_base.specs.Fault.{Gives};
 ghost use Rattle.swap_digraph.specs.Deal.{IsWellSized};
 ghost use Rattle.deviator_script.specs.Resolved.{arc_of as stands_on};
 ghost use Rattle.deviator_script.specs.Step.{IsEventOf};
 ghost use Rattle.offer_moves.specs.Kept.{AreCraftersBelow};
-ghost use Rattle.offer_events.specs.Event.{event_of_tick, event_of_look, event_of_act, permitted, event_of_call, checked};
-ghost use Rattle.offer_events.specs.Event.{outside_race, asked, event_of, each_seeded, needs_seeds, crafted_with_seeds};
+ghost use Rattle.offer_events.specs.Event.{event_of_tick, event_of_look, event_of_act, permitted, event_of_call, event_of_crash, checked};
+ghost use Rattle.offer_events.specs.Event.{outside_race, conforming_crash, asked, event_of, each_seeded, needs_seeds, crafted_with_seeds};
 
 use crate::plain::plain_event;
 use crate::raw::RawEvent;
@@ -147,6 +147,25 @@ fn event_of_call(
     Ok(Event::Call(p, mv))
 }
 
+#[tactic(auto, unfolding(crate::specs::Event::event_of_crash))]
+fn event_of_crash(
+    alloc: Global,
+    job: &Job,
+    line: u32,
+    name: &[u8],
+    after: u64,
+    image: u64,
+) -> Result<Event, OfferFault>
+    requires sized { IsWellSized job.now.deal }
+    requires names { length job.now.names ≡ job.now.deal.graph.n }
+    ensures exact { Gives (λ e. e) result (event_of_crash job.now line name.now after image) }
+{
+    let p = party_of_name(alloc, line, job.names.as_slice(), name)?;
+    let k = number_within(alloc, line, "after", 0, 3, after)?;
+    let j = number_within(alloc, line, "image", 0, 255, image)?;
+    Ok(Event::Crash(p, k as u8, j as u8))
+}
+
 fn check_event(alloc: Global, job: &Job, line: u32, raw: &RawEvent<'_>) -> Result<Event, OfferFault>
     requires sized { IsWellSized job.now.deal }
     requires names { length job.now.names ≡ job.now.deal.graph.n }
@@ -159,6 +178,9 @@ fn check_event(alloc: Global, job: &Job, line: u32, raw: &RawEvent<'_>) -> Resul
         RawEvent::Look { name, arc } => event_of_look(alloc, job, line, name.as_slice(), *arc),
         RawEvent::Act { name } => event_of_act(alloc, job, line, name.as_slice()),
         RawEvent::Call { name, mv } => event_of_call(alloc, job, line, name.as_slice(), mv),
+        RawEvent::Crash { name, after, image } => {
+            event_of_crash(alloc, job, line, name.as_slice(), *after, *image)
+        }
     }
 }
 
@@ -167,6 +189,30 @@ fn check_no_race(line: u32, purpose: Purpose) -> Result<(), OfferFault>
 {
     match purpose {
         Purpose::Race => Err(Fault::Refused(Reason::EventInRace(line))),
+        _ => Ok(()),
+    }
+}
+
+fn is_conforming(conforming: &[bool], p: PartyId) -> bool
+    ensures { result ≡ slice_index_or conforming.now p false }
+{
+    match conforming.get(p as usize) {
+        Some(conforms) => *conforms,
+        None => false,
+    }
+}
+
+/// Only a party that conforms crashes.
+fn check_crash(conforming: &[bool], line: u32, event: &Event) -> Result<(), OfferFault>
+    ensures { Gives (λ u. u) result (conforming_crash conforming.now line event.now) }
+{
+    match event {
+        Event::Crash(p, _, _) => {
+            if is_conforming(conforming, *p) {
+                return Ok(());
+            }
+            Err(Fault::Refused(Reason::NotConforming(line)))
+        }
         _ => Ok(()),
     }
 }
@@ -183,6 +229,7 @@ fn read_raw(alloc: Global, job: &Job, line: u32, raw: &RawEvent<'_>) -> Result<E
 {
     let event = check_event(alloc, job, line, raw)?;
     check_no_race(line, job.purpose)?;
+    check_crash(job.conforming.as_slice(), line, &event)?;
     Ok(event)
 }
 

@@ -6,8 +6,24 @@ use offer_moves::RawMove;
 /// An event.
 #[derive(Debug, Drop)]
 pub enum RawEvent<'v> {
-    Tick { arc: u64, by: Option<u64> },
-    Look { name: TextRef<'v>, arc: u64 },
-    Act { name: TextRef<'v> },
-    Call { name: TextRef<'v>, mv: RawMove<'v> },
+    Tick {
+        arc: u64,
+        by: Option<u64>,
+    },
+    Look {
+        name: TextRef<'v>,
+        arc: u64,
+    },
+    Act {
+        name: TextRef<'v>,
+    },
+    Call {
+        name: TextRef<'v>,
+        mv: RawMove<'v>,
+    },
+    Crash {
+        name: TextRef<'v>,
+        after: u64,
+        image: u64,
+    },
 }

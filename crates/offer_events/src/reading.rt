@@ -3,7 +3,7 @@
 ghost use Rattle.std.specs.Prelude.{◌≡◌, ℕ, List};
 ghost use Rattle.serde_json.specs.View.{view};
 ghost use Rattle.swap_base.specs.Fault.{Gives};
-ghost use Rattle.offer_events.specs.Reading.{tick_at, look_at, act_at, call_at, event_at};
+ghost use Rattle.offer_events.specs.Reading.{tick_at, look_at, act_at, call_at, crash_at, event_at};
 
 use crate::raw::RawEvent;
 use offer_fields::{TextRef, is_object, number_in, only_in, optional_number_in, text_in, value_in};
@@ -56,6 +56,18 @@ fn call_in<'v>(alloc: Global, line: u32, object: &'v Value) -> Result<RawEvent<'
     Ok(RawEvent::Call { name, mv })
 }
 
+#[tactic(auto, unfolding(crate::specs::Reading::crash_at))]
+fn crash_in<'v>(alloc: Global, line: u32, object: &'v Value) -> Result<RawEvent<'v>, OfferFault>
+    ensures { Gives (λ e. e) result (crash_at line (view object.now)) }
+{
+    let name = text_in(alloc, line, "crash", object)?;
+    let after = number_in(alloc, line, "after", object)?;
+    let image = number_in(alloc, line, "image", object)?;
+    only_in(alloc, line, &["after", "crash", "image"], object)?;
+    let name = TextRef::new(name.as_bytes());
+    Ok(RawEvent::Crash { name, after, image })
+}
+
 /// The event of a line as its fields say it, or the first reason against a field.
 #[tactic(auto, unfolding(crate::specs::Reading::event_at))]
 pub fn event_in<'v>(alloc: Global, line: u32, object: &'v Value) -> Result<RawEvent<'v>, OfferFault>
@@ -72,6 +84,9 @@ pub fn event_in<'v>(alloc: Global, line: u32, object: &'v Value) -> Result<RawEv
     }
     if object.get("call").is_some() {
         return call_in(alloc, line, object);
+    }
+    if object.get("crash").is_some() {
+        return crash_in(alloc, line, object);
     }
     Err(missing(alloc, line, b"tick"))
 }

@@ -6,7 +6,7 @@ use Rattle.refusals.specs.declared.reason.Reason.{Reason}
 use Rattle.refusals.specs.declared.reason.Reason.TheVariants.{NotJson, Missing, WrongKind, UnknownField, BadName, Duplicate, Unknown, OverLimit, WrongHex}
 use Rattle.refusals.specs.declared.reason.Reason.TheVariants.{NotAdjacent, ConformingCall, EventInRace, SelfArc, Parallel, NotStrong, ManyLeaders}
 use Rattle.refusals.specs.declared.reason.Reason.TheVariants.{NotFeedback, BoundTooSmall, StartTooSoon, WrongTimelock, NoSeed, WrongWallet, BadLine, CutShort}
-use Rattle.refusals.specs.declared.reason.Reason.TheVariants.{BadReply, TooManyLeaders, NoAccount, Overdrawn}
+use Rattle.refusals.specs.declared.reason.Reason.TheVariants.{BadReply, TooManyLeaders, NoAccount, Overdrawn, NotConforming}
 use Rattle.refusals.specs.Escaped.{escaped}
 
 -- a word and a number
@@ -74,6 +74,7 @@ reason_text names (TooManyLeaders group count) = numbered_twice (codes "TooManyL
 reason_text names (NoAccount swap arc) = numbered_twice (codes "NoAccount") swap arc
 reason_text names (Overdrawn chain name have wanted) =
     joined (lined (codes "Overdrawn") chain name ∷ codes " " ∷ decimal have ∷ codes " " ∷ decimal wanted ∷ [])
+reason_text names (NotConforming line) = numbered (codes "NotConforming") line
 
 -- the line of a refusal, without a line feed
 unfoldable pub line_of : List (List ℕ) → Reason → List ℕ

@@ -232,6 +232,7 @@ fn put_reason(out: &mut Vec<u8>, names: &[ByteText], reason: &Reason) -> Result<
         Reason::Overdrawn(chain, name, have, wanted) => put_overdrawn(
             out, names, *chain, name, *have, *wanted,
         ),
+        Reason::NotConforming(line) => put_numbered(out, "NotConforming", *line as u64),
     }
 }
 

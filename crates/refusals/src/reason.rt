@@ -46,6 +46,8 @@ pub enum Reason {
     NoAccount(u8, ArcId),
     /// The chain and the name of its account, the units that this has, and those that are wanted of it.
     Overdrawn(u8, ByteText, u64, u64),
+    /// A crash is of a party that doesn't conform.
+    NotConforming(u32),
 }
 
 /// Why an offer gives no job: a reason, or want of memory.

@@ -14,7 +14,7 @@ use Rattle.hash_signature.proofs.Chains.{get_or-for_chains}
 use Rattle.hashkey_path.specs.declared.hashkey.Hashkey.{Hashkey}
 use Rattle.refusals.specs.declared.reason.Reason.TheVariants.{OverLimit}
 use Rattle.deviator_script.specs.declared.event.Event.{Event}
-use Rattle.deviator_script.specs.declared.event.Event.TheVariants.{Tick, Look, Act, Call as Made}
+use Rattle.deviator_script.specs.declared.event.Event.TheVariants.{Tick, Look, Act, Call as Made, Crash}
 use Rattle.deviator_script.specs.declared.job.Job.{Job}
 use Rattle.deviator_script.specs.declared.job.Purpose.{Purpose}
 use Rattle.deviator_script.specs.declared.job.Role.{Role}
@@ -38,7 +38,8 @@ use Rattle.offer_moves.specs.Moves.{unlock_of, wait_of}
 use Rattle.offer_moves.specs.Placed.{adjacent, deviating}
 use Rattle.offer_events.specs.declared.raw.RawEvent.{RawEvent}
 use Rattle.offer_events.specs.declared.raw.RawEvent.TheVariants as raw_events
-use Rattle.offer_events.specs.Event.{asked, checked, event_of, event_of_act, event_of_call, event_of_look, event_of_tick, outside_race, permitted}
+use Rattle.offer_events.specs.Event.{asked, checked, conforming_crash, event_of, event_of_act, event_of_call, event_of_crash, event_of_look, event_of_tick, outside_race}
+use Rattle.offer_events.specs.Event.{permitted}
 use Rattle.offer_events.specs.Reading.{event_at}
 use Rattle.offer_header.specs.declared.limits.Acting.{Acting}
 use Rattle.offer_header.specs.declared.names.Numbered.{Numbered}
@@ -294,17 +295,26 @@ made_has job line name raw =
     onward (deviating line _) _ EventHas (λ u c.
     onward (permitted job line p mv) _ EventHas (λ w e. landed (Made p mv) EventHas (move_has (sizes_of job.deal) job.names line raw mv m)))))
 
+crash_has : (job : Job) (line : ℕ) (name : List ℕ) (n m : ℕ) (e : Event) → event_of_crash job line name n m ≡ Ok e → EventHas e
+unfolding event_of_crash
+crash_has job line name n m =
+    onward (party_of_name line job.names name) _ EventHas (λ p a.
+    onward (number_within line (codes "after") 0 3 n) _ EventHas (λ k b.
+    onward (number_within line (codes "image") 0 255 m) _ EventHas (λ image c. landed (Crash p k image) EventHas tt)))
+
 checked_has : (job : Job) (line : ℕ) (raw : RawEvent) (e : Event) → checked job line raw ≡ Ok e → EventHas e
 checked_has job line (raw_events.Tick n by) e k = tick_has job line n by e k
 checked_has job line (raw_events.Look name n) e k = look_has job line name n e k
 checked_has job line (raw_events.Act name) e k = act_has job line name e k
 checked_has job line (raw_events.Call name raw) e k = made_has job line name raw e k
+checked_has job line (raw_events.Crash name after image) e k = crash_has job line name after image e k
 
 asked_has : (job : Job) (line : ℕ) (raw : RawEvent) (e : Event) → asked job line raw ≡ Ok e → EventHas e
 unfolding asked
 asked_has job line raw =
     onward (checked job line raw) _ EventHas (λ event c.
-    onward (outside_race line job.purpose) _ EventHas (λ u o. landed event EventHas (checked_has job line raw event c)))
+    onward (outside_race line job.purpose) _ EventHas (λ u o.
+    onward (conforming_crash job.conforming line event) _ EventHas (λ w d. landed event EventHas (checked_has job line raw event c))))
 
 event_has : (job : Job) (line : ℕ) (text : List ℕ) (e : Event) → event_of job line text ≡ Ok e → EventHas e
 unfolding event_of

@@ -6,6 +6,7 @@ use Rattle.std.specs.Prelude.{All, slice_index_or, slice_set}
 use Rattle.std.specs.List.{range_with_len}
 use Rattle.std.proofs.lemmas.List.Elements.{All-head, All-map, All-nil, All-push, All-replicate, All-set, All-tail}
 use Rattle.swap_digraph.specs.Graph.{arcs}
+use Rattle.deviator_script.specs.View.{is_near}
 use Rattle.swap_digraph.specs.declared.deal.Deal.{Deal}
 use Rattle.hashkey_path.specs.declared.hashkey.Hashkey.{Hashkey}
 use Rattle.party_wallet.specs.Value.{signed_in}
@@ -18,7 +19,7 @@ use Rattle.ledger_core.specs.Book.{Histories, history}
 use Rattle.swap_rules.specs.Due.{Action}
 use Rattle.swap_laws.specs.Machine.{noted}
 use Rattle.deviator_script.specs.declared.event.Event.{Event}
-use Rattle.deviator_script.specs.declared.event.Event.TheVariants.{Tick, Look, Act, Call as Made}
+use Rattle.deviator_script.specs.declared.event.Event.TheVariants.{Tick, Look, Act, Call as Made, Crash}
 use Rattle.deviator_script.specs.declared.job.Finish.{Finish}
 use Rattle.deviator_script.specs.declared.job.Finish.TheVariants.{Stop, Fair}
 use Rattle.deviator_script.specs.declared.job.Role.{Role}
@@ -29,7 +30,7 @@ use Rattle.deviator_script.specs.Script.{first_call, is_over, is_wait, moves_lef
 use Rattle.swap_run.specs.Run.{Cast, Notes, Plan, Question, State, act, act_as, after_question, after_tick, after_turn, answer_for, ask, conforms}
 use Rattle.swap_run.specs.Run.{first_plan, follow, is_answer_of, is_clock_full_reply, is_planned, look, make, next_of, no_histories, no_notes}
 use Rattle.swap_run.specs.Run.{notes_of, plan_of, question, plan_up_to, plans_seen, role_of, run, run_from, signed_after, start, step}
-use Rattle.swap_run.specs.Run.{take_call, watch}
+use Rattle.swap_run.specs.Run.{take_call, watch, crash, is_recorded, recorded_after, relearnt}
 use Rattle.swap_run.specs.Fair.{acts, adjacent, finish, has_ended, looks, most_acts, repeat, round, round_unless_ended, the_horizon, tick_low, ticks, turn}
 use Rattle.swap_run.specs.Fair.{turns}
 use Rattle.swap_commands.specs.Output.{finished}
@@ -229,6 +230,37 @@ module _ (c : Cast) (hashlocks : All IsDigest c.deal.hashlocks) (wallets : (v : 
         plans = k.plans;
       }
 
+  recorded_has : (signed : List (Option Hashkey)) (o : Option Action) (k image : ℕ) → May ActionHas o → All (May KeyHas) signed
+      → All (May KeyHas) (recorded_after signed o k image)
+  recorded_has signed None k image h all = all
+  recorded_has signed (Some x) k image h all = by (is_recorded k image)
+    where
+      by : (t : Bool) → All (May KeyHas) (cond t (signed_after signed x.call) signed)
+      by true = after_has signed x.call h all
+      by false = all
+
+  near_has : (b : Histories) (a : ℕ) (t : Bool) → BookHas b → Has (cond t (history b a) [])
+  near_has b a true k = history_has b a k
+  near_has b a false k = All-nil EntryHas
+
+  relearnt_has : (v : ℕ) (b : Histories) → BookHas b → BookHas (relearnt c.deal v b)
+  relearnt_has v b k =
+      All-map Has (λ a. cond (is_near c.deal v a) (history b a) []) (arcs c.deal.graph) (λ j d lt. near_has b _ (is_near c.deal v _) k)
+
+  crash_has : (v k image : ℕ) (s : State) → StateHas s → StateHas (crash c s v k image)
+  crash_has v k image s has =
+      let n = notes_have s v has.notes in
+      record {
+        book = has.book;
+        notes = All-set NotesHave s.notes v _ (record {
+          known = relearnt_has v s.book has.book;
+          signed = recorded_has (notes_of s v).signed (next_of c s v) k image
+              (next_has c.deal v (c.wallet v) (signed_in (notes_of s v).signed) (notes_of s v).known hashlocks (wallets v)
+              (λ i. signed_has (notes_of s v).signed i n.signed) n.known) n.signed;
+        }) has.notes;
+        plans = has.plans;
+      }
+
   watch_has : (v a : ℕ) (s : State) → StateHas s → StateHas (watch c s v a)
   watch_has v a s k =
       record { book = k.book; notes = k.notes; plans = seen_has s v a (history s.book a) (history_has s.book a k.book) k.plans }
@@ -365,6 +397,7 @@ module _ (c : Cast) (hashlocks : All IsDigest c.deal.hashlocks) (wallets : (v : 
     stepping (Made v mv) h =
         unasked (λ s. step c s (Made v mv)) (λ s. taken_asked c s v (resolved c.deal c.seeds s.book mv))
         (λ s k. take_has s v (resolved c.deal c.seeds s.book mv) (resolved_has c.deal c.seeds s.book mv hashlocks k.book h) k)
+    stepping (Crash v k image) h = unasked (λ s. crash c s v k image) (λ s. refl) (crash_has v k image)
 
     running : (events : List Event) → All EventHas events → Walks (λ s. run_from c s events)
     running [] h = rests

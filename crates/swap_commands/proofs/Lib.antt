@@ -2,6 +2,7 @@ pub mod Replays
 pub mod Reports
 pub mod Raced
 pub mod Promises
+pub mod Summaries
 pub mod ManyPromises
 pub mod Ahead
 pub mod Streams

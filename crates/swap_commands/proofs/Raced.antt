@@ -29,7 +29,7 @@ use Rattle.swap_laws.specs.Laws.{IsOnTime}
 use Rattle.swap_world.specs.Staff.{HaveSeeds}
 use Rattle.offer_fields.proofs.Chains.{went}
 use Rattle.offer_fields.specs.Fields.{object_of}
-use Rattle.offer_events.specs.Event.{asked, checked, event_of, outside_race}
+use Rattle.offer_events.specs.Event.{asked, checked, conforming_crash, event_of, outside_race}
 use Rattle.offer_events.specs.Reading.{event_at}
 use Rattle.swap_offer.specs.Job.{events_of, next_of, IsWhole}
 use Rattle.swap_offer.specs.Wallets.{HaveWallets, seed_of}
@@ -38,21 +38,22 @@ use Rattle.swap_world.specs.declared.staff.WrongWallet.{WrongWallet}
 
 -- A race's job has no event.
 
-not_outside : (line : ℕ) (purpose : Purpose) (event e : Event) → purpose ≡ purposes.Race
-    → (outside_race line purpose >>= λ u. let r : Result Event Reason = Ok event in r) ≡ Ok e → ⊥
-not_outside line purposes.Race event e is ok = cc ok
-not_outside line purposes.Run event e is ok = cc is
-not_outside line purposes.Check event e is ok = cc is
-not_outside line purposes.Make event e is ok = cc is
-not_outside line purposes.Audit event e is ok = cc is
+not_outside : (line : ℕ) (purpose : Purpose) (rest : Unit {0} → Result Event Reason) (e : Event) → purpose ≡ purposes.Race
+    → (outside_race line purpose >>= rest) ≡ Ok e → ⊥
+not_outside line purposes.Race rest e is ok = cc ok
+not_outside line purposes.Run rest e is ok = cc is
+not_outside line purposes.Check rest e is ok = cc is
+not_outside line purposes.Make rest e is ok = cc is
+not_outside line purposes.Audit rest e is ok = cc is
 
 no_event : (job : Job) (line : ℕ) (text : List ℕ) (e : Event) → job.purpose ≡ purposes.Race → event_of job line text ≡ Ok e → ⊥
 unfolding event_of asked
 no_event job line text e is ok =
     let d = went (object_of line text) (λ d. event_at line d >>= λ raw. asked job line raw) e ok in
     let raw = went (event_at line d.0) (λ raw. asked job line raw) e d.2 in
-    let event = went (checked job line raw.0) (λ event. outside_race line job.purpose >>= λ u. Ok event) e raw.2 in
-    not_outside line job.purpose event.0 e is event.2
+    let event = went (checked job line raw.0)
+    (λ event. outside_race line job.purpose >>= λ u. conforming_crash job.conforming line event >>= λ w. Ok event) e raw.2 in
+    not_outside line job.purpose (λ u. conforming_crash job.conforming line event.0 >>= λ w. Ok event.0) e is event.2
 
 no_next : (job : Job) (count line : ℕ) (text : List ℕ) (e : Event) → job.purpose ≡ purposes.Race → next_of job count line text ≡ Ok e → ⊥
 unfolding next_of

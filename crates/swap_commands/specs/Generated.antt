@@ -1,17 +1,23 @@
 -- What is written of the job of a number, and what a status says of a task.
-use Rattle.std.specs.Prelude.{◌≡◌, ℕ, Bool, List, Option, Some, if◌then◌else◌}
+use Rattle.std.specs.Prelude.{◌≡◌, ℕ, Bool, true, List, Option, Some, if◌then◌else◌}
+use Rattle.std.specs.Io.KnownBytes.{Keeps}
+use Rattle.ledger_core.specs.Book.{Histories}
+use Rattle.deviator_script.specs.declared.job.Job.{Job}
 use Rattle.swap_rules.specs.Accepted.{IsAccepted}
+use Rattle.swap_rules.specs.Outcome.{IsEnded}
 use Rattle.swap_gen.specs.Drawn.{generated}
 use Rattle.made_jobs.specs.Generating.{generated_book, generated_summary, generated_text, is_found}
 use Rattle.audit_command.specs.Output.{Written}
 use Rattle.swap_world.specs.Gone.{Gives}
-use Rattle.swap_commands.specs.Output.{plain_text}
+use Rattle.swap_commands.specs.Output.{plain_text, report_for}
+use Rattle.swap_commands.specs.Promised.{IsPromised}
 use Rattle.swap_commands.specs.Says.{Says, Writes}
 use Rattle.swap_commands.specs.Words.{request_of}
 use Rattle.swap_commands.specs.declared.words.Request.{Request}
 use Rattle.swap_commands.specs.declared.words.Task.{Task}
 use Rattle.swap_commands.specs.declared.words.Task.TheVariants.{Input, Number}
 use Rattle.swap_commands.specs.declared.status.Status.{Status}
+use Rattle.swap_commands.specs.declared.status.Status.TheVariants.{NoMemory}
 
 -- the job with its events
 abbrev pub text_output : Request → Written
@@ -28,15 +34,33 @@ summary_output r = record {
 abbrev pub generated_output : Request → Written
 generated_output r = if r.summary then summary_output r else text_output r
 
--- The words ask for the job of a number, which is accepted; nothing was read, and P tells what was written.
+-- What a summary promises: it is that of the book to which the number's job was run, which keeps what every run promises, and in which every ledger has ended.
+pub record IsSummary (job : Job) (b : Histories) (r : Request) (output : Written) : Type 0 where
+  pub shown : output ≡ summary_output r
+  pub promised : IsPromised job b (report_for job b)
+  pub ended : IsEnded job.deal b
+
+-- what is promised of a request's output, where that is a summary
+abbrev pub AsRequested : Request → Written → Type 0
+AsRequested r output = r.summary ≡ true → IsSummary (generated r.seed r.parties) (generated_book r.seed r.parties r.events) r output
+
+-- What a status says of a number's job, by what the sink took and how many of its calls failed. After want of memory no summary was made, and nothing was
+-- written where one was asked for.
+pub record IsMadeFor (taken taken' : Option (List ℕ)) (p q : ℕ) (r : Request) (s : Status) : Type 0 where
+  pub writes : Writes taken taken' p q (generated_output r) s
+  pub promised : ¬ (s ≡ NoMemory) → AsRequested r (generated_output r)
+  pub silent : s ≡ NoMemory → r.summary ≡ true → Keeps taken taken'
+
+-- The words ask for the job of a number, which is accepted; nothing was read, what a summary promises holds, and P tells what was written.
 pub record Generates (P : Written → Type 0) (words : List (List ℕ)) (left left' : Option (List ℕ)) : Type 0 where
   pub request : Request
   pub asks : request_of words ≡ Some request
   pub unread : left' ≡ left
   pub accepted : IsAccepted (generated request.seed request.parties).deal
+  pub promised : AsRequested request (generated_output request)
   pub written : P (generated_output request)
 
 -- what a status says of a task: by its input, or without one by what is written of a number's job
 abbrev pub Performs : (List ℕ → Bool) → Gives → Task → Option (List ℕ) → Option (List ℕ) → ℕ → ℕ → Option (List ℕ) → Option (List ℕ) → ℕ → ℕ → Status → Type 0
 Performs has gives (Input command) left left' n m taken taken' p q s = Says has gives command left left' n m taken taken' p q s
-Performs has gives (Number request) left left' n m taken taken' p q s = (left' ≡ left) × Writes taken taken' p q (generated_output request) s
+Performs has gives (Number request) left left' n m taken taken' p q s = (left' ≡ left) × IsMadeFor taken taken' p q request s

@@ -1,8 +1,11 @@
 //! The command `gen`: the job of a number is written, or its run is summarized. Nothing is read.
 
 ghost use Rattle.std.specs.Prelude.{◌≡◌, ◌≤◌, true, false};
+ghost use Rattle.std.specs.Io.KnownBytes.{Keeps};
 ghost use Rattle.swap_commands.specs.Says.{Writes};
-ghost use Rattle.swap_commands.specs.Generated.{generated_output, summary_output, text_output};
+ghost use Rattle.swap_commands.specs.Generated.{IsMadeFor, IsSummary, summary_output, text_output};
+ghost use Rattle.swap_gen.specs.Drawn.{generated};
+ghost use Rattle.made_jobs.specs.Generating.{generated_book};
 
 use crate::status::Status;
 use crate::words::Request;
@@ -27,7 +30,8 @@ fn write_job<K: Sink>(alloc: Global, request: Request, sink: &mut K) -> Status
 fn tell<K: Sink>(sink: &mut K, request: Request, summary: &Summary) -> Status
     requires text { summary.now.text ≡ (summary_output request).text }
     requires found { summary.now.found ≡ (summary_output request).found }
-    ensures { Writes (K.taken sink.old) (K.taken sink.new) (K.faults sink.old) (K.faults sink.new) (summary_output request) result }
+    ensures writes { Writes (K.taken sink.old) (K.taken sink.new) (K.faults sink.old) (K.faults sink.new) (summary_output request) result }
+    ensures whole { ¬ (result ≡ Status.NoMemory) }
 {
     match write_all(sink, summary.text.as_slice()) {
         Ok(()) => {
@@ -45,7 +49,11 @@ fn tell<K: Sink>(sink: &mut K, request: Request, summary: &Summary) -> Status
 fn write_summary<K: Sink>(alloc: Global, request: Request, sink: &mut K) -> Status
     requires low { 2 ≤ request.parties }
     requires high { request.parties ≤ 24 }
-    ensures { Writes (K.taken sink.old) (K.taken sink.new) (K.faults sink.old) (K.faults sink.new) (summary_output request) result }
+    ensures writes { Writes (K.taken sink.old) (K.taken sink.new) (K.faults sink.old) (K.faults sink.new) (summary_output request) result }
+    // Without the memory for a summary there is none, and nothing of it is promised.
+    ensures promised { ¬ (result ≡ Status.NoMemory) → IsSummary (generated request.seed request.parties)
+        (generated_book request.seed request.parties request.events) request (summary_output request) }
+    ensures silent { result ≡ Status.NoMemory → Keeps (K.taken sink.old) (K.taken sink.new) }
 {
     match summarize(alloc, request.seed, request.parties, request.events) {
         Ok(summary) => tell(sink, request, &summary),
@@ -57,7 +65,7 @@ fn write_summary<K: Sink>(alloc: Global, request: Request, sink: &mut K) -> Stat
 pub fn generate<K: Sink>(alloc: Global, request: Request, sink: &mut K) -> Status
     requires low { 2 ≤ request.parties }
     requires high { request.parties ≤ 24 }
-    ensures { Writes (K.taken sink.old) (K.taken sink.new) (K.faults sink.old) (K.faults sink.new) (generated_output request) result }
+    ensures { IsMadeFor (K.taken sink.old) (K.taken sink.new) (K.faults sink.old) (K.faults sink.new) request result }
 {
     if request.summary {
         write_summary(alloc, request, sink)

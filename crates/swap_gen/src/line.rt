@@ -16,7 +16,7 @@ fn name_at(names: &[ByteText], p: PartyId) -> &[u8]
     }
 }
 
-/// Appends the line of an event that can be drawn; a call can't, and nothing is appended. After want of memory a part of it stands there.
+/// Appends the line of an event that can be drawn; a call and a crash can't, and nothing is appended. After want of memory a part of it stands there.
 #[tactic(auto, unfolding(crate::specs::Line::event_line))]
 pub fn put_event(out: &mut Vec<u8>, names: &[ByteText], event: &Event) -> Result<(), NoMemory>
     ensures { OnOk result (out.new.items ≡ out.old.items ++ event_line names.now event.now) }
@@ -51,5 +51,6 @@ pub fn put_event(out: &mut Vec<u8>, names: &[ByteText], event: &Event) -> Result
             ],
         ),
         Event::Call(_, _) => Ok(()),
+        Event::Crash(_, _, _) => Ok(()),
     }
 }

@@ -9,7 +9,7 @@ use Rattle.program_words.specs.Words.{command_of as asked_of, IsWithin as IsWith
 use Rattle.program_words.specs.declared.command.Command.{Command as Asked}
 use Rattle.program_words.specs.declared.command.Command.TheVariants as asked
 use Rattle.program_words.proofs.Ranges.{command_within}
-use Rattle.swap_commands.specs.Generated.{generated_output, Generates}
+use Rattle.swap_commands.specs.Generated.{generated_output, AsRequested, Generates, IsMadeFor}
 use Rattle.swap_commands.specs.Says.{IsWhole, Writes}
 use Rattle.swap_main.specs.Top.{status_of}
 use Rattle.swap_commands.specs.Words.{asked_task, command_of, input_of, is_race, number_of, races, request_of, task_of, AsksRace, IsWithin}
@@ -99,53 +99,68 @@ is_no_race words task e r race = by task e r
 module _ (words : List (List ℕ)) (left left' taken taken' : Option (List ℕ)) (p q : ℕ) (request : Request) (asks : request_of words ≡ Some request)
     (unread : left' ≡ left) (few : 2 ≤ request.parties) (many : request.parties ≤ 24) where
   abbrev Said : Status → Type 0
-  Said s = Writes taken taken' p q (generated_output request) s
+  Said s = IsMadeFor taken taken' p q request s
 
-  made_by : (P : Written → Type 0) → P (generated_output request) → Generates P words left left'
-  made_by P w = record {
+  abbrev WrittenSo : Status → Type 0
+  WrittenSo s = Writes taken taken' p q (generated_output request) s
+
+  writes_at : (s t : Status) → Said s → s ≡ t → WrittenSo t
+  writes_at s t h e = subst WrittenSo e h.writes
+
+  made_by : (P : Written → Type 0) → AsRequested request (generated_output request) → P (generated_output request) → Generates P words left left'
+  made_by P promised w = record {
     request = request;
     asks = asks;
     unread = unread;
     accepted = generated_is_accepted request.seed request.parties few many;
+    promised = promised;
     written = w;
   }
 
   pub done : (s : Status) → Said s → s ≡ Done → Generates (IsWhole taken taken' false) words left left'
-  done s h e = made_by (IsWhole taken taken' false) (subst Said e h)
+  done s h e = made_by (IsWhole taken taken' false) (h.promised (λ none. cc (sym e ∙ none))) (writes_at s Done h e)
 
   pub named : (s : Status) → Said s → s ≡ Named → Generates (IsWhole taken taken' true) words left left'
-  named s h e = made_by (IsWhole taken taken' true) (subst Said e h)
+  named s h e = made_by (IsWhole taken taken' true) (h.promised (λ none. cc (sym e ∙ none))) (writes_at s Named h e)
 
   pub write_fault : (s : Status) → Said s → s ≡ WriteFault → Rose p q
-  write_fault s h e = let w = subst Said e h in w.0
+  write_fault s h e = let w = writes_at s WriteFault h e in w.0
 
   pub cut : (s : Status) → Said s → s ≡ WriteFault → Generates (λ output. AppendsProperPrefix taken taken' output.text) words left left'
-  cut s h e = made_by (λ output. AppendsProperPrefix taken taken' output.text) (let w = subst Said e h in w.1)
+  cut s h e =
+      let w = writes_at s WriteFault h e in
+      made_by (λ output. AppendsProperPrefix taken taken' output.text) (h.promised (λ none. cc (sym e ∙ none))) w.1
 
-  pub short : (s : Status) → Said s → s ≡ NoMemory → Generates (λ output. AppendsPrefix taken taken' output.text) words left left'
-  short s h e = made_by (λ output. AppendsPrefix taken taken' output.text) (subst Said e h)
+  -- a summary that wasn't made left nothing
+  pub short : (s : Status) → Said s → s ≡ NoMemory → Keeps taken taken' ⊎ Generates (λ output. AppendsPrefix taken taken' output.text) words left left'
+  short s h e = by request.summary refl
+    where
+      by : (summary : Bool) → request.summary ≡ summary → Keeps taken taken' ⊎ Generates (λ output. AppendsPrefix taken taken' output.text) words left left'
+      by true asked = inl (h.silent e asked)
+      by false asked =
+          inr (made_by (λ output. AppendsPrefix taken taken' output.text) (λ again. absurd (cc (sym asked ∙ again))) (writes_at s NoMemory h e))
 
   pub not_wrong_words : (s : Status) → Said s → ¬ (s ≡ WrongWords)
-  not_wrong_words s h e = subst Said e h
+  not_wrong_words s h e = writes_at s WrongWords h e
 
   pub not_refused : (s : Status) → Said s → (reason : Reason) (names : List (List ℕ)) → ¬ (s ≡ Refused reason names)
-  not_refused s h reason names e = subst Said e h
+  not_refused s h reason names e = writes_at s (Refused reason names) h e
 
   pub no_read_fault : (s : Status) → Said s → ¬ (s ≡ ReadFault)
-  no_read_fault s h e = subst Said e h
+  no_read_fault s h e = writes_at s ReadFault h e
 
   pub not_too_long : (s : Status) → Said s → ¬ (s ≡ TooLong)
-  not_too_long s h e = subst Said e h
+  not_too_long s h e = writes_at s TooLong h e
 
   pub silent : (s : Status) → Said s → ¬ (s ≡ Done) → ¬ (s ≡ Named) → ¬ (s ≡ WriteFault) → ¬ (s ≡ NoMemory) → Keeps taken taken'
   silent Done h d c w f = absurd (d refl)
   silent Named h d c w f = absurd (c refl)
-  silent WrongWords h d c w f = absurd h
-  silent (Refused reason names) h d c w f = absurd h
-  silent ReadFault h d c w f = absurd h
+  silent WrongWords h d c w f = absurd h.writes
+  silent (Refused reason names) h d c w f = absurd h.writes
+  silent ReadFault h d c w f = absurd h.writes
   silent WriteFault h d c w f = absurd (w refl)
   silent NoMemory h d c w f = absurd (f refl)
-  silent TooLong h d c w f = absurd h
+  silent TooLong h d c w f = absurd h.writes
 
   pub is_no_command : (command : Command) → ¬ (command_of words ≡ Some command)
   is_no_command command e = absurd (cc (sym (no_command words request asks) ∙ e))
@@ -156,14 +171,14 @@ module _ (words : List (List ℕ)) (left left' taken taken' : Option (List ℕ))
   pub good : (s : Status) → Said s → (other : Request) → request_of words ≡ Some other → ¬ Rose p q
       → (s ≡ status_of (generated_output other).found) ⊎ (s ≡ NoMemory)
   good Done h other is still =
-      let found : (generated_output other).found ≡ false = ap (λ (r : Request). (generated_output r).found) (sym (same_request other is)) ∙ h.1 in
+      let found : (generated_output other).found ≡ false = ap (λ (r : Request). (generated_output r).found) (sym (same_request other is)) ∙ h.writes.1 in
       inl (rw found refl)
   good Named h other is still =
-      let found : (generated_output other).found ≡ true = ap (λ (r : Request). (generated_output r).found) (sym (same_request other is)) ∙ h.1 in
+      let found : (generated_output other).found ≡ true = ap (λ (r : Request). (generated_output r).found) (sym (same_request other is)) ∙ h.writes.1 in
       inl (rw found refl)
-  good WrongWords h other is still = absurd h
-  good (Refused reason names) h other is still = absurd h
-  good ReadFault h other is still = absurd h
-  good WriteFault h other is still = absurd (still h.0)
+  good WrongWords h other is still = absurd h.writes
+  good (Refused reason names) h other is still = absurd h.writes
+  good ReadFault h other is still = absurd h.writes
+  good WriteFault h other is still = absurd (still h.writes.0)
   good NoMemory h other is still = inr refl
-  good TooLong h other is still = absurd h
+  good TooLong h other is still = absurd h.writes

@@ -9,7 +9,7 @@ use Rattle.ledger_core.specs.Book.{Histories}
 use Rattle.deviator_script.specs.Resolved.{resolved}
 use Rattle.deviator_script.specs.Script.{next_call, moves_left}
 use Rattle.deviator_script.specs.declared.event.Event.{Event}
-use Rattle.deviator_script.specs.declared.event.Event.TheVariants.{Tick, Look, Act, Call as Made}
+use Rattle.deviator_script.specs.declared.event.Event.TheVariants.{Tick, Look, Act, Call as Made, Crash}
 use Rattle.deviator_script.specs.declared.job.Finish.{Finish}
 use Rattle.deviator_script.specs.declared.job.Finish.TheVariants.{Stop, Fair}
 use Rattle.deviator_script.specs.declared.job.Job.{Job}
@@ -104,6 +104,7 @@ step_begins c s (Act v) =
     (act_begins c s v (role_of c v))
 step_begins c s (Made v mv) =
     as_before s (step c s (Made v mv)) (take_asked c s v (resolved c.deal c.seeds s.book mv))
+step_begins c s (Crash v k image) = begins_refl s.asked
 
 run_begins : (c : Cast) (s : State) (events : List Event) → Begins s.asked (run_from c s events).asked
 run_begins c s [] = begins_refl s.asked

@@ -180,6 +180,8 @@ module _ (rule : Question → Option (ℕ × Call)) (swept : ℕ → Bool) (c : 
       (subst (λ (u : State). AreOne rule g h s (acted cast_g s v (conforms c v) (role_of c v)) u)
       (sym (act_is cast_h s v ∙ acted_is cast_h s v (conforms c v) (role_of c v))) (act_one s v (conforms c v) (role_of c v)))
   step_one (events.Call v mv) s = taken s s v (resolved c.deal c.seeds s.book mv) refl
+  step_one (events.Crash v k image) s =
+      quiet rule g h s (step_on swept cast_g s (events.Crash v k image)) (step_on swept cast_h s (events.Crash v k image)) refl refl
 
 -- The same of all that is kept.
 

@@ -97,13 +97,18 @@ module _ (has : List ℕ → Bool) (gives : Gives) (words : List (List ℕ)) (le
   short_input (inl k) = inl k
   short_input (inr o) = inr (inl o)
 
+  short_number : Keeps taken taken' ⊎ Generates (λ output. AppendsPrefix taken taken' output.text) words left left'
+      → Keeps taken taken' ⊎ IsShort has gives words left left' taken taken' ⊎ Generates (λ output. AppendsPrefix taken taken' output.text) words left left'
+  short_number (inl k) = inl k
+  short_number (inr g) = inr (inr g)
+
   pub short : (task : Task) → task_of words ≡ Some task → (s : Status) → Performed task s → s ≡ NoMemory
       → Keeps taken taken' ⊎ IsShort has gives words left left' taken taken' ⊎ Generates (λ output. AppendsPrefix taken taken' output.text) words left left'
   short (Input command) asked s h e =
       short_input (ends.short has gives words left left' n m taken taken' p q command (command_is words command asked) s h e)
   short (Number request) asked s h e =
       let w = is_within words (Number request) asked in
-      inr (inr (asking.short words left left' taken taken' p q request (request_is words request asked) h.0 w.0 w.1 s h.1 e))
+      short_number (asking.short words left left' taken taken' p q request (request_is words request asked) h.0 w.0 w.1 s h.1 e)
 
   pub silent : (task : Task) → task_of words ≡ Some task → (s : Status) → Performed task s → ¬ (s ≡ Done) → ¬ (s ≡ Named) → ¬ (s ≡ WriteFault)
       → ¬ (s ≡ NoMemory) → Keeps taken taken'

@@ -50,6 +50,7 @@ fn copy_reason(reason: &Reason) -> Result<Reason, NoMemory>
             *have,
             *wanted,
         )),
+        Reason::NotConforming(line) => Ok(Reason::NotConforming(*line)),
     }
 }
 
