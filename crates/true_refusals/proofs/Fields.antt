@@ -1,0 +1,118 @@
+-- The fields of an object, ranges, digests and names.
+use Rattle.std.proofs.Common.{Err, List, None, Ok, Option, Result, Some, is_some, nat_le, option_and_then, position, ℕ, ◌&&◌}
+use Rattle.std.specs.Str.{is_utf8, bytes_eq}
+use Rattle.serde_json.specs.Data.{Data, Items}
+use Rattle.serde_json.specs.Read.{read}
+use Rattle.serde_json.specs.Find.{get, as_number, as_u64, as_str, as_array, as_object}
+use Rattle.refusals.specs.declared.reason.Reason.{Reason}
+use Rattle.refusals.specs.declared.reason.Reason.TheVariants.{NotJson, Missing, WrongKind, UnknownField, OverLimit, WrongHex, Unknown}
+use Rattle.hex.specs.Hex.{decode_sized}
+use Rattle.hex.specs.declared.error.FromHexError.{FromHexError}
+use Rattle.offer_fields.specs.Fields.{object_or, object_of, kind, present, needed, number_at, text_at, word_at, optional_number, optional_number_at}
+use Rattle.offer_fields.specs.Fields.{first_unknown, no_unknown, only, listed, each, array_at, list_at, object_at, optional_text, optional_text_at}
+use Rattle.offer_fields.specs.Fields.{member_text_of}
+use Rattle.offer_fields.specs.Limits.{within, number_within, decoded, digest_of}
+use Rattle.offer_fields.specs.Names.{found, party_of_name}
+use Rattle.true_refusals.proofs.Bare.{Bare, onward, landed, refused, choose, each_of_bare}
+
+pub object_or_bare : (line : ℕ) (x1 : Option Data) → Bare (object_or line x1)
+object_or_bare line (Some d) = choose (is_some (as_object d)) _ _ (landed _) (refused (NotJson line) tt)
+object_or_bare line None = refused (NotJson line) tt
+
+pub object_of_bare : (line : ℕ) (text : List ℕ) → Bare (object_of line text)
+unfolding object_of
+object_of_bare line text = choose (is_utf8 text) _ _ (object_or_bare line (read text)) (refused (NotJson line) tt)
+
+pub kind_bare : {A : Type 0} (line : ℕ) (field : List ℕ) (x2 : Option A) → Bare (kind line field x2)
+kind_bare line field (Some x) = landed _
+kind_bare line field None = refused (WrongKind line field) tt
+
+pub present_bare : {A : Type 0} (line : ℕ) (field : List ℕ) (x2 : Option A) → Bare (present line field x2)
+present_bare line field (Some x) = landed _
+present_bare line field None = refused (Missing line field) tt
+
+pub needed_bare : (line : ℕ) (field : List ℕ) (d : Data) → Bare (needed line field d)
+unfolding needed
+needed_bare line field d = present_bare line field (get field d)
+
+pub number_at_bare : (line : ℕ) (field : List ℕ) (d : Data) → Bare (number_at line field d)
+unfolding number_at
+number_at_bare line field d =
+    onward (needed line field d) _ (needed_bare line field d) (λ value. kind_bare line field (option_and_then as_u64 (as_number value)))
+
+pub text_at_bare : (line : ℕ) (field : List ℕ) (d : Data) → Bare (text_at line field d)
+unfolding text_at
+text_at_bare line field d = onward (needed line field d) _ (needed_bare line field d) (λ value. kind_bare line field (as_str value))
+
+pub word_at_bare : {A : Type 0} (line : ℕ) (field : List ℕ) (word_of : List ℕ → Option A) (d : Data) → Bare (word_at line field word_of d)
+word_at_bare line field word_of d = onward (text_at line field d) _ (text_at_bare line field d) (λ word. kind_bare line field (word_of word))
+
+pub optional_number_bare : (line : ℕ) (field : List ℕ) (x2 : Option Data) → Bare (optional_number line field x2)
+optional_number_bare line field None = landed _
+optional_number_bare line field (Some d) =
+    onward (kind line field (option_and_then as_u64 (as_number d))) _ (kind_bare line field (option_and_then as_u64 (as_number d))) (λ n. landed _)
+
+pub optional_number_at_bare : (line : ℕ) (field : List ℕ) (d : Data) → Bare (optional_number_at line field d)
+unfolding optional_number_at
+optional_number_at_bare line field d = optional_number_bare line field (get field d)
+
+pub no_unknown_bare : (line : ℕ) (x1 : Option (List ℕ)) → Bare (no_unknown line x1)
+no_unknown_bare line (Some k) = refused (UnknownField line k) tt
+no_unknown_bare line None = landed _
+
+pub only_bare : (line : ℕ) (allowed : List (List ℕ)) (d : Data) → Bare (only line allowed d)
+unfolding only
+only_bare line allowed d = no_unknown_bare line (option_and_then (first_unknown allowed) (as_object d))
+
+pub array_at_bare : (line : ℕ) (field : List ℕ) (d : Data) → Bare (array_at line field d)
+unfolding array_at
+array_at_bare line field d = onward (needed line field d) _ (needed_bare line field d) (λ value. kind_bare line field (as_array value))
+
+pub object_at_bare : (line : ℕ) (field : List ℕ) (d : Data) → Bare (object_at line field d)
+unfolding object_at
+object_at_bare line field d = choose (is_some (as_object d)) _ _ (landed _) (refused (WrongKind line field) tt)
+
+pub optional_text_bare : (line : ℕ) (field : List ℕ) (x2 : Option Data) → Bare (optional_text line field x2)
+optional_text_bare line field None = landed _
+optional_text_bare line field (Some d) = onward (kind line field (as_str d)) _ (kind_bare line field (as_str d)) (λ s. landed _)
+
+pub optional_text_at_bare : (line : ℕ) (field : List ℕ) (d : Data) → Bare (optional_text_at line field d)
+unfolding optional_text_at
+optional_text_at_bare line field d = optional_text_bare line field (get field d)
+
+pub member_text_of_bare : (line : ℕ) (field : List ℕ) (d : Data) → Bare (member_text_of line field d)
+unfolding member_text_of
+member_text_of_bare line field d = kind_bare line field (as_str d)
+
+pub within_bare : (line : ℕ) (field : List ℕ) (low : ℕ) (high : ℕ) (n : ℕ) → Bare (within line field low high n)
+unfolding within
+within_bare line field low high n = choose (nat_le low n && nat_le n high) _ _ (landed _) (refused (OverLimit line field n) tt)
+
+pub number_within_bare : (line : ℕ) (field : List ℕ) (low : ℕ) (high : ℕ) (n : ℕ) → Bare (number_within line field low high n)
+unfolding number_within
+number_within_bare line field low high n = onward (within line field low high n) _ (within_bare line field low high n) (λ u. landed _)
+
+pub decoded_bare : (line : ℕ) (field : List ℕ) (x2 : Result (List ℕ) FromHexError) → Bare (decoded line field x2)
+decoded_bare line field (Ok bytes) = landed _
+decoded_bare line field (Err e) = refused (WrongHex line field) tt
+
+pub digest_of_bare : (line : ℕ) (field : List ℕ) (text : List ℕ) → Bare (digest_of line field text)
+unfolding digest_of
+digest_of_bare line field text = decoded_bare line field (decode_sized text 32)
+
+pub found_bare : (line : ℕ) (name : List ℕ) (x2 : Option ℕ) → Bare (found line name x2)
+found_bare line name (Some k) = landed _
+found_bare line name None = refused (Unknown line name) tt
+
+pub party_of_name_bare : (line : ℕ) (names : List (List ℕ)) (name : List ℕ) → Bare (party_of_name line names name)
+unfolding party_of_name
+party_of_name_bare line names name = found_bare line name (position (bytes_eq name) names)
+
+pub each_bare : {A : Type 0} (f : Data → Result A Reason) → ((d : Data) → Bare (f d)) → (ds : Items) → Bare (each f ds)
+unfolding each
+each_bare f h ds = each_of_bare f h (listed ds)
+
+pub list_at_bare : {A : Type 0} (line : ℕ) (field : List ℕ) (f : Data → Result A Reason) → ((d : Data) → Bare (f d)) → (d : Data)
+    → Bare (list_at line field f d)
+unfolding list_at
+list_at_bare line field f h d = onward (array_at line field d) _ (array_at_bare line field d) (λ items. each_bare f h items)

@@ -1,0 +1,11 @@
+pub mod Bare
+pub mod Fields
+pub mod Reading
+pub mod Moves
+pub mod Placed
+pub mod Raw
+pub mod Names
+pub mod Limits
+pub mod Headers
+pub mod Events
+pub mod Refused

@@ -1,0 +1,128 @@
+-- The limits of a header.
+use Rattle.std.proofs.Common.{Bool, List, None, Option, Some, codes, false, length, true, ℕ, ◌^◌}
+use Rattle.swap_digraph.specs.declared.deal.Mode.{Mode}
+use Rattle.swap_digraph.specs.declared.deal.Mode.TheVariants.{Timelocks, Hashkeys}
+use Rattle.swap_digraph.specs.declared.deal.Version.{Version}
+use Rattle.swap_digraph.specs.Deal.{most_arcs, most_parties}
+use Rattle.deviator_script.specs.declared.job.Purpose.{Purpose}
+use Rattle.offer_moves.specs.declared.moves.Sizes.{Sizes}
+use Rattle.offer_moves.specs.declared.raw.RawMove.{RawMove}
+use Rattle.offer_moves.specs.Moves.{move_of}
+use Rattle.offer_fields.specs.Limits.{number_within, within, digest_of}
+use Rattle.offer_fields.specs.Lists.{each_of}
+use Rattle.offer_header.specs.Raw.{is_plain}
+use Rattle.offer_header.specs.declared.raw.RawActor.{RawActor}
+use Rattle.offer_header.specs.declared.raw.RawActor.TheVariants.{Conforming, Manual, Script, Strategy}
+use Rattle.offer_header.specs.declared.raw.RawParty.{RawParty}
+use Rattle.offer_header.specs.declared.raw.RawArc.{RawArc}
+use Rattle.offer_header.specs.declared.raw.RawLeader.{RawLeader}
+use Rattle.offer_header.specs.declared.raw.RawRow.{RawRow}
+use Rattle.offer_header.specs.declared.raw.RawHeader.{RawHeader}
+use Rattle.offer_header.specs.declared.names.Numbered.{Numbered}
+use Rattle.offer_header.specs.Limits.{seed_or_none, seed_of, script_role, role_of, acting_of, parties_of, sizes_in, terms_of, all_terms_of, hashlock_of}
+use Rattle.offer_header.specs.Limits.{hashlocks_by, hashlocks_of, key_of, party_keys_of, stated_keys_of, keys_by, keys_of, parts_of, limited_of}
+use Rattle.true_refusals.proofs.Bare.{Bare, onward, landed, each_of_bare}
+use Rattle.true_refusals.proofs.Fields.{within_bare, number_within_bare, digest_of_bare}
+use Rattle.true_refusals.proofs.Moves.{move_of_bare}
+
+pub seed_or_none_bare : (line : ℕ) (x1 : Option (List ℕ)) → Bare (seed_or_none line x1)
+seed_or_none_bare line None = landed _
+seed_or_none_bare line (Some text) = onward (digest_of line (codes "seed") text) _ (digest_of_bare line (codes "seed") text) (λ seed. landed _)
+
+pub seed_of_bare : (line : ℕ) (p : RawParty) → Bare (seed_of line p)
+unfolding seed_of
+seed_of_bare line p = seed_or_none_bare line p.seed
+
+pub script_role_bare : (sizes : Sizes) (names : List (List ℕ)) (line : ℕ) (raws : List RawMove) → Bare (script_role sizes names line raws)
+unfolding script_role
+script_role_bare sizes names line raws =
+    onward (within line (codes "script") 0 1000 (length raws)) _ (within_bare line (codes "script") 0 1000 (length raws))
+    (λ u. onward (each_of (move_of sizes names line) raws)
+    _ (each_of_bare (move_of sizes names line) (move_of_bare sizes names line) raws) (λ moves. landed _))
+
+pub role_of_bare : (sizes : Sizes) (names : List (List ℕ)) (line : ℕ) (x3 : RawActor) → Bare (role_of sizes names line x3)
+role_of_bare sizes names line Conforming = landed _
+role_of_bare sizes names line Manual = landed _
+role_of_bare sizes names line (Script raws) = script_role_bare sizes names line raws
+role_of_bare sizes names line (Strategy name) = landed _
+
+pub acting_of_bare : (sizes : Sizes) (names : List (List ℕ)) (line : ℕ) (p : RawParty) → Bare (acting_of sizes names line p)
+unfolding acting_of
+acting_of_bare sizes names line p =
+    onward (role_of sizes names line p.actor) _ (role_of_bare sizes names line p.actor)
+    (λ role. onward (seed_of line p) _ (seed_of_bare line p) (λ seed. landed _))
+
+pub parties_of_bare : (version : Version) (sizes : Sizes) (names : List (List ℕ)) (line : ℕ) (parties : List RawParty)
+    → Bare (parties_of version sizes names line parties)
+unfolding parties_of
+parties_of_bare version sizes names line parties =
+    onward (within line (codes "parties") 2 (most_parties version) (length parties)) _ (within_bare line (codes "parties") 2 (most_parties version)
+    (length parties)) (λ u. each_of_bare (acting_of sizes names line) (acting_of_bare sizes names line) parties)
+
+pub terms_of_bare : (line : ℕ) (a : RawArc) → Bare (terms_of line a)
+unfolding terms_of
+terms_of_bare line a =
+    onward (within line (codes "amount") 1 (10 ^ 12) a.amount) _ (within_bare line (codes "amount") 1 (10 ^ 12) a.amount)
+    (λ u. onward (number_within line (codes "timelock") 0 1000000 a.timelock)
+    _ (number_within_bare line (codes "timelock") 0 1000000 a.timelock) (λ timelock. landed _))
+
+pub all_terms_of_bare : (version : Version) (line : ℕ) (arcs : List RawArc) → Bare (all_terms_of version line arcs)
+unfolding all_terms_of
+all_terms_of_bare version line arcs =
+    onward (within line (codes "arcs") 2 (most_arcs version) (length arcs))
+    _ (within_bare line (codes "arcs") 2 (most_arcs version) (length arcs)) (λ u. each_of_bare (terms_of line) (terms_of_bare line) arcs)
+
+pub hashlock_of_bare : (line : ℕ) (l : RawLeader) → Bare (hashlock_of line l)
+unfolding hashlock_of
+hashlock_of_bare line l = digest_of_bare line (codes "hashlock") l.hashlock
+
+pub hashlocks_by_bare : (true : Bool) (line : ℕ) (leaders : List RawLeader) → Bare (hashlocks_by true line leaders)
+hashlocks_by_bare true line leaders = landed _
+hashlocks_by_bare false line leaders = each_of_bare (hashlock_of line) (hashlock_of_bare line) leaders
+
+pub hashlocks_of_bare : (plain : Bool) (line : ℕ) (leaders : List RawLeader) → Bare (hashlocks_of plain line leaders)
+unfolding hashlocks_of
+hashlocks_of_bare plain line leaders =
+    onward (within line (codes "leaders") 1 8 (length leaders))
+    _ (within_bare line (codes "leaders") 1 8 (length leaders)) (λ u. hashlocks_by_bare plain line leaders)
+
+pub key_of_bare : (line : ℕ) (text : List ℕ) → Bare (key_of line text)
+unfolding key_of
+key_of_bare line text = digest_of_bare line (codes "keys") text
+
+pub party_keys_of_bare : (locks : ℕ) (line : ℕ) (row : RawRow) → Bare (party_keys_of locks line row)
+unfolding party_keys_of
+party_keys_of_bare locks line row =
+    onward (within line (codes "keys") locks locks (length row.texts))
+    _ (within_bare line (codes "keys") locks locks (length row.texts)) (λ u. each_of_bare (key_of line) (key_of_bare line) row.texts)
+
+pub stated_keys_of_bare : (line : ℕ) (h : RawHeader) → Bare (stated_keys_of line h)
+unfolding stated_keys_of
+stated_keys_of_bare line h =
+    onward (within line (codes "keys") (length h.parties) (length h.parties) (length h.keys)) _ (within_bare line (codes "keys") (length h.parties)
+    (length h.parties) (length h.keys)) (λ u. each_of_bare (party_keys_of (length h.leaders) line) (party_keys_of_bare (length h.leaders) line) h.keys)
+
+pub keys_by_bare : (true : Bool) (line : ℕ) (h : RawHeader) → Bare (keys_by true line h)
+keys_by_bare true line h = landed _
+keys_by_bare false line h = stated_keys_of_bare line h
+
+pub keys_of_bare : (x0 : Mode) (plain : Bool) (line : ℕ) (h : RawHeader) → Bare (keys_of x0 plain line h)
+keys_of_bare Timelocks plain line h = landed _
+keys_of_bare Hashkeys plain line h = keys_by_bare plain line h
+
+pub parts_of_bare : (purpose : Purpose) (line : ℕ) (raw : RawHeader) (numbered : Numbered) (start : ℕ) (delta : ℕ) (bound : ℕ)
+    → Bare (parts_of purpose line raw numbered start delta bound)
+parts_of_bare purpose line raw numbered start delta bound =
+    onward (parties_of raw.version (sizes_in raw) numbered.names line raw.parties)
+    _ (parties_of_bare raw.version (sizes_in raw) numbered.names line raw.parties)
+    (λ parties. onward (all_terms_of raw.version line raw.arcs) _ (all_terms_of_bare raw.version line raw.arcs)
+    (λ terms. onward (hashlocks_of (is_plain purpose) line raw.leaders) _ (hashlocks_of_bare (is_plain purpose) line raw.leaders)
+    (λ hashlocks. onward (keys_of raw.mode (is_plain purpose) line raw) _ (keys_of_bare raw.mode (is_plain purpose) line raw) (λ keys. landed _))))
+
+pub limited_of_bare : (purpose : Purpose) (line : ℕ) (raw : RawHeader) (numbered : Numbered) → Bare (limited_of purpose line raw numbered)
+unfolding limited_of
+limited_of_bare purpose line raw numbered =
+    onward (number_within line (codes "start") 1 1000 raw.start) _ (number_within_bare line (codes "start") 1 1000 raw.start)
+    (λ start. onward (number_within line (codes "delta") 1 100 raw.delta) _ (number_within_bare line (codes "delta") 1 100 raw.delta)
+    (λ delta. onward (number_within line (codes "bound") 1 64 raw.bound)
+    _ (number_within_bare line (codes "bound") 1 64 raw.bound) (λ bound. parts_of_bare purpose line raw numbered start delta bound)))

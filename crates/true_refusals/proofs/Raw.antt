@@ -1,0 +1,185 @@
+-- The fields of a header.
+use Rattle.std.proofs.Common.{Bool, List, None, Option, Some, [], codes, is_some, ℕ, ◌==◌, ◌∷◌}
+use Rattle.std.specs.Str.{bytes_eq}
+use Rattle.serde_json.specs.Data.{Data}
+use Rattle.serde_json.specs.Find.{get, as_object, as_array}
+use Rattle.swap_digraph.specs.declared.deal.Mode.{Mode}
+use Rattle.swap_digraph.specs.declared.deal.Mode.TheVariants.{Timelocks, Hashkeys}
+use Rattle.swap_digraph.specs.declared.deal.Version.{Version}
+use Rattle.swap_digraph.specs.declared.deal.Version.TheVariants.{One, Two}
+use Rattle.deviator_script.specs.declared.job.Purpose.{Purpose}
+use Rattle.deviator_script.specs.declared.job.Purpose.TheVariants.{Audit}
+use Rattle.refusals.specs.declared.reason.Reason.TheVariants.{WrongKind}
+use Rattle.offer_fields.specs.Fields.{kind, number_at, text_at, optional_text_at, member_text_of, object_at, list_at, each, only}
+use Rattle.offer_moves.specs.Reading.{scripted_at}
+use Rattle.offer_header.specs.declared.raw.Front.{Front}
+use Rattle.offer_header.specs.declared.raw.Reading.{Reading}
+use Rattle.offer_header.specs.Raw.{is_plain, states_timelocks, states_keys, script_at, strategy_at, planned_actor, object_actor, actor_of_word, actor_of}
+use Rattle.offer_header.specs.Raw.{actor_or_conforming, actor_at, seed_at, party_fields, party_of, timelock_at, arc_fields, arc_between, arc_of, hashlock_at}
+use Rattle.offer_header.specs.Raw.{leader_fields, leader_of, row_of, keys_at, version_of, version_at, mode_of, mode_for, stated_mode_at, mode_at}
+use Rattle.offer_header.specs.Raw.{finish_of_word, finish_or_stop, stated_finish_at, finish_at, header_fields, lists_of, raw_of}
+use Rattle.deviator_script.specs.declared.job.Purpose.TheVariants as purpose_kinds
+use Rattle.true_refusals.proofs.Bare.{Bare, onward, landed, refused, choose}
+use Rattle.true_refusals.proofs.Fields.{kind_bare, number_at_bare, text_at_bare, word_at_bare, only_bare, object_at_bare, optional_text_at_bare}
+use Rattle.true_refusals.proofs.Fields.{member_text_of_bare, each_bare, list_at_bare}
+use Rattle.true_refusals.proofs.Reading.{scripted_at_bare}
+
+pub script_at_bare : (line : ℕ) (d : Data) → Bare (script_at line d)
+unfolding script_at
+script_at_bare line d =
+    onward (list_at line (codes "script") (scripted_at line) d) _ (list_at_bare line (codes "script") (scripted_at line) (scripted_at_bare line) d)
+    (λ moves. onward (only line (codes "script" ∷ []) d) _ (only_bare line (codes "script" ∷ []) d) (λ u. landed _))
+
+pub strategy_at_bare : (line : ℕ) (d : Data) → Bare (strategy_at line d)
+unfolding strategy_at
+strategy_at_bare line d =
+    onward (text_at line (codes "strategy") d) _ (text_at_bare line (codes "strategy") d)
+    (λ name. onward (only line (codes "strategy" ∷ []) d) _ (only_bare line (codes "strategy" ∷ []) d) (λ u. landed _))
+
+pub planned_actor_bare : (line : ℕ) (d : Data) → Bare (planned_actor line d)
+planned_actor_bare line d = choose (is_some (get (codes "script") d)) _ _ (script_at_bare line d) (strategy_at_bare line d)
+
+pub object_actor_bare : (line : ℕ) (x1 : Purpose) (d : Data) → Bare (object_actor line x1 d)
+object_actor_bare line Audit d = refused (WrongKind line (codes "actor")) tt
+object_actor_bare line purpose_kinds.Check d = planned_actor_bare line d
+object_actor_bare line purpose_kinds.Run d = planned_actor_bare line d
+object_actor_bare line purpose_kinds.Race d = planned_actor_bare line d
+object_actor_bare line purpose_kinds.Make d = planned_actor_bare line d
+
+pub actor_of_word_bare : (line : ℕ) (word : List ℕ) → Bare (actor_of_word line word)
+actor_of_word_bare line word =
+    choose (bytes_eq word (codes "conforming"))
+    _ _ (landed _) (choose (bytes_eq word (codes "manual")) _ _ (landed _) (refused (WrongKind line (codes "actor")) tt))
+
+pub actor_of_bare : (line : ℕ) (purpose : Purpose) (d : Data) → Bare (actor_of line purpose d)
+actor_of_bare line purpose d =
+    choose (is_some (as_object d)) _ _ (object_actor_bare line purpose d) (onward (member_text_of line (codes "actor") d) _ (member_text_of_bare line
+    (codes "actor") d) (λ word. actor_of_word_bare line word))
+
+pub actor_or_conforming_bare : (line : ℕ) (purpose : Purpose) (x2 : Option Data) → Bare (actor_or_conforming line purpose x2)
+actor_or_conforming_bare line purpose None = landed _
+actor_or_conforming_bare line purpose (Some d) = actor_of_bare line purpose d
+
+pub actor_at_bare : (line : ℕ) (purpose : Purpose) (d : Data) → Bare (actor_at line purpose d)
+unfolding actor_at
+actor_at_bare line purpose d = actor_or_conforming_bare line purpose (get (codes "actor") d)
+
+pub seed_at_bare : (line : ℕ) (x1 : Purpose) (d : Data) → Bare (seed_at line x1 d)
+seed_at_bare line Audit d = landed _
+seed_at_bare line purpose_kinds.Check d = optional_text_at_bare line (codes "seed") d
+seed_at_bare line purpose_kinds.Run d = optional_text_at_bare line (codes "seed") d
+seed_at_bare line purpose_kinds.Race d = optional_text_at_bare line (codes "seed") d
+seed_at_bare line purpose_kinds.Make d = optional_text_at_bare line (codes "seed") d
+
+pub party_of_bare : (reading : Reading) (line : ℕ) (d : Data) → Bare (party_of reading line d)
+unfolding party_of
+party_of_bare reading line d =
+    onward (object_at line (codes "parties") d) _ (object_at_bare line (codes "parties") d)
+    (λ o. onward (text_at line (codes "name") d) _ (text_at_bare line (codes "name") d)
+    (λ name. onward (actor_at line reading.purpose d) _ (actor_at_bare line reading.purpose d)
+    (λ actor. onward (seed_at line reading.purpose d) _ (seed_at_bare line reading.purpose d)
+    (λ seed. onward (only line (party_fields reading.purpose) d) _ (only_bare line (party_fields reading.purpose) d) (λ u. landed _)))))
+
+pub timelock_at_bare : (line : ℕ) (stated : Bool) (d : Data) → Bare (timelock_at line stated d)
+timelock_at_bare line stated d = choose stated _ _ (number_at_bare line (codes "timelock") d) (landed _)
+
+pub arc_between_bare : (stated : Bool) (line : ℕ) (d : Data) (from : List ℕ) (to : List ℕ) → Bare (arc_between stated line d from to)
+arc_between_bare stated line d from to =
+    onward (number_at line (codes "amount") d) _ (number_at_bare line (codes "amount") d)
+    (λ amount. onward (timelock_at line stated d) _ (timelock_at_bare line stated d)
+    (λ timelock. onward (only line (arc_fields stated) d) _ (only_bare line (arc_fields stated) d) (λ u. landed _)))
+
+pub arc_of_bare : (reading : Reading) (line : ℕ) (d : Data) → Bare (arc_of reading line d)
+unfolding arc_of
+arc_of_bare reading line d =
+    onward (object_at line (codes "arcs") d) _ (object_at_bare line (codes "arcs") d)
+    (λ o. onward (text_at line (codes "from") d) _ (text_at_bare line (codes "from") d)
+    (λ from. onward (text_at line (codes "to") d)
+    _ (text_at_bare line (codes "to") d) (λ to. arc_between_bare (states_timelocks reading.purpose reading.mode) line d from to)))
+
+pub hashlock_at_bare : (line : ℕ) (plain : Bool) (d : Data) → Bare (hashlock_at line plain d)
+hashlock_at_bare line plain d = choose plain _ _ (landed _) (text_at_bare line (codes "hashlock") d)
+
+pub leader_of_bare : (reading : Reading) (line : ℕ) (d : Data) → Bare (leader_of reading line d)
+unfolding leader_of
+leader_of_bare reading line d =
+    onward (object_at line (codes "leaders") d) _ (object_at_bare line (codes "leaders") d)
+    (λ o. onward (text_at line (codes "party") d) _ (text_at_bare line (codes "party") d)
+    (λ party. onward (hashlock_at line (is_plain reading.purpose) d) _ (hashlock_at_bare line (is_plain reading.purpose) d)
+    (λ hashlock. onward (only line (leader_fields (is_plain reading.purpose)) d)
+    _ (only_bare line (leader_fields (is_plain reading.purpose)) d) (λ u. landed _))))
+
+pub row_of_bare : (line : ℕ) (d : Data) → Bare (row_of line d)
+unfolding row_of
+row_of_bare line d =
+    onward (kind line (codes "keys") (as_array d)) _ (kind_bare line (codes "keys") (as_array d))
+    (λ items. onward (each (member_text_of line (codes "keys")) items)
+    _ (each_bare (member_text_of line (codes "keys")) (member_text_of_bare line (codes "keys")) items) (λ texts. landed _))
+
+pub keys_at_bare : (line : ℕ) (stated : Bool) (d : Data) → Bare (keys_at line stated d)
+keys_at_bare line stated d = choose stated _ _ (list_at_bare line (codes "keys") (row_of line) (row_of_bare line) d) (landed _)
+
+pub version_of_bare : (line : ℕ) (n : ℕ) → Bare (version_of line n)
+version_of_bare line n = choose (n == 1) _ _ (landed _) (choose (n == 2) _ _ (landed _) (refused (WrongKind line (codes "swap")) tt))
+
+pub version_at_bare : (line : ℕ) (d : Data) → Bare (version_at line d)
+unfolding version_at
+version_at_bare line d = onward (number_at line (codes "swap") d) _ (number_at_bare line (codes "swap") d) (λ n. version_of_bare line n)
+
+pub mode_for_bare : (line : ℕ) (x1 : Version) (mode : Mode) → Bare (mode_for line x1 mode)
+mode_for_bare line One mode = landed _
+mode_for_bare line Two Timelocks = refused (WrongKind line (codes "mode")) tt
+mode_for_bare line Two Hashkeys = landed _
+
+pub stated_mode_at_bare : (line : ℕ) (d : Data) → Bare (stated_mode_at line d)
+unfolding stated_mode_at
+stated_mode_at_bare line d = word_at_bare line (codes "mode") mode_of d
+
+pub mode_at_bare : (line : ℕ) (version : Version) (d : Data) → Bare (mode_at line version d)
+unfolding mode_at
+mode_at_bare line version d = onward (stated_mode_at line d) _ (stated_mode_at_bare line d) (λ mode. mode_for_bare line version mode)
+
+pub finish_of_word_bare : (line : ℕ) (word : List ℕ) → Bare (finish_of_word line word)
+finish_of_word_bare line word =
+    choose (bytes_eq word (codes "stop"))
+    _ _ (landed _) (choose (bytes_eq word (codes "fair")) _ _ (landed _) (refused (WrongKind line (codes "finish")) tt))
+
+pub finish_or_stop_bare : (line : ℕ) (x1 : Option (List ℕ)) → Bare (finish_or_stop line x1)
+finish_or_stop_bare line None = landed _
+finish_or_stop_bare line (Some word) = finish_of_word_bare line word
+
+pub stated_finish_at_bare : (line : ℕ) (d : Data) → Bare (stated_finish_at line d)
+unfolding stated_finish_at
+stated_finish_at_bare line d =
+    onward (optional_text_at line (codes "finish") d) _ (optional_text_at_bare line (codes "finish") d) (λ word. finish_or_stop_bare line word)
+
+pub finish_at_bare : (line : ℕ) (x1 : Purpose) (d : Data) → Bare (finish_at line x1 d)
+finish_at_bare line Audit d = landed _
+finish_at_bare line purpose_kinds.Check d = stated_finish_at_bare line d
+finish_at_bare line purpose_kinds.Run d = stated_finish_at_bare line d
+finish_at_bare line purpose_kinds.Race d = stated_finish_at_bare line d
+finish_at_bare line purpose_kinds.Make d = stated_finish_at_bare line d
+
+pub lists_of_bare : (purpose : Purpose) (front : Front) (line : ℕ) (d : Data) → Bare (lists_of purpose front line d)
+lists_of_bare purpose front line d =
+    onward (list_at line (codes "parties") (party_of (record { purpose = purpose; mode = front.mode }) line) d) _ (list_at_bare line (codes "parties")
+    (party_of (record { purpose = purpose; mode = front.mode }) line) (party_of_bare (record { purpose = purpose; mode = front.mode }) line) d)
+    (λ parties. onward (list_at line (codes "arcs") (arc_of (record { purpose = purpose; mode = front.mode }) line) d) _ (list_at_bare line
+    (codes "arcs") (arc_of (record { purpose = purpose; mode = front.mode }) line) (arc_of_bare (record { purpose = purpose; mode = front.mode }) line) d)
+    (λ arcs. onward (list_at line (codes "leaders") (leader_of (record { purpose = purpose; mode = front.mode }) line) d) _ (list_at_bare line
+    (codes "leaders") (leader_of (record { purpose = purpose; mode = front.mode }) line) (leader_of_bare
+    (record { purpose = purpose; mode = front.mode }) line) d)
+    (λ leaders. onward (keys_at line (states_keys purpose front.mode) d) _ (keys_at_bare line (states_keys purpose front.mode) d)
+    (λ keys. onward (finish_at line purpose d) _ (finish_at_bare line purpose d)
+    (λ finish. onward (only line (header_fields purpose (states_keys purpose front.mode)) d)
+    _ (only_bare line (header_fields purpose (states_keys purpose front.mode)) d) (λ u. landed _))))))
+
+pub raw_of_bare : (purpose : Purpose) (line : ℕ) (d : Data) → Bare (raw_of purpose line d)
+unfolding raw_of
+raw_of_bare purpose line d =
+    onward (version_at line d) _ (version_at_bare line d)
+    (λ version. onward (mode_at line version d) _ (mode_at_bare line version d)
+    (λ mode. onward (number_at line (codes "start") d) _ (number_at_bare line (codes "start") d)
+    (λ start. onward (number_at line (codes "delta") d) _ (number_at_bare line (codes "delta") d)
+    (λ delta. onward (number_at line (codes "bound") d) _ (number_at_bare line (codes "bound") d) (λ bound. lists_of_bare purpose
+    (record { version = version; mode = mode; start = start; delta = delta; bound = bound }) line d)))))
