@@ -1,0 +1,139 @@
+-- The hashkeys of due unlocks, and the unlocks with them.
+use Rattle.std.proofs.Common.{◌≡◌, ℕ, ◌<◌, Bool, true, false, cond, not, ◌&&◌, List, [], ◌∷◌, ◌++◌, length, Option, Some, None, option_map}
+use Rattle.std.proofs.Common.{refl, sym, ap, ap₂, ◌∙◌, subst, inl, inr, get_or, append-nil}
+use Rattle.std.specs.Prelude.{IsSome}
+use Rattle.std.specs.List.{flat_map, list_all}
+use Rattle.std.proofs.lemmas.List.{length-map}
+use Rattle.swap_base.specs.Lists.{IsIn}
+use Rattle.swap_base.proofs.Lists.{list_all-in}
+use Rattle.swap_digraph.specs.Graph.{leaving}
+use Rattle.swap_digraph.specs.declared.deal.Deal.{Deal}
+use Rattle.swap_digraph.specs.Deal.{leads, IsWellSized}
+use Rattle.hashkey_path.specs.declared.hashkey.Hashkey.{Hashkey}
+use Rattle.ledger_core.specs.declared.entry.Call.TheVariants.{Unlock}
+use Rattle.ledger_core.specs.declared.entry.Entry.{Entry}
+use Rattle.ledger_core.specs.History.{opened}
+use Rattle.ledger_core.specs.Book.{Histories, history, IsLegalBook}
+use Rattle.history_index.specs.Value.{IndexState}
+use Rattle.history_index.specs.Indexes.{entries_in, AreIndexes}
+use Rattle.swap_rules.specs.Party.{is_ready, opens_without}
+use Rattle.swap_rules.specs.Due.{Wallet, Action, due_key, due_unlock_on, extended, has_called, is_unlock_for, may_unlock, presented, when_due}
+use Rattle.swap_laws.proofs.Words.{leaves}
+use Rattle.book_reading.proofs.Openings.{has_lock}
+use Rattle.party_phase_two.specs.declared.unlock_due.Base.{Base}
+use Rattle.party_phase_two.specs.declared.unlock_due.Base.TheVariants.{Signed, Own, Onto}
+use Rattle.party_phase_two.specs.Parts.{due_base}
+use Rattle.party_phase_two.specs.Unlocks.{key_from, seen_on}
+use Rattle.party_phase_two.proofs.Keys.{ComesFrom, comes_from}
+use Rattle.party_machine.specs.Unlocking.{opened_key, CanPutOnto}
+use Rattle.party_machine.proofs.Known.{history_of}
+use Rattle.party_machine.proofs.Onto.{can_put_onto, found}
+
+-- Where a hashkey comes from.
+
+not_signed : (b : Bool) (o : Option ℕ) → cond b (Some Own) (option_map Onto o) ≡ Some Signed → ⊥
+not_signed true o e = cc e
+not_signed false None e = cc e
+not_signed false (Some a) e = cc e
+
+pub is_signed : (d : Deal) (v : ℕ) (s : Option Hashkey) (k : Histories) (i : ℕ) → due_base d v s k i ≡ Some Signed → IsSome s
+unfolding due_base
+is_signed d v None k i e = absurd (not_signed (leads d v i) (seen_on d v k i) e)
+is_signed d v (Some key) k i e = refl
+
+onto_seen : (b : Bool) (o : Option ℕ) (a : ℕ) → cond b (Some Own) (option_map Onto o) ≡ Some (Onto a) → o ≡ Some a
+onto_seen true o a e = absurd (cc e)
+onto_seen false None a e = absurd (cc e)
+onto_seen false (Some c) a e = cc e
+
+pub is_seen : (d : Deal) (v : ℕ) (s : Option Hashkey) (k : Histories) (i a : ℕ) → due_base d v s k i ≡ Some (Onto a) → seen_on d v k i ≡ Some a
+unfolding due_base
+is_seen d v None k i a e = onto_seen (leads d v i) (seen_on d v k i) a e
+is_seen d v (Some key) k i a e = absurd (cc e)
+
+-- One index per arc, of a legal book, in which the party saw an opening of the lock on arc a.
+module _ (d : Deal) (v : ℕ) (s : Option Hashkey) (known : List IndexState) (i a : ℕ) (sized : IsWellSized d) (party : v < d.graph.n)
+    (indexes : AreIndexes d known) (legal : IsLegalBook d (entries_in known)) (base : due_base d v s (entries_in known) i ≡ Some (Onto a)) where
+  seen : seen_on d v (entries_in known) i ≡ Some a
+  seen = is_seen d v s (entries_in known) i a base
+
+  one_each : length known ≡ length d.graph.arcs
+  one_each = sym (length-map known (λ x. x.entries)) ∙ legal.one_each
+
+  pub seen_below : a < length known
+  seen_below =
+      let f = found (λ c. opens_without v (opened (history (entries_in known) c) i)) (leaving d.graph v) a seen in
+      rw one_each (leaves d v a f.0).0
+
+  pub seen_lock : (x : IndexState) → x ≡ get_or known a x → i < length d.leaders → i < length x.terms.locks
+  seen_lock x is lock = has_lock (λ x. x.terms) d known a i x sized indexes.terms seen_below is lock
+
+  pub seen_entries : (x : IndexState) → x ≡ get_or known a x → history (entries_in known) a ≡ x.entries
+  seen_entries x is = history_of known a x seen_below is
+
+  pub seen_onto : (x : IndexState) → x ≡ get_or known a x → CanPutOnto d i (opened_key x.entries i)
+  seen_onto x is =
+      subst (λ (h : List Entry). CanPutOnto d i (opened_key h i)) (seen_entries x is)
+      (can_put_onto d v i a (entries_in known) sized party (λ c lt. legal.legal c (rw legal.one_each lt)) seen)
+
+  pub seen_key : (w : Wallet) (signed : ℕ → Option Hashkey) (x : IndexState) (key : Hashkey) → x ≡ get_or known a x
+      → extended w (opened_key x.entries i) ≡ Some key → key_from w signed (entries_in known) i (Onto a) ≡ Some key
+  seen_key w signed x key is e = ap (λ (h : List Entry). extended w (opened_key h i)) (seen_entries x is) ∙ e
+
+-- the hashkey for the lock is the one that comes from its base
+pub by_base : (d : Deal) (v : ℕ) (w : Wallet) (signed : ℕ → Option Hashkey) (k : Histories) (i : ℕ) (base : Base) (key : Hashkey)
+    → Some base ≡ due_base d v (signed i) k i → key_from w signed k i base ≡ Some key → Some key ≡ due_key d v w (signed i) k i
+by_base d v w signed k i base key e from =
+    let c = subst (λ (o : Option Base). ComesFrom w signed k i o (due_key d v w (signed i) k i)) (sym e) (comes_from d v w signed k i) in
+    sym from ∙ (c.1 ∙ sym c.2)
+
+pub by_none : (d : Deal) (v : ℕ) (w : Wallet) (signed : ℕ → Option Hashkey) (k : Histories) (i : ℕ) → None ≡ due_base d v (signed i) k i
+    → None ≡ due_key d v w (signed i) k i
+by_none d v w signed k i e =
+    sym (subst (λ (o : Option Base). ComesFrom w signed k i o (due_key d v w (signed i) k i)) (sym e) (comes_from d v w signed k i))
+
+-- Unlocks.
+
+pub empty_flat : {A : Type 0} (f : ℕ → List A) (xs : List ℕ) → ((x : ℕ) → IsIn x xs → f x ≡ []) → flat_map f xs ≡ []
+empty_flat f [] h = refl
+empty_flat f (x ∷ xs) h = ap₂ (λ ys zs. ys ++ zs) (h x (inl refl)) (empty_flat f xs (λ y i. h y (inr i)))
+
+none_presented : (b : Bool) (a : ℕ) → cond b (presented a None) [] ≡ []
+none_presented true a = refl
+none_presented false a = refl
+
+none_called : (ready called : Bool) (a : ℕ) (o : Option Hashkey) → called ≡ true → cond (ready && not called) (presented a o) [] ≡ []
+none_called true true a o e = refl
+none_called false true a o e = refl
+none_called ready false a o e = absurd (cc e)
+
+-- none is due where the party made one on each entering arc
+pub all_called : (d : Deal) (v : ℕ) (w : Wallet) (signed : Option Hashkey) (k : Histories) (i : ℕ) (xs : List ℕ)
+    → list_all (λ a. has_called v (is_unlock_for i) (history k a)) xs ≡ true → flat_map (due_unlock_on d v w signed k i) xs ≡ []
+unfolding due_unlock_on
+all_called d v w signed k i xs e =
+    empty_flat (due_unlock_on d v w signed k i) xs (λ a m. none_called (is_ready d k v) (has_called v (is_unlock_for i) (history k a)) a
+    (due_key d v w signed k i) (list_all-in (λ a. has_called v (is_unlock_for i) (history k a)) xs a e m))
+
+-- none is due without a hashkey
+pub without_key : (d : Deal) (v : ℕ) (w : Wallet) (signed : Option Hashkey) (k : Histories) (i : ℕ) (xs : List ℕ) → None ≡ due_key d v w signed k i
+    → flat_map (due_unlock_on d v w signed k i) xs ≡ []
+unfolding due_unlock_on
+without_key d v w signed k i xs e =
+    empty_flat (due_unlock_on d v w signed k i) xs (λ a m. ap (λ o. cond (may_unlock d v k i a) (presented a o) []) (sym e)
+    ∙ none_presented (may_unlock d v k i a) a)
+
+-- with a hashkey each that the ready party didn't make is due
+pub with_key : (d : Deal) (v : ℕ) (w : Wallet) (signed : Option Hashkey) (k : Histories) (i : ℕ) (xs : List ℕ) (key : Hashkey)
+    → Some key ≡ due_key d v w signed k i → is_ready d k v ≡ true
+    → flat_map (λ a. when_due (not (has_called v (is_unlock_for i) (history k a))) a (Unlock key)) xs ≡ flat_map (due_unlock_on d v w signed k i) xs
+unfolding due_unlock_on
+with_key d v w signed k i xs key e ready =
+    ap (λ (f : ℕ → List Action). flat_map f xs) (λ r a. (each a) r)
+  where
+    each : (a : ℕ) → when_due (not (has_called v (is_unlock_for i) (history k a))) a (Unlock key) ≡ due_unlock_on d v w signed k i a
+    each a =
+        ap₂ (λ (b : Bool) (o : Option Hashkey). cond (b && not (has_called v (is_unlock_for i) (history k a))) (presented a o) []) (sym ready) e
+
+pub nothing_more : {A : Type 0} (old new xs : List A) → new ≡ old → xs ≡ [] → new ≡ old ++ xs
+nothing_more old new xs e none = e ∙ (sym (append-nil old) ∙ ap (λ ys. old ++ ys) (sym none))

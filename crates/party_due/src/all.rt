@@ -1,0 +1,47 @@
+//! All that is due.
+
+ghost use Rattle.std.specs.Prelude.{◌≡◌, ◌<◌, IfOk, length};
+ghost use Rattle.swap_digraph.specs.Deal.{IsWellSized};
+ghost use Rattle.ledger_core.specs.Book.{IsLegalBook};
+ghost use Rattle.history_index.specs.Indexes.{entries_in, AreIndexes};
+ghost use Rattle.swap_rules.specs.Due.{due};
+ghost use Rattle.party_wallet.specs.Value.{signed_in};
+ghost use Rattle.party_machine.specs.Wallet.{wallet_of};
+ghost use Rattle.party_due.specs.Actions.{actions};
+
+use crate::due_call::DueCall;
+use crate::publishes::put_publishes;
+use crate::settling::{put_claims, put_refunds};
+use crate::unlocks::put_unlocks;
+use history_index::Index;
+use party_wallet::Signed;
+use std::alloc::Global;
+use swap_base::{Digest, NoMemory, PartyId};
+use swap_digraph::Deal;
+
+/// All calls that are due for the party with that seed, in their order, with the hashkeys that it kept. A hashkey is signed where an unlock with it is due
+/// and none was kept for its lock.
+#[tactic(auto, unfolding(swap_rules::specs::Due::due))]
+pub fn all_due(
+    alloc: Global,
+    deal: &Deal,
+    me: PartyId,
+    seed: &Digest,
+    kept: &Signed,
+    known: &[Index],
+) -> Result<Vec<DueCall>, NoMemory>
+    requires sized { IsWellSized deal.now }
+    requires me { me < deal.now.graph.n }
+    requires known { AreIndexes deal.now known.now }
+    requires legal { IsLegalBook deal.now (entries_in known.now) }
+    requires kept { length kept.now.keys ≡ length deal.now.leaders }
+    ensures due { IfOk result (λ v. actions v.items
+        ≡ due deal.now me (wallet_of seed.now me deal.now) (signed_in kept.now.keys) (entries_in known.now)) }
+{
+    let mut calls = Vec::new(alloc);
+    put_publishes(alloc, deal, me, known, &mut calls)?;
+    put_unlocks(alloc, deal, me, seed, kept, known, &mut calls)?;
+    put_claims(deal, me, known, &mut calls)?;
+    put_refunds(deal, me, known, &mut calls)?;
+    Ok(calls)
+}

@@ -1,0 +1,126 @@
+//! The hashkey of the unlocks for a lock.
+
+ghost use Rattle.std.specs.Prelude.{◌≡◌, ◌<◌, Some, IfOk, IsSome, length};
+ghost use Rattle.swap_digraph.specs.Deal.{IsWellSized};
+ghost use Rattle.ledger_core.specs.Book.{IsLegalBook};
+ghost use Rattle.history_index.specs.Indexes.{entries_in, AreIndexes};
+ghost use Rattle.swap_rules.specs.Due.{due_key, extended};
+ghost use Rattle.party_wallet.specs.Value.{signed_in};
+ghost use Rattle.party_phase_two.specs.Parts.{due_base};
+ghost use Rattle.party_phase_two.specs.Unlocks.{key_from};
+ghost use Rattle.party_machine.specs.Wallet.{wallet_of};
+ghost use Rattle.party_machine.specs.Unlocking.{opened_key, CanPutOnto};
+
+use hashkey_path::Hashkey;
+use history_index::Index;
+use ledger_core::Facts;
+use party_phase_two::{Base, due_base};
+use party_wallet::{Signed, sign_onto_anew, sign_own_anew};
+use std::alloc::Global;
+use swap_base::{Digest, LockId, NoMemory, PartyId, Shared, TryCopy};
+use swap_digraph::Deal;
+
+/// A copy of the hashkey that was kept for the lock.
+fn copy_kept(kept: &Signed, lock: LockId) -> Result<Shared<Hashkey>, NoMemory>
+    requires lock { lock < length kept.now.keys }
+    requires kept { IsSome (signed_in kept.now.keys lock) }
+    ensures { IfOk result (λ k. signed_in kept.now.keys lock ≡ Some k) }
+{
+    match &kept.keys.as_slice()[lock as usize] {
+        Some(key) => key.copy(),
+        None => unreachable!(),
+    }
+}
+
+/// The party's own hashkey.
+fn own_key(
+    alloc: Global,
+    deal: &Deal,
+    me: PartyId,
+    seed: &Digest,
+    lock: LockId,
+) -> Result<Shared<Hashkey>, NoMemory>
+    requires me { me < deal.now.graph.n }
+    ensures { IfOk result (λ k. k ≡ (wallet_of seed.now me deal.now).first lock) }
+{
+    let key = sign_own_anew(alloc, deal, me, seed, lock)?;
+    Shared::new(alloc, key)
+}
+
+/// The party's signature put onto the hashkey that opened the lock there.
+fn put_onto(
+    alloc: Global,
+    deal: &Deal,
+    me: PartyId,
+    seed: &Digest,
+    index: &Index,
+    lock: LockId,
+) -> Result<Shared<Hashkey>, NoMemory>
+    requires me { me < deal.now.graph.n }
+    requires lock { lock < length index.now.terms.locks }
+    requires onto { CanPutOnto deal.now lock (opened_key index.now.entries lock) }
+    ensures { IfOk result (λ k. extended (wallet_of seed.now me deal.now) (opened_key index.now.entries lock) ≡ Some k) }
+{
+    match index.opened_key(lock) {
+        Some(inner) => {
+            let key = sign_onto_anew(alloc, deal, me, seed, inner)?;
+            Shared::new(alloc, key)
+        }
+        None => unreachable!(),
+    }
+}
+
+/// The hashkey that comes from there.
+fn key_from(
+    alloc: Global,
+    deal: &Deal,
+    me: PartyId,
+    seed: &Digest,
+    kept: &Signed,
+    known: &[Index],
+    lock: LockId,
+    base: Base,
+) -> Result<Shared<Hashkey>, NoMemory>
+    requires sized { IsWellSized deal.now }
+    requires me { me < deal.now.graph.n }
+    requires known { AreIndexes deal.now known.now }
+    requires legal { IsLegalBook deal.now (entries_in known.now) }
+    requires lock { lock < length deal.now.leaders }
+    requires kept { length kept.now.keys ≡ length deal.now.leaders }
+    requires base { due_base deal.now me (signed_in kept.now.keys lock) (entries_in known.now) lock ≡ Some base }
+    ensures { IfOk result (λ k. key_from (wallet_of seed.now me deal.now) (signed_in kept.now.keys) (entries_in known.now) lock base ≡ Some k) }
+{
+    match base {
+        Base::Signed => copy_kept(kept, lock),
+        Base::Own => own_key(alloc, deal, me, seed, lock),
+        Base::Onto(arc) => put_onto(alloc, deal, me, seed, &known[arc as usize], lock),
+    }
+}
+
+/// The hashkey of the unlocks for the lock, if there is one: the kept one, else the party's own where it leads the lock, else the one that it makes of a
+/// hashkey that it saw.
+pub(crate) fn due_key(
+    alloc: Global,
+    deal: &Deal,
+    me: PartyId,
+    seed: &Digest,
+    kept: &Signed,
+    known: &[Index],
+    lock: LockId,
+) -> Result<Option<Shared<Hashkey>>, NoMemory>
+    requires sized { IsWellSized deal.now }
+    requires me { me < deal.now.graph.n }
+    requires known { AreIndexes deal.now known.now }
+    requires legal { IsLegalBook deal.now (entries_in known.now) }
+    requires lock { lock < length deal.now.leaders }
+    requires kept { length kept.now.keys ≡ length deal.now.leaders }
+    ensures { IfOk result (λ o. o ≡ due_key deal.now me (wallet_of seed.now me deal.now) (signed_in kept.now.keys lock) (entries_in known.now) lock) }
+{
+    match due_base(deal, me, known, kept, lock) {
+        Some(base) => {
+            let key = key_from(alloc, deal, me, seed, kept, known, lock, base)?;
+            Ok(Some(key))
+        }
+        None => Ok(None),
+    }
+}

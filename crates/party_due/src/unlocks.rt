@@ -1,0 +1,140 @@
+//! The unlocks that are due.
+
+ghost use Rattle.std.specs.Prelude.{◌≡◌, ◌<◌, ◌++◌, true, not, Some, OnOk, length, option_copied};
+ghost use Rattle.std.specs.List.{flat_map, list_all};
+ghost use Rattle.swap_digraph.specs.Graph.{entering};
+ghost use Rattle.swap_digraph.specs.Deal.{IsWellSized};
+ghost use Rattle.ledger_core.specs.declared.entry.Call.TheVariants.{Unlock};
+ghost use Rattle.ledger_core.specs.Book.{history, IsLegalBook};
+ghost use Rattle.history_index.specs.Indexes.{entries_in, AreIndexes};
+ghost use Rattle.swap_rules.specs.Party.{is_ready};
+ghost use Rattle.swap_rules.specs.Due.{due_key, due_unlock_on, due_unlocks, has_called, is_unlock_for, when_due};
+ghost use Rattle.party_wallet.specs.Value.{signed_in};
+ghost use Rattle.party_machine.specs.Wallet.{wallet_of};
+ghost use Rattle.party_due.specs.Actions.{actions};
+
+use crate::due_call::{DueCall, put_when};
+use crate::due_key::due_key;
+use book_reading::is_ready;
+use hashkey_path::Hashkey;
+use history_index::Index;
+use ledger_core::{Call, CallKind, Facts};
+use party_wallet::Signed;
+use std::alloc::Global;
+use swap_base::{ArcId, Digest, LockId, NoMemory, PartyId, Shared, TryCopy};
+use swap_digraph::Deal;
+
+/// Whether the party made an unlock for the lock on the arc, whatever the reply.
+fn has_unlocked(me: PartyId, known: &[Index], lock: LockId, arc: ArcId) -> bool
+    ensures { result ≡ has_called me (is_unlock_for lock) (history (entries_in known.now) arc) }
+{
+    match known.get(arc as usize) {
+        Some(index) => index.called(me, CallKind::Unlock(lock)),
+        None => false,
+    }
+}
+
+/// Whether the party made an unlock for the lock on each entering arc.
+fn has_unlocked_all(deal: &Deal, me: PartyId, known: &[Index], lock: LockId) -> bool
+    requires me { me < deal.now.graph.n }
+    ensures { result ≡ list_all (λ a. has_called me (is_unlock_for lock) (history (entries_in known.now) a)) (entering deal.now.graph me) }
+{
+    deal.graph
+        .entering(me)
+        .iter()
+        .all(|arc| has_unlocked(me, known, lock, *arc))
+}
+
+/// Adds the unlock on the arc with the hashkey, where the party made none for the lock there.
+fn put_unlock(
+    me: PartyId,
+    known: &[Index],
+    lock: LockId,
+    key: &Shared<Hashkey>,
+    arc: ArcId,
+    calls: &mut Vec<DueCall>,
+) -> Result<(), NoMemory>
+    ensures { OnOk result (actions calls.new.items ≡ actions calls.old.items
+        ++ when_due (not (has_called me (is_unlock_for lock) (history (entries_in known.now) arc))) arc (Unlock key.now)) }
+{
+    let test = !has_unlocked(me, known, lock, arc);
+    put_when(calls, test, arc, Call::Unlock(key.copy()?))
+}
+
+/// Adds the unlocks for the lock with the hashkey, by entering arc.
+fn put_unlocks_with(
+    deal: &Deal,
+    me: PartyId,
+    known: &[Index],
+    lock: LockId,
+    key: &Shared<Hashkey>,
+    calls: &mut Vec<DueCall>,
+) -> Result<(), NoMemory>
+    requires me { me < deal.now.graph.n }
+    ensures { OnOk result (actions calls.new.items ≡ actions calls.old.items
+        ++ flat_map (λ a. when_due (not (has_called me (is_unlock_for lock) (history (entries_in known.now) a))) a (Unlock key.now))
+        (entering deal.now.graph me)) }
+{
+    'arcs: for arc in deal.graph.entering(me) {
+        put_unlock(me, known, lock, key, *arc, calls)?;
+    }
+    Ok(())
+}
+
+/// Adds the unlocks for the lock that are due where the party is ready. Nothing is signed where there is none.
+fn put_unlocks_for(
+    alloc: Global,
+    deal: &Deal,
+    me: PartyId,
+    seed: &Digest,
+    kept: &Signed,
+    known: &[Index],
+    lock: LockId,
+    calls: &mut Vec<DueCall>,
+) -> Result<(), NoMemory>
+    requires sized { IsWellSized deal.now }
+    requires me { me < deal.now.graph.n }
+    requires known { AreIndexes deal.now known.now }
+    requires legal { IsLegalBook deal.now (entries_in known.now) }
+    requires lock { lock < length deal.now.leaders }
+    requires kept { length kept.now.keys ≡ length deal.now.leaders }
+    requires ready { is_ready deal.now (entries_in known.now) me ≡ true }
+    ensures { OnOk result (actions calls.new.items ≡ actions calls.old.items
+        ++ flat_map (due_unlock_on deal.now me (wallet_of seed.now me deal.now) (signed_in kept.now.keys lock) (entries_in known.now) lock)
+        (entering deal.now.graph me)) }
+{
+    if has_unlocked_all(deal, me, known, lock) {
+        return Ok(());
+    }
+    match due_key(alloc, deal, me, seed, kept, known, lock)? {
+        Some(key) => put_unlocks_with(deal, me, known, lock, &key, calls),
+        None => Ok(()),
+    }
+}
+
+/// Adds the unlocks that are due, by lock and entering arc.
+pub(crate) fn put_unlocks(
+    alloc: Global,
+    deal: &Deal,
+    me: PartyId,
+    seed: &Digest,
+    kept: &Signed,
+    known: &[Index],
+    calls: &mut Vec<DueCall>,
+) -> Result<(), NoMemory>
+    requires sized { IsWellSized deal.now }
+    requires me { me < deal.now.graph.n }
+    requires known { AreIndexes deal.now known.now }
+    requires legal { IsLegalBook deal.now (entries_in known.now) }
+    requires kept { length kept.now.keys ≡ length deal.now.leaders }
+    ensures { OnOk result (actions calls.new.items ≡ actions calls.old.items
+        ++ due_unlocks deal.now me (wallet_of seed.now me deal.now) (signed_in kept.now.keys) (entries_in known.now)) }
+{
+    if !is_ready(deal, me, known) {
+        return Ok(());
+    }
+    for lock in 0..deal.leaders.len() as u8 {
+        put_unlocks_for(alloc, deal, me, seed, kept, known, lock, calls)?;
+    }
+    Ok(())
+}

@@ -1,0 +1,59 @@
+-- What a wallet's notes come to for a party of a deal.
+use Rattle.std.specs.Prelude.{ℕ, Bool, true, false, ◌&&◌, nat_lt, List, [], ◌∷◌, ◌++◌, length, replicate, slice_set, Option, Some, None, is_none}
+use Rattle.std.specs.Prelude.{Result, Ok, Err, if◌then◌else◌}
+use Rattle.swap_base.specs.Fault.{◌>>=◌}
+use Rattle.swap_digraph.specs.Graph.{entering, leaving, is_among}
+use Rattle.swap_digraph.specs.declared.deal.Deal.{Deal}
+use Rattle.swap_digraph.specs.Deal.{hashlock_of}
+use Rattle.hashkey_path.specs.declared.hashkey.Hashkey.{Hashkey}
+use Rattle.hashkey_path.specs.declared.hashkey.HashkeyAnswer.{HashkeyAnswer}
+use Rattle.hashkey_path.specs.declared.hashkey.HashkeyAnswer.TheVariants.{Valid}
+use Rattle.hashkey_path.specs.Hashkey.{answer_of}
+use Rattle.refusals.specs.declared.reason.Reason.{Reason}
+use Rattle.refusals.specs.declared.reason.Reason.TheVariants.{BadLine}
+use Rattle.party_wallet.specs.Value.{signed_in}
+use Rattle.party_notes.specs.declared.note.Note.{Note}
+use Rattle.party_notes.specs.declared.note.Note.TheVariants.{Keep, Sent}
+use Rattle.party_notes.specs.Notes.{next_number}
+
+-- What was kept and sent.
+pub record KeptState : Type 0 where
+  -- for each lock the hashkey that was kept, if any
+  pub keys : List (Option Hashkey)
+  -- the arcs on which a publish was sent
+  pub sent : List ℕ
+
+abbrev pub nothing_kept : Deal → KeptState
+nothing_kept d = record { keys = replicate (length d.leaders) None; sent = [] }
+
+abbrev pub is_valid_answer : HashkeyAnswer → Bool
+is_valid_answer Valid = true
+is_valid_answer _ = false
+
+-- whether the hashkey opens its lock on arc a
+abbrev pub opens_on : Deal → ℕ → Hashkey → Bool
+opens_on d a key = is_valid_answer (answer_of d a (hashlock_of d key.lock) key)
+
+-- whether the hashkey opens its lock on the first of these arcs; that of a line that was torn doesn't
+abbrev pub opens_first : Deal → List ℕ → Hashkey → Bool
+opens_first d [] key = false
+opens_first d (a ∷ arcs) key = opens_on d a key
+
+-- whether v may have kept the hashkey: it is for a lock of the deal for which none was kept, and opens it on the arcs that enter v
+abbrev pub may_be_kept : Deal → ℕ → List (Option Hashkey) → Hashkey → Bool
+may_be_kept d v keys key = nat_lt key.lock (length d.leaders) && is_none (signed_in keys key.lock) && opens_first d (entering d.graph v) key
+
+-- with the note of line n
+abbrev pub with_note : Deal → ℕ → ℕ → KeptState → Note → Result KeptState Reason
+with_note d v n k (Keep key) =
+    if may_be_kept d v k.keys key then Ok (record { keys = slice_set k.keys key.lock (Some key); sent = k.sent }) else Err (BadLine n)
+with_note d v n k (Sent a) = if is_among a (leaving d.graph v) then Ok (record { keys = k.keys; sent = k.sent ++ a ∷ [] }) else Err (BadLine n)
+
+-- with these notes, the first of which is line n
+abbrev pub with_notes : Deal → ℕ → ℕ → KeptState → List Note → Result KeptState Reason
+with_notes d v n k [] = Ok k
+with_notes d v n k (x ∷ xs) = with_note d v n k x >>= λ next. with_notes d v (next_number n) next xs
+
+-- what the notes come to, the first of which is line n
+unfoldable pub kept_of : Deal → ℕ → ℕ → List Note → Result KeptState Reason
+kept_of d v n notes = with_notes d v n (nothing_kept d) notes

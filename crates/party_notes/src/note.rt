@@ -1,0 +1,94 @@
+//! A line that a wallet wrote down.
+
+ghost use Rattle.swap_base.specs.Fault.{Gives};
+ghost use Rattle.transcript_lines.specs.Reading.{field_of, number_below};
+ghost use Rattle.transcript_fields.specs.Taking.{Takes};
+ghost use Rattle.party_notes.specs.Notes.{keep_of, keep_said, note_of, said_by, sent_said, words_noted};
+
+use hashkey_path::Hashkey;
+use ledger_core::Call;
+use std::alloc::Global;
+use swap_base::{ArcId, Shared};
+use transcript_fields::{Parts, WordFault, key_of, misspelt, nothing_more, number_of, word};
+
+/// A line that a wallet wrote down.
+#[derive(Debug, Drop)]
+pub enum Note {
+    /// A hashkey that it kept: `keep LOCK SECRET PATH SIGS`.
+    Keep(Shared<Hashkey>),
+    /// A publish on that arc was sent: `sent ARC`.
+    Sent(ArcId),
+}
+
+fn keep_of(call: Call) -> Result<Option<Note>, WordFault>
+    ensures { Gives (λ o. o) result (keep_of call) }
+{
+    match call {
+        Call::Unlock(key) => Ok(Some(Note::Keep(key))),
+        _ => Err(misspelt()),
+    }
+}
+
+#[tactic(auto, unfolding(crate::specs::Notes::keep_said))]
+fn keep_said(alloc: Global, fields: &mut Parts<'_>) -> Result<Option<Note>, WordFault>
+    ensures { Gives (λ o. o) result (keep_said fields.old) }
+{
+    let call = key_of(alloc, fields)?;
+    nothing_more(fields)?;
+    keep_of(call)
+}
+
+fn arc_of(word: &[u8]) -> Result<ArcId, WordFault>
+    ensures { Gives (λ a. a) result (number_below 256 word.now) }
+{
+    let arc = number_of(word)?;
+    if arc < 256 {
+        Ok(arc as ArcId)
+    } else {
+        Err(misspelt())
+    }
+}
+
+#[tactic(auto, unfolding(transcript_lines::specs::Reading::field_of))]
+fn arc_field(fields: &mut Parts<'_>) -> Result<ArcId, WordFault>
+    ensures { Takes (λ a. a) result fields.new (field_of (number_below 256) fields.old) }
+{
+    arc_of(word(fields)?)
+}
+
+#[tactic(auto, unfolding(crate::specs::Notes::sent_said))]
+fn sent_said(fields: &mut Parts<'_>) -> Result<Option<Note>, WordFault>
+    ensures { Gives (λ o. o) result (sent_said fields.old) }
+{
+    let arc = arc_field(fields)?;
+    nothing_more(fields)?;
+    Ok(Some(Note::Sent(arc)))
+}
+
+fn said_by(alloc: Global, first: &[u8], fields: &mut Parts<'_>) -> Result<Option<Note>, WordFault>
+    ensures { Gives (λ o. o) result (said_by first.now fields.old) }
+{
+    if first == b"keep".as_slice() {
+        keep_said(alloc, fields)
+    } else if first == b"sent".as_slice() {
+        sent_said(fields)
+    } else {
+        Ok(None)
+    }
+}
+
+#[tactic(auto, unfolding(crate::specs::Notes::words_noted))]
+fn words_noted(alloc: Global, fields: &mut Parts<'_>) -> Result<Option<Note>, WordFault>
+    ensures { Gives (λ o. o) result (words_noted fields.old) }
+{
+    let first = word(fields)?;
+    said_by(alloc, first, fields)
+}
+
+/// What a line notes, none where it begins with neither word.
+#[tactic(auto, unfolding(crate::specs::Notes::note_of))]
+pub(crate) fn read_note(alloc: Global, line: &[u8]) -> Result<Option<Note>, WordFault>
+    ensures { Gives (λ o. o) result (note_of line.now) }
+{
+    words_noted(alloc, &mut Parts::new(b' ', line))
+}
