@@ -1,9 +1,6 @@
 -- A wallet into which recorded hashkeys are put, lock by lock.
-use Rattle.std.proofs.Common.{◌≡◌, ℕ, zero, suc, ◌+◌, ◌<◌, ◌≤◌, List, [], ◌∷◌, ◌++◌, length, take, drop, get_or, replicate, slice_set, Option, Some, None, refl, sym, ap, ◌∙◌, subst, arith}
-use Rattle.std.proofs.lemmas.List.{take_all}
+use Rattle.std.proofs.Common.{◌≡◌, ℕ, zero, suc, ◌<◌, ◌≤◌, List, [], ◌∷◌, length, get_or, replicate, slice_set, Option, Some, None, refl, ap, arith}
 use Rattle.hashkey_path.specs.declared.hashkey.Hashkey.{Hashkey}
-use Rattle.party_wallet.specs.Value.{WalletState}
-use Rattle.party_wallet.specs.Keys.{with_signed, with_recorded}
 
 -- the first n of the recorded ones, and none for the others
 abbrev pub so_far : List (Option Hashkey) → ℕ → List (Option Hashkey)
@@ -20,7 +17,8 @@ all_there [] n le = refl
 all_there (x ∷ xs) zero le = absurd (omega (arith, le))
 all_there (x ∷ xs) (suc n) le = ap (λ (l : List (Option Hashkey)). x ∷ l) (all_there xs n (omega (arith, le)))
 
-pub one_more : (xs : List (Option Hashkey)) (n : ℕ) (k : Hashkey) → n < length xs → Some k ≡ get_or xs n None → slice_set (so_far xs n) n (Some k) ≡ so_far xs (suc n)
+pub one_more : (xs : List (Option Hashkey)) (n : ℕ) (k : Hashkey) → n < length xs → Some k ≡ get_or xs n None
+    → slice_set (so_far xs n) n (Some k) ≡ so_far xs (suc n)
 one_more [] n k lt is = absurd (omega (arith, lt))
 one_more (x ∷ xs) zero k lt is = ap (λ (y : Option Hashkey). y ∷ so_far xs 0) is
 one_more (x ∷ xs) (suc n) k lt is = ap (λ (l : List (Option Hashkey)). x ∷ l) (one_more xs n k (omega (arith, lt)) is)

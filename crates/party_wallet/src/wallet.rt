@@ -6,6 +6,7 @@ ghost use Rattle.swap_digraph.specs.Deal.{IsWellSized};
 ghost use Rattle.swap_digraph.specs.Deal.{path_limit};
 ghost use Rattle.party_wallet.specs.Value.{signed_in};
 ghost use Rattle.party_wallet.specs.Fits.{wrong_lock};
+ghost use Rattle.party_wallet.specs.Inside.{key_held};
 ghost use Rattle.party_wallet.specs.Keys.{empty_wallet, new_wallet, public_for, unspent, own_key, onto_key, with_recorded, with_signed};
 
 use crate::fitting::fits_lock;
@@ -26,7 +27,8 @@ pub struct Wallet {
     mode: Mode,
     seed: Digest,
     party: PartyId,
-    keys: Vec<Option<WalletKey>>,
+    /// A key and its room, which is let go once the key is spent.
+    keys: Vec<Option<Box<Option<WalletKey>>>>,
     signed: Signed,
 }
 
@@ -48,12 +50,13 @@ fn keys_of(
     seed: &Digest,
     party: PartyId,
     locks: u8,
-) -> Result<Vec<Option<WalletKey>>, NoMemory>
-    ensures { IfOk result (λ v. v.items ≡ map (unspent mode seed.now party) (range_with_len 0 locks)) }
+) -> Result<Vec<Option<Box<Option<WalletKey>>>>, NoMemory>
+    ensures { IfOk result (λ v. map key_held v.items ≡ map (λ i. Some (unspent mode seed.now party i)) (range_with_len 0 locks)) }
 {
     let mut keys = Vec::new(alloc);
     'locks: for lock in 0..locks {
-        keys.push(unspent(mode, seed, party, lock))?;
+        let slot = Box::new(alloc, unspent(mode, seed, party, lock))?;
+        keys.push(Some(slot))?;
     }
     Ok(keys)
 }
@@ -169,13 +172,10 @@ impl Wallet {
     {
         let count = deal.leaders.len() as u8;
         'locks: for lock in 0..count {
-            if !fits_lock(
-                deal,
-                self.party,
-                &self.seed,
-                lock,
-                &self.keys[lock as usize],
-            ) {
+            let Some(slot) = &self.keys[lock as usize] else {
+                unreachable!();
+            };
+            if !fits_lock(deal, self.party, &self.seed, lock, &**slot) {
                 return Some(lock);
             }
         }
@@ -188,7 +188,10 @@ impl Wallet {
         requires unsigned { signed_in self.now.signed lock ≡ None }
         ensures { result ≡ public_for self.now.mode self.now.seed self.now.party lock }
     {
-        match &self.keys[lock as usize] {
+        let Some(slot) = &self.keys[lock as usize] else {
+            unreachable!();
+        };
+        match &**slot {
             Some(key) => Some(key.public),
             None => None,
         }
@@ -242,16 +245,19 @@ impl Wallet {
         ensures kept { IfOk result (λ k. self.new ≡ with_signed self.old lock k) }
         ensures err { OnErr result (self.new ≡ self.old) }
     {
-        let slot = &mut self.keys[lock as usize];
-        let made = own_hashkey(alloc, deal, self.party, &self.seed, lock, slot)?;
+        let Some(slot) = &mut self.keys[lock as usize] else {
+            unreachable!();
+        };
+        let made = own_hashkey(alloc, deal, self.party, &self.seed, lock, &mut **slot)?;
         match held_twice(alloc, made) {
             Ok((kept, answer)) => {
+                self.keys[lock as usize] = None;
                 keep(&mut self.signed, alloc, lock, kept);
                 Ok(answer)
             }
             Err(_) => {
                 // What the key signed was shown to nobody, and is gone.
-                self.keys[lock as usize] = unspent(self.mode, &self.seed, self.party, lock);
+                **slot = unspent(self.mode, &self.seed, self.party, lock);
                 Err(NoMemory)
             }
         }
@@ -274,18 +280,19 @@ impl Wallet {
         ensures kept { IfOk result (λ k. self.new ≡ with_signed self.old inner.now.lock k) }
         ensures err { OnErr result (self.new ≡ self.old) }
     {
-        let slot = &mut self.keys[inner.lock as usize];
-        let made = onto_hashkey(alloc, deal, self.party, inner, slot)?;
+        let Some(slot) = &mut self.keys[inner.lock as usize] else {
+            unreachable!();
+        };
+        let made = onto_hashkey(alloc, deal, self.party, inner, &mut **slot)?;
         match held_twice(alloc, made) {
             Ok((kept, answer)) => {
+                self.keys[inner.lock as usize] = None;
                 keep(&mut self.signed, alloc, inner.lock, kept);
                 Ok(answer)
             }
             Err(_) => {
                 // What the key signed was shown to nobody, and is gone.
-                self.keys[inner.lock as usize] = unspent(
-                    self.mode, &self.seed, self.party, inner.lock,
-                );
+                **slot = unspent(self.mode, &self.seed, self.party, inner.lock);
                 Err(NoMemory)
             }
         }

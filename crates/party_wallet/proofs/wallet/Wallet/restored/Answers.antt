@@ -2,7 +2,7 @@ use Rattle.std.proofs.Common.{◌≡◌, ℕ, suc, ◌+◌, length, replicate, O
 use Rattle.hashkey_path.specs.declared.hashkey.Hashkey.{Hashkey}
 use Rattle.party_wallet.specs.Value.{WalletState}
 use Rattle.party_wallet.specs.Keys.{with_recorded, with_signed}
-use Rattle.party_wallet.proofs.Restored.{any_default, so_far, none_yet, all_there, one_more, none_more, long_as}
+use Rattle.party_wallet.proofs.Restored.{any_default, so_far, none_yet, all_there, one_more, long_as}
 use Rattle.party_wallet.proofs.wallet.Wallet.restored.Goals as goal
 
 pub locks-init : goal.locks-init
