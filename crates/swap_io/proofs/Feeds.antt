@@ -64,6 +64,10 @@ took_on a b c s t u xs ys p q = record {
 pub took_same : (a b : Option (List ℕ)) (s t u : Reading) (xs : List ℕ) → Took a b s t xs → u.taken ≡ t.taken → u.limit ≡ t.limit → Took a b s u xs
 took_same a b s t u xs p taken limit = record { consumed = p.consumed; counted = taken ∙ p.counted; limit = limit ∙ p.limit }
 
+-- an answer that is no fault of reading, and no call that failed
+pub calm_after : {T E : Type 0} (x : T) (e : E) (n m : ℕ) → (¬ ◌≡◌ {A = Result T E} (Ok x) (Err e) → m ≡ n) → m ≡ n
+calm_after x e n m h = h (λ is. absurd (cc is))
+
 -- no more was taken than may be
 pub not_past : {T E : Type 0} (x : T) (e : E) (limit taken : ℕ) → (◌≡◌ {A = Result T E} (Ok x) (Err e) ↔ (limit < taken)) → taken ≤ limit
 not_past x e limit taken h =

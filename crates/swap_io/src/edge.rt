@@ -1,7 +1,6 @@
-//! std's reader and writer as a source and a sink, which tell nothing of content. Where the reader or writer itself tells some, each call's own clause
-//! passes it on.
+//! std's reader and writer as a source and a sink, which tell their bytes as far as the reader or the writer does.
 
-ghost use Rattle.std.specs.Prelude.{◌≡◌, ◌<◌, length, None, IfOk, MatchResult};
+ghost use Rattle.std.specs.Prelude.{◌≡◌, ◌<◌, ◌↔◌, [], length, IfOk, IfSome, OnOk, MatchResult};
 ghost use Rattle.std.specs.Io.{ReadsAtMost, WritesAtMost};
 ghost use Rattle.std.specs.Io.KnownBytes.{ReadConsumes, WriteAppends};
 ghost use Rattle.swap_io.specs.Causes.{next_count, HasCause};
@@ -35,19 +34,20 @@ impl<R: Read> ReaderSource<R> {
 }
 
 impl<R: Read> Source for ReaderSource<R> {
-    ghost left = { λ _. None };
+    ghost left = { λ s. R.remaining s.inner };
 
     ghost faults = { λ s. s.faults };
 
     fn read(&mut self, buf: &mut [u8]) -> Result<usize, Failed>
         requires room { 0 < length buf.old }
         ensures bound { ReadsAtMost result buf.new }
-        ensures bytes { ReadConsumes None None result buf.new }
-        ensures cause { HasCause self.old.faults self.new.faults result }
-
-        // What the reader did, and the exact count.
-        ensures inner { ReadConsumes (R.remaining self.old.inner) (R.remaining self.new.inner)
+        ensures bytes { ReadConsumes (R.remaining self.old.inner) (R.remaining self.new.inner)
             result buf.new }
+        ensures end { IfOk result (λ n. IfSome (R.remaining self.old.inner) (λ xs. (n ≡ 0) ↔ (xs ≡ []))) }
+        ensures cause { HasCause self.old.faults self.new.faults result }
+        ensures calm { OnOk result (self.new.faults ≡ self.old.faults) }
+
+        // The exact count.
         ensures counts { MatchResult result (λ _. self.new.faults ≡ self.old.faults)
             (λ _. self.new.faults ≡ next_count self.old.faults) }
     {
@@ -83,19 +83,18 @@ impl<W: Write> WriterSink<W> {
 }
 
 impl<W: Write> Sink for WriterSink<W> {
-    ghost taken = { λ _. None };
+    ghost taken = { λ s. W.contents s.inner };
 
     ghost faults = { λ s. s.faults };
 
     fn write(&mut self, bytes: &[u8]) -> Result<usize, Failed>
         ensures bound { WritesAtMost result bytes.now }
         ensures some { IfOk result (λ n. 0 < length bytes.now → 0 < n) }
-        ensures bytes { WriteAppends None None result bytes.now }
+        ensures bytes { WriteAppends (W.contents self.old.inner) (W.contents self.new.inner)
+            result bytes.now }
         ensures cause { HasCause self.old.faults self.new.faults result }
 
-        // What the writer did, and the exact count.
-        ensures inner { WriteAppends (W.contents self.old.inner) (W.contents self.new.inner)
-            result bytes.now }
+        // The exact count.
         ensures counts { MatchResult result (λ _. self.new.faults ≡ self.old.faults)
             (λ _. self.new.faults ≡ next_count self.old.faults) }
     {

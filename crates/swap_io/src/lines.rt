@@ -89,6 +89,7 @@ impl Lines {
         ensures too_long { IsErrOf result DrainFault.TooLong ↔ (self.new.limit < self.new.taken) }
         ensures later { S.faults source.old ≤ S.faults source.new }
         ensures failed { IsErrOf result DrainFault.ReadFault → Rose (S.faults source.old) (S.faults source.new) }
+        ensures calm { ¬ IsErrOf result DrainFault.ReadFault → S.faults source.new ≡ S.faults source.old }
         ensures kept { self.new.kept ≡ self.old.kept }
         ensures most { self.new.taken ≤ self.new.limit + 1 }
     {
@@ -132,6 +133,7 @@ impl Lines {
         ensures too_long { IsErrOf result LineFault.TooLong ↔ (self.new.limit < self.new.taken) }
         ensures later { S.faults source.old ≤ S.faults source.new }
         ensures failed { IsErrOf result LineFault.ReadFault → Rose (S.faults source.old) (S.faults source.new) }
+        ensures calm { ¬ IsErrOf result LineFault.ReadFault → S.faults source.new ≡ S.faults source.old }
         ensures few { length self.new.kept ≤ 8192 }
         ensures most { self.new.taken ≤ self.new.limit + 1 }
     {
@@ -201,6 +203,7 @@ impl Lines {
         ensures too_long { IsErrOf result LineFault.TooLong ↔ (self.new.limit < self.new.taken) }
         ensures later { S.faults source.old ≤ S.faults source.new }
         ensures failed { IsErrOf result LineFault.ReadFault → Rose (S.faults source.old) (S.faults source.new) }
+        ensures calm { ¬ IsErrOf result LineFault.ReadFault → S.faults source.new ≡ S.faults source.old }
     {
         if self.is_past() {
             return Err(LineFault::TooLong);
@@ -227,6 +230,7 @@ impl Lines {
         ensures too_long { IsErrOf result DrainFault.TooLong ↔ (self.new.limit < self.new.taken) }
         ensures later { S.faults source.old ≤ S.faults source.new }
         ensures failed { IsErrOf result DrainFault.ReadFault → Rose (S.faults source.old) (S.faults source.new) }
+        ensures calm { ¬ IsErrOf result DrainFault.ReadFault → S.faults source.new ≡ S.faults source.old }
     {
         self.buffer.clear();
         self.at = 0;

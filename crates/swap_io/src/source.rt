@@ -22,7 +22,8 @@ pub trait Source {
         ensures bound { ReadsAtMost result buf.new }
         ensures bytes { ReadConsumes (left self.old) (left self.new) result buf.new }
         ensures end { IfOk result (λ n. IfSome (left self.old) (λ xs. (n ≡ 0) ↔ (xs ≡ []))) }
-        ensures cause { HasCause (faults self.old) (faults self.new) result };
+        ensures cause { HasCause (faults self.old) (faults self.new) result }
+        ensures calm { OnOk result (faults self.new ≡ faults self.old) };
 }
 
 const CHUNK: usize = 4096;
@@ -48,6 +49,7 @@ pub fn read_all<S: Source>(
     ensures later { S.faults source.old ≤ S.faults source.new }
     ensures failed { IsErrOf result ReadAllFault.ReadFault
         → Rose (S.faults source.old) (S.faults source.new) }
+    ensures calm { ¬ IsErrOf result ReadAllFault.ReadFault → S.faults source.new ≡ S.faults source.old }
 
     // The answer to an input that the source tells, where no call fails.
     ensures short { (xs : List ℕ) → S.left source.old ≡ Some xs → length xs ≤ limit

@@ -1,5 +1,5 @@
 use Rattle.std.proofs.Common.{◌++◌, ◌∙◌, arith}
-use Rattle.swap_io.proofs.Feeds.{not_past, took_on}
+use Rattle.swap_io.proofs.Feeds.{calm_after, not_past, took_on}
 use Rattle.swap_io.proofs.lines.Lines.drain.Goals as goal
 
 pub returns-in_err-pull-clause-takes : goal.returns-in_err-pull-clause-takes
@@ -15,6 +15,7 @@ rest-preserved g c =
       kept = c.pull.ensures.kept ∙ c.rest.invariant.kept;
       within = not_past _ _ _ _ c.in_ok-pull.ensures.too_long;
       later = omega (arith, c.pull.ensures.later);
+      calm = calm_after _ _ _ _ c.in_ok-pull.ensures.calm ∙ c.rest.invariant.calm;
     }
 
 pub returns-in_err-pull-clause-kept : goal.returns-in_err-pull-clause-kept

@@ -8,6 +8,7 @@ invariant-rest g l = record {
   kept : l.self.kept ≡ [];
   within : l.self.taken ≤ l.self.limit;
   later : g.S.Source.faults l.fn.source ≤ g.S.Source.faults l.source;
+  calm : g.S.Source.faults l.source ≡ g.S.Source.faults l.fn.source;
 }
 
 abbrev pub decreases-rest : goal.decreases-rest

@@ -1,6 +1,6 @@
-use Rattle.std.proofs.Common.{◌++◌, ◌<◌, [], length, arith, refl}
+use Rattle.std.proofs.Common.{◌++◌, ◌<◌, ◌∙◌, [], length, arith, refl}
 use Rattle.std.proofs.lemmas.Grind.{common_steps}
-use Rattle.swap_io.proofs.Feeds.{is_ended, is_rest, more_taken, not_past, still_lacks, took_none, took_on, took_same}
+use Rattle.swap_io.proofs.Feeds.{calm_after, is_ended, is_rest, more_taken, not_past, still_lacks, took_none, took_on, took_same}
 use Rattle.swap_io.proofs.lines.Lines.next.Goals as goal
 
 -- More bytes than may be were taken before.
@@ -130,6 +130,7 @@ parts-preserved g c =
       few = c.fill.ensures.few;
       within = not_past _ _ _ _ c.in_ok-fill.ensures.too_long;
       later = omega (arith, c.fill.ensures.later);
+      calm = calm_after _ _ _ _ c.in_ok-fill.ensures.calm ∙ c.parts.invariant.calm;
     }
 
 -- A line feed ended the line.

@@ -11,6 +11,7 @@ invariant-parts g l = record {
   few : length l.self.kept ≤ 8192;
   within : l.self.taken ≤ l.self.limit;
   later : g.S.Source.faults l.fn.source ≤ g.S.Source.faults l.source;
+  calm : g.S.Source.faults l.source ≡ g.S.Source.faults l.fn.source;
 }
 
 abbrev pub decreases-parts : goal.decreases-parts
