@@ -13,3 +13,5 @@ mod ledgers;
 mod random;
 #[cfg(test)]
 mod replies;
+#[cfg(test)]
+mod resumed;

@@ -1,7 +1,7 @@
 -- What is recorded before a call is answered, and what stays.
 use Rattle.std.proofs.Common.{◌≡◌, ◌⊎◌, ℕ, zero, suc, ◌<◌, ◌≤◌, Bool, cond, List, [], ◌∷◌, length, set, Option, Some, None, is_some, option_map}
-use Rattle.std.proofs.Common.{refl, sym, ap, ◌∙◌, subst, inl, inr, arith, eq-eqb}
-use Rattle.std.proofs.lemmas.List.{length-set}
+use Rattle.std.proofs.Common.{Result, Ok, Err, IfErr, refl, sym, ap, ◌∙◌, subst, inl, inr, arith, eq-eqb}
+use Rattle.std.proofs.lemmas.List.{length-set, get_or-set_same}
 use Rattle.std.proofs.lemmas.Option.{same_Some}
 use Rattle.swap_digraph.specs.declared.deal.Deal.{Deal}
 use Rattle.swap_digraph.specs.declared.deal.Version.{Version}
@@ -20,6 +20,11 @@ use Rattle.party_machine.specs.Machine.{MachineState, action_of, next_of, noted_
 use Rattle.party_machine.specs.Recording.{unsigned_key, new_key, signs_next, MayHave, IsCallPlaced, IsPlaced, IsCallRecorded, IsRecorded}
 use Rattle.party_machine.proofs.Signed.{set_again, is_noted}
 use Rattle.party_machine.proofs.Whole.{fresh}
+
+-- what holds of each fault
+pub of_any : {A E : Type 0} {P : E → Type 0} (r : Result A E) → ((e : E) → P e) → IfErr r P
+of_any (Ok x) f = tt
+of_any (Err e) f = f e
 
 -- where a list has something, there is a place
 pub below : (xs : List (Option Hashkey)) (i : ℕ) (k : Hashkey) → signed_in xs i ≡ Some k → i < length xs
@@ -140,6 +145,12 @@ module _ (mine theirs new : List (Option Hashkey)) (o : Option (ℕ × Call)) (s
 
   pub answer_new : (k : Hashkey) → Some k ≡ new_key theirs (option_map action_of o) → IsNew theirs new k
   answer_new k is = is_new theirs new o k noted_theirs as_long answer_placed (sym is)
+
+  -- and it is then signed
+  pub answer_signed : (k : Hashkey) → Some k ≡ new_key theirs (option_map action_of o) → signed_in new k.lock ≡ Some k
+  answer_signed k is =
+      let n = answer_new k is in
+      ap (λ (l : List (Option Hashkey)). signed_in l k.lock) (sym n.gained) ∙ get_or-set_same theirs k.lock (Some k) None n.lock
 
 most : (ver : Version) → path_limit_of ver ≤ 32
 most One = omega arith

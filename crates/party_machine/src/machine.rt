@@ -264,6 +264,9 @@ impl Machine {
         ensures left { (n image : ℕ) (k : Hashkey) → n < 4 → D.stops_after journal.old.disk n
             → IsOfWrites (D.seen journal.old.disk) (D.synced journal.old.disk) → signs_next self.old ≡ Some k → IfErr result (λ e. e ≡ Stopped
             → recorded (bytes_left image (D.synced journal.new.disk) (D.loose journal.new.disk)) k.lock ≡ kept_key k n image) }
+
+        // Where the disk fails, the hashkey that it was to record is signed.
+        ensures kept { IfErr result (λ e. e ≡ Stopped → (k : Hashkey) → signs_next self.old ≡ Some k → signed_in self.new.signed k.lock ≡ Some k) }
         ensures journal { (journal.new.id ≡ journal.old.id) × (journal.new.me ≡ journal.old.me) }
         ensures later { D.faults journal.old.disk ≤ D.faults journal.new.disk }
         ensures untouched { IfErr result (λ e. e ≡ Wanting

@@ -165,7 +165,8 @@ due_in : (c : Cast) (s : State) (v : ℕ) (o : Option Action) (x : Called) → n
     → (x.sender ≡ v) × IsIn (record { arc = x.arc; call = x.call }) (due c.deal v (c.wallet v) (signed_in (notes_of s v).signed) (notes_of s v).known)
 due_in c s v None x q e = absurd (cc e)
 due_in c s v (Some y) x q e =
-    subst (λ z. (z.sender ≡ v) × IsIn (record { arc = z.arc; call = z.call }) (due c.deal v (c.wallet v) (signed_in (notes_of s v).signed) (notes_of s v).known))
+    subst (λ z. (z.sender ≡ v) × IsIn (record { arc = z.arc; call = z.call })
+    (due c.deal v (c.wallet v) (signed_in (notes_of s v).signed) (notes_of s v).known))
     (same_Some (record { sender = v; arc = y.arc; call = y.call }) x e)
     (refl, first_in (due c.deal v (c.wallet v) (signed_in (notes_of s v).signed) (notes_of s v).known) y q)
 

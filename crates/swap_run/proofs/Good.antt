@@ -33,7 +33,8 @@ use Rattle.swap_laws.proofs.Machines.{knowledge_conducts, rules_transfer}
 use Rattle.swap_laws.proofs.Conducting.{Next, next_call as next_of_call, next_legal, next_grows, knows_all, history_same}
 use Rattle.party_wallet.specs.Value.{signed_in}
 use Rattle.swap_run.specs.Run.{Cast, Notes, State, conforms, role_of, notes_of, plan_of, signed_after, after_tick, known_up_to, look, make, next_of}
-use Rattle.swap_run.specs.Run.{act, is_recorded, recorded_after, relearnt, crash, watch, take_call, after_turn, follow, question, after_question, ask, answer_for, act_as}
+use Rattle.swap_run.specs.Run.{is_recorded, recorded_after, relearnt, crash}
+use Rattle.swap_run.specs.Run.{act, watch, take_call, after_turn, follow, question, after_question, ask, answer_for, act_as}
 use Rattle.swap_run.specs.Run.{step, no_histories, no_notes, first_plan, start, run}
 use Rattle.ledger_core.specs.Ledger.{after_call}
 use Rattle.swap_run.specs.Laws.{IsReadyCast, AreGoodNotes, IsGoodPlan, IsGood, StartIsGood, StepsAreGood, GoodIsKept, RunsAreKept}

@@ -8,6 +8,7 @@ pub mod Plans
 pub mod Good
 -- turns
 pub mod Repeats
+pub mod Along
 pub mod Slots
 pub mod Acts
 pub mod Turns
@@ -18,6 +19,7 @@ pub mod Finish
 pub mod Quiet
 pub mod Fair
 pub mod Reached
+pub mod Skipped
 pub mod Asked
 -- steps taken apart, and steps where slots are swept
 pub mod Calls

@@ -87,7 +87,7 @@ tick_rises h = go (is_clock_full h 1) refl
 
 -- A state with other notes of one party.
 
-abbrev with_note : State → ℕ → Notes → State
+abbrev pub with_note : State → ℕ → Notes → State
 with_note s v n = record s { notes = set s.notes v n }
 
 its_note : (s : State) (v : ℕ) (n : Notes) → v < length s.notes → notes_of (with_note s v n) v ≡ n
@@ -149,12 +149,12 @@ module _ (c : Cast) where
       acts_now (with_note s u n) v cv ∙ ap (make c.deal (with_note s u n) v) call ∙ make_other s u v n (next_of c s v) apart
       ∙ ap (λ (t : State). with_note t u n) (sym (acts_now s v cv))
 
-  acts_other : (k : ℕ) (s : State) (u v : ℕ) (n : Notes) → u ≢ v → conforms c v ≡ true → acts c v k (with_note s u n) ≡ with_note (acts c v k s) u n
+  pub acts_other : (k : ℕ) (s : State) (u v : ℕ) (n : Notes) → u ≢ v → conforms c v ≡ true → acts c v k (with_note s u n) ≡ with_note (acts c v k s) u n
   acts_other zero s u v n apart cv = refl
   acts_other (suc k) s u v n apart cv =
       ap (λ (t : State). step c t (Act v)) (acts_other k s u v n apart cv) ∙ act_other (acts c v k s) u v n apart cv
 
-  looks_other : (s : State) (u v : ℕ) (n : Notes) → u ≢ v → conforms c v ≡ true → v < length s.notes
+  pub looks_other : (s : State) (u v : ℕ) (n : Notes) → u ≢ v → conforms c v ≡ true → v < length s.notes
       → looks c v (with_note s u n) ≡ with_note (looks c v s) u n
   looks_other s u v n apart cv l =
       let lower : v < length (set s.notes u n) = rw (length-set s.notes u n) l in
@@ -196,20 +196,23 @@ module _ (c : Cast) where
   -- A turn forgets what its party knew of the arcs at which it looks.
 
   -- n is what party u notes in s, but for what stands at those arcs
-  record IsStale (s : State) (u : ℕ) (n : Notes) : Type 0 where
+  pub record IsStale (s : State) (u : ℕ) (n : Notes) : Type 0 where
     pub signed : n.signed ≡ (notes_of s u).signed
     pub known : (b : Histories) → over b (adjacent c.deal u) n.known ≡ over b (adjacent c.deal u) (notes_of s u).known
 
-  turn_forgets : (s : State) (u : ℕ) (n : Notes) → conforms c u ≡ true → u < length s.notes → IsStale s u n → turn c (with_note s u n) u ≡ turn c s u
-  turn_forgets s u n cu l stale =
+  pub looks_forget : (s : State) (u : ℕ) (n : Notes) → conforms c u ≡ true → u < length s.notes → IsStale s u n
+      → looks c u (with_note s u n) ≡ looks c u s
+  looks_forget s u n cu l stale =
       let lower : u < length (set s.notes u n) = rw (length-set s.notes u n) l in
-      let same : looks c u (with_note s u n) ≡ looks c u s
-      = looks_note u (with_note s u n) cu lower
+      looks_note u (with_note s u n) cu lower
       ∙ ap (λ (m : Notes). with_note (with_note s u n) u (looked c.deal s.book u m)) (its_note s u n l)
       ∙ note_twice s u n (looked c.deal s.book u n)
       ∙ ap₂ (λ (k : Histories) (g : List (Option Hashkey)). with_note s u (record { known = k; signed = g })) (stale.known s.book) stale.signed
-      ∙ sym (looks_note u s cu l) in
-      turn_of (with_note s u n) u cu ∙ ap (acts c u (most_acts c.deal)) same ∙ sym (turn_of s u cu)
+      ∙ sym (looks_note u s cu l)
+
+  pub turn_forgets : (s : State) (u : ℕ) (n : Notes) → conforms c u ≡ true → u < length s.notes → IsStale s u n → turn c (with_note s u n) u ≡ turn c s u
+  turn_forgets s u n cu l stale =
+      turn_of (with_note s u n) u cu ∙ ap (acts c u (most_acts c.deal)) (looks_forget s u n cu l stale) ∙ sym (turn_of s u cu)
 
   -- what a tick makes of the histories
   abbrev ticked : Histories → ℕ → Histories
@@ -345,15 +348,15 @@ module _ (c : Cast) where
   notes_kept (suc n) s = ticks_notes (repeat n (ticks c) s) ∙ notes_kept n s
 
   module _ (plain : (v : ℕ) → v < c.deal.graph.n → conforms c v ≡ false → is_planned (role_of c v) ≡ false) where
-    turn_other : (s : State) (u v : ℕ) (n : Notes) → v < c.deal.graph.n → u ≢ v → v < length s.notes
+    pub turn_other : (s : State) (u v : ℕ) (n : Notes) → v < c.deal.graph.n → u ≢ v → v < length s.notes
         → turn c (with_note s u n) v ≡ with_note (turn c s v) u n
     turn_other s u v n lv apart l = turn_other_by (conforms c v) s u v n refl (plain v lv) apart l
 
-    turn_many : (s : State) (v : ℕ) → v < c.deal.graph.n → v < length s.notes → length (turn c s v).notes ≡ length s.notes
+    pub turn_many : (s : State) (v : ℕ) → v < c.deal.graph.n → v < length s.notes → length (turn c s v).notes ≡ length s.notes
     turn_many s v lv l = turn_many_by (conforms c v) s v refl (plain v lv) l
 
     -- the turn of v leaves the notes of u
-    turn_keeps : (s : State) (u v : ℕ) → v < c.deal.graph.n → u ≢ v → u < length s.notes → v < length s.notes → notes_of (turn c s v) u ≡ notes_of s u
+    pub turn_keeps : (s : State) (u v : ℕ) → v < c.deal.graph.n → u ≢ v → u < length s.notes → v < length s.notes → notes_of (turn c s v) u ≡ notes_of s u
     turn_keeps s u v lv apart lu l =
         let n = notes_of s u in
         let lower : u < length (turn c s v).notes = rw (turn_many s v lv l) lu in
@@ -403,7 +406,7 @@ module _ (c : Cast) where
         ∙ repeat_fixed (most_acts c.deal) (λ t. step c t (Act v)) t (acts_now t v cv ∙ ap (make c.deal t v) none)
 
     -- nothing is due for any conforming party once it has looked
-    abbrev AllIdle : State → Type 0
+    abbrev pub AllIdle : State → Type 0
     AllIdle s = (v : ℕ) → v < c.deal.graph.n → conforms c v ≡ true → IsIdle c s.book v (notes_of s v)
 
     idle_still_by : (s : State) (u v : ℕ) → (v ≡ u) ⊎ (v ≢ u) → v < length s.notes → IsIdle c s.book v (notes_of s v)
@@ -420,36 +423,49 @@ module _ (c : Cast) where
         subst (λ z. IsIdle c s.book v (notes_of (with_note s z (looked c.deal s.book z (notes_of s z))) v)) e
         (subst (IsIdle c s.book v) (sym (its_note s v n l)) now)
 
-    skips_by : (b : Bool) (x : ℕ) (xs : List ℕ) (s : State) → conforms c x ≡ b → x < c.deal.graph.n → length s.notes ≡ c.deal.graph.n → AllIdle s
-        → ((t : State) → length t.notes ≡ c.deal.graph.n → AllIdle t → turns c (ticks c (fold (turn c) t xs)) ≡ turns c (ticks c t))
-        → turns c (ticks c (fold (turn c) (turn c s x) xs)) ≡ turns c (ticks c s)
-    skips_by false x xs s cx lx many idle rest =
-        ap (λ (t : State). turns c (ticks c (fold (turn c) t xs))) (others_rest c s x cx (plain x lx cx)) ∙ rest s many idle
-    skips_by true x xs s cx lx many idle rest =
-        let l : x < length s.notes = rw many lx in
-        let n = looked c.deal s.book x (notes_of s x) in
-        let t = with_note s x n in
-        let far : length t.notes ≡ c.deal.graph.n = length-set s.notes x n ∙ many in
-        let same : notes_of (ticks c s) x ≡ notes_of s x = ap (λ (ns : List Notes). get_or ns x (record { known = []; signed = [] })) (ticks_notes s) in
-        ap (λ (u : State). turns c (ticks c (fold (turn c) u xs))) (quiet_turn s x cx l (idle x lx cx))
-        ∙ rest t far (λ v lv cv. idle_still_by s x v (same_or_not v x) (rw many lv) (idle v lv cv))
-        ∙ ap (turns c) (ticks_other s x n)
-        ∙ turns_forget x (ticks c s) n cx lx (ap length (ticks_notes s) ∙ many) (record {
-          signed = ap (λ (m : Notes). m.signed) (sym same);
-          known = λ b. again b s.book (adjacent c.deal x) (adjacent c.deal x) (notes_of s x).known (λ a i. i)
-              ∙ ap (λ (m : Notes). over b (adjacent c.deal x) m.known) (sym same);
-        })
+    -- what stays where a party's notes are stale
+    abbrev pub Forgets : (State → Type 0) → Type 0
+    Forgets P =
+        (u : ℕ) (s : State) (n : Notes) → conforms c u ≡ true → u < c.deal.graph.n → length s.notes ≡ c.deal.graph.n → IsStale s u n → P s
+        → P (with_note s u n)
 
-    skips : (xs : List ℕ) (s : State) → ((x : ℕ) → IsIn x xs → x < c.deal.graph.n) → length s.notes ≡ c.deal.graph.n → AllIdle s
-        → turns c (ticks c (fold (turn c) s xs)) ≡ turns c (ticks c s)
-    skips [] s low many idle = refl
-    skips (x ∷ xs) s low many idle =
-        skips_by (conforms c x) x xs s refl (low x (inl refl)) many idle (λ t far still. skips xs t (λ y i. low y (inr i)) far still)
+    module _ (P : State → Type 0) (forgets_here : Forgets P) where
+      skips_by : (b : Bool) (x : ℕ) (xs : List ℕ) (s : State) → conforms c x ≡ b → x < c.deal.graph.n → length s.notes ≡ c.deal.graph.n → AllIdle s
+          → ((t : State) → length t.notes ≡ c.deal.graph.n → AllIdle t → P (ticks c t) → P (ticks c (fold (turn c) t xs)))
+          → P (ticks c s) → P (ticks c (fold (turn c) (turn c s x) xs))
+      skips_by false x xs s cx lx many idle rest h =
+          subst (λ (t : State). P (ticks c (fold (turn c) t xs))) (sym (others_rest c s x cx (plain x lx cx))) (rest s many idle h)
+      skips_by true x xs s cx lx many idle rest h =
+          let l : x < length s.notes = rw many lx in
+          let n = looked c.deal s.book x (notes_of s x) in
+          let t = with_note s x n in
+          let far : length t.notes ≡ c.deal.graph.n = length-set s.notes x n ∙ many in
+          let same : notes_of (ticks c s) x ≡ notes_of s x = ap (λ (ns : List Notes). get_or ns x (record { known = []; signed = [] })) (ticks_notes s) in
+          subst (λ (u : State). P (ticks c (fold (turn c) u xs))) (sym (quiet_turn s x cx l (idle x lx cx)))
+          (rest t far (λ v lv cv. idle_still_by s x v (same_or_not v x) (rw many lv) (idle v lv cv))
+          (subst P (sym (ticks_other s x n)) (forgets_here x (ticks c s) n cx lx (ap length (ticks_notes s) ∙ many) (record {
+            signed = ap (λ (m : Notes). m.signed) (sym same);
+            known = λ b. again b s.book (adjacent c.deal x) (adjacent c.deal x) (notes_of s x).known (λ a i. i)
+                ∙ ap (λ (m : Notes). over b (adjacent c.deal x) m.known) (sym same);
+          }) h)))
+
+      pub skips_for : (xs : List ℕ) (s : State) → ((x : ℕ) → IsIn x xs → x < c.deal.graph.n) → length s.notes ≡ c.deal.graph.n → AllIdle s
+          → P (ticks c s) → P (ticks c (fold (turn c) s xs))
+      skips_for [] s low many idle h = h
+      skips_for (x ∷ xs) s low many idle h =
+          skips_by (conforms c x) x xs s refl (low x (inl refl)) many idle (λ t far still k. skips_for xs t (λ y i. low y (inr i)) far still k) h
+
+    -- turns after a quiet round are turns after ticks
+    pub turns_skip : (s : State) → length s.notes ≡ c.deal.graph.n → AllIdle s → turns c (round c s) ≡ turns c (ticks c s)
+    unfolding round turns
+    turns_skip s many idle =
+        skips_for (λ t. turns c t ≡ turns c (ticks c s)) (λ u t n cu lu m stale h. turns_forget u t n cu lu m stale ∙ h) (range_with_len 0 c.deal.graph.n) s
+        (λ x i. from_range x c.deal.graph.n i) many idle refl
 
     -- a round after a quiet one is a round after ticks
     pub round_skips : (s : State) → length s.notes ≡ c.deal.graph.n → AllIdle s → round c (round c s) ≡ round c (ticks c s)
-    unfolding round turns
-    round_skips s many idle = ap (ticks c) (skips (range_with_len 0 c.deal.graph.n) s (λ x i. from_range x c.deal.graph.n i) many idle)
+    unfolding round
+    round_skips s many idle = ap (ticks c) (turns_skip s many idle)
 
     -- A quiet round leaves what ticks leave of the histories.
 
@@ -469,11 +485,11 @@ module _ (c : Cast) where
     calm (x ∷ xs) s low many idle =
         calm_by (conforms c x) x xs s refl (low x (inl refl)) many idle (λ t far still. calm xs t (λ y i. low y (inr i)) far still)
 
-    calm_turns : (s : State) → length s.notes ≡ c.deal.graph.n → AllIdle s → (turns c s).book ≡ s.book
+    pub calm_turns : (s : State) → length s.notes ≡ c.deal.graph.n → AllIdle s → (turns c s).book ≡ s.book
     unfolding turns
     calm_turns s many idle = calm (range_with_len 0 c.deal.graph.n) s (λ x i. from_range x c.deal.graph.n i) many idle
 
-    calm_round : (s : State) → length s.notes ≡ c.deal.graph.n → AllIdle s → (round c s).book ≡ (ticks c s).book
+    pub calm_round : (s : State) → length s.notes ≡ c.deal.graph.n → AllIdle s → (round c s).book ≡ (ticks c s).book
     unfolding round
     calm_round s many idle =
         ticks_book (turns c s) ∙ ap (λ (b : Histories). fold ticked b (arcs c.deal.graph)) (calm_turns s many idle) ∙ sym (ticks_book s)

@@ -3,6 +3,7 @@ pub mod Laws
 pub mod Fair
 pub mod Quiet
 pub mod FairLaws
+pub mod Steps
 pub mod Asked
 pub mod Called
 pub mod CalledLaws

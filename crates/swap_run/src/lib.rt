@@ -2,7 +2,7 @@
 //! function without a body; its contract is the law.
 //!
 //! Read `specs/Run.antt` first, then `specs/Laws.antt`; `specs/Fair.antt` has the fair finish of a run, and `specs/FairLaws.antt` its
-//! laws. `specs/Asked.antt` says what strategies are asked, and `specs/Called.antt` takes a
+//! laws, `specs/Steps.antt` its steps in their order. `specs/Asked.antt` says what strategies are asked, and `specs/Called.antt` takes a
 //! step apart, for swaps whose ledgers stand on shared chains.
 #![tactic(auto)]
 
@@ -11,6 +11,7 @@ ghost use Rattle.swap_run.specs.Asked.{RulesDecideFinishes};
 ghost use Rattle.swap_run.specs.CalledLaws.{CallsSplit, CallsArePlaced, PassedIsGood, NoneSwept, StepsOnAreGood};
 ghost use Rattle.swap_run.specs.FairLaws.{FinishesAreRuns, FinishesEnd, FinishesAreGood, FinishHeights, FairIsDealt, ActsComeToRest, ActsAreEnough};
 ghost use Rattle.swap_run.specs.FairLaws.{OthersRest, TurnsAreGood, RoundsAreGood, RoundsRaise, RoundsCountDown, FinishStops, FinishGoesOn};
+ghost use Rattle.swap_run.specs.Steps.{FinishIsSteps};
 ghost use Rattle.swap_run.specs.Laws.{StartIsGood, StepsAreGood, DueCallsCanBeMade, GoodIsKept, RunsAreKept, UnlocksAreSigned};
 
 /// What every state of a run keeps: the book is legal, and each conforming party knows some prefix of each ledger that holds all its
@@ -50,6 +51,7 @@ pub fn every_round_raises()
 pub fn every_finish_ends()
     ensures end { FinishesEnd }
     ensures run { FinishesAreRuns }
+    ensures steps { FinishIsSteps }
     ensures good { FinishesAreGood }
     ensures heights { FinishHeights }
     ensures stops { FinishStops }

@@ -67,6 +67,10 @@ module _ (sw : ℕ → Bool) (m n : MachineState) (ls : List LedgerState) (a : �
       same.deal same.me same.seed k (signed_by n.signed m.signed c same.places g)
       ∙ sym (ap (λ o. machine_after sw m o (histories ls)) next))
 
+  -- the hashkeys alone
+  pub signed_is : ((i : ℕ) → signed_in n.signed i ≡ noted (signed_in m.signed) c i) → n.signed ≡ (machine_after sw m (next_of m) (histories ls)).signed
+  signed_is g = signed_by n.signed m.signed c same.places g ∙ sym (ap (λ o. (machine_after sw m o (histories ls)).signed) next)
+
   pub told_is : (t : Told) → t ≡ told_by (sw a) n.deal a n.me c l.history → t ≡ told_of sw m (next_of m) (histories ls)
   told_is t e =
       e ∙ (ap₂ (λ (d : Deal) (v : ℕ). told_by (sw a) d a v c l.history) same.deal same.me

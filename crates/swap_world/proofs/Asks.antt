@@ -23,10 +23,11 @@ use Rattle.swap_world.specs.Acting.{histories, taken, seen, told_to, asked_once,
 use Rattle.swap_world.specs.Gone.{Gives, Answered, MayCome, HasAsked, HasGone}
 use Rattle.swap_world.specs.On.{IsCutOn, told_in}
 use Rattle.swap_world.specs.declared.told.Told.{Told}
-use Rattle.swap_world.specs.Inside.{name_in, questions_in}
+use Rattle.swap_world.specs.Inside.{name_in, questions_in, AreActorsOf}
 use Rattle.swap_world.specs.declared.actor.Actor.{Actor}
 use Rattle.swap_world.specs.declared.actor.Actor.TheVariants.{Planned}
-use Rattle.swap_world.proofs.States.{IsPlanAt, answered, answered_told, state}
+use Rattle.swap_world.proofs.States.{IsPlanAt, answered, answered_told, plan_notes, state}
+use Rattle.swap_world.proofs.Disks.{HaveSigned, have_signed}
 use Rattle.swap_world.proofs.Worlds.{Seeds, good_step, kept_step, world}
 
 -- as many questions as parties that asked
@@ -159,3 +160,13 @@ module _ {gives : Gives} {d : Deal} {conforming : List Bool} {seeds : Seeds} {ro
   pub kept_asked : (b : Histories) → b ≡ taken sw d p o (histories ls) → IsReadyCast c → p < d.graph.n → IsGood c s → IsKept c b
   kept_asked b eb ready can good =
       subst (IsKept c) (sym (eb ∙ stepped_book so_far (λ i l. refl))) (kept_step c so_far sw s (Act p) ready can good)
+
+  -- what machines signed, over the histories after the call that was answered
+  pub signed_asked : (b : Histories) → b ≡ taken sw d p o (histories ls) → AreActorsOf d conforming seeds roles xs → IsReadyCast c → p < d.graph.n
+      → IsGood c s → HaveSigned d b xs
+  signed_asked b eb actors ready can good =
+      let is = stepped so_far (λ i l. refl) (seen sw d p o (histories ls) (asked_once n)) (taken sw d p o (histories ls)) refl refl in
+      subst (λ (h : Histories). HaveSigned d h xs) (sym (eb ∙ stepped_book so_far (λ i l. refl)))
+      (have_signed d conforming seeds roles (step_on sw (with_answers c so_far) s (Act p)) xs actors (good_step c so_far sw s (Act p) ready can good)
+      (sym (ap (λ (t : State). t.notes) is)
+      ∙ plan_notes d conforming seeds roles before ls xs p n (seen sw d p o (histories ls) (asked_once n)) k.place))

@@ -1,24 +1,23 @@
 -- The parts of a fair finish: what each leads to, and where it stops.
 use Rattle.std.proofs.Common.{◌≡◌, ℕ, suc, ◌+◌, ◌-◌, ◌<◌, ◌≤◌, ◌==◌, ◌||◌, nat_le, leb-true, leb-false, zero-add, get_or}
-use Rattle.std.proofs.Common.{Bool, true, false, cond, List, length, fold, refl}
+use Rattle.std.proofs.Common.{Bool, true, false, cond, List, [], ◌∷◌, ◌++◌, length, replicate, fold, refl}
 use Rattle.std.proofs.Common.{sym, ap, ◌∙◌, subst, arith, Result, Ok, Err, OnOk}
 use Rattle.std.specs.List.{All, range_with_len}
 use Rattle.std.proofs.lemmas.List.FromFn.{get_or-map-range_with_len, length-map-range_with_len}
-use Rattle.std.proofs.lemmas.List.Elements.{All-filter, All-from_get_or, All-get_or, All-weaker, filter_passes}
-use Rattle.swap_base.proofs.Lists.{from_range}
+use Rattle.std.proofs.lemmas.List.Elements.{All-filter, All-from_get_or, All-get_or, filter_passes}
 use Rattle.swap_digraph.specs.declared.deal.Deal.{Deal}
 use Rattle.swap_digraph.specs.Deal.{party, counterparty}
 use Rattle.swap_digraph.specs.Graph.{arcs}
 use Rattle.ledger_core.specs.History.{height}
-use Rattle.ledger_core.specs.Book.{history}
+use Rattle.ledger_core.specs.Book.{Histories, history}
+use Rattle.deviator_script.specs.declared.event.Event.{Event}
 use Rattle.deviator_script.specs.declared.event.Event.TheVariants.{Look, Act, Tick}
 use Rattle.deviator_script.specs.Step.{CanLook}
 use Rattle.swap_run.specs.Run.{Cast, State, conforms, step}
 use Rattle.swap_run.specs.Fair.{repeat, adjacent, looks, acts, most_acts, turn, turns, the_horizon, tick_low}
 use Rattle.swap_run.specs.Fair.{ticks, round, has_ended, round_unless_ended, finish}
-use Rattle.swap_run.specs.Quiet.{SkipsTo}
-use Rattle.swap_run.specs.FairLaws.{IsReached}
-use Rattle.swap_run.proofs.Reached.{no_event, one_event, fold_events, repeat_events, turn_events, tick_events, round_events, finish_events}
+use Rattle.swap_run.specs.Steps.{finish_steps, look_steps, low_step, pass_steps, round_steps, rounds_steps, tick_steps, turn_steps, turns_steps, IsSkipped}
+use Rattle.swap_run.proofs.Along.{along_start, looks_run, turns_run, rounds_run, rounds_plus}
 use Rattle.swap_run.specs.Run.{start}
 use Rattle.swap_run.specs.Asked.{Answers}
 use Rattle.swap_run.specs.Laws.{IsReadyCast, IsGood}
@@ -30,8 +29,8 @@ use Rattle.swap_world.specs.Value.{WorldState, answers_of, cast_at, cast_for}
 use Rattle.swap_world.specs.Gone.{Gives, HasGone}
 use Rattle.swap_world.specs.Near.{all_adjacent}
 use Rattle.swap_world.specs.Stopped.{AllConform, IsStopped}
-use Rattle.swap_world.proofs.Ways.{repeat_split, range_all, fold_reached, way_then}
-use Rattle.swap_world.proofs.Gone.{gone_as, gone_then, cast_gone, nothing_asked, stopped_as, stopped_after, stopped_then}
+use Rattle.swap_world.proofs.Ways.{over, over_ticks, over_turns, repeat_split, range_all}
+use Rattle.swap_world.proofs.Gone.{gone_as, gone_then, cast_gone, deal_gone, more_asked, nothing_asked, stopped_as, stopped_after, stopped_then, way_from}
 use Rattle.swap_world.proofs.Worlds.{ready_for, good_for}
 
 -- A party's looks.
@@ -69,25 +68,7 @@ pub looks_over : (c : Cast) (v : ℕ) (s : State) (xs : List ℕ) → xs ≡ adj
 unfolding looks
 looks_over c v s xs e = ap (λ (ys : List ℕ). fold (λ t a. step c t (Look v a)) s ys) e
 
-looks_lead : (c : Cast) (v : ℕ) (s : State) → v < c.deal.graph.n → IsReached c s (looks c v s)
-unfolding looks
-looks_lead c v s l =
-    fold_reached c (λ t a. step c t (Look v a)) (adjacent c.deal v) s
-    (All-weaker (CanLook c.deal v) (λ a. (t : State) → IsReached c t (step c t (Look v a))) (λ a can t. one_event c t (Look v a) can) (adjacent c.deal v)
-    (can_look c.deal v l))
-
 -- A party's turn.
-
-pub act_leads : (c : Cast) (v : ℕ) → v < c.deal.graph.n → (s : State) → IsReached c s (step c s (Act v))
-act_leads c v l s = one_event c s (Act v) l
-
-pub turn_from_looks : (c : Cast) (v : ℕ) (s : State) → v < c.deal.graph.n → IsReached c (looks c v s) (turn c s v)
-unfolding turn
-turn_from_looks c v s l = go (conforms c v)
-  where
-    go : (b : Bool) → IsReached c (looks c v s) (cond b (acts c v (most_acts c.deal) (looks c v s)) (step c (looks c v s) (Act v)))
-    go true = repeat_events c (most_acts c.deal) (λ t. step c t (Act v)) (looks c v s) (act_leads c v l)
-    go false = act_leads c v l (looks c v s)
 
 -- how a party acts in its turn: until nothing is due where it conforms, else once
 abbrev pub acts_as : Bool → Cast → ℕ → State → State
@@ -99,15 +80,24 @@ unfolding turn
 turn_acts c s v true e = ap (λ (b : Bool). cond b (acts c v (most_acts c.deal) (looks c v s)) (step c (looks c v s) (Act v))) e
 turn_acts c s v false e = ap (λ (b : Bool). cond b (acts c v (most_acts c.deal) (looks c v s)) (step c (looks c v s) (Act v))) e
 
-pub turn_cut : (gives : Gives) (old new : WorldState) (v : ℕ) → v < old.deal.graph.n → IsStopped gives (λ c s. looks c v s) old new
-    → IsStopped gives (λ c s. turn c s v) old new
-turn_cut gives old new v l k = record {
-  stopped = k.stopped;
-  cast = k.cast;
-  asked = k.asked;
-  book = λ g x. let c = cast_for old g in
-      way_then c old.state (looks c v old.state) (turn c old.state v) new.state.book (k.book g x) (turn_from_looks c v old.state l);
-}
+-- and the steps of it
+abbrev pub acts_steps : Bool → Deal → ℕ → List Event
+acts_steps true d v = replicate (most_acts d) (Act v)
+acts_steps false d v = Act v ∷ []
+
+turn_steps_as : (c : Cast) (v : ℕ) (b : Bool) → conforms c v ≡ b → look_steps c.deal v ++ acts_steps b c.deal v ≡ turn_steps c v
+unfolding turn_steps
+turn_steps_as c v true e =
+    ap (λ (b : Bool). look_steps c.deal v ++ cond b (replicate (most_acts c.deal) (Act v)) (Act v ∷ [])) (sym e)
+turn_steps_as c v false e =
+    ap (λ (b : Bool). look_steps c.deal v ++ cond b (replicate (most_acts c.deal) (Act v)) (Act v ∷ [])) (sym e)
+
+pub turn_cut : (gives : Gives) (old new : WorldState) (v : ℕ) → IsStopped gives (λ c s. look_steps c.deal v) old new
+    → IsStopped gives (λ c s. turn_steps c v) old new
+turn_cut gives old new v k =
+    stopped_as gives (λ c s. look_steps c.deal v ++ acts_steps (conforms c v) c.deal v) (λ c s. turn_steps c v) old new
+    (λ g. turn_steps_as (cast_for old g) v (conforms (cast_for old g) v) refl)
+    (stopped_then gives (λ c s. look_steps c.deal v) (λ c s. acts_steps (conforms c v) c.deal v) old new k)
 
 module _ (gives : Gives) (old mid new : WorldState) (v : ℕ) (b : Bool) (is : conforms (cast_at mid) v ≡ b)
     (looked : HasGone gives (λ c s. looks c v s) old mid) where
@@ -121,14 +111,12 @@ module _ (gives : Gives) (old mid new : WorldState) (v : ℕ) (b : Bool) (is : c
       (λ g. sym (turn_acts (cast_for old g) old.state v b (was g)))
       (gone_then gives (λ c s. looks c v s) (λ c s. acts_as b c v s) old mid new looked k)
 
-  pub turn_stops : v < old.deal.graph.n → IsStopped gives (λ c s. acts_as b c v s) mid new → IsStopped gives (λ c s. turn c s v) old new
-  turn_stops l k =
-      stopped_as gives (λ c s. acts_as b c v (looks c v s)) (λ c s. turn c s v) old new
-      (λ g. sym (turn_acts (cast_for old g) old.state v b (was g)))
-      (stopped_after gives (λ c s. looks c v s) (λ c s. acts_as b c v s) old mid new looked (λ g s. looks_lead (cast_for old g) v s l) k)
-
-pub turn_leads : (c : Cast) (v : ℕ) → v < c.deal.graph.n → (s : State) → IsReached c s (turn c s v)
-turn_leads c v l s = turn_events c s v l
+  pub turn_stops : IsStopped gives (λ c s. acts_steps b c.deal v) mid new → IsStopped gives (λ c s. turn_steps c v) old new
+  turn_stops k =
+      stopped_as gives (λ c s. look_steps c.deal v ++ acts_steps b c.deal v) (λ c s. turn_steps c v) old new
+      (λ g. turn_steps_as (cast_for old g) v b (was g))
+      (stopped_after gives (λ c s. looks c v s) (λ c s. look_steps c.deal v) (λ c s. acts_steps b c.deal v) old mid new looked
+      (λ g. looks_run (cast_for old g) v old.state) k)
 
 -- Ticks.
 
@@ -136,6 +124,13 @@ pub is_low : (c : Cast) (s : State) (a : ℕ) → height (history s.book a) ≤ 
 is_low c s a l = go (nat_le (height (history s.book a)) (the_horizon c.deal)) refl
   where
     go : (b : Bool) → nat_le (height (history s.book a)) (the_horizon c.deal) ≡ b → cond b (step c s (Tick a 1)) s ≡ step c s (Tick a 1)
+    go true e = refl
+    go false e = absurd (omega (arith, l, leb-false _ _ e))
+
+pub is_low_step : (d : Deal) (b : Histories) (a : ℕ) → height (history b a) ≤ the_horizon d → low_step d b a ≡ Tick a 1 ∷ []
+is_low_step d b a l = go (nat_le (height (history b a)) (the_horizon d)) refl
+  where
+    go : (y : Bool) → nat_le (height (history b a)) (the_horizon d) ≡ y → cond y (Tick a 1 ∷ []) [] ≡ Tick a 1 ∷ []
     go true e = refl
     go false e = absurd (omega (arith, l, leb-false _ _ e))
 
@@ -147,9 +142,12 @@ is_high c s a l = go (nat_le (height (history s.book a)) (the_horizon c.deal)) r
     go false e = refl
 
 module _ (gives : Gives) (w new : WorldState) where
-  pub ticks_stop : IsStopped gives (λ c s. fold (tick_low c) s (range_with_len 0 (length w.deal.graph.arcs))) w new → IsStopped gives ticks w new
-  unfolding ticks
-  ticks_stop k = stopped_as gives (λ c s. fold (tick_low c) s (range_with_len 0 (length w.deal.graph.arcs))) ticks w new (λ g. refl) k
+  pub ticks_stop : IsStopped gives (λ c s. over (tick_low c) (λ t a. low_step c.deal t.book a) s (range_with_len 0 (length w.deal.graph.arcs))) w new
+      → IsStopped gives (λ c s. tick_steps c.deal s.book) w new
+  unfolding tick_steps
+  ticks_stop k =
+      stopped_as gives (λ c s. over (tick_low c) (λ t a. low_step c.deal t.book a) s (range_with_len 0 (length w.deal.graph.arcs)))
+      (λ c s. tick_steps c.deal s.book) w new (λ g. over_ticks (cast_for w g) (range_with_len 0 (length w.deal.graph.arcs)) w.state) k
 
   pub ticks_are : HasGone gives (λ c s. fold (tick_low c) s (range_with_len 0 (length w.deal.graph.arcs))) w new → HasGone gives ticks w new
   unfolding ticks
@@ -158,21 +156,16 @@ module _ (gives : Gives) (w new : WorldState) where
 -- Rounds.
 
 module _ (gives : Gives) (w new : WorldState) where
-  pub turns_stop : IsStopped gives (λ c s. fold (turn c) s (range_with_len 0 w.deal.graph.n)) w new → IsStopped gives turns w new
-  unfolding turns
-  turns_stop k = stopped_as gives (λ c s. fold (turn c) s (range_with_len 0 w.deal.graph.n)) turns w new (λ g. refl) k
+  pub turns_stop : IsStopped gives (λ c s. over (turn c) (λ t v. turn_steps c v) s (range_with_len 0 w.deal.graph.n)) w new
+      → IsStopped gives (λ c s. turns_steps c) w new
+  unfolding turns_steps
+  turns_stop k =
+      stopped_as gives (λ c s. over (turn c) (λ t v. turn_steps c v) s (range_with_len 0 w.deal.graph.n)) (λ c s. turns_steps c) w new
+      (λ g. over_turns (cast_for w g) (range_with_len 0 w.deal.graph.n) w.state) k
 
   pub turns_are : HasGone gives (λ c s. fold (turn c) s (range_with_len 0 w.deal.graph.n)) w new → HasGone gives turns w new
   unfolding turns
   turns_are k = gone_as gives (λ c s. fold (turn c) s (range_with_len 0 w.deal.graph.n)) turns w new (λ g. refl) k
-
-turns_lead : (c : Cast) (s : State) → IsReached c s (turns c s)
-unfolding turns
-turns_lead c s = fold_events c (turn c) (range_with_len 0 c.deal.graph.n) s (λ t v i. turn_events c t v (from_range v c.deal.graph.n i))
-
-pub ticks_lead : (c : Cast) (s : State) → IsReached c s (ticks c s)
-unfolding ticks
-ticks_lead c s = fold_events c (tick_low c) (arcs c.deal.graph) s (λ t a i. tick_events c t a (from_range a (length c.deal.graph.arcs) i))
 
 module _ (gives : Gives) (old mid new : WorldState) (turned : HasGone gives turns old mid) where
   pub round_ends : HasGone gives ticks mid new → HasGone gives round old new
@@ -180,24 +173,12 @@ module _ (gives : Gives) (old mid new : WorldState) (turned : HasGone gives turn
   round_ends k =
       gone_as gives (λ c s. ticks c (turns c s)) round old new (λ g. refl) (gone_then gives turns ticks old mid new turned k)
 
-  pub round_stops : IsStopped gives ticks mid new → IsStopped gives round old new
-  unfolding round
+  pub round_stops : IsStopped gives (λ c s. tick_steps c.deal s.book) mid new → IsStopped gives round_steps old new
   round_stops k =
-      stopped_as gives (λ c s. ticks c (turns c s)) round old new (λ g. refl)
-      (stopped_after gives turns ticks old mid new turned (λ g s. turns_lead (cast_for old g) s) k)
+      stopped_after gives turns (λ c s. turns_steps c) (λ c s. tick_steps c.deal s.book) old mid new turned (λ g. turns_run (cast_for old g) old.state) k
 
-pub round_cut : (gives : Gives) (old new : WorldState) → IsStopped gives turns old new → IsStopped gives round old new
-unfolding round
-round_cut gives old new k =
-    stopped_as gives (λ c s. ticks c (turns c s)) round old new (λ g. refl)
-    (stopped_then gives turns ticks old new k (λ g s. ticks_lead (cast_for old g) s))
-
-pub unless_leads : (c : Cast) (s : State) → IsReached c s (round_unless_ended c s)
-unless_leads c s = go (has_ended c.deal s.book)
-  where
-    go : (b : Bool) → IsReached c s (cond b s (round c s))
-    go true = no_event c s
-    go false = round_events c s
+pub round_cut : (gives : Gives) (old new : WorldState) → IsStopped gives (λ c s. turns_steps c) old new → IsStopped gives round_steps old new
+round_cut gives old new k = stopped_then gives (λ c s. turns_steps c) (λ c s. tick_steps c.deal (turns c s).book) old new k
 
 pub is_round : (c : Cast) (s : State) → has_ended c.deal s.book ≡ false → round_unless_ended c s ≡ round c s
 is_round c s e = ap (λ (b : Bool). cond b s (round c s)) e
@@ -206,15 +187,22 @@ pub is_rest : (c : Cast) (s : State) → has_ended c.deal s.book ≡ true → ro
 is_rest c s e = ap (λ (b : Bool). cond b s (round c s)) e
 
 -- Rounds of which only the ticks are taken, and one more.
-module _ (gives : Gives) (old mid new : WorldState) (n : ℕ) (skips : (g : Answers) → SkipsTo (cast_for old g) n old.state) where
+module _ (gives : Gives) (old mid new : WorldState) (n : ℕ) (skips : (g : Answers) → IsSkipped (cast_for old g) n old.state) where
   are_rounds : (g : Answers) → round (cast_for old g) (repeat n (ticks (cast_for old g)) old.state)
       ≡ repeat (n + 1) (round_unless_ended (cast_for old g)) old.state
-  are_rounds g = let e : suc n ≡ n + 1 = omega arith in sym (skips g) ∙ ap (λ k. repeat k (round_unless_ended (cast_for old g)) old.state) e
+  are_rounds g = let e : suc n ≡ n + 1 = omega arith in sym (skips g).skips ∙ ap (λ k. repeat k (round_unless_ended (cast_for old g)) old.state) e
 
-  pub advance_cut : IsStopped gives (λ c s. repeat n (ticks c) s) old new → IsStopped gives (λ c s. repeat (n + 1) (round_unless_ended c) s) old new
+  more : suc n ≡ n + 1
+  more = omega arith
+
+  pub advance_cut : IsStopped gives (pass_steps n) old new → IsStopped gives (rounds_steps (n + 1)) old new
   advance_cut k =
-      stopped_as gives (λ c s. round c (repeat n (ticks c) s)) (λ c s. repeat (n + 1) (round_unless_ended c) s) old new are_rounds
-      (stopped_then gives (λ c s. repeat n (ticks c) s) round old new k (λ g s. round_events (cast_for old g) s))
+      subst (λ i. IsStopped gives (rounds_steps i) old new) more (record {
+        stopped = k.stopped;
+        cast = k.cast;
+        asked = k.asked;
+        book = λ g x. (skips g).pass new.state.book (k.book g x);
+      })
 
   pub advance_ends : HasGone gives (λ c s. repeat n (ticks c) s) old mid → HasGone gives round mid new
       → HasGone gives (λ c s. repeat (n + 1) (round_unless_ended c) s) old new
@@ -222,12 +210,15 @@ module _ (gives : Gives) (old mid new : WorldState) (n : ℕ) (skips : (g : Answ
       gone_as gives (λ c s. round c (repeat n (ticks c) s)) (λ c s. repeat (n + 1) (round_unless_ended c) s) old new are_rounds
       (gone_then gives (λ c s. repeat n (ticks c) s) round old mid new a b)
 
-  pub advance_stops : HasGone gives (λ c s. repeat n (ticks c) s) old mid → IsStopped gives round mid new
-      → IsStopped gives (λ c s. repeat (n + 1) (round_unless_ended c) s) old new
+  pub advance_stops : HasGone gives (λ c s. repeat n (ticks c) s) old mid → IsStopped gives round_steps mid new
+      → IsStopped gives (rounds_steps (n + 1)) old new
   advance_stops a k =
-      stopped_as gives (λ c s. round c (repeat n (ticks c) s)) (λ c s. repeat (n + 1) (round_unless_ended c) s) old new are_rounds
-      (stopped_after gives (λ c s. repeat n (ticks c) s) round old mid new a
-      (λ g s. repeat_events (cast_for old g) n (ticks (cast_for old g)) s (ticks_lead (cast_for old g))) k)
+      subst (λ i. IsStopped gives (rounds_steps i) old new) more (record {
+        stopped = k.stopped;
+        cast = k.cast ∙ cast_gone gives (λ c s. repeat n (ticks c) s) old mid a;
+        asked = more_asked gives old mid new a.asked (deal_gone gives (λ c s. repeat n (ticks c) s) old mid a) k.asked;
+        book = λ g x. (skips g).last new.state.book (way_from gives (λ c s. repeat n (ticks c) s) round_steps old mid new g a k.asked x (k.book g x));
+      })
 
 -- Rounds of which m are left of so many.
 module _ (gives : Gives) (old mid new : WorldState) (all left n : ℕ) (few : left ≤ all) (some : n ≤ left)
@@ -245,39 +236,40 @@ module _ (gives : Gives) (old mid new : WorldState) (all left n : ℕ) (few : le
       (λ g. in_a_row (round_unless_ended (cast_for old g)) old.state)
       (gone_then gives (λ c s. repeat (all - left) (round_unless_ended c) s) (λ c s. repeat n (round_unless_ended c) s) old mid new so_far h)
 
-  all_of_them : (f : State → State) (s : State) → repeat (left - n) f (repeat n f (repeat (all - left) f s)) ≡ repeat all f s
-  all_of_them f s =
-      let e : (left - n) + (all - (left - n)) ≡ all = omega arith in
-      ap (λ t. repeat (left - n) f t) (in_a_row f s) ∙ sym (repeat_split (left - n) (all - (left - n)) f s) ∙ ap (λ k. repeat k f s) e
+  all_steps : (c : Cast) (s : State) → (rounds_steps (all - left) c s ++ rounds_steps n c (repeat (all - left) (round_unless_ended c) s))
+      ++ rounds_steps (left - n) c (repeat (n + (all - left)) (round_unless_ended c) s) ≡ rounds_steps all c s
+  all_steps c s =
+      let e : (left - n) + (n + (all - left)) ≡ all = omega (arith, few, some) in
+      ap (λ (es : List Event). es ++ rounds_steps (left - n) c (repeat (n + (all - left)) (round_unless_ended c) s)) (sym (rounds_plus c n (all - left) s))
+      ∙ sym (rounds_plus c (left - n) (n + (all - left)) s) ∙ ap (λ k. rounds_steps k c s) e
 
-  pub stops_further : IsStopped gives (λ c s. repeat n (round_unless_ended c) s) mid new → IsStopped gives (λ c s. repeat all (round_unless_ended c) s) old new
+  pub stops_further : IsStopped gives (rounds_steps n) mid new → IsStopped gives (rounds_steps all) old new
   stops_further k =
-      stopped_as gives (λ c s. repeat (left - n) (round_unless_ended c) (repeat n (round_unless_ended c) (repeat (all - left) (round_unless_ended c) s)))
-      (λ c s. repeat all (round_unless_ended c) s) old new (λ g. all_of_them (round_unless_ended (cast_for old g)) old.state)
-      (stopped_then gives (λ c s. repeat n (round_unless_ended c) (repeat (all - left) (round_unless_ended c) s))
-      (λ c s. repeat (left - n) (round_unless_ended c) s) old new
-      (stopped_after gives (λ c s. repeat (all - left) (round_unless_ended c) s) (λ c s. repeat n (round_unless_ended c) s) old mid new so_far
-      (λ g s. repeat_events (cast_for old g) (all - left) (round_unless_ended (cast_for old g)) s (unless_leads (cast_for old g))) k)
-      (λ g s. repeat_events (cast_for old g) (left - n) (round_unless_ended (cast_for old g)) s (unless_leads (cast_for old g))))
+      stopped_as gives (λ c s. (rounds_steps (all - left) c s ++ rounds_steps n c (repeat (all - left) (round_unless_ended c) s))
+      ++ rounds_steps (left - n) c (repeat (n + (all - left)) (round_unless_ended c) s)) (rounds_steps all) old new
+      (λ g. all_steps (cast_for old g) old.state)
+      (stopped_then gives (λ c s. rounds_steps (all - left) c s ++ rounds_steps n c (repeat (all - left) (round_unless_ended c) s))
+      (λ c s. rounds_steps (left - n) c (repeat (n + (all - left)) (round_unless_ended c) s)) old new
+      (stopped_after gives (λ c s. repeat (all - left) (round_unless_ended c) s) (rounds_steps (all - left)) (rounds_steps n) old mid new so_far
+      (λ g. rounds_run (cast_for old g) (all - left) old.state) k))
 
 module _ (gives : Gives) (w new : WorldState) where
-  pub finish_stops_at : IsStopped gives (λ c s. repeat (the_horizon w.deal + 1) (round_unless_ended c) s) w new → IsStopped gives finish w new
-  unfolding finish
-  finish_stops_at k = stopped_as gives (λ c s. repeat (the_horizon w.deal + 1) (round_unless_ended c) s) finish w new (λ g. refl) k
+  pub finish_stops_at : IsStopped gives (rounds_steps (the_horizon w.deal + 1)) w new → IsStopped gives finish_steps w new
+  unfolding finish_steps
+  finish_stops_at k = stopped_as gives (rounds_steps (the_horizon w.deal + 1)) finish_steps w new (λ g. refl) k
 
   pub finish_is : HasGone gives (λ c s. repeat (the_horizon w.deal + 1) (round_unless_ended c) s) w new → HasGone gives finish w new
   unfolding finish
   finish_is k = gone_as gives (λ c s. repeat (the_horizon w.deal + 1) (round_unless_ended c) s) finish w new (λ g. refl) k
 
   -- where memory runs out before the first round
-  pub finish_stops_first : new ≡ record w { stopped = true } → IsStopped gives finish w new
+  pub finish_stops_first : new ≡ record w { stopped = true } → IsStopped gives finish_steps w new
   finish_stops_first e =
-      subst (IsStopped gives finish w) (sym e) (record {
+      subst (IsStopped gives finish_steps w) (sym e) (record {
         stopped = refl;
         cast = refl;
         asked = nothing_asked gives w (record w { stopped = true }) refl refl;
-        book = λ g x. let c = cast_for w g in
-            record { there = w.state; before = no_event c w.state; after = finish_events c w.state; book = refl };
+        book = λ g x. along_start (cast_for w g) w.state (finish_steps (cast_for w g) w.state) w.state.book refl;
       })
 
 -- What a finish leaves.

@@ -1,5 +1,6 @@
 -- Worlds that go on, and worlds that stop: one after another, and whatever is answered.
-use Rattle.std.proofs.Common.{◌≡◌, ◌⊎◌, inl, inr, Result, Ok, Err, OnOk, OnErr, IfOk, ℕ, ◌+◌, ◌<◌, Bool, true, false, cond, List, [], ◌++◌, length, map, Option}
+use Rattle.std.proofs.Common.{◌≡◌, ◌⊎◌, inl, inr, Result, Ok, Err, OnOk, OnErr, IfOk, ℕ, ◌+◌, ◌<◌, Bool, true, false, cond, List, []}
+use Rattle.std.proofs.Common.{◌∷◌, ◌++◌, length, map, Option}
 use Rattle.std.proofs.Common.{Some, None, get_or, refl, sym, ap, ap₂, ◌∙◌, subst, arith, append_assoc, length-append}
 use Rattle.std.proofs.lemmas.List.{append-nil, map-append, get_or_append_left}
 use Rattle.std.proofs.lemmas.List.Elements.{All-nil, All-append}
@@ -16,20 +17,20 @@ use Rattle.deviator_script.specs.declared.job.Role.TheVariants.{Conforming, Manu
 use Rattle.deviator_script.specs.declared.moves.Move.{Move}
 use Rattle.swap_rules.specs.Due.{Action}
 use Rattle.swap_run.specs.Asked.{Answers, with_answers, is_strategy}
-use Rattle.swap_run.specs.Run.{Cast, Question, State, conforms, role_of, plan_of, look, next_of, watch, after_turn, step}
+use Rattle.swap_run.specs.Run.{Cast, Question, State, conforms, role_of, plan_of, look, next_of, watch, after_turn, run_from, step}
 use Rattle.swap_run.specs.Called.{Called, by_due, called_as, step_on}
-use Rattle.swap_run.specs.FairLaws.{IsReached}
-use Rattle.swap_run.proofs.Reached.{no_event}
+use Rattle.swap_run.specs.Steps.{IsAlong}
+use Rattle.swap_run.proofs.Along.{along_start, along_more, along_after, along_step}
 use Rattle.swap_world.specs.Cast.{asks}
 use Rattle.swap_world.specs.Value.{WorldState, cast_at, cast_for, Continues}
 use Rattle.swap_world.specs.Staff.{AreHeld}
 use Rattle.swap_world.specs.Gone.{Gives, Answered, MayCome, HasAsked, HasGone, IsCutBy, IsCut}
 use Rattle.swap_world.specs.On.{told_in, told_of_call}
 use Rattle.swap_world.specs.declared.told.Told.{Told}
-use Rattle.swap_world.specs.Stopped.{IsOnTheWay, IsStopped}
+use Rattle.swap_world.specs.Stopped.{IsStopped}
 use Rattle.swap_world.proofs.On.{make_on, take_on, act_on, act_is, call_is, plainly}
 use Rattle.swap_world.proofs.Plans.{take_same}
-use Rattle.swap_world.proofs.Ways.{at, way_then, way_after, way_of_step}
+use Rattle.swap_world.proofs.Ways.{at}
 
 -- What is asked.
 
@@ -116,57 +117,51 @@ module _ (gives : Gives) where
 
   -- Worlds that stop.
 
-  -- events lead from the old world's state to where f leads
-  abbrev pub Leads : (Cast → State → State) → WorldState → Type 0
-  Leads f w = (g : Answers) (s : State) → IsReached (cast_for w g) s (f (cast_for w g) s)
-
-  pub stopped_as : (f h : Cast → State → State) (old new : WorldState) → ((g : Answers) → f (cast_for old g) old.state ≡ h (cast_for old g) old.state)
-      → IsStopped gives f old new → IsStopped gives h old new
-  stopped_as f h old new e k = record {
+  pub stopped_as : (e f : Cast → State → List Event) (old new : WorldState)
+      → ((g : Answers) → e (cast_for old g) old.state ≡ f (cast_for old g) old.state) → IsStopped gives e old new → IsStopped gives f old new
+  stopped_as e f old new same k = record {
     stopped = k.stopped;
     cast = k.cast;
     asked = k.asked;
-    book = λ g x. subst (λ t. IsOnTheWay (cast_for old g) old.state t new.state.book) (e g) (k.book g x);
+    book = λ g x. subst (λ (es : List Event). IsAlong (cast_for old g) old.state es new.state.book) (same g) (k.book g x);
   }
 
-  -- on the way to a state from which events lead on
-  pub stopped_then : (f h : Cast → State → State) (old new : WorldState) → IsStopped gives f old new → Leads h old
-      → IsStopped gives (λ c s. h c (f c s)) old new
-  stopped_then f h old new k leads = record {
+  -- on the way along steps after which others come
+  pub stopped_then : (e f : Cast → State → List Event) (old new : WorldState) → IsStopped gives e old new → IsStopped gives (λ c s. e c s ++ f c s) old new
+  stopped_then e f old new k = record {
     stopped = k.stopped;
     cast = k.cast;
     asked = k.asked;
-    book = λ g x. let c = cast_for old g in
-        way_then c old.state (f c old.state) (h c (f c old.state)) new.state.book (k.book g x) (leads g (f c old.state));
+    book = λ g x. let c = cast_for old g in along_more c old.state (e c old.state) (f c old.state) new.state.book (k.book g x);
   }
 
-  -- on the way from another world, to which events lead
-  pub way_from : (f h : Cast → State → State) (old mid new : WorldState) (g : Answers) → HasGone gives f old mid → HasAsked gives mid new → Continues new g
-      → IsOnTheWay (cast_for mid g) mid.state (h (cast_for mid g) mid.state) new.state.book
-      → IsOnTheWay (cast_for old g) (f (cast_for old g) old.state) (h (cast_for old g) (f (cast_for old g) old.state)) new.state.book
-  way_from f h old mid new g a more k way =
-      subst (λ (s : State). IsOnTheWay (cast_for old g) s (h (cast_for old g) s) new.state.book) (a.state g (continues_less gives mid new g more k))
-      (subst (λ (c : Cast). IsOnTheWay c mid.state (h c mid.state) new.state.book) (for_gone f old mid g a) way)
+  -- on the way from another world, to which the old one went
+  pub way_from : (f : Cast → State → State) (e : Cast → State → List Event) (old mid new : WorldState) (g : Answers) → HasGone gives f old mid
+      → HasAsked gives mid new → Continues new g → IsAlong (cast_for mid g) mid.state (e (cast_for mid g) mid.state) new.state.book
+      → IsAlong (cast_for old g) (f (cast_for old g) old.state) (e (cast_for old g) (f (cast_for old g) old.state)) new.state.book
+  way_from f e old mid new g a more k way =
+      subst (λ (s : State). IsAlong (cast_for old g) s (e (cast_for old g) s) new.state.book) (a.state g (continues_less gives mid new g more k))
+      (subst (λ (c : Cast). IsAlong c mid.state (e c mid.state) new.state.book) (for_gone f old mid g a) way)
 
-  pub stopped_after : (f h : Cast → State → State) (old mid new : WorldState) → HasGone gives f old mid → Leads f old → IsStopped gives h mid new
-      → IsStopped gives (λ c s. h c (f c s)) old new
-  stopped_after f h old mid new a leads k = record {
+  pub stopped_after : (f : Cast → State → State) (d e : Cast → State → List Event) (old mid new : WorldState) → HasGone gives f old mid
+      → ((g : Answers) → run_from (cast_for old g) old.state (d (cast_for old g) old.state) ≡ f (cast_for old g) old.state) → IsStopped gives e mid new
+      → IsStopped gives (λ c s. d c s ++ e c (f c s)) old new
+  stopped_after f d e old mid new a runs k = record {
     stopped = k.stopped;
     cast = k.cast ∙ cast_gone f old mid a;
     asked = more_asked gives old mid new a.asked (deal_gone f old mid a) k.asked;
     book = λ g x. let c = cast_for old g in
-        way_after c old.state (f c old.state) (h c (f c old.state)) new.state.book (leads g old.state)
-        (way_from f h old mid new g a k.asked x (k.book g x));
+        along_after c old.state (d c old.state) (e c (f c old.state)) new.state.book
+        (subst (λ (t : State). IsAlong c t (e c (f c old.state)) new.state.book) (sym (runs g)) (way_from f e old mid new g a k.asked x (k.book g x)));
   }
 
   -- in an event that wanted memory
-  pub stopped_in : (old new : WorldState) (e : Event) → CanStep old.deal old.conforming old.seeds e → new.stopped ≡ true → IsCut gives e old new
-      → IsStopped gives (λ c s. step c s e) old new
-  stopped_in old new e can stopped k = record {
+  pub stopped_in : (old new : WorldState) (e : Event) → new.stopped ≡ true → IsCut gives e old new → IsStopped gives (λ c s. e ∷ []) old new
+  stopped_in old new e stopped k = record {
     stopped = stopped;
     cast = k.cast;
     asked = k.asked;
-    book = λ g x. way_of_step (cast_for old g) old.state e new.state.book can (either g x k.book);
+    book = λ g x. along_step (cast_for old g) old.state e new.state.book (either g x k.book);
   }
     where
       either : (g : Answers) → Continues new g
@@ -175,19 +170,19 @@ module _ (gives : Gives) where
       either g x (inl h) = inl h
       either g x (inr h) = inr (h g x)
 
-  pub stopped_by : {A E : Type 0} (r : Result A E) (old new : WorldState) (e : Event) (f : Cast → State → State)
-      → ((g : Answers) → step (cast_for old g) old.state e ≡ f (cast_for old g) old.state) → CanStep old.deal old.conforming old.seeds e
-      → OnErr r (new.stopped ≡ true) → OnErr r (IsCut gives e old new) → OnErr r (IsStopped gives f old new)
-  stopped_by (Ok x) old new e f same can stopped k = tt
-  stopped_by (Err x) old new e f same can stopped k = stopped_as (λ c s. step c s e) f old new same (stopped_in old new e can stopped k)
+  pub stopped_by : {A E : Type 0} (r : Result A E) (old new : WorldState) (e : Event) (f : Cast → State → List Event)
+      → ((g : Answers) → e ∷ [] ≡ f (cast_for old g) old.state) → OnErr r (new.stopped ≡ true) → OnErr r (IsCut gives e old new)
+      → OnErr r (IsStopped gives f old new)
+  stopped_by (Ok x) old new e f same stopped k = tt
+  stopped_by (Err x) old new e f same stopped k = stopped_as (λ c s. e ∷ []) f old new same (stopped_in old new e stopped k)
 
   -- A world that stopped before stays where it is.
-  pub stopped_before : (f : Cast → State → State) (w : WorldState) → w.stopped ≡ true → Leads f w → IsStopped gives f w w
-  stopped_before f w e leads = record {
-    stopped = e;
+  pub stopped_before : (e : Cast → State → List Event) (w : WorldState) → w.stopped ≡ true → IsStopped gives e w w
+  stopped_before e w is = record {
+    stopped = is;
     cast = refl;
     asked = nothing_asked gives w w refl refl;
-    book = λ g x. record { there = w.state; before = no_event (cast_for w g) w.state; after = leads g w.state; book = refl };
+    book = λ g x. along_start (cast_for w g) w.state (e (cast_for w g) w.state) w.state.book refl;
   }
 
 -- Events in which nothing is asked.

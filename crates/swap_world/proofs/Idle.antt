@@ -27,10 +27,11 @@ use Rattle.party_machine.proofs.Resting.{still}
 use Rattle.swap_run.specs.Asked.{Answers, with_answers}
 use Rattle.swap_run.specs.Run.{Cast, Notes, Question, State, conforms, role_of, is_planned, notes_of}
 use Rattle.swap_run.specs.Fair.{repeat, adjacent, the_horizon, ticks, has_ended}
-use Rattle.swap_run.specs.Quiet.{over, IsIdle, SkipsTo}
+use Rattle.swap_run.specs.Quiet.{over, IsIdle}
+use Rattle.swap_run.specs.Steps.{IsSkipped}
 use Rattle.swap_run.specs.Laws.{IsReadyCast, IsGood}
-use Rattle.swap_run.proofs.Quiet.{Risen, rises, stays_low, notes_kept, finish_skips}
-use Rattle.swap_run.proofs.Finish.{round_goes_on}
+use Rattle.swap_run.proofs.Quiet.{Risen, rises, stays_low, notes_kept}
+use Rattle.swap_run.proofs.Skipped.{is_skipped, none_skipped}
 use Rattle.swap_world.specs.Cast.{wallet_with}
 use Rattle.swap_world.specs.Acting.{histories}
 use Rattle.swap_world.specs.Inside.{IsActorOf, AreActorsOf, AreLedgersOf}
@@ -226,14 +227,14 @@ raised_by n h after r = record { more = r.more; ticks = r.ticks; is = r.is; high
 -- such rounds, and one more, where a ledger stays low
 pub skips : (c : Cast) (n : ℕ) (s : State) (g : Answers) → IsReadyCast c → IsGood c s → has_ended c.deal s.book ≡ false
     → (0 < n → 0 < length c.deal.graph.arcs) → (0 < n → height (history s.book 0) + n ≤ the_horizon c.deal) → (0 < n → IsStill c n s)
-    → SkipsTo (with_answers c g) n s
-skips c zero s g ready good on some low still = round_goes_on (with_answers c g) s on
+    → IsSkipped (with_answers c g) n s
+skips c zero s g ready good on some low still = none_skipped (with_answers c g) s on
 skips c (suc k) s g ready good on some low still =
     let n = suc k in
     let more : 0 < n = omega arith in
     let x = with_answers c g in
     let quiet = still more in
-    finish_skips x quiet.plain n s quiet.noted
+    is_skipped x quiet.plain n s quiet.noted
     (stays_low x n s 0 (some more) (subst (λ z. 0 < z) (sym good.legal.one_each) (some more)) (low more))
     (λ i l v lv cv.
     subst (IsIdle x (repeat i (ticks x) s).book v) (ap (λ (ns : List Notes). slice_index_or ns v (record { known = []; signed = [] })) (sym (notes_kept x i s)))

@@ -7,6 +7,7 @@ pub mod Plans
 pub mod States
 pub mod Kept
 pub mod Restarts
+pub mod Disks
 pub mod Relearns
 pub mod Acts
 pub mod Worlds

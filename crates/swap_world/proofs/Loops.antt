@@ -8,13 +8,14 @@ use Rattle.deviator_script.specs.declared.event.Event.{Event}
 use Rattle.swap_run.specs.Asked.{Answers}
 use Rattle.swap_run.specs.Run.{Cast, State, run_from, step}
 use Rattle.swap_run.specs.Fair.{repeat}
-use Rattle.swap_run.specs.FairLaws.{IsReached}
+use Rattle.ledger_core.specs.Book.{Histories}
+use Rattle.swap_run.specs.Steps.{IsAlong}
 use Rattle.swap_run.proofs.Repeats.{repeat_one, rest_more}
 use Rattle.swap_world.specs.Value.{WorldState, cast_for, Continues}
 use Rattle.swap_world.specs.Gone.{Gives, HasGone, IsCut}
 use Rattle.swap_world.specs.Stopped.{IsAfterSome, IsStopped}
 use Rattle.swap_world.proofs.Gone.{gone_as, gone_then, cast_gone, continues_less, deal_gone, more_asked, way_from, for_gone}
-use Rattle.swap_world.proofs.Ways.{fold_way, range_all, repeat_way, LeadOn}
+use Rattle.swap_world.proofs.Ways.{along_over, over}
 
 -- Over a list.
 module _ (gives : Gives) {B : Type 0} (f : Cast → State → B → State) (old mid new : WorldState) (xs : List B) (k : ℕ) (x : B)
@@ -26,14 +27,16 @@ module _ (gives : Gives) {B : Type 0} (f : Cast → State → B → State) (old 
       ap (λ (y : B). f c (fold (f c) old.state (take k xs)) y) is ∙ sym (fold_more (f c) old.state xs k x l))
       (gone_then gives (λ c s. fold (f c) s (take k xs)) (λ c s. f c s x) old mid new so_far h)
 
-  pub list_stops : k < length xs → x ≡ get_or xs k x → ((g : Answers) → LeadOn (cast_for old g) (f (cast_for old g)) xs)
-      → IsStopped gives (λ c s. f c s x) mid new → IsStopped gives (λ c s. fold (f c) s xs) old new
-  list_stops l is leads h = record {
+  pub list_stops : (e : Cast → State → B → List Event) → k < length xs → x ≡ get_or xs k x
+      → ((g : Answers) (s : State) (y : B) → run_from (cast_for old g) s (e (cast_for old g) s y) ≡ f (cast_for old g) s y)
+      → IsStopped gives (λ c s. e c s x) mid new → IsStopped gives (λ c s. over (f c) (e c) s xs) old new
+  list_stops e l is runs h = record {
     stopped = h.stopped;
     cast = h.cast ∙ cast_gone gives (λ c s. fold (f c) s (take k xs)) old mid so_far;
     asked = more_asked gives old mid new so_far.asked (deal_gone gives (λ c s. fold (f c) s (take k xs)) old mid so_far) h.asked;
-    book = λ g e. fold_way (cast_for old g) (f (cast_for old g)) xs k x old.state new.state.book l is (leads g)
-        (way_from gives (λ c s. fold (f c) s (take k xs)) (λ c s. f c s x) old mid new g so_far h.asked e (h.book g e));
+    book = λ g q. let c = cast_for old g in
+        along_over c (f c) (e c) (runs g) xs k x old.state new.state.book l is
+        (way_from gives (λ c s. fold (f c) s (take k xs)) (λ c s. e c s x) old mid new g so_far h.asked q (h.book g q));
   }
 
 pub list_done : (gives : Gives) {B : Type 0} (f : Cast → State → B → State) (old mid : WorldState) (xs : List B) (k : ℕ) → length xs ≤ k
@@ -54,11 +57,10 @@ module _ (gives : Gives) (f : Cast → State → ℕ → State) (old mid new : W
   pub range_on : k < m → HasGone gives (λ c s. f c s k) mid new → HasGone gives (λ c s. fold (f c) s (take (k + 1) (range_with_len 0 m))) old new
   range_on l h = list_on gives f old mid new (range_with_len 0 m) k k so_far (low l) (here l) h
 
-  pub range_stops : k < m → ((x : ℕ) → x < m → (g : Answers) (s : State) → IsReached (cast_for old g) s (f (cast_for old g) s x))
-      → IsStopped gives (λ c s. f c s k) mid new → IsStopped gives (λ c s. fold (f c) s (range_with_len 0 m)) old new
-  range_stops l leads h =
-      list_stops gives f old mid new (range_with_len 0 m) k k so_far (low l) (here l)
-      (λ g. range_all (λ x. (s : State) → IsReached (cast_for old g) s (f (cast_for old g) s x)) m (λ x lt s. leads x lt g s)) h
+  pub range_stops : (e : Cast → State → ℕ → List Event) → k < m
+      → ((g : Answers) (s : State) (y : ℕ) → run_from (cast_for old g) s (e (cast_for old g) s y) ≡ f (cast_for old g) s y)
+      → IsStopped gives (λ c s. e c s k) mid new → IsStopped gives (λ c s. over (f c) (e c) s (range_with_len 0 m)) old new
+  range_stops e l runs h = list_stops gives f old mid new (range_with_len 0 m) k k so_far e (low l) (here l) runs h
 
 pub range_done : (gives : Gives) (f : Cast → State → ℕ → State) (old mid : WorldState) (m k : ℕ) → m ≤ k
     → HasGone gives (λ c s. fold (f c) s (take k (range_with_len 0 m))) old mid → HasGone gives (λ c s. fold (f c) s (range_with_len 0 m)) old mid
@@ -72,14 +74,15 @@ module _ (gives : Gives) (f : Cast → State → State) (old mid new : WorldStat
       gone_as gives (λ c s. f c (repeat k (f c) s)) (λ c s. repeat (k + 1) (f c) s) old new
       (λ g. sym (repeat_one k (f (cast_for old g)) old.state)) (gone_then gives (λ c s. repeat k (f c) s) f old mid new so_far h)
 
-  pub repeat_stops : k < m → ((g : Answers) (s : State) → IsReached (cast_for old g) s (f (cast_for old g) s)) → IsStopped gives f mid new
-      → IsStopped gives (λ c s. repeat m (f c) s) old new
-  repeat_stops l leads h = record {
+  pub repeat_stops : (e d : Cast → State → List Event)
+      → ((g : Answers) (b : Histories) → IsAlong (cast_for old g) (repeat k (f (cast_for old g)) old.state)
+      (e (cast_for old g) (repeat k (f (cast_for old g)) old.state)) b → IsAlong (cast_for old g) old.state (d (cast_for old g) old.state) b)
+      → IsStopped gives e mid new → IsStopped gives d old new
+  repeat_stops e d within h = record {
     stopped = h.stopped;
     cast = h.cast ∙ cast_gone gives (λ c s. repeat k (f c) s) old mid so_far;
     asked = more_asked gives old mid new so_far.asked (deal_gone gives (λ c s. repeat k (f c) s) old mid so_far) h.asked;
-    book = λ g e. repeat_way (cast_for old g) (f (cast_for old g)) m k old.state new.state.book l (leads g)
-        (way_from gives (λ c s. repeat k (f c) s) f old mid new g so_far h.asked e (h.book g e));
+    book = λ g q. within g new.state.book (way_from gives (λ c s. repeat k (f c) s) e old mid new g so_far h.asked q (h.book g q));
   }
 
   -- once f changes nothing

@@ -113,7 +113,7 @@ key_call signed Claim key e = absurd (cc e)
 key_call signed Refund key e = absurd (cc e)
 key_call signed (Transfer to units) key e = absurd (cc e)
 
-seen_left : (h : Held) → h.loose ≡ [] → Leaves h (read_bytes h)
+pub seen_left : (h : Held) → h.loose ≡ [] → Leaves h (read_bytes h)
 seen_left h settled = subst (λ (ws : List Write). MayBeLeft (synced_bytes h) ws (after_writes (synced_bytes h) ws)) (sym settled) refl
 
 -- an answer that signs nothing

@@ -168,7 +168,8 @@ module _ (d : Deal) (conforming : List Bool) (seeds : List (Option (List ℕ))) 
       ∙ (where_it_conforms p (make_on sw d s p (next_of c s p)) (act_on sw c s p (role_of c p)) i.is.0 ∙ sym (act_is sw c s p)))
 
   -- a party crashes and restarts
-  pub crashed : (p k image : ℕ) (m new : MachineState) → IsAt p m → new ≡ crashed_machine d m k image (histories ls) → replaced p (Conforming new) (histories ls) ≡ step c s (Crash p k image)
+  pub crashed : (p k image : ℕ) (m new : MachineState) → IsAt p m → new ≡ crashed_machine d m k image (histories ls)
+      → replaced p (Conforming new) (histories ls) ≡ step c s (Crash p k image)
   crashed p k image m new i e =
       let was : (notes_of s p).signed ≡ m.signed = ap (λ (n : Notes). n.signed) (notes_at p m i) in
       let n : notes_in d (Conforming new) ≡ record {
@@ -212,6 +213,10 @@ module _ (d : Deal) (conforming : List Bool) (seeds : List (Option (List ℕ))) 
       same_parts _ _ _ _ _ _ refl (map-set_same (notes_in d) xs p (Planned new) (Planned n) (ap (notes_in d) i.here))
       (map-set (plan_in d) xs p (Planned new))
 
+  -- a plan in the place of another notes nothing
+  pub plan_notes : (p : ℕ) (n new : Plan) → IsPlanAt p n → map (notes_in d) (set xs p (Planned new)) ≡ map (notes_in d) xs
+  plan_notes p n new i = map-set_same (notes_in d) xs p (Planned new) (Planned n) (ap (notes_in d) i.here)
+
   pub watched : (p a : ℕ) (n new : Plan) → IsPlanAt p n → new ≡ plan_up_to n a (history (histories ls) a)
       → replaced p (Planned new) (histories ls) ≡ step c s (Look p a)
   watched p a n new i e =
@@ -228,6 +233,9 @@ module _ (d : Deal) (conforming : List Bool) (seeds : List (Option (List ℕ))) 
   pub followed_book : (sw : ℕ → Bool) (p : ℕ) (n : Plan) → IsPlanAt p n → IsScript (role_of c p)
       → taken sw d p (due_call d conforming seeds roles n) (histories ls) ≡ (step_on sw c s (Act p)).book
   followed_book sw p n i script = ap (λ (t : State). t.book) (followed sw p n _ _ i script refl refl)
+
+  pub followed_notes : (sw : ℕ → Bool) (p : ℕ) (n : Plan) → IsPlanAt p n → IsScript (role_of c p) → (step_on sw c s (Act p)).notes ≡ map (notes_in d) xs
+  followed_notes sw p n i script = sym (ap (λ (t : State). t.notes) (followed sw p n _ _ i script refl refl)) ∙ plan_notes p n _ i
 
   pub followed_told : (sw : ℕ → Bool) (p : ℕ) (n : Plan) → IsPlanAt p n → IsScript (role_of c p)
       → told_to sw d p (due_call d conforming seeds roles n) (histories ls) ≡ told_in sw c s (Act p)
@@ -263,6 +271,9 @@ module _ (d : Deal) (conforming : List Bool) (seeds : List (Option (List ℕ))) 
   pub made_book : (sw : ℕ → Bool) (p : ℕ) (mv : Move) (n : Plan) → IsPlanAt p n
       → taken sw d p (resolved d seeds (histories ls) mv) (histories ls) ≡ (step_on sw c s (Made p mv)).book
   made_book sw p mv n i = ap (λ (t : State). t.book) (made_by_hand sw p mv n _ _ i refl refl)
+
+  pub made_notes : (sw : ℕ → Bool) (p : ℕ) (mv : Move) (n : Plan) → IsPlanAt p n → (step_on sw c s (Made p mv)).notes ≡ map (notes_in d) xs
+  made_notes sw p mv n i = sym (ap (λ (t : State). t.notes) (made_by_hand sw p mv n _ _ i refl refl)) ∙ plan_notes p n _ i
 
   pub made_told : (sw : ℕ → Bool) (p : ℕ) (mv : Move) → told_to sw d p (resolved d seeds (histories ls) mv) (histories ls) ≡ told_in sw c s (Made p mv)
   made_told sw p mv = sym (told_call sw c s p mv)

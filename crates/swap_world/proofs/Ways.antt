@@ -1,22 +1,23 @@
 -- Histories on the way to a state: by a step, in a loop over a list, and in a loop that repeats.
-use Rattle.std.proofs.Common.{◌≡◌, ◌⊎◌, inl, inr, Result, Ok, Err, OnOk, OnErr, ℕ, suc, zero, ◌+◌, ◌-◌, ◌<◌, ◌≤◌, Bool, true, false, List, [], ◌∷◌, length}
-use Rattle.std.proofs.Common.{get_or, take, drop, fold, sym, ap, ◌∙◌, subst, arith, add-one, drop-cons}
-use Rattle.std.specs.List.{range_with_len, list_all, All}
+use Rattle.std.proofs.Common.{◌≡◌, ◌≢◌, ◌⊎◌, inl, inr, Result, Ok, Err, OnOk, OnErr, ℕ, suc, zero, ◌+◌, ◌-◌, ◌<◌, ◌≤◌, nat_le, Bool, true, false, cond}
+use Rattle.std.proofs.Common.{List, [], ◌∷◌, ◌++◌, length, map, replicate, get_or, take, fold, refl, sym, ap, ◌∙◌, subst, arith}
+use Rattle.std.specs.List.{range_with_len, list_all, flat_map, All}
 use Rattle.std.proofs.lemmas.List.Folds.{list_all_at, list_all_more}
 use Rattle.swap_base.proofs.Lists.{and_both}
-use Rattle.std.proofs.lemmas.List.{take-append-drop, take_all}
+use Rattle.std.proofs.lemmas.List.{replicate-append-replicate, take_all}
 use Rattle.std.proofs.lemmas.List.FromFn.{length-range_with_len, get_or-range_with_len}
-use Rattle.std.proofs.lemmas.List.Sums.{fold-append, fold_more}
-use Rattle.std.proofs.lemmas.List.Elements.{All-head, All-tail, All-take, All-drop, All-from_get_or}
-use Rattle.ledger_core.specs.Book.{Histories}
+use Rattle.std.proofs.lemmas.List.Sums.{fold_more}
+use Rattle.std.proofs.lemmas.List.Elements.{All-from_get_or}
+use Rattle.ledger_core.specs.History.{height}
+use Rattle.ledger_core.specs.Book.{Histories, history}
 use Rattle.deviator_script.specs.declared.event.Event.{Event}
-use Rattle.deviator_script.specs.Step.{CanStep}
-use Rattle.swap_run.specs.Run.{Cast, State, step}
-use Rattle.swap_run.specs.Fair.{repeat}
-use Rattle.swap_run.specs.FairLaws.{IsReached}
-use Rattle.swap_run.proofs.Reached.{no_event, one_event, more_events, repeat_events}
+use Rattle.deviator_script.specs.declared.event.Event.TheVariants.{Tick, Look, Act}
+use Rattle.swap_run.specs.Run.{Cast, State, run_from, step}
+use Rattle.swap_run.specs.Fair.{repeat, acts, the_horizon, tick_low, ticks, turn}
+use Rattle.swap_run.specs.Steps.{after_low, low_step, low_steps, pass_steps, tick_steps, turn_steps, IsAlong}
+use Rattle.swap_run.proofs.Along.{along_more, along_after, acts_run, pass_run}
+use Rattle.swap_laws.proofs.Prefixes.{same_or_not}
 use Rattle.swap_world.specs.Value.{WorldState}
-use Rattle.swap_world.specs.Stopped.{IsOnTheWay}
 
 -- Lists and numbers.
 
@@ -60,64 +61,83 @@ pub repeat_split : {A : Type 0} (j k : ℕ) (f : A → A) (x : A) → repeat (j 
 repeat_split zero k f x = let z : 0 + k ≡ k = omega arith in ap (λ i. repeat i f x) z
 repeat_split (suc j) k f x = let z : suc j + k ≡ suc (j + k) = omega arith in ap (λ i. repeat i f x) z ∙ ap f (repeat_split j k f x)
 
--- what comes at place k and after it
-split_at : {A B : Type 0} (f : A → B → A) (s : A) (xs : List B) (k : ℕ) (x : B) → k < length xs → x ≡ get_or xs k x
-    → fold f s xs ≡ fold f (f (fold f s (take k xs)) x) (drop (k + 1) xs)
-split_at {A = A} {B = B} f s xs k x l is =
-    let e : drop k xs ≡ x ∷ drop (k + 1) xs = rw (add-one, drop-cons xs k x, ← is) in
-    ap (λ (ys : List B). fold f s ys) (sym (take-append-drop k xs))
-    ∙ (fold-append f s (take k xs) (drop k xs) ∙ ap (λ (ys : List B). fold f (fold f s (take k xs)) ys) e)
-
 -- Ways.
 
+-- the steps over a list, each from where those before it lead
+abbrev pub over : {B : Type 0} → (State → B → State) → (State → B → List Event) → State → List B → List Event
+over f e s [] = []
+over f e s (x ∷ xs) = e s x ++ over f e (f s x) xs
+
+module _ (c : Cast) {B : Type 0} (f : State → B → State) (e : State → B → List Event) (runs : (s : State) (x : B) → run_from c s (e s x) ≡ f s x) where
+  -- what is on the way of one of them is on the way of all
+  pub along_over : (xs : List B) (k : ℕ) (x : B) (s : State) (b : Histories) → k < length xs → x ≡ get_or xs k x
+      → IsAlong c (fold f s (take k xs)) (e (fold f s (take k xs)) x) b → IsAlong c s (over f e s xs) b
+  along_over [] k x s b l is w = absurd (omega (arith, l))
+  along_over (y ∷ xs) zero x s b l is w =
+      along_more c s (e s y) (over f e (f s y) xs) b (subst (λ (z : B). IsAlong c s (e s z) b) is w)
+  along_over (y ∷ xs) (suc k) x s b l is w =
+      along_after c s (e s y) (over f e (f s y) xs) b (subst (λ (t : State). IsAlong c t (over f e (f s y) xs) b) (sym (runs s y))
+      (along_over xs k x (f s y) b (omega (arith, l)) is w))
+
 module _ (c : Cast) where
-  pub way_then : (s t u : State) (b : Histories) → IsOnTheWay c s t b → IsReached c t u → IsOnTheWay c s u b
-  way_then s t u b w r = record { there = w.there; before = w.before; after = more_events c w.there t u w.after r; book = w.book }
+  pub over_events : (xs : List Event) (s : State) → over (step c) (λ t x. x ∷ []) s xs ≡ xs
+  over_events [] s = refl
+  over_events (x ∷ xs) s = ap (λ (ys : List Event). x ∷ ys) (over_events xs (step c s x))
 
-  pub way_after : (s t u : State) (b : Histories) → IsReached c s t → IsOnTheWay c t u b → IsOnTheWay c s u b
-  way_after s t u b r w = record { there = w.there; before = more_events c s t w.there r w.before; after = w.after; book = w.book }
+  pub over_looks : (v : ℕ) (xs : List ℕ) (s : State) → over (λ t a. step c t (Look v a)) (λ t a. Look v a ∷ []) s xs ≡ map (λ a. Look v a) xs
+  over_looks v [] s = refl
+  over_looks v (a ∷ xs) s = ap (λ (ys : List Event). Look v a ∷ ys) (over_looks v xs (step c s (Look v a)))
 
-  pub way_of_step : (s : State) (e : Event) (b : Histories) → CanStep c.deal c.conforming c.seeds e → (b ≡ s.book) ⊎ (b ≡ (step c s e).book)
-      → IsOnTheWay c s (step c s e) b
-  way_of_step s e b can (inl is) = record { there = s; before = no_event c s; after = one_event c s e can; book = is }
-  way_of_step s e b can (inr is) = record { there = step c s e; before = one_event c s e can; after = no_event c (step c s e); book = is }
+  pub over_turns : (xs : List ℕ) (s : State) → over (turn c) (λ t v. turn_steps c v) s xs ≡ flat_map (turn_steps c) xs
+  over_turns [] s = refl
+  over_turns (v ∷ xs) s = ap (λ (ys : List Event). turn_steps c v ++ ys) (over_turns xs (turn c s v))
 
-  -- each member of the list leads on
-  abbrev pub LeadOn : {B : Type 0} → (State → B → State) → List B → Type 0
-  LeadOn f xs = All (λ y. (s : State) → IsReached c s (f s y)) xs
+  low_book : (s : State) (a : ℕ) → (tick_low c s a).book ≡ after_low c.deal s.book a
+  low_book s a = go (nat_le (height (history s.book a)) (the_horizon c.deal))
+    where
+      go : (y : Bool) → (cond y (step c s (Tick a 1)) s).book ≡ cond y (step c s (Tick a 1)).book s.book
+      go true = refl
+      go false = refl
 
-  pub fold_reached : {B : Type 0} (f : State → B → State) (xs : List B) (s : State) → LeadOn f xs → IsReached c s (fold f s xs)
-  fold_reached f [] s h = no_event c s
-  fold_reached f (x ∷ xs) s h =
-      more_events c s (f s x) (fold f (f s x) xs) (All-head (λ y. (s : State)
-      → IsReached c s (f s y)) x xs h s) (fold_reached f xs (f s x) (All-tail (λ y. (s : State) → IsReached c s (f s y)) x xs h))
+  pub low_run : (s : State) (a : ℕ) → run_from c s (low_step c.deal s.book a) ≡ tick_low c s a
+  low_run s a = go (nat_le (height (history s.book a)) (the_horizon c.deal))
+    where
+      go : (y : Bool) → run_from c s (cond y (Tick a 1 ∷ []) []) ≡ cond y (step c s (Tick a 1)) s
+      go true = refl
+      go false = refl
 
-  pub fold_way : {B : Type 0} (f : State → B → State) (xs : List B) (k : ℕ) (x : B) (s : State) (b : Histories) → k < length xs → x ≡ get_or xs k x
-      → LeadOn f xs → IsOnTheWay c (fold f s (take k xs)) (f (fold f s (take k xs)) x) b → IsOnTheWay c s (fold f s xs) b
-  fold_way {B = B} f xs k x s b l is h w =
-      let P : B → Type 0 = λ y. (s : State) → IsReached c s (f s y) in
-      let part = fold f s (take k xs) in
-      subst (λ t. IsOnTheWay c s t b) (sym (split_at f s xs k x l is))
-      (way_after s part (fold f (f part x) (drop (k + 1) xs)) b (fold_reached f (take k xs) s (All-take P k xs h))
-      (way_then part (f part x) (fold f (f part x) (drop (k + 1) xs)) b w (fold_reached f (drop (k + 1) xs) (f part x) (All-drop P (k + 1) xs h))))
+  pub over_ticks : (js : List ℕ) (s : State) → over (tick_low c) (λ t a. low_step c.deal t.book a) s js ≡ low_steps c.deal s.book js
+  over_ticks [] s = refl
+  over_ticks (a ∷ js) s =
+      ap (λ (ys : List Event). low_step c.deal s.book a ++ ys) (over_ticks js (tick_low c s a)
+      ∙ ap (λ (b : Histories). low_steps c.deal b js) (low_book s a))
 
-  pub range_way : (f : State → ℕ → State) (m k : ℕ) (s : State) (b : Histories) → k < m → ((x : ℕ) → x < m → (s : State) → IsReached c s (f s x))
-      → IsOnTheWay c (fold f s (take k (range_with_len 0 m))) (f (fold f s (take k (range_with_len 0 m))) k) b
-      → IsOnTheWay c s (fold f s (range_with_len 0 m)) b
-  range_way f m k s b l h w =
-      let n = length-range_with_len 0 m in
-      let z : 0 + k ≡ k = omega arith in
-      fold_way f (range_with_len 0 m) k k s b (omega (arith, n, l)) (sym (get_or-range_with_len 0 m k k l ∙ z)) (range_all (λ y. (s : State)
-      → IsReached c s (f s y)) m h) w
+  -- on the way of one act of so many
+  pub along_acts : (m k v : ℕ) (s : State) (b : Histories) → k < m → IsAlong c (acts c v k s) (Act v ∷ []) b → IsAlong c s (replicate m (Act v)) b
+  along_acts m k v s b l w =
+      let e : k + (1 + (m - (k + 1))) ≡ m = omega (arith, l) in
+      let rest = replicate (m - (k + 1)) (Act v) in
+      subst (λ (es : List Event). IsAlong c s es b)
+      (ap (λ (es : List Event). replicate k (Act v) ++ es) (replicate-append-replicate 1 (m - (k + 1)) (Act v))
+      ∙ replicate-append-replicate k (1 + (m - (k + 1))) (Act v) ∙ ap (λ i. replicate i (Act v)) e)
+      (along_after c s (replicate k (Act v)) (replicate 1 (Act v) ++ rest) b
+      (subst (λ (t : State). IsAlong c t (replicate 1 (Act v) ++ rest) b) (sym (acts_run c k v s))
+      (along_more c (acts c v k s) (replicate 1 (Act v)) rest b w)))
 
-  pub repeat_way : (f : State → State) (m k : ℕ) (s : State) (b : Histories) → k < m → ((s : State) → IsReached c s (f s))
-      → IsOnTheWay c (repeat k f s) (f (repeat k f s)) b → IsOnTheWay c s (repeat m f s) b
-  repeat_way f m k s b l h w =
-      let n : m ≡ (m - suc k) + suc k = omega arith in
-      let e : repeat m f s ≡ repeat (m - suc k) f (repeat (suc k) f s) = ap (λ j. repeat j f s) n ∙ repeat_split (m - suc k) (suc k) f s in
-      subst (λ t. IsOnTheWay c s t b) (sym e)
-      (way_after s (repeat k f s) (repeat (m - suc k) f (repeat (suc k) f s)) b (repeat_events c k f s h)
-      (way_then (repeat k f s) (f (repeat k f s)) (repeat (m - suc k) f (repeat (suc k) f s)) b w (repeat_events c (m - suc k) f (repeat (suc k) f s) h)))
+  -- on the way of the ticks of one round of so many
+  pub along_pass : (m k : ℕ) (s : State) (b : Histories) → k < m → IsAlong c (repeat k (ticks c) s) (tick_steps c.deal (repeat k (ticks c) s).book) b
+      → IsAlong c s (pass_steps m c s) b
+  along_pass zero k s b l w = absurd (omega (arith, l))
+  along_pass (suc m) k s b l w = go (same_or_not k m) (λ lt. along_pass m k s b lt w)
+    where
+      last : List Event
+      last = tick_steps c.deal (repeat m (ticks c) s).book
+
+      go : (k ≡ m) ⊎ (k ≢ m) → (k < m → IsAlong c s (pass_steps m c s) b) → IsAlong c s (pass_steps (suc m) c s) b
+      go (inl e) rest =
+          along_after c s (pass_steps m c s) last b (subst (λ (t : State). IsAlong c t last b) (sym (pass_run c m s))
+          (subst (λ i. IsAlong c (repeat i (ticks c) s) (tick_steps c.deal (repeat i (ticks c) s).book) b) e w))
+      go (inr apart) rest = let q : ◌≢◌ {A = ℕ} k m = apart in along_more c s (pass_steps m c s) last b (rest (omega (arith, l, q)))
 
 -- Worlds.
 

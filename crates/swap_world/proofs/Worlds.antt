@@ -1,5 +1,5 @@
 -- What a world keeps at each event.
-use Rattle.std.proofs.Common.{◌≡◌, Result, Ok, Err, OnOk, OnErr, ◌⊎◌, inl, inr, ℕ, ◌<◌, Bool, false, List, [], ◌∷◌, length, get_or, set, Option, Some}
+use Rattle.std.proofs.Common.{◌≡◌, Result, Ok, Err, OnOk, OnErr, ◌⊎◌, inl, inr, ℕ, ◌<◌, Bool, false, List, [], ◌∷◌, length, get_or, set, take, Option, Some}
 use Rattle.std.proofs.Common.{refl, sym, ap, ap₂, ◌∙◌, subst}
 use Rattle.std.specs.Result.{is_err}
 use Rattle.std.specs.List.{All}
@@ -21,6 +21,7 @@ use Rattle.swap_run.specs.Asked.{Answers, with_answers}
 use Rattle.swap_run.specs.Run.{Cast, Plan, Question, State, notes_of, next_of, step, run_from}
 use Rattle.swap_run.specs.Laws.{AreGoodNotes, IsReadyCast, IsGood, IsGoodPlan, IsKept}
 use Rattle.swap_run.specs.FairLaws.{IsReached}
+use Rattle.swap_run.proofs.Along.{along_reached}
 use Rattle.party_wallet.specs.Value.{signed_in}
 use Rattle.swap_laws.proofs.Due.{due_is_valid}
 use Rattle.swap_run.proofs.Noted.{due_now}
@@ -196,20 +197,26 @@ reached_kept c s t ready g r = good_is_kept c t ready (subst (IsGood c) (sym r.s
 reached_kept_for : (c : Cast) (g : Answers) (s t : State) → IsReadyCast c → IsGood c s → IsReached (with_answers c g) s t → IsKept c t.book
 reached_kept_for c g s t ready k r = kept_of_any c g t.book (reached_kept (with_answers c g) s t (ready_for c g ready) (good_for c g s k) r)
 
--- the same of a world that went where f leads, or stopped on its way there
-pub kept_to : {A E : Type 0} (r : Result A E) (gives : Gives) (f : Cast → State → State) (old new : WorldState) → OnOk r (HasGone gives f old new)
-    → OnErr r (IsStopped gives f old new) → ((g : Answers) → IsReached (cast_for old g) old.state (f (cast_for old g) old.state))
+-- the same of a world that went where f leads, or stopped on the way along steps that can be taken
+pub kept_to : {A E : Type 0} (r : Result A E) (gives : Gives) (f : Cast → State → State) (e : Cast → State → List Event) (old new : WorldState)
+    → OnOk r (HasGone gives f old new) → OnErr r (IsStopped gives e old new)
+    → ((g : Answers) → IsReached (cast_for old g) old.state (f (cast_for old g) old.state))
+    → ((g : Answers) → All (CanStep old.deal old.conforming old.seeds) (e (cast_for old g) old.state))
     → IsReadyCast (cast_at old) → IsGood (cast_at old) old.state → IsKept (cast_at new) new.state.book
-kept_to (Ok x) gives f old new ok err leads ready k =
+kept_to (Ok x) gives f e old new ok err leads can ready k =
     let g = answers_of new in
     subst (λ c. IsKept c new.state.book) (sym (ap cast_at ok.same))
     (subst (λ (s : State). IsKept (cast_at old) s.book) (sym (ok.state g (λ i l. refl)))
     (reached_kept_for (cast_at old) g old.state (f (cast_for old g) old.state) ready k (leads g)))
-kept_to (Err x) gives f old new ok err leads ready k =
+kept_to (Err x) gives f e old new ok err leads can ready k =
     let g = answers_of new in
+    let c = cast_for old g in
     let way = err.book g (λ i l. refl) in
+    let events = e c old.state in
     subst (λ c. IsKept c new.state.book) (sym err.cast)
-    (subst (IsKept (cast_at old)) (sym way.book) (reached_kept_for (cast_at old) g old.state way.there ready k way.before))
+    (subst (IsKept (cast_at old)) (sym way.book)
+    (reached_kept_for (cast_at old) g old.state (run_from c old.state (take way.count events)) ready k
+    (along_reached c old.state events new.state.book (can g) way)))
 
 -- what follows from two facts that stand where memory sufficed
 pub both : {A E : Type 0} {P Q R : Type 0} (r : Result A E) → (P → Q → R) → OnOk r P → OnOk r Q → OnOk r R

@@ -10,7 +10,7 @@ use Rattle.swap_run.specs.Run.{Cast, Notes, Plan, Question, State, no_notes, fir
 use Rattle.swap_run.specs.Laws.{IsReadyCast, IsGood, IsKept}
 use Rattle.swap_world.specs.Cast.{cast_with}
 use Rattle.swap_world.specs.Acting.{question_of}
-use Rattle.swap_world.specs.Journals.{AreJournalsOf}
+use Rattle.swap_world.specs.Journals.{AreDisksOf, AreJournalsOf}
 use Rattle.swap_world.specs.Value.{WorldState}
 use Rattle.swap_world.specs.declared.actor.Actor.{Actor}
 use Rattle.swap_world.specs.declared.actor.Actor.TheVariants.{Conforming, Planned, Manual}
@@ -117,5 +117,6 @@ pub record Holds (w : Inside) : Type 0 where
   pub good : w.stopped ≡ false → IsGood (cast_in w) (state_in w)
   pub room : w.stopped ≡ false → HaveRoom w.ledgers.items
   pub journals : w.stopped ≡ false → AreJournalsOf w.deal w.actors.items w.journals.items
+  pub disks : w.stopped ≡ true → AreDisksOf w.deal (state_in w).book w.actors.items w.journals.items
   -- also where memory ran out
   pub kept : IsKept (cast_in w) (state_in w).book

@@ -1,23 +1,30 @@
 -- The journals of the conforming parties of a world, on disks in memory.
-use Rattle.std.specs.Prelude.{◌≡◌, ◌<◌, ℕ, Bool, true, false, List, [], length, replicate, slice_index_or, Option, Some, None, if◌then◌else◌}
+use Rattle.std.specs.Prelude.{◌≡◌, ◌⊎◌, ◌<◌, ℕ, Bool, true, false, List, [], length, replicate, slice_index_or, Option, Some, None, if◌then◌else◌}
 use Rattle.swap_digraph.specs.declared.deal.Deal.{Deal}
 use Rattle.hashkey_path.specs.declared.hashkey.Hashkey.{Hashkey}
 use Rattle.ledger_core.specs.declared.entry.Entry.{Entry}
 use Rattle.ledger_core.specs.Book.{Histories, history}
 use Rattle.deviator_script.specs.View.{is_near}
+use Rattle.ledger_core.specs.declared.entry.Call.TheVariants.{Unlock}
+use Rattle.swap_base.specs.Lists.{IsMoment}
+use Rattle.swap_rules.specs.Party.{call_by}
+use Rattle.party_wallet.specs.Value.{signed_in}
+use Rattle.wallet_journal.specs.Held.{Held, Leaves}
+use Rattle.wallet_journal.specs.Layout.{recorded}
 use Rattle.party_machine.specs.Machine.{MachineState}
 use Rattle.wallet_journal.specs.Journal.{JournalState}
 use Rattle.wallet_journal.specs.Memory.{DiskState}
-use Rattle.wallet_journal.specs.Stopped.{IsOwnDisk}
+use Rattle.wallet_journal.specs.Stopped.{IsOwnDisk, ShowsAll}
 use Rattle.swap_world.specs.declared.actor.Actor.{Actor}
 use Rattle.swap_world.specs.declared.actor.Actor.TheVariants.{Conforming}
 
--- The journal of party v has just the hashkeys that were signed, on a disk on which no call fails.
+-- The journal of party v has just the hashkeys that were signed, on a disk on which no call fails, and so has each device that a crash leaves.
 pub record IsJournalOf (d : Deal) (v : ℕ) (signed : List (Option Hashkey)) (j : JournalState DiskState) : Type 0 where
   pub me : j.me ≡ v
   pub sound : j.sound ≡ true
   pub has : j.signed ≡ signed
   pub own : IsOwnDisk d v j.disk
+  pub shows : ShowsAll j.signed j.disk.held
 
 abbrev pub IsSomeJournal : Deal → ℕ → List (Option Hashkey) → Option (JournalState DiskState) → Type 0
 IsSomeJournal d v signed None = ⊥
@@ -28,6 +35,29 @@ pub record AreJournalsOf (d : Deal) (xs : List Actor) (js : List (Option (Journa
   pub one_each : length js ≡ length xs
   pub each : (v : ℕ) (m : MachineState) (o : Option (JournalState DiskState)) → v < length xs → Conforming m ≡ slice_index_or xs v (Conforming m)
       → o ≡ slice_index_or js v o → IsSomeJournal d v m.signed o
+
+-- Each device that a crash leaves has for each lock what was signed before or what is signed now, and what was signed before stays signed.
+pub record IsBetween (before after : List (Option Hashkey)) (h : Held) : Type 0 where
+  pub places : length after ≡ length before
+  pub each : (i : ℕ) → i < length after → (c : List ℕ) → Leaves h c → (recorded c i ≡ signed_in before i) ⊎ (recorded c i ≡ signed_in after i)
+  pub stays : (i : ℕ) (key : Hashkey) → signed_in before i ≡ Some key → signed_in after i ≡ Some key
+
+-- Each device that a crash leaves of the disk of party v has no hashkey recorded that isn't signed, and that of each unlock call which the party made.
+pub record IsDiskOf (d : Deal) (v : ℕ) (b : Histories) (signed : List (Option Hashkey)) (h : Held) : Type 0 where
+  pub places : length signed ≡ length d.leaders
+  pub only : (i : ℕ) (key : Hashkey) → i < length signed → (c : List ℕ) → Leaves h c → recorded c i ≡ Some key → signed_in signed i ≡ Some key
+  pub calls : (a : ℕ) (past : List Entry) (e : Entry) (key : Hashkey) → IsMoment (history b a) past e → call_by v e ≡ Some (Unlock key)
+      → (c : List ℕ) → Leaves h c → recorded c key.lock ≡ Some key
+
+abbrev pub IsSomeDisk : Deal → ℕ → Histories → List (Option Hashkey) → Option (JournalState DiskState) → Type 0
+IsSomeDisk d v b signed None = ⊥
+IsSomeDisk d v b signed (Some j) = IsDiskOf d v b signed j.disk.held
+
+-- Each machine has its disk.
+pub record AreDisksOf (d : Deal) (b : Histories) (xs : List Actor) (js : List (Option (JournalState DiskState))) : Type 0 where
+  pub one_each : length js ≡ length xs
+  pub each : (v : ℕ) (m : MachineState) (o : Option (JournalState DiskState)) → v < length xs → Conforming m ≡ slice_index_or xs v (Conforming m)
+      → o ≡ slice_index_or js v o → IsSomeDisk d v b m.signed o
 
 -- the journal of party v before anything is signed, where it conforms
 abbrev pub IsFirstJournal : Deal → ℕ → Bool → Option (JournalState DiskState) → Type 0

@@ -1,10 +1,11 @@
 //! The fair finish, by turns and rounds.
 
-ghost use Rattle.std.specs.Prelude.{◌≡◌, ◌<◌, ◌≤◌, ◌+◌, ℕ, IfOk, OnOk, OnErr, length, true, false};
+ghost use Rattle.std.specs.Prelude.{◌≡◌, ◌<◌, ◌≤◌, ◌+◌, ℕ, IfOk, OnOk, OnErr, length, replicate, true, false};
 ghost use Rattle.swap_digraph.specs.Deal.{IsWellSized};
 ghost use Rattle.swap_run.specs.Run.{conforms};
 ghost use Rattle.swap_run.specs.Fair.{acts, adjacent, finish, has_ended, looks, most_acts, repeat, round, round_unless_ended};
 ghost use Rattle.swap_run.specs.Fair.{the_horizon, tick_low, ticks, turn, turns};
+ghost use Rattle.swap_run.specs.Steps.{finish_steps, look_steps, low_step, pass_steps, round_steps, rounds_steps, tick_steps, turn_steps, turns_steps};
 ghost use Rattle.swap_world.specs.Value.{cast_at};
 ghost use Rattle.swap_world.specs.Gone.{HasGone};
 ghost use Rattle.swap_world.specs.Staff.{AreHeld};
@@ -29,7 +30,7 @@ fn look_around<K: Strategies>(
     requires near { near.now ≡ adjacent world.old.deal p }
     requires kit { AreHeld (K.holds kit.now) world.old.roles }
     ensures ok { OnOk result (HasGone (K.gives kit.now) (λ c s. looks c p s) world.old world.new) }
-    ensures err { OnErr result (IsStopped (K.gives kit.now) (λ c s. looks c p s) world.old world.new) }
+    ensures err { OnErr result (IsStopped (K.gives kit.now) (λ c s. look_steps c.deal p) world.old world.new) }
 {
     'arcs: for arc in near {
         world.step(kit, &Event::Look(p, *arc))?;
@@ -51,7 +52,7 @@ fn act_to_rest<K: Strategies>(world: &mut World, _kit: &K, p: PartyId) -> Result
     requires conforms { conforms (cast_at world.old) p ≡ true }
     requires goes_on { world.old.stopped ≡ false }
     ensures ok { OnOk result (HasGone (K.gives _kit.now) (λ c s. acts c p (most_acts world.old.deal) s) world.old world.new) }
-    ensures err { OnErr result (IsStopped (K.gives _kit.now) (λ c s. acts c p (most_acts world.old.deal) s) world.old world.new) }
+    ensures err { OnErr result (IsStopped (K.gives _kit.now) (λ c s. replicate (most_acts world.old.deal) (Event.Act p)) world.old world.new) }
 {
     'acts: for _ in 0..most_acts(world.deal()) {
         if !world.act_if_due(p)? {
@@ -73,7 +74,7 @@ fn turn<K: Strategies>(
     requires goes_on { world.old.stopped ≡ false }
     requires kit { AreHeld (K.holds kit.now) world.old.roles }
     ensures ok { OnOk result (HasGone (K.gives kit.now) (λ c s. turn c s p) world.old world.new) }
-    ensures err { OnErr result (IsStopped (K.gives kit.now) (λ c s. turn c s p) world.old world.new) }
+    ensures err { OnErr result (IsStopped (K.gives kit.now) (λ c s. turn_steps c p) world.old world.new) }
 {
     look_around(world, kit, p, near)?;
     if world.conforms(p) {
@@ -88,7 +89,7 @@ fn turns<K: Strategies>(world: &mut World, kit: &K, near: &[Listed<ArcId>]) -> R
     requires goes_on { world.old.stopped ≡ false }
     requires kit { AreHeld (K.holds kit.now) world.old.roles }
     ensures ok { OnOk result (HasGone (K.gives kit.now) turns world.old world.new) }
-    ensures err { OnErr result (IsStopped (K.gives kit.now) turns world.old world.new) }
+    ensures err { OnErr result (IsStopped (K.gives kit.now) (λ c s. turns_steps c) world.old world.new) }
 {
     'parties: for p in 0..world.deal().graph.n() {
         let place = p as usize;
@@ -110,7 +111,7 @@ fn tick_low<K: Strategies>(world: &mut World, kit: &K, arc: ArcId) -> Result<(),
     requires arc { arc < length world.old.deal.graph.arcs }
     requires kit { AreHeld (K.holds kit.now) world.old.roles }
     ensures ok { OnOk result (HasGone (K.gives kit.now) (λ c s. tick_low c s arc) world.old world.new) }
-    ensures err { OnErr result (IsStopped (K.gives kit.now) (λ c s. tick_low c s arc) world.old world.new) }
+    ensures err { OnErr result (IsStopped (K.gives kit.now) (λ c s. low_step c.deal s.book arc) world.old world.new) }
 {
     if world.height(arc) as u64 > horizon_of(world.deal()) {
         return Ok(());
@@ -122,7 +123,7 @@ fn tick_low<K: Strategies>(world: &mut World, kit: &K, arc: ArcId) -> Result<(),
 fn ticks<K: Strategies>(world: &mut World, kit: &K) -> Result<(), NoMemory>
     requires kit { AreHeld (K.holds kit.now) world.old.roles }
     ensures ok { OnOk result (HasGone (K.gives kit.now) ticks world.old world.new) }
-    ensures err { OnErr result (IsStopped (K.gives kit.now) ticks world.old world.new) }
+    ensures err { OnErr result (IsStopped (K.gives kit.now) (λ c s. tick_steps c.deal s.book) world.old world.new) }
 {
     'arcs: for arc in 0..world.deal().graph.arcs().len() as ArcId {
         tick_low(world, kit, arc)?;
@@ -150,7 +151,7 @@ fn round<K: Strategies>(world: &mut World, kit: &K, near: &[Listed<ArcId>]) -> R
     requires goes_on { world.old.stopped ≡ false }
     requires kit { AreHeld (K.holds kit.now) world.old.roles }
     ensures ok { OnOk result (HasGone (K.gives kit.now) round world.old world.new) }
-    ensures err { OnErr result (IsStopped (K.gives kit.now) round world.old world.new) }
+    ensures err { OnErr result (IsStopped (K.gives kit.now) round_steps world.old world.new) }
 {
     turns(world, kit, near)?;
     ticks(world, kit)
@@ -160,7 +161,7 @@ fn round<K: Strategies>(world: &mut World, kit: &K, near: &[Listed<ArcId>]) -> R
 fn pass<K: Strategies>(world: &mut World, kit: &K, count: u64) -> Result<(), NoMemory>
     requires kit { AreHeld (K.holds kit.now) world.old.roles }
     ensures ok { OnOk result (HasGone (K.gives kit.now) (λ c s. repeat count (ticks c) s) world.old world.new) }
-    ensures err { OnErr result (IsStopped (K.gives kit.now) (λ c s. repeat count (ticks c) s) world.old world.new) }
+    ensures err { OnErr result (IsStopped (K.gives kit.now) (pass_steps count) world.old world.new) }
 {
     'rounds: for _ in 0..count {
         ticks(world, kit)?;
@@ -183,7 +184,7 @@ fn advance<K: Strategies>(
     ensures ok { IfOk result (λ n. HasGone (K.gives kit.now) (λ c s. repeat n (round_unless_ended c) s) world.old world.new) }
     ensures some { IfOk result (λ n. 1 ≤ n) }
     ensures few { IfOk result (λ n. n ≤ most) }
-    ensures err { OnErr result ((n : ℕ) × (n ≤ most) × IsStopped (K.gives kit.now) (λ c s. repeat n (round_unless_ended c) s) world.old world.new) }
+    ensures err { OnErr result ((n : ℕ) × (n ≤ most) × IsStopped (K.gives kit.now) (rounds_steps n) world.old world.new) }
 {
     let quiet = world.quiet_rounds(near, most - 1);
     pass(world, kit, quiet)?;
@@ -197,7 +198,7 @@ fn rounds<K: Strategies>(world: &mut World, kit: &K, near: &[Listed<ArcId>]) -> 
     requires goes_on { world.old.stopped ≡ false }
     requires kit { AreHeld (K.holds kit.now) world.old.roles }
     ensures ok { OnOk result (HasGone (K.gives kit.now) finish world.old world.new) }
-    ensures err { OnErr result (IsStopped (K.gives kit.now) finish world.old world.new) }
+    ensures err { OnErr result (IsStopped (K.gives kit.now) finish_steps world.old world.new) }
 {
     let mut left = horizon_of(world.deal()) + 1;
     'rounds: while left > 0 {
@@ -215,7 +216,7 @@ pub(crate) fn finish<K: Strategies>(world: &mut World, kit: &K) -> Result<(), No
     requires goes_on { world.old.stopped ≡ false }
     requires kit { AreHeld (K.holds kit.now) world.old.roles }
     ensures ok { OnOk result (HasGone (K.gives kit.now) finish world.old world.new) }
-    ensures err { OnErr result (IsStopped (K.gives kit.now) finish world.old world.new) }
+    ensures err { OnErr result (IsStopped (K.gives kit.now) finish_steps world.old world.new) }
 {
     match arcs_by_party(world.allocator(), world.deal()) {
         Ok(near) => rounds(world, kit, &near),

@@ -1,6 +1,6 @@
 //! The journals of conforming parties, and the crash of one.
 
-ghost use Rattle.std.specs.Prelude.{◌≡◌, ◌⊎◌, ◌<◌, ◌≤◌, ℕ, List, [], true, Some, None, length, replicate, slice_set, IfOk, OnOk};
+ghost use Rattle.std.specs.Prelude.{◌≡◌, ◌⊎◌, ◌<◌, ◌≤◌, ℕ, List, [], true, Some, None, length, replicate, slice_set, IfOk, OnOk, OnErr};
 ghost use Rattle.ledger_core.specs.Book.{history};
 ghost use Rattle.swap_digraph.specs.Deal.{IsWellSized};
 ghost use Rattle.hashkey_path.specs.declared.hashkey.Hashkey.{Hashkey};
@@ -14,7 +14,7 @@ ghost use Rattle.party_machine.specs.Recording.{signs_next, MayHave};
 ghost use Rattle.swap_run.specs.Run.{recorded_after, relearnt, signed_after};
 ghost use Rattle.swap_world.specs.Acting.{histories, IsSameOwner};
 ghost use Rattle.swap_world.specs.Inside.{AreLedgersOf};
-ghost use Rattle.swap_world.specs.Journals.{near_known, AreFirstJournals, IsFirstJournal, IsJournalOf};
+ghost use Rattle.swap_world.specs.Journals.{near_known, AreFirstJournals, IsBetween, IsFirstJournal, IsJournalOf};
 
 use crate::turn::learn;
 use ledger_core::{Ledger, is_adjacent};
@@ -61,6 +61,7 @@ pub(crate) fn journals_of(
 /// A party begins its act on a disk that stops within the call after k of them; it comes to no call of its own.
 fn begin(machine: &mut Machine, journal: &mut Journal<MemoryDisk>, _k: u8) -> Result<(), NoMemory>
     requires few { _k ≤ 3 }
+    requires locks { length machine.old.signed ≤ 8 }
     requires sound { journal.old.sound ≡ true }
     requires recorded { journal.old.signed ≡ machine.old.signed }
     requires stops { (journal.old.disk.failing ≡ []) × (journal.old.disk.left ≡ Some _k) }
@@ -75,6 +76,7 @@ fn begin(machine: &mut Machine, journal: &mut Journal<MemoryDisk>, _k: u8) -> Re
         → (c : List ℕ) → Leaves journal.new.disk.held c → IsOwn machine.old.deal journal.old.me c }
     ensures same { IsOfSame machine.old machine.new }
     ensures party { journal.new.me ≡ journal.old.me }
+    ensures between { IsBetween machine.old.signed machine.new.signed journal.new.disk.held }
 {
     match machine.next_recorded(journal) {
         Ok(_answer) => Ok(()),
@@ -101,6 +103,7 @@ fn restart(
         ≡ resumed_machine machine.old.deal machine.old.me machine.old.seed (recorded_after machine.old.signed (next_of machine.old) k image)) }
     ensures owner { IsSameOwner machine.old machine.new }
     ensures journal { OnOk result (IsJournalOf deal.now machine.old.me machine.new.signed journal.new) }
+    ensures between { IsBetween machine.old.signed machine.new.signed journal.new.disk.held }
 {
     journal.stop_after(k);
     begin(machine, journal, k)?;
@@ -124,6 +127,7 @@ fn learn_near(
           slice_set machine.old.known arc (near_known deal.now machine.old.me (histories ledgers.now) arc);
     }) }
     ensures owner { IsSameOwner machine.old machine.new }
+    ensures signed { machine.new.signed ≡ machine.old.signed }
 {
     if !is_adjacent(deal, arc, machine.me()) {
         return Ok(());
@@ -139,6 +143,7 @@ fn relearn(machine: &mut Machine, deal: &Deal, ledgers: &[Ledger]) -> Result<(),
     requires none { machine.old.known ≡ replicate (length deal.now.graph.arcs) [] }
     ensures ok { OnOk result (machine.new ≡ record machine.old { known = relearnt deal.now machine.old.me (histories ledgers.now) }) }
     ensures owner { IsSameOwner machine.old machine.new }
+    ensures signed { machine.new.signed ≡ machine.old.signed }
 {
     'arcs: for arc in 0..deal.graph.arcs().len() as ArcId {
         learn_near(machine, deal, ledgers, arc)?;
@@ -168,6 +173,7 @@ pub(crate) fn crash(
     }) }
     ensures owner { IsSameOwner machine.old machine.new }
     ensures journal { OnOk result (IsJournalOf deal.now machine.old.me machine.new.signed journal.new) }
+    ensures between { OnErr result (IsBetween machine.old.signed machine.new.signed journal.new.disk.held) }
 {
     restart(alloc, machine, journal, deal, k, image)?;
     relearn(machine, deal, ledgers)

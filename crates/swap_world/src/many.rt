@@ -20,7 +20,7 @@ pub(crate) fn run<K: Strategies>(
     requires events { All (CanStep world.old.deal world.old.conforming world.old.seeds) events.now }
     requires kit { AreHeld (K.holds kit.now) world.old.roles }
     ensures ok { OnOk result (HasGone (K.gives kit.now) (λ c s. run_from c s events.now) world.old world.new) }
-    ensures err { OnErr result (IsStopped (K.gives kit.now) (λ c s. run_from c s events.now) world.old world.new) }
+    ensures err { OnErr result (IsStopped (K.gives kit.now) (λ c s. events.now) world.old world.new) }
     ensures prefix { OnErr result (IsAfterSome events.now world.old world.new) }
 {
     'events: for event in events {

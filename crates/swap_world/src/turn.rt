@@ -19,7 +19,8 @@ ghost use Rattle.swap_run.specs.Run.{after_tick, plan_up_to};
 ghost use Rattle.swap_run.specs.Called.{is_barred};
 ghost use Rattle.party_wallet.specs.Value.{signed_in};
 ghost use Rattle.party_machine.specs.Machine.{action_of, next_of, noted_for, IsOfSame};
-ghost use Rattle.swap_world.specs.Journals.{IsJournalOf};
+ghost use Rattle.wallet_journal.specs.Stopped.{ShowsAll};
+ghost use Rattle.swap_world.specs.Journals.{IsBetween, IsJournalOf};
 ghost use Rattle.swap_world.specs.Acting.{IsMakable, IsSameOwner, histories, landed, book_after, machine_after, told_of, seen, taken, told_to, turned};
 ghost use Rattle.swap_world.specs.On.{swept_in, told_by};
 ghost use Rattle.swap_world.specs.Inside.{AreLedgersOf, IsLedgerOf, HaveRoom};
@@ -295,6 +296,7 @@ fn make_due(
       known =
           slice_set machine.old.known arc (landed swept machine.old.deal arc machine.old.me due ledger.old.history);
     }) }
+    ensures signed { machine.new.signed ≡ machine.old.signed }
     ensures ledger { IsLedgerOf machine.old.deal arc ledger.new }
     ensures owner { IsSameOwner machine.old machine.new }
 {
@@ -313,9 +315,14 @@ fn next(
     ensures signed { IfOk result (λ o. signed_in machine.new.signed ≡ noted_for (signed_in machine.old.signed) o) }
     ensures same { IsOfSame machine.old machine.new }
     ensures journal { OnOk result (IsJournalOf machine.old.deal machine.old.me machine.new.signed journal.new) }
+    ensures between { IsBetween machine.old.signed machine.new.signed journal.new.disk.held }
 {
     match machine.next_recorded(journal) {
-        Ok(answer) => Ok(answer),
+        Ok(answer) => {
+            // What the journal shows is what each crash leaves of its disk.
+            let _disk = journal.disk();
+            Ok(answer)
+        }
         Err(_) => Err(NoMemory),
     }
 }
@@ -342,6 +349,11 @@ pub(crate) fn act(
     ensures room { OnOk result (HaveRoom ledgers.new.items) }
     ensures owner { IsSameOwner machine.old machine.new }
     ensures journal { OnOk result (IsJournalOf machine.old.deal machine.old.me machine.new.signed journal.new) }
+    ensures between { OnErr result (IsBetween machine.old.signed machine.new.signed journal.new.disk.held) }
+    ensures made { OnErr result ((histories ledgers.new.items ≡ histories ledgers.old.items)
+        ⊎ ((histories ledgers.new.items ≡ book_after (swept_in swept.now) machine.old (next_of machine.old) (histories ledgers.old.items))
+        × (machine.new.signed ≡ (machine_after (swept_in swept.now) machine.old (next_of machine.old) (histories ledgers.old.items)).signed)
+        × ShowsAll machine.new.signed journal.new.disk.held)) }
 {
     match next(machine, journal)? {
         None => Ok(Told::Nothing),

@@ -24,7 +24,7 @@ ghost use Rattle.swap_run.specs.Run.{conforms, is_planned, notes_of, role_of, st
 ghost use Rattle.swap_run.specs.Called.{step_on};
 ghost use Rattle.swap_run.specs.Asked.{Answers};
 ghost use Rattle.swap_run.specs.Fair.{finish, has_ended};
-ghost use Rattle.swap_run.specs.Quiet.{SkipsTo};
+ghost use Rattle.swap_run.specs.Steps.{finish_steps, IsSkipped};
 ghost use Rattle.swap_run.specs.Laws.{IsKept, IsReadyCast};
 ghost use Rattle.party_wallet.specs.Wallets.{wallets_of};
 ghost use Rattle.swap_world.specs.Stopped.{IsAfterSome, IsStopped, AllConform};
@@ -504,7 +504,7 @@ impl World {
         requires goes_on { self.now.stopped ≡ false }
         requires low { has_ended self.now.deal self.now.state.book ≡ false }
         ensures few { result ≤ most }
-        ensures skips { (g : Answers) → SkipsTo (cast_for self.now g) result self.now.state }
+        ensures skips { (g : Answers) → IsSkipped (cast_for self.now g) result self.now.state }
     {
         let low = quiet::rounds_below(&self.ledgers, fair::horizon_of(&self.deal), most);
         self.rests_for(near, low)
@@ -575,7 +575,7 @@ impl World {
         requires events { All (CanStep self.old.deal self.old.conforming self.old.seeds) events.now }
         requires kit { AreHeld (K.holds kit.now) self.old.roles }
         ensures ok { OnOk result (HasGone (K.gives kit.now) (λ c s. run_from c s events.now) self.old self.new) }
-        ensures err { OnErr result (IsStopped (K.gives kit.now) (λ c s. run_from c s events.now) self.old self.new) }
+        ensures err { OnErr result (IsStopped (K.gives kit.now) (λ c s. events.now) self.old self.new) }
         ensures prefix { OnErr result (IsAfterSome events.now self.old self.new) }
         ensures stopped { IsTrue self.old.stopped → IsErr result × (self.new.state.book ≡ self.old.state.book) }
         ensures kept { IsKept (cast_at self.new) self.new.state.book }
@@ -596,7 +596,7 @@ impl World {
         // Where every party conforms and nothing came before, everything moves.
         ensures dealt { OnOk result (AllConform self.old → self.old.state ≡ start (cast_at self.old)
             → IsDealt self.old.deal (conforms (cast_at self.old)) self.new.state.book) }
-        ensures err { OnErr result (IsStopped (K.gives kit.now) finish self.old self.new) }
+        ensures err { OnErr result (IsStopped (K.gives kit.now) finish_steps self.old self.new) }
         ensures stopped { IsTrue self.old.stopped → IsErr result × (self.new.state.book ≡ self.old.state.book) }
         ensures kept { IsKept (cast_at self.new) self.new.state.book }
     {
@@ -647,23 +647,30 @@ impl World {
         self.stopped
     }
 
-    /// The disk of a conforming party: a read gives, and each crash leaves, just the hashkeys that the party signed as recorded.
+    /// The disk of a conforming party, also where memory ran out on the way.
     pub fn disk(&self, p: PartyId) -> &MemoryDisk
         requires party { p < self.now.deal.graph.n }
         requires conforms { conforms (cast_at self.now) p ≡ true }
-        requires goes_on { self.now.stopped ≡ false }
-        ensures shown { (i : ℕ) → i < length self.now.deal.leaders
-            → recorded (read_bytes result.now.held) i ≡ signed_in (notes_of self.now.state p).signed i }
-        ensures durable { (i : ℕ) → i < length self.now.deal.leaders → (c : List ℕ) → Leaves result.now.held c
-            → recorded c i ≡ signed_in (notes_of self.now.state p).signed i }
-        // Each unlock call that the party made, on whatever arc, carries the hashkey that is recorded for its lock.
+
+        // What a read gives is among what a crash may leave.
+        ensures read { Leaves result.now.held (read_bytes result.now.held) }
+
+        // Each crash leaves the hashkey of each unlock call that the party made, on whatever arc, recorded for its lock; and so does a read.
         ensures calls { (a : ℕ) (past : List Entry) (e : Entry) (key : Hashkey) → IsMoment (history self.now.state.book a) past e
-            → call_by p e ≡ Some (Unlock key) → recorded (read_bytes result.now.held) key.lock ≡ Some key }
+            → call_by p e ≡ Some (Unlock key) → (c : List ℕ) → Leaves result.now.held c → recorded c key.lock ≡ Some key }
+
+        // It leaves no hashkey recorded that the party didn't sign.
+        ensures only { (i : ℕ) (key : Hashkey) → i < length self.now.deal.leaders → (c : List ℕ) → Leaves result.now.held c
+            → recorded c i ≡ Some key → signed_in (notes_of self.now.state p).signed i ≡ Some key }
+
+        // And just those that it signed, unless memory ran out between signing and recording.
+        ensures durable { self.now.stopped ≡ false → (i : ℕ) → i < length self.now.deal.leaders → (c : List ℕ) → Leaves result.now.held c
+            → recorded c i ≡ signed_in (notes_of self.now.state p).signed i }
     {
         let Some(journal) = &self.journals[p as usize] else {
             unreachable!();
         };
-        journal.disk()
+        journal.memory()
     }
 
     /// Both balances and the held amount of an arc, in units.

@@ -6,7 +6,7 @@ use Rattle.hashkey_path.specs.declared.hashkey.Hashkey.{Hashkey}
 use Rattle.wallet_journal.specs.Device.{Write}
 use Rattle.wallet_journal.specs.Layout.{recorded}
 use Rattle.wallet_journal.specs.Journal.{signed_at}
-use Rattle.wallet_journal.specs.Held.{no_bytes, after_writes, Leaves, IsOnDisk}
+use Rattle.wallet_journal.specs.Held.{Held, no_bytes, after_writes, Leaves, IsOnDisk}
 use Rattle.wallet_journal.specs.Memory.{DiskState, left_of}
 use Rattle.wallet_journal.specs.Own.{IsOwn}
 
@@ -33,6 +33,10 @@ pub record IsWrittenUp (d : DiskState) (signed : List (Option Hashkey)) : Type 0
   pub on : AllByRecursion IsOnDisk d.held.synced
   pub settled : d.held.loose ≡ []
   pub shown : (i : ℕ) → i < length signed → (c : List ℕ) → Leaves d.held c → recorded c i ≡ signed_at signed i
+
+-- each device that a crash leaves has just these hashkeys recorded
+abbrev pub ShowsAll : List (Option Hashkey) → Held → Type 0
+ShowsAll signed h = (i : ℕ) → i < length signed → (c : List ℕ) → Leaves h c → recorded c i ≡ signed_at signed i
 
 -- A disk that no call fails on, and whose crashes leave journals of this deal and party.
 pub record IsOwnDisk (d : Deal) (me : ℕ) (s : DiskState) : Type 0 where

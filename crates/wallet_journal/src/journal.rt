@@ -1,6 +1,7 @@
 //! A journal of the hashkeys that a party signed.
 
-ghost use Rattle.std.specs.Prelude.{◌≡◌, ◌≢◌, ◌<◌, ◌≤◌, ℕ, List, length, replicate, true, None, Some, slice_set, MatchOption, MatchResult, IfOk, IfErr, OnOk};
+ghost use Rattle.std.specs.Prelude.{◌≡◌, ◌≢◌, ◌<◌, ◌≤◌, ℕ, List, length, replicate, true, None, Some, slice_set};
+ghost use Rattle.std.specs.Prelude.{MatchOption, MatchResult, IfOk, IfErr, OnErr, OnOk};
 ghost use Rattle.swap_digraph.specs.Deal.{IsWellSized};
 ghost use Rattle.wallet_journal.specs.Device.{Only, LeavesOnly, IsUntouched};
 ghost use Rattle.wallet_journal.specs.Layout.{recorded};
@@ -12,7 +13,7 @@ ghost use Rattle.wallet_journal.specs.Memory.{DiskState};
 ghost use Rattle.swap_digraph.specs.declared.deal.Deal.{Deal as AnyDeal};
 ghost use Rattle.hashkey_path.specs.declared.hashkey.Hashkey.{Hashkey as AnyKey};
 ghost use Rattle.wallet_journal.specs.Held.{Leaves, read_bytes};
-ghost use Rattle.wallet_journal.specs.Stopped.{bytes_left, kept_key, IsOfWrites, IsOwnDisk, IsWrittenUp};
+ghost use Rattle.wallet_journal.specs.Stopped.{bytes_left, kept_key, IsOfWrites, IsOwnDisk, IsWrittenUp, ShowsAll};
 ghost use Rattle.wallet_journal.specs.declared.fault.Unopened.TheVariants.{DiskFault as Failing};
 ghost use Rattle.wallet_journal.specs.declared.fault.RecordFault.TheVariants.{DiskFault as Stopped, NoMemory as Wanting};
 
@@ -245,12 +246,21 @@ impl Journal<MemoryDisk> {
         ensures made { IfOk result (λ j. (j.id ≡ deal.now.id) × (j.me ≡ me) × (j.sound ≡ true)) }
         ensures none { IfOk result (λ j. j.signed ≡ replicate (length deal.now.leaders) None) }
         ensures own { IfOk result (λ j. IsOwnDisk deal.now me j.disk) }
+        ensures durable { IfOk result (λ j. ShowsAll j.signed j.disk.held) }
     {
         let disk = MemoryDisk::new(alloc, Vec::new(alloc));
         match Journal::open(alloc, disk, deal, me) {
             Ok(journal) => Ok(journal),
             Err(_) => Err(NoMemory),
         }
+    }
+
+    /// The disk, where it is one in memory: what a read gives is among what a crash may leave.
+    pub fn memory(&self) -> &MemoryDisk
+        ensures value { result.now ≡ self.now.disk }
+        ensures among { Leaves result.now.held (read_bytes result.now.held) }
+    {
+        self.disk.as_read()
     }
 
     /// Lets the next `k` calls of the disk pass, and every later one fail.
@@ -271,6 +281,9 @@ impl Journal<MemoryDisk> {
             → signed_at self.new.signed i ≡ recorded (bytes_left image self.old.disk.held.synced self.old.disk.held.loose) i) }
         ensures left { Leaves self.old.disk.held (bytes_left image self.old.disk.held.synced self.old.disk.held.loose) }
         ensures own { OnOk result (IsOwnDisk deal.now self.old.me self.new.disk) }
+        ensures durable { OnOk result (ShowsAll self.new.signed self.new.disk.held) }
+        ensures lost { OnErr result ((c : List ℕ) → Leaves self.new.disk.held c → Leaves self.old.disk.held c) }
+        ensures party { self.new.me ≡ self.old.me }
     {
         let disk = mem::replace(&mut self.disk, MemoryDisk::new(alloc, Vec::new(alloc)));
         match Journal::open(alloc, disk.crash(image), deal, self.me) {

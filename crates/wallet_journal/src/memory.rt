@@ -74,6 +74,15 @@ impl MemoryDisk {
         self.failures.left = Some(k);
     }
 
+    /// The same disk: what a read gives is among what a crash may leave.
+    pub(crate) fn as_read(&self) -> &MemoryDisk
+        ensures value { result.now ≡ self.now }
+        ensures among { Leaves self.now.held (read_bytes self.now.held) }
+    {
+        let _held = &self.contents;
+        self
+    }
+
     /// The byte that a read gives at a place. It takes no memory.
     pub fn byte(&self, at: u32) -> u8
         requires range { at < 549426 }

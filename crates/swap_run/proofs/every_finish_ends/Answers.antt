@@ -1,4 +1,5 @@
 use Rattle.swap_run.proofs.Finish as lemmas
+use Rattle.swap_run.proofs.Along as along
 use Rattle.swap_run.proofs.Reached as reached
 use Rattle.swap_run.proofs.every_finish_ends.Goals as goal
 
@@ -19,3 +20,6 @@ returns-clause-run c = reached.finishes_are_runs
 
 pub returns-clause-heights : goal.returns-clause-heights
 returns-clause-heights c = lemmas.finish_heights
+
+pub returns-clause-steps : goal.returns-clause-steps
+returns-clause-steps c = along.finish_is_steps

@@ -11,7 +11,9 @@ arcs-preserved c =
     let test : ℕ → Bool = λ a. (slice_index_or ps a nowhere).chain == c.args.chain in
     elim c.if-places-arc.branch [
       | then-places-arc+in_ok-push w ↦
-          filter_on test c.arcs.arc c.arcs.on.items c.if-places-arc.on.items (eq-eqb _ _ w.if-places-arc.true) (ap (λ v. v.items) w.on-is ∙ w.in_ok-push.ensures.items)
-          c.arcs.invariant
-      | else-places-arc w ↦ ap (λ v. v.items) w.on-is ∙ filter_off test c.arcs.arc c.arcs.on.items (not-true (test c.arcs.arc) (λ e. w.if-places-arc.false (eqb-true _ _ e))) c.arcs.invariant
+          let one = ap (λ v. v.items) w.on-is ∙ w.in_ok-push.ensures.items in
+          filter_on test c.arcs.arc c.arcs.on.items c.if-places-arc.on.items (eq-eqb _ _ w.if-places-arc.true) one c.arcs.invariant
+      | else-places-arc w ↦
+          let off = not-true (test c.arcs.arc) (λ e. w.if-places-arc.false (eqb-true _ _ e)) in
+          ap (λ v. v.items) w.on-is ∙ filter_off test c.arcs.arc c.arcs.on.items off c.arcs.invariant
     ]

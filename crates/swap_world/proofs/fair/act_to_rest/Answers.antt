@@ -1,13 +1,12 @@
-use Rattle.std.proofs.Common.{◌≡◌, ◌<◌, ℕ, true, arith, sym, ◌∙◌, subst}
+use Rattle.std.proofs.Common.{◌≡◌, ◌<◌, ℕ, true, ◌∷◌, [], replicate, arith, sym, ◌∙◌, subst}
 use Rattle.deviator_script.specs.declared.event.Event.TheVariants.{Act}
 use Rattle.swap_run.specs.Run.{Cast, State, conforms, step}
 use Rattle.swap_run.specs.Fair.{repeat, most_acts}
 use Rattle.swap_world.specs.Value.{cast_at, cast_for}
 use Rattle.swap_world.specs.Gone.{HasGone}
-use Rattle.swap_world.proofs.Ways.{if_err}
+use Rattle.swap_world.proofs.Ways.{along_acts, if_err}
 use Rattle.swap_world.proofs.Gone.{alone_conforming, begun, cast_gone, cut_to, deal_gone, goes_on_gone, quiet_rests, quiet_run, still_at, stopped_in, went_to}
 use Rattle.swap_world.proofs.Loops.{repeat_on, repeat_rests, repeat_stops}
-use Rattle.swap_world.proofs.Finishes.{act_leads}
 use Rattle.swap_world.proofs.fair.act_to_rest.Goals as goal
 
 abbrev act_of : ℕ → Cast → State → State
@@ -51,16 +50,16 @@ returns-in_err-act_if_due-clause-err g c =
     let new = c.act_if_due.new.self in
     let l : c.acts.counter < most_acts w.deal = rw (← c.deal.ensures.value, ← c.most_acts-end.ensures) c.acts-test.true in
     let e = c.in_err-act_if_due.ensures in
-    let low : c.args.p < mid.deal.graph.n =
-    subst (λ d. c.args.p < d.graph.n) (sym (deal_gone gives (λ x s. repeat c.acts.counter (act_of c.args.p x) s) w mid c.acts.invariant)) c.requires.party in
     let conforming : conforms (cast_at mid) c.args.p ≡ true =
     subst (λ x. conforms x c.args.p ≡ true) (sym (cast_gone gives (λ x s. repeat c.acts.counter (act_of c.args.p x) s) w mid c.acts.invariant))
     c.requires.conforms in
     let cut =
     cut_to gives (act_of c.args.p) mid new (quiet_run (cast_at mid) mid.state c.args.p (alone_conforming (cast_at mid) c.args.p conforming)) e.cast e.asked
     e.answers e.book in
-    if_err _ (repeat_stops gives (act_of c.args.p) w mid new (most_acts w.deal) c.acts.counter c.acts.invariant l
-    (λ a. act_leads (cast_for w a) c.args.p c.requires.party) (stopped_in gives mid new (Act c.args.p) low e.stopped cut))
+    if_err _ (repeat_stops gives (act_of c.args.p) w mid new (most_acts w.deal) c.acts.counter c.acts.invariant (λ x s. Act c.args.p ∷ [])
+    (λ x s. replicate (most_acts w.deal) (Act c.args.p))
+    (λ a b k. along_acts (cast_for w a) (most_acts w.deal) c.acts.counter c.args.p w.state b l k)
+    (stopped_in gives mid new (Act c.args.p) e.stopped cut))
 
 pub returns-then-not-branch-clause-ok : goal.returns-then-not-branch-clause-ok
 returns-then-not-branch-clause-ok g c =

@@ -1,5 +1,6 @@
 use Rattle.std.proofs.Common.{◌≡◌, ℕ, ◌+◌, ◌≤◌, arith, sym, subst}
-use Rattle.swap_run.specs.Fair.{repeat, ticks, round_unless_ended}
+use Rattle.swap_run.specs.Fair.{repeat, ticks}
+use Rattle.swap_run.specs.Steps.{rounds_steps}
 use Rattle.swap_world.specs.Near.{all_adjacent}
 use Rattle.swap_world.specs.Stopped.{IsStopped}
 use Rattle.swap_world.proofs.Ways.{if_err}
@@ -31,7 +32,7 @@ returns-in_err-pass-clause-err g c =
     let gives = g.K.Strategies.gives c.args.kit.now in
     let w = c.args.world.now in
     let new = c.pass.new.world in
-    let so : (m : ℕ) × (m ≤ c.args.most) × IsStopped gives (λ x s. repeat m (round_unless_ended x) s) w new
+    let so : (m : ℕ) × (m ≤ c.args.most) × IsStopped gives (rounds_steps m) w new
     = (n + 1, most, advance_cut gives w new new n c.quiet_rounds-quiet.ensures.skips c.in_err-pass.ensures.err) in
     if_err _ so
 
@@ -44,7 +45,7 @@ returns-in_err-round-clause-err g c =
     let gives = g.K.Strategies.gives c.args.kit.now in
     let w = c.args.world.now in
     let new = c.round.new.world in
-    let so : (m : ℕ) × (m ≤ c.args.most) × IsStopped gives (λ x s. repeat m (round_unless_ended x) s) w new
+    let so : (m : ℕ) × (m ≤ c.args.most) × IsStopped gives (rounds_steps m) w new
     = (n + 1, most, advance_stops gives w c.pass.new.world new n c.quiet_rounds-quiet.ensures.skips c.in_ok-pass.ensures.ok c.in_err-round.ensures.err) in
     if_err _ so
 

@@ -1,14 +1,13 @@
-use Rattle.std.proofs.Common.{◌≡◌, ℕ, ◌<◌, List, length, get_or, slice_index, fold, take, sym, subst}
-use Rattle.std.proofs.lemmas.List.Elements.{All-get_or, All-same, All-weaker}
+use Rattle.std.proofs.Common.{◌≡◌, ◌∙◌, ℕ, ◌<◌, List, ◌∷◌, [], length, map, get_or, slice_index, fold, take, refl, sym, ap, subst}
+use Rattle.std.proofs.lemmas.List.Elements.{All-get_or, All-same}
 use Rattle.swap_digraph.specs.declared.deal.Deal.{Deal}
 use Rattle.deviator_script.specs.declared.event.Event.TheVariants.{Look}
 use Rattle.deviator_script.specs.Step.{CanLook}
 use Rattle.swap_run.specs.Run.{Cast, State, step}
 use Rattle.swap_run.specs.Fair.{adjacent, looks}
-use Rattle.swap_run.specs.FairLaws.{IsReached}
-use Rattle.swap_run.proofs.Reached.{one_event}
+use Rattle.swap_run.specs.Steps.{look_steps}
 use Rattle.swap_world.specs.Value.{cast_for}
-use Rattle.swap_world.proofs.Ways.{if_err}
+use Rattle.swap_world.proofs.Ways.{if_err, over, over_looks}
 use Rattle.swap_world.proofs.Gone.{begun, can_gone, gone_as, held_gone, stopped_as, stopped_in}
 use Rattle.swap_world.proofs.Loops.{list_on, list_done, list_stops}
 use Rattle.swap_world.proofs.Finishes.{looks_over, can_look}
@@ -57,19 +56,11 @@ returns-in_err-step-clause-err g c =
     let new = c.step.new.self in
     let p = c.args.p in
     let near = c.args.near.now in
-    let e = Look p (slice_index c.args.near.now c.arcs.arc-index) in
-    let can =
-    can_gone gives (λ x s. fold (look_at p x) s (take c.arcs.arc-index near)) w mid e c.arcs.invariant
-    (can_at w.deal p c.arcs.arc-index (slice_index c.args.near.now c.arcs.arc-index) near c.requires.party c.requires.near c.arcs-test.true (item
-    c.args.near.now c.arcs.arc-index c.arcs-test.true)) in
-    if_err _ (stopped_as gives (λ x s. fold (look_at p x) s near) (λ x s. looks x p s) w new
-    (λ a. looks_over (cast_for w a) p w.state near c.requires.near)
-    (list_stops gives (look_at p) w mid new near c.arcs.arc-index (slice_index c.args.near.now c.arcs.arc-index) c.arcs.invariant c.arcs-test.true
-    (item c.args.near.now c.arcs.arc-index c.arcs-test.true)
-    (λ a. All-weaker (CanLook w.deal p) (λ x. (s : State) → IsReached (cast_for w a) s (look_at p (cast_for w a) s x))
-    (λ x can s. one_event (cast_for w a) s (Look p x) can) near (All-same (CanLook w.deal p) near (adjacent w.deal p) c.requires.near
-    (can_look w.deal p c.requires.party)))
-    (stopped_in gives mid new e can c.in_err-step.ensures.err c.in_err-step.ensures.cut)))
+    if_err _ (stopped_as gives (λ x s. over (look_at p x) (λ t a. Look p a ∷ []) s near) (λ x s. look_steps x.deal p) w new
+    (λ a. over_looks (cast_for w a) p near w.state ∙ ap (λ (xs : List ℕ). map (λ a. Look p a) xs) c.requires.near)
+    (list_stops gives (look_at p) w mid new near c.arcs.arc-index (slice_index c.args.near.now c.arcs.arc-index) c.arcs.invariant
+    (λ x s a. Look p a ∷ []) c.arcs-test.true (item c.args.near.now c.arcs.arc-index c.arcs-test.true) (λ a s y. refl)
+    (stopped_in gives mid new (Look p (slice_index c.args.near.now c.arcs.arc-index)) c.in_err-step.ensures.err c.in_err-step.ensures.cut)))
 
 pub returns-clause-ok : goal.returns-clause-ok
 returns-clause-ok g c =

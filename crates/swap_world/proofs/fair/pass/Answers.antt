@@ -1,11 +1,11 @@
 use Rattle.std.proofs.Common.{◌≡◌, arith, subst}
 use Rattle.swap_run.specs.Fair.{repeat, ticks}
+use Rattle.swap_run.specs.Steps.{pass_steps, tick_steps}
 use Rattle.swap_world.specs.Gone.{HasGone}
 use Rattle.swap_world.specs.Value.{cast_for}
-use Rattle.swap_world.proofs.Ways.{if_err}
+use Rattle.swap_world.proofs.Ways.{along_pass, if_err}
 use Rattle.swap_world.proofs.Gone.{begun, held_gone}
 use Rattle.swap_world.proofs.Loops.{repeat_on, repeat_stops}
-use Rattle.swap_world.proofs.Finishes.{ticks_lead}
 use Rattle.swap_world.proofs.fair.pass.Goals as goal
 
 pub rounds-init : goal.rounds-init
@@ -24,8 +24,10 @@ rounds-preserved g c =
 
 pub returns-in_err-ticks-clause-err : goal.returns-in_err-ticks-clause-err
 returns-in_err-ticks-clause-err g c =
-    if_err _ (repeat_stops (g.K.Strategies.gives c.args.kit.now) ticks c.args.world.now c.rounds.world c.ticks.new.world c.args.count c.rounds.counter
-    c.rounds.invariant c.rounds-test.true (λ a. ticks_lead (cast_for c.args.world.now a)) c.in_err-ticks.ensures.err)
+    let w = c.args.world.now in
+    if_err _ (repeat_stops (g.K.Strategies.gives c.args.kit.now) ticks w c.rounds.world c.ticks.new.world c.args.count c.rounds.counter
+    c.rounds.invariant (λ x s. tick_steps x.deal s.book) (pass_steps c.args.count)
+    (λ a b k. along_pass (cast_for w a) c.args.count c.rounds.counter w.state b c.rounds-test.true k) c.in_err-ticks.ensures.err)
 
 pub returns-clause-ok : goal.returns-clause-ok
 returns-clause-ok g c =

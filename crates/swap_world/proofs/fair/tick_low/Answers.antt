@@ -1,13 +1,14 @@
-use Rattle.std.proofs.Common.{◌≡◌, ◌≤◌, ◌<◌, arith, sym}
+use Rattle.std.proofs.Common.{◌≡◌, ◌≤◌, ◌<◌, sym}
 use Rattle.ledger_core.specs.History.{height}
 use Rattle.ledger_core.specs.Book.{history}
 use Rattle.deviator_script.specs.declared.event.Event.TheVariants.{Tick}
 use Rattle.swap_run.specs.Run.{step}
 use Rattle.swap_run.specs.Fair.{the_horizon, tick_low}
+use Rattle.swap_run.specs.Steps.{low_step}
 use Rattle.swap_world.specs.Value.{cast_for}
 use Rattle.swap_world.proofs.Ledgers.{on_ok}
 use Rattle.swap_world.proofs.Gone.{gone_as, stays, stopped_by}
-use Rattle.swap_world.proofs.Finishes.{is_high, is_low}
+use Rattle.swap_world.proofs.Finishes.{is_high, is_low, is_low_step}
 use Rattle.swap_world.proofs.fair.tick_low.Goals as goal
 
 pub returns-then-height-horizon_of-clause-ok : goal.returns-then-height-horizon_of-clause-ok
@@ -33,6 +34,5 @@ returns-clause-err g c =
     let e : c.horizon_of.result ≡ the_horizon w.deal = rw c.deal.ensures.value at c.horizon_of.ensures in
     let h : c.height.result ≡ height (history w.state.book c.args.arc) = c.height.ensures in
     let l : height (history w.state.book c.args.arc) ≤ the_horizon w.deal = rw (← h, ← e) c.if-height-horizon_of.false in
-    stopped_by (g.K.Strategies.gives c.args.kit.now) c.step.result w c.step.new.self (Tick c.args.arc 1) (λ x s. tick_low x s c.args.arc)
-    (λ a. sym (is_low (cast_for w a) w.state c.args.arc l)) (record { arc = c.requires.arc; some = omega arith; few = omega arith })
-    c.step.ensures.err c.step.ensures.cut
+    stopped_by (g.K.Strategies.gives c.args.kit.now) c.step.result w c.step.new.self (Tick c.args.arc 1) (λ x s. low_step x.deal s.book c.args.arc)
+    (λ a. sym (is_low_step w.deal w.state.book c.args.arc l)) c.step.ensures.err c.step.ensures.cut

@@ -1,16 +1,15 @@
-use Rattle.std.proofs.Common.{◌<◌, true, false, refl, sym, ◌∙◌, subst}
+use Rattle.std.proofs.Common.{◌<◌, true, false, replicate, refl, sym, ◌∙◌, subst}
 use Rattle.deviator_script.specs.declared.event.Event.TheVariants.{Act}
 use Rattle.swap_run.specs.Fair.{acts, looks, most_acts}
 use Rattle.swap_world.proofs.Ledgers.{on_ok, on_err}
 use Rattle.swap_world.proofs.Ways.{if_err}
 use Rattle.swap_world.proofs.Gone.{deal_gone, goes_on_gone, gone_as, held_gone, stopped_as, stopped_by}
-use Rattle.swap_world.proofs.Finishes.{acts_as, turn_cut, turn_ends, turn_stops}
+use Rattle.swap_world.proofs.Finishes.{acts_as, acts_steps, turn_cut, turn_ends, turn_stops}
 use Rattle.swap_world.proofs.fair.turn.Goals as goal
 
 pub returns-in_err-look_around-clause-err : goal.returns-in_err-look_around-clause-err
 returns-in_err-look_around-clause-err g c =
-    if_err _ (turn_cut (g.K.Strategies.gives c.args.kit.now) c.args.world.now c.look_around.new.world c.args.p c.requires.party
-    c.in_err-look_around.ensures.err)
+    if_err _ (turn_cut (g.K.Strategies.gives c.args.kit.now) c.args.world.now c.look_around.new.world c.args.p c.in_err-look_around.ensures.err)
 
 pub conforms-requires : goal.conforms-requires
 conforms-requires g c =
@@ -32,9 +31,9 @@ returns-then-conforms-clause-err g c =
     let gives = g.K.Strategies.gives c.args.kit.now in
     let mid = c.look_around.new.world in
     on_err c.act_to_rest.result (λ k. turn_stops gives c.args.world.now mid c.act_to_rest.new.world c.args.p true
-    (sym c.conforms.ensures ∙ c.if-conforms.true) c.in_ok-look_around.ensures.ok c.requires.party
-    (stopped_as gives (λ x s. acts x c.args.p (most_acts mid.deal) s) (λ x s. acts_as true x c.args.p s) mid c.act_to_rest.new.world (λ a. refl) k))
-    c.act_to_rest.ensures.err
+    (sym c.conforms.ensures ∙ c.if-conforms.true) c.in_ok-look_around.ensures.ok
+    (stopped_as gives (λ x s. replicate (most_acts mid.deal) (Act c.args.p)) (λ x s. acts_steps true x.deal c.args.p) mid c.act_to_rest.new.world (λ a. refl)
+    k)) c.act_to_rest.ensures.err
 
 pub returns-then-conforms-clause-ok : goal.returns-then-conforms-clause-ok
 returns-then-conforms-clause-ok g c =
@@ -59,12 +58,9 @@ pub returns-clause-err : goal.returns-clause-err
 returns-clause-err g c =
     let gives = g.K.Strategies.gives c.args.kit.now in
     let mid = c.look_around.new.world in
-    let low =
-    subst (λ d. c.args.p < d.graph.n) (sym (deal_gone gives (λ x s. looks x c.args.p s) c.args.world.now mid c.in_ok-look_around.ensures.ok)) c.requires.party
-    in
     on_err c.step.result (turn_stops gives c.args.world.now mid c.step.new.self c.args.p false
-    (sym c.conforms.ensures ∙ c.if-conforms.false) c.in_ok-look_around.ensures.ok c.requires.party)
-    (stopped_by gives c.step.result mid c.step.new.self (Act c.args.p) (λ x s. acts_as false x c.args.p s) (λ a. refl) low c.step.ensures.err
+    (sym c.conforms.ensures ∙ c.if-conforms.false) c.in_ok-look_around.ensures.ok)
+    (stopped_by gives c.step.result mid c.step.new.self (Act c.args.p) (λ x s. acts_steps false x.deal c.args.p) (λ a. refl) c.step.ensures.err
     c.step.ensures.cut)
 
 pub returns-clause-ok : goal.returns-clause-ok

@@ -1,12 +1,14 @@
-use Rattle.std.proofs.Common.{◌≡◌, ◌⊎◌, ◌≤◌, ◌∙◌, length, refl, sym, subst, arith}
-use Rattle.party_machine.specs.Machine.{next_of, resumed_machine}
+use Rattle.std.proofs.Common.{◌≡◌, ◌⊎◌, ◌≤◌, ◌∙◌, length, refl, sym, ap, subst, arith}
+use Rattle.party_machine.specs.Machine.{next_of, resumed_machine, MachineState}
 use Rattle.wallet_journal.specs.Journal.{JournalState}
 use Rattle.wallet_journal.specs.Held.{Leaves, read_bytes}
 use Rattle.wallet_journal.specs.Memory.{DiskState}
 use Rattle.wallet_journal.specs.Stopped.{bytes_left, IsWrittenUp}
 use Rattle.party_machine.specs.Recording.{signs_next, MayHave}
 use Rattle.swap_run.specs.Run.{recorded_after}
-use Rattle.swap_world.proofs.Ledgers.{on_ok}
+use Rattle.swap_world.proofs.Ledgers.{on_err, on_ok}
+use Rattle.swap_world.proofs.Disks.{any_result, crashed_between, resumed_between}
+use Rattle.swap_world.specs.Journals.{IsBetween}
 use Rattle.swap_world.proofs.Restarts.{recorded_as}
 use Rattle.swap_world.proofs.journals.restart.Goals as goal
 
@@ -27,3 +29,19 @@ returns-clause-ok c =
     (c.in_ok-begin.ensures.left c.args.image) c.in_ok-begin.ensures.calm (next_of m) refl in
     on_ok c.restart.result (λ e. e ∙ (λ t.
     resumed_machine (c.begin.ensures.same.deal t) (c.begin.ensures.same.me t) (c.begin.ensures.same.seed t) (signed t))) c.restart.ensures.ok
+
+pub returns-clause-between : goal.returns-clause-between
+returns-clause-between c =
+    let m = c.args.machine.now in
+    let after = c.begin.new.machine.signed in
+    let shown = c.crash.new.self.signed in
+    let h = c.begin.new.journal.disk.held in
+    let h' = c.crash.new.self.disk.held in
+    let bytes = bytes_left c.args.image h.synced h.loose in
+    let places : length shown ≡ length after = c.in_ok-crash.ensures.places ∙ sym (c.begin.ensures.same.places ∙ c.requires.places) in
+    any_result c.restart.result
+    (on_ok c.restart.result (λ e. resumed_between m.signed after shown h h' bytes c.begin.ensures.between c.crash.ensures.left places
+    c.in_ok-crash.ensures.shown c.in_ok-crash.ensures.durable c.restart.new.self.signed (ap (λ (x : MachineState). x.signed) e)) c.restart.ensures.ok)
+    (on_err c.restart.result (λ (e : c.restart.new.self ≡ c.begin.new.machine). subst (λ (x : MachineState). IsBetween m.signed x.signed h') (sym e)
+    (crashed_between m.signed after shown h h' bytes c.begin.ensures.between c.crash.ensures.left places c.in_ok-crash.ensures.shown
+    c.in_ok-crash.ensures.durable)) c.restart.ensures.err)

@@ -1,12 +1,10 @@
-use Rattle.std.proofs.Common.{sym, take, subst}
-use Rattle.std.proofs.lemmas.List.Elements.{All-weaker, All-get_or}
+use Rattle.std.proofs.Common.{◌∷◌, [], refl, sym, take, subst}
+use Rattle.std.proofs.lemmas.List.Elements.{All-get_or}
 use Rattle.deviator_script.specs.Step.{CanStep}
-use Rattle.swap_run.specs.Run.{State, run_from, step}
-use Rattle.swap_run.specs.FairLaws.{IsReached}
-use Rattle.swap_run.proofs.Reached.{one_event}
+use Rattle.swap_run.specs.Run.{run_from, step}
 use Rattle.swap_world.specs.Value.{cast_for}
-use Rattle.swap_world.proofs.Ways.{if_err}
-use Rattle.swap_world.proofs.Gone.{begun, can_gone, held_gone, stopped_in}
+use Rattle.swap_world.proofs.Ways.{if_err, over, over_events}
+use Rattle.swap_world.proofs.Gone.{begun, can_gone, held_gone, stopped_as, stopped_in}
 use Rattle.swap_world.proofs.Loops.{after_some, list_on, list_done, list_stops}
 use Rattle.swap_world.proofs.many.run.Goals as goal
 
@@ -37,14 +35,10 @@ returns-in_err-step-clause-err g c =
     let mid = c.events.world in
     let new = c.step.new.self in
     let gives = g.K.Strategies.gives c.args.kit.now in
-    let can : CanStep mid.deal mid.conforming mid.seeds c.event-item.result =
-    can_gone gives (λ c' s. run_from c' s (take c.events.event-index c.args.events.now)) w mid c.event-item.result c.events.invariant
-    (subst (CanStep w.deal w.conforming w.seeds) (sym c.event-item.is)
-    (All-get_or (CanStep w.deal w.conforming w.seeds) c.args.events.now c.events.event-index c.event-item.result c.events-test.true c.requires.events)) in
-    if_err _ (list_stops gives step w mid new c.args.events.now c.events.event-index c.event-item.result c.events.invariant c.events-test.true c.event-item.is
-    (λ a. All-weaker (CanStep w.deal w.conforming w.seeds) (λ x. (s : State)
-    → IsReached (cast_for w a) s (step (cast_for w a) s x)) (λ x can s. one_event (cast_for w a) s x can) c.args.events.now c.requires.events)
-    (stopped_in gives mid new c.event-item.result can c.in_err-step.ensures.err c.in_err-step.ensures.cut))
+    if_err _ (stopped_as gives (λ x s. over (step x) (λ t y. y ∷ []) s c.args.events.now) (λ x s. c.args.events.now) w new
+    (λ a. over_events (cast_for w a) c.args.events.now w.state)
+    (list_stops gives step w mid new c.args.events.now c.events.event-index c.event-item.result c.events.invariant (λ x s y. y ∷ []) c.events-test.true
+    c.event-item.is (λ a s y. refl) (stopped_in gives mid new c.event-item.result c.in_err-step.ensures.err c.in_err-step.ensures.cut)))
 
 pub returns-in_err-step-clause-prefix : goal.returns-in_err-step-clause-prefix
 returns-in_err-step-clause-prefix g c =

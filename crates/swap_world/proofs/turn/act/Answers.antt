@@ -1,11 +1,13 @@
-use Rattle.std.proofs.Common.{◌<◌, ℕ, length, Option, arith, inr, sym, ap, subst}
+use Rattle.std.proofs.Common.{◌<◌, ℕ, List, length, Option, arith, inr, sym, ap, ◌∙◌, subst}
+use Rattle.wallet_journal.specs.Stopped.{ShowsAll}
+use Rattle.swap_world.specs.Journals.{IsBetween}
 use Rattle.hashkey_path.specs.declared.hashkey.Hashkey.{Hashkey}
 use Rattle.swap_world.specs.Inside.{IsLedgerOf}
 use Rattle.swap_world.proofs.Ledgers.{history_at}
 use Rattle.swap_world.proofs.Ways.{if_err}
 use Rattle.swap_world.specs.On.{swept_in}
 use Rattle.swap_world.proofs.Rooms.{room_set}
-use Rattle.swap_world.proofs.Acts.{action, answered, still, book_is, machine_is, told_is}
+use Rattle.swap_world.proofs.Acts.{action, answered, still, book_is, machine_is, signed_is, told_is}
 use Rattle.swap_world.proofs.turn.act.Goals as goal
 
 pub index_mut-requires : goal.index_mut-requires
@@ -89,3 +91,24 @@ make_due-requires-clause-room c =
 pub returns-in_ok-told-in-Some-clause-room : goal.returns-in_ok-told-in-Some-clause-room
 returns-in_ok-told-in-Some-clause-room c =
     room_set c.args.ledgers.now.items c.in-Some.arc c.make_due.new.ledger c.requires.room c.in_ok-told-in-Some.ensures.room
+
+pub returns-in_err-told-in-Some-clause-made : goal.returns-in_err-told-in-Some-clause-made
+returns-in_err-told-in-Some-clause-made c =
+    let next = answered c.args.machine.now c.in_ok-next.field-0 c.in-Some.arc c.in-Some.due c.in-Some.is c.in_ok-next.ensures.due in
+    let below = subst (λ n. c.in-Some.arc < n) (sym c.requires.ledgers.one_each) (c.requires.makable (action c.in-Some.arc c.in-Some.due) next).arc in
+    let same = c.make_due.ensures.signed in
+    if_err _ (inr (
+      book_is (swept_in c.args.swept.now) c.args.machine.now c.next.new.machine c.args.ledgers.now.items c.in-Some.arc c.in-Some.due c.index_mut.result.now
+          c.in_ok-next.ensures.same below c.index_mut.ensures.value next
+          c.make_due.new.ledger (rw c.is_swept-is.ensures at c.make_due.ensures.leaves),
+      same ∙ signed_is (swept_in c.args.swept.now) c.args.machine.now c.next.new.machine c.args.ledgers.now.items c.in-Some.arc c.in-Some.due
+          c.index_mut.result.now c.in_ok-next.ensures.same below c.index_mut.ensures.value next
+          (λ i. ap (λ (f : ℕ → Option Hashkey). f i) (rw c.in-Some.is at c.in_ok-next.ensures.signed)),
+      subst (λ (l : List (Option Hashkey)). ShowsAll l c.next.new.journal.disk.held) (c.in_ok-next.ensures.journal.has ∙ sym same)
+          c.in_ok-next.ensures.journal.shows,
+    ))
+
+pub returns-in_err-told-in-Some-clause-between : goal.returns-in_err-told-in-Some-clause-between
+returns-in_err-told-in-Some-clause-between c =
+    if_err _ (subst (λ (l : List (Option Hashkey)). IsBetween c.args.machine.now.signed l c.next.new.journal.disk.held) (sym c.make_due.ensures.signed)
+    c.next.ensures.between)

@@ -1,8 +1,12 @@
-use Rattle.std.proofs.Common.{◌≡◌, ◌∙◌, List, Option, Some, None, option_map, refl, sym, ap}
+use Rattle.std.proofs.Common.{◌≡◌, ◌∙◌, List, Option, Some, None, option_map, refl, sym, ap, subst}
+use Rattle.std.proofs.lemmas.Option.{same_Some}
+use Rattle.party_wallet.specs.Value.{signed_in}
 use Rattle.hashkey_path.specs.declared.hashkey.Hashkey.{Hashkey}
+use Rattle.wallet_journal.specs.declared.fault.RecordFault.{RecordFault}
+use Rattle.wallet_journal.specs.declared.fault.RecordFault.TheVariants.{DiskFault}
 use Rattle.party_machine.specs.Machine.{action_of}
 use Rattle.party_machine.specs.Recording.{new_key, signs_next}
-use Rattle.party_machine.proofs.Recorded.{answer_placed, answer_stays, answer_new, carried, signs, may_have}
+use Rattle.party_machine.proofs.Recorded.{answer_placed, answer_stays, answer_new, answer_signed, carried, signs, may_have, of_any}
 use Rattle.party_machine.proofs.machine.Machine.next_recorded.Goals as goal
 
 pub key_to_record-requires-clause-placed : goal.key_to_record-requires-clause-placed
@@ -32,6 +36,18 @@ returns-in_err-record-clause-whole g c =
     (g.D.Disk.may_leave c.args.journal.now.disk) (signs_next c.args.self.now) c.in-Some.key.now
     (signs c.args.self.now c.args.journal.now.signed c.in_ok-answer.answer (Some c.in-Some.key.now) c.requires.recorded c.in_ok-answer.ensures.due
     c.in-Some.ensures.key) c.record.ensures.whole
+
+pub returns-in_err-record-clause-kept : goal.returns-in_err-record-clause-kept
+returns-in_err-record-clause-kept g c =
+    let is : signs_next c.args.self.now ≡ Some c.in-Some.key.now =
+    signs c.args.self.now c.args.journal.now.signed c.in_ok-answer.answer (Some c.in-Some.key.now) c.requires.recorded c.in_ok-answer.ensures.due
+    c.in-Some.ensures.key in
+    let mine =
+    answer_signed c.args.self.now.signed c.args.journal.now.signed c.next.new.self.signed c.in_ok-answer.answer c.requires.recorded
+    c.in_ok-answer.ensures.signed c.in_ok-answer.ensures.once c.in_ok-answer.ensures.same.places c.in-Some.key.now c.in-Some.ensures.key in
+    of_any {P = λ (e : RecordFault). e ≡ DiskFault → (k : Hashkey) → signs_next c.args.self.now ≡ Some k → signed_in c.next.new.self.signed k.lock ≡ Some k} _
+    (λ e stopped k next. subst (λ (x : Hashkey). signed_in c.next.new.self.signed x.lock ≡ Some x)
+    (same_Some c.in-Some.key.now k (sym is ∙ next)) mine)
 
 pub returns-clause-noted : goal.returns-clause-noted
 returns-clause-noted g c =

@@ -13,6 +13,7 @@ use Rattle.swap_world.proofs.Ledgers.{on_err, either}
 use Rattle.swap_world.proofs.On.{if_told}
 use Rattle.swap_world.proofs.Worlds.{good_unless, kept_on, acted_on, both, placed, owned, begins, makable}
 use Rattle.swap_world.proofs.Kept.{journals_act, journal_unless}
+use Rattle.swap_world.proofs.Disks.{err_unless, stopped_disks}
 use Rattle.swap_world.proofs.Rooms.{room_unless}
 use Rattle.swap_world.proofs.world.World.act_due.Goals as goal
 
@@ -81,6 +82,11 @@ invariant_of-self c =
           (journal_unless c.act-done.result c.is_err-self-inside.result c.is_err-self-inside.ensures.value on
           (subst (λ (x : Deal × ℕ). OnOk c.act-done.result (IsJournalOf x.0 x.1 new.signed c.act-done.new.journal)) (λ j. (place.is.1 j, place.is.2 j))
           c.act-done.ensures.journal));
+      disks =
+          λ on. err_unless c.act-done.result c.is_err-self-inside.result c.is_err-self-inside.ensures.value on
+          (stopped_disks i.deal i.conforming i.seeds i.roles (asked_in i) ls xs i.journals.items sw c.args.p m new b c.act-done.new.journal place
+          c.self.invariant.actors c.self.invariant.ready known (c.self.invariant.good goes_on) (c.self.invariant.journals goes_on) c.act-done.result
+          c.act-done.ensures.between c.act-done.ensures.made);
       kept =
           kept_on c.act-done.result sw (cast_in i) (state_in i) (state i.deal (asked_in i) (set xs c.args.p (Conforming new)) b)
           (Act c.args.p)

@@ -1,4 +1,4 @@
-use Rattle.std.proofs.Common.{◌≡◌, ◌<◌, ◌+◌, ◌∷◌, [], length, get_or, false, sym, ap, ◌∙◌, subst, length-append}
+use Rattle.std.proofs.Common.{◌≡◌, ◌<◌, ◌+◌, ◌∷◌, [], length, get_or, false, sym, ap, set, ◌∙◌, subst, length-append}
 use Rattle.std.proofs.lemmas.List.{get_or_default}
 use Rattle.deviator_script.specs.declared.job.Role.TheVariants as kinds
 use Rattle.swap_run.specs.Run.{Plan}
@@ -7,7 +7,8 @@ use Rattle.swap_world.specs.Inside.{asked_in}
 use Rattle.swap_world.specs.On.{swept_in}
 use Rattle.swap_world.specs.declared.actor.Actor.TheVariants.{Planned}
 use Rattle.swap_world.proofs.Kept.{journals_planned}
-use Rattle.swap_world.proofs.Asks.{IsAsking, good_asked, has_gone, is_cut, kept_asked, has_told}
+use Rattle.swap_world.proofs.Asks.{IsAsking, good_asked, has_gone, is_cut, kept_asked, has_told, signed_asked}
+use Rattle.swap_world.proofs.Disks.{disks_stay, planned_signed}
 use Rattle.swap_world.proofs.Ledgers.{on_ok}
 use Rattle.swap_world.proofs.States.{actor_set}
 use Rattle.swap_world.proofs.Worlds.{plan_placed, knows_each, shown}
@@ -87,6 +88,11 @@ invariant_of-self-2 g c =
           λ on. room_unless c.take-done.result c.is_err-self-inside.result c.take-done.new.ledgers.items c.is_err-self-inside.ensures.value on
           c.take-done.ensures.room;
       journals = λ on. journals_planned i.deal xs i.journals.items c.args.p new (c.self.invariant.journals goes_on) place.below;
+      disks =
+          λ on. disks_stay i.deal b (set xs c.args.p (Planned new)) i.journals.items
+          (journals_planned i.deal xs i.journals.items c.args.p new (c.self.invariant.journals goes_on) place.below)
+          (planned_signed i.deal b xs c.args.p new place.below
+          (signed_asked sw k b c.take-done.ensures.leaves c.self.invariant.actors c.self.invariant.ready known (c.self.invariant.good goes_on)));
       kept = kept_asked sw k b c.take-done.ensures.leaves c.self.invariant.ready known (c.self.invariant.good goes_on);
     }
 

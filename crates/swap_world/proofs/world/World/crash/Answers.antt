@@ -11,7 +11,8 @@ use Rattle.swap_world.specs.Journals.{IsJournalOf, IsSomeJournal}
 use Rattle.swap_world.specs.declared.actor.Actor.TheVariants.{Conforming}
 use Rattle.swap_world.proofs.States.{actor_set, state, crashed, crashed_machine}
 use Rattle.swap_world.proofs.Kept.{journals_act, journal_unless}
-use Rattle.swap_world.proofs.Ledgers.{on_ok}
+use Rattle.swap_world.proofs.Ledgers.{on_ok, on_err}
+use Rattle.swap_world.proofs.Disks.{crashed_disks, err_unless}
 use Rattle.swap_world.proofs.Worlds.{good_unless, acted_on, placed, owned}
 use Rattle.swap_world.proofs.world.World.crash.Goals as goal
 
@@ -55,8 +56,9 @@ invariant_of-self c =
     c.in-Conforming.is c.index_mut.ensures.value in
     let new = c.crash-done.new.machine in
     let done =
-    on_ok c.crash-done.result (λ (e : new ≡ crashed_machine i.deal m c.args.k c.args.image (histories c.deref.result.now)). crashed i.deal i.conforming i.seeds i.roles (asked_in i) i.ledgers.items i.actors.items c.args.p c.args.k c.args.image m new
-    place (e ∙ ap (λ (l : List LedgerState). crashed_machine i.deal m c.args.k c.args.image (histories l)) c.deref.ensures.value)) c.crash-done.ensures.ok in
+    on_ok c.crash-done.result (λ (e : new ≡ crashed_machine i.deal m c.args.k c.args.image (histories c.deref.result.now)).
+    crashed i.deal i.conforming i.seeds i.roles (asked_in i) i.ledgers.items i.actors.items c.args.p c.args.k c.args.image m new place
+    (e ∙ ap (λ (l : List LedgerState). crashed_machine i.deal m c.args.k c.args.image (histories l)) c.deref.ensures.value)) c.crash-done.ensures.ok in
     record {
       ready = c.self.invariant.ready;
       ledgers = c.self.invariant.ledgers;
@@ -74,6 +76,11 @@ invariant_of-self c =
           λ on. journals_act i.deal i.actors.items i.journals.items c.args.p new c.crash-done.new.journal (c.self.invariant.journals goes_on) place.below
           (journal_unless c.crash-done.result c.is_err-self-inside.result c.is_err-self-inside.ensures.value on
           (subst (λ (v : ℕ). OnOk c.crash-done.result (IsJournalOf i.deal v new.signed c.crash-done.new.journal)) place.is.2 c.crash-done.ensures.journal));
+      disks =
+          λ on. err_unless c.crash-done.result c.is_err-self-inside.result c.is_err-self-inside.ensures.value on (on_err c.crash-done.result
+          (λ between. crashed_disks i.deal i.conforming i.seeds i.roles (asked_in i) i.ledgers.items i.actors.items i.journals.items c.args.p m new
+          c.crash-done.new.journal place c.self.invariant.actors (c.self.invariant.good goes_on) (c.self.invariant.journals goes_on) between)
+          c.crash-done.ensures.between);
       kept = c.self.invariant.kept;
     }
 
@@ -88,8 +95,9 @@ returns-clause-ok c =
     c.in-Conforming.is c.index_mut.ensures.value in
     let new = c.crash-done.new.machine in
     let done =
-    on_ok c.crash-done.result (λ (e : new ≡ crashed_machine i.deal m c.args.k c.args.image (histories c.deref.result.now)). crashed i.deal i.conforming i.seeds i.roles (asked_in i) i.ledgers.items i.actors.items c.args.p c.args.k c.args.image m new
-    place (e ∙ ap (λ (l : List LedgerState). crashed_machine i.deal m c.args.k c.args.image (histories l)) c.deref.ensures.value)) c.crash-done.ensures.ok in
+    on_ok c.crash-done.result (λ (e : new ≡ crashed_machine i.deal m c.args.k c.args.image (histories c.deref.result.now)).
+    crashed i.deal i.conforming i.seeds i.roles (asked_in i) i.ledgers.items i.actors.items c.args.p c.args.k c.args.image m new place
+    (e ∙ ap (λ (l : List LedgerState). crashed_machine i.deal m c.args.k c.args.image (histories l)) c.deref.ensures.value)) c.crash-done.ensures.ok in
     rw (← c.self.view_is)
     (acted_on c.crash-done.result i.deal i.conforming i.seeds i.roles i.answers.items i.stopped c.is_err-self-inside.result _ _
     c.is_err-self-inside.ensures.value goes_on done)

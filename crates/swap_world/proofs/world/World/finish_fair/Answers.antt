@@ -1,4 +1,6 @@
 use Rattle.swap_run.specs.Fair.{finish}
+use Rattle.swap_run.specs.Steps.{finish_steps}
+use Rattle.swap_run.proofs.Along.{finish_can}
 use Rattle.swap_run.proofs.Reached.{finish_events}
 use Rattle.swap_world.specs.Value.{cast_for}
 use Rattle.swap_world.proofs.Finishes.{dealt_by, has_ended_by}
@@ -9,7 +11,7 @@ use Rattle.swap_world.proofs.world.World.finish_fair.Goals as goal
 pub returns-then-self-clause-err : goal.returns-then-self-clause-err
 returns-then-self-clause-err g c =
     let w = c.args.self.now in
-    stopped_before (g.K.Strategies.gives c.args.kit.now) finish w (rw (← c.self.view_is) c.if-self.true) (λ a. finish_events (cast_for w a))
+    stopped_before (g.K.Strategies.gives c.args.kit.now) finish_steps w (rw (← c.self.view_is) c.if-self.true)
 
 pub returns-clause-ended : goal.returns-clause-ended
 returns-clause-ended g c =
@@ -27,6 +29,6 @@ returns-then-self-clause-kept g c = rw (← c.self.view_is) c.self.invariant.kep
 pub returns-clause-kept : goal.returns-clause-kept
 returns-clause-kept g c =
     let w = c.args.self.now in
-    kept_to c.finish.result (g.K.Strategies.gives c.args.kit.now) finish w c.finish.new.world c.finish.ensures.ok c.finish.ensures.err
-    (λ a. finish_events (cast_for w a) w.state)
+    kept_to c.finish.result (g.K.Strategies.gives c.args.kit.now) finish finish_steps w c.finish.new.world c.finish.ensures.ok c.finish.ensures.err
+    (λ a. finish_events (cast_for w a) w.state) (λ a. finish_can (cast_for w a) w.state)
     (rw (← c.self.view_is) c.self.invariant.ready) (rw (← c.self.view_is) (c.self.invariant.good c.if-self.false))

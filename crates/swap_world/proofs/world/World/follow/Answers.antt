@@ -12,7 +12,8 @@ use Rattle.swap_world.proofs.Ledgers.{on_err, either}
 use Rattle.swap_world.proofs.Gone.{not_asking}
 use Rattle.swap_world.proofs.On.{if_told}
 use Rattle.swap_world.proofs.Plans.{scripted}
-use Rattle.swap_world.proofs.States.{actor_set, state, followed, followed_book, followed_told}
+use Rattle.swap_world.proofs.Disks.{disks_stay, err_unless, have_either, planned_signed}
+use Rattle.swap_world.proofs.States.{actor_set, state, followed, followed_book, followed_notes, followed_told}
 use Rattle.swap_world.proofs.Worlds.{good_unless, kept_on, acted_on, both, plan_placed, knows_each, shown}
 use Rattle.swap_world.proofs.Rooms.{room_unless}
 use Rattle.swap_world.proofs.world.World.follow.Goals as goal
@@ -88,6 +89,13 @@ invariant_of-self-2 c =
           λ on. room_unless c.follow-done.result c.is_err-self-inside.result c.follow-done.new.ledgers.items c.is_err-self-inside.ensures.value on
           c.follow-done.ensures.room;
       journals = λ on. journals_planned i.deal xs i.journals.items c.args.p new (c.self.invariant.journals goes_on) place.below;
+      disks =
+          λ on. err_unless c.follow-done.result c.is_err-self-inside.result c.is_err-self-inside.ensures.value on (on_err c.follow-done.result
+          (λ two. disks_stay i.deal b (set xs c.args.p (Planned new)) i.journals.items
+          (journals_planned i.deal xs i.journals.items c.args.p new (c.self.invariant.journals goes_on) place.below)
+          (planned_signed i.deal b xs c.args.p new place.below
+          (have_either i.deal i.conforming i.seeds i.roles (asked_in i) ls xs sw (Act c.args.p) b c.self.invariant.actors c.self.invariant.ready known
+          (c.self.invariant.good goes_on) (followed_notes i.deal i.conforming i.seeds i.roles (asked_in i) ls xs sw c.args.p n place script) two))) err);
       kept = kept_on c.follow-done.result sw (cast_in i) (state_in i) (state i.deal (asked_in i) (set xs c.args.p (Planned new)) b) (Act c.args.p) done err
           c.self.invariant.ready known (c.self.invariant.good goes_on);
     }

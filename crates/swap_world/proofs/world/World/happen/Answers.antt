@@ -1,4 +1,4 @@
-use Rattle.std.proofs.Common.{refl, sym, subst, OnOk, OnErr, IfOk, ◌≡◌}
+use Rattle.std.proofs.Common.{refl, sym, subst, ap, ◌∙◌, OnOk, OnErr, IfOk, ◌≡◌}
 use Rattle.deviator_script.specs.declared.event.Event.{Event}
 use Rattle.deviator_script.specs.declared.event.Event.TheVariants.{Tick, Call as Made}
 use Rattle.swap_run.specs.Asked.{Answers}
@@ -14,26 +14,29 @@ returns-in-Call-clause-ok g c =
     let w = c.args.self.now in
     let sw = swept_in c.args.swept.now in
     let gives = g.K.Strategies.gives c.args.kit.now in
-    subst (λ (e : Event). OnOk c.make.result (HasGone gives (stepping sw e) w c.make.new.self)) (sym c.in-Call.is)
-    (went c.make.result gives (stepping sw (Made c.in-Call.sender c.in-Call.mv)) w c.make.new.self
-    (quiet_call sw (cast_at w) w.state c.in-Call.sender c.in-Call.mv) c.make.ensures.ok)
+    let is = ap (λ mv. Made c.in-Call.sender mv) c.deref.ensures ∙ sym c.in-Call.is in
+    subst (λ (e : Event). OnOk c.make.result (HasGone gives (stepping sw e) w c.make.new.self)) is
+    (went c.make.result gives (stepping sw (Made c.in-Call.sender c.deref.result.now)) w c.make.new.self
+    (quiet_call sw (cast_at w) w.state c.in-Call.sender c.deref.result.now) c.make.ensures.ok)
 
 pub returns-in-Call-clause-told : goal.returns-in-Call-clause-told
 returns-in-Call-clause-told g c =
     let w = c.args.self.now in
     let sw = swept_in c.args.swept.now in
-    subst (λ (e : Event). IfOk c.make.result (λ r. (a : Answers) → Continues c.make.new.self a → r ≡ told_in sw (cast_for w a) w.state e)) (sym c.in-Call.is)
-    (told_any c.make.result c.make.new.self (λ a. told_in sw (cast_for w a) w.state (Made c.in-Call.sender c.in-Call.mv))
-    (told_in sw (cast_at w) w.state (Made c.in-Call.sender c.in-Call.mv)) (λ a. refl) c.make.ensures.told)
+    let is = ap (λ mv. Made c.in-Call.sender mv) c.deref.ensures ∙ sym c.in-Call.is in
+    subst (λ (e : Event). IfOk c.make.result (λ r. (a : Answers) → Continues c.make.new.self a → r ≡ told_in sw (cast_for w a) w.state e)) is
+    (told_any c.make.result c.make.new.self (λ a. told_in sw (cast_for w a) w.state (Made c.in-Call.sender c.deref.result.now))
+    (told_in sw (cast_at w) w.state (Made c.in-Call.sender c.deref.result.now)) (λ a. refl) c.make.ensures.told)
 
 pub returns-in-Call-clause-cut : goal.returns-in-Call-clause-cut
 returns-in-Call-clause-cut g c =
     let w = c.args.self.now in
     let sw = swept_in c.args.swept.now in
     let gives = g.K.Strategies.gives c.args.kit.now in
-    subst (λ (e : Event). OnErr c.make.result (IsCutBy gives (stepping sw e) w c.make.new.self)) (sym c.in-Call.is)
-    (cut c.make.result gives (stepping sw (Made c.in-Call.sender c.in-Call.mv)) w c.make.new.self
-    (quiet_call sw (cast_at w) w.state c.in-Call.sender c.in-Call.mv)
+    let is = ap (λ mv. Made c.in-Call.sender mv) c.deref.ensures ∙ sym c.in-Call.is in
+    subst (λ (e : Event). OnErr c.make.result (IsCutBy gives (stepping sw e) w c.make.new.self)) is
+    (cut c.make.result gives (stepping sw (Made c.in-Call.sender c.deref.result.now)) w c.make.new.self
+    (quiet_call sw (cast_at w) w.state c.in-Call.sender c.deref.result.now)
     c.make.ensures.cast c.make.ensures.asked c.make.ensures.answers c.make.ensures.book)
 
 pub returns-in_err-tick-in-Tick-clause-cut : goal.returns-in_err-tick-in-Tick-clause-cut

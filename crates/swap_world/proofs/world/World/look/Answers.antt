@@ -1,5 +1,6 @@
-use Rattle.std.proofs.Common.{◌<◌, set, slice_index_or, false, None, sym, ap, subst}
+use Rattle.std.proofs.Common.{◌<◌, set, slice_index_or, false, None, sym, ap, ◌∙◌, subst}
 use Rattle.ledger_core.specs.Book.{history}
+use Rattle.std.proofs.lemmas.Bool.{false≢true}
 use Rattle.deviator_script.specs.declared.event.Event.TheVariants.{Look}
 use Rattle.deviator_script.specs.declared.job.Role.TheVariants as kinds
 use Rattle.swap_laws.specs.Machine.{Begins}
@@ -68,6 +69,7 @@ invariant_of-self-2 c =
       journals = λ on. journals_learnt i.deal xs i.journals.items c.args.p m new (c.self.invariant.journals on) place.below place.here
           (still_signed c.learn.result m new (set m.known c.args.arc (history (histories ls) c.args.arc))
           (on_ok c.learn.result (know m new ls c.args.arc l k.arc below c.index.ensures) c.learn.ensures.ok) c.learn.ensures.err);
+      disks = λ on. absurd (false≢true (sym goes_on ∙ on));
       kept = c.self.invariant.kept;
     }
 

@@ -9,7 +9,8 @@ use Rattle.swap_world.specs.declared.actor.Actor.TheVariants.{Planned}
 use Rattle.swap_world.proofs.Kept.{journals_planned}
 use Rattle.swap_world.proofs.Ledgers.{on_err, either}
 use Rattle.swap_world.proofs.On.{if_told}
-use Rattle.swap_world.proofs.States.{actor_set, state, made_by_hand, made_book, made_told}
+use Rattle.swap_world.proofs.Disks.{disks_stay, err_unless, have_either, planned_signed}
+use Rattle.swap_world.proofs.States.{actor_set, state, made_by_hand, made_book, made_notes, made_told}
 use Rattle.swap_world.proofs.Worlds.{good_unless, kept_on, acted_on, both, plan_placed, knows_each}
 use Rattle.swap_world.proofs.Rooms.{room_unless}
 use Rattle.swap_world.proofs.world.World.make.Goals as goal
@@ -73,6 +74,14 @@ invariant_of-self-2 c =
           λ on. room_unless c.make_by_hand-done.result c.is_err-self-inside.result c.make_by_hand-done.new.ledgers.items
           c.is_err-self-inside.ensures.value on c.make_by_hand-done.ensures.room;
       journals = λ on. journals_planned i.deal xs i.journals.items c.args.sender new (c.self.invariant.journals goes_on) place.below;
+      disks =
+          λ on. err_unless c.make_by_hand-done.result c.is_err-self-inside.result c.is_err-self-inside.ensures.value on
+          (on_err c.make_by_hand-done.result (λ two. disks_stay i.deal b (set xs c.args.sender (Planned new)) i.journals.items
+          (journals_planned i.deal xs i.journals.items c.args.sender new (c.self.invariant.journals goes_on) place.below)
+          (planned_signed i.deal b xs c.args.sender new place.below
+          (have_either i.deal i.conforming i.seeds i.roles (asked_in i) ls xs sw (Made c.args.sender c.args.mv.now) b c.self.invariant.actors
+          c.self.invariant.ready can (c.self.invariant.good goes_on)
+          (made_notes i.deal i.conforming i.seeds i.roles (asked_in i) ls xs sw c.args.sender c.args.mv.now n place) two))) err);
       kept = kept_on c.make_by_hand-done.result sw (cast_in i) (state_in i) (state i.deal (asked_in i) (set xs c.args.sender (Planned new)) b)
           (Made c.args.sender c.args.mv.now) done err c.self.invariant.ready can (c.self.invariant.good goes_on);
     }

@@ -11,6 +11,7 @@ use Rattle.swap_world.proofs.On.{call_is, if_told}
 use Rattle.swap_run.specs.Run.{State}
 use Rattle.swap_world.proofs.Ledgers.{on_ok, on_err, either}
 use Rattle.swap_world.proofs.Rooms.{room_unless}
+use Rattle.swap_world.proofs.Disks.{disks_stay, err_unless, have_either}
 use Rattle.swap_world.proofs.States.{state, made_told}
 use Rattle.swap_world.proofs.Worlds.{good_unless, kept_on, acted_on}
 use Rattle.swap_world.proofs.world.World.make_plain.Goals as goal
@@ -55,6 +56,11 @@ invariant_of-self c =
           (Made c.args.sender c.args.mv.now) c.is_err-self-inside.ensures.value on made c.self.invariant.ready can (c.self.invariant.good goes_on);
       room = λ on. room_unless c.make-done.result c.is_err-self-inside.result new c.is_err-self-inside.ensures.value on c.make-done.ensures.room;
       journals = λ on. c.self.invariant.journals goes_on;
+      disks =
+          λ on. err_unless c.make-done.result c.is_err-self-inside.result c.is_err-self-inside.ensures.value on (on_err c.make-done.result
+          (λ two. disks_stay i.deal (histories new) xs i.journals.items (c.self.invariant.journals goes_on)
+          (have_either i.deal i.conforming i.seeds i.roles (asked_in i) ls xs sw (Made c.args.sender c.args.mv.now) (histories new) c.self.invariant.actors
+          c.self.invariant.ready can (c.self.invariant.good goes_on) (sym (ap (λ (t : State). t.notes) to)) two)) err);
       kept = kept_on c.make-done.result sw (cast_in i) (state_in i) (state i.deal (asked_in i) xs (histories new)) (Made c.args.sender c.args.mv.now) made
           err c.self.invariant.ready can (c.self.invariant.good goes_on);
     }

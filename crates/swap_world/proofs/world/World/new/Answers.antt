@@ -50,6 +50,7 @@ invariant_of-result c =
           c.in_ok-ledgers_of.ensures c.in_ok-actors.ensures c.requires.seeds c.requires.roles c.in_ok-journals_of.field-0.items
           (subst (λ (l : List Bool). AreFirstJournals job.deal l job.deal.graph.n c.in_ok-journals_of.field-0.items) c.as_slice-2.ensures
           c.in_ok-journals_of.ensures);
+      disks = λ on. absurd (cc on);
       kept =
           good_is_kept _ _ (ready job d c.new.result c.in_ok-copy.field-0 c.in_ok-copy-2.field-0 ls ys c.in_ok-copy_deal.ensures ec c.in_ok-copy.ensures er
           c.in_ok-ledgers_of.ensures c.in_ok-actors.ensures c.requires.seeds c.requires.roles c.requires.accepted)

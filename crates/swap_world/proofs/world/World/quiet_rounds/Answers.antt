@@ -5,7 +5,7 @@ use Rattle.ledger_core.specs.History.{height}
 use Rattle.ledger_core.specs.Book.{history}
 use Rattle.swap_run.specs.Asked.{Answers}
 use Rattle.swap_run.specs.Fair.{has_ended}
-use Rattle.swap_run.specs.Quiet.{SkipsTo}
+use Rattle.swap_run.specs.Steps.{IsSkipped}
 use Rattle.swap_world.specs.Value.{WorldState, cast_for}
 use Rattle.swap_world.specs.Acting.{histories}
 use Rattle.swap_world.specs.Inside.{cast_in, state_in}
@@ -28,7 +28,7 @@ returns-clause-skips c =
     let high = subst (λ (ks : List LedgerState). 0 < c.rounds_below-low.result
     → height (history (histories ks) 0) + c.rounds_below-low.result ≤ c.horizon_of.result) c.deref.ensures.value c.rounds_below-low.ensures.low in
     let still = rw (← c.self.view_is) at c.rests_for.ensures.still in
-    subst (λ (w : WorldState). (a : Answers) → SkipsTo (cast_for w a) n w.state) c.self.view_is (λ a.
+    subst (λ (w : WorldState). (a : Answers) → IsSkipped (cast_for w a) n w.state) c.self.view_is (λ a.
     skips (cast_in i) n (state_in i) a c.self.invariant.ready (c.self.invariant.good goes_on) on
     (λ more. subst (λ z. 0 < z) c.self.invariant.ledgers.one_each (below (omega (arith, more, less))))
     (λ more. let h = high (omega (arith, more, less)) in let z = c.horizon_of.ensures in omega (arith, h, z, less)) still)

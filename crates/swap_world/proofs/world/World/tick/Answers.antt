@@ -1,10 +1,12 @@
-use Rattle.std.proofs.Common.{◌<◌, set, sym, ap, subst, inr}
+use Rattle.std.proofs.Common.{◌<◌, set, refl, sym, ap, subst, inr}
 use Rattle.ledger_core.specs.Book.{Histories}
 use Rattle.deviator_script.specs.declared.event.Event.TheVariants.{Tick}
 use Rattle.swap_run.specs.Run.{State, after_tick}
 use Rattle.swap_run.specs.Laws.{IsGood, IsKept}
 use Rattle.swap_run.proofs.Good.{good_is_kept, steps_are_good}
+use Rattle.swap_world.specs.Acting.{histories}
 use Rattle.swap_world.specs.Inside.{asked_in, cast_in, state_in}
+use Rattle.swap_world.proofs.Disks.{disks_stay, have_signed}
 use Rattle.swap_world.proofs.Ledgers.{book_ok, moved, ledger_set}
 use Rattle.swap_world.proofs.Rooms.{room_on, room_unless}
 use Rattle.swap_world.proofs.States.{state}
@@ -44,6 +46,11 @@ invariant_of-self c =
       room = λ on. room_unless c.tick-done.result c.is_err-self-inside.result (set ls c.args.arc new) c.is_err-self-inside.ensures.value on
           (room_on c.tick-done.result ls c.args.arc new (c.self.invariant.room goes_on) c.tick-done.ensures.room);
       journals = λ on. c.self.invariant.journals goes_on;
+      disks =
+          λ on. disks_stay i.deal (state i.deal (asked_in i) xs (histories (set ls c.args.arc new))).book xs i.journals.items
+          (c.self.invariant.journals goes_on)
+          (have_signed i.deal i.conforming i.seeds i.roles (state i.deal (asked_in i) xs (histories (set ls c.args.arc new))) xs c.self.invariant.actors
+          (subst (IsGood (cast_in i)) (sym to) good) refl);
       kept = subst (λ (t : State). IsKept (cast_in i) t.book) (sym to) (good_is_kept (cast_in i) _ c.self.invariant.ready good);
     }
 

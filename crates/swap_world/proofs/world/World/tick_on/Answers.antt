@@ -1,10 +1,12 @@
-use Rattle.std.proofs.Common.{◌<◌, sym, ap, ◌∙◌, subst}
+use Rattle.std.proofs.Common.{◌<◌, refl, sym, ap, ◌∙◌, subst}
 use Rattle.std.specs.List.{All}
 use Rattle.ledger_core.specs.Book.{Histories}
 use Rattle.swap_run.specs.Run.{State}
 use Rattle.swap_run.specs.Laws.{IsGood, IsKept}
 use Rattle.swap_run.proofs.Good.{good_is_kept}
 use Rattle.swap_world.specs.Inside.{asked_in, cast_in, state_in}
+use Rattle.swap_world.specs.Acting.{histories}
+use Rattle.swap_world.proofs.Disks.{disks_stay, have_signed}
 use Rattle.swap_world.proofs.Rooms.{ticked_state, ticked_good, on_from}
 use Rattle.swap_world.proofs.States.{state}
 use Rattle.swap_world.proofs.world.World.tick_on.Goals as goal
@@ -35,6 +37,11 @@ invariant_of-self c =
       good = λ e. subst (IsGood (cast_in i)) (sym to) good;
       room = λ e. c.tick_all-ready.ensures.room (on_from c.tick_all-ready.result e);
       journals = λ on. c.self.invariant.journals (rw (← c.self.view_is) at c.requires.goes_on);
+      disks =
+          λ e. disks_stay i.deal (state i.deal (asked_in i) i.actors.items (histories c.tick_all-ready.new.ledgers.items)).book i.actors.items i.journals.items
+          (c.self.invariant.journals (rw (← c.self.view_is) at c.requires.goes_on))
+          (have_signed i.deal i.conforming i.seeds i.roles (state i.deal (asked_in i) i.actors.items (histories c.tick_all-ready.new.ledgers.items))
+          i.actors.items c.self.invariant.actors (subst (IsGood (cast_in i)) (sym to) good) refl);
       kept = subst (λ (t : State). IsKept (cast_in i) t.book) (sym to) (good_is_kept (cast_in i) _ c.self.invariant.ready good);
     }
 

@@ -1,4 +1,5 @@
 use Rattle.std.proofs.Common.{false, ◌≡◌, ◌<◌, set, sym, ap, ◌∙◌, subst}
+use Rattle.std.proofs.lemmas.Bool.{false≢true}
 use Rattle.deviator_script.specs.declared.event.Event.TheVariants.{Look}
 use Rattle.swap_run.specs.Run.{plan_up_to}
 use Rattle.swap_world.specs.Acting.{histories}
@@ -60,6 +61,7 @@ invariant_of-self-2 c =
           saw same c.self.invariant.ready can (c.self.invariant.good g);
       room = c.self.invariant.room;
       journals = λ on. journals_planned i.deal xs i.journals.items c.args.p new (c.self.invariant.journals on) place.below;
+      disks = λ on. absurd (false≢true (sym goes_on ∙ on));
       kept = c.self.invariant.kept;
     }
 

@@ -1,0 +1,251 @@
+-- Rounds in which nobody makes a call: on the way of as many ticks and a round there are no histories but those on the way of the rounds.
+use Rattle.std.proofs.Common.{◌≡◌, ◌≢◌, ◌⊎◌, inl, inr, ℕ, zero, suc, ◌<◌, ◌≤◌, Bool, true, false, cond, List, [], ◌∷◌, ◌++◌, length, map, replicate, take}
+use Rattle.std.proofs.Common.{refl, sym, ap, ◌∙◌, subst, arith}
+use Rattle.std.specs.List.{flat_map, range_with_len, take-map}
+use Rattle.std.proofs.lemmas.List.{take-replicate, length-replicate}
+use Rattle.swap_base.specs.Lists.{IsIn}
+use Rattle.swap_base.proofs.Lists.{from_range}
+use Rattle.ledger_core.specs.Book.{Histories}
+use Rattle.deviator_script.specs.declared.event.Event.{Event}
+use Rattle.deviator_script.specs.declared.event.Event.TheVariants.{Look, Act}
+use Rattle.deviator_script.specs.declared.job.Role.{Role}
+use Rattle.deviator_script.specs.declared.job.Role.TheVariants.{Conforming, Manual, Script, Strategy}
+use Rattle.swap_laws.proofs.Prefixes.{same_or_not}
+use Rattle.swap_run.specs.Run.{Cast, Notes, State, conforms, role_of, is_planned, notes_of, act, act_as, look, watch, run_from, step}
+use Rattle.swap_run.specs.Fair.{repeat, adjacent, looks, acts, most_acts, turn, turns, ticks, round, has_ended, round_unless_ended}
+use Rattle.swap_run.specs.Quiet.{over, IsIdle}
+use Rattle.swap_run.specs.Steps.{act_steps, look_steps, pass_steps, round_steps, rounds_steps, tick_steps, turn_steps, turns_steps, unless_steps}
+use Rattle.swap_run.specs.Steps.{IsAlong, IsSkipped}
+use Rattle.swap_run.proofs.Along.{along_start, along_more, along_after, along_split, along_none, along_one, looks_run, acts_run, turn_run, turns_run}
+use Rattle.swap_run.proofs.Along.{rounds_run, pass_run, ticks_same}
+use Rattle.swap_run.proofs.Quiet.{with_note, looks_other, acts_other, looks_forget, turn_forgets, turn_other, turn_keeps, turn_many, calm_turns, calm_round}
+use Rattle.swap_run.proofs.Quiet.{AllIdle, IsStale, finish_skips, notes_kept, skips_for, turns_skip}
+
+module _ (c : Cast) where
+  -- Looks leave the histories.
+
+  look_book : (v a : ℕ) (s : State) → (step c s (Look v a)).book ≡ s.book
+  look_book v a s = go (conforms c v)
+    where
+      go : (b : Bool) → (cond b (look s v a) (watch c s v a)).book ≡ s.book
+      go true = refl
+      go false = refl
+
+  looks_book : (v : ℕ) (js : List ℕ) (s : State) → (run_from c s (map (λ a. Look v a) js)).book ≡ s.book
+  looks_book v [] s = refl
+  looks_book v (a ∷ js) s = looks_book v js (step c s (Look v a)) ∙ look_book v a s
+
+  along_looks : (v : ℕ) (js : List ℕ) (s : State) (b : Histories) → IsAlong c s (map (λ a. Look v a) js) b → b ≡ s.book
+  along_looks v js s b k =
+      k.book ∙ ap (λ (es : List Event). (run_from c s es).book) (take-map (λ a. Look v a) k.count js) ∙ looks_book v (take k.count js) s
+
+  -- So many acts.
+
+  along_acts : (m v : ℕ) (s t : State) (b : Histories) → ((k : ℕ) → (acts c v k t).book ≡ (acts c v k s).book) → IsAlong c s (replicate m (Act v)) b
+      → IsAlong c t (replicate m (Act v)) b
+  along_acts m v s t b same k =
+      let few : k.count ≤ m = subst (λ n. k.count ≤ n) (length-replicate m (Act v)) k.few in
+      let some = take-replicate k.count m (Act v) few in
+      record {
+        count = k.count;
+        few = k.few;
+        book = k.book ∙ ap (λ (es : List Event). (run_from c s es).book) some ∙ ap (λ (u : State). u.book) (acts_run c k.count v s) ∙ sym (same k.count)
+            ∙ ap (λ (u : State). u.book) (sym (acts_run c k.count v t)) ∙ ap (λ (es : List Event). (run_from c t es).book) (sym some);
+      }
+
+  -- an act of a party that neither conforms nor plans
+  act_rests : (v : ℕ) (s : State) → conforms c v ≡ false → is_planned (role_of c v) ≡ false → step c s (Act v) ≡ s
+  act_rests v s out none = ap (λ (b : Bool). cond b (act c s v) (act_as c s v (role_of c v))) out ∙ by (role_of c v) none
+    where
+      by : (role : Role) → is_planned role ≡ false → act_as c s v role ≡ s
+      by Conforming e = refl
+      by Manual e = refl
+      by (Script moves) e = absurd (cc e)
+      by (Strategy name) e = absurd (cc e)
+
+  module _ (plain : (v : ℕ) → v < c.deal.graph.n → conforms c v ≡ false → is_planned (role_of c v) ≡ false) where
+    -- Stale notes leave the way of the turns.
+
+    acts_part : (y : Bool) (x u : ℕ) (s : State) (n : Notes) (b : Histories) → conforms c x ≡ y → x < c.deal.graph.n → x < length s.notes
+        → u < length s.notes → conforms c u ≡ true → IsStale c s u n → (x ≡ u) ⊎ (x ≢ u)
+        → IsAlong c (looks c x s) (cond y (replicate (most_acts c.deal) (Act x)) (Act x ∷ [])) b
+        → IsAlong c (with_note s u n) (look_steps c.deal x ++ cond y (replicate (most_acts c.deal) (Act x)) (Act x ∷ [])) b
+    acts_part true x u s n b cx lx l lu cu stale (inl e) k =
+        let same : looks c x (with_note s u n) ≡ looks c x s =
+        subst (λ z. looks c z (with_note s u n) ≡ looks c z s) (sym e) (looks_forget c s u n cu lu stale) in
+        along_after c (with_note s u n) (look_steps c.deal x) (replicate (most_acts c.deal) (Act x)) b
+        (subst (λ (t : State). IsAlong c t (replicate (most_acts c.deal) (Act x)) b) (sym (looks_run c x (with_note s u n) ∙ same)) k)
+    acts_part true x u s n b cx lx l lu cu stale (inr apart) k =
+        let far : u ≢ x = λ e. apart (sym e) in
+        let other : looks c x (with_note s u n) ≡ with_note (looks c x s) u n = looks_other c s u x n far cx l in
+        along_after c (with_note s u n) (look_steps c.deal x) (replicate (most_acts c.deal) (Act x)) b
+        (subst (λ (t : State). IsAlong c t (replicate (most_acts c.deal) (Act x)) b) (sym (looks_run c x (with_note s u n) ∙ other))
+        (along_acts (most_acts c.deal) x (looks c x s) (with_note (looks c x s) u n) b
+        (λ i. ap (λ (t : State). t.book) (acts_other c i (looks c x s) u x n far cx)) k))
+    acts_part false x u s n b cx lx l lu cu stale where_it_is k =
+        along_start c (with_note s u n) (look_steps c.deal x ++ Act x ∷ []) b (by (along_one c (looks c x s) (Act x) b k))
+      where
+        whole : (looks c x s).book ≡ s.book
+        whole = ap (λ (t : State). t.book) (sym (looks_run c x s)) ∙ looks_book x (adjacent c.deal x) s
+
+        by : (b ≡ (looks c x s).book) ⊎ (b ≡ (step c (looks c x s) (Act x)).book) → b ≡ s.book
+        by (inl q) = q ∙ whole
+        by (inr q) = q ∙ ap (λ (t : State). t.book) (act_rests x (looks c x s) cx (plain x lx cx)) ∙ whole
+
+    turn_part : (x u : ℕ) (s : State) (n : Notes) (b : Histories) → x < c.deal.graph.n → x < length s.notes → u < length s.notes → conforms c u ≡ true
+        → IsStale c s u n → IsAlong c s (turn_steps c x) b → IsAlong c (with_note s u n) (turn_steps c x) b
+    unfolding turn_steps
+    turn_part x u s n b lx l lu cu stale k = go (along_split c s (look_steps c.deal x) (act_steps c x) b k)
+      where
+        go : IsAlong c s (look_steps c.deal x) b ⊎ IsAlong c (run_from c s (look_steps c.deal x)) (act_steps c x) b
+            → IsAlong c (with_note s u n) (look_steps c.deal x ++ act_steps c x) b
+        go (inl i) = along_start c (with_note s u n) (look_steps c.deal x ++ act_steps c x) b (along_looks x (adjacent c.deal x) s b i)
+        go (inr i) =
+            acts_part (conforms c x) x u s n b refl lx l lu cu stale (same_or_not x u)
+            (subst (λ (t : State). IsAlong c t (act_steps c x) b) (looks_run c x s) i)
+
+    turns_part : (xs : List ℕ) (u : ℕ) (s : State) (n : Notes) (b : Histories) → ((x : ℕ) → IsIn x xs → x < c.deal.graph.n)
+        → length s.notes ≡ c.deal.graph.n → u < c.deal.graph.n → conforms c u ≡ true → IsStale c s u n → IsAlong c s (flat_map (turn_steps c) xs) b
+        → IsAlong c (with_note s u n) (flat_map (turn_steps c) xs) b
+    turns_part [] u s n b low many lu cu stale k = along_start c (with_note s u n) [] b (along_none c s b k)
+    turns_part (x ∷ xs) u s n b low many lu cu stale k =
+        go (λ t far old i. turns_part xs u t n b (λ y j. low y (inr j)) far lu cu old i) (along_split c s (turn_steps c x) (flat_map (turn_steps c) xs) b k)
+      where
+        lx : x < c.deal.graph.n
+        lx = low x (inl refl)
+
+        l : x < length s.notes
+        l = rw many lx
+
+        here : u < length s.notes
+        here = rw many lu
+
+        after : ((t : State) → length t.notes ≡ c.deal.graph.n → IsStale c t u n → IsAlong c t (flat_map (turn_steps c) xs) b
+            → IsAlong c (with_note t u n) (flat_map (turn_steps c) xs) b)
+            → (x ≡ u) ⊎ (x ≢ u) → IsAlong c (turn c s x) (flat_map (turn_steps c) xs) b
+            → IsAlong c (turn c (with_note s u n) x) (flat_map (turn_steps c) xs) b
+        after rest (inl e) i =
+            let same : turn c (with_note s u n) x ≡ turn c s x =
+            subst (λ z. turn c (with_note s u n) z ≡ turn c s z) (sym e) (turn_forgets c s u n cu here stale) in
+            subst (λ (t : State). IsAlong c t (flat_map (turn_steps c) xs) b) (sym same) i
+        after rest (inr apart) i =
+            let kept : notes_of (turn c s x) u ≡ notes_of s u = turn_keeps c plain s u x lx (λ e. apart (sym e)) here l in
+            subst (λ (t : State). IsAlong c t (flat_map (turn_steps c) xs) b) (sym (turn_other c plain s u x n lx (λ e. apart (sym e)) l))
+            (rest (turn c s x) (turn_many c plain s x lx l ∙ many) (record {
+              signed = stale.signed ∙ ap (λ (m : Notes). m.signed) (sym kept);
+              known = λ h. stale.known h ∙ ap (λ (m : Notes). over h (adjacent c.deal u) m.known) (sym kept);
+            }) i)
+
+        go : ((t : State) → length t.notes ≡ c.deal.graph.n → IsStale c t u n → IsAlong c t (flat_map (turn_steps c) xs) b
+            → IsAlong c (with_note t u n) (flat_map (turn_steps c) xs) b)
+            → IsAlong c s (turn_steps c x) b ⊎ IsAlong c (run_from c s (turn_steps c x)) (flat_map (turn_steps c) xs) b
+            → IsAlong c (with_note s u n) (turn_steps c x ++ flat_map (turn_steps c) xs) b
+        go rest (inl i) =
+            along_more c (with_note s u n) (turn_steps c x) (flat_map (turn_steps c) xs) b (turn_part x u s n b lx l here cu stale i)
+        go rest (inr i) =
+            along_after c (with_note s u n) (turn_steps c x) (flat_map (turn_steps c) xs) b
+            (subst (λ (t : State). IsAlong c t (flat_map (turn_steps c) xs) b) (sym (turn_run c x (with_note s u n)))
+            (after rest (same_or_not x u) (subst (λ (t : State). IsAlong c t (flat_map (turn_steps c) xs) b) (turn_run c x s) i)))
+
+    -- what is on the way of the turns after ticks is so after a quiet round
+    turns_way : (s : State) (b : Histories) → length s.notes ≡ c.deal.graph.n → AllIdle c plain s → IsAlong c (ticks c s) (turns_steps c) b
+        → IsAlong c (round c s) (turns_steps c) b
+    unfolding round turns turns_steps
+    turns_way s b many idle k =
+        skips_for c plain (λ t. IsAlong c t (flat_map (turn_steps c) (range_with_len 0 c.deal.graph.n)) b)
+        (λ u t n cu lu m stale h. turns_part (range_with_len 0 c.deal.graph.n) u t n b (λ x i. from_range x c.deal.graph.n i) m lu cu stale h)
+        (range_with_len 0 c.deal.graph.n) s (λ x i. from_range x c.deal.graph.n i) many idle k
+
+    -- So many quiet rounds.
+
+    module _ (n : ℕ) (s : State) (many : length s.notes ≡ c.deal.graph.n)
+        (on : (i : ℕ) → i ≤ n → has_ended c.deal (repeat i (ticks c) s).book ≡ false)
+        (idle : (i : ℕ) → i < n → AllIdle c plain (repeat i (ticks c) s)) where
+      abbrev ticked : ℕ → State
+      ticked i = repeat i (ticks c) s
+
+      abbrev rounded : ℕ → State
+      rounded i = repeat i (round_unless_ended c) s
+
+      many_at : (i : ℕ) → length (ticked i).notes ≡ c.deal.graph.n
+      many_at i = ap length (notes_kept c i s) ∙ many
+
+      next_at : (i : ℕ) → i ≤ n → rounded (suc i) ≡ round c (ticked i)
+      next_at i le = finish_skips c plain i s many (λ j l. on j (omega (arith, l, le))) (λ j l. idle j (omega (arith, l, le)))
+
+      book_at : (i : ℕ) → i ≤ n → (rounded i).book ≡ (ticked i).book
+      book_at zero le = refl
+      book_at (suc m) le =
+          ap (λ (t : State). t.book) (next_at m (omega (arith, le))) ∙ calm_round c plain (ticked m) (many_at m) (idle m (omega (arith, le)))
+
+      turned_at : (i : ℕ) → i < n → (turns c (rounded i)).book ≡ (ticked i).book
+      turned_at zero lt = calm_turns c plain s many (idle 0 lt)
+      turned_at (suc m) lt =
+          ap (λ (t : State). (turns c t).book) (next_at m (omega (arith, lt)))
+          ∙ ap (λ (t : State). t.book) (turns_skip c plain (ticked m) (many_at m) (idle m (omega (arith, lt))))
+          ∙ calm_turns c plain (ticked (suc m)) (many_at (suc m)) (idle (suc m) lt)
+
+      -- on the way of the round number i
+      here : (i : ℕ) (b : Histories) → i ≤ n → IsAlong c (rounded i) (round_steps c (rounded i)) b → IsAlong c s (rounds_steps (suc i) c s) b
+      here i b le k =
+          let low : has_ended c.deal (rounded i).book ≡ false = ap (has_ended c.deal) (book_at i le) ∙ on i le in
+          let is : unless_steps c (rounded i) ≡ round_steps c (rounded i) = ap (λ (y : Bool). cond y [] (round_steps c (rounded i))) low in
+          along_after c s (rounds_steps i c s) (unless_steps c (rounded i)) b
+          (subst (λ (es : List Event). IsAlong c (run_from c s (rounds_steps i c s)) es b) (sym is)
+          (subst (λ (t : State). IsAlong c t (round_steps c (rounded i)) b) (sym (rounds_run c i s)) k))
+
+      pass_way : (m : ℕ) (b : Histories) → m ≤ n → IsAlong c s (pass_steps m c s) b → IsAlong c s (rounds_steps m c s) b
+      pass_way zero b le k = k
+      pass_way (suc m) b le k = go (λ i. pass_way m b (omega (arith, le)) i) (along_split c s (pass_steps m c s) (tick_steps c.deal (ticked m).book) b k)
+        where
+          low : m ≤ n
+          low = omega (arith, le)
+
+          go : (IsAlong c s (pass_steps m c s) b → IsAlong c s (rounds_steps m c s) b)
+              → IsAlong c s (pass_steps m c s) b ⊎ IsAlong c (run_from c s (pass_steps m c s)) (tick_steps c.deal (ticked m).book) b
+              → IsAlong c s (rounds_steps (suc m) c s) b
+          go rest (inl i) = along_more c s (rounds_steps m c s) (unless_steps c (rounded m)) b (rest i)
+          go rest (inr i) =
+              here m b low (along_after c (rounded m) (turns_steps c) (tick_steps c.deal (turns c (rounded m)).book) b
+              (subst (λ (t : State). IsAlong c t (tick_steps c.deal (turns c (rounded m)).book) b) (sym (turns_run c (rounded m)))
+              (ticks_same c (ticked m) (turns c (rounded m)) b (turned_at m (omega (arith, le)))
+              (subst (λ (t : State). IsAlong c t (tick_steps c.deal (ticked m).book) b) (pass_run c m s) i))))
+
+      round_way : (t : State) (b : Histories) → length t.notes ≡ c.deal.graph.n → AllIdle c plain t → IsAlong c (ticks c t) (round_steps c (ticks c t)) b
+          → IsAlong c (round c t) (round_steps c (round c t)) b
+      round_way t b far still k = go (along_split c (ticks c t) (turns_steps c) (tick_steps c.deal (turns c (ticks c t)).book) b k)
+        where
+          same : turns c (round c t) ≡ turns c (ticks c t)
+          same = turns_skip c plain t far still
+
+          go : IsAlong c (ticks c t) (turns_steps c) b
+              ⊎ IsAlong c (run_from c (ticks c t) (turns_steps c)) (tick_steps c.deal (turns c (ticks c t)).book) b
+              → IsAlong c (round c t) (round_steps c (round c t)) b
+          go (inl i) = along_more c (round c t) (turns_steps c) (tick_steps c.deal (turns c (round c t)).book) b (turns_way t b far still i)
+          go (inr i) =
+              along_after c (round c t) (turns_steps c) (tick_steps c.deal (turns c (round c t)).book) b
+              (subst (λ (u : State). IsAlong c u (tick_steps c.deal (turns c (round c t)).book) b) (sym (turns_run c (round c t)))
+              (subst (λ (u : State). IsAlong c u (tick_steps c.deal u.book) b) (sym same)
+              (subst (λ (u : State). IsAlong c u (tick_steps c.deal (turns c (ticks c t)).book) b) (turns_run c (ticks c t)) i)))
+
+      last_way : (m : ℕ) (b : Histories) → m ≤ n → IsAlong c (ticked m) (round_steps c (ticked m)) b
+          → IsAlong c (rounded m) (round_steps c (rounded m)) b
+      last_way zero b le k = k
+      last_way (suc m) b le k =
+          subst (λ (t : State). IsAlong c t (round_steps c t) b) (sym (next_at m (omega (arith, le))))
+          (round_way (ticked m) b (many_at m) (idle m (omega (arith, le))) k)
+
+      pub is_skipped : IsSkipped c n s
+      is_skipped = record {
+        skips = finish_skips c plain n s many on idle;
+        pass = λ b k. along_more c s (rounds_steps n c s) (unless_steps c (rounded n)) b (pass_way n b (omega arith) k);
+        last = λ b k. here n b (omega arith) (last_way n b (omega arith) k);
+      }
+
+  -- no round but the next
+  pub none_skipped : (s : State) → has_ended c.deal s.book ≡ false → IsSkipped c 0 s
+  none_skipped s on = record {
+    skips = ap (λ (y : Bool). cond y s (round c s)) on;
+    pass = λ b k. along_start c s (rounds_steps 1 c s) b (along_none c s b k);
+    last = λ b k. subst (λ (es : List Event). IsAlong c s es b) (ap (λ (y : Bool). cond y [] (round_steps c s)) (sym on)) k;
+  }

@@ -1,0 +1,362 @@
+-- What a crash may leave of the disks of a world's conforming parties, also where memory ran out.
+use Rattle.std.proofs.Common.{◌≡◌, ◌≢◌, ◌⊎◌, inl, inr, ℕ, ◌<◌, ◌≤◌, Bool, true, false, List, length, map, get_or, set, Option, Some, None, refl, sym, ap}
+use Rattle.std.proofs.Common.{◌∙◌, subst, arith, [], Result, Ok, Err, OnOk, OnErr}
+use Rattle.std.specs.Result.{is_err}
+use Rattle.std.proofs.lemmas.Bool.{false≢true}
+use Rattle.std.proofs.lemmas.List.{length-set, get_or-map, get_or-set_same, get_or-set_other, get_or_default}
+use Rattle.swap_digraph.specs.declared.deal.Deal.{Deal}
+use Rattle.hashkey_path.specs.declared.hashkey.Hashkey.{Hashkey}
+use Rattle.ledger_core.specs.declared.entry.Call.TheVariants.{Unlock}
+use Rattle.ledger_core.specs.declared.entry.Entry.{Entry}
+use Rattle.ledger_core.specs.Value.{LedgerState}
+use Rattle.ledger_core.specs.Book.{Histories, history}
+use Rattle.deviator_script.specs.declared.event.Event.{Event}
+use Rattle.deviator_script.specs.declared.event.Event.TheVariants.{Act}
+use Rattle.deviator_script.specs.declared.job.Role.{Role}
+use Rattle.deviator_script.specs.declared.job.Role.TheVariants as kinds
+use Rattle.deviator_script.specs.Step.{CanStep}
+use Rattle.swap_base.specs.Lists.{IsMoment}
+use Rattle.swap_rules.specs.Party.{call_by}
+use Rattle.swap_laws.proofs.Prefixes.{same_or_not}
+use Rattle.party_wallet.specs.Value.{signed_in}
+use Rattle.party_machine.specs.Machine.{MachineState, next_of}
+use Rattle.swap_rules.specs.Due.{Action}
+use Rattle.party_machine.specs.Recording.{MayHave}
+use Rattle.party_machine.proofs.Recorded.{below}
+use Rattle.wallet_journal.specs.Held.{Held, Leaves, read_bytes}
+use Rattle.wallet_journal.specs.Journal.{JournalState, signed_at}
+use Rattle.wallet_journal.specs.Layout.{recorded}
+use Rattle.wallet_journal.specs.Memory.{DiskState}
+use Rattle.wallet_journal.specs.Stopped.{IsWrittenUp, ShowsAll}
+use Rattle.swap_run.specs.Run.{Notes, Plan, Question, State, notes_of}
+use Rattle.swap_run.specs.Called.{step_on}
+use Rattle.swap_run.specs.Laws.{IsGood, IsReadyCast}
+use Rattle.swap_run.proofs.Good.{unlocks_are_signed}
+use Rattle.swap_run.proofs.Swept.{steps_on_are_good}
+use Rattle.swap_world.specs.Acting.{book_after, histories, machine_after, IsSameOwner}
+use Rattle.swap_world.specs.Cast.{cast_with}
+use Rattle.swap_world.specs.Inside.{notes_in, state_in, AreActorsOf, Holds, IsActorOf}
+use Rattle.swap_world.specs.Journals.{AreDisksOf, AreJournalsOf, IsBetween, IsDiskOf, IsSomeDisk, IsSomeJournal}
+use Rattle.swap_world.specs.declared.actor.Actor.{Actor}
+use Rattle.swap_world.specs.declared.actor.Actor.TheVariants.{Conforming, Planned, Manual}
+use Rattle.swap_world.specs.declared.world.World.TheInside.{Inside}
+use Rattle.swap_world.proofs.Restarts.{seen_left}
+use Rattle.swap_world.proofs.States.{actor_set, acted, c, s, state, notes_at, IsAt}
+use Rattle.swap_world.proofs.Worlds.{owned}
+
+abbrev Seeds : Type 0
+Seeds = List (Option (List ℕ))
+
+-- What a machine signed, over a book: each unlock call of its party carries the hashkey that is signed for its lock.
+pub record IsSigned (d : Deal) (v : ℕ) (b : Histories) (signed : List (Option Hashkey)) : Type 0 where
+  pub places : length signed ≡ length d.leaders
+  pub calls : (a : ℕ) (past : List Entry) (e : Entry) (key : Hashkey) → IsMoment (history b a) past e → call_by v e ≡ Some (Unlock key)
+      → signed_in signed key.lock ≡ Some key
+
+-- the same of each machine
+abbrev pub HaveSigned : Deal → Histories → List Actor → Type 0
+HaveSigned d b xs = (v : ℕ) (m : MachineState) → v < length xs → Conforming m ≡ get_or xs v (Conforming m) → IsSigned d v b m.signed
+
+-- and of each but that of party p
+abbrev pub OthersSigned : Deal → Histories → List Actor → ℕ → Type 0
+OthersSigned d b xs p =
+    (v : ℕ) (m : MachineState) → v ≢ p → v < length xs → Conforming m ≡ get_or xs v (Conforming m) → IsSigned d v b m.signed
+
+-- Disks between what was signed and what is.
+
+pub between_disk : (d : Deal) (v : ℕ) (b : Histories) (before after : List (Option Hashkey)) (h : Held) → IsBetween before after h → IsSigned d v b before
+    → IsDiskOf d v b after h
+between_disk d v b before after h k signed = record {
+  places = k.places ∙ signed.places;
+  only = λ i key lt c left is. only i key c is (k.each i lt c left);
+  calls = λ a past e key m q c left.
+      let mine = signed.calls a past e key m q in
+      let lt : key.lock < length after = subst (λ n. key.lock < n) (sym k.places) (below before key.lock key mine) in
+      has key c mine (k.each key.lock lt c left);
+}
+  where
+    only : (i : ℕ) (key : Hashkey) (c : List ℕ) → recorded c i ≡ Some key → (recorded c i ≡ signed_in before i) ⊎ (recorded c i ≡ signed_in after i)
+        → signed_in after i ≡ Some key
+    only i key c is (inl e) = k.stays i key (sym e ∙ is)
+    only i key c is (inr e) = sym e ∙ is
+
+    has : (key : Hashkey) (c : List ℕ) → signed_in before key.lock ≡ Some key
+        → (recorded c key.lock ≡ signed_in before key.lock) ⊎ (recorded c key.lock ≡ signed_in after key.lock) → recorded c key.lock ≡ Some key
+    has key c mine (inl e) = e ∙ mine
+    has key c mine (inr e) = e ∙ k.stays key.lock key mine
+
+-- a disk that has just what is signed
+pub exact_between : (signed shown : List (Option Hashkey)) (h : Held) → shown ≡ signed → ShowsAll shown h → IsBetween signed signed h
+exact_between signed shown h same shows = record {
+  places = refl;
+  each = λ i lt c left. inl (subst (λ (l : List (Option Hashkey)). ShowsAll l h) same shows i lt c left);
+  stays = λ i key e. e;
+}
+
+-- the same, of which some was signed since
+pub signed_between : (before after shown : List (Option Hashkey)) (h : Held) → length after ≡ length before
+    → ((i : ℕ) (key : Hashkey) → signed_in before i ≡ Some key → signed_in after i ≡ Some key) → shown ≡ after → ShowsAll shown h → IsBetween before after h
+signed_between before after shown h places stays same shows = record {
+  places = places;
+  each = λ i lt c left. inr (subst (λ (l : List (Option Hashkey)). ShowsAll l h) same shows i lt c left);
+  stays = stays;
+}
+
+-- a disk of which a crash leaves nothing new
+pub unwritten_between : (before after shown : List (Option Hashkey)) (h h' : Held) → length after ≡ length before
+    → ((i : ℕ) (key : Hashkey) → signed_in before i ≡ Some key → signed_in after i ≡ Some key) → shown ≡ before → ShowsAll shown h
+    → ((c : List ℕ) → Leaves h' c → Leaves h c) → IsBetween before after h'
+unwritten_between before after shown h h' places stays same shows fewer = record {
+  places = places;
+  each = λ i lt c left. inl (subst (λ (l : List (Option Hashkey)). ShowsAll l h) same shows i (subst (λ n. i < n) places lt) c (fewer c left));
+  stays = stays;
+}
+
+pub fewer_between : (before after : List (Option Hashkey)) (h h' : Held) → IsBetween before after h → ((c : List ℕ) → Leaves h' c → Leaves h c)
+    → IsBetween before after h'
+fewer_between before after h h' k fewer = record { places = k.places; each = λ i lt c left. k.each i lt c (fewer c left); stays = k.stays }
+
+-- while a hashkey is recorded
+module _ (before after : List (Option Hashkey)) (d : DiskState) (h : Held) (next : Option Hashkey) (up : IsWrittenUp d before) (few : length before ≤ 8)
+    (places : length after ≡ length before) (stays : (i : ℕ) (key : Hashkey) → signed_in before i ≡ Some key → signed_in after i ≡ Some key)
+    (whole : (c : List ℕ) → Leaves h c → Leaves d.held c ⊎ MayHave (read_bytes d.held) next c)
+    (kept : (key : Hashkey) → next ≡ Some key → signed_in after key.lock ≡ Some key) where
+  there : (i : ℕ) (c : List ℕ) (key : Hashkey) → i < length before → next ≡ Some key
+      → (recorded c i ≡ recorded (read_bytes d.held) i) ⊎ ((i ≡ key.lock) × (recorded c i ≡ Some key))
+      → (recorded c i ≡ signed_in before i) ⊎ (recorded c i ≡ signed_in after i)
+  there i c key lt is (inl same) = inl (same ∙ up.shown i lt (read_bytes d.held) (seen_left d.held up.settled))
+  there i c key lt is (inr new) = inr (new.1 ∙ sym (ap (signed_in after) new.0 ∙ kept key is))
+
+  may : (o : Option Hashkey) → next ≡ o → (i : ℕ) (c : List ℕ) → i < length before → Leaves d.held c ⊎ MayHave (read_bytes d.held) o c
+      → (recorded c i ≡ signed_in before i) ⊎ (recorded c i ≡ signed_in after i)
+  may o is i c lt (inl was) = inl (up.shown i lt c was)
+  may None is i c lt (inr new) = absurd new
+  may (Some key) is i c lt (inr new) = there i c key lt is (new i (omega (arith, lt, few)))
+
+  pub recording_between : IsBetween before after h
+  recording_between = record {
+    places = places;
+    each = λ i lt c left. may next refl i c (subst (λ n. i < n) places lt) (whole c left);
+    stays = stays;
+  }
+
+-- after a crash, whose disk the journal shows
+module _ (before after shown : List (Option Hashkey)) (h h' : Held) (bytes : List ℕ) (k : IsBetween before after h) (left : Leaves h bytes)
+    (places : length shown ≡ length after) (is : (i : ℕ) → i < length shown → signed_at shown i ≡ recorded bytes i) (shows : ShowsAll shown h') where
+  read : (i : ℕ) → i < length after → (recorded bytes i ≡ signed_in before i) ⊎ (recorded bytes i ≡ signed_in after i)
+  read i lt = k.each i lt bytes left
+
+  all : (i : ℕ) → i < length after → (c : List ℕ) → Leaves h' c → recorded c i ≡ recorded bytes i
+  all i lt c l = let low = subst (λ n. i < n) (sym places) lt in shows i low c l ∙ is i low
+
+  pub crashed_between : IsBetween before after h'
+  crashed_between = record { places = k.places; each = λ i lt c l. by i c (all i lt c l) (read i lt); stays = k.stays }
+    where
+      by : (i : ℕ) (c : List ℕ) → recorded c i ≡ recorded bytes i → (recorded bytes i ≡ signed_in before i) ⊎ (recorded bytes i ≡ signed_in after i)
+          → (recorded c i ≡ signed_in before i) ⊎ (recorded c i ≡ signed_in after i)
+      by i c e (inl x) = inl (e ∙ x)
+      by i c e (inr x) = inr (e ∙ x)
+
+  -- the party then goes on with what the journal shows
+  pub resumed_between : (now : List (Option Hashkey)) → now ≡ shown → IsBetween before now h'
+  resumed_between now same = signed_between before now shown h' (ap (λ (l : List (Option Hashkey)). length l) same ∙ (places ∙ k.places)) stays (sym same) shows
+    where
+      by : (i : ℕ) (key : Hashkey) → signed_in before i ≡ Some key → (recorded bytes i ≡ signed_in before i) ⊎ (recorded bytes i ≡ signed_in after i)
+          → recorded bytes i ≡ Some key
+      by i key e (inl x) = x ∙ e
+      by i key e (inr x) = x ∙ k.stays i key e
+
+      stays : (i : ℕ) (key : Hashkey) → signed_in before i ≡ Some key → signed_in now i ≡ Some key
+      stays i key e =
+          let lt : i < length after = subst (λ n. i < n) (sym k.places) (below before i key e) in
+          ap (λ (l : List (Option Hashkey)). signed_in l i) same ∙ (is i (subst (λ n. i < n) (sym places) lt) ∙ by i key e (read i lt))
+
+-- Books of good states.
+
+pub have_signed : (d : Deal) (conforming : List Bool) (seeds : Seeds) (roles : List Role) (t : State) (ys : List Actor)
+    → AreActorsOf d conforming seeds roles ys
+    → IsGood (cast_with d conforming seeds roles) t → t.notes ≡ map (notes_in d) ys → HaveSigned d t.book ys
+have_signed d conforming seeds roles t ys actors good notes v m lt here =
+    let is = actors.each v (Conforming m) lt here in
+    let none : Notes = record { known = []; signed = [] } in
+    let lv : v < d.graph.n = subst (λ n. v < n) actors.one_each lt in
+    let same : notes_of t v ≡ record { known = m.known; signed = m.signed } =
+    ap (λ (ns : List Notes). get_or ns v none) notes
+    ∙ (get_or-map (notes_in d) ys v (Conforming m) none lt ∙ ap (notes_in d) (sym here)) in
+    record {
+      places = ap (λ (n : Notes). length n.signed) (sym same) ∙ (good.notes v lv is.0).places;
+      calls = λ a past e key mo q. ap (λ (n : Notes). signed_in n.signed key.lock) (sym same)
+          ∙ unlocks_are_signed (cast_with d conforming seeds roles) t v a past e key good lv is.0 mo q;
+    }
+
+-- before an event that no machine notes, or after it
+pub have_either : (d : Deal) (conforming : List Bool) (seeds : Seeds) (roles : List Role) (qs : List Question) (ls : List LedgerState) (xs : List Actor)
+    (sw : ℕ → Bool) (e : Event) (b : Histories) → AreActorsOf d conforming seeds roles xs → IsReadyCast (c d conforming seeds roles qs ls xs)
+    → CanStep d conforming seeds e → IsGood (c d conforming seeds roles qs ls xs) (s d conforming seeds roles qs ls xs)
+    → (step_on sw (c d conforming seeds roles qs ls xs) (s d conforming seeds roles qs ls xs) e).notes ≡ map (notes_in d) xs
+    → (b ≡ histories ls) ⊎ (b ≡ (step_on sw (c d conforming seeds roles qs ls xs) (s d conforming seeds roles qs ls xs) e).book) → HaveSigned d b xs
+have_either d conforming seeds roles qs ls xs sw e b actors ready can good notes (inl q) =
+    subst (λ (h : Histories). HaveSigned d h xs) (sym q) (have_signed d conforming seeds roles (s d conforming seeds roles qs ls xs) xs actors good refl)
+have_either d conforming seeds roles qs ls xs sw e b actors ready can good notes (inr q) =
+    let cast = c d conforming seeds roles qs ls xs in
+    let old = s d conforming seeds roles qs ls xs in
+    subst (λ (h : Histories). HaveSigned d h xs) (sym q)
+    (have_signed d conforming seeds roles (step_on sw cast old e) xs actors (steps_on_are_good sw cast old e ready can good) notes)
+
+-- The disks of a world.
+
+pub disks_stay : (d : Deal) (b : Histories) (xs : List Actor) (js : List (Option (JournalState DiskState))) → AreJournalsOf d xs js → HaveSigned d b xs
+    → AreDisksOf d b xs js
+disks_stay d b xs js k signed = record { one_each = k.one_each; each = λ v m o lt here q. some v m o (signed v m lt here) (k.each v m o lt here q) }
+  where
+    some : (v : ℕ) (m : MachineState) (o : Option (JournalState DiskState)) → IsSigned d v b m.signed → IsSomeJournal d v m.signed o
+        → IsSomeDisk d v b m.signed o
+    some v m None have j = absurd j
+    some v m (Some x) have j = between_disk d v b m.signed m.signed x.disk.held (exact_between m.signed x.signed x.disk.held j.has j.shows) have
+
+-- a plan stands in the place of party p
+pub planned_signed : (d : Deal) (b : Histories) (xs : List Actor) (p : ℕ) (n : Plan) → p < length xs → HaveSigned d b xs
+    → HaveSigned d b (set xs p (Planned n))
+planned_signed d b xs p n lt signed v m l e = at (same_or_not v p)
+  where
+    low : v < length xs
+    low = subst (λ k. v < k) (length-set xs p (Planned n)) l
+
+    at : (v ≡ p) ⊎ (v ≢ p) → IsSigned d v b m.signed
+    at (inl q) =
+        let is : Conforming m ≡ Planned n =
+        e ∙ (ap (λ u. get_or (set xs p (Planned n)) u (Conforming m)) q ∙ get_or-set_same xs p (Planned n) (Conforming m) lt) in
+        absurd (cc is)
+    at (inr apart) = signed v m low (e ∙ get_or-set_other xs p v (Planned n) (Conforming m) apart)
+
+-- who isn't in the place of party p
+pub others_signed : (d : Deal) (b : Histories) (xs : List Actor) (p : ℕ) (x : Actor) → HaveSigned d b (set xs p x) → OthersSigned d b xs p
+others_signed d b xs p x signed v m apart lt here =
+    signed v m (subst (λ n. v < n) (sym (length-set xs p x)) lt) (here ∙ sym (get_or-set_other xs p v x (Conforming m) apart))
+
+-- a machine and its journal stand in the place of party p
+pub disks_set : (d : Deal) (b : Histories) (xs : List Actor) (js : List (Option (JournalState DiskState))) (p : ℕ) (new : MachineState)
+    (j : JournalState DiskState) → AreJournalsOf d xs js → OthersSigned d b xs p → p < length xs → IsDiskOf d p b new.signed j.disk.held
+    → AreDisksOf d b (set xs p (Conforming new)) (set js p (Some j))
+disks_set d b xs js p new j k others lt here = record {
+  one_each = length-set js p (Some j) ∙ (k.one_each ∙ sym (length-set xs p (Conforming new)));
+  each = λ v m o l e q. at v m o (subst (λ n. v < n) (length-set xs p (Conforming new)) l) e q (same_or_not v p);
+}
+  where
+    signed_by : Actor → List (Option Hashkey)
+    signed_by (Conforming m) = m.signed
+    signed_by _ = []
+
+    some : (v : ℕ) (m : MachineState) (o : Option (JournalState DiskState)) → IsSigned d v b m.signed → IsSomeJournal d v m.signed o
+        → IsSomeDisk d v b m.signed o
+    some v m None have x = absurd x
+    some v m (Some y) have x = between_disk d v b m.signed m.signed y.disk.held (exact_between m.signed y.signed y.disk.held x.has x.shows) have
+
+    at : (v : ℕ) (m : MachineState) (o : Option (JournalState DiskState)) → v < length xs → Conforming m ≡ get_or (set xs p (Conforming new)) v (Conforming m)
+        → o ≡ get_or (set js p (Some j)) v o → (v ≡ p) ⊎ (v ≢ p) → IsSomeDisk d v b m.signed o
+    at v m o l e q (inl w) =
+        let is : o ≡ Some j = q ∙ (ap (λ u. get_or (set js p (Some j)) u o) w ∙ get_or-set_same js p (Some j) o (subst (λ n. p < n) (sym k.one_each) lt)) in
+        let it : Conforming m ≡ Conforming new =
+        e ∙ (ap (λ u. get_or (set xs p (Conforming new)) u (Conforming m)) w ∙ get_or-set_same xs p (Conforming new) (Conforming m) lt) in
+        subst (λ u. IsSomeDisk d u b m.signed o) (sym w) (subst (IsSomeDisk d p b m.signed) (sym is)
+        (subst (λ (l : List (Option Hashkey)). IsDiskOf d p b l j.disk.held) (sym (ap signed_by it)) here))
+    at v m o l e q (inr apart) =
+        let x = e ∙ get_or-set_other xs p v (Conforming new) (Conforming m) apart in
+        some v m o (others v m apart l x) (k.each v m o l x (q ∙ get_or-set_other js p v (Some j) o apart))
+
+-- what holds whether memory ran out or not
+pub any_result : {A E : Type 0} {P : Type 0} (r : Result A E) → OnOk r P → OnErr r P → P
+any_result (Ok x) p q = p
+any_result (Err e) p q = q
+
+-- where the world is stopped, memory ran out
+pub err_unless : {A E : Type 0} {P : Type 0} (r : Result A E) (stopped : Bool) → stopped ≡ is_err r → stopped ≡ true → OnErr r P → P
+err_unless (Ok x) stopped is on h = absurd (false≢true (sym is ∙ on))
+err_unless (Err e) stopped is on h = h
+
+-- memory ran out in a conforming party's crash
+pub crashed_disks : (d : Deal) (conforming : List Bool) (seeds : Seeds) (roles : List Role) (qs : List Question) (ls : List LedgerState) (xs : List Actor)
+    (js : List (Option (JournalState DiskState))) (p : ℕ) (m new : MachineState) (j : JournalState DiskState)
+    → IsAt d conforming seeds roles qs ls xs p m → AreActorsOf d conforming seeds roles xs
+    → IsGood (c d conforming seeds roles qs ls xs) (s d conforming seeds roles qs ls xs) → AreJournalsOf d xs js
+    → IsBetween m.signed new.signed j.disk.held → AreDisksOf d (histories ls) (set xs p (Conforming new)) (set js p (Some j))
+crashed_disks d conforming seeds roles qs ls xs js p m new j place actors good k between =
+    let signed = have_signed d conforming seeds roles (s d conforming seeds roles qs ls xs) xs actors good refl in
+    disks_set d (histories ls) xs js p new j k (λ v l apart lt here. signed v l lt here) place.below
+    (between_disk d p (histories ls) m.signed new.signed j.disk.held between (signed p m place.below place.here))
+
+-- memory ran out in its act: before its call, or after it
+module _ (d : Deal) (conforming : List Bool) (seeds : Seeds) (roles : List Role) (qs : List Question) (ls : List LedgerState) (xs : List Actor)
+    (js : List (Option (JournalState DiskState))) (sw : ℕ → Bool) (p : ℕ) (m new : MachineState) (b : Histories) (j : JournalState DiskState)
+    (place : IsAt d conforming seeds roles qs ls xs p m) (actors : AreActorsOf d conforming seeds roles xs)
+    (ready : IsReadyCast (c d conforming seeds roles qs ls xs)) (known : p < d.graph.n)
+    (good : IsGood (c d conforming seeds roles qs ls xs) (s d conforming seeds roles qs ls xs)) (k : AreJournalsOf d xs js) where
+  abbrev after : MachineState
+  after = machine_after sw m (next_of m) (histories ls)
+
+  abbrev called : Histories
+  called = book_after sw m (next_of m) (histories ls)
+
+  after_signed : HaveSigned d called (set xs p (Conforming after))
+  after_signed =
+      have_signed d conforming seeds roles (state d qs (set xs p (Conforming after)) called) (set xs p (Conforming after))
+      (actor_set d conforming seeds roles xs p (Conforming after) actors place.below (owner_after place.is))
+      (subst (IsGood (c d conforming seeds roles qs ls xs)) (sym (acted d conforming seeds roles qs ls xs sw p m after called place refl refl))
+      (steps_on_are_good sw (c d conforming seeds roles qs ls xs) (s d conforming seeds roles qs ls xs) (Act p) ready known good)) refl
+    where
+      same : (o : Option Action) → IsSameOwner m (machine_after sw m o (histories ls))
+      same None = record { deal = refl; me = refl; seed = refl }
+      same (Some x) = record { deal = refl; me = refl; seed = refl }
+
+      owner_after : IsActorOf d (get_or conforming p false) (get_or seeds p None) (get_or roles p kinds.Manual) p (Conforming m)
+          → IsActorOf d (get_or conforming p false) (get_or seeds p None) (get_or roles p kinds.Manual) p (Conforming after)
+      owner_after is =
+          owned d (get_or conforming p false) (get_or seeds p None) (get_or roles p kinds.Manual) p m after (same (next_of m)) is
+
+  here_signed : IsSigned d p called after.signed
+  here_signed =
+      after_signed p after (subst (λ n. p < n) (sym (length-set xs p (Conforming after))) place.below)
+      (sym (get_or-set_same xs p (Conforming after) (Conforming after) place.below))
+
+  made_disks : (b ≡ called) × (new.signed ≡ after.signed) × ShowsAll new.signed j.disk.held → AreDisksOf d b (set xs p (Conforming new)) (set js p (Some j))
+  made_disks e =
+      subst (λ (h : Histories). AreDisksOf d h (set xs p (Conforming new)) (set js p (Some j))) (sym e.0)
+      (disks_set d called xs js p new j k (others_signed d called xs p (Conforming after) after_signed) place.below
+      (between_disk d p called new.signed new.signed j.disk.held (exact_between new.signed new.signed j.disk.held refl e.2)
+      (subst (λ (l : List (Option Hashkey)). IsSigned d p called l) (sym e.1) here_signed)))
+
+  pub stopped_disks : {A E : Type 0} (r : Result A E) → OnErr r (IsBetween m.signed new.signed j.disk.held)
+      → OnErr r ((b ≡ histories ls) ⊎ ((b ≡ called) × (new.signed ≡ after.signed) × ShowsAll new.signed j.disk.held))
+      → OnErr r (AreDisksOf d b (set xs p (Conforming new)) (set js p (Some j)))
+  stopped_disks (Ok x) between made = tt
+  stopped_disks (Err e) between (inl is) =
+      subst (λ (h : Histories). AreDisksOf d h (set xs p (Conforming new)) (set js p (Some j))) (sym is)
+      (crashed_disks d conforming seeds roles qs ls xs js p m new j place actors good k between)
+  stopped_disks (Err e) between (inr is) = made_disks is
+
+pub all_disks : (w : Inside) → Holds w → AreDisksOf w.deal (histories w.ledgers.items) w.actors.items w.journals.items
+all_disks w k = go w.stopped refl
+  where
+    go : (b : Bool) → w.stopped ≡ b → AreDisksOf w.deal (histories w.ledgers.items) w.actors.items w.journals.items
+    go true e = k.disks e
+    go false e =
+        disks_stay w.deal (histories w.ledgers.items) w.actors.items w.journals.items (k.journals e)
+        (have_signed w.deal w.conforming w.seeds w.roles (state_in w) w.actors.items k.actors (k.good e) refl)
+
+-- The disk of a conforming party.
+module _ (d : Deal) (conforming : List Bool) (seeds : List (Option (List ℕ))) (roles : List Role) (qs : List Question) (ls : List LedgerState) (xs : List Actor)
+    (js : List (Option (JournalState DiskState))) (actors : AreActorsOf d conforming seeds roles xs) (b : Histories) (k : AreDisksOf d b xs js) (p : ℕ)
+    (known : p < d.graph.n) (conforms : get_or conforming p false ≡ true) (o : Option (JournalState DiskState)) (here : o ≡ get_or js p o) where
+  low : p < length xs
+  low = subst (λ n. p < n) (sym actors.one_each) known
+
+  pub disk_at : IsSomeDisk d p b (notes_of (state d qs xs (histories ls)) p).signed o
+  disk_at = go (get_or xs p Manual) (get_or_default xs p Manual (get_or xs p Manual) low)
+    where
+      go : (x : Actor) → x ≡ get_or xs p x → IsSomeDisk d p b (notes_of (state d qs xs (histories ls)) p).signed o
+      go (Conforming m) at =
+          let is = actors.each p (Conforming m) low at in
+          subst (λ (n : Notes). IsSomeDisk d p b n.signed o)
+          (sym (notes_at d conforming seeds roles qs ls xs p m (record { below = low; here = at; is = is }))) (k.each p m o low at here)
+      go (Planned n) at = absurd (false≢true (sym (actors.each p (Planned n) low at).0 ∙ conforms))
+      go Manual at = absurd (false≢true (sym (actors.each p Manual low at).0 ∙ conforms))
