@@ -31,7 +31,7 @@ use Rattle.offer_header.specs.declared.header.Header.{Header}
 use Rattle.offer_header.specs.Header.{simple_role}
 use Rattle.offer_header.specs.Limits.{acting_of, all_terms_of, arc_ends, conforms, hashlock_of, hashlocks_of, key_of, keys_of, limited_of, parties_of}
 use Rattle.offer_header.specs.Limits.{party_keys_of, role_of, seed_of, sizes_in, stated_keys_of, terms_of}
-use Rattle.transcript_lines.specs.Typed.{IsDigest}
+use Rattle.typed_books.specs.Typed.{IsDigest}
 use Rattle.header_back.specs.Laws.{IsShowable}
 use Rattle.header_back.proofs.Steps.{by_places, each_back, step}
 use Rattle.header_back.proofs.Fields.{actor_for, raw_arc, raw_header, raw_leader, raw_party, raw_row, stated}

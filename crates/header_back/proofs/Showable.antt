@@ -48,7 +48,7 @@ use Rattle.swap_offer.specs.Checks.{admitted, by_arcs, checked, deal_with, digra
 use Rattle.swap_offer.specs.Job.{accepted_of, job_header_of, provided}
 use Rattle.swap_offer.proofs.Admitted.{admitted_is_accepted}
 use Rattle.swap_offer.proofs.Size.{is_whole}
-use Rattle.transcript_lines.specs.Typed.{IsDigest}
+use Rattle.typed_books.specs.Typed.{IsDigest}
 use Rattle.header_back.specs.Laws.{IsShowable, ReadIsShowable}
 use Rattle.header_back.proofs.Onward.{landed, ok_is, onward}
 

@@ -14,7 +14,7 @@ use Rattle.offer_header.specs.Names.{is_name}
 use Rattle.offer_header.specs.Raw.{is_plain}
 use Rattle.offer_text.specs.HeaderLine.{header_line, is_make, shown_header}
 use Rattle.swap_offer.specs.Job.{job_header_of}
-use Rattle.transcript_lines.specs.Typed.{IsDigest}
+use Rattle.typed_books.specs.Typed.{IsDigest}
 
 -- A job that a transcript can show: one of an accepted deal whose digests have 32 bytes each, that isn't plain, with a name and an actor per party.
 pub record IsShowable (job : Job) : Type 0 where

@@ -31,10 +31,10 @@ use Rattle.offer_header.specs.declared.limits.Acting.{Acting}
 use Rattle.offer_header.specs.declared.limits.ArcTerms.{ArcTerms}
 use Rattle.offer_header.specs.declared.header.Header.{Header}
 use Rattle.offer_header.specs.declared.raw.RawHeader.{RawHeader}
-use Rattle.transcript_lines.specs.Typed.{IsDigest}
+use Rattle.typed_books.specs.Typed.{IsDigest}
 use Rattle.header_back.proofs.Fields.{raw_arc, raw_leader, raw_row}
-use Rattle.header_back.proofs.Limited.{all_in, amounts_are, digest_back, ends_are, hashlocks_back, header_by, in_place, map_self, number_back, places, rows_back}
-use Rattle.header_back.proofs.Limited.{same_header, some_bound, terms_at, terms_back, timelocks_are, twice, within_back}
+use Rattle.header_back.proofs.Limited.{all_in, amounts_are, digest_back, ends_are, hashlocks_back, header_by, in_place, map_self, number_back, places}
+use Rattle.header_back.proofs.Limited.{rows_back, same_header, some_bound, terms_at, terms_back, timelocks_are, twice, within_back}
 use Rattle.header_back.proofs.Named as named
 use Rattle.header_back.proofs.Named.{ends_at, numbered_at}
 use Rattle.header_back.proofs.Steps.{each_back, step}

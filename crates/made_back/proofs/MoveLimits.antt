@@ -23,7 +23,7 @@ use Rattle.offer_moves.specs.declared.raw.RawMove.{RawMove}
 use Rattle.offer_moves.specs.declared.raw.RawMove.TheVariants as raws
 use Rattle.offer_moves.specs.declared.raw.RawTerms.{RawTerms}
 use Rattle.offer_moves.proofs.Parts.{number_below_ok}
-use Rattle.transcript_lines.specs.Typed.{IsDigest}
+use Rattle.typed_books.specs.Typed.{IsDigest}
 use Rattle.header_back.proofs.Limited.{all_in, digest_back, map_self, number_back, within_back}
 use Rattle.header_back.proofs.Onward.{landed, onward}
 use Rattle.header_back.proofs.Showable.{digest_is}

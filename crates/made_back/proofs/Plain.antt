@@ -35,7 +35,7 @@ use Rattle.swap_offer.specs.Checks.{unless_wrong}
 use Rattle.swap_offer.specs.Job.{provided}
 use Rattle.swap_offer.specs.Wallets.{fitting, needs_seed, no_seed, seed_of, seeded, walleted, walleted_for, wrong_seed, wrong_wallet}
 use Rattle.swap_offer.specs.Wallets as wallets
-use Rattle.transcript_lines.specs.Typed.{IsDigest}
+use Rattle.typed_books.specs.Typed.{IsDigest}
 use Rattle.header_back.specs.Laws.{IsShowable}
 use Rattle.header_back.proofs.Steps.{step}
 use Rattle.made_back.specs.Laws.{reads_jobs, told}

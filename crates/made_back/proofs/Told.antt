@@ -12,7 +12,7 @@ use Rattle.offer_moves.specs.declared.moves.Sizes.{Sizes}
 use Rattle.offer_header.specs.Limits.{conforms}
 use Rattle.offer_header.specs.Scripts.{roles_placed}
 use Rattle.swap_offer.specs.Job.{provided}
-use Rattle.transcript_lines.specs.Typed.{IsDigest}
+use Rattle.typed_books.specs.Typed.{IsDigest}
 use Rattle.header_back.specs.Laws.{IsShowable}
 use Rattle.made_back.specs.Laws.{reads_jobs}
 use Rattle.made_back.proofs.MoveLimits.{IsLimited, IsSmall}

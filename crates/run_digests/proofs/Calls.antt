@@ -25,7 +25,7 @@ use Rattle.deviator_script.specs.declared.moves.Move.{Move}
 use Rattle.deviator_script.specs.declared.moves.Move.TheVariants.{Publish, Craft, Replay, Raw, Claim, Refund, Transfer, Wait}
 use Rattle.deviator_script.specs.Crafted.{Seeds, crafted, crafted_onto}
 use Rattle.deviator_script.specs.Resolved.{arc_of, call_of_move, call_with, key_opened, opening_named, resolved}
-use Rattle.transcript_lines.specs.Typed.{IsDigest}
+use Rattle.typed_books.specs.Typed.{IsDigest}
 use Rattle.transcript_back.specs.Digests.{HasDigests, StatesDigests}
 use Rattle.run_digests.proofs.Hashes.{May, KeyHas, WalletHas, crafted_has, onto_crafted_has}
 

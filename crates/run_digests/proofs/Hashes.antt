@@ -18,7 +18,7 @@ use Rattle.party_wallet.specs.Keys.{onto_key, own_key}
 use Rattle.party_machine.proofs.Digests.{digest_below}
 use Rattle.swap_rules.specs.Due.{Wallet}
 use Rattle.deviator_script.specs.Crafted.{Seeds, crafted, crafted_onto, put_before, seed_of}
-use Rattle.transcript_lines.specs.Typed.{IsDigest, IsSignature}
+use Rattle.typed_books.specs.Typed.{IsDigest, IsSignature}
 
 -- what is there meets P
 abbrev pub May : {A : Type 0} → (A → Type 0) → Option A → Type 0

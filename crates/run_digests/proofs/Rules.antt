@@ -18,7 +18,7 @@ use Rattle.ledger_core.specs.History.{accepted, accepted_in}
 use Rattle.ledger_core.specs.Book.{Histories}
 use Rattle.deviator_script.specs.Rules.{around, greedy, key_in, keys_known, replayer, silent, spoiled_terms, spoiler, unlock_with}
 use Rattle.program_kit.specs.Program.{program_rule}
-use Rattle.transcript_lines.specs.Typed.{IsDigest}
+use Rattle.typed_books.specs.Typed.{IsDigest}
 use Rattle.transcript_back.specs.Digests.{StatesDigests}
 use Rattle.run_digests.specs.Laws.{ProgramKeepsDigests}
 use Rattle.run_digests.proofs.Hashes.{May, KeyHas}

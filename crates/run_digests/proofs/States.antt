@@ -34,7 +34,7 @@ use Rattle.swap_run.specs.Run.{take_call, watch, crash, is_recorded, recorded_af
 use Rattle.swap_run.specs.Fair.{acts, adjacent, finish, has_ended, looks, most_acts, repeat, round, round_unless_ended, the_horizon, tick_low, ticks, turn}
 use Rattle.swap_run.specs.Fair.{turns}
 use Rattle.swap_commands.specs.Output.{finished}
-use Rattle.transcript_lines.specs.Typed.{IsDigest}
+use Rattle.typed_books.specs.Typed.{IsDigest}
 use Rattle.transcript_back.specs.Digests.{HasDigests}
 use Rattle.run_digests.proofs.Hashes.{May, KeyHas, WalletHas}
 use Rattle.run_digests.proofs.Calls.{ActionHas, AnswerHas, BookHas, EntryHas, Has, MoveHas, at_or, next_has, resolved_has}

@@ -11,7 +11,7 @@ use Rattle.swap_run.specs.Asked.{Answers}
 use Rattle.swap_offer.specs.Job.{job_of}
 use Rattle.swap_commands.specs.Output.{AreGiven, book_of, state_of}
 use Rattle.swap_main.specs.Staff.{by_rule}
-use Rattle.transcript_lines.specs.Typed.{IsDigest}
+use Rattle.typed_books.specs.Typed.{IsDigest}
 use Rattle.transcript_back.specs.Digests.{HasDigests, HoldsDigests}
 
 -- what strategies answer, by name, deal, party, turn number and what the party knows

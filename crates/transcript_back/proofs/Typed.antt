@@ -32,7 +32,7 @@ use Rattle.ledger_core.specs.History.{IsLegalMoment}
 use Rattle.ledger_core.specs.Book.{history}
 use Rattle.ledger_core.proofs.History.{lock-below, published_done}
 use Rattle.ledger_core.proofs.Scans.{bounded}
-use Rattle.transcript_lines.specs.Typed.{IsDigest, IsTerms, IsTypedCall, IsTypedReply, IsTypedSender, IsTypedWhat}
+use Rattle.typed_books.specs.Typed.{IsDigest, IsTerms, IsTypedCall, IsTypedReply, IsTypedSender, IsTypedWhat}
 use Rattle.transcript_laws.specs.Stated.{IsTyped}
 use Rattle.transcript_back.specs.Digests.{HasDigests, LegalIsTyped, StatesDigests}
 

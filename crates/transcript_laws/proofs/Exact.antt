@@ -21,7 +21,7 @@ use Rattle.hash_signature.proofs.Values.{joined-values_of}
 use Rattle.hashkey_path.proofs.Validity.{bytes_eq-true}
 use Rattle.transcript_lines.specs.declared.said.Misspelling.{Misspelling}
 use Rattle.transcript_lines.specs.Between.{between, longer_first, parts_at}
-use Rattle.transcript_lines.specs.Typed.{IsDigest, IsSignature}
+use Rattle.typed_books.specs.Typed.{IsDigest, IsSignature}
 use Rattle.transcript_lines.specs.Words.{list_word, signature_word}
 use Rattle.transcript_lines.specs.Reading.{misspelt, read_on, number_of, number_below, is_lower_digit, decoded, bytes_of, digest_of, signature_of, each_of}
 use Rattle.transcript_lines.specs.Reading.{list_of}

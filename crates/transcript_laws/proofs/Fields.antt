@@ -15,7 +15,7 @@ use Rattle.escrow_core.specs.declared.reply.Reply.TheVariants.{AlreadyPublished,
 use Rattle.ledger_core.specs.declared.entry.Call.{Call}
 use Rattle.ledger_core.specs.declared.entry.Call.TheVariants.{Publish, Unlock, Claim, Refund, Transfer}
 use Rattle.transcript_lines.specs.declared.said.Misspelling.{Misspelling}
-use Rattle.transcript_lines.specs.Typed.{IsDigest, IsSignature, IsTerms, IsHashkey, IsTypedCall, IsTypedReply}
+use Rattle.typed_books.specs.Typed.{IsDigest, IsSignature, IsTerms, IsHashkey, IsTypedCall, IsTypedReply}
 use Rattle.transcript_lines.specs.Words.{list_word, signature_word, terms_words, key_words, call_words, reply_words}
 use Rattle.transcript_lines.specs.Reading.{misspelt, number_of, number_below, digest_of, signature_of, list_of, is_word, first_field, field_of, locks_of}
 use Rattle.transcript_lines.specs.Reading.{terms_of, key_of, units_of, call_by, call_of, plain_reply, numbered_reply, reply_of}

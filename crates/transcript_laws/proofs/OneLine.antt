@@ -14,7 +14,7 @@ use Rattle.ledger_core.specs.declared.entry.What.TheVariants.{Call as Made, Tick
 use Rattle.ledger_core.specs.declared.entry.Entry.{Entry}
 use Rattle.ledger_core.specs.Book.{Histories}
 use Rattle.transcript_lines.specs.Between.{spaced}
-use Rattle.transcript_lines.specs.Typed.{IsTypedReply, IsTypedSender, IsTypedWhat}
+use Rattle.typed_books.specs.Typed.{IsTypedReply, IsTypedSender, IsTypedWhat}
 use Rattle.transcript_lines.specs.Words.{call_words, entry_words, reply_words}
 use Rattle.transcript_lines.specs.Lines.{IsStatable, entry_line, ledger_line, ledger_lines, lines_from}
 use Rattle.transcript_lines.proofs.Numbers.{high_number}

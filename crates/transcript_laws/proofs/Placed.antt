@@ -20,7 +20,7 @@ use Rattle.stated_books.specs.WellFormed.{IsFormedWhat, IsFormedEntry, written_h
 use Rattle.transcript_lines.specs.declared.said.Said.{Said}
 use Rattle.transcript_lines.specs.declared.said.Misspelling.{Misspelling}
 use Rattle.transcript_lines.specs.Between.{between, parts_at, spaced}
-use Rattle.transcript_lines.specs.Typed.{IsTypedReply, IsTypedSender, IsTypedWhat}
+use Rattle.typed_books.specs.Typed.{IsTypedReply, IsTypedSender, IsTypedWhat}
 use Rattle.transcript_lines.specs.Words.{entry_words}
 use Rattle.transcript_lines.specs.Lines.{IsStatable, IsStatedWhat, entry_line}
 use Rattle.transcript_lines.specs.Reading.{field_of, is_word, line_said, misspelt, nothing_more, number_below, number_of}

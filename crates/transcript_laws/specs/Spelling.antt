@@ -9,7 +9,7 @@ use Rattle.ledger_core.specs.declared.entry.What.{What}
 use Rattle.ledger_core.specs.declared.entry.What.TheVariants.{Call as Made, Tick}
 use Rattle.transcript_lines.specs.declared.said.Said.{Said}
 use Rattle.transcript_lines.specs.Between.{spaced}
-use Rattle.transcript_lines.specs.Typed.{IsTypedReply, IsTypedSender, IsTypedWhat}
+use Rattle.typed_books.specs.Typed.{IsTypedReply, IsTypedSender, IsTypedWhat}
 use Rattle.transcript_lines.specs.Words.{entry_words}
 use Rattle.transcript_lines.specs.Reading.{line_said}
 use Rattle.transcript_lines.specs.Lines.{IsStatedWhat}

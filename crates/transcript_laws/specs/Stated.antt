@@ -3,7 +3,7 @@ use Rattle.std.specs.Prelude.{◌<◌, ℕ, length, All}
 use Rattle.swap_digraph.specs.declared.deal.Deal.{Deal}
 use Rattle.ledger_core.specs.declared.entry.Entry.{Entry}
 use Rattle.ledger_core.specs.Book.{Histories, history, IsLegalBook}
-use Rattle.transcript_lines.specs.Typed.{IsTypedReply, IsTypedSender, IsTypedWhat}
+use Rattle.typed_books.specs.Typed.{IsTypedReply, IsTypedSender, IsTypedWhat}
 use Rattle.transcript_lines.specs.Lines.{IsStated}
 
 -- An entry of the program's own types.

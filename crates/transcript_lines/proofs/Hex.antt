@@ -14,7 +14,7 @@ use Rattle.hash_signature.specs.Signature.{values_of}
 use Rattle.hash_signature.proofs.Values.{values_of-joined}
 use Rattle.transcript_lines.specs.declared.said.Misspelling.{Misspelling}
 use Rattle.transcript_lines.specs.Reading.{misspelt, is_lower_digit, decoded, bytes_of, digest_of, signature_of}
-use Rattle.transcript_lines.specs.Typed.{IsDigest, IsSignature}
+use Rattle.typed_books.specs.Typed.{IsDigest, IsSignature}
 use Rattle.transcript_lines.specs.Words.{signature_word}
 use Rattle.transcript_lines.proofs.Parts.{IsHigh}
 

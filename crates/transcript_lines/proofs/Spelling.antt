@@ -27,7 +27,7 @@ use Rattle.ledger_core.specs.declared.entry.What.TheVariants.{Call as Made, Tick
 use Rattle.transcript_lines.specs.declared.said.Said.{Said}
 use Rattle.transcript_lines.specs.declared.said.Misspelling.{Misspelling}
 use Rattle.transcript_lines.specs.Between.{between, spaced, parts_at}
-use Rattle.transcript_lines.specs.Typed.{IsDigest, IsSignature, IsTerms, IsHashkey, IsTypedCall, IsTypedReply, IsTypedSender, IsTypedWhat}
+use Rattle.typed_books.specs.Typed.{IsDigest, IsSignature, IsTerms, IsHashkey, IsTypedCall, IsTypedReply, IsTypedSender, IsTypedWhat}
 use Rattle.transcript_lines.specs.Words.{list_word, signature_word, terms_words, key_words, call_words, reply_words, entry_words}
 use Rattle.transcript_lines.specs.Reading.{misspelt, number_of, number_below, digest_of, signature_of, each_of, list_of, field_of, locks_of, terms_of}
 use Rattle.transcript_lines.specs.Reading.{key_of, units_of, call_of, reply_of, equals, call_said, tick_said, words_said, line_said}

@@ -23,7 +23,7 @@ use Rattle.stated_books.specs.WellFormed.{written_height, IsFormedWhat, IsFormed
 use Rattle.transcript_lines.specs.declared.said.Said.{Said}
 use Rattle.transcript_lines.specs.declared.said.Misspelling.{Misspelling}
 use Rattle.transcript_lines.specs.Between.{spaced}
-use Rattle.transcript_lines.specs.Typed.{IsTypedSender, IsTypedWhat, IsTypedReply}
+use Rattle.typed_books.specs.Typed.{IsTypedSender, IsTypedWhat, IsTypedReply}
 use Rattle.transcript_lines.specs.Words.{entry_words}
 use Rattle.transcript_lines.specs.Reading.{line_said}
 use Rattle.transcript_lines.specs.Lines.{entry_line, ledger_line, ledger_lines, lines_from, transcript_lines, IsStatedWhat, IsStatable, IsStated, IsWhole}

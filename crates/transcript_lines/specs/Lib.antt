@@ -1,5 +1,4 @@
 pub mod Between
-pub mod Typed
 pub mod Words
 pub mod Lines
 pub mod Reading

@@ -11,7 +11,7 @@ use Rattle.deviator_script.specs.declared.job.Job.{Job}
 use Rattle.stated_books.specs.WellFormed.{IsWellFormed}
 use Rattle.offer_text.specs.HeaderLine.{header_line}
 use Rattle.transcript_lines.specs.Between.{spaced, ended}
-use Rattle.transcript_lines.specs.Typed.{IsTypedSender, IsTypedWhat, IsTypedReply}
+use Rattle.typed_books.specs.Typed.{IsTypedSender, IsTypedWhat, IsTypedReply}
 use Rattle.transcript_lines.specs.Words.{entry_words}
 
 -- the line of an entry; heights aren't written
