@@ -1,7 +1,12 @@
 -- What an audit writes of a transcript is what was promised of its job and book.
-use Rattle.std.proofs.Common.{◌≡◌, ◌≤◌, ℕ, Bool, true, false, List, [], ◌∷◌, length, Result, Ok, refl, sym, ap, ◌∙◌, subst}
+use Rattle.std.proofs.Common.{◌≡◌, ◌≤◌, ℕ, Bool, true, false, List, [], ◌∷◌, length, Option, Result, Ok, refl, sym, ap, ◌∙◌, subst}
 use Rattle.swap_base.specs.Fault.{◌>>=◌}
-use Rattle.ledger_core.specs.Book.{Histories, IsLegalBook}
+use Rattle.std.proofs.lemmas.List.Elements.{All-weaker}
+use Rattle.ledger_core.specs.declared.entry.Call.{Call}
+use Rattle.ledger_core.specs.declared.entry.Call.TheVariants.{Publish, Unlock, Claim, Refund, Transfer}
+use Rattle.ledger_core.specs.declared.entry.What.{What}
+use Rattle.ledger_core.specs.declared.entry.What.TheVariants.{Call as Made, Tick}
+use Rattle.ledger_core.specs.Book.{Histories, history, IsLegalBook}
 use Rattle.deviator_script.specs.declared.event.Event.{Event}
 use Rattle.deviator_script.specs.declared.job.Job.{Job}
 use Rattle.deviator_script.specs.declared.job.Purpose.{Purpose}
@@ -15,10 +20,12 @@ use Rattle.swap_offer.specs.Lines.{filled_lines, lines_of}
 use Rattle.header_back.specs.Laws.{IsShowable}
 use Rattle.header_back.proofs.Onward.{ok_is}
 use Rattle.header_back.proofs.Showable.{read_is_showable}
-use Rattle.transcript_back.specs.Digests.{HoldsDigests}
+use Rattle.transcript_back.specs.Digests.{HasDigests, StatesDigests, HoldsDigests}
 use Rattle.transcript_back.specs.Laws.{HasTranscript}
 use Rattle.transcript_back.proofs.Reports.{same_report}
 use Rattle.transcript_lines.specs.Lines.{transcript}
+use Rattle.typed_books.specs.Typed.{IsTypedCall, IsTypedWhat}
+use Rattle.typed_books.specs.Books.{IsTypedBook, IsTypedEntry}
 use Rattle.audit_command.specs.Output.{Written, audit_of}
 use Rattle.swap_commands.specs.Output.{Chance, book_of, by_reason, output_by, reported}
 use Rattle.swap_commands.specs.declared.words.Command.TheVariants.{OfJob, Audit}
@@ -28,7 +35,8 @@ use Rattle.swap_main.specs.Staff.{by_rule, is_known}
 use Rattle.swap_commands.specs.declared.words.Command.{Command}
 use Rattle.run_digests.proofs.Rules.{program_keeps_digests}
 use Rattle.run_digests.proofs.Whole.{runs_hold_digests}
-use Rattle.audited_runs.specs.Laws.{AuditsTellTheRun, IsAudited, ProgramRunsAreAudited, RacesAreAudited, RunsAreAudited}
+use Rattle.audited_runs.specs.Laws.{AuditsTellTheRace, AuditsTellTheRun, IsAudited, ProgramRacesAreAudited, ProgramRunsAreAudited, RacesAreAudited}
+use Rattle.audited_runs.specs.Laws.{RunsAreAudited}
 
 -- ---- a job that was read can be shown
 
@@ -45,6 +53,23 @@ job_showable : (has : List ℕ → Bool) (purpose : Purpose) (input : List ℕ) 
     → job_of has purpose input ≡ Ok (job, events) → IsShowable job
 unfolding job_of
 job_showable has purpose input job events stated e = lines_showable has purpose (filled_lines 1 (lines_of input)) job events stated e
+
+-- ---- a book of the program's own types holds digests
+
+call_digests : (c : Call) → IsTypedCall c → HasDigests c
+call_digests (Publish t) k = k.locks
+call_digests (Unlock key) k = (k.secret, k.sigs)
+call_digests Claim k = tt
+call_digests Refund k = tt
+call_digests (Transfer to units) k = tt
+
+what_digests : (w : What) → IsTypedWhat w → StatesDigests w
+what_digests (Made c) k = call_digests c k
+what_digests (Tick n) k = tt
+
+holds_digests : (b : Histories) → IsTypedBook b → HoldsDigests b
+holds_digests b typed = λ a lt.
+    All-weaker IsTypedEntry (λ e. StatesDigests e.what) (λ e k. what_digests e.what k) (history b a) (typed a [] lt)
 
 -- ---- what an audit writes of a text that is a transcript
 
@@ -101,13 +126,18 @@ runs_are_audited rule has chance input output keeps p le =
     (run_writes has chance input p.job p.events p.is_read)
 
 pub races_are_audited : RacesAreAudited
-races_are_audited rule has chance ticks input output digests p le =
+races_are_audited rule has chance ticks input output p le =
     audited_as has chance (OfJob (Race ticks false)) input p.job chance.book output (job_showable has purposes.Race input p.job [] refl p.is_read)
-    p.promised.kept.legal digests p.shown le (race_writes has chance ticks input p.job p.is_read)
+    p.promised.kept.legal (holds_digests chance.book p.raced.typed) p.shown le (race_writes has chance ticks input p.job p.is_read)
 
 pub program_runs_are_audited : ProgramRunsAreAudited
 program_runs_are_audited words left left' taken taken' found done e le =
     runs_are_audited program_rule is_known done.chance done.read.input done.output program_keeps_digests
+    (subst (λ (c : Command). AsPromised is_known (by_rule program_rule) done.chance c done.read.input done.output) e done.promised) le
+
+pub program_races_are_audited : ProgramRacesAreAudited
+program_races_are_audited words left left' taken taken' found ticks done e le =
+    races_are_audited program_rule is_known done.chance ticks done.read.input done.output
     (subst (λ (c : Command). AsPromised is_known (by_rule program_rule) done.chance c done.read.input done.output) e done.promised) le
 
 -- ---- an audit that is done
@@ -117,16 +147,34 @@ any_chance : (has : List ℕ → Bool) (a b : Chance) (text : List ℕ) → outp
 unfolding output_by
 any_chance has a b text = refl
 
+module _ (words others : List (List ℕ)) (left left' taken taken' before before' sink sink' : Option (List ℕ)) (found named : Bool)
+    (done : IsDone is_known (by_rule program_rule) words left left' taken taken' found)
+    (told : IsDone is_known (by_rule program_rule) others before before' sink sink' named) (q : told.read.command ≡ Audit)
+    (same : told.read.input ≡ done.output.text) where
+  within : length done.output.text ≤ 16777216
+  within = subst (λ (l : List ℕ). length l ≤ 16777216) same told.read.within
+
+  tells : (command : Command) → IsAudited is_known done.chance command done.read.input done.output
+      → (output_by is_known done.chance command done.read.input ≡ Ok told.output) × (named ≡ found)
+  tells command k =
+      let asked : output_by is_known told.chance Audit told.read.input ≡ Ok told.output =
+      subst (λ (c : Command). output_by is_known told.chance c told.read.input ≡ Ok told.output) q told.read.gives in
+      let read : output_by is_known told.chance Audit done.output.text ≡ Ok told.output =
+      subst (λ (l : List ℕ). output_by is_known told.chance Audit l ≡ Ok told.output) same asked in
+      let is : k.report ≡ told.output =
+      ok_is k.report told.output (sym k.audited ∙ any_chance is_known done.chance told.chance done.output.text ∙ read) in (
+        k.same ∙ ap (λ (w : Written). let r : Result Written Reason = Ok w in r) is,
+        sym told.findings ∙ ap (λ (w : Written). w.found) (sym is) ∙ k.found ∙ done.findings,
+      )
+
 pub audits_tell_the_run : AuditsTellTheRun
 audits_tell_the_run words others left left' taken taken' before before' sink sink' found named done e told q same =
-    let within : length done.output.text ≤ 16777216 = subst (λ (l : List ℕ). length l ≤ 16777216) same told.read.within in
-    let k = program_runs_are_audited words left left' taken taken' found done e within in
-    let asked : output_by is_known told.chance Audit told.read.input ≡ Ok told.output =
-    subst (λ (c : Command). output_by is_known told.chance c told.read.input ≡ Ok told.output) q told.read.gives in
-    let read : output_by is_known told.chance Audit done.output.text ≡ Ok told.output =
-    subst (λ (l : List ℕ). output_by is_known told.chance Audit l ≡ Ok told.output) same asked in
-    let is : k.report ≡ told.output =
-    ok_is k.report told.output (sym k.audited ∙ any_chance is_known done.chance told.chance done.output.text ∙ read) in (
-      k.same ∙ ap (λ (w : Written). let r : Result Written Reason = Ok w in r) is,
-      sym told.findings ∙ ap (λ (w : Written). w.found) (sym is) ∙ k.found ∙ done.findings,
-    )
+    tells words others left left' taken taken' before before' sink sink' found named done told q same (OfJob (Run false))
+    (program_runs_are_audited words left left' taken taken' found done e
+    (within words others left left' taken taken' before before' sink sink' found named done told q same))
+
+pub audits_tell_the_race : AuditsTellTheRace
+audits_tell_the_race words others left left' taken taken' before before' sink sink' found named ticks done e told q same =
+    tells words others left left' taken taken' before before' sink sink' found named done told q same (OfJob (Race ticks false))
+    (program_races_are_audited words left left' taken taken' found ticks done e
+    (within words others left left' taken taken' before before' sink sink' found named done told q same))

@@ -10,7 +10,6 @@ use Rattle.swap_main.specs.Top.{IsDone}
 use Rattle.swap_commands.specs.declared.words.Command.{Command}
 use Rattle.swap_commands.specs.declared.words.Command.TheVariants.{OfJob, Audit}
 use Rattle.swap_commands.specs.declared.words.JobCommand.TheVariants.{Run, Race}
-use Rattle.transcript_back.specs.Digests.{HoldsDigests}
 use Rattle.run_digests.specs.Laws.{KeepsDigests, Rule}
 
 -- What was written of an input is a transcript of which an audit writes what the command writes for that input, and either tells of a finding where the
@@ -29,10 +28,10 @@ RunsAreAudited =
     → AsPromised has (by_rule rule) chance (OfJob (Run true)) input output → length output.text ≤ limit
     → IsAudited has chance (OfJob (Run false)) input output
 
--- And of the transcript that a race wrote the report that the race writes where it comes to the same book. That its calls hold digests is asked of the book.
+-- And of the transcript that a race wrote, whatever strategies answer, the report that the race writes where it comes to the same book.
 abbrev pub RacesAreAudited : Type 0
 RacesAreAudited =
-    (rule : Rule) (has : List ℕ → Bool) (chance : Chance) (ticks : ℕ) (input : List ℕ) (output : Written) → HoldsDigests chance.book
+    (rule : Rule) (has : List ℕ → Bool) (chance : Chance) (ticks : ℕ) (input : List ℕ) (output : Written)
     → AsPromised has (by_rule rule) chance (OfJob (Race ticks true)) input output → length output.text ≤ limit
     → IsAudited has chance (OfJob (Race ticks false)) input output
 
@@ -51,3 +50,19 @@ AuditsTellTheRun =
     → (told : IsDone is_known (by_rule program_rule) others before before' sink sink' named) → told.read.command ≡ Audit
     → told.read.input ≡ done.output.text
     → (output_by is_known done.chance (OfJob (Run false)) done.read.input ≡ Ok told.output) × (named ≡ found)
+
+-- The same of a race.
+abbrev pub ProgramRacesAreAudited : Type 0
+ProgramRacesAreAudited =
+    (words : List (List ℕ)) (left left' taken taken' : Option (List ℕ)) (found : Bool) (ticks : ℕ)
+    (done : IsDone is_known (by_rule program_rule) words left left' taken taken' found) → done.read.command ≡ OfJob (Race ticks true)
+    → length done.output.text ≤ limit → IsAudited is_known done.chance (OfJob (Race ticks false)) done.read.input done.output
+
+-- And what an audit of its transcript wrote is the text that the race writes where it comes to that book.
+abbrev pub AuditsTellTheRace : Type 0
+AuditsTellTheRace =
+    (words others : List (List ℕ)) (left left' taken taken' before before' sink sink' : Option (List ℕ)) (found named : Bool) (ticks : ℕ)
+    (done : IsDone is_known (by_rule program_rule) words left left' taken taken' found) → done.read.command ≡ OfJob (Race ticks true)
+    → (told : IsDone is_known (by_rule program_rule) others before before' sink sink' named) → told.read.command ≡ Audit
+    → told.read.input ≡ done.output.text
+    → (output_by is_known done.chance (OfJob (Race ticks false)) done.read.input ≡ Ok told.output) × (named ≡ found)

@@ -3,7 +3,8 @@
 //! Read `specs/Laws.antt` first.
 #![tactic(auto)]
 
-ghost use Rattle.audited_runs.specs.Laws.{AuditsTellTheRun, ProgramRunsAreAudited, RacesAreAudited, RunsAreAudited};
+ghost use Rattle.audited_runs.specs.Laws.{AuditsTellTheRace, AuditsTellTheRun, ProgramRacesAreAudited, ProgramRunsAreAudited, RacesAreAudited};
+ghost use Rattle.audited_runs.specs.Laws.{RunsAreAudited};
 
 /// An audit of a run's transcript writes the run's report, where strategies answer by a rule.
 pub fn runs_are_audited()
@@ -23,4 +24,14 @@ pub fn program_runs_are_audited()
 /// And wherever it is done with an audit of such a transcript, it wrote what the run writes.
 pub fn audits_tell_the_run()
     ensures { AuditsTellTheRun }
+{}
+
+/// Wherever the program is done with a race, its transcript is audited as the race is reported.
+pub fn program_races_are_audited()
+    ensures { ProgramRacesAreAudited }
+{}
+
+/// And wherever it is done with an audit of such a transcript, it wrote what the race writes.
+pub fn audits_tell_the_race()
+    ensures { AuditsTellTheRace }
 {}

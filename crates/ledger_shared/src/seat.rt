@@ -35,29 +35,19 @@ pub(crate) struct Seated {
     pub clock: LedgerSeat,
 }
 
-fn shelved(alloc: Global, ledger: Ledger) -> Result<Shelf, Ledger>
-    ensures shelf { IfOk result (λ s. s.ledger.value ≡ ledger) }
-    ensures back { IfErr result (λ l. l ≡ ledger) }
-{
-    match Box::new(alloc, ledger) {
-        Ok(ledger) => Ok(Shelf { ledger }),
-        Err(failed) => Err(failed.value),
-    }
-}
-
 /// A lock round the ledger, with the seats of the arc's party, of its counterparty and of the clock. Without memory the ledger comes back.
-pub(crate) fn seat_three<R: Wait>(rt: &R, alloc: Global, ledger: Ledger) -> Result<Seated, Ledger>
-    ensures first { IfOk result (λ s. s.first ≡ new_seat s.lock.lock ledger 0) }
-    ensures second { IfOk result (λ s. s.second ≡ new_seat s.lock.lock ledger 1) }
-    ensures clock { IfOk result (λ s. s.clock ≡ new_seat s.lock.lock ledger 2) }
+pub(crate) fn seat_three<R: Wait>(
+    rt: &R,
+    alloc: Global,
+    ledger: Box<Ledger>,
+) -> Result<Seated, Box<Ledger>>
+    ensures first { IfOk result (λ s. s.first ≡ new_seat s.lock.lock ledger.value 0) }
+    ensures second { IfOk result (λ s. s.second ≡ new_seat s.lock.lock ledger.value 1) }
+    ensures clock { IfOk result (λ s. s.clock ≡ new_seat s.lock.lock ledger.value 2) }
     ensures three { IfOk result (λ s. s.lock.seats ≡ 3) }
     ensures back { IfErr result (λ l. l ≡ ledger) }
 {
-    let shelf = match shelved(alloc, ledger) {
-        Ok(shelf) => shelf,
-        Err(ledger) => return Err(ledger),
-    };
-    match TurnLock::new(rt, alloc, shelf, 3) {
+    match TurnLock::new(rt, alloc, Shelf { ledger }, 3) {
         Ok((lock, seats)) => {
             let (first, second, clock) = three(seats);
             Ok(Seated {
@@ -69,7 +59,7 @@ pub(crate) fn seat_three<R: Wait>(rt: &R, alloc: Global, ledger: Ledger) -> Resu
         }
         Err(back) => {
             let ValueBack { value } = back;
-            Err(Box::into_inner(value.ledger))
+            Err(value.ledger)
         }
     }
 }
@@ -114,18 +104,18 @@ pub(crate) fn close(
     first: LedgerSeat,
     second: LedgerSeat,
     clock: LedgerSeat,
-) -> Ledger
+) -> Box<Ledger>
     requires three { lock.seats ≡ 3 }
     requires first { (first.lock ≡ lock.lock) × (first.number ≡ 0) × (first.holds ≡ false) }
     requires second { (second.lock ≡ lock.lock) × (second.number ≡ 1) × (second.holds ≡ false) }
     requires clock { (clock.lock ≡ lock.lock) × (clock.number ≡ 2) × (clock.holds ≡ false) }
-    ensures first { GoesOn first result }
-    ensures second { GoesOn second result }
-    ensures clock { GoesOn clock result }
+    ensures first { GoesOn first result.value }
+    ensures second { GoesOn second result.value }
+    ensures clock { GoesOn clock result.value }
 {
     let mut all = first.seat;
     lock.join(&mut all, second.seat);
     lock.join(&mut all, clock.seat);
     let Shelf { ledger } = lock.close(all);
-    Box::into_inner(ledger)
+    ledger
 }

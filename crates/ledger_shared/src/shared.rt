@@ -40,7 +40,7 @@ impl Model for SharedLedger {
 /// Memory ran out: the ledger comes back.
 #[derive(Debug, Drop)]
 pub struct LedgerBack {
-    pub ledger: Ledger,
+    pub ledger: Box<Ledger>,
 }
 
 /// Memory ran out: the call comes back, and nothing was called.
@@ -49,20 +49,22 @@ pub struct CallBack {
     pub call: Call,
 }
 
-/// Shares a ledger. The passes are those of the arc's party, which has seen the first `first` entries, of its counterparty, which has seen the first
-/// `second`, and of the clock, which has seen all.
+/// Shares a ledger, which stays in its box, so that it goes from hand to hand as a pointer. The passes are those of the arc's party, which has seen the first
+/// `first` entries, of its counterparty, which has seen the first `second`, and of the clock, which has seen all.
 pub fn share<R: Wait>(
     rt: &R,
     alloc: Global,
-    ledger: Ledger,
+    ledger: Box<Ledger>,
     first: u32,
     second: u32,
 ) -> Result<(SharedLedger, Pass, Pass, ClockPass), LedgerBack>
-    requires first { (first ≤ length ledger.history) × (made_by (party ledger.deal ledger.arc) (drop first ledger.history) ≡ []) }
-    requires second { (second ≤ length ledger.history) × (made_by (counterparty ledger.deal ledger.arc) (drop second ledger.history) ≡ []) }
-    ensures first { IfOk result (λ s. s.1 ≡ pass_at s.0.lock ledger (party ledger.deal ledger.arc) (take first ledger.history)) }
-    ensures second { IfOk result (λ s. s.2 ≡ pass_at s.0.lock ledger (counterparty ledger.deal ledger.arc) (take second ledger.history)) }
-    ensures clock { IfOk result (λ s. s.3 ≡ clock_at s.0.lock ledger) }
+    requires first { (first ≤ length ledger.value.history) × (made_by (party ledger.value.deal ledger.value.arc) (drop first ledger.value.history) ≡ []) }
+    requires second { (second ≤ length ledger.value.history) × (made_by (counterparty ledger.value.deal ledger.value.arc) (drop second ledger.value.history)
+        ≡ []) }
+    ensures first { IfOk result (λ s. s.1 ≡ pass_at s.0.lock ledger.value (party ledger.value.deal ledger.value.arc) (take first ledger.value.history)) }
+    ensures second { IfOk result (λ s. s.2 ≡ pass_at s.0.lock ledger.value (counterparty ledger.value.deal ledger.value.arc)
+        (take second ledger.value.history)) }
+    ensures clock { IfOk result (λ s. s.3 ≡ clock_at s.0.lock ledger.value) }
     ensures back { IfErr result (λ b. b.ledger ≡ ledger) }
 {
     let whole = ledger.len();
@@ -191,14 +193,14 @@ impl SharedLedger {
     }
 
     /// The ledger, whose history has all that the passes have seen, and of each just its own entries. It takes no memory and waits for nobody.
-    pub fn close(self, first: Pass, second: Pass, clock: ClockPass) -> Ledger
+    pub fn close(self, first: Pass, second: Pass, clock: ClockPass) -> Box<Ledger>
         requires first { IsFirstAt self.lock first }
         requires second { IsSecondAt self.lock second }
         requires clock { clock.lock ≡ self.lock }
-        ensures first { Closes result first }
-        ensures second { Closes result second }
-        ensures clock { ClosesClock result clock }
-        ensures legal { IsLegal result.deal result.arc result.history }
+        ensures first { Closes result.value first }
+        ensures second { Closes result.value second }
+        ensures clock { ClosesClock result.value clock }
+        ensures legal { IsLegal result.value.deal result.value.arc result.value.history }
     {
         let SharedLedger { lock } = self;
         let ledger = close(lock, first.seat, second.seat, clock.seat);

@@ -8,7 +8,7 @@ use Rattle.deviator_script.specs.declared.job.Role.TheVariants.{Conforming, Manu
 use Rattle.deviator_script.specs.Crafted.{Seeds}
 use Rattle.swap_run.specs.Run.{Cast, State, Plan, plan_of, role_of}
 use Rattle.race_turns.specs.Played.{Gives, IsAnswered}
-use Rattle.party_threads.specs.Race.{rounds_for, IsRound, IsRaced, IsOfRounds, IsRaceBook, SaysMore, RacesSayLess}
+use Rattle.party_threads.specs.Race.{rounds_for, IsRound, IsOfRounds, IsRaceBook, SaysMore, RacesSayLess}
 use Rattle.party_threads.specs.Views.{AreAnswered, PlaysByViews, HasPlayed}
 
 module _ (gives other : Gives) (more : SaysMore gives other) where
@@ -80,6 +80,7 @@ module _ (gives other : Gives) (more : SaysMore gives other) where
   race_more c ticks b k = record {
     came = of_rounds_more c ticks b k.came;
     legal = k.legal;
+    typed = k.typed;
     ticked = k.ticked;
     ended = k.ended;
     conducted = k.conducted;

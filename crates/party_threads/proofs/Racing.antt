@@ -28,6 +28,7 @@ use Rattle.swap_run.specs.Fair.{the_horizon}
 use Rattle.swap_run.proofs.Acts.{first_none}
 use Rattle.swap_run.proofs.Good.{start_is_good, good_is_kept, empty_at}
 use Rattle.party_threads.specs.Race.{rounds_for, IsRound, IsRaced, books_of, IsOfRounds, IsRaceBook, RacesAreKept, ticks_of_rounds}
+use Rattle.typed_books.specs.Books.{IsTypedBook}
 use Rattle.race_turns.specs.Played.{Gives}
 use Rattle.party_threads.specs.Views.{PlaysByViews}
 use Rattle.race_turns.proofs.Clocks.{height_of_ticks}
@@ -167,8 +168,9 @@ module _ (gives : Gives) (c : Cast) (ticks rounds : ℕ) (ready : IsReadyCast c)
     listed = λ v lv cv. subst (λ n. laws.IsRaced c.deal v (c.wallet v) ticks n (books_of states n)) is (listed v lv cv);
   }
 
-  kept : the_horizon c.deal < rounds * ticks → rounds ≡ rounds_for c.deal ticks → IsRaceBook gives c ticks (states rounds).book
-  kept past is =
+  kept : the_horizon c.deal < rounds * ticks → rounds ≡ rounds_for c.deal ticks → IsTypedBook (states rounds).book
+      → IsRaceBook gives c ticks (states rounds).book
+  kept past is typed =
       let whole = good rounds (omega arith) in
       let kept = good_is_kept c (states rounds) ready whole in
       let ended : (a : ℕ) → a < length c.deal.graph.arcs → the_horizon c.deal < height (history (states rounds).book a) =
@@ -178,6 +180,7 @@ module _ (gives : Gives) (c : Cast) (ticks rounds : ℕ) (ready : IsReadyCast c)
       record {
         came = of_rounds is;
         legal = whole.legal;
+        typed = typed;
         ticked = λ a i. ticked rounds a (omega arith) i ∙ ap (ticks_of_rounds ticks) is;
         ended = ended;
         conducted = kept.conducted;
@@ -195,11 +198,12 @@ module _ (gives : Gives) (c : Cast) (ticks rounds : ℕ) (ready : IsReadyCast c)
       }
 
 pub races_are_kept : RacesAreKept
-races_are_kept gives c ticks t ready some raced =
+races_are_kept gives c ticks t ready some raced typed =
     let past : the_horizon c.deal < rounds_for c.deal ticks * ticks =
     subst (λ n. the_horizon c.deal < n) (mul_comm ticks (rounds_for c.deal ticks)) (lt-mul-div-succ (the_horizon c.deal) some) in
     subst (λ (s : State). IsRaceBook gives c ticks s.book) raced.last
-    (kept gives c ticks (rounds_for c.deal ticks) ready some raced.states raced.first raced.each past refl)
+    (kept gives c ticks (rounds_for c.deal ticks) ready some raced.states raced.first raced.each past refl
+    (subst (λ (s : State). IsTypedBook s.book) (sym raced.last) typed))
 
 -- after so many rounds, whether they pass the horizon or not
 pub level_after : (gives : Gives) (c : Cast) (ticks r : ℕ) (t : State) → IsReadyCast c → 1 ≤ ticks → IsRaced gives c ticks r t → (a : ℕ)

@@ -121,9 +121,6 @@ module _ (job : Job) (ls : List (Option LedgerState)) (ts : List Turn) (s : Stan
       let most = few_parties d.version in
       omega (arith, n, low, most)
 
-  pub some_turns : (us : List Turn) → IsSameShape ts us → 0 < length us
-  some_turns us shape = let n : length us ≡ d.graph.n + 1 = shape.number ∙ s.places.actors in omega (arith, n)
-
   -- each actor knows the job's arcs
   pub has_arc : (v a : ℕ) → v < d.graph.n → a < length d.graph.arcs → HasArc (actor_at ts v) a
   has_arc v a lv lt = go (actor_at ts v) refl (s.actors v lv)

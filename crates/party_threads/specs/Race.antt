@@ -27,6 +27,7 @@ use Rattle.swap_laws.specs.Rounds as laws
 use Rattle.swap_run.specs.Run.{Cast, State, conforms, role_of, is_planned, notes_of, next_of, start}
 use Rattle.swap_run.specs.Laws.{IsReadyCast, IsGood}
 use Rattle.swap_run.specs.Fair.{the_horizon}
+use Rattle.typed_books.specs.Books.{IsTypedBook}
 use Rattle.race_turns.specs.Played.{Gives}
 use Rattle.party_threads.specs.Views.{HasPlayed, PlaysByViews}
 
@@ -79,6 +80,8 @@ pub record IsRaceBook (gives : Gives) (c : Cast) (ticks : ℕ) (b : Histories) :
   -- all of that
   pub came : IsOfRounds gives c ticks b
   pub legal : IsLegalBook c.deal b
+  -- each call holds digests of 32 bytes and signatures of 67 digests, whoever made it
+  pub typed : IsTypedBook b
   pub ticked : (a : ℕ) → IsIn a (arcs c.deal.graph) → ticks_in_order (history b a) ≡ ticks_of_rounds ticks (rounds_for c.deal ticks)
   pub ended : IsEnded c.deal b
   pub conducted : (v : ℕ) → v < c.deal.graph.n → conforms c v ≡ true → IsConducted c.deal b v
@@ -93,11 +96,11 @@ pub record IsRaceBook (gives : Gives) (c : Cast) (ticks : ℕ) (b : Histories) :
   -- and where all conform besides, nothing is found and everything moves
   pub dealt : 2 * ticks ≤ c.deal.delta → ((v : ℕ) → v < c.deal.graph.n → conforms c v ≡ true) → IsDealt c.deal (conforms c) b
 
--- rounds that pass the horizon keep all that a race promises
+-- rounds that pass the horizon keep all that a race promises of a book of the program's own types
 abbrev pub RacesAreKept : Type 1
 RacesAreKept =
     (gives : Gives) (c : Cast) (ticks : ℕ) (t : State) → IsReadyCast c → 1 ≤ ticks → IsRaced gives c ticks (rounds_for c.deal ticks) t
-    → IsRaceBook gives c ticks t.book
+    → IsTypedBook t.book → IsRaceBook gives c ticks t.book
 
 -- what strategies may answer, the other says too
 abbrev pub SaysMore : Gives → Gives → Type 0

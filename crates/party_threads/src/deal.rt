@@ -8,6 +8,7 @@ ghost use Rattle.swap_world.specs.Inside.{IsLedgerOf};
 ghost use Rattle.party_threads.specs.Turns.{actor_at, held_at, clock_held_at, ledger_at, HasArc, IsBehind, AreBehind, AreHome};
 ghost use Rattle.party_threads.specs.Turns.{HavePlaces, AreFreeAt, AreFree, dealt_to, AreDealt, IsSet, AreSet, IsClosed, IsShut, IsSameShape, IsSameBut};
 
+use crate::home::Home;
 use crate::turn::{Turn, put, put_clock, seen_at, take, take_clock};
 use ledger_core::Ledger;
 use ledger_shared::{SharedLedger, share};
@@ -22,18 +23,18 @@ fn deal_one<R: Wait>(
     alloc: Global,
     deal: &Deal,
     arc: ArcId,
-    ledger: Ledger,
+    ledger: Box<Ledger>,
     turns: &mut [Turn],
 ) -> Result<SharedLedger, NoMemory>
-    requires ledger { IsLedgerOf deal.now arc ledger }
+    requires ledger { IsLedgerOf deal.now arc ledger.value }
     requires arc { arc < length deal.now.graph.arcs }
     requires sized { IsWellSized deal.now }
     requires places { HavePlaces deal.now turns.old }
     requires arcs { (v : ℕ) → v < deal.now.graph.n → HasArc (actor_at turns.old v) arc }
-    requires behind { (v : ℕ) → v < deal.now.graph.n → IsBehind (actor_at turns.old v) v arc ledger.history }
+    requires behind { (v : ℕ) → v < deal.now.graph.n → IsBehind (actor_at turns.old v) v arc ledger.value.history }
     requires free { AreFreeAt deal.now turns.old arc }
-    ensures dealt { IfOk result (λ s. (v : ℕ) → v < deal.now.graph.n → held_at turns.new v arc ≡ dealt_to (actor_at turns.old v) v s.lock ledger) }
-    ensures clock { IfOk result (λ s. clock_held_at turns.new deal.now.graph.n arc ≡ Some (clock_at s.lock ledger)) }
+    ensures dealt { IfOk result (λ s. (v : ℕ) → v < deal.now.graph.n → held_at turns.new v arc ≡ dealt_to (actor_at turns.old v) v s.lock ledger.value) }
+    ensures clock { IfOk result (λ s. clock_held_at turns.new deal.now.graph.n arc ≡ Some (clock_at s.lock ledger.value)) }
     ensures others { IsSameBut arc turns.old turns.new }
 {
     let whole = ledger.len();
@@ -53,26 +54,26 @@ fn deal_one<R: Wait>(
 }
 
 /// Takes the ledger from its place.
-fn leave(ledgers: &mut [Option<Ledger>], arc: ArcId) -> Ledger
+fn leave(ledgers: &mut [Option<Home>], arc: ArcId) -> Box<Ledger>
     requires { (l : LedgerState) × (ledger_at ledgers.old arc ≡ Some l) }
-    ensures ledger { ledger_at ledgers.old arc ≡ Some result }
+    ensures ledger { ledger_at ledgers.old arc ≡ Some result.value }
     ensures number { length ledgers.new ≡ length ledgers.old }
     ensures others { (a : ℕ) → a ≢ arc → ledger_at ledgers.new a ≡ ledger_at ledgers.old a }
 {
     match ledgers[arc as usize].take() {
-        Some(ledger) => ledger,
+        Some(home) => home.into_box(),
         None => unreachable!(),
     }
 }
 
 /// Puts the ledger back to its place.
-fn come_home(ledgers: &mut [Option<Ledger>], arc: ArcId, ledger: Ledger)
+fn come_home(ledgers: &mut [Option<Home>], arc: ArcId, ledger: Box<Ledger>)
     requires { arc < length ledgers.old }
-    ensures ledger { ledger_at ledgers.new arc ≡ Some ledger }
+    ensures ledger { ledger_at ledgers.new arc ≡ Some ledger.value }
     ensures number { length ledgers.new ≡ length ledgers.old }
     ensures others { (a : ℕ) → a ≢ arc → ledger_at ledgers.new a ≡ ledger_at ledgers.old a }
 {
-    ledgers[arc as usize] = Some(ledger);
+    ledgers[arc as usize] = Some(Home::of(ledger));
 }
 
 /// Shares each ledger in order, and deals the passes.
@@ -80,7 +81,7 @@ pub(crate) fn deal<R: Wait>(
     rt: &R,
     alloc: Global,
     deal: &Deal,
-    ledgers: &mut [Option<Ledger>],
+    ledgers: &mut [Option<Home>],
     turns: &mut [Turn],
 ) -> Result<Vec<SharedLedger>, NoMemory>
     requires sized { IsWellSized deal.now }
@@ -104,12 +105,12 @@ pub(crate) fn deal<R: Wait>(
 }
 
 /// Takes the three passes of an arc back, and closes its ledger.
-fn close_one(deal: &Deal, ledger: SharedLedger, arc: ArcId, turns: &mut [Turn]) -> Ledger
+fn close_one(deal: &Deal, ledger: SharedLedger, arc: ArcId, turns: &mut [Turn]) -> Box<Ledger>
     requires sized { IsWellSized deal.now }
     requires places { HavePlaces deal.now turns.old }
     requires arc { arc < length deal.now.graph.arcs }
     requires set { IsSet deal.now turns.old arc ledger.lock }
-    ensures closed { IsClosed deal.now turns.old arc result }
+    ensures closed { IsClosed deal.now turns.old arc result.value }
     ensures free { AreFreeAt deal.now turns.new arc }
     ensures others { IsSameBut arc turns.old turns.new }
 {
@@ -124,7 +125,7 @@ fn close_one(deal: &Deal, ledger: SharedLedger, arc: ArcId, turns: &mut [Turn]) 
 pub(crate) fn close(
     deal: &Deal,
     mut shared: Vec<SharedLedger>,
-    ledgers: &mut [Option<Ledger>],
+    ledgers: &mut [Option<Home>],
     turns: &mut [Turn],
 )
     requires sized { IsWellSized deal.now }

@@ -1,5 +1,5 @@
-//! Parties that race: every party and the clock take their turns on threads, over shared ledgers, round by round; in quiet
-//! rounds one after another.
+//! Parties that race: every party and the clock take their turns on threads, over shared ledgers, round by round; where the round before brought no call,
+//! one after another.
 //!
 //! What comes of a race is a legal book in which every ledger has one tick a round and is above the horizon, every conforming party kept its conduct, a
 //! party that follows a script or a strategy made just the calls that answer its round views, and nobody else made a call. An action that is enabled for
@@ -13,6 +13,7 @@
 
 mod deal;
 mod gate;
+mod home;
 mod laws;
 mod round;
 mod rounds;

@@ -11,9 +11,9 @@ ghost use Rattle.party_threads.specs.Standing.{Stands, AllHaveRoom, book_in, sta
 
 use crate::deal::{close, deal};
 use crate::gate::Gate;
+use crate::home::Home;
 use crate::turn::{Actor, Turn};
 use deviator_script::{Job, Strategies};
-use ledger_core::Ledger;
 use ledger_shared::SharedLedger;
 use race_turns::{take_clock_turn, take_machine_turn, take_planner_turn};
 use std::alloc::Global;
@@ -72,7 +72,7 @@ fn take_turn<R: Wait, K: Strategies>(
     turn.failed = play(rt, job, kit, ledgers, ticks, v, turn).is_err();
 }
 
-/// Every actor's turn, on at most 16 threads, each of which takes some that follow one another; or, in a quiet round, all on this one.
+/// Every actor's turn, on at most so many threads: each takes some that follow one another. One is this thread.
 fn take_turns<R: Threads + Wait + Sync, K: Strategies + Sync, G: Gate>(
     rt: &R,
     job: &Job,
@@ -81,10 +81,10 @@ fn take_turns<R: Threads + Wait + Sync, K: Strategies + Sync, G: Gate>(
     round: u32,
     ledgers: &[SharedLedger],
     ticks: u32,
-    quiet: bool,
+    threads: usize,
     turns: &mut [Turn],
 )
-    requires actors { 0 < length turns.old }
+    requires threads { 0 < threads }
     requires few { length turns.old ≤ 256 }
     requires some { 1 ≤ ticks }
     requires below { ticks ≤ 1000 }
@@ -93,7 +93,6 @@ fn take_turns<R: Threads + Wait + Sync, K: Strategies + Sync, G: Gate>(
         → Took (K.gives kit.now) job.now ticks i (slice_index_or turns.old i t) (slice_index_or turns.new i t) }
     ensures number { length turns.new ≡ length turns.old }
 {
-    let threads = if quiet { 1 } else { turns.len().min(16) };
     thread::for_each_mut(
         rt,
         turns,
@@ -124,10 +123,11 @@ pub(crate) fn round<R: Threads + Wait + Sync, K: Strategies + Sync, G: Gate>(
     gate: &G,
     number: u32,
     ticks: u32,
-    quiet: bool,
-    ledgers: &mut [Option<Ledger>],
+    threads: usize,
+    ledgers: &mut [Option<Home>],
     turns: &mut [Turn],
 ) -> Result<(), NoMemory>
+    requires threads { 0 < threads }
     requires some { 1 ≤ ticks }
     requires below { ticks ≤ 1000 }
     requires stands { Stands job.now ledgers.old turns.old }
@@ -146,7 +146,7 @@ pub(crate) fn round<R: Threads + Wait + Sync, K: Strategies + Sync, G: Gate>(
         number,
         shared.as_slice(),
         ticks,
-        quiet,
+        threads,
         turns,
     );
     let done = all_done(turns);

@@ -13,6 +13,7 @@ ghost use Rattle.party_threads.specs.Staff.{AllFit, IsFirstOf};
 ghost use Rattle.party_threads.specs.Standing.{Stands, book_in, history_in, state_of};
 
 use crate::gate::Gate;
+use crate::home::Home;
 use crate::round::round;
 use crate::staff::{RaceFault, turns_of};
 use crate::turn::Turn;
@@ -25,20 +26,22 @@ use std::thread::Threads;
 use swap_base::{ArcId, Listed, NoMemory};
 use swap_digraph::Deal;
 use time_bounds::horizon;
+use typed_books::read_book;
 
 /// A ledger for each arc, each at its place.
-fn ledgers_of(alloc: Global, deal: &Deal) -> Result<Vec<Option<Ledger>>, NoMemory>
+fn ledgers_of(alloc: Global, deal: &Deal) -> Result<Vec<Option<Home>>, NoMemory>
     requires { IsWellSized deal.now }
     ensures { IfOk result (λ v. v.items ≡ map (λ l. Some l) (new_ledgers deal.now)) }
 {
     let mut ledgers = Vec::new(alloc);
     'arcs: for arc in 0..deal.graph.arcs().len() as ArcId {
-        ledgers.push(Some(Ledger::new(alloc, deal, arc)?))?;
+        let ledger = Ledger::new(alloc, deal, arc)?;
+        ledgers.push(Some(Home::new(alloc, ledger)?))?;
     }
     Ok(ledgers)
 }
 
-fn history_of(ledger: Option<Ledger>, alloc: Global) -> EntryList
+fn history_of(ledger: Option<Home>, alloc: Global) -> EntryList
     ensures { result ≡ history_in ledger }
 {
     match ledger {
@@ -48,7 +51,7 @@ fn history_of(ledger: Option<Ledger>, alloc: Global) -> EntryList
 }
 
 /// The book of the ledgers.
-fn book_of(alloc: Global, ledgers: Vec<Option<Ledger>>) -> Result<Book, NoMemory>
+fn book_of(alloc: Global, ledgers: Vec<Option<Home>>) -> Result<Book, NoMemory>
     ensures { IfOk result (λ b. b.histories ≡ book_in ledgers.items) }
 {
     let mut histories = Vec::new(alloc);
@@ -70,7 +73,7 @@ fn rounds_for(deal: &Deal, ticks: u32) -> u32
 }
 
 /// How many entries the ledgers have.
-fn entries_in(ledgers: &[Option<Ledger>]) -> usize {
+fn entries_in(ledgers: &[Option<Home>]) -> usize {
     let mut all = 0usize;
     for ledger in ledgers {
         if let Some(ledger) = ledger {
@@ -80,8 +83,15 @@ fn entries_in(ledgers: &[Option<Ledger>]) -> usize {
     all
 }
 
-/// Rounds until each ledger is above the horizon. A round is taken to be quiet where the one before it brought each ledger a tick and no call: hardly any
-/// actor then does more than look, which takes far less time than to start a thread.
+/// On how many threads a round is played, by how many calls the one before it brought: on one more than these, and at most 16. After a round without a call
+/// hardly any actor does more than look, which takes far less time than to start a thread, and after few calls few do.
+fn threads_after(calls: usize) -> usize
+    ensures { 0 < result }
+{
+    calls.min(15) + 1
+}
+
+/// Rounds until each ledger is above the horizon.
 fn run_rounds<R: Threads + Wait + Sync, K: Strategies + Sync, G: Gate>(
     rt: &R,
     alloc: Global,
@@ -89,7 +99,7 @@ fn run_rounds<R: Threads + Wait + Sync, K: Strategies + Sync, G: Gate>(
     kit: &K,
     gate: &G,
     ticks: u32,
-    ledgers: &mut [Option<Ledger>],
+    ledgers: &mut [Option<Home>],
     turns: &mut [Turn],
 ) -> Result<(), NoMemory>
     requires some { 1 ≤ ticks }
@@ -99,19 +109,21 @@ fn run_rounds<R: Threads + Wait + Sync, K: Strategies + Sync, G: Gate>(
     requires first { state_of job.now ledgers.old turns.old ≡ start (cast_of job.now) }
     ensures raced { OnOk result (IsRaced (K.gives kit.now) (cast_of job.now) ticks (rounds_for job.now.deal ticks) (state_of job.now ledgers.new turns.new)) }
 {
-    let mut quiet = false;
+    // In the first round everybody may have something to do.
+    let mut calls = usize::MAX;
     'rounds: for number in 0..rounds_for(&job.deal, ticks) {
-        let before = entries_in(ledgers);
+        let threads = threads_after(calls);
+        let before = entries_in(ledgers).saturating_add(ledgers.len());
         round(
-            rt, alloc, job, kit, gate, number, ticks, quiet, ledgers, turns,
+            rt, alloc, job, kit, gate, number, ticks, threads, ledgers, turns,
         )?;
-        quiet = entries_in(ledgers) <= before.saturating_add(ledgers.len());
+        calls = entries_in(ledgers).saturating_sub(before);
     }
     Ok(())
 }
 
-/// Races a job: every party and the clock have a turn in each round, on threads unless the round is quiet; strategies answer from the
-/// kit. It waits for locks and at the gate.
+/// Races a job: every party and the clock have a turn in each round, on up to 16 threads, the fewer the less was done in the round before, and on one where
+/// nothing was; strategies answer from the kit. It waits for locks and at the gate.
 pub fn race<R: Threads + Wait + Sync, K: Strategies + Sync, G: Gate>(
     rt: &R,
     alloc: Global,
@@ -144,5 +156,7 @@ pub fn race<R: Threads + Wait + Sync, K: Strategies + Sync, G: Gate>(
         ledgers.as_mut_slice(),
         turns.as_mut_slice(),
     )?;
-    Ok(book_of(alloc, ledgers)?)
+    let book = book_of(alloc, ledgers)?;
+    read_book(&book);
+    Ok(book)
 }

@@ -27,7 +27,7 @@ pub(crate) fn shared_ledger<R: Wait>(
     ensures second { IfOk result (λ s. IsSecondAt s.0.lock s.2 × (s.2.deal ≡ deal.now) × (s.2.arc ≡ 0)) }
     ensures clock { IfOk result (λ s. s.3.lock ≡ s.0.lock) }
 {
-    let ledger = Ledger::new(alloc, deal, 0)?;
+    let ledger = Box::new(alloc, Ledger::new(alloc, deal, 0)?)?;
     match share(rt, alloc, ledger, 0, 0) {
         Ok(shared) => Ok(shared),
         Err(_) => Err("no memory".into()),

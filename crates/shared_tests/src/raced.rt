@@ -53,7 +53,7 @@ fn raced<R: Threads + Wait + Sync>(
     first: Pass,
     second: Pass,
     clock: ClockPass,
-) -> Ledger
+) -> Box<Ledger>
     requires sized { IsWellSized deal.now }
     requires first { IsFirstAt ledger.lock first × (first.deal ≡ deal.now) × (first.arc ≡ 0) }
     requires second { IsSecondAt ledger.lock second × (second.deal ≡ deal.now) × (second.arc ≡ 0) }
@@ -84,10 +84,10 @@ fn is_replayed(rt: &impl Abort, alloc: Global, deal: &Deal, history: &EntryList)
 }
 
 /// The history that three threads leave has all their entries, and the replies of one thread.
-fn is_left(rt: &impl Abort, alloc: Global, deal: &Deal, closed: Ledger) -> Result<(), Fail>
+fn is_left(rt: &impl Abort, alloc: Global, deal: &Deal, closed: Box<Ledger>) -> Result<(), Fail>
     requires { IsWellSized deal.now }
 {
-    let history = closed.into_history();
+    let history = Box::into_inner(closed).into_history();
     assert!(rt; history.len() == 164 && history.calls() == 64);
     is_replayed(rt, alloc, deal, &history)
 }

@@ -30,7 +30,7 @@ ledgers-preserved c =
     let place : c.len-arc.result ≡ length c.pop.new.self.items = search rules in
     close_goes_on c.args.deal.now c.args.turns.now c.args.shared.items c.ledgers.shared.items c.pop.new.self.items c.ledgers.ledgers c.ledgers.turns
     c.in-Some.ledger
-    c.ledgers.invariant c.in-Some.ensures.items c.requires.one_each c.come_home.new.ledgers c.close_one-one.new.turns c.close_one-one.result
+    c.ledgers.invariant c.in-Some.ensures.items c.requires.one_each c.come_home.new.ledgers c.close_one-one.new.turns c.close_one-one.result.value
     (rw place at c.close_one-one.ensures.closed) (rw place at c.close_one-one.ensures.free) (rw place at c.close_one-one.ensures.others)
     (rw place at c.come_home.ensures.ledger) c.come_home.ensures.number (rw place at c.come_home.ensures.others)
 

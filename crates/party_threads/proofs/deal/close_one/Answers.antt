@@ -14,6 +14,6 @@ pub returns-clause-closed : goal.returns-clause-closed
 returns-clause-closed c =
     is_closed c.args.deal.now c.args.arc c.args.ledger.lock c.requires.sized c.requires.arc c.args.turns.now c.requires.set c.take-first.new.turns
     (rw c.arcs.ensures at c.take-first.ensures.gone) c.take-second.new.turns (rw c.arcs.ensures at c.take-second.ensures.gone) c.take_clock-clock.new.turns
-    (rw c.n.ensures at c.take_clock-clock.ensures.gone) c.close.result c.take-first.result c.take-second.result c.take_clock-clock.result
+    (rw c.n.ensures at c.take_clock-clock.ensures.gone) c.close.result.value c.take-first.result c.take-second.result c.take_clock-clock.result
     (rw c.arcs.ensures at c.take-first.ensures.pass) (rw c.arcs.ensures at c.take-second.ensures.pass) (rw c.n.ensures at c.take_clock-clock.ensures.pass)
     c.close.ensures.first c.close.ensures.second c.close.ensures.clock c.close.ensures.legal

@@ -17,7 +17,7 @@ pub deal_one-requires-clause-ledger : goal.deal_one-requires-clause-ledger
 deal_one-requires-clause-ledger g c =
     let l : c.arcs.arc < length c.args.deal.now.graph.arcs = rw (← c.arcs-2.ensures) c.arcs-test.true in
     is_home c.args.deal.now c.args.ledgers.now c.args.turns.now c.arcs.arc c.arcs.ledgers c.arcs.turns c.arcs.shared.items c.arcs.invariant l c.requires.home
-    c.leave-ledger.result c.leave-ledger.ensures.ledger
+    c.leave-ledger.result.value c.leave-ledger.ensures.ledger
 
 pub deal_one-requires-clause-places : goal.deal_one-requires-clause-places
 deal_one-requires-clause-places g c = places_kept c.args.deal.now c.args.turns.now c.arcs.turns c.arcs.invariant.shape c.requires.places
@@ -32,7 +32,7 @@ deal_one-requires-clause-behind g c =
     let l : c.arcs.arc < length c.args.deal.now.graph.arcs = rw (← c.arcs-2.ensures) c.arcs-test.true in
     behind_still c.args.deal.now c.args.ledgers.now c.args.turns.now c.arcs.arc c.arcs.ledgers c.arcs.turns c.arcs.shared.items c.arcs.invariant l
     c.requires.behind
-    c.leave-ledger.result c.leave-ledger.ensures.ledger
+    c.leave-ledger.result.value c.leave-ledger.ensures.ledger
 
 pub deal_one-requires-clause-free : goal.deal_one-requires-clause-free
 deal_one-requires-clause-free g c =
@@ -43,7 +43,7 @@ pub arcs-preserved : goal.arcs-preserved
 arcs-preserved g c =
     let l : c.arcs.arc < length c.args.deal.now.graph.arcs = rw (← c.arcs-2.ensures) c.arcs-test.true in
     deal_goes_on c.args.deal.now c.args.ledgers.now c.args.turns.now c.arcs.arc c.arcs.ledgers c.arcs.turns c.arcs.shared.items c.arcs.invariant l
-    c.leave-ledger.new.ledgers c.deal_one.new.turns c.push.new.self.items c.leave-ledger.result c.in_ok-one.one c.leave-ledger.ensures.ledger
+    c.leave-ledger.new.ledgers c.deal_one.new.turns c.push.new.self.items c.leave-ledger.result.value c.in_ok-one.one c.leave-ledger.ensures.ledger
     c.leave-ledger.ensures.number c.leave-ledger.ensures.others c.in_ok-one.ensures.dealt c.in_ok-one.ensures.clock c.deal_one.ensures.others
     c.in_ok-push.ensures.items
 

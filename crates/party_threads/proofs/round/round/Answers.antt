@@ -6,7 +6,7 @@ use Rattle.party_threads.proofs.Turning.{places_kept, places_taken, taken_at, do
 use Rattle.party_threads.specs.declared.turn.Turn.{Turn}
 use Rattle.party_threads.specs.Took.{IsSeated}
 use Rattle.party_threads.proofs.Sharing.{are_set}
-use Rattle.party_threads.proofs.Seating.{has_arc, behind, few_turns, some_turns, seated}
+use Rattle.party_threads.proofs.Seating.{has_arc, behind, few_turns, seated}
 use Rattle.party_threads.proofs.Rounded.{round, stands}
 use Rattle.party_threads.proofs.round.round.Goals as goal
 
@@ -22,10 +22,6 @@ deal-requires-clause-behind g c = behind c.args.job.now c.args.ledgers.now c.arg
 pub take_turns-requires-clause-few : goal.take_turns-requires-clause-few
 take_turns-requires-clause-few g c = λ κs lives.
     few_turns c.args.job.now c.args.ledgers.now c.args.turns.now c.requires.stands c.deal.new.turns c.deal.ensures.shape
-
-pub take_turns-requires-clause-actors : goal.take_turns-requires-clause-actors
-take_turns-requires-clause-actors g c = λ κs lives.
-    some_turns c.args.job.now c.args.ledgers.now c.args.turns.now c.requires.stands c.deal.new.turns c.deal.ensures.shape
 
 pub take_turns-requires-clause-seated : goal.take_turns-requires-clause-seated
 take_turns-requires-clause-seated g c = λ κs lives.

@@ -5,6 +5,7 @@ use Rattle.ledger_core.specs.Book.{Histories}
 use Rattle.ledger_core.specs.Value.{LedgerState}
 use Rattle.swap_world.specs.Cast.{cast_of}
 use Rattle.swap_world.specs.Inside.{new_ledgers}
+use Rattle.typed_books.specs.Books.{IsTypedBook}
 use Rattle.party_threads.specs.declared.turn.Turn.{Turn}
 use Rattle.party_threads.specs.Race.{IsRaceBook}
 use Rattle.party_threads.specs.Standing.{book_in, state_of, Stands}
@@ -38,9 +39,10 @@ run_rounds-requires-clause-first g c = λ κs lives.
 
 pub returns-clause-book : goal.returns-clause-book
 returns-clause-book g c =
-    subst (λ (b : Histories). IsRaceBook (g.K.Strategies.gives c.args.kit.now) (cast_of c.args.job.now) c.args.ticks b)
-    (sym (c.in_ok-book_of.ensures ∙ ap book_in (with_items_is c.in_ok-ledgers.ledgers c.run_rounds.new.ledgers (search (rules, places)))))
+    let is =
+    c.in_ok-book.ensures ∙ ap book_in (with_items_is c.in_ok-ledgers.ledgers c.run_rounds.new.ledgers (search (rules, places))) in
+    subst (λ (b : Histories). IsRaceBook (g.K.Strategies.gives c.args.kit.now) (cast_of c.args.job.now) c.args.ticks b) (sym is)
     (races_are_kept (g.K.Strategies.gives c.args.kit.now) (cast_of c.args.job.now) c.args.ticks
     (state_of c.args.job.now c.run_rounds.new.ledgers c.run_rounds.new.turns)
     (cast c.args.job.now c.in_ok-turns.turns.items c.requires.accepted c.requires.seeds c.requires.roles c.in_ok-turns.ensures.fit c.in_ok-turns.ensures.new)
-    c.requires.some c.in_ok-run_rounds.ensures.raced)
+    c.requires.some c.in_ok-run_rounds.ensures.raced (subst IsTypedBook is c.read_book.ensures))

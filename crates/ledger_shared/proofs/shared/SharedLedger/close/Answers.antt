@@ -18,10 +18,10 @@ close-ledger-requires-clause-second c = (
 )
 
 pub returns-clause-first : goal.returns-clause-first
-returns-clause-first c = rw (← c.first.view_is) (party_closes c.first.inside c.first.invariant c.close-ledger.result c.close-ledger.ensures.first)
+returns-clause-first c = rw (← c.first.view_is) (party_closes c.first.inside c.first.invariant c.close-ledger.result.value c.close-ledger.ensures.first)
 
 pub returns-clause-second : goal.returns-clause-second
-returns-clause-second c = rw (← c.second.view_is) (party_closes c.second.inside c.second.invariant c.close-ledger.result c.close-ledger.ensures.second)
+returns-clause-second c = rw (← c.second.view_is) (party_closes c.second.inside c.second.invariant c.close-ledger.result.value c.close-ledger.ensures.second)
 
 pub returns-clause-clock : goal.returns-clause-clock
-returns-clause-clock c = rw (← c.clock.view_is) (clock_closes c.clock.inside c.clock.invariant c.close-ledger.result c.close-ledger.ensures.clock)
+returns-clause-clock c = rw (← c.clock.view_is) (clock_closes c.clock.inside c.clock.invariant c.close-ledger.result.value c.close-ledger.ensures.clock)
