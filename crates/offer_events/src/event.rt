@@ -20,7 +20,7 @@ use offer_moves::{
 };
 use refusals::{OfferFault, Reason};
 use std::alloc::Global;
-use swap_base::{Digest, Fault, PartyId};
+use swap_base::{Digest, Fault, PartyId, Shared};
 use swap_digraph::Deal;
 
 #[tactic(auto, unfolding(crate::specs::Event::event_of_tick))]
@@ -144,7 +144,7 @@ fn event_of_call(
     let mv = move_of(alloc, sizes_of(&job.deal), names, line, raw)?;
     check_deviator(line, job.conforming.as_slice()[p as usize])?;
     check_move(job, line, p, &mv)?;
-    Ok(Event::Call(p, mv))
+    Ok(Event::Call(p, Shared::new(alloc, mv)?))
 }
 
 #[tactic(auto, unfolding(crate::specs::Event::event_of_crash))]
