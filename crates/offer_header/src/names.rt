@@ -100,7 +100,7 @@ fn check_known(
     Err(unknown(alloc, line, name))
 }
 
-#[tactic(auto, using(swap_base::proofs::Steps::steps_on, swap_base::proofs::Steps::steps_fail, swap_base::proofs::Steps::steps_done), unfolding(crate::specs::Names::all_known))]
+#[tactic(auto, unfolding(crate::specs::Names::all_known))]
 fn check_all_known(
     alloc: Global,
     line: u32,

@@ -87,7 +87,7 @@ fn provide(alloc: Global, job: &Job) -> Result<Vec<Option<Wallet>>, OfferFault>
 }
 
 /// The job of a header within its limits, with its wallets. A reason against it takes the header's names.
-#[tactic(auto, using(crate::proofs::Size::is_whole, crate::proofs::Size::is_sized, crate::proofs::Size::is_untold, crate::proofs::Size::are_simple, refusals::proofs::Named::fails), unfolding(crate::specs::Job::accepted_of))]
+#[tactic(auto, using(crate::proofs::Size::is_whole, crate::proofs::Size::is_sized, refusals::proofs::Named::fails), unfolding(crate::specs::Job::accepted_of))]
 fn accept(alloc: Global, line: u32, header: Header) -> Result<Prepared, HeaderFault>
     requires within { IsWithin header }
     requires untold { IsUntoldFor header.purpose header }

@@ -1,14 +1,16 @@
 //! The job and the events of an offer.
 
-ghost use Rattle.std.specs.Prelude.{true, ◌≡◌, ◌<◌, ◌≤◌, ◌^◌, ◌∷◌, List, [], ℕ, length, map, IfOk, OnOk};
+ghost use Rattle.std.specs.Prelude.{true, ◌≡◌, ◌<◌, ◌≤◌, ◌^◌, ◌∷◌, List, [], ℕ, length, map, All, IfOk, OnOk};
 ghost use Rattle.swap_base.specs.Fault.{Gives, steps};
 ghost use Rattle.deviator_script.specs.Step.{IsEventOf};
 ghost use Rattle.offer_events.specs.Event.{needs_seeds};
 ghost use Rattle.refusals.specs.Refusal.{named};
-ghost use Rattle.offer_header.specs.Names.{has_strategy};
+ghost use Rattle.offer_header.specs.Limits.{HoldsEach};
+ghost use Rattle.offer_header.specs.Names.{AreNames, has_strategy};
 ghost use Rattle.offer_header.specs.Raw.{is_plain};
 ghost use Rattle.swap_offer.specs.Checks.{IsAcceptedFor};
 ghost use Rattle.swap_offer.specs.Job.{next_of, counted, events_of, events_for, of_lines, job_of, names_at, names_in, names_of_offer, IsWhole};
+ghost use Rattle.swap_offer.specs.Wallets.{AreSimpleRoles, HaveScriptsFor, HaveSeedsFor, HaveWalletsFor, IsUntoldJob};
 
 use crate::header::read_header;
 use crate::lines::filled_lines;
@@ -46,7 +48,8 @@ pub fn next_event(
 fn read_events(alloc: Global, job: &Job, lines: &[(u32, &[u8])]) -> Result<Vec<Event>, OfferFault>
     requires whole { IsWhole job.now }
     requires few { length lines.now < 2 ^ 31 }
-    ensures { Gives (λ v. v.items) result (events_of job.now 0 (map (λ l. (l.0, l.1.now)) lines.now)) }
+    ensures exact { Gives (λ v. v.items) result (events_of job.now 0 (map (λ l. (l.0, l.1.now)) lines.now)) }
+    ensures fit { IfOk result (λ v. needs_seeds job.now.purpose ≡ true → All (IsEventOf job.now) v.items) }
 {
     let mut events = Vec::new(alloc);
     'lines: for (count, line) in lines.iter().enumerate() {
@@ -89,7 +92,8 @@ fn read_further(
 ) -> Result<Vec<Event>, OfferFault>
     requires whole { IsWhole job.now }
     requires few { length lines.now < 2 ^ 31 }
-    ensures { Gives (λ v. v.items) result (events_for purpose job.now (map (λ l. (l.0, l.1.now)) lines.now)) }
+    ensures exact { Gives (λ v. v.items) result (events_for purpose job.now (map (λ l. (l.0, l.1.now)) lines.now)) }
+    ensures fit { IfOk result (λ v. needs_seeds job.now.purpose ≡ true → All (IsEventOf job.now) v.items) }
 {
     if is_plain(purpose) {
         count_events(alloc, lines)?;
@@ -114,6 +118,15 @@ fn read_from(
         (of_lines (has_strategy kit.now.names kit.now.strategies.items) purpose ((line, text.now) ∷ map (λ l. (l.0, l.1.now)) further.now))) }
     ensures whole { IfOk result (λ j. IsWhole j.0) }
     ensures accepted { IfOk result (λ j. IsAcceptedFor purpose j.0.deal) }
+    ensures known { IfOk result (λ j. AreNames j.0.names) }
+    ensures purpose { IfOk result (λ j. j.0.purpose ≡ purpose) }
+    ensures wallets { IfOk result (λ j. HaveWalletsFor purpose j.0) }
+    ensures seeds { IfOk result (λ j. HaveSeedsFor purpose j.0) }
+    ensures roles { IfOk result (λ j. AreSimpleRoles purpose j.0) }
+    ensures strategies { IfOk result (λ j. HoldsEach (has_strategy kit.now.names kit.now.strategies.items) j.0.roles) }
+    ensures scripts { IfOk result (λ j. HaveScriptsFor purpose j.0) }
+    ensures untold { IfOk result (λ j. IsUntoldJob purpose j.0) }
+    ensures fit { IfOk result (λ j. needs_seeds purpose ≡ true → All (IsEventOf j.0) j.1.items) }
 {
     let Prepared { job, .. } = read_header(alloc, line, text, purpose, kit)?;
     match read_further(alloc, purpose, &job, further) {
@@ -134,6 +147,15 @@ fn read_lines(
         (of_lines (has_strategy kit.now.names kit.now.strategies.items) purpose (map (λ l. (l.0, l.1.now)) lines.now))) }
     ensures whole { IfOk result (λ j. IsWhole j.0) }
     ensures accepted { IfOk result (λ j. IsAcceptedFor purpose j.0.deal) }
+    ensures known { IfOk result (λ j. AreNames j.0.names) }
+    ensures purpose { IfOk result (λ j. j.0.purpose ≡ purpose) }
+    ensures wallets { IfOk result (λ j. HaveWalletsFor purpose j.0) }
+    ensures seeds { IfOk result (λ j. HaveSeedsFor purpose j.0) }
+    ensures roles { IfOk result (λ j. AreSimpleRoles purpose j.0) }
+    ensures strategies { IfOk result (λ j. HoldsEach (has_strategy kit.now.names kit.now.strategies.items) j.0.roles) }
+    ensures scripts { IfOk result (λ j. HaveScriptsFor purpose j.0) }
+    ensures untold { IfOk result (λ j. IsUntoldJob purpose j.0) }
+    ensures fit { IfOk result (λ j. needs_seeds purpose ≡ true → All (IsEventOf j.0) j.1.items) }
 {
     if lines.is_empty() {
         let names = Listed::empty(alloc);
@@ -157,6 +179,15 @@ pub fn read_job(
         (job_of (has_strategy kit.now.names kit.now.strategies.items) purpose bytes.now)) }
     ensures whole { IfOk result (λ j. IsWhole j.0) }
     ensures accepted { IfOk result (λ j. IsAcceptedFor purpose j.0.deal) }
+    ensures known { IfOk result (λ j. AreNames j.0.names) }
+    ensures purpose { IfOk result (λ j. j.0.purpose ≡ purpose) }
+    ensures wallets { IfOk result (λ j. HaveWalletsFor purpose j.0) }
+    ensures seeds { IfOk result (λ j. HaveSeedsFor purpose j.0) }
+    ensures roles { IfOk result (λ j. AreSimpleRoles purpose j.0) }
+    ensures strategies { IfOk result (λ j. HoldsEach (has_strategy kit.now.names kit.now.strategies.items) j.0.roles) }
+    ensures scripts { IfOk result (λ j. HaveScriptsFor purpose j.0) }
+    ensures untold { IfOk result (λ j. IsUntoldJob purpose j.0) }
+    ensures fit { IfOk result (λ j. needs_seeds purpose ≡ true → All (IsEventOf j.0) j.1.items) }
 {
     let lines = filled_lines(alloc, bytes)?;
     read_lines(alloc, purpose, kit, &lines)

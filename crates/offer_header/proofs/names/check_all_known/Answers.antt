@@ -1,6 +1,6 @@
 use Rattle.std.proofs.Common.{map}
 use Rattle.std.proofs.lemmas.Result.{err_from_is_err_and}
-use Rattle.swap_base.proofs.Steps.{steps_on, steps_fail}
+use Rattle.swap_base.proofs.Steps.{steps_done, steps_on, steps_fail}
 use Rattle.offer_header.specs.Names.{known, all_known}
 use Rattle.offer_header.proofs.names.check_all_known.Goals as goal
 
@@ -17,3 +17,9 @@ unfolding all_known
 loop-name-preserved c =
     steps_on (λ u name. known c.args.line (map (λ k. k.now) c.args.all.now.keys) name) tt tt c.args.names.now c.loop-name.name-index c.name-item.result _
     c.loop-name-test.true c.name-item.is (rw c.as_slice.ensures at c.in_ok-check_known.ensures) c.loop-name.invariant
+
+pub returns : goal.returns
+unfolding all_known
+returns c =
+    steps_done (λ u name. known c.args.line (map (λ k. k.now) c.args.all.now.keys) name) tt c.args.names.now c.loop-name.name-index _ c.loop-name-test.false
+    c.loop-name.invariant

@@ -29,4 +29,4 @@ returns-in-Err-clause-exact g c =
     (rw c.in_ok-job.ensures.names
     (fails (names_at has c.args.purpose c.args.line c.args.text.now) c.in-Err.fault (of_lines has c.args.purpose ((c.args.line, c.args.text.now) ∷ lines))
     (fails_after c.in-Err.fault read job (λ j. events_for c.args.purpose j lines >>= λ events. Ok (j, events)) was
-    (fails_on c.in-Err.fault (events_for c.args.purpose job lines) (λ events. Ok (job, events)) c.in-Err.ensures))))
+    (fails_on c.in-Err.fault (events_for c.args.purpose job lines) (λ events. Ok (job, events)) c.in-Err.ensures.exact))))
