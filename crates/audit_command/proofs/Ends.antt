@@ -1,8 +1,9 @@
 -- How the reading of an input ended.
-use Rattle.std.proofs.Common.{◌≡◌, ◌<◌, ◌≤◌, ◌+◌, ◌++◌, ℕ, List, Option, Result, Ok, Err, ap, ◌∙◌, subst, arith}
+use Rattle.std.proofs.Common.{◌≡◌, ◌<◌, ◌≤◌, ◌+◌, ◌++◌, ℕ, List, [], Option, Result, Ok, Err, ap, ◌∙◌, subst, arith}
 use Rattle.std.specs.Prelude.{IfOk, IfErr}
 use Rattle.std.specs.Io.KnownBytes.{IsAtEnd}
-use Rattle.swap_io.specs.Causes.{ConsumesSome}
+use Rattle.std.proofs.KnownBytes.{Consumes-nil}
+use Rattle.swap_io.specs.Causes.{ConsumesAtMost, ConsumesSome, Rose}
 use Rattle.swap_io.specs.Lines.{Reading, TookSome}
 use Rattle.swap_io.proofs.Feeds.{took_on}
 use Rattle.ledger_core.specs.declared.entry.Book.{Book}
@@ -15,7 +16,7 @@ use Rattle.transcript_reader.specs.Reading.{finished, story_of, transcript_read}
 use Rattle.audit_command.specs.declared.fault.Stopped.{Stopped}
 use Rattle.audit_command.specs.declared.fault.Stopped.TheVariants.{Refused, ReadFault, TooLong, NoMemory}
 use Rattle.audit_command.specs.Output.{by_text, refused_by, story_in}
-use Rattle.audit_command.specs.Reading.{Concludes, HasRead, IsRead, IsSaid, IsTooLong, Stops, StopsAt, fresh, limit}
+use Rattle.audit_command.specs.Reading.{Concludes, HasRead, IsPart, IsRead, IsSaid, IsTooLong, Stops, StopsAt, fresh, limit}
 
 -- ---- a reason that was met before the end
 
@@ -36,11 +37,37 @@ module _ (a b c : Option (List ℕ)) (now after : Reading) (reason : TranscriptR
     told = ap by_text (s.said d.0);
   }
 
+  -- the rest wasn't read
+  pub rest_unread : after.taken ≤ after.limit → ConsumesAtMost a c limit
+  rest_unread low =
+      let took = took_on a b c fresh now after s.bytes d.0 s.took d.1 in
+      (s.bytes ++ d.0, omega (arith, took.counted, low, d.1.limit, s.took.limit), took.consumed)
+
   -- more was taken than may be
   pub rest_too_long : after.limit < after.taken → after.taken ≤ after.limit + 1 → ConsumesSome a c (limit + 1)
   rest_too_long past most =
       let took = took_on a b c fresh now after s.bytes d.0 s.took d.1 in
       (s.bytes ++ d.0, omega (arith, took.counted, past, most, d.1.limit, s.took.limit), took.consumed)
+
+-- a part was read
+pub is_consumed : (a b : Option (List ℕ)) (now : Reading) → IsPart a b fresh now → ConsumesAtMost a b limit
+is_consumed a b now t = (t.0.0, omega (arith, t.0.1.counted, t.1), t.0.1.consumed)
+
+pub none_consumed : (left : Option (List ℕ)) → ConsumesAtMost left left limit
+none_consumed left = ([], omega arith, Consumes-nil left)
+
+pub all_consumed : (P : List ℕ → Type 0) (a b : Option (List ℕ)) → HasRead P a b → ConsumesAtMost a b limit
+all_consumed P a b k = (k.input, omega (arith, k.took.counted, k.within), k.took.consumed)
+
+pub read_fault_of : (a b : Option (List ℕ)) (n m : ℕ) (now : Reading) (f : Stopped TranscriptReason) → f ≡ ReadFault → StopsAt a b n m now f
+    → Rose n m × ConsumesAtMost a b limit
+read_fault_of a b n m now f is h =
+    let k = subst (λ (x : Stopped TranscriptReason). StopsAt a b n m now x) is h in
+    (k.0, is_consumed a b now k.1)
+
+pub no_memory_of : (a b : Option (List ℕ)) (n m : ℕ) (now : Reading) (f : Stopped TranscriptReason) → f ≡ NoMemory → StopsAt a b n m now f
+    → ConsumesAtMost a b limit
+no_memory_of a b n m now f is h = is_consumed a b now (subst (λ (x : Stopped TranscriptReason). StopsAt a b n m now x) is h)
 
 pub too_long : (a b : Option (List ℕ)) (now : Reading) → IsTooLong a b fresh now → ConsumesSome a b (limit + 1)
 too_long a b now t = (t.0.0, omega (arith, t.0.1.counted, t.1), t.0.1.consumed)
@@ -69,7 +96,7 @@ module _ (a b : Option (List ℕ)) (n m : ℕ) (now : Reading) (p : Progress) (r
   }
   stops_by ReadFault e = absurd e
   stops_by TooLong e = absurd e
-  stops_by NoMemory e = tt
+  stops_by NoMemory e = (k.bytes, omega (arith, k.took.counted, k.within), k.took.consumed)
 
   pub concluded_err : (r : Result (Job × Book) (Stopped Refusal)) → Concludes r (finished p rest) → IfErr r (λ e. Stops a b n m e)
   concluded_err (Ok x) e = tt

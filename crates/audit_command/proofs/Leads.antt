@@ -17,8 +17,10 @@ use Rattle.transcript_reader.specs.Header.{header_read}
 use Rattle.transcript_reader.specs.Stages.{Progress, no_lines, with_line}
 use Rattle.transcript_reader.specs.Reading.{ReadsLine, parts_read, transcript_read}
 use Rattle.transcript_reader.proofs.Steps.{bad_reads, line_on}
+use Rattle.audit_command.specs.declared.fault.Stopped.{Stopped}
+use Rattle.audit_command.specs.declared.fault.Stopped.TheVariants.{ReadFault}
 use Rattle.audit_command.specs.Faults.{of_fault, of_line}
-use Rattle.audit_command.specs.Reading.{IsLastPart, IsMore, IsRead, LineFails, StopsAt, fresh, limit}
+use Rattle.audit_command.specs.Reading.{IsLastPart, IsMore, IsPart, IsRead, LineFails, StopsAt, fresh, limit}
 
 -- ---- lines
 
@@ -60,14 +62,26 @@ end_is_last a b old new text p = record {
   ended = p.ends.1.none_left;
 }
 
+-- no more was taken than may be, where the fault is another one
+pub other_fault : {T E : Type 0} (e past : E) (result : Result T E) (most taken : ℕ) → ¬ (e ≡ past) → result ≡ Err e
+    → ((result ≡ Err past) ↔ (most < taken)) → taken ≤ most
+other_fault e past result most taken differs is long =
+    let no : most < taken → ⊥ = λ lt. differs (cc (sym is ∙ long.1 lt)) in
+    omega arith
+
+is_part : (a b : Option (List ℕ)) (s t : Reading) → TookSome a b s t → t.taken ≤ t.limit → s.limit ≡ limit → IsPart a b s t
+is_part a b s t took low lim = (took, omega (arith, low, took.1.limit, lim))
+
 pub next_fails : {T : Type 0} (a b : Option (List ℕ)) (n m : ℕ) (s t : Reading) (e : LineFault) (result : Result T LineFault) → result ≡ Err e
     → TookSome a b s t → ((result ≡ Err line.TooLong) ↔ (t.limit < t.taken)) → t.taken ≤ t.limit + 1 → s.limit ≡ limit
     → (result ≡ Err line.ReadFault → Rose n m) → LineFails a b n m s t e
-next_fails a b n m s t line.ReadFault result is took long most lim rose = rose is
+next_fails a b n m s t line.ReadFault result is took long most lim rose =
+    (rose is, is_part a b s t took (other_fault line.ReadFault line.TooLong result t.limit t.taken (λ e. absurd (cc e)) is long) lim)
 next_fails a b n m s t line.TooLong result is took long most lim rose =
     let past : t.limit < t.taken = long.0 is in
     (took, omega (arith, past, most, took.1.limit, lim))
-next_fails a b n m s t line.NoMemory result is took long most lim rose = tt
+next_fails a b n m s t line.NoMemory result is took long most lim rose =
+    is_part a b s t took (other_fault line.NoMemory line.TooLong result t.limit t.taken (λ e. absurd (cc e)) is long) lim
 
 -- how much may still come gets less
 pub fewer : (a b : Option (List ℕ)) (s t : Reading) (text : List ℕ) → t.taken ≤ limit → IsNext a b s t text Ended
@@ -114,7 +128,8 @@ led_on a b c old new p q text k n e = record {
 pub led_fault : (a b c : Option (List ℕ)) (n m : ℕ) (old new : Reading) (p q : Progress) (text : List ℕ) (f : Fault TranscriptReason) → Led a b old p
     → IsNext b c old new text Ended → new.taken ≤ limit → ReadsLine {T = Unit {0}} (Err f) p q (with_line header_read p text)
     → StopsAt a c n m new (of_fault f)
-led_fault a b c n m old new p q text fault.NoMemory k next within h = tt
+led_fault a b c n m old new p q text fault.NoMemory k next within h =
+    ((k.bytes ++ next.bytes, took_on a b c fresh old new k.bytes next.bytes k.took next.took), within)
 led_fault a b c n m old new p q text (fault.Refused reason) k next within h = record {
   bytes = k.bytes ++ next.bytes;
   took = took_on a b c fresh old new k.bytes next.bytes k.took next.took;
@@ -126,10 +141,19 @@ led_fault a b c n m old new p q text (fault.Refused reason) k next within h = re
 -- a fault of a line
 pub line_stops : (a b c : Option (List ℕ)) (n m k : ℕ) (old new : Reading) (p : Progress) (e : LineFault) → Led a b old p → n ≤ m
     → LineFails b c m k old new e → StopsAt a c n k new (of_line e)
-line_stops a b c n m k old new p line.ReadFault h le q = rose_before n m k le q
+line_stops a b c n m k old new p line.ReadFault h le q =
+    (rose_before n m k le q.0, ((h.bytes ++ q.1.0.0, took_on a b c fresh old new h.bytes q.1.0.0 h.took q.1.0.1), q.1.1))
 line_stops a b c n m k old new p line.TooLong h le q =
     ((h.bytes ++ q.0.0, took_on a b c fresh old new h.bytes q.0.0 h.took q.0.1), q.1)
-line_stops a b c n m k old new p line.NoMemory h le q = tt
+line_stops a b c n m k old new p line.NoMemory h le q =
+    ((h.bytes ++ q.0.0, took_on a b c fresh old new h.bytes q.0.0 h.took q.0.1), q.1)
+
+-- no read failed, unless the fault tells of it
+pub calm_line : {T B R : Type 0} (l : LineFault) (n m : ℕ) → (¬ ◌≡◌ {A = Result T LineFault} (Err l) (Err line.ReadFault) → m ≡ n)
+    → ¬ ◌≡◌ {A = Result B (Stopped R)} (Err (of_line l)) (Err ReadFault) → m ≡ n
+calm_line line.ReadFault n m h unless = absurd (unless refl)
+calm_line line.TooLong n m h unless = h (λ e. absurd (cc e))
+calm_line line.NoMemory n m h unless = h (λ e. absurd (cc e))
 
 -- all lines were read
 pub led_to_end : (a b c : Option (List ℕ)) (old new : Reading) (p : Progress) (text : List ℕ) → Led a b old p → IsLastPart b c old new text

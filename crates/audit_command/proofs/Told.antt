@@ -38,9 +38,17 @@ pub says_unread : (a b : Option (List ℕ)) (n m : ℕ) (taken : Option (List �
     → Says a b n m taken taken p p (unread f)
 says_unread a b n m taken p (stopped.Refused refusal) s =
     (answered (λ input. story_in input ≡ Err refusal) a b (Err refusal) s (refused_input s.input refusal s.told), Keeps-refl taken)
-says_unread a b n m taken p stopped.ReadFault s = (s, Keeps-refl taken)
+says_unread a b n m taken p stopped.ReadFault s = (s.0, Keeps-refl taken, s.1)
 says_unread a b n m taken p stopped.TooLong s = (s, Keeps-refl taken)
-says_unread a b n m taken p stopped.NoMemory s = inl (Keeps-refl taken)
+says_unread a b n m taken p stopped.NoMemory s = inl (Keeps-refl taken, s)
+
+-- no read failed, unless the ending tells of it
+pub calm_unread : {T : Type 0} (f : Stopped Refusal) (n m : ℕ) → (¬ ◌≡◌ {A = Result T (Stopped Refusal)} (Err f) (Err stopped.ReadFault) → m ≡ n)
+    → ¬ (unread f ≡ ReadFault) → m ≡ n
+calm_unread (stopped.Refused refusal) n m h unless = h (λ e. absurd (cc e))
+calm_unread stopped.ReadFault n m h unless = absurd (unless refl)
+calm_unread stopped.TooLong n m h unless = h (λ e. absurd (cc e))
+calm_unread stopped.NoMemory n m h unless = h (λ e. absurd (cc e))
 
 -- a story
 module _ (a b : Option (List ℕ)) (n m : ℕ) (t : Story) (k : HasRead (λ input. transcript_read header_read input ≡ Ok t) a b) where

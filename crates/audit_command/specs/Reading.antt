@@ -1,7 +1,7 @@
 -- How the reading of an input ended.
 use Rattle.std.specs.Prelude.{◌≡◌, ◌≤◌, ◌+◌, ◌++◌, ℕ, IsTrue, Bool, true, false, List, [], Option, Result, Ok, Err}
 use Rattle.std.specs.Io.KnownBytes.{IsAtEnd}
-use Rattle.swap_io.specs.Causes.{Rose, ConsumesSome}
+use Rattle.swap_io.specs.Causes.{Rose, ConsumesAtMost, ConsumesSome}
 use Rattle.swap_io.specs.Lines.{IsNext, Reading, Took, TookSome, lacks_feed}
 use Rattle.swap_io.specs.declared.line_end.LineEnd.TheVariants.{Ended}
 use Rattle.swap_io.specs.declared.fault.LineFault.{LineFault}
@@ -42,11 +42,15 @@ IsMore false left left' old new text = IsLastPart left left' old new text
 abbrev pub IsTooLong : Option (List ℕ) → Option (List ℕ) → Reading → Reading → Type 0
 IsTooLong left left' old new = TookSome left left' old new × (new.taken ≡ limit + 1)
 
+-- some bytes were taken, no more than an input may have
+abbrev pub IsPart : Option (List ℕ) → Option (List ℕ) → Reading → Reading → Type 0
+IsPart left left' old new = TookSome left left' old new × (new.taken ≤ limit)
+
 -- why no line was given
 abbrev pub LineFails : Option (List ℕ) → Option (List ℕ) → ℕ → ℕ → Reading → Reading → LineFault → Type 0
-LineFails left left' n m old new line.ReadFault = Rose n m
+LineFails left left' n m old new line.ReadFault = Rose n m × IsPart left left' old new
 LineFails left left' n m old new line.TooLong = IsTooLong left left' old new
-LineFails left left' n m old new line.NoMemory = Unit {0}
+LineFails left left' n m old new line.NoMemory = IsPart left left' old new
 
 -- The whole input was read: its lines by a reader, and what stands after the last of them.
 pub record IsRead (left left' : Option (List ℕ)) (now : Reading) (p : Progress) (rest : List ℕ) : Type 0 where
@@ -75,16 +79,16 @@ pub record HasRead (P : List ℕ → Type 0) (left left' : Option (List ℕ)) : 
 -- why the reading of an input's lines stopped
 abbrev pub StopsAt : Option (List ℕ) → Option (List ℕ) → ℕ → ℕ → Reading → Stopped TranscriptReason → Type 0
 StopsAt left left' n m now (Refused reason) = IsSaid reason left left' now
-StopsAt left left' n m now ReadFault = Rose n m
+StopsAt left left' n m now ReadFault = Rose n m × IsPart left left' fresh now
 StopsAt left left' n m now TooLong = IsTooLong left left' fresh now
-StopsAt left left' n m now NoMemory = Unit {0}
+StopsAt left left' n m now NoMemory = IsPart left left' fresh now
 
 -- why an input gave no story
 abbrev pub Stops : Option (List ℕ) → Option (List ℕ) → ℕ → ℕ → Stopped Refusal → Type 0
 Stops left left' n m (Refused refusal) = HasRead (λ input. story_in input ≡ Err refusal) left left'
-Stops left left' n m ReadFault = Rose n m
+Stops left left' n m ReadFault = Rose n m × ConsumesAtMost left left' limit
 Stops left left' n m TooLong = ConsumesSome left left' (limit + 1)
-Stops left left' n m NoMemory = Unit {0}
+Stops left left' n m NoMemory = ConsumesAtMost left left' limit
 
 -- what is concluded from what the reader of all lines tells
 abbrev pub Concludes : Result (Job × Book) (Stopped Refusal) → Result Story TranscriptReason → Type 0

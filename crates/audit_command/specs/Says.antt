@@ -1,7 +1,7 @@
 -- What each ending of an audit says.
 use Rattle.std.specs.Prelude.{◌≡◌, ◌≤◌, ◌+◌, ◌⊎◌, ℕ, Bool, true, false, List, length, Option, Result, Ok, Err}
 use Rattle.std.specs.Io.KnownBytes.{Appends, Consumes, IsAtEnd, Keeps}
-use Rattle.swap_io.specs.Causes.{Rose, ConsumesSome, AppendsProperPrefix}
+use Rattle.swap_io.specs.Causes.{Rose, ConsumesAtMost, ConsumesSome, AppendsProperPrefix}
 use Rattle.swap_io.specs.Handed.{AppendsPrefix}
 use Rattle.refusals.specs.declared.refusal.Refusal.{Refusal}
 use Rattle.audit_command.specs.declared.ending.AuditEnding.{AuditEnding}
@@ -53,7 +53,8 @@ abbrev pub Says : Option (List ℕ) → Option (List ℕ) → ℕ → ℕ → Op
 Says left left' n m taken taken' p q Done = HasOutput (IsWhole taken taken' false) left left'
 Says left left' n m taken taken' p q Named = HasOutput (IsWhole taken taken' true) left left'
 Says left left' n m taken taken' p q (Refused refusal) = HasAnswer left left' (Err refusal) × Keeps taken taken'
-Says left left' n m taken taken' p q ReadFault = Rose n m × Keeps taken taken'
+Says left left' n m taken taken' p q ReadFault = Rose n m × Keeps taken taken' × ConsumesAtMost left left' limit
 Says left left' n m taken taken' p q WriteFault = Rose p q × HasOutput (λ output. AppendsProperPrefix taken taken' output.text) left left'
-Says left left' n m taken taken' p q NoMemory = Keeps taken taken' ⊎ HasOutput (λ output. AppendsPrefix taken taken' output.text) left left'
+Says left left' n m taken taken' p q NoMemory =
+    (Keeps taken taken' × ConsumesAtMost left left' limit) ⊎ HasOutput (λ output. AppendsPrefix taken taken' output.text) left left'
 Says left left' n m taken taken' p q TooLong = ConsumesSome left left' (limit + 1) × Keeps taken taken'

@@ -1,6 +1,6 @@
 //! The lines of an input, handed to the reader of transcripts.
 
-ghost use Rattle.std.specs.Prelude.{◌≡◌, ◌≤◌, IfOk, IfErr, OnOk};
+ghost use Rattle.std.specs.Prelude.{◌≡◌, ◌≤◌, IfOk, IfErr, OnOk, IsErrOf};
 ghost use Rattle.transcript_reader.specs.Stages.{no_lines};
 ghost use Rattle.audit_command.specs.Reading.{IsMore, IsRead, LineFails, StopsAt, fresh, limit};
 
@@ -21,6 +21,7 @@ fn next_line<S: Source>(
     ensures fails { IfErr result (λ e. LineFails (S.left source.old) (S.left source.new) (S.faults source.old) (S.faults source.new)
         lines.old lines.new e) }
     ensures later { S.faults source.old ≤ S.faults source.new }
+    ensures calm { ¬ IsErrOf result LineFault.ReadFault → S.faults source.new ≡ S.faults source.old }
 {
     match lines.next(source, text)? {
         LineEnd::Ended => Ok(true),
@@ -41,6 +42,7 @@ pub(crate) fn read_lines<S: Source>(
     ensures read { OnOk result (IsRead (S.left source.old) (S.left source.new) lines.new reader.new text.new.items) }
     ensures stops { IfErr result (λ e. StopsAt (S.left source.old) (S.left source.new) (S.faults source.old) (S.faults source.new) lines.new e) }
     ensures later { S.faults source.old ≤ S.faults source.new }
+    ensures calm { ¬ IsErrOf result Stopped.ReadFault → S.faults source.new ≡ S.faults source.old }
 {
     'lines: while next_line(lines, source, text)? {
         reader.push(text)?;

@@ -1,6 +1,6 @@
 //! The job and the book that an input states.
 
-ghost use Rattle.std.specs.Prelude.{◌≡◌, ◌≤◌, ℕ, List, Option, Ok, IfOk, IfErr};
+ghost use Rattle.std.specs.Prelude.{◌≡◌, ◌≤◌, ℕ, List, Option, Ok, IfOk, IfErr, IsErrOf};
 ghost use Rattle.transcript_reader.specs.Header.{header_read, IsTold};
 ghost use Rattle.transcript_reader.specs.Reading.{finished, story_of, transcript_read};
 ghost use Rattle.audit_command.specs.Output.{nameless, refused_by};
@@ -66,6 +66,8 @@ fn stop<S: Source>(
     ensures stops { (left : Option (List ℕ)) (faults : ℕ) → faults ≤ S.faults source.old
         → StopsAt left (S.left source.old) faults (S.faults source.old) lines.old fault → Stops left (S.left source.new) faults (S.faults source.new) result }
     ensures later { S.faults source.old ≤ S.faults source.new }
+    ensures calm { (faults : ℕ) → (¬ (fault ≡ Stopped.ReadFault) → S.faults source.old ≡ faults)
+        → ¬ (result ≡ Stopped.ReadFault) → S.faults source.new ≡ faults }
 {
     match fault {
         Stopped::Refused(reason) => match lines.drain(source) {
@@ -88,6 +90,7 @@ pub(crate) fn read_story<S: Source>(
     ensures told { IfOk result (λ p. IsTold p.0) }
     ensures stops { IfErr result (λ e. Stops (S.left source.old) (S.left source.new) (S.faults source.old) (S.faults source.new) e) }
     ensures later { S.faults source.old ≤ S.faults source.new }
+    ensures calm { ¬ IsErrOf result Stopped.ReadFault → S.faults source.new ≡ S.faults source.old }
 {
     let mut lines = Lines::new(alloc, LIMIT)?;
     let mut reader = TranscriptReader::new(alloc);

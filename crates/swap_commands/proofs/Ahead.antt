@@ -14,7 +14,9 @@ use Rattle.swap_io.proofs.Feeds.{took_none, took_on}
 use Rattle.swap_io.proofs.Handing.{rose_before}
 use Rattle.swap_offer.specs.Lines.{lines_of, with_first, filled_lines, is_blank}
 use Rattle.swap_offer.proofs.Filled.{one_more}
-use Rattle.swap_commands.specs.Input.{At, CanCome, Fails, IsLast, IsLine, IsTooLong, ReadsLine, ReadsNone, ahead, limit, past_empty, to_go}
+use Rattle.swap_io.specs.declared.fault.DrainFault.{DrainFault}
+use Rattle.swap_io.specs.declared.fault.DrainFault.TheVariants as drained
+use Rattle.swap_commands.specs.Input.{At, Breaks, CanCome, Fails, IsLast, IsLine, IsPart, IsTooLong, ReadsLine, ReadsNone, ahead, limit, past_empty, to_go}
 
 not_feed : (t : Bool) → not t ≡ true → t ≡ false
 not_feed true e = absurd (cc e)
@@ -71,14 +73,41 @@ line_ahead n line ls rest e blank = ap (filled_lines (n + 1)) e ∙ one_more (n 
 
 -- The causes and the counts of one line.
 
+-- no more was taken than may be, where the fault is another one
+other_fault : {T E : Type 0} (e past : E) (result : Result T E) (most taken : ℕ) → ¬ (e ≡ past) → result ≡ Err e
+    → ((result ≡ Err past) ↔ (most < taken)) → taken ≤ most
+other_fault e past result most taken differs is long =
+    let no : most < taken → ⊥ = λ lt. differs (cc (sym is ∙ long.1 lt)) in
+    omega arith
+
+is_part : (a b : Option (List ℕ)) (s t : At) → TookSome a b s.reading t.reading → t.reading.taken ≤ t.reading.limit → s.reading.limit ≡ limit
+    → IsPart a b s t
+is_part a b s t took low lim = (took, omega (arith, low, took.1.limit, lim))
+
 pub next_fails : {T : Type 0} (a b : Option (List ℕ)) (n m : ℕ) (s t : At) (e : LineFault) (result : Result T LineFault) → result ≡ Err e
     → TookSome a b s.reading t.reading → ((result ≡ Err line.TooLong) ↔ (t.reading.limit < t.reading.taken))
     → t.reading.taken ≤ t.reading.limit + 1 → s.reading.limit ≡ limit → (result ≡ Err line.ReadFault → Rose n m) → Fails a b n m s t e
-next_fails a b n m s t line.ReadFault result is took long most lim rose = rose is
+next_fails a b n m s t line.ReadFault result is took long most lim rose = (
+  rose is,
+  is_part a b s t took (other_fault line.ReadFault line.TooLong result t.reading.limit t.reading.taken (λ e. absurd (cc e)) is long) lim,
+)
 next_fails a b n m s t line.TooLong result is took long most lim rose =
     let past : t.reading.limit < t.reading.taken = long.0 is in
     (took, omega (arith, past, most, took.1.limit, lim))
-next_fails a b n m s t line.NoMemory result is took long most lim rose = tt
+next_fails a b n m s t line.NoMemory result is took long most lim rose =
+    is_part a b s t took (other_fault line.NoMemory line.TooLong result t.reading.limit t.reading.taken (λ e. absurd (cc e)) is long) lim
+
+-- the same of what is dropped
+pub drain_breaks : {T : Type 0} (a b : Option (List ℕ)) (n m : ℕ) (s t : At) (e : DrainFault) (result : Result T DrainFault) → result ≡ Err e
+    → TookSome a b s.reading t.reading → ((result ≡ Err drained.TooLong) ↔ (t.reading.limit < t.reading.taken))
+    → t.reading.taken ≤ t.reading.limit + 1 → s.reading.limit ≡ limit → (result ≡ Err drained.ReadFault → Rose n m) → Breaks a b n m s t e
+drain_breaks a b n m s t drained.ReadFault result is took long most lim rose = (
+  rose is,
+  is_part a b s t took (other_fault drained.ReadFault drained.TooLong result t.reading.limit t.reading.taken (λ e. absurd (cc e)) is long) lim,
+)
+drain_breaks a b n m s t drained.TooLong result is took long most lim rose =
+    let past : t.reading.limit < t.reading.taken = long.0 is in
+    (took, omega (arith, past, most, took.1.limit, lim))
 
 pub counts_ended : (a b : Option (List ℕ)) (s t : Reading) (line : List ℕ) (n : ℕ) → IsNext a b s t line Ended → n + length s.kept ≤ s.taken
     → (n + 1) + length t.kept ≤ t.taken
@@ -139,6 +168,13 @@ fewer a b s t line end going lim within p (inr (still, is)) =
 
 pub too_long_on : (a b c : Option (List ℕ)) (r s t : At) → TookSome a b r.reading s.reading → IsTooLong b c s t → IsTooLong a c r t
 too_long_on a b c r s t p q = ((p.0 ++ q.0.0, took_on a b c r.reading s.reading t.reading p.0 q.0.0 p.1 q.0.1), q.1)
+
+pub part_on : (a b c : Option (List ℕ)) (r s t : At) → TookSome a b r.reading s.reading → IsPart b c s t → IsPart a c r t
+part_on a b c r s t p q = ((p.0 ++ q.0.0, took_on a b c r.reading s.reading t.reading p.0 q.0.0 p.1 q.0.1), q.1)
+
+-- nothing was taken
+pub no_part : (left : Option (List ℕ)) (s : At) → s.reading.taken ≤ limit → IsPart left left s s
+no_part left s within = (([], took_none left s.reading s.reading refl refl), within)
 
 -- Blank lines are passed over.
 
@@ -270,6 +306,6 @@ is_last left a first s p over kept = record {
 -- a fault behind blank lines
 pub fails_on : (left a b : Option (List ℕ)) (n m k : ℕ) (first s t : At) (e : LineFault) → Passed left a first s → n ≤ m → Fails a b m k s t e
     → Fails left b n k first t e
-fails_on left a b n m k first s t line.ReadFault p le f = rose_before n m k le f
+fails_on left a b n m k first s t line.ReadFault p le f = (rose_before n m k le f.0, part_on left a b first s t (p.bytes, p.took) f.1)
 fails_on left a b n m k first s t line.TooLong p le f = too_long_on left a b first s t (p.bytes, p.took) f
-fails_on left a b n m k first s t line.NoMemory p le f = tt
+fails_on left a b n m k first s t line.NoMemory p le f = part_on left a b first s t (p.bytes, p.took) f

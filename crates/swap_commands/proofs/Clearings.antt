@@ -20,7 +20,7 @@ use Rattle.swap_commands.specs.declared.fault.InputFault.{InputFault}
 use Rattle.swap_commands.specs.declared.fault.InputFault.TheVariants.{Refused, ReadFault, TooLong, NoMemory}
 use Rattle.swap_commands.specs.declared.words.Command.TheVariants.{Clear}
 use Rattle.swap_commands.specs.declared.status.Status.{Status}
-use Rattle.swap_commands.proofs.Ahead.{too_long_on}
+use Rattle.swap_commands.proofs.Ahead.{part_on, too_long_on}
 use Rattle.swap_commands.proofs.Reading.{is_within, not_over_yet}
 use Rattle.swap_commands.proofs.Saying.{says_written}
 use Rattle.swap_commands.proofs.Streams.{can_come, last_of, line_of}
@@ -84,7 +84,7 @@ module _ (has : List ℕ → Bool) where
   against_line : (left left' : Option (List ℕ)) (now : At) (fault : Fault Reason) (n m : ℕ) (p : IsLine left left' fresh now) → now.reading.taken ≤ limit
       → EndsAt left' now → Fails fault (cleared_line now.number now.text)
       → Stops (IsAgainst has Clear) left left' n m fresh now (named_fault [] (of_offer fault))
-  against_line left left' now offer.NoMemory n m p within ended fails = tt
+  against_line left left' now offer.NoMemory n m p within ended fails = ((p.bytes, p.took), within)
   against_line left left' now (offer.Refused r) n m p within ended fails = record {
     bytes = p.bytes;
     took = p.took;
@@ -122,9 +122,10 @@ module _ (has : List ℕ → Bool) where
     within = s.within;
     ended = s.ended;
   }
-  against_further left left' left'' mid now text c ReadFault n m k p le s = rose_before n m k le s
+  against_further left left' left'' mid now text c ReadFault n m k p le s =
+      (rose_before n m k le s.0, part_on left left' left'' fresh mid now (p.bytes, p.took) s.1)
   against_further left left' left'' mid now text c TooLong n m k p le s = too_long_on left left' left'' fresh mid now (p.bytes, p.took) s
-  against_further left left' left'' mid now text c NoMemory n m k p le s = tt
+  against_further left left' left'' mid now text c NoMemory n m k p le s = part_on left left' left'' fresh mid now (p.bytes, p.took) s
 
   -- ---- what the command says
 

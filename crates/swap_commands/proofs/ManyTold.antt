@@ -30,7 +30,7 @@ use Rattle.swap_commands.specs.Input.{At, Ends, EndsAt, IsLast, IsLine, Stops, T
 use Rattle.swap_commands.specs.Many.{Headed, events_told, headed, headed_on, left_with, opened}
 use Rattle.swap_commands.specs.ManyRead.{HasReplayed, HasStepped, IsHeading, IsReplayed, TellEvents, opened_after}
 use Rattle.swap_commands.specs.Faults.{of_offer}
-use Rattle.swap_commands.proofs.Ahead.{too_long_on}
+use Rattle.swap_commands.proofs.Ahead.{part_on, too_long_on}
 use Rattle.swap_commands.proofs.Streams.{IsStepAt, Led, led_none, led_on_at, led_to_end, led_to_fault_at, led_to_last}
 
 -- What a walk gives that goes on, and one that stops.
@@ -313,6 +313,6 @@ pub stops_later : (left a b : Option (List ℕ)) (n m k : ℕ) (r s t : At) (P :
     → ((refusal : Refusal) → Tells (λ bytes. P bytes refusal) a b s t → Tells (λ bytes. Q bytes refusal) left b r t)
     → Stops P a b m k s t fault → Stops Q left b n k r t fault
 stops_later left a b n m k r s t P (Refused refusal) took le Q f h = f refusal h
-stops_later left a b n m k r s t P ReadFault took le Q f h = rose_before n m k le h
+stops_later left a b n m k r s t P ReadFault took le Q f h = (rose_before n m k le h.0, part_on left a b r s t took h.1)
 stops_later left a b n m k r s t P TooLong took le Q f h = too_long_on left a b r s t took h
-stops_later left a b n m k r s t P NoMemory took le Q f h = tt
+stops_later left a b n m k r s t P NoMemory took le Q f h = part_on left a b r s t took h

@@ -38,7 +38,7 @@ use Rattle.swap_commands.specs.Replay.{of_race, of_run, passed_over, replayed, I
 use Rattle.swap_commands.specs.Says.{IsAgainst}
 use Rattle.audit_command.specs.Output.{Written}
 use Rattle.swap_commands.proofs.Replays.{of_input, replay_fails}
-use Rattle.swap_commands.proofs.Ahead.{too_long_on}
+use Rattle.swap_commands.proofs.Ahead.{part_on, too_long_on}
 use Rattle.swap_commands.proofs.Streams.{last_of, line_of}
 
 module _ (has : List ℕ → Bool) where
@@ -180,7 +180,7 @@ module _ (has : List ℕ → Bool) where
       → now.reading.taken ≤ limit → EndsAt left' now
       → Fails fault (named (names_at has (purpose_of command) now.number now.text) (job_header_of has (purpose_of command) now.number now.text))
       → Stops (IsAgainst has (OfJob command)) left left' n m fresh now (of_offer fault)
-  against_header command left left' now offer.NoMemory n m p within ended fails = tt
+  against_header command left left' now offer.NoMemory n m p within ended fails = ((p.bytes, p.took), within)
   against_header command left left' now (offer.Refused r) n m p within ended fails =
       let h = named_err (names_at has (purpose_of command) now.number now.text) (job_header_of has (purpose_of command) now.number now.text) r fails in
       record {
@@ -247,9 +247,9 @@ module _ (has : List ℕ → Bool) where
       within = s.within;
       ended = s.ended;
     }
-    against_event says names called ReadFault n m k p le s = rose_before n m k le s
+    against_event says names called ReadFault n m k p le s = (rose_before n m k le s.0, part_on left left' left'' fresh mid now (p.bytes, p.took) s.1)
     against_event says names called TooLong n m k p le s = too_long_on left left' left'' fresh mid now (p.bytes, p.took) s
-    against_event says names called NoMemory n m k p le s = tt
+    against_event says names called NoMemory n m k p le s = part_on left left' left'' fresh mid now (p.bytes, p.took) s
 
   -- what the events of a run, a race and a check say against it
   pub run_says : (transcript : Bool) (n : ℕ) (t : List ℕ) (job : Job) → job_header_of has purposes.Run n t ≡ Ok job → (ls : List (ℕ × List ℕ)) (reason : Reason)

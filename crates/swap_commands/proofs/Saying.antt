@@ -1,7 +1,8 @@
 -- What a command's status says, by how its parts ended.
-use Rattle.std.proofs.Common.{◌≡◌, ◌+◌, ◌++◌, inl, inr, ℕ, Bool, List, ◌∷◌, Option, Ok, refl, sym, ap, ◌∙◌, arith, subst}
+use Rattle.std.proofs.Common.{◌≡◌, ◌+◌, ◌++◌, inl, inr, ℕ, Bool, List, [], ◌∷◌, Option, Ok, refl, sym, ap, ◌∙◌, arith, subst}
+use Rattle.std.proofs.KnownBytes.{Consumes-nil}
 use Rattle.std.specs.Io.KnownBytes.{Keeps}
-use Rattle.swap_io.specs.Causes.{ConsumesSome}
+use Rattle.swap_io.specs.Causes.{ConsumesAtMost, ConsumesSome}
 use Rattle.swap_io.proofs.Feeds.{took_on}
 use Rattle.refusals.specs.declared.refusal.Refusal.{Refusal}
 use Rattle.ledger_core.specs.Book.{Histories}
@@ -23,7 +24,7 @@ use Rattle.outcome_rules.specs.Promises.{AllAreConforming}
 use Rattle.made_jobs.specs.Making.{IsMade}
 use Rattle.swap_commands.specs.Entered.{HasEntered}
 use Rattle.swap_commands.specs.Replay.{IsChecked, IsConcluded, IsEntered, IsPlayed, IsCopied}
-use Rattle.swap_commands.specs.Input.{Ends, At, IsDrained, IsTooLong, Tells, fresh, limit}
+use Rattle.swap_commands.specs.Input.{Ends, At, IsDrained, IsPart, IsTooLong, Tells, fresh, limit}
 use Rattle.swap_commands.specs.Output.{AreGiven, Chance, by_answers, by_book, cast_by, finished, no_chance, output_by, reported, told, plain_text}
 use Rattle.swap_commands.specs.Promised.{AsPromised}
 use Rattle.swap_commands.specs.Says.{HasRead, HasReason, IsAgainst, Says, Unread, Writes}
@@ -36,6 +37,14 @@ use Rattle.swap_commands.specs.declared.status.Status.TheVariants.{Done, Named, 
 use Rattle.swap_commands.proofs.Promises.{is_check, is_race, is_run, is_making}
 use Rattle.swap_commands.proofs.Reading.{check_of_bytes, gives_check, gives_race, gives_run, is_within, race_of_bytes, run_of_bytes}
 use Rattle.swap_commands.proofs.Reading.{gives_make, making_of_bytes}
+
+-- no more was taken than an input may have
+pub is_consumed : (left left' : Option (List ℕ)) (now : At) → IsPart left left' fresh now → ConsumesAtMost left left' limit
+is_consumed left left' now t = (t.0.0, omega (arith, t.0.1.counted, t.1), t.0.1.consumed)
+
+-- nothing was taken
+pub none_consumed : (left : Option (List ℕ)) → ConsumesAtMost left left limit
+none_consumed left = ([], omega arith, Consumes-nil left)
 
 module _ (has : List ℕ → Bool) where
   pub says_written : (gives : Gives) (a : Chance) (command : Command) (left left' : Option (List ℕ)) (n m : ℕ) (taken taken' : Option (List ℕ)) (p q : ℕ)
@@ -60,15 +69,18 @@ module _ (has : List ℕ → Bool) where
   says_unread gives command left left' n m taken taken' p q k Named u = absurd u
   says_unread gives command left left' n m taken taken' p q k WrongWords u = absurd u
   says_unread gives command left left' n m taken taken' p q k (Refused reason names) u = (u, k)
-  says_unread gives command left left' n m taken taken' p q k ReadFault u = (u, k)
+  says_unread gives command left left' n m taken taken' p q k ReadFault u = (u.0, k, u.1)
   says_unread gives command left left' n m taken taken' p q k WriteFault u = absurd u
-  says_unread gives command left left' n m taken taken' p q k NoMemory u = inl k
+  says_unread gives command left left' n m taken taken' p q k NoMemory u = inl (k, u)
   says_unread gives command left left' n m taken taken' p q k TooLong u = (u, k)
 
   -- Where the reading stopped.
 
   pub too_long : (left left' : Option (List ℕ)) (now : At) → IsTooLong left left' fresh now → ConsumesSome left left' (limit + 1)
   too_long left left' now t = (t.0.0, omega (arith, t.0.1.counted, t.1), t.0.1.consumed)
+
+  pub all_consumed : (P : List ℕ → Type 0) (left left' : Option (List ℕ)) (now : At) → Ends P left left' fresh now → ConsumesAtMost left left' limit
+  all_consumed P left left' now e = (e.bytes, is_within has P left left' now e, e.took.consumed)
 
   module _ (command : Command) (left left' left'' : Option (List ℕ)) (mid now : At) (r : Refusal)
       (t : Tells (λ bytes. IsAgainst has command bytes r) left left' fresh mid) where
@@ -87,6 +99,12 @@ module _ (has : List ℕ → Bool) where
           };
           named = said.1;
         }
+
+    -- the rest wasn't read
+    pub rest_unread : IsPart left' left'' mid now → ConsumesAtMost left left'' limit
+    rest_unread d =
+        let took = took_on left left' left'' fresh.reading mid.reading now.reading t.bytes d.0.0 t.took d.0.1 in
+        (t.bytes ++ d.0.0, omega (arith, took.counted, d.1), took.consumed)
 
     -- more was taken than may be
     pub rest_too_long : IsTooLong left' left'' mid now → ConsumesSome left left'' (limit + 1)

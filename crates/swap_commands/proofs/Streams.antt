@@ -11,11 +11,13 @@ use Rattle.swap_io.proofs.Handing.{rose_before}
 use Rattle.swap_io.specs.declared.fault.LineFault.{LineFault}
 use Rattle.swap_io.specs.declared.fault.LineFault.TheVariants as line
 use Rattle.swap_commands.specs.declared.fault.InputFault.{InputFault}
-use Rattle.swap_commands.specs.declared.fault.InputFault.TheVariants.{Refused, ReadFault, TooLong}
-use Rattle.swap_commands.specs.Faults.{of_line, of_offer}
-use Rattle.swap_commands.specs.Input.{At, CanCome, Ends, EndsAt, Fails, Gives, IsLast, IsLine, IsTooLong}
+use Rattle.swap_commands.specs.declared.fault.InputFault.TheVariants.{Refused, ReadFault, TooLong, NoMemory}
+use Rattle.refusals.specs.declared.reason.Reason.{Reason}
+use Rattle.refusals.specs.declared.refusal.Refusal.{Refusal}
+use Rattle.swap_commands.specs.Faults.{named_fault, of_line, of_offer}
+use Rattle.swap_commands.specs.Input.{At, CanCome, Ends, EndsAt, Fails, Gives, IsLast, IsLine, IsPart, IsTooLong}
 use Rattle.swap_commands.specs.Input.{Reads, ReadsLine, ReadsNone, Stops, Tells, ahead, limit}
-use Rattle.swap_commands.proofs.Ahead.{too_long_on}
+use Rattle.swap_commands.proofs.Ahead.{part_on, too_long_on}
 
 -- bytes may come before the end
 pub can_come : (s : At) (rest : List ℕ) → s.over ≡ false → CanCome s rest
@@ -24,9 +26,9 @@ can_come s rest not_over = λ over. absurd (cc (sym not_over ∙ over))
 -- a fault of a line stops the reading
 pub line_stops : {R : Type 0} (P : List ℕ → R → Type 0) (a b c : Option (List ℕ)) (n m k : ℕ) (r s t : At) (e : LineFault)
     → TookSome a b r.reading s.reading → n ≤ m → Fails b c m k s t e → Stops P a c n k r t (of_line e)
-line_stops P a b c n m k r s t line.ReadFault p le q = rose_before n m k le q
+line_stops P a b c n m k r s t line.ReadFault p le q = (rose_before n m k le q.0, part_on a b c r s t p q.1)
 line_stops P a b c n m k r s t line.TooLong p le q = too_long_on a b c r s t p q
-line_stops P a b c n m k r s t line.NoMemory p le q = tt
+line_stops P a b c n m k r s t line.NoMemory p le q = part_on a b c r s t p q
 
 -- what a walk that has come to y makes of the next line, where so many came before, and then of those after it
 abbrev pub IsStepAt : {A R E : Type 0} → (ℕ → A → List (ℕ × List ℕ) → Result R E) → (ℕ → A → ℕ → List ℕ → Result A E) → ℕ → A → Type 0
@@ -140,7 +142,8 @@ module _ {A R E : Type 0} (walk : ℕ → A → List (ℕ × List ℕ) → Resul
   pub led_to_fault_at : (next : ℕ → A → ℕ → List ℕ → Result A E) (a b : Option (List ℕ)) (s t : At) (count : ℕ) (y : A) (n k : ℕ) (fault : Fault E)
       → IsStepAt walk next count y → Led a s count y → IsLine a b s t → Fails_by fault (next count y t.number t.text) → t.reading.taken ≤ limit → EndsAt b t
       → Stops (λ bytes reason. walk 0 x (ahead first bytes) ≡ Err reason) left b n k first t (of_offer fault)
-  led_to_fault_at next a b s t count y n k offer.NoMemory one p q fails within ended = tt
+  led_to_fault_at next a b s t count y n k offer.NoMemory one p q fails within ended =
+      part_on left a b first s t (p.bytes, p.took) ((q.bytes, q.took), within)
   led_to_fault_at next a b s t count y n k (offer.Refused reason) one p q fails within ended =
       led_to_reason next a b s t count y reason one p q fails within ended
 
@@ -175,9 +178,37 @@ pub refused_of : {R : Type 0} (P : List ℕ → R → Type 0) (a b : Option (Lis
 refused_of {R = R} P a b n m s t f r is h = subst (λ (x : InputFault R). Stops P a b n m s t x) is h
 
 pub read_fault_of : {R : Type 0} (P : List ℕ → R → Type 0) (a b : Option (List ℕ)) (n m : ℕ) (s t : At) (f : InputFault R) → f ≡ ReadFault
-    → Stops P a b n m s t f → Rose n m
+    → Stops P a b n m s t f → Rose n m × IsPart a b s t
 read_fault_of {R = R} P a b n m s t f is h = subst (λ (x : InputFault R). Stops P a b n m s t x) is h
 
 pub too_long_of : {R : Type 0} (P : List ℕ → R → Type 0) (a b : Option (List ℕ)) (n m : ℕ) (s t : At) (f : InputFault R) → f ≡ TooLong
     → Stops P a b n m s t f → IsTooLong a b s t
 too_long_of {R = R} P a b n m s t f is h = subst (λ (x : InputFault R). Stops P a b n m s t x) is h
+
+pub no_memory_of : {R : Type 0} (P : List ℕ → R → Type 0) (a b : Option (List ℕ)) (n m : ℕ) (s t : At) (f : InputFault R) → f ≡ NoMemory
+    → Stops P a b n m s t f → IsPart a b s t
+no_memory_of {R = R} P a b n m s t f is h = subst (λ (x : InputFault R). Stops P a b n m s t x) is h
+
+-- a line was given, and its reader wanted memory
+pub line_part : (a b : Option (List ℕ)) (s t : At) → IsLine a b s t → t.reading.taken ≤ limit → IsPart a b s t
+line_part a b s t p within = ((p.bytes, p.took), within)
+
+-- No read failed unless the fault tells of it: a fault of a line, and the same with the names of parties.
+
+pub calm_line : {T B R : Type 0} (l : LineFault) (n m : ℕ) → (¬ ◌≡◌ {A = Result T LineFault} (Err l) (Err line.ReadFault) → m ≡ n)
+    → ¬ ◌≡◌ {A = Result B (InputFault R)} (Err (of_line l)) (Err ReadFault) → m ≡ n
+calm_line line.ReadFault n m h unless = absurd (unless refl)
+calm_line line.TooLong n m h unless = h (λ e. absurd (cc e))
+calm_line line.NoMemory n m h unless = h (λ e. absurd (cc e))
+
+pub calm_named : {T B : Type 0} (names : List (List ℕ)) (f : InputFault Reason) (n m k : ℕ) → m ≡ n
+    → (¬ ◌≡◌ {A = Result T (InputFault Reason)} (Err f) (Err ReadFault) → k ≡ m)
+    → ¬ ◌≡◌ {A = Result B (InputFault Refusal)} (Err (named_fault names f)) (Err ReadFault) → k ≡ n
+calm_named names (Refused r) n m k first h unless = h (λ e. absurd (cc e)) ∙ first
+calm_named names ReadFault n m k first h unless = absurd (unless refl)
+calm_named names TooLong n m k first h unless = h (λ e. absurd (cc e)) ∙ first
+calm_named names NoMemory n m k first h unless = h (λ e. absurd (cc e)) ∙ first
+
+pub calm_fault : {T R : Type 0} (f : InputFault R) (n m : ℕ) → (¬ ◌≡◌ {A = Result T (InputFault R)} (Err f) (Err ReadFault) → m ≡ n)
+    → ¬ (f ≡ ReadFault) → m ≡ n
+calm_fault f n m h unless = h (λ e. unless (cc e))

@@ -102,18 +102,22 @@ pub record Tells (P : List ℕ → Type 0) (left left' : Option (List ℕ)) (old
 abbrev pub IsTooLong : Option (List ℕ) → Option (List ℕ) → At → At → Type 0
 IsTooLong left left' old new = TookSome left left' old.reading new.reading × (new.reading.taken ≡ limit + 1)
 
+-- some bytes were taken, no more than an input may have
+abbrev pub IsPart : Option (List ℕ) → Option (List ℕ) → At → At → Type 0
+IsPart left left' old new = TookSome left left' old.reading new.reading × (new.reading.taken ≤ limit)
+
 -- why no line was given
 abbrev pub Fails : Option (List ℕ) → Option (List ℕ) → ℕ → ℕ → At → At → LineFault → Type 0
-Fails left left' faults faults' old new line.ReadFault = Rose faults faults'
+Fails left left' faults faults' old new line.ReadFault = Rose faults faults' × IsPart left left' old new
 Fails left left' faults faults' old new line.TooLong = IsTooLong left left' old new
-Fails left left' faults faults' old new line.NoMemory = Unit {0}
+Fails left left' faults faults' old new line.NoMemory = IsPart left left' old new
 
 -- why the reading of an input stopped, where P tells of the bytes and what is said against them
 abbrev pub Stops : {R : Type 0} → (List ℕ → R → Type 0) → Option (List ℕ) → Option (List ℕ) → ℕ → ℕ → At → At → InputFault R → Type 0
 Stops P left left' faults faults' old new (Refused r) = Tells (λ bytes. P bytes r) left left' old new
-Stops P left left' faults faults' old new ReadFault = Rose faults faults'
+Stops P left left' faults faults' old new ReadFault = Rose faults faults' × IsPart left left' old new
 Stops P left left' faults faults' old new TooLong = IsTooLong left left' old new
-Stops P left left' faults faults' old new NoMemory = Unit {0}
+Stops P left left' faults faults' old new NoMemory = IsPart left left' old new
 
 -- the rest of the input was taken: bytes that could still come
 pub record IsDrained (left left' : Option (List ℕ)) (old new : At) : Type 0 where
@@ -125,7 +129,7 @@ pub record IsDrained (left left' : Option (List ℕ)) (old new : At) : Type 0 wh
 
 -- why the rest was not taken
 abbrev pub Breaks : Option (List ℕ) → Option (List ℕ) → ℕ → ℕ → At → At → DrainFault → Type 0
-Breaks left left' faults faults' old new drained.ReadFault = Rose faults faults'
+Breaks left left' faults faults' old new drained.ReadFault = Rose faults faults' × IsPart left left' old new
 Breaks left left' faults faults' old new drained.TooLong = IsTooLong left left' old new
 
 -- The whole input was read, and P tells of its bytes.

@@ -1,7 +1,7 @@
 -- What a command's status says, where output_of and names_of tell what the command writes for an input.
 use Rattle.std.specs.Prelude.{◌≡◌, ◌≤◌, ◌+◌, ◌⊎◌, ℕ, Bool, true, false, List, length, Option, Result, Ok, Err}
 use Rattle.std.specs.Io.KnownBytes.{Appends, Consumes, IsAtEnd, Keeps}
-use Rattle.swap_io.specs.Causes.{Rose, ConsumesSome, AppendsProperPrefix}
+use Rattle.swap_io.specs.Causes.{Rose, ConsumesAtMost, ConsumesSome, AppendsProperPrefix}
 use Rattle.swap_io.specs.Handed.{AppendsPrefix}
 use Rattle.refusals.specs.declared.reason.Reason.{Reason}
 use Rattle.refusals.specs.declared.refusal.Refusal.{Refusal}
@@ -59,9 +59,9 @@ Writes taken taken' p q output TooLong = ⊥
 -- what a status says of an input whose reading stopped
 abbrev pub Unread : (List ℕ → Bool) → Command → Option (List ℕ) → Option (List ℕ) → ℕ → ℕ → Status → Type 0
 Unread has command left left' n m (Refused reason names) = HasReason has command left left' reason names
-Unread has command left left' n m ReadFault = Rose n m
+Unread has command left left' n m ReadFault = Rose n m × ConsumesAtMost left left' limit
 Unread has command left left' n m TooLong = ConsumesSome left left' (limit + 1)
-Unread has command left left' n m NoMemory = Unit {0}
+Unread has command left left' n m NoMemory = ConsumesAtMost left left' limit
 Unread has command left left' n m Done = ⊥
 Unread has command left left' n m Named = ⊥
 Unread has command left left' n m WrongWords = ⊥
@@ -73,11 +73,11 @@ Says has gives command left left' n m taken taken' p q Done = HasOutput has give
 Says has gives command left left' n m taken taken' p q Named = HasOutput has gives (IsWhole taken taken' true) command left left'
 Says has gives command left left' n m taken taken' p q WrongWords = ⊥
 Says has gives command left left' n m taken taken' p q (Refused reason names) = HasReason has command left left' reason names × Keeps taken taken'
-Says has gives command left left' n m taken taken' p q ReadFault = Rose n m × Keeps taken taken'
+Says has gives command left left' n m taken taken' p q ReadFault = Rose n m × Keeps taken taken' × ConsumesAtMost left left' limit
 Says has gives command left left' n m taken taken' p q WriteFault =
     Rose p q × HasOutput has gives (λ output. AppendsProperPrefix taken taken' output.text) command left left'
 Says has gives command left left' n m taken taken' p q NoMemory =
-    Keeps taken taken' ⊎ HasOutput has gives (λ output. AppendsPrefix taken taken' output.text) command left left'
+    (Keeps taken taken' × ConsumesAtMost left left' limit) ⊎ HasOutput has gives (λ output. AppendsPrefix taken taken' output.text) command left left'
 Says has gives command left left' n m taken taken' p q TooLong = ConsumesSome left left' (limit + 1) × Keeps taken taken'
 
 -- the status of an audit, by its ending

@@ -33,9 +33,10 @@ pub(crate) fn audit<S: Source, K: Sink>(
     source: &mut S,
     sink: &mut K,
 ) -> Status
-    ensures { Says (has_strategy _kit.now.names _kit.now.strategies.items) (⟦<Kit as Strategies>⟧.gives _kit.now) Command.Audit (S.left source.old)
+    ensures says { Says (has_strategy _kit.now.names _kit.now.strategies.items) (⟦<Kit as Strategies>⟧.gives _kit.now) Command.Audit (S.left source.old)
         (S.left source.new) (S.faults source.old) (S.faults source.new) (K.taken sink.old) (K.taken sink.new)
         (K.faults sink.old) (K.faults sink.new) result }
+    ensures calm { ¬ (result ≡ Status.ReadFault) → S.faults source.new ≡ S.faults source.old }
 {
     status_by(audit_all(alloc, source, sink))
 }

@@ -1,6 +1,6 @@
 //! The command `clear`: wishes are read, and what of them can be swapped is written.
 
-ghost use Rattle.std.specs.Prelude.{◌≡◌, ◌≤◌, ℕ, Bool, List, IfOk, IfErr, OnOk};
+ghost use Rattle.std.specs.Prelude.{◌≡◌, ◌≤◌, ℕ, Bool, List, IfOk, IfErr, OnOk, IsErrOf};
 ghost use Rattle.clear_text.specs.ClearedText.{IsClearedLine};
 ghost use Rattle.offer_header.specs.Names.{has_strategy};
 ghost use Rattle.swap_commands.specs.Cleared.{IsCleared, IsFurther};
@@ -34,6 +34,7 @@ fn first_wishes<S: Source>(
     ensures stops { (has : List ℕ → Bool) → IfErr result (λ e. Stops (IsAgainst has Command.Clear) (S.left source.old) (S.left source.new)
         (S.faults source.old) (S.faults source.new) fresh input.new e) }
     ensures later { S.faults source.old ≤ S.faults source.new }
+    ensures calm { ¬ IsErrOf result InputFault.ReadFault → S.faults source.new ≡ S.faults source.old }
 {
     if !input.next(source)? {
         return Err(empty(alloc));
@@ -57,6 +58,7 @@ fn alone<S: Source>(
     ensures stops { IfErr result (λ e. Stops (IsFurther input.old) (S.left source.old) (S.left source.new)
         (S.faults source.old) (S.faults source.new) input.old input.new e) }
     ensures later { S.faults source.old ≤ S.faults source.new }
+    ensures calm { ¬ IsErrOf result InputFault.ReadFault → S.faults source.new ≡ S.faults source.old }
 {
     if !input.next(source)? {
         return Ok(());
@@ -78,6 +80,7 @@ fn read_wishes<S: Source>(
     ensures stops { (has : List ℕ → Bool) → IfErr result (λ e. Stops (IsAgainst has Command.Clear) (S.left source.old) (S.left source.new)
         (S.faults source.old) (S.faults source.new) fresh input.new e) }
     ensures later { S.faults source.old ≤ S.faults source.new }
+    ensures calm { ¬ IsErrOf result InputFault.ReadFault → S.faults source.new ≡ S.faults source.old }
 {
     let text = first_wishes(alloc, input, source)?;
     match alone(alloc, input, source) {
@@ -95,9 +98,10 @@ fn clear_input<S: Source, K: Sink>(
     sink: &mut K,
 ) -> Status
     requires { input.old ≡ fresh }
-    ensures { Says (has_strategy _kit.now.names _kit.now.strategies.items) (⟦<Kit as Strategies>⟧.gives _kit.now) Command.Clear (S.left source.old)
+    ensures says { Says (has_strategy _kit.now.names _kit.now.strategies.items) (⟦<Kit as Strategies>⟧.gives _kit.now) Command.Clear (S.left source.old)
         (S.left source.new) (S.faults source.old) (S.faults source.new) (K.taken sink.old) (K.taken sink.new)
         (K.faults sink.old) (K.faults sink.new) result }
+    ensures calm { ¬ (result ≡ Status.ReadFault) → S.faults source.new ≡ S.faults source.old }
 {
     match read_wishes(alloc, input, source) {
         Ok(text) => tell(sink, &text),
@@ -112,9 +116,10 @@ pub(crate) fn clear<S: Source, K: Sink>(
     source: &mut S,
     sink: &mut K,
 ) -> Status
-    ensures { Says (has_strategy _kit.now.names _kit.now.strategies.items) (⟦<Kit as Strategies>⟧.gives _kit.now) Command.Clear (S.left source.old)
+    ensures says { Says (has_strategy _kit.now.names _kit.now.strategies.items) (⟦<Kit as Strategies>⟧.gives _kit.now) Command.Clear (S.left source.old)
         (S.left source.new) (S.faults source.old) (S.faults source.new) (K.taken sink.old) (K.taken sink.new)
         (K.faults sink.old) (K.faults sink.new) result }
+    ensures calm { ¬ (result ≡ Status.ReadFault) → S.faults source.new ≡ S.faults source.old }
 {
     match Input::new(alloc) {
         Ok(mut input) => clear_input(alloc, _kit, &mut input, source, sink),

@@ -1,6 +1,6 @@
 //! The header of an input: its first line that isn't blank.
 
-ghost use Rattle.std.specs.Prelude.{◌≡◌, ◌≤◌, Ok, IfOk, IfErr, OnOk};
+ghost use Rattle.std.specs.Prelude.{◌≡◌, ◌≤◌, Ok, IfOk, IfErr, OnOk, IsErrOf};
 ghost use Rattle.offer_header.specs.Limits.{HoldsEach};
 ghost use Rattle.offer_header.specs.Names.{AreNames, has_strategy};
 ghost use Rattle.swap_offer.specs.Checks.{need_of, IsAcceptedFor};
@@ -49,6 +49,7 @@ pub(crate) fn first_line<S: Source>(
         (S.left source.old) (S.left source.new) (S.faults source.old)
         (S.faults source.new) fresh input.new e) }
     ensures later { S.faults source.old ≤ S.faults source.new }
+    ensures calm { ¬ IsErrOf result InputFault.ReadFault → S.faults source.new ≡ S.faults source.old }
 {
     if !input.next(source)? {
         return Err(empty(alloc));

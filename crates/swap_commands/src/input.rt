@@ -1,6 +1,6 @@
 //! An input that is read line by line.
 
-ghost use Rattle.std.specs.Prelude.{◌≡◌, ◌<◌, ◌≤◌, ◌+◌, [], length, true, false, IfOk, IfErr, OnOk};
+ghost use Rattle.std.specs.Prelude.{◌≡◌, ◌<◌, ◌≤◌, ◌+◌, [], length, true, false, IfOk, IfErr, OnOk, IsErrOf};
 ghost use Rattle.swap_commands.specs.Input.{At, Breaks, EndsAt, Fails, Gives, IsDrained, Reads, fresh, limit, past_empty, to_go};
 
 use std::alloc::Global;
@@ -66,6 +66,7 @@ impl Input {
         ensures ended { IfOk result (λ _. EndsAt (S.left source.new) self.new) }
         ensures fails { IfErr result (λ e. Fails (S.left source.old) (S.left source.new) (S.faults source.old) (S.faults source.new) self.old self.new e) }
         ensures later { S.faults source.old ≤ S.faults source.new }
+        ensures calm { ¬ IsErrOf result LineFault.ReadFault → S.faults source.new ≡ S.faults source.old }
     {
         match self.lines.next(source, &mut self.line)? {
             LineEnd::Ended => {
@@ -100,6 +101,7 @@ impl Input {
         ensures ended { IfOk result (λ _. EndsAt (S.left source.new) self.new) }
         ensures fails { IfErr result (λ e. Fails (S.left source.old) (S.left source.new) (S.faults source.old) (S.faults source.new) self.old self.new e) }
         ensures later { S.faults source.old ≤ S.faults source.new }
+        ensures calm { ¬ IsErrOf result LineFault.ReadFault → S.faults source.new ≡ S.faults source.old }
     {
         'lines: while !self.is_over() {
             if !self.read_line(source)? {
@@ -127,6 +129,7 @@ impl Input {
         ensures drained { OnOk result (IsDrained (S.left source.old) (S.left source.new) self.old self.new) }
         ensures fails { IfErr result (λ e. Breaks (S.left source.old) (S.left source.new) (S.faults source.old) (S.faults source.new) self.old self.new e) }
         ensures later { S.faults source.old ≤ S.faults source.new }
+        ensures calm { ¬ IsErrOf result DrainFault.ReadFault → S.faults source.new ≡ S.faults source.old }
     {
         if self.over {
             return Ok(());

@@ -1,6 +1,6 @@
 //! The command `make`: a plain job is made, and its further lines are copied.
 
-ghost use Rattle.std.specs.Prelude.{◌≡◌, ◌≤◌, IfOk, IfErr, OnOk, Ok, Err};
+ghost use Rattle.std.specs.Prelude.{◌≡◌, ◌≤◌, IfOk, IfErr, OnOk, Ok, Err, IsErrOf};
 ghost use Rattle.made_jobs.specs.Making.{copied, IsMade};
 ghost use Rattle.offer_header.specs.Names.{has_strategy};
 ghost use Rattle.swap_commands.specs.Input.{Ends, EndsAt, Stops, ahead, fresh};
@@ -34,6 +34,7 @@ fn copy_lines<S: Source>(
     ensures stops { IfErr result (λ e. Stops (λ bytes reason. copied 0 text.old.items (ahead input.old bytes) ≡ Err reason)
         (S.left source.old) (S.left source.new) (S.faults source.old) (S.faults source.new) input.old input.new e) }
     ensures later { S.faults source.old ≤ S.faults source.new }
+    ensures calm { ¬ IsErrOf result InputFault.ReadFault → S.faults source.new ≡ S.faults source.old }
 {
     let mut count: u32 = 0;
     'lines: while input.next(source)? {
@@ -57,6 +58,7 @@ fn copy<S: Source>(
         (S.left source.old) (S.left source.new) (S.faults source.old)
         (S.faults source.new) fresh input.new e) }
     ensures later { S.faults source.old ≤ S.faults source.new }
+    ensures calm { ¬ IsErrOf result InputFault.ReadFault → S.faults source.new ≡ S.faults source.old }
 {
     let Prepared { job, .. } = first_line(alloc, kit, JobCommand::Make, input, source)?;
     let mut text = made_line(alloc, &job)?;
@@ -85,9 +87,10 @@ pub(crate) fn make<S: Source, K: Sink>(
     sink: &mut K,
 ) -> Status
     requires { input.old ≡ fresh }
-    ensures { Says (has_strategy kit.now.names kit.now.strategies.items) (⟦<Kit as Strategies>⟧.gives kit.now) (Command.OfJob JobCommand.Make)
+    ensures says { Says (has_strategy kit.now.names kit.now.strategies.items) (⟦<Kit as Strategies>⟧.gives kit.now) (Command.OfJob JobCommand.Make)
         (S.left source.old) (S.left source.new) (S.faults source.old) (S.faults source.new)
         (K.taken sink.old) (K.taken sink.new) (K.faults sink.old) (K.faults sink.new) result }
+    ensures calm { ¬ (result ≡ Status.ReadFault) → S.faults source.new ≡ S.faults source.old }
 {
     match copy(alloc, kit, input, source) {
         Ok((_, text)) => tell(sink, &text),

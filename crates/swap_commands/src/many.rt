@@ -1,6 +1,6 @@
 //! The command `many`: several swaps on shared chains are run, and their reports are written.
 
-ghost use Rattle.std.specs.Prelude.{◌≡◌, ◌<◌, ◌≤◌, IfOk, IfErr, OnOk, Err, length, map, slice_index_or, is_some, [], true};
+ghost use Rattle.std.specs.Prelude.{◌≡◌, ◌<◌, ◌≤◌, IfOk, IfErr, OnOk, Err, length, map, slice_index_or, is_some, [], true, IsErrOf};
 ghost use Rattle.swap_base.specs.Fault.{Fails};
 ghost use Rattle.offer_header.specs.Names.{has_strategy};
 ghost use Rattle.swap_offer.specs.Wallets.{wallets_for};
@@ -10,7 +10,7 @@ ghost use Rattle.many_lines.specs.Heading.{finish_told};
 ghost use Rattle.many_lines.specs.Event.{next_told};
 ghost use Rattle.many_lines.specs.Whole.{AreChains, AreSwaps, HoldsEverySwap};
 ghost use Rattle.many_text.specs.Shown.{AreChainsShown, AreShown};
-ghost use Rattle.swap_commands.specs.Input.{Ends, EndsAt, Stops, Tells, ahead, fresh};
+ghost use Rattle.swap_commands.specs.Input.{Ends, EndsAt, Stops, Tells, ahead, fresh, limit};
 ghost use Rattle.swap_commands.specs.Many.{ended_by, events_told, headed, many_written, opened};
 ghost use Rattle.swap_commands.specs.ManyRead.{AreRun, AreWorldsOf, HasStepped, IsHeading, IsLack, IsManyPlayed, IsOpened, IsReplayed};
 ghost use Rattle.swap_commands.specs.ManyRead.{TellEvents, opened_after};
@@ -64,9 +64,11 @@ fn read_heading<S: Source>(
     ensures over { IfOk result (λ h. is_some (finish_told h.stage) ≡ true) }
     ensures held { IfOk result (λ h. HoldsEverySwap (has_strategy kit.now.names kit.now.strategies.items) h.many) }
     ensures ended { OnOk result (EndsAt (S.left source.new) input.new) }
+    ensures within { OnOk result (input.new.reading.taken ≤ limit) }
     ensures stops { IfErr result (λ e. Stops (λ bytes r. headed (has_strategy kit.now.names kit.now.strategies.items) (ahead fresh bytes) ≡ Err r)
         (S.left source.old) (S.left source.new) (S.faults source.old) (S.faults source.new) fresh input.new e) }
     ensures later { S.faults source.old ≤ S.faults source.new }
+    ensures calm { ¬ IsErrOf result InputFault.ReadFault → S.faults source.new ≡ S.faults source.old }
 {
     let mut heading = Heading::new(alloc)?;
     'lines: while heading.finish().is_none() {
@@ -182,6 +184,7 @@ fn replay<S: Source, T: Strategies>(
     ensures stops { IfErr result (λ e. Stops (λ bytes r. events_told many.now 0 (ahead input.old bytes) ≡ Err r) (S.left source.old) (S.left source.new)
         (S.faults source.old) (S.faults source.new) input.old input.new e) }
     ensures later { S.faults source.old ≤ S.faults source.new }
+    ensures calm { ¬ IsErrOf result InputFault.ReadFault → S.faults source.new ≡ S.faults source.old }
 {
     let mut count: u32 = 0;
     'lines: while input.next(source)? {
@@ -205,6 +208,7 @@ fn pass_over<S: Source>(
     ensures stops { IfErr result (λ e. Stops (λ bytes r. events_told many.now 0 (ahead input.old bytes) ≡ Err r) (S.left source.old) (S.left source.new)
         (S.faults source.old) (S.faults source.new) input.old input.new e) }
     ensures later { S.faults source.old ≤ S.faults source.new }
+    ensures calm { ¬ IsErrOf result InputFault.ReadFault → S.faults source.new ≡ S.faults source.old }
 {
     let mut count: u32 = 0;
     'lines: while input.next(source)? {
@@ -229,6 +233,7 @@ fn refuse<S: Source>(
     ensures stops { Stops (λ bytes r. opened_after many.now (ahead input.old bytes) ≡ Err r) (S.left source.old) (S.left source.new)
         (S.faults source.old) (S.faults source.new) input.old input.new result }
     ensures later { S.faults source.old ≤ S.faults source.new }
+    ensures calm { ¬ (result ≡ InputFault.ReadFault) → S.faults source.new ≡ S.faults source.old }
 {
     match pass_over(alloc, many, input, source) {
         Ok(()) => InputFault::Refused(refusal),
@@ -250,11 +255,13 @@ fn run_events<S: Source, T: Strategies>(
     requires made { map (λ v. v.items) wallets.items ≡ map (wallets_for Purpose.Run) many.now.jobs }
     requires kit { HoldsEverySwap (T.holds kit.now) many.now }
     requires ended { EndsAt (S.left source.old) input.old }
+    requires within { input.old.reading.taken ≤ limit }
     ensures run { IfOk result (λ w. AreRun (T.gives kit.now) many.now w (S.left source.old) (S.left source.new) input.old input.new) }
     ensures held { IfOk result (AreAllHeld (T.holds kit.now)) }
     ensures stops { IfErr result (λ e. Stops (λ bytes r. opened_after many.now (ahead input.old bytes) ≡ Err r) (S.left source.old) (S.left source.new)
         (S.faults source.old) (S.faults source.new) input.old input.new e) }
     ensures later { S.faults source.old ≤ S.faults source.new }
+    ensures calm { ¬ IsErrOf result InputFault.ReadFault → S.faults source.new ≡ S.faults source.old }
 {
     match open(alloc, many, wallets) {
         Ok(mut world) => {
@@ -282,6 +289,7 @@ fn play<S: Source>(
     ensures stops { IfErr result (λ e. Stops (IsAgainst (has_strategy kit.now.names kit.now.strategies.items) Command.Many) (S.left source.old)
         (S.left source.new) (S.faults source.old) (S.faults source.new) fresh input.new e) }
     ensures later { S.faults source.old ≤ S.faults source.new }
+    ensures calm { ¬ IsErrOf result InputFault.ReadFault → S.faults source.new ≡ S.faults source.old }
 {
     let heading = read_heading(alloc, kit, input, source)?;
     let finish = heading.finish().unwrap();
@@ -343,9 +351,10 @@ fn many_input<S: Source, K: Sink>(
     sink: &mut K,
 ) -> Status
     requires { input.old ≡ fresh }
-    ensures { Says (has_strategy kit.now.names kit.now.strategies.items) (⟦<Kit as Strategies>⟧.gives kit.now) Command.Many (S.left source.old)
+    ensures says { Says (has_strategy kit.now.names kit.now.strategies.items) (⟦<Kit as Strategies>⟧.gives kit.now) Command.Many (S.left source.old)
         (S.left source.new) (S.faults source.old) (S.faults source.new) (K.taken sink.old) (K.taken sink.new)
         (K.faults sink.old) (K.faults sink.new) result }
+    ensures calm { ¬ (result ≡ Status.ReadFault) → S.faults source.new ≡ S.faults source.old }
 {
     let Played {
         many,
@@ -368,9 +377,10 @@ pub(crate) fn many<S: Source, K: Sink>(
     source: &mut S,
     sink: &mut K,
 ) -> Status
-    ensures { Says (has_strategy kit.now.names kit.now.strategies.items) (⟦<Kit as Strategies>⟧.gives kit.now) Command.Many (S.left source.old)
+    ensures says { Says (has_strategy kit.now.names kit.now.strategies.items) (⟦<Kit as Strategies>⟧.gives kit.now) Command.Many (S.left source.old)
         (S.left source.new) (S.faults source.old) (S.faults source.new) (K.taken sink.old) (K.taken sink.new)
         (K.faults sink.old) (K.faults sink.new) result }
+    ensures calm { ¬ (result ≡ Status.ReadFault) → S.faults source.new ≡ S.faults source.old }
 {
     match Input::new(alloc) {
         Ok(mut input) => many_input(alloc, kit, &mut input, source, sink),

@@ -1,6 +1,6 @@
 //! The command `race`: the parties of a job race, and the report of the book that they come to is written, or the transcript.
 
-ghost use Rattle.std.specs.Prelude.{◌≡◌, ◌≤◌, ℕ, List, Option, IfOk, IfErr};
+ghost use Rattle.std.specs.Prelude.{◌≡◌, ◌≤◌, ℕ, List, Option, IfOk, IfErr, IsErrOf};
 ghost use Rattle.swap_rules.specs.Accepted.{IsAccepted};
 ghost use Rattle.party_wallet.specs.Wallets.{wallets_of};
 ghost use Rattle.offer_header.specs.Names.{AreNames, has_strategy};
@@ -54,6 +54,7 @@ pub(crate) fn enter<S: Source>(
         Stops (IsAgainst (has_strategy kit.now.names kit.now.strategies.items) (Command.OfJob (JobCommand.Race ticks transcript))) (S.left source.old)
         (S.left source.new) (S.faults source.old) (S.faults source.new) fresh input.new e) }
     ensures later { S.faults source.old ≤ S.faults source.new }
+    ensures calm { ¬ IsErrOf result InputFault.ReadFault → S.faults source.new ≡ S.faults source.old }
 {
     let Prepared { job, wallets, .. } = first_line(
         alloc,

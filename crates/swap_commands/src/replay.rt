@@ -1,6 +1,6 @@
 //! The events of an input's lines, one after another.
 
-ghost use Rattle.std.specs.Prelude.{◌≡◌, ◌≤◌, true, false, Ok, Err, IfOk, IfErr, OnOk};
+ghost use Rattle.std.specs.Prelude.{◌≡◌, ◌≤◌, true, false, Ok, Err, IfOk, IfErr, OnOk, IsErrOf};
 ghost use Rattle.swap_base.specs.Fault.{Gives};
 ghost use Rattle.swap_rules.specs.Accepted.{IsAccepted};
 ghost use Rattle.swap_run.specs.Run.{start, step};
@@ -13,7 +13,7 @@ ghost use Rattle.swap_world.specs.Cast.{cast_of};
 ghost use Rattle.swap_world.specs.Gone.{HasAsked};
 ghost use Rattle.swap_world.specs.Staff.{AreHeld};
 ghost use Rattle.swap_world.specs.Value.{Continues, new_world};
-ghost use Rattle.swap_commands.specs.Input.{Ends, EndsAt, Stops, ahead};
+ghost use Rattle.swap_commands.specs.Input.{Ends, EndsAt, Stops, ahead, limit};
 ghost use Rattle.swap_commands.specs.Output.{cast_by};
 ghost use Rattle.swap_commands.specs.Replay.{replayed, next_by, passed_over, IsOf};
 
@@ -94,6 +94,7 @@ pub(crate) fn replay<S: Source, T: Strategies>(
     requires made { wallets.items ≡ wallets_of job.now.deal job.now.conforming job.now.seeds }
     requires kit { AreHeld (T.holds kit.now) job.now.roles }
     requires ended { EndsAt (S.left source.old) input.old }
+    requires within { input.old.reading.taken ≤ limit }
     // Whatever strategies may answer after the last event.
     ensures exact { IfOk result (λ w. (a : Answers) → Continues w a
         → Ends (λ bytes. replayed (step (cast_by a job.now)) job.now 0 (start (cast_of job.now)) (ahead input.old bytes) ≡ Ok w.state)
@@ -104,6 +105,7 @@ pub(crate) fn replay<S: Source, T: Strategies>(
     ensures stops { IfErr result (λ e. Stops (λ bytes reason. replayed passed_over job.now 0 tt (ahead input.old bytes) ≡ Err reason)
         (S.left source.old) (S.left source.new) (S.faults source.old) (S.faults source.new) input.old input.new e) }
     ensures later { S.faults source.old ≤ S.faults source.new }
+    ensures calm { ¬ IsErrOf result InputFault.ReadFault → S.faults source.new ≡ S.faults source.old }
 {
     let mut world = new_world(alloc, job, wallets)?;
     let mut count: u32 = 0;
@@ -146,6 +148,7 @@ pub(crate) fn pass_over<S: Source>(
     ensures stops { IfErr result (λ e. Stops (λ bytes reason. replayed passed_over job.now 0 tt (ahead input.old bytes) ≡ Err reason)
         (S.left source.old) (S.left source.new) (S.faults source.old) (S.faults source.new) input.old input.new e) }
     ensures later { S.faults source.old ≤ S.faults source.new }
+    ensures calm { ¬ IsErrOf result InputFault.ReadFault → S.faults source.new ≡ S.faults source.old }
 {
     let mut count: u32 = 0;
     'lines: while input.next(source)? {

@@ -71,6 +71,7 @@ fn play<S: Source>(
         (S.left source.new)
         (S.faults source.old) (S.faults source.new) fresh input.new e) }
     ensures later { S.faults source.old ≤ S.faults source.new }
+    ensures calm { ¬ IsErrOf result InputFault.ReadFault → S.faults source.new ≡ S.faults source.old }
 {
     let Prepared { job, wallets, .. } = first_line(
         alloc,
@@ -174,9 +175,10 @@ pub(crate) fn run<S: Source, K: Sink>(
     sink: &mut K,
 ) -> Status
     requires { input.old ≡ fresh }
-    ensures { Says (has_strategy kit.now.names kit.now.strategies.items) (⟦<Kit as Strategies>⟧.gives kit.now)
+    ensures says { Says (has_strategy kit.now.names kit.now.strategies.items) (⟦<Kit as Strategies>⟧.gives kit.now)
         (Command.OfJob (JobCommand.Run transcript)) (S.left source.old) (S.left source.new) (S.faults source.old) (S.faults source.new)
         (K.taken sink.old) (K.taken sink.new) (K.faults sink.old) (K.faults sink.new) result }
+    ensures calm { ¬ (result ≡ Status.ReadFault) → S.faults source.new ≡ S.faults source.old }
 {
     let (job, world) = match play(alloc, kit, transcript, input, source) {
         Ok(played) => played,

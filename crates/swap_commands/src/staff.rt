@@ -41,8 +41,10 @@ pub trait Staff: Strategies {
         source: &mut S,
         sink: &mut K,
     ) -> Obeyed
-        ensures { Obeys (Self.holds self.now) (Self.gives self.now) command (S.left source.old) (S.left source.new) (S.faults source.old)
-            (S.faults source.new) (K.taken sink.old) (K.taken sink.new) (K.faults sink.old) (K.faults sink.new) result };
+        ensures says { Obeys (Self.holds self.now) (Self.gives self.now) command (S.left source.old) (S.left source.new) (S.faults source.old)
+            (S.faults source.new) (K.taken sink.old) (K.taken sink.new) (K.faults sink.old) (K.faults sink.new) result }
+        // No read failed, unless the status tells of it.
+        ensures calm { ¬ (result ≡ Obeyed.Ended Status.ReadFault) → S.faults source.new ≡ S.faults source.old };
 }
 
 /// What a command does with the job of an input.
@@ -55,9 +57,10 @@ fn obey_job<S: Source, K: Sink>(
     sink: &mut K,
 ) -> Obeyed
     requires { input.old ≡ fresh }
-    ensures { Obeys (has_strategy kit.now.names kit.now.strategies.items) (⟦<Kit as Strategies>⟧.gives kit.now) (Command.OfJob command)
+    ensures says { Obeys (has_strategy kit.now.names kit.now.strategies.items) (⟦<Kit as Strategies>⟧.gives kit.now) (Command.OfJob command)
         (S.left source.old) (S.left source.new) (S.faults source.old) (S.faults source.new) (K.taken sink.old)
         (K.taken sink.new) (K.faults sink.old) (K.faults sink.new) result }
+    ensures calm { ¬ (result ≡ Obeyed.Ended Status.ReadFault) → S.faults source.new ≡ S.faults source.old }
 {
     match command {
         JobCommand::Check => Obeyed::Ended(check(alloc, kit, input, source, sink)),
@@ -82,9 +85,10 @@ fn read_job<S: Source, K: Sink>(
     source: &mut S,
     sink: &mut K,
 ) -> Obeyed
-    ensures { Obeys (has_strategy kit.now.names kit.now.strategies.items) (⟦<Kit as Strategies>⟧.gives kit.now) (Command.OfJob command)
+    ensures says { Obeys (has_strategy kit.now.names kit.now.strategies.items) (⟦<Kit as Strategies>⟧.gives kit.now) (Command.OfJob command)
         (S.left source.old) (S.left source.new) (S.faults source.old) (S.faults source.new) (K.taken sink.old)
         (K.taken sink.new) (K.faults sink.old) (K.faults sink.new) result }
+    ensures calm { ¬ (result ≡ Obeyed.Ended Status.ReadFault) → S.faults source.new ≡ S.faults source.old }
 {
     match Input::new(alloc) {
         Ok(mut input) => obey_job(alloc, kit, command, &mut input, source, sink),

@@ -1,6 +1,6 @@
 //! What a command does where the reading of its input stopped.
 
-ghost use Rattle.std.specs.Prelude.{◌≤◌, ℕ, Bool, List, Option};
+ghost use Rattle.std.specs.Prelude.{◌≤◌, ℕ, Bool, List, Option, ◌≡◌};
 ghost use Rattle.swap_commands.specs.Input.{Stops, fresh};
 ghost use Rattle.swap_commands.specs.Says.{IsAgainst, Unread};
 ghost use Rattle.swap_commands.specs.declared.words.Command.{Command};
@@ -18,9 +18,11 @@ pub(crate) fn stop<S: Source>(
     fault: InputFault<Refusal>,
 ) -> Status
     // Whatever the command, and whatever was read before.
-    ensures { (has : List ℕ → Bool) (command : Command) (left : Option (List ℕ)) (faults : ℕ) → faults ≤ S.faults source.old
+    ensures says { (has : List ℕ → Bool) (command : Command) (left : Option (List ℕ)) (faults : ℕ) → faults ≤ S.faults source.old
         → Stops (IsAgainst has command) left (S.left source.old) faults (S.faults source.old) fresh input.old fault
         → Unread has command left (S.left source.new) faults (S.faults source.new) result }
+    ensures calm { (faults : ℕ) → (¬ (fault ≡ InputFault.ReadFault) → S.faults source.old ≡ faults)
+        → ¬ (result ≡ Status.ReadFault) → S.faults source.new ≡ faults }
 {
     match fault {
         InputFault::Refused(refusal) => match input.drain(source) {

@@ -2,7 +2,7 @@
 use Rattle.std.proofs.Common.{◌≡◌, ◌<◌, ◌≤◌, ◌+◌, ◌⊎◌, inl, inr, ℕ, Bool, true, false, List, length, Option, Some, None, Result, Ok, Err, refl}
 use Rattle.std.proofs.Common.{sym, ap, ◌∙◌, subst, arith, length-append}
 use Rattle.std.specs.Io.KnownBytes.{Keeps}
-use Rattle.swap_io.specs.Causes.{Rose, ConsumesSome}
+use Rattle.swap_io.specs.Causes.{Rose, ConsumesAtMost, ConsumesSome}
 use Rattle.refusals.specs.declared.reason.Reason.{Reason}
 use Rattle.swap_commands.specs.Input.{limit}
 use Rattle.swap_commands.specs.Words.{command_of}
@@ -66,6 +66,14 @@ module _ (has : List ℕ → Bool) where
     pub read_fault : (s : Status) → Said s → s ≡ ReadFault → Rose n m
     read_fault s h e = let o = subst Said e h in o.0
 
+    pub part : (s : Status) → Said s → (s ≡ ReadFault) ⊎ (s ≡ NoMemory) → ConsumesAtMost left left' limit
+    part s h (inl e) = let o = subst Said e h in o.2
+    part s h (inr e) = by (subst Said e h)
+      where
+        by : Said NoMemory → ConsumesAtMost left left' limit
+        by (inl k) = k.1
+        by (inr o) = (o.read.input, o.read.within, o.read.taken)
+
     pub write_fault : (s : Status) → Said s → s ≡ WriteFault → Rose p q
     write_fault s h e = let o = subst Said e h in o.0
 
@@ -87,7 +95,7 @@ module _ (has : List ℕ → Bool) where
     short s h e = by (subst Said e h)
       where
         by : Said NoMemory → Keeps taken taken' ⊎ IsShort has gives words left left' taken taken'
-        by (inl k) = inl k
+        by (inl k) = inl k.0
         by (inr o) = inr (record {
           chance = o.chance;
           output = o.output;

@@ -1,9 +1,9 @@
 -- What the program promises, by what a status says of its task.
 use Rattle.std.proofs.Common.{◌≡◌, ◌<◌, ◌≤◌, ◌+◌, ◌⊎◌, inl, inr, ℕ, Bool, true, false, List, length, Option, Some, None, option_and_then, Ok, Err}
-use Rattle.std.proofs.Common.{refl, sym, ap, ◌∙◌}
+use Rattle.std.proofs.Common.{refl, sym, ap, ◌∙◌, subst}
 use Rattle.std.specs.Io.KnownBytes.{Keeps}
 use Rattle.std.proofs.KnownBytes.{Keeps-refl}
-use Rattle.swap_io.specs.Causes.{AppendsProperPrefix, Rose, ConsumesSome}
+use Rattle.swap_io.specs.Causes.{AppendsProperPrefix, Rose, ConsumesAtMost, ConsumesSome}
 use Rattle.swap_io.specs.Handed.{AppendsPrefix}
 use Rattle.refusals.specs.declared.reason.Reason.{Reason}
 use Rattle.swap_world.specs.Gone.{Gives}
@@ -21,6 +21,7 @@ use Rattle.swap_commands.specs.declared.words.Task.{Task}
 use Rattle.swap_commands.specs.declared.words.Task.TheVariants.{Input, Number}
 use Rattle.swap_commands.specs.declared.status.Status.{Status}
 use Rattle.swap_commands.specs.declared.status.Status.TheVariants.{Done, Named, WrongWords, Refused, ReadFault, WriteFault, NoMemory, TooLong}
+use Rattle.swap_commands.proofs.Saying.{none_consumed}
 use Rattle.swap_main.proofs.Asking as asking
 use Rattle.swap_main.proofs.Asking.{command_is, is_within, no_command, request_is}
 use Rattle.swap_main.proofs.Ends as ends
@@ -72,6 +73,11 @@ module _ (has : List ℕ → Bool) (gives : Gives) (words : List (List ℕ)) (le
   read_fault (Number request) asked s h e =
       let w = is_within words (Number request) asked in
       absurd (asking.no_read_fault words left left' taken taken' p q request (request_is words request asked) h.0 w.0 w.1 s h.1 e)
+
+  pub part : (task : Task) → task_of words ≡ Some task → (s : Status) → Performed task s → (s ≡ ReadFault) ⊎ (s ≡ NoMemory)
+      → ConsumesAtMost left left' limit
+  part (Input command) asked s h e = ends.part has gives words left left' n m taken taken' p q command (command_is words command asked) s h e
+  part (Number request) asked s h e = subst (λ (x : Option (List ℕ)). ConsumesAtMost left x limit) (sym h.0) (none_consumed left)
 
   pub write_fault : (task : Task) → task_of words ≡ Some task → (s : Status) → Performed task s → s ≡ WriteFault → Rose p q
   write_fault (Input command) asked s h e = ends.write_fault has gives words left left' n m taken taken' p q command (command_is words command asked) s h e
@@ -185,6 +191,7 @@ module _ (has : List ℕ → Bool) (gives : Gives) (words : List (List ℕ)) (le
     named = named task asked s h;
     refused = refused task asked s h;
     read_fault = read_fault task asked s h;
+    part = part task asked s h;
     write_fault = write_fault task asked s h;
     cut = cut task asked s h;
     too_long = too_long task asked s h;
@@ -208,6 +215,7 @@ module _ (has : List ℕ → Bool) (gives : Gives) (words : List (List ℕ)) (le
     named = λ e. absurd (cc e);
     refused = λ reason names e. absurd (cc e);
     read_fault = λ e. absurd (cc e);
+    part = λ e. none_consumed left;
     write_fault = λ e. absurd (cc e);
     cut = λ e. absurd (cc e);
     too_long = λ e. absurd (cc e);
@@ -235,6 +243,7 @@ module _ (has : List ℕ → Bool) (gives : Gives) (words : List (List ℕ)) (le
     named = λ e. absurd (cc e);
     refused = λ reason names e. absurd (cc e);
     read_fault = λ e. absurd (cc e);
+    part = λ e. none_consumed left;
     write_fault = λ e. absurd (cc e);
     cut = λ e. absurd (cc e);
     too_long = λ e. absurd (cc e);

@@ -1,7 +1,7 @@
 -- What the program promises of its answer: what each status says, and which status comes.
 use Rattle.std.specs.Prelude.{◌≡◌, ◌<◌, ◌≤◌, ◌+◌, ◌⊎◌, ℕ, Bool, true, false, List, length, Option, Some, Ok, Err}
 use Rattle.std.specs.Io.KnownBytes.{Keeps}
-use Rattle.swap_io.specs.Causes.{AppendsProperPrefix, Rose, ConsumesSome}
+use Rattle.swap_io.specs.Causes.{AppendsProperPrefix, Rose, ConsumesAtMost, ConsumesSome}
 use Rattle.swap_io.specs.Handed.{AppendsPrefix}
 use Rattle.refusals.specs.declared.reason.Reason.{Reason}
 use Rattle.audit_command.specs.Output.{Written}
@@ -26,6 +26,8 @@ pub record IsAnswer (has : List ℕ → Bool) (gives : Gives) (words : List (Lis
   pub named : s ≡ Named → IsDone has gives words left left' taken taken' true ⊎ Generates (IsWhole taken taken' true) words left left'
   pub refused : (reason : Reason) (names : List (List ℕ)) → s ≡ Refused reason names → IsRefused has words left left' reason names
   pub read_fault : s ≡ ReadFault → Rose n m
+  -- a part of the input was read, or all of it
+  pub part : (s ≡ ReadFault) ⊎ (s ≡ NoMemory) → ConsumesAtMost left left' limit
   pub write_fault : s ≡ WriteFault → Rose p q
   pub cut : s ≡ WriteFault
       → IsCut has gives words left left' taken taken' ⊎ Generates (λ output. AppendsProperPrefix taken taken' output.text) words left left'

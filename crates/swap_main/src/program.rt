@@ -59,6 +59,7 @@ fn obey_with_kit<S: Source, K: Sink>(
 ) -> Result<Obeyed, NoMemory>
     ensures says { IfOk result (Obeys is_known (by_rule program_rule) command (S.left source.old) (S.left source.new) (S.faults source.old)
         (S.faults source.new) (K.taken sink.old) (K.taken sink.new) (K.faults sink.old) (K.faults sink.new)) }
+    ensures calm { IfOk result (λ o. ¬ (o ≡ Obeyed.Ended Status.ReadFault) → S.faults source.new ≡ S.faults source.old) }
     ensures unread { OnErr result (source.new ≡ source.old) }
     ensures unwritten { OnErr result (sink.new ≡ sink.old) }
 {

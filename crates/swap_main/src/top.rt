@@ -30,6 +30,7 @@ fn perform<S: Source, K: Sink, A: Staff>(
     ensures says { Performs (A.holds staff.now) (A.gives staff.now) task (S.left source.old)
         (S.left source.new) (S.faults source.old) (S.faults source.new) (K.taken sink.old) (K.taken sink.new)
         (K.faults sink.old) (K.faults sink.new) result }
+    ensures calm { ¬ (result ≡ Status.ReadFault) → S.faults source.new ≡ S.faults source.old }
     ensures unread { (request : Request) → task ≡ Task.Number request → source.new ≡ source.old }
 {
     match task {
@@ -54,9 +55,10 @@ fn perform_race<R: Threads + Wait + Sync, S: Source, K: Sink, G: Gate, A: Staff 
 ) -> Status
     requires some { 1 ≤ ticks }
     requires below { ticks ≤ 1000 }
-    ensures { Says (A.holds staff.now) (A.gives staff.now) (Command.OfJob (JobCommand.Race ticks transcript)) (S.left source.old)
+    ensures says { Says (A.holds staff.now) (A.gives staff.now) (Command.OfJob (JobCommand.Race ticks transcript)) (S.left source.old)
         (S.left source.new) (S.faults source.old) (S.faults source.new) (K.taken sink.old) (K.taken sink.new)
         (K.faults sink.old) (K.faults sink.new) result }
+    ensures calm { ¬ (result ≡ Status.ReadFault) → S.faults source.new ≡ S.faults source.old }
 {
     let command = Command::OfJob(JobCommand::Race { ticks, transcript });
     match staff.obey(alloc, command, source, sink) {
@@ -84,6 +86,8 @@ pub fn swap_plain<S: Source, K: Sink, A: Staff>(
     ensures answer { ¬ AsksRace (map string_bytes words.now.items) → IsAnswer (A.holds staff.now) (A.gives staff.now) (map string_bytes words.now.items)
         (S.left source.old) (S.left source.new) (S.faults source.old) (S.faults source.new) (K.taken sink.old) (K.taken sink.new)
         (K.faults sink.old) (K.faults sink.new) result }
+    // No read failed, unless the status tells of it.
+    ensures calm { ¬ (result ≡ Status.ReadFault) → S.faults source.new ≡ S.faults source.old }
     // No race is run here.
     ensures no_race { AsksRace (map string_bytes words.now.items) → (result ≡ Status.WrongWords) ⊎ (result ≡ Status.NoMemory) }
     ensures no_race_unread { AsksRace (map string_bytes words.now.items) → source.new ≡ source.old }
@@ -119,6 +123,8 @@ pub fn swap_top<R: Threads + Wait + Sync, S: Source, K: Sink, G: Gate, A: Staff 
     ensures answer { IsAnswer (A.holds staff.now) (A.gives staff.now) (map string_bytes words.now.items)
         (S.left source.old) (S.left source.new) (S.faults source.old) (S.faults source.new) (K.taken sink.old) (K.taken sink.new)
         (K.faults sink.old) (K.faults sink.new) result }
+    // No read failed, unless the status tells of it.
+    ensures calm { ¬ (result ≡ Status.ReadFault) → S.faults source.new ≡ S.faults source.old }
 {
     let Ok(asked) = task_of(alloc, words) else {
         return Status::NoMemory;

@@ -1,7 +1,8 @@
-use Rattle.std.proofs.Common.{arith, ap}
+use Rattle.std.proofs.Common.{◌∙◌, arith, ap, refl}
 use Rattle.std.proofs.lemmas.Result.{err_from_is_err_and}
+use Rattle.swap_io.proofs.Feeds.{calm_after}
 use Rattle.swap_io.specs.Lines.{Reading}
-use Rattle.audit_command.proofs.Leads.{fewer, last_of, led_fault, led_first, led_on, led_to_end, line_of, line_stops}
+use Rattle.audit_command.proofs.Leads.{calm_line, fewer, last_of, led_fault, led_first, led_on, led_to_end, line_of, line_stops}
 use Rattle.audit_command.proofs.input.read_lines.Goals as goal
 
 pub lines-init : goal.lines-init
@@ -10,6 +11,7 @@ lines-init g c = record {
   within = let e = ap (λ (r : Reading). r.taken) c.requires.fresh in omega arith;
   limit_is = ap (λ (r : Reading). r.limit) c.requires.fresh;
   later = omega arith;
+  calm = refl;
 }
 
 pub returns-in_err-next_line-clause-stops : goal.returns-in_err-next_line-clause-stops
@@ -34,6 +36,7 @@ lines-preserved g c =
       within = c.in_ok-next_line.ensures.within;
       limit_is = c.in_ok-next_line.ensures.limit;
       later = omega (arith, c.lines.invariant.later, c.next_line.ensures.later);
+      calm = calm_after _ _ _ _ c.in_ok-next_line.ensures.calm ∙ c.lines.invariant.calm;
     }
 
 pub lines-smaller : goal.lines-smaller
@@ -45,3 +48,8 @@ pub returns-clause-read : goal.returns-clause-read
 returns-clause-read g c =
     led_to_end _ _ _ _ _ _ _ c.lines.invariant.led (last_of _ _ _ _ _ _ c.if-branch.false c.in_ok-next_line.ensures.more)
     c.in_ok-next_line.ensures.within
+
+pub returns-in_err-next_line-clause-calm : goal.returns-in_err-next_line-clause-calm
+returns-in_err-next_line-clause-calm g c =
+    let p = err_from_is_err_and c.from_residual.result c.from_residual.ensures.1 in
+    rw (p.1, p.2) (λ unless. calm_line c.in_err-next_line.field-0.0 _ _ c.in_err-next_line.ensures.calm unless ∙ c.lines.invariant.calm)

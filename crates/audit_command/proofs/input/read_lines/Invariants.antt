@@ -9,6 +9,7 @@ invariant-lines g l = record {
   within : l.lines.taken ≤ limit;
   limit_is : l.lines.limit ≡ limit;
   later : g.S.Source.faults l.fn.source ≤ g.S.Source.faults l.source;
+  calm : g.S.Source.faults l.source ≡ g.S.Source.faults l.fn.source;
 }
 
 abbrev pub decreases-lines : goal.decreases-lines

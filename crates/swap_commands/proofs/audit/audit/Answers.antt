@@ -1,5 +1,10 @@
+use Rattle.std.proofs.Common.{ap}
+use Rattle.swap_commands.specs.Says.{status_by}
 use Rattle.swap_commands.proofs.Audits.{says_audit}
 use Rattle.swap_commands.proofs.audit.audit.Goals as goal
 
-pub returns : goal.returns
-returns g c = rw c.status_by.ensures (says_audit _ _ _ _ _ _ _ _ _ _ c.audit.result c.audit.ensures)
+pub returns-clause-says : goal.returns-clause-says
+returns-clause-says g c = rw c.status_by.ensures (says_audit _ _ _ _ _ _ _ _ _ _ c.audit.result c.audit.ensures.says)
+
+pub returns-clause-calm : goal.returns-clause-calm
+returns-clause-calm g c = rw c.status_by.ensures (λ unless. c.audit.ensures.calm (λ e. unless (ap status_by e)))

@@ -2,6 +2,8 @@ use Rattle.deviator_script.specs.declared.job.Purpose.TheVariants as purposes
 use Rattle.swap_commands.specs.declared.words.JobCommand.TheVariants.{Check}
 use Rattle.swap_commands.specs.Replay.{passed_over, replayed}
 use Rattle.swap_commands.proofs.Reading.{against_event, check_says, is_read}
+use Rattle.swap_commands.proofs.Streams.{calm_named}
+use Rattle.swap_io.proofs.Feeds.{calm_after}
 use Rattle.swap_commands.proofs.check.examine.Goals as goal
 
 pub returns-in-Ok-clause-checked : goal.returns-in-Ok-clause-checked
@@ -15,3 +17,8 @@ returns-in-Err-clause-stops g c =
     rw c.with_names.ensures
     (against_event _ (replayed passed_over job 0 tt) Check _ _ _ _ _ (check_says _ _ _ job c.in_ok-job.ensures.header) job.names
     c.in_ok-job.ensures.names c.in-Err.fault _ _ _ c.in_ok-job.ensures.line c.first_line.ensures.later c.in-Err.ensures.stops)
+
+pub returns-in-Err-clause-calm : goal.returns-in-Err-clause-calm
+returns-in-Err-clause-calm g c =
+    rw c.with_names.ensures
+    (calm_named c.in_ok-job.field-0.job.names c.in-Err.fault _ _ _ (calm_after _ _ _ _ c.in_ok-job.ensures.calm) c.in-Err.ensures.calm)

@@ -5,7 +5,7 @@ use Rattle.refusals.specs.declared.reason.Reason.TheVariants.{BadLine}
 use Rattle.swap_commands.specs.Cleared.{IsFurther}
 use Rattle.swap_commands.specs.declared.fault.InputFault.TheVariants.{Refused}
 use Rattle.swap_commands.proofs.Clearings.{further_stops}
-use Rattle.swap_commands.proofs.Streams.{last_of, line_stops}
+use Rattle.swap_commands.proofs.Streams.{calm_line, last_of, line_stops}
 use Rattle.swap_commands.proofs.clear.alone.Goals as goal
 
 pub returns-in_err-next-clause-stops : goal.returns-in_err-next-clause-stops
@@ -30,3 +30,8 @@ returns-clause-stops g c =
     further_stops c.in_ok-next.field-0 (left c.args.source.now) (left c.next.new.source) (faults c.args.source.now) (faults c.next.new.source)
     c.args.input.now c.next.new.self (Refused (record { reason = BadLine c.number.result; names = c.empty.result }))
     c.if-not-branch.false c.in_ok-next.ensures.gives c.in_ok-next.ensures.within c.in_ok-next.ensures.ended (rw (c.number.ensures, c.empty.ensures) refl)
+
+pub returns-in_err-next-clause-calm : goal.returns-in_err-next-clause-calm
+returns-in_err-next-clause-calm g c =
+    let p = err_from_is_err_and c.from_residual.result c.from_residual.ensures.1 in
+    rw (p.1, p.2) (calm_line c.in_err-next.field-0.0 _ _ c.in_err-next.ensures.calm)

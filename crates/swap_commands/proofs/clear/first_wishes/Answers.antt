@@ -6,6 +6,7 @@ use Rattle.swap_commands.specs.Says.{IsAgainst}
 use Rattle.swap_commands.specs.declared.words.Command.TheVariants.{Clear}
 use Rattle.swap_commands.proofs.Clearings.{empty_stops, line_stops}
 use Rattle.swap_commands.proofs.Streams as streams
+use Rattle.swap_commands.proofs.Streams.{calm_line}
 use Rattle.swap_commands.proofs.clear.first_wishes.Goals as goal
 
 pub next-requires : goal.next-requires
@@ -39,3 +40,8 @@ returns-in-Err-clause-stops g c =
     (line_stops has c.in_ok-next.field-0 (left c.args.source.now) (left c.next.new.source) (faults c.args.source.now) (faults c.next.new.source)
     c.args.input.now c.next.new.self c.in-Err.fault c.number.result c.text.result.now c.requires c.if-not-branch.false c.in_ok-next.ensures.gives
     c.in_ok-next.ensures.within c.in_ok-next.ensures.ended c.number.ensures c.text.ensures c.in-Err.ensures.exact)
+
+pub returns-in_err-next-clause-calm : goal.returns-in_err-next-clause-calm
+returns-in_err-next-clause-calm g c =
+    let p = err_from_is_err_and c.from_residual.result c.from_residual.ensures.1 in
+    rw (p.1, p.2) (calm_line c.in_err-next.field-0.0 _ _ c.in_err-next.ensures.calm)

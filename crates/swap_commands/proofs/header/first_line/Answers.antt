@@ -5,7 +5,7 @@ use Rattle.swap_commands.specs.Input.{fresh}
 use Rattle.swap_commands.specs.Says.{IsAgainst}
 use Rattle.swap_commands.specs.declared.words.Command.TheVariants.{OfJob}
 use Rattle.swap_commands.proofs.Reading.{empty_stops, header_stops}
-use Rattle.swap_commands.proofs.Streams.{line_stops}
+use Rattle.swap_commands.proofs.Streams.{calm_line, line_stops}
 use Rattle.swap_commands.proofs.header.first_line.Goals as goal
 
 pub next-requires : goal.next-requires
@@ -40,3 +40,8 @@ returns-in_err-prepared-clause-stops g c =
     (faults c.next.new.source) c.args.input.now c.next.new.self c.in_err-prepared.field-0.0 c.purpose_of.result c.number-number.result c.text.result.now
     c.requires c.if-not-branch.false c.in_ok-next.ensures.gives c.in_ok-next.ensures.within c.in_ok-next.ensures.ended c.purpose_of.ensures
     c.number-number.ensures c.text.ensures c.in_err-prepared.ensures.exact)
+
+pub returns-in_err-next-clause-calm : goal.returns-in_err-next-clause-calm
+returns-in_err-next-clause-calm g c =
+    let p = err_from_is_err_and c.from_residual.result c.from_residual.ensures.1 in
+    rw (p.1, p.2) (calm_line c.in_err-next.field-0.0 _ _ c.in_err-next.ensures.calm)

@@ -1,9 +1,17 @@
+use Rattle.std.proofs.lemmas.Result.{err_from_is_err_and}
 use Rattle.deviator_script.specs.declared.job.Purpose.TheVariants as purposes
 use Rattle.swap_gen.specs.Made.{made}
 use Rattle.made_jobs.specs.Making.{copied, written_line}
 use Rattle.swap_commands.specs.declared.words.JobCommand.TheVariants.{Make}
 use Rattle.swap_commands.proofs.Reading.{against_event, is_read, make_says}
+use Rattle.swap_commands.proofs.Streams.{calm_named, line_part}
+use Rattle.swap_io.proofs.Feeds.{calm_after}
 use Rattle.swap_commands.proofs.make.copy.Goals as goal
+
+pub returns-in_err-text-clause-stops : goal.returns-in_err-text-clause-stops
+returns-in_err-text-clause-stops g c =
+    let p = err_from_is_err_and c.from_residual-in_err-text.result c.from_residual-in_err-text.ensures.1 in
+    rw (p.1, p.2) (line_part _ _ _ _ c.in_ok-job.ensures.line c.in_ok-job.ensures.within)
 
 pub returns-in-Ok-clause-copied : goal.returns-in-Ok-clause-copied
 returns-in-Ok-clause-copied g c =
@@ -17,3 +25,8 @@ returns-in-Err-clause-stops g c =
     (against_event _ (copied 0 (written_line (made job))) Make _ _ _ _ _ (make_says _ _ _ job c.in_ok-job.ensures.header) job.names
     c.in_ok-job.ensures.names c.in-Err.fault _ _ _ c.in_ok-job.ensures.line c.first_line.ensures.later
     (rw c.in_ok-text.ensures.line at c.in-Err.ensures.stops))
+
+pub returns-in-Err-clause-calm : goal.returns-in-Err-clause-calm
+returns-in-Err-clause-calm g c =
+    rw c.with_names.ensures
+    (calm_named c.in_ok-job.field-0.job.names c.in-Err.fault _ _ _ (calm_after _ _ _ _ c.in_ok-job.ensures.calm) c.in-Err.ensures.calm)

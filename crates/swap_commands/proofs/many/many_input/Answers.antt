@@ -1,16 +1,20 @@
+use Rattle.std.proofs.Common.{inl}
 use Rattle.std.proofs.KnownBytes.{Keeps-refl}
+use Rattle.offer_header.specs.Names.{has_strategy}
 use Rattle.swap_commands.specs.declared.words.Command.TheVariants.{Many}
 use Rattle.swap_commands.proofs.ManySaying.{last_same, says_many}
 use Rattle.swap_commands.proofs.ManyWorlds.{chains_shown, worlds_shown}
-use Rattle.swap_commands.proofs.Saying.{says_unread}
+use Rattle.swap_commands.proofs.Saying.{all_consumed, says_unread}
+use Rattle.swap_io.proofs.Feeds.{calm_after}
+use Rattle.swap_commands.proofs.Streams.{calm_fault}
 use Rattle.swap_commands.proofs.many.many_input.Goals as goal
 
-pub returns-in-Err : goal.returns-in-Err
-returns-in-Err g c =
+pub returns-in-Err-clause-says : goal.returns-in-Err-clause-says
+returns-in-Err-clause-says g c =
     let left = g.S.Source.left c.args.source.now in
     let faults = g.S.Source.faults c.args.source.now in
     says_unread _ _ Many left _ faults _ _ _ _ _ (Keeps-refl (g.K.Sink.taken c.args.sink.now)) c.stop.result
-    (c.stop.ensures _ Many left faults c.play.ensures.later c.in-Err.ensures.stops)
+    (c.stop.ensures.says _ Many left faults c.play.ensures.later c.in-Err.ensures.stops)
 
 pub tell-requires-clause-shown : goal.tell-requires-clause-shown
 tell-requires-clause-shown g c =
@@ -26,7 +30,25 @@ tell-requires-clause-chains g c =
     let same = last_same _ _ e.bytes c.in-Ok.played.many c.in-Ok.played.finish c.in-Ok.played.world c.in-Ok-conclude.world k c.in-Ok-conclude.ensures in
     chains_shown _ c.in-Ok.played.many k.begun.places c.in-Ok.ensures.swaps c.in-Ok.ensures.chains c.in-Ok-conclude.world same
 
-pub returns : goal.returns
-returns g c =
+pub returns-in_default-clause-says : goal.returns-in_default-clause-says
+returns-in_default-clause-says g c =
+    let has = has_strategy c.args.kit.now.names c.args.kit.now.strategies.items in
+    let e = c.in-Ok.ensures.played in
+    inl (Keeps-refl (g.K.Sink.taken c.args.sink.now), all_consumed has _ _ _ c.play.new.input e)
+
+pub returns-clause-says : goal.returns-clause-says
+returns-clause-says g c =
     says_many _ _ _ _ _ _ _ _ _ _ c.play.new.input c.in-Ok.played.many c.in-Ok.played.finish c.in-Ok.played.world c.in-Ok-conclude.world c.tell.result
     c.in-Ok.ensures.played c.in-Ok.ensures.swaps c.in-Ok-conclude.ensures c.tell.ensures
+
+-- No read failed, unless the status tells of it.
+
+pub returns-in-Err-clause-calm : goal.returns-in-Err-clause-calm
+returns-in-Err-clause-calm g c =
+    c.stop.ensures.calm (g.S.Source.faults c.args.source.now) (calm_fault c.in-Err.fault _ _ c.in-Err.ensures.calm)
+
+pub returns-in_default-clause-calm : goal.returns-in_default-clause-calm
+returns-in_default-clause-calm g c = λ unless. calm_after _ _ _ _ c.in-Ok.ensures.calm
+
+pub returns-clause-calm : goal.returns-clause-calm
+returns-clause-calm g c = λ unless. calm_after _ _ _ _ c.in-Ok.ensures.calm

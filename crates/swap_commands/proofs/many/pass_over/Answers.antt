@@ -1,9 +1,10 @@
-use Rattle.std.proofs.Common.{◌≡◌, Err, arith}
+use Rattle.std.proofs.Common.{◌≡◌, Err, arith, refl, ◌∙◌}
 use Rattle.std.proofs.lemmas.Result.{err_from_is_err_and}
+use Rattle.swap_io.proofs.Feeds.{calm_after}
 use Rattle.swap_commands.specs.Input.{ahead}
 use Rattle.swap_commands.specs.Many.{events_told}
 use Rattle.swap_commands.proofs.ManyTold.{all_told, line_refused, one_told, telling_none}
-use Rattle.swap_commands.proofs.Streams.{last_of, line_of, line_stops, some_led}
+use Rattle.swap_commands.proofs.Streams.{calm_line, last_of, line_of, line_stops, some_led}
 use Rattle.swap_commands.proofs.many.pass_over.Goals as goal
 
 pub lines-init : goal.lines-init
@@ -12,6 +13,7 @@ lines-init g c = record {
   ended = c.requires.ended;
   counted = omega arith;
   later = omega arith;
+  calm = refl;
 }
 
 pub returns-in_err-next-clause-stops : goal.returns-in_err-next-clause-stops
@@ -38,6 +40,7 @@ lines-preserved g c =
       ended = c.in_ok-next.ensures.ended;
       counted = omega (arith, i.counted, line.counted);
       later = omega (arith, i.later, c.next.ensures.later);
+      calm = calm_after _ _ _ _ c.in_ok-next.ensures.calm ∙ c.lines.invariant.calm;
     }
 
 pub overflow_add-count : goal.overflow_add-count
@@ -54,3 +57,8 @@ pub returns-clause-told : goal.returns-clause-told
 returns-clause-told g c =
     all_told c.args.many.now _ _ _ _ _ _ _ c.lines.invariant.telling (last_of _ _ _ _ _ c.if-branch.false c.in_ok-next.ensures.gives)
     c.in_ok-next.ensures.within c.in_ok-next.ensures.ended
+
+pub returns-in_err-next-clause-calm : goal.returns-in_err-next-clause-calm
+returns-in_err-next-clause-calm g c =
+    let p = err_from_is_err_and c.from_residual.result c.from_residual.ensures.1 in
+    rw (p.1, p.2) (λ unless. calm_line c.in_err-next.field-0.0 _ _ c.in_err-next.ensures.calm unless ∙ c.lines.invariant.calm)

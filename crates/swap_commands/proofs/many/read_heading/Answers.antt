@@ -1,13 +1,15 @@
-use Rattle.std.proofs.Common.{◌≡◌, ◌+◌, ◌∙◌, Err, arith, false, is_some, not, sym, ap, subst}
+use Rattle.std.proofs.Common.{◌≡◌, ◌+◌, ◌∙◌, Err, arith, false, is_some, not, sym, ap, subst, refl}
 use Rattle.std.proofs.lemmas.Result.{err_from_is_err_and}
 use Rattle.offer_header.specs.Names.{has_strategy}
 use Rattle.many_lines.specs.Heading.{HeadingState, finish_told, unread}
 use Rattle.many_lines.specs.Whole.{HoldsEverySwap}
+use Rattle.swap_io.proofs.Feeds.{calm_after}
 use Rattle.swap_commands.specs.Input.{At, ahead, fresh}
 use Rattle.swap_commands.specs.Many.{headed}
+use Rattle.swap_commands.proofs.Ahead.{no_part}
 use Rattle.swap_commands.proofs.ManyTold.{heading_cut, heading_next, heading_read, heading_step, heading_walk}
 use Rattle.swap_commands.proofs.ManyWorlds.{unread_holds}
-use Rattle.swap_commands.proofs.Streams.{Led, last_of, led_none, led_on_at, led_to_fault_at, line_of, line_stops, some_led}
+use Rattle.swap_commands.proofs.Streams.{calm_line, Led, last_of, led_none, led_on_at, led_to_fault_at, line_of, line_stops, some_led}
 use Rattle.swap_commands.proofs.many.read_heading.Goals as goal
 
 pub lines-init : goal.lines-init
@@ -24,8 +26,15 @@ lines-init g c =
       );
       held = subst (λ (h : HeadingState). HoldsEverySwap has h.many) (sym new) (unread_holds has);
       ended = λ over. absurd (cc (sym (ap (λ (i : At). i.over) first) ∙ over));
+      within = let e = ap (λ (i : At). i.reading.taken) first in omega arith;
       later = omega arith;
+      calm = refl;
     }
+
+pub returns-in_err-heading-clause-stops : goal.returns-in_err-heading-clause-stops
+returns-in_err-heading-clause-stops g c =
+    let p = err_from_is_err_and c.from_residual.result c.from_residual.ensures.1 in
+    rw (p.1, p.2, c.requires) (no_part (g.S.Source.left c.args.source.now) fresh (omega arith))
 
 pub returns-in_err-next-clause-stops : goal.returns-in_err-next-clause-stops
 returns-in_err-next-clause-stops g c =
@@ -57,7 +66,9 @@ lines-preserved g c =
       );
       held = c.in_ok-push.ensures.held i.held;
       ended = c.in_ok-next.ensures.ended;
+      within = c.in_ok-next.ensures.within;
       later = omega (arith, i.later, c.next.ensures.later);
+      calm = calm_after _ _ _ _ c.in_ok-next.ensures.calm ∙ c.lines.invariant.calm;
     }
 
 pub returns-in_err-push-clause-stops : goal.returns-in_err-push-clause-stops
@@ -77,3 +88,8 @@ pub returns-clause-heading : goal.returns-clause-heading
 returns-clause-heading g c =
     heading_read _ _ _ c.lines.input c.lines.invariant.led.0 c.lines.heading c.lines.invariant.led.1
     (ap is_some (sym c.finish.ensures) ∙ (c.is_none.ensures ∙ ap not c.lines-test.false))
+
+pub returns-in_err-next-clause-calm : goal.returns-in_err-next-clause-calm
+returns-in_err-next-clause-calm g c =
+    let p = err_from_is_err_and c.from_residual-in_err-next.result c.from_residual-in_err-next.ensures.1 in
+    rw (p.1, p.2) (λ unless. calm_line c.in_err-next.field-0.0 _ _ c.in_err-next.ensures.calm unless ∙ c.lines.invariant.calm)

@@ -1,4 +1,4 @@
-use Rattle.std.proofs.Common.{◌≤◌, ◌-◌, ℕ}
+use Rattle.std.proofs.Common.{◌≡◌, ◌≤◌, ◌-◌, ℕ}
 use Rattle.offer_header.specs.Names.{has_strategy}
 use Rattle.many_lines.specs.Heading.{unread}
 use Rattle.many_lines.specs.Whole.{HoldsEverySwap}
@@ -13,7 +13,9 @@ invariant-lines g l = record {
       (g.S.Source.left l.source) l.input count l.heading;
   held : HoldsEverySwap (has_strategy l.kit.names l.kit.strategies.items) l.heading.many;
   ended : EndsAt (g.S.Source.left l.source) l.input;
+  within : l.input.reading.taken ≤ limit;
   later : g.S.Source.faults l.fn.source ≤ g.S.Source.faults l.source;
+  calm : g.S.Source.faults l.source ≡ g.S.Source.faults l.fn.source;
 }
 
 abbrev pub decreases-lines : goal.decreases-lines

@@ -1,11 +1,12 @@
-use Rattle.std.proofs.Common.{◌≡◌, Err, arith}
+use Rattle.std.proofs.Common.{◌≡◌, Err, arith, refl, ◌∙◌}
 use Rattle.std.proofs.lemmas.Result.{err_from_is_err_and}
 use Rattle.swap_many.proofs.Values.{held_same}
+use Rattle.swap_io.proofs.Feeds.{calm_after}
 use Rattle.swap_commands.specs.Input.{ahead}
 use Rattle.swap_commands.specs.Many.{events_told}
 use Rattle.swap_commands.proofs.ManyTold.{are_replayed, line_refused, none_yet, one_more}
 use Rattle.swap_commands.proofs.ManyWorlds.{still_of}
-use Rattle.swap_commands.proofs.Streams.{last_of, line_of, line_stops, some_led}
+use Rattle.swap_commands.proofs.Streams.{calm_line, last_of, line_of, line_stops, some_led}
 use Rattle.swap_commands.proofs.many.replay.Goals as goal
 
 pub lines-init : goal.lines-init
@@ -16,6 +17,7 @@ lines-init g c = record {
   ended = c.requires.ended;
   counted = omega arith;
   later = omega arith;
+  calm = refl;
 }
 
 pub returns-in_err-next-clause-stops : goal.returns-in_err-next-clause-stops
@@ -46,6 +48,7 @@ lines-preserved g c =
       ended = c.in_ok-next.ensures.ended;
       counted = omega (arith, i.counted, line.counted);
       later = omega (arith, i.later, c.next.ensures.later);
+      calm = calm_after _ _ _ _ c.in_ok-next.ensures.calm ∙ c.lines.invariant.calm;
     }
 
 pub overflow_add-count : goal.overflow_add-count
@@ -62,3 +65,8 @@ pub returns-clause-replayed : goal.returns-clause-replayed
 returns-clause-replayed g c =
     are_replayed (g.T.Strategies.gives c.args.kit.now) c.args.many.now _ _ _ _ _ _ _ _ _ c.lines.invariant.on
     (last_of _ _ _ _ _ c.if-branch.false c.in_ok-next.ensures.gives) c.in_ok-next.ensures.within c.in_ok-next.ensures.ended
+
+pub returns-in_err-next-clause-calm : goal.returns-in_err-next-clause-calm
+returns-in_err-next-clause-calm g c =
+    let p = err_from_is_err_and c.from_residual.result c.from_residual.ensures.1 in
+    rw (p.1, p.2) (λ unless. calm_line c.in_err-next.field-0.0 _ _ c.in_err-next.ensures.calm unless ∙ c.lines.invariant.calm)

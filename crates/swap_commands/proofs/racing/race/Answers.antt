@@ -20,4 +20,4 @@ returns-in-Ok g c = λ left left' n m e.
     c.requires.can.purpose c.in-Ok.ensures.book c.tell.ensures
 
 pub returns-in-Err-NoMemory : goal.returns-in-Err-NoMemory
-returns-in-Err-NoMemory g c = λ left left' n m e. inl (Keeps-refl (g.K.Sink.taken c.args.sink.now))
+returns-in-Err-NoMemory g c = λ left left' n m e. inl (Keeps-refl (g.K.Sink.taken c.args.sink.now), (e.input, e.within, e.taken))

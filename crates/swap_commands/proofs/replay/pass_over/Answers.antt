@@ -1,13 +1,14 @@
-use Rattle.std.proofs.Common.{◌≡◌, Err, arith}
+use Rattle.std.proofs.Common.{◌≡◌, Err, arith, refl, ◌∙◌}
 use Rattle.std.proofs.lemmas.Result.{err_from_is_err_and}
+use Rattle.swap_io.proofs.Feeds.{calm_after}
 use Rattle.swap_commands.specs.Input.{ahead}
 use Rattle.swap_commands.specs.Replay.{next_by, passed_over, replayed}
 use Rattle.swap_commands.proofs.Replays.{none_left, step_of}
-use Rattle.swap_commands.proofs.Streams.{last_of, led_none, led_on, led_to_end, led_to_fault, line_of, line_stops, some_led}
+use Rattle.swap_commands.proofs.Streams.{calm_line, last_of, led_none, led_on, led_to_end, led_to_fault, line_of, line_stops, some_led}
 use Rattle.swap_commands.proofs.replay.pass_over.Goals as goal
 
 pub lines-init : goal.lines-init
-lines-init g c = record { led = led_none _ _ _ _; ended = c.requires.ended; counted = omega arith; later = omega arith }
+lines-init g c = record { led = led_none _ _ _ _; ended = c.requires.ended; counted = omega arith; later = omega arith; calm = refl }
 
 pub returns-in_err-next-clause-stops : goal.returns-in_err-next-clause-stops
 returns-in_err-next-clause-stops g c =
@@ -37,6 +38,7 @@ lines-preserved g c =
       ended = c.in_ok-next.ensures.ended;
       counted = omega (arith, c.lines.invariant.counted, line.counted);
       later = omega (arith, c.lines.invariant.later, c.next.ensures.later);
+      calm = calm_after _ _ _ _ c.in_ok-next.ensures.calm ∙ c.lines.invariant.calm;
     }
 
 pub overflow_add-count : goal.overflow_add-count
@@ -53,3 +55,8 @@ pub returns-clause-exact : goal.returns-clause-exact
 returns-clause-exact g c =
     led_to_end _ _ _ _ (λ y. y) (none_left passed_over c.args.job.now) _ _ _ _ _ _ c.lines.invariant.led
     (last_of _ _ _ _ _ c.if-branch.false c.in_ok-next.ensures.gives) c.in_ok-next.ensures.within c.in_ok-next.ensures.ended
+
+pub returns-in_err-next-clause-calm : goal.returns-in_err-next-clause-calm
+returns-in_err-next-clause-calm g c =
+    let p = err_from_is_err_and c.from_residual.result c.from_residual.ensures.1 in
+    rw (p.1, p.2) (λ unless. calm_line c.in_err-next.field-0.0 _ _ c.in_err-next.ensures.calm unless ∙ c.lines.invariant.calm)

@@ -1,4 +1,4 @@
-use Rattle.std.proofs.Common.{◌≤◌, ◌-◌}
+use Rattle.std.proofs.Common.{◌≡◌, ◌≤◌, ◌-◌}
 use Rattle.swap_commands.specs.Input.{EndsAt, limit}
 use Rattle.swap_commands.specs.Replay.{passed_over, replayed}
 use Rattle.swap_commands.proofs.Streams.{Led}
@@ -10,6 +10,7 @@ invariant-lines g l = record {
   ended : EndsAt (g.S.Source.left l.source) l.input;
   counted : l.count ≤ l.input.number;
   later : g.S.Source.faults l.fn.source ≤ g.S.Source.faults l.source;
+  calm : g.S.Source.faults l.source ≡ g.S.Source.faults l.fn.source;
 }
 
 abbrev pub decreases-lines : goal.decreases-lines

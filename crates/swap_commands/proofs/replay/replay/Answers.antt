@@ -1,15 +1,17 @@
-use Rattle.std.proofs.Common.{◌≡◌, Err, arith, refl, sym, ap, subst}
+use Rattle.std.proofs.Common.{◌≡◌, Err, arith, refl, sym, ap, subst, ◌∙◌}
 use Rattle.std.proofs.lemmas.Result.{err_from_is_err_and}
 use Rattle.swap_run.specs.Run.{start, step}
 use Rattle.swap_world.specs.Cast.{cast_of}
 use Rattle.swap_world.specs.Value.{WorldState}
 use Rattle.swap_world.specs.Gone.{HasAsked}
 use Rattle.swap_world.proofs.Gone.{more_asked, nothing_asked}
+use Rattle.swap_io.proofs.Feeds.{calm_after}
 use Rattle.swap_commands.specs.Input.{ahead}
 use Rattle.swap_commands.specs.Output.{cast_by}
 use Rattle.swap_commands.specs.Replay.{next_by, passed_over, replayed}
+use Rattle.swap_commands.proofs.Ahead.{no_part}
 use Rattle.swap_commands.proofs.Replays.{is_of_new, none_left, step_of}
-use Rattle.swap_commands.proofs.Streams.{Led, last_of, led_none, led_on, led_to_end, led_to_fault, line_of, line_stops, some_led}
+use Rattle.swap_commands.proofs.Streams.{calm_line, Led, last_of, led_none, led_on, led_to_end, led_to_fault, line_of, line_stops, some_led}
 use Rattle.swap_commands.proofs.replay.replay.Goals as goal
 
 pub lines-init : goal.lines-init
@@ -28,7 +30,13 @@ lines-init g c =
       ended = c.requires.ended;
       counted = omega arith;
       later = omega arith;
+      calm = refl;
     }
+
+pub returns-in_err-world-clause-stops : goal.returns-in_err-world-clause-stops
+returns-in_err-world-clause-stops g c =
+    let p = err_from_is_err_and c.from_residual.result c.from_residual.ensures.1 in
+    rw (p.1, p.2) (no_part (g.S.Source.left c.args.source.now) c.args.input.now c.requires.within)
 
 pub returns-in_err-next-clause-stops : goal.returns-in_err-next-clause-stops
 returns-in_err-next-clause-stops g c =
@@ -66,6 +74,7 @@ lines-preserved g c =
       ended = c.in_ok-next.ensures.ended;
       counted = omega (arith, i.counted, line.counted);
       later = omega (arith, i.later, c.next.ensures.later);
+      calm = calm_after _ _ _ _ c.in_ok-next.ensures.calm ∙ c.lines.invariant.calm;
     }
 
 pub overflow_add-count : goal.overflow_add-count
@@ -83,3 +92,8 @@ returns-clause-exact g c = λ a x.
     let job = c.args.job.now in
     led_to_end _ _ _ _ (λ y. y) (none_left (step (cast_by a job)) job) _ _ _ _ _ _ (c.lines.invariant.led a x)
     (last_of _ _ _ _ _ c.if-branch.false c.in_ok-next.ensures.gives) c.in_ok-next.ensures.within c.in_ok-next.ensures.ended
+
+pub returns-in_err-next-clause-calm : goal.returns-in_err-next-clause-calm
+returns-in_err-next-clause-calm g c =
+    let p = err_from_is_err_and c.from_residual-in_err-next.result c.from_residual-in_err-next.ensures.1 in
+    rw (p.1, p.2) (λ unless. calm_line c.in_err-next.field-0.0 _ _ c.in_err-next.ensures.calm unless ∙ c.lines.invariant.calm)

@@ -21,6 +21,7 @@ invariant-lines g l = record {
   ended : EndsAt (g.S.Source.left l.source) l.input;
   counted : l.count ≤ l.input.number;
   later : g.S.Source.faults l.fn.source ≤ g.S.Source.faults l.source;
+  calm : g.S.Source.faults l.source ≡ g.S.Source.faults l.fn.source;
 }
 
 abbrev pub decreases-lines : goal.decreases-lines

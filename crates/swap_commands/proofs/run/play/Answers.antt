@@ -6,6 +6,8 @@ use Rattle.swap_commands.specs.Output.{cast_by}
 use Rattle.swap_commands.specs.Replay.{passed_over, replayed}
 use Rattle.swap_commands.proofs.Reading.{against_event, is_read, run_says}
 use Rattle.swap_commands.proofs.Replays.{held}
+use Rattle.swap_commands.proofs.Streams.{calm_named}
+use Rattle.swap_io.proofs.Feeds.{calm_after}
 use Rattle.swap_commands.proofs.run.play.Goals as goal
 
 pub replay-requires-clause-kit : goal.replay-requires-clause-kit
@@ -26,3 +28,8 @@ returns-in-Err-clause-stops g c =
     (against_event _ (replayed passed_over job 0 tt) (Run c.args.transcript) _ _ _ _ _
     (run_says _ c.args.transcript _ _ job c.in_ok-job.ensures.header) job.names c.in_ok-job.ensures.names c.in-Err.fault _ _ _ c.in_ok-job.ensures.line
     c.first_line.ensures.later c.in-Err.ensures.stops)
+
+pub returns-in-Err-clause-calm : goal.returns-in-Err-clause-calm
+returns-in-Err-clause-calm g c =
+    rw c.with_names.ensures
+    (calm_named c.in_ok-job.field-0.job.names c.in-Err.fault _ _ _ (calm_after _ _ _ _ c.in_ok-job.ensures.calm) c.in-Err.ensures.calm)

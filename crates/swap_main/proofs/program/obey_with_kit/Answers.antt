@@ -13,4 +13,4 @@ returns-clause-says g c =
     (g.K.Sink.faults c.args.sink.now) (g.K.Sink.faults c.obey.new.sink) c.obey.result)
     (has_known kit.names kit.strategies.items c.in_ok-kit.ensures.names kit.paired)
     (obeys_more _ (by_rule program_rule) c.in_ok-kit.ensures.decided _ c.args.command _ _ _ _ _ _
-    (g.K.Sink.faults c.args.sink.now) (g.K.Sink.faults c.obey.new.sink) c.obey.result c.obey.ensures)
+    (g.K.Sink.faults c.args.sink.now) (g.K.Sink.faults c.obey.new.sink) c.obey.result c.obey.ensures.says)

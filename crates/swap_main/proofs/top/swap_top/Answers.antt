@@ -42,7 +42,7 @@ returns-in-Some-race_in-clause-words g c =
     let words : List (List ℕ) = map string_bytes c.args.words.now.items in
     let asked : task_of words ≡ Some c.in-Some.task = rw (sym c.deref.ensures.value) (sym c.in-Ok.ensures.exact ∙ c.in-Some.is) in
     let is = asked ∙ ap (λ (t : Task). Some t) c.in-Some-race_in.ensures.some in (
-      λ e. absurd (tasks.not_wrong_words _ _ words _ _ _ _ _ _ _ _ _ is c.perform_race.result c.perform_race.ensures e),
+      λ e. absurd (tasks.not_wrong_words _ _ words _ _ _ _ _ _ _ _ _ is c.perform_race.result c.perform_race.ensures.says e),
       λ none. absurd (cc (sym asked ∙ no_task words none)),
     )
 
@@ -63,7 +63,7 @@ returns-in-Some-race_in-clause-unread g c e =
     let words : List (List ℕ) = map string_bytes c.args.words.now.items in
     let asked : task_of words ≡ Some c.in-Some.task = rw (sym c.deref.ensures.value) (sym c.in-Ok.ensures.exact ∙ c.in-Some.is) in
     let is = asked ∙ ap (λ (t : Task). Some t) c.in-Some-race_in.ensures.some in
-    absurd (tasks.not_wrong_words _ _ words _ _ _ _ _ _ _ _ _ is c.perform_race.result c.perform_race.ensures e)
+    absurd (tasks.not_wrong_words _ _ words _ _ _ _ _ _ _ _ _ is c.perform_race.result c.perform_race.ensures.says e)
 
 pub returns-in-None-clause-unread_by_number : goal.returns-in-None-clause-unread_by_number
 returns-in-None-clause-unread_by_number g c request number =
@@ -89,7 +89,7 @@ returns-in-Some-race_in-clause-answer g c =
     let words : List (List ℕ) = map string_bytes c.args.words.now.items in
     let asked : task_of words ≡ Some c.in-Some.task = rw (sym c.deref.ensures.value) (sym c.in-Ok.ensures.exact ∙ c.in-Some.is) in
     let is = asked ∙ ap (λ (t : Task). Some t) c.in-Some-race_in.ensures.some in
-    tasks.answer _ _ words _ _ _ _ _ _ _ _ _ is c.perform_race.result c.perform_race.ensures
+    tasks.answer _ _ words _ _ _ _ _ _ _ _ _ is c.perform_race.result c.perform_race.ensures.says
 
 pub returns-in_default-asked-clause-answer : goal.returns-in_default-asked-clause-answer
 returns-in_default-asked-clause-answer g c =

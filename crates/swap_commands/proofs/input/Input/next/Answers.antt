@@ -1,11 +1,12 @@
-use Rattle.std.proofs.Common.{arith, sym}
+use Rattle.std.proofs.Common.{arith, sym, refl, ◌∙◌}
 use Rattle.std.proofs.lemmas.Result.{err_from_is_err_and}
+use Rattle.swap_io.proofs.Feeds.{calm_after}
 use Rattle.swap_commands.proofs.Ahead.{fails_on, is_last, is_line, passed_end, passed_none, passed_on, passed_past, past_less}
 use Rattle.swap_commands.proofs.Streams.{got_line, got_none}
 use Rattle.swap_commands.proofs.input.Input.next.Goals as goal
 
 pub lines-init : goal.lines-init
-lines-init g c = record { passed = passed_none _ _; ended = c.requires.ended; later = omega arith }
+lines-init g c = record { passed = passed_none _ _; ended = c.requires.ended; later = omega arith; calm = refl }
 
 pub returns-in_err-read_line-clause-fails : goal.returns-in_err-read_line-clause-fails
 returns-in_err-read_line-clause-fails g c =
@@ -35,6 +36,7 @@ lines-preserved g c =
       passed = passed_past _ _ _ _ (passed_on _ _ _ _ _ _ c.lines.invariant.passed (sym c.lines-test.ensures.over) line blank);
       ended = c.in_ok-read_line.ensures.ended;
       later = omega (arith, c.lines.invariant.later, c.read_line.ensures.later);
+      calm = calm_after _ _ _ _ c.in_ok-read_line.ensures.calm ∙ c.lines.invariant.calm;
     })
 
 pub lines-smaller : goal.lines-smaller

@@ -1,4 +1,4 @@
-use Rattle.std.proofs.Common.{◌≤◌}
+use Rattle.std.proofs.Common.{◌≡◌, ◌≤◌}
 use Rattle.swap_commands.specs.Input.{EndsAt, to_go}
 use Rattle.swap_commands.proofs.Ahead.{Passed}
 use Rattle.swap_commands.proofs.input.Input.next.Given as goal
@@ -8,6 +8,7 @@ invariant-lines g l = record {
   passed : Passed (g.S.Source.left l.fn.source) (g.S.Source.left l.source) l.fn.self l.self;
   ended : EndsAt (g.S.Source.left l.source) l.self;
   later : g.S.Source.faults l.fn.source ≤ g.S.Source.faults l.source;
+  calm : g.S.Source.faults l.source ≡ g.S.Source.faults l.fn.source;
 }
 
 abbrev pub decreases-lines : goal.decreases-lines

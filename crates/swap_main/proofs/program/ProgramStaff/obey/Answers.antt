@@ -1,0 +1,12 @@
+use Rattle.std.proofs.Common.{inl, refl}
+use Rattle.std.proofs.KnownBytes.{Keeps-refl}
+use Rattle.swap_commands.proofs.Saying.{none_consumed}
+use Rattle.swap_main.proofs.program.ProgramStaff.obey.Goals as goal
+
+pub returns-in-Err-clause-says : goal.returns-in-Err-clause-says
+returns-in-Err-clause-says g c =
+    rw (c.in-Err.ensures.unread, c.in-Err.ensures.unwritten)
+    (inl (Keeps-refl (g.K.Sink.taken c.args.sink.now), none_consumed (g.S.Source.left c.args.source.now)))
+
+pub returns-in-Err-clause-calm : goal.returns-in-Err-clause-calm
+returns-in-Err-clause-calm g c = rw c.in-Err.ensures.unread (λ unless. refl)
