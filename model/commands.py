@@ -10,10 +10,12 @@ from .many import many
 from .offer import MOST_EVENTS, PLAIN, Offer, Refused, examine_seeds, header_of, job_of, lines_of, refuse
 from .play import race, run
 from .texts import check_text, compact, joined, made_header, report, summary, transcript
-from .transcripts import MOST_BYTES, replayed, transcript_of
+from .transcripts import MOST_BYTES, Reader, replayed, transcript_of
+from .wallet import wallet_lines
 
 USAGE = ("usage: swap check | run [--transcript] | race [--ticks K] [--transcript] | audit | make"
          " | gen --seed S --parties N --events E [--summary] | clear | many")
+PARTY_USAGE = "usage: party NAME"
 FOUND_NOTHING, FOUND, WRONG_WORDS, REFUSED, TOO_LONG = 0, 1, 2, 3, 7
 
 
@@ -95,7 +97,7 @@ def race_job(text, options):
 
 def audit(text, _options):
     """`audit` replays a transcript and writes the report of its job and its ledgers."""
-    offer, stated = transcript_of(text)
+    offer, stated = transcript_of(Reader(text))
     return report(replayed(offer, stated), offer.conforming)
 
 
@@ -150,12 +152,25 @@ def answer(words, text):
     """The status, the output and the standard error for words and an input."""
     asked = command_of(words)
     if asked is None:
-        return Answer(WRONG_WORDS, b"", ("swap: wrong words\n%s\n" % USAGE).encode())
+        return wrong_words(USAGE)
     command, options = asked
-    if command != "gen" and len(text) > MOST_BYTES:
+    return answer_to(COMMANDS[command], b"" if command == "gen" else text, options)
+
+
+def party_answer(words, text):
+    """The same of the program `party`."""
+    return answer_to(wallet_lines, text, words[0]) if len(words) == 1 else wrong_words(PARTY_USAGE)
+
+
+def wrong_words(usage):
+    return Answer(WRONG_WORDS, b"", ("swap: wrong words\n%s\n" % usage).encode())
+
+
+def answer_to(command, text, asked):
+    if len(text) > MOST_BYTES:
         return Answer(TOO_LONG, b"", b"swap: too long\n")
     try:
-        out, found = COMMANDS[command](text, options)
+        out, found = command(text, asked)
     except Refused as why:
         return Answer(REFUSED, b"", ("swap: refused: %s\n" % " ".join(map(printable, why.args))).encode())
     return Answer(FOUND if found else FOUND_NOTHING, out, b"")

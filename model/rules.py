@@ -80,33 +80,39 @@ class View:
 # ---- what is due
 
 def first_due(view, party, seed, signed):
-    """The first call that is due for a party over what it knows, as an arc and a call, or None.
+    """The first call that is due for a party, as an arc and a call, or None."""
+    return next(all_due(view, party, seed, signed), None)
 
-    Due, by rule and then by arc, each on an arc on which the party has no such call yet. `signed` are the hashkeys that it noted.
+
+def all_due(view, party, seed, signed):
+    """The calls that are due for a party over what it knows: by rule and then by arc, each on an arc on which the party has no such call yet.
+
+    `signed` are the hashkeys that it noted.
     """
-    deal, is_ready = view.deal, view.is_ready(party)
-    return (due_publish(view, party, is_ready) or (is_ready and due_unlock(view, party, seed, signed))
-            or due_claim(view, party) or due_refund(view, party) or None)
+    is_ready = view.is_ready(party)
+    yield from due_publishes(view, party, is_ready)
+    if is_ready:
+        yield from due_unlocks(view, party, seed, signed)
+    yield from due_claims(view, party)
+    yield from due_refunds(view, party)
 
 
-def due_publish(view, party, is_ready):
+def due_publishes(view, party, is_ready):
     """A publish of the correct terms on each leaving arc: for a leader at once, for a follower where it is ready."""
     if party in view.deal.leaders or is_ready:
         for arc in view.deal.leaving[party]:
             if not view.calls(party, arc, PUBLISH):
-                return arc, Call(PUBLISH, view.ledgers[arc].correct_terms)
-    return None
+                yield arc, Call(PUBLISH, view.ledgers[arc].correct_terms)
 
 
-def due_unlock(view, party, seed, signed):
+def due_unlocks(view, party, seed, signed):
     """Where the party is ready, an unlock for each lock on each entering arc, by lock and then by arc, with its hashkey for the lock."""
     for lock in view.deal.locks:
         for arc in view.deal.entering[party]:
             if not view.calls(party, arc, UNLOCK, lock):
                 hashkey = due_key(view, party, lock, seed, signed)
                 if hashkey:
-                    return arc, Call(UNLOCK, hashkey)
-    return None
+                    yield arc, Call(UNLOCK, hashkey)
 
 
 def due_key(view, party, lock, seed, signed):
@@ -124,21 +130,29 @@ def due_key(view, party, lock, seed, signed):
     return extended(deal.id, inner, party, seed) if deal.is_keyed else inner
 
 
-def due_claim(view, party):
+def due_claims(view, party):
     """A claim on each entering arc that is correct and triggered."""
     for arc in view.deal.entering[party]:
         if view.is_triggered(arc) and view.is_correct(arc) and not view.calls(party, arc, CLAIM):
-            return arc, Call(CLAIM)
-    return None
+            yield arc, Call(CLAIM)
 
 
-def due_refund(view, party):
+def due_refunds(view, party):
     """A refund on each leaving arc that was published, is neither settled nor triggered, and is known above the expiry of a closed lock."""
     for arc in view.deal.leaving[party]:
-        if view.published(arc) and not view.settled(arc) and not view.is_triggered(arc):
-            if view.height(arc) > view.least_expiry(arc) and not view.calls(party, arc, REFUND):
-                return arc, Call(REFUND)
-    return None
+        if is_refundable(view, party, arc) and view.height(arc) > view.least_expiry(arc):
+            yield arc, Call(REFUND)
+
+
+def is_refundable(view, party, arc):
+    """Whether the party waits for a refund on an arc that leaves it, or may have it."""
+    is_held = view.published(arc) and not view.settled(arc) and not view.is_triggered(arc)
+    return bool(is_held) and not view.calls(party, arc, REFUND)
+
+
+def rest_until(view, party):
+    """Up to which height ticks make nothing due for a party for which nothing is: the least expiry that it waits for, or None where it waits for none."""
+    return min((view.least_expiry(arc) for arc in view.deal.leaving[party] if is_refundable(view, party, arc)), default=None)
 
 
 # ---- conduct

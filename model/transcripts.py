@@ -102,6 +102,10 @@ class Reader:
         self.rest = self.lines.pop()
         self.number = 0
 
+    def has_word(self, word):
+        """Whether the next whole line begins with that word."""
+        return self.number < len(self.lines) and self.lines[self.number].split(b" ")[0] == word
+
     def next(self):
         """The next whole line; a text that ends before is cut short."""
         if self.number == len(self.lines):
@@ -128,11 +132,10 @@ def count_of(arc, line):
     return numeral(said[2], MOST_COUNT)
 
 
-def transcript_of(text):
+def transcript_of(reader):
     """The offer of a transcript and the entries of its ledgers."""
-    reader = Reader(text)
     reader.read(exactly, "swap transcript 1")
-    offer = header_of(reader.next(), 2, STATED)
+    offer = header_of(reader.next(), reader.number, STATED)
     stated = []
     for arc in offer.deal.arcs:
         count = reader.read(count_of, arc)

@@ -15,15 +15,15 @@ sys.dont_write_bytecode = True
 from program import HERE, Program, must
 
 sys.path.insert(1, os.path.join(HERE, ".."))
-from model.commands import answer
+from model.commands import answer, party_answer  # noqa: F401
 
 
 def shortened(text):
     return text if len(text) < 600 else text[:300] + b" .. " + text[-300:]
 
 
-def must_agree(words, text, found):
-    """Tests an answer of the program against the model's. A race has no one text: of it a refusal is determined, and who takes part."""
+def must_agree(answer, words, text, found):
+    """Tests an answer of the program against the model's, which `answer` gives. A race has no one text: of it a refusal is determined, and who takes part."""
     wanted = answer(words, text)
     told = "the model answers %d %r %r" % (wanted.status, shortened(wanted.out), shortened(wanted.err))
     if words[:1] == ["race"] and wanted.status in (0, 1):
@@ -43,9 +43,13 @@ TOP = Path(HERE).parent
 class Compared(Program):
     """The program, of which each answer is compared with the model's."""
 
+    def __init__(self, path, by_model=answer):
+        super().__init__(path)
+        self.by_model = by_model
+
     def run(self, words, text):
         found = super().run(words, text)
-        must_agree(words, text, found)
+        must_agree(self.by_model, words, text, found)
         return found
 
 

@@ -1,4 +1,4 @@
-"""Tests that are rows of tables: each file of tables/ has some, but those of tables/fields.
+"""Tests that are rows of tables: each file of tables/ has some, but those of tables/fields and tables/party (`party.py`).
 
 A table begins with a line `%% COMMAND: KIND of DEAL, DEAL`, behind which lines with `%` say what it shows. Each row is tested of each
 deal. In rows `<u+20>` stands for the character of that number, and other names in angle brackets for signatures.
@@ -13,6 +13,7 @@ Others have a row a line, but those that begin with `#`:
   accepted EDITS, after which a run goes on to its report
   ends     EDITS => ENDS, how each party of a race ends, and then what is found
   lines    EDITS => LINE, a line that an audit of the transcript tells. In the edits `\\n` stands for a line feed.
+  answers  EDITS => LINES, all lines that are written, with `\\n` between them, or `nothing`. In the edits it stands for a line feed too.
   actors   ACTOR => WRITTEN, an actor of a plain job's second party, and how the made job writes it
   sums     NUMBER PARTIES EVENTS ARCS LEADERS ENTRIES, numbers of a generated job, and what its summary counts
   wrong    words that are no command's
@@ -113,6 +114,12 @@ def tested_line(program, command, text, row):
     must(not answered.startswith("swap: ") or answered == line + "\n", f"more than its line:\n{answered}")
 
 
+def tested_answer(program, command, text, row):
+    edits, _, lines = row.replace("\\n", "\n").rpartition(" => ")
+    wanted = "" if lines == "nothing" else signed(lines) + "\n"
+    is_wanted(asked(program, [command], signed(edited(text, edits))), "done\n" + wanted)
+
+
 def tested_actor(program, command, text, row):
     actor, _, written = row.partition(" => ")
     job = edited(text, f'{{"name":"bob", => {{"name":"bob","actor":{actor},')
@@ -169,7 +176,7 @@ def tested_endings(program, _, text, row):
 CASES = {"cases": tested_case, "scripts": tested_script, "attacks": tested_attack}
 ROWS = {
     "refused": tested_refusal, "accepted": tested_accepted, "ends": tested_end, "lines": tested_line,
-    "actors": tested_actor, "sums": tested_sum, "wrong": tested_words, "found": tested_findings, "ended": tested_endings,
+    "answers": tested_answer, "actors": tested_actor, "sums": tested_sum, "wrong": tested_words, "found": tested_findings, "ended": tested_endings,
 }  # fmt: skip
 
 
@@ -197,10 +204,14 @@ def tested(kind, command, of, row, program):
     (CASES | ROWS)[kind](program, command, deal(of), row)
 
 
+def tests_in(name):
+    """Each row of a file of tables with the function that tests it."""
+    for command, kind, deals, body in tables_of(name):
+        for title, row in cases_of(body) if kind in CASES else rows_of(body):
+            for of in deals:
+                yield f"{name}: {command} of {of}: {title}", partial(tested, kind, command, of, row)
+
+
 def tests():
-    """Each row of each table with the function that tests it."""
     for name in sorted(file.removesuffix(".txt") for file in os.listdir(os.path.join(HERE, "tables")) if file.endswith(".txt")):
-        for command, kind, deals, body in tables_of(name):
-            for title, row in cases_of(body) if kind in CASES else rows_of(body):
-                for of in deals:
-                    yield f"{name}: {command} of {of}: {title}", partial(tested, kind, command, of, row)
+        yield from tests_in(name)

@@ -1,0 +1,4 @@
+pub mod Grown
+pub mod Keeping
+pub mod Faults
+pub mod Answered

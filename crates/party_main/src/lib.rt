@@ -1,0 +1,8 @@
+//! The call of the program `party`: words, a source and a sink.
+#![tactic(auto)]
+
+mod exit;
+mod top;
+
+pub use exit::{Exit, Told, ending, reason_line};
+pub use top::{PartyStatus, party_top};

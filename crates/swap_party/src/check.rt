@@ -1,0 +1,54 @@
+//! Whether a header's deal is accepted.
+
+ghost use Rattle.std.specs.Prelude.{◌⊎◌, ◌≤◌, ◌<◌, IfOk, length};
+ghost use Rattle.swap_base.specs.Fault.{Gives};
+ghost use Rattle.deviator_script.specs.declared.job.Purpose.TheVariants.{Audit as audits};
+ghost use Rattle.refusals.specs.Refusal.{named};
+ghost use Rattle.swap_rules.specs.Accepted.{IsAccepted};
+ghost use Rattle.offer_header.specs.Names.{has_strategy};
+ghost use Rattle.swap_offer.specs.Job.{job_header_of, names_at};
+ghost use Rattle.swap_party.specs.Said.{header_said, limit, IsCheckSaid, IsNothing};
+
+use crate::said::{DONE, LIMIT, NO_MEMORY, Said, TOO_LONG, say, say_nothing, say_reason};
+use deviator_script::{Job, Kit, Purpose};
+use party_answer::AnswerReason;
+use refusals::HeaderFault;
+use std::alloc::Global;
+use swap_base::Fault;
+use swap_offer::read_header;
+
+/// The job of a header line whose strategies are those of a kit.
+fn read_with(alloc: Global, kit: &Kit, line: &[u8]) -> Result<Job, HeaderFault>
+    ensures exact { Gives (λ j. j) result (named (names_at (has_strategy kit.now.names kit.now.strategies.items) audits 1 line.now)
+        (job_header_of (has_strategy kit.now.names kit.now.strategies.items) audits 1 line.now)) }
+    ensures accepted { IfOk result (λ j. IsAccepted j.deal) }
+{
+    let prepared = read_header(alloc, 1, line, Purpose::Audit, kit)?;
+    Ok(prepared.job)
+}
+
+/// The job of a header line as a transcript has it.
+#[tactic(auto, unfolding(crate::specs::Said::header_said))]
+fn read_job(alloc: Global, line: &[u8]) -> Result<Job, HeaderFault>
+    ensures exact { Gives (λ j. j) result (header_said line.now) }
+    ensures accepted { IfOk result (λ j. IsAccepted j.deal) }
+{
+    let kit = Kit::new(alloc);
+    read_with(alloc, &kit, line)
+}
+
+/// Reads an offer's header, as a transcript has it, and answers its deal's id, which is 32 bytes, or the first reason against it.
+#[unsafe(no_mangle)]
+pub extern "C" fn swap_party_check(alloc: Global, header: &[u8], out: &mut [u8]) -> Said
+    ensures long { limit < length header.now → IsNothing 7 out.old out.new result }
+    ensures said { length header.now ≤ limit → IsCheckSaid (header_said header.now) out.old out.new result ⊎ IsNothing 6 out.old out.new result }
+{
+    if LIMIT < header.len() {
+        return say_nothing(TOO_LONG);
+    }
+    match read_job(alloc, header) {
+        Ok(job) => say(DONE, &job.deal.id, out),
+        Err(Fault::Refused(refusal)) => say_reason(alloc, &AnswerReason::Refused(refusal), out),
+        Err(Fault::NoMemory) => say_nothing(NO_MEMORY),
+    }
+}

@@ -1,0 +1,201 @@
+#!/usr/bin/env python3
+"""Settles a swap: a chain for each arc, a wallet in a process of its own for each party, and a clock that lets the heights rise.
+
+usage: settle.py [--kills] [--seed S] [--late NAME | --twice NAME] < JOB
+
+JOB is a made one, with everybody's seeds: each goes to its own wallet's folder and nowhere else. At the end the chains' histories go to `swap audit`, whose
+report is written. --kills kills wallets by SIGKILL at any moment and starts them again.
+
+The clock keeps what a wallet is promised: no chain rises by more than delta above the least height at which a wallet next to it came to rest.
+--late NAME breaks that for one party, whose wallet sleeps until its first publish is late.
+"""
+import json
+import os
+import random
+import select
+import signal
+import subprocess
+import sys
+import tempfile
+import time
+
+sys.dont_write_bytecode = True
+HERE = os.path.dirname(os.path.abspath(__file__))
+SWAP = os.environ.get("SWAP", os.path.join(HERE, "..", "..", "swap"))
+import wallet  # noqa: E402
+from chain import Chain  # noqa: E402
+from contract import Deal  # noqa: E402
+
+
+class Living:
+    """A wallet's process, and the least height at which it last came to rest."""
+
+    def __init__(self, folder, name, twice):
+        self.words, self.rested, self.pid = (folder, name, twice), 0, None
+        self.start()
+
+    def start(self):
+        """A process of its own, which tells its rests by a pipe."""
+        self.heard, telling = os.pipe()
+        self.text = b""
+        self.pid = os.fork()
+        if self.pid == 0:
+            os.close(self.heard)
+            try:
+                wallet.live(*self.words, lambda line: os.write(telling, f"{line}\n".encode()))
+            except BaseException as why:
+                os.write(2, f"{self.words[1]}: {why!r}\n".encode())
+            os._exit(1)
+        os.close(telling)
+
+    def kill(self):
+        os.kill(self.pid, signal.SIGKILL)
+        os.waitpid(self.pid, 0)
+        os.close(self.heard)
+        self.pid = None
+
+    def hear(self):
+        """Takes what it told. Only a whole line counts."""
+        told = os.read(self.heard, 1 << 16)
+        if not told:
+            raise ChildProcessError(f"the wallet of {self.words[1]} ended by itself")
+        self.text += told
+        *lines, self.text = self.text.split(b"\n")
+        for line in lines:
+            self.heights = {int(arc): int(height) for arc, height in (it.split(":") for it in line.decode().split(" "))}
+            self.rested = min(self.heights.values())
+
+
+class Swap:
+    def __init__(self, job, room, chance, twice=None):
+        self.chance, self.room, self.killed = chance, room, 0
+        seeds = {party["name"]: party.pop("seed") for party in job["parties"]}
+        for party in job["parties"]:
+            party["actor"] = "conforming"
+        job.pop("finish", None)
+        self.header = json.dumps(job, separators=(",", ":"), sort_keys=True)
+        self.deal = Deal(job)
+        self.put("header", self.header + "\n")
+        for arc in range(len(self.deal.ends)):
+            self.put(f"chain{arc}", "")
+        for name, seed in seeds.items():
+            self.put(f"{name}/seed", seed + "\n")
+        self.chains = [Chain(room, self.deal, arc) for arc in range(len(self.deal.ends))]
+        self.wallets = [Living(room, name, name == twice) for name in seeds]
+
+    def put(self, name, text):
+        path = os.path.join(self.room, name)
+        os.makedirs(os.path.dirname(path), exist_ok=True)
+        with open(path, "w") as file:
+            file.write(text)
+
+    def hear(self, wait):
+        heard = {it.heard: it for it in self.wallets if it.pid}
+        for it in select.select(list(heard), [], [], wait)[0]:
+            heard[it].hear()
+
+    def room_for(self, arc, late):
+        """By how much the arc's chain may rise."""
+        ends = [self.wallets[party] for party in self.deal.ends[arc] if self.deal.names[party] != late]
+        return min([it.rested + self.deal.delta for it in ends], default=self.chains[arc].height + 1) - self.chains[arc].look().height
+
+    def tick(self, late=None):
+        """Lets a chain rise, if one may."""
+        may = [arc for arc in range(len(self.chains)) if self.chains[arc].height <= self.deal.horizon and self.room_for(arc, late) > 0]
+        if may:
+            arc = self.chance.choice(may)
+            self.chains[arc].tick(self.chance.randint(1, self.room_for(arc, late)))
+
+    def kill(self, kills):
+        """Kills one, so many times at most, or starts one again."""
+        it = self.chance.choice(self.wallets)
+        if it.pid is None:
+            it.start()
+        elif self.killed < kills and self.chance.random() < 0.1:
+            self.killed += 1
+            it.kill()
+
+    def is_over(self):
+        return all(chain.look().height > self.deal.horizon for chain in self.chains)
+
+    def settle(self, kills=0, late=None, most=300):
+        """Lets the swap run to its end, for which it has so many seconds."""
+        begun = time.monotonic()
+        if late:
+            self.sleep(self.wallets[self.deal.names.index(late)], late)
+        while not self.is_over():
+            self.kill(kills)
+            self.tick()
+            self.hear(0.004 * self.chance.random())
+            if time.monotonic() - begun > most:
+                raise TimeoutError(f"no end after {most} s: {[chain.height for chain in self.chains]}")
+        for it in self.wallets:
+            it.pid or it.start()
+        while any(it.rested <= self.deal.horizon for it in self.wallets):
+            self.hear(0.01)
+            if time.monotonic() - begun > most:
+                raise TimeoutError("a wallet didn't come to rest")
+
+    def sleep(self, it, late):
+        """The wallet sleeps until its leaving chain stands more than delta above what asked for its publish."""
+        it.kill()
+        arc = next(arc for arc, ends in enumerate(self.deal.ends) if self.deal.names[ends[0]] == late)
+        while self.chains[arc].look().height <= 2 * self.deal.delta:
+            self.tick(late)
+            self.hear(0.004 * self.chance.random())
+        it.rested = min(self.chains[arc].height for arc, ends in enumerate(self.deal.ends) if self.deal.names.index(late) in ends)
+        it.start()
+
+    def stop(self):
+        for it in self.wallets:
+            if it.pid:
+                it.kill()
+
+    def transcript(self):
+        told = ["swap transcript 1", self.header]
+        for arc, chain in enumerate(self.chains):
+            told += [f"ledger {arc} {len(chain.look().entries)}", *chain.entries]
+        return "\n".join(told + ["end", ""])
+
+    def audit(self):
+        """The status and the report."""
+        ended = subprocess.run([SWAP, "audit"], input=self.transcript(), capture_output=True, text=True)
+        return ended.returncode, ended.stdout, ended.stderr
+
+
+def settled(job, chance, kills=0, late=None, twice=None):
+    """The audit of a swap that was settled."""
+    with tempfile.TemporaryDirectory(prefix="wallets-", dir="/dev/shm" if os.path.isdir("/dev/shm") else None) as room:
+        swap = Swap(job, room, chance, twice)
+        try:
+            swap.settle(kills, late)
+        finally:
+            swap.stop()
+        return swap.audit()
+
+
+def build(program):
+    """Has a script that builds its program do so, before any clock runs."""
+    print(f"settle: {os.path.basename(program)} is built now, if it isn't yet: one to three minutes", file=sys.stderr, flush=True)
+    ended = subprocess.run([program], stdin=subprocess.DEVNULL, capture_output=True, text=True)
+    if ended.returncode != 2:
+        raise SystemExit(ended.stderr.strip())
+
+
+def main():
+    words, options = sys.argv[1:], {"--seed": "0", "--late": None, "--twice": None}
+    for name in options:
+        if name in words:
+            options[name] = words[words.index(name) + 1]
+    job = json.loads(sys.stdin.readline())
+    build(wallet.PARTY)
+    build(SWAP)
+    chance = random.Random(options["--seed"])
+    status, report, told = settled(job, chance, 6 if "--kills" in words else 0, options["--late"], options["--twice"])
+    sys.stdout.write(report)
+    sys.stderr.write(told)
+    return status
+
+
+if __name__ == "__main__":
+    sys.exit(main())
