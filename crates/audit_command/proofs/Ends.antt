@@ -7,7 +7,7 @@ use Rattle.swap_io.specs.Causes.{ConsumesAtMost, ConsumesSome, Rose}
 use Rattle.swap_io.specs.Lines.{Reading, TookSome}
 use Rattle.swap_io.proofs.Feeds.{took_on}
 use Rattle.ledger_core.specs.declared.entry.Book.{Book}
-use Rattle.deviator_script.specs.declared.job.Job.{Job}
+use Rattle.swap_job.specs.declared.job.Job.{Job}
 use Rattle.refusals.specs.declared.refusal.Refusal.{Refusal}
 use Rattle.transcript_reader.specs.declared.reason.TranscriptReason.{TranscriptReason}
 use Rattle.transcript_reader.specs.Header.{header_read}

@@ -6,7 +6,7 @@ use Rattle.refusals.specs.declared.reason.Reason.TheVariants as reasons
 use Rattle.refusals.specs.declared.refusal.Refusal.{Refusal}
 use Rattle.refusals.specs.Refusal.{refusal}
 use Rattle.ledger_core.specs.Book.{Histories}
-use Rattle.deviator_script.specs.declared.job.Job.{Job}
+use Rattle.swap_job.specs.declared.job.Job.{Job}
 use Rattle.outcome_rules.specs.declared.report.Report.{Report}
 use Rattle.transcript_text.specs.Report.{report}
 use Rattle.swap_auditor.specs.declared.replay.BadReply.{BadReply}

@@ -10,7 +10,7 @@ use crate::ending::AuditEnding;
 use crate::fault::Stopped;
 use crate::judged::judge;
 use crate::story::read_story;
-use deviator_script::Job;
+use swap_job::Job;
 use ledger_core::Book;
 use outcome_rules::Report;
 use refusals::Refusal;

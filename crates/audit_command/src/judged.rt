@@ -8,7 +8,7 @@ ghost use Rattle.transcript_reader.specs.Reading.{Story};
 ghost use Rattle.audit_command.specs.Output.{judged, refused_reply, story};
 ghost use Rattle.audit_command.specs.Promised.{IsSound};
 
-use deviator_script::Job;
+use swap_job::Job;
 use ledger_core::Book;
 use outcome_rules::Report;
 use refusals::{Reason, Refusal};

@@ -8,7 +8,7 @@ ghost use Rattle.audit_command.specs.Reading.{Concludes, HasRead, Stops, StopsAt
 
 use crate::fault::Stopped;
 use crate::input::read_lines;
-use deviator_script::Job;
+use swap_job::Job;
 use ledger_core::Book;
 use refusals::{Reason, Refusal};
 use std::alloc::Global;

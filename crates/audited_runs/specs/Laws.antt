@@ -1,7 +1,7 @@
 -- An audit of the transcript that a run or a race wrote writes the report that the run or the race writes.
 use Rattle.std.specs.Prelude.{◌≡◌, ◌≤◌, ℕ, Bool, true, false, List, length, Option, Ok}
 use Rattle.audit_command.specs.Output.{Written}
-use Rattle.program_kit.specs.Program.{program_rule}
+use Rattle.deviators.specs.Program.{program_rule}
 use Rattle.swap_commands.specs.Input.{limit}
 use Rattle.swap_commands.specs.Output.{Chance, output_by}
 use Rattle.swap_commands.specs.Promised.{AsPromised}

@@ -1,10 +1,10 @@
 -- What acts for the parties of a whole job, in the words of a world.
 use Rattle.std.proofs.Common.{◌≡◌, ℕ, List, [], ◌∷◌, map, get_or, Bool, refl, ap₂, ◌∙◌, subst}
 use Rattle.std.specs.List.{All}
-use Rattle.deviator_script.specs.Script.{IsMoveOf}
-use Rattle.deviator_script.specs.declared.job.Job.{Job}
-use Rattle.deviator_script.specs.declared.job.Role.{Role}
-use Rattle.deviator_script.specs.declared.job.Role.TheVariants as kinds
+use Rattle.swap_job.specs.Fitting.{IsMoveOf}
+use Rattle.swap_job.specs.declared.job.Job.{Job}
+use Rattle.swap_job.specs.declared.job.Role.{Role}
+use Rattle.swap_job.specs.declared.job.Role.TheVariants as kinds
 use Rattle.swap_run.specs.Run.{script_of}
 use Rattle.swap_world.specs.Cast.{is_conforming}
 use Rattle.swap_world.specs.Staff.{role_in, AreHeld, HaveRoles, IsHeld}

@@ -4,7 +4,8 @@ ghost use Rattle.std.specs.Prelude.{IfOk};
 ghost use Rattle.swap_digraph.specs.Deal.{IsWellSized};
 
 use crate::{jobs, rings};
-use deviator_script::{Kit, Purpose};
+use deviators::Kit;
+use swap_job::Purpose;
 use hash_signature::{Sig, keygen};
 use hashkey_path::{Hashkey, HashkeyAnswer, check, deal_digest, extend, first};
 use hex::FromHex;

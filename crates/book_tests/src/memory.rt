@@ -1,7 +1,7 @@
 //! Calls of libraries that may answer that memory is wanting, and that the program never makes.
 
 ghost use Rattle.std.specs.Prelude.{◌≡◌, true, IfOk, All, length};
-ghost use Rattle.deviator_script.specs.Step.{IsEventOf};
+ghost use Rattle.swap_job.specs.Step.{IsEventOf};
 ghost use Rattle.ledger_core.specs.Book.{IsLegalBook};
 ghost use Rattle.offer_events.specs.Event.{needs_seeds};
 ghost use Rattle.offer_header.specs.Limits.{HoldsEach};
@@ -13,7 +13,8 @@ ghost use Rattle.swap_offer.specs.Wallets.{HaveScripts, HaveWallets};
 ghost use Rattle.swap_rules.specs.Accepted.{IsAccepted};
 
 use crate::jobs;
-use deviator_script::{Event, Job, Kit, Purpose};
+use swap_job::{Event, Job, Purpose};
+use deviators::Kit;
 use ledger_core::{Book, Scan};
 use outcome_rules::{findings, report_of, unfinished};
 use party_wallet::Wallet;

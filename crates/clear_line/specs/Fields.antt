@@ -3,7 +3,7 @@ use Rattle.std.specs.Prelude.{◌==◌, ℕ, List, [], ◌∷◌, codes, if◌th
 use Rattle.serde_json.specs.Data.{Data}
 use Rattle.swap_base.specs.Fault.{◌>>=◌}
 use Rattle.swap_digraph.specs.declared.deal.Mode.TheVariants.{Hashkeys}
-use Rattle.deviator_script.specs.declared.job.Purpose.TheVariants.{Make}
+use Rattle.swap_job.specs.declared.job.Purpose.TheVariants.{Make}
 use Rattle.refusals.specs.declared.reason.Reason.{Reason}
 use Rattle.refusals.specs.declared.reason.Reason.TheVariants.{WrongKind}
 use Rattle.offer_fields.specs.Fields.{number_at, member_text_of, list_at, only}

@@ -6,7 +6,7 @@ ghost use Rattle.swap_base.specs.Fault.{Gives};
 ghost use Rattle.offer_fields.specs.Fields.{list_at, member_text_of, only};
 ghost use Rattle.clear_line.specs.Fields.{fields, kind_at, raw_of};
 
-use deviator_script::Purpose;
+use swap_job::Purpose;
 use offer_fields::{TextRef, array_in, list_in, number_in, only_in, texts_in};
 use offer_header::{RawArc, Reading};
 use refusals::{OfferFault, wrong_kind};

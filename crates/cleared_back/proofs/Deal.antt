@@ -12,11 +12,11 @@ use Rattle.swap_digraph.specs.declared.deal.Mode.TheVariants.{Hashkeys}
 use Rattle.swap_digraph.specs.declared.deal.Version.TheVariants.{Two}
 use Rattle.swap_digraph.specs.Graph.{ends}
 use Rattle.hashkey_path.specs.Digest.{deal_id}
-use Rattle.deviator_script.specs.declared.job.Job.{Job}
-use Rattle.deviator_script.specs.declared.job.Purpose.TheVariants.{Make}
-use Rattle.deviator_script.specs.declared.job.Finish.TheVariants.{Stop}
-use Rattle.deviator_script.specs.declared.job.Role.{Role}
-use Rattle.deviator_script.specs.declared.job.Role.TheVariants.{Conforming}
+use Rattle.swap_job.specs.declared.job.Job.{Job}
+use Rattle.swap_job.specs.declared.job.Purpose.TheVariants.{Make}
+use Rattle.swap_job.specs.declared.job.Finish.TheVariants.{Stop}
+use Rattle.swap_job.specs.declared.job.Role.{Role}
+use Rattle.swap_job.specs.declared.job.Role.TheVariants.{Conforming}
 use Rattle.proposed_deal.specs.Proposed.{IsProposed}
 use Rattle.offer_header.specs.Header.{IsWithin}
 use Rattle.offer_header.specs.Limits.{arc_ends, conforms, no_digest, no_digests}

@@ -13,8 +13,8 @@ use Rattle.swap_digraph.specs.Graph.{is_among, IsHeight}
 use Rattle.swap_digraph.proofs.Parts.{not_leader}
 use Rattle.swap_digraph.proofs.Paths.{in-is_among}
 use Rattle.swap_digraph.specs.declared.deal.Version.TheVariants.{Two}
-use Rattle.deviator_script.specs.declared.job.Purpose.TheVariants.{Make}
-use Rattle.deviator_script.specs.declared.job.Role.TheVariants.{Conforming}
+use Rattle.swap_job.specs.declared.job.Purpose.TheVariants.{Make}
+use Rattle.swap_job.specs.declared.job.Role.TheVariants.{Conforming}
 use Rattle.offer_fields.specs.Lists.{each_of}
 use Rattle.offer_fields.specs.Limits.{digest_of, number_within, within}
 use Rattle.offer_moves.specs.declared.moves.Sizes.{Sizes}

@@ -1,6 +1,6 @@
 -- The run of what `gen` writes is the one that the number's summary tells of.
 use Rattle.std.specs.Prelude.{◌≡◌, ◌≤◌, ℕ, Bool, List, Ok}
-use Rattle.deviator_script.specs.declared.job.Purpose.TheVariants as purposes
+use Rattle.swap_job.specs.declared.job.Purpose.TheVariants as purposes
 use Rattle.swap_gen.specs.Drawn.{plain_job}
 use Rattle.made_jobs.specs.Generating.{generated_book, generated_text}
 use Rattle.made_back.specs.Laws.{told}

@@ -11,9 +11,9 @@ use Rattle.swap_digraph.specs.declared.deal.Mode.TheVariants.{Timelocks, Hashkey
 use Rattle.swap_digraph.specs.declared.deal.Version.{Version}
 use Rattle.swap_digraph.specs.declared.deal.Version.TheVariants.{One, Two}
 use Rattle.swap_digraph.specs.Deal.{amount, leader_of as leader_in, locks}
-use Rattle.deviator_script.specs.declared.job.Job.{Job}
-use Rattle.deviator_script.specs.declared.job.Purpose.TheVariants.{Audit}
-use Rattle.deviator_script.specs.declared.job.Finish.TheVariants.{Stop}
+use Rattle.swap_job.specs.declared.job.Job.{Job}
+use Rattle.swap_job.specs.declared.job.Purpose.TheVariants.{Audit}
+use Rattle.swap_job.specs.declared.job.Finish.TheVariants.{Stop}
 use Rattle.offer_fields.specs.Fields.{array_at, list_at, member_text_of, needed, number_at, object_at, only, text_at}
 use Rattle.offer_header.specs.declared.raw.Reading.{Reading}
 use Rattle.offer_header.specs.declared.raw.RawActor.{RawActor}

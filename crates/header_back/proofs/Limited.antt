@@ -17,10 +17,10 @@ use Rattle.swap_digraph.specs.declared.deal.Mode.{Mode}
 use Rattle.swap_digraph.specs.declared.deal.Mode.TheVariants.{Timelocks, Hashkeys}
 use Rattle.swap_digraph.specs.Deal.{amount, locks, most_arcs, most_parties, HasKeys}
 use Rattle.swap_digraph.specs.declared.deal.Deal.{Deal}
-use Rattle.deviator_script.specs.declared.job.Job.{Job}
-use Rattle.deviator_script.specs.declared.job.Purpose.TheVariants.{Audit}
-use Rattle.deviator_script.specs.declared.job.Finish.TheVariants.{Stop}
-use Rattle.deviator_script.specs.declared.job.Role.{Role}
+use Rattle.swap_job.specs.declared.job.Job.{Job}
+use Rattle.swap_job.specs.declared.job.Purpose.TheVariants.{Audit}
+use Rattle.swap_job.specs.declared.job.Finish.TheVariants.{Stop}
+use Rattle.swap_job.specs.declared.job.Role.{Role}
 use Rattle.swap_rules.specs.Accepted.{IsAccepted, IsTimed}
 use Rattle.offer_fields.specs.Lists.{each_of}
 use Rattle.offer_fields.specs.Limits.{decoded, digest_of, number_within, within}

@@ -12,7 +12,7 @@ use Rattle.hashkey_path.proofs.Validity.{bytes_eq-true, bytes_eq_self}
 use Rattle.swap_digraph.specs.Graph.{arcs, ends}
 use Rattle.swap_digraph.specs.declared.deal.Mode.{Mode}
 use Rattle.swap_digraph.specs.Deal.{leader_of as leader_in}
-use Rattle.deviator_script.specs.declared.job.Job.{Job}
+use Rattle.swap_job.specs.declared.job.Job.{Job}
 use Rattle.offer_fields.specs.Names.{found, party_of_name}
 use Rattle.offer_fields.specs.Lists.{each_of}
 use Rattle.offer_header.specs.Names.{actor_known, ends_of, is_name, leader_step, name_added, name_step, names_stated, numbered_of}

@@ -19,7 +19,7 @@ use Rattle.swap_digraph.specs.declared.deal.Mode.TheVariants.{Timelocks, Hashkey
 use Rattle.swap_digraph.specs.declared.deal.Version.{Version}
 use Rattle.swap_digraph.specs.declared.deal.Version.TheVariants.{One, Two}
 use Rattle.swap_digraph.specs.Deal.{amount, locks, IsWellSized}
-use Rattle.deviator_script.specs.declared.job.Job.{Job}
+use Rattle.swap_job.specs.declared.job.Job.{Job}
 use Rattle.offer_text.specs.Words.{digest_data, list_data}
 use Rattle.offer_text.specs.HeaderLine.{arc_at, arc_data, arcs_data, fields_by_mode, header_line, keys_data, leader_at, leaders_data, made_header, number_of}
 use Rattle.offer_text.specs.HeaderLine.{parties_data, shown_header, shown_party}

@@ -16,9 +16,9 @@ use Rattle.swap_digraph.specs.Arcs.{digraph_of, first_fault, graph_or}
 use Rattle.swap_digraph.specs.declared.fault.ArcFault.{ArcFault}
 use Rattle.swap_digraph.specs.declared.deal.Mode.{Mode}
 use Rattle.swap_digraph.specs.declared.deal.Mode.TheVariants.{Timelocks, Hashkeys}
-use Rattle.deviator_script.specs.declared.job.Job.{Job}
-use Rattle.deviator_script.specs.declared.job.Purpose.{Purpose}
-use Rattle.deviator_script.specs.declared.job.Purpose.TheVariants.{Check, Run, Race, Make, Audit}
+use Rattle.swap_job.specs.declared.job.Job.{Job}
+use Rattle.swap_job.specs.declared.job.Purpose.{Purpose}
+use Rattle.swap_job.specs.declared.job.Purpose.TheVariants.{Check, Run, Race, Make, Audit}
 use Rattle.refusals.specs.declared.reason.Reason.{Reason}
 use Rattle.refusals.specs.declared.reason.Reason.TheVariants.{BadName, Duplicate}
 use Rattle.swap_rules.specs.Accepted.{IsAccepted}

@@ -21,7 +21,7 @@ use Rattle.swap_digraph.specs.declared.deal.Deal.{Deal}
 use Rattle.swap_digraph.specs.declared.deal.Mode.{Mode}
 use Rattle.swap_digraph.specs.declared.deal.Mode.TheVariants.{Timelocks, Hashkeys}
 use Rattle.swap_digraph.specs.Deal.{amount, leader_of, locks}
-use Rattle.deviator_script.specs.declared.job.Job.{Job}
+use Rattle.swap_job.specs.declared.job.Job.{Job}
 use Rattle.offer_header.specs.Names.{is_name, is_name_byte}
 use Rattle.offer_text.specs.Words.{digest_data, list_data, name_data, number_data}
 use Rattle.offer_text.specs.HeaderLine.{arc_at, arc_data, arcs_data, fields_by_mode, first_fields, header_data, header_line, keys_data, last_fields}

@@ -15,9 +15,9 @@ use Rattle.swap_digraph.specs.declared.deal.Version.{Version}
 use Rattle.swap_digraph.specs.declared.deal.Version.TheVariants.{One, Two}
 use Rattle.hashkey_path.specs.Digest.{deal_id}
 use Rattle.hashkey_path.proofs.Feeding.{any_id}
-use Rattle.deviator_script.specs.declared.job.Job.{Job}
-use Rattle.deviator_script.specs.declared.job.Purpose.TheVariants.{Audit}
-use Rattle.deviator_script.specs.declared.job.Finish.TheVariants.{Stop}
+use Rattle.swap_job.specs.declared.job.Job.{Job}
+use Rattle.swap_job.specs.declared.job.Purpose.TheVariants.{Audit}
+use Rattle.swap_job.specs.declared.job.Finish.TheVariants.{Stop}
 use Rattle.swap_rules.specs.Accepted.{IsAccepted, IsOfVersion}
 use Rattle.refusals.specs.declared.reason.Reason.TheVariants.{NotJson}
 use Rattle.offer_fields.specs.Fields.{object_of, object_or}

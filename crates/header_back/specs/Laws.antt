@@ -4,10 +4,10 @@ use Rattle.std.specs.Str.{is_utf8}
 use Rattle.std.specs.List.{list_all}
 use Rattle.serde_json.specs.Read.{read}
 use Rattle.swap_digraph.specs.Deal.{IsWellSized}
-use Rattle.deviator_script.specs.declared.job.Job.{Job}
-use Rattle.deviator_script.specs.declared.job.Purpose.{Purpose}
-use Rattle.deviator_script.specs.declared.job.Purpose.TheVariants.{Audit}
-use Rattle.deviator_script.specs.declared.job.Finish.TheVariants.{Stop}
+use Rattle.swap_job.specs.declared.job.Job.{Job}
+use Rattle.swap_job.specs.declared.job.Purpose.{Purpose}
+use Rattle.swap_job.specs.declared.job.Purpose.TheVariants.{Audit}
+use Rattle.swap_job.specs.declared.job.Finish.TheVariants.{Stop}
 use Rattle.swap_rules.specs.Accepted.{IsAccepted}
 use Rattle.offer_header.specs.Header.{simple_role}
 use Rattle.offer_header.specs.Names.{is_name}

@@ -7,10 +7,10 @@ use Rattle.std.proofs.lemmas.Bool.{leb-true, ne_eqb}
 use Rattle.swap_base.specs.Text.{joined, lines}
 use Rattle.swap_base.proofs.Lists.{and_both, and_parts}
 use Rattle.swap_digraph.specs.Value.{Graph}
-use Rattle.deviator_script.specs.Step.{CanLook, CanTick, IsEventOf}
-use Rattle.deviator_script.specs.declared.event.Event.{Event}
-use Rattle.deviator_script.specs.declared.event.Event.TheVariants.{Tick, Look, Act, Call, Crash}
-use Rattle.deviator_script.specs.declared.job.Job.{Job}
+use Rattle.swap_job.specs.Step.{CanLook, CanTick, IsEventOf}
+use Rattle.swap_job.specs.declared.event.Event.{Event}
+use Rattle.swap_job.specs.declared.event.Event.TheVariants.{Tick, Look, Act, Call, Crash}
+use Rattle.swap_job.specs.declared.job.Job.{Job}
 use Rattle.refusals.specs.declared.reason.Reason.TheVariants.{NotAdjacent, OverLimit}
 use Rattle.offer_fields.specs.Names.{party_of_name}
 use Rattle.offer_moves.specs.Moves.{arc_of, sizes_of}

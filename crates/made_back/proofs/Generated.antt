@@ -12,11 +12,11 @@ use Rattle.std.proofs.lemmas.List.FromFn.{get_or-map-range_with_len, length-map-
 use Rattle.swap_base.proofs.Lists.{and_parts}
 use Rattle.swap_digraph.specs.Value.{Graph}
 use Rattle.swap_digraph.specs.declared.arc_ends.ArcEnds.{ArcEnds}
-use Rattle.deviator_script.specs.Step.{IsEventOf}
-use Rattle.deviator_script.specs.declared.job.Job.{Job}
-use Rattle.deviator_script.specs.declared.job.Purpose.{Purpose}
-use Rattle.deviator_script.specs.declared.job.Purpose.TheVariants.{Check, Run, Race, Make, Audit}
-use Rattle.deviator_script.specs.declared.job.Role.TheVariants.{Conforming}
+use Rattle.swap_job.specs.Step.{IsEventOf}
+use Rattle.swap_job.specs.declared.job.Job.{Job}
+use Rattle.swap_job.specs.declared.job.Purpose.{Purpose}
+use Rattle.swap_job.specs.declared.job.Purpose.TheVariants.{Check, Run, Race, Make, Audit}
+use Rattle.swap_job.specs.declared.job.Role.TheVariants.{Conforming}
 use Rattle.offer_events.specs.Event.{outside_race}
 use Rattle.offer_events.specs.Plain.{is_plain}
 use Rattle.offer_header.specs.Limits.{conforms}

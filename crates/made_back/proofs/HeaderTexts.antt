@@ -14,11 +14,11 @@ use Rattle.swap_digraph.specs.Deal.{locks}
 use Rattle.swap_digraph.specs.declared.deal.Deal.{Deal}
 use Rattle.swap_digraph.specs.declared.deal.Mode.{Mode}
 use Rattle.swap_digraph.specs.declared.deal.Mode.TheVariants.{Timelocks, Hashkeys}
-use Rattle.deviator_script.specs.declared.job.Job.{Job}
-use Rattle.deviator_script.specs.declared.job.Finish.{Finish}
-use Rattle.deviator_script.specs.declared.job.Finish.TheVariants.{Stop, Fair}
-use Rattle.deviator_script.specs.declared.job.Role.{Role}
-use Rattle.deviator_script.specs.declared.job.Role.TheVariants.{Conforming, Manual, Script, Strategy}
+use Rattle.swap_job.specs.declared.job.Job.{Job}
+use Rattle.swap_job.specs.declared.job.Finish.{Finish}
+use Rattle.swap_job.specs.declared.job.Finish.TheVariants.{Stop, Fair}
+use Rattle.swap_job.specs.declared.job.Role.{Role}
+use Rattle.swap_job.specs.declared.job.Role.TheVariants.{Conforming, Manual, Script, Strategy}
 use Rattle.offer_text.specs.Moves.{move_data}
 use Rattle.offer_text.specs.Words.{digest_data, list_data, with_optional}
 use Rattle.offer_text.specs.HeaderLine.{actor_data, arc_at, fields_by_mode, finish_word, first_fields, keys_data, last_fields, leader_at, leaders_data}

@@ -13,12 +13,12 @@ use Rattle.swap_digraph.specs.Graph.{arcs}
 use Rattle.swap_digraph.specs.Deal.{locks, most_parties, path_limit_of, HasKeys}
 use Rattle.swap_digraph.specs.declared.deal.Mode.{Mode}
 use Rattle.swap_digraph.specs.declared.deal.Mode.TheVariants.{Timelocks, Hashkeys}
-use Rattle.deviator_script.specs.declared.job.Job.{Job}
-use Rattle.deviator_script.specs.declared.job.Purpose.{Purpose}
-use Rattle.deviator_script.specs.declared.job.Purpose.TheVariants.{Check, Run, Race, Make, Audit}
-use Rattle.deviator_script.specs.declared.job.Role.{Role}
-use Rattle.deviator_script.specs.declared.job.Role.TheVariants as kinds
-use Rattle.deviator_script.specs.declared.moves.Move.{Move}
+use Rattle.swap_job.specs.declared.job.Job.{Job}
+use Rattle.swap_job.specs.declared.job.Purpose.{Purpose}
+use Rattle.swap_job.specs.declared.job.Purpose.TheVariants.{Check, Run, Race, Make, Audit}
+use Rattle.swap_job.specs.declared.job.Role.{Role}
+use Rattle.swap_job.specs.declared.job.Role.TheVariants as kinds
+use Rattle.swap_job.specs.declared.moves.Move.{Move}
 use Rattle.swap_rules.specs.Accepted.{IsTimed}
 use Rattle.offer_fields.specs.Lists.{each_of}
 use Rattle.offer_fields.specs.Names.{party_of_name}

@@ -6,8 +6,8 @@ use Rattle.std.proofs.lemmas.List.{length-map}
 use Rattle.hex.specs.Hex.{encode_lower}
 use Rattle.hash_signature.specs.declared.sig.Sig.{Sig}
 use Rattle.hashkey_path.specs.declared.hashkey.Hashkey.{Hashkey}
-use Rattle.deviator_script.specs.declared.moves.Move.{Move}
-use Rattle.deviator_script.specs.declared.moves.Move.TheVariants.{Publish, Craft, Replay, Raw, Claim, Refund, Transfer, Wait}
+use Rattle.swap_job.specs.declared.moves.Move.{Move}
+use Rattle.swap_job.specs.declared.moves.Move.TheVariants.{Publish, Craft, Replay, Raw, Claim, Refund, Transfer, Wait}
 use Rattle.offer_fields.specs.Limits.{digest_of, number_within, within}
 use Rattle.offer_fields.specs.Lists.{each_of}
 use Rattle.offer_fields.specs.Names.{party_of_name}

@@ -4,10 +4,10 @@ use Rattle.std.specs.Prelude.{codes}
 use Rattle.std.specs.Str.{is_utf8}
 use Rattle.serde_json.specs.Read.{read}
 use Rattle.swap_base.specs.Fault.{steps}
-use Rattle.deviator_script.specs.declared.event.Event.{Event}
-use Rattle.deviator_script.specs.declared.job.Job.{Job}
-use Rattle.deviator_script.specs.declared.job.Purpose.{Purpose}
-use Rattle.deviator_script.specs.declared.job.Purpose.TheVariants.{Make, Run}
+use Rattle.swap_job.specs.declared.event.Event.{Event}
+use Rattle.swap_job.specs.declared.job.Job.{Job}
+use Rattle.swap_job.specs.declared.job.Purpose.{Purpose}
+use Rattle.swap_job.specs.declared.job.Purpose.TheVariants.{Make, Run}
 use Rattle.offer_fields.proofs.Chains.{went}
 use Rattle.offer_text.specs.HeaderLine.{header_line, made_header}
 use Rattle.swap_offer.specs.Job.{counted, events_for, events_of, events_unless, job_header_of, job_of, of_lines}

@@ -5,11 +5,11 @@ use Rattle.std.specs.List.{list_any}
 use Rattle.swap_base.specs.Fault.{steps}
 use Rattle.swap_digraph.specs.Graph.{ends_in}
 use Rattle.swap_digraph.specs.declared.arc_ends.ArcEnds.{ArcEnds}
-use Rattle.deviator_script.specs.Resolved.{arc_of}
-use Rattle.deviator_script.specs.declared.job.Role.{Role}
-use Rattle.deviator_script.specs.declared.job.Role.TheVariants.{Conforming, Manual, Script, Strategy}
-use Rattle.deviator_script.specs.declared.moves.Move.{Move}
-use Rattle.deviator_script.specs.declared.moves.Move.TheVariants.{Publish, Craft, Replay, Raw, Claim, Refund, Transfer, Wait}
+use Rattle.swap_job.specs.Resolved.{arc_of}
+use Rattle.swap_job.specs.declared.job.Role.{Role}
+use Rattle.swap_job.specs.declared.job.Role.TheVariants.{Conforming, Manual, Script, Strategy}
+use Rattle.swap_job.specs.declared.moves.Move.{Move}
+use Rattle.swap_job.specs.declared.moves.Move.TheVariants.{Publish, Craft, Replay, Raw, Claim, Refund, Transfer, Wait}
 use Rattle.refusals.specs.declared.reason.Reason.TheVariants.{NotAdjacent}
 use Rattle.offer_fields.proofs.Chains.{went}
 use Rattle.offer_fields.proofs.Ranges.{passed}

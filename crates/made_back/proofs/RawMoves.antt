@@ -10,8 +10,8 @@ use Rattle.swap_base.specs.Lists.{or_else}
 use Rattle.swap_base.specs.Text.{joined}
 use Rattle.hash_signature.specs.declared.sig.Sig.{Sig}
 use Rattle.hashkey_path.specs.declared.hashkey.Hashkey.{Hashkey}
-use Rattle.deviator_script.specs.declared.moves.Move.{Move}
-use Rattle.deviator_script.specs.declared.moves.Move.TheVariants.{Publish, Craft, Replay, Raw, Claim, Refund, Transfer, Wait}
+use Rattle.swap_job.specs.declared.moves.Move.{Move}
+use Rattle.swap_job.specs.declared.moves.Move.TheVariants.{Publish, Craft, Replay, Raw, Claim, Refund, Transfer, Wait}
 use Rattle.offer_fields.specs.Fields.{array_at, each, kind, list_at, member_text_of, needed, no_unknown, number_at, object_at, only, present}
 use Rattle.offer_fields.specs.Fields.{optional_number, optional_number_at, text_at}
 use Rattle.offer_moves.specs.Reading.{claim_at, craft_at, craft_fields, crafting_at, key_at, kind_at, kind_of, move_at, optional_texts, optional_texts_at}

@@ -7,11 +7,11 @@ use Rattle.std.proofs.lemmas.List.Elements.{All-map}
 use Rattle.swap_digraph.specs.Value.{Graph}
 use Rattle.swap_digraph.specs.Deal.{most_parties, path_limit_of}
 use Rattle.swap_digraph.specs.declared.deal.Version.{Version}
-use Rattle.deviator_script.specs.declared.job.Job.{Job}
-use Rattle.deviator_script.specs.declared.job.Purpose.{Purpose}
-use Rattle.deviator_script.specs.declared.job.Purpose.TheVariants.{Make}
-use Rattle.deviator_script.specs.declared.job.Role.{Role}
-use Rattle.deviator_script.specs.declared.job.Role.TheVariants as kinds
+use Rattle.swap_job.specs.declared.job.Job.{Job}
+use Rattle.swap_job.specs.declared.job.Purpose.{Purpose}
+use Rattle.swap_job.specs.declared.job.Purpose.TheVariants.{Make}
+use Rattle.swap_job.specs.declared.job.Role.{Role}
+use Rattle.swap_job.specs.declared.job.Role.TheVariants as kinds
 use Rattle.offer_fields.specs.Fields.{object_of}
 use Rattle.offer_fields.specs.Limits.{within}
 use Rattle.offer_fields.specs.Lists.{each_of}

@@ -1,8 +1,8 @@
 -- The run of what is written of a number is the one that its summary tells of.
 use Rattle.std.proofs.Common.{◌≡◌, ℕ, zero, suc, false, replicate, refl, ap, ◌∙◌}
 use Rattle.std.specs.List.{list_any}
-use Rattle.deviator_script.specs.declared.job.Purpose.TheVariants.{Run}
-use Rattle.deviator_script.specs.declared.job.Role.TheVariants.{Conforming}
+use Rattle.swap_job.specs.declared.job.Purpose.TheVariants.{Run}
+use Rattle.swap_job.specs.declared.job.Role.TheVariants.{Conforming}
 use Rattle.swap_run.specs.Asked.{is_strategy, with_answers, Answers}
 use Rattle.swap_run.specs.Fair.{finish}
 use Rattle.swap_run.specs.Run.{run, start, Cast, State}

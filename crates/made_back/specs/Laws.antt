@@ -4,11 +4,11 @@ use Rattle.std.specs.Str.{bytes_eq, is_utf8, IsUtf8}
 use Rattle.std.specs.List.{list_all, list_any}
 use Rattle.serde_json.specs.Read.{read}
 use Rattle.swap_base.specs.Fault.{◌>>=◌}
-use Rattle.deviator_script.specs.declared.event.Event.{Event}
-use Rattle.deviator_script.specs.declared.job.Job.{Job}
-use Rattle.deviator_script.specs.declared.job.Purpose.{Purpose}
-use Rattle.deviator_script.specs.declared.job.Purpose.TheVariants.{Check, Run, Race, Make}
-use Rattle.program_kit.specs.Program.{program_names}
+use Rattle.swap_job.specs.declared.event.Event.{Event}
+use Rattle.swap_job.specs.declared.job.Job.{Job}
+use Rattle.swap_job.specs.declared.job.Purpose.{Purpose}
+use Rattle.swap_job.specs.declared.job.Purpose.TheVariants.{Check, Run, Race, Make}
+use Rattle.deviators.specs.Program.{program_names}
 use Rattle.refusals.specs.declared.reason.Reason.{Reason}
 use Rattle.offer_text.specs.HeaderLine.{header_line, made_header}
 use Rattle.swap_run.specs.Asked.{with_answers, Answers}

@@ -2,7 +2,7 @@
 use Rattle.std.proofs.Common.{◌≡◌, ℕ, zero, suc, ◌+◌, ◌-◌, ◌<◌, ◌≤◌, List, [], ◌∷◌, length, drop, get_or, refl, sym, ap, ap₂, ◌∙◌, arith}
 use Rattle.std.proofs.lemmas.List.{drop-drop, get_or-drop}
 use Rattle.swap_digraph.specs.Value.{Graph}
-use Rattle.deviator_script.specs.declared.event.Event.{Event}
+use Rattle.swap_job.specs.declared.event.Event.{Event}
 use Rattle.swap_gen.specs.Drawn.{drawn_graph}
 use Rattle.swap_gen.specs.Events.{event_from, events_from, first_place, generated_events, GeneratorState}
 use Rattle.swap_gen.proofs.Listing.{begins}

@@ -1,7 +1,7 @@
 -- The summary of a number's job, from its run.
 use Rattle.std.proofs.Common.{◌≡◌, ◌==◌, ℕ, Bool, not, List, Option, length, sym, ap, ap₂, ◌∙◌, subst}
 use Rattle.ledger_core.specs.Book.{Histories, IsLegalBook}
-use Rattle.deviator_script.specs.declared.job.Job.{Job}
+use Rattle.swap_job.specs.declared.job.Job.{Job}
 use Rattle.outcome_rules.specs.declared.report.Report.{Report}
 use Rattle.outcome_rules.specs.Report.{report_of}
 use Rattle.swap_rules.specs.Outcome.{IsEnded}

@@ -3,9 +3,9 @@ use Rattle.std.specs.Prelude.{◌≡◌, ℕ, Bool, ◌<◌, ◌++◌, List, ◌
 use Rattle.swap_base.specs.Fault.{◌>>=◌, steps}
 use Rattle.swap_base.specs.Text.{joined}
 use Rattle.swap_rules.specs.Accepted.{IsAccepted}
-use Rattle.deviator_script.specs.declared.event.Event.{Event}
-use Rattle.deviator_script.specs.declared.job.Job.{Job}
-use Rattle.deviator_script.specs.declared.job.Purpose.TheVariants.{Make}
+use Rattle.swap_job.specs.declared.event.Event.{Event}
+use Rattle.swap_job.specs.declared.job.Job.{Job}
+use Rattle.swap_job.specs.declared.job.Purpose.TheVariants.{Make}
 use Rattle.refusals.specs.declared.reason.Reason.{Reason}
 use Rattle.swap_offer.specs.Lines.{lines_of, filled_lines}
 use Rattle.swap_offer.specs.Job.{counted, of_lines}

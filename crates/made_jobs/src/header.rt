@@ -4,7 +4,7 @@ ghost use Rattle.std.specs.Prelude.{◌≡◌, ◌++◌, OnOk};
 ghost use Rattle.offer_text.specs.HeaderLine.{AreSayable, IsWritable};
 ghost use Rattle.made_jobs.specs.Making.{written_line};
 
-use deviator_script::Job;
+use swap_job::Job;
 use offer_text::write_deal;
 use std::alloc::Global;
 use swap_base::{NoMemory, Piece, put};

@@ -10,7 +10,7 @@ ghost use Rattle.swap_gen.specs.Made.{made};
 ghost use Rattle.made_jobs.specs.Making.{line_step, written_line, IsMade};
 
 use crate::header::put_header;
-use deviator_script::Job;
+use swap_job::Job;
 use refusals::OfferFault;
 use std::alloc::Global;
 use swap_base::{NoMemory, Piece, put};

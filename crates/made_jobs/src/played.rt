@@ -16,7 +16,8 @@ ghost use Rattle.swap_gen.specs.Events.{generated_events};
 ghost use Rattle.swap_gen.specs.Owned.{wallets_in, OwnsKeys};
 ghost use Rattle.made_jobs.specs.Generating.{generated_book, IsOf, StandsAt};
 
-use deviator_script::{Job, Kit};
+use swap_job::Job;
+use deviators::Kit;
 use ledger_core::Book;
 use party_wallet::Wallet;
 use std::alloc::Global;

@@ -11,7 +11,7 @@ ghost use Rattle.run_summary.specs.Summary.{summary};
 ghost use Rattle.made_jobs.specs.Generating.{generated_book, generated_summary, is_found};
 
 use crate::played::played;
-use deviator_script::Job;
+use swap_job::Job;
 use ledger_core::Book;
 use outcome_rules::report_of;
 use run_summary::summary_text;

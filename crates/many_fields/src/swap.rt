@@ -8,7 +8,7 @@ ghost use Rattle.many_fields.specs.Fields.{chains_of, finish_of, finish_word};
 ghost use Rattle.many_fields.specs.Whole.{AreBelow};
 
 use crate::number::read_below;
-use deviator_script::Finish;
+use swap_job::Finish;
 use std::alloc::Global;
 use swap_base::Listed;
 use transcript_fields::{Parts, WordFault, misspelt, nothing_more, word};

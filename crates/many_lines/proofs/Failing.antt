@@ -7,9 +7,9 @@ use Rattle.transcript_lines.specs.declared.said.Misspelling.{Misspelling}
 use Rattle.refusals.specs.declared.reason.Reason.{Reason}
 use Rattle.refusals.specs.declared.refusal.Refusal.{Refusal}
 use Rattle.refusals.specs.Refusal.{named}
-use Rattle.deviator_script.specs.declared.event.Event.{Event}
-use Rattle.deviator_script.specs.declared.job.Job.{Job}
-use Rattle.deviator_script.specs.declared.job.Purpose.TheVariants.{Run}
+use Rattle.swap_job.specs.declared.event.Event.{Event}
+use Rattle.swap_job.specs.declared.job.Job.{Job}
+use Rattle.swap_job.specs.declared.job.Purpose.TheVariants.{Run}
 use Rattle.swap_offer.specs.Job.{job_header_of, names_at}
 use Rattle.many_lines.specs.Event.{IsAgainst, is_of_crash, with_reason}
 use Rattle.many_lines.specs.Heading.{bad_line, by_field, by_fields, IsNamed, swap_job, without_finish}

@@ -7,7 +7,7 @@ use Rattle.std.specs.Prelude.{slice_index_or}
 use Rattle.std.specs.Str.{bytes_eq}
 use Rattle.swap_base.specs.Fault.{◌>>=◌}
 use Rattle.offer_fields.proofs.Chains.{went}
-use Rattle.deviator_script.specs.declared.job.Job.{Job}
+use Rattle.swap_job.specs.declared.job.Job.{Job}
 use Rattle.swap_many.specs.Chains.{nowhere}
 use Rattle.swap_many.specs.Opening.{IsPlaceOn}
 use Rattle.swap_many.specs.declared.place.Place.{Place}

@@ -4,8 +4,8 @@ use Rattle.std.proofs.lemmas.Bool.{cases_lt}
 use Rattle.std.proofs.lemmas.List.{get_or_append_left, get_or_default, map_push}
 use Rattle.std.proofs.Math.Seq.{get_or-append_seam}
 use Rattle.std.specs.Prelude.{true, false, if◌then◌else◌, map, slice_index_or, OnOk, Result, Ok, Err}
-use Rattle.deviator_script.specs.declared.job.Job.{Job}
-use Rattle.deviator_script.specs.declared.job.Purpose.TheVariants.{Run}
+use Rattle.swap_job.specs.declared.job.Job.{Job}
+use Rattle.swap_job.specs.declared.job.Purpose.TheVariants.{Run}
 use Rattle.offer_header.specs.Limits.{HoldsEach}
 use Rattle.swap_offer.specs.Job.{IsWhole}
 use Rattle.many_fields.specs.Whole.{AreBelow, IsChain}

@@ -1,6 +1,6 @@
 -- What a reader of the lines before the events keeps.
 use Rattle.std.specs.Prelude.{◌≡◌, ◌≤◌, ◌<◌, ℕ, true, List, is_some, length, map, vec_capacity}
-use Rattle.deviator_script.specs.declared.job.Purpose.TheVariants.{Run}
+use Rattle.swap_job.specs.declared.job.Purpose.TheVariants.{Run}
 use Rattle.swap_offer.specs.Wallets.{wallets_for}
 use Rattle.many_fields.specs.Whole.{AreBelow}
 use Rattle.many_lines.specs.declared.heading.Heading.TheInside.{Inside}

@@ -1,7 +1,7 @@
 -- What holds of swaps that were read.
 use Rattle.std.specs.Prelude.{◌≡◌, ◌<◌, ◌≤◌, ℕ, Bool, List, [], length, slice_index_or}
-use Rattle.deviator_script.specs.declared.job.Job.{Job}
-use Rattle.deviator_script.specs.declared.job.Purpose.TheVariants.{Run}
+use Rattle.swap_job.specs.declared.job.Job.{Job}
+use Rattle.swap_job.specs.declared.job.Purpose.TheVariants.{Run}
 use Rattle.offer_header.specs.Limits.{HoldsEach}
 use Rattle.offer_header.specs.Names.{AreNames}
 use Rattle.swap_rules.specs.Accepted.{IsAccepted}

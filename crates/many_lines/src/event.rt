@@ -13,7 +13,7 @@ ghost use Rattle.many_lines.specs.Whole.{AreChains, AreSwaps};
 use crate::fault::{bad, nameless};
 use crate::many_job::ManyJob;
 use crate::said::{payment_in, swap_in, sweep_in, tick_in};
-use deviator_script::{Event, Job, Purpose};
+use swap_job::{Event, Job, Purpose};
 use refusals::{HeaderFault, OfferFault, Reason, over_limit, with_names};
 use std::alloc::Global;
 use swap_base::{ByteText, Fault, Listed, NoMemory, TryCopy};

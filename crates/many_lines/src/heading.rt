@@ -16,7 +16,8 @@ use crate::many_job::ManyJob;
 use crate::said::{accounts_in, chains_in, finish_in};
 use crate::stage::Stage;
 use crate::swap::read_swap;
-use deviator_script::{Finish, Kit, Purpose};
+use swap_job::{Finish, Purpose};
+use deviators::Kit;
 use party_wallet::Wallet;
 use refusals::HeaderFault;
 use std::alloc::Global;
@@ -37,7 +38,7 @@ const MOST_SWAPS: usize = 8;
 pub struct Heading {
     names: Vec<Listed<ByteText>>,
     units: Vec<Listed<u64>>,
-    jobs: Vec<deviator_script::Job>,
+    jobs: Vec<swap_job::Job>,
     chains: Vec<Listed<u8>>,
     /// The wallets of each swap.
     wallets: Vec<Vec<Option<Wallet>>>,

@@ -1,6 +1,6 @@
 //! Swaps on shared chains.
 
-use deviator_script::Job;
+use swap_job::Job;
 use swap_base::{ByteText, Listed};
 
 /// What is to be done with several swaps on shared chains.

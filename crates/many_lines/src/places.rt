@@ -9,7 +9,7 @@ ghost use Rattle.many_lines.specs.Places.{account_of, arc_places, job_at, place_
 ghost use Rattle.many_lines.specs.Whole.{AreChains, ArePlaced, AreSwaps};
 
 use crate::many_job::ManyJob;
-use deviator_script::Job;
+use swap_job::Job;
 use refusals::{HeaderFault, Reason, Refusal, name_at};
 use std::alloc::Global;
 use swap_base::{ArcId, ByteText, Fault, Listed};

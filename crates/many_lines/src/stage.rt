@@ -1,6 +1,6 @@
 //! Which line stands next.
 
-use deviator_script::Finish;
+use swap_job::Finish;
 use swap_base::Listed;
 
 /// Which line of many swaps stands next.

@@ -10,7 +10,8 @@ ghost use Rattle.swap_offer.specs.Wallets.{HaveScriptsFor, HaveSeedsFor, HaveWal
 ghost use Rattle.many_lines.specs.Heading.{swap_job, tells_finish, without_finish};
 
 use crate::fault::{bad, nameless};
-use deviator_script::{Kit, Purpose};
+use deviators::Kit;
+use swap_job::Purpose;
 use offer_fields::object_in;
 use refusals::{HeaderFault, OfferFault};
 use std::alloc::Global;

@@ -4,9 +4,9 @@ use Rattle.std.proofs.Common.{slice_index_or, sum_by, zero, suc, Option, Some, N
 use Rattle.std.specs.List.{All}
 use Rattle.std.proofs.lemmas.List.{get_or-map, length-append, length-map, map-append}
 use Rattle.std.proofs.lemmas.List.Elements.{All-get_or, All-push}
-use Rattle.deviator_script.specs.declared.event.Event.{Event}
-use Rattle.deviator_script.specs.declared.job.Job.{Job}
-use Rattle.deviator_script.specs.Step.{CanStep, IsEventOf}
+use Rattle.swap_job.specs.declared.event.Event.{Event}
+use Rattle.swap_job.specs.declared.job.Job.{Job}
+use Rattle.swap_job.specs.Step.{CanStep, IsEventOf}
 use Rattle.swap_run.specs.Run.{Cast}
 use Rattle.swap_run.specs.CalledLaws.{is_no_tick}
 use Rattle.swap_world.specs.Cast.{cast_of}

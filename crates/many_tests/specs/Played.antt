@@ -1,6 +1,6 @@
 -- What a test knows of swaps on shared chains before they begin, and what stays of them whatever happens.
 use Rattle.std.specs.Prelude.{◌≡◌, ℕ, ◌<◌, ◌≤◌, ◌^◌, Bool, true, List, length, map, slice_index_or, sum_by, All}
-use Rattle.deviator_script.specs.declared.job.Job.{Job}
+use Rattle.swap_job.specs.declared.job.Job.{Job}
 use Rattle.offer_events.specs.Event.{needs_seeds}
 use Rattle.swap_offer.specs.Job.{IsWhole}
 use Rattle.swap_world.specs.Cast.{cast_of}

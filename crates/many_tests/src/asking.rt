@@ -6,7 +6,8 @@ ghost use Rattle.many_tests.specs.Played.{CanComeIn, IsOf};
 
 use crate::cases::parted;
 use crate::events::event_of;
-use deviator_script::{Job, Kit};
+use swap_job::Job;
+use deviators::Kit;
 use ledger_core::Book;
 use std::alloc::{AllocError, Global};
 use std::test::Fail;

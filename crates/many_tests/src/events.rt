@@ -1,12 +1,12 @@
 //! Events from words.
 
 ghost use Rattle.std.specs.Prelude.{◌≡◌, IfOk, All};
-ghost use Rattle.deviator_script.specs.Step.{IsEventOf};
+ghost use Rattle.swap_job.specs.Step.{IsEventOf};
 ghost use Rattle.swap_run.specs.CalledLaws.{is_no_tick};
 ghost use Rattle.many_tests.specs.Played.{CanComeIn, CanComeOn, CanComeTo, IsRun};
 
 use crate::cases::parted;
-use deviator_script::{Event, Job};
+use swap_job::{Event, Job};
 use std::alloc::Global;
 use std::test::Fail;
 use swap_base::{ArcId, Listed};

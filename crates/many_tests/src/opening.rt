@@ -11,7 +11,8 @@ ghost use Rattle.swap_many.specs.Opening.{IsPlaceOn};
 ghost use Rattle.many_tests.specs.Played.{AreBegun, IsChain};
 
 use crate::cases::parted;
-use deviator_script::{Job, Kit, Purpose};
+use swap_job::{Job, Purpose};
+use deviators::Kit;
 use party_wallet::Wallet;
 use std::alloc::Global;
 use std::test::Fail;

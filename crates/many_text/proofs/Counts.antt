@@ -10,7 +10,7 @@ use Rattle.ledger_core.specs.Book.{Histories}
 use Rattle.swap_rules.specs.Outcome.{outcome}
 use Rattle.outcome_rules.specs.declared.report.Report.{Report}
 use Rattle.outcome_rules.specs.Report.{report_of}
-use Rattle.deviator_script.specs.declared.job.Job.{Job}
+use Rattle.swap_job.specs.declared.job.Job.{Job}
 use Rattle.swap_many.specs.Kept.{Kept}
 use Rattle.many_text.specs.ManyText.{findings_from, report_in}
 

@@ -9,7 +9,7 @@ use Rattle.swap_io.specs.declared.fault.TextFault.{TextFault}
 use Rattle.swap_io.specs.declared.fault.TextFault.TheVariants.{WriteFault, NoMemory}
 use Rattle.swap_base.specs.Text.{lines}
 use Rattle.ledger_core.specs.Book.{Histories}
-use Rattle.deviator_script.specs.declared.job.Job.{Job}
+use Rattle.swap_job.specs.declared.job.Job.{Job}
 use Rattle.outcome_rules.specs.declared.report.Report.{Report}
 use Rattle.transcript_text.specs.Report.{count_line, report}
 use Rattle.swap_many.specs.Kept.{Kept}

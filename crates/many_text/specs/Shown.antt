@@ -1,6 +1,6 @@
 -- A world whose swaps and chains can be shown.
 use Rattle.std.specs.Prelude.{◌≡◌, ◌<◌, ◌≤◌, ℕ, List, [], length, slice_index_or}
-use Rattle.deviator_script.specs.declared.job.Job.{Job}
+use Rattle.swap_job.specs.declared.job.Job.{Job}
 use Rattle.swap_many.specs.Value.{ManyState, world_at}
 
 -- Swap s of the world is that job.

@@ -11,7 +11,7 @@ ghost use Rattle.swap_many.specs.Value.{kept_of};
 ghost use Rattle.many_text.specs.ManyText.{book_in, findings_from, report_in, swap_line, swap_text, swap_text_in};
 ghost use Rattle.many_text.specs.Shown.{AreShown, IsShown};
 
-use deviator_script::Job;
+use swap_job::Job;
 use ledger_core::Book;
 use outcome_rules::{Report, report_of};
 use std::alloc::Global;

@@ -11,7 +11,7 @@ ghost use Rattle.many_text.specs.Shown.{AreChainsShown, AreShown};
 
 use crate::chains::put_chains;
 use crate::swaps::write_swaps;
-use deviator_script::Job;
+use swap_job::Job;
 use std::alloc::Global;
 use swap_base::{ByteText, Listed, NoMemory, Piece, put};
 use swap_io::{Sink, TextFault, flush};

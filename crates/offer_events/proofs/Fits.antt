@@ -7,15 +7,15 @@ use Rattle.std.specs.Prelude.{unwrap_or, IsTrue, codes}
 use Rattle.swap_base.proofs.Lists.{and_both}
 use Rattle.swap_digraph.specs.declared.deal.Deal.{Deal}
 use Rattle.swap_digraph.specs.Deal.{IsWellSized, party, counterparty}
-use Rattle.deviator_script.specs.declared.job.Job.{Job}
-use Rattle.deviator_script.specs.declared.moves.Move.{Move}
-use Rattle.deviator_script.specs.declared.moves.Move.TheVariants.{Publish, Craft, Replay, Raw, Claim, Refund, Transfer, Wait}
-use Rattle.deviator_script.specs.declared.event.Event.{Event}
-use Rattle.deviator_script.specs.declared.event.Event.TheVariants.{Tick, Look, Act, Call, Crash}
-use Rattle.deviator_script.specs.Crafted.{Seeds}
-use Rattle.deviator_script.specs.Fitting.{IsFitting}
-use Rattle.deviator_script.specs.Resolved.{arc_of as stands_on}
-use Rattle.deviator_script.specs.Step.{CanStep, IsEventOf}
+use Rattle.swap_job.specs.declared.job.Job.{Job}
+use Rattle.swap_job.specs.declared.moves.Move.{Move}
+use Rattle.swap_job.specs.declared.moves.Move.TheVariants.{Publish, Craft, Replay, Raw, Claim, Refund, Transfer, Wait}
+use Rattle.swap_job.specs.declared.event.Event.{Event}
+use Rattle.swap_job.specs.declared.event.Event.TheVariants.{Tick, Look, Act, Call, Crash}
+use Rattle.swap_job.specs.Crafted.{Seeds}
+use Rattle.swap_job.specs.Fitting.{IsFitting}
+use Rattle.swap_job.specs.Resolved.{arc_of as stands_on}
+use Rattle.swap_job.specs.Step.{CanStep, IsEventOf}
 use Rattle.refusals.specs.declared.reason.Reason.TheVariants.{NoSeed, NotConforming}
 use Rattle.offer_fields.specs.Limits.{number_within}
 use Rattle.offer_fields.specs.Names.{party_of_name}

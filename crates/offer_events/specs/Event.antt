@@ -2,14 +2,14 @@
 use Rattle.std.specs.Prelude.{ℕ, Bool, true, false, List, [], ◌∷◌, codes, slice_index_or, unwrap_or, if◌then◌else◌, is_some, Option, None, Result, Ok, Err}
 use Rattle.swap_base.specs.Fault.{◌>>=◌}
 use Rattle.swap_digraph.specs.declared.deal.Deal.{Deal}
-use Rattle.deviator_script.specs.declared.job.Job.{Job}
-use Rattle.deviator_script.specs.declared.job.Purpose.{Purpose}
-use Rattle.deviator_script.specs.declared.job.Purpose.TheVariants.{Check, Race}
-use Rattle.deviator_script.specs.declared.moves.Move.{Move}
-use Rattle.deviator_script.specs.declared.moves.Move.TheVariants.{Craft}
-use Rattle.deviator_script.specs.Crafted.{Seeds}
-use Rattle.deviator_script.specs.declared.event.Event.{Event}
-use Rattle.deviator_script.specs.declared.event.Event.TheVariants.{Tick, Look, Act, Call, Crash}
+use Rattle.swap_job.specs.declared.job.Job.{Job}
+use Rattle.swap_job.specs.declared.job.Purpose.{Purpose}
+use Rattle.swap_job.specs.declared.job.Purpose.TheVariants.{Check, Race}
+use Rattle.swap_job.specs.declared.moves.Move.{Move}
+use Rattle.swap_job.specs.declared.moves.Move.TheVariants.{Craft}
+use Rattle.swap_job.specs.Crafted.{Seeds}
+use Rattle.swap_job.specs.declared.event.Event.{Event}
+use Rattle.swap_job.specs.declared.event.Event.TheVariants.{Tick, Look, Act, Call, Crash}
 use Rattle.refusals.specs.declared.reason.Reason.{Reason}
 use Rattle.refusals.specs.declared.reason.Reason.TheVariants.{NoSeed, EventInRace, NotConforming}
 use Rattle.offer_fields.specs.Fields.{object_of}

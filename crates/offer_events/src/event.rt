@@ -4,8 +4,8 @@ ghost use Rattle.std.specs.Prelude.{◌≡◌, ◌<◌, ◌≤◌, ℕ, List, tr
 ghost use Rattle.std.specs.List.{list_all};
 ghost use Rattle.swap_base.specs.Fault.{Gives};
 ghost use Rattle.swap_digraph.specs.Deal.{IsWellSized};
-ghost use Rattle.deviator_script.specs.Resolved.{arc_of as stands_on};
-ghost use Rattle.deviator_script.specs.Step.{IsEventOf};
+ghost use Rattle.swap_job.specs.Resolved.{arc_of as stands_on};
+ghost use Rattle.swap_job.specs.Step.{IsEventOf};
 ghost use Rattle.offer_moves.specs.Kept.{AreCraftersBelow};
 ghost use Rattle.offer_events.specs.Event.{event_of_tick, event_of_look, event_of_act, permitted, event_of_call, event_of_crash, checked};
 ghost use Rattle.offer_events.specs.Event.{outside_race, conforming_crash, asked, event_of, each_seeded, needs_seeds, crafted_with_seeds};
@@ -13,11 +13,9 @@ ghost use Rattle.offer_events.specs.Event.{outside_race, conforming_crash, asked
 use crate::plain::plain_event;
 use crate::raw::RawEvent;
 use crate::reading::event_in;
-use deviator_script::{Event, Job, Move, Purpose};
+use swap_job::{Event, Job, Move, Purpose};
 use offer_fields::{number_within, object_in, party_of_name};
-use offer_moves::{
-    RawMove, arc_of, check_adjacent, check_deviator, check_place, move_of, sizes_of,
-};
+use offer_moves::{RawMove, arc_of, check_adjacent, check_deviator, check_place, move_of, sizes_of,};
 use refusals::{OfferFault, Reason};
 use std::alloc::Global;
 use swap_base::{Digest, Fault, PartyId, Shared};

@@ -4,7 +4,7 @@ use Rattle.std.specs.Prelude.{IfOk}
 use Rattle.serde_json.specs.Data.{Data}
 use Rattle.swap_base.specs.Fault.{Gives}
 use Rattle.swap_base.specs.declared.fault.Fault.{Fault}
-use Rattle.deviator_script.specs.declared.job.Purpose.{Purpose}
+use Rattle.swap_job.specs.declared.job.Purpose.{Purpose}
 use Rattle.refusals.specs.declared.reason.Reason.{Reason}
 use Rattle.offer_fields.specs.Fields.{number_at, list_at, only}
 use Rattle.offer_header.specs.Raw.{arc_of, finish_at, header_fields, keys_at, leader_of, mode_at, party_of, raw_of, states_keys, version_at}

@@ -8,9 +8,9 @@ use Rattle.swap_digraph.specs.Deal.{most_parties}
 use Rattle.swap_digraph.specs.declared.deal.Version.{Version}
 use Rattle.refusals.specs.declared.reason.Reason.{Reason}
 use Rattle.refusals.specs.declared.reason.Reason.TheVariants.{Unknown}
-use Rattle.deviator_script.specs.declared.job.Purpose.{Purpose}
-use Rattle.deviator_script.specs.declared.job.Role.{Role}
-use Rattle.deviator_script.specs.declared.job.Role.TheVariants as kinds
+use Rattle.swap_job.specs.declared.job.Purpose.{Purpose}
+use Rattle.swap_job.specs.declared.job.Role.{Role}
+use Rattle.swap_job.specs.declared.job.Role.TheVariants as kinds
 use Rattle.offer_fields.specs.Limits.{within}
 use Rattle.offer_fields.specs.Lists.{each_of}
 use Rattle.offer_fields.proofs.Chains.{went, each_at, each_length}

@@ -12,10 +12,10 @@ use Rattle.swap_digraph.specs.Deal.{most_parties}
 use Rattle.swap_digraph.specs.declared.deal.Mode.{Mode}
 use Rattle.swap_digraph.specs.declared.deal.Version.{Version}
 use Rattle.refusals.specs.declared.reason.Reason.{Reason}
-use Rattle.deviator_script.specs.declared.job.Purpose.{Purpose}
-use Rattle.deviator_script.specs.declared.job.Purpose.TheVariants.{Check, Run, Race, Make, Audit}
-use Rattle.deviator_script.specs.declared.job.Role.{Role}
-use Rattle.deviator_script.specs.declared.job.Role.TheVariants as kinds
+use Rattle.swap_job.specs.declared.job.Purpose.{Purpose}
+use Rattle.swap_job.specs.declared.job.Purpose.TheVariants.{Check, Run, Race, Make, Audit}
+use Rattle.swap_job.specs.declared.job.Role.{Role}
+use Rattle.swap_job.specs.declared.job.Role.TheVariants as kinds
 use Rattle.offer_fields.specs.Fields.{text_at, object_at, array_at, list_at, listed, each, only, member_text_of}
 use Rattle.offer_fields.specs.Limits.{within}
 use Rattle.offer_fields.proofs.Chains.{went, each_all, each_at, each_length}

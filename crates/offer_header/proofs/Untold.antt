@@ -8,8 +8,8 @@ use Rattle.refusals.specs.declared.reason.Reason.{Reason}
 use Rattle.swap_digraph.specs.Deal.{most_parties}
 use Rattle.swap_digraph.specs.declared.deal.Mode.{Mode}
 use Rattle.swap_digraph.specs.declared.deal.Version.{Version}
-use Rattle.deviator_script.specs.declared.job.Purpose.{Purpose}
-use Rattle.deviator_script.specs.declared.job.Purpose.TheVariants.{Check, Run, Race, Make, Audit}
+use Rattle.swap_job.specs.declared.job.Purpose.{Purpose}
+use Rattle.swap_job.specs.declared.job.Purpose.TheVariants.{Check, Run, Race, Make, Audit}
 use Rattle.offer_fields.specs.Fields.{text_at, object_at, array_at, list_at, listed, each, only}
 use Rattle.offer_fields.specs.Limits.{within}
 use Rattle.offer_fields.specs.Lists.{each_of}
@@ -18,7 +18,7 @@ use Rattle.offer_header.specs.Raw.{actor_at, party_fields, party_of, finish_at, 
 use Rattle.offer_header.specs.Limits.{seed_or_none, seed_of, role_of, acting_of, parties_of, sizes_in, limited_of}
 use Rattle.offer_header.specs.Header.{IsUntoldFor}
 use Rattle.offer_header.proofs.Limited.{opened}
-use Rattle.deviator_script.specs.declared.job.Role.TheVariants as kinds
+use Rattle.swap_job.specs.declared.job.Role.TheVariants as kinds
 use Rattle.offer_moves.specs.declared.moves.Sizes.{Sizes}
 use Rattle.offer_header.specs.declared.limits.Acting.{Acting}
 use Rattle.offer_header.specs.declared.raw.RawActor.TheVariants.{Manual}

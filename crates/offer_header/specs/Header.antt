@@ -5,11 +5,11 @@ use Rattle.swap_digraph.specs.declared.deal.Mode.{Mode}
 use Rattle.swap_digraph.specs.declared.deal.Mode.TheVariants.{Timelocks, Hashkeys}
 use Rattle.swap_digraph.specs.Deal.{most_arcs, most_parties}
 use Rattle.swap_digraph.specs.Graph.{ends_in}
-use Rattle.deviator_script.specs.declared.job.Role.{Role}
-use Rattle.deviator_script.specs.declared.job.Role.TheVariants.{Conforming, Manual}
-use Rattle.deviator_script.specs.declared.job.Purpose.{Purpose}
-use Rattle.deviator_script.specs.declared.job.Purpose.TheVariants.{Audit}
-use Rattle.deviator_script.specs.declared.job.Finish.TheVariants.{Stop}
+use Rattle.swap_job.specs.declared.job.Role.{Role}
+use Rattle.swap_job.specs.declared.job.Role.TheVariants.{Conforming, Manual}
+use Rattle.swap_job.specs.declared.job.Purpose.{Purpose}
+use Rattle.swap_job.specs.declared.job.Purpose.TheVariants.{Audit}
+use Rattle.swap_job.specs.declared.job.Finish.TheVariants.{Stop}
 use Rattle.refusals.specs.declared.reason.Reason.{Reason}
 use Rattle.offer_fields.specs.Fields.{object_of}
 use Rattle.offer_header.specs.Raw.{raw_of, IsModeOf}

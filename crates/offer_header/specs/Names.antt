@@ -5,7 +5,7 @@ use Rattle.std.specs.Prelude.{if◌then◌else◌, is_some, false, Result, Ok, E
 use Rattle.std.specs.Str.{bytes_eq}
 use Rattle.std.specs.List.{list_any, list_all}
 use Rattle.swap_base.specs.Fault.{◌>>=◌, steps}
-use Rattle.deviator_script.specs.Names.{under}
+use Rattle.swap_job.specs.Names.{under}
 use Rattle.refusals.specs.declared.reason.Reason.{Reason}
 use Rattle.refusals.specs.declared.reason.Reason.TheVariants.{BadName, Duplicate, Unknown}
 use Rattle.offer_fields.specs.Lists.{each_of}

@@ -9,10 +9,10 @@ use Rattle.swap_digraph.specs.declared.deal.Mode.{Mode}
 use Rattle.swap_digraph.specs.declared.deal.Mode.TheVariants.{Timelocks, Hashkeys}
 use Rattle.swap_digraph.specs.declared.deal.Version.{Version}
 use Rattle.swap_digraph.specs.declared.deal.Version.TheVariants.{One, Two}
-use Rattle.deviator_script.specs.declared.job.Purpose.{Purpose}
-use Rattle.deviator_script.specs.declared.job.Purpose.TheVariants.{Make, Audit}
-use Rattle.deviator_script.specs.declared.job.Finish.{Finish}
-use Rattle.deviator_script.specs.declared.job.Finish.TheVariants.{Stop, Fair}
+use Rattle.swap_job.specs.declared.job.Purpose.{Purpose}
+use Rattle.swap_job.specs.declared.job.Purpose.TheVariants.{Make, Audit}
+use Rattle.swap_job.specs.declared.job.Finish.{Finish}
+use Rattle.swap_job.specs.declared.job.Finish.TheVariants.{Stop, Fair}
 use Rattle.refusals.specs.declared.reason.Reason.{Reason}
 use Rattle.refusals.specs.declared.reason.Reason.TheVariants.{WrongKind}
 use Rattle.offer_fields.specs.Fields.{kind, number_at, text_at, word_at, optional_text_at, member_text_of, object_at, list_at, each, only}

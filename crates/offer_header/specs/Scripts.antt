@@ -4,10 +4,10 @@ use Rattle.swap_base.specs.Fault.{◌>>=◌, steps}
 use Rattle.swap_digraph.specs.declared.arc_ends.ArcEnds.{ArcEnds}
 use Rattle.swap_digraph.specs.declared.deal.Deal.{Deal}
 use Rattle.swap_digraph.specs.Deal.{IsWellSized, path_limit_of}
-use Rattle.deviator_script.specs.Crafted.{Seeds}
-use Rattle.deviator_script.specs.declared.job.Role.{Role}
-use Rattle.deviator_script.specs.declared.job.Role.TheVariants.{Script}
-use Rattle.deviator_script.specs.declared.moves.Move.{Move}
+use Rattle.swap_job.specs.Crafted.{Seeds}
+use Rattle.swap_job.specs.declared.job.Role.{Role}
+use Rattle.swap_job.specs.declared.job.Role.TheVariants.{Script}
+use Rattle.swap_job.specs.declared.moves.Move.{Move}
 use Rattle.refusals.specs.declared.reason.Reason.{Reason}
 use Rattle.offer_moves.specs.Kept.{CanStand, IsMade}
 use Rattle.offer_moves.specs.Moves.{sizes_of}

@@ -7,7 +7,7 @@ ghost use Rattle.offer_header.specs.Raw.{version_at, mode_for, stated_mode_at, m
 ghost use Rattle.offer_header.specs.Raw.{transcript_fields, job_fields, header_fields, lists_of, raw_of};
 
 use crate::raw::{Front, RawHeader, RawRow, Reading};
-use deviator_script::{Finish, Purpose};
+use swap_job::{Finish, Purpose};
 use offer_fields::{list_in, number_in, only_in, optional_text_in, text_in};
 use refusals::{OfferFault, wrong_kind};
 use serde_json::Value;

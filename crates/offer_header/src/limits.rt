@@ -14,7 +14,7 @@ use crate::header::Header;
 use crate::names::{Ends, Numbered};
 use crate::raw::{RawActor, RawArc, RawHeader, RawLeader, RawParty, RawRow, is_plain};
 use crate::versions::{most_arcs, most_parties, path_limit_of};
-use deviator_script::{MoveList, Purpose, Role};
+use swap_job::{MoveList, Purpose, Role};
 use offer_fields::{TextRef, digest_in, number_within, within};
 use offer_moves::{RawMove, Sizes, move_of};
 use refusals::{OfferFault, Reason};

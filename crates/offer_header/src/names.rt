@@ -11,7 +11,7 @@ ghost use Rattle.offer_header.specs.Names.{is_name, is_name_byte, known, all_kno
 ghost use Rattle.offer_header.specs.Names.{with_name, names_stated, ends_of, leader_step, numbered_among, numbered_by, numbered_of};
 
 use crate::raw::{RawActor, RawArc, RawHeader, RawLeader, RawParty};
-use deviator_script::Kit;
+use deviators::Kit;
 use indexmap::IndexSet;
 use offer_fields::TextRef;
 use offer_moves::RawMove;

@@ -3,7 +3,7 @@
 ghost use Rattle.std.specs.Prelude.{◌≡◌};
 ghost use Rattle.offer_header.specs.Raw.{is_plain, states_keys, states_timelocks};
 
-use deviator_script::{Finish, Purpose};
+use swap_job::{Finish, Purpose};
 use offer_fields::TextRef;
 use offer_moves::RawMove;
 use swap_base::{ByteText, Listed};

@@ -7,7 +7,7 @@ ghost use Rattle.offer_moves.specs.Placed.{placed};
 ghost use Rattle.offer_header.specs.Scripts.{script_of, role_placed, roles_placed, scripts_placed, AllStand};
 
 use crate::header::Header;
-use deviator_script::{Move, Role};
+use swap_job::{Move, Role};
 use offer_moves::check_place;
 use refusals::OfferFault;
 use swap_base::PartyId;

@@ -1,7 +1,7 @@
 -- A move that is answered stands on an arc, and the parties that craft are there.
 use Rattle.std.proofs.Common.{◌≡◌, ℕ, ◌<◌, length, List, Ok, refl, codes, subst}
-use Rattle.deviator_script.specs.declared.moves.Move.{Move}
-use Rattle.deviator_script.specs.declared.moves.Move.TheVariants.{Publish, Craft, Replay, Raw, Claim, Refund, Transfer, Wait}
+use Rattle.swap_job.specs.declared.moves.Move.{Move}
+use Rattle.swap_job.specs.declared.moves.Move.TheVariants.{Publish, Craft, Replay, Raw, Claim, Refund, Transfer, Wait}
 use Rattle.offer_fields.specs.Lists.{each_of}
 use Rattle.offer_fields.specs.Limits.{number_within, within}
 use Rattle.offer_fields.specs.Names.{party_of_name}

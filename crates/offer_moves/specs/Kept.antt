@@ -1,11 +1,11 @@
 -- What is known of a move that was read.
 use Rattle.std.specs.Prelude.{◌≡◌, ℕ, ◌<◌, IsTrue, nat_lt, slice_index_or, is_some, None, length, Ok}
 use Rattle.std.specs.List.{list_all}
-use Rattle.deviator_script.specs.declared.moves.Move.{Move}
-use Rattle.deviator_script.specs.declared.moves.Move.TheVariants.{Craft}
-use Rattle.deviator_script.specs.Resolved.{arc_of}
-use Rattle.deviator_script.specs.Crafted.{Seeds}
-use Rattle.deviator_script.specs.Fitting.{NamesFitting}
+use Rattle.swap_job.specs.declared.moves.Move.{Move}
+use Rattle.swap_job.specs.declared.moves.Move.TheVariants.{Craft}
+use Rattle.swap_job.specs.Resolved.{arc_of}
+use Rattle.swap_job.specs.Crafted.{Seeds}
+use Rattle.swap_job.specs.Fitting.{NamesFitting}
 use Rattle.swap_digraph.specs.declared.deal.Deal.{Deal}
 use Rattle.offer_moves.specs.Placed.{received}
 

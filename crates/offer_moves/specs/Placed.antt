@@ -4,9 +4,9 @@ use Rattle.std.specs.List.{list_any}
 use Rattle.swap_base.specs.Fault.{◌>>=◌}
 use Rattle.swap_digraph.specs.declared.arc_ends.ArcEnds.{ArcEnds}
 use Rattle.swap_digraph.specs.Graph.{ends_in}
-use Rattle.deviator_script.specs.declared.moves.Move.{Move}
-use Rattle.deviator_script.specs.declared.moves.Move.TheVariants.{Craft, Transfer}
-use Rattle.deviator_script.specs.Resolved.{arc_of}
+use Rattle.swap_job.specs.declared.moves.Move.{Move}
+use Rattle.swap_job.specs.declared.moves.Move.TheVariants.{Craft, Transfer}
+use Rattle.swap_job.specs.Resolved.{arc_of}
 use Rattle.refusals.specs.declared.reason.Reason.{Reason}
 use Rattle.refusals.specs.declared.reason.Reason.TheVariants.{NotAdjacent, ConformingCall}
 

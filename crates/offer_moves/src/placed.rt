@@ -3,11 +3,11 @@
 ghost use Rattle.std.specs.Prelude.{◌≡◌, ◌==◌, ◌||◌, ◌<◌, ℕ, List, false, nat_lt, length, slice_index_or, IsTrue};
 ghost use Rattle.std.specs.List.{list_all, list_any};
 ghost use Rattle.swap_base.specs.Fault.{Gives};
-ghost use Rattle.deviator_script.specs.Resolved.{arc_of as stands_on};
+ghost use Rattle.swap_job.specs.Resolved.{arc_of as stands_on};
 ghost use Rattle.offer_moves.specs.Kept.{AreCraftersBelow};
 ghost use Rattle.offer_moves.specs.Placed.{deviating, adjacent, received, crafted_by_others, placed};
 
-use deviator_script::{Move, arc_of_move};
+use swap_job::{Move, arc_of_move};
 use refusals::{OfferFault, Reason};
 use swap_base::{ArcId, Fault, PartyId};
 use swap_digraph::ArcEnds;

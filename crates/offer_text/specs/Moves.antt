@@ -2,8 +2,8 @@
 use Rattle.std.specs.Prelude.{◌<◌, ℕ, List, codes, All}
 use Rattle.serde_json.specs.Data.{Data, string, object, no_members, member}
 use Rattle.hash_signature.specs.declared.sig.Sig.{Sig}
-use Rattle.deviator_script.specs.declared.moves.Move.{Move}
-use Rattle.deviator_script.specs.declared.moves.Move.TheVariants.{Publish, Craft, Replay, Raw, Claim, Refund, Transfer, Wait}
+use Rattle.swap_job.specs.declared.moves.Move.{Move}
+use Rattle.swap_job.specs.declared.moves.Move.TheVariants.{Publish, Craft, Replay, Raw, Claim, Refund, Transfer, Wait}
 use Rattle.swap_base.specs.Text.{joined}
 use Rattle.offer_text.specs.Words.{number_data, digest_data, name_data, list_data, with_optional}
 

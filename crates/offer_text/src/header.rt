@@ -11,7 +11,7 @@ use crate::deal::{arcs_value, leaders_value};
 use crate::fields::{put_first, put_number, put_text};
 use crate::parties::{made_parties, shown_parties};
 use crate::shown::list_value;
-use deviator_script::{Finish, Job, Purpose};
+use swap_job::{Finish, Job, Purpose};
 use serde_json::{Map, Value};
 use std::alloc::Global;
 use swap_base::{ByteText, NoMemory};

@@ -3,8 +3,8 @@
 ghost use Rattle.std.specs.Prelude.{◌≡◌, ◌<◌, ℕ, List, IfOk, OnOk, All, codes, length};
 ghost use Rattle.serde_json.specs.Data.{member, no_members, object, string};
 ghost use Rattle.serde_json.specs.View.{view, members_view};
-ghost use Rattle.deviator_script.specs.declared.moves.Move.TheVariants.{Craft as crafts, Replay as replays, Raw as presents};
-ghost use Rattle.deviator_script.specs.declared.moves.Move.TheVariants.{Transfer as transfers, Wait as waits};
+ghost use Rattle.swap_job.specs.declared.moves.Move.TheVariants.{Craft as crafts, Replay as replays, Raw as presents};
+ghost use Rattle.swap_job.specs.declared.moves.Move.TheVariants.{Transfer as transfers, Wait as waits};
 ghost use Rattle.offer_text.specs.Words.{digest_data, list_data, name_data, number_data, with_optional, AreTexts, IsBelow};
 ghost use Rattle.offer_text.specs.Moves.{move_data, signature_data, AreBelow, NamesBelow};
 
@@ -12,7 +12,7 @@ use crate::fields::{put_first, put_number, put_text};
 use crate::shown::list_value;
 use crate::terms::put_publish;
 use crate::words::{digest_value, name_of, names_value};
-use deviator_script::Move;
+use swap_job::Move;
 use hashkey_path::Hashkey;
 use serde_json::{Map, Value};
 use std::alloc::Global;

@@ -3,14 +3,14 @@
 ghost use Rattle.std.specs.Prelude.{◌≡◌, ◌<◌, ℕ, List, IfOk, OnOk, codes, length, slice_index_or, false};
 ghost use Rattle.serde_json.specs.Data.{member, no_members, object, string};
 ghost use Rattle.serde_json.specs.View.{view, members_view};
-ghost use Rattle.deviator_script.specs.declared.job.Role.TheVariants.{Strategy as strategy};
+ghost use Rattle.swap_job.specs.declared.job.Role.TheVariants.{Strategy as strategy};
 ghost use Rattle.offer_text.specs.Words.{digest_data, with_optional, AreTexts};
 ghost use Rattle.offer_text.specs.HeaderLine.{shown_party, made_party, parties_data, word_of_conforming, actor_data, AreSayable, IsSayable, IsWritable};
 
 use crate::fields::{put_first, put_text};
 use crate::moves::moves_value;
 use crate::words::{digest_value, name_of, word_value};
-use deviator_script::{Job, Role};
+use swap_job::{Job, Role};
 use serde_json::{Map, Value};
 use std::alloc::Global;
 use swap_base::{ByteText, Digest, NoMemory, PartyId};

@@ -3,7 +3,7 @@
 ghost use Rattle.std.specs.Prelude.{◌≡◌, ℕ, List, IfOk, OnOk, codes};
 ghost use Rattle.serde_json.specs.Data.{member, no_members, object};
 ghost use Rattle.serde_json.specs.View.{view, members_view};
-ghost use Rattle.deviator_script.specs.declared.moves.Move.TheVariants.{Publish as publishes};
+ghost use Rattle.swap_job.specs.declared.moves.Move.TheVariants.{Publish as publishes};
 ghost use Rattle.offer_text.specs.Words.{digest_data, list_data, number_data, with_optional, IsBelow};
 ghost use Rattle.offer_text.specs.Moves.{move_data};
 

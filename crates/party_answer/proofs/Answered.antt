@@ -13,7 +13,7 @@ use Rattle.ledger_core.specs.declared.entry.Entry.{Entry}
 use Rattle.ledger_core.specs.History.{height}
 use Rattle.ledger_core.specs.Book.{Histories, history, IsLegalBook}
 use Rattle.history_index.specs.Value.{IndexState}
-use Rattle.deviator_script.specs.declared.job.Job.{Job}
+use Rattle.swap_job.specs.declared.job.Job.{Job}
 use Rattle.history_index.specs.Indexes.{entries_in}
 use Rattle.swap_rules.specs.Accepted.{IsAccepted}
 use Rattle.swap_rules.specs.Due.{Action}

@@ -18,7 +18,7 @@ ghost use Rattle.party_answer.specs.Inside.{said_of, IsSaid};
 
 use crate::reason::{AnswerFault, AnswerReason, nameless};
 use crate::shifted::refusal_behind;
-use deviator_script::Job;
+use swap_job::Job;
 use ledger_core::Book;
 use party_notes::{Kept, Note, Notes, kept_of, read_notes};
 use party_wallet::Wallet;

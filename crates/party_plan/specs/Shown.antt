@@ -2,9 +2,9 @@
 use Rattle.std.specs.Prelude.{ℕ}
 use Rattle.std.specs.List.{All}
 use Rattle.swap_digraph.specs.declared.deal.Deal.{Deal}
-use Rattle.deviator_script.specs.Crafted.{Seeds}
-use Rattle.deviator_script.specs.Script.{IsMoveOf}
-use Rattle.deviator_script.specs.View.{IsView}
+use Rattle.swap_job.specs.Crafted.{Seeds}
+use Rattle.swap_job.specs.Fitting.{IsMoveOf}
+use Rattle.deviators.specs.View.{IsView}
 use Rattle.swap_run.specs.Run.{Plan}
 
 -- What the plan of party v knows is a view of it, and the moves that are left are its own.

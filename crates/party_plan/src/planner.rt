@@ -3,12 +3,13 @@
 ghost use Rattle.std.specs.Prelude.{◌≡◌, ◌<◌, ◌+◌, ◌++◌, true, length, replicate, [], IfOk, OnOk, OnErr};
 ghost use Rattle.swap_digraph.specs.Deal.{IsWellSized};
 ghost use Rattle.ledger_core.specs.Book.{history};
-ghost use Rattle.deviator_script.specs.Script.{next_call, moves_left};
-ghost use Rattle.deviator_script.specs.View.{IsView, MayAnswer};
+ghost use Rattle.deviators.specs.Script.{next_call, moves_left};
+ghost use Rattle.deviators.specs.View.{IsView, MayAnswer};
 ghost use Rattle.swap_run.specs.Run.{no_histories, plan_up_to};
 ghost use Rattle.party_plan.specs.Shown.{IsShown};
 
-use deviator_script::{MoveList, Script, Strategies};
+use swap_job::MoveList;
+use deviators::{Script, Strategies};
 use ledger_core::{Book, Call, Entry, EntryList};
 use std::alloc::Global;
 use std::marker::Model;

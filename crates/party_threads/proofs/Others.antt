@@ -3,9 +3,9 @@ use Rattle.std.proofs.Common.{ℕ, ◌+◌, Option}
 use Rattle.ledger_core.specs.declared.entry.Call.{Call}
 use Rattle.ledger_core.specs.Book.{Histories}
 use Rattle.swap_digraph.specs.declared.deal.Deal.{Deal}
-use Rattle.deviator_script.specs.declared.job.Role.{Role}
-use Rattle.deviator_script.specs.declared.job.Role.TheVariants.{Conforming, Manual, Script, Strategy}
-use Rattle.deviator_script.specs.Crafted.{Seeds}
+use Rattle.swap_job.specs.declared.job.Role.{Role}
+use Rattle.swap_job.specs.declared.job.Role.TheVariants.{Conforming, Manual, Script, Strategy}
+use Rattle.swap_job.specs.Crafted.{Seeds}
 use Rattle.swap_run.specs.Run.{Cast, State, Plan, plan_of, role_of}
 use Rattle.race_turns.specs.Played.{Gives, IsAnswered}
 use Rattle.party_threads.specs.Race.{rounds_for, IsRound, IsOfRounds, IsRaceBook, SaysMore, RacesSayLess}

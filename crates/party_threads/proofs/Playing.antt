@@ -7,7 +7,7 @@ use Rattle.race_turns.specs.Able.{watcher, IsAble}
 use Rattle.race_turns.specs.Played.{Gives, planner_of, role_in, HasPlayed}
 use Rattle.party_plan.specs.Shown.{IsShown}
 use Rattle.swap_run.specs.Run.{Plan}
-use Rattle.deviator_script.specs.declared.job.Job.{Job}
+use Rattle.swap_job.specs.declared.job.Job.{Job}
 use Rattle.party_threads.specs.declared.turn.Actor.{Actor}
 use Rattle.party_threads.specs.declared.turn.Actor.TheVariants.{Conforming, Planned}
 use Rattle.party_threads.specs.Took.{Did, HasActed, HasPlanned}

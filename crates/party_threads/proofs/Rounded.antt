@@ -18,8 +18,8 @@ use Rattle.ledger_core.specs.Ledger.{tick_entry}
 use Rattle.ledger_core.specs.Value.{LedgerState}
 use Rattle.ledger_core.specs.Book.{Histories, history, IsLegalBook}
 use Rattle.ledger_shared.specs.Value.{PassState, made_by, ticks_in_order, clock_at}
-use Rattle.deviator_script.specs.declared.job.Job.{Job}
-use Rattle.deviator_script.proofs.Answering.{leaves, enters}
+use Rattle.swap_job.specs.declared.job.Job.{Job}
+use Rattle.deviators.proofs.Answering.{leaves, enters}
 use Rattle.party_wallet.specs.Value.{signed_in}
 use Rattle.party_machine.specs.Machine.{MachineState}
 use Rattle.party_machine.specs.Wallet.{wallet_of}
@@ -30,7 +30,7 @@ use Rattle.swap_laws.proofs.Conducting.{knows_all}
 use Rattle.swap_laws.proofs.Prefixes.{begins_refl, begins_more}
 use Rattle.swap_laws.proofs.Growth.{Grows}
 use Rattle.swap_run.specs.Run.{Notes, Plan, State, conforms, is_planned, notes_of, plan_of, next_of}
-use Rattle.deviator_script.specs.declared.job.Role.{Role}
+use Rattle.swap_job.specs.declared.job.Role.{Role}
 use Rattle.race_turns.specs.Played.{Gives, calls_by, answer_on, IsAnswered}
 use Rattle.party_threads.specs.Views.{HasPlayed}
 use Rattle.swap_run.specs.Laws.{AreGoodNotes, IsGoodPlan, IsGood}

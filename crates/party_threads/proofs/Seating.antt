@@ -17,7 +17,7 @@ use Rattle.ledger_core.specs.Value.{LedgerState}
 use Rattle.ledger_core.specs.Book.{history}
 use Rattle.ledger_core.proofs.Bounds.{countable}
 use Rattle.ledger_shared.specs.Value.{PassState, ClockState, SharedState, pass_at, clock_at, ticks_in_order}
-use Rattle.deviator_script.specs.declared.job.Job.{Job}
+use Rattle.swap_job.specs.declared.job.Job.{Job}
 use Rattle.party_wallet.specs.Value.{signed_in}
 use Rattle.party_machine.specs.Machine.{MachineState}
 use Rattle.party_machine.specs.Wallet.{wallet_of}
@@ -31,8 +31,8 @@ use Rattle.party_plan.specs.Shown.{IsShown}
 use Rattle.swap_world.specs.Cast.{cast_of, wallet_with}
 use Rattle.swap_world.specs.Inside.{IsLedgerOf}
 use Rattle.swap_world.specs.Staff.{role_in, AreHeld, IsHeld as IsHeldIn}
-use Rattle.deviator_script.specs.declared.job.Role.{Role}
-use Rattle.deviator_script.specs.declared.job.Role.TheVariants as kinds
+use Rattle.swap_job.specs.declared.job.Role.{Role}
+use Rattle.swap_job.specs.declared.job.Role.TheVariants as kinds
 use Rattle.party_threads.specs.declared.turn.Actor.{Actor}
 use Rattle.party_threads.specs.declared.turn.Actor.TheVariants.{Conforming, Planned, Manual, Clock}
 use Rattle.party_threads.specs.declared.turn.Turn.{Turn}

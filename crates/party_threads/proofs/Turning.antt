@@ -4,7 +4,7 @@ use Rattle.std.proofs.Common.{cond, filter, inl, inr}
 use Rattle.swap_base.specs.Lists.{IsIn}
 use Rattle.std.proofs.lemmas.Option.{slice_get-get_or}
 use Rattle.swap_digraph.specs.declared.deal.Deal.{Deal}
-use Rattle.deviator_script.specs.declared.job.Job.{Job}
+use Rattle.swap_job.specs.declared.job.Job.{Job}
 use Rattle.party_threads.specs.declared.turn.Turn.{Turn}
 use Rattle.race_turns.specs.Later.{HaveGoneOn}
 use Rattle.race_turns.specs.Ticks.{HaveClocksGoneOn}

@@ -7,18 +7,18 @@ use Rattle.std.proofs.Math.ListN.{get_or-eq_default}
 use Rattle.ledger_core.specs.declared.entry.Call.{Call}
 use Rattle.ledger_core.specs.History.{height}
 use Rattle.ledger_core.specs.Book.{Histories, history}
-use Rattle.deviator_script.specs.declared.moves.Move.{Move}
-use Rattle.deviator_script.specs.declared.job.Role.{Role}
-use Rattle.deviator_script.specs.declared.job.Role.TheVariants.{Conforming, Manual, Script, Strategy}
-use Rattle.deviator_script.specs.Script.{next_call, moves_left}
-use Rattle.deviator_script.specs.View.{is_near, IsView, MayAnswer}
+use Rattle.swap_job.specs.declared.moves.Move.{Move}
+use Rattle.swap_job.specs.declared.job.Role.{Role}
+use Rattle.swap_job.specs.declared.job.Role.TheVariants.{Conforming, Manual, Script, Strategy}
+use Rattle.deviators.specs.Script.{next_call, moves_left}
+use Rattle.deviators.specs.View.{IsView, MayAnswer}
+use Rattle.swap_job.specs.Fitting.{is_near}
 use Rattle.swap_laws.specs.Machine.{Begins}
 use Rattle.swap_laws.proofs.Prefixes.{begins_refl, begins_more, begins_height}
 use Rattle.swap_run.specs.Run.{Cast, State, Plan, plan_of, role_of, script_of, first_plan, start}
 use Rattle.swap_run.specs.Laws.{IsReadyCast, IsGood}
 use Rattle.swap_run.proofs.Good.{empty_at}
-use Rattle.race_turns.specs.Played.{Gives, IsAnswered}
-use Rattle.race_turns.specs.Played.{calls_by, answer_on}
+use Rattle.race_turns.specs.Played.{Gives, IsAnswered, calls_by, answer_on}
 use Rattle.party_threads.specs.Views.{answers_on, made_on, moves_at, AreAnswered, PlaysByViews, HasPlayed}
 
 -- cutting twice at one place is cutting once

@@ -7,9 +7,9 @@ use Rattle.ledger_core.specs.History.{height}
 use Rattle.ledger_core.specs.Value.{LedgerState}
 use Rattle.ledger_core.specs.Book.{Histories, history}
 use Rattle.ledger_shared.specs.Value.{ticks_in_order}
-use Rattle.deviator_script.specs.declared.job.Job.{Job}
-use Rattle.deviator_script.specs.declared.job.Role.{Role}
-use Rattle.deviator_script.specs.declared.job.Role.TheVariants as kinds
+use Rattle.swap_job.specs.declared.job.Job.{Job}
+use Rattle.swap_job.specs.declared.job.Role.{Role}
+use Rattle.swap_job.specs.declared.job.Role.TheVariants as kinds
 use Rattle.swap_run.specs.Run.{Notes, Plan, State, no_notes, first_plan, is_planned}
 use Rattle.swap_laws.specs.Machine.{Knows}
 use Rattle.swap_run.specs.Laws.{IsReadyCast, IsGood}

@@ -1,7 +1,7 @@
 -- What a turn asks for, and what it does.
 use Rattle.std.specs.Prelude.{◌≡◌, ℕ, ◌<◌, Bool, true, false, List, length, Option, Some, None}
 use Rattle.ledger_core.specs.Book.{history}
-use Rattle.deviator_script.specs.declared.job.Job.{Job}
+use Rattle.swap_job.specs.declared.job.Job.{Job}
 use Rattle.ledger_shared.specs.Value.{PassState, ClockState, SharedState}
 use Rattle.party_machine.specs.Machine.{MachineState, next_of}
 use Rattle.party_plan.specs.Shown.{IsShown}

@@ -4,11 +4,12 @@ use Rattle.swap_digraph.specs.declared.deal.Deal.{Deal}
 use Rattle.ledger_core.specs.declared.entry.Call.{Call}
 use Rattle.ledger_core.specs.History.{height}
 use Rattle.ledger_core.specs.Book.{Histories, history}
-use Rattle.deviator_script.specs.declared.moves.Move.{Move}
-use Rattle.deviator_script.specs.declared.job.Role.{Role}
-use Rattle.deviator_script.specs.declared.job.Role.TheVariants.{Conforming, Manual, Script, Strategy}
-use Rattle.deviator_script.specs.Script.{next_call, moves_left}
-use Rattle.deviator_script.specs.View.{is_near, IsView, MayAnswer}
+use Rattle.swap_job.specs.declared.moves.Move.{Move}
+use Rattle.swap_job.specs.declared.job.Role.{Role}
+use Rattle.swap_job.specs.declared.job.Role.TheVariants.{Conforming, Manual, Script, Strategy}
+use Rattle.deviators.specs.Script.{next_call, moves_left}
+use Rattle.deviators.specs.View.{IsView, MayAnswer}
+use Rattle.swap_job.specs.Fitting.{is_near}
 use Rattle.swap_laws.specs.Machine.{Begins}
 use Rattle.swap_run.specs.Run.{Cast, State, plan_of, role_of}
 use Rattle.race_turns.specs.Played.{Gives, calls_by, answer_on, IsAnswered}

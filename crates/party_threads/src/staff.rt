@@ -6,7 +6,7 @@ ghost use Rattle.party_wallet.specs.Wallets.{wallet_for, wallets_of};
 ghost use Rattle.party_threads.specs.Staff.{wrong_for, IsWrong, IsFirstOf, AllFit, by_role, acts_for, IsNewTurn, HasNewTurn, AreNew};
 
 use crate::turn::{Actor, Turn};
-use deviator_script::{Job, MoveList, Role};
+use swap_job::{Job, MoveList, Role};
 use ledger_shared::{ClockPass, Pass};
 use party_machine::{Machine, Misfit};
 use party_plan::Planner;

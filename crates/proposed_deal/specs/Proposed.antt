@@ -7,7 +7,7 @@ use Rattle.swap_digraph.specs.declared.deal.Mode.{Mode}
 use Rattle.swap_digraph.specs.declared.deal.Mode.TheVariants.{Timelocks, Hashkeys}
 use Rattle.swap_digraph.specs.Deal.{leader_of, amount, most_parties, most_arcs}
 use Rattle.swap_rules.specs.Accepted.{IsOfVersion}
-use Rattle.deviator_script.specs.declared.job.Job.{Job}
+use Rattle.swap_job.specs.declared.job.Job.{Job}
 
 -- with timelocks there is one leader
 abbrev pub IsLedFor : Mode → Deal → Type 0

@@ -4,6 +4,7 @@ use Rattle.std.proofs.Common.{slice_index_or, Option, Some, None, append_assoc, 
 use Rattle.std.proofs.Common.{if◌then◌else◌}
 use Rattle.std.proofs.lemmas.List.{length-set, set-set}
 use Rattle.std.proofs.lemmas.Option.{none-some}
+use Rattle.swap_job.specs.Fitting.{is_near}
 use mathlib.Core.List.{IsPrefix}
 use Rattle.swap_digraph.specs.declared.deal.Deal.{Deal}
 use Rattle.ledger_core.specs.declared.entry.Call.{Call}
@@ -14,11 +15,11 @@ use Rattle.ledger_core.specs.History.{fit, IsLegal}
 use Rattle.ledger_core.specs.Ledger.{after_call}
 use Rattle.ledger_core.specs.Book.{Histories, history, IsLegalBook}
 use Rattle.ledger_shared.specs.Value.{PassState, SharedState}
-use Rattle.deviator_script.specs.declared.job.Role.{Role}
-use Rattle.deviator_script.specs.declared.job.Role.TheVariants.{Conforming, Manual, Script, Strategy}
-use Rattle.deviator_script.specs.Crafted.{Seeds}
-use Rattle.deviator_script.specs.Script.{next_call as script_call, moves_left}
-use Rattle.deviator_script.specs.View.{is_near, IsView, IsAnswerOf, MayAnswer}
+use Rattle.swap_job.specs.declared.job.Role.{Role}
+use Rattle.swap_job.specs.declared.job.Role.TheVariants.{Conforming, Manual, Script, Strategy}
+use Rattle.swap_job.specs.Crafted.{Seeds}
+use Rattle.deviators.specs.Script.{next_call as script_call, moves_left}
+use Rattle.deviators.specs.View.{IsView, IsAnswerOf, MayAnswer}
 use Rattle.swap_laws.specs.Machine.{Begins}
 use Rattle.swap_laws.proofs.Prefixes.{same_or_not}
 use Rattle.swap_laws.proofs.Conducting.{Next, next_call, next_legal, next_begins, history_same, history_other}

@@ -2,15 +2,16 @@
 
 ghost use Rattle.std.specs.Prelude.{◌≡◌, ◌≢◌, ◌<◌, ◌+◌, true, None, OnOk, OnErr, IfOk, IsTrue, All, length};
 ghost use Rattle.ledger_core.specs.History.{fit};
-ghost use Rattle.deviator_script.specs.Script.{IsMoveOf};
-ghost use Rattle.deviator_script.specs.View.{IsView, IsAnswerOf, MayAnswer};
+ghost use Rattle.swap_job.specs.Fitting.{IsMoveOf};
+ghost use Rattle.deviators.specs.View.{IsView, IsAnswerOf, MayAnswer};
 ghost use Rattle.party_plan.specs.Shown.{IsShown};
 ghost use Rattle.swap_run.specs.Run.{is_planned, plan_up_to};
 ghost use Rattle.race_turns.specs.Later.{IsLater, WentOn, HaveGoneOn};
 ghost use Rattle.race_turns.specs.Tracks.{IsPassOf, Tracks, HaveSeenAll, HasItsPasses, HasLooked, HasMade, IsPlaceOf, LookedIf, MadeIf};
 ghost use Rattle.race_turns.specs.Played.{planner_of, role_in, IsHeld, HaveFresh, HaveGrown, IsAnswered, HasCalled, HasPlayed};
 
-use deviator_script::{Job, Role, Strategies};
+use swap_job::{Job, Role};
+use deviators::Strategies;
 use ledger_core::Call;
 use ledger_shared::{Pass, SharedLedger};
 use party_plan::Planner;

@@ -21,10 +21,10 @@ use Rattle.ledger_core.specs.Book.{Histories, history}
 use Rattle.swap_rules.specs.Party.{key_without}
 use Rattle.swap_rules.specs.Due.{Action, Wallet, due, due_claims, due_key, due_publishes, due_refunds, due_unlock_on, due_unlocks, extended, first}
 use Rattle.swap_rules.specs.Due.{is_due_claim, is_due_publish, is_due_refund, may_unlock, presented, seen_key, when_due}
-use Rattle.deviator_script.specs.declared.moves.Move.{Move}
-use Rattle.deviator_script.specs.declared.moves.Move.TheVariants.{Publish, Craft, Replay, Raw, Claim, Refund, Transfer, Wait}
-use Rattle.deviator_script.specs.Crafted.{Seeds, crafted, crafted_onto}
-use Rattle.deviator_script.specs.Resolved.{arc_of, call_of_move, call_with, key_opened, opening_named, resolved}
+use Rattle.swap_job.specs.declared.moves.Move.{Move}
+use Rattle.swap_job.specs.declared.moves.Move.TheVariants.{Publish, Craft, Replay, Raw, Claim, Refund, Transfer, Wait}
+use Rattle.swap_job.specs.Crafted.{Seeds, crafted, crafted_onto}
+use Rattle.swap_job.specs.Resolved.{arc_of, call_of_move, call_with, key_opened, opening_named, resolved}
 use Rattle.typed_books.specs.Typed.{IsDigest}
 use Rattle.transcript_back.specs.Digests.{HasDigests, StatesDigests}
 use Rattle.run_digests.proofs.Hashes.{May, KeyHas, WalletHas, crafted_has, onto_crafted_has}

@@ -17,7 +17,7 @@ use Rattle.hashkey_path.specs.Signed.{suffix_signature}
 use Rattle.party_wallet.specs.Keys.{onto_key, own_key}
 use Rattle.party_machine.proofs.Digests.{digest_below}
 use Rattle.swap_rules.specs.Due.{Wallet}
-use Rattle.deviator_script.specs.Crafted.{Seeds, crafted, crafted_onto, put_before, seed_of}
+use Rattle.swap_job.specs.Crafted.{Seeds, crafted, crafted_onto, put_before, seed_of}
 use Rattle.typed_books.specs.Typed.{IsDigest, IsSignature}
 
 -- what is there meets P

@@ -16,8 +16,8 @@ use Rattle.ledger_core.specs.declared.entry.What.TheVariants.{Call as Made, Tick
 use Rattle.ledger_core.specs.declared.entry.Entry.{Entry}
 use Rattle.ledger_core.specs.History.{accepted, accepted_in}
 use Rattle.ledger_core.specs.Book.{Histories}
-use Rattle.deviator_script.specs.Rules.{around, greedy, key_in, keys_known, replayer, silent, spoiled_terms, spoiler, unlock_with}
-use Rattle.program_kit.specs.Program.{program_rule}
+use Rattle.deviators.specs.Rules.{around, greedy, key_in, keys_known, replayer, silent, spoiled_terms, spoiler, unlock_with}
+use Rattle.deviators.specs.Program.{program_rule}
 use Rattle.typed_books.specs.Typed.{IsDigest}
 use Rattle.transcript_back.specs.Digests.{StatesDigests}
 use Rattle.run_digests.specs.Laws.{ProgramKeepsDigests}

@@ -6,7 +6,7 @@ use Rattle.std.specs.Prelude.{All, slice_index_or, slice_set}
 use Rattle.std.specs.List.{range_with_len}
 use Rattle.std.proofs.lemmas.List.Elements.{All-head, All-map, All-nil, All-push, All-replicate, All-set, All-tail}
 use Rattle.swap_digraph.specs.Graph.{arcs}
-use Rattle.deviator_script.specs.View.{is_near}
+use Rattle.swap_job.specs.Fitting.{is_near}
 use Rattle.swap_digraph.specs.declared.deal.Deal.{Deal}
 use Rattle.hashkey_path.specs.declared.hashkey.Hashkey.{Hashkey}
 use Rattle.party_wallet.specs.Value.{signed_in}
@@ -18,15 +18,15 @@ use Rattle.ledger_core.specs.Ledger.{after_call, call_entry, is_sender_full, tic
 use Rattle.ledger_core.specs.Book.{Histories, history}
 use Rattle.swap_rules.specs.Due.{Action}
 use Rattle.swap_laws.specs.Machine.{noted}
-use Rattle.deviator_script.specs.declared.event.Event.{Event}
-use Rattle.deviator_script.specs.declared.event.Event.TheVariants.{Tick, Look, Act, Call as Made, Crash}
-use Rattle.deviator_script.specs.declared.job.Finish.{Finish}
-use Rattle.deviator_script.specs.declared.job.Finish.TheVariants.{Stop, Fair}
-use Rattle.deviator_script.specs.declared.job.Role.{Role}
-use Rattle.deviator_script.specs.declared.job.Role.TheVariants.{Conforming, Manual, Script, Strategy}
-use Rattle.deviator_script.specs.declared.moves.Move.{Move}
-use Rattle.deviator_script.specs.Resolved.{resolved}
-use Rattle.deviator_script.specs.Script.{first_call, is_over, is_wait, moves_left, next_call, past_waits, without_first}
+use Rattle.swap_job.specs.declared.event.Event.{Event}
+use Rattle.swap_job.specs.declared.event.Event.TheVariants.{Tick, Look, Act, Call as Made, Crash}
+use Rattle.swap_job.specs.declared.job.Finish.{Finish}
+use Rattle.swap_job.specs.declared.job.Finish.TheVariants.{Stop, Fair}
+use Rattle.swap_job.specs.declared.job.Role.{Role}
+use Rattle.swap_job.specs.declared.job.Role.TheVariants.{Conforming, Manual, Script, Strategy}
+use Rattle.swap_job.specs.declared.moves.Move.{Move}
+use Rattle.swap_job.specs.Resolved.{resolved}
+use Rattle.deviators.specs.Script.{first_call, is_over, is_wait, moves_left, next_call, past_waits, without_first}
 use Rattle.swap_run.specs.Run.{Cast, Notes, Plan, Question, State, act, act_as, after_question, after_tick, after_turn, answer_for, ask, conforms}
 use Rattle.swap_run.specs.Run.{first_plan, follow, is_answer_of, is_clock_full_reply, is_planned, look, make, next_of, no_histories, no_notes}
 use Rattle.swap_run.specs.Run.{notes_of, plan_of, question, plan_up_to, plans_seen, role_of, run, run_from, signed_after, start, step}

@@ -1,12 +1,12 @@
 -- The calls of a run hold digests.
 use Rattle.std.specs.Prelude.{◌≡◌, ℕ, Bool, List, All, Option, Some, Ok}
 use Rattle.swap_digraph.specs.declared.deal.Deal.{Deal}
-use Rattle.deviator_script.specs.declared.event.Event.{Event}
-use Rattle.deviator_script.specs.declared.job.Job.{Job}
-use Rattle.deviator_script.specs.declared.job.Purpose.TheVariants as purposes
+use Rattle.swap_job.specs.declared.event.Event.{Event}
+use Rattle.swap_job.specs.declared.job.Job.{Job}
+use Rattle.swap_job.specs.declared.job.Purpose.TheVariants as purposes
 use Rattle.ledger_core.specs.declared.entry.Call.{Call}
 use Rattle.ledger_core.specs.Book.{Histories}
-use Rattle.program_kit.specs.Program.{program_rule}
+use Rattle.deviators.specs.Program.{program_rule}
 use Rattle.swap_run.specs.Asked.{Answers}
 use Rattle.swap_offer.specs.Job.{job_of}
 use Rattle.swap_commands.specs.Output.{AreGiven, book_of, state_of}

@@ -4,7 +4,7 @@ use Rattle.std.specs.List.{range_with_len}
 use Rattle.swap_base.specs.Text.{joined}
 use Rattle.swap_digraph.specs.declared.deal.Deal.{Deal as DealOf}
 use Rattle.ledger_core.specs.Book.{Histories}
-use Rattle.deviator_script.specs.declared.job.Job.{Job}
+use Rattle.swap_job.specs.declared.job.Job.{Job}
 use Rattle.swap_rules.specs.declared.outcome.Outcome.{Outcome}
 use Rattle.swap_rules.specs.declared.outcome.Outcome.TheVariants.{NoDeal, FreeRide, Underwater, Deal, Discount}
 use Rattle.swap_rules.specs.Outcome.{outcome}

@@ -3,7 +3,7 @@ use Rattle.std.proofs.Common.{◌≡◌, ◌≤◌, ℕ, Bool, List, ◌++◌, f
 use Rattle.std.proofs.Common.{append_assoc}
 use Rattle.swap_base.specs.Fault.{◌>>=◌}
 use Rattle.swap_io.proofs.Feeds.{took_on}
-use Rattle.deviator_script.specs.declared.job.Finish.{Finish}
+use Rattle.swap_job.specs.declared.job.Finish.{Finish}
 use Rattle.refusals.specs.declared.reason.Reason.{Reason}
 use Rattle.refusals.specs.declared.refusal.Refusal.{Refusal}
 use Rattle.audit_command.specs.Output.{Written}

@@ -9,7 +9,7 @@ use Rattle.swap_base.specs.declared.fault.Fault.{Fault}
 use Rattle.swap_base.specs.declared.fault.Fault.TheVariants as offer
 use Rattle.swap_io.proofs.Handing.{rose_before}
 use Rattle.swap_io.specs.Lines.{TookSome}
-use Rattle.deviator_script.specs.declared.job.Finish.{Finish}
+use Rattle.swap_job.specs.declared.job.Finish.{Finish}
 use Rattle.refusals.specs.declared.reason.Reason.TheVariants.{CutShort}
 use Rattle.refusals.specs.declared.refusal.Refusal.{Refusal}
 use Rattle.refusals.specs.Refusal.{refusal}

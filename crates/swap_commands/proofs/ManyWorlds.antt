@@ -11,8 +11,8 @@ use Rattle.swap_base.specs.Lists.{IsIn}
 use Rattle.swap_base.proofs.Lists.{first_at, from_range, in_from_moment}
 use Rattle.offer_fields.proofs.Chains.{went}
 use Rattle.refusals.specs.declared.refusal.Refusal.{Refusal}
-use Rattle.deviator_script.specs.declared.job.Job.{Job}
-use Rattle.deviator_script.specs.declared.job.Purpose.TheVariants.{Run}
+use Rattle.swap_job.specs.declared.job.Job.{Job}
+use Rattle.swap_job.specs.declared.job.Purpose.TheVariants.{Run}
 use Rattle.party_wallet.specs.Value.{WalletState}
 use Rattle.swap_offer.specs.Wallets.{wallets_for}
 use Rattle.swap_run.specs.Asked.{Answers, with_answers}

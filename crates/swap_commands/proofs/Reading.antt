@@ -8,9 +8,9 @@ use Rattle.swap_base.specs.declared.fault.Fault.TheVariants as offer
 use Rattle.swap_io.proofs.Feeds.{took_on}
 use Rattle.swap_io.proofs.Handing.{rose_before}
 use Rattle.ledger_core.specs.Book.{Histories}
-use Rattle.deviator_script.specs.declared.job.Job.{Job}
-use Rattle.deviator_script.specs.declared.job.Purpose.{Purpose}
-use Rattle.deviator_script.specs.declared.job.Purpose.TheVariants as purposes
+use Rattle.swap_job.specs.declared.job.Job.{Job}
+use Rattle.swap_job.specs.declared.job.Purpose.{Purpose}
+use Rattle.swap_job.specs.declared.job.Purpose.TheVariants as purposes
 use Rattle.refusals.specs.declared.reason.Reason.{Reason}
 use Rattle.refusals.specs.declared.reason.Reason.TheVariants.{NotJson}
 use Rattle.refusals.specs.declared.refusal.Refusal.{Refusal}

@@ -9,9 +9,9 @@ use Rattle.ledger_core.specs.Book.{Histories}
 use Rattle.ledger_core.specs.declared.entry.Book.{Book}
 use Rattle.swap_run.specs.Laws.{IsKept}
 use Rattle.swap_base.specs.Fault.{◌>>=◌}
-use Rattle.deviator_script.specs.declared.job.Job.{Job}
-use Rattle.deviator_script.specs.declared.event.Event.{Event}
-use Rattle.deviator_script.specs.declared.job.Role.{Role}
+use Rattle.swap_job.specs.declared.job.Job.{Job}
+use Rattle.swap_job.specs.declared.event.Event.{Event}
+use Rattle.swap_job.specs.declared.job.Role.{Role}
 use Rattle.refusals.specs.declared.reason.Reason.{Reason}
 use Rattle.swap_offer.specs.Lines.{lines_of, filled_lines}
 use Rattle.swap_offer.specs.Job.{events_of, next_of, job_of, job_header_of, of_lines as lines_read}
@@ -22,8 +22,8 @@ use Rattle.swap_world.specs.Cast.{cast_of, cast_with}
 use Rattle.swap_offer.specs.Wallets.{HaveWallets}
 use Rattle.swap_world.specs.Staff.{world_of, AreHeld, IsHeld as Held}
 use Rattle.offer_header.specs.Limits.{HoldsEach, IsHeld}
-use Rattle.deviator_script.specs.declared.job.Role.TheVariants as kinds
-use Rattle.deviator_script.specs.declared.job.Finish.TheVariants.{Stop}
+use Rattle.swap_job.specs.declared.job.Role.TheVariants as kinds
+use Rattle.swap_job.specs.declared.job.Finish.TheVariants.{Stop}
 use Rattle.swap_world.proofs.Gone.{continues_less, more_asked, stays}
 use Rattle.swap_world.proofs.Team.{world_is_new}
 use Rattle.swap_world.specs.Gone.{Answered, Gives, HasAsked, HasGone, MayCome}
@@ -31,7 +31,7 @@ use Rattle.swap_world.specs.Value.{WorldState, answers_of, cast_at, cast_for, Co
 use Rattle.swap_commands.specs.declared.words.Command.TheVariants.{OfJob}
 use Rattle.swap_commands.specs.declared.words.JobCommand.{JobCommand}
 use Rattle.swap_commands.specs.declared.words.JobCommand.TheVariants.{Check, Run, Race, Make}
-use Rattle.deviator_script.specs.declared.job.Purpose.TheVariants as purposes
+use Rattle.swap_job.specs.declared.job.Purpose.TheVariants as purposes
 use Rattle.swap_gen.specs.Made.{made}
 use Rattle.made_jobs.specs.Making.{copied, made_text, written_line}
 use Rattle.made_jobs.proofs.Copying.{made_is}

@@ -8,7 +8,7 @@ use Rattle.swap_digraph.specs.declared.deal.Version.{Version}
 use Rattle.swap_digraph.specs.declared.deal.Version.TheVariants.{One, Two}
 use Rattle.swap_digraph.specs.Deal.{IsWellSized, most_arcs}
 use Rattle.ledger_core.specs.Book.{Histories, IsLegalBook}
-use Rattle.deviator_script.specs.declared.job.Job.{Job}
+use Rattle.swap_job.specs.declared.job.Job.{Job}
 use Rattle.outcome_rules.specs.declared.report.Report.{Report}
 use Rattle.swap_commands.specs.Output.{report_for, reported, run_text}
 use Rattle.swap_commands.specs.Says.{IsWhole}

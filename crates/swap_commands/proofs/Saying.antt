@@ -6,10 +6,10 @@ use Rattle.swap_io.specs.Causes.{ConsumesAtMost, ConsumesSome}
 use Rattle.swap_io.proofs.Feeds.{took_on}
 use Rattle.refusals.specs.declared.refusal.Refusal.{Refusal}
 use Rattle.ledger_core.specs.Book.{Histories}
-use Rattle.deviator_script.specs.declared.job.Job.{Job}
-use Rattle.deviator_script.specs.declared.job.Purpose.TheVariants as purposes
+use Rattle.swap_job.specs.declared.job.Job.{Job}
+use Rattle.swap_job.specs.declared.job.Purpose.TheVariants as purposes
 use Rattle.party_threads.specs.Race.{IsRaceBook}
-use Rattle.deviator_script.specs.declared.job.Finish.TheVariants.{Fair}
+use Rattle.swap_job.specs.declared.job.Finish.TheVariants.{Fair}
 use Rattle.swap_rules.specs.Accepted.{IsAccepted}
 use Rattle.swap_rules.specs.Outcome.{IsEnded}
 use Rattle.swap_laws.specs.Laws.{IsDealt}

@@ -1,8 +1,8 @@
 -- What a staff does of a command: it is done, or the job of a race is read and nothing else is done.
 use Rattle.std.specs.Prelude.{◌≡◌, ◌≤◌, ℕ, Bool, true, List, length, Option}
 use Rattle.std.specs.Io.KnownBytes.{Consumes, IsAtEnd}
-use Rattle.deviator_script.specs.declared.job.Job.{Job}
-use Rattle.deviator_script.specs.declared.job.Purpose.TheVariants as purposes
+use Rattle.swap_job.specs.declared.job.Job.{Job}
+use Rattle.swap_job.specs.declared.job.Purpose.TheVariants as purposes
 use Rattle.party_wallet.specs.Value.{WalletState}
 use Rattle.party_wallet.specs.Wallets.{wallets_of}
 use Rattle.swap_rules.specs.Accepted.{IsAccepted}

@@ -2,7 +2,7 @@
 use Rattle.std.specs.Prelude.{◌≡◌, ℕ, Bool, true, List, Option, Some, if◌then◌else◌}
 use Rattle.std.specs.Io.KnownBytes.{Keeps}
 use Rattle.ledger_core.specs.Book.{Histories}
-use Rattle.deviator_script.specs.declared.job.Job.{Job}
+use Rattle.swap_job.specs.declared.job.Job.{Job}
 use Rattle.swap_rules.specs.Accepted.{IsAccepted}
 use Rattle.swap_rules.specs.Outcome.{IsEnded}
 use Rattle.swap_gen.specs.Drawn.{generated}

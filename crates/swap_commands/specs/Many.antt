@@ -1,8 +1,8 @@
 -- What is written of several swaps on shared chains, or the first reason why their input is refused.
 use Rattle.std.specs.Prelude.{ℕ, ◌+◌, List, [], ◌∷◌, is_some, slice_index_or, Option, Some, None, Result, Ok, Err, Bool, if◌then◌else◌}
 use Rattle.swap_base.specs.Fault.{◌>>=◌}
-use Rattle.deviator_script.specs.declared.job.Finish.{Finish}
-use Rattle.deviator_script.specs.declared.job.Finish.TheVariants.{Stop, Fair}
+use Rattle.swap_job.specs.declared.job.Finish.{Finish}
+use Rattle.swap_job.specs.declared.job.Finish.TheVariants.{Stop, Fair}
 use Rattle.refusals.specs.declared.reason.Reason.TheVariants.{Overdrawn as LacksUnits}
 use Rattle.refusals.specs.declared.refusal.Refusal.{Refusal}
 use Rattle.refusals.specs.Refusal.{refusal}

@@ -4,7 +4,7 @@ use Rattle.std.specs.List.{All}
 use Rattle.swap_base.specs.Fault.{◌>>=◌}
 use Rattle.swap_base.specs.declared.fault.Fault.{Fault}
 use Rattle.swap_base.specs.declared.fault.Fault.TheVariants.{Refused, NoMemory}
-use Rattle.deviator_script.specs.declared.job.Finish.{Finish}
+use Rattle.swap_job.specs.declared.job.Finish.{Finish}
 use Rattle.refusals.specs.declared.refusal.Refusal.{Refusal}
 use Rattle.swap_io.specs.Lines.{Took}
 use Rattle.swap_offer.specs.Lines.{lines_of, filled_lines}

@@ -5,9 +5,9 @@ use Rattle.swap_base.specs.Text.{joined}
 use Rattle.time_bounds.specs.Times as times
 use Rattle.swap_digraph.specs.declared.deal.Deal.{Deal}
 use Rattle.ledger_core.specs.Book.{Histories}
-use Rattle.deviator_script.specs.declared.event.Event.{Event}
-use Rattle.deviator_script.specs.declared.job.Job.{Job}
-use Rattle.deviator_script.specs.declared.job.Purpose.TheVariants as purposes
+use Rattle.swap_job.specs.declared.event.Event.{Event}
+use Rattle.swap_job.specs.declared.job.Job.{Job}
+use Rattle.swap_job.specs.declared.job.Purpose.TheVariants as purposes
 use Rattle.outcome_rules.specs.declared.report.Report.{Report}
 use Rattle.outcome_rules.specs.Report.{report_of}
 use Rattle.transcript_text.specs.Report.{report}
@@ -17,13 +17,13 @@ use Rattle.refusals.specs.declared.reason.Reason.{Reason}
 use Rattle.refusals.specs.declared.reason.Reason.TheVariants.{BadLine, NotJson}
 use Rattle.clear_text.specs.ClearedText.{cleared_line}
 use Rattle.refusals.specs.declared.refusal.Refusal.{Refusal}
-use Rattle.deviator_script.specs.declared.job.Purpose.{Purpose}
+use Rattle.swap_job.specs.declared.job.Purpose.{Purpose}
 use Rattle.swap_offer.specs.Checks.{need_of}
 use Rattle.swap_offer.specs.Lines.{lines_of, filled_lines}
 use Rattle.swap_offer.specs.Job.{job_of, names_of_offer}
 use Rattle.made_jobs.specs.Making.{made_text}
-use Rattle.deviator_script.specs.declared.job.Finish.{Finish}
-use Rattle.deviator_script.specs.declared.job.Finish.TheVariants.{Stop, Fair}
+use Rattle.swap_job.specs.declared.job.Finish.{Finish}
+use Rattle.swap_job.specs.declared.job.Finish.TheVariants.{Stop, Fair}
 use Rattle.swap_run.specs.Asked.{Answers, with_answers}
 use Rattle.swap_run.specs.Run.{Cast, Question, State, run}
 use Rattle.swap_run.specs.Fair.{finish}

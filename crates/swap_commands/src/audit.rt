@@ -7,7 +7,7 @@ ghost use Rattle.swap_commands.specs.Says.{Says, status_by};
 use crate::status::Status;
 use crate::words::Command;
 use audit_command::{AuditEnding, audit as audit_all};
-use deviator_script::{Kit, Strategies};
+use deviators::{Kit, Strategies};
 use std::alloc::Global;
 use swap_io::{Sink, Source};
 

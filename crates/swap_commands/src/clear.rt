@@ -14,7 +14,7 @@ use crate::status::Status;
 use crate::stop::stop;
 use crate::words::Command;
 use clear_text::cleared_line;
-use deviator_script::{Kit, Strategies};
+use deviators::{Kit, Strategies};
 use refusals::{Reason, Refusal};
 use std::alloc::Global;
 use swap_base::Listed;

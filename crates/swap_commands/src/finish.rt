@@ -12,7 +12,8 @@ ghost use Rattle.outcome_rules.specs.Promises.{AllAreConforming};
 ghost use Rattle.swap_commands.specs.Output.{finished};
 ghost use Rattle.swap_commands.specs.Replay.{IsOf};
 
-use deviator_script::{Finish, Job, Strategies};
+use swap_job::{Finish, Job};
+use deviators::Strategies;
 use swap_base::NoMemory;
 use swap_world::World;
 

@@ -13,7 +13,7 @@ ghost use Rattle.swap_commands.specs.Says.{IsAgainst};
 use crate::fault::{InputFault, empty};
 use crate::input::Input;
 use crate::words::{Command, JobCommand, purpose_of};
-use deviator_script::Kit;
+use deviators::Kit;
 use refusals::Refusal;
 use std::alloc::Global;
 use swap_io::Source;

@@ -19,7 +19,8 @@ ghost use Rattle.swap_commands.specs.Replay.{replayed, next_by, passed_over, IsO
 
 use crate::fault::InputFault;
 use crate::input::Input;
-use deviator_script::{Job, Strategies};
+use swap_job::Job;
+use deviators::Strategies;
 use party_wallet::Wallet;
 use refusals::{OfferFault, Reason};
 use std::alloc::Global;

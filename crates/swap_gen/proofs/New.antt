@@ -2,7 +2,7 @@
 use Rattle.std.proofs.Common.{◌≡◌, ℕ, ◌+◌, ◌<◌, ◌≤◌, List, length, map, refl, sym, ap, ◌∙◌, subst, arith}
 use Rattle.std.specs.List.{range_with_len}
 use Rattle.swap_digraph.specs.Value.{Graph}
-use Rattle.deviator_script.specs.declared.job.Job.{Job}
+use Rattle.swap_job.specs.declared.job.Job.{Job}
 use Rattle.swap_gen.specs.Word.{DrawState}
 use Rattle.swap_gen.specs.Drawn.{generated}
 use Rattle.swap_gen.specs.Events.{touching, first_place, GeneratorState}

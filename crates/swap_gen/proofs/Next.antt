@@ -7,10 +7,10 @@ use Rattle.std.proofs.lemmas.Bool.{ne_eqb}
 use Rattle.swap_digraph.specs.Graph.{arcs, ends}
 use Rattle.swap_digraph.specs.Value.{Graph}
 use Rattle.swap_digraph.proofs.Ranges.{place_below, place_is}
-use Rattle.deviator_script.specs.declared.event.Event.{Event}
-use Rattle.deviator_script.specs.declared.event.Event.TheVariants.{Tick, Look, Act}
-use Rattle.deviator_script.specs.declared.job.Job.{Job}
-use Rattle.deviator_script.specs.Step.{IsEventOf}
+use Rattle.swap_job.specs.declared.event.Event.{Event}
+use Rattle.swap_job.specs.declared.event.Event.TheVariants.{Tick, Look, Act}
+use Rattle.swap_job.specs.declared.job.Job.{Job}
+use Rattle.swap_job.specs.Step.{IsEventOf}
 use Rattle.std.proofs.lemmas.List.FromFn.{length-range_with_len}
 use Rattle.swap_gen.specs.Word.{word, next, DrawState}
 use Rattle.swap_gen.specs.Drawn.{drawn_arcs, drawn_graph, generated}

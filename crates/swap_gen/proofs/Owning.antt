@@ -15,7 +15,7 @@ use Rattle.hash_signature.specs.Signature.{hash_of, secret_of, public_key_of}
 use Rattle.hashkey_path.specs.Hashkey.{key_of}
 use Rattle.hashkey_path.proofs.Validity.{bytes_eq_self}
 use Rattle.party_wallet.specs.Fits.{has_key, opens_own, fits_lock, wrong_lock}
-use Rattle.deviator_script.specs.declared.job.Job.{Job}
+use Rattle.swap_job.specs.declared.job.Job.{Job}
 use Rattle.proposed_deal.specs.Proposed.{HaveSeeds}
 use Rattle.swap_gen.specs.Made.{seed_in, hashlock_from, keys_from, all_keys, filled, made_deal, made}
 use Rattle.swap_gen.specs.Owned.{OwnsKeys}

@@ -10,10 +10,10 @@ use Rattle.swap_digraph.specs.declared.arc_ends.ArcEnds.{ArcEnds}
 use Rattle.swap_digraph.specs.declared.deal.Deal.{Deal}
 use Rattle.swap_digraph.specs.declared.deal.Mode.TheVariants.{Hashkeys}
 use Rattle.swap_digraph.specs.declared.deal.Version.TheVariants.{One}
-use Rattle.deviator_script.specs.declared.job.Job.{Job}
-use Rattle.deviator_script.specs.declared.job.Purpose.TheVariants.{Make}
-use Rattle.deviator_script.specs.declared.job.Role.TheVariants.{Conforming}
-use Rattle.deviator_script.specs.declared.job.Finish.TheVariants.{Fair}
+use Rattle.swap_job.specs.declared.job.Job.{Job}
+use Rattle.swap_job.specs.declared.job.Purpose.TheVariants.{Make}
+use Rattle.swap_job.specs.declared.job.Role.TheVariants.{Conforming}
+use Rattle.swap_job.specs.declared.job.Finish.TheVariants.{Fair}
 use Rattle.swap_gen.specs.Word.{word}
 use Rattle.swap_gen.specs.Made.{made}
 

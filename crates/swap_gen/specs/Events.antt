@@ -2,8 +2,8 @@
 use Rattle.std.specs.Prelude.{ℕ, zero, suc, ◌+◌, ◌*◌, ◌%◌, ◌==◌, ◌||◌, nat_le, List, [], ◌∷◌, filter, length, slice_index, if◌then◌else◌}
 use Rattle.swap_digraph.specs.Graph.{arcs, ends}
 use Rattle.swap_digraph.specs.Value.{Graph}
-use Rattle.deviator_script.specs.declared.event.Event.{Event}
-use Rattle.deviator_script.specs.declared.event.Event.TheVariants.{Tick, Look, Act}
+use Rattle.swap_job.specs.declared.event.Event.{Event}
+use Rattle.swap_job.specs.declared.event.Event.TheVariants.{Tick, Look, Act}
 use Rattle.swap_gen.specs.Word.{word, next}
 use Rattle.swap_gen.specs.Drawn.{drawn_arcs, drawn_graph}
 

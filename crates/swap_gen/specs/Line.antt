@@ -1,8 +1,8 @@
 -- The line of an event: compact JSON, the fields in the order of their bytes.
 use Rattle.std.specs.Prelude.{ℕ, List, [], ◌∷◌, codes, decimal, slice_index_or}
 use Rattle.swap_base.specs.Text.{joined}
-use Rattle.deviator_script.specs.declared.event.Event.{Event}
-use Rattle.deviator_script.specs.declared.event.Event.TheVariants.{Tick, Look, Act, Call, Crash}
+use Rattle.swap_job.specs.declared.event.Event.{Event}
+use Rattle.swap_job.specs.declared.event.Event.TheVariants.{Tick, Look, Act, Call, Crash}
 
 -- the name of party p
 abbrev pub name_at : List (List ℕ) → ℕ → List ℕ

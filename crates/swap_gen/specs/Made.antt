@@ -10,8 +10,8 @@ use Rattle.swap_digraph.specs.declared.deal.Mode.TheVariants.{Timelocks, Hashkey
 use Rattle.single_leader.specs.Distance.{dist_of}
 use Rattle.hash_signature.specs.Signature.{hash_of, secret_of, public_key_of}
 use Rattle.hashkey_path.specs.Digest.{deal_id}
-use Rattle.deviator_script.specs.declared.job.Job.{Job}
-use Rattle.deviator_script.specs.declared.job.Purpose.TheVariants.{Make}
+use Rattle.swap_job.specs.declared.job.Job.{Job}
+use Rattle.swap_job.specs.declared.job.Purpose.TheVariants.{Make}
 
 -- the seed of party p, and zeros where it has none
 abbrev pub seed_in : List (Option (List ℕ)) → ℕ → List ℕ

@@ -3,7 +3,7 @@ use Rattle.std.specs.Prelude.{◌≡◌, ℕ, List, Option, Some, None, slice_in
 use Rattle.party_wallet.specs.Fits.{wrong_lock}
 use Rattle.party_wallet.specs.Value.{WalletState}
 use Rattle.party_wallet.specs.Wallets.{wallets_of}
-use Rattle.deviator_script.specs.declared.job.Job.{Job}
+use Rattle.swap_job.specs.declared.job.Job.{Job}
 
 -- Party p has a seed, which gives it what the deal states of it for each lock.
 pub record OwnsKeys (job : Job) (p : ℕ) : Type 0 where

@@ -3,7 +3,7 @@
 ghost use Rattle.std.specs.Prelude.{◌≡◌, ◌≤◌, ◌<◌, ◌==◌, ◌||◌, ℕ, IfOk, All, length, map};
 ghost use Rattle.std.specs.List.{range_with_len};
 ghost use Rattle.swap_digraph.specs.Graph.{arcs};
-ghost use Rattle.deviator_script.specs.Step.{IsEventOf};
+ghost use Rattle.swap_job.specs.Step.{IsEventOf};
 ghost use Rattle.swap_rules.specs.Accepted.{IsAccepted};
 ghost use Rattle.swap_gen.specs.Drawn.{drawn_graph, generated};
 ghost use Rattle.swap_gen.specs.Events.{event_from, first_place, generated_events, picked, touching};
@@ -12,7 +12,7 @@ ghost use Rattle.swap_gen.specs.Owned.{wallets_in, OwnsKeys};
 
 use crate::draws::Draws;
 use crate::wallets::{MadeJob, made_job};
-use deviator_script::{Event, Job};
+use swap_job::{Event, Job};
 use party_wallet::Wallet;
 use std::alloc::Global;
 use std::marker::Model;

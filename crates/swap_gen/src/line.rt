@@ -3,7 +3,7 @@
 ghost use Rattle.std.specs.Prelude.{◌≡◌, ◌++◌, OnOk};
 ghost use Rattle.swap_gen.specs.Line.{event_line, name_at};
 
-use deviator_script::Event;
+use swap_job::Event;
 use swap_base::{ByteText, NoMemory, PartyId, Piece, put};
 
 /// The name of a party; no text where the number is nobody's.

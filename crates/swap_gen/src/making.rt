@@ -11,7 +11,7 @@ ghost use Rattle.proposed_deal.specs.Proposed.{HaveSeeds, IsProposed};
 ghost use Rattle.swap_gen.specs.Owned.{OwnsKeys};
 
 use crate::seeds::{all_keys, hashlocks_from};
-use deviator_script::{Job, Purpose};
+use swap_job::{Job, Purpose};
 use hashkey_path::deal_digest;
 use leader_check::{LeaderAnswer, levels};
 use single_leader::dist;

@@ -3,13 +3,13 @@
 ghost use Rattle.std.specs.Prelude.{◌≡◌, ◌≤◌, ◌<◌, ◌+◌, ◌*◌, IfOk, OnOk, Some, true, None, length, map, replicate};
 ghost use Rattle.std.specs.List.{range_with_len};
 ghost use Rattle.swap_digraph.specs.Arcs.{first_fault};
-ghost use Rattle.deviator_script.specs.declared.job.Role.TheVariants.{Conforming};
+ghost use Rattle.swap_job.specs.declared.job.Role.TheVariants.{Conforming};
 ghost use Rattle.swap_gen.specs.Drawn.{drawn_arcs, name_of, plain_deal, plain_job, seed_of};
 ghost use Rattle.swap_gen.specs.Events.{first_place};
 
 use crate::arcs::{drawn_amounts, drawn_arcs, leader_count};
 use crate::draws::Draws;
-use deviator_script::{Finish, Job, Purpose, Role};
+use swap_job::{Finish, Job, Purpose, Role};
 use sha2::{Digest as Hasher, Sha256};
 use std::alloc::Global;
 use swap_base::{ByteText, Digest, Listed, NoMemory, PartyId, Piece, put};

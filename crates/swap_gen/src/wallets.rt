@@ -14,7 +14,7 @@ use crate::draws::Draws;
 use crate::making::fill;
 use crate::plain::plain_job;
 use crate::seeds::seed_in;
-use deviator_script::Job;
+use swap_job::Job;
 use party_wallet::Wallet;
 use std::alloc::Global;
 use swap_base::{Digest, Listed, LockId, NoMemory, PartyId};

@@ -2,10 +2,10 @@
 use Rattle.std.proofs.Common.{◌≤◌, ◌*◌, ◌≡◌, ◌==◌, ℕ, Bool, false, not, List, [], ◌++◌, length, Option, Some, None, Result, Ok, Err, sym, ap, ◌∙◌}
 use Rattle.std.proofs.Common.{subst, append-nil}
 use Rattle.std.specs.Io.KnownBytes.{Consumes, IsAtEnd}
-use Rattle.deviator_script.specs.declared.event.Event.{Event}
-use Rattle.deviator_script.specs.declared.job.Job.{Job}
-use Rattle.deviator_script.specs.declared.job.Finish.TheVariants.{Fair}
-use Rattle.deviator_script.specs.declared.job.Purpose.TheVariants as purposes
+use Rattle.swap_job.specs.declared.event.Event.{Event}
+use Rattle.swap_job.specs.declared.job.Job.{Job}
+use Rattle.swap_job.specs.declared.job.Finish.TheVariants.{Fair}
+use Rattle.swap_job.specs.declared.job.Purpose.TheVariants as purposes
 use Rattle.swap_rules.specs.declared.finding.Finding.{Finding}
 use Rattle.outcome_rules.specs.Promises.{AllAreConforming}
 use Rattle.refusals.specs.declared.reason.Reason.{Reason}

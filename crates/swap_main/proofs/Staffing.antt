@@ -6,9 +6,9 @@ use Rattle.std.specs.Str.{bytes_eq}
 use Rattle.swap_digraph.specs.declared.deal.Deal.{Deal}
 use Rattle.ledger_core.specs.declared.entry.Call.{Call}
 use Rattle.ledger_core.specs.Book.{Histories}
-use Rattle.deviator_script.specs.Names.{under}
+use Rattle.swap_job.specs.Names.{under}
 use Rattle.offer_header.specs.Names.{has_strategy}
-use Rattle.program_kit.specs.Program.{program_names}
+use Rattle.deviators.specs.Program.{program_names}
 use Rattle.swap_run.specs.Run.{Cast}
 use Rattle.swap_world.specs.Cast.{cast_of}
 use Rattle.swap_world.specs.Gone.{Gives}

@@ -5,7 +5,7 @@ use Rattle.std.specs.Str.{bytes_eq}
 use Rattle.swap_digraph.specs.declared.deal.Deal.{Deal}
 use Rattle.ledger_core.specs.declared.entry.Call.{Call}
 use Rattle.ledger_core.specs.Book.{Histories}
-use Rattle.program_kit.specs.Program.{program_names}
+use Rattle.deviators.specs.Program.{program_names}
 use Rattle.swap_world.specs.Gone.{Gives}
 
 -- the program knows a strategy of that name

@@ -4,9 +4,9 @@ use Rattle.std.specs.Io.KnownBytes.{Appends, Consumes, IsAtEnd}
 use Rattle.swap_io.specs.Causes.{AppendsProperPrefix}
 use Rattle.swap_io.specs.Handed.{AppendsPrefix}
 use Rattle.refusals.specs.declared.reason.Reason.{Reason}
-use Rattle.deviator_script.specs.declared.job.Job.{Job}
-use Rattle.deviator_script.specs.declared.job.Purpose.TheVariants as purposes
-use Rattle.deviator_script.specs.declared.job.Finish.TheVariants.{Fair}
+use Rattle.swap_job.specs.declared.job.Job.{Job}
+use Rattle.swap_job.specs.declared.job.Purpose.TheVariants as purposes
+use Rattle.swap_job.specs.declared.job.Finish.TheVariants.{Fair}
 use Rattle.outcome_rules.specs.Promises.{AllAreConforming}
 use Rattle.swap_offer.specs.Job.{job_of}
 use Rattle.audit_command.specs.Output.{Written}

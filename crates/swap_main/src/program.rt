@@ -1,15 +1,14 @@
 //! The strategies of the program.
 
 ghost use Rattle.std.specs.Prelude.{◌≡◌, IfOk, OnErr};
-ghost use Rattle.deviator_script.specs.Rules.{silent, greedy, replayer, spoiler};
-ghost use Rattle.deviator_script.specs.View.{IsView, MayAnswer};
-ghost use Rattle.program_kit.specs.Program.{program_rule};
+ghost use Rattle.deviators.specs.Rules.{silent, greedy, replayer, spoiler};
+ghost use Rattle.deviators.specs.View.{IsView, MayAnswer};
+ghost use Rattle.deviators.specs.Program.{program_rule};
 ghost use Rattle.swap_commands.specs.Entered.{Obeys};
 ghost use Rattle.swap_main.specs.Staff.{by_rule, is_known};
 
-use deviator_script::{Rule, Strategies, greedy_rule, replayer_rule, silent_rule, spoiler_rule};
+use deviators::{Rule, Strategies, greedy_rule, program_kit, replayer_rule, silent_rule, spoiler_rule};
 use ledger_core::{Book, Call};
-use program_kit::program_kit;
 use std::alloc::Global;
 use swap_base::{ArcId, ByteText, NoMemory, PartyId};
 use swap_commands::{Command, Obeyed, Staff, Status};

@@ -10,7 +10,7 @@ use Rattle.swap_digraph.specs.Graph.{arcs}
 use Rattle.ledger_core.specs.History.{height}
 use Rattle.ledger_core.specs.Book.{history}
 use Rattle.ledger_core.proofs.History.{not-true}
-use Rattle.deviator_script.specs.declared.event.Event.TheVariants.{Look, Act}
+use Rattle.swap_job.specs.declared.event.Event.TheVariants.{Look, Act}
 use Rattle.swap_rules.specs.Outcome.{IsEnded}
 use Rattle.swap_laws.proofs.Prefixes.{same_or_not, from_flat_map}
 use Rattle.swap_run.specs.Run.{conforms}

@@ -9,7 +9,7 @@ use Rattle.ledger_core.specs.History.{accounts, reply_to}
 use Rattle.ledger_core.specs.Ledger.{after_call}
 use Rattle.ledger_core.specs.Book.{Histories, history}
 use Rattle.ledger_core.proofs.History.{not-true}
-use Rattle.deviator_script.specs.declared.event.Event.{Event}
+use Rattle.swap_job.specs.declared.event.Event.{Event}
 use Rattle.swap_laws.proofs.Prefixes.{same_or_not}
 use Rattle.swap_run.specs.Run.{Cast, State, start, step, no_histories}
 use Rattle.swap_run.specs.Laws.{IsGood}

@@ -7,7 +7,7 @@ use Rattle.std.specs.Prelude.{option_map}
 use Rattle.std.proofs.lemmas.List.{length-set}
 use Rattle.ledger_core.specs.Book.{history}
 use Rattle.ledger_core.specs.History.{reply_to}
-use Rattle.deviator_script.specs.declared.event.Event.{Event}
+use Rattle.swap_job.specs.declared.event.Event.{Event}
 use Rattle.swap_run.specs.Asked.{Answers}
 use Rattle.swap_run.specs.Run.{State}
 use Rattle.swap_run.specs.Called.{Called, called, is_barred, step_on}

@@ -1,8 +1,8 @@
 -- The turns of a swap's parties in a round are its own.
 use Rattle.std.proofs.Common.{◌≡◌, ◌≢◌, ◌⊎◌, ℕ, suc, zero, Bool, true, false, cond, List, [], ◌∷◌, fold, refl, sym, ap, ◌∙◌, subst, inl, inr}
 use Rattle.std.specs.List.{range_with_len}
-use Rattle.deviator_script.specs.declared.event.Event.{Event}
-use Rattle.deviator_script.specs.declared.event.Event.TheVariants.{Look, Act}
+use Rattle.swap_job.specs.declared.event.Event.{Event}
+use Rattle.swap_job.specs.declared.event.Event.TheVariants.{Look, Act}
 use Rattle.swap_laws.proofs.Prefixes.{same_or_not}
 use Rattle.swap_run.specs.Run.{State, conforms, step}
 use Rattle.swap_run.specs.Fair.{repeat, adjacent, looks, most_acts}

@@ -12,7 +12,7 @@ use Rattle.escrow_core.specs.declared.reply.Reply.TheVariants.{Accepted, ClockFu
 use Rattle.swap_many.specs.declared.many_reply.ManyReply.TheVariants.{Plain}
 use Rattle.swap_base.proofs.Lists.{below_or}
 use Rattle.swap_digraph.specs.Graph.{arcs}
-use Rattle.deviator_script.specs.declared.event.Event.TheVariants as events
+use Rattle.swap_job.specs.declared.event.Event.TheVariants as events
 use Rattle.swap_run.specs.Asked.{Answers}
 use Rattle.swap_run.specs.Run.{Cast, State, step}
 use Rattle.swap_run.specs.Laws.{IsKept}

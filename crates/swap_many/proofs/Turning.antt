@@ -13,8 +13,8 @@ use Rattle.std.proofs.lemmas.List.Sums.{fold-append}
 use Rattle.swap_digraph.specs.declared.deal.Deal.{Deal}
 use Rattle.swap_digraph.specs.Graph.{arcs}
 use Rattle.swap_base.proofs.Lists.{from_range}
-use Rattle.deviator_script.specs.Step.{CanLook}
-use Rattle.deviator_script.specs.declared.event.Event.TheVariants.{Look, Act}
+use Rattle.swap_job.specs.Step.{CanLook}
+use Rattle.swap_job.specs.declared.event.Event.TheVariants.{Look, Act}
 use Rattle.swap_run.specs.Asked.{Answers}
 use Rattle.swap_run.specs.Fair.{repeat, adjacent, most_acts}
 use Rattle.swap_run.specs.Run.{Cast, State, conforms, role_of, next_of}

@@ -4,7 +4,7 @@ use Rattle.std.specs.Prelude.{ℕ, ◌+◌, ◌==◌, Bool, true, false, List, f
 use Rattle.swap_digraph.specs.Graph.{arcs}
 use Rattle.ledger_core.specs.History.{reply_to, accounts}
 use Rattle.ledger_core.specs.Book.{history}
-use Rattle.deviator_script.specs.declared.event.Event.TheVariants as events
+use Rattle.swap_job.specs.declared.event.Event.TheVariants as events
 use Rattle.swap_run.specs.Run.{State, start, step}
 use Rattle.swap_run.specs.Fair.{the_horizon}
 use Rattle.swap_many.specs.declared.many_event.ManyEvent.{ManyEvent}

@@ -4,8 +4,8 @@ use Rattle.escrow_core.specs.declared.reply.Reply.TheVariants.{Accepted}
 use Rattle.ledger_core.specs.declared.entry.Call.{Call}
 use Rattle.std.specs.List.{list_any}
 use Rattle.ledger_core.specs.History.{height, accounts, is_clock_full}
-use Rattle.deviator_script.specs.declared.event.Event.{Event}
-use Rattle.deviator_script.specs.Step.{CanStep}
+use Rattle.swap_job.specs.declared.event.Event.{Event}
+use Rattle.swap_job.specs.Step.{CanStep}
 use Rattle.swap_rules.specs.declared.outcome.Outcome.TheVariants.{Underwater}
 use Rattle.swap_rules.specs.Findings.{findings}
 use Rattle.swap_rules.specs.Outcome.{outcome, IsEnded}

@@ -2,8 +2,8 @@
 use Rattle.std.specs.Prelude.{ℕ, ◌+◌, Bool, true, false, nat_lt, List, [], length, fold, Option, Some, None, option_map, if◌then◌else◌}
 use Rattle.std.specs.List.{list_all, range_with_len}
 use Rattle.swap_base.specs.Lists.{greatest}
-use Rattle.deviator_script.specs.declared.event.Event.{Event}
-use Rattle.deviator_script.specs.declared.event.Event.TheVariants.{Look, Act}
+use Rattle.swap_job.specs.declared.event.Event.{Event}
+use Rattle.swap_job.specs.declared.event.Event.TheVariants.{Look, Act}
 use Rattle.swap_run.specs.Run.{State, conforms, start}
 use Rattle.swap_run.specs.Fair.{repeat, adjacent, most_acts, the_horizon}
 use Rattle.swap_many.specs.declared.many_event.ManyEvent.{ManyEvent}

@@ -14,7 +14,8 @@ ghost use Rattle.swap_many.specs.Near.{AreNear, near_in};
 ghost use Rattle.swap_many.specs.Value.{HasManyGone, IsManyStopped, IsOn, IsPartyOf, kept_of, setup_of, world_at};
 
 use crate::worlds::Worlds;
-use deviator_script::{Event, Strategies};
+use swap_job::Event;
+use deviators::Strategies;
 use swap_base::{ArcId, Listed, NoMemory, PartyId};
 use swap_digraph::Deal;
 

@@ -22,7 +22,7 @@ use crate::many_reply::ManyReply;
 use crate::overdrawn::ManyFault;
 use crate::place::Place;
 use crate::worlds::Worlds;
-use deviator_script::Strategies;
+use deviators::Strategies;
 use ledger_core::Book;
 use std::alloc::Global;
 use std::marker::Model;

@@ -21,9 +21,9 @@ use Rattle.digraph_check.proofs.ClosedSets.{closed_of_set}
 use Rattle.leader_check.specs.Cycles.{follower_cycle}
 use Rattle.leader_check.proofs.Walks as walks
 use Rattle.single_leader.specs.Distance.{dist_of}
-use Rattle.deviator_script.specs.declared.job.Job.{Job}
-use Rattle.deviator_script.specs.declared.job.Purpose.{Purpose}
-use Rattle.deviator_script.specs.declared.job.Purpose.TheVariants.{Check, Run, Race, Make, Audit}
+use Rattle.swap_job.specs.declared.job.Job.{Job}
+use Rattle.swap_job.specs.declared.job.Purpose.{Purpose}
+use Rattle.swap_job.specs.declared.job.Purpose.TheVariants.{Check, Run, Race, Make, Audit}
 use Rattle.party_wallet.specs.Fits.{wrong_lock}
 use Rattle.refusals.specs.declared.reason.Reason.{Reason}
 use Rattle.refusals.specs.declared.reason.Reason.TheVariants.{BoundTooSmall, StartTooSoon, ManyLeaders, WrongTimelock, NoSeed, WrongWallet}

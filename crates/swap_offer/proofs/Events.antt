@@ -5,8 +5,8 @@ use Rattle.std.proofs.lemmas.List.{append-nil, nil_from_length, length-drop}
 use Rattle.swap_base.specs.Fault.{◌>>=◌, steps, Fails}
 use Rattle.swap_base.specs.declared.fault.Fault.{Fault}
 use Rattle.swap_base.specs.declared.fault.Fault.TheVariants.{Refused, NoMemory}
-use Rattle.deviator_script.specs.declared.job.Job.{Job}
-use Rattle.deviator_script.specs.declared.event.Event.{Event}
+use Rattle.swap_job.specs.declared.job.Job.{Job}
+use Rattle.swap_job.specs.declared.event.Event.{Event}
 use Rattle.refusals.specs.declared.reason.Reason.{Reason}
 use Rattle.offer_fields.proofs.Lists.{with_front}
 use Rattle.swap_offer.specs.Job.{counted, events_of, next_of}

@@ -1,6 +1,5 @@
 -- The moves of a header's scripts may come, whatever comes before them.
-use Rattle.std.proofs.Common.{◌≡◌, ℕ, zero, suc, ◌+◌, ◌<◌, Bool, true, nat_lt, nat_eq, eq-eqb, ltb-true, length, get_or, List}
-use Rattle.std.proofs.Common.{[], ◌∷◌, None}
+use Rattle.std.proofs.Common.{◌≡◌, ℕ, zero, suc, ◌+◌, ◌<◌, Bool, true, nat_lt, nat_eq, eq-eqb, ltb-true, length, get_or, List, [], ◌∷◌, None}
 use Rattle.std.proofs.Common.{is_some, slice_index_or, Result, Ok, refl, sym, ap, ◌∙◌, subst, arith}
 use Rattle.std.specs.List.{All}
 use Rattle.std.proofs.lemmas.List.Elements.{All-get_or, All-from_get_or}
@@ -12,14 +11,14 @@ use Rattle.swap_digraph.specs.Graph.{HasEnds}
 use Rattle.swap_digraph.specs.Deal.{IsWellSized, path_limit_of}
 use Rattle.swap_digraph.specs.declared.deal.Version.{Version}
 use Rattle.swap_digraph.specs.declared.arc_ends.ArcEnds.{ArcEnds}
-use Rattle.deviator_script.specs.Script.{IsMoveOf}
-use Rattle.deviator_script.specs.declared.job.Job.{Job}
-use Rattle.deviator_script.specs.declared.job.Purpose.{Purpose}
-use Rattle.deviator_script.specs.declared.job.Purpose.TheVariants.{Check, Run, Race, Make, Audit}
-use Rattle.deviator_script.specs.declared.job.Role.{Role}
-use Rattle.deviator_script.specs.declared.job.Role.TheVariants as kinds
-use Rattle.deviator_script.specs.declared.moves.Move.{Move}
-use Rattle.deviator_script.specs.declared.moves.Move.TheVariants.{Publish, Craft, Replay, Raw, Claim, Refund, Transfer, Wait}
+use Rattle.swap_job.specs.Fitting.{IsMoveOf}
+use Rattle.swap_job.specs.declared.job.Job.{Job}
+use Rattle.swap_job.specs.declared.job.Purpose.{Purpose}
+use Rattle.swap_job.specs.declared.job.Purpose.TheVariants.{Check, Run, Race, Make, Audit}
+use Rattle.swap_job.specs.declared.job.Role.{Role}
+use Rattle.swap_job.specs.declared.job.Role.TheVariants as kinds
+use Rattle.swap_job.specs.declared.moves.Move.{Move}
+use Rattle.swap_job.specs.declared.moves.Move.TheVariants.{Publish, Craft, Replay, Raw, Claim, Refund, Transfer, Wait}
 use Rattle.offer_moves.specs.declared.moves.Sizes.{Sizes}
 use Rattle.offer_moves.specs.Kept.{AreCraftersBelow, AreSeeded, IsMade}
 use Rattle.offer_moves.specs.Placed.{placed}

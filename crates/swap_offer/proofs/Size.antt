@@ -7,8 +7,8 @@ use Rattle.swap_digraph.specs.Deal.{IsWellSized, HasKeys}
 use Rattle.swap_digraph.specs.declared.deal.Mode.{Mode}
 use Rattle.swap_digraph.specs.declared.deal.Mode.TheVariants.{Timelocks, Hashkeys}
 use Rattle.offer_header.specs.declared.header.Header.{Header}
-use Rattle.deviator_script.specs.declared.job.Purpose.{Purpose}
-use Rattle.deviator_script.specs.declared.job.Purpose.TheVariants.{Check, Run, Race, Make, Audit}
+use Rattle.swap_job.specs.declared.job.Purpose.{Purpose}
+use Rattle.swap_job.specs.declared.job.Purpose.TheVariants.{Check, Run, Race, Make, Audit}
 use Rattle.offer_header.specs.Header.{AreSimpleFor, IsWithin, IsUntoldFor, HasKeysFor}
 use Rattle.offer_header.specs.Limits.{conforms}
 use Rattle.swap_offer.specs.Checks.{unnamed, deal_with, job_with}

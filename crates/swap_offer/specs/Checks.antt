@@ -17,8 +17,8 @@ use Rattle.hashkey_path.specs.Digest.{deal_id}
 use Rattle.digraph_check.specs.Reach.{closed_set}
 use Rattle.leader_check.specs.Cycles.{follower_cycle}
 use Rattle.leader_check.specs.Levels.{height_of}
-use Rattle.deviator_script.specs.declared.job.Job.{Job}
-use Rattle.deviator_script.specs.declared.job.Purpose.{Purpose}
+use Rattle.swap_job.specs.declared.job.Job.{Job}
+use Rattle.swap_job.specs.declared.job.Purpose.{Purpose}
 use Rattle.refusals.specs.declared.reason.Reason.{Reason}
 use Rattle.refusals.specs.declared.reason.Reason.TheVariants.{SelfArc, Parallel, NotStrong, ManyLeaders, NotFeedback, BoundTooSmall, StartTooSoon}
 use Rattle.refusals.specs.declared.reason.Reason.TheVariants.{WrongTimelock}

@@ -2,9 +2,9 @@
 use Rattle.std.specs.Prelude.{◌≡◌, ◌==◌, ℕ, ◌+◌, List, [], ◌∷◌, Bool, true, false, codes, length, map, Result, Ok, Err, if◌then◌else◌}
 use Rattle.swap_base.specs.Fault.{◌>>=◌, steps}
 use Rattle.swap_digraph.specs.Deal.{IsWellSized}
-use Rattle.deviator_script.specs.declared.job.Purpose.{Purpose}
-use Rattle.deviator_script.specs.declared.job.Job.{Job}
-use Rattle.deviator_script.specs.declared.event.Event.{Event}
+use Rattle.swap_job.specs.declared.job.Purpose.{Purpose}
+use Rattle.swap_job.specs.declared.job.Job.{Job}
+use Rattle.swap_job.specs.declared.event.Event.{Event}
 use Rattle.refusals.specs.declared.reason.Reason.{Reason}
 use Rattle.refusals.specs.declared.reason.Reason.TheVariants.{NotJson, OverLimit}
 use Rattle.offer_header.specs.Raw.{is_plain}

@@ -1,18 +1,17 @@
 -- The seeds that a job needs, and whether they are those of its deal.
 use Rattle.std.specs.Prelude.{◌≡◌, ℕ, ◌<◌, ◌&&◌, ◌||◌, nat_eq, All, Bool, true, false, List, [], map, is_none, slice_index_or, option_map}
-use Rattle.std.specs.Prelude.{if◌then◌else◌, Option, Some, None, Result}
-use Rattle.std.specs.Prelude.{Ok}
+use Rattle.std.specs.Prelude.{if◌then◌else◌, Option, Some, None, Result, Ok}
 use Rattle.std.specs.List.{list_any, range_with_len}
 use Rattle.swap_base.specs.Lists.{first_of}
-use Rattle.deviator_script.specs.declared.job.Job.{Job}
-use Rattle.deviator_script.specs.Script.{IsMoveOf}
-use Rattle.deviator_script.specs.declared.moves.Move.{Move}
-use Rattle.deviator_script.specs.declared.moves.Move.TheVariants.{Craft}
-use Rattle.deviator_script.specs.declared.job.Role.{Role}
-use Rattle.deviator_script.specs.declared.job.Role.TheVariants.{Manual}
-use Rattle.deviator_script.specs.declared.job.Purpose.{Purpose}
-use Rattle.deviator_script.specs.declared.job.Purpose.TheVariants.{Run, Race, Make, Audit}
-use Rattle.deviator_script.specs.declared.job.Finish.TheVariants.{Stop}
+use Rattle.swap_job.specs.declared.job.Job.{Job}
+use Rattle.swap_job.specs.Fitting.{IsMoveOf}
+use Rattle.swap_job.specs.declared.moves.Move.{Move}
+use Rattle.swap_job.specs.declared.moves.Move.TheVariants.{Craft}
+use Rattle.swap_job.specs.declared.job.Role.{Role}
+use Rattle.swap_job.specs.declared.job.Role.TheVariants.{Manual}
+use Rattle.swap_job.specs.declared.job.Purpose.{Purpose}
+use Rattle.swap_job.specs.declared.job.Purpose.TheVariants.{Run, Race, Make, Audit}
+use Rattle.swap_job.specs.declared.job.Finish.TheVariants.{Stop}
 use Rattle.proposed_deal.specs.Proposed.{HaveSeeds}
 use Rattle.offer_header.specs.Header.{simple_role}
 use Rattle.offer_header.specs.Scripts.{script_of}

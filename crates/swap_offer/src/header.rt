@@ -18,7 +18,8 @@ ghost use Rattle.swap_offer.specs.Job.{accepted_of, job_header_of, names_at, pro
 use crate::checks::{check_header, graph_in};
 use crate::prepared::Prepared;
 use crate::wallets::{check_seeds, wallets_for};
-use deviator_script::{Job, Kit, Purpose};
+use swap_job::{Job, Purpose};
+use deviators::Kit;
 use hashkey_path::deal_digest;
 use offer_header::{Header, header_in};
 use party_wallet::Wallet;

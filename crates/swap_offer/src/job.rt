@@ -2,7 +2,7 @@
 
 ghost use Rattle.std.specs.Prelude.{true, ◌≡◌, ◌<◌, ◌≤◌, ◌^◌, ◌∷◌, List, [], ℕ, length, map, All, IfOk, OnOk};
 ghost use Rattle.swap_base.specs.Fault.{Gives, steps};
-ghost use Rattle.deviator_script.specs.Step.{IsEventOf};
+ghost use Rattle.swap_job.specs.Step.{IsEventOf};
 ghost use Rattle.offer_events.specs.Event.{needs_seeds};
 ghost use Rattle.refusals.specs.Refusal.{named};
 ghost use Rattle.offer_header.specs.Limits.{HoldsEach};
@@ -15,7 +15,8 @@ ghost use Rattle.swap_offer.specs.Wallets.{AreSimpleRoles, HaveScriptsFor, HaveS
 use crate::header::read_header;
 use crate::lines::filled_lines;
 use crate::prepared::Prepared;
-use deviator_script::{Event, Job, Kit, Purpose};
+use swap_job::{Event, Job, Purpose};
+use deviators::Kit;
 use offer_events::read_event;
 use offer_header::is_plain;
 use refusals::{HeaderFault, OfferFault, Reason, Refusal, over_limit, with_names};

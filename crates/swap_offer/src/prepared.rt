@@ -1,6 +1,6 @@
 //! A job with its wallets.
 
-use deviator_script::Job;
+use swap_job::Job;
 use party_wallet::Wallet;
 
 /// An accepted job, with the wallets that its purpose needs.

@@ -13,7 +13,7 @@ ghost use Rattle.swap_offer.specs.Checks.{unless_wrong};
 ghost use Rattle.swap_offer.specs.Job.{IsWhole};
 ghost use Rattle.swap_offer.specs.Wallets.{crafts, crafts_in, is_crafter, needs_seed, no_seed, seeded, wrong_wallet, fitting, walleted, wallets_for};
 
-use deviator_script::{Job, Move, Purpose, Role};
+use swap_job::{Job, Move, Purpose, Role};
 use party_wallet::Wallet;
 use refusals::{OfferFault, Reason};
 use std::alloc::Global;

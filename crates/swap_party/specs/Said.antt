@@ -1,8 +1,8 @@
 -- What the calls of the library say: a status, and a text that they put into the caller's buffer.
 use Rattle.std.specs.Prelude.{◌≡◌, ◌≤◌, ◌<◌, ◌++◌, ℕ, List, drop, length, Result, Ok, Err}
 use Rattle.swap_rules.specs.Accepted.{IsAccepted}
-use Rattle.deviator_script.specs.declared.job.Job.{Job}
-use Rattle.deviator_script.specs.declared.job.Purpose.TheVariants.{Audit}
+use Rattle.swap_job.specs.declared.job.Job.{Job}
+use Rattle.swap_job.specs.declared.job.Purpose.TheVariants.{Audit}
 use Rattle.refusals.specs.declared.refusal.Refusal.{Refusal}
 use Rattle.refusals.specs.Refusal.{named}
 use Rattle.offer_header.specs.Names.{no_strategy}

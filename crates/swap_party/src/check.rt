@@ -2,7 +2,7 @@
 
 ghost use Rattle.std.specs.Prelude.{◌⊎◌, ◌≤◌, ◌<◌, IfOk, length};
 ghost use Rattle.swap_base.specs.Fault.{Gives};
-ghost use Rattle.deviator_script.specs.declared.job.Purpose.TheVariants.{Audit as audits};
+ghost use Rattle.swap_job.specs.declared.job.Purpose.TheVariants.{Audit as audits};
 ghost use Rattle.refusals.specs.Refusal.{named};
 ghost use Rattle.swap_rules.specs.Accepted.{IsAccepted};
 ghost use Rattle.offer_header.specs.Names.{has_strategy};
@@ -10,7 +10,8 @@ ghost use Rattle.swap_offer.specs.Job.{job_header_of, names_at};
 ghost use Rattle.swap_party.specs.Said.{header_said, limit, IsCheckSaid, IsNothing};
 
 use crate::said::{DONE, LIMIT, NO_MEMORY, Said, TOO_LONG, say, say_nothing, say_reason};
-use deviator_script::{Job, Kit, Purpose};
+use swap_job::{Job, Purpose};
+use deviators::Kit;
 use party_answer::AnswerReason;
 use refusals::HeaderFault;
 use std::alloc::Global;

@@ -5,7 +5,7 @@ use Rattle.swap_base.specs.Lists.{IsIn}
 use Rattle.ledger_core.specs.History.{is_full}
 use Rattle.ledger_core.specs.Book.{Histories, history}
 use Rattle.std.proofs.lemmas.Bool.{false≢true}
-use Rattle.deviator_script.specs.declared.event.Event.TheVariants.{Act}
+use Rattle.swap_job.specs.declared.event.Event.TheVariants.{Act}
 use Rattle.swap_rules.specs.Due.{Action, due, first}
 use Rattle.swap_laws.specs.Machine.{entry_of, test_of}
 use Rattle.swap_laws.proofs.Machines.{rules_transfer}

@@ -14,13 +14,14 @@ use Rattle.ledger_core.specs.declared.entry.Entry.{Entry}
 use Rattle.ledger_core.specs.History.{Publication, published}
 use Rattle.ledger_core.specs.Ledger.{after_call}
 use Rattle.ledger_core.specs.Book.{Histories, history}
-use Rattle.deviator_script.specs.declared.event.Event.TheVariants.{Tick, Look, Act, Call as Calls, Crash}
-use Rattle.deviator_script.specs.declared.job.Role.{Role}
-use Rattle.deviator_script.specs.declared.job.Role.TheVariants.{Conforming, Manual, Script, Strategy}
-use Rattle.deviator_script.specs.Resolved.{resolved}
-use Rattle.deviator_script.specs.Script.{next_call, moves_left, IsMoveOf}
-use Rattle.deviator_script.specs.View.{IsAnswerOf, MayAnswer}
-use Rattle.deviator_script.proofs.Scripts.{may_resolve, left_fit}
+use Rattle.swap_job.specs.declared.event.Event.TheVariants.{Tick, Look, Act, Call as Calls, Crash}
+use Rattle.swap_job.specs.declared.job.Role.{Role}
+use Rattle.swap_job.specs.declared.job.Role.TheVariants.{Conforming, Manual, Script, Strategy}
+use Rattle.swap_job.specs.Resolved.{resolved}
+use Rattle.deviators.specs.Script.{next_call, moves_left}
+use Rattle.deviators.specs.View.{IsAnswerOf, MayAnswer}
+use Rattle.deviators.proofs.Scripts.{may_resolve, left_fit}
+use Rattle.swap_job.specs.Fitting.{IsMoveOf}
 use Rattle.swap_rules.specs.Due.{Action, due}
 use Rattle.swap_laws.specs.Machine.{IsSound, Begins}
 use Rattle.swap_laws.proofs.Due.{IsDue}

@@ -10,7 +10,7 @@ use Rattle.hashkey_path.specs.declared.hashkey.Hashkey.{Hashkey}
 use Rattle.ledger_core.specs.declared.entry.Call.TheVariants.{Unlock}
 use Rattle.ledger_core.specs.History.{IsLegal}
 use Rattle.ledger_core.specs.Book.{Histories, history, IsLegalBook}
-use Rattle.deviator_script.specs.View.{is_near}
+use Rattle.swap_job.specs.Fitting.{is_near}
 use Rattle.party_wallet.specs.Value.{signed_in}
 use Rattle.swap_rules.specs.Accepted.{IsAccepted}
 use Rattle.swap_rules.specs.Due.{Wallet, Action, due}

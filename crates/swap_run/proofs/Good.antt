@@ -1,7 +1,6 @@
 -- A run begins in a good state, each event leaves the state good, and in a good state the book is legal and every conforming party is conducted.
 use Rattle.std.proofs.Common.{if◌then◌else◌, ◌≡◌, ◌≢◌, ◌⊎◌, ℕ, suc, ◌<◌, ◌≤◌, ◌==◌, nat_lt, Bool, true, false, cond, List, [], ◌∷◌, ◌++◌, length, fold, Option}
-use Rattle.std.proofs.Common.{Some, None, refl, sym, ap, ◌∙◌, subst, inl, inr, arith, eqb-true, ltb-true, ltb-false, set, slice_set, replicate, get_or}
-use Rattle.std.proofs.Common.{All}
+use Rattle.std.proofs.Common.{Some, None, refl, sym, ap, ◌∙◌, subst, inl, inr, arith, eqb-true, ltb-true, ltb-false, set, slice_set, replicate, get_or, All}
 use Rattle.std.proofs.lemmas.Bool.{false≢true}
 use Rattle.std.proofs.lemmas.List.{get_or-set_same, get_or-set_other, get_or-map, length-map, length-set, length-replicate, get_or-replicate}
 use Rattle.std.proofs.Math.ListN.{get_or-eq_default}
@@ -16,16 +15,16 @@ use Rattle.ledger_core.specs.declared.entry.What.TheVariants.{Call as Made, Tick
 use Rattle.ledger_core.specs.declared.entry.Entry.{Entry}
 use Rattle.ledger_core.specs.History.{sent_by, IsLegal}
 use Rattle.ledger_core.specs.Book.{Histories, history, IsLegalBook}
-use Rattle.deviator_script.specs.declared.moves.Move.{Move}
-use Rattle.deviator_script.specs.declared.event.Event.{Event}
-use Rattle.deviator_script.specs.declared.event.Event.TheVariants.{Tick, Look, Act, Call as Calls, Crash}
-use Rattle.deviator_script.specs.Step.{CanStep, CanTick, CanCall}
-use Rattle.deviator_script.specs.Resolved.{resolved}
-use Rattle.deviator_script.specs.Script.{next_call, moves_left, IsMoveOf}
-use Rattle.deviator_script.specs.View.{is_near, IsAnswerOf, MayAnswer}
-use Rattle.deviator_script.specs.declared.job.Role.{Role}
-use Rattle.deviator_script.specs.declared.job.Role.TheVariants.{Conforming, Manual, Script, Strategy}
-use Rattle.deviator_script.proofs.Scripts.{may_resolve, next_may, left_fit}
+use Rattle.swap_job.specs.declared.moves.Move.{Move}
+use Rattle.swap_job.specs.declared.event.Event.{Event}
+use Rattle.swap_job.specs.declared.event.Event.TheVariants.{Tick, Look, Act, Call as Calls, Crash}
+use Rattle.swap_job.specs.Step.{CanStep, CanTick, CanCall}
+use Rattle.swap_job.specs.Resolved.{resolved}
+use Rattle.deviators.specs.Script.{next_call, moves_left}
+use Rattle.deviators.specs.View.{IsAnswerOf, MayAnswer}
+use Rattle.swap_job.specs.declared.job.Role.{Role}
+use Rattle.swap_job.specs.declared.job.Role.TheVariants.{Conforming, Manual, Script, Strategy}
+use Rattle.deviators.proofs.Scripts.{may_resolve, next_may, left_fit}
 use Rattle.swap_rules.specs.Due.{Action, due, first}
 use Rattle.ledger_core.proofs.History.{not-true}
 use Rattle.swap_laws.proofs.Prefixes.{begins_refl, same_or_not}
@@ -37,8 +36,8 @@ use Rattle.swap_run.specs.Run.{is_recorded, recorded_after, relearnt, crash}
 use Rattle.swap_run.specs.Run.{act, watch, take_call, after_turn, follow, question, after_question, ask, answer_for, act_as}
 use Rattle.swap_run.specs.Run.{step, no_histories, no_notes, first_plan, start, run}
 use Rattle.ledger_core.specs.Ledger.{after_call}
-use Rattle.swap_run.specs.Laws.{IsReadyCast, AreGoodNotes, IsGoodPlan, IsGood, StartIsGood, StepsAreGood, GoodIsKept, RunsAreKept}
-use Rattle.swap_run.specs.Laws.{UnlocksAreSigned}
+use Rattle.swap_job.specs.Fitting.{is_near, IsMoveOf}
+use Rattle.swap_run.specs.Laws.{IsReadyCast, AreGoodNotes, IsGoodPlan, IsGood, StartIsGood, StepsAreGood, GoodIsKept, RunsAreKept, UnlocksAreSigned}
 use Rattle.swap_run.proofs.Entries.{next_tick}
 use Rattle.swap_run.proofs.Noted.{Holds, hold_other, hold_look, hold_act, due_now}
 use Rattle.swap_run.proofs.Crashes.{hold_restart, hold_recorded}

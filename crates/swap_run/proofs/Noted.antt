@@ -16,7 +16,7 @@ use Rattle.ledger_core.specs.declared.entry.What.{What}
 use Rattle.ledger_core.specs.declared.entry.Entry.{Entry}
 use Rattle.ledger_core.specs.History.{sent_by, IsLegal}
 use Rattle.ledger_core.specs.Book.{Histories, history, IsLegalBook}
-use Rattle.deviator_script.specs.View.{is_near}
+use Rattle.swap_job.specs.Fitting.{is_near}
 use Rattle.swap_rules.specs.Accepted.{IsAccepted}
 use Rattle.swap_rules.specs.Due.{Wallet, Action, due}
 use Rattle.swap_laws.specs.Machine.{Knows, IsWallet, IsSound, noted}

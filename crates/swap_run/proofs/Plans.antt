@@ -12,10 +12,10 @@ use Rattle.ledger_core.specs.declared.entry.Call.{Call}
 use Rattle.ledger_core.specs.declared.entry.Entry.{Entry}
 use Rattle.ledger_core.specs.History.{fit, IsLegal, IsLegalMoment}
 use Rattle.ledger_core.specs.Book.{Histories, history, IsLegalBook}
-use Rattle.deviator_script.specs.declared.moves.Move.{Move}
-use Rattle.deviator_script.specs.Crafted.{Seeds}
-use Rattle.deviator_script.specs.Script.{IsMoveOf}
-use Rattle.deviator_script.specs.View.{is_near, IsView, IsAnswerOf, MayAnswer}
+use Rattle.swap_job.specs.declared.moves.Move.{Move}
+use Rattle.swap_job.specs.Crafted.{Seeds}
+use Rattle.swap_job.specs.Fitting.{IsMoveOf, is_near}
+use Rattle.deviators.specs.View.{IsView, IsAnswerOf, MayAnswer}
 use Rattle.swap_laws.specs.Machine.{Begins}
 use Rattle.swap_laws.proofs.Growth.{Grows}
 use Rattle.swap_laws.proofs.Prefixes.{begins_refl, begins_more, same_or_not}

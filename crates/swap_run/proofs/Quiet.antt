@@ -17,7 +17,7 @@ use Rattle.ledger_core.specs.Ledger.{after_call, tick_entry}
 use Rattle.ledger_core.specs.History.{height, is_clock_full}
 use Rattle.ledger_core.proofs.Bounds.{height-push}
 use Rattle.ledger_core.specs.Book.{Histories, history}
-use Rattle.deviator_script.specs.declared.event.Event.TheVariants.{Look, Act, Tick}
+use Rattle.swap_job.specs.declared.event.Event.TheVariants.{Look, Act, Tick}
 use Rattle.party_wallet.specs.Value.{signed_in}
 use Rattle.swap_rules.specs.Due.{Action, due, first}
 use Rattle.swap_laws.specs.Rest.{are_ticks, is_ticking}

@@ -15,7 +15,7 @@ use Rattle.ledger_core.specs.declared.entry.Entry.{Entry}
 use Rattle.ledger_core.specs.History.{height, ticks_in, is_tick, is_clock_full, IsLegal, IsLegalMoment, IsLegalEntry}
 use Rattle.ledger_core.specs.Ledger.{tick_entry}
 use Rattle.ledger_core.specs.Book.{history}
-use Rattle.deviator_script.specs.declared.event.Event.TheVariants.{Tick}
+use Rattle.swap_job.specs.declared.event.Event.TheVariants.{Tick}
 use Rattle.swap_rules.specs.Accepted.{IsAccepted}
 use Rattle.ledger_core.proofs.History.{not-true}
 use Rattle.swap_laws.proofs.Prefixes.{begins_refl, begins_more, same_or_not}

@@ -13,13 +13,13 @@ use Rattle.ledger_core.specs.declared.entry.What.TheVariants.{Call as Made}
 use Rattle.ledger_core.specs.declared.entry.Entry.{Entry}
 use Rattle.ledger_core.specs.History.{height, ticks_in}
 use Rattle.ledger_core.specs.Book.{Histories, history}
-use Rattle.deviator_script.specs.declared.event.Event.TheVariants.{Look, Act}
-use Rattle.deviator_script.specs.declared.job.Role.{Role}
-use Rattle.deviator_script.specs.declared.job.Role.TheVariants.{Conforming, Manual, Script, Strategy}
-use Rattle.deviator_script.specs.Script.{next_call, moves_left, IsMoveOf}
-use Rattle.deviator_script.specs.Step.{CanLook}
-use Rattle.deviator_script.specs.View.{is_near, IsAnswerOf, MayAnswer}
-use Rattle.deviator_script.proofs.Scripts.{left_fit}
+use Rattle.swap_job.specs.declared.event.Event.TheVariants.{Look, Act}
+use Rattle.swap_job.specs.declared.job.Role.{Role}
+use Rattle.swap_job.specs.declared.job.Role.TheVariants.{Conforming, Manual, Script, Strategy}
+use Rattle.deviators.specs.Script.{next_call, moves_left}
+use Rattle.swap_job.specs.Step.{CanLook}
+use Rattle.deviators.specs.View.{IsAnswerOf, MayAnswer}
+use Rattle.deviators.proofs.Scripts.{left_fit}
 use Rattle.swap_rules.specs.Due.{Action}
 use Rattle.swap_laws.specs.Machine.{Begins}
 use Rattle.swap_laws.specs.Rounds.{IsNear}
@@ -31,6 +31,7 @@ use Rattle.swap_laws.proofs.Conducting.{Next, next_call as next_of_call, Still, 
 use Rattle.swap_run.specs.Run.{Cast, State, conforms, role_of, notes_of, plan_of, plan_up_to, is_planned, signed_after, known_up_to, look, make}
 use Rattle.swap_run.specs.Run.{next_of, act, watch, take_call, after_turn, question, after_question, answer_for, act_as, step}
 use Rattle.ledger_core.specs.Ledger.{after_call}
+use Rattle.swap_job.specs.Fitting.{is_near, IsMoveOf}
 use Rattle.swap_run.specs.Laws.{IsReadyCast, IsGood}
 use Rattle.swap_run.specs.Fair.{adjacent, looks, acts, most_acts, turn}
 use Rattle.swap_run.specs.FairLaws.{OthersRest, TurnsAreGood}

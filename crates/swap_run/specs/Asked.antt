@@ -3,9 +3,9 @@ use Rattle.std.specs.Prelude.{◌≡◌, ℕ, ◌≤◌, ◌<◌, Bool, true, fa
 use Rattle.std.specs.List.{list_any}
 use Rattle.ledger_core.specs.declared.entry.Call.{Call}
 use Rattle.swap_digraph.specs.declared.deal.Deal.{Deal}
-use Rattle.deviator_script.specs.declared.event.Event.{Event}
-use Rattle.deviator_script.specs.declared.job.Role.{Role}
-use Rattle.deviator_script.specs.declared.job.Role.TheVariants.{Strategy}
+use Rattle.swap_job.specs.declared.event.Event.{Event}
+use Rattle.swap_job.specs.declared.job.Role.{Role}
+use Rattle.swap_job.specs.declared.job.Role.TheVariants.{Strategy}
 use Rattle.swap_run.specs.Run.{Cast, Question, State, run_from}
 use Rattle.swap_run.specs.Fair.{finish}
 

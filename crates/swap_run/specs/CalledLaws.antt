@@ -2,9 +2,9 @@
 use Rattle.std.specs.Prelude.{◌≡◌, ℕ, ◌<◌, Bool, true, false, length, Some, None}
 use Rattle.ledger_core.specs.Ledger.{after_call}
 use Rattle.ledger_core.specs.Book.{history}
-use Rattle.deviator_script.specs.declared.event.Event.{Event}
-use Rattle.deviator_script.specs.declared.event.Event.TheVariants as events
-use Rattle.deviator_script.specs.Step.{CanStep}
+use Rattle.swap_job.specs.declared.event.Event.{Event}
+use Rattle.swap_job.specs.declared.event.Event.TheVariants as events
+use Rattle.swap_job.specs.Step.{CanStep}
 use Rattle.swap_run.specs.Run.{Cast, State, step}
 use Rattle.swap_run.specs.Fair.{turns}
 use Rattle.swap_run.specs.Laws.{IsReadyCast, IsGood}

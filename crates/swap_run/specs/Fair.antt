@@ -8,7 +8,7 @@ use Rattle.swap_digraph.specs.Deal.{party, counterparty}
 use Rattle.swap_digraph.specs.Graph.{arcs}
 use Rattle.ledger_core.specs.History.{height}
 use Rattle.ledger_core.specs.Book.{Histories, history}
-use Rattle.deviator_script.specs.declared.event.Event.TheVariants.{Tick, Look, Act}
+use Rattle.swap_job.specs.declared.event.Event.TheVariants.{Tick, Look, Act}
 use Rattle.swap_run.specs.Run.{Cast, State, conforms, step}
 
 -- f, n times

@@ -2,8 +2,8 @@
 use Rattle.std.specs.Prelude.{◌≡◌, ℕ, ◌+◌, ◌<◌, true, false, List, length, All, None}
 use Rattle.ledger_core.specs.History.{height}
 use Rattle.ledger_core.specs.Book.{Histories, history}
-use Rattle.deviator_script.specs.declared.event.Event.{Event}
-use Rattle.deviator_script.specs.Step.{CanStep}
+use Rattle.swap_job.specs.declared.event.Event.{Event}
+use Rattle.swap_job.specs.Step.{CanStep}
 use Rattle.swap_rules.specs.Outcome.{IsEnded}
 use Rattle.swap_laws.specs.Laws.{IsDealt}
 use Rattle.swap_run.specs.Run.{Cast, State, conforms, role_of, is_planned, next_of, start, run_from, run}

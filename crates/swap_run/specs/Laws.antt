@@ -10,11 +10,10 @@ use Rattle.ledger_core.specs.History.{fit, reply_to}
 use Rattle.swap_rules.specs.Due.{Action}
 use Rattle.swap_rules.specs.Party.{call_by}
 use Rattle.ledger_core.specs.Book.{Histories, history, IsLegalBook}
-use Rattle.deviator_script.specs.declared.event.Event.{Event}
-use Rattle.deviator_script.specs.Step.{CanStep}
-use Rattle.deviator_script.specs.Crafted.{Seeds}
-use Rattle.deviator_script.specs.Script.{IsMoveOf}
-use Rattle.deviator_script.specs.View.{is_near}
+use Rattle.swap_job.specs.declared.event.Event.{Event}
+use Rattle.swap_job.specs.Step.{CanStep}
+use Rattle.swap_job.specs.Crafted.{Seeds}
+use Rattle.swap_job.specs.Fitting.{IsMoveOf, is_near}
 use Rattle.swap_digraph.specs.declared.deal.Deal.{Deal}
 use Rattle.swap_rules.specs.Accepted.{IsAccepted}
 use Rattle.swap_rules.specs.Conduct.{IsConducted}

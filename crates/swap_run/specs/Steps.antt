@@ -5,8 +5,8 @@ use Rattle.swap_digraph.specs.declared.deal.Deal.{Deal}
 use Rattle.swap_digraph.specs.Graph.{arcs}
 use Rattle.ledger_core.specs.History.{height}
 use Rattle.ledger_core.specs.Book.{Histories, history}
-use Rattle.deviator_script.specs.declared.event.Event.{Event}
-use Rattle.deviator_script.specs.declared.event.Event.TheVariants.{Tick, Look, Act}
+use Rattle.swap_job.specs.declared.event.Event.{Event}
+use Rattle.swap_job.specs.declared.event.Event.TheVariants.{Tick, Look, Act}
 use Rattle.swap_run.specs.Run.{Cast, State, conforms, after_tick, run_from}
 use Rattle.swap_run.specs.Fair.{repeat, adjacent, most_acts, turns, the_horizon, ticks, has_ended, round_unless_ended, finish}
 use Rattle.swap_run.specs.Quiet.{SkipsTo}

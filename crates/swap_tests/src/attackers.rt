@@ -2,9 +2,9 @@
 
 ghost use Rattle.std.specs.Prelude.{◌<◌, IfOk};
 ghost use Rattle.swap_digraph.specs.Deal.{IsWellSized};
-ghost use Rattle.deviator_script.specs.View.{IsView, MayAnswer};
+ghost use Rattle.deviators.specs.View.{IsView, MayAnswer};
 
-use deviator_script::opened_key;
+use swap_job::opened_key;
 use escrow_core::{LockList, Terms, terms_of};
 use hashkey_path::Hashkey;
 use ledger_core::{Book, Call, EntryList, fits, is_adjacent};

@@ -1,12 +1,12 @@
 //! Attacks: what a run of each reports, and that a race comes to the same.
 
 ghost use Rattle.std.specs.Prelude.{◌≡◌, ℕ, IfOk};
-ghost use Rattle.deviator_script.specs.View.{IsView, MayAnswer};
+ghost use Rattle.deviators.specs.View.{IsView, MayAnswer};
 
 use crate::attackers::{Attacker, attack_rule};
 use crate::deals::edited;
 use crate::runs::{Open, answer, asks, kit_with, raced};
-use deviator_script::{Kit, Rule};
+use deviators::{Kit, Rule};
 use ledger_core::{Book, Call};
 use std::alloc::Global;
 use std::sync::Wait;

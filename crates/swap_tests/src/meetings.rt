@@ -1,11 +1,11 @@
 //! Turns that wait for each other: at the gate, and within what they do.
 
 ghost use Rattle.std.specs.Prelude.{◌≡◌, ℕ, IfOk};
-ghost use Rattle.deviator_script.specs.View.{IsView, MayAnswer};
+ghost use Rattle.deviators.specs.View.{IsView, MayAnswer};
 
 use crate::deals::HASHKEYS;
 use crate::runs::{Open, kit_with, raced};
-use deviator_script::{Kit, Rule};
+use deviators::{Kit, Rule};
 use ledger_core::{Book, Call};
 use party_threads::Gate;
 use std::alloc::Global;

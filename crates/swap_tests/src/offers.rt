@@ -1,7 +1,8 @@
 //! Whole offers, read at once.
 
 use crate::deals::TIMELOCKS;
-use deviator_script::{Event, Job, Kit, Purpose};
+use swap_job::{Event, Job, Purpose};
+use deviators::Kit;
 use refusals::Refusal;
 use std::alloc::Global;
 use std::test::Fail;

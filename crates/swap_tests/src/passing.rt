@@ -1,11 +1,11 @@
 //! What passes the gate, round by round, and what strategies are asked there.
 
 ghost use Rattle.std.specs.Prelude.{◌≡◌, ℕ, IfOk};
-ghost use Rattle.deviator_script.specs.View.{IsView, MayAnswer};
+ghost use Rattle.deviators.specs.View.{IsView, MayAnswer};
 
 use crate::deals::HASHKEYS;
 use crate::runs::{kit_with, raced};
-use deviator_script::Rule;
+use deviators::Rule;
 use ledger_core::{Book, Call};
 use party_threads::Gate;
 use std::alloc::Global;

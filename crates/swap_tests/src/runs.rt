@@ -1,9 +1,9 @@
 //! Runs and races of the program in the process of the tests, with strategies and a gate of theirs.
 
 ghost use Rattle.std.specs.Prelude.{◌≡◌, ℕ, IfOk};
-ghost use Rattle.deviator_script.specs.View.{IsView, MayAnswer};
+ghost use Rattle.deviators.specs.View.{IsView, MayAnswer};
 
-use deviator_script::{Kit, Rule, Strategy};
+use deviators::{Kit, Rule, Strategy};
 use party_threads::Gate;
 use refusals::Reason;
 use std::alloc::Global;

@@ -1,11 +1,11 @@
 //! An input is replayed as it comes: its first event is over before much of what follows is asked for.
 
 ghost use Rattle.std.specs.Prelude.{◌≡◌, ℕ, IfOk, Some};
-ghost use Rattle.deviator_script.specs.View.{IsView, MayAnswer};
+ghost use Rattle.deviators.specs.View.{IsView, MayAnswer};
 
 use crate::deals::{HASHKEYS, edited};
 use crate::runs::{kit_with, words_of};
-use deviator_script::{Kit, Rule};
+use deviators::{Kit, Rule};
 use ledger_core::{Book, Call};
 use std::alloc::Global;
 use std::sync::atomic::AtomicBool;

@@ -9,10 +9,10 @@ use Rattle.swap_digraph.specs.declared.deal.Deal.{Deal}
 use Rattle.ledger_core.specs.declared.entry.Call.{Call}
 use Rattle.ledger_core.specs.Value.{LedgerState}
 use Rattle.ledger_core.specs.Book.{Histories}
-use Rattle.deviator_script.specs.View.{MayAnswer}
-use Rattle.deviator_script.specs.declared.event.Event.TheVariants.{Act}
-use Rattle.deviator_script.specs.declared.job.Role.{Role}
-use Rattle.deviator_script.specs.declared.job.Role.TheVariants as kinds
+use Rattle.deviators.specs.View.{MayAnswer}
+use Rattle.swap_job.specs.declared.event.Event.TheVariants.{Act}
+use Rattle.swap_job.specs.declared.job.Role.{Role}
+use Rattle.swap_job.specs.declared.job.Role.TheVariants as kinds
 use Rattle.swap_run.specs.Asked.{Answers, with_answers}
 use Rattle.swap_run.specs.Run.{Cast, Plan, Question, State}
 use Rattle.swap_run.specs.Called.{step_on}

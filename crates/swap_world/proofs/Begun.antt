@@ -12,8 +12,8 @@ use Rattle.wallet_journal.specs.Journal.{JournalState}
 use Rattle.wallet_journal.specs.Memory.{DiskState}
 use Rattle.ledger_core.specs.Value.{LedgerState}
 use Rattle.ledger_core.specs.Book.{Histories}
-use Rattle.deviator_script.specs.declared.job.Job.{Job}
-use Rattle.deviator_script.specs.declared.job.Role.{Role}
+use Rattle.swap_job.specs.declared.job.Job.{Job}
+use Rattle.swap_job.specs.declared.job.Role.{Role}
 use Rattle.swap_rules.specs.Accepted.{IsAccepted}
 use Rattle.swap_run.specs.Run.{Cast, Notes, Plan, State, no_notes, start}
 use Rattle.swap_run.specs.Laws.{IsReadyCast, IsGood}

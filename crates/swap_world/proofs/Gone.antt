@@ -1,20 +1,19 @@
 -- Worlds that go on, and worlds that stop: one after another, and whatever is answered.
 use Rattle.std.proofs.Common.{◌≡◌, ◌⊎◌, inl, inr, Result, Ok, Err, OnOk, OnErr, IfOk, ℕ, ◌+◌, ◌<◌, Bool, true, false, cond, List, []}
-use Rattle.std.proofs.Common.{◌∷◌, ◌++◌, length, map, Option}
-use Rattle.std.proofs.Common.{Some, None, get_or, refl, sym, ap, ap₂, ◌∙◌, subst, arith, append_assoc, length-append}
+use Rattle.std.proofs.Common.{◌∷◌, ◌++◌, length, map, Option, Some, None, get_or, refl, sym, ap, ap₂, ◌∙◌, subst, arith, append_assoc, length-append}
 use Rattle.std.proofs.lemmas.List.{append-nil, map-append, get_or_append_left}
 use Rattle.std.proofs.lemmas.List.Elements.{All-nil, All-append}
 use Rattle.std.specs.List.{All}
 use Rattle.swap_digraph.specs.declared.deal.Deal.{Deal}
 use Rattle.ledger_core.specs.declared.entry.Call.{Call}
-use Rattle.deviator_script.specs.Resolved.{resolved}
-use Rattle.deviator_script.specs.Script.{next_call, moves_left}
-use Rattle.deviator_script.specs.Step.{CanStep}
-use Rattle.deviator_script.specs.declared.event.Event.{Event}
-use Rattle.deviator_script.specs.declared.event.Event.TheVariants.{Tick, Look, Act, Call as Made}
-use Rattle.deviator_script.specs.declared.job.Role.{Role}
-use Rattle.deviator_script.specs.declared.job.Role.TheVariants.{Conforming, Manual, Script, Strategy}
-use Rattle.deviator_script.specs.declared.moves.Move.{Move}
+use Rattle.swap_job.specs.Resolved.{resolved}
+use Rattle.deviators.specs.Script.{next_call, moves_left}
+use Rattle.swap_job.specs.Step.{CanStep}
+use Rattle.swap_job.specs.declared.event.Event.{Event}
+use Rattle.swap_job.specs.declared.event.Event.TheVariants.{Tick, Look, Act, Call as Made}
+use Rattle.swap_job.specs.declared.job.Role.{Role}
+use Rattle.swap_job.specs.declared.job.Role.TheVariants.{Conforming, Manual, Script, Strategy}
+use Rattle.swap_job.specs.declared.moves.Move.{Move}
 use Rattle.swap_rules.specs.Due.{Action}
 use Rattle.swap_run.specs.Asked.{Answers, with_answers, is_strategy}
 use Rattle.swap_run.specs.Run.{Cast, Question, State, conforms, role_of, plan_of, look, next_of, watch, after_turn, run_from, step}

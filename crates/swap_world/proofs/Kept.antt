@@ -10,7 +10,7 @@ use Rattle.hashkey_path.specs.declared.hashkey.Hashkey.{Hashkey}
 use Rattle.ledger_core.specs.Book.{Histories}
 use Rattle.swap_run.specs.Run.{Notes, Plan, Question, notes_of}
 use Rattle.ledger_core.specs.Value.{LedgerState}
-use Rattle.deviator_script.specs.declared.job.Role.{Role}
+use Rattle.swap_job.specs.declared.job.Role.{Role}
 use Rattle.swap_laws.proofs.Prefixes.{same_or_not}
 use Rattle.party_machine.specs.Machine.{MachineState}
 use Rattle.wallet_journal.specs.Journal.{JournalState}

@@ -1,7 +1,7 @@
 -- Worlds in which nobody follows a strategy: what is answered matters for nothing.
 use Rattle.std.proofs.Common.{◌≡◌, false, List, [], ◌∷◌, refl, ◌∙◌}
 use Rattle.std.specs.List.{list_any}
-use Rattle.deviator_script.specs.declared.event.Event.{Event}
+use Rattle.swap_job.specs.declared.event.Event.{Event}
 use Rattle.swap_run.specs.Asked.{is_strategy}
 use Rattle.swap_run.specs.Run.{run_from, step}
 use Rattle.swap_run.specs.Fair.{finish}

@@ -7,13 +7,13 @@ use Rattle.swap_digraph.specs.declared.deal.Deal.{Deal}
 use Rattle.ledger_core.specs.declared.entry.Call.{Call}
 use Rattle.ledger_core.specs.declared.entry.Entry.{Entry}
 use Rattle.ledger_core.specs.Book.{history}
-use Rattle.deviator_script.specs.Crafted.{Seeds}
-use Rattle.deviator_script.specs.Script.{next_call}
-use Rattle.deviator_script.specs.View.{MayAnswer}
-use Rattle.deviator_script.specs.declared.moves.Move.{Move}
-use Rattle.deviator_script.specs.declared.job.Role.{Role}
-use Rattle.deviator_script.specs.declared.job.Role.TheVariants.{Conforming, Manual, Script, Strategy}
-use Rattle.deviator_script.specs.declared.event.Event.TheVariants.{Look, Act}
+use Rattle.swap_job.specs.Crafted.{Seeds}
+use Rattle.deviators.specs.Script.{next_call}
+use Rattle.deviators.specs.View.{MayAnswer}
+use Rattle.swap_job.specs.declared.moves.Move.{Move}
+use Rattle.swap_job.specs.declared.job.Role.{Role}
+use Rattle.swap_job.specs.declared.job.Role.TheVariants.{Conforming, Manual, Script, Strategy}
+use Rattle.swap_job.specs.declared.event.Event.TheVariants.{Look, Act}
 use Rattle.swap_run.specs.Run.{Cast, Plan, State, role_of, plan_of, plan_up_to, is_planned, look, next_of, watch, step, answer_for, is_answer_of}
 use Rattle.swap_run.specs.Called.{called_as, step_on}
 use Rattle.swap_run.specs.Asked.{Answers, with_answers, is_strategy}

@@ -10,12 +10,12 @@ use Rattle.ledger_core.specs.declared.entry.Call.{Call}
 use Rattle.ledger_core.specs.declared.entry.Entry.{Entry}
 use Rattle.ledger_core.specs.Value.{LedgerState}
 use Rattle.ledger_core.specs.Book.{Histories, history}
-use Rattle.deviator_script.specs.Resolved.{resolved}
-use Rattle.deviator_script.specs.View.{MayAnswer}
-use Rattle.deviator_script.specs.declared.event.Event.TheVariants.{Look, Act, Call as Made, Crash}
-use Rattle.deviator_script.specs.declared.job.Role.{Role}
-use Rattle.deviator_script.specs.declared.job.Role.TheVariants as kinds
-use Rattle.deviator_script.specs.declared.moves.Move.{Move}
+use Rattle.swap_job.specs.Resolved.{resolved}
+use Rattle.deviators.specs.View.{MayAnswer}
+use Rattle.swap_job.specs.declared.event.Event.TheVariants.{Look, Act, Call as Made, Crash}
+use Rattle.swap_job.specs.declared.job.Role.{Role}
+use Rattle.swap_job.specs.declared.job.Role.TheVariants as kinds
+use Rattle.swap_job.specs.declared.moves.Move.{Move}
 use Rattle.swap_rules.specs.Due.{Wallet, Action, due, first}
 use Rattle.party_wallet.specs.Value.{signed_in}
 use Rattle.swap_run.specs.Run.{Cast, Notes, Plan, State, conforms, role_of, notes_of, plan_of, plan_up_to, signed_after, known_up_to, look, next_of}

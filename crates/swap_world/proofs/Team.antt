@@ -11,23 +11,22 @@ use Rattle.swap_base.specs.Fault.{◌>>=◌, steps, Fails}
 use Rattle.swap_base.specs.declared.fault.Fault.{Fault}
 use Rattle.swap_base.specs.declared.fault.Fault.TheVariants.{Refused, NoMemory}
 use Rattle.swap_laws.proofs.Prefixes.{same_or_not}
-use Rattle.deviator_script.specs.declared.job.Job.{Job}
+use Rattle.swap_job.specs.declared.job.Job.{Job}
 use Rattle.swap_rules.specs.Accepted.{IsAccepted}
 use Rattle.swap_laws.specs.Machine.{IsWallet}
 use Rattle.swap_run.specs.Asked.{is_strategy}
 use Rattle.swap_run.specs.Run.{Notes, Plan, no_notes, first_plan, is_planned, script_of}
 use Rattle.swap_digraph.specs.declared.deal.Deal.{Deal}
-use Rattle.deviator_script.specs.Script.{IsMoveOf}
-use Rattle.deviator_script.specs.declared.job.Role.{Role}
-use Rattle.deviator_script.specs.declared.job.Role.TheVariants as kinds
+use Rattle.swap_job.specs.Fitting.{IsMoveOf}
+use Rattle.swap_job.specs.declared.job.Role.{Role}
+use Rattle.swap_job.specs.declared.job.Role.TheVariants as kinds
 use Rattle.swap_run.specs.Laws.{IsReadyCast}
 use Rattle.party_wallet.specs.Fits.{wrong_lock}
 use Rattle.party_machine.specs.Machine.{new_machine}
 use Rattle.party_machine.proofs.Good.{fitting_is_good}
 use Rattle.swap_world.specs.Cast.{cast_of, is_conforming, wallet_with}
 use Rattle.swap_world.specs.Value.{WorldState, new_world}
-use Rattle.swap_world.specs.Staff.{role_in, by_role, by_lock, with_seed, actor_of, actor_step, actors_of, world_of}
-use Rattle.swap_world.specs.Staff.{IsHeld, AreHeld, HaveRoles, HaveSeeds}
+use Rattle.swap_world.specs.Staff.{role_in, by_role, by_lock, with_seed, actor_of, actor_step, actors_of, world_of, IsHeld, AreHeld, HaveRoles, HaveSeeds}
 use Rattle.swap_world.specs.Inside.{notes_in, plan_in, IsActorOf, AreActorsOf}
 use Rattle.swap_world.specs.declared.actor.Actor.{Actor}
 use Rattle.swap_world.specs.declared.actor.Actor.TheVariants.{Conforming, Manual}

@@ -10,8 +10,8 @@ use Rattle.std.proofs.lemmas.List.Sums.{fold_more}
 use Rattle.std.proofs.lemmas.List.Elements.{All-from_get_or}
 use Rattle.ledger_core.specs.History.{height}
 use Rattle.ledger_core.specs.Book.{Histories, history}
-use Rattle.deviator_script.specs.declared.event.Event.{Event}
-use Rattle.deviator_script.specs.declared.event.Event.TheVariants.{Tick, Look, Act}
+use Rattle.swap_job.specs.declared.event.Event.{Event}
+use Rattle.swap_job.specs.declared.event.Event.TheVariants.{Tick, Look, Act}
 use Rattle.swap_run.specs.Run.{Cast, State, run_from, step}
 use Rattle.swap_run.specs.Fair.{repeat, acts, the_horizon, tick_low, ticks, turn}
 use Rattle.swap_run.specs.Steps.{after_low, low_step, low_steps, pass_steps, tick_steps, turn_steps, IsAlong}

@@ -13,10 +13,10 @@ use Rattle.ledger_core.specs.Book.{Histories, history}
 use Rattle.swap_laws.specs.Machine.{Begins}
 use Rattle.swap_laws.proofs.Accepted.{accepted_is_well_sized}
 use Rattle.swap_rules.specs.Due.{Action, due}
-use Rattle.deviator_script.specs.declared.event.Event.{Event}
-use Rattle.deviator_script.specs.declared.job.Role.{Role}
+use Rattle.swap_job.specs.declared.event.Event.{Event}
+use Rattle.swap_job.specs.declared.job.Role.{Role}
 use Rattle.party_plan.specs.Shown.{IsShown}
-use Rattle.deviator_script.specs.Step.{CanStep}
+use Rattle.swap_job.specs.Step.{CanStep}
 use Rattle.swap_run.specs.Asked.{Answers, with_answers}
 use Rattle.swap_run.specs.Run.{Cast, Plan, Question, State, notes_of, next_of, step, run_from}
 use Rattle.swap_run.specs.Laws.{AreGoodNotes, IsReadyCast, IsGood, IsGoodPlan, IsKept}

@@ -1,10 +1,10 @@
 -- Who takes part in a job's run.
 use Rattle.std.specs.Prelude.{ℕ, Bool, true, false, List, [], slice_index_or, Option, Some, None, if◌then◌else◌}
 use Rattle.swap_digraph.specs.declared.deal.Deal.{Deal}
-use Rattle.deviator_script.specs.Crafted.{Seeds}
-use Rattle.deviator_script.specs.declared.job.Job.{Job}
-use Rattle.deviator_script.specs.declared.job.Role.{Role}
-use Rattle.deviator_script.specs.declared.job.Role.TheVariants.{Conforming}
+use Rattle.swap_job.specs.Crafted.{Seeds}
+use Rattle.swap_job.specs.declared.job.Job.{Job}
+use Rattle.swap_job.specs.declared.job.Role.{Role}
+use Rattle.swap_job.specs.declared.job.Role.TheVariants.{Conforming}
 use Rattle.swap_rules.specs.Due.{Wallet}
 use Rattle.party_machine.specs.Wallet.{wallet_of}
 use Rattle.swap_run.specs.Run.{Cast, conforms, role_of}

@@ -4,7 +4,7 @@ use Rattle.std.specs.List.{All}
 use Rattle.swap_digraph.specs.declared.deal.Deal.{Deal}
 use Rattle.ledger_core.specs.declared.entry.Call.{Call}
 use Rattle.ledger_core.specs.Book.{Histories}
-use Rattle.deviator_script.specs.declared.event.Event.{Event}
+use Rattle.swap_job.specs.declared.event.Event.{Event}
 use Rattle.swap_run.specs.Run.{Cast, Question, State, step}
 use Rattle.swap_run.specs.Asked.{Answers}
 use Rattle.swap_world.specs.Value.{WorldState, cast_at, cast_for, Continues}

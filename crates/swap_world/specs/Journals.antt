@@ -4,7 +4,7 @@ use Rattle.swap_digraph.specs.declared.deal.Deal.{Deal}
 use Rattle.hashkey_path.specs.declared.hashkey.Hashkey.{Hashkey}
 use Rattle.ledger_core.specs.declared.entry.Entry.{Entry}
 use Rattle.ledger_core.specs.Book.{Histories, history}
-use Rattle.deviator_script.specs.View.{is_near}
+use Rattle.swap_job.specs.Fitting.{is_near}
 use Rattle.ledger_core.specs.declared.entry.Call.TheVariants.{Unlock}
 use Rattle.swap_base.specs.Lists.{IsMoment}
 use Rattle.swap_rules.specs.Party.{call_by}

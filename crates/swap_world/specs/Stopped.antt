@@ -1,6 +1,6 @@
 -- What want of memory leaves of a world, and where all parties conform.
 use Rattle.std.specs.Prelude.{◌≡◌, ◌<◌, ◌≤◌, ℕ, true, List, length, take}
-use Rattle.deviator_script.specs.declared.event.Event.{Event}
+use Rattle.swap_job.specs.declared.event.Event.{Event}
 use Rattle.swap_run.specs.Run.{Cast, State, conforms, run_from}
 use Rattle.swap_run.specs.Steps.{IsAlong}
 use Rattle.swap_run.specs.Asked.{Answers}

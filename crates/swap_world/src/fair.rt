@@ -14,7 +14,8 @@ ghost use Rattle.swap_world.specs.Stopped.{IsStopped};
 
 use crate::near::arcs_by_party;
 use crate::world::World;
-use deviator_script::{Event, Strategies};
+use swap_job::Event;
+use deviators::Strategies;
 use swap_base::{ArcId, Listed, NoMemory, PartyId};
 use swap_digraph::Deal;
 use time_bounds::horizon;

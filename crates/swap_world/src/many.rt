@@ -1,14 +1,15 @@
 //! Many events, one after another.
 
 ghost use Rattle.std.specs.Prelude.{OnOk, OnErr, All};
-ghost use Rattle.deviator_script.specs.Step.{CanStep};
+ghost use Rattle.swap_job.specs.Step.{CanStep};
 ghost use Rattle.swap_run.specs.Run.{run_from};
 ghost use Rattle.swap_world.specs.Gone.{HasGone};
 ghost use Rattle.swap_world.specs.Staff.{AreHeld};
 ghost use Rattle.swap_world.specs.Stopped.{IsAfterSome, IsStopped};
 
 use crate::world::World;
-use deviator_script::{Event, Strategies};
+use swap_job::Event;
+use deviators::Strategies;
 use swap_base::NoMemory;
 
 /// Takes events in their order.

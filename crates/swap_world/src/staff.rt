@@ -8,7 +8,7 @@ ghost use Rattle.party_wallet.specs.Wallets.{wallet_for, wallets_of};
 ghost use Rattle.swap_world.specs.Staff.{by_role, conforming_of, actor_of, actor_step, actors_of};
 
 use crate::actor::Actor;
-use deviator_script::{Job, MoveList, Role};
+use swap_job::{Job, MoveList, Role};
 use party_machine::{Machine, Misfit};
 use party_plan::Planner;
 use party_wallet::Wallet;

@@ -1,7 +1,7 @@
 -- The transcript of a job and a legal book gives both.
 use Rattle.std.proofs.Common.{◌≡◌, Ok, Result, refl, ap}
-use Rattle.deviator_script.specs.declared.job.Job.{Job}
-use Rattle.deviator_script.specs.declared.job.Purpose.TheVariants.{Audit}
+use Rattle.swap_job.specs.declared.job.Job.{Job}
+use Rattle.swap_job.specs.declared.job.Purpose.TheVariants.{Audit}
 use Rattle.refusals.specs.Refusal.{named}
 use Rattle.refusals.specs.declared.reason.Reason.{Reason}
 use Rattle.offer_header.specs.Names.{no_strategy}

@@ -1,7 +1,7 @@
 -- What is written of a job and its book is read back, and tells an auditor just what it told the writer.
 use Rattle.std.specs.Prelude.{◌≡◌, ◌≤◌, ◌==◌, not, length, Ok}
 use Rattle.ledger_core.specs.Book.{Histories, IsLegalBook}
-use Rattle.deviator_script.specs.declared.job.Job.{Job}
+use Rattle.swap_job.specs.declared.job.Job.{Job}
 use Rattle.outcome_rules.specs.Report.{report_of}
 use Rattle.header_back.specs.Laws.{IsShowable, audited}
 use Rattle.transcript_text.specs.Report.{report}

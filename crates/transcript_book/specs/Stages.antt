@@ -5,7 +5,7 @@ use Rattle.swap_base.specs.Fault.{◌>>=◌, Fails}
 use Rattle.swap_base.specs.declared.fault.Fault.{Fault}
 use Rattle.ledger_core.specs.declared.entry.Entry.{Entry}
 use Rattle.ledger_core.specs.Book.{Histories}
-use Rattle.deviator_script.specs.declared.job.Job.{Job}
+use Rattle.swap_job.specs.declared.job.Job.{Job}
 use Rattle.transcript_lines.specs.declared.said.Misspelling.{Misspelling}
 use Rattle.transcript_lines.specs.Reading.{misspelt}
 use Rattle.transcript_fields.specs.Counts.{count_of}

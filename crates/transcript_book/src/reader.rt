@@ -7,7 +7,7 @@ ghost use Rattle.transcript_book.specs.Stages.{Reads, entry_read, is_over, ledge
 
 use crate::entry::entry_at;
 use crate::place::Place;
-use deviator_script::Job;
+use swap_job::Job;
 use ledger_core::{Book, EntryList};
 use std::alloc::Global;
 use std::marker::Model;

@@ -1,7 +1,7 @@
 -- The law of transcripts.
 use Rattle.std.specs.Prelude.{◌≡◌, ℕ, List, Option}
 use Rattle.ledger_core.specs.Book.{Histories}
-use Rattle.deviator_script.specs.declared.job.Job.{Job}
+use Rattle.swap_job.specs.declared.job.Job.{Job}
 use Rattle.transcript_lines.specs.Lines.{IsWhole}
 
 -- A whole transcript has one job and one book, whatever header lines give.

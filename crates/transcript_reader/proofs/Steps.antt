@@ -7,7 +7,7 @@ use Rattle.swap_base.specs.Fault.{Gives}
 use Rattle.swap_base.specs.declared.fault.Fault.{Fault}
 use Rattle.swap_base.specs.declared.fault.Fault.TheVariants.{Refused, NoMemory}
 use Rattle.ledger_core.specs.declared.entry.Book.{Book}
-use Rattle.deviator_script.specs.declared.job.Job.{Job}
+use Rattle.swap_job.specs.declared.job.Job.{Job}
 use Rattle.refusals.specs.declared.refusal.Refusal.{Refusal}
 use Rattle.transcript_lines.specs.Between.{parts_at}
 use Rattle.transcript_fields.proofs.Falls.{next_found, next_none, the_rest}

@@ -1,8 +1,8 @@
 -- The header line of a transcript.
 use Rattle.std.specs.Prelude.{◌≡◌, ℕ, List, Result, map, None}
-use Rattle.deviator_script.specs.declared.job.Job.{Job}
-use Rattle.deviator_script.specs.declared.job.Purpose.TheVariants.{Audit}
-use Rattle.deviator_script.specs.declared.job.Finish.TheVariants.{Stop}
+use Rattle.swap_job.specs.declared.job.Job.{Job}
+use Rattle.swap_job.specs.declared.job.Purpose.TheVariants.{Audit}
+use Rattle.swap_job.specs.declared.job.Finish.TheVariants.{Stop}
 use Rattle.swap_rules.specs.Accepted.{IsAccepted}
 use Rattle.offer_header.specs.Header.{simple_role}
 use Rattle.offer_header.specs.Names.{no_strategy, AreNames}

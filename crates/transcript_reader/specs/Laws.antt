@@ -3,7 +3,7 @@ use Rattle.std.specs.Prelude.{◌≡◌, ◌≤◌, ◌==◌, not, ℕ, true, Li
 use Rattle.std.specs.List.{list_all}
 use Rattle.ledger_core.specs.Book.{Histories}
 use Rattle.swap_digraph.specs.Deal.{IsWellSized}
-use Rattle.deviator_script.specs.declared.job.Job.{Job}
+use Rattle.swap_job.specs.declared.job.Job.{Job}
 use Rattle.refusals.specs.declared.refusal.Refusal.{Refusal}
 use Rattle.transcript_lines.specs.Between.{ended}
 use Rattle.transcript_lines.specs.Lines.{IsWhole}

@@ -2,13 +2,14 @@
 
 ghost use Rattle.std.specs.Prelude.{IfOk};
 ghost use Rattle.swap_base.specs.Fault.{Gives};
-ghost use Rattle.deviator_script.specs.declared.job.Purpose.TheVariants.{Audit as audits};
+ghost use Rattle.swap_job.specs.declared.job.Purpose.TheVariants.{Audit as audits};
 ghost use Rattle.refusals.specs.Refusal.{named};
 ghost use Rattle.offer_header.specs.Names.{has_strategy};
 ghost use Rattle.swap_offer.specs.Job.{job_header_of, names_at};
 ghost use Rattle.transcript_reader.specs.Header.{header_read, IsTold};
 
-use deviator_script::{Job, Kit, Purpose};
+use swap_job::{Job, Purpose};
+use deviators::Kit;
 use refusals::HeaderFault;
 use std::alloc::Global;
 use swap_offer::read_header;

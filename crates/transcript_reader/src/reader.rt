@@ -8,7 +8,7 @@ ghost use Rattle.transcript_reader.specs.Stages.{more_bytes, no_lines, with_line
 
 use crate::reason::{TranscriptFault, TranscriptReason};
 use crate::stage::Stage;
-use deviator_script::Job;
+use swap_job::Job;
 use ledger_core::Book;
 use std::alloc::Global;
 use std::marker::Model;

@@ -8,7 +8,7 @@ ghost use Rattle.transcript_reader.specs.Reading.{story_of, transcript_read};
 
 use crate::reader::TranscriptReader;
 use crate::reason::TranscriptFault;
-use deviator_script::Job;
+use swap_job::Job;
 use ledger_core::Book;
 use memchr::memchr;
 use std::alloc::Global;

@@ -8,7 +8,7 @@ use Rattle.escrow_core.specs.Terms.{terms_of}
 use Rattle.ledger_core.specs.declared.entry.Entry.{Entry}
 use Rattle.ledger_core.specs.History.{accounts, height}
 use Rattle.ledger_core.specs.Book.{Histories}
-use Rattle.deviator_script.specs.declared.job.Job.{Job}
+use Rattle.swap_job.specs.declared.job.Job.{Job}
 use Rattle.outcome_rules.specs.declared.report.Report.{Report}
 use Rattle.transcript_text.specs.Report.{count_line, entry_line, finding_line, head_lines, ledger_end, ledger_head, ledger_lines, party_line, report}
 

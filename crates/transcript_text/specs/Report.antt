@@ -14,7 +14,7 @@ use Rattle.ledger_core.specs.declared.entry.What.TheVariants.{Call as Made, Tick
 use Rattle.ledger_core.specs.declared.accounts.Accounts.{Accounts}
 use Rattle.ledger_core.specs.History.{accounts, height}
 use Rattle.ledger_core.specs.Book.{Histories, history}
-use Rattle.deviator_script.specs.declared.job.Job.{Job}
+use Rattle.swap_job.specs.declared.job.Job.{Job}
 use Rattle.swap_rules.specs.declared.outcome.Outcome.{Outcome}
 use Rattle.swap_rules.specs.declared.outcome.Outcome.TheVariants.{NoDeal}
 use Rattle.swap_rules.specs.declared.finding.Finding.{Finding}

@@ -12,7 +12,7 @@ ghost use Rattle.transcript_text.specs.Report.{head_lines, ledger_lines, party_l
 
 use crate::findings::{put_count, put_parties, write_findings};
 use crate::ledgers::write_ledgers;
-use deviator_script::Job;
+use swap_job::Job;
 use ledger_core::Book;
 use outcome_rules::Report;
 use std::alloc::Global;

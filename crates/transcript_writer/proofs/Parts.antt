@@ -6,7 +6,7 @@ use Rattle.ledger_core.specs.declared.entry.Entry.{Entry}
 use Rattle.ledger_core.specs.declared.runs.Item.{Item}
 use Rattle.ledger_core.specs.Book.{Histories}
 use Rattle.ledger_core.specs.Runs.{entries_of, expand}
-use Rattle.deviator_script.specs.declared.job.Job.{Job}
+use Rattle.swap_job.specs.declared.job.Job.{Job}
 use Rattle.transcript_lines.specs.Between.{ended}
 use Rattle.transcript_lines.specs.Lines.{entry_line, ledger_lines, lines_from, transcript}
 use Rattle.transcript_writer.specs.Texts.{count_text, entries_text, entry_text, head_text, item_text, ledger_text}

@@ -7,7 +7,7 @@ use Rattle.escrow_core.specs.declared.terms.Terms.{Terms}
 use Rattle.ledger_core.specs.declared.entry.Entry.{Entry}
 use Rattle.ledger_core.specs.declared.runs.Item.{Item}
 use Rattle.ledger_core.specs.Runs.{entries_of}
-use Rattle.deviator_script.specs.declared.job.Job.{Job}
+use Rattle.swap_job.specs.declared.job.Job.{Job}
 use Rattle.offer_text.specs.HeaderLine.{header_line}
 use Rattle.transcript_lines.specs.Words.{signature_word}
 use Rattle.transcript_lines.specs.Lines.{entry_line, ledger_line}

@@ -9,7 +9,7 @@ ghost use Rattle.transcript_lines.specs.Lines.{transcript};
 ghost use Rattle.transcript_writer.specs.Texts.{head_text};
 
 use crate::ledgers::write_ledgers;
-use deviator_script::Job;
+use swap_job::Job;
 use ledger_core::Book;
 use offer_text::write_deal;
 use std::alloc::Global;

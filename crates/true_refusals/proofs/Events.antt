@@ -7,12 +7,12 @@ use Rattle.offer_fields.specs.Fields.{needed, number_at, text_at, optional_numbe
 use Rattle.offer_moves.specs.Reading.{move_at}
 use Rattle.offer_events.specs.declared.raw.RawEvent.{RawEvent}
 use Rattle.swap_digraph.specs.declared.deal.Deal.{Deal}
-use Rattle.deviator_script.specs.declared.job.Job.{Job}
-use Rattle.deviator_script.specs.declared.job.Purpose.{Purpose}
-use Rattle.deviator_script.specs.declared.job.Purpose.TheVariants.{Race}
-use Rattle.deviator_script.specs.declared.moves.Move.{Move}
-use Rattle.deviator_script.specs.declared.moves.Move.TheVariants.{Craft}
-use Rattle.deviator_script.specs.Crafted.{Seeds}
+use Rattle.swap_job.specs.declared.job.Job.{Job}
+use Rattle.swap_job.specs.declared.job.Purpose.{Purpose}
+use Rattle.swap_job.specs.declared.job.Purpose.TheVariants.{Race}
+use Rattle.swap_job.specs.declared.moves.Move.{Move}
+use Rattle.swap_job.specs.declared.moves.Move.TheVariants.{Craft}
+use Rattle.swap_job.specs.Crafted.{Seeds}
 use Rattle.offer_fields.specs.Limits.{number_within}
 use Rattle.offer_fields.specs.Names.{party_of_name}
 use Rattle.offer_moves.specs.declared.raw.RawMove.{RawMove}
@@ -21,12 +21,12 @@ use Rattle.offer_moves.specs.Placed.{deviating, adjacent, placed}
 use Rattle.offer_events.specs.Reading.{event_at, tick_at, look_at, act_at, call_at, crash_at}
 use Rattle.offer_events.specs.Event.{event_of_tick, event_of_look, event_of_act, each_seeded, needs_seeds, crafted_with_seeds, permitted, event_of_call}
 use Rattle.offer_events.specs.Event.{conforming_crash, event_of_crash}
-use Rattle.deviator_script.specs.declared.event.Event.{Event}
-use Rattle.deviator_script.specs.declared.event.Event.TheVariants as event_kinds
+use Rattle.swap_job.specs.declared.event.Event.{Event}
+use Rattle.swap_job.specs.declared.event.Event.TheVariants as event_kinds
 use Rattle.offer_events.specs.Event.{checked, outside_race, asked, event_of}
 use Rattle.offer_events.specs.declared.raw.RawEvent.TheVariants as raws
-use Rattle.deviator_script.specs.declared.job.Purpose.TheVariants as purpose_kinds
-use Rattle.deviator_script.specs.declared.moves.Move.TheVariants as move_kinds
+use Rattle.swap_job.specs.declared.job.Purpose.TheVariants as purpose_kinds
+use Rattle.swap_job.specs.declared.moves.Move.TheVariants as move_kinds
 use Rattle.true_refusals.proofs.Bare.{Bare, onward, landed, refused, choose}
 use Rattle.true_refusals.proofs.Fields.{object_of_bare, needed_bare, number_at_bare, text_at_bare, optional_number_at_bare, only_bare, object_at_bare}
 use Rattle.true_refusals.proofs.Fields.{number_within_bare, party_of_name_bare}

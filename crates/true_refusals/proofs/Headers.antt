@@ -1,11 +1,11 @@
 -- A header line.
 use Rattle.std.proofs.Common.{Bool, List, [], ℕ, ◌+◌, ◌∷◌}
 use Rattle.swap_digraph.specs.declared.arc_ends.ArcEnds.{ArcEnds}
-use Rattle.deviator_script.specs.declared.job.Role.{Role}
-use Rattle.deviator_script.specs.declared.job.Role.TheVariants.{Script}
+use Rattle.swap_job.specs.declared.job.Role.{Role}
+use Rattle.swap_job.specs.declared.job.Role.TheVariants.{Script}
 use Rattle.offer_moves.specs.Placed.{placed}
 use Rattle.offer_header.specs.declared.header.Header.{Header}
-use Rattle.deviator_script.specs.declared.job.Purpose.{Purpose}
+use Rattle.swap_job.specs.declared.job.Purpose.{Purpose}
 use Rattle.offer_fields.specs.Fields.{object_of}
 use Rattle.offer_header.specs.Raw.{raw_of}
 use Rattle.offer_header.specs.declared.raw.RawHeader.{RawHeader}
@@ -13,7 +13,7 @@ use Rattle.offer_header.specs.Names.{numbered_of}
 use Rattle.offer_header.specs.Limits.{limited_of}
 use Rattle.offer_header.specs.Scripts.{scripts_placed, role_placed, roles_placed}
 use Rattle.offer_header.specs.Header.{placed_of, header_by, header_of}
-use Rattle.deviator_script.specs.declared.job.Role.TheVariants as role_kinds
+use Rattle.swap_job.specs.declared.job.Role.TheVariants as role_kinds
 use Rattle.true_refusals.proofs.Bare.{Bare, onward, landed, steps_bare}
 use Rattle.true_refusals.proofs.Fields.{object_of_bare}
 use Rattle.true_refusals.proofs.Raw.{raw_of_bare}

@@ -3,12 +3,12 @@ use Rattle.std.proofs.Common.{Bool, List, false, slice_index_or, ℕ, ◌==◌, 
 use Rattle.std.specs.List.{list_any}
 use Rattle.swap_digraph.specs.declared.arc_ends.ArcEnds.{ArcEnds}
 use Rattle.swap_digraph.specs.Graph.{ends_in}
-use Rattle.deviator_script.specs.declared.moves.Move.{Move}
-use Rattle.deviator_script.specs.declared.moves.Move.TheVariants.{Craft, Transfer}
-use Rattle.deviator_script.specs.Resolved.{arc_of}
+use Rattle.swap_job.specs.declared.moves.Move.{Move}
+use Rattle.swap_job.specs.declared.moves.Move.TheVariants.{Craft, Transfer}
+use Rattle.swap_job.specs.Resolved.{arc_of}
 use Rattle.refusals.specs.declared.reason.Reason.TheVariants.{NotAdjacent, ConformingCall}
 use Rattle.offer_moves.specs.Placed.{deviating, adjacent, received, crafted_by_others, placed}
-use Rattle.deviator_script.specs.declared.moves.Move.TheVariants as move_kinds
+use Rattle.swap_job.specs.declared.moves.Move.TheVariants as move_kinds
 use Rattle.true_refusals.proofs.Bare.{Bare, onward, landed, refused, choose}
 
 pub deviating_bare : (line : ℕ) (is_conforming : Bool) → Bare (deviating line is_conforming)

@@ -7,8 +7,8 @@ use Rattle.swap_digraph.specs.declared.deal.Mode.{Mode}
 use Rattle.swap_digraph.specs.declared.deal.Mode.TheVariants.{Timelocks, Hashkeys}
 use Rattle.swap_digraph.specs.declared.deal.Version.{Version}
 use Rattle.swap_digraph.specs.declared.deal.Version.TheVariants.{One, Two}
-use Rattle.deviator_script.specs.declared.job.Purpose.{Purpose}
-use Rattle.deviator_script.specs.declared.job.Purpose.TheVariants.{Audit}
+use Rattle.swap_job.specs.declared.job.Purpose.{Purpose}
+use Rattle.swap_job.specs.declared.job.Purpose.TheVariants.{Audit}
 use Rattle.refusals.specs.declared.reason.Reason.TheVariants.{WrongKind}
 use Rattle.offer_fields.specs.Fields.{kind, number_at, text_at, optional_text_at, member_text_of, object_at, list_at, each, only}
 use Rattle.offer_moves.specs.Reading.{scripted_at}
@@ -18,7 +18,7 @@ use Rattle.offer_header.specs.Raw.{is_plain, states_timelocks, states_keys, scri
 use Rattle.offer_header.specs.Raw.{actor_or_conforming, actor_at, seed_at, party_fields, party_of, timelock_at, arc_fields, arc_between, arc_of, hashlock_at}
 use Rattle.offer_header.specs.Raw.{leader_fields, leader_of, row_of, keys_at, version_of, version_at, mode_of, mode_for, stated_mode_at, mode_at}
 use Rattle.offer_header.specs.Raw.{finish_of_word, finish_or_stop, stated_finish_at, finish_at, header_fields, lists_of, raw_of}
-use Rattle.deviator_script.specs.declared.job.Purpose.TheVariants as purpose_kinds
+use Rattle.swap_job.specs.declared.job.Purpose.TheVariants as purpose_kinds
 use Rattle.true_refusals.proofs.Bare.{Bare, onward, landed, refused, choose}
 use Rattle.true_refusals.proofs.Fields.{kind_bare, number_at_bare, text_at_bare, word_at_bare, only_bare, object_at_bare, optional_text_at_bare}
 use Rattle.true_refusals.proofs.Fields.{member_text_of_bare, each_bare, list_at_bare}

@@ -2,9 +2,9 @@
 use Rattle.std.proofs.Common.{◌≡◌, ◌==◌, ◌+◌, ℕ, Bool, true, false, List, [], ◌∷◌, codes, drop, Result, Ok, Err, refl, ap, ◌∙◌}
 use Rattle.swap_base.specs.Fault.{◌>>=◌, steps}
 use Rattle.swap_base.specs.declared.fault.Fault.TheVariants as fault
-use Rattle.deviator_script.specs.declared.event.Event.{Event}
-use Rattle.deviator_script.specs.declared.job.Job.{Job}
-use Rattle.deviator_script.specs.declared.job.Purpose.{Purpose}
+use Rattle.swap_job.specs.declared.event.Event.{Event}
+use Rattle.swap_job.specs.declared.job.Job.{Job}
+use Rattle.swap_job.specs.declared.job.Purpose.{Purpose}
 use Rattle.refusals.specs.Refusal.{named, refusal}
 use Rattle.refusals.specs.declared.reason.Reason.{Reason}
 use Rattle.refusals.specs.declared.reason.Reason.TheVariants.{NotFeedback, NotJson, NotStrong, OverLimit}

@@ -2,7 +2,7 @@
 use Rattle.std.specs.Prelude.{◌≡◌, ℕ, Bool, List, ◌∷◌, Ok, Err}
 use Rattle.digraph_check.specs.Closed.{IsClosedSet}
 use Rattle.leader_check.specs.Cycles.{IsFollowerCycle}
-use Rattle.deviator_script.specs.declared.job.Purpose.{Purpose}
+use Rattle.swap_job.specs.declared.job.Purpose.{Purpose}
 use Rattle.refusals.specs.declared.reason.Reason.TheVariants.{NotFeedback, NotStrong}
 use Rattle.offer_header.specs.Header.{header_of}
 use Rattle.offer_header.specs.declared.header.Header.{Header}

@@ -1,5 +1,5 @@
 use Rattle.std.proofs.Common.{ℕ, List, Bool, sym, ap, subst}
-use Rattle.deviator_script.specs.declared.job.Role.{Role}
+use Rattle.swap_job.specs.declared.job.Role.{Role}
 use Rattle.offer_header.specs.Names.{has_strategy}
 use Rattle.swap_world.specs.Staff.{AreHeld}
 use Rattle.swap_world.specs.Value.{WorldState}

@@ -2,7 +2,7 @@ use Rattle.std.proofs.Common.{◌≡◌, ◌<◌, ℕ, Err, Ok, List, ap, arith,
 use Rattle.std.proofs.lemmas.Result.{err_from_is_err_and}
 use Rattle.swap_io.proofs.Handing.{all_lines, handed_was, hands_err, hands_ok, line_lost, line_on, lost_was, rest_lost, rose_before, rose_was}
 use Rattle.swap_io.specs.declared.fault.TextFault.TheVariants.{NoMemory}
-use Rattle.deviator_script.specs.declared.event.Event.{Event}
+use Rattle.swap_job.specs.declared.event.Event.{Event}
 use Rattle.swap_gen.specs.Events.{generated_events}
 use Rattle.swap_gen.specs.Line.{event_line}
 use Rattle.made_jobs.proofs.Drawing.{draws, drawn_is, many}

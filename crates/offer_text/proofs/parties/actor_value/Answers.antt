@@ -1,5 +1,5 @@
 use Rattle.std.proofs.Common.{◌∙◌, ap, sym}
-use Rattle.deviator_script.specs.declared.job.Role.TheVariants.{Strategy}
+use Rattle.swap_job.specs.declared.job.Role.TheVariants.{Strategy}
 use Rattle.offer_text.proofs.Actors.{actor_said}
 use Rattle.offer_text.proofs.parties.actor_value.Goals as goal
 

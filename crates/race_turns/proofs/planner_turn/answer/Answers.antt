@@ -1,6 +1,6 @@
 use Rattle.std.proofs.Common.{sym, subst, All}
-use Rattle.deviator_script.specs.Script.{IsMoveOf}
-use Rattle.deviator_script.proofs.Scripts.{left_fit}
+use Rattle.swap_job.specs.Fitting.{IsMoveOf}
+use Rattle.deviators.proofs.Scripts.{left_fit}
 use Rattle.swap_run.specs.Run.{Plan}
 use Rattle.race_turns.proofs.Looks.{on_ok}
 use Rattle.race_turns.proofs.planner_turn.answer.Goals as goal

@@ -1,6 +1,6 @@
 use Rattle.std.proofs.Common.{◌≡◌, length, map, take, drop}
 use Rattle.std.specs.Vec.Iter.{into_iter_items}
-use Rattle.deviator_script.specs.declared.job.Purpose.TheVariants.{Run}
+use Rattle.swap_job.specs.declared.job.Purpose.TheVariants.{Run}
 use Rattle.swap_offer.specs.Wallets.{wallets_for}
 use Rattle.swap_world.specs.Value.{new_world}
 use Rattle.swap_commands.proofs.many.new_worlds.Given as goal

@@ -1,4 +1,4 @@
-use Rattle.deviator_script.specs.declared.job.Purpose.TheVariants as purposes
+use Rattle.swap_job.specs.declared.job.Purpose.TheVariants as purposes
 use Rattle.swap_commands.specs.declared.words.JobCommand.TheVariants.{Race}
 use Rattle.swap_commands.specs.Replay.{passed_over, replayed}
 use Rattle.swap_commands.proofs.Reading.{against_event, is_read, race_says}

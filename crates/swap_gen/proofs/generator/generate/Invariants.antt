@@ -1,5 +1,5 @@
 use Rattle.std.proofs.Common.{◌≡◌, ◌++◌, ◌-◌, All}
-use Rattle.deviator_script.specs.Step.{IsEventOf}
+use Rattle.swap_job.specs.Step.{IsEventOf}
 use Rattle.swap_gen.specs.Drawn.{drawn_graph, generated}
 use Rattle.swap_gen.specs.Events.{events_from, generated_events}
 use Rattle.swap_gen.proofs.generator.generate.Given as goal

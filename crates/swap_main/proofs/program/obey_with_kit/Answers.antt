@@ -1,5 +1,5 @@
 use Rattle.std.proofs.Common.{ℕ, List, Bool, subst}
-use Rattle.program_kit.specs.Program.{program_rule}
+use Rattle.deviators.specs.Program.{program_rule}
 use Rattle.swap_commands.specs.Entered.{Obeys}
 use Rattle.swap_main.specs.Staff.{by_rule}
 use Rattle.swap_main.proofs.Staffing.{has_known, obeys_more}

@@ -1,5 +1,5 @@
 use Rattle.std.proofs.Common.{◌≡◌, Ok, sym, subst}
-use Rattle.deviator_script.specs.declared.job.Job.{Job}
+use Rattle.swap_job.specs.declared.job.Job.{Job}
 use Rattle.swap_offer.specs.Wallets.{seeded, AreSimpleRoles, HaveScriptsFor, IsUntoldJob}
 use Rattle.swap_offer.proofs.Scripted.{scripts_for}
 use Rattle.swap_offer.proofs.Size.{are_simple, is_untold}

@@ -2,7 +2,7 @@ use Rattle.std.proofs.Common.{◌≡◌, List, ℕ, Bool, Result, Ok, Err, sym, 
 use Rattle.std.specs.Prelude.{IfOk}
 use Rattle.swap_base.specs.declared.fault.Fault.{Fault}
 use Rattle.refusals.specs.declared.refusal.Refusal.{Refusal}
-use Rattle.deviator_script.specs.declared.job.Role.{Role}
+use Rattle.swap_job.specs.declared.job.Role.{Role}
 use Rattle.offer_header.specs.Header.{header_of}
 use Rattle.offer_header.specs.Limits.{HoldsEach}
 use Rattle.offer_header.specs.Names.{has_strategy}

@@ -1,7 +1,7 @@
 use Rattle.std.proofs.Common.{ℕ, List, [], map, Bor}
 use Rattle.std.proofs.lemmas.Result.{err_from_is_err_and}
 use Rattle.std.proofs.lemmas.List.Elements.{All-nil, All-push}
-use Rattle.deviator_script.specs.Step.{IsEventOf}
+use Rattle.swap_job.specs.Step.{IsEventOf}
 use Rattle.swap_offer.specs.Job.{events_of}
 use Rattle.swap_offer.proofs.Events.{starts, goes_on, ends, is_done}
 use Rattle.swap_offer.proofs.job.read_events.Goals as goal

@@ -1,5 +1,5 @@
 use Rattle.std.proofs.Common.{◌≡◌, All, map, true}
-use Rattle.deviator_script.specs.Step.{IsEventOf}
+use Rattle.swap_job.specs.Step.{IsEventOf}
 use Rattle.offer_events.specs.Event.{needs_seeds}
 use Rattle.swap_offer.specs.Job.{events_of}
 use Rattle.swap_offer.proofs.Events.{left}

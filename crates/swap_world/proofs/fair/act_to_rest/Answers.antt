@@ -1,5 +1,5 @@
 use Rattle.std.proofs.Common.{◌≡◌, ◌<◌, ℕ, true, ◌∷◌, [], replicate, arith, sym, ◌∙◌, subst}
-use Rattle.deviator_script.specs.declared.event.Event.TheVariants.{Act}
+use Rattle.swap_job.specs.declared.event.Event.TheVariants.{Act}
 use Rattle.swap_run.specs.Run.{Cast, State, conforms, step}
 use Rattle.swap_run.specs.Fair.{repeat, most_acts}
 use Rattle.swap_world.specs.Value.{cast_at, cast_for}

@@ -1,4 +1,4 @@
-use Rattle.deviator_script.specs.declared.event.Event.TheVariants.{Act}
+use Rattle.swap_job.specs.declared.event.Event.TheVariants.{Act}
 use Rattle.swap_run.specs.Run.{step}
 use Rattle.swap_run.specs.Fair.{repeat}
 use Rattle.swap_world.specs.Gone.{HasGone}

@@ -1,8 +1,8 @@
 use Rattle.std.proofs.Common.{◌≡◌, ◌∙◌, ℕ, ◌<◌, List, ◌∷◌, [], length, map, get_or, slice_index, fold, take, refl, sym, ap, subst}
 use Rattle.std.proofs.lemmas.List.Elements.{All-get_or, All-same}
 use Rattle.swap_digraph.specs.declared.deal.Deal.{Deal}
-use Rattle.deviator_script.specs.declared.event.Event.TheVariants.{Look}
-use Rattle.deviator_script.specs.Step.{CanLook}
+use Rattle.swap_job.specs.declared.event.Event.TheVariants.{Look}
+use Rattle.swap_job.specs.Step.{CanLook}
 use Rattle.swap_run.specs.Run.{Cast, State, step}
 use Rattle.swap_run.specs.Fair.{adjacent, looks}
 use Rattle.swap_run.specs.Steps.{look_steps}

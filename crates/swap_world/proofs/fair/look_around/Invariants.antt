@@ -1,5 +1,5 @@
 use Rattle.std.proofs.Common.{take, fold}
-use Rattle.deviator_script.specs.declared.event.Event.TheVariants.{Look}
+use Rattle.swap_job.specs.declared.event.Event.TheVariants.{Look}
 use Rattle.swap_run.specs.Run.{step}
 use Rattle.swap_world.specs.Gone.{HasGone}
 use Rattle.swap_world.proofs.fair.look_around.Given as goal

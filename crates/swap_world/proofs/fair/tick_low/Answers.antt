@@ -1,7 +1,7 @@
 use Rattle.std.proofs.Common.{◌≡◌, ◌≤◌, ◌<◌, sym}
 use Rattle.ledger_core.specs.History.{height}
 use Rattle.ledger_core.specs.Book.{history}
-use Rattle.deviator_script.specs.declared.event.Event.TheVariants.{Tick}
+use Rattle.swap_job.specs.declared.event.Event.TheVariants.{Tick}
 use Rattle.swap_run.specs.Run.{step}
 use Rattle.swap_run.specs.Fair.{the_horizon, tick_low}
 use Rattle.swap_run.specs.Steps.{low_step}

@@ -1,5 +1,5 @@
 use Rattle.std.proofs.Common.{◌<◌, true, false, replicate, refl, sym, ◌∙◌, subst}
-use Rattle.deviator_script.specs.declared.event.Event.TheVariants.{Act}
+use Rattle.swap_job.specs.declared.event.Event.TheVariants.{Act}
 use Rattle.swap_run.specs.Fair.{acts, looks, most_acts}
 use Rattle.swap_world.proofs.Ledgers.{on_ok, on_err}
 use Rattle.swap_world.proofs.Ways.{if_err}

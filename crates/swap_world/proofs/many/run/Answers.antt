@@ -1,6 +1,6 @@
 use Rattle.std.proofs.Common.{◌∷◌, [], refl, sym, take, subst}
 use Rattle.std.proofs.lemmas.List.Elements.{All-get_or}
-use Rattle.deviator_script.specs.Step.{CanStep}
+use Rattle.swap_job.specs.Step.{CanStep}
 use Rattle.swap_run.specs.Run.{run_from, step}
 use Rattle.swap_world.specs.Value.{cast_for}
 use Rattle.swap_world.proofs.Ways.{if_err, over, over_events}

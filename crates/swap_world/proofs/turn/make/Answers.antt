@@ -2,8 +2,8 @@ use Rattle.std.proofs.Common.{◌<◌, ℕ, length, Option, inr, sym, ap, ◌∙
 use Rattle.std.specs.Prelude.{IsTrue}
 use Rattle.ledger_core.specs.declared.entry.Call.{Call}
 use Rattle.ledger_core.specs.History.{fit}
-use Rattle.deviator_script.specs.Resolved.{resolved}
-use Rattle.deviator_script.proofs.Scripts.{may_resolve}
+use Rattle.swap_job.specs.Resolved.{resolved}
+use Rattle.deviators.proofs.Scripts.{may_resolve}
 use Rattle.swap_world.specs.Acting.{histories, landed, taken, told_to}
 use Rattle.swap_world.specs.On.{swept_in, told_by}
 use Rattle.swap_world.proofs.Ledgers.{legal_book, history_at, book_ok}

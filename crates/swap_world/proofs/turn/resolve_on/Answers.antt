@@ -1,8 +1,8 @@
 use Rattle.std.proofs.Common.{Option, sym, subst}
 use Rattle.std.specs.Option.{ForSome}
 use Rattle.hashkey_path.specs.declared.hashkey.Hashkey.{Hashkey}
-use Rattle.deviator_script.specs.Parts.{IsUsable}
-use Rattle.deviator_script.proofs.Usable.{named_usable}
+use Rattle.swap_job.specs.Parts.{IsUsable}
+use Rattle.swap_job.proofs.Usable.{named_usable}
 use Rattle.swap_world.specs.Acting.{histories}
 use Rattle.swap_world.proofs.Ledgers.{legal_book}
 use Rattle.swap_world.proofs.turn.resolve_on.Goals as goal

@@ -1,8 +1,8 @@
 use Rattle.std.proofs.Common.{◌≡◌, ℕ, List, Bool, [], is_some, subst}
 use Rattle.swap_base.specs.Fault.{Gives}
 use Rattle.refusals.specs.Refusal.{named}
-use Rattle.deviator_script.specs.Names.{under}
-use Rattle.deviator_script.specs.declared.job.Purpose.TheVariants.{Audit}
+use Rattle.swap_job.specs.Names.{under}
+use Rattle.swap_job.specs.declared.job.Purpose.TheVariants.{Audit}
 use Rattle.offer_header.specs.Names.{has_strategy, no_strategy}
 use Rattle.swap_offer.specs.Job.{job_header_of, names_at}
 use Rattle.transcript_reader.specs.Header.{header_read}

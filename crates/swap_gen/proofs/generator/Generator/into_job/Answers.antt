@@ -1,5 +1,5 @@
 use Rattle.std.proofs.Common.{◌≡◌, ℕ, ◌<◌, sym, subst}
-use Rattle.deviator_script.specs.declared.job.Job.{Job}
+use Rattle.swap_job.specs.declared.job.Job.{Job}
 use Rattle.swap_rules.specs.Accepted.{IsAccepted}
 use Rattle.swap_gen.specs.Owned.{OwnsKeys}
 use Rattle.swap_gen.proofs.Generated.{generated_is_accepted, generated_is_owned}

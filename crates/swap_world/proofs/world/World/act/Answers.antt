@@ -1,5 +1,5 @@
 use Rattle.std.proofs.Common.{sym, ◌∙◌}
-use Rattle.deviator_script.specs.declared.event.Event.TheVariants.{Act}
+use Rattle.swap_job.specs.declared.event.Event.TheVariants.{Act}
 use Rattle.swap_world.specs.Value.{cast_at, cast_for}
 use Rattle.swap_world.specs.On.{swept_in, told_in}
 use Rattle.swap_world.proofs.Gone.{cut, went, quiet_act, stepping, told_any, told_same}

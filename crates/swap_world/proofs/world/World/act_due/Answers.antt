@@ -1,8 +1,8 @@
 use Rattle.std.proofs.Common.{◌≡◌, ◌<◌, set, slice_index_or, false, None, sym, ◌∙◌, subst}
 use Rattle.std.specs.Prelude.{ℕ, OnOk}
 use Rattle.swap_digraph.specs.declared.deal.Deal.{Deal}
-use Rattle.deviator_script.specs.declared.event.Event.TheVariants.{Act}
-use Rattle.deviator_script.specs.declared.job.Role.TheVariants as kinds
+use Rattle.swap_job.specs.declared.event.Event.TheVariants.{Act}
+use Rattle.swap_job.specs.declared.job.Role.TheVariants as kinds
 use Rattle.swap_world.specs.Acting.{histories}
 use Rattle.swap_world.specs.Inside.{asked_in, cast_in, state_in, AreLedgersOf}
 use Rattle.swap_world.specs.Journals.{IsJournalOf, IsSomeJournal}

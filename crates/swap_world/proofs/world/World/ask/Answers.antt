@@ -1,6 +1,6 @@
 use Rattle.std.proofs.Common.{◌≡◌, ◌<◌, ◌+◌, ◌∷◌, [], length, get_or, false, sym, ap, set, ◌∙◌, subst, length-append}
 use Rattle.std.proofs.lemmas.List.{get_or_default}
-use Rattle.deviator_script.specs.declared.job.Role.TheVariants as kinds
+use Rattle.swap_job.specs.declared.job.Role.TheVariants as kinds
 use Rattle.swap_run.specs.Run.{Plan}
 use Rattle.swap_world.specs.Acting.{histories, seen}
 use Rattle.swap_world.specs.Inside.{asked_in}

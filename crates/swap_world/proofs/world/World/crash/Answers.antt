@@ -1,9 +1,9 @@
 use Rattle.std.proofs.Common.{◌≡◌, ◌∙◌, ℕ, List, None, false, set, slice_index_or, sym, ap, subst}
 use Rattle.std.specs.Prelude.{OnOk}
 use Rattle.ledger_core.specs.Value.{LedgerState}
-use Rattle.deviator_script.specs.declared.event.Event.TheVariants.{Crash}
-use Rattle.deviator_script.specs.declared.job.Role.TheVariants as kinds
-use Rattle.deviator_script.specs.Step.{CanCrash}
+use Rattle.swap_job.specs.declared.event.Event.TheVariants.{Crash}
+use Rattle.swap_job.specs.declared.job.Role.TheVariants as kinds
+use Rattle.swap_job.specs.Step.{CanCrash}
 use Rattle.swap_laws.proofs.Accepted.{accepted_is_well_sized}
 use Rattle.swap_world.specs.Acting.{histories}
 use Rattle.swap_world.specs.Inside.{asked_in, cast_in, state_in}

@@ -1,7 +1,7 @@
 use Rattle.std.proofs.Common.{◌≡◌, ◌⊎◌, ◌<◌, OnOk, OnErr, IfOk, set, slice_index_or, false, sym, ◌∙◌, subst}
-use Rattle.deviator_script.specs.Script.{next_call}
-use Rattle.deviator_script.specs.declared.event.Event.TheVariants.{Act}
-use Rattle.deviator_script.specs.declared.job.Role.TheVariants as kinds
+use Rattle.deviators.specs.Script.{next_call}
+use Rattle.swap_job.specs.declared.event.Event.TheVariants.{Act}
+use Rattle.swap_job.specs.declared.job.Role.TheVariants as kinds
 use Rattle.party_plan.specs.Shown.{IsShown}
 use Rattle.swap_world.specs.Acting.{histories, taken, seen, told_to, turned}
 use Rattle.swap_world.specs.On.{swept_in}

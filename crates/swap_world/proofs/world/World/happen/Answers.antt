@@ -1,6 +1,6 @@
 use Rattle.std.proofs.Common.{refl, sym, subst, ap, ◌∙◌, OnOk, OnErr, IfOk, ◌≡◌}
-use Rattle.deviator_script.specs.declared.event.Event.{Event}
-use Rattle.deviator_script.specs.declared.event.Event.TheVariants.{Tick, Call as Made}
+use Rattle.swap_job.specs.declared.event.Event.{Event}
+use Rattle.swap_job.specs.declared.event.Event.TheVariants.{Tick, Call as Made}
 use Rattle.swap_run.specs.Asked.{Answers}
 use Rattle.swap_world.specs.Gone.{HasGone, IsCutBy}
 use Rattle.swap_world.specs.On.{swept_in, told_in}

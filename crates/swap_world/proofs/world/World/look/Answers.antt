@@ -1,8 +1,8 @@
 use Rattle.std.proofs.Common.{◌<◌, set, slice_index_or, false, None, sym, ap, ◌∙◌, subst}
 use Rattle.ledger_core.specs.Book.{history}
 use Rattle.std.proofs.lemmas.Bool.{false≢true}
-use Rattle.deviator_script.specs.declared.event.Event.TheVariants.{Look}
-use Rattle.deviator_script.specs.declared.job.Role.TheVariants as kinds
+use Rattle.swap_job.specs.declared.event.Event.TheVariants.{Look}
+use Rattle.swap_job.specs.declared.job.Role.TheVariants as kinds
 use Rattle.swap_laws.specs.Machine.{Begins}
 use Rattle.swap_world.specs.Acting.{histories}
 use Rattle.swap_world.specs.Inside.{asked_in, cast_in, state_in}

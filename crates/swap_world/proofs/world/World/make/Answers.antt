@@ -1,6 +1,6 @@
 use Rattle.std.proofs.Common.{◌≡◌, ◌⊎◌, OnOk, OnErr, IfOk, set, false, ◌∙◌, subst}
-use Rattle.deviator_script.specs.Resolved.{resolved}
-use Rattle.deviator_script.specs.declared.event.Event.TheVariants.{Call as Made}
+use Rattle.swap_job.specs.Resolved.{resolved}
+use Rattle.swap_job.specs.declared.event.Event.TheVariants.{Call as Made}
 use Rattle.swap_laws.proofs.Accepted.{accepted_is_well_sized}
 use Rattle.swap_world.specs.Acting.{histories, taken, seen, told_to}
 use Rattle.swap_world.specs.On.{swept_in}

@@ -1,6 +1,6 @@
 use Rattle.std.proofs.Common.{◌<◌, set, refl, sym, ap, subst, inr}
 use Rattle.ledger_core.specs.Book.{Histories}
-use Rattle.deviator_script.specs.declared.event.Event.TheVariants.{Tick}
+use Rattle.swap_job.specs.declared.event.Event.TheVariants.{Tick}
 use Rattle.swap_run.specs.Run.{State, after_tick}
 use Rattle.swap_run.specs.Laws.{IsGood, IsKept}
 use Rattle.swap_run.proofs.Good.{good_is_kept, steps_are_good}

@@ -1,6 +1,6 @@
 use Rattle.std.proofs.Common.{false, ◌≡◌, ◌<◌, set, sym, ap, ◌∙◌, subst}
 use Rattle.std.proofs.lemmas.Bool.{false≢true}
-use Rattle.deviator_script.specs.declared.event.Event.TheVariants.{Look}
+use Rattle.swap_job.specs.declared.event.Event.TheVariants.{Look}
 use Rattle.swap_run.specs.Run.{plan_up_to}
 use Rattle.swap_world.specs.Acting.{histories}
 use Rattle.swap_world.specs.Inside.{asked_in, cast_in, state_in}

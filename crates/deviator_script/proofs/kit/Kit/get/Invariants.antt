@@ -1,6 +1,0 @@
-use Rattle.std.proofs.Common.{◌≡◌, drop}
-use Rattle.deviator_script.specs.Names.{under}
-use Rattle.deviator_script.proofs.kit.Kit.get.Given as goal
-
-abbrev pub invariant-loop-at : goal.invariant-loop-at
-invariant-loop-at g l = under l.name (drop l.at l.self.names) (drop l.at l.self.strategies.items) ≡ under l.name l.self.names l.self.strategies.items

@@ -1,9 +1,0 @@
-pub mod Crafted
-pub mod Resolved
-pub mod Fitting
-pub mod Step
-pub mod View
-pub mod Script
-pub mod Rules
-pub mod Names
-pub mod Parts

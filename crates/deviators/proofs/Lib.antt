@@ -1,0 +1,4 @@
+pub mod Replays
+pub mod Naming
+pub mod Answering
+pub mod Scripts

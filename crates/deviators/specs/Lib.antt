@@ -1,0 +1,4 @@
+pub mod View
+pub mod Script
+pub mod Rules
+pub mod Program

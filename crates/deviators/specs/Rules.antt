@@ -1,0 +1,58 @@
+-- What the program's strategies answer, at turn t, over what their party v knows.
+use Rattle.std.specs.Prelude.{ℕ, ◌%◌, List, [], ◌∷◌, length, slice_index_or, Option, Some, None, option_map}
+use Rattle.std.specs.List.{flat_map}
+use Rattle.swap_digraph.specs.declared.deal.Deal.{Deal}
+use Rattle.swap_digraph.specs.Graph.{entering, leaving}
+use Rattle.hashkey_path.specs.declared.hashkey.Hashkey.{Hashkey}
+use Rattle.escrow_core.specs.declared.terms.Terms.{Terms}
+use Rattle.escrow_core.specs.Terms.{terms_of}
+use Rattle.ledger_core.specs.declared.entry.Call.{Call}
+use Rattle.ledger_core.specs.declared.entry.Call.TheVariants.{Publish, Unlock, Claim}
+use Rattle.ledger_core.specs.History.{accepted}
+use Rattle.ledger_core.specs.Book.{Histories}
+use Rattle.ledger_core.specs.declared.runs.Item.{Item}
+use Rattle.ledger_core.specs.declared.runs.Item.TheVariants.{One, Ticks}
+
+-- the member number t of the list, counted round and round; none where it is empty
+abbrev pub around : {A : Type 0} → List A → ℕ → Option A
+around [] t = None
+around (x ∷ xs) t = Some (slice_index_or (x ∷ xs) (t % length (x ∷ xs)) x)
+
+-- never a call
+abbrev pub silent : Deal → ℕ → ℕ → Histories → Option (ℕ × Call)
+silent d v t k = None
+
+-- a claim on entering arc number t
+abbrev pub greedy : Deal → ℕ → ℕ → Histories → Option (ℕ × Call)
+greedy d v t k = option_map (λ a. (a, Claim)) (around (entering d.graph v) t)
+
+-- the hashkey of a call, where it is an unlock
+abbrev pub key_in : Option Call → List Hashkey
+key_in (Some (Unlock key)) = key ∷ []
+key_in _ = []
+
+-- the hashkeys of the accepted unlocks that are known, by arc and entry
+abbrev pub keys_known : Histories → List Hashkey
+keys_known k = flat_map (λ h. flat_map (λ e. key_in (accepted e)) h) k
+
+-- an unlock on the arc with the hashkey, where both are there
+abbrev pub unlock_with : Option ℕ → Option Hashkey → Option (ℕ × Call)
+unlock_with (Some a) (Some key) = Some (a, Unlock key)
+unlock_with _ _ = None
+
+-- an unlock on entering arc number t with known hashkey number t
+abbrev pub replayer : Deal → ℕ → ℕ → Histories → Option (ℕ × Call)
+replayer d v t k = unlock_with (around (entering d.graph v) t) (around (keys_known k) t)
+
+-- the correct terms of arc a but for a bound of 0, which is never correct
+abbrev pub spoiled_terms : Deal → ℕ → Terms
+spoiled_terms d a = record (terms_of d a) { bound = 0 }
+
+-- a publish of spoiled terms on leaving arc number t
+abbrev pub spoiler : Deal → ℕ → ℕ → Histories → Option (ℕ × Call)
+spoiler d v t k = option_map (λ a. (a, Publish (spoiled_terms d a))) (around (leaving d.graph v) t)
+
+-- the hashkeys of the accepted unlocks that an item is
+abbrev pub keys_in : Item → List Hashkey
+keys_in (One e) = key_in (accepted e)
+keys_in (Ticks r) = []

@@ -1,0 +1,4 @@
+pub mod Opened
+pub mod Crafting
+pub mod Usable
+pub mod Idle

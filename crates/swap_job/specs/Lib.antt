@@ -1,0 +1,6 @@
+pub mod Crafted
+pub mod Resolved
+pub mod Fitting
+pub mod Step
+pub mod Names
+pub mod Parts

@@ -1,0 +1,34 @@
+-- What the parts of the programs ask and answer.
+use Rattle.std.specs.Prelude.{◌≡◌, ◌≤◌, ℕ, ◌+◌, IsTrue, length, Option, Some, None}
+use Rattle.swap_digraph.specs.declared.deal.Deal.{Deal}
+use Rattle.swap_digraph.specs.Deal.{path_limit}
+use Rattle.hashkey_path.specs.declared.hashkey.Hashkey.{Hashkey}
+use Rattle.escrow_core.specs.declared.terms.Terms.{Terms}
+use Rattle.escrow_core.specs.Terms.{terms_of}
+use Rattle.ledger_core.specs.declared.entry.Call.TheVariants.{Unlock}
+use Rattle.ledger_core.specs.History.{Opening, opening, accepted, fit}
+use Rattle.ledger_core.specs.declared.runs.Item.{Item}
+use Rattle.ledger_core.specs.declared.runs.Item.TheVariants.{One, Ticks}
+use Rattle.swap_job.specs.Resolved.{terms_with}
+use Rattle.swap_job.specs.declared.moves.Move.{Move}
+use Rattle.swap_job.specs.declared.moves.Move.TheVariants.{Publish}
+
+-- the terms that a publish states
+abbrev pub publish_of : Deal → Move → Option Terms
+publish_of d (Publish a start delta bound timelock amount locks) = Some (terms_with (terms_of d a) start delta bound timelock amount locks)
+publish_of d _ = None
+
+-- n parties can be put before the hashkey; where there is none, the last of them makes its own
+abbrev pub HasRoom : Deal → ℕ → Option Hashkey → Type 0
+HasRoom d n None = n ≤ path_limit d
+HasRoom d n (Some key) = (n + length key.path ≤ path_limit d) × (length key.sigs ≡ length key.path)
+
+-- An unlock with the hashkey fits, and it has as many signatures as vertices.
+pub record IsUsable (d : Deal) (key : Hashkey) : Type 0 where
+  pub fits : IsTrue (fit d 0 (Unlock key))
+  pub paired : length key.sigs ≡ length key.path
+
+-- the opening of lock i that an item is, if it is one
+abbrev pub opening_in : ℕ → Item → Option Opening
+opening_in i (One e) = opening i e.height (accepted e)
+opening_in i (Ticks r) = None

@@ -1,0 +1,61 @@
+//! The hashkey that opened a lock, in a list of entries.
+
+ghost use Rattle.std.specs.Prelude.{◌≡◌, option_map, option_copied};
+ghost use Rattle.swap_base.specs.Lists.{first_of};
+ghost use Rattle.ledger_core.specs.Facts.{opened_key};
+ghost use Rattle.ledger_core.specs.History.{opening, accepted};
+ghost use Rattle.swap_job.specs.Parts.{opening_in};
+
+use escrow_core::Reply;
+use hashkey_path::Hashkey;
+use ledger_core::{Call, Entry, EntryList, Item, LedgerHistory, What};
+use swap_base::LockId;
+
+/// The hashkey that an accepted unlock for the lock presents.
+fn key_of(e: &Entry, lock: LockId) -> Option<&Hashkey>
+    ensures { option_copied result ≡ option_map (λ o. o.key) (opening lock e.now.height (accepted e.now)) }
+{
+    match (&e.what, e.reply) {
+        (What::Call(Call::Unlock(key)), Reply::Accepted) => {
+            if key.lock == lock { Some(key) } else { None }
+        }
+        _ => None,
+    }
+}
+
+fn key_of_item(item: &Item, lock: LockId) -> Option<&Hashkey>
+    ensures { option_copied result ≡ option_map (λ o. o.key) (opening_in lock item.now) }
+{
+    match item {
+        Item::One(entry) => key_of(entry, lock),
+        Item::Ticks(_) => None,
+    }
+}
+
+fn key_among(items: &[Item], lock: LockId) -> Option<&Hashkey>
+    ensures { option_copied result ≡ option_map (λ o. o.key) (first_of (opening_in lock) items.now) }
+{
+    for item in items {
+        let found = key_of_item(item, lock);
+        if found.is_some() {
+            return found;
+        }
+    }
+    None
+}
+
+/// The hashkey of the accepted unlock for the lock.
+pub fn opened_key(list: &EntryList, lock: LockId) -> Option<&Hashkey>
+    ensures { option_copied result ≡ opened_key list.now lock }
+{
+    let (items, _) = list.parts();
+    key_among(items, lock)
+}
+
+/// The same in a ledger's history.
+pub fn opened_key_in(history: &LedgerHistory, lock: LockId) -> Option<&Hashkey>
+    ensures { option_copied result ≡ opened_key history.now.list lock }
+{
+    let (items, _) = history.parts();
+    key_among(items, lock)
+}
