@@ -8,7 +8,7 @@ use Rattle.refusals.specs.Refusal.{refusal}
 use Rattle.ledger_core.specs.Book.{Histories}
 use Rattle.swap_job.specs.declared.job.Job.{Job}
 use Rattle.outcome_rules.specs.declared.report.Report.{Report}
-use Rattle.transcript_text.specs.Report.{report}
+use Rattle.report_text.specs.Report.{report}
 use Rattle.swap_auditor.specs.declared.replay.BadReply.{BadReply}
 use Rattle.swap_auditor.specs.Audit.{audited}
 use Rattle.transcript_reader.specs.declared.reason.TranscriptReason.{TranscriptReason}

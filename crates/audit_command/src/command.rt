@@ -17,7 +17,7 @@ use refusals::Refusal;
 use std::alloc::Global;
 use swap_base::Fault;
 use swap_io::{Sink, Source, TextFault};
-use transcript_text::write_report;
+use report_text::write_report;
 
 /// The ending where the input gave no story.
 fn unread(fault: Stopped<Refusal>) -> AuditEnding

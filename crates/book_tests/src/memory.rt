@@ -25,7 +25,7 @@ use swap_digraph::Deal;
 use swap_gen::generate;
 use swap_offer::{Prepared, next_event, read_header};
 use swap_world::World;
-use transcript_text::report_text;
+use report_text::report_text;
 
 fn count_unfinished(alloc: Global, deal: &Deal, book: &Book) -> Result<usize, Fail>
     requires sized { IsWellSized deal.now }

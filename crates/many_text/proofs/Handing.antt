@@ -11,7 +11,7 @@ use Rattle.swap_base.specs.Text.{lines}
 use Rattle.ledger_core.specs.Book.{Histories}
 use Rattle.swap_job.specs.declared.job.Job.{Job}
 use Rattle.outcome_rules.specs.declared.report.Report.{Report}
-use Rattle.transcript_text.specs.Report.{count_line, report}
+use Rattle.report_text.specs.Report.{count_line, report}
 use Rattle.swap_many.specs.Kept.{Kept}
 use Rattle.many_text.specs.ManyText.{chain_text_in, findings_from, many_text, swap_line, swap_text, swap_text_in}
 use Rattle.swap_io.proofs.Handing.{hands_err, hands_ok}

@@ -5,7 +5,7 @@ use Rattle.ledger_core.specs.Book.{Histories}
 use Rattle.swap_job.specs.declared.job.Job.{Job}
 use Rattle.outcome_rules.specs.declared.report.Report.{Report}
 use Rattle.outcome_rules.specs.Report.{report_of}
-use Rattle.transcript_text.specs.Report.{count_line, report}
+use Rattle.report_text.specs.Report.{count_line, report}
 use Rattle.swap_many.specs.Chains.{Units}
 use Rattle.swap_many.specs.Kept.{Kept}
 

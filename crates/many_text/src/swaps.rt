@@ -4,7 +4,7 @@ ghost use Rattle.std.specs.Prelude.{◌≡◌, ◌+◌, ◌++◌, ◌<◌, ◌�
 ghost use Rattle.swap_base.specs.Text.{lines};
 ghost use Rattle.swap_digraph.specs.Deal.{IsWellSized};
 ghost use Rattle.ledger_core.specs.Book.{IsLegalBook};
-ghost use Rattle.transcript_text.specs.Report.{report as text_of};
+ghost use Rattle.report_text.specs.Report.{report as text_of};
 ghost use Rattle.outcome_rules.specs.Report.{report_of};
 ghost use Rattle.swap_io.specs.Handed.{Hands};
 ghost use Rattle.swap_many.specs.Value.{kept_of};
@@ -18,7 +18,7 @@ use std::alloc::Global;
 use swap_base::{NoMemory, Piece, put};
 use swap_io::{Sink, TextFault, flush};
 use swap_many::ManyWorld;
-use transcript_text::write_report;
+use report_text::write_report;
 
 fn put_swap(out: &mut Vec<u8>, number: u64) -> Result<(), NoMemory>
     ensures { OnOk result (out.new.items ≡ out.old.items ++ swap_line number) }

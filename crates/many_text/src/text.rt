@@ -5,7 +5,7 @@ ghost use Rattle.std.specs.Io.KnownBytes.{Appends};
 ghost use Rattle.swap_io.specs.Causes.{AppendsProperPrefix, Rose};
 ghost use Rattle.swap_io.specs.Handed.{AppendsPrefix, Hands};
 ghost use Rattle.swap_many.specs.Value.{kept_of};
-ghost use Rattle.transcript_text.specs.Report.{count_line};
+ghost use Rattle.report_text.specs.Report.{count_line};
 ghost use Rattle.many_text.specs.ManyText.{has_finding, many_text};
 ghost use Rattle.many_text.specs.Shown.{AreChainsShown, AreShown};
 
@@ -17,7 +17,7 @@ use swap_base::{ByteText, Listed, NoMemory, Piece, put};
 use swap_io::{Sink, TextFault, flush};
 use swap_many::ManyWorld;
 
-#[tactic(auto, unfolding(transcript_text::specs::Report::count_line))]
+#[tactic(auto, unfolding(report_text::specs::Report::count_line))]
 fn put_count(out: &mut Vec<u8>, count: u64) -> Result<(), NoMemory>
     ensures { OnOk result (out.new.items ≡ out.old.items ++ count_line count) }
 {

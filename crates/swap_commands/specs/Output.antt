@@ -10,7 +10,7 @@ use Rattle.swap_job.specs.declared.job.Job.{Job}
 use Rattle.swap_job.specs.declared.job.Purpose.TheVariants as purposes
 use Rattle.outcome_rules.specs.declared.report.Report.{Report}
 use Rattle.outcome_rules.specs.Report.{report_of}
-use Rattle.transcript_text.specs.Report.{report}
+use Rattle.report_text.specs.Report.{report}
 use Rattle.transcript_lines.specs.Lines.{transcript as transcript_text}
 use Rattle.audit_command.specs.Output.{Written, audit_of}
 use Rattle.refusals.specs.declared.reason.Reason.{Reason}

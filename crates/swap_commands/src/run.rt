@@ -43,7 +43,7 @@ use swap_base::NoMemory;
 use swap_io::{Sink, Source, TextFault};
 use swap_offer::Prepared;
 use swap_world::World;
-use transcript_text::write_report;
+use report_text::write_report;
 use transcript_writer::write_transcript;
 
 /// The job of an input, and its world after all events.

@@ -8,7 +8,7 @@ use Rattle.outcome_rules.specs.Report.{report_of}
 use Rattle.refusals.specs.declared.refusal.Refusal.{Refusal}
 use Rattle.swap_auditor.specs.declared.replay.BadReply.{BadReply}
 use Rattle.swap_auditor.specs.Audit.{audited as audited_report}
-use Rattle.transcript_text.specs.Report.{report}
+use Rattle.report_text.specs.Report.{report}
 use Rattle.transcript_lines.specs.Lines.{transcript}
 use Rattle.transcript_reader.specs.Reading.{Story}
 use Rattle.audit_command.specs.Output.{Written, audit_of, by_replies, by_text, judged, story, story_in, told, written_of}

@@ -4,7 +4,7 @@ use Rattle.ledger_core.specs.Book.{Histories, IsLegalBook}
 use Rattle.swap_job.specs.declared.job.Job.{Job}
 use Rattle.outcome_rules.specs.Report.{report_of}
 use Rattle.header_back.specs.Laws.{IsShowable, audited}
-use Rattle.transcript_text.specs.Report.{report}
+use Rattle.report_text.specs.Report.{report}
 use Rattle.transcript_lines.specs.Lines.{transcript}
 use Rattle.transcript_reader.specs.Header.{header_read}
 use Rattle.transcript_reader.specs.Reading.{transcript_read}

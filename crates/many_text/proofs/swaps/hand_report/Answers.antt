@@ -2,7 +2,7 @@ use Rattle.std.proofs.Common.{Err, [], ◌∙◌, ℕ, List, ap, refl, subst, sy
 use Rattle.std.proofs.lemmas.Result.{err_from_is_err_and}
 use Rattle.swap_io.specs.Handed.{Handed, Hands}
 use Rattle.swap_io.proofs.Handing.{handed_was, hands_err, lost_before, lost_was, rose_was}
-use Rattle.transcript_text.specs.Report.{report}
+use Rattle.report_text.specs.Report.{report}
 use Rattle.transcript_writer.proofs.Sequence.{hands_then}
 use Rattle.many_text.proofs.Handing.{hands_whole}
 use Rattle.many_text.proofs.swaps.hand_report.Goals as goal

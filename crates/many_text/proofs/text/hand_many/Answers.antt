@@ -5,7 +5,7 @@ use Rattle.swap_io.specs.Handed.{Handed, Lost}
 use Rattle.swap_io.specs.declared.fault.TextFault.TheVariants.{NoMemory}
 use Rattle.swap_io.proofs.Handing.{handed_on, handed_put, handed_was, hands_err, hands_ok, lost_before, lost_then, lost_was, rose_was}
 use Rattle.swap_many.specs.Value.{kept_of}
-use Rattle.transcript_text.specs.Report.{count_line}
+use Rattle.report_text.specs.Report.{count_line}
 use Rattle.many_text.specs.ManyText.{chain_text_in, findings_from, swap_text_in}
 use Rattle.many_text.proofs.Handing.{all_three, of_many}
 use Rattle.many_text.proofs.text.hand_many.Goals as goal

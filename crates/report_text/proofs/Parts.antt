@@ -1,0 +1,44 @@
+-- The parts of a ledger's lines and of a report.
+use Rattle.std.proofs.Common.{◌≡◌, ℕ, List, [], ◌∷◌, ◌++◌, length, refl, append_assoc, append-nil}
+use Rattle.swap_base.specs.Text.{joined, lines}
+use Rattle.swap_digraph.specs.declared.deal.Deal.{Deal}
+use Rattle.swap_digraph.specs.Deal.{amount}
+use Rattle.swap_digraph.specs.Graph.{ends}
+use Rattle.escrow_core.specs.Terms.{terms_of}
+use Rattle.ledger_core.specs.declared.entry.Entry.{Entry}
+use Rattle.ledger_core.specs.History.{accounts, height}
+use Rattle.ledger_core.specs.Book.{Histories}
+use Rattle.swap_job.specs.declared.job.Job.{Job}
+use Rattle.outcome_rules.specs.declared.report.Report.{Report}
+use Rattle.report_text.specs.Report.{count_line, entry_line, finding_line, head_lines, ledger_end, ledger_head, ledger_lines, party_line, report}
+
+pub of_ledger : (names : List (List ℕ)) (d : Deal) (a : ℕ) (h : List Entry)
+    → ledger_head names a (ends d.graph a) (amount d a) ++ (lines (entry_line names (terms_of d a)) 0 h ++
+    (ledger_end names (ends d.graph a) (height h) (accounts d a h) ++ []))
+    ≡ ledger_lines names d a h
+unfolding ledger_lines
+of_ledger names d a h = refl
+
+pub of_report : (job : Job) (b : Histories) (r : Report)
+    → head_lines job.deal ++ (lines (ledger_lines job.names job.deal) 0 b ++ (lines (party_line job.names job.conforming r.ended) 0 r.outcomes
+    ++ (lines (λ _. finding_line job.names) 0 r.findings ++ (count_line (length r.findings) ++ []))))
+    ≡ report job b r
+unfolding report
+of_report job b r = refl
+
+-- texts, one after another, with the first of them together
+
+pub two : (x y rest : List ℕ) → (x ++ y) ++ rest ≡ x ++ (y ++ rest)
+two x y rest = append_assoc x y rest
+
+pub three : (x y z rest : List ℕ) → ((x ++ y) ++ z) ++ rest ≡ x ++ (y ++ (z ++ rest))
+three x y z rest = simp append_assoc
+
+pub four : (x y z u rest : List ℕ) → (((x ++ y) ++ z) ++ u) ++ rest ≡ x ++ (y ++ (z ++ (u ++ rest)))
+four x y z u rest = simp append_assoc
+
+pub all_three : (x y z : List ℕ) → (x ++ y) ++ z ≡ x ++ (y ++ (z ++ []))
+all_three x y z = simp (append_assoc, append-nil)
+
+pub all_five : (x y z u v : List ℕ) → (((x ++ y) ++ z) ++ u) ++ v ≡ x ++ (y ++ (z ++ (u ++ (v ++ []))))
+all_five x y z u v = simp (append_assoc, append-nil)
