@@ -8,7 +8,7 @@ ghost use Rattle.history_index.specs.Indexes.{entries_in};
 ghost use Rattle.sent_keys.specs.Sent.{shown, unlocks_of};
 ghost use Rattle.conduct_check.specs.Parts.{has_made_parts, has_sent, is_forged_secret, IsWithin};
 
-use book_reading::leads;
+use due_calls::leads;
 use hash_signature::{Sig, hash_of};
 use hashkey_path::Hashkey;
 use history_index::Index;

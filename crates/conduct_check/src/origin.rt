@@ -8,7 +8,7 @@ ghost use Rattle.swap_rules.specs.Conduct.{carries, extends_without, has_origin,
 ghost use Rattle.history_index.specs.Indexes.{entries_in};
 
 use crate::past::made_on;
-use book_reading::leads;
+use due_calls::leads;
 use hashkey_path::Hashkey;
 use history_index::{Index, Made};
 use ledger_core::Call;

@@ -10,7 +10,7 @@ ghost use Rattle.history_index.specs.Made.{made_in};
 ghost use Rattle.history_index.specs.Numbers.{is_before, published_number};
 ghost use Rattle.ledger_core.specs.Facts.{opened_number};
 
-use book_reading::expiry;
+use due_calls::expiry;
 use history_index::{Index, Made};
 use ledger_core::Facts;
 use swap_base::{ArcId, LockId};

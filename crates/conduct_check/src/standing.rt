@@ -9,7 +9,7 @@ ghost use Rattle.conduct_check.specs.Standing.{first_origin, first_valid, IsStan
 
 use crate::origin::has_origin;
 use crate::validity::is_valid_into;
-use book_reading::{is_ready, leads_one};
+use due_calls::{is_ready, leads_one};
 use hashkey_path::Hashkey;
 use history_index::Index;
 use sent_keys::first_key;

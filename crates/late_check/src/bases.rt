@@ -38,7 +38,7 @@ fn is_used(party: PartyId, first: Option<&Hashkey>, seen: Option<&Hashkey>, entr
 }
 
 /// The greatest height at which the used hashkey was accepted, 0 where it wasn't.
-#[tactic(auto, using(book_reading::proofs::Greatest::greatest_fold, crate::proofs::Made::used_made))]
+#[tactic(auto, using(due_calls::proofs::Greatest::greatest_fold, crate::proofs::Made::used_made))]
 fn greatest_used_in(
     index: &Index,
     party: PartyId,
@@ -76,7 +76,7 @@ fn greatest_used_on(
 }
 
 /// The greatest height at which the used hashkey was accepted on an arc that leaves the party.
-#[tactic(auto, using(book_reading::proofs::Greatest::greatest_fold))]
+#[tactic(auto, using(due_calls::proofs::Greatest::greatest_fold))]
 fn base_by_key(
     deal: &Deal,
     known: &[Index],
@@ -96,7 +96,7 @@ fn base_by_key(
 }
 
 /// The greatest height at which the lock was opened on an arc that leaves the party.
-#[tactic(auto, using(book_reading::proofs::Greatest::greatest_fold))]
+#[tactic(auto, using(due_calls::proofs::Greatest::greatest_fold))]
 fn base_by_lock(deal: &Deal, known: &[Index], party: PartyId, lock: LockId) -> u32
     requires sized { IsWellSized deal.now }
     requires known { AreIndexes deal.now known.now }

@@ -12,7 +12,7 @@ ghost use Rattle.late_check.specs.Parts.{claim_from, publish_from, refund_from, 
 
 use crate::bases::base_of;
 use crate::openings::{first_seen_key, trigger_height};
-use book_reading::{is_correct, is_ready, is_triggered, leads, leads_one, published, ready_height};
+use due_calls::{is_correct, is_ready, is_triggered, leads, leads_one, published, ready_height};
 use hashkey_path::Hashkey;
 use history_index::Index;
 use swap_base::{ArcId, LockId, PartyId};

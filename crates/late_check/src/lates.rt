@@ -13,7 +13,7 @@ ghost use Rattle.late_check.specs.Parts.{lates_by, overdue, publish_from, unlock
 
 use crate::counting::{Counted, is_done};
 use crate::froms::{claim_from, publish_from, refund_from, unlock_from};
-use book_reading::{height_on, least_expiry};
+use due_calls::{height_on, least_expiry};
 use hashkey_path::Hashkey;
 use history_index::Index;
 use sent_keys::first_key;

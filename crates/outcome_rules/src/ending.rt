@@ -7,7 +7,7 @@ ghost use Rattle.ledger_core.specs.History.{settled};
 ghost use Rattle.history_index.specs.Indexes.{entries_in, AreIndexes};
 ghost use Rattle.swap_rules.specs.Outcome.{got, is_claim, lost, outcome};
 
-use book_reading::{is_correct, is_triggered};
+use due_calls::{is_correct, is_triggered};
 use history_index::Index;
 use ledger_core::{Facts, Settlement};
 use swap_base::{ArcId, PartyId};

@@ -13,7 +13,7 @@ ghost use Rattle.outcome_rules.specs.Promises.{AllAreConforming, AllHaveRefunds,
 ghost use Rattle.outcome_rules.specs.Report.{conforms_in};
 
 use crate::indexes::indexes_of;
-use book_reading::height_on;
+use due_calls::height_on;
 use conduct_check::{put_broken, put_forgeries};
 use history_index::Index;
 use late_check::put_lates;

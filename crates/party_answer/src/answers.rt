@@ -22,7 +22,7 @@ use history_index::Index;
 use ledger_core::Call;
 use party_due::DueCall;
 use party_notes::Kept;
-use party_phase_two::rest_until;
+use due_calls::rest_until;
 use swap_base::{ArcId, LockId, NoMemory, PartyId, Piece, put};
 use swap_digraph::Deal;
 use transcript_writer::{put_call, put_hashkey};

@@ -19,12 +19,12 @@ use Rattle.history_index.specs.Indexes.{entries_in, AreIndexes}
 use Rattle.swap_rules.specs.Party.{is_ready, opens_without}
 use Rattle.swap_rules.specs.Due.{Wallet, Action, due_key, due_unlock_on, extended, has_called, is_unlock_for, may_unlock, presented, when_due}
 use Rattle.swap_laws.proofs.Words.{leaves}
-use Rattle.book_reading.proofs.Openings.{has_lock}
-use Rattle.party_phase_two.specs.declared.unlock_due.Base.{Base}
-use Rattle.party_phase_two.specs.declared.unlock_due.Base.TheVariants.{Signed, Own, Onto}
-use Rattle.party_phase_two.specs.Parts.{due_base}
-use Rattle.party_phase_two.specs.Unlocks.{key_from, seen_on}
-use Rattle.party_phase_two.proofs.Keys.{ComesFrom, comes_from}
+use Rattle.due_calls.proofs.Openings.{has_lock}
+use Rattle.due_calls.specs.declared.unlock_due.Base.{Base}
+use Rattle.due_calls.specs.declared.unlock_due.Base.TheVariants.{Signed, Own, Onto}
+use Rattle.due_calls.specs.Parts.{due_base}
+use Rattle.due_calls.specs.Unlocks.{key_from, seen_on}
+use Rattle.due_calls.proofs.Keys.{ComesFrom, comes_from}
 use Rattle.party_machine.specs.Unlocking.{opened_key, CanPutOnto}
 use Rattle.party_machine.proofs.Known.{history_of}
 use Rattle.party_machine.proofs.Onto.{can_put_onto, found}

@@ -6,15 +6,15 @@ ghost use Rattle.ledger_core.specs.Book.{IsLegalBook};
 ghost use Rattle.history_index.specs.Indexes.{entries_in, AreIndexes};
 ghost use Rattle.swap_rules.specs.Due.{due_key, extended};
 ghost use Rattle.party_wallet.specs.Value.{signed_in};
-ghost use Rattle.party_phase_two.specs.Parts.{due_base};
-ghost use Rattle.party_phase_two.specs.Unlocks.{key_from};
+ghost use Rattle.due_calls.specs.Parts.{due_base};
+ghost use Rattle.due_calls.specs.Unlocks.{key_from};
 ghost use Rattle.party_machine.specs.Wallet.{wallet_of};
 ghost use Rattle.party_machine.specs.Unlocking.{opened_key, CanPutOnto};
 
 use hashkey_path::Hashkey;
 use history_index::Index;
 use ledger_core::Facts;
-use party_phase_two::{Base, due_base};
+use due_calls::{Base, due_base};
 use party_wallet::{Signed, sign_onto_anew, sign_own_anew};
 use std::alloc::Global;
 use swap_base::{Digest, LockId, NoMemory, PartyId, Shared, TryCopy};

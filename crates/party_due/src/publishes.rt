@@ -13,7 +13,7 @@ use crate::due_call::{DueCall, put_when};
 use escrow_core::terms_of;
 use history_index::Index;
 use ledger_core::Call;
-use party_phase_one::{has_published, may_publish};
+use due_calls::{has_published, may_publish};
 use std::alloc::Global;
 use swap_base::{ArcId, NoMemory, PartyId, Shared};
 use swap_digraph::Deal;

@@ -9,7 +9,7 @@ ghost use Rattle.party_due.specs.Actions.{actions};
 use crate::due_call::{DueCall, put_when};
 use history_index::Index;
 use ledger_core::Call;
-use party_phase_two::{is_due_claim, is_due_refund};
+use due_calls::{is_due_claim, is_due_refund};
 use swap_base::{NoMemory, PartyId};
 use swap_digraph::Deal;
 

@@ -15,7 +15,7 @@ ghost use Rattle.party_due.specs.Actions.{actions};
 
 use crate::due_call::{DueCall, put_when};
 use crate::due_key::due_key;
-use book_reading::is_ready;
+use due_calls::is_ready;
 use hashkey_path::Hashkey;
 use history_index::Index;
 use ledger_core::{Call, CallKind, Facts};

@@ -24,7 +24,7 @@ use Rattle.swap_digraph.proofs.Paths.{path_below, path_length}
 use Rattle.swap_laws.proofs.Times.{path_of, path_of_valid}
 use Rattle.ledger_core.proofs.History.{opened_done, of_unlock}
 use Rattle.swap_laws.proofs.Entering.{valid_of_unlock}
-use Rattle.party_phase_two.specs.Unlocks.{key_on, seen_on}
+use Rattle.due_calls.specs.Unlocks.{key_on, seen_on}
 use Rattle.wallet_journal.specs.Layout.{are_below}
 use Rattle.party_machine.specs.Unlocking.{CanPutOnto}
 use Rattle.party_machine.proofs.Good.{valid_of_test}

@@ -14,10 +14,10 @@ use Rattle.history_index.specs.Value.{IndexState}
 use Rattle.swap_rules.specs.Due.{Wallet, due_publishes, due_unlocks, due_claims, due_refunds, extended, first}
 use Rattle.swap_laws.specs.Machine.{noted}
 use Rattle.party_wallet.specs.Value.{signed_in}
-use Rattle.party_phase_two.specs.Unlocks.{key_on, key_from, IsFirstUnlock, IsSeenOn}
-use Rattle.party_phase_two.specs.declared.unlock_due.Base.{Base}
-use Rattle.party_phase_two.specs.declared.unlock_due.Base.TheVariants.{Signed, Own, Onto}
-use Rattle.party_phase_two.specs.declared.unlock_due.UnlockDue.{UnlockDue}
+use Rattle.due_calls.specs.Unlocks.{key_on, key_from, IsFirstUnlock, IsSeenOn}
+use Rattle.due_calls.specs.declared.unlock_due.Base.{Base}
+use Rattle.due_calls.specs.declared.unlock_due.Base.TheVariants.{Signed, Own, Onto}
+use Rattle.due_calls.specs.declared.unlock_due.UnlockDue.{UnlockDue}
 use Rattle.party_wallet.specs.Value.{WalletState}
 use Rattle.party_wallet.specs.Keys.{own_key, onto_key, with_signed}
 use Rattle.party_machine.specs.Wallet.{wallet_of}

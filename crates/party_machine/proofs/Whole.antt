@@ -16,10 +16,10 @@ use Rattle.swap_rules.specs.Due.{extended}
 use Rattle.swap_laws.specs.Machine.{noted}
 use Rattle.party_wallet.specs.Value.{WalletState, signed_in}
 use Rattle.party_wallet.specs.Keys.{own_key, onto_key}
-use Rattle.party_phase_two.specs.Unlocks.{key_on, key_from, IsSeenOn}
-use Rattle.party_phase_two.specs.declared.unlock_due.Base.{Base}
-use Rattle.party_phase_two.specs.declared.unlock_due.Base.TheVariants.{Signed, Own, Onto}
-use Rattle.party_phase_two.specs.declared.unlock_due.UnlockDue.{UnlockDue}
+use Rattle.due_calls.specs.Unlocks.{key_on, key_from, IsSeenOn}
+use Rattle.due_calls.specs.declared.unlock_due.Base.{Base}
+use Rattle.due_calls.specs.declared.unlock_due.Base.TheVariants.{Signed, Own, Onto}
+use Rattle.due_calls.specs.declared.unlock_due.UnlockDue.{UnlockDue}
 use Rattle.wallet_journal.specs.Layout.{are_below}
 use Rattle.party_machine.specs.Wallet.{wallet_of}
 use Rattle.party_machine.specs.Machine.{action_of, noted_for}

@@ -11,8 +11,8 @@ use Rattle.ledger_core.specs.declared.entry.Entry.{Entry}
 use Rattle.ledger_core.specs.History.{opened}
 use Rattle.ledger_core.specs.Book.{Histories}
 use Rattle.party_wallet.specs.Value.{signed_in}
-use Rattle.party_phase_two.specs.Unlocks.{key_from}
-use Rattle.party_phase_two.specs.declared.unlock_due.UnlockDue.{UnlockDue}
+use Rattle.due_calls.specs.Unlocks.{key_from}
+use Rattle.due_calls.specs.declared.unlock_due.UnlockDue.{UnlockDue}
 use Rattle.party_wallet.specs.Value.{WalletState}
 use Rattle.wallet_journal.specs.Layout.{are_below}
 use Rattle.party_machine.specs.Wallet.{wallet_of}

@@ -34,7 +34,7 @@ use crate::signing::hashkey_for;
 use hashkey_path::Hashkey as SignedKey;
 use history_index::{Index, Steps};
 use ledger_core::{Call, EntryList, Facts, Run};
-use party_phase_two::{due_unlock, rest_until};
+use due_calls::{due_unlock, rest_until};
 use party_wallet::Wallet;
 use std::alloc::Global;
 use std::marker::Model;

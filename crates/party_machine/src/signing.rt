@@ -2,7 +2,7 @@
 
 ghost use Rattle.std.specs.Prelude.{◌≡◌, ◌<◌, None, length, IfOk, OnErr, IsSome};
 ghost use Rattle.party_wallet.specs.Value.{signed_in};
-ghost use Rattle.party_phase_two.specs.Unlocks.{IsSeenOn};
+ghost use Rattle.due_calls.specs.Unlocks.{IsSeenOn};
 ghost use Rattle.party_wallet.specs.Keys.{onto_key, with_signed};
 ghost use Rattle.party_machine.specs.Within.{entries_in, IsReady};
 ghost use Rattle.party_machine.specs.Unlocking.{base_key, due_hashkey, opened_key, CanPutOnto};
@@ -13,7 +13,7 @@ ghost use Rattle.party_machine.specs.Wallet.{wallet_of};
 use crate::reading::opened_key;
 use hashkey_path::Hashkey;
 use history_index::Index;
-use party_phase_two::{Base, UnlockDue};
+use due_calls::{Base, UnlockDue};
 use party_wallet::Wallet;
 use std::alloc::Global;
 use swap_base::{LockId, NoMemory, Shared};

@@ -1,4 +1,4 @@
-use Rattle.book_reading.proofs.Openings.{has_lock}
+use Rattle.due_calls.proofs.Openings.{has_lock}
 use Rattle.conduct_check.proofs.past.opened_number.Goals as goal
 
 pub unlocked-requires : goal.unlocked-requires

@@ -1,4 +1,4 @@
-use Rattle.book_reading.proofs.Openings.{has_lock}
+use Rattle.due_calls.proofs.Openings.{has_lock}
 use Rattle.conduct_check.proofs.validity.is_opened_by.Goals as goal
 
 pub opened-requires : goal.opened-requires

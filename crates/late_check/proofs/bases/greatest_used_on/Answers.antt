@@ -1,6 +1,6 @@
 use Rattle.std.proofs.Common.{◌∙◌, ap, option_copied}
 use Rattle.history_index.specs.Value.{IndexState}
-use Rattle.book_reading.proofs.Known.{history_at}
+use Rattle.due_calls.proofs.Known.{history_at}
 use Rattle.late_check.specs.Parts.{greatest_used_in}
 use Rattle.late_check.proofs.bases.greatest_used_on.Goals as goal
 

@@ -1,8 +1,8 @@
 use Rattle.std.proofs.Common.{◌∙◌, ap}
 use Rattle.ledger_core.specs.History.{opened}
 use Rattle.history_index.specs.Value.{IndexState}
-use Rattle.book_reading.proofs.Known.{history_at}
-use Rattle.book_reading.proofs.Openings.{has_lock}
+use Rattle.due_calls.proofs.Known.{history_at}
+use Rattle.due_calls.proofs.Openings.{has_lock}
 use Rattle.late_check.proofs.openings.opened.Goals as goal
 
 pub opened-requires : goal.opened-requires

@@ -4,8 +4,8 @@ use Rattle.history_index.specs.Indexes.{entries_in}
 use Rattle.swap_rules.specs.Due.{extended}
 use Rattle.ledger_core.specs.declared.entry.Entry.{Entry}
 use Rattle.party_wallet.specs.Value.{signed_in}
-use Rattle.party_phase_two.specs.declared.unlock_due.Base.{Base}
-use Rattle.party_phase_two.specs.Unlocks.{key_from}
+use Rattle.due_calls.specs.declared.unlock_due.Base.{Base}
+use Rattle.due_calls.specs.Unlocks.{key_from}
 use Rattle.party_machine.specs.Wallet.{wallet_of}
 use Rattle.party_machine.specs.Unlocking.{opened_key}
 use Rattle.party_due.proofs.Based.{is_signed, seen_below, seen_entries, seen_lock, seen_onto}

@@ -5,7 +5,7 @@ use Rattle.history_index.specs.Indexes.{entries_in}
 use Rattle.swap_rules.specs.Due.{due_unlock_on, due_unlocks}
 use Rattle.sent_keys.proofs.Loops.{flat_more}
 use Rattle.party_wallet.specs.Value.{signed_in}
-use Rattle.party_phase_two.proofs.Unlocking.{not_ready}
+use Rattle.due_calls.proofs.Unlocking.{not_ready}
 use Rattle.party_machine.specs.Wallet.{wallet_of}
 use Rattle.party_due.specs.Actions.{actions}
 use Rattle.party_due.proofs.Based.{nothing_more}

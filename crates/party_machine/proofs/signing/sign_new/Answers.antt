@@ -1,7 +1,7 @@
 use Rattle.std.proofs.Common.{◌<◌, List, length, subst}
 use Rattle.ledger_core.specs.declared.entry.Entry.{Entry}
-use Rattle.party_phase_two.specs.Unlocks.{IsSeenOn}
-use Rattle.book_reading.proofs.Openings.{has_lock}
+use Rattle.due_calls.specs.Unlocks.{IsSeenOn}
+use Rattle.due_calls.proofs.Openings.{has_lock}
 use Rattle.party_machine.specs.Within.{entries_in}
 use Rattle.party_machine.specs.Unlocking.{opened_key, CanPutOnto}
 use Rattle.party_machine.proofs.Known.{one_each, legal_at, history_of}

@@ -1,4 +1,0 @@
-pub mod First
-pub mod Greatest
-pub mod Known
-pub mod Openings

@@ -1,0 +1,11 @@
+pub mod First
+pub mod Greatest
+pub mod Known
+pub mod Openings
+pub mod Publishing
+pub mod Numbers
+pub mod Settling
+pub mod Keys
+pub mod Unlocking
+pub mod Places
+pub mod Resting

@@ -1,0 +1,5 @@
+pub mod Known
+pub mod Publish
+pub mod Unlocks
+pub mod Settling
+pub mod Parts

@@ -1,0 +1,29 @@
+//! What is due for a conforming party, and what is read for it in a book or in what the party knows of one (Herlihy 2018, section 4.2).
+//!
+//! In the first phase it publishes the correct terms on the arcs that leave it, at once where it leads, and else when every arc that enters it is
+//! good. In the second it reveals hashkeys on those arcs, claims where every lock is opened, and takes back what has expired.
+//!
+//! What is read is one `ledger_core::Facts` per arc. Nothing here takes memory, and each answer asks a few questions per arc and lock.
+//!
+//! Read `Party.antt` and `Due.antt` of `swap_rules` first: the contracts cite their definitions; then `specs/Unlocks.antt`.
+#![tactic(auto)]
+
+mod claim;
+mod heights;
+mod locks;
+mod publish;
+mod readings;
+mod refund;
+mod rest;
+mod unlock;
+mod unlock_due;
+
+pub use claim::{due_claim, is_due_claim};
+pub use heights::{height_on, least_expiry, publish_height, ready_height};
+pub use locks::{expiry, is_open, is_triggered, leads};
+pub use publish::{due_publish, has_published, may_publish};
+pub use readings::{is_correct, is_good, is_ready, leads_one, published};
+pub use refund::{due_refund, is_due_refund};
+pub use rest::rest_until;
+pub use unlock::{due_base, due_unlock};
+pub use unlock_due::{Base, UnlockDue};

@@ -1,3 +1,0 @@
-pub mod Unlocks
-pub mod Settling
-pub mod Parts
