@@ -2,7 +2,7 @@
 use Rattle.std.specs.Prelude.{◌≡◌, ℕ, List, [], Ok}
 use Rattle.ledger_core.specs.Book.{IsLegalBook}
 use Rattle.swap_rules.specs.Accepted.{IsAccepted}
-use Rattle.swap_laws.specs.Laws.{FindsNothing, IsTransferred}
+use Rattle.swap_rules.specs.Laws.{FindsNothing, IsTransferred}
 use Rattle.outcome_rules.specs.declared.report.Report.{Report}
 use Rattle.outcome_rules.specs.Report.{conforms_in, report_of}
 use Rattle.outcome_rules.specs.Promises.{AllAreConforming, AllAreWhole, AllHaveRefunds, NoneIsUnderwater, shown_outcome}

@@ -27,7 +27,7 @@ use Rattle.ledger_core.specs.declared.entry.Call.{Call}
 use Rattle.ledger_core.specs.declared.entry.Call.TheVariants.{Unlock}
 use Rattle.swap_rules.specs.Party.{call_by, first_key, key_in}
 use Rattle.swap_rules.specs.Conduct.{is_first_key, extends_with, extends_without, has_seen}
-use Rattle.swap_laws.proofs.Words.{enters, key_parts, same_key-true, leaves}
+use Rattle.swap_rules.proofs.Words.{enters, key_parts, same_key-true, leaves}
 use Rattle.conduct_check.specs.Standing.{is_opened_by, valid_on}
 use Rattle.conduct_check.proofs.Legal.{legal_of}
 

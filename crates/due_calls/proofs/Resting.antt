@@ -5,7 +5,7 @@ use Rattle.std.proofs.lemmas.List.{map-append}
 use Rattle.std.proofs.lemmas.List.Elements.{filter_more}
 use Rattle.escrow_core.specs.Parts.{lesser}
 use Rattle.escrow_core.proofs.Least.{least_of-push}
-use Rattle.swap_laws.specs.Rest.{least_of}
+use Rattle.swap_rules.specs.Rest.{least_of}
 
 -- the next of them counts
 pub counts_on : (p : ℕ → Bool) (f : ℕ → ℕ) (xs : List ℕ) (i : ℕ) (old : Option ℕ) → i < length xs → p (get_or xs i 0) ≡ true

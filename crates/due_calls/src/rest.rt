@@ -2,7 +2,7 @@
 
 ghost use Rattle.std.specs.Prelude.{◌≡◌, ◌<◌, true, map, length};
 ghost use Rattle.swap_digraph.specs.Deal.{IsWellSized};
-ghost use Rattle.swap_laws.specs.Rest.{is_waiting, rest_until};
+ghost use Rattle.swap_rules.specs.Rest.{is_waiting, rest_until};
 ghost use Rattle.due_calls.specs.Known.{AreMadeFor};
 
 use crate::refund::{has_refunded, is_held};

@@ -8,8 +8,8 @@ use Rattle.ledger_core.specs.declared.entry.Entry.{Entry}
 use Rattle.ledger_core.specs.Book.{Histories, history}
 use Rattle.ledger_core.specs.Ledger.{IsAfter}
 use Rattle.ledger_core.specs.Value.{LedgerState}
-use Rattle.swap_laws.specs.Machine.{Begins}
-use Rattle.swap_laws.proofs.Prefixes.{begins_refl, begins_more}
+use Rattle.swap_rules.specs.Machine.{Begins}
+use Rattle.swap_rules.proofs.Prefixes.{begins_refl, begins_more}
 use Rattle.party_machine.specs.Machine.{MachineState, new_machine, learnt}
 use Rattle.ledger_tests.specs.UpTo.{IsLonger, IsUpTo}
 

@@ -2,7 +2,7 @@
 use Rattle.std.specs.Prelude.{◌≡◌, ◌<◌, ℕ, length}
 use Rattle.ledger_core.specs.Book.{history}
 use Rattle.ledger_core.specs.Value.{LedgerState}
-use Rattle.swap_laws.specs.Machine.{Begins}
+use Rattle.swap_rules.specs.Machine.{Begins}
 use Rattle.party_machine.specs.Machine.{MachineState}
 
 -- The same ledger, with no entry less.

@@ -12,7 +12,7 @@ use Rattle.swap_job.specs.declared.job.Role.{Role}
 use Rattle.swap_job.specs.declared.job.Role.TheVariants.{Conforming, Manual}
 use Rattle.swap_job.specs.Step.{CanStep, IsEventOf}
 use Rattle.swap_rules.specs.Accepted.{IsAccepted}
-use Rattle.swap_laws.proofs.Accepted.{accepted_is_well_sized}
+use Rattle.swap_rules.proofs.Accepted.{accepted_is_well_sized}
 use Rattle.party_wallet.specs.Value.{WalletState}
 use Rattle.ledger_core.specs.Book.{Histories}
 use Rattle.swap_rules.specs.Outcome.{IsEnded}

@@ -14,7 +14,7 @@ use Rattle.swap_digraph.specs.declared.deal.Deal.{Deal}
 use Rattle.swap_digraph.specs.Graph.{HasEnds}
 use Rattle.swap_digraph.specs.Deal.{counterparty, party, path_limit, IsWellSized}
 use Rattle.swap_rules.specs.Accepted.{IsAccepted}
-use Rattle.swap_laws.proofs.Accepted.{accepted_is_well_sized}
+use Rattle.swap_rules.proofs.Accepted.{accepted_is_well_sized}
 use Rattle.swap_job.specs.declared.job.Job.{Job}
 use Rattle.swap_job.specs.declared.job.Role.{Role}
 use Rattle.swap_job.specs.declared.job.Role.TheVariants.{Conforming, Manual, Script, Strategy}

@@ -10,8 +10,8 @@ use Rattle.swap_rules.specs.declared.outcome.Outcome.TheVariants.{Underwater, De
 use Rattle.swap_rules.specs.Accepted.{IsAccepted}
 use Rattle.swap_rules.specs.Findings.{findings}
 use Rattle.swap_rules.specs.Outcome.{outcome}
-use Rattle.swap_laws.specs.Laws.{is_against, is_in_name_of, FindsNothing, IsTransferred}
-use Rattle.swap_laws.proofs.Found as found
+use Rattle.swap_rules.specs.Laws.{is_against, is_in_name_of, FindsNothing, IsTransferred}
+use Rattle.swap_rules.proofs.Found as found
 use Rattle.outcome_rules.specs.Report.{conforms_in, outcomes_of}
 use Rattle.outcome_rules.specs.Promises.{AllAreConforming, AllHaveRefunds, NoneIsUnderwater}
 

@@ -6,7 +6,7 @@ use Rattle.ledger_core.specs.Book.{Histories}
 use Rattle.swap_rules.specs.declared.finding.Finding.{Finding}
 use Rattle.swap_rules.specs.declared.outcome.Outcome.{Outcome}
 use Rattle.swap_rules.specs.declared.outcome.Outcome.TheVariants.{Underwater, Deal as WholeDeal}
-use Rattle.swap_laws.specs.Laws.{is_against, is_in_name_of, HasRefunds}
+use Rattle.swap_rules.specs.Laws.{is_against, is_in_name_of, HasRefunds}
 use Rattle.outcome_rules.specs.declared.report.Report.{Report}
 use Rattle.outcome_rules.specs.Report.{conforms_in}
 

@@ -7,7 +7,7 @@ ghost use Rattle.history_index.specs.Indexes.{entries_in, AreIndexes};
 ghost use Rattle.swap_rules.specs.Accepted.{IsAccepted};
 ghost use Rattle.swap_rules.specs.Findings.{findings, findings_of, unfinished};
 ghost use Rattle.swap_rules.specs.Outcome.{outcome};
-ghost use Rattle.swap_laws.specs.Laws.{FindsNothing, IsTransferred};
+ghost use Rattle.swap_rules.specs.Laws.{FindsNothing, IsTransferred};
 ghost use Rattle.outcome_rules.specs.Parts.{unfinished_at};
 ghost use Rattle.outcome_rules.specs.Promises.{AllAreConforming, AllHaveRefunds, NoneIsUnderwater};
 ghost use Rattle.outcome_rules.specs.Report.{conforms_in};

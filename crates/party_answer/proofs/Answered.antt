@@ -17,8 +17,8 @@ use Rattle.swap_job.specs.declared.job.Job.{Job}
 use Rattle.history_index.specs.Indexes.{entries_in}
 use Rattle.swap_rules.specs.Accepted.{IsAccepted}
 use Rattle.swap_rules.specs.Due.{Action}
-use Rattle.swap_laws.specs.Rest.{rest_until, StaysLow}
-use Rattle.swap_laws.proofs.Rest.{rests_below, ticks_make_nothing_due}
+use Rattle.swap_rules.specs.Rest.{rest_until, StaysLow}
+use Rattle.swap_rules.proofs.Rest.{rests_below, ticks_make_nothing_due}
 use Rattle.party_wallet.specs.Value.{signed_in}
 use Rattle.party_wallet.specs.Fits.{wrong_lock}
 use Rattle.party_machine.proofs.Good.{fitting_is_good}

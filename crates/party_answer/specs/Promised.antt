@@ -7,8 +7,8 @@ use Rattle.ledger_core.specs.History.{height}
 use Rattle.ledger_core.specs.Book.{Histories, history, IsLegalBook}
 use Rattle.swap_rules.specs.Accepted.{IsAccepted}
 use Rattle.swap_rules.specs.Due.{Action, due}
-use Rattle.swap_laws.specs.Machine.{IsWallet}
-use Rattle.swap_laws.specs.Rest.{are_ticks, rest_until}
+use Rattle.swap_rules.specs.Machine.{IsWallet}
+use Rattle.swap_rules.specs.Rest.{are_ticks, rest_until}
 use Rattle.party_wallet.specs.Value.{signed_in}
 use Rattle.wallet_promise.specs.Life.{Answer, Make, Keep, MayGo, MayKeep}
 use Rattle.wallet_promise.specs.Answers.{answers, was_sent}

@@ -4,7 +4,7 @@ use Rattle.std.specs.List.{flat_map}
 use Rattle.swap_base.specs.Fault.{◌>>=◌}
 use Rattle.swap_digraph.specs.Graph.{is_among}
 use Rattle.swap_rules.specs.Due.{Action, Wallet, due}
-use Rattle.swap_laws.specs.Rest.{rest_until}
+use Rattle.swap_rules.specs.Rest.{rest_until}
 use Rattle.party_wallet.specs.Value.{signed_in}
 use Rattle.party_machine.specs.Wallet.{wallet_of}
 use Rattle.transcript_lines.specs.Between.{spaced}

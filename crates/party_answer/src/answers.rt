@@ -6,7 +6,7 @@ ghost use Rattle.swap_digraph.specs.Deal.{IsWellSized};
 ghost use Rattle.swap_digraph.specs.Graph.{is_among};
 ghost use Rattle.history_index.specs.Indexes.{entries_in, AreIndexes};
 ghost use Rattle.swap_rules.specs.Due.{Action};
-ghost use Rattle.swap_laws.specs.Rest.{rest_until};
+ghost use Rattle.swap_rules.specs.Rest.{rest_until};
 ghost use Rattle.party_wallet.specs.Value.{signed_in};
 ghost use Rattle.party_due.specs.Actions.{action_of, actions};
 ghost use Rattle.transcript_lines.specs.Between.{spaced};

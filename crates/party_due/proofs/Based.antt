@@ -18,7 +18,7 @@ use Rattle.history_index.specs.Value.{IndexState}
 use Rattle.history_index.specs.Indexes.{entries_in, AreIndexes}
 use Rattle.swap_rules.specs.Party.{is_ready, opens_without}
 use Rattle.swap_rules.specs.Due.{Wallet, Action, due_key, due_unlock_on, extended, has_called, is_unlock_for, may_unlock, presented, when_due}
-use Rattle.swap_laws.proofs.Words.{leaves}
+use Rattle.swap_rules.proofs.Words.{leaves}
 use Rattle.due_calls.proofs.Openings.{has_lock}
 use Rattle.due_calls.specs.declared.unlock_due.Base.{Base}
 use Rattle.due_calls.specs.declared.unlock_due.Base.TheVariants.{Signed, Own, Onto}

@@ -13,8 +13,8 @@ use Rattle.ledger_core.specs.History.{opened, IsLegal}
 use Rattle.ledger_core.specs.Book.{Histories, history}
 use Rattle.swap_rules.specs.Party.{key_without, first_seen_key}
 use Rattle.swap_rules.specs.Due.{Wallet, Action, seen_key, extended, due_key, presented, may_unlock, due_unlock_on, due_unlocks, first}
-use Rattle.swap_laws.proofs.Prefixes.{from_flat_map}
-use Rattle.swap_laws.proofs.Words.{leaves, key_without_parts}
+use Rattle.swap_rules.proofs.Prefixes.{from_flat_map}
+use Rattle.swap_rules.proofs.Words.{leaves, key_without_parts}
 use Rattle.ledger_core.proofs.History.{opened_done}
 
 first_in : (xs : List Action) (x : Action) → first xs ≡ Some x → IsIn x xs

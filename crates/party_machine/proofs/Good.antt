@@ -19,8 +19,8 @@ use Rattle.hashkey_path.specs.Signed.{suffix_signature, leaders_key, extended_ke
 use Rattle.hashkey_path.proofs.Validity.{valid_from, to_valid}
 use Rattle.hashkey_path.proofs.Signed.{first_is_valid, extended_is_valid, leads_on}
 use Rattle.hashkey_path.proofs.Answered.{says_valid, valid_answer}
-use Rattle.swap_laws.specs.Machine.{IsGoodKey, IsOwn, IsOnto}
-use Rattle.swap_laws.proofs.Words.{bytes_eq-true, bytes_eq-refl, same_key-refl, enters, leaves}
+use Rattle.swap_rules.specs.Machine.{IsGoodKey, IsOwn, IsOnto}
+use Rattle.swap_rules.proofs.Words.{bytes_eq-true, bytes_eq-refl, same_key-refl, enters, leaves}
 use Rattle.party_wallet.specs.Keys.{bare_key, own_key, onto_key}
 use Rattle.party_wallet.specs.Fits.{has_key, opens_own, fits_lock, wrong_lock}
 use Rattle.party_machine.specs.Law.{FittingIsGood}

@@ -19,9 +19,9 @@ use Rattle.history_index.specs.Value.{IndexState, new_index, IsSameArc}
 use Rattle.history_index.specs.Numbers.{IsIndexable}
 use Rattle.history_index.proofs.Legal.{front_indexable}
 use Rattle.swap_rules.specs.Accepted.{IsAccepted}
-use Rattle.swap_laws.specs.Machine.{IsWallet}
-use Rattle.swap_laws.proofs.Prefixes.{same_or_not}
-use Rattle.swap_laws.proofs.Conducting.{history_same, history_other}
+use Rattle.swap_rules.specs.Machine.{IsWallet}
+use Rattle.swap_rules.proofs.Prefixes.{same_or_not}
+use Rattle.swap_rules.proofs.Conducting.{history_same, history_other}
 use Rattle.party_wallet.specs.Value.{WalletState, signed_in}
 use Rattle.party_wallet.specs.Keys.{new_wallet, with_recorded}
 use Rattle.party_machine.specs.Wallet.{wallet_of}

@@ -19,11 +19,11 @@ use Rattle.escrow_core.specs.Terms.{hashlock_in}
 use Rattle.ledger_core.specs.History.{Opening, opened, IsLegal}
 use Rattle.ledger_core.specs.Book.{Histories, history}
 use Rattle.swap_rules.specs.Party.{opens_without}
-use Rattle.swap_laws.proofs.Words.{leaves}
+use Rattle.swap_rules.proofs.Words.{leaves}
 use Rattle.swap_digraph.proofs.Paths.{path_below, path_length}
-use Rattle.swap_laws.proofs.Times.{path_of, path_of_valid}
+use Rattle.swap_rules.proofs.Times.{path_of, path_of_valid}
 use Rattle.ledger_core.proofs.History.{opened_done, of_unlock}
-use Rattle.swap_laws.proofs.Entering.{valid_of_unlock}
+use Rattle.swap_rules.proofs.Entering.{valid_of_unlock}
 use Rattle.due_calls.specs.Unlocks.{key_on, seen_on}
 use Rattle.wallet_journal.specs.Layout.{are_below}
 use Rattle.party_machine.specs.Unlocking.{CanPutOnto}

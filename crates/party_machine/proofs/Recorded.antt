@@ -10,7 +10,7 @@ use Rattle.swap_digraph.specs.Deal.{path_limit_of}
 use Rattle.hashkey_path.specs.declared.hashkey.Hashkey.{Hashkey}
 use Rattle.ledger_core.specs.declared.entry.Call.{Call}
 use Rattle.ledger_core.specs.declared.entry.Call.TheVariants.{Publish, Unlock, Claim, Refund, Transfer}
-use Rattle.swap_laws.specs.Machine.{noted}
+use Rattle.swap_rules.specs.Machine.{noted}
 use Rattle.party_wallet.specs.Value.{signed_in}
 use Rattle.wallet_journal.specs.Device.{LeavesOnly}
 use Rattle.wallet_journal.specs.Layout.{recorded}

@@ -22,8 +22,8 @@ use Rattle.ledger_core.specs.Book.{Histories, history}
 use Rattle.history_index.specs.Value.{IndexState}
 use Rattle.swap_rules.specs.Party.{least_expiry}
 use Rattle.swap_rules.specs.Due.{Action, due, first}
-use Rattle.swap_laws.specs.Rest.{are_ticks, is_ticking, rest_until}
-use Rattle.swap_laws.proofs.Rest.{reads, same_waiting, same_expiry, rests_below, ticks_make_nothing_due}
+use Rattle.swap_rules.specs.Rest.{are_ticks, is_ticking, rest_until}
+use Rattle.swap_rules.proofs.Rest.{reads, same_waiting, same_expiry, rests_below, ticks_make_nothing_due}
 use Rattle.party_wallet.specs.Value.{signed_in}
 use Rattle.party_wallet.specs.Value.{WalletState}
 use Rattle.party_machine.specs.Wallet.{wallet_of}

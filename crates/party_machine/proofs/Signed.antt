@@ -9,8 +9,8 @@ use Rattle.swap_digraph.specs.declared.deal.Deal.{Deal}
 use Rattle.hashkey_path.specs.declared.hashkey.Hashkey.{Hashkey}
 use Rattle.ledger_core.specs.declared.entry.Call.TheVariants.{Unlock}
 use Rattle.history_index.specs.Value.{IndexState}
-use Rattle.swap_laws.specs.Machine.{noted}
-use Rattle.swap_laws.proofs.Prefixes.{same_or_not}
+use Rattle.swap_rules.specs.Machine.{noted}
+use Rattle.swap_rules.proofs.Prefixes.{same_or_not}
 use Rattle.party_wallet.specs.Value.{signed_in}
 use Rattle.party_wallet.specs.Value.{WalletState}
 use Rattle.party_wallet.specs.Keys.{with_signed}

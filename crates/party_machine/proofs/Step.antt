@@ -12,7 +12,7 @@ use Rattle.ledger_core.specs.declared.entry.Call.{Call}
 use Rattle.ledger_core.specs.declared.entry.Call.TheVariants.{Unlock}
 use Rattle.history_index.specs.Value.{IndexState}
 use Rattle.swap_rules.specs.Due.{Wallet, due_publishes, due_unlocks, due_claims, due_refunds, extended, first}
-use Rattle.swap_laws.specs.Machine.{noted}
+use Rattle.swap_rules.specs.Machine.{noted}
 use Rattle.party_wallet.specs.Value.{signed_in}
 use Rattle.due_calls.specs.Unlocks.{key_on, key_from, IsFirstUnlock, IsSeenOn}
 use Rattle.due_calls.specs.declared.unlock_due.Base.{Base}

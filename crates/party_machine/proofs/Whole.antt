@@ -13,7 +13,7 @@ use Rattle.ledger_core.specs.declared.entry.Call.{Call}
 use Rattle.ledger_core.specs.declared.entry.Call.TheVariants.{Publish, Unlock, Claim, Refund, Transfer}
 use Rattle.history_index.specs.Value.{IndexState}
 use Rattle.swap_rules.specs.Due.{extended}
-use Rattle.swap_laws.specs.Machine.{noted}
+use Rattle.swap_rules.specs.Machine.{noted}
 use Rattle.party_wallet.specs.Value.{WalletState, signed_in}
 use Rattle.party_wallet.specs.Keys.{own_key, onto_key}
 use Rattle.due_calls.specs.Unlocks.{key_on, key_from, IsSeenOn}

@@ -2,7 +2,7 @@
 use Rattle.std.specs.Prelude.{◌≡◌, ℕ, ◌<◌, List, None}
 use Rattle.swap_digraph.specs.declared.deal.Deal.{Deal}
 use Rattle.swap_rules.specs.Accepted.{IsAccepted}
-use Rattle.swap_laws.specs.Machine.{IsWallet}
+use Rattle.swap_rules.specs.Machine.{IsWallet}
 use Rattle.party_machine.specs.Wallet.{wallet_of}
 use Rattle.party_wallet.specs.Fits.{wrong_lock}
 

@@ -4,7 +4,7 @@ use Rattle.swap_base.specs.Lists.{IsIn}
 use Rattle.swap_digraph.specs.Graph.{leaving}
 use Rattle.ledger_core.specs.Book.{history}
 use Rattle.swap_rules.specs.Party.{least_expiry}
-use Rattle.swap_laws.specs.Rest.{is_waiting}
+use Rattle.swap_rules.specs.Rest.{is_waiting}
 use Rattle.party_machine.specs.Machine.{MachineState, next_of}
 use Rattle.party_machine.specs.declared.rest.Rest.{Rest}
 use Rattle.party_machine.specs.declared.rest.Rest.TheVariants.{Awake, Until}

@@ -10,7 +10,7 @@ ghost use Rattle.ledger_core.specs.History.{IsLegal};
 ghost use Rattle.ledger_core.specs.Runs.{ticks_of, IsRightRun};
 ghost use Rattle.history_index.specs.Value.{new_index, IsSameArc};
 ghost use Rattle.swap_rules.specs.Accepted.{IsAccepted};
-ghost use Rattle.swap_laws.specs.Machine.{IsWallet};
+ghost use Rattle.swap_rules.specs.Machine.{IsWallet};
 ghost use Rattle.party_wallet.specs.Value.{signed_in};
 ghost use Rattle.party_wallet.specs.Keys.{new_wallet};
 ghost use Rattle.party_machine.specs.Wallet.{wallet_of};

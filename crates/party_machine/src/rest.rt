@@ -1,7 +1,7 @@
 //! How long a machine rests that has nothing to do.
 
 ghost use Rattle.std.specs.Prelude.{◌≡◌};
-ghost use Rattle.swap_laws.specs.Rest.{are_ticks};
+ghost use Rattle.swap_rules.specs.Rest.{are_ticks};
 ghost use Rattle.party_machine.specs.Rest.{rest_after};
 
 use ledger_core::EntryList;

@@ -5,7 +5,7 @@ use Rattle.std.proofs.Common.{eq-eqb, ne_eqb, ◌==◌, ◌||◌}
 use Rattle.std.proofs.lemmas.Option.{none-some, same_Some, slice_get-map, slice_get-get_or}
 use Rattle.std.proofs.lemmas.List.{length-set, length-map, get_or-set_same, get_or-set_other}
 use Rattle.swap_base.proofs.Lists.{or-right}
-use Rattle.swap_laws.proofs.Prefixes.{same_or_not}
+use Rattle.swap_rules.proofs.Prefixes.{same_or_not}
 use Rattle.atomic_table.specs.Seated.{TableId}
 use Rattle.swap_digraph.specs.declared.deal.Deal.{Deal}
 use Rattle.swap_digraph.specs.Deal.{party, counterparty, touches, IsWellSized}
@@ -13,7 +13,7 @@ use Rattle.ledger_core.specs.declared.entry.Entry.{Entry}
 use Rattle.ledger_core.specs.History.{sent_by, IsLegal}
 use Rattle.ledger_core.specs.Value.{LedgerState}
 use Rattle.ledger_shared.specs.Value.{PassState, ClockState, SharedState, made_by, pass_at, clock_at, Closes, ClosesClock}
-use Rattle.swap_laws.specs.Machine.{Knows}
+use Rattle.swap_rules.specs.Machine.{Knows}
 use Rattle.swap_world.specs.Inside.{IsLedgerOf}
 use Rattle.party_threads.specs.declared.turn.Actor.{Actor}
 use Rattle.party_threads.specs.declared.turn.Turn.{Turn}

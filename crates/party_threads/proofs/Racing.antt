@@ -16,11 +16,11 @@ use Rattle.ledger_core.specs.Book.{Histories, history, IsLegalBook}
 use Rattle.ledger_shared.specs.Value.{made_by, ticks_in_order}
 use Rattle.swap_rules.specs.Conduct.{IsConducted}
 use Rattle.swap_rules.specs.Due.{due}
-use Rattle.swap_laws.specs.Machine.{Begins, Knows}
-use Rattle.swap_laws.specs.Rounds.{IsRounds, IsTurn, IsDoneBy, IsRaceTurn, book_at}
-use Rattle.swap_laws.specs.Rounds as laws
-use Rattle.swap_laws.proofs.Rounds.{rounds_in_time, rounds_on_time}
-use Rattle.swap_laws.proofs.Dealing.{all_dealt}
+use Rattle.swap_rules.specs.Machine.{Begins, Knows}
+use Rattle.swap_rules.specs.Rounds.{IsRounds, IsTurn, IsDoneBy, IsRaceTurn, book_at}
+use Rattle.swap_rules.specs.Rounds as laws
+use Rattle.swap_rules.proofs.Rounds.{rounds_in_time, rounds_on_time}
+use Rattle.swap_rules.proofs.Dealing.{all_dealt}
 use Rattle.party_wallet.specs.Value.{signed_in}
 use Rattle.swap_run.specs.Run.{Cast, State, conforms, role_of, is_planned, notes_of, start}
 use Rattle.swap_run.specs.Laws.{IsReadyCast, IsGood}

@@ -21,12 +21,12 @@ use Rattle.swap_rules.specs.Party.{call_by, key_in, first_key, key_without}
 use Rattle.swap_rules.specs.Conduct.{has_seen, has_origin, carries, extends_without, is_alone}
 use Rattle.swap_rules.specs.Due.{Wallet, seen_key, extended, due_key, presented, may_unlock, due_unlock_on, due_publishes, due_unlocks, due_claims}
 use Rattle.swap_rules.specs.Due.{due_refunds, due}
-use Rattle.swap_laws.specs.Machine.{IsSound}
-use Rattle.swap_laws.proofs.Words.{append_empty, leaves, key_parts}
-use Rattle.swap_laws.proofs.Times.{no_path}
-use Rattle.swap_laws.proofs.Prefixes.{in_any}
-use Rattle.swap_laws.proofs.SafeHashkeys.{longer, extended_without}
-use Rattle.swap_laws.proofs.Rounds.{nothing_due, opened_key}
+use Rattle.swap_rules.specs.Machine.{IsSound}
+use Rattle.swap_rules.proofs.Words.{append_empty, leaves, key_parts}
+use Rattle.swap_rules.proofs.Times.{no_path}
+use Rattle.swap_rules.proofs.Prefixes.{in_any}
+use Rattle.swap_rules.proofs.SafeHashkeys.{longer, extended_without}
+use Rattle.swap_rules.proofs.Rounds.{nothing_due, opened_key}
 use Rattle.party_threads.specs.Race.{RestShowsInCalls}
 
 -- Empty parts.

@@ -24,11 +24,11 @@ use Rattle.party_wallet.specs.Value.{signed_in}
 use Rattle.party_machine.specs.Machine.{MachineState}
 use Rattle.party_machine.specs.Wallet.{wallet_of}
 use Rattle.swap_rules.specs.Due.{due, first}
-use Rattle.swap_laws.specs.Machine.{Begins, Knows, IsSound}
-use Rattle.swap_laws.specs.Rounds.{IsNear}
-use Rattle.swap_laws.proofs.Conducting.{knows_all}
-use Rattle.swap_laws.proofs.Prefixes.{begins_refl, begins_more}
-use Rattle.swap_laws.proofs.Growth.{Grows}
+use Rattle.swap_rules.specs.Machine.{Begins, Knows, IsSound}
+use Rattle.swap_rules.specs.Rounds.{IsNear}
+use Rattle.swap_rules.proofs.Conducting.{knows_all}
+use Rattle.swap_rules.proofs.Prefixes.{begins_refl, begins_more}
+use Rattle.swap_rules.proofs.Growth.{Grows}
 use Rattle.swap_run.specs.Run.{Notes, Plan, State, conforms, is_planned, notes_of, plan_of, next_of}
 use Rattle.swap_job.specs.declared.job.Role.{Role}
 use Rattle.race_turns.specs.Played.{Gives, calls_by, answer_on, IsAnswered}

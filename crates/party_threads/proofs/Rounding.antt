@@ -17,7 +17,7 @@ use Rattle.ledger_core.specs.History.{height, sent_by, IsLegal, IsLegalEntry, Is
 use Rattle.ledger_core.specs.Ledger.{tick_entry}
 use Rattle.ledger_core.specs.Value.{LedgerState}
 use Rattle.ledger_shared.specs.Value.{PassState, ClockState, made_by, ticks_in_order, clock_mine, Closes, ClosesClock}
-use Rattle.swap_laws.specs.Machine.{Begins, Knows}
+use Rattle.swap_rules.specs.Machine.{Begins, Knows}
 use Rattle.race_turns.specs.Ticks.{HasTickedOnce}
 use Rattle.race_turns.specs.Played.{calls_by}
 use Rattle.race_turns.proofs.Calls.{none_passes, others_add_none}

@@ -5,7 +5,7 @@ use Rattle.std.proofs.lemmas.Option.{none-some, same_Some, slice_get-map, slice_
 use Rattle.std.proofs.lemmas.List.{length-map, get_or-map}
 use Rattle.std.proofs.lemmas.List.FromFn.{get_or-map-range_with_len}
 use Rattle.swap_base.proofs.Lists.{bool_or}
-use Rattle.swap_laws.proofs.Prefixes.{same_or_not}
+use Rattle.swap_rules.proofs.Prefixes.{same_or_not}
 use Rattle.atomic_table.specs.Seated.{TableId}
 use Rattle.swap_digraph.specs.declared.deal.Deal.{Deal}
 use Rattle.swap_digraph.specs.declared.deal.Version.{Version}
@@ -21,12 +21,12 @@ use Rattle.swap_job.specs.declared.job.Job.{Job}
 use Rattle.party_wallet.specs.Value.{signed_in}
 use Rattle.party_machine.specs.Machine.{MachineState}
 use Rattle.party_machine.specs.Wallet.{wallet_of}
-use Rattle.swap_laws.specs.Machine.{IsWallet, IsSound, Knows}
-use Rattle.swap_laws.proofs.Conducting.{knows_all}
+use Rattle.swap_rules.specs.Machine.{IsWallet, IsSound, Knows}
+use Rattle.swap_rules.proofs.Conducting.{knows_all}
 use Rattle.swap_run.specs.Run.{Notes, Plan, notes_of, plan_of}
 use Rattle.swap_run.specs.Laws.{AreGoodNotes, IsGoodPlan}
 use Rattle.swap_run.proofs.Plans.{plan_view}
-use Rattle.swap_laws.proofs.Accepted.{accepted_is_well_sized}
+use Rattle.swap_rules.proofs.Accepted.{accepted_is_well_sized}
 use Rattle.party_plan.specs.Shown.{IsShown}
 use Rattle.swap_world.specs.Cast.{cast_of, wallet_with}
 use Rattle.swap_world.specs.Inside.{IsLedgerOf}

@@ -13,8 +13,8 @@ use Rattle.swap_job.specs.declared.job.Role.{Role}
 use Rattle.swap_job.specs.declared.job.Role.TheVariants as kinds
 use Rattle.party_wallet.specs.Fits.{wrong_lock}
 use Rattle.swap_rules.specs.Accepted.{IsAccepted}
-use Rattle.swap_laws.specs.Machine.{IsWallet}
-use Rattle.swap_laws.proofs.Conducting.{knows_all}
+use Rattle.swap_rules.specs.Machine.{IsWallet}
+use Rattle.swap_rules.proofs.Conducting.{knows_all}
 use Rattle.swap_run.specs.Run.{Notes, Plan, State, no_notes, no_histories, first_plan, is_planned, start}
 use Rattle.swap_run.specs.Laws.{IsReadyCast, IsGood}
 use Rattle.swap_run.proofs.Good.{start_is_good, replicated}

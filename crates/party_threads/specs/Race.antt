@@ -20,10 +20,10 @@ use Rattle.swap_rules.specs.declared.finding.Rule.{Rule}
 use Rattle.swap_rules.specs.Conduct.{IsConducted}
 use Rattle.swap_rules.specs.Late.{ref_of}
 use Rattle.swap_rules.specs.Findings.{rules_of}
-use Rattle.swap_laws.specs.Machine.{Begins, IsSound}
-use Rattle.swap_laws.specs.Laws.{IsOnTime, IsDealt}
-use Rattle.swap_laws.specs.Rounds.{IsNear, IsDoneBy}
-use Rattle.swap_laws.specs.Rounds as laws
+use Rattle.swap_rules.specs.Machine.{Begins, IsSound}
+use Rattle.swap_rules.specs.Laws.{IsOnTime, IsDealt}
+use Rattle.swap_rules.specs.Rounds.{IsNear, IsDoneBy}
+use Rattle.swap_rules.specs.Rounds as laws
 use Rattle.swap_run.specs.Run.{Cast, State, conforms, role_of, is_planned, notes_of, next_of, start}
 use Rattle.swap_run.specs.Laws.{IsReadyCast, IsGood}
 use Rattle.swap_run.specs.Fair.{the_horizon}

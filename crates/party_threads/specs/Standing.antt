@@ -11,7 +11,7 @@ use Rattle.swap_job.specs.declared.job.Job.{Job}
 use Rattle.swap_job.specs.declared.job.Role.{Role}
 use Rattle.swap_job.specs.declared.job.Role.TheVariants as kinds
 use Rattle.swap_run.specs.Run.{Notes, Plan, State, no_notes, first_plan, is_planned}
-use Rattle.swap_laws.specs.Machine.{Knows}
+use Rattle.swap_rules.specs.Machine.{Knows}
 use Rattle.swap_run.specs.Laws.{IsReadyCast, IsGood}
 use Rattle.swap_world.specs.Cast.{cast_of}
 use Rattle.swap_world.specs.Staff.{role_in}

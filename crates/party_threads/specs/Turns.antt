@@ -7,7 +7,7 @@ use Rattle.ledger_core.specs.declared.entry.Entry.{Entry}
 use Rattle.ledger_core.specs.Value.{LedgerState}
 use Rattle.ledger_core.specs.Book.{history}
 use Rattle.ledger_shared.specs.Value.{PassState, ClockState, pass_at, clock_at, Closes, ClosesClock}
-use Rattle.swap_laws.specs.Machine.{Knows}
+use Rattle.swap_rules.specs.Machine.{Knows}
 use Rattle.swap_world.specs.Inside.{IsLedgerOf}
 use Rattle.party_threads.specs.declared.turn.Actor.{Actor}
 use Rattle.party_threads.specs.declared.turn.Actor.TheVariants.{Conforming, Planned, Manual, Clock}

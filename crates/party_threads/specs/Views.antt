@@ -10,7 +10,7 @@ use Rattle.swap_job.specs.declared.job.Role.TheVariants.{Conforming, Manual, Scr
 use Rattle.deviators.specs.Script.{next_call, moves_left}
 use Rattle.deviators.specs.View.{IsView, MayAnswer}
 use Rattle.swap_job.specs.Fitting.{is_near}
-use Rattle.swap_laws.specs.Machine.{Begins}
+use Rattle.swap_rules.specs.Machine.{Begins}
 use Rattle.swap_run.specs.Run.{Cast, State, plan_of, role_of}
 use Rattle.race_turns.specs.Played.{Gives, calls_by, answer_on, IsAnswered}
 

@@ -12,7 +12,7 @@ use Rattle.ledger_shared.specs.Value.{PassState, SharedState}
 use Rattle.party_wallet.specs.Value.{signed_in}
 use Rattle.party_machine.specs.Machine.{MachineState, action_of, next_of, noted_for, IsOfSame}
 use Rattle.swap_rules.specs.Due.{Action}
-use Rattle.swap_laws.specs.Machine.{noted}
+use Rattle.swap_rules.specs.Machine.{noted}
 use Rattle.swap_run.specs.Fair.{most_acts}
 use Rattle.swap_run.proofs.Slots.{left, left_most}
 use Rattle.race_turns.specs.Able.{watcher, machine_with, IsAble, IsMakable, IsSameOwner}

@@ -7,7 +7,7 @@ use Rattle.std.proofs.lemmas.Bool.{lt-leb}
 use mathlib.Core.List.{IsPrefix}
 use Rattle.swap_base.specs.Lists.{IsIn}
 use Rattle.swap_base.proofs.Lists.{moment_from_in, at_moment, all_moments_front, below_or}
-use Rattle.swap_laws.proofs.Prefixes.{same_or_not}
+use Rattle.swap_rules.proofs.Prefixes.{same_or_not}
 use Rattle.std.proofs.lemmas.List.{length-set, get_or-set_same, get_or-set_other}
 use Rattle.std.proofs.Math.ListN.{get_or-eq_default}
 use Rattle.swap_digraph.specs.declared.deal.Deal.{Deal}

@@ -9,8 +9,8 @@ use Rattle.ledger_core.specs.declared.entry.Entry.{Entry}
 use Rattle.ledger_core.specs.History.{sent_by, IsLegal}
 use Rattle.ledger_core.specs.Book.{history}
 use Rattle.ledger_shared.specs.Value.{PassState, SharedState, made_by}
-use Rattle.swap_laws.proofs.Prefixes.{same_or_not}
-use Rattle.swap_laws.proofs.Conducting.{history_same, history_other}
+use Rattle.swap_rules.proofs.Prefixes.{same_or_not}
+use Rattle.swap_rules.proofs.Conducting.{history_same, history_other}
 use Rattle.race_turns.specs.Later.{pass_in, WentOn, HaveGoneOn}
 use Rattle.race_turns.specs.Tracks.{Watcher, knowing, Tracks, HaveSeenAll, IsSameElsewhere, HasLooked, LookedIf}
 use Rattle.race_turns.specs.Played.{IsFresh, HaveFresh}

@@ -13,12 +13,12 @@ use Rattle.party_wallet.specs.Value.{signed_in}
 use Rattle.party_machine.specs.Wallet.{wallet_of}
 use Rattle.party_machine.specs.Machine.{MachineState, next_of}
 use Rattle.swap_rules.specs.Due.{Action, first}
-use Rattle.swap_laws.specs.Machine.{IsSound, noted, entry_of, test_of}
-use Rattle.swap_laws.proofs.Machines.{learn_sound, call_sound}
-use Rattle.swap_laws.proofs.Due.{IsDue, is_due, due_is_valid}
-use Rattle.swap_laws.proofs.Conducting.{knows_all, history_same}
-use Rattle.swap_laws.proofs.Prefixes.{begins_refl}
-use Rattle.swap_laws.proofs.Room.{rules_leave_room}
+use Rattle.swap_rules.specs.Machine.{IsSound, noted, entry_of, test_of}
+use Rattle.swap_rules.proofs.Machines.{learn_sound, call_sound}
+use Rattle.swap_rules.proofs.Due.{IsDue, is_due, due_is_valid}
+use Rattle.swap_rules.proofs.Conducting.{knows_all, history_same}
+use Rattle.swap_rules.proofs.Prefixes.{begins_refl}
+use Rattle.swap_rules.proofs.Room.{rules_leave_room}
 use Rattle.swap_run.proofs.Entries.{call_pushes}
 use Rattle.swap_run.proofs.Slots.{left, left_less}
 use Rattle.race_turns.specs.Able.{watcher, machine_with, IsAble, IsMakable, IsSameOwner}

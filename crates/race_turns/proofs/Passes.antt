@@ -8,8 +8,8 @@ use Rattle.atomic_table.specs.Seated.{TableId}
 use Rattle.ledger_core.specs.declared.entry.Entry.{Entry}
 use Rattle.ledger_core.specs.Book.{Histories, history}
 use Rattle.ledger_shared.specs.Value.{PassState, SharedState, with_seen}
-use Rattle.swap_laws.proofs.Prefixes.{same_or_not}
-use Rattle.swap_laws.proofs.Conducting.{history_same, history_other}
+use Rattle.swap_rules.proofs.Prefixes.{same_or_not}
+use Rattle.swap_rules.proofs.Conducting.{history_same, history_other}
 use Rattle.race_turns.specs.Later.{IsLater, pass_in, WentOn, HaveGoneOn}
 use Rattle.race_turns.specs.Tracks.{Watcher, knowing, IsPassOf, Tracks, HaveSeenAll, IsSameElsewhere, IsPlaceOf}
 

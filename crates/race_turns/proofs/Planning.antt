@@ -20,9 +20,9 @@ use Rattle.swap_job.specs.declared.job.Role.TheVariants.{Conforming, Manual, Scr
 use Rattle.swap_job.specs.Crafted.{Seeds}
 use Rattle.deviators.specs.Script.{next_call as script_call, moves_left}
 use Rattle.deviators.specs.View.{IsView, IsAnswerOf, MayAnswer}
-use Rattle.swap_laws.specs.Machine.{Begins}
-use Rattle.swap_laws.proofs.Prefixes.{same_or_not}
-use Rattle.swap_laws.proofs.Conducting.{Next, next_call, next_legal, next_begins, history_same, history_other}
+use Rattle.swap_rules.specs.Machine.{Begins}
+use Rattle.swap_rules.proofs.Prefixes.{same_or_not}
+use Rattle.swap_rules.proofs.Conducting.{Next, next_call, next_legal, next_begins, history_same, history_other}
 use Rattle.swap_run.specs.Run.{Plan, plan_up_to}
 use Rattle.race_turns.specs.Later.{pass_in, WentOn, HaveGoneOn}
 use Rattle.race_turns.specs.Tracks.{Watcher, Tracks, HaveSeenAll, HasItsPasses, IsPlaceOf, HasMade, MadeIf, LookedIf}

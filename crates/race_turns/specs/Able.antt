@@ -10,7 +10,7 @@ use Rattle.party_machine.specs.Machine.{MachineState}
 use Rattle.party_machine.specs.Wallet.{wallet_of}
 use Rattle.swap_rules.specs.Accepted.{IsAccepted}
 use Rattle.swap_rules.specs.Due.{Action}
-use Rattle.swap_laws.specs.Machine.{IsWallet, IsSound}
+use Rattle.swap_rules.specs.Machine.{IsWallet, IsSound}
 use Rattle.race_turns.specs.Tracks.{Watcher}
 
 -- the party of a machine, with what it knows

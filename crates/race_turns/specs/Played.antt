@@ -13,7 +13,7 @@ use Rattle.swap_job.specs.Crafted.{Seeds}
 use Rattle.deviators.specs.Script.{next_call, moves_left}
 use Rattle.deviators.specs.View.{IsView, MayAnswer}
 use Rattle.swap_rules.specs.Party.{call_by}
-use Rattle.swap_laws.specs.Machine.{Begins}
+use Rattle.swap_rules.specs.Machine.{Begins}
 use Rattle.swap_run.specs.Run.{Plan}
 use Rattle.race_turns.specs.Later.{pass_in}
 use Rattle.race_turns.specs.Tracks.{Watcher}

@@ -17,7 +17,7 @@ use Rattle.ledger_core.specs.History.{height, reply_to, reply_to_tick}
 use Rattle.ledger_core.specs.Ledger.{after_call, call_entry, is_sender_full, tick_entry}
 use Rattle.ledger_core.specs.Book.{Histories, history}
 use Rattle.swap_rules.specs.Due.{Action}
-use Rattle.swap_laws.specs.Machine.{noted}
+use Rattle.swap_rules.specs.Machine.{noted}
 use Rattle.swap_job.specs.declared.event.Event.{Event}
 use Rattle.swap_job.specs.declared.event.Event.TheVariants.{Tick, Look, Act, Call as Made, Crash}
 use Rattle.swap_job.specs.declared.job.Finish.{Finish}

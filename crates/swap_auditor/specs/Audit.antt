@@ -11,7 +11,7 @@ use Rattle.ledger_core.specs.declared.entry.What.TheVariants.{Call as Made, Tick
 use Rattle.ledger_core.specs.declared.entry.Entry.{Entry}
 use Rattle.ledger_core.specs.History.{reply_to, reply_to_tick}
 use Rattle.ledger_core.specs.Book.{Histories, history}
-use Rattle.swap_laws.specs.Laws.{AddsUp}
+use Rattle.swap_rules.specs.Laws.{AddsUp}
 use Rattle.outcome_rules.specs.declared.report.Report.{Report}
 use Rattle.outcome_rules.specs.Report.{report_of}
 use Rattle.swap_auditor.specs.declared.replay.BadReply.{BadReply}

@@ -5,7 +5,7 @@ ghost use Rattle.swap_base.specs.Fault.{Gives};
 ghost use Rattle.swap_digraph.specs.Deal.{IsWellSized};
 ghost use Rattle.ledger_core.specs.Book.{IsLegalBook};
 ghost use Rattle.swap_rules.specs.Accepted.{IsAccepted};
-ghost use Rattle.swap_laws.specs.Laws.{FindsNothing, IsTransferred};
+ghost use Rattle.swap_rules.specs.Laws.{FindsNothing, IsTransferred};
 ghost use Rattle.outcome_rules.specs.Promises.{AllAreConforming, AllAreWhole, AllHaveRefunds, NoneIsUnderwater, shown_outcome};
 ghost use Rattle.outcome_rules.specs.Report.{conforms_in};
 ghost use Rattle.swap_auditor.specs.Audit.{audited, replay_from, UnitsAddUp};

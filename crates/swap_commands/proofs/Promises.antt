@@ -13,8 +13,8 @@ use Rattle.swap_rules.specs.declared.finding.Finding.{Finding}
 use Rattle.swap_rules.specs.Accepted.{IsAccepted}
 use Rattle.swap_rules.specs.Findings.{findings}
 use Rattle.swap_rules.specs.Outcome.{IsEnded}
-use Rattle.swap_laws.specs.Laws.{IsDealt}
-use Rattle.swap_laws.proofs.Units as units
+use Rattle.swap_rules.specs.Laws.{IsDealt}
+use Rattle.swap_rules.proofs.Units as units
 use Rattle.swap_run.specs.Run.{State, start, step}
 use Rattle.swap_run.specs.Laws.{IsKept}
 use Rattle.swap_run.specs.Asked.{Answers}

@@ -25,7 +25,7 @@ use Rattle.swap_rules.specs.Conduct.{keeps_at}
 use Rattle.swap_rules.specs.Late.{is_late, ref_of}
 use Rattle.swap_rules.specs.Forged.{is_forged}
 use Rattle.swap_rules.specs.Findings.{broken, failing, findings, findings_of, forgeries, late_on, lates, or_zero, rules_of, unfinished}
-use Rattle.swap_laws.specs.Laws.{IsOnTime}
+use Rattle.swap_rules.specs.Laws.{IsOnTime}
 use Rattle.swap_world.specs.Staff.{HaveSeeds}
 use Rattle.offer_fields.proofs.Chains.{went}
 use Rattle.offer_fields.specs.Fields.{object_of}

@@ -12,7 +12,7 @@ use Rattle.party_threads.specs.Race.{IsRaceBook}
 use Rattle.swap_job.specs.declared.job.Finish.TheVariants.{Fair}
 use Rattle.swap_rules.specs.Accepted.{IsAccepted}
 use Rattle.swap_rules.specs.Outcome.{IsEnded}
-use Rattle.swap_laws.specs.Laws.{IsDealt}
+use Rattle.swap_rules.specs.Laws.{IsDealt}
 use Rattle.swap_run.specs.Run.{State, start}
 use Rattle.swap_run.specs.Laws.{IsKept}
 use Rattle.swap_run.specs.Asked.{Answers}

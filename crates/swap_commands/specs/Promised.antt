@@ -9,7 +9,7 @@ use Rattle.swap_rules.specs.declared.finding.Finding.TheVariants.{Late}
 use Rattle.swap_rules.specs.declared.finding.Rule.{Rule}
 use Rattle.swap_rules.specs.Accepted.{IsAccepted}
 use Rattle.swap_rules.specs.Outcome.{IsEnded}
-use Rattle.swap_laws.specs.Laws.{FindsNothing, IsTransferred}
+use Rattle.swap_rules.specs.Laws.{FindsNothing, IsTransferred}
 use Rattle.swap_run.specs.Laws.{IsKept}
 use Rattle.swap_run.specs.Asked.{Answers}
 use Rattle.swap_world.specs.Cast.{cast_of}

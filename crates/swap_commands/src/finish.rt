@@ -2,7 +2,7 @@
 
 ghost use Rattle.std.specs.Prelude.{◌≡◌, false, OnOk};
 ghost use Rattle.swap_rules.specs.Outcome.{IsEnded};
-ghost use Rattle.swap_laws.specs.Laws.{IsDealt};
+ghost use Rattle.swap_rules.specs.Laws.{IsDealt};
 ghost use Rattle.swap_run.specs.Run.{start};
 ghost use Rattle.swap_world.specs.Cast.{cast_of};
 ghost use Rattle.swap_world.specs.Gone.{HasGone};

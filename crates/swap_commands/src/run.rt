@@ -6,7 +6,7 @@ ghost use Rattle.swap_io.specs.Causes.{AppendsProperPrefix, Rose};
 ghost use Rattle.swap_io.specs.Handed.{AppendsPrefix};
 ghost use Rattle.swap_rules.specs.Accepted.{IsAccepted};
 ghost use Rattle.swap_rules.specs.Outcome.{IsEnded};
-ghost use Rattle.swap_laws.specs.Laws.{IsDealt};
+ghost use Rattle.swap_rules.specs.Laws.{IsDealt};
 ghost use Rattle.ledger_core.specs.Book.{IsLegalBook};
 ghost use Rattle.offer_header.specs.Names.{AreNames, has_strategy};
 ghost use Rattle.offer_text.specs.HeaderLine.{is_make};

@@ -18,8 +18,8 @@ use Rattle.swap_job.specs.declared.job.Role.{Role}
 use Rattle.swap_job.specs.declared.job.Role.TheVariants.{Conforming, Manual, Script, Strategy}
 use Rattle.refusals.specs.declared.reason.Reason.{Reason}
 use Rattle.swap_rules.specs.Due.{Action}
-use Rattle.swap_laws.specs.Machine.{Begins}
-use Rattle.swap_laws.proofs.Prefixes.{begins_more, begins_refl}
+use Rattle.swap_rules.specs.Machine.{Begins}
+use Rattle.swap_rules.proofs.Prefixes.{begins_more, begins_refl}
 use Rattle.swap_run.specs.Asked.{Answers, Rule, is_strategy, IsByRule}
 use Rattle.swap_run.specs.Run.{Cast, Question, State, conforms, role_of, plan_of, look, make, next_of, act, watch, take_call, after_turn, question}
 use Rattle.swap_run.specs.Run.{after_question, answer_for, act_as, step, run_from, run, start}

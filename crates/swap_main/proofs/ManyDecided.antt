@@ -15,8 +15,8 @@ use Rattle.swap_job.specs.declared.job.Role.TheVariants.{Conforming, Manual, Scr
 use Rattle.swap_job.specs.Resolved.{resolved}
 use Rattle.deviators.specs.Script.{next_call, moves_left}
 use Rattle.swap_rules.specs.Due.{Action}
-use Rattle.swap_laws.specs.Machine.{Begins}
-use Rattle.swap_laws.proofs.Prefixes.{begins_more, begins_refl}
+use Rattle.swap_rules.specs.Machine.{Begins}
+use Rattle.swap_rules.proofs.Prefixes.{begins_more, begins_refl}
 use Rattle.swap_run.specs.Asked.{Answers, Rule, with_answers}
 use Rattle.swap_run.specs.Run.{Cast, Question, State, act, act_as, after_question, after_turn, answer_for, conforms, look, make, next_of, plan_of}
 use Rattle.swap_run.specs.Run.{question, role_of, step, take_call, watch}

@@ -12,7 +12,7 @@ use Rattle.ledger_core.specs.Book.{history}
 use Rattle.ledger_core.proofs.History.{not-true}
 use Rattle.swap_job.specs.declared.event.Event.TheVariants.{Look, Act}
 use Rattle.swap_rules.specs.Outcome.{IsEnded}
-use Rattle.swap_laws.proofs.Prefixes.{same_or_not, from_flat_map}
+use Rattle.swap_rules.proofs.Prefixes.{same_or_not, from_flat_map}
 use Rattle.swap_run.specs.Run.{conforms}
 use Rattle.swap_run.specs.Fair.{repeat, adjacent, most_acts, the_horizon}
 use Rattle.swap_run.specs.Laws.{IsGood, IsKept}

@@ -2,8 +2,8 @@
 use Rattle.std.proofs.Common.{append-nil, ◌≡◌, ℕ, ◌+◌, ◌<◌, ◌≤◌, false, cond, length, [], refl, sym, ap₂, subst, arith, eq-eqb}
 use Rattle.swap_digraph.specs.Deal.{amount}
 use Rattle.ledger_core.specs.History.{accounts, held, IsLegal}
-use Rattle.swap_laws.specs.Laws.{AddsUp}
-use Rattle.swap_laws.proofs.Units.{units_are_kept}
+use Rattle.swap_rules.specs.Laws.{AddsUp}
+use Rattle.swap_rules.proofs.Units.{units_are_kept}
 use Rattle.swap_many.specs.Chains.{Setup, chain_of, put, projection, total, opening, free, is_swept, in_accounts}
 use Rattle.swap_many.specs.Many.{Run, many_run}
 use Rattle.swap_many.specs.Kept.{Kept, kept_run}

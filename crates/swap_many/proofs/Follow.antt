@@ -10,7 +10,7 @@ use Rattle.ledger_core.specs.Ledger.{after_call}
 use Rattle.ledger_core.specs.Book.{Histories, history}
 use Rattle.ledger_core.proofs.History.{not-true}
 use Rattle.swap_job.specs.declared.event.Event.{Event}
-use Rattle.swap_laws.proofs.Prefixes.{same_or_not}
+use Rattle.swap_rules.proofs.Prefixes.{same_or_not}
 use Rattle.swap_run.specs.Run.{Cast, State, start, step, no_histories}
 use Rattle.swap_run.specs.Laws.{IsGood}
 use Rattle.swap_run.specs.Fair.{the_horizon}

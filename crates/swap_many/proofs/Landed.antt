@@ -8,8 +8,8 @@ use Rattle.ledger_core.specs.History.{height, reply_to}
 use Rattle.ledger_core.specs.Ledger.{call_entry, is_sender_full, after_call}
 use Rattle.ledger_core.specs.Book.{history}
 use Rattle.ledger_core.proofs.History.{not-true}
-use Rattle.swap_laws.proofs.Prefixes.{same_or_not}
-use Rattle.swap_laws.proofs.Conducting.{history_same, history_other}
+use Rattle.swap_rules.proofs.Prefixes.{same_or_not}
+use Rattle.swap_rules.proofs.Conducting.{history_same, history_other}
 use Rattle.swap_many.specs.declared.many_reply.ManyReply.{ManyReply}
 use Rattle.swap_many.specs.declared.many_reply.ManyReply.TheVariants.{Plain, Swept}
 use Rattle.swap_many.specs.Chains.{Setup, chain_of, put, Called, ChainEntry, chain_height, chain_ticks, entry_if_plain, projection, Chains, book, free}

@@ -3,7 +3,7 @@ use Rattle.std.proofs.Common.{◌≡◌, ◌≢◌, ◌⊎◌, ℕ, suc, zero, B
 use Rattle.std.specs.List.{range_with_len}
 use Rattle.swap_job.specs.declared.event.Event.{Event}
 use Rattle.swap_job.specs.declared.event.Event.TheVariants.{Look, Act}
-use Rattle.swap_laws.proofs.Prefixes.{same_or_not}
+use Rattle.swap_rules.proofs.Prefixes.{same_or_not}
 use Rattle.swap_run.specs.Run.{State, conforms, step}
 use Rattle.swap_run.specs.Fair.{repeat, adjacent, looks, most_acts}
 use Rattle.swap_run.specs.Called.{step_on, turn_on}

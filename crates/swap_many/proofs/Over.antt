@@ -16,8 +16,8 @@ use Rattle.ledger_core.specs.History.{Publication, publication, published, settl
 use Rattle.ledger_core.specs.History.{balance, rows, is_full, reply_to}
 use Rattle.ledger_core.specs.Ledger.{call_entry, tick_entry, is_sender_full, after_call}
 use Rattle.ledger_core.proofs.History.{is_some-of, not-true}
-use Rattle.swap_laws.specs.Machine.{Begins}
-use Rattle.swap_laws.proofs.Prefixes.{same_or_not}
+use Rattle.swap_rules.specs.Machine.{Begins}
+use Rattle.swap_rules.proofs.Prefixes.{same_or_not}
 use Rattle.swap_many.specs.declared.many_reply.ManyReply.{ManyReply}
 use Rattle.swap_many.specs.declared.many_reply.ManyReply.TheVariants.{Plain, NotEnded, Swept, StillHeld, Unpublished}
 use Rattle.swap_many.specs.Chains.{Setup, Emptied, Paid, ChainEntry, chain_height, projection, is_done, is_swept, reply_to_call}

@@ -13,8 +13,8 @@ use Rattle.ledger_core.specs.History.{height, is_clock_full}
 use Rattle.ledger_core.specs.Book.{Histories, history}
 use Rattle.ledger_core.proofs.Bounds.{height-push}
 use Rattle.ledger_core.proofs.History.{not-true}
-use Rattle.swap_laws.specs.Rest.{is_ticking}
-use Rattle.swap_laws.proofs.Prefixes.{same_or_not}
+use Rattle.swap_rules.specs.Rest.{is_ticking}
+use Rattle.swap_rules.proofs.Prefixes.{same_or_not}
 use Rattle.swap_run.specs.Asked.{Answers}
 use Rattle.swap_run.specs.Run.{Cast, Notes, State, conforms, role_of, is_planned, notes_of, after_tick}
 use Rattle.swap_run.specs.Called.{turns_on}

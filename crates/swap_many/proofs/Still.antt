@@ -12,7 +12,7 @@ use Rattle.swap_job.specs.declared.job.Role.{Role}
 use Rattle.swap_job.specs.declared.job.Role.TheVariants.{Conforming, Manual, Script, Strategy}
 use Rattle.party_wallet.specs.Value.{signed_in}
 use Rattle.swap_rules.specs.Due.{Action, due, first}
-use Rattle.swap_laws.proofs.Prefixes.{same_or_not}
+use Rattle.swap_rules.proofs.Prefixes.{same_or_not}
 use Rattle.swap_run.specs.Run.{Cast, Notes, State, conforms, role_of, is_planned, plan_of, plan_up_to, notes_of, known_up_to, signed_after}
 use Rattle.swap_run.specs.Run.{look, watch, next_of, step}
 use Rattle.swap_run.specs.Fair.{repeat, adjacent, looks, most_acts}

@@ -12,9 +12,9 @@ use Rattle.escrow_core.specs.declared.reply.Reply.TheVariants.{Accepted, ClockFu
 use Rattle.ledger_core.specs.declared.accounts.Accounts.{Accounts}
 use Rattle.ledger_core.specs.History.{published, settled, held, accounts, IsLegal}
 use Rattle.ledger_core.proofs.History.{not-true}
-use Rattle.swap_laws.specs.Laws.{AddsUp}
-use Rattle.swap_laws.proofs.Prefixes.{same_or_not}
-use Rattle.swap_laws.proofs.Units.{units_are_kept}
+use Rattle.swap_rules.specs.Laws.{AddsUp}
+use Rattle.swap_rules.proofs.Prefixes.{same_or_not}
+use Rattle.swap_rules.proofs.Units.{units_are_kept}
 use Rattle.swap_run.specs.Laws.{IsGood}
 use Rattle.swap_run.specs.Fair.{the_horizon}
 use Rattle.swap_many.specs.declared.many_event.ManyEvent.{ManyEvent}

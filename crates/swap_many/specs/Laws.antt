@@ -9,7 +9,7 @@ use Rattle.swap_job.specs.Step.{CanStep}
 use Rattle.swap_rules.specs.declared.outcome.Outcome.TheVariants.{Underwater}
 use Rattle.swap_rules.specs.Findings.{findings}
 use Rattle.swap_rules.specs.Outcome.{outcome, IsEnded}
-use Rattle.swap_laws.specs.Laws.{is_against, is_in_name_of, HasRefunds, IsTransferred}
+use Rattle.swap_rules.specs.Laws.{is_against, is_in_name_of, HasRefunds, IsTransferred}
 use Rattle.swap_run.specs.Run.{conforms}
 use Rattle.swap_run.specs.Laws.{IsReadyCast, IsGood, IsKept}
 use Rattle.swap_many.specs.declared.many_event.ManyEvent.{ManyEvent}

@@ -6,3 +6,7 @@ pub mod Due
 pub mod Outcome
 pub mod Findings
 pub mod Accepted
+pub mod Machine
+pub mod Rounds
+pub mod Laws
+pub mod Rest

@@ -3,10 +3,14 @@
 //!
 //! Read `specs/Conduct.antt` first, then `specs/Late.antt`, `specs/Forged.antt`, `specs/Outcome.antt` and `specs/Findings.antt`: they are the rule book
 //! that every program above answers by.
+//!
+//! `specs/Laws.antt` has the laws: what holds of every book that keeps the rules, whatever the others do (Herlihy 2018, section 3).
 #![tactic(auto)]
 
 mod finding;
+mod laws;
 mod outcome;
 
 pub use finding::{Finding, Rule};
+pub use laws::{accepted_is_well_sized, all_is_dealt, all_is_transferred, every_book_is_safe, knowledge_conducts, nothing_found, nothing_is_forged, rounds_are_in_time, ticks_make_nothing_due, units_are_kept, unnamed_is_safe};
 pub use outcome::Outcome;

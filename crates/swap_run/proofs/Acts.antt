@@ -7,10 +7,10 @@ use Rattle.ledger_core.specs.Book.{Histories, history}
 use Rattle.std.proofs.lemmas.Bool.{false≢true}
 use Rattle.swap_job.specs.declared.event.Event.TheVariants.{Act}
 use Rattle.swap_rules.specs.Due.{Action, due, first}
-use Rattle.swap_laws.specs.Machine.{entry_of, test_of}
-use Rattle.swap_laws.proofs.Machines.{rules_transfer}
-use Rattle.swap_laws.proofs.Room.{rules_leave_room}
-use Rattle.swap_laws.proofs.Conducting.{history_same}
+use Rattle.swap_rules.specs.Machine.{entry_of, test_of}
+use Rattle.swap_rules.proofs.Machines.{rules_transfer}
+use Rattle.swap_rules.proofs.Room.{rules_leave_room}
+use Rattle.swap_rules.proofs.Conducting.{history_same}
 use Rattle.ledger_core.specs.Ledger.{is_sender_full, after_call}
 use Rattle.party_wallet.specs.Value.{signed_in}
 use Rattle.swap_run.specs.Run.{Cast, State, conforms, role_of, notes_of, signed_after, make, next_of, act, act_as, step}

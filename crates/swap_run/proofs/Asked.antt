@@ -15,8 +15,8 @@ use Rattle.swap_job.specs.declared.moves.Move.{Move}
 use Rattle.swap_job.specs.Resolved.{resolved}
 use Rattle.deviators.specs.Script.{next_call, moves_left}
 use Rattle.swap_rules.specs.Due.{Action}
-use Rattle.swap_laws.specs.Machine.{Begins}
-use Rattle.swap_laws.proofs.Prefixes.{begins_more}
+use Rattle.swap_rules.specs.Machine.{Begins}
+use Rattle.swap_rules.proofs.Prefixes.{begins_more}
 use Rattle.swap_run.specs.Run.{Cast, Question, State, conforms, role_of, plan_of, look, make, next_of, act, watch, take_call, after_turn, question}
 use Rattle.swap_run.specs.Run.{after_question, answer_for, act_as, step}
 use Rattle.swap_run.specs.Fair.{repeat, adjacent, looks, acts, most_acts, turn, turns, the_horizon, tick_low, ticks, round, has_ended}

@@ -23,10 +23,10 @@ use Rattle.deviators.specs.View.{IsAnswerOf, MayAnswer}
 use Rattle.deviators.proofs.Scripts.{may_resolve, left_fit}
 use Rattle.swap_job.specs.Fitting.{IsMoveOf}
 use Rattle.swap_rules.specs.Due.{Action, due}
-use Rattle.swap_laws.specs.Machine.{IsSound, Begins}
-use Rattle.swap_laws.proofs.Due.{IsDue}
-use Rattle.swap_laws.proofs.Growth.{is_published-more}
-use Rattle.swap_laws.proofs.Prefixes.{same_or_not}
+use Rattle.swap_rules.specs.Machine.{IsSound, Begins}
+use Rattle.swap_rules.proofs.Due.{IsDue}
+use Rattle.swap_rules.proofs.Growth.{is_published-more}
+use Rattle.swap_rules.proofs.Prefixes.{same_or_not}
 use Rattle.swap_run.specs.Run.{Cast, Notes, State, conforms, role_of, notes_of, plan_of, signed_after, look, make, next_of, act, watch, take_call}
 use Rattle.swap_run.specs.Run.{plans_seen, after_turn, question, after_question, answer_for, act_as}
 use Rattle.swap_run.specs.Laws.{IsReadyCast, AreGoodNotes, IsGood}

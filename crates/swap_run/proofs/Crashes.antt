@@ -14,11 +14,11 @@ use Rattle.swap_job.specs.Fitting.{is_near}
 use Rattle.party_wallet.specs.Value.{signed_in}
 use Rattle.swap_rules.specs.Accepted.{IsAccepted}
 use Rattle.swap_rules.specs.Due.{Wallet, Action, due}
-use Rattle.swap_laws.specs.Machine.{IsWallet, IsSound, KeepsRules, Knows, noted}
-use Rattle.swap_laws.proofs.Prefixes.{begins_refl}
-use Rattle.swap_laws.proofs.Due.{IsDue, is_due}
-use Rattle.swap_laws.proofs.Conducting.{own_more, knows_all}
-use Rattle.swap_laws.proofs.Machines.{rules_transfer}
+use Rattle.swap_rules.specs.Machine.{IsWallet, IsSound, KeepsRules, Knows, noted}
+use Rattle.swap_rules.proofs.Prefixes.{begins_refl}
+use Rattle.swap_rules.proofs.Due.{IsDue, is_due}
+use Rattle.swap_rules.proofs.Conducting.{own_more, knows_all}
+use Rattle.swap_rules.proofs.Machines.{rules_transfer}
 use Rattle.swap_run.specs.Run.{Notes, signed_after, relearnt}
 use Rattle.swap_run.proofs.Noted.{Holds, due_now, signed_is, signed_length}
 

@@ -14,9 +14,9 @@ use Rattle.ledger_core.specs.declared.entry.What.TheVariants.{Tick}
 use Rattle.ledger_core.specs.declared.entry.Entry.{Entry}
 use Rattle.ledger_core.specs.History.{height, rows, reply_to, is_full, is_clock_full}
 use Rattle.ledger_core.specs.Ledger.{tick_entry, is_sender_full, after_call}
-use Rattle.swap_laws.specs.Machine.{entry_of}
+use Rattle.swap_rules.specs.Machine.{entry_of}
 use Rattle.ledger_core.proofs.History.{not-true-of}
-use Rattle.swap_laws.proofs.Conducting.{Next, Still, Pushed}
+use Rattle.swap_rules.proofs.Conducting.{Next, Still, Pushed}
 use Rattle.swap_run.specs.Run.{is_clock_full_reply, after_tick}
 
 -- Ticks.

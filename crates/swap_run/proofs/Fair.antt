@@ -9,15 +9,15 @@ use Rattle.swap_digraph.specs.Graph.{arcs}
 use Rattle.ledger_core.specs.History.{height}
 use Rattle.ledger_core.specs.Book.{history}
 use Rattle.swap_rules.specs.Due.{due}
-use Rattle.swap_laws.specs.Machine.{Begins, Knows}
-use Rattle.swap_laws.specs.Rounds.{IsNear, IsTurn, IsRounds}
-use Rattle.swap_laws.specs.Laws.{IsDealt}
+use Rattle.swap_rules.specs.Machine.{Begins, Knows}
+use Rattle.swap_rules.specs.Rounds.{IsNear, IsTurn, IsRounds}
+use Rattle.swap_rules.specs.Laws.{IsDealt}
 use Rattle.ledger_core.proofs.History.{not-true}
-use Rattle.swap_laws.proofs.Words.{past_end}
-use Rattle.swap_laws.proofs.Prefixes.{begins_more, begins_height, same_or_not}
-use Rattle.swap_laws.proofs.Growth.{Grows}
-use Rattle.swap_laws.proofs.Rounds.{rounds_on_time}
-use Rattle.swap_laws.proofs.Dealing.{all_dealt}
+use Rattle.swap_rules.proofs.Words.{past_end}
+use Rattle.swap_rules.proofs.Prefixes.{begins_more, begins_height, same_or_not}
+use Rattle.swap_rules.proofs.Growth.{Grows}
+use Rattle.swap_rules.proofs.Rounds.{rounds_on_time}
+use Rattle.swap_rules.proofs.Dealing.{all_dealt}
 use Rattle.party_wallet.specs.Value.{signed_in}
 use Rattle.swap_run.specs.Run.{Cast, State, conforms, notes_of, next_of, start}
 use Rattle.swap_run.specs.Laws.{IsReadyCast, IsGood}

@@ -27,9 +27,9 @@ use Rattle.swap_job.specs.declared.job.Role.TheVariants.{Conforming, Manual, Scr
 use Rattle.deviators.proofs.Scripts.{may_resolve, next_may, left_fit}
 use Rattle.swap_rules.specs.Due.{Action, due, first}
 use Rattle.ledger_core.proofs.History.{not-true}
-use Rattle.swap_laws.proofs.Prefixes.{begins_refl, same_or_not}
-use Rattle.swap_laws.proofs.Machines.{knowledge_conducts, rules_transfer}
-use Rattle.swap_laws.proofs.Conducting.{Next, next_call as next_of_call, next_legal, next_grows, knows_all, history_same}
+use Rattle.swap_rules.proofs.Prefixes.{begins_refl, same_or_not}
+use Rattle.swap_rules.proofs.Machines.{knowledge_conducts, rules_transfer}
+use Rattle.swap_rules.proofs.Conducting.{Next, next_call as next_of_call, next_legal, next_grows, knows_all, history_same}
 use Rattle.party_wallet.specs.Value.{signed_in}
 use Rattle.swap_run.specs.Run.{Cast, Notes, State, conforms, role_of, notes_of, plan_of, signed_after, after_tick, known_up_to, look, make, next_of}
 use Rattle.swap_run.specs.Run.{is_recorded, recorded_after, relearnt, crash}

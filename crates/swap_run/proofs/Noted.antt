@@ -19,12 +19,12 @@ use Rattle.ledger_core.specs.Book.{Histories, history, IsLegalBook}
 use Rattle.swap_job.specs.Fitting.{is_near}
 use Rattle.swap_rules.specs.Accepted.{IsAccepted}
 use Rattle.swap_rules.specs.Due.{Wallet, Action, due}
-use Rattle.swap_laws.specs.Machine.{Knows, IsWallet, IsSound, noted}
-use Rattle.swap_laws.proofs.Prefixes.{same_or_not}
+use Rattle.swap_rules.specs.Machine.{Knows, IsWallet, IsSound, noted}
+use Rattle.swap_rules.proofs.Prefixes.{same_or_not}
 use Rattle.ledger_core.proofs.History.{not-true}
-use Rattle.swap_laws.proofs.Machines.{learn_sound, call_sound}
-use Rattle.swap_laws.proofs.Due.{IsDue, is_due}
-use Rattle.swap_laws.proofs.Conducting.{Next, Still, Pushed, history_same, history_other, knows_all}
+use Rattle.swap_rules.proofs.Machines.{learn_sound, call_sound}
+use Rattle.swap_rules.proofs.Due.{IsDue, is_due}
+use Rattle.swap_rules.proofs.Conducting.{Next, Still, Pushed, history_same, history_other, knows_all}
 use Rattle.ledger_core.specs.Ledger.{after_call}
 use Rattle.party_wallet.specs.Value.{signed_in}
 use Rattle.swap_run.specs.Run.{Notes, signed_after, known_up_to}

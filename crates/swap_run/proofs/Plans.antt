@@ -16,10 +16,10 @@ use Rattle.swap_job.specs.declared.moves.Move.{Move}
 use Rattle.swap_job.specs.Crafted.{Seeds}
 use Rattle.swap_job.specs.Fitting.{IsMoveOf, is_near}
 use Rattle.deviators.specs.View.{IsView, IsAnswerOf, MayAnswer}
-use Rattle.swap_laws.specs.Machine.{Begins}
-use Rattle.swap_laws.proofs.Growth.{Grows}
-use Rattle.swap_laws.proofs.Prefixes.{begins_refl, begins_more, same_or_not}
-use Rattle.swap_laws.proofs.Conducting.{history_same, history_other}
+use Rattle.swap_rules.specs.Machine.{Begins}
+use Rattle.swap_rules.proofs.Growth.{Grows}
+use Rattle.swap_rules.proofs.Prefixes.{begins_refl, begins_more, same_or_not}
+use Rattle.swap_rules.proofs.Conducting.{history_same, history_other}
 use Rattle.swap_run.specs.Run.{Cast, Plan, Question, State, role_of, plan_of, plan_up_to, plans_seen, after_turn, is_planned, is_answer_of, answer_for}
 use Rattle.swap_run.specs.Laws.{IsGoodPlan, IsGood}
 

@@ -20,9 +20,9 @@ use Rattle.ledger_core.specs.Book.{Histories, history}
 use Rattle.swap_job.specs.declared.event.Event.TheVariants.{Look, Act, Tick}
 use Rattle.party_wallet.specs.Value.{signed_in}
 use Rattle.swap_rules.specs.Due.{Action, due, first}
-use Rattle.swap_laws.specs.Rest.{are_ticks, is_ticking}
-use Rattle.swap_laws.proofs.Prefixes.{same_or_not}
-use Rattle.swap_laws.proofs.Conducting.{history_same, history_other}
+use Rattle.swap_rules.specs.Rest.{are_ticks, is_ticking}
+use Rattle.swap_rules.proofs.Prefixes.{same_or_not}
+use Rattle.swap_rules.proofs.Conducting.{history_same, history_other}
 use Rattle.swap_run.specs.Run.{Cast, Notes, State, conforms, role_of, is_planned, notes_of, known_up_to, signed_after, after_tick, look}
 use Rattle.swap_run.specs.Run.{watch, make, act, act_as, next_of, step}
 use Rattle.swap_run.specs.Fair.{repeat, adjacent, looks, acts, most_acts, turn, turns, the_horizon, tick_low, ticks, round, has_ended, round_unless_ended}

@@ -8,8 +8,8 @@ use Rattle.swap_digraph.specs.declared.deal.Deal.{Deal}
 use Rattle.swap_digraph.specs.Graph.{arcs}
 use Rattle.ledger_core.specs.History.{height}
 use Rattle.ledger_core.specs.Book.{history}
-use Rattle.swap_laws.proofs.Prefixes.{begins_more}
-use Rattle.swap_laws.proofs.Growth.{Grows}
+use Rattle.swap_rules.proofs.Prefixes.{begins_more}
+use Rattle.swap_rules.proofs.Growth.{Grows}
 use Rattle.swap_run.specs.Run.{Cast, State}
 use Rattle.swap_run.specs.Laws.{IsReadyCast, IsGood}
 use Rattle.swap_run.specs.Fair.{turn, turns, ticks, the_horizon, raised, round, rounds_left}

@@ -10,7 +10,7 @@ use Rattle.swap_job.specs.declared.event.Event.{Event}
 use Rattle.swap_job.specs.declared.event.Event.TheVariants.{Look, Act}
 use Rattle.swap_job.specs.declared.job.Role.{Role}
 use Rattle.swap_job.specs.declared.job.Role.TheVariants.{Conforming, Manual, Script, Strategy}
-use Rattle.swap_laws.proofs.Prefixes.{same_or_not}
+use Rattle.swap_rules.proofs.Prefixes.{same_or_not}
 use Rattle.swap_run.specs.Run.{Cast, Notes, State, conforms, role_of, is_planned, notes_of, act, act_as, look, watch, run_from, step}
 use Rattle.swap_run.specs.Fair.{repeat, adjacent, looks, acts, most_acts, turn, turns, ticks, round, has_ended, round_unless_ended}
 use Rattle.swap_run.specs.Quiet.{over, IsIdle}

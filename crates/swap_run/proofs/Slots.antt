@@ -14,12 +14,12 @@ use Rattle.swap_rules.specs.declared.finding.Rule.{Rule}
 use Rattle.swap_rules.specs.Party.{call_by}
 use Rattle.swap_rules.specs.Due.{has_called}
 use Rattle.swap_rules.specs.Findings.{rules_of}
-use Rattle.swap_laws.specs.Machine.{Begins, test_of}
-use Rattle.swap_laws.proofs.Prefixes.{same_or_not, list_any-more}
-use Rattle.swap_laws.proofs.Conducting.{history_other}
+use Rattle.swap_rules.specs.Machine.{Begins, test_of}
+use Rattle.swap_rules.proofs.Prefixes.{same_or_not, list_any-more}
+use Rattle.swap_rules.proofs.Conducting.{history_other}
 use Rattle.swap_run.specs.Fair.{most_acts}
 use Rattle.swap_base.proofs.Lists.{count_less, not-mono, in_map, in_flat_map}
-use Rattle.swap_laws.proofs.Room.{number_of_rules}
+use Rattle.swap_rules.proofs.Room.{number_of_rules}
 
 -- A rule on an arc.
 pub record Slot : Type 0 where

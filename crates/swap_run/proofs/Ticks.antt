@@ -18,9 +18,9 @@ use Rattle.ledger_core.specs.Book.{history}
 use Rattle.swap_job.specs.declared.event.Event.TheVariants.{Tick}
 use Rattle.swap_rules.specs.Accepted.{IsAccepted}
 use Rattle.ledger_core.proofs.History.{not-true}
-use Rattle.swap_laws.proofs.Prefixes.{begins_refl, begins_more, same_or_not}
-use Rattle.swap_laws.proofs.Growth.{Grows}
-use Rattle.swap_laws.proofs.Conducting.{next_grows, history_same, history_other}
+use Rattle.swap_rules.proofs.Prefixes.{begins_refl, begins_more, same_or_not}
+use Rattle.swap_rules.proofs.Growth.{Grows}
+use Rattle.swap_rules.proofs.Conducting.{next_grows, history_same, history_other}
 use Rattle.swap_run.specs.Run.{Cast, State, after_tick, step}
 use Rattle.swap_run.specs.Laws.{IsReadyCast, IsGood}
 use Rattle.swap_run.specs.Fair.{the_horizon, raised, tick_low}

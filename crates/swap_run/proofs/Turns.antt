@@ -21,13 +21,13 @@ use Rattle.swap_job.specs.Step.{CanLook}
 use Rattle.deviators.specs.View.{IsAnswerOf, MayAnswer}
 use Rattle.deviators.proofs.Scripts.{left_fit}
 use Rattle.swap_rules.specs.Due.{Action}
-use Rattle.swap_laws.specs.Machine.{Begins}
-use Rattle.swap_laws.specs.Rounds.{IsNear}
+use Rattle.swap_rules.specs.Machine.{Begins}
+use Rattle.swap_rules.specs.Rounds.{IsNear}
 use Rattle.ledger_core.proofs.History.{height_append}
-use Rattle.swap_laws.proofs.Words.{enters, leaves, or-left}
-use Rattle.swap_laws.proofs.Prefixes.{begins_refl, begins_more, same_or_not}
-use Rattle.swap_laws.proofs.Growth.{Grows}
-use Rattle.swap_laws.proofs.Conducting.{Next, next_call as next_of_call, Still, Pushed, next_grows, history_same, history_other}
+use Rattle.swap_rules.proofs.Words.{enters, leaves, or-left}
+use Rattle.swap_rules.proofs.Prefixes.{begins_refl, begins_more, same_or_not}
+use Rattle.swap_rules.proofs.Growth.{Grows}
+use Rattle.swap_rules.proofs.Conducting.{Next, next_call as next_of_call, Still, Pushed, next_grows, history_same, history_other}
 use Rattle.swap_run.specs.Run.{Cast, State, conforms, role_of, notes_of, plan_of, plan_up_to, is_planned, signed_after, known_up_to, look, make}
 use Rattle.swap_run.specs.Run.{next_of, act, watch, take_call, after_turn, question, after_question, answer_for, act_as, step}
 use Rattle.ledger_core.specs.Ledger.{after_call}

@@ -5,7 +5,7 @@ use Rattle.ledger_core.specs.Book.{Histories, history}
 use Rattle.swap_job.specs.declared.event.Event.{Event}
 use Rattle.swap_job.specs.Step.{CanStep}
 use Rattle.swap_rules.specs.Outcome.{IsEnded}
-use Rattle.swap_laws.specs.Laws.{IsDealt}
+use Rattle.swap_rules.specs.Laws.{IsDealt}
 use Rattle.swap_run.specs.Run.{Cast, State, conforms, role_of, is_planned, next_of, start, run_from, run}
 use Rattle.swap_run.specs.Laws.{IsReadyCast, IsGood, IsKept}
 use Rattle.swap_run.specs.Fair.{acts, most_acts, turn, raised, ended_at, round, has_ended, rounds_left, finish}

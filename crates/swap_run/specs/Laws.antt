@@ -17,7 +17,7 @@ use Rattle.swap_job.specs.Fitting.{IsMoveOf, is_near}
 use Rattle.swap_digraph.specs.declared.deal.Deal.{Deal}
 use Rattle.swap_rules.specs.Accepted.{IsAccepted}
 use Rattle.swap_rules.specs.Conduct.{IsConducted}
-use Rattle.swap_laws.specs.Machine.{Begins, IsWallet, IsSound, Knows}
+use Rattle.swap_rules.specs.Machine.{Begins, IsWallet, IsSound, Knows}
 use Rattle.party_wallet.specs.Value.{signed_in}
 use Rattle.swap_run.specs.Run.{Cast, Plan, State, conforms, role_of, notes_of, plan_of, script_of, next_of, step, start, run}
 

@@ -24,7 +24,7 @@ use Rattle.swap_job.specs.Resolved.{resolved}
 use Rattle.deviators.specs.Script.{next_call, moves_left}
 use Rattle.swap_job.specs.Fitting.{is_near}
 use Rattle.swap_rules.specs.Due.{Wallet, Action, due, first}
-use Rattle.swap_laws.specs.Machine.{noted}
+use Rattle.swap_rules.specs.Machine.{noted}
 
 -- Who takes part in a run: its deal, which parties conform, and what each signs with; the seeds and the roles of the parties;
 -- and what strategies answer, in the order in which they are asked.

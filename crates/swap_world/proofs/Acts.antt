@@ -6,7 +6,7 @@ use Rattle.ledger_core.specs.declared.entry.Entry.{Entry}
 use Rattle.ledger_core.specs.declared.entry.Call.{Call}
 use Rattle.ledger_core.specs.Value.{LedgerState}
 use Rattle.ledger_core.specs.Book.{Histories, history}
-use Rattle.swap_laws.specs.Machine.{noted}
+use Rattle.swap_rules.specs.Machine.{noted}
 use Rattle.swap_rules.specs.Due.{Action}
 use Rattle.party_wallet.specs.Value.{signed_in}
 use Rattle.party_machine.specs.Machine.{MachineState, IsOfSame, action_of, next_of, noted_for}

@@ -24,7 +24,7 @@ use Rattle.swap_run.specs.Laws.{IsReadyCast, IsGood}
 use Rattle.swap_run.proofs.Finish.{finishes_are_good}
 use Rattle.swap_run.proofs.Fair.{fair_is_dealt}
 use Rattle.swap_rules.specs.Outcome.{IsEnded}
-use Rattle.swap_laws.specs.Laws.{IsDealt}
+use Rattle.swap_rules.specs.Laws.{IsDealt}
 use Rattle.swap_world.specs.Value.{WorldState, answers_of, cast_at, cast_for}
 use Rattle.swap_world.specs.Gone.{Gives, HasGone}
 use Rattle.swap_world.specs.Near.{all_adjacent}

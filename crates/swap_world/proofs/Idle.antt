@@ -16,10 +16,10 @@ use Rattle.swap_job.specs.declared.job.Role.{Role}
 use Rattle.swap_job.specs.declared.job.Role.TheVariants as kinds
 use Rattle.party_wallet.specs.Value.{signed_in}
 use Rattle.swap_rules.specs.Due.{Wallet, due, first}
-use Rattle.swap_laws.specs.Machine.{Begins}
-use Rattle.swap_laws.specs.Rest.{are_ticks, is_ticking}
-use Rattle.swap_laws.proofs.Prefixes.{same_or_not}
-use Rattle.swap_laws.proofs.Conducting.{history_same, history_other}
+use Rattle.swap_rules.specs.Machine.{Begins}
+use Rattle.swap_rules.specs.Rest.{are_ticks, is_ticking}
+use Rattle.swap_rules.proofs.Prefixes.{same_or_not}
+use Rattle.swap_rules.proofs.Conducting.{history_same, history_other}
 use Rattle.party_machine.specs.Wallet.{wallet_of}
 use Rattle.party_machine.specs.Machine.{MachineState, learnt}
 use Rattle.party_machine.specs.Rest.{IsAtRest}

@@ -11,7 +11,7 @@ use Rattle.ledger_core.specs.Book.{Histories}
 use Rattle.swap_run.specs.Run.{Notes, Plan, Question, notes_of}
 use Rattle.ledger_core.specs.Value.{LedgerState}
 use Rattle.swap_job.specs.declared.job.Role.{Role}
-use Rattle.swap_laws.proofs.Prefixes.{same_or_not}
+use Rattle.swap_rules.proofs.Prefixes.{same_or_not}
 use Rattle.party_machine.specs.Machine.{MachineState}
 use Rattle.wallet_journal.specs.Journal.{JournalState}
 use Rattle.wallet_journal.specs.Memory.{DiskState}

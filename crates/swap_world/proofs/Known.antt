@@ -1,7 +1,7 @@
 -- What a machine knows of a ledger, and all of it.
 use Rattle.std.proofs.Common.{◌≡◌, List, ◌++◌, length, drop, ap, sym, ◌∙◌}
 use Rattle.std.proofs.Math.Seq.{drop-append_seam}
-use Rattle.swap_laws.specs.Machine.{Begins}
+use Rattle.swap_rules.specs.Machine.{Begins}
 
 -- what is known, and the entries after as many, are the whole
 pub whole : {A : Type 0} (k h : List A) → Begins k h → k ++ drop (length k) h ≡ h

@@ -13,8 +13,8 @@ use Rattle.swap_job.specs.declared.event.Event.TheVariants.{Act, Call as Made}
 use Rattle.swap_job.specs.declared.job.Role.{Role}
 use Rattle.swap_job.specs.declared.job.Role.TheVariants.{Conforming, Manual, Script, Strategy}
 use Rattle.swap_job.specs.declared.moves.Move.{Move}
-use Rattle.swap_laws.specs.Machine.{Begins}
-use Rattle.swap_laws.proofs.Prefixes.{begins_refl}
+use Rattle.swap_rules.specs.Machine.{Begins}
+use Rattle.swap_rules.proofs.Prefixes.{begins_refl}
 use Rattle.swap_rules.specs.Due.{Action}
 use Rattle.swap_run.specs.Run.{Cast, State, conforms, role_of, notes_of, plan_of, signed_after, plans_seen, next_of, after_turn, after_question}
 use Rattle.swap_run.specs.Run.{answer_for, step}

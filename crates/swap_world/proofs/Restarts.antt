@@ -6,8 +6,8 @@ use Rattle.hashkey_path.specs.declared.hashkey.Hashkey.{Hashkey}
 use Rattle.ledger_core.specs.declared.entry.Call.{Call}
 use Rattle.ledger_core.specs.declared.entry.Call.TheVariants.{Publish, Unlock, Claim, Refund, Transfer}
 use Rattle.ledger_core.proofs.History.{not-true}
-use Rattle.swap_laws.specs.Machine.{noted}
-use Rattle.swap_laws.proofs.Prefixes.{same_or_not}
+use Rattle.swap_rules.specs.Machine.{noted}
+use Rattle.swap_rules.proofs.Prefixes.{same_or_not}
 use Rattle.swap_rules.specs.Due.{Action}
 use Rattle.party_wallet.specs.Value.{signed_in}
 use Rattle.std.proofs.lemmas.Option.{same_Some}

@@ -3,7 +3,7 @@ use Rattle.std.proofs.Common.{◌≡◌, ℕ, ◌<◌, List, length, Option, Non
 use Rattle.std.proofs.lemmas.List.{same_lists, get_or_default}
 use Rattle.hashkey_path.specs.declared.hashkey.Hashkey.{Hashkey}
 use Rattle.ledger_core.specs.declared.entry.Call.{Call}
-use Rattle.swap_laws.specs.Machine.{noted}
+use Rattle.swap_rules.specs.Machine.{noted}
 use Rattle.swap_run.specs.Run.{signed_after}
 use Rattle.swap_run.proofs.Noted.{signed_below, signed_length}
 use Rattle.party_wallet.specs.Value.{signed_in}

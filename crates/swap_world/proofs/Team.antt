@@ -10,10 +10,10 @@ use Rattle.swap_base.proofs.Lists.{or_neither}
 use Rattle.swap_base.specs.Fault.{◌>>=◌, steps, Fails}
 use Rattle.swap_base.specs.declared.fault.Fault.{Fault}
 use Rattle.swap_base.specs.declared.fault.Fault.TheVariants.{Refused, NoMemory}
-use Rattle.swap_laws.proofs.Prefixes.{same_or_not}
+use Rattle.swap_rules.proofs.Prefixes.{same_or_not}
 use Rattle.swap_job.specs.declared.job.Job.{Job}
 use Rattle.swap_rules.specs.Accepted.{IsAccepted}
-use Rattle.swap_laws.specs.Machine.{IsWallet}
+use Rattle.swap_rules.specs.Machine.{IsWallet}
 use Rattle.swap_run.specs.Asked.{is_strategy}
 use Rattle.swap_run.specs.Run.{Notes, Plan, no_notes, first_plan, is_planned, script_of}
 use Rattle.swap_digraph.specs.declared.deal.Deal.{Deal}

@@ -6,8 +6,8 @@ use Rattle.escrow_core.specs.declared.reply.Reply.TheVariants.{SenderFull}
 use Rattle.ledger_core.specs.declared.entry.Call.{Call}
 use Rattle.ledger_core.specs.declared.entry.Entry.{Entry}
 use Rattle.ledger_core.specs.Value.{LedgerState}
-use Rattle.swap_laws.specs.Machine.{Begins}
-use Rattle.swap_laws.proofs.Prefixes.{begins_refl}
+use Rattle.swap_rules.specs.Machine.{Begins}
+use Rattle.swap_rules.proofs.Prefixes.{begins_refl}
 use Rattle.ledger_core.specs.History.{height, reply_to}
 use Rattle.ledger_core.specs.Ledger.{IsAfter, call_entry, is_sender_full, after_call}
 

@@ -16,7 +16,7 @@ use Rattle.swap_run.specs.Run.{Cast, State, run_from, step}
 use Rattle.swap_run.specs.Fair.{repeat, acts, the_horizon, tick_low, ticks, turn}
 use Rattle.swap_run.specs.Steps.{after_low, low_step, low_steps, pass_steps, tick_steps, turn_steps, IsAlong}
 use Rattle.swap_run.proofs.Along.{along_more, along_after, acts_run, pass_run}
-use Rattle.swap_laws.proofs.Prefixes.{same_or_not}
+use Rattle.swap_rules.proofs.Prefixes.{same_or_not}
 use Rattle.swap_world.specs.Value.{WorldState}
 
 -- Lists and numbers.

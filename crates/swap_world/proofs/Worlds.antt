@@ -10,8 +10,8 @@ use Rattle.ledger_core.specs.declared.entry.Call.{Call}
 use Rattle.ledger_core.specs.declared.entry.Entry.{Entry}
 use Rattle.ledger_core.specs.Value.{LedgerState}
 use Rattle.ledger_core.specs.Book.{Histories, history}
-use Rattle.swap_laws.specs.Machine.{Begins}
-use Rattle.swap_laws.proofs.Accepted.{accepted_is_well_sized}
+use Rattle.swap_rules.specs.Machine.{Begins}
+use Rattle.swap_rules.proofs.Accepted.{accepted_is_well_sized}
 use Rattle.swap_rules.specs.Due.{Action, due}
 use Rattle.swap_job.specs.declared.event.Event.{Event}
 use Rattle.swap_job.specs.declared.job.Role.{Role}
@@ -23,7 +23,7 @@ use Rattle.swap_run.specs.Laws.{AreGoodNotes, IsReadyCast, IsGood, IsGoodPlan, I
 use Rattle.swap_run.specs.FairLaws.{IsReached}
 use Rattle.swap_run.proofs.Along.{along_reached}
 use Rattle.party_wallet.specs.Value.{signed_in}
-use Rattle.swap_laws.proofs.Due.{due_is_valid}
+use Rattle.swap_rules.proofs.Due.{due_is_valid}
 use Rattle.swap_run.proofs.Noted.{due_now}
 use Rattle.swap_run.specs.Called.{step_on}
 use Rattle.swap_run.proofs.Good.{holds, first_in, steps_are_good, good_is_kept}

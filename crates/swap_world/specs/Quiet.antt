@@ -5,8 +5,8 @@ use Rattle.swap_digraph.specs.declared.deal.Deal.{Deal}
 use Rattle.ledger_core.specs.declared.entry.Entry.{Entry}
 use Rattle.ledger_core.specs.History.{height}
 use Rattle.ledger_core.specs.Book.{Histories, history}
-use Rattle.swap_laws.specs.Machine.{Begins}
-use Rattle.swap_laws.specs.Rest.{are_ticks}
+use Rattle.swap_rules.specs.Machine.{Begins}
+use Rattle.swap_rules.specs.Rest.{are_ticks}
 use Rattle.party_machine.specs.Machine.{MachineState}
 use Rattle.party_machine.specs.Rest.{IsAtRest}
 use Rattle.swap_run.specs.Run.{Cast, State, conforms, role_of, is_planned, notes_of}

@@ -13,7 +13,7 @@ ghost use Rattle.swap_job.specs.Resolved.{arc_of, opening_named, key_opened, res
 ghost use Rattle.deviators.specs.Script.{next_call};
 ghost use Rattle.deviators.specs.View.{MayAnswer};
 ghost use Rattle.party_plan.specs.Shown.{IsShown};
-ghost use Rattle.swap_laws.specs.Machine.{Begins};
+ghost use Rattle.swap_rules.specs.Machine.{Begins};
 ghost use Rattle.swap_rules.specs.Due.{Action};
 ghost use Rattle.swap_run.specs.Run.{after_tick, plan_up_to};
 ghost use Rattle.swap_run.specs.Called.{is_barred};

@@ -18,7 +18,7 @@ ghost use Rattle.ledger_core.specs.Book.{IsLegalBook, history};
 ghost use Rattle.swap_job.specs.Step.{CanStep, CanTick, CanLook, CanCall, CanCrash};
 ghost use Rattle.swap_rules.specs.Accepted.{IsAccepted};
 ghost use Rattle.swap_rules.specs.Outcome.{IsEnded};
-ghost use Rattle.swap_laws.specs.Laws.{IsDealt};
+ghost use Rattle.swap_rules.specs.Laws.{IsDealt};
 ghost use Rattle.swap_run.specs.Asked.{is_strategy};
 ghost use Rattle.swap_run.specs.Run.{conforms, is_planned, notes_of, role_of, start, step, run_from};
 ghost use Rattle.swap_run.specs.Called.{step_on};

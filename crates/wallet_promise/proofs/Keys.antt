@@ -23,10 +23,10 @@ use Rattle.ledger_core.proofs.History.{opened_done, of_unlock, published-past, l
 use Rattle.swap_rules.specs.Party.{first_seen_key, key_without}
 use Rattle.swap_rules.specs.Conduct.{has_origin, carries, extends_without, is_alone, is_first_key}
 use Rattle.swap_rules.specs.Due.{Wallet, Action, seen_key, extended, due_key}
-use Rattle.swap_laws.specs.Machine.{KeepsKey, IsGoodKey, IsWallet, IsOwn, IsOnto}
-use Rattle.swap_laws.proofs.Entering.{valid_of_unlock}
-use Rattle.swap_laws.proofs.Words.{key_without_parts, leaves, or-left, same_key-refl}
-use Rattle.swap_laws.proofs.Growth.{Grows, opened-more}
+use Rattle.swap_rules.specs.Machine.{KeepsKey, IsGoodKey, IsWallet, IsOwn, IsOnto}
+use Rattle.swap_rules.proofs.Entering.{valid_of_unlock}
+use Rattle.swap_rules.proofs.Words.{key_without_parts, leaves, or-left, same_key-refl}
+use Rattle.swap_rules.proofs.Growth.{Grows, opened-more}
 use Rattle.wallet_promise.specs.Life.{Asking, is_kept, Make, Keep, keep_of, make_if, answer_for, IsPart, IsKeptAfter, MayKeep}
 use Rattle.wallet_promise.specs.Life.{IsJournal, IsTold}
 use Rattle.wallet_promise.proofs.Cases.{Case, ToPublish, ToUnlock, ToClaim, ToRefund, case_of}

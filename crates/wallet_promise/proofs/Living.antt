@@ -29,18 +29,18 @@ use Rattle.swap_rules.specs.Due.{is_refunding, due_unlock_on, due_key, presented
 use Rattle.swap_rules.specs.declared.finding.Rule.{Rule}
 use Rattle.swap_rules.specs.declared.finding.Rule.TheVariants.{Publish as OfPublish, Unlock as OfUnlock, Claim as OfClaim, Refund as OfRefund}
 use Rattle.swap_rules.specs.Late.{ref_of, late_at, is_done}
-use Rattle.swap_laws.specs.Machine.{Begins, Knows, KeepsOwn, KeepsRules, IsWallet, test_of, noted}
-use Rattle.swap_laws.proofs.Room.{rules_leave_room}
-use Rattle.swap_laws.proofs.Rounds.{Informed, informed_done, nothing_due}
-use Rattle.swap_laws.specs.Laws.{IsOnTime}
-use Rattle.swap_laws.proofs.Accepted.{times_law}
-use Rattle.swap_laws.proofs.Conducting.{from_moments, below_of}
-use Rattle.swap_laws.proofs.Due.{knows_call}
-use Rattle.swap_laws.proofs.Expiry.{still_expired}
-use Rattle.swap_laws.proofs.Growth.{Grows, triggered-more, is_published-more, correct_published, is_ready-more, ready_good, may-more}
-use Rattle.swap_laws.proofs.Prefixes.{begins_height, in_any, moment_more}
-use Rattle.swap_laws.proofs.Refunds.{every_book_is_safe}
-use Rattle.swap_laws.proofs.Words.{act_of, call_by-act, key_parts, same_key-refl, same_key-true, same_terms-refl, and_three, and_five, leaves}
+use Rattle.swap_rules.specs.Machine.{Begins, Knows, KeepsOwn, KeepsRules, IsWallet, test_of, noted}
+use Rattle.swap_rules.proofs.Room.{rules_leave_room}
+use Rattle.swap_rules.proofs.Rounds.{Informed, informed_done, nothing_due}
+use Rattle.swap_rules.specs.Laws.{IsOnTime}
+use Rattle.swap_rules.proofs.Accepted.{times_law}
+use Rattle.swap_rules.proofs.Conducting.{from_moments, below_of}
+use Rattle.swap_rules.proofs.Due.{knows_call}
+use Rattle.swap_rules.proofs.Expiry.{still_expired}
+use Rattle.swap_rules.proofs.Growth.{Grows, triggered-more, is_published-more, correct_published, is_ready-more, ready_good, may-more}
+use Rattle.swap_rules.proofs.Prefixes.{begins_height, in_any, moment_more}
+use Rattle.swap_rules.proofs.Refunds.{every_book_is_safe}
+use Rattle.swap_rules.proofs.Words.{act_of, call_by-act, key_parts, same_key-refl, same_key-true, same_terms-refl, and_three, and_five, leaves}
 use Rattle.wallet_promise.specs.Life.{Asking, nothing_kept, is_kept, Rest, keep_of, make_if, answer_for, IsTold, IsAnswered, IsLife, MayKeep, MayGo}
 use Rattle.wallet_promise.specs.Life.{HasRested}
 use Rattle.wallet_promise.specs.Laws.{LifeConducts, LifeIsSafe, OneHashkey, AskedIsNotKept, NothingIsLost, AnswersMayGo, AnswersMayBeKept, ToldIsOnce}

@@ -1,4 +1,4 @@
-use Rattle.swap_laws.proofs.Found.{unnamed_is_safe, without_findings_all_is_transferred}
+use Rattle.swap_rules.proofs.Found.{unnamed_is_safe, without_findings_all_is_transferred}
 use Rattle.swap_run.specs.Run.{conforms}
 use Rattle.swap_many.specs.Chains.{book}
 use Rattle.swap_many.specs.Many.{many_run, many_finish}

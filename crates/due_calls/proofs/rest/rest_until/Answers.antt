@@ -2,7 +2,7 @@ use Rattle.std.proofs.Common.{◌≡◌, ◌∙◌, ℕ, map, Some, sym, ap, ari
 use Rattle.escrow_core.specs.Parts.{lesser}
 use Rattle.ledger_core.specs.Book.{history}
 use Rattle.swap_rules.specs.Party.{least_expiry}
-use Rattle.swap_laws.specs.Rest.{is_waiting}
+use Rattle.swap_rules.specs.Rest.{is_waiting}
 use Rattle.due_calls.proofs.Known.{one_each}
 use Rattle.due_calls.proofs.Resting.{counts_on, counts_off}
 use Rattle.due_calls.proofs.rest.rest_until.Goals as goal

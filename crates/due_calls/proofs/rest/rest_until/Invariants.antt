@@ -1,7 +1,7 @@
 use Rattle.std.proofs.Common.{◌≡◌, map, filter, take}
 use Rattle.ledger_core.specs.Book.{history}
 use Rattle.swap_rules.specs.Party.{least_expiry}
-use Rattle.swap_laws.specs.Rest.{is_waiting, least_of}
+use Rattle.swap_rules.specs.Rest.{is_waiting, least_of}
 use Rattle.due_calls.proofs.rest.rest_until.Given as goal
 
 abbrev pub invariant-arcs : goal.invariant-arcs

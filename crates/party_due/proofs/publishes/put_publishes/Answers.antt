@@ -2,7 +2,7 @@ use Rattle.std.proofs.Common.{subst}
 use Rattle.std.specs.Prelude.{slice_index_or}
 use Rattle.swap_base.specs.Lists.{IsIn}
 use Rattle.swap_base.proofs.Lists.{in_place}
-use Rattle.swap_laws.proofs.Words.{leaves}
+use Rattle.swap_rules.proofs.Words.{leaves}
 use Rattle.party_due.proofs.publishes.put_publishes.Goals as goal
 
 pub put_publish-requires-clause-arc : goal.put_publish-requires-clause-arc

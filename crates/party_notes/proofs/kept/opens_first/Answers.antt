@@ -2,7 +2,7 @@ use Rattle.std.proofs.Common.{subst}
 use Rattle.std.specs.Prelude.{slice_index_or}
 use Rattle.swap_base.specs.Lists.{IsIn}
 use Rattle.swap_base.proofs.Lists.{in_place}
-use Rattle.swap_laws.proofs.Words.{enters}
+use Rattle.swap_rules.proofs.Words.{enters}
 use Rattle.party_notes.proofs.kept.opens_first.Goals as goal
 
 pub opens_on-requires-clause-arc : goal.opens_on-requires-clause-arc

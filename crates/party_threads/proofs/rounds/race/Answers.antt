@@ -1,6 +1,6 @@
 use Rattle.std.proofs.Common.{rules, ◌≡◌, List, Option, Some, map, subst, sym, ap, ◌∙◌}
 use Rattle.std.proofs.lemmas.List.{with_items_is, places}
-use Rattle.swap_laws.proofs.Accepted.{accepted_is_well_sized}
+use Rattle.swap_rules.proofs.Accepted.{accepted_is_well_sized}
 use Rattle.ledger_core.specs.Book.{Histories}
 use Rattle.ledger_core.specs.Value.{LedgerState}
 use Rattle.swap_world.specs.Cast.{cast_of}

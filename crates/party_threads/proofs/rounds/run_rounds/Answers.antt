@@ -1,5 +1,5 @@
 use Rattle.std.proofs.Common.{◌<◌, refl}
-use Rattle.swap_laws.proofs.Accepted.{accepted_is_well_sized}
+use Rattle.swap_rules.proofs.Accepted.{accepted_is_well_sized}
 use Rattle.swap_world.specs.Cast.{cast_of}
 use Rattle.party_threads.specs.Race.{rounds_for}
 use Rattle.party_threads.specs.Standing.{state_of}

@@ -1,4 +1,4 @@
-use Rattle.swap_laws.proofs.Accepted.{accepted_is_well_sized}
+use Rattle.swap_rules.proofs.Accepted.{accepted_is_well_sized}
 use Rattle.swap_auditor.proofs.Replays.{units_add_up}
 use Rattle.swap_auditor.proofs.auditing.audit.Goals as goal
 

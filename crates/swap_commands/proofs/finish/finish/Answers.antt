@@ -1,6 +1,6 @@
 use Rattle.std.proofs.Common.{◌≡◌, ◌<◌, ◌∙◌, ap, sym, subst, true}
 use Rattle.swap_digraph.specs.declared.deal.Deal.{Deal}
-use Rattle.swap_laws.specs.Laws.{IsDealt}
+use Rattle.swap_rules.specs.Laws.{IsDealt}
 use Rattle.swap_run.specs.Run.{Cast, conforms, start}
 use Rattle.outcome_rules.specs.Report.{conforms_in}
 use Rattle.swap_world.specs.Gone.{HasGone}

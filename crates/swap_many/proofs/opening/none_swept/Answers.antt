@@ -1,5 +1,5 @@
 use Rattle.std.proofs.Common.{◌≡◌, ◌≢◌, ◌⊎◌, ◌<◌, ◌+◌, ℕ, inl, inr, arith, Bool, false, List, ◌++◌, ◌∷◌, [], length, replicate, sym, ap, ◌∙◌, subst}
-use Rattle.swap_laws.proofs.Prefixes.{same_or_not}
+use Rattle.swap_rules.proofs.Prefixes.{same_or_not}
 use Rattle.swap_digraph.specs.declared.deal.Deal.{Deal}
 use Rattle.swap_run.specs.Laws.{IsReadyCast}
 use Rattle.swap_world.specs.Value.{WorldState, cast_at}

@@ -1,5 +1,5 @@
 use Rattle.std.proofs.Common.{◌≡◌, ◌≢◌, ◌⊎◌, inl, inr, ℕ, ◌<◌, ◌+◌, [], arith, sym, ap, ◌∙◌, subst}
-use Rattle.swap_laws.proofs.Prefixes.{same_or_not}
+use Rattle.swap_rules.proofs.Prefixes.{same_or_not}
 use Rattle.swap_world.specs.Near.{all_adjacent}
 use Rattle.swap_world.specs.Quiet.{IsStill}
 use Rattle.swap_world.specs.Value.{WorldState, cast_at}

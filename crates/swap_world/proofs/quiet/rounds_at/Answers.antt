@@ -1,5 +1,5 @@
 use Rattle.std.proofs.Common.{arith, sym, ap, ◌∙◌}
-use Rattle.swap_laws.specs.Rest.{are_ticks}
+use Rattle.swap_rules.specs.Rest.{are_ticks}
 use Rattle.party_machine.proofs.Resting.{are_all_ticks}
 use Rattle.swap_world.proofs.quiet.rounds_at.Goals as goal
 

@@ -1,5 +1,5 @@
 use Rattle.ledger_core.specs.Book.{history}
-use Rattle.swap_laws.proofs.Prefixes.{begins_more}
+use Rattle.swap_rules.proofs.Prefixes.{begins_more}
 use Rattle.swap_world.proofs.On.{landed_begins}
 use Rattle.swap_world.proofs.turn.make_due.Goals as goal
 

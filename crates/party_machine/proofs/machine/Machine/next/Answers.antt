@@ -1,8 +1,8 @@
 use Rattle.std.proofs.Common.{◌≡◌, ◌∙◌, ℕ, not, Some, List, refl, sym, ap, ap₂, subst}
 use Rattle.hashkey_path.specs.declared.hashkey.Hashkey.{Hashkey}
 use Rattle.ledger_core.specs.declared.entry.Call.TheVariants.{Unlock}
-use Rattle.swap_laws.specs.Rest.{rest_until}
-use Rattle.swap_laws.specs.Machine.{noted}
+use Rattle.swap_rules.specs.Rest.{rest_until}
+use Rattle.swap_rules.specs.Machine.{noted}
 use Rattle.party_wallet.specs.Value.{signed_in}
 use Rattle.history_index.specs.Value.{IndexState}
 use Rattle.party_machine.specs.Machine.{MachineState, next_of}

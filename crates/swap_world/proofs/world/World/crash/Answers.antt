@@ -4,7 +4,7 @@ use Rattle.ledger_core.specs.Value.{LedgerState}
 use Rattle.swap_job.specs.declared.event.Event.TheVariants.{Crash}
 use Rattle.swap_job.specs.declared.job.Role.TheVariants as kinds
 use Rattle.swap_job.specs.Step.{CanCrash}
-use Rattle.swap_laws.proofs.Accepted.{accepted_is_well_sized}
+use Rattle.swap_rules.proofs.Accepted.{accepted_is_well_sized}
 use Rattle.swap_world.specs.Acting.{histories}
 use Rattle.swap_world.specs.Inside.{asked_in, cast_in, state_in}
 use Rattle.swap_world.specs.Journals.{IsJournalOf, IsSomeJournal}

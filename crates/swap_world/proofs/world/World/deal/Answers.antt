@@ -1,4 +1,4 @@
-use Rattle.swap_laws.proofs.Accepted.{accepted_is_well_sized}
+use Rattle.swap_rules.proofs.Accepted.{accepted_is_well_sized}
 use Rattle.swap_world.proofs.world.World.deal.Goals as goal
 
 pub returns-clause-sized : goal.returns-clause-sized

@@ -3,7 +3,7 @@ use Rattle.ledger_core.specs.Book.{history}
 use Rattle.std.proofs.lemmas.Bool.{false≢true}
 use Rattle.swap_job.specs.declared.event.Event.TheVariants.{Look}
 use Rattle.swap_job.specs.declared.job.Role.TheVariants as kinds
-use Rattle.swap_laws.specs.Machine.{Begins}
+use Rattle.swap_rules.specs.Machine.{Begins}
 use Rattle.swap_world.specs.Acting.{histories}
 use Rattle.swap_world.specs.Inside.{asked_in, cast_in, state_in}
 use Rattle.swap_world.specs.declared.actor.Actor.TheVariants.{Conforming}

@@ -2,7 +2,7 @@ use Rattle.std.proofs.Common.{◌≡◌, sym, ap, ◌∙◌, subst, ◌⊎◌, O
 use Rattle.ledger_core.specs.Book.{Histories}
 use Rattle.swap_job.specs.declared.event.Event.TheVariants.{Call as Made}
 use Rattle.swap_job.specs.Resolved.{resolved}
-use Rattle.swap_laws.proofs.Accepted.{accepted_is_well_sized}
+use Rattle.swap_rules.proofs.Accepted.{accepted_is_well_sized}
 use Rattle.swap_world.specs.Acting.{histories, taken, told_to}
 use Rattle.swap_world.specs.On.{swept_in}
 use Rattle.swap_world.specs.Inside.{asked_in, cast_in, state_in}

@@ -1,7 +1,7 @@
 use Rattle.std.proofs.Common.{◌∙◌, sym, ap, length, subst, List, Bool}
 use Rattle.std.proofs.lemmas.Result.{err_from_is_err_and}
 use Rattle.swap_run.proofs.Good.{good_is_kept}
-use Rattle.swap_laws.proofs.Accepted.{accepted_is_well_sized}
+use Rattle.swap_rules.proofs.Accepted.{accepted_is_well_sized}
 use Rattle.swap_world.specs.Journals.{AreFirstJournals}
 use Rattle.swap_world.proofs.Team.{world_of_new, role_each}
 use Rattle.swap_world.proofs.Begun.{refused, world_is, ready, actors, ledgers, good, room, journals}

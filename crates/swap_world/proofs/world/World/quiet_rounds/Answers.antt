@@ -1,5 +1,5 @@
 use Rattle.std.proofs.Common.{◌≡◌, ◌<◌, ◌≤◌, ◌+◌, false, List, length, arith, subst}
-use Rattle.swap_laws.proofs.Accepted.{accepted_is_well_sized}
+use Rattle.swap_rules.proofs.Accepted.{accepted_is_well_sized}
 use Rattle.ledger_core.specs.Value.{LedgerState}
 use Rattle.ledger_core.specs.History.{height}
 use Rattle.ledger_core.specs.Book.{history}

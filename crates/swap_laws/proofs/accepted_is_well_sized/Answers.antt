@@ -1,5 +1,0 @@
-use Rattle.swap_laws.proofs.Accepted as accepted
-use Rattle.swap_laws.proofs.accepted_is_well_sized.Goals as goal
-
-pub returns : goal.returns
-returns c = accepted.accepted_is_well_sized

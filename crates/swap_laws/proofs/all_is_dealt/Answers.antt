@@ -1,8 +1,0 @@
-use Rattle.swap_laws.proofs.Dealing as lemmas
-use Rattle.swap_laws.proofs.all_is_dealt.Goals as goal
-
-pub returns-clause-books : goal.returns-clause-books
-returns-clause-books c = lemmas.all_dealt
-
-pub returns-clause-races : goal.returns-clause-races
-returns-clause-races c = lemmas.races_dealt

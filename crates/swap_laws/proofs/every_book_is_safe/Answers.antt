@@ -1,5 +1,0 @@
-use Rattle.swap_laws.proofs.Refunds as refunds
-use Rattle.swap_laws.proofs.every_book_is_safe.Goals as goal
-
-pub returns : goal.returns
-returns c = refunds.every_book_is_safe

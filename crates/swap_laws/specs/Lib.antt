@@ -1,4 +1,0 @@
-pub mod Machine
-pub mod Rounds
-pub mod Laws
-pub mod Rest

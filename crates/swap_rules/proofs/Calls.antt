@@ -1,0 +1,156 @@
+-- What its conduct and its being on time say of a party's calls.
+use Rattle.std.proofs.Common.{◌≡◌, ℕ, ◌+◌, ◌<◌, ◌≤◌, ◌==◌, nat_lt, nat_le, Bool, true, false, not, ◌&&◌, ◌||◌, List, length, Option, Some, None}
+use Rattle.std.proofs.Common.{is_some, refl, sym, ap, ◌∙◌, eqb-true, lt-ltb, leb-true}
+use Rattle.std.specs.List.{flat_map}
+use Rattle.std.proofs.lemmas.Option.{same_Some}
+use Rattle.swap_base.specs.Lists.{IsIn, moments, IsMoment}
+use Rattle.swap_base.proofs.Lists.{at_moment, all_from_list_all, any_at, and_parts, moment_from_in, from_whole}
+use Rattle.swap_digraph.specs.declared.deal.Deal.{Deal}
+use Rattle.swap_digraph.specs.Graph.{arcs, leaving}
+use Rattle.hashkey_path.specs.declared.hashkey.Hashkey.{Hashkey}
+use Rattle.escrow_core.specs.declared.terms.Terms.{Terms}
+use Rattle.escrow_core.specs.Terms.{terms_of, same_terms}
+use Rattle.ledger_core.specs.declared.entry.Call.{Call}
+use Rattle.ledger_core.specs.declared.entry.Call.TheVariants.{Publish, Unlock, Claim, Refund, Transfer}
+use Rattle.ledger_core.specs.declared.entry.Entry.{Entry}
+use Rattle.ledger_core.specs.History.{height, Publication, published, IsLegal}
+use Rattle.ledger_core.specs.Book.{Histories, history, IsLegalBook}
+use Rattle.swap_rules.specs.declared.finding.Rule.{Rule}
+use Rattle.swap_rules.specs.declared.finding.Rule.TheVariants.{Publish as ToPublish, Unlock as ToUnlock, Claim as ToClaim, Refund as ToRefund}
+use Rattle.swap_rules.specs.Party.{is_correct_in, is_correct, is_ready, leads_one, call_by, first_key}
+use Rattle.swap_rules.specs.Conduct.{is_first_key, keeps, keeps_at, IsConducted}
+use Rattle.swap_rules.specs.Late.{ref_of, counts, is_done, late_at}
+use Rattle.swap_rules.specs.Findings.{rules_of}
+use Rattle.swap_rules.proofs.Words.{and_three, and_five, same_terms-true, leaves, call_by-act}
+use Rattle.ledger_core.proofs.History.{published_done, of_publish, published-past}
+use Rattle.swap_rules.specs.Laws.{IsOnTime}
+
+module _ (d : Deal) (b : Histories) (v : ℕ) (conducted : IsConducted d b v) where
+  -- each call of v keeps the rules
+  pub kept : (a : ℕ) (past : List Entry) (e : Entry) (c : Call) → IsMoment (history b a) past e → call_by v e ≡ Some c
+      → keeps d b v a past e.height (Some c) ≡ true
+  kept a past e c m k =
+      ap (keeps d b v a past e.height) (sym k)
+      ∙ at_moment (λ m. keeps_at d b v a m ≡ true) (history b a) past e (all_from_list_all (keeps_at d b v a) (moments (history b a)) (conducted a)) m
+
+  module _ (legal : IsLegalBook d b) where
+    pub legal_at : (a : ℕ) → a < length d.graph.arcs → IsLegal d a (history b a)
+    legal_at a l = legal.legal a (rw legal.one_each l)
+
+    pub record OwnPublish (a : ℕ) (t : Terms) : Type 0 where
+      pub correct : t ≡ terms_of d a
+      pub may : (leads_one d v || is_ready d b v) ≡ true
+
+    -- what v published on an arc that leaves it is correct, and v led or was ready
+    pub own_publish : (a : ℕ) (p : Publication) → IsIn a (leaving d.graph v) → published (history b a) ≡ Some p → OwnPublish a p.terms
+    unfolding keeps
+    own_publish a p i e =
+        let l = leaves d v a i in
+        let done = published_done d a (history b a) p (legal_at a l.0) e in
+        let by : done.act.by ≡ v = (of_publish d a done.past done.act.by p.terms done.clear).party ∙ l.1 in
+        let k = kept a done.past done.now (Publish p.terms) done.stands (call_by-act d a done.past done.now (Publish p.terms) v done.act by) in
+        let parts = and_three (same_terms p.terms (terms_of d a)) _ (leads_one d v || is_ready d b v) k in
+        record { correct = same_terms-true p.terms (terms_of d a) parts.0; may = parts.2 }
+
+    pub or-left_false : (x y : Bool) → x ≡ false → (x || y) ≡ true → y ≡ true
+    or-left_false true y h k = absurd (cc h)
+    or-left_false false y h k = k
+
+    -- an unlock call of v anywhere shows that v is ready
+    pub unlock_ready : (e : Entry) (key : Hashkey) → IsIn e (flat_map (λ h. h) b) → call_by v e ≡ Some (Unlock key) → is_ready d b v ≡ true
+    unfolding keeps
+    unlock_ready e key i k =
+        let w = from_whole b e i in
+        let m = moment_from_in (history b w.0) e w.2 in
+        let r = kept w.0 m.0 e (Unlock key) m.1 k in
+        (and_five (is_some (published m.0)) (is_ready d b v) _ _ _ r).1
+
+    module _ (on_time : IsOnTime d b v) where
+      pub record DoneInTime (a : ℕ) (rule : Rule) (due : ℕ) : Type 0 where
+        pub past : List Entry
+        pub now : Entry
+        pub call : Call
+        pub stands : IsMoment (history b a) past now
+        pub called : call_by v now ≡ Some call
+        pub counted : counts d b v rule a now.height (Some call) ≡ true
+        pub in_time : now.height ≤ due
+
+      pub some_call : (rule : Rule) (a at : ℕ) (o : Option Call) → counts d b v rule a at o ≡ true → (c : Call) × (o ≡ Some c)
+      unfolding counts
+      some_call ToPublish a at None k = absurd (cc k)
+      some_call (ToUnlock i) a at None k = absurd (cc k)
+      some_call ToClaim a at None k = absurd (cc k)
+      some_call ToRefund a at None k = absurd (cc k)
+      some_call rule a at (Some c) k = (c, refl)
+
+      pub late_parts : (x y : Bool) → (x && not y) ≡ false → x ≡ true → y ≡ true
+      late_parts x true e h = refl
+      late_parts true false e h = absurd (cc e)
+      late_parts false false e h = absurd (cc h)
+
+      -- an enabled action whose due height the ledger has passed was done in time
+      pub done_in_time : (rule : Rule) (a : ℕ) → IsIn rule (rules_of d) → IsIn a (arcs d.graph) → (r : ℕ) → ref_of d b v rule a ≡ Some r
+          → r + d.delta < height (history b a) → DoneInTime a rule (r + d.delta)
+      done_in_time rule a r_in a_in r enabled passed =
+          let e : (nat_lt (r + d.delta) (height (history b a)) && not (is_done d b v rule a (r + d.delta))) ≡ false =
+          ap (late_at d b v rule a) (sym enabled) ∙ on_time rule a r_in a_in in
+          let k : is_done d b v rule a (r + d.delta) ≡ true = late_parts (nat_lt (r + d.delta) (height (history b a))) _ e (lt-ltb _ _ passed) in
+          let f = any_at (λ e. counts d b v rule a e.height (call_by v e) && nat_le e.height (r + d.delta)) (history b a) k in
+          let parts = and_parts (counts d b v rule a f.now.height (call_by v f.now)) (nat_le f.now.height (r + d.delta)) f.passes in
+          let c = some_call rule a f.now.height (call_by v f.now) parts.0 in
+          record {
+            past = f.past;
+            now = f.now;
+            call = c.0;
+            stands = f.stands;
+            called = c.1;
+            counted = ap (counts d b v rule a f.now.height) (sym c.1) ∙ parts.0;
+            in_time = leb-true f.now.height (r + d.delta) parts.1;
+          }
+
+-- What an enabled action is done by.
+
+pub record CountedUnlock (b : Histories) (v i : ℕ) (c : Call) : Type 0 where
+  pub key : Hashkey
+  pub call : c ≡ Unlock key
+  pub lock : key.lock ≡ i
+  pub first : is_first_key (first_key b v i) key ≡ true
+
+pub counted_unlock : (d : Deal) (b : Histories) (v i a at : ℕ) (c : Call) → counts d b v (ToUnlock i) a at (Some c) ≡ true → CountedUnlock b v i c
+unfolding counts
+counted_unlock d b v i a at (Unlock key) k =
+    let parts = and_parts (key.lock == i) (is_first_key (first_key b v i) key) k in
+    record { key = key; call = refl; lock = eqb-true key.lock i parts.0; first = parts.1 }
+counted_unlock d b v i a at (Publish t) k = absurd (cc k)
+counted_unlock d b v i a at Claim k = absurd (cc k)
+counted_unlock d b v i a at Refund k = absurd (cc k)
+counted_unlock d b v i a at (Transfer to units) k = absurd (cc k)
+
+pub counted_claim : (d : Deal) (b : Histories) (v a at : ℕ) (c : Call) → counts d b v ToClaim a at (Some c) ≡ true → c ≡ Claim
+unfolding counts
+counted_claim d b v a at Claim k = refl
+counted_claim d b v a at (Publish t) k = absurd (cc k)
+counted_claim d b v a at (Unlock key) k = absurd (cc k)
+counted_claim d b v a at Refund k = absurd (cc k)
+counted_claim d b v a at (Transfer to units) k = absurd (cc k)
+
+-- What a correct arc published.
+
+pub record Correct (d : Deal) (b : Histories) (a : ℕ) : Type 0 where
+  pub contract : Publication
+  pub published : published (history b a) ≡ Some contract
+  pub terms : contract.terms ≡ terms_of d a
+
+correct_of : (d : Deal) (b : Histories) (a : ℕ) (o : Option Publication) → published (history b a) ≡ o → is_correct_in d a o ≡ true → Correct d b a
+correct_of d b a None e k = absurd (cc k)
+correct_of d b a (Some p) e k = record { contract = p; published = e; terms = same_terms-true p.terms (terms_of d a) k }
+
+pub correct : (d : Deal) (b : Histories) (a : ℕ) → is_correct d b a ≡ true → Correct d b a
+correct d b a k = correct_of d b a (published (history b a)) refl k
+
+-- on a correct arc a prefix that has a publish has the correct terms
+pub correct_past : (d : Deal) (b : Histories) (a : ℕ) (past : List Entry) (e : Entry) (p : Publication) → Correct d b a → IsMoment (history b a) past e
+    → published past ≡ Some p → p.terms ≡ terms_of d a
+correct_past d b a past e p c m k =
+    let one : p ≡ c.contract = same_Some p c.contract (sym (published-past (history b a) past e p m k) ∙ c.published) in
+    ap (λ q. q.terms) one ∙ c.terms

@@ -1,0 +1,247 @@
+-- A party that is ready, conducted and on time opens and claims every arc that enters it.
+use Rattle.std.proofs.Common.{◌≡◌, ℕ, ◌+◌, ◌<◌, ◌≤◌, true, cond, not, ◌-◌, if◌then◌else◌, max, ◌&&◌, List, length, Option, Some, None, is_some, refl}
+use Rattle.std.proofs.Common.{sym, ap, ◌∙◌, subst, inl, inr, arith, leb-true}
+use Rattle.std.proofs.lemmas.Bool.{false≢true}
+use Rattle.swap_base.specs.Lists.{IsIn, IsMoment}
+use Rattle.swap_base.proofs.Lists.{Order, moments_in_order, list_all-in, list_all-from, in_range, from_range, and_parts, and_both, greatest-below}
+use Rattle.swap_base.proofs.Lists.{Earlier, Same, Later}
+use Rattle.swap_digraph.specs.declared.deal.Deal.{Deal}
+use Rattle.swap_digraph.specs.Graph.{entering, is_among}
+use Rattle.swap_digraph.specs.Deal.{counterparty, locks, leads, hashlock_of}
+use Rattle.hashkey_path.specs.declared.hashkey.Hashkey.{Hashkey}
+use Rattle.hashkey_path.specs.Hashkey.{is_wrong_secret, is_wrong_path, is_wrong_signature, is_valid}
+use Rattle.escrow_core.specs.Terms.{terms_of, last_in, hashlock_in, refund_expiry}
+use Rattle.ledger_core.specs.declared.entry.Call.TheVariants.{Unlock, Claim, Refund}
+use Rattle.ledger_core.specs.declared.entry.Entry.{Entry}
+use Rattle.ledger_core.specs.History.{height, accepted, published, Opening, opened, settled, is_open, triggered}
+use Rattle.ledger_core.specs.declared.facts.Settlement.TheVariants.{Refunded}
+use Rattle.ledger_core.specs.Book.{Histories, history, IsLegalBook}
+use Rattle.swap_rules.specs.declared.finding.Rule.TheVariants.{Unlock as ToUnlock, Claim as ToClaim}
+use Rattle.swap_rules.specs.Party.{is_correct, height_in, is_good, is_ready, ready_height, is_triggered, expiry, call_by, first_key, least_expiry}
+use Rattle.swap_rules.specs.Conduct.{is_first_key, keeps, IsConducted}
+use Rattle.swap_rules.specs.Late.{height_of_opening, base_of, trigger_height, when, ref_of}
+use Rattle.swap_rules.specs.Outcome.{is_claim, is_got, IsEnded}
+use Rattle.swap_digraph.proofs.Paths.{in-is_among}
+use Rattle.swap_rules.proofs.Words.{and_five, unlock_rule, claim_rule, enters, act_of}
+use Rattle.swap_rules.proofs.Times.{TimesLaw}
+use Rattle.ledger_core.proofs.History.{refunded_done, of_refund, opened-now, Done, opened_done, OfUnlock, of_unlock, height-past, published-past}
+use Rattle.swap_rules.proofs.Effects.{claim_claims}
+use Rattle.ledger_core.proofs.History.{legal-past, is_some-of, lock-below}
+use Rattle.swap_rules.proofs.Openings.{IsOpenBy, open_by_more, is_open_by, unlock_opens_by, Expired, expired_lock, least-expired, moment_within}
+use Rattle.swap_rules.specs.Laws.{IsOnTime}
+use Rattle.swap_rules.proofs.Calls.{kept, legal_at, correct, done_in_time, counted_unlock, counted_claim, correct_past}
+use Rattle.time_bounds.specs.Times as times
+
+-- v's unlock for lock i on a is enabled, and its due height is in time.
+pub record DueUnlock (d : Deal) (b : Histories) (v a i : ℕ) : Type 0 where
+  pub within : i < length d.leaders
+  pub ref : ℕ
+  pub enabled : ref_of d b v (ToUnlock i) a ≡ Some ref
+  pub value : ref ≡ (if leads d v i then ready_height d b v else max (ready_height d b v) (base_of d.mode d b v i (first_key b v i)))
+  pub ends : ref + d.delta ≤ times.horizon d.start d.delta d.bound
+  pub early : (key : Hashkey) → is_valid d a (hashlock_of d key.lock) key ≡ true → is_first_key (first_key b v i) key ≡ true
+      → ref + d.delta ≤ last_in d.mode (terms_of d a) key
+
+pub valid_of_unlock : (d : Deal) (a : ℕ) (past : List Entry) (by : ℕ) (key : Hashkey) (u : OfUnlock d a past by key)
+    → is_valid d a (hashlock_in u.contract.terms key.lock) key ≡ true
+valid_of_unlock d a past by key u =
+    and_both (not (is_wrong_secret (hashlock_in u.contract.terms key.lock) key) && not (is_wrong_path d a d.mode key)) (not (is_wrong_signature d d.mode key))
+    (and_both (not (is_wrong_secret (hashlock_in u.contract.terms key.lock) key)) (not (is_wrong_path d a d.mode key)) (ap not u.secret) (ap not u.path))
+    (ap not u.signature)
+
+-- what a due unlock leaves
+pub record Unlocked (d : Deal) (b : Histories) (v a i t : ℕ) : Type 0 where
+  pub open_by : IsOpenBy (history b a) i t
+  pub key : Hashkey
+  pub first : is_first_key (first_key b v i) key ≡ true
+  pub lock : key.lock ≡ i
+  pub valid : is_valid d a (hashlock_of d key.lock) key ≡ true
+
+module _ (d : Deal) (b : Histories) (v : ℕ) (legal : IsLegalBook d b) (ended : IsEnded d b) (conducted : IsConducted d b v) (on_time : IsOnTime d b v)
+    (law : TimesLaw d) (ready : is_ready d b v ≡ true) where
+  pub good_entering : (a : ℕ) → IsIn a (entering d.graph v) → is_good d b a ≡ true
+  unfolding is_ready
+  good_entering a i = list_all-in (is_good d b) (entering d.graph v) a ready i
+
+  pub correct_entering : (a : ℕ) → IsIn a (entering d.graph v) → is_correct d b a ≡ true
+  correct_entering a i = (and_parts (is_correct d b a) _ (good_entering a i)).0
+
+  pub ready_below : ready_height d b v ≤ times.open_by d.start d.delta d.bound
+  unfolding ready_height
+  ready_below = greatest-below (λ a. height_in (published (history b a))) (entering d.graph v) (times.open_by d.start d.delta d.bound)
+      (λ a w. leb-true _ _ (and_parts (is_correct d b a) _ (good_entering a w)).1)
+
+  -- a refund that was accepted on an entering arc, above the expiry of a lock that was closed then
+  pub record RefundIn (a : ℕ) (past : List Entry) : Type 0 where
+    pub before : List Entry
+    pub now : Entry
+    pub stands : IsMoment past before now
+    pub took : accepted now ≡ Some Refund
+    pub expired : Expired d a before (height before)
+
+  pub refund_in : (a : ℕ) (past : List Entry) (e : Entry) → IsIn a (entering d.graph v) → IsMoment (history b a) past e → settled past ≡ Some Refunded
+      → RefundIn a past
+  refund_in a past e w m s =
+      let in_arc = enters d v a w in
+      let r = (refunded_done d a past (legal-past d a (history b a) past e (legal_at d b v conducted legal a in_arc.0) m) s).1 in
+      let of_r = of_refund d a r.past r.act.by r.clear in
+      let terms : of_r.contract.terms ≡ terms_of d a =
+      correct_past d b a past e of_r.contract (correct d b a (correct_entering a w)) m
+      (published-past past r.past r.now of_r.contract r.stands of_r.published) in
+      let above : least_expiry d a r.past < height r.past = subst (λ t. refund_expiry d a t (is_open r.past) < height r.past) terms of_r.expired in
+      record {
+        before = r.past;
+        now = r.now;
+        stands = r.stands;
+        took = r.took;
+        expired = expired_lock d a r.past (height r.past) (least-expired d a r.past (height r.past) of_r.untriggered above);
+      }
+
+  -- a lock of an entering arc was opened at most at its expiry
+  pub opened_by_expiry : (a i : ℕ) → IsIn a (entering d.graph v) → height_of_opening (opened (history b a) i) ≤ expiry d a i
+  opened_by_expiry a i w = go (opened (history b a) i) refl
+    where
+      go : (o : Option Opening) → opened (history b a) i ≡ o → height_of_opening o ≤ expiry d a i
+      go None e = omega arith
+      go (Some o) e =
+          let in_arc = enters d v a w in
+          let u = opened_done d a (history b a) i o (legal_at d b v conducted legal a in_arc.0) e in
+          let of_u = of_unlock d a u.0.past u.0.act.by o.key u.0.clear in
+          let terms : of_u.contract.terms ≡ terms_of d a =
+          correct_past d b a u.0.past u.0.now of_u.contract (correct d b a (correct_entering a w)) u.0.stands of_u.published in
+          let valid : is_valid d a (hashlock_of d o.key.lock) o.key ≡ true =
+          subst (λ t. is_valid d a (hashlock_in t o.key.lock) o.key ≡ true) terms (valid_of_unlock d a u.0.past u.0.act.by o.key of_u) in
+          let last : last_in d.mode (terms_of d a) o.key ≤ expiry d a i =
+          subst (λ j. last_in d.mode (terms_of d a) o.key ≤ expiry d a j) u.1 (law.last a o.key in_arc.0 (lock-below d a o.key u.0.act.fits) valid)
+          in
+          let in_time : height u.0.past ≤ last_in d.mode (terms_of d a) o.key = subst (λ t. height u.0.past ≤ last_in d.mode t o.key) terms of_u.in_time in
+          let at : o.height ≡ height u.0.past = u.0.at in
+          omega arith
+
+  -- a due unlock opens its lock by its due height, where no refund came before it
+  pub opens_unless : (a i : ℕ) → IsIn a (entering d.graph v) → (due : DueUnlock d b v a i)
+      → ((past : List Entry) (e : Entry) → IsMoment (history b a) past e → height past ≤ due.ref + d.delta → height past ≤ expiry d a i
+      → RefundIn a past → ⊥) → Unlocked d b v a i (due.ref + d.delta)
+  unfolding keeps
+  opens_unless a i w due unrefunded =
+      let in_arc = enters d v a w in
+      let now_ended : times.horizon d.start d.delta d.bound < height (history b a) = ended a in_arc.0 in
+      let ends : due.ref + d.delta ≤ times.horizon d.start d.delta d.bound = due.ends in
+      let passed : due.ref + d.delta < height (history b a) = omega arith in
+      let done =
+      done_in_time d b v conducted legal on_time (ToUnlock i) a (unlock_rule d i due.within) (in_range a (length d.graph.arcs) in_arc.0) due.ref
+      due.enabled passed in
+      let u = counted_unlock d b v i a done.now.height done.call done.counted in
+      let called : call_by v done.now ≡ Some (Unlock u.key) = done.called ∙ ap Some u.call in
+      let l = legal_at d b v conducted legal a in_arc.0 in
+      let act = act_of d a (history b a) done.past done.now (Unlock u.key) v l done.stands called in
+      let k =
+      and_five (is_some (published done.past)) (is_ready d b v) (is_first_key (first_key b v u.key.lock) u.key)
+      (is_valid d a (hashlock_of d u.key.lock) u.key) _ (kept d b v conducted a done.past done.now (Unlock u.key) done.stands called) in
+      let p = is_some-of (published done.past) k.0 in
+      let terms : p.0.terms ≡ terms_of d a = correct_past d b a done.past done.now p.0 (correct d b a (correct_entering a w)) done.stands p.1 in
+      let by : act.0.by ≡ counterparty d a = act.1 ∙ sym in_arc.1 in
+      let at : done.now.height ≡ height done.past = act.0.at in
+      let early : due.ref + d.delta ≤ last_in d.mode (terms_of d a) u.key = due.early u.key k.3 u.first in
+      let last : last_in d.mode (terms_of d a) u.key ≤ expiry d a i =
+      subst (λ j. last_in d.mode (terms_of d a) u.key ≤ expiry d a j) u.lock (law.last a u.key in_arc.0 (lock-below d a u.key act.0.fits) k.3) in
+      let in_time : done.now.height ≤ due.ref + d.delta = done.in_time in
+      let t0 : height done.past ≤ due.ref + d.delta = omega arith in
+      let t1 : height done.past ≤ last_in d.mode (terms_of d a) u.key = omega arith in
+      let t2 : height done.past ≤ expiry d a i = omega arith in
+      let o = unlock_opens_by d a (history b a) done.past done.now u.key p.0 l done.stands act.0 by p.1
+      (subst (λ t. is_valid d a (hashlock_in t u.key.lock) u.key ≡ true) (sym terms) k.3)
+      (subst (λ t. height done.past ≤ last_in d.mode t u.key) (sym terms) t1)
+      (λ s. unrefunded done.past done.now done.stands t0 t2 (refund_in a done.past done.now w done.stands s)) in
+      record {
+        open_by = open_by_more (history b a) i (height done.past) (due.ref + d.delta) t0 (subst (λ j. IsOpenBy (history b a) j (height done.past)) u.lock o);
+        key = u.key;
+        first = u.first;
+        lock = u.lock;
+        valid = k.3;
+      }
+
+  -- v's own lock is opened before any lock expires
+  pub opens_own : (a i : ℕ) → IsIn a (entering d.graph v) → leads d v i ≡ true → (due : DueUnlock d b v a i) → Unlocked d b v a i (due.ref + d.delta)
+  opens_own a i w lead due = opens_unless a i w due (λ past e m low low2 r.
+      let in_arc = enters d v a w in
+      let value : due.ref ≡ ready_height d b v =
+      due.value ∙ ap (λ x. cond x (ready_height d b v) (max (ready_height d b v) (base_of d.mode d b v i (first_key b v i)))) lead in
+      let g = ready_below in
+      let x = law.opens a r.expired.lock in_arc.0 in
+      let y = r.expired.above in
+      let z = height-past past r.before r.now r.stands in
+      absurd (omega arith))
+
+  -- a due unlock opens its lock: no refund comes before it, since v opened its own locks before these expired
+  pub opens : (a i : ℕ) → IsIn a (entering d.graph v) → ((j : ℕ) → j < length d.leaders → leads d v j ≡ true → DueUnlock d b v a j)
+      → (due : DueUnlock d b v a i) → Unlocked d b v a i (due.ref + d.delta)
+  opens a i w owns due = opens_unless a i w due (λ past e m low low2 r.
+      let in_arc = enters d v a w in
+      let y = r.expired.above in
+      let z = height-past past r.before r.now r.stands in
+      elim (law.early a i r.expired.lock in_arc.0) [
+        | inl l ↦ absurd (omega arith)
+        | inr x ↦
+            let lead : leads d v r.expired.lock ≡ true = subst (λ u. leads d u r.expired.lock ≡ true) in_arc.1 x.own in
+            let own = opens_own a r.expired.lock w lead (owns r.expired.lock (from_range r.expired.lock (length d.leaders) r.expired.within) lead) in
+            let u = opened_done d a (history b a) r.expired.lock own.open_by.opening (legal_at d b v conducted legal a in_arc.0) own.open_by.opened in
+            let before : height_of_opening (opened (history b a) r.expired.lock) ≤ expiry d a r.expired.lock = opened_by_expiry a r.expired.lock w in
+            let same : height_of_opening (opened (history b a) r.expired.lock) ≡ own.open_by.opening.height = ap height_of_opening own.open_by.opened in
+            let at = u.0.at in
+            in_order a past r own.open_by.opening.key u.1 u.0 (omega arith)
+            (moments_in_order (history b a) u.0.past r.before u.0.now r.now u.0.stands
+            (moment_within (history b a) past r.before e r.now m r.stands))
+      ])
+    where
+      in_order : (a : ℕ) (past : List Entry) (r : RefundIn a past) {t : ℕ} (key : Hashkey) → key.lock ≡ r.expired.lock
+          → (u : Done d a (history b a) (Unlock key) t) → height u.past < height r.before → Order u.past u.now r.before r.now → ⊥
+      in_order a past r key e u l (Earlier n) =
+          false≢true (sym r.expired.closed ∙ (ap (is_open r.before) (sym e) ∙ opened-now r.before u.past u.now key n u.took))
+      in_order a past r key e u l (Same p q) = let k : Some (Unlock key) ≡ Some Refund = sym u.took ∙ (ap accepted q ∙ r.took) in cc k
+      in_order a past r key e u l (Later n) = let z = height-past u.past r.before r.now n in absurd (omega arith)
+
+  pub claim_enabled : (a : ℕ) → IsIn a (entering d.graph v) → is_triggered d b a ≡ true → ref_of d b v ToClaim a ≡ Some (trigger_height d (history b a))
+  unfolding ref_of
+  claim_enabled a w t = ap (λ x. when x (trigger_height d (history b a)))
+      (and_both (is_among a (entering d.graph v) && is_correct d b a) (is_triggered d b a)
+      (and_both (is_among a (entering d.graph v)) (is_correct d b a) (in-is_among a (entering d.graph v) w) (correct_entering a w)) t)
+
+  pub trigger_ends : (a : ℕ) → IsIn a (entering d.graph v) → trigger_height d (history b a) + d.delta ≤ times.horizon d.start d.delta d.bound
+  trigger_ends a w =
+      let in_arc = enters d v a w in
+      let some = law.ends a 0 in_arc.0 in
+      let low : trigger_height d (history b a) ≤ times.horizon d.start d.delta d.bound - d.delta =
+      greatest-below (λ i. height_of_opening (opened (history b a) i)) (locks d) (times.horizon d.start d.delta d.bound - d.delta)
+      (λ i z. let x = opened_by_expiry a i w in let y = law.ends a i in_arc.0 in omega arith) in
+      omega arith
+
+  -- an entering arc that is triggered was claimed
+  pub claims : (a : ℕ) → IsIn a (entering d.graph v) → is_triggered d b a ≡ true → is_got d b a ≡ true
+  unfolding keeps
+  claims a w t =
+      let in_arc = enters d v a w in
+      let l = legal_at d b v conducted legal a in_arc.0 in
+      let now_ended : times.horizon d.start d.delta d.bound < height (history b a) = ended a in_arc.0 in
+      let ends = trigger_ends a w in
+      let passed : trigger_height d (history b a) + d.delta < height (history b a) = omega arith in
+      let done =
+      done_in_time d b v conducted legal on_time ToClaim a (claim_rule d) (in_range a (length d.graph.arcs) in_arc.0)
+      (trigger_height d (history b a)) (claim_enabled a w t) passed in
+      let called : call_by v done.now ≡ Some Claim = done.called ∙ ap Some (counted_claim d b v a done.now.height done.call done.counted) in
+      let act = act_of d a (history b a) done.past done.now Claim v l done.stands called in
+      let all_open : triggered d done.past ≡ true = kept d b v conducted a done.past done.now Claim done.stands called in
+      let o = is_some-of (opened done.past 0) (list_all-in (is_open done.past) (locks d) 0 all_open (in_range 0 (length d.leaders) law.lock)) in
+      let u = opened_done d a done.past 0 o.0 (legal-past d a (history b a) done.past done.now l done.stands) o.1 in
+      let of_u = of_unlock d a u.0.past u.0.act.by o.0.key u.0.clear in
+      let pub_past = published-past done.past u.0.past u.0.now of_u.contract u.0.stands of_u.published in
+      let by : act.0.by ≡ counterparty d a = act.1 ∙ sym in_arc.1 in
+      and_both (is_correct d b a) (is_claim (settled (history b a))) (correct_entering a w)
+      (ap is_claim (claim_claims d a (history b a) done.past done.now of_u.contract l done.stands act.0 by pub_past all_open))
+
+  -- where v's unlocks are due on every entering arc, it gets them all
+  pub gets_all : (dues : (a i : ℕ) → IsIn a (entering d.graph v) → IsIn i (locks d) → DueUnlock d b v a i) → (a : ℕ) → IsIn a (entering d.graph v)
+      → is_got d b a ≡ true
+  gets_all dues a w =
+      claims a w (list_all-from (is_open (history b a)) (locks d) (λ i z.
+      is_open_by (history b a) i _ (opens a i w (λ j l e. dues a j w (in_range j (length d.leaders) l)) (dues a i w z)).open_by))
