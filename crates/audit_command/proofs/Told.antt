@@ -4,7 +4,7 @@ use Rattle.std.proofs.KnownBytes.{Keeps-refl}
 use Rattle.swap_base.specs.Fault.{◌>>=◌}
 use Rattle.refusals.specs.declared.refusal.Refusal.{Refusal}
 use Rattle.outcome_rules.specs.declared.report.Report.{Report}
-use Rattle.stated_books.specs.WellFormed.{IsWellFormed}
+use Rattle.ledger_core.specs.WellFormed.{IsWellFormed}
 use Rattle.transcript_reader.specs.declared.reason.TranscriptReason.{TranscriptReason}
 use Rattle.transcript_reader.specs.Header.{header_read, IsTold}
 use Rattle.transcript_reader.specs.Reading.{Story, transcript_read}

@@ -2,7 +2,7 @@
 
 ghost use Rattle.std.specs.Prelude.{◌≡◌, IfOk};
 ghost use Rattle.swap_base.specs.Fault.{Gives};
-ghost use Rattle.stated_books.specs.WellFormed.{IsWellFormed};
+ghost use Rattle.ledger_core.specs.WellFormed.{IsWellFormed};
 ghost use Rattle.transcript_reader.specs.Header.{IsTold};
 ghost use Rattle.transcript_reader.specs.Reading.{Story};
 ghost use Rattle.audit_command.specs.Output.{judged, refused_reply, story};

@@ -7,3 +7,4 @@ pub mod Inside
 pub mod Known
 pub mod Runs
 pub mod Parts
+pub mod WellFormed

@@ -1,6 +1,6 @@
 -- What the program keeps of an input.
 use Rattle.std.specs.Prelude.{ℕ, List}
-use Rattle.stated_books.specs.WellFormed.{IsWellFormed}
+use Rattle.ledger_core.specs.WellFormed.{IsWellFormed}
 use Rattle.transcript_reader.specs.Header.{IsTold}
 use Rattle.party_answer.specs.declared.asked.Said.{Said}
 use Rattle.swap_digraph.specs.declared.deal.Deal.{Deal}

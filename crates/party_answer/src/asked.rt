@@ -5,7 +5,7 @@ ghost use Rattle.std.specs.Str.{bytes_eq};
 ghost use Rattle.swap_base.specs.Fault.{Gives};
 ghost use Rattle.swap_digraph.specs.Deal.{IsWellSized};
 ghost use Rattle.ledger_core.specs.Book.{IsLegalBook};
-ghost use Rattle.stated_books.specs.WellFormed.{IsWellFormed};
+ghost use Rattle.ledger_core.specs.WellFormed.{IsWellFormed};
 ghost use Rattle.transcript_lines.specs.Between.{parts_at};
 ghost use Rattle.transcript_reader.specs.Header.{header_read, IsTold};
 ghost use Rattle.transcript_reader.specs.Reading.{parts_read, story_of};

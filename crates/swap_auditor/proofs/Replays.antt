@@ -23,7 +23,7 @@ use Rattle.ledger_core.proofs.Bounds.{bounds}
 use Rattle.ledger_core.proofs.Units.{units}
 use Rattle.swap_auditor.specs.declared.replay.BadReply.{BadReply}
 use Rattle.swap_auditor.specs.Replies.{same_reply}
-use Rattle.stated_books.specs.WellFormed.{written_height, IsFormedCall, IsFormedTick, IsFormedWhat, IsFormedEntry, IsFormed, IsWellFormed, GoesOn}
+use Rattle.ledger_core.specs.WellFormed.{written_height, IsFormedCall, IsFormedTick, IsFormedWhat, IsFormedEntry, IsFormed, IsWellFormed, GoesOn}
 use Rattle.swap_auditor.specs.Audit.{replayed, with_entry, replay, replay_from, UnitsAddUp}
 
 -- Entries.

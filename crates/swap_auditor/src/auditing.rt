@@ -9,7 +9,7 @@ ghost use Rattle.swap_rules.specs.Laws.{FindsNothing, IsTransferred};
 ghost use Rattle.outcome_rules.specs.Promises.{AllAreConforming, AllAreWhole, AllHaveRefunds, NoneIsUnderwater, shown_outcome};
 ghost use Rattle.outcome_rules.specs.Report.{conforms_in};
 ghost use Rattle.swap_auditor.specs.Audit.{audited, replay_from, UnitsAddUp};
-ghost use Rattle.stated_books.specs.WellFormed.{IsWellFormed};
+ghost use Rattle.ledger_core.specs.WellFormed.{IsWellFormed};
 
 use crate::found::Found;
 use crate::replay::{AuditFault, replay};

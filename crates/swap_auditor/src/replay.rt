@@ -6,7 +6,7 @@ ghost use Rattle.swap_digraph.specs.Deal.{IsWellSized, party, counterparty};
 ghost use Rattle.ledger_core.specs.History.{height, fit, reply_to, reply_to_tick, IsLegal};
 ghost use Rattle.ledger_core.specs.Ledger.{call_entry, tick_entry};
 ghost use Rattle.swap_auditor.specs.Audit.{replay, replayed, with_entry};
-ghost use Rattle.stated_books.specs.WellFormed.{IsFormed, IsFormedEntry};
+ghost use Rattle.ledger_core.specs.WellFormed.{IsFormed, IsFormedEntry};
 
 use crate::found::Found;
 use crate::same_reply::same_reply;

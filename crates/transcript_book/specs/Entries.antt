@@ -11,7 +11,7 @@ use Rattle.ledger_core.specs.declared.entry.What.TheVariants.{Call as Made, Tick
 use Rattle.ledger_core.specs.declared.entry.Entry.{Entry}
 use Rattle.ledger_core.specs.History.{height, fit}
 use Rattle.ledger_core.specs.Ledger.{call_entry, tick_entry}
-use Rattle.stated_books.specs.WellFormed.{written_height}
+use Rattle.ledger_core.specs.WellFormed.{written_height}
 use Rattle.transcript_lines.specs.declared.said.Said.{Said}
 use Rattle.transcript_lines.specs.declared.said.Misspelling.{Misspelling}
 use Rattle.transcript_lines.specs.Reading.{line_said, misspelt}

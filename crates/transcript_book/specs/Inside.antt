@@ -2,7 +2,7 @@
 use Rattle.std.specs.Prelude.{◌≡◌, ◌≤◌, ◌<◌, length, vec_capacity}
 use Rattle.swap_digraph.specs.Deal.{IsWellSized}
 use Rattle.ledger_core.specs.History.{height}
-use Rattle.stated_books.specs.WellFormed.{written_height}
+use Rattle.ledger_core.specs.WellFormed.{written_height}
 use Rattle.transcript_book.specs.declared.place.Place.TheVariants.{Entries}
 use Rattle.transcript_book.specs.declared.reader.BookReader.TheInside.{Inside}
 use Rattle.transcript_book.specs.Stages.{BookSoFar}

@@ -19,7 +19,7 @@ use Rattle.ledger_core.specs.History.{height, fit}
 use Rattle.ledger_core.specs.Ledger.{call_entry, tick_entry}
 use Rattle.ledger_core.specs.Book.{Histories}
 use Rattle.swap_job.specs.declared.job.Job.{Job}
-use Rattle.stated_books.specs.WellFormed.{GoesOn, IsFormedWhat, IsFormedEntry, written_height}
+use Rattle.ledger_core.specs.WellFormed.{GoesOn, IsFormedWhat, IsFormedEntry, written_height}
 use Rattle.transcript_lines.specs.declared.said.Misspelling.{Misspelling}
 use Rattle.transcript_lines.specs.Between.{spaced, parts_at}
 use Rattle.transcript_lines.specs.Lines.{IsStatable, IsStated, entry_line, ledger_line, ledger_lines, lines_from}

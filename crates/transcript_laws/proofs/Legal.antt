@@ -19,7 +19,7 @@ use Rattle.ledger_core.specs.declared.entry.Entry.{Entry}
 use Rattle.ledger_core.specs.History.{height, is_clock_full, reply_to, rows, IsLegal, IsLegalEntry, IsLegalMoment}
 use Rattle.ledger_core.specs.Book.{Histories, history, IsLegalBook}
 use Rattle.ledger_core.proofs.Bounds.{bounds, tick_room}
-use Rattle.stated_books.specs.WellFormed.{written_height, IsFormed, IsFormedEntry, IsFormedMoment, IsFormedWhat}
+use Rattle.ledger_core.specs.WellFormed.{written_height, IsFormed, IsFormedEntry, IsFormedMoment, IsFormedWhat}
 use Rattle.transcript_lines.specs.Lines.{IsStatable, IsStated, IsStatedWhat}
 use Rattle.transcript_laws.specs.Stated.{IsTyped, LegalIsStated}
 

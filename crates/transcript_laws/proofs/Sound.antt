@@ -10,7 +10,7 @@ use Rattle.hashkey_path.proofs.Validity.{bytes_eq-true}
 use Rattle.ledger_core.specs.declared.entry.Entry.{Entry}
 use Rattle.ledger_core.specs.Book.{Histories}
 use Rattle.swap_job.specs.declared.job.Job.{Job}
-use Rattle.stated_books.specs.WellFormed.{GoesOn, IsFormed, IsWellFormed}
+use Rattle.ledger_core.specs.WellFormed.{GoesOn, IsFormed, IsWellFormed}
 use Rattle.transcript_lines.specs.declared.said.Misspelling.{Misspelling}
 use Rattle.transcript_lines.specs.Lines.{IsStatable, IsStated, entry_line, lines_from}
 use Rattle.transcript_lines.specs.Reading.{misspelt}

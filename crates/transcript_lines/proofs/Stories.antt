@@ -19,7 +19,7 @@ use Rattle.ledger_core.specs.declared.entry.Entry.{Entry}
 use Rattle.ledger_core.specs.History.{ticks_in, height, fit}
 use Rattle.ledger_core.specs.Book.{Histories, history}
 use Rattle.swap_job.specs.declared.job.Job.{Job}
-use Rattle.stated_books.specs.WellFormed.{written_height, IsFormedWhat, IsFormedEntry, IsFormed, GoesOn, IsWellFormed}
+use Rattle.ledger_core.specs.WellFormed.{written_height, IsFormedWhat, IsFormedEntry, IsFormed, GoesOn, IsWellFormed}
 use Rattle.transcript_lines.specs.declared.said.Said.{Said}
 use Rattle.transcript_lines.specs.declared.said.Misspelling.{Misspelling}
 use Rattle.transcript_lines.specs.Between.{spaced}

@@ -8,7 +8,7 @@ use Rattle.ledger_core.specs.declared.entry.What.TheVariants.{Call as Made, Tick
 use Rattle.ledger_core.specs.declared.entry.Entry.{Entry}
 use Rattle.ledger_core.specs.Book.{Histories, history}
 use Rattle.swap_job.specs.declared.job.Job.{Job}
-use Rattle.stated_books.specs.WellFormed.{IsWellFormed}
+use Rattle.ledger_core.specs.WellFormed.{IsWellFormed}
 use Rattle.offer_text.specs.HeaderLine.{header_line}
 use Rattle.transcript_lines.specs.Between.{spaced, ended}
 use Rattle.typed_books.specs.Typed.{IsTypedSender, IsTypedWhat, IsTypedReply}

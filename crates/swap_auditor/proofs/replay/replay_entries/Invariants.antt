@@ -2,7 +2,7 @@ use Rattle.std.proofs.Common.{◌≡◌, take, drop}
 use Rattle.swap_base.specs.Fault.{steps}
 use Rattle.ledger_core.specs.History.{IsLegal}
 use Rattle.swap_auditor.specs.Audit.{replay, with_entry}
-use Rattle.stated_books.specs.WellFormed.{GoesOn}
+use Rattle.ledger_core.specs.WellFormed.{GoesOn}
 use Rattle.swap_auditor.proofs.replay.replay_entries.Given as goal
 
 abbrev pub invariant-loop-entry : goal.invariant-loop-entry
