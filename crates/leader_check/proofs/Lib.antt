@@ -6,3 +6,5 @@ pub mod Loops
 pub mod Passes
 pub mod Rows
 pub mod Decided
+pub mod Far
+pub mod FarRounds

@@ -5,8 +5,7 @@ ghost use Rattle.swap_digraph.specs.Graph.{HasEnds, IsStronglyConnected};
 
 use crate::rows::{answers, no_memory, number_of, parted};
 use digraph_check::{Strength, Trees, strong};
-use leader_check::{LeaderAnswer, Levels, levels};
-use single_leader::dist;
+use leader_check::{LeaderAnswer, Levels, dist, levels};
 use std::alloc::{AllocError, Global};
 use std::test::Fail;
 use swap_base::{Listed, NoMemory};

@@ -13,8 +13,8 @@ use Rattle.swap_digraph.specs.declared.deal.Mode.{Mode}
 use Rattle.swap_digraph.specs.declared.deal.Mode.TheVariants.{Timelocks, Hashkeys}
 use Rattle.swap_digraph.specs.declared.deal.Version.{Version}
 use Rattle.swap_digraph.specs.declared.deal.Version.TheVariants.{One, Two}
-use Rattle.single_leader.specs.Distance.{dist_of}
-use Rattle.single_leader.proofs.Far.{dist_is, dist_bounded, dist_by_rounds}
+use Rattle.leader_check.specs.Distance.{dist_of}
+use Rattle.leader_check.proofs.Far.{dist_is, dist_bounded, dist_by_rounds}
 use Rattle.hashkey_path.proofs.Feeding.{any_id}
 use Rattle.swap_rules.specs.Accepted.{HasTimelock, IsAccepted, IsOfVersion, IsTimed}
 use Rattle.proposed_deal.specs.Proposed.{IsLedFor, IsProposed}

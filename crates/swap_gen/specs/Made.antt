@@ -7,7 +7,7 @@ use Rattle.swap_digraph.specs.Deal.{counterparty, leader_of, leads, locks}
 use Rattle.swap_digraph.specs.declared.deal.Deal.{Deal}
 use Rattle.swap_digraph.specs.declared.deal.Mode.{Mode}
 use Rattle.swap_digraph.specs.declared.deal.Mode.TheVariants.{Timelocks, Hashkeys}
-use Rattle.single_leader.specs.Distance.{dist_of}
+use Rattle.leader_check.specs.Distance.{dist_of}
 use Rattle.hash_signature.specs.Signature.{hash_of, secret_of, public_key_of}
 use Rattle.hashkey_path.specs.Digest.{deal_id}
 use Rattle.swap_job.specs.declared.job.Job.{Job}

@@ -4,7 +4,7 @@ ghost use Rattle.std.specs.Prelude.{◌≡◌, ◌≤◌, ◌<◌, ℕ, IfOk, On
 ghost use Rattle.swap_digraph.specs.Deal.{leader_of};
 ghost use Rattle.swap_digraph.specs.Graph.{arcs};
 ghost use Rattle.swap_digraph.specs.declared.deal.Mode.TheVariants.{Timelocks};
-ghost use Rattle.single_leader.specs.Distance.{dist_of};
+ghost use Rattle.leader_check.specs.Distance.{dist_of};
 ghost use Rattle.swap_rules.specs.Accepted.{IsAccepted};
 ghost use Rattle.swap_gen.specs.Made.{all_keys, all_timelocks, made, made_deal, timelock_for};
 ghost use Rattle.proposed_deal.specs.Proposed.{HaveSeeds, IsProposed};
@@ -13,8 +13,7 @@ ghost use Rattle.swap_gen.specs.Owned.{OwnsKeys};
 use crate::seeds::{all_keys, hashlocks_from};
 use swap_job::{Job, Purpose};
 use hashkey_path::deal_digest;
-use leader_check::{LeaderAnswer, levels};
-use single_leader::dist;
+use leader_check::{LeaderAnswer, dist, levels};
 use std::alloc::Global;
 use swap_base::{Digest, Listed, NoMemory, TryCopy};
 use swap_digraph::{Deal, Mode, copy_deal};

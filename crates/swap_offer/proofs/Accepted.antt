@@ -21,8 +21,8 @@ use Rattle.leader_check.specs.Cycles.{follower_cycle}
 use Rattle.leader_check.specs.Levels.{height_of}
 use Rattle.leader_check.proofs.Walks as walks
 use Rattle.leader_check.proofs.Heights as heights
-use Rattle.single_leader.specs.Distance.{dist_of}
-use Rattle.single_leader.proofs.Far.{dist_is, dist_by_rounds}
+use Rattle.leader_check.specs.Distance.{dist_of}
+use Rattle.leader_check.proofs.Far.{dist_is, dist_by_rounds}
 use Rattle.swap_rules.specs.Accepted.{IsAccepted, IsOfVersion, IsTimed, HasTimelock}
 use Rattle.proposed_deal.specs.Proposed.{IsLedFor, IsProposed}
 use Rattle.proposed_deal.proofs.Proposals as proposals

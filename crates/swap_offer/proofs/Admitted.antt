@@ -24,8 +24,8 @@ use Rattle.digraph_check.proofs.ClosedSets.{none_of_connected}
 use Rattle.leader_check.specs.Levels.{height_of}
 use Rattle.leader_check.proofs.Walks as walks
 use Rattle.leader_check.proofs.Heights as heights
-use Rattle.single_leader.specs.Distance.{dist_of}
-use Rattle.single_leader.proofs.Far.{dist_is, dist_by_rounds, dist_one}
+use Rattle.leader_check.specs.Distance.{dist_of}
+use Rattle.leader_check.proofs.Far.{dist_is, dist_by_rounds, dist_one}
 use Rattle.swap_rules.specs.Accepted.{IsOfVersion, IsTimed}
 use Rattle.proposed_deal.specs.Proposed.{IsLedFor, IsProposed}
 use Rattle.proposed_deal.proofs.Proposals.{is_proposed}

@@ -20,7 +20,7 @@ use Rattle.digraph_check.specs.Reach.{closed_set}
 use Rattle.digraph_check.proofs.ClosedSets.{closed_of_set}
 use Rattle.leader_check.specs.Cycles.{follower_cycle}
 use Rattle.leader_check.proofs.Walks as walks
-use Rattle.single_leader.specs.Distance.{dist_of}
+use Rattle.leader_check.specs.Distance.{dist_of}
 use Rattle.swap_job.specs.declared.job.Job.{Job}
 use Rattle.swap_job.specs.declared.job.Purpose.{Purpose}
 use Rattle.swap_job.specs.declared.job.Purpose.TheVariants.{Check, Run, Race, Make, Audit}

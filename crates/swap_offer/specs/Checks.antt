@@ -4,7 +4,7 @@ use Rattle.std.specs.Prelude.{if◌then◌else◌}
 use Rattle.swap_base.specs.Fault.{◌>>=◌}
 use Rattle.swap_base.specs.Lists.{first_of}
 use Rattle.time_bounds.specs.Times.{need, timelock}
-use Rattle.single_leader.specs.Distance.{dist_of}
+use Rattle.leader_check.specs.Distance.{dist_of}
 use Rattle.swap_digraph.specs.Graph.{arcs, ends}
 use Rattle.swap_digraph.specs.Value.{Graph}
 use Rattle.swap_digraph.specs.Arcs.{digraph_of}

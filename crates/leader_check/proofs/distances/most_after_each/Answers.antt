@@ -5,8 +5,8 @@ use Rattle.std.proofs.lemmas.Grind.{common_steps, get_or_default_zero}
 use Rattle.std.proofs.lemmas.List.{length-set}
 use Rattle.leader_check.proofs.Passes.{raise, from_below}
 use Rattle.leader_check.proofs.Loops.{greatest_is_all}
-use Rattle.single_leader.specs.Distance.{most_after}
-use Rattle.single_leader.proofs.distances.most_after_each.Goals as goal
+use Rattle.leader_check.specs.Distance.{most_after}
+use Rattle.leader_check.proofs.distances.most_after_each.Goals as goal
 
 pub loop-arc-preserved : goal.loop-arc-preserved
 loop-arc-preserved c =

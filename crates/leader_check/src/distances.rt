@@ -3,9 +3,9 @@
 ghost use Rattle.std.specs.Prelude.{◌≡◌, ◌≤◌, ◌<◌, ◌+◌, ◌∷◌, [], ℕ, length, map, slice_index, IfOk, if◌then◌else◌};
 ghost use Rattle.swap_digraph.specs.Graph.{parties, HasEnds, IsDist, IsFeedback, IsHeight, IsStronglyConnected};
 ghost use Rattle.time_bounds.specs.Times.{need};
-ghost use Rattle.single_leader.specs.Distance.{most_after, dist_before, dist_of};
+ghost use Rattle.leader_check.specs.Distance.{most_after, dist_before, dist_of};
 
-use leader_check::Levels;
+use crate::leader_answer::Levels;
 use std::alloc::Global;
 use swap_base::{Listed, NoMemory, PartyId};
 use swap_digraph::Digraph;

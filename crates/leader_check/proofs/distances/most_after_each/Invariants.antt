@@ -1,6 +1,6 @@
 use Rattle.std.proofs.Common.{◌≡◌, ◌==◌, ℕ, cond, max, length, drop, slice_index}
 use Rattle.swap_base.specs.Lists.{greatest}
-use Rattle.single_leader.proofs.distances.most_after_each.Given as goal
+use Rattle.leader_check.proofs.distances.most_after_each.Given as goal
 
 abbrev pub invariant-loop-arc : goal.invariant-loop-arc
 invariant-loop-arc l =

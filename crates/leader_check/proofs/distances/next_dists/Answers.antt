@@ -1,9 +1,9 @@
 use Rattle.std.proofs.Common.{◌∙◌, ap, ℕ, cond, ◌==◌, ◌+◌, ◌++◌, ◌∷◌, [], slice_index, arith}
 use Rattle.std.proofs.lemmas.Grind.{get_or_default_zero}
 use Rattle.swap_digraph.proofs.Ranges.{map_more}
-use Rattle.single_leader.specs.Distance.{dist_before}
-use Rattle.single_leader.proofs.Far.{after-below, before_is}
-use Rattle.single_leader.proofs.distances.next_dists.Goals as goal
+use Rattle.leader_check.specs.Distance.{dist_before}
+use Rattle.leader_check.proofs.Far.{after-below, before_is}
+use Rattle.leader_check.proofs.distances.next_dists.Goals as goal
 
 pub dist_over-requires : goal.dist_over-requires
 dist_over-requires c =

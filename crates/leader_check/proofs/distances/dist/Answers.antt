@@ -1,9 +1,9 @@
 use Rattle.std.proofs.Common.{◌≡◌, ◌∙◌, ap, ℕ, replicate, arith, rules, slice_index}
 use Rattle.leader_check.proofs.Rows.{length-row, row_at}
-use Rattle.single_leader.specs.Distance.{dist_within}
-use Rattle.single_leader.proofs.Far.{dist_is, dist_bounded, dist_by_rounds}
-use Rattle.single_leader.proofs.Rounds.{dists_none, dists_next, dists_low}
-use Rattle.single_leader.proofs.distances.dist.Goals as goal
+use Rattle.leader_check.specs.Distance.{dist_within}
+use Rattle.leader_check.proofs.Far.{dist_is, dist_bounded, dist_by_rounds}
+use Rattle.leader_check.proofs.FarRounds.{dists_none, dists_next, dists_low}
+use Rattle.leader_check.proofs.distances.dist.Goals as goal
 
 pub loop-round-init : goal.loop-round-init
 loop-round-init c =

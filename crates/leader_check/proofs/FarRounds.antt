@@ -6,11 +6,11 @@ use Rattle.swap_base.proofs.Lists.{below_or}
 use Rattle.swap_digraph.specs.Value.{Graph}
 use Rattle.swap_digraph.specs.Graph.{parties, IsDist}
 use Rattle.leader_check.proofs.Rows.{row_reads, no_follower}
-use Rattle.single_leader.specs.Distance.{dist_before, dist_within, dists_within, dist_of}
-use Rattle.single_leader.specs.Laws.{DistancesFollowArcs}
+use Rattle.leader_check.specs.Distance.{dist_before, dist_within, dists_within, dist_of}
+use Rattle.leader_check.specs.DistanceLaws.{DistancesFollowArcs}
 use Rattle.leader_check.specs.Levels.{height_of}
 use Rattle.leader_check.proofs.Heights.{is_height}
-use Rattle.single_leader.proofs.Far.{before-other, within-suc, within-below, dist_is, dist_one, dist_by_rounds}
+use Rattle.leader_check.proofs.Far.{before-other, within-suc, within-below, dist_is, dist_one, dist_by_rounds}
 
 within-outside : (g : Graph) (l k v : ℕ) → g.n ≤ v → dist_within g l k v ≡ 0
 unfolding dist_within

@@ -2,7 +2,7 @@
 use Rattle.std.specs.Prelude.{◌≡◌, ℕ, ◌<◌, [], ◌∷◌}
 use Rattle.swap_digraph.specs.Value.{Graph}
 use Rattle.swap_digraph.specs.Graph.{HasEnds, IsFeedback, IsStronglyConnected}
-use Rattle.single_leader.specs.Distance.{dist_before, dist_of}
+use Rattle.leader_check.specs.Distance.{dist_before, dist_of}
 
 -- the distance is 0 for the leader, and for a follower 1 plus the greatest distance of the counterparties of its leaving arcs
 abbrev pub DistancesFollowArcs : Type 0

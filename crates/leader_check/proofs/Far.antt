@@ -14,7 +14,7 @@ use Rattle.leader_check.proofs.Followers.{follower_is, arc_of, arc_from, greates
 use Rattle.swap_digraph.proofs.Paths.{in-is_among, path_step, path_more, path_length}
 use Rattle.swap_digraph.proofs.Parts.{leader_among, not_leader, is_leader_not, meets_rest, part_to}
 use Rattle.leader_check.proofs.Bounds.{paths_to_leaders_are_bounded}
-use Rattle.single_leader.specs.Distance.{most_after, dist_before, dist_within, dist_of}
+use Rattle.leader_check.specs.Distance.{most_after, dist_before, dist_within, dist_of}
 
 -- Values after a vertex.
 

@@ -1,2 +1,0 @@
-pub mod Distance
-pub mod Laws
