@@ -4,3 +4,6 @@ pub mod Copying
 pub mod Handed
 pub mod Playing
 pub mod Summed
+pub mod Refused
+pub mod Short
+pub mod Sums

@@ -11,7 +11,7 @@ use Rattle.party_wallet.specs.Value.{WalletState}
 use Rattle.swap_gen.specs.Drawn.{generated}
 use Rattle.swap_gen.specs.Owned.{wallets_in}
 use Rattle.swap_gen.specs.Events.{first_place, GeneratorState}
-use Rattle.run_summary.specs.Summary.{summary, summary_with}
+use Rattle.made_jobs.specs.Summary.{summary, summary_with}
 use Rattle.made_jobs.specs.Generating.{generated_book, generated_summary, is_found}
 
 -- A report's numbers are those of the summary.

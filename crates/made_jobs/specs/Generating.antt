@@ -11,7 +11,7 @@ use Rattle.outcome_rules.specs.Report.{report_of}
 use Rattle.swap_gen.specs.Drawn.{drawn_graph, generated}
 use Rattle.swap_gen.specs.Events.{events_from, generated_events, GeneratorState}
 use Rattle.swap_gen.specs.Line.{event_line}
-use Rattle.run_summary.specs.Summary.{summary}
+use Rattle.made_jobs.specs.Summary.{summary}
 use Rattle.made_jobs.specs.Making.{written_line}
 
 -- the header line of the job, and a line for each of so many events

@@ -1,2 +1,4 @@
 pub mod Making
 pub mod Generating
+pub mod Counts
+pub mod Summary

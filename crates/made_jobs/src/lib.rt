@@ -5,11 +5,13 @@
 //! of a number.
 #![tactic(auto)]
 
+mod counts;
 mod generated;
 mod header;
 mod plain;
 mod played;
 mod summary;
+mod summary_lines;
 
 pub use generated::write_generated;
 pub use plain::{copy_line, made_line};

@@ -7,14 +7,14 @@ ghost use Rattle.swap_rules.specs.Outcome.{IsEnded};
 ghost use Rattle.swap_run.specs.Laws.{IsKept};
 ghost use Rattle.swap_world.specs.Cast.{cast_of};
 ghost use Rattle.swap_gen.specs.Drawn.{generated};
-ghost use Rattle.run_summary.specs.Summary.{summary};
+ghost use Rattle.made_jobs.specs.Summary.{summary};
 ghost use Rattle.made_jobs.specs.Generating.{generated_book, generated_summary, is_found};
 
 use crate::played::played;
 use swap_job::Job;
 use ledger_core::Book;
 use outcome_rules::report_of;
-use run_summary::summary_text;
+use crate::summary_lines::summary_text;
 use std::alloc::Global;
 use swap_base::{ByteText, NoMemory};
 use swap_gen::Generator;

@@ -1,6 +1,6 @@
 use Rattle.std.proofs.Common.{◌≡◌, length, arith}
-use Rattle.run_summary.proofs.Sums.{sum_more, item_short}
-use Rattle.run_summary.proofs.counts.entry_count.Goals as goal
+use Rattle.made_jobs.proofs.Sums.{sum_more, item_short}
+use Rattle.made_jobs.proofs.counts.entry_count.Goals as goal
 
 pub loop-entries-preserved : goal.loop-entries-preserved
 loop-entries-preserved c =

@@ -5,7 +5,7 @@ use Rattle.std.proofs.lemmas.List.{get_or_default}
 use Rattle.std.proofs.lemmas.List.Sums.{sum_by_more, count_by-le-length}
 use Rattle.ledger_core.specs.declared.entry.Entry.{Entry}
 use Rattle.ledger_core.specs.Book.{Histories, history}
-use Rattle.run_summary.specs.Counts.{is_refused}
+use Rattle.made_jobs.specs.Counts.{is_refused}
 
 pub item_is : (b : Histories) (i : ℕ) (h : List Entry) → i < length b → h ≡ get_or b i h → h ≡ history b i
 item_is b i h lt is = is ∙ get_or_default b i h [] lt

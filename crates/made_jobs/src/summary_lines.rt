@@ -3,7 +3,7 @@
 ghost use Rattle.std.specs.Prelude.{◌≡◌, ◌++◌, ◌<◌, ◌≤◌, ℕ, IfOk, OnOk, length};
 ghost use Rattle.swap_digraph.specs.Deal.{IsWellSized};
 ghost use Rattle.ledger_core.specs.Book.{history, IsLegalBook};
-ghost use Rattle.run_summary.specs.Summary.{found_line, outcome_line, run_line, size_line, summary_with};
+ghost use Rattle.made_jobs.specs.Summary.{found_line, outcome_line, run_line, size_line, summary_with};
 
 use crate::counts::{ended_so, entry_count, refused_count};
 use ledger_core::{Book, EntryList};

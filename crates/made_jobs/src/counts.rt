@@ -3,7 +3,7 @@
 ghost use Rattle.std.specs.Prelude.{◌≡◌, ◌<◌, ◌≤◌, ℕ, length, count_by};
 ghost use Rattle.ledger_core.specs.Book.{history};
 ghost use Rattle.ledger_core.specs.Runs.{entries_of, expand};
-ghost use Rattle.run_summary.specs.Counts.{ended_so, entry_count, is_accepted, is_refused, refused_count, same_outcome};
+ghost use Rattle.made_jobs.specs.Counts.{ended_so, entry_count, is_accepted, is_refused, refused_count, same_outcome};
 
 use escrow_core::Reply;
 use ledger_core::{EntryList, Item};

@@ -9,7 +9,7 @@ use Rattle.swap_rules.specs.declared.outcome.Outcome.{Outcome}
 use Rattle.swap_rules.specs.declared.outcome.Outcome.TheVariants.{NoDeal, FreeRide, Underwater, Deal, Discount}
 use Rattle.swap_rules.specs.Outcome.{outcome}
 use Rattle.swap_rules.specs.Findings.{findings}
-use Rattle.run_summary.specs.Counts.{entry_count, refused_count, ended_so}
+use Rattle.made_jobs.specs.Counts.{entry_count, refused_count, ended_so}
 
 unfoldable pub size_line : DealOf → List ℕ
 size_line d =

@@ -1,7 +1,7 @@
 use Rattle.std.proofs.Common.{◌≡◌, count_by, arith}
-use Rattle.run_summary.specs.Counts.{is_refused}
-use Rattle.run_summary.proofs.Sums.{sum_more, refused_short}
-use Rattle.run_summary.proofs.counts.refused_count.Goals as goal
+use Rattle.made_jobs.specs.Counts.{is_refused}
+use Rattle.made_jobs.proofs.Sums.{sum_more, refused_short}
+use Rattle.made_jobs.proofs.counts.refused_count.Goals as goal
 
 pub overflow_add-sum : goal.overflow_add-sum
 overflow_add-sum c =

@@ -5,7 +5,7 @@ use Rattle.escrow_core.specs.declared.reply.Reply.TheVariants.{Accepted}
 use Rattle.ledger_core.specs.declared.entry.Entry.{Entry}
 use Rattle.ledger_core.specs.Ledger.{tick_entry}
 use Rattle.ledger_core.specs.Runs.{ticks_above}
-use Rattle.run_summary.specs.Counts.{is_refused}
+use Rattle.made_jobs.specs.Counts.{is_refused}
 
 pub refused_append : (xs ys : List Entry) → count_by is_refused (xs ++ ys) ≡ count_by is_refused xs + count_by is_refused ys
 refused_append xs ys = sum_by-append (λ e. cond (is_refused e) 1 0) xs ys
