@@ -15,7 +15,7 @@ use Rattle.ledger_core.specs.contracts.ledger.Ledger as Ledger
 use Rattle.ledger_shared.specs.contracts.shelf.Shelf as Shelf
 use Rattle.ledger_shared.specs.contracts.seat.LedgerSeat as LedgerSeat
 use Rattle.party_machine.specs.contracts.machine.Machine as Machine
-use Rattle.party_plan.specs.contracts.planner.Planner as Planner
+use Rattle.swap_run.specs.contracts.planner.Planner as Planner
 use Rattle.ledger_shared.specs.contracts.pass.Pass as Pass
 use Rattle.ledger_shared.specs.contracts.pass.ClockPass as ClockPass
 use Rattle.party_threads.specs.contracts.turn.Actor as Actor

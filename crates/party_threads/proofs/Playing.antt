@@ -5,7 +5,7 @@ use Rattle.party_machine.specs.Machine.{MachineState, next_of}
 use Rattle.race_turns.specs.Tracks.{Tracks, HaveSeenAll, IsSameElsewhere}
 use Rattle.race_turns.specs.Able.{watcher, IsAble}
 use Rattle.race_turns.specs.Played.{Gives, planner_of, role_in, HasPlayed}
-use Rattle.party_plan.specs.Shown.{IsShown}
+use Rattle.swap_run.specs.Shown.{IsShown}
 use Rattle.swap_run.specs.Run.{Plan}
 use Rattle.swap_job.specs.declared.job.Job.{Job}
 use Rattle.party_threads.specs.declared.turn.Actor.{Actor}

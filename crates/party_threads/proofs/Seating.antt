@@ -27,7 +27,7 @@ use Rattle.swap_run.specs.Run.{Notes, Plan, notes_of, plan_of}
 use Rattle.swap_run.specs.Laws.{AreGoodNotes, IsGoodPlan}
 use Rattle.swap_run.proofs.Plans.{plan_view}
 use Rattle.swap_rules.proofs.Accepted.{accepted_is_well_sized}
-use Rattle.party_plan.specs.Shown.{IsShown}
+use Rattle.swap_run.specs.Shown.{IsShown}
 use Rattle.swap_world.specs.Cast.{cast_of, wallet_with}
 use Rattle.swap_world.specs.Inside.{IsLedgerOf}
 use Rattle.swap_world.specs.Staff.{role_in, AreHeld, IsHeld as IsHeldIn}

@@ -4,7 +4,7 @@ use Rattle.ledger_core.specs.Book.{history}
 use Rattle.swap_job.specs.declared.job.Job.{Job}
 use Rattle.ledger_shared.specs.Value.{PassState, ClockState, SharedState}
 use Rattle.party_machine.specs.Machine.{MachineState, next_of}
-use Rattle.party_plan.specs.Shown.{IsShown}
+use Rattle.swap_run.specs.Shown.{IsShown}
 use Rattle.swap_run.specs.Run.{Plan, is_planned}
 use Rattle.party_threads.specs.declared.turn.Actor.{Actor}
 use Rattle.party_threads.specs.declared.turn.Actor.TheVariants.{Conforming, Planned, Manual, Clock}

@@ -9,7 +9,7 @@ use crate::turn::{Actor, Turn};
 use swap_job::{Job, MoveList, Role};
 use ledger_shared::{ClockPass, Pass};
 use party_machine::{Machine, Misfit};
-use party_plan::Planner;
+use swap_run::Planner;
 use party_wallet::Wallet;
 use std::alloc::Global;
 use swap_base::{Fault, NoMemory, PartyId, TryCopy};

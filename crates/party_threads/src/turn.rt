@@ -7,7 +7,7 @@ ghost use Rattle.party_threads.specs.Turns.{HasArc, actor_at, passes_of, clocks_
 
 use ledger_shared::{ClockPass, Pass};
 use party_machine::Machine;
-use party_plan::Planner;
+use swap_run::Planner;
 use swap_base::{ArcId, PartyId};
 
 /// What acts in a turn.

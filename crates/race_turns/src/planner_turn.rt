@@ -4,7 +4,7 @@ ghost use Rattle.std.specs.Prelude.{◌≡◌, ◌≢◌, ◌<◌, ◌+◌, true
 ghost use Rattle.ledger_core.specs.History.{fit};
 ghost use Rattle.swap_job.specs.Fitting.{IsMoveOf};
 ghost use Rattle.deviators.specs.View.{IsView, IsAnswerOf, MayAnswer};
-ghost use Rattle.party_plan.specs.Shown.{IsShown};
+ghost use Rattle.swap_run.specs.Shown.{IsShown};
 ghost use Rattle.swap_run.specs.Run.{is_planned, plan_up_to};
 ghost use Rattle.race_turns.specs.Later.{IsLater, WentOn, HaveGoneOn};
 ghost use Rattle.race_turns.specs.Tracks.{IsPassOf, Tracks, HaveSeenAll, HasItsPasses, HasLooked, HasMade, IsPlaceOf, LookedIf, MadeIf};
@@ -14,7 +14,7 @@ use swap_job::{Job, Role};
 use deviators::Strategies;
 use ledger_core::Call;
 use ledger_shared::{Pass, SharedLedger};
-use party_plan::Planner;
+use swap_run::Planner;
 use std::sync::Wait;
 use swap_base::{ArcId, NoMemory, PartyId};
 use swap_digraph::Deal;

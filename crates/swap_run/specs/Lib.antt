@@ -7,3 +7,4 @@ pub mod Steps
 pub mod Asked
 pub mod Called
 pub mod CalledLaws
+pub mod Shown

@@ -4,7 +4,13 @@
 //! Read `specs/Run.antt` first, then `specs/Laws.antt`; `specs/Fair.antt` has the fair finish of a run, and `specs/FairLaws.antt` its
 //! laws, `specs/Steps.antt` its steps in their order. `specs/Asked.antt` says what strategies are asked, and `specs/Called.antt` takes a
 //! step apart, for swaps whose ledgers stand on shared chains.
+//!
+//! A `Planner` holds the plan of a party that follows a script or a strategy. Read `specs/Shown.antt`: when a plan is what a party may be shown.
 #![tactic(auto)]
+
+mod planner;
+
+pub use planner::Planner;
 
 ghost use Rattle.swap_run.specs.Asked.{RunsAskInOrder, FinishesAskInOrder, RunsWithoutStrategies, FinishesWithoutStrategies, RulesDecideRuns};
 ghost use Rattle.swap_run.specs.Asked.{RulesDecideFinishes};

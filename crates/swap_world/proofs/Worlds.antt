@@ -15,7 +15,7 @@ use Rattle.swap_rules.proofs.Accepted.{accepted_is_well_sized}
 use Rattle.swap_rules.specs.Due.{Action, due}
 use Rattle.swap_job.specs.declared.event.Event.{Event}
 use Rattle.swap_job.specs.declared.job.Role.{Role}
-use Rattle.party_plan.specs.Shown.{IsShown}
+use Rattle.swap_run.specs.Shown.{IsShown}
 use Rattle.swap_job.specs.Step.{CanStep}
 use Rattle.swap_run.specs.Asked.{Answers, with_answers}
 use Rattle.swap_run.specs.Run.{Cast, Plan, Question, State, notes_of, next_of, step, run_from}

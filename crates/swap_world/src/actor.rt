@@ -1,7 +1,7 @@
 //! What acts for a party.
 
 use party_machine::Machine;
-use party_plan::Planner;
+use swap_run::Planner;
 
 /// What acts for a party.
 #[derive(Drop)]

@@ -10,7 +10,7 @@ ghost use Rattle.swap_world.specs.Staff.{by_role, conforming_of, actor_of, actor
 use crate::actor::Actor;
 use swap_job::{Job, MoveList, Role};
 use party_machine::{Machine, Misfit};
-use party_plan::Planner;
+use swap_run::Planner;
 use party_wallet::Wallet;
 use std::alloc::Global;
 use swap_base::{Fault, LockId, NoMemory, PartyId, TryCopy};

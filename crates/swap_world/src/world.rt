@@ -45,7 +45,7 @@ use crate::{chain, fair, journals, many, quiet, turn};
 use swap_job::{Event, Job, Move, Role};
 use deviators::Strategies;
 use ledger_core::{Accounts, Book, Call, EntryList, Ledger};
-use party_plan::Planner;
+use swap_run::Planner;
 use party_wallet::Wallet;
 use std::alloc::Global;
 use std::marker::Model;

@@ -2,7 +2,7 @@ use Rattle.std.proofs.Common.{◌≡◌, ◌⊎◌, ◌<◌, OnOk, OnErr, IfOk, 
 use Rattle.deviators.specs.Script.{next_call}
 use Rattle.swap_job.specs.declared.event.Event.TheVariants.{Act}
 use Rattle.swap_job.specs.declared.job.Role.TheVariants as kinds
-use Rattle.party_plan.specs.Shown.{IsShown}
+use Rattle.swap_run.specs.Shown.{IsShown}
 use Rattle.swap_world.specs.Acting.{histories, taken, seen, told_to, turned}
 use Rattle.swap_world.specs.On.{swept_in}
 use Rattle.swap_world.specs.Inside.{asked_in, cast_in, state_in}

@@ -6,7 +6,7 @@ ghost use Rattle.ledger_core.specs.Book.{history};
 ghost use Rattle.deviators.specs.Script.{next_call, moves_left};
 ghost use Rattle.deviators.specs.View.{IsView, MayAnswer};
 ghost use Rattle.swap_run.specs.Run.{no_histories, plan_up_to};
-ghost use Rattle.party_plan.specs.Shown.{IsShown};
+ghost use Rattle.swap_run.specs.Shown.{IsShown};
 
 use swap_job::MoveList;
 use deviators::{Script, Strategies};
