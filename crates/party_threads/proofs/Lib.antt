@@ -13,3 +13,11 @@ pub mod Starting
 pub mod Staffing
 pub mod Playing
 pub mod Crossing
+pub mod Passes
+pub mod Looks
+pub mod Looking
+pub mod Calls
+pub mod Machines
+pub mod Acting
+pub mod Clocks
+pub mod Planning

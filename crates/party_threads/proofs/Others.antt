@@ -7,7 +7,7 @@ use Rattle.swap_job.specs.declared.job.Role.{Role}
 use Rattle.swap_job.specs.declared.job.Role.TheVariants.{Conforming, Manual, Script, Strategy}
 use Rattle.swap_job.specs.Crafted.{Seeds}
 use Rattle.swap_run.specs.Run.{Cast, State, Plan, plan_of, role_of}
-use Rattle.race_turns.specs.Played.{Gives, IsAnswered}
+use Rattle.party_threads.specs.Played.{Gives, IsAnswered}
 use Rattle.party_threads.specs.Race.{rounds_for, IsRound, IsOfRounds, IsRaceBook, SaysMore, RacesSayLess}
 use Rattle.party_threads.specs.Views.{AreAnswered, PlaysByViews, HasPlayed}
 

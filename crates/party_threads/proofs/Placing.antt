@@ -17,7 +17,7 @@ use Rattle.swap_rules.specs.Machine.{Knows}
 use Rattle.swap_world.specs.Inside.{IsLedgerOf}
 use Rattle.party_threads.specs.declared.turn.Actor.{Actor}
 use Rattle.party_threads.specs.declared.turn.Turn.{Turn}
-use Rattle.race_turns.specs.Later.{pass_in, clock_in}
+use Rattle.party_threads.specs.Later.{pass_in, clock_in}
 use Rattle.party_threads.specs.Turns.{actor_of, passes_of, clocks_of, actor_at, held_at, clock_held_at, ledger_at, started, IsBehind, AreBehind, AreHome}
 use Rattle.party_threads.specs.Turns.{AreFreeAt, AreFree, dealt_to, dealt_in, clock_dealt_in, AreDealt, IsAt, IsSet, AreSet, IsClosed, IsShut, IsSameShape}
 use Rattle.party_threads.specs.Turns.{IsPut, IsClockPut, IsSameBut}

@@ -2,16 +2,16 @@
 use Rattle.std.proofs.Common.{◌≡◌, ℕ, List, Option, None, Result, Ok, Err, OnOk, sym, subst}
 use Rattle.ledger_shared.specs.Value.{PassState, ClockState, SharedState}
 use Rattle.party_machine.specs.Machine.{MachineState, next_of}
-use Rattle.race_turns.specs.Tracks.{Tracks, HaveSeenAll, IsSameElsewhere}
-use Rattle.race_turns.specs.Able.{watcher, IsAble}
-use Rattle.race_turns.specs.Played.{Gives, planner_of, role_in, HasPlayed}
+use Rattle.party_threads.specs.Tracks.{Tracks, HaveSeenAll, IsSameElsewhere}
+use Rattle.party_threads.specs.Able.{watcher, IsAble}
+use Rattle.party_threads.specs.Played.{Gives, planner_of, role_in, HasPlayed}
 use Rattle.swap_run.specs.Shown.{IsShown}
 use Rattle.swap_run.specs.Run.{Plan}
 use Rattle.swap_job.specs.declared.job.Job.{Job}
 use Rattle.party_threads.specs.declared.turn.Actor.{Actor}
 use Rattle.party_threads.specs.declared.turn.Actor.TheVariants.{Conforming, Planned}
 use Rattle.party_threads.specs.Took.{Did, HasActed, HasPlanned}
-use Rattle.race_turns.proofs.Passes.{seen_of}
+use Rattle.party_threads.proofs.Passes.{seen_of}
 
 pub acted_of : (ledgers : List SharedState) (m : MachineState) (ps : List (Option PassState)) (n : MachineState) (qs : List (Option PassState)) → IsAble n
     → Tracks ledgers (watcher n) qs → HaveSeenAll qs → next_of n ≡ None → IsSameElsewhere ps m.known n.known → HasActed m ps n qs

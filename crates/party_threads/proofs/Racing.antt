@@ -29,9 +29,9 @@ use Rattle.swap_run.proofs.Acts.{first_none}
 use Rattle.swap_run.proofs.Good.{start_is_good, good_is_kept, empty_at}
 use Rattle.party_threads.specs.Race.{rounds_for, IsRound, IsRaced, books_of, IsOfRounds, IsRaceBook, RacesAreKept, ticks_of_rounds}
 use Rattle.typed_books.specs.Books.{IsTypedBook}
-use Rattle.race_turns.specs.Played.{Gives}
+use Rattle.party_threads.specs.Played.{Gives}
 use Rattle.party_threads.specs.Views.{PlaysByViews}
-use Rattle.race_turns.proofs.Clocks.{height_of_ticks}
+use Rattle.party_threads.proofs.Clocks.{height_of_ticks}
 use Rattle.party_threads.proofs.Resting.{rest_shows_in_calls}
 use Rattle.party_threads.proofs.Viewing.{plays_by_views}
 

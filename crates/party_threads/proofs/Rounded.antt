@@ -31,20 +31,20 @@ use Rattle.swap_rules.proofs.Prefixes.{begins_refl, begins_more}
 use Rattle.swap_rules.proofs.Growth.{Grows}
 use Rattle.swap_run.specs.Run.{Notes, Plan, State, conforms, is_planned, notes_of, plan_of, next_of}
 use Rattle.swap_job.specs.declared.job.Role.{Role}
-use Rattle.race_turns.specs.Played.{Gives, calls_by, answer_on, IsAnswered}
+use Rattle.party_threads.specs.Played.{Gives, calls_by, answer_on, IsAnswered}
 use Rattle.party_threads.specs.Views.{HasPlayed}
 use Rattle.swap_run.specs.Laws.{AreGoodNotes, IsGoodPlan, IsGood}
 use Rattle.swap_run.proofs.Good.{good_notes}
 use Rattle.swap_run.proofs.Plans.{plan_grown}
-use Rattle.race_turns.specs.Able.{IsSameOwner}
+use Rattle.party_threads.specs.Able.{IsSameOwner}
 use Rattle.swap_world.specs.Cast.{cast_of}
 use Rattle.swap_world.specs.Inside.{IsLedgerOf}
 use Rattle.swap_world.specs.Staff.{role_in}
 use Rattle.party_threads.specs.declared.turn.Actor.{Actor}
 use Rattle.party_threads.specs.declared.turn.Actor.TheVariants.{Conforming, Planned, Manual, Clock}
 use Rattle.party_threads.specs.declared.turn.Turn.{Turn}
-use Rattle.race_turns.specs.Later.{pass_in}
-use Rattle.race_turns.specs.Ticks.{HaveTicked, Ticked}
+use Rattle.party_threads.specs.Later.{pass_in}
+use Rattle.party_threads.specs.Ticks.{HaveTicked, Ticked}
 use Rattle.party_threads.specs.Took.{IsSameActor, Did, HasActed, HasPlanned}
 use Rattle.party_threads.specs.Race.{IsRound}
 use Rattle.party_threads.specs.Turns.{passes_of, clocks_of, actor_at, held_at, clock_held_at, ledger_at, started, IsHome, AreHome, HavePlaces, AreFreeAt}

@@ -18,11 +18,11 @@ use Rattle.ledger_core.specs.Ledger.{tick_entry}
 use Rattle.ledger_core.specs.Value.{LedgerState}
 use Rattle.ledger_shared.specs.Value.{PassState, ClockState, made_by, ticks_in_order, clock_mine, Closes, ClosesClock}
 use Rattle.swap_rules.specs.Machine.{Begins, Knows}
-use Rattle.race_turns.specs.Ticks.{HasTickedOnce}
-use Rattle.race_turns.specs.Played.{calls_by}
-use Rattle.race_turns.proofs.Calls.{none_passes, others_add_none}
+use Rattle.party_threads.specs.Ticks.{HasTickedOnce}
+use Rattle.party_threads.specs.Played.{calls_by}
+use Rattle.party_threads.proofs.Calls.{none_passes, others_add_none}
 use Rattle.party_threads.proofs.Turning.{none_pass}
-use Rattle.race_turns.proofs.Clocks.{height_of_ticks}
+use Rattle.party_threads.proofs.Clocks.{height_of_ticks}
 
 append_self : {A : Type 0} (xs ys : List A) → xs ++ ys ≡ xs → ys ≡ []
 append_self [] ys e = e

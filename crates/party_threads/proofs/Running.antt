@@ -14,7 +14,7 @@ use Rattle.swap_run.specs.Laws.{IsReadyCast}
 use Rattle.swap_run.specs.Fair.{the_horizon}
 use Rattle.swap_run.proofs.Ticks.{horizon_low}
 use Rattle.party_threads.specs.Race.{rounds_for, IsRound, IsRaced, ticks_of_rounds}
-use Rattle.race_turns.specs.Played.{Gives}
+use Rattle.party_threads.specs.Played.{Gives}
 use Rattle.party_threads.specs.Standing.{AllHaveRoom}
 use Rattle.party_threads.proofs.Racing.{ticked_after, level_after}
 

@@ -36,15 +36,15 @@ use Rattle.swap_job.specs.declared.job.Role.TheVariants as kinds
 use Rattle.party_threads.specs.declared.turn.Actor.{Actor}
 use Rattle.party_threads.specs.declared.turn.Actor.TheVariants.{Conforming, Planned, Manual, Clock}
 use Rattle.party_threads.specs.declared.turn.Turn.{Turn}
-use Rattle.race_turns.specs.Tracks.{Watcher, IsPassOf}
-use Rattle.race_turns.specs.Able.{watcher, IsAble}
-use Rattle.race_turns.specs.Ticks.{HaveRoom, AreClocksOf}
-use Rattle.race_turns.specs.Played.{planner_of, IsHeld}
+use Rattle.party_threads.specs.Tracks.{Watcher, IsPassOf}
+use Rattle.party_threads.specs.Able.{watcher, IsAble}
+use Rattle.party_threads.specs.Ticks.{HaveRoom, AreClocksOf}
+use Rattle.party_threads.specs.Played.{planner_of, IsHeld}
 use Rattle.party_threads.specs.Took.{IsMachineSeated, IsPlannerSeated, IsActorSeated, IsSeated}
 use Rattle.party_threads.specs.Turns.{actor_of, passes_of, clocks_of, actor_at, held_at, ledger_at, started, HasArc, IsBehind, AreBehind, HavePlaces}
 use Rattle.party_threads.specs.Turns.{AreDealt, IsSameShape}
 use Rattle.party_threads.specs.Standing.{history_in, book_in, notes_in, notes_at, plan_in, plan_at, state_of, IsActorIn, KnowsOwn, Stands, HasRoom, AllHaveRoom}
-use Rattle.race_turns.proofs.Clocks.{height_of_ticks}
+use Rattle.party_threads.proofs.Clocks.{height_of_ticks}
 use Rattle.party_threads.proofs.Sharing.{home_at, lock_at, held_near, held_far, clock_is}
 
 -- What a machine is, by its party.

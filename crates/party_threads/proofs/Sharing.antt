@@ -10,8 +10,8 @@ use Rattle.ledger_shared.specs.Value.{PassState, ClockState, pass_at, clock_at}
 use Rattle.swap_world.specs.Inside.{IsLedgerOf}
 use Rattle.party_threads.specs.declared.turn.Actor.{Actor}
 use Rattle.party_threads.specs.declared.turn.Turn.{Turn}
-use Rattle.race_turns.specs.Later.{IsLater, IsClockLater, WentOn}
-use Rattle.race_turns.specs.Ticks.{ClockWentOn}
+use Rattle.party_threads.specs.Later.{IsLater, IsClockLater, WentOn}
+use Rattle.party_threads.specs.Ticks.{ClockWentOn}
 use Rattle.party_threads.specs.Turns.{actor_at, held_at, clock_held_at, ledger_at, started, IsHome, AreHome, HavePlaces, dealt_to, dealt_in, clock_dealt_in}
 use Rattle.party_threads.specs.Turns.{AreDealt, IsAt, AreSet}
 use Rattle.party_threads.proofs.Turning.{get_there, HasTaken}

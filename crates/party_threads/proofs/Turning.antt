@@ -6,9 +6,9 @@ use Rattle.std.proofs.lemmas.Option.{slice_get-get_or}
 use Rattle.swap_digraph.specs.declared.deal.Deal.{Deal}
 use Rattle.swap_job.specs.declared.job.Job.{Job}
 use Rattle.party_threads.specs.declared.turn.Turn.{Turn}
-use Rattle.race_turns.specs.Later.{HaveGoneOn}
-use Rattle.race_turns.specs.Ticks.{HaveClocksGoneOn}
-use Rattle.race_turns.specs.Played.{Gives}
+use Rattle.party_threads.specs.Later.{HaveGoneOn}
+use Rattle.party_threads.specs.Ticks.{HaveClocksGoneOn}
+use Rattle.party_threads.specs.Played.{Gives}
 use Rattle.party_threads.specs.Took.{IsSameActor, Did, Took}
 use Rattle.party_threads.specs.Turns.{actor_of, passes_of, clocks_of, HavePlaces, IsSameShape}
 

@@ -18,7 +18,7 @@ use Rattle.swap_rules.proofs.Prefixes.{begins_refl, begins_more, begins_height}
 use Rattle.swap_run.specs.Run.{Cast, State, Plan, plan_of, role_of, script_of, first_plan, start}
 use Rattle.swap_run.specs.Laws.{IsReadyCast, IsGood}
 use Rattle.swap_run.proofs.Good.{empty_at}
-use Rattle.race_turns.specs.Played.{Gives, IsAnswered, calls_by, answer_on}
+use Rattle.party_threads.specs.Played.{Gives, IsAnswered, calls_by, answer_on}
 use Rattle.party_threads.specs.Views.{answers_on, made_on, moves_at, AreAnswered, PlaysByViews, HasPlayed}
 
 -- cutting twice at one place is cutting once

@@ -4,3 +4,8 @@ pub mod Views
 pub mod Race
 pub mod Standing
 pub mod Staff
+pub mod Later
+pub mod Tracks
+pub mod Able
+pub mod Ticks
+pub mod Played

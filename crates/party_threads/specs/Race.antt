@@ -28,7 +28,7 @@ use Rattle.swap_run.specs.Run.{Cast, State, conforms, role_of, is_planned, notes
 use Rattle.swap_run.specs.Laws.{IsReadyCast, IsGood}
 use Rattle.swap_run.specs.Fair.{the_horizon}
 use Rattle.typed_books.specs.Books.{IsTypedBook}
-use Rattle.race_turns.specs.Played.{Gives}
+use Rattle.party_threads.specs.Played.{Gives}
 use Rattle.party_threads.specs.Views.{HasPlayed, PlaysByViews}
 
 -- the fewest rounds of so many ticks that pass the horizon

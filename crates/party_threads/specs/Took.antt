@@ -9,11 +9,11 @@ use Rattle.swap_run.specs.Run.{Plan, is_planned}
 use Rattle.party_threads.specs.declared.turn.Actor.{Actor}
 use Rattle.party_threads.specs.declared.turn.Actor.TheVariants.{Conforming, Planned, Manual, Clock}
 use Rattle.party_threads.specs.declared.turn.Turn.{Turn}
-use Rattle.race_turns.specs.Later.{pass_in, HaveGoneOn}
-use Rattle.race_turns.specs.Tracks.{Tracks, HasItsPasses, HaveSeenAll, IsSameElsewhere}
-use Rattle.race_turns.specs.Able.{watcher, IsAble, IsSameOwner}
-use Rattle.race_turns.specs.Ticks.{AreClocksOf, HaveClocksGoneOn, HaveTicked}
-use Rattle.race_turns.specs.Played.{Gives, planner_of, role_in, IsHeld, HasPlayed}
+use Rattle.party_threads.specs.Later.{pass_in, HaveGoneOn}
+use Rattle.party_threads.specs.Tracks.{Tracks, HasItsPasses, HaveSeenAll, IsSameElsewhere}
+use Rattle.party_threads.specs.Able.{watcher, IsAble, IsSameOwner}
+use Rattle.party_threads.specs.Ticks.{AreClocksOf, HaveClocksGoneOn, HaveTicked}
+use Rattle.party_threads.specs.Played.{Gives, planner_of, role_in, IsHeld, HasPlayed}
 
 -- A machine can act, and knows what its passes have seen.
 pub record IsMachineSeated (ledgers : List SharedState) (m : MachineState) (ps : List (Option PassState)) : Type 0 where

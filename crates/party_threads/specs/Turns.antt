@@ -12,7 +12,7 @@ use Rattle.swap_world.specs.Inside.{IsLedgerOf}
 use Rattle.party_threads.specs.declared.turn.Actor.{Actor}
 use Rattle.party_threads.specs.declared.turn.Actor.TheVariants.{Conforming, Planned, Manual, Clock}
 use Rattle.party_threads.specs.declared.turn.Turn.{Turn}
-use Rattle.race_turns.specs.Later.{pass_in, clock_in}
+use Rattle.party_threads.specs.Later.{pass_in, clock_in}
 
 -- the actor with the number v; the clock's is the number of parties
 abbrev pub actor_of : Option Turn → Actor

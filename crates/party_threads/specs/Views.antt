@@ -12,7 +12,7 @@ use Rattle.deviators.specs.View.{IsView, MayAnswer}
 use Rattle.swap_job.specs.Fitting.{is_near}
 use Rattle.swap_rules.specs.Machine.{Begins}
 use Rattle.swap_run.specs.Run.{Cast, State, plan_of, role_of}
-use Rattle.race_turns.specs.Played.{Gives, calls_by, answer_on, IsAnswered}
+use Rattle.party_threads.specs.Played.{Gives, calls_by, answer_on, IsAnswered}
 
 -- of the answers to the first r views, those that stand on arc a
 abbrev pub answers_on : ℕ → (ℕ → Option (ℕ × Call)) → ℕ → List Call

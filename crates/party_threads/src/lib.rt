@@ -11,10 +11,13 @@
 //! Read `specs/Race.antt` first: what a round does to the book and to what each party has noted, and what a race is.
 #![tactic(auto)]
 
+mod clock;
 mod deal;
 mod gate;
 mod home;
 mod laws;
+mod machine_turn;
+mod planner_turn;
 mod round;
 mod rounds;
 mod staff;

@@ -1,0 +1,129 @@
+-- A party that looks around: what holds once so many of its ledgers were looked at.
+use Rattle.std.proofs.Common.{◌≡◌, ◌≢◌, ◌⊎◌, ℕ, ◌+◌, ◌<◌, ◌≤◌, ◌++◌, List, [], ◌∷◌, zero, suc, length, set, Option, Some, None, append-nil, append_assoc, refl}
+use Rattle.std.proofs.Common.{sym, ap, ◌∙◌, subst, inl, inr, arith}
+use Rattle.std.proofs.lemmas.List.{length-set}
+use Rattle.std.proofs.lemmas.List.Elements.{filter-append}
+use Rattle.std.proofs.lemmas.Option.{none-some}
+use mathlib.Core.List.{IsPrefix}
+use Rattle.ledger_core.specs.declared.entry.Entry.{Entry}
+use Rattle.ledger_core.specs.History.{sent_by, IsLegal}
+use Rattle.ledger_core.specs.Book.{history}
+use Rattle.ledger_shared.specs.Value.{PassState, SharedState, made_by}
+use Rattle.swap_rules.proofs.Prefixes.{same_or_not}
+use Rattle.swap_rules.proofs.Conducting.{history_same, history_other}
+use Rattle.party_threads.specs.Later.{pass_in, WentOn, HaveGoneOn}
+use Rattle.party_threads.specs.Tracks.{Watcher, knowing, Tracks, HaveSeenAll, IsSameElsewhere, HasLooked, LookedIf}
+use Rattle.party_threads.specs.Played.{IsFresh, HaveFresh}
+use Rattle.party_threads.proofs.Passes.{one_went, none_went, tracks_on, HaveSeenBelow, seen_on, elsewhere_on}
+
+pub record IsLooking (ledgers : List SharedState) (w : Watcher) (ps : List (Option PassState)) (k : ℕ) (x : Watcher) (qs : List (Option PassState))
+    : Type 0 where
+  pub deal : x.deal ≡ w.deal
+  pub me : x.me ≡ w.me
+  pub arcs : length x.known ≡ length x.deal.graph.arcs
+  pub tracks : Tracks ledgers x qs
+  pub gone_on : HaveGoneOn ps qs
+  pub seen : HaveSeenBelow k qs
+  pub fresh : HaveFresh w.me w.known x.known
+  pub legal : (a : ℕ) → IsLegal w.deal a (history w.known a) → IsLegal w.deal a (history x.known a)
+  pub elsewhere : IsSameElsewhere ps w.known x.known
+
+pub looks_begin : (ledgers : List SharedState) (w : Watcher) (ps : List (Option PassState)) (k : ℕ) → k ≡ 0 → length w.known ≡ length w.deal.graph.arcs
+    → Tracks ledgers w ps → IsLooking ledgers w ps k w ps
+looks_begin ledgers w ps k e arcs tracks = record {
+  deal = refl;
+  me = refl;
+  arcs = arcs;
+  tracks = tracks;
+  gone_on = none_went ps;
+  seen = λ a p lt is. absurd (omega (arith, lt, e));
+  fresh = λ a. ([], sym (append-nil (history w.known a)), refl);
+  legal = λ a l. l;
+  elsewhere = λ a none. refl;
+}
+
+-- More entries of others are fresh.
+fresh_more : (v : ℕ) (k h g : List Entry) (more : List Entry) → IsFresh v k h → g ≡ h ++ more → made_by v more ≡ [] → IsFresh v k g
+fresh_more v k h g more f is none = (
+  f.0 ++ more,
+  is ∙ (ap (λ x. x ++ more) f.1 ∙ append_assoc k f.0 more),
+  filter-append (λ (e : Entry). sent_by v e.sender) f.0 more ∙ (ap (λ x. x ++ made_by v more) f.2 ∙ none),
+)
+
+-- putting nothing where there is nothing changes nothing
+set_none : (ps : List (Option PassState)) (a : ℕ) → pass_in ps a ≡ None → set ps a None ≡ ps
+set_none [] a e = refl
+set_none (p ∷ ps) zero e = ap (λ x. x ∷ ps) (sym e)
+set_none (p ∷ ps) (suc a) e = ap (λ xs. p ∷ xs) (set_none ps a e)
+
+module _ (ledgers : List SharedState) (w : Watcher) (ps : List (Option PassState)) (k : ℕ) (x y : Watcher) (qs : List (Option PassState))
+    (h : IsLooking ledgers w ps k x qs) (below : k < length qs) where
+  known : k < length x.known
+  known = subst (λ z. k < z) (h.tracks.places ∙ sym h.arcs) below
+
+  module _ (p q : PassState) (here : pass_in qs k ≡ Some p) (l : HasLooked x (knowing x k) k p y q) where
+    abbrev now : List Entry
+    now = history x.known k ++ l.fresh
+
+    fresh_now : (a : ℕ) → (a ≡ k) ⊎ (a ≢ k) → IsFresh w.me (history w.known a) (history (set x.known k now) a)
+    fresh_now a (inl same) =
+        subst (λ z. IsFresh w.me (history w.known z) (history (set x.known k now) z)) (sym same)
+        (fresh_more w.me (history w.known k) (history x.known k) _ l.fresh (h.fresh k) (history_same x.known k now known)
+        (subst (λ v. made_by v l.fresh ≡ []) h.me l.foreign))
+    fresh_now a (inr apart) =
+        subst (IsFresh w.me (history w.known a)) (sym (history_other x.known k a now apart)) (h.fresh a)
+
+    legal_now : (a : ℕ) → (a ≡ k) ⊎ (a ≢ k) → IsLegal w.deal a (history w.known a) → IsLegal w.deal a (history (set x.known k now) a)
+    legal_now a (inl same) before =
+        subst (λ z. IsLegal w.deal z (history (set x.known k now) z)) (sym same)
+        (subst (IsLegal w.deal k) (sym (history_same x.known k now known)) (subst (λ d. IsLegal d k now) h.deal l.legal))
+    legal_now a (inr apart) before = subst (IsLegal w.deal a) (sym (history_other x.known k a now apart)) (h.legal a before)
+
+    seen_on_here : IsLooking ledgers w ps (k + 1) (knowing x k now) (set qs k (Some q))
+    seen_on_here = record {
+      deal = h.deal;
+      me = h.me;
+      arcs = length-set x.known k now ∙ h.arcs;
+      tracks = tracks_on ledgers x qs k p q now h.tracks below known here (l.fresh, l.pass) l.seen;
+      gone_on = one_went ps qs k (Some q) below h.gone_on (subst (λ o. WentOn o (Some q)) (sym here) (q, refl, (l.fresh, l.pass)));
+      seen = seen_on k qs q below h.seen l.whole;
+      fresh = λ a. fresh_now a (same_or_not a k);
+      legal = λ a before. legal_now a (same_or_not a k) before;
+      elsewhere = elsewhere_on ps qs w.known x.known k p now h.gone_on here h.elsewhere;
+    }
+
+  -- where there is no pass nothing is looked at
+  past : pass_in qs k ≡ None → IsLooking ledgers w ps (k + 1) x qs
+  past none = record {
+    deal = h.deal;
+    me = h.me;
+    arcs = h.arcs;
+    tracks = h.tracks;
+    gone_on = h.gone_on;
+    seen = λ a p lt is. at a p lt is (same_or_not a k);
+    fresh = h.fresh;
+    legal = h.legal;
+    elsewhere = h.elsewhere;
+  }
+    where
+      at : (a : ℕ) (p : PassState) → a < k + 1 → pass_in qs a ≡ Some p → (a ≡ k) ⊎ (a ≢ k) → IsPrefix p.shared p.seen
+      at a p lt is (inl same) = absurd (none-some p (sym none ∙ subst (λ z. pass_in qs z ≡ Some p) same is))
+      at a p lt is (inr apart) = h.seen a p (omega (arith, lt, apart)) is
+
+  -- one more ledger was looked at, if there is a pass to it
+  pub looks_on : (q : Option PassState) → LookedIf x (knowing x k) k x (pass_in qs k) y q → IsLooking ledgers w ps (k + 1) y (set qs k q)
+  looks_on q l = go (pass_in qs k) refl l
+    where
+      go : (o : Option PassState) → pass_in qs k ≡ o → LookedIf x (knowing x k) k x o y q → IsLooking ledgers w ps (k + 1) y (set qs k q)
+      go None none l0 =
+          subst (λ z. IsLooking ledgers w ps (k + 1) y (set qs k z)) (sym l0.1)
+          (subst (λ zs. IsLooking ledgers w ps (k + 1) y zs) (sym (set_none qs k none))
+          (subst (λ z. IsLooking ledgers w ps (k + 1) z qs) (sym l0.0) (past none)))
+      go (Some p) here l0 =
+          subst (λ z. IsLooking ledgers w ps (k + 1) y (set qs k z)) (sym l0.1)
+          (subst (λ z. IsLooking ledgers w ps (k + 1) z (set qs k (Some l0.0))) (sym l0.2.knows) (seen_on_here p l0.0 here l0.2))
+
+-- all of them were looked at
+pub looked_all : (ledgers : List SharedState) (w : Watcher) (ps : List (Option PassState)) (k : ℕ) (x : Watcher) (qs : List (Option PassState))
+    → IsLooking ledgers w ps k x qs → length qs ≤ k → HaveSeenAll qs
+looked_all ledgers w ps k x qs h le a p lt e = h.seen a p (omega (arith, lt, le)) e

@@ -1,8 +1,0 @@
-pub mod Passes
-pub mod Looks
-pub mod Looking
-pub mod Calls
-pub mod Machines
-pub mod Acting
-pub mod Clocks
-pub mod Planning

@@ -1,5 +1,0 @@
-use Rattle.race_turns.proofs.Acting.{IsActing}
-use Rattle.race_turns.proofs.machine_turn.act_to_rest.Given as goal
-
-abbrev pub invariant-acts : goal.invariant-acts
-invariant-acts g l = IsActing l.ledgers l.fn.machine l.fn.passes l.counter l.machine l.passes
