@@ -7,8 +7,8 @@ use Rattle.swap_job.specs.declared.job.Job.{Job}
 use Rattle.swap_offer.specs.Lines.{lines_of}
 use Rattle.transcript_lines.specs.Lines.{IsWhole}
 use Rattle.transcript_lines.proofs.Stories.{one_story}
-use Rattle.transcript_laws.proofs.Complete.{few_arcs, stated_from}
-use Rattle.transcript_laws.proofs.OneLine.{book_lines}
+use Rattle.transcript_book.proofs.Complete.{few_arcs, stated_from}
+use Rattle.transcript_book.proofs.OneLine.{book_lines}
 use Rattle.made_back.specs.Laws.{IsOneLine, WholeTextHasOneStory}
 use Rattle.made_back.proofs.Lines.{ended_lines}
 

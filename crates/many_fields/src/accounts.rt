@@ -11,7 +11,7 @@ use crate::number::units_in;
 use offer_header::is_name;
 use std::alloc::Global;
 use swap_base::{ByteText, Listed};
-use transcript_fields::{Parts, WordFault, misspelt};
+use transcript_book::{Parts, WordFault, misspelt};
 
 /// The most accounts of a chain.
 const MOST_ACCOUNTS: usize = 64;

@@ -3,13 +3,13 @@
 ghost use Rattle.std.specs.Prelude.{◌≡◌, ◌<◌, ◌≤◌, [], ℕ, length, position, slice_index_or, IfOk};
 ghost use Rattle.std.specs.Str.{bytes_eq};
 ghost use Rattle.swap_base.specs.Fault.{Gives};
-ghost use Rattle.transcript_fields.specs.Taking.{Takes};
+ghost use Rattle.transcript_book.specs.Taking.{Takes};
 ghost use Rattle.transcript_lines.specs.Reading.{field_of, number_below};
 ghost use Rattle.many_fields.specs.Fields.{account_in, heights_in, payment_of, payment_on, sweep_of, tick_of, units_in};
 
 use crate::number::{read_below, units_in};
 use swap_base::{ByteText, Listed};
-use transcript_fields::{Parts, WordFault, misspelt, nothing_more, word};
+use transcript_book::{Parts, WordFault, misspelt, nothing_more, word};
 
 /// A payment on a chain, from one account to another, by their places.
 #[derive(Clone, Copy, Debug, PartialEq, Eq)]

@@ -5,7 +5,7 @@ ghost use Rattle.swap_base.specs.Fault.{Gives};
 ghost use Rattle.transcript_lines.specs.Reading.{number_below};
 ghost use Rattle.many_fields.specs.Fields.{most_units, units_in};
 
-use transcript_fields::{WordFault, misspelt, number_of};
+use transcript_book::{WordFault, misspelt, number_of};
 
 /// The most units of an account, or of a payment.
 const MOST_UNITS: u64 = 1_000_000_000_000_000;

@@ -2,7 +2,7 @@
 
 ghost use Rattle.std.specs.Prelude.{◌≤◌, IfOk};
 ghost use Rattle.swap_base.specs.Fault.{Gives};
-ghost use Rattle.transcript_fields.specs.Taking.{Takes};
+ghost use Rattle.transcript_book.specs.Taking.{Takes};
 ghost use Rattle.transcript_lines.specs.Reading.{field_of};
 ghost use Rattle.many_fields.specs.Fields.{chains_of, finish_of, finish_word};
 ghost use Rattle.many_fields.specs.Whole.{AreBelow};
@@ -11,7 +11,7 @@ use crate::number::read_below;
 use swap_job::Finish;
 use std::alloc::Global;
 use swap_base::Listed;
-use transcript_fields::{Parts, WordFault, misspelt, nothing_more, word};
+use transcript_book::{Parts, WordFault, misspelt, nothing_more, word};
 
 /// The chains of a swap's arcs, of which there are so many, by the fields after the first.
 #[tactic(auto, using(crate::proofs::Pairs::below_more), unfolding(crate::specs::Fields::chains_of))]

@@ -19,7 +19,7 @@ use std::alloc::Global;
 use swap_base::{ByteText, Fault, Listed, NoMemory, TryCopy};
 use swap_many::ManyEvent;
 use swap_offer::read_event;
-use transcript_fields::Parts;
+use transcript_book::Parts;
 
 /// The most events.
 const MOST_EVENTS: u32 = 200_000;

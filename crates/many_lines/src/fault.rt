@@ -7,7 +7,7 @@ ghost use Rattle.many_lines.specs.Heading.{bad_line, by_field};
 use refusals::{HeaderFault, OfferFault, Reason, Refusal, with_names};
 use std::alloc::Global;
 use swap_base::{Fault, Listed};
-use transcript_fields::WordFault;
+use transcript_book::WordFault;
 
 /// The fault without names, since its reason speaks of no party.
 pub(crate) fn nameless(alloc: Global, fault: OfferFault) -> HeaderFault

@@ -25,7 +25,7 @@ use std::marker::Model;
 use std::mem;
 use swap_base::{ByteText, Listed, NoMemory};
 use swap_offer::Prepared;
-use transcript_fields::{Parts, word};
+use transcript_book::{Parts, word};
 
 /// The most chains.
 const MOST_CHAINS: usize = 32;

@@ -13,7 +13,7 @@ use many_fields::{ChainAccounts, Payment, read_accounts, read_below, read_chains
 use refusals::HeaderFault;
 use std::alloc::Global;
 use swap_base::{ByteText, Listed};
-use transcript_fields::Parts;
+use transcript_book::Parts;
 
 /// The accounts of a chain.
 #[tactic(auto, using(crate::proofs::Failing::fails))]

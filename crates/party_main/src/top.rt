@@ -2,7 +2,7 @@
 
 ghost use Rattle.std.specs.Prelude.{◌≡◌, ◌∷◌, [], IfOk, map, string_bytes};
 ghost use Rattle.swap_base.specs.Fault.{Gives};
-ghost use Rattle.transcript_fields.specs.Taking.{Takes};
+ghost use Rattle.transcript_book.specs.Taking.{Takes};
 ghost use Rattle.transcript_lines.specs.Between.{parts_at};
 ghost use Rattle.transcript_lines.specs.Reading.{field_of};
 ghost use Rattle.party_answer.specs.Asked.{nameless};
@@ -15,7 +15,7 @@ use refusals::{Reason, Refusal};
 use std::alloc::Global;
 use swap_base::{ByteText, Digest, Fault, Listed};
 use swap_io::{ReadAllFault, Sink, Source, read_all, write_all};
-use transcript_fields::{Parts, WordFault, digest_field, misspelt, nothing_more, word};
+use transcript_book::{Parts, WordFault, digest_field, misspelt, nothing_more, word};
 
 /// The most bytes of an input.
 const LIMIT: usize = 16_777_216;

@@ -11,7 +11,7 @@ use Rattle.refusals.specs.declared.reason.Reason.{Reason}
 use Rattle.refusals.specs.declared.reason.Reason.TheVariants.{BadLine}
 use Rattle.transcript_lines.specs.declared.said.Misspelling.{Misspelling}
 use Rattle.transcript_lines.specs.Between.{parts_at, longer_first}
-use Rattle.transcript_fields.proofs.Falls.{next_found, next_none}
+use Rattle.transcript_book.proofs.Falls.{next_found, next_none}
 use Rattle.party_notes.specs.declared.note.Note.{Note}
 use Rattle.party_notes.specs.Notes.{Noted, note_of, noted_by, notes_in, next_number, numbered, with_first}
 

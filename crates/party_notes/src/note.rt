@@ -2,14 +2,14 @@
 
 ghost use Rattle.swap_base.specs.Fault.{Gives};
 ghost use Rattle.transcript_lines.specs.Reading.{field_of, number_below};
-ghost use Rattle.transcript_fields.specs.Taking.{Takes};
+ghost use Rattle.transcript_book.specs.Taking.{Takes};
 ghost use Rattle.party_notes.specs.Notes.{keep_of, keep_said, note_of, said_by, sent_said, words_noted};
 
 use hashkey_path::Hashkey;
 use ledger_core::Call;
 use std::alloc::Global;
 use swap_base::{ArcId, Shared};
-use transcript_fields::{Parts, WordFault, key_of, misspelt, nothing_more, number_of, word};
+use transcript_book::{Parts, WordFault, key_of, misspelt, nothing_more, number_of, word};
 
 /// A line that a wallet wrote down.
 #[derive(Debug, Drop)]

@@ -12,7 +12,7 @@ use Rattle.header_back.proofs.OneLine.{header_is_one_line}
 use Rattle.header_back.proofs.Shown.{header_reads}
 use Rattle.header_back.proofs.Whole.{header_is_read_back}
 use Rattle.transcript_lines.specs.Lines.{transcript, transcript_lines, IsWhole}
-use Rattle.transcript_laws.proofs.Legal.{legal_is_stated}
+use Rattle.transcript_book.proofs.Legal.{legal_is_stated}
 use Rattle.transcript_reader.specs.Header.{header_read}
 use Rattle.transcript_reader.specs.Laws.{job_of, ok_of}
 use Rattle.transcript_reader.proofs.Back.{whole_text_is_read}

@@ -33,7 +33,7 @@ use Rattle.ledger_core.specs.Book.{history}
 use Rattle.ledger_core.proofs.History.{lock-below, published_done}
 use Rattle.ledger_core.proofs.Scans.{bounded}
 use Rattle.typed_books.specs.Typed.{IsDigest, IsTerms, IsTypedCall, IsTypedReply, IsTypedSender, IsTypedWhat}
-use Rattle.transcript_laws.specs.Stated.{IsTyped}
+use Rattle.transcript_book.specs.Stated.{IsTyped}
 use Rattle.transcript_back.specs.Digests.{HasDigests, LegalIsTyped, StatesDigests}
 
 -- ---- limits of a version

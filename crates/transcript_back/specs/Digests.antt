@@ -8,7 +8,7 @@ use Rattle.ledger_core.specs.declared.entry.What.{What}
 use Rattle.ledger_core.specs.declared.entry.What.TheVariants.{Call as Made, Tick}
 use Rattle.ledger_core.specs.Book.{Histories, history, IsLegalBook}
 use Rattle.typed_books.specs.Typed.{IsDigest, IsSignature}
-use Rattle.transcript_laws.specs.Stated.{IsTyped}
+use Rattle.transcript_book.specs.Stated.{IsTyped}
 
 -- the call's digests have 32 bytes each, and its signatures 67 digests each
 abbrev pub HasDigests : Call → Type 0

@@ -1,1 +1,15 @@
 pub mod Heights
+pub mod ByDigit
+pub mod Falls
+pub mod Lower
+pub mod Members
+pub mod Replies
+pub mod HexDigits
+pub mod Exact
+pub mod Fields
+pub mod Entries
+pub mod Placed
+pub mod Sound
+pub mod Complete
+pub mod OneLine
+pub mod Legal

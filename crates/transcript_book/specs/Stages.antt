@@ -8,7 +8,7 @@ use Rattle.ledger_core.specs.Book.{Histories}
 use Rattle.swap_job.specs.declared.job.Job.{Job}
 use Rattle.transcript_lines.specs.declared.said.Misspelling.{Misspelling}
 use Rattle.transcript_lines.specs.Reading.{misspelt}
-use Rattle.transcript_fields.specs.Counts.{count_of}
+use Rattle.transcript_book.specs.Counts.{count_of}
 use Rattle.transcript_book.specs.declared.place.Place.{Place}
 use Rattle.transcript_book.specs.declared.place.Place.TheVariants.{Ledger, Entries, Over}
 use Rattle.transcript_book.specs.Entries.{entry_of}

@@ -1,89 +1,80 @@
-//! The entry that a line states.
+//! What the line of an entry says.
 
-ghost use Rattle.std.specs.Prelude.{◌<◌, length};
+ghost use Rattle.std.specs.Prelude.{◌≤◌};
 ghost use Rattle.swap_base.specs.Fault.{Gives};
-ghost use Rattle.swap_digraph.specs.Deal.{IsWellSized};
-ghost use Rattle.ledger_core.specs.declared.entry.Sender.TheVariants.{Party, Clock};
-ghost use Rattle.ledger_core.specs.declared.entry.What.TheVariants.{Call as Made, Tick};
-ghost use Rattle.transcript_book.specs.Entries.{entry_at, placed, placed_as};
+ghost use Rattle.transcript_lines.specs.Reading.{call_said, line_said, said_by, tick_said, words_said};
 
+use crate::call::call_of;
+use crate::field::{byte_field, nothing_more, sign_field, small_field, word};
+use crate::number::{WordFault, misspelt};
+use crate::parts::Parts;
+use crate::reply::reply_of;
 use escrow_core::Reply;
-use ledger_core::{Call, Entry, Sender, What, fits, is_adjacent};
+use ledger_core::{Sender, What};
 use std::alloc::Global;
-use swap_base::{ArcId, PartyId};
-use swap_digraph::Deal;
-use transcript_fields::{WordFault, misspelt, read_entry};
 use transcript_lines::Said;
 
-fn place_call(
-    deal: &Deal,
-    arc: ArcId,
-    height: u32,
-    p: PartyId,
-    call: Call,
-    reply: Reply,
-) -> Result<Entry, WordFault>
-    requires { arc < length deal.now.graph.arcs }
-    ensures { Gives (λ e. e) result (placed_as deal.now arc height reply (Party p) (Made call)) }
+#[tactic(auto, unfolding(transcript_lines::specs::Reading::tick_said))]
+fn tick_said(fields: &mut Parts<'_>) -> Result<Said, WordFault>
+    ensures { Gives (λ s. s) result (tick_said fields.old) }
 {
-    if is_adjacent(deal, arc, p) && fits(deal, arc, &call) {
-        Ok(Entry {
-            sender: Sender::Party(p),
-            height,
-            what: What::Call(call),
-            reply,
-        })
-    } else {
-        Err(misspelt())
-    }
+    let by = small_field(fields)?;
+    nothing_more(fields)?;
+    Ok(Said {
+        sender: Sender::Clock,
+        what: What::Tick(by),
+        reply: Reply::Accepted,
+    })
 }
 
-fn place_tick(
-    deal: &Deal,
-    arc: ArcId,
-    height: u32,
-    by: u32,
-    reply: Reply,
-) -> Result<Entry, WordFault>
-    ensures { Gives (λ e. e) result (placed_as deal.now arc height reply Clock (Tick by)) }
+#[tactic(auto, unfolding(transcript_lines::specs::Reading::call_said))]
+fn call_said(alloc: Global, locks: usize, fields: &mut Parts<'_>) -> Result<Said, WordFault>
+    requires { locks ≤ 8 }
+    ensures { Gives (λ s. s) result (call_said locks fields.old) }
 {
-    if 1 <= by && by <= 1_000_000 {
-        Ok(Entry {
-            sender: Sender::Clock,
-            height: height.saturating_add(by),
-            what: What::Tick(by),
-            reply,
-        })
-    } else {
-        Err(misspelt())
-    }
+    let party = byte_field(fields)?;
+    let call = call_of(alloc, locks, fields)?;
+    sign_field(fields)?;
+    let reply = reply_of(fields)?;
+    Ok(Said {
+        sender: Sender::Party(party),
+        what: What::Call(call),
+        reply,
+    })
 }
 
-/// The entry that is said at a height.
-fn place(deal: &Deal, arc: ArcId, height: u32, said: Said) -> Result<Entry, WordFault>
-    requires { arc < length deal.now.graph.arcs }
-    ensures { Gives (λ e. e) result (placed deal.now arc height said) }
-{
-    match (said.sender, said.what) {
-        (Sender::Party(p), What::Call(call)) => place_call(deal, arc, height, p, call, said.reply),
-        (Sender::Clock, What::Tick(by)) => place_tick(deal, arc, height, by, said.reply),
-        _ => Err(misspelt()),
-    }
-}
-
-/// The entry that a line states at a height.
-#[tactic(auto, unfolding(crate::specs::Entries::entry_at))]
-pub(crate) fn entry_at(
+fn said_by(
     alloc: Global,
-    deal: &Deal,
-    arc: ArcId,
-    height: u32,
-    line: &[u8],
-) -> Result<Entry, WordFault>
-    requires sized { IsWellSized deal.now }
-    requires arc { arc < length deal.now.graph.arcs }
-    ensures { Gives (λ e. e) result (entry_at deal.now arc height line.now) }
+    locks: usize,
+    first: &[u8],
+    fields: &mut Parts<'_>,
+) -> Result<Said, WordFault>
+    requires { locks ≤ 8 }
+    ensures { Gives (λ s. s) result (said_by locks first.now fields.old) }
 {
-    let said = read_entry(alloc, deal.leaders.len(), line)?;
-    place(deal, arc, height, said)
+    if first == b"t".as_slice() {
+        tick_said(fields)
+    } else if first == b"c".as_slice() {
+        call_said(alloc, locks, fields)
+    } else {
+        Err(misspelt())
+    }
+}
+
+#[tactic(auto, unfolding(transcript_lines::specs::Reading::words_said))]
+fn words_said(alloc: Global, locks: usize, fields: &mut Parts<'_>) -> Result<Said, WordFault>
+    requires { locks ≤ 8 }
+    ensures { Gives (λ s. s) result (words_said locks fields.old) }
+{
+    let first = word(fields)?;
+    said_by(alloc, locks, first, fields)
+}
+
+/// What a line says of a deal with so many locks, or that no writer writes it.
+#[tactic(auto, unfolding(transcript_lines::specs::Reading::line_said))]
+pub fn read_entry(alloc: Global, locks: usize, line: &[u8]) -> Result<Said, WordFault>
+    requires { locks ≤ 8 }
+    ensures { Gives (λ s. s) result (line_said locks line.now) }
+{
+    words_said(alloc, locks, &mut Parts::new(b' ', line))
 }

@@ -1,11 +1,29 @@
-//! The lines after the header line of a transcript, read into a book.
+//! The lines after the header line of a transcript: each read field by field, in its one spelling, and all of them into a book.
 //!
-//! Read `specs/Stages.antt` first: which line stands next, and what it makes of what was read; then `specs/Entries.antt`.
+//! Read `specs/Stages.antt` first: which line stands next, and what it makes of what was read; then `specs/Entries.antt`, and `specs/Reading.antt`
+//! of `transcript_lines`: what `read_entry` answers.
+//!
+//! `specs/Books.antt` has the laws: lines are read as a book exactly where they are that book's; then `specs/Spelling.antt` and `specs/Stated.antt`.
 #![tactic(auto)]
 
+mod call;
+mod count;
+mod digits;
 mod entry;
+mod field;
+mod laws;
+mod lists;
+mod number;
+mod parts;
 mod place;
 mod reader;
+mod reply;
+mod stated;
 
+pub use call::key_of;
+pub use field::{digest_field, nothing_more, word};
+pub use laws::{legal_is_stated, one_spelling, read_is_whole, whole_is_read};
+pub use number::{WordFault, misspelt, number_of};
+pub use parts::Parts;
 pub use place::Place;
 pub use reader::BookReader;

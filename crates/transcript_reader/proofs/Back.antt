@@ -17,9 +17,9 @@ use Rattle.transcript_lines.specs.Between.{ended, longer_first, parts_at}
 use Rattle.transcript_lines.specs.Lines.{IsStated, IsWhole, entry_line, ledger_line, ledger_lines, lines_from}
 use Rattle.transcript_book.specs.declared.place.Place.TheVariants.{Over}
 use Rattle.transcript_book.specs.Stages.{BookSoFar, line_read, no_ledgers}
-use Rattle.transcript_laws.specs.Books.{whole}
-use Rattle.transcript_laws.proofs.Complete.{few_arcs, stated_from, whole_is_read}
-use Rattle.transcript_laws.proofs.OneLine.{IsOneLine, book_lines}
+use Rattle.transcript_book.specs.Books.{whole}
+use Rattle.transcript_book.proofs.Complete.{few_arcs, stated_from, whole_is_read}
+use Rattle.transcript_book.proofs.OneLine.{IsOneLine, book_lines}
 use Rattle.transcript_reader.specs.declared.reason.TranscriptReason.{TranscriptReason}
 use Rattle.transcript_reader.specs.declared.reason.TranscriptReason.TheVariants.{TooLong}
 use Rattle.transcript_reader.specs.declared.stage.Stage.{Stage}

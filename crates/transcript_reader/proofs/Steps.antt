@@ -10,8 +10,8 @@ use Rattle.ledger_core.specs.declared.entry.Book.{Book}
 use Rattle.swap_job.specs.declared.job.Job.{Job}
 use Rattle.refusals.specs.declared.refusal.Refusal.{Refusal}
 use Rattle.transcript_lines.specs.Between.{parts_at}
-use Rattle.transcript_fields.proofs.Falls.{next_found, next_none, the_rest}
-use Rattle.transcript_laws.proofs.Exact.{parts_some}
+use Rattle.transcript_book.proofs.Falls.{next_found, next_none, the_rest}
+use Rattle.transcript_book.proofs.Exact.{parts_some}
 use Rattle.transcript_reader.specs.declared.reason.TranscriptReason.{TranscriptReason}
 use Rattle.transcript_reader.specs.declared.stage.Stage.{Stage}
 use Rattle.transcript_reader.specs.declared.stage.Stage.TheVariants.{First, Header, Ledgers, Bad}

@@ -15,9 +15,9 @@ use Rattle.transcript_lines.specs.Lines.{IsStated, IsWhole, lines_from}
 use Rattle.transcript_book.specs.declared.place.Place.{Place}
 use Rattle.transcript_book.specs.declared.place.Place.TheVariants.{Ledger, Entries, Over}
 use Rattle.transcript_book.specs.Stages.{BookSoFar, is_over, line_read, no_ledgers}
-use Rattle.transcript_laws.specs.Books.{IsWholeBook, whole}
-use Rattle.transcript_laws.proofs.Exact.{parts_some, parts_whole}
-use Rattle.transcript_laws.proofs.Sound.{read_is_whole}
+use Rattle.transcript_book.specs.Books.{IsWholeBook, whole}
+use Rattle.transcript_book.proofs.Exact.{parts_some, parts_whole}
+use Rattle.transcript_book.proofs.Sound.{read_is_whole}
 use Rattle.transcript_reader.specs.declared.reason.TranscriptReason.{TranscriptReason}
 use Rattle.transcript_reader.specs.declared.reason.TranscriptReason.TheVariants.{BadLine, TooLong, CutShort, Header as BadHeader}
 use Rattle.transcript_reader.specs.declared.stage.Stage.{Stage}

@@ -1,4 +1,4 @@
-use Rattle.transcript_fields.proofs.Members.{starts}
+use Rattle.transcript_book.proofs.Members.{starts}
 use Rattle.many_fields.proofs.Pairs.{none_above}
 use Rattle.many_fields.proofs.swap.read_chains.Goals as goal
 

@@ -1,6 +1,6 @@
 use Rattle.std.proofs.Common.{◌≡◌, length}
 use Rattle.transcript_lines.specs.Reading.{each_of, number_below}
-use Rattle.transcript_fields.proofs.Members.{with_front}
+use Rattle.transcript_book.proofs.Members.{with_front}
 use Rattle.many_fields.specs.Whole.{AreBelow}
 use Rattle.many_fields.proofs.swap.read_chains.Given as goal
 

@@ -1,5 +1,5 @@
 use Rattle.std.proofs.Common.{◌+◌, refl}
-use Rattle.transcript_fields.proofs.Falls.{the_rest}
+use Rattle.transcript_book.proofs.Falls.{the_rest}
 use Rattle.party_main.proofs.Cutting.{cut_short, gives_cut, promised_cut}
 use Rattle.party_main.proofs.top.answered.Goals as goal
 

@@ -1,5 +1,5 @@
 use Rattle.std.proofs.Common.{◌∙◌, ap, arith}
-use Rattle.transcript_fields.proofs.Falls.{the_rest}
+use Rattle.transcript_book.proofs.Falls.{the_rest}
 use Rattle.party_notes.proofs.Lines.{as_read, read_end, read_fault, read_on, read_to, said}
 use Rattle.party_notes.proofs.notes.read_notes.Goals as goal
 

@@ -1,6 +1,6 @@
 use Rattle.std.proofs.Common.{arith, subst, sym, Result}
 use Rattle.swap_base.specs.Fault.{Gives}
-use Rattle.transcript_fields.proofs.Falls.{the_rest}
+use Rattle.transcript_book.proofs.Falls.{the_rest}
 use Rattle.transcript_reader.specs.declared.reason.TranscriptReason.{TranscriptReason}
 use Rattle.transcript_reader.specs.Header.{header_read}
 use Rattle.transcript_reader.specs.Reading.{Story, story_of}

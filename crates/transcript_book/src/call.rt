@@ -1,0 +1,115 @@
+//! The call of an entry's line.
+
+ghost use Rattle.std.specs.Prelude.{◌≤◌};
+ghost use Rattle.transcript_lines.specs.Reading.{call_by, call_of, key_of, locks_of, terms_of, units_of};
+ghost use Rattle.transcript_book.specs.Taking.{Takes};
+
+use crate::field::{
+    byte_field, digest_field, number_field, path_field, signatures_field, small_field, word,
+};
+use crate::number::{WordFault, misspelt};
+use crate::parts::Parts;
+use escrow_core::{LockList, Terms};
+use hashkey_path::Hashkey;
+use ledger_core::Call;
+use std::alloc::Global;
+use swap_base::Shared;
+
+/// So many digests, a field each.
+fn locks_of(count: usize, fields: &mut Parts<'_>) -> Result<LockList, WordFault>
+    requires { count ≤ 8 }
+    ensures { Takes (λ l. l) result fields.new (locks_of count fields.old) }
+{
+    let mut locks = LockList::new();
+    'locks: for _ in 0..count {
+        locks.push(digest_field(fields)?);
+    }
+    Ok(locks)
+}
+
+#[tactic(auto, unfolding(transcript_lines::specs::Reading::terms_of))]
+fn terms_of(alloc: Global, count: usize, fields: &mut Parts<'_>) -> Result<Call, WordFault>
+    requires { count ≤ 8 }
+    ensures { Takes (λ c. c) result fields.new (terms_of count fields.old) }
+{
+    let start = small_field(fields)?;
+    let delta = small_field(fields)?;
+    let bound = small_field(fields)?;
+    let timelock = small_field(fields)?;
+    let amount = number_field(fields)?;
+    let locks = locks_of(count, fields)?;
+    let terms = Terms {
+        locks,
+        start,
+        delta,
+        bound,
+        timelock,
+        amount,
+    };
+    Ok(Call::Publish(Shared::new(alloc, terms)?))
+}
+
+/// The unlock whose hashkey the next fields say.
+#[tactic(auto, unfolding(transcript_lines::specs::Reading::key_of))]
+pub fn key_of(alloc: Global, fields: &mut Parts<'_>) -> Result<Call, WordFault>
+    ensures { Takes (λ c. c) result fields.new (key_of fields.old) }
+{
+    let lock = byte_field(fields)?;
+    let secret = digest_field(fields)?;
+    let path = path_field(alloc, fields)?;
+    let sigs = signatures_field(alloc, fields)?;
+    let key = Hashkey {
+        lock,
+        secret,
+        path,
+        sigs,
+    };
+    Ok(Call::Unlock(Shared::new(alloc, key)?))
+}
+
+#[tactic(auto, unfolding(transcript_lines::specs::Reading::units_of))]
+fn units_of(fields: &mut Parts<'_>) -> Result<Call, WordFault>
+    ensures { Takes (λ c. c) result fields.new (units_of fields.old) }
+{
+    let to = byte_field(fields)?;
+    let units = number_field(fields)?;
+    Ok(Call::Transfer(to, units))
+}
+
+fn call_by(
+    alloc: Global,
+    count: usize,
+    first: &[u8],
+    fields: &mut Parts<'_>,
+) -> Result<Call, WordFault>
+    requires { count ≤ 8 }
+    ensures { Takes (λ c. c) result fields.new (call_by count first.now fields.old) }
+{
+    if first == b"publish".as_slice() {
+        terms_of(alloc, count, fields)
+    } else if first == b"unlock".as_slice() {
+        key_of(alloc, fields)
+    } else if first == b"claim".as_slice() {
+        Ok(Call::Claim)
+    } else if first == b"refund".as_slice() {
+        Ok(Call::Refund)
+    } else if first == b"transfer".as_slice() {
+        units_of(fields)
+    } else {
+        Err(misspelt())
+    }
+}
+
+/// The call that the next fields say of a deal with so many locks.
+#[tactic(auto, unfolding(transcript_lines::specs::Reading::call_of))]
+pub(crate) fn call_of(
+    alloc: Global,
+    count: usize,
+    fields: &mut Parts<'_>,
+) -> Result<Call, WordFault>
+    requires { count ≤ 8 }
+    ensures { Takes (λ c. c) result fields.new (call_of count fields.old) }
+{
+    let first = word(fields)?;
+    call_by(alloc, count, first, fields)
+}

@@ -1,0 +1,79 @@
+//! The line before the entries of an arc.
+
+ghost use Rattle.swap_base.specs.Fault.{Gives};
+ghost use Rattle.transcript_lines.specs.Reading.{field_of, number_below};
+ghost use Rattle.transcript_book.specs.Counts.{count_of, just, ledger_word, words_count};
+ghost use Rattle.transcript_book.specs.Taking.{Takes};
+
+use crate::field::{nothing_more, word};
+use crate::number::{WordFault, misspelt, number_of};
+use crate::parts::Parts;
+use swap_base::ArcId;
+
+fn ledger_word(word: &[u8]) -> Result<(), WordFault>
+    ensures { Gives (λ u. u) result (ledger_word word.now) }
+{
+    if word == b"ledger".as_slice() {
+        Ok(())
+    } else {
+        Err(misspelt())
+    }
+}
+
+#[tactic(auto, unfolding(transcript_lines::specs::Reading::field_of))]
+fn ledger_field(fields: &mut Parts<'_>) -> Result<(), WordFault>
+    ensures { Takes (λ u. u) result fields.new (field_of ledger_word fields.old) }
+{
+    ledger_word(word(fields)?)
+}
+
+fn just(number: u64, word: &[u8]) -> Result<(), WordFault>
+    ensures { Gives (λ u. u) result (just number word.now) }
+{
+    let n = number_of(word)?;
+    if n == number { Ok(()) } else { Err(misspelt()) }
+}
+
+#[tactic(auto, unfolding(transcript_lines::specs::Reading::field_of))]
+fn arc_field(arc: ArcId, fields: &mut Parts<'_>) -> Result<(), WordFault>
+    ensures { Takes (λ u. u) result fields.new (field_of (just arc) fields.old) }
+{
+    just(arc as u64, word(fields)?)
+}
+
+fn count_in(word: &[u8]) -> Result<u32, WordFault>
+    ensures { Gives (λ n. n) result (number_below 20065 word.now) }
+{
+    let n = number_of(word)?;
+    if n < 20_065 {
+        Ok(n as u32)
+    } else {
+        Err(misspelt())
+    }
+}
+
+#[tactic(auto, unfolding(transcript_lines::specs::Reading::field_of))]
+fn count_field(fields: &mut Parts<'_>) -> Result<u32, WordFault>
+    ensures { Takes (λ n. n) result fields.new (field_of (number_below 20065) fields.old) }
+{
+    count_in(word(fields)?)
+}
+
+#[tactic(auto, unfolding(crate::specs::Counts::words_count))]
+fn words_count(arc: ArcId, fields: &mut Parts<'_>) -> Result<u32, WordFault>
+    ensures { Gives (λ n. n) result (words_count arc fields.old) }
+{
+    ledger_field(fields)?;
+    arc_field(arc, fields)?;
+    let count = count_field(fields)?;
+    nothing_more(fields)?;
+    Ok(count)
+}
+
+/// How many entries the line before those of an arc tells, or that no writer writes the line.
+#[tactic(auto, unfolding(crate::specs::Counts::count_of))]
+pub fn read_count(arc: ArcId, line: &[u8]) -> Result<u32, WordFault>
+    ensures { Gives (λ n. n) result (count_of arc line.now) }
+{
+    words_count(arc, &mut Parts::new(b' ', line))
+}

@@ -1,0 +1,78 @@
+//! Numbers in decimal, without leading zeros.
+
+ghost use Rattle.std.specs.Prelude.{◌≡◌, ◌^◌};
+ghost use Rattle.swap_base.specs.Fault.{Gives};
+ghost use Rattle.transcript_lines.specs.Reading.{number_of, number_below, read_on};
+ghost use Rattle.transcript_book.specs.Taking.{digit_on};
+
+use swap_base::Fault;
+use transcript_lines::Misspelling;
+
+/// Why a field says nothing, or want of memory.
+pub type WordFault = Fault<Misspelling>;
+
+/// The fault of a line that no writer writes.
+pub fn misspelt() -> WordFault
+    ensures { result ≡ Fault.Refused Misspelling.Misspelt }
+{
+    Fault::Refused(Misspelling::Misspelt)
+}
+
+fn digit_on(value: u64, byte: u8) -> Result<u64, WordFault>
+    ensures { Gives (λ n. n) result (digit_on value byte) }
+{
+    if byte < b'0' || byte > b'9' {
+        return Err(misspelt());
+    }
+    let digit = (byte - b'0') as u64;
+    if value > (u64::MAX - digit) / 10 {
+        return Err(misspelt());
+    }
+    Ok(value * 10 + digit)
+}
+
+fn read_on(digits: &[u8]) -> Result<u64, WordFault>
+    ensures { Gives (λ n. n) result (read_on 0 digits.now) }
+{
+    let mut value: u64 = 0;
+    for byte in digits {
+        value = digit_on(value, *byte)?;
+    }
+    Ok(value)
+}
+
+/// The number that a field says, below 2^64.
+pub fn number_of(word: &[u8]) -> Result<u64, WordFault>
+    ensures { Gives (λ n. n) result (number_of word.now) }
+{
+    match word {
+        [] => Err(misspelt()),
+        [b'0'] => Ok(0),
+        [b'0', ..] => Err(misspelt()),
+        _ => read_on(word),
+    }
+}
+
+/// The number that a field says, below 2^32.
+pub(crate) fn small_of(word: &[u8]) -> Result<u32, WordFault>
+    ensures { Gives (λ n. n) result (number_below (2 ^ 32) word.now) }
+{
+    let n = number_of(word)?;
+    if n < 4_294_967_296 {
+        Ok(n as u32)
+    } else {
+        Err(misspelt())
+    }
+}
+
+/// The number that a field says, below 256.
+pub(crate) fn byte_of(word: &[u8]) -> Result<u8, WordFault>
+    ensures { Gives (λ n. n) result (number_below 256 word.now) }
+{
+    let n = number_of(word)?;
+    if n < 256 {
+        Ok(n as u8)
+    } else {
+        Err(misspelt())
+    }
+}

@@ -1,5 +1,0 @@
-use Rattle.transcript_fields.proofs.Members.{starts}
-use Rattle.transcript_fields.proofs.lists.each_signature.Goals as goal
-
-pub loop-word-init : goal.loop-word-init
-loop-word-init c = rw c.new-list.ensures.items (starts _)

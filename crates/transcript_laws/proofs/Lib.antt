@@ -1,9 +1,0 @@
-pub mod Digits
-pub mod Exact
-pub mod Fields
-pub mod Entries
-pub mod Placed
-pub mod Sound
-pub mod Complete
-pub mod OneLine
-pub mod Legal
