@@ -17,9 +17,9 @@ use Rattle.offer_fields.proofs.Chains.{went}
 use Rattle.offer_header.specs.Raw.{is_plain}
 use Rattle.swap_offer.specs.Job.{events_for, job_header_of, job_of, of_lines}
 use Rattle.swap_offer.specs.Lines.{filled_lines, lines_of}
-use Rattle.header_back.specs.Laws.{IsShowable}
-use Rattle.header_back.proofs.Onward.{ok_is}
-use Rattle.header_back.proofs.Showable.{read_is_showable}
+use Rattle.read_back.specs.Headers.{IsShowable}
+use Rattle.read_back.proofs.Onward.{ok_is}
+use Rattle.read_back.proofs.Showable.{read_is_showable}
 use Rattle.transcript_back.specs.Digests.{HasDigests, StatesDigests, HoldsDigests}
 use Rattle.transcript_back.specs.Laws.{HasTranscript}
 use Rattle.transcript_back.proofs.Reports.{same_report}

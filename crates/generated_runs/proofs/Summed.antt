@@ -7,9 +7,9 @@ use Rattle.swap_offer.specs.Lines.{filled_lines, lines_of}
 use Rattle.swap_gen.specs.Drawn.{plain_job}
 use Rattle.swap_gen.specs.Events.{generated_events}
 use Rattle.made_jobs.specs.Generating.{generated_book, generated_text}
-use Rattle.made_back.specs.Laws.{told}
-use Rattle.made_back.proofs.Generated.{generated_text_is_read_back}
-use Rattle.made_back.proofs.Runs.{same_book}
+use Rattle.read_back.specs.Made.{told}
+use Rattle.read_back.proofs.Generated.{generated_text_is_read_back}
+use Rattle.read_back.proofs.Runs.{same_book}
 use Rattle.swap_commands.specs.Generated.{summary_output}
 use Rattle.swap_commands.specs.Output.{book_of, output_by, output_for, reported, Chance}
 use Rattle.swap_commands.specs.declared.words.Command.TheVariants.{OfJob}

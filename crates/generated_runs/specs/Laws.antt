@@ -3,7 +3,7 @@ use Rattle.std.specs.Prelude.{◌≡◌, ◌≤◌, ℕ, Bool, List, Ok}
 use Rattle.swap_job.specs.declared.job.Purpose.TheVariants as purposes
 use Rattle.swap_gen.specs.Drawn.{plain_job}
 use Rattle.made_jobs.specs.Generating.{generated_book, generated_text}
-use Rattle.made_back.specs.Laws.{told}
+use Rattle.read_back.specs.Made.{told}
 use Rattle.audit_command.specs.Output.{Written}
 use Rattle.swap_commands.specs.Generated.{summary_output}
 use Rattle.swap_commands.specs.Output.{output_by, reported, Chance}

@@ -57,8 +57,8 @@ use Rattle.offer_header.proofs.Limited.{opened}
 use Rattle.swap_offer.specs.Checks.{admitted, job_with}
 use Rattle.swap_offer.specs.Job.{accepted_of, events_of, job_header_of, next_of, provided}
 use Rattle.typed_books.specs.Typed.{IsDigest, IsSignature}
-use Rattle.header_back.proofs.Onward.{landed, onward}
-use Rattle.header_back.proofs.Showable.{decoded_bytes, digest_is}
+use Rattle.read_back.proofs.Onward.{landed, onward}
+use Rattle.read_back.proofs.Showable.{decoded_bytes, digest_is}
 use Rattle.run_digests.proofs.Hashes.{May, KeyHas}
 use Rattle.run_digests.proofs.Calls.{MoveHas}
 use Rattle.run_digests.proofs.States.{EventHas, RoleHas}

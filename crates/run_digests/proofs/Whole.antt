@@ -13,9 +13,9 @@ use Rattle.swap_offer.specs.Job.{events_of, job_header_of, job_of, of_lines}
 use Rattle.swap_offer.specs.Lines.{filled_lines, lines_of}
 use Rattle.swap_commands.specs.Output.{AreGiven, cast_by, state_of}
 use Rattle.swap_main.specs.Staff.{by_rule}
-use Rattle.header_back.specs.Laws.{IsShowable}
-use Rattle.header_back.proofs.Onward.{landed, onward}
-use Rattle.header_back.proofs.Showable.{read_is_showable}
+use Rattle.read_back.specs.Headers.{IsShowable}
+use Rattle.read_back.proofs.Onward.{landed, onward}
+use Rattle.read_back.proofs.Showable.{read_is_showable}
 use Rattle.run_digests.specs.Laws.{KeepsDigests, Rule, RunsHoldDigests}
 use Rattle.run_digests.proofs.Hashes.{May, WalletHas, onto_has, own_has}
 use Rattle.run_digests.proofs.Calls.{AnswerHas, BookHas}

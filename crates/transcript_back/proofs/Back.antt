@@ -7,10 +7,10 @@ use Rattle.refusals.specs.declared.reason.Reason.{Reason}
 use Rattle.offer_header.specs.Names.{no_strategy}
 use Rattle.offer_text.specs.HeaderLine.{header_line}
 use Rattle.swap_offer.specs.Job.{names_at}
-use Rattle.header_back.specs.Laws.{IsShowable, audited}
-use Rattle.header_back.proofs.OneLine.{header_is_one_line}
-use Rattle.header_back.proofs.Shown.{header_reads}
-use Rattle.header_back.proofs.Whole.{header_is_read_back}
+use Rattle.read_back.specs.Headers.{IsShowable, audited}
+use Rattle.read_back.proofs.HeaderOneLine.{header_is_one_line}
+use Rattle.read_back.proofs.HeaderShown.{header_reads}
+use Rattle.read_back.proofs.HeaderWhole.{header_is_read_back}
 use Rattle.transcript_lines.specs.Lines.{transcript, transcript_lines, IsWhole}
 use Rattle.transcript_book.proofs.Legal.{legal_is_stated}
 use Rattle.transcript_reader.specs.Header.{header_read}

@@ -12,7 +12,7 @@ use Rattle.report_text.specs.Report.{report}
 use Rattle.transcript_lines.specs.Lines.{transcript}
 use Rattle.transcript_reader.specs.Reading.{Story}
 use Rattle.audit_command.specs.Output.{Written, audit_of, by_replies, by_text, judged, story, story_in, told, written_of}
-use Rattle.header_back.specs.Laws.{audited}
+use Rattle.read_back.specs.Headers.{audited}
 use Rattle.transcript_back.specs.Laws.{HasTranscript, SameReport, reported}
 use Rattle.transcript_back.proofs.Back.{round_trip}
 use Rattle.transcript_back.proofs.Replays.{book_stands}

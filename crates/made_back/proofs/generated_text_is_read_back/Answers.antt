@@ -1,5 +1,0 @@
-use Rattle.made_back.proofs.Generated as made
-use Rattle.made_back.proofs.generated_text_is_read_back.Goals as goal
-
-pub returns : goal.returns
-returns c = made.generated_text_is_read_back

@@ -1,5 +1,0 @@
-use Rattle.made_back.proofs.Outputs as outputs
-use Rattle.made_back.proofs.made_header_reads.Goals as goal
-
-pub returns : goal.returns
-returns c = outputs.made_header_reads

@@ -1,5 +1,0 @@
-use Rattle.made_back.proofs.Outputs as outputs
-use Rattle.made_back.proofs.made_text_is_read_back.Goals as goal
-
-pub returns : goal.returns
-returns c = outputs.made_text_is_read_back

@@ -1,5 +1,0 @@
-use Rattle.made_back.proofs.Lines as lines
-use Rattle.made_back.proofs.text_has_one_story.Goals as goal
-
-pub returns : goal.returns
-returns c = lines.text_has_one_story

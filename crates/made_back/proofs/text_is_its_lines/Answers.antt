@@ -1,5 +1,0 @@
-use Rattle.made_back.proofs.Lines as lines
-use Rattle.made_back.proofs.text_is_its_lines.Goals as goal
-
-pub returns : goal.returns
-returns c = lines.text_is_its_lines

@@ -1,0 +1,126 @@
+-- Each group that is cleared of a line of wishes is one of those wishes.
+use Rattle.std.proofs.Common.{◌≡◌, ◌≤◌, ℕ, Bool, true, false, nat_lt, cond, List, [], ◌∷◌, ◌++◌, length, Result, Ok, Err, refl, ap, subst, ltb-false}
+use Rattle.std.specs.Prelude.{All}
+use Rattle.std.specs.Str.{bytes_eq}
+use Rattle.std.specs.List.{list_any}
+use Rattle.std.proofs.lemmas.List.Elements.{All-nil, All-push}
+use Rattle.swap_base.specs.Fault.{steps}
+use Rattle.swap_base.specs.Lists.{IsIn}
+use Rattle.refusals.specs.declared.reason.Reason.{Reason}
+use Rattle.refusals.specs.declared.reason.Reason.TheVariants.{BadName, Duplicate, StartTooSoon}
+use Rattle.offer_fields.specs.Fields.{object_of}
+use Rattle.offer_fields.specs.Lists.{each_of}
+use Rattle.offer_header.specs.Names.{is_name, name_added, AreNames}
+use Rattle.offer_header.proofs.Walked.{steps_keep}
+use Rattle.swap_clear.specs.declared.answer.Group.{Group}
+use Rattle.swap_clear.specs.declared.answer.Clearing.{Clearing}
+use Rattle.swap_clear.specs.declared.fault.ClearReason.{ClearReason}
+use Rattle.swap_clear.specs.Clearing.{clearing_of}
+use Rattle.swap_clear.proofs.Told as told
+use Rattle.clear_line.specs.Cleared.{by_clearing, cleared_of, clearing_for, started, without_self_arcs}
+use Rattle.clear_line.specs.Fields.{raw_of}
+use Rattle.clear_line.specs.Limits.{proposals_of, times_of, wishes_by, wishes_of, IsWithin}
+use Rattle.clear_line.specs.Names.{name_step, numbered_arc, numbered_of, AreEndsBelow}
+use Rattle.clear_line.specs.declared.cleared.Cleared.{Cleared}
+use Rattle.clear_line.specs.declared.fields.RawWishes.{RawWishes}
+use Rattle.clear_line.specs.declared.limits.Wishes.{Wishes}
+use Rattle.clear_line.specs.declared.names.Numbered.{Numbered}
+use Rattle.clear_line.proofs.Named.{arcs_of, names_of}
+use Rattle.clear_line.proofs.Within.{is_within}
+use Rattle.read_back.proofs.Onward.{landed, ok_is, onward}
+use Rattle.read_back.proofs.Shape.{IsClear, IsGood}
+
+-- ---- names
+
+two_tests : {X : Type 0} (a b : Bool) (x y : Reason) (z t : X) → cond a (cond b (Err x) (Ok z)) (Err y) ≡ Ok t → (a ≡ true) × (z ≡ t)
+two_tests true true x y z t h = absurd (cc h)
+two_tests true false x y z t h = (refl, ok_is z t h)
+two_tests false b x y z t h = absurd (cc h)
+
+good_step : (line : ℕ) (seen : List (List ℕ)) (name : List ℕ) (t : List (List ℕ)) → All IsGood seen → name_step line seen name ≡ Ok t → All IsGood t
+unfolding name_added
+good_step line seen name t good h =
+    let a = two_tests (is_name name) (list_any (bytes_eq name) seen) (Duplicate line name) (BadName line name) (seen ++ name ∷ []) t h in
+    subst (All IsGood) a.1 (All-push IsGood seen name good a.0)
+
+good_names : (line : ℕ) (parties names : List (List ℕ)) → steps (name_step line) [] parties ≡ Ok names → All IsGood names
+good_names line parties names e = steps_keep (All IsGood) (name_step line) (good_step line) [] parties names (All-nil IsGood) e
+
+-- What is known of names and of the numbers that stand for them.
+record AreKnown (n : Numbered) : Type 0 where
+  names : AreNames n.names
+  ends : AreEndsBelow n
+  good : All IsGood n.names
+
+numbered_are : (line : ℕ) (raw : RawWishes) (n : Numbered) → numbered_of line raw ≡ Ok n → AreKnown n
+unfolding numbered_of
+numbered_are line raw =
+    onward (steps (name_step line) [] raw.parties) _ AreKnown (λ names e.
+    onward (each_of (numbered_arc line names) raw.arcs) _ AreKnown (λ arcs a.
+    landed (record { names = names; arcs = arcs }) AreKnown
+    (record { names = names_of line raw.parties names e; ends = arcs_of line names raw.arcs arcs a; good = good_names line raw.parties names e })))
+
+-- ---- wishes
+
+-- What is known of wishes.
+record AreFine (w : Wishes) : Type 0 where
+  within : IsWithin w
+  good : All IsGood w.names
+
+wishes_are : (line : ℕ) (raw : RawWishes) (w : Wishes) → wishes_by line raw ≡ Ok w → AreFine w
+unfolding wishes_by
+wishes_are line raw =
+    onward (numbered_of line raw) _ AreFine (λ n m.
+    onward (times_of line raw) _ AreFine (λ t s.
+    onward (proposals_of line n) _ AreFine (λ arcs p.
+    landed (record { start = t.0; delta = t.1; names = n.names; arcs = arcs }) AreFine
+    (let k = numbered_are line raw n m in record { within = is_within line raw n t arcs k.names k.ends s p; good = k.good }))))
+
+read_are : (line : ℕ) (text : List ℕ) (w : Wishes) → wishes_of line text ≡ Ok w → AreFine w
+unfolding wishes_of
+read_are line text =
+    onward (object_of line text) _ AreFine (λ d o.
+    onward (raw_of line d) _ AreFine (λ raw r. wishes_are line raw))
+
+-- ---- groups
+
+ok_cleared : (r : Result Clearing ClearReason) (c : Clearing) → by_clearing r ≡ Ok c → r ≡ Ok c
+ok_cleared (Ok x) c e = ap (λ (y : Clearing). Ok y) (ok_is x c e)
+ok_cleared (Err reason) c e = absurd (cc e)
+
+by_start : (b : Bool) (start delta : ℕ) (reason : Reason) (u : Unit {0}) → nat_lt start delta ≡ b → cond b (Err reason) (Ok tt) ≡ Ok u → delta ≤ start
+by_start true start delta reason u e h = absurd (cc h)
+by_start false start delta reason u e h = ltb-false start delta e
+
+late_enough : (start delta : ℕ) (u : Unit {0}) → started start delta ≡ Ok u → delta ≤ start
+unfolding started
+late_enough start delta u h = by_start (nat_lt start delta) start delta (StartTooSoon start delta) u refl h
+
+clearing_is : (w : Wishes) (c : Clearing) → clearing_for w ≡ Ok c → (w.delta ≤ w.start) × (clearing_of (length w.names) w.arcs ≡ Ok c)
+unfolding clearing_for
+clearing_is w =
+    let P = λ (c : Clearing). (w.delta ≤ w.start) × (clearing_of (length w.names) w.arcs ≡ Ok c) in
+    onward (without_self_arcs w.arcs) _ P (λ u s.
+    onward (started w.start w.delta) _ P (λ v t c e. (late_enough w.start w.delta v t, ok_cleared (clearing_of (length w.names) w.arcs) c e)))
+
+group_is : (w : Wishes) (c : Clearing) → AreFine w → clearing_for w ≡ Ok c → (group : Group) → IsIn group c.groups → IsClear w group
+group_is w c fine e group i =
+    let n : ℕ = length w.names in
+    let k = clearing_is w c e in record {
+      within = fine.within;
+      names = fine.good;
+      one = (told.groups n w.arcs c k.1).each group i;
+      led = told.leaders n w.arcs c k.1 group i;
+      ready = told.ready n w.arcs c k.1 fine.within.parties.1 fine.within.arcs.1 fine.within.amounts group i w.start w.delta fine.within.delta
+          (k.0, fine.within.start.1);
+    }
+
+abbrev AreClear : Cleared → Type 0
+AreClear c = (group : Group) → IsIn group c.clearing.groups → IsClear c.wishes group
+
+pub groups_are_clear : (line : ℕ) (text : List ℕ) (c : Cleared) → cleared_of line text ≡ Ok c → AreClear c
+unfolding cleared_of
+groups_are_clear line text =
+    onward (wishes_of line text) _ AreClear (λ w r.
+    onward (clearing_for w) _ AreClear (λ c e.
+    landed (record { wishes = w; clearing = c }) AreClear (group_is w c (read_are line text w r) e)))

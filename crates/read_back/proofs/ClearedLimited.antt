@@ -1,0 +1,168 @@
+-- The limits of a group's job are kept, and its seeds are those of its digits.
+use Rattle.std.proofs.Common.{◌≡◌, ◌^◌, ◌<◌, ◌≤◌, ℕ, zero, suc, nat_le, true, not, List, [], ◌∷◌, length, map, Some, Result, Ok, refl}
+use Rattle.std.proofs.Common.{◌∙◌, arith, le-leb, lt-ltb}
+use Rattle.std.specs.Prelude.{codes, zip}
+use Rattle.std.proofs.lemmas.List.{length-map}
+use Rattle.hex.specs.Hex.{decode_sized}
+use Rattle.hex.specs.declared.error.FromHexError.{FromHexError}
+use Rattle.swap_base.specs.Lists.{IsIn}
+use Rattle.swap_base.proofs.Lists.{and_both}
+use Rattle.time_bounds.specs.Times.{need}
+use Rattle.swap_digraph.specs.Value.{Graph}
+use Rattle.swap_digraph.specs.Graph.{is_among, IsHeight}
+use Rattle.swap_digraph.proofs.Parts.{not_leader}
+use Rattle.swap_digraph.proofs.Paths.{in-is_among}
+use Rattle.swap_digraph.specs.declared.deal.Version.TheVariants.{Two}
+use Rattle.swap_job.specs.declared.job.Purpose.TheVariants.{Make}
+use Rattle.swap_job.specs.declared.job.Role.TheVariants.{Conforming}
+use Rattle.offer_fields.specs.Lists.{each_of}
+use Rattle.offer_fields.specs.Limits.{digest_of, number_within, within}
+use Rattle.offer_moves.specs.declared.moves.Sizes.{Sizes}
+use Rattle.offer_header.specs.declared.limits.Acting.{Acting}
+use Rattle.offer_header.specs.declared.limits.ArcTerms.{ArcTerms}
+use Rattle.offer_header.specs.declared.header.Header.{Header}
+use Rattle.offer_header.specs.Limits.{acting_of, all_terms_of, hashlocks_of, header_with, limited_of, no_digests, parties_of, seed_of, sizes_in, terms_of}
+use Rattle.swap_clear.specs.declared.answer.Group.{Group}
+use Rattle.swap_clear.specs.Led.{own, own_leaders}
+use Rattle.clear_line.specs.declared.limits.Wishes.{Wishes}
+use Rattle.clear_text.specs.ClearedText.{proposal}
+use Rattle.read_back.specs.ClearedJobs.{wished_graph, AreDigitsOf}
+use Rattle.read_back.proofs.Steps.{each_back, step}
+use Rattle.read_back.proofs.ClearedFields.{raw_arc, raw_header, raw_leader, raw_party}
+use Rattle.read_back.proofs.Lists.{pairs_long}
+use Rattle.read_back.proofs.ClearedNamed.{numbered_at}
+use Rattle.read_back.proofs.Shape.{IsClear}
+
+-- ---- ranges
+
+within_back : (line : ℕ) (field : List ℕ) (low high n : ℕ) → low ≤ n → n ≤ high → within line field low high n ≡ Ok tt
+unfolding within
+within_back line field low high n l h = rw (and_both (nat_le low n) (nat_le n high) (le-leb low n l) (le-leb n high h)) refl
+
+number_back : (line : ℕ) (field : List ℕ) (low high n : ℕ) → low ≤ n → n ≤ high → number_within line field low high n ≡ Ok n
+unfolding number_within
+number_back line field low high n l h = step _ tt _ (within_back line field low high n l h)
+
+-- ---- seeds
+
+abbrev pub acting_with : List ℕ → Acting
+acting_with seed = record { role = Conforming; seed = Some seed }
+
+-- what the first of two lists of answers says of the first of what they are answers for
+pub heads : (r : Result (List ℕ) FromHexError) (s : List ℕ) (rs ss : List (Result (List ℕ) FromHexError)) → r ∷ rs ≡ Ok s ∷ ss → (r ≡ Ok s) × (rs ≡ ss)
+heads r s rs ss e = (cc e, cc e)
+
+seed_back : (w : Wishes) (sizes : Sizes) (names : List (List ℕ)) (line p : ℕ) (text seed : List ℕ) → decode_sized text 32 ≡ Ok seed
+    → acting_of sizes names line (raw_party w (p, text)) ≡ Ok (acting_with seed)
+unfolding acting_of seed_of digest_of
+seed_back w sizes names line p text seed e = rw e refl
+
+seeds_back : (w : Wishes) (sizes : Sizes) (names : List (List ℕ)) (line : ℕ) (ps : List ℕ) (texts seeds : List (List ℕ)) → length texts ≡ length ps
+    → AreDigitsOf texts seeds → each_of (acting_of sizes names line) (map (raw_party w) (zip ps texts)) ≡ Ok (map acting_with seeds)
+unfolding each_of
+seeds_back w sizes names line [] [] [] e d = refl
+seeds_back w sizes names line [] [] (s ∷ seeds) e d = absurd (cc d)
+seeds_back w sizes names line [] (t ∷ texts) seeds e d = absurd (omega (arith, e))
+seeds_back w sizes names line (p ∷ ps) [] seeds e d = absurd (omega (arith, e))
+seeds_back w sizes names line (p ∷ ps) (t ∷ texts) [] e d = absurd (cc d)
+seeds_back w sizes names line (p ∷ ps) (t ∷ texts) (s ∷ seeds) e d =
+    let h = heads (decode_sized t 32) s _ _ d in
+    step _ (acting_with s) _ (seed_back w sizes names line p t s h.0)
+    ∙ step _ (map acting_with seeds) _ (seeds_back w sizes names line ps texts seeds (omega (arith, e)) h.1)
+
+-- ---- a bound that is enough isn't 0
+
+a_follower : (leader : ℕ) → (v : ℕ) × (v < 2) × (v ≡ leader → ⊥)
+a_follower zero = (1, omega arith, λ e. omega (arith, e))
+a_follower (suc l) = (0, omega arith, λ e. omega (arith, e))
+
+many_leaders : (n locks h b : ℕ) → 2 ≤ n → 2 ≤ locks → need n locks h ≤ b → 1 ≤ b
+many_leaders n locks h b parties two le = omega arith
+
+one_leader : (n h b : ℕ) → 2 ≤ n → 1 ≤ h → need n 1 h ≤ b → 1 ≤ b
+one_leader n h b parties some le = omega arith
+
+-- a follower alone is a path
+tall_enough : (g : Graph) (l h : ℕ) → 2 ≤ g.n → IsHeight g (l ∷ []) h → 1 ≤ h
+tall_enough g l h parties tall =
+    let v = a_follower l in
+    let low : v.0 < 2 = v.1 in
+    let within : v.0 < g.n = omega (arith, low, parties) in
+    tall.most (v.0 ∷ []) (lt-ltb v.0 g.n within) (and_both (not (is_among v.0 (l ∷ []))) true (not_leader l v.0 v.2) refl)
+
+some_bound : (g : Graph) (ls : List ℕ) (h b : ℕ) → 2 ≤ g.n → 1 ≤ length ls → IsHeight g ls h → need g.n (length ls) h ≤ b → 1 ≤ b
+some_bound g [] h b parties some tall le = absurd (omega arith)
+some_bound g (l ∷ []) h b parties some tall le = one_leader g.n h b parties (tall_enough g l h parties tall) le
+some_bound g (l ∷ m ∷ ls) h b parties some tall le = many_leaders g.n (length (l ∷ m ∷ ls)) h b parties (omega arith) le
+
+-- ---- the header
+
+abbrev pub terms_at : Wishes → ℕ → ArcTerms
+terms_at w a = record { amount = (proposal w.arcs a).amount; timelock = 0 }
+
+abbrev pub header_at : Wishes → Group → (texts seeds : List (List ℕ)) → Header
+header_at w group texts seeds =
+    header_with Make (raw_header w group texts) (numbered_at w group) w.start w.delta group.bound (map acting_with seeds) (map (terms_at w) group.arcs)
+    (no_digests (map (raw_leader w) group.leaders))
+    (map (λ p. no_digests (map (raw_leader w) group.leaders)) (map (raw_party w) (zip group.parties texts)))
+
+pub amount_low : (w : Wishes) (group : Group) → IsClear w group → (a : ℕ) → IsIn a group.arcs
+    → (1 ≤ (proposal w.arcs a).amount) × ((proposal w.arcs a).amount ≤ 10 ^ 12)
+amount_low w group k a i =
+    let lt : a < length (wished_graph w).arcs = k.one.arc a (in-is_among a group.arcs i) in
+    let size : length (wished_graph w).arcs ≡ length w.arcs = length-map w.arcs _ in
+    k.within.amounts a (omega (arith, lt, size))
+
+module _ (w : Wishes) (group : Group) (k : IsClear w group) (line : ℕ) (texts seeds : List (List ℕ)) (each : length texts ≡ length group.parties)
+    (digits : AreDigitsOf texts seeds) where
+  parties_act : (sizes : Sizes) (names : List (List ℕ))
+      → parties_of Two sizes names line (map (raw_party w) (zip group.parties texts)) ≡ Ok (map acting_with seeds)
+  unfolding parties_of
+  parties_act sizes names =
+      let low : 2 ≤ length group.parties = k.ready.parties.0 in
+      let high : length group.parties ≤ 32 = k.ready.parties.1 in
+      let size : length (map (raw_party w) (zip group.parties texts)) ≡ length group.parties
+      = length-map (zip group.parties texts) (raw_party w) ∙ pairs_long group.parties texts each in
+      step _ tt _ (within_back line (codes "parties") 2 32 (length (map (raw_party w) (zip group.parties texts)))
+      (omega (arith, low, size)) (omega (arith, high, size)))
+      ∙ seeds_back w sizes names line group.parties texts seeds each digits
+
+  term_back : (a : ℕ) → IsIn a group.arcs → terms_of line (raw_arc w a) ≡ Ok (terms_at w a)
+  unfolding terms_of
+  term_back a i =
+      let low = amount_low w group k a i in
+      step _ tt _ (within_back line (codes "amount") 1 (10 ^ 12) (proposal w.arcs a).amount low.0 low.1)
+      ∙ step _ 0 _ (number_back line (codes "timelock") 0 1000000 0 (omega arith) (omega arith))
+
+  terms_back : all_terms_of Two line (map (raw_arc w) group.arcs) ≡ Ok (map (terms_at w) group.arcs)
+  unfolding all_terms_of
+  terms_back =
+      let own_size : length (own (wished_graph w) group).arcs ≡ length group.arcs = length-map group.arcs _ in
+      let low : 2 ≤ length (own (wished_graph w) group).arcs = k.ready.arcs.0 in
+      let high : length (own (wished_graph w) group).arcs ≤ 128 = k.ready.arcs.1 in
+      let size : length (map (raw_arc w) group.arcs) ≡ length group.arcs = length-map group.arcs (raw_arc w) in
+      step _ tt _ (within_back line (codes "arcs") 2 128 (length (map (raw_arc w) group.arcs))
+      (omega (arith, low, size, own_size)) (omega (arith, high, size, own_size)))
+      ∙ each_back (terms_of line) (raw_arc w) (terms_at w) group.arcs term_back
+
+  locks_back : hashlocks_of true line (map (raw_leader w) group.leaders) ≡ Ok (no_digests (map (raw_leader w) group.leaders))
+  unfolding hashlocks_of
+  locks_back =
+      let low : 1 ≤ length group.leaders = k.led.few.0 in
+      let high : length group.leaders ≤ 8 = k.led.few.1 in
+      let size : length (map (raw_leader w) group.leaders) ≡ length group.leaders = length-map group.leaders (raw_leader w) in
+      step _ tt _ (within_back line (codes "leaders") 1 8 (length (map (raw_leader w) group.leaders)) (omega (arith, low, size))
+      (omega (arith, high, size)))
+
+  pub limited_back : limited_of Make line (raw_header w group texts) (numbered_at w group) ≡ Ok (header_at w group texts seeds)
+  unfolding limited_of
+  limited_back =
+      let low : 1 ≤ group.bound
+      = some_bound (own (wished_graph w) group) (own_leaders group) k.ready.height group.bound k.ready.parties.0 k.ready.leaders.0 k.ready.is_height
+      k.ready.bound.0 in
+      step _ w.start _ (number_back line (codes "start") 1 1000 w.start k.within.start.0 k.within.start.1)
+      ∙ step _ w.delta _ (number_back line (codes "delta") 1 100 w.delta k.within.delta.0 k.within.delta.1)
+      ∙ step _ group.bound _ (number_back line (codes "bound") 1 64 group.bound low k.ready.bound.1)
+      ∙ step _ (map acting_with seeds) _ (parties_act (sizes_in (raw_header w group texts)) (numbered_at w group).names)
+      ∙ step _ (map (terms_at w) group.arcs) _ terms_back
+      ∙ step _ (no_digests (map (raw_leader w) group.leaders)) _ locks_back

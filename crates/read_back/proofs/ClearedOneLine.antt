@@ -1,0 +1,58 @@
+-- The line of a group's job with seeds holds no line feed, and is one of an input's lines.
+use Rattle.std.proofs.Common.{◌≡◌, inl, inr, ◌==◌, ℕ, Bool, true, false, not, List, [], ◌∷◌, ◌++◌, map, refl, ap, ◌∙◌, arith}
+use Rattle.std.specs.Prelude.{codes, zip}
+use Rattle.std.specs.List.{list_all}
+use Rattle.serde_json.specs.Data.{Data}
+use Rattle.serde_json.specs.View.{items_of}
+use Rattle.swap_base.specs.Lists.{IsIn}
+use Rattle.swap_base.proofs.Lists.{and_parts}
+use Rattle.swap_offer.specs.Lines.{filled_lines, lines_of, with_first}
+use Rattle.swap_clear.specs.declared.answer.Group.{Group}
+use Rattle.clear_line.specs.declared.limits.Wishes.{Wishes}
+use Rattle.clear_text.specs.ClearedText.{arc_data, named_data, proposal}
+use Rattle.read_back.specs.ClearedJobs.{seeded_data, seeded_line, seeded_party}
+use Rattle.read_back.proofs.HeaderOneLine.{one_value, ArePlain, IsOneLine, IsPlain}
+use Rattle.read_back.proofs.ClearedLimited.{amount_low}
+use Rattle.read_back.proofs.Shape.{IsClear}
+
+items_plain : {A : Type 0} (f : A → Data) (xs : List A) → ((x : A) → IsIn x xs → IsPlain (f x)) → ArePlain (items_of (map f xs))
+items_plain f [] h = tt
+items_plain f (x ∷ xs) h = (h x (inl refl), items_plain f xs (λ y i. h y (inr i)))
+
+job_plain : (w : Wishes) (group : Group) → IsClear w group → (texts : List (List ℕ)) → IsPlain (seeded_data w group texts)
+job_plain w group k texts =
+    let arcs = items_plain (λ a. arc_data w.names (proposal w.arcs a)) group.arcs
+    (λ a i. let low = (amount_low w group k a i).1 in (omega (arith, low), (tt, (tt, tt)))) in
+    let leaders = items_plain (named_data (codes "party") w.names) group.leaders (λ l i. (tt, tt)) in
+    let parties = items_plain (seeded_party w.names) (zip group.parties texts) (λ p i. (tt, (tt, tt))) in
+    let bound = k.ready.bound.1 in
+    let delta = k.within.delta.1 in
+    let start = k.within.start.1 in
+    (arcs, (omega (arith, bound), (omega (arith, delta), (leaders, (tt, (parties, (omega (arith, start), (omega arith, tt))))))))
+
+pub is_one_line : (w : Wishes) (group : Group) → IsClear w group → (texts : List (List ℕ)) → IsOneLine (seeded_line w group texts)
+unfolding seeded_line
+is_one_line w group k texts = one_value (seeded_data w group texts) (job_plain w group k texts)
+
+-- ---- lines
+
+not_is : (b : Bool) → not b ≡ true → b ≡ false
+not_is true e = absurd (cc e)
+not_is false e = refl
+
+-- a line with its line feed is one line
+one_of : (l : List ℕ) → IsOneLine l → lines_of (l ++ codes "\n") ≡ l ∷ []
+unfolding lines_of
+one_of [] h = refl
+one_of (b ∷ l) h =
+    let p = and_parts (not (b == 10)) (list_all (λ x. not (x == 10)) l) h in
+    rw (not_is (b == 10) p.0) (ap (with_first b) (one_of l p.1))
+
+-- it begins with a brace, and isn't blank
+is_filled : (w : Wishes) (group : Group) (texts : List (List ℕ)) → filled_lines 1 (seeded_line w group texts ∷ []) ≡ (1, seeded_line w group texts) ∷ []
+unfolding filled_lines seeded_line
+is_filled w group texts = refl
+
+pub as_given : (w : Wishes) (group : Group) (texts : List (List ℕ)) → IsOneLine (seeded_line w group texts)
+    → filled_lines 1 (lines_of (seeded_line w group texts ++ codes "\n")) ≡ (1, seeded_line w group texts) ∷ []
+as_given w group texts one = ap (filled_lines 1) (one_of (seeded_line w group texts) one) ∙ is_filled w group texts

@@ -1,0 +1,5 @@
+use Rattle.read_back.proofs.Outputs as outputs
+use Rattle.read_back.proofs.made.made_text_is_read_back.Goals as goal
+
+pub returns : goal.returns
+returns c = outputs.made_text_is_read_back
