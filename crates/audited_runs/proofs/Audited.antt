@@ -20,9 +20,9 @@ use Rattle.swap_offer.specs.Lines.{filled_lines, lines_of}
 use Rattle.read_back.specs.Headers.{IsShowable}
 use Rattle.read_back.proofs.Onward.{ok_is}
 use Rattle.read_back.proofs.Showable.{read_is_showable}
-use Rattle.transcript_back.specs.Digests.{HasDigests, StatesDigests, HoldsDigests}
-use Rattle.transcript_back.specs.Laws.{HasTranscript}
-use Rattle.transcript_back.proofs.Reports.{same_report}
+use Rattle.audited_runs.specs.Digests.{HasDigests, StatesDigests, HoldsDigests}
+use Rattle.audited_runs.specs.Transcripts.{HasTranscript}
+use Rattle.audited_runs.proofs.Reports.{same_report}
 use Rattle.transcript_lines.specs.Lines.{transcript}
 use Rattle.typed_books.specs.Typed.{IsTypedCall, IsTypedWhat}
 use Rattle.typed_books.specs.Books.{IsTypedBook, IsTypedEntry}
@@ -33,8 +33,8 @@ use Rattle.swap_commands.specs.declared.words.JobCommand.TheVariants.{Run, Race}
 use Rattle.swap_commands.specs.Promised.{AsPromised}
 use Rattle.swap_main.specs.Staff.{by_rule, is_known}
 use Rattle.swap_commands.specs.declared.words.Command.{Command}
-use Rattle.run_digests.proofs.Rules.{program_keeps_digests}
-use Rattle.run_digests.proofs.Whole.{runs_hold_digests}
+use Rattle.audited_runs.proofs.Rules.{program_keeps_digests}
+use Rattle.audited_runs.proofs.Whole.{runs_hold_digests}
 use Rattle.audited_runs.specs.Laws.{AuditsTellTheRace, AuditsTellTheRun, IsAudited, ProgramRacesAreAudited, ProgramRunsAreAudited, RacesAreAudited}
 use Rattle.audited_runs.specs.Laws.{RunsAreAudited}
 

@@ -1,1 +1,12 @@
 pub mod Audited
+pub mod Typed
+pub mod Back
+pub mod Replays
+pub mod Reports
+pub mod Hashes
+pub mod Calls
+pub mod Rules
+pub mod States
+pub mod Reading
+pub mod Whole
+pub mod Summed

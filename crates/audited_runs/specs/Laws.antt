@@ -10,7 +10,7 @@ use Rattle.swap_main.specs.Top.{IsDone}
 use Rattle.swap_commands.specs.declared.words.Command.{Command}
 use Rattle.swap_commands.specs.declared.words.Command.TheVariants.{OfJob, Audit}
 use Rattle.swap_commands.specs.declared.words.JobCommand.TheVariants.{Run, Race}
-use Rattle.run_digests.specs.Laws.{KeepsDigests, Rule}
+use Rattle.audited_runs.specs.RunDigests.{KeepsDigests, Rule}
 
 -- What was written of an input is a transcript of which an audit writes what the command writes for that input, and either tells of a finding where the
 -- transcript's status did.

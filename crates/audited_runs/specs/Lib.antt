@@ -1,1 +1,5 @@
 pub mod Laws
+pub mod Digests
+pub mod Transcripts
+pub mod RunDigests
+pub mod Generated

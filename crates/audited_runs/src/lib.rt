@@ -1,7 +1,16 @@
 //! An audit of the transcript that a run or a race wrote writes the report that the run or the race writes.
 //!
-//! Read `specs/Laws.antt` first.
+//! Read `specs/Laws.antt` first; it stands on `specs/Transcripts.antt` (a transcript is read back) and `specs/RunDigests.antt`. `specs/Generated.antt` is of
+//! runs of what `gen` writes.
 #![tactic(auto)]
+
+mod generated;
+mod run_digests;
+mod transcripts;
+
+pub use generated::generated_runs_are_summed;
+pub use run_digests::{program_keeps_digests, runs_hold_digests};
+pub use transcripts::{legal_is_typed, round_trip, same_report};
 
 ghost use Rattle.audited_runs.specs.Laws.{AuditsTellTheRace, AuditsTellTheRun, ProgramRacesAreAudited, ProgramRunsAreAudited, RacesAreAudited};
 ghost use Rattle.audited_runs.specs.Laws.{RunsAreAudited};

@@ -1,0 +1,36 @@
+-- The calls of a run hold digests.
+use Rattle.std.specs.Prelude.{◌≡◌, ℕ, Bool, List, All, Option, Some, Ok}
+use Rattle.swap_digraph.specs.declared.deal.Deal.{Deal}
+use Rattle.swap_job.specs.declared.event.Event.{Event}
+use Rattle.swap_job.specs.declared.job.Job.{Job}
+use Rattle.swap_job.specs.declared.job.Purpose.TheVariants as purposes
+use Rattle.ledger_core.specs.declared.entry.Call.{Call}
+use Rattle.ledger_core.specs.Book.{Histories}
+use Rattle.deviators.specs.Program.{program_rule}
+use Rattle.swap_run.specs.Asked.{Answers}
+use Rattle.swap_offer.specs.Job.{job_of}
+use Rattle.swap_commands.specs.Output.{AreGiven, book_of, state_of}
+use Rattle.swap_main.specs.Staff.{by_rule}
+use Rattle.typed_books.specs.Typed.{IsDigest}
+use Rattle.audited_runs.specs.Digests.{HasDigests, HoldsDigests}
+
+-- what strategies answer, by name, deal, party, turn number and what the party knows
+abbrev pub Rule : Type 0
+Rule = List ℕ → Deal → ℕ → ℕ → Histories → Option (ℕ × Call)
+
+-- the rule answers calls that hold digests, where those that it is shown do
+abbrev pub KeepsDigests : Rule → Type 0
+KeepsDigests rule =
+    (name : List ℕ) (d : Deal) (p t : ℕ) (k : Histories) (x : ℕ × Call) → All IsDigest d.hashlocks → HoldsDigests k → rule name d p t k ≡ Some x
+    → HasDigests x.1
+
+-- The rules of the program's strategies do.
+abbrev pub ProgramKeepsDigests : Type 0
+ProgramKeepsDigests = KeepsDigests program_rule
+
+-- By such a rule every call of the book holds digests to which the run of an input comes: what is read of it holds them, and what is made of seeds is hashed.
+abbrev pub RunsHoldDigests : Type 0
+RunsHoldDigests =
+    (rule : Rule) (has : List ℕ → Bool) (answers : Answers) (input : List ℕ) (job : Job) (events : List Event) → KeepsDigests rule
+    → job_of has purposes.Run input ≡ Ok (job, events) → AreGiven (by_rule rule) job.deal answers (state_of answers job events).asked
+    → HoldsDigests (book_of answers job events)

@@ -1,6 +1,0 @@
-pub mod Hashes
-pub mod Calls
-pub mod Rules
-pub mod States
-pub mod Reading
-pub mod Whole

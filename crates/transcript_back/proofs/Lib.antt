@@ -1,4 +1,0 @@
-pub mod Typed
-pub mod Back
-pub mod Replays
-pub mod Reports
