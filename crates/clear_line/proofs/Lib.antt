@@ -1,3 +1,5 @@
 pub mod Each
 pub mod Named
 pub mod Within
+pub mod Texts
+pub mod Floats

@@ -2,3 +2,4 @@ pub mod Fields
 pub mod Names
 pub mod Limits
 pub mod Cleared
+pub mod ClearedText

@@ -16,7 +16,7 @@ use Rattle.offer_header.specs.Raw.{actor_at, arc_of, finish_at, header_fields, l
 use Rattle.offer_header.specs.Raw.{version_at}
 use Rattle.swap_clear.specs.declared.answer.Group.{Group}
 use Rattle.clear_line.specs.declared.limits.Wishes.{Wishes}
-use Rattle.clear_text.specs.ClearedText.{arc_data, named_data, proposal}
+use Rattle.clear_line.specs.ClearedText.{arc_data, named_data, proposal}
 use Rattle.read_back.specs.ClearedJobs.{name_of, seeded_data, seeded_party}
 use Rattle.read_back.proofs.Steps.{items_back, step}
 

@@ -25,7 +25,7 @@ use Rattle.offer_header.specs.Limits.{acting_of, all_terms_of, hashlocks_of, hea
 use Rattle.swap_clear.specs.declared.answer.Group.{Group}
 use Rattle.swap_clear.specs.Led.{own, own_leaders}
 use Rattle.clear_line.specs.declared.limits.Wishes.{Wishes}
-use Rattle.clear_text.specs.ClearedText.{proposal}
+use Rattle.clear_line.specs.ClearedText.{proposal}
 use Rattle.read_back.specs.ClearedJobs.{wished_graph, AreDigitsOf}
 use Rattle.read_back.proofs.Steps.{each_back, step}
 use Rattle.read_back.proofs.ClearedFields.{raw_arc, raw_header, raw_leader, raw_party}

@@ -18,7 +18,7 @@ use Rattle.swap_clear.specs.declared.answer.Group.{Group}
 use Rattle.swap_clear.specs.Groups.{place}
 use Rattle.swap_clear.specs.Led.{own_leaders}
 use Rattle.clear_line.specs.declared.limits.Wishes.{Wishes}
-use Rattle.clear_text.specs.ClearedText.{proposal}
+use Rattle.clear_line.specs.ClearedText.{proposal}
 use Rattle.read_back.specs.ClearedJobs.{name_of}
 use Rattle.read_back.proofs.Steps.{each_back, step}
 use Rattle.read_back.proofs.ClearedFields.{raw_arc, raw_header, raw_leader, raw_party}

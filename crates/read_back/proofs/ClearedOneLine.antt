@@ -9,7 +9,7 @@ use Rattle.swap_base.proofs.Lists.{and_parts}
 use Rattle.swap_offer.specs.Lines.{filled_lines, lines_of, with_first}
 use Rattle.swap_clear.specs.declared.answer.Group.{Group}
 use Rattle.clear_line.specs.declared.limits.Wishes.{Wishes}
-use Rattle.clear_text.specs.ClearedText.{arc_data, named_data, proposal}
+use Rattle.clear_line.specs.ClearedText.{arc_data, named_data, proposal}
 use Rattle.read_back.specs.ClearedJobs.{seeded_data, seeded_line, seeded_party}
 use Rattle.read_back.proofs.HeaderOneLine.{one_value, ArePlain, IsOneLine, IsPlain}
 use Rattle.read_back.proofs.ClearedLimited.{amount_low}

@@ -22,7 +22,7 @@ use Rattle.swap_clear.specs.Together.{IsGroup}
 use Rattle.swap_clear.proofs.Places.{stands}
 use Rattle.clear_line.specs.Limits.{IsWithin}
 use Rattle.clear_line.specs.declared.limits.Wishes.{Wishes}
-use Rattle.clear_text.specs.ClearedText.{proposal}
+use Rattle.clear_line.specs.ClearedText.{proposal}
 use Rattle.read_back.specs.ClearedJobs.{name_of, wished_graph}
 use Rattle.read_back.proofs.Lists.{position_is, same_position}
 

@@ -29,7 +29,7 @@ use Rattle.swap_clear.specs.Ready.{own_amounts}
 use Rattle.clear_line.specs.Cleared.{cleared_of}
 use Rattle.clear_line.specs.declared.cleared.Cleared.{Cleared}
 use Rattle.clear_line.specs.declared.limits.Wishes.{Wishes}
-use Rattle.clear_text.specs.ClearedText.{first_fields, group_data, named_data}
+use Rattle.clear_line.specs.ClearedText.{first_fields, group_data, named_data}
 
 -- ---- the line of a group, with seeds
 

@@ -10,7 +10,7 @@ use Rattle.refusals.specs.declared.reason.Reason.TheVariants.{BadLine, NotJson}
 use Rattle.refusals.specs.declared.refusal.Refusal.{Refusal}
 use Rattle.swap_offer.specs.Lines.{lines_of, filled_lines}
 use Rattle.swap_world.specs.Gone.{Gives as MayGive}
-use Rattle.clear_text.specs.ClearedText.{cleared_line, IsClearedLine}
+use Rattle.clear_line.specs.ClearedText.{cleared_line, IsClearedLine}
 use Rattle.swap_commands.specs.Cleared.{IsCleared, IsFurther}
 use Rattle.swap_commands.specs.Faults.{named_fault, of_offer}
 use Rattle.swap_commands.specs.Input.{At, Ends, EndsAt, Gives, IsLast, IsLine, Stops, Tells, ahead, fresh, limit}

@@ -3,7 +3,7 @@ use Rattle.std.specs.Prelude.{◌≡◌, ℕ, List, [], ◌∷◌, Err}
 use Rattle.refusals.specs.declared.refusal.Refusal.{Refusal}
 use Rattle.swap_offer.specs.Lines.{lines_of, filled_lines}
 use Rattle.audit_command.specs.Output.{Written}
-use Rattle.clear_text.specs.ClearedText.{IsClearedLine}
+use Rattle.clear_line.specs.ClearedText.{IsClearedLine}
 use Rattle.swap_commands.specs.Input.{At, ahead}
 use Rattle.swap_commands.specs.Output.{alone, plain_text}
 

@@ -15,7 +15,7 @@ use Rattle.transcript_lines.specs.Lines.{transcript as transcript_text}
 use Rattle.audit_command.specs.Output.{Written, audit_of}
 use Rattle.refusals.specs.declared.reason.Reason.{Reason}
 use Rattle.refusals.specs.declared.reason.Reason.TheVariants.{BadLine, NotJson}
-use Rattle.clear_text.specs.ClearedText.{cleared_line}
+use Rattle.clear_line.specs.ClearedText.{cleared_line}
 use Rattle.refusals.specs.declared.refusal.Refusal.{Refusal}
 use Rattle.swap_job.specs.declared.job.Purpose.{Purpose}
 use Rattle.swap_offer.specs.Checks.{need_of}

@@ -1,7 +1,7 @@
 //! The command `clear`: wishes are read, and what of them can be swapped is written.
 
 ghost use Rattle.std.specs.Prelude.{◌≡◌, ◌≤◌, ℕ, Bool, List, IfOk, IfErr, OnOk, IsErrOf};
-ghost use Rattle.clear_text.specs.ClearedText.{IsClearedLine};
+ghost use Rattle.clear_line.specs.ClearedText.{IsClearedLine};
 ghost use Rattle.offer_header.specs.Names.{has_strategy};
 ghost use Rattle.swap_commands.specs.Cleared.{IsCleared, IsFurther};
 ghost use Rattle.swap_commands.specs.Input.{Ends, EndsAt, IsLast, IsLine, Stops, fresh, limit};
@@ -13,7 +13,7 @@ use crate::make::tell;
 use crate::status::Status;
 use crate::stop::stop;
 use crate::words::Command;
-use clear_text::cleared_line;
+use clear_line::cleared_line;
 use deviators::{Kit, Strategies};
 use refusals::{Reason, Refusal};
 use std::alloc::Global;

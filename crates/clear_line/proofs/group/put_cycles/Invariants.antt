@@ -1,7 +1,7 @@
 use Rattle.std.proofs.Common.{◌≡◌, ◌++◌, drop}
 use Rattle.swap_base.specs.Text.{lines}
-use Rattle.clear_text.specs.ClearedText.{cycle_line}
-use Rattle.clear_text.proofs.group.put_cycles.Given as goal
+use Rattle.clear_line.specs.ClearedText.{cycle_line}
+use Rattle.clear_line.proofs.group.put_cycles.Given as goal
 
 abbrev pub invariant-loop-cycle : goal.invariant-loop-cycle
 invariant-loop-cycle l =

@@ -4,10 +4,11 @@ ghost use Rattle.std.specs.Prelude.{◌≡◌, ◌++◌, IfOk, OnOk};
 ghost use Rattle.swap_base.specs.Fault.{Gives};
 ghost use Rattle.swap_base.specs.Text.{lines};
 ghost use Rattle.offer_text.specs.Words.{AreTexts};
-ghost use Rattle.clear_text.specs.ClearedText.{cleared_line, cleared_text, group_text, left_out_line, IsClearedLine};
+ghost use Rattle.clear_line.specs.ClearedText.{cleared_line, cleared_text, group_text, left_out_line, IsClearedLine};
 
 use crate::group::put_group;
-use clear_line::{Cleared, Wishes, cleared_in};
+use crate::cleared::{Cleared, cleared_in};
+use crate::limits::Wishes;
 use refusals::{OfferFault, put_names};
 use std::alloc::Global;
 use swap_base::{ByteText, NoMemory, Piece, put};

@@ -1,7 +1,7 @@
 use Rattle.std.proofs.Common.{◌≡◌, ◌++◌, drop}
 use Rattle.swap_base.specs.Text.{lines}
-use Rattle.clear_text.specs.ClearedText.{group_text}
-use Rattle.clear_text.proofs.text.put_groups.Given as goal
+use Rattle.clear_line.specs.ClearedText.{group_text}
+use Rattle.clear_line.proofs.text.put_groups.Given as goal
 
 abbrev pub invariant-loop-group : goal.invariant-loop-group
 invariant-loop-group l = (l.number ≡ l.group-index) × (l.out.items ++ lines (group_text l.wishes) l.group-index (drop l.group-index l.groups)

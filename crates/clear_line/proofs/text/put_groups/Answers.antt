@@ -1,7 +1,7 @@
 use Rattle.std.proofs.Common.{arith}
 use Rattle.swap_base.proofs.Lines.{lines_on, lines_done}
-use Rattle.clear_text.specs.ClearedText.{group_text}
-use Rattle.clear_text.proofs.text.put_groups.Goals as goal
+use Rattle.clear_line.specs.ClearedText.{group_text}
+use Rattle.clear_line.proofs.text.put_groups.Goals as goal
 
 pub loop-group-preserved : goal.loop-group-preserved
 loop-group-preserved c = (

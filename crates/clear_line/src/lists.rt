@@ -4,7 +4,7 @@ ghost use Rattle.std.specs.Prelude.{◌≡◌, IfOk, OnOk};
 ghost use Rattle.serde_json.specs.Data.{no_members, object, string};
 ghost use Rattle.serde_json.specs.View.{view, members_view};
 ghost use Rattle.offer_text.specs.Words.{list_data, name_data, AreTexts};
-ghost use Rattle.clear_text.specs.ClearedText.{arc_data, named_data, proposal};
+ghost use Rattle.clear_line.specs.ClearedText.{arc_data, named_data, proposal};
 
 use offer_text::{put_number, put_text, text_of};
 use refusals::name_at;

@@ -1,6 +1,6 @@
 use Rattle.swap_base.proofs.Lines.{lines_on, lines_done}
-use Rattle.clear_text.specs.ClearedText.{left_out_line}
-use Rattle.clear_text.proofs.text.put_all_left_out.Goals as goal
+use Rattle.clear_line.specs.ClearedText.{left_out_line}
+use Rattle.clear_line.proofs.text.put_all_left_out.Goals as goal
 
 pub loop-arc-preserved : goal.loop-arc-preserved
 loop-arc-preserved c = lines_on (left_out_line c.args.names.now) c.loop-arc.out.items c.put_left_out.new.out.items _ c.loop-arc.arc-index c.args.arcs.now

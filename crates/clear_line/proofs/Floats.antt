@@ -4,7 +4,7 @@ use Rattle.serde_json.specs.Written.{has_float}
 use Rattle.offer_text.proofs.Floats.{list_without}
 use Rattle.swap_clear.specs.declared.answer.Group.{Group}
 use Rattle.clear_line.specs.declared.limits.Wishes.{Wishes}
-use Rattle.clear_text.specs.ClearedText.{arc_data, group_data, named_data, proposal}
+use Rattle.clear_line.specs.ClearedText.{arc_data, group_data, named_data, proposal}
 
 pub group_has_none : (w : Wishes) (group : Group) → has_float (group_data w group) ≡ false
 group_has_none w group =

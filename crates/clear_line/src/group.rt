@@ -5,10 +5,10 @@ ghost use Rattle.serde_json.specs.Data.{no_members};
 ghost use Rattle.serde_json.specs.View.{view, members_view};
 ghost use Rattle.swap_base.specs.Text.{lines};
 ghost use Rattle.offer_text.specs.Words.{AreTexts, IsBelow};
-ghost use Rattle.clear_text.specs.ClearedText.{cycle_line, first_fields, group_data, group_line, group_text, last_fields, members_data};
+ghost use Rattle.clear_line.specs.ClearedText.{cycle_line, first_fields, group_data, group_line, group_text, last_fields, members_data};
 
 use crate::lists::{arc_values, named_values};
-use clear_line::Wishes;
+use crate::limits::Wishes;
 use offer_text::{put_first, put_number, put_text};
 use refusals::put_names;
 use serde_json::{Map, Value};

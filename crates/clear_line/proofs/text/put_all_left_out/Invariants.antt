@@ -1,7 +1,7 @@
 use Rattle.std.proofs.Common.{◌≡◌, ◌++◌, drop}
 use Rattle.swap_base.specs.Text.{lines}
-use Rattle.clear_text.specs.ClearedText.{left_out_line}
-use Rattle.clear_text.proofs.text.put_all_left_out.Given as goal
+use Rattle.clear_line.specs.ClearedText.{left_out_line}
+use Rattle.clear_line.proofs.text.put_all_left_out.Given as goal
 
 abbrev pub invariant-loop-arc : goal.invariant-loop-arc
 invariant-loop-arc l =

@@ -1,8 +1,8 @@
 use Rattle.std.proofs.Common.{ap, ◌∙◌}
 use Rattle.serde_json.specs.Written.{has_float, compact_text}
-use Rattle.clear_text.specs.ClearedText.{group_line}
-use Rattle.clear_text.proofs.Floats.{group_has_none}
-use Rattle.clear_text.proofs.group.group_line.Goals as goal
+use Rattle.clear_line.specs.ClearedText.{group_line}
+use Rattle.clear_line.proofs.Floats.{group_has_none}
+use Rattle.clear_line.proofs.group.group_line.Goals as goal
 
 pub returns : goal.returns
 unfolding group_line

@@ -1,6 +1,6 @@
 use Rattle.swap_base.proofs.Lines.{lines_on, lines_done}
-use Rattle.clear_text.specs.ClearedText.{cycle_line}
-use Rattle.clear_text.proofs.group.put_cycles.Goals as goal
+use Rattle.clear_line.specs.ClearedText.{cycle_line}
+use Rattle.clear_line.proofs.group.put_cycles.Goals as goal
 
 pub loop-cycle-preserved : goal.loop-cycle-preserved
 loop-cycle-preserved c = lines_on (cycle_line c.args.names.now) c.loop-cycle.out.items c.put_cycle.new.out.items _ c.loop-cycle.cycle-index c.args.cycles.now
