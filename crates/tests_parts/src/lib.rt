@@ -1,0 +1,16 @@
+//! Tests of digraphs, signatures and lists, as tables; and the deal of two parties on which tests of ledgers run, by one thread and by several.
+#![tactic(auto)]
+
+mod deals;
+#[cfg(test)]
+mod graphs;
+#[cfg(test)]
+mod lists;
+#[cfg(test)]
+mod rows;
+#[cfg(test)]
+mod signatures;
+#[cfg(test)]
+mod told;
+
+pub use deals::small_deal;
