@@ -10,14 +10,14 @@ use crate::ending::AuditEnding;
 use crate::fault::Stopped;
 use crate::judged::judge;
 use crate::story::read_story;
-use swap_job::Job;
 use ledger_core::Book;
 use outcome_rules::Report;
 use refusals::Refusal;
+use report_text::write_report;
 use std::alloc::Global;
 use swap_base::Fault;
 use swap_io::{Sink, Source, TextFault};
-use report_text::write_report;
+use swap_job::Job;
 
 /// The ending where the input gave no story.
 fn unread(fault: Stopped<Refusal>) -> AuditEnding

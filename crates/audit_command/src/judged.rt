@@ -8,13 +8,13 @@ ghost use Rattle.transcript_reader.specs.Reading.{Story};
 ghost use Rattle.audit_command.specs.Output.{judged, refused_reply, story};
 ghost use Rattle.audit_command.specs.Promised.{IsSound};
 
-use swap_job::Job;
 use ledger_core::Book;
 use outcome_rules::Report;
 use refusals::{Reason, Refusal};
 use std::alloc::Global;
 use swap_auditor::{BadReply, audit};
 use swap_base::{Fault, Listed};
+use swap_job::Job;
 
 fn refused_reply(alloc: Global, bad: BadReply) -> Refusal
     ensures { result ≡ refused_reply bad }

@@ -8,12 +8,12 @@ ghost use Rattle.audit_command.specs.Reading.{Concludes, HasRead, Stops, StopsAt
 
 use crate::fault::Stopped;
 use crate::input::read_lines;
-use swap_job::Job;
 use ledger_core::Book;
 use refusals::{Reason, Refusal};
 use std::alloc::Global;
 use swap_base::{Fault, Listed};
 use swap_io::{DrainFault, Lines, Source};
+use swap_job::Job;
 use transcript_reader::{TranscriptReader, TranscriptReason};
 
 /// The most bytes of an input.

@@ -1,4 +1,5 @@
 pub mod Audited
+pub mod Summed
 pub mod Typed
 pub mod Back
 pub mod Replays
@@ -9,4 +10,3 @@ pub mod Rules
 pub mod States
 pub mod Reading
 pub mod Whole
-pub mod Summed

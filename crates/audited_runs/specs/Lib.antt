@@ -1,5 +1,5 @@
 pub mod Laws
+pub mod Generated
 pub mod Digests
 pub mod Transcripts
 pub mod RunDigests
-pub mod Generated

@@ -8,12 +8,12 @@ mod generated;
 mod run_digests;
 mod transcripts;
 
+ghost use Rattle.audited_runs.specs.Laws.{AuditsTellTheRace, AuditsTellTheRun, ProgramRacesAreAudited, ProgramRunsAreAudited, RacesAreAudited};
+ghost use Rattle.audited_runs.specs.Laws.{RunsAreAudited};
+
 pub use generated::generated_runs_are_summed;
 pub use run_digests::{program_keeps_digests, runs_hold_digests};
 pub use transcripts::{legal_is_typed, round_trip, same_report};
-
-ghost use Rattle.audited_runs.specs.Laws.{AuditsTellTheRace, AuditsTellTheRun, ProgramRacesAreAudited, ProgramRunsAreAudited, RacesAreAudited};
-ghost use Rattle.audited_runs.specs.Laws.{RunsAreAudited};
 
 /// An audit of a run's transcript writes the run's report, where strategies answer by a rule.
 pub fn runs_are_audited()

@@ -6,7 +6,6 @@ ghost use Rattle.swap_base.specs.Fault.{Gives};
 ghost use Rattle.offer_fields.specs.Fields.{list_at, member_text_of, only};
 ghost use Rattle.clear_line.specs.Fields.{fields, kind_at, raw_of};
 
-use swap_job::Purpose;
 use offer_fields::{TextRef, array_in, list_in, number_in, only_in, texts_in};
 use offer_header::{RawArc, Reading};
 use refusals::{OfferFault, wrong_kind};
@@ -14,6 +13,7 @@ use serde_json::Value;
 use std::alloc::Global;
 use swap_base::Listed;
 use swap_digraph::Mode;
+use swap_job::Purpose;
 
 /// Wishes as their line states them: its texts lie in the line that was read.
 #[derive(Drop)]

@@ -7,8 +7,8 @@ ghost use Rattle.swap_base.specs.Text.{lines};
 ghost use Rattle.offer_text.specs.Words.{AreTexts, IsBelow};
 ghost use Rattle.clear_line.specs.ClearedText.{cycle_line, first_fields, group_data, group_line, group_text, last_fields, members_data};
 
-use crate::lists::{arc_values, named_values};
 use crate::limits::Wishes;
+use crate::lists::{arc_values, named_values};
 use offer_text::{put_first, put_number, put_text};
 use refusals::put_names;
 use serde_json::{Map, Value};

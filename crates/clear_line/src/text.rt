@@ -6,8 +6,8 @@ ghost use Rattle.swap_base.specs.Text.{lines};
 ghost use Rattle.offer_text.specs.Words.{AreTexts};
 ghost use Rattle.clear_line.specs.ClearedText.{cleared_line, cleared_text, group_text, left_out_line, IsClearedLine};
 
-use crate::group::put_group;
 use crate::cleared::{Cleared, cleared_in};
+use crate::group::put_group;
 use crate::limits::Wishes;
 use refusals::{OfferFault, put_names};
 use std::alloc::Global;

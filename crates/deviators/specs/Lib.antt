@@ -1,4 +1,4 @@
+pub mod Program
 pub mod View
 pub mod Script
 pub mod Rules
-pub mod Program

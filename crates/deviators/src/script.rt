@@ -8,11 +8,11 @@ ghost use Rattle.deviators.specs.Script.{is_wait, is_over, past_waits, next_call
 ghost use Rattle.deviators.specs.View.{IsView, MayAnswer};
 ghost use Rattle.swap_job.specs.Fitting.{IsMoveOf};
 
-use swap_job::{Move, MoveList, resolve};
 use ledger_core::{Book, Call};
 use std::marker::Model;
 use swap_base::{ArcId, Digest, NoMemory, PartyId};
 use swap_digraph::Deal;
+use swap_job::{Move, MoveList, resolve};
 
 /// Moves, of which some were made. Callers see those that are left.
 #[derive(Debug, Drop)]

@@ -1,8 +1,8 @@
+pub mod Publishing
 pub mod First
 pub mod Greatest
 pub mod Known
 pub mod Openings
-pub mod Publishing
 pub mod Numbers
 pub mod Settling
 pub mod Keys

@@ -1,5 +1,5 @@
-pub mod Known
 pub mod Publish
+pub mod Known
 pub mod Unlocks
 pub mod Settling
 pub mod Parts

@@ -9,8 +9,8 @@ ghost use Rattle.ledger_core.specs.Book.{history};
 ghost use Rattle.due_calls.specs.Known.{AreMadeFor};
 ghost use Rattle.due_calls.specs.Settling.{claim_on};
 
-use crate::readings::is_correct;
 use crate::locks::is_triggered;
+use crate::readings::is_correct;
 use ledger_core::{CallKind, Facts};
 use swap_base::{ArcId, PartyId};
 use swap_digraph::Deal;

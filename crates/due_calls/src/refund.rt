@@ -10,8 +10,8 @@ ghost use Rattle.ledger_core.specs.History.{height, published, settled};
 ghost use Rattle.due_calls.specs.Known.{AreMadeFor};
 ghost use Rattle.due_calls.specs.Settling.{refund_on};
 
-use crate::locks::{has_expired, is_triggered};
 use crate::heights::height_on;
+use crate::locks::{has_expired, is_triggered};
 use ledger_core::{CallKind, Facts};
 use swap_base::{ArcId, PartyId};
 use swap_digraph::Deal;

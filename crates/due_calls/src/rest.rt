@@ -5,9 +5,9 @@ ghost use Rattle.swap_digraph.specs.Deal.{IsWellSized};
 ghost use Rattle.swap_rules.specs.Rest.{is_waiting, rest_until};
 ghost use Rattle.due_calls.specs.Known.{AreMadeFor};
 
-use crate::refund::{has_refunded, is_held};
-use crate::locks::is_triggered;
 use crate::heights::least_expiry;
+use crate::locks::is_triggered;
+use crate::refund::{has_refunded, is_held};
 use escrow_core::lesser;
 use ledger_core::Facts;
 use swap_base::{ArcId, PartyId};

@@ -13,9 +13,9 @@ ghost use Rattle.due_calls.specs.Parts.{due_base, first_closed, unlock_for};
 ghost use Rattle.due_calls.specs.Unlocks.{seen_on, IsFirstUnlock, IsSeenOn};
 ghost use Rattle.party_wallet.specs.Value.{signed_in};
 
-use crate::unlock_due::{Base, UnlockDue};
-use crate::readings::is_ready;
 use crate::locks::leads;
+use crate::readings::is_ready;
+use crate::unlock_due::{Base, UnlockDue};
 use ledger_core::{CallKind, Facts};
 use party_wallet::Signed;
 use swap_base::{ArcId, LockId, PartyId};

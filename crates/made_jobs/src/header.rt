@@ -4,10 +4,10 @@ ghost use Rattle.std.specs.Prelude.{◌≡◌, ◌++◌, OnOk};
 ghost use Rattle.offer_text.specs.HeaderLine.{AreSayable, IsWritable};
 ghost use Rattle.made_jobs.specs.Making.{written_line};
 
-use swap_job::Job;
 use offer_text::write_deal;
 use std::alloc::Global;
 use swap_base::{NoMemory, Piece, put};
+use swap_job::Job;
 
 /// Appends the header line of a job, with a line feed.
 #[tactic(auto, unfolding(crate::specs::Making::written_line))]

@@ -10,11 +10,11 @@ ghost use Rattle.swap_gen.specs.Made.{made};
 ghost use Rattle.made_jobs.specs.Making.{line_step, written_line, IsMade};
 
 use crate::header::put_header;
-use swap_job::Job;
 use refusals::OfferFault;
 use std::alloc::Global;
 use swap_base::{NoMemory, Piece, put};
 use swap_gen::make;
+use swap_job::Job;
 use swap_offer::count_event;
 
 /// The header line of the job that is made of a plain one, with a line feed. Its scripts stand there move by move.

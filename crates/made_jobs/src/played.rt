@@ -16,13 +16,13 @@ ghost use Rattle.swap_gen.specs.Events.{generated_events};
 ghost use Rattle.swap_gen.specs.Owned.{wallets_in, OwnsKeys};
 ghost use Rattle.made_jobs.specs.Generating.{generated_book, IsOf, StandsAt};
 
-use swap_job::Job;
 use deviators::Kit;
 use ledger_core::Book;
 use party_wallet::Wallet;
 use std::alloc::Global;
 use swap_base::{Fault, NoMemory};
 use swap_gen::Generator;
+use swap_job::Job;
 use swap_world::World;
 
 /// The world of a job whose parties own its keys, before any event.

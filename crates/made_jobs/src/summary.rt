@@ -11,13 +11,13 @@ ghost use Rattle.made_jobs.specs.Summary.{summary};
 ghost use Rattle.made_jobs.specs.Generating.{generated_book, generated_summary, is_found};
 
 use crate::played::played;
-use swap_job::Job;
+use crate::summary_lines::summary_text;
 use ledger_core::Book;
 use outcome_rules::report_of;
-use crate::summary_lines::summary_text;
 use std::alloc::Global;
 use swap_base::{ByteText, NoMemory};
 use swap_gen::Generator;
+use swap_job::Job;
 
 /// The summary of a run, and whether something is found.
 #[derive(Debug, Drop)]

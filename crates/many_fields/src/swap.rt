@@ -8,9 +8,9 @@ ghost use Rattle.many_fields.specs.Fields.{chains_of, finish_of, finish_word};
 ghost use Rattle.many_fields.specs.Whole.{AreBelow};
 
 use crate::number::read_below;
-use swap_job::Finish;
 use std::alloc::Global;
 use swap_base::Listed;
+use swap_job::Finish;
 use transcript_book::{Parts, WordFault, misspelt, nothing_more, word};
 
 /// The chains of a swap's arcs, of which there are so many, by the fields after the first.

@@ -16,7 +16,6 @@ use crate::many_job::ManyJob;
 use crate::said::{accounts_in, chains_in, finish_in};
 use crate::stage::Stage;
 use crate::swap::read_swap;
-use swap_job::{Finish, Purpose};
 use deviators::Kit;
 use party_wallet::Wallet;
 use refusals::HeaderFault;
@@ -24,6 +23,7 @@ use std::alloc::Global;
 use std::marker::Model;
 use std::mem;
 use swap_base::{ByteText, Listed, NoMemory};
+use swap_job::{Finish, Purpose};
 use swap_offer::Prepared;
 use transcript_book::{Parts, word};
 

@@ -1,7 +1,7 @@
 //! Swaps on shared chains.
 
-use swap_job::Job;
 use swap_base::{ByteText, Listed};
+use swap_job::Job;
 
 /// What is to be done with several swaps on shared chains.
 #[derive(Debug, Drop)]

@@ -9,10 +9,10 @@ ghost use Rattle.many_lines.specs.Places.{account_of, arc_places, job_at, place_
 ghost use Rattle.many_lines.specs.Whole.{AreChains, ArePlaced, AreSwaps};
 
 use crate::many_job::ManyJob;
-use swap_job::Job;
 use refusals::{HeaderFault, Reason, Refusal, name_at};
 use std::alloc::Global;
 use swap_base::{ArcId, ByteText, Fault, Listed};
+use swap_job::Job;
 use swap_many::Place;
 
 /// The place of an account among those of a chain.

@@ -8,11 +8,14 @@ ghost use Rattle.many_fields.specs.Whole.{AreBelow, IsChain};
 ghost use Rattle.many_lines.specs.Heading.{by_fields};
 
 use crate::fault::by_field;
-use swap_job::Finish;
-use many_fields::{ChainAccounts, Payment, read_accounts, read_below, read_chains, read_finish, read_payment,read_sweep, read_tick,};
+use many_fields::{
+    ChainAccounts, Payment, read_accounts, read_below, read_chains, read_finish, read_payment,
+    read_sweep, read_tick,
+};
 use refusals::HeaderFault;
 use std::alloc::Global;
 use swap_base::{ByteText, Listed};
+use swap_job::Finish;
 use transcript_book::Parts;
 
 /// The accounts of a chain.

@@ -1,7 +1,7 @@
 //! Which line stands next.
 
-use swap_job::Finish;
 use swap_base::Listed;
+use swap_job::Finish;
 
 /// Which line of many swaps stands next.
 #[derive(Debug, Drop)]

@@ -11,10 +11,10 @@ ghost use Rattle.many_lines.specs.Heading.{swap_job, tells_finish, without_finis
 
 use crate::fault::{bad, nameless};
 use deviators::Kit;
-use swap_job::Purpose;
 use offer_fields::object_in;
 use refusals::{HeaderFault, OfferFault};
 use std::alloc::Global;
+use swap_job::Purpose;
 use swap_offer::{Prepared, read_header};
 
 /// Whether the object of a line states a finish.

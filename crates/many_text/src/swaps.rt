@@ -11,14 +11,14 @@ ghost use Rattle.swap_many.specs.Value.{kept_of};
 ghost use Rattle.many_text.specs.ManyText.{book_in, findings_from, report_in, swap_line, swap_text, swap_text_in};
 ghost use Rattle.many_text.specs.Shown.{AreShown, IsShown};
 
-use swap_job::Job;
 use ledger_core::Book;
 use outcome_rules::{Report, report_of};
+use report_text::write_report;
 use std::alloc::Global;
 use swap_base::{NoMemory, Piece, put};
 use swap_io::{Sink, TextFault, flush};
+use swap_job::Job;
 use swap_many::ManyWorld;
-use report_text::write_report;
 
 fn put_swap(out: &mut Vec<u8>, number: u64) -> Result<(), NoMemory>
     ensures { OnOk result (out.new.items ≡ out.old.items ++ swap_line number) }

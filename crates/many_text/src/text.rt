@@ -11,10 +11,10 @@ ghost use Rattle.many_text.specs.Shown.{AreChainsShown, AreShown};
 
 use crate::chains::put_chains;
 use crate::swaps::write_swaps;
-use swap_job::Job;
 use std::alloc::Global;
 use swap_base::{ByteText, Listed, NoMemory, Piece, put};
 use swap_io::{Sink, TextFault, flush};
+use swap_job::Job;
 use swap_many::ManyWorld;
 
 #[tactic(auto, unfolding(report_text::specs::Report::count_line))]

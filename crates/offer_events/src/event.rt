@@ -13,13 +13,15 @@ ghost use Rattle.offer_events.specs.Event.{outside_race, conforming_crash, asked
 use crate::plain::plain_event;
 use crate::raw::RawEvent;
 use crate::reading::event_in;
-use swap_job::{Event, Job, Move, Purpose};
 use offer_fields::{number_within, object_in, party_of_name};
-use offer_moves::{RawMove, arc_of, check_adjacent, check_deviator, check_place, move_of, sizes_of,};
+use offer_moves::{
+    RawMove, arc_of, check_adjacent, check_deviator, check_place, move_of, sizes_of,
+};
 use refusals::{OfferFault, Reason};
 use std::alloc::Global;
 use swap_base::{Digest, Fault, PartyId, Shared};
 use swap_digraph::Deal;
+use swap_job::{Event, Job, Move, Purpose};
 
 #[tactic(auto, unfolding(crate::specs::Event::event_of_tick))]
 fn event_of_tick(

@@ -7,13 +7,13 @@ ghost use Rattle.offer_header.specs.Raw.{version_at, mode_for, stated_mode_at, m
 ghost use Rattle.offer_header.specs.Raw.{transcript_fields, job_fields, header_fields, lists_of, raw_of};
 
 use crate::raw::{Front, RawHeader, RawRow, Reading};
-use swap_job::{Finish, Purpose};
 use offer_fields::{list_in, number_in, only_in, optional_text_in, text_in};
 use refusals::{OfferFault, wrong_kind};
 use serde_json::Value;
 use std::alloc::Global;
 use swap_base::Listed;
 use swap_digraph::{Mode, Version};
+use swap_job::{Finish, Purpose};
 
 #[tactic(auto, unfolding(crate::specs::Raw::version_at))]
 fn version_in(alloc: Global, line: u32, object: &Value) -> Result<Version, OfferFault>

@@ -12,13 +12,13 @@ use crate::limits::limited_in;
 use crate::names::numbered_in;
 use crate::raw::RawHeader;
 use crate::scripts::check_scripts;
-use swap_job::{Finish, Purpose, Role};
 use deviators::Kit;
 use offer_fields::object_in;
 use refusals::OfferFault;
 use std::alloc::Global;
 use swap_base::{ByteText, Digest, Listed, PartyId};
 use swap_digraph::{ArcEnds, Mode, Version};
+use swap_job::{Finish, Purpose, Role};
 
 /// A header whose fields, names and limits are in order, as `IsWithin` says.
 #[derive(Drop)]

@@ -14,13 +14,13 @@ use crate::header::Header;
 use crate::names::{Ends, Numbered};
 use crate::raw::{RawActor, RawArc, RawHeader, RawLeader, RawParty, RawRow, is_plain};
 use crate::versions::{most_arcs, most_parties, path_limit_of};
-use swap_job::{MoveList, Purpose, Role};
 use offer_fields::{TextRef, digest_in, number_within, within};
 use offer_moves::{RawMove, Sizes, move_of};
 use refusals::{OfferFault, Reason};
 use std::alloc::Global;
 use swap_base::{ByteText, Digest, Listed, NoMemory, PartyId, TryCopy};
 use swap_digraph::{ArcEnds, Mode, Version};
+use swap_job::{MoveList, Purpose, Role};
 
 /// The units and the timelock of an arc.
 #[derive(Clone, Copy)]

@@ -9,12 +9,15 @@ ghost use Rattle.offer_header.specs.Raw.{timelock_at, arc_fields, arc_between, a
 ghost use Rattle.offer_header.specs.Raw.{hashlock_at, leader_fields, leader_of, row_of};
 
 use crate::raw::{RawActor, RawArc, RawLeader, RawParty, RawRow, Reading, is_plain};
-use swap_job::Purpose;
-use offer_fields::{Member, TextRef, is_object, list_in, member_text, number_in, only_in, optional_text_in,text_in, texts_in,};
+use offer_fields::{
+    Member, TextRef, is_object, list_in, member_text, number_in, only_in, optional_text_in,
+    text_in, texts_in,
+};
 use refusals::{OfferFault, wrong_kind};
 use serde_json::Value;
 use std::alloc::Global;
 use swap_base::ByteText;
+use swap_job::Purpose;
 
 /// A script, by its moves.
 #[tactic(auto, unfolding(crate::specs::Raw::script_at))]

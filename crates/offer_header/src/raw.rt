@@ -3,11 +3,11 @@
 ghost use Rattle.std.specs.Prelude.{◌≡◌};
 ghost use Rattle.offer_header.specs.Raw.{is_plain, states_keys, states_timelocks};
 
-use swap_job::{Finish, Purpose};
 use offer_fields::TextRef;
 use offer_moves::RawMove;
 use swap_base::{ByteText, Listed};
 use swap_digraph::{Mode, Version};
+use swap_job::{Finish, Purpose};
 
 /// What a header's parts are read for, and in which mode.
 #[derive(Clone, Copy)]

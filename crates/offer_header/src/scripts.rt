@@ -7,11 +7,11 @@ ghost use Rattle.offer_moves.specs.Placed.{placed};
 ghost use Rattle.offer_header.specs.Scripts.{script_of, role_placed, roles_placed, scripts_placed, AllStand};
 
 use crate::header::Header;
-use swap_job::{Move, Role};
 use offer_moves::check_place;
 use refusals::OfferFault;
 use swap_base::PartyId;
 use swap_digraph::ArcEnds;
+use swap_job::{Move, Role};
 
 /// A party may make each of the moves where it stands.
 #[tactic(auto, using(swap_base::proofs::Steps::steps_on, swap_base::proofs::Steps::steps_fail, swap_base::proofs::Steps::steps_done))]

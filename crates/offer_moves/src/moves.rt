@@ -8,13 +8,13 @@ ghost use Rattle.offer_moves.specs.Moves.{sizes_of, wait_of, move_of};
 use crate::limits::{number_below, optional_locks, optional_most, optional_units, sigs_of, units};
 use crate::names::numbers_of;
 use crate::raw::{RawCraft, RawKey, RawMove, RawTerms};
-use swap_job::Move;
 use hashkey_path::Hashkey;
 use offer_fields::{TextRef, digest_in, number_within, party_of_name, within};
 use refusals::OfferFault;
 use std::alloc::Global;
 use swap_base::{ArcId, ByteText};
 use swap_digraph::{Deal, PathList, path_limit};
+use swap_job::Move;
 
 /// How many arcs and locks there are for moves to name, and how long a path may be.
 #[derive(Clone, Copy, Debug, PartialEq, Eq)]

@@ -7,10 +7,10 @@ ghost use Rattle.swap_job.specs.Resolved.{arc_of as stands_on};
 ghost use Rattle.offer_moves.specs.Kept.{AreCraftersBelow};
 ghost use Rattle.offer_moves.specs.Placed.{deviating, adjacent, received, crafted_by_others, placed};
 
-use swap_job::{Move, arc_of_move};
 use refusals::{OfferFault, Reason};
 use swap_base::{ArcId, Fault, PartyId};
 use swap_digraph::ArcEnds;
+use swap_job::{Move, arc_of_move};
 
 /// A conforming party makes no call by hand.
 #[tactic(auto, unfolding(crate::specs::Placed::deviating))]

@@ -10,7 +10,10 @@ ghost use Rattle.offer_moves.specs.Reading.{raw_fields, raw_at, claim_at, refund
 ghost use Rattle.offer_moves.specs.Reading.{scripted_at, wait_of, wait_at};
 
 use crate::raw::{MoveKind, RawCraft, RawKey, RawMove, RawTerms};
-use offer_fields::{Member, TextRef, array_in, is_object, number_in, only_in, optional_number_in, text_in,texts_in as members_in,};
+use offer_fields::{
+    Member, TextRef, array_in, is_object, number_in, only_in, optional_number_in, text_in,
+    texts_in as members_in,
+};
 use refusals::{OfferFault, wrong_kind};
 use serde_json::Value;
 use std::alloc::Global;

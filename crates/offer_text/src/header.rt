@@ -11,11 +11,11 @@ use crate::deal::{arcs_value, leaders_value};
 use crate::fields::{put_first, put_number, put_text};
 use crate::parties::{made_parties, shown_parties};
 use crate::shown::list_value;
-use swap_job::{Finish, Job, Purpose};
 use serde_json::{Map, Value};
 use std::alloc::Global;
 use swap_base::{ByteText, NoMemory};
 use swap_digraph::{Mode, Version};
+use swap_job::{Finish, Job, Purpose};
 
 fn number_of(version: Version) -> u64
     ensures { result ≡ number_of version }

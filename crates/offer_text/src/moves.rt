@@ -12,11 +12,11 @@ use crate::fields::{put_first, put_number, put_text};
 use crate::shown::list_value;
 use crate::terms::put_publish;
 use crate::words::{digest_value, name_of, names_value};
-use swap_job::Move;
 use hashkey_path::Hashkey;
 use serde_json::{Map, Value};
 use std::alloc::Global;
 use swap_base::{ArcId, ByteText, LockId, NoMemory, PartyId};
+use swap_job::Move;
 
 /// Puts what is done, and the arc, before the others.
 fn put_head(

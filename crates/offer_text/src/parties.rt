@@ -10,10 +10,10 @@ ghost use Rattle.offer_text.specs.HeaderLine.{shown_party, made_party, parties_d
 use crate::fields::{put_first, put_text};
 use crate::moves::moves_value;
 use crate::words::{digest_value, name_of, word_value};
-use swap_job::{Job, Role};
 use serde_json::{Map, Value};
 use std::alloc::Global;
 use swap_base::{ByteText, Digest, NoMemory, PartyId};
+use swap_job::{Job, Role};
 
 fn word_of_conforming(conforms: bool) -> &'static str
     ensures { result.now ≡ word_of_conforming conforms }

@@ -13,8 +13,8 @@ ghost use Rattle.outcome_rules.specs.Promises.{AllAreConforming, AllHaveRefunds,
 ghost use Rattle.outcome_rules.specs.Report.{conforms_in};
 
 use crate::indexes::indexes_of;
-use due_calls::height_on;
 use conduct_check::{put_broken, put_forgeries};
+use due_calls::height_on;
 use history_index::Index;
 use late_check::put_lates;
 use ledger_core::Book;

@@ -17,12 +17,12 @@ ghost use Rattle.party_answer.specs.Text.{line_of, rest_line, rest_lines};
 ghost use Rattle.party_answer.specs.Lines.{asking_line, IsLineOf};
 
 use crate::unkept::unkept_key;
+use due_calls::rest_until;
 use hashkey_path::Hashkey;
 use history_index::Index;
 use ledger_core::Call;
 use party_due::DueCall;
 use party_notes::Kept;
-use due_calls::rest_until;
 use swap_base::{ArcId, LockId, NoMemory, PartyId, Piece, put};
 use swap_digraph::Deal;
 use transcript_writer::{put_call, put_hashkey};

@@ -18,7 +18,6 @@ ghost use Rattle.party_answer.specs.Inside.{said_of, IsSaid};
 
 use crate::reason::{AnswerFault, AnswerReason, nameless};
 use crate::shifted::refusal_behind;
-use swap_job::Job;
 use ledger_core::Book;
 use party_notes::{Kept, Note, Notes, kept_of, read_notes};
 use party_wallet::Wallet;
@@ -27,6 +26,7 @@ use std::alloc::Global;
 use swap_auditor::replay_book;
 use swap_base::{ByteText, Digest, Fault, Listed, LockId, NoMemory, PartyId, TryCopy};
 use swap_digraph::Deal;
+use swap_job::Job;
 use transcript_reader::read_transcript;
 
 /// What an input says: the notes, and what its transcript states, which stands behind so many lines.

@@ -11,10 +11,10 @@ ghost use Rattle.due_calls.specs.Unlocks.{key_from};
 ghost use Rattle.party_machine.specs.Wallet.{wallet_of};
 ghost use Rattle.party_machine.specs.Unlocking.{opened_key, CanPutOnto};
 
+use due_calls::{Base, due_base};
 use hashkey_path::Hashkey;
 use history_index::Index;
 use ledger_core::Facts;
-use due_calls::{Base, due_base};
 use party_wallet::{Signed, sign_onto_anew, sign_own_anew};
 use std::alloc::Global;
 use swap_base::{Digest, LockId, NoMemory, PartyId, Shared, TryCopy};

@@ -10,10 +10,10 @@ ghost use Rattle.swap_rules.specs.Due.{due_publishes, is_due_publish, when_due};
 ghost use Rattle.party_due.specs.Actions.{actions};
 
 use crate::due_call::{DueCall, put_when};
+use due_calls::{has_published, may_publish};
 use escrow_core::terms_of;
 use history_index::Index;
 use ledger_core::Call;
-use due_calls::{has_published, may_publish};
 use std::alloc::Global;
 use swap_base::{ArcId, NoMemory, PartyId, Shared};
 use swap_digraph::Deal;

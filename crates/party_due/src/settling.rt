@@ -7,9 +7,9 @@ ghost use Rattle.swap_rules.specs.Due.{due_claims, due_refunds};
 ghost use Rattle.party_due.specs.Actions.{actions};
 
 use crate::due_call::{DueCall, put_when};
+use due_calls::{is_due_claim, is_due_refund};
 use history_index::Index;
 use ledger_core::Call;
-use due_calls::{is_due_claim, is_due_refund};
 use swap_base::{NoMemory, PartyId};
 use swap_digraph::Deal;
 

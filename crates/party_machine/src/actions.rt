@@ -7,10 +7,10 @@ ghost use Rattle.swap_rules.specs.Due.{due_publishes, due_claims, due_refunds, f
 ghost use Rattle.party_machine.specs.Machine.{action_of, noted_for};
 ghost use Rattle.party_machine.specs.Within.{entries_in, AreIndexes};
 
+use due_calls::{due_claim, due_publish, due_refund};
 use escrow_core::terms_of;
 use history_index::Index;
 use ledger_core::Call;
-use due_calls::{due_claim, due_publish, due_refund};
 use std::alloc::Global;
 use swap_base::{ArcId, NoMemory, PartyId, Shared};
 use swap_digraph::Deal;

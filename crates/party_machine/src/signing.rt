@@ -11,9 +11,9 @@ ghost use Rattle.swap_rules.specs.Due.{extended};
 ghost use Rattle.party_machine.specs.Wallet.{wallet_of};
 
 use crate::reading::opened_key;
+use due_calls::{Base, UnlockDue};
 use hashkey_path::Hashkey;
 use history_index::Index;
-use due_calls::{Base, UnlockDue};
 use party_wallet::Wallet;
 use std::alloc::Global;
 use swap_base::{LockId, NoMemory, Shared};

@@ -10,14 +10,14 @@ ghost use Rattle.party_threads.specs.Later.{IsLater, WentOn, HaveGoneOn};
 ghost use Rattle.party_threads.specs.Tracks.{IsPassOf, Tracks, HaveSeenAll, HasItsPasses, HasLooked, HasMade, IsPlaceOf, LookedIf, MadeIf};
 ghost use Rattle.party_threads.specs.Played.{planner_of, role_in, IsHeld, HaveFresh, HaveGrown, IsAnswered, HasCalled, HasPlayed};
 
-use swap_job::{Job, Role};
 use deviators::Strategies;
 use ledger_core::Call;
 use ledger_shared::{Pass, SharedLedger};
-use swap_run::Planner;
 use std::sync::Wait;
 use swap_base::{ArcId, NoMemory, PartyId};
 use swap_digraph::Deal;
+use swap_job::{Job, Role};
+use swap_run::Planner;
 
 /// Looks at the ledger of an arc, and lets the party know what is fresh.
 fn look<R: Wait>(

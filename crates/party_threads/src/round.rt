@@ -9,21 +9,21 @@ ghost use Rattle.party_threads.specs.Took.{IsSeated, IsSameActor, DidIn, Took};
 ghost use Rattle.party_threads.specs.Race.{IsRound};
 ghost use Rattle.party_threads.specs.Standing.{Stands, AllHaveRoom, book_in, state_of};
 
+use crate::clock::take_clock_turn;
 use crate::deal::{close, deal};
 use crate::gate::Gate;
 use crate::home::Home;
-use crate::turn::{Actor, Turn};
-use swap_job::Job;
-use deviators::Strategies;
-use ledger_shared::SharedLedger;
-use crate::clock::take_clock_turn;
 use crate::machine_turn::take_machine_turn;
 use crate::planner_turn::take_planner_turn;
+use crate::turn::{Actor, Turn};
+use deviators::Strategies;
+use ledger_shared::SharedLedger;
 use std::alloc::Global;
 use std::sync::Wait;
 use std::thread;
 use std::thread::Threads;
 use swap_base::{NoMemory, PartyId};
+use swap_job::Job;
 
 /// What the actor with the number v does in its turn.
 fn play<R: Wait, K: Strategies>(

@@ -17,7 +17,6 @@ use crate::home::Home;
 use crate::round::round;
 use crate::staff::{RaceFault, turns_of};
 use crate::turn::Turn;
-use swap_job::Job;
 use deviators::Strategies;
 use ledger_core::{Book, EntryList, Ledger};
 use party_wallet::Wallet;
@@ -26,6 +25,7 @@ use std::sync::Wait;
 use std::thread::Threads;
 use swap_base::{ArcId, Listed, NoMemory};
 use swap_digraph::Deal;
+use swap_job::Job;
 use time_bounds::horizon;
 use typed_books::read_book;
 

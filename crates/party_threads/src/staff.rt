@@ -6,14 +6,14 @@ ghost use Rattle.party_wallet.specs.Wallets.{wallet_for, wallets_of};
 ghost use Rattle.party_threads.specs.Staff.{wrong_for, IsWrong, IsFirstOf, AllFit, by_role, acts_for, IsNewTurn, HasNewTurn, AreNew};
 
 use crate::turn::{Actor, Turn};
-use swap_job::{Job, MoveList, Role};
 use ledger_shared::{ClockPass, Pass};
 use party_machine::{Machine, Misfit};
-use swap_run::Planner;
 use party_wallet::Wallet;
 use std::alloc::Global;
 use swap_base::{Fault, NoMemory, PartyId, TryCopy};
 use swap_digraph::Deal;
+use swap_job::{Job, MoveList, Role};
+use swap_run::Planner;
 use swap_world::WrongWallet;
 
 /// Why there is no race: a conforming party's seed isn't that of the deal, or want of memory.

@@ -7,8 +7,8 @@ ghost use Rattle.party_threads.specs.Turns.{HasArc, actor_at, passes_of, clocks_
 
 use ledger_shared::{ClockPass, Pass};
 use party_machine::Machine;
-use swap_run::Planner;
 use swap_base::{ArcId, PartyId};
+use swap_run::Planner;
 
 /// What acts in a turn.
 #[derive(Drop)]

@@ -1,3 +1,3 @@
 pub mod Headers
-pub mod Made
 pub mod ClearedJobs
+pub mod Made

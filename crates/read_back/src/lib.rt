@@ -8,6 +8,13 @@ mod cleared_jobs;
 mod headers;
 mod made;
 
-pub use cleared_jobs::{cleared_groups_are_made, cleared_groups_are_plain_jobs, cleared_groups_are_plain_offers, only_seeds_are_added, seeded_line_is_one_line, seeded_line_reads, seeded_text_is_plain_job};
+pub use cleared_jobs::{
+    cleared_groups_are_made, cleared_groups_are_plain_jobs, cleared_groups_are_plain_offers,
+    only_seeds_are_added, seeded_line_is_one_line, seeded_line_reads, seeded_text_is_plain_job,
+};
 pub use headers::{header_is_one_line, header_is_read_back, header_reads, read_is_showable};
-pub use made::{generated_run_is_summed, generated_text_is_read_back, made_header_is_one_line, made_header_is_read_back, made_header_reads, made_output_is_read_back, made_text_is_read_back, program_has_texts, text_has_one_story, text_is_its_lines, whole_text_has_one_story};
+pub use made::{
+    generated_run_is_summed, generated_text_is_read_back, made_header_is_one_line,
+    made_header_is_read_back, made_header_reads, made_output_is_read_back, made_text_is_read_back,
+    program_has_texts, text_has_one_story, text_is_its_lines, whole_text_has_one_story,
+};

@@ -12,13 +12,13 @@ ghost use Rattle.report_text.specs.Report.{head_lines, ledger_lines, party_line,
 
 use crate::findings::{put_count, put_parties, write_findings};
 use crate::ledgers::write_ledgers;
-use swap_job::Job;
 use ledger_core::Book;
 use outcome_rules::Report;
 use std::alloc::Global;
 use swap_base::{ByteText, NoMemory, Piece, put};
 use swap_digraph::{Deal, Mode};
 use swap_io::{Sink, TextFault, TextSink, flush};
+use swap_job::Job;
 
 #[tactic(auto, unfolding(crate::specs::Words::mode_text))]
 fn mode_text(mode: Mode) -> &'static str

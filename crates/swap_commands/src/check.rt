@@ -17,13 +17,13 @@ use crate::replay::pass_over;
 use crate::status::Status;
 use crate::stop::stop;
 use crate::words::{Command, JobCommand};
-use swap_job::Job;
 use deviators::{Kit, Strategies};
 use refusals::Refusal;
 use std::alloc::Global;
 use swap_base::{ByteText, NoMemory, Piece, put};
 use swap_digraph::Deal;
 use swap_io::{Sink, Source, write_all};
+use swap_job::Job;
 use swap_offer::Prepared;
 use time_bounds::{horizon, last_expiry, open_by};
 

@@ -12,9 +12,9 @@ ghost use Rattle.outcome_rules.specs.Promises.{AllAreConforming};
 ghost use Rattle.swap_commands.specs.Output.{finished};
 ghost use Rattle.swap_commands.specs.Replay.{IsOf};
 
-use swap_job::{Finish, Job};
 use deviators::Strategies;
 use swap_base::NoMemory;
+use swap_job::{Finish, Job};
 use swap_world::World;
 
 /// Finishes the world as its job asks.

@@ -14,12 +14,12 @@ use crate::input::Input;
 use crate::status::Status;
 use crate::stop::stop;
 use crate::words::{Command, JobCommand};
-use swap_job::Job;
 use deviators::{Kit, Strategies};
 use made_jobs::{copy_line, made_line};
 use refusals::{Reason, Refusal};
 use std::alloc::Global;
 use swap_io::{Sink, Source, write_all};
+use swap_job::Job;
 use swap_offer::Prepared;
 
 /// Puts the lines ahead behind a text, each with a line feed.

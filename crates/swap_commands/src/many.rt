@@ -22,7 +22,6 @@ use crate::replay::new_world;
 use crate::status::Status;
 use crate::stop::stop;
 use crate::words::Command;
-use swap_job::{Finish, Purpose};
 use deviators::{Kit, Strategies};
 use many_lines::{Heading, ManyJob, next_many, places_of};
 use many_text::write_many;
@@ -31,6 +30,7 @@ use refusals::{HeaderFault, Reason, Refusal};
 use std::alloc::Global;
 use swap_base::{ByteText, Fault, Listed, NoMemory, TryCopy};
 use swap_io::{Sink, Source, TextFault};
+use swap_job::{Finish, Purpose};
 use swap_many::{ManyWorld, Overdrawn};
 use swap_world::World;
 

@@ -19,7 +19,6 @@ use crate::replay::pass_over;
 use crate::run::tell;
 use crate::status::Status;
 use crate::words::{Command, JobCommand};
-use swap_job::{Job, Purpose};
 use deviators::{Kit, Strategies};
 use party_threads::Gate;
 use party_wallet::Wallet;
@@ -29,6 +28,7 @@ use std::sync::Wait;
 use std::thread::Threads;
 use swap_base::Fault;
 use swap_io::{Sink, Source};
+use swap_job::{Job, Purpose};
 use swap_offer::Prepared;
 
 /// The job of an input without events, and the wallets of its conforming parties.

@@ -19,13 +19,13 @@ ghost use Rattle.swap_commands.specs.Replay.{replayed, next_by, passed_over, IsO
 
 use crate::fault::InputFault;
 use crate::input::Input;
-use swap_job::Job;
 use deviators::Strategies;
 use party_wallet::Wallet;
 use refusals::{OfferFault, Reason};
 use std::alloc::Global;
 use swap_base::{Fault, NoMemory};
 use swap_io::Source;
+use swap_job::Job;
 use swap_offer::next_event;
 use swap_world::World;
 

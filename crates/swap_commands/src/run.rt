@@ -33,17 +33,17 @@ use crate::replay::replay;
 use crate::status::Status;
 use crate::stop::stop;
 use crate::words::{Command, JobCommand};
-use swap_job::{Finish, Job, Purpose};
 use deviators::{Kit, Strategies};
 use ledger_core::Book;
 use outcome_rules::{Report, report_of};
 use refusals::Refusal;
+use report_text::write_report;
 use std::alloc::Global;
 use swap_base::NoMemory;
 use swap_io::{Sink, Source, TextFault};
+use swap_job::{Finish, Job, Purpose};
 use swap_offer::Prepared;
 use swap_world::World;
-use report_text::write_report;
 use transcript_writer::write_transcript;
 
 /// The job of an input, and its world after all events.

@@ -17,11 +17,11 @@ use crate::run::run;
 use crate::status::Status;
 use crate::stop::stop;
 use crate::words::{Command, JobCommand};
-use swap_job::Job;
 use deviators::{Kit, Strategies};
 use party_wallet::Wallet;
 use std::alloc::Global;
 use swap_io::{Sink, Source};
+use swap_job::Job;
 
 /// What was done of a command.
 #[derive(Drop)]

@@ -5,10 +5,10 @@ ghost use Rattle.program_words.specs.Words.{command_of as asked_of};
 ghost use Rattle.swap_commands.specs.Words.{asked_task, races, task_of};
 ghost use Rattle.swap_commands.specs.Output.{purpose_of};
 
-use swap_job::Purpose;
 use program_words::{Command as Asked, read_command};
 use std::alloc::Global;
 use swap_base::NoMemory;
+use swap_job::Purpose;
 
 /// A command that reads a job.
 #[derive(Clone, Copy, Debug, PartialEq, Eq)]

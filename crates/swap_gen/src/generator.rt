@@ -12,12 +12,12 @@ ghost use Rattle.swap_gen.specs.Owned.{wallets_in, OwnsKeys};
 
 use crate::draws::Draws;
 use crate::wallets::{MadeJob, made_job};
-use swap_job::{Event, Job};
 use party_wallet::Wallet;
 use std::alloc::Global;
 use std::marker::Model;
 use swap_base::{ArcId, Listed, NoMemory, PartyId};
 use swap_digraph::{ArcEnds, Digraph};
+use swap_job::{Event, Job};
 
 /// A job that a number gives, with its events, which are drawn one at a time and have no end.
 #[derive(Drop)]

@@ -3,8 +3,8 @@
 ghost use Rattle.std.specs.Prelude.{◌≡◌, ◌++◌, OnOk};
 ghost use Rattle.swap_gen.specs.Line.{event_line, name_at};
 
-use swap_job::Event;
 use swap_base::{ByteText, NoMemory, PartyId, Piece, put};
+use swap_job::Event;
 
 /// The name of a party; no text where the number is nobody's.
 fn name_at(names: &[ByteText], p: PartyId) -> &[u8]

@@ -11,12 +11,12 @@ ghost use Rattle.proposed_deal.specs.Proposed.{HaveSeeds, IsProposed};
 ghost use Rattle.swap_gen.specs.Owned.{OwnsKeys};
 
 use crate::seeds::{all_keys, hashlocks_from};
-use swap_job::{Job, Purpose};
 use hashkey_path::deal_digest;
 use leader_check::{LeaderAnswer, dist, levels};
 use std::alloc::Global;
 use swap_base::{Digest, Listed, NoMemory, TryCopy};
 use swap_digraph::{Deal, Mode, copy_deal};
+use swap_job::{Job, Purpose};
 use time_bounds::timelock;
 
 /// How far each party stands from the one leader.

@@ -9,11 +9,11 @@ ghost use Rattle.swap_gen.specs.Events.{first_place};
 
 use crate::arcs::{drawn_amounts, drawn_arcs, leader_count};
 use crate::draws::Draws;
-use swap_job::{Finish, Job, Purpose, Role};
 use sha2::{Digest as Hasher, Sha256};
 use std::alloc::Global;
 use swap_base::{ByteText, Digest, Listed, NoMemory, PartyId, Piece, put};
 use swap_digraph::{ArcEnds, Deal, Digraph, Mode, Version};
+use swap_job::{Finish, Job, Purpose, Role};
 
 fn name_of(alloc: Global, p: PartyId) -> Result<ByteText, NoMemory>
     ensures { IfOk result (λ t. t ≡ name_of p) }

@@ -14,10 +14,10 @@ use crate::draws::Draws;
 use crate::making::fill;
 use crate::plain::plain_job;
 use crate::seeds::seed_in;
-use swap_job::Job;
 use party_wallet::Wallet;
 use std::alloc::Global;
 use swap_base::{Digest, Listed, LockId, NoMemory, PartyId};
+use swap_job::Job;
 
 /// A wallet for each party, and the public keys of each.
 #[derive(Drop)]

@@ -7,7 +7,9 @@ ghost use Rattle.deviators.specs.Program.{program_rule};
 ghost use Rattle.swap_commands.specs.Entered.{Obeys};
 ghost use Rattle.swap_main.specs.Staff.{by_rule, is_known};
 
-use deviators::{Rule, Strategies, greedy_rule, program_kit, replayer_rule, silent_rule, spoiler_rule};
+use deviators::{
+    Rule, Strategies, greedy_rule, program_kit, replayer_rule, silent_rule, spoiler_rule,
+};
 use ledger_core::{Book, Call};
 use std::alloc::Global;
 use swap_base::{ArcId, ByteText, NoMemory, PartyId};

@@ -14,10 +14,10 @@ ghost use Rattle.swap_many.specs.Near.{AreNear, near_in};
 ghost use Rattle.swap_many.specs.Value.{HasManyGone, IsManyStopped, IsOn, IsPartyOf, kept_of, setup_of, world_at};
 
 use crate::worlds::Worlds;
-use swap_job::Event;
 use deviators::Strategies;
 use swap_base::{ArcId, Listed, NoMemory, PartyId};
 use swap_digraph::Deal;
+use swap_job::Event;
 
 /// Lets a party of a swap look at each of these arcs, which are those that touch it.
 fn look_around<K: Strategies>(

@@ -31,7 +31,6 @@ use crate::overdrawn::ManyFault;
 use crate::place::Place;
 use crate::quiet::{rounds_below, rounds_still};
 use crate::ticking::{has_stopped, tick_worlds};
-use swap_job::Event;
 use deviators::Strategies;
 use escrow_core::Reply;
 use ledger_core::{Accounts, Book};
@@ -39,6 +38,7 @@ use std::alloc::Global;
 use std::marker::Model;
 use swap_base::{ArcId, Listed, NoMemory, PartyId, Past};
 use swap_digraph::Deal;
+use swap_job::Event;
 use swap_world::{Told, World};
 use time_bounds::horizon;
 

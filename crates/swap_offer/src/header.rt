@@ -18,7 +18,6 @@ ghost use Rattle.swap_offer.specs.Job.{accepted_of, job_header_of, names_at, pro
 use crate::checks::{check_header, graph_in};
 use crate::prepared::Prepared;
 use crate::wallets::{check_seeds, wallets_for};
-use swap_job::{Job, Purpose};
 use deviators::Kit;
 use hashkey_path::deal_digest;
 use offer_header::{Header, header_in};
@@ -27,6 +26,7 @@ use refusals::{HeaderFault, OfferFault, with_names};
 use std::alloc::Global;
 use swap_base::Listed;
 use swap_digraph::{Deal, Digraph};
+use swap_job::{Job, Purpose};
 
 fn job_with(header: Header, graph: Digraph) -> Job
     requires sized { (id : List ℕ) → IsWellSized (unnamed header graph id) }

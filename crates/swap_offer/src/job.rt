@@ -15,13 +15,13 @@ ghost use Rattle.swap_offer.specs.Wallets.{AreSimpleRoles, HaveScriptsFor, HaveS
 use crate::header::read_header;
 use crate::lines::filled_lines;
 use crate::prepared::Prepared;
-use swap_job::{Event, Job, Purpose};
 use deviators::Kit;
 use offer_events::read_event;
 use offer_header::is_plain;
 use refusals::{HeaderFault, OfferFault, Reason, Refusal, over_limit, with_names};
 use std::alloc::Global;
 use swap_base::{Fault, Listed};
+use swap_job::{Event, Job, Purpose};
 
 /// The most events of an offer.
 const MOST_EVENTS: u32 = 200_000;

@@ -1,7 +1,7 @@
 //! A job with its wallets.
 
-use swap_job::Job;
 use party_wallet::Wallet;
+use swap_job::Job;
 
 /// An accepted job, with the wallets that its purpose needs.
 #[derive(Drop)]

@@ -13,12 +13,12 @@ ghost use Rattle.swap_offer.specs.Checks.{unless_wrong};
 ghost use Rattle.swap_offer.specs.Job.{IsWhole};
 ghost use Rattle.swap_offer.specs.Wallets.{crafts, crafts_in, is_crafter, needs_seed, no_seed, seeded, wrong_wallet, fitting, walleted, wallets_for};
 
-use swap_job::{Job, Move, Purpose, Role};
 use party_wallet::Wallet;
 use refusals::{OfferFault, Reason};
 use std::alloc::Global;
 use swap_base::{Digest, Fault, PartyId};
 use swap_digraph::Deal;
+use swap_job::{Job, Move, Purpose, Role};
 
 /// Whether a party is among those that make a hashkey.
 fn is_among(p: PartyId, via: &[PartyId]) -> bool

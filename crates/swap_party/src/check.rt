@@ -10,12 +10,12 @@ ghost use Rattle.swap_offer.specs.Job.{job_header_of, names_at};
 ghost use Rattle.swap_party.specs.Said.{header_said, limit, IsCheckSaid, IsNothing};
 
 use crate::said::{DONE, LIMIT, NO_MEMORY, Said, TOO_LONG, say, say_nothing, say_reason};
-use swap_job::{Job, Purpose};
 use deviators::Kit;
 use party_answer::AnswerReason;
 use refusals::HeaderFault;
 use std::alloc::Global;
 use swap_base::Fault;
+use swap_job::{Job, Purpose};
 use swap_offer::read_header;
 
 /// The job of a header line whose strategies are those of a kit.

@@ -1,4 +1,3 @@
-
 pub mod Words
 pub mod Effects
 pub mod Units

@@ -12,5 +12,9 @@ mod laws;
 mod outcome;
 
 pub use finding::{Finding, Rule};
-pub use laws::{accepted_is_well_sized, all_is_dealt, all_is_transferred, every_book_is_safe, knowledge_conducts, nothing_found, nothing_is_forged, rounds_are_in_time, ticks_make_nothing_due, units_are_kept, unnamed_is_safe};
+pub use laws::{
+    accepted_is_well_sized, all_is_dealt, all_is_transferred, every_book_is_safe,
+    knowledge_conducts, nothing_found, nothing_is_forged, rounds_are_in_time,
+    ticks_make_nothing_due, units_are_kept, unnamed_is_safe,
+};
 pub use outcome::Outcome;

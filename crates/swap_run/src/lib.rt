@@ -10,8 +10,6 @@
 
 mod planner;
 
-pub use planner::Planner;
-
 ghost use Rattle.swap_run.specs.Asked.{RunsAskInOrder, FinishesAskInOrder, RunsWithoutStrategies, FinishesWithoutStrategies, RulesDecideRuns};
 ghost use Rattle.swap_run.specs.Asked.{RulesDecideFinishes};
 ghost use Rattle.swap_run.specs.CalledLaws.{CallsSplit, CallsArePlaced, PassedIsGood, NoneSwept, StepsOnAreGood};
@@ -19,6 +17,8 @@ ghost use Rattle.swap_run.specs.FairLaws.{FinishesAreRuns, FinishesEnd, Finishes
 ghost use Rattle.swap_run.specs.FairLaws.{OthersRest, TurnsAreGood, RoundsAreGood, RoundsRaise, RoundsCountDown, FinishStops, FinishGoesOn};
 ghost use Rattle.swap_run.specs.Steps.{FinishIsSteps};
 ghost use Rattle.swap_run.specs.Laws.{StartIsGood, StepsAreGood, DueCallsCanBeMade, GoodIsKept, RunsAreKept, UnlocksAreSigned};
+
+pub use planner::Planner;
 
 /// What every state of a run keeps: the book is legal, and each conforming party knows some prefix of each ledger that holds all its
 /// own calls, which keep its rules. What it makes, the ledger takes.

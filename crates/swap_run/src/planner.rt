@@ -8,7 +8,6 @@ ghost use Rattle.deviators.specs.View.{IsView, MayAnswer};
 ghost use Rattle.swap_run.specs.Run.{no_histories, plan_up_to};
 ghost use Rattle.swap_run.specs.Shown.{IsShown};
 
-use swap_job::MoveList;
 use deviators::{Script, Strategies};
 use ledger_core::{Book, Call, Entry, EntryList};
 use std::alloc::Global;
@@ -16,6 +15,7 @@ use std::marker::Model;
 use std::mem;
 use swap_base::{ArcId, ByteText, Digest, Listed, NoMemory, PartyId, TryCopy};
 use swap_digraph::Deal;
+use swap_job::MoveList;
 
 /// What a party knows of each ledger, the moves that are left of its script, and how often it acted.
 #[derive(Drop)]

@@ -8,9 +8,9 @@ ghost use Rattle.swap_world.specs.Staff.{AreHeld};
 ghost use Rattle.swap_world.specs.Stopped.{IsAfterSome, IsStopped};
 
 use crate::world::World;
-use swap_job::Event;
 use deviators::Strategies;
 use swap_base::NoMemory;
+use swap_job::Event;
 
 /// Takes events in their order.
 pub(crate) fn run<K: Strategies>(

@@ -8,13 +8,13 @@ ghost use Rattle.party_wallet.specs.Wallets.{wallet_for, wallets_of};
 ghost use Rattle.swap_world.specs.Staff.{by_role, conforming_of, actor_of, actor_step, actors_of};
 
 use crate::actor::Actor;
-use swap_job::{Job, MoveList, Role};
 use party_machine::{Machine, Misfit};
-use swap_run::Planner;
 use party_wallet::Wallet;
 use std::alloc::Global;
 use swap_base::{Fault, LockId, NoMemory, PartyId, TryCopy};
 use swap_digraph::Deal;
+use swap_job::{Job, MoveList, Role};
+use swap_run::Planner;
 
 /// The seed of a conforming party doesn't give what the deal states of it for that lock.
 #[derive(Clone, Copy, Debug, PartialEq, Eq)]

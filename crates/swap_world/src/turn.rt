@@ -26,17 +26,17 @@ ghost use Rattle.swap_world.specs.On.{swept_in, told_by};
 ghost use Rattle.swap_world.specs.Inside.{AreLedgersOf, IsLedgerOf, HaveRoom};
 
 use crate::told::Told;
-use swap_job::{Move, opened_key_in, opening_named, resolve_with};
 use hashkey_path::Hashkey;
 use history_index::Steps;
 use ledger_core::{Call, Ledger, Run};
 use party_machine::Machine;
-use swap_run::Planner;
 use std::alloc::Global;
 use std::marker::Brand;
 use std::sync::ledger::{Blank, Ledger as Counted};
 use swap_base::{ArcId, Digest, NoMemory, PartyId};
 use swap_digraph::Deal;
+use swap_job::{Move, opened_key_in, opening_named, resolve_with};
+use swap_run::Planner;
 use wallet_journal::{Journal, MemoryDisk};
 
 /// Ticks a ledger that has room by k heights, and makes room for a further entry.

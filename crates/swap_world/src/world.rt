@@ -42,15 +42,15 @@ use crate::journals::journals_of;
 use crate::staff::{WorldFault, actors_of};
 use crate::told::Told;
 use crate::{chain, fair, journals, many, quiet, turn};
-use swap_job::{Event, Job, Move, Role};
 use deviators::Strategies;
 use ledger_core::{Accounts, Book, Call, EntryList, Ledger};
-use swap_run::Planner;
 use party_wallet::Wallet;
 use std::alloc::Global;
 use std::marker::Model;
 use swap_base::{ArcId, Digest, Listed, NoMemory, PartyId, Past, TryCopy};
 use swap_digraph::{Deal, copy_deal};
+use swap_job::{Event, Job, Move, Role};
+use swap_run::Planner;
 use wallet_journal::{Journal, MemoryDisk};
 
 /// The ledgers of a job, and what acts for its parties.

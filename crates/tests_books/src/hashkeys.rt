@@ -5,7 +5,6 @@ ghost use Rattle.swap_digraph.specs.Deal.{IsWellSized};
 
 use crate::{jobs, rings};
 use deviators::Kit;
-use swap_job::Purpose;
 use hash_signature::{Sig, keygen};
 use hashkey_path::{Hashkey, HashkeyAnswer, check, deal_digest, extend, first};
 use hex::FromHex;
@@ -14,6 +13,7 @@ use std::process::Abort;
 use std::test::Fail;
 use swap_base::{ArcId, Digest, Listed, PartyId, TryCopy};
 use swap_digraph::{Deal, path_limit};
+use swap_job::Purpose;
 use swap_offer::{HeaderFault, Prepared, read_header};
 
 /// The secret of the rings' leader.

@@ -13,19 +13,19 @@ ghost use Rattle.swap_offer.specs.Wallets.{HaveScripts, HaveWallets};
 ghost use Rattle.swap_rules.specs.Accepted.{IsAccepted};
 
 use crate::jobs;
-use swap_job::{Event, Job, Purpose};
 use deviators::Kit;
 use ledger_core::{Book, Scan};
 use outcome_rules::{findings, report_of, unfinished};
 use party_wallet::Wallet;
+use report_text::report_text;
 use std::alloc::Global;
 use std::process::Abort;
 use std::test::Fail;
 use swap_digraph::Deal;
 use swap_gen::generate;
+use swap_job::{Event, Job, Purpose};
 use swap_offer::{Prepared, next_event, read_header};
 use swap_world::World;
-use report_text::report_text;
 
 fn count_unfinished(alloc: Global, deal: &Deal, book: &Book) -> Result<usize, Fail>
     requires sized { IsWellSized deal.now }

@@ -5,7 +5,10 @@ use std::alloc::Global;
 use std::io::{self, Read};
 use std::test::Fail;
 use swap_base::{ByteText, NoMemory};
-use swap_io::{ReaderSource, Source, TextSink, VecSink, VecSource, WriteFault, WriterSink, flush, pass_on,read_all, write_all,};
+use swap_io::{
+    ReaderSource, Source, TextSink, VecSink, VecSource, WriteFault, WriterSink, flush, pass_on,
+    read_all, write_all,
+};
 
 fn text_of(alloc: Global, bytes: &[u8]) -> Result<String, Fail> {
     Ok(String::from_str(alloc, str::from_utf8(bytes)?)?)

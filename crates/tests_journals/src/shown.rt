@@ -5,11 +5,11 @@ ghost use Rattle.swap_digraph.specs.Deal.{IsWellSized};
 
 use hash_signature::Sig;
 use hashkey_path::Hashkey;
-use tests_parts::small_deal;
 use std::alloc::{AllocError, Global};
 use std::test::Fail;
 use swap_base::{Listed, LockId, NoMemory, Shared};
 use swap_digraph::Deal;
+use tests_parts::small_deal;
 use wallet_journal::{Journal, MemoryDisk, Unopened};
 
 /// A deal of the parties 0 and 1 with two locks, whose id is 32 bytes 7.

@@ -9,7 +9,9 @@ ghost use Rattle.history_index.specs.Numbers.{IsIndexable};
 use crate::ledgers::{act, first_ledger, follow};
 use crate::random::Random;
 use history_index::{Index, Made, Steps};
-use ledger_core::{CallKind, Entry, Facts, Ledger, Published, Scan, Sender, Settlement, is_adjacent,};
+use ledger_core::{
+    CallKind, Entry, Facts, Ledger, Published, Scan, Sender, Settlement, is_adjacent,
+};
 use std::alloc::Global;
 use std::marker::Brand;
 use std::process::Abort;

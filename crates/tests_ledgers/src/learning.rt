@@ -8,7 +8,6 @@ ghost use Rattle.tests_ledgers.specs.UpTo.{IsLonger, IsUpTo};
 use escrow_core::Reply;
 use history_index::{Index, Steps};
 use ledger_core::{Facts, Ledger};
-use tests_parts::small_deal;
 use party_machine::Machine;
 use party_wallet::Wallet;
 use std::alloc::Global;
@@ -18,6 +17,7 @@ use std::sync::ledger::{Blank, Ledger as Counted};
 use std::test::Fail;
 use swap_base::Digest;
 use swap_digraph::Deal;
+use tests_parts::small_deal;
 
 fn tick_once(ledger: &mut Ledger) -> Result<(), Fail>
     ensures { OnOk result (IsLonger ledger.old ledger.new) }

@@ -6,12 +6,12 @@ ghost use Rattle.swap_digraph.specs.Deal.{IsWellSized};
 use escrow_core::{Reply, terms_of};
 use hashkey_path::Hashkey;
 use ledger_core::{Accounts, Call, Ledger, accounts_of, fits, is_adjacent};
-use tests_parts::small_deal;
 use std::alloc::Global;
 use std::process::Abort;
 use std::test::Fail;
 use swap_base::{Listed, NoMemory, PartyId, Shared};
 use swap_digraph::Deal;
+use tests_parts::small_deal;
 
 /// A publish of the deal's terms but for the amount.
 fn publish(alloc: Global, ledger: &Ledger, amount: u64) -> Result<Call, NoMemory> {

@@ -4,13 +4,13 @@ ghost use Rattle.std.specs.Prelude.{◌≡◌, ◌<◌, [], true, None, length};
 ghost use Rattle.swap_digraph.specs.Deal.{IsWellSized};
 
 use hashkey_path::Hashkey;
-use tests_parts::small_deal;
 use party_machine::{Machine, MachineFault, Misfit};
 use party_wallet::Wallet;
 use std::alloc::Global;
 use std::test::Fail;
 use swap_base::{Digest, Fault, Listed, LockId, NoMemory, PartyId, Shared};
 use swap_digraph::Deal;
+use tests_parts::small_deal;
 use wallet_journal::{Journal, MemoryDisk};
 
 /// A hashkey for a lock, as timelocks have it.

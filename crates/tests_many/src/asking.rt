@@ -6,12 +6,12 @@ ghost use Rattle.tests_many.specs.Played.{CanComeIn, IsOf};
 
 use crate::cases::parted;
 use crate::events::event_of;
-use swap_job::Job;
 use deviators::Kit;
 use ledger_core::Book;
 use std::alloc::{AllocError, Global};
 use std::test::Fail;
 use swap_base::Listed;
+use swap_job::Job;
 use swap_many::{ManyEvent, ManyReply, ManyWorld};
 
 /// A reply in words.

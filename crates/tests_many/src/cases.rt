@@ -7,11 +7,11 @@ ghost use Rattle.tests_many.specs.Played.{AreBegun, IsChain, IsOf};
 use crate::asking::answer_to;
 use crate::deals;
 use crate::opening::{Swaps, add_chains, add_swap};
-use swap_job::Job;
 use deviators::Kit;
 use std::alloc::{AllocError, Global};
 use std::test::Fail;
 use swap_base::{Fault, Listed};
+use swap_job::Job;
 use swap_many::{ManyFault, ManyWorld};
 
 /// What stands before and behind a mark, which a text without it has at its end.

@@ -6,10 +6,10 @@ ghost use Rattle.swap_run.specs.CalledLaws.{is_no_tick};
 ghost use Rattle.tests_many.specs.Played.{CanComeIn, CanComeOn, CanComeTo, IsRun};
 
 use crate::cases::parted;
-use swap_job::{Event, Job};
 use std::alloc::Global;
 use std::test::Fail;
 use swap_base::{ArcId, Listed};
+use swap_job::{Event, Job};
 use swap_many::ManyEvent;
 use swap_offer::next_event;
 

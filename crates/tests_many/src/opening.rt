@@ -11,12 +11,12 @@ ghost use Rattle.swap_many.specs.Opening.{IsPlaceOn};
 ghost use Rattle.tests_many.specs.Played.{AreBegun, IsChain};
 
 use crate::cases::parted;
-use swap_job::{Job, Purpose};
 use deviators::Kit;
 use party_wallet::Wallet;
 use std::alloc::Global;
 use std::test::Fail;
 use swap_base::Listed;
+use swap_job::{Job, Purpose};
 use swap_many::Place;
 use swap_offer::{Prepared, read_header};
 use swap_world::World;

@@ -4,13 +4,13 @@ ghost use Rattle.std.specs.Prelude.{◌<◌, IfOk};
 ghost use Rattle.swap_digraph.specs.Deal.{IsWellSized};
 ghost use Rattle.deviators.specs.View.{IsView, MayAnswer};
 
-use swap_job::opened_key;
 use escrow_core::{LockList, Terms, terms_of};
 use hashkey_path::Hashkey;
 use ledger_core::{Book, Call, EntryList, fits, is_adjacent};
 use std::alloc::Global;
 use swap_base::{ArcId, LockId, NoMemory, PartyId, Shared, TryCopy};
 use swap_digraph::Deal;
+use swap_job::opened_key;
 
 /// The turns after which every contract stands that will, in a race too.
 const EARLY: u32 = 4;

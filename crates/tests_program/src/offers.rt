@@ -1,12 +1,12 @@
 //! Whole offers, read at once.
 
 use crate::deals::TIMELOCKS;
-use swap_job::{Event, Job, Purpose};
 use deviators::Kit;
 use refusals::Refusal;
 use std::alloc::Global;
 use std::test::Fail;
 use swap_base::Fault;
+use swap_job::{Event, Job, Purpose};
 use swap_offer::read_job;
 
 /// How many names are told, and how many events where the job is read.

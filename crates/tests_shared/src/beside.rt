@@ -6,7 +6,6 @@ ghost use Rattle.swap_digraph.specs.Deal.{IsWellSized};
 
 use crate::passes::shared_ledger;
 use ledger_core::{Call, Entry, Ledger};
-use tests_parts::small_deal;
 use ledger_shared::{Pass, SharedLedger};
 use std::alloc::Global;
 use std::process::Abort;
@@ -16,6 +15,7 @@ use std::test::Fail;
 use std::thread;
 use std::thread::Threads;
 use swap_digraph::Deal;
+use tests_parts::small_deal;
 use turn_lock::{Journal, TurnLock, TurnSeat};
 
 const TRIES: u64 = 1_000_000_000;

@@ -7,7 +7,6 @@ ghost use Rattle.tests_shared.specs.Stays.{Stays};
 
 use escrow_core::{Reply, terms_of};
 use ledger_core::{Call, Entry, Ledger, Sender, What, fits};
-use tests_parts::small_deal;
 use ledger_shared::{ClockPass, Pass, SharedLedger, share};
 use std::alloc::Global;
 use std::process::Abort;
@@ -15,6 +14,7 @@ use std::sync::Wait;
 use std::test::Fail;
 use swap_base::{NoMemory, PartyId, Shared};
 use swap_digraph::Deal;
+use tests_parts::small_deal;
 
 /// The first arc's ledger, shared before any entry.
 pub(crate) fn shared_ledger<R: Wait>(

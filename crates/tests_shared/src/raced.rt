@@ -8,7 +8,6 @@ ghost use Rattle.tests_shared.specs.Stays.{Stays};
 use crate::passes::{make_all, shared_ledger, tick_all};
 use crate::replayed::replays;
 use ledger_core::{EntryList, Ledger};
-use tests_parts::small_deal;
 use ledger_shared::{ClockPass, Pass, SharedLedger};
 use std::alloc::Global;
 use std::process::Abort;
@@ -17,6 +16,7 @@ use std::test::Fail;
 use std::thread;
 use std::thread::Threads;
 use swap_digraph::Deal;
+use tests_parts::small_deal;
 
 /// Bob's calls and the ticks, each on a thread of its own.
 fn two_at_once<R: Threads + Wait + Sync>(

@@ -1,9 +1,4 @@
 pub mod Heights
-pub mod ByDigit
-pub mod Falls
-pub mod Lower
-pub mod Members
-pub mod Replies
 pub mod HexDigits
 pub mod Exact
 pub mod Fields
@@ -13,3 +8,8 @@ pub mod Sound
 pub mod Complete
 pub mod OneLine
 pub mod Legal
+pub mod ByDigit
+pub mod Falls
+pub mod Lower
+pub mod Members
+pub mod Replies

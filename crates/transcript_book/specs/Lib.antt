@@ -1,9 +1,9 @@
 pub mod Entries
 pub mod Stages
 pub mod Inside
-pub mod Taking
-pub mod Cursor
-pub mod Counts
 pub mod Spelling
 pub mod Books
 pub mod Stated
+pub mod Taking
+pub mod Cursor
+pub mod Counts

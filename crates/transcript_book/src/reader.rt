@@ -5,16 +5,16 @@ ghost use Rattle.swap_digraph.specs.Deal.{IsWellSized};
 ghost use Rattle.transcript_book.specs.declared.place.Place.TheVariants.{Ledger, Entries};
 ghost use Rattle.transcript_book.specs.Stages.{Reads, entry_read, is_over, ledger_read, line_read, no_ledgers, settled};
 
-use crate::stated::entry_at;
+use crate::count::read_count;
+use crate::number::{WordFault, misspelt};
 use crate::place::Place;
-use swap_job::Job;
+use crate::stated::entry_at;
 use ledger_core::{Book, EntryList};
 use std::alloc::Global;
 use std::marker::Model;
 use std::mem;
 use swap_base::{ArcId, Listed, NoMemory};
-use crate::number::{WordFault, misspelt};
-use crate::count::read_count;
+use swap_job::Job;
 
 /// Reads the lines after the header line of a job's transcript, up to the last one. It keeps the book that they state, and none of their text.
 #[derive(Debug, Drop)]

@@ -7,13 +7,13 @@ ghost use Rattle.ledger_core.specs.declared.entry.Sender.TheVariants.{Party, Clo
 ghost use Rattle.ledger_core.specs.declared.entry.What.TheVariants.{Call as Made, Tick};
 ghost use Rattle.transcript_book.specs.Entries.{entry_at, placed, placed_as};
 
+use crate::entry::read_entry;
+use crate::number::{WordFault, misspelt};
 use escrow_core::Reply;
 use ledger_core::{Call, Entry, Sender, What, fits, is_adjacent};
 use std::alloc::Global;
 use swap_base::{ArcId, PartyId};
 use swap_digraph::Deal;
-use crate::number::{WordFault, misspelt};
-use crate::entry::read_entry;
 use transcript_lines::Said;
 
 fn place_call(

@@ -8,10 +8,10 @@ ghost use Rattle.offer_header.specs.Names.{has_strategy};
 ghost use Rattle.swap_offer.specs.Job.{job_header_of, names_at};
 ghost use Rattle.transcript_reader.specs.Header.{header_read, IsTold};
 
-use swap_job::{Job, Purpose};
 use deviators::Kit;
 use refusals::HeaderFault;
 use std::alloc::Global;
+use swap_job::{Job, Purpose};
 use swap_offer::read_header;
 
 /// The job of a header line whose strategies are those of a kit.

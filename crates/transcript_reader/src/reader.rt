@@ -8,11 +8,11 @@ ghost use Rattle.transcript_reader.specs.Stages.{more_bytes, no_lines, with_line
 
 use crate::reason::{TranscriptFault, TranscriptReason};
 use crate::stage::Stage;
-use swap_job::Job;
 use ledger_core::Book;
 use std::alloc::Global;
 use std::marker::Model;
 use swap_base::{Fault, TryCopy};
+use swap_job::Job;
 use transcript_book::BookReader;
 
 /// The most bytes of a transcript.

@@ -8,10 +8,10 @@ ghost use Rattle.transcript_reader.specs.Reading.{story_of, transcript_read};
 
 use crate::reader::TranscriptReader;
 use crate::reason::TranscriptFault;
-use swap_job::Job;
 use ledger_core::Book;
 use memchr::memchr;
 use std::alloc::Global;
+use swap_job::Job;
 
 /// The job and the book that a transcript states.
 pub fn read_transcript(alloc: Global, bytes: &[u8]) -> Result<(Job, Book), TranscriptFault>

@@ -9,12 +9,12 @@ ghost use Rattle.transcript_lines.specs.Lines.{transcript};
 ghost use Rattle.transcript_writer.specs.Texts.{head_text};
 
 use crate::ledgers::write_ledgers;
-use swap_job::Job;
 use ledger_core::Book;
 use offer_text::write_deal;
 use std::alloc::Global;
 use swap_base::{NoMemory, Piece, put};
 use swap_io::{Sink, TextFault, flush};
+use swap_job::Job;
 
 /// Appends the first line, and the job's header line.
 fn put_head(out: &mut Vec<u8>, job: &Job) -> Result<(), NoMemory>
