@@ -2,7 +2,7 @@
 //!
 //! Anyone can check a swap so: nothing that a book states is taken as it is but the calls and ticks themselves.
 //!
-//! Read `WellFormed` of `stated_books` first: the books that are audited; then `specs/Audit.antt`: what an audit answers; and `specs/Accepted.antt`: a book
+//! Read `WellFormed` of `ledger_core` first: the books that are audited; then `specs/Audit.antt`: what an audit answers; and `specs/Accepted.antt`: a book
 //! without its refused calls. The report is that of `outcome_rules`.
 #![tactic(auto)]
 
