@@ -32,6 +32,7 @@ use Rattle.swap_commands.specs.declared.words.Command.TheVariants.{OfJob, Audit}
 use Rattle.swap_commands.specs.declared.words.JobCommand.TheVariants.{Run, Race}
 use Rattle.swap_commands.specs.Promised.{AsPromised}
 use Rattle.swap_main.specs.Staff.{by_rule, is_known}
+use Rattle.swap_main.specs.Top.{IsDone}
 use Rattle.swap_commands.specs.declared.words.Command.{Command}
 use Rattle.audited_runs.proofs.Rules.{program_keeps_digests}
 use Rattle.audited_runs.proofs.Whole.{runs_hold_digests}
