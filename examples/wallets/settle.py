@@ -30,9 +30,9 @@ from contract import Deal  # noqa: E402
 class Living:
     """A wallet's process, and the least height at which it last came to rest."""
 
-    def __init__(self, folder, name, twice):
+    def __init__(self, folder, name, twice, asleep):
         self.words, self.rested, self.pid = (folder, name, twice), 0, None
-        self.start()
+        asleep or self.start()
 
     def start(self):
         """A process of its own, which tells its rests by a pipe."""
@@ -67,7 +67,7 @@ class Living:
 
 
 class Swap:
-    def __init__(self, job, room, chance, twice=None):
+    def __init__(self, job, room, chance, late=None, twice=None):
         self.chance, self.room, self.killed = chance, room, 0
         seeds = {party["name"]: party.pop("seed") for party in job["parties"]}
         for party in job["parties"]:
@@ -81,7 +81,7 @@ class Swap:
         for name, seed in seeds.items():
             self.put(f"{name}/seed", seed + "\n")
         self.chains = [Chain(room, self.deal, arc) for arc in range(len(self.deal.ends))]
-        self.wallets = [Living(room, name, name == twice) for name in seeds]
+        self.wallets = [Living(room, name, name == twice, name == late) for name in seeds]
 
     def put(self, name, text):
         path = os.path.join(self.room, name)
@@ -107,8 +107,8 @@ class Swap:
             self.chains[arc].tick(self.chance.randint(1, self.room_for(arc, late)))
 
     def kill(self, kills):
-        """Kills one, so many times at most, or starts one again."""
-        it = self.chance.choice(self.wallets)
+        """Kills one, so many times at most, or starts one again; none that presents twice, which may not do it if it is killed in between."""
+        it = self.chance.choice([it for it in self.wallets if not it.words[-1]])
         if it.pid is None:
             it.start()
         elif self.killed < kills and self.chance.random() < 0.1:
@@ -136,14 +136,23 @@ class Swap:
             if time.monotonic() - begun > most:
                 raise TimeoutError("a wallet didn't come to rest")
 
+    def ready(self, me):
+        """The height from which its publishes are asked for, or one above it: 0 where it leads, else where all contracts that enter stand, if they do."""
+        if me in self.deal.leaders:
+            return 0
+        entering = [self.chains[arc].look() for arc, ends in enumerate(self.deal.ends) if ends[1] == me]
+        return max(chain.height for chain in entering) if all(chain.contract.published for chain in entering) else None
+
     def sleep(self, it, late):
         """The wallet sleeps until its leaving chain stands more than delta above what asked for its publish."""
-        it.kill()
-        arc = next(arc for arc, ends in enumerate(self.deal.ends) if self.deal.names[ends[0]] == late)
-        while self.chains[arc].look().height <= 2 * self.deal.delta:
+        me = self.deal.names.index(late)
+        arc = next(arc for arc, ends in enumerate(self.deal.ends) if ends[0] == me)
+        ready = self.ready(me)
+        while ready is None or self.chains[arc].look().height <= ready + self.deal.delta:
             self.tick(late)
             self.hear(0.004 * self.chance.random())
-        it.rested = min(self.chains[arc].height for arc, ends in enumerate(self.deal.ends) if self.deal.names.index(late) in ends)
+            ready = self.ready(me) if ready is None else ready
+        it.rested = min(self.chains[arc].height for arc, ends in enumerate(self.deal.ends) if me in ends)
         it.start()
 
     def stop(self):
@@ -166,7 +175,7 @@ class Swap:
 def settled(job, chance, kills=0, late=None, twice=None):
     """The audit of a swap that was settled."""
     with tempfile.TemporaryDirectory(prefix="wallets-", dir="/dev/shm" if os.path.isdir("/dev/shm") else None) as room:
-        swap = Swap(job, room, chance, twice)
+        swap = Swap(job, room, chance, late, twice)
         try:
             swap.settle(kills, late)
         finally:
@@ -176,7 +185,7 @@ def settled(job, chance, kills=0, late=None, twice=None):
 
 def build(program):
     """Has a script that builds its program do so, before any clock runs."""
-    print(f"settle: {os.path.basename(program)} is built now, if it isn't yet: one to three minutes", file=sys.stderr, flush=True)
+    print(f"settle: {os.path.basename(program)} is built now, if it isn't yet: a minute or two", file=sys.stderr, flush=True)
     ended = subprocess.run([program], stdin=subprocess.DEVNULL, capture_output=True, text=True)
     if ended.returncode != 2:
         raise SystemExit(ended.stderr.strip())
