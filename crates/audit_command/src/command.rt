@@ -58,7 +58,11 @@ fn tell<K: Sink>(
 }
 
 /// Audits a transcript. The source is read to its end before anything is written; the book that its lines state is kept, and none of their text.
-pub fn audit<S: Source, K: Sink>(alloc: Global, source: &mut S, sink: &mut K) -> AuditEnding
+pub fn audit_transcript<S: Source, K: Sink>(
+    alloc: Global,
+    source: &mut S,
+    sink: &mut K,
+) -> AuditEnding
     ensures says { Says (S.left source.old) (S.left source.new) (S.faults source.old) (S.faults source.new) (K.taken sink.old) (K.taken sink.new)
         (K.faults sink.old) (K.faults sink.new) result }
     ensures calm { ¬ (result ≡ AuditEnding.ReadFault) → S.faults source.new ≡ S.faults source.old }

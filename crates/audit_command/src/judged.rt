@@ -12,7 +12,7 @@ use ledger_core::Book;
 use outcome_rules::Report;
 use refusals::{Reason, Refusal};
 use std::alloc::Global;
-use swap_auditor::{BadReply, audit};
+use swap_auditor::{BadReply, audit_book};
 use swap_base::{Fault, Listed};
 use swap_job::Job;
 
@@ -33,7 +33,7 @@ pub(crate) fn judge(alloc: Global, job: &Job, book: &Book) -> Result<Report, Fau
     ensures exact { Gives (λ r. r) result (judged (story job.now book.now.histories)) }
     ensures sound { IfOk result (IsSound (story job.now book.now.histories)) }
 {
-    match audit(alloc, &job.deal, &job.conforming, book) {
+    match audit_book(alloc, &job.deal, &job.conforming, book) {
         Ok(report) => Ok(report),
         Err(Fault::Refused(bad)) => Err(Fault::Refused(refused_reply(alloc, bad))),
         Err(Fault::NoMemory) => Err(Fault::NoMemory),

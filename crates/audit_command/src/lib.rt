@@ -11,5 +11,5 @@ mod input;
 mod judged;
 mod story;
 
-pub use command::audit;
+pub use command::audit_transcript;
 pub use ending::AuditEnding;

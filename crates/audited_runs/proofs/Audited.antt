@@ -31,7 +31,7 @@ use Rattle.swap_commands.specs.Output.{Chance, book_of, by_reason, output_by, re
 use Rattle.swap_commands.specs.declared.words.Command.TheVariants.{OfJob, Audit}
 use Rattle.swap_commands.specs.declared.words.JobCommand.TheVariants.{Run, Race}
 use Rattle.swap_commands.specs.Promised.{AsPromised}
-use Rattle.swap_main.specs.Staff.{by_rule, is_known}
+use Rattle.swap_main.specs.Known.{by_rule, is_known}
 use Rattle.swap_main.specs.Top.{IsDone}
 use Rattle.swap_commands.specs.declared.words.Command.{Command}
 use Rattle.audited_runs.proofs.Rules.{program_keeps_digests}

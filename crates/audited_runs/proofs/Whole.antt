@@ -12,7 +12,7 @@ use Rattle.swap_world.specs.Cast.{wallet_with}
 use Rattle.swap_offer.specs.Job.{events_of, job_header_of, job_of, of_lines}
 use Rattle.swap_offer.specs.Lines.{filled_lines, lines_of}
 use Rattle.swap_commands.specs.Output.{AreGiven, cast_by, state_of}
-use Rattle.swap_main.specs.Staff.{by_rule}
+use Rattle.swap_main.specs.Known.{by_rule}
 use Rattle.read_back.specs.Headers.{IsShowable}
 use Rattle.read_back.proofs.Onward.{landed, onward}
 use Rattle.read_back.proofs.Showable.{read_is_showable}

@@ -5,7 +5,7 @@ use Rattle.deviators.specs.Program.{program_rule}
 use Rattle.swap_commands.specs.Input.{limit}
 use Rattle.swap_commands.specs.Output.{Chance, output_by}
 use Rattle.swap_commands.specs.Promised.{AsPromised}
-use Rattle.swap_main.specs.Staff.{by_rule, is_known}
+use Rattle.swap_main.specs.Known.{by_rule, is_known}
 use Rattle.swap_main.specs.Top.{IsDone}
 use Rattle.swap_commands.specs.declared.words.Command.{Command}
 use Rattle.swap_commands.specs.declared.words.Command.TheVariants.{OfJob, Audit}

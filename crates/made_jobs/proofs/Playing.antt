@@ -21,7 +21,7 @@ use Rattle.swap_run.specs.Run.{Cast, State, is_planned, run, run_from, start, st
 use Rattle.swap_run.specs.Fair.{finish}
 use Rattle.swap_run.specs.Laws.{IsKept}
 use Rattle.swap_world.specs.Cast.{cast_of, cast_with, is_conforming}
-use Rattle.swap_world.specs.Staff.{world_of, HaveRoles, HaveSeeds}
+use Rattle.swap_world.specs.Actors.{world_of, HaveRoles, HaveSeeds}
 use Rattle.swap_world.specs.Gone.{Gives, HasGone}
 use Rattle.swap_world.specs.Value.{WorldState, cast_at, new_world}
 use Rattle.swap_world.proofs.Plain.{plain_finish}

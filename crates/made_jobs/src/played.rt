@@ -9,7 +9,7 @@ ghost use Rattle.swap_run.specs.Run.{run_from, start};
 ghost use Rattle.swap_run.specs.Fair.{finish};
 ghost use Rattle.swap_run.specs.Laws.{IsKept};
 ghost use Rattle.swap_world.specs.Cast.{cast_of};
-ghost use Rattle.swap_world.specs.Staff.{HaveRoles};
+ghost use Rattle.swap_world.specs.Actors.{HaveRoles};
 ghost use Rattle.swap_world.specs.Value.{cast_at, new_world};
 ghost use Rattle.swap_gen.specs.Drawn.{generated};
 ghost use Rattle.swap_gen.specs.Events.{generated_events};

@@ -39,7 +39,7 @@ use Rattle.swap_run.proofs.Plans.{plan_grown}
 use Rattle.party_threads.specs.Able.{IsSameOwner}
 use Rattle.swap_world.specs.Cast.{cast_of}
 use Rattle.swap_world.specs.Inside.{IsLedgerOf}
-use Rattle.swap_world.specs.Staff.{role_in}
+use Rattle.swap_world.specs.Actors.{role_in}
 use Rattle.party_threads.specs.declared.turn.Actor.{Actor}
 use Rattle.party_threads.specs.declared.turn.Actor.TheVariants.{Conforming, Planned, Manual, Clock}
 use Rattle.party_threads.specs.declared.turn.Turn.{Turn}

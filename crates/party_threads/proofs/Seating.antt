@@ -30,7 +30,7 @@ use Rattle.swap_rules.proofs.Accepted.{accepted_is_well_sized}
 use Rattle.swap_run.specs.Shown.{IsShown}
 use Rattle.swap_world.specs.Cast.{cast_of, wallet_with}
 use Rattle.swap_world.specs.Inside.{IsLedgerOf}
-use Rattle.swap_world.specs.Staff.{role_in, AreHeld, IsHeld as IsHeldIn}
+use Rattle.swap_world.specs.Actors.{role_in, AreHeld, IsHeld as IsHeldIn}
 use Rattle.swap_job.specs.declared.job.Role.{Role}
 use Rattle.swap_job.specs.declared.job.Role.TheVariants as kinds
 use Rattle.party_threads.specs.declared.turn.Actor.{Actor}

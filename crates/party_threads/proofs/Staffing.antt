@@ -13,13 +13,13 @@ use Rattle.party_wallet.specs.Keys.{new_wallet}
 use Rattle.party_wallet.specs.Wallets.{wallet_for, wallets_of}
 use Rattle.party_wallet.specs.Fits.{wrong_lock}
 use Rattle.swap_digraph.specs.declared.deal.Deal.{Deal}
-use Rattle.swap_world.specs.Staff.{role_in}
-use Rattle.swap_world.specs.declared.staff.WrongWallet.{WrongWallet}
+use Rattle.swap_world.specs.Actors.{role_in}
+use Rattle.swap_world.specs.declared.actors.WrongWallet.{WrongWallet}
 use Rattle.party_machine.specs.Machine.{MachineState, new_machine, machine_or}
 use Rattle.party_machine.specs.declared.misfit.Misfit.TheVariants.{WrongWallet as Misfits}
 use Rattle.party_threads.specs.declared.turn.Actor.TheVariants.{Conforming, Clock}
 use Rattle.party_threads.specs.declared.turn.Turn.{Turn}
-use Rattle.party_threads.specs.Staff.{wrong_with, wrong_for, IsWrong, IsFirstOf, by_role, acts_with, acts_for, IsNewTurn, HasNewTurn, AreNew}
+use Rattle.party_threads.specs.FirstTurns.{wrong_with, wrong_for, IsWrong, IsFirstOf, by_role, acts_with, acts_for, IsNewTurn, HasNewTurn, AreNew}
 use Rattle.party_threads.proofs.Placing.{get_last, get_other}
 
 -- The first p parties have their turns, and the wallets of the others are there.

@@ -21,7 +21,7 @@ use Rattle.swap_run.proofs.Good.{start_is_good, replicated}
 use Rattle.swap_world.specs.Acting.{histories}
 use Rattle.swap_world.specs.Cast.{cast_of, is_conforming, wallet_with}
 use Rattle.swap_world.specs.Inside.{new_ledger, new_ledgers}
-use Rattle.swap_world.specs.Staff.{role_in, HaveSeeds, HaveRoles}
+use Rattle.swap_world.specs.Actors.{role_in, HaveSeeds, HaveRoles}
 use Rattle.swap_world.proofs.Ledgers.{none_yet}
 use Rattle.swap_world.proofs.Team.{role_each}
 use Rattle.party_machine.proofs.Good.{fitting_is_good}
@@ -30,7 +30,7 @@ use Rattle.party_threads.specs.declared.turn.Actor.TheVariants.{Clock}
 use Rattle.party_threads.specs.declared.turn.Turn.{Turn}
 use Rattle.party_threads.specs.Turns.{actor_of, passes_of, clocks_of, actor_at, ledger_at, IsHome}
 use Rattle.party_threads.specs.Standing.{book_in, notes_in, notes_at, plan_in, plan_at, state_of, IsActorIn, KnowsOwn, Stands}
-use Rattle.party_threads.specs.Staff.{wrong_with, AllFit, by_role, acts_with, acts_for, IsNewTurn, AreNew}
+use Rattle.party_threads.specs.FirstTurns.{wrong_with, AllFit, by_role, acts_with, acts_for, IsNewTurn, AreNew}
 use Rattle.swap_digraph.proofs.Ranges.{map_more}
 use Rattle.party_threads.proofs.Turning.{get_there}
 use Rattle.party_threads.proofs.Placing.{map_append}

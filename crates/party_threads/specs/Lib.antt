@@ -3,7 +3,7 @@ pub mod Took
 pub mod Views
 pub mod Race
 pub mod Standing
-pub mod Staff
+pub mod FirstTurns
 pub mod Later
 pub mod Tracks
 pub mod Able

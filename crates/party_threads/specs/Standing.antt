@@ -14,7 +14,7 @@ use Rattle.swap_run.specs.Run.{Notes, Plan, State, no_notes, first_plan, is_plan
 use Rattle.swap_rules.specs.Machine.{Knows}
 use Rattle.swap_run.specs.Laws.{IsReadyCast, IsGood}
 use Rattle.swap_world.specs.Cast.{cast_of}
-use Rattle.swap_world.specs.Staff.{role_in}
+use Rattle.swap_world.specs.Actors.{role_in}
 use Rattle.party_threads.specs.declared.turn.Actor.{Actor}
 use Rattle.party_threads.specs.declared.turn.Actor.TheVariants.{Conforming, Planned, Manual, Clock}
 use Rattle.party_threads.specs.declared.turn.Turn.{Turn}

@@ -12,18 +12,18 @@
 #![tactic(auto)]
 
 mod clock;
-mod deal;
+mod first_turns;
 mod gate;
+mod handing;
 mod home;
 mod laws;
 mod machine_turn;
 mod planner_turn;
 mod round;
 mod rounds;
-mod staff;
 mod turn;
 
+pub use first_turns::RaceFault;
 pub use gate::Gate;
 pub use laws::rest_shows_in_calls;
 pub use rounds::race;
-pub use staff::RaceFault;

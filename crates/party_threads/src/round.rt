@@ -1,7 +1,7 @@
 //! A round: every ledger is shared, every party and the clock have their turns, and every ledger is closed.
 
 ghost use Rattle.std.specs.Prelude.{◌≡◌, ◌<◌, ◌≤◌, ℕ, OnOk, length, slice_index_or, All, false, true};
-ghost use Rattle.swap_world.specs.Staff.{AreHeld};
+ghost use Rattle.swap_world.specs.Actors.{AreHeld};
 ghost use Rattle.swap_world.specs.Cast.{cast_of};
 ghost use Rattle.party_threads.specs.Later.{HaveGoneOn};
 ghost use Rattle.party_threads.specs.Ticks.{HaveClocksGoneOn};
@@ -10,8 +10,8 @@ ghost use Rattle.party_threads.specs.Race.{IsRound};
 ghost use Rattle.party_threads.specs.Standing.{Stands, AllHaveRoom, book_in, state_of};
 
 use crate::clock::take_clock_turn;
-use crate::deal::{close, deal};
 use crate::gate::Gate;
+use crate::handing::{close, hand_out};
 use crate::home::Home;
 use crate::machine_turn::take_machine_turn;
 use crate::planner_turn::take_planner_turn;
@@ -140,7 +140,7 @@ pub(crate) fn round<R: Threads + Wait + Sync, K: Strategies + Sync, G: Gate>(
     ensures round { OnOk result (IsRound (K.gives kit.now) (cast_of job.now) ticks (state_of job.now ledgers.old turns.old)
         (state_of job.now ledgers.new turns.new)) }
 {
-    let shared = deal(rt, alloc, &job.deal, ledgers, turns)?;
+    let shared = hand_out(rt, alloc, &job.deal, ledgers, turns)?;
     take_turns(
         rt,
         job,

@@ -7,15 +7,15 @@ ghost use Rattle.party_wallet.specs.Wallets.{wallets_of};
 ghost use Rattle.swap_run.specs.Run.{start};
 ghost use Rattle.swap_world.specs.Cast.{cast_of};
 ghost use Rattle.swap_world.specs.Inside.{new_ledgers};
-ghost use Rattle.swap_world.specs.Staff.{AreHeld, HaveSeeds, HaveRoles};
+ghost use Rattle.swap_world.specs.Actors.{AreHeld, HaveSeeds, HaveRoles};
 ghost use Rattle.party_threads.specs.Race.{rounds_for, IsRaced, IsRaceBook};
-ghost use Rattle.party_threads.specs.Staff.{AllFit, IsFirstOf};
+ghost use Rattle.party_threads.specs.FirstTurns.{AllFit, IsFirstOf};
 ghost use Rattle.party_threads.specs.Standing.{Stands, book_in, history_in, state_of};
 
+use crate::first_turns::{RaceFault, turns_of};
 use crate::gate::Gate;
 use crate::home::Home;
 use crate::round::round;
-use crate::staff::{RaceFault, turns_of};
 use crate::turn::Turn;
 use deviators::Strategies;
 use ledger_core::{Book, EntryList, Ledger};

@@ -35,7 +35,7 @@ pub fn replay_book(alloc: Global, deal: &Deal, book: &Book) -> Result<(), AuditF
 
 /// The report of a book whose every stated reply is that of the replayed ledgers, or the first, in order of arc and entry, that isn't. Each signature
 /// is verified once.
-pub fn audit(
+pub fn audit_book(
     alloc: Global,
     deal: &Deal,
     conforming: &Listed<bool>,

@@ -13,6 +13,6 @@ mod replay;
 mod same_reply;
 
 pub use accepted::accepted_only;
-pub use auditing::{audit, replay_book};
+pub use auditing::{audit_book, replay_book};
 pub use outcome_rules::Report;
 pub use replay::{AuditFault, BadReply};

@@ -20,7 +20,7 @@ use Rattle.swap_run.specs.Run.{Cast}
 use Rattle.swap_run.specs.Laws.{IsReadyCast}
 use Rattle.swap_world.specs.Cast.{cast_of}
 use Rattle.swap_world.specs.Gone.{Gives}
-use Rattle.swap_world.specs.Staff.{AreHeld, actors_of, world_of}
+use Rattle.swap_world.specs.Actors.{AreHeld, actors_of, world_of}
 use Rattle.swap_world.specs.Value.{WorldState, cast_at, new_world}
 use Rattle.swap_world.proofs.Team.{is_ready}
 use Rattle.swap_many.specs.declared.many_event.ManyEvent.{ManyEvent}

@@ -26,15 +26,15 @@ use Rattle.swap_rules.specs.Late.{is_late, ref_of}
 use Rattle.swap_rules.specs.Forged.{is_forged}
 use Rattle.swap_rules.specs.Findings.{broken, failing, findings, findings_of, forgeries, late_on, lates, or_zero, rules_of, unfinished}
 use Rattle.swap_rules.specs.Laws.{IsOnTime}
-use Rattle.swap_world.specs.Staff.{HaveSeeds}
+use Rattle.swap_world.specs.Actors.{HaveSeeds}
 use Rattle.offer_fields.proofs.Chains.{went}
 use Rattle.offer_fields.specs.Fields.{object_of}
 use Rattle.offer_events.specs.Event.{asked, checked, conforming_crash, event_of, outside_race}
 use Rattle.offer_events.specs.Reading.{event_at}
 use Rattle.swap_offer.specs.Job.{events_of, next_of, IsWhole}
 use Rattle.swap_offer.specs.Wallets.{HaveWallets, seed_of}
-use Rattle.party_threads.specs.Staff.{wrong_with, IsFirstWrong}
-use Rattle.swap_world.specs.declared.staff.WrongWallet.{WrongWallet}
+use Rattle.party_threads.specs.FirstTurns.{wrong_with, IsFirstWrong}
+use Rattle.swap_world.specs.declared.actors.WrongWallet.{WrongWallet}
 
 -- A race's job has no event.
 

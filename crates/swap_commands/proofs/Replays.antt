@@ -20,7 +20,7 @@ use Rattle.swap_run.specs.Asked.{Answers, with_answers}
 use Rattle.swap_run.specs.Run.{Cast, Question, State, step, start}
 use Rattle.swap_world.specs.Cast.{cast_of, cast_with}
 use Rattle.swap_offer.specs.Wallets.{HaveWallets}
-use Rattle.swap_world.specs.Staff.{world_of, AreHeld, IsHeld as Held}
+use Rattle.swap_world.specs.Actors.{world_of, AreHeld, IsHeld as Held}
 use Rattle.offer_header.specs.Limits.{HoldsEach, IsHeld}
 use Rattle.swap_job.specs.declared.job.Role.TheVariants as kinds
 use Rattle.swap_job.specs.declared.job.Finish.TheVariants.{Stop}

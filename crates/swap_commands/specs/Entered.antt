@@ -10,7 +10,7 @@ use Rattle.offer_header.specs.Names.{AreNames}
 use Rattle.swap_offer.specs.Job.{IsWhole}
 use Rattle.swap_offer.specs.Wallets.{HaveScripts, HaveWallets}
 use Rattle.swap_world.specs.Gone.{Gives}
-use Rattle.swap_world.specs.Staff.{AreHeld}
+use Rattle.swap_world.specs.Actors.{AreHeld}
 use Rattle.swap_commands.specs.Input.{limit}
 use Rattle.swap_commands.specs.Replay.{IsEntered}
 use Rattle.swap_commands.specs.Says.{Says}

@@ -6,7 +6,7 @@ ghost use Rattle.swap_commands.specs.Says.{Says, status_by};
 
 use crate::status::Status;
 use crate::words::Command;
-use audit_command::{AuditEnding, audit as audit_all};
+use audit_command::{AuditEnding, audit_transcript};
 use deviators::{Kit, Strategies};
 use std::alloc::Global;
 use swap_io::{Sink, Source};
@@ -38,5 +38,5 @@ pub(crate) fn audit<S: Source, K: Sink>(
         (K.faults sink.old) (K.faults sink.new) result }
     ensures calm { ¬ (result ≡ Status.ReadFault) → S.faults source.new ≡ S.faults source.old }
 {
-    status_by(audit_all(alloc, source, sink))
+    status_by(audit_transcript(alloc, source, sink))
 }

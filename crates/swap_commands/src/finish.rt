@@ -6,7 +6,7 @@ ghost use Rattle.swap_rules.specs.Laws.{IsDealt};
 ghost use Rattle.swap_run.specs.Run.{start};
 ghost use Rattle.swap_world.specs.Cast.{cast_of};
 ghost use Rattle.swap_world.specs.Gone.{HasGone};
-ghost use Rattle.swap_world.specs.Staff.{AreHeld};
+ghost use Rattle.swap_world.specs.Actors.{AreHeld};
 ghost use Rattle.outcome_rules.specs.Report.{conforms_in};
 ghost use Rattle.outcome_rules.specs.Promises.{AllAreConforming};
 ghost use Rattle.swap_commands.specs.Output.{finished};

@@ -6,7 +6,7 @@ ghost use Rattle.party_wallet.specs.Wallets.{wallets_of};
 ghost use Rattle.offer_header.specs.Names.{AreNames, has_strategy};
 ghost use Rattle.swap_offer.specs.Job.{IsWhole};
 ghost use Rattle.swap_offer.specs.Wallets.{HaveScripts, HaveWallets};
-ghost use Rattle.swap_world.specs.Staff.{AreHeld};
+ghost use Rattle.swap_world.specs.Actors.{AreHeld};
 ghost use Rattle.swap_commands.specs.Entered.{CanRace, HasEntered};
 ghost use Rattle.swap_commands.specs.Input.{Ends, Stops, fresh};
 ghost use Rattle.swap_commands.specs.Replay.{IsEntered};

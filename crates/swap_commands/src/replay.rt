@@ -11,7 +11,7 @@ ghost use Rattle.swap_offer.specs.Wallets.{HaveScripts, HaveWallets};
 ghost use Rattle.swap_run.specs.Asked.{Answers};
 ghost use Rattle.swap_world.specs.Cast.{cast_of};
 ghost use Rattle.swap_world.specs.Gone.{HasAsked};
-ghost use Rattle.swap_world.specs.Staff.{AreHeld};
+ghost use Rattle.swap_world.specs.Actors.{AreHeld};
 ghost use Rattle.swap_world.specs.Value.{Continues, new_world};
 ghost use Rattle.swap_commands.specs.Input.{Ends, EndsAt, Stops, ahead, limit};
 ghost use Rattle.swap_commands.specs.Output.{cast_by};

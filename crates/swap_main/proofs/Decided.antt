@@ -30,7 +30,7 @@ use Rattle.swap_offer.specs.Job.{job_of}
 use Rattle.swap_offer.specs.Lines.{lines_of, filled_lines}
 use Rattle.audit_command.specs.Output.{Written}
 use Rattle.swap_main.specs.Laws.{SameWithoutStrategies, RulesDecide}
-use Rattle.swap_main.specs.Staff.{by_rule}
+use Rattle.swap_main.specs.Known.{by_rule}
 use Rattle.swap_main.proofs.ManyTexts.{one_text}
 use Rattle.swap_commands.specs.Output.{AreGiven, Chance, cast_by, finished, output_by, output_for, reported, state_of}
 use Rattle.swap_commands.specs.declared.words.Command.TheVariants.{OfJob, Audit, Clear, Many}

@@ -20,7 +20,7 @@ use Rattle.swap_commands.specs.Output.{Chance}
 use Rattle.swap_commands.specs.Promised.{AsPromised}
 use Rattle.swap_commands.specs.Entered.{Obeys}
 use Rattle.swap_commands.specs.Says.{HasOutput, Says}
-use Rattle.swap_main.specs.Staff.{is_known}
+use Rattle.swap_main.specs.Known.{is_known}
 use Rattle.swap_commands.specs.declared.staff.Obeyed.{Obeyed}
 use Rattle.swap_commands.specs.declared.staff.Obeyed.TheVariants.{Ended, Entered}
 use Rattle.swap_commands.specs.declared.words.Command.{Command}

@@ -13,7 +13,7 @@ use Rattle.audit_command.specs.Output.{Written}
 use Rattle.swap_commands.specs.Output.{Chance, output_by}
 use Rattle.swap_commands.specs.Words.{is_race}
 use Rattle.swap_commands.specs.Promised.{AsPromised}
-use Rattle.swap_main.specs.Staff.{by_rule}
+use Rattle.swap_main.specs.Known.{by_rule}
 use Rattle.swap_commands.specs.declared.words.Command.{Command}
 use Rattle.swap_commands.specs.declared.words.Command.TheVariants.{OfJob}
 use Rattle.swap_commands.specs.declared.words.JobCommand.TheVariants.{Run}

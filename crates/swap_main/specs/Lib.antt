@@ -2,4 +2,4 @@ pub mod Top
 pub mod Answer
 pub mod Exit
 pub mod Laws
-pub mod Staff
+pub mod Known

@@ -5,7 +5,7 @@ ghost use Rattle.deviators.specs.Rules.{silent, greedy, replayer, spoiler};
 ghost use Rattle.deviators.specs.View.{IsView, MayAnswer};
 ghost use Rattle.deviators.specs.Program.{program_rule};
 ghost use Rattle.swap_commands.specs.Entered.{Obeys};
-ghost use Rattle.swap_main.specs.Staff.{by_rule, is_known};
+ghost use Rattle.swap_main.specs.Known.{by_rule, is_known};
 
 use deviators::{
     Rule, Strategies, greedy_rule, program_kit, replayer_rule, silent_rule, spoiler_rule,

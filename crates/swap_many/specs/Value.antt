@@ -6,7 +6,7 @@ use Rattle.swap_digraph.specs.declared.deal.Version.TheVariants.{One}
 use Rattle.swap_run.specs.Asked.{Answers}
 use Rattle.swap_world.specs.Value.{WorldState, cast_at, cast_for, Continues}
 use Rattle.swap_world.specs.Gone.{Gives, HasAsked}
-use Rattle.swap_world.specs.Staff.{AreHeld}
+use Rattle.swap_world.specs.Actors.{AreHeld}
 use Rattle.swap_many.specs.declared.place.Place.{Place}
 use Rattle.swap_many.specs.Accounts.{ChainState, units_in}
 use Rattle.swap_many.specs.Chains.{Setup, in_accounts, opening, placed}

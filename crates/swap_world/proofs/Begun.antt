@@ -20,13 +20,13 @@ use Rattle.swap_run.specs.Laws.{IsReadyCast, IsGood}
 use Rattle.swap_run.proofs.Good.{start_is_good}
 use Rattle.swap_world.specs.Cast.{cast_with, cast_of}
 use Rattle.swap_world.specs.Value.{WorldState, new_world}
-use Rattle.swap_world.specs.Staff.{actors_of, world_of, HaveRoles, HaveSeeds}
+use Rattle.swap_world.specs.Actors.{actors_of, world_of, HaveRoles, HaveSeeds}
 use Rattle.swap_world.specs.Acting.{histories}
 use Rattle.swap_world.specs.Journals.{IsFirstJournal, IsSomeJournal, AreFirstJournals, AreJournalsOf}
 use Rattle.swap_world.specs.Inside.{notes_in, plan_in, AreNewLedgers, HaveRoom, AreLedgersOf, AreActorsOf}
 use Rattle.swap_world.specs.declared.actor.Actor.{Actor}
 use Rattle.swap_world.specs.declared.actor.Actor.TheVariants.{Conforming}
-use Rattle.swap_world.specs.declared.staff.WrongWallet.{WrongWallet}
+use Rattle.swap_world.specs.declared.actors.WrongWallet.{WrongWallet}
 use Rattle.swap_world.proofs.Rooms.{new_histories, new_ledgers_of, new_room}
 use Rattle.swap_world.proofs.States.{state}
 use Rattle.swap_world.proofs.Team.{are_actors, no_notes_yet, first_plans, is_ready}

@@ -22,7 +22,7 @@ use Rattle.swap_run.specs.Steps.{IsAlong}
 use Rattle.swap_run.proofs.Along.{along_start, along_more, along_after, along_step}
 use Rattle.swap_world.specs.Cast.{asks}
 use Rattle.swap_world.specs.Value.{WorldState, cast_at, cast_for, Continues}
-use Rattle.swap_world.specs.Staff.{AreHeld}
+use Rattle.swap_world.specs.Actors.{AreHeld}
 use Rattle.swap_world.specs.Gone.{Gives, Answered, MayCome, HasAsked, HasGone, IsCutBy, IsCut}
 use Rattle.swap_world.specs.On.{told_in, told_of_call}
 use Rattle.swap_world.specs.declared.told.Told.{Told}

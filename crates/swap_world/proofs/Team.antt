@@ -26,11 +26,11 @@ use Rattle.party_machine.specs.Machine.{new_machine}
 use Rattle.party_machine.proofs.Good.{fitting_is_good}
 use Rattle.swap_world.specs.Cast.{cast_of, is_conforming, wallet_with}
 use Rattle.swap_world.specs.Value.{WorldState, new_world}
-use Rattle.swap_world.specs.Staff.{role_in, by_role, by_lock, with_seed, actor_of, actor_step, actors_of, world_of, IsHeld, AreHeld, HaveRoles, HaveSeeds}
+use Rattle.swap_world.specs.Actors.{role_in, by_role, by_lock, with_seed, actor_of, actor_step, actors_of, world_of, IsHeld, AreHeld, HaveRoles, HaveSeeds}
 use Rattle.swap_world.specs.Inside.{notes_in, plan_in, IsActorOf, AreActorsOf}
 use Rattle.swap_world.specs.declared.actor.Actor.{Actor}
 use Rattle.swap_world.specs.declared.actor.Actor.TheVariants.{Conforming, Manual}
-use Rattle.swap_world.specs.declared.staff.WrongWallet.{WrongWallet}
+use Rattle.swap_world.specs.declared.actors.WrongWallet.{WrongWallet}
 
 -- The loop over the parties.
 

@@ -2,7 +2,7 @@ pub mod Cast
 pub mod Value
 pub mod Gone
 pub mod On
-pub mod Staff
+pub mod Actors
 pub mod Stopped
 pub mod Acting
 pub mod Near

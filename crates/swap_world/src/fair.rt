@@ -8,7 +8,7 @@ ghost use Rattle.swap_run.specs.Fair.{the_horizon, tick_low, ticks, turn, turns}
 ghost use Rattle.swap_run.specs.Steps.{finish_steps, look_steps, low_step, pass_steps, round_steps, rounds_steps, tick_steps, turn_steps, turns_steps};
 ghost use Rattle.swap_world.specs.Value.{cast_at};
 ghost use Rattle.swap_world.specs.Gone.{HasGone};
-ghost use Rattle.swap_world.specs.Staff.{AreHeld};
+ghost use Rattle.swap_world.specs.Actors.{AreHeld};
 ghost use Rattle.swap_world.specs.Near.{all_adjacent};
 ghost use Rattle.swap_world.specs.Stopped.{IsStopped};
 

@@ -4,18 +4,18 @@
 #![tactic(auto)]
 
 mod actor;
+mod actors;
 mod chain;
 mod fair;
 mod journals;
 mod many;
 mod near;
 mod quiet;
-mod staff;
 mod told;
 mod turn;
 mod world;
 
+pub use actors::{WorldFault, WrongWallet};
 pub use near::arcs_by_party;
-pub use staff::{WorldFault, WrongWallet};
 pub use told::Told;
 pub use world::World;

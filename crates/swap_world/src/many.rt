@@ -4,7 +4,7 @@ ghost use Rattle.std.specs.Prelude.{OnOk, OnErr, All};
 ghost use Rattle.swap_job.specs.Step.{CanStep};
 ghost use Rattle.swap_run.specs.Run.{run_from};
 ghost use Rattle.swap_world.specs.Gone.{HasGone};
-ghost use Rattle.swap_world.specs.Staff.{AreHeld};
+ghost use Rattle.swap_world.specs.Actors.{AreHeld};
 ghost use Rattle.swap_world.specs.Stopped.{IsAfterSome, IsStopped};
 
 use crate::world::World;

@@ -34,12 +34,12 @@ ghost use Rattle.swap_world.specs.Near.{all_adjacent};
 ghost use Rattle.swap_world.specs.Quiet.{IsStill};
 ghost use Rattle.swap_world.specs.Gone.{HasGone, IsCut};
 ghost use Rattle.swap_world.specs.On.{swept_in, told_in, ticked_on, IsCutOn};
-ghost use Rattle.swap_world.specs.Staff.{world_of, AreHeld, HaveRoles, HaveSeeds};
+ghost use Rattle.swap_world.specs.Actors.{world_of, AreHeld, HaveRoles, HaveSeeds};
 ghost use Rattle.swap_world.specs.Inside.{AreNewLedgers};
 
 use crate::actor::Actor;
+use crate::actors::{WorldFault, actors_of};
 use crate::journals::journals_of;
-use crate::staff::{WorldFault, actors_of};
 use crate::told::Told;
 use crate::{chain, fair, journals, many, quiet, turn};
 use deviators::Strategies;

@@ -7,7 +7,7 @@ use Rattle.swap_job.specs.declared.job.Role.{Role}
 use Rattle.swap_job.specs.declared.job.Role.TheVariants as kinds
 use Rattle.swap_run.specs.Run.{script_of}
 use Rattle.swap_world.specs.Cast.{is_conforming}
-use Rattle.swap_world.specs.Staff.{role_in, AreHeld, HaveRoles, IsHeld}
+use Rattle.swap_world.specs.Actors.{role_in, AreHeld, HaveRoles, IsHeld}
 use Rattle.offer_header.specs.Limits.{conforms, HoldsEach, IsHeld as IsHeldIn}
 use Rattle.offer_header.specs.Scripts.{script_of as script_in}
 use Rattle.swap_offer.specs.Job.{IsWhole}

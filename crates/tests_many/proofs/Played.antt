@@ -10,7 +10,7 @@ use Rattle.swap_job.specs.Step.{CanStep, IsEventOf}
 use Rattle.swap_run.specs.Run.{Cast}
 use Rattle.swap_run.specs.CalledLaws.{is_no_tick}
 use Rattle.swap_world.specs.Cast.{cast_of}
-use Rattle.swap_world.specs.Staff.{AreHeld}
+use Rattle.swap_world.specs.Actors.{AreHeld}
 use Rattle.swap_world.specs.Value.{WorldState, cast_at, new_world}
 use Rattle.swap_world.specs.Gone.{Gives}
 use Rattle.swap_world.proofs.Idle.{any_default}

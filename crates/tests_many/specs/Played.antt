@@ -4,7 +4,7 @@ use Rattle.swap_job.specs.declared.job.Job.{Job}
 use Rattle.offer_events.specs.Event.{needs_seeds}
 use Rattle.swap_offer.specs.Job.{IsWhole}
 use Rattle.swap_world.specs.Cast.{cast_of}
-use Rattle.swap_world.specs.Staff.{AreHeld}
+use Rattle.swap_world.specs.Actors.{AreHeld}
 use Rattle.swap_world.specs.Value.{WorldState, new_world}
 use Rattle.swap_many.specs.declared.place.Place.{Place}
 use Rattle.swap_many.specs.declared.many_event.ManyEvent.{ManyEvent}

@@ -4,7 +4,7 @@ use Rattle.swap_rules.specs.Laws.{IsDealt}
 use Rattle.swap_run.specs.Run.{Cast, conforms, start}
 use Rattle.outcome_rules.specs.Report.{conforms_in}
 use Rattle.swap_world.specs.Gone.{HasGone}
-use Rattle.swap_world.specs.Staff.{AreHeld}
+use Rattle.swap_world.specs.Actors.{AreHeld}
 use Rattle.swap_world.proofs.Ledgers.{on_ok}
 use Rattle.swap_commands.specs.Output.{finished}
 use Rattle.swap_commands.specs.Replay.{IsOf}

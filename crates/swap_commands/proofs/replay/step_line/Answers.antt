@@ -1,6 +1,6 @@
 use Rattle.std.proofs.Common.{sym, subst}
 use Rattle.swap_world.proofs.Gone.{continues_less}
-use Rattle.swap_world.specs.Staff.{AreHeld}
+use Rattle.swap_world.specs.Actors.{AreHeld}
 use Rattle.swap_commands.proofs.Replays.{goes_on_still, is_of_still, stepped}
 use Rattle.swap_commands.proofs.replay.step_line.Goals as goal
 

@@ -1,7 +1,7 @@
 use Rattle.std.proofs.Common.{ℕ, List, Bool, subst}
 use Rattle.deviators.specs.Program.{program_rule}
 use Rattle.swap_commands.specs.Entered.{Obeys}
-use Rattle.swap_main.specs.Staff.{by_rule}
+use Rattle.swap_main.specs.Known.{by_rule}
 use Rattle.swap_main.proofs.Staffing.{has_known, obeys_more}
 use Rattle.swap_main.proofs.program.obey_with_kit.Goals as goal
 

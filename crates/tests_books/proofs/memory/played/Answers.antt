@@ -1,7 +1,7 @@
 use Rattle.std.proofs.Common.{ℕ, List, Bool, sym, ap, subst}
 use Rattle.swap_job.specs.declared.job.Role.{Role}
 use Rattle.offer_header.specs.Names.{has_strategy}
-use Rattle.swap_world.specs.Staff.{AreHeld}
+use Rattle.swap_world.specs.Actors.{AreHeld}
 use Rattle.swap_world.specs.Value.{WorldState}
 use Rattle.tests_books.proofs.Acting.{are_held, have_roles}
 use Rattle.tests_books.proofs.memory.played.Goals as goal

@@ -1,5 +1,0 @@
-use Rattle.party_threads.proofs.Staffing.{IsStaffed}
-use Rattle.party_threads.proofs.staff.turns_of.Given as goal
-
-abbrev pub invariant-parties : goal.invariant-parties
-invariant-parties l = IsStaffed l.job l.p l.wallets.items l.turns.items
