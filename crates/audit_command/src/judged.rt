@@ -4,7 +4,6 @@ ghost use Rattle.std.specs.Prelude.{◌≡◌, IfOk};
 ghost use Rattle.swap_base.specs.Fault.{Gives};
 ghost use Rattle.ledger_core.specs.WellFormed.{IsWellFormed};
 ghost use Rattle.transcript_reader.specs.Header.{IsTold};
-ghost use Rattle.transcript_reader.specs.Reading.{Story};
 ghost use Rattle.audit_command.specs.Output.{judged, refused_reply, story};
 ghost use Rattle.audit_command.specs.Promised.{IsSound};
 

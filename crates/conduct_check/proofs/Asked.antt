@@ -1,5 +1,5 @@
 -- What is asked of entries and says nothing of ticks, asked of the calls alone.
-use Rattle.std.proofs.Common.{◌≡◌, ℕ, zero, suc, ◌<◌, Bool, true, false, ◌||◌, List, [], ◌∷◌, length, get_or, count_by, Option, None, refl, sym, ap, ◌∙◌, arith}
+use Rattle.std.proofs.Common.{◌≡◌, ℕ, zero, suc, ◌<◌, Bool, false, List, [], ◌∷◌, length, get_or, count_by, Option, None, sym, ap, ◌∙◌, arith}
 use Rattle.std.specs.List.{list_any}
 use Rattle.swap_base.proofs.Lists.{or_neither}
 use Rattle.ledger_core.specs.declared.entry.Call.{Call}

@@ -1,5 +1,5 @@
 -- When a hashkey is valid, and which of its signatures need no verifying.
-use Rattle.std.proofs.Common.{◌≡◌, ℕ, ◌<◌, ◌==◌, Bool, true, false, cond, not, ◌&&◌, List, [], ◌∷◌, length, get_or, Option, Some, None, is_none, refl}
+use Rattle.std.proofs.Common.{◌≡◌, ℕ, ◌<◌, ◌==◌, true, not, ◌&&◌, List, [], ◌∷◌, length, get_or, Option, Some, None, refl}
 use Rattle.std.proofs.Common.{sym, ap, subst, ◌∙◌, eq-eqb, inl, arith, suc, ◌-◌}
 use Rattle.std.specs.List.{flat_map, list_any}
 use Rattle.swap_base.specs.Lists.{IsIn}
@@ -10,12 +10,10 @@ use Rattle.swap_digraph.specs.declared.deal.Mode.{Mode}
 use Rattle.swap_digraph.specs.declared.deal.Mode.TheVariants.{Timelocks, Hashkeys}
 use Rattle.swap_digraph.specs.declared.deal.Deal.{Deal}
 use Rattle.hashkey_path.specs.declared.hashkey.Hashkey.{Hashkey}
-use Rattle.hashkey_path.specs.declared.hashkey.HashkeyAnswer.{HashkeyAnswer}
-use Rattle.hashkey_path.specs.declared.hashkey.HashkeyAnswer.TheVariants.{Valid, WrongSecret, WrongPath}
-use Rattle.hashkey_path.specs.Hashkey.{same_key, is_wrong_secret, is_wrong_path, is_wrong_signature, wrong_signature, are_signed, of_signatures}
-use Rattle.hashkey_path.specs.Hashkey.{answer_of, is_valid}
+use Rattle.hashkey_path.specs.Hashkey.{same_key, is_wrong_secret, is_wrong_path, is_wrong_signature}
+use Rattle.hashkey_path.specs.Hashkey.{is_valid}
 use Rattle.hashkey_path.specs.Known.{is_last_signed, are_last_signed}
-use Rattle.hashkey_path.proofs.Validity.{are_signed-is_none, bytes_eq_self}
+use Rattle.hashkey_path.proofs.Validity.{bytes_eq_self}
 use Rattle.hashkey_path.proofs.Known.{valid_is_known}
 use Rattle.hash_signature.specs.Signature.{hash_of}
 use Rattle.ledger_core.specs.declared.entry.Entry.{Entry}

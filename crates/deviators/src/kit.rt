@@ -1,7 +1,7 @@
 //! Strategies by their names.
 
 ghost use Rattle.std.specs.Prelude.{◌≡◌, ◌++◌, ◌∷◌, [], ℕ, Bool, true, false, List, Option, Some, Ok, length, is_some, option_copied, OnOk, OnErr};
-ghost use Rattle.std.specs.Prelude.{IfOk, IsSome};
+ghost use Rattle.std.specs.Prelude.{IfOk};
 ghost use Rattle.swap_digraph.specs.declared.deal.Deal.{Deal};
 ghost use Rattle.ledger_core.specs.declared.entry.Call.{Call};
 ghost use Rattle.ledger_core.specs.Book.{Histories};

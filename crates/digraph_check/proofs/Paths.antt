@@ -1,15 +1,10 @@
 -- A walk is shortened to a path of distinct parties, which is no longer than there are parties.
-use Rattle.std.proofs.Common.{◌≡◌, ◌⊎◌, ℕ, zero, suc, ◌<◌, ◌≤◌, ◌==◌, nat_eq, nat_lt, Bool, true, false, not, ◌&&◌, List, [], ◌∷◌, length, refl, sym}
+use Rattle.std.proofs.Common.{◌≡◌, ◌⊎◌, ℕ, zero, suc, ◌<◌, ◌≤◌, ◌==◌, nat_lt, Bool, true, false, not, ◌&&◌, List, [], ◌∷◌, length, refl, sym}
 use Rattle.std.proofs.Common.{ap, subst, inl, inr, arith, eqb-true, eq-eqb, ltb-true}
-use Rattle.std.proofs.lemmas.Bool.{lt-ltb, not-true, eqb-false, ne_eqb}
-use Rattle.std.proofs.lemmas.List.FromFn.{length-range_with_len}
-use Rattle.std.proofs.lemmas.Map.Made.{length-le_from_is_member}
-use Rattle.std.specs.Cmp.{nat_eq_equiv}
-use Rattle.std.specs.List.{IsDistinct, AllByRecursion}
-use Rattle.std.specs.Set.{is_member}
-use Rattle.swap_base.proofs.Lists.{list_any-in, and_parts, and_both, in_range, or_neither}
+use Rattle.std.proofs.lemmas.Bool.{lt-ltb}
+use Rattle.swap_base.proofs.Lists.{and_parts, and_both}
 use Rattle.swap_digraph.specs.Value.{Graph}
-use Rattle.swap_digraph.specs.Graph.{parties, has_arc, is_path, first_is, last_is, is_among, IsPathBetween}
+use Rattle.swap_digraph.specs.Graph.{has_arc, is_path, first_is, last_is, is_among, IsPathBetween}
 use Rattle.swap_digraph.proofs.Paths.{path_length}
 use Rattle.digraph_check.specs.Reach.{reaches_in, reaches}
 use Rattle.digraph_check.proofs.ListTests.{or_split}

@@ -1,9 +1,8 @@
 //! A search from party 0.
 
-ghost use Rattle.std.specs.Prelude.{◌≡◌, ◌<◌, ◌≤◌, ℕ, List, Option, true, false, length, map, filter, not, IsTrue, IfOk, IfSome, IfNone};
-ghost use Rattle.std.specs.List.{list_all, range_with_len};
-ghost use Rattle.swap_digraph.specs.Value.{Graph};
-ghost use Rattle.swap_digraph.specs.Graph.{ends_in, HasEnds};
+ghost use Rattle.std.specs.Prelude.{◌≡◌, ◌<◌, ◌≤◌, ℕ, Option, true, false, length, map, filter, not, IfOk, IfSome, IfNone};
+ghost use Rattle.std.specs.List.{range_with_len};
+ghost use Rattle.swap_digraph.specs.Graph.{HasEnds};
 ghost use Rattle.digraph_check.specs.Reach.{reaches, reversed_ends};
 ghost use Rattle.digraph_check.specs.Tree.{is_entered, IsCrossing, IsSearch, all_entered};
 

@@ -1,5 +1,5 @@
 -- The first answer along the numbers below n, by a walk over them.
-use Rattle.std.proofs.Common.{◌≡◌, ℕ, zero, suc, ◌+◌, ◌<◌, true, false, [], ◌∷◌, ◌++◌, Option, Some, None, is_some, refl, sym, ap, ◌∙◌, arith}
+use Rattle.std.proofs.Common.{◌≡◌, ℕ, zero, suc, ◌+◌, ◌<◌, true, false, [], ◌∷◌, ◌++◌, Option, Some, None, is_some, sym, ap, ◌∙◌, arith}
 use Rattle.std.specs.List.{range_with_len}
 use Rattle.swap_base.specs.Lists.{or_else, first_of}
 use Rattle.swap_base.proofs.Lists.{first_of-append, none_of}

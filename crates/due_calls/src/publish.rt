@@ -6,7 +6,7 @@ ghost use Rattle.swap_digraph.specs.Graph.{leaving};
 ghost use Rattle.swap_digraph.specs.Deal.{IsWellSized};
 ghost use Rattle.swap_rules.specs.Party.{is_ready, leads_one};
 ghost use Rattle.swap_rules.specs.Conduct.{is_publish};
-ghost use Rattle.swap_rules.specs.Due.{due_publishes, first, has_called, is_due_publish};
+ghost use Rattle.swap_rules.specs.Due.{due_publishes, first, has_called};
 ghost use Rattle.ledger_core.specs.Book.{history};
 ghost use Rattle.due_calls.specs.Known.{AreMadeFor};
 ghost use Rattle.due_calls.specs.Publish.{publish_on};

@@ -1,6 +1,6 @@
 //! What is read of publishes.
 
-ghost use Rattle.std.specs.Prelude.{◌≡◌, ◌<◌, map, length};
+ghost use Rattle.std.specs.Prelude.{◌≡◌, ◌<◌, map};
 ghost use Rattle.swap_digraph.specs.Deal.{IsWellSized};
 ghost use Rattle.swap_rules.specs.Party.{is_correct, is_good, is_ready, leads_one};
 ghost use Rattle.ledger_core.specs.Book.{history};

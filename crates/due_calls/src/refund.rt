@@ -6,7 +6,7 @@ ghost use Rattle.swap_digraph.specs.Graph.{leaving};
 ghost use Rattle.swap_digraph.specs.Deal.{IsWellSized};
 ghost use Rattle.swap_rules.specs.Due.{due_refunds, first, has_called, is_due_refund, is_refunding};
 ghost use Rattle.ledger_core.specs.Book.{history};
-ghost use Rattle.ledger_core.specs.History.{height, published, settled};
+ghost use Rattle.ledger_core.specs.History.{published, settled};
 ghost use Rattle.due_calls.specs.Known.{AreMadeFor};
 ghost use Rattle.due_calls.specs.Settling.{refund_on};
 

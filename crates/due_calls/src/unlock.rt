@@ -1,6 +1,6 @@
 //! The unlock that is due.
 
-ghost use Rattle.std.specs.Prelude.{◌≡◌, ◌<◌, [], ℕ, None, IfSome, is_some, map, length};
+ghost use Rattle.std.specs.Prelude.{◌≡◌, ◌<◌, [], None, IfSome, is_some, map, length};
 ghost use Rattle.swap_base.specs.Lists.{first_of};
 ghost use Rattle.swap_digraph.specs.Graph.{is_among};
 ghost use Rattle.swap_digraph.specs.Deal.{locks, IsWellSized};

@@ -1,6 +1,6 @@
 //! Parts of the table of replies that are decided over several lines.
 
-ghost use Rattle.std.specs.Prelude.{◌≡◌, ◌≤◌, ◌<◌, length, not, IfSome, IsTrue};
+ghost use Rattle.std.specs.Prelude.{◌≡◌, ◌<◌, length, not, IfSome, IsTrue};
 ghost use Rattle.std.specs.List.{position_from};
 ghost use Rattle.swap_digraph.specs.Deal.{IsWellSized};
 ghost use Rattle.hashkey_path.specs.Known.{is_last_signed};

@@ -1,7 +1,6 @@
 //! The times of a contract, which come from its own terms.
 
 ghost use Rattle.std.specs.Prelude.{◌≡◌, ◌≤◌, ◌<◌, ◌^◌, false, length, slice_index_or};
-ghost use Rattle.swap_digraph.specs.Graph.{arcs_of};
 ghost use Rattle.escrow_core.specs.Terms.{expiry_in, is_own, last_in, refund_expiry};
 ghost use Rattle.escrow_core.specs.Value.{AreFitting};
 ghost use Rattle.escrow_core.specs.Parts.{lesser};

@@ -7,16 +7,14 @@ use Rattle.std.specs.Int.{w32, w64, to_be_bytes, from_be_bytes}
 use Rattle.std.specs.List.{flat_map, range_with_len}
 use Rattle.std.specs.Prelude.{All}
 use Rattle.swap_base.specs.Text.{joined}
-use Rattle.swap_digraph.specs.declared.arc_ends.ArcEnds.{ArcEnds}
 use Rattle.swap_digraph.specs.declared.deal.Deal.{Deal}
 use Rattle.swap_digraph.specs.declared.deal.Mode.{Mode}
 use Rattle.swap_digraph.specs.declared.deal.Mode.TheVariants.{Timelocks, Hashkeys}
 use Rattle.swap_digraph.specs.declared.deal.Version.{Version}
 use Rattle.swap_digraph.specs.declared.deal.Version.TheVariants.{One, Two}
-use Rattle.swap_digraph.specs.Value.{Graph}
 use Rattle.swap_digraph.specs.Graph.{arcs, ends}
 use Rattle.swap_digraph.specs.Deal.{party, counterparty, amount, HasKeys, IsWellSized}
-use Rattle.hashkey_path.specs.Digest.{version_byte, mode_byte, head_bytes, arc_bytes, leader_bytes, time_bytes, key_bytes, deal_bytes}
+use Rattle.hashkey_path.specs.Digest.{version_byte, mode_byte, head_bytes, arc_bytes, leader_bytes, key_bytes, deal_bytes}
 use Rattle.hashkey_path.specs.Law.{AreDigests, IsWritten, DealBytesTellApart}
 
 -- Fronts of equal lengths.

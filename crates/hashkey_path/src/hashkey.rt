@@ -1,7 +1,5 @@
 //! A hashkey.
 
-ghost use Rattle.std.specs.Prelude.{◌≡◌};
-
 use hash_signature::Sig;
 use swap_base::{Digest, Listed, LockId, NoMemory, TryCopy};
 use swap_digraph::PathList;

@@ -1,10 +1,8 @@
 -- Entries that an index takes a part at a time.
-use Rattle.std.proofs.Common.{◌≡◌, ℕ, ◌+◌, List, [], ◌∷◌, ◌++◌, length, refl, sym, ap, ◌∙◌, subst, arith, append_assoc, append-nil, length-append}
+use Rattle.std.proofs.Common.{◌≡◌, ℕ, ◌+◌, List, [], ◌++◌, length, sym, ap, ◌∙◌, subst, append_assoc, append-nil}
 use Rattle.ledger_core.specs.declared.entry.Entry.{Entry}
-use Rattle.ledger_core.specs.declared.runs.Item.{Item}
-use Rattle.ledger_core.specs.declared.runs.Item.TheVariants.{One, Ticks}
 use Rattle.ledger_core.specs.declared.runs.Run.{Run}
-use Rattle.ledger_core.specs.Runs.{ticks_of, entries_of, expand}
+use Rattle.ledger_core.specs.Runs.{ticks_of}
 use Rattle.ledger_core.proofs.Ticks.{length_ticks}
 use Rattle.history_index.specs.Value.{IndexState, IsSameArc}
 use Rattle.history_index.specs.Numbers.{IsIndexable}

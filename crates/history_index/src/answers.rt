@@ -1,9 +1,8 @@
 //! The answers over a list of entries, and what one more entry makes of them.
 
-ghost use Rattle.std.specs.Prelude.{◌≡◌, ◌+◌, ◌<◌, ◌^◌, IsTrue, length, is_some, option_map, if◌then◌else◌};
+ghost use Rattle.std.specs.Prelude.{◌≡◌, ◌+◌, ◌<◌, ◌^◌, IsTrue, length, is_some, if◌then◌else◌};
 ghost use Rattle.escrow_core.specs.declared.terms.Terms.{Terms};
-ghost use Rattle.ledger_core.specs.History.{ticks_in, accepted, publication, settling};
-ghost use Rattle.ledger_core.specs.Facts.{shown_as};
+ghost use Rattle.ledger_core.specs.History.{ticks_in, accepted, publication};
 ghost use Rattle.history_index.specs.Numbers.{names_lock};
 ghost use Rattle.history_index.specs.Kept.{answers_after, no_answers, with_opening};
 

@@ -1,6 +1,6 @@
 //! One of the arc's two parties.
 
-ghost use Rattle.std.specs.Prelude.{◌≡◌, ◌<◌, ◌≤◌, ◌+◌, [], IsTrue, length, vec_capacity};
+ghost use Rattle.std.specs.Prelude.{◌≡◌, ◌<◌, ◌≤◌, [], IsTrue, length, vec_capacity};
 ghost use Rattle.ledger_core.specs.History.{sent_by};
 ghost use Rattle.history_index.specs.Numbers.{names_lock};
 ghost use Rattle.history_index.specs.Kept.{no_kinds, numbers_after, kinds_after};

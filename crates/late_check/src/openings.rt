@@ -1,7 +1,6 @@
 //! How a lock was opened on an arc.
 
 ghost use Rattle.std.specs.Prelude.{◌≡◌, ◌<◌, length, option_copied, option_map};
-ghost use Rattle.swap_base.specs.Lists.{first_of};
 ghost use Rattle.swap_digraph.specs.Deal.{IsWellSized};
 ghost use Rattle.ledger_core.specs.Book.{history};
 ghost use Rattle.ledger_core.specs.History.{opened};

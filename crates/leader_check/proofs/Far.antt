@@ -3,10 +3,10 @@ use Rattle.std.proofs.Common.{◌≡◌, ◌⊎◌, ℕ, suc, zero, ◌+◌, ◌
 use Rattle.std.proofs.Common.{sym, ap, ◌∙◌, subst, inl, inr, arith, eqb-true, eq-eqb, lt-ltb}
 use Rattle.std.proofs.lemmas.Bool.{false≢true}
 use Rattle.swap_base.specs.Lists.{IsIn, greatest}
-use Rattle.swap_base.proofs.Lists.{and_parts, and_both, greatest-in, greatest-below}
+use Rattle.swap_base.proofs.Lists.{and_both, greatest-in, greatest-below}
 use Rattle.swap_digraph.specs.declared.arc_ends.ArcEnds.{ArcEnds}
 use Rattle.swap_digraph.specs.Value.{Graph}
-use Rattle.swap_digraph.specs.Graph.{is_path, has_arc, is_among, first_is, last_is, arcs_of, are_followers, IsPathBetween, IsStronglyConnected}
+use Rattle.swap_digraph.specs.Graph.{is_path, has_arc, is_among, last_is, arcs_of, are_followers, IsPathBetween, IsStronglyConnected}
 use Rattle.swap_digraph.specs.Graph.{IsFeedback, IsHeight, IsDist, HasEnds}
 use Rattle.time_bounds.specs.Times.{need}
 use Rattle.leader_check.specs.Followers.{is_follower}

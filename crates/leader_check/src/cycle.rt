@@ -5,9 +5,9 @@ ghost use Rattle.std.specs.Int.{bit_at};
 ghost use Rattle.std.specs.List.{range_with_len};
 ghost use Rattle.swap_base.specs.Lists.{first_of};
 ghost use Rattle.swap_digraph.specs.Graph.{parties, has_arc, HasEnds};
-ghost use Rattle.leader_check.specs.Followers.{is_follower, at};
+ghost use Rattle.leader_check.specs.Followers.{at};
 ghost use Rattle.leader_check.specs.Cycles.{has_bit, has_bit_in, leads_into, first_step, walk_of, cycle_by, cycle_from, follower_cycle};
-ghost use Rattle.leader_check.specs.Cycles.{TellsWalks, TellAllWalks, IsCycleThrough};
+ghost use Rattle.leader_check.specs.Cycles.{TellAllWalks, IsCycleThrough};
 
 use crate::rounds::followers;
 use std::alloc::Global;

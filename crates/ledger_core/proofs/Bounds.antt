@@ -1,6 +1,6 @@
 -- A legal history has few entries, and its height is at most 1,000,000.
 use Rattle.std.proofs.Common.{◌≡◌, ◌≢◌, ℕ, ◌+◌, ◌<◌, ◌≤◌, ◌==◌, nat_lt, nat_le, Bool, true, false, cond, ◌||◌, List, [], ◌∷◌, ◌++◌, length, count_by}
-use Rattle.std.proofs.Common.{refl, sym, ap, ◌∙◌, arith, eqb-true, leb-false, ltb-false, length-append}
+use Rattle.std.proofs.Common.{refl, ap, ◌∙◌, arith, eqb-true, leb-false, ltb-false, length-append}
 use Rattle.std.proofs.lemmas.Bool.{false≢true}
 use Rattle.std.proofs.lemmas.List.Sums.{sum_by_push}
 use Rattle.swap_base.proofs.Lists.{grow, all_moments_front, at_moment, or_neither}

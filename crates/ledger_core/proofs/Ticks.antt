@@ -16,7 +16,7 @@ use Rattle.ledger_core.specs.declared.entry.Entry.{Entry}
 use Rattle.ledger_core.specs.declared.runs.Run.{Run}
 use Rattle.ledger_core.specs.declared.runs.Item.{Item}
 use Rattle.ledger_core.specs.Facts.{is_call}
-use Rattle.ledger_core.specs.History.{ticks_in, height, accounts}
+use Rattle.ledger_core.specs.History.{height, accounts}
 use Rattle.ledger_core.specs.Ledger.{tick_entry}
 use Rattle.ledger_core.specs.Runs.{ticks_above, ticks_of, entries_of, expand, IsRight, IsRightRun}
 use Rattle.ledger_core.proofs.Bounds.{height-push}

@@ -2,7 +2,7 @@
 
 ghost use Rattle.std.specs.Prelude.{◌≡◌, ◌==◌, ◌||◌, ◌<◌, nat_lt, length};
 ghost use Rattle.std.specs.List.{list_all};
-ghost use Rattle.swap_digraph.specs.Deal.{party, counterparty, touches};
+ghost use Rattle.swap_digraph.specs.Deal.{touches};
 ghost use Rattle.ledger_core.specs.History.{fit};
 
 use crate::entry::Call;

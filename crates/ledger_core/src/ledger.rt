@@ -1,8 +1,8 @@
 //! The ledger of one arc.
 
-ghost use Rattle.std.specs.Prelude.{◌≡◌, ◌≢◌, ◌<◌, ◌≤◌, ◌+◌, ◌++◌, ◌==◌, ◌||◌, ◌&&◌, ◌∷◌, [], ℕ, IsTrue, length, drop, is_some, is_none, OnOk, OnErr, IfOk};
+ghost use Rattle.std.specs.Prelude.{◌≡◌, ◌≢◌, ◌<◌, ◌≤◌, ◌+◌, ◌==◌, ◌||◌, ◌&&◌, [], IsTrue, length, drop, is_some, is_none, OnOk, OnErr, IfOk};
 ghost use Rattle.swap_digraph.specs.Deal.{party, counterparty, IsWellSized, touches};
-ghost use Rattle.ledger_core.specs.History.{height, held, balance, accounts, published, settled, fit, is_full, is_clock_full, reply_to, reply_to_tick, IsLegal};
+ghost use Rattle.ledger_core.specs.History.{height, held, balance, accounts, published, settled, fit, is_full, reply_to, reply_to_tick, IsLegal};
 ghost use Rattle.ledger_core.specs.Known.{is_known_in};
 ghost use Rattle.ledger_core.specs.Ledger.{call_entry, tick_entry, IsAfter, AreKept, AddUp};
 

@@ -1,11 +1,11 @@
 //! Answers over a list of entries, by reading it.
 
-ghost use Rattle.std.specs.Prelude.{◌≡◌, ◌<◌, ◌≤◌, ◌+◌, ◌++◌, ◌∷◌, ◌^◌, [], ℕ, List, length, position, is_some, option_map, if◌then◌else◌, false, OnOk};
-ghost use Rattle.std.specs.Prelude.{OnErr, IsOk, IfErr, option_copied};
+ghost use Rattle.std.specs.Prelude.{◌≡◌, ◌<◌, ◌≤◌, ◌+◌, ◌++◌, ◌∷◌, ◌^◌, [], length, position, is_some, option_map, if◌then◌else◌, false, OnOk};
+ghost use Rattle.std.specs.Prelude.{OnErr, IsOk, option_copied};
 ghost use Rattle.swap_digraph.specs.Deal.{IsWellSized};
-ghost use Rattle.escrow_core.specs.Terms.{terms_of, same_terms};
-ghost use Rattle.ledger_core.specs.History.{height, ticks_in, accepted, publication, opening, settling, settled, sent_by};
-ghost use Rattle.ledger_core.specs.Facts.{shown_as, published_as, opened_number, opened_key, is_of_kind, has_call};
+ghost use Rattle.escrow_core.specs.Terms.{terms_of};
+ghost use Rattle.ledger_core.specs.History.{height, ticks_in, accepted, opening, settled, sent_by};
+ghost use Rattle.ledger_core.specs.Facts.{published_as, opened_number, opened_key, is_of_kind, has_call};
 ghost use Rattle.ledger_core.specs.Value.{IsCountable};
 
 use crate::entry::{Call, Entry, Sender, What};

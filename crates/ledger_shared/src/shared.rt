@@ -5,7 +5,7 @@ ghost use mathlib.Core.List.{IsPrefix};
 ghost use Rattle.swap_digraph.specs.Deal.{party, counterparty};
 ghost use Rattle.ledger_core.specs.History.{fit, IsLegal};
 ghost use Rattle.ledger_core.specs.Known.{is_known_in};
-ghost use Rattle.ledger_shared.specs.Value.{made_by, with_seen, clock_with_seen, pass_at, clock_at, IsFirstAt, IsSecondAt, HasCalled, HasTicked, Closes};
+ghost use Rattle.ledger_shared.specs.Value.{made_by, with_seen, pass_at, clock_at, IsFirstAt, IsSecondAt, HasCalled, HasTicked, Closes};
 ghost use Rattle.ledger_shared.specs.Value.{ClosesClock};
 
 use crate::locked::{Called, call_at_end, fresh_in, tick_at_end};

@@ -1,5 +1,5 @@
 -- Lines that are copied one after another.
-use Rattle.std.proofs.Common.{◌≡◌, ◌==◌, ℕ, ◌+◌, Bool, true, false, cond, List, [], ◌∷◌, ◌++◌, fold, drop, codes, Result, Ok, Err, refl, sym, ap, ◌∙◌}
+use Rattle.std.proofs.Common.{◌≡◌, ◌==◌, ℕ, ◌+◌, Bool, true, false, cond, List, [], ◌∷◌, ◌++◌, fold, codes, Result, Ok, Err, refl, sym, ap, ◌∙◌}
 use Rattle.swap_base.specs.Fault.{◌>>=◌, Fails, steps}
 use Rattle.swap_base.specs.Text.{joined}
 use Rattle.swap_base.specs.declared.fault.Fault.{Fault}

@@ -1,5 +1,5 @@
 -- A world of a generated job takes its events.
-use Rattle.std.proofs.Common.{◌≡◌, ℕ, zero, suc, ◌<◌, Bool, true, false, List, [], ◌∷◌, length, drop, map, replicate, Option, Some, None, Ok, is_some}
+use Rattle.std.proofs.Common.{◌≡◌, ℕ, zero, suc, ◌<◌, Bool, true, false, List, [], ◌∷◌, length, map, replicate, Option, Some, None, Ok, is_some}
 use Rattle.std.proofs.Common.{refl, sym, ap, ap₂, ◌∙◌, subst}
 use Rattle.std.specs.List.{list_any}
 use Rattle.std.proofs.lemmas.List.{length-replicate}
@@ -30,7 +30,7 @@ use Rattle.swap_gen.specs.Drawn.{generated, plain_job, plain_deal, seed_of}
 use Rattle.swap_gen.specs.Made.{made_deal}
 use Rattle.swap_gen.specs.Events.{generated_events, GeneratorState}
 use Rattle.swap_gen.specs.Owned.{wallets_in, OwnsKeys}
-use Rattle.made_jobs.specs.Generating.{generated_book, IsOf, StandsAt}
+use Rattle.made_jobs.specs.Generating.{generated_book, IsOf}
 
 pub is_sized : (d : Deal) → IsAccepted d → IsWellSized d
 is_sized d k = accepted_is_well_sized d k

@@ -3,7 +3,7 @@ use Rattle.std.specs.Prelude.{◌≡◌, ◌==◌, ℕ, ◌++◌, ◌-◌, Bool,
 use Rattle.swap_base.specs.Text.{lines}
 use Rattle.ledger_core.specs.Book.{Histories}
 use Rattle.swap_job.specs.declared.job.Job.{Job}
-use Rattle.swap_run.specs.Run.{State, run}
+use Rattle.swap_run.specs.Run.{run}
 use Rattle.swap_run.specs.Fair.{finish}
 use Rattle.swap_world.specs.Cast.{cast_of}
 use Rattle.swap_world.specs.Value.{WorldState}

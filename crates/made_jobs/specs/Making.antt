@@ -1,5 +1,5 @@
 -- What is written of a plain job: the header line of the job that is made of it, and the further lines as they are.
-use Rattle.std.specs.Prelude.{◌≡◌, ℕ, Bool, ◌<◌, ◌++◌, List, ◌∷◌, [], codes, drop, fold, Result, Ok}
+use Rattle.std.specs.Prelude.{ℕ, Bool, ◌<◌, ◌++◌, List, ◌∷◌, [], codes, drop, fold, Result, Ok}
 use Rattle.swap_base.specs.Fault.{◌>>=◌, steps}
 use Rattle.swap_base.specs.Text.{joined}
 use Rattle.swap_rules.specs.Accepted.{IsAccepted}

@@ -1,5 +1,5 @@
 -- The summary of a job's run: how large it was, and what it came to. Every number is in decimal.
-use Rattle.std.specs.Prelude.{ℕ, Bool, false, List, [], ◌∷◌, codes, decimal, length, map, slice_index_or}
+use Rattle.std.specs.Prelude.{ℕ, false, List, [], ◌∷◌, codes, decimal, length, map, slice_index_or}
 use Rattle.std.specs.List.{range_with_len}
 use Rattle.swap_base.specs.Text.{joined}
 use Rattle.swap_digraph.specs.declared.deal.Deal.{Deal as DealOf}

@@ -1,6 +1,6 @@
 //! What is written of a plain job.
 
-ghost use Rattle.std.specs.Prelude.{◌≡◌, ◌≤◌, ℕ, IfOk, IfErr, OnOk};
+ghost use Rattle.std.specs.Prelude.{◌≡◌, ◌≤◌, IfOk, IfErr, OnOk};
 ghost use Rattle.swap_base.specs.Fault.{Gives, IsNoMemory};
 ghost use Rattle.proposed_deal.specs.Proposed.{HaveSeeds, IsProposed};
 ghost use Rattle.offer_header.specs.Names.{AreNames};

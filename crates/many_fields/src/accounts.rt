@@ -4,7 +4,7 @@ ghost use Rattle.std.specs.Prelude.{◌≡◌, IfOk, OnOk};
 ghost use Rattle.std.specs.List.{list_any};
 ghost use Rattle.std.specs.Str.{bytes_eq};
 ghost use Rattle.swap_base.specs.Fault.{Gives};
-ghost use Rattle.many_fields.specs.Fields.{account_added, accounts_of, accounts_on, is_new_name, may_add};
+ghost use Rattle.many_fields.specs.Fields.{account_added, accounts_of, accounts_on, may_add};
 ghost use Rattle.many_fields.specs.Whole.{AreFew, IsChain};
 
 use crate::number::units_in;

@@ -1,5 +1,5 @@
 -- A reader of fields that fails still fails with the line.
-use Rattle.std.proofs.Common.{◌≡◌, ℕ, Bool, true, false, List, Result, Ok, Err, refl}
+use Rattle.std.proofs.Common.{◌≡◌, ℕ, Bool, true, false, List, Result, Ok, refl}
 use Rattle.swap_base.specs.Fault.{Fails}
 use Rattle.swap_base.specs.declared.fault.Fault.{Fault}
 use Rattle.swap_base.specs.declared.fault.Fault.TheVariants.{Refused, NoMemory}

@@ -9,7 +9,6 @@ ghost use Rattle.many_lines.specs.Heading.{finish_told, with_swap};
 ghost use Rattle.many_lines.specs.Whole.{AreChains, AreSwaps, HoldsEverySwap, IsSwap};
 ghost use Rattle.many_fields.specs.Whole.{AreBelow};
 ghost use Rattle.swap_offer.specs.Wallets.{wallets_for};
-ghost use Rattle.transcript_lines.specs.Between.{parts_at};
 
 use crate::fault::{bad, by_field};
 use crate::many_job::ManyJob;

@@ -5,7 +5,7 @@ ghost use Rattle.swap_base.specs.Fault.{Gives};
 ghost use Rattle.swap_digraph.specs.Graph.{ends};
 ghost use Rattle.refusals.specs.Words.{name_at};
 ghost use Rattle.swap_offer.specs.Job.{IsWhole};
-ghost use Rattle.many_lines.specs.Places.{account_of, arc_places, job_at, place_by, place_of, place_on, places_of};
+ghost use Rattle.many_lines.specs.Places.{account_of, arc_places, place_by, place_of, place_on, places_of};
 ghost use Rattle.many_lines.specs.Whole.{AreChains, ArePlaced, AreSwaps};
 
 use crate::many_job::ManyJob;

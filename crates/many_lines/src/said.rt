@@ -2,7 +2,7 @@
 
 ghost use Rattle.std.specs.Prelude.{◌<◌, ◌≤◌, [], ℕ, length, slice_index_or, IfOk};
 ghost use Rattle.swap_base.specs.Fault.{Gives};
-ghost use Rattle.transcript_lines.specs.Reading.{first_field, number_below};
+ghost use Rattle.transcript_lines.specs.Reading.{number_below};
 ghost use Rattle.many_fields.specs.Fields.{accounts_of, chains_of, finish_of, payment_of, sweep_of, tick_of};
 ghost use Rattle.many_fields.specs.Whole.{AreBelow, IsChain};
 ghost use Rattle.many_lines.specs.Heading.{by_fields};

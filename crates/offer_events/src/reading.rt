@@ -1,6 +1,5 @@
 //! The fields of an event line, in the order in which they are examined.
 
-ghost use Rattle.std.specs.Prelude.{◌≡◌, ℕ, List};
 ghost use Rattle.serde_json.specs.View.{view};
 ghost use Rattle.swap_base.specs.Fault.{Gives};
 ghost use Rattle.offer_events.specs.Reading.{tick_at, look_at, act_at, call_at, crash_at, event_at};

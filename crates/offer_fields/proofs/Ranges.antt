@@ -1,10 +1,9 @@
 -- Numbers that were read are in their ranges.
-use Rattle.std.proofs.Common.{◌≡◌, ℕ, ◌<◌, ◌≤◌, ◌&&◌, Bool, true, false, cond, length, List, [], Option, Some, None, Result, Ok, Err, refl, sym, arith}
+use Rattle.std.proofs.Common.{◌≡◌, ℕ, ◌<◌, ◌≤◌, ◌&&◌, Bool, true, false, cond, length, List, [], Option, Some, None, Ok, Err, refl, sym, arith}
 use Rattle.std.specs.Prelude.{position, nat_le}
 use Rattle.std.specs.Str.{bytes_eq}
 use Rattle.std.proofs.lemmas.Bool.{leb-true}
 use Rattle.std.proofs.lemmas.List.Quantifiers.{position-Some}
-use Rattle.swap_base.specs.Fault.{◌>>=◌}
 use Rattle.swap_base.proofs.Lists.{and_parts}
 use Rattle.refusals.specs.declared.reason.Reason.TheVariants.{OverLimit}
 use Rattle.offer_fields.specs.Limits.{number_within, within}

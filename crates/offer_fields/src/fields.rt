@@ -1,6 +1,6 @@
 //! The fields of an object.
 
-ghost use Rattle.std.specs.Prelude.{◌≡◌, ℕ, List, Result, map, option_map};
+ghost use Rattle.std.specs.Prelude.{◌≡◌, ℕ, Result, map, option_map};
 ghost use Rattle.std.specs.List.{list_any};
 ghost use Rattle.std.specs.Str.{bytes_eq};
 ghost use Rattle.serde_json.specs.View.{view, items_view, members_view};

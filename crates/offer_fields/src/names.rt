@@ -1,6 +1,6 @@
 //! Names by their numbers.
 
-ghost use Rattle.std.specs.Prelude.{◌≡◌, ◌<◌, ◌≤◌, ℕ, List, length, position, IfOk};
+ghost use Rattle.std.specs.Prelude.{◌≡◌, ◌<◌, ◌≤◌, length, position, IfOk};
 ghost use Rattle.std.specs.Str.{bytes_eq};
 ghost use Rattle.swap_base.specs.Fault.{Gives};
 ghost use Rattle.offer_fields.specs.Names.{party_of_name};

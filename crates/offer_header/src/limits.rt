@@ -1,12 +1,12 @@
 //! The limits of a header's numbers and lists, and its digests.
 
-ghost use Rattle.std.specs.Prelude.{◌≡◌, ◌<◌, ◌≤◌, ◌^◌, [], ℕ, List, Result, map, length, slice_index, IfOk};
+ghost use Rattle.std.specs.Prelude.{◌≡◌, ◌<◌, ◌≤◌, ℕ, Result, map, length, IfOk};
 ghost use Rattle.swap_base.specs.Fault.{Gives};
 ghost use Rattle.refusals.specs.declared.reason.Reason.{Reason};
 ghost use Rattle.offer_fields.specs.Lists.{each_of};
 ghost use Rattle.offer_moves.specs.Moves.{move_of};
 ghost use Rattle.offer_header.specs.Limits.{seed_of, script_role, role_of, acting_of, parties_of, conforms, sizes_in, terms_of, all_terms_of, arc_ends};
-ghost use Rattle.offer_header.specs.Limits.{hashlock_of, no_digest, no_digests, hashlocks_by};
+ghost use Rattle.offer_header.specs.Limits.{hashlock_of, no_digests, hashlocks_by};
 ghost use Rattle.offer_header.specs.Limits.{hashlocks_of, key_of, party_keys_of, stated_keys_of, keys_by, keys_of, header_with, parts_of, limited_of};
 ghost use Rattle.offer_header.specs.Names.{AreEnds, AreLeaders, IsNumbered};
 

@@ -1,7 +1,6 @@
 //! The names of a header, and the numbers that stand for them.
 
-ghost use Rattle.std.specs.Prelude.{◌≡◌, ◌<◌, ◌≤◌, [], ℕ, List, map, length, position, IfOk, OnOk};
-ghost use Rattle.std.specs.Str.{bytes_eq};
+ghost use Rattle.std.specs.Prelude.{◌≡◌, ◌<◌, [], List, map, IfOk, OnOk};
 ghost use Rattle.std.specs.List.{list_all};
 ghost use Rattle.swap_base.specs.Fault.{Gives, steps};
 ghost use Rattle.offer_fields.specs.Lists.{each_of};

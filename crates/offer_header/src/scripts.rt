@@ -1,6 +1,6 @@
 //! Where the moves of a header's scripts stand.
 
-ghost use Rattle.std.specs.Prelude.{◌≡◌, ◌≤◌, ℕ, List, length, All};
+ghost use Rattle.std.specs.Prelude.{◌≤◌, length, All};
 ghost use Rattle.swap_base.specs.Fault.{Gives, steps};
 ghost use Rattle.offer_moves.specs.Kept.{CanStand};
 ghost use Rattle.offer_moves.specs.Placed.{placed};

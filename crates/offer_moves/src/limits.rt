@@ -1,6 +1,6 @@
 //! Numbers in their ranges, and values in hexadecimal.
 
-ghost use Rattle.std.specs.Prelude.{◌≡◌, ◌<◌, ◌≤◌, ◌^◌, ℕ, List, length, codes};
+ghost use Rattle.std.specs.Prelude.{◌≡◌, ◌<◌, ◌^◌, codes};
 ghost use Rattle.swap_base.specs.Fault.{Gives};
 ghost use Rattle.offer_fields.specs.Limits.{digest_of, number_within};
 ghost use Rattle.offer_fields.specs.Lists.{each_of};

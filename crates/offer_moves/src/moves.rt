@@ -1,6 +1,6 @@
 //! Moves, checked: names by their numbers, and numbers and texts in their ranges.
 
-ghost use Rattle.std.specs.Prelude.{◌≡◌, ◌≤◌, ℕ, List, length};
+ghost use Rattle.std.specs.Prelude.{◌≡◌, ◌≤◌, length};
 ghost use Rattle.swap_base.specs.Fault.{Gives};
 ghost use Rattle.offer_moves.specs.Moves.{arc_of, optional_arc, publish_of, craft_of, replay_of, key_of, unlock_of, claim_of, refund_of, transfer_of};
 ghost use Rattle.offer_moves.specs.Moves.{sizes_of, wait_of, move_of};

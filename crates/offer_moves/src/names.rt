@@ -1,6 +1,6 @@
 //! The numbers of a path's names.
 
-ghost use Rattle.std.specs.Prelude.{◌≤◌, ℕ, List, length};
+ghost use Rattle.std.specs.Prelude.{◌≤◌, length};
 ghost use Rattle.swap_base.specs.Fault.{Gives};
 ghost use Rattle.offer_fields.specs.Lists.{each_of};
 ghost use Rattle.offer_fields.specs.Names.{party_of_name};

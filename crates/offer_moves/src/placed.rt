@@ -1,6 +1,6 @@
 //! Whether a party may make a move where it stands.
 
-ghost use Rattle.std.specs.Prelude.{◌≡◌, ◌==◌, ◌||◌, ◌<◌, ℕ, List, false, nat_lt, length, slice_index_or, IsTrue};
+ghost use Rattle.std.specs.Prelude.{◌≡◌, ◌==◌, ◌||◌, ◌<◌, false, nat_lt, length, slice_index_or, IsTrue};
 ghost use Rattle.std.specs.List.{list_all, list_any};
 ghost use Rattle.swap_base.specs.Fault.{Gives};
 ghost use Rattle.swap_job.specs.Resolved.{arc_of as stands_on};

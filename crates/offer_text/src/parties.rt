@@ -1,7 +1,7 @@
 //! The JSON of a job's parties.
 
-ghost use Rattle.std.specs.Prelude.{◌≡◌, ◌<◌, ℕ, List, IfOk, OnOk, codes, length, slice_index_or, false};
-ghost use Rattle.serde_json.specs.Data.{member, no_members, object, string};
+ghost use Rattle.std.specs.Prelude.{◌≡◌, ◌<◌, ℕ, List, IfOk, OnOk, codes, length};
+ghost use Rattle.serde_json.specs.Data.{member, no_members, object};
 ghost use Rattle.serde_json.specs.View.{view, members_view};
 ghost use Rattle.swap_job.specs.declared.job.Role.TheVariants.{Strategy as strategy};
 ghost use Rattle.offer_text.specs.Words.{digest_data, with_optional, AreTexts};

@@ -1,6 +1,5 @@
 -- What the parts of the programs stand for.
-use Rattle.std.specs.Prelude.{◌<◌, ◌^◌, ℕ, List, [], ◌∷◌, nat_lt, if◌then◌else◌}
-use Rattle.ledger_core.specs.declared.accounts.Accounts.{Accounts}
+use Rattle.std.specs.Prelude.{ℕ, List, [], ◌∷◌, nat_lt, if◌then◌else◌}
 use Rattle.ledger_core.specs.History.{height}
 use Rattle.ledger_core.specs.Book.{Histories, history}
 use Rattle.swap_rules.specs.declared.finding.Finding.{Finding}

@@ -5,7 +5,6 @@ ghost use Rattle.swap_digraph.specs.Deal.{IsWellSized};
 ghost use Rattle.escrow_core.specs.Terms.{terms_of};
 ghost use Rattle.ledger_core.specs.declared.entry.Call.TheVariants.{Publish};
 ghost use Rattle.history_index.specs.Indexes.{entries_in, AreIndexes};
-ghost use Rattle.swap_rules.specs.Party.{is_ready, leads_one};
 ghost use Rattle.swap_rules.specs.Due.{due_publishes, is_due_publish, when_due};
 ghost use Rattle.party_due.specs.Actions.{actions};
 

@@ -1,6 +1,6 @@
 //! The unlocks that are due.
 
-ghost use Rattle.std.specs.Prelude.{◌≡◌, ◌<◌, ◌++◌, true, not, Some, OnOk, length, option_copied};
+ghost use Rattle.std.specs.Prelude.{◌≡◌, ◌<◌, ◌++◌, true, not, Some, OnOk, length};
 ghost use Rattle.std.specs.List.{flat_map, list_all};
 ghost use Rattle.swap_digraph.specs.Graph.{entering};
 ghost use Rattle.swap_digraph.specs.Deal.{IsWellSized};

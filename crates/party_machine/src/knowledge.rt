@@ -1,6 +1,6 @@
 //! What a party knows before it has learnt anything.
 
-ghost use Rattle.std.specs.Prelude.{◌≡◌, ◌≤◌, map, IfOk};
+ghost use Rattle.std.specs.Prelude.{◌≡◌, map, IfOk};
 ghost use Rattle.swap_digraph.specs.Graph.{arcs};
 ghost use Rattle.swap_digraph.specs.Deal.{IsWellSized};
 ghost use Rattle.history_index.specs.Value.{new_index};

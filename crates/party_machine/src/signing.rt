@@ -3,10 +3,10 @@
 ghost use Rattle.std.specs.Prelude.{◌≡◌, ◌<◌, None, length, IfOk, OnErr, IsSome};
 ghost use Rattle.party_wallet.specs.Value.{signed_in};
 ghost use Rattle.due_calls.specs.Unlocks.{IsSeenOn};
-ghost use Rattle.party_wallet.specs.Keys.{onto_key, with_signed};
+ghost use Rattle.party_wallet.specs.Keys.{with_signed};
 ghost use Rattle.party_machine.specs.Within.{entries_in, IsReady};
 ghost use Rattle.party_machine.specs.Unlocking.{base_key, due_hashkey, opened_key, CanPutOnto};
-ghost use Rattle.std.specs.Prelude.{Some, option_map};
+ghost use Rattle.std.specs.Prelude.{Some};
 ghost use Rattle.swap_rules.specs.Due.{extended};
 ghost use Rattle.party_machine.specs.Wallet.{wallet_of};
 

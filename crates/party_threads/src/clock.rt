@@ -1,6 +1,6 @@
 //! The clock's turn: each ledger ticks once.
 
-ghost use Rattle.std.specs.Prelude.{◌≡◌, ◌<◌, ◌≤◌, ◌+◌, ℕ, OnOk, length};
+ghost use Rattle.std.specs.Prelude.{◌≡◌, ◌<◌, ◌≤◌, OnOk};
 ghost use Rattle.party_threads.specs.Later.{IsClockLater};
 ghost use Rattle.party_threads.specs.Ticks.{HaveRoom, HasTickedOnce, HaveTicked, HaveClocksGoneOn, AreClocksOf};
 

@@ -1,7 +1,7 @@
 //! How the ledgers are shared as a round begins, and closed as it ends.
 
-ghost use Rattle.std.specs.Prelude.{◌≡◌, ◌≢◌, ◌<◌, ℕ, List, Some, None, IsTrue, IfOk, length, map, vec_len, vec_capacity};
-ghost use Rattle.swap_digraph.specs.Deal.{IsWellSized, party, counterparty};
+ghost use Rattle.std.specs.Prelude.{◌≡◌, ◌≢◌, ◌<◌, ℕ, Some, None, IfOk, length, map};
+ghost use Rattle.swap_digraph.specs.Deal.{IsWellSized};
 ghost use Rattle.ledger_core.specs.Value.{LedgerState};
 ghost use Rattle.ledger_shared.specs.Value.{clock_at};
 ghost use Rattle.swap_world.specs.Inside.{IsLedgerOf};

@@ -3,7 +3,7 @@
 ghost use Rattle.std.specs.Prelude.{◌≡◌, ◌≢◌, ◌<◌, ◌+◌, true, None, OnOk, OnErr, IfOk, IsTrue, All, length};
 ghost use Rattle.ledger_core.specs.History.{fit};
 ghost use Rattle.swap_job.specs.Fitting.{IsMoveOf};
-ghost use Rattle.deviators.specs.View.{IsView, IsAnswerOf, MayAnswer};
+ghost use Rattle.deviators.specs.View.{IsView, MayAnswer};
 ghost use Rattle.swap_run.specs.Shown.{IsShown};
 ghost use Rattle.swap_run.specs.Run.{is_planned, plan_up_to};
 ghost use Rattle.party_threads.specs.Later.{IsLater, WentOn, HaveGoneOn};

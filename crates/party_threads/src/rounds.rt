@@ -1,6 +1,6 @@
 //! A race: rounds until each ledger is above the horizon.
 
-ghost use Rattle.std.specs.Prelude.{◌≡◌, ◌<◌, ◌≤◌, IfOk, IfErr, OnOk, List, map, Some};
+ghost use Rattle.std.specs.Prelude.{◌≡◌, ◌<◌, ◌≤◌, IfOk, IfErr, OnOk, map, Some};
 ghost use Rattle.swap_digraph.specs.Deal.{IsWellSized};
 ghost use Rattle.swap_rules.specs.Accepted.{IsAccepted};
 ghost use Rattle.party_wallet.specs.Wallets.{wallets_of};

@@ -1,6 +1,6 @@
 //! What has turns in a race: a party or the clock, with the passes that it has in a round.
 
-ghost use Rattle.std.specs.Prelude.{◌≡◌, ◌≢◌, ◌<◌, ℕ, List, Some, None, length, slice_get};
+ghost use Rattle.std.specs.Prelude.{◌≡◌, ◌<◌, List, Some, None, length, slice_get};
 ghost use Rattle.ledger_core.specs.declared.entry.Entry.{Entry};
 ghost use Rattle.ledger_shared.specs.Value.{PassState, ClockState};
 ghost use Rattle.party_threads.specs.Turns.{HasArc, actor_at, passes_of, clocks_of, held_at, clock_held_at, started, IsPut, IsClockPut};

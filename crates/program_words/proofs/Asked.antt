@@ -1,8 +1,7 @@
 -- The values of a command, from what is read.
-use Rattle.std.proofs.Common.{◌≡◌, ◌∙◌, ◌&&◌, ℕ, ◌<◌, ◌^◌, Bool, true, false, List, Option, Some, None, refl, sym, ap, subst, cond, codes, unwrap_or, arith}
-use Rattle.std.specs.Str.Parse.{digits_value}
+use Rattle.std.proofs.Common.{◌≡◌, ◌∙◌, ℕ, ◌<◌, ◌^◌, Bool, true, false, List, Option, Some, None, refl, sym, ap, cond, codes, unwrap_or, arith}
 use Rattle.program_words.specs.Tables.{range_of}
-use Rattle.program_words.specs.Words.{are_options, is_given, is_number, number_of, text_of, ticks_of}
+use Rattle.program_words.specs.Words.{are_options, is_given, number_of, text_of, ticks_of}
 use Rattle.program_words.specs.Parsed.{Numbers}
 use Rattle.program_words.specs.declared.choice.Choice.{Choice}
 use Rattle.program_words.specs.declared.choice.Choice.TheVariants.{Ticks}

@@ -1,5 +1,5 @@
 -- The commands as they are built, and what they read.
-use Rattle.std.proofs.Common.{◌≡◌, true, List, ◌∷◌, None, refl, ap, map, drop, length, ◌<◌, ℕ, [], arith}
+use Rattle.std.proofs.Common.{◌≡◌, true, List, ◌∷◌, None, refl, map, drop, length, ◌<◌, [], arith}
 use Rattle.clap.specs.Walk.{Text}
 use Rattle.clap.specs.Simple.{HasMatchesOf, matches_of}
 use Rattle.clap.specs.Matches.{found_of, one_text}

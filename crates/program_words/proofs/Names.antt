@@ -1,8 +1,7 @@
 -- What a well-formed word looks like to `clap`.
-use Rattle.std.proofs.Common.{◌≡◌, ◌∙◌, ◌&&◌, ◌||◌, ℕ, Bool, true, false, not, List, [], ◌∷◌, Option, Some, None, refl, sym}
-use Rattle.std.proofs.Common.{ap, subst, find, length, take, drop, nat_le, nat_lt, ◌==◌, arith, ◌+◌, ◌^◌, suc, cond, ap₂, get_or, eqb-true, one-add}
-use Rattle.std.proofs.Common.{true≢false}
-use Rattle.std.specs.List.{prefix_len, list_all, list_any, before_first, after_first}
+use Rattle.std.proofs.Common.{◌≡◌, ◌∙◌, ◌&&◌, ℕ, Bool, true, false, not, List, [], ◌∷◌, Option, Some, None, refl, sym}
+use Rattle.std.proofs.Common.{ap, take, drop, ◌==◌, arith, ◌+◌, suc, cond, ap₂, get_or, eqb-true, one-add}
+use Rattle.std.specs.List.{prefix_len, list_any}
 use Rattle.std.specs.Str.{bytes_eq}
 use Rattle.std.specs.Char.{is_ascii_digit}
 use Rattle.std.proofs.lemmas.Slice.Eq.{bytes_eq-Decides}

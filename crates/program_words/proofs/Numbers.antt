@@ -1,5 +1,5 @@
 -- Numbers of at most ten digits.
-use Rattle.std.proofs.Common.{◌≡◌, ◌&&◌, ℕ, Bool, true, ◌<◌, ◌≤◌, length, List, Result, Ok, Err, ◌^◌, rules, arith, leb-true, nat_le, ap, Option, Some, None}
+use Rattle.std.proofs.Common.{◌≡◌, ◌&&◌, ℕ, true, ◌<◌, ◌≤◌, length, List, Result, Ok, Err, ◌^◌, rules, arith, leb-true, nat_le, ap, Option, Some, None}
 use Rattle.std.specs.List.{list_all}
 use Rattle.std.specs.Char.{is_ascii_digit}
 use Rattle.std.specs.Str.Parse.{digits_value, ParsesUnsigned}

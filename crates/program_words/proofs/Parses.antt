@@ -1,9 +1,9 @@
 -- What `clap` makes of well-formed words.
-use Rattle.std.proofs.Common.{◌≡◌, ◌∙◌, ◌&&◌, ◌||◌, ℕ, Bool, true, false, not, List, [], ◌∷◌, Option, Some, None, refl, sym, ap, ap₂, subst, find}
-use Rattle.std.proofs.Common.{codes, is_some, fold, map, cond, option_map, option_and_then}
+use Rattle.std.proofs.Common.{◌≡◌, ◌∙◌, ◌&&◌, ℕ, Bool, true, false, List, [], ◌∷◌, Option, Some, None, refl, ap, ap₂, find}
+use Rattle.std.proofs.Common.{is_some, fold, map, cond, option_and_then}
 use Rattle.std.specs.List.{list_all}
-use Rattle.clap.specs.Walk.{Held, Names, Row, Rule, Text, Walk, at_row, finished, idle, nothing_held, row_text, rows_after, rows_of, settled, walked}
-use Rattle.clap.specs.Simple.{App, Shape, argument_words, built, entered, is_simple, matches_of, names_of}
+use Rattle.clap.specs.Walk.{Row, Rule, Text, Walk, finished, idle, nothing_held, row_text, rows_after, rows_of, settled, walked}
+use Rattle.clap.specs.Simple.{App, argument_words, built, entered, is_simple, matches_of, names_of}
 use Rattle.clap.specs.Takes.{built_takes, default_passes, entered_passes, level_passes, is_valid, settle_passes, takes, walk_passes}
 use Rattle.clap.specs.Matches.{found_of, one_text}
 use Rattle.clap.specs.declared.parser.matches.ArgMatches.{ArgMatches}

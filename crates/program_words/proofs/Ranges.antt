@@ -1,5 +1,5 @@
 -- The numbers of a command lie in their ranges.
-use Rattle.std.proofs.Common.{◌≡◌, ◌≤◌, ◌&&◌, ℕ, Bool, true, false, nat_le, List, [], ◌∷◌, Option, Some, None, option_and_then, refl, cond, subst}
+use Rattle.std.proofs.Common.{◌≡◌, ◌≤◌, ℕ, Bool, true, false, nat_le, List, [], ◌∷◌, Option, Some, None, option_and_then, refl, subst}
 use Rattle.std.proofs.Common.{arith, leb-true}
 use Rattle.program_words.specs.Tables.{choices, range_of, verb_of}
 use Rattle.program_words.specs.Words.{are_options, are_well_formed, asked, asked_by, command_of, is_given, is_short_numeral, number_of, text_of, ticks_of}

@@ -3,11 +3,11 @@ use Rattle.std.proofs.Common.{◌≡◌, ◌∙◌, ◌&&◌, ◌||◌, ℕ, Boo
 use Rattle.std.proofs.Common.{is_some, map, option_map}
 use Rattle.std.specs.Str.{bytes_eq}
 use Rattle.clap.specs.Walk.{Rule, Text, arg_by_id, arg_by_long, has_long}
-use Rattle.clap.specs.Simple.{App, new_app, new_rule, new_shape, Shape, with_rule}
+use Rattle.clap.specs.Simple.{new_rule, new_shape, Shape}
 use Rattle.clap.specs.declared.builder.action.ArgAction.TheVariants.{Set, SetTrue}
 use Rattle.clap.specs.declared.builder.value_parser.ValueParser.TheVariants as vp
 use Rattle.clap.proofs.WalkLemmas.{find-map}
-use Rattle.program_words.specs.Tables.{choices, name_of, range_of, word_of}
+use Rattle.program_words.specs.Tables.{name_of, range_of, word_of}
 use Rattle.program_words.specs.Words.{front, names}
 use Rattle.program_words.specs.declared.choice.Choice.{Choice}
 use Rattle.program_words.proofs.Names.{IsLong}

@@ -1,5 +1,5 @@
 -- The first of a slice's words, and the rest.
-use Rattle.std.proofs.Common.{◌≡◌, ℕ, ◌<◌, ◌≤◌, length, get_or, map, drop, List, [], ◌∷◌, Option, Some, None, Bool, not, is_none, refl, sym, ap}
+use Rattle.std.proofs.Common.{◌≡◌, ℕ, ◌≤◌, length, get_or, map, drop, List, [], ◌∷◌, Option, Some, None, Bool, is_none, refl, sym, ap}
 use Rattle.std.proofs.Common.{arith, cond, true, false, suc, ◌+◌}
 use Rattle.std.specs.List.{after_first, list_any, position_or_len}
 use Rattle.program_words.specs.Words.{after, are_options, behind, is_equals, step}

@@ -1,9 +1,8 @@
 -- What one word does to `clap`'s walk.
-use Rattle.std.proofs.Common.{◌≡◌, ◌∙◌, ◌&&◌, ◌||◌, ℕ, Bool, true, false, not, List, [], ◌∷◌, Option, Some, None, refl, sym, ap, subst, codes, is_some}
+use Rattle.std.proofs.Common.{◌≡◌, ◌&&◌, Bool, true, false, List, [], ◌∷◌, Some, None, refl}
 use Rattle.std.specs.Str.{bytes_eq}
 use Rattle.clap.specs.Lexer.{long_of, short_of}
-use Rattle.clap.specs.Walk.{Held, Row, Rule, Text, Walk, Waiting, idle, option, arg_by_id, arg_by_long, most_values, reacted, settled, takes_values, walked}
-use Rattle.clap.specs.Simple.{Shape}
+use Rattle.clap.specs.Walk.{Held, Rule, Text, Walk, Waiting, idle, option, arg_by_id, arg_by_long, most_values, reacted, settled, takes_values, walked}
 use Rattle.clap.specs.Takes.{react_passes, settle_passes, turn_passes}
 use Rattle.program_words.proofs.Rules.{shape}
 

@@ -1,5 +1,5 @@
 -- The number that a well-formed option is given.
-use Rattle.std.proofs.Common.{◌≡◌, ◌∙◌, ◌||◌, ℕ, Bool, true, false, List, [], ◌∷◌, Option, Some, None, refl, sym, ap, subst, find, cond, unwrap_or}
+use Rattle.std.proofs.Common.{◌≡◌, ◌∙◌, ℕ, Bool, true, false, List, [], ◌∷◌, Option, Some, None, refl, sym, subst, find, cond, unwrap_or}
 use Rattle.std.specs.Str.{bytes_eq}
 use Rattle.std.proofs.lemmas.Slice.Eq.{bytes_eq-Decides}
 use Rattle.program_words.specs.Tables.{name_of, range_of, word_of}
@@ -7,7 +7,7 @@ use Rattle.program_words.specs.Words.{after, are_options, behind, first_of, fits
 use Rattle.program_words.specs.declared.choice.Choice.{Choice}
 use Rattle.program_words.specs.declared.well_formed.Verdict.{Verdict}
 use Rattle.program_words.specs.declared.well_formed.Verdict.TheVariants.{Wrong, Done, Waits}
-use Rattle.program_words.proofs.Names.{is_long, is_plain}
+use Rattle.program_words.proofs.Names.{is_plain}
 use Rattle.program_words.proofs.Walks.{find_passes, fits_number, one_name}
 
 -- what is told of the words from here on

@@ -1,18 +1,17 @@
 -- `clap`'s walk over well-formed words.
-use Rattle.std.proofs.Common.{◌≡◌, ◌∙◌, ◌&&◌, ◌||◌, ◌⊎◌, inl, inr, ℕ, Bool, true, false, not, List, [], ◌∷◌, Option, Some, None, refl, sym, ap, ap₂}
-use Rattle.std.proofs.Common.{subst, find, codes, is_some, fold, map, cond, option_map, unwrap_or, ◌≢◌}
-use Rattle.std.specs.List.{list_any}
+use Rattle.std.proofs.Common.{◌≡◌, ◌∙◌, ◌&&◌, ◌||◌, ◌⊎◌, inl, inr, ℕ, Bool, true, false, List, [], ◌∷◌, Option, Some, None, refl, sym, ap, ap₂}
+use Rattle.std.proofs.Common.{subst, find, codes, is_some, fold, map, cond, unwrap_or}
 use Rattle.std.specs.Str.{bytes_eq}
 use Rattle.std.proofs.lemmas.Slice.Eq.{bytes_eq-Decides}
 use Rattle.clap.specs.Walk.{Held, Row, Rule, Text, Waiting, Walk, idle, option, arg_by_id, most_values, reacted, settled, takes_values, used, walked}
 use Rattle.clap.specs.Takes.{react_passes, settle_passes, use_passes, walk_passes}
 use Rattle.program_words.specs.Tables.{name_of, range_of, word_of}
 use Rattle.program_words.specs.Words.{after, are_options, behind, first_of, fits, front, is_given, is_number, names, option_step, text_of}
-use Rattle.program_words.specs.declared.well_formed.Verdict.TheVariants.{Wrong, Done, Waits as Awaits}
-use Rattle.clap.specs.Lexer.{long_of, short_of}
+use Rattle.program_words.specs.declared.well_formed.Verdict.TheVariants.{Wrong}
+use Rattle.clap.specs.Lexer.{long_of}
 use Rattle.program_words.specs.declared.choice.Choice.{Choice}
 use Rattle.program_words.specs.declared.choice.Choice.TheVariants.{Ticks, Transcript, Seed, Parties, Events, Summary}
-use Rattle.program_words.proofs.Names.{IsLong, IsPlain, is_long, is_plain}
+use Rattle.program_words.proofs.Names.{IsLong, is_long, is_plain}
 use Rattle.program_words.proofs.Rules.{by_id, by_long, rule, rule_with, shape}
 use Rattle.program_words.proofs.Rows.{first_use_passes, given_row, has_id, or_assoc, or_else, or_none, used_finds, values_with}
 use Rattle.program_words.proofs.Steps.{Leads, at, awaiting, behind_leads, flag_leads, number_leads, option_leads}

@@ -1,5 +1,5 @@
 -- The command of words whose first is looked at alone.
-use Rattle.std.proofs.Common.{◌≡◌, ◌∙◌, ℕ, ◌≤◌, length, get_or, map, drop, List, [], ◌∷◌, Option, Some, None, Bool, true, false, refl, sym, ap, arith, cond}
+use Rattle.std.proofs.Common.{◌≡◌, ◌∙◌, ℕ, ◌≤◌, length, get_or, map, drop, List, [], ◌∷◌, Some, None, Bool, true, false, refl, sym, ap, arith, cond}
 use Rattle.std.proofs.Common.{option_and_then}
 use Rattle.program_words.specs.Tables.{verb_of}
 use Rattle.program_words.specs.Words.{are_well_formed, asked, asked_by, command_of}

@@ -1,6 +1,6 @@
 //! The line that tells why an input was refused.
 
-ghost use Rattle.std.specs.Prelude.{◌≡◌, ◌++◌, ◌∷◌, IfOk, OnOk};
+ghost use Rattle.std.specs.Prelude.{◌≡◌, ◌++◌, IfOk, OnOk};
 ghost use Rattle.swap_base.specs.Text.{lines};
 ghost use Rattle.refusals.specs.declared.reason.Reason.TheVariants.{OverLimit, WrongWallet, WrongTimelock, BadReply, Overdrawn};
 ghost use Rattle.refusals.specs.Line.{numbered, numbered_twice, lined, comma_named, all_named, of_party, of_parties, reason_text, line_of};

@@ -4,8 +4,7 @@ use Rattle.std.proofs.lemmas.List.{get_or_default}
 use Rattle.swap_digraph.specs.declared.deal.Deal.{Deal}
 use Rattle.ledger_core.specs.declared.entry.Entry.{Entry}
 use Rattle.ledger_core.specs.History.{IsLegal, height}
-use Rattle.ledger_core.specs.Book.{Histories, history, IsLegalBook}
-use Rattle.ledger_core.specs.Value.{IsCountable}
+use Rattle.ledger_core.specs.Book.{Histories, IsLegalBook}
 use Rattle.ledger_core.proofs.Bounds.{countable}
 
 pub legal_at : (d : Deal) (b : Histories) (a : ℕ) (h : List Entry) → IsLegalBook d b → a < length b → h ≡ get_or b a h → IsLegal d a h

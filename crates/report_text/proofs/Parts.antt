@@ -1,6 +1,6 @@
 -- The parts of a ledger's lines and of a report.
-use Rattle.std.proofs.Common.{◌≡◌, ℕ, List, [], ◌∷◌, ◌++◌, length, refl, append_assoc, append-nil}
-use Rattle.swap_base.specs.Text.{joined, lines}
+use Rattle.std.proofs.Common.{◌≡◌, ℕ, List, [], ◌++◌, length, refl, append_assoc, append-nil}
+use Rattle.swap_base.specs.Text.{lines}
 use Rattle.swap_digraph.specs.declared.deal.Deal.{Deal}
 use Rattle.swap_digraph.specs.Deal.{amount}
 use Rattle.swap_digraph.specs.Graph.{ends}

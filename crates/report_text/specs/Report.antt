@@ -1,7 +1,6 @@
 -- The text of a report, line by line.
-use Rattle.std.specs.Prelude.{ℕ, Bool, true, false, List, [], ◌∷◌, ◌++◌, length, codes, decimal, slice_index, slice_index_or, if◌then◌else◌}
+use Rattle.std.specs.Prelude.{ℕ, Bool, false, List, [], ◌∷◌, length, codes, decimal, slice_index_or, if◌then◌else◌}
 use Rattle.swap_base.specs.Text.{joined, lines}
-use Rattle.swap_digraph.specs.Value.{Graph}
 use Rattle.swap_digraph.specs.Graph.{ends}
 use Rattle.swap_digraph.specs.declared.arc_ends.ArcEnds.{ArcEnds}
 use Rattle.swap_digraph.specs.declared.deal.Deal.{Deal}
@@ -13,10 +12,9 @@ use Rattle.ledger_core.specs.declared.entry.What.{What}
 use Rattle.ledger_core.specs.declared.entry.What.TheVariants.{Call as Made, Tick}
 use Rattle.ledger_core.specs.declared.accounts.Accounts.{Accounts}
 use Rattle.ledger_core.specs.History.{accounts, height}
-use Rattle.ledger_core.specs.Book.{Histories, history}
+use Rattle.ledger_core.specs.Book.{Histories}
 use Rattle.swap_job.specs.declared.job.Job.{Job}
 use Rattle.swap_rules.specs.declared.outcome.Outcome.{Outcome}
-use Rattle.swap_rules.specs.declared.outcome.Outcome.TheVariants.{NoDeal}
 use Rattle.swap_rules.specs.declared.finding.Finding.{Finding}
 use Rattle.swap_rules.specs.declared.finding.Finding.TheVariants.{Broke, Late, Forged, Unfinished}
 use Rattle.outcome_rules.specs.declared.report.Report.{Report}

@@ -1,6 +1,6 @@
 //! The lines of a ledger.
 
-ghost use Rattle.std.specs.Prelude.{◌≡◌, ◌++◌, ◌<◌, ◌≤◌, OnOk, length};
+ghost use Rattle.std.specs.Prelude.{◌≡◌, ◌++◌, ◌<◌, OnOk, length};
 ghost use Rattle.swap_base.specs.Text.{lines};
 ghost use Rattle.swap_io.specs.Handed.{Hands};
 ghost use Rattle.swap_digraph.specs.Deal.{IsWellSized, amount};

@@ -1,7 +1,5 @@
 //! Want of memory, alone or beside a refusal with its reason.
 
-ghost use Rattle.std.specs.Prelude.{◌≡◌};
-
 use std::alloc::{AllocError, AllocFailed};
 
 /// Memory ran out. It is merged with no other answer.

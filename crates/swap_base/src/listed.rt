@@ -1,6 +1,6 @@
 //! A list of values.
 
-ghost use Rattle.std.specs.Prelude.{◌≡◌, ◌==◌, ◌<◌, ◌++◌, ◌∷◌, [], ℕ, List, IfOk, IfErr, OnOk, OnErr, length, slice_index_or};
+ghost use Rattle.std.specs.Prelude.{◌≡◌, ◌==◌, ◌<◌, ◌++◌, ◌∷◌, [], List, IfErr, OnOk, OnErr, length};
 
 use std::alloc::{AllocFailed, Global};
 use std::marker::Model;

@@ -9,7 +9,7 @@ use Rattle.swap_digraph.specs.declared.arc_ends.ArcEnds.{ArcEnds}
 use Rattle.swap_digraph.specs.declared.fault.ArcFault.{ArcFault}
 use Rattle.swap_digraph.specs.declared.fault.ArcFault.TheVariants.{OutOfRange as OutOfRangeArc, SelfArc as SelfArcOf, Parallel}
 use Rattle.swap_digraph.specs.declared.deal.Version.TheVariants.{Two}
-use Rattle.swap_digraph.specs.Arcs.{fault_at, first_fault_after, digraph_of, graph_or as digraph_or, same_ends}
+use Rattle.swap_digraph.specs.Arcs.{fault_at, first_fault_after, digraph_of, graph_or as digraph_or}
 use Rattle.swap_digraph.specs.Arcs as digraph
 use Rattle.swap_digraph.specs.Graph.{HasEnds}
 use Rattle.swap_digraph.specs.Value.{Graph}

@@ -1,6 +1,6 @@
 //! The clearing of proposed transfers.
 
-ghost use Rattle.std.specs.Prelude.{◌≡◌, ◌<◌, ◌≤◌, length, IfOk, IfErr};
+ghost use Rattle.std.specs.Prelude.{◌<◌, ◌≤◌, length, IfOk, IfErr};
 ghost use Rattle.swap_base.specs.Fault.{Gives};
 ghost use Rattle.swap_base.specs.Lists.{IsIn};
 ghost use Rattle.swap_digraph.specs.Graph.{IsStronglyConnected};

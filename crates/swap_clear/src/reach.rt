@@ -1,11 +1,11 @@
 //! Which party reaches which, by rounds over the arcs.
 
-ghost use Rattle.std.specs.Prelude.{◌≡◌, ◌==◌, ◌||◌, ◌<◌, ◌≤◌, ◌+◌, ℕ, length, IfOk};
+ghost use Rattle.std.specs.Prelude.{◌≡◌, ◌==◌, ◌||◌, ◌<◌, ◌≤◌, ℕ, length, IfOk};
 ghost use Rattle.std.specs.Int.{bit_at};
 ghost use Rattle.swap_digraph.specs.Graph.{HasEnds};
 ghost use Rattle.digraph_check.specs.Reach.{reaches};
 ghost use Rattle.leader_check.specs.Cycles.{has_bit, leads_into};
-ghost use Rattle.swap_clear.specs.Rows.{TellsWithin, TellsReach};
+ghost use Rattle.swap_clear.specs.Rows.{TellsReach};
 
 use leader_check::leads_each;
 use std::alloc::Global;

@@ -1,6 +1,6 @@
 //! The command `gen`: the job of a number is written, or its run is summarized. Nothing is read.
 
-ghost use Rattle.std.specs.Prelude.{◌≡◌, ◌≤◌, true, false};
+ghost use Rattle.std.specs.Prelude.{◌≡◌, ◌≤◌};
 ghost use Rattle.std.specs.Io.KnownBytes.{Keeps};
 ghost use Rattle.swap_commands.specs.Says.{Writes};
 ghost use Rattle.swap_commands.specs.Generated.{IsMadeFor, IsSummary, summary_output, text_output};

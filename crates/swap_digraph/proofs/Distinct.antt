@@ -10,7 +10,6 @@ use Rattle.swap_base.proofs.Lists.{none_both}
 use Rattle.swap_digraph.specs.Graph.{ends_in, HasDistinctEnds}
 use Rattle.swap_digraph.specs.Arcs.{fault_at, first_fault, first_fault_after, parallel, same_ends}
 use Rattle.swap_digraph.specs.declared.arc_ends.ArcEnds.{ArcEnds}
-use Rattle.swap_digraph.specs.declared.fault.ArcFault.{ArcFault}
 use Rattle.swap_digraph.specs.declared.fault.ArcFault.TheVariants.{OutOfRange, SelfArc}
 use Rattle.swap_digraph.specs.declared.deal.Version.{Version}
 use Rattle.swap_digraph.specs.declared.deal.Version.TheVariants.{One}

@@ -1,6 +1,6 @@
 -- The least arc that has a fault, by a walk over the arcs.
 use Rattle.std.proofs.Common.{◌≡◌, ◌≢◌, ℕ, zero, suc, ◌+◌, ◌<◌, ◌≤◌, Bool, true, false, cond, not, ◌&&◌, ◌==◌, nat_lt, List, [], ◌∷◌, ◌++◌, length}
-use Rattle.std.proofs.Common.{get_or, take, drop, Option, Some, None, is_some, refl, sym, ap, ◌∙◌, arith, add-one, drop-cons, length-take, eqb-true}
+use Rattle.std.proofs.Common.{get_or, take, drop, Option, Some, None, is_some, refl, sym, ap, ◌∙◌, arith, add-one, drop-cons}
 use Rattle.std.proofs.Common.{ltb-true, position}
 use Rattle.std.proofs.lemmas.List.{nil_from_length, length-drop, take_more}
 use Rattle.swap_base.specs.Lists.{or_else}
@@ -11,8 +11,7 @@ use Rattle.swap_digraph.specs.declared.fault.ArcFault.TheVariants.{OutOfRange, S
 use Rattle.std.proofs.lemmas.Bool.{eqb-false}
 use Rattle.swap_digraph.specs.declared.deal.Version.{Version}
 use Rattle.swap_digraph.specs.Arcs.{fault_at, first_fault_after, first_fault, parallel, same_ends}
-use Rattle.swap_digraph.specs.Graph.{ends, HasEnds}
-use Rattle.swap_digraph.specs.Value.{Graph}
+use Rattle.swap_digraph.specs.Graph.{HasEnds}
 
 -- the first fault from arc i on
 abbrev pub fault_from : ℕ → Version → List ArcEnds → ℕ → Option ArcFault

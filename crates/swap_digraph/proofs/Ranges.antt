@@ -1,6 +1,6 @@
 -- Lists made for each number below n.
 use Rattle.std.proofs.Common.{◌≡◌, ℕ, zero, suc, ◌+◌, ◌<◌, Bool, true, false, cond, List, [], ◌∷◌, ◌++◌, length, get_or, filter, map, refl, sym, ap}
-use Rattle.std.proofs.Common.{◌∙◌, arith, zero-add, append_assoc, append-nil}
+use Rattle.std.proofs.Common.{◌∙◌, arith, zero-add, append-nil}
 use Rattle.std.specs.List.{range_with_len}
 use Rattle.std.proofs.lemmas.List.FromFn.{get_or-map-range_with_len, length-map-range_with_len}
 

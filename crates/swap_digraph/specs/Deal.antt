@@ -1,8 +1,7 @@
 -- Words on a deal, and the sizes of its parts.
-use Rattle.std.specs.Prelude.{◌≡◌, ◌==◌, ◌&&◌, ◌||◌, ◌<◌, ◌≤◌, ◌^◌, ℕ, Bool, List, [], length, slice_index, slice_index_or}
+use Rattle.std.specs.Prelude.{◌≡◌, ◌==◌, ◌||◌, ◌<◌, ◌≤◌, ◌^◌, ℕ, Bool, List, [], length, slice_index, slice_index_or}
 use Rattle.std.specs.List.{range_with_len}
 use Rattle.swap_digraph.specs.Graph.{ends, HasEnds}
-use Rattle.swap_digraph.specs.Value.{Graph}
 use Rattle.swap_digraph.specs.declared.deal.Deal.{Deal}
 use Rattle.swap_digraph.specs.declared.deal.Mode.{Mode}
 use Rattle.swap_digraph.specs.declared.deal.Mode.TheVariants.{Timelocks, Hashkeys}

@@ -1,6 +1,6 @@
 -- Paths of a digraph, its leaders, and how far a party stands from them.
-use Rattle.std.specs.Prelude.{◌≡◌, ◌≢◌, ◌⊎◌, ℕ, ◌+◌, ◌-◌, ◌*◌, ◌<◌, ◌≤◌, min, Bool, true, false, not, ◌&&◌, ◌||◌, ◌==◌, nat_lt, IsTrue, List, [], ◌∷◌}
-use Rattle.std.specs.Prelude.{◌++◌, length, filter, slice_index_or}
+use Rattle.std.specs.Prelude.{◌≡◌, ◌≢◌, ◌⊎◌, ℕ, ◌-◌, ◌<◌, ◌≤◌, Bool, false, not, ◌&&◌, ◌==◌, nat_lt, IsTrue, List, [], ◌∷◌}
+use Rattle.std.specs.Prelude.{length, filter, slice_index_or}
 use Rattle.std.specs.List.{list_any, list_all, range_with_len}
 use Rattle.swap_digraph.specs.declared.arc_ends.ArcEnds.{ArcEnds}
 use Rattle.swap_digraph.specs.Value.{Graph}

@@ -1,5 +1,5 @@
 -- What the fields of a digraph mean, and what holds of them.
-use Rattle.std.specs.Prelude.{◌≡◌, ◌≤◌, ℕ, List, map, length}
+use Rattle.std.specs.Prelude.{◌≡◌, ◌≤◌, map, length}
 use Rattle.std.specs.List.{range_with_len}
 use Rattle.swap_digraph.specs.Value.{Graph}
 use Rattle.swap_digraph.specs.Graph.{entering, leaving}

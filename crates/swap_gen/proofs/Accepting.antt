@@ -1,8 +1,7 @@
 -- A proposed deal with all that its parties' seeds give is an accepted one.
-use Rattle.std.proofs.Common.{◌≡◌, ℕ, zero, suc, ◌+◌, ◌-◌, ◌*◌, ◌<◌, ◌≤◌, List, [], ◌∷◌, length, map, get_or, replicate, Option, slice_index, slice_index_or}
+use Rattle.std.proofs.Common.{◌≡◌, ℕ, ◌+◌, ◌-◌, ◌<◌, ◌≤◌, List, [], ◌∷◌, length, map, get_or, replicate, Option, slice_index, slice_index_or}
 use Rattle.std.proofs.Common.{refl, sym, ap, ◌∙◌, subst, arith, mul-le-mul_right}
 use Rattle.std.specs.List.{range_with_len}
-use Rattle.std.proofs.Math.Nat.{min-le_left}
 use Rattle.std.proofs.lemmas.List.{length-map, length-replicate, get_or-replicate}
 use Rattle.std.proofs.lemmas.List.FromFn.{length-range_with_len, length-map-range_with_len, get_or-map-range_with_len}
 use Rattle.time_bounds.specs.Times as times
@@ -16,7 +15,7 @@ use Rattle.swap_digraph.specs.declared.deal.Version.TheVariants.{One, Two}
 use Rattle.leader_check.specs.Distance.{dist_of}
 use Rattle.leader_check.proofs.Far.{dist_is, dist_bounded, dist_by_rounds}
 use Rattle.hashkey_path.proofs.Feeding.{any_id}
-use Rattle.swap_rules.specs.Accepted.{HasTimelock, IsAccepted, IsOfVersion, IsTimed}
+use Rattle.swap_rules.specs.Accepted.{IsAccepted, IsOfVersion, IsTimed}
 use Rattle.proposed_deal.specs.Proposed.{IsLedFor, IsProposed}
 use Rattle.swap_gen.specs.Made.{hashlock_from, keys_from, all_keys, timelock_for, all_timelocks, filled, made_deal}
 

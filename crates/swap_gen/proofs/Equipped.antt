@@ -1,5 +1,5 @@
 -- The job of a number, whose deal states what its parties' wallets hold.
-use Rattle.std.proofs.Common.{◌≡◌, ℕ, zero, suc, ◌+◌, ◌<◌, ◌≤◌, Bool, true, false, cond, List, [], ◌∷◌, length, map, replicate, Option, Some, None, IsSome}
+use Rattle.std.proofs.Common.{◌≡◌, ℕ, zero, suc, ◌+◌, ◌<◌, ◌≤◌, Bool, true, false, List, ◌∷◌, length, map, replicate, Option, Some, None, IsSome}
 use Rattle.std.proofs.Common.{unwrap_or, option_map, slice_index_or, refl, sym, ap, ap₂, ◌∙◌, subst, arith, if◌then◌else◌}
 use Rattle.std.specs.List.{range_with_len}
 use Rattle.std.proofs.lemmas.List.{get_or-replicate}
@@ -10,7 +10,7 @@ use Rattle.swap_job.specs.declared.job.Job.{Job}
 use Rattle.party_wallet.specs.Value.{WalletState}
 use Rattle.party_wallet.specs.Keys.{new_wallet}
 use Rattle.party_wallet.specs.Wallets.{wallet_for}
-use Rattle.proposed_deal.specs.Proposed.{HaveSeeds, IsProposed}
+use Rattle.proposed_deal.specs.Proposed.{IsProposed}
 use Rattle.swap_gen.specs.Made.{all_keys, made, made_deal, seed_in}
 use Rattle.swap_gen.specs.Owned.{wallets_in}
 use Rattle.swap_gen.specs.Drawn.{generated, plain_deal, plain_job}

@@ -1,16 +1,13 @@
 -- The job that a number gives.
-use Rattle.std.proofs.Common.{◌≡◌, ℕ, ◌+◌, ◌<◌, ◌≤◌, List, length, map, Option, Some, None, IsSome, replicate, slice_index_or, refl, sym, ap, ◌∙◌, subst}
+use Rattle.std.proofs.Common.{◌≡◌, ℕ, ◌<◌, ◌≤◌, List, map, Option, Some, None, IsSome, slice_index_or, refl, sym, subst}
 use Rattle.std.proofs.Common.{arith}
 use Rattle.std.specs.List.{range_with_len}
 use Rattle.std.proofs.lemmas.List.FromFn.{get_or-map-range_with_len}
 use Rattle.swap_digraph.specs.Value.{Graph}
-use Rattle.swap_digraph.specs.declared.deal.Deal.{Deal}
-use Rattle.swap_job.specs.declared.event.Event.{Event}
-use Rattle.swap_job.specs.declared.job.Job.{Job}
 use Rattle.swap_job.specs.Step.{IsEventOf}
 use Rattle.swap_rules.specs.Accepted.{IsAccepted}
 use Rattle.proposed_deal.specs.Proposed.{HaveSeeds, IsProposed}
-use Rattle.swap_gen.specs.Made.{made, made_deal}
+use Rattle.swap_gen.specs.Made.{made_deal}
 use Rattle.swap_gen.specs.Owned.{OwnsKeys}
 use Rattle.swap_gen.specs.Drawn.{drawn_graph, plain_deal, plain_job, seed_of, generated}
 use Rattle.swap_gen.specs.Events.{event_from}

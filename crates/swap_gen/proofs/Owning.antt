@@ -1,5 +1,5 @@
 -- What is made of seeds is what their parties own.
-use Rattle.std.proofs.Common.{◌≡◌, ℕ, zero, suc, ◌+◌, ◌<◌, ◌≤◌, ◌==◌, Bool, true, false, cond, not, ◌&&◌, ◌||◌, List, [], ◌∷◌, length, map, get_or, replicate}
+use Rattle.std.proofs.Common.{◌≡◌, ℕ, ◌<◌, Bool, true, false, cond, not, ◌||◌, List, [], ◌∷◌, length, map, get_or, replicate}
 use Rattle.std.proofs.Common.{Option, Some, None, unwrap_or, IsSome, slice_index_or, refl, sym, ap, ◌∙◌, inl, inr, subst, arith, eqb-true}
 use Rattle.std.specs.Str.{bytes_eq}
 use Rattle.std.specs.List.{find, range_with_len}
@@ -17,7 +17,7 @@ use Rattle.hashkey_path.proofs.Validity.{bytes_eq_self}
 use Rattle.party_wallet.specs.Fits.{has_key, opens_own, fits_lock, wrong_lock}
 use Rattle.swap_job.specs.declared.job.Job.{Job}
 use Rattle.proposed_deal.specs.Proposed.{HaveSeeds}
-use Rattle.swap_gen.specs.Made.{seed_in, hashlock_from, keys_from, all_keys, filled, made_deal, made}
+use Rattle.swap_gen.specs.Made.{seed_in, hashlock_from, keys_from, all_keys, made_deal, made}
 use Rattle.swap_gen.specs.Owned.{OwnsKeys}
 
 some_is : (o : Option (List ℕ)) → IsSome o → (x : List ℕ) × (o ≡ Some x)

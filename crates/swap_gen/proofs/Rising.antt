@@ -1,14 +1,13 @@
 -- A ring is strongly connected, and where followers lead up alone, the leaders break every cycle.
-use Rattle.std.proofs.Common.{◌≡◌, ◌⊎◌, ℕ, zero, suc, ◌+◌, ◌-◌, ◌%◌, ◌<◌, ◌≤◌, ◌==◌, Bool, true, false, not, ◌&&◌, IsTrue, List, [], ◌∷◌, length, refl, sym}
-use Rattle.std.proofs.Common.{ap, ◌∙◌, subst, inl, inr, arith, eqb-true, eq-eqb}
+use Rattle.std.proofs.Common.{◌≡◌, ◌⊎◌, ℕ, zero, suc, ◌+◌, ◌-◌, ◌%◌, ◌<◌, ◌≤◌, Bool, true, false, not, List, [], ◌∷◌, refl, sym}
+use Rattle.std.proofs.Common.{ap, ◌∙◌, subst, inl, inr, arith, eqb-true}
 use Rattle.std.specs.List.{list_all, range_with_len}
 use Rattle.std.proofs.Math.Nat.{mod-eq_of_lt, mod_self}
 use Rattle.std.proofs.lemmas.Bool.{false≢true, cases_lt, not-true}
 use Rattle.swap_base.specs.Lists.{IsIn}
-use Rattle.swap_base.proofs.Lists.{and_parts, list_all-from, list_all-in, in_range, from_range}
-use Rattle.swap_digraph.specs.declared.arc_ends.ArcEnds.{ArcEnds}
+use Rattle.swap_base.proofs.Lists.{and_parts, list_all-from, in_range, from_range}
 use Rattle.swap_digraph.specs.Value.{Graph}
-use Rattle.swap_digraph.specs.Graph.{parties, is_path, is_among, has_arc, first_is, last_is, are_followers, IsPathBetween, IsFeedback, IsStronglyConnected}
+use Rattle.swap_digraph.specs.Graph.{parties, is_path, is_among, has_arc, last_is, are_followers, IsFeedback, IsStronglyConnected}
 use Rattle.digraph_check.specs.Reach.{reaches_in, reaches}
 use Rattle.digraph_check.proofs.Walks.{stays, along, snoc}
 use Rattle.digraph_check.proofs.Paths.{walk_reaches}

@@ -1,18 +1,16 @@
 -- Lists of arcs that are a digraph, and in which no arc leads from a follower down to another.
-use Rattle.std.proofs.Common.{◌≡◌, ◌≢◌, ◌⊎◌, ℕ, zero, suc, ◌+◌, ◌-◌, ◌<◌, ◌≤◌, ◌==◌, nat_lt, Bool, true, false, cond, not, ◌&&◌, ◌||◌, List, [], ◌∷◌, ◌++◌}
-use Rattle.std.proofs.Common.{length, get_or, Option, Some, None, position, refl, sym, ap, ◌∙◌, subst, inl, inr, arith, append-nil, append_assoc, eqb-true}
-use Rattle.std.proofs.Common.{eq-eqb, lt-ltb, ltb-true, length-append}
+use Rattle.std.proofs.Common.{◌≡◌, ◌≢◌, ◌⊎◌, ℕ, ◌+◌, ◌-◌, ◌<◌, ◌≤◌, true, false, List, [], ◌∷◌, ◌++◌}
+use Rattle.std.proofs.Common.{length, get_or, Option, Some, None, position, refl, sym, ap, ◌∙◌, subst, inl, inr, arith, append-nil, append_assoc}
+use Rattle.std.proofs.Common.{eq-eqb, lt-ltb, length-append}
 use Rattle.std.specs.List.{list_any}
-use Rattle.std.proofs.lemmas.Bool.{false≢true, eqb-false, ne_eqb, cases_lt, both_ways}
+use Rattle.std.proofs.lemmas.Bool.{false≢true, ne_eqb, cases_lt}
 use Rattle.std.proofs.lemmas.List.{get_or_append_left, get_or-append_right}
 use Rattle.std.proofs.lemmas.List.Quantifiers.{position-Some}
-use Rattle.swap_base.specs.Lists.{IsIn, or_else}
-use Rattle.swap_base.proofs.Lists.{and_parts, list_any-in, from_append, in_place, none_both}
-use Rattle.swap_digraph.specs.Arcs.{fault_at, first_fault, first_fault_after, parallel, same_ends}
+use Rattle.swap_base.specs.Lists.{IsIn}
+use Rattle.swap_base.proofs.Lists.{list_any-in, from_append, in_place, none_both}
+use Rattle.swap_digraph.specs.Arcs.{fault_at, first_fault, first_fault_after, same_ends}
 use Rattle.swap_digraph.specs.declared.arc_ends.ArcEnds.{ArcEnds}
-use Rattle.swap_digraph.specs.declared.fault.ArcFault.{ArcFault}
 use Rattle.swap_digraph.specs.declared.deal.Version.TheVariants.{One}
-use Rattle.digraph_check.proofs.ListTests.{passing}
 use Rattle.swap_gen.proofs.Places.{no_arc}
 
 -- An arc leads from one party to another, and not from a follower down to another.

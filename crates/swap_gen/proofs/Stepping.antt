@@ -1,7 +1,6 @@
 -- The events that a number gives may come in a world of its job.
-use Rattle.std.proofs.Common.{◌≡◌, ◌⊎◌, ℕ, zero, suc, ◌+◌, ◌-◌, ◌*◌, ◌%◌, ◌<◌, ◌≤◌, ◌==◌, ◌||◌, nat_le, Bool, true, false, cond, List, [], ◌∷◌, length}
-use Rattle.std.proofs.Common.{filter, get_or, slice_index, replicate, refl, sym, ap, ◌∙◌, subst, inl, inr, arith, eq-eqb, All}
-use Rattle.std.specs.List.{range_with_len}
+use Rattle.std.proofs.Common.{◌≡◌, ℕ, suc, ◌-◌, ◌%◌, ◌<◌, ◌≤◌, ◌==◌, ◌||◌, nat_le, Bool, true, false, cond, List, [], ◌∷◌, length}
+use Rattle.std.proofs.Common.{filter, get_or, sym, ap, subst, inl, inr, arith, eq-eqb}
 use Rattle.std.proofs.Math.Nat.{mod-lt}
 use Rattle.swap_base.specs.Lists.{IsIn}
 use Rattle.swap_base.proofs.Lists.{from_filter, in_filter, from_range, in_range, in_place}
@@ -11,15 +10,11 @@ use Rattle.swap_digraph.specs.declared.arc_ends.ArcEnds.{ArcEnds}
 use Rattle.swap_digraph.specs.declared.deal.Deal.{Deal}
 use Rattle.swap_job.specs.declared.event.Event.{Event}
 use Rattle.swap_job.specs.declared.event.Event.TheVariants.{Tick, Look, Act}
-use Rattle.swap_job.specs.declared.job.Job.{Job}
 use Rattle.swap_job.specs.Crafted.{Seeds}
-use Rattle.swap_job.specs.Step.{CanStep, CanTick, CanLook}
+use Rattle.swap_job.specs.Step.{CanStep, CanLook}
 use Rattle.digraph_check.proofs.ListTests.{or-left}
-use Rattle.swap_rules.specs.Accepted.{IsAccepted}
 use Rattle.swap_gen.specs.Word.{word, next}
-use Rattle.swap_gen.specs.Made.{made, made_deal, filled}
-use Rattle.swap_gen.specs.Owned.{OwnsKeys}
-use Rattle.swap_gen.specs.Drawn.{ring_arc, drawn_arcs, drawn_graph, plain_deal, plain_job, seed_of, generated}
+use Rattle.swap_gen.specs.Drawn.{ring_arc, drawn_arcs, drawn_graph}
 use Rattle.swap_gen.specs.Events.{touching, picked, event_from}
 use Rattle.swap_gen.proofs.Places.{no_arc}
 use Rattle.swap_gen.proofs.Rings.{arcs_have_ring}

@@ -1,5 +1,5 @@
 -- The deal that a number gives, put together.
-use Rattle.std.proofs.Common.{◌≡◌, ℕ, ◌+◌, ◌-◌, ◌*◌, ◌<◌, ◌≤◌, List, [], ◌∷◌, length, map, replicate, None, refl, sym, ap, ◌∙◌, subst, arith}
+use Rattle.std.proofs.Common.{◌≡◌, ℕ, ◌-◌, ◌≤◌, List, [], length, map, replicate, None, ap, ◌∙◌, arith}
 use Rattle.std.specs.List.{range_with_len}
 use Rattle.swap_digraph.specs.Value.{Graph}
 use Rattle.swap_digraph.specs.Arcs.{first_fault}
@@ -8,7 +8,6 @@ use Rattle.swap_digraph.specs.declared.deal.Deal.{Deal}
 use Rattle.swap_digraph.specs.declared.deal.Mode.TheVariants.{Hashkeys}
 use Rattle.swap_digraph.specs.declared.deal.Version.TheVariants.{One}
 use Rattle.swap_gen.specs.Drawn.{leader_count, drawn_arcs, drawn_graph, drawn_amount, plain_deal}
-use Rattle.swap_gen.proofs.Sound.{AreSound}
 use Rattle.swap_gen.proofs.Rings.{arcs_are_sound, arcs_have_ring}
 
 pub few_arcs : (seed n : ℕ) (xs : List ArcEnds) → n ≤ 24 → xs ≡ drawn_arcs seed n → length xs ≤ 48

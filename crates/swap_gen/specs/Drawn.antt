@@ -1,6 +1,6 @@
 -- The job that a number gives: a ring of n parties with further arcs that are drawn.
 use Rattle.std.specs.Prelude.{ℕ, zero, suc, ◌+◌, ◌-◌, ◌*◌, ◌%◌, min, Bool, true, not, ◌==◌, ◌&&◌, ◌||◌, nat_lt, List, [], ◌∷◌, ◌++◌, map, length, replicate}
-use Rattle.std.specs.Prelude.{codes, decimal, Option, Some, if◌then◌else◌}
+use Rattle.std.specs.Prelude.{codes, decimal, Some, if◌then◌else◌}
 use Rattle.std.specs.Int.{w64, to_be_bytes}
 use Rattle.std.specs.List.{list_any, range_with_len}
 use Rattle.sha2.specs.Sha256.{sha256}

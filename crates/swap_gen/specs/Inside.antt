@@ -1,5 +1,5 @@
 -- What the fields of a generator mean, and what holds of them.
-use Rattle.std.specs.Prelude.{◌≡◌, ◌≤◌, ℕ, map}
+use Rattle.std.specs.Prelude.{◌≡◌, ◌≤◌, map}
 use Rattle.std.specs.List.{range_with_len}
 use Rattle.swap_gen.specs.Drawn.{generated}
 use Rattle.swap_gen.specs.Events.{touching, GeneratorState}

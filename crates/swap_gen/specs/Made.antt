@@ -1,9 +1,9 @@
 -- What the parties' seeds give a deal: hashlocks, keys, timelocks and the id.
-use Rattle.std.specs.Prelude.{◌≡◌, ◌<◌, ℕ, List, [], map, length, replicate, Option, Some, None, unwrap_or, slice_index_or}
+use Rattle.std.specs.Prelude.{ℕ, List, [], map, length, replicate, Option, None, unwrap_or, slice_index_or}
 use Rattle.std.specs.List.{range_with_len}
 use Rattle.time_bounds.specs.Times as times
 use Rattle.swap_digraph.specs.Graph.{arcs}
-use Rattle.swap_digraph.specs.Deal.{counterparty, leader_of, leads, locks}
+use Rattle.swap_digraph.specs.Deal.{counterparty, leader_of, locks}
 use Rattle.swap_digraph.specs.declared.deal.Deal.{Deal}
 use Rattle.swap_digraph.specs.declared.deal.Mode.{Mode}
 use Rattle.swap_digraph.specs.declared.deal.Mode.TheVariants.{Timelocks, Hashkeys}

@@ -1,6 +1,6 @@
 //! The arcs that a number gives.
 
-ghost use Rattle.std.specs.Prelude.{◌≡◌, ◌≤◌, ◌<◌, ◌+◌, ◌*◌, ◌%◌, IfOk, OnOk, length, map};
+ghost use Rattle.std.specs.Prelude.{◌≡◌, ◌≤◌, ◌<◌, ◌+◌, ◌*◌, ◌%◌, IfOk, OnOk, map};
 ghost use Rattle.std.specs.List.{list_any, range_with_len};
 ghost use Rattle.swap_digraph.specs.Arcs.{same_ends};
 ghost use Rattle.swap_gen.specs.Word.{next, word};

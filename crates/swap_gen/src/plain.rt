@@ -1,6 +1,6 @@
 //! The job that a number gives, before it is made.
 
-ghost use Rattle.std.specs.Prelude.{◌≡◌, ◌≤◌, ◌<◌, ◌+◌, ◌*◌, IfOk, OnOk, Some, true, None, length, map, replicate};
+ghost use Rattle.std.specs.Prelude.{◌≡◌, ◌≤◌, ◌<◌, IfOk, OnOk, Some, true, None, length, map, replicate};
 ghost use Rattle.std.specs.List.{range_with_len};
 ghost use Rattle.swap_digraph.specs.Arcs.{first_fault};
 ghost use Rattle.swap_job.specs.declared.job.Role.TheVariants.{Conforming};

@@ -1,6 +1,6 @@
 //! The wallets of a job's parties, made before its deal, which states their public keys: so each key is made once.
 
-ghost use Rattle.std.specs.Prelude.{◌≡◌, ◌≤◌, ◌<◌, ◌++◌, ◌∷◌, IfOk, OnOk, List, [], Some, length, map};
+ghost use Rattle.std.specs.Prelude.{◌≡◌, ◌≤◌, ◌<◌, ◌++◌, ◌∷◌, IfOk, OnOk, [], Some, length, map};
 ghost use Rattle.std.specs.List.{range_with_len};
 ghost use Rattle.swap_digraph.specs.declared.deal.Mode.TheVariants.{Hashkeys};
 ghost use Rattle.hash_signature.specs.Signature.{public_key_of};

@@ -1,6 +1,6 @@
 //! A source and a sink in memory, whose calls fail where they are told to.
 
-ghost use Rattle.std.specs.Prelude.{◌≡◌, ◌<◌, ◌≤◌, ◌↔◌, ◌⊎◌, List, [], length, drop, Contains, Some, IfOk, IfSome, IsOk, IsErr, OnOk, vec_capacity};
+ghost use Rattle.std.specs.Prelude.{◌≡◌, ◌<◌, ◌≤◌, ◌↔◌, ◌⊎◌, [], length, drop, Contains, Some, IfOk, IsOk, IsErr, OnOk, vec_capacity};
 ghost use Rattle.std.specs.Io.{ReadsAtMost, WritesAtMost};
 ghost use Rattle.std.specs.Io.KnownBytes.{ReadConsumes, WriteAppends};
 ghost use Rattle.swap_io.specs.Causes.{HasCause};

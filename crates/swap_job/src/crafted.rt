@@ -1,6 +1,6 @@
 //! Hashkeys that parties make together, each with a key made anew from its seed.
 
-ghost use Rattle.std.specs.Prelude.{◌≡◌, ◌<◌, IsTrue, IfOk, Some, None, true, is_some, length, slice_index_or};
+ghost use Rattle.std.specs.Prelude.{◌≡◌, ◌<◌, IfOk, Some, None, true, is_some, length, slice_index_or};
 ghost use Rattle.std.specs.Option.{ForSome};
 ghost use Rattle.swap_job.specs.Crafted.{put_before, crafted, crafted_onto};
 ghost use Rattle.swap_job.specs.Fitting.{CanCraft};

@@ -1,6 +1,6 @@
 //! How the program ends: the number of its status, and what it tells on standard error.
 
-ghost use Rattle.std.specs.Prelude.{◌≡◌, ◌⊎◌, ◌++◌, ◌∷◌, [], ℕ, List, IfOk, codes};
+ghost use Rattle.std.specs.Prelude.{◌≡◌, ◌⊎◌, ℕ, List, IfOk};
 ghost use Rattle.refusals.specs.declared.reason.Reason.{Reason};
 ghost use Rattle.swap_main.specs.Exit.{IsExit, lines_of, told_text};
 

@@ -1,6 +1,6 @@
 //! A chain: its clock and its free accounts.
 
-ghost use Rattle.std.specs.Prelude.{◌≡◌, ◌≤◌, ◌<◌, ◌+◌, ◌^◌, IsTrue, length, slice_index_or, sum_by, false, true};
+ghost use Rattle.std.specs.Prelude.{◌≡◌, ◌≤◌, ◌<◌, ◌+◌, ◌^◌, IsTrue, length, sum_by, false};
 ghost use Rattle.swap_many.specs.Accounts.{ChainState, units_in};
 ghost use Rattle.swap_many.specs.Chains.{has_no_tick, is_done, paid, plus, reply_to_payment, reply_to_tick_of};
 ghost use Rattle.swap_many.specs.Kept.{later};

@@ -8,7 +8,7 @@ ghost use Rattle.swap_run.specs.Run.{conforms};
 ghost use Rattle.swap_world.specs.Value.{cast_at};
 ghost use Rattle.swap_many.specs.Fair.{kept_acts, kept_looks, kept_round, kept_round_or_rest, kept_rounds, kept_sweeps, kept_ticks, kept_turn, kept_turns};
 ghost use Rattle.swap_many.specs.Fair.{have_ended, sweeps_of};
-ghost use Rattle.swap_many.specs.Kept.{kept_done, kept_finish};
+ghost use Rattle.swap_many.specs.Kept.{kept_finish};
 ghost use Rattle.swap_many.specs.Many.{last_horizon};
 ghost use Rattle.swap_many.specs.Near.{AreNear, near_in};
 ghost use Rattle.swap_many.specs.Value.{HasManyGone, IsManyStopped, IsOn, IsPartyOf, kept_of, setup_of, world_at};

@@ -1,6 +1,6 @@
 //! Ticks of the ledgers of several worlds that stand on one chain.
 
-ghost use Rattle.std.specs.Prelude.{◌≡◌, ◌<◌, ◌≤◌, ℕ, length, slice_index_or, false, true};
+ghost use Rattle.std.specs.Prelude.{◌≡◌, ◌<◌, ◌≤◌, length};
 ghost use Rattle.swap_many.specs.Ticking.{AreTickable, AreTicked, some_stopped};
 
 use swap_base::{ArcId, Listed};

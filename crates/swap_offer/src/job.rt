@@ -1,6 +1,6 @@
 //! The job and the events of an offer.
 
-ghost use Rattle.std.specs.Prelude.{true, ◌≡◌, ◌<◌, ◌≤◌, ◌^◌, ◌∷◌, List, [], ℕ, length, map, All, IfOk, OnOk};
+ghost use Rattle.std.specs.Prelude.{true, ◌≡◌, ◌<◌, ◌≤◌, ◌^◌, ◌∷◌, length, map, All, IfOk};
 ghost use Rattle.swap_base.specs.Fault.{Gives, steps};
 ghost use Rattle.swap_job.specs.Step.{IsEventOf};
 ghost use Rattle.offer_events.specs.Event.{needs_seeds};

@@ -1,8 +1,7 @@
 //! The lines of a file.
 
-ghost use Rattle.std.specs.Prelude.{◌≡◌, ◌+◌, ◌<◌, ◌^◌, ℕ, List, length, map, IfOk, ◌≤◌};
-ghost use Rattle.std.specs.List.{list_all};
-ghost use Rattle.swap_offer.specs.Lines.{before, after, is_blank, is_blank_byte, lines_of, filled_lines};
+ghost use Rattle.std.specs.Prelude.{◌≡◌, ◌+◌, ◌<◌, ◌^◌, List, length, map, IfOk, ◌≤◌};
+ghost use Rattle.swap_offer.specs.Lines.{before, after, is_blank, lines_of, filled_lines};
 
 use std::alloc::Global;
 use swap_base::NoMemory;

@@ -1,5 +1,5 @@
 -- Conduct from the rules that a party keeps call by call.
-use Rattle.std.proofs.Common.{append_assoc, count_by, ◌≡◌, ◌≢◌, ◌⊎◌, ℕ, ◌+◌, ◌<◌, ◌==◌, nat_lt, Bool, true, false, cond, not, ◌&&◌, ◌||◌, IsTrue, List}
+use Rattle.std.proofs.Common.{append_assoc, count_by, ◌≡◌, ◌≢◌, ◌⊎◌, ℕ, ◌+◌, ◌<◌, ◌==◌, nat_lt, Bool, true, false, cond, ◌&&◌, IsTrue, List}
 use Rattle.std.proofs.Common.{[], ◌∷◌, ◌++◌, length, Option, Some, None, is_some, refl, sym, ap, ◌∙◌, subst, inl, inr, arith, eq-eqb, ltb-true, lt-ltb}
 use Rattle.std.proofs.Common.{append-nil, set}
 use Rattle.std.specs.List.{list_any, list_all, flat_map}
@@ -8,16 +8,13 @@ use Rattle.std.proofs.lemmas.Option.{same_Some}
 use Rattle.std.proofs.lemmas.List.{get_or-set_same, get_or-set_other, length-set}
 use Rattle.std.proofs.lemmas.List.Sums.{sum_by-append, sum_by-cons}
 use Rattle.swap_base.specs.Lists.{first_of, IsIn, Moment, moments, IsMoment, moments_after}
-use Rattle.swap_base.proofs.Lists.{first_at, first_of-in, all_moments_push, list_all-from, list_any-at, and_parts, and_both, in_from_moment}
+use Rattle.swap_base.proofs.Lists.{first_at, first_of-in, all_moments_push, list_all-from, list_any-at, and_both, in_from_moment}
 use Rattle.swap_base.proofs.Lists.{moment_from_in, in_whole, from_whole}
 use Rattle.swap_digraph.specs.declared.deal.Deal.{Deal}
-use Rattle.swap_digraph.specs.Deal.{party, counterparty, hashlock_of, touches}
+use Rattle.swap_digraph.specs.Deal.{hashlock_of, touches}
 use Rattle.hashkey_path.specs.declared.hashkey.Hashkey.{Hashkey}
 use Rattle.hashkey_path.specs.Hashkey.{same_key, is_valid}
-use Rattle.escrow_core.specs.declared.reply.Reply.{Reply}
-use Rattle.escrow_core.specs.declared.reply.Reply.TheVariants.{SenderFull}
 use Rattle.escrow_core.specs.Terms.{terms_of, same_terms}
-use Rattle.escrow_core.specs.Table.{first_row}
 use Rattle.ledger_core.specs.declared.entry.Call.{Call}
 use Rattle.ledger_core.specs.declared.entry.Call.TheVariants.{Publish, Unlock, Claim, Refund, Transfer}
 use Rattle.ledger_core.specs.declared.entry.Sender.{Sender}
@@ -25,14 +22,14 @@ use Rattle.ledger_core.specs.declared.entry.Sender.TheVariants.{Party}
 use Rattle.ledger_core.specs.declared.entry.What.{What}
 use Rattle.ledger_core.specs.declared.entry.What.TheVariants.{Call as Made}
 use Rattle.ledger_core.specs.declared.entry.Entry.{Entry}
-use Rattle.ledger_core.specs.History.{height, published, rows, reply_to, fit, is_full, IsLegal, IsLegalMoment, sent_by, call_in}
+use Rattle.ledger_core.specs.History.{height, published, reply_to, fit, IsLegal, IsLegalMoment, sent_by, call_in}
 use Rattle.ledger_core.specs.Book.{Histories, history, IsLegalBook}
 use Rattle.swap_rules.specs.Party.{has_expired, is_ready, call_by, key_in, first_key}
 use Rattle.swap_rules.specs.Conduct.{is_publish, is_first_key, keeps, keeps_at, IsConducted}
 use Rattle.ledger_core.specs.Ledger.{after_call, is_sender_full}
 use Rattle.swap_rules.specs.Machine.{KeepsOwn, KeepsKey, KeepsRules, Begins, Knows, entry_of}
 use Rattle.swap_rules.proofs.Words.{past_end, call_of_parts, act_of, key_parts, same_key-refl}
-use Rattle.ledger_core.proofs.History.{is_some-of, not-true-of}
+use Rattle.ledger_core.proofs.History.{is_some-of}
 use Rattle.swap_rules.proofs.Prefixes.{begins_refl, not_any-in, same_or_not, at_end}
 use Rattle.swap_rules.proofs.Growth.{Grows, is_ready-more, may-more, has_origin-more}
 

@@ -1,11 +1,10 @@
 -- Where all conform, every arc is published in time with the correct terms.
-use Rattle.std.proofs.Common.{le-leb, length-append, count_by, ◌≡◌, ◌⊎◌, ℕ, suc, zero, ◌+◌, ◌<◌, ◌≤◌, ◌==◌, nat_lt, nat_le, Bool, true, false, cond}
+use Rattle.std.proofs.Common.{le-leb, length-append, count_by, ◌≡◌, ℕ, suc, zero, ◌+◌, ◌<◌, ◌≤◌, ◌==◌, nat_lt, nat_le, true, false, cond}
 use Rattle.std.proofs.Common.{not, if◌then◌else◌, ◌&&◌, ◌||◌, List, [], ◌∷◌, ◌++◌, length, Option, Some, None, is_some, refl, sym, ap, ◌∙◌, subst, inl}
 use Rattle.std.proofs.Common.{inr, arith, eq-eqb, lt-ltb, le-ltb, mul-le-mul_right, ◌*◌}
 use Rattle.std.proofs.lemmas.Bool.{false≢true}
 use Rattle.swap_base.specs.Lists.{or_else, IsIn, IsMoment}
 use Rattle.swap_base.proofs.Lists.{list_all-from, in_range, in_filter, and_both, greatest-below, first_of-append, in_append, bool_or}
-use Rattle.time_bounds.specs.Times.{need}
 use Rattle.swap_digraph.specs.declared.deal.Deal.{Deal}
 use Rattle.swap_digraph.specs.Graph.{is_path, last_is, ends, arcs, leaving, entering, is_among, are_followers}
 use Rattle.swap_digraph.specs.Deal.{party, counterparty, leader_of, amount}

@@ -1,8 +1,6 @@
 -- The entries of a party that keeps its rules never fill a ledger.
-use Rattle.std.proofs.Common.{length-append, count_by, ◌≡◌, ◌⊎◌, ℕ, suc, zero, ◌+◌, ◌≤◌, Bool, true, false, cond, not, List, [], ◌∷◌, ◌++◌, length}
-use Rattle.std.proofs.Common.{Option, Some, None, refl, sym, ap, ◌∙◌, inl, inr, arith, eq-eqb, leb-true, map}
-use Rattle.std.specs.List.{range_with_len}
-use Rattle.std.proofs.lemmas.Bool.{false≢true}
+use Rattle.std.proofs.Common.{length-append, count_by, ◌≡◌, ℕ, suc, ◌+◌, ◌≤◌, Bool, true, false, cond, not, List, [], ◌∷◌, ◌++◌, length}
+use Rattle.std.proofs.Common.{Option, Some, None, refl, ap, ◌∙◌, inl, inr, arith, eq-eqb, leb-true, map}
 use Rattle.std.proofs.lemmas.List.Sums.{sum_by-append, sum_by-cons}
 use Rattle.swap_base.specs.Lists.{IsIn, IsMoment}
 use Rattle.swap_base.proofs.Lists.{at_moment, list_any-in, in_append, grow, length-range}
@@ -29,7 +27,7 @@ use Rattle.swap_rules.specs.Accepted.{IsAccepted}
 use Rattle.swap_rules.specs.Due.{is_unlock_for, is_claiming, is_refunding, has_called}
 use Rattle.swap_rules.specs.Machine.{KeepsOwn, KeepsRules, test_of}
 use Rattle.swap_rules.specs.Laws.{RulesLeaveRoom}
-use Rattle.ledger_core.proofs.History.{not-true, not-true-of}
+use Rattle.ledger_core.proofs.History.{not-true}
 use Rattle.swap_rules.proofs.Words.{publish_rule, unlock_rule, claim_rule, refund_rule}
 use Rattle.swap_rules.proofs.Prefixes.{moment_more, list_any-more}
 use Rattle.swap_rules.proofs.Conducting.{below_of}

@@ -14,7 +14,6 @@ use Rattle.swap_digraph.specs.declared.deal.Mode.TheVariants.{Timelocks, Hashkey
 use Rattle.swap_digraph.specs.declared.deal.Deal.{Deal}
 use Rattle.swap_digraph.specs.Graph.{arcs, leaving, entering, is_among}
 use Rattle.swap_digraph.specs.Deal.{locks, leads, hashlock_of}
-use Rattle.hash_signature.specs.declared.sig.Sig.{Sig}
 use Rattle.hashkey_path.specs.declared.hashkey.Hashkey.{Hashkey}
 use Rattle.hashkey_path.specs.Hashkey.{same_key, is_valid}
 use Rattle.escrow_core.specs.declared.terms.Terms.{Terms}

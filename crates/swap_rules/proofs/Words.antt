@@ -7,12 +7,11 @@ use Rattle.std.proofs.lemmas.List.{get_or_default}
 use Rattle.std.proofs.lemmas.Slice.Eq.{bytes_eq-Decides}
 use Rattle.std.specs.Str.{bytes_eq}
 use Rattle.std.specs.Prelude.{map}
-use Rattle.swap_base.proofs.Lists.{same_list-refl, same_list-true, and_parts, list_any-in, or-right, in_range, from_range, from_filter, in_append}
+use Rattle.swap_base.proofs.Lists.{same_list-refl, same_list-true, and_parts, in_range, from_range, from_filter, in_append}
 use Rattle.swap_base.proofs.Lists.{in_map}
 use Rattle.swap_base.specs.Lists.{IsIn, IsMoment, same_list}
 use Rattle.swap_digraph.specs.declared.deal.Deal.{Deal}
-use Rattle.swap_digraph.specs.Value.{Graph}
-use Rattle.swap_digraph.specs.Graph.{is_path, last_is, ends, arcs, leaving, entering, is_among}
+use Rattle.swap_digraph.specs.Graph.{ends, arcs, leaving, entering, is_among}
 use Rattle.swap_digraph.specs.Deal.{party, counterparty, locks, leads, leader_of}
 use Rattle.hash_signature.specs.declared.sig.Sig.{Sig}
 use Rattle.hashkey_path.specs.declared.hashkey.Hashkey.{Hashkey}

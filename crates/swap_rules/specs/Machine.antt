@@ -1,5 +1,5 @@
 -- A party that acts on what it knows: its knowledge, its wallet, and the rules that each of its calls keeps as it is made.
-use Rattle.std.specs.Prelude.{◌≡◌, ℕ, ◌<◌, Bool, true, false, ◌||◌, ◌==◌, IsTrue, List, [], ◌∷◌, ◌++◌, length, Option, Some, is_some, if◌then◌else◌}
+use Rattle.std.specs.Prelude.{◌≡◌, ℕ, ◌<◌, Bool, true, false, ◌||◌, ◌==◌, IsTrue, List, ◌++◌, length, Option, Some, is_some, if◌then◌else◌}
 use Rattle.std.specs.Str.{bytes_eq}
 use Rattle.swap_base.specs.Lists.{IsIn, IsMoment}
 use Rattle.swap_digraph.specs.Graph.{leaving, entering, is_among}
@@ -12,10 +12,8 @@ use Rattle.hashkey_path.specs.Hashkey.{is_valid}
 use Rattle.escrow_core.specs.Terms.{terms_of, same_terms}
 use Rattle.ledger_core.specs.declared.entry.Call.{Call}
 use Rattle.ledger_core.specs.declared.entry.Call.TheVariants.{Publish, Unlock, Claim, Refund, Transfer}
-use Rattle.ledger_core.specs.declared.entry.Sender.TheVariants.{Party}
-use Rattle.ledger_core.specs.declared.entry.What.TheVariants.{Call as Made}
 use Rattle.ledger_core.specs.declared.entry.Entry.{Entry}
-use Rattle.ledger_core.specs.History.{height, published, triggered, sent_by, is_full, reply_to}
+use Rattle.ledger_core.specs.History.{height, published, triggered, sent_by, reply_to}
 use Rattle.ledger_core.specs.Ledger.{call_entry}
 use Rattle.ledger_core.specs.Book.{Histories, history, IsLegalBook}
 use Rattle.swap_rules.specs.declared.finding.Rule.{Rule}

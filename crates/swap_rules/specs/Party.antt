@@ -1,5 +1,5 @@
 -- What a party reads in a book, or in what it knows of one: one list of entries per arc.
-use Rattle.std.specs.Prelude.{ℕ, Bool, false, not, ◌&&◌, ◌==◌, nat_lt, nat_le, List, [], Option, Some, None, if◌then◌else◌}
+use Rattle.std.specs.Prelude.{ℕ, Bool, false, not, ◌&&◌, ◌==◌, nat_lt, nat_le, List, Option, Some, None, if◌then◌else◌}
 use Rattle.std.specs.List.{list_any, list_all, flat_map}
 use Rattle.swap_base.specs.Lists.{first_of, greatest}
 use Rattle.time_bounds.specs.Times as times

@@ -8,7 +8,6 @@ use Rattle.ledger_core.proofs.History.{not-true}
 use Rattle.std.proofs.lemmas.List.{set-set, set_comm, set-get_or, length-set, get_or-set_same, get_or-set_other}
 use Rattle.swap_base.specs.Lists.{IsIn}
 use Rattle.swap_base.proofs.Lists.{from_range, in_range, list_all-in}
-use Rattle.swap_digraph.specs.declared.deal.Deal.{Deal}
 use Rattle.swap_digraph.specs.Graph.{arcs}
 use Rattle.hashkey_path.specs.declared.hashkey.Hashkey.{Hashkey}
 use Rattle.ledger_core.specs.declared.entry.Entry.{Entry}

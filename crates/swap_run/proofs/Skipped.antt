@@ -13,7 +13,7 @@ use Rattle.swap_job.specs.declared.job.Role.TheVariants.{Conforming, Manual, Scr
 use Rattle.swap_rules.proofs.Prefixes.{same_or_not}
 use Rattle.swap_run.specs.Run.{Cast, Notes, State, conforms, role_of, is_planned, notes_of, act, act_as, look, watch, run_from, step}
 use Rattle.swap_run.specs.Fair.{repeat, adjacent, looks, acts, most_acts, turn, turns, ticks, round, has_ended, round_unless_ended}
-use Rattle.swap_run.specs.Quiet.{over, IsIdle}
+use Rattle.swap_run.specs.Quiet.{over}
 use Rattle.swap_run.specs.Steps.{act_steps, look_steps, pass_steps, round_steps, rounds_steps, tick_steps, turn_steps, turns_steps, unless_steps}
 use Rattle.swap_run.specs.Steps.{IsAlong, IsSkipped}
 use Rattle.swap_run.proofs.Along.{along_start, along_more, along_after, along_split, along_none, along_one, looks_run, acts_run, turn_run, turns_run}

@@ -1,7 +1,6 @@
 //! What a party knows and plans that follows a script or a strategy.
 
-ghost use Rattle.std.specs.Prelude.{◌≡◌, ◌<◌, ◌+◌, ◌++◌, true, length, replicate, [], IfOk, OnOk, OnErr};
-ghost use Rattle.swap_digraph.specs.Deal.{IsWellSized};
+ghost use Rattle.std.specs.Prelude.{◌≡◌, ◌<◌, ◌+◌, ◌++◌, true, length, IfOk, OnOk, OnErr};
 ghost use Rattle.ledger_core.specs.Book.{history};
 ghost use Rattle.deviators.specs.Script.{next_call, moves_left};
 ghost use Rattle.deviators.specs.View.{IsView, MayAnswer};

@@ -1,6 +1,6 @@
 //! Journals on disks that were written by hand.
 
-ghost use Rattle.std.specs.Prelude.{◌≡◌, ◌≤◌, ◌<◌, ◌+◌, length};
+ghost use Rattle.std.specs.Prelude.{◌≤◌, ◌<◌, ◌+◌, length};
 ghost use Rattle.swap_digraph.specs.Deal.{IsWellSized};
 
 use crate::rows::{answers, number_of, numbers, parted};

@@ -5,7 +5,7 @@ use Rattle.std.proofs.Math.Seq.{drop-append_seam, lt-length-set}
 use Rattle.std.proofs.lemmas.List.{get_or-set_same}
 use Rattle.swap_digraph.specs.declared.deal.Deal.{Deal}
 use Rattle.ledger_core.specs.declared.entry.Entry.{Entry}
-use Rattle.ledger_core.specs.Book.{Histories, history}
+use Rattle.ledger_core.specs.Book.{history}
 use Rattle.ledger_core.specs.Ledger.{IsAfter}
 use Rattle.ledger_core.specs.Value.{LedgerState}
 use Rattle.swap_rules.specs.Machine.{Begins}

@@ -1,6 +1,6 @@
 -- Swaps begin where their worlds are new, and stay those of their jobs.
-use Rattle.std.proofs.Common.{◌≡◌, ℕ, ◌+◌, ◌<◌, ◌≤◌, ◌^◌, Bool, true, List, [], ◌∷◌, ◌++◌, length, map, refl, sym, ap, ap₂, ◌∙◌, subst, arith, get_or}
-use Rattle.std.proofs.Common.{slice_index_or, sum_by, zero, suc, Option, Some, None, Result, Ok, Err}
+use Rattle.std.proofs.Common.{◌≡◌, ℕ, ◌+◌, ◌<◌, ◌≤◌, Bool, true, List, [], ◌∷◌, ◌++◌, length, map, refl, sym, ap, ap₂, ◌∙◌, subst, arith, get_or}
+use Rattle.std.proofs.Common.{slice_index_or, zero, suc, Option, Some, None, Ok}
 use Rattle.std.specs.List.{All}
 use Rattle.std.proofs.lemmas.List.{get_or-map, length-append, length-map, map-append}
 use Rattle.std.proofs.lemmas.List.Elements.{All-get_or, All-push}
@@ -9,23 +9,19 @@ use Rattle.swap_job.specs.declared.job.Job.{Job}
 use Rattle.swap_job.specs.Step.{CanStep, IsEventOf}
 use Rattle.swap_run.specs.Run.{Cast}
 use Rattle.swap_run.specs.CalledLaws.{is_no_tick}
-use Rattle.swap_world.specs.Cast.{cast_of}
 use Rattle.swap_world.specs.Actors.{AreHeld}
 use Rattle.swap_world.specs.Value.{WorldState, cast_at, new_world}
 use Rattle.swap_world.specs.Gone.{Gives}
-use Rattle.swap_world.proofs.Idle.{any_default}
-use Rattle.swap_many.specs.declared.many_event.ManyEvent.{ManyEvent}
 use Rattle.swap_many.specs.declared.many_event.ManyEvent.TheVariants.{In, Sweep}
 use Rattle.swap_many.specs.declared.place.Place.{Place}
 use Rattle.swap_many.specs.declared.overdrawn.Overdrawn.{Overdrawn}
 use Rattle.swap_many.specs.Chains.{Setup, nowhere}
 use Rattle.swap_many.specs.Kept.{Kept}
-use Rattle.swap_many.specs.Laws.{CanCome}
 use Rattle.swap_many.specs.Opening.{AreOpenable, IsNew, IsPlaceOn, new_many, opened_or}
 use Rattle.swap_many.specs.Ticking.{nth}
-use Rattle.swap_many.specs.Value.{ManyState, AreAllHeld, AreSame, HasManyGone, no_world, setup_of, world_at}
+use Rattle.swap_many.specs.Value.{ManyState, HasManyGone, no_world}
 use Rattle.swap_many.proofs.Values.{held_same, same_setup_of}
-use Rattle.tests_many.specs.Played.{AreBegun, AreOf, CanComeIn, CanComeTo, IsChain, IsHeldFor, IsOf, IsRun}
+use Rattle.tests_many.specs.Played.{AreBegun, AreOf, CanComeTo, IsChain, IsHeldFor, IsOf, IsRun}
 
 -- What holds of each item of a list holds of those past its end too, where it holds of the default.
 at_any : {A : Type 0} (P : A → Type 0) (xs : List A) (d : A) → P d → All P xs → (i : ℕ) → P (get_or xs i d)

@@ -1,6 +1,6 @@
 //! Attacks: what a run of each reports, and that a race comes to the same.
 
-ghost use Rattle.std.specs.Prelude.{◌≡◌, ℕ, IfOk};
+ghost use Rattle.std.specs.Prelude.{IfOk};
 ghost use Rattle.deviators.specs.View.{IsView, MayAnswer};
 
 use crate::attackers::{Attacker, attack_rule};

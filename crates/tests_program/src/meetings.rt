@@ -1,6 +1,6 @@
 //! Turns that wait for each other: at the gate, and within what they do.
 
-ghost use Rattle.std.specs.Prelude.{◌≡◌, ℕ, IfOk};
+ghost use Rattle.std.specs.Prelude.{IfOk};
 ghost use Rattle.deviators.specs.View.{IsView, MayAnswer};
 
 use crate::deals::HASHKEYS;

@@ -1,6 +1,6 @@
 //! What passes the gate, round by round, and what strategies are asked there.
 
-ghost use Rattle.std.specs.Prelude.{◌≡◌, ℕ, IfOk};
+ghost use Rattle.std.specs.Prelude.{IfOk};
 ghost use Rattle.deviators.specs.View.{IsView, MayAnswer};
 
 use crate::deals::HASHKEYS;

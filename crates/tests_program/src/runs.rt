@@ -1,6 +1,6 @@
 //! Runs and races of the program in the process of the tests, with strategies and a gate of theirs.
 
-ghost use Rattle.std.specs.Prelude.{◌≡◌, ℕ, IfOk};
+ghost use Rattle.std.specs.Prelude.{ℕ, IfOk};
 ghost use Rattle.deviators.specs.View.{IsView, MayAnswer};
 
 use deviators::{Kit, Rule, Strategy};

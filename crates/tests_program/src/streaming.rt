@@ -1,6 +1,6 @@
 //! An input is replayed as it comes: its first event is over before much of what follows is asked for.
 
-ghost use Rattle.std.specs.Prelude.{◌≡◌, ℕ, IfOk, Some};
+ghost use Rattle.std.specs.Prelude.{IfOk, Some};
 ghost use Rattle.deviators.specs.View.{IsView, MayAnswer};
 
 use crate::deals::{HASHKEYS, edited};

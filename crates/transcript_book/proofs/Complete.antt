@@ -1,6 +1,6 @@
 -- The lines of each book that a transcript can state are read as that book.
-use Rattle.std.proofs.Common.{◌≡◌, ◌==◌, ◌&&◌, ◌+◌, ◌^◌, ◌≤◌, ◌<◌, ℕ, zero, suc, nat_le, nat_lt, Bool, true, false, cond, List, [], ◌∷◌, ◌++◌, length, map}
-use Rattle.std.proofs.Common.{get_or, decimal, Result, Ok, refl, sym, ap, ap₂, ◌∙◌, subst, arith, append_assoc, append-nil, length-append, lt-ltb, le-leb}
+use Rattle.std.proofs.Common.{◌≡◌, ◌==◌, ◌+◌, ◌^◌, ◌≤◌, ◌<◌, ℕ, suc, nat_le, nat_lt, false, cond, List, [], ◌∷◌, ◌++◌, length, map}
+use Rattle.std.proofs.Common.{get_or, decimal, Result, Ok, refl, sym, ap, ◌∙◌, subst, arith, append_assoc, append-nil, length-append, lt-ltb, le-leb}
 use Rattle.std.proofs.Common.{eq-eqb, le-ltb}
 use Rattle.std.specs.Prelude.{All, codes}
 use Rattle.swap_base.specs.Fault.{◌>>=◌, steps}
@@ -21,8 +21,7 @@ use Rattle.ledger_core.specs.Book.{Histories}
 use Rattle.swap_job.specs.declared.job.Job.{Job}
 use Rattle.ledger_core.specs.WellFormed.{GoesOn, IsFormedWhat, IsFormedEntry, written_height}
 use Rattle.transcript_lines.specs.declared.said.Misspelling.{Misspelling}
-use Rattle.transcript_lines.specs.Between.{spaced, parts_at}
-use Rattle.transcript_lines.specs.Lines.{IsStatable, IsStated, entry_line, ledger_line, ledger_lines, lines_from}
+use Rattle.transcript_lines.specs.Lines.{IsStatable, IsStated, entry_line, ledger_lines, lines_from}
 use Rattle.transcript_lines.specs.Reading.{field_of, line_said, misspelt, number_below, number_of}
 use Rattle.transcript_lines.proofs.Numbers.{below_back, high_number, number_back}
 use Rattle.transcript_lines.proofs.Parts.{high_too, parts_between}
@@ -30,7 +29,7 @@ use Rattle.transcript_lines.proofs.Spelling.{field_back}
 use Rattle.transcript_lines.proofs.Stories.{entry_says, said_of}
 use Rattle.transcript_book.specs.Counts.{count_of, just, ledger_word, words_count}
 use Rattle.transcript_book.specs.Entries.{entry_at, entry_of, placed_as}
-use Rattle.transcript_book.specs.Stages.{BookSoFar, begun, ended, entry_read, gone_on, ledger_read, line_read, no_ledgers}
+use Rattle.transcript_book.specs.Stages.{BookSoFar, begun, ended, entry_read, gone_on, ledger_read, line_read}
 use Rattle.transcript_book.specs.Books.{WholeIsRead, whole}
 use Rattle.transcript_book.proofs.Heights.{held_again}
 use Rattle.transcript_book.proofs.Placed.{count_line}

@@ -1,19 +1,16 @@
 -- The line of an entry has no other spelling.
-use Rattle.std.proofs.Common.{◌≡◌, ℕ, ◌^◌, ◌<◌, List, [], ◌∷◌, ◌++◌, decimal, Result, Ok, refl, sym, ap, ap₂, ◌∙◌, subst}
+use Rattle.std.proofs.Common.{◌≡◌, ℕ, ◌^◌, ◌<◌, List, [], ◌∷◌, ◌++◌, decimal, Ok, refl, sym, ap, ◌∙◌, subst}
 use Rattle.std.specs.Prelude.{codes}
-use Rattle.swap_base.specs.Fault.{◌>>=◌}
-use Rattle.escrow_core.specs.declared.reply.Reply.{Reply}
 use Rattle.escrow_core.specs.declared.reply.Reply.TheVariants.{Accepted}
 use Rattle.ledger_core.specs.declared.entry.Sender.TheVariants.{Party, Clock}
 use Rattle.ledger_core.specs.declared.entry.What.TheVariants.{Call as Made, Tick}
 use Rattle.hashkey_path.proofs.Validity.{bytes_eq-true}
 use Rattle.transcript_lines.specs.declared.said.Said.{Said}
-use Rattle.transcript_lines.specs.declared.said.Misspelling.{Misspelling}
 use Rattle.transcript_lines.specs.Between.{between, spaced, parts_at}
-use Rattle.transcript_lines.specs.Words.{entry_words, call_words, reply_words}
-use Rattle.transcript_lines.specs.Reading.{number_below, field_of, call_of, reply_of, equals, nothing_more, call_said, tick_said, said_by, words_said}
+use Rattle.transcript_lines.specs.Words.{entry_words, call_words}
+use Rattle.transcript_lines.specs.Reading.{number_below, field_of, call_of, reply_of, equals, nothing_more, call_said, tick_said, words_said}
 use Rattle.transcript_lines.specs.Reading.{line_said}
-use Rattle.transcript_book.specs.Spelling.{IsPaired, IsSpelling, OneSpelling}
+use Rattle.transcript_book.specs.Spelling.{IsSpelling, OneSpelling}
 use Rattle.transcript_book.proofs.Exact.{IsExact, went, ok_is, if_ok, below_is, parts_whole}
 use Rattle.transcript_book.proofs.Fields.{field_is, byte_is, if_word, call_is, reply_is}
 

@@ -14,7 +14,6 @@ use Rattle.hex.specs.Hex.{IsBytes, encode_lower, decode_sized}
 use Rattle.swap_base.specs.Fault.{◌>>=◌}
 use Rattle.swap_base.specs.Text.{joined}
 use Rattle.swap_base.proofs.Lists.{and_parts}
-use Rattle.hash_signature.specs.declared.sig.Sig.{Sig}
 use Rattle.hash_signature.specs.Signature.{for_chains, value_at, values_of}
 use Rattle.hash_signature.proofs.Chains.{get_or-for_chains}
 use Rattle.hash_signature.proofs.Values.{joined-values_of}

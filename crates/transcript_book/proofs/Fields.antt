@@ -1,10 +1,9 @@
 -- Calls and replies have no other spelling.
-use Rattle.std.proofs.Common.{◌≡◌, ◌≢◌, ℕ, zero, suc, ◌^◌, ◌<◌, Bool, true, false, cond, List, [], ◌∷◌, ◌++◌, length, map, decimal, Result, Ok, Err, refl}
+use Rattle.std.proofs.Common.{◌≡◌, ◌≢◌, ℕ, zero, suc, ◌^◌, ◌<◌, Bool, true, false, cond, List, [], ◌∷◌, ◌++◌, length, map, decimal, Result, Ok, refl}
 use Rattle.std.proofs.Common.{sym, ap, ap₂, ◌∙◌, subst, arith}
 use Rattle.std.specs.Prelude.{All, codes}
 use Rattle.hex.specs.Hex.{encode_lower}
 use Rattle.swap_base.specs.Fault.{◌>>=◌}
-use Rattle.hash_signature.specs.declared.sig.Sig.{Sig}
 use Rattle.hashkey_path.specs.declared.hashkey.Hashkey.{Hashkey}
 use Rattle.hashkey_path.proofs.Validity.{bytes_eq-true}
 use Rattle.escrow_core.specs.declared.terms.Terms.{Terms}
@@ -15,9 +14,9 @@ use Rattle.escrow_core.specs.declared.reply.Reply.TheVariants.{AlreadyPublished,
 use Rattle.ledger_core.specs.declared.entry.Call.{Call}
 use Rattle.ledger_core.specs.declared.entry.Call.TheVariants.{Publish, Unlock, Claim, Refund, Transfer}
 use Rattle.transcript_lines.specs.declared.said.Misspelling.{Misspelling}
-use Rattle.typed_books.specs.Typed.{IsDigest, IsSignature, IsTerms, IsHashkey, IsTypedCall, IsTypedReply}
-use Rattle.transcript_lines.specs.Words.{list_word, signature_word, terms_words, key_words, call_words, reply_words}
-use Rattle.transcript_lines.specs.Reading.{misspelt, number_of, number_below, digest_of, signature_of, list_of, is_word, first_field, field_of, locks_of}
+use Rattle.typed_books.specs.Typed.{IsDigest, IsSignature, IsTypedCall, IsTypedReply}
+use Rattle.transcript_lines.specs.Words.{list_word, signature_word, call_words, reply_words}
+use Rattle.transcript_lines.specs.Reading.{number_of, number_below, digest_of, signature_of, list_of, is_word, field_of, locks_of}
 use Rattle.transcript_lines.specs.Reading.{terms_of, key_of, units_of, call_by, call_of, plain_reply, numbered_reply, reply_of}
 use Rattle.transcript_book.specs.Spelling.{HasLocks}
 use Rattle.transcript_book.proofs.Exact.{IsExact, went, ok_is, number_is, below_is, digest_is, signature_is, list_is}

@@ -1,5 +1,5 @@
 -- The height of an entry that was read is that of the entries with it.
-use Rattle.std.proofs.Common.{◌≡◌, ◌&&◌, ◌+◌, ℕ, min, nat_le, Bool, true, false, cond, List, [], ◌∷◌, ◌++◌, length, Result, Ok, Err, refl, sym, ap, ◌∙◌}
+use Rattle.std.proofs.Common.{◌≡◌, ◌&&◌, ◌+◌, ℕ, nat_le, Bool, true, false, cond, List, [], ◌∷◌, ◌++◌, length, Result, Ok, Err, ap, ◌∙◌}
 use Rattle.std.proofs.Common.{subst, arith}
 use Rattle.swap_base.specs.Fault.{◌>>=◌}
 use Rattle.swap_digraph.specs.declared.deal.Deal.{Deal}
@@ -11,7 +11,7 @@ use Rattle.ledger_core.specs.declared.entry.Sender.TheVariants.{Party, Clock}
 use Rattle.ledger_core.specs.declared.entry.What.{What}
 use Rattle.ledger_core.specs.declared.entry.What.TheVariants.{Call as Made, Tick}
 use Rattle.ledger_core.specs.declared.entry.Entry.{Entry}
-use Rattle.ledger_core.specs.History.{height, fit, ticks_in}
+use Rattle.ledger_core.specs.History.{height, fit}
 use Rattle.ledger_core.specs.Ledger.{call_entry, tick_entry}
 use Rattle.ledger_core.proofs.Bounds.{height-push}
 use Rattle.ledger_core.specs.WellFormed.{written_height}

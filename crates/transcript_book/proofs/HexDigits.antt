@@ -6,7 +6,7 @@ use Rattle.std.proofs.lemmas.Bool.{leb-true, eqb-false}
 use Rattle.hex.specs.declared.error.FromHexError.{FromHexError}
 use Rattle.hex.specs.Hex.{◌>>=◌, IsBytes, encode_lower, encode_with, lower_digits, decode_pairs, decode_sized, digit_or_error, hex_digit_value, pair_value}
 use Rattle.hex.specs.Hex.{value_at}
-use Rattle.hex.proofs.HexLemmas.{decode_pairs-ok, decode_sized-ok, length-encode_with}
+use Rattle.hex.proofs.HexLemmas.{decode_pairs-ok, decode_sized-ok}
 use Rattle.hex.proofs.Pairs.{decode_sized-pairs}
 use Rattle.swap_base.proofs.Lists.{and_parts}
 use Rattle.transcript_lines.specs.Reading.{is_lower_digit}

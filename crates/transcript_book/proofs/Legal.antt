@@ -1,9 +1,9 @@
 -- A legal book can be stated: it is well formed, its ticks were accepted, and its histories aren't too long.
-use Rattle.std.proofs.Common.{◌≡◌, ◌≢◌, ◌+◌, ◌≤◌, ◌<◌, ℕ, zero, suc, min, Bool, true, false, cond, List, [], ◌∷◌, ◌++◌, length, get_or, refl, sym, ap, ◌∙◌}
-use Rattle.std.proofs.Common.{subst, arith}
+use Rattle.std.proofs.Common.{◌≡◌, ◌≢◌, ◌+◌, ◌≤◌, ℕ, zero, suc, Bool, true, false, cond, List, [], ◌∷◌, ◌++◌, length, sym, ◌∙◌}
+use Rattle.std.proofs.Common.{arith}
 use Rattle.std.specs.Prelude.{All}
 use Rattle.std.specs.List.{AllByRecursion}
-use Rattle.swap_base.specs.Lists.{Moment, moments, moments_after}
+use Rattle.swap_base.specs.Lists.{Moment, moments_after}
 use Rattle.swap_base.proofs.Lists.{all_moments_push}
 use Rattle.swap_digraph.specs.declared.deal.Deal.{Deal}
 use Rattle.escrow_core.specs.declared.reply.Reply.{Reply}
@@ -16,11 +16,11 @@ use Rattle.ledger_core.specs.declared.entry.Sender.TheVariants.{Party, Clock}
 use Rattle.ledger_core.specs.declared.entry.What.{What}
 use Rattle.ledger_core.specs.declared.entry.What.TheVariants.{Call as Made, Tick}
 use Rattle.ledger_core.specs.declared.entry.Entry.{Entry}
-use Rattle.ledger_core.specs.History.{height, is_clock_full, reply_to, rows, IsLegal, IsLegalEntry, IsLegalMoment}
-use Rattle.ledger_core.specs.Book.{Histories, history, IsLegalBook}
+use Rattle.ledger_core.specs.History.{height, is_clock_full, rows, IsLegal, IsLegalEntry, IsLegalMoment}
+use Rattle.ledger_core.specs.Book.{history}
 use Rattle.ledger_core.proofs.Bounds.{bounds, tick_room}
-use Rattle.ledger_core.specs.WellFormed.{written_height, IsFormed, IsFormedEntry, IsFormedMoment, IsFormedWhat}
-use Rattle.transcript_lines.specs.Lines.{IsStatable, IsStated, IsStatedWhat}
+use Rattle.ledger_core.specs.WellFormed.{written_height, IsFormedMoment, IsFormedWhat}
+use Rattle.transcript_lines.specs.Lines.{IsStatable, IsStatedWhat}
 use Rattle.transcript_book.specs.Stated.{IsTyped, LegalIsStated}
 
 -- ---- no call is answered as the clock's are

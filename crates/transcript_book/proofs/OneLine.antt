@@ -1,6 +1,6 @@
 -- No line of a transcript's ledgers holds a line feed.
-use Rattle.std.proofs.Common.{◌≡◌, ◌==◌, ◌+◌, ◌^◌, ◌≤◌, ◌<◌, ℕ, zero, suc, nat_le, Bool, true, false, not, List, [], ◌∷◌, ◌++◌, length, map, decimal, refl}
-use Rattle.std.proofs.Common.{sym, ap, ◌∙◌, arith, eqb-true}
+use Rattle.std.proofs.Common.{◌≡◌, ◌==◌, ◌+◌, ◌^◌, ◌≤◌, ◌<◌, ℕ, suc, nat_le, Bool, true, false, not, List, [], ◌∷◌, ◌++◌, length, map, decimal, refl}
+use Rattle.std.proofs.Common.{ap, arith, eqb-true}
 use Rattle.std.specs.Prelude.{All, codes}
 use Rattle.std.specs.List.{list_all, AllByRecursion}
 use Rattle.std.proofs.lemmas.Bool.{leb-true}
@@ -16,7 +16,7 @@ use Rattle.ledger_core.specs.Book.{Histories}
 use Rattle.transcript_lines.specs.Between.{spaced}
 use Rattle.typed_books.specs.Typed.{IsTypedReply, IsTypedSender, IsTypedWhat}
 use Rattle.transcript_lines.specs.Words.{call_words, entry_words, reply_words}
-use Rattle.transcript_lines.specs.Lines.{IsStatable, entry_line, ledger_line, ledger_lines, lines_from}
+use Rattle.transcript_lines.specs.Lines.{IsStatable, entry_line, lines_from}
 use Rattle.transcript_lines.proofs.Numbers.{high_number}
 use Rattle.transcript_lines.proofs.Parts.{IsHigh, all_append, high_between, high_too}
 use Rattle.transcript_lines.proofs.Spelling.{high_call, high_reply}

@@ -1,10 +1,9 @@
 -- The entry that a line states, and the number that the line before those of an arc tells.
-use Rattle.std.proofs.Common.{◌≡◌, ◌==◌, ◌&&◌, ◌+◌, ◌^◌, ◌-◌, ◌≤◌, ◌<◌, ℕ, min, nat_le, nat_lt, Bool, true, false, cond, List, [], ◌∷◌, length, decimal, Result}
-use Rattle.std.proofs.Common.{Ok, Err, refl, sym, ap, ap₂, ◌∙◌, subst, arith, eqb-true, le-leb, eq-eqb}
+use Rattle.std.proofs.Common.{◌≡◌, ◌==◌, ◌&&◌, ◌+◌, ◌-◌, ◌≤◌, ◌<◌, ℕ, nat_le, true, cond, List, [], ◌∷◌, length, decimal}
+use Rattle.std.proofs.Common.{Ok, refl, sym, ap, ap₂, ◌∙◌, subst, arith, eqb-true}
 use Rattle.std.specs.Prelude.{codes}
 use Rattle.std.proofs.lemmas.Bool.{leb-true}
-use Rattle.swap_base.specs.Fault.{◌>>=◌}
-use Rattle.swap_base.proofs.Lists.{and_parts, and_both}
+use Rattle.swap_base.proofs.Lists.{and_parts}
 use Rattle.swap_digraph.specs.declared.deal.Deal.{Deal}
 use Rattle.swap_digraph.specs.Deal.{touches}
 use Rattle.hashkey_path.proofs.Validity.{bytes_eq-true}
@@ -18,14 +17,13 @@ use Rattle.ledger_core.specs.History.{height, fit}
 use Rattle.ledger_core.specs.Ledger.{call_entry, tick_entry}
 use Rattle.ledger_core.specs.WellFormed.{IsFormedWhat, IsFormedEntry, written_height}
 use Rattle.transcript_lines.specs.declared.said.Said.{Said}
-use Rattle.transcript_lines.specs.declared.said.Misspelling.{Misspelling}
 use Rattle.transcript_lines.specs.Between.{between, parts_at, spaced}
 use Rattle.typed_books.specs.Typed.{IsTypedReply, IsTypedSender, IsTypedWhat}
 use Rattle.transcript_lines.specs.Words.{entry_words}
 use Rattle.transcript_lines.specs.Lines.{IsStatable, IsStatedWhat, entry_line}
 use Rattle.transcript_lines.specs.Reading.{field_of, is_word, line_said, misspelt, nothing_more, number_below, number_of}
 use Rattle.transcript_book.specs.Counts.{count_of, just, ledger_word, words_count}
-use Rattle.transcript_book.specs.Entries.{entry_at, entry_of, placed, placed_as}
+use Rattle.transcript_book.specs.Entries.{entry_at, entry_of, placed_as}
 use Rattle.transcript_book.proofs.Heights.{held_again}
 use Rattle.transcript_book.specs.Spelling.{IsSpelling}
 use Rattle.transcript_book.proofs.Exact.{IsExact, went, ok_is, if_ok, below_is, number_is, parts_whole}

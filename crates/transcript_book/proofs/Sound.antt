@@ -1,6 +1,6 @@
 -- Lines that are read whole are those of the book that was read.
-use Rattle.std.proofs.Common.{◌≡◌, ◌≢◌, ◌==◌, ◌+◌, ◌-◌, ◌≤◌, ◌<◌, ℕ, zero, suc, nat_lt, Bool, true, false, cond, List, [], ◌∷◌, ◌++◌, length, map}
-use Rattle.std.proofs.Common.{get_or, Result, Ok, Err, refl, sym, ap, ap₂, ◌∙◌, subst, arith, append_assoc, append-nil, length-append, ltb-true, ltb-false}
+use Rattle.std.proofs.Common.{◌≡◌, ◌==◌, ◌+◌, ◌-◌, ◌≤◌, ◌<◌, ℕ, zero, suc, nat_lt, Bool, true, false, cond, List, [], ◌∷◌, ◌++◌, length, map}
+use Rattle.std.proofs.Common.{get_or, Ok, refl, sym, ap, ap₂, ◌∙◌, subst, arith, append_assoc, append-nil, length-append, ltb-true, ltb-false}
 use Rattle.std.specs.Prelude.{All, codes}
 use Rattle.std.specs.Str.{bytes_eq}
 use Rattle.std.proofs.lemmas.Bool.{ne_eqb}
@@ -10,15 +10,13 @@ use Rattle.hashkey_path.proofs.Validity.{bytes_eq-true}
 use Rattle.ledger_core.specs.declared.entry.Entry.{Entry}
 use Rattle.ledger_core.specs.Book.{Histories}
 use Rattle.swap_job.specs.declared.job.Job.{Job}
-use Rattle.ledger_core.specs.WellFormed.{GoesOn, IsFormed, IsWellFormed}
-use Rattle.transcript_lines.specs.declared.said.Misspelling.{Misspelling}
+use Rattle.ledger_core.specs.WellFormed.{GoesOn}
 use Rattle.transcript_lines.specs.Lines.{IsStatable, IsStated, entry_line, lines_from}
-use Rattle.transcript_lines.specs.Reading.{misspelt}
 use Rattle.transcript_book.specs.Counts.{count_of}
 use Rattle.transcript_book.specs.declared.place.Place.TheVariants.{Ledger, Entries, Over}
 use Rattle.transcript_book.specs.Entries.{entry_of}
-use Rattle.transcript_book.specs.Stages.{BookSoFar, begun, ended, entry_read, gone_on, ledger_read, line_read, no_ledgers, with_whole}
-use Rattle.transcript_book.specs.Books.{IsWholeBook, ReadIsWhole, whole}
+use Rattle.transcript_book.specs.Stages.{BookSoFar, begun, ended, entry_read, gone_on, ledger_read, line_read, with_whole}
+use Rattle.transcript_book.specs.Books.{ReadIsWhole, whole}
 use Rattle.transcript_book.proofs.Exact.{went, ok_is, if_ok}
 use Rattle.transcript_book.proofs.Placed.{count_is, count_line, entry_is}
 

@@ -1,6 +1,6 @@
 -- Bytes are read back from their hexadecimal digits.
-use Rattle.std.proofs.Common.{◌≡◌, ◌&&◌, ◌||◌, ℕ, zero, suc, ◌+◌, ◌*◌, ◌/◌, ◌%◌, ◌≤◌, ◌<◌, ◌==◌, nat_le, nat_lt, Bool, true, false, cond, List, [], ◌∷◌}
-use Rattle.std.proofs.Common.{◌++◌, length, get_or, slice_index, Result, Ok, Err, refl, sym, ap, ◌∙◌, arith, length-append, eqb-true, ◌≢◌}
+use Rattle.std.proofs.Common.{◌≡◌, ◌&&◌, ◌||◌, ℕ, zero, suc, ◌+◌, ◌*◌, ◌/◌, ◌%◌, ◌≤◌, ◌<◌, ◌==◌, nat_le, Bool, true, false, cond, List, [], ◌∷◌}
+use Rattle.std.proofs.Common.{◌++◌, length, slice_index, Result, Ok, refl, ap, ◌∙◌, arith, length-append, eqb-true, ◌≢◌}
 use Rattle.std.specs.List.{list_all}
 use Rattle.std.specs.Prelude.{All}
 use Rattle.std.proofs.lemmas.Bool.{le-leb, leb-true, eqb-false}

@@ -1,10 +1,10 @@
 -- A text falls into the parts that it was put together from, where none of them holds the byte between them.
-use Rattle.std.proofs.Common.{◌≡◌, ◌==◌, ℕ, suc, ◌≤◌, ◌<◌, nat_le, nat_eq, Bool, true, false, not, cond, List, [], ◌∷◌, ◌++◌, length, refl, sym, ap}
+use Rattle.std.proofs.Common.{◌≡◌, ◌==◌, ℕ, ◌≤◌, ◌<◌, nat_le, Bool, true, false, cond, List, [], ◌∷◌, ◌++◌, refl, ap}
 use Rattle.std.proofs.Common.{◌∙◌, arith, eqb-true, eq-eqb}
 use Rattle.std.specs.List.{list_all, AllByRecursion}
 use Rattle.std.proofs.lemmas.Bool.{leb-true, le-leb}
 use Rattle.swap_base.proofs.Lists.{and_parts, and_both}
-use Rattle.transcript_lines.specs.Between.{between, spaced, longer_first, parts_at}
+use Rattle.transcript_lines.specs.Between.{between, longer_first, parts_at}
 
 -- every byte of the word is at least n
 abbrev pub IsHigh : ℕ → List ℕ → Type 0

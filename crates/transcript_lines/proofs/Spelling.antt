@@ -1,6 +1,6 @@
 -- What a line says is read back from it.
-use Rattle.std.proofs.Common.{◌≡◌, ◌≢◌, ◌==◌, ◌&&◌, ◌||◌, ℕ, zero, suc, ◌+◌, ◌^◌, ◌≤◌, ◌<◌, nat_le, nat_eq, Bool, true, false, cond, IsTrue, List, []}
-use Rattle.std.proofs.Common.{◌∷◌, ◌++◌, length, map, decimal, Result, Ok, Err, refl, sym, ap, ap₂, ◌∙◌, subst, arith, append_assoc, eqb-true}
+use Rattle.std.proofs.Common.{◌≡◌, ◌≢◌, ◌&&◌, ℕ, suc, ◌+◌, ◌^◌, ◌≤◌, ◌<◌, nat_le, nat_eq, Bool, true, false, cond, List, []}
+use Rattle.std.proofs.Common.{◌∷◌, ◌++◌, length, map, decimal, Result, Ok, refl, sym, ap, ◌∙◌, arith, eqb-true}
 use Rattle.std.specs.Prelude.{All, codes}
 use Rattle.std.specs.Str.{bytes_eq}
 use Rattle.std.specs.List.{list_all, AllByRecursion}
@@ -9,8 +9,7 @@ use Rattle.std.proofs.lemmas.Fmt.{decimal_nonempty}
 use Rattle.std.proofs.lemmas.List.{append-nil}
 use Rattle.hex.specs.Hex.{encode_lower}
 use Rattle.swap_base.specs.Fault.{◌>>=◌}
-use Rattle.swap_base.proofs.Lists.{and_parts, and_both}
-use Rattle.swap_digraph.specs.declared.deal.Deal.{Deal}
+use Rattle.swap_base.proofs.Lists.{and_parts}
 use Rattle.hash_signature.specs.declared.sig.Sig.{Sig}
 use Rattle.hashkey_path.specs.declared.hashkey.Hashkey.{Hashkey}
 use Rattle.escrow_core.specs.declared.terms.Terms.{Terms}
@@ -29,11 +28,11 @@ use Rattle.transcript_lines.specs.declared.said.Misspelling.{Misspelling}
 use Rattle.transcript_lines.specs.Between.{between, spaced, parts_at}
 use Rattle.typed_books.specs.Typed.{IsDigest, IsSignature, IsTerms, IsHashkey, IsTypedCall, IsTypedReply, IsTypedSender, IsTypedWhat}
 use Rattle.transcript_lines.specs.Words.{list_word, signature_word, terms_words, key_words, call_words, reply_words, entry_words}
-use Rattle.transcript_lines.specs.Reading.{misspelt, number_of, number_below, digest_of, signature_of, each_of, list_of, field_of, locks_of, terms_of}
+use Rattle.transcript_lines.specs.Reading.{number_of, number_below, digest_of, signature_of, each_of, list_of, field_of, locks_of, terms_of}
 use Rattle.transcript_lines.specs.Reading.{key_of, units_of, call_of, reply_of, equals, call_said, tick_said, words_said, line_said}
 use Rattle.transcript_lines.proofs.Parts.{IsHigh, high_too, parts_between, high_between, all_append}
 use Rattle.transcript_lines.proofs.Numbers.{number_back, below_back, high_number}
-use Rattle.transcript_lines.proofs.Hex.{digest_back, signature_back, high_hex, high_signature, some_hex, some_signature}
+use Rattle.transcript_lines.proofs.Hex.{digest_back, signature_back, high_hex, high_signature, some_signature}
 
 -- Steps of a reading.
 

@@ -1,14 +1,12 @@
 -- A whole transcript has one job and one book.
-use Rattle.std.proofs.Common.{◌≡◌, ℕ, zero, suc, ◌+◌, ◌^◌, ◌≤◌, ◌<◌, ◌&&◌, ◌==◌, nat_le, Bool, true, IsTrue, List, [], ◌∷◌, ◌++◌, length, get_or, map}
-use Rattle.std.proofs.Common.{decimal, Result, Ok, Err, Some, refl, sym, ap, ap₂, ◌∙◌, subst, arith, eqb-true}
+use Rattle.std.proofs.Common.{◌≡◌, ℕ, suc, ◌+◌, ◌^◌, ◌≤◌, ◌<◌, nat_le, true, IsTrue, List, [], ◌∷◌, ◌++◌, length, get_or, map}
+use Rattle.std.proofs.Common.{decimal, Result, Ok, Some, refl, sym, ap, ap₂, ◌∙◌, subst, arith, eqb-true}
 use Rattle.std.specs.Prelude.{All, codes}
-use Rattle.std.specs.List.{AllByRecursion}
 use Rattle.std.proofs.lemmas.Fmt.{decimal_injective}
 use Rattle.std.proofs.lemmas.List.{append_cancel_left}
 use Rattle.swap_base.proofs.Lists.{and_parts}
 use Rattle.swap_digraph.specs.declared.deal.Deal.{Deal}
 use Rattle.escrow_core.specs.declared.reply.Reply.{Reply}
-use Rattle.escrow_core.specs.declared.reply.Reply.TheVariants.{Accepted}
 use Rattle.ledger_core.specs.declared.entry.Call.{Call}
 use Rattle.ledger_core.specs.declared.entry.Call.TheVariants.{Publish, Unlock, Claim, Refund, Transfer}
 use Rattle.ledger_core.specs.declared.entry.Sender.{Sender}
@@ -17,16 +15,16 @@ use Rattle.ledger_core.specs.declared.entry.What.{What}
 use Rattle.ledger_core.specs.declared.entry.What.TheVariants.{Call as Made, Tick}
 use Rattle.ledger_core.specs.declared.entry.Entry.{Entry}
 use Rattle.ledger_core.specs.History.{ticks_in, height, fit}
-use Rattle.ledger_core.specs.Book.{Histories, history}
+use Rattle.ledger_core.specs.Book.{Histories}
 use Rattle.swap_job.specs.declared.job.Job.{Job}
-use Rattle.ledger_core.specs.WellFormed.{written_height, IsFormedWhat, IsFormedEntry, IsFormed, GoesOn, IsWellFormed}
+use Rattle.ledger_core.specs.WellFormed.{written_height, IsFormedWhat, IsFormedEntry, GoesOn}
 use Rattle.transcript_lines.specs.declared.said.Said.{Said}
 use Rattle.transcript_lines.specs.declared.said.Misspelling.{Misspelling}
 use Rattle.transcript_lines.specs.Between.{spaced}
-use Rattle.typed_books.specs.Typed.{IsTypedSender, IsTypedWhat, IsTypedReply}
+use Rattle.typed_books.specs.Typed.{IsTypedSender, IsTypedWhat}
 use Rattle.transcript_lines.specs.Words.{entry_words}
 use Rattle.transcript_lines.specs.Reading.{line_said}
-use Rattle.transcript_lines.specs.Lines.{entry_line, ledger_line, ledger_lines, lines_from, transcript_lines, IsStatedWhat, IsStatable, IsStated, IsWhole}
+use Rattle.transcript_lines.specs.Lines.{entry_line, ledger_line, lines_from, IsStatedWhat, IsStatable, IsStated}
 use Rattle.transcript_lines.specs.Laws.{OneStory}
 use Rattle.transcript_lines.proofs.Spelling.{HasLocks, call_line_back, tick_line_back}
 

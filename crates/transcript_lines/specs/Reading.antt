@@ -1,5 +1,5 @@
 -- What the line of an entry is read as: the fields in their order, each in its one spelling.
-use Rattle.std.specs.Prelude.{◌==◌, ◌&&◌, ◌||◌, ◌+◌, ◌-◌, ◌*◌, ◌^◌, ℕ, zero, suc, Bool, true, false, nat_le, nat_lt, List, [], ◌∷◌, ◌++◌, length, codes}
+use Rattle.std.specs.Prelude.{◌==◌, ◌&&◌, ◌||◌, ◌+◌, ◌-◌, ◌*◌, ◌^◌, ℕ, zero, suc, Bool, nat_le, nat_lt, List, [], ◌∷◌, length, codes}
 use Rattle.std.specs.Prelude.{Result, Ok, Err, if◌then◌else◌}
 use Rattle.std.specs.Str.{bytes_eq}
 use Rattle.std.specs.List.{list_all}
@@ -8,8 +8,6 @@ use Rattle.hex.specs.declared.error.FromHexError.{FromHexError}
 use Rattle.swap_base.specs.Fault.{◌>>=◌}
 use Rattle.hash_signature.specs.declared.sig.Sig.{Sig}
 use Rattle.hash_signature.specs.Signature.{values_of}
-use Rattle.hashkey_path.specs.declared.hashkey.Hashkey.{Hashkey}
-use Rattle.escrow_core.specs.declared.terms.Terms.{Terms}
 use Rattle.escrow_core.specs.declared.reply.Reply.{Reply}
 use Rattle.escrow_core.specs.declared.reply.Reply.TheVariants.{Accepted, Settled, NotCounterparty, NotParty, AlreadyUnlocked, WrongSecret, WrongPath}
 use Rattle.escrow_core.specs.declared.reply.Reply.TheVariants.{WrongSignature, TooLate, StillLocked, NothingLocked, NotExpired, NoContract}

@@ -1,32 +1,26 @@
 -- A whole transcript gives its job and its book.
-use Rattle.std.proofs.Common.{◌≡◌, ◌==◌, ◌&&◌, ◌+◌, ◌-◌, ◌^◌, ◌≤◌, ◌<◌, ℕ, min, nat_le, nat_lt, nat_eq, Bool, true, false, not, cond, List, [], ◌∷◌, ◌++◌}
-use Rattle.std.proofs.Common.{length, map, decimal, Option, Some, Result, Ok, Err, refl, sym, ap, ap₂, ◌∙◌, subst, arith, append_assoc, length-append, le-ltb}
-use Rattle.std.specs.Prelude.{All, codes}
+use Rattle.std.proofs.Common.{◌≡◌, ◌==◌, ◌+◌, ◌-◌, ◌≤◌, ℕ, nat_lt, Bool, true, false, not, cond, List, [], ◌∷◌, ◌++◌}
+use Rattle.std.proofs.Common.{length, Some, Result, Ok, Err, refl, ap, ◌∙◌, subst, arith, append_assoc, length-append, le-ltb}
+use Rattle.std.specs.Prelude.{codes}
 use Rattle.std.specs.List.{list_all, AllByRecursion}
-use Rattle.std.proofs.lemmas.Grind.{flat_map-append}
 use Rattle.swap_base.specs.Fault.{◌>>=◌, steps}
 use Rattle.swap_base.proofs.Lists.{and_parts}
-use Rattle.swap_digraph.specs.declared.deal.Deal.{Deal}
-use Rattle.swap_digraph.specs.Deal.{IsWellSized}
-use Rattle.ledger_core.specs.declared.entry.Entry.{Entry}
 use Rattle.ledger_core.specs.Book.{Histories}
 use Rattle.swap_job.specs.declared.job.Job.{Job}
 use Rattle.refusals.specs.declared.refusal.Refusal.{Refusal}
 use Rattle.transcript_lines.specs.declared.said.Misspelling.{Misspelling}
 use Rattle.transcript_lines.specs.Between.{ended, longer_first, parts_at}
-use Rattle.transcript_lines.specs.Lines.{IsStated, IsWhole, entry_line, ledger_line, ledger_lines, lines_from}
-use Rattle.transcript_book.specs.declared.place.Place.TheVariants.{Over}
+use Rattle.transcript_lines.specs.Lines.{lines_from}
 use Rattle.transcript_book.specs.Stages.{BookSoFar, line_read, no_ledgers}
 use Rattle.transcript_book.specs.Books.{whole}
 use Rattle.transcript_book.proofs.Complete.{few_arcs, stated_from, whole_is_read}
 use Rattle.transcript_book.proofs.OneLine.{IsOneLine, book_lines}
 use Rattle.transcript_reader.specs.declared.reason.TranscriptReason.{TranscriptReason}
 use Rattle.transcript_reader.specs.declared.reason.TranscriptReason.TheVariants.{TooLong}
-use Rattle.transcript_reader.specs.declared.stage.Stage.{Stage}
-use Rattle.transcript_reader.specs.declared.stage.Stage.TheVariants.{First, Header, Ledgers, Bad}
+use Rattle.transcript_reader.specs.declared.stage.Stage.TheVariants.{Header, Ledgers}
 use Rattle.transcript_reader.specs.Stages.{Progress, gone_on, headed, more_bytes, next_line, no_lines, stage_after, with_line}
 use Rattle.transcript_reader.specs.Reading.{Story, finished, parts_read, transcript_read}
-use Rattle.transcript_reader.specs.Laws.{WholeIsRead, job_of, ok_of}
+use Rattle.transcript_reader.specs.Laws.{WholeIsRead, ok_of}
 use Rattle.transcript_reader.proofs.Whole.{at_stage}
 
 -- the parts of lines, each with its line feed

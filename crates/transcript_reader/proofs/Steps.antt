@@ -1,6 +1,6 @@
 -- A reader that steps along the lines of a text.
 use Rattle.std.proofs.Common.{◌≡◌, ◌+◌, ◌-◌, ◌≤◌, ◌<◌, ℕ, false, List, [], ◌∷◌, length, take, drop, Result, Ok, Err, refl, sym, ap, ◌∙◌, arith}
-use Rattle.std.proofs.lemmas.List.{length-drop, take_all}
+use Rattle.std.proofs.lemmas.List.{length-drop}
 use Rattle.memchr.specs.Find.{NoneBefore, Nowhere, Passes, is_byte}
 use Rattle.std.specs.Prelude.{IfOk}
 use Rattle.swap_base.specs.Fault.{Gives}
@@ -10,13 +10,13 @@ use Rattle.ledger_core.specs.declared.entry.Book.{Book}
 use Rattle.swap_job.specs.declared.job.Job.{Job}
 use Rattle.refusals.specs.declared.refusal.Refusal.{Refusal}
 use Rattle.transcript_lines.specs.Between.{parts_at}
-use Rattle.transcript_book.proofs.Falls.{next_found, next_none, the_rest}
+use Rattle.transcript_book.proofs.Falls.{next_found, next_none}
 use Rattle.transcript_book.proofs.Exact.{parts_some}
 use Rattle.transcript_reader.specs.declared.reason.TranscriptReason.{TranscriptReason}
 use Rattle.transcript_reader.specs.declared.stage.Stage.{Stage}
 use Rattle.transcript_reader.specs.declared.stage.Stage.TheVariants.{First, Header, Ledgers, Bad}
 use Rattle.transcript_reader.specs.Stages.{Progress, no_lines, with_line}
-use Rattle.transcript_reader.specs.Reading.{ReadsLine, Story, finished, parts_read, so_far, story_of, transcript_read}
+use Rattle.transcript_reader.specs.Reading.{ReadsLine, finished, parts_read, so_far, story_of, transcript_read}
 use Rattle.transcript_reader.specs.Laws.{IsWholeText}
 use Rattle.transcript_reader.proofs.Whole.{at_stage, bad_stands, text_is_whole}
 

@@ -1,5 +1,5 @@
 -- What is told of ledgers, by whether the last line was read and whether bytes follow it.
-use Rattle.std.proofs.Common.{◌≡◌, ◌<◌, ◌≤◌, ℕ, true, false, nat_lt, List, length, Ok, Err, refl, lt-ltb, le-ltb}
+use Rattle.std.proofs.Common.{◌≡◌, ◌<◌, ◌≤◌, ℕ, true, false, List, length, Ok, Err, refl, lt-ltb, le-ltb}
 use Rattle.transcript_book.specs.Stages.{BookSoFar, is_over}
 use Rattle.transcript_reader.specs.declared.reason.TranscriptReason.TheVariants.{BadLine, TooLong, CutShort}
 use Rattle.transcript_reader.specs.Stages.{next_line}

@@ -1,30 +1,29 @@
 -- Bytes that give a job and a book are a whole transcript of them.
-use Rattle.std.proofs.Common.{◌≡◌, ◌==◌, ◌&&◌, ◌+◌, ◌^◌, ◌≤◌, ◌<◌, ℕ, min, nat_lt, Bool, true, false, not, cond, List, [], ◌∷◌, ◌++◌, length, Option, Some}
-use Rattle.std.proofs.Common.{Result, Ok, Err, refl, sym, ap, ap₂, ◌∙◌, subst, arith, append_assoc, ltb-false}
+use Rattle.std.proofs.Common.{◌≡◌, ◌&&◌, ◌+◌, ◌≤◌, ◌<◌, ℕ, nat_lt, Bool, true, false, cond, List, [], ◌∷◌, ◌++◌, length, Some}
+use Rattle.std.proofs.Common.{Result, Ok, Err, refl, sym, ap, ◌∙◌, subst, arith, append_assoc, ltb-false}
 use Rattle.std.specs.Prelude.{codes}
 use Rattle.std.specs.Str.{bytes_eq}
 use Rattle.std.proofs.lemmas.List.{nil_from_length}
 use Rattle.swap_base.specs.Fault.{◌>>=◌, steps}
 use Rattle.hashkey_path.proofs.Validity.{bytes_eq-true}
-use Rattle.ledger_core.specs.Book.{Histories}
 use Rattle.swap_job.specs.declared.job.Job.{Job}
 use Rattle.refusals.specs.declared.refusal.Refusal.{Refusal}
 use Rattle.transcript_lines.specs.declared.said.Misspelling.{Misspelling}
 use Rattle.transcript_lines.specs.Between.{between, ended, parts_at}
-use Rattle.transcript_lines.specs.Lines.{IsStated, IsWhole, lines_from}
+use Rattle.transcript_lines.specs.Lines.{IsStated, lines_from}
 use Rattle.transcript_book.specs.declared.place.Place.{Place}
 use Rattle.transcript_book.specs.declared.place.Place.TheVariants.{Ledger, Entries, Over}
 use Rattle.transcript_book.specs.Stages.{BookSoFar, is_over, line_read, no_ledgers}
-use Rattle.transcript_book.specs.Books.{IsWholeBook, whole}
+use Rattle.transcript_book.specs.Books.{whole}
 use Rattle.transcript_book.proofs.Exact.{parts_some, parts_whole}
 use Rattle.transcript_book.proofs.Sound.{read_is_whole}
 use Rattle.transcript_reader.specs.declared.reason.TranscriptReason.{TranscriptReason}
 use Rattle.transcript_reader.specs.declared.reason.TranscriptReason.TheVariants.{BadLine, TooLong, CutShort, Header as BadHeader}
 use Rattle.transcript_reader.specs.declared.stage.Stage.{Stage}
-use Rattle.transcript_reader.specs.declared.stage.Stage.TheVariants.{First, Header, Ledgers, Bad}
-use Rattle.transcript_reader.specs.Stages.{Progress, gone_on, headed, more_bytes, next_line, no_lines, stage_after, with_line}
-use Rattle.transcript_reader.specs.Reading.{Story, finished, ledgers_told, parts_read, story_so_far, told, transcript_read, unless_long}
-use Rattle.transcript_reader.specs.Laws.{IsWholeText, ReadIsWhole, job_of, ok_of}
+use Rattle.transcript_reader.specs.declared.stage.Stage.TheVariants.{Header, Ledgers, Bad}
+use Rattle.transcript_reader.specs.Stages.{Progress, gone_on, headed, more_bytes, next_line, no_lines, stage_after}
+use Rattle.transcript_reader.specs.Reading.{Story, ledgers_told, parts_read, story_so_far, transcript_read, unless_long}
+use Rattle.transcript_reader.specs.Laws.{IsWholeText, ReadIsWhole, ok_of}
 
 abbrev pub at_stage : Stage → (lines bytes : ℕ) → Progress
 at_stage stage lines bytes = record { stage = stage; lines = lines; bytes = bytes }

@@ -1,5 +1,5 @@
 -- What the bytes of a transcript give: its job and its book, or why they give none.
-use Rattle.std.specs.Prelude.{◌≡◌, ◌==◌, ◌&&◌, ℕ, Bool, nat_lt, List, [], ◌∷◌, length, Result, Ok, Err, if◌then◌else◌}
+use Rattle.std.specs.Prelude.{◌≡◌, ◌&&◌, ℕ, nat_lt, List, [], ◌∷◌, length, Result, Ok, Err, if◌then◌else◌}
 use Rattle.swap_base.specs.declared.fault.Fault.{Fault}
 use Rattle.swap_base.specs.declared.fault.Fault.TheVariants.{Refused, NoMemory}
 use Rattle.ledger_core.specs.Book.{Histories}
@@ -11,7 +11,7 @@ use Rattle.transcript_book.specs.Stages.{BookSoFar, is_over}
 use Rattle.transcript_reader.specs.declared.reason.TranscriptReason.{TranscriptReason}
 use Rattle.transcript_reader.specs.declared.reason.TranscriptReason.TheVariants.{BadLine, TooLong, CutShort}
 use Rattle.transcript_reader.specs.declared.stage.Stage.{Stage}
-use Rattle.transcript_reader.specs.declared.stage.Stage.TheVariants.{First, Header, Ledgers, Bad}
+use Rattle.transcript_reader.specs.declared.stage.Stage.TheVariants.{Ledgers, Bad}
 use Rattle.transcript_reader.specs.Stages.{Progress, headed, next_line, more_bytes, no_lines, with_line}
 
 -- what a job and its book are

@@ -4,7 +4,7 @@ ghost use Rattle.std.specs.Prelude.{◌≡◌, IfOk, MatchOption, Ok, Err};
 ghost use Rattle.swap_base.specs.Fault.{Gives};
 ghost use Rattle.transcript_reader.specs.Header.{header_read, IsTold};
 ghost use Rattle.transcript_reader.specs.Reading.{ReadsLine, Story, finished, ledgers_told, story_of, story_so_far, unless_long};
-ghost use Rattle.transcript_reader.specs.Stages.{more_bytes, no_lines, with_line};
+ghost use Rattle.transcript_reader.specs.Stages.{no_lines, with_line};
 
 use crate::reason::{TranscriptFault, TranscriptReason};
 use crate::stage::Stage;

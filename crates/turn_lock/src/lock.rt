@@ -1,9 +1,9 @@
 //! The lock.
 
-ghost use Rattle.std.specs.Prelude.{◌≡◌, ℕ, ◌+◌, ◌*◌, ◌<◌, ◌≤◌, [], ◌∷◌, ◌++◌, length, vec_len, vec_capacity, false, IfOk, IfErr, IsTrue};
+ghost use Rattle.std.specs.Prelude.{◌≡◌, ℕ, ◌+◌, ◌<◌, ◌≤◌, [], ◌∷◌, ◌++◌, length, vec_len, vec_capacity, false, IfOk, IfErr, IsTrue};
 ghost use Rattle.std.specs.List.{AllByRecursion};
 ghost use Rattle.turn_lock.specs.Parts.{AreBelow, IsContinuedBy, has_number, Covers};
-ghost use Rattle.turn_lock.specs.Turns.{fresh, idle, busy, both_of, opening_of, number_of, known_of, IsIdle, IsBusy, IsResting, SeatsFrom};
+ghost use Rattle.turn_lock.specs.Turns.{idle, busy, both_of, opening_of, number_of, known_of, IsIdle, IsBusy, IsResting, SeatsFrom};
 
 use crate::journal::Journal;
 use crate::plays::{Glue, Take};

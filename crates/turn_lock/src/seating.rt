@@ -1,6 +1,6 @@
 //! How a lock gets its seats: each is split from the maker's, and claims its number.
 
-ghost use Rattle.std.specs.Prelude.{◌≡◌, ◌+◌, ◌*◌, ◌%◌, ◌<◌, [], IfSome, vec_len};
+ghost use Rattle.std.specs.Prelude.{◌≡◌, ◌+◌, ◌*◌, ◌%◌, ◌<◌, [], IfSome};
 ghost use Rattle.turn_lock.specs.Parts.{AreBelow, IsContinuedBy};
 ghost use Rattle.turn_lock.specs.Turns.{fresh, idle, busy, mark, opening_of, number_of, known_of, IsBusy};
 

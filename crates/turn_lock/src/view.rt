@@ -1,7 +1,5 @@
 //! What a seat knows, and the rule of the table at which the seats are.
 
-ghost use Rattle.std.specs.Prelude.{List};
-
 use crate::journal::Journal;
 use atomic_table::{Seat, Table, TableRule};
 use std::alloc::Global;

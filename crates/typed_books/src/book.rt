@@ -1,6 +1,5 @@
 //! Books, read entry by entry.
 
-ghost use Rattle.std.specs.Prelude.{All};
 ghost use Rattle.ledger_core.specs.Runs.{entries_of, expand, ticks_of};
 ghost use Rattle.typed_books.specs.Books.{AreTyped, IsTypedBook, IsTypedEntry};
 

@@ -1,6 +1,6 @@
 -- Calls of a disk that never fails, or that stops.
 use Rattle.std.proofs.Common.{◌≡◌, ℕ, zero, suc, ◌-◌, ◌<◌, ◌==◌, ◌||◌, Bool, true, false, List, [], ◌∷◌, ◌++◌, nat_eq, option_map, Option, Some, None}
-use Rattle.std.proofs.Common.{Result, Ok, Err, IsOk, IsErr, OnOk, refl, sym, ◌∙◌, ap, subst, arith, append_assoc}
+use Rattle.std.proofs.Common.{Result, Ok, Err, IsOk, IsErr, OnOk, ◌∙◌, ap, subst, arith, append_assoc}
 use Rattle.std.specs.List.{list_any}
 use Rattle.std.proofs.lemmas.Bool.Decides.{nat_tests}
 use Rattle.hashkey_path.specs.declared.hashkey.Hashkey.{Hashkey}

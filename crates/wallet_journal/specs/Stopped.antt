@@ -1,5 +1,5 @@
 -- A record on a disk in memory that is stopped, and a crash of that disk.
-use Rattle.std.specs.Prelude.{◌≡◌, ◌==◌, ◌&&◌, nat_le, ℕ, ◌<◌, Bool, true, List, [], length, Option, Some, None, if◌then◌else◌}
+use Rattle.std.specs.Prelude.{◌≡◌, ◌==◌, ◌&&◌, nat_le, ℕ, ◌<◌, Bool, List, [], length, Option, Some, None, if◌then◌else◌}
 use Rattle.std.specs.List.{AllByRecursion}
 use Rattle.swap_digraph.specs.declared.deal.Deal.{Deal}
 use Rattle.hashkey_path.specs.declared.hashkey.Hashkey.{Hashkey}

@@ -3,13 +3,12 @@
 ghost use Rattle.std.specs.Prelude.{◌≡◌, ◌≢◌, ◌<◌, ◌≤◌, ℕ, List, length, replicate, true, None, Some, slice_set};
 ghost use Rattle.std.specs.Prelude.{MatchOption, MatchResult, IfOk, IfErr, OnErr, OnOk};
 ghost use Rattle.swap_digraph.specs.Deal.{IsWellSized};
-ghost use Rattle.wallet_journal.specs.Device.{Only, LeavesOnly, IsUntouched};
+ghost use Rattle.wallet_journal.specs.Device.{LeavesOnly, IsUntouched};
 ghost use Rattle.wallet_journal.specs.Layout.{recorded};
 ghost use Rattle.wallet_journal.specs.Journal.{IsBeforeOrAfter, IsKeptOn, IsMadeFor, KeepsRecorded, signed_at};
 ghost use Rattle.wallet_journal.specs.Opening.{IsOpenFault, IsOpened};
 ghost use Rattle.wallet_journal.specs.Own.{IsInRecord, IsOwn, IsOwnFault, FitsDeal};
 ghost use Rattle.wallet_journal.specs.Recording.{IsRecordFault, IsRefused, IsStoppedRecord, IsWritten};
-ghost use Rattle.wallet_journal.specs.Memory.{DiskState};
 ghost use Rattle.swap_digraph.specs.declared.deal.Deal.{Deal as AnyDeal};
 ghost use Rattle.hashkey_path.specs.declared.hashkey.Hashkey.{Hashkey as AnyKey};
 ghost use Rattle.wallet_journal.specs.Held.{Leaves, read_bytes};

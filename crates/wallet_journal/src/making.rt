@@ -1,6 +1,6 @@
 //! Making a journal on a disk that has none.
 
-ghost use Rattle.std.specs.Prelude.{◌≡◌, ◌<◌, ◌≤◌, ◌+◌, ◌++◌, ◌∷◌, [], ℕ, length, false, IsOk, OnOk, take, get_or};
+ghost use Rattle.std.specs.Prelude.{◌≡◌, ◌<◌, ◌≤◌, false, IsOk, OnOk};
 ghost use Rattle.swap_io.specs.Causes.{HasCause};
 ghost use Rattle.wallet_journal.specs.Device.{LeavesOnly, IsStill};
 ghost use Rattle.wallet_journal.specs.Layout.{is_made};

@@ -1,8 +1,7 @@
 //! A disk in memory, whose calls fail where they are told to, and which can be made to crash.
 
-ghost use Rattle.std.specs.Prelude.{◌≡◌, ◌⊎◌, ◌<◌, ◌≤◌, ◌+◌, [], ◌∷◌, ◌++◌, length, drop, Some, None, OnOk};
-ghost use Rattle.swap_io.specs.Causes.{HasCause};
-ghost use Rattle.wallet_journal.specs.Device.{slice, written, Tears, AddsNone, Only, Elapses, IsFated, IsSettled};
+ghost use Rattle.std.specs.Prelude.{◌≡◌, ◌⊎◌, ◌<◌, [], length, drop, Some, None};
+ghost use Rattle.wallet_journal.specs.Device.{written};
 ghost use Rattle.wallet_journal.specs.Held.{AreOnDisk, Leaves, HadLeft, read_bytes, only_held};
 ghost use Rattle.wallet_journal.specs.Memory.{DiskState, crashed};
 ghost use Rattle.wallet_journal.specs.Layout.{byte};

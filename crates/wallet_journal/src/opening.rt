@@ -6,7 +6,7 @@ ghost use Rattle.swap_digraph.specs.Deal.{IsWellSized, path_limit};
 ghost use Rattle.swap_io.specs.Causes.{HasCause};
 ghost use Rattle.wallet_journal.specs.Device.{AddsNone, IsStill, IsUntouched, LeavesOnly, slice};
 ghost use Rattle.wallet_journal.specs.Layout.{is_made, recorded};
-ghost use Rattle.wallet_journal.specs.Journal.{IsUnused, IsNew, IsKeptOn};
+ghost use Rattle.wallet_journal.specs.Journal.{IsUnused, IsKeptOn};
 ghost use Rattle.wallet_journal.specs.Opening.{IsReadFault, IsLeastDamaged, IsOf, IsOpenFault, IsOpened, is_damaged_for};
 ghost use Rattle.wallet_journal.specs.Own.{IsInOpening};
 ghost use Rattle.wallet_journal.specs.declared.fault.Unopened.TheVariants.{DiskFault as Failing};

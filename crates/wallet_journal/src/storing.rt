@@ -1,9 +1,9 @@
 //! Recording a hashkey on a disk.
 
-ghost use Rattle.std.specs.Prelude.{◌≡◌, ◌<◌, ◌≤◌, ◌+◌, ℕ, length, None, Some, true, IsOk, IsErr, OnOk, IfErr};
+ghost use Rattle.std.specs.Prelude.{◌≡◌, ◌<◌, ◌≤◌, ◌+◌, ℕ, length, None, true, IsOk, IsErr, OnOk, IfErr};
 ghost use Rattle.swap_io.specs.Causes.{HasCause};
 ghost use Rattle.wallet_journal.specs.Device.{LeavesOnly, IsStill, IsUntouched};
-ghost use Rattle.wallet_journal.specs.Layout.{IsTold, body_of, is_made, id_in, party_in, recorded};
+ghost use Rattle.wallet_journal.specs.Layout.{IsTold, body_of, is_made, recorded};
 ghost use Rattle.wallet_journal.specs.Journal.{Gains};
 ghost use Rattle.wallet_journal.specs.Own.{IsInRecord};
 ghost use Rattle.wallet_journal.specs.Recording.{IsRecordFault, IsStoppedAt, IsStoppedRecord, IsWritten};

@@ -1,4 +1,4 @@
-use Rattle.std.proofs.Common.{◌≡◌, ◌∙◌, sym, subst, ℕ}
+use Rattle.std.proofs.Common.{◌∙◌, sym, subst, ℕ}
 use Rattle.swap_digraph.specs.Graph.{IsHeight}
 use Rattle.leader_check.proofs.Heights.{is_height}
 use Rattle.leader_check.proofs.Rows.{height_is}

@@ -1,4 +1,4 @@
-use Rattle.std.proofs.Common.{◌≡◌, ◌∙◌, sym, ap, Bool, true, false, not, Option, Some, None, is_some, refl}
+use Rattle.std.proofs.Common.{◌≡◌, ◌∙◌, sym, ap, Bool, true, false, not, is_some, refl}
 use Rattle.swap_base.proofs.Lists.{none_of}
 use Rattle.leader_check.specs.Cycles.{follower_cycle}
 use Rattle.leader_check.proofs.Walks.{none_feedback, feedback_none}

@@ -1,4 +1,4 @@
-use Rattle.std.proofs.Common.{◌≡◌, length, arith}
+use Rattle.std.proofs.Common.{length, arith}
 use Rattle.made_jobs.proofs.Sums.{sum_more, item_short}
 use Rattle.made_jobs.proofs.counts.entry_count.Goals as goal
 

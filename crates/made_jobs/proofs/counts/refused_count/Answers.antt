@@ -1,4 +1,4 @@
-use Rattle.std.proofs.Common.{◌≡◌, count_by, arith}
+use Rattle.std.proofs.Common.{count_by, arith}
 use Rattle.made_jobs.specs.Counts.{is_refused}
 use Rattle.made_jobs.proofs.Sums.{sum_more, refused_short}
 use Rattle.made_jobs.proofs.counts.refused_count.Goals as goal

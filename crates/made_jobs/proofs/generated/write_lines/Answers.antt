@@ -1,9 +1,6 @@
 use Rattle.std.proofs.Common.{Err, ap, arith, ◌∙◌}
 use Rattle.std.proofs.lemmas.Result.{err_from_is_err_and}
-use Rattle.swap_base.specs.Text.{lines}
 use Rattle.swap_gen.specs.Drawn.{generated}
-use Rattle.swap_gen.specs.Events.{generated_events}
-use Rattle.swap_gen.specs.Line.{event_line}
 use Rattle.swap_io.proofs.Handing.{hands_err}
 use Rattle.swap_io.specs.declared.fault.TextFault.TheVariants.{NoMemory}
 use Rattle.made_jobs.specs.Generating.{generated_text}

@@ -1,4 +1,4 @@
-use Rattle.std.proofs.Common.{◌≡◌, sym, ◌∙◌}
+use Rattle.std.proofs.Common.{sym, ◌∙◌}
 use Rattle.made_jobs.proofs.Playing.{have_seeds, is_new}
 use Rattle.made_jobs.proofs.played.new_world.Goals as goal
 

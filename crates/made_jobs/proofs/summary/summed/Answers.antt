@@ -1,4 +1,4 @@
-use Rattle.std.proofs.Common.{◌==◌, ap, not, ◌∙◌}
+use Rattle.std.proofs.Common.{◌==◌, ap, not}
 use Rattle.made_jobs.proofs.Summed.{found_is, summed_is}
 use Rattle.made_jobs.proofs.summary.summed.Goals as goal
 

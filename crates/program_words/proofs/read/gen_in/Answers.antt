@@ -1,4 +1,4 @@
-use Rattle.std.proofs.Common.{◌∙◌, ◌&&◌, ◌^◌, ap₂, Bool, ℕ, List, [], ◌∷◌, arith, refl}
+use Rattle.std.proofs.Common.{◌∙◌, ◌^◌, ap₂, Bool, ℕ, [], ◌∷◌, arith, refl}
 use Rattle.program_words.specs.Tables.{choices}
 use Rattle.program_words.specs.Words.{is_given, number_of}
 use Rattle.program_words.specs.declared.choice.Choice.TheVariants.{Seed, Parties, Events, Summary}

@@ -1,11 +1,9 @@
-use Rattle.std.proofs.Common.{◌≡◌, ◌∙◌, ap₂, subst₂, map, drop, string_bytes, List, None, true, ◌&&◌}
-use Rattle.std.specs.List.{list_all}
+use Rattle.std.proofs.Common.{◌∙◌, ap₂, subst₂, map, drop, string_bytes, List}
 use Rattle.clap.specs.Walk.{Text}
 use Rattle.clap.specs.Simple.{App, HasMatchesOf}
 use Rattle.clap.specs.Takes.{takes}
-use Rattle.program_words.specs.Tables.{choices, needed}
+use Rattle.program_words.specs.Tables.{choices}
 use Rattle.program_words.specs.Parsed.{app_for, first_word}
-use Rattle.program_words.specs.Words.{are_options}
 use Rattle.program_words.proofs.Names.{both}
 use Rattle.program_words.proofs.Builds.{all_read, builds, split}
 use Rattle.program_words.proofs.Parses.{taken}

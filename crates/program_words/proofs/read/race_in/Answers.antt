@@ -1,4 +1,4 @@
-use Rattle.std.proofs.Common.{◌∙◌, ◌&&◌, ap₂, Bool, ℕ, List, [], ◌∷◌}
+use Rattle.std.proofs.Common.{◌∙◌, ap₂, Bool, ℕ, [], ◌∷◌}
 use Rattle.program_words.specs.Tables.{choices}
 use Rattle.program_words.specs.declared.choice.Choice.TheVariants.{Ticks, Transcript}
 use Rattle.program_words.specs.declared.command.Command.TheVariants as command

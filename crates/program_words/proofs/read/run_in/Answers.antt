@@ -1,4 +1,4 @@
-use Rattle.std.proofs.Common.{ap, Bool, List, [], ◌∷◌}
+use Rattle.std.proofs.Common.{ap, Bool, []}
 use Rattle.program_words.specs.declared.choice.Choice.TheVariants.{Transcript}
 use Rattle.program_words.specs.declared.command.Command.TheVariants.{Run}
 use Rattle.program_words.proofs.Asked.{flag_is}

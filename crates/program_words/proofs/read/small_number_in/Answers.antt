@@ -1,4 +1,3 @@
-use Rattle.std.proofs.Common.{ℕ, List, Result, arith}
 use Rattle.std.specs.Str.Parse.{ParsesUnsigned, ExplainsUnsignedError, HasUnsignedDigitsIfOk}
 use Rattle.program_words.proofs.Numbers.{reads_one}
 use Rattle.program_words.proofs.read.small_number_in.Goals as goal

@@ -1,4 +1,4 @@
-use Rattle.std.proofs.Common.{sym, None, arith}
+use Rattle.std.proofs.Common.{None, arith}
 use Rattle.std.proofs.lemmas.Str.Pattern.{split_once_first}
 use Rattle.program_words.proofs.Slices.{none_behind}
 use Rattle.program_words.proofs.well_formed.behind.Goals as goal

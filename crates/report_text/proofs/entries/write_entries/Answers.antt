@@ -1,8 +1,7 @@
-use Rattle.std.proofs.Common.{◌≡◌, ◌∙◌, sym, ap, ap₂, subst, List, ℕ}
+use Rattle.std.proofs.Common.{◌≡◌, ◌∙◌, sym, ap, subst, List, ℕ}
 use Rattle.swap_base.specs.Text.{lines}
 use Rattle.escrow_core.specs.declared.terms.Terms.{Terms}
 use Rattle.escrow_core.specs.Terms.{terms_of}
-use Rattle.ledger_core.specs.declared.entry.Entry.{Entry}
 use Rattle.swap_io.specs.Handed.{Hands}
 use Rattle.report_text.specs.Report.{entry_line}
 use Rattle.report_text.specs.Items.{item_line}

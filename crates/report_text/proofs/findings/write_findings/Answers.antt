@@ -1,6 +1,5 @@
-use Rattle.std.proofs.Common.{Err, Ok, ap, arith, refl, ◌∙◌}
+use Rattle.std.proofs.Common.{Err, ap, arith, refl, ◌∙◌}
 use Rattle.std.proofs.lemmas.Result.{err_from_is_err_and}
-use Rattle.swap_base.specs.Text.{lines}
 use Rattle.swap_io.proofs.Handing.{all_lines, handed_was, hands_err, hands_ok, line_lost, line_on, lost_was, rest_lost, rose_before, rose_was}
 use Rattle.swap_io.specs.declared.fault.TextFault.TheVariants.{NoMemory}
 use Rattle.report_text.specs.Report.{finding_line}

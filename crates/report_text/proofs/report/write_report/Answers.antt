@@ -1,4 +1,4 @@
-use Rattle.std.proofs.Common.{Err, Ok, ◌∙◌, ap, refl, sym}
+use Rattle.std.proofs.Common.{Err, ◌∙◌, ap, refl, sym}
 use Rattle.std.proofs.lemmas.Result.{err_from_is_err_and}
 use Rattle.swap_io.proofs.Handing.{handed_was, hands_after, written_part, written_short}
 use Rattle.report_text.proofs.report.write_report.Goals as goal

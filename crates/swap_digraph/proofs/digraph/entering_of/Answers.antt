@@ -1,4 +1,4 @@
-use Rattle.std.proofs.Common.{◌∙◌, ap, List, ℕ, ◌++◌, ◌∷◌, [], ◌==◌, eq-eqb, sym}
+use Rattle.std.proofs.Common.{◌∙◌, ap, ◌==◌, eq-eqb}
 use Rattle.std.proofs.lemmas.Bool.{ne_eqb}
 use Rattle.swap_digraph.specs.Graph.{ends_in}
 use Rattle.swap_digraph.proofs.Ranges.{filter_on, filter_off}

@@ -1,4 +1,4 @@
-use Rattle.std.proofs.Common.{◌≡◌, arith}
+use Rattle.std.proofs.Common.{arith}
 use Rattle.swap_gen.proofs.Amounts.{amount_more}
 use Rattle.swap_gen.proofs.arcs.drawn_amounts.Goals as goal
 

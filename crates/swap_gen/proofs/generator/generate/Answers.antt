@@ -1,4 +1,3 @@
-use Rattle.std.proofs.Common.{◌≡◌, ◌∙◌, ap}
 use Rattle.swap_gen.specs.Drawn.{drawn_graph}
 use Rattle.swap_gen.proofs.Listing.{first_listed, more_listed, is_done}
 use Rattle.swap_gen.proofs.generator.generate.Goals as goal

@@ -1,6 +1,5 @@
-use Rattle.std.proofs.Common.{◌≡◌, ◌∙◌, ap, sym, List, ◌==◌, ◌||◌}
+use Rattle.std.proofs.Common.{◌∙◌, ap, sym, List}
 use Rattle.swap_digraph.specs.declared.arc_ends.ArcEnds.{ArcEnds}
-use Rattle.swap_digraph.specs.Graph.{ends}
 use Rattle.swap_digraph.proofs.Ranges.{filter_on, filter_off}
 use Rattle.swap_gen.proofs.Places.{touches_at}
 use Rattle.swap_gen.proofs.generator.touching.Goals as goal

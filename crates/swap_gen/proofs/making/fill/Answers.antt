@@ -1,4 +1,4 @@
-use Rattle.std.proofs.Common.{◌≡◌, ◌∙◌, ap, map}
+use Rattle.std.proofs.Common.{◌∙◌, ap, map}
 use Rattle.swap_gen.specs.Made.{hashlock_from}
 use Rattle.swap_gen.proofs.Accepting.{sized_with}
 use Rattle.swap_gen.proofs.making.fill.Goals as goal

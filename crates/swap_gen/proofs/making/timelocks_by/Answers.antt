@@ -1,4 +1,4 @@
-use Rattle.std.proofs.Common.{◌≡◌, ◌∙◌, ◌<◌, ap, List, ℕ, ◌++◌, ◌∷◌, [], length, slice_index, get_or, arith}
+use Rattle.std.proofs.Common.{◌∙◌, ◌<◌, ap, List, ℕ, ◌++◌, ◌∷◌, [], length, slice_index, get_or, arith}
 use Rattle.time_bounds.specs.Times as times
 use Rattle.swap_digraph.specs.declared.arc_ends.ArcEnds.{ArcEnds}
 use Rattle.swap_digraph.specs.Deal.{counterparty}

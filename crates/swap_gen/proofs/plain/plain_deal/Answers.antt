@@ -1,6 +1,5 @@
-use Rattle.std.proofs.Common.{◌≡◌, ◌∙◌, ◌≤◌, ap, map, length, arith}
+use Rattle.std.proofs.Common.{◌≡◌, ◌∙◌, ap, map, length, arith}
 use Rattle.std.specs.List.{range_with_len}
-use Rattle.swap_digraph.specs.Value.{Graph}
 use Rattle.swap_gen.specs.Word.{DrawState}
 use Rattle.swap_gen.specs.Drawn.{drawn_arcs, drawn_amount}
 use Rattle.swap_gen.proofs.Together.{few_arcs, faultless_arcs, deal_is, graph_with}

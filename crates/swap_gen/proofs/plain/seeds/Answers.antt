@@ -1,4 +1,4 @@
-use Rattle.std.proofs.Common.{◌∙◌, ap, List, ℕ, ◌++◌, ◌∷◌, [], Some, Option}
+use Rattle.std.proofs.Common.{◌∙◌, ap, List, ℕ, ◌++◌, ◌∷◌, [], Some}
 use Rattle.swap_digraph.proofs.Ranges.{map_more}
 use Rattle.swap_gen.specs.Drawn.{seed_of}
 use Rattle.swap_gen.proofs.plain.seeds.Goals as goal

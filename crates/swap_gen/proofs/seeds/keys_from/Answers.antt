@@ -1,4 +1,4 @@
-use Rattle.std.proofs.Common.{◌≡◌, ◌∙◌, ap, List, ℕ, ◌++◌, ◌∷◌, []}
+use Rattle.std.proofs.Common.{◌∙◌, ap, List, ℕ, ◌++◌, ◌∷◌, []}
 use Rattle.swap_digraph.proofs.Ranges.{map_more}
 use Rattle.hash_signature.specs.Signature.{public_key_of}
 use Rattle.swap_gen.specs.Made.{seed_in}

@@ -1,4 +1,4 @@
-use Rattle.std.proofs.Common.{◌≡◌, ◌∙◌}
+use Rattle.std.proofs.Common.{◌∙◌}
 use Rattle.swap_gen.proofs.Equipped.{has_few, has_wallets, in_hashkeys, is_made, is_proposed, states_keys}
 use Rattle.swap_gen.proofs.wallets.made_job.Goals as goal
 

@@ -1,6 +1,6 @@
 use Rattle.std.proofs.Common.{◌≡◌, ℕ, List, [], ◌∷◌, length, is_ok, is_err, rules, sym, ◌∙◌, ap, subst, arith}
 use Rattle.std.proofs.lemmas.Result.{on_ok_weaker}
-use Rattle.wallet_journal.specs.Device.{Write, Torn, written}
+use Rattle.wallet_journal.specs.Device.{Torn, written}
 use Rattle.wallet_journal.specs.Layout.{gate_at, body_at}
 use Rattle.wallet_journal.specs.Journal.{Gains}
 use Rattle.wallet_journal.specs.Own.{IsInRecord}

@@ -1,4 +1,4 @@
-use Rattle.std.proofs.Common.{◌≡◌, ℕ, ◌<◌, sym, subst}
+use Rattle.std.proofs.Common.{ℕ, ◌<◌, sym, subst}
 use Rattle.swap_job.specs.declared.job.Job.{Job}
 use Rattle.swap_rules.specs.Accepted.{IsAccepted}
 use Rattle.swap_gen.specs.Owned.{OwnsKeys}

@@ -1,4 +1,4 @@
-use Rattle.std.proofs.Common.{◌≡◌, ◌∙◌, ◌<◌, ◌≤◌, List, ℕ, length, sym, ap, subst, arith}
+use Rattle.std.proofs.Common.{◌∙◌, ◌<◌, List, ℕ, length, sym, ap, subst, arith}
 use Rattle.swap_gen.proofs.Next.{arcs_some, arcs_few, party_below, touching_below, touching_at, touching_many, touching_few, tick_is, look_is, steps}
 use Rattle.swap_gen.proofs.generator.Generator.next_event.Goals as goal
 

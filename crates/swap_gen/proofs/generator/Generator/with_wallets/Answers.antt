@@ -1,4 +1,4 @@
-use Rattle.std.proofs.Common.{◌≡◌, ◌∙◌, ap}
+use Rattle.std.proofs.Common.{◌∙◌, ap}
 use Rattle.swap_gen.specs.Word.{DrawState}
 use Rattle.swap_gen.specs.Events.{first_place}
 use Rattle.swap_gen.proofs.New.{new_holds, new_shows}
