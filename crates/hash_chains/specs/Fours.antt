@@ -1,5 +1,5 @@
 -- The values of chains, by fours.
-use Rattle.std.specs.Prelude.{◌≡◌, ℕ, ◌+◌, ◌*◌, ◌<◌, List, [], slice_index_or}
+use Rattle.std.specs.Prelude.{◌≡◌, ℕ, ◌+◌, ◌*◌, ◌<◌, List, [], length, slice_index_or}
 use Rattle.hash_chains.specs.Chains.{chain_after, chain_start}
 use Rattle.hash_chains.specs.declared.chains.Row.{Row}
 use Rattle.hash_chains.specs.declared.chains.Four.{Four}
@@ -19,5 +19,6 @@ abbrev pub AreFourChains : List ℕ → ℕ → ℕ → ℕ → Four → Type 0
 AreFourChains seed party lock j four = (n : ℕ) → n < 16 → HasRow (λ k i. chain_after k (chain_start seed party lock (j + i))) n four.rows
 
 -- the values of all chains
-abbrev pub AreChains : List ℕ → ℕ → ℕ → List Four → Type 0
-AreChains seed party lock fours = (g : ℕ) → g < 17 → AreFourChains seed party lock (4 * g) (slice_index_or fours g no_four)
+pub record AreChains (seed : List ℕ) (party lock : ℕ) (fours : List Four) : Type 0 where
+  pub long : length fours ≡ 17
+  pub each : (g : ℕ) → g < 17 → AreFourChains seed party lock (4 * g) (slice_index_or fours g no_four)

@@ -1,6 +1,6 @@
 //! All values of a key's chains.
 
-ghost use Rattle.std.specs.Prelude.{◌≡◌, ℕ, ◌+◌, ◌*◌, ◌<◌, ◌≤◌};
+ghost use Rattle.std.specs.Prelude.{◌≡◌, ℕ, ◌+◌, ◌*◌, ◌<◌, ◌≤◌, length, IfOk};
 ghost use Rattle.sha2.specs.Sha256.{digest_bytes};
 ghost use Rattle.hash_chains.specs.Chains.{KeyParts, chain_after, chain_start};
 ghost use Rattle.hash_chains.specs.Fours.{AreFourChains, HasRow};
@@ -9,6 +9,7 @@ ghost use Rattle.hash_chains.specs.Lanes.{lane};
 use crate::blocks::{chain_step, four_starts};
 use crate::ops::V;
 use crate::values::{four_values, lanes_of};
+use std::alloc::{AllocError, Global};
 use std::marker::Model;
 
 /// A value of a chain, and the seed that its start is made of.
@@ -35,13 +36,13 @@ struct Four {
     rows: [Row; 16],
 }
 
-/// Each value of each chain of a party's key for one lock: 34 KB.
+/// Each value of each chain of a party's key for one lock: 34 KB in a place of their own, so that who hands on the chains moves none of them.
 #[derive(Drop)]
 pub struct Chains {
     seed: ChainValue,
     party: u8,
     lock: u8,
-    fours: [Four; FOURS],
+    fours: Vec<Four>,
 }
 
 impl Model for Chains {
@@ -53,51 +54,57 @@ impl Model for Chains {
 
     ghost view = { λ c. record { seed = c.seed; party = c.party; lock = c.lock } };
 
-    ghost invariant = { λ c. AreChains c.seed c.party c.lock c.fours };
+    ghost invariant = { λ c. AreChains c.seed c.party c.lock c.fours.items };
 }
 
-// The row for each number of steps from the values in the lanes.
-fn walked(start: [V; 8]) -> [Row; 16]
-    ensures { (n : ℕ) → n < 16 → HasRow (λ k i. chain_after k (digest_bytes (lane start i) 8)) n result }
+// Puts into the rows what each number of steps leads to from the values in the lanes.
+fn walk(rows: &mut [Row; 16], start: [V; 8])
+    ensures { (n : ℕ) → n < 16 → HasRow (λ k i. chain_after k (digest_bytes (lane start i) 8)) n rows.new }
 {
     let mut reached = start;
-    let first = Row {
-        values: four_values(&reached),
-    };
-    let mut rows = [first; 16];
+    rows[0].values = four_values(&reached);
     'steps: for n in 0..15 {
         let next = chain_step(reached);
         reached = next;
         rows[n + 1].values = four_values(&reached);
     }
-    rows
 }
 
-fn four_chains(seed: &ChainValue, party: u8, lock: u8, first: u8) -> Four
+fn put_four_chains(four: &mut Four, seed: &ChainValue, party: u8, lock: u8, first: u8)
     requires { first < 250 }
-    ensures { AreFourChains seed.now party lock first result }
+    ensures { AreFourChains seed.now party lock first four.new }
 {
     let words = lanes_of(&[*seed, *seed, *seed, *seed]);
-    Four {
-        rows: walked(four_starts(words, party, lock, first)),
-    }
+    walk(&mut four.rows, four_starts(words, party, lock, first));
+}
+
+// The place of all chains, into which none is put yet.
+fn unwalked(alloc: Global) -> Result<Vec<Four>, AllocError>
+    ensures { IfOk result (λ v. length v.items ≡ 17) }
+{
+    let row = Row {
+        values: [[0; 32]; 4],
+    };
+    let mut fours = Vec::new(alloc);
+    fours.resize(FOURS, Four { rows: [row; 16] })?;
+    Ok(fours)
 }
 
 impl Chains {
-    /// The chains of a party's key for a lock.
-    pub fn new(seed: &ChainValue, party: u8, lock: u8) -> Chains
-        ensures { result ≡ record { seed = seed.now; party = party; lock = lock } }
+    /// The chains of a party's key for a lock. They are walked where they stay.
+    pub fn new(alloc: Global, seed: &ChainValue, party: u8, lock: u8) -> Result<Chains, AllocError>
+        ensures { IfOk result (λ c. c ≡ record { seed = seed.now; party = party; lock = lock }) }
     {
-        let mut fours = [four_chains(seed, party, lock, 0); FOURS];
-        'fours: for g in 1..FOURS {
-            fours[g] = four_chains(seed, party, lock, 4 * g as u8);
+        let mut fours = unwalked(alloc)?;
+        'fours: for g in 0..FOURS {
+            put_four_chains(&mut fours[g], seed, party, lock, 4 * g as u8);
         }
-        Chains {
+        Ok(Chains {
             seed: *seed,
             party,
             lock,
             fours,
-        }
+        })
     }
 
     /// The value that so many steps lead to from the start of a chain.

@@ -1,6 +1,6 @@
 //! Keys, each of which signs once.
 
-ghost use Rattle.std.specs.Prelude.{◌≡◌, IsTrue};
+ghost use Rattle.std.specs.Prelude.{◌≡◌, IfOk, IsTrue};
 ghost use Rattle.hash_signature.specs.Key.{KeyParts};
 ghost use Rattle.hash_signature.specs.Signature.{public_key_of, signature_of, is_valid_signature};
 
@@ -9,12 +9,15 @@ use crate::sig::Sig;
 use crate::{CHAINS, Digest, LockId, PartyId};
 use hash_chains::{Chains, STEPS};
 use sha2::{Digest as Hasher, Sha256};
+use std::alloc::Global;
 use std::fmt;
 use std::marker::Model;
+use swap_base::NoMemory;
 
 /// A party's key for one lock. Signing spends it, and it can't be copied. It may be let go unused.
 ///
-/// It keeps each value of its chains, 34 KB in all, so that signing only picks one of each chain.
+/// It keeps each value of its chains, 34 KB in a place of their own, so that signing only picks one of each chain. Who spends the key or lets it go
+/// gives that memory back.
 #[derive(Drop)]
 pub struct OneTimeKey {
     chains: Chains,
@@ -29,13 +32,18 @@ impl Model for OneTimeKey {
 }
 
 /// The key that a party's seed gives for a lock, with its public key.
-pub fn keygen(seed: &Digest, party: PartyId, lock: LockId) -> (OneTimeKey, Digest)
-    ensures key { result.0 ≡ record { seed = seed.now; party = party; lock = lock } }
-    ensures public { result.1 ≡ public_key_of seed.now party lock }
+pub fn keygen(
+    alloc: Global,
+    seed: &Digest,
+    party: PartyId,
+    lock: LockId,
+) -> Result<(OneTimeKey, Digest), NoMemory>
+    ensures key { IfOk result (λ p. p.0 ≡ record { seed = seed.now; party = party; lock = lock }) }
+    ensures public { IfOk result (λ p. p.1 ≡ public_key_of seed.now party lock) }
 {
-    let chains = Chains::new(seed, party, lock);
+    let chains = Chains::new(alloc, seed, party, lock)?;
     let public = public_key(&chains);
-    (OneTimeKey { chains }, public)
+    Ok((OneTimeKey { chains }, public))
 }
 
 fn public_key(chains: &Chains) -> Digest

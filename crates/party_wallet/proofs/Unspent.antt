@@ -1,25 +1,34 @@
--- The keys of a wallet that aren't spent, in a new wallet and after a signature.
-use Rattle.std.proofs.Common.{◌≡◌, ℕ, ◌≤◌, List, length, get_or, map, replicate, Option, Some, None, sym, ap, ◌∙◌, subst, ◌<◌, arith, zero-add}
+-- The keys of a new wallet, and their public keys.
+use Rattle.std.proofs.Common.{◌≡◌, ℕ, ◌≤◌, List, length, get_or, map, replicate, Option, Some, None, sym, ap, ◌∙◌, arith, rules, zero-add}
 use Rattle.std.specs.List.{range_with_len}
-use Rattle.std.proofs.lemmas.List.{length-map, length-replicate, get_or-map, get_or-replicate}
+use Rattle.std.proofs.lemmas.List.{length-replicate, get_or-replicate}
 use Rattle.std.proofs.lemmas.List.FromFn.{get_or-map-range_with_len, length-map-range_with_len}
 use Rattle.swap_digraph.specs.declared.deal.Mode.{Mode}
+use Rattle.hash_signature.specs.Key.{KeyParts}
 use Rattle.hashkey_path.specs.declared.hashkey.Hashkey.{Hashkey}
-use Rattle.party_wallet.specs.Keys.{unspent}
-use Rattle.party_wallet.specs.Inside.{key_held, AreSpentOnce}
-use Rattle.std.specs.Global.{Box}
-use Rattle.party_wallet.specs.declared.wallet_key.WalletKey.{WalletKey}
+use Rattle.party_wallet.specs.Keys.{public_for, unspent, IsKeyFor}
+use Rattle.party_wallet.specs.Inside.{AreSpentOnce, ArePublic}
 
-pub new_unspent : (m : Mode) (seed : List ℕ) (v n : ℕ) (keys : List (Option (Box (Option WalletKey)))) (signed : List (Option Hashkey)) → n ≤ 8
-    → map key_held keys ≡ map (λ i. Some (unspent m seed v i)) (range_with_len 0 n) → signed ≡ replicate n None → AreSpentOnce m seed v keys signed
-new_unspent m seed v n keys signed few ek es =
+its_key : (m : Mode) (seed : List ℕ) (v i : ℕ) (slot : Option KeyParts) → slot ≡ unspent m seed v i → IsKeyFor m seed v i slot
+its_key m seed v i None e = search rules
+its_key m seed v i (Some k) e = sym e
+
+pub new_unspent : (m : Mode) (seed : List ℕ) (v n : ℕ) (keys : List (Option KeyParts)) (publics : List (Option (List ℕ))) (signed : List (Option Hashkey))
+    → n ≤ 8 → keys ≡ map (unspent m seed v) (range_with_len 0 n) → publics ≡ map (public_for m seed v) (range_with_len 0 n) → signed ≡ replicate n None
+    → AreSpentOnce m seed v keys signed × ArePublic m seed v (length signed) publics
+new_unspent m seed v n keys publics signed few ek ep es =
     let ls : length signed ≡ n = ap length es ∙ length-replicate n None in
-    let whole : ℕ → Option (Option WalletKey) = λ i. Some (unspent m seed v i) in
-    let lk : length keys ≡ n = sym (length-map keys key_held) ∙ (ap length ek ∙ length-map-range_with_len whole 0 n) in
-    record {
-      one_each = lk ∙ sym ls;
-      few = omega arith;
-      spent_at = λ i lt some. absurd (some (ap (λ ks. get_or ks i None) es ∙ get_or-replicate n i None None (omega arith)));
-      unspent_at = λ i lt none. sym (get_or-map key_held keys i None None (subst (λ k. i < k) (ls ∙ sym lk) lt))
-          ∙ (ap (λ ks. get_or ks i None) ek ∙ get_or-map-range_with_len whole 0 n i i None (omega arith) (zero-add i));
-    }
+    let lk : length keys ≡ n = ap length ek ∙ length-map-range_with_len (unspent m seed v) 0 n in
+    let lp : length publics ≡ n = ap length ep ∙ length-map-range_with_len (public_for m seed v) 0 n in (
+      record {
+        one_each = lk ∙ sym ls;
+        few = omega arith;
+        own_at = λ i lt. its_key m seed v i _
+            (ap (λ ks. get_or ks i None) ek ∙ get_or-map-range_with_len (unspent m seed v) 0 n i i None (omega arith) (zero-add i));
+        spent_at = λ i lt some. absurd (some (ap (λ ks. get_or ks i None) es ∙ get_or-replicate n i None None (omega arith)));
+      },
+      record {
+        one_each = lp ∙ sym ls;
+        public_at = λ i lt. ap (λ ps. get_or ps i None) ep ∙ get_or-map-range_with_len (public_for m seed v) 0 n i i None (omega arith) (zero-add i);
+      },
+    )

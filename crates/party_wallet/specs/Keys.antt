@@ -1,13 +1,13 @@
 -- What a seed gives a party to sign with.
-use Rattle.std.specs.Prelude.{ℕ, List, [], length, replicate, Option, Some, None, slice_set}
+use Rattle.std.specs.Prelude.{◌≡◌, ℕ, List, [], length, replicate, Option, Some, None, slice_set, IfSome}
 use Rattle.swap_digraph.specs.declared.deal.Deal.{Deal}
 use Rattle.swap_digraph.specs.declared.deal.Mode.{Mode}
 use Rattle.swap_digraph.specs.declared.deal.Mode.TheVariants.{Timelocks, Hashkeys}
+use Rattle.hash_signature.specs.Key.{KeyParts}
 use Rattle.hash_signature.specs.Signature.{public_key_of, secret_of}
 use Rattle.hashkey_path.specs.declared.hashkey.Hashkey.{Hashkey}
 use Rattle.hashkey_path.specs.Signed.{leaders_key, extended_key}
 use Rattle.party_wallet.specs.Value.{WalletState}
-use Rattle.party_wallet.specs.declared.wallet_key.WalletKey.{WalletKey}
 
 -- a secret alone, as timelocks ask for it
 abbrev pub bare_key : ℕ → List ℕ → Hashkey
@@ -24,9 +24,13 @@ onto_key Timelocks d v seed inner = bare_key inner.lock inner.secret
 onto_key Hashkeys d v seed inner = extended_key d inner v seed
 
 -- the key for lock i, before it is spent
-abbrev pub unspent : Mode → List ℕ → ℕ → ℕ → Option WalletKey
+abbrev pub unspent : Mode → List ℕ → ℕ → ℕ → Option KeyParts
 unspent Timelocks seed v i = None
-unspent Hashkeys seed v i = Some (record { key = record { seed = seed; party = v; lock = i }; public = public_key_of seed v i })
+unspent Hashkeys seed v i = Some (record { seed = seed; party = v; lock = i })
+
+-- no key but that for lock i
+abbrev pub IsKeyFor : Mode → List ℕ → ℕ → ℕ → Option KeyParts → Type 0
+IsKeyFor m seed v i slot = IfSome slot (λ k. unspent m seed v i ≡ Some k)
 
 -- the public key for lock i
 abbrev pub public_for : Mode → List ℕ → ℕ → ℕ → Option (List ℕ)

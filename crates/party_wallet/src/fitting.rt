@@ -2,10 +2,9 @@
 
 ghost use Rattle.std.specs.Prelude.{◌≡◌, ◌<◌, length};
 ghost use Rattle.swap_digraph.specs.Deal.{IsWellSized};
-ghost use Rattle.party_wallet.specs.Keys.{unspent};
+ghost use Rattle.party_wallet.specs.Keys.{public_for};
 ghost use Rattle.party_wallet.specs.Fits.{has_key, opens_own, fits_lock};
 
-use crate::wallet_key::WalletKey;
 use hash_signature::{hash_of, secret_of};
 use swap_base::{Digest, LockId, PartyId};
 use swap_digraph::{Deal, Mode};
@@ -16,19 +15,17 @@ fn is_stated(
     party: PartyId,
     seed: &Digest,
     lock: LockId,
-    slot: &Option<WalletKey>,
+    public: &Option<Digest>,
 ) -> bool
     requires sized { IsWellSized deal.now }
     requires mode { deal.now.mode ≡ Mode.Hashkeys }
     requires party { party < deal.now.graph.n }
     requires lock { lock < length deal.now.leaders }
-    requires unspent { slot.now ≡ unspent Mode.Hashkeys seed.now party lock }
+    requires public { public.now ≡ public_for Mode.Hashkeys seed.now party lock }
     ensures { result ≡ has_key Mode.Hashkeys deal.now party seed.now lock }
 {
-    match slot {
-        Some(key) => {
-            key.public == deal.keys.as_slice()[party as usize].as_slice()[lock as usize]
-        }
+    match public {
+        Some(key) => *key == deal.keys.as_slice()[party as usize].as_slice()[lock as usize],
         None => false,
     }
 }
@@ -38,17 +35,17 @@ fn has_key(
     party: PartyId,
     seed: &Digest,
     lock: LockId,
-    slot: &Option<WalletKey>,
+    public: &Option<Digest>,
 ) -> bool
     requires sized { IsWellSized deal.now }
     requires party { party < deal.now.graph.n }
     requires lock { lock < length deal.now.leaders }
-    requires unspent { slot.now ≡ unspent deal.now.mode seed.now party lock }
+    requires public { public.now ≡ public_for deal.now.mode seed.now party lock }
     ensures { result ≡ has_key deal.now.mode deal.now party seed.now lock }
 {
     match deal.mode {
         Mode::Timelocks => true,
-        Mode::Hashkeys => is_stated(deal, party, seed, lock, slot),
+        Mode::Hashkeys => is_stated(deal, party, seed, lock, public),
     }
 }
 
@@ -67,13 +64,13 @@ pub(crate) fn fits_lock(
     party: PartyId,
     seed: &Digest,
     lock: LockId,
-    slot: &Option<WalletKey>,
+    public: &Option<Digest>,
 ) -> bool
     requires sized { IsWellSized deal.now }
     requires party { party < deal.now.graph.n }
     requires lock { lock < length deal.now.leaders }
-    requires unspent { slot.now ≡ unspent deal.now.mode seed.now party lock }
+    requires public { public.now ≡ public_for deal.now.mode seed.now party lock }
     ensures { result ≡ fits_lock deal.now party seed.now lock }
 {
-    has_key(deal, party, seed, lock, slot) && opens_own(deal, party, seed, lock)
+    has_key(deal, party, seed, lock, public) && opens_own(deal, party, seed, lock)
 }

@@ -4,8 +4,7 @@ ghost use Rattle.std.specs.Prelude.{◌≡◌, ◌<◌, ℕ, List, None, length,
 ghost use Rattle.swap_digraph.specs.Deal.{path_limit};
 ghost use Rattle.party_wallet.specs.Keys.{bare_key, own_key, onto_key, unspent};
 
-use crate::wallet_key::WalletKey;
-use hash_signature::secret_of;
+use hash_signature::{OneTimeKey, secret_of};
 use hashkey_path::{Hashkey, extend, first};
 use std::alloc::Global;
 use swap_base::{Digest, Listed, LockId, NoMemory, PartyId};
@@ -28,7 +27,7 @@ fn own_signed(
     party: PartyId,
     seed: &Digest,
     lock: LockId,
-    slot: &mut Option<WalletKey>,
+    slot: &mut Option<OneTimeKey>,
 ) -> Result<Hashkey, NoMemory>
     requires party { party < deal.now.graph.n }
     requires unspent { slot.old ≡ unspent Mode.Hashkeys seed.now party lock }
@@ -36,14 +35,11 @@ fn own_signed(
     ensures spent { OnOk result (slot.new ≡ None) }
     ensures back { OnErr result (slot.new ≡ slot.old) }
 {
-    let WalletKey { key, public } = slot.take().unwrap();
+    let key = slot.take().unwrap();
     match first(alloc, deal, lock, &secret_of(seed), party, key) {
         Ok(hashkey) => Ok(hashkey),
         Err(back) => {
-            *slot = Some(WalletKey {
-                key: back.key,
-                public,
-            });
+            *slot = Some(back.key);
             Err(NoMemory)
         }
     }
@@ -54,7 +50,7 @@ fn onto_signed(
     deal: &Deal,
     party: PartyId,
     inner: &Hashkey,
-    slot: &mut Option<WalletKey>,
+    slot: &mut Option<OneTimeKey>,
 ) -> Result<Hashkey, NoMemory>
     requires party { party < deal.now.graph.n }
     requires few { length inner.now.path < path_limit deal.now }
@@ -65,14 +61,11 @@ fn onto_signed(
     ensures spent { OnOk result (slot.new ≡ None) }
     ensures back { OnErr result (slot.new ≡ slot.old) }
 {
-    let WalletKey { key, public } = slot.take().unwrap();
+    let key = slot.take().unwrap();
     match extend(alloc, deal, inner, party, key) {
         Ok(hashkey) => Ok(hashkey),
         Err(back) => {
-            *slot = Some(WalletKey {
-                key: back.key,
-                public,
-            });
+            *slot = Some(back.key);
             Err(NoMemory)
         }
     }
@@ -85,7 +78,7 @@ pub(crate) fn own_hashkey(
     party: PartyId,
     seed: &Digest,
     lock: LockId,
-    slot: &mut Option<WalletKey>,
+    slot: &mut Option<OneTimeKey>,
 ) -> Result<Hashkey, NoMemory>
     requires party { party < deal.now.graph.n }
     requires unspent { slot.old ≡ unspent deal.now.mode seed.now party lock }
@@ -105,7 +98,7 @@ pub(crate) fn onto_hashkey(
     deal: &Deal,
     party: PartyId,
     inner: &Hashkey,
-    slot: &mut Option<WalletKey>,
+    slot: &mut Option<OneTimeKey>,
 ) -> Result<Hashkey, NoMemory>
     requires party { party < deal.now.graph.n }
     requires few { length inner.now.path < path_limit deal.now }

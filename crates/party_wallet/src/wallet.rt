@@ -6,13 +6,13 @@ ghost use Rattle.swap_digraph.specs.Deal.{IsWellSized};
 ghost use Rattle.swap_digraph.specs.Deal.{path_limit};
 ghost use Rattle.party_wallet.specs.Value.{signed_in};
 ghost use Rattle.party_wallet.specs.Fits.{wrong_lock};
-ghost use Rattle.party_wallet.specs.Inside.{key_held};
 ghost use Rattle.party_wallet.specs.Keys.{empty_wallet, new_wallet, public_for, unspent, own_key, onto_key, with_recorded, with_signed};
 
 use crate::fitting::fits_lock;
 use crate::hashkeys::{onto_hashkey, own_hashkey};
 use crate::signed::Signed;
-use crate::wallet_key::{WalletKey, unspent};
+use crate::wallet_key::{make_ready, unspent};
+use hash_signature::OneTimeKey;
 use hashkey_path::Hashkey;
 use std::alloc::Global;
 use std::marker::Model;
@@ -27,9 +27,17 @@ pub struct Wallet {
     mode: Mode,
     seed: Digest,
     party: PartyId,
-    /// A key and its room, which is let go once the key is spent.
-    keys: Vec<Option<Box<Option<WalletKey>>>>,
+    /// The keys that stand ready. One that signed what no memory was left for is gone, and is made anew when it is wanted.
+    keys: Vec<Option<OneTimeKey>>,
+    publics: Vec<Option<Digest>>,
     signed: Signed,
+}
+
+/// Keys by lock, and their public keys.
+#[derive(Drop)]
+struct Keys {
+    keys: Vec<Option<OneTimeKey>>,
+    publics: Vec<Option<Digest>>,
 }
 
 impl Model for Wallet {
@@ -50,15 +58,18 @@ fn keys_of(
     seed: &Digest,
     party: PartyId,
     locks: u8,
-) -> Result<Vec<Option<Box<Option<WalletKey>>>>, NoMemory>
-    ensures { IfOk result (λ v. map key_held v.items ≡ map (λ i. Some (unspent mode seed.now party i)) (range_with_len 0 locks)) }
+) -> Result<Keys, NoMemory>
+    ensures keys { IfOk result (λ k. k.keys.items ≡ map (unspent mode seed.now party) (range_with_len 0 locks)) }
+    ensures publics { IfOk result (λ k. k.publics.items ≡ map (public_for mode seed.now party) (range_with_len 0 locks)) }
 {
     let mut keys = Vec::new(alloc);
+    let mut publics = Vec::new(alloc);
     'locks: for lock in 0..locks {
-        let slot = Box::new(alloc, unspent(mode, seed, party, lock))?;
-        keys.push(Some(slot))?;
+        let (key, public) = unspent(alloc, mode, seed, party, lock)?;
+        keys.push(key)?;
+        publics.push(public)?;
     }
-    Ok(keys)
+    Ok(Keys { keys, publics })
 }
 
 fn none_signed(alloc: Global, locks: u8) -> Result<Signed, NoMemory>
@@ -105,11 +116,13 @@ impl Wallet {
         requires { locks ≤ 8 }
         ensures { IfOk result (λ w. w ≡ empty_wallet mode seed.now me locks) }
     {
+        let Keys { keys, publics } = keys_of(alloc, mode, seed, me, locks)?;
         Ok(Wallet {
             mode,
             seed: *seed,
             party: me,
-            keys: keys_of(alloc, mode, seed, me, locks)?,
+            keys,
+            publics,
             signed: none_signed(alloc, locks)?,
         })
     }
@@ -172,29 +185,20 @@ impl Wallet {
     {
         let count = deal.leaders.len() as u8;
         'locks: for lock in 0..count {
-            let Some(slot) = &self.keys[lock as usize] else {
-                unreachable!();
-            };
-            if !fits_lock(deal, self.party, &self.seed, lock, &**slot) {
+            let public = &self.publics[lock as usize];
+            if !fits_lock(deal, self.party, &self.seed, lock, public) {
                 return Some(lock);
             }
         }
         None
     }
 
-    /// The public key for a lock for which nothing is signed; timelocks ask for none.
+    /// The public key for a lock; timelocks ask for none.
     pub fn public_key(&self, lock: LockId) -> Option<Digest>
-        requires lock { lock < length self.now.signed }
-        requires unsigned { signed_in self.now.signed lock ≡ None }
+        requires { lock < length self.now.signed }
         ensures { result ≡ public_for self.now.mode self.now.seed self.now.party lock }
     {
-        let Some(slot) = &self.keys[lock as usize] else {
-            unreachable!();
-        };
-        match &**slot {
-            Some(key) => Some(key.public),
-            None => None,
-        }
+        self.publics[lock as usize]
     }
 
     pub fn party(&self) -> PartyId
@@ -245,22 +249,13 @@ impl Wallet {
         ensures kept { IfOk result (λ k. self.new ≡ with_signed self.old lock k) }
         ensures err { OnErr result (self.new ≡ self.old) }
     {
-        let Some(slot) = &mut self.keys[lock as usize] else {
-            unreachable!();
-        };
-        let made = own_hashkey(alloc, deal, self.party, &self.seed, lock, &mut **slot)?;
-        match held_twice(alloc, made) {
-            Ok((kept, answer)) => {
-                self.keys[lock as usize] = None;
-                keep(&mut self.signed, alloc, lock, kept);
-                Ok(answer)
-            }
-            Err(_) => {
-                // What the key signed was shown to nobody, and is gone.
-                **slot = unspent(self.mode, &self.seed, self.party, lock);
-                Err(NoMemory)
-            }
-        }
+        let slot = &mut self.keys[lock as usize];
+        make_ready(alloc, self.mode, &self.seed, self.party, lock, slot)?;
+        let made = own_hashkey(alloc, deal, self.party, &self.seed, lock, slot)?;
+        // Without memory for its holders what the key signed was shown to nobody, and is gone with the key.
+        let (kept, answer) = held_twice(alloc, made)?;
+        keep(&mut self.signed, alloc, lock, kept);
+        Ok(answer)
     }
 
     /// Makes the party's hashkey that goes on from another, keeps it, and answers a copy. Want of memory leaves everything as it was.
@@ -280,21 +275,12 @@ impl Wallet {
         ensures kept { IfOk result (λ k. self.new ≡ with_signed self.old inner.now.lock k) }
         ensures err { OnErr result (self.new ≡ self.old) }
     {
-        let Some(slot) = &mut self.keys[inner.lock as usize] else {
-            unreachable!();
-        };
-        let made = onto_hashkey(alloc, deal, self.party, inner, &mut **slot)?;
-        match held_twice(alloc, made) {
-            Ok((kept, answer)) => {
-                self.keys[inner.lock as usize] = None;
-                keep(&mut self.signed, alloc, inner.lock, kept);
-                Ok(answer)
-            }
-            Err(_) => {
-                // What the key signed was shown to nobody, and is gone.
-                **slot = unspent(self.mode, &self.seed, self.party, inner.lock);
-                Err(NoMemory)
-            }
-        }
+        let slot = &mut self.keys[inner.lock as usize];
+        make_ready(alloc, self.mode, &self.seed, self.party, inner.lock, slot)?;
+        let made = onto_hashkey(alloc, deal, self.party, inner, slot)?;
+        // Without memory for its holders what the key signed was shown to nobody, and is gone with the key.
+        let (kept, answer) = held_twice(alloc, made)?;
+        keep(&mut self.signed, alloc, inner.lock, kept);
+        Ok(answer)
     }
 }

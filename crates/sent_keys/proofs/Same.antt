@@ -1,5 +1,6 @@
 -- Signatures are the same where their bytes are.
-use Rattle.std.proofs.Common.{◌≡◌, ℕ, Bool, true, false, List, refl, sym, ap, ◌∙◌}
+use Rattle.std.proofs.Common.{◌≡◌, ℕ, Bool, true, false, List, [], ◌∷◌, ◌++◌, refl, sym, ap, ◌∙◌}
+use Rattle.std.specs.List.{flat_map}
 use Rattle.std.specs.Str.{bytes_eq}
 use Rattle.swap_base.specs.Lists.{same_list}
 use Rattle.swap_base.specs.Text.{joined}
@@ -22,3 +23,8 @@ same_bytes bytes others values further joins cut joins_other cut_other =
     ∙ same_list-refl bytes_eq bytes_eq_self values)
     (λ e. ap (λ v. bytes_eq bytes v) (sym (joins ∙ ap joined (same_list-true bytes_eq bytes_eq-true values further e) ∙ sym joins_other))
     ∙ bytes_eq_self bytes)
+
+-- the values one after another are their bytes
+pub flat_joined : (xss : List (List ℕ)) → flat_map (λ x. x) xss ≡ joined xss
+flat_joined [] = refl
+flat_joined (xs ∷ xss) = ap (λ l. xs ++ l) (flat_joined xss)

@@ -47,7 +47,7 @@ fn keys_from(
     let seed = seed_in(seeds, p);
     let mut keys = Vec::new(alloc);
     'locks: for lock in 0..locks {
-        let (_, public) = keygen(&seed, p, lock);
+        let (_, public) = keygen(alloc, &seed, p, lock)?;
         keys.push(public)?;
     }
     Ok(Listed::new(keys))

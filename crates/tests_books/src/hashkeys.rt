@@ -59,7 +59,7 @@ fn longer(
     assert!(rt; party < deal.graph.n());
     assert!(rt; inner.path.len() < path_limit(deal) as usize);
     assert!(rt; inner.sigs.len() == inner.path.len());
-    let (key, _public) = keygen(&[party; 32], party, inner.lock);
+    let (key, _public) = keygen(alloc, &[party; 32], party, inner.lock)?;
     Ok(
         extend(alloc, deal, inner, party, key)
             .ok()
@@ -71,7 +71,7 @@ fn longer(
 fn leaders_own(alloc: Global, deal: &Deal) -> Result<Hashkey, Fail>
     requires { IsWellSized deal.now }
 {
-    let (key, _public) = keygen(&[0; 32], 0, 0);
+    let (key, _public) = keygen(alloc, &[0; 32], 0, 0)?;
     Ok(
         first(alloc, deal, 0, &SECRET, 0, key)
             .ok()

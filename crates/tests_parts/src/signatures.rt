@@ -8,7 +8,7 @@ use hex::FromHex;
 use sha2::{Digest as Hasher, Sha256};
 use std::alloc::{AllocError, Global};
 use std::test::Fail;
-use swap_base::{Digest, TryCopy};
+use swap_base::{Digest, NoMemory, TryCopy};
 
 /// The digest of 64 hex digits, and zeros for another text.
 fn digest(text: &str) -> Digest {
@@ -38,18 +38,25 @@ fn digest_of(public: &Digest, message: &Digest, sig: &Sig) -> Digest {
 }
 
 /// The public key, and the digest of the signature of a message.
-fn signed(seed: &Digest, party: PartyId, lock: LockId, message: &Digest) -> (Digest, Digest) {
-    let (key, public) = keygen(seed, party, lock);
+fn signed(
+    alloc: Global,
+    seed: &Digest,
+    party: PartyId,
+    lock: LockId,
+    message: &Digest,
+) -> Result<(Digest, Digest), NoMemory> {
+    let (key, public) = keygen(alloc, seed, party, lock)?;
     let sig = key.sign(message);
-    (public, digest_of(&public, message, &sig))
+    Ok((public, digest_of(&public, message, &sig)))
 }
 
 /// The same for a seed, a party, a lock and a message in words.
-fn signed_of(words: &str) -> (Digest, Digest) {
+fn signed_of(alloc: Global, words: &str) -> Result<(Digest, Digest), NoMemory> {
     let (seed, rest) = parted(words, " ");
     let (party, rest) = parted(rest, " ");
     let (lock, message) = parted(rest, " ");
     signed(
+        alloc,
         &digest(seed),
         number_of(party),
         number_of(lock),
@@ -69,8 +76,10 @@ fn two_in_hex(alloc: Global, first: &Digest, second: &Digest) -> Result<String, 
 
 /// The public key and the digest of the signature that words ask for.
 fn signed_told(alloc: Global, words: &str) -> Result<String, AllocError> {
-    let (public, signature) = signed_of(words);
-    two_in_hex(alloc, &public, &signature)
+    match signed_of(alloc, words) {
+        Ok((public, signature)) => two_in_hex(alloc, &public, &signature),
+        Err(NoMemory) => Err(AllocError),
+    }
 }
 
 /// The digests that words ask for, the first of which says of what.
@@ -133,34 +142,43 @@ fn refuses_changes(public: &Digest, message: &Digest, sig: &Sig) -> Result<(), F
 }
 
 /// Whether the signature holds for the message by the key of that seed, party and lock.
-fn is_by(seed: u8, party: PartyId, lock: LockId, message: &Digest, sig: &Sig) -> bool {
-    let (_key, public) = keygen(&[seed; 32], party, lock);
-    verify(&public, message, sig)
+fn is_by(
+    alloc: Global,
+    seed: u8,
+    party: PartyId,
+    lock: LockId,
+    message: &Digest,
+    sig: &Sig,
+) -> Result<bool, NoMemory> {
+    let (_key, public) = keygen(alloc, &[seed; 32], party, lock)?;
+    Ok(verify(&public, message, sig))
 }
 
 /// Whether only the message that was signed, by the seed, party and lock that signed it, is the signature's.
-fn is_of_one(message: &Digest, sig: &Sig) -> bool {
+fn is_of_one(alloc: Global, message: &Digest, sig: &Sig) -> Result<bool, NoMemory> {
     let mut other = *message;
     other[31] = 0x5b;
-    is_by(1, 2, 3, message, sig)
-        && !is_by(1, 2, 3, &other, sig)
-        && !is_by(2, 2, 3, message, sig)
-        && !is_by(1, 3, 3, message, sig)
-        && !is_by(1, 2, 2, message, sig)
+    Ok(
+        is_by(alloc, 1, 2, 3, message, sig)?
+            && !is_by(alloc, 1, 2, 3, &other, sig)?
+            && !is_by(alloc, 2, 2, 3, message, sig)?
+            && !is_by(alloc, 1, 3, 3, message, sig)?
+            && !is_by(alloc, 1, 2, 2, message, sig)?,
+    )
 }
 
-fn refuses_others(public: &Digest, message: &Digest, sig: &Sig) -> Result<(), Fail> {
+fn refuses_others(alloc: Global, public: &Digest, message: &Digest, sig: &Sig) -> Result<(), Fail> {
     refuses_changes(public, message, sig)?;
-    if !is_of_one(message, sig) {
+    if !is_of_one(alloc, message, sig)? {
         return Err("another message or key".into());
     }
     Ok(())
 }
 
 #[test]
-fn one_changed_byte_another_message_or_key_is_refused(_rt: HostRuntime) -> Result<(), Fail> {
+fn one_changed_byte_another_message_or_key_is_refused(rt: HostRuntime) -> Result<(), Fail> {
     let message = [0x5a; 32];
-    let (key, public) = keygen(&[1; 32], 2, 3);
+    let (key, public) = keygen(rt.alloc(), &[1; 32], 2, 3)?;
     let sig = key.sign(&message);
-    refuses_others(&public, &message, &sig)
+    refuses_others(rt.alloc(), &public, &message, &sig)
 }

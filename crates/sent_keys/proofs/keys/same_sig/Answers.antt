@@ -1,8 +1,13 @@
-use Rattle.std.proofs.Common.{◌∙◌}
+use Rattle.std.proofs.Common.{◌∙◌, ap₂}
+use Rattle.std.specs.Str.{bytes_eq}
+use Rattle.swap_base.specs.Lists.{same_list}
 use Rattle.sent_keys.proofs.Same.{same_bytes}
 use Rattle.sent_keys.proofs.keys.same_sig.Goals as goal
 
 pub returns : goal.returns
 returns c =
-    c.eq.ensures ∙ same_bytes c.to_bytes.result c.to_bytes-2.result c.args.one.now c.args.other.now c.to_bytes.ensures.bytes c.to_bytes.ensures.values
-    c.to_bytes-2.ensures.bytes c.to_bytes-2.ensures.values
+    let one = c.bytes_in.ensures in
+    let other = c.bytes_in-2.ensures in
+    let same =
+    same_bytes c.bytes_in.result.now c.bytes_in-2.result.now c.values.result.now c.values-2.result.now one.bytes one.values other.bytes other.values in
+    c.eq.ensures ∙ (same ∙ ap₂ (λ s t. same_list bytes_eq s t) c.values.ensures c.values-2.ensures)

@@ -4,6 +4,6 @@ use Rattle.hash_chains.proofs.chains.Chains.new.Given as goal
 
 abbrev pub invariant-fours : goal.invariant-fours
 invariant-fours l = record {
-  long : length l.fours ≡ 17;
-  each : (g : ℕ) → g < l.g → AreFourChains l.seed l.party l.lock (4 * g) (get_or l.fours g no_four);
+  long : length l.fours.items ≡ 17;
+  each : (g : ℕ) → g < l.g → AreFourChains l.seed l.party l.lock (4 * g) (get_or l.fours.items g no_four);
 }

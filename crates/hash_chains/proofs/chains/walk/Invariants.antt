@@ -3,7 +3,7 @@ use Rattle.sha2.specs.Sha256.{digest_bytes}
 use Rattle.hash_chains.specs.Chains.{chain_after}
 use Rattle.hash_chains.specs.Fours.{HasRow}
 use Rattle.hash_chains.specs.Lanes.{lane}
-use Rattle.hash_chains.proofs.chains.walked.Given as goal
+use Rattle.hash_chains.proofs.chains.walk.Given as goal
 
 abbrev pub invariant-steps : goal.invariant-steps
 invariant-steps l = record {

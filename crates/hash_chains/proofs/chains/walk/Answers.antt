@@ -1,4 +1,4 @@
-use Rattle.std.proofs.Common.{◌≡◌, ℕ, ◌+◌, ◌<◌, [], get_or, refl, ◌∙◌, arith}
+use Rattle.std.proofs.Common.{◌≡◌, ℕ, ◌+◌, ◌<◌, [], get_or, ◌∙◌, arith}
 use Rattle.std.proofs.Math.ListN.{length-set}
 use Rattle.sha2.specs.Sha256.{digest_bytes}
 use Rattle.hash_chains.specs.Chains.{chain_after}
@@ -7,15 +7,14 @@ use Rattle.hash_chains.specs.Lanes.{lane}
 use Rattle.hash_chains.specs.declared.chains.Row.{Row}
 use Rattle.hash_chains.proofs.Lanes.{no_steps, words_more}
 use Rattle.hash_chains.proofs.Written.{each_written}
-use Rattle.hash_chains.proofs.chains.walked.Goals as goal
+use Rattle.hash_chains.proofs.chains.walk.Goals as goal
 
 pub steps-init : goal.steps-init
 steps-init c = record {
-  long = refl;
+  long = length-set _ _ _ ∙ c.told-rows;
   here = λ i lt. no_steps _;
-  each = λ n below i lt.
-      let e : n ≡ 0 = omega arith in
-      rw e (c.four_values.ensures i lt ∙ no_steps _);
+  each = each_written (λ (k : ℕ) (row : Row). (i : ℕ) → i < 4 → get_or row.values i [] ≡ chain_after k (digest_bytes (lane c.args.start i) 8))
+      c.args.rows.now 0 _ no_row (omega (arith, c.told-rows)) (λ k below. absurd (omega (arith, below))) (λ i lt. c.four_values.ensures i lt ∙ no_steps _);
 }
 
 pub steps-preserved : goal.steps-preserved
