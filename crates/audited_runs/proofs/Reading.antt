@@ -1,16 +1,13 @@
 -- What is read of an input holds digests: the moves of its scripts and of its events.
-use Rattle.std.proofs.Common.{◌≡◌, ◌==◌, ◌+◌, ◌*◌, ◌<◌, ℕ, zero, suc, nat_le, Bool, true, false, cond, List, [], ◌∷◌, length, take, drop, Option}
-use Rattle.std.proofs.Common.{Some, None, Ok, Err, sym, ap, subst, codes, arith}
+use Rattle.std.proofs.Common.{◌≡◌, ◌==◌, ◌+◌, ℕ, nat_le, Bool, true, false, cond, List, [], ◌∷◌, length, Option}
+use Rattle.std.proofs.Common.{Some, None, Ok, Err, ap, subst, codes}
 use Rattle.std.specs.Prelude.{All}
-use Rattle.std.proofs.lemmas.List.{length-drop, length-take-le}
 use Rattle.std.proofs.lemmas.List.Elements.{All-cons, All-map, All-nil}
-use Rattle.std.proofs.lemmas.List.FromFn.{length-map-range_with_len}
-use Rattle.hex.specs.Hex.{decode_sized, IsBytes}
+use Rattle.hex.specs.Hex.{decode_sized}
 use Rattle.swap_digraph.specs.Deal.{most_parties}
 use Rattle.swap_digraph.specs.declared.deal.Version.{Version}
 use Rattle.hash_signature.specs.declared.sig.Sig.{Sig}
-use Rattle.hash_signature.specs.Signature.{for_chains, value_at, values_of}
-use Rattle.hash_signature.proofs.Chains.{get_or-for_chains}
+use Rattle.hash_signature.specs.Signature.{values_of}
 use Rattle.hashkey_path.specs.declared.hashkey.Hashkey.{Hashkey}
 use Rattle.refusals.specs.declared.reason.Reason.TheVariants.{OverLimit}
 use Rattle.swap_job.specs.declared.event.Event.{Event}
@@ -38,8 +35,8 @@ use Rattle.offer_moves.specs.Moves.{unlock_of, wait_of}
 use Rattle.offer_moves.specs.Placed.{adjacent, deviating}
 use Rattle.offer_events.specs.declared.raw.RawEvent.{RawEvent}
 use Rattle.offer_events.specs.declared.raw.RawEvent.TheVariants as raw_events
-use Rattle.offer_events.specs.Event.{asked, checked, conforming_crash, event_of, event_of_act, event_of_call, event_of_crash, event_of_look, event_of_tick, outside_race}
-use Rattle.offer_events.specs.Event.{permitted}
+use Rattle.offer_events.specs.Event.{asked, checked, conforming_crash, event_of, event_of_act, event_of_call, event_of_crash, event_of_look}
+use Rattle.offer_events.specs.Event.{event_of_tick, outside_race, permitted}
 use Rattle.offer_events.specs.Reading.{event_at}
 use Rattle.offer_header.specs.declared.limits.Acting.{Acting}
 use Rattle.offer_header.specs.declared.names.Numbered.{Numbered}
@@ -57,6 +54,7 @@ use Rattle.offer_header.proofs.Limited.{opened}
 use Rattle.swap_offer.specs.Checks.{admitted, job_with}
 use Rattle.swap_offer.specs.Job.{accepted_of, events_of, job_header_of, next_of, provided}
 use Rattle.typed_books.specs.Typed.{IsDigest, IsSignature}
+use Rattle.transcript_book.proofs.Exact.{each_value, many_values}
 use Rattle.read_back.proofs.Onward.{landed, onward}
 use Rattle.read_back.proofs.Showable.{decoded_bytes, digest_is}
 use Rattle.audited_runs.proofs.Hashes.{May, KeyHas}
@@ -64,36 +62,6 @@ use Rattle.audited_runs.proofs.Calls.{MoveHas}
 use Rattle.audited_runs.proofs.States.{EventHas, RoleHas}
 
 -- ---- signatures
-
-bytes_cons : (x : ℕ) (xs : List ℕ) → x < 256 → IsBytes xs → IsBytes (x ∷ xs)
-bytes_cons x xs small h zero = small
-bytes_cons x xs small h (suc i) = h i
-
-bytes_drop : (n : ℕ) (xs : List ℕ) → IsBytes xs → IsBytes (drop n xs)
-bytes_drop zero xs h = h
-bytes_drop (suc n) [] h = h
-bytes_drop (suc n) (x ∷ xs) h = bytes_drop n xs (λ i. h (suc i))
-
-bytes_take : (n : ℕ) (xs : List ℕ) → IsBytes xs → IsBytes (take n xs)
-bytes_take zero xs h = λ i. omega arith
-bytes_take (suc n) [] h = h
-bytes_take (suc n) (x ∷ xs) h = bytes_cons x (take n xs) (h 0) (bytes_take n xs (λ i. h (suc i)))
-
-value_is : (bytes : List ℕ) (j : ℕ) → length bytes ≡ 2144 → IsBytes bytes → j < 67 → IsDigest (value_at bytes j)
-value_is bytes j size h lt = record {
-  size = length-take-le 32 (drop (32 * j) bytes) (omega (arith, length-drop (32 * j) bytes));
-  bytes = bytes_take 32 (drop (32 * j) bytes) (bytes_drop (32 * j) bytes h);
-}
-
-many_values : (bytes : List ℕ) → length (values_of bytes) ≡ 67
-unfolding values_of for_chains
-many_values bytes = length-map-range_with_len (value_at bytes) 0 67
-
-each_value : (bytes : List ℕ) → length bytes ≡ 2144 → IsBytes bytes → All IsDigest (values_of bytes)
-unfolding values_of
-each_value bytes size h j d lt =
-    let below : j < 67 = omega (arith, many_values bytes) in
-    subst IsDigest (sym (get_or-for_chains (value_at bytes) j d below)) (value_is bytes j size h below)
 
 sig_has : (line : ℕ) (text : List ℕ) (s : Sig) → sig_of line text ≡ Ok s → IsSignature s
 unfolding sig_of

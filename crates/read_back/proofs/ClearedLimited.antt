@@ -1,16 +1,13 @@
 -- The limits of a group's job are kept, and its seeds are those of its digits.
-use Rattle.std.proofs.Common.{◌≡◌, ◌^◌, ◌<◌, ◌≤◌, ℕ, zero, suc, nat_le, true, not, List, [], ◌∷◌, length, map, Some, Result, Ok, refl}
-use Rattle.std.proofs.Common.{◌∙◌, arith, le-leb, lt-ltb}
+use Rattle.std.proofs.Common.{◌≡◌, ◌^◌, ◌<◌, ◌≤◌, ℕ, nat_le, true, List, [], ◌∷◌, length, map, Some, Result, Ok, refl}
+use Rattle.std.proofs.Common.{◌∙◌, arith, le-leb}
 use Rattle.std.specs.Prelude.{codes, zip}
 use Rattle.std.proofs.lemmas.List.{length-map}
 use Rattle.hex.specs.Hex.{decode_sized}
 use Rattle.hex.specs.declared.error.FromHexError.{FromHexError}
 use Rattle.swap_base.specs.Lists.{IsIn}
 use Rattle.swap_base.proofs.Lists.{and_both}
-use Rattle.time_bounds.specs.Times.{need}
-use Rattle.swap_digraph.specs.Value.{Graph}
-use Rattle.swap_digraph.specs.Graph.{is_among, IsHeight}
-use Rattle.swap_digraph.proofs.Parts.{not_leader}
+use Rattle.swap_digraph.specs.Graph.{is_among}
 use Rattle.swap_digraph.proofs.Paths.{in-is_among}
 use Rattle.swap_digraph.specs.declared.deal.Version.TheVariants.{Two}
 use Rattle.swap_job.specs.declared.job.Purpose.TheVariants.{Make}
@@ -32,6 +29,7 @@ use Rattle.read_back.proofs.ClearedFields.{raw_arc, raw_header, raw_leader, raw_
 use Rattle.read_back.proofs.Lists.{pairs_long}
 use Rattle.read_back.proofs.ClearedNamed.{numbered_at}
 use Rattle.read_back.proofs.Shape.{IsClear}
+use Rattle.read_back.proofs.Bounds.{enough_is_some}
 
 -- ---- ranges
 
@@ -69,31 +67,6 @@ seeds_back w sizes names line (p ∷ ps) (t ∷ texts) (s ∷ seeds) e d =
     let h = heads (decode_sized t 32) s _ _ d in
     step _ (acting_with s) _ (seed_back w sizes names line p t s h.0)
     ∙ step _ (map acting_with seeds) _ (seeds_back w sizes names line ps texts seeds (omega (arith, e)) h.1)
-
--- ---- a bound that is enough isn't 0
-
-a_follower : (leader : ℕ) → (v : ℕ) × (v < 2) × (v ≡ leader → ⊥)
-a_follower zero = (1, omega arith, λ e. omega (arith, e))
-a_follower (suc l) = (0, omega arith, λ e. omega (arith, e))
-
-many_leaders : (n locks h b : ℕ) → 2 ≤ n → 2 ≤ locks → need n locks h ≤ b → 1 ≤ b
-many_leaders n locks h b parties two le = omega arith
-
-one_leader : (n h b : ℕ) → 2 ≤ n → 1 ≤ h → need n 1 h ≤ b → 1 ≤ b
-one_leader n h b parties some le = omega arith
-
--- a follower alone is a path
-tall_enough : (g : Graph) (l h : ℕ) → 2 ≤ g.n → IsHeight g (l ∷ []) h → 1 ≤ h
-tall_enough g l h parties tall =
-    let v = a_follower l in
-    let low : v.0 < 2 = v.1 in
-    let within : v.0 < g.n = omega (arith, low, parties) in
-    tall.most (v.0 ∷ []) (lt-ltb v.0 g.n within) (and_both (not (is_among v.0 (l ∷ []))) true (not_leader l v.0 v.2) refl)
-
-some_bound : (g : Graph) (ls : List ℕ) (h b : ℕ) → 2 ≤ g.n → 1 ≤ length ls → IsHeight g ls h → need g.n (length ls) h ≤ b → 1 ≤ b
-some_bound g [] h b parties some tall le = absurd (omega arith)
-some_bound g (l ∷ []) h b parties some tall le = one_leader g.n h b parties (tall_enough g l h parties tall) le
-some_bound g (l ∷ m ∷ ls) h b parties some tall le = many_leaders g.n (length (l ∷ m ∷ ls)) h b parties (omega arith) le
 
 -- ---- the header
 
@@ -158,7 +131,7 @@ module _ (w : Wishes) (group : Group) (k : IsClear w group) (line : ℕ) (texts 
   unfolding limited_of
   limited_back =
       let low : 1 ≤ group.bound
-      = some_bound (own (wished_graph w) group) (own_leaders group) k.ready.height group.bound k.ready.parties.0 k.ready.leaders.0 k.ready.is_height
+      = enough_is_some (own (wished_graph w) group) (own_leaders group) k.ready.height group.bound k.ready.parties.0 k.ready.leaders.0 k.ready.is_height
       k.ready.bound.0 in
       step _ w.start _ (number_back line (codes "start") 1 1000 w.start k.within.start.0 k.within.start.1)
       ∙ step _ w.delta _ (number_back line (codes "delta") 1 100 w.delta k.within.delta.0 k.within.delta.1)

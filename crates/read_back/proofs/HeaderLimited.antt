@@ -1,6 +1,6 @@
 -- The limits of a header that is shown are kept, and its digests are those of the job.
-use Rattle.std.proofs.Common.{◌≡◌, inl, inr, ◌^◌, ◌<◌, ◌≤◌, ℕ, zero, suc, nat_le, Bool, true, false, not, List, [], ◌∷◌, length, map}
-use Rattle.std.proofs.Common.{slice_index, Option, None, Ok, refl, sym, ap, ap₂, ◌∙◌, subst, arith, le-leb, lt-ltb}
+use Rattle.std.proofs.Common.{◌≡◌, inl, inr, ◌^◌, ◌<◌, ◌≤◌, ℕ, suc, nat_le, Bool, true, false, List, [], ◌∷◌, length, map}
+use Rattle.std.proofs.Common.{slice_index, Option, None, Ok, refl, sym, ap, ap₂, ◌∙◌, subst, arith, le-leb}
 use Rattle.std.specs.Prelude.{All, codes, slice_index_or}
 use Rattle.std.specs.List.{range_with_len}
 use Rattle.std.proofs.lemmas.List.{length-map}
@@ -9,9 +9,7 @@ use Rattle.hex.specs.Hex.{encode_lower}
 use Rattle.hex.proofs.HexLemmas.{decode_sized-encode_lower}
 use Rattle.swap_base.specs.Lists.{IsIn}
 use Rattle.swap_base.proofs.Lists.{and_both, from_range}
-use Rattle.time_bounds.specs.Times.{need}
-use Rattle.swap_digraph.specs.Graph.{arcs, is_among, IsHeight}
-use Rattle.swap_digraph.proofs.Parts.{not_leader}
+use Rattle.swap_digraph.specs.Graph.{arcs}
 use Rattle.swap_digraph.specs.declared.arc_ends.ArcEnds.{ArcEnds}
 use Rattle.swap_digraph.specs.declared.deal.Mode.{Mode}
 use Rattle.swap_digraph.specs.declared.deal.Mode.TheVariants.{Timelocks, Hashkeys}
@@ -36,6 +34,7 @@ use Rattle.read_back.specs.Headers.{IsShowable}
 use Rattle.read_back.proofs.Steps.{by_places, each_back, step}
 use Rattle.read_back.proofs.HeaderFields.{actor_for, raw_arc, raw_header, raw_leader, raw_party, raw_row, stated}
 use Rattle.read_back.proofs.HeaderNamed.{ends_at, numbered_at}
+use Rattle.read_back.proofs.Bounds.{enough_is_some}
 
 -- ---- ranges, digests and lists
 
@@ -103,33 +102,8 @@ seeds_are : (cs : List Bool) → map (λ (a : Acting). a.seed) (map acting_for c
 seeds_are [] = refl
 seeds_are (c ∷ cs) = ap (λ (ss : List (Option (List ℕ))). None ∷ ss) (seeds_are cs)
 
--- ---- a bound that is enough isn't 0
-
-a_follower : (leader : ℕ) → (v : ℕ) × (v < 2) × (v ≡ leader → ⊥)
-a_follower zero = (1, omega arith, λ e. omega (arith, e))
-a_follower (suc l) = (0, omega arith, λ e. omega (arith, e))
-
-many_leaders : (n locks h b : ℕ) → 2 ≤ n → 2 ≤ locks → need n locks h ≤ b → 1 ≤ b
-many_leaders n locks h b parties two le = omega arith
-
-one_leader : (n h b : ℕ) → 2 ≤ n → 1 ≤ h → need n 1 h ≤ b → 1 ≤ b
-one_leader n h b parties some le = omega arith
-
--- a follower alone is a path
-tall_enough : (d : Deal) (l h : ℕ) → 2 ≤ d.graph.n → IsHeight d.graph (l ∷ []) h → 1 ≤ h
-tall_enough d l h parties tall =
-    let v = a_follower l in
-    let low : v.0 < 2 = v.1 in
-    let within : v.0 < d.graph.n = omega (arith, low, parties) in
-    tall.most (v.0 ∷ []) (lt-ltb v.0 d.graph.n within) (and_both (not (is_among v.0 (l ∷ []))) true (not_leader l v.0 v.2) refl)
-
-bound_by : (d : Deal) (ls : List ℕ) (h : ℕ) → 2 ≤ d.graph.n → 1 ≤ length ls → IsHeight d.graph ls h → need d.graph.n (length ls) h ≤ d.bound → 1 ≤ d.bound
-bound_by d [] h parties some tall le = absurd (omega arith)
-bound_by d (l ∷ []) h parties some tall le = one_leader d.graph.n h d.bound parties (tall_enough d l h parties tall) le
-bound_by d (l ∷ m ∷ ls) h parties some tall le = many_leaders d.graph.n (length (l ∷ m ∷ ls)) h d.bound parties (omega arith) le
-
 pub some_bound : (d : Deal) → IsAccepted d → 1 ≤ d.bound
-some_bound d a = bound_by d d.leaders a.height a.parties.0 a.leaders.0 a.is_height a.bound.0
+some_bound d a = enough_is_some d.graph d.leaders a.height d.bound a.parties.0 a.leaders.0 a.is_height a.bound.0
 
 -- ---- the header
 

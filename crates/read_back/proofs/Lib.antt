@@ -1,4 +1,5 @@
 pub mod Steps
+pub mod Bounds
 pub mod HeaderFields
 pub mod HeaderNamed
 pub mod HeaderLimited

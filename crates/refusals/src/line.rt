@@ -215,13 +215,7 @@ fn put_reason(out: &mut Vec<u8>, names: &[ByteText], reason: &Reason) -> Result<
         Reason::WrongWallet(party, lock) => put_wallet(out, names, *party, *lock),
         Reason::BadLine(line) => put_numbered(out, "BadLine", *line as u64),
         Reason::CutShort => put(out, &[Piece::Text("CutShort")]),
-        Reason::BadReply(arc, entry, old, new) => put_replies(
-            out,
-            names,
-            (*arc, *entry),
-            *old,
-            *new,
-        ),
+        Reason::BadReply(arc, at, old, new) => put_replies(out, names, (*arc, *at), *old, *new),
         Reason::TooManyLeaders(group, count) => put_two(
             out,
             "TooManyLeaders",

@@ -67,7 +67,7 @@ count_none p (x ∷ xs) h =
     let e3 : count_by p xs ≡ 0 = count_none p xs (λ y i. h y (inr i)) in
     omega arith
 
-count_single : {A : Type 0} (p : A → Bool) (xs past : List A) (x : A) → IsMoment xs past x → p x ≡ true
+pub count_single : {A : Type 0} (p : A → Bool) (xs past : List A) (x : A) → IsMoment xs past x → p x ≡ true
     → ((q : List A) (y : A) → IsMoment xs q y → p y ≡ true → list_any p q ≡ false) → count_by p xs ≡ 1
 count_single p xs past x m px none =
     let e1 : count_by p xs ≡ count_by p (past ++ x ∷ m.0) = ap (count_by p) m.1 in
@@ -85,13 +85,12 @@ count_single p xs past x m px none =
         let w : xs ≡ (past ++ x ∷ n.0) ++ y ∷ n.1.0 = m.1 ∙ (ap (λ l. past ++ x ∷ l) n.1.1 ∙ sym (append_assoc past (x ∷ n.0) (y ∷ n.1.0))) in
         absurd (false≢true (sym (none (past ++ x ∷ n.0) y (n.1.0, w) e) ∙ list_any-at p past x n.0 px))
 
--- A party that keeps its rules is conducted.
+-- A party all of whose unlock calls for a lock carry one hashkey carries its first.
 
-module _ (d : Deal) (b : Histories) (signed : ℕ → Option Hashkey) (v : ℕ) (legal : IsLegalBook d b) (rules : KeepsRules d b signed v) where
-  legal_here : (a : ℕ) (past : List Entry) (e : Entry) → IsMoment (history b a) past e → IsLegal d a (history b a)
-  legal_here a past e m = legal.legal a (below_of b a past e m)
-
-  first_signed : (key : Hashkey) (a : ℕ) (past : List Entry) (e : Entry) → IsMoment (history b a) past e → call_by v e ≡ Some (Unlock key)
+module _ (b : Histories) (v : ℕ) (signed : ℕ → Option Hashkey)
+    (one_key : (a : ℕ) (past : List Entry) (e : Entry) (key : Hashkey) → IsMoment (history b a) past e → call_by v e ≡ Some (Unlock key)
+    → signed key.lock ≡ Some key) where
+  pub first_signed : (key : Hashkey) (a : ℕ) (past : List Entry) (e : Entry) → IsMoment (history b a) past e → call_by v e ≡ Some (Unlock key)
       → is_first_key (first_key b v key.lock) key ≡ true
   unfolding first_key
   first_signed key a past e m k =
@@ -104,10 +103,16 @@ module _ (d : Deal) (b : Histories) (signed : ℕ → Option Hashkey) (v : ℕ) 
       let p = key_parts key.lock (call_by v f.now) s.0 f.gives in
       let w = from_whole b f.now (subst (IsIn f.now) (sym f.stands.1) (in_from_moment f.past f.now f.stands.0)) in
       let n = moment_from_in (history b w.0) f.now w.2 in
-      let r1 = rules.own w.0 n.0 f.now (Unlock s.0) n.1 p.0 in
-      let r2 = rules.own a past e (Unlock key) m k in
-      let same : s.0 ≡ key = same_Some s.0 key (sym (ap signed (sym p.1) ∙ r1.2) ∙ r2.2) in
+      let r1 = one_key w.0 n.0 f.now s.0 n.1 p.0 in
+      let r2 = one_key a past e key m k in
+      let same : s.0 ≡ key = same_Some s.0 key (sym (ap signed (sym p.1) ∙ r1) ∙ r2) in
       ap (λ o. is_first_key o key) s.1 ∙ (ap (λ x. same_key x key) same ∙ same_key-refl key)
+
+-- A party that keeps its rules is conducted.
+
+module _ (d : Deal) (b : Histories) (signed : ℕ → Option Hashkey) (v : ℕ) (legal : IsLegalBook d b) (rules : KeepsRules d b signed v) where
+  legal_here : (a : ℕ) (past : List Entry) (e : Entry) → IsMoment (history b a) past e → IsLegal d a (history b a)
+  legal_here a past e m = legal.legal a (below_of b a past e m)
 
   keep_call : (a : ℕ) (past : List Entry) (e : Entry) (c : Call) → IsMoment (history b a) past e → call_by v e ≡ Some c → KeepsOwn d b signed v a past c
       → keeps d b v a past e.height (Some c) ≡ true
@@ -131,7 +136,7 @@ module _ (d : Deal) (b : Histories) (signed : ℕ → Option Hashkey) (v : ℕ) 
       (and_both (is_some (published past) && is_ready d b v && is_first_key (first_key b v key.lock) key) _
       (and_both (is_some (published past) && is_ready d b v) _
       (and_both (is_some (published past)) _ r.0 r.1)
-      (first_signed key a past e m k))
+      (first_signed b v signed (λ a past e key m k. (rules.own a past e (Unlock key) m k).2) key a past e m k))
       (kr.good.valid a r.3))
       kr.origin
   keep_call a past e Claim m k r = r.0

@@ -50,7 +50,16 @@ pub record Taker (d : Deal) (b : Histories) (key : Hashkey) (t : Taken d b key) 
   pub origin : has_origin d.mode d b (counterparty d t.arc) key ≡ true
   pub lock : key.lock < length d.leaders
 
-revealed : (secret : List ℕ) (o : Option Call) → carries secret o ≡ true → (key : Hashkey) × (o ≡ Some (Unlock key)) × (bytes_eq key.secret secret ≡ true)
+-- a hashkey's lock and secret, with that path and those signatures
+abbrev with_path : Hashkey → List ℕ → List Sig → Hashkey
+with_path key path sigs = record { lock = key.lock; secret = key.secret; path = path; sigs = sigs }
+
+-- whence the hashkey came to v with hashkeys: it is v's own where v leads the lock, and extends one that was taken else
+abbrev origin_as : Deal → Histories → ℕ → Hashkey → Bool → Bool
+origin_as d b v key led =
+    cond led (is_alone v key.path) (list_any (λ a. list_any (λ e. extends_without v key (accepted e)) (history b a)) (leaving d.graph v))
+
+pub revealed : (secret : List ℕ) (o : Option Call) → carries secret o ≡ true → (key : Hashkey) × (o ≡ Some (Unlock key)) × (bytes_eq key.secret secret ≡ true)
 revealed secret (Some (Unlock key)) e = (key, refl, e)
 revealed secret None e = absurd (cc e)
 revealed secret (Some (Publish t)) e = absurd (cc e)
@@ -97,18 +106,13 @@ module _ (d : Deal) (b : Histories) (k : IsAccepted d) (legal : IsLegalBook d b)
 
   -- the hashkey that an extension extends was taken too
   inner_taken : (u x : ℕ) (p : List ℕ) (s : Sig) (sigs : List Sig) (key : Hashkey)
-      → list_any (λ a. list_any (λ e. extends_without u (record { lock = key.lock; secret = key.secret; path = x ∷ p; sigs = s ∷ sigs }) (accepted e))
-      (history b a)) (leaving d.graph u) ≡ true
-      → Taken d b (record { lock = key.lock; secret = key.secret; path = p; sigs = sigs })
+      → list_any (λ a. list_any (λ e. extends_without u (with_path key (x ∷ p) (s ∷ sigs)) (accepted e)) (history b a)) (leaving d.graph u) ≡ true
+      → Taken d b (with_path key p sigs)
   inner_taken u x p s sigs key e =
-      let y =
-      in_any (λ a. list_any (λ e. extends_without u (record { lock = key.lock; secret = key.secret; path = x ∷ p; sigs = s ∷ sigs }) (accepted e))
-      (history b a)) (leaving d.graph u) e in
-      let z =
-      in_any (λ e. extends_without u (record { lock = key.lock; secret = key.secret; path = x ∷ p; sigs = s ∷ sigs }) (accepted e)) (history b y.0)
-      y.2 in
-      let i = extended_without u (record { lock = key.lock; secret = key.secret; path = x ∷ p; sigs = s ∷ sigs }) (accepted z.0) z.2 in
-      let q = and_parts (x == u) (same_key i.0 (record { lock = key.lock; secret = key.secret; path = p; sigs = sigs })) i.3 in
+      let y = in_any (λ a. list_any (λ e. extends_without u (with_path key (x ∷ p) (s ∷ sigs)) (accepted e)) (history b a)) (leaving d.graph u) e in
+      let z = in_any (λ e. extends_without u (with_path key (x ∷ p) (s ∷ sigs)) (accepted e)) (history b y.0) y.2 in
+      let i = extended_without u (with_path key (x ∷ p) (s ∷ sigs)) (accepted z.0) z.2 in
+      let q = and_parts (x == u) (same_key i.0 (with_path key p sigs)) i.3 in
       let m = moment_from_in (history b y.0) z.0 z.1 in
       record {
         arc = y.0;
@@ -116,66 +120,38 @@ module _ (d : Deal) (b : Histories) (k : IsAccepted d) (legal : IsLegalBook d b)
         past = m.0;
         now = z.0;
         stands = m.1;
-        took =
-            i.1 ∙ ap (λ h. Some (Unlock h)) (same_key-true i.0 (record { lock = key.lock; secret = key.secret; path = p; sigs = sigs }) q.1);
+        took = i.1 ∙ ap (λ h. Some (Unlock h)) (same_key-true i.0 (with_path key p sigs) q.1);
       }
 
   unforged_suffix : (v : ℕ) → d.mode ≡ Hashkeys → (p : List ℕ) (sigs : List Sig) (key : Hashkey)
-      → Taken d b (record { lock = key.lock; secret = key.secret; path = p; sigs = sigs }) → has_forged_suffix b v key p sigs ≡ false
+      → Taken d b (with_path key p sigs) → has_forged_suffix b v key p sigs ≡ false
   unforged_suffix v mode [] sigs key t = refl
   unforged_suffix v mode (x ∷ p) [] key t = refl
   unforged_suffix v mode (x ∷ p) (s ∷ sigs) key t =
-      let whole : Hashkey = record { lock = key.lock; secret = key.secret; path = x ∷ p; sigs = s ∷ sigs } in
-      let u = counterparty d t.arc in
-      let is_u : x ≡ counterparty d t.arc =
-      eqb-true x (counterparty d t.arc) (first_of_path (record { lock = key.lock; secret = key.secret; path = x ∷ p; sigs = s ∷ sigs }) t mode) in
-      let m : has_made b x (record { lock = key.lock; secret = key.secret; path = x ∷ p; sigs = s ∷ sigs }) ≡ true =
-      subst (λ z. has_made b z (record { lock = key.lock; secret = key.secret; path = x ∷ p; sigs = s ∷ sigs }) ≡ true) (sym is_u)
-      (made (record { lock = key.lock; secret = key.secret; path = x ∷ p; sigs = s ∷ sigs }) t) in
-      let r = taker (record { lock = key.lock; secret = key.secret; path = x ∷ p; sigs = s ∷ sigs }) t in
+      let is_u : x ≡ counterparty d t.arc = eqb-true x (counterparty d t.arc) (first_of_path (with_path key (x ∷ p) (s ∷ sigs)) t mode) in
+      let m : has_made b x (with_path key (x ∷ p) (s ∷ sigs)) ≡ true =
+      subst (λ z. has_made b z (with_path key (x ∷ p) (s ∷ sigs)) ≡ true) (sym is_u) (made (with_path key (x ∷ p) (s ∷ sigs)) t) in
+      let r = taker (with_path key (x ∷ p) (s ∷ sigs)) t in
       both (x == v) refl m (rest (leads d (counterparty d t.arc) key.lock) refl
-      (ap (λ m. has_origin m d b (counterparty d t.arc) (record { lock = key.lock; secret = key.secret; path = x ∷ p; sigs = s ∷ sigs })) (sym mode)
-      ∙ r.origin) (λ y. unforged_suffix v mode p sigs key y))
+      (ap (λ m. has_origin m d b (counterparty d t.arc) (with_path key (x ∷ p) (s ∷ sigs))) (sym mode) ∙ r.origin)
+      (λ y. unforged_suffix v mode p sigs key y))
     where
       rest : (y : Bool) → leads d (counterparty d t.arc) key.lock ≡ y
-          → cond (leads d (counterparty d t.arc) key.lock) (is_alone (counterparty d t.arc) (x ∷ p))
-          (list_any (λ a. list_any (λ e. extends_without (counterparty d t.arc) (record {
-            lock = key.lock;
-            secret = key.secret;
-            path = x ∷ p;
-            sigs =
-                s ∷ sigs;
-          }) (accepted e)) (history b a)) (leaving d.graph (counterparty d t.arc))) ≡ true
-          → (Taken d b (record { lock = key.lock; secret = key.secret; path = p; sigs = sigs }) → has_forged_suffix b v key p sigs ≡ false)
+          → origin_as d b (counterparty d t.arc) (with_path key (x ∷ p) (s ∷ sigs)) (leads d (counterparty d t.arc) key.lock) ≡ true
+          → (Taken d b (with_path key p sigs) → has_forged_suffix b v key p sigs ≡ false)
           → has_forged_suffix b v key p sigs ≡ false
       rest true e o again =
           ap (λ l. has_forged_suffix b v key l sigs) (alone_rest (counterparty d t.arc) x p
-          (ap (λ z. cond z (is_alone (counterparty d t.arc) (x ∷ p))
-          (list_any (λ a. list_any (λ e. extends_without (counterparty d t.arc) (record {
-            lock = key.lock;
-            secret = key.secret;
-            path = x ∷ p;
-            sigs =
-                s ∷ sigs;
-          }) (accepted e)) (history b a)) (leaving d.graph (counterparty d t.arc)))) (sym e) ∙ o))
+          (ap (origin_as d b (counterparty d t.arc) (with_path key (x ∷ p) (s ∷ sigs))) (sym e) ∙ o))
       rest false e o again =
           again (inner_taken (counterparty d t.arc) x p s sigs key
-          (ap (λ z. cond z (is_alone (counterparty d t.arc) (x ∷ p))
-          (list_any (λ a. list_any (λ e. extends_without (counterparty d t.arc) (record {
-            lock = key.lock;
-            secret = key.secret;
-            path = x ∷ p;
-            sigs =
-                s ∷ sigs;
-          }) (accepted e)) (history b a)) (leaving d.graph (counterparty d t.arc)))) (sym e) ∙ o))
+          (ap (origin_as d b (counterparty d t.arc) (with_path key (x ∷ p) (s ∷ sigs))) (sym e) ∙ o))
 
-      both : (y : Bool) → (x == v) ≡ y → has_made b x (record { lock = key.lock; secret = key.secret; path = x ∷ p; sigs = s ∷ sigs }) ≡ true
+      both : (y : Bool) → (x == v) ≡ y → has_made b x (with_path key (x ∷ p) (s ∷ sigs)) ≡ true
           → has_forged_suffix b v key p sigs ≡ false
-          → ((y && not (has_made b v (record { lock = key.lock; secret = key.secret; path = x ∷ p; sigs = s ∷ sigs })))
-          || has_forged_suffix b v key p sigs) ≡ false
+          → ((y && not (has_made b v (with_path key (x ∷ p) (s ∷ sigs)))) || has_forged_suffix b v key p sigs) ≡ false
       both true e m f =
-          ap (λ z. not z || has_forged_suffix b v key p sigs) (subst (λ z.
-          has_made b z (record { lock = key.lock; secret = key.secret; path = x ∷ p; sigs = s ∷ sigs }) ≡ true) (eqb-true x v e) m) ∙ f
+          ap (λ z. not z || has_forged_suffix b v key p sigs) (subst (λ z. has_made b z (with_path key (x ∷ p) (s ∷ sigs)) ≡ true) (eqb-true x v e) m) ∙ f
       both false e m f = f
 
   -- Timelocks.

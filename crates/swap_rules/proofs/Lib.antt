@@ -19,6 +19,8 @@ pub mod Found
 pub mod Forging
 pub mod Fitting
 pub mod Expiry
+pub mod Cases
+pub mod DueKeys
 pub mod Due
 pub mod Conducting
 pub mod Machines

@@ -56,6 +56,7 @@ use Rattle.swap_rules.specs.Laws.{RoundsAreInTime, RoundsAreOnTime, RacesAreInTi
 use Rattle.swap_rules.specs.Machine.{Begins}
 use Rattle.swap_rules.specs.Rounds.{IsNear, IsRounds, IsDoneBy, IsRaceTurn, IsRaced, book_at}
 use Rattle.time_bounds.specs.Times as times
+use Rattle.swap_rules.proofs.Forging.{revealed}
 
 -- Where nothing is due.
 
@@ -512,14 +513,6 @@ module _ (d : Deal) (b : Histories) (v : ℕ) (w : Wallet) (ref due : ℕ) (k : 
       record { arc = f.now; leaves = w; opening = p.0; opened = p.1; without = p.3; early = omega arith }
 
   -- Timelocks.
-
-  revealed : (secret : List ℕ) (o : Option Call) → carries secret o ≡ true → (key : Hashkey) × (o ≡ Some (Unlock key))
-  revealed secret (Some (Unlock key)) e = (key, refl)
-  revealed secret None e = absurd (cc e)
-  revealed secret (Some (Publish t)) e = absurd (cc e)
-  revealed secret (Some Claim) e = absurd (cc e)
-  revealed secret (Some Refund) e = absurd (cc e)
-  revealed secret (Some (Transfer to units)) e = absurd (cc e)
 
   seen_open : (c i : ℕ) → d.mode ≡ Timelocks → IsIn c (leaving d.graph v) → is_open (history b c) i ≡ true
       → greatest (λ a. height_of_opening (opened (history b a) i)) (leaving d.graph v) ≤ ref → Seen i

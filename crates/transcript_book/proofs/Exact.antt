@@ -128,11 +128,11 @@ value_is bytes j size h lt = record {
   bytes = bytes_take 32 (drop (32 * j) bytes) (bytes_drop (32 * j) bytes h);
 }
 
-many_values : (bytes : List ℕ) → length (values_of bytes) ≡ 67
+pub many_values : (bytes : List ℕ) → length (values_of bytes) ≡ 67
 unfolding values_of for_chains
 many_values bytes = length-map-range_with_len (value_at bytes) 0 67
 
-each_value : (bytes : List ℕ) → length bytes ≡ 2144 → IsBytes bytes → All IsDigest (values_of bytes)
+pub each_value : (bytes : List ℕ) → length bytes ≡ 2144 → IsBytes bytes → All IsDigest (values_of bytes)
 unfolding values_of
 each_value bytes size h j d lt =
     let below : j < 67 = omega (arith, many_values bytes) in

@@ -1,8 +1,8 @@
 -- Hexadecimal digits of lower case are those of the bytes that are read of them.
-use Rattle.std.proofs.Common.{◌≡◌, ◌==◌, ◌&&◌, ◌||◌, ℕ, zero, suc, ◌+◌, ◌*◌, ◌/◌, ◌%◌, ◌≤◌, ◌<◌, nat_le, nat_lt, Bool, true, false, not, List, []}
+use Rattle.std.proofs.Common.{◌≡◌, ◌==◌, ◌&&◌, ◌||◌, ℕ, zero, suc, ◌+◌, ◌*◌, ◌/◌, ◌%◌, ◌<◌, nat_lt, Bool, true, false, not, List, []}
 use Rattle.std.proofs.Common.{◌∷◌, length, slice_index, Option, Some, None, Result, Ok, Err, refl, sym, ap, ap₂, ◌∙◌, arith, eqb-true, ltb-true, ◌≢◌, subst}
 use Rattle.std.specs.List.{list_all}
-use Rattle.std.proofs.lemmas.Bool.{leb-true, eqb-false}
+use Rattle.std.proofs.lemmas.Bool.{eqb-false}
 use Rattle.hex.specs.declared.error.FromHexError.{FromHexError}
 use Rattle.hex.specs.Hex.{◌>>=◌, IsBytes, encode_lower, encode_with, lower_digits, decode_pairs, decode_sized, digit_or_error, hex_digit_value, pair_value}
 use Rattle.hex.specs.Hex.{value_at}
@@ -10,6 +10,7 @@ use Rattle.hex.proofs.HexLemmas.{decode_pairs-ok, decode_sized-ok}
 use Rattle.hex.proofs.Pairs.{decode_sized-pairs}
 use Rattle.swap_base.proofs.Lists.{and_parts}
 use Rattle.transcript_lines.specs.Reading.{is_lower_digit}
+use Rattle.transcript_book.proofs.Lower.{below_103}
 
 went : {A B : Type 0} (r : Result A FromHexError) (f : A → Result B FromHexError) (y : B) → (r >>= f) ≡ Ok y → (x : A) × (r ≡ Ok x) × (f x ≡ Ok y)
 went (Ok x) f y e = (x, refl, e)
@@ -38,18 +39,6 @@ placed_at (suc n) c e lt = by (c == n) refl (placed_at n c (and_parts (is_placed
     by : (t : Bool) → (c == n) ≡ t → (c < n → is_placed c ≡ true) → is_placed c ≡ true
     by true q below = ap is_placed (eqb-true c n q) ∙ (and_parts (is_placed n) (are_placed n) e).0
     by false q below = below (let other : c ≢ n = eqb-false c n q in omega arith)
-
-below_103 : (c : ℕ) → is_lower_digit c ≡ true → c < 103
-below_103 c e = by (nat_le 48 c) (nat_le c 57) (nat_le 97 c) (nat_le c 102) refl refl e
-  where
-    by : (s t u v : Bool) → nat_le c 57 ≡ t → nat_le c 102 ≡ v → ((s && t) || (u && v)) ≡ true → c < 103
-    by true true u v p q k = let high : c ≤ 57 = leb-true c 57 p in omega arith
-    by true false true true p q k = let high : c ≤ 102 = leb-true c 102 q in omega arith
-    by true false true false p q k = absurd (cc k)
-    by true false false v p q k = absurd (cc k)
-    by false t true true p q k = let high : c ≤ 102 = leb-true c 102 q in omega arith
-    by false t true false p q k = absurd (cc k)
-    by false t false v p q k = absurd (cc k)
 
 digit_is : (c i v : ℕ) → is_lower_digit c ≡ true → value_at c i ≡ Ok v → (slice_index lower_digits v ≡ c) × (v < 16)
 digit_is c i v lower e = by (is_lower_digit c) (hex_digit_value c) lower (placed_at 103 c refl (below_103 c lower)) e

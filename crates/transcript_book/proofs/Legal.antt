@@ -1,10 +1,11 @@
 -- A legal book can be stated: it is well formed, its ticks were accepted, and its histories aren't too long.
-use Rattle.std.proofs.Common.{◌≡◌, ◌≢◌, ◌+◌, ◌≤◌, ℕ, zero, suc, Bool, true, false, cond, List, [], ◌∷◌, ◌++◌, length, sym, ◌∙◌}
+use Rattle.std.proofs.Common.{◌≡◌, ◌≢◌, ◌+◌, ◌≤◌, ℕ, zero, suc, Bool, true, false, cond, List, [], ◌∷◌, ◌++◌, length, sym, ◌∙◌, refl, ap}
 use Rattle.std.proofs.Common.{arith}
 use Rattle.std.specs.Prelude.{All}
-use Rattle.std.specs.List.{AllByRecursion}
+use Rattle.std.specs.List.{AllByRecursion, list_all}
+use Rattle.std.proofs.lemmas.Bool.{false≢true}
 use Rattle.swap_base.specs.Lists.{Moment, moments_after}
-use Rattle.swap_base.proofs.Lists.{all_moments_push}
+use Rattle.swap_base.proofs.Lists.{all_moments_push, and_parts}
 use Rattle.swap_digraph.specs.declared.deal.Deal.{Deal}
 use Rattle.escrow_core.specs.declared.reply.Reply.{Reply}
 use Rattle.escrow_core.specs.declared.reply.Reply.TheVariants.{Accepted, SenderFull, ClockFull}
@@ -25,48 +26,31 @@ use Rattle.transcript_book.specs.Stated.{IsTyped, LegalIsStated}
 
 -- ---- no call is answered as the clock's are
 
-abbrev NeverClock : List (Bool × Reply) → Type 0
-NeverClock [] = Unit {0}
-NeverClock (r ∷ rs) = (r.1 ≢ ClockFull) × NeverClock rs
+abbrev is_other : Reply → Bool
+is_other ClockFull = false
+is_other _ = true
 
-first_never : (rs : List (Bool × Reply)) → NeverClock rs → first_row rs ≢ ClockFull
-first_never [] k = λ e. absurd (cc e)
-first_never (r ∷ rs) k = by r.0 (first_never rs k.1)
+abbrev are_others : List (Bool × Reply) → Bool
+are_others = list_all (λ row. is_other row.1)
+
+other_is : (r : Reply) → is_other r ≡ true → r ≢ ClockFull
+other_is r o e = false≢true (ap is_other (sym e) ∙ o)
+
+first_is : (rs : List (Bool × Reply)) → are_others rs ≡ true → first_row rs ≢ ClockFull
+first_is [] o = λ e. absurd (cc e)
+first_is (r ∷ rs) o = let both = and_parts (is_other r.1) (are_others rs) o in by r.0 (other_is r.1 both.0) (first_is rs both.1)
   where
-    by : (t : Bool) → first_row rs ≢ ClockFull → cond t r.1 (first_row rs) ≢ ClockFull
-    by true h = k.0
-    by false h = h
+    by : (t : Bool) → r.1 ≢ ClockFull → first_row rs ≢ ClockFull → cond t r.1 (first_row rs) ≢ ClockFull
+    by true this later = this
+    by false this later = later
 
-call_never : (d : Deal) (a : ℕ) (past : List Entry) (p : ℕ) (c : Call) → NeverClock (rows d a past p c)
+rows_are : (d : Deal) (a : ℕ) (past : List Entry) (p : ℕ) (c : Call) → are_others (rows d a past p c) ≡ true
 unfolding rows
-call_never d a past p (Publish t) = (λ e. absurd (cc e), (λ e. absurd (cc e), (λ e. absurd (cc e), (λ e. absurd (cc e), tt))))
-call_never d a past p (Unlock key) = (
-  λ e. absurd (cc e),
-  (
-    λ e. absurd (cc e),
-    (
-      λ e. absurd (cc e),
-      (
-        λ e. absurd (cc e),
-        (
-          λ e. absurd (cc e),
-          (
-            λ e. absurd (cc e),
-            (
-              λ e.
-                  absurd (cc e),
-              (λ e. absurd (cc e), (λ e. absurd (cc e), tt)),
-            ),
-          ),
-        ),
-      ),
-    ),
-  ),
-)
-call_never d a past p Claim = (λ e. absurd (cc e), (λ e. absurd (cc e), (λ e. absurd (cc e), (λ e. absurd (cc e), (λ e. absurd (cc e), tt)))))
-call_never d a past p Refund =
-    (λ e. absurd (cc e), (λ e. absurd (cc e), (λ e. absurd (cc e), (λ e. absurd (cc e), (λ e. absurd (cc e), (λ e. absurd (cc e), tt))))))
-call_never d a past p (Transfer to units) = (λ e. absurd (cc e), (λ e. absurd (cc e), tt))
+rows_are d a past p (Publish t) = refl
+rows_are d a past p (Unlock key) = refl
+rows_are d a past p Claim = refl
+rows_are d a past p Refund = refl
+rows_are d a past p (Transfer to units) = refl
 
 tick_accepts : (b : Bool) (r : Reply) → r ≡ cond b ClockFull Accepted → r ≢ ClockFull → r ≡ Accepted
 tick_accepts true r e n = absurd (n e)
@@ -90,7 +74,7 @@ fine d a past (Party p) (Made c) at reply before l = record {
   formed = record { of_the_two = l.of_the_two; fits = l.fits; height = l.height ∙ written_low (height past) (bounds d a past before).low };
   stated = tt;
   sender_not_full = l.room;
-  clock_not_full = λ e. first_never (rows d a past p c) (call_never d a past p c) (sym l.reply ∙ e);
+  clock_not_full = λ e. first_is (rows d a past p c) (rows_are d a past p c) (sym l.reply ∙ e);
 }
 fine d a past Clock (Tick k) at reply before l =
     let room = tick_room past k reply l.reply l.room in

@@ -49,7 +49,8 @@ lower_high c e lt = by (nat_le 48 c) (nat_le c 57) (nat_le 97 c) (nat_le c 102) 
     by true false false v p q k = absurd (cc k)
     by false t false v p q k = absurd (cc k)
 
-below_103 : (c : ℕ) → is_lower_digit c ≡ true → c < 103
+-- a lower digit stands before the 103rd
+pub below_103 : (c : ℕ) → is_lower_digit c ≡ true → c < 103
 below_103 c e = by (nat_le 48 c) (nat_le c 57) (nat_le 97 c) (nat_le c 102) refl refl e
   where
     by : (s t u v : Bool) → nat_le c 57 ≡ t → nat_le c 102 ≡ v → ((s && t) || (u && v)) ≡ true → c < 103

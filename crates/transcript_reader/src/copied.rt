@@ -16,11 +16,7 @@ fn copy_reason(reason: &Reason) -> Result<Reason, NoMemory>
         Reason::BadName(line, name) => Ok(Reason::BadName(*line, name.copy()?)),
         Reason::Duplicate(line, name) => Ok(Reason::Duplicate(*line, name.copy()?)),
         Reason::Unknown(line, name) => Ok(Reason::Unknown(*line, name.copy()?)),
-        Reason::OverLimit(line, field, value) => Ok(Reason::OverLimit(
-            *line,
-            field.copy()?,
-            *value,
-        )),
+        Reason::OverLimit(line, field, n) => Ok(Reason::OverLimit(*line, field.copy()?, *n)),
         Reason::WrongHex(line, field) => Ok(Reason::WrongHex(*line, field.copy()?)),
         Reason::NotAdjacent(line) => Ok(Reason::NotAdjacent(*line)),
         Reason::ConformingCall(line) => Ok(Reason::ConformingCall(*line)),
@@ -32,16 +28,12 @@ fn copy_reason(reason: &Reason) -> Result<Reason, NoMemory>
         Reason::NotFeedback(cycle) => Ok(Reason::NotFeedback(cycle.copy()?)),
         Reason::BoundTooSmall(given, needed) => Ok(Reason::BoundTooSmall(*given, *needed)),
         Reason::StartTooSoon(start, delta) => Ok(Reason::StartTooSoon(*start, *delta)),
-        Reason::WrongTimelock(arc, given, wanted) => Ok(Reason::WrongTimelock(
-            *arc, *given, *wanted,
-        )),
+        Reason::WrongTimelock(arc, given, due) => Ok(Reason::WrongTimelock(*arc, *given, *due)),
         Reason::NoSeed(party) => Ok(Reason::NoSeed(*party)),
         Reason::WrongWallet(party, lock) => Ok(Reason::WrongWallet(*party, *lock)),
         Reason::BadLine(line) => Ok(Reason::BadLine(*line)),
         Reason::CutShort => Ok(Reason::CutShort),
-        Reason::BadReply(arc, entry, stated, replayed) => Ok(Reason::BadReply(
-            *arc, *entry, *stated, *replayed,
-        )),
+        Reason::BadReply(arc, at, old, new) => Ok(Reason::BadReply(*arc, *at, *old, *new)),
         Reason::TooManyLeaders(group, count) => Ok(Reason::TooManyLeaders(*group, *count)),
         Reason::NoAccount(swap, arc) => Ok(Reason::NoAccount(*swap, *arc)),
         Reason::Overdrawn(chain, name, have, wanted) => Ok(Reason::Overdrawn(

@@ -1,14 +1,13 @@
 -- A wallet's life conducts its party.
-use Rattle.std.proofs.Common.{append_assoc, count_by, ◌≡◌, ℕ, ◌+◌, ◌<◌, ◌==◌, Bool, true, false, cond, not, ◌&&◌, ◌||◌, List, [], ◌∷◌, ◌++◌}
+use Rattle.std.proofs.Common.{count_by, ◌≡◌, ℕ, ◌+◌, ◌<◌, ◌==◌, Bool, true, false, cond, not, ◌&&◌, ◌||◌, List, [], ◌∷◌, ◌++◌}
 use Rattle.std.proofs.Common.{length, Option, Some, None, is_some, is_none, refl, sym, ap, ◌∙◌, subst, inl, inr, arith, eq-eqb, eqb-true, nat_lt, ltb-true}
-use Rattle.std.specs.List.{list_any, flat_map}
+use Rattle.std.specs.List.{flat_map}
 use Rattle.std.proofs.lemmas.Bool.{false≢true}
-use Rattle.std.proofs.lemmas.Option.{same_Some}
 use Rattle.std.proofs.lemmas.List.Sums.{sum_by-append, sum_by-cons}
 use Rattle.swap_base.specs.Lists.{first_of, IsIn, moments, IsMoment}
-use Rattle.swap_base.proofs.Lists.{first_at, first_of-in, first_of-front, all_moments_front, list_all-from, list_any-in, and_parts, and_both, in_flat_map}
+use Rattle.swap_base.proofs.Lists.{first_at, first_of-front, all_moments_front, list_all-from, and_parts, and_both, in_flat_map}
 use Rattle.swap_base.proofs.Lists.{in_append, in_range}
-use Rattle.swap_base.proofs.Lists.{in_from_moment, moment_from_in, in_whole, from_whole, at_moment, all_from_list_all}
+use Rattle.swap_base.proofs.Lists.{in_from_moment, moment_from_in, from_whole, at_moment, all_from_list_all}
 use Rattle.swap_digraph.specs.declared.deal.Deal.{Deal}
 use Rattle.swap_digraph.specs.Graph.{leaving, entering}
 use Rattle.swap_digraph.specs.Deal.{hashlock_of, locks}
@@ -20,7 +19,7 @@ use Rattle.ledger_core.specs.declared.entry.Call.TheVariants.{Publish, Unlock, C
 use Rattle.ledger_core.specs.declared.entry.Entry.{Entry}
 use Rattle.ledger_core.specs.History.{height, accepted, publication, published, settled, IsLegal, IsLegalMoment}
 use Rattle.ledger_core.specs.Book.{Histories, history, IsLegalBook}
-use Rattle.ledger_core.proofs.History.{published_done, of_publish, is_some-of, not-true-of}
+use Rattle.ledger_core.proofs.History.{published_done, of_publish, not-true-of}
 use Rattle.swap_rules.specs.Accepted.{IsAccepted}
 use Rattle.swap_rules.specs.Party.{has_expired, is_correct, is_ready, is_triggered, leads_one, call_by, key_in, first_key}
 use Rattle.swap_rules.specs.Conduct.{is_publish, is_first_key, keeps, keeps_at, IsConducted}
@@ -34,8 +33,10 @@ use Rattle.swap_rules.proofs.Room.{rules_leave_room}
 use Rattle.swap_rules.proofs.Rounds.{Informed, informed_done, nothing_due}
 use Rattle.swap_rules.specs.Laws.{IsOnTime}
 use Rattle.swap_rules.proofs.Accepted.{times_law}
-use Rattle.swap_rules.proofs.Conducting.{from_moments, below_of}
+use Rattle.swap_rules.proofs.Cases.{Case, ToPublish, ToUnlock, ToClaim, ToRefund, case_of, first_in}
+use Rattle.swap_rules.proofs.Conducting.{from_moments, below_of, count_single, first_signed}
 use Rattle.swap_rules.proofs.Due.{knows_call}
+use Rattle.swap_rules.proofs.DueKeys.{OwnTerms, key_rule}
 use Rattle.swap_rules.proofs.Expiry.{still_expired}
 use Rattle.swap_rules.proofs.Growth.{Grows, triggered-more, is_published-more, correct_published, is_ready-more, ready_good, may-more}
 use Rattle.swap_rules.proofs.Prefixes.{begins_height, in_any, moment_more}
@@ -46,43 +47,7 @@ use Rattle.wallet_promise.specs.Life.{HasRested}
 use Rattle.wallet_promise.specs.Laws.{LifeConducts, LifeIsSafe, OneHashkey, AskedIsNotKept, NothingIsLost, AnswersMayGo, AnswersMayBeKept, ToldIsOnce}
 use Rattle.wallet_promise.specs.Laws.{TwiceIsBroken, TwoKeysAreBroken, KeptMayGo}
 use Rattle.wallet_promise.specs.Laws.{LifeLeavesRoom, PatienceLeavesRoom, AttentiveIsSafe, LedgersHoldKeys}
-use Rattle.wallet_promise.proofs.Cases.{Case, ToPublish, ToUnlock, ToClaim, ToRefund, case_of, first_in}
-use Rattle.wallet_promise.proofs.Keys.{OwnTerms, Keeps, made_of, of_unlock_due, is_new, journal_keeps, key_rule, keep_first, kept_of}
-
--- where one that passes has none before it, and each has none before it, there is one
-count_none : {A : Type 0} (p : A → Bool) (xs : List A) → ((x : A) → IsIn x xs → p x ≡ false) → count_by p xs ≡ 0
-count_none p [] h = refl
-count_none p (x ∷ xs) h =
-    let e1 : count_by p (x ∷ xs) ≡ cond (p x) 1 0 + count_by p xs = sum_by-cons (λ z. cond (p z) 1 0) x xs in
-    let e2 : ◌≡◌ {A = ℕ} (cond (p x) 1 0) 0 = ap (λ b. cond {A = ℕ} b 1 0) (h x (inl refl)) in
-    let e3 : count_by p xs ≡ 0 = count_none p xs (λ y i. h y (inr i)) in
-    omega arith
-
-not_any_in : {A : Type 0} (p : A → Bool) (xs : List A) (x : A) → list_any p xs ≡ false → IsIn x xs → p x ≡ false
-not_any_in p xs x e i = go (p x) refl
-  where
-    go : (t : Bool) → p x ≡ t → p x ≡ false
-    go false h = h
-    go true h = absurd (false≢true (sym e ∙ list_any-in p xs x h i))
-
-count_single : {A : Type 0} (p : A → Bool) (xs past : List A) (x : A) → IsMoment xs past x → p x ≡ true
-    → ((q : List A) (y : A) → IsMoment xs q y → p y ≡ true → list_any p q ≡ false) → count_by p xs ≡ 1
-count_single p xs past x m px none =
-    let e1 : count_by p xs ≡ count_by p (past ++ x ∷ m.0) = ap (count_by p) m.1 in
-    let e2 : count_by p (past ++ x ∷ m.0) ≡ count_by p past + count_by p (x ∷ m.0) = sum_by-append (λ z. cond (p z) 1 0) past (x ∷ m.0) in
-    let e3 : count_by p (x ∷ m.0) ≡ cond (p x) 1 0 + count_by p m.0 = sum_by-cons (λ z. cond (p z) 1 0) x m.0 in
-    let e4 : ◌≡◌ {A = ℕ} (cond (p x) 1 0) 1 = ap (λ b. cond {A = ℕ} b 1 0) px in
-    let e5 : count_by p past ≡ 0 = count_none p past (λ y i. not_any_in p past y (none past x m px) i) in
-    let e6 : count_by p m.0 ≡ 0 = count_none p m.0 (λ y i. after y i (p y) refl) in
-    omega arith
-  where
-    after : (y : _) → IsIn y m.0 → (t : Bool) → p y ≡ t → p y ≡ false
-    after y i false e = e
-    after y i true e =
-        let n = moment_from_in m.0 y i in
-        let w : xs ≡ (past ++ x ∷ n.0) ++ y ∷ n.1.0 = m.1 ∙ (ap (λ l. past ++ x ∷ l) n.1.1 ∙ sym (append_assoc past (x ∷ n.0) (y ∷ n.1.0))) in
-        absurd (false≢true (sym (none (past ++ x ∷ n.0) y (n.1.0, w) e)
-        ∙ list_any-in p (past ++ x ∷ n.0) x px (in_from_moment past x n.0)))
+use Rattle.wallet_promise.proofs.Keys.{Keeps, made_of, of_unlock_due, is_new, journal_keeps, keep_first, kept_of}
 
 -- What each call of a life keeps, whenever it lands and however often.
 
@@ -133,24 +98,6 @@ module _ (d : Deal) (v : ℕ) (w : Wallet) (b : Histories) (askings : List Askin
   pub last_one : (q : Asking) (i : ℕ) (key : Hashkey) → IsIn q askings → q.kept i ≡ Some key → kept i ≡ Some key
   last_one q i key j e = keeping.lasts q j i key e
 
-  first_signed : (key : Hashkey) (a : ℕ) (past : List Entry) (e : Entry) → IsMoment (history b a) past e → call_by v e ≡ Some (Unlock key)
-      → is_first_key (first_key b v key.lock) key ≡ true
-  unfolding first_key
-  first_signed key a past e m k =
-      let key_is : key_in key.lock (call_by v e) ≡ Some key = ap (key_in key.lock) k ∙ ap (λ x. cond x (Some key) None) (eq-eqb key.lock key.lock refl) in
-      let stands : IsIn e (flat_map (λ h. h) b) = in_whole b a e (subst (IsIn e) (sym m.1) (in_from_moment past e m.0)) in
-      let s =
-      is_some-of (first_of (λ e. key_in key.lock (call_by v e)) (flat_map (λ h. h) b))
-      (first_of-in (λ e. key_in key.lock (call_by v e)) (flat_map (λ h. h) b) e key stands key_is) in
-      let f = first_at (λ e. key_in key.lock (call_by v e)) (flat_map (λ h. h) b) s.0 s.1 in
-      let p = key_parts key.lock (call_by v f.now) s.0 f.gives in
-      let w = from_whole b f.now (subst (IsIn f.now) (sym f.stands.1) (in_from_moment f.past f.now f.stands.0)) in
-      let n = moment_from_in (history b w.0) f.now w.2 in
-      let r1 = one_key w.0 n.0 f.now s.0 n.1 p.0 in
-      let r2 = one_key a past e key m k in
-      let same : s.0 ≡ key = same_Some s.0 key (sym (ap kept (sym p.1) ∙ r1) ∙ r2) in
-      ap (λ o. is_first_key o key) s.1 ∙ (ap (λ x. same_key x key) same ∙ same_key-refl key)
-
   publish_kept : (a : ℕ) (past : List Entry) (e : Entry) (known : Histories) → IsMoment (history b a) past e → call_by v e ≡ Some (Publish (terms_of d a))
       → Grows known b → is_due_publish d v known a ≡ true → keeps d b v a past e.height (Some (Publish (terms_of d a))) ≡ true
   unfolding keeps is_due_publish
@@ -173,7 +120,7 @@ module _ (d : Deal) (v : ℕ) (w : Wallet) (b : Histories) (askings : List Askin
       (and_both (is_some (published past)) _
       (is_published-more (history known a) past later (correct_published d known a (and_parts (is_correct d known a) _ (ready_good d known v a t.0 en)).0))
       (is_ready-more d known b v grows t.0))
-      (first_signed key a past e m k))
+      (first_signed b v kept one_key key a past e m k))
       (kr.good.valid a en))
       kr.origin
 
