@@ -13,16 +13,17 @@ use Rattle.transcript_reader.specs.declared.reason.TranscriptReason.{TranscriptR
 use Rattle.transcript_reader.specs.Header.{header_read}
 use Rattle.transcript_reader.specs.Stages.{Progress}
 use Rattle.transcript_reader.specs.Reading.{finished, story_of, transcript_read}
-use Rattle.audit_command.specs.declared.fault.Stopped.{Stopped}
-use Rattle.audit_command.specs.declared.fault.Stopped.TheVariants.{Refused, ReadFault, TooLong, NoMemory}
+use Rattle.command_input.specs.declared.fault.InputFault.{InputFault}
+use Rattle.command_input.specs.declared.fault.InputFault.TheVariants.{Refused, ReadFault, TooLong, NoMemory}
+use Rattle.command_input.specs.Input.{limit}
 use Rattle.audit_command.specs.Output.{by_text, refused_by, story_in}
-use Rattle.audit_command.specs.Reading.{Concludes, HasRead, IsPart, IsRead, IsSaid, IsTooLong, Stops, StopsAt, fresh, limit}
+use Rattle.audit_command.specs.Reading.{Concludes, HasRead, IsPart, IsRead, IsSaid, IsTooLong, Stops, StopsAt, fresh}
 
 -- ---- a reason that was met before the end
 
-pub said_of : (a b : Option (List ℕ)) (n m : ℕ) (now : Reading) (f : Stopped TranscriptReason) (reason : TranscriptReason) → f ≡ Refused reason
+pub said_of : (a b : Option (List ℕ)) (n m : ℕ) (now : Reading) (f : InputFault TranscriptReason) (reason : TranscriptReason) → f ≡ Refused reason
     → StopsAt a b n m now f → IsSaid reason a b now
-said_of a b n m now f reason is h = subst (λ (x : Stopped TranscriptReason). StopsAt a b n m now x) is h
+said_of a b n m now f reason is h = subst (λ (x : InputFault TranscriptReason). StopsAt a b n m now x) is h
 
 module _ (a b c : Option (List ℕ)) (now after : Reading) (reason : TranscriptReason) (s : IsSaid reason a b now) (d : TookSome b c now after) where
   -- the rest was taken
@@ -59,32 +60,32 @@ none_consumed left = ([], omega arith, Consumes-nil left)
 pub all_consumed : (P : List ℕ → Type 0) (a b : Option (List ℕ)) → HasRead P a b → ConsumesAtMost a b limit
 all_consumed P a b k = (k.input, omega (arith, k.took.counted, k.within), k.took.consumed)
 
-pub read_fault_of : (a b : Option (List ℕ)) (n m : ℕ) (now : Reading) (f : Stopped TranscriptReason) → f ≡ ReadFault → StopsAt a b n m now f
+pub read_fault_of : (a b : Option (List ℕ)) (n m : ℕ) (now : Reading) (f : InputFault TranscriptReason) → f ≡ ReadFault → StopsAt a b n m now f
     → Rose n m × ConsumesAtMost a b limit
 read_fault_of a b n m now f is h =
-    let k = subst (λ (x : Stopped TranscriptReason). StopsAt a b n m now x) is h in
+    let k = subst (λ (x : InputFault TranscriptReason). StopsAt a b n m now x) is h in
     (k.0, is_consumed a b now k.1)
 
-pub no_memory_of : (a b : Option (List ℕ)) (n m : ℕ) (now : Reading) (f : Stopped TranscriptReason) → f ≡ NoMemory → StopsAt a b n m now f
+pub no_memory_of : (a b : Option (List ℕ)) (n m : ℕ) (now : Reading) (f : InputFault TranscriptReason) → f ≡ NoMemory → StopsAt a b n m now f
     → ConsumesAtMost a b limit
-no_memory_of a b n m now f is h = is_consumed a b now (subst (λ (x : Stopped TranscriptReason). StopsAt a b n m now x) is h)
+no_memory_of a b n m now f is h = is_consumed a b now (subst (λ (x : InputFault TranscriptReason). StopsAt a b n m now x) is h)
 
 pub too_long : (a b : Option (List ℕ)) (now : Reading) → IsTooLong a b fresh now → ConsumesSome a b (limit + 1)
 too_long a b now t = (t.0.0, omega (arith, t.0.1.counted, t.1), t.0.1.consumed)
 
-pub too_long_of : (a b : Option (List ℕ)) (n m : ℕ) (now : Reading) (f : Stopped TranscriptReason) → f ≡ TooLong → StopsAt a b n m now f
+pub too_long_of : (a b : Option (List ℕ)) (n m : ℕ) (now : Reading) (f : InputFault TranscriptReason) → f ≡ TooLong → StopsAt a b n m now f
     → ConsumesSome a b (limit + 1)
-too_long_of a b n m now f is h = too_long a b now (subst (λ (x : Stopped TranscriptReason). StopsAt a b n m now x) is h)
+too_long_of a b n m now f is h = too_long a b now (subst (λ (x : InputFault TranscriptReason). StopsAt a b n m now x) is h)
 
 -- ---- the end was met
 
 module _ (a b : Option (List ℕ)) (n m : ℕ) (now : Reading) (p : Progress) (rest : List ℕ) (k : IsRead a b now p rest) where
-  pub concluded_ok : (r : Result (Job × Book) (Stopped Refusal)) → Concludes r (finished p rest)
+  pub concluded_ok : (r : Result (Job × Book) (InputFault Refusal)) → Concludes r (finished p rest)
       → IfOk r (λ x. HasRead (λ input. transcript_read header_read input ≡ Ok (story_of x)) a b)
   concluded_ok (Ok x) e = record { input = k.bytes; now = now; took = k.took; within = k.within; ended = k.ended; told = k.gives ∙ e }
   concluded_ok (Err f) e = tt
 
-  stops_by : (f : Stopped Refusal) → Concludes (Err f) (finished p rest) → Stops a b n m f
+  stops_by : (f : InputFault Refusal) → Concludes (Err f) (finished p rest) → Stops a b n m f
   unfolding story_in
   stops_by (Refused refusal) e = record {
     input = k.bytes;
@@ -98,6 +99,6 @@ module _ (a b : Option (List ℕ)) (n m : ℕ) (now : Reading) (p : Progress) (r
   stops_by TooLong e = absurd e
   stops_by NoMemory e = (k.bytes, omega (arith, k.took.counted, k.within), k.took.consumed)
 
-  pub concluded_err : (r : Result (Job × Book) (Stopped Refusal)) → Concludes r (finished p rest) → IfErr r (λ e. Stops a b n m e)
+  pub concluded_err : (r : Result (Job × Book) (InputFault Refusal)) → Concludes r (finished p rest) → IfErr r (λ e. Stops a b n m e)
   concluded_err (Ok x) e = tt
   concluded_err (Err f) e = stops_by f e

@@ -17,10 +17,10 @@ use Rattle.transcript_reader.specs.Header.{header_read}
 use Rattle.transcript_reader.specs.Stages.{Progress, no_lines, with_line}
 use Rattle.transcript_reader.specs.Reading.{ReadsLine, parts_read, transcript_read}
 use Rattle.transcript_reader.proofs.Steps.{bad_reads, line_on}
-use Rattle.audit_command.specs.declared.fault.Stopped.{Stopped}
-use Rattle.audit_command.specs.declared.fault.Stopped.TheVariants.{ReadFault}
-use Rattle.audit_command.specs.Faults.{of_fault, of_line}
-use Rattle.audit_command.specs.Reading.{IsLastPart, IsMore, IsPart, IsRead, LineFails, StopsAt, fresh, limit}
+use Rattle.command_input.specs.Faults.{of_line, of_offer}
+use Rattle.command_input.specs.Input.{limit}
+use Rattle.command_input.proofs.Ahead.{other_fault}
+use Rattle.audit_command.specs.Reading.{IsLastPart, IsMore, IsPart, IsRead, LineFails, StopsAt, fresh}
 
 -- ---- lines
 
@@ -61,13 +61,6 @@ end_is_last a b old new text p = record {
   one = p.one;
   ended = p.ends.1.none_left;
 }
-
--- no more was taken than may be, where the fault is another one
-pub other_fault : {T E : Type 0} (e past : E) (result : Result T E) (most taken : ℕ) → ¬ (e ≡ past) → result ≡ Err e
-    → ((result ≡ Err past) ↔ (most < taken)) → taken ≤ most
-other_fault e past result most taken differs is long =
-    let no : most < taken → ⊥ = λ lt. differs (cc (sym is ∙ long.1 lt)) in
-    omega arith
 
 is_part : (a b : Option (List ℕ)) (s t : Reading) → TookSome a b s t → t.taken ≤ t.limit → s.limit ≡ limit → IsPart a b s t
 is_part a b s t took low lim = (took, omega (arith, low, took.1.limit, lim))
@@ -127,7 +120,7 @@ led_on a b c old new p q text k n e = record {
 -- a line that is bad, or for which memory runs out
 pub led_fault : (a b c : Option (List ℕ)) (n m : ℕ) (old new : Reading) (p q : Progress) (text : List ℕ) (f : Fault TranscriptReason) → Led a b old p
     → IsNext b c old new text Ended → new.taken ≤ limit → ReadsLine {T = Unit {0}} (Err f) p q (with_line header_read p text)
-    → StopsAt a c n m new (of_fault f)
+    → StopsAt a c n m new (of_offer f)
 led_fault a b c n m old new p q text fault.NoMemory k next within h =
     ((k.bytes ++ next.bytes, took_on a b c fresh old new k.bytes next.bytes k.took next.took), within)
 led_fault a b c n m old new p q text (fault.Refused reason) k next within h = record {
@@ -147,13 +140,6 @@ line_stops a b c n m k old new p line.TooLong h le q =
     ((h.bytes ++ q.0.0, took_on a b c fresh old new h.bytes q.0.0 h.took q.0.1), q.1)
 line_stops a b c n m k old new p line.NoMemory h le q =
     ((h.bytes ++ q.0.0, took_on a b c fresh old new h.bytes q.0.0 h.took q.0.1), q.1)
-
--- no read failed, unless the fault tells of it
-pub calm_line : {T B R : Type 0} (l : LineFault) (n m : ℕ) → (¬ ◌≡◌ {A = Result T LineFault} (Err l) (Err line.ReadFault) → m ≡ n)
-    → ¬ ◌≡◌ {A = Result B (Stopped R)} (Err (of_line l)) (Err ReadFault) → m ≡ n
-calm_line line.ReadFault n m h unless = absurd (unless refl)
-calm_line line.TooLong n m h unless = h (λ e. absurd (cc e))
-calm_line line.NoMemory n m h unless = h (λ e. absurd (cc e))
 
 -- all lines were read
 pub led_to_end : (a b c : Option (List ℕ)) (old new : Reading) (p : Progress) (text : List ℕ) → Led a b old p → IsLastPart b c old new text

@@ -9,14 +9,16 @@ use Rattle.transcript_reader.specs.declared.reason.TranscriptReason.{TranscriptR
 use Rattle.transcript_reader.specs.Header.{header_read, IsTold}
 use Rattle.transcript_reader.specs.Reading.{Story, transcript_read}
 use Rattle.transcript_reader.proofs.Whole.{text_is_whole}
-use Rattle.audit_command.specs.declared.fault.Stopped.{Stopped}
-use Rattle.audit_command.specs.declared.fault.Stopped.TheVariants as stopped
-use Rattle.audit_command.specs.declared.ending.AuditEnding.{AuditEnding}
-use Rattle.audit_command.specs.declared.ending.AuditEnding.TheVariants.{Done, Named, Refused, ReadFault, WriteFault, NoMemory, TooLong}
-use Rattle.audit_command.specs.Output.{Written, audit_of, by_text, judged, written_of, story_in, told}
+use Rattle.command_input.specs.declared.fault.InputFault.{InputFault}
+use Rattle.command_input.specs.declared.fault.InputFault.TheVariants as stopped
+use Rattle.command_input.specs.declared.status.Status.{Status}
+use Rattle.command_input.specs.declared.status.Status.TheVariants.{Done, Named, WrongWords, Refused, ReadFault, WriteFault, NoMemory, TooLong}
+use Rattle.command_input.specs.Streams.{streams}
+use Rattle.command_input.specs.Written.{Writes, Written}
+use Rattle.audit_command.specs.Output.{audit_of, by_text, judged, written_of, story_in, told}
 use Rattle.audit_command.specs.Promised.{IsSound}
 use Rattle.audit_command.specs.Reading.{HasRead, Stops}
-use Rattle.audit_command.specs.Says.{HasAnswer, HasOutput, Says, Writes, unread}
+use Rattle.audit_command.specs.Says.{HasAnswer, HasOutput, Says, unread}
 
 -- an answer to an input that was read
 answered : (P : List ℕ → Type 0) (a b : Option (List ℕ)) (output : Result Written Refusal) (k : HasRead P a b) → audit_of k.input ≡ output
@@ -34,16 +36,16 @@ refused_input : (input : List ℕ) (refusal : Refusal) → story_in input ≡ Er
 unfolding audit_of
 refused_input input refusal e = ap (λ (r : Result Story Refusal). r >>= told) e
 
-pub says_unread : (a b : Option (List ℕ)) (n m : ℕ) (taken : Option (List ℕ)) (p : ℕ) (f : Stopped Refusal) → Stops a b n m f
-    → Says a b n m taken taken p p (unread f)
+pub says_unread : (a b : Option (List ℕ)) (n m : ℕ) (taken : Option (List ℕ)) (p : ℕ) (f : InputFault Refusal) → Stops a b n m f
+    → Says (streams a n taken p) (streams b m taken p) (unread f)
 says_unread a b n m taken p (stopped.Refused refusal) s =
     (answered (λ input. story_in input ≡ Err refusal) a b (Err refusal) s (refused_input s.input refusal s.told), Keeps-refl taken)
 says_unread a b n m taken p stopped.ReadFault s = (s.0, Keeps-refl taken, s.1)
 says_unread a b n m taken p stopped.TooLong s = (s, Keeps-refl taken)
 says_unread a b n m taken p stopped.NoMemory s = inl (Keeps-refl taken, s)
 
--- no read failed, unless the ending tells of it
-pub calm_unread : {T : Type 0} (f : Stopped Refusal) (n m : ℕ) → (¬ ◌≡◌ {A = Result T (Stopped Refusal)} (Err f) (Err stopped.ReadFault) → m ≡ n)
+-- no read failed, unless the status tells of it
+pub calm_unread : {T : Type 0} (f : InputFault Refusal) (n m : ℕ) → (¬ ◌≡◌ {A = Result T (InputFault Refusal)} (Err f) (Err stopped.ReadFault) → m ≡ n)
     → ¬ (unread f ≡ ReadFault) → m ≡ n
 calm_unread (stopped.Refused refusal) n m h unless = h (λ e. absurd (cc e))
 calm_unread stopped.ReadFault n m h unless = absurd (unless refl)
@@ -60,7 +62,8 @@ module _ (a b : Option (List ℕ)) (n m : ℕ) (t : Story) (k : HasRead (λ inpu
   unfolding audit_of story_in
   of_story = ap (λ (r : Result Story TranscriptReason). by_text r >>= told) k.told
 
-  pub says_refused : (taken : Option (List ℕ)) (p : ℕ) (refusal : Refusal) → judged t ≡ Err refusal → Says a b n m taken taken p p (Refused refusal)
+  pub says_refused : (taken : Option (List ℕ)) (p : ℕ) (refusal : Refusal) → judged t ≡ Err refusal
+      → Says (streams a n taken p) (streams b m taken p) (Refused refusal.reason refusal.names)
   unfolding told
   says_refused taken p refusal e = (
     answered (λ input. transcript_read header_read input ≡ Ok t) a b (Err refusal) k
@@ -86,11 +89,12 @@ module _ (a b : Option (List ℕ)) (n m : ℕ) (t : Story) (k : HasRead (λ inpu
     written = w;
   }
 
-  pub says_written : (taken taken' : Option (List ℕ)) (p q : ℕ) (r : Report) → IsTold t.job → judged t ≡ Ok r → IsSound t r → (s : AuditEnding)
-      → Writes taken taken' p q (written_of t r) s → Says a b n m taken taken' p q s
+  pub says_written : (taken taken' : Option (List ℕ)) (p q : ℕ) (r : Report) → IsTold t.job → judged t ≡ Ok r → IsSound t r → (s : Status)
+      → Writes taken taken' p q (written_of t r) s → Says (streams a n taken p) (streams b m taken' q) s
   says_written taken taken' p q r job e sound Done w = output_is _ r job e sound w
   says_written taken taken' p q r job e sound Named w = output_is _ r job e sound w
-  says_written taken taken' p q r job e sound (Refused refusal) w = absurd w
+  says_written taken taken' p q r job e sound WrongWords w = absurd w
+  says_written taken taken' p q r job e sound (Refused reason names) w = absurd w
   says_written taken taken' p q r job e sound ReadFault w = absurd w
   says_written taken taken' p q r job e sound WriteFault w = (w.0, output_is _ r job e sound w.1)
   says_written taken taken' p q r job e sound NoMemory w = inr (output_is _ r job e sound w)

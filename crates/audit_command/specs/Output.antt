@@ -1,5 +1,5 @@
 -- What an audit writes for an input: the report of the job and the book that the input's lines state.
-use Rattle.std.specs.Prelude.{◌==◌, ℕ, Bool, not, List, [], length, Result, Ok, Err}
+use Rattle.std.specs.Prelude.{◌==◌, ℕ, not, List, [], length, Result, Ok, Err}
 use Rattle.swap_base.specs.Fault.{◌>>=◌}
 use Rattle.refusals.specs.declared.reason.Reason.{Reason}
 use Rattle.refusals.specs.declared.reason.Reason.TheVariants as reasons
@@ -15,6 +15,7 @@ use Rattle.transcript_reader.specs.declared.reason.TranscriptReason.{TranscriptR
 use Rattle.transcript_reader.specs.declared.reason.TranscriptReason.TheVariants.{BadLine, TooLong, CutShort, Header}
 use Rattle.transcript_reader.specs.Header.{header_read}
 use Rattle.transcript_reader.specs.Reading.{Story, transcript_read}
+use Rattle.command_input.specs.Written.{Written}
 
 abbrev pub story : Job → Histories → Story
 story job b = record { job = job; book = b }
@@ -48,12 +49,6 @@ by_replies (Err b) = Err (refused_reply b)
 -- the report of a book whose every stated reply is the replayed one, or the first that isn't
 unfoldable pub judged : Story → Result Report Refusal
 judged t = by_replies (audited t.job.deal t.job.conforming t.book)
-
--- A text that is written.
-pub record Written : Type 0 where
-  pub text : List ℕ
-  -- whether it tells of a finding
-  pub found : Bool
 
 abbrev pub written_of : Story → Report → Written
 written_of t r = record { text = report t.job t.book r; found = not (length r.findings == 0) }

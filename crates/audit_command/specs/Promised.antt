@@ -10,7 +10,8 @@ use Rattle.swap_auditor.specs.Audit.{UnitsAddUp}
 use Rattle.transcript_reader.specs.Header.{header_read, IsTold}
 use Rattle.transcript_reader.specs.Laws.{IsWholeText}
 use Rattle.transcript_reader.specs.Reading.{Story, transcript_read}
-use Rattle.audit_command.specs.Output.{Written, written_of}
+use Rattle.audit_command.specs.Output.{written_of}
+use Rattle.command_input.specs.Written.{Written}
 
 -- the report of a job's book
 abbrev pub report_for : Story → Report

@@ -13,13 +13,10 @@ use Rattle.transcript_reader.specs.declared.reason.TranscriptReason.{TranscriptR
 use Rattle.transcript_reader.specs.Header.{header_read}
 use Rattle.transcript_reader.specs.Stages.{Progress}
 use Rattle.transcript_reader.specs.Reading.{Story, finished, story_of, transcript_read}
-use Rattle.audit_command.specs.declared.fault.Stopped.{Stopped}
-use Rattle.audit_command.specs.declared.fault.Stopped.TheVariants.{Refused, ReadFault, TooLong, NoMemory}
+use Rattle.command_input.specs.declared.fault.InputFault.{InputFault}
+use Rattle.command_input.specs.declared.fault.InputFault.TheVariants.{Refused, ReadFault, TooLong, NoMemory}
+use Rattle.command_input.specs.Input.{limit}
 use Rattle.audit_command.specs.Output.{by_text, story_in}
-
--- the most bytes of an input
-abbrev pub limit : ℕ
-limit = 16777216
 
 -- before the first byte
 abbrev pub fresh : Reading
@@ -77,21 +74,21 @@ pub record HasRead (P : List ℕ → Type 0) (left left' : Option (List ℕ)) : 
   pub told : P input
 
 -- why the reading of an input's lines stopped
-abbrev pub StopsAt : Option (List ℕ) → Option (List ℕ) → ℕ → ℕ → Reading → Stopped TranscriptReason → Type 0
+abbrev pub StopsAt : Option (List ℕ) → Option (List ℕ) → ℕ → ℕ → Reading → InputFault TranscriptReason → Type 0
 StopsAt left left' n m now (Refused reason) = IsSaid reason left left' now
 StopsAt left left' n m now ReadFault = Rose n m × IsPart left left' fresh now
 StopsAt left left' n m now TooLong = IsTooLong left left' fresh now
 StopsAt left left' n m now NoMemory = IsPart left left' fresh now
 
 -- why an input gave no story
-abbrev pub Stops : Option (List ℕ) → Option (List ℕ) → ℕ → ℕ → Stopped Refusal → Type 0
+abbrev pub Stops : Option (List ℕ) → Option (List ℕ) → ℕ → ℕ → InputFault Refusal → Type 0
 Stops left left' n m (Refused refusal) = HasRead (λ input. story_in input ≡ Err refusal) left left'
 Stops left left' n m ReadFault = Rose n m × ConsumesAtMost left left' limit
 Stops left left' n m TooLong = ConsumesSome left left' (limit + 1)
 Stops left left' n m NoMemory = ConsumesAtMost left left' limit
 
 -- what is concluded from what the reader of all lines tells
-abbrev pub Concludes : Result (Job × Book) (Stopped Refusal) → Result Story TranscriptReason → Type 0
+abbrev pub Concludes : Result (Job × Book) (InputFault Refusal) → Result Story TranscriptReason → Type 0
 Concludes (Ok p) read = read ≡ Ok (story_of p)
 Concludes (Err (Refused refusal)) read = by_text read ≡ Err refusal
 Concludes (Err NoMemory) read = Unit {0}

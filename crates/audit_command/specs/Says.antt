@@ -1,16 +1,19 @@
--- What each ending of an audit says.
-use Rattle.std.specs.Prelude.{◌≡◌, ◌≤◌, ◌+◌, ◌⊎◌, ℕ, Bool, true, false, List, length, Option, Result, Ok, Err}
-use Rattle.std.specs.Io.KnownBytes.{Appends, Consumes, IsAtEnd, Keeps}
+-- What each status of an audit says.
+use Rattle.std.specs.Prelude.{◌≡◌, ◌≤◌, ◌+◌, ◌⊎◌, ℕ, true, false, List, length, Option, Result, Ok, Err}
+use Rattle.std.specs.Io.KnownBytes.{Consumes, IsAtEnd, Keeps}
 use Rattle.swap_io.specs.Causes.{Rose, ConsumesAtMost, ConsumesSome, AppendsProperPrefix}
 use Rattle.swap_io.specs.Handed.{AppendsPrefix}
 use Rattle.refusals.specs.declared.refusal.Refusal.{Refusal}
-use Rattle.audit_command.specs.declared.ending.AuditEnding.{AuditEnding}
-use Rattle.audit_command.specs.declared.ending.AuditEnding.TheVariants.{Done, Named, Refused, ReadFault, WriteFault, NoMemory, TooLong}
-use Rattle.audit_command.specs.declared.fault.Stopped.{Stopped}
-use Rattle.audit_command.specs.declared.fault.Stopped.TheVariants as stopped
-use Rattle.audit_command.specs.Output.{Written, audit_of}
+use Rattle.refusals.specs.Refusal.{refusal}
+use Rattle.command_input.specs.declared.fault.InputFault.{InputFault}
+use Rattle.command_input.specs.declared.fault.InputFault.TheVariants as stopped
+use Rattle.command_input.specs.declared.status.Status.{Status}
+use Rattle.command_input.specs.declared.status.Status.TheVariants.{Done, Named, WrongWords, Refused, ReadFault, WriteFault, NoMemory, TooLong}
+use Rattle.command_input.specs.Input.{limit}
+use Rattle.command_input.specs.Streams.{Streams}
+use Rattle.command_input.specs.Written.{IsWhole, Written}
+use Rattle.audit_command.specs.Output.{audit_of}
 use Rattle.audit_command.specs.Promised.{IsAudit}
-use Rattle.audit_command.specs.Reading.{limit}
 
 -- The whole input was read, and this is the audit's output for it.
 pub record HasAnswer (left left' : Option (List ℕ)) (output : Result Written Refusal) : Type 0 where
@@ -27,34 +30,24 @@ pub record HasOutput (P : Written → Type 0) (left left' : Option (List ℕ)) :
   pub promised : IsAudit read.input output
   pub written : P output
 
--- the text was written whole, and this says whether something was found
-abbrev pub IsWhole : Option (List ℕ) → Option (List ℕ) → Bool → Written → Type 0
-IsWhole taken taken' found output = Appends taken taken' output.text × (output.found ≡ found)
-
--- the ending where the input gave no story
-abbrev pub unread : Stopped Refusal → AuditEnding
-unread (stopped.Refused refusal) = Refused refusal
+-- the status where the input gave no story
+abbrev pub unread : InputFault Refusal → Status
+unread (stopped.Refused r) = Refused r.reason r.names
 unread stopped.ReadFault = ReadFault
 unread stopped.TooLong = TooLong
 unread stopped.NoMemory = NoMemory
 
--- what an ending says of a text that is written, by what the sink took and how many of its calls failed
-abbrev pub Writes : Option (List ℕ) → Option (List ℕ) → ℕ → ℕ → Written → AuditEnding → Type 0
-Writes taken taken' p q output Done = IsWhole taken taken' false output
-Writes taken taken' p q output Named = IsWhole taken taken' true output
-Writes taken taken' p q output WriteFault = Rose p q × AppendsProperPrefix taken taken' output.text
-Writes taken taken' p q output NoMemory = AppendsPrefix taken taken' output.text
-Writes taken taken' p q output (Refused refusal) = ⊥
-Writes taken taken' p q output ReadFault = ⊥
-Writes taken taken' p q output TooLong = ⊥
-
--- what an ending says, by what was left of the source and its faults, and by what the sink took and its faults
-abbrev pub Says : Option (List ℕ) → Option (List ℕ) → ℕ → ℕ → Option (List ℕ) → Option (List ℕ) → ℕ → ℕ → AuditEnding → Type 0
-Says left left' n m taken taken' p q Done = HasOutput (IsWhole taken taken' false) left left'
-Says left left' n m taken taken' p q Named = HasOutput (IsWhole taken taken' true) left left'
-Says left left' n m taken taken' p q (Refused refusal) = HasAnswer left left' (Err refusal) × Keeps taken taken'
-Says left left' n m taken taken' p q ReadFault = Rose n m × Keeps taken taken' × ConsumesAtMost left left' limit
-Says left left' n m taken taken' p q WriteFault = Rose p q × HasOutput (λ output. AppendsProperPrefix taken taken' output.text) left left'
-Says left left' n m taken taken' p q NoMemory =
-    (Keeps taken taken' × ConsumesAtMost left left' limit) ⊎ HasOutput (λ output. AppendsPrefix taken taken' output.text) left left'
-Says left left' n m taken taken' p q TooLong = ConsumesSome left left' (limit + 1) × Keeps taken taken'
+-- what a status says, by the source and the sink before and after
+abbrev pub Says : Streams → Streams → Status → Type 0
+Says before after Done = HasOutput (IsWhole before.taken after.taken false) before.left after.left
+Says before after Named = HasOutput (IsWhole before.taken after.taken true) before.left after.left
+Says before after WrongWords = ⊥
+Says before after (Refused reason names) = HasAnswer before.left after.left (Err (refusal names reason)) × Keeps before.taken after.taken
+Says before after ReadFault =
+    Rose before.read_faults after.read_faults × Keeps before.taken after.taken × ConsumesAtMost before.left after.left limit
+Says before after WriteFault =
+    Rose before.write_faults after.write_faults × HasOutput (λ output. AppendsProperPrefix before.taken after.taken output.text) before.left after.left
+Says before after NoMemory =
+    (Keeps before.taken after.taken × ConsumesAtMost before.left after.left limit)
+    ⊎ HasOutput (λ output. AppendsPrefix before.taken after.taken output.text) before.left after.left
+Says before after TooLong = ConsumesSome before.left after.left (limit + 1) × Keeps before.taken after.taken

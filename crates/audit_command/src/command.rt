@@ -1,15 +1,16 @@
 //! The command `audit`: a transcript is read, its ledgers are replayed, and the report is written.
 
 ghost use Rattle.std.specs.Prelude.{◌≡◌};
+ghost use Rattle.command_input.specs.Streams.{streams};
+ghost use Rattle.command_input.specs.Written.{Writes};
 ghost use Rattle.audit_command.specs.Output.{written_of, story};
 ghost use Rattle.audit_command.specs.Promised.{IsSound};
-ghost use Rattle.audit_command.specs.Says.{Says, Writes, unread};
+ghost use Rattle.audit_command.specs.Says.{Says, unread};
 ghost use Rattle.transcript_reader.specs.Header.{IsTold};
 
-use crate::ending::AuditEnding;
-use crate::fault::Stopped;
 use crate::judged::judge;
 use crate::story::read_story;
+use command_input::{InputFault, Status};
 use ledger_core::Book;
 use outcome_rules::Report;
 use refusals::Refusal;
@@ -19,26 +20,20 @@ use swap_base::Fault;
 use swap_io::{Sink, Source, TextFault};
 use swap_job::Job;
 
-/// The ending where the input gave no story.
-fn unread(fault: Stopped<Refusal>) -> AuditEnding
+/// The status where the input gave no story.
+fn unread(fault: InputFault<Refusal>) -> Status
     ensures { result ≡ unread fault }
 {
     match fault {
-        Stopped::Refused(refusal) => AuditEnding::Refused(refusal),
-        Stopped::ReadFault => AuditEnding::ReadFault,
-        Stopped::TooLong => AuditEnding::TooLong,
-        Stopped::NoMemory => AuditEnding::NoMemory,
+        InputFault::Refused(refusal) => Status::Refused(refusal.reason, refusal.names),
+        InputFault::ReadFault => Status::ReadFault,
+        InputFault::TooLong => Status::TooLong,
+        InputFault::NoMemory => Status::NoMemory,
     }
 }
 
 /// Writes the report of a job's book.
-fn tell<K: Sink>(
-    alloc: Global,
-    sink: &mut K,
-    job: &Job,
-    book: &Book,
-    report: &Report,
-) -> AuditEnding
+fn tell<K: Sink>(alloc: Global, sink: &mut K, job: &Job, book: &Book, report: &Report) -> Status
     requires told { IsTold job.now }
     requires sound { IsSound (story job.now book.now.histories) report.now }
     ensures { Writes (K.taken sink.old) (K.taken sink.new) (K.faults sink.old) (K.faults sink.new) (written_of (story job.now book.now.histories) report.now)
@@ -47,25 +42,21 @@ fn tell<K: Sink>(
     match write_report(alloc, sink, job, book, report) {
         Ok(()) => {
             if report.findings.is_empty() {
-                AuditEnding::Done
+                Status::Done
             } else {
-                AuditEnding::Named
+                Status::Named
             }
         }
-        Err(TextFault::WriteFault) => AuditEnding::WriteFault,
-        Err(TextFault::NoMemory) => AuditEnding::NoMemory,
+        Err(TextFault::WriteFault) => Status::WriteFault,
+        Err(TextFault::NoMemory) => Status::NoMemory,
     }
 }
 
 /// Audits a transcript. The source is read to its end before anything is written; the book that its lines state is kept, and none of their text.
-pub fn audit_transcript<S: Source, K: Sink>(
-    alloc: Global,
-    source: &mut S,
-    sink: &mut K,
-) -> AuditEnding
-    ensures says { Says (S.left source.old) (S.left source.new) (S.faults source.old) (S.faults source.new) (K.taken sink.old) (K.taken sink.new)
-        (K.faults sink.old) (K.faults sink.new) result }
-    ensures calm { ¬ (result ≡ AuditEnding.ReadFault) → S.faults source.new ≡ S.faults source.old }
+pub fn audit_transcript<S: Source, K: Sink>(alloc: Global, source: &mut S, sink: &mut K) -> Status
+    ensures says { Says (streams (S.left source.old) (S.faults source.old) (K.taken sink.old) (K.faults sink.old))
+        (streams (S.left source.new) (S.faults source.new) (K.taken sink.new) (K.faults sink.new)) result }
+    ensures calm { ¬ (result ≡ Status.ReadFault) → S.faults source.new ≡ S.faults source.old }
 {
     let (job, book) = match read_story(alloc, source) {
         Ok(story) => story,
@@ -73,7 +64,7 @@ pub fn audit_transcript<S: Source, K: Sink>(
     };
     match judge(alloc, &job, &book) {
         Ok(report) => tell(alloc, sink, &job, &book, &report),
-        Err(Fault::Refused(refusal)) => AuditEnding::Refused(refusal),
-        Err(Fault::NoMemory) => AuditEnding::NoMemory,
+        Err(Fault::Refused(refusal)) => Status::Refused(refusal.reason, refusal.names),
+        Err(Fault::NoMemory) => Status::NoMemory,
     }
 }

@@ -2,9 +2,10 @@
 
 ghost use Rattle.std.specs.Prelude.{◌≡◌, ◌≤◌, IfOk, IfErr, OnOk, IsErrOf};
 ghost use Rattle.transcript_reader.specs.Stages.{no_lines};
-ghost use Rattle.audit_command.specs.Reading.{IsMore, IsRead, LineFails, StopsAt, fresh, limit};
+ghost use Rattle.command_input.specs.Input.{limit};
+ghost use Rattle.audit_command.specs.Reading.{IsMore, IsRead, LineFails, StopsAt, fresh};
 
-use crate::fault::Stopped;
+use command_input::InputFault;
 use swap_io::{LineEnd, LineFault, Lines, Source};
 use transcript_reader::{TranscriptReader, TranscriptReason};
 
@@ -36,13 +37,13 @@ pub(crate) fn read_lines<S: Source>(
     source: &mut S,
     reader: &mut TranscriptReader,
     text: &mut Vec<u8>,
-) -> Result<(), Stopped<TranscriptReason>>
+) -> Result<(), InputFault<TranscriptReason>>
     requires fresh { lines.old ≡ fresh }
     requires first { reader.old ≡ no_lines }
     ensures read { OnOk result (IsRead (S.left source.old) (S.left source.new) lines.new reader.new text.new.items) }
     ensures stops { IfErr result (λ e. StopsAt (S.left source.old) (S.left source.new) (S.faults source.old) (S.faults source.new) lines.new e) }
     ensures later { S.faults source.old ≤ S.faults source.new }
-    ensures calm { ¬ IsErrOf result Stopped.ReadFault → S.faults source.new ≡ S.faults source.old }
+    ensures calm { ¬ IsErrOf result InputFault.ReadFault → S.faults source.new ≡ S.faults source.old }
 {
     'lines: while next_line(lines, source, text)? {
         reader.push(text)?;

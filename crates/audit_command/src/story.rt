@@ -6,8 +6,8 @@ ghost use Rattle.transcript_reader.specs.Reading.{finished, story_of, transcript
 ghost use Rattle.audit_command.specs.Output.{nameless, refused_by};
 ghost use Rattle.audit_command.specs.Reading.{Concludes, HasRead, Stops, StopsAt};
 
-use crate::fault::Stopped;
 use crate::input::read_lines;
+use command_input::{INPUT_LIMIT, InputFault};
 use ledger_core::Book;
 use refusals::{Reason, Refusal};
 use std::alloc::Global;
@@ -15,9 +15,6 @@ use swap_base::{Fault, Listed};
 use swap_io::{DrainFault, Lines, Source};
 use swap_job::Job;
 use transcript_reader::{TranscriptReader, TranscriptReason};
-
-/// The most bytes of an input.
-const LIMIT: usize = 16_777_216;
 
 fn nameless(alloc: Global, reason: Reason) -> Refusal
     ensures { result ≡ nameless reason }
@@ -45,14 +42,14 @@ fn conclude(
     alloc: Global,
     reader: TranscriptReader,
     rest: &[u8],
-) -> Result<(Job, Book), Stopped<Refusal>>
+) -> Result<(Job, Book), InputFault<Refusal>>
     ensures exact { Concludes result (finished reader rest.now) }
     ensures told { IfOk result (λ p. IsTold p.0) }
 {
     match reader.finish(rest) {
         Ok(story) => Ok(story),
-        Err(Fault::Refused(reason)) => Err(Stopped::Refused(refused_by(alloc, reason))),
-        Err(Fault::NoMemory) => Err(Stopped::NoMemory),
+        Err(Fault::Refused(reason)) => Err(InputFault::Refused(refused_by(alloc, reason))),
+        Err(Fault::NoMemory) => Err(InputFault::NoMemory),
     }
 }
 
@@ -61,23 +58,23 @@ fn stop<S: Source>(
     alloc: Global,
     lines: &mut Lines,
     source: &mut S,
-    fault: Stopped<TranscriptReason>,
-) -> Stopped<Refusal>
+    fault: InputFault<TranscriptReason>,
+) -> InputFault<Refusal>
     ensures stops { (left : Option (List ℕ)) (faults : ℕ) → faults ≤ S.faults source.old
         → StopsAt left (S.left source.old) faults (S.faults source.old) lines.old fault → Stops left (S.left source.new) faults (S.faults source.new) result }
     ensures later { S.faults source.old ≤ S.faults source.new }
-    ensures calm { (faults : ℕ) → (¬ (fault ≡ Stopped.ReadFault) → S.faults source.old ≡ faults)
-        → ¬ (result ≡ Stopped.ReadFault) → S.faults source.new ≡ faults }
+    ensures calm { (faults : ℕ) → (¬ (fault ≡ InputFault.ReadFault) → S.faults source.old ≡ faults)
+        → ¬ (result ≡ InputFault.ReadFault) → S.faults source.new ≡ faults }
 {
     match fault {
-        Stopped::Refused(reason) => match lines.drain(source) {
-            Ok(()) => Stopped::Refused(refused_by(alloc, reason)),
-            Err(DrainFault::ReadFault) => Stopped::ReadFault,
-            Err(DrainFault::TooLong) => Stopped::TooLong,
+        InputFault::Refused(reason) => match lines.drain(source) {
+            Ok(()) => InputFault::Refused(refused_by(alloc, reason)),
+            Err(DrainFault::ReadFault) => InputFault::ReadFault,
+            Err(DrainFault::TooLong) => InputFault::TooLong,
         },
-        Stopped::ReadFault => Stopped::ReadFault,
-        Stopped::TooLong => Stopped::TooLong,
-        Stopped::NoMemory => Stopped::NoMemory,
+        InputFault::ReadFault => InputFault::ReadFault,
+        InputFault::TooLong => InputFault::TooLong,
+        InputFault::NoMemory => InputFault::NoMemory,
     }
 }
 
@@ -85,14 +82,14 @@ fn stop<S: Source>(
 pub(crate) fn read_story<S: Source>(
     alloc: Global,
     source: &mut S,
-) -> Result<(Job, Book), Stopped<Refusal>>
+) -> Result<(Job, Book), InputFault<Refusal>>
     ensures read { IfOk result (λ p. HasRead (λ input. transcript_read header_read input ≡ Ok (story_of p)) (S.left source.old) (S.left source.new)) }
     ensures told { IfOk result (λ p. IsTold p.0) }
     ensures stops { IfErr result (λ e. Stops (S.left source.old) (S.left source.new) (S.faults source.old) (S.faults source.new) e) }
     ensures later { S.faults source.old ≤ S.faults source.new }
-    ensures calm { ¬ IsErrOf result Stopped.ReadFault → S.faults source.new ≡ S.faults source.old }
+    ensures calm { ¬ IsErrOf result InputFault.ReadFault → S.faults source.new ≡ S.faults source.old }
 {
-    let mut lines = Lines::new(alloc, LIMIT)?;
+    let mut lines = Lines::new(alloc, INPUT_LIMIT)?;
     let mut reader = TranscriptReader::new(alloc);
     let mut text = Vec::new(alloc);
     match read_lines(&mut lines, source, &mut reader, &mut text) {

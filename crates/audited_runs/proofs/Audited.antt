@@ -16,7 +16,7 @@ use Rattle.refusals.specs.declared.reason.Reason.{Reason}
 use Rattle.offer_fields.proofs.Chains.{went}
 use Rattle.offer_header.specs.Raw.{is_plain}
 use Rattle.swap_offer.specs.Job.{events_for, job_header_of, job_of, of_lines}
-use Rattle.swap_offer.specs.Lines.{filled_lines, lines_of}
+use Rattle.command_input.specs.Lines.{filled_lines, lines_of}
 use Rattle.read_back.specs.Headers.{IsShowable}
 use Rattle.read_back.proofs.Onward.{ok_is}
 use Rattle.read_back.proofs.Showable.{read_is_showable}
@@ -26,7 +26,9 @@ use Rattle.audited_runs.proofs.Reports.{same_report}
 use Rattle.transcript_lines.specs.Lines.{transcript}
 use Rattle.typed_books.specs.Typed.{IsTypedCall, IsTypedWhat}
 use Rattle.typed_books.specs.Books.{IsTypedBook, IsTypedEntry}
-use Rattle.audit_command.specs.Output.{Written, audit_of}
+use Rattle.command_input.specs.Input.{limit}
+use Rattle.audit_command.specs.Output.{audit_of}
+use Rattle.command_input.specs.Written.{Written}
 use Rattle.swap_commands.specs.Output.{Chance, book_of, by_reason, output_by, reported}
 use Rattle.swap_commands.specs.declared.words.Command.TheVariants.{OfJob, Audit}
 use Rattle.swap_commands.specs.declared.words.JobCommand.TheVariants.{Run, Race}
@@ -75,7 +77,7 @@ holds_digests b typed = λ a lt.
 -- ---- what an audit writes of a text that is a transcript
 
 audit_writes : (has : List ℕ → Bool) (chance : Chance) (job : Job) (b : Histories) (output : Written) → IsShowable job → IsLegalBook job.deal b → HoldsDigests b
-    → output ≡ reported true job b → length output.text ≤ 16777216 → output_by has chance Audit output.text ≡ Ok (reported false job b)
+    → output ≡ reported true job b → length output.text ≤ limit → output_by has chance Audit output.text ≡ Ok (reported false job b)
 unfolding output_by reported
 audit_writes has chance job b output showable legal digests is le =
     let text : output.text ≡ transcript job b = ap (λ (w : Written). w.text) is in
@@ -83,7 +85,7 @@ audit_writes has chance job b output showable legal digests is le =
       showable = showable;
       legal = legal;
       digests = digests;
-      short = subst (λ (l : List ℕ). length l ≤ 16777216) text le;
+      short = subst (λ (l : List ℕ). length l ≤ limit) text le;
     } in
     ap (λ (l : List ℕ). by_reason (audit_of l)) text
     ∙ ap by_reason (same_report job b k)
@@ -110,7 +112,7 @@ unfolding reported
 same_found job b output is = ap (λ (w : Written). w.found) (sym is)
 
 audited_as : (has : List ℕ → Bool) (chance : Chance) (command : Command) (input : List ℕ) (job : Job) (b : Histories) (output : Written) → IsShowable job
-    → IsLegalBook job.deal b → HoldsDigests b → output ≡ reported true job b → length output.text ≤ 16777216
+    → IsLegalBook job.deal b → HoldsDigests b → output ≡ reported true job b → length output.text ≤ limit
     → output_by has chance command input ≡ Ok (reported false job b) → IsAudited has chance command input output
 audited_as has chance command input job b output showable legal digests is le writes = record {
   report = reported false job b;
@@ -152,8 +154,8 @@ module _ (words others : List (List ℕ)) (left left' taken taken' before before
     (done : IsDone is_known (by_rule program_rule) words left left' taken taken' found)
     (told : IsDone is_known (by_rule program_rule) others before before' sink sink' named) (q : told.read.command ≡ Audit)
     (same : told.read.input ≡ done.output.text) where
-  within : length done.output.text ≤ 16777216
-  within = subst (λ (l : List ℕ). length l ≤ 16777216) same told.read.within
+  within : length done.output.text ≤ limit
+  within = subst (λ (l : List ℕ). length l ≤ limit) same told.read.within
 
   tells : (command : Command) → IsAudited is_known done.chance command done.read.input done.output
       → (output_by is_known done.chance command done.read.input ≡ Ok told.output) × (named ≡ found)

@@ -11,7 +11,8 @@ use Rattle.swap_auditor.specs.Audit.{audited as audited_report}
 use Rattle.report_text.specs.Report.{report}
 use Rattle.transcript_lines.specs.Lines.{transcript}
 use Rattle.transcript_reader.specs.Reading.{Story}
-use Rattle.audit_command.specs.Output.{Written, audit_of, by_replies, by_text, judged, story, story_in, told, written_of}
+use Rattle.audit_command.specs.Output.{audit_of, by_replies, by_text, judged, story, story_in, told, written_of}
+use Rattle.command_input.specs.Written.{Written}
 use Rattle.read_back.specs.Headers.{audited}
 use Rattle.audited_runs.specs.Transcripts.{HasTranscript, SameReport, reported}
 use Rattle.audited_runs.proofs.Back.{round_trip}

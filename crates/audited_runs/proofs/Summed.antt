@@ -3,7 +3,7 @@ use Rattle.std.proofs.Common.{◌≡◌, ◌≤◌, ℕ, Bool, List, Ok, refl, a
 use Rattle.ledger_core.specs.Book.{Histories}
 use Rattle.swap_job.specs.declared.job.Job.{Job}
 use Rattle.swap_job.specs.declared.job.Purpose.TheVariants as purposes
-use Rattle.swap_offer.specs.Lines.{filled_lines, lines_of}
+use Rattle.command_input.specs.Lines.{filled_lines, lines_of}
 use Rattle.swap_gen.specs.Drawn.{plain_job}
 use Rattle.swap_gen.specs.Events.{generated_events}
 use Rattle.made_jobs.specs.Generating.{generated_book, generated_text}

@@ -10,7 +10,7 @@ use Rattle.swap_run.specs.Asked.{Answers}
 use Rattle.swap_run.specs.Run.{Question}
 use Rattle.swap_world.specs.Cast.{wallet_with}
 use Rattle.swap_offer.specs.Job.{events_of, job_header_of, job_of, of_lines}
-use Rattle.swap_offer.specs.Lines.{filled_lines, lines_of}
+use Rattle.command_input.specs.Lines.{filled_lines, lines_of}
 use Rattle.swap_commands.specs.Output.{AreGiven, cast_by, state_of}
 use Rattle.swap_main.specs.Known.{by_rule}
 use Rattle.read_back.specs.Headers.{IsShowable}

@@ -4,7 +4,7 @@ use Rattle.swap_job.specs.declared.job.Purpose.TheVariants as purposes
 use Rattle.swap_gen.specs.Drawn.{plain_job}
 use Rattle.made_jobs.specs.Generating.{generated_book, generated_text}
 use Rattle.read_back.specs.Made.{told}
-use Rattle.audit_command.specs.Output.{Written}
+use Rattle.command_input.specs.Written.{Written}
 use Rattle.swap_commands.specs.Generated.{summary_output}
 use Rattle.swap_commands.specs.Output.{output_by, reported, Chance}
 use Rattle.swap_commands.specs.declared.words.Command.TheVariants.{OfJob}

@@ -1,8 +1,8 @@
 -- An audit of the transcript that a run or a race wrote writes the report that the run or the race writes.
 use Rattle.std.specs.Prelude.{◌≡◌, ◌≤◌, ℕ, Bool, true, false, List, length, Option, Ok}
-use Rattle.audit_command.specs.Output.{Written}
+use Rattle.command_input.specs.Written.{Written}
 use Rattle.deviators.specs.Program.{program_rule}
-use Rattle.swap_commands.specs.Input.{limit}
+use Rattle.command_input.specs.Input.{limit}
 use Rattle.swap_commands.specs.Output.{Chance, output_by}
 use Rattle.swap_commands.specs.Promised.{AsPromised}
 use Rattle.swap_main.specs.Known.{by_rule, is_known}

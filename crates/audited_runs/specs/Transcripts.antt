@@ -8,7 +8,9 @@ use Rattle.report_text.specs.Report.{report}
 use Rattle.transcript_lines.specs.Lines.{transcript}
 use Rattle.transcript_reader.specs.Header.{header_read}
 use Rattle.transcript_reader.specs.Reading.{transcript_read}
-use Rattle.audit_command.specs.Output.{Written, audit_of}
+use Rattle.command_input.specs.Input.{limit}
+use Rattle.audit_command.specs.Output.{audit_of}
+use Rattle.command_input.specs.Written.{Written}
 use Rattle.audited_runs.specs.Digests.{HoldsDigests}
 
 -- A job and its book, of which a transcript tells: the job can be shown, the book is legal, its calls hold digests, and the transcript isn't too long.
@@ -16,7 +18,7 @@ pub record HasTranscript (job : Job) (b : Histories) : Type 0 where
   pub showable : IsShowable job
   pub legal : IsLegalBook job.deal b
   pub digests : HoldsDigests b
-  pub short : length (transcript job b) ≤ 16777216
+  pub short : length (transcript job b) ≤ limit
 
 -- Its transcript is read as the job as an auditor knows it, and the very book.
 abbrev pub RoundTrip : Type 0

@@ -7,7 +7,7 @@ use Rattle.swap_job.specs.declared.event.Event.{Event}
 use Rattle.swap_job.specs.declared.job.Job.{Job}
 use Rattle.swap_job.specs.declared.job.Purpose.TheVariants.{Make}
 use Rattle.refusals.specs.declared.reason.Reason.{Reason}
-use Rattle.swap_offer.specs.Lines.{lines_of, filled_lines}
+use Rattle.command_input.specs.Lines.{lines_of, filled_lines}
 use Rattle.swap_offer.specs.Job.{counted, of_lines}
 use Rattle.swap_gen.specs.Made.{made}
 use Rattle.swap_gen.specs.Owned.{OwnsKeys}

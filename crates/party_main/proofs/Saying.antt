@@ -6,7 +6,9 @@ use Rattle.party_answer.specs.declared.reason.AnswerReason.{AnswerReason}
 use Rattle.party_main.specs.declared.top.PartyStatus.{PartyStatus}
 use Rattle.party_main.specs.declared.top.PartyStatus.TheVariants.{Done, WrongWords, Refused, ReadFault, WriteFault, NoMemory, TooLong}
 use Rattle.party_main.specs.Input.{answered}
-use Rattle.party_main.specs.Says.{HasAnswer, HasText, IsPromised, Says, Writes, limit}
+use Rattle.command_input.specs.Input.{limit}
+use Rattle.command_input.specs.Streams.{streams}
+use Rattle.party_main.specs.Says.{HasAnswer, HasText, IsPromised, Says, Writes}
 
 -- The whole input was read.
 module _ (name input : List ℕ) (left left' : Option (List ℕ)) (n m : ℕ) (taken : Option (List ℕ)) (took : Consumes left left' input) (ended : IsAtEnd left')
@@ -20,7 +22,7 @@ module _ (name input : List ℕ) (left left' : Option (List ℕ)) (n m : ℕ) (t
 
   -- it is answered
   pub says_text : (taken' : Option (List ℕ)) (p q : ℕ) (text : List ℕ) → answered name input ≡ Ok text → IsPromised name input text → (s : PartyStatus)
-      → Writes taken taken' p q text s → Says (name ∷ []) left left' n m taken taken' p q s
+      → Writes taken taken' p q text s → Says (name ∷ []) (streams left n taken p) (streams left' m taken' q) s
   says_text taken' p q text e promised Done w = text_is (Appends taken taken') text e promised w
   says_text taken' p q text e promised WriteFault w = (w.0, text_is (AppendsProperPrefix taken taken') text e promised w.1)
   says_text taken' p q text e promised WrongWords w = absurd w

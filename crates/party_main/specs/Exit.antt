@@ -1,12 +1,10 @@
 -- How the program `party` ends: the number of its status, and what it tells on standard error.
 use Rattle.std.specs.Prelude.{◌≡◌, ℕ, List, [], ◌∷◌, codes, decimal}
 use Rattle.swap_base.specs.Text.{joined}
-use Rattle.refusals.specs.Line.{line_of}
+use Rattle.command_input.specs.declared.exit.Exit.{Exit}
+use Rattle.command_input.specs.Told.{refusal_text, told_text}
 use Rattle.party_answer.specs.declared.reason.AnswerReason.{AnswerReason}
 use Rattle.party_answer.specs.declared.reason.AnswerReason.TheVariants as reasons
-use Rattle.party_main.specs.declared.exit.Exit.{Exit}
-use Rattle.party_main.specs.declared.exit.Told.{Told}
-use Rattle.party_main.specs.declared.exit.Told.TheVariants.{Words, Line}
 use Rattle.party_main.specs.declared.top.PartyStatus.{PartyStatus}
 use Rattle.party_main.specs.declared.top.PartyStatus.TheVariants.{Done, WrongWords, Refused, ReadFault, WriteFault, NoMemory, TooLong}
 
@@ -22,7 +20,7 @@ number_of TooLong = 7
 
 -- the line of a reason
 abbrev pub reason_line : AnswerReason → List ℕ
-reason_line (reasons.Refused r) = joined (line_of r.names r.reason ∷ codes "\n" ∷ [])
+reason_line (reasons.Refused r) = refusal_text r.names r.reason
 reason_line (reasons.NotKept a n) = joined (codes "swap: refused: NotKept " ∷ decimal a ∷ codes " " ∷ decimal n ∷ codes "\n" ∷ [])
 
 -- the lines of standard error
@@ -34,10 +32,6 @@ lines_of ReadFault = codes "swap: read fault\n"
 lines_of WriteFault = codes "swap: write fault\n"
 lines_of NoMemory = codes "swap: no memory\n"
 lines_of TooLong = codes "swap: too long\n"
-
-abbrev pub told_text : Told → List ℕ
-told_text (Words words) = words.now
-told_text (Line line) = line
 
 -- the process ends as the status asks
 pub record IsExit (e : Exit) (status : PartyStatus) : Type 0 where

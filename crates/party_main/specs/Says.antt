@@ -4,15 +4,13 @@ use Rattle.std.specs.Io.KnownBytes.{Appends, Consumes, IsAtEnd, Keeps}
 use Rattle.swap_base.specs.declared.fault.Fault.{Fault}
 use Rattle.swap_base.specs.declared.fault.Fault.TheVariants as faults
 use Rattle.swap_io.specs.Causes.{Rose, ConsumesAtMost, ConsumesSome, AppendsProperPrefix}
+use Rattle.command_input.specs.Input.{limit}
+use Rattle.command_input.specs.Streams.{Streams}
 use Rattle.party_answer.specs.declared.reason.AnswerReason.{AnswerReason}
 use Rattle.party_answer.specs.Promised.{IsAnswer}
 use Rattle.party_main.specs.declared.top.PartyStatus.{PartyStatus}
 use Rattle.party_main.specs.declared.top.PartyStatus.TheVariants.{Done, WrongWords, Refused, ReadFault, WriteFault, NoMemory, TooLong}
 use Rattle.party_main.specs.Input.{Cut, answered, cut, seed_of}
-
--- the most bytes of an input
-abbrev pub limit : ℕ
-limit = 16777216
 
 -- A text is the answer to the bytes behind a line that tells the seed.
 pub record IsAnswerOf (name : List ℕ) (parts : Cut) (text : List ℕ) : Type 0 where
@@ -54,12 +52,14 @@ Writes taken taken' p q text Done = Appends taken taken' text
 Writes taken taken' p q text WriteFault = Rose p q × AppendsProperPrefix taken taken' text
 Writes taken taken' p q text _ = ⊥
 
--- what a status says, by the words, by what was left of the source and its faults, and by what the sink took and its faults
-abbrev pub Says : List (List ℕ) → Option (List ℕ) → Option (List ℕ) → ℕ → ℕ → Option (List ℕ) → Option (List ℕ) → ℕ → ℕ → PartyStatus → Type 0
-Says words left left' n m taken taken' p q Done = HasText (Appends taken taken') words left left'
-Says words left left' n m taken taken' p q WrongWords = (length words ≢ 1) × (left' ≡ left) × Keeps taken taken'
-Says words left left' n m taken taken' p q (Refused reason) = HasAnswer words left left' (Err reason) × Keeps taken taken'
-Says words left left' n m taken taken' p q ReadFault = Rose n m × ConsumesAtMost left left' limit × Keeps taken taken'
-Says words left left' n m taken taken' p q WriteFault = Rose p q × HasText (AppendsProperPrefix taken taken') words left left'
-Says words left left' n m taken taken' p q NoMemory = Keeps taken taken'
-Says words left left' n m taken taken' p q TooLong = ConsumesSome left left' (limit + 1) × Keeps taken taken'
+-- what a status says, by the words, and by the source and the sink before and after
+abbrev pub Says : List (List ℕ) → Streams → Streams → PartyStatus → Type 0
+Says words before after Done = HasText (Appends before.taken after.taken) words before.left after.left
+Says words before after WrongWords = (length words ≢ 1) × (after.left ≡ before.left) × Keeps before.taken after.taken
+Says words before after (Refused reason) = HasAnswer words before.left after.left (Err reason) × Keeps before.taken after.taken
+Says words before after ReadFault =
+    Rose before.read_faults after.read_faults × ConsumesAtMost before.left after.left limit × Keeps before.taken after.taken
+Says words before after WriteFault =
+    Rose before.write_faults after.write_faults × HasText (AppendsProperPrefix before.taken after.taken) words before.left after.left
+Says words before after NoMemory = Keeps before.taken after.taken
+Says words before after TooLong = ConsumesSome before.left after.left (limit + 1) × Keeps before.taken after.taken

@@ -1,40 +1,13 @@
 //! How the program `party` ends: the number of its status, and what it tells on standard error.
 
 ghost use Rattle.std.specs.Prelude.{◌≡◌, ◌⊎◌, IfOk};
-ghost use Rattle.party_main.specs.Exit.{IsExit, reason_line, told_text};
+ghost use Rattle.party_main.specs.Exit.{IsExit, reason_line};
 
 use crate::top::PartyStatus;
+use command_input::{Exit, Told, refusal_text};
 use party_answer::AnswerReason;
-use refusals::refusal_line;
 use std::alloc::Global;
 use swap_base::{ArcId, ByteText, NoMemory, Piece, put};
-
-/// What is told on standard error.
-#[derive(Debug, Drop)]
-pub enum Told {
-    /// The same words each time.
-    Words(&'static str),
-    /// The line of a refusal.
-    Line(ByteText),
-}
-
-impl Told {
-    pub fn as_slice(&self) -> &[u8]
-        ensures { result.now ≡ told_text self.now }
-    {
-        match self {
-            Told::Words(words) => words.as_bytes(),
-            Told::Line(line) => line.as_slice(),
-        }
-    }
-}
-
-/// What the process ends with.
-#[derive(Debug, Drop)]
-pub struct Exit {
-    pub number: u8,
-    pub told: Told,
-}
 
 fn not_kept(alloc: Global, arc: ArcId, entry: u32) -> Result<ByteText, NoMemory>
     ensures { IfOk result (λ t. t ≡ reason_line (AnswerReason.NotKept arc entry)) }
@@ -59,22 +32,9 @@ pub fn reason_line(alloc: Global, reason: &AnswerReason) -> Result<ByteText, NoM
 {
     match reason {
         AnswerReason::Refused(refusal) => {
-            let line = refusal_line(alloc, &refusal.reason, refusal.names.as_slice())?;
-            let mut text = line.into_vec();
-            text.push(b'\n')?;
-            Ok(ByteText::new(text))
+            refusal_text(alloc, &refusal.reason, refusal.names.as_slice())
         }
         AnswerReason::NotKept(arc, entry) => not_kept(alloc, *arc, *entry),
-    }
-}
-
-fn of_words(number: u8, words: &'static str) -> Exit
-    ensures number { result.number ≡ number }
-    ensures words { told_text result.told ≡ words.now }
-{
-    Exit {
-        number,
-        told: Told::Words(words),
     }
 }
 
@@ -85,18 +45,18 @@ pub fn ending(alloc: Global, status: PartyStatus) -> Exit
     ensures plain { ((reason : AnswerReason) → ¬ (status ≡ PartyStatus.Refused reason)) → IsExit result status }
 {
     match status {
-        PartyStatus::Done => of_words(0, ""),
-        PartyStatus::WrongWords => of_words(2, "swap: wrong words\nusage: party NAME\n"),
+        PartyStatus::Done => Exit::of_words(0, ""),
+        PartyStatus::WrongWords => Exit::of_words(2, "swap: wrong words\nusage: party NAME\n"),
         PartyStatus::Refused(reason) => match reason_line(alloc, &reason) {
             Ok(line) => Exit {
                 number: 3,
                 told: Told::Line(line),
             },
-            Err(_) => of_words(6, "swap: no memory\n"),
+            Err(_) => Exit::of_words(6, "swap: no memory\n"),
         },
-        PartyStatus::ReadFault => of_words(4, "swap: read fault\n"),
-        PartyStatus::WriteFault => of_words(5, "swap: write fault\n"),
-        PartyStatus::NoMemory => of_words(6, "swap: no memory\n"),
-        PartyStatus::TooLong => of_words(7, "swap: too long\n"),
+        PartyStatus::ReadFault => Exit::of_words(4, "swap: read fault\n"),
+        PartyStatus::WriteFault => Exit::of_words(5, "swap: write fault\n"),
+        PartyStatus::NoMemory => Exit::of_words(6, "swap: no memory\n"),
+        PartyStatus::TooLong => Exit::of_words(7, "swap: too long\n"),
     }
 }

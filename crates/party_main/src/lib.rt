@@ -4,5 +4,6 @@
 mod exit;
 mod top;
 
-pub use exit::{Exit, Told, ending, reason_line};
+pub use command_input::{Exit, Told};
+pub use exit::{ending, reason_line};
 pub use top::{PartyStatus, party_top};

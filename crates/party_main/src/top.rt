@@ -6,9 +6,11 @@ ghost use Rattle.transcript_book.specs.Taking.{Takes};
 ghost use Rattle.transcript_lines.specs.Between.{parts_at};
 ghost use Rattle.transcript_lines.specs.Reading.{field_of};
 ghost use Rattle.party_answer.specs.Asked.{nameless};
+ghost use Rattle.command_input.specs.Streams.{streams};
 ghost use Rattle.party_main.specs.Input.{answer_parts, answered, seed_of, seed_said, seed_word};
 ghost use Rattle.party_main.specs.Says.{of_fault, IsAnswerOf, IsPromised, Says, Writes};
 
+use command_input::INPUT_LIMIT;
 use memchr::memchr;
 use party_answer::{AnswerFault, AnswerReason, answer};
 use refusals::{Reason, Refusal};
@@ -16,9 +18,6 @@ use std::alloc::Global;
 use swap_base::{ByteText, Digest, Fault, Listed};
 use swap_io::{ReadAllFault, Sink, Source, read_all, write_all};
 use transcript_book::{Parts, WordFault, digest_field, misspelt, nothing_more, word};
-
-/// The most bytes of an input.
-const LIMIT: usize = 16_777_216;
 
 /// How a call of the program ended.
 #[derive(Debug, Drop)]
@@ -139,10 +138,10 @@ fn party_input<S: Source, K: Sink>(
     source: &mut S,
     sink: &mut K,
 ) -> PartyStatus
-    ensures { Says (name.now ∷ []) (S.left source.old) (S.left source.new) (S.faults source.old) (S.faults source.new)
-        (K.taken sink.old) (K.taken sink.new) (K.faults sink.old) (K.faults sink.new) result }
+    ensures { Says (name.now ∷ []) (streams (S.left source.old) (S.faults source.old) (K.taken sink.old) (K.faults sink.old))
+        (streams (S.left source.new) (S.faults source.new) (K.taken sink.new) (K.faults sink.new)) result }
 {
-    let input = match read_all(alloc, source, LIMIT) {
+    let input = match read_all(alloc, source, INPUT_LIMIT) {
         Ok(input) => input,
         Err(ReadAllFault::ReadFault) => return PartyStatus::ReadFault,
         Err(ReadAllFault::TooLong) => return PartyStatus::TooLong,
@@ -161,8 +160,8 @@ pub fn party_top<S: Source, K: Sink>(
     source: &mut S,
     sink: &mut K,
 ) -> PartyStatus
-    ensures { Says (map string_bytes words.now) (S.left source.old) (S.left source.new) (S.faults source.old) (S.faults source.new)
-        (K.taken sink.old) (K.taken sink.new) (K.faults sink.old) (K.faults sink.new) result }
+    ensures { Says (map string_bytes words.now) (streams (S.left source.old) (S.faults source.old) (K.taken sink.old) (K.faults sink.old))
+        (streams (S.left source.new) (S.faults source.new) (K.taken sink.new) (K.faults sink.new)) result }
 {
     if words.len() != 1 {
         return PartyStatus::WrongWords;

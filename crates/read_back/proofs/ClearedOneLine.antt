@@ -6,7 +6,7 @@ use Rattle.serde_json.specs.Data.{Data}
 use Rattle.serde_json.specs.View.{items_of}
 use Rattle.swap_base.specs.Lists.{IsIn}
 use Rattle.swap_base.proofs.Lists.{and_parts}
-use Rattle.swap_offer.specs.Lines.{filled_lines, lines_of, with_first}
+use Rattle.command_input.specs.Lines.{filled_lines, lines_of, with_first}
 use Rattle.swap_clear.specs.declared.answer.Group.{Group}
 use Rattle.clear_line.specs.declared.limits.Wishes.{Wishes}
 use Rattle.clear_line.specs.ClearedText.{arc_data, named_data, proposal}

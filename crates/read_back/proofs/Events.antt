@@ -23,7 +23,7 @@ use Rattle.swap_gen.specs.Events.{event_from, events_from}
 use Rattle.swap_gen.specs.Line.{event_line, name_at}
 use Rattle.swap_gen.specs.Word.{word}
 use Rattle.swap_offer.specs.Job.{events_of, next_of}
-use Rattle.swap_offer.specs.Lines.{is_blank}
+use Rattle.command_input.specs.Lines.{is_blank}
 use Rattle.transcript_lines.proofs.Numbers.{high_number}
 use Rattle.read_back.proofs.HeaderLimited.{number_back}
 use Rattle.read_back.proofs.HeaderOneLine.{both_lines, high_line}

@@ -4,7 +4,7 @@ use Rattle.std.specs.Prelude.{codes}
 use Rattle.std.specs.List.{list_all, AllByRecursion}
 use Rattle.std.proofs.lemmas.List.Elements.{All-head, All-tail}
 use Rattle.swap_base.proofs.Lists.{and_both, and_parts}
-use Rattle.swap_offer.specs.Lines.{filled_lines, is_blank, lines_of, with_first}
+use Rattle.command_input.specs.Lines.{filled_lines, is_blank, lines_of, with_first}
 use Rattle.made_jobs.specs.Making.{with_line}
 use Rattle.transcript_lines.specs.Between.{ended}
 use Rattle.read_back.specs.Made.{numbered_from, IsOneLine, TextHasOneStory, TextIsItsLines}

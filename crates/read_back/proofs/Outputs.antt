@@ -11,7 +11,7 @@ use Rattle.swap_job.specs.declared.job.Purpose.TheVariants.{Make, Run}
 use Rattle.offer_fields.proofs.Chains.{went}
 use Rattle.offer_text.specs.HeaderLine.{header_line, made_header}
 use Rattle.swap_offer.specs.Job.{counted, events_for, events_of, events_unless, job_header_of, job_of, of_lines}
-use Rattle.swap_offer.specs.Lines.{filled_lines, is_blank, lines_of}
+use Rattle.command_input.specs.Lines.{filled_lines, is_blank, lines_of}
 use Rattle.swap_gen.specs.Made.{made}
 use Rattle.made_jobs.specs.Making.{made_of, made_output, made_text, written_line}
 use Rattle.read_back.proofs.Onward.{ok_is}

@@ -4,7 +4,7 @@ use Rattle.std.specs.List.{AllByRecursion}
 use Rattle.ledger_core.specs.Book.{Histories}
 use Rattle.swap_digraph.specs.Deal.{IsWellSized}
 use Rattle.swap_job.specs.declared.job.Job.{Job}
-use Rattle.swap_offer.specs.Lines.{lines_of}
+use Rattle.command_input.specs.Lines.{lines_of}
 use Rattle.transcript_lines.specs.Lines.{IsWhole}
 use Rattle.transcript_lines.proofs.Stories.{one_story}
 use Rattle.transcript_book.proofs.Complete.{few_arcs, stated_from}

@@ -15,7 +15,7 @@ use Rattle.swap_run.specs.Asked.{with_answers, Answers}
 use Rattle.swap_run.specs.Fair.{finish}
 use Rattle.swap_run.specs.Run.{run, Cast}
 use Rattle.swap_world.specs.Cast.{cast_of}
-use Rattle.swap_offer.specs.Lines.{filled_lines, lines_of}
+use Rattle.command_input.specs.Lines.{filled_lines, lines_of}
 use Rattle.swap_offer.specs.Job.{events_of, job_header_of, job_of}
 use Rattle.swap_gen.specs.Drawn.{plain_job}
 use Rattle.swap_gen.specs.Events.{generated_events}

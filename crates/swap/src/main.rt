@@ -1,10 +1,9 @@
 //! The program: `swap run < offer`.
 #![tactic(auto)]
 
+use command_input::words_of;
 use party_threads::Gate;
 use std::alloc::Global;
-use std::env::Args;
-use std::io::ErrorKind;
 use std::process::ExitCode;
 use std::sync::Wait;
 use std::{env, io};
@@ -18,18 +17,6 @@ impl Gate for OpenGate {
     fn pass<R: Wait>(&self, _rt: &R, _actor: u8, _round: u32) {}
 }
 
-/// The words after the program's name. One that is no text makes them wrong words.
-fn words_of(alloc: Global, args: io::Result<Args>) -> Result<Vec<String>, Status> {
-    match args {
-        Ok(args) => match args.skip(1).collect(alloc) {
-            Ok(words) => Ok(words),
-            Err(_) => Err(Status::NoMemory),
-        },
-        Err(e) if e.kind() == ErrorKind::OutOfMemory => Err(Status::NoMemory),
-        Err(_) => Err(Status::WrongWords),
-    }
-}
-
 /// Whether the words may ask for a race, for which alone threads are started and waited for.
 fn may_race(words: &[String]) -> bool {
     match words.first() {
@@ -40,7 +27,7 @@ fn may_race(words: &[String]) -> bool {
 
 fn main(rt: HostRuntime) -> ExitCode {
     let status = match words_of(rt.alloc(), env::args(&rt)) {
-        Ok(words) => {
+        Ok(Some(words)) => {
             let mut source = ReaderSource::new(rt.reader());
             let mut sink = WriterSink::new(io::writer(&rt));
             let staff = Program { alloc: rt.alloc() };
@@ -58,7 +45,8 @@ fn main(rt: HostRuntime) -> ExitCode {
                 swap_plain(rt.alloc(), &words, &mut source, &mut sink, &staff)
             }
         }
-        Err(status) => status,
+        Ok(None) => Status::WrongWords,
+        Err(_) => Status::NoMemory,
     };
     let Exit { number, told } = ending(rt.alloc(), status);
     // A standard error that can't be written changes no status.

@@ -1,15 +1,18 @@
--- What the command `audit` says, by how its audit ended.
+-- What the command `audit` says.
 use Rattle.std.proofs.Common.{◌≡◌, inl, inr, ℕ, Bool, true, false, List, Option, Result, Ok, Err, sym, ap}
 use Rattle.swap_io.specs.Causes.{AppendsProperPrefix}
 use Rattle.swap_io.specs.Handed.{AppendsPrefix}
 use Rattle.refusals.specs.declared.refusal.Refusal.{Refusal}
-use Rattle.audit_command.specs.Output.{Written, audit_of}
+use Rattle.refusals.specs.Refusal.{refusal}
+use Rattle.audit_command.specs.Output.{audit_of}
 use Rattle.audit_command.specs.Says as audit
-use Rattle.audit_command.specs.declared.ending.AuditEnding.{AuditEnding}
-use Rattle.audit_command.specs.declared.ending.AuditEnding.TheVariants as ending
+use Rattle.command_input.specs.declared.status.Status.{Status}
+use Rattle.command_input.specs.declared.status.Status.TheVariants.{Done, Named, WrongWords, Refused, ReadFault, WriteFault, NoMemory, TooLong}
+use Rattle.command_input.specs.Streams.{streams}
 use Rattle.swap_world.specs.Gone.{Gives}
+use Rattle.command_input.specs.Written.{IsWhole, Written}
 use Rattle.swap_commands.specs.Output.{by_reason, names_of, names_told, no_chance, output_by}
-use Rattle.swap_commands.specs.Says.{HasOutput, HasRead, IsWhole, Says, status_by}
+use Rattle.swap_commands.specs.Says.{HasOutput, HasRead, Says}
 use Rattle.swap_commands.specs.declared.words.Command.TheVariants.{Audit}
 
 module _ (has : List ℕ → Bool) (gives : Gives) where
@@ -47,14 +50,15 @@ module _ (has : List ℕ → Bool) (gives : Gives) where
       → HasOutput has gives (λ w. AppendsPrefix taken taken' w.text) Audit a b
   short a b taken taken' o = written_by (λ w. AppendsPrefix taken taken' w.text) (λ w. AppendsPrefix taken taken' w.text) (λ w x. x) a b o
 
-  pub says_audit : (a b : Option (List ℕ)) (n m : ℕ) (taken taken' : Option (List ℕ)) (p q : ℕ) (e : AuditEnding)
-      → audit.Says a b n m taken taken' p q e → Says has gives Audit a b n m taken taken' p q (status_by e)
-  says_audit a b n m taken taken' p q ending.Done s = written_by (audit.IsWhole taken taken' false) (IsWhole taken taken' false) (λ w x. x) a b s
-  says_audit a b n m taken taken' p q ending.Named s = written_by (audit.IsWhole taken taken' true) (IsWhole taken taken' true) (λ w x. x) a b s
-  says_audit a b n m taken taken' p q (ending.Refused refusal) s =
-      (record { read = read_by a b (Err refusal) s.0; named = named_by s.0.input refusal s.0.gives }, s.1)
-  says_audit a b n m taken taken' p q ending.ReadFault s = s
-  says_audit a b n m taken taken' p q ending.WriteFault s = (s.0, cut a b taken taken' s.1)
-  says_audit a b n m taken taken' p q ending.NoMemory (inl k) = inl k
-  says_audit a b n m taken taken' p q ending.NoMemory (inr o) = inr (short a b taken taken' o)
-  says_audit a b n m taken taken' p q ending.TooLong s = s
+  pub says_audit : (a b : Option (List ℕ)) (n m : ℕ) (taken taken' : Option (List ℕ)) (p q : ℕ) (s : Status)
+      → audit.Says (streams a n taken p) (streams b m taken' q) s → Says has gives Audit a b n m taken taken' p q s
+  says_audit a b n m taken taken' p q Done s = written_by (IsWhole taken taken' false) (IsWhole taken taken' false) (λ w x. x) a b s
+  says_audit a b n m taken taken' p q Named s = written_by (IsWhole taken taken' true) (IsWhole taken taken' true) (λ w x. x) a b s
+  says_audit a b n m taken taken' p q WrongWords s = absurd s
+  says_audit a b n m taken taken' p q (Refused reason names) s =
+      let r = refusal names reason in (record { read = read_by a b (Err r) s.0; named = named_by s.0.input r s.0.gives }, s.1)
+  says_audit a b n m taken taken' p q ReadFault s = s
+  says_audit a b n m taken taken' p q WriteFault s = (s.0, cut a b taken taken' s.1)
+  says_audit a b n m taken taken' p q NoMemory (inl k) = inl k
+  says_audit a b n m taken taken' p q NoMemory (inr o) = inr (short a b taken taken' o)
+  says_audit a b n m taken taken' p q TooLong s = s

@@ -8,22 +8,23 @@ use Rattle.swap_io.proofs.Handing.{rose_before}
 use Rattle.refusals.specs.declared.reason.Reason.{Reason}
 use Rattle.refusals.specs.declared.reason.Reason.TheVariants.{BadLine, NotJson}
 use Rattle.refusals.specs.declared.refusal.Refusal.{Refusal}
-use Rattle.swap_offer.specs.Lines.{lines_of, filled_lines}
+use Rattle.command_input.specs.Lines.{lines_of, filled_lines}
 use Rattle.swap_world.specs.Gone.{Gives as MayGive}
 use Rattle.clear_line.specs.ClearedText.{cleared_line, IsClearedLine}
 use Rattle.swap_commands.specs.Cleared.{IsCleared, IsFurther}
-use Rattle.swap_commands.specs.Faults.{named_fault, of_offer}
-use Rattle.swap_commands.specs.Input.{At, Ends, EndsAt, Gives, IsLast, IsLine, Stops, Tells, ahead, fresh, limit}
+use Rattle.command_input.specs.Faults.{named_fault, of_offer}
+use Rattle.command_input.specs.Input.{At, Ends, EndsAt, Gives, IsLast, IsLine, Stops, Tells, ahead, fresh, limit}
 use Rattle.swap_commands.specs.Output.{alone, clear_output, names_of, no_chance, output_by, plain_text, wishes_of}
-use Rattle.swap_commands.specs.Says.{IsAgainst, Says, Writes}
-use Rattle.swap_commands.specs.declared.fault.InputFault.{InputFault}
-use Rattle.swap_commands.specs.declared.fault.InputFault.TheVariants.{Refused, ReadFault, TooLong, NoMemory}
+use Rattle.swap_commands.specs.Says.{IsAgainst, Says}
+use Rattle.command_input.specs.declared.fault.InputFault.{InputFault}
+use Rattle.command_input.specs.declared.fault.InputFault.TheVariants.{Refused, ReadFault, TooLong, NoMemory}
 use Rattle.swap_commands.specs.declared.words.Command.TheVariants.{Clear}
-use Rattle.swap_commands.specs.declared.status.Status.{Status}
-use Rattle.swap_commands.proofs.Ahead.{part_on, too_long_on}
+use Rattle.command_input.specs.declared.status.Status.{Status}
+use Rattle.command_input.proofs.Ahead.{part_on, too_long_on}
 use Rattle.swap_commands.proofs.Reading.{is_within, not_over_yet}
 use Rattle.swap_commands.proofs.Saying.{says_written}
-use Rattle.swap_commands.proofs.Streams.{can_come, last_of, line_of}
+use Rattle.command_input.proofs.Streams.{can_come, last_of, line_of}
+use Rattle.command_input.specs.Written.{Writes}
 
 -- ---- what is written, by the lines of an input
 

@@ -4,8 +4,6 @@ pub mod Raced
 pub mod Promises
 pub mod Summaries
 pub mod ManyPromises
-pub mod Ahead
-pub mod Streams
 pub mod Reading
 pub mod Saying
 pub mod Acting

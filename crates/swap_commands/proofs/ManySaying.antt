@@ -1,13 +1,12 @@
 -- What the command `many` says, by how its parts ended.
-use Rattle.std.proofs.Common.{◌≡◌, ◌≤◌, ℕ, Bool, List, ◌++◌, fold, Option, Some, None, Result, Ok, Err, refl, sym, ap, ap₂, ◌∙◌, subst}
-use Rattle.std.proofs.Common.{append_assoc}
+use Rattle.std.proofs.Common.{◌≡◌, ◌≤◌, ℕ, Bool, List, ◌++◌, fold, Option, Some, None, Result, Ok, Err, refl, sym, ap, ap₂, ◌∙◌, subst, append_assoc}
 use Rattle.swap_base.specs.Fault.{◌>>=◌}
 use Rattle.swap_io.proofs.Feeds.{took_on}
 use Rattle.swap_job.specs.declared.job.Finish.{Finish}
 use Rattle.refusals.specs.declared.reason.Reason.{Reason}
 use Rattle.refusals.specs.declared.refusal.Refusal.{Refusal}
-use Rattle.audit_command.specs.Output.{Written}
-use Rattle.swap_offer.specs.Lines.{lines_of, filled_lines}
+use Rattle.command_input.specs.Written.{Writes, Written}
+use Rattle.command_input.specs.Lines.{lines_of, filled_lines}
 use Rattle.swap_run.specs.Asked.{Answers}
 use Rattle.swap_world.specs.Gone.{Gives, HasAsked}
 use Rattle.swap_world.specs.Value.{WorldState, answers_of, new_world}
@@ -21,14 +20,14 @@ use Rattle.many_lines.specs.Heading.{HeadingState, finish_told}
 use Rattle.many_lines.specs.Places.{job_at}
 use Rattle.many_lines.specs.Whole.{AreSwaps}
 use Rattle.many_lines.specs.declared.many_job.ManyJob.{ManyJob}
-use Rattle.swap_commands.specs.Input.{At, CanCome, Ends, Stops, Tells, ahead, fresh}
+use Rattle.command_input.specs.Input.{At, CanCome, Ends, Stops, Tells, ahead, fresh}
 use Rattle.swap_commands.specs.Many.{Headed, ended_by, events_told, headed, many_of_lines, many_output, many_state, many_written, opened}
 use Rattle.swap_commands.specs.ManyRead.{AreRun, IsHeading, IsManyPlayed, new_worlds, opened_after}
 use Rattle.swap_commands.specs.Output.{AreGiven, by_many, by_reason, names_of, names_told, output_by}
 use Rattle.swap_commands.specs.Promised.{IsManyRun}
-use Rattle.swap_commands.specs.Says.{IsAgainst, Says, Writes}
-use Rattle.swap_commands.specs.declared.fault.InputFault.{InputFault}
-use Rattle.swap_commands.specs.declared.status.Status.{Status}
+use Rattle.swap_commands.specs.Says.{IsAgainst, Says}
+use Rattle.command_input.specs.declared.fault.InputFault.{InputFault}
+use Rattle.command_input.specs.declared.status.Status.{Status}
 use Rattle.swap_commands.specs.declared.words.Command.TheVariants.{Many}
 use Rattle.swap_commands.proofs.ManyPromises.{are_ended, are_promised}
 use Rattle.swap_commands.proofs.ManyTold.{fails_with, stops_as, stops_later}

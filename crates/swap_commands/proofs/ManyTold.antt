@@ -24,14 +24,14 @@ use Rattle.many_lines.specs.Setup.{MayCome}
 use Rattle.many_lines.specs.declared.many_job.ManyJob.{ManyJob}
 use Rattle.many_lines.specs.declared.stage.Stage.{Stage}
 use Rattle.many_lines.specs.declared.stage.Stage.TheVariants.{First, Words, Header, Over}
-use Rattle.swap_commands.specs.declared.fault.InputFault.{InputFault}
-use Rattle.swap_commands.specs.declared.fault.InputFault.TheVariants.{Refused, ReadFault, TooLong, NoMemory}
-use Rattle.swap_commands.specs.Input.{At, Ends, EndsAt, IsLast, IsLine, Stops, Tells, ahead, fresh, limit}
+use Rattle.command_input.specs.declared.fault.InputFault.{InputFault}
+use Rattle.command_input.specs.declared.fault.InputFault.TheVariants.{Refused, ReadFault, TooLong, NoMemory}
+use Rattle.command_input.specs.Input.{At, Ends, EndsAt, IsLast, IsLine, Stops, Tells, ahead, fresh, limit}
 use Rattle.swap_commands.specs.Many.{Headed, events_told, headed, headed_on, left_with, opened}
 use Rattle.swap_commands.specs.ManyRead.{HasReplayed, HasStepped, IsHeading, IsReplayed, TellEvents, opened_after}
-use Rattle.swap_commands.specs.Faults.{of_offer}
-use Rattle.swap_commands.proofs.Ahead.{part_on, too_long_on}
-use Rattle.swap_commands.proofs.Streams.{IsStepAt, Led, led_none, led_on_at, led_to_end, led_to_fault_at, led_to_last}
+use Rattle.command_input.specs.Faults.{of_offer}
+use Rattle.command_input.proofs.Ahead.{part_on, too_long_on}
+use Rattle.command_input.proofs.Streams.{IsStepAt, Led, led_none, led_on_at, led_to_end, led_to_fault_at, led_to_last}
 
 -- What a walk gives that goes on, and one that stops.
 

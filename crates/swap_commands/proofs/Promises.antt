@@ -1,6 +1,5 @@
 -- What a run, a race and a check promise of what they wrote.
-use Rattle.std.proofs.Common.{◌≡◌, ℕ, Bool, false, List, [], ◌∷◌, fold, Result, Ok, Err, refl}
-use Rattle.std.proofs.Common.{sym, ap, ap₂, ◌∙◌, subst, arith}
+use Rattle.std.proofs.Common.{◌≡◌, ℕ, Bool, false, List, [], ◌∷◌, fold, Result, Ok, Err, refl, sym, ap, ap₂, ◌∙◌, subst, arith}
 use Rattle.swap_base.specs.Fault.{◌>>=◌, steps}
 use Rattle.ledger_core.specs.declared.entry.Entry.{Entry}
 use Rattle.ledger_core.specs.History.{IsLegal}
@@ -29,7 +28,7 @@ use Rattle.swap_gen.specs.Made.{made}
 use Rattle.made_jobs.specs.Making.{copied, line_step, with_line, written_line, IsMade}
 use Rattle.made_jobs.proofs.Copying.{lines_put}
 use Rattle.offer_fields.proofs.Chains.{went}
-use Rattle.audit_command.specs.Output.{Written}
+use Rattle.command_input.specs.Written.{Written}
 use Rattle.swap_commands.specs.Output.{AreGiven, cast_by, state_of, book_of, check_text, finished, report_for, reported, told}
 use Rattle.swap_commands.specs.Promised.{IsPromised, IsRace, IsRun, IsCheck, IsMaking}
 use Rattle.party_threads.specs.Race.{IsRaceBook}

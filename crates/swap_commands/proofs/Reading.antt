@@ -1,7 +1,6 @@
 -- What is said against an input that is read line by line.
 use Rattle.std.proofs.Common.{◌≡◌, ◌≤◌, ℕ, Bool, true, false, List, [], ◌∷◌, ◌++◌, length, Option, Result, Ok, Err, refl, sym, ap, ◌∙◌, subst}
-use Rattle.std.proofs.Common.{arith, append_assoc}
-use Rattle.std.proofs.Common.{append-nil}
+use Rattle.std.proofs.Common.{arith, append_assoc, append-nil}
 use Rattle.swap_base.specs.Fault.{◌>>=◌, Fails}
 use Rattle.swap_base.specs.declared.fault.Fault.{Fault}
 use Rattle.swap_base.specs.declared.fault.Fault.TheVariants as offer
@@ -16,19 +15,19 @@ use Rattle.refusals.specs.declared.reason.Reason.TheVariants.{NotJson}
 use Rattle.refusals.specs.declared.refusal.Refusal.{Refusal}
 use Rattle.refusals.specs.Refusal.{named}
 use Rattle.refusals.proofs.Named.{named_err}
-use Rattle.swap_offer.specs.Lines.{lines_of, filled_lines}
+use Rattle.command_input.specs.Lines.{lines_of, filled_lines}
 use Rattle.swap_offer.specs.Job.{job_header_of, job_of, names_at, names_in, of_lines as lines_read}
 use Rattle.swap_run.specs.Run.{State, start, step}
 use Rattle.swap_run.specs.Asked.{Answers}
 use Rattle.swap_world.specs.Cast.{cast_of}
 use Rattle.swap_world.specs.Gone.{Gives as MayGive}
-use Rattle.swap_commands.specs.declared.fault.InputFault.{InputFault}
-use Rattle.swap_commands.specs.declared.fault.InputFault.TheVariants.{Refused, ReadFault, TooLong, NoMemory}
+use Rattle.command_input.specs.declared.fault.InputFault.{InputFault}
+use Rattle.command_input.specs.declared.fault.InputFault.TheVariants.{Refused, ReadFault, TooLong, NoMemory}
 use Rattle.swap_commands.specs.declared.words.Command.TheVariants.{OfJob}
 use Rattle.swap_commands.specs.declared.words.JobCommand.{JobCommand}
 use Rattle.swap_commands.specs.declared.words.JobCommand.TheVariants.{Check, Run, Race, Make}
-use Rattle.swap_commands.specs.Faults.{named_fault, of_offer}
-use Rattle.swap_commands.specs.Input.{At, CanCome, Ends, EndsAt, Gives, IsLast, IsLine, Stops, Tells, ahead, fresh, limit}
+use Rattle.command_input.specs.Faults.{named_fault, of_offer}
+use Rattle.command_input.specs.Input.{At, CanCome, Ends, EndsAt, Gives, IsLast, IsLine, Stops, Tells, ahead, fresh, limit}
 use Rattle.swap_gen.specs.Made.{made}
 use Rattle.made_jobs.specs.Making.{copied, written_line}
 use Rattle.swap_commands.specs.Output.{Chance, by_answers, by_book, cast_by, finished, names_of, no_chance, output_by, purpose_of, reported, told, plain_text}
@@ -36,10 +35,10 @@ use Rattle.swap_commands.specs.Promised.{IsCheck, IsRace, IsRun, IsMaking}
 use Rattle.swap_commands.specs.Replay.{IsChecked, IsEntered, IsPlayed, IsRead, of_check, of_header, of_lines}
 use Rattle.swap_commands.specs.Replay.{of_race, of_run, passed_over, replayed, IsCopied, of_make}
 use Rattle.swap_commands.specs.Says.{IsAgainst}
-use Rattle.audit_command.specs.Output.{Written}
+use Rattle.command_input.specs.Written.{Written}
 use Rattle.swap_commands.proofs.Replays.{of_input, replay_fails}
-use Rattle.swap_commands.proofs.Ahead.{part_on, too_long_on}
-use Rattle.swap_commands.proofs.Streams.{last_of, line_of}
+use Rattle.command_input.proofs.Ahead.{part_on, too_long_on}
+use Rattle.command_input.proofs.Streams.{last_of, line_of}
 
 module _ (has : List ℕ → Bool) where
   -- The lines of an input, and what is written for them.

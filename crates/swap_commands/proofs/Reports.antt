@@ -10,8 +10,8 @@ use Rattle.swap_digraph.specs.Deal.{IsWellSized, most_arcs}
 use Rattle.ledger_core.specs.Book.{Histories, IsLegalBook}
 use Rattle.swap_job.specs.declared.job.Job.{Job}
 use Rattle.outcome_rules.specs.declared.report.Report.{Report}
+use Rattle.command_input.specs.Written.{IsWhole}
 use Rattle.swap_commands.specs.Output.{report_for, reported, run_text}
-use Rattle.swap_commands.specs.Says.{IsWhole}
 
 most : (v : Version) → most_arcs v ≤ 256
 most One = omega arith

@@ -24,16 +24,16 @@ use Rattle.outcome_rules.specs.Promises.{AllAreConforming}
 use Rattle.made_jobs.specs.Making.{IsMade}
 use Rattle.swap_commands.specs.Entered.{HasEntered}
 use Rattle.swap_commands.specs.Replay.{IsChecked, IsConcluded, IsEntered, IsPlayed, IsCopied}
-use Rattle.swap_commands.specs.Input.{Ends, At, IsDrained, IsPart, IsTooLong, Tells, fresh, limit}
+use Rattle.command_input.specs.Input.{Ends, At, IsDrained, IsPart, IsTooLong, Tells, fresh, limit}
 use Rattle.swap_commands.specs.Output.{AreGiven, Chance, by_answers, by_book, cast_by, finished, no_chance, output_by, reported, told, plain_text}
 use Rattle.swap_commands.specs.Promised.{AsPromised}
-use Rattle.swap_commands.specs.Says.{HasRead, HasReason, IsAgainst, Says, Unread, Writes}
-use Rattle.audit_command.specs.Output.{Written}
+use Rattle.swap_commands.specs.Says.{HasRead, HasReason, IsAgainst, Says, Unread}
+use Rattle.command_input.specs.Written.{Writes, Written}
 use Rattle.swap_commands.specs.declared.words.Command.{Command}
 use Rattle.swap_commands.specs.declared.words.Command.TheVariants.{OfJob}
 use Rattle.swap_commands.specs.declared.words.JobCommand.TheVariants.{Check, Run, Race, Make}
-use Rattle.swap_commands.specs.declared.status.Status.{Status}
-use Rattle.swap_commands.specs.declared.status.Status.TheVariants.{Done, Named, WrongWords, Refused, ReadFault, WriteFault, NoMemory, TooLong}
+use Rattle.command_input.specs.declared.status.Status.{Status}
+use Rattle.command_input.specs.declared.status.Status.TheVariants.{Done, Named, WrongWords, Refused, ReadFault, WriteFault, NoMemory, TooLong}
 use Rattle.swap_commands.proofs.Promises.{is_check, is_race, is_run, is_making}
 use Rattle.swap_commands.proofs.Reading.{check_of_bytes, gives_check, gives_race, gives_run, is_within, race_of_bytes, run_of_bytes}
 use Rattle.swap_commands.proofs.Reading.{gives_make, making_of_bytes}

@@ -1,10 +1,10 @@
 -- An input of wishes: one line, and no further one that isn't blank.
 use Rattle.std.specs.Prelude.{◌≡◌, ℕ, List, [], ◌∷◌, Err}
 use Rattle.refusals.specs.declared.refusal.Refusal.{Refusal}
-use Rattle.swap_offer.specs.Lines.{lines_of, filled_lines}
-use Rattle.audit_command.specs.Output.{Written}
+use Rattle.command_input.specs.Lines.{lines_of, filled_lines}
+use Rattle.command_input.specs.Written.{Written}
 use Rattle.clear_line.specs.ClearedText.{IsClearedLine}
-use Rattle.swap_commands.specs.Input.{At, ahead}
+use Rattle.command_input.specs.Input.{At, ahead}
 use Rattle.swap_commands.specs.Output.{alone, plain_text}
 
 -- The input is one line of wishes, and the text is what is cleared of it.

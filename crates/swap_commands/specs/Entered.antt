@@ -11,7 +11,7 @@ use Rattle.swap_offer.specs.Job.{IsWhole}
 use Rattle.swap_offer.specs.Wallets.{HaveScripts, HaveWallets}
 use Rattle.swap_world.specs.Gone.{Gives}
 use Rattle.swap_world.specs.Actors.{AreHeld}
-use Rattle.swap_commands.specs.Input.{limit}
+use Rattle.command_input.specs.Input.{limit}
 use Rattle.swap_commands.specs.Replay.{IsEntered}
 use Rattle.swap_commands.specs.Says.{Says}
 use Rattle.swap_commands.specs.Words.{is_race}

@@ -7,17 +7,17 @@ use Rattle.swap_rules.specs.Accepted.{IsAccepted}
 use Rattle.swap_rules.specs.Outcome.{IsEnded}
 use Rattle.swap_gen.specs.Drawn.{generated}
 use Rattle.made_jobs.specs.Generating.{generated_book, generated_summary, generated_text, is_found}
-use Rattle.audit_command.specs.Output.{Written}
+use Rattle.command_input.specs.Written.{Writes, Written}
 use Rattle.swap_world.specs.Gone.{Gives}
 use Rattle.swap_commands.specs.Output.{plain_text, report_for}
 use Rattle.swap_commands.specs.Promised.{IsPromised}
-use Rattle.swap_commands.specs.Says.{Says, Writes}
+use Rattle.swap_commands.specs.Says.{Says}
 use Rattle.swap_commands.specs.Words.{request_of}
 use Rattle.swap_commands.specs.declared.words.Request.{Request}
 use Rattle.swap_commands.specs.declared.words.Task.{Task}
 use Rattle.swap_commands.specs.declared.words.Task.TheVariants.{Input, Number}
-use Rattle.swap_commands.specs.declared.status.Status.{Status}
-use Rattle.swap_commands.specs.declared.status.Status.TheVariants.{NoMemory}
+use Rattle.command_input.specs.declared.status.Status.{Status}
+use Rattle.command_input.specs.declared.status.Status.TheVariants.{NoMemory}
 
 -- the job with its events
 abbrev pub text_output : Request → Written

@@ -3,8 +3,6 @@ pub mod Many
 pub mod Output
 pub mod Cleared
 pub mod Promised
-pub mod Faults
-pub mod Input
 pub mod Replay
 pub mod ManyRead
 pub mod Says

@@ -6,7 +6,7 @@ use Rattle.swap_job.specs.declared.job.Finish.TheVariants.{Stop, Fair}
 use Rattle.refusals.specs.declared.reason.Reason.TheVariants.{Overdrawn as LacksUnits}
 use Rattle.refusals.specs.declared.refusal.Refusal.{Refusal}
 use Rattle.refusals.specs.Refusal.{refusal}
-use Rattle.swap_offer.specs.Lines.{lines_of, filled_lines}
+use Rattle.command_input.specs.Lines.{lines_of, filled_lines}
 use Rattle.swap_run.specs.Asked.{Answers}
 use Rattle.swap_many.specs.Chains.{Setup}
 use Rattle.swap_many.specs.Many.{Run, many_run, many_finish}
@@ -21,7 +21,7 @@ use Rattle.many_lines.specs.Event.{next_told}
 use Rattle.many_lines.specs.Setup.{setup_by}
 use Rattle.many_lines.specs.declared.many_job.ManyJob.{ManyJob}
 use Rattle.many_text.specs.ManyText.{has_finding, many_text}
-use Rattle.audit_command.specs.Output.{Written}
+use Rattle.command_input.specs.Written.{Written}
 
 -- Several swaps, what is done after the last event, and the lines of the events.
 pub record Headed : Type 0 where

@@ -7,7 +7,7 @@ use Rattle.swap_base.specs.declared.fault.Fault.TheVariants.{Refused, NoMemory}
 use Rattle.swap_job.specs.declared.job.Finish.{Finish}
 use Rattle.refusals.specs.declared.refusal.Refusal.{Refusal}
 use Rattle.swap_io.specs.Lines.{Took}
-use Rattle.swap_offer.specs.Lines.{lines_of, filled_lines}
+use Rattle.command_input.specs.Lines.{lines_of, filled_lines}
 use Rattle.swap_run.specs.Asked.{Answers}
 use Rattle.swap_world.specs.Gone.{Gives}
 use Rattle.swap_world.specs.Value.{new_world}
@@ -23,7 +23,7 @@ use Rattle.many_lines.specs.Heading.{HeadingState}
 use Rattle.many_lines.specs.Setup.{MayCome, setup_by}
 use Rattle.many_lines.specs.declared.many_job.ManyJob.{ManyJob}
 use Rattle.many_lines.specs.declared.stage.Stage.TheVariants.{Over}
-use Rattle.swap_commands.specs.Input.{At, CanCome, Ends, ahead, fresh}
+use Rattle.command_input.specs.Input.{At, CanCome, Ends, ahead, fresh}
 use Rattle.swap_commands.specs.Many.{events_told, headed, opened, overdrawn_by}
 
 -- The lines up to that of the finish were read: whatever comes after them are the lines of the events.

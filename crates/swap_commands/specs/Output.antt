@@ -12,14 +12,14 @@ use Rattle.outcome_rules.specs.declared.report.Report.{Report}
 use Rattle.outcome_rules.specs.Report.{report_of}
 use Rattle.report_text.specs.Report.{report}
 use Rattle.transcript_lines.specs.Lines.{transcript as transcript_text}
-use Rattle.audit_command.specs.Output.{Written, audit_of}
+use Rattle.audit_command.specs.Output.{audit_of}
 use Rattle.refusals.specs.declared.reason.Reason.{Reason}
 use Rattle.refusals.specs.declared.reason.Reason.TheVariants.{BadLine, NotJson}
 use Rattle.clear_line.specs.ClearedText.{cleared_line}
 use Rattle.refusals.specs.declared.refusal.Refusal.{Refusal}
 use Rattle.swap_job.specs.declared.job.Purpose.{Purpose}
 use Rattle.swap_offer.specs.Checks.{need_of}
-use Rattle.swap_offer.specs.Lines.{lines_of, filled_lines}
+use Rattle.command_input.specs.Lines.{lines_of, filled_lines}
 use Rattle.swap_offer.specs.Job.{job_of, names_of_offer}
 use Rattle.made_jobs.specs.Making.{made_text}
 use Rattle.swap_job.specs.declared.job.Finish.{Finish}
@@ -29,6 +29,7 @@ use Rattle.swap_run.specs.Run.{Cast, Question, State, run}
 use Rattle.swap_run.specs.Fair.{finish}
 use Rattle.swap_world.specs.Cast.{cast_of}
 use Rattle.swap_world.specs.Gone.{Gives}
+use Rattle.command_input.specs.Written.{Written}
 use Rattle.swap_commands.specs.declared.words.Command.{Command}
 use Rattle.swap_commands.specs.declared.words.Command.TheVariants.{OfJob, Audit, Clear, Many}
 use Rattle.swap_commands.specs.Many.{many_output}

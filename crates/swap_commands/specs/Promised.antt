@@ -18,11 +18,11 @@ use Rattle.outcome_rules.specs.declared.report.Report.{Report}
 use Rattle.outcome_rules.specs.Report.{conforms_in}
 use Rattle.outcome_rules.specs.Promises.{AllAreConforming, AllAreWhole, AllHaveRefunds, NoneIsUnderwater, shown_outcome}
 use Rattle.swap_auditor.specs.Audit.{UnitsAddUp}
-use Rattle.audit_command.specs.Output.{Written}
+use Rattle.command_input.specs.Written.{Written}
 use Rattle.audit_command.specs.Promised.{IsAudit}
 use Rattle.refusals.specs.declared.reason.Reason.{Reason}
 use Rattle.swap_offer.specs.Job.{job_of}
-use Rattle.swap_offer.specs.Lines.{lines_of, filled_lines}
+use Rattle.command_input.specs.Lines.{lines_of, filled_lines}
 use Rattle.swap_many.specs.Chains.{Setup}
 use Rattle.swap_many.specs.Many.{Run as ManyRun}
 use Rattle.swap_many.specs.Kept.{Kept}

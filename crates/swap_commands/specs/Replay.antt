@@ -8,7 +8,7 @@ use Rattle.swap_job.specs.declared.job.Purpose.TheVariants as purposes
 use Rattle.refusals.specs.declared.reason.Reason.{Reason}
 use Rattle.refusals.specs.declared.reason.Reason.TheVariants.{NotJson}
 use Rattle.swap_offer.specs.Job.{events_of, next_of, job_header_of}
-use Rattle.swap_offer.specs.Lines.{lines_of, filled_lines}
+use Rattle.command_input.specs.Lines.{lines_of, filled_lines}
 use Rattle.swap_run.specs.Asked.{Answers}
 use Rattle.swap_run.specs.Run.{State, step, start}
 use Rattle.ledger_core.specs.Book.{Histories}
@@ -18,7 +18,7 @@ use Rattle.swap_world.specs.Value.{Continues, WorldState}
 use Rattle.swap_gen.specs.Made.{made}
 use Rattle.made_jobs.specs.Making.{copied, written_line}
 use Rattle.swap_commands.specs.Output.{AreGiven, Chance, cast_by, finished, plain_text, reported, told}
-use Rattle.audit_command.specs.Output.{Written}
+use Rattle.command_input.specs.Written.{Written}
 use Rattle.swap_commands.specs.declared.words.JobCommand.{JobCommand}
 use Rattle.swap_commands.specs.declared.words.JobCommand.TheVariants.{Check, Run, Race, Make}
 

@@ -1,20 +1,18 @@
 -- What a command's status says, where output_of and names_of tell what the command writes for an input.
 use Rattle.std.specs.Prelude.{◌≡◌, ◌≤◌, ◌+◌, ◌⊎◌, ℕ, Bool, true, false, List, length, Option, Result, Ok, Err}
-use Rattle.std.specs.Io.KnownBytes.{Appends, Consumes, IsAtEnd, Keeps}
+use Rattle.std.specs.Io.KnownBytes.{Consumes, IsAtEnd, Keeps}
 use Rattle.swap_io.specs.Causes.{Rose, ConsumesAtMost, ConsumesSome, AppendsProperPrefix}
 use Rattle.swap_io.specs.Handed.{AppendsPrefix}
 use Rattle.refusals.specs.declared.reason.Reason.{Reason}
 use Rattle.refusals.specs.declared.refusal.Refusal.{Refusal}
-use Rattle.audit_command.specs.Output.{Written}
-use Rattle.audit_command.specs.declared.ending.AuditEnding.{AuditEnding}
-use Rattle.audit_command.specs.declared.ending.AuditEnding.TheVariants as ending
-use Rattle.swap_commands.specs.Input.{limit}
+use Rattle.command_input.specs.Written.{IsWhole, Written}
+use Rattle.command_input.specs.Input.{limit}
 use Rattle.swap_world.specs.Gone.{Gives}
 use Rattle.swap_commands.specs.Output.{Chance, output_by, output_of, no_chance, names_of}
 use Rattle.swap_commands.specs.Promised.{AsPromised}
 use Rattle.swap_commands.specs.declared.words.Command.{Command}
-use Rattle.swap_commands.specs.declared.status.Status.{Status}
-use Rattle.swap_commands.specs.declared.status.Status.TheVariants.{Done, Named, WrongWords, Refused, ReadFault, WriteFault, NoMemory, TooLong}
+use Rattle.command_input.specs.declared.status.Status.{Status}
+use Rattle.command_input.specs.declared.status.Status.TheVariants.{Done, Named, WrongWords, Refused, ReadFault, WriteFault, NoMemory, TooLong}
 
 -- The whole input was read, and this is the command's output for it, where chance decides so.
 pub record HasRead (has : List ℕ → Bool) (chance : Chance) (command : Command) (left left' : Option (List ℕ)) (output : Result Written Reason) : Type 0 where
@@ -32,10 +30,6 @@ pub record HasOutput (has : List ℕ → Bool) (gives : Gives) (P : Written → 
   pub promised : AsPromised has gives chance command read.input output
   pub written : P output
 
--- the text was written whole, and this says whether something was found
-abbrev pub IsWhole : Option (List ℕ) → Option (List ℕ) → Bool → Written → Type 0
-IsWhole taken taken' found output = Appends taken taken' output.text × (output.found ≡ found)
-
 -- The input was read and is refused for the reason, and these are the names in its header.
 pub record HasReason (has : List ℕ → Bool) (command : Command) (left left' : Option (List ℕ)) (reason : Reason) (names : List (List ℕ)) : Type 0 where
   pub read : HasRead has no_chance command left left' (Err reason)
@@ -44,17 +38,6 @@ pub record HasReason (has : List ℕ → Bool) (command : Command) (left left' :
 -- a reason against an input, with the names in its header
 abbrev pub IsAgainst : (List ℕ → Bool) → Command → List ℕ → Refusal → Type 0
 IsAgainst has command input refusal = (output_of has command input ≡ Err refusal.reason) × (refusal.names ≡ names_of has command input)
-
--- what a status says of an output that is written, by what the sink took and how many of its calls failed
-abbrev pub Writes : Option (List ℕ) → Option (List ℕ) → ℕ → ℕ → Written → Status → Type 0
-Writes taken taken' p q output Done = IsWhole taken taken' false output
-Writes taken taken' p q output Named = IsWhole taken taken' true output
-Writes taken taken' p q output WriteFault = Rose p q × AppendsProperPrefix taken taken' output.text
-Writes taken taken' p q output NoMemory = AppendsPrefix taken taken' output.text
-Writes taken taken' p q output WrongWords = ⊥
-Writes taken taken' p q output (Refused reason names) = ⊥
-Writes taken taken' p q output ReadFault = ⊥
-Writes taken taken' p q output TooLong = ⊥
 
 -- what a status says of an input whose reading stopped
 abbrev pub Unread : (List ℕ → Bool) → Command → Option (List ℕ) → Option (List ℕ) → ℕ → ℕ → Status → Type 0
@@ -79,13 +62,3 @@ Says has gives command left left' n m taken taken' p q WriteFault =
 Says has gives command left left' n m taken taken' p q NoMemory =
     (Keeps taken taken' × ConsumesAtMost left left' limit) ⊎ HasOutput has gives (λ output. AppendsPrefix taken taken' output.text) command left left'
 Says has gives command left left' n m taken taken' p q TooLong = ConsumesSome left left' (limit + 1) × Keeps taken taken'
-
--- the status of an audit, by its ending
-abbrev pub status_by : AuditEnding → Status
-status_by ending.Done = Done
-status_by ending.Named = Named
-status_by (ending.Refused refusal) = Refused refusal.reason refusal.names
-status_by ending.ReadFault = ReadFault
-status_by ending.WriteFault = WriteFault
-status_by ending.NoMemory = NoMemory
-status_by ending.TooLong = TooLong

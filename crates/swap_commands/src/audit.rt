@@ -2,29 +2,14 @@
 
 ghost use Rattle.std.specs.Prelude.{◌≡◌};
 ghost use Rattle.offer_header.specs.Names.{has_strategy};
-ghost use Rattle.swap_commands.specs.Says.{Says, status_by};
+ghost use Rattle.swap_commands.specs.Says.{Says};
 
-use crate::status::Status;
 use crate::words::Command;
-use audit_command::{AuditEnding, audit_transcript};
+use audit_command::audit_transcript;
+use command_input::Status;
 use deviators::{Kit, Strategies};
 use std::alloc::Global;
 use swap_io::{Sink, Source};
-
-/// The status of an audit, by its ending.
-fn status_by(ending: AuditEnding) -> Status
-    ensures { result ≡ status_by ending }
-{
-    match ending {
-        AuditEnding::Done => Status::Done,
-        AuditEnding::Named => Status::Named,
-        AuditEnding::Refused(refusal) => Status::Refused(refusal.reason, refusal.names),
-        AuditEnding::ReadFault => Status::ReadFault,
-        AuditEnding::WriteFault => Status::WriteFault,
-        AuditEnding::NoMemory => Status::NoMemory,
-        AuditEnding::TooLong => Status::TooLong,
-    }
-}
 
 /// Audits a transcript, in which no strategy is asked.
 pub(crate) fn audit<S: Source, K: Sink>(
@@ -38,5 +23,5 @@ pub(crate) fn audit<S: Source, K: Sink>(
         (K.faults sink.old) (K.faults sink.new) result }
     ensures calm { ¬ (result ≡ Status.ReadFault) → S.faults source.new ≡ S.faults source.old }
 {
-    status_by(audit_transcript(alloc, source, sink))
+    audit_transcript(alloc, source, sink)
 }

@@ -4,16 +4,14 @@ ghost use Rattle.std.specs.Prelude.{◌≡◌, ◌≤◌, ℕ, Bool, List, IfOk,
 ghost use Rattle.clear_line.specs.ClearedText.{IsClearedLine};
 ghost use Rattle.offer_header.specs.Names.{has_strategy};
 ghost use Rattle.swap_commands.specs.Cleared.{IsCleared, IsFurther};
-ghost use Rattle.swap_commands.specs.Input.{Ends, EndsAt, IsLast, IsLine, Stops, fresh, limit};
+ghost use Rattle.command_input.specs.Input.{Ends, EndsAt, IsLast, IsLine, Stops, fresh, limit};
 ghost use Rattle.swap_commands.specs.Says.{IsAgainst, Says};
 
-use crate::fault::{InputFault, empty};
-use crate::input::Input;
 use crate::make::tell;
-use crate::status::Status;
 use crate::stop::stop;
 use crate::words::Command;
 use clear_line::cleared_line;
+use command_input::{Input, InputFault, Status, no_line};
 use deviators::{Kit, Strategies};
 use refusals::{Reason, Refusal};
 use std::alloc::Global;
@@ -37,7 +35,7 @@ fn first_wishes<S: Source>(
     ensures calm { ¬ IsErrOf result InputFault.ReadFault → S.faults source.new ≡ S.faults source.old }
 {
     if !input.next(source)? {
-        return Err(empty(alloc));
+        return Err(no_line(alloc));
     }
     match cleared_line(alloc, input.number(), input.text()) {
         Ok(text) => Ok(text),

@@ -2,13 +2,13 @@
 
 ghost use Rattle.std.specs.Prelude.{◌≡◌, ◌≤◌};
 ghost use Rattle.std.specs.Io.KnownBytes.{Keeps};
-ghost use Rattle.swap_commands.specs.Says.{Writes};
+ghost use Rattle.command_input.specs.Written.{Writes};
 ghost use Rattle.swap_commands.specs.Generated.{IsMadeFor, IsSummary, summary_output, text_output};
 ghost use Rattle.swap_gen.specs.Drawn.{generated};
 ghost use Rattle.made_jobs.specs.Generating.{generated_book};
 
-use crate::status::Status;
 use crate::words::Request;
+use command_input::Status;
 use made_jobs::{Summary, summarize, write_generated};
 use std::alloc::Global;
 use swap_io::{Sink, TextFault, write_all};

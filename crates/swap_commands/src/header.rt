@@ -6,13 +6,12 @@ ghost use Rattle.offer_header.specs.Names.{AreNames, has_strategy};
 ghost use Rattle.swap_offer.specs.Checks.{need_of, IsAcceptedFor};
 ghost use Rattle.swap_offer.specs.Job.{IsWhole, job_header_of, names_at};
 ghost use Rattle.swap_offer.specs.Wallets.{HaveScriptsFor, HaveSeedsFor, HaveWalletsFor, wallets_for};
-ghost use Rattle.swap_commands.specs.Input.{EndsAt, IsLine, Stops, fresh, limit};
+ghost use Rattle.command_input.specs.Input.{EndsAt, IsLine, Stops, fresh, limit};
 ghost use Rattle.swap_commands.specs.Output.{purpose_of};
 ghost use Rattle.swap_commands.specs.Says.{IsAgainst};
 
-use crate::fault::{InputFault, empty};
-use crate::input::Input;
 use crate::words::{Command, JobCommand, purpose_of};
+use command_input::{Input, InputFault, no_line};
 use deviators::Kit;
 use refusals::Refusal;
 use std::alloc::Global;
@@ -52,7 +51,7 @@ pub(crate) fn first_line<S: Source>(
     ensures calm { ¬ IsErrOf result InputFault.ReadFault → S.faults source.new ≡ S.faults source.old }
 {
     if !input.next(source)? {
-        return Err(empty(alloc));
+        return Err(no_line(alloc));
     }
     let number = input.number();
     let prepared = read_header(alloc, number, input.text(), purpose_of(command), kit)?;

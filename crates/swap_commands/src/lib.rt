@@ -2,29 +2,25 @@
 //!
 //! Read `specs/Output.antt` first: what is written for an input (of several swaps, `specs/Many.antt`); then `specs/Promised.antt`: what is promised of the
 //! histories that a report shows; then `specs/Says.antt`: what each status says of a command.
-//! A job is read line by line (`specs/Input.antt`), and each command has a file of its own, whose function says `Says`.
+//! A job is read line by line (`Input.antt` of `command_input`), and each command has a file of its own, whose function says `Says`.
 #![tactic(auto)]
 
 mod audit;
 mod check;
 mod clear;
-mod fault;
 mod finish;
 mod generating;
 mod header;
-mod input;
 mod make;
 mod many;
 mod racing;
 mod replay;
 mod run;
 mod staff;
-mod status;
 mod stop;
 mod words;
 
 pub use generating::generate;
 pub use racing::race;
 pub use staff::{Obeyed, Staff};
-pub use status::Status;
 pub use words::{Command, JobCommand, Request, Task, race_in, task_of};

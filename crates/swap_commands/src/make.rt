@@ -3,17 +3,16 @@
 ghost use Rattle.std.specs.Prelude.{◌≡◌, ◌≤◌, IfOk, IfErr, OnOk, Ok, Err, IsErrOf};
 ghost use Rattle.made_jobs.specs.Making.{copied, IsMade};
 ghost use Rattle.offer_header.specs.Names.{has_strategy};
-ghost use Rattle.swap_commands.specs.Input.{Ends, EndsAt, Stops, ahead, fresh};
+ghost use Rattle.command_input.specs.Input.{Ends, EndsAt, Stops, ahead, fresh};
+ghost use Rattle.command_input.specs.Written.{Writes};
 ghost use Rattle.swap_commands.specs.Output.{plain_text};
 ghost use Rattle.swap_commands.specs.Replay.{IsCopied};
-ghost use Rattle.swap_commands.specs.Says.{IsAgainst, Says, Writes};
+ghost use Rattle.swap_commands.specs.Says.{IsAgainst, Says};
 
-use crate::fault::InputFault;
 use crate::header::first_line;
-use crate::input::Input;
-use crate::status::Status;
 use crate::stop::stop;
 use crate::words::{Command, JobCommand};
+use command_input::{Input, InputFault, Status};
 use deviators::{Kit, Strategies};
 use made_jobs::{copy_line, made_line};
 use refusals::{Reason, Refusal};

@@ -13,12 +13,11 @@ ghost use Rattle.swap_world.specs.Cast.{cast_of};
 ghost use Rattle.swap_world.specs.Gone.{HasAsked};
 ghost use Rattle.swap_world.specs.Actors.{AreHeld};
 ghost use Rattle.swap_world.specs.Value.{Continues, new_world};
-ghost use Rattle.swap_commands.specs.Input.{Ends, EndsAt, Stops, ahead, limit};
+ghost use Rattle.command_input.specs.Input.{Ends, EndsAt, Stops, ahead, limit};
 ghost use Rattle.swap_commands.specs.Output.{cast_by};
 ghost use Rattle.swap_commands.specs.Replay.{replayed, next_by, passed_over, IsOf};
 
-use crate::fault::InputFault;
-use crate::input::Input;
+use command_input::{Input, InputFault};
 use deviators::Strategies;
 use party_wallet::Wallet;
 use refusals::{OfferFault, Reason};

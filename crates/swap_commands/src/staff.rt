@@ -3,20 +3,19 @@
 ghost use Rattle.std.specs.Prelude.{◌≡◌};
 ghost use Rattle.offer_header.specs.Names.{has_strategy};
 ghost use Rattle.swap_commands.specs.declared.words.Command.{Command};
-ghost use Rattle.swap_commands.specs.Input.{fresh};
+ghost use Rattle.command_input.specs.Input.{fresh};
 ghost use Rattle.swap_commands.specs.Entered.{Obeys};
 
 use crate::audit::audit;
 use crate::check::check;
 use crate::clear::clear;
-use crate::input::Input;
 use crate::make::make;
 use crate::many::many;
 use crate::racing::enter;
 use crate::run::run;
-use crate::status::Status;
 use crate::stop::stop;
 use crate::words::{Command, JobCommand};
+use command_input::{Input, Status};
 use deviators::{Kit, Strategies};
 use party_wallet::Wallet;
 use std::alloc::Global;

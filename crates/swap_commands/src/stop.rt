@@ -1,13 +1,11 @@
 //! What a command does where the reading of its input stopped.
 
 ghost use Rattle.std.specs.Prelude.{◌≤◌, ℕ, Bool, List, Option, ◌≡◌};
-ghost use Rattle.swap_commands.specs.Input.{Stops, fresh};
+ghost use Rattle.command_input.specs.Input.{Stops, fresh};
 ghost use Rattle.swap_commands.specs.Says.{IsAgainst, Unread};
 ghost use Rattle.swap_commands.specs.declared.words.Command.{Command};
 
-use crate::fault::InputFault;
-use crate::input::Input;
-use crate::status::Status;
+use command_input::{Input, InputFault, Status};
 use refusals::Refusal;
 use swap_io::{DrainFault, Source};
 

@@ -10,18 +10,17 @@ use Rattle.program_words.specs.declared.command.Command.{Command as Asked}
 use Rattle.program_words.specs.declared.command.Command.TheVariants as asked
 use Rattle.program_words.proofs.Ranges.{command_within}
 use Rattle.swap_commands.specs.Generated.{generated_output, AsRequested, Generates, IsMadeFor}
-use Rattle.swap_commands.specs.Says.{IsWhole, Writes}
 use Rattle.swap_main.specs.Top.{status_of}
 use Rattle.swap_commands.specs.Words.{asked_task, command_of, input_of, is_race, number_of, races, request_of, task_of, AsksRace, IsWithin}
-use Rattle.audit_command.specs.Output.{Written}
+use Rattle.command_input.specs.Written.{IsWhole, Writes, Written}
 use Rattle.swap_commands.specs.declared.words.Command.{Command}
 use Rattle.swap_commands.specs.declared.words.Command.TheVariants.{OfJob}
 use Rattle.swap_commands.specs.declared.words.JobCommand.TheVariants.{Race}
 use Rattle.swap_commands.specs.declared.words.Request.{Request}
 use Rattle.swap_commands.specs.declared.words.Task.{Task}
 use Rattle.swap_commands.specs.declared.words.Task.TheVariants.{Input, Number}
-use Rattle.swap_commands.specs.declared.status.Status.{Status}
-use Rattle.swap_commands.specs.declared.status.Status.TheVariants.{Done, Named, WrongWords, Refused, ReadFault, WriteFault, NoMemory, TooLong}
+use Rattle.command_input.specs.declared.status.Status.{Status}
+use Rattle.command_input.specs.declared.status.Status.TheVariants.{Done, Named, WrongWords, Refused, ReadFault, WriteFault, NoMemory, TooLong}
 
 -- The words' task.
 

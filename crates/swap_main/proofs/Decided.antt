@@ -27,8 +27,8 @@ use Rattle.swap_run.proofs.Asked.{runs_without_strategies, finishes_without_stra
 use Rattle.swap_run.proofs.Reached.{finish_events}
 use Rattle.swap_world.specs.Cast.{cast_of}
 use Rattle.swap_offer.specs.Job.{job_of}
-use Rattle.swap_offer.specs.Lines.{lines_of, filled_lines}
-use Rattle.audit_command.specs.Output.{Written}
+use Rattle.command_input.specs.Lines.{lines_of, filled_lines}
+use Rattle.command_input.specs.Written.{Written}
 use Rattle.swap_main.specs.Laws.{SameWithoutStrategies, RulesDecide}
 use Rattle.swap_main.specs.Known.{by_rule}
 use Rattle.swap_main.proofs.ManyTexts.{one_text}

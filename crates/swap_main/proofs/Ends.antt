@@ -4,15 +4,15 @@ use Rattle.std.proofs.Common.{sym, ap, ◌∙◌, subst, arith, length-append}
 use Rattle.std.specs.Io.KnownBytes.{Keeps}
 use Rattle.swap_io.specs.Causes.{Rose, ConsumesAtMost, ConsumesSome}
 use Rattle.refusals.specs.declared.reason.Reason.{Reason}
-use Rattle.swap_commands.specs.Input.{limit}
+use Rattle.command_input.specs.Input.{limit}
 use Rattle.swap_commands.specs.Words.{command_of}
-use Rattle.audit_command.specs.Output.{Written}
+use Rattle.command_input.specs.Written.{Written}
 use Rattle.swap_commands.specs.Output.{Chance, no_chance, output_by, output_of, names_of}
 use Rattle.swap_commands.specs.Says.{HasRead, Says}
 use Rattle.swap_main.specs.Top.{AsksFairRace, AsksFairRun, Read, IsDone, IsCut, IsRefused, IsShort, IsStatusOf}
 use Rattle.swap_commands.specs.declared.words.Command.{Command}
-use Rattle.swap_commands.specs.declared.status.Status.{Status}
-use Rattle.swap_commands.specs.declared.status.Status.TheVariants.{Done, Named, WrongWords, Refused, ReadFault, WriteFault, NoMemory, TooLong}
+use Rattle.command_input.specs.declared.status.Status.{Status}
+use Rattle.command_input.specs.declared.status.Status.TheVariants.{Done, Named, WrongWords, Refused, ReadFault, WriteFault, NoMemory, TooLong}
 use Rattle.swap_world.specs.Gone.{Gives}
 use Rattle.swap_commands.specs.Promised.{AsPromised}
 use Rattle.swap_main.proofs.Fairly.{all_read, fails_by, is_not_named, is_not_refused, race_is_not_named, race_is_not_refused}

@@ -10,7 +10,7 @@ use Rattle.swap_rules.specs.declared.finding.Finding.{Finding}
 use Rattle.outcome_rules.specs.Promises.{AllAreConforming}
 use Rattle.refusals.specs.declared.reason.Reason.{Reason}
 use Rattle.swap_offer.specs.Job.{job_of}
-use Rattle.audit_command.specs.Output.{Written}
+use Rattle.command_input.specs.Written.{Written}
 use Rattle.swap_commands.specs.declared.words.Command.{Command}
 use Rattle.swap_run.specs.Asked.{Answers}
 use Rattle.ledger_core.specs.Book.{Histories}
@@ -18,7 +18,7 @@ use Rattle.swap_world.specs.Gone.{Gives}
 use Rattle.swap_commands.specs.declared.words.Command.TheVariants.{OfJob, Audit, Clear, Many}
 use Rattle.swap_commands.specs.declared.words.JobCommand.TheVariants.{Check, Run, Race, Make}
 use Rattle.swap_commands.specs.Words.{command_of}
-use Rattle.swap_offer.specs.Lines.{lines_of, filled_lines}
+use Rattle.command_input.specs.Lines.{lines_of, filled_lines}
 use Rattle.swap_commands.specs.Output.{Chance, book_of, no_chance, output_by, output_for, output_of, report_for, reported}
 use Rattle.swap_commands.specs.Promised.{AsPromised, IsRace, IsRun}
 use Rattle.swap_commands.proofs.ManySaying.{many_fails_by}

@@ -4,7 +4,7 @@ use Rattle.swap_digraph.specs.declared.deal.Deal.{Deal}
 use Rattle.ledger_core.specs.declared.entry.Call.{Call}
 use Rattle.ledger_core.specs.Book.{Histories}
 use Rattle.refusals.specs.declared.refusal.Refusal.{Refusal}
-use Rattle.audit_command.specs.Output.{Written}
+use Rattle.command_input.specs.Written.{Written}
 use Rattle.swap_run.specs.Asked.{Answers, Rule}
 use Rattle.swap_many.specs.Kept.{Kept}
 use Rattle.swap_many.specs.declared.many_event.ManyEvent.{ManyEvent}

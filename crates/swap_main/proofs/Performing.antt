@@ -9,18 +9,17 @@ use Rattle.refusals.specs.declared.reason.Reason.{Reason}
 use Rattle.swap_world.specs.Gone.{Gives}
 use Rattle.swap_main.specs.Answer.{IsAnswer}
 use Rattle.swap_commands.specs.Generated.{generated_output, Generates, Performs}
-use Rattle.swap_commands.specs.Input.{limit}
+use Rattle.command_input.specs.Input.{limit}
 use Rattle.swap_commands.specs.Output.{output_of, names_of}
-use Rattle.swap_commands.specs.Says.{IsWhole}
 use Rattle.swap_main.specs.Top.{AsksFairRace, AsksFairRun, IsDone, IsCut, IsRefused, IsShort, IsStatusOf, status_of}
 use Rattle.swap_commands.specs.Words.{command_of, input_of, number_of, request_of, task_of}
-use Rattle.audit_command.specs.Output.{Written}
+use Rattle.command_input.specs.Written.{IsWhole, Written}
 use Rattle.swap_commands.specs.declared.words.Command.{Command}
 use Rattle.swap_commands.specs.declared.words.Request.{Request}
 use Rattle.swap_commands.specs.declared.words.Task.{Task}
 use Rattle.swap_commands.specs.declared.words.Task.TheVariants.{Input, Number}
-use Rattle.swap_commands.specs.declared.status.Status.{Status}
-use Rattle.swap_commands.specs.declared.status.Status.TheVariants.{Done, Named, WrongWords, Refused, ReadFault, WriteFault, NoMemory, TooLong}
+use Rattle.command_input.specs.declared.status.Status.{Status}
+use Rattle.command_input.specs.declared.status.Status.TheVariants.{Done, Named, WrongWords, Refused, ReadFault, WriteFault, NoMemory, TooLong}
 use Rattle.swap_commands.proofs.Saying.{none_consumed}
 use Rattle.swap_main.proofs.Asking as asking
 use Rattle.swap_main.proofs.Asking.{command_is, is_within, no_command, request_is}

@@ -1,6 +1,5 @@
 -- What is said of a command with some strategies, said with others that may answer as much.
-use Rattle.std.proofs.Common.{◌≡◌, ℕ, Bool, true, false, ◌||◌, inl, inr, List, [], ◌∷◌, length, Option, arith, refl, subst}
-use Rattle.std.proofs.Common.{Some, is_some, if◌then◌else◌}
+use Rattle.std.proofs.Common.{◌≡◌, ℕ, Bool, true, false, ◌||◌, inl, inr, List, [], ◌∷◌, length, Option, arith, refl, subst, Some, is_some, if◌then◌else◌}
 use Rattle.std.specs.List.{list_any}
 use Rattle.std.specs.Str.{bytes_eq}
 use Rattle.swap_digraph.specs.declared.deal.Deal.{Deal}
@@ -12,7 +11,7 @@ use Rattle.deviators.specs.Program.{program_names}
 use Rattle.swap_run.specs.Run.{Cast}
 use Rattle.swap_world.specs.Cast.{cast_of}
 use Rattle.swap_world.specs.Gone.{Gives}
-use Rattle.audit_command.specs.Output.{Written}
+use Rattle.command_input.specs.Written.{Written}
 use Rattle.many_lines.specs.Places.{job_at}
 use Rattle.party_threads.specs.Race.{IsRaceBook}
 use Rattle.party_threads.proofs.Others.{races_say_less}
@@ -26,8 +25,8 @@ use Rattle.swap_commands.specs.declared.staff.Obeyed.TheVariants.{Ended, Entered
 use Rattle.swap_commands.specs.declared.words.Command.{Command}
 use Rattle.swap_commands.specs.declared.words.Command.TheVariants.{OfJob, Audit, Clear, Many}
 use Rattle.swap_commands.specs.declared.words.JobCommand.TheVariants.{Check, Run, Race, Make}
-use Rattle.swap_commands.specs.declared.status.Status.{Status}
-use Rattle.swap_commands.specs.declared.status.Status.TheVariants.{Done, Named, WrongWords, Refused, ReadFault, WriteFault, NoMemory, TooLong}
+use Rattle.command_input.specs.declared.status.Status.{Status}
+use Rattle.command_input.specs.declared.status.Status.TheVariants.{Done, Named, WrongWords, Refused, ReadFault, WriteFault, NoMemory, TooLong}
 
 -- a kit with a strategy for each name has those of these names
 is_had : {A : Type 0} (names : List (List ℕ)) (xs : List A) (name : List ℕ) → length names ≡ length xs

@@ -4,17 +4,16 @@ use Rattle.std.specs.Io.KnownBytes.{Keeps}
 use Rattle.swap_io.specs.Causes.{AppendsProperPrefix, Rose, ConsumesAtMost, ConsumesSome}
 use Rattle.swap_io.specs.Handed.{AppendsPrefix}
 use Rattle.refusals.specs.declared.reason.Reason.{Reason}
-use Rattle.audit_command.specs.Output.{Written}
+use Rattle.command_input.specs.Written.{IsWhole, Written}
 use Rattle.swap_world.specs.Gone.{Gives}
 use Rattle.swap_commands.specs.declared.words.Command.{Command}
 use Rattle.swap_commands.specs.declared.words.Request.{Request}
-use Rattle.swap_commands.specs.declared.status.Status.{Status}
-use Rattle.swap_commands.specs.declared.status.Status.TheVariants.{Done, Named, Refused, ReadFault, WriteFault, NoMemory, TooLong}
+use Rattle.command_input.specs.declared.status.Status.{Status}
+use Rattle.command_input.specs.declared.status.Status.TheVariants.{Done, Named, Refused, ReadFault, WriteFault, NoMemory, TooLong}
 use Rattle.swap_commands.specs.Words.{command_of, request_of}
 use Rattle.swap_commands.specs.Output.{output_of, names_of}
 use Rattle.swap_commands.specs.Generated.{generated_output, Generates}
-use Rattle.swap_commands.specs.Input.{limit}
-use Rattle.swap_commands.specs.Says.{IsWhole}
+use Rattle.command_input.specs.Input.{limit}
 use Rattle.swap_main.specs.Top.{AsksFairRace, AsksFairRun, IsDone, IsCut, IsRefused, IsShort, IsStatusOf, status_of}
 
 -- What the program's answer promises, by its words, what is left of its input and what its output has taken, before and after, and how many of their calls

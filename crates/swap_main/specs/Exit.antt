@@ -1,12 +1,10 @@
 -- How the program ends: the number of its status, and what it tells on standard error.
 use Rattle.std.specs.Prelude.{◌≡◌, ℕ, List, [], ◌∷◌, codes}
 use Rattle.swap_base.specs.Text.{joined}
-use Rattle.refusals.specs.Line.{line_of}
-use Rattle.swap_main.specs.declared.exit.Exit.{Exit}
-use Rattle.swap_main.specs.declared.exit.Told.{Told}
-use Rattle.swap_main.specs.declared.exit.Told.TheVariants.{Words, Line}
-use Rattle.swap_commands.specs.declared.status.Status.{Status}
-use Rattle.swap_commands.specs.declared.status.Status.TheVariants.{Done, Named, WrongWords, Refused, ReadFault, WriteFault, NoMemory, TooLong}
+use Rattle.command_input.specs.declared.exit.Exit.{Exit}
+use Rattle.command_input.specs.declared.status.Status.{Status}
+use Rattle.command_input.specs.declared.status.Status.TheVariants.{Done, Named, WrongWords, Refused, ReadFault, WriteFault, NoMemory, TooLong}
+use Rattle.command_input.specs.Told.{refusal_text, told_text}
 
 -- the number of a status
 abbrev pub number_of : Status → ℕ
@@ -30,16 +28,11 @@ unfoldable pub lines_of : Status → List ℕ
 lines_of Done = []
 lines_of Named = []
 lines_of WrongWords = joined (codes "swap: wrong words\n" ∷ usage ∷ [])
-lines_of (Refused reason names) = joined (line_of names reason ∷ codes "\n" ∷ [])
+lines_of (Refused reason names) = refusal_text names reason
 lines_of ReadFault = codes "swap: read fault\n"
 lines_of WriteFault = codes "swap: write fault\n"
 lines_of NoMemory = codes "swap: no memory\n"
 lines_of TooLong = codes "swap: too long\n"
-
--- what is told, as a text
-abbrev pub told_text : Told → List ℕ
-told_text (Words words) = words.now
-told_text (Line line) = line
 
 -- the number of the status, and its lines
 pub record IsExit (exit : Exit) (status : Status) : Type 0 where

@@ -9,9 +9,10 @@ mod laws;
 mod program;
 mod top;
 
-pub use exit::{Exit, Told, ending};
+pub use command_input::{Exit, Status, Told};
+pub use exit::ending;
 pub use laws::the_text_is_determined;
 pub use program::Program;
 pub use refusals::refusal_line;
-pub use swap_commands::{Command, JobCommand, Obeyed, Request, Staff, Status, Task};
+pub use swap_commands::{Command, JobCommand, Obeyed, Request, Staff, Task};
 pub use top::{swap_plain, swap_top};

@@ -7,13 +7,14 @@ ghost use Rattle.deviators.specs.Program.{program_rule};
 ghost use Rattle.swap_commands.specs.Entered.{Obeys};
 ghost use Rattle.swap_main.specs.Known.{by_rule, is_known};
 
+use command_input::Status;
 use deviators::{
     Rule, Strategies, greedy_rule, program_kit, replayer_rule, silent_rule, spoiler_rule,
 };
 use ledger_core::{Book, Call};
 use std::alloc::Global;
 use swap_base::{ArcId, ByteText, NoMemory, PartyId};
-use swap_commands::{Command, Obeyed, Staff, Status};
+use swap_commands::{Command, Obeyed, Staff};
 use swap_digraph::Deal;
 use swap_io::{Sink, Source};
 

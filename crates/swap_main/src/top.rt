@@ -8,13 +8,12 @@ ghost use Rattle.swap_commands.specs.Generated.{Performs};
 ghost use Rattle.swap_commands.specs.Says.{Says};
 ghost use Rattle.swap_commands.specs.Words.{AsksRace, IsWithin, races, request_of};
 
+use command_input::Status;
 use party_threads::Gate;
 use std::alloc::Global;
 use std::sync::Wait;
 use std::thread::Threads;
-use swap_commands::{
-    Command, JobCommand, Obeyed, Staff, Status, Task, generate, race, race_in, task_of,
-};
+use swap_commands::{Command, JobCommand, Obeyed, Staff, Task, generate, race, race_in, task_of};
 use swap_io::{Sink, Source};
 
 /// Does what is asked for, where it is no race.

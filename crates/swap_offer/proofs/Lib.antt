@@ -2,7 +2,6 @@ pub mod Accepted
 pub mod Admitted
 pub mod Certified
 pub mod Events
-pub mod Filled
 pub mod Few
 pub mod Size
 pub mod Seeds

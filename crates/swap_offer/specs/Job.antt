@@ -11,7 +11,7 @@ use Rattle.offer_header.specs.Raw.{is_plain}
 use Rattle.offer_header.specs.Header.{header_of}
 use Rattle.offer_header.specs.Limits.{conforms}
 use Rattle.offer_events.specs.Event.{event_of}
-use Rattle.swap_offer.specs.Lines.{lines_of, filled_lines}
+use Rattle.command_input.specs.Lines.{lines_of, filled_lines}
 use Rattle.offer_header.specs.declared.header.Header.{Header}
 use Rattle.swap_offer.specs.Checks.{admitted, job_with}
 use Rattle.swap_offer.specs.Wallets.{seeded, walleted}

@@ -1,4 +1,3 @@
-pub mod Lines
 pub mod Checks
 pub mod Wallets
 pub mod Job

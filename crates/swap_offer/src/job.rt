@@ -13,8 +13,8 @@ ghost use Rattle.swap_offer.specs.Job.{next_of, counted, events_of, events_for, 
 ghost use Rattle.swap_offer.specs.Wallets.{AreSimpleRoles, HaveScriptsFor, HaveSeedsFor, HaveWalletsFor, IsUntoldJob};
 
 use crate::header::read_header;
-use crate::lines::filled_lines;
 use crate::prepared::Prepared;
+use command_input::filled_lines;
 use deviators::Kit;
 use offer_events::read_event;
 use offer_header::is_plain;

@@ -1,4 +1,4 @@
-//! Reads an offer: its lines, its header as an accepted deal, and its events.
+//! Reads an offer: its header as an accepted deal, and its events.
 //!
 //! Read `specs/Job.antt` first: `job_of` says what the bytes of an offer are, or the first reason against them.
 #![tactic(auto)]
@@ -7,14 +7,12 @@ mod checks;
 mod header;
 mod job;
 mod laws;
-mod lines;
 mod prepared;
 mod wallets;
 
 pub use header::read_header;
 pub use job::{count_event, next_event, read_job};
 pub use laws::admitted_is_accepted;
-pub use lines::{filled_lines, is_blank};
 pub use offer_events::read_event;
 pub use prepared::Prepared;
 pub use refusals::{HeaderFault, OfferFault, Reason};

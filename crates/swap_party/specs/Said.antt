@@ -13,10 +13,6 @@ use Rattle.party_answer.specs.Promised.{IsAnswer}
 use Rattle.party_main.specs.Exit.{reason_line}
 use Rattle.swap_party.specs.declared.said.Said.{Said}
 
--- the most bytes of a text that is read
-abbrev pub limit : ℕ
-limit = 16777216
-
 -- A text is put at the buffer's beginning where there is room for all of it, with that status. Else the status is 1 and the buffer stays as it was.
 -- Either way the length is the text's.
 pub record IsSaid (status : ℕ) (text old new : List ℕ) (said : Said) : Type 0 where

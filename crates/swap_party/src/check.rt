@@ -7,9 +7,11 @@ ghost use Rattle.refusals.specs.Refusal.{named};
 ghost use Rattle.swap_rules.specs.Accepted.{IsAccepted};
 ghost use Rattle.offer_header.specs.Names.{has_strategy};
 ghost use Rattle.swap_offer.specs.Job.{job_header_of, names_at};
-ghost use Rattle.swap_party.specs.Said.{header_said, limit, IsCheckSaid, IsNothing};
+ghost use Rattle.command_input.specs.Input.{limit};
+ghost use Rattle.swap_party.specs.Said.{header_said, IsCheckSaid, IsNothing};
 
-use crate::said::{DONE, LIMIT, NO_MEMORY, Said, TOO_LONG, say, say_nothing, say_reason};
+use crate::said::{DONE, NO_MEMORY, Said, TOO_LONG, say, say_nothing, say_reason};
+use command_input::INPUT_LIMIT;
 use deviators::Kit;
 use party_answer::AnswerReason;
 use refusals::HeaderFault;
@@ -44,7 +46,7 @@ pub extern "C" fn swap_party_check(alloc: Global, header: &[u8], out: &mut [u8])
     ensures long { limit < length header.now → IsNothing 7 out.old out.new result }
     ensures said { length header.now ≤ limit → IsCheckSaid (header_said header.now) out.old out.new result ⊎ IsNothing 6 out.old out.new result }
 {
-    if LIMIT < header.len() {
+    if INPUT_LIMIT < header.len() {
         return say_nothing(TOO_LONG);
     }
     match read_job(alloc, header) {

@@ -2,9 +2,11 @@
 
 ghost use Rattle.std.specs.Prelude.{◌⊎◌, ◌≤◌, ◌<◌, length};
 ghost use Rattle.party_answer.specs.Text.{answer_to};
-ghost use Rattle.swap_party.specs.Said.{limit, IsAnswerSaid, IsNothing};
+ghost use Rattle.command_input.specs.Input.{limit};
+ghost use Rattle.swap_party.specs.Said.{IsAnswerSaid, IsNothing};
 
-use crate::said::{DONE, LIMIT, NO_MEMORY, Said, TOO_LONG, say, say_nothing, say_reason};
+use crate::said::{DONE, NO_MEMORY, Said, TOO_LONG, say, say_nothing, say_reason};
+use command_input::INPUT_LIMIT;
 use party_answer::answer;
 use std::alloc::Global;
 use swap_base::{Digest, Fault};
@@ -23,7 +25,7 @@ pub extern "C" fn swap_party_next(
     ensures said { length text.now ≤ limit → IsAnswerSaid (record { name = name.now; seed = seed.now; text = text.now })
         (answer_to 1 name.now seed.now text.now) out.old out.new result ⊎ IsNothing 6 out.old out.new result }
 {
-    if LIMIT < text.len() {
+    if INPUT_LIMIT < text.len() {
         return say_nothing(TOO_LONG);
     }
     match answer(alloc, 1, name, seed, text) {

@@ -16,9 +16,6 @@ pub struct Said {
     pub length: usize,
 }
 
-/// The most bytes of a text that is read.
-pub(crate) const LIMIT: usize = 16_777_216;
-
 pub(crate) const DONE: u32 = 0;
 /// The buffer is too short for the text; nothing was put into it.
 const SHORT: u32 = 1;

@@ -15,6 +15,7 @@ use Rattle.transcript_book.specs.Stages.{BookSoFar, line_read, no_ledgers}
 use Rattle.transcript_book.specs.Books.{whole}
 use Rattle.transcript_book.proofs.Complete.{few_arcs, stated_from, whole_is_read}
 use Rattle.transcript_book.proofs.OneLine.{IsOneLine, book_lines}
+use Rattle.command_input.specs.Input.{limit}
 use Rattle.transcript_reader.specs.declared.reason.TranscriptReason.{TranscriptReason}
 use Rattle.transcript_reader.specs.declared.reason.TranscriptReason.TheVariants.{TooLong}
 use Rattle.transcript_reader.specs.declared.stage.Stage.TheVariants.{Header, Ledgers}
@@ -46,8 +47,8 @@ parts_of_lines (l ∷ ls) h =
 counted : (n k : ℕ) → more_bytes n k ≤ n + k
 counted n k = omega arith
 
-short : {A : Type 0} (m : ℕ) (r : Result A TranscriptReason) → m ≤ 16777216 → cond (nat_lt 16777216 m) (Err TooLong) r ≡ r
-short m r le = ap (λ t. cond t (Err TooLong) r) (le-ltb 16777216 m le)
+short : {A : Type 0} (m : ℕ) (r : Result A TranscriptReason) → m ≤ limit → cond (nat_lt limit m) (Err TooLong) r ≡ r
+short m r le = ap (λ t. cond t (Err TooLong) r) (le-ltb limit m le)
 
 -- ---- the ledgers
 
@@ -66,7 +67,7 @@ ended_length : (l : List ℕ) (ls : List (List ℕ)) → length (ended (l ∷ ls
 ended_length l ls = length-append (l ++ 10 ∷ []) (ended ls) ∙ ap (λ n. n + length (ended ls)) (length-append l (10 ∷ []))
 
 ledgers_back : (header : List ℕ → Result Job Refusal) (s : BookSoFar) (n m : ℕ) (ls : List (List ℕ)) (job : Job) (b : Histories)
-    → steps line_read s ls ≡ Ok (whole job b) → m + length (ended ls) ≤ 16777216
+    → steps line_read s ls ≡ Ok (whole job b) → m + length (ended ls) ≤ limit
     → parts_read header (at_stage (Ledgers s) n m) (ls ++ [] ∷ []) ≡ Ok (story job b)
 unfolding stage_after steps
 ledgers_back header s n m [] job b e le =
@@ -76,7 +77,7 @@ ledgers_back header s n m [] job b e le =
 ledgers_back header s n m (l ∷ ls) job b e le = by (line_read s l) refl e (λ u. ledgers_back header u (next_line n) (more_bytes m (length l + 1)) ls job b)
   where
     by : (r : Result BookSoFar Misspelling) → line_read s l ≡ r → (r >>= λ u. steps line_read u ls) ≡ Ok (whole job b)
-        → ((u : BookSoFar) → steps line_read u ls ≡ Ok (whole job b) → more_bytes m (length l + 1) + length (ended ls) ≤ 16777216
+        → ((u : BookSoFar) → steps line_read u ls ≡ Ok (whole job b) → more_bytes m (length l + 1) + length (ended ls) ≤ limit
         → parts_read header (at_stage (Ledgers u) (next_line n) (more_bytes m (length l + 1))) (ls ++ [] ∷ []) ≡ Ok (story job b))
         → parts_read header (at_stage (Ledgers s) n m) (l ∷ (ls ++ [] ∷ [])) ≡ Ok (story job b)
     by (Ok u) q k more =
@@ -96,7 +97,7 @@ ok_job (Ok j) job e = ap (λ (x : Job). Ok x) (some_is j job e)
 ok_job (Err refusal) job e = absurd (cc e)
 
 lines_back : (header : List ℕ → Result Job Refusal) (line : List ℕ) (ls : List (List ℕ)) (job : Job) (b : Histories) → header line ≡ Ok job
-    → steps line_read (no_ledgers job) ls ≡ Ok (whole job b) → length (ended (codes "swap transcript 1" ∷ line ∷ ls)) ≤ 16777216
+    → steps line_read (no_ledgers job) ls ≡ Ok (whole job b) → length (ended (codes "swap transcript 1" ∷ line ∷ ls)) ≤ limit
     → parts_read header no_lines (codes "swap transcript 1" ∷ line ∷ (ls ++ [] ∷ [])) ≡ Ok (story job b)
 unfolding stage_after
 lines_back header line ls job b gives e le =
@@ -118,4 +119,4 @@ whole_text_is_read header all job b w sized feedless le =
     ap (λ (x : List (List ℕ)). parts_read header no_lines (parts_at 10 (ended x))) w.lines
     ∙ ap (parts_read header no_lines) (parts_of_lines (codes "swap transcript 1" ∷ w.header ∷ ls) one_lines)
     ∙ lines_back header w.header ls job b (ok_job (header w.header) job w.gives) (whole_is_read job b sized w.stated)
-    (subst (λ (x : List (List ℕ)). length (ended x) ≤ 16777216) w.lines le)
+    (subst (λ (x : List (List ℕ)). length (ended x) ≤ limit) w.lines le)

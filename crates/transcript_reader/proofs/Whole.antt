@@ -17,6 +17,7 @@ use Rattle.transcript_book.specs.Stages.{BookSoFar, is_over, line_read, no_ledge
 use Rattle.transcript_book.specs.Books.{whole}
 use Rattle.transcript_book.proofs.Exact.{parts_some, parts_whole}
 use Rattle.transcript_book.proofs.Sound.{read_is_whole}
+use Rattle.command_input.specs.Input.{limit}
 use Rattle.transcript_reader.specs.declared.reason.TranscriptReason.{TranscriptReason}
 use Rattle.transcript_reader.specs.declared.reason.TranscriptReason.TheVariants.{BadLine, TooLong, CutShort, Header as BadHeader}
 use Rattle.transcript_reader.specs.declared.stage.Stage.{Stage}
@@ -37,7 +38,7 @@ bad_stands header reason n m (rest ∷ []) = refl
 bad_stands header reason n m (l ∷ next ∷ ps) = bad_stands header reason (next_line n) (more_bytes m (length l + 1)) (next ∷ ps)
 
 not_long : {A : Type 0} (m : ℕ) (r : Result A TranscriptReason) (y : A) → unless_long m r ≡ Ok y → r ≡ Ok y
-not_long m r y e = by (nat_lt 16777216 m) e
+not_long m r y e = by (nat_lt limit m) e
   where
     by : (t : Bool) → cond t (Err TooLong) r ≡ Ok y → r ≡ Ok y
     by true k = absurd (cc k)

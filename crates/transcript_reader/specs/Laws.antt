@@ -7,6 +7,7 @@ use Rattle.swap_job.specs.declared.job.Job.{Job}
 use Rattle.refusals.specs.declared.refusal.Refusal.{Refusal}
 use Rattle.transcript_lines.specs.Between.{ended}
 use Rattle.transcript_lines.specs.Lines.{IsWhole}
+use Rattle.command_input.specs.Input.{limit}
 use Rattle.transcript_reader.specs.Reading.{Story, transcript_read}
 
 abbrev pub ok_of : Result Job Refusal → Option Job
@@ -27,9 +28,9 @@ pub record IsWholeText (header : List ℕ → Result Job Refusal) (bytes : List 
 abbrev pub ReadIsWhole : Type 0
 ReadIsWhole = (header : List ℕ → Result Job Refusal) (bytes : List ℕ) (t : Story) → transcript_read header bytes ≡ Ok t → IsWholeText header bytes t
 
--- A whole transcript of at most 16,777,216 bytes, whose header line holds no line feed, gives its job and its book.
+-- A whole transcript of no more bytes than an input may have, whose header line holds no line feed, gives its job and its book.
 abbrev pub WholeIsRead : Type 0
 WholeIsRead =
     (header : List ℕ → Result Job Refusal) (ls : List (List ℕ)) (job : Job) (b : Histories) (whole : IsWhole (job_of header) ls job b) → IsWellSized job.deal
-    → list_all (λ x. not (x == 10)) whole.header ≡ true → length (ended ls) ≤ 16777216
+    → list_all (λ x. not (x == 10)) whole.header ≡ true → length (ended ls) ≤ limit
     → transcript_read header (ended ls) ≡ Ok (record { job = job; book = b })

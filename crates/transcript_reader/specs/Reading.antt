@@ -8,6 +8,7 @@ use Rattle.swap_job.specs.declared.job.Job.{Job}
 use Rattle.refusals.specs.declared.refusal.Refusal.{Refusal}
 use Rattle.transcript_lines.specs.Between.{parts_at}
 use Rattle.transcript_book.specs.Stages.{BookSoFar, is_over}
+use Rattle.command_input.specs.Input.{limit}
 use Rattle.transcript_reader.specs.declared.reason.TranscriptReason.{TranscriptReason}
 use Rattle.transcript_reader.specs.declared.reason.TranscriptReason.TheVariants.{BadLine, TooLong, CutShort}
 use Rattle.transcript_reader.specs.declared.stage.Stage.{Stage}
@@ -24,9 +25,9 @@ abbrev pub so_far : Stage → Result (Unit {0}) TranscriptReason
 so_far (Bad reason) = Err reason
 so_far _ = Ok tt
 
--- at most 16,777,216 bytes
+-- no more bytes than an input may have
 abbrev pub unless_long : {A : Type 0} → ℕ → Result A TranscriptReason → Result A TranscriptReason
-unless_long bytes answer = if nat_lt 16777216 bytes then Err TooLong else answer
+unless_long bytes answer = if nat_lt limit bytes then Err TooLong else answer
 
 abbrev pub story_so_far : BookSoFar → Story
 story_so_far s = record { job = s.job; book = s.book }

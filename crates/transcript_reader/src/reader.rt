@@ -8,15 +8,13 @@ ghost use Rattle.transcript_reader.specs.Stages.{no_lines, with_line};
 
 use crate::reason::{TranscriptFault, TranscriptReason};
 use crate::stage::Stage;
+use command_input::INPUT_LIMIT;
 use ledger_core::Book;
 use std::alloc::Global;
 use std::marker::Model;
 use swap_base::{Fault, TryCopy};
 use swap_job::Job;
 use transcript_book::BookReader;
-
-/// The most bytes of a transcript.
-const LIMIT: u64 = 16_777_216;
 
 /// Reads a transcript line by line. It keeps the book that the lines state, and none of their text.
 #[derive(Drop)]
@@ -89,7 +87,7 @@ impl TranscriptReader {
 fn cut_or_long(bytes: u64) -> TranscriptReason
     ensures { unless_long {A = Story} bytes (Err TranscriptReason.CutShort) ≡ Err result }
 {
-    if bytes > LIMIT {
+    if bytes > INPUT_LIMIT as u64 {
         TranscriptReason::TooLong
     } else {
         TranscriptReason::CutShort
@@ -111,7 +109,7 @@ fn wrong_at_end(
         Some(cut_or_long(bytes))
     } else if !rest.is_empty() {
         Some(TranscriptReason::BadLine(lines.saturating_add(1)))
-    } else if bytes > LIMIT {
+    } else if bytes > INPUT_LIMIT as u64 {
         Some(TranscriptReason::TooLong)
     } else {
         None

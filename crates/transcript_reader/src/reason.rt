@@ -9,7 +9,7 @@ use swap_base::{Fault, NoMemory, TryCopy};
 pub enum TranscriptReason {
     /// The first line that isn't of the form that stands next, or that states what doesn't fit the deal.
     BadLine(u32),
-    /// More than 16,777,216 bytes, where no line is bad.
+    /// More bytes than an input may have, where no line is bad.
     TooLong,
     /// The last line isn't there, where no line is bad.
     CutShort,

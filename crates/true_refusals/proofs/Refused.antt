@@ -16,9 +16,9 @@ use Rattle.offer_header.specs.declared.header.Header.{Header}
 use Rattle.offer_header.proofs.Fitting.{read_so}
 use Rattle.swap_offer.specs.Certificates.{IsCertified}
 use Rattle.swap_offer.specs.Job.{accepted_of, counted, events_for, events_of, events_unless, job_header_of, job_of, next_of, of_lines}
-use Rattle.swap_offer.specs.Lines.{filled_lines, lines_of}
+use Rattle.command_input.specs.Lines.{filled_lines, lines_of}
 use Rattle.swap_offer.proofs.Certified.{certifies}
-use Rattle.audit_command.specs.Output.{Written}
+use Rattle.command_input.specs.Written.{Written}
 use Rattle.made_jobs.specs.Making.{made_text}
 use Rattle.swap_commands.specs.Output.{book_of, output_by, output_for, plain_text, purpose_of, reported, told, Chance}
 use Rattle.swap_commands.specs.declared.words.Command.TheVariants.{OfJob}

@@ -7,7 +7,7 @@ use Rattle.refusals.specs.declared.reason.Reason.TheVariants.{NotFeedback, NotSt
 use Rattle.offer_header.specs.Header.{header_of}
 use Rattle.offer_header.specs.declared.header.Header.{Header}
 use Rattle.swap_offer.specs.Checks.{digraph_in}
-use Rattle.swap_offer.specs.Lines.{filled_lines, lines_of}
+use Rattle.command_input.specs.Lines.{filled_lines, lines_of}
 use Rattle.swap_commands.specs.Output.{output_by, purpose_of, Chance}
 use Rattle.swap_commands.specs.declared.words.Command.TheVariants.{OfJob}
 use Rattle.swap_commands.specs.declared.words.JobCommand.{JobCommand}

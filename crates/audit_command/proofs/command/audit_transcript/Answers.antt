@@ -27,7 +27,7 @@ returns-in-Err-Refused-clause-says g c =
 pub returns-clause-says : goal.returns-clause-says
 returns-clause-says g c = inl (Keeps-refl (g.K.Sink.taken c.args.sink.now), all_consumed _ _ _ c.in-Ok.ensures.read)
 
--- No read failed, unless the ending tells of it.
+-- No read failed, unless the status tells of it.
 
 pub returns-in-Err-clause-calm : goal.returns-in-Err-clause-calm
 returns-in-Err-clause-calm g c = rw c.unread.ensures (calm_unread c.in-Err.fault _ _ c.in-Err.ensures.calm)

@@ -2,7 +2,8 @@ use Rattle.std.proofs.Common.{◌∙◌, arith, ap, refl}
 use Rattle.std.proofs.lemmas.Result.{err_from_is_err_and}
 use Rattle.swap_io.proofs.Feeds.{calm_after}
 use Rattle.swap_io.specs.Lines.{Reading}
-use Rattle.audit_command.proofs.Leads.{calm_line, fewer, last_of, led_fault, led_first, led_on, led_to_end, line_of, line_stops}
+use Rattle.command_input.proofs.Streams.{calm_line}
+use Rattle.audit_command.proofs.Leads.{fewer, last_of, led_fault, led_first, led_on, led_to_end, line_of, line_stops}
 use Rattle.audit_command.proofs.input.read_lines.Goals as goal
 
 pub lines-init : goal.lines-init

@@ -1,5 +1,5 @@
 use Rattle.std.proofs.Common.{◌≡◌, ◌≤◌, ◌+◌, ◌-◌, length}
-use Rattle.audit_command.specs.Reading.{limit}
+use Rattle.command_input.specs.Input.{limit}
 use Rattle.audit_command.proofs.Leads.{Led}
 use Rattle.audit_command.proofs.input.read_lines.Given as goal
 

@@ -1,5 +1,5 @@
 use Rattle.std.proofs.Common.{◌≤◌, length, arith}
-use Rattle.party_main.specs.Says.{limit}
+use Rattle.command_input.specs.Input.{limit}
 use Rattle.party_main.proofs.Saying.{says_text}
 use Rattle.party_main.proofs.top.party_input.Goals as goal
 

@@ -2,7 +2,7 @@ use Rattle.swap_job.specs.declared.job.Purpose.TheVariants as purposes
 use Rattle.swap_commands.specs.declared.words.JobCommand.TheVariants.{Check}
 use Rattle.swap_commands.specs.Replay.{passed_over, replayed}
 use Rattle.swap_commands.proofs.Reading.{against_event, check_says, is_read}
-use Rattle.swap_commands.proofs.Streams.{calm_named}
+use Rattle.command_input.proofs.Streams.{calm_named}
 use Rattle.swap_io.proofs.Feeds.{calm_after}
 use Rattle.swap_commands.proofs.check.examine.Goals as goal
 

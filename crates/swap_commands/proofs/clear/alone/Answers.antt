@@ -3,9 +3,9 @@ use Rattle.std.proofs.lemmas.Result.{err_from_is_err_and}
 use Rattle.swap_io.proofs.Feeds.{took_none}
 use Rattle.refusals.specs.declared.reason.Reason.TheVariants.{BadLine}
 use Rattle.swap_commands.specs.Cleared.{IsFurther}
-use Rattle.swap_commands.specs.declared.fault.InputFault.TheVariants.{Refused}
+use Rattle.command_input.specs.declared.fault.InputFault.TheVariants.{Refused}
 use Rattle.swap_commands.proofs.Clearings.{further_stops}
-use Rattle.swap_commands.proofs.Streams.{calm_line, last_of, line_stops}
+use Rattle.command_input.proofs.Streams.{calm_line, last_of, line_stops}
 use Rattle.swap_commands.proofs.clear.alone.Goals as goal
 
 pub returns-in_err-next-clause-stops : goal.returns-in_err-next-clause-stops

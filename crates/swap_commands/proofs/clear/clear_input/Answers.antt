@@ -3,7 +3,7 @@ use Rattle.swap_commands.specs.declared.words.Command.TheVariants.{Clear}
 use Rattle.swap_commands.proofs.Clearings.{says_clear}
 use Rattle.swap_commands.proofs.Saying.{says_unread}
 use Rattle.swap_io.proofs.Feeds.{calm_after}
-use Rattle.swap_commands.proofs.Streams.{calm_fault}
+use Rattle.command_input.proofs.Streams.{calm_fault}
 use Rattle.swap_commands.proofs.clear.clear_input.Goals as goal
 
 pub returns-in-Ok-clause-says : goal.returns-in-Ok-clause-says

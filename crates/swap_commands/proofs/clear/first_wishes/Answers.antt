@@ -1,12 +1,12 @@
 use Rattle.std.proofs.Common.{[], arith, refl}
 use Rattle.std.proofs.lemmas.Result.{err_from_is_err_and}
 use Rattle.swap_io.proofs.Feeds.{took_none}
-use Rattle.swap_commands.specs.Input.{fresh}
+use Rattle.command_input.specs.Input.{fresh}
 use Rattle.swap_commands.specs.Says.{IsAgainst}
 use Rattle.swap_commands.specs.declared.words.Command.TheVariants.{Clear}
 use Rattle.swap_commands.proofs.Clearings.{empty_stops, line_stops}
-use Rattle.swap_commands.proofs.Streams as streams
-use Rattle.swap_commands.proofs.Streams.{calm_line}
+use Rattle.command_input.proofs.Streams as streams
+use Rattle.command_input.proofs.Streams.{calm_line}
 use Rattle.swap_commands.proofs.clear.first_wishes.Goals as goal
 
 pub next-requires : goal.next-requires
@@ -29,14 +29,14 @@ returns-then-not-branch-clause-stops g c =
     let left = g.S.Source.left in
     let faults = g.S.Source.faults in
     λ has. empty_stops has c.in_ok-next.field-0 (left c.args.source.now) (left c.next.new.source) (faults c.args.source.now) (faults c.next.new.source)
-    c.args.input.now c.next.new.self c.empty.result c.requires c.if-not-branch.true c.in_ok-next.ensures.gives c.in_ok-next.ensures.within
-    c.in_ok-next.ensures.ended c.empty.ensures
+    c.args.input.now c.next.new.self c.no_line.result c.requires c.if-not-branch.true c.in_ok-next.ensures.gives c.in_ok-next.ensures.within
+    c.in_ok-next.ensures.ended c.no_line.ensures
 
 pub returns-in-Err-clause-stops : goal.returns-in-Err-clause-stops
 returns-in-Err-clause-stops g c =
     let left = g.S.Source.left in
     let faults = g.S.Source.faults in
-    λ has. rw (c.with_names.ensures, c.from.ensures, c.empty-in-Err.ensures)
+    λ has. rw (c.with_names.ensures, c.from.ensures, c.empty.ensures)
     (line_stops has c.in_ok-next.field-0 (left c.args.source.now) (left c.next.new.source) (faults c.args.source.now) (faults c.next.new.source)
     c.args.input.now c.next.new.self c.in-Err.fault c.number.result c.text.result.now c.requires c.if-not-branch.false c.in_ok-next.ensures.gives
     c.in_ok-next.ensures.within c.in_ok-next.ensures.ended c.number.ensures c.text.ensures c.in-Err.ensures.exact)

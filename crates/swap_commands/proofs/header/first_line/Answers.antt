@@ -1,11 +1,11 @@
 use Rattle.std.proofs.Common.{[], arith, refl}
 use Rattle.std.proofs.lemmas.Result.{err_from_is_err_and}
 use Rattle.swap_io.proofs.Feeds.{took_none}
-use Rattle.swap_commands.specs.Input.{fresh}
+use Rattle.command_input.specs.Input.{fresh}
 use Rattle.swap_commands.specs.Says.{IsAgainst}
 use Rattle.swap_commands.specs.declared.words.Command.TheVariants.{OfJob}
 use Rattle.swap_commands.proofs.Reading.{empty_stops, header_stops}
-use Rattle.swap_commands.proofs.Streams.{calm_line, line_stops}
+use Rattle.command_input.proofs.Streams.{calm_line, line_stops}
 use Rattle.swap_commands.proofs.header.first_line.Goals as goal
 
 pub next-requires : goal.next-requires
@@ -27,8 +27,8 @@ returns-then-not-branch-clause-stops g c =
     let left = g.S.Source.left in
     let faults = g.S.Source.faults in
     empty_stops _ c.args.command c.in_ok-next.field-0 (left c.args.source.now) (left c.next.new.source) (faults c.args.source.now) (faults c.next.new.source)
-    c.args.input.now c.next.new.self c.empty.result c.requires c.if-not-branch.true c.in_ok-next.ensures.gives c.in_ok-next.ensures.within
-    c.in_ok-next.ensures.ended c.empty.ensures
+    c.args.input.now c.next.new.self c.no_line.result c.requires c.if-not-branch.true c.in_ok-next.ensures.gives c.in_ok-next.ensures.within
+    c.in_ok-next.ensures.ended c.no_line.ensures
 
 pub returns-in_err-prepared-clause-stops : goal.returns-in_err-prepared-clause-stops
 returns-in_err-prepared-clause-stops g c =

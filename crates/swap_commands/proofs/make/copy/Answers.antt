@@ -4,7 +4,7 @@ use Rattle.swap_gen.specs.Made.{made}
 use Rattle.made_jobs.specs.Making.{copied, written_line}
 use Rattle.swap_commands.specs.declared.words.JobCommand.TheVariants.{Make}
 use Rattle.swap_commands.proofs.Reading.{against_event, is_read, make_says}
-use Rattle.swap_commands.proofs.Streams.{calm_named, line_part}
+use Rattle.command_input.proofs.Streams.{calm_named, line_part}
 use Rattle.swap_io.proofs.Feeds.{calm_after}
 use Rattle.swap_commands.proofs.make.copy.Goals as goal
 

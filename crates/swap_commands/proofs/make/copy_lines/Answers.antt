@@ -3,8 +3,8 @@ use Rattle.std.proofs.lemmas.Result.{err_from_is_err_and}
 use Rattle.made_jobs.specs.Making.{copied, next_line}
 use Rattle.made_jobs.proofs.Copying.{copied_none, copied_one, step_fails, step_says}
 use Rattle.swap_io.proofs.Feeds.{calm_after}
-use Rattle.swap_commands.specs.Input.{ahead}
-use Rattle.swap_commands.proofs.Streams.{calm_line, last_of, led_none, led_on, led_to_end, led_to_fault, line_of, line_stops, some_led}
+use Rattle.command_input.specs.Input.{ahead}
+use Rattle.command_input.proofs.Streams.{calm_line, last_of, led_none, led_on, led_to_end, led_to_fault, line_of, line_stops, some_led}
 use Rattle.swap_commands.proofs.make.copy_lines.Goals as goal
 
 pub lines-init : goal.lines-init

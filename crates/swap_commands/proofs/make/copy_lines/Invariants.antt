@@ -1,7 +1,7 @@
 use Rattle.std.proofs.Common.{◌≡◌, ◌≤◌, ◌-◌}
 use Rattle.made_jobs.specs.Making.{copied}
-use Rattle.swap_commands.specs.Input.{EndsAt, limit}
-use Rattle.swap_commands.proofs.Streams.{Led}
+use Rattle.command_input.specs.Input.{EndsAt, limit}
+use Rattle.command_input.proofs.Streams.{Led}
 use Rattle.swap_commands.proofs.make.copy_lines.Given as goal
 
 abbrev pub invariant-lines : goal.invariant-lines

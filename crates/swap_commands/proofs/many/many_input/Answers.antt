@@ -6,7 +6,7 @@ use Rattle.swap_commands.proofs.ManySaying.{last_same, says_many}
 use Rattle.swap_commands.proofs.ManyWorlds.{chains_shown, worlds_shown}
 use Rattle.swap_commands.proofs.Saying.{all_consumed, says_unread}
 use Rattle.swap_io.proofs.Feeds.{calm_after}
-use Rattle.swap_commands.proofs.Streams.{calm_fault}
+use Rattle.command_input.proofs.Streams.{calm_fault}
 use Rattle.swap_commands.proofs.many.many_input.Goals as goal
 
 pub returns-in-Err-clause-says : goal.returns-in-Err-clause-says

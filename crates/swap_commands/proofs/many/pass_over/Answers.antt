@@ -1,10 +1,10 @@
 use Rattle.std.proofs.Common.{◌≡◌, Err, arith, refl, ◌∙◌}
 use Rattle.std.proofs.lemmas.Result.{err_from_is_err_and}
 use Rattle.swap_io.proofs.Feeds.{calm_after}
-use Rattle.swap_commands.specs.Input.{ahead}
+use Rattle.command_input.specs.Input.{ahead}
 use Rattle.swap_commands.specs.Many.{events_told}
 use Rattle.swap_commands.proofs.ManyTold.{all_told, line_refused, one_told, telling_none}
-use Rattle.swap_commands.proofs.Streams.{calm_line, last_of, line_of, line_stops, some_led}
+use Rattle.command_input.proofs.Streams.{calm_line, last_of, line_of, line_stops, some_led}
 use Rattle.swap_commands.proofs.many.pass_over.Goals as goal
 
 pub lines-init : goal.lines-init

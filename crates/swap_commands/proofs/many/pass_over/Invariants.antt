@@ -1,5 +1,5 @@
 use Rattle.std.proofs.Common.{◌≡◌, ◌≤◌, ◌-◌}
-use Rattle.swap_commands.specs.Input.{EndsAt, limit}
+use Rattle.command_input.specs.Input.{EndsAt, limit}
 use Rattle.swap_commands.proofs.ManyTold.{AreTelling}
 use Rattle.swap_commands.proofs.many.pass_over.Given as goal
 

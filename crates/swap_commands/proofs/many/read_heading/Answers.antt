@@ -4,12 +4,12 @@ use Rattle.offer_header.specs.Names.{has_strategy}
 use Rattle.many_lines.specs.Heading.{HeadingState, finish_told, unread}
 use Rattle.many_lines.specs.Whole.{HoldsEverySwap}
 use Rattle.swap_io.proofs.Feeds.{calm_after}
-use Rattle.swap_commands.specs.Input.{At, ahead, fresh}
+use Rattle.command_input.specs.Input.{At, ahead, fresh}
 use Rattle.swap_commands.specs.Many.{headed}
-use Rattle.swap_commands.proofs.Ahead.{no_part}
+use Rattle.command_input.proofs.Ahead.{no_part}
 use Rattle.swap_commands.proofs.ManyTold.{heading_cut, heading_next, heading_read, heading_step, heading_walk}
 use Rattle.swap_commands.proofs.ManyWorlds.{unread_holds}
-use Rattle.swap_commands.proofs.Streams.{calm_line, Led, last_of, led_none, led_on_at, led_to_fault_at, line_of, line_stops, some_led}
+use Rattle.command_input.proofs.Streams.{calm_line, Led, last_of, led_none, led_on_at, led_to_fault_at, line_of, line_stops, some_led}
 use Rattle.swap_commands.proofs.many.read_heading.Goals as goal
 
 pub lines-init : goal.lines-init

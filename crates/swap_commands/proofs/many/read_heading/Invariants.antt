@@ -2,9 +2,9 @@ use Rattle.std.proofs.Common.{◌≡◌, ◌≤◌, ◌-◌, ℕ}
 use Rattle.offer_header.specs.Names.{has_strategy}
 use Rattle.many_lines.specs.Heading.{unread}
 use Rattle.many_lines.specs.Whole.{HoldsEverySwap}
-use Rattle.swap_commands.specs.Input.{EndsAt, fresh, limit}
+use Rattle.command_input.specs.Input.{EndsAt, fresh, limit}
 use Rattle.swap_commands.proofs.ManyTold.{heading_walk}
-use Rattle.swap_commands.proofs.Streams.{Led}
+use Rattle.command_input.proofs.Streams.{Led}
 use Rattle.swap_commands.proofs.many.read_heading.Given as goal
 
 abbrev pub invariant-lines : goal.invariant-lines

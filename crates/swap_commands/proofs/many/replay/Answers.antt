@@ -2,11 +2,11 @@ use Rattle.std.proofs.Common.{◌≡◌, Err, arith, refl, ◌∙◌}
 use Rattle.std.proofs.lemmas.Result.{err_from_is_err_and}
 use Rattle.swap_many.proofs.Values.{held_same}
 use Rattle.swap_io.proofs.Feeds.{calm_after}
-use Rattle.swap_commands.specs.Input.{ahead}
+use Rattle.command_input.specs.Input.{ahead}
 use Rattle.swap_commands.specs.Many.{events_told}
 use Rattle.swap_commands.proofs.ManyTold.{are_replayed, line_refused, none_yet, one_more}
 use Rattle.swap_commands.proofs.ManyWorlds.{still_of}
-use Rattle.swap_commands.proofs.Streams.{calm_line, last_of, line_of, line_stops, some_led}
+use Rattle.command_input.proofs.Streams.{calm_line, last_of, line_of, line_stops, some_led}
 use Rattle.swap_commands.proofs.many.replay.Goals as goal
 
 pub lines-init : goal.lines-init

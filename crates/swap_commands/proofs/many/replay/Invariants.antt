@@ -1,6 +1,6 @@
 use Rattle.std.proofs.Common.{◌≡◌, ◌≤◌, ◌-◌}
 use Rattle.swap_many.specs.Value.{AreAllHeld}
-use Rattle.swap_commands.specs.Input.{EndsAt, limit}
+use Rattle.command_input.specs.Input.{EndsAt, limit}
 use Rattle.swap_commands.specs.ManyRead.{AreWorldsOf}
 use Rattle.swap_commands.proofs.ManyTold.{AreOn}
 use Rattle.swap_commands.proofs.many.replay.Given as goal

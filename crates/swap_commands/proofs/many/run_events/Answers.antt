@@ -1,5 +1,5 @@
 use Rattle.swap_many.proofs.Values.{held_same}
-use Rattle.swap_commands.proofs.Ahead.{no_part}
+use Rattle.command_input.proofs.Ahead.{no_part}
 use Rattle.swap_commands.proofs.ManyWorlds.{opened_are_held}
 use Rattle.swap_commands.proofs.many.run_events.Goals as goal
 

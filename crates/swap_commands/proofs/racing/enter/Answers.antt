@@ -3,7 +3,7 @@ use Rattle.swap_commands.specs.declared.words.JobCommand.TheVariants.{Race}
 use Rattle.swap_commands.specs.Replay.{passed_over, replayed}
 use Rattle.swap_commands.proofs.Reading.{against_event, is_read, race_says}
 use Rattle.swap_commands.proofs.Replays.{held}
-use Rattle.swap_commands.proofs.Streams.{calm_named}
+use Rattle.command_input.proofs.Streams.{calm_named}
 use Rattle.swap_io.proofs.Feeds.{calm_after}
 use Rattle.swap_commands.proofs.racing.enter.Goals as goal
 

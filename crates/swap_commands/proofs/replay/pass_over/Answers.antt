@@ -1,10 +1,10 @@
 use Rattle.std.proofs.Common.{◌≡◌, Err, arith, refl, ◌∙◌}
 use Rattle.std.proofs.lemmas.Result.{err_from_is_err_and}
 use Rattle.swap_io.proofs.Feeds.{calm_after}
-use Rattle.swap_commands.specs.Input.{ahead}
+use Rattle.command_input.specs.Input.{ahead}
 use Rattle.swap_commands.specs.Replay.{next_by, passed_over, replayed}
 use Rattle.swap_commands.proofs.Replays.{none_left, step_of}
-use Rattle.swap_commands.proofs.Streams.{calm_line, last_of, led_none, led_on, led_to_end, led_to_fault, line_of, line_stops, some_led}
+use Rattle.command_input.proofs.Streams.{calm_line, last_of, led_none, led_on, led_to_end, led_to_fault, line_of, line_stops, some_led}
 use Rattle.swap_commands.proofs.replay.pass_over.Goals as goal
 
 pub lines-init : goal.lines-init

@@ -6,12 +6,12 @@ use Rattle.swap_world.specs.Value.{WorldState}
 use Rattle.swap_world.specs.Gone.{HasAsked}
 use Rattle.swap_world.proofs.Gone.{more_asked, nothing_asked}
 use Rattle.swap_io.proofs.Feeds.{calm_after}
-use Rattle.swap_commands.specs.Input.{ahead}
+use Rattle.command_input.specs.Input.{ahead}
 use Rattle.swap_commands.specs.Output.{cast_by}
 use Rattle.swap_commands.specs.Replay.{next_by, passed_over, replayed}
-use Rattle.swap_commands.proofs.Ahead.{no_part}
+use Rattle.command_input.proofs.Ahead.{no_part}
 use Rattle.swap_commands.proofs.Replays.{is_of_new, none_left, step_of}
-use Rattle.swap_commands.proofs.Streams.{calm_line, Led, last_of, led_none, led_on, led_to_end, led_to_fault, line_of, line_stops, some_led}
+use Rattle.command_input.proofs.Streams.{calm_line, Led, last_of, led_none, led_on, led_to_end, led_to_fault, line_of, line_stops, some_led}
 use Rattle.swap_commands.proofs.replay.replay.Goals as goal
 
 pub lines-init : goal.lines-init

@@ -4,10 +4,10 @@ use Rattle.swap_run.specs.Run.{start, step}
 use Rattle.swap_world.specs.Cast.{cast_of}
 use Rattle.swap_world.specs.Gone.{HasAsked}
 use Rattle.swap_world.specs.Value.{Continues, new_world}
-use Rattle.swap_commands.specs.Input.{EndsAt, limit}
+use Rattle.command_input.specs.Input.{EndsAt, limit}
 use Rattle.swap_commands.specs.Output.{cast_by}
 use Rattle.swap_commands.specs.Replay.{IsOf, passed_over, replayed}
-use Rattle.swap_commands.proofs.Streams.{Led}
+use Rattle.command_input.proofs.Streams.{Led}
 use Rattle.swap_commands.proofs.replay.replay.Given as goal
 
 abbrev pub invariant-lines : goal.invariant-lines

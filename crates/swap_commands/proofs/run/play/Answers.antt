@@ -6,7 +6,7 @@ use Rattle.swap_commands.specs.Output.{cast_by}
 use Rattle.swap_commands.specs.Replay.{passed_over, replayed}
 use Rattle.swap_commands.proofs.Reading.{against_event, is_read, run_says}
 use Rattle.swap_commands.proofs.Replays.{held}
-use Rattle.swap_commands.proofs.Streams.{calm_named}
+use Rattle.command_input.proofs.Streams.{calm_named}
 use Rattle.swap_io.proofs.Feeds.{calm_after}
 use Rattle.swap_commands.proofs.run.play.Goals as goal
 

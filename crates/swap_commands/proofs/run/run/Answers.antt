@@ -7,7 +7,7 @@ use Rattle.swap_commands.specs.declared.words.Command.TheVariants.{OfJob}
 use Rattle.swap_commands.specs.declared.words.JobCommand.TheVariants.{Run}
 use Rattle.swap_commands.proofs.Saying.{all_consumed, says_run, says_unread}
 use Rattle.swap_io.proofs.Feeds.{calm_after}
-use Rattle.swap_commands.proofs.Streams.{calm_fault}
+use Rattle.command_input.proofs.Streams.{calm_fault}
 use Rattle.swap_commands.proofs.run.run.Goals as goal
 
 pub returns-in-Err-clause-says : goal.returns-in-Err-clause-says

@@ -5,7 +5,7 @@ use Rattle.swap_commands.specs.declared.staff.Obeyed.TheVariants.{Ended}
 use Rattle.swap_commands.specs.declared.words.Command.TheVariants.{OfJob}
 use Rattle.swap_commands.specs.declared.words.JobCommand.TheVariants.{Race}
 use Rattle.swap_commands.proofs.Saying.{has_entered, says_unread}
-use Rattle.swap_commands.proofs.Streams.{calm_fault}
+use Rattle.command_input.proofs.Streams.{calm_fault}
 use Rattle.swap_commands.proofs.staff.obey_job.Goals as goal
 
 pub returns-in-Run-clause-says : goal.returns-in-Run-clause-says

@@ -3,7 +3,7 @@ use Rattle.swap_io.proofs.Feeds.{calm_after}
 use Rattle.swap_io.proofs.Handing.{rose_before}
 use Rattle.swap_commands.specs.Says.{IsAgainst}
 use Rattle.swap_commands.proofs.Saying.{all_taken, is_consumed, rest_too_long, rest_unread}
-use Rattle.swap_commands.proofs.Streams.{no_memory_of, read_fault_of, refused_of}
+use Rattle.command_input.proofs.Streams.{no_memory_of, read_fault_of, refused_of}
 use Rattle.swap_commands.proofs.stop.stop.Goals as goal
 
 pub returns-in-Ok-clause-says : goal.returns-in-Ok-clause-says

@@ -1,6 +1,6 @@
 use Rattle.std.proofs.Common.{◌≡◌, ◌++◌, take, drop}
-use Rattle.swap_offer.specs.Lines.{before, after}
-use Rattle.swap_offer.proofs.lines.first_line.Given as goal
+use Rattle.command_input.specs.Lines.{before, after}
+use Rattle.command_input.proofs.lines.first_line.Given as goal
 
 abbrev pub invariant-loop-i : goal.invariant-loop-i
 invariant-loop-i l = record {

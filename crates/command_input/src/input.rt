@@ -1,20 +1,20 @@
 //! An input that is read line by line.
 
 ghost use Rattle.std.specs.Prelude.{◌≡◌, ◌<◌, ◌≤◌, ◌+◌, [], length, true, false, IfOk, IfErr, OnOk, IsErrOf};
-ghost use Rattle.swap_commands.specs.Input.{At, Breaks, EndsAt, Fails, Gives, IsDrained, Reads, fresh, limit, past_empty, to_go};
+ghost use Rattle.command_input.specs.Input.{At, Breaks, EndsAt, Fails, Gives, IsDrained, Reads, fresh, limit, past_empty, to_go};
 
+use crate::lines::is_blank;
 use std::alloc::Global;
 use std::marker::Model;
 use swap_base::NoMemory;
 use swap_io::{DrainFault, LineEnd, LineFault, Lines, Source};
-use swap_offer::is_blank;
 
 /// The most bytes of an input.
-const LIMIT: usize = 16_777_216;
+pub const INPUT_LIMIT: usize = 16_777_216;
 
 /// How far an input was read: the last line that was given, and its number.
 #[derive(Drop)]
-pub(crate) struct Input {
+pub struct Input {
     lines: Lines,
     line: Vec<u8>,
     number: u32,
@@ -31,11 +31,12 @@ impl Model for Input {
 }
 
 impl Input {
-    pub(crate) fn new(alloc: Global) -> Result<Input, NoMemory>
+    /// Before the first line: no byte was taken yet.
+    pub fn new(alloc: Global) -> Result<Input, NoMemory>
         ensures { IfOk result (λ i. i ≡ fresh) }
     {
         Ok(Input {
-            lines: Lines::new(alloc, LIMIT)?,
+            lines: Lines::new(alloc, INPUT_LIMIT)?,
             line: Vec::new(alloc),
             number: 0,
             over: false,
@@ -43,14 +44,14 @@ impl Input {
     }
 
     /// The last line that was given, without its line feed.
-    pub(crate) fn text(&self) -> &[u8]
+    pub fn text(&self) -> &[u8]
         ensures { result.now ≡ self.now.text }
     {
         &self.line
     }
 
     /// Its number, from 1.
-    pub(crate) fn number(&self) -> u32
+    pub fn number(&self) -> u32
         ensures { result ≡ self.now.number }
     {
         self.number
@@ -93,7 +94,7 @@ impl Input {
     }
 
     /// Goes to the next line that isn't blank, and answers whether there is one.
-    pub(crate) fn next<S: Source>(&mut self, source: &mut S) -> Result<bool, LineFault>
+    pub fn next<S: Source>(&mut self, source: &mut S) -> Result<bool, LineFault>
         requires ended { EndsAt (S.left source.old) self.old }
         ensures gives { IfOk result (λ more. Gives more (S.left source.old) (S.left source.new) self.old self.new) }
         ensures within { IfOk result (λ _. self.new.reading.taken ≤ limit) }
@@ -125,7 +126,7 @@ impl Input {
     }
 
     /// Takes the rest of the input.
-    pub(crate) fn drain<S: Source>(&mut self, source: &mut S) -> Result<(), DrainFault>
+    pub fn drain<S: Source>(&mut self, source: &mut S) -> Result<(), DrainFault>
         ensures drained { OnOk result (IsDrained (S.left source.old) (S.left source.new) self.old self.new) }
         ensures fails { IfErr result (λ e. Breaks (S.left source.old) (S.left source.new) (S.faults source.old) (S.faults source.new) self.old self.new e) }
         ensures later { S.faults source.old ≤ S.faults source.new }

@@ -1,9 +1,9 @@
 use Rattle.std.proofs.Common.{◌≡◌, arith, false, length, length-append, ◌<◌, refl}
 use Rattle.std.proofs.lemmas.List.{map_push}
 use Rattle.std.proofs.lemmas.Grind.{common_steps}
-use Rattle.swap_offer.specs.Lines.{is_blank, before}
-use Rattle.swap_offer.proofs.Filled.{on_filled, ended}
-use Rattle.swap_offer.proofs.lines.filled_lines.Goals as goal
+use Rattle.command_input.specs.Lines.{is_blank, before}
+use Rattle.command_input.proofs.Filled.{on_filled, ended}
+use Rattle.command_input.proofs.lines.filled_lines.Goals as goal
 
 pub loop-rest-preserved-in_ok-push : goal.loop-rest-preserved-in_ok-push
 loop-rest-preserved-in_ok-push c =

@@ -1,7 +1,7 @@
 //! Why the reading of an input stopped.
 
 ghost use Rattle.std.specs.Prelude.{◌≡◌, []};
-ghost use Rattle.swap_commands.specs.Faults.{named_fault};
+ghost use Rattle.command_input.specs.Faults.{named_fault};
 
 use refusals::{Reason, Refusal};
 use std::alloc::Global;
@@ -21,7 +21,7 @@ pub enum InputFault<R> {
 
 impl InputFault<Reason> {
     /// The fault with the names of the parties that its reason may speak of.
-    pub(crate) fn with_names(self, names: Listed<ByteText>) -> InputFault<Refusal>
+    pub fn with_names(self, names: Listed<ByteText>) -> InputFault<Refusal>
         ensures { result ≡ named_fault names self }
     {
         match self {
@@ -34,7 +34,7 @@ impl InputFault<Reason> {
 }
 
 /// What is said against an input without a line.
-pub(crate) fn empty(alloc: Global) -> InputFault<Refusal>
+pub fn no_line(alloc: Global) -> InputFault<Refusal>
     ensures { result ≡ InputFault.Refused (record { reason = Reason.NotJson 1; names = [] }) }
 {
     InputFault::Refused(Refusal {
@@ -45,7 +45,7 @@ pub(crate) fn empty(alloc: Global) -> InputFault<Refusal>
 
 impl<R> From<LineFault> for InputFault<R> {
     ghost use Rattle.std.specs.Prelude.{◌≡◌};
-    ghost use Rattle.swap_commands.specs.Faults.{of_line};
+    ghost use Rattle.command_input.specs.Faults.{of_line};
 
     ghost from_gives = { λ l e. e ≡ of_line l };
 
@@ -60,7 +60,7 @@ impl<R> From<LineFault> for InputFault<R> {
 
 impl<R> From<Fault<R>> for InputFault<R> {
     ghost use Rattle.std.specs.Prelude.{◌≡◌};
-    ghost use Rattle.swap_commands.specs.Faults.{of_offer};
+    ghost use Rattle.command_input.specs.Faults.{of_offer};
 
     ghost from_gives = { λ f e. e ≡ of_offer f };
 
@@ -73,7 +73,7 @@ impl<R> From<Fault<R>> for InputFault<R> {
 }
 
 impl<R> From<NoMemory> for InputFault<R> {
-    ghost use Rattle.swap_commands.specs.Faults.{IsNoMemory};
+    ghost use Rattle.command_input.specs.Faults.{IsNoMemory};
 
     ghost from_gives = { λ _ e. IsNoMemory e };
 

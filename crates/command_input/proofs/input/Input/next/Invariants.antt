@@ -1,7 +1,7 @@
 use Rattle.std.proofs.Common.{◌≡◌, ◌≤◌}
-use Rattle.swap_commands.specs.Input.{EndsAt, to_go}
-use Rattle.swap_commands.proofs.Ahead.{Passed}
-use Rattle.swap_commands.proofs.input.Input.next.Given as goal
+use Rattle.command_input.specs.Input.{EndsAt, to_go}
+use Rattle.command_input.proofs.Ahead.{Passed}
+use Rattle.command_input.proofs.input.Input.next.Given as goal
 
 abbrev pub invariant-lines : goal.invariant-lines
 invariant-lines g l = record {

@@ -1,6 +1,6 @@
 use Rattle.std.proofs.Common.{◌≡◌, ◌++◌, ◌+◌, ◌≤◌, map, length}
-use Rattle.swap_offer.specs.Lines.{filled_lines, lines_of}
-use Rattle.swap_offer.proofs.lines.filled_lines.Given as goal
+use Rattle.command_input.specs.Lines.{filled_lines, lines_of}
+use Rattle.command_input.proofs.lines.filled_lines.Given as goal
 
 abbrev pub invariant-loop-rest : goal.invariant-loop-rest
 invariant-loop-rest l = record {

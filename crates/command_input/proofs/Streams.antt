@@ -10,14 +10,14 @@ use Rattle.swap_io.proofs.Feeds.{took_none, took_on}
 use Rattle.swap_io.proofs.Handing.{rose_before}
 use Rattle.swap_io.specs.declared.fault.LineFault.{LineFault}
 use Rattle.swap_io.specs.declared.fault.LineFault.TheVariants as line
-use Rattle.swap_commands.specs.declared.fault.InputFault.{InputFault}
-use Rattle.swap_commands.specs.declared.fault.InputFault.TheVariants.{Refused, ReadFault, TooLong, NoMemory}
+use Rattle.command_input.specs.declared.fault.InputFault.{InputFault}
+use Rattle.command_input.specs.declared.fault.InputFault.TheVariants.{Refused, ReadFault, TooLong, NoMemory}
 use Rattle.refusals.specs.declared.reason.Reason.{Reason}
 use Rattle.refusals.specs.declared.refusal.Refusal.{Refusal}
-use Rattle.swap_commands.specs.Faults.{named_fault, of_line, of_offer}
-use Rattle.swap_commands.specs.Input.{At, CanCome, Ends, EndsAt, Fails, Gives, IsLast, IsLine, IsPart, IsTooLong}
-use Rattle.swap_commands.specs.Input.{Reads, ReadsLine, ReadsNone, Stops, Tells, ahead, limit}
-use Rattle.swap_commands.proofs.Ahead.{part_on, too_long_on}
+use Rattle.command_input.specs.Faults.{named_fault, of_line, of_offer}
+use Rattle.command_input.specs.Input.{At, CanCome, Ends, EndsAt, Fails, Gives, IsLast, IsLine, IsPart, IsTooLong}
+use Rattle.command_input.specs.Input.{Reads, ReadsLine, ReadsNone, Stops, Tells, ahead, limit}
+use Rattle.command_input.proofs.Ahead.{part_on, too_long_on}
 
 -- bytes may come before the end
 pub can_come : (s : At) (rest : List ℕ) → s.over ≡ false → CanCome s rest

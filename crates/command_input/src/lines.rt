@@ -1,7 +1,7 @@
 //! The lines of a file.
 
 ghost use Rattle.std.specs.Prelude.{◌≡◌, ◌+◌, ◌<◌, ◌^◌, List, length, map, IfOk, ◌≤◌};
-ghost use Rattle.swap_offer.specs.Lines.{before, after, is_blank, lines_of, filled_lines};
+ghost use Rattle.command_input.specs.Lines.{before, after, is_blank, lines_of, filled_lines};
 
 use std::alloc::Global;
 use swap_base::NoMemory;

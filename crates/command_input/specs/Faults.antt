@@ -6,8 +6,8 @@ use Rattle.swap_base.specs.declared.fault.Fault.{Fault}
 use Rattle.swap_base.specs.declared.fault.Fault.TheVariants as offer
 use Rattle.refusals.specs.declared.reason.Reason.{Reason}
 use Rattle.refusals.specs.declared.refusal.Refusal.{Refusal}
-use Rattle.swap_commands.specs.declared.fault.InputFault.{InputFault}
-use Rattle.swap_commands.specs.declared.fault.InputFault.TheVariants.{Refused, ReadFault, TooLong, NoMemory}
+use Rattle.command_input.specs.declared.fault.InputFault.{InputFault}
+use Rattle.command_input.specs.declared.fault.InputFault.TheVariants.{Refused, ReadFault, TooLong, NoMemory}
 
 -- the fault of an input, by that of a line
 abbrev pub of_line : {R : Type 0} → LineFault → InputFault R

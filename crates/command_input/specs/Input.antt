@@ -7,9 +7,9 @@ use Rattle.swap_io.specs.declared.fault.LineFault.{LineFault}
 use Rattle.swap_io.specs.declared.fault.LineFault.TheVariants as line
 use Rattle.swap_io.specs.declared.fault.DrainFault.{DrainFault}
 use Rattle.swap_io.specs.declared.fault.DrainFault.TheVariants as drained
-use Rattle.swap_offer.specs.Lines.{lines_of, filled_lines}
-use Rattle.swap_commands.specs.declared.fault.InputFault.{InputFault}
-use Rattle.swap_commands.specs.declared.fault.InputFault.TheVariants.{Refused, ReadFault, TooLong, NoMemory}
+use Rattle.command_input.specs.Lines.{lines_of, filled_lines}
+use Rattle.command_input.specs.declared.fault.InputFault.{InputFault}
+use Rattle.command_input.specs.declared.fault.InputFault.TheVariants.{Refused, ReadFault, TooLong, NoMemory}
 
 -- the most bytes of an input
 abbrev pub limit : ℕ

@@ -12,11 +12,11 @@ use Rattle.swap_io.specs.declared.line_end.LineEnd.{LineEnd}
 use Rattle.swap_io.specs.declared.line_end.LineEnd.TheVariants.{Ended, Rest, End}
 use Rattle.swap_io.proofs.Feeds.{took_none, took_on}
 use Rattle.swap_io.proofs.Handing.{rose_before}
-use Rattle.swap_offer.specs.Lines.{lines_of, with_first, filled_lines, is_blank}
-use Rattle.swap_offer.proofs.Filled.{one_more}
+use Rattle.command_input.specs.Lines.{lines_of, with_first, filled_lines, is_blank}
+use Rattle.command_input.proofs.Filled.{one_more}
 use Rattle.swap_io.specs.declared.fault.DrainFault.{DrainFault}
 use Rattle.swap_io.specs.declared.fault.DrainFault.TheVariants as drained
-use Rattle.swap_commands.specs.Input.{At, Breaks, CanCome, Fails, IsLast, IsLine, IsPart, IsTooLong, ReadsLine, ReadsNone, ahead, limit, past_empty, to_go}
+use Rattle.command_input.specs.Input.{At, Breaks, CanCome, Fails, IsLast, IsLine, IsPart, IsTooLong, ReadsLine, ReadsNone, ahead, limit, past_empty, to_go}
 
 not_feed : (t : Bool) → not t ≡ true → t ≡ false
 not_feed true e = absurd (cc e)

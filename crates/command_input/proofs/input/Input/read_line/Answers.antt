@@ -2,9 +2,9 @@ use Rattle.std.proofs.Common.{◌≡◌, ◌≤◌, ◌+◌, ◌∙◌, ℕ, Boo
 use Rattle.swap_io.specs.Lines.{Reading}
 use Rattle.swap_io.specs.declared.line_end.LineEnd.TheVariants.{Ended}
 use Rattle.swap_io.proofs.Feeds.{not_past}
-use Rattle.swap_commands.specs.Input.{At, limit}
-use Rattle.swap_commands.proofs.Ahead.{counts_ended, fewer, reads_ended, reads_none, reads_rest}
-use Rattle.swap_commands.proofs.input.Input.read_line.Goals as goal
+use Rattle.command_input.specs.Input.{At, limit}
+use Rattle.command_input.proofs.Ahead.{counts_ended, fewer, reads_ended, reads_none, reads_rest}
+use Rattle.command_input.proofs.input.Input.read_line.Goals as goal
 
 abbrev at : Reading → ℕ → List ℕ → Bool → At
 at reading number text over = record { reading = reading; number = number; text = text; over = over }

@@ -1,9 +1,9 @@
 use Rattle.std.proofs.Common.{arith, sym, refl, ◌∙◌}
 use Rattle.std.proofs.lemmas.Result.{err_from_is_err_and}
 use Rattle.swap_io.proofs.Feeds.{calm_after}
-use Rattle.swap_commands.proofs.Ahead.{fails_on, is_last, is_line, passed_end, passed_none, passed_on, passed_past, past_less}
-use Rattle.swap_commands.proofs.Streams.{got_line, got_none}
-use Rattle.swap_commands.proofs.input.Input.next.Goals as goal
+use Rattle.command_input.proofs.Ahead.{fails_on, is_last, is_line, passed_end, passed_none, passed_on, passed_past, past_less}
+use Rattle.command_input.proofs.Streams.{got_line, got_none}
+use Rattle.command_input.proofs.input.Input.next.Goals as goal
 
 pub lines-init : goal.lines-init
 lines-init g c = record { passed = passed_none _ _; ended = c.requires.ended; later = omega arith; calm = refl }

@@ -2,7 +2,7 @@
 use Rattle.std.proofs.Common.{◌≡◌, ℕ, ◌+◌, ◌<◌, ◌≤◌, ◌++◌, suc, length, List, [], ◌∷◌, Bool, true, false, eqb, cond, refl, sym, ap}
 use Rattle.std.proofs.Common.{◌∙◌, arith, append_assoc}
 use Rattle.std.proofs.lemmas.List.{append-nil}
-use Rattle.swap_offer.specs.Lines.{before, after, with_first, lines_of, is_blank, filled_lines}
+use Rattle.command_input.specs.Lines.{before, after, with_first, lines_of, is_blank, filled_lines}
 
 by_test : (b : ℕ) (t : Bool) (bs : List ℕ) (rest : List (List ℕ)) (line left : List ℕ) → rest ≡ line ∷ lines_of left
     → cond t ([] ∷ lines_of bs) (with_first b rest) ≡ cond t [] (b ∷ line) ∷ lines_of (cond t bs left)

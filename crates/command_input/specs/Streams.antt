@@ -1,0 +1,17 @@
+-- What a source and a sink tell of themselves.
+use Rattle.std.specs.Prelude.{ℕ, List, Option}
+
+-- A source and a sink at one moment.
+pub record Streams : Type 0 where
+  -- what the source has left
+  pub left : Option (List ℕ)
+  -- how many of its calls failed
+  pub read_faults : ℕ
+  -- what the sink took
+  pub taken : Option (List ℕ)
+  -- how many of its calls failed
+  pub write_faults : ℕ
+
+-- what the source has left with its faults, and what the sink took with its faults
+abbrev pub streams : Option (List ℕ) → ℕ → Option (List ℕ) → ℕ → Streams
+streams left read_faults taken write_faults = record { left = left; read_faults = read_faults; taken = taken; write_faults = write_faults }

@@ -1,0 +1,28 @@
+-- What is written, and what a status says of it.
+use Rattle.std.specs.Prelude.{◌≡◌, ℕ, Bool, true, false, List, Option}
+use Rattle.std.specs.Io.KnownBytes.{Appends}
+use Rattle.swap_io.specs.Causes.{Rose, AppendsProperPrefix}
+use Rattle.swap_io.specs.Handed.{AppendsPrefix}
+use Rattle.command_input.specs.declared.status.Status.{Status}
+use Rattle.command_input.specs.declared.status.Status.TheVariants.{Done, Named, WrongWords, Refused, ReadFault, WriteFault, NoMemory, TooLong}
+
+-- A text that is written.
+pub record Written : Type 0 where
+  pub text : List ℕ
+  -- whether it tells of a finding
+  pub found : Bool
+
+-- the text was written whole, and this says whether something was found
+abbrev pub IsWhole : Option (List ℕ) → Option (List ℕ) → Bool → Written → Type 0
+IsWhole taken taken' found output = Appends taken taken' output.text × (output.found ≡ found)
+
+-- what a status says of an output that is written, by what the sink took and how many of its calls failed
+abbrev pub Writes : Option (List ℕ) → Option (List ℕ) → ℕ → ℕ → Written → Status → Type 0
+Writes taken taken' p q output Done = IsWhole taken taken' false output
+Writes taken taken' p q output Named = IsWhole taken taken' true output
+Writes taken taken' p q output WriteFault = Rose p q × AppendsProperPrefix taken taken' output.text
+Writes taken taken' p q output NoMemory = AppendsPrefix taken taken' output.text
+Writes taken taken' p q output WrongWords = ⊥
+Writes taken taken' p q output (Refused reason names) = ⊥
+Writes taken taken' p q output ReadFault = ⊥
+Writes taken taken' p q output TooLong = ⊥
