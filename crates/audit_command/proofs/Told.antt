@@ -18,7 +18,7 @@ use Rattle.command_input.specs.Written.{Writes, Written}
 use Rattle.audit_command.specs.Output.{audit_of, by_text, judged, written_of, story_in, told}
 use Rattle.audit_command.specs.Promised.{IsSound}
 use Rattle.audit_command.specs.Reading.{HasRead, Stops}
-use Rattle.audit_command.specs.Says.{HasAnswer, HasOutput, Says, unread}
+use Rattle.audit_command.specs.Says.{HasAnswer, HasAuditOutput, AuditSays, unread}
 
 -- an answer to an input that was read
 answered : (P : List ℕ → Type 0) (a b : Option (List ℕ)) (output : Result Written Refusal) (k : HasRead P a b) → audit_of k.input ≡ output
@@ -37,7 +37,7 @@ unfolding audit_of
 refused_input input refusal e = ap (λ (r : Result Story Refusal). r >>= told) e
 
 pub says_unread : (a b : Option (List ℕ)) (n m : ℕ) (taken : Option (List ℕ)) (p : ℕ) (f : InputFault Refusal) → Stops a b n m f
-    → Says (streams a n taken p) (streams b m taken p) (unread f)
+    → AuditSays (streams a n taken p) (streams b m taken p) (unread f)
 says_unread a b n m taken p (stopped.Refused refusal) s =
     (answered (λ input. story_in input ≡ Err refusal) a b (Err refusal) s (refused_input s.input refusal s.told), Keeps-refl taken)
 says_unread a b n m taken p stopped.ReadFault s = (s.0, Keeps-refl taken, s.1)
@@ -63,7 +63,7 @@ module _ (a b : Option (List ℕ)) (n m : ℕ) (t : Story) (k : HasRead (λ inpu
   of_story = ap (λ (r : Result Story TranscriptReason). by_text r >>= told) k.told
 
   pub says_refused : (taken : Option (List ℕ)) (p : ℕ) (refusal : Refusal) → judged t ≡ Err refusal
-      → Says (streams a n taken p) (streams b m taken p) (Refused refusal.reason refusal.names)
+      → AuditSays (streams a n taken p) (streams b m taken p) (Refused refusal.reason refusal.names)
   unfolding told
   says_refused taken p refusal e = (
     answered (λ input. transcript_read header_read input ≡ Ok t) a b (Err refusal) k
@@ -71,7 +71,7 @@ module _ (a b : Option (List ℕ)) (n m : ℕ) (t : Story) (k : HasRead (λ inpu
     Keeps-refl taken,
   )
 
-  output_is : (P : Written → Type 0) (r : Report) → IsTold t.job → judged t ≡ Ok r → IsSound t r → P (written_of t r) → HasOutput P a b
+  output_is : (P : Written → Type 0) (r : Report) → IsTold t.job → judged t ≡ Ok r → IsSound t r → P (written_of t r) → HasAuditOutput P a b
   unfolding told answered
   output_is P r job e sound w = record {
     output = written_of t r;
@@ -90,7 +90,7 @@ module _ (a b : Option (List ℕ)) (n m : ℕ) (t : Story) (k : HasRead (λ inpu
   }
 
   pub says_written : (taken taken' : Option (List ℕ)) (p q : ℕ) (r : Report) → IsTold t.job → judged t ≡ Ok r → IsSound t r → (s : Status)
-      → Writes taken taken' p q (written_of t r) s → Says (streams a n taken p) (streams b m taken' q) s
+      → Writes taken taken' p q (written_of t r) s → AuditSays (streams a n taken p) (streams b m taken' q) s
   says_written taken taken' p q r job e sound Done w = output_is _ r job e sound w
   says_written taken taken' p q r job e sound Named w = output_is _ r job e sound w
   says_written taken taken' p q r job e sound WrongWords w = absurd w

@@ -1,7 +1,7 @@
 -- What each status of an audit says.
 use Rattle.std.specs.Prelude.{◌≡◌, ◌≤◌, ◌+◌, ◌⊎◌, ℕ, true, false, List, length, Option, Result, Ok, Err}
 use Rattle.std.specs.Io.KnownBytes.{Consumes, IsAtEnd, Keeps}
-use Rattle.swap_io.specs.Causes.{Rose, ConsumesAtMost, ConsumesSome, AppendsProperPrefix}
+use Rattle.swap_io.specs.Causes.{ConsumesAtMost, ConsumesSome, AppendsProperPrefix}
 use Rattle.swap_io.specs.Handed.{AppendsPrefix}
 use Rattle.refusals.specs.declared.refusal.Refusal.{Refusal}
 use Rattle.refusals.specs.Refusal.{refusal}
@@ -10,8 +10,8 @@ use Rattle.command_input.specs.declared.fault.InputFault.TheVariants as stopped
 use Rattle.command_input.specs.declared.status.Status.{Status}
 use Rattle.command_input.specs.declared.status.Status.TheVariants.{Done, Named, WrongWords, Refused, ReadFault, WriteFault, NoMemory, TooLong}
 use Rattle.command_input.specs.Input.{limit}
-use Rattle.command_input.specs.Streams.{Streams}
-use Rattle.command_input.specs.Written.{IsWhole, Written}
+use Rattle.command_input.specs.Streams.{HasReadFault, HasWriteFault, Streams}
+use Rattle.command_input.specs.Written.{IsWrittenWhole, Written}
 use Rattle.audit_command.specs.Output.{audit_of}
 use Rattle.audit_command.specs.Promised.{IsAudit}
 
@@ -24,7 +24,7 @@ pub record HasAnswer (left left' : Option (List ℕ)) (output : Result Written R
   pub gives : audit_of input ≡ output
 
 -- The input was read and has an output, which is promised, and P tells what was written of its text.
-pub record HasOutput (P : Written → Type 0) (left left' : Option (List ℕ)) : Type 0 where
+pub record HasAuditOutput (P : Written → Type 0) (left left' : Option (List ℕ)) : Type 0 where
   pub output : Written
   pub read : HasAnswer left left' (Ok output)
   pub promised : IsAudit read.input output
@@ -38,16 +38,16 @@ unread stopped.TooLong = TooLong
 unread stopped.NoMemory = NoMemory
 
 -- what a status says, by the source and the sink before and after
-abbrev pub Says : Streams → Streams → Status → Type 0
-Says before after Done = HasOutput (IsWhole before.taken after.taken false) before.left after.left
-Says before after Named = HasOutput (IsWhole before.taken after.taken true) before.left after.left
-Says before after WrongWords = ⊥
-Says before after (Refused reason names) = HasAnswer before.left after.left (Err (refusal names reason)) × Keeps before.taken after.taken
-Says before after ReadFault =
-    Rose before.read_faults after.read_faults × Keeps before.taken after.taken × ConsumesAtMost before.left after.left limit
-Says before after WriteFault =
-    Rose before.write_faults after.write_faults × HasOutput (λ output. AppendsProperPrefix before.taken after.taken output.text) before.left after.left
-Says before after NoMemory =
+abbrev pub AuditSays : Streams → Streams → Status → Type 0
+AuditSays before after Done = HasAuditOutput (IsWrittenWhole before.taken after.taken false) before.left after.left
+AuditSays before after Named = HasAuditOutput (IsWrittenWhole before.taken after.taken true) before.left after.left
+AuditSays before after WrongWords = ⊥
+AuditSays before after (Refused reason names) = HasAnswer before.left after.left (Err (refusal names reason)) × Keeps before.taken after.taken
+AuditSays before after ReadFault =
+    HasReadFault before after × Keeps before.taken after.taken × ConsumesAtMost before.left after.left limit
+AuditSays before after WriteFault =
+    HasWriteFault before after × HasAuditOutput (λ output. AppendsProperPrefix before.taken after.taken output.text) before.left after.left
+AuditSays before after NoMemory =
     (Keeps before.taken after.taken × ConsumesAtMost before.left after.left limit)
-    ⊎ HasOutput (λ output. AppendsPrefix before.taken after.taken output.text) before.left after.left
-Says before after TooLong = ConsumesSome before.left after.left (limit + 1) × Keeps before.taken after.taken
+    ⊎ HasAuditOutput (λ output. AppendsPrefix before.taken after.taken output.text) before.left after.left
+AuditSays before after TooLong = ConsumesSome before.left after.left (limit + 1) × Keeps before.taken after.taken

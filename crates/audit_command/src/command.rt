@@ -5,7 +5,7 @@ ghost use Rattle.command_input.specs.Streams.{streams};
 ghost use Rattle.command_input.specs.Written.{Writes};
 ghost use Rattle.audit_command.specs.Output.{written_of, story};
 ghost use Rattle.audit_command.specs.Promised.{IsSound};
-ghost use Rattle.audit_command.specs.Says.{Says, unread};
+ghost use Rattle.audit_command.specs.Says.{AuditSays, unread};
 ghost use Rattle.transcript_reader.specs.Header.{IsTold};
 
 use crate::judged::judge;
@@ -54,7 +54,7 @@ fn tell<K: Sink>(alloc: Global, sink: &mut K, job: &Job, book: &Book, report: &R
 
 /// Audits a transcript. The source is read to its end before anything is written; the book that its lines state is kept, and none of their text.
 pub fn audit_transcript<S: Source, K: Sink>(alloc: Global, source: &mut S, sink: &mut K) -> Status
-    ensures says { Says (streams (S.left source.old) (S.faults source.old) (K.taken sink.old) (K.faults sink.old))
+    ensures says { AuditSays (streams (S.left source.old) (S.faults source.old) (K.taken sink.old) (K.faults sink.old))
         (streams (S.left source.new) (S.faults source.new) (K.taken sink.new) (K.faults sink.new)) result }
     ensures calm { ¬ (result ≡ Status.ReadFault) → S.faults source.new ≡ S.faults source.old }
 {

@@ -1,5 +1,5 @@
 -- What an audit writes of a transcript is what was promised of its job and book.
-use Rattle.std.proofs.Common.{◌≡◌, ◌≤◌, ℕ, Bool, true, false, List, [], ◌∷◌, length, Option, Result, Ok, refl, sym, ap, ◌∙◌, subst}
+use Rattle.std.proofs.Common.{◌≡◌, ◌≤◌, ℕ, Bool, true, false, List, [], ◌∷◌, length, Result, Ok, refl, sym, ap, ◌∙◌, subst}
 use Rattle.swap_base.specs.Fault.{◌>>=◌}
 use Rattle.std.proofs.lemmas.List.Elements.{All-weaker}
 use Rattle.ledger_core.specs.declared.entry.Call.{Call}
@@ -15,7 +15,7 @@ use Rattle.deviators.specs.Program.{program_rule}
 use Rattle.refusals.specs.declared.reason.Reason.{Reason}
 use Rattle.offer_fields.proofs.Chains.{went}
 use Rattle.offer_header.specs.Raw.{is_plain}
-use Rattle.swap_offer.specs.Job.{events_for, job_header_of, job_of, of_lines}
+use Rattle.swap_offer.specs.Job.{events_for, job_header_of, job_of, job_of_lines}
 use Rattle.command_input.specs.Lines.{filled_lines, lines_of}
 use Rattle.read_back.specs.Headers.{IsShowable}
 use Rattle.read_back.proofs.Onward.{ok_is}
@@ -29,13 +29,13 @@ use Rattle.typed_books.specs.Books.{IsTypedBook, IsTypedEntry}
 use Rattle.command_input.specs.Input.{limit}
 use Rattle.audit_command.specs.Output.{audit_of}
 use Rattle.command_input.specs.Written.{Written}
+use Rattle.command_input.specs.Streams.{Streams}
 use Rattle.swap_commands.specs.Output.{Chance, book_of, by_reason, output_by, reported}
-use Rattle.swap_commands.specs.declared.words.Command.TheVariants.{OfJob, Audit}
-use Rattle.swap_commands.specs.declared.words.JobCommand.TheVariants.{Run, Race}
+use Rattle.swap_commands.specs.Words.{OfJob, Audit, Run, Race, Command}
 use Rattle.swap_commands.specs.Promised.{AsPromised}
+use Rattle.swap_commands.specs.Strategies.{strategies}
 use Rattle.swap_main.specs.Known.{by_rule, is_known}
 use Rattle.swap_main.specs.Top.{IsDone}
-use Rattle.swap_commands.specs.declared.words.Command.{Command}
 use Rattle.audited_runs.proofs.Rules.{program_keeps_digests}
 use Rattle.audited_runs.proofs.Whole.{runs_hold_digests}
 use Rattle.audited_runs.specs.Laws.{AuditsTellTheRace, AuditsTellTheRun, IsAudited, ProgramRacesAreAudited, ProgramRunsAreAudited, RacesAreAudited}
@@ -44,7 +44,7 @@ use Rattle.audited_runs.specs.Laws.{RunsAreAudited}
 -- ---- a job that was read can be shown
 
 lines_showable : (has : List ℕ → Bool) (purpose : Purpose) (ls : List (ℕ × List ℕ)) (job : Job) (events : List Event) → is_plain purpose ≡ false
-    → of_lines has purpose ls ≡ Ok (job, events) → IsShowable job
+    → job_of_lines has purpose ls ≡ Ok (job, events) → IsShowable job
 lines_showable has purpose [] job events stated e = absurd (cc e)
 lines_showable has purpose (l ∷ ls) job events stated e =
     let one = went (job_header_of has purpose l.0 l.1) _ (job, events) e in
@@ -134,12 +134,12 @@ races_are_audited rule has chance ticks input output p le =
     p.promised.kept.legal (holds_digests chance.book p.raced.typed) p.shown le (race_writes has chance ticks input p.job p.is_read)
 
 pub program_runs_are_audited : ProgramRunsAreAudited
-program_runs_are_audited words left left' taken taken' found done e le =
+program_runs_are_audited words before after found done e le =
     runs_are_audited program_rule is_known done.chance done.read.input done.output program_keeps_digests
     (subst (λ (c : Command). AsPromised is_known (by_rule program_rule) done.chance c done.read.input done.output) e done.promised) le
 
 pub program_races_are_audited : ProgramRacesAreAudited
-program_races_are_audited words left left' taken taken' found ticks done e le =
+program_races_are_audited words before after found ticks done e le =
     races_are_audited program_rule is_known done.chance ticks done.read.input done.output
     (subst (λ (c : Command). AsPromised is_known (by_rule program_rule) done.chance c done.read.input done.output) e done.promised) le
 
@@ -150,9 +150,9 @@ any_chance : (has : List ℕ → Bool) (a b : Chance) (text : List ℕ) → outp
 unfolding output_by
 any_chance has a b text = refl
 
-module _ (words others : List (List ℕ)) (left left' taken taken' before before' sink sink' : Option (List ℕ)) (found named : Bool)
-    (done : IsDone is_known (by_rule program_rule) words left left' taken taken' found)
-    (told : IsDone is_known (by_rule program_rule) others before before' sink sink' named) (q : told.read.command ≡ Audit)
+module _ (words others : List (List ℕ)) (before after first last : Streams) (found named : Bool)
+    (done : IsDone (strategies is_known (by_rule program_rule)) words before after found)
+    (told : IsDone (strategies is_known (by_rule program_rule)) others first last named) (q : told.read.command ≡ Audit)
     (same : told.read.input ≡ done.output.text) where
   within : length done.output.text ≤ limit
   within = subst (λ (l : List ℕ). length l ≤ limit) same told.read.within
@@ -171,13 +171,13 @@ module _ (words others : List (List ℕ)) (left left' taken taken' before before
       )
 
 pub audits_tell_the_run : AuditsTellTheRun
-audits_tell_the_run words others left left' taken taken' before before' sink sink' found named done e told q same =
-    tells words others left left' taken taken' before before' sink sink' found named done told q same (OfJob (Run false))
-    (program_runs_are_audited words left left' taken taken' found done e
-    (within words others left left' taken taken' before before' sink sink' found named done told q same))
+audits_tell_the_run words others before after first last found named done e told q same =
+    tells words others before after first last found named done told q same (OfJob (Run false))
+    (program_runs_are_audited words before after found done e
+    (within words others before after first last found named done told q same))
 
 pub audits_tell_the_race : AuditsTellTheRace
-audits_tell_the_race words others left left' taken taken' before before' sink sink' found named ticks done e told q same =
-    tells words others left left' taken taken' before before' sink sink' found named done told q same (OfJob (Race ticks false))
-    (program_races_are_audited words left left' taken taken' found ticks done e
-    (within words others left left' taken taken' before before' sink sink' found named done told q same))
+audits_tell_the_race words others before after first last found named ticks done e told q same =
+    tells words others before after first last found named done told q same (OfJob (Race ticks false))
+    (program_races_are_audited words before after found ticks done e
+    (within words others before after first last found named done told q same))

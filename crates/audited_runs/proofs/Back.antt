@@ -7,19 +7,19 @@ use Rattle.refusals.specs.declared.reason.Reason.{Reason}
 use Rattle.offer_header.specs.Names.{no_strategy}
 use Rattle.offer_text.specs.HeaderLine.{header_line}
 use Rattle.swap_offer.specs.Job.{names_at}
-use Rattle.read_back.specs.Headers.{IsShowable, audited}
+use Rattle.read_back.specs.Headers.{IsShowable, audited_job}
 use Rattle.read_back.proofs.HeaderOneLine.{header_is_one_line}
 use Rattle.read_back.proofs.HeaderShown.{header_reads}
 use Rattle.read_back.proofs.HeaderWhole.{header_is_read_back}
-use Rattle.transcript_lines.specs.Lines.{transcript, transcript_lines, IsWhole}
+use Rattle.transcript_lines.specs.Lines.{transcript, transcript_lines, IsWholeTranscript}
 use Rattle.transcript_book.proofs.Legal.{legal_is_stated}
 use Rattle.transcript_reader.specs.Header.{header_read}
-use Rattle.transcript_reader.specs.Laws.{job_of, ok_of}
+use Rattle.transcript_reader.specs.Laws.{header_job, ok_of}
 use Rattle.transcript_reader.proofs.Back.{whole_text_is_read}
 use Rattle.audited_runs.specs.Transcripts.{RoundTrip}
 use Rattle.audited_runs.proofs.Typed.{legal_is_typed}
 
-header_gives : (job : Job) → IsShowable job → header_read (header_line job) ≡ Ok (audited job)
+header_gives : (job : Job) → IsShowable job → header_read (header_line job) ≡ Ok (audited_job job)
 unfolding header_read
 header_gives job k =
     let line = header_reads job k in
@@ -29,10 +29,10 @@ header_gives job k =
 pub round_trip : RoundTrip
 unfolding transcript
 round_trip job b k =
-    let whole : IsWhole (job_of header_read) (transcript_lines (header_line job) b) (audited job) b = record {
+    let whole : IsWholeTranscript (header_job header_read) (transcript_lines (header_line job) b) (audited_job job) b = record {
       header = header_line job;
       gives = ap ok_of (header_gives job k.showable);
       lines = refl;
       stated = legal_is_stated job.deal b k.legal (legal_is_typed job.deal b k.showable.sized k.legal k.digests);
     } in
-    whole_text_is_read header_read (transcript_lines (header_line job) b) (audited job) b whole k.showable.sized (header_is_one_line job k.showable) k.short
+    whole_text_is_read header_read (transcript_lines (header_line job) b) (audited_job job) b whole k.showable.sized (header_is_one_line job k.showable) k.short

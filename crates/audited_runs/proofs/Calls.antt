@@ -16,7 +16,7 @@ use Rattle.ledger_core.specs.declared.entry.Call.TheVariants as calls
 use Rattle.ledger_core.specs.declared.entry.What.{What}
 use Rattle.ledger_core.specs.declared.entry.What.TheVariants.{Call as Made, Tick}
 use Rattle.ledger_core.specs.declared.entry.Entry.{Entry}
-use Rattle.ledger_core.specs.History.{accepted, accepted_in, opened, opening, Opening}
+use Rattle.ledger_core.specs.History.{accepted, accepted_call, opened, opening, Opening}
 use Rattle.ledger_core.specs.Book.{Histories, history}
 use Rattle.swap_rules.specs.Party.{key_without}
 use Rattle.swap_rules.specs.Due.{Action, Wallet, due, due_claims, due_key, due_publishes, due_refunds, due_unlock_on, due_unlocks, extended, first}
@@ -24,7 +24,7 @@ use Rattle.swap_rules.specs.Due.{is_due_claim, is_due_publish, is_due_refund, ma
 use Rattle.swap_job.specs.declared.moves.Move.{Move}
 use Rattle.swap_job.specs.declared.moves.Move.TheVariants.{Publish, Craft, Replay, Raw, Claim, Refund, Transfer, Wait}
 use Rattle.swap_job.specs.Crafted.{Seeds, crafted, crafted_onto}
-use Rattle.swap_job.specs.Resolved.{arc_of, call_of_move, call_with, key_opened, opening_named, resolved}
+use Rattle.swap_job.specs.Resolved.{move_arc, call_of_move, call_with, key_opened, opening_named, resolved}
 use Rattle.typed_books.specs.Typed.{IsDigest}
 use Rattle.audited_runs.specs.Digests.{HasDigests, StatesDigests}
 use Rattle.audited_runs.proofs.Hashes.{May, KeyHas, WalletHas, crafted_has, onto_crafted_has}
@@ -82,7 +82,7 @@ flat_has P f (x ∷ xs) h = All-append P (f x) (flat_map f xs) (h x) (flat_has P
 abbrev OpeningHas : Opening → Type 0
 OpeningHas o = KeyHas o.key
 
-opening_has : (i t : ℕ) (w : What) (r : Reply) → StatesDigests w → May OpeningHas (opening i t (accepted_in w r))
+opening_has : (i t : ℕ) (w : What) (r : Reply) → StatesDigests w → May OpeningHas (opening i t (accepted_call w r))
 opening_has i t (Made (calls.Unlock key)) Accepted h = by (key.lock == i)
   where
     by : (b : Bool) → May OpeningHas (cond b (Some (record { height = t; key = key })) None)
@@ -141,7 +141,7 @@ call_has d seeds key (Wait a height) locks k m = tt
 pub resolved_has : (d : Deal) (seeds : Seeds) (b : Histories) (mv : Move) → All IsDigest d.hashlocks → BookHas b → MoveHas mv
     → May AnswerHas (resolved d seeds b mv)
 resolved_has d seeds b mv locks k m =
-    map_has AnswerHas (λ (c : Call). (arc_of mv, c)) (call_of_move d seeds b mv)
+    map_has AnswerHas (λ (c : Call). (move_arc mv, c)) (call_of_move d seeds b mv)
     (call_has d seeds (key_opened b (opening_named mv)) mv locks (key_opened_has b (opening_named mv) k) m)
 
 -- ---- the calls that are due

@@ -46,13 +46,13 @@ use Rattle.offer_header.specs.declared.raw.RawHeader.{RawHeader}
 use Rattle.offer_header.specs.declared.raw.RawParty.{RawParty}
 use Rattle.offer_header.specs.declared.header.Header.{Header}
 use Rattle.offer_header.specs.Header.{header_of}
-use Rattle.offer_header.specs.Limits.{acting_of, limited_of, parties_of, role_of, script_role, seed_of, sizes_in}
+use Rattle.offer_header.specs.Limits.{acting_of, limited_of, parties_of, checked_role, script_role, checked_seed, sizes_in}
 use Rattle.offer_header.specs.Names.{numbered_of}
 use Rattle.offer_header.specs.Raw.{raw_of}
 use Rattle.offer_header.specs.Scripts.{scripts_placed}
 use Rattle.offer_header.proofs.Limited.{opened}
 use Rattle.swap_offer.specs.Checks.{admitted, job_with}
-use Rattle.swap_offer.specs.Job.{accepted_of, events_of, job_header_of, next_of, provided}
+use Rattle.swap_offer.specs.Job.{accepted_of, events_of, job_header_of, limited_event, provided}
 use Rattle.typed_books.specs.Typed.{IsDigest, IsSignature}
 use Rattle.transcript_book.proofs.Exact.{each_value, many_values}
 use Rattle.read_back.proofs.Onward.{landed, onward}
@@ -176,7 +176,7 @@ move_has s names line (raws.Wait n height) mv e = wait_has s line n height mv e
 
 -- ---- scripts
 
-role_has : (s : Sizes) (names : List (List ℕ)) (line : ℕ) (actor : RawActor) (role : Role) → role_of s names line actor ≡ Ok role → RoleHas role
+role_has : (s : Sizes) (names : List (List ℕ)) (line : ℕ) (actor : RawActor) (role : Role) → checked_role s names line actor ≡ Ok role → RoleHas role
 unfolding script_role
 role_has s names line Conforming = landed kinds.Conforming RoleHas tt
 role_has s names line Manual = landed kinds.Manual RoleHas tt
@@ -192,8 +192,8 @@ ActingHas a = RoleHas a.role
 acting_has : (s : Sizes) (names : List (List ℕ)) (line : ℕ) (p : RawParty) (a : Acting) → acting_of s names line p ≡ Ok a → ActingHas a
 unfolding acting_of
 acting_has s names line p =
-    onward (role_of s names line p.actor) _ ActingHas (λ role r.
-    onward (seed_of line p) _ ActingHas (λ seed e. landed (record { role = role; seed = seed }) ActingHas (role_has s names line p.actor role r)))
+    onward (checked_role s names line p.actor) _ ActingHas (λ role r.
+    onward (checked_seed line p) _ ActingHas (λ seed e. landed (record { role = role; seed = seed }) ActingHas (role_has s names line p.actor role r)))
 
 actings_have : (v : Version) (s : Sizes) (names : List (List ℕ)) (line : ℕ) (ps : List RawParty) (acting : List Acting)
     → parties_of v s names line ps ≡ Ok acting → All ActingHas acting
@@ -290,8 +290,8 @@ event_has job line text =
     onward (object_of line text) _ EventHas (λ d o.
     onward (event_at line d) _ EventHas (λ raw r e a. asked_has job line raw e a))
 
-next_has : (job : Job) (count line : ℕ) (text : List ℕ) (e : Event) → next_of job count line text ≡ Ok e → EventHas e
-unfolding next_of
+next_has : (job : Job) (count line : ℕ) (text : List ℕ) (e : Event) → limited_event job count line text ≡ Ok e → EventHas e
+unfolding limited_event
 next_has job count line text e k = by (count == 200000) k
   where
     by : (t : Bool) → cond t (Err (OverLimit line (codes "events") 200001)) (event_of job line text) ≡ Ok e → EventHas e
@@ -302,6 +302,6 @@ pub events_have : (job : Job) (count : ℕ) (ls : List (ℕ × List ℕ)) (es : 
 unfolding events_of
 events_have job count [] = landed [] (All EventHas) (All-nil EventHas)
 events_have job count (l ∷ ls) =
-    onward (next_of job count l.0 l.1) _ (All EventHas) (λ e n.
+    onward (limited_event job count l.0 l.1) _ (All EventHas) (λ e n.
     onward (events_of job (count + 1) ls) _ (All EventHas) (λ es r.
     landed (e ∷ es) (All EventHas) (All-cons EventHas e es (next_has job count l.0 l.1 e n) (events_have job (count + 1) ls es r))))

@@ -14,7 +14,7 @@ use Rattle.ledger_core.specs.declared.entry.Call.TheVariants as calls
 use Rattle.ledger_core.specs.declared.entry.What.{What}
 use Rattle.ledger_core.specs.declared.entry.What.TheVariants.{Call as Made, Tick}
 use Rattle.ledger_core.specs.declared.entry.Entry.{Entry}
-use Rattle.ledger_core.specs.History.{accepted, accepted_in}
+use Rattle.ledger_core.specs.History.{accepted, accepted_call}
 use Rattle.ledger_core.specs.Book.{Histories}
 use Rattle.deviators.specs.Rules.{around, greedy, key_in, keys_known, replayer, silent, spoiled_terms, spoiler, unlock_with}
 use Rattle.deviators.specs.Program.{program_rule}
@@ -41,7 +41,7 @@ unlocks None r k = tt
 unlocks (Some a) None k = tt
 unlocks (Some a) (Some key) k = k
 
-key_in_has : (w : What) (r : Reply) → StatesDigests w → All KeyHas (key_in (accepted_in w r))
+key_in_has : (w : What) (r : Reply) → StatesDigests w → All KeyHas (key_in (accepted_call w r))
 key_in_has (Made (calls.Unlock key)) Accepted h = All-cons KeyHas key [] h (All-nil KeyHas)
 key_in_has (Made (calls.Publish terms)) Accepted h = All-nil KeyHas
 key_in_has (Made calls.Claim) Accepted h = All-nil KeyHas

@@ -31,7 +31,7 @@ use Rattle.swap_run.specs.Run.{Cast, Notes, Plan, Question, State, act, act_as, 
 use Rattle.swap_run.specs.Run.{first_plan, follow, is_answer_of, is_clock_full_reply, is_planned, look, make, next_of, no_histories, no_notes}
 use Rattle.swap_run.specs.Run.{notes_of, plan_of, question, plan_up_to, plans_seen, role_of, run, run_from, signed_after, start, step}
 use Rattle.swap_run.specs.Run.{take_call, watch, crash, is_recorded, recorded_after, relearnt}
-use Rattle.swap_run.specs.Fair.{acts, adjacent, finish, has_ended, looks, most_acts, repeat, round, round_unless_ended, the_horizon, tick_low, ticks, turn}
+use Rattle.swap_run.specs.Fair.{acts, adjacent_arcs, finish, has_ended, looks, most_acts, repeat, round, round_unless_ended, the_horizon, tick_low, ticks, turn}
 use Rattle.swap_run.specs.Fair.{turns}
 use Rattle.swap_commands.specs.Output.{finished}
 use Rattle.typed_books.specs.Typed.{IsDigest}
@@ -408,7 +408,7 @@ module _ (c : Cast) (hashlocks : All IsDigest c.deal.hashlocks) (wallets : (v : 
 
     looks_walk : (v : ℕ) → Walks (looks c v)
     unfolding looks
-    looks_walk v = each (λ s a. step c s (Look v a)) (adjacent c.deal v) (looking v)
+    looks_walk v = each (λ s a. step c s (Look v a)) (adjacent_arcs c.deal v) (looking v)
 
     turn_walks : (v : ℕ) → Walks (λ s. turn c s v)
     unfolding turn

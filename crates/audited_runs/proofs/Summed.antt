@@ -7,20 +7,19 @@ use Rattle.command_input.specs.Lines.{filled_lines, lines_of}
 use Rattle.swap_gen.specs.Drawn.{plain_job}
 use Rattle.swap_gen.specs.Events.{generated_events}
 use Rattle.made_jobs.specs.Generating.{generated_book, generated_text}
-use Rattle.read_back.specs.Made.{told}
+use Rattle.read_back.specs.Made.{told_job}
 use Rattle.read_back.proofs.Generated.{generated_text_is_read_back}
 use Rattle.read_back.proofs.Runs.{same_book}
 use Rattle.swap_commands.specs.Generated.{summary_output}
 use Rattle.swap_commands.specs.Output.{book_of, output_by, output_for, reported, Chance}
-use Rattle.swap_commands.specs.declared.words.Command.TheVariants.{OfJob}
-use Rattle.swap_commands.specs.declared.words.JobCommand.TheVariants.{Run}
-use Rattle.swap_commands.specs.declared.words.Request.{Request}
+use Rattle.swap_commands.specs.Words.{OfJob, Run}
+use Rattle.program_words.specs.declared.task.Request.{Request}
 use Rattle.audited_runs.specs.Generated.{summed, GeneratedRunsAreSummed}
 
 module _ (has : List ℕ → Bool) (chance : Chance) (transcript : Bool) (r : Request) (many : 2 ≤ r.parties) (few : r.parties ≤ 24)
     (few_events : r.events ≤ 200000) where
   abbrev job : Job
-  job = told purposes.Run (plain_job r.seed r.parties)
+  job = told_job purposes.Run (plain_job r.seed r.parties)
 
   -- the job asks for a fair finish
   book_is : book_of chance.answers job (generated_events r.seed r.parties r.events) ≡ generated_book r.seed r.parties r.events

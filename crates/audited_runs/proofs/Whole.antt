@@ -9,7 +9,7 @@ use Rattle.swap_job.specs.declared.job.Purpose.TheVariants as purposes
 use Rattle.swap_run.specs.Asked.{Answers}
 use Rattle.swap_run.specs.Run.{Question}
 use Rattle.swap_world.specs.Cast.{wallet_with}
-use Rattle.swap_offer.specs.Job.{events_of, job_header_of, job_of, of_lines}
+use Rattle.swap_offer.specs.Job.{events_of, job_header_of, job_of, job_of_lines}
 use Rattle.command_input.specs.Lines.{filled_lines, lines_of}
 use Rattle.swap_commands.specs.Output.{AreGiven, cast_by, state_of}
 use Rattle.swap_main.specs.Known.{by_rule}
@@ -28,7 +28,7 @@ record AreRead (j : Job × List Event) : Type 0 where
   scripts : JobHas j.0
   events : All EventHas j.1
 
-lines_are_read : (has : List ℕ → Bool) (ls : List (ℕ × List ℕ)) (j : Job × List Event) → of_lines has purposes.Run ls ≡ Ok j → AreRead j
+lines_are_read : (has : List ℕ → Bool) (ls : List (ℕ × List ℕ)) (j : Job × List Event) → job_of_lines has purposes.Run ls ≡ Ok j → AreRead j
 lines_are_read has [] j e = absurd (cc e)
 lines_are_read has (l ∷ ls) j e =
     onward (job_header_of has purposes.Run l.0 l.1) _ AreRead (λ job h.

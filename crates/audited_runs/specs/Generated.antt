@@ -3,17 +3,16 @@ use Rattle.std.specs.Prelude.{◌≡◌, ◌≤◌, ℕ, Bool, List, Ok}
 use Rattle.swap_job.specs.declared.job.Purpose.TheVariants as purposes
 use Rattle.swap_gen.specs.Drawn.{plain_job}
 use Rattle.made_jobs.specs.Generating.{generated_book, generated_text}
-use Rattle.read_back.specs.Made.{told}
+use Rattle.read_back.specs.Made.{told_job}
 use Rattle.command_input.specs.Written.{Written}
 use Rattle.swap_commands.specs.Generated.{summary_output}
 use Rattle.swap_commands.specs.Output.{output_by, reported, Chance}
-use Rattle.swap_commands.specs.declared.words.Command.TheVariants.{OfJob}
-use Rattle.swap_commands.specs.declared.words.JobCommand.TheVariants.{Run}
-use Rattle.swap_commands.specs.declared.words.Request.{Request}
+use Rattle.swap_commands.specs.Words.{OfJob, Run}
+use Rattle.program_words.specs.declared.task.Request.{Request}
 
 -- What is reported of the book that the number's summary tells of: it is found whatever the summary finds.
 abbrev pub summed : Bool → Request → Written
-summed transcript r = reported transcript (told purposes.Run (plain_job r.seed r.parties)) (generated_book r.seed r.parties r.events)
+summed transcript r = reported transcript (told_job purposes.Run (plain_job r.seed r.parties)) (generated_book r.seed r.parties r.events)
 
 -- A run of what `gen` writes of a number, with at most 200,000 events, writes the report, or the transcript, of that book, whatever strategies are had and
 -- chance decides; and it tells of a finding where the summary does.

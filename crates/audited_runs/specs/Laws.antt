@@ -1,15 +1,15 @@
 -- An audit of the transcript that a run or a race wrote writes the report that the run or the race writes.
-use Rattle.std.specs.Prelude.{◌≡◌, ◌≤◌, ℕ, Bool, true, false, List, length, Option, Ok}
+use Rattle.std.specs.Prelude.{◌≡◌, ◌≤◌, ℕ, Bool, true, false, List, length, Ok}
 use Rattle.command_input.specs.Written.{Written}
 use Rattle.deviators.specs.Program.{program_rule}
 use Rattle.command_input.specs.Input.{limit}
+use Rattle.command_input.specs.Streams.{Streams}
 use Rattle.swap_commands.specs.Output.{Chance, output_by}
 use Rattle.swap_commands.specs.Promised.{AsPromised}
 use Rattle.swap_main.specs.Known.{by_rule, is_known}
 use Rattle.swap_main.specs.Top.{IsDone}
-use Rattle.swap_commands.specs.declared.words.Command.{Command}
-use Rattle.swap_commands.specs.declared.words.Command.TheVariants.{OfJob, Audit}
-use Rattle.swap_commands.specs.declared.words.JobCommand.TheVariants.{Run, Race}
+use Rattle.swap_commands.specs.Words.{Command, OfJob, Audit, Run, Race}
+use Rattle.swap_commands.specs.Strategies.{strategies}
 use Rattle.audited_runs.specs.RunDigests.{KeepsDigests, Rule}
 
 -- What was written of an input is a transcript of which an audit writes what the command writes for that input, and either tells of a finding where the
@@ -38,31 +38,31 @@ RacesAreAudited =
 -- So wherever the program is done with a run, whatever is found, its transcript is audited as the run is reported.
 abbrev pub ProgramRunsAreAudited : Type 0
 ProgramRunsAreAudited =
-    (words : List (List ℕ)) (left left' taken taken' : Option (List ℕ)) (found : Bool)
-    (done : IsDone is_known (by_rule program_rule) words left left' taken taken' found) → done.read.command ≡ OfJob (Run true)
+    (words : List (List ℕ)) (before after : Streams) (found : Bool)
+    (done : IsDone (strategies is_known (by_rule program_rule)) words before after found) → done.read.command ≡ OfJob (Run true)
     → length done.output.text ≤ limit → IsAudited is_known done.chance (OfJob (Run false)) done.read.input done.output
 
 -- And wherever it is done with an audit of such a transcript, what it wrote is the text that the run writes, and it tells of a finding where the run did.
 abbrev pub AuditsTellTheRun : Type 0
 AuditsTellTheRun =
-    (words others : List (List ℕ)) (left left' taken taken' before before' sink sink' : Option (List ℕ)) (found named : Bool)
-    (done : IsDone is_known (by_rule program_rule) words left left' taken taken' found) → done.read.command ≡ OfJob (Run true)
-    → (told : IsDone is_known (by_rule program_rule) others before before' sink sink' named) → told.read.command ≡ Audit
+    (words others : List (List ℕ)) (before after first last : Streams) (found named : Bool)
+    (done : IsDone (strategies is_known (by_rule program_rule)) words before after found) → done.read.command ≡ OfJob (Run true)
+    → (told : IsDone (strategies is_known (by_rule program_rule)) others first last named) → told.read.command ≡ Audit
     → told.read.input ≡ done.output.text
     → (output_by is_known done.chance (OfJob (Run false)) done.read.input ≡ Ok told.output) × (named ≡ found)
 
 -- The same of a race.
 abbrev pub ProgramRacesAreAudited : Type 0
 ProgramRacesAreAudited =
-    (words : List (List ℕ)) (left left' taken taken' : Option (List ℕ)) (found : Bool) (ticks : ℕ)
-    (done : IsDone is_known (by_rule program_rule) words left left' taken taken' found) → done.read.command ≡ OfJob (Race ticks true)
+    (words : List (List ℕ)) (before after : Streams) (found : Bool) (ticks : ℕ)
+    (done : IsDone (strategies is_known (by_rule program_rule)) words before after found) → done.read.command ≡ OfJob (Race ticks true)
     → length done.output.text ≤ limit → IsAudited is_known done.chance (OfJob (Race ticks false)) done.read.input done.output
 
 -- And what an audit of its transcript wrote is the text that the race writes where it comes to that book.
 abbrev pub AuditsTellTheRace : Type 0
 AuditsTellTheRace =
-    (words others : List (List ℕ)) (left left' taken taken' before before' sink sink' : Option (List ℕ)) (found named : Bool) (ticks : ℕ)
-    (done : IsDone is_known (by_rule program_rule) words left left' taken taken' found) → done.read.command ≡ OfJob (Race ticks true)
-    → (told : IsDone is_known (by_rule program_rule) others before before' sink sink' named) → told.read.command ≡ Audit
+    (words others : List (List ℕ)) (before after first last : Streams) (found named : Bool) (ticks : ℕ)
+    (done : IsDone (strategies is_known (by_rule program_rule)) words before after found) → done.read.command ≡ OfJob (Race ticks true)
+    → (told : IsDone (strategies is_known (by_rule program_rule)) others first last named) → told.read.command ≡ Audit
     → told.read.input ≡ done.output.text
     → (output_by is_known done.chance (OfJob (Race ticks false)) done.read.input ≡ Ok told.output) × (named ≡ found)

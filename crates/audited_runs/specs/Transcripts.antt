@@ -3,7 +3,7 @@ use Rattle.std.specs.Prelude.{◌≡◌, ◌≤◌, ◌==◌, not, length, Ok}
 use Rattle.ledger_core.specs.Book.{Histories, IsLegalBook}
 use Rattle.swap_job.specs.declared.job.Job.{Job}
 use Rattle.outcome_rules.specs.Report.{report_of}
-use Rattle.read_back.specs.Headers.{IsShowable, audited}
+use Rattle.read_back.specs.Headers.{IsShowable, audited_job}
 use Rattle.report_text.specs.Report.{report}
 use Rattle.transcript_lines.specs.Lines.{transcript}
 use Rattle.transcript_reader.specs.Header.{header_read}
@@ -22,15 +22,15 @@ pub record HasTranscript (job : Job) (b : Histories) : Type 0 where
 
 -- Its transcript is read as the job as an auditor knows it, and the very book.
 abbrev pub RoundTrip : Type 0
-RoundTrip = (job : Job) (b : Histories) → HasTranscript job b → transcript_read header_read (transcript job b) ≡ Ok (record { job = audited job; book = b })
+RoundTrip = (job : Job) (b : Histories) → HasTranscript job b → transcript_read header_read (transcript job b) ≡ Ok (record { job = audited_job job; book = b })
 
 -- the report of a job's book, and whether it tells of a finding
-abbrev pub reported : Job → Histories → Written
-reported job b = record {
+abbrev pub reported_book : Job → Histories → Written
+reported_book job b = record {
   text = report job b (report_of job.deal job.conforming b);
   found = not (length (report_of job.deal job.conforming b).findings == 0);
 }
 
 -- And what an audit of it writes is, byte for byte, the report of the job and the book that were written.
 abbrev pub SameReport : Type 0
-SameReport = (job : Job) (b : Histories) → HasTranscript job b → audit_of (transcript job b) ≡ Ok (reported job b)
+SameReport = (job : Job) (b : Histories) → HasTranscript job b → audit_of (transcript job b) ≡ Ok (reported_book job b)

@@ -11,8 +11,8 @@ use Rattle.swap_clear.specs.Proposals.{proposed_graph}
 use Rattle.swap_clear.specs.declared.answer.Clearing.{Clearing}
 use Rattle.swap_clear.specs.declared.proposed.Proposed.{Proposed}
 use Rattle.clear_line.specs.Cleared.{IsShown, Shows}
-use Rattle.clear_line.specs.Limits.{proposed_of, proposals_of, times_of, IsWithin}
-use Rattle.clear_line.specs.Names.{AreEndsBelow, IsBelow}
+use Rattle.clear_line.specs.Limits.{proposed_of, proposals_of, times_of, AreWishesWithin}
+use Rattle.clear_line.specs.Names.{AreEndsBelow, HasEndsBelow}
 use Rattle.clear_line.specs.declared.fields.RawWishes.{RawWishes}
 use Rattle.clear_line.specs.declared.limits.Wishes.{Wishes}
 use Rattle.clear_line.specs.declared.names.Numbered.{Numbered}
@@ -60,7 +60,7 @@ abbrev zero_arc : NumberedArc
 zero_arc = record { ends = record { from = 0; to = 0 }; amount = 0 }
 
 pub is_within : (line : ℕ) (w : RawWishes) (n : Numbered) (t : ℕ × ℕ) (arcs : List Proposed) → AreNames n.names → AreEndsBelow n → times_of line w ≡ Ok t
-    → proposals_of line n ≡ Ok arcs → IsWithin (record { start = t.0; delta = t.1; names = n.names; arcs = arcs })
+    → proposals_of line n ≡ Ok arcs → AreWishesWithin (record { start = t.0; delta = t.1; names = n.names; arcs = arcs })
 is_within line w n t arcs names ends times proposals =
     let k = times_ok line w t times in
     let r = are_read line n arcs proposals in
@@ -68,7 +68,7 @@ is_within line w n t arcs names ends times proposals =
     let at : (a : ℕ) (d : Proposed) → a < length arcs → proposed_of line (get_or n.arcs a zero_arc) ≡ Ok (get_or arcs a d) = λ a d lt.
     each_at (proposed_of line) n.arcs arcs zero_arc d r.each a (omega arith) in
     let ok = λ (a : ℕ) (d : Proposed) (lt : a < length arcs). proposed_ok line (get_or n.arcs a zero_arc) (get_or arcs a d) (at a d lt) in
-    let below : (a : ℕ) → a < length arcs → IsBelow (length n.names) (get_or n.arcs a zero_arc) = λ a lt. ends a zero_arc (omega arith) in
+    let below : (a : ℕ) → a < length arcs → HasEndsBelow (length n.names) (get_or n.arcs a zero_arc) = λ a lt. ends a zero_arc (omega arith) in
     record {
       start = k.0;
       delta = k.1;
@@ -81,7 +81,7 @@ is_within line w n t arcs names ends times proposals =
     }
 
 -- few parties have small numbers
-pub small_ends : (n : Numbered) → length n.names ≤ 32 → AreEndsBelow n → (a : ℕ) (d : NumberedArc) → a < length n.arcs → IsBelow 256 (get_or n.arcs a d)
+pub small_ends : (n : Numbered) → length n.names ≤ 32 → AreEndsBelow n → (a : ℕ) (d : NumberedArc) → a < length n.arcs → HasEndsBelow 256 (get_or n.arcs a d)
 small_ends n few ends a d lt =
     let k = ends a d lt in
     (omega (arith, few, k.0), omega (arith, few, k.1))

@@ -11,7 +11,7 @@ use Rattle.swap_clear.specs.declared.answer.Group.{Group}
 use Rattle.swap_clear.specs.declared.answer.LeftOut.{LeftOut}
 use Rattle.swap_clear.specs.declared.proposed.Proposed.{Proposed}
 use Rattle.clear_line.specs.Cleared.{cleared_of, Shows}
-use Rattle.clear_line.specs.Limits.{IsWithin}
+use Rattle.clear_line.specs.Limits.{AreWishesWithin}
 use Rattle.clear_line.specs.declared.cleared.Cleared.{Cleared}
 use Rattle.clear_line.specs.declared.limits.Wishes.{Wishes}
 
@@ -25,8 +25,8 @@ named_data field names p = object (member field (name_data names p) no_members)
 abbrev pub proposal : List Proposed → ℕ → Proposed
 proposal arcs a = slice_index_or arcs a (record { from = 0; to = 0; amount = 0 })
 
-abbrev pub arc_data : List (List ℕ) → Proposed → Data
-arc_data names a =
+abbrev pub proposal_data : List (List ℕ) → Proposed → Data
+proposal_data names a =
     object (member (codes "amount") (number_data a.amount)
     (member (codes "from") (name_data names a.from)
     (member (codes "to") (name_data names a.to) no_members)))
@@ -43,14 +43,14 @@ members_data w group =
     (member (codes "mode") (string (codes "hashkeys"))
     (last_fields w group))
 
-abbrev pub first_fields : Wishes → Group → Members → Members
-first_fields w group ms =
-    member (codes "arcs") (list_data (λ a. arc_data w.names (proposal w.arcs a)) group.arcs)
+abbrev pub group_fields : Wishes → Group → Members → Members
+group_fields w group ms =
+    member (codes "arcs") (list_data (λ a. proposal_data w.names (proposal w.arcs a)) group.arcs)
     (member (codes "bound") (number_data group.bound)
     (member (codes "delta") (number_data w.delta) ms))
 
 abbrev pub group_data : Wishes → Group → Data
-group_data w group = object (first_fields w group (members_data w group))
+group_data w group = object (group_fields w group (members_data w group))
 
 -- its line: compact JSON, as `serde_json` writes it
 unfoldable pub group_line : Wishes → Group → List ℕ
@@ -87,6 +87,6 @@ cleared_line line text = do
 pub record IsClearedLine (line : ℕ) (text written : List ℕ) : Type 0 where
   pub cleared : Cleared
   pub is_read : cleared_of line text ≡ Ok cleared
-  pub within : IsWithin cleared.wishes
+  pub within : AreWishesWithin cleared.wishes
   pub shown : written ≡ cleared_text cleared
   pub shows : Shows cleared

@@ -7,7 +7,7 @@ use Rattle.swap_job.specs.declared.job.Purpose.TheVariants.{Make}
 use Rattle.refusals.specs.declared.reason.Reason.{Reason}
 use Rattle.refusals.specs.declared.reason.Reason.TheVariants.{WrongKind}
 use Rattle.offer_fields.specs.Fields.{number_at, member_text_of, list_at, only}
-use Rattle.offer_header.specs.Raw.{arc_of}
+use Rattle.offer_header.specs.Raw.{raw_arc_of}
 use Rattle.offer_header.specs.declared.raw.RawArc.{RawArc}
 use Rattle.clear_line.specs.declared.fields.RawWishes.{RawWishes}
 
@@ -22,11 +22,11 @@ fields = codes "arcs" ∷ codes "clear" ∷ codes "delta" ∷ codes "parties" �
 
 -- an arc has the fields that it has in a plain job with hashkeys: `from`, `to` and `amount`
 abbrev pub arc_in : ℕ → Data → Result RawArc Reason
-arc_in line d = arc_of (record { purpose = Make; mode = Hashkeys }) line d
+arc_in line d = raw_arc_of (record { purpose = Make; mode = Hashkeys }) line d
 
 -- the fields of a line
-unfoldable pub raw_of : ℕ → Data → Result RawWishes Reason
-raw_of line d = do
+unfoldable pub raw_wishes : ℕ → Data → Result RawWishes Reason
+raw_wishes line d = do
   k ← kind_at line d
   start ← number_at line (codes "start") d
   delta ← number_at line (codes "delta") d

@@ -8,8 +8,8 @@ use Rattle.offer_fields.specs.Lists.{each_of}
 use Rattle.offer_header.specs.Names.{AreNames}
 use Rattle.swap_clear.specs.Ready.{AreAmounts}
 use Rattle.swap_clear.specs.declared.proposed.Proposed.{Proposed}
-use Rattle.clear_line.specs.Fields.{raw_of}
-use Rattle.clear_line.specs.Names.{numbered_of}
+use Rattle.clear_line.specs.Fields.{raw_wishes}
+use Rattle.clear_line.specs.Names.{numbered_wishes}
 use Rattle.clear_line.specs.declared.fields.RawWishes.{RawWishes}
 use Rattle.clear_line.specs.declared.names.Numbered.{Numbered}
 use Rattle.clear_line.specs.declared.names.NumberedArc.{NumberedArc}
@@ -38,7 +38,7 @@ proposals_of line numbered = do
 -- the wishes that fields give: the names first, and then the limits
 unfoldable pub wishes_by : ℕ → RawWishes → Result Wishes Reason
 wishes_by line w = do
-  numbered ← numbered_of line w
+  numbered ← numbered_wishes line w
   times ← times_of line w
   arcs ← proposals_of line numbered
   Ok (record { start = times.0; delta = times.1; names = numbered.names; arcs = arcs })
@@ -47,11 +47,11 @@ wishes_by line w = do
 unfoldable pub wishes_of : ℕ → List ℕ → Result Wishes Reason
 wishes_of line text = do
   object ← object_of line text
-  raw ← raw_of line object
+  raw ← raw_wishes line object
   wishes_by line raw
 
 -- Wishes within their limits.
-pub record IsWithin (w : Wishes) : Type 0 where
+pub record AreWishesWithin (w : Wishes) : Type 0 where
   pub start : (1 ≤ w.start) × (w.start ≤ 1000)
   pub delta : (1 ≤ w.delta) × (w.delta ≤ 100)
   pub parties : (2 ≤ length w.names) × (length w.names ≤ 32)

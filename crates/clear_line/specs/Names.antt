@@ -3,7 +3,7 @@ use Rattle.std.specs.Prelude.{ℕ, ◌<◌, List, [], length, slice_index_or, No
 use Rattle.swap_base.specs.Fault.{◌>>=◌, steps}
 use Rattle.refusals.specs.declared.reason.Reason.{Reason}
 use Rattle.offer_fields.specs.Lists.{each_of}
-use Rattle.offer_header.specs.Names.{ends_of, name_added}
+use Rattle.offer_header.specs.Names.{named_ends, name_added}
 use Rattle.offer_header.specs.declared.raw.RawActor.TheVariants.{Conforming}
 use Rattle.offer_header.specs.declared.raw.RawParty.{RawParty}
 use Rattle.offer_header.specs.declared.raw.RawArc.{RawArc}
@@ -16,25 +16,25 @@ abbrev pub party_named : List ℕ → RawParty
 party_named name = record { name = name; actor = Conforming; seed = None }
 
 -- one more name, as in a header
-abbrev pub name_step : ℕ → List (List ℕ) → List ℕ → Result (List (List ℕ)) Reason
-name_step line names name = name_added line names (party_named name)
+abbrev pub wished_name_step : ℕ → List (List ℕ) → List ℕ → Result (List (List ℕ)) Reason
+wished_name_step line names name = name_added line names (party_named name)
 
 -- an arc by its parties' numbers
 unfoldable pub numbered_arc : ℕ → List (List ℕ) → RawArc → Result NumberedArc Reason
 numbered_arc line names a = do
-  ends ← ends_of line names a
+  ends ← named_ends line names a
   Ok (record { ends = ends; amount = a.amount })
 
 -- the names in their order, then the ends of the arcs
-unfoldable pub numbered_of : ℕ → RawWishes → Result Numbered Reason
-numbered_of line w = do
-  names ← steps (name_step line) [] w.parties
+unfoldable pub numbered_wishes : ℕ → RawWishes → Result Numbered Reason
+numbered_wishes line w = do
+  names ← steps (wished_name_step line) [] w.parties
   arcs ← each_of (numbered_arc line names) w.arcs
   Ok (record { names = names; arcs = arcs })
 
-abbrev pub IsBelow : ℕ → NumberedArc → Type 0
-IsBelow n a = (a.ends.from < n) × (a.ends.to < n)
+abbrev pub HasEndsBelow : ℕ → NumberedArc → Type 0
+HasEndsBelow n a = (a.ends.from < n) × (a.ends.to < n)
 
 -- each end is the number of a party
 abbrev pub AreEndsBelow : Numbered → Type 0
-AreEndsBelow numbered = (a : ℕ) (d : NumberedArc) → a < length numbered.arcs → IsBelow (length numbered.names) (slice_index_or numbered.arcs a d)
+AreEndsBelow numbered = (a : ℕ) (d : NumberedArc) → a < length numbered.arcs → HasEndsBelow (length numbered.names) (slice_index_or numbered.arcs a d)

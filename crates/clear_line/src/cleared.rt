@@ -4,7 +4,7 @@ ghost use Rattle.std.specs.Prelude.{◌≡◌, ◌<◌, ◌≤◌, length, posit
 ghost use Rattle.swap_base.specs.Fault.{Gives};
 ghost use Rattle.swap_clear.specs.Refused.{IfRefused};
 ghost use Rattle.clear_line.specs.Cleared.{cleared_of, clearing_for, fault_of, first_self, small, started, without_self_arcs, Shows};
-ghost use Rattle.clear_line.specs.Limits.{IsWithin};
+ghost use Rattle.clear_line.specs.Limits.{AreWishesWithin};
 
 use crate::limits::{Wishes, wishes_in};
 use refusals::{OfferFault, Reason};
@@ -68,7 +68,7 @@ fn fault_of(fault: ClearFault) -> OfferFault
 /// What of the wishes can be swapped, or the first reason against them.
 #[tactic(auto, unfolding(crate::specs::Cleared::clearing_for))]
 fn clearing_for(alloc: Global, wishes: &Wishes) -> Result<Clearing, OfferFault>
-    requires { IsWithin wishes.now }
+    requires { AreWishesWithin wishes.now }
     ensures exact { Gives (λ c. c) result (clearing_for wishes.now) }
     ensures shows { IfOk result (λ c. Shows (record { wishes = wishes.now; clearing = c })) }
 {
@@ -84,7 +84,7 @@ fn clearing_for(alloc: Global, wishes: &Wishes) -> Result<Clearing, OfferFault>
 #[tactic(auto, unfolding(crate::specs::Cleared::cleared_of))]
 pub fn cleared_in(alloc: Global, line: u32, text: &[u8]) -> Result<Cleared, OfferFault>
     ensures exact { Gives (λ c. c) result (cleared_of line text.now) }
-    ensures within { IfOk result (λ c. IsWithin c.wishes) }
+    ensures within { IfOk result (λ c. AreWishesWithin c.wishes) }
     ensures shows { IfOk result Shows }
 {
     let wishes = wishes_in(alloc, line, text)?;

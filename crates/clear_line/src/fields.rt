@@ -4,7 +4,7 @@ ghost use Rattle.std.specs.Prelude.{codes};
 ghost use Rattle.serde_json.specs.View.{view};
 ghost use Rattle.swap_base.specs.Fault.{Gives};
 ghost use Rattle.offer_fields.specs.Fields.{list_at, member_text_of, only};
-ghost use Rattle.clear_line.specs.Fields.{fields, kind_at, raw_of};
+ghost use Rattle.clear_line.specs.Fields.{fields, kind_at, raw_wishes};
 
 use offer_fields::{TextRef, array_in, list_in, number_in, only_in, texts_in};
 use offer_header::{RawArc, Reading};
@@ -57,13 +57,13 @@ fn only_fields(alloc: Global, line: u32, object: &Value) -> Result<(), OfferFaul
 }
 
 /// The fields of the line, or the first reason why one is refused. An arc has the fields that it has in a plain job with hashkeys.
-#[tactic(auto, unfolding(crate::specs::Fields::raw_of))]
+#[tactic(auto, unfolding(crate::specs::Fields::raw_wishes))]
 pub(crate) fn raw_in<'v>(
     alloc: Global,
     line: u32,
     object: &'v Value,
 ) -> Result<RawWishes<'v>, OfferFault>
-    ensures { Gives (λ w. w) result (raw_of line (view object.now)) }
+    ensures { Gives (λ w. w) result (raw_wishes line (view object.now)) }
 {
     check_kind(alloc, line, object)?;
     let start = number_in(alloc, line, "start", object)?;

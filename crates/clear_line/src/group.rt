@@ -5,7 +5,7 @@ ghost use Rattle.serde_json.specs.Data.{no_members};
 ghost use Rattle.serde_json.specs.View.{view, members_view};
 ghost use Rattle.swap_base.specs.Text.{lines};
 ghost use Rattle.offer_text.specs.Words.{AreTexts, IsBelow};
-ghost use Rattle.clear_line.specs.ClearedText.{cycle_line, first_fields, group_data, group_line, group_text, last_fields, members_data};
+ghost use Rattle.clear_line.specs.ClearedText.{cycle_line, group_fields, group_data, group_line, group_text, last_fields, members_data};
 
 use crate::limits::Wishes;
 use crate::lists::{arc_values, named_values};
@@ -61,7 +61,7 @@ fn put_first_fields(
 ) -> Result<(), NoMemory>
     requires after { IsBelow (codes "delta") (members_view fields.old.entries) }
     requires texts { AreTexts wishes.now.names }
-    ensures { OnOk result (members_view fields.new.entries ≡ first_fields wishes.now group.now (members_view fields.old.entries)) }
+    ensures { OnOk result (members_view fields.new.entries ≡ group_fields wishes.now group.now (members_view fields.old.entries)) }
 {
     put_number(alloc, fields, "delta", wishes.delta as u64)?;
     put_number(alloc, fields, "bound", group.bound as u64)?;

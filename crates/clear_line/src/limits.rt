@@ -3,8 +3,8 @@
 ghost use Rattle.std.specs.Prelude.{◌<◌, ℕ, length, slice_index_or, IfOk};
 ghost use Rattle.swap_base.specs.Fault.{Gives};
 ghost use Rattle.offer_fields.specs.Lists.{each_of};
-ghost use Rattle.clear_line.specs.Limits.{proposed_of, times_of, proposals_of, wishes_by, wishes_of, IsWithin};
-ghost use Rattle.clear_line.specs.Names.{AreEndsBelow, IsBelow};
+ghost use Rattle.clear_line.specs.Limits.{proposed_of, times_of, proposals_of, wishes_by, wishes_of, AreWishesWithin};
+ghost use Rattle.clear_line.specs.Names.{AreEndsBelow, HasEndsBelow};
 ghost use Rattle.clear_line.specs.declared.names.NumberedArc.{NumberedArc as Arc};
 
 use crate::fields::{RawWishes, raw_in};
@@ -15,7 +15,7 @@ use std::alloc::Global;
 use swap_base::{ByteText, Listed};
 use swap_clear::Proposed;
 
-/// Wishes whose fields, names and limits are in order, as `IsWithin` says.
+/// Wishes whose fields, names and limits are in order, as `AreWishesWithin` says.
 #[derive(Drop)]
 pub struct Wishes {
     /// A height, 1 to 1,000.
@@ -29,7 +29,7 @@ pub struct Wishes {
 
 #[tactic(auto, unfolding(crate::specs::Limits::proposed_of))]
 fn proposed_of(alloc: Global, line: u32, arc: NumberedArc) -> Result<Proposed, OfferFault>
-    requires { IsBelow 256 arc }
+    requires { HasEndsBelow 256 arc }
     ensures { Gives (λ p. p) result (proposed_of line arc) }
 {
     within(alloc, line, "amount", 1, 1_000_000_000_000, arc.amount)?;
@@ -45,7 +45,7 @@ fn each_proposed(
     line: u32,
     arcs: &[NumberedArc],
 ) -> Result<Listed<Proposed>, OfferFault>
-    requires { (a : ℕ) (d : Arc) → a < length arcs.now → IsBelow 256 (slice_index_or arcs.now a d) }
+    requires { (a : ℕ) (d : Arc) → a < length arcs.now → HasEndsBelow 256 (slice_index_or arcs.now a d) }
     ensures { Gives (λ x. x) result (each_of (proposed_of line) arcs.now) }
 {
     let mut list = Vec::new(alloc);
@@ -84,7 +84,7 @@ fn proposals_in(
 #[tactic(auto, using(crate::proofs::Within::is_within), unfolding(crate::specs::Limits::wishes_by))]
 fn wishes_by(alloc: Global, line: u32, raw: &RawWishes<'_>) -> Result<Wishes, OfferFault>
     ensures exact { Gives (λ w. w) result (wishes_by line raw.now) }
-    ensures within { IfOk result IsWithin }
+    ensures within { IfOk result AreWishesWithin }
 {
     let numbered = numbered_in(alloc, line, raw)?;
     let (start, delta) = times_in(alloc, line, raw)?;
@@ -101,7 +101,7 @@ fn wishes_by(alloc: Global, line: u32, raw: &RawWishes<'_>) -> Result<Wishes, Of
 #[tactic(auto, unfolding(crate::specs::Limits::wishes_of))]
 pub(crate) fn wishes_in(alloc: Global, line: u32, text: &[u8]) -> Result<Wishes, OfferFault>
     ensures exact { Gives (λ w. w) result (wishes_of line text.now) }
-    ensures within { IfOk result IsWithin }
+    ensures within { IfOk result AreWishesWithin }
 {
     let object = object_in(alloc, line, text)?;
     let raw = raw_in(alloc, line, &object)?;

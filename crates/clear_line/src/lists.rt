@@ -4,7 +4,7 @@ ghost use Rattle.std.specs.Prelude.{◌≡◌, IfOk, OnOk};
 ghost use Rattle.serde_json.specs.Data.{no_members, object, string};
 ghost use Rattle.serde_json.specs.View.{view, members_view};
 ghost use Rattle.offer_text.specs.Words.{list_data, name_data, AreTexts};
-ghost use Rattle.clear_line.specs.ClearedText.{arc_data, named_data, proposal};
+ghost use Rattle.clear_line.specs.ClearedText.{proposal_data, named_data, proposal};
 
 use offer_text::{put_number, put_text, text_of};
 use refusals::name_at;
@@ -75,7 +75,7 @@ fn put_arc(
 ) -> Result<(), NoMemory>
     requires none { members_view fields.old.entries ≡ no_members }
     requires texts { AreTexts names.now }
-    ensures { OnOk result (object (members_view fields.new.entries) ≡ arc_data names.now arc) }
+    ensures { OnOk result (object (members_view fields.new.entries) ≡ proposal_data names.now arc) }
 {
     put_text(alloc, fields, "to", name_of(names, arc.to))?;
     put_text(alloc, fields, "from", name_of(names, arc.from))?;
@@ -84,7 +84,7 @@ fn put_arc(
 
 fn arc_value(alloc: Global, names: &[ByteText], arc: Proposed) -> Result<Value, NoMemory>
     requires { AreTexts names.now }
-    ensures { IfOk result (λ v. view v ≡ arc_data names.now arc) }
+    ensures { IfOk result (λ v. view v ≡ proposal_data names.now arc) }
 {
     let mut fields = Map::new(alloc);
     put_arc(alloc, &mut fields, names, arc)?;
@@ -99,7 +99,7 @@ pub(crate) fn arc_values(
     numbers: &[u32],
 ) -> Result<Value, NoMemory>
     requires { AreTexts names.now }
-    ensures { IfOk result (λ v. view v ≡ list_data (λ a. arc_data names.now (proposal arcs.now a)) numbers.now) }
+    ensures { IfOk result (λ v. view v ≡ list_data (λ a. proposal_data names.now (proposal arcs.now a)) numbers.now) }
 {
     let mut list = Vec::new(alloc);
     for arc in numbers {

@@ -4,7 +4,7 @@ ghost use Rattle.std.specs.Prelude.{◌≡◌, [], map, IfOk};
 ghost use Rattle.swap_base.specs.Fault.{Gives, steps};
 ghost use Rattle.offer_fields.specs.Lists.{each_of};
 ghost use Rattle.offer_header.specs.Names.{AreNames};
-ghost use Rattle.clear_line.specs.Names.{name_step, numbered_arc, numbered_of, AreEndsBelow};
+ghost use Rattle.clear_line.specs.Names.{wished_name_step, numbered_arc, numbered_wishes, AreEndsBelow};
 
 use crate::fields::RawWishes;
 use indexmap::IndexSet;
@@ -35,7 +35,7 @@ fn add_party<'h>(
     names: &mut IndexSet<&'h [u8]>,
     name: &TextRef<'h>,
 ) -> Result<(), OfferFault>
-    ensures { Gives (λ _. map (λ k. k.now) names.new.keys) result (name_step line (map (λ k. k.now) names.old.keys) name.now) }
+    ensures { Gives (λ _. map (λ k. k.now) names.new.keys) result (wished_name_step line (map (λ k. k.now) names.old.keys) name.now) }
 {
     let party = RawParty {
         name: TextRef::new(name.as_slice()),
@@ -53,7 +53,7 @@ fn add_parties<'h>(
     parties: &[TextRef<'h>],
 ) -> Result<(), OfferFault>
     requires { names.old.keys ≡ [] }
-    ensures { Gives (λ _. map (λ k. k.now) names.new.keys) result (steps (name_step line) [] parties.now) }
+    ensures { Gives (λ _. map (λ k. k.now) names.new.keys) result (steps (wished_name_step line) [] parties.now) }
 {
     for name in parties {
         add_party(alloc, line, names, name)?;
@@ -93,13 +93,13 @@ fn arcs_in(
 }
 
 /// The names of the parties and the numbers that stand for them, or the first reason why a name is refused.
-#[tactic(auto, using(crate::proofs::Named::names_of, crate::proofs::Named::arcs_of), unfolding(crate::specs::Names::numbered_of))]
+#[tactic(auto, using(crate::proofs::Named::names_of, crate::proofs::Named::arcs_of), unfolding(crate::specs::Names::numbered_wishes))]
 pub(crate) fn numbered_in(
     alloc: Global,
     line: u32,
     wishes: &RawWishes<'_>,
 ) -> Result<Numbered, OfferFault>
-    ensures exact { Gives (λ n. n) result (numbered_of line wishes.now) }
+    ensures exact { Gives (λ n. n) result (numbered_wishes line wishes.now) }
     ensures names { IfOk result (λ n. AreNames n.names) }
     ensures ends { IfOk result (λ n. AreEndsBelow n) }
 {

@@ -16,7 +16,8 @@ use Rattle.command_input.specs.Lines.{lines_of, with_first, filled_lines, is_bla
 use Rattle.command_input.proofs.Filled.{one_more}
 use Rattle.swap_io.specs.declared.fault.DrainFault.{DrainFault}
 use Rattle.swap_io.specs.declared.fault.DrainFault.TheVariants as drained
-use Rattle.command_input.specs.Input.{At, Breaks, CanCome, Fails, IsLast, IsLine, IsPart, IsTooLong, ReadsLine, ReadsNone, ahead, limit, past_empty, to_go}
+use Rattle.command_input.specs.Input.{At, Breaks, CanBeLeft, GivesNoLine, IsLast, IsLine, IsPart, IsTooLong, ReadsLine, ReadsNone, ahead, limit, past_empty}
+use Rattle.command_input.specs.Input.{to_go}
 
 not_feed : (t : Bool) → not t ≡ true → t ≡ false
 not_feed true e = absurd (cc e)
@@ -86,7 +87,7 @@ is_part a b s t took low lim = (took, omega (arith, low, took.1.limit, lim))
 
 pub next_fails : {T : Type 0} (a b : Option (List ℕ)) (n m : ℕ) (s t : At) (e : LineFault) (result : Result T LineFault) → result ≡ Err e
     → TookSome a b s.reading t.reading → ((result ≡ Err line.TooLong) ↔ (t.reading.limit < t.reading.taken))
-    → t.reading.taken ≤ t.reading.limit + 1 → s.reading.limit ≡ limit → (result ≡ Err line.ReadFault → Rose n m) → Fails a b n m s t e
+    → t.reading.taken ≤ t.reading.limit + 1 → s.reading.limit ≡ limit → (result ≡ Err line.ReadFault → Rose n m) → GivesNoLine a b n m s t e
 next_fails a b n m s t line.ReadFault result is took long most lim rose = (
   rose is,
   is_part a b s t took (other_fault line.ReadFault line.TooLong result t.reading.limit t.reading.taken (λ e. absurd (cc e)) is long) lim,
@@ -182,9 +183,9 @@ no_part left s within = (([], took_none left s.reading s.reading refl refl), wit
 pub record Passed (left left' : Option (List ℕ)) (first now : At) : Type 0 where
   pub bytes : List ℕ
   pub took : Took left left' first.reading now.reading bytes
-  pub can : CanCome first bytes
+  pub can : CanBeLeft first bytes
   pub stays : first.over ≡ true → now.over ≡ true
-  pub blank : (rest : List ℕ) → CanCome now rest → ahead first (bytes ++ rest) ≡ ahead now rest
+  pub blank : (rest : List ℕ) → CanBeLeft now rest → ahead first (bytes ++ rest) ≡ ahead now rest
   pub later : first.number ≤ now.number
 
 pub passed_none : (left : Option (List ℕ)) (first : At) → Passed left left first first
@@ -304,8 +305,8 @@ is_last left a first s p over kept = record {
 }
 
 -- a fault behind blank lines
-pub fails_on : (left a b : Option (List ℕ)) (n m k : ℕ) (first s t : At) (e : LineFault) → Passed left a first s → n ≤ m → Fails a b m k s t e
-    → Fails left b n k first t e
+pub fails_on : (left a b : Option (List ℕ)) (n m k : ℕ) (first s t : At) (e : LineFault) → Passed left a first s → n ≤ m → GivesNoLine a b m k s t e
+    → GivesNoLine left b n k first t e
 fails_on left a b n m k first s t line.ReadFault p le f = (rose_before n m k le f.0, part_on left a b first s t (p.bytes, p.took) f.1)
 fails_on left a b n m k first s t line.TooLong p le f = too_long_on left a b first s t (p.bytes, p.took) f
 fails_on left a b n m k first s t line.NoMemory p le f = part_on left a b first s t (p.bytes, p.took) f

@@ -1,7 +1,7 @@
 -- A reading steps along the lines of its input.
 use Rattle.std.proofs.Common.{◌≡◌, ◌≤◌, ◌+◌, ℕ, Bool, true, false, List, [], ◌∷◌, ◌++◌, Result, Ok, Err, Option, refl, sym, ap, ◌∙◌, subst}
 use Rattle.std.proofs.Common.{append_assoc, append-nil}
-use Rattle.swap_base.specs.Fault.{◌>>=◌, Fails as Fails_by}
+use Rattle.swap_base.specs.Fault.{◌>>=◌, Fails}
 use Rattle.swap_base.specs.declared.fault.Fault.{Fault}
 use Rattle.swap_base.specs.declared.fault.Fault.TheVariants as offer
 use Rattle.swap_io.specs.Causes.{Rose}
@@ -15,17 +15,17 @@ use Rattle.command_input.specs.declared.fault.InputFault.TheVariants.{Refused, R
 use Rattle.refusals.specs.declared.reason.Reason.{Reason}
 use Rattle.refusals.specs.declared.refusal.Refusal.{Refusal}
 use Rattle.command_input.specs.Faults.{named_fault, of_line, of_offer}
-use Rattle.command_input.specs.Input.{At, CanCome, Ends, EndsAt, Fails, Gives, IsLast, IsLine, IsPart, IsTooLong}
+use Rattle.command_input.specs.Input.{At, CanBeLeft, Ends, EndsAt, GivesNoLine, GivesLine, IsLast, IsLine, IsPart, IsTooLong}
 use Rattle.command_input.specs.Input.{Reads, ReadsLine, ReadsNone, Stops, Tells, ahead, limit}
 use Rattle.command_input.proofs.Ahead.{part_on, too_long_on}
 
 -- bytes may come before the end
-pub can_come : (s : At) (rest : List ℕ) → s.over ≡ false → CanCome s rest
+pub can_come : (s : At) (rest : List ℕ) → s.over ≡ false → CanBeLeft s rest
 can_come s rest not_over = λ over. absurd (cc (sym not_over ∙ over))
 
 -- a fault of a line stops the reading
 pub line_stops : {R : Type 0} (P : List ℕ → R → Type 0) (a b c : Option (List ℕ)) (n m k : ℕ) (r s t : At) (e : LineFault)
-    → TookSome a b r.reading s.reading → n ≤ m → Fails b c m k s t e → Stops P a c n k r t (of_line e)
+    → TookSome a b r.reading s.reading → n ≤ m → GivesNoLine b c m k s t e → Stops P a c n k r t (of_line e)
 line_stops P a b c n m k r s t line.ReadFault p le q = (rose_before n m k le q.0, part_on a b c r s t p q.1)
 line_stops P a b c n m k r s t line.TooLong p le q = too_long_on a b c r s t p q
 line_stops P a b c n m k r s t line.NoMemory p le q = part_on a b c r s t p q
@@ -43,9 +43,9 @@ module _ {A R E : Type 0} (walk : ℕ → A → List (ℕ × List ℕ) → Resul
   pub record Led (left' : Option (List ℕ)) (now : At) (count : ℕ) (y : A) : Type 0 where
     pub bytes : List ℕ
     pub took : Took left left' first.reading now.reading bytes
-    pub can : CanCome first bytes
+    pub can : CanBeLeft first bytes
     pub stays : first.over ≡ true → now.over ≡ true
-    pub leads : (rest : List ℕ) → CanCome now rest → walk 0 x (ahead first (bytes ++ rest)) ≡ walk count y (ahead now rest)
+    pub leads : (rest : List ℕ) → CanBeLeft now rest → walk 0 x (ahead first (bytes ++ rest)) ≡ walk count y (ahead now rest)
 
   pub led_none : Led left first 0 x
   led_none = record {
@@ -63,7 +63,7 @@ module _ {A R E : Type 0} (walk : ℕ → A → List (ℕ × List ℕ) → Resul
 
   -- the lines ahead were the next one and those ahead of it
   stepped : (next : ℕ → A → ℕ → List ℕ → Result A E) (a b : Option (List ℕ)) (s t : At) (count : ℕ) (y : A) → IsStepAt walk next count y
-      → (p : Led a s count y) (q : IsLine a b s t) (rest : List ℕ) → CanCome t rest
+      → (p : Led a s count y) (q : IsLine a b s t) (rest : List ℕ) → CanBeLeft t rest
       → walk 0 x (ahead first ((p.bytes ++ q.bytes) ++ rest)) ≡ next count y t.number t.text >>= λ z. walk (count + 1) z (ahead t rest)
   stepped next a b s t count y one p q rest can =
       ap (λ (xs : List ℕ). walk 0 x (ahead first xs)) (append_assoc p.bytes q.bytes rest)
@@ -99,15 +99,15 @@ module _ {A R E : Type 0} (walk : ℕ → A → List (ℕ × List ℕ) → Resul
   }
 
   -- no line is ahead, whatever may still come
-  at_last : (a b : Option (List ℕ)) (s t : At) (count : ℕ) (y : A) (p : Led a s count y) (q : IsLast a b s t) (rest : List ℕ) → CanCome t rest
+  at_last : (a b : Option (List ℕ)) (s t : At) (count : ℕ) (y : A) (p : Led a s count y) (q : IsLast a b s t) (rest : List ℕ) → CanBeLeft t rest
       → walk 0 x (ahead first ((p.bytes ++ q.bytes) ++ rest)) ≡ walk count y []
   at_last a b s t count y p q rest can =
       ap (λ (xs : List ℕ). walk 0 x (ahead first ((p.bytes ++ q.bytes) ++ xs))) (can q.met)
       ∙ ap (λ (xs : List ℕ). walk 0 x (ahead first xs)) (append-nil (p.bytes ++ q.bytes)) ∙ p.leads q.bytes q.can ∙ ap (walk count y) q.none
 
   -- nothing may still come before what was read either
-  last_can : (a b : Option (List ℕ)) (s t : At) (count : ℕ) (y : A) (p : Led a s count y) (q : IsLast a b s t) (rest : List ℕ) → CanCome t rest
-      → CanCome first ((p.bytes ++ q.bytes) ++ rest)
+  last_can : (a b : Option (List ℕ)) (s t : At) (count : ℕ) (y : A) (p : Led a s count y) (q : IsLast a b s t) (rest : List ℕ) → CanBeLeft t rest
+      → CanBeLeft first ((p.bytes ++ q.bytes) ++ rest)
   last_can a b s t count y p q rest can = λ over.
       ap (λ (xs : List ℕ). (p.bytes ++ q.bytes) ++ xs) (can q.met) ∙ append-nil (p.bytes ++ q.bytes)
       ∙ ap (λ (xs : List ℕ). xs ++ q.bytes) (p.can over) ∙ q.can (p.stays over)
@@ -140,7 +140,7 @@ module _ {A R E : Type 0} (walk : ℕ → A → List (ℕ × List ℕ) → Resul
 
   -- a fault of the next line
   pub led_to_fault_at : (next : ℕ → A → ℕ → List ℕ → Result A E) (a b : Option (List ℕ)) (s t : At) (count : ℕ) (y : A) (n k : ℕ) (fault : Fault E)
-      → IsStepAt walk next count y → Led a s count y → IsLine a b s t → Fails_by fault (next count y t.number t.text) → t.reading.taken ≤ limit → EndsAt b t
+      → IsStepAt walk next count y → Led a s count y → IsLine a b s t → Fails fault (next count y t.number t.text) → t.reading.taken ≤ limit → EndsAt b t
       → Stops (λ bytes reason. walk 0 x (ahead first bytes) ≡ Err reason) left b n k first t (of_offer fault)
   led_to_fault_at next a b s t count y n k offer.NoMemory one p q fails within ended =
       part_on left a b first s t (p.bytes, p.took) ((q.bytes, q.took), within)
@@ -148,7 +148,7 @@ module _ {A R E : Type 0} (walk : ℕ → A → List (ℕ × List ℕ) → Resul
       led_to_reason next a b s t count y reason one p q fails within ended
 
   pub led_to_fault : (next : ℕ → A → ℕ → List ℕ → Result A E) → IsStep walk next → (a b : Option (List ℕ)) (s t : At) (count : ℕ) (y : A) (n k : ℕ)
-      (fault : Fault E) → Led a s count y → IsLine a b s t → Fails_by fault (next count y t.number t.text) → t.reading.taken ≤ limit → EndsAt b t
+      (fault : Fault E) → Led a s count y → IsLine a b s t → Fails fault (next count y t.number t.text) → t.reading.taken ≤ limit → EndsAt b t
       → Stops (λ bytes reason. walk 0 x (ahead first bytes) ≡ Err reason) left b n k first t (of_offer fault)
   led_to_fault next one a b s t count y n k fault p q fails within ended =
       led_to_fault_at next a b s t count y n k fault (one count y) p q fails within ended
@@ -163,11 +163,11 @@ pub got_none : (more : Bool) (a b : Option (List ℕ)) (s t : At) → more ≡ f
 got_none true a b s t e p = absurd (cc e)
 got_none false a b s t e p = p
 
-pub line_of : (more : Bool) (a b : Option (List ℕ)) (s t : At) → more ≡ true → Gives more a b s t → IsLine a b s t
+pub line_of : (more : Bool) (a b : Option (List ℕ)) (s t : At) → more ≡ true → GivesLine more a b s t → IsLine a b s t
 line_of true a b s t e p = p
 line_of false a b s t e p = absurd (cc e)
 
-pub last_of : (more : Bool) (a b : Option (List ℕ)) (s t : At) → more ≡ false → Gives more a b s t → IsLast a b s t
+pub last_of : (more : Bool) (a b : Option (List ℕ)) (s t : At) → more ≡ false → GivesLine more a b s t → IsLast a b s t
 last_of true a b s t e p = absurd (cc e)
 last_of false a b s t e p = p
 

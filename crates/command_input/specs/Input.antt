@@ -38,8 +38,8 @@ abbrev pub past_empty : At → At
 past_empty s = record s { reading = past_feeds s.reading; number = s.number + feeds s.reading.kept }
 
 -- bytes that may still come: none after the end
-abbrev pub CanCome : At → List ℕ → Type 0
-CanCome s rest = s.over ≡ true → rest ≡ []
+abbrev pub CanBeLeft : At → List ℕ → Type 0
+CanBeLeft s rest = s.over ≡ true → rest ≡ []
 
 -- what was read so far ends the input, where the end was met
 abbrev pub EndsAt : Option (List ℕ) → At → Type 0
@@ -53,7 +53,7 @@ to_go s = cond s.over 0 ((limit + 2 - s.reading.taken) + length s.reading.kept)
 pub record ReadsLine (left left' : Option (List ℕ)) (old new : At) : Type 0 where
   pub bytes : List ℕ
   pub took : Took left left' old.reading new.reading bytes
-  pub first : (rest : List ℕ) → CanCome new rest → lines_of (old.reading.kept ++ (bytes ++ rest)) ≡ new.text ∷ lines_of (new.reading.kept ++ rest)
+  pub first : (rest : List ℕ) → CanBeLeft new rest → lines_of (old.reading.kept ++ (bytes ++ rest)) ≡ new.text ∷ lines_of (new.reading.kept ++ rest)
   pub counted : new.number ≡ old.number + 1
 
 -- No line came, and the end was met.
@@ -74,27 +74,27 @@ pub record IsLine (left left' : Option (List ℕ)) (old new : At) : Type 0 where
   pub bytes : List ℕ
   pub took : Took left left' old.reading new.reading bytes
   pub open_yet : old.over ≡ false
-  pub first : (rest : List ℕ) → CanCome new rest → ahead old (bytes ++ rest) ≡ (new.number, new.text) ∷ ahead new rest
+  pub first : (rest : List ℕ) → CanBeLeft new rest → ahead old (bytes ++ rest) ≡ (new.number, new.text) ∷ ahead new rest
   pub counted : old.number < new.number
 
 -- No line is ahead, and the end was met.
 pub record IsLast (left left' : Option (List ℕ)) (old new : At) : Type 0 where
   pub bytes : List ℕ
   pub took : Took left left' old.reading new.reading bytes
-  pub can : CanCome old bytes
+  pub can : CanBeLeft old bytes
   pub none : ahead old bytes ≡ []
   pub met : new.over ≡ true
 
-abbrev pub Gives : Bool → Option (List ℕ) → Option (List ℕ) → At → At → Type 0
-Gives true left left' old new = IsLine left left' old new
-Gives false left left' old new = IsLast left left' old new
+abbrev pub GivesLine : Bool → Option (List ℕ) → Option (List ℕ) → At → At → Type 0
+GivesLine true left left' old new = IsLine left left' old new
+GivesLine false left left' old new = IsLast left left' old new
 
 -- Some bytes were taken, of which P tells whatever may still come.
 pub record Tells (P : List ℕ → Type 0) (left left' : Option (List ℕ)) (old new : At) : Type 0 where
   pub bytes : List ℕ
   pub took : Took left left' old.reading new.reading bytes
-  pub can : (rest : List ℕ) → CanCome new rest → CanCome old (bytes ++ rest)
-  pub told : (rest : List ℕ) → CanCome new rest → P (bytes ++ rest)
+  pub can : (rest : List ℕ) → CanBeLeft new rest → CanBeLeft old (bytes ++ rest)
+  pub told : (rest : List ℕ) → CanBeLeft new rest → P (bytes ++ rest)
   pub within : new.reading.taken ≤ limit
   pub ended : EndsAt left' new
 
@@ -107,10 +107,10 @@ abbrev pub IsPart : Option (List ℕ) → Option (List ℕ) → At → At → Ty
 IsPart left left' old new = TookSome left left' old.reading new.reading × (new.reading.taken ≤ limit)
 
 -- why no line was given
-abbrev pub Fails : Option (List ℕ) → Option (List ℕ) → ℕ → ℕ → At → At → LineFault → Type 0
-Fails left left' faults faults' old new line.ReadFault = Rose faults faults' × IsPart left left' old new
-Fails left left' faults faults' old new line.TooLong = IsTooLong left left' old new
-Fails left left' faults faults' old new line.NoMemory = IsPart left left' old new
+abbrev pub GivesNoLine : Option (List ℕ) → Option (List ℕ) → ℕ → ℕ → At → At → LineFault → Type 0
+GivesNoLine left left' faults faults' old new line.ReadFault = Rose faults faults' × IsPart left left' old new
+GivesNoLine left left' faults faults' old new line.TooLong = IsTooLong left left' old new
+GivesNoLine left left' faults faults' old new line.NoMemory = IsPart left left' old new
 
 -- why the reading of an input stopped, where P tells of the bytes and what is said against them
 abbrev pub Stops : {R : Type 0} → (List ℕ → R → Type 0) → Option (List ℕ) → Option (List ℕ) → ℕ → ℕ → At → At → InputFault R → Type 0
@@ -123,7 +123,7 @@ Stops P left left' faults faults' old new NoMemory = IsPart left left' old new
 pub record IsDrained (left left' : Option (List ℕ)) (old new : At) : Type 0 where
   pub bytes : List ℕ
   pub took : Took left left' old.reading new.reading bytes
-  pub can : CanCome old bytes
+  pub can : CanBeLeft old bytes
   pub within : new.reading.taken ≤ limit
   pub ended : EndsAt left old → IsAtEnd left'
 
@@ -136,7 +136,7 @@ Breaks left left' faults faults' old new drained.TooLong = IsTooLong left left' 
 pub record Ends (P : List ℕ → Type 0) (left left' : Option (List ℕ)) (old new : At) : Type 0 where
   pub bytes : List ℕ
   pub took : Took left left' old.reading new.reading bytes
-  pub can : CanCome old bytes
+  pub can : CanBeLeft old bytes
   pub told : P bytes
   pub within : new.reading.taken ≤ limit
   pub ended : IsAtEnd left'

@@ -1,5 +1,6 @@
 -- What a source and a sink tell of themselves.
 use Rattle.std.specs.Prelude.{ℕ, List, Option}
+use Rattle.swap_io.specs.Causes.{Rose}
 
 -- A source and a sink at one moment.
 pub record Streams : Type 0 where
@@ -15,3 +16,11 @@ pub record Streams : Type 0 where
 -- what the source has left with its faults, and what the sink took with its faults
 abbrev pub streams : Option (List ℕ) → ℕ → Option (List ℕ) → ℕ → Streams
 streams left read_faults taken write_faults = record { left = left; read_faults = read_faults; taken = taken; write_faults = write_faults }
+
+-- a call of the source failed in between
+abbrev pub HasReadFault : Streams → Streams → Type 0
+HasReadFault before after = Rose before.read_faults after.read_faults
+
+-- a call of the sink failed in between
+abbrev pub HasWriteFault : Streams → Streams → Type 0
+HasWriteFault before after = Rose before.write_faults after.write_faults

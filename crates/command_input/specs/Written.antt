@@ -13,13 +13,13 @@ pub record Written : Type 0 where
   pub found : Bool
 
 -- the text was written whole, and this says whether something was found
-abbrev pub IsWhole : Option (List ℕ) → Option (List ℕ) → Bool → Written → Type 0
-IsWhole taken taken' found output = Appends taken taken' output.text × (output.found ≡ found)
+abbrev pub IsWrittenWhole : Option (List ℕ) → Option (List ℕ) → Bool → Written → Type 0
+IsWrittenWhole taken taken' found output = Appends taken taken' output.text × (output.found ≡ found)
 
 -- what a status says of an output that is written, by what the sink took and how many of its calls failed
 abbrev pub Writes : Option (List ℕ) → Option (List ℕ) → ℕ → ℕ → Written → Status → Type 0
-Writes taken taken' p q output Done = IsWhole taken taken' false output
-Writes taken taken' p q output Named = IsWhole taken taken' true output
+Writes taken taken' p q output Done = IsWrittenWhole taken taken' false output
+Writes taken taken' p q output Named = IsWrittenWhole taken taken' true output
 Writes taken taken' p q output WriteFault = Rose p q × AppendsProperPrefix taken taken' output.text
 Writes taken taken' p q output NoMemory = AppendsPrefix taken taken' output.text
 Writes taken taken' p q output WrongWords = ⊥

@@ -1,7 +1,7 @@
 //! An input that is read line by line.
 
 ghost use Rattle.std.specs.Prelude.{◌≡◌, ◌<◌, ◌≤◌, ◌+◌, [], length, true, false, IfOk, IfErr, OnOk, IsErrOf};
-ghost use Rattle.command_input.specs.Input.{At, Breaks, EndsAt, Fails, Gives, IsDrained, Reads, fresh, limit, past_empty, to_go};
+ghost use Rattle.command_input.specs.Input.{At, Breaks, EndsAt, GivesNoLine, GivesLine, IsDrained, Reads, fresh, limit, past_empty, to_go};
 
 use crate::lines::is_blank;
 use std::alloc::Global;
@@ -65,7 +65,8 @@ impl Input {
         ensures few { IfOk result (λ _. self.new.number ≤ limit) }
         ensures shorter { IfOk result (λ _. to_go self.new < to_go self.old) }
         ensures ended { IfOk result (λ _. EndsAt (S.left source.new) self.new) }
-        ensures fails { IfErr result (λ e. Fails (S.left source.old) (S.left source.new) (S.faults source.old) (S.faults source.new) self.old self.new e) }
+        ensures fails { IfErr result (λ e. GivesNoLine (S.left source.old) (S.left source.new) (S.faults source.old)
+            (S.faults source.new) self.old self.new e) }
         ensures later { S.faults source.old ≤ S.faults source.new }
         ensures calm { ¬ IsErrOf result LineFault.ReadFault → S.faults source.new ≡ S.faults source.old }
     {
@@ -96,11 +97,12 @@ impl Input {
     /// Goes to the next line that isn't blank, and answers whether there is one.
     pub fn next<S: Source>(&mut self, source: &mut S) -> Result<bool, LineFault>
         requires ended { EndsAt (S.left source.old) self.old }
-        ensures gives { IfOk result (λ more. Gives more (S.left source.old) (S.left source.new) self.old self.new) }
+        ensures gives { IfOk result (λ more. GivesLine more (S.left source.old) (S.left source.new) self.old self.new) }
         ensures within { IfOk result (λ _. self.new.reading.taken ≤ limit) }
         ensures few { IfOk result (λ _. self.new.number ≤ limit) }
         ensures ended { IfOk result (λ _. EndsAt (S.left source.new) self.new) }
-        ensures fails { IfErr result (λ e. Fails (S.left source.old) (S.left source.new) (S.faults source.old) (S.faults source.new) self.old self.new e) }
+        ensures fails { IfErr result (λ e. GivesNoLine (S.left source.old) (S.left source.new) (S.faults source.old)
+            (S.faults source.new) self.old self.new e) }
         ensures later { S.faults source.old ≤ S.faults source.new }
         ensures calm { ¬ IsErrOf result LineFault.ReadFault → S.faults source.new ≡ S.faults source.old }
     {

@@ -5,7 +5,7 @@ use Rattle.swap_base.proofs.Lists.{or_neither}
 use Rattle.ledger_core.specs.declared.entry.Call.{Call}
 use Rattle.ledger_core.specs.declared.entry.What.TheVariants.{Tick}
 use Rattle.ledger_core.specs.declared.entry.Entry.{Entry}
-use Rattle.ledger_core.specs.History.{accepted, accepted_in}
+use Rattle.ledger_core.specs.History.{accepted, accepted_call}
 use Rattle.swap_rules.specs.Party.{call_by}
 use Rattle.history_index.specs.declared.made.Made.{Made}
 use Rattle.history_index.specs.Made.{made_in}
@@ -13,7 +13,7 @@ use Rattle.history_index.proofs.Calls.{any_made, count_made, SaysNothing}
 use Rattle.sent_keys.proofs.Unlocks.{sent_of_tick}
 
 pub accepted_of_tick : (e : Entry) (k : ℕ) → e.what ≡ Tick k → accepted e ≡ None
-accepted_of_tick e k is = ap (λ w. accepted_in w e.reply) is
+accepted_of_tick e k is = ap (λ w. accepted_call w e.reply) is
 
 pub any_accepted : (q : Option Call → Bool) (h : List Entry) → q None ≡ false
     → list_any (λ m. q (accepted m.entry)) (made_in h) ≡ list_any (λ e. q (accepted e)) h

@@ -19,7 +19,7 @@ use Rattle.ledger_core.specs.declared.entry.Sender.TheVariants.{Party, Clock}
 use Rattle.ledger_core.specs.declared.entry.What.{What}
 use Rattle.ledger_core.specs.declared.entry.What.TheVariants.{Call as Made, Tick}
 use Rattle.ledger_core.specs.declared.entry.Entry.{Entry}
-use Rattle.ledger_core.specs.History.{accepted, accepted_in, fit, sent_by, IsLegal, IsLegalEntry, IsLegalMoment, call_in}
+use Rattle.ledger_core.specs.History.{accepted, accepted_call, fit, sent_by, IsLegal, IsLegalEntry, IsLegalMoment, call_in}
 use Rattle.ledger_core.specs.Book.{Histories, history, IsLegalBook}
 use Rattle.history_index.specs.declared.made.Made.{Made as Numbered}
 use Rattle.history_index.specs.Made.{made_in}
@@ -60,7 +60,7 @@ within_sent : (d : Deal) (w : What) (b : Bool) → IsWithin d (call_in w) → Is
 within_sent d w true h = h
 within_sent d w false h = tt
 
-within_accepted : (d : Deal) (w : What) (r : Reply) → IsWithin d (call_in w) → IsWithin d (accepted_in w r)
+within_accepted : (d : Deal) (w : What) (r : Reply) → IsWithin d (call_in w) → IsWithin d (accepted_call w r)
 within_accepted d (Made c) Accepted h = h
 within_accepted d (Made c) _ h = tt
 within_accepted d (Tick k) r h = tt

@@ -12,7 +12,7 @@ use Rattle.ledger_core.specs.History.{height}
 use Rattle.ledger_core.specs.Book.{Histories, history, IsLegalBook}
 use Rattle.ledger_core.proofs.Bounds.{countable}
 use Rattle.swap_job.specs.Crafted.{Seeds}
-use Rattle.swap_job.specs.Resolved.{arc_of, call_of_move, resolved}
+use Rattle.swap_job.specs.Resolved.{move_arc, call_of_move, resolved}
 use Rattle.deviators.specs.Script.{is_wait, is_over, past_waits, first_call, without_first, next_call, moves_left}
 use Rattle.deviators.specs.View.{MayAnswer}
 use Rattle.swap_job.specs.declared.moves.Move.{Move}
@@ -48,13 +48,13 @@ pub may_resolve : (d : Deal) (seeds : Seeds) (p : ℕ) (k : Histories) (mv : Mov
     → MayAnswer d p (resolved d seeds k mv)
 may_resolve d seeds p k mv legal is = λ x q. record { arc = (at x q).0; near = (at x q).1; fits = resolved_fits d seeds k mv legal is.fits x q }
   where
-    on_arc : (o : Option Call) (x : ℕ × Call) → option_map (λ c. (arc_of mv, c)) o ≡ Some x → arc_of mv ≡ x.0
+    on_arc : (o : Option Call) (x : ℕ × Call) → option_map (λ c. (move_arc mv, c)) o ≡ Some x → move_arc mv ≡ x.0
     on_arc None x q = absurd (cc q)
-    on_arc (Some c) x q = ap (λ (y : ℕ × Call). y.0) (same_Some (arc_of mv, c) x q)
+    on_arc (Some c) x q = ap (λ (y : ℕ × Call). y.0) (same_Some (move_arc mv, c) x q)
 
     at : (x : ℕ × Call) → resolved d seeds k mv ≡ Some x → (x.0 < length d.graph.arcs) × IsTrue (is_near d p x.0)
     at x q =
-        let e : arc_of mv ≡ x.0 = on_arc (call_of_move d seeds k mv) x q in
+        let e : move_arc mv ≡ x.0 = on_arc (call_of_move d seeds k mv) x q in
         (subst (λ a. a < length d.graph.arcs) e is.fits.arc, subst (λ a. IsTrue (is_near d p a)) e is.adjacent)
 
 -- the moves that are left are some of the last ones

@@ -3,7 +3,7 @@
 ghost use Rattle.std.specs.Prelude.{◌≡◌, ◌<◌, ◌≤◌, ◌^◌, ℕ, length, drop, IfOk, OnOk, OnErr, All};
 ghost use Rattle.ledger_core.specs.Book.{history};
 ghost use Rattle.ledger_core.specs.History.{height};
-ghost use Rattle.swap_job.specs.Resolved.{arc_of};
+ghost use Rattle.swap_job.specs.Resolved.{move_arc};
 ghost use Rattle.deviators.specs.Script.{is_wait, is_over, past_waits, next_call, moves_left};
 ghost use Rattle.deviators.specs.View.{IsView, MayAnswer};
 ghost use Rattle.swap_job.specs.Fitting.{IsMoveOf};
@@ -36,7 +36,7 @@ impl Model for Script {
 
 /// Whether a move waits for a height that is reached, as far as is known.
 fn is_over(mv: &Move, known: &Book) -> bool
-    requires arc { arc_of mv.now < length known.now.histories }
+    requires arc { move_arc mv.now < length known.now.histories }
     requires low { (a : ℕ) → height (history known.now.histories a) < 2 ^ 32 }
     ensures { result ≡ is_over known.now.histories mv.now }
 {
@@ -60,7 +60,7 @@ fn is_wait(mv: &Move) -> bool
 /// The place of the first move from there on that isn't a wait that is over.
 fn after_waits(moves: &[Move], from: usize, known: &Book) -> usize
     requires from { from ≤ length moves.now }
-    requires arcs { All (λ mv. arc_of mv < length known.now.histories) (drop from moves.now) }
+    requires arcs { All (λ mv. move_arc mv < length known.now.histories) (drop from moves.now) }
     requires low { (a : ℕ) → height (history known.now.histories a) < 2 ^ 32 }
     ensures later { from ≤ result }
     ensures inside { result ≤ length moves.now }

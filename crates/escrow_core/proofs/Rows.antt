@@ -1,13 +1,6 @@
 -- The first row that applies, where it is known which tests hold.
-use Rattle.std.proofs.Common.{◌≡◌, ℕ, ◌+◌, ◌<◌, ◌≤◌, Bool, true, false, cond, not, ◌==◌, nat_lt, refl, ap, ◌∙◌, lt-ltb, le-ltb}
-use Rattle.std.specs.List.{list_all, range_with_len}
-use Rattle.std.proofs.Common.{length}
-use Rattle.swap_digraph.specs.declared.deal.Deal.{Deal}
-use Rattle.swap_digraph.specs.Deal.{counterparty}
+use Rattle.std.proofs.Common.{◌≡◌, ℕ, ◌+◌, ◌<◌, ◌≤◌, Bool, true, false, cond, not, nat_lt, refl, lt-ltb, le-ltb}
 use Rattle.escrow_core.specs.declared.reply.Reply.TheVariants.{Accepted, Settled, NotCounterparty, NotParty, StillLocked, NothingLocked, NotExpired}
-use Rattle.escrow_core.specs.Table.{first_row, claim_rows, closed_lock}
-use Rattle.escrow_core.specs.Value.{ContractState, IsFor, is_open_in}
-use Rattle.escrow_core.specs.Parts.{own_claim_rows}
 
 pub still_locked : (settled sent all : Bool) (i j : ℕ) → false ≡ settled → sent ≡ true → all ≡ false → j ≡ i
     → StillLocked i ≡ cond settled Settled (cond (not sent) NotCounterparty (cond (not all) (StillLocked j) Accepted))
@@ -30,13 +23,3 @@ not_expired settled sent all height m n s e a is lt = let t : nat_lt height (m +
 pub has_expired : (settled sent all : Bool) (height m n : ℕ) → false ≡ settled → sent ≡ true → all ≡ false → m ≡ n → m + 1 ≤ height
     → Accepted ≡ cond settled Settled (cond (not sent) NotParty (cond all NothingLocked (cond (nat_lt height (n + 1)) (NotExpired (n + 1)) Accepted)))
 has_expired settled sent all height m n s e a is le = let t : nat_lt height (m + 1) ≡ false = le-ltb _ _ le in rw (← s, e, a, ← is, t) refl
-
--- the table of claims of a deal is that of a contract for it
-pub claim_rows-own : (d : Deal) (c : ContractState) (p : ℕ) → IsFor d c
-    → first_row (own_claim_rows c p) ≡ first_row (claim_rows d c.arc (is_open_in c) c.settled p)
-claim_rows-own d c p f =
-    ap (λ (q : ℕ). cond c.settled Settled (cond (not (p == q)) NotCounterparty
-    (cond (not (list_all (is_open_in c) (range_with_len 0 (length c.opened))))
-    (StillLocked (closed_lock (is_open_in c) (range_with_len 0 (length c.opened)))) Accepted))) f.to
-    ∙ ap (λ (n : ℕ). cond c.settled Settled (cond (not (p == counterparty d c.arc)) NotCounterparty
-    (cond (not (list_all (is_open_in c) (range_with_len 0 n))) (StillLocked (closed_lock (is_open_in c) (range_with_len 0 n))) Accepted))) f.opened

@@ -1,5 +1,5 @@
 -- Reading and writing lanes.
-use Rattle.std.proofs.Common.{◌≡◌, ℕ, List, [], ◌∷◌, ◌++◌, take, zero, suc, ap, length, get_or, slice_index, slice_set, refl, ◌+◌, ◌*◌, ◌/◌, ◌%◌, ◌^◌}
+use Rattle.std.proofs.Common.{◌≡◌, ℕ, List, [], ◌∷◌, ◌++◌, take, zero, suc, ap, get_or, slice_index, slice_set, refl, ◌+◌, ◌*◌, ◌/◌, ◌%◌, ◌^◌}
 use Rattle.std.proofs.Common.{◌<◌, arith, add-one, sym, ◌∙◌}
 use Rattle.std.specs.Int.{w32, to_be_bytes}
 use Rattle.sha2.specs.Sha256.{digest_bytes, first_words, hash_after, sha256}
@@ -17,11 +17,6 @@ unfolding lane
 lane-set [] j i v = refl
 lane-set (u ∷ vs) j zero v = refl
 lane-set (u ∷ vs) j (suc i) v = ap (λ l. slice_index u j ∷ l) (lane-set vs j i v)
-
-pub length-lane : (vs : List (List ℕ)) (j : ℕ) → length (lane vs j) ≡ length vs
-unfolding lane
-length-lane [] j = refl
-length-lane (v ∷ vs) j = ap (λ (n : ℕ). suc n) (length-lane vs j)
 
 pub lane_of_eight : (a b c d e f g h : List ℕ) (j : ℕ) → lane (a ∷ b ∷ c ∷ d ∷ e ∷ f ∷ g ∷ h ∷ []) j
     ≡ slice_index a j ∷ slice_index b j ∷ slice_index c j ∷ slice_index d j ∷ slice_index e j ∷ slice_index f j ∷ slice_index g j ∷ slice_index h j ∷ []

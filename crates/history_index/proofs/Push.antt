@@ -25,7 +25,7 @@ use Rattle.ledger_core.specs.declared.entry.What.TheVariants.{Call as Made, Tick
 use Rattle.ledger_core.specs.declared.entry.Entry.{Entry}
 use Rattle.ledger_core.specs.declared.facts.CallKind.{CallKind}
 use Rattle.ledger_core.specs.declared.facts.CallKind.TheVariants.{Publish, Unlock, Claim, Refund}
-use Rattle.ledger_core.specs.History.{ticks_in, accepted_in, accepted, publication, Opening, opening, settling, sent_by}
+use Rattle.ledger_core.specs.History.{ticks_in, accepted_call, accepted, publication, Opening, opening, settling, sent_by}
 use Rattle.ledger_core.specs.Facts.{shown_as, is_of_kind, has_call}
 use Rattle.ledger_core.specs.declared.runs.Item.{Item}
 use Rattle.ledger_core.specs.Runs.{entries_of, expand}
@@ -142,7 +142,7 @@ position_push p xs y =
     ap₂ (λ n len. cond (nat_lt n len) (Some n) None) (position_or_len_push p xs y) (length-append xs (y ∷ []))
     ∙ place_push (position_or_len p xs) (length xs) (p y) (prefix_len-le-length (λ x. not (p x)) xs)
 
-accepted_lock : (w : What) (r : Reply) (key : Hashkey) → IsTrue (names_lock w) → accepted_in w r ≡ Some (calls.Unlock key) → key.lock < 8
+accepted_lock : (w : What) (r : Reply) (key : Hashkey) → IsTrue (names_lock w) → accepted_call w r ≡ Some (calls.Unlock key) → key.lock < 8
 accepted_lock (Made (calls.Unlock k)) Accepted key l e = let same : k ≡ key = cc in subst (λ x. x.lock < 8) same (ltb-true k.lock 8 l)
 accepted_lock (Made c) Accepted key l e = absurd (cc e)
 accepted_lock _ _ key l e = absurd (cc e)

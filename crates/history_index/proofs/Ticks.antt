@@ -1,5 +1,5 @@
 -- Ticks leave what is kept as it is, but for the sum of the ticks.
-use Rattle.std.proofs.Common.{◌≡◌, ℕ, zero, suc, ◌+◌, ◌-◌, ◌*◌, ◌<◌, ◌^◌, List, [], ◌∷◌, ◌++◌, length, Option, None, refl, sym, ap, ◌∙◌, subst, arith}
+use Rattle.std.proofs.Common.{◌≡◌, ℕ, zero, suc, ◌+◌, ◌*◌, ◌<◌, ◌^◌, List, [], ◌∷◌, ◌++◌, length, Option, None, refl, sym, ap, ◌∙◌, subst, arith}
 use Rattle.std.proofs.Common.{length-append}
 use Rattle.std.proofs.lemmas.List.{append-nil, append_assoc}
 use Rattle.std.proofs.Math.Nat.{mul-suc}
@@ -12,7 +12,7 @@ use Rattle.ledger_core.specs.declared.facts.Settlement.{Settlement}
 use Rattle.ledger_core.specs.declared.runs.Run.{Run}
 use Rattle.ledger_core.specs.History.{height}
 use Rattle.ledger_core.specs.Ledger.{tick_entry}
-use Rattle.ledger_core.specs.Runs.{ticks_above, ticks_of, IsRightRun}
+use Rattle.ledger_core.specs.Runs.{ticks_above, ticks_of}
 use Rattle.ledger_core.proofs.Bounds.{height-push}
 use Rattle.history_index.specs.declared.answers.Answers.{Answers}
 use Rattle.history_index.specs.declared.kinds.Kinds.{Kinds}
@@ -86,8 +86,8 @@ made_ticks h at k (suc n) =
 
 -- What is kept after the ticks of a run: the entries xs are h and these.
 
-pub has_height : (h : List Entry) (r : Run) (from to : ℕ) → IsRightRun r → IsIndexable from to (h ++ ticks_of r) → height h + (r.last - r.above) < 2 ^ 32
-has_height h r from to right i =
+pub has_height : (h : List Entry) (r : Run) (from to : ℕ) → IsIndexable from to (h ++ ticks_of r) → height h + r.by * r.count < 2 ^ 32
+has_height h r from to i =
     let e = height_ticks h r.above r.by r.count in
     let l = i.countable.height in
     omega arith
@@ -104,12 +104,10 @@ count_run h xs r n n' ex en e =
     let l : length xs ≡ length (h ++ ticks_of r) = ap length ex in
     omega arith
 
-pub answers_run : (t : Terms) (h xs : List Entry) (r : Run) (a : Answers) → xs ≡ h ++ ticks_of r → IsRightRun r → AreAnswers t h a
-    → AreAnswers t xs (record a { height = a.height + (r.last - r.above) })
-answers_run t h xs r a ex right i =
-    let e : a.height + r.by * r.count ≡ a.height + (r.last - r.above) = omega arith in
-    subst (λ ys. AreAnswers t ys (record a { height = a.height + (r.last - r.above) })) (sym ex)
-    (subst (λ z. AreAnswers t (h ++ ticks_of r) (record a { height = z })) e (answers_ticks t h r.above r.by r.count a i))
+pub answers_run : (t : Terms) (h xs : List Entry) (r : Run) (a : Answers) → xs ≡ h ++ ticks_of r → AreAnswers t h a
+    → AreAnswers t xs (record a { height = a.height + r.by * r.count })
+answers_run t h xs r a ex i =
+    subst (λ ys. AreAnswers t ys (record a { height = a.height + r.by * r.count })) (sym ex) (answers_ticks t h r.above r.by r.count a i)
 
 pub calls_run : (p : ℕ) (h xs : List Entry) (r : Run) (ns : List ℕ) (ks : Kinds) → xs ≡ h ++ ticks_of r → AreCalls p h ns ks → AreCalls p xs ns ks
 calls_run p h xs r ns ks ex c = subst (λ ys. AreCalls p ys ns ks) (sym ex) (calls_ticks p h r.above r.by r.count ns ks c)

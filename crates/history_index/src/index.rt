@@ -20,7 +20,7 @@ use crate::made::{Made, Opened, calls_in, keep, opened_in};
 use crate::steps::Steps;
 use escrow_core::{Terms, terms_of};
 use hashkey_path::Hashkey;
-use ledger_core::{CallKind, Entry, Facts, Item, Published, Run, Settlement};
+use ledger_core::{BoxedEntry, CallKind, Entry, Facts, Item, Published, Run, Settlement};
 use std::alloc::Global;
 use std::marker::Model;
 use std::sync::ledger::Ledger;
@@ -96,7 +96,7 @@ impl Index {
     }
 
     /// Adds an entry, in one step. It takes no memory, and keeps the entry where it is a call.
-    pub fn push<L: Ledger>(&mut self, entry: Entry, steps: &mut Steps<L>)
+    pub fn push<L: Ledger>(&mut self, entry: BoxedEntry, steps: &mut Steps<L>)
         // Every legal history of the arc is indexable, and so is each prefix of one.
         requires indexable { IsIndexable self.old.from self.old.to (self.old.entries ++ entry ∷ []) }
         requires room { IsTrue (is_call entry.what) → 0 < self.old.spare }
@@ -106,14 +106,14 @@ impl Index {
         ensures spare { self.old.spare ≤ self.new.spare + 1 }
         ensures tick { is_call entry.what ≡ false → self.old.spare ≤ self.new.spare }
     {
+        let (past, entry) = with_entry(&self.past, entry);
+        self.past = past;
         let number = self.count;
         self.answers.add(&self.terms, number, &entry);
         self.from.add(number, &entry);
         self.to.add(number, &entry);
         self.count += 1;
         self.room -= calls_in(&entry);
-        let (past, entry) = with_entry(&self.past, entry);
-        self.past = past;
         keep(&mut self.made, number, entry);
         steps.count();
     }
@@ -127,7 +127,7 @@ impl Index {
         ensures arc { IsSameArc self.old self.new }
         ensures spare { self.old.spare ≤ self.new.spare }
     {
-        self.answers.height += run.last - run.above;
+        self.answers.height += run.by * run.count;
         self.count += run.count;
         self.past = self.past.and(&Item::Ticks(run));
         steps.count_many(run.count);
@@ -204,14 +204,14 @@ impl Index {
 }
 
 /// What was pushed with one more entry, and that entry again.
-fn with_entry(past: &Past<Item>, entry: Entry) -> (Past<Item>, Entry)
+fn with_entry(past: &Past<Item>, entry: BoxedEntry) -> (Past<Item>, Entry)
     ensures past { result.0.items ≡ past.now.items ++ One entry ∷ [] }
     ensures entry { result.1 ≡ entry }
 {
     let item = Item::One(entry);
     let past = past.and(&item);
     match item {
-        Item::One(entry) => (past, entry),
+        Item::One(entry) => (past, entry.into_entry()),
         Item::Ticks(_) => unreachable!(),
     }
 }

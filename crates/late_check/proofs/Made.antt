@@ -6,7 +6,7 @@ use Rattle.hashkey_path.specs.declared.hashkey.Hashkey.{Hashkey}
 use Rattle.ledger_core.specs.declared.entry.Call.{Call}
 use Rattle.ledger_core.specs.declared.entry.What.TheVariants.{Tick}
 use Rattle.ledger_core.specs.declared.entry.Entry.{Entry}
-use Rattle.ledger_core.specs.History.{accepted_in, sent_by, call_in}
+use Rattle.ledger_core.specs.History.{accepted_call, sent_by, call_in}
 use Rattle.history_index.specs.Made.{made_in}
 use Rattle.history_index.proofs.Calls.{any_made, greatest_made}
 use Rattle.swap_rules.specs.Party.{call_by}
@@ -38,9 +38,9 @@ pub done_made : (c : Counted) (v due : ℕ) (h : List Entry) → is_done_in c v 
 done_made c v due h = any_made (counts_by c v due) h (none_counts_by c v due)
 
 none_used : (v : ℕ) (first seen : Option Hashkey) (e : Entry) (k : ℕ) → e.what ≡ Tick k → is_used_with v first seen e ≡ false
-none_used v (Some key) seen e k w = ap (λ x. extends v key (accepted_in x e.reply)) w
-none_used v None None e k w = ap (λ x. is_carried None (accepted_in x e.reply)) w
-none_used v None (Some key) e k w = ap (λ x. is_carried (Some key) (accepted_in x e.reply)) w
+none_used v (Some key) seen e k w = ap (λ x. extends v key (accepted_call x e.reply)) w
+none_used v None None e k w = ap (λ x. is_carried None (accepted_call x e.reply)) w
+none_used v None (Some key) e k w = ap (λ x. is_carried (Some key) (accepted_call x e.reply)) w
 
 pub used_made : (v : ℕ) (first seen : Option Hashkey) (h : List Entry)
     → greatest_used_in v first seen h ≡ greatest (λ m. height_if (is_used_with v first seen m.entry) m.entry.height) (made_in h)

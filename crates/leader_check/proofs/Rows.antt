@@ -186,9 +186,6 @@ rows_more g ls k row rows next e tell tells =
 pub rows_all : (g : Graph) (ls : List ℕ) (k : ℕ) (rows : List (List ℕ)) → k ≡ g.n → TellWalks g ls k rows → TellAllWalks g ls rows
 rows_all g ls k rows e tell = let s = tell.size in record { size = omega (arith, s); row = λ j le. tell.row j (omega arith) }
 
-pub row_length : (g : Graph) (ls : List ℕ) (rows : List (List ℕ)) (j : ℕ) → TellAllWalks g ls rows → j < length rows → length (get_or rows j []) ≡ g.n
-row_length g ls rows j tell lt = let s = tell.size in (tell.row j (omega (arith, s))).parties
-
 pub same_walk : (g : Graph) (f h : ℕ → ℕ → Bool) (k u : ℕ) → ((j : ℕ) → j < k → f j ≡ h j) → walk_of g f k u ≡ walk_of g h k u
 unfolding walk_of
 same_walk g f h zero u e = refl

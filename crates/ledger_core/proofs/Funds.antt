@@ -13,7 +13,7 @@ use Rattle.ledger_core.specs.declared.entry.Entry.{Entry}
 use Rattle.ledger_core.specs.declared.runs.Item.{Item}
 use Rattle.ledger_core.specs.declared.runs.Item.TheVariants.{One, Ticks}
 use Rattle.ledger_core.specs.declared.runs.Run.{Run}
-use Rattle.ledger_core.specs.History.{accepted_in, accepted, accounts, is_party, moved, IsLegal, IsLegalEntry, IsLegalMoment}
+use Rattle.ledger_core.specs.History.{accepted_call, accepted, accounts, is_party, moved, IsLegal, IsLegalEntry, IsLegalMoment}
 use Rattle.ledger_core.specs.Ledger.{CanMove}
 use Rattle.ledger_core.specs.Runs.{entries_of, expand}
 use Rattle.ledger_core.proofs.Scans.{can_move, bounded}
@@ -22,7 +22,7 @@ use Rattle.ledger_core.proofs.Units.{accounts-push}
 
 module _ (d : Deal) (a : ℕ) where
   can_take : (h : List Entry) (b : Accounts) (s : Sender) (w : What) (at : ℕ) (r : Reply) → b ≡ accounts d a h → IsLegalEntry d a h s w at r
-      → CanMove b (is_party d a s) (accepted_in w r)
+      → CanMove b (is_party d a s) (accepted_call w r)
   can_take h b (Party p) (Made c) at r e l = can_move d a h p (party d a) c r b refl e l.reply
   can_take h b (Party p) (Tick k) at r e l = absurd l
   can_take h b Clock (Made c) at r e l = absurd l

@@ -27,7 +27,7 @@ use Rattle.escrow_core.specs.Terms.{hashlock_in, last_in, refund_expiry}
 use Rattle.ledger_core.specs.declared.facts.Settlement.{Settlement}
 use Rattle.ledger_core.specs.declared.facts.Settlement.TheVariants.{Claimed, Refunded}
 use Rattle.ledger_core.specs.History.{call_in}
-use Rattle.ledger_core.specs.History.{ticks_in, height, accepted_in, accepted, Publication, publication, published, Opening, opening, opened, settling}
+use Rattle.ledger_core.specs.History.{ticks_in, height, accepted_call, accepted, Publication, publication, published, Opening, opening, opened, settling}
 use Rattle.ledger_core.specs.History.{settled, is_open, triggered, the_terms, terms_in, is_full, rows, reply_to, fit, IsLegalEntry, IsLegalMoment}
 use Rattle.ledger_core.specs.History.{IsLegal, balance}
 
@@ -98,7 +98,7 @@ made d a past e c Clock (Tick n) es ew k l = absurd (cc k)
 pub act_at : (d : Deal) (a : ℕ) (h past : List Entry) (e : Entry) (c : Call) → IsLegal d a h → IsMoment h past e → call_in e.what ≡ Some c → Act d a past e c
 act_at d a h past e c l m k = made d a past e c e.sender e.what refl refl k (at_moment (IsLegalMoment d a) h past e l m)
 
-accepted_parts : (w : What) (r : Reply) (c : Call) → accepted_in w r ≡ Some c → (call_in w ≡ Some c) × (r ≡ Accepted)
+accepted_parts : (w : What) (r : Reply) (c : Call) → accepted_call w r ≡ Some c → (call_in w ≡ Some c) × (r ≡ Accepted)
 accepted_parts (Made c') Accepted c e = (e, refl)
 accepted_parts _ _ c e = absurd (cc e)
 
@@ -365,7 +365,7 @@ pub not-full : (d : Deal) (a : ℕ) (past : List Entry) (e : Entry) (c : Call) (
 not-full d a past e c act = not-true (is_full past act.by) (λ k. act.room (act.reply ∙ full_reply d a past act.by c k))
 
 pub accepted-now : (e : Entry) (c : Call) → e.what ≡ Made c → e.reply ≡ Accepted → accepted e ≡ Some c
-accepted-now e c w r = ap₂ accepted_in w r
+accepted-now e c w r = ap₂ accepted_call w r
 
 pub not-true-of : (b : Bool) → not b ≡ true → b ≡ false
 not-true-of true h = absurd (cc h)

@@ -17,7 +17,7 @@ use Rattle.ledger_core.specs.declared.entry.Call.{Call}
 use Rattle.ledger_core.specs.declared.entry.Call.TheVariants.{Publish, Unlock, Claim, Refund, Transfer}
 use Rattle.ledger_core.specs.declared.entry.What.TheVariants.{Call as Made}
 use Rattle.ledger_core.specs.declared.entry.Entry.{Entry}
-use Rattle.ledger_core.specs.History.{height, accepted_in, accepted, publication, published, opening, opened, settling, settled, accounts, balance}
+use Rattle.ledger_core.specs.History.{height, accepted_call, accepted, publication, published, opening, opened, settling, settled, accounts, balance}
 use Rattle.ledger_core.specs.History.{held, moved_by, terms_in, rows, reply_to, is_full, IsLegal, IsLegalMoment, IsLegalCall, IsLegalTick}
 use Rattle.ledger_core.specs.Ledger.{call_entry, tick_entry, AreKept, AddUp, contract_of, contract_after, reply_by, CanMove}
 use Rattle.ledger_core.specs.Inside.{AreScans}
@@ -36,7 +36,7 @@ can_publish d a h p t b e r =
     (eq-eqb p (party d a) o.party) o.funds)
 
 pub can_move : (d : Deal) (a : ℕ) (h : List Entry) (p q : ℕ) (c : Call) (r : Reply) (b : Accounts) → q ≡ party d a → b ≡ accounts d a h
-    → r ≡ reply_to d a h p c → CanMove b (p == q) (accepted_in (Made c) r)
+    → r ≡ reply_to d a h p c → CanMove b (p == q) (accepted_call (Made c) r)
 can_move d a h p q (Publish t) Accepted b eq e k = can_publish d a h p t b e (sym k)
 can_move d a h p q (Transfer to units) Accepted b eq e k =
     subst (λ z. units ≤ cond (p == z) b.party b.counterparty) (sym eq)
@@ -115,7 +115,7 @@ has_room d a h p c r f e k = false≢true (ap is_other (sym k ∙ e) ∙ has_oth
 
 -- Refusals.
 
-not_accepted : (c : Call) (r : Reply) → r ≢ Accepted → accepted_in (Made c) r ≡ None
+not_accepted : (c : Call) (r : Reply) → r ≢ Accepted → accepted_call (Made c) r ≡ None
 not_accepted c Accepted n = absurd (n refl)
 not_accepted c _ n = refl
 
@@ -161,8 +161,8 @@ reply_is d a h at b o pc cc ticks have p c r k f eh e =
 -- One more call.
 pub call_scans : (d : Deal) (a : ℕ) (h : List Entry) (at : ℕ) (b b' : Accounts) (o o' : Option ContractState) (pc pc' cc cc' ticks p : ℕ) (c : Call) (r : Reply)
     → AreScans d a h at b o pc cc ticks → IsLegalCall d a h p c at r
-    → b' ≡ moved_by (party d a) b (p == party d a) (accepted_in (Made c) r)
-    → o' ≡ contract_after d a o (accepted_in (Made c) r)
+    → b' ≡ moved_by (party d a) b (p == party d a) (accepted_call (Made c) r)
+    → o' ≡ contract_after d a o (accepted_call (Made c) r)
     → pc' ≡ pc + cond (p == party d a) 1 0
     → cc' ≡ cc + cond (p == counterparty d a) 1 0
     → AreScans d a (h ++ call_entry p at c r ∷ []) at b' o' pc' cc' ticks
@@ -171,10 +171,11 @@ call_scans d a h at b b' o o' pc pc' cc cc' ticks p c r k l eb eo ep ec =
     record {
       legal = legal;
       height = let z : height (h ++ call_entry p at c r ∷ []) ≡ height h + 0 = height-push h (call_entry p at c r) in let y = k.height in omega arith;
-      accounts = eb ∙ (ap (λ x. moved_by (party d a) x (p == party d a) (accepted_in (Made c) r)) k.accounts ∙ sym (accounts-push d a h (call_entry p at c r)));
+      accounts = eb ∙ (ap (λ x. moved_by (party d a) x (p == party d a) (accepted_call (Made c) r)) k.accounts
+          ∙ sym (accounts-push d a h (call_entry p at c r)));
       contract =
-          eo ∙ (ap (λ x. contract_after d a x (accepted_in (Made c) r)) k.contract
-          ∙ sym (contract-push d a h (call_entry p at c r) (accepted_in (Made c) r) refl legal k.legal));
+          eo ∙ (ap (λ x. contract_after d a x (accepted_call (Made c) r)) k.contract
+          ∙ sym (contract-push d a h (call_entry p at c r) (accepted_call (Made c) r) refl legal k.legal));
       by_party = ep ∙ (ap (λ n. n + cond (p == party d a) 1 0) k.by_party ∙ sym (calls-push h (call_entry p at c r) (party d a)));
       by_counterparty = ec ∙ (ap (λ n. n + cond (p == counterparty d a) 1 0) k.by_counterparty ∙ sym (calls-push h (call_entry p at c r) (counterparty d a)));
       ticks = let z : ticks_of (h ++ call_entry p at c r ∷ []) ≡ ticks_of h + 0 = ticks-push h (call_entry p at c r) in let y = k.ticks in omega arith;

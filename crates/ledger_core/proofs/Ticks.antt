@@ -1,5 +1,5 @@
 -- Entries of items and of runs of ticks.
-use Rattle.std.proofs.Common.{◌≡◌, ℕ, zero, suc, ◌+◌, ◌-◌, ◌*◌, ◌<◌, ◌≤◌, cond, List, [], ◌∷◌, ◌++◌, length, take, drop, get_or, count_by, refl, sym}
+use Rattle.std.proofs.Common.{◌≡◌, ℕ, zero, suc, ◌+◌, ◌-◌, ◌*◌, ◌^◌, ◌<◌, ◌≤◌, cond, List, [], ◌∷◌, ◌++◌, length, take, drop, get_or, count_by, refl, sym}
 use Rattle.std.proofs.Common.{ap, ap₂, ◌∙◌, subst, arith, append_assoc, append-nil, length-append}
 use Rattle.std.specs.List.{AllByRecursion}
 use Rattle.std.proofs.Math.ListN.{drop_of_length-le}
@@ -40,14 +40,30 @@ drop_ticks at k s (suc n) (suc m) e =
     (let f : at + k * suc m ≡ at + k * (s + suc n) = ap (λ z. at + k * z) e in f ∙ omega arith)
 
 -- the last n ticks of a run
-pub last_ticks : (r : Run) (n : ℕ) → n ≤ r.count → IsRightRun r → ticks_above (r.last - r.by * n) r.by n ≡ drop (r.count - n) (ticks_of r)
-last_ticks r n l e =
-    let f : r.by * r.count ≡ r.by * ((r.count - n) + n) = ap (λ z. r.by * z) (omega arith) in
-    let g : r.last - r.by * n ≡ r.above + r.by * (r.count - n) = omega arith in
-    ap (λ z. ticks_above z r.by n) g ∙ sym (drop_ticks r.above r.by (r.count - n) n r.count (omega arith))
+pub last_ticks : (r : Run) (n : ℕ) → n ≤ r.count → ticks_above (r.above + r.by * (r.count - n)) r.by n ≡ drop (r.count - n) (ticks_of r)
+last_ticks r n l = sym (drop_ticks r.above r.by (r.count - n) n r.count (omega arith))
 
-pub below_last : (r : Run) (n : ℕ) → n ≤ r.count → IsRightRun r → r.by * n ≤ r.last
-below_last r n l e = let f : r.by * n ≤ r.by * r.count = mul-le-mul_left r.by l in omega arith
+-- they end where it ends
+pub last_right : (r : Run) (n : ℕ) → n ≤ r.count → IsRightRun r → r.above + r.by * (r.count - n) + r.by * n < 2 ^ 32
+last_right r n l e =
+    let f : r.by * r.count ≡ r.by * ((r.count - n) + n) = ap (λ z. r.by * z) (omega arith) in
+    omega arith
+
+-- so far the heights of a run's ticks are numbers of 32 bits
+pub next_right : (r : Run) (i : ℕ) → i < r.count → IsRightRun r → r.above + r.by * i + r.by < 2 ^ 32
+next_right r i l e = let f : r.by * suc i ≤ r.by * r.count = mul-le-mul_left r.by l in omega arith
+
+-- two runs of which the second goes on from the first
+pub ticks_join : (at k m n all next : ℕ) → all ≡ m + n → next ≡ at + k * m → ticks_above at k all ≡ ticks_above at k m ++ ticks_above next k n
+ticks_join at k m zero all next s e =
+    let h : all ≡ m = omega arith in
+    ap (ticks_above at k) h ∙ sym (append-nil (ticks_above at k m))
+ticks_join at k m (suc n) zero next s e = absurd (omega arith)
+ticks_join at k m (suc n) (suc all) next s e =
+    let f : at + k * suc all ≡ at + k * (m + suc n) = ap (λ z. at + k * z) s in
+    let h : at + k * suc all ≡ next + k * suc n = f ∙ omega arith in
+    ap₂ (λ xs y. xs ++ tick_entry k y Accepted ∷ []) (ticks_join at k m n all next (omega arith) e) h
+    ∙ append_assoc (ticks_above at k m) (ticks_above next k n) (tick_entry k (next + k * suc n) Accepted ∷ [])
 
 -- one more tick of a run
 pub put_tick : (start out out' : List Entry) (r : Run) (n high : ℕ) → out ≡ start ++ ticks_above r.above r.by n → high ≡ r.above + r.by * n

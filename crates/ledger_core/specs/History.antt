@@ -37,12 +37,12 @@ call_in (Made c) = Some c
 call_in (Tick k) = None
 
 -- the call that an entry is, where it was accepted
-abbrev pub accepted_in : What → Reply → Option Call
-accepted_in (Made c) Accepted = Some c
-accepted_in _ _ = None
+abbrev pub accepted_call : What → Reply → Option Call
+accepted_call (Made c) Accepted = Some c
+accepted_call _ _ = None
 
 abbrev pub accepted : Entry → Option Call
-accepted e = accepted_in e.what e.reply
+accepted e = accepted_call e.what e.reply
 
 -- an accepted publish
 pub record Publication : Type 0 where

@@ -1,5 +1,5 @@
 -- Entries, where ticks that follow each other by the same number are one item.
-use Rattle.std.specs.Prelude.{◌≡◌, ◌+◌, ◌*◌, ℕ, zero, suc, List, [], ◌∷◌, ◌++◌}
+use Rattle.std.specs.Prelude.{◌+◌, ◌*◌, ◌<◌, ◌^◌, ℕ, zero, suc, List, [], ◌∷◌, ◌++◌}
 use Rattle.std.specs.List.{flat_map}
 use Rattle.escrow_core.specs.declared.reply.Reply.TheVariants.{Accepted}
 use Rattle.ledger_core.specs.declared.entry.Entry.{Entry}
@@ -26,9 +26,9 @@ entries_of (Ticks r) = ticks_of r
 abbrev pub expand : List Item → List Entry
 expand items = flat_map entries_of items
 
--- the run's last height is that of its last tick
+-- the height after the run's last tick is a number of 32 bits
 abbrev pub IsRightRun : Run → Type 0
-IsRightRun r = r.last ≡ r.above + r.by * r.count
+IsRightRun r = r.above + r.by * r.count < 2 ^ 32
 
 abbrev pub IsRight : Item → Type 0
 IsRight (One e) = Unit {0}

@@ -123,6 +123,14 @@ impl EntryList {
         }
         Ok(())
     }
+
+    /// Adds the entries of another list, whose memory it takes over. What it costs grows with their items alone. Want of memory leaves everything as it was.
+    pub fn append(&mut self, more: EntryList) -> Result<(), NoMemory>
+        ensures ok { OnOk result (self.new ≡ self.old ++ more) }
+        ensures err { OnErr result (self.new ≡ self.old) }
+    {
+        self.entries.append(more.entries)
+    }
 }
 
 impl TryCopy for EntryList {

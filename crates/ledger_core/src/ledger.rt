@@ -14,13 +14,13 @@ use crate::reply_of::{accounts_after, one_more_where, reply_of};
 use escrow_core::{Contract, Reply};
 use std::alloc::Global;
 use std::marker::Model;
-use swap_base::{ArcId, NoMemory, PartyId};
-use swap_digraph::{Deal, copy_deal};
+use swap_base::{ArcId, NoMemory, PartyId, Shared, TryCopy};
+use swap_digraph::Deal;
 
 /// A ledger: its history, and beside it the height, the accounts, the contract and how many entries each sender has.
 #[derive(Debug, Drop)]
 pub struct Ledger {
-    deal: Deal,
+    deal: Shared<Deal>,
     arc: ArcId,
     party: PartyId,
     counterparty: PartyId,
@@ -46,8 +46,8 @@ impl Model for Ledger {
 }
 
 impl Ledger {
-    /// A ledger at height 0 without entries. The arc's party holds the amount. It keeps a copy of the deal.
-    pub fn new(alloc: Global, deal: &Deal, arc: ArcId) -> Result<Ledger, NoMemory>
+    /// A ledger at height 0 without entries. The arc's party holds the amount. It is one more holder of the deal.
+    pub fn new(alloc: Global, deal: &Shared<Deal>, arc: ArcId) -> Result<Ledger, NoMemory>
         requires sized { IsWellSized deal.now }
         requires arc { arc < length deal.now.graph.arcs }
         ensures { IfOk result (λ l. l ≡ record { deal = deal.now; arc = arc; history = []; spare = 0 }) }
@@ -55,7 +55,7 @@ impl Ledger {
         let ends = deal.graph.arcs()[arc as usize];
         let amount = deal.amounts.as_slice()[arc as usize];
         Ok(Ledger {
-            deal: copy_deal(deal)?,
+            deal: deal.copy()?,
             arc,
             party: ends.from,
             counterparty: ends.to,

@@ -1,12 +1,13 @@
 //! The entries of a ledger, where a tick that goes on with those before it takes no memory of its own.
 
-ghost use Rattle.std.specs.Prelude.{◌≡◌, ◌<◌, ◌≤◌, ◌+◌, ◌-◌, ◌++◌, ◌∷◌, [], OnOk, OnErr, IfOk, length, drop, vec_len, vec_capacity};
+ghost use Rattle.std.specs.Prelude.{◌≡◌, ◌<◌, ◌≤◌, ◌+◌, ◌-◌, ◌++◌, ◌∷◌, [], OnOk, OnErr, IfOk, length, drop, is_some, true, false, vec_len, vec_capacity};
 ghost use Rattle.std.specs.List.{AllByRecursion};
 ghost use Rattle.ledger_core.specs.Ledger.{tick_entry};
 ghost use Rattle.ledger_core.specs.Runs.{ticks_of, entries_of, expand, IsRight, IsRightRun};
 
-use crate::entry::Entry;
-use crate::runs::{Item, Run, ending, entries_in, last_of, longer, no_ticks, single};
+use crate::boxed_entry::BoxedEntry;
+use crate::entry::{Entry, Sender, What};
+use crate::runs::{Item, Run, ending, entries_in, joined, last_of, longer, no_ticks, single};
 use escrow_core::Reply;
 use std::alloc::Global;
 use std::marker::Model;
@@ -18,6 +19,8 @@ pub struct LedgerHistory {
     items: Vec<Item>,
     open: Run,
     count: usize,
+    /// Where a further call's entry goes, if room was made for one.
+    room: Option<BoxedEntry>,
 }
 
 impl Model for LedgerHistory {
@@ -42,6 +45,7 @@ impl LedgerHistory {
             items: Vec::new(alloc),
             open: no_ticks(),
             count: 0,
+            room: None,
         }
     }
 
@@ -54,7 +58,11 @@ impl LedgerHistory {
     {
         // The run that an entry closes, and the entry.
         self.items.reserve(2)?;
-        Ok(())
+        let alloc = *self.items.allocator();
+        match make_room(&mut self.room, alloc) {
+            Ok(()) => Ok(()),
+            Err(fault) => Err(fault),
+        }
     }
 
     /// Adds an entry. It takes no memory.
@@ -65,7 +73,8 @@ impl LedgerHistory {
         ensures spare { self.old.spare ≤ self.new.spare + 1 }
     {
         close(&mut self.items, self.open);
-        put(&mut self.items, Item::One(entry));
+        let held = fill(&mut self.room, entry);
+        put(&mut self.items, Item::One(held));
         self.open = no_ticks();
         self.count += 1;
     }
@@ -86,6 +95,46 @@ impl LedgerHistory {
                 self.open = single(k, height);
             }
         }
+    }
+
+    /// Adds ticks, where they go on from the last ones.
+    fn join(&mut self, run: Run) -> bool
+        requires right { IsRightRun run }
+        requires few { length self.old.list + run.count ≤ usize.MAX }
+        ensures joined { result ≡ true → self.new.list ≡ self.old.list ++ ticks_of run }
+        ensures apart { result ≡ false → self.new ≡ self.old }
+    {
+        match joined(self.open, run) {
+            Some(all) => {
+                self.open = all;
+                self.count += run.count as usize;
+                true
+            }
+            None => false,
+        }
+    }
+
+    /// Adds the entries of another history, whose memory it takes over. Want of memory leaves everything as it was.
+    pub fn append(&mut self, more: LedgerHistory) -> Result<(), NoMemory>
+        ensures ok { OnOk result (self.new.list ≡ self.old.list ++ more.list) }
+        ensures err { OnErr result (self.new ≡ self.old) }
+    {
+        let LedgerHistory {
+            items,
+            open,
+            count,
+            ..
+        } = more;
+        if count > usize::MAX - self.count {
+            return Err(NoMemory);
+        }
+        if items.is_empty() && self.join(open) {
+            return Ok(());
+        }
+        put_on(&mut self.items, self.open, items)?;
+        self.open = open;
+        self.count += count;
+        Ok(())
     }
 
     /// How many entries there are.
@@ -126,13 +175,50 @@ impl LedgerHistory {
                 items: Vec::new(alloc),
                 open: last_of(self.open, fresh),
                 count: fresh,
+                room: None,
             });
         }
         Ok(LedgerHistory {
             items: copy_last(alloc, &self.items, fresh - after)?,
             open: self.open,
             count: fresh,
+            room: None,
         })
+    }
+}
+
+/// Makes room for an entry, where there is none yet.
+fn make_room(room: &mut Option<BoxedEntry>, alloc: Global) -> Result<(), NoMemory>
+    ensures ok { OnOk result (is_some room.new ≡ true) }
+    ensures none { OnErr result (is_some room.old ≡ false) }
+    ensures err { OnErr result (is_some room.new ≡ false) }
+{
+    if room.is_some() {
+        return Ok(());
+    }
+    let blank = Entry {
+        sender: Sender::Clock,
+        height: 0,
+        what: What::Tick(0),
+        reply: Reply::Accepted,
+    };
+    match BoxedEntry::new(alloc, blank) {
+        Ok(held) => {
+            *room = Some(held);
+            Ok(())
+        }
+        Err(fault) => Err(fault),
+    }
+}
+
+/// Takes the room for an entry, with the entry in it.
+fn fill(room: &mut Option<BoxedEntry>, entry: Entry) -> BoxedEntry
+    requires { is_some room.old ≡ true }
+    ensures { result ≡ entry }
+{
+    match room.take() {
+        Some(held) => held.holding(entry),
+        None => unreachable!(),
     }
 }
 
@@ -162,6 +248,27 @@ fn close(items: &mut Vec<Item>, run: Run)
     if run.count > 0 {
         put(items, Item::Ticks(run));
     }
+}
+
+/// Puts a run and further items after the items, all or nothing.
+fn put_on(items: &mut Vec<Item>, run: Run, mut more: Vec<Item>) -> Result<(), NoMemory>
+    requires right { AllByRecursion IsRight items.old.items }
+    requires right_run { IsRightRun run }
+    requires right_more { AllByRecursion IsRight more.items }
+    ensures list { OnOk result (expand items.new.items ≡ expand items.old.items ++ ticks_of run ++ expand more.items) }
+    ensures right { OnOk result (AllByRecursion IsRight items.new.items) }
+    ensures err { OnErr result (items.new ≡ items.old) }
+{
+    if more.len() == usize::MAX {
+        return Err(NoMemory);
+    }
+    items.reserve(more.len() + 1)?;
+    close(items, run);
+    match items.append(&mut more) {
+        Ok(()) => {}
+        Err(_) => unreachable!(),
+    }
+    Ok(())
 }
 
 /// Where the last entries begin: the ending of an item, and the number of the item after it.

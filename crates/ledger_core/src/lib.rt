@@ -9,11 +9,13 @@
 
 mod accounts;
 mod balances;
+mod boxed_entry;
 mod entry;
 mod entry_facts;
 mod entry_list;
 mod facts;
 mod fitting;
+mod held_deal;
 mod ledger;
 mod ledger_history;
 mod reply_of;
@@ -23,11 +25,13 @@ mod spread;
 
 pub use accounts::Accounts;
 pub use balances::accounts_of;
+pub use boxed_entry::BoxedEntry;
 pub use entry::{Book, Call, Entry, Sender, What};
 pub use entry_facts::{publication_of, settlement_of, ticks_in};
 pub use entry_list::EntryList;
 pub use facts::{CallKind, Facts, Published, Settlement};
 pub use fitting::{fits, is_adjacent};
+pub use held_deal::share_deal;
 pub use ledger::Ledger;
 pub use ledger_history::LedgerHistory;
 pub use runs::{Item, Run};

@@ -2,14 +2,14 @@
 
 ghost use Rattle.std.specs.Prelude.{◌≡◌, ◌+◌, ◌<◌, ◌≤◌, ◌==◌, IsTrue, length, nat_lt, if◌then◌else◌};
 ghost use Rattle.swap_digraph.specs.Deal.{IsWellSized};
-ghost use Rattle.ledger_core.specs.History.{accepted_in, moved_by, transferred, fit};
+ghost use Rattle.ledger_core.specs.History.{accepted_call, moved_by, transferred, fit};
 ghost use Rattle.ledger_core.specs.Known.{is_known_in};
 ghost use Rattle.ledger_core.specs.Ledger.{reply_by, contract_after, CanMove, IsContractIn};
 
 use crate::accounts::Accounts;
 use crate::entry::{Call, What};
 use escrow_core::{Contract, Reply, Terms};
-use swap_base::{ArcId, PartyId};
+use swap_base::{ArcId, PartyId, Shared};
 use swap_digraph::Deal;
 
 /// The reply to a publish, which makes the contract where it is accepted.
@@ -25,7 +25,7 @@ fn publish(
     requires arc { arc < length deal.now.graph.arcs }
     requires fits { IsTrue (fit deal.now arc (Call.Publish terms.now)) }
     ensures reply { result ≡ reply_by deal.now arc contract.old 0 balance sender (Call.Publish terms.now) }
-    ensures contract { contract.new ≡ contract_after deal.now arc contract.old (accepted_in (What.Call (Call.Publish terms.now)) result) }
+    ensures contract { contract.new ≡ contract_after deal.now arc contract.old (accepted_call (What.Call (Call.Publish terms.now)) result) }
 {
     if sender != deal.graph.arcs()[arc as usize].from {
         return Reply::NotParty;
@@ -52,7 +52,7 @@ fn transfer(balance: u64, units: u64) -> Reply
 
 /// The reply to a call of a sender that hasn't too many entries. Where it is accepted, the contract changes with it.
 pub(crate) fn reply_of(
-    deal: &Deal,
+    deal: &Shared<Deal>,
     arc: ArcId,
     contract: &mut Option<Contract>,
     height: u32,
@@ -67,7 +67,7 @@ pub(crate) fn reply_of(
     requires fits { IsTrue (fit deal.now arc call.now) }
     requires known { IsTrue (is_known_in known deal.now call.now) }
     ensures reply { result ≡ reply_by deal.now arc contract.old height balance sender call.now }
-    ensures contract { contract.new ≡ contract_after deal.now arc contract.old (accepted_in (What.Call call.now) result) }
+    ensures contract { contract.new ≡ contract_after deal.now arc contract.old (accepted_call (What.Call call.now) result) }
 {
     match call {
         Call::Publish(terms) => publish(deal, arc, contract, balance, sender, terms),
@@ -95,9 +95,9 @@ pub(crate) fn accounts_after(
     call: &Call,
     reply: Reply,
 ) -> Accounts
-    requires funds { CanMove accounts from_party (accepted_in (What.Call call.now) reply) }
+    requires funds { CanMove accounts from_party (accepted_call (What.Call call.now) reply) }
     requires bound { accounts.party + accounts.counterparty + accounts.held ≤ 1000000000000 }
-    ensures { result ≡ moved_by party accounts from_party (accepted_in (What.Call call.now) reply) }
+    ensures { result ≡ moved_by party accounts from_party (accepted_call (What.Call call.now) reply) }
 {
     if reply != Reply::Accepted {
         return accounts;

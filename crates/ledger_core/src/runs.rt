@@ -6,7 +6,8 @@ ghost use Rattle.ledger_core.specs.History.{height};
 ghost use Rattle.ledger_core.specs.Ledger.{tick_entry};
 ghost use Rattle.ledger_core.specs.Runs.{ticks_of, entries_of, IsRight, IsRightRun};
 
-use crate::entry::{Entry, What};
+use crate::boxed_entry::BoxedEntry;
+use crate::entry::What;
 use escrow_core::Reply;
 use swap_base::{NoMemory, TryCopy};
 
@@ -19,14 +20,12 @@ pub struct Run {
     pub by: u32,
     /// How many there are.
     pub count: u32,
-    /// The height after the last.
-    pub last: u32,
 }
 
-/// An entry, or ticks that follow each other by the same number.
+/// An entry, or ticks that follow each other by the same number. Ticks are many and calls are few, so only these have memory of their own.
 #[derive(Debug, Drop)]
 pub enum Item {
-    One(Entry),
+    One(BoxedEntry),
     Ticks(Run),
 }
 
@@ -49,7 +48,6 @@ pub(crate) fn no_ticks() -> Run
         above: 0,
         by: 0,
         count: 0,
-        last: 0,
     }
 }
 
@@ -63,7 +61,6 @@ pub(crate) fn single(k: u32, height: u32) -> Run
         above: height - k,
         by: k,
         count: 1,
-        last: height,
     }
 }
 
@@ -74,12 +71,33 @@ pub(crate) fn longer(run: Run, k: u32, height: u32) -> Option<Run>
     ensures ticks { IfSome result (λ r. ticks_of r ≡ ticks_of run ++ tick_entry k height Reply.Accepted ∷ []) }
     ensures right { IfSome result IsRightRun }
 {
-    if run.by == k && run.last == height - k && run.count < u32::MAX {
+    if run.by == k && run.above + run.by * run.count == height - k && run.count < u32::MAX {
         Some(Run {
             above: run.above,
             by: k,
             count: run.count + 1,
-            last: height,
+        })
+    } else {
+        None
+    }
+}
+
+/// Two runs as one, where the second goes on from the first.
+#[tactic(auto, using(crate::proofs::Ticks::ticks_join))]
+pub(crate) fn joined(run: Run, more: Run) -> Option<Run>
+    requires right { IsRightRun run }
+    requires right_more { IsRightRun more }
+    ensures ticks { IfSome result (λ r. ticks_of r ≡ ticks_of run ++ ticks_of more) }
+    ensures right { IfSome result IsRightRun }
+{
+    if run.by == more.by
+        && run.above + run.by * run.count == more.above
+        && run.count <= u32::MAX - more.count
+    {
+        Some(Run {
+            above: run.above,
+            by: run.by,
+            count: run.count + more.count,
         })
     } else {
         None
@@ -87,7 +105,7 @@ pub(crate) fn longer(run: Run, k: u32, height: u32) -> Option<Run>
 }
 
 /// The last n ticks of a run.
-#[tactic(auto, using(crate::proofs::Ticks::last_ticks, crate::proofs::Ticks::below_last))]
+#[tactic(auto, using(crate::proofs::Ticks::last_right))]
 pub(crate) fn last_of(run: Run, n: usize) -> Run
     requires within { n ≤ run.count }
     requires right { IsRightRun run }
@@ -96,10 +114,9 @@ pub(crate) fn last_of(run: Run, n: usize) -> Run
 {
     let count = n as u32;
     Run {
-        above: run.last - run.by * count,
+        above: run.above + run.by * (run.count - count),
         by: run.by,
         count,
-        last: run.last,
     }
 }
 

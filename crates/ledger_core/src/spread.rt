@@ -1,6 +1,6 @@
 //! Entries one by one.
 
-ghost use Rattle.std.specs.Prelude.{◌≡◌, ◌++◌, OnOk};
+ghost use Rattle.std.specs.Prelude.{◌≡◌, ◌++◌, ◌∷◌, [], OnOk};
 ghost use Rattle.std.specs.List.{AllByRecursion};
 ghost use Rattle.ledger_core.specs.Runs.{ticks_of, entries_of, expand, IsRight, IsRightRun};
 
@@ -27,12 +27,19 @@ pub(crate) fn put_ticks(out: &mut Vec<Entry>, run: Run) -> Result<(), NoMemory>
     Ok(())
 }
 
+fn put_entry(out: &mut Vec<Entry>, entry: &Entry) -> Result<(), NoMemory>
+    ensures { OnOk result (out.new.items ≡ out.old.items ++ entry.now ∷ []) }
+{
+    out.push(entry.copy()?)?;
+    Ok(())
+}
+
 fn put_item(out: &mut Vec<Entry>, item: &Item) -> Result<(), NoMemory>
     requires { IsRight item.now }
     ensures { OnOk result (out.new.items ≡ out.old.items ++ entries_of item.now) }
 {
     match item {
-        Item::One(entry) => out.push(entry.copy()?)?,
+        Item::One(entry) => put_entry(out, entry)?,
         Item::Ticks(run) => put_ticks(out, *run)?,
     }
     Ok(())

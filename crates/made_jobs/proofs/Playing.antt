@@ -1,5 +1,5 @@
 -- A world of a generated job takes its events.
-use Rattle.std.proofs.Common.{◌≡◌, ℕ, zero, suc, ◌<◌, Bool, true, false, List, [], ◌∷◌, length, map, replicate, Option, Some, None, Ok, is_some}
+use Rattle.std.proofs.Common.{◌≡◌, ℕ, zero, suc, ◌<◌, Bool, true, false, List, [], ◌∷◌, length, map, replicate, Option, Some, None, is_some}
 use Rattle.std.proofs.Common.{refl, sym, ap, ap₂, ◌∙◌, subst}
 use Rattle.std.specs.List.{list_any}
 use Rattle.std.proofs.lemmas.List.{length-replicate}
@@ -11,6 +11,7 @@ use Rattle.swap_job.specs.declared.job.Job.{Job}
 use Rattle.swap_job.specs.declared.job.Role.{Role}
 use Rattle.swap_job.specs.declared.job.Role.TheVariants.{Conforming, Manual}
 use Rattle.swap_job.specs.Step.{CanStep, IsEventOf}
+use Rattle.swap_job.specs.Roles.{is_conforming}
 use Rattle.swap_rules.specs.Accepted.{IsAccepted}
 use Rattle.swap_rules.proofs.Accepted.{accepted_is_well_sized}
 use Rattle.party_wallet.specs.Value.{WalletState}
@@ -20,13 +21,13 @@ use Rattle.swap_run.specs.Asked.{is_strategy}
 use Rattle.swap_run.specs.Run.{Cast, State, is_planned, run, run_from, start, step}
 use Rattle.swap_run.specs.Fair.{finish}
 use Rattle.swap_run.specs.Laws.{IsKept}
-use Rattle.swap_world.specs.Cast.{cast_of, cast_with, is_conforming}
-use Rattle.swap_world.specs.Actors.{world_of, HaveRoles, HaveSeeds}
-use Rattle.swap_world.specs.Gone.{Gives, HasGone}
+use Rattle.swap_world.specs.Cast.{cast_of, cast_with}
+use Rattle.swap_world.specs.Actors.{AllFit, HaveRoles, ConformingHaveSeeds}
+use Rattle.swap_world.specs.Gone.{MayGive, HasGone}
 use Rattle.swap_world.specs.Value.{WorldState, cast_at, new_world}
 use Rattle.swap_world.proofs.Plain.{plain_finish}
-use Rattle.swap_world.proofs.Team.{world_is_new, nobody_asks, plain_roles}
-use Rattle.swap_gen.specs.Drawn.{generated, plain_job, plain_deal, seed_of}
+use Rattle.swap_world.proofs.Team.{all_fit, nobody_asks, plain_roles}
+use Rattle.swap_gen.specs.Drawn.{generated, plain_job, plain_deal, drawn_seed}
 use Rattle.swap_gen.specs.Made.{made_deal}
 use Rattle.swap_gen.specs.Events.{generated_events, GeneratorState}
 use Rattle.swap_gen.specs.Owned.{wallets_in, OwnsKeys}
@@ -40,15 +41,16 @@ some_is None seed e = absurd (cc e)
 some_is (Some x) seed e = refl
 
 pub have_seeds : (job : Job) → ((p : ℕ) → p < job.deal.graph.n → OwnsKeys job p) → length job.conforming ≡ job.deal.graph.n
-    → length job.seeds ≡ job.deal.graph.n → HaveSeeds job
+    → length job.seeds ≡ job.deal.graph.n → ConformingHaveSeeds job
 have_seeds job own conforming seeds = record {
   conforming = conforming;
   seeds = seeds;
   there = λ p lt c. some_is _ (own p lt).seed (own p lt).there;
 }
 
-pub is_new : (job : Job) → ((p : ℕ) → p < job.deal.graph.n → OwnsKeys job p) → world_of job ≡ Ok (new_world job)
-is_new job own = world_is_new job (λ p lt c. let k = own p lt in (k.seed, k.there, k.fits))
+-- who owns its keys has a right wallet
+pub owners_fit : (job : Job) → ((p : ℕ) → p < job.deal.graph.n → OwnsKeys job p) → AllFit job
+owners_fit job own = all_fit job (λ p lt c. let k = own p lt in (k.seed, k.there, k.fits))
 
 same_cast : (job : Job) (w : WorldState) → IsOf job w → cast_at w ≡ cast_of job
 same_cast job w k =
@@ -63,7 +65,7 @@ generated_conforming seed n = length-replicate n true
 
 pub generated_seeds : (seed n : ℕ) → length (generated seed n).seeds ≡ (generated seed n).deal.graph.n
 unfolding plain_job plain_deal made_deal
-generated_seeds seed n = length-map-range_with_len (λ i. Some (seed_of seed i)) 0 n
+generated_seeds seed n = length-map-range_with_len (λ i. Some (drawn_seed seed i)) 0 n
 
 -- everybody conforms
 
@@ -98,7 +100,7 @@ can_step seed n g w event s p k can =
     (subst (λ (m : ℕ). IsEventOf (generated seed m) event) p
     (subst (λ (x : ℕ). IsEventOf (generated x g.parties) event) s can))))
 
-module _ (gives : Gives) (f : Cast → State → State) (w new : WorldState) (k : HasGone gives f w new) where
+module _ (gives : MayGive) (f : Cast → State → State) (w new : WorldState) (k : HasGone gives f w new) where
   pub is_still : (job : Job) → IsOf job w → IsOf job new
   is_still job i = record {
     deal = ap (λ (x : WorldState). x.deal) k.same ∙ i.deal;
@@ -163,7 +165,7 @@ goes_on_new j w new = ap (λ (x : WorldState). x.stopped) new
 
 -- A world after the fair finish, and its book.
 
-module _ (gives : Gives) (w new : WorldState) (none : list_any is_strategy w.roles ≡ false) (k : HasGone gives finish w new) where
+module _ (gives : MayGive) (w new : WorldState) (none : list_any is_strategy w.roles ≡ false) (k : HasGone gives finish w new) where
   pub finished_book : new.state.book ≡ (finish (cast_at w) w.state).book
   finished_book = ap (λ (s : State). s.book) (plain_finish gives w new none k)
 

@@ -22,13 +22,13 @@ use Rattle.swap_job.specs.declared.moves.Move.{Move}
 use Rattle.swap_job.specs.declared.moves.Move.TheVariants.{Publish, Craft, Replay, Raw, Claim, Refund, Transfer, Wait}
 use Rattle.swap_job.specs.Crafted.{Seeds}
 use Rattle.swap_job.specs.Fitting.{IsFitting, IsMoveOf}
+use Rattle.swap_job.specs.Roles.{script_of}
 use Rattle.offer_header.specs.Names.{AreNames}
-use Rattle.offer_header.specs.Scripts.{script_of}
-use Rattle.swap_offer.specs.Job.{IsWhole}
+use Rattle.swap_offer.specs.Job.{IsWholeJob}
 use Rattle.swap_offer.specs.Wallets.{HaveScripts}
 use Rattle.swap_gen.specs.Made.{made, made_deal}
 use Rattle.swap_gen.specs.Owned.{OwnsKeys}
-use Rattle.swap_gen.specs.Drawn.{generated, name_of, plain_deal, plain_job, seed_of}
+use Rattle.swap_gen.specs.Drawn.{generated, name_of, plain_deal, plain_job, drawn_seed}
 use Rattle.offer_text.specs.Words.{AreTexts}
 use Rattle.offer_text.specs.Moves.{AreBelow, NamesBelow}
 use Rattle.offer_text.specs.HeaderLine.{AreSayable, IsSayable, IsWritable}
@@ -79,7 +79,7 @@ said d seeds p ends Manual moves = tt
 said d seeds p ends (Script ms) moves = λ i mv lt. names_below d seeds ends (get_or ms i mv) (moves i mv lt).fits
 said d seeds p ends (Strategy name) moves = tt
 
-sayable : (job : Job) → IsWhole job → HaveScripts job → AreSayable job
+sayable : (job : Job) → IsWholeJob job → HaveScripts job → AreSayable job
 sayable job whole scripts =
     subst (λ n. All (IsSayable n) job.roles) (sym whole.names)
     (All-from_get_or (IsSayable job.deal.graph.n) job.roles Manual (λ p lt.
@@ -96,14 +96,14 @@ is_writable job sized names texts conforming roles seeds = record {
   seeds = seeds;
 }
 
-pub made_is_writable : (job m : Job) → m ≡ made job → IsAccepted m.deal → IsWhole job → AreNames job.names → IsWritable m
+pub made_is_writable : (job m : Job) → m ≡ made job → IsAccepted m.deal → IsWholeJob job → AreNames job.names → IsWritable m
 unfolding made_deal
 made_is_writable job m e k whole names =
     subst IsWritable (sym e)
     (is_writable (made job) (accepted_is_well_sized (made job).deal (subst (λ (x : Job). IsAccepted x.deal) e k)) whole.names (are_texts job.names names)
     whole.conforming whole.roles whole.seeds)
 
-pub made_is_sayable : (job m : Job) → m ≡ made job → IsWhole job → HaveScripts job → AreSayable m
+pub made_is_sayable : (job m : Job) → m ≡ made job → IsWholeJob job → HaveScripts job → AreSayable m
 made_is_sayable job m e whole scripts = subst AreSayable (sym e) (sayable job whole scripts)
 
 pub is_made : (job m : Job) → m ≡ made job → IsAccepted m.deal → ((p : ℕ) → p < m.deal.graph.n → OwnsKeys m p) → IsMade job
@@ -133,7 +133,7 @@ generated_is_writable seed n few k = record {
       subst IsUtf8 (sym (get_or-map-range_with_len name_of 0 n p p d low (omega arith))) (name_is_text p (omega (arith, low, few)));
   conforming = length-replicate n true;
   roles = length-replicate n Conforming;
-  seeds = length-map-range_with_len (λ i. Some (seed_of seed i)) 0 n;
+  seeds = length-map-range_with_len (λ i. Some (drawn_seed seed i)) 0 n;
 }
 
 generated_is_sayable : (seed n : ℕ) → AreSayable (generated seed n)

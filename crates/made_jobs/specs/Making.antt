@@ -8,7 +8,7 @@ use Rattle.swap_job.specs.declared.job.Job.{Job}
 use Rattle.swap_job.specs.declared.job.Purpose.TheVariants.{Make}
 use Rattle.refusals.specs.declared.reason.Reason.{Reason}
 use Rattle.command_input.specs.Lines.{lines_of, filled_lines}
-use Rattle.swap_offer.specs.Job.{counted, of_lines}
+use Rattle.swap_offer.specs.Job.{counted, job_of_lines}
 use Rattle.swap_gen.specs.Made.{made}
 use Rattle.swap_gen.specs.Owned.{OwnsKeys}
 use Rattle.offer_text.specs.HeaderLine.{header_line}
@@ -30,7 +30,7 @@ text_for lines read = read >>= λ j. Ok (made_text j.0 (drop 1 lines))
 
 -- what is written of an input's lines that aren't blank, or the first reason why they are refused
 abbrev pub made_of : (List ℕ → Bool) → List (ℕ × List ℕ) → Result (List ℕ) Reason
-made_of has lines = text_for lines (of_lines has Make lines)
+made_of has lines = text_for lines (job_of_lines has Make lines)
 
 -- what is written of an input's bytes, or the first reason why they are refused
 unfoldable pub made_output : (List ℕ → Bool) → List ℕ → Result (List ℕ) Reason

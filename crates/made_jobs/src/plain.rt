@@ -4,7 +4,7 @@ ghost use Rattle.std.specs.Prelude.{◌≡◌, ◌≤◌, IfOk, IfErr, OnOk};
 ghost use Rattle.swap_base.specs.Fault.{Gives, IsNoMemory};
 ghost use Rattle.proposed_deal.specs.Proposed.{HaveSeeds, IsProposed};
 ghost use Rattle.offer_header.specs.Names.{AreNames};
-ghost use Rattle.swap_offer.specs.Job.{IsWhole};
+ghost use Rattle.swap_offer.specs.Job.{IsWholeJob};
 ghost use Rattle.swap_offer.specs.Wallets.{HaveScripts};
 ghost use Rattle.swap_gen.specs.Made.{made};
 ghost use Rattle.made_jobs.specs.Making.{line_step, written_line, IsMade};
@@ -19,7 +19,7 @@ use swap_offer::count_event;
 
 /// The header line of the job that is made of a plain one, with a line feed. Its scripts stand there move by move.
 pub fn made_line(alloc: Global, job: &Job) -> Result<Vec<u8>, NoMemory>
-    requires whole { IsWhole job.now }
+    requires whole { IsWholeJob job.now }
     requires known { AreNames job.now.names }
     requires scripts { HaveScripts job.now }
     requires proposed { IsProposed job.now.deal }

@@ -20,7 +20,7 @@ use deviators::Kit;
 use ledger_core::Book;
 use party_wallet::Wallet;
 use std::alloc::Global;
-use swap_base::{Fault, NoMemory};
+use swap_base::NoMemory;
 use swap_gen::Generator;
 use swap_job::Job;
 use swap_world::World;
@@ -36,11 +36,7 @@ fn new_world(alloc: Global, job: &Job, wallets: Vec<Option<Wallet>>) -> Result<W
     requires wallets { wallets.items ≡ wallets_in job.now }
     ensures { IfOk result (λ w. w ≡ new_world job.now) }
 {
-    match World::new(alloc, job, wallets) {
-        Ok(world) => Ok(world),
-        Err(Fault::NoMemory) => Err(NoMemory),
-        Err(Fault::Refused(_)) => unreachable!(),
-    }
+    World::fitting(alloc, job, wallets)
 }
 
 /// The world of a generator's job with the wallets of its parties, before any event.

@@ -7,7 +7,7 @@ use Rattle.std.specs.Prelude.{true, false, if◌then◌else◌, map, slice_index
 use Rattle.swap_job.specs.declared.job.Job.{Job}
 use Rattle.swap_job.specs.declared.job.Purpose.TheVariants.{Run}
 use Rattle.offer_header.specs.Limits.{HoldsEach}
-use Rattle.swap_offer.specs.Job.{IsWhole}
+use Rattle.swap_offer.specs.Job.{IsWholeJob}
 use Rattle.many_fields.specs.Whole.{AreBelow, IsChain}
 use Rattle.many_lines.specs.Places.{job_at, no_job}
 use Rattle.many_lines.specs.Whole.{AreChains, AreSwaps, IsSwap}
@@ -21,8 +21,8 @@ is_chains_at : (all : List (List ℕ)) (s : ℕ) (chains : List ℕ) → s < len
 is_chains_at all s chains lt is = get_or_default all s [] chains lt ∙ sym is
 
 module _ (many : ManyJob) (swaps : AreSwaps many) (s : ℕ) (lt : s < length many.jobs) (job : Job) (is : job ≡ get_or many.jobs s job) where
-  pub whole_here : IsWhole job
-  whole_here = subst IsWhole (is_job_at many.jobs s job lt is) (swaps.swaps s lt).whole
+  pub whole_here : IsWholeJob job
+  whole_here = subst IsWholeJob (is_job_at many.jobs s job lt is) (swaps.swaps s lt).whole
 
   pub run_here : job.purpose ≡ Run
   run_here = subst (λ (j : Job). j.purpose ≡ Run) (is_job_at many.jobs s job lt is) (swaps.swaps s lt).purpose

@@ -5,7 +5,7 @@ use Rattle.swap_job.specs.declared.job.Purpose.TheVariants.{Run}
 use Rattle.offer_header.specs.Limits.{HoldsEach}
 use Rattle.offer_header.specs.Names.{AreNames}
 use Rattle.swap_rules.specs.Accepted.{IsAccepted}
-use Rattle.swap_offer.specs.Job.{IsWhole}
+use Rattle.swap_offer.specs.Job.{IsWholeJob}
 use Rattle.swap_offer.specs.Wallets.{HaveScripts, HaveWallets}
 use Rattle.swap_many.specs.Chains.{nowhere}
 use Rattle.swap_many.specs.Opening.{IsPlaceOn}
@@ -17,7 +17,7 @@ use Rattle.many_lines.specs.declared.many_job.ManyJob.{ManyJob}
 -- An accepted job of a run, each of whose arcs stands on one of so many chains.
 pub record IsSwap (count : ℕ) (job : Job) (chains : List ℕ) : Type 0 where
   pub purpose : job.purpose ≡ Run
-  pub whole : IsWhole job
+  pub whole : IsWholeJob job
   pub names : AreNames job.names
   pub accepted : IsAccepted job.deal
   pub wallets : HaveWallets job

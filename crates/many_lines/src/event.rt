@@ -2,7 +2,7 @@
 
 ghost use Rattle.std.specs.Prelude.{◌≡◌, true, IfOk};
 ghost use Rattle.swap_base.specs.Fault.{Gives};
-ghost use Rattle.swap_offer.specs.Job.{IsWhole};
+ghost use Rattle.swap_offer.specs.Job.{IsWholeJob};
 ghost use Rattle.swap_run.specs.CalledLaws.{is_no_tick};
 ghost use Rattle.many_lines.specs.Event.{after_space, before_space, event_in, is_slot, next_told, payment_told, sweep_told, swap_told, tick_told, told_by};
 ghost use Rattle.many_lines.specs.Event.{IsAgainst, is_of_crash, own_event};
@@ -159,7 +159,7 @@ fn event_in(
     job: &Job,
     text: &[u8],
 ) -> Result<ManyEvent, HeaderFault>
-    requires whole { IsWhole job.now }
+    requires whole { IsWholeJob job.now }
     requires purpose { job.now.purpose ≡ Purpose.Run }
     ensures exact { Gives (λ e. e) result (event_in line swap job.now text.now) }
     ensures can { IfOk result (λ e. IsEventIn swap job.now e) }

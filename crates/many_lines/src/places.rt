@@ -4,7 +4,7 @@ ghost use Rattle.std.specs.Prelude.{◌≡◌, ◌<◌, ◌≤◌, [], ℕ, leng
 ghost use Rattle.swap_base.specs.Fault.{Gives};
 ghost use Rattle.swap_digraph.specs.Graph.{ends};
 ghost use Rattle.refusals.specs.Words.{name_at};
-ghost use Rattle.swap_offer.specs.Job.{IsWhole};
+ghost use Rattle.swap_offer.specs.Job.{IsWholeJob};
 ghost use Rattle.many_lines.specs.Places.{account_of, arc_places, place_by, place_of, place_on, places_of};
 ghost use Rattle.many_lines.specs.Whole.{AreChains, ArePlaced, AreSwaps};
 
@@ -76,7 +76,7 @@ fn place_of(
     chain: u8,
     arc: ArcId,
 ) -> Result<Place, HeaderFault>
-    requires whole { IsWhole job.now }
+    requires whole { IsWholeJob job.now }
     requires arc { arc < length job.now.deal.graph.arcs }
     requires chain { chain < length names.now }
     requires accounts { (i : ℕ) → i < length names.now → length (slice_index_or names.now i []) ≤ 256 }
@@ -99,7 +99,7 @@ fn arc_places(
     job: &Job,
     chains: &[u8],
 ) -> Result<Listed<Place>, HeaderFault>
-    requires whole { IsWhole job.now }
+    requires whole { IsWholeJob job.now }
     requires arcs { length chains.now ≡ length job.now.deal.graph.arcs }
     requires chains { (a : ℕ) → a < length chains.now → slice_index_or chains.now a 0 < length names.now }
     requires accounts { (i : ℕ) → i < length names.now → length (slice_index_or names.now i []) ≤ 256 }

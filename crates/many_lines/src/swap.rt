@@ -5,7 +5,7 @@ ghost use Rattle.swap_base.specs.Fault.{Gives};
 ghost use Rattle.offer_header.specs.Limits.{HoldsEach};
 ghost use Rattle.offer_header.specs.Names.{AreNames, has_strategy};
 ghost use Rattle.swap_offer.specs.Checks.{IsAcceptedFor};
-ghost use Rattle.swap_offer.specs.Job.{IsWhole};
+ghost use Rattle.swap_offer.specs.Job.{IsWholeJob};
 ghost use Rattle.swap_offer.specs.Wallets.{HaveScriptsFor, HaveSeedsFor, HaveWalletsFor, wallets_for};
 ghost use Rattle.many_lines.specs.Heading.{swap_job, tells_finish, without_finish};
 
@@ -49,7 +49,7 @@ pub(crate) fn read_swap(
     ensures exact { Gives (λ p. p.job) result (swap_job (has_strategy kit.now.names kit.now.strategies.items) line text.now) }
     ensures names { IfOk result (λ p. AreNames p.job.names) }
     ensures purpose { IfOk result (λ p. p.job.purpose ≡ Purpose.Run) }
-    ensures whole { IfOk result (λ p. IsWhole p.job) }
+    ensures whole { IfOk result (λ p. IsWholeJob p.job) }
     ensures accepted { IfOk result (λ p. IsAcceptedFor Purpose.Run p.job.deal) }
     ensures seeds { IfOk result (λ p. HaveSeedsFor Purpose.Run p.job) }
     ensures wallets { IfOk result (λ p. HaveWalletsFor Purpose.Run p.job) }

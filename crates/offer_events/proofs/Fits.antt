@@ -14,7 +14,7 @@ use Rattle.swap_job.specs.declared.event.Event.{Event}
 use Rattle.swap_job.specs.declared.event.Event.TheVariants.{Tick, Look, Act, Call, Crash}
 use Rattle.swap_job.specs.Crafted.{Seeds}
 use Rattle.swap_job.specs.Fitting.{IsFitting}
-use Rattle.swap_job.specs.Resolved.{arc_of as stands_on}
+use Rattle.swap_job.specs.Resolved.{move_arc}
 use Rattle.swap_job.specs.Step.{CanStep, IsEventOf}
 use Rattle.refusals.specs.declared.reason.Reason.TheVariants.{NoSeed, NotConforming}
 use Rattle.offer_fields.specs.Limits.{number_within}
@@ -54,7 +54,7 @@ seeds_there job (Wait a height) u needs e = tt
 
 permitted_fits : (job : Job) (line p : ℕ) (mv : Move) (u : Unit {0}) → IsMade job.deal job.seeds line mv → needs_seeds job.purpose ≡ true
     → permitted job line p mv ≡ Ok u
-    → IsFitting job.deal job.seeds mv × IsTrue ((p == party job.deal (stands_on mv)) || (p == counterparty job.deal (stands_on mv)))
+    → IsFitting job.deal job.seeds mv × IsTrue ((p == party job.deal (move_arc mv)) || (p == counterparty job.deal (move_arc mv)))
 unfolding permitted
 permitted_fits job line p mv u made needs e =
     let q = went (placed job.deal.graph.arcs job.conforming line p mv) _ u e in

@@ -1,4 +1,3 @@
-pub mod Sizes
 pub mod Fits
 pub mod Scanned
 pub mod PlainText

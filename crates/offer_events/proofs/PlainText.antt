@@ -26,7 +26,7 @@ use Rattle.offer_events.specs.declared.raw.RawEvent.TheVariants.{Tick, Look, Act
 use Rattle.offer_events.specs.Reading.{event_at, tick_at, look_at, act_at}
 use Rattle.swap_base.proofs.Lists.{and_both}
 use Rattle.offer_events.specs.Event.{asked, event_of}
-use Rattle.offer_events.specs.Plain.{is_plain, Says}
+use Rattle.offer_events.specs.Plain.{is_plain_byte, Says}
 
 -- the text that a tree of printable tokens is printed as is read as that tree
 reads : (j : json.Json) (text : List ℕ) → HasNumbers j → depth j ≤ max_depth → text ≡ print (json_tokens j) → read text ≡ of_json j
@@ -47,7 +47,7 @@ ascii_number : (n : ℕ) (rest : List ℕ) → n < 2 ^ 64 → are_ascii rest ≡
 ascii_number n rest h k = ascii_append (decimal n) rest (ascii_each (decimal n) (IsAscii-decimal n h)) k
 
 -- a plain byte is one of ASCII that stands for itself
-plain_byte : (x : ℕ) → is_plain x ≡ true → (nat_lt x 128 ≡ true) × (escape_byte x ≡ x ∷ [])
+plain_byte : (x : ℕ) → is_plain_byte x ≡ true → (nat_lt x 128 ≡ true) × (escape_byte x ≡ x ∷ [])
 plain_byte x e =
     let low = and_parts (nat_le 32 x) (nat_le x 126 && (not (x == 34) && not (x == 92))) e in
     let high = and_parts (nat_le x 126) (not (x == 34) && not (x == 92)) low.1 in
@@ -56,14 +56,15 @@ plain_byte x e =
     let to : x ≤ 126 = leb-true x 126 high.0 in
     (lt-ltb x 128 (omega arith), escape_byte_plain x (eqb-false x 34 (not-true (x == 34) others.0)) (eqb-false x 92 (not-true (x == 92) others.1)) from)
 
-ascii_plain : (s rest : List ℕ) → list_all is_plain s ≡ true → are_ascii rest ≡ true → are_ascii (s ++ rest) ≡ true
+ascii_plain : (s rest : List ℕ) → list_all is_plain_byte s ≡ true → are_ascii rest ≡ true → are_ascii (s ++ rest) ≡ true
 ascii_plain [] rest h k = k
-ascii_plain (x ∷ xs) rest h k = let p = and_parts (is_plain x) (list_all is_plain xs) h in
+ascii_plain (x ∷ xs) rest h k = let p = and_parts (is_plain_byte x) (list_all is_plain_byte xs) h in
     and_both (nat_lt x 128) (are_ascii (xs ++ rest)) (plain_byte x p.0).0 (ascii_plain xs rest p.1 k)
 
-escape_plain : (s : List ℕ) → list_all is_plain s ≡ true → escape s ≡ s
+escape_plain : (s : List ℕ) → list_all is_plain_byte s ≡ true → escape s ≡ s
 escape_plain [] h = refl
-escape_plain (x ∷ xs) h = let p = and_parts (is_plain x) (list_all is_plain xs) h in ap₂ (λ (a b : List ℕ). a ++ b) (plain_byte x p.0).1 (escape_plain xs p.1)
+escape_plain (x ∷ xs) h = let p = and_parts (is_plain_byte x) (list_all is_plain_byte xs) h in ap₂ (λ (a b : List ℕ). a ++ b) (plain_byte x p.0).1
+    (escape_plain xs p.1)
 
 -- a line of ASCII that reads as an object which says an event
 says : (line : ℕ) (text : List ℕ) (ms : Members) (raw : RawEvent) → are_ascii text ≡ true → read text ≡ Some (object ms)
@@ -76,7 +77,7 @@ says line text ms raw ascii is fields = record {
 }
 
 -- a plain name between quotes
-quoted_plain : (name rest : List ℕ) → list_all is_plain name ≡ true → quoted name ++ rest ≡ 34 ∷ (name ++ 34 ∷ rest)
+quoted_plain : (name rest : List ℕ) → list_all is_plain_byte name ≡ true → quoted name ++ rest ≡ 34 ∷ (name ++ 34 ∷ rest)
 quoted_plain name rest h = rw (escape_plain name h) (ap (λ (l : List ℕ). 34 ∷ l) (append_assoc name (34 ∷ []) rest))
 
 -- ---- the texts before the values
@@ -144,7 +145,7 @@ by_then_tick line n k text rest end h g same next closed =
     says line text members (Tick n (Some k)) (rw whole (ascii_number k (next_tick_key ++ (decimal n ++ 125 ∷ [])) g (ascii_number n (125 ∷ []) h refl)))
     is refl
 
-pub look_then_arc : (line n : ℕ) (name text rest end : List ℕ) → n < 2 ^ 64 → list_all is_plain name ≡ true → text ≡ look_key ++ (34 ∷ (name ++ 34 ∷ rest))
+pub look_then_arc : (line n : ℕ) (name text rest end : List ℕ) → n < 2 ^ 64 → list_all is_plain_byte name ≡ true → text ≡ look_key ++ (34 ∷ (name ++ 34 ∷ rest))
     → rest ≡ next_arc_key ++ (decimal n ++ end) → end ≡ 125 ∷ [] → Says line text (Look name n)
 unfolding print_from escape_byte event_at look_at number_at text_at needed only
 look_then_arc line n name text rest end h plain same next closed =
@@ -157,7 +158,7 @@ look_then_arc line n name text rest end h plain same next closed =
     let is : read text ≡ Some (object members) = reads tree text (tt, (IsNumber-decimal n h, tt)) (omega arith) printed ∙ rw (number_of-decimal n h) refl in
     says line text members (Look name n) (rw whole (ascii_plain name (34 ∷ after) plain (ascii_number n (125 ∷ []) h refl))) is refl
 
-pub arc_then_look : (line n : ℕ) (name text rest end : List ℕ) → n < 2 ^ 64 → list_all is_plain name ≡ true → text ≡ arc_key ++ (decimal n ++ rest)
+pub arc_then_look : (line n : ℕ) (name text rest end : List ℕ) → n < 2 ^ 64 → list_all is_plain_byte name ≡ true → text ≡ arc_key ++ (decimal n ++ rest)
     → rest ≡ next_look_key ++ (34 ∷ (name ++ 34 ∷ end)) → end ≡ 125 ∷ [] → Says line text (Look name n)
 unfolding print_from escape_byte event_at look_at number_at text_at needed only
 arc_then_look line n name text rest end h plain same next closed =
@@ -171,7 +172,7 @@ arc_then_look line n name text rest end h plain same next closed =
     let is : read text ≡ Some (object members) = reads tree text (IsNumber-decimal n h, (tt, tt)) (omega arith) printed ∙ rw (number_of-decimal n h) refl in
     says line text members (Look name n) (rw whole (ascii_number n after h (ascii_plain name (34 ∷ 125 ∷ []) plain refl))) is refl
 
-pub act_alone : (line : ℕ) (name text end : List ℕ) → list_all is_plain name ≡ true → text ≡ act_key ++ (34 ∷ (name ++ 34 ∷ end)) → end ≡ 125 ∷ []
+pub act_alone : (line : ℕ) (name text end : List ℕ) → list_all is_plain_byte name ≡ true → text ≡ act_key ++ (34 ∷ (name ++ 34 ∷ end)) → end ≡ 125 ∷ []
     → Says line text (Act name)
 unfolding print_from escape_byte event_at act_at text_at needed only
 act_alone line name text end plain same closed =

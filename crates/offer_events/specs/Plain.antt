@@ -6,8 +6,8 @@ use Rattle.offer_events.specs.declared.raw.RawEvent.{RawEvent}
 use Rattle.offer_events.specs.Reading.{event_at}
 
 -- a byte that stands between quotes for itself: a printable one of ASCII, neither a quote nor a backslash
-abbrev pub is_plain : ℕ → Bool
-is_plain x = nat_le 32 x && (nat_le x 126 && (not (x == 34) && not (x == 92)))
+abbrev pub is_plain_byte : ℕ → Bool
+is_plain_byte x = nat_le 32 x && (nat_le x 126 && (not (x == 34) && not (x == 92)))
 
 -- the line is an object, and its fields say that event
 pub record Says (line : ℕ) (text : List ℕ) (raw : RawEvent) : Type 0 where

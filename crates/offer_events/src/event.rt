@@ -4,7 +4,7 @@ ghost use Rattle.std.specs.Prelude.{◌≡◌, ◌<◌, true, false, nat_lt, len
 ghost use Rattle.std.specs.List.{list_all};
 ghost use Rattle.swap_base.specs.Fault.{Gives};
 ghost use Rattle.swap_digraph.specs.Deal.{IsWellSized};
-ghost use Rattle.swap_job.specs.Resolved.{arc_of as stands_on};
+ghost use Rattle.swap_job.specs.Resolved.{move_arc};
 ghost use Rattle.swap_job.specs.Step.{IsEventOf};
 ghost use Rattle.offer_moves.specs.Kept.{AreCraftersBelow};
 ghost use Rattle.offer_events.specs.Event.{event_of_tick, event_of_look, event_of_act, permitted, event_of_call, event_of_crash, checked};
@@ -110,7 +110,7 @@ fn check_seeds(job: &Job, mv: &Move) -> Result<(), OfferFault>
 /// A party may make a move where it stands, and who crafts has seeds.
 #[tactic(auto, unfolding(crate::specs::Event::permitted))]
 fn check_move(job: &Job, line: u32, p: PartyId, mv: &Move) -> Result<(), OfferFault>
-    requires arc { stands_on mv.now < length job.now.deal.graph.arcs }
+    requires arc { move_arc mv.now < length job.now.deal.graph.arcs }
     requires conforming { AreCraftersBelow (length job.now.conforming) mv.now }
     requires seeds { AreCraftersBelow (length job.now.seeds) mv.now }
     ensures { Gives (λ u. u) result (permitted job.now line p mv.now) }

@@ -2,7 +2,7 @@
 
 ghost use Rattle.std.specs.Prelude.{◌≡◌, ◌≢◌, ◌<◌, ◌≤◌, ◌^◌, ℕ, true, not, List, [], ◌∷◌, ◌++◌, position, decimal, MatchOption, IsTrue};
 ghost use Rattle.std.specs.List.{list_all};
-ghost use Rattle.offer_events.specs.Plain.{is_plain, Says};
+ghost use Rattle.offer_events.specs.Plain.{is_plain_byte, Says};
 
 use crate::raw::RawEvent;
 use offer_fields::TextRef;
@@ -50,13 +50,13 @@ fn number(text: &[u8]) -> Option<(u64, &[u8])>
 }
 
 fn is_plain(byte: u8) -> bool
-    ensures { result ≡ is_plain byte }
+    ensures { result ≡ is_plain_byte byte }
 {
     32 <= byte && byte <= 126 && byte != b'"' && byte != b'\\'
 }
 
 fn plain_end(text: &[u8]) -> Option<usize>
-    ensures { result ≡ position (λ x. not (is_plain x)) text.now }
+    ensures { result ≡ position (λ x. not (is_plain_byte x)) text.now }
 {
     text.iter().position(|byte| !is_plain(*byte))
 }
@@ -64,7 +64,7 @@ fn plain_end(text: &[u8]) -> Option<usize>
 /// The plain text up to a quote, and what follows the quote.
 fn name(text: &[u8]) -> Option<(&[u8], &[u8])>
     ensures quoted { MatchOption result (Unit {0}) (λ p. text.now ≡ p.0.now ++ 34 ∷ p.1.now) }
-    ensures plain { MatchOption result (Unit {0}) (λ p. list_all is_plain p.0.now ≡ true) }
+    ensures plain { MatchOption result (Unit {0}) (λ p. list_all is_plain_byte p.0.now ≡ true) }
 {
     let end = plain_end(text)?;
     if text[end] != b'"' {
@@ -82,7 +82,7 @@ fn number_after<'a>(text: &'a [u8], prefix: &[u8]) -> Option<(u64, &'a [u8])>
 
 fn name_after<'a>(text: &'a [u8], prefix: &[u8]) -> Option<(&'a [u8], &'a [u8])>
     ensures quoted { MatchOption result (Unit {0}) (λ p. text.now ≡ prefix.now ++ (p.0.now ++ 34 ∷ p.1.now)) }
-    ensures plain { MatchOption result (Unit {0}) (λ p. list_all is_plain p.0.now ≡ true) }
+    ensures plain { MatchOption result (Unit {0}) (λ p. list_all is_plain_byte p.0.now ≡ true) }
 {
     name(after(text, prefix)?)
 }

@@ -7,12 +7,12 @@ use Rattle.swap_base.specs.declared.fault.Fault.{Fault}
 use Rattle.swap_job.specs.declared.job.Purpose.{Purpose}
 use Rattle.refusals.specs.declared.reason.Reason.{Reason}
 use Rattle.offer_fields.specs.Fields.{number_at, list_at, only}
-use Rattle.offer_header.specs.Raw.{arc_of, finish_at, header_fields, keys_at, leader_of, mode_at, party_of, raw_of, states_keys, version_at}
+use Rattle.offer_header.specs.Raw.{raw_arc_of, finish_at, header_fields, keys_at, raw_leader_of, mode_at, party_of, raw_of, states_keys, version_at}
 use Rattle.offer_header.specs.Raw.{IsModeOf, IsUntimed, IsUntold, HasWords}
 use Rattle.offer_header.specs.Names.{numbered_of}
 use Rattle.offer_header.specs.Limits.{limited_of, HoldsEach}
 use Rattle.offer_header.specs.Scripts.{scripts_placed, AreMade}
-use Rattle.offer_header.specs.Header.{header_by, AreSimpleFor, IsUntoldFor, IsWithin}
+use Rattle.offer_header.specs.Header.{header_by, AreSimpleFor, IsUntoldFor, IsHeaderWithin}
 use Rattle.offer_header.specs.declared.raw.RawHeader.{RawHeader}
 use Rattle.offer_header.specs.declared.names.Numbered.{Numbered}
 use Rattle.offer_header.specs.declared.header.Header.{Header}
@@ -36,7 +36,7 @@ record IsFit (purpose : Purpose) (h : RawHeader) : Type 0 where
 
 fits : (purpose : Purpose) (line : ℕ) (d : Data) (h : RawHeader) → mode_at line h.version d ≡ Ok h.mode
     → list_at line (codes "parties") (party_of (record { purpose = purpose; mode = h.mode }) line) d ≡ Ok h.parties
-    → list_at line (codes "arcs") (arc_of (record { purpose = purpose; mode = h.mode }) line) d ≡ Ok h.arcs
+    → list_at line (codes "arcs") (raw_arc_of (record { purpose = purpose; mode = h.mode }) line) d ≡ Ok h.arcs
     → finish_at line purpose d ≡ Ok h.finish → IsFit purpose h
 fits purpose line d h m ps arcs f = record {
   mode = is_mode_of line h.version d h.mode m;
@@ -54,8 +54,8 @@ raw_fits purpose line d =
     after (number_at line (codes "delta") d) _ (IsFit purpose) (λ delta t.
     after (number_at line (codes "bound") d) _ (IsFit purpose) (λ bound b.
     after (list_at line (codes "parties") (party_of (record { purpose = purpose; mode = mode }) line) d) _ (IsFit purpose) (λ parties ps.
-    after (list_at line (codes "arcs") (arc_of (record { purpose = purpose; mode = mode }) line) d) _ (IsFit purpose) (λ arcs some.
-    after (list_at line (codes "leaders") (leader_of (record { purpose = purpose; mode = mode }) line) d) _ (IsFit purpose) (λ leaders ls.
+    after (list_at line (codes "arcs") (raw_arc_of (record { purpose = purpose; mode = mode }) line) d) _ (IsFit purpose) (λ arcs some.
+    after (list_at line (codes "leaders") (raw_leader_of (record { purpose = purpose; mode = mode }) line) d) _ (IsFit purpose) (λ leaders ls.
     after (keys_at line (states_keys purpose mode) d) _ (IsFit purpose) (λ keys ks.
     after (finish_at line purpose d) _ (IsFit purpose) (λ finish f.
     after (only line (header_fields purpose (states_keys purpose mode)) d) _ (IsFit purpose) (λ u o.
@@ -77,7 +77,7 @@ raw_fits purpose line d =
 -- What holds of each header that is read.
 pub record IsRead (has : List ℕ → Bool) (purpose : Purpose) (line : ℕ) (h : Header) : Type 0 where
   pub purpose_is : h.purpose ≡ purpose
-  pub within : IsWithin h
+  pub within : IsHeaderWithin h
   pub untold : IsUntoldFor purpose h
   pub simple : AreSimpleFor purpose h
   pub strategies : HoldsEach has h.roles

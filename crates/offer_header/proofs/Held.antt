@@ -8,6 +8,7 @@ use Rattle.swap_digraph.specs.Deal.{most_parties}
 use Rattle.swap_digraph.specs.declared.deal.Version.{Version}
 use Rattle.refusals.specs.declared.reason.Reason.{Reason}
 use Rattle.refusals.specs.declared.reason.Reason.TheVariants.{Unknown}
+use Rattle.swap_job.specs.Roles.{IsHeld}
 use Rattle.swap_job.specs.declared.job.Purpose.{Purpose}
 use Rattle.swap_job.specs.declared.job.Role.{Role}
 use Rattle.swap_job.specs.declared.job.Role.TheVariants as kinds
@@ -16,8 +17,8 @@ use Rattle.offer_fields.specs.Lists.{each_of}
 use Rattle.offer_fields.proofs.Chains.{went, each_at, each_length}
 use Rattle.offer_moves.specs.Moves.{move_of}
 use Rattle.offer_moves.specs.declared.moves.Sizes.{Sizes}
-use Rattle.offer_header.specs.Limits.{script_role, role_of, seed_of, acting_of, parties_of, sizes_in, limited_of, IsHeld, HoldsEach}
-use Rattle.offer_header.specs.Names.{actor_known, name_added, name_step, names_stated, ends_of, leader_step, numbered_of}
+use Rattle.offer_header.specs.Limits.{script_role, checked_role, checked_seed, acting_of, parties_of, sizes_in, limited_of, HoldsEach}
+use Rattle.offer_header.specs.Names.{actor_known, name_added, name_step, names_stated, named_ends, leader_step, numbered_of}
 use Rattle.offer_header.specs.declared.raw.RawActor.{RawActor}
 use Rattle.offer_header.specs.declared.raw.RawActor.TheVariants.{Conforming, Manual, Script, Strategy}
 use Rattle.offer_header.specs.declared.raw.RawParty.{RawParty}
@@ -45,7 +46,7 @@ module _ (has : List ℕ → Bool) (line : ℕ) where
       (two.0, two.1)
 
   held : (s : Sizes) (names all : List (List ℕ)) (actor : RawActor) (role : Role) (u : Unit {0}) → actor_known has line all actor ≡ Ok u
-      → role_of s names line actor ≡ Ok role → IsHeld has role
+      → checked_role s names line actor ≡ Ok role → IsHeld has role
   unfolding script_role
   held s names all Conforming role u k e = let is : kinds.Conforming ≡ role = cc e in subst (IsHeld has) is tt
   held s names all Manual role u k e = let is : kinds.Manual ≡ role = cc e in subst (IsHeld has) is tt
@@ -60,15 +61,15 @@ module _ (has : List ℕ → Bool) (line : ℕ) where
   acting_held : (s : Sizes) (names all : List (List ℕ)) (p : RawParty) (a : Acting) → IsKnownIn all p → acting_of s names line p ≡ Ok a → IsHeld has a.role
   unfolding acting_of
   acting_held s names all p a k e =
-      let one = went (role_of s names line p.actor) _ a e in
-      let two = went (seed_of line p) _ a one.2 in
+      let one = went (checked_role s names line p.actor) _ a e in
+      let two = went (checked_seed line p) _ a one.2 in
       let is : record { role = one.0; seed = two.0 } ≡ a = cc (two.2) in
       subst (λ (x : Acting). IsHeld has x.role) is (held s names all p.actor one.0 k.0 k.1 one.1)
 
   all_known : (raw : RawHeader) (n : Numbered) → numbered_of has line raw ≡ Ok n → All (IsKnownIn (names_stated raw.parties)) raw.parties
   unfolding numbered_of
   all_known raw n e =
-      let one = went (steps (name_step has line (names_stated raw.parties)) [] raw.parties) (λ names. each_of (ends_of line names) raw.arcs >>= λ arcs.
+      let one = went (steps (name_step has line (names_stated raw.parties)) [] raw.parties) (λ names. each_of (named_ends line names) raw.arcs >>= λ arcs.
       steps (leader_step line names) [] raw.leaders >>= λ leaders. Ok (record { names = names; arcs = arcs; leaders = leaders })) n e in
       steps_each (IsKnownIn (names_stated raw.parties)) (name_step has line (names_stated raw.parties)) (party_known (names_stated raw.parties)) [] raw.parties
       one.0 one.1

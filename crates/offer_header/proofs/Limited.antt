@@ -7,10 +7,10 @@ use Rattle.offer_fields.specs.Limits.{number_within, within}
 use Rattle.offer_fields.specs.Lists.{each_of}
 use Rattle.offer_header.specs.Names.{AreLeaders, AreEnds, IsNumbered}
 use Rattle.offer_header.specs.Raw.{is_plain, IsModeOf, IsUntimed}
-use Rattle.offer_header.specs.Limits.{acting_of, parties_of, conforms, sizes_in, terms_of, all_terms_of, arc_ends}
+use Rattle.offer_header.specs.Limits.{acting_of, parties_of, sizes_in, terms_of, all_terms_of, arc_ends}
 use Rattle.offer_header.specs.Limits.{hashlock_of, no_digests, hashlocks_by, hashlocks_of}
-use Rattle.offer_header.specs.Limits.{key_of, party_keys_of, stated_keys_of, keys_of, header_with, limited_of}
-use Rattle.offer_header.specs.Header.{HasKeysFor, IsWithin}
+use Rattle.offer_header.specs.Limits.{key_digest, party_keys_of, stated_keys_of, keys_of, header_with, limited_of}
+use Rattle.offer_header.specs.Header.{HasKeysFor, IsHeaderWithin}
 use Rattle.offer_header.specs.declared.raw.RawActor.TheVariants.{Manual}
 use Rattle.offer_header.specs.declared.raw.RawParty.{RawParty}
 use Rattle.offer_header.specs.declared.raw.RawArc.{RawArc}
@@ -25,6 +25,7 @@ use Rattle.swap_digraph.specs.declared.deal.Mode.TheVariants.{Timelocks, Hashkey
 use Rattle.swap_digraph.specs.declared.deal.Version.{Version}
 use Rattle.swap_digraph.specs.Deal.{most_arcs, most_parties}
 use Rattle.offer_header.specs.declared.raw.RawHeader.{RawHeader}
+use Rattle.swap_job.specs.Roles.{is_conforming}
 use Rattle.swap_job.specs.declared.job.Purpose.{Purpose}
 use Rattle.offer_header.specs.declared.header.Header.{Header}
 use Rattle.offer_header.specs.declared.names.Ends.{Ends}
@@ -45,9 +46,9 @@ parties_ok version sizes names line parties acting h =
     (r.0, r.1, each_length (acting_of sizes names line) parties acting one.2)
 
 -- a party conforms exactly where its role says so
-roles_conform : (acting : List Acting) → map (λ (p : Acting). conforms p.role) acting ≡ map conforms (map (λ (p : Acting). p.role) acting)
+roles_conform : (acting : List Acting) → map (λ (p : Acting). is_conforming p.role) acting ≡ map is_conforming (map (λ (p : Acting). p.role) acting)
 roles_conform [] = refl
-roles_conform (p ∷ acting) = ap (λ (bs : List Bool). conforms p.role ∷ bs) (roles_conform acting)
+roles_conform (p ∷ acting) = ap (λ (bs : List Bool). is_conforming p.role ∷ bs) (roles_conform acting)
 
 wider_ends : (n : ℕ) (ends : List Ends) → n ≤ 256 → AreEnds n ends → AreEnds 256 ends
 wider_ends n ends le h = record {
@@ -144,9 +145,9 @@ hashlocks_ok plain line leaders hashlocks h =
 party_keys_ok : (locks line : ℕ) (row : RawRow) (keys : List (List ℕ)) → party_keys_of locks line row ≡ Ok keys → length keys ≡ locks
 unfolding party_keys_of
 party_keys_ok locks line row keys h =
-    let one = went (within line (codes "keys") locks locks (length row.texts)) (λ u. each_of (key_of line) row.texts) keys h in
+    let one = went (within line (codes "keys") locks locks (length row.texts)) (λ u. each_of (key_digest line) row.texts) keys h in
     let r = within_ok line (codes "keys") locks locks (length row.texts) one.0 one.1 in
-    let l : length keys ≡ length row.texts = each_length (key_of line) row.texts keys one.2 in
+    let l : length keys ≡ length row.texts = each_length (key_digest line) row.texts keys one.2 in
     omega arith
 
 abbrev no_row : RawRow
@@ -198,7 +199,7 @@ all_within : (purpose : Purpose) (raw : RawHeader) (n : Numbered) (start delta b
     → AreTerms raw.version raw.arcs terms
     → (1 ≤ length raw.leaders) × (length raw.leaders ≤ 8) × (length hashlocks ≡ length raw.leaders)
     → HasKeysFor raw.mode (length raw.parties) (length raw.leaders) keys
-    → IsWithin (header_with purpose raw n start delta bound acting terms hashlocks keys)
+    → IsHeaderWithin (header_with purpose raw n start delta bound acting terms hashlocks keys)
 all_within purpose raw n start delta bound acting terms hashlocks keys is mode untimed s d b ps ts ls ks =
     let lp : length n.names ≡ length raw.parties = is.parties in
     let la : length n.arcs ≡ length raw.arcs = is.arcs in
@@ -235,8 +236,8 @@ all_within purpose raw n start delta bound acting terms hashlocks keys is mode u
       keys = rw (lp, ll) ks;
     }
 
-within_along : (h k : Header) → h ≡ k → IsWithin h → IsWithin k
-within_along h k e w = subst (λ x. IsWithin x) e w
+within_along : (h k : Header) → h ≡ k → IsHeaderWithin h → IsHeaderWithin k
+within_along h k e w = subst (λ x. IsHeaderWithin x) e w
 
 -- The parts of a header within its limits.
 pub record Opened (line : ℕ) (purpose : Purpose) (raw : RawHeader) (n : Numbered) (h : Header) : Type 0 where
@@ -304,7 +305,7 @@ opened line purpose raw n h e =
     }
 
 pub is_within : (line : ℕ) (purpose : Purpose) (raw : RawHeader) (n : Numbered) (h : Header) → IsNumbered raw n → IsModeOf raw.version raw.mode
-    → IsUntimed raw → limited_of purpose line raw n ≡ Ok h → IsWithin h
+    → IsUntimed raw → limited_of purpose line raw n ≡ Ok h → IsHeaderWithin h
 is_within line purpose raw n h is mode untimed e =
     let o = opened line purpose raw n h e in
     within_along (header_with purpose raw n o.start o.delta o.bound o.acting o.terms o.hashlocks o.keys) h o.same

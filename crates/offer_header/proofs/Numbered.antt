@@ -17,7 +17,7 @@ use Rattle.refusals.specs.declared.reason.Reason.{Reason}
 use Rattle.refusals.specs.declared.reason.Reason.TheVariants.{BadName, Duplicate}
 use Rattle.offer_fields.specs.Lists.{each_of}
 use Rattle.offer_fields.specs.Names.{party_of_name}
-use Rattle.offer_header.specs.Names.{is_name_byte, is_name, actor_known, name_added, name_step, names_stated, ends_of, leader_step, numbered_of}
+use Rattle.offer_header.specs.Names.{is_name_byte, is_name, actor_known, name_added, name_step, names_stated, named_ends, leader_step, numbered_of}
 use Rattle.offer_header.specs.Names.{IsName, AreNames, AreLeaders, AreEnds, IsNumbered}
 use Rattle.offer_header.specs.declared.raw.RawParty.{RawParty}
 use Rattle.offer_header.specs.declared.raw.RawArc.{RawArc}
@@ -138,8 +138,8 @@ are_names has line all parties names h =
 abbrev pub EndsBelow : ℕ → Ends → Type 0
 EndsBelow n e = (e.from < n) × (e.to < n)
 
-pub ends_below : (line : ℕ) (names : List (List ℕ)) (a : RawArc) (e : Ends) → ends_of line names a ≡ Ok e → EndsBelow (length names) e
-unfolding ends_of
+pub ends_below : (line : ℕ) (names : List (List ℕ)) (a : RawArc) (e : Ends) → named_ends line names a ≡ Ok e → EndsBelow (length names) e
+unfolding named_ends
 ends_below line names a e h =
     let one = went (party_of_name line names a.from) (λ from. party_of_name line names a.to >>= λ to. Ok (record { from = from; to = to })) e h in
     let two = went (party_of_name line names a.to) (λ to. Ok (record { from = one.0; to = to })) e one.2 in
@@ -154,13 +154,13 @@ zero_arc = record { from = []; to = []; amount = 0; timelock = 0 }
 abbrev zero_ends : Ends
 zero_ends = record { from = 0; to = 0 }
 
-pub are_ends : (line : ℕ) (names : List (List ℕ)) (arcs : List RawArc) (ends : List Ends) → each_of (ends_of line names) arcs ≡ Ok ends
+pub are_ends : (line : ℕ) (names : List (List ℕ)) (arcs : List RawArc) (ends : List Ends) → each_of (named_ends line names) arcs ≡ Ok ends
     → (length ends ≡ length arcs) × AreEnds (length names) ends
 are_ends line names arcs ends h =
-    let l : length ends ≡ length arcs = each_length (ends_of line names) arcs ends h in
+    let l : length ends ≡ length arcs = each_length (named_ends line names) arcs ends h in
     let at : (i : ℕ) → i < length ends → EndsBelow (length names) (get_or ends i zero_ends) = λ i lt.
     ends_below line names (get_or arcs i zero_arc) (get_or ends i zero_ends)
-    (each_at (ends_of line names) arcs ends zero_arc zero_ends h i (omega arith)) in
+    (each_at (named_ends line names) arcs ends zero_arc zero_ends h i (omega arith)) in
     (l, record { from = λ i lt. (at i lt).0; to = λ i lt. (at i lt).1 })
 
 -- ---- leaders
@@ -207,9 +207,9 @@ numbered_along raw m n e is = subst (λ k. IsNumbered raw k) e is
 pub is_numbered : (has : List ℕ → Bool) (line : ℕ) (raw : RawHeader) (n : Numbered) → numbered_of has line raw ≡ Ok n → IsNumbered raw n
 unfolding numbered_of
 is_numbered has line raw n h =
-    let one = went (steps (name_step has line (names_stated raw.parties)) [] raw.parties) (λ names. each_of (ends_of line names) raw.arcs >>= λ arcs.
+    let one = went (steps (name_step has line (names_stated raw.parties)) [] raw.parties) (λ names. each_of (named_ends line names) raw.arcs >>= λ arcs.
     steps (leader_step line names) [] raw.leaders >>= λ leaders. Ok (record { names = names; arcs = arcs; leaders = leaders })) n h in
-    let two = went (each_of (ends_of line one.0) raw.arcs) (λ arcs. steps (leader_step line one.0) [] raw.leaders >>= λ leaders.
+    let two = went (each_of (named_ends line one.0) raw.arcs) (λ arcs. steps (leader_step line one.0) [] raw.leaders >>= λ leaders.
     Ok (record { names = one.0; arcs = arcs; leaders = leaders })) n one.2 in
     let three = went (steps (leader_step line one.0) [] raw.leaders) (λ leaders. Ok (record { names = one.0; arcs = two.0; leaders = leaders })) n two.2 in
     let same : record { names = one.0; arcs = two.0; leaders = three.0 } ≡ n = cc (three.2) in

@@ -12,6 +12,7 @@ use Rattle.swap_digraph.specs.Deal.{most_parties}
 use Rattle.swap_digraph.specs.declared.deal.Mode.{Mode}
 use Rattle.swap_digraph.specs.declared.deal.Version.{Version}
 use Rattle.refusals.specs.declared.reason.Reason.{Reason}
+use Rattle.swap_job.specs.Roles.{is_conforming}
 use Rattle.swap_job.specs.declared.job.Purpose.{Purpose}
 use Rattle.swap_job.specs.declared.job.Purpose.TheVariants.{Check, Run, Race, Make, Audit}
 use Rattle.swap_job.specs.declared.job.Role.{Role}
@@ -21,7 +22,7 @@ use Rattle.offer_fields.specs.Limits.{within}
 use Rattle.offer_fields.proofs.Chains.{went, each_all, each_at, each_length}
 use Rattle.offer_moves.specs.declared.moves.Sizes.{Sizes}
 use Rattle.offer_header.specs.Raw.{object_actor, actor_of_word, actor_of, actor_or_conforming, actor_at, seed_at, party_fields, party_of, IsWord, HasWords}
-use Rattle.offer_header.specs.Limits.{role_of, seed_of, acting_of, parties_of, sizes_in, conforms, limited_of}
+use Rattle.offer_header.specs.Limits.{checked_role, checked_seed, acting_of, parties_of, sizes_in, limited_of}
 use Rattle.offer_header.specs.Header.{simple_role, AreSimpleFor}
 use Rattle.offer_header.proofs.Limited.{opened}
 use Rattle.offer_header.specs.declared.raw.RawActor.{RawActor}
@@ -94,21 +95,21 @@ has_words Make mode line d h ps = tt
 
 -- The header within its limits.
 
-simple : (s : Sizes) (names : List (List ℕ)) (line : ℕ) (actor : RawActor) (role : Role) → IsWord actor → role_of s names line actor ≡ Ok role
-    → role ≡ simple_role (conforms role)
-simple s names line Conforming role w e = let is : kinds.Conforming ≡ role = cc e in subst (λ (r : Role). r ≡ simple_role (conforms r)) is refl
-simple s names line Manual role w e = let is : kinds.Manual ≡ role = cc e in subst (λ (r : Role). r ≡ simple_role (conforms r)) is refl
+simple : (s : Sizes) (names : List (List ℕ)) (line : ℕ) (actor : RawActor) (role : Role) → IsWord actor → checked_role s names line actor ≡ Ok role
+    → role ≡ simple_role (is_conforming role)
+simple s names line Conforming role w e = let is : kinds.Conforming ≡ role = cc e in subst (λ (r : Role). r ≡ simple_role (is_conforming r)) is refl
+simple s names line Manual role w e = let is : kinds.Manual ≡ role = cc e in subst (λ (r : Role). r ≡ simple_role (is_conforming r)) is refl
 simple s names line (Script moves) role w e = absurd w
 simple s names line (Strategy name) role w e = absurd w
 
 acting_simple : (s : Sizes) (names : List (List ℕ)) (line : ℕ) (p : RawParty) (a : Acting) → IsWord p.actor → acting_of s names line p ≡ Ok a
-    → a.role ≡ simple_role (conforms a.role)
+    → a.role ≡ simple_role (is_conforming a.role)
 unfolding acting_of
 acting_simple s names line p a w e =
-    let one = went (role_of s names line p.actor) _ a e in
-    let two = went (seed_of line p) _ a one.2 in
+    let one = went (checked_role s names line p.actor) _ a e in
+    let two = went (checked_seed line p) _ a one.2 in
     let is : record { role = one.0; seed = two.0 } ≡ a = cc (two.2) in
-    subst (λ (x : Acting). x.role ≡ simple_role (conforms x.role)) is (simple s names line p.actor one.0 w one.1)
+    subst (λ (x : Acting). x.role ≡ simple_role (is_conforming x.role)) is (simple s names line p.actor one.0 w one.1)
 
 abbrev zero_party : RawParty
 zero_party = record { name = []; actor = Manual; seed = None }
@@ -116,28 +117,28 @@ zero_party = record { name = []; actor = Manual; seed = None }
 abbrev zero_acting : Acting
 zero_acting = record { role = kinds.Manual; seed = None }
 
-each_simple : (acting : List Acting) → All (λ (a : Acting). a.role ≡ simple_role (conforms a.role)) acting
-    → map (λ (a : Acting). a.role) acting ≡ map simple_role (map (λ (a : Acting). conforms a.role) acting)
+each_simple : (acting : List Acting) → All (λ (a : Acting). a.role ≡ simple_role (is_conforming a.role)) acting
+    → map (λ (a : Acting). a.role) acting ≡ map simple_role (map (λ (a : Acting). is_conforming a.role) acting)
 each_simple [] h = refl
 each_simple (a ∷ acting) h =
-    ap₂ (λ (r : Role) (rs : List Role). r ∷ rs) (All-head (λ (a : Acting). a.role ≡ simple_role (conforms a.role)) a acting h)
-    (each_simple acting (All-tail (λ (a : Acting). a.role ≡ simple_role (conforms a.role)) a acting h))
+    ap₂ (λ (r : Role) (rs : List Role). r ∷ rs) (All-head (λ (a : Acting). a.role ≡ simple_role (is_conforming a.role)) a acting h)
+    (each_simple acting (All-tail (λ (a : Acting). a.role ≡ simple_role (is_conforming a.role)) a acting h))
 
 all_simple : (version : Version) (s : Sizes) (names : List (List ℕ)) (line : ℕ) (parties : List RawParty) (acting : List Acting)
     → parties_of version s names line parties ≡ Ok acting
     → ((p : ℕ) (d : RawParty) → p < length parties → IsWord (get_or parties p d).actor)
-    → map (λ (a : Acting). a.role) acting ≡ map simple_role (map (λ (a : Acting). conforms a.role) acting)
+    → map (λ (a : Acting). a.role) acting ≡ map simple_role (map (λ (a : Acting). is_conforming a.role) acting)
 unfolding parties_of
 all_simple version s names line parties acting e words =
     let one = went (within line (codes "parties") 2 (most_parties version) (length parties)) _ acting e in
     let size = each_length (acting_of s names line) parties acting one.2 in
-    each_simple acting (All-from_get_or (λ (a : Acting). a.role ≡ simple_role (conforms a.role)) acting zero_acting (λ i lt.
+    each_simple acting (All-from_get_or (λ (a : Acting). a.role ≡ simple_role (is_conforming a.role)) acting zero_acting (λ i lt.
     acting_simple s names line (get_or parties i zero_party) (get_or acting i zero_acting) (words i zero_party (omega (arith, lt, size)))
     (each_at (acting_of s names line) parties acting zero_party zero_acting one.2 i (omega (arith, lt, size)))))
 
 simple_for : (purpose : Purpose) (line : ℕ) (raw : RawHeader) (n : Numbered) (acting : List Acting) (h : Header) → HasWords purpose raw
     → parties_of raw.version (sizes_in raw) n.names line raw.parties ≡ Ok acting → map (λ (a : Acting). a.role) acting ≡ h.roles
-    → map (λ (a : Acting). conforms a.role) acting ≡ h.conforming → AreSimpleFor purpose h
+    → map (λ (a : Acting). is_conforming a.role) acting ≡ h.conforming → AreSimpleFor purpose h
 simple_for Audit line raw n acting h words e roles conforming =
     sym roles ∙ (all_simple raw.version (sizes_in raw) n.names line raw.parties acting e words ∙ ap (λ (bs : List Bool). map simple_role bs) conforming)
 simple_for Check line raw n acting h words e roles conforming = tt

@@ -10,6 +10,7 @@ use Rattle.swap_base.specs.declared.fault.Fault.TheVariants.{Refused, NoMemory}
 use Rattle.swap_digraph.specs.declared.arc_ends.ArcEnds.{ArcEnds}
 use Rattle.swap_digraph.specs.declared.deal.Version.{Version}
 use Rattle.swap_digraph.specs.Deal.{most_parties, path_limit_of}
+use Rattle.swap_job.specs.Roles.{is_conforming, script_of}
 use Rattle.swap_job.specs.declared.job.Purpose.{Purpose}
 use Rattle.swap_job.specs.declared.job.Role.{Role}
 use Rattle.swap_job.specs.declared.job.Role.TheVariants as kinds
@@ -25,9 +26,9 @@ use Rattle.offer_moves.specs.declared.raw.RawMove.{RawMove}
 use Rattle.offer_moves.proofs.Made.{move_made}
 use Rattle.offer_moves.specs.declared.moves.Sizes.{Sizes}
 use Rattle.offer_moves.proofs.Stands.{move_stands}
-use Rattle.offer_header.specs.Limits.{script_role, role_of, seed_of, acting_of, parties_of, sizes_in, conforms, arc_ends, limited_of}
+use Rattle.offer_header.specs.Limits.{script_role, checked_role, checked_seed, acting_of, parties_of, sizes_in, arc_ends, limited_of}
 use Rattle.offer_header.specs.Names.{IsNumbered}
-use Rattle.offer_header.specs.Scripts.{script_of, role_placed, roles_placed, AllStand, AreMade}
+use Rattle.offer_header.specs.Scripts.{role_placed, roles_placed, AllStand, AreMade}
 use Rattle.offer_header.specs.declared.raw.RawActor.{RawActor}
 use Rattle.offer_header.specs.declared.raw.RawActor.TheVariants.{Conforming, Manual, Script, Strategy}
 use Rattle.offer_header.specs.declared.raw.RawParty.{RawParty}
@@ -76,7 +77,7 @@ zero_acting = record { role = kinds.Manual; seed = None }
 
 -- What holds of every move that is read holds of all scripts.
 module _ (P : Move → Type 0) (s : Sizes) (names : List (List ℕ)) (line : ℕ) (each : (raw : RawMove) (mv : Move) → move_of s names line raw ≡ Ok mv → P mv) where
-  role_keeps : (actor : RawActor) (role : Role) → role_of s names line actor ≡ Ok role → All P (script_of role)
+  role_keeps : (actor : RawActor) (role : Role) → checked_role s names line actor ≡ Ok role → All P (script_of role)
   unfolding script_role
   role_keeps Conforming role e = let is : kinds.Conforming ≡ role = cc e in subst (λ (r : Role). All P (script_of r)) is (All-nil P)
   role_keeps Manual role e = let is : kinds.Manual ≡ role = cc e in subst (λ (r : Role). All P (script_of r)) is (All-nil P)
@@ -91,8 +92,8 @@ module _ (P : Move → Type 0) (s : Sizes) (names : List (List ℕ)) (line : ℕ
   acting_keeps : (p : RawParty) (a : Acting) → acting_of s names line p ≡ Ok a → All P (script_of a.role)
   unfolding acting_of
   acting_keeps p a e =
-      let one = went (role_of s names line p.actor) _ a e in
-      let two = went (seed_of line p) _ a one.2 in
+      let one = went (checked_role s names line p.actor) _ a e in
+      let two = went (checked_seed line p) _ a one.2 in
       let is : record { role = one.0; seed = two.0 } ≡ a = cc (two.2) in
       subst (λ (x : Acting). All P (script_of x.role)) is (role_keeps p.actor one.0 one.1)
 
@@ -114,11 +115,11 @@ all_stand line purpose raw n h is e =
     let o = opened line purpose raw n h e in
     let r = parties_ok raw.version (sizes_in raw) n.names line raw.parties o.acting o.acting_are in
     let arcs : length (map arc_ends n.arcs) ≡ length raw.arcs = length-map n.arcs arc_ends ∙ is.arcs in
-    let conforming : length (map (λ (a : Acting). conforms a.role) o.acting) ≡ length n.names
-    = length-map o.acting (λ (a : Acting). conforms a.role) ∙ (r.2 ∙ sym is.parties) in
+    let conforming : length (map (λ (a : Acting). is_conforming a.role) o.acting) ≡ length n.names
+    = length-map o.acting (λ (a : Acting). is_conforming a.role) ∙ (r.2 ∙ sym is.parties) in
     let own : List Role = map (λ (a : Acting). a.role) o.acting in
     subst AllStand o.same
-    (subst (λ (k : ℕ). All (λ (r : Role). All (CanStand k (length (map (λ (a : Acting). conforms a.role) o.acting))) (script_of r)) own) (sym arcs)
+    (subst (λ (k : ℕ). All (λ (r : Role). All (CanStand k (length (map (λ (a : Acting). is_conforming a.role) o.acting))) (script_of r)) own) (sym arcs)
     (subst (λ (k : ℕ). All (λ (r : Role). All (CanStand (length raw.arcs) k) (script_of r)) own) (sym conforming)
     (parties_keep (CanStand (length raw.arcs) (length n.names)) (sizes_in raw) n.names line (move_stands (sizes_in raw) n.names line) raw.version raw.parties
     o.acting o.acting_are)))

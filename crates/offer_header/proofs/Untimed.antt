@@ -6,7 +6,7 @@ use Rattle.swap_digraph.specs.declared.deal.Mode.{Mode}
 use Rattle.swap_digraph.specs.declared.deal.Mode.TheVariants.{Timelocks, Hashkeys}
 use Rattle.offer_fields.specs.Fields.{number_at, text_at, object_at, array_at, list_at, listed, each, only}
 use Rattle.swap_job.specs.declared.job.Purpose.{Purpose}
-use Rattle.offer_header.specs.Raw.{states_timelocks, timelock_at, arc_fields, arc_of}
+use Rattle.offer_header.specs.Raw.{states_timelocks, timelock_at, arc_fields, raw_arc_of}
 use Rattle.offer_header.specs.declared.raw.Reading.{Reading}
 use Rattle.offer_header.specs.declared.raw.RawArc.{RawArc}
 use Rattle.offer_fields.proofs.Chains.{went, each_all}
@@ -19,8 +19,8 @@ none_with_hashkeys line purpose Hashkeys d n e h = cc h
 timelock_along : (a b : RawArc) → a ≡ b → a.timelock ≡ b.timelock
 timelock_along a b e = ap (λ (x : RawArc). x.timelock) e
 
-arc_untimed : (reading : Reading) (line : ℕ) (d : Data) (a : RawArc) → reading.mode ≡ Hashkeys → arc_of reading line d ≡ Ok a → a.timelock ≡ 0
-unfolding arc_of
+arc_untimed : (reading : Reading) (line : ℕ) (d : Data) (a : RawArc) → reading.mode ≡ Hashkeys → raw_arc_of reading line d ≡ Ok a → a.timelock ≡ 0
+unfolding raw_arc_of
 arc_untimed reading line d a is h =
     let stated : Bool = states_timelocks reading.purpose reading.mode in
     let one = went (object_at line (codes "arcs") d) (λ o. text_at line (codes "from") d >>= λ from. text_at line (codes "to") d >>= λ to.
@@ -41,8 +41,8 @@ arc_untimed reading line d a is h =
     ∙ none_with_hashkeys line reading.purpose reading.mode d five.0 is five.1
 
 pub arcs_untimed : (reading : Reading) (line : ℕ) (d : Data) (arcs : List RawArc) → reading.mode ≡ Hashkeys
-    → list_at line (codes "arcs") (arc_of reading line) d ≡ Ok arcs → (a : ℕ) (e : RawArc) → a < length arcs → (get_or arcs a e).timelock ≡ 0
+    → list_at line (codes "arcs") (raw_arc_of reading line) d ≡ Ok arcs → (a : ℕ) (e : RawArc) → a < length arcs → (get_or arcs a e).timelock ≡ 0
 unfolding list_at each
 arcs_untimed reading line d arcs is h =
-    let one = went (array_at line (codes "arcs") d) (λ items. each (arc_of reading line) items) arcs h in
-    each_all (λ a. a.timelock ≡ 0) (arc_of reading line) (λ d a e. arc_untimed reading line d a is e) (listed one.0) arcs one.2
+    let one = went (array_at line (codes "arcs") d) (λ items. each (raw_arc_of reading line) items) arcs h in
+    each_all (λ a. a.timelock ≡ 0) (raw_arc_of reading line) (λ d a e. arc_untimed reading line d a is e) (listed one.0) arcs one.2

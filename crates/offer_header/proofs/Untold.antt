@@ -15,7 +15,7 @@ use Rattle.offer_fields.specs.Limits.{within}
 use Rattle.offer_fields.specs.Lists.{each_of}
 use Rattle.offer_fields.proofs.Chains.{went, each_all, each_at, each_length}
 use Rattle.offer_header.specs.Raw.{actor_at, party_fields, party_of, finish_at, IsUntold}
-use Rattle.offer_header.specs.Limits.{seed_or_none, seed_of, role_of, acting_of, parties_of, sizes_in, limited_of}
+use Rattle.offer_header.specs.Limits.{seed_or_none, checked_seed, checked_role, acting_of, parties_of, sizes_in, limited_of}
 use Rattle.offer_header.specs.Header.{IsUntoldFor}
 use Rattle.offer_header.proofs.Limited.{opened}
 use Rattle.swap_job.specs.declared.job.Role.TheVariants as kinds
@@ -64,9 +64,9 @@ abbrev zero_acting : Acting
 zero_acting = record { role = kinds.Manual; seed = None }
 
 no_seed : (sizes : Sizes) (names : List (List ℕ)) (line : ℕ) (p : RawParty) (a : Acting) → p.seed ≡ None → acting_of sizes names line p ≡ Ok a → a.seed ≡ None
-unfolding acting_of seed_of
+unfolding acting_of checked_seed
 no_seed sizes names line p a none e =
-    let one = went (role_of sizes names line p.actor) _ a e in
+    let one = went (checked_role sizes names line p.actor) _ a e in
     let two = went (seed_or_none line p.seed) _ a one.2 in
     let s : record { role = one.0; seed = two.0 } ≡ a = cc (two.2) in
     let g : seed_or_none line None ≡ Ok two.0 = ap (seed_or_none line) (sym none) ∙ two.1 in

@@ -5,6 +5,7 @@ use Rattle.swap_digraph.specs.declared.deal.Mode.{Mode}
 use Rattle.swap_digraph.specs.declared.deal.Mode.TheVariants.{Timelocks, Hashkeys}
 use Rattle.swap_digraph.specs.Deal.{most_arcs, most_parties}
 use Rattle.swap_digraph.specs.Graph.{ends_in}
+use Rattle.swap_job.specs.Roles.{is_conforming}
 use Rattle.swap_job.specs.declared.job.Role.{Role}
 use Rattle.swap_job.specs.declared.job.Role.TheVariants.{Conforming, Manual}
 use Rattle.swap_job.specs.declared.job.Purpose.{Purpose}
@@ -15,7 +16,7 @@ use Rattle.offer_fields.specs.Fields.{object_of}
 use Rattle.offer_header.specs.Raw.{raw_of, IsModeOf}
 use Rattle.offer_header.specs.declared.raw.RawHeader.{RawHeader}
 use Rattle.offer_header.specs.Names.{numbered_of, AreNames, AreLeaders}
-use Rattle.offer_header.specs.Limits.{conforms, limited_of}
+use Rattle.offer_header.specs.Limits.{limited_of}
 use Rattle.offer_header.specs.Scripts.{scripts_placed}
 use Rattle.offer_header.specs.declared.header.Header.{Header}
 
@@ -46,7 +47,7 @@ HasKeysFor Timelocks parties locks keys = keys ≡ []
 HasKeysFor Hashkeys parties locks keys = (length keys ≡ parties) × ((p : ℕ) → p < parties → length (slice_index_or keys p []) ≡ locks)
 
 -- A header's lists are as long as its version, names, arcs and leaders ask, its numbers are in their ranges, and its mode is one of its version.
-pub record IsWithin (h : Header) : Type 0 where
+pub record IsHeaderWithin (h : Header) : Type 0 where
   pub mode : IsModeOf h.version h.mode
   pub start : (1 ≤ h.start) × (h.start ≤ 1000)
   pub delta : (1 ≤ h.delta) × (h.delta ≤ 100)
@@ -54,7 +55,7 @@ pub record IsWithin (h : Header) : Type 0 where
   pub parties : (2 ≤ length h.names) × (length h.names ≤ most_parties h.version)
   pub names : AreNames h.names
   pub roles : length h.roles ≡ length h.names
-  pub conforming : h.conforming ≡ map conforms h.roles
+  pub conforming : h.conforming ≡ map is_conforming h.roles
   pub seeds : length h.seeds ≡ length h.names
   pub arcs : (2 ≤ length h.arcs) × (length h.arcs ≤ most_arcs h.version)
   pub from : (a : ℕ) → a < length h.arcs → (ends_in h.arcs a).from < length h.names

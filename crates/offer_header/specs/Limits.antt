@@ -1,11 +1,12 @@
 -- The limits of a header's numbers and lists, and its digests.
-use Rattle.std.specs.Prelude.{◌≡◌, All, ℕ, ◌^◌, List, [], Bool, true, false, codes, length, map, replicate, Option, Some, None, Result, Ok}
+use Rattle.std.specs.Prelude.{All, ℕ, ◌^◌, List, [], Bool, true, false, codes, length, map, replicate, Option, Some, None, Result, Ok}
 use Rattle.swap_base.specs.Fault.{◌>>=◌}
 use Rattle.swap_digraph.specs.declared.arc_ends.ArcEnds.{ArcEnds}
 use Rattle.swap_digraph.specs.declared.deal.Mode.{Mode}
 use Rattle.swap_digraph.specs.declared.deal.Mode.TheVariants.{Timelocks, Hashkeys}
 use Rattle.swap_digraph.specs.declared.deal.Version.{Version}
 use Rattle.swap_digraph.specs.Deal.{most_arcs, most_parties, path_limit_of}
+use Rattle.swap_job.specs.Roles.{IsHeld, is_conforming}
 use Rattle.swap_job.specs.declared.job.Purpose.{Purpose}
 use Rattle.swap_job.specs.declared.job.Role.{Role}
 use Rattle.swap_job.specs.declared.job.Role.TheVariants as kinds
@@ -35,8 +36,8 @@ abbrev pub seed_or_none : ℕ → Option (List ℕ) → Result (Option (List ℕ
 seed_or_none line None = Ok None
 seed_or_none line (Some text) = digest_of line (codes "seed") text >>= λ seed. Ok (Some seed)
 
-unfoldable pub seed_of : ℕ → RawParty → Result (Option (List ℕ)) Reason
-seed_of line p = seed_or_none line p.seed
+unfoldable pub checked_seed : ℕ → RawParty → Result (Option (List ℕ)) Reason
+checked_seed line p = seed_or_none line p.seed
 
 -- a script, by its moves
 unfoldable pub script_role : Sizes → List (List ℕ) → ℕ → List RawMove → Result Role Reason
@@ -46,32 +47,23 @@ script_role sizes names line raws = do
   Ok (kinds.Script moves)
 
 -- how a party acts
-abbrev pub role_of : Sizes → List (List ℕ) → ℕ → RawActor → Result Role Reason
-role_of sizes names line Conforming = Ok kinds.Conforming
-role_of sizes names line Manual = Ok kinds.Manual
-role_of sizes names line (Script raws) = script_role sizes names line raws
-role_of sizes names line (Strategy name) = Ok (kinds.Strategy name)
+abbrev pub checked_role : Sizes → List (List ℕ) → ℕ → RawActor → Result Role Reason
+checked_role sizes names line Conforming = Ok kinds.Conforming
+checked_role sizes names line Manual = Ok kinds.Manual
+checked_role sizes names line (Script raws) = script_role sizes names line raws
+checked_role sizes names line (Strategy name) = Ok (kinds.Strategy name)
 
 -- how a party acts, and then its seed
 unfoldable pub acting_of : Sizes → List (List ℕ) → ℕ → RawParty → Result Acting Reason
 acting_of sizes names line p = do
-  role ← role_of sizes names line p.actor
-  seed ← seed_of line p
+  role ← checked_role sizes names line p.actor
+  seed ← checked_seed line p
   Ok (record { role = role; seed = seed })
 
 unfoldable pub parties_of : Version → Sizes → List (List ℕ) → ℕ → List RawParty → Result (List Acting) Reason
 parties_of version sizes names line parties = do
   u ← within line (codes "parties") 2 (most_parties version) (length parties)
   each_of (acting_of sizes names line) parties
-
-abbrev pub conforms : Role → Bool
-conforms kinds.Conforming = true
-conforms _ = false
-
--- the strategy that a role follows, if any, is known
-abbrev pub IsHeld : (List ℕ → Bool) → Role → Type 0
-IsHeld has (kinds.Strategy name) = has name ≡ true
-IsHeld has _ = Unit {0}
 
 -- and so is that of each role
 abbrev pub HoldsEach : (List ℕ → Bool) → List Role → Type 0
@@ -119,14 +111,14 @@ hashlocks_of plain line leaders = do
   u ← within line (codes "leaders") 1 8 (length leaders)
   hashlocks_by plain line leaders
 
-unfoldable pub key_of : ℕ → List ℕ → Result (List ℕ) Reason
-key_of line text = digest_of line (codes "keys") text
+unfoldable pub key_digest : ℕ → List ℕ → Result (List ℕ) Reason
+key_digest line text = digest_of line (codes "keys") text
 
 -- a party's keys, one for each lock
 unfoldable pub party_keys_of : ℕ → ℕ → RawRow → Result (List (List ℕ)) Reason
 party_keys_of locks line row = do
   u ← within line (codes "keys") locks locks (length row.texts)
-  each_of (key_of line) row.texts
+  each_of (key_digest line) row.texts
 
 -- the keys of all parties, as they are stated
 unfoldable pub stated_keys_of : ℕ → RawHeader → Result (List (List (List ℕ))) Reason
@@ -155,7 +147,7 @@ header_with purpose raw numbered start delta bound parties terms hashlocks keys 
   bound = bound;
   names = numbered.names;
   roles = map (λ p. p.role) parties;
-  conforming = map (λ p. conforms p.role) parties;
+  conforming = map (λ p. is_conforming p.role) parties;
   seeds = map (λ p. p.seed) parties;
   arcs = map arc_ends numbered.arcs;
   amounts = map (λ t. t.amount) terms;

@@ -81,8 +81,8 @@ with_name names p = if list_any (bytes_eq p.name) names then names else names ++
 abbrev pub names_stated : List RawParty → List (List ℕ)
 names_stated parties = fold with_name [] parties
 
-unfoldable pub ends_of : ℕ → List (List ℕ) → RawArc → Result Ends Reason
-ends_of line names a = do
+unfoldable pub named_ends : ℕ → List (List ℕ) → RawArc → Result Ends Reason
+named_ends line names a = do
   from ← party_of_name line names a.from
   to ← party_of_name line names a.to
   Ok (record { from = from; to = to })
@@ -96,7 +96,7 @@ leader_step line names seen l = do
 -- the ends of the arcs, and then the leaders, where these are the names
 abbrev pub numbered_by : ℕ → List (List ℕ) → RawHeader → Result Numbered Reason
 numbered_by line names h = do
-  arcs ← each_of (ends_of line names) h.arcs
+  arcs ← each_of (named_ends line names) h.arcs
   leaders ← steps (leader_step line names) [] h.leaders
   Ok (record { names = names; arcs = arcs; leaders = leaders })
 

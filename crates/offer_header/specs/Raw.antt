@@ -124,8 +124,8 @@ arc_between stated line d from to = do
   u ← only line (arc_fields stated) d
   Ok (record { from = from; to = to; amount = amount; timelock = timelock })
 
-unfoldable pub arc_of : Reading → ℕ → Data → Result RawArc Reason
-arc_of reading line d = do
+unfoldable pub raw_arc_of : Reading → ℕ → Data → Result RawArc Reason
+raw_arc_of reading line d = do
   o ← object_at line (codes "arcs") d
   from ← text_at line (codes "from") d
   to ← text_at line (codes "to") d
@@ -141,8 +141,8 @@ abbrev pub leader_fields : (plain : Bool) → List (List ℕ)
 leader_fields true = codes "party" ∷ []
 leader_fields false = codes "hashlock" ∷ codes "party" ∷ []
 
-unfoldable pub leader_of : Reading → ℕ → Data → Result RawLeader Reason
-leader_of reading line d = do
+unfoldable pub raw_leader_of : Reading → ℕ → Data → Result RawLeader Reason
+raw_leader_of reading line d = do
   o ← object_at line (codes "leaders") d
   party ← text_at line (codes "party") d
   hashlock ← hashlock_at line (is_plain reading.purpose) d
@@ -233,8 +233,8 @@ header_fields _ keyed = job_fields keyed
 abbrev pub lists_of : Purpose → Front → ℕ → Data → Result RawHeader Reason
 lists_of purpose front line d = do
   parties ← list_at line (codes "parties") (party_of (record { purpose = purpose; mode = front.mode }) line) d
-  arcs ← list_at line (codes "arcs") (arc_of (record { purpose = purpose; mode = front.mode }) line) d
-  leaders ← list_at line (codes "leaders") (leader_of (record { purpose = purpose; mode = front.mode }) line) d
+  arcs ← list_at line (codes "arcs") (raw_arc_of (record { purpose = purpose; mode = front.mode }) line) d
+  leaders ← list_at line (codes "leaders") (raw_leader_of (record { purpose = purpose; mode = front.mode }) line) d
   keys ← keys_at line (states_keys purpose front.mode) d
   finish ← finish_at line purpose d
   u ← only line (header_fields purpose (states_keys purpose front.mode)) d

@@ -5,9 +5,9 @@ use Rattle.swap_digraph.specs.declared.arc_ends.ArcEnds.{ArcEnds}
 use Rattle.swap_digraph.specs.declared.deal.Deal.{Deal}
 use Rattle.swap_digraph.specs.Deal.{IsWellSized, path_limit_of}
 use Rattle.swap_job.specs.Crafted.{Seeds}
+use Rattle.swap_job.specs.Roles.{script_of}
 use Rattle.swap_job.specs.declared.job.Role.{Role}
 use Rattle.swap_job.specs.declared.job.Role.TheVariants.{Script}
-use Rattle.swap_job.specs.declared.moves.Move.{Move}
 use Rattle.refusals.specs.declared.reason.Reason.{Reason}
 use Rattle.offer_moves.specs.Kept.{CanStand, IsMade}
 use Rattle.offer_moves.specs.Moves.{sizes_of}
@@ -29,11 +29,6 @@ roles_placed arcs conforming line p (role ∷ roles) = do
 -- the moves of the header's scripts stand where their parties may make them
 unfoldable pub scripts_placed : ℕ → Header → Result (Unit {0}) Reason
 scripts_placed line h = roles_placed h.arcs h.conforming line 0 h.roles
-
--- the moves of a role's script
-abbrev pub script_of : Role → List Move
-script_of (Script moves) = moves
-script_of _ = []
 
 -- every move of a header's scripts stands on one of its arcs, and its parties craft
 abbrev pub AllStand : Header → Type 0

@@ -2,7 +2,7 @@
 
 ghost use Rattle.std.specs.Prelude.{◌≡◌, ◌≤◌, Ok, IfOk, length};
 ghost use Rattle.swap_base.specs.Fault.{Gives};
-ghost use Rattle.offer_header.specs.Header.{header_by, header_of, placed_of, AreSimpleFor, IsUntoldFor, IsWithin};
+ghost use Rattle.offer_header.specs.Header.{header_by, header_of, placed_of, AreSimpleFor, IsUntoldFor, IsHeaderWithin};
 ghost use Rattle.offer_header.specs.Limits.{HoldsEach};
 ghost use Rattle.offer_header.specs.Names.{has_strategy};
 ghost use Rattle.offer_header.specs.Scripts.{scripts_placed, AllStand, AreMade};
@@ -20,7 +20,7 @@ use swap_base::{ByteText, Digest, Listed, PartyId};
 use swap_digraph::{ArcEnds, Mode, Version};
 use swap_job::{Finish, Purpose, Role};
 
-/// A header whose fields, names and limits are in order, as `IsWithin` says.
+/// A header whose fields, names and limits are in order, as `IsHeaderWithin` says.
 #[derive(Drop)]
 pub struct Header {
     pub purpose: Purpose,
@@ -90,7 +90,7 @@ pub fn header_in(
 ) -> Result<Header, OfferFault>
     ensures exact { Gives (λ h. h) result (header_of (has_strategy kit.now.names kit.now.strategies.items) purpose line text.now) }
     ensures purpose { IfOk result (λ h. h.purpose ≡ purpose) }
-    ensures within { IfOk result (λ h. IsWithin h) }
+    ensures within { IfOk result (λ h. IsHeaderWithin h) }
     ensures untold { IfOk result (λ h. IsUntoldFor purpose h) }
     ensures simple { IfOk result (λ h. AreSimpleFor purpose h) }
     ensures strategies { IfOk result (λ h. HoldsEach (has_strategy kit.now.names kit.now.strategies.items) h.roles) }

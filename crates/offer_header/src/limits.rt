@@ -2,12 +2,13 @@
 
 ghost use Rattle.std.specs.Prelude.{◌≡◌, ◌<◌, ◌≤◌, ℕ, Result, map, length, IfOk};
 ghost use Rattle.swap_base.specs.Fault.{Gives};
+ghost use Rattle.swap_job.specs.Roles.{is_conforming};
 ghost use Rattle.refusals.specs.declared.reason.Reason.{Reason};
 ghost use Rattle.offer_fields.specs.Lists.{each_of};
 ghost use Rattle.offer_moves.specs.Moves.{move_of};
-ghost use Rattle.offer_header.specs.Limits.{seed_of, script_role, role_of, acting_of, parties_of, conforms, sizes_in, terms_of, all_terms_of, arc_ends};
+ghost use Rattle.offer_header.specs.Limits.{checked_seed, script_role, checked_role, acting_of, parties_of, sizes_in, terms_of, all_terms_of, arc_ends};
 ghost use Rattle.offer_header.specs.Limits.{hashlock_of, no_digests, hashlocks_by};
-ghost use Rattle.offer_header.specs.Limits.{hashlocks_of, key_of, party_keys_of, stated_keys_of, keys_by, keys_of, header_with, parts_of, limited_of};
+ghost use Rattle.offer_header.specs.Limits.{hashlocks_of, key_digest, party_keys_of, stated_keys_of, keys_by, keys_of, header_with, parts_of, limited_of};
 ghost use Rattle.offer_header.specs.Names.{AreEnds, AreLeaders, IsNumbered};
 
 use crate::header::Header;
@@ -103,7 +104,7 @@ fn role_of(
     actor: &RawActor<'_>,
 ) -> Result<Role, OfferFault>
     requires names { length names.now ≤ 256 }
-    ensures { Gives (λ r. r) result (role_of sizes names.now line actor.now) }
+    ensures { Gives (λ r. r) result (checked_role sizes names.now line actor.now) }
 {
     match actor {
         RawActor::Conforming => Ok(Role::Conforming),
@@ -113,9 +114,9 @@ fn role_of(
     }
 }
 
-#[tactic(auto, unfolding(crate::specs::Limits::seed_of))]
+#[tactic(auto, unfolding(crate::specs::Limits::checked_seed))]
 fn seed_of(alloc: Global, line: u32, party: &RawParty<'_>) -> Result<Option<Digest>, OfferFault>
-    ensures { Gives (λ s. s) result (seed_of line party.now) }
+    ensures { Gives (λ s. s) result (checked_seed line party.now) }
 {
     match &party.seed {
         None => Ok(None),
@@ -181,9 +182,9 @@ impl<'v> Limited<(), Digest> for RawLeader<'v> {
 }
 
 impl<'v> Limited<(), Digest> for TextRef<'v> {
-    ghost limited_of = { λ _. key_of };
+    ghost limited_of = { λ _. key_digest };
 
-    #[tactic(auto, unfolding(crate::specs::Limits::key_of))]
+    #[tactic(auto, unfolding(crate::specs::Limits::key_digest))]
     fn limit(&self, alloc: Global, _context: (), line: u32) -> Result<Digest, OfferFault> {
         digest_in(alloc, line, "keys", self.as_slice())
     }
@@ -333,7 +334,7 @@ fn keys_in(
 }
 
 fn conforms(role: &Role) -> bool
-    ensures { result ≡ conforms role.now }
+    ensures { result ≡ is_conforming role.now }
 {
     match role {
         Role::Conforming => true,
@@ -342,7 +343,7 @@ fn conforms(role: &Role) -> bool
 }
 
 fn conforming_in(alloc: Global, parties: &[Acting]) -> Result<Listed<bool>, NoMemory>
-    ensures { IfOk result (λ l. l ≡ map (λ p. conforms p.role) parties.now) }
+    ensures { IfOk result (λ l. l ≡ map (λ p. is_conforming p.role) parties.now) }
 {
     let mut list = Vec::new(alloc);
     for party in parties {
@@ -431,7 +432,7 @@ struct Acted {
 
 fn acted_in(alloc: Global, parties: Listed<Acting>) -> Result<Acted, NoMemory>
     ensures roles { IfOk result (λ a. a.roles ≡ map (λ p. p.role) parties) }
-    ensures conforming { IfOk result (λ a. a.conforming ≡ map (λ p. conforms p.role) parties) }
+    ensures conforming { IfOk result (λ a. a.conforming ≡ map (λ p. is_conforming p.role) parties) }
     ensures seeds { IfOk result (λ a. a.seeds ≡ map (λ p. p.seed) parties) }
 {
     let conforming = conforming_in(alloc, parties.as_slice())?;

@@ -7,7 +7,7 @@ ghost use Rattle.offer_fields.specs.Lists.{each_of};
 ghost use Rattle.offer_fields.specs.Names.{party_of_name};
 ghost use Rattle.offer_header.specs.Names.{has_strategy, strategy_known};
 ghost use Rattle.offer_header.specs.Names.{is_name, is_name_byte, known, all_known, move_known, actor_known, name_added, name_step};
-ghost use Rattle.offer_header.specs.Names.{with_name, names_stated, ends_of, leader_step, numbered_among, numbered_by, numbered_of};
+ghost use Rattle.offer_header.specs.Names.{with_name, names_stated, named_ends, leader_step, numbered_among, numbered_by, numbered_of};
 
 use crate::raw::{RawActor, RawArc, RawHeader, RawLeader, RawParty};
 use deviators::Kit;
@@ -246,14 +246,14 @@ fn number_among(
 }
 
 /// The ends of an arc by their parties' numbers.
-#[tactic(auto, unfolding(crate::specs::Names::ends_of))]
+#[tactic(auto, unfolding(crate::specs::Names::named_ends))]
 pub fn ends_of(
     alloc: Global,
     line: u32,
     names: &IndexSet<&[u8]>,
     arc: &RawArc<'_>,
 ) -> Result<Ends, OfferFault>
-    ensures { Gives (λ e. e) result (ends_of line (map (λ k. k.now) names.now.keys) arc.now) }
+    ensures { Gives (λ e. e) result (named_ends line (map (λ k. k.now) names.now.keys) arc.now) }
 {
     let from = number_among(alloc, line, names, arc.from.as_slice())?;
     let to = number_among(alloc, line, names, arc.to.as_slice())?;
@@ -266,7 +266,7 @@ fn ends_in(
     names: &IndexSet<&[u8]>,
     arcs: &[RawArc<'_>],
 ) -> Result<Listed<Ends>, OfferFault>
-    ensures { Gives (λ x. x) result (each_of (ends_of line (map (λ k. k.now) names.now.keys)) arcs.now) }
+    ensures { Gives (λ x. x) result (each_of (named_ends line (map (λ k. k.now) names.now.keys)) arcs.now) }
 {
     let mut list = Vec::new(alloc);
     for arc in arcs {

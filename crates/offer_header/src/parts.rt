@@ -5,8 +5,8 @@ ghost use Rattle.serde_json.specs.View.{view};
 ghost use Rattle.swap_base.specs.Fault.{Gives};
 ghost use Rattle.offer_fields.specs.Fields.{only, optional_text_at, text_at};
 ghost use Rattle.offer_header.specs.Raw.{script_at, strategy_at, planned_actor, object_actor, actor_of_word, actor_at, seed_at, party_fields, party_of};
-ghost use Rattle.offer_header.specs.Raw.{timelock_at, arc_fields, arc_between, arc_of};
-ghost use Rattle.offer_header.specs.Raw.{hashlock_at, leader_fields, leader_of, row_of};
+ghost use Rattle.offer_header.specs.Raw.{timelock_at, arc_fields, arc_between, raw_arc_of};
+ghost use Rattle.offer_header.specs.Raw.{hashlock_at, leader_fields, raw_leader_of, row_of};
 
 use crate::raw::{RawActor, RawArc, RawLeader, RawParty, RawRow, Reading, is_plain};
 use offer_fields::{
@@ -202,9 +202,9 @@ fn arc_between<'v>(
 }
 
 impl<'v> Member<'v, Reading> for RawArc<'v> {
-    ghost said = { arc_of };
+    ghost said = { raw_arc_of };
 
-    #[tactic(auto, unfolding(crate::specs::Raw::arc_of))]
+    #[tactic(auto, unfolding(crate::specs::Raw::raw_arc_of))]
     fn read(
         alloc: Global,
         reading: Reading,
@@ -259,9 +259,9 @@ fn only_leader_fields(
 }
 
 impl<'v> Member<'v, Reading> for RawLeader<'v> {
-    ghost said = { leader_of };
+    ghost said = { raw_leader_of };
 
-    #[tactic(auto, unfolding(crate::specs::Raw::leader_of))]
+    #[tactic(auto, unfolding(crate::specs::Raw::raw_leader_of))]
     fn read(
         alloc: Global,
         reading: Reading,

@@ -2,9 +2,10 @@
 
 ghost use Rattle.std.specs.Prelude.{◌≤◌, length, All};
 ghost use Rattle.swap_base.specs.Fault.{Gives, steps};
+ghost use Rattle.swap_job.specs.Roles.{script_of};
 ghost use Rattle.offer_moves.specs.Kept.{CanStand};
 ghost use Rattle.offer_moves.specs.Placed.{placed};
-ghost use Rattle.offer_header.specs.Scripts.{script_of, role_placed, roles_placed, scripts_placed, AllStand};
+ghost use Rattle.offer_header.specs.Scripts.{role_placed, roles_placed, scripts_placed, AllStand};
 
 use crate::header::Header;
 use offer_moves::check_place;

@@ -13,7 +13,7 @@ use Rattle.swap_job.specs.declared.moves.Move.{Move}
 use Rattle.swap_job.specs.declared.moves.Move.TheVariants.{Publish, Craft, Replay, Raw, Claim, Refund, Transfer, Wait}
 use Rattle.swap_job.specs.Crafted.{Seeds}
 use Rattle.swap_job.specs.Fitting.{IsArc, IsFitting}
-use Rattle.swap_job.specs.Resolved.{arc_of as stands_on}
+use Rattle.swap_job.specs.Resolved.{move_arc}
 use Rattle.refusals.specs.declared.reason.Reason.TheVariants.{NotAdjacent}
 use Rattle.offer_fields.specs.Lists.{each_of}
 use Rattle.offer_fields.specs.Limits.{number_within, within, digest_of}
@@ -245,9 +245,9 @@ move_made d seeds names line (raw_moves.Wait n height) mv w same e = wait_made d
 -- what is placed stands on an arc of its party, and who gets units is one of its two
 pub placed_fits : (d : Deal) (conforming : List Bool) (seeds : Seeds) (line p : ℕ) (mv : Move) (u : Unit {0}) → IsMade d seeds line mv → AreSeeded seeds mv
     → placed d.graph.arcs conforming line p mv ≡ Ok u
-    → IsFitting d seeds mv × IsTrue ((p == party d (stands_on mv)) || (p == counterparty d (stands_on mv)))
+    → IsFitting d seeds mv × IsTrue ((p == party d (move_arc mv)) || (p == counterparty d (move_arc mv)))
 unfolding placed
 placed_fits d conforming seeds line p mv u made seeded e =
-    let q = went (adjacent d.graph.arcs line p (stands_on mv)) _ u e in
+    let q = went (adjacent d.graph.arcs line p (move_arc mv)) _ u e in
     let r = went (crafted_by_others conforming line mv) _ u q.2 in
-    (record { arc = made.arc; names = made.names u r.2 seeded }, adjacent_fits d line p (stands_on mv) q.0 q.1)
+    (record { arc = made.arc; names = made.names u r.2 seeded }, adjacent_fits d line p (move_arc mv) q.0 q.1)

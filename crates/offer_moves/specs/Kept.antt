@@ -3,7 +3,7 @@ use Rattle.std.specs.Prelude.{◌≡◌, ℕ, ◌<◌, IsTrue, nat_lt, slice_ind
 use Rattle.std.specs.List.{list_all}
 use Rattle.swap_job.specs.declared.moves.Move.{Move}
 use Rattle.swap_job.specs.declared.moves.Move.TheVariants.{Craft}
-use Rattle.swap_job.specs.Resolved.{arc_of}
+use Rattle.swap_job.specs.Resolved.{move_arc}
 use Rattle.swap_job.specs.Crafted.{Seeds}
 use Rattle.swap_job.specs.Fitting.{NamesFitting}
 use Rattle.swap_digraph.specs.declared.deal.Deal.{Deal}
@@ -16,7 +16,7 @@ AreCraftersBelow n _ = Unit {0}
 
 -- A move stands on one of so many arcs, and the parties that craft are among so many.
 pub record CanStand (arcs parties : ℕ) (mv : Move) : Type 0 where
-  pub arc : arc_of mv < arcs
+  pub arc : move_arc mv < arcs
   pub crafters : AreCraftersBelow parties mv
 
 -- the parties that craft have seeds
@@ -26,6 +26,6 @@ AreSeeded seeds _ = Unit {0}
 
 -- what a move keeps to before it is known where it stands
 pub record IsMade (d : Deal) (seeds : Seeds) (line : ℕ) (mv : Move) : Type 0 where
-  pub arc : arc_of mv < length d.graph.arcs
+  pub arc : move_arc mv < length d.graph.arcs
   pub below : AreCraftersBelow d.graph.n mv
   pub names : (u : Unit {0}) → received d.graph.arcs line mv ≡ Ok u → AreSeeded seeds mv → NamesFitting d seeds mv

@@ -6,7 +6,7 @@ use Rattle.swap_digraph.specs.declared.arc_ends.ArcEnds.{ArcEnds}
 use Rattle.swap_digraph.specs.Graph.{ends_in}
 use Rattle.swap_job.specs.declared.moves.Move.{Move}
 use Rattle.swap_job.specs.declared.moves.Move.TheVariants.{Craft, Transfer}
-use Rattle.swap_job.specs.Resolved.{arc_of}
+use Rattle.swap_job.specs.Resolved.{move_arc}
 use Rattle.refusals.specs.declared.reason.Reason.{Reason}
 use Rattle.refusals.specs.declared.reason.Reason.TheVariants.{NotAdjacent, ConformingCall}
 
@@ -31,6 +31,6 @@ crafted_by_others conforming line _ = Ok tt
 -- p may make the move where it stands: first its own arc, then who crafts, then who gets units
 unfoldable pub placed : List ArcEnds → List Bool → ℕ → ℕ → Move → Result (Unit {0}) Reason
 placed arcs conforming line p mv = do
-  u ← adjacent arcs line p (arc_of mv)
+  u ← adjacent arcs line p (move_arc mv)
   w ← crafted_by_others conforming line mv
   received arcs line mv

@@ -3,7 +3,7 @@
 ghost use Rattle.std.specs.Prelude.{◌≡◌, ◌==◌, ◌||◌, ◌<◌, false, nat_lt, length, slice_index_or, IsTrue};
 ghost use Rattle.std.specs.List.{list_all, list_any};
 ghost use Rattle.swap_base.specs.Fault.{Gives};
-ghost use Rattle.swap_job.specs.Resolved.{arc_of as stands_on};
+ghost use Rattle.swap_job.specs.Resolved.{move_arc};
 ghost use Rattle.offer_moves.specs.Kept.{AreCraftersBelow};
 ghost use Rattle.offer_moves.specs.Placed.{deviating, adjacent, received, crafted_by_others, placed};
 
@@ -37,7 +37,7 @@ pub fn check_adjacent(arcs: &[ArcEnds], line: u32, p: PartyId, arc: ArcId) -> Re
 }
 
 fn check_receiver(arcs: &[ArcEnds], line: u32, mv: &Move) -> Result<(), OfferFault>
-    requires arc { stands_on mv.now < length arcs.now }
+    requires arc { move_arc mv.now < length arcs.now }
     ensures { Gives (λ u. u) result (received arcs.now line mv.now) }
 {
     match mv {
@@ -80,7 +80,7 @@ pub fn check_place(
     p: PartyId,
     mv: &Move,
 ) -> Result<(), OfferFault>
-    requires arc { stands_on mv.now < length arcs.now }
+    requires arc { move_arc mv.now < length arcs.now }
     requires conforming { AreCraftersBelow (length conforming.now) mv.now }
     ensures { Gives (λ u. u) result (placed arcs.now conforming.now line p mv.now) }
 {

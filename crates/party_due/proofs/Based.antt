@@ -14,6 +14,7 @@ use Rattle.ledger_core.specs.declared.entry.Call.TheVariants.{Unlock}
 use Rattle.ledger_core.specs.declared.entry.Entry.{Entry}
 use Rattle.ledger_core.specs.History.{opened}
 use Rattle.ledger_core.specs.Book.{Histories, history, IsLegalBook}
+use Rattle.ledger_core.specs.Facts.{opened_key}
 use Rattle.history_index.specs.Value.{IndexState}
 use Rattle.history_index.specs.Indexes.{entries_in, AreIndexes}
 use Rattle.swap_rules.specs.Party.{is_ready, opens_without}
@@ -25,7 +26,7 @@ use Rattle.due_calls.specs.declared.unlock_due.Base.TheVariants.{Signed, Own, On
 use Rattle.due_calls.specs.Parts.{due_base}
 use Rattle.due_calls.specs.Unlocks.{key_from, seen_on}
 use Rattle.due_calls.proofs.Keys.{ComesFrom, comes_from}
-use Rattle.party_machine.specs.Unlocking.{opened_key, CanPutOnto}
+use Rattle.party_machine.specs.Unlocking.{CanPutOnto}
 use Rattle.party_machine.proofs.Known.{history_of}
 use Rattle.party_machine.proofs.Onto.{can_put_onto, found}
 

@@ -3,13 +3,14 @@
 ghost use Rattle.std.specs.Prelude.{◌≡◌, ◌<◌, Some, IfOk, IsSome, length};
 ghost use Rattle.swap_digraph.specs.Deal.{IsWellSized};
 ghost use Rattle.ledger_core.specs.Book.{IsLegalBook};
+ghost use Rattle.ledger_core.specs.Facts.{opened_key};
 ghost use Rattle.history_index.specs.Indexes.{entries_in, AreIndexes};
 ghost use Rattle.swap_rules.specs.Due.{due_key, extended};
 ghost use Rattle.party_wallet.specs.Value.{signed_in};
 ghost use Rattle.due_calls.specs.Parts.{due_base};
 ghost use Rattle.due_calls.specs.Unlocks.{key_from};
 ghost use Rattle.party_machine.specs.Wallet.{wallet_of};
-ghost use Rattle.party_machine.specs.Unlocking.{opened_key, CanPutOnto};
+ghost use Rattle.party_machine.specs.Unlocking.{CanPutOnto};
 
 use due_calls::{Base, due_base};
 use hashkey_path::Hashkey;

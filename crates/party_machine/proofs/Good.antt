@@ -19,7 +19,7 @@ use Rattle.hashkey_path.specs.Signed.{suffix_signature, leaders_key, extended_ke
 use Rattle.hashkey_path.proofs.Validity.{valid_from, to_valid}
 use Rattle.hashkey_path.proofs.Signed.{first_is_valid, extended_is_valid, leads_on}
 use Rattle.hashkey_path.proofs.Answered.{says_valid, valid_answer}
-use Rattle.swap_rules.specs.Machine.{IsGoodKey, IsOwn, IsOnto}
+use Rattle.swap_rules.specs.Machine.{IsGoodKey, IsOwnKey, IsOnto}
 use Rattle.swap_rules.proofs.Words.{bytes_eq-true, bytes_eq-refl, same_key-refl, enters, leaves}
 use Rattle.party_wallet.specs.Keys.{bare_key, own_key, onto_key}
 use Rattle.party_wallet.specs.Fits.{has_key, opens_own, fits_lock, wrong_lock}
@@ -84,7 +84,7 @@ into : (d : Deal) (v : ℕ) (hashlock : List ℕ) (key : Hashkey) → IsValidInt
 into d v hashlock key valid a i = let e = enters d v a i in test_of_valid d a hashlock key (valid a e.0 e.1)
 
 own_good : (m : Mode) (d : Deal) (v : ℕ) (seed : List ℕ) (i : ℕ) → d.mode ≡ m → v < d.graph.n → fits_lock d v seed i ≡ true → leads d v i ≡ true
-    → IsGoodKey d v i (own_key m d v seed i) × IsOwn m v (own_key m d v seed i)
+    → IsGoodKey d v i (own_key m d v seed i) × IsOwnKey m v (own_key m d v seed i)
 own_good Timelocks d v seed i m lt fits l =
     (record { lock = refl; valid = λ a w. bare_valid d a i (hashlock_of d i) (secret_of seed) m (opens_of d v seed i fits l) }, tt)
 own_good Hashkeys d v seed i m lt fits l =

@@ -139,10 +139,15 @@ new_is c d v w known ec ew ek =
     let k : entries_in known ≡ replicate (length d.graph.arcs) [] = entries_new d known ek in
     rw (ec, p, s, k) refl
 
-pub new_shows : (c d : Deal) (v : ℕ) (w : WalletState) (known : List IndexState) → c ≡ d → w ≡ new_wallet w.seed v d
-    → known ≡ map (new_index d) (arcs d.graph) → wrong_lock d v w.seed ≡ None
-    → machine_for d v w.seed ≡ Ok (record { deal = c; me = w.party; seed = w.seed; known = entries_in known; signed = w.signed })
-new_shows c d v w known ec ew ek fits = ap (machine_or d v w.seed) fits ∙ ap (λ (m : MachineState). Ok m) (sym (new_is c d v w known ec ew ek))
+-- a new wallet in which no lock is wrong
+pub fits_party : (d : Deal) (v : ℕ) (w : WalletState) (o : Option ℕ) → w ≡ new_wallet w.seed v d → o ≡ wrong_lock d w.party w.seed → o ≡ None
+    → wrong_lock d v w.seed ≡ None
+fits_party d v w o new is none =
+    ap (λ (p : ℕ). wrong_lock d p w.seed) (sym (ap (λ (x : WalletState). x.party) new)) ∙ (sym is ∙ none)
+
+pub fitting_shows : (d : Deal) (v : ℕ) (seed : List ℕ) (m : MachineState) → m ≡ new_machine d v seed → wrong_lock d v seed ≡ None
+    → machine_for d v seed ≡ Ok m
+fitting_shows d v seed m e fits = ap (machine_or d v seed) fits ∙ ap (λ (x : MachineState). Ok x) (sym e)
 
 -- a machine that knows nothing, with recorded hashkeys in its wallet
 pub restarted_ready : (d : Deal) (w w' : WalletState) (old known : List IndexState) (recorded : List (Option Hashkey)) → IsReady d w old

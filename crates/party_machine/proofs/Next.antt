@@ -5,7 +5,7 @@ use Rattle.ledger_core.specs.declared.entry.Call.{Call}
 use Rattle.swap_rules.specs.Due.{Action, due, due_publishes, due_unlocks, due_claims, due_refunds, first}
 use Rattle.party_wallet.specs.Value.{signed_in}
 use Rattle.party_machine.specs.Wallet.{wallet_of}
-use Rattle.party_machine.specs.Machine.{MachineState, action_of, next_of}
+use Rattle.party_machine.specs.Machine.{MachineState, action_of, next_due}
 
 pub first_append : (xs ys : List Action) → first (xs ++ ys) ≡ or_else (first xs) (first ys)
 first_append [] ys = refl
@@ -20,7 +20,7 @@ abbrev pub unlocks_of : MachineState → List Action
 unlocks_of m = due_unlocks m.deal m.me (wallet_of m.seed m.me m.deal) (signed_in m.signed) m.known
 
 pub split : (m : MachineState)
-    → next_of m ≡ or_else (first (due_publishes m.deal m.me m.known))
+    → next_due m ≡ or_else (first (due_publishes m.deal m.me m.known))
     (or_else (first (unlocks_of m)) (first (due_claims m.deal m.me m.known ++ due_refunds m.deal m.me m.known)))
 unfolding due
 split m =
@@ -36,14 +36,14 @@ split m =
 
 -- an answer of the first kind
 pub at_once : (m : MachineState) (o : Option (ℕ × Call)) → option_map action_of o ≡ first (due_publishes m.deal m.me m.known) → is_some o ≡ true
-    → option_map action_of o ≡ next_of m
+    → option_map action_of o ≡ next_due m
 at_once m None e s = absurd (cc s)
 at_once m (Some x) e s =
     ap (λ z. or_else z (or_else (first (unlocks_of m)) (first (due_claims m.deal m.me m.known ++ due_refunds m.deal m.me m.known)))) e ∙ sym (split m)
 
 -- none of the first kind, and the others' answer
 pub later : (m : MachineState) (o : Option (ℕ × Call)) (r : Option Action) → option_map action_of o ≡ first (due_publishes m.deal m.me m.known)
-    → is_some o ≡ false → or_else (first (unlocks_of m)) (first (due_claims m.deal m.me m.known ++ due_refunds m.deal m.me m.known)) ≡ r → r ≡ next_of m
+    → is_some o ≡ false → or_else (first (unlocks_of m)) (first (due_claims m.deal m.me m.known ++ due_refunds m.deal m.me m.known)) ≡ r → r ≡ next_due m
 later m None r e s h =
     sym h ∙ (ap (λ z. or_else z (or_else (first (unlocks_of m)) (first (due_claims m.deal m.me m.known ++ due_refunds m.deal m.me m.known)))) e
     ∙ sym (split m))

@@ -16,7 +16,7 @@ use Rattle.wallet_journal.specs.Device.{LeavesOnly}
 use Rattle.wallet_journal.specs.Layout.{recorded}
 use Rattle.wallet_journal.specs.Journal.{IsBeforeOrAfter}
 use Rattle.wallet_journal.specs.Own.{FitsDeal}
-use Rattle.party_machine.specs.Machine.{MachineState, action_of, next_of, noted_for}
+use Rattle.party_machine.specs.Machine.{MachineState, action_of, next_due, noted_for}
 use Rattle.party_machine.specs.Recording.{unsigned_key, new_key, signs_next, MayHave, IsCallPlaced, IsPlaced, IsCallRecorded, IsRecorded}
 use Rattle.party_machine.proofs.Signed.{set_again, is_noted}
 use Rattle.party_machine.proofs.Whole.{fresh}
@@ -162,7 +162,7 @@ few_vertices d k fits = let limit = most d.version in omega (arith, fits.few, li
 
 -- the hashkey that a machine signs next, from what it answers
 pub signs : (m : MachineState) (signed : List (Option Hashkey)) (o : Option (ℕ × Call)) (r : Option Hashkey) → signed ≡ m.signed
-    → option_map action_of o ≡ next_of m → r ≡ new_key signed (option_map action_of o) → signs_next m ≡ r
+    → option_map action_of o ≡ next_due m → r ≡ new_key signed (option_map action_of o) → signs_next m ≡ r
 signs m signed o r same due is = sym (is ∙ (λ i. new_key (same i) (due i)))
 
 -- Crashes.

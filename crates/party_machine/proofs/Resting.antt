@@ -27,7 +27,7 @@ use Rattle.swap_rules.proofs.Rest.{reads, same_waiting, same_expiry, rests_below
 use Rattle.party_wallet.specs.Value.{signed_in}
 use Rattle.party_wallet.specs.Value.{WalletState}
 use Rattle.party_machine.specs.Wallet.{wallet_of}
-use Rattle.party_machine.specs.Machine.{MachineState, action_of, learnt, next_of}
+use Rattle.party_machine.specs.Machine.{MachineState, action_of, learnt, next_due}
 use Rattle.party_machine.specs.Rest.{rest_after, EndsBy, IsAtRest, MayRest}
 use Rattle.party_machine.specs.Within.{entries_in, IsReady}
 use Rattle.party_machine.specs.declared.rest.Rest.{Rest}
@@ -44,11 +44,11 @@ none_of : (o : Option (ℕ × Call)) (r : Option Action) → option_map action_o
 none_of None r e n = sym e
 none_of (Some x) r e n = absurd (cc n)
 
-pub begins : (s : MachineState) (o : Option (ℕ × Call)) (until : Option ℕ) → option_map action_of o ≡ next_of s → is_some o ≡ false
+pub begins : (s : MachineState) (o : Option (ℕ × Call)) (until : Option ℕ) → option_map action_of o ≡ next_due s → is_some o ≡ false
     → until ≡ rest_until s.deal s.me s.known
     → IsAtRest until s
 begins s o until e n u = record {
-  nothing = none_of o (next_of s) e n;
+  nothing = none_of o (next_due s) e n;
   ends = λ a i waits.
       let b = rests_below s.deal s.me s.known a i waits in
       subst (λ t. EndsBy t (least_expiry s.deal a (history s.known a))) (sym (u ∙ b.1)) b.2;

@@ -21,7 +21,7 @@ use Rattle.due_calls.specs.declared.unlock_due.UnlockDue.{UnlockDue}
 use Rattle.party_wallet.specs.Value.{WalletState}
 use Rattle.party_wallet.specs.Keys.{own_key, onto_key, with_signed}
 use Rattle.party_machine.specs.Wallet.{wallet_of}
-use Rattle.party_machine.specs.Machine.{MachineState, action_of, next_of}
+use Rattle.party_machine.specs.Machine.{MachineState, action_of, next_due}
 use Rattle.party_machine.specs.Within.{entries_in, IsReady}
 use Rattle.party_machine.specs.Unlocking.{CanPutOnto, base_key, due_hashkey}
 use Rattle.party_machine.proofs.Known.{legal_at}
@@ -135,7 +135,7 @@ module _ (d : Deal) (w : WalletState) (known : List IndexState) (ready : IsReady
 
   pub unlocks_next : (o : Option (ℕ × Call)) (u : UnlockDue) (k : Hashkey) → option_map action_of o ≡ first (due_publishes d w.party (entries_in known))
       → is_some o ≡ false → first (unlocks_of state) ≡ Some (record { arc = u.arc; call = Unlock k })
-      → Some (record { arc = u.arc; call = Unlock k }) ≡ next_of state
+      → Some (record { arc = u.arc; call = Unlock k }) ≡ next_due state
   unlocks_next o u k e s f =
       later state o (Some (record { arc = u.arc; call = Unlock k })) e s
       (ap (λ z. or_else z (first (due_claims d w.party (entries_in known) ++ due_refunds d w.party (entries_in known)))) f)
@@ -143,7 +143,7 @@ module _ (d : Deal) (w : WalletState) (known : List IndexState) (ready : IsReady
   pub settles_next : (v : ℕ) (xs ys : List IndexState) (s : List (Option Hashkey)) (o l : Option (ℕ × Call)) → v ≡ w.party → xs ≡ known → ys ≡ known
       → s ≡ w.signed → option_map action_of o ≡ first (due_publishes d w.party (entries_in known)) → is_some o ≡ false
       → ((x : Wallet) → due_unlocks d v x (signed_in s) (entries_in xs) ≡ [])
-      → option_map action_of l ≡ first (due_claims d v (entries_in ys) ++ due_refunds d v (entries_in ys)) → option_map action_of l ≡ next_of state
+      → option_map action_of l ≡ first (due_claims d v (entries_in ys) ++ due_refunds d v (entries_in ys)) → option_map action_of l ≡ next_due state
   settles_next v xs ys s o l ev ek ey es e n none h =
       let nothing : unlocks_of state ≡ [] =
       subst (λ (y : ℕ). due_unlocks d y (wallet_of w.seed w.party d) (signed_in w.signed) (entries_in known) ≡ []) ev

@@ -25,12 +25,12 @@ use Rattle.party_machine.specs.Wallet.{wallet_of}
 use Rattle.party_machine.specs.Machine.{action_of, noted_for}
 use Rattle.party_machine.specs.Within.{entries_in, IsReady}
 use Rattle.party_machine.specs.Unlocking.{CanPutOnto, base_key, due_hashkey}
-use Rattle.party_machine.specs.Recording.{new_key, unsigned_key, IsWhole}
+use Rattle.party_machine.specs.Recording.{new_key, unsigned_key, IsWholeKey}
 use Rattle.party_machine.proofs.Known.{legal_at}
 use Rattle.party_machine.proofs.Onto.{can_put_onto, some_room}
 use Rattle.party_machine.proofs.Step.{due_lock}
 
-own_whole : (m : Mode) (d : Deal) (v : ℕ) (seed : List ℕ) (i : ℕ) → v < d.graph.n → IsWhole d (own_key m d v seed i)
+own_whole : (m : Mode) (d : Deal) (v : ℕ) (seed : List ℕ) (i : ℕ) → v < d.graph.n → IsWholeKey d (own_key m d v seed i)
 own_whole Timelocks d v seed i lt =
     let room = some_room d.version in
     record { fits = record { few = omega (arith, room); parties = refl }; paired = refl }
@@ -42,7 +42,7 @@ own_whole Hashkeys d v seed i lt =
     }
 
 onto_whole : (m : Mode) (d : Deal) (v : ℕ) (seed : List ℕ) (k : Hashkey) → v < d.graph.n → length k.path < path_limit d → length k.sigs ≡ length k.path
-    → are_below d.graph.n k.path ≡ true → IsWhole d (onto_key m d v seed k)
+    → are_below d.graph.n k.path ≡ true → IsWholeKey d (onto_key m d v seed k)
 onto_whole Timelocks d v seed k lt few paired parties =
     let room = some_room d.version in
     record { fits = record { few = omega (arith, room); parties = refl }; paired = refl }
@@ -52,10 +52,10 @@ onto_whole Hashkeys d v seed k lt few paired parties = record {
 }
 
 put_whole : (d : Deal) (v : ℕ) (seed : List ℕ) (i : ℕ) (o : Option Hashkey) (key : Hashkey) → v < d.graph.n → CanPutOnto d i o
-    → extended (wallet_of seed v d) o ≡ Some key → IsWhole d key
+    → extended (wallet_of seed v d) o ≡ Some key → IsWholeKey d key
 put_whole d v seed i None key lt can e = absurd can
 put_whole d v seed i (Some k) key lt can e =
-    subst (IsWhole d) (same_Some (onto_key d.mode d v seed k) key e) (onto_whole d.mode d v seed k lt can.1 can.2 can.3)
+    subst (IsWholeKey d) (same_Some (onto_key d.mode d v seed k) key e) (onto_whole d.mode d v seed k lt can.1 can.2 can.3)
 
 or_none : (o r : Option Hashkey) (k : Hashkey) → o ≡ None → or_else o r ≡ Some k → r ≡ Some k
 or_none None r k none e = e
@@ -68,26 +68,26 @@ fresh (Some l) key k e = absurd (cc e)
 
 module _ (d : Deal) (w : WalletState) (known : List IndexState) (ready : IsReady d w known) where
   base_whole : (u : UnlockDue) (b : Base) → IsSeenOn d w.party (entries_in known) u.lock b → signed_in w.signed u.lock ≡ None → (key : Hashkey)
-      → key_from (wallet_of w.seed w.party d) (signed_in w.signed) (entries_in known) u.lock b ≡ Some key → IsWhole d key
+      → key_from (wallet_of w.seed w.party d) (signed_in w.signed) (entries_in known) u.lock b ≡ Some key → IsWholeKey d key
   base_whole u Signed s none key e = absurd (cc (sym none ∙ e))
   base_whole u Own s none key e =
-      subst (IsWhole d) (same_Some (own_key d.mode d w.party w.seed u.lock) key e) (own_whole d.mode d w.party w.seed u.lock ready.partys.party)
+      subst (IsWholeKey d) (same_Some (own_key d.mode d w.party w.seed u.lock) key e) (own_whole d.mode d w.party w.seed u.lock ready.partys.party)
   base_whole u (Onto a) s none key e =
       put_whole d w.party w.seed u.lock (key_on (entries_in known) a u.lock) key ready.partys.party
       (can_put_onto d w.party u.lock a (entries_in known) ready.sized ready.partys.party (λ c lt. legal_at d w known c ready lt) s.1) e
 
   -- a hashkey that is signed for a due unlock
   pub due_whole : (u : UnlockDue) (key : Hashkey) → IsSeenOn d w.party (entries_in known) u.lock u.base → due_hashkey d w (entries_in known) u ≡ Some key
-      → (k : Hashkey) → unsigned_key w.signed (Unlock key) ≡ Some k → IsWhole d k
+      → (k : Hashkey) → unsigned_key w.signed (Unlock key) ≡ Some k → IsWholeKey d k
   due_whole u key s e k new =
       let f = fresh (signed_in w.signed key.lock) key k new in
       let at : key.lock ≡ u.lock = due_lock d w known ready u key s e in
       let none : signed_in w.signed u.lock ≡ None = ap (signed_in w.signed) (sym at) ∙ f.0 in
-      subst (IsWhole d) f.1
+      subst (IsWholeKey d) f.1
       (base_whole u u.base s none key (or_none (signed_in w.signed u.lock) (base_key d w (entries_in known) u) key none e))
 
 call_without : (signed : List (Option Hashkey)) (d : Deal) (c : Call) → ((s : ℕ → Option Hashkey) → noted s c ≡ s) → (k : Hashkey)
-    → unsigned_key signed c ≡ Some k → IsWhole d k
+    → unsigned_key signed c ≡ Some k → IsWholeKey d k
 call_without signed d (Unlock key) h k e =
     let gone : cond (key.lock == key.lock) (Some key) None ≡ None = ap (λ (f : ℕ → Option Hashkey). f key.lock) (h (λ i. None)) in
     let here : cond (key.lock == key.lock) (Some key) None ≡ Some key =
@@ -100,6 +100,6 @@ call_without signed d (Transfer to units) h k e = absurd (cc e)
 
 -- a call that carries no hashkey signs none
 pub none_whole : (signed : List (Option Hashkey)) (d : Deal) (o : Option (ℕ × Call)) → ((s : ℕ → Option Hashkey) → noted_for s o ≡ s) → (k : Hashkey)
-    → new_key signed (option_map action_of o) ≡ Some k → IsWhole d k
+    → new_key signed (option_map action_of o) ≡ Some k → IsWholeKey d k
 none_whole signed d None h k e = absurd (cc e)
 none_whole signed d (Some x) h k e = call_without signed d x.1 h k e

@@ -55,8 +55,8 @@ abbrev pub action_of : ℕ × Call → Action
 action_of x = record { arc = x.0; call = x.1 }
 
 -- the first of what is due for a machine
-abbrev pub next_of : MachineState → Option Action
-next_of m = first (due m.deal m.me (wallet_of m.seed m.me m.deal) (signed_in m.signed) m.known)
+abbrev pub next_due : MachineState → Option Action
+next_due m = first (due m.deal m.me (wallet_of m.seed m.me m.deal) (signed_in m.signed) m.known)
 
 -- the hashkeys that were signed, after a call, if any
 abbrev pub noted_for : (ℕ → Option Hashkey) → Option (ℕ × Call) → ℕ → Option Hashkey

@@ -13,7 +13,7 @@ use Rattle.wallet_journal.specs.Own.{FitsDeal}
 use Rattle.wallet_journal.specs.Recording.{IsStoppedAt}
 use Rattle.wallet_journal.specs.declared.fault.RecordFault.{RecordFault}
 use Rattle.wallet_journal.specs.declared.fault.RecordFault.TheVariants.{DiskFault, NoMemory}
-use Rattle.party_machine.specs.Machine.{MachineState, next_of}
+use Rattle.party_machine.specs.Machine.{MachineState, next_due}
 
 -- the hashkey of an unlock for whose lock none was signed
 abbrev pub unsigned_key : List (Option Hashkey) → Call → Option Hashkey
@@ -27,10 +27,10 @@ new_key signed (Some x) = unsigned_key signed x.call
 
 -- the hashkey that a machine signs for the call that is due first, if it signs one
 abbrev pub signs_next : MachineState → Option Hashkey
-signs_next m = new_key m.signed (next_of m)
+signs_next m = new_key m.signed (next_due m)
 
 -- A hashkey of a deal, with a signature for each vertex.
-pub record IsWhole (d : Deal) (key : Hashkey) : Type 0 where
+pub record IsWholeKey (d : Deal) (key : Hashkey) : Type 0 where
   pub fits : FitsDeal d key
   pub paired : length key.sigs ≡ length key.path
 

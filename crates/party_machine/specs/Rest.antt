@@ -5,7 +5,7 @@ use Rattle.swap_digraph.specs.Graph.{leaving}
 use Rattle.ledger_core.specs.Book.{history}
 use Rattle.swap_rules.specs.Party.{least_expiry}
 use Rattle.swap_rules.specs.Rest.{is_waiting}
-use Rattle.party_machine.specs.Machine.{MachineState, next_of}
+use Rattle.party_machine.specs.Machine.{MachineState, next_due}
 use Rattle.party_machine.specs.declared.rest.Rest.{Rest}
 use Rattle.party_machine.specs.declared.rest.Rest.TheVariants.{Awake, Until}
 
@@ -22,7 +22,7 @@ EndsBy (Some t) expiry = t ≤ expiry
 
 -- Nothing is due, and rest ends by the least expiry of each refund that the machine waits for.
 pub record IsAtRest (until : Option ℕ) (m : MachineState) : Type 0 where
-  pub nothing : next_of m ≡ None
+  pub nothing : next_due m ≡ None
   pub ends : (a : ℕ) → IsIn a (leaving m.deal.graph m.me) → is_waiting m.deal m.me m.known a ≡ true
       → EndsBy until (least_expiry m.deal a (history m.known a))
 

@@ -1,5 +1,5 @@
 -- The hashkey of an unlock that is due.
-use Rattle.std.specs.Prelude.{◌≡◌, ℕ, ◌<◌, true, List, length, Option, Some, None, option_map}
+use Rattle.std.specs.Prelude.{◌≡◌, ℕ, ◌<◌, true, length, Option, Some, None}
 use Rattle.swap_base.specs.Lists.{or_else}
 use Rattle.swap_digraph.specs.declared.deal.Deal.{Deal}
 use Rattle.swap_digraph.specs.Deal.{path_limit}
@@ -7,8 +7,6 @@ use Rattle.hashkey_path.specs.declared.hashkey.Hashkey.{Hashkey}
 use Rattle.ledger_core.specs.declared.entry.Call.TheVariants.{Unlock}
 use Rattle.ledger_core.specs.declared.entry.What.{What}
 use Rattle.ledger_core.specs.declared.entry.What.TheVariants.{Call as Made}
-use Rattle.ledger_core.specs.declared.entry.Entry.{Entry}
-use Rattle.ledger_core.specs.History.{opened}
 use Rattle.ledger_core.specs.Book.{Histories}
 use Rattle.party_wallet.specs.Value.{signed_in}
 use Rattle.due_calls.specs.Unlocks.{key_from}
@@ -21,10 +19,6 @@ use Rattle.party_machine.specs.Wallet.{wallet_of}
 abbrev pub key_carried : What → Option Hashkey
 key_carried (Made (Unlock key)) = Some key
 key_carried _ = None
-
--- the hashkey that opened lock i
-abbrev pub opened_key : List Entry → ℕ → Option Hashkey
-opened_key h i = option_map (λ o. o.key) (opened h i)
 
 -- A hashkey for lock i that the party can put its signature onto.
 abbrev pub CanPutOnto : Deal → ℕ → Option Hashkey → Type 0

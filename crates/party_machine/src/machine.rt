@@ -13,6 +13,7 @@ ghost use Rattle.swap_rules.specs.Accepted.{IsAccepted};
 ghost use Rattle.swap_rules.specs.Machine.{IsWallet};
 ghost use Rattle.party_wallet.specs.Value.{signed_in};
 ghost use Rattle.party_wallet.specs.Keys.{new_wallet};
+ghost use Rattle.party_wallet.specs.Fits.{wrong_lock};
 ghost use Rattle.party_machine.specs.Wallet.{wallet_of};
 ghost use Rattle.party_machine.specs.Rest.{IsAtRest};
 ghost use Rattle.wallet_journal.specs.Device.{LeavesOnly, IsUntouched};
@@ -22,8 +23,8 @@ ghost use Rattle.wallet_journal.specs.Recording.{IsRefused, IsWritten};
 ghost use Rattle.wallet_journal.specs.Layout.{recorded};
 ghost use Rattle.wallet_journal.specs.Stopped.{bytes_left, kept_key, IsOfWrites};
 ghost use Rattle.wallet_journal.specs.declared.fault.RecordFault.TheVariants.{DiskFault as Stopped, NoMemory as Wanting};
-ghost use Rattle.party_machine.specs.Machine.{machine_for, new_machine, resumed_for, resumed_machine, learnt, action_of, next_of, noted_for, IsOfSame};
-ghost use Rattle.party_machine.specs.Recording.{new_key, signs_next, IsRecorded, IsStoppedNext, IsWhole, MayHave};
+ghost use Rattle.party_machine.specs.Machine.{machine_for, new_machine, resumed_for, resumed_machine, learnt, action_of, next_due, noted_for, IsOfSame};
+ghost use Rattle.party_machine.specs.Recording.{new_key, signs_next, IsRecorded, IsStoppedNext, IsWholeKey, MayHave};
 
 use crate::actions::{due_first, due_last};
 use crate::knowledge::indexes_of;
@@ -65,7 +66,30 @@ impl Model for Machine {
 }
 
 impl Machine {
-    /// A party that knows nothing and signed nothing, or the least lock for which its new wallet lacks what the deal states. It keeps a copy of the deal.
+    /// A party that knows nothing and signed nothing, whose new wallet has what the deal states. It keeps a copy of the deal.
+    pub fn fitting(
+        alloc: Global,
+        deal: &Deal,
+        me: PartyId,
+        wallet: Wallet,
+    ) -> Result<Machine, NoMemory>
+        requires sized { IsWellSized deal.now }
+        requires party { me < deal.now.graph.n }
+        requires wallet { wallet ≡ new_wallet wallet.seed me deal.now }
+        requires fits { wrong_lock deal.now me wallet.seed ≡ None }
+        ensures new { IfOk result (λ m. m ≡ new_machine deal.now me wallet.seed) }
+        ensures good { OnOk result (IsAccepted deal.now → IsWallet deal.now me (wallet_of wallet.seed me deal.now)) }
+    {
+        let known = indexes_of(alloc, deal)?;
+        Ok(Machine {
+            deal: copy_deal(deal)?,
+            wallet,
+            known,
+            rest: Rest::Awake,
+        })
+    }
+
+    /// The same, or the least lock for which its new wallet lacks what the deal states.
     pub fn new(
         alloc: Global,
         deal: &Deal,
@@ -80,16 +104,9 @@ impl Machine {
         ensures good { IfOk result (λ m. IsAccepted deal.now → IsWallet deal.now me (wallet_of wallet.seed me deal.now)) }
     {
         match wallet.wrong_lock(deal) {
-            Some(lock) => return Err(Fault::Refused(Misfit::WrongWallet(lock))),
-            None => {}
+            Some(lock) => Err(Fault::Refused(Misfit::WrongWallet(lock))),
+            None => Ok(Machine::fitting(alloc, deal, me, wallet)?),
         }
-        let known = indexes_of(alloc, deal)?;
-        Ok(Machine {
-            deal: copy_deal(deal)?,
-            wallet,
-            known,
-            rest: Rest::Awake,
-        })
     }
 
     /// The machine with the hashkeys that it signed before it was restarted.
@@ -191,10 +208,10 @@ impl Machine {
     /// The first call that is due, with its arc. It signs a hashkey only for the call that it answers, and keeps it.
     /// Once nothing is due it rests: it looks again only after it has learnt a call, or a tick above an expiry that it waits for.
     pub fn next(&mut self) -> Result<Option<(ArcId, Call)>, NoMemory>
-        ensures due { IfOk result (λ o. option_map action_of o ≡ next_of self.old) }
+        ensures due { IfOk result (λ o. option_map action_of o ≡ next_due self.old) }
         ensures signed { IfOk result (λ o. signed_in self.new.signed ≡ noted_for (signed_in self.old.signed) o) }
         ensures once { (i : ℕ) (k : Hashkey) → signed_in self.old.signed i ≡ Some k → signed_in self.new.signed i ≡ Some k }
-        ensures whole { IfOk result (λ o. (k : Hashkey) → new_key self.old.signed (option_map action_of o) ≡ Some k → IsWhole self.old.deal k) }
+        ensures whole { IfOk result (λ o. (k : Hashkey) → new_key self.old.signed (option_map action_of o) ≡ Some k → IsWholeKey self.old.deal k) }
         ensures same { IsOfSame self.old self.new }
         ensures err { OnErr result (self.new ≡ self.old) }
     {
@@ -231,7 +248,7 @@ impl Machine {
     ) -> Result<Option<(ArcId, Call)>, RecordFault>
         requires sound { journal.old.sound ≡ true }
         requires recorded { journal.old.signed ≡ self.old.signed }
-        ensures due { IfOk result (λ o. option_map action_of o ≡ next_of self.old) }
+        ensures due { IfOk result (λ o. option_map action_of o ≡ next_due self.old) }
         ensures signed { IfOk result (λ o. signed_in self.new.signed ≡ noted_for (signed_in self.old.signed) o) }
         ensures once { (i : ℕ) (k : Hashkey) → signed_in self.old.signed i ≡ Some k → signed_in self.new.signed i ≡ Some k }
         ensures same { IsOfSame self.old self.new }

@@ -5,8 +5,9 @@ ghost use Rattle.party_wallet.specs.Value.{signed_in};
 ghost use Rattle.due_calls.specs.Unlocks.{IsSeenOn};
 ghost use Rattle.party_wallet.specs.Keys.{with_signed};
 ghost use Rattle.party_machine.specs.Within.{entries_in, IsReady};
-ghost use Rattle.party_machine.specs.Unlocking.{base_key, due_hashkey, opened_key, CanPutOnto};
+ghost use Rattle.party_machine.specs.Unlocking.{base_key, due_hashkey, CanPutOnto};
 ghost use Rattle.std.specs.Prelude.{Some};
+ghost use Rattle.ledger_core.specs.Facts.{opened_key};
 ghost use Rattle.swap_rules.specs.Due.{extended};
 ghost use Rattle.party_machine.specs.Wallet.{wallet_of};
 

@@ -9,14 +9,14 @@ use Rattle.party_main.specs.declared.top.PartyStatus.{PartyStatus}
 use Rattle.party_main.specs.declared.top.PartyStatus.TheVariants.{Done, WrongWords, Refused, ReadFault, WriteFault, NoMemory, TooLong}
 
 -- the number of a status: those of `swap`
-abbrev pub number_of : PartyStatus → ℕ
-number_of Done = 0
-number_of WrongWords = 2
-number_of (Refused reason) = 3
-number_of ReadFault = 4
-number_of WriteFault = 5
-number_of NoMemory = 6
-number_of TooLong = 7
+abbrev pub exit_number : PartyStatus → ℕ
+exit_number Done = 0
+exit_number WrongWords = 2
+exit_number (Refused reason) = 3
+exit_number ReadFault = 4
+exit_number WriteFault = 5
+exit_number NoMemory = 6
+exit_number TooLong = 7
 
 -- the line of a reason
 abbrev pub reason_line : AnswerReason → List ℕ
@@ -24,16 +24,16 @@ reason_line (reasons.Refused r) = refusal_text r.names r.reason
 reason_line (reasons.NotKept a n) = joined (codes "swap: refused: NotKept " ∷ decimal a ∷ codes " " ∷ decimal n ∷ codes "\n" ∷ [])
 
 -- the lines of standard error
-unfoldable pub lines_of : PartyStatus → List ℕ
-lines_of Done = []
-lines_of WrongWords = codes "swap: wrong words\nusage: party NAME\n"
-lines_of (Refused reason) = reason_line reason
-lines_of ReadFault = codes "swap: read fault\n"
-lines_of WriteFault = codes "swap: write fault\n"
-lines_of NoMemory = codes "swap: no memory\n"
-lines_of TooLong = codes "swap: too long\n"
+unfoldable pub error_lines : PartyStatus → List ℕ
+error_lines Done = []
+error_lines WrongWords = codes "swap: wrong words\nusage: party NAME\n"
+error_lines (Refused reason) = reason_line reason
+error_lines ReadFault = codes "swap: read fault\n"
+error_lines WriteFault = codes "swap: write fault\n"
+error_lines NoMemory = codes "swap: no memory\n"
+error_lines TooLong = codes "swap: too long\n"
 
 -- the process ends as the status asks
 pub record IsExit (e : Exit) (status : PartyStatus) : Type 0 where
-  pub number : e.number ≡ number_of status
-  pub told : told_text e.told ≡ lines_of status
+  pub number : e.number ≡ exit_number status
+  pub told : told_text e.told ≡ error_lines status

@@ -5,7 +5,7 @@ use Rattle.swap_base.specs.declared.fault.Fault.{Fault}
 use Rattle.swap_base.specs.declared.fault.Fault.TheVariants as faults
 use Rattle.swap_io.specs.Causes.{Rose, ConsumesAtMost, ConsumesSome, AppendsProperPrefix}
 use Rattle.command_input.specs.Input.{limit}
-use Rattle.command_input.specs.Streams.{Streams}
+use Rattle.command_input.specs.Streams.{HasReadFault, HasWriteFault, Streams}
 use Rattle.party_answer.specs.declared.reason.AnswerReason.{AnswerReason}
 use Rattle.party_answer.specs.Promised.{IsAnswer}
 use Rattle.party_main.specs.declared.top.PartyStatus.{PartyStatus}
@@ -58,8 +58,8 @@ Says words before after Done = HasText (Appends before.taken after.taken) words 
 Says words before after WrongWords = (length words ≢ 1) × (after.left ≡ before.left) × Keeps before.taken after.taken
 Says words before after (Refused reason) = HasAnswer words before.left after.left (Err reason) × Keeps before.taken after.taken
 Says words before after ReadFault =
-    Rose before.read_faults after.read_faults × ConsumesAtMost before.left after.left limit × Keeps before.taken after.taken
+    HasReadFault before after × ConsumesAtMost before.left after.left limit × Keeps before.taken after.taken
 Says words before after WriteFault =
-    Rose before.write_faults after.write_faults × HasText (AppendsProperPrefix before.taken after.taken) words before.left after.left
+    HasWriteFault before after × HasText (AppendsProperPrefix before.taken after.taken) words before.left after.left
 Says words before after NoMemory = Keeps before.taken after.taken
 Says words before after TooLong = ConsumesSome before.left after.left (limit + 1) × Keeps before.taken after.taken

@@ -39,7 +39,7 @@ pub fn reason_line(alloc: Global, reason: &AnswerReason) -> Result<ByteText, NoM
 }
 
 /// What the process ends with by its status. A refusal whose line finds no memory ends as want of memory does.
-#[tactic(auto, unfolding(crate::specs::Exit::lines_of))]
+#[tactic(auto, unfolding(crate::specs::Exit::error_lines))]
 pub fn ending(alloc: Global, status: PartyStatus) -> Exit
     ensures exact { IsExit result status ⊎ IsExit result PartyStatus.NoMemory }
     ensures plain { ((reason : AnswerReason) → ¬ (status ≡ PartyStatus.Refused reason)) → IsExit result status }

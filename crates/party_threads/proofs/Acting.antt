@@ -10,12 +10,13 @@ use Rattle.ledger_core.specs.Ledger.{after_call}
 use Rattle.ledger_core.specs.Book.{history}
 use Rattle.ledger_shared.specs.Value.{PassState, SharedState}
 use Rattle.party_wallet.specs.Value.{signed_in}
-use Rattle.party_machine.specs.Machine.{MachineState, action_of, next_of, noted_for, IsOfSame}
+use Rattle.party_machine.specs.Machine.{MachineState, action_of, next_due, noted_for, IsOfSame}
 use Rattle.swap_rules.specs.Due.{Action}
 use Rattle.swap_rules.specs.Machine.{noted}
 use Rattle.swap_run.specs.Fair.{most_acts}
 use Rattle.swap_run.proofs.Slots.{left, left_most}
-use Rattle.party_threads.specs.Able.{watcher, machine_with, IsAble, IsMakable, IsSameOwner}
+use Rattle.swap_world.specs.Acting.{IsMakable, IsSameOwner}
+use Rattle.party_threads.specs.Able.{watcher, machine_with, IsAble}
 use Rattle.party_threads.specs.Later.{pass_in, WentOn, HaveGoneOn}
 use Rattle.party_threads.specs.Tracks.{Tracks, HaveSeenAll, HasItsPasses, IsSameElsewhere, IsPlaceOf, HasMade, MadeIf}
 use Rattle.party_threads.proofs.Machines.{makable, made_of, able_made, owner_more, left_made, none_left}
@@ -60,7 +61,7 @@ acts_begin ledgers m ps k none able tracks passes = record {
 
 -- after as many acts as there are calls nothing is due
 pub acts_end : (ledgers : List SharedState) (m : MachineState) (ps : List (Option PassState)) (k : ℕ) (n : MachineState) (qs : List (Option PassState))
-    → IsActing ledgers m ps k n qs → most_acts m.deal ≤ k → next_of n ≡ None
+    → IsActing ledgers m ps k n qs → most_acts m.deal ≤ k → next_due n ≡ None
 acts_end ledgers m ps k n qs h all =
     none_left n h.able (let few = h.few in omega (arith, few, all))
 
@@ -75,8 +76,8 @@ abbrev an_action : ℕ → Call → Action
 an_action a c = record { arc = a; call = c }
 
 -- what is answered is what is due
-pub due_is : (m : MachineState) (o : Option (ℕ × Call)) (a : ℕ) (c : Call) → o ≡ Some (a, c) → option_map action_of o ≡ next_of m
-    → next_of m ≡ Some (an_action a c)
+pub due_is : (m : MachineState) (o : Option (ℕ × Call)) (a : ℕ) (c : Call) → o ≡ Some (a, c) → option_map action_of o ≡ next_due m
+    → next_due m ≡ Some (an_action a c)
 due_is m o a c e f = sym f ∙ ap (option_map action_of) e
 
 -- and what is signed for it is noted
@@ -95,7 +96,7 @@ pub record HasActed (ledgers : List SharedState) (m : MachineState) (ps : List (
   pub fewer : left m.deal m.me n.known + 1 ≤ left m.deal m.me m.known
 
 module _ (ledgers : List SharedState) (m n : MachineState) (s : List (Option Hashkey)) (ps : List (Option PassState)) (a : ℕ) (c : Call) (p q : PassState)
-    (able : IsAble m) (tracks : Tracks ledgers (watcher m) ps) (due : next_of m ≡ Some (an_action a c)) (many : length s ≡ length m.signed)
+    (able : IsAble m) (tracks : Tracks ledgers (watcher m) ps) (due : next_due m ≡ Some (an_action a c)) (many : length s ≡ length m.signed)
     (signs : signed_in s ≡ noted (signed_in m.signed) c) (below : a < length ps) (here : pass_in ps a ≡ Some p)
     (made : HasMade (watcher m) (machine_with (with_signed m s) a) a c p n q) where
   known_below : a < length m.known
@@ -122,7 +123,7 @@ module _ (ledgers : List SharedState) (m n : MachineState) (s : List (Option Has
 
 -- the same after a machine has answered what is due
 pub acted_at : (ledgers : List SharedState) (m m1 n : MachineState) (ps : List (Option PassState)) (a : ℕ) (c : Call) (q : Option PassState) → IsAble m
-    → Tracks ledgers (watcher m) ps → next_of m ≡ Some (an_action a c) → IsOfSame m m1 → signed_in m1.signed ≡ noted (signed_in m.signed) c → a < length ps
+    → Tracks ledgers (watcher m) ps → next_due m ≡ Some (an_action a c) → IsOfSame m m1 → signed_in m1.signed ≡ noted (signed_in m.signed) c → a < length ps
     → MadeIf (watcher m1) (machine_with m1 a) a c (pass_in ps a) n q → HasActed ledgers m ps n (set ps a q)
 acted_at ledgers m m1 n ps a c q able tracks due same signs below made = go (pass_in ps a) refl made
   where
@@ -134,15 +135,15 @@ acted_at ledgers m m1 n ps a c q able tracks due same signs below made = go (pas
         (subst (λ x. HasMade (watcher x) (machine_with x a) a c p n l.0) (same_machine m m1 same) l.2))
 
 -- what is due can be made
-pub makable_after : (m m1 : MachineState) (a : ℕ) (c : Call) → IsAble m → next_of m ≡ Some (an_action a c) → IsOfSame m m1
+pub makable_after : (m m1 : MachineState) (a : ℕ) (c : Call) → IsAble m → next_due m ≡ Some (an_action a c) → IsOfSame m m1
     → IsMakable m1.deal m1.me (an_action a c)
 makable_after m m1 a c able due same =
     subst (λ x. IsMakable x.deal x.me (an_action a c)) (sym (same_machine m m1 same)) (makable m (an_action a c) able due)
 
 -- A machine has answered the call that is due, and nothing is done yet.
 module _ (ledgers : List SharedState) (m m1 : MachineState) (o : Option (ℕ × Call)) (a : ℕ) (c : Call) (ps : List (Option PassState)) (able : IsAble m)
-    (tracks : Tracks ledgers (watcher m) ps) (is : o ≡ Some (a, c)) (first : option_map action_of o ≡ next_of m) where
-  due : next_of m ≡ Some (an_action a c)
+    (tracks : Tracks ledgers (watcher m) ps) (is : o ≡ Some (a, c)) (first : option_map action_of o ≡ next_due m) where
+  due : next_due m ≡ Some (an_action a c)
   due = due_is m o a c is first
 
   can : IsMakable m.deal m.me (an_action a c)

@@ -11,7 +11,7 @@ use Rattle.ledger_core.specs.Book.{history}
 use Rattle.ledger_shared.specs.Value.{PassState, made_by}
 use Rattle.party_wallet.specs.Value.{signed_in}
 use Rattle.party_machine.specs.Wallet.{wallet_of}
-use Rattle.party_machine.specs.Machine.{MachineState, next_of}
+use Rattle.party_machine.specs.Machine.{MachineState, next_due}
 use Rattle.swap_rules.specs.Due.{Action, first}
 use Rattle.swap_rules.specs.Machine.{IsSound, noted, entry_of, test_of}
 use Rattle.swap_rules.proofs.Machines.{learn_sound, call_sound}
@@ -21,7 +21,8 @@ use Rattle.swap_rules.proofs.Prefixes.{begins_refl}
 use Rattle.swap_rules.proofs.Room.{rules_leave_room}
 use Rattle.swap_run.proofs.Entries.{call_pushes}
 use Rattle.swap_run.proofs.Slots.{left, left_less}
-use Rattle.party_threads.specs.Able.{watcher, machine_with, IsAble, IsMakable, IsSameOwner}
+use Rattle.swap_world.specs.Acting.{IsMakable, IsSameOwner}
+use Rattle.party_threads.specs.Able.{watcher, machine_with, IsAble}
 use Rattle.party_threads.specs.Tracks.{HasLooked, LookedIf}
 use Rattle.party_threads.proofs.Calls.{none_passes}
 
@@ -61,13 +62,13 @@ first_in : (xs : List Action) (x : Action) → first xs ≡ Some x → IsIn x xs
 first_in [] x e = absurd (cc e)
 first_in (y ∷ ys) x e = inl (cc)
 
-due_of : (m : MachineState) (x : Action) → IsAble m → next_of m ≡ Some x
+due_of : (m : MachineState) (x : Action) → IsAble m → next_due m ≡ Some x
     → IsDue m.deal m.me (wallet_of m.seed m.me m.deal) (signed_in m.signed) m.known m.known x.arc x.call
 due_of m x k e =
     is_due m.deal m.me (wallet_of m.seed m.me m.deal) (signed_in m.signed) m.known m.known k.sound.legal k.sound.rules
     (λ a. knows_all m.me (history m.known a)) k.wallet k.accepted x (first_in _ x e)
 
-pub makable : (m : MachineState) (x : Action) → IsAble m → next_of m ≡ Some x → IsMakable m.deal m.me x
+pub makable : (m : MachineState) (x : Action) → IsAble m → next_due m ≡ Some x → IsMakable m.deal m.me x
 makable m x k e =
     let is = due_of m x k e in
     record { arc = is.below; of_the_two = is.of_the_two; fits = is.fits; valid = due_is_valid m.deal m.me _ _ m.known m.known x.arc x.call is }
@@ -83,7 +84,7 @@ made_of m signed x others =
       signed = signed;
     }
 
-pub able_made : (m : MachineState) (signed : List (Option Hashkey)) (x : Action) (others : List Entry) → IsAble m → next_of m ≡ Some x
+pub able_made : (m : MachineState) (signed : List (Option Hashkey)) (x : Action) (others : List Entry) → IsAble m → next_due m ≡ Some x
     → length signed ≡ length m.signed → signed_in signed ≡ noted (signed_in m.signed) x.call → made_by m.me others ≡ []
     → IsLegal m.deal x.arc (history m.known x.arc ++ others) → IsAble (made_of m signed x others)
 able_made m signed x others k e many is none legal =
@@ -106,7 +107,7 @@ able_made m signed x others k e many is none legal =
 -- What it may still call.
 
 -- the ledger of a due call has room for it
-room_made : (m : MachineState) (x : Action) (others : List Entry) → IsAble m → next_of m ≡ Some x → made_by m.me others ≡ []
+room_made : (m : MachineState) (x : Action) (others : List Entry) → IsAble m → next_due m ≡ Some x → made_by m.me others ≡ []
     → IsLegal m.deal x.arc (history m.known x.arc ++ others) → is_full (history m.known x.arc ++ others) m.me ≡ false
 room_made m x others k e none legal =
     let below : x.arc < length m.known = subst (λ z. x.arc < z) (sym k.arcs) (due_of m x k e).below in
@@ -117,7 +118,7 @@ room_made m x others k e none legal =
     (rules_leave_room m.deal (set m.known x.arc (history m.known x.arc ++ others)) (signed_in m.signed) m.me x.arc k.accepted s.legal s.rules)
 
 -- a due call leaves one less
-pub left_made : (m : MachineState) (signed : List (Option Hashkey)) (x : Action) (others : List Entry) → IsAble m → next_of m ≡ Some x
+pub left_made : (m : MachineState) (signed : List (Option Hashkey)) (x : Action) (others : List Entry) → IsAble m → next_due m ≡ Some x
     → made_by m.me others ≡ [] → IsLegal m.deal x.arc (history m.known x.arc ++ others)
     → left m.deal m.me (made_of m signed x others).known + 1 ≤ left m.deal m.me m.known
 left_made m signed x others k e none legal =
@@ -131,10 +132,10 @@ left_made m signed x others k e none legal =
     is.slot_in is.below is.fresh (ap (test_of is.slot) (ap (λ z. cond z (Some x.call) None) (eq-eqb m.me m.me refl)) ∙ is.passes)
 
 -- who may make no further call has nothing due
-pub none_left : (m : MachineState) → IsAble m → left m.deal m.me m.known ≡ 0 → next_of m ≡ None
-none_left m k none = go (next_of m) refl
+pub none_left : (m : MachineState) → IsAble m → left m.deal m.me m.known ≡ 0 → next_due m ≡ None
+none_left m k none = go (next_due m) refl
   where
-    go : (o : Option Action) → next_of m ≡ o → next_of m ≡ None
+    go : (o : Option Action) → next_due m ≡ o → next_due m ≡ None
     go None e = e
     go (Some x) e =
         let is = due_of m x k e in

@@ -7,11 +7,12 @@ use Rattle.swap_job.specs.declared.job.Role.{Role}
 use Rattle.swap_job.specs.declared.job.Role.TheVariants.{Conforming, Manual, Script, Strategy}
 use Rattle.swap_job.specs.Crafted.{Seeds}
 use Rattle.swap_run.specs.Run.{Cast, State, Plan, plan_of, role_of}
-use Rattle.party_threads.specs.Played.{Gives, IsAnswered}
+use Rattle.swap_world.specs.Gone.{MayGive}
+use Rattle.party_threads.specs.Played.{IsAnswered}
 use Rattle.party_threads.specs.Race.{rounds_for, IsRound, IsOfRounds, IsRaceBook, SaysMore, RacesSayLess}
 use Rattle.party_threads.specs.Views.{AreAnswered, PlaysByViews, HasPlayed}
 
-module _ (gives other : Gives) (more : SaysMore gives other) where
+module _ (gives other : MayGive) (more : SaysMore gives other) where
   -- A round.
 
   answer_more : (d : Deal) (seeds : Seeds) (v : ℕ) (view : Histories) (o : Option (ℕ × Call)) (n m : Plan) (role : Role)

@@ -24,9 +24,10 @@ use Rattle.swap_rules.specs.Machine.{Begins}
 use Rattle.swap_rules.proofs.Prefixes.{same_or_not}
 use Rattle.swap_rules.proofs.Conducting.{Next, next_call, next_legal, next_begins, history_same, history_other}
 use Rattle.swap_run.specs.Run.{Plan, plan_up_to}
+use Rattle.swap_world.specs.Gone.{MayGive}
 use Rattle.party_threads.specs.Later.{pass_in, WentOn, HaveGoneOn}
 use Rattle.party_threads.specs.Tracks.{Watcher, Tracks, HaveSeenAll, HasItsPasses, IsPlaceOf, HasMade, MadeIf, LookedIf}
-use Rattle.party_threads.specs.Played.{Gives, planner_of, calls_by, answer_on, HaveFresh, HaveGrown, IsAnswered, HasCalled, HasPlayed}
+use Rattle.party_threads.specs.Played.{planner_of, calls_by, answer_on, HaveFresh, HaveGrown, IsAnswered, HasMadeCall, HasPlayed}
 use Rattle.party_threads.proofs.Passes.{any_default, place_of, tracks_on, seen_of}
 use Rattle.party_threads.proofs.Looking.{IsLooking}
 use Rattle.party_threads.proofs.Calls.{others_add_none, few, none_more, one_more}
@@ -76,7 +77,7 @@ same_calls : (d : Deal) (v : ℕ) (k : Histories) (a : ℕ) (h : List Entry) →
 same_calls d v k a h view lt is = ap (calls_by v) is ∙ none_more (calls_by v (history k a)) (few_known d v k a view lt)
 
 -- nothing is called where nothing is answered
-pub calls_nothing : (d : Deal) (v : ℕ) (k : Histories) → IsView d v k → HasCalled d v None k k
+pub calls_nothing : (d : Deal) (v : ℕ) (k : Histories) → IsView d v k → HasMadeCall d v None k k
 calls_nothing d v k view a lt = same_calls d v k a (history k a) view lt refl
 
 pub grows_self : (k : Histories) → HaveGrown k k
@@ -87,7 +88,7 @@ pub record HasDone (ledgers : List SharedState) (d : Deal) (v : ℕ) (answer : O
   pub tracks : Tracks ledgers (planner_of d v m) qs
   pub view : IsView d v m.known
   pub grown : HaveGrown n.known m.known
-  pub called : HasCalled d v answer n.known m.known
+  pub called : HasMadeCall d v answer n.known m.known
   pub moves : m.moves ≡ n.moves
   pub turns : m.turns ≡ n.turns
 
@@ -223,7 +224,7 @@ whole_known ledgers w ps qs tracks gone all places a p lt e =
     subst (λ s. IsPrefix s (history w.known a)) (ap (λ (r : PassState). r.shared) went.2.1)
     (subst (IsPrefix went.0.shared) (seen_of ledgers w qs a went.0 tracks lt1 went.1) (all a went.0 lt1 went.1))
 
-answered_as : (gives : Gives) (d : Deal) (seeds : Seeds) (v : ℕ) (view : Histories) (answer : Option (ℕ × Call)) (n0 n1 n2 n3 : Plan) (role : Role)
+answered_as : (gives : MayGive) (d : Deal) (seeds : Seeds) (v : ℕ) (view : Histories) (answer : Option (ℕ × Call)) (n0 n1 n2 n3 : Plan) (role : Role)
     → n1.moves ≡ n0.moves → n1.turns ≡ n0.turns → n3.moves ≡ n2.moves → IsAnswered gives d seeds v view answer n1 n2 role
     → IsAnswered gives d seeds v view answer n0 n3 role
 answered_as gives d seeds v view answer n0 n1 n2 n3 (Script moves) m t u h = (h.0 ∙ ap (script_call d seeds view) m, u ∙ (h.1 ∙ ap (moves_left view) m))
@@ -231,10 +232,11 @@ answered_as gives d seeds v view answer n0 n1 n2 n3 (Strategy name) m t u h = su
 answered_as gives d seeds v view answer n0 n1 n2 n3 Conforming m t u h = tt
 answered_as gives d seeds v view answer n0 n1 n2 n3 Manual m t u h = tt
 
-pub has_played : (gives : Gives) (ledgers : List SharedState) (d : Deal) (seeds : Seeds) (role : Role) (v : ℕ) (answer : Option (ℕ × Call)) (n0 n1 n2 n3 : Plan)
+pub has_played : (gives : MayGive) (ledgers : List SharedState) (d : Deal) (seeds : Seeds) (role : Role) (v : ℕ) (answer : Option (ℕ × Call))
+    (n0 n1 n2 n3 : Plan)
     (ps qs : List (Option PassState)) → Tracks ledgers (planner_of d v n1) qs → HaveGoneOn ps qs → HaveSeenAll qs → length qs ≡ length ps → IsView d v n1.known
     → HaveFresh v n0.known n1.known → n1.moves ≡ n0.moves → n1.turns ≡ n0.turns → IsAnswered gives d seeds v n1.known answer n1 n2 role
-    → MayAnswer d v answer → n2.turns ≡ n1.turns + 1 → n2.known ≡ n1.known → HaveGrown n2.known n3.known → HasCalled d v answer n2.known n3.known
+    → MayAnswer d v answer → n2.turns ≡ n1.turns + 1 → n2.known ≡ n1.known → HaveGrown n2.known n3.known → HasMadeCall d v answer n2.known n3.known
     → n3.moves ≡ n2.moves → n3.turns ≡ n2.turns → HasPlayed gives d seeds role v ps n0 n3
 has_played gives ledgers d seeds role v answer n0 n1 n2 n3 ps qs tracks gone all places view fresh moves turns answered may once same grown called moves3
     turns3 =

@@ -17,8 +17,7 @@ use Rattle.ledger_shared.specs.Value.{made_by, ticks_in_order}
 use Rattle.swap_rules.specs.Conduct.{IsConducted}
 use Rattle.swap_rules.specs.Due.{due}
 use Rattle.swap_rules.specs.Machine.{Begins, Knows}
-use Rattle.swap_rules.specs.Rounds.{IsRounds, IsTurn, IsDoneBy, IsRaceTurn, book_at}
-use Rattle.swap_rules.specs.Rounds as laws
+use Rattle.swap_rules.specs.Rounds.{IsRounds, IsTurn, IsDoneBy, IsRaceTurn, book_at, AreRaceBooks}
 use Rattle.swap_rules.proofs.Rounds.{rounds_in_time, rounds_on_time}
 use Rattle.swap_rules.proofs.Dealing.{all_dealt}
 use Rattle.party_wallet.specs.Value.{signed_in}
@@ -29,7 +28,7 @@ use Rattle.swap_run.proofs.Acts.{first_none}
 use Rattle.swap_run.proofs.Good.{start_is_good, good_is_kept, empty_at}
 use Rattle.party_threads.specs.Race.{rounds_for, IsRound, IsRaced, books_of, IsOfRounds, IsRaceBook, RacesAreKept, ticks_of_rounds}
 use Rattle.typed_books.specs.Books.{IsTypedBook}
-use Rattle.party_threads.specs.Played.{Gives}
+use Rattle.swap_world.specs.Gone.{MayGive}
 use Rattle.party_threads.specs.Views.{PlaysByViews}
 use Rattle.party_threads.proofs.Clocks.{height_of_ticks}
 use Rattle.party_threads.proofs.Resting.{rest_shows_in_calls}
@@ -45,7 +44,7 @@ height_of_rounds ticks (suc r) =
     let here = height_of_rounds ticks r in
     omega arith
 
-module _ (gives : Gives) (c : Cast) (ticks rounds : ℕ) (ready : IsReadyCast c) (some : 1 ≤ ticks) (states : ℕ → State) (first : states 0 ≡ start c)
+module _ (gives : MayGive) (c : Cast) (ticks rounds : ℕ) (ready : IsReadyCast c) (some : 1 ≤ ticks) (states : ℕ → State) (first : states 0 ≡ start c)
     (each : (r : ℕ) → r < rounds → IsRound gives c ticks (states r) (states (r + 1))) where
   next : (r : ℕ) → suc r ≡ r + 1
   next r = omega arith
@@ -142,7 +141,7 @@ module _ (gives : Gives) (c : Cast) (ticks rounds : ℕ) (ready : IsReadyCast c)
             (first_none (due c.deal v (c.wallet v) (signed_in n.signed) n.known) ((each r l).rests v lv cv));
       }
 
-  listed : (v : ℕ) → v < c.deal.graph.n → conforms c v ≡ true → laws.IsRaced c.deal v (c.wallet v) ticks rounds (books_of states rounds)
+  listed : (v : ℕ) → v < c.deal.graph.n → conforms c v ≡ true → AreRaceBooks c.deal v (c.wallet v) ticks rounds (books_of states rounds)
   listed v lv cv = record {
     number = length-map-range_with_len (λ r. (states r).book) 0 (rounds + 1);
     legal = λ r l. subst (IsLegalBook c.deal) (sym (book_is r l)) (good r l).legal;
@@ -165,7 +164,7 @@ module _ (gives : Gives) (c : Cast) (ticks rounds : ℕ) (ready : IsReadyCast c)
     end = states rounds;
     raced = record { states = states; first = first; last = ap states (sym is); each = λ r l. each r (subst (λ n. r < n) (sym is) l) };
     book = refl;
-    listed = λ v lv cv. subst (λ n. laws.IsRaced c.deal v (c.wallet v) ticks n (books_of states n)) is (listed v lv cv);
+    listed = λ v lv cv. subst (λ n. AreRaceBooks c.deal v (c.wallet v) ticks n (books_of states n)) is (listed v lv cv);
   }
 
   kept : the_horizon c.deal < rounds * ticks → rounds ≡ rounds_for c.deal ticks → IsTypedBook (states rounds).book
@@ -206,13 +205,13 @@ races_are_kept gives c ticks t ready some raced typed =
     (subst (λ (s : State). IsTypedBook s.book) (sym raced.last) typed))
 
 -- after so many rounds, whether they pass the horizon or not
-pub level_after : (gives : Gives) (c : Cast) (ticks r : ℕ) (t : State) → IsReadyCast c → 1 ≤ ticks → IsRaced gives c ticks r t → (a : ℕ)
+pub level_after : (gives : MayGive) (c : Cast) (ticks r : ℕ) (t : State) → IsReadyCast c → 1 ≤ ticks → IsRaced gives c ticks r t → (a : ℕ)
     → IsIn a (arcs c.deal.graph) → height (history t.book a) ≡ r * ticks
 level_after gives c ticks r t ready some raced a i =
     subst (λ (s : State). height (history s.book a) ≡ r * ticks) raced.last
     (level gives c ticks r ready some raced.states raced.first raced.each r a (omega arith) i)
 
-pub ticked_after : (gives : Gives) (c : Cast) (ticks r : ℕ) (t : State) → IsReadyCast c → 1 ≤ ticks → IsRaced gives c ticks r t → (a : ℕ)
+pub ticked_after : (gives : MayGive) (c : Cast) (ticks r : ℕ) (t : State) → IsReadyCast c → 1 ≤ ticks → IsRaced gives c ticks r t → (a : ℕ)
     → IsIn a (arcs c.deal.graph)
     → ticks_in_order (history t.book a) ≡ ticks_of_rounds ticks r
 ticked_after gives c ticks r t ready some raced a i =

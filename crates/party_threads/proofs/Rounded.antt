@@ -18,6 +18,7 @@ use Rattle.ledger_core.specs.Ledger.{tick_entry}
 use Rattle.ledger_core.specs.Value.{LedgerState}
 use Rattle.ledger_core.specs.Book.{Histories, history, IsLegalBook}
 use Rattle.ledger_shared.specs.Value.{PassState, made_by, ticks_in_order, clock_at}
+use Rattle.swap_job.specs.Roles.{role_in}
 use Rattle.swap_job.specs.declared.job.Job.{Job}
 use Rattle.deviators.proofs.Answering.{leaves, enters}
 use Rattle.party_wallet.specs.Value.{signed_in}
@@ -31,15 +32,15 @@ use Rattle.swap_rules.proofs.Prefixes.{begins_refl, begins_more}
 use Rattle.swap_rules.proofs.Growth.{Grows}
 use Rattle.swap_run.specs.Run.{Notes, Plan, State, conforms, is_planned, notes_of, plan_of, next_of}
 use Rattle.swap_job.specs.declared.job.Role.{Role}
-use Rattle.party_threads.specs.Played.{Gives, calls_by, answer_on, IsAnswered}
+use Rattle.party_threads.specs.Played.{calls_by, answer_on, IsAnswered}
 use Rattle.party_threads.specs.Views.{HasPlayed}
 use Rattle.swap_run.specs.Laws.{AreGoodNotes, IsGoodPlan, IsGood}
 use Rattle.swap_run.proofs.Good.{good_notes}
 use Rattle.swap_run.proofs.Plans.{plan_grown}
-use Rattle.party_threads.specs.Able.{IsSameOwner}
 use Rattle.swap_world.specs.Cast.{cast_of}
 use Rattle.swap_world.specs.Inside.{IsLedgerOf}
-use Rattle.swap_world.specs.Actors.{role_in}
+use Rattle.swap_world.specs.Gone.{MayGive}
+use Rattle.swap_world.specs.Acting.{IsSameOwner}
 use Rattle.party_threads.specs.declared.turn.Actor.{Actor}
 use Rattle.party_threads.specs.declared.turn.Actor.TheVariants.{Conforming, Planned, Manual, Clock}
 use Rattle.party_threads.specs.declared.turn.Turn.{Turn}
@@ -102,7 +103,8 @@ near_touches : (d : Deal) (v a : ℕ) → IsNear d v a → (a < length d.graph.a
 near_touches d v a (inl i) = leaves d v a i
 near_touches d v a (inr i) = enters d v a i
 
-module _ (gives : Gives) (job : Job) (ticks : ℕ) (ls ls' : List (Option LedgerState)) (ts ts1 ts2 ts3 : List Turn) (locks : List TableId) (s : Stands job ls ts)
+module _ (gives : MayGive) (job : Job) (ticks : ℕ) (ls ls' : List (Option LedgerState)) (ts ts1 ts2 ts3 : List Turn) (locks : List TableId)
+    (s : Stands job ls ts)
     (dealt : AreDealt job.deal ts1 locks ls) (many : length locks ≡ length job.deal.graph.arcs) (shape : IsSameShape ts ts1) (number : length ts2 ≡ length ts1)
     (taken : (v : ℕ) → v < length ts1 → HasTaken (slice_get ts1 v) (slice_get ts2 v)) (wide : length ls' ≡ length job.deal.graph.arcs)
     (closed : (a : ℕ) → a < length job.deal.graph.arcs → IsShut job.deal ts2 a (ledger_at ls' a))

@@ -13,12 +13,12 @@ use Rattle.swap_run.specs.Run.{Cast, State, start}
 use Rattle.swap_run.specs.Laws.{IsReadyCast}
 use Rattle.swap_run.specs.Fair.{the_horizon}
 use Rattle.swap_run.proofs.Ticks.{horizon_low}
+use Rattle.swap_world.specs.Gone.{MayGive}
 use Rattle.party_threads.specs.Race.{rounds_for, IsRound, IsRaced, ticks_of_rounds}
-use Rattle.party_threads.specs.Played.{Gives}
 use Rattle.party_threads.specs.Standing.{AllHaveRoom}
 use Rattle.party_threads.proofs.Racing.{ticked_after, level_after}
 
-pub no_rounds : (gives : Gives) (c : Cast) (ticks rounds : ℕ) (s : State) → rounds ≡ 0 → s ≡ start c → IsRaced gives c ticks rounds s
+pub no_rounds : (gives : MayGive) (c : Cast) (ticks rounds : ℕ) (s : State) → rounds ≡ 0 → s ≡ start c → IsRaced gives c ticks rounds s
 no_rounds gives c ticks rounds s none e = record { states = λ r. s; first = e; last = refl; each = λ r lt. absurd (omega (arith, lt, none)) }
 
 abbrev later : (ℕ → State) → ℕ → State → ℕ → State
@@ -30,7 +30,7 @@ then_new f rounds r new is = ap (λ b. if b then new else f r) (eq-eqb r (rounds
 then_old : (f : ℕ → State) (rounds r : ℕ) (new : State) → r ≢ rounds + 1 → later f rounds new r ≡ f r
 then_old f rounds r new other = ap (λ b. if b then new else f r) (ne_eqb r (rounds + 1) other)
 
-module _ (gives : Gives) (c : Cast) (ticks rounds : ℕ) (mid new : State) (k : IsRaced gives c ticks rounds mid) (step : IsRound gives c ticks mid new) where
+module _ (gives : MayGive) (c : Cast) (ticks rounds : ℕ) (mid new : State) (k : IsRaced gives c ticks rounds mid) (step : IsRound gives c ticks mid new) where
   one_more : (r : ℕ) → r < rounds + 1 → (r ≡ rounds) ⊎ (r ≢ rounds) → IsRound gives c ticks (later k.states rounds new r) (later k.states rounds new (r + 1))
   one_more r lt (inl e) =
       let not_last : r ≢ rounds + 1 = λ q. omega (arith, e, q) in
@@ -68,7 +68,7 @@ few_rounds d ticks r some lt =
     (omega (arith, own), omega (arith, more, whole))
 
 -- before each round the ledgers have room for its tick
-pub room_left : (gives : Gives) (c : Cast) (ticks r : ℕ) (s : State) → IsReadyCast c → 1 ≤ ticks → ticks ≤ 1000 → r < rounds_for c.deal ticks
+pub room_left : (gives : MayGive) (c : Cast) (ticks r : ℕ) (s : State) → IsReadyCast c → 1 ≤ ticks → ticks ≤ 1000 → r < rounds_for c.deal ticks
     → IsRaced gives c ticks r s
     → AllHaveRoom ticks c.deal s.book
 room_left gives c ticks r s ready some below lt raced a la =

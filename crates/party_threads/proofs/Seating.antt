@@ -30,16 +30,14 @@ use Rattle.swap_rules.proofs.Accepted.{accepted_is_well_sized}
 use Rattle.swap_run.specs.Shown.{IsShown}
 use Rattle.swap_world.specs.Cast.{cast_of, wallet_with}
 use Rattle.swap_world.specs.Inside.{IsLedgerOf}
-use Rattle.swap_world.specs.Actors.{role_in, AreHeld, IsHeld as IsHeldIn}
-use Rattle.swap_job.specs.declared.job.Role.{Role}
-use Rattle.swap_job.specs.declared.job.Role.TheVariants as kinds
+use Rattle.swap_world.specs.Actors.{AreHeld}
 use Rattle.party_threads.specs.declared.turn.Actor.{Actor}
 use Rattle.party_threads.specs.declared.turn.Actor.TheVariants.{Conforming, Planned, Manual, Clock}
 use Rattle.party_threads.specs.declared.turn.Turn.{Turn}
 use Rattle.party_threads.specs.Tracks.{Watcher, IsPassOf}
 use Rattle.party_threads.specs.Able.{watcher, IsAble}
 use Rattle.party_threads.specs.Ticks.{HaveRoom, AreClocksOf}
-use Rattle.party_threads.specs.Played.{planner_of, IsHeld}
+use Rattle.party_threads.specs.Played.{planner_of}
 use Rattle.party_threads.specs.Took.{IsMachineSeated, IsPlannerSeated, IsActorSeated, IsSeated}
 use Rattle.party_threads.specs.Turns.{actor_of, passes_of, clocks_of, actor_at, held_at, ledger_at, started, HasArc, IsBehind, AreBehind, HavePlaces}
 use Rattle.party_threads.specs.Turns.{AreDealt, IsSameShape}
@@ -77,13 +75,6 @@ history_is ls a l e lt = get_or-map history_in ls a None [] lt ∙ ap history_in
 few_parties : (v : Version) → most_parties v ≤ 32
 few_parties One = omega arith
 few_parties Two = omega arith
-
--- what is held for a world is held for a turn
-held_as : (holds : List ℕ → Bool) (role : Role) → IsHeldIn holds role → IsHeld holds role
-held_as holds kinds.Conforming h = tt
-held_as holds kinds.Manual h = tt
-held_as holds (kinds.Script moves) h = tt
-held_as holds (kinds.Strategy name) h = h
 
 module _ (job : Job) (ls : List (Option LedgerState)) (ts : List Turn) (s : Stands job ls ts) where
   abbrev d : Deal
@@ -249,7 +240,7 @@ module _ (job : Job) (ls : List (Option LedgerState)) (first ts : List Turn) (sh
           place = place;
           shown = plan_shown job ls first s v n lv before;
           planned = who.1;
-          held = held_as holds (role_in job v) (held v place);
+          held = held v place;
           tracks = record {
             places = wide;
             shared = many;

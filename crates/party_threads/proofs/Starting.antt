@@ -1,36 +1,35 @@
 -- How a race begins.
-use Rattle.std.proofs.Common.{zero-add, ◌≡◌, ℕ, ◌+◌, ◌<◌, Bool, true, false, List, [], ◌∷◌, ◌++◌, length, map, replicate, slice_get, get_or, slice_index_or}
-use Rattle.std.proofs.Common.{is_some, Option, Some, None, refl, sym, ap, ◌∙◌, subst, arith, if◌then◌else◌}
+use Rattle.std.proofs.Common.{zero-add, ◌≡◌, ℕ, ◌+◌, ◌<◌, List, [], ◌∷◌, ◌++◌, length, map, replicate, slice_get, get_or, slice_index_or}
+use Rattle.std.proofs.Common.{Option, Some, None, refl, sym, ap, ◌∙◌, subst, arith}
 use Rattle.std.specs.List.{range_with_len}
 use Rattle.std.proofs.lemmas.List.{length-map, get_or-map, length-replicate, get_or-replicate, same_lists}
 use Rattle.std.proofs.lemmas.List.FromFn.{get_or-map-range_with_len, length-map-range_with_len}
-use Rattle.std.proofs.lemmas.Bool.{false≢true}
 use Rattle.swap_digraph.specs.declared.deal.Deal.{Deal}
 use Rattle.ledger_core.specs.Value.{LedgerState}
 use Rattle.ledger_core.specs.Book.{Histories, history}
+use Rattle.swap_job.specs.Roles.{role_in}
 use Rattle.swap_job.specs.declared.job.Job.{Job}
-use Rattle.swap_job.specs.declared.job.Role.{Role}
 use Rattle.swap_job.specs.declared.job.Role.TheVariants as kinds
-use Rattle.party_wallet.specs.Fits.{wrong_lock}
 use Rattle.swap_rules.specs.Accepted.{IsAccepted}
-use Rattle.swap_rules.specs.Machine.{IsWallet}
+use Rattle.swap_rules.specs.Machine.{Knows}
 use Rattle.swap_rules.proofs.Conducting.{knows_all}
-use Rattle.swap_run.specs.Run.{Notes, Plan, State, no_notes, no_histories, first_plan, is_planned, start}
+use Rattle.swap_run.specs.Run.{Notes, Plan, State, no_notes, no_histories, first_plan, start}
 use Rattle.swap_run.specs.Laws.{IsReadyCast, IsGood}
 use Rattle.swap_run.proofs.Good.{start_is_good, replicated}
 use Rattle.swap_world.specs.Acting.{histories}
-use Rattle.swap_world.specs.Cast.{cast_of, is_conforming, wallet_with}
+use Rattle.swap_world.specs.Cast.{cast_of}
 use Rattle.swap_world.specs.Inside.{new_ledger, new_ledgers}
-use Rattle.swap_world.specs.Actors.{role_in, HaveSeeds, HaveRoles}
+use Rattle.swap_world.specs.Actors.{acts_for, AllFit, ConformingHaveSeeds, HaveRoles}
+use Rattle.swap_world.specs.declared.actor.Actor.{Actor as Party}
+use Rattle.swap_world.specs.declared.actor.Actor.TheVariants as parties
 use Rattle.swap_world.proofs.Ledgers.{none_yet}
-use Rattle.swap_world.proofs.Team.{role_each}
-use Rattle.party_machine.proofs.Good.{fitting_is_good}
+use Rattle.swap_world.proofs.Team.{IsOwn, is_own, is_ready, role_each}
 use Rattle.party_threads.specs.declared.turn.Actor.{Actor}
 use Rattle.party_threads.specs.declared.turn.Actor.TheVariants.{Clock}
 use Rattle.party_threads.specs.declared.turn.Turn.{Turn}
 use Rattle.party_threads.specs.Turns.{actor_of, passes_of, clocks_of, actor_at, ledger_at, IsHome}
 use Rattle.party_threads.specs.Standing.{book_in, notes_in, notes_at, plan_in, plan_at, state_of, IsActorIn, KnowsOwn, Stands}
-use Rattle.party_threads.specs.FirstTurns.{wrong_with, AllFit, by_role, acts_with, acts_for, IsNewTurn, AreNew}
+use Rattle.party_threads.specs.FirstTurns.{racer_of, IsNewTurn, AreNew}
 use Rattle.swap_digraph.proofs.Ranges.{map_more}
 use Rattle.party_threads.proofs.Turning.{get_there}
 use Rattle.party_threads.proofs.Placing.{map_append}
@@ -55,60 +54,19 @@ pub record Acts (job : Job) (v : ℕ) (x : Actor) : Type 0 where
   pub notes : notes_in job.deal x ≡ no_notes job.deal
   pub plan : plan_in job.deal x ≡ first_plan job.deal (role_in job v)
   pub own : KnowsOwn v x (no_histories job.deal)
-  pub wallet : slice_index_or job.conforming v false ≡ true
-      → (seed : List ℕ) × (slice_index_or job.seeds v None ≡ Some seed) × (wrong_lock job.deal v seed ≡ None)
 
-by_itself : (job : Job) (v : ℕ) (role : Role) → slice_index_or job.conforming v false ≡ false → role_in job v ≡ role → Acts job v (by_role job.deal role)
-by_itself job v kinds.Conforming ec er = record {
-  is = (ec, ap is_planned er);
-  notes = refl;
-  plan = sym (ap (first_plan job.deal) er);
-  own = tt;
-  wallet = λ t. absurd (false≢true (sym ec ∙ t));
-}
-by_itself job v kinds.Manual ec er = record {
-  is = (ec, ap is_planned er);
-  notes = refl;
-  plan = sym (ap (first_plan job.deal) er);
-  own = tt;
-  wallet = λ t. absurd (false≢true (sym ec ∙ t));
-}
-by_itself job v (kinds.Script moves) ec er = record {
-  is = (ec, ap is_planned er);
-  notes = refl;
-  plan = sym (ap (first_plan job.deal) er);
-  own = λ a. knows_all v (history (no_histories job.deal) a);
-  wallet = λ t. absurd (false≢true (sym ec ∙ t));
-}
-by_itself job v (kinds.Strategy name) ec er = record {
-  is = (ec, ap is_planned er);
-  notes = refl;
-  plan = sym (ap (first_plan job.deal) er);
-  own = λ a. knows_all v (history (no_histories job.deal) a);
-  wallet = λ t. absurd (false≢true (sym ec ∙ t));
+acts_as : (job : Job) (v : ℕ) (x : Party) → IsOwn job v x → Acts job v (racer_of x)
+acts_as job v (parties.Conforming m) k = record { is = k.is; notes = k.notes; plan = k.plan; own = tt }
+acts_as job v parties.Manual k = record { is = k.is; notes = k.notes; plan = k.plan; own = tt }
+acts_as job v (parties.Planned n) k = record {
+  is = k.is;
+  notes = k.notes;
+  plan = k.plan;
+  own = λ a. subst (λ (m : Plan). Knows v (history m.known a) (history (no_histories job.deal) a)) (sym k.plan)
+      (knows_all v (history (no_histories job.deal) a));
 }
 
--- the plan of a party that conforms is one of no moves
-no_moves : (d : Deal) (role : Role) → is_conforming role ≡ true → first_plan d kinds.Manual ≡ first_plan d role
-no_moves d kinds.Conforming e = refl
-no_moves d kinds.Manual e = absurd (cc e)
-no_moves d (kinds.Script moves) e = absurd (cc e)
-no_moves d (kinds.Strategy name) e = absurd (cc e)
-
-acts_by : (job : Job) (v : ℕ) (b : Bool) (o : Option (List ℕ)) → slice_index_or job.conforming v false ≡ b → slice_index_or job.seeds v None ≡ o
-    → b ≡ is_conforming (role_in job v) → (b ≡ true → is_some o ≡ true) → (if b then wrong_with job.deal v o else None) ≡ None
-    → Acts job v (if b then acts_with job.deal (role_in job v) v o else by_role job.deal (role_in job v))
-acts_by job v false o eb eo er there fits = by_itself job v (role_in job v) eb refl
-acts_by job v true None eb eo er there fits = absurd (false≢true (there refl))
-acts_by job v true (Some seed) eb eo er there fits = record {
-  is = (eb, refl, refl, eo);
-  notes = refl;
-  plan = no_moves job.deal (role_in job v) (sym er);
-  own = tt;
-  wallet = λ t. (seed, eo, fits);
-}
-
-module _ (job : Job) (ts : List Turn) (accepted : IsAccepted job.deal) (seeds : HaveSeeds job) (roles : HaveRoles job) (fit : AllFit job)
+module _ (job : Job) (ts : List Turn) (accepted : IsAccepted job.deal) (seeds : ConformingHaveSeeds job) (roles : HaveRoles job) (fit : AllFit job)
     (new : AreNew job ts) where
   abbrev d : Deal
   d = job.deal
@@ -116,34 +74,20 @@ module _ (job : Job) (ts : List Turn) (accepted : IsAccepted job.deal) (seeds : 
   abbrev ls : List (Option LedgerState)
   ls = map (λ l. Some l) (new_ledgers d)
 
-  role_is : (v : ℕ) → v < d.graph.n → slice_index_or job.conforming v false ≡ is_conforming (role_in job v)
-  role_is v lv =
-      ap (λ (bs : List Bool). get_or bs v false) roles.conforming
-      ∙ get_or-map is_conforming job.roles v kinds.Manual false (subst (λ n. v < n) (sym (role_each job seeds roles)) lv)
+  acts_at : (v : ℕ) → v < d.graph.n → Acts job v (racer_of (acts_for job v))
+  acts_at v lv = acts_as job v (acts_for job v) (is_own job v seeds roles fit lv)
 
-  acts_at : (v : ℕ) → v < d.graph.n → Acts job v (acts_for job v)
-  acts_at v lv =
-      acts_by job v (slice_index_or job.conforming v false) (slice_index_or job.seeds v None) refl refl (role_is v lv) (seeds.there v lv) (fit v lv)
-
-  turn_at : (v : ℕ) → v < d.graph.n → (t : Turn) × (slice_get ts v ≡ Some t) × IsNewTurn d (acts_for job v) t
+  turn_at : (v : ℕ) → v < d.graph.n → (t : Turn) × (slice_get ts v ≡ Some t) × IsNewTurn d (racer_of (acts_for job v)) t
   turn_at v lv = let n = new.number in let t = get_there ts v (omega (arith, n, lv)) in (t.0, t.1, new.each v t.0 lv t.1)
 
   clock_turn : (t : Turn) × (slice_get ts d.graph.n ≡ Some t) × IsNewTurn d Clock t
   clock_turn = let n = new.number in let t = get_there ts d.graph.n (omega (arith, n)) in (t.0, t.1, new.clock t.0 t.1)
 
-  actor_is : (v : ℕ) → v < d.graph.n → actor_at ts v ≡ acts_for job v
+  actor_is : (v : ℕ) → v < d.graph.n → actor_at ts v ≡ racer_of (acts_for job v)
   actor_is v lv = let t = turn_at v lv in ap actor_of t.1 ∙ t.2.actor
 
   pub cast : IsReadyCast (cast_of job)
-  cast = record {
-    accepted = accepted;
-    one_each = seeds.conforming;
-    roles = role_each job seeds roles;
-    wallets = λ v lv t.
-        let f = (acts_at v lv).wallet t in
-        subst (λ o. IsWallet d v (wallet_with o v d)) (sym f.1) (fitting_is_good d v f.0 accepted lv f.2);
-    scripts = roles.scripts;
-  }
+  cast = is_ready job accepted seeds roles fit
 
   all_notes : map (notes_at d ts) (range_with_len 0 d.graph.n) ≡ replicate d.graph.n (no_notes d)
   all_notes =

@@ -5,10 +5,10 @@ use Rattle.swap_base.specs.Lists.{IsIn}
 use Rattle.std.proofs.lemmas.Option.{slice_get-get_or}
 use Rattle.swap_digraph.specs.declared.deal.Deal.{Deal}
 use Rattle.swap_job.specs.declared.job.Job.{Job}
+use Rattle.swap_world.specs.Gone.{MayGive}
 use Rattle.party_threads.specs.declared.turn.Turn.{Turn}
 use Rattle.party_threads.specs.Later.{HaveGoneOn}
 use Rattle.party_threads.specs.Ticks.{HaveClocksGoneOn}
-use Rattle.party_threads.specs.Played.{Gives}
 use Rattle.party_threads.specs.Took.{IsSameActor, Did, Took}
 use Rattle.party_threads.specs.Turns.{actor_of, passes_of, clocks_of, HavePlaces, IsSameShape}
 
@@ -31,10 +31,10 @@ pub record HasTaken (o p : Option Turn) : Type 0 where
   pub clocks : HaveClocksGoneOn (clocks_of o) (clocks_of p)
   pub clock_places : length (clocks_of p) ≡ length (clocks_of o)
 
-abbrev pub HasDone : Gives → Job → ℕ → ℕ → Option Turn → Option Turn → Type 0
+abbrev pub HasDone : MayGive → Job → ℕ → ℕ → Option Turn → Option Turn → Type 0
 HasDone gives job ticks v o p = Did gives job ticks v (passes_of o) (passes_of p) (clocks_of o) (clocks_of p) (actor_of o) (actor_of p)
 
-module _ (gives : Gives) (job : Job) (ticks : ℕ) (ts us : List Turn) (same : length us ≡ length ts)
+module _ (gives : MayGive) (job : Job) (ticks : ℕ) (ts us : List Turn) (same : length us ≡ length ts)
     (took : (i : ℕ) (t : Turn) → i < length ts → Took gives job ticks i (get_or ts i t) (get_or us i t)) where
   -- whatever holds of two turns of one number holds where they stand
   of_two : (P : Option Turn → Option Turn → Type 0) (v : ℕ) (t : Turn) → v < length ts → P (Some (get_or ts v t)) (Some (get_or us v t))

@@ -13,12 +13,14 @@ use Rattle.swap_job.specs.declared.job.Role.TheVariants.{Conforming, Manual, Scr
 use Rattle.deviators.specs.Script.{next_call, moves_left}
 use Rattle.deviators.specs.View.{IsView, MayAnswer}
 use Rattle.swap_job.specs.Fitting.{is_near}
+use Rattle.swap_job.specs.Roles.{script_of}
 use Rattle.swap_rules.specs.Machine.{Begins}
 use Rattle.swap_rules.proofs.Prefixes.{begins_refl, begins_more, begins_height}
-use Rattle.swap_run.specs.Run.{Cast, State, Plan, plan_of, role_of, script_of, first_plan, start}
+use Rattle.swap_run.specs.Run.{Cast, State, Plan, plan_of, role_of, first_plan, start}
 use Rattle.swap_run.specs.Laws.{IsReadyCast, IsGood}
 use Rattle.swap_run.proofs.Good.{empty_at}
-use Rattle.party_threads.specs.Played.{Gives, IsAnswered, calls_by, answer_on}
+use Rattle.swap_world.specs.Gone.{MayGive}
+use Rattle.party_threads.specs.Played.{IsAnswered, calls_by, answer_on}
 use Rattle.party_threads.specs.Views.{answers_on, made_on, moves_at, AreAnswered, PlaysByViews, HasPlayed}
 
 -- cutting twice at one place is cutting once
@@ -27,7 +29,7 @@ take_more zero xs ys = refl
 take_more (suc n) [] ys = refl
 take_more (suc n) (x ∷ xs) ys = ap (λ w. x ∷ w) (take_more n xs ys)
 
-module _ (gives : Gives) (c : Cast) (ticks rounds : ℕ) (states : ℕ → State) (v : ℕ) (lv : v < c.deal.graph.n) (ready : IsReadyCast c)
+module _ (gives : MayGive) (c : Cast) (ticks rounds : ℕ) (states : ℕ → State) (v : ℕ) (lv : v < c.deal.graph.n) (ready : IsReadyCast c)
     (first : states 0 ≡ start c) (good : (r : ℕ) → r ≤ rounds → IsGood c (states r))
     (level : (r a : ℕ) → r ≤ rounds → a < length c.deal.graph.arcs → height (history (states r).book a) ≡ r * ticks)
     (grows : (r a : ℕ) → r < rounds → Begins (history (states r).book a) (history (states (r + 1)).book a))

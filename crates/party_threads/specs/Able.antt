@@ -1,15 +1,11 @@
 -- A machine that acts through passes.
-use Rattle.std.specs.Prelude.{◌≡◌, ◌==◌, ◌||◌, ◌<◌, ℕ, true, IsTrue, List, length, set}
-use Rattle.swap_digraph.specs.declared.deal.Deal.{Deal}
-use Rattle.swap_digraph.specs.Deal.{party, counterparty}
+use Rattle.std.specs.Prelude.{◌≡◌, ◌<◌, ℕ, List, length, set}
+use Rattle.swap_digraph.specs.Deal.{party}
 use Rattle.ledger_core.specs.declared.entry.Entry.{Entry}
-use Rattle.ledger_core.specs.History.{fit}
-use Rattle.ledger_core.specs.Known.{presents_valid}
 use Rattle.party_wallet.specs.Value.{signed_in}
 use Rattle.party_machine.specs.Machine.{MachineState}
 use Rattle.party_machine.specs.Wallet.{wallet_of}
 use Rattle.swap_rules.specs.Accepted.{IsAccepted}
-use Rattle.swap_rules.specs.Due.{Action}
 use Rattle.swap_rules.specs.Machine.{IsWallet, IsSound}
 use Rattle.party_threads.specs.Tracks.{Watcher}
 
@@ -29,16 +25,3 @@ pub record IsAble (m : MachineState) : Type 0 where
   pub arcs : length m.known ≡ length m.deal.graph.arcs
   pub signs : length m.signed ≡ length m.deal.leaders
   pub sound : IsSound m.deal m.known (signed_in m.signed) m.me
-
--- Both machines are of one party and one deal, with one seed.
-pub record IsSameOwner (old new : MachineState) : Type 0 where
-  pub deal : new.deal ≡ old.deal
-  pub me : new.me ≡ old.me
-  pub seed : new.seed ≡ old.seed
-
--- The call fits, stands on an arc that touches party v, and presents no hashkey that isn't valid.
-pub record IsMakable (d : Deal) (v : ℕ) (x : Action) : Type 0 where
-  pub arc : x.arc < length d.graph.arcs
-  pub of_the_two : IsTrue ((v == party d x.arc) || (v == counterparty d x.arc))
-  pub fits : IsTrue (fit d x.arc x.call)
-  pub valid : presents_valid d x.arc x.call ≡ true

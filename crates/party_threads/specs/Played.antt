@@ -1,12 +1,11 @@
 -- What a party that follows a script or a strategy does in a turn: it is shown a view, and makes the call that answers the view, if any.
-use Rattle.std.specs.Prelude.{◌≡◌, ℕ, ◌+◌, ◌<◌, ◌==◌, Bool, true, List, [], ◌∷◌, ◌++◌, length, take, slice_index_or, Option, Some, None, if◌then◌else◌}
+use Rattle.std.specs.Prelude.{◌≡◌, ℕ, ◌+◌, ◌<◌, ◌==◌, List, [], ◌∷◌, ◌++◌, length, take, Option, Some, None, if◌then◌else◌}
 use mathlib.Core.List.{IsPrefix}
 use Rattle.swap_digraph.specs.declared.deal.Deal.{Deal}
 use Rattle.ledger_core.specs.declared.entry.Call.{Call}
 use Rattle.ledger_core.specs.declared.entry.Entry.{Entry}
 use Rattle.ledger_core.specs.Book.{Histories, history}
 use Rattle.ledger_shared.specs.Value.{PassState, made_by}
-use Rattle.swap_job.specs.declared.job.Job.{Job}
 use Rattle.swap_job.specs.declared.job.Role.{Role}
 use Rattle.swap_job.specs.declared.job.Role.TheVariants.{Conforming, Manual, Script, Strategy}
 use Rattle.swap_job.specs.Crafted.{Seeds}
@@ -15,24 +14,13 @@ use Rattle.deviators.specs.View.{IsView, MayAnswer}
 use Rattle.swap_rules.specs.Party.{call_by}
 use Rattle.swap_rules.specs.Machine.{Begins}
 use Rattle.swap_run.specs.Run.{Plan}
+use Rattle.swap_world.specs.Gone.{MayGive}
 use Rattle.party_threads.specs.Later.{pass_in}
 use Rattle.party_threads.specs.Tracks.{Watcher}
 
 -- party v of the deal, with what it knows by its plan
 abbrev pub planner_of : Deal → ℕ → Plan → Watcher
 planner_of d v n = record { deal = d; me = v; known = n.known }
-
--- What strategies may answer: by name, deal, party, turn number and what the party knows.
-abbrev pub Gives : Type 1
-Gives = List ℕ → Deal → ℕ → ℕ → Histories → Option (ℕ × Call) → Type 0
-
-abbrev pub role_in : Job → ℕ → Role
-role_in job v = slice_index_or job.roles v Manual
-
--- the strategy that the role follows, if any, is held
-abbrev pub IsHeld : (List ℕ → Bool) → Role → Type 0
-IsHeld holds (Strategy name) = holds name ≡ true
-IsHeld holds _ = Unit {0}
 
 -- What a party has come to know.
 
@@ -64,19 +52,19 @@ answer_on a None = []
 answer_on a (Some x) = if x.0 == a then x.1 ∷ [] else []
 
 -- the answer to a view, by the plan before it, and the plan after it
-abbrev pub IsAnswered : Gives → Deal → Seeds → ℕ → Histories → Option (ℕ × Call) → Plan → Plan → Role → Type 0
+abbrev pub IsAnswered : MayGive → Deal → Seeds → ℕ → Histories → Option (ℕ × Call) → Plan → Plan → Role → Type 0
 IsAnswered gives d seeds v view answer n m (Script moves) = (answer ≡ next_call d seeds view n.moves) × (m.moves ≡ moves_left view n.moves)
 IsAnswered gives d seeds v view answer n m (Strategy name) = gives name d v n.turns view answer
 IsAnswered gives d seeds v view answer n m Conforming = Unit {0}
 IsAnswered gives d seeds v view answer n m Manual = Unit {0}
 
 -- of the answer the call is made, unless the ledger had 32 of the party
-abbrev pub HasCalled : Deal → ℕ → Option (ℕ × Call) → Histories → Histories → Type 0
-HasCalled d v answer old new = (a : ℕ) → a < length d.graph.arcs → calls_by v (history new a) ≡ take 32 (calls_by v (history old a) ++ answer_on a answer)
+abbrev pub HasMadeCall : Deal → ℕ → Option (ℕ × Call) → Histories → Histories → Type 0
+HasMadeCall d v answer old new = (a : ℕ) → a < length d.graph.arcs → calls_by v (history new a) ≡ take 32 (calls_by v (history old a) ++ answer_on a answer)
 
 -- The party with the plan n was shown a view, with all that was shared and none of its own calls that it didn't know, and made the call that is the answer,
 -- if any, unless the ledger had 32 of it; the call stands on an arc that touches it, and fits. Then it has the plan m.
-pub record HasPlayed (gives : Gives) (d : Deal) (seeds : Seeds) (role : Role) (v : ℕ) (ps : List (Option PassState)) (n m : Plan) : Type 0 where
+pub record HasPlayed (gives : MayGive) (d : Deal) (seeds : Seeds) (role : Role) (v : ℕ) (ps : List (Option PassState)) (n m : Plan) : Type 0 where
   pub view : Histories
   pub answer : Option (ℕ × Call)
   pub shown : IsView d v view
@@ -84,7 +72,7 @@ pub record HasPlayed (gives : Gives) (d : Deal) (seeds : Seeds) (role : Role) (v
   pub grows : HaveGrown n.known view
   pub begins : HaveGrown view m.known
   pub own : (a : ℕ) → calls_by v (history view a) ≡ calls_by v (history n.known a)
-  pub called : HasCalled d v answer n.known m.known
+  pub called : HasMadeCall d v answer n.known m.known
   pub answered : IsAnswered gives d seeds v view answer n m role
   pub may : MayAnswer d v answer
   pub turns : m.turns ≡ n.turns + 1

@@ -22,13 +22,12 @@ use Rattle.swap_rules.specs.Late.{ref_of}
 use Rattle.swap_rules.specs.Findings.{rules_of}
 use Rattle.swap_rules.specs.Machine.{Begins, IsSound}
 use Rattle.swap_rules.specs.Laws.{IsOnTime, IsDealt}
-use Rattle.swap_rules.specs.Rounds.{IsNear, IsDoneBy}
-use Rattle.swap_rules.specs.Rounds as laws
+use Rattle.swap_rules.specs.Rounds.{IsNear, IsDoneBy, AreRaceBooks}
 use Rattle.swap_run.specs.Run.{Cast, State, conforms, role_of, is_planned, notes_of, next_of, start}
 use Rattle.swap_run.specs.Laws.{IsReadyCast, IsGood}
 use Rattle.swap_run.specs.Fair.{the_horizon}
 use Rattle.typed_books.specs.Books.{IsTypedBook}
-use Rattle.party_threads.specs.Played.{Gives}
+use Rattle.swap_world.specs.Gone.{MayGive}
 use Rattle.party_threads.specs.Views.{HasPlayed, PlaysByViews}
 
 -- the fewest rounds of so many ticks that pass the horizon
@@ -38,7 +37,7 @@ rounds_for d ticks = the_horizon d / ticks + 1
 -- What a round makes of the book and of what each conforming party has noted, whatever the order of the threads: every conforming party ends its turn with
 -- nothing due, past all that stood as the round began; a party that follows a script or a strategy makes at most the one call that answers its view; nobody
 -- else makes a call; and each ledger has one more tick.
-pub record IsRound (gives : Gives) (c : Cast) (ticks : ℕ) (s t : State) : Type 0 where
+pub record IsRound (gives : MayGive) (c : Cast) (ticks : ℕ) (s t : State) : Type 0 where
   pub good : IsGood c t
   pub grows : (a : ℕ) → Begins (history s.book a) (history t.book a)
   pub ticked : (a : ℕ) → IsIn a (arcs c.deal.graph)
@@ -50,7 +49,7 @@ pub record IsRound (gives : Gives) (c : Cast) (ticks : ℕ) (s t : State) : Type
   pub played : (v : ℕ) → v < c.deal.graph.n → conforms c v ≡ false → is_planned (role_of c v) ≡ true → HasPlayed gives c s t v
 
 -- The state after so many rounds from the start, with those between.
-pub record IsRaced (gives : Gives) (c : Cast) (ticks rounds : ℕ) (t : State) : Type 0 where
+pub record IsRaced (gives : MayGive) (c : Cast) (ticks rounds : ℕ) (t : State) : Type 0 where
   pub states : ℕ → State
   pub first : states 0 ≡ start c
   pub last : states rounds ≡ t
@@ -62,12 +61,12 @@ books_of states rounds = map (λ r. (states r).book) (range_with_len 0 (rounds +
 
 -- The book came of rounds from the start, the fewest that pass the horizon. The books at their ends are, for each conforming party, such a list as the law
 -- speaks of by which races are in time.
-pub record IsOfRounds (gives : Gives) (c : Cast) (ticks : ℕ) (b : Histories) : Type 0 where
+pub record IsOfRounds (gives : MayGive) (c : Cast) (ticks : ℕ) (b : Histories) : Type 0 where
   pub end : State
   pub raced : IsRaced gives c ticks (rounds_for c.deal ticks) end
   pub book : b ≡ end.book
   pub listed : (v : ℕ) → v < c.deal.graph.n → conforms c v ≡ true
-      → laws.IsRaced c.deal v (c.wallet v) ticks (rounds_for c.deal ticks) (books_of raced.states (rounds_for c.deal ticks))
+      → AreRaceBooks c.deal v (c.wallet v) ticks (rounds_for c.deal ticks) (books_of raced.states (rounds_for c.deal ticks))
 
 -- the ticks of so many rounds
 abbrev pub ticks_of_rounds : ℕ → ℕ → List Entry
@@ -75,7 +74,7 @@ ticks_of_rounds ticks zero = []
 ticks_of_rounds ticks (suc r) = ticks_of_rounds ticks r ++ tick_entry ticks (suc r * ticks) Accepted ∷ []
 
 -- What a race promises of its book, whatever the order of the threads.
-pub record IsRaceBook (gives : Gives) (c : Cast) (ticks : ℕ) (b : Histories) : Type 0 where
+pub record IsRaceBook (gives : MayGive) (c : Cast) (ticks : ℕ) (b : Histories) : Type 0 where
   -- it came by rounds, in each of which every conforming party ends its turn with nothing due, past all that stood as the round began, and every view shows
   -- all of that
   pub came : IsOfRounds gives c ticks b
@@ -99,16 +98,16 @@ pub record IsRaceBook (gives : Gives) (c : Cast) (ticks : ℕ) (b : Histories) :
 -- rounds that pass the horizon keep all that a race promises of a book of the program's own types
 abbrev pub RacesAreKept : Type 1
 RacesAreKept =
-    (gives : Gives) (c : Cast) (ticks : ℕ) (t : State) → IsReadyCast c → 1 ≤ ticks → IsRaced gives c ticks (rounds_for c.deal ticks) t
+    (gives : MayGive) (c : Cast) (ticks : ℕ) (t : State) → IsReadyCast c → 1 ≤ ticks → IsRaced gives c ticks (rounds_for c.deal ticks) t
     → IsTypedBook t.book → IsRaceBook gives c ticks t.book
 
 -- what strategies may answer, the other says too
-abbrev pub SaysMore : Gives → Gives → Type 0
+abbrev pub SaysMore : MayGive → MayGive → Type 0
 SaysMore gives other = (name : List ℕ) (d : Deal) (v t : ℕ) (k : Histories) (o : Option (ℕ × Call)) → gives name d v t k o → other name d v t k o
 
 -- a race's book is one for all who say of the strategies' answers no more than that
 abbrev pub RacesSayLess : Type 1
-RacesSayLess = (gives other : Gives) (c : Cast) (ticks : ℕ) (b : Histories) → SaysMore gives other → IsRaceBook gives c ticks b → IsRaceBook other c ticks b
+RacesSayLess = (gives other : MayGive) (c : Cast) (ticks : ℕ) (b : Histories) → SaysMore gives other → IsRaceBook gives c ticks b → IsRaceBook other c ticks b
 
 -- Where the calls of v in what it knows keep its rules, nothing is due by the hashkeys that it signed exactly where nothing is by those of its unlock calls.
 abbrev pub RestShowsInCalls : Type 0

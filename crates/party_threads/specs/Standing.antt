@@ -7,6 +7,7 @@ use Rattle.ledger_core.specs.History.{height}
 use Rattle.ledger_core.specs.Value.{LedgerState}
 use Rattle.ledger_core.specs.Book.{Histories, history}
 use Rattle.ledger_shared.specs.Value.{ticks_in_order}
+use Rattle.swap_job.specs.Roles.{role_in}
 use Rattle.swap_job.specs.declared.job.Job.{Job}
 use Rattle.swap_job.specs.declared.job.Role.{Role}
 use Rattle.swap_job.specs.declared.job.Role.TheVariants as kinds
@@ -14,7 +15,6 @@ use Rattle.swap_run.specs.Run.{Notes, Plan, State, no_notes, first_plan, is_plan
 use Rattle.swap_rules.specs.Machine.{Knows}
 use Rattle.swap_run.specs.Laws.{IsReadyCast, IsGood}
 use Rattle.swap_world.specs.Cast.{cast_of}
-use Rattle.swap_world.specs.Actors.{role_in}
 use Rattle.party_threads.specs.declared.turn.Actor.{Actor}
 use Rattle.party_threads.specs.declared.turn.Actor.TheVariants.{Conforming, Planned, Manual, Clock}
 use Rattle.party_threads.specs.declared.turn.Turn.{Turn}

@@ -1,19 +1,22 @@
 -- What a turn asks for, and what it does.
 use Rattle.std.specs.Prelude.{◌≡◌, ℕ, ◌<◌, Bool, true, false, List, length, Option, Some, None}
 use Rattle.ledger_core.specs.Book.{history}
+use Rattle.swap_job.specs.Roles.{IsHeld, role_in}
 use Rattle.swap_job.specs.declared.job.Job.{Job}
 use Rattle.ledger_shared.specs.Value.{PassState, ClockState, SharedState}
-use Rattle.party_machine.specs.Machine.{MachineState, next_of}
+use Rattle.party_machine.specs.Machine.{MachineState, next_due}
 use Rattle.swap_run.specs.Shown.{IsShown}
 use Rattle.swap_run.specs.Run.{Plan, is_planned}
+use Rattle.swap_world.specs.Gone.{MayGive}
+use Rattle.swap_world.specs.Acting.{IsSameOwner}
 use Rattle.party_threads.specs.declared.turn.Actor.{Actor}
 use Rattle.party_threads.specs.declared.turn.Actor.TheVariants.{Conforming, Planned, Manual, Clock}
 use Rattle.party_threads.specs.declared.turn.Turn.{Turn}
 use Rattle.party_threads.specs.Later.{pass_in, HaveGoneOn}
 use Rattle.party_threads.specs.Tracks.{Tracks, HasItsPasses, HaveSeenAll, IsSameElsewhere}
-use Rattle.party_threads.specs.Able.{watcher, IsAble, IsSameOwner}
+use Rattle.party_threads.specs.Able.{watcher, IsAble}
 use Rattle.party_threads.specs.Ticks.{AreClocksOf, HaveClocksGoneOn, HaveTicked}
-use Rattle.party_threads.specs.Played.{Gives, planner_of, role_in, IsHeld, HasPlayed}
+use Rattle.party_threads.specs.Played.{planner_of, HasPlayed}
 
 -- A machine can act, and knows what its passes have seen.
 pub record IsMachineSeated (ledgers : List SharedState) (m : MachineState) (ps : List (Option PassState)) : Type 0 where
@@ -59,17 +62,17 @@ pub record HasActed (m : MachineState) (old : List (Option PassState)) (n : Mach
   pub able : IsAble n
   pub seen : (a : ℕ) (p : PassState) → a < length new → pass_in new a ≡ Some p → p.seen ≡ history n.known a
   pub whole : HaveSeenAll new
-  pub rests : next_of n ≡ None
+  pub rests : next_due n ≡ None
   pub elsewhere : IsSameElsewhere old m.known n.known
 
 -- A party that follows a script or a strategy was shown its view and made the call that answers it, and knows what its passes have seen.
-pub record HasPlanned (gives : Gives) (job : Job) (v : ℕ) (n : Plan) (old : List (Option PassState)) (m : Plan) (new : List (Option PassState)) : Type 0 where
+pub record HasPlanned (gives : MayGive) (job : Job) (v : ℕ) (n : Plan) (old : List (Option PassState)) (m : Plan) (new : List (Option PassState)) : Type 0 where
   pub shown : IsShown job.deal job.seeds v m
   pub seen : (a : ℕ) (p : PassState) → a < length new → pass_in new a ≡ Some p → p.seen ≡ history m.known a
   pub played : HasPlayed gives job.deal job.seeds (role_in job v) v old n m
 
 -- what an actor did in its turn, by its passes before and after it
-abbrev pub Did : Gives → Job → ℕ → ℕ → (ps qs : List (Option PassState)) → (cs ds : List (Option ClockState)) → Actor → Actor → Type 0
+abbrev pub Did : MayGive → Job → ℕ → ℕ → (ps qs : List (Option PassState)) → (cs ds : List (Option ClockState)) → Actor → Actor → Type 0
 Did gives job ticks v ps qs cs ds (Conforming m) (Conforming n) = HasActed m ps n qs
 Did gives job ticks v ps qs cs ds (Conforming m) (Planned n) = ⊥
 Did gives job ticks v ps qs cs ds (Conforming m) Manual = ⊥
@@ -81,11 +84,11 @@ Did gives job ticks v ps qs cs ds (Planned n) Clock = ⊥
 Did gives job ticks v ps qs cs ds Manual y = qs ≡ ps
 Did gives job ticks v ps qs cs ds Clock y = HaveTicked ticks cs ds
 
-abbrev pub DidIn : Gives → Job → ℕ → ℕ → Turn → Turn → Type 0
+abbrev pub DidIn : MayGive → Job → ℕ → ℕ → Turn → Turn → Type 0
 DidIn gives job ticks v old new = Did gives job ticks v old.passes.items new.passes.items old.clocks.items new.clocks.items old.actor new.actor
 
 -- A turn leaves its actor and its passes, which have gone on; where memory was enough, it did what it had to.
-pub record Took (gives : Gives) (job : Job) (ticks v : ℕ) (old new : Turn) : Type 0 where
+pub record Took (gives : MayGive) (job : Job) (ticks v : ℕ) (old new : Turn) : Type 0 where
   pub actor : IsSameActor old.actor new.actor
   pub passes : HaveGoneOn old.passes.items new.passes.items
   pub places : length new.passes.items ≡ length old.passes.items

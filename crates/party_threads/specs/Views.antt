@@ -12,7 +12,8 @@ use Rattle.deviators.specs.View.{IsView, MayAnswer}
 use Rattle.swap_job.specs.Fitting.{is_near}
 use Rattle.swap_rules.specs.Machine.{Begins}
 use Rattle.swap_run.specs.Run.{Cast, State, plan_of, role_of}
-use Rattle.party_threads.specs.Played.{Gives, calls_by, answer_on, IsAnswered}
+use Rattle.swap_world.specs.Gone.{MayGive}
+use Rattle.party_threads.specs.Played.{calls_by, answer_on, IsAnswered}
 
 -- of the answers to the first r views, those that stand on arc a
 abbrev pub answers_on : ℕ → (ℕ → Option (ℕ × Call)) → ℕ → List Call
@@ -41,14 +42,14 @@ pub record AreRoundViews (d : Deal) (ticks rounds : ℕ) (b : Histories) (v : �
   pub calls : (a : ℕ) → a < length d.graph.arcs → calls_by v (history b a) ≡ made_on a answers rounds
 
 -- each view is answered once: by the script from its first move, or by the strategy
-abbrev pub AreAnswered : Gives → Cast → ℕ → ℕ → (ℕ → Histories) → (ℕ → Option (ℕ × Call)) → Role → Type 0
+abbrev pub AreAnswered : MayGive → Cast → ℕ → ℕ → (ℕ → Histories) → (ℕ → Option (ℕ × Call)) → Role → Type 0
 AreAnswered gives c rounds v views answers (Script moves) = (r : ℕ) → r < rounds → answers r ≡ next_call c.deal c.seeds (views r) (moves_at views moves r)
 AreAnswered gives c rounds v views answers (Strategy name) = (r : ℕ) → r < rounds → gives name c.deal v r (views r) (answers r)
 AreAnswered gives c rounds v views answers Conforming = Unit {0}
 AreAnswered gives c rounds v views answers Manual = Unit {0}
 
 -- All calls of a party are the answers to its round views.
-pub record PlaysByViews (gives : Gives) (c : Cast) (ticks rounds : ℕ) (b : Histories) (v : ℕ) : Type 0 where
+pub record PlaysByViews (gives : MayGive) (c : Cast) (ticks rounds : ℕ) (b : Histories) (v : ℕ) : Type 0 where
   pub views : ℕ → Histories
   pub answers : ℕ → Option (ℕ × Call)
   pub are : AreRoundViews c.deal ticks rounds b v views answers
@@ -58,7 +59,7 @@ pub record PlaysByViews (gives : Gives) (c : Cast) (ticks rounds : ℕ) (b : His
 
 -- The party was shown what stood as the round began at least, and of its own calls no others; it made the call that is the answer, if any, which stands on an
 -- arc that touches it and fits.
-pub record HasPlayed (gives : Gives) (c : Cast) (s t : State) (v : ℕ) : Type 0 where
+pub record HasPlayed (gives : MayGive) (c : Cast) (s t : State) (v : ℕ) : Type 0 where
   pub view : Histories
   pub answer : Option (ℕ × Call)
   pub shown : IsView c.deal v view

@@ -1,23 +1,19 @@
 //! The turns of a job's parties and of the clock.
 
-ghost use Rattle.std.specs.Prelude.{◌≡◌, ◌<◌, None, Some, length, replicate, IfOk, IfErr, OnOk};
+ghost use Rattle.std.specs.Prelude.{◌≡◌, None, length, replicate, IfOk, OnOk};
 ghost use Rattle.swap_digraph.specs.Deal.{IsWellSized};
-ghost use Rattle.party_wallet.specs.Wallets.{wallet_for, wallets_of};
-ghost use Rattle.party_threads.specs.FirstTurns.{wrong_for, IsWrong, IsFirstOf, AllFit, by_role, acts_for, IsNewTurn, HasNewTurn, AreNew};
+ghost use Rattle.party_wallet.specs.Wallets.{wallets_of};
+ghost use Rattle.swap_world.specs.Actors.{AllFit};
+ghost use Rattle.party_threads.specs.FirstTurns.{racer_of, IsNewTurn, HasNewTurn, AreNew};
 
 use crate::turn::{Actor, Turn};
 use ledger_shared::{ClockPass, Pass};
-use party_machine::{Machine, Misfit};
 use party_wallet::Wallet;
 use std::alloc::Global;
-use swap_base::{Fault, NoMemory, PartyId, TryCopy};
+use swap_base::NoMemory;
 use swap_digraph::Deal;
-use swap_job::{Job, MoveList, Role};
-use swap_run::Planner;
-use swap_world::WrongWallet;
-
-/// Why there is no race: a conforming party's seed isn't that of the deal, or want of memory.
-pub type RaceFault = Fault<WrongWallet>;
+use swap_job::Job;
+use swap_world::{Actor as Party, actors_of};
 
 fn no_passes(alloc: Global, deal: &Deal) -> Result<Vec<Option<Pass>>, NoMemory>
     ensures { IfOk result (λ v. v.items ≡ replicate (length deal.now.graph.arcs) None) }
@@ -51,95 +47,42 @@ fn new_turn(alloc: Global, deal: &Deal, actor: Actor) -> Result<Turn, NoMemory>
     })
 }
 
-/// What acts for a conforming party, by its wallet.
-fn conforming(alloc: Global, job: &Job, p: PartyId, wallet: Wallet) -> Result<Actor, RaceFault>
-    requires sized { IsWellSized job.now.deal }
-    requires party { p < job.now.deal.graph.n }
-    requires wallet { Some wallet ≡ wallet_for job.now.deal job.now.conforming job.now.seeds p }
-    ensures ok { IfOk result (λ x. x ≡ acts_for job.now p) }
-    ensures fits { OnOk result (wrong_for job.now p ≡ None) }
-    ensures wrong { IfErr result (IsWrong job.now p) }
+/// Adds the turn of an actor.
+fn add_turn(alloc: Global, deal: &Deal, turns: &mut Vec<Turn>, actor: Actor) -> Result<(), NoMemory>
+    ensures { OnOk result (HasNewTurn deal.now actor turns.old.items turns.new.items) }
 {
-    match Machine::new(alloc, &job.deal, p, wallet) {
-        Ok(machine) => Ok(Actor::Conforming(machine)),
-        Err(Fault::Refused(Misfit::WrongWallet(lock))) => {
-            Err(Fault::Refused(WrongWallet { party: p, lock }))
-        }
-        Err(Fault::NoMemory) => Err(Fault::NoMemory),
-    }
-}
-
-/// What acts for a party without a wallet: its script, its strategy, or nothing.
-fn by_role(alloc: Global, deal: &Deal, role: &Role) -> Result<Actor, NoMemory>
-    ensures { IfOk result (λ x. x ≡ by_role deal.now role.now) }
-{
-    match role {
-        Role::Script(moves) => Ok(Actor::Planned(Planner::new(alloc, deal, moves.copy()?)?)),
-        Role::Strategy(_) => Ok(Actor::Planned(Planner::new(alloc, deal, MoveList::empty(alloc))?)),
-        _ => Ok(Actor::Manual),
-    }
-}
-
-/// What acts for a party of the job, by its wallet or else by its role.
-fn actor_of(
-    alloc: Global,
-    job: &Job,
-    p: PartyId,
-    wallet: Option<Wallet>,
-) -> Result<Actor, RaceFault>
-    requires sized { IsWellSized job.now.deal }
-    requires party { p < job.now.deal.graph.n }
-    requires roles { length job.now.roles ≡ job.now.deal.graph.n }
-    requires wallet { wallet ≡ wallet_for job.now.deal job.now.conforming job.now.seeds p }
-    ensures ok { IfOk result (λ x. x ≡ acts_for job.now p) }
-    ensures fits { OnOk result (wrong_for job.now p ≡ None) }
-    ensures wrong { IfErr result (IsWrong job.now p) }
-{
-    match wallet {
-        Some(wallet) => conforming(alloc, job, p, wallet),
-        None => Ok(by_role(alloc, &job.deal, &job.roles.as_slice()[p as usize])?),
-    }
-}
-
-/// Adds the turn of a party.
-fn add_turn(
-    alloc: Global,
-    job: &Job,
-    turns: &mut Vec<Turn>,
-    p: PartyId,
-    wallet: Option<Wallet>,
-) -> Result<(), RaceFault>
-    requires sized { IsWellSized job.now.deal }
-    requires party { p < job.now.deal.graph.n }
-    requires roles { length job.now.roles ≡ job.now.deal.graph.n }
-    requires wallet { wallet ≡ wallet_for job.now.deal job.now.conforming job.now.seeds p }
-    ensures ok { OnOk result (HasNewTurn job.now.deal (acts_for job.now p) turns.old.items turns.new.items) }
-    ensures fits { OnOk result (wrong_for job.now p ≡ None) }
-    ensures wrong { IfErr result (IsWrong job.now p) }
-{
-    let actor = actor_of(alloc, job, p, wallet)?;
-    turns.push(new_turn(alloc, &job.deal, actor)?)?;
+    turns.push(new_turn(alloc, deal, actor)?)?;
     Ok(())
 }
 
-/// The turns of the parties and of the clock, or the first conforming party whose seed isn't that of the deal.
+/// What acts for a party, among what has turns.
+fn racing(party: Party) -> Actor
+    ensures { result ≡ racer_of party }
+{
+    match party {
+        Party::Conforming(machine) => Actor::Conforming(machine),
+        Party::Planned(planner) => Actor::Planned(planner),
+        Party::Manual => Actor::Manual,
+    }
+}
+
+/// The turns of the parties and of the clock, where every wallet is right.
 pub(crate) fn turns_of(
     alloc: Global,
     job: &Job,
-    mut wallets: Vec<Option<Wallet>>,
-) -> Result<Vec<Turn>, RaceFault>
+    wallets: Vec<Option<Wallet>>,
+) -> Result<Vec<Turn>, NoMemory>
     requires sized { IsWellSized job.now.deal }
     requires roles { length job.now.roles ≡ job.now.deal.graph.n }
     requires wallets { wallets.items ≡ wallets_of job.now.deal job.now.conforming job.now.seeds }
-    ensures new { IfOk result (λ v. AreNew job.now v.items) }
-    ensures fit { OnOk result (AllFit job.now) }
-    ensures wrong { IfErr result (IsFirstOf job.now) }
+    requires fit { AllFit job.now }
+    ensures { IfOk result (λ v. AreNew job.now v.items) }
 {
+    let parties = actors_of(alloc, job, wallets)?;
     let mut turns = Vec::new(alloc);
-    'parties: for p in 0..job.deal.graph.n() {
-        let wallet = wallets[p as usize].take();
-        add_turn(alloc, job, &mut turns, p, wallet)?;
+    'parties: for party in parties {
+        add_turn(alloc, &job.deal, &mut turns, racing(party))?;
     }
-    turns.push(new_turn(alloc, &job.deal, Actor::Clock)?)?;
+    add_turn(alloc, &job.deal, &mut turns, Actor::Clock)?;
     Ok(turns)
 }

@@ -23,7 +23,6 @@ mod round;
 mod rounds;
 mod turn;
 
-pub use first_turns::RaceFault;
 pub use gate::Gate;
 pub use laws::rest_shows_in_calls;
-pub use rounds::race;
+pub use rounds::{race, race_fitting};

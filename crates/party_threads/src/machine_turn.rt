@@ -4,10 +4,11 @@ ghost use Rattle.std.specs.Prelude.{◌≡◌, ◌≢◌, ◌+◌, ◌<◌, ◌�
 ghost use Rattle.swap_digraph.specs.Deal.{IsWellSized};
 ghost use Rattle.ledger_core.specs.Book.{history};
 ghost use Rattle.ledger_core.specs.History.{IsLegal};
-ghost use Rattle.party_machine.specs.Machine.{learnt, next_of};
+ghost use Rattle.party_machine.specs.Machine.{learnt, next_due};
 ghost use Rattle.swap_run.specs.Fair.{most_acts};
 ghost use Rattle.swap_run.proofs.Slots.{left};
-ghost use Rattle.party_threads.specs.Able.{watcher, machine_with, IsAble, IsMakable, IsSameOwner};
+ghost use Rattle.swap_world.specs.Acting.{IsMakable, IsSameOwner};
+ghost use Rattle.party_threads.specs.Able.{watcher, machine_with, IsAble};
 ghost use Rattle.party_threads.specs.Later.{IsLater, WentOn, HaveGoneOn};
 ghost use Rattle.party_threads.specs.Tracks.{IsPassOf, Tracks, HaveSeenAll, HasItsPasses, HasLooked, HasMade, IsSameElsewhere, IsPlaceOf, LookedIf, MadeIf};
 
@@ -169,8 +170,8 @@ fn act<R: Wait>(
     ensures able { OnOk result (IsAble machine.new) }
     ensures tracks { OnOk result (Tracks ledgers.now (watcher machine.new) passes.new) }
     ensures seen { OnOk result (HaveSeenAll passes.old → HaveSeenAll passes.new) }
-    ensures idle { IfOk result (λ made. made ≡ false → next_of machine.new ≡ None) }
-    ensures due { IfOk result (λ made. made ≡ true → next_of machine.old ≢ None) }
+    ensures idle { IfOk result (λ made. made ≡ false → next_due machine.new ≡ None) }
+    ensures due { IfOk result (λ made. made ≡ true → next_due machine.old ≢ None) }
     // it may make one call less
     ensures fewer { IfOk result (λ made. made ≡ true → left machine.old.deal machine.old.me machine.new.known + 1
         ≤ left machine.old.deal machine.old.me machine.old.known) }
@@ -209,7 +210,7 @@ fn act_to_rest<R: Wait>(
     ensures able { OnOk result (IsAble machine.new) }
     ensures tracks { OnOk result (Tracks ledgers.now (watcher machine.new) passes.new) }
     ensures seen { OnOk result (HaveSeenAll passes.old → HaveSeenAll passes.new) }
-    ensures rests { OnOk result (next_of machine.new ≡ None) }
+    ensures rests { OnOk result (next_due machine.new ≡ None) }
     ensures owner { IsSameOwner machine.old machine.new }
     ensures elsewhere { IsSameElsewhere passes.old machine.old.known machine.new.known }
 {
@@ -235,7 +236,7 @@ pub fn take_machine_turn<R: Wait>(
     ensures able { OnOk result (IsAble machine.new) }
     ensures tracks { OnOk result (Tracks ledgers.now (watcher machine.new) passes.new) }
     ensures seen { OnOk result (HaveSeenAll passes.new) }
-    ensures rests { OnOk result (next_of machine.new ≡ None) }
+    ensures rests { OnOk result (next_due machine.new ≡ None) }
     ensures owner { IsSameOwner machine.old machine.new }
     ensures elsewhere { IsSameElsewhere passes.old machine.old.known machine.new.known }
 {

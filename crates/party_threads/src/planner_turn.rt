@@ -3,12 +3,13 @@
 ghost use Rattle.std.specs.Prelude.{◌≡◌, ◌≢◌, ◌<◌, ◌+◌, true, None, OnOk, OnErr, IfOk, IsTrue, All, length};
 ghost use Rattle.ledger_core.specs.History.{fit};
 ghost use Rattle.swap_job.specs.Fitting.{IsMoveOf};
+ghost use Rattle.swap_job.specs.Roles.{IsHeld, role_in};
 ghost use Rattle.deviators.specs.View.{IsView, MayAnswer};
 ghost use Rattle.swap_run.specs.Shown.{IsShown};
 ghost use Rattle.swap_run.specs.Run.{is_planned, plan_up_to};
 ghost use Rattle.party_threads.specs.Later.{IsLater, WentOn, HaveGoneOn};
 ghost use Rattle.party_threads.specs.Tracks.{IsPassOf, Tracks, HaveSeenAll, HasItsPasses, HasLooked, HasMade, IsPlaceOf, LookedIf, MadeIf};
-ghost use Rattle.party_threads.specs.Played.{planner_of, role_in, IsHeld, HaveFresh, HaveGrown, IsAnswered, HasCalled, HasPlayed};
+ghost use Rattle.party_threads.specs.Played.{planner_of, HaveFresh, HaveGrown, IsAnswered, HasMadeCall, HasPlayed};
 
 use deviators::Strategies;
 use ledger_core::Call;
@@ -187,7 +188,7 @@ fn make<R: Wait>(
     ensures tracks { OnOk result (Tracks ledgers.now (planner_of deal.now me planner.new) passes.new) }
     ensures view { OnOk result (IsView deal.now me planner.new.known) }
     ensures grown { OnOk result (HaveGrown planner.old.known planner.new.known) }
-    ensures called { OnOk result (HasCalled deal.now me answer planner.old.known planner.new.known) }
+    ensures called { OnOk result (HasMadeCall deal.now me answer planner.old.known planner.new.known) }
     ensures moves { planner.new.moves ≡ planner.old.moves }
     ensures turns { planner.new.turns ≡ planner.old.turns }
 {

@@ -7,25 +7,25 @@ ghost use Rattle.party_wallet.specs.Wallets.{wallets_of};
 ghost use Rattle.swap_run.specs.Run.{start};
 ghost use Rattle.swap_world.specs.Cast.{cast_of};
 ghost use Rattle.swap_world.specs.Inside.{new_ledgers};
-ghost use Rattle.swap_world.specs.Actors.{AreHeld, HaveSeeds, HaveRoles};
+ghost use Rattle.swap_world.specs.Actors.{AllFit, AreHeld, ConformingHaveSeeds, HaveRoles, IsFirstOf};
 ghost use Rattle.party_threads.specs.Race.{rounds_for, IsRaced, IsRaceBook};
-ghost use Rattle.party_threads.specs.FirstTurns.{AllFit, IsFirstOf};
 ghost use Rattle.party_threads.specs.Standing.{Stands, book_in, history_in, state_of};
 
-use crate::first_turns::{RaceFault, turns_of};
+use crate::first_turns::turns_of;
 use crate::gate::Gate;
 use crate::home::Home;
 use crate::round::round;
 use crate::turn::Turn;
 use deviators::Strategies;
-use ledger_core::{Book, EntryList, Ledger};
+use ledger_core::{Book, EntryList, Ledger, share_deal};
 use party_wallet::Wallet;
 use std::alloc::Global;
 use std::sync::Wait;
 use std::thread::Threads;
-use swap_base::{ArcId, Listed, NoMemory};
+use swap_base::{ArcId, Fault, Listed, NoMemory};
 use swap_digraph::Deal;
 use swap_job::Job;
+use swap_world::{WorldFault, wrong_wallet};
 use time_bounds::horizon;
 use typed_books::read_book;
 
@@ -34,9 +34,10 @@ fn ledgers_of(alloc: Global, deal: &Deal) -> Result<Vec<Option<Home>>, NoMemory>
     requires { IsWellSized deal.now }
     ensures { IfOk result (λ v. v.items ≡ map (λ l. Some l) (new_ledgers deal.now)) }
 {
+    let held = share_deal(alloc, deal)?;
     let mut ledgers = Vec::new(alloc);
     'arcs: for arc in 0..deal.graph.arcs().len() as ArcId {
-        let ledger = Ledger::new(alloc, deal, arc)?;
+        let ledger = Ledger::new(alloc, &held, arc)?;
         ledgers.push(Some(Home::new(alloc, ledger)?))?;
     }
     Ok(ledgers)
@@ -123,9 +124,9 @@ fn run_rounds<R: Threads + Wait + Sync, K: Strategies + Sync, G: Gate>(
     Ok(())
 }
 
-/// Races a job: every party and the clock have a turn in each round, on up to 16 threads, the fewer the less was done in the round before, and on one where
-/// nothing was; strategies answer from the kit. It waits for locks and at the gate.
-pub fn race<R: Threads + Wait + Sync, K: Strategies + Sync, G: Gate>(
+/// Races a job whose wallets are right: every party and the clock have a turn in each round, on up to 16 threads, the fewer the less was done in the round
+/// before, and on one where nothing was; strategies answer from the kit. It waits for locks and at the gate.
+pub fn race_fitting<R: Threads + Wait + Sync, K: Strategies + Sync, G: Gate>(
     rt: &R,
     alloc: Global,
     job: &Job,
@@ -133,17 +134,16 @@ pub fn race<R: Threads + Wait + Sync, K: Strategies + Sync, G: Gate>(
     wallets: Vec<Option<Wallet>>,
     ticks: u32,
     gate: &G,
-) -> Result<Book, RaceFault>
+) -> Result<Book, NoMemory>
     requires accepted { IsAccepted job.now.deal }
-    requires seeds { HaveSeeds job.now }
+    requires seeds { ConformingHaveSeeds job.now }
     requires roles { HaveRoles job.now }
     requires held { AreHeld (K.holds kit.now) job.now.roles }
     requires wallets { wallets.items ≡ wallets_of job.now.deal job.now.conforming job.now.seeds }
+    requires fit { AllFit job.now }
     requires some { 1 ≤ ticks }
     requires below { ticks ≤ 1000 }
-    ensures book { IfOk result (λ b. IsRaceBook (K.gives kit.now) (cast_of job.now) ticks b.histories) }
-    ensures fit { OnOk result (AllFit job.now) }
-    ensures wrong { IfErr result (IsFirstOf job.now) }
+    ensures { IfOk result (λ b. IsRaceBook (K.gives kit.now) (cast_of job.now) ticks b.histories) }
 {
     let mut turns = turns_of(alloc, job, wallets)?;
     let mut ledgers = ledgers_of(alloc, &job.deal)?;
@@ -160,4 +160,31 @@ pub fn race<R: Threads + Wait + Sync, K: Strategies + Sync, G: Gate>(
     let book = book_of(alloc, ledgers)?;
     read_book(&book);
     Ok(book)
+}
+
+/// The same, or the first conforming party whose seed isn't that of the deal.
+pub fn race<R: Threads + Wait + Sync, K: Strategies + Sync, G: Gate>(
+    rt: &R,
+    alloc: Global,
+    job: &Job,
+    kit: &K,
+    wallets: Vec<Option<Wallet>>,
+    ticks: u32,
+    gate: &G,
+) -> Result<Book, WorldFault>
+    requires accepted { IsAccepted job.now.deal }
+    requires seeds { ConformingHaveSeeds job.now }
+    requires roles { HaveRoles job.now }
+    requires held { AreHeld (K.holds kit.now) job.now.roles }
+    requires wallets { wallets.items ≡ wallets_of job.now.deal job.now.conforming job.now.seeds }
+    requires some { 1 ≤ ticks }
+    requires below { ticks ≤ 1000 }
+    ensures book { IfOk result (λ b. IsRaceBook (K.gives kit.now) (cast_of job.now) ticks b.histories) }
+    ensures fit { OnOk result (AllFit job.now) }
+    ensures wrong { IfErr result (IsFirstOf job.now) }
+{
+    match wrong_wallet(job, &wallets) {
+        Some(wrong) => Err(Fault::Refused(wrong)),
+        None => Ok(race_fitting(rt, alloc, job, kit, wallets, ticks, gate)?),
+    }
 }

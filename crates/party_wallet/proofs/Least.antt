@@ -1,13 +1,10 @@
 -- The least number that passes, found by going along a range of numbers.
-use Rattle.std.proofs.Common.{◌≡◌, ℕ, suc, ◌+◌, ◌-◌, ◌<◌, ◌≤◌, Bool, true, false, cond, List, [], ◌∷◌, Option, Some, None, refl, sym, ap, ◌∙◌, inl, inr, arith}
+use Rattle.std.proofs.Common.{◌≡◌, ℕ, suc, ◌+◌, ◌-◌, ◌<◌, Bool, true, false, cond, List, [], ◌∷◌, Option, Some, None, refl, sym, ap, ◌∙◌, inl, inr, arith}
 use Rattle.std.specs.List.{find, range_with_len}
 use Rattle.swap_base.specs.Lists.{IsIn}
 
 range-next : (a n : ℕ) → a < n → range_with_len a (n - a) ≡ a ∷ range_with_len (a + 1) (n - (a + 1))
 range-next a n lt = let e : n - a ≡ suc (n - (a + 1)) = omega arith in ap (range_with_len a) e
-
-range-none : (a n : ℕ) → n ≤ a → range_with_len a (n - a) ≡ []
-range-none a n le = let e : n - a ≡ 0 = omega arith in ap (range_with_len a) e
 
 -- what doesn't pass is passed over
 pub goes_on : (p : ℕ → Bool) (a n : ℕ) (whole : Option ℕ) → a < n → p a ≡ false → find p (range_with_len a (n - a)) ≡ whole
@@ -18,9 +15,6 @@ goes_on p a n whole lt fails so_far =
 pub is_found : (p : ℕ → Bool) (a n : ℕ) (whole : Option ℕ) → a < n → p a ≡ true → find p (range_with_len a (n - a)) ≡ whole → Some a ≡ whole
 is_found p a n whole lt passes so_far =
     sym (ap (find p) (range-next a n lt) ∙ ap (λ b. cond b (Some a) (find p (range_with_len (a + 1) (n - (a + 1))))) passes) ∙ so_far
-
-pub is_none : (p : ℕ → Bool) (a n : ℕ) (whole : Option ℕ) → n ≤ a → find p (range_with_len a (n - a)) ≡ whole → None ≡ whole
-is_none p a n whole le so_far = sym (ap (find p) (range-none a n le)) ∙ so_far
 
 by_test : (b : Bool) (x : ℕ) (o : Option ℕ) → cond b (Some x) o ≡ None → (b ≡ false) × (o ≡ None)
 by_test true x o e = absurd (cc e)

@@ -23,11 +23,6 @@ one_more [] n k lt is = absurd (omega (arith, lt))
 one_more (x ∷ xs) zero k lt is = ap (λ (y : Option Hashkey). y ∷ so_far xs 0) is
 one_more (x ∷ xs) (suc n) k lt is = ap (λ (l : List (Option Hashkey)). x ∷ l) (one_more xs n k (omega (arith, lt)) is)
 
-pub none_more : (xs : List (Option Hashkey)) (n : ℕ) → n < length xs → None ≡ get_or xs n None → so_far xs n ≡ so_far xs (suc n)
-none_more [] n lt is = absurd (omega (arith, lt))
-none_more (x ∷ xs) zero lt is = ap (λ (y : Option Hashkey). y ∷ so_far xs 0) is
-none_more (x ∷ xs) (suc n) lt is = ap (λ (l : List (Option Hashkey)). x ∷ l) (none_more xs n (omega (arith, lt)) is)
-
 pub long_as : (xs : List (Option Hashkey)) (n : ℕ) → length (so_far xs n) ≡ length xs
 long_as [] n = refl
 long_as (x ∷ xs) zero = ap suc (long_as xs zero)

@@ -1,12 +1,12 @@
--- The numbers of a command lie in their ranges.
+-- The numbers of a task lie in their ranges.
 use Rattle.std.proofs.Common.{◌≡◌, ◌≤◌, ℕ, Bool, true, false, nat_le, List, [], ◌∷◌, Option, Some, None, option_and_then, refl, subst}
 use Rattle.std.proofs.Common.{arith, leb-true}
 use Rattle.program_words.specs.Tables.{choices, range_of, verb_of}
-use Rattle.program_words.specs.Words.{are_options, are_well_formed, asked, asked_by, command_of, is_given, is_short_numeral, number_of, text_of, ticks_of}
-use Rattle.program_words.specs.Words.{IsWithin}
+use Rattle.program_words.specs.Words.{are_options, are_well_formed, asked, asked_by, is_given, is_short_numeral, number_of, task_of, text_of, ticks_of}
+use Rattle.program_words.specs.Words.{AreNumbersWithin}
 use Rattle.program_words.specs.declared.choice.Choice.{Choice}
 use Rattle.program_words.specs.declared.choice.Choice.TheVariants.{Ticks, Seed, Parties, Events}
-use Rattle.program_words.specs.declared.command.Command.{Command}
+use Rattle.program_words.specs.declared.task.Task.{Task}
 use Rattle.program_words.specs.declared.verb.Verb.{Verb}
 use Rattle.program_words.specs.declared.verb.Verb.TheVariants.{Check, Run, Race, Audit, Make, Gen, Clear, Many}
 use Rattle.program_words.proofs.Names.{both}
@@ -26,7 +26,7 @@ ticks_within row words ok = go (is_given Ticks words) refl
     go true given = rw given (number_within Ticks (1, 1000) row words refl ok given)
     go false given = rw given (omega arith, omega arith)
 
-pub asked_within : (verb : Verb) (words : List (List ℕ)) → are_well_formed verb words ≡ true → IsWithin (asked verb words)
+pub asked_within : (verb : Verb) (words : List (List ℕ)) → are_well_formed verb words ≡ true → AreNumbersWithin (asked verb words)
 asked_within Check words whole = tt
 asked_within Run words whole = tt
 asked_within Race words whole = ticks_within (choices Race) words (both _ _ whole).0
@@ -43,19 +43,19 @@ asked_within Gen words whole =
     let events = number_within Events (0, 200000) (choices Gen) words refl ok events_on.0 in
     (parties.0, parties.1, events.1)
 
-by_verb : (words : List (List ℕ)) (verb : Option Verb) (command : Command) → option_and_then (asked_by words) verb ≡ Some command → IsWithin command
-by_verb words None command is = absurd (cc is)
-by_verb words (Some verb) command is = go (are_well_formed verb words) refl
+by_verb : (words : List (List ℕ)) (verb : Option Verb) (task : Task) → option_and_then (asked_by words) verb ≡ Some task → AreNumbersWithin task
+by_verb words None task is = absurd (cc is)
+by_verb words (Some verb) task is = go (are_well_formed verb words) refl
   where
-    go : (b : Bool) → are_well_formed verb words ≡ b → IsWithin command
+    go : (b : Bool) → are_well_formed verb words ≡ b → AreNumbersWithin task
     go true whole =
-        let whole_is : ◌≡◌ {A = Option Command} (Some (asked verb words)) (Some command) = rw whole at is in
-        let same : asked verb words ≡ command = cc whole_is in
-        subst IsWithin same (asked_within verb words whole)
+        let whole_is : ◌≡◌ {A = Option Task} (Some (asked verb words)) (Some task) = rw whole at is in
+        let same : asked verb words ≡ task = cc whole_is in
+        subst AreNumbersWithin same (asked_within verb words whole)
     go false wrong =
-        let none : ◌≡◌ {A = Option Command} None (Some command) = rw wrong at is in
+        let none : ◌≡◌ {A = Option Task} None (Some task) = rw wrong at is in
         absurd (cc none)
 
-pub command_within : (words : List (List ℕ)) (command : Command) → command_of words ≡ Some command → IsWithin command
-command_within [] command is = absurd (cc is)
-command_within (word ∷ words) command is = by_verb words (verb_of word) command is
+pub task_within : (words : List (List ℕ)) (task : Task) → task_of words ≡ Some task → AreNumbersWithin task
+task_within [] task is = absurd (cc is)
+task_within (word ∷ words) task is = by_verb words (verb_of word) task is

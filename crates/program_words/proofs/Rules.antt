@@ -38,13 +38,6 @@ rule_with (Some range) id = number_rule id
 abbrev pub rule : Choice → Rule
 rule c = rule_with (range_of c) (name_of c)
 
--- the same as the program writes them
-abbrev pub flag_arg : Text → Rule
-flag_arg id = record (new_rule id) { long = Some id; action = Some SetTrue }
-
-abbrev pub number_arg : Text → Rule
-number_arg id = record (new_rule id) { long = Some id }
-
 -- a command with these rules, built
 abbrev pub shape : Text → List Rule → Shape
 shape name rules = record (new_shape name) {

@@ -1,30 +1,30 @@
--- The command of words whose first is looked at alone.
+-- The task of words whose first is looked at alone.
 use Rattle.std.proofs.Common.{◌≡◌, ◌∙◌, ℕ, ◌≤◌, length, get_or, map, drop, List, [], ◌∷◌, Some, None, Bool, true, false, refl, sym, ap, arith, cond}
 use Rattle.std.proofs.Common.{option_and_then}
 use Rattle.program_words.specs.Tables.{verb_of}
-use Rattle.program_words.specs.Words.{are_well_formed, asked, asked_by, command_of}
+use Rattle.program_words.specs.Words.{are_well_formed, asked, asked_by, task_of}
 use Rattle.program_words.specs.declared.verb.Verb.{Verb}
 
--- the command of no words, and of a first word with the rest
-pub no_command : {A : Type 0} (f : A → List ℕ) (xs : List A) → length xs ≡ 0 → command_of (map f xs) ≡ None
-no_command f [] h = refl
-no_command f (x ∷ xs) h = absurd (omega arith)
+-- the task of no words, and of a first word with the rest
+pub no_task : {A : Type 0} (f : A → List ℕ) (xs : List A) → length xs ≡ 0 → task_of (map f xs) ≡ None
+no_task f [] h = refl
+no_task f (x ∷ xs) h = absurd (omega arith)
 
 first_and_rest : {A : Type 0} (f : A → List ℕ) (xs : List A) (x : A) → 1 ≤ length xs → x ≡ get_or xs 0 x
-    → command_of (map f xs) ≡ option_and_then (asked_by (map f (drop 1 xs))) (verb_of (f x))
+    → task_of (map f xs) ≡ option_and_then (asked_by (map f (drop 1 xs))) (verb_of (f x))
 first_and_rest f [] x some is = absurd (omega arith)
 first_and_rest {A = A} f (y ∷ xs) x some is = ap (λ (z : A). option_and_then (asked_by (map f xs)) (verb_of (f z))) (sym is)
 
 pub wrong_first : {A : Type 0} (f : A → List ℕ) (xs : List A) (x : A) → 1 ≤ length xs → x ≡ get_or xs 0 x → verb_of (f x) ≡ None
-    → command_of (map f xs) ≡ None
+    → task_of (map f xs) ≡ None
 wrong_first f xs x some is no_verb = first_and_rest f xs x some is ∙ ap (option_and_then (asked_by (map f (drop 1 xs)))) no_verb
 
 pub wrong_rest : {A : Type 0} (f : A → List ℕ) (xs : List A) (x : A) (verb : Verb) → 1 ≤ length xs → x ≡ get_or xs 0 x → verb_of (f x) ≡ Some verb
-    → are_well_formed verb (map f (drop 1 xs)) ≡ false → command_of (map f xs) ≡ None
+    → are_well_formed verb (map f (drop 1 xs)) ≡ false → task_of (map f xs) ≡ None
 wrong_rest f xs x verb some is has wrong = first_and_rest f xs x some is ∙ ap (option_and_then (asked_by (map f (drop 1 xs)))) has
     ∙ ap (λ (b : Bool). cond b (Some (asked verb (map f (drop 1 xs)))) None) wrong
 
 pub whole_words : {A : Type 0} (f : A → List ℕ) (xs : List A) (x : A) (verb : Verb) → 1 ≤ length xs → x ≡ get_or xs 0 x → verb_of (f x) ≡ Some verb
-    → are_well_formed verb (map f (drop 1 xs)) ≡ true → command_of (map f xs) ≡ Some (asked verb (map f (drop 1 xs)))
+    → are_well_formed verb (map f (drop 1 xs)) ≡ true → task_of (map f xs) ≡ Some (asked verb (map f (drop 1 xs)))
 whole_words f xs x verb some is has whole = first_and_rest f xs x some is ∙ ap (option_and_then (asked_by (map f (drop 1 xs)))) has
     ∙ ap (λ (b : Bool). cond b (Some (asked verb (map f (drop 1 xs)))) None) whole

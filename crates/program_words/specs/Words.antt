@@ -12,8 +12,9 @@ use Rattle.program_words.specs.declared.well_formed.Verdict.{Verdict}
 use Rattle.program_words.specs.declared.well_formed.Verdict.TheVariants.{Wrong, Done, Waits}
 use Rattle.program_words.specs.declared.verb.Verb.{Verb}
 use Rattle.program_words.specs.declared.verb.Verb.TheVariants.{Check, Run, Race, Audit, Make, Gen, Clear, Many}
-use Rattle.program_words.specs.declared.command.Command.{Command}
-use Rattle.program_words.specs.declared.command.Command.TheVariants as command
+use Rattle.program_words.specs.declared.task.Task.{Task}
+use Rattle.program_words.specs.declared.task.Task.TheVariants as task
+use Rattle.program_words.specs.declared.task.Order.TheVariants as order
 
 -- ---- one word
 
@@ -97,26 +98,31 @@ number_of choice words = digits_value 10 (text_of choice words)
 abbrev pub ticks_of : List (List ℕ) → ℕ
 ticks_of words = if is_given Ticks words then number_of Ticks words else 1
 
-abbrev pub asked : Verb → List (List ℕ) → Command
-asked Check words = command.Check
-asked Run words = command.Run (is_given Transcript words)
-asked Race words = command.Race (ticks_of words) (is_given Transcript words)
-asked Audit words = command.Audit
-asked Make words = command.Make
-asked Gen words = command.Gen (number_of Seed words) (number_of Parties words) (number_of Events words) (is_given Summary words)
-asked Clear words = command.Clear
-asked Many words = command.Many
+abbrev pub asked : Verb → List (List ℕ) → Task
+asked Check words = task.Input order.Check
+asked Run words = task.Input (order.Run (is_given Transcript words))
+asked Race words = task.Race (ticks_of words) (is_given Transcript words)
+asked Audit words = task.Input order.Audit
+asked Make words = task.Input order.Make
+asked Gen words = task.Number (record {
+  seed = number_of Seed words;
+  parties = number_of Parties words;
+  events = number_of Events words;
+  summary = is_given Summary words;
+})
+asked Clear words = task.Input order.Clear
+asked Many words = task.Input order.Many
 
-abbrev pub asked_by : List (List ℕ) → Verb → Option Command
+abbrev pub asked_by : List (List ℕ) → Verb → Option Task
 asked_by words verb = if are_well_formed verb words then Some (asked verb words) else None
 
--- the command that the words ask for: no other words are well formed
-abbrev pub command_of : List (List ℕ) → Option Command
-command_of [] = None
-command_of (word ∷ words) = option_and_then (asked_by words) (verb_of word)
+-- the task that the words ask for: no other words are well formed
+abbrev pub task_of : List (List ℕ) → Option Task
+task_of [] = None
+task_of (word ∷ words) = option_and_then (asked_by words) (verb_of word)
 
--- the numbers of a command lie in their ranges
-abbrev pub IsWithin : Command → Type 0
-IsWithin (command.Race ticks transcript) = (1 ≤ ticks) × (ticks ≤ 1000)
-IsWithin (command.Gen seed parties events summary) = (2 ≤ parties) × (parties ≤ 24) × (events ≤ 200000)
-IsWithin _ = Unit {0}
+-- the numbers of a task lie in their ranges
+abbrev pub AreNumbersWithin : Task → Type 0
+AreNumbersWithin (task.Input order) = Unit {0}
+AreNumbersWithin (task.Race ticks transcript) = (1 ≤ ticks) × (ticks ≤ 1000)
+AreNumbersWithin (task.Number request) = (2 ≤ request.parties) × (request.parties ≤ 24) × (request.events ≤ 200000)

@@ -1,15 +1,15 @@
-//! The words after the program's name, as the command that they ask for.
+//! The words after the program's name, as the task that they ask for.
 //!
-//! `read_command` tests first whether the words are well formed, and then reads their values with one `clap` command per first word. Read
+//! `read_task` tests first whether the words are well formed, and then reads their values with one `clap` command per first word. Read
 //! `specs/Tables.antt` first, the table of first words, options and numbers, and then `specs/Words.antt`: which words are well formed, and what
 //! they ask for.
 #![tactic(auto)]
 
 mod choice;
-mod command;
 mod read;
+mod task;
 mod verb;
 mod well_formed;
 
-pub use command::Command;
-pub use read::read_command;
+pub use read::read_task;
+pub use task::{Order, Request, Task};

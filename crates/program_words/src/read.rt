@@ -1,4 +1,4 @@
-//! The command that words ask for.
+//! The task that words ask for.
 
 ghost use Rattle.std.specs.Prelude.{◌≡◌, ◌<◌, ◌^◌, ℕ, IfErr, IfOk, List, None, Ok, Some, drop, false, length, map, string_bytes, true};
 ghost use Rattle.clap.specs.Matches.{found_of, one_text};
@@ -7,10 +7,10 @@ ghost use Rattle.clap.specs.Values.{kind_of};
 ghost use Rattle.clap.specs.Walk.{rule_of};
 ghost use Rattle.program_words.specs.Parsed.{AreRead, Numbers, app_for, bare_app, flag_rule, number_rule};
 ghost use Rattle.program_words.specs.Tables.{choices};
-ghost use Rattle.program_words.specs.Words.{are_well_formed, asked, command_of, IsWithin};
-ghost use Rattle.program_words.specs.declared.command.Command.{Command};
+ghost use Rattle.program_words.specs.Words.{are_well_formed, asked, task_of, AreNumbersWithin};
+ghost use Rattle.program_words.specs.declared.task.Task.{Task};
 
-use crate::command::Command;
+use crate::task::{Order, Request, Task};
 use crate::verb::{Verb, verb_of};
 use crate::well_formed::are_well_formed;
 use clap::error::ErrorKind;
@@ -111,71 +111,71 @@ fn small_number_in(matches: &ArgMatches<'_>, name: &str) -> Option<u8>
     matches.get_one(name)
 }
 
-fn run_in(matches: &ArgMatches<'_>) -> Command
+fn run_in(matches: &ArgMatches<'_>) -> Task
     ensures { (words : List (List ℕ)) → are_well_formed Verb.Run words ≡ true → AreRead (choices Verb.Run) words matches.now → result ≡ asked Verb.Run words }
 {
-    Command::Run {
+    Task::Input(Order::Run {
         transcript: matches.get_flag("transcript"),
-    }
+    })
 }
 
-fn race_in(matches: &ArgMatches<'_>) -> Command
+fn race_in(matches: &ArgMatches<'_>) -> Task
     ensures { (words : List (List ℕ)) → are_well_formed Verb.Race words ≡ true → AreRead (choices Verb.Race) words matches.now
         → result ≡ asked Verb.Race words }
 {
-    Command::Race {
+    Task::Race {
         ticks: number_in(matches, "ticks").unwrap_or(1),
         transcript: matches.get_flag("transcript"),
     }
 }
 
-fn gen_in(matches: &ArgMatches<'_>) -> Command
+fn gen_in(matches: &ArgMatches<'_>) -> Task
     ensures { (words : List (List ℕ)) → are_well_formed Verb.Gen words ≡ true → AreRead (choices Verb.Gen) words matches.now → result ≡ asked Verb.Gen words }
 {
-    Command::Gen {
+    Task::Number(Request {
         seed: number_in(matches, "seed").unwrap_or(0),
         parties: small_number_in(matches, "parties").unwrap_or(0),
         events: number_in(matches, "events").unwrap_or(0),
         summary: matches.get_flag("summary"),
-    }
+    })
 }
 
-/// The command, with the values of its options.
-fn command_in(verb: Verb, matches: &ArgMatches<'_>) -> Command
+/// The task, with the values of its options.
+fn task_in(verb: Verb, matches: &ArgMatches<'_>) -> Task
     ensures { (words : List (List ℕ)) → are_well_formed verb words ≡ true → AreRead (choices verb) words matches.now → result ≡ asked verb words }
 {
     match verb {
-        Verb::Check => Command::Check,
+        Verb::Check => Task::Input(Order::Check),
         Verb::Run => run_in(matches),
         Verb::Race => race_in(matches),
-        Verb::Audit => Command::Audit,
-        Verb::Make => Command::Make,
+        Verb::Audit => Task::Input(Order::Audit),
+        Verb::Make => Task::Input(Order::Make),
         Verb::Gen => gen_in(matches),
-        Verb::Clear => Command::Clear,
-        Verb::Many => Command::Many,
+        Verb::Clear => Task::Input(Order::Clear),
+        Verb::Many => Task::Input(Order::Many),
     }
 }
 
-/// Reads the command of well-formed words.
-fn read_whole(alloc: Global, verb: Verb, words: &[String]) -> Result<Command, NoMemory>
+/// Reads the task of well-formed words.
+fn read_whole(alloc: Global, verb: Verb, words: &[String]) -> Result<Task, NoMemory>
     requires some { 0 < length words.now }
     requires whole { are_well_formed verb (map string_bytes (drop 1 words.now)) ≡ true }
-    ensures exact { IfOk result (λ command. command ≡ asked verb (map string_bytes (drop 1 words.now))) }
-    ensures within { IfOk result IsWithin }
+    ensures exact { IfOk result (λ task. task ≡ asked verb (map string_bytes (drop 1 words.now))) }
+    ensures within { IfOk result AreNumbersWithin }
 {
     match matches_of(alloc, verb, words) {
-        Ok(matches) => Ok(command_in(verb, &matches)),
+        Ok(matches) => Ok(task_in(verb, &matches)),
         Err(_) => Err(NoMemory),
     }
 }
 
-/// Reads the command that the words after the program's name ask for: `None` where they aren't well formed.
-#[tactic(auto, using(crate::proofs::Whole::no_command, crate::proofs::Whole::wrong_first, crate::proofs::Whole::wrong_rest, crate::proofs::Whole::whole_words))]
-pub fn read_command(alloc: Global, words: &[String]) -> Result<Option<Command>, NoMemory>
-    ensures exact { IfOk result (λ command. command ≡ command_of (map string_bytes words.now)) }
+/// Reads the task that the words after the program's name ask for: `None` where they aren't well formed.
+#[tactic(auto, using(crate::proofs::Whole::no_task, crate::proofs::Whole::wrong_first, crate::proofs::Whole::wrong_rest, crate::proofs::Whole::whole_words))]
+pub fn read_task(alloc: Global, words: &[String]) -> Result<Option<Task>, NoMemory>
+    ensures exact { IfOk result (λ task. task ≡ task_of (map string_bytes words.now)) }
     // Words that aren't well formed are found without memory.
-    ensures wrong { command_of (map string_bytes words.now) ≡ None → result ≡ Ok None }
-    ensures within { (command : Command) → result ≡ Ok (Some command) → IsWithin command }
+    ensures wrong { task_of (map string_bytes words.now) ≡ None → result ≡ Ok None }
+    ensures within { (task : Task) → result ≡ Ok (Some task) → AreNumbersWithin task }
 {
     let [first, rest @ ..] = words else {
         return Ok(None);

@@ -18,9 +18,9 @@ use Rattle.swap_clear.specs.declared.fault.ClearReason.{ClearReason}
 use Rattle.swap_clear.specs.Clearing.{clearing_of}
 use Rattle.swap_clear.proofs.Told as told
 use Rattle.clear_line.specs.Cleared.{by_clearing, cleared_of, clearing_for, started, without_self_arcs}
-use Rattle.clear_line.specs.Fields.{raw_of}
-use Rattle.clear_line.specs.Limits.{proposals_of, times_of, wishes_by, wishes_of, IsWithin}
-use Rattle.clear_line.specs.Names.{name_step, numbered_arc, numbered_of, AreEndsBelow}
+use Rattle.clear_line.specs.Fields.{raw_wishes}
+use Rattle.clear_line.specs.Limits.{proposals_of, times_of, wishes_by, wishes_of, AreWishesWithin}
+use Rattle.clear_line.specs.Names.{wished_name_step, numbered_arc, numbered_wishes, AreEndsBelow}
 use Rattle.clear_line.specs.declared.cleared.Cleared.{Cleared}
 use Rattle.clear_line.specs.declared.fields.RawWishes.{RawWishes}
 use Rattle.clear_line.specs.declared.limits.Wishes.{Wishes}
@@ -37,14 +37,14 @@ two_tests true true x y z t h = absurd (cc h)
 two_tests true false x y z t h = (refl, ok_is z t h)
 two_tests false b x y z t h = absurd (cc h)
 
-good_step : (line : ℕ) (seen : List (List ℕ)) (name : List ℕ) (t : List (List ℕ)) → All IsGood seen → name_step line seen name ≡ Ok t → All IsGood t
+good_step : (line : ℕ) (seen : List (List ℕ)) (name : List ℕ) (t : List (List ℕ)) → All IsGood seen → wished_name_step line seen name ≡ Ok t → All IsGood t
 unfolding name_added
 good_step line seen name t good h =
     let a = two_tests (is_name name) (list_any (bytes_eq name) seen) (Duplicate line name) (BadName line name) (seen ++ name ∷ []) t h in
     subst (All IsGood) a.1 (All-push IsGood seen name good a.0)
 
-good_names : (line : ℕ) (parties names : List (List ℕ)) → steps (name_step line) [] parties ≡ Ok names → All IsGood names
-good_names line parties names e = steps_keep (All IsGood) (name_step line) (good_step line) [] parties names (All-nil IsGood) e
+good_names : (line : ℕ) (parties names : List (List ℕ)) → steps (wished_name_step line) [] parties ≡ Ok names → All IsGood names
+good_names line parties names e = steps_keep (All IsGood) (wished_name_step line) (good_step line) [] parties names (All-nil IsGood) e
 
 -- What is known of names and of the numbers that stand for them.
 record AreKnown (n : Numbered) : Type 0 where
@@ -52,10 +52,10 @@ record AreKnown (n : Numbered) : Type 0 where
   ends : AreEndsBelow n
   good : All IsGood n.names
 
-numbered_are : (line : ℕ) (raw : RawWishes) (n : Numbered) → numbered_of line raw ≡ Ok n → AreKnown n
-unfolding numbered_of
+numbered_are : (line : ℕ) (raw : RawWishes) (n : Numbered) → numbered_wishes line raw ≡ Ok n → AreKnown n
+unfolding numbered_wishes
 numbered_are line raw =
-    onward (steps (name_step line) [] raw.parties) _ AreKnown (λ names e.
+    onward (steps (wished_name_step line) [] raw.parties) _ AreKnown (λ names e.
     onward (each_of (numbered_arc line names) raw.arcs) _ AreKnown (λ arcs a.
     landed (record { names = names; arcs = arcs }) AreKnown
     (record { names = names_of line raw.parties names e; ends = arcs_of line names raw.arcs arcs a; good = good_names line raw.parties names e })))
@@ -64,13 +64,13 @@ numbered_are line raw =
 
 -- What is known of wishes.
 record AreFine (w : Wishes) : Type 0 where
-  within : IsWithin w
+  within : AreWishesWithin w
   good : All IsGood w.names
 
 wishes_are : (line : ℕ) (raw : RawWishes) (w : Wishes) → wishes_by line raw ≡ Ok w → AreFine w
 unfolding wishes_by
 wishes_are line raw =
-    onward (numbered_of line raw) _ AreFine (λ n m.
+    onward (numbered_wishes line raw) _ AreFine (λ n m.
     onward (times_of line raw) _ AreFine (λ t s.
     onward (proposals_of line n) _ AreFine (λ arcs p.
     landed (record { start = t.0; delta = t.1; names = n.names; arcs = arcs }) AreFine
@@ -80,7 +80,7 @@ read_are : (line : ℕ) (text : List ℕ) (w : Wishes) → wishes_of line text �
 unfolding wishes_of
 read_are line text =
     onward (object_of line text) _ AreFine (λ d o.
-    onward (raw_of line d) _ AreFine (λ raw r. wishes_are line raw))
+    onward (raw_wishes line d) _ AreFine (λ raw r. wishes_are line raw))
 
 -- ---- groups
 

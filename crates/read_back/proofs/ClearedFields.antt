@@ -12,12 +12,12 @@ use Rattle.offer_header.specs.declared.raw.RawParty.{RawParty}
 use Rattle.offer_header.specs.declared.raw.RawArc.{RawArc}
 use Rattle.offer_header.specs.declared.raw.RawLeader.{RawLeader}
 use Rattle.offer_header.specs.declared.raw.RawHeader.{RawHeader}
-use Rattle.offer_header.specs.Raw.{actor_at, arc_of, finish_at, header_fields, leader_of, mode_at, party_of, raw_of, stated_finish_at, stated_mode_at}
+use Rattle.offer_header.specs.Raw.{actor_at, raw_arc_of, finish_at, header_fields, raw_leader_of, mode_at, party_of, raw_of, stated_finish_at, stated_mode_at}
 use Rattle.offer_header.specs.Raw.{version_at}
 use Rattle.swap_clear.specs.declared.answer.Group.{Group}
 use Rattle.clear_line.specs.declared.limits.Wishes.{Wishes}
-use Rattle.clear_line.specs.ClearedText.{arc_data, named_data, proposal}
-use Rattle.read_back.specs.ClearedJobs.{name_of, seeded_data, seeded_party}
+use Rattle.clear_line.specs.ClearedText.{proposal_data, named_data, proposal}
+use Rattle.read_back.specs.ClearedJobs.{wished_name, seeded_data, seeded_party}
 use Rattle.read_back.proofs.Steps.{items_back, step}
 
 abbrev reading : Reading
@@ -26,7 +26,7 @@ reading = record { purpose = Make; mode = Hashkeys }
 -- ---- parties, arcs and leaders
 
 abbrev pub raw_party : Wishes → ℕ × List ℕ → RawParty
-raw_party w p = record { name = name_of w p.0; actor = Conforming; seed = Some p.1 }
+raw_party w p = record { name = wished_name w p.0; actor = Conforming; seed = Some p.1 }
 
 party_back : (line : ℕ) (w : Wishes) (p : ℕ × List ℕ) → party_of reading line (seeded_party w.names p) ≡ Ok (raw_party w p)
 unfolding party_of object_at text_at needed actor_at optional_text_at only
@@ -34,21 +34,21 @@ party_back line w p = refl
 
 abbrev pub raw_arc : Wishes → ℕ → RawArc
 raw_arc w a = record {
-  from = name_of w (proposal w.arcs a).from;
-  to = name_of w (proposal w.arcs a).to;
+  from = wished_name w (proposal w.arcs a).from;
+  to = wished_name w (proposal w.arcs a).to;
   amount = (proposal w.arcs a).amount;
   timelock = 0;
 }
 
-arc_back : (line : ℕ) (w : Wishes) (a : ℕ) → arc_of reading line (arc_data w.names (proposal w.arcs a)) ≡ Ok (raw_arc w a)
-unfolding arc_of object_at text_at needed number_at only
+arc_back : (line : ℕ) (w : Wishes) (a : ℕ) → raw_arc_of reading line (proposal_data w.names (proposal w.arcs a)) ≡ Ok (raw_arc w a)
+unfolding raw_arc_of object_at text_at needed number_at only
 arc_back line w a = refl
 
 abbrev pub raw_leader : Wishes → ℕ → RawLeader
-raw_leader w l = record { party = name_of w l; hashlock = [] }
+raw_leader w l = record { party = wished_name w l; hashlock = [] }
 
-leader_back : (line : ℕ) (w : Wishes) (l : ℕ) → leader_of reading line (named_data (codes "party") w.names l) ≡ Ok (raw_leader w l)
-unfolding leader_of object_at text_at needed only
+leader_back : (line : ℕ) (w : Wishes) (l : ℕ) → raw_leader_of reading line (named_data (codes "party") w.names l) ≡ Ok (raw_leader w l)
+unfolding raw_leader_of object_at text_at needed only
 leader_back line w l = refl
 
 -- ---- the header
@@ -92,13 +92,13 @@ module _ (line : ℕ) (w : Wishes) (group : Group) (texts : List (List ℕ)) whe
   unfolding list_at array_at needed
   parties_are = items_back (party_of reading line) (seeded_party w.names) (raw_party w) (zip group.parties texts) (λ p i. party_back line w p)
 
-  arcs_are : list_at line (codes "arcs") (arc_of reading line) (seeded_data w group texts) ≡ Ok (map (raw_arc w) group.arcs)
+  arcs_are : list_at line (codes "arcs") (raw_arc_of reading line) (seeded_data w group texts) ≡ Ok (map (raw_arc w) group.arcs)
   unfolding list_at array_at needed
-  arcs_are = items_back (arc_of reading line) (λ a. arc_data w.names (proposal w.arcs a)) (raw_arc w) group.arcs (λ a i. arc_back line w a)
+  arcs_are = items_back (raw_arc_of reading line) (λ a. proposal_data w.names (proposal w.arcs a)) (raw_arc w) group.arcs (λ a i. arc_back line w a)
 
-  leaders_are : list_at line (codes "leaders") (leader_of reading line) (seeded_data w group texts) ≡ Ok (map (raw_leader w) group.leaders)
+  leaders_are : list_at line (codes "leaders") (raw_leader_of reading line) (seeded_data w group texts) ≡ Ok (map (raw_leader w) group.leaders)
   unfolding list_at array_at needed
-  leaders_are = items_back (leader_of reading line) (named_data (codes "party") w.names) (raw_leader w) group.leaders (λ l i. leader_back line w l)
+  leaders_are = items_back (raw_leader_of reading line) (named_data (codes "party") w.names) (raw_leader w) group.leaders (λ l i. leader_back line w l)
 
   finish_is : finish_at line Make (seeded_data w group texts) ≡ Ok Stop
   unfolding stated_finish_at optional_text_at

@@ -18,7 +18,7 @@ use Rattle.offer_moves.specs.declared.moves.Sizes.{Sizes}
 use Rattle.offer_header.specs.declared.limits.Acting.{Acting}
 use Rattle.offer_header.specs.declared.limits.ArcTerms.{ArcTerms}
 use Rattle.offer_header.specs.declared.header.Header.{Header}
-use Rattle.offer_header.specs.Limits.{acting_of, all_terms_of, hashlocks_of, header_with, limited_of, no_digests, parties_of, seed_of, sizes_in, terms_of}
+use Rattle.offer_header.specs.Limits.{acting_of, all_terms_of, hashlocks_of, header_with, limited_of, no_digests, parties_of, checked_seed, sizes_in, terms_of}
 use Rattle.swap_clear.specs.declared.answer.Group.{Group}
 use Rattle.swap_clear.specs.Led.{own, own_leaders}
 use Rattle.clear_line.specs.declared.limits.Wishes.{Wishes}
@@ -52,7 +52,7 @@ heads r s rs ss e = (cc e, cc e)
 
 seed_back : (w : Wishes) (sizes : Sizes) (names : List (List ℕ)) (line p : ℕ) (text seed : List ℕ) → decode_sized text 32 ≡ Ok seed
     → acting_of sizes names line (raw_party w (p, text)) ≡ Ok (acting_with seed)
-unfolding acting_of seed_of digest_of
+unfolding acting_of checked_seed digest_of
 seed_back w sizes names line p text seed e = rw e refl
 
 seeds_back : (w : Wishes) (sizes : Sizes) (names : List (List ℕ)) (line : ℕ) (ps : List ℕ) (texts seeds : List (List ℕ)) → length texts ≡ length ps

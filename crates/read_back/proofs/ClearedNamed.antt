@@ -11,7 +11,7 @@ use Rattle.swap_base.proofs.Lists.{in_append, in_map, in_from_moment}
 use Rattle.swap_digraph.specs.Graph.{is_among}
 use Rattle.swap_digraph.proofs.Paths.{in-is_among, is_among-true}
 use Rattle.offer_fields.specs.Lists.{each_of}
-use Rattle.offer_header.specs.Names.{ends_of, is_name, leader_step, name_added, name_step, names_stated, numbered_of}
+use Rattle.offer_header.specs.Names.{named_ends, is_name, leader_step, name_added, name_step, names_stated, numbered_of}
 use Rattle.offer_header.specs.declared.names.Ends.{Ends}
 use Rattle.offer_header.specs.declared.names.Numbered.{Numbered}
 use Rattle.swap_clear.specs.declared.answer.Group.{Group}
@@ -19,7 +19,7 @@ use Rattle.swap_clear.specs.Groups.{place}
 use Rattle.swap_clear.specs.Led.{own_leaders}
 use Rattle.clear_line.specs.declared.limits.Wishes.{Wishes}
 use Rattle.clear_line.specs.ClearedText.{proposal}
-use Rattle.read_back.specs.ClearedJobs.{name_of}
+use Rattle.read_back.specs.ClearedJobs.{wished_name}
 use Rattle.read_back.proofs.Steps.{each_back, step}
 use Rattle.read_back.proofs.ClearedFields.{raw_arc, raw_header, raw_leader, raw_party}
 use Rattle.read_back.proofs.Lists.{first_in, firsts, is_less, none_passes, puts_each, twice}
@@ -29,19 +29,19 @@ abbrev pub ends_at : Wishes → Group → ℕ → Ends
 ends_at w group a = record { from = place group.parties (proposal w.arcs a).from; to = place group.parties (proposal w.arcs a).to }
 
 abbrev pub numbered_at : Wishes → Group → Numbered
-numbered_at w group = record { names = map (name_of w) group.parties; arcs = map (ends_at w group) group.arcs; leaders = own_leaders group }
+numbered_at w group = record { names = map (wished_name w) group.parties; arcs = map (ends_at w group) group.arcs; leaders = own_leaders group }
 
 not_true : (t : Bool) → (t ≡ true → ⊥) → t ≡ false
 not_true true h = absurd (h refl)
 not_true false h = refl
 
 abbrev pair_name : Wishes → ℕ × List ℕ → List ℕ
-pair_name w p = name_of w p.0
+pair_name w p = wished_name w p.0
 
 module _ (w : Wishes) (group : Group) (k : IsClear w group) (line : ℕ) (texts : List (List ℕ)) (each : length texts ≡ length group.parties) where
   -- ---- parties
 
-  name_is : (p : ℕ) → p < length w.names → is_name (name_of w p) ≡ true
+  name_is : (p : ℕ) → p < length w.names → is_name (wished_name w p) ≡ true
   name_is p lt = k.names p [] lt
 
   in_pairs : (past : List (ℕ × List ℕ)) (x : ℕ × List ℕ) (rest : List (ℕ × List ℕ)) → zip group.parties texts ≡ past ++ x ∷ rest → IsIn x.0 group.parties
@@ -62,11 +62,11 @@ module _ (w : Wishes) (group : Group) (k : IsClear w group) (line : ℕ) (texts 
   unfolding name_added
   name_on past x rest e =
       let lt : x.0 < length w.names = is_party w group k line x.0 (in_pairs past x rest e) in
-      let fresh : list_any (bytes_eq (name_of w x.0)) (map (pair_name w) past) ≡ false =
-      none_passes (bytes_eq (name_of w x.0)) (pair_name w) past (λ y i.
+      let fresh : list_any (bytes_eq (wished_name w x.0)) (map (pair_name w) past) ≡ false =
+      none_passes (bytes_eq (wished_name w x.0)) (pair_name w) past (λ y i.
       let less : y.0 < x.0 = before past x rest e y i in
       same_name w group k line x.0 y.0 lt (omega (arith, less, lt)) ∙ ne_eqb y.0 x.0 (λ same. omega (arith, less, same))) in
-      let good : is_name (name_of w x.0) ≡ true = name_is x.0 lt in
+      let good : is_name (wished_name w x.0) ≡ true = name_is x.0 lt in
       rw (good, fresh) refl
 
   party_on : (has : List ℕ → Bool) (all : List (List ℕ)) (past : List (ℕ × List ℕ)) (x : ℕ × List ℕ) (rest : List (ℕ × List ℕ))
@@ -76,16 +76,16 @@ module _ (w : Wishes) (group : Group) (k : IsClear w group) (line : ℕ) (texts 
   party_on has all past x rest e = step _ (map (pair_name w) past ++ pair_name w x ∷ []) _ (name_on past x rest e)
 
   all_names : (has : List ℕ → Bool) (all : List (List ℕ))
-      → steps (name_step has line all) [] (map (raw_party w) (zip group.parties texts)) ≡ Ok (map (name_of w) group.parties)
+      → steps (name_step has line all) [] (map (raw_party w) (zip group.parties texts)) ≡ Ok (map (wished_name w) group.parties)
   all_names has all =
       puts_each (name_step has line all) (raw_party w) (pair_name w) [] (zip group.parties texts) (party_on has all)
-      ∙ ap (λ (l : List (List ℕ)). Ok l) (sym (twice (name_of w) (λ (z : ℕ × List ℕ). z.0) (zip group.parties texts))
-      ∙ ap (map (name_of w)) (firsts group.parties texts each))
+      ∙ ap (λ (l : List (List ℕ)). Ok l) (sym (twice (wished_name w) (λ (z : ℕ × List ℕ). z.0) (zip group.parties texts))
+      ∙ ap (map (wished_name w)) (firsts group.parties texts each))
 
   -- ---- arcs
 
-  arc_on : (a : ℕ) → IsIn a group.arcs → ends_of line (map (name_of w) group.parties) (raw_arc w a) ≡ Ok (ends_at w group a)
-  unfolding ends_of
+  arc_on : (a : ℕ) → IsIn a group.arcs → named_ends line (map (wished_name w) group.parties) (raw_arc w a) ≡ Ok (ends_at w group a)
+  unfolding named_ends
   arc_on a i =
       let from = from_in w group k line a i in
       let to = to_in w group k line a i in
@@ -94,8 +94,8 @@ module _ (w : Wishes) (group : Group) (k : IsClear w group) (line : ℕ) (texts 
       ∙ step _ (place group.parties (proposal w.arcs a).to) _
       (number_back w group k line (proposal w.arcs a).to (is_party w group k line _ (is_among-true _ group.parties to)) to)
 
-  all_arcs : each_of (ends_of line (map (name_of w) group.parties)) (map (raw_arc w) group.arcs) ≡ Ok (map (ends_at w group) group.arcs)
-  all_arcs = each_back (ends_of line (map (name_of w) group.parties)) (raw_arc w) (ends_at w group) group.arcs arc_on
+  all_arcs : each_of (named_ends line (map (wished_name w) group.parties)) (map (raw_arc w) group.arcs) ≡ Ok (map (ends_at w group) group.arcs)
+  all_arcs = each_back (named_ends line (map (wished_name w) group.parties)) (raw_arc w) (ends_at w group) group.arcs arc_on
 
   -- ---- leaders
 
@@ -109,7 +109,7 @@ module _ (w : Wishes) (group : Group) (k : IsClear w group) (line : ℕ) (texts 
   leader_before past x rest e y i = subst (λ (l : List ℕ). IsIn y l) (sym e) (in_append past (x ∷ rest) y (inl i))
 
   leader_on : (past : List ℕ) (x : ℕ) (rest : List ℕ) → group.leaders ≡ past ++ x ∷ rest
-      → leader_step line (map (name_of w) group.parties) (map (place group.parties) past) (raw_leader w x)
+      → leader_step line (map (wished_name w) group.parties) (map (place group.parties) past) (raw_leader w x)
       ≡ Ok (map (place group.parties) past ++ place group.parties x ∷ [])
   unfolding leader_step
   leader_on past x rest e =
@@ -125,12 +125,12 @@ module _ (w : Wishes) (group : Group) (k : IsClear w group) (line : ℕ) (texts 
       (number_back w group k line x (is_party w group k line x (is_among-true x group.parties leads)) leads)
       ∙ rw fresh refl
 
-  all_leaders : steps (leader_step line (map (name_of w) group.parties)) [] (map (raw_leader w) group.leaders) ≡ Ok (own_leaders group)
-  all_leaders = puts_each (leader_step line (map (name_of w) group.parties)) (raw_leader w) (place group.parties) [] group.leaders leader_on
+  all_leaders : steps (leader_step line (map (wished_name w) group.parties)) [] (map (raw_leader w) group.leaders) ≡ Ok (own_leaders group)
+  all_leaders = puts_each (leader_step line (map (wished_name w) group.parties)) (raw_leader w) (place group.parties) [] group.leaders leader_on
 
   pub numbered_back : (has : List ℕ → Bool) → numbered_of has line (raw_header w group texts) ≡ Ok (numbered_at w group)
   unfolding numbered_of
   numbered_back has =
-      step _ (map (name_of w) group.parties) _ (all_names has (names_stated (map (raw_party w) (zip group.parties texts))))
+      step _ (map (wished_name w) group.parties) _ (all_names has (names_stated (map (raw_party w) (zip group.parties texts))))
       ∙ step _ (map (ends_at w group) group.arcs) _ all_arcs
       ∙ step _ (own_leaders group) _ all_leaders

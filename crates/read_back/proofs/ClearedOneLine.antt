@@ -9,7 +9,7 @@ use Rattle.swap_base.proofs.Lists.{and_parts}
 use Rattle.command_input.specs.Lines.{filled_lines, lines_of, with_first}
 use Rattle.swap_clear.specs.declared.answer.Group.{Group}
 use Rattle.clear_line.specs.declared.limits.Wishes.{Wishes}
-use Rattle.clear_line.specs.ClearedText.{arc_data, named_data, proposal}
+use Rattle.clear_line.specs.ClearedText.{proposal_data, named_data, proposal}
 use Rattle.read_back.specs.ClearedJobs.{seeded_data, seeded_line, seeded_party}
 use Rattle.read_back.proofs.HeaderOneLine.{one_value, ArePlain, IsOneLine, IsPlain}
 use Rattle.read_back.proofs.ClearedLimited.{amount_low}
@@ -21,7 +21,7 @@ items_plain f (x ∷ xs) h = (h x (inl refl), items_plain f xs (λ y i. h y (inr
 
 job_plain : (w : Wishes) (group : Group) → IsClear w group → (texts : List (List ℕ)) → IsPlain (seeded_data w group texts)
 job_plain w group k texts =
-    let arcs = items_plain (λ a. arc_data w.names (proposal w.arcs a)) group.arcs
+    let arcs = items_plain (λ a. proposal_data w.names (proposal w.arcs a)) group.arcs
     (λ a i. let low = (amount_low w group k a i).1 in (omega (arith, low), (tt, (tt, tt)))) in
     let leaders = items_plain (named_data (codes "party") w.names) group.leaders (λ l i. (tt, tt)) in
     let parties = items_plain (seeded_party w.names) (zip group.parties texts) (λ p i. (tt, (tt, tt))) in

@@ -18,7 +18,7 @@ use Rattle.offer_text.specs.Words.{list_data, name_data, number_data, AreTexts}
 use Rattle.swap_clear.specs.declared.answer.Group.{Group}
 use Rattle.swap_clear.specs.declared.proposed.Proposed.{Proposed}
 use Rattle.clear_line.specs.declared.limits.Wishes.{Wishes}
-use Rattle.clear_line.specs.ClearedText.{arc_data, named_data, proposal}
+use Rattle.clear_line.specs.ClearedText.{proposal_data, named_data, proposal}
 use Rattle.clear_line.proofs.Texts.{are_texts, text_at}
 use Rattle.read_back.specs.ClearedJobs.{job_data, seeded_data, seeded_line, seeded_party, AreDigitsOf}
 use Rattle.read_back.proofs.Texts.{list_is, number_is, object_is, reads_back, string_is, IsRead}
@@ -55,7 +55,7 @@ field s h = IsUtf8-are_ascii s h
 -- ---- parties, arcs and leaders
 
 module _ (names : List (List ℕ)) (texts : AreTexts names) where
-  arc_is : (a : Proposed) → a.amount < 2 ^ 64 → IsRead 1 (arc_data names a)
+  arc_is : (a : Proposed) → a.amount < 2 ^ 64 → IsRead 1 (proposal_data names a)
   arc_is a low =
       object_is 0 (member (codes "amount") (number_data a.amount) (member (codes "from") (name_data names a.from)
       (member (codes "to") (name_data names a.to) no_members))) (
@@ -87,9 +87,9 @@ module _ (w : Wishes) (group : Group) (k : IsClear w group) (texts seeds : List 
   names_are : AreTexts w.names
   names_are = are_texts w.names k.within.names
 
-  arcs_are : IsRead 2 (list_data (λ a. arc_data w.names (proposal w.arcs a)) group.arcs)
+  arcs_are : IsRead 2 (list_data (λ a. proposal_data w.names (proposal w.arcs a)) group.arcs)
   arcs_are =
-      list_is 1 (λ a. arc_data w.names (proposal w.arcs a)) group.arcs
+      list_is 1 (λ a. proposal_data w.names (proposal w.arcs a)) group.arcs
       (λ a i. let low = (amount_low w group k a i).1 in arc_is w.names names_are (proposal w.arcs a) (omega (arith, low)))
 
   leaders_are : IsRead 2 (list_data (named_data (codes "party") w.names) group.leaders)

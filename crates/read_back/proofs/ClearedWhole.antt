@@ -7,10 +7,10 @@ use Rattle.swap_job.specs.declared.job.Purpose.TheVariants.{Make}
 use Rattle.refusals.specs.declared.reason.Reason.TheVariants.{NotJson}
 use Rattle.offer_fields.specs.Fields.{object_of, object_or}
 use Rattle.offer_header.specs.Header.{header_of}
-use Rattle.swap_offer.specs.Job.{job_header_of, job_of, of_lines}
+use Rattle.swap_offer.specs.Job.{job_header_of, job_of, job_of_lines}
 use Rattle.swap_clear.specs.declared.answer.Group.{Group}
 use Rattle.clear_line.specs.declared.limits.Wishes.{Wishes}
-use Rattle.read_back.specs.ClearedJobs.{plain_job, seeded_data, seeded_line, AreDigitsOf, IsSeeded}
+use Rattle.read_back.specs.ClearedJobs.{cleared_job, seeded_data, seeded_line, AreDigitsOf, IsSeeded}
 use Rattle.read_back.specs.ClearedJobs.{ClearedGroupsAreMade, ClearedGroupsArePlainJobs, ClearedGroupsArePlainOffers, OnlySeedsAreAdded}
 use Rattle.read_back.specs.ClearedJobs.{SeededLineIsOneLine, SeededLineReads, SeededTextIsPlainJob}
 use Rattle.read_back.proofs.Steps.{step}
@@ -48,7 +48,7 @@ module _ (w : Wishes) (group : Group) (k : IsClear w group) (texts seeds : List 
       ∙ step _ tt _ (all_placed w group k line texts seeds each digits)
 
   job_back : (has : List ℕ → Bool) (line : ℕ) (text : List ℕ) → is_utf8 text ≡ true → read text ≡ Some (seeded_data w group texts)
-      → job_header_of has Make line text ≡ Ok (plain_job w group seeds)
+      → job_header_of has Make line text ≡ Ok (cleared_job w group seeds)
   unfolding job_header_of
   job_back has line text utf8 reads =
       step _ (header_at w group texts seeds) _ (header_back has line text utf8 reads) ∙ accepted_back w group k line texts seeds each digits
@@ -72,17 +72,17 @@ seeded_line_is_one_line c group texts seeds s =
 
 -- the one line is read as the job, with no event
 line_read : (c : Cleared) (group : Group) (texts seeds : List (List ℕ)) → IsSeeded c group texts seeds → (has : List ℕ → Bool)
-    → of_lines has Make ((1, seeded_line c.wishes group texts) ∷ []) ≡ Ok (plain_job c.wishes group seeds, [])
+    → job_of_lines has Make ((1, seeded_line c.wishes group texts) ∷ []) ≡ Ok (cleared_job c.wishes group seeds, [])
 unfolding steps
-line_read c group texts seeds s has = step _ (plain_job c.wishes group seeds) _ (cleared_groups_are_plain_jobs c group texts seeds s has 1)
+line_read c group texts seeds s has = step _ (cleared_job c.wishes group seeds) _ (cleared_groups_are_plain_jobs c group texts seeds s has 1)
 
 pub cleared_groups_are_plain_offers : ClearedGroupsArePlainOffers
 unfolding job_of
 cleared_groups_are_plain_offers c group texts seeds s has =
-    ap (of_lines has Make) (as_given c.wishes group texts (seeded_line_is_one_line c group texts seeds s)) ∙ line_read c group texts seeds s has
+    ap (job_of_lines has Make) (as_given c.wishes group texts (seeded_line_is_one_line c group texts seeds s)) ∙ line_read c group texts seeds s has
 
 pub cleared_groups_are_made : ClearedGroupsAreMade
 unfolding made_output made_text
 cleared_groups_are_made c group texts seeds s has =
     ap (made_of has) (as_given c.wishes group texts (seeded_line_is_one_line c group texts seeds s))
-    ∙ step _ (plain_job c.wishes group seeds, []) _ (line_read c group texts seeds s has)
+    ∙ step _ (cleared_job c.wishes group seeds, []) _ (line_read c group texts seeds s has)

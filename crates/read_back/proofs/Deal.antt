@@ -12,14 +12,15 @@ use Rattle.swap_digraph.specs.declared.deal.Mode.TheVariants.{Hashkeys}
 use Rattle.swap_digraph.specs.declared.deal.Version.TheVariants.{Two}
 use Rattle.swap_digraph.specs.Graph.{ends}
 use Rattle.hashkey_path.specs.Digest.{deal_id}
+use Rattle.swap_job.specs.Roles.{is_conforming}
 use Rattle.swap_job.specs.declared.job.Job.{Job}
 use Rattle.swap_job.specs.declared.job.Purpose.TheVariants.{Make}
 use Rattle.swap_job.specs.declared.job.Finish.TheVariants.{Stop}
 use Rattle.swap_job.specs.declared.job.Role.{Role}
 use Rattle.swap_job.specs.declared.job.Role.TheVariants.{Conforming}
 use Rattle.proposed_deal.specs.Proposed.{IsProposed}
-use Rattle.offer_header.specs.Header.{IsWithin}
-use Rattle.offer_header.specs.Limits.{arc_ends, conforms, no_digest, no_digests}
+use Rattle.offer_header.specs.Header.{IsHeaderWithin}
+use Rattle.offer_header.specs.Limits.{arc_ends, no_digest, no_digests}
 use Rattle.offer_header.specs.Raw.{IsUntimed}
 use Rattle.offer_header.specs.Scripts.{roles_placed, scripts_placed}
 use Rattle.offer_header.specs.declared.header.Header.{Header}
@@ -30,15 +31,14 @@ use Rattle.offer_header.proofs.Limited.{is_within}
 use Rattle.offer_header.proofs.Numbered.{is_numbered}
 use Rattle.swap_offer.specs.Checks.{admitted, deal_with, digraph_in, job_with, unless_wrong, unnamed}
 use Rattle.swap_offer.specs.Job.{accepted_of, provided}
-use Rattle.swap_offer.specs.Wallets.{no_seed, seed_of, seeded, walleted}
+use Rattle.swap_offer.specs.Wallets.{no_seed, party_seed, seeded, walleted}
 use Rattle.swap_offer.proofs.Admitted.{admitted_is_accepted}
 use Rattle.swap_clear.specs.declared.answer.Group.{Group}
 use Rattle.swap_clear.specs.Groups.{own_ends}
 use Rattle.swap_clear.specs.Led.{own_leaders}
 use Rattle.swap_clear.specs.Ready.{own_amounts}
 use Rattle.clear_line.specs.declared.limits.Wishes.{Wishes}
-use Rattle.read_back.specs.ClearedJobs.{deal_but_id, group_deal, name_of, plain_job, wished_graph, AreDigitsOf}
-use Rattle.read_back.specs.ClearedJobs as laws
+use Rattle.read_back.specs.ClearedJobs.{deal_but_id, group_deal, wished_name, cleared_job, wished_graph, AreDigitsOf, unmade_digests}
 use Rattle.read_back.proofs.Steps.{step}
 use Rattle.read_back.proofs.ClearedFields.{raw_arc, raw_header, raw_leader, raw_party}
 use Rattle.read_back.proofs.Lists.{as_many, pairs_long, same_map, twice}
@@ -97,7 +97,7 @@ abbrev job_by : Wishes → Group → Deal → List Role → List Bool → List (
 job_by w group deal roles conforming seeds = record {
   purpose = Make;
   deal = deal;
-  names = map (name_of w) group.parties;
+  names = map (wished_name w) group.parties;
   roles = roles;
   conforming = conforming;
   seeds = seeds;
@@ -126,11 +126,11 @@ module _ (w : Wishes) (group : Group) (k : IsClear w group) (line : ℕ) (texts 
       ∙ same_map _ (λ a. own_ends group.parties (ends (wished_graph w) a)) group.arcs
       (λ a i. ap (own_ends group.parties) (sym (ends_are w.arcs a)))
 
-  locks_are : no_digests (map (raw_leader w) group.leaders) ≡ laws.no_digests group
+  locks_are : no_digests (map (raw_leader w) group.leaders) ≡ unmade_digests group
   locks_are = twice (λ l. no_digest) (raw_leader w) group.leaders
 
   keys_are : map (λ p. no_digests (map (raw_leader w) group.leaders)) (map (raw_party w) (zip group.parties texts))
-      ≡ map (λ p. laws.no_digests group) group.parties
+      ≡ map (λ p. unmade_digests group) group.parties
   keys_are =
       twice (λ p. no_digests (map (raw_leader w) group.leaders)) (raw_party w) (zip group.parties texts)
       ∙ as_many (no_digests (map (raw_leader w) group.leaders)) (zip group.parties texts) group.parties (pairs_long group.parties texts each)
@@ -139,8 +139,8 @@ module _ (w : Wishes) (group : Group) (k : IsClear w group) (line : ℕ) (texts 
   unnamed_is : (id : List ℕ) → unnamed header (digraph_in header) id ≡ deal_but_id w group id
   unnamed_is id =
       same_deal w group _ (length group.parties) _ (map (λ a. own_ends group.parties (ends (wished_graph w) a)) group.arcs) _ (own_amounts w.arcs group)
-      _ (laws.no_digests group) _ (map (λ p. laws.no_digests group) group.parties) _ (map (λ a. 0) group.arcs) id
-      (length-map group.parties (name_of w)) arcs_are
+      _ (unmade_digests group) _ (map (λ p. unmade_digests group) group.parties) _ (map (λ a. 0) group.arcs) id
+      (length-map group.parties (wished_name w)) arcs_are
       (twice (λ (t : ArcTerms). t.amount) (terms_at w) group.arcs) locks_are keys_are
       (twice (λ (t : ArcTerms). t.timelock) (terms_at w) group.arcs)
 
@@ -175,7 +175,7 @@ module _ (w : Wishes) (group : Group) (k : IsClear w group) (line : ℕ) (texts 
       let size : length (map (raw_arc w) group.arcs) ≡ length group.arcs = length-map group.arcs (raw_arc w) in
       ap (λ (x : RawArc). x.timelock) (get_or-map (raw_arc w) group.arcs a 0 d (omega (arith, lt, size)))
 
-  within : IsWithin header
+  within : IsHeaderWithin header
   within =
       is_within line Make (raw_header w group texts) (numbered_at w group) header
       (is_numbered (λ name. false) line (raw_header w group texts) (numbered_at w group) (numbered_back w group k line texts each (λ name. false))) refl
@@ -189,27 +189,27 @@ module _ (w : Wishes) (group : Group) (k : IsClear w group) (line : ℕ) (texts 
   roles_are : map (λ (a : Acting). a.role) (map acting_with seeds) ≡ map (λ p. Conforming) group.parties
   roles_are = twice (λ (a : Acting). a.role) acting_with seeds ∙ as_many Conforming seeds group.parties seeds_long
 
-  conforming_are : map (λ (a : Acting). conforms a.role) (map acting_with seeds) ≡ map (λ p. true) group.parties
-  conforming_are = twice (λ (a : Acting). conforms a.role) acting_with seeds ∙ as_many true seeds group.parties seeds_long
+  conforming_are : map (λ (a : Acting). is_conforming a.role) (map acting_with seeds) ≡ map (λ p. true) group.parties
+  conforming_are = twice (λ (a : Acting). is_conforming a.role) acting_with seeds ∙ as_many true seeds group.parties seeds_long
 
-  job_is : job_with header (digraph_in header) ≡ plain_job w group seeds
+  job_is : job_with header (digraph_in header) ≡ cleared_job w group seeds
   job_is =
       same_job w group _ (group_deal w group) _ (map (λ p. Conforming) group.parties) _ (map (λ p. true) group.parties) _ (map (λ s. Some s) seeds)
       deal_is roles_are conforming_are (twice (λ (a : Acting). a.seed) acting_with seeds)
 
-  seed_is : (p : ℕ) → p < length group.parties → seed_of (plain_job w group seeds) p ≡ Some (get_or seeds p [])
+  seed_is : (p : ℕ) → p < length group.parties → party_seed (cleared_job w group seeds) p ≡ Some (get_or seeds p [])
   seed_is p lt = let size = seeds_long in get_or-map (λ s. Some s) seeds p [] None (omega (arith, lt, size))
 
-  has_seed : (p : ℕ) → p < length group.parties → no_seed (plain_job w group seeds) p ≡ None
+  has_seed : (p : ℕ) → p < length group.parties → no_seed (cleared_job w group seeds) p ≡ None
   has_seed p lt = rw (seed_is p lt) refl
 
-  nothing_lacks : provided (plain_job w group seeds) ≡ Ok tt
+  nothing_lacks : provided (cleared_job w group seeds) ≡ Ok tt
   unfolding provided seeded walleted
   nothing_lacks =
-      step _ tt _ (ap unless_wrong (none_given (no_seed (plain_job w group seeds)) (range_with_len 0 (length group.parties))
+      step _ tt _ (ap unless_wrong (none_given (no_seed (cleared_job w group seeds)) (range_with_len 0 (length group.parties))
       (λ p i. has_seed p (from_range p (length group.parties) i))))
 
-  pub accepted_back : accepted_of header ≡ Ok (plain_job w group seeds)
+  pub accepted_back : accepted_of header ≡ Ok (cleared_job w group seeds)
   unfolding accepted_of
   accepted_back =
       step _ (digraph_in header) _ is_admitted

@@ -16,13 +16,13 @@ use Rattle.offer_fields.specs.Names.{party_of_name}
 use Rattle.offer_moves.specs.Moves.{arc_of, sizes_of}
 use Rattle.offer_moves.specs.Placed.{adjacent}
 use Rattle.offer_events.specs.Event.{asked, event_of, event_of_act, event_of_look, event_of_tick, outside_race}
-use Rattle.offer_events.specs.Plain.{is_plain}
+use Rattle.offer_events.specs.Plain.{is_plain_byte}
 use Rattle.offer_events.specs.declared.raw.RawEvent.TheVariants as raws
 use Rattle.offer_events.proofs.PlainText.{act_alone, arc_then_look, asked_by, by_then_tick}
 use Rattle.swap_gen.specs.Events.{event_from, events_from}
 use Rattle.swap_gen.specs.Line.{event_line, name_at}
 use Rattle.swap_gen.specs.Word.{word}
-use Rattle.swap_offer.specs.Job.{events_of, next_of}
+use Rattle.swap_offer.specs.Job.{events_of, limited_event}
 use Rattle.command_input.specs.Lines.{is_blank}
 use Rattle.transcript_lines.proofs.Numbers.{high_number}
 use Rattle.read_back.proofs.HeaderLimited.{number_back}
@@ -74,10 +74,10 @@ is_drawn seed g at = by_kind (word seed at % 8 == 0) (nat_le (word seed at % 8) 
 
 -- ---- one line
 
-plain_line : (s : List ℕ) → list_all is_plain s ≡ true → IsOneLine s
+plain_line : (s : List ℕ) → list_all is_plain_byte s ≡ true → IsOneLine s
 plain_line [] h = refl
 plain_line (x ∷ s) h =
-    let p = and_parts (is_plain x) (list_all is_plain s) h in
+    let p = and_parts (is_plain_byte x) (list_all is_plain_byte s) h in
     let low : 32 ≤ x = leb-true 32 x (and_parts (nat_le 32 x) (nat_le x 126 && (not (x == 34) && not (x == 92))) p.0).0 in
     and_both (not (x == 10)) (list_all (λ y. not (y == 10)) s) (ap not (ne_eqb x 10 (λ e. omega (arith, low, e)))) (plain_line s p.1)
 
@@ -87,8 +87,8 @@ number_line n lt = high_line (decimal n) (high_number n lt)
 -- numbers of an event that have at most 64 bits, and names that need no escape
 abbrev pub IsPlainEvent : List (List ℕ) → Event → Type 0
 IsPlainEvent names (Tick a k) = (a < 2 ^ 64) × (k < 2 ^ 64)
-IsPlainEvent names (Look p a) = (a < 2 ^ 64) × (list_all is_plain (name_at names p) ≡ true)
-IsPlainEvent names (Act p) = list_all is_plain (name_at names p) ≡ true
+IsPlainEvent names (Look p a) = (a < 2 ^ 64) × (list_all is_plain_byte (name_at names p) ≡ true)
+IsPlainEvent names (Act p) = list_all is_plain_byte (name_at names p) ≡ true
 IsPlainEvent names (Call p mv) = ⊥
 IsPlainEvent names (Crash p k image) = ⊥
 
@@ -127,7 +127,7 @@ drawn_from job seed g can at (suc count) = (can at, is_drawn seed g at, drawn_fr
 pub record HasPlainNames (job : Job) : Type 0 where
   pub arcs : length job.deal.graph.arcs ≤ 128
   pub number : (line p : ℕ) → p < job.deal.graph.n → party_of_name line job.names (name_at job.names p) ≡ Ok p
-  pub plain : (p : ℕ) → p < job.deal.graph.n → list_all is_plain (name_at job.names p) ≡ true
+  pub plain : (p : ℕ) → p < job.deal.graph.n → list_all is_plain_byte (name_at job.names p) ≡ true
   pub outside : (line : ℕ) → outside_race line job.purpose ≡ Ok tt
 
 module _ (job : Job) (k : HasPlainNames job) where
@@ -186,8 +186,8 @@ module _ (job : Job) (k : HasPlainNames job) where
 
   -- ---- all of them
 
-  next_back : (count line : ℕ) (e : Event) → count < 200000 → IsEventOf job e → IsDrawn e → next_of job count line (event_text job.names e) ≡ Ok e
-  unfolding next_of
+  next_back : (count line : ℕ) (e : Event) → count < 200000 → IsEventOf job e → IsDrawn e → limited_event job count line (event_text job.names e) ≡ Ok e
+  unfolding limited_event
   next_back count line e lt can d =
       ap (λ (b : Bool). cond b (Err (OverLimit line (codes "events") 200001)) (event_of job line (event_text job.names e)))
       (ne_eqb count 200000 (λ same. omega (arith, lt, same)))

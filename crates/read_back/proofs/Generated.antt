@@ -13,17 +13,17 @@ use Rattle.swap_base.proofs.Lists.{and_parts}
 use Rattle.swap_digraph.specs.Value.{Graph}
 use Rattle.swap_digraph.specs.declared.arc_ends.ArcEnds.{ArcEnds}
 use Rattle.swap_job.specs.Step.{IsEventOf}
+use Rattle.swap_job.specs.Roles.{is_conforming}
 use Rattle.swap_job.specs.declared.job.Job.{Job}
 use Rattle.swap_job.specs.declared.job.Purpose.{Purpose}
 use Rattle.swap_job.specs.declared.job.Purpose.TheVariants.{Check, Run, Race, Make, Audit}
 use Rattle.swap_job.specs.declared.job.Role.TheVariants.{Conforming}
 use Rattle.offer_events.specs.Event.{outside_race}
-use Rattle.offer_events.specs.Plain.{is_plain}
-use Rattle.offer_header.specs.Limits.{conforms}
+use Rattle.offer_events.specs.Plain.{is_plain_byte}
 use Rattle.offer_header.specs.Names.{is_name}
 use Rattle.offer_header.specs.Scripts.{roles_placed}
 use Rattle.offer_text.specs.HeaderLine.{header_line}
-use Rattle.swap_gen.specs.Drawn.{drawn_graph, generated, name_of, plain_deal, plain_job, seed_of}
+use Rattle.swap_gen.specs.Drawn.{drawn_graph, generated, name_of, plain_deal, plain_job, drawn_seed}
 use Rattle.swap_gen.specs.Events.{event_from, events_from, first_place, generated_events}
 use Rattle.swap_gen.specs.Made.{made_deal}
 use Rattle.swap_gen.proofs.Generated.{generated_steps, plain_has_seeds, plain_job_is_proposed}
@@ -32,7 +32,7 @@ use Rattle.made_jobs.specs.Generating.{generated_text}
 use Rattle.made_jobs.specs.Making.{written_line}
 use Rattle.read_back.proofs.HeaderNamed as named
 use Rattle.transcript_lines.specs.Between.{ended}
-use Rattle.read_back.specs.Made.{numbered_from, reads_jobs, told, with_job, GeneratedTextIsReadBack, HasEventsFor}
+use Rattle.read_back.specs.Made.{numbered_from, reads_jobs, told_job, with_job, GeneratedTextIsReadBack, HasEventsFor}
 use Rattle.read_back.proofs.Events.{drawn_from, event_lines, event_text, events_back, lines_are_text, AreDrawn, HasPlainNames}
 use Rattle.read_back.proofs.Outputs.{text_back}
 use Rattle.read_back.proofs.Plain.{hash_is, made_is_told, IsPlainJob}
@@ -46,7 +46,7 @@ all_good (suc n) = is_name (name_of n) && all_good n
 
 abbrev all_plain : ℕ → Bool
 all_plain zero = true
-all_plain (suc n) = list_all is_plain (name_of n) && all_plain n
+all_plain (suc n) = list_all is_plain_byte (name_of n) && all_plain n
 
 below : (P : ℕ → Bool) (p n : ℕ) → (p < suc n → p ≡ n → P p ≡ true) → (p < n → P p ≡ true) → p < suc n → P p ≡ true
 below P p n here before lt = by (p == n) refl
@@ -61,11 +61,11 @@ good_at (suc n) p e lt =
     let q = and_parts (is_name (name_of n)) (all_good n) e in
     below (λ i. is_name (name_of i)) p n (λ l same. ap (λ (i : ℕ). is_name (name_of i)) same ∙ q.0) (good_at n p q.1) lt
 
-plain_at : (n p : ℕ) → all_plain n ≡ true → p < n → list_all is_plain (name_of p) ≡ true
+plain_at : (n p : ℕ) → all_plain n ≡ true → p < n → list_all is_plain_byte (name_of p) ≡ true
 plain_at zero p e lt = absurd (omega arith)
 plain_at (suc n) p e lt =
-    let q = and_parts (list_all is_plain (name_of n)) (all_plain n) e in
-    below (λ i. list_all is_plain (name_of i)) p n (λ l same. ap (λ (i : ℕ). list_all is_plain (name_of i)) same ∙ q.0) (plain_at n p q.1) lt
+    let q = and_parts (list_all is_plain_byte (name_of n)) (all_plain n) e in
+    below (λ i. list_all is_plain_byte (name_of i)) p n (λ l same. ap (λ (i : ℕ). list_all is_plain_byte (name_of i)) same ∙ q.0) (plain_at n p q.1) lt
 
 are_good : all_good 24 ≡ true
 unfolding is_name digits
@@ -90,7 +90,7 @@ events_long seed n count = from_long seed (drawn_graph seed n) (first_place seed
 
 -- ---- the job
 
-all_conform : (n : ℕ) → replicate n true ≡ map conforms (replicate n Conforming)
+all_conform : (n : ℕ) → replicate n true ≡ map is_conforming (replicate n Conforming)
 all_conform zero = refl
 all_conform (suc n) = ap (λ (l : List Bool). true ∷ l) (all_conform n)
 
@@ -130,8 +130,8 @@ module _ (has : List ℕ → Bool) (seed n : ℕ) (many : 2 ≤ n) (few : n ≤ 
         same_number p q (omega (arith, p_in, few)) (omega (arith, q_in, few)) (sym (named_so p p_in) ∙ e ∙ named_so q q_in);
     roles = length-replicate n Conforming;
     acting = all_conform n;
-    seeds = length-map-range_with_len (λ i. Some (seed_of seed i)) 0 n;
-    digests = All-map MayBeDigest (λ i. Some (seed_of seed i)) (range_with_len 0 n) (λ i d lt. hash_is _);
+    seeds = length-map-range_with_len (λ i. Some (drawn_seed seed i)) 0 n;
+    digests = All-map MayBeDigest (λ i. Some (drawn_seed seed i)) (range_with_len 0 n) (λ i d lt. hash_is _);
     said = All-replicate (IsToldRole has (sizes_at (plain_job seed n)) (length (plain_job seed n).names)) n Conforming tt;
     placed = λ line. none_placed _ _ line 0 n;
     have = plain_has_seeds seed n;
@@ -139,7 +139,7 @@ module _ (has : List ℕ → Bool) (seed n : ℕ) (many : 2 ≤ n) (few : n ≤ 
 
   module _ (purpose : Purpose) (reads : reads_jobs purpose ≡ true) where
     abbrev job : Job
-    job = told purpose (plain_job seed n)
+    job = told_job purpose (plain_job seed n)
 
     is_told : IsTold has job
     is_told = made_is_told has (plain_job seed n) generated_is_plain purpose reads
@@ -157,7 +157,7 @@ module _ (has : List ℕ → Bool) (seed n : ℕ) (many : 2 ≤ n) (few : n ≤ 
       plain = λ p lt.
           let size = parties_are in
           let p_in : p < n = omega (arith, size, lt) in
-          ap (list_all is_plain) (named_so p p_in) ∙ plain_at 24 p are_plain (omega (arith, p_in, few));
+          ap (list_all is_plain_byte) (named_so p p_in) ∙ plain_at 24 p are_plain (omega (arith, p_in, few));
       outside = outside;
     }
 
@@ -173,42 +173,42 @@ module _ (has : List ℕ → Bool) (seed n : ℕ) (many : 2 ≤ n) (few : n ≤ 
   abbrev names : List (List ℕ)
   names = (plain_job seed n).names
 
-  checked : HasPlainNames (told Check (plain_job seed n))
+  checked : HasPlainNames (told_job Check (plain_job seed n))
   checked = has_plain_names Check refl (λ line. refl)
 
   text_is : (events : ℕ) → generated_text seed n events ≡ ended (header_line (generated seed n) ∷ map (event_text names) (generated_events seed n events))
   unfolding generated_text written_line
   text_is events =
       ap (λ (l : List ℕ). (header_line (generated seed n) ++ codes "\n") ++ l)
-      (lines_are_text (told Check (plain_job seed n)) checked 0 (generated_events seed n events) (are_drawn Check refl events))
+      (lines_are_text (told_job Check (plain_job seed n)) checked 0 (generated_events seed n events) (are_drawn Check refl events))
 
   read_as : (purpose : Purpose) → reads_jobs purpose ≡ true → (events : ℕ) → job_of has purpose (generated_text seed n events)
-      ≡ with_job (told purpose (plain_job seed n))
-      (events_of (told purpose (plain_job seed n)) 0 (numbered_from 2 (map (event_text names) (generated_events seed n events))))
+      ≡ with_job (told_job purpose (plain_job seed n))
+      (events_of (told_job purpose (plain_job seed n)) 0 (numbered_from 2 (map (event_text names) (generated_events seed n events))))
   read_as purpose reads events =
       ap (job_of has purpose) (text_is events)
       ∙ text_back has (plain_job seed n) generated_is_plain purpose reads (map (event_text names) (generated_events seed n events))
-      (event_lines (told Check (plain_job seed n)) checked (generated_events seed n events) (are_drawn Check refl events))
+      (event_lines (told_job Check (plain_job seed n)) checked (generated_events seed n events) (are_drawn Check refl events))
 
   with_events : (purpose : Purpose) → reads_jobs purpose ≡ true → ((line : ℕ) → outside_race line purpose ≡ Ok tt) → (events : ℕ) → events ≤ 200000
-      → job_of has purpose (generated_text seed n events) ≡ Ok (told purpose (plain_job seed n), generated_events seed n events)
+      → job_of has purpose (generated_text seed n events) ≡ Ok (told_job purpose (plain_job seed n), generated_events seed n events)
   with_events purpose reads outside events few_events =
       let size = events_long seed n events in
       read_as purpose reads events
-      ∙ ap (with_job (told purpose (plain_job seed n)))
-      (events_back (told purpose (plain_job seed n)) (has_plain_names purpose reads outside) 0 2 (generated_events seed n events)
+      ∙ ap (with_job (told_job purpose (plain_job seed n)))
+      (events_back (told_job purpose (plain_job seed n)) (has_plain_names purpose reads outside) 0 2 (generated_events seed n events)
       (omega (arith, size, few_events)) (are_drawn purpose reads events))
 
-  without_events : job_of has Race (generated_text seed n 0) ≡ Ok (told Race (plain_job seed n), generated_events seed n 0)
+  without_events : job_of has Race (generated_text seed n 0) ≡ Ok (told_job Race (plain_job seed n), generated_events seed n 0)
   unfolding generated_events events_of
   without_events = read_as Race refl 0
 
   pub generated_back : (purpose : Purpose) → reads_jobs purpose ≡ true → (events : ℕ) → events ≤ 200000 → HasEventsFor purpose events
-      → job_of has purpose (generated_text seed n events) ≡ Ok (told purpose (plain_job seed n), generated_events seed n events)
+      → job_of has purpose (generated_text seed n events) ≡ Ok (told_job purpose (plain_job seed n), generated_events seed n events)
   generated_back Check reads events few_events h = with_events Check refl (λ line. refl) events few_events
   generated_back Run reads events few_events h = with_events Run refl (λ line. refl) events few_events
   generated_back Race reads events few_events h =
-      subst (λ (m : ℕ). job_of has Race (generated_text seed n m) ≡ Ok (told Race (plain_job seed n), generated_events seed n m)) (sym h) without_events
+      subst (λ (m : ℕ). job_of has Race (generated_text seed n m) ≡ Ok (told_job Race (plain_job seed n), generated_events seed n m)) (sym h) without_events
   generated_back Make reads events few_events h = absurd (cc reads)
   generated_back Audit reads events few_events h = absurd (cc reads)
 

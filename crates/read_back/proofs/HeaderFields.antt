@@ -10,7 +10,7 @@ use Rattle.swap_digraph.specs.declared.deal.Mode.{Mode}
 use Rattle.swap_digraph.specs.declared.deal.Mode.TheVariants.{Timelocks, Hashkeys}
 use Rattle.swap_digraph.specs.declared.deal.Version.{Version}
 use Rattle.swap_digraph.specs.declared.deal.Version.TheVariants.{One, Two}
-use Rattle.swap_digraph.specs.Deal.{amount, leader_of as leader_in, locks}
+use Rattle.swap_digraph.specs.Deal.{amount, leader_of, locks}
 use Rattle.swap_job.specs.declared.job.Job.{Job}
 use Rattle.swap_job.specs.declared.job.Purpose.TheVariants.{Audit}
 use Rattle.swap_job.specs.declared.job.Finish.TheVariants.{Stop}
@@ -23,7 +23,7 @@ use Rattle.offer_header.specs.declared.raw.RawArc.{RawArc}
 use Rattle.offer_header.specs.declared.raw.RawLeader.{RawLeader}
 use Rattle.offer_header.specs.declared.raw.RawRow.{RawRow}
 use Rattle.offer_header.specs.declared.raw.RawHeader.{RawHeader}
-use Rattle.offer_header.specs.Raw.{actor_at, arc_of, header_fields, keys_at, leader_of, mode_at, mode_for, party_of, raw_of, row_of, states_keys}
+use Rattle.offer_header.specs.Raw.{actor_at, raw_arc_of, header_fields, keys_at, raw_leader_of, mode_at, mode_for, party_of, raw_of, row_of, states_keys}
 use Rattle.offer_header.specs.Raw.{stated_mode_at, version_at, version_of, IsModeOf}
 use Rattle.offer_text.specs.Words.{digest_data, list_data, number_data}
 use Rattle.offer_text.specs.HeaderLine.{arc_data, fields_by_mode, leader_at, number_of, shown_header, shown_party, word_of_conforming}
@@ -70,25 +70,25 @@ abbrev pub arc_shown : Mode → Job → ℕ → Data
 arc_shown mode job a = arc_data mode job.names (ends job.deal.graph a) (amount job.deal a) (slice_index job.deal.timelocks a)
 
 arc_by : (mode : Mode) (line : ℕ) (names : List (List ℕ)) (arc : ArcEnds) (units timelock : ℕ)
-    → arc_of (reading mode) line (arc_data mode names arc units timelock)
+    → raw_arc_of (reading mode) line (arc_data mode names arc units timelock)
     ≡ Ok (record { from = slice_index_or names arc.from []; to = slice_index_or names arc.to []; amount = units; timelock = stated mode timelock })
-unfolding arc_of object_at text_at needed number_at only
+unfolding raw_arc_of object_at text_at needed number_at only
 arc_by Timelocks line names arc units timelock = refl
 arc_by Hashkeys line names arc units timelock = refl
 
-pub arc_back : (mode : Mode) (line : ℕ) (job : Job) (a : ℕ) → arc_of (reading mode) line (arc_shown mode job a) ≡ Ok (raw_arc mode job a)
+pub arc_back : (mode : Mode) (line : ℕ) (job : Job) (a : ℕ) → raw_arc_of (reading mode) line (arc_shown mode job a) ≡ Ok (raw_arc mode job a)
 arc_back mode line job a = arc_by mode line job.names (ends job.deal.graph a) (amount job.deal a) (slice_index job.deal.timelocks a)
 
 -- ---- leaders and keys
 
 abbrev pub raw_leader : Job → ℕ → RawLeader
 raw_leader job i = record {
-  party = slice_index_or job.names (leader_in job.deal i) [];
+  party = slice_index_or job.names (leader_of job.deal i) [];
   hashlock = encode_lower (slice_index_or job.deal.hashlocks i []);
 }
 
-pub leader_back : (mode : Mode) (line : ℕ) (job : Job) (i : ℕ) → leader_of (reading mode) line (leader_at job.names job.deal i) ≡ Ok (raw_leader job i)
-unfolding leader_of object_at text_at needed only
+pub leader_back : (mode : Mode) (line : ℕ) (job : Job) (i : ℕ) → raw_leader_of (reading mode) line (leader_at job.names job.deal i) ≡ Ok (raw_leader job i)
+unfolding raw_leader_of object_at text_at needed only
 leader_back mode line job i = refl
 
 text_back : (line : ℕ) (key : List ℕ) → member_text_of line (codes "keys") (digest_data key) ≡ Ok (encode_lower key)
@@ -187,23 +187,23 @@ parties_are Hashkeys line job =
     (λ p i. party_back Hashkeys line job p)
 
 arcs_are : (mode : Mode) (line : ℕ) (job : Job)
-    → list_at line (codes "arcs") (arc_of (reading mode) line) (shown_in mode job) ≡ Ok (map (raw_arc mode job) (arcs job.deal.graph))
+    → list_at line (codes "arcs") (raw_arc_of (reading mode) line) (shown_in mode job) ≡ Ok (map (raw_arc mode job) (arcs job.deal.graph))
 unfolding list_at array_at needed
 arcs_are Timelocks line job =
-    items_back (arc_of (reading Timelocks) line) (arc_shown Timelocks job) (raw_arc Timelocks job) (arcs job.deal.graph)
+    items_back (raw_arc_of (reading Timelocks) line) (arc_shown Timelocks job) (raw_arc Timelocks job) (arcs job.deal.graph)
     (λ a i. arc_back Timelocks line job a)
 arcs_are Hashkeys line job =
-    items_back (arc_of (reading Hashkeys) line) (arc_shown Hashkeys job) (raw_arc Hashkeys job) (arcs job.deal.graph)
+    items_back (raw_arc_of (reading Hashkeys) line) (arc_shown Hashkeys job) (raw_arc Hashkeys job) (arcs job.deal.graph)
     (λ a i. arc_back Hashkeys line job a)
 
 leaders_are : (mode : Mode) (line : ℕ) (job : Job)
-    → list_at line (codes "leaders") (leader_of (reading mode) line) (shown_in mode job) ≡ Ok (map (raw_leader job) (locks job.deal))
+    → list_at line (codes "leaders") (raw_leader_of (reading mode) line) (shown_in mode job) ≡ Ok (map (raw_leader job) (locks job.deal))
 unfolding list_at array_at needed
 leaders_are Timelocks line job =
-    items_back (leader_of (reading Timelocks) line) (leader_at job.names job.deal) (raw_leader job) (locks job.deal)
+    items_back (raw_leader_of (reading Timelocks) line) (leader_at job.names job.deal) (raw_leader job) (locks job.deal)
     (λ k i. leader_back Timelocks line job k)
 leaders_are Hashkeys line job =
-    items_back (leader_of (reading Hashkeys) line) (leader_at job.names job.deal) (raw_leader job) (locks job.deal)
+    items_back (raw_leader_of (reading Hashkeys) line) (leader_at job.names job.deal) (raw_leader job) (locks job.deal)
     (λ k i. leader_back Hashkeys line job k)
 
 keys_are : (mode : Mode) (line : ℕ) (job : Job) → keys_at line (states_keys Audit mode) (shown_in mode job) ≡ Ok (raw_keys mode job)

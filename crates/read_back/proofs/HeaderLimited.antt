@@ -15,6 +15,7 @@ use Rattle.swap_digraph.specs.declared.deal.Mode.{Mode}
 use Rattle.swap_digraph.specs.declared.deal.Mode.TheVariants.{Timelocks, Hashkeys}
 use Rattle.swap_digraph.specs.Deal.{amount, locks, most_arcs, most_parties, HasKeys}
 use Rattle.swap_digraph.specs.declared.deal.Deal.{Deal}
+use Rattle.swap_job.specs.Roles.{is_conforming}
 use Rattle.swap_job.specs.declared.job.Job.{Job}
 use Rattle.swap_job.specs.declared.job.Purpose.TheVariants.{Audit}
 use Rattle.swap_job.specs.declared.job.Finish.TheVariants.{Stop}
@@ -27,8 +28,8 @@ use Rattle.offer_header.specs.declared.limits.Acting.{Acting}
 use Rattle.offer_header.specs.declared.limits.ArcTerms.{ArcTerms}
 use Rattle.offer_header.specs.declared.header.Header.{Header}
 use Rattle.offer_header.specs.Header.{simple_role}
-use Rattle.offer_header.specs.Limits.{acting_of, all_terms_of, arc_ends, conforms, hashlock_of, hashlocks_of, key_of, keys_of, limited_of, parties_of}
-use Rattle.offer_header.specs.Limits.{party_keys_of, role_of, seed_of, sizes_in, stated_keys_of, terms_of}
+use Rattle.offer_header.specs.Limits.{acting_of, all_terms_of, arc_ends, hashlock_of, hashlocks_of, key_digest, keys_of, limited_of, parties_of}
+use Rattle.offer_header.specs.Limits.{party_keys_of, checked_role, checked_seed, sizes_in, stated_keys_of, terms_of}
 use Rattle.typed_books.specs.Typed.{IsDigest}
 use Rattle.read_back.specs.Headers.{IsShowable}
 use Rattle.read_back.proofs.Steps.{by_places, each_back, step}
@@ -82,11 +83,11 @@ same_map {B = B} f g (x ∷ xs) h = ap₂ (λ (y : B) (ys : List B). y ∷ ys) (
 abbrev acting_for : Bool → Acting
 acting_for c = record { role = simple_role c; seed = None }
 
-role_back : (sizes : Sizes) (names : List (List ℕ)) (line : ℕ) (c : Bool) → role_of sizes names line (actor_for c) ≡ Ok (simple_role c)
+role_back : (sizes : Sizes) (names : List (List ℕ)) (line : ℕ) (c : Bool) → checked_role sizes names line (actor_for c) ≡ Ok (simple_role c)
 role_back sizes names line true = refl
 role_back sizes names line false = refl
 
-simple_conforms : (c : Bool) → conforms (simple_role c) ≡ c
+simple_conforms : (c : Bool) → is_conforming (simple_role c) ≡ c
 simple_conforms true = refl
 simple_conforms false = refl
 
@@ -94,7 +95,7 @@ roles_are : (cs : List Bool) → map (λ (a : Acting). a.role) (map acting_for c
 roles_are [] = refl
 roles_are (c ∷ cs) = ap (λ (rs : List Role). simple_role c ∷ rs) (roles_are cs)
 
-conforming_are : (cs : List Bool) → map (λ (a : Acting). conforms a.role) (map acting_for cs) ≡ cs
+conforming_are : (cs : List Bool) → map (λ (a : Acting). is_conforming a.role) (map acting_for cs) ≡ cs
 conforming_are [] = refl
 conforming_are (c ∷ cs) = ap₂ (λ (b : Bool) (bs : List Bool). b ∷ bs) (simple_conforms c) (conforming_are cs)
 
@@ -150,7 +151,7 @@ module _ (job : Job) (k : IsShowable job) (line : ℕ) where
 
   party_acts : (sizes : Sizes) (names : List (List ℕ)) (p : ℕ)
       → acting_of sizes names line (raw_party job p) ≡ Ok (acting_for (slice_index_or job.conforming p false))
-  unfolding acting_of seed_of
+  unfolding acting_of checked_seed
   party_acts sizes names p =
       step _ (simple_role (slice_index_or job.conforming p false)) _ (role_back sizes names line (slice_index_or job.conforming p false))
 
@@ -238,8 +239,8 @@ module _ (job : Job) (k : IsShowable job) (line : ℕ) where
       (λ i is. hashlock_back i (from_range i (length job.deal.leaders) is))
       ∙ ap (λ (l : List (List ℕ)). Ok l) (placed job.deal.hashlocks [] (length job.deal.leaders) k.accepted.hashlocks)
 
-  key_back : (key : List ℕ) → IsDigest key → key_of line (encode_lower key) ≡ Ok key
-  unfolding key_of
+  key_back : (key : List ℕ) → IsDigest key → key_digest line (encode_lower key) ≡ Ok key
+  unfolding key_digest
   key_back key d = digest_back line (codes "keys") key d
 
   row_back : (keys : List (List ℕ)) → length keys ≡ length job.deal.leaders → All IsDigest keys
@@ -249,7 +250,7 @@ module _ (job : Job) (k : IsShowable job) (line : ℕ) where
       let size : length (map encode_lower keys) ≡ length job.deal.leaders = length-map keys encode_lower ∙ long in
       step _ tt _ (within_back line (codes "keys") (length job.deal.leaders) (length job.deal.leaders) (length (map encode_lower keys))
       (omega (arith, size)) (omega (arith, size)))
-      ∙ each_back (key_of line) encode_lower (λ x. x) keys (λ key i. key_back key (all_in IsDigest keys key all i))
+      ∙ each_back (key_digest line) encode_lower (λ x. x) keys (λ key i. key_back key (all_in IsDigest keys key all i))
       ∙ ap (λ (l : List (List ℕ)). Ok l) (map_self keys)
 
   pub rows_back : (xs : List (List (List ℕ))) → ((x : List (List ℕ)) → IsIn x xs → (length x ≡ length job.deal.leaders) × All IsDigest x)
@@ -289,7 +290,7 @@ module _ (job : Job) (k : IsShowable job) (line : ℕ) where
   -- ---- the header
 
   is_header : (mode : Mode) → IsTimed mode job.deal → header_by job (map (λ (a : Acting). a.role) (map acting_for job.conforming))
-      (map (λ (a : Acting). conforms a.role) (map acting_for job.conforming)) (map (λ (a : Acting). a.seed) (map acting_for job.conforming))
+      (map (λ (a : Acting). is_conforming a.role) (map acting_for job.conforming)) (map (λ (a : Acting). a.seed) (map acting_for job.conforming))
       (map arc_ends (map (ends_at job) (arcs job.deal.graph))) (map (λ (t : ArcTerms). t.amount) (map (terms_at mode job) (arcs job.deal.graph)))
       (map (λ (t : ArcTerms). t.timelock) (map (terms_at mode job) (arcs job.deal.graph))) ≡ header_at job
   is_header mode timed =

@@ -11,11 +11,11 @@ use Rattle.swap_base.proofs.Lists.{from_range}
 use Rattle.hashkey_path.proofs.Validity.{bytes_eq-true, bytes_eq_self}
 use Rattle.swap_digraph.specs.Graph.{arcs, ends}
 use Rattle.swap_digraph.specs.declared.deal.Mode.{Mode}
-use Rattle.swap_digraph.specs.Deal.{leader_of as leader_in}
+use Rattle.swap_digraph.specs.Deal.{leader_of}
 use Rattle.swap_job.specs.declared.job.Job.{Job}
 use Rattle.offer_fields.specs.Names.{found, party_of_name}
 use Rattle.offer_fields.specs.Lists.{each_of}
-use Rattle.offer_header.specs.Names.{actor_known, ends_of, is_name, leader_step, name_added, name_step, names_stated, numbered_of}
+use Rattle.offer_header.specs.Names.{actor_known, named_ends, is_name, leader_step, name_added, name_step, names_stated, numbered_of}
 use Rattle.offer_header.specs.declared.names.Ends.{Ends}
 use Rattle.offer_header.specs.declared.names.Numbered.{Numbered}
 use Rattle.read_back.specs.Headers.{IsShowable}
@@ -106,8 +106,8 @@ module _ (job : Job) (k : IsShowable job) (line : ℕ) where
       (λ t. steps (name_step has line all) t (map (raw_party job) (range_with_len (i + 1) m))) (party_on has all i (omega arith))
       ∙ parties_on has all m (i + 1) (omega arith)
 
-  arc_on : (mode : Mode) (a : ℕ) → a < length job.deal.graph.arcs → ends_of line job.names (raw_arc mode job a) ≡ Ok (ends_at job a)
-  unfolding ends_of
+  arc_on : (mode : Mode) (a : ℕ) → a < length job.deal.graph.arcs → named_ends line job.names (raw_arc mode job a) ≡ Ok (ends_at job a)
+  unfolding named_ends
   arc_on mode a lt =
       let count : length job.names ≡ job.deal.graph.n = k.parties in
       let from : (ends job.deal.graph a).from < job.deal.graph.n = k.accepted.ends.from a lt in
@@ -116,12 +116,12 @@ module _ (job : Job) (k : IsShowable job) (line : ℕ) where
       ∙ step _ (ends job.deal.graph a).to _ (number_back (ends job.deal.graph a).to (omega (arith, count, to)))
 
   -- a leader that isn't among those before it
-  other_leader : (i j : ℕ) → i < length job.deal.leaders → j < i → nat_eq (get_or (take i job.deal.leaders) j 0) (leader_in job.deal i) ≡ false
+  other_leader : (i j : ℕ) → i < length job.deal.leaders → j < i → nat_eq (get_or (take i job.deal.leaders) j 0) (leader_of job.deal i) ≡ false
   other_leader i j lt less =
-      not_true (nat_eq (get_or (take i job.deal.leaders) j 0) (leader_in job.deal i))
+      not_true (nat_eq (get_or (take i job.deal.leaders) j 0) (leader_of job.deal i))
       (λ t.
-      let equal : get_or job.deal.leaders j 0 ≡ leader_in job.deal i = sym (get_or-take i job.deal.leaders j 0 less)
-      ∙ eqb-true (get_or (take i job.deal.leaders) j 0) (leader_in job.deal i) t in
+      let equal : get_or job.deal.leaders j 0 ≡ leader_of job.deal i = sym (get_or-take i job.deal.leaders j 0 less)
+      ∙ eqb-true (get_or (take i job.deal.leaders) j 0) (leader_of job.deal i) t in
       let same : i ≡ j = k.accepted.apart i j lt (omega (arith, less, lt)) (sym equal) in
       omega (arith, same, less))
 
@@ -130,11 +130,11 @@ module _ (job : Job) (k : IsShowable job) (line : ℕ) where
   unfolding leader_step
   leader_on i lt =
       let count : length job.names ≡ job.deal.graph.n = k.parties in
-      let below : leader_in job.deal i < job.deal.graph.n = k.accepted.leader i lt in
+      let below : leader_of job.deal i < job.deal.graph.n = k.accepted.leader i lt in
       let size = length-take i job.deal.leaders in
-      let fresh : list_any (λ n. nat_eq n (leader_in job.deal i)) (take i job.deal.leaders) ≡ false =
-      any_false (λ n. nat_eq n (leader_in job.deal i)) (take i job.deal.leaders) 0 (λ j less. other_leader i j lt (omega (arith, less, size))) in
-      step _ (leader_in job.deal i) _ (number_back (leader_in job.deal i) (omega (arith, count, below)))
+      let fresh : list_any (λ n. nat_eq n (leader_of job.deal i)) (take i job.deal.leaders) ≡ false =
+      any_false (λ n. nat_eq n (leader_of job.deal i)) (take i job.deal.leaders) 0 (λ j less. other_leader i j lt (omega (arith, less, size))) in
+      step _ (leader_of job.deal i) _ (number_back (leader_of job.deal i) (omega (arith, count, below)))
       ∙ rw fresh (ap (λ (l : List ℕ). Ok l) (sym (take_more job.deal.leaders i 0 lt)))
 
   leaders_on : (m i : ℕ) → i + m ≡ length job.deal.leaders
@@ -146,9 +146,10 @@ module _ (job : Job) (k : IsShowable job) (line : ℕ) where
       (λ t. steps (leader_step line job.names) t (map (raw_leader job) (range_with_len (i + 1) m))) (leader_on i (omega arith))
       ∙ leaders_on m (i + 1) (omega arith)
 
-  pub all_arcs : (mode : Mode) → each_of (ends_of line job.names) (map (raw_arc mode job) (arcs job.deal.graph)) ≡ Ok (map (ends_at job) (arcs job.deal.graph))
+  pub all_arcs : (mode : Mode) → each_of (named_ends line job.names) (map (raw_arc mode job) (arcs job.deal.graph))
+      ≡ Ok (map (ends_at job) (arcs job.deal.graph))
   all_arcs mode =
-      each_back (ends_of line job.names) (raw_arc mode job) (ends_at job) (arcs job.deal.graph)
+      each_back (named_ends line job.names) (raw_arc mode job) (ends_at job) (arcs job.deal.graph)
       (λ a i. arc_on mode a (from_range a (length job.deal.graph.arcs) i))
 
   all_names : (has : List ℕ → Bool) (all : List (List ℕ))

@@ -21,7 +21,7 @@ use Rattle.swap_job.specs.declared.job.Finish.TheVariants.{Stop}
 use Rattle.swap_rules.specs.Accepted.{IsAccepted, IsOfVersion}
 use Rattle.refusals.specs.declared.reason.Reason.TheVariants.{NotJson}
 use Rattle.offer_fields.specs.Fields.{object_of, object_or}
-use Rattle.offer_header.specs.Header.{header_of, simple_role, IsWithin}
+use Rattle.offer_header.specs.Header.{header_of, simple_role, IsHeaderWithin}
 use Rattle.offer_header.specs.Raw.{IsModeOf, IsUntimed}
 use Rattle.offer_header.specs.Scripts.{roles_placed, scripts_placed}
 use Rattle.offer_header.specs.declared.raw.RawArc.{RawArc}
@@ -32,7 +32,7 @@ use Rattle.swap_offer.specs.Checks.{admitted, deal_with, digraph_in, job_with, u
 use Rattle.swap_offer.specs.Job.{accepted_of, job_header_of, provided}
 use Rattle.swap_offer.specs.Wallets.{no_seed, seeded, walleted}
 use Rattle.swap_offer.proofs.Admitted.{admitted_is_accepted}
-use Rattle.read_back.specs.Headers.{IsShowable, HeaderIsReadBack, audited}
+use Rattle.read_back.specs.Headers.{IsShowable, HeaderIsReadBack, audited_job}
 use Rattle.read_back.proofs.Steps.{step}
 use Rattle.read_back.proofs.HeaderFields.{raw_arc, raw_back, raw_header, stated}
 use Rattle.read_back.proofs.HeaderNamed.{numbered_at, numbered_back}
@@ -85,7 +85,7 @@ module _ (job : Job) (k : IsShowable job) (line : ℕ) where
       ap (λ (x : RawArc). x.timelock) (get_or-map (raw_arc mode job) (arcs job.deal.graph) a 0 d (omega (arith, lt, size)))
       ∙ ap (λ (m : Mode). stated m (slice_index job.deal.timelocks (get_or (arcs job.deal.graph) a 0))) is
 
-  within : IsWithin (header_at job)
+  within : IsHeaderWithin (header_at job)
   within =
       is_within line Audit (raw_header job.deal.mode job) (numbered_at job) (header_at job)
       (is_numbered (λ name. false) line (raw_header job.deal.mode job) (numbered_at job) (numbered_back job k line (λ name. false) job.deal.mode)) is_mode
@@ -121,7 +121,7 @@ module _ (job : Job) (k : IsShowable job) (line : ℕ) where
   is_admitted : admitted (header_at job) ≡ Ok (digraph_in (header_at job))
   is_admitted = (admitted_is_accepted (header_at job) within).1 (subst IsAccepted (sym deal_is) k.accepted)
 
-  job_is : job_with (header_at job) (digraph_in (header_at job)) ≡ audited job
+  job_is : job_with (header_at job) (digraph_in (header_at job)) ≡ audited_job job
   job_is = ap (λ (d : Deal). let j : Job = record {
     purpose = Audit;
     deal = d;
@@ -132,14 +132,14 @@ module _ (job : Job) (k : IsShowable job) (line : ℕ) where
     finish = Stop;
   } in j) deal_is
 
-  nothing_lacks : provided (audited job) ≡ Ok tt
+  nothing_lacks : provided (audited_job job) ≡ Ok tt
   unfolding provided seeded walleted
-  nothing_lacks = step _ tt _ (ap unless_wrong (none_given (no_seed (audited job)) (range_with_len 0 job.deal.graph.n) (λ p. refl)))
+  nothing_lacks = step _ tt _ (ap unless_wrong (none_given (no_seed (audited_job job)) (range_with_len 0 job.deal.graph.n) (λ p. refl)))
 
   is_provided : provided (job_with (header_at job) (digraph_in (header_at job))) ≡ Ok tt
   is_provided = subst (λ (x : Job). provided x ≡ Ok tt) (sym job_is) nothing_lacks
 
-  accepted_back : accepted_of (header_at job) ≡ Ok (audited job)
+  accepted_back : accepted_of (header_at job) ≡ Ok (audited_job job)
   unfolding accepted_of
   accepted_back =
       step _ (digraph_in (header_at job)) _ is_admitted

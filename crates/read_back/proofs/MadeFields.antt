@@ -24,7 +24,8 @@ use Rattle.offer_header.specs.declared.raw.RawActor.{RawActor}
 use Rattle.offer_header.specs.declared.raw.RawActor.TheVariants.{Conforming, Manual, Script, Strategy}
 use Rattle.offer_header.specs.declared.raw.RawParty.{RawParty}
 use Rattle.offer_header.specs.declared.raw.RawHeader.{RawHeader}
-use Rattle.offer_header.specs.Raw.{actor_at, arc_of, finish_at, finish_of_word, header_fields, keys_at, leader_of, mode_at, party_fields, party_of, raw_of}
+use Rattle.offer_header.specs.Raw.{actor_at, raw_arc_of, finish_at, finish_of_word, header_fields, keys_at, raw_leader_of, mode_at, party_fields, party_of}
+use Rattle.offer_header.specs.Raw.{raw_of}
 use Rattle.offer_header.specs.Raw.{row_of, script_at, seed_at, stated_finish_at, stated_mode_at, states_keys, strategy_at, version_at, IsModeOf}
 use Rattle.offer_text.specs.Moves.{move_data}
 use Rattle.offer_text.specs.Words.{digest_data, list_data, number_data, with_optional}
@@ -126,13 +127,13 @@ party_back mode line job p =
 
 -- ---- arcs and leaders, which are read as those of a transcript
 
-arc_same : (mode : Mode) (line : ℕ) (d : Data) → arc_of (checking mode) line d ≡ arc_of (reading mode) line d
-unfolding arc_of
+arc_same : (mode : Mode) (line : ℕ) (d : Data) → raw_arc_of (checking mode) line d ≡ raw_arc_of (reading mode) line d
+unfolding raw_arc_of
 arc_same Timelocks line d = refl
 arc_same Hashkeys line d = refl
 
-leader_same : (mode : Mode) (line : ℕ) (d : Data) → leader_of (checking mode) line d ≡ leader_of (reading mode) line d
-unfolding leader_of
+leader_same : (mode : Mode) (line : ℕ) (d : Data) → raw_leader_of (checking mode) line d ≡ raw_leader_of (reading mode) line d
+unfolding raw_leader_of
 leader_same mode line d = refl
 
 -- ---- the header
@@ -202,20 +203,20 @@ parties_are Hashkeys line job =
     (λ p i. party_back Hashkeys line job p)
 
 arcs_are : (mode : Mode) (line : ℕ) (job : Job)
-    → list_at line (codes "arcs") (arc_of (checking mode) line) (made_in mode job) ≡ Ok (map (raw_arc mode job) (arcs job.deal.graph))
+    → list_at line (codes "arcs") (raw_arc_of (checking mode) line) (made_in mode job) ≡ Ok (map (raw_arc mode job) (arcs job.deal.graph))
 unfolding list_at array_at needed
 arcs_are mode line job =
-    items_back (arc_of (checking mode) line) (arc_shown mode job) (raw_arc mode job) (arcs job.deal.graph)
+    items_back (raw_arc_of (checking mode) line) (arc_shown mode job) (raw_arc mode job) (arcs job.deal.graph)
     (λ a i. arc_same mode line (arc_shown mode job a) ∙ arc_back mode line job a)
 
 leaders_are : (mode : Mode) (line : ℕ) (job : Job)
-    → list_at line (codes "leaders") (leader_of (checking mode) line) (made_in mode job) ≡ Ok (map (raw_leader job) (locks job.deal))
+    → list_at line (codes "leaders") (raw_leader_of (checking mode) line) (made_in mode job) ≡ Ok (map (raw_leader job) (locks job.deal))
 unfolding list_at array_at needed
 leaders_are Timelocks line job =
-    items_back (leader_of (checking Timelocks) line) (leader_at job.names job.deal) (raw_leader job) (locks job.deal)
+    items_back (raw_leader_of (checking Timelocks) line) (leader_at job.names job.deal) (raw_leader job) (locks job.deal)
     (λ i is. leader_same Timelocks line (leader_at job.names job.deal i) ∙ leader_back Timelocks line job i)
 leaders_are Hashkeys line job =
-    items_back (leader_of (checking Hashkeys) line) (leader_at job.names job.deal) (raw_leader job) (locks job.deal)
+    items_back (raw_leader_of (checking Hashkeys) line) (leader_at job.names job.deal) (raw_leader job) (locks job.deal)
     (λ i is. leader_same Hashkeys line (leader_at job.names job.deal i) ∙ leader_back Hashkeys line job i)
 
 keys_are : (mode : Mode) (line : ℕ) (job : Job) → keys_at line (states_keys Check mode) (made_in mode job) ≡ Ok (raw_keys mode job)
@@ -253,7 +254,7 @@ raw_in mode line job k =
 
 -- a check, a run and a race read the same fields
 same_fields : (purpose : Purpose) (line : ℕ) (d : Data) → reads_jobs purpose ≡ true → raw_of purpose line d ≡ raw_of Check line d
-unfolding raw_of party_of arc_of leader_of actor_at
+unfolding raw_of party_of raw_arc_of raw_leader_of actor_at
 same_fields Check line d e = refl
 same_fields Run line d e = refl
 same_fields Race line d e = refl

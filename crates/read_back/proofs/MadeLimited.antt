@@ -13,6 +13,7 @@ use Rattle.swap_digraph.specs.Graph.{arcs}
 use Rattle.swap_digraph.specs.Deal.{locks, most_parties, path_limit_of, HasKeys}
 use Rattle.swap_digraph.specs.declared.deal.Mode.{Mode}
 use Rattle.swap_digraph.specs.declared.deal.Mode.TheVariants.{Timelocks, Hashkeys}
+use Rattle.swap_job.specs.Roles.{is_conforming}
 use Rattle.swap_job.specs.declared.job.Job.{Job}
 use Rattle.swap_job.specs.declared.job.Purpose.{Purpose}
 use Rattle.swap_job.specs.declared.job.Purpose.TheVariants.{Check, Run, Race, Make, Audit}
@@ -25,8 +26,8 @@ use Rattle.offer_fields.specs.Names.{party_of_name}
 use Rattle.offer_moves.specs.Moves.{move_of}
 use Rattle.offer_moves.specs.declared.moves.Sizes.{Sizes}
 use Rattle.offer_header.specs.Raw.{is_plain}
-use Rattle.offer_header.specs.Limits.{acting_of, arc_ends, conforms, hashlocks_of, keys_of, limited_of, parties_of, party_keys_of, role_of}
-use Rattle.offer_header.specs.Limits.{script_role, seed_of, seed_or_none, sizes_in, stated_keys_of}
+use Rattle.offer_header.specs.Limits.{acting_of, arc_ends, hashlocks_of, keys_of, limited_of, parties_of, party_keys_of, checked_role}
+use Rattle.offer_header.specs.Limits.{script_role, checked_seed, seed_or_none, sizes_in, stated_keys_of}
 use Rattle.offer_header.specs.declared.limits.Acting.{Acting}
 use Rattle.offer_header.specs.declared.limits.ArcTerms.{ArcTerms}
 use Rattle.offer_header.specs.declared.header.Header.{Header}
@@ -65,7 +66,7 @@ module _ (has : List ℕ → Bool) (s : Sizes) (small : IsSmall s) (names : List
       (λ mv i. limited_move_back s small names line number mv (all_in (IsLimited s (length names)) moves mv all i))
       ∙ ap (λ (l : List Move). Ok l) (map_self moves))
 
-  role_back : (role : Role) → IsToldRole has s (length names) role → role_of s names line (raw_actor names role) ≡ Ok role
+  role_back : (role : Role) → IsToldRole has s (length names) role → checked_role s names line (raw_actor names role) ≡ Ok role
   role_back kinds.Conforming k = refl
   role_back kinds.Manual k = refl
   role_back (kinds.Script moves) k = script_back moves k.0 k.1
@@ -105,7 +106,7 @@ module _ (has : List ℕ → Bool) (job : Job) (k : IsTold has job) (line : ℕ)
       All-get_or MayBeDigest job.seeds p None (omega (arith, seeds, lt)) k.digests
 
   party_acts : (p : ℕ) → p < job.deal.graph.n → acting_of (sizes_at job) job.names line (told_party job p) ≡ Ok (acting_at job p)
-  unfolding acting_of seed_of
+  unfolding acting_of checked_seed
   party_acts p lt =
       step _ (role_at job p) _ (role_back has (sizes_at job) (sizes_are_small has job k) job.names line (named.number_back job k.shown line)
       (role_at job p) (role_is p lt))
@@ -135,10 +136,10 @@ module _ (has : List ℕ → Bool) (job : Job) (k : IsTold has job) (line : ℕ)
       twice (λ (a : Acting). a.role) (acting_at job) parties
       ∙ places (λ (r : Role). r) job.roles kinds.Manual job.deal.graph.n k.roles ∙ map_self job.roles
 
-  conforming_are : map (λ (a : Acting). conforms a.role) (map (acting_at job) parties) ≡ job.conforming
+  conforming_are : map (λ (a : Acting). is_conforming a.role) (map (acting_at job) parties) ≡ job.conforming
   conforming_are =
-      twice (λ (a : Acting). conforms a.role) (acting_at job) parties
-      ∙ places conforms job.roles kinds.Manual job.deal.graph.n k.roles ∙ sym k.acting
+      twice (λ (a : Acting). is_conforming a.role) (acting_at job) parties
+      ∙ places is_conforming job.roles kinds.Manual job.deal.graph.n k.roles ∙ sym k.acting
 
   seeds_are : map (λ (a : Acting). a.seed) (map (acting_at job) parties) ≡ job.seeds
   seeds_are =
@@ -170,7 +171,7 @@ module _ (has : List ℕ → Bool) (job : Job) (k : IsTold has job) (line : ℕ)
   -- ---- the header
 
   is_header : (mode : Mode) → IsTimed mode job.deal → with_finish job (header_by job (map (λ (a : Acting). a.role) (map (acting_at job) parties))
-      (map (λ (a : Acting). conforms a.role) (map (acting_at job) parties)) (map (λ (a : Acting). a.seed) (map (acting_at job) parties))
+      (map (λ (a : Acting). is_conforming a.role) (map (acting_at job) parties)) (map (λ (a : Acting). a.seed) (map (acting_at job) parties))
       (map arc_ends (map (ends_at job) (arcs job.deal.graph))) (map (λ (t : ArcTerms). t.amount) (map (terms_at mode job) (arcs job.deal.graph)))
       (map (λ (t : ArcTerms). t.timelock) (map (terms_at mode job) (arcs job.deal.graph)))) ≡ header_at job
   is_header mode timed =

@@ -9,7 +9,7 @@ use Rattle.hashkey_path.proofs.Feeding.{any_id}
 use Rattle.swap_job.specs.declared.job.Job.{Job}
 use Rattle.refusals.specs.declared.reason.Reason.TheVariants.{NotJson}
 use Rattle.offer_fields.specs.Fields.{object_of, object_or}
-use Rattle.offer_header.specs.Header.{header_of, IsWithin}
+use Rattle.offer_header.specs.Header.{header_of, IsHeaderWithin}
 use Rattle.offer_header.specs.Raw.{is_plain, IsModeOf}
 use Rattle.offer_header.specs.Scripts.{scripts_placed}
 use Rattle.offer_header.proofs.Limited.{is_within}
@@ -49,7 +49,7 @@ module _ (has : List ℕ → Bool) (job : Job) (k : IsTold has job) (line : ℕ)
       ∙ step _ (header_at job) _ (limited_back has job k line)
       ∙ step _ tt _ all_placed
 
-  within : IsWithin (header_at job)
+  within : IsHeaderWithin (header_at job)
   within =
       is_within line job.purpose (told_header job.deal.mode job) (numbered_at job) (header_at job)
       (is_numbered has line (told_header job.deal.mode job) (numbered_at job) (numbered_back has job k line job.deal.mode)) is_mode

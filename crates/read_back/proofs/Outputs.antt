@@ -10,14 +10,14 @@ use Rattle.swap_job.specs.declared.job.Purpose.{Purpose}
 use Rattle.swap_job.specs.declared.job.Purpose.TheVariants.{Make, Run}
 use Rattle.offer_fields.proofs.Chains.{went}
 use Rattle.offer_text.specs.HeaderLine.{header_line, made_header}
-use Rattle.swap_offer.specs.Job.{counted, events_for, events_of, events_unless, job_header_of, job_of, of_lines}
+use Rattle.swap_offer.specs.Job.{counted, events_for, events_of, events_unless, job_header_of, job_of, job_of_lines}
 use Rattle.command_input.specs.Lines.{filled_lines, is_blank, lines_of}
 use Rattle.swap_gen.specs.Made.{made}
 use Rattle.made_jobs.specs.Making.{made_of, made_output, made_text, written_line}
 use Rattle.read_back.proofs.Onward.{ok_is}
 use Rattle.read_back.proofs.Steps.{step}
 use Rattle.transcript_lines.specs.Between.{ended}
-use Rattle.read_back.specs.Made.{further_lines, numbered_from, reads_jobs, told, with_job, HasTexts, IsOneLine}
+use Rattle.read_back.specs.Made.{further_lines, numbered_from, reads_jobs, told_job, with_job, HasTexts, IsOneLine}
 use Rattle.read_back.specs.Made.{MadeHeaderIsOneLine, MadeHeaderIsReadBack, MadeHeaderReads, MadeOutputIsReadBack, MadeTextIsReadBack}
 use Rattle.read_back.proofs.HeaderTexts as texts
 use Rattle.read_back.proofs.MadeLimited.{not_plain}
@@ -31,18 +31,18 @@ use Rattle.read_back.proofs.MadeWhole.{job_back}
 module _ (has : List ℕ → Bool) (plain : Job) (k : IsPlainJob has plain) where
   pub plain_header_reads : (is_utf8 (header_line (made plain)) ≡ true) × (read (header_line (made plain)) ≡ Some (made_header (made plain)))
   unfolding header_line
-  plain_header_reads = texts.header_reads has (told Run plain) (made_is_told has plain k Run refl)
+  plain_header_reads = texts.header_reads has (told_job Run plain) (made_is_told has plain k Run refl)
 
   pub plain_header_is_one : IsOneLine (header_line (made plain))
   unfolding header_line
-  plain_header_is_one = texts.header_line_is_one has (told Run plain) (made_is_told has plain k Run refl)
+  plain_header_is_one = texts.header_line_is_one has (told_job Run plain) (made_is_told has plain k Run refl)
 
   pub plain_text_back : (purpose : Purpose) → reads_jobs purpose ≡ true → (number : ℕ) (again : List ℕ) → is_utf8 again ≡ true
-      → read again ≡ Some (made_header (made plain)) → job_header_of has purpose number again ≡ Ok (told purpose plain)
-  plain_text_back purpose reads number again utf8 same = job_back has (told purpose plain) (made_is_told has plain k purpose reads) number again utf8 same
+      → read again ≡ Some (made_header (made plain)) → job_header_of has purpose number again ≡ Ok (told_job purpose plain)
+  plain_text_back purpose reads number again utf8 same = job_back has (told_job purpose plain) (made_is_told has plain k purpose reads) number again utf8 same
 
   pub plain_header_back : (purpose : Purpose) → reads_jobs purpose ≡ true → (number : ℕ)
-      → job_header_of has purpose number (header_line (made plain)) ≡ Ok (told purpose plain)
+      → job_header_of has purpose number (header_line (made plain)) ≡ Ok (told_job purpose plain)
   plain_header_back purpose reads number =
       plain_text_back purpose reads number (header_line (made plain)) plain_header_reads.0 plain_header_reads.1
 
@@ -62,12 +62,12 @@ module _ (has : List ℕ → Bool) (plain : Job) (k : IsPlainJob has plain) wher
 
   pub text_back : (purpose : Purpose) → reads_jobs purpose ≡ true → (ls : List (List ℕ)) → AreLines ls
       → job_of has purpose (ended (header_line (made plain) ∷ ls))
-      ≡ with_job (told purpose plain) (events_of (told purpose plain) 0 (numbered_from 2 ls))
+      ≡ with_job (told_job purpose plain) (events_of (told_job purpose plain) 0 (numbered_from 2 ls))
   unfolding job_of
   text_back purpose reads ls h =
-      ap (of_lines has purpose) (text_lines ls h)
-      ∙ step _ (told purpose plain) _ (plain_header_back purpose reads 1)
-      ∙ ap (λ (b : Bool). with_job (told purpose plain) (events_unless b (told purpose plain) (numbered_from 2 ls))) (not_plain purpose reads)
+      ap (job_of_lines has purpose) (text_lines ls h)
+      ∙ step _ (told_job purpose plain) _ (plain_header_back purpose reads 1)
+      ∙ ap (λ (b : Bool). with_job (told_job purpose plain) (events_unless b (told_job purpose plain) (numbered_from 2 ls))) (not_plain purpose reads)
 
   pub made_is_text : (ls : List (ℕ × List ℕ)) → made_text plain ls ≡ ended (header_line (made plain) ∷ map (λ x. x.1) ls)
   unfolding made_text written_line
@@ -91,11 +91,11 @@ made_header_is_read_back has line text plain t e = plain_header_back has plain (
 record IsMadeOf (has : List ℕ → Bool) (lines : List (ℕ × List ℕ)) (output : List ℕ) : Type 0 where
   plain : Job
   good : IsPlainJob has plain
-  read : of_lines has Make lines ≡ Ok (plain, [])
+  read : job_of_lines has Make lines ≡ Ok (plain, [])
   written : made_text plain (drop 1 lines) ≡ output
 
 by_parts : (has : List ℕ → Bool) (l : ℕ × List ℕ) (ls : List (ℕ × List ℕ)) (plain : Job) (events : List Event) (j : Job × List Event) (output : List ℕ)
-    → IsPlainJob has plain → [] ≡ events → (plain, events) ≡ j → of_lines has Make (l ∷ ls) ≡ Ok j → made_text j.0 ls ≡ output
+    → IsPlainJob has plain → [] ≡ events → (plain, events) ≡ j → job_of_lines has Make (l ∷ ls) ≡ Ok j → made_text j.0 ls ≡ output
     → IsMadeOf has (l ∷ ls) output
 by_parts has l ls plain events j output good none same read written =
     let joint : (plain, []) ≡ j = ap (λ (es : List Event). (plain, es)) none ∙ same in
@@ -109,7 +109,7 @@ by_parts has l ls plain events j output good none same read written =
 made_by : (has : List ℕ → Bool) → HasTexts has → (lines : List (ℕ × List ℕ)) (output : List ℕ) → made_of has lines ≡ Ok output → IsMadeOf has lines output
 made_by has t [] output e = absurd (cc e)
 made_by has t (l ∷ ls) output e =
-    let whole = went (of_lines has Make (l ∷ ls)) _ output e in
+    let whole = went (job_of_lines has Make (l ∷ ls)) _ output e in
     let header = went (job_header_of has Make l.0 l.1) _ whole.0 whole.1 in
     let events = went (events_for Make header.0 ls) _ whole.0 header.2 in
     let count = went (steps counted 0 ls) _ events.0 events.1 in

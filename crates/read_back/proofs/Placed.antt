@@ -5,7 +5,7 @@ use Rattle.std.specs.List.{list_any}
 use Rattle.swap_base.specs.Fault.{steps}
 use Rattle.swap_digraph.specs.Graph.{ends_in}
 use Rattle.swap_digraph.specs.declared.arc_ends.ArcEnds.{ArcEnds}
-use Rattle.swap_job.specs.Resolved.{arc_of}
+use Rattle.swap_job.specs.Resolved.{move_arc}
 use Rattle.swap_job.specs.declared.job.Role.{Role}
 use Rattle.swap_job.specs.declared.job.Role.TheVariants.{Conforming, Manual, Script, Strategy}
 use Rattle.swap_job.specs.declared.moves.Move.{Move}
@@ -53,9 +53,9 @@ module _ (arcs : List ArcEnds) (conforming : List Bool) (line other : ℕ) where
   move_anywhere : (p : ℕ) (mv : Move) (u : Unit {0}) → placed arcs conforming line p mv ≡ Ok u → placed arcs conforming other p mv ≡ Ok tt
   unfolding placed
   move_anywhere p mv u e =
-      let one = went (adjacent arcs line p (arc_of mv)) _ u e in
+      let one = went (adjacent arcs line p (move_arc mv)) _ u e in
       let two = went (crafted_by_others conforming line mv) _ u one.2 in
-      step _ tt _ (adjacent_anywhere arcs line other p (arc_of mv) one.0 one.1)
+      step _ tt _ (adjacent_anywhere arcs line other p (move_arc mv) one.0 one.1)
       ∙ step _ tt _ (crafted_anywhere conforming line other mv two.0 two.1)
       ∙ received_anywhere arcs line other mv u two.2
 

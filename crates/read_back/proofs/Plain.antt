@@ -16,6 +16,7 @@ use Rattle.swap_digraph.specs.declared.deal.Mode.TheVariants.{Timelocks, Hashkey
 use Rattle.hash_signature.specs.Signature.{public_key_of}
 use Rattle.party_wallet.specs.Fits.{wrong_lock}
 use Rattle.party_machine.proofs.Digests.{digest_below}
+use Rattle.swap_job.specs.Roles.{is_conforming}
 use Rattle.swap_job.specs.declared.job.Job.{Job}
 use Rattle.swap_job.specs.declared.job.Purpose.{Purpose}
 use Rattle.swap_job.specs.declared.job.Purpose.TheVariants.{Check, Run, Race, Make, Audit}
@@ -23,7 +24,6 @@ use Rattle.refusals.specs.declared.reason.Reason.{Reason}
 use Rattle.refusals.specs.declared.reason.Reason.TheVariants.{NoSeed, WrongWallet}
 use Rattle.swap_rules.proofs.Accepted.{accepted_is_well_sized}
 use Rattle.proposed_deal.specs.Proposed.{HaveSeeds, IsProposed}
-use Rattle.offer_header.specs.Limits.{conforms}
 use Rattle.offer_header.specs.Names.{is_name}
 use Rattle.offer_header.specs.Scripts.{roles_placed}
 use Rattle.offer_text.specs.HeaderLine.{is_make}
@@ -33,12 +33,11 @@ use Rattle.swap_gen.proofs.Accepting.{made_is_accepted}
 use Rattle.swap_gen.proofs.Owning.{made_is_owned}
 use Rattle.swap_offer.specs.Checks.{unless_wrong}
 use Rattle.swap_offer.specs.Job.{provided}
-use Rattle.swap_offer.specs.Wallets.{fitting, needs_seed, no_seed, seed_of, seeded, walleted, walleted_for, wrong_seed, wrong_wallet}
-use Rattle.swap_offer.specs.Wallets as wallets
+use Rattle.swap_offer.specs.Wallets.{fitting, needs_seed, no_seed, party_seed, seeded, walleted, walleted_for, wrong_seed, wrong_wallet, party_conforms}
 use Rattle.typed_books.specs.Typed.{IsDigest}
 use Rattle.read_back.specs.Headers.{IsShowable}
 use Rattle.read_back.proofs.Steps.{step}
-use Rattle.read_back.specs.Made.{reads_jobs, told}
+use Rattle.read_back.specs.Made.{reads_jobs, told_job}
 use Rattle.read_back.proofs.Told.{sizes_at, IsTold, IsToldRole, MayBeDigest}
 
 -- A plain job whose header line tells it whole once it is made.
@@ -48,7 +47,7 @@ pub record IsPlainJob (has : List ℕ → Bool) (job : Job) : Type 0 where
   pub names : All (λ x. is_name x ≡ true) job.names
   pub apart : (p q : ℕ) → p < length job.names → q < length job.names → slice_index_or job.names p [] ≡ slice_index_or job.names q [] → p ≡ q
   pub roles : length job.roles ≡ job.deal.graph.n
-  pub acting : job.conforming ≡ map conforms job.roles
+  pub acting : job.conforming ≡ map is_conforming job.roles
   pub seeds : length job.seeds ≡ job.deal.graph.n
   pub digests : All MayBeDigest job.seeds
   pub said : All (IsToldRole has (sizes_at job) (length job.names)) job.roles
@@ -95,14 +94,14 @@ module _ (job : Job) (own : OwnAll job) where
   all_seeded =
       none_given (no_seed job) (range_with_len 0 job.deal.graph.n) (λ p i.
       let o = own p (from_range p job.deal.graph.n i) in
-      not_needed (needs_seed job.purpose job p) (seed_of job p) o.seed (NoSeed p) o.there)
+      not_needed (needs_seed job.purpose job p) (party_seed job p) o.seed (NoSeed p) o.there)
 
   all_fit : fitting job ≡ Ok tt
   unfolding fitting
   all_fit =
       ap unless_wrong (none_given (wrong_wallet job) (range_with_len 0 job.deal.graph.n) (λ p i.
       let o = own p (from_range p job.deal.graph.n i) in
-      no_wrong job p (wallets.conforms job p) (seed_of job p) o.seed o.there o.fits))
+      no_wrong job p (party_conforms job p) (party_seed job p) o.seed o.there o.fits))
 
   for_purpose : (purpose : Purpose) → reads_jobs purpose ≡ true → walleted_for purpose job ≡ Ok tt
   for_purpose Check e = all_fit
@@ -123,17 +122,17 @@ not_made Make e = absurd (cc e)
 not_made Audit e = refl
 
 module _ (has : List ℕ → Bool) (job : Job) (k : IsPlainJob has job) (purpose : Purpose) (reads : reads_jobs purpose ≡ true) where
-  is_owned : OwnAll (told purpose job)
+  is_owned : OwnAll (told_job purpose job)
   is_owned p lt = let o = made_is_owned job k.have p lt in record { seed = o.seed; there = o.there; fits = o.fits }
 
-  is_showable : IsShowable (told purpose job)
+  is_showable : IsShowable (told_job purpose job)
   unfolding made_deal
   is_showable =
       let accepted = made_is_accepted job.seeds job.deal k.proposed in
-      let conforming : length job.conforming ≡ job.deal.graph.n = ap length k.acting ∙ length-map job.roles conforms ∙ k.roles in
+      let conforming : length job.conforming ≡ job.deal.graph.n = ap length k.acting ∙ length-map job.roles is_conforming ∙ k.roles in
       record {
         stated = not_made purpose reads;
-        sized = accepted_is_well_sized (told purpose job).deal accepted;
+        sized = accepted_is_well_sized (told_job purpose job).deal accepted;
         accepted = accepted;
         parties = k.parties;
         conforming = conforming;
@@ -143,7 +142,7 @@ module _ (has : List ℕ → Bool) (job : Job) (k : IsPlainJob has job) (purpose
         keys = keys_are job.deal.mode job.seeds job.deal;
       }
 
-  pub made_is_told : IsTold has (told purpose job)
+  pub made_is_told : IsTold has (told_job purpose job)
   unfolding made_deal
   made_is_told = record {
     purpose = reads;
@@ -154,5 +153,5 @@ module _ (has : List ℕ → Bool) (job : Job) (k : IsPlainJob has job) (purpose
     digests = k.digests;
     said = k.said;
     placed = k.placed;
-    lacks_none = all_provided (told purpose job) is_owned reads;
+    lacks_none = all_provided (told_job purpose job) is_owned reads;
   }

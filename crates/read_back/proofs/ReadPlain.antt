@@ -7,6 +7,7 @@ use Rattle.std.proofs.lemmas.List.Elements.{All-map}
 use Rattle.swap_digraph.specs.Value.{Graph}
 use Rattle.swap_digraph.specs.Deal.{most_parties, path_limit_of}
 use Rattle.swap_digraph.specs.declared.deal.Version.{Version}
+use Rattle.swap_job.specs.Roles.{IsHeld}
 use Rattle.swap_job.specs.declared.job.Job.{Job}
 use Rattle.swap_job.specs.declared.job.Purpose.{Purpose}
 use Rattle.swap_job.specs.declared.job.Purpose.TheVariants.{Make}
@@ -18,8 +19,8 @@ use Rattle.offer_fields.specs.Lists.{each_of}
 use Rattle.offer_fields.proofs.Chains.{each_all, each_length, went}
 use Rattle.offer_moves.specs.Moves.{move_of}
 use Rattle.offer_moves.specs.declared.moves.Sizes.{Sizes}
-use Rattle.offer_header.specs.Header.{header_of, IsWithin}
-use Rattle.offer_header.specs.Limits.{acting_of, arc_ends, limited_of, parties_of, role_of, script_role, seed_of, seed_or_none, sizes_in, HoldsEach, IsHeld}
+use Rattle.offer_header.specs.Header.{header_of, IsHeaderWithin}
+use Rattle.offer_header.specs.Limits.{acting_of, arc_ends, limited_of, parties_of, checked_role, script_role, checked_seed, seed_or_none, sizes_in, HoldsEach}
 use Rattle.offer_header.specs.Names.{numbered_of, IsNumbered}
 use Rattle.offer_header.specs.Raw.{raw_of}
 use Rattle.offer_header.specs.Scripts.{roles_placed, scripts_placed}
@@ -65,7 +66,7 @@ seed_is line (Some text) =
     onward (digest_of line (codes "seed") text) _ MayBeDigest (λ seed e. landed (Some seed) MayBeDigest (digest_is line (codes "seed") text seed e))
 
 module _ (s : Sizes) (small : IsSmall s) (names : List (List ℕ)) (line : ℕ) where
-  role_is : (actor : RawActor) (role : Role) → role_of s names line actor ≡ Ok role → IsScriptIn s (length names) role
+  role_is : (actor : RawActor) (role : Role) → checked_role s names line actor ≡ Ok role → IsScriptIn s (length names) role
   unfolding script_role
   role_is Conforming = landed kinds.Conforming (IsScriptIn s (length names)) tt
   role_is Manual = landed kinds.Manual (IsScriptIn s (length names)) tt
@@ -81,9 +82,9 @@ module _ (s : Sizes) (small : IsSmall s) (names : List (List ℕ)) (line : ℕ) 
   role_is (Strategy name) = landed (kinds.Strategy name) (IsScriptIn s (length names)) tt
 
   acting_is : (p : RawParty) (a : Acting) → acting_of s names line p ≡ Ok a → IsActingIn s (length names) a
-  unfolding acting_of seed_of
+  unfolding acting_of checked_seed
   acting_is p =
-      onward (role_of s names line p.actor) _ (IsActingIn s (length names)) (λ role r.
+      onward (checked_role s names line p.actor) _ (IsActingIn s (length names)) (λ role r.
       onward (seed_or_none line p.seed) _ (IsActingIn s (length names)) (λ seed e.
       landed (record { role = role; seed = seed }) (IsActingIn s (length names)) (role_is p.actor role r, seed_is line p.seed seed e)))
 
@@ -103,7 +104,7 @@ sizes_of_header h = record { arcs = length h.arcs; locks = length h.leaders; pat
 -- What is known of a header that is read for making.
 record IsReadToMake (has : List ℕ → Bool) (h : Header) : Type 0 where
   purpose : h.purpose ≡ Make
-  within : IsWithin h
+  within : IsHeaderWithin h
   names : All IsGood h.names
   digests : All MayBeDigest h.seeds
   scripts : All (IsScriptIn (sizes_of_header h) (length h.names)) h.roles

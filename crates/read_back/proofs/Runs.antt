@@ -11,7 +11,7 @@ use Rattle.swap_world.specs.Cast.{cast_of}
 use Rattle.swap_gen.specs.Drawn.{plain_job}
 use Rattle.swap_gen.specs.Events.{generated_events}
 use Rattle.made_jobs.specs.Generating.{generated_book}
-use Rattle.read_back.specs.Made.{told, GeneratedRunIsSummed}
+use Rattle.read_back.specs.Made.{told_job, GeneratedRunIsSummed}
 
 none_asks : (n : ℕ) → list_any is_strategy (replicate n Conforming) ≡ false
 none_asks zero = refl
@@ -19,7 +19,7 @@ none_asks (suc n) = none_asks n
 
 module _ (answers : Answers) (seed parties events : ℕ) where
   abbrev cast : Cast
-  cast = cast_of (told Run (plain_job seed parties))
+  cast = cast_of (told_job Run (plain_job seed parties))
 
   nobody_asks : list_any is_strategy cast.roles ≡ false
   unfolding plain_job

@@ -20,10 +20,10 @@ use Rattle.swap_clear.specs.Led.{own, own_leaders, IsLed}
 use Rattle.swap_clear.specs.Ready.{own_amounts, IsReady}
 use Rattle.swap_clear.specs.Together.{IsGroup}
 use Rattle.swap_clear.proofs.Places.{stands}
-use Rattle.clear_line.specs.Limits.{IsWithin}
+use Rattle.clear_line.specs.Limits.{AreWishesWithin}
 use Rattle.clear_line.specs.declared.limits.Wishes.{Wishes}
 use Rattle.clear_line.specs.ClearedText.{proposal}
-use Rattle.read_back.specs.ClearedJobs.{name_of, wished_graph}
+use Rattle.read_back.specs.ClearedJobs.{wished_name, wished_graph}
 use Rattle.read_back.proofs.Lists.{position_is, same_position}
 
 abbrev pub IsGood : List ℕ → Type 0
@@ -31,7 +31,7 @@ IsGood name = is_name name ≡ true
 
 -- A group that is cleared of wishes within their limits.
 pub record IsClear (w : Wishes) (group : Group) : Type 0 where
-  pub within : IsWithin w
+  pub within : AreWishesWithin w
   pub names : All IsGood w.names
   pub one : IsGroup (wished_graph w) group
   pub led : IsLed (wished_graph w) group
@@ -65,25 +65,25 @@ module _ (w : Wishes) (group : Group) (k : IsClear w group) (line : ℕ) where
 
   -- ---- names
 
-  by_test : (p q : ℕ) → p < length w.names → q < length w.names → (b : Bool) → (q == p) ≡ b → bytes_eq (name_of w p) (name_of w q) ≡ b
+  by_test : (p q : ℕ) → p < length w.names → q < length w.names → (b : Bool) → (q == p) ≡ b → bytes_eq (wished_name w p) (wished_name w q) ≡ b
   by_test p q lp lq true e =
       let same : q ≡ p = eqb-true q p e in
-      subst (λ (r : ℕ). bytes_eq (name_of w p) (name_of w r) ≡ true) (sym same) (bytes_eq_self (name_of w p))
+      subst (λ (r : ℕ). bytes_eq (wished_name w p) (wished_name w r) ≡ true) (sym same) (bytes_eq_self (wished_name w p))
   by_test p q lp lq false e =
-      not_true (bytes_eq (name_of w p) (name_of w q))
-      (λ t. eqb-false q p e (k.within.names.apart q p lq lp (sym (bytes_eq-true (name_of w p) (name_of w q) t))))
+      not_true (bytes_eq (wished_name w p) (wished_name w q))
+      (λ t. eqb-false q p e (k.within.names.apart q p lq lp (sym (bytes_eq-true (wished_name w p) (wished_name w q) t))))
 
   -- two names are the same where their parties are
-  pub same_name : (p q : ℕ) → p < length w.names → q < length w.names → bytes_eq (name_of w p) (name_of w q) ≡ (q == p)
+  pub same_name : (p q : ℕ) → p < length w.names → q < length w.names → bytes_eq (wished_name w p) (wished_name w q) ≡ (q == p)
   same_name p q lp lq = by_test p q lp lq (q == p) refl
 
   -- a name stands for the place of its party in the group
   pub number_back : (p : ℕ) → p < length w.names → is_among p group.parties ≡ true
-      → party_of_name line (map (name_of w) group.parties) (name_of w p) ≡ Ok (place group.parties p)
+      → party_of_name line (map (wished_name w) group.parties) (wished_name w p) ≡ Ok (place group.parties p)
   unfolding party_of_name
   number_back p lt among =
-      ap (found line (name_of w p)) (position_from-zero (bytes_eq (name_of w p)) (map (name_of w) group.parties)
-      ∙ same_position (bytes_eq (name_of w p)) (name_of w) (λ q. q == p) group.parties 0 (λ q i. same_name p q lt (is_party q i))
+      ap (found line (wished_name w p)) (position_from-zero (bytes_eq (wished_name w p)) (map (wished_name w) group.parties)
+      ∙ same_position (bytes_eq (wished_name w p)) (wished_name w) (λ q. q == p) group.parties 0 (λ q i. same_name p q lt (is_party q i))
       ∙ sym (position_from-zero (λ q. q == p) group.parties)
       ∙ position_is (λ q. q == p) group.parties among)
 

@@ -26,11 +26,11 @@ use Rattle.offer_fields.specs.Fields.{list_at, number_at, object_of, only}
 use Rattle.offer_fields.specs.Limits.{decoded, digest_of, within}
 use Rattle.offer_fields.specs.Lists.{each_of}
 use Rattle.offer_fields.proofs.Chains.{each_all}
-use Rattle.offer_header.specs.Raw.{arc_of, finish_at, header_fields, is_plain, keys_at, leader_of, mode_at, party_of, raw_of, states_keys, version_at}
+use Rattle.offer_header.specs.Raw.{raw_arc_of, finish_at, header_fields, is_plain, keys_at, raw_leader_of, mode_at, party_of, raw_of, states_keys, version_at}
 use Rattle.offer_header.specs.Raw.{IsModeOf, IsUntimed}
-use Rattle.offer_header.specs.Names.{actor_known, ends_of, is_name, leader_step, name_added, name_step, names_stated, numbered_of}
-use Rattle.offer_header.specs.Limits.{hashlock_of, hashlocks_of, key_of, keys_of, limited_of, party_keys_of, stated_keys_of}
-use Rattle.offer_header.specs.Header.{header_of, IsWithin}
+use Rattle.offer_header.specs.Names.{actor_known, named_ends, is_name, leader_step, name_added, name_step, names_stated, numbered_of}
+use Rattle.offer_header.specs.Limits.{hashlock_of, hashlocks_of, key_digest, keys_of, limited_of, party_keys_of, stated_keys_of}
+use Rattle.offer_header.specs.Header.{header_of, IsHeaderWithin}
 use Rattle.offer_header.specs.Scripts.{scripts_placed}
 use Rattle.offer_header.specs.declared.raw.RawHeader.{RawHeader}
 use Rattle.offer_header.specs.declared.raw.RawLeader.{RawLeader}
@@ -84,15 +84,15 @@ hashlocks_are line leaders =
     onward (within line (codes "leaders") 1 8 (length leaders)) _ (All IsDigest)
     (λ u w hashlocks e. each_all IsDigest (hashlock_of line) (hashlock_is line) leaders hashlocks e)
 
-key_is : (line : ℕ) (w xs : List ℕ) → key_of line w ≡ Ok xs → IsDigest xs
-unfolding key_of
+key_is : (line : ℕ) (w xs : List ℕ) → key_digest line w ≡ Ok xs → IsDigest xs
+unfolding key_digest
 key_is line w xs e = digest_is line (codes "keys") w xs e
 
 row_is : (locks line : ℕ) (row : RawRow) (keys : List (List ℕ)) → party_keys_of locks line row ≡ Ok keys → All IsDigest keys
 unfolding party_keys_of
 row_is locks line row =
     onward (within line (codes "keys") locks locks (length row.texts)) _ (All IsDigest)
-    (λ u w keys e. each_all IsDigest (key_of line) (key_is line) row.texts keys e)
+    (λ u w keys e. each_all IsDigest (key_digest line) (key_is line) row.texts keys e)
 
 rows_are : (line : ℕ) (h : RawHeader) (keys : List (List (List ℕ))) → stated_keys_of line h ≡ Ok keys → All (All IsDigest) keys
 unfolding stated_keys_of
@@ -139,7 +139,7 @@ pub good_names : (has : List ℕ → Bool) (line : ℕ) (raw : RawHeader) (n : N
 unfolding numbered_of
 good_names has line raw =
     onward (steps (name_step has line (names_stated raw.parties)) [] raw.parties) _ (λ (n : Numbered). All IsGood n.names) (λ names e.
-    onward (each_of (ends_of line names) raw.arcs) _ (λ (n : Numbered). All IsGood n.names) (λ arcs a.
+    onward (each_of (named_ends line names) raw.arcs) _ (λ (n : Numbered). All IsGood n.names) (λ arcs a.
     onward (steps (leader_step line names) [] raw.leaders) _ (λ (n : Numbered). All IsGood n.names) (λ leaders l.
     landed (record { names = names; arcs = arcs; leaders = leaders }) (λ (n : Numbered). All IsGood n.names)
     (steps_keep (All IsGood) (name_step has line (names_stated raw.parties)) (good_step has line (names_stated raw.parties)) [] raw.parties names
@@ -159,8 +159,8 @@ raw_fits purpose line d =
     onward (number_at line (codes "delta") d) _ IsFit (λ delta t.
     onward (number_at line (codes "bound") d) _ IsFit (λ bound b.
     onward (list_at line (codes "parties") (party_of (record { purpose = purpose; mode = mode }) line) d) _ IsFit (λ parties p.
-    onward (list_at line (codes "arcs") (arc_of (record { purpose = purpose; mode = mode }) line) d) _ IsFit (λ arcs a.
-    onward (list_at line (codes "leaders") (leader_of (record { purpose = purpose; mode = mode }) line) d) _ IsFit (λ leaders l.
+    onward (list_at line (codes "arcs") (raw_arc_of (record { purpose = purpose; mode = mode }) line) d) _ IsFit (λ arcs a.
+    onward (list_at line (codes "leaders") (raw_leader_of (record { purpose = purpose; mode = mode }) line) d) _ IsFit (λ leaders l.
     onward (keys_at line (states_keys purpose mode) d) _ IsFit (λ keys k.
     onward (finish_at line purpose d) _ IsFit (λ finish f.
     onward (only line (header_fields purpose (states_keys purpose mode)) d) _ IsFit (λ u o.
@@ -174,13 +174,13 @@ raw_fits purpose line d =
 -- What is known of a header that a line gives for a purpose.
 record IsStatedBy (purpose : Purpose) (h : Header) : Type 0 where
   purpose_is : h.purpose ≡ purpose
-  within : IsWithin h
+  within : IsHeaderWithin h
   names : All IsGood h.names
   hashlocks : All IsDigest h.hashlocks
   keys : All (All IsDigest) h.keys
 
 limited_is : (purpose : Purpose) (line : ℕ) (raw : RawHeader) (n : Numbered) (h : Header) → is_plain purpose ≡ false → IsFit raw
-    → All IsGood n.names → ((x : Header) → limited_of purpose line raw n ≡ Ok x → IsWithin x) → limited_of purpose line raw n ≡ Ok h
+    → All IsGood n.names → ((x : Header) → limited_of purpose line raw n ≡ Ok x → IsHeaderWithin x) → limited_of purpose line raw n ≡ Ok h
     → IsStatedBy purpose h
 limited_is purpose line raw n h stated fit good within e =
     let o = opened line purpose raw n h e in

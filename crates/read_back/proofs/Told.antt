@@ -5,11 +5,11 @@ use Rattle.std.specs.Str.{IsUtf8}
 use Rattle.swap_digraph.specs.Deal.{most_arcs, path_limit_of}
 use Rattle.swap_digraph.specs.declared.deal.Version.{Version}
 use Rattle.swap_digraph.specs.declared.deal.Version.TheVariants.{One, Two}
+use Rattle.swap_job.specs.Roles.{is_conforming}
 use Rattle.swap_job.specs.declared.job.Job.{Job}
 use Rattle.swap_job.specs.declared.job.Role.{Role}
 use Rattle.swap_job.specs.declared.job.Role.TheVariants.{Conforming, Manual, Script, Strategy}
 use Rattle.offer_moves.specs.declared.moves.Sizes.{Sizes}
-use Rattle.offer_header.specs.Limits.{conforms}
 use Rattle.offer_header.specs.Scripts.{roles_placed}
 use Rattle.swap_offer.specs.Job.{provided}
 use Rattle.typed_books.specs.Typed.{IsDigest}
@@ -38,7 +38,7 @@ pub record IsTold (has : List ℕ → Bool) (job : Job) : Type 0 where
   pub purpose : reads_jobs job.purpose ≡ true
   pub shown : IsShowable job
   pub roles : length job.roles ≡ job.deal.graph.n
-  pub acting : job.conforming ≡ map conforms job.roles
+  pub acting : job.conforming ≡ map is_conforming job.roles
   pub seeds : length job.seeds ≡ job.deal.graph.n
   pub digests : All MayBeDigest job.seeds
   pub said : All (IsToldRole has (sizes_at job) (length job.names)) job.roles

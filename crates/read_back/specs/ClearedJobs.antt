@@ -29,13 +29,13 @@ use Rattle.swap_clear.specs.Ready.{own_amounts}
 use Rattle.clear_line.specs.Cleared.{cleared_of}
 use Rattle.clear_line.specs.declared.cleared.Cleared.{Cleared}
 use Rattle.clear_line.specs.declared.limits.Wishes.{Wishes}
-use Rattle.clear_line.specs.ClearedText.{first_fields, group_data, named_data}
+use Rattle.clear_line.specs.ClearedText.{group_fields, group_data, named_data}
 
 -- ---- the line of a group, with seeds
 
 -- the plain job of a group whose parties are given so
 abbrev pub job_data : Wishes → Group → Data → Data
-job_data w group parties = object (first_fields w group
+job_data w group parties = object (group_fields w group
     (member (codes "leaders") (list_data (named_data (codes "party") w.names) group.leaders)
     (member (codes "mode") (string (codes "hashkeys"))
     (member (codes "parties") parties
@@ -74,12 +74,12 @@ abbrev pub wished_graph : Wishes → Graph
 wished_graph w = proposed_graph (length w.names) w.arcs
 
 -- the name of a party
-abbrev pub name_of : Wishes → ℕ → List ℕ
-name_of w p = slice_index_or w.names p []
+abbrev pub wished_name : Wishes → ℕ → List ℕ
+wished_name w p = slice_index_or w.names p []
 
 -- a digest for each leader, in the place of those that only seeds give
-abbrev pub no_digests : Group → List (List ℕ)
-no_digests group = map (λ l. no_digest) group.leaders
+abbrev pub unmade_digests : Group → List (List ℕ)
+unmade_digests group = map (λ l. no_digest) group.leaders
 
 -- the group's deal but for its id: its own digraph, its leaders and its amounts, with hashkeys
 abbrev pub deal_but_id : Wishes → Group → List ℕ → Deal
@@ -92,8 +92,8 @@ deal_but_id w group id = record {
   bound = group.bound;
   mode = Hashkeys;
   amounts = own_amounts w.arcs group;
-  hashlocks = no_digests group;
-  keys = map (λ p. no_digests group) group.parties;
+  hashlocks = unmade_digests group;
+  keys = map (λ p. unmade_digests group) group.parties;
   timelocks = map (λ a. 0) group.arcs;
   id = id;
 }
@@ -102,11 +102,11 @@ abbrev pub group_deal : Wishes → Group → Deal
 group_deal w group = deal_but_id w group (deal_id (deal_but_id w group (replicate 32 0)))
 
 -- the plain job of the group, in which every party conforms
-abbrev pub plain_job : Wishes → Group → List (List ℕ) → Job
-plain_job w group seeds = record {
+abbrev pub cleared_job : Wishes → Group → List (List ℕ) → Job
+cleared_job w group seeds = record {
   purpose = Make;
   deal = group_deal w group;
-  names = map (name_of w) group.parties;
+  names = map (wished_name w) group.parties;
   roles = map (λ p. Conforming) group.parties;
   conforming = map (λ p. true) group.parties;
   seeds = map (λ s. Some s) seeds;
@@ -136,22 +136,22 @@ abbrev pub SeededTextIsPlainJob : Type 0
 SeededTextIsPlainJob =
     (c : Cleared) (group : Group) (texts seeds : List (List ℕ)) → IsSeeded c group texts seeds
     → (has : List ℕ → Bool) (line : ℕ) (text : List ℕ) → is_utf8 text ≡ true → read text ≡ Some (seeded_data c.wishes group texts)
-    → job_header_of has Make line text ≡ Ok (plain_job c.wishes group seeds)
+    → job_header_of has Make line text ≡ Ok (cleared_job c.wishes group seeds)
 
 -- The line of each group that is cleared, with a seed for each party, is a plain job, that of the group.
 abbrev pub ClearedGroupsArePlainJobs : Type 0
 ClearedGroupsArePlainJobs =
     (c : Cleared) (group : Group) (texts seeds : List (List ℕ)) → IsSeeded c group texts seeds → (has : List ℕ → Bool) (line : ℕ)
-    → job_header_of has Make line (seeded_line c.wishes group texts) ≡ Ok (plain_job c.wishes group seeds)
+    → job_header_of has Make line (seeded_line c.wishes group texts) ≡ Ok (cleared_job c.wishes group seeds)
 
 -- That line alone is an input of `make`: it gives the plain job, and no event.
 abbrev pub ClearedGroupsArePlainOffers : Type 0
 ClearedGroupsArePlainOffers =
     (c : Cleared) (group : Group) (texts seeds : List (List ℕ)) → IsSeeded c group texts seeds → (has : List ℕ → Bool)
-    → job_of has Make (seeded_line c.wishes group texts ++ codes "\n") ≡ Ok (plain_job c.wishes group seeds, [])
+    → job_of has Make (seeded_line c.wishes group texts ++ codes "\n") ≡ Ok (cleared_job c.wishes group seeds, [])
 
 -- What `make` writes of that input is the line of the job that is made of the group's plain one.
 abbrev pub ClearedGroupsAreMade : Type 0
 ClearedGroupsAreMade =
     (c : Cleared) (group : Group) (texts seeds : List (List ℕ)) → IsSeeded c group texts seeds → (has : List ℕ → Bool)
-    → made_output has (seeded_line c.wishes group texts ++ codes "\n") ≡ Ok (written_line (made (plain_job c.wishes group seeds)))
+    → made_output has (seeded_line c.wishes group texts ++ codes "\n") ≡ Ok (written_line (made (cleared_job c.wishes group seeds)))

@@ -29,8 +29,8 @@ pub record IsShowable (job : Job) : Type 0 where
   pub keys : All (All IsDigest) job.deal.keys
 
 -- the job as an auditor knows it: without seeds and finish, and with every party that doesn't conform acting by its own calls alone
-abbrev pub audited : Job → Job
-audited job = record {
+abbrev pub audited_job : Job → Job
+audited_job job = record {
   purpose = Audit;
   deal = job.deal;
   names = job.names;
@@ -44,7 +44,7 @@ audited job = record {
 abbrev pub HeaderIsReadBack : Type 0
 HeaderIsReadBack =
     (has : List ℕ → Bool) (job : Job) (line : ℕ) (text : List ℕ) → IsShowable job → is_utf8 text ≡ true → read text ≡ Some (shown_header job)
-    → job_header_of has Audit line text ≡ Ok (audited job)
+    → job_header_of has Audit line text ≡ Ok (audited_job job)
 
 -- The header line of a job is text, and is read as the header that is shown.
 abbrev pub HeaderReads : Type 0

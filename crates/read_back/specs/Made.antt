@@ -25,7 +25,7 @@ use Rattle.made_jobs.specs.Making.{made_output}
 use Rattle.ledger_core.specs.Book.{Histories}
 use Rattle.swap_digraph.specs.Deal.{IsWellSized}
 use Rattle.transcript_lines.specs.Between.{ended}
-use Rattle.transcript_lines.specs.Lines.{IsWhole}
+use Rattle.transcript_lines.specs.Lines.{IsWholeTranscript}
 
 -- ---- what is read
 
@@ -37,8 +37,8 @@ reads_jobs Race = true
 reads_jobs _ = false
 
 -- the job that is made of a plain one, as it is read for a purpose: deal, names, roles, seeds and finish are those of the made job
-abbrev pub told : Purpose → Job → Job
-told purpose plain = record (made plain) { purpose = purpose }
+abbrev pub told_job : Purpose → Job → Job
+told_job purpose plain = record (made plain) { purpose = purpose }
 
 -- the strategies that are had have texts for their names
 abbrev pub HasTexts : (List ℕ → Bool) → Type 0
@@ -76,8 +76,8 @@ TextIsItsLines = (ls : List (List ℕ)) → All IsOneLine ls → lines_of (ended
 -- Two whole transcripts that are the same text, byte for byte, tell of one job and one book, where no header line of theirs holds a line feed.
 abbrev pub WholeTextHasOneStory : Type 0
 WholeTextHasOneStory =
-    (header_of : List ℕ → Option Job) (ls ms : List (List ℕ)) (job other : Job) (b c : Histories) (w : IsWhole header_of ls job b)
-    (v : IsWhole header_of ms other c) → IsWellSized job.deal → IsWellSized other.deal → IsOneLine w.header → IsOneLine v.header → ended ls ≡ ended ms
+    (header_of : List ℕ → Option Job) (ls ms : List (List ℕ)) (job other : Job) (b c : Histories) (w : IsWholeTranscript header_of ls job b)
+    (v : IsWholeTranscript header_of ms other c) → IsWellSized job.deal → IsWellSized other.deal → IsOneLine w.header → IsOneLine v.header → ended ls ≡ ended ms
     → (job ≡ other) × (b ≡ c)
 
 -- The header line of a job that is made of a plain one is text, and is read as the header that is written.
@@ -97,13 +97,13 @@ abbrev pub MadeTextIsReadBack : Type 0
 MadeTextIsReadBack =
     (has : List ℕ → Bool) (line : ℕ) (text : List ℕ) (plain : Job) → HasTexts has → job_header_of has Make line text ≡ Ok plain
     → (purpose : Purpose) → reads_jobs purpose ≡ true → (number : ℕ) (again : List ℕ) → is_utf8 again ≡ true
-    → read again ≡ Some (made_header (made plain)) → job_header_of has purpose number again ≡ Ok (told purpose plain)
+    → read again ≡ Some (made_header (made plain)) → job_header_of has purpose number again ≡ Ok (told_job purpose plain)
 
 -- So its header line gives that job.
 abbrev pub MadeHeaderIsReadBack : Type 0
 MadeHeaderIsReadBack =
     (has : List ℕ → Bool) (line : ℕ) (text : List ℕ) (plain : Job) → HasTexts has → job_header_of has Make line text ≡ Ok plain
-    → (purpose : Purpose) → reads_jobs purpose ≡ true → (number : ℕ) → job_header_of has purpose number (header_line (made plain)) ≡ Ok (told purpose plain)
+    → (purpose : Purpose) → reads_jobs purpose ≡ true → (number : ℕ) → job_header_of has purpose number (header_line (made plain)) ≡ Ok (told_job purpose plain)
 
 -- a job with its events, or the first reason against one of them
 abbrev pub with_job : Job → Result (List Event) Reason → Result (Job × List Event) Reason
@@ -114,7 +114,7 @@ with_job job read = read >>= λ events. Ok (job, events)
 pub record IsReadBack (has : List ℕ → Bool) (purpose : Purpose) (input output : List ℕ) : Type 0 where
   pub plain : Job
   pub is_plain : job_of has Make input ≡ Ok (plain, [])
-  pub is_made : job_of has purpose output ≡ with_job (told purpose plain) (events_of (told purpose plain) 0 (numbered_from 2 (further_lines input)))
+  pub is_made : job_of has purpose output ≡ with_job (told_job purpose plain) (events_of (told_job purpose plain) 0 (numbered_from 2 (further_lines input)))
 
 -- What `make` writes is read as the job that it made.
 abbrev pub MadeOutputIsReadBack : Type 0
@@ -132,11 +132,11 @@ abbrev pub GeneratedTextIsReadBack : Type 0
 GeneratedTextIsReadBack =
     (has : List ℕ → Bool) (seed parties events : ℕ) → 2 ≤ parties → parties ≤ 24 → events ≤ 200000 → (purpose : Purpose) → reads_jobs purpose ≡ true
     → HasEventsFor purpose events
-    → job_of has purpose (generated_text seed parties events) ≡ Ok (told purpose (plain_job seed parties), generated_events seed parties events)
+    → job_of has purpose (generated_text seed parties events) ≡ Ok (told_job purpose (plain_job seed parties), generated_events seed parties events)
 
 -- And its run, with the fair finish that the job asks for, is the one that the number's summary tells of, whatever strategies would answer: none is asked.
 abbrev pub GeneratedRunIsSummed : Type 0
 GeneratedRunIsSummed =
     (answers : Answers) (seed parties events : ℕ)
-    → let cast : Cast = with_answers (cast_of (told Run (plain_job seed parties))) answers in
+    → let cast : Cast = with_answers (cast_of (told_job Run (plain_job seed parties))) answers in
     (finish cast (run cast (generated_events seed parties events))).book ≡ generated_book seed parties events

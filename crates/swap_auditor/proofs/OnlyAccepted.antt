@@ -20,7 +20,7 @@ use Rattle.ledger_core.specs.declared.entry.Sender.TheVariants.{Party, Clock}
 use Rattle.ledger_core.specs.declared.entry.What.{What}
 use Rattle.ledger_core.specs.declared.entry.What.TheVariants.{Call as Made, Tick}
 use Rattle.ledger_core.specs.declared.entry.Entry.{Entry}
-use Rattle.ledger_core.specs.History.{ticks_in, accepted, accepted_in as call_in, height, Publication, publication, published, opening, opened}
+use Rattle.ledger_core.specs.History.{ticks_in, accepted, accepted_call, height, Publication, publication, published, opening, opened}
 use Rattle.ledger_core.specs.History.{settling, settled, is_open, triggered, terms_in, accounts, moved, balance, held, is_full, is_clock_full, rows}
 use Rattle.ledger_core.specs.History.{reply_to, reply_to_tick, IsLegal, IsLegalEntry, IsLegalMoment}
 use Rattle.ledger_core.specs.Book.{Histories, history, IsLegalBook}
@@ -140,7 +140,7 @@ same_without d a h k e none still s = record {
   ticks = let few = s.ticks in omega (arith, ticks-push h e);
 }
 
-refused_none : (w : What) (r : Reply) → is_accepted r ≡ false → call_in w r ≡ None
+refused_none : (w : What) (r : Reply) → is_accepted r ≡ false → accepted_call w r ≡ None
 refused_none w Accepted e = absurd (cc e)
 refused_none (Made c) _ e = refl
 refused_none (Tick k) _ e = refl

@@ -13,14 +13,14 @@ ghost use Rattle.ledger_core.specs.WellFormed.{IsWellFormed};
 
 use crate::found::Found;
 use crate::replay::{AuditFault, replay};
-use ledger_core::{Book, EntryList};
+use ledger_core::{Book, EntryList, share_deal};
 use outcome_rules::{Report, report_of};
 use std::alloc::Global;
-use swap_base::{ArcId, Listed};
+use swap_base::{ArcId, Listed, Shared};
 use swap_digraph::Deal;
 
-/// Replays each history of a book: every stated reply has to be the ledger's. Each signature is verified once.
-pub fn replay_book(alloc: Global, deal: &Deal, book: &Book) -> Result<(), AuditFault>
+/// Replays each history of a book, by ledgers that hold this deal.
+fn replay_all(alloc: Global, deal: &Shared<Deal>, book: &Book) -> Result<(), AuditFault>
     requires sized { IsWellSized deal.now }
     requires formed { IsWellFormed deal.now book.now.histories }
     ensures exact { Gives (λ u. u) result (replay_from deal.now 0 book.now.histories) }
@@ -31,6 +31,17 @@ pub fn replay_book(alloc: Global, deal: &Deal, book: &Book) -> Result<(), AuditF
         replay(alloc, deal, arc as ArcId, &mut found, list)?;
     }
     Ok(())
+}
+
+/// Replays each history of a book: every stated reply has to be the ledger's. Each signature is verified once.
+pub fn replay_book(alloc: Global, deal: &Deal, book: &Book) -> Result<(), AuditFault>
+    requires sized { IsWellSized deal.now }
+    requires formed { IsWellFormed deal.now book.now.histories }
+    ensures exact { Gives (λ u. u) result (replay_from deal.now 0 book.now.histories) }
+    ensures legal { OnOk result (IsLegalBook deal.now book.now.histories) }
+{
+    let held = share_deal(alloc, deal)?;
+    replay_all(alloc, &held, book)
 }
 
 /// The report of a book whose every stated reply is that of the replayed ledgers, or the first, in order of arc and entry, that isn't. Each signature

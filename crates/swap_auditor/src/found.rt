@@ -14,12 +14,12 @@ use ledger_core::Call;
 use std::alloc::Global;
 use std::marker::Model;
 use swap_base::{Digest, NoMemory, PartyId, Shared, TryCopy};
-use swap_digraph::{Deal, copy_deal};
+use swap_digraph::Deal;
 
 /// Hashkeys whose every signature was found valid under a deal. Contracts see the deal alone.
 #[derive(Debug, Drop)]
 pub(crate) struct Found {
-    deal: Deal,
+    deal: Shared<Deal>,
     keys: Vec<Shared<Hashkey>>,
 }
 
@@ -89,12 +89,12 @@ fn shares_last(one: &Hashkey, other: &Hashkey, n: usize) -> bool
 
 impl Found {
     /// No hashkeys yet, for that deal.
-    pub(crate) fn new(alloc: Global, deal: &Deal) -> Result<Found, NoMemory>
+    pub(crate) fn new(alloc: Global, deal: &Shared<Deal>) -> Result<Found, NoMemory>
         requires { IsWellSized deal.now }
         ensures { IfOk result (λ f. f ≡ deal.now) }
     {
         Ok(Found {
-            deal: copy_deal(deal)?,
+            deal: deal.copy()?,
             keys: Vec::new(alloc),
         })
     }

@@ -13,7 +13,7 @@ use crate::same_reply::same_reply;
 use escrow_core::Reply;
 use ledger_core::{Call, Entry, EntryList, Ledger, Sender, What};
 use std::alloc::Global;
-use swap_base::{ArcId, Fault, NoMemory, PartyId, TryCopy};
+use swap_base::{ArcId, Fault, NoMemory, PartyId, Shared, TryCopy};
 use swap_digraph::Deal;
 
 /// A stated reply that isn't the replayed one. Entries are counted from 0, and ticks count.
@@ -138,7 +138,7 @@ fn replay_entries(
 /// Replays the history of an arc.
 pub(crate) fn replay(
     alloc: Global,
-    deal: &Deal,
+    deal: &Shared<Deal>,
     arc: ArcId,
     found: &mut Found,
     list: &EntryList,

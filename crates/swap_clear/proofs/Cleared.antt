@@ -5,14 +5,13 @@ use Rattle.swap_digraph.specs.Value.{Graph}
 use Rattle.swap_digraph.specs.Graph.{HasEnds}
 use Rattle.swap_digraph.specs.declared.fault.ArcFault.{ArcFault}
 use Rattle.swap_digraph.specs.declared.deal.Version.TheVariants.{Two}
-use Rattle.swap_digraph.specs.Arcs.{first_fault_after}
-use Rattle.swap_digraph.specs.Arcs as digraph
+use Rattle.swap_digraph.specs.Arcs.{first_fault_after, first_fault}
 use Rattle.swap_digraph.proofs.Faults.{has_ends}
 use Rattle.swap_clear.specs.declared.proposed.Proposed.{Proposed}
 use Rattle.swap_clear.specs.declared.answer.Group.{Group}
 use Rattle.swap_clear.specs.declared.answer.Clearing.{Clearing}
 use Rattle.swap_clear.specs.declared.fault.ClearReason.{ClearReason}
-use Rattle.swap_clear.specs.Proposals.{ends_of, proposed_graph, first_fault, graph_or, graph_of}
+use Rattle.swap_clear.specs.Proposals.{ends_of, proposed_graph, first_proposal_fault, graph_unless, graph_of}
 use Rattle.swap_clear.specs.Groups.{all_left_out}
 use Rattle.swap_clear.specs.Clearing.{groups_of, clearing_of}
 use Rattle.swap_clear.proofs.Faults.{tell, same_first}
@@ -24,16 +23,17 @@ pub record Cleared (n : ℕ) (arcs : List Proposed) (c : Clearing) : Type 0 wher
   pub groups : groups_of (proposed_graph n arcs) ≡ Ok c.groups
 
 pub sound : (n : ℕ) (arcs : List Proposed) (g : Graph) → graph_of n arcs ≡ Ok g → (g ≡ proposed_graph n arcs) × HasEnds (proposed_graph n arcs)
-unfolding graph_of digraph.first_fault
+unfolding graph_of first_fault
 sound n arcs g e = go (first_fault_after n Two [] (map ends_of arcs)) refl (same_first n [] 0 arcs refl)
   where
-    go : (o : Option ArcFault) → first_fault_after n Two [] (map ends_of arcs) ≡ o → first_fault n 0 arcs ≡ tell (first_fault_after n Two [] (map ends_of arcs))
+    go : (o : Option ArcFault) → first_fault_after n Two [] (map ends_of arcs) ≡ o
+        → first_proposal_fault n 0 arcs ≡ tell (first_fault_after n Two [] (map ends_of arcs))
         → (g ≡ proposed_graph n arcs) × HasEnds (proposed_graph n arcs)
     go None none same = (
-      let h = sym (ap (graph_or (proposed_graph n arcs)) (same ∙ ap tell none)) ∙ e in sym (cc h),
+      let h = sym (ap (graph_unless (proposed_graph n arcs)) (same ∙ ap tell none)) ∙ e in sym (cc h),
       has_ends n Two (map ends_of arcs) (sym none),
     )
-    go (Some f) none same = let h = sym (ap (graph_or (proposed_graph n arcs)) (same ∙ ap tell none)) ∙ e in absurd (cc h)
+    go (Some f) none same = let h = sym (ap (graph_unless (proposed_graph n arcs)) (same ∙ ap tell none)) ∙ e in absurd (cc h)
 
 pub cleared : (n : ℕ) (arcs : List Proposed) (c : Clearing) → clearing_of n arcs ≡ Ok c → Cleared n arcs c
 unfolding clearing_of

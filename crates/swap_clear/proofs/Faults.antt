@@ -9,14 +9,13 @@ use Rattle.swap_digraph.specs.declared.arc_ends.ArcEnds.{ArcEnds}
 use Rattle.swap_digraph.specs.declared.fault.ArcFault.{ArcFault}
 use Rattle.swap_digraph.specs.declared.fault.ArcFault.TheVariants.{OutOfRange as OutOfRangeArc, SelfArc as SelfArcOf, Parallel}
 use Rattle.swap_digraph.specs.declared.deal.Version.TheVariants.{Two}
-use Rattle.swap_digraph.specs.Arcs.{fault_at, first_fault_after, digraph_of, graph_or as digraph_or}
-use Rattle.swap_digraph.specs.Arcs as digraph
+use Rattle.swap_digraph.specs.Arcs.{fault_at, first_fault_after, digraph_of, graph_or, first_fault}
 use Rattle.swap_digraph.specs.Graph.{HasEnds}
 use Rattle.swap_digraph.specs.Value.{Graph}
 use Rattle.swap_clear.specs.declared.proposed.Proposed.{Proposed}
 use Rattle.swap_clear.specs.declared.fault.ClearReason.{ClearReason}
 use Rattle.swap_clear.specs.declared.fault.ClearReason.TheVariants.{OutOfRange, SelfArc}
-use Rattle.swap_clear.specs.Proposals.{ends_of, proposed_graph, fault_of, first_fault, graph_or, graph_of}
+use Rattle.swap_clear.specs.Proposals.{ends_of, proposed_graph, fault_of, first_proposal_fault, graph_unless, graph_of}
 
 -- Sound arcs make a digraph.
 
@@ -36,8 +35,8 @@ sound_after n before (a ∷ arcs) ends =
     })
 
 pub sound_graph : (n : ℕ) (arcs : List ArcEnds) → HasEnds (record { n = n; arcs = arcs }) → digraph_of n Two arcs ≡ Ok (record { n = n; arcs = arcs })
-unfolding digraph_of digraph.first_fault
-sound_graph n arcs ends = ap (λ (o : Option ArcFault). digraph_or n arcs o) (sound_after n [] arcs ends)
+unfolding digraph_of first_fault
+sound_graph n arcs ends = ap (λ (o : Option ArcFault). graph_or n arcs o) (sound_after n [] arcs ends)
 
 pub never_refused : (n : ℕ) (arcs : List ArcEnds) (e : Fault ArcFault) (reason : ArcFault) → HasEnds (record { n = n; arcs = arcs }) → e ≡ Refused reason
     → Fails e (digraph_of n Two arcs) → ⊥
@@ -71,34 +70,34 @@ same_fault n before k p = go (nat_lt p.from n && nat_lt p.to n) (p.from == p.to)
     go false same = refl
 
 pub same_first : (n : ℕ) (before : List ArcEnds) (k : ℕ) (arcs : List Proposed) → k ≡ length before
-    → first_fault n k arcs ≡ tell (first_fault_after n Two before (map ends_of arcs))
-unfolding first_fault
+    → first_proposal_fault n k arcs ≡ tell (first_fault_after n Two before (map ends_of arcs))
+unfolding first_proposal_fault
 same_first n before k [] e = refl
 same_first n before k (p ∷ arcs) e =
-    ap (λ (o : Option ClearReason). or_else o (first_fault n (k + 1) arcs)) (same_fault n before k p
+    ap (λ (o : Option ClearReason). or_else o (first_proposal_fault n (k + 1) arcs)) (same_fault n before k p
     ∙ ap (λ (j : ℕ). tell (fault_at n Two before j (ends_of p))) e)
     ∙ ap (λ (o : Option ClearReason). or_else (tell (fault_at n Two before (length before) (ends_of p))) o)
     (same_first n (before ++ ends_of p ∷ []) (k + 1) arcs (let l = length-append before (ends_of p ∷ []) in omega (arith, l, e)))
     ∙ sym (tell_or (fault_at n Two before (length before) (ends_of p)) (first_fault_after n Two (before ++ ends_of p ∷ []) (map ends_of arcs)))
 
 pub refused_so : (n : ℕ) (arcs : List Proposed) (f : ArcFault) → digraph_of n Two (map ends_of arcs) ≡ Err f → graph_of n arcs ≡ Err (told f)
-unfolding graph_of digraph_of digraph.first_fault
+unfolding graph_of digraph_of first_fault
 refused_so n arcs f e = go (first_fault_after n Two [] (map ends_of arcs)) (same_first n [] 0 arcs refl) e
   where
-    go : (o : Option ArcFault) → first_fault n 0 arcs ≡ tell o → digraph_or n (map ends_of arcs) o ≡ Err f
-        → graph_or (proposed_graph n arcs) (first_fault n 0 arcs) ≡ Err (told f)
+    go : (o : Option ArcFault) → first_proposal_fault n 0 arcs ≡ tell o → graph_or n (map ends_of arcs) o ≡ Err f
+        → graph_unless (proposed_graph n arcs) (first_proposal_fault n 0 arcs) ≡ Err (told f)
     go None s h = absurd (cc h)
     go (Some x) s h =
         let same : x ≡ f = cc h in
-        ap (graph_or (proposed_graph n arcs)) s ∙ ap (λ (y : ArcFault). Err (told y)) same
+        ap (graph_unless (proposed_graph n arcs)) s ∙ ap (λ (y : ArcFault). Err (told y)) same
 
 pub accepted_so : (n : ℕ) (arcs : List Proposed) (g : Graph) → digraph_of n Two (map ends_of arcs) ≡ Ok g → graph_of n arcs ≡ Ok g
-unfolding graph_of digraph_of digraph.first_fault
+unfolding graph_of digraph_of first_fault
 accepted_so n arcs g e = go (first_fault_after n Two [] (map ends_of arcs)) (same_first n [] 0 arcs refl) e
   where
-    go : (o : Option ArcFault) → first_fault n 0 arcs ≡ tell o → digraph_or n (map ends_of arcs) o ≡ Ok g
-        → graph_or (proposed_graph n arcs) (first_fault n 0 arcs) ≡ Ok g
-    go None s h = let same : proposed_graph n arcs ≡ g = cc h in ap (graph_or (proposed_graph n arcs)) s ∙ ap (λ (x : Graph). Ok x) same
+    go : (o : Option ArcFault) → first_proposal_fault n 0 arcs ≡ tell o → graph_or n (map ends_of arcs) o ≡ Ok g
+        → graph_unless (proposed_graph n arcs) (first_proposal_fault n 0 arcs) ≡ Ok g
+    go None s h = let same : proposed_graph n arcs ≡ g = cc h in ap (graph_unless (proposed_graph n arcs)) s ∙ ap (λ (x : Graph). Ok x) same
     go (Some x) s h = absurd (cc h)
 
 not_parallel_at : (n : ℕ) (before : List ArcEnds) (k i j : ℕ) (a : ArcEnds) → fault_at n Two before k a ≡ Some (Parallel i j) → ⊥
@@ -122,10 +121,10 @@ not_parallel_after n before (a ∷ arcs) i j e =
     go (Some f) s h rest = not_parallel_at n before (length before) i j a (s ∙ h)
 
 pub not_parallel : (n : ℕ) (arcs : List ArcEnds) (i j : ℕ) → digraph_of n Two arcs ≡ Err (Parallel i j) → ⊥
-unfolding digraph_of digraph.first_fault
+unfolding digraph_of first_fault
 not_parallel n arcs i j e = go (first_fault_after n Two [] arcs) refl e
   where
-    go : (o : Option ArcFault) → first_fault_after n Two [] arcs ≡ o → digraph_or n arcs o ≡ Err (Parallel i j) → ⊥
+    go : (o : Option ArcFault) → first_fault_after n Two [] arcs ≡ o → graph_or n arcs o ≡ Err (Parallel i j) → ⊥
     go None s h = cc h
     go (Some f) s h = let same : f ≡ Parallel i j = cc h in not_parallel_after n [] arcs i j (s ∙ ap (λ (x : ArcFault). Some x) same)
 

@@ -17,7 +17,7 @@ use Rattle.swap_clear.specs.declared.answer.Group.{Group}
 use Rattle.swap_clear.specs.declared.answer.Clearing.{Clearing}
 use Rattle.swap_clear.specs.declared.fault.ClearReason.{ClearReason}
 use Rattle.swap_clear.specs.declared.fault.ClearReason.TheVariants.{OutOfRange, SelfArc, TooManyLeaders}
-use Rattle.swap_clear.specs.Proposals.{ends_of, proposed_graph, fault_of, first_fault, graph_or, graph_of}
+use Rattle.swap_clear.specs.Proposals.{ends_of, proposed_graph, fault_of, first_proposal_fault, graph_unless, graph_of}
 use Rattle.swap_clear.specs.Groups.{all_left_out}
 use Rattle.swap_clear.specs.Leaders.{leaders_of}
 use Rattle.swap_clear.specs.Clearing.{add_group, groups_of, clearing_of}
@@ -64,13 +64,13 @@ faulty_on n k p arcs reason fine rest =
     by_place zero lt = fine
     by_place (suc a) lt = rest.before a (omega (arith, lt))
 
-faulty : (n k : ℕ) (arcs : List Proposed) (reason : ClearReason) → first_fault n k arcs ≡ Some reason → Faulty n k arcs reason
-unfolding first_fault
+faulty : (n k : ℕ) (arcs : List Proposed) (reason : ClearReason) → first_proposal_fault n k arcs ≡ Some reason → Faulty n k arcs reason
+unfolding first_proposal_fault
 faulty n k [] reason e = absurd (cc e)
 faulty n k (p ∷ arcs) reason e = go (fault_of n k p) refl e (faulty n (k + 1) arcs reason)
   where
-    go : (o : Option ClearReason) → fault_of n k p ≡ o → or_else o (first_fault n (k + 1) arcs) ≡ Some reason
-        → (first_fault n (k + 1) arcs ≡ Some reason → Faulty n (k + 1) arcs reason) → Faulty n k (p ∷ arcs) reason
+    go : (o : Option ClearReason) → fault_of n k p ≡ o → or_else o (first_proposal_fault n (k + 1) arcs) ≡ Some reason
+        → (first_proposal_fault n (k + 1) arcs ≡ Some reason → Faulty n (k + 1) arcs reason) → Faulty n k (p ∷ arcs) reason
     go None f h rest = faulty_on n k p arcs reason (fine_of n k p f) (rest h)
     go (Some x) f h rest =
         let zeroth : k + 0 ≡ k = omega arith in
@@ -112,7 +112,7 @@ fault_at n k g reason p size same lt before e = go (nat_lt p.from n) (nat_lt p.t
 
 pub graph_refused : (n : ℕ) (arcs : List Proposed) (reason : ClearReason) → graph_of n arcs ≡ Err reason → IsFault (proposed_graph n arcs) reason
 unfolding graph_of
-graph_refused n arcs reason e = go (first_fault n 0 arcs) refl e
+graph_refused n arcs reason e = go (first_proposal_fault n 0 arcs) refl e
   where
     at_ends : (i : ℕ) → i < length arcs → ends (proposed_graph n arcs) i ≡ ends_of (at_place arcs i)
     at_ends i lt = get_or-map ends_of arcs i (record { from = 0; to = 0; amount = 0 }) (record { from = 0; to = 0 }) lt
@@ -120,7 +120,8 @@ graph_refused n arcs reason e = go (first_fault n 0 arcs) refl e
     sound_at : (i : ℕ) → i < length arcs → IsFine n (at_place arcs i) → IsSound (proposed_graph n arcs) i
     sound_at i lt fine = subst (λ (x : ArcEnds). (x.from < n) × (x.to < n) × (x.from ≢ x.to)) (sym (at_ends i lt)) fine
 
-    go : (o : Option ClearReason) → first_fault n 0 arcs ≡ o → graph_or (proposed_graph n arcs) o ≡ Err reason → IsFault (proposed_graph n arcs) reason
+    go : (o : Option ClearReason) → first_proposal_fault n 0 arcs ≡ o → graph_unless (proposed_graph n arcs) o ≡ Err reason
+        → IsFault (proposed_graph n arcs) reason
     go None f h = absurd (cc h)
     go (Some x) f h =
         let same : x ≡ reason = cc h in

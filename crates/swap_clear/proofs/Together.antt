@@ -135,9 +135,6 @@ module _ (g : Graph) where
         holds = inside;
       }
 
-  heads : List ℕ
-  heads = filter (is_head g) (parties g)
-
   pub record Made (group : Group) : Type 0 where
     pub head : ℕ
     pub party : head < g.n

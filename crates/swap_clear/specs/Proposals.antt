@@ -22,13 +22,13 @@ fault_of n k p =
     else None
 
 -- the first fault of the least proposal that has one, by number from k on
-unfoldable pub first_fault : ℕ → ℕ → List Proposed → Option ClearReason
-first_fault n k [] = None
-first_fault n k (p ∷ arcs) = or_else (fault_of n k p) (first_fault n (k + 1) arcs)
+unfoldable pub first_proposal_fault : ℕ → ℕ → List Proposed → Option ClearReason
+first_proposal_fault n k [] = None
+first_proposal_fault n k (p ∷ arcs) = or_else (fault_of n k p) (first_proposal_fault n (k + 1) arcs)
 
-abbrev pub graph_or : Graph → Option ClearReason → Result Graph ClearReason
-graph_or g None = Ok g
-graph_or g (Some reason) = Err reason
+abbrev pub graph_unless : Graph → Option ClearReason → Result Graph ClearReason
+graph_unless g None = Ok g
+graph_unless g (Some reason) = Err reason
 
 unfoldable pub graph_of : ℕ → List Proposed → Result Graph ClearReason
-graph_of n arcs = graph_or (proposed_graph n arcs) (first_fault n 0 arcs)
+graph_of n arcs = graph_unless (proposed_graph n arcs) (first_proposal_fault n 0 arcs)

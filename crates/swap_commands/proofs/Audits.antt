@@ -5,17 +5,18 @@ use Rattle.swap_io.specs.Handed.{AppendsPrefix}
 use Rattle.refusals.specs.declared.refusal.Refusal.{Refusal}
 use Rattle.refusals.specs.Refusal.{refusal}
 use Rattle.audit_command.specs.Output.{audit_of}
-use Rattle.audit_command.specs.Says as audit
+use Rattle.audit_command.specs.Says.{AuditSays, HasAnswer, HasAuditOutput}
 use Rattle.command_input.specs.declared.status.Status.{Status}
 use Rattle.command_input.specs.declared.status.Status.TheVariants.{Done, Named, WrongWords, Refused, ReadFault, WriteFault, NoMemory, TooLong}
 use Rattle.command_input.specs.Streams.{streams}
-use Rattle.swap_world.specs.Gone.{Gives}
-use Rattle.command_input.specs.Written.{IsWhole, Written}
+use Rattle.swap_world.specs.Gone.{MayGive}
+use Rattle.command_input.specs.Written.{IsWrittenWhole, Written}
 use Rattle.swap_commands.specs.Output.{by_reason, names_of, names_told, no_chance, output_by}
 use Rattle.swap_commands.specs.Says.{HasOutput, HasRead, Says}
-use Rattle.swap_commands.specs.declared.words.Command.TheVariants.{Audit}
+use Rattle.swap_commands.specs.Words.{Audit}
+use Rattle.swap_commands.specs.Strategies.{strategies}
 
-module _ (has : List ℕ → Bool) (gives : Gives) where
+module _ (has : List ℕ → Bool) (gives : MayGive) where
   gives_by : (input : List ℕ) (output : Result Written Refusal) → audit_of input ≡ output → output_by has no_chance Audit input ≡ by_reason output
   unfolding output_by
   gives_by input output e = ap by_reason e
@@ -24,7 +25,7 @@ module _ (has : List ℕ → Bool) (gives : Gives) where
   unfolding names_of
   named_by input refusal e = sym (ap names_told e)
 
-  abbrev read_by : (a b : Option (List ℕ)) (output : Result Written Refusal) → audit.HasAnswer a b output → HasRead has no_chance Audit a b (by_reason output)
+  abbrev read_by : (a b : Option (List ℕ)) (output : Result Written Refusal) → HasAnswer a b output → HasRead has no_chance Audit a b (by_reason output)
   read_by a b output r = record {
     input = r.input;
     taken = r.taken;
@@ -33,7 +34,7 @@ module _ (has : List ℕ → Bool) (gives : Gives) where
     gives = gives_by r.input output r.gives;
   }
 
-  written_by : (P Q : Written → Type 0) → ((w : Written) → P w → Q w) → (a b : Option (List ℕ)) → audit.HasOutput P a b → HasOutput has gives Q Audit a b
+  written_by : (P Q : Written → Type 0) → ((w : Written) → P w → Q w) → (a b : Option (List ℕ)) → HasAuditOutput P a b → HasOutput has gives Q Audit a b
   written_by P Q f a b o = record {
     chance = no_chance;
     output = o.output;
@@ -42,18 +43,18 @@ module _ (has : List ℕ → Bool) (gives : Gives) where
     written = f o.output o.written;
   }
 
-  cut : (a b taken taken' : Option (List ℕ)) → audit.HasOutput (λ w. AppendsProperPrefix taken taken' w.text) a b
+  cut : (a b taken taken' : Option (List ℕ)) → HasAuditOutput (λ w. AppendsProperPrefix taken taken' w.text) a b
       → HasOutput has gives (λ w. AppendsProperPrefix taken taken' w.text) Audit a b
   cut a b taken taken' o = written_by (λ w. AppendsProperPrefix taken taken' w.text) (λ w. AppendsProperPrefix taken taken' w.text) (λ w x. x) a b o
 
-  short : (a b taken taken' : Option (List ℕ)) → audit.HasOutput (λ w. AppendsPrefix taken taken' w.text) a b
+  short : (a b taken taken' : Option (List ℕ)) → HasAuditOutput (λ w. AppendsPrefix taken taken' w.text) a b
       → HasOutput has gives (λ w. AppendsPrefix taken taken' w.text) Audit a b
   short a b taken taken' o = written_by (λ w. AppendsPrefix taken taken' w.text) (λ w. AppendsPrefix taken taken' w.text) (λ w x. x) a b o
 
   pub says_audit : (a b : Option (List ℕ)) (n m : ℕ) (taken taken' : Option (List ℕ)) (p q : ℕ) (s : Status)
-      → audit.Says (streams a n taken p) (streams b m taken' q) s → Says has gives Audit a b n m taken taken' p q s
-  says_audit a b n m taken taken' p q Done s = written_by (IsWhole taken taken' false) (IsWhole taken taken' false) (λ w x. x) a b s
-  says_audit a b n m taken taken' p q Named s = written_by (IsWhole taken taken' true) (IsWhole taken taken' true) (λ w x. x) a b s
+      → AuditSays (streams a n taken p) (streams b m taken' q) s → Says (strategies has gives) Audit (streams a n taken p) (streams b m taken' q) s
+  says_audit a b n m taken taken' p q Done s = written_by (IsWrittenWhole taken taken' false) (IsWrittenWhole taken taken' false) (λ w x. x) a b s
+  says_audit a b n m taken taken' p q Named s = written_by (IsWrittenWhole taken taken' true) (IsWrittenWhole taken taken' true) (λ w x. x) a b s
   says_audit a b n m taken taken' p q WrongWords s = absurd s
   says_audit a b n m taken taken' p q (Refused reason names) s =
       let r = refusal names reason in (record { read = read_by a b (Err r) s.0; named = named_by s.0.input r s.0.gives }, s.1)

@@ -9,22 +9,24 @@ use Rattle.refusals.specs.declared.reason.Reason.{Reason}
 use Rattle.refusals.specs.declared.reason.Reason.TheVariants.{BadLine, NotJson}
 use Rattle.refusals.specs.declared.refusal.Refusal.{Refusal}
 use Rattle.command_input.specs.Lines.{lines_of, filled_lines}
-use Rattle.swap_world.specs.Gone.{Gives as MayGive}
+use Rattle.swap_world.specs.Gone.{MayGive}
 use Rattle.clear_line.specs.ClearedText.{cleared_line, IsClearedLine}
 use Rattle.swap_commands.specs.Cleared.{IsCleared, IsFurther}
 use Rattle.command_input.specs.Faults.{named_fault, of_offer}
-use Rattle.command_input.specs.Input.{At, Ends, EndsAt, Gives, IsLast, IsLine, Stops, Tells, ahead, fresh, limit}
+use Rattle.command_input.specs.Input.{At, Ends, EndsAt, GivesLine, IsLast, IsLine, Stops, Tells, ahead, fresh, limit}
 use Rattle.swap_commands.specs.Output.{alone, clear_output, names_of, no_chance, output_by, plain_text, wishes_of}
 use Rattle.swap_commands.specs.Says.{IsAgainst, Says}
 use Rattle.command_input.specs.declared.fault.InputFault.{InputFault}
 use Rattle.command_input.specs.declared.fault.InputFault.TheVariants.{Refused, ReadFault, TooLong, NoMemory}
-use Rattle.swap_commands.specs.declared.words.Command.TheVariants.{Clear}
+use Rattle.swap_commands.specs.Words.{Clear}
 use Rattle.command_input.specs.declared.status.Status.{Status}
 use Rattle.command_input.proofs.Ahead.{part_on, too_long_on}
 use Rattle.swap_commands.proofs.Reading.{is_within, not_over_yet}
 use Rattle.swap_commands.proofs.Saying.{says_written}
+use Rattle.swap_commands.specs.Strategies.{strategies}
 use Rattle.command_input.proofs.Streams.{can_come, last_of, line_of}
 use Rattle.command_input.specs.Written.{Writes}
+use Rattle.command_input.specs.Streams.{streams}
 
 -- ---- what is written, by the lines of an input
 
@@ -74,10 +76,10 @@ module _ (has : List ℕ → Bool) where
   }
 
   pub empty_stops : (more : Bool) (left left' : Option (List ℕ)) (n m : ℕ) (old now : At) (fault : InputFault Refusal) → old ≡ fresh → more ≡ false
-      → Gives more left left' old now → now.reading.taken ≤ limit → EndsAt left' now → fault ≡ Refused (record { reason = NotJson 1; names = [] })
+      → GivesLine more left left' old now → now.reading.taken ≤ limit → EndsAt left' now → fault ≡ Refused (record { reason = NotJson 1; names = [] })
       → Stops (IsAgainst has Clear) left left' n m fresh now fault
   empty_stops more left left' n m old now fault first none given within ended is =
-      let p : IsLast left left' fresh now = last_of more left left' fresh now none (subst (λ (s : At). Gives more left left' s now) first given) in
+      let p : IsLast left left' fresh now = last_of more left left' fresh now none (subst (λ (s : At). GivesLine more left left' s now) first given) in
       let t = against_empty left left' now p within ended in
       subst (λ (f : InputFault Refusal). Stops (IsAgainst has Clear) left left' n m fresh now f) (sym is) t
 
@@ -98,10 +100,10 @@ module _ (has : List ℕ → Bool) where
   }
 
   pub line_stops : (more : Bool) (left left' : Option (List ℕ)) (n m : ℕ) (old now : At) (fault : Fault Reason) (line : ℕ) (text : List ℕ) → old ≡ fresh
-      → more ≡ true → Gives more left left' old now → now.reading.taken ≤ limit → EndsAt left' now → line ≡ now.number → text ≡ now.text
+      → more ≡ true → GivesLine more left left' old now → now.reading.taken ≤ limit → EndsAt left' now → line ≡ now.number → text ≡ now.text
       → Fails fault (cleared_line line text) → Stops (IsAgainst has Clear) left left' n m fresh now (named_fault [] (of_offer fault))
   line_stops more left left' n m old now fault line text first some given within ended number same fails =
-      let p : IsLine left left' fresh now = line_of more left left' fresh now some (subst (λ (s : At). Gives more left left' s now) first given) in
+      let p : IsLine left left' fresh now = line_of more left left' fresh now some (subst (λ (s : At). GivesLine more left left' s now) first given) in
       let f : Fails fault (cleared_line now.number text) = subst (λ (k : ℕ). Fails fault (cleared_line k text)) number fails in
       against_line left left' now fault n m p within ended (subst (λ (t : List ℕ). Fails fault (cleared_line now.number t)) same f)
 
@@ -132,7 +134,7 @@ module _ (has : List ℕ → Bool) where
 
   pub says_clear : (may : MayGive) (left left' : Option (List ℕ)) (n m : ℕ) (taken taken' : Option (List ℕ)) (p q : ℕ) (now : At) (text : List ℕ)
       (status : Status) (e : Ends (λ bytes. IsCleared bytes text) left left' fresh now) → Writes taken taken' p q (plain_text text) status
-      → Says has may Clear left left' n m taken taken' p q status
+      → Says (strategies has may) Clear (streams left n taken p) (streams left' m taken' q) status
   says_clear may left left' n m taken taken' p q now text status e w =
       says_written has may no_chance Clear left left' n m taken taken' p q (plain_text text)
       (record {
@@ -146,7 +148,7 @@ module _ (has : List ℕ → Bool) where
       status w
 
 -- a further line
-pub further_stops : (more : Bool) (a b : Option (List ℕ)) (n m : ℕ) (s t : At) (fault : InputFault Refusal) → more ≡ true → Gives more a b s t
+pub further_stops : (more : Bool) (a b : Option (List ℕ)) (n m : ℕ) (s t : At) (fault : InputFault Refusal) → more ≡ true → GivesLine more a b s t
     → t.reading.taken ≤ limit → EndsAt b t → fault ≡ Refused (record { reason = BadLine t.number; names = [] }) → Stops (IsFurther s) a b n m s t fault
 further_stops more a b n m s t fault some given within ended is =
     let p : IsLine a b s t = line_of more a b s t some given in

@@ -8,7 +8,7 @@ use Rattle.refusals.specs.declared.refusal.Refusal.{Refusal}
 use Rattle.command_input.specs.Written.{Writes, Written}
 use Rattle.command_input.specs.Lines.{lines_of, filled_lines}
 use Rattle.swap_run.specs.Asked.{Answers}
-use Rattle.swap_world.specs.Gone.{Gives, HasAsked}
+use Rattle.swap_world.specs.Gone.{MayGive, HasAsked}
 use Rattle.swap_world.specs.Value.{WorldState, answers_of, new_world}
 use Rattle.swap_many.specs.Chains.{Setup}
 use Rattle.swap_many.specs.Kept.{Kept, kept_step}
@@ -20,21 +20,23 @@ use Rattle.many_lines.specs.Heading.{HeadingState, finish_told}
 use Rattle.many_lines.specs.Places.{job_at}
 use Rattle.many_lines.specs.Whole.{AreSwaps}
 use Rattle.many_lines.specs.declared.many_job.ManyJob.{ManyJob}
-use Rattle.command_input.specs.Input.{At, CanCome, Ends, Stops, Tells, ahead, fresh}
-use Rattle.swap_commands.specs.Many.{Headed, ended_by, events_told, headed, many_of_lines, many_output, many_state, many_written, opened}
+use Rattle.command_input.specs.Input.{At, CanBeLeft, Ends, Stops, Tells, ahead, fresh}
+use Rattle.swap_commands.specs.Many.{Headed, ended_by, events_told, headed, many_of_lines, many_output, many_state, many_written, opened_places}
 use Rattle.swap_commands.specs.ManyRead.{AreRun, IsHeading, IsManyPlayed, new_worlds, opened_after}
 use Rattle.swap_commands.specs.Output.{AreGiven, by_many, by_reason, names_of, names_told, output_by}
 use Rattle.swap_commands.specs.Promised.{IsManyRun}
 use Rattle.swap_commands.specs.Says.{IsAgainst, Says}
 use Rattle.command_input.specs.declared.fault.InputFault.{InputFault}
 use Rattle.command_input.specs.declared.status.Status.{Status}
-use Rattle.swap_commands.specs.declared.words.Command.TheVariants.{Many}
+use Rattle.command_input.specs.Streams.{streams}
+use Rattle.swap_commands.specs.Words.{Many}
 use Rattle.swap_commands.proofs.ManyPromises.{are_ended, are_promised}
 use Rattle.swap_commands.proofs.ManyTold.{fails_with, stops_as, stops_later}
 use Rattle.swap_commands.proofs.ManyWorlds.{all_can, kept_before, new_are_of, new_at}
 use Rattle.swap_commands.proofs.Reading.{is_within, not_over_yet}
 use Rattle.swap_commands.proofs.Replays.{are_given}
 use Rattle.swap_commands.proofs.Saying.{says_written}
+use Rattle.swap_commands.specs.Strategies.{strategies}
 
 module _ (has : List ℕ → Bool) where
   -- What is written of an input, by its lines.
@@ -45,7 +47,7 @@ module _ (has : List ℕ → Bool) where
   -- what is made of the lines, once they were read so far
   abbrev rest_of : (g : ℕ → Answers) → Headed → Result Written Refusal
   rest_of g h =
-      events_told h.many 0 h.lines >>= λ events. opened h.many >>= λ places. Ok (many_written h.many (many_state g h.many places h.finish events))
+      events_told h.many 0 h.lines >>= λ events. opened_places h.many >>= λ places. Ok (many_written h.many (many_state g h.many places h.finish events))
 
   by_heading : (g : ℕ → Answers) (bytes : List ℕ) (r : Result Headed Refusal) → headed has (ahead fresh bytes) ≡ r → many_output has g bytes ≡ r >>= rest_of g
   unfolding many_output many_of_lines
@@ -59,10 +61,10 @@ module _ (has : List ℕ → Bool) where
           → (x >>= λ places. let w : Result Written Refusal = Ok (many_written h.many (many_state g h.many places h.finish events)) in w) ≡ Err r
       last events x is = fails_with x (λ places. Ok (many_written h.many (many_state g h.many places h.finish events))) r is
 
-      go : (x : Result (List ManyEvent) Refusal) → (x >>= λ events. opened h.many) ≡ Err r
-          → (x >>= λ events. opened h.many >>= λ places.
+      go : (x : Result (List ManyEvent) Refusal) → (x >>= λ events. opened_places h.many) ≡ Err r
+          → (x >>= λ events. opened_places h.many >>= λ places.
           let w : Result Written Refusal = Ok (many_written h.many (many_state g h.many places h.finish events)) in w) ≡ Err r
-      go (Ok events) is = last events (opened h.many) is
+      go (Ok events) is = last events (opened_places h.many) is
       go (Err other) is = let same : other ≡ r = cc is in ap (λ (x : Refusal). let w : Result Written Refusal = Err x in w) same
 
   -- a reason doesn't depend on what strategies answer
@@ -81,9 +83,9 @@ module _ (has : List ℕ → Bool) where
       placed h events (Err r) e = e
 
       told : (h : Headed) (x : Result (List ManyEvent) Refusal)
-          → by_reason (x >>= λ events. opened h.many >>= λ places. written none h events places) ≡ Err reason
-          → by_reason (x >>= λ events. opened h.many >>= λ places. written g h events places) ≡ Err reason
-      told h (Ok events) e = placed h events (opened h.many) e
+          → by_reason (x >>= λ events. opened_places h.many >>= λ places. written none h events places) ≡ Err reason
+          → by_reason (x >>= λ events. opened_places h.many >>= λ places. written g h events places) ≡ Err reason
+      told h (Ok events) e = placed h events (opened_places h.many) e
       told h (Err r) e = e
 
       go : (x : Result Headed Refusal) → by_reason (x >>= rest_of none) ≡ Err reason → by_reason (x >>= rest_of g) ≡ Err reason
@@ -91,11 +93,11 @@ module _ (has : List ℕ → Bool) where
       go (Err r) e = e
 
   pub gives_many : (g : ℕ → Answers) (bytes : List ℕ) (h : Headed) (events : List ManyEvent) (places : List (List Place))
-      → headed has (filled_lines 1 (lines_of bytes)) ≡ Ok h → events_told h.many 0 h.lines ≡ Ok events → opened h.many ≡ Ok places
+      → headed has (filled_lines 1 (lines_of bytes)) ≡ Ok h → events_told h.many 0 h.lines ≡ Ok events → opened_places h.many ≡ Ok places
       → many_output has g bytes ≡ Ok (many_written h.many (many_state g h.many places h.finish events))
   gives_many g bytes h events places e f k =
       by_heading g bytes (Ok h) e
-      ∙ (ap (λ (x : Result (List ManyEvent) Refusal). x >>= λ events. opened h.many >>= λ places.
+      ∙ (ap (λ (x : Result (List ManyEvent) Refusal). x >>= λ events. opened_places h.many >>= λ places.
       let w : Result Written Refusal = Ok (many_written h.many (many_state g h.many places h.finish events)) in w) f
       ∙ ap (λ (x : Result (List (List Place)) Refusal). x >>= λ places.
       let w : Result Written Refusal = Ok (many_written h.many (many_state g h.many places h.finish events)) in w) k)
@@ -117,7 +119,7 @@ module _ (has : List ℕ → Bool) where
   -- after the lines before the events
   module _ (left left' left'' : Option (List ℕ)) (mid now : At) (h : HeadingState) (p : IsHeading has h left left' mid) where
     -- what the bytes of both say
-    heading_first : (bytes rest : List ℕ) → CanCome mid (bytes ++ rest)
+    heading_first : (bytes rest : List ℕ) → CanBeLeft mid (bytes ++ rest)
         → headed has (ahead fresh ((p.bytes ++ bytes) ++ rest)) ≡ Ok (record { many = h.many; finish = p.finish; lines = ahead mid (bytes ++ rest) })
     heading_first bytes rest can =
         ap (λ (xs : List ℕ). headed has (ahead fresh xs)) (append_assoc p.bytes bytes rest) ∙ p.first (bytes ++ rest) can
@@ -148,7 +150,7 @@ module _ (has : List ℕ → Bool) where
     finish_is : (finish : Finish) → finish_told h.stage ≡ Some finish → finish ≡ p.finish
     finish_is finish e = let same : ◌≡◌ {A = Option Finish} (Some finish) (Some p.finish) = sym e ∙ ap finish_told p.stage in cc same
 
-    played : (gives : Gives) (w : ManyState) (finish : Finish) → finish ≡ p.finish → AreRun gives h.many w left' left'' mid now
+    played : (gives : MayGive) (w : ManyState) (finish : Finish) → finish ≡ p.finish → AreRun gives h.many w left' left'' mid now
         → Ends (λ bytes. IsManyPlayed has gives bytes h.many finish w) left left'' fresh now
     played gives w finish is k =
         let e = k.replayed.told in
@@ -171,7 +173,7 @@ module _ (has : List ℕ → Bool) where
           ended = e.ended;
         }
 
-    pub is_played : (gives : Gives) (many : ManyJob) (w : ManyState) (finish : Finish) → many ≡ h.many → finish_told h.stage ≡ Some finish
+    pub is_played : (gives : MayGive) (many : ManyJob) (w : ManyState) (finish : Finish) → many ≡ h.many → finish_told h.stage ≡ Some finish
         → AreRun gives many w left' left'' mid now → Ends (λ bytes. IsManyPlayed has gives bytes many finish w) left left'' fresh now
     is_played gives many w finish same told k =
         subst (λ (j : ManyJob). Ends (λ bytes. IsManyPlayed has gives bytes j finish w) left left'' fresh now) (sym same)
@@ -179,7 +181,7 @@ module _ (has : List ℕ → Bool) where
 
   -- What the command says whose input was read whole.
 
-  module _ (gives : Gives) (bytes : List ℕ) (many : ManyJob) (finish : Finish) (w last : ManyState) (k : IsManyPlayed has gives bytes many finish w)
+  module _ (gives : MayGive) (bytes : List ℕ) (many : ManyJob) (finish : Finish) (w last : ManyState) (k : IsManyPlayed has gives bytes many finish w)
       (gone : HasManyGone gives (ended_by finish) w last) where
     -- the answers are those that were given
     abbrev g : ℕ → Answers
@@ -231,10 +233,10 @@ module _ (has : List ℕ → Bool) where
         (gives_many g bytes (record { many = many; finish = finish; lines = k.lines }) k.events k.begun.places k.is_headed k.are_told k.begun.are_placed
         ∙ ap (λ (z : Kept). let r : Result Written Refusal = Ok (many_written many z) in r) (sym state_is))
 
-  pub says_many : (gives : Gives) (left left' : Option (List ℕ)) (n m : ℕ) (taken taken' : Option (List ℕ)) (p q : ℕ) (now : At) (many : ManyJob)
+  pub says_many : (gives : MayGive) (left left' : Option (List ℕ)) (n m : ℕ) (taken taken' : Option (List ℕ)) (p q : ℕ) (now : At) (many : ManyJob)
       (finish : Finish) (w last : ManyState) (status : Status) (e : Ends (λ bytes. IsManyPlayed has gives bytes many finish w) left left' fresh now)
       → AreSwaps many → HasManyGone gives (ended_by finish) w last → Writes taken taken' p q (many_written many (kept_of last)) status
-      → Says has gives Many left left' n m taken taken' p q status
+      → Says (strategies has gives) Many (streams left n taken p) (streams left' m taken' q) status
   says_many gives left left' n m taken taken' p q now many finish w last status e swaps gone wrote =
       says_written has gives (by_many (λ s. answers_of (world_at last s))) Many left left' n m taken taken' p q (many_written many (kept_of last))
       (record {

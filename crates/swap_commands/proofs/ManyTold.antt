@@ -13,7 +13,7 @@ use Rattle.swap_job.specs.declared.job.Finish.{Finish}
 use Rattle.refusals.specs.declared.reason.Reason.TheVariants.{CutShort}
 use Rattle.refusals.specs.declared.refusal.Refusal.{Refusal}
 use Rattle.refusals.specs.Refusal.{refusal}
-use Rattle.swap_world.specs.Gone.{Gives}
+use Rattle.swap_world.specs.Gone.{MayGive}
 use Rattle.swap_many.specs.Kept.{kept_step}
 use Rattle.swap_many.specs.Value.{ManyState, kept_of, setup_for}
 use Rattle.swap_many.specs.declared.many_event.ManyEvent.{ManyEvent}
@@ -27,7 +27,7 @@ use Rattle.many_lines.specs.declared.stage.Stage.TheVariants.{First, Words, Head
 use Rattle.command_input.specs.declared.fault.InputFault.{InputFault}
 use Rattle.command_input.specs.declared.fault.InputFault.TheVariants.{Refused, ReadFault, TooLong, NoMemory}
 use Rattle.command_input.specs.Input.{At, Ends, EndsAt, IsLast, IsLine, Stops, Tells, ahead, fresh, limit}
-use Rattle.swap_commands.specs.Many.{Headed, events_told, headed, headed_on, left_with, opened}
+use Rattle.swap_commands.specs.Many.{Headed, events_told, headed, headed_on, left_with, opened_places}
 use Rattle.swap_commands.specs.ManyRead.{HasReplayed, HasStepped, IsHeading, IsReplayed, TellEvents, opened_after}
 use Rattle.command_input.specs.Faults.{of_offer}
 use Rattle.command_input.proofs.Ahead.{part_on, too_long_on}
@@ -171,7 +171,7 @@ unfolding gather
 gather_tells many n done line text event e = ap (λ (r : Result ManyEvent Refusal). r >>= λ e. Ok (done ++ e ∷ [])) e
 
 -- The worlds have come to where the events so far lead.
-pub record AreOn (gives : Gives) (many : ManyJob) (old now : ManyState) (left left' : Option (List ℕ)) (first here : At) (count : ℕ) : Type 0 where
+pub record AreOn (gives : MayGive) (many : ManyJob) (old now : ManyState) (left left' : Option (List ℕ)) (first here : At) (count : ℕ) : Type 0 where
   pub events : List ManyEvent
   pub led : Led (gathered many) left first [] left' here count events
   pub gone : HasReplayed gives events old now
@@ -182,7 +182,7 @@ pub record AreTelling (many : ManyJob) (left left' : Option (List ℕ)) (first h
   pub events : List ManyEvent
   pub led : Led (gathered many) left first [] left' here count events
 
-pub none_yet : (gives : Gives) (many : ManyJob) (w : ManyState) (left : Option (List ℕ)) (first : At) → AreOn gives many w w left left first first 0
+pub none_yet : (gives : MayGive) (many : ManyJob) (w : ManyState) (left : Option (List ℕ)) (first : At) → AreOn gives many w w left left first first 0
 none_yet gives many w left first = record {
   events = [];
   led = led_none (gathered many) left first [];
@@ -194,14 +194,14 @@ pub telling_none : (many : ManyJob) (left : Option (List ℕ)) (first : At) → 
 telling_none many left first = record { events = []; led = led_none (gathered many) left first [] }
 
 -- one more
-replayed_more : (gives : Gives) (events : List ManyEvent) (event : ManyEvent) (old mid new : ManyState) → HasReplayed gives events old mid
+replayed_more : (gives : MayGive) (events : List ManyEvent) (event : ManyEvent) (old mid new : ManyState) → HasReplayed gives events old mid
     → HasReplayed gives (event ∷ []) mid new → HasReplayed gives (events ++ event ∷ []) old new
 replayed_more gives events event old mid new a b =
     gone_as gives (λ m z. fold (kept_step m) (fold (kept_step m) z events) (event ∷ [])) (λ m z. fold (kept_step m) z (events ++ event ∷ [])) old new
     (λ g. sym (fold-append (kept_step (setup_for old g)) (kept_of old) events (event ∷ [])))
     (gone_then gives (λ m z. fold (kept_step m) z events) (λ m z. fold (kept_step m) z (event ∷ [])) old mid new a b)
 
-pub one_more : (gives : Gives) (many : ManyJob) (old mid new : ManyState) (left a b : Option (List ℕ)) (first s t : At) (count line : ℕ) (text : List ℕ)
+pub one_more : (gives : MayGive) (many : ManyJob) (old mid new : ManyState) (left a b : Option (List ℕ)) (first s t : At) (count line : ℕ) (text : List ℕ)
     → AreOn gives many old mid left a first s count → IsLine a b s t → line ≡ t.number → text ≡ t.text
     → HasStepped gives many count line text mid new → AreOn gives many old new left b first t (count + 1)
 one_more gives many old mid new left a b first s t count line text on p number same k =
@@ -254,7 +254,7 @@ ends_told many left a b first s t count events led q within ended =
       ended = e.ended;
     }
 
-pub are_replayed : (gives : Gives) (many : ManyJob) (old new : ManyState) (left a b : Option (List ℕ)) (first s t : At) (count : ℕ)
+pub are_replayed : (gives : MayGive) (many : ManyJob) (old new : ManyState) (left a b : Option (List ℕ)) (first s t : At) (count : ℕ)
     → AreOn gives many old new left a first s count → IsLast a b s t → t.reading.taken ≤ limit → EndsAt b t
     → IsReplayed gives many old new left b first t
 are_replayed gives many old new left a b first s t count on q within ended = record {
@@ -282,13 +282,13 @@ all_told many left a b first s t count on q within ended =
 -- What is said of accounts, after what is said of every line.
 
 pub after_events : (many : ManyJob) (ls : List (ℕ × List ℕ)) (r : Refusal) → events_told many 0 ls ≡ Err r → opened_after many ls ≡ Err r
-after_events many ls r e = fails_with (events_told many 0 ls) (λ events. opened many) r e
+after_events many ls r e = fails_with (events_told many 0 ls) (λ events. opened_places many) r e
 
-after_told : (many : ManyJob) (ls : List (ℕ × List ℕ)) (events : List ManyEvent) (r : Refusal) → events_told many 0 ls ≡ Ok events → opened many ≡ Err r
+after_told : (many : ManyJob) (ls : List (ℕ × List ℕ)) (events : List ManyEvent) (r : Refusal) → events_told many 0 ls ≡ Ok events → opened_places many ≡ Err r
     → opened_after many ls ≡ Err r
-after_told many ls events r e f = ap (λ (x : Result (List ManyEvent) Refusal). x >>= λ es. opened many) e ∙ f
+after_told many ls events r e f = ap (λ (x : Result (List ManyEvent) Refusal). x >>= λ es. opened_places many) e ∙ f
 
-pub refused_after : (many : ManyJob) (a b : Option (List ℕ)) (s t : At) (r : Refusal) → opened many ≡ Err r → Tells (TellEvents many s) a b s t
+pub refused_after : (many : ManyJob) (a b : Option (List ℕ)) (s t : At) (r : Refusal) → opened_places many ≡ Err r → Tells (TellEvents many s) a b s t
     → Tells (λ bytes. opened_after many (ahead s bytes) ≡ Err r) a b s t
 refused_after many a b s t r refused k = record {
   bytes = k.bytes;

@@ -9,7 +9,6 @@ use Rattle.swap_base.specs.declared.fault.Fault.{Fault}
 use Rattle.swap_base.specs.declared.fault.Fault.TheVariants as offer
 use Rattle.swap_base.specs.Lists.{IsIn}
 use Rattle.swap_base.proofs.Lists.{first_at, from_range, in_from_moment}
-use Rattle.offer_fields.proofs.Chains.{went}
 use Rattle.refusals.specs.declared.refusal.Refusal.{Refusal}
 use Rattle.swap_job.specs.declared.job.Job.{Job}
 use Rattle.swap_job.specs.declared.job.Purpose.TheVariants.{Run}
@@ -19,8 +18,8 @@ use Rattle.swap_run.specs.Asked.{Answers, with_answers}
 use Rattle.swap_run.specs.Run.{Cast}
 use Rattle.swap_run.specs.Laws.{IsReadyCast}
 use Rattle.swap_world.specs.Cast.{cast_of}
-use Rattle.swap_world.specs.Gone.{Gives}
-use Rattle.swap_world.specs.Actors.{AreHeld, actors_of, world_of}
+use Rattle.swap_world.specs.Gone.{MayGive}
+use Rattle.swap_world.specs.Actors.{AreHeld}
 use Rattle.swap_world.specs.Value.{WorldState, cast_at, new_world}
 use Rattle.swap_world.proofs.Team.{is_ready}
 use Rattle.swap_many.specs.declared.many_event.ManyEvent.{ManyEvent}
@@ -30,8 +29,7 @@ use Rattle.swap_many.specs.Chains.{Setup, opening, set_aside}
 use Rattle.swap_many.specs.Kept.{kept_start}
 use Rattle.swap_many.specs.Laws.{CanCome, IsReady}
 use Rattle.swap_many.specs.Opened.{lack_of, lack_on, overdrawn}
-use Rattle.swap_many.specs.Opening.{AreOpenable}
-use Rattle.swap_many.specs.Opening as opening_of
+use Rattle.swap_many.specs.Opening.{AreOpenable, opened, setup_of_worlds}
 use Rattle.swap_many.specs.Ticking.{nth}
 use Rattle.swap_many.specs.Value.{AreAllHeld, AreSame, ManyState, kept_of, setup_of, world_at}
 use Rattle.swap_many.proofs.Accounts.{any_default}
@@ -45,11 +43,11 @@ use Rattle.many_lines.specs.Setup.{MayCome, setup_by}
 use Rattle.many_lines.specs.Whole.{AreChains, ArePlaced, AreSwaps, HoldsEverySwap, IsSwap}
 use Rattle.many_lines.specs.declared.many_job.ManyJob.{ManyJob}
 use Rattle.many_text.specs.Shown.{AreChainsShown, AreShown}
-use Rattle.swap_commands.specs.Many.{opened, unless_lacking}
+use Rattle.swap_commands.specs.Many.{opened_places, unless_lacking}
 use Rattle.swap_commands.specs.ManyRead.{AreWorldsOf, IsLack, IsOpened, new_worlds}
 use Rattle.swap_commands.proofs.Acting.{have_roles}
 use Rattle.swap_commands.proofs.Raced.{have_seeds}
-use Rattle.swap_commands.proofs.Replays.{held, is_new}
+use Rattle.swap_commands.proofs.Replays.{held, wallets_fit}
 
 -- Whose worlds they are.
 
@@ -67,7 +65,7 @@ new_are_of many places g = λ j. record {
   chains = many.units;
 }
 
-pub still_of : (gives : Gives) (many : ManyJob) (old new : ManyState) → AreSame gives old new → AreWorldsOf many old → AreWorldsOf many new
+pub still_of : (gives : MayGive) (many : ManyJob) (old new : ManyState) → AreSame gives old new → AreWorldsOf many old → AreWorldsOf many new
 still_of gives many old new k of g =
     same_setup gives old new g k ∙ (of g ∙ sym (ap (λ (ps : List (List Place)). setup_by g many ps) k.places))
 
@@ -88,10 +86,8 @@ all_held has many places holds s l =
 -- All is ready.
 
 pub cast_is_ready : (n : ℕ) (job : Job) (chains : List ℕ) → IsSwap n job chains → IsReadyCast (cast_of job)
-unfolding world_of
 cast_is_ready n job chains swap =
-    let r = went (actors_of job) (λ xs. Ok (new_world job)) (new_world job) (is_new job swap.wallets) in
-    is_ready job r.0 swap.accepted (have_seeds job swap.whole swap.wallets) (have_roles job swap.whole swap.scripts) r.1
+    is_ready job swap.accepted (have_seeds job swap.whole swap.wallets) (have_roles job swap.whole swap.scripts) (wallets_fit job swap.wallets)
 
 -- whatever strategies answer
 ready_with : (c : Cast) (g : Answers) → IsReadyCast c → IsReadyCast (with_answers c g)
@@ -121,27 +117,27 @@ kept_before many places g open_by =
 
 -- what is set aside doesn't hang on what strategies answer
 lacks_as : (many : ManyJob) (places : List (List Place))
-    → overdrawn (opening_of.setup_by (map new_world many.jobs) places many.units) ≡ overdrawn (setup_by (λ s k. None) many places)
+    → overdrawn (setup_of_worlds (map new_world many.jobs) places many.units) ≡ overdrawn (setup_by (λ s k. None) many places)
 lacks_as many places = ap overdrawn (new_are_of many places (λ s k. None))
 
 opened_by : (many : ManyJob) (places : List (List Place)) (lack : Option Overdrawn) → places_of many ≡ Ok places
-    → overdrawn (setup_by (λ s k. None) many places) ≡ lack → opened many ≡ unless_lacking many lack places
-unfolding opened
+    → overdrawn (setup_by (λ s k. None) many places) ≡ lack → opened_places many ≡ unless_lacking many lack places
+unfolding opened_places
 opened_by many places lack e none =
     ap (λ (r : Result (List (List Place)) Refusal). r >>= λ ps. unless_lacking many (overdrawn (setup_by (λ s k. None) many ps)) ps) e
     ∙ ap (λ (o : Option Overdrawn). unless_lacking many o places) none
 
 -- no account has a place there
-pub places_fail : (many : ManyJob) (refusal : Refusal) → places_of many ≡ Err refusal → opened many ≡ Err refusal
-unfolding opened
+pub places_fail : (many : ManyJob) (refusal : Refusal) → places_of many ≡ Err refusal → opened_places many ≡ Err refusal
+unfolding opened_places
 places_fail many refusal e =
     ap (λ (r : Result (List (List Place)) Refusal). r >>= λ ps. unless_lacking many (overdrawn (setup_by (λ s k. None) many ps)) ps) e
 
 pub are_opened : (many : ManyJob) (places : List (List Place)) (w : ManyState) → AreSwaps many → ArePlaced many places → places_of many ≡ Ok places
     → AreOpenable many.units (map new_world many.jobs) places
-    → opening_of.opened many.units (map new_world many.jobs) places ≡ Ok w → IsOpened many w
+    → opened many.units (map new_world many.jobs) places ≡ Ok w → IsOpened many w
 are_opened many places w swaps placed e open_by made =
-    let k = was_opened (overdrawn (opening_of.setup_by (map new_world many.jobs) places many.units)) (new_worlds many places) w made in
+    let k = was_opened (overdrawn (setup_of_worlds (map new_world many.jobs) places many.units)) (new_worlds many places) w made in
     let none : overdrawn (setup_by (λ s k. None) many places) ≡ None = sym (lacks_as many places) ∙ k.0 in
     record {
       places = places;
@@ -153,10 +149,10 @@ are_opened many places w swaps placed e open_by made =
 
 -- an account lacks units
 pub is_lacking : (many : ManyJob) (places : List (List Place)) (lack : Overdrawn) → places_of many ≡ Ok places
-    → opening_of.opened many.units (map new_world many.jobs) places ≡ Err lack → opened many ≡ unless_lacking many (Some lack) places
+    → opened many.units (map new_world many.jobs) places ≡ Err lack → opened_places many ≡ unless_lacking many (Some lack) places
 is_lacking many places lack e made =
     opened_by many places (Some lack) e (sym (lacks_as many places)
-    ∙ was_refused (overdrawn (opening_of.setup_by (map new_world many.jobs) places many.units)) (new_worlds many places) lack made)
+    ∙ was_refused (overdrawn (setup_of_worlds (map new_world many.jobs) places many.units)) (new_worlds many places) lack made)
 
 -- it is one of the chain's accounts
 pub record IsAccount (chains : List (List ℕ)) (l : Overdrawn) : Type 0 where
@@ -192,10 +188,10 @@ lack_is_known m l e =
     in_list xs past x m = subst (λ (ys : List ℕ). IsIn x ys) (sym m.1) (in_from_moment past x m.0)
 
 pub known_lack : (many : ManyJob) (places : List (List Place)) (lack : Overdrawn)
-    → opening_of.opened many.units (map new_world many.jobs) places ≡ Err lack → IsAccount many.units lack
+    → opened many.units (map new_world many.jobs) places ≡ Err lack → IsAccount many.units lack
 known_lack many places lack made =
-    lack_is_known (opening_of.setup_by (map new_world many.jobs) places many.units) lack
-    (was_refused (overdrawn (opening_of.setup_by (map new_world many.jobs) places many.units)) (new_worlds many places) lack made)
+    lack_is_known (setup_of_worlds (map new_world many.jobs) places many.units) lack
+    (was_refused (overdrawn (setup_of_worlds (map new_world many.jobs) places many.units)) (new_worlds many places) lack made)
 
 -- The wallets of each swap, one after another.
 
@@ -235,7 +231,7 @@ opened_are_held has many w k holds = subst (λ (v : ManyState). AreAllHeld has v
 
 -- What is shown of worlds that came from them.
 
-module _ (gives : Gives) (many : ManyJob) (places : List (List Place)) (swaps : AreSwaps many) (chains : AreChains many) (w : ManyState)
+module _ (gives : MayGive) (many : ManyJob) (places : List (List Place)) (swaps : AreSwaps many) (chains : AreChains many) (w : ManyState)
     (k : AreSame gives (new_worlds many places) w) where
   pub worlds_shown : AreShown w many.jobs
   worlds_shown = record {
@@ -306,12 +302,12 @@ others_left jobs old new w rest more e = e ∙ ap (λ n. map (wallets_for Run) (
 
 -- Refusals of places and of accounts.
 
-pub fails_placed : (many : ManyJob) (fault : Fault Refusal) → Fails fault (places_of many) → Fails fault (opened many)
+pub fails_placed : (many : ManyJob) (fault : Fault Refusal) → Fails fault (places_of many) → Fails fault (opened_places many)
 fails_placed many offer.NoMemory e = tt
 fails_placed many (offer.Refused r) e = places_fail many r e
 
 pub lack_fails : (many : ManyJob) (places : List (List Place)) (lack : Overdrawn) (fault : Fault Refusal) → IsLack many (offer.Refused lack) fault
-    → opened many ≡ unless_lacking many (Some lack) places → Fails fault (opened many)
+    → opened_places many ≡ unless_lacking many (Some lack) places → Fails fault (opened_places many)
 lack_fails many places lack offer.NoMemory k e = tt
 lack_fails many places lack (offer.Refused r) k e = e ∙ ap (λ (x : Refusal). let y : Result (List (List Place)) Refusal = Err x in y) (sym k)
 

@@ -1,5 +1,5 @@
 -- What a run, a race and a check promise of what they wrote.
-use Rattle.std.proofs.Common.{◌≡◌, ℕ, Bool, false, List, [], ◌∷◌, fold, Result, Ok, Err, refl, sym, ap, ap₂, ◌∙◌, subst, arith}
+use Rattle.std.proofs.Common.{◌≡◌, ℕ, Bool, List, [], ◌∷◌, fold, Result, Ok, Err, refl, sym, ap, ◌∙◌, subst, arith}
 use Rattle.swap_base.specs.Fault.{◌>>=◌, steps}
 use Rattle.ledger_core.specs.declared.entry.Entry.{Entry}
 use Rattle.ledger_core.specs.History.{IsLegal}
@@ -18,18 +18,18 @@ use Rattle.swap_run.specs.Run.{State, start, step}
 use Rattle.swap_run.specs.Laws.{IsKept}
 use Rattle.swap_run.specs.Asked.{Answers}
 use Rattle.swap_world.specs.Cast.{cast_of}
-use Rattle.swap_world.specs.Gone.{Gives}
+use Rattle.swap_world.specs.Gone.{MayGive}
 use Rattle.outcome_rules.specs.Report.{conforms_in, outcomes_of, report_of}
 use Rattle.outcome_rules.specs.Promises.{AllAreConforming}
 use Rattle.outcome_rules.proofs.Promises as laws
 use Rattle.refusals.specs.declared.reason.Reason.{Reason}
-use Rattle.swap_offer.specs.Job.{counted, events_for, events_of, job_header_of, of_lines as lines_read}
+use Rattle.swap_offer.specs.Job.{counted, events_for, events_of, job_header_of, job_of_lines}
 use Rattle.swap_gen.specs.Made.{made}
 use Rattle.made_jobs.specs.Making.{copied, line_step, with_line, written_line, IsMade}
 use Rattle.made_jobs.proofs.Copying.{lines_put}
 use Rattle.offer_fields.proofs.Chains.{went}
 use Rattle.command_input.specs.Written.{Written}
-use Rattle.swap_commands.specs.Output.{AreGiven, cast_by, state_of, book_of, check_text, finished, report_for, reported, told}
+use Rattle.swap_commands.specs.Output.{AreGiven, cast_by, state_of, book_of, finished, report_for, reported, told}
 use Rattle.swap_commands.specs.Promised.{IsPromised, IsRace, IsRun, IsCheck, IsMaking}
 use Rattle.party_threads.specs.Race.{IsRaceBook}
 use Rattle.swap_commands.specs.Replay.{passed_over, replayed}
@@ -80,7 +80,7 @@ module _ (has : List ℕ → Bool) where
   -- A run.
 
   -- what was read, the book that is shown, and what the world promised of it
-  run_of : (gives : Gives) (a : Answers) (transcript : Bool) (job : Job) (events : List Event) (read : Result (Job × List Event) Reason) (b : Histories)
+  run_of : (gives : MayGive) (a : Answers) (transcript : Bool) (job : Job) (events : List Event) (read : Result (Job × List Event) Reason) (b : Histories)
       (output : Written) → read ≡ Ok (job, events) → AreGiven gives job.deal a (state_of a job events).asked → b ≡ book_of a job events
       → output ≡ reported transcript job b → IsAccepted job.deal → IsKept (cast_of job) b
       → (job.finish ≡ Fair → IsEnded job.deal b) → (job.finish ≡ Fair → events ≡ [] → AllAreConforming job.deal job.conforming
@@ -97,17 +97,17 @@ module _ (has : List ℕ → Bool) where
     fair = λ fair none all. subst (λ (b : Histories). findings job.deal (conforms_in job.conforming) b ≡ []) same (dealt fair none all).nothing;
   }
 
-  pub is_run : (gives : Gives) (a : Answers) (transcript : Bool) (line : ℕ) (text : List ℕ) (ls : List (ℕ × List ℕ)) (job : Job) (s : State)
+  pub is_run : (gives : MayGive) (a : Answers) (transcript : Bool) (line : ℕ) (text : List ℕ) (ls : List (ℕ × List ℕ)) (job : Job) (s : State)
       (b : Histories) (output : Written)
       → job_header_of has purposes.Run line text ≡ Ok job → replayed (step (cast_by a job)) job 0 (start (cast_of job)) ls ≡ Ok s
       → AreGiven gives job.deal a (finished job.finish (cast_by a job) s).asked → b ≡ (finished job.finish (cast_by a job) s).book
       → output ≡ reported transcript job b → IsAccepted job.deal → IsKept (cast_of job) b
       → (job.finish ≡ Fair → IsEnded job.deal b)
       → (job.finish ≡ Fair → s ≡ start (cast_of job) → AllAreConforming job.deal job.conforming → IsDealt job.deal (conforms_in job.conforming) b)
-      → IsRun gives a transcript (lines_read has purposes.Run ((line, text) ∷ ls)) output
+      → IsRun gives a transcript (job_of_lines has purposes.Run ((line, text) ∷ ls)) output
   is_run gives a transcript line text ls job s b output h r given same shown k kept ended dealt =
       let p = replayed_by (step (cast_by a job)) job (start (cast_of job)) s ls r in
-      run_of gives a transcript job p.events (lines_read has purposes.Run ((line, text) ∷ ls)) b output
+      run_of gives a transcript job p.events (job_of_lines has purposes.Run ((line, text) ∷ ls)) b output
       (read_of (job_header_of has purposes.Run line text) (λ j. events_of j 0 ls) job p.events h p.read)
       (subst (λ (s : State). AreGiven gives job.deal a (finished job.finish (cast_by a job) s).asked) p.leads given)
       (same ∙ ap (λ (s : State). (finished job.finish (cast_by a job) s).book) p.leads) shown k kept ended
@@ -115,10 +115,10 @@ module _ (has : List ℕ → Bool) where
 
   -- A race.
 
-  pub is_race : (gives : Gives) (b : Histories) (ticks : ℕ) (transcript : Bool) (line : ℕ) (text : List ℕ) (ls : List (ℕ × List ℕ)) (job : Job)
+  pub is_race : (gives : MayGive) (b : Histories) (ticks : ℕ) (transcript : Bool) (line : ℕ) (text : List ℕ) (ls : List (ℕ × List ℕ)) (job : Job)
       (output : Written) → job_header_of has purposes.Race line text ≡ Ok job → replayed passed_over job 0 tt ls ≡ Ok tt
       → output ≡ reported transcript job b → job.purpose ≡ purposes.Race → IsAccepted job.deal → IsRaceBook gives (cast_of job) ticks b
-      → IsRace gives b ticks transcript (lines_read has purposes.Race ((line, text) ∷ ls)) output
+      → IsRace gives b ticks transcript (job_of_lines has purposes.Race ((line, text) ∷ ls)) output
   unfolding report_of
   is_race gives b ticks transcript line text ls job output h r shown purpose k raced =
       let p = replayed_by passed_over job tt tt ls r in
@@ -136,15 +136,9 @@ module _ (has : List ℕ → Bool) where
 
   -- A check.
 
-  abbrev with_text : List ℕ → Bool → Written
-  with_text t f = record { text = t; found = f }
-
-  pub is_told : (job : Job) (w : Written) → w.text ≡ check_text job.deal → w.found ≡ false → w ≡ told job
-  is_told job w t f = ap₂ with_text t f
-
   pub is_check : (line : ℕ) (text : List ℕ) (ls : List (ℕ × List ℕ)) (job : Job) (u : Unit {0}) (output : Written)
       → job_header_of has purposes.Check line text ≡ Ok job → replayed passed_over job 0 tt ls ≡ Ok u → output ≡ told job → IsAccepted job.deal
-      → IsCheck (lines_read has purposes.Check ((line, text) ∷ ls)) output
+      → IsCheck (job_of_lines has purposes.Check ((line, text) ∷ ls)) output
   is_check line text ls job u output h r shown k =
       let p = replayed_by passed_over job tt u ls r in
       record {
@@ -174,7 +168,7 @@ module _ (has : List ℕ → Bool) where
 
   pub is_making : (line : ℕ) (header : List ℕ) (ls : List (ℕ × List ℕ)) (job : Job) (text : List ℕ) (output : Written)
       → job_header_of has purposes.Make line header ≡ Ok job → copied 0 (written_line (made job)) ls ≡ Ok text → IsMade job
-      → IsMaking (lines_read has purposes.Make ((line, header) ∷ ls)) output
+      → IsMaking (job_of_lines has purposes.Make ((line, header) ∷ ls)) output
   is_making line header ls job text output h c k = record {
     job = job;
     is_read =

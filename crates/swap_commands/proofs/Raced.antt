@@ -1,7 +1,7 @@
 -- What is read of a race's job, and what a race's book says of its findings.
 use Rattle.std.proofs.Common.{◌≡◌, ◌<◌, ◌+◌, ℕ, Bool, true, false, not, nat_lt, if◌then◌else◌, List, [], ◌∷◌, ◌++◌, ◌==◌, codes, length}
-use Rattle.std.proofs.Common.{inl, inr, refl, sym, ap, ◌∙◌}
-use Rattle.std.proofs.Common.{Option, Some, None, Result, Ok, Err, is_some, slice_index_or}
+use Rattle.std.proofs.Common.{inl, inr, refl, sym, ap}
+use Rattle.std.proofs.Common.{Option, Some, None, Result, Ok, Err, is_some}
 use Rattle.std.specs.List.{cons_option, flat_map, range_with_len}
 use Rattle.std.specs.Prelude.{filter_map}
 use Rattle.swap_base.specs.Fault.{◌>>=◌}
@@ -26,15 +26,13 @@ use Rattle.swap_rules.specs.Late.{is_late, ref_of}
 use Rattle.swap_rules.specs.Forged.{is_forged}
 use Rattle.swap_rules.specs.Findings.{broken, failing, findings, findings_of, forgeries, late_on, lates, or_zero, rules_of, unfinished}
 use Rattle.swap_rules.specs.Laws.{IsOnTime}
-use Rattle.swap_world.specs.Actors.{HaveSeeds}
+use Rattle.swap_world.specs.Actors.{ConformingHaveSeeds}
 use Rattle.offer_fields.proofs.Chains.{went}
 use Rattle.offer_fields.specs.Fields.{object_of}
 use Rattle.offer_events.specs.Event.{asked, checked, conforming_crash, event_of, outside_race}
 use Rattle.offer_events.specs.Reading.{event_at}
-use Rattle.swap_offer.specs.Job.{events_of, next_of, IsWhole}
-use Rattle.swap_offer.specs.Wallets.{HaveWallets, seed_of}
-use Rattle.party_threads.specs.FirstTurns.{wrong_with, IsFirstWrong}
-use Rattle.swap_world.specs.declared.actors.WrongWallet.{WrongWallet}
+use Rattle.swap_offer.specs.Job.{events_of, limited_event, IsWholeJob}
+use Rattle.swap_offer.specs.Wallets.{HaveWallets}
 
 -- A race's job has no event.
 
@@ -55,8 +53,8 @@ no_event job line text e is ok =
     (λ event. outside_race line job.purpose >>= λ u. conforming_crash job.conforming line event >>= λ w. Ok event) e raw.2 in
     not_outside line job.purpose (λ u. conforming_crash job.conforming line event.0 >>= λ w. Ok event.0) e is event.2
 
-no_next : (job : Job) (count line : ℕ) (text : List ℕ) (e : Event) → job.purpose ≡ purposes.Race → next_of job count line text ≡ Ok e → ⊥
-unfolding next_of
+no_next : (job : Job) (count line : ℕ) (text : List ℕ) (e : Event) → job.purpose ≡ purposes.Race → limited_event job count line text ≡ Ok e → ⊥
+unfolding limited_event
 no_next job count line text e is ok = by (count == 200000) ok
   where
     by : (b : Bool) → (if b then Err (OverLimit line (codes "events") 200001) else event_of job line text) ≡ Ok e → ⊥
@@ -67,7 +65,7 @@ pub no_events : (job : Job) → job.purpose ≡ purposes.Race → (ls : List (�
 unfolding events_of
 no_events job is [] es ok = sym (cc ok)
 no_events job is (l ∷ ls) es ok =
-    let e = went (next_of job 0 l.0 l.1) (λ e. events_of job 1 ls >>= λ rest. Ok (e ∷ rest)) es ok in
+    let e = went (limited_event job 0 l.0 l.1) (λ e. events_of job 1 ls >>= λ rest. Ok (e ∷ rest)) es ok in
     absurd (no_next job 0 l.0 l.1 e.0 is e.1)
 
 -- Nobody is named late where each conforming party is on time.
@@ -145,20 +143,9 @@ none_is_late d conforming b on v rule a due i =
 
 -- A job whose conforming parties have their wallets.
 
-pub have_seeds : (job : Job) → IsWhole job → HaveWallets job → HaveSeeds job
+pub have_seeds : (job : Job) → IsWholeJob job → HaveWallets job → ConformingHaveSeeds job
 have_seeds job whole have = record {
   conforming = whole.conforming;
   seeds = whole.seeds;
   there = λ p lt c. let h = have p lt c in ap (λ (o : Option (List ℕ)). is_some o) h.there;
 }
-
--- no wallet of it is wrong
-pub none_wrong : (job : Job) (w : WrongWallet) → HaveWallets job → ¬ IsFirstWrong job w
-none_wrong job w have is = by (slice_index_or job.conforming w.party false) refl is.lock
-  where
-    by : (b : Bool) → slice_index_or job.conforming w.party false ≡ b
-        → (if b then wrong_with job.deal w.party (seed_of job w.party) else None) ≡ Some w.lock → ⊥
-    by true c e =
-        let h = have w.party is.party c in
-        cc (sym e ∙ (ap (λ (o : Option (List ℕ)). wrong_with job.deal w.party o) h.there ∙ h.fits))
-    by false c e = cc e

@@ -16,18 +16,16 @@ use Rattle.refusals.specs.declared.refusal.Refusal.{Refusal}
 use Rattle.refusals.specs.Refusal.{named}
 use Rattle.refusals.proofs.Named.{named_err}
 use Rattle.command_input.specs.Lines.{lines_of, filled_lines}
-use Rattle.swap_offer.specs.Job.{job_header_of, job_of, names_at, names_in, of_lines as lines_read}
+use Rattle.swap_offer.specs.Job.{job_header_of, job_of, names_at, names_in, job_of_lines}
 use Rattle.swap_run.specs.Run.{State, start, step}
 use Rattle.swap_run.specs.Asked.{Answers}
 use Rattle.swap_world.specs.Cast.{cast_of}
-use Rattle.swap_world.specs.Gone.{Gives as MayGive}
+use Rattle.swap_world.specs.Gone.{MayGive}
 use Rattle.command_input.specs.declared.fault.InputFault.{InputFault}
 use Rattle.command_input.specs.declared.fault.InputFault.TheVariants.{Refused, ReadFault, TooLong, NoMemory}
-use Rattle.swap_commands.specs.declared.words.Command.TheVariants.{OfJob}
-use Rattle.swap_commands.specs.declared.words.JobCommand.{JobCommand}
-use Rattle.swap_commands.specs.declared.words.JobCommand.TheVariants.{Check, Run, Race, Make}
+use Rattle.swap_commands.specs.Words.{OfJob, JobCommand, Check, Run, Race, Make}
 use Rattle.command_input.specs.Faults.{named_fault, of_offer}
-use Rattle.command_input.specs.Input.{At, CanCome, Ends, EndsAt, Gives, IsLast, IsLine, Stops, Tells, ahead, fresh, limit}
+use Rattle.command_input.specs.Input.{At, CanBeLeft, Ends, EndsAt, GivesLine, IsLast, IsLine, Stops, Tells, ahead, fresh, limit}
 use Rattle.swap_gen.specs.Made.{made}
 use Rattle.made_jobs.specs.Making.{copied, written_line}
 use Rattle.swap_commands.specs.Output.{Chance, by_answers, by_book, cast_by, finished, names_of, no_chance, output_by, purpose_of, reported, told, plain_text}
@@ -126,27 +124,27 @@ module _ (has : List ℕ → Bool) where
   -- what is promised of lines is promised of their bytes
   pub run_of_bytes : (gives : MayGive) (a : Answers) (transcript : Bool) (bytes : List ℕ) (ls : List (ℕ × List ℕ)) (output : Written)
       → filled_lines 1 (lines_of bytes) ≡ ls
-      → IsRun gives a transcript (lines_read has purposes.Run ls) output → IsRun gives a transcript (job_of has purposes.Run bytes) output
+      → IsRun gives a transcript (job_of_lines has purposes.Run ls) output → IsRun gives a transcript (job_of has purposes.Run bytes) output
   unfolding job_of
   run_of_bytes gives a transcript bytes ls output e p =
-      subst (λ (xs : List (ℕ × List ℕ)). IsRun gives a transcript (lines_read has purposes.Run xs) output) (sym e) p
+      subst (λ (xs : List (ℕ × List ℕ)). IsRun gives a transcript (job_of_lines has purposes.Run xs) output) (sym e) p
 
   pub race_of_bytes : (gives : MayGive) (b : Histories) (ticks : ℕ) (transcript : Bool) (bytes : List ℕ) (ls : List (ℕ × List ℕ)) (output : Written)
-      → filled_lines 1 (lines_of bytes) ≡ ls → IsRace gives b ticks transcript (lines_read has purposes.Race ls) output
+      → filled_lines 1 (lines_of bytes) ≡ ls → IsRace gives b ticks transcript (job_of_lines has purposes.Race ls) output
       → IsRace gives b ticks transcript (job_of has purposes.Race bytes) output
   unfolding job_of
   race_of_bytes gives b ticks transcript bytes ls output e p =
-      subst (λ (xs : List (ℕ × List ℕ)). IsRace gives b ticks transcript (lines_read has purposes.Race xs) output) (sym e) p
+      subst (λ (xs : List (ℕ × List ℕ)). IsRace gives b ticks transcript (job_of_lines has purposes.Race xs) output) (sym e) p
 
   pub check_of_bytes : (bytes : List ℕ) (ls : List (ℕ × List ℕ)) (output : Written) → filled_lines 1 (lines_of bytes) ≡ ls
-      → IsCheck (lines_read has purposes.Check ls) output → IsCheck (job_of has purposes.Check bytes) output
+      → IsCheck (job_of_lines has purposes.Check ls) output → IsCheck (job_of has purposes.Check bytes) output
   unfolding job_of
-  check_of_bytes bytes ls output e p = subst (λ (xs : List (ℕ × List ℕ)). IsCheck (lines_read has purposes.Check xs) output) (sym e) p
+  check_of_bytes bytes ls output e p = subst (λ (xs : List (ℕ × List ℕ)). IsCheck (job_of_lines has purposes.Check xs) output) (sym e) p
 
   pub making_of_bytes : (bytes : List ℕ) (ls : List (ℕ × List ℕ)) (output : Written) → filled_lines 1 (lines_of bytes) ≡ ls
-      → IsMaking (lines_read has purposes.Make ls) output → IsMaking (job_of has purposes.Make bytes) output
+      → IsMaking (job_of_lines has purposes.Make ls) output → IsMaking (job_of has purposes.Make bytes) output
   unfolding job_of
-  making_of_bytes bytes ls output e p = subst (λ (xs : List (ℕ × List ℕ)). IsMaking (lines_read has purposes.Make xs) output) (sym e) p
+  making_of_bytes bytes ls output e p = subst (λ (xs : List (ℕ × List ℕ)). IsMaking (job_of_lines has purposes.Make xs) output) (sym e) p
 
   -- the whole input was read, and it is no longer than it may be
   pub is_within : (P : List ℕ → Type 0) (left left' : Option (List ℕ)) (now : At) (e : Ends P left left' fresh now) → length e.bytes ≤ limit
@@ -155,7 +153,7 @@ module _ (has : List ℕ → Bool) where
   -- What is said against an input.
 
   -- the end wasn't met before the first line
-  pub not_over_yet : (rest : List ℕ) → CanCome fresh rest
+  pub not_over_yet : (rest : List ℕ) → CanBeLeft fresh rest
   not_over_yet rest over = absurd (cc over)
 
   -- it has no line
@@ -199,20 +197,20 @@ module _ (has : List ℕ → Bool) where
   -- The same by what calls answered.
 
   pub empty_stops : (command : JobCommand) (more : Bool) (left left' : Option (List ℕ)) (n m : ℕ) (old now : At) (fault : InputFault Refusal) → old ≡ fresh
-      → more ≡ false → Gives more left left' old now → now.reading.taken ≤ limit → EndsAt left' now
+      → more ≡ false → GivesLine more left left' old now → now.reading.taken ≤ limit → EndsAt left' now
       → fault ≡ Refused (record { reason = NotJson 1; names = [] }) → Stops (IsAgainst has (OfJob command)) left left' n m fresh now fault
   empty_stops command more left left' n m old now fault first none gives within ended is =
-      let p : IsLast left left' fresh now = last_of more left left' fresh now none (subst (λ (s : At). Gives more left left' s now) first gives) in
+      let p : IsLast left left' fresh now = last_of more left left' fresh now none (subst (λ (s : At). GivesLine more left left' s now) first gives) in
       let t = against_empty command left left' now p within ended in
       subst (λ (f : InputFault Refusal). Stops (IsAgainst has (OfJob command)) left left' n m fresh now f) (sym is) t
 
   pub header_stops : (command : JobCommand) (more : Bool) (left left' : Option (List ℕ)) (n m : ℕ) (old now : At) (fault : Fault Refusal) (purpose : Purpose)
-      (line : ℕ) (text : List ℕ) → old ≡ fresh → more ≡ true → Gives more left left' old now → now.reading.taken ≤ limit → EndsAt left' now
+      (line : ℕ) (text : List ℕ) → old ≡ fresh → more ≡ true → GivesLine more left left' old now → now.reading.taken ≤ limit → EndsAt left' now
       → purpose ≡ purpose_of command → line ≡ now.number → text ≡ now.text
       → Fails fault (named (names_at has purpose line text) (job_header_of has purpose line text))
       → Stops (IsAgainst has (OfJob command)) left left' n m fresh now (of_offer fault)
   header_stops command more left left' n m old now fault purpose line text first some gives within ended asked number same fails =
-      let p : IsLine left left' fresh now = line_of more left left' fresh now some (subst (λ (s : At). Gives more left left' s now) first gives) in
+      let p : IsLine left left' fresh now = line_of more left left' fresh now some (subst (λ (s : At). GivesLine more left left' s now) first gives) in
       let f : Fails fault (named (names_at has (purpose_of command) line text) (job_header_of has (purpose_of command) line text)) =
       subst (λ (q : Purpose). Fails fault (named (names_at has q line text) (job_header_of has q line text))) asked fails in
       let g : Fails fault (named (names_at has (purpose_of command) now.number text) (job_header_of has (purpose_of command) now.number text)) =

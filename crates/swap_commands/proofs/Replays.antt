@@ -14,29 +14,28 @@ use Rattle.swap_job.specs.declared.event.Event.{Event}
 use Rattle.swap_job.specs.declared.job.Role.{Role}
 use Rattle.refusals.specs.declared.reason.Reason.{Reason}
 use Rattle.command_input.specs.Lines.{lines_of, filled_lines}
-use Rattle.swap_offer.specs.Job.{events_of, next_of, job_of, job_header_of, of_lines as lines_read}
+use Rattle.swap_offer.specs.Job.{events_of, limited_event, job_of, job_header_of, job_of_lines}
 use Rattle.swap_digraph.specs.declared.deal.Deal.{Deal}
 use Rattle.swap_run.specs.Asked.{Answers, with_answers}
 use Rattle.swap_run.specs.Run.{Cast, Question, State, step, start}
 use Rattle.swap_world.specs.Cast.{cast_of, cast_with}
 use Rattle.swap_offer.specs.Wallets.{HaveWallets}
-use Rattle.swap_world.specs.Actors.{world_of, AreHeld, IsHeld as Held}
-use Rattle.offer_header.specs.Limits.{HoldsEach, IsHeld}
+use Rattle.swap_world.specs.Actors.{AllFit, AreHeld}
+use Rattle.offer_header.specs.Limits.{HoldsEach}
 use Rattle.swap_job.specs.declared.job.Role.TheVariants as kinds
 use Rattle.swap_job.specs.declared.job.Finish.TheVariants.{Stop}
 use Rattle.swap_world.proofs.Gone.{continues_less, more_asked, stays}
-use Rattle.swap_world.proofs.Team.{world_is_new}
-use Rattle.swap_world.specs.Gone.{Answered, Gives, HasAsked, HasGone, MayCome}
+use Rattle.swap_world.proofs.Team.{all_fit}
+use Rattle.swap_world.specs.Gone.{Answered, MayGive, HasAsked, HasGone, MayBeGiven}
 use Rattle.swap_world.specs.Value.{WorldState, answers_of, cast_at, cast_for, Continues, new_world}
-use Rattle.swap_commands.specs.declared.words.Command.TheVariants.{OfJob}
-use Rattle.swap_commands.specs.declared.words.JobCommand.{JobCommand}
-use Rattle.swap_commands.specs.declared.words.JobCommand.TheVariants.{Check, Run, Race, Make}
+use Rattle.swap_commands.specs.Words.{OfJob, JobCommand, Check, Run, Race, Make}
 use Rattle.swap_job.specs.declared.job.Purpose.TheVariants as purposes
 use Rattle.swap_gen.specs.Made.{made}
 use Rattle.made_jobs.specs.Making.{copied, made_text, written_line}
+use Rattle.made_jobs.specs.Generating.{IsOf}
 use Rattle.made_jobs.proofs.Copying.{made_is}
 use Rattle.swap_commands.specs.Output.{AreGiven, Chance, cast_by, purpose_of, finished, book_of, reported, told, output_by, output_for, plain_text}
-use Rattle.swap_commands.specs.Replay.{replayed, next_by, passed_over, IsConcluded, IsOf, of_run, of_race, of_check, of_lines, of_make}
+use Rattle.swap_commands.specs.Replay.{replayed, next_by, passed_over, IsConcluded, of_run, of_race, of_check, of_lines, of_make}
 
 regroup : {A : Type 0} (f : A → Event → A) (x : A) (next : Result Event Reason) (rest : Result (List Event) Reason) →
     (next >>= λ e. rest >>= λ es. Ok (e ∷ es)) >>= (λ events. Ok (fold f x events)) ≡ (next >>= λ e. Ok (f x e)) >>= λ y. rest >>= λ es. Ok (fold f y es)
@@ -47,7 +46,7 @@ regroup f x (Err r) rest = refl
 pub step_of : {A : Type 0} (f : A → Event → A) (job : Job) (n : ℕ) (x : A) (line : ℕ) (text : List ℕ) (rest : List (ℕ × List ℕ))
     → replayed f job n x ((line, text) ∷ rest) ≡ next_by f job n x line text >>= λ y. replayed f job (n + 1) y rest
 unfolding replayed next_by events_of
-step_of f job n x line text rest = regroup f x (next_of job n line text) (events_of job (n + 1) rest)
+step_of f job n x line text rest = regroup f x (limited_event job n line text) (events_of job (n + 1) rest)
 
 pub none_left : {A : Type 0} (f : A → Event → A) (job : Job) (n : ℕ) (x : A) → replayed f job n x [] ≡ Ok x
 unfolding replayed events_of
@@ -78,19 +77,19 @@ written_make (Ok j) ls = refl
 written_make (Err r) ls = refl
 
 of_some_make : (has : List ℕ → Bool) (a : Chance) (l : ℕ × List ℕ) (ls : List (ℕ × List ℕ))
-    → of_make has l.0 l.1 ls ≡ output_for a Make (l ∷ ls) (lines_read has purposes.Make (l ∷ ls))
+    → of_make has l.0 l.1 ls ≡ output_for a Make (l ∷ ls) (job_of_lines has purposes.Make (l ∷ ls))
 unfolding of_make
 of_some_make has a l ls =
     regroup_make (job_header_of has purposes.Make l.0 l.1) (λ job. copied 0 (written_line (made job)) ls)
     ∙ ap (λ (r : Result (List ℕ) Reason). r >>= λ t. Ok (plain_text t)) (made_is has l ls)
-    ∙ written_make (lines_read has purposes.Make (l ∷ ls)) ls
+    ∙ written_make (job_of_lines has purposes.Make (l ∷ ls)) ls
 
 of_some : (has : List ℕ → Bool) (a : Chance) (command : JobCommand) (ls : List (ℕ × List ℕ))
-    → of_lines has a command ls ≡ output_for a command ls (lines_read has (purpose_of command) ls)
+    → of_lines has a command ls ≡ output_for a command ls (job_of_lines has (purpose_of command) ls)
 unfolding of_run of_race of_check replayed
 of_some has a command [] = by command
   where
-    by : (command : JobCommand) → of_lines has a command [] ≡ output_for a command [] (lines_read has (purpose_of command) [])
+    by : (command : JobCommand) → of_lines has a command [] ≡ output_for a command [] (job_of_lines has (purpose_of command) [])
     by (Run transcript) = refl
     by (Race ticks transcript) = refl
     by Check = refl
@@ -122,13 +121,7 @@ same_cast job w k = ap₂ (λ (d : Deal) (rs : List Role). cast_with d w.conform
 
 -- a kit that holds each strategy that the job names
 pub held : (has : List ℕ → Bool) (roles : List Role) → HoldsEach has roles → AreHeld has roles
-held has roles all = λ p lt. held_as (get_or roles p kinds.Manual) (all p kinds.Manual lt)
-  where
-    held_as : (role : Role) → IsHeld has role → Held has role
-    held_as kinds.Conforming h = tt
-    held_as kinds.Manual h = tt
-    held_as (kinds.Script moves) h = tt
-    held_as (kinds.Strategy name) h = h
+held has roles all = λ p lt. all p kinds.Manual lt
 
 -- a reason against an event is one whatever is made of the events
 pub replay_fails : {A : Type 0} (f : A → Event → A) (x : A) (job : Job) (ls : List (ℕ × List ℕ)) (reason : Reason)
@@ -147,8 +140,8 @@ replay_fails {A = A} f x job ls reason e = by (events_of job 0 ls) e
 -- What strategies are asked and answer.
 
 -- what was asked and answered was given
-pub are_given : (gives : Gives) (d : Deal) (more : List Answered) (asked : List Question) (given : List (Option (ℕ × Call)))
-    → asked ≡ map (λ x. x.question) more → given ≡ map (λ x. x.answer) more → All (MayCome gives d) more → AreGiven gives d (λ k. get_or given k None) asked
+pub are_given : (gives : MayGive) (d : Deal) (more : List Answered) (asked : List Question) (given : List (Option (ℕ × Call)))
+    → asked ≡ map (λ x. x.question) more → given ≡ map (λ x. x.answer) more → All (MayBeGiven gives d) more → AreGiven gives d (λ k. get_or given k None) asked
 are_given gives d more asked given eq ea may = λ i q lt is.
     let x : Answered = record { question = q; answer = None } in
     let low : i < length more = subst (λ n. i < n) (length-map more (λ (y : Answered). y.question)) (subst (λ (qs : List Question). i < length qs) eq lt) in
@@ -169,12 +162,12 @@ is_of_new job w e = record {
   roles = ap (λ (x : WorldState). x.roles) e;
 }
 
-pub stays_finished : (gives : Gives) (w : WorldState) → HasGone gives (finished Stop) w w
+pub stays_finished : (gives : MayGive) (w : WorldState) → HasGone gives (finished Stop) w w
 stays_finished gives w = stays gives (finished Stop) w (λ a. refl)
 
 -- A world that has gone on.
 
-module _ (gives : Gives) (job : Job) (w new : WorldState) (k : IsOf job w) where
+module _ (gives : MayGive) (job : Job) (w new : WorldState) (k : IsOf job w) where
   pub is_of_still : (f : Cast → State → State) → HasGone gives f w new → IsOf job new
   is_of_still f e = record {
     deal = ap (λ (x : WorldState). x.deal) e.same ∙ k.deal;
@@ -190,7 +183,7 @@ module _ (gives : Gives) (job : Job) (w new : WorldState) (k : IsOf job w) where
   for_job a = ap (λ (c : Cast). with_answers c a) (same_cast job w k)
 
   -- after the event of a line
-  pub stepped : (e : Event) (count line : ℕ) (text : List ℕ) → next_of job count line text ≡ Ok e → HasGone gives (λ c s. step c s e) w new
+  pub stepped : (e : Event) (count line : ℕ) (text : List ℕ) → limited_event job count line text ≡ Ok e → HasGone gives (λ c s. step c s e) w new
       → (a : Answers) → Continues new a → next_by (step (cast_by a job)) job count w.state line text ≡ Ok new.state
   unfolding next_by
   stepped e count line text n h a x =
@@ -224,6 +217,6 @@ pub kept_book : {E : Type 0} (job : Job) (w : WorldState) → IsOf job w → (r 
 kept_book job w k (Ok b) is kept = subst (λ (c : Cast). IsKept c b.histories) (same_cast job w k) (subst (IsKept (cast_at w)) (sym is) kept)
 kept_book job w k (Err e) is kept = tt
 
--- a job whose conforming parties have their wallets gives a new world
-pub is_new : (job : Job) → HaveWallets job → world_of job ≡ Ok (new_world job)
-is_new job have = world_is_new job (λ p lt t. let h = have p lt t in (h.seed, h.there, h.fits))
+-- where the conforming parties have their wallets, each is right
+pub wallets_fit : (job : Job) → HaveWallets job → AllFit job
+wallets_fit job have = all_fit job (λ p lt t. let h = have p lt t in (h.seed, h.there, h.fits))

@@ -10,7 +10,7 @@ use Rattle.swap_digraph.specs.Deal.{IsWellSized, most_arcs}
 use Rattle.ledger_core.specs.Book.{Histories, IsLegalBook}
 use Rattle.swap_job.specs.declared.job.Job.{Job}
 use Rattle.outcome_rules.specs.declared.report.Report.{Report}
-use Rattle.command_input.specs.Written.{IsWhole}
+use Rattle.command_input.specs.Written.{IsWrittenWhole}
 use Rattle.swap_commands.specs.Output.{report_for, reported, run_text}
 
 most : (v : Version) → most_arcs v ≤ 256
@@ -24,7 +24,7 @@ few_histories d b k legal = let m = most d.version in omega (arith, k.arcs.1, le
 -- The report r of a job's book was written, or the transcript.
 module _ (transcript : Bool) (job : Job) (b : Histories) (r : Report) (taken taken' : Option (List ℕ)) (is : r ≡ report_for job b) where
   pub written_none : Appends taken taken' (run_text transcript job b r) → (length r.findings == 0) ≡ true
-      → IsWhole taken taken' false (reported transcript job b)
+      → IsWrittenWhole taken taken' false (reported transcript job b)
   unfolding reported
   written_none wrote none = (
     subst (λ (x : Report). Appends taken taken' (run_text transcript job b x)) is wrote,
@@ -32,7 +32,7 @@ module _ (transcript : Bool) (job : Job) (b : Histories) (r : Report) (taken tak
   )
 
   pub written_found : Appends taken taken' (run_text transcript job b r) → (length r.findings == 0) ≡ false
-      → IsWhole taken taken' true (reported transcript job b)
+      → IsWrittenWhole taken taken' true (reported transcript job b)
   unfolding reported
   written_found wrote some = (
     subst (λ (x : Report). Appends taken taken' (run_text transcript job b x)) is wrote,

@@ -1,5 +1,5 @@
 -- What a command's status says, by how its parts ended.
-use Rattle.std.proofs.Common.{◌≡◌, ◌+◌, ◌++◌, inl, inr, ℕ, Bool, List, [], ◌∷◌, Option, Ok, refl, sym, ap, ◌∙◌, arith, subst}
+use Rattle.std.proofs.Common.{◌≡◌, ◌+◌, ◌++◌, inl, inr, ℕ, Bool, List, [], ◌∷◌, Option, Ok, refl, sym, ap, ◌∙◌, arith}
 use Rattle.std.proofs.KnownBytes.{Consumes-nil}
 use Rattle.std.specs.Io.KnownBytes.{Keeps}
 use Rattle.swap_io.specs.Causes.{ConsumesAtMost, ConsumesSome}
@@ -17,7 +17,7 @@ use Rattle.swap_run.specs.Run.{State, start}
 use Rattle.swap_run.specs.Laws.{IsKept}
 use Rattle.swap_run.specs.Asked.{Answers}
 use Rattle.swap_world.specs.Cast.{cast_of}
-use Rattle.swap_world.specs.Gone.{Gives}
+use Rattle.swap_world.specs.Gone.{MayGive}
 use Rattle.swap_world.specs.Value.{Continues, WorldState}
 use Rattle.outcome_rules.specs.Report.{conforms_in}
 use Rattle.outcome_rules.specs.Promises.{AllAreConforming}
@@ -29,14 +29,14 @@ use Rattle.swap_commands.specs.Output.{AreGiven, Chance, by_answers, by_book, ca
 use Rattle.swap_commands.specs.Promised.{AsPromised}
 use Rattle.swap_commands.specs.Says.{HasRead, HasReason, IsAgainst, Says, Unread}
 use Rattle.command_input.specs.Written.{Writes, Written}
-use Rattle.swap_commands.specs.declared.words.Command.{Command}
-use Rattle.swap_commands.specs.declared.words.Command.TheVariants.{OfJob}
-use Rattle.swap_commands.specs.declared.words.JobCommand.TheVariants.{Check, Run, Race, Make}
+use Rattle.swap_commands.specs.Words.{Command, OfJob, Check, Run, Race, Make}
 use Rattle.command_input.specs.declared.status.Status.{Status}
 use Rattle.command_input.specs.declared.status.Status.TheVariants.{Done, Named, WrongWords, Refused, ReadFault, WriteFault, NoMemory, TooLong}
+use Rattle.command_input.specs.Streams.{streams}
 use Rattle.swap_commands.proofs.Promises.{is_check, is_race, is_run, is_making}
 use Rattle.swap_commands.proofs.Reading.{check_of_bytes, gives_check, gives_race, gives_run, is_within, race_of_bytes, run_of_bytes}
 use Rattle.swap_commands.proofs.Reading.{gives_make, making_of_bytes}
+use Rattle.swap_commands.specs.Strategies.{strategies}
 
 -- no more was taken than an input may have
 pub is_consumed : (left left' : Option (List ℕ)) (now : At) → IsPart left left' fresh now → ConsumesAtMost left left' limit
@@ -47,9 +47,9 @@ pub none_consumed : (left : Option (List ℕ)) → ConsumesAtMost left left limi
 none_consumed left = ([], omega arith, Consumes-nil left)
 
 module _ (has : List ℕ → Bool) where
-  pub says_written : (gives : Gives) (a : Chance) (command : Command) (left left' : Option (List ℕ)) (n m : ℕ) (taken taken' : Option (List ℕ)) (p q : ℕ)
+  pub says_written : (gives : MayGive) (a : Chance) (command : Command) (left left' : Option (List ℕ)) (n m : ℕ) (taken taken' : Option (List ℕ)) (p q : ℕ)
       (output : Written) (r : HasRead has a command left left' (Ok output)) → AsPromised has gives a command r.input output
-      → (s : Status) → Writes taken taken' p q output s → Says has gives command left left' n m taken taken' p q s
+      → (s : Status) → Writes taken taken' p q output s → Says (strategies has gives) command (streams left n taken p) (streams left' m taken' q) s
   says_written gives a command left left' n m taken taken' p q output r promised Done w =
       record { chance = a; output = output; read = r; promised = promised; written = w }
   says_written gives a command left left' n m taken taken' p q output r promised Named w =
@@ -63,8 +63,9 @@ module _ (has : List ℕ → Bool) where
       inr (record { chance = a; output = output; read = r; promised = promised; written = w })
   says_written gives a command left left' n m taken taken' p q output r promised TooLong w = absurd w
 
-  pub says_unread : (gives : Gives) (command : Command) (left left' : Option (List ℕ)) (n m : ℕ) (taken taken' : Option (List ℕ)) (p q : ℕ) → Keeps taken taken'
-      → (s : Status) → Unread has command left left' n m s → Says has gives command left left' n m taken taken' p q s
+  pub says_unread : (gives : MayGive) (command : Command) (left left' : Option (List ℕ)) (n m : ℕ) (taken taken' : Option (List ℕ)) (p q : ℕ)
+      → Keeps taken taken'
+      → (s : Status) → Unread has command left left' n m s → Says (strategies has gives) command (streams left n taken p) (streams left' m taken' q) s
   says_unread gives command left left' n m taken taken' p q k Done u = absurd u
   says_unread gives command left left' n m taken taken' p q k Named u = absurd u
   says_unread gives command left left' n m taken taken' p q k WrongWords u = absurd u
@@ -114,12 +115,13 @@ module _ (has : List ℕ → Bool) where
 
   -- What a command says whose input was read whole.
 
-  module _ (gives : Gives) (transcript : Bool) (left left' : Option (List ℕ)) (n m : ℕ) (taken taken' : Option (List ℕ)) (p q : ℕ) where
+  module _ (gives : MayGive) (transcript : Bool) (left left' : Option (List ℕ)) (n m : ℕ) (taken taken' : Option (List ℕ)) (p q : ℕ) where
     says_played : (a : Answers) (now : At) (job : Job) (s : State) (b : Histories) (status : Status)
         (e : Ends (λ bytes. IsPlayed has a bytes job s) left left' fresh now) → AreGiven gives job.deal a (finished job.finish (cast_by a job) s).asked
         → b ≡ (finished job.finish (cast_by a job) s).book → IsAccepted job.deal → IsKept (cast_of job) b → (job.finish ≡ Fair → IsEnded job.deal b)
         → (job.finish ≡ Fair → s ≡ start (cast_of job) → AllAreConforming job.deal job.conforming → IsDealt job.deal (conforms_in job.conforming) b)
-        → Writes taken taken' p q (reported transcript job b) status → Says has gives (OfJob (Run transcript)) left left' n m taken taken' p q status
+        → Writes taken taken' p q (reported transcript job b) status
+        → Says (strategies has gives) (OfJob (Run transcript)) (streams left n taken p) (streams left' m taken' q) status
     says_played a now job s b status e given same k kept ended dealt w =
         let out : Written = reported transcript job b in
         let made : output_by has (by_answers a) (OfJob (Run transcript)) e.bytes ≡ Ok out =
@@ -142,14 +144,15 @@ module _ (has : List ℕ → Bool) where
         → IsAccepted job.deal → IsKept (cast_of job) b → (job.finish ≡ Fair → IsEnded job.deal b)
         → (job.finish ≡ Fair → world.state ≡ start (cast_of job) → AllAreConforming job.deal job.conforming
         → IsDealt job.deal (conforms_in job.conforming) b)
-        → Writes taken taken' p q (reported transcript job b) status → Says has gives (OfJob (Run transcript)) left left' n m taken taken' p q status
+        → Writes taken taken' p q (reported transcript job b) status
+        → Says (strategies has gives) (OfJob (Run transcript)) (streams left n taken p) (streams left' m taken' q) status
     says_run now job world b status e c k kept ended dealt w =
         says_played c.answers now job world.state b status (e c.answers c.continues) c.given c.book k kept ended dealt w
 
-  pub says_race : (gives : Gives) (ticks : ℕ) (transcript : Bool) (left left' : Option (List ℕ)) (n m : ℕ) (taken taken' : Option (List ℕ)) (p q : ℕ)
+  pub says_race : (gives : MayGive) (ticks : ℕ) (transcript : Bool) (left left' : Option (List ℕ)) (n m : ℕ) (taken taken' : Option (List ℕ)) (p q : ℕ)
       (job : Job) (b : Histories) (status : Status) → HasEntered has left left' job → IsAccepted job.deal → job.purpose ≡ purposes.Race
       → IsRaceBook gives (cast_of job) ticks b → Writes taken taken' p q (reported transcript job b) status
-      → Says has gives (OfJob (Race ticks transcript)) left left' n m taken taken' p q status
+      → Says (strategies has gives) (OfJob (Race ticks transcript)) (streams left n taken p) (streams left' m taken' q) status
   says_race gives ticks transcript left left' n m taken taken' p q job b status e k purpose raced w =
       let out : Written = reported transcript job b in
       let r = e.entered in
@@ -176,9 +179,11 @@ module _ (has : List ℕ → Bool) where
     entered = e.told;
   }
 
-  pub says_check : (gives : Gives) (left left' : Option (List ℕ)) (n m : ℕ) (taken taken' : Option (List ℕ)) (p q : ℕ) (now : At) (job : Job) (status : Status)
+  pub says_check : (gives : MayGive) (left left' : Option (List ℕ)) (n m : ℕ) (taken taken' : Option (List ℕ)) (p q : ℕ) (now : At) (job : Job)
+      (status : Status)
       (e : Ends (λ bytes. IsChecked has bytes job) left left' fresh now)
-      → IsAccepted job.deal → Writes taken taken' p q (told job) status → Says has gives (OfJob Check) left left' n m taken taken' p q status
+      → IsAccepted job.deal → Writes taken taken' p q (told job) status
+      → Says (strategies has gives) (OfJob Check) (streams left n taken p) (streams left' m taken' q) status
   says_check gives left left' n m taken taken' p q now job status e k w =
       says_written gives no_chance (OfJob Check) left left' n m taken taken' p q (told job)
       (record {
@@ -193,10 +198,11 @@ module _ (has : List ℕ → Bool) where
       (is_check has e.told.line e.told.text e.told.others job tt (told job) e.told.header e.told.leads refl k))
       status w
 
-  pub says_make : (gives : Gives) (left left' : Option (List ℕ)) (n m : ℕ) (taken taken' : Option (List ℕ)) (p q : ℕ) (now : At) (job : Job)
+  pub says_make : (gives : MayGive) (left left' : Option (List ℕ)) (n m : ℕ) (taken taken' : Option (List ℕ)) (p q : ℕ) (now : At) (job : Job)
       (text : List ℕ) (status : Status)
       (e : Ends (λ bytes. IsCopied has bytes job text) left left' fresh now)
-      → IsMade job → Writes taken taken' p q (plain_text text) status → Says has gives (OfJob Make) left left' n m taken taken' p q status
+      → IsMade job → Writes taken taken' p q (plain_text text) status
+      → Says (strategies has gives) (OfJob Make) (streams left n taken p) (streams left' m taken' q) status
   says_make gives left left' n m taken taken' p q now job text status e k w =
       says_written gives no_chance (OfJob Make) left left' n m taken taken' p q (plain_text text)
       (record {
@@ -209,11 +215,3 @@ module _ (has : List ℕ → Bool) where
       (making_of_bytes has e.bytes ((e.told.line, e.told.text) ∷ e.told.others) (plain_text text) e.told.lines
       (is_making has e.told.line e.told.text e.told.others job text (plain_text text) e.told.header e.told.leads k))
       status w
-
-  -- what a race's status says where nothing was written before
-  pub says_after : (gives : Gives) (command : Command) (left left' : Option (List ℕ)) (n m : ℕ) (taken mid taken' : Option (List ℕ)) (p r q : ℕ)
-      (status : Status) → mid ≡ taken → r ≡ p → Says has gives command left left' n m mid taken' r q status
-      → Says has gives command left left' n m taken taken' p q status
-  says_after gives command left left' n m taken mid taken' p r q status same still h =
-      subst (λ (t : Option (List ℕ)). Says has gives command left left' n m t taken' p q status) same
-      (subst (λ (k : ℕ). Says has gives command left left' n m mid taken' k q status) still h)

@@ -7,7 +7,7 @@ use Rattle.swap_gen.specs.Drawn.{generated}
 use Rattle.swap_gen.proofs.Generated.{generated_is_accepted}
 use Rattle.made_jobs.specs.Generating.{generated_book}
 use Rattle.swap_commands.specs.Generated.{summary_output, IsSummary}
-use Rattle.swap_commands.specs.declared.words.Request.{Request}
+use Rattle.program_words.specs.declared.task.Request.{Request}
 use Rattle.swap_commands.proofs.Promises.{is_promised}
 
 pub is_summary : (r : Request) → 2 ≤ r.parties → r.parties ≤ 24 → IsKept (cast_of (generated r.seed r.parties)) (generated_book r.seed r.parties r.events)

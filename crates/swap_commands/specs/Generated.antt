@@ -1,5 +1,5 @@
--- What is written of the job of a number, and what a status says of a task.
-use Rattle.std.specs.Prelude.{◌≡◌, ℕ, Bool, true, List, Option, Some, if◌then◌else◌}
+-- What is written of the job of a number, and what a status says of it.
+use Rattle.std.specs.Prelude.{◌≡◌, ℕ, true, List, Option, Some, if◌then◌else◌}
 use Rattle.std.specs.Io.KnownBytes.{Keeps}
 use Rattle.ledger_core.specs.Book.{Histories}
 use Rattle.swap_job.specs.declared.job.Job.{Job}
@@ -8,14 +8,10 @@ use Rattle.swap_rules.specs.Outcome.{IsEnded}
 use Rattle.swap_gen.specs.Drawn.{generated}
 use Rattle.made_jobs.specs.Generating.{generated_book, generated_summary, generated_text, is_found}
 use Rattle.command_input.specs.Written.{Writes, Written}
-use Rattle.swap_world.specs.Gone.{Gives}
 use Rattle.swap_commands.specs.Output.{plain_text, report_for}
 use Rattle.swap_commands.specs.Promised.{IsPromised}
-use Rattle.swap_commands.specs.Says.{Says}
 use Rattle.swap_commands.specs.Words.{request_of}
-use Rattle.swap_commands.specs.declared.words.Request.{Request}
-use Rattle.swap_commands.specs.declared.words.Task.{Task}
-use Rattle.swap_commands.specs.declared.words.Task.TheVariants.{Input, Number}
+use Rattle.program_words.specs.declared.task.Request.{Request}
 use Rattle.command_input.specs.declared.status.Status.{Status}
 use Rattle.command_input.specs.declared.status.Status.TheVariants.{NoMemory}
 
@@ -59,8 +55,3 @@ pub record Generates (P : Written → Type 0) (words : List (List ℕ)) (left le
   pub accepted : IsAccepted (generated request.seed request.parties).deal
   pub promised : AsRequested request (generated_output request)
   pub written : P (generated_output request)
-
--- what a status says of a task: by its input, or without one by what is written of a number's job
-abbrev pub Performs : (List ℕ → Bool) → Gives → Task → Option (List ℕ) → Option (List ℕ) → ℕ → ℕ → Option (List ℕ) → Option (List ℕ) → ℕ → ℕ → Status → Type 0
-Performs has gives (Input command) left left' n m taken taken' p q s = Says has gives command left left' n m taken taken' p q s
-Performs has gives (Number request) left left' n m taken taken' p q s = (left' ≡ left) × IsMadeFor taken taken' p q request s

@@ -5,6 +5,7 @@ pub mod Cleared
 pub mod Promised
 pub mod Replay
 pub mod ManyRead
+pub mod Strategies
 pub mod Says
 pub mod Entered
 pub mod Generated

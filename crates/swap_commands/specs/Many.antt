@@ -60,8 +60,8 @@ unless_lacking many None places = Ok places
 unless_lacking many (Some l) places = Err (overdrawn_by many l)
 
 -- the places of the arcs where each account has the units that are set aside from it, or what is said of accounts
-unfoldable pub opened : ManyJob → Result (List (List Place)) Refusal
-opened many = places_of many >>= λ places. unless_lacking many (overdrawn (setup_by (λ s k. None) many places)) places
+unfoldable pub opened_places : ManyJob → Result (List (List Place)) Refusal
+opened_places many = places_of many >>= λ places. unless_lacking many (overdrawn (setup_by (λ s k. None) many places)) places
 
 -- what a finish makes of what is kept: nothing more is done, or the fair finish is
 abbrev pub ended_by : Finish → Setup → Kept → Kept
@@ -83,7 +83,7 @@ many_written many z = record { text = many_text many.jobs many.names z; found = 
 -- what is written of lines: what is said of accounts comes after what is said of every line
 unfoldable pub many_of_lines : (List ℕ → Bool) → (ℕ → Answers) → List (ℕ × List ℕ) → Result Written Refusal
 many_of_lines has g ls =
-    headed has ls >>= λ h. events_told h.many 0 h.lines >>= λ events. opened h.many >>= λ places.
+    headed has ls >>= λ h. events_told h.many 0 h.lines >>= λ events. opened_places h.many >>= λ places.
     Ok (many_written h.many (many_state g h.many places h.finish events))
 
 -- what is written of an input, where the strategies of swap s answer g s

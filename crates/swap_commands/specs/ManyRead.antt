@@ -9,7 +9,7 @@ use Rattle.refusals.specs.declared.refusal.Refusal.{Refusal}
 use Rattle.swap_io.specs.Lines.{Took}
 use Rattle.command_input.specs.Lines.{lines_of, filled_lines}
 use Rattle.swap_run.specs.Asked.{Answers}
-use Rattle.swap_world.specs.Gone.{Gives}
+use Rattle.swap_world.specs.Gone.{MayGive}
 use Rattle.swap_world.specs.Value.{new_world}
 use Rattle.swap_many.specs.Kept.{kept_step}
 use Rattle.swap_many.specs.Laws.{IsReady}
@@ -23,8 +23,8 @@ use Rattle.many_lines.specs.Heading.{HeadingState}
 use Rattle.many_lines.specs.Setup.{MayCome, setup_by}
 use Rattle.many_lines.specs.declared.many_job.ManyJob.{ManyJob}
 use Rattle.many_lines.specs.declared.stage.Stage.TheVariants.{Over}
-use Rattle.command_input.specs.Input.{At, CanCome, Ends, ahead, fresh}
-use Rattle.swap_commands.specs.Many.{events_told, headed, opened, overdrawn_by}
+use Rattle.command_input.specs.Input.{At, CanBeLeft, Ends, ahead, fresh}
+use Rattle.swap_commands.specs.Many.{events_told, headed, opened_places, overdrawn_by}
 
 -- The lines up to that of the finish were read: whatever comes after them are the lines of the events.
 pub record IsHeading (has : List ℕ → Bool) (h : HeadingState) (left left' : Option (List ℕ)) (now : At) : Type 0 where
@@ -32,7 +32,7 @@ pub record IsHeading (has : List ℕ → Bool) (h : HeadingState) (left left' : 
   pub took : Took left left' fresh.reading now.reading bytes
   pub finish : Finish
   pub stage : h.stage ≡ Over finish
-  pub first : (rest : List ℕ) → CanCome now rest
+  pub first : (rest : List ℕ) → CanBeLeft now rest
       → headed has (ahead fresh (bytes ++ rest)) ≡ Ok (record { many = h.many; finish = finish; lines = ahead now rest })
 
 -- what is said of the account that lacks units, unless memory runs out
@@ -48,7 +48,7 @@ new_worlds many places = new_many many.units (map new_world many.jobs) places
 -- The worlds are those of the swaps before any event, and each account has what is set aside from it.
 pub record IsOpened (many : ManyJob) (w : ManyState) : Type 0 where
   pub places : List (List Place)
-  pub are_placed : opened many ≡ Ok places
+  pub are_placed : opened_places many ≡ Ok places
   pub openable : AreOpenable many.units (map new_world many.jobs) places
   pub new : w ≡ new_worlds many places
   pub ready : (g : ℕ → Answers) → IsReady (setup_by g many places)
@@ -58,18 +58,18 @@ abbrev pub AreWorldsOf : ManyJob → ManyState → Type 0
 AreWorldsOf many w = (g : ℕ → Answers) → setup_for w g ≡ setup_by g many w.places
 
 -- The line told an event, by which the worlds have stepped.
-pub record HasStepped (gives : Gives) (many : ManyJob) (count line : ℕ) (text : List ℕ) (old new : ManyState) : Type 0 where
+pub record HasStepped (gives : MayGive) (many : ManyJob) (count line : ℕ) (text : List ℕ) (old new : ManyState) : Type 0 where
   pub event : ManyEvent
   pub told : next_told many count line text ≡ Ok event
   pub gone : HasManyGone gives (λ m z. kept_step m z event) old new
   pub can : MayCome many event
 
 -- what events make of the worlds
-abbrev pub HasReplayed : Gives → List ManyEvent → (old new : ManyState) → Type 0
+abbrev pub HasReplayed : MayGive → List ManyEvent → (old new : ManyState) → Type 0
 HasReplayed gives events old new = HasManyGone gives (λ m z. fold (kept_step m) z events) old new
 
 -- The lines ahead told events, to which the worlds have come.
-pub record IsReplayed (gives : Gives) (many : ManyJob) (old new : ManyState) (left left' : Option (List ℕ)) (first now : At) : Type 0 where
+pub record IsReplayed (gives : MayGive) (many : ManyJob) (old new : ManyState) (left left' : Option (List ℕ)) (first now : At) : Type 0 where
   pub events : List ManyEvent
   pub told : Ends (λ bytes. events_told many 0 (ahead first bytes) ≡ Ok events) left left' first now
   pub gone : HasReplayed gives events old new
@@ -81,16 +81,16 @@ TellEvents many first bytes = (events : List ManyEvent) × (events_told many 0 (
 
 -- the places of the arcs, once every line told an event
 abbrev pub opened_after : ManyJob → List (ℕ × List ℕ) → Result (List (List Place)) Refusal
-opened_after many ls = events_told many 0 ls >>= λ events. opened many
+opened_after many ls = events_told many 0 ls >>= λ events. opened_places many
 
 -- The worlds were opened, and have come to where the lines ahead lead.
-pub record AreRun (gives : Gives) (many : ManyJob) (w : ManyState) (left left' : Option (List ℕ)) (first now : At) : Type 0 where
+pub record AreRun (gives : MayGive) (many : ManyJob) (w : ManyState) (left left' : Option (List ℕ)) (first now : At) : Type 0 where
   pub new : ManyState
   pub begun : IsOpened many new
   pub replayed : IsReplayed gives many new w left left' first now
 
 -- The bytes are several swaps, and the worlds have come to where their events lead.
-pub record IsManyPlayed (has : List ℕ → Bool) (gives : Gives) (bytes : List ℕ) (many : ManyJob) (finish : Finish) (w : ManyState) : Type 0 where
+pub record IsManyPlayed (has : List ℕ → Bool) (gives : MayGive) (bytes : List ℕ) (many : ManyJob) (finish : Finish) (w : ManyState) : Type 0 where
   pub lines : List (ℕ × List ℕ)
   pub events : List ManyEvent
   pub new : ManyState

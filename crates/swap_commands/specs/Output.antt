@@ -28,13 +28,10 @@ use Rattle.swap_run.specs.Asked.{Answers, with_answers}
 use Rattle.swap_run.specs.Run.{Cast, Question, State, run}
 use Rattle.swap_run.specs.Fair.{finish}
 use Rattle.swap_world.specs.Cast.{cast_of}
-use Rattle.swap_world.specs.Gone.{Gives}
+use Rattle.swap_world.specs.Gone.{MayGive}
 use Rattle.command_input.specs.Written.{Written}
-use Rattle.swap_commands.specs.declared.words.Command.{Command}
-use Rattle.swap_commands.specs.declared.words.Command.TheVariants.{OfJob, Audit, Clear, Many}
+use Rattle.swap_commands.specs.Words.{Command, OfJob, Audit, Clear, Many, JobCommand, Check, Run, Race, Make}
 use Rattle.swap_commands.specs.Many.{many_output}
-use Rattle.swap_commands.specs.declared.words.JobCommand.{JobCommand}
-use Rattle.swap_commands.specs.declared.words.JobCommand.TheVariants.{Check, Run, Race, Make}
 
 -- the text of a checked offer
 unfoldable pub check_text : Deal → List ℕ
@@ -77,7 +74,7 @@ abbrev pub book_of : Answers → Job → List Event → Histories
 book_of a job events = (state_of a job events).book
 
 -- each answer to these questions is one that its strategy may give
-abbrev pub AreGiven : Gives → Deal → Answers → List Question → Type 0
+abbrev pub AreGiven : MayGive → Deal → Answers → List Question → Type 0
 AreGiven gives d a asked = (i : ℕ) (q : Question) → i < length asked → q ≡ slice_index_or asked i q → gives q.strategy d q.party q.turn q.known (a i)
 
 -- what is told of a checked offer

@@ -13,7 +13,7 @@ use Rattle.swap_rules.specs.Laws.{FindsNothing, IsTransferred}
 use Rattle.swap_run.specs.Laws.{IsKept}
 use Rattle.swap_run.specs.Asked.{Answers}
 use Rattle.swap_world.specs.Cast.{cast_of}
-use Rattle.swap_world.specs.Gone.{Gives}
+use Rattle.swap_world.specs.Gone.{MayGive}
 use Rattle.outcome_rules.specs.declared.report.Report.{Report}
 use Rattle.outcome_rules.specs.Report.{conforms_in}
 use Rattle.outcome_rules.specs.Promises.{AllAreConforming, AllAreWhole, AllHaveRefunds, NoneIsUnderwater, shown_outcome}
@@ -36,13 +36,10 @@ use Rattle.many_lines.specs.declared.many_job.ManyJob.{ManyJob}
 use Rattle.many_text.specs.ManyText.{book_in, report_in}
 use Rattle.party_threads.specs.Race.{IsRaceBook}
 use Rattle.swap_commands.specs.Cleared.{IsClearing}
-use Rattle.swap_commands.specs.Many.{Headed, events_told, headed, many_state, many_written, opened, run_to}
+use Rattle.swap_commands.specs.Many.{Headed, events_told, headed, many_state, many_written, opened_places, run_to}
 use Rattle.swap_commands.specs.Output.{AreGiven, Chance, book_of, state_of, purpose_of, report_for, reported, told}
 use Rattle.made_jobs.specs.Making.{IsMade}
-use Rattle.swap_commands.specs.declared.words.Command.{Command}
-use Rattle.swap_commands.specs.declared.words.Command.TheVariants.{OfJob, Audit, Clear, Many}
-use Rattle.swap_commands.specs.declared.words.JobCommand.{JobCommand}
-use Rattle.swap_commands.specs.declared.words.JobCommand.TheVariants.{Check, Run, Race, Make}
+use Rattle.swap_commands.specs.Words.{Command, OfJob, Audit, Clear, Many, JobCommand, Check, Run, Race, Make}
 
 -- What a run and a race promise of their histories, where r is the report.
 pub record IsPromised (job : Job) (b : Histories) (r : Report) : Type 0 where
@@ -60,7 +57,7 @@ pub record IsPromised (job : Job) (b : Histories) (r : Report) : Type 0 where
   pub nothing : r.findings ≡ [] → FindsNothing job.deal (conforms_in job.conforming) b
 
 -- A run that wrote its output, the report or the transcript, where strategies answered a: its job and its events, as they were read, and what it promises.
-pub record IsRun (gives : Gives) (a : Answers) (transcript : Bool) (read : Result (Job × List Event) Reason) (output : Written) : Type 0 where
+pub record IsRun (gives : MayGive) (a : Answers) (transcript : Bool) (read : Result (Job × List Event) Reason) (output : Written) : Type 0 where
   pub job : Job
   pub events : List Event
   pub is_read : read ≡ Ok (job, events)
@@ -74,7 +71,7 @@ pub record IsRun (gives : Gives) (a : Answers) (transcript : Bool) (read : Resul
   pub fair : job.finish ≡ Fair → events ≡ [] → AllAreConforming job.deal job.conforming → (report_for job (book_of a job events)).findings ≡ []
 
 -- A race that wrote its output, the report or the transcript: its job, as it was read without an event, the book that it came to, and what it promises.
-pub record IsRace (gives : Gives) (b : Histories) (ticks : ℕ) (transcript : Bool) (read : Result (Job × List Event) Reason) (output : Written) : Type 0 where
+pub record IsRace (gives : MayGive) (b : Histories) (ticks : ℕ) (transcript : Bool) (read : Result (Job × List Event) Reason) (output : Written) : Type 0 where
   pub job : Job
   pub is_read : read ≡ Ok (job, [])
   -- the book is what a race of so many ticks a round makes, whatever the order of its threads
@@ -111,13 +108,13 @@ pub record AreManyPromised (many : ManyJob) (m : Setup) (r : ManyRun) (z : Kept)
 
 -- A run of several swaps that wrote its output, where the strategies of swap s answered g s: the swaps, their events and places, as they were read, and what
 -- they promise.
-pub record IsManyRun (has : List ℕ → Bool) (gives : Gives) (g : ℕ → Answers) (input : List ℕ) (output : Written) : Type 0 where
+pub record IsManyRun (has : List ℕ → Bool) (gives : MayGive) (g : ℕ → Answers) (input : List ℕ) (output : Written) : Type 0 where
   pub head : Headed
   pub events : List ManyEvent
   pub places : List (List Place)
   pub is_headed : headed has (filled_lines 1 (lines_of input)) ≡ Ok head
   pub are_told : events_told head.many 0 head.lines ≡ Ok events
-  pub are_placed : opened head.many ≡ Ok places
+  pub are_placed : opened_places head.many ≡ Ok places
   -- each answer is one that its strategy may give to what it was asked
   pub given : (s : ℕ) → AreGiven gives (job_at head.many.jobs s).deal (g s) ((many_state g head.many places head.finish events).swaps s).asked
   pub shown : output ≡ many_written head.many (many_state g head.many places head.finish events)
@@ -128,14 +125,14 @@ pub record IsManyRun (has : List ℕ → Bool) (gives : Gives) (g : ℕ → Answ
       → IsEnded (job_at head.many.jobs s).deal (book_in (many_state g head.many places head.finish events) s)
 
 -- what the output of a command promises, by what was read of a job
-abbrev pub AsRead : Gives → Chance → JobCommand → Result (Job × List Event) Reason → Written → Type 0
+abbrev pub AsRead : MayGive → Chance → JobCommand → Result (Job × List Event) Reason → Written → Type 0
 AsRead gives chance (Run transcript) read output = IsRun gives chance.answers transcript read output
 AsRead gives chance (Race ticks transcript) read output = IsRace gives chance.book ticks transcript read output
 AsRead gives chance Check read output = IsCheck read output
 AsRead gives chance Make read output = IsMaking read output
 
 -- what the output of a command promises for an input, where chance decided so
-abbrev pub AsPromised : (List ℕ → Bool) → Gives → Chance → Command → List ℕ → Written → Type 0
+abbrev pub AsPromised : (List ℕ → Bool) → MayGive → Chance → Command → List ℕ → Written → Type 0
 AsPromised has gives chance (OfJob command) input output = AsRead gives chance command (job_of has (purpose_of command) input) output
 AsPromised has gives chance Audit input output = IsAudit input output
 AsPromised has gives chance Clear input output = IsClearing input output

@@ -7,20 +7,19 @@ use Rattle.swap_job.specs.declared.job.Purpose.{Purpose}
 use Rattle.swap_job.specs.declared.job.Purpose.TheVariants as purposes
 use Rattle.refusals.specs.declared.reason.Reason.{Reason}
 use Rattle.refusals.specs.declared.reason.Reason.TheVariants.{NotJson}
-use Rattle.swap_offer.specs.Job.{events_of, next_of, job_header_of}
+use Rattle.swap_offer.specs.Job.{events_of, limited_event, job_header_of}
 use Rattle.command_input.specs.Lines.{lines_of, filled_lines}
 use Rattle.swap_run.specs.Asked.{Answers}
 use Rattle.swap_run.specs.Run.{State, step, start}
 use Rattle.ledger_core.specs.Book.{Histories}
-use Rattle.swap_world.specs.Gone.{Gives}
+use Rattle.swap_world.specs.Gone.{MayGive}
 use Rattle.swap_world.specs.Cast.{cast_of}
 use Rattle.swap_world.specs.Value.{Continues, WorldState}
 use Rattle.swap_gen.specs.Made.{made}
 use Rattle.made_jobs.specs.Making.{copied, written_line}
 use Rattle.swap_commands.specs.Output.{AreGiven, Chance, cast_by, finished, plain_text, reported, told}
 use Rattle.command_input.specs.Written.{Written}
-use Rattle.swap_commands.specs.declared.words.JobCommand.{JobCommand}
-use Rattle.swap_commands.specs.declared.words.JobCommand.TheVariants.{Check, Run, Race, Make}
+use Rattle.swap_commands.specs.Words.{JobCommand, Check, Run, Race, Make}
 
 -- what f makes of x along the events of lines, where so many came before
 unfoldable pub replayed : {A : Type 0} → (A → Event → A) → Job → ℕ → A → List (ℕ × List ℕ) → Result A Reason
@@ -28,17 +27,10 @@ replayed f job count x lines = events_of job count lines >>= λ events. Ok (fold
 
 -- what f makes of x by the event of a line
 unfoldable pub next_by : {A : Type 0} → (A → Event → A) → Job → ℕ → A → ℕ → List ℕ → Result A Reason
-next_by f job count x line text = next_of job count line text >>= λ e. Ok (f x e)
-
--- The world is of the job: of its deal, with its parties, their seeds and their roles.
-pub record IsOf (job : Job) (w : WorldState) : Type 0 where
-  pub deal : w.deal ≡ job.deal
-  pub conforming : w.conforming ≡ job.conforming
-  pub seeds : w.seeds ≡ job.seeds
-  pub roles : w.roles ≡ job.roles
+next_by f job count x line text = limited_event job count line text >>= λ e. Ok (f x e)
 
 -- The world w was finished with these histories, where strategies answered so, with each answer one that may be given.
-pub record IsConcluded (gives : Gives) (job : Job) (w : WorldState) (b : Histories) : Type 0 where
+pub record IsConcluded (gives : MayGive) (job : Job) (w : WorldState) (b : Histories) : Type 0 where
   pub answers : Answers
   pub continues : Continues w answers
   pub given : AreGiven gives job.deal answers (finished job.finish (cast_by answers job) w.state).asked

@@ -5,14 +5,16 @@ use Rattle.swap_io.specs.Causes.{Rose, ConsumesAtMost, ConsumesSome, AppendsProp
 use Rattle.swap_io.specs.Handed.{AppendsPrefix}
 use Rattle.refusals.specs.declared.reason.Reason.{Reason}
 use Rattle.refusals.specs.declared.refusal.Refusal.{Refusal}
-use Rattle.command_input.specs.Written.{IsWhole, Written}
+use Rattle.command_input.specs.Written.{IsWrittenWhole, Written}
 use Rattle.command_input.specs.Input.{limit}
-use Rattle.swap_world.specs.Gone.{Gives}
+use Rattle.swap_world.specs.Gone.{MayGive}
 use Rattle.swap_commands.specs.Output.{Chance, output_by, output_of, no_chance, names_of}
 use Rattle.swap_commands.specs.Promised.{AsPromised}
-use Rattle.swap_commands.specs.declared.words.Command.{Command}
+use Rattle.swap_commands.specs.Words.{Command}
+use Rattle.swap_commands.specs.Strategies.{Strategies}
 use Rattle.command_input.specs.declared.status.Status.{Status}
 use Rattle.command_input.specs.declared.status.Status.TheVariants.{Done, Named, WrongWords, Refused, ReadFault, WriteFault, NoMemory, TooLong}
+use Rattle.command_input.specs.Streams.{HasReadFault, HasWriteFault, Streams}
 
 -- The whole input was read, and this is the command's output for it, where chance decides so.
 pub record HasRead (has : List ℕ → Bool) (chance : Chance) (command : Command) (left left' : Option (List ℕ)) (output : Result Written Reason) : Type 0 where
@@ -23,7 +25,7 @@ pub record HasRead (has : List ℕ → Bool) (chance : Chance) (command : Comman
   pub gives : output_by has chance command input ≡ output
 
 -- The input was read and has an output by what chance decided, which is promised, and P tells what was written of its text.
-pub record HasOutput (has : List ℕ → Bool) (gives : Gives) (P : Written → Type 0) (command : Command) (left left' : Option (List ℕ)) : Type 0 where
+pub record HasOutput (has : List ℕ → Bool) (gives : MayGive) (P : Written → Type 0) (command : Command) (left left' : Option (List ℕ)) : Type 0 where
   pub chance : Chance
   pub output : Written
   pub read : HasRead has chance command left left' (Ok output)
@@ -50,15 +52,19 @@ Unread has command left left' n m Named = ⊥
 Unread has command left left' n m WrongWords = ⊥
 Unread has command left left' n m WriteFault = ⊥
 
--- what a status says
-abbrev pub Says : (List ℕ → Bool) → Gives → Command → Option (List ℕ) → Option (List ℕ) → ℕ → ℕ → Option (List ℕ) → Option (List ℕ) → ℕ → ℕ → Status → Type 0
-Says has gives command left left' n m taken taken' p q Done = HasOutput has gives (IsWhole taken taken' false) command left left'
-Says has gives command left left' n m taken taken' p q Named = HasOutput has gives (IsWhole taken taken' true) command left left'
-Says has gives command left left' n m taken taken' p q WrongWords = ⊥
-Says has gives command left left' n m taken taken' p q (Refused reason names) = HasReason has command left left' reason names × Keeps taken taken'
-Says has gives command left left' n m taken taken' p q ReadFault = Rose n m × Keeps taken taken' × ConsumesAtMost left left' limit
-Says has gives command left left' n m taken taken' p q WriteFault =
-    Rose p q × HasOutput has gives (λ output. AppendsProperPrefix taken taken' output.text) command left left'
-Says has gives command left left' n m taken taken' p q NoMemory =
-    (Keeps taken taken' × ConsumesAtMost left left' limit) ⊎ HasOutput has gives (λ output. AppendsPrefix taken taken' output.text) command left left'
-Says has gives command left left' n m taken taken' p q TooLong = ConsumesSome left left' (limit + 1) × Keeps taken taken'
+-- what a status says, by the source and the sink before and after
+abbrev pub Says : Strategies → Command → Streams → Streams → Status → Type 0
+Says who command before after Done = HasOutput who.holds who.gives (IsWrittenWhole before.taken after.taken false) command before.left after.left
+Says who command before after Named = HasOutput who.holds who.gives (IsWrittenWhole before.taken after.taken true) command before.left after.left
+Says who command before after WrongWords = ⊥
+Says who command before after (Refused reason names) =
+    HasReason who.holds command before.left after.left reason names × Keeps before.taken after.taken
+Says who command before after ReadFault =
+    HasReadFault before after × Keeps before.taken after.taken × ConsumesAtMost before.left after.left limit
+Says who command before after WriteFault =
+    HasWriteFault before after
+    × HasOutput who.holds who.gives (λ output. AppendsProperPrefix before.taken after.taken output.text) command before.left after.left
+Says who command before after NoMemory =
+    (Keeps before.taken after.taken × ConsumesAtMost before.left after.left limit)
+    ⊎ HasOutput who.holds who.gives (λ output. AppendsPrefix before.taken after.taken output.text) command before.left after.left
+Says who command before after TooLong = ConsumesSome before.left after.left (limit + 1) × Keeps before.taken after.taken

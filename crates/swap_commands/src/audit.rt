@@ -2,9 +2,11 @@
 
 ghost use Rattle.std.specs.Prelude.{◌≡◌};
 ghost use Rattle.offer_header.specs.Names.{has_strategy};
+ghost use Rattle.command_input.specs.Streams.{streams};
 ghost use Rattle.swap_commands.specs.Says.{Says};
+ghost use Rattle.swap_commands.specs.Words.{Audit};
+ghost use Rattle.swap_commands.specs.Strategies.{strategies};
 
-use crate::words::Command;
 use audit_command::audit_transcript;
 use command_input::Status;
 use deviators::{Kit, Strategies};
@@ -18,9 +20,9 @@ pub(crate) fn audit<S: Source, K: Sink>(
     source: &mut S,
     sink: &mut K,
 ) -> Status
-    ensures says { Says (has_strategy _kit.now.names _kit.now.strategies.items) (⟦<Kit as Strategies>⟧.gives _kit.now) Command.Audit (S.left source.old)
-        (S.left source.new) (S.faults source.old) (S.faults source.new) (K.taken sink.old) (K.taken sink.new)
-        (K.faults sink.old) (K.faults sink.new) result }
+    ensures says { Says (strategies (has_strategy _kit.now.names _kit.now.strategies.items) (⟦<Kit as Strategies>⟧.gives _kit.now)) Audit
+        (streams (S.left source.old) (S.faults source.old) (K.taken sink.old) (K.faults sink.old))
+        (streams (S.left source.new) (S.faults source.new) (K.taken sink.new) (K.faults sink.new)) result }
     ensures calm { ¬ (result ≡ Status.ReadFault) → S.faults source.new ≡ S.faults source.old }
 {
     audit_transcript(alloc, source, sink)

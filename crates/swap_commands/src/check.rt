@@ -7,14 +7,16 @@ ghost use Rattle.swap_offer.specs.Checks.{need_of};
 ghost use Rattle.offer_header.specs.Names.{has_strategy};
 ghost use Rattle.command_input.specs.Input.{Ends, Stops, fresh};
 ghost use Rattle.command_input.specs.Written.{Writes};
+ghost use Rattle.command_input.specs.Streams.{streams};
 ghost use Rattle.swap_commands.specs.Output.{check_text, told};
 ghost use Rattle.swap_commands.specs.Replay.{IsChecked};
 ghost use Rattle.swap_commands.specs.Says.{IsAgainst, Says};
+ghost use Rattle.swap_commands.specs.Words.{Check, OfJob};
+ghost use Rattle.swap_commands.specs.Strategies.{strategies};
 
 use crate::header::first_line;
 use crate::replay::pass_over;
 use crate::stop::stop;
-use crate::words::{Command, JobCommand};
 use command_input::{Input, InputFault, Status};
 use deviators::{Kit, Strategies};
 use refusals::Refusal;
@@ -22,7 +24,7 @@ use std::alloc::Global;
 use swap_base::{ByteText, NoMemory, Piece, put};
 use swap_digraph::Deal;
 use swap_io::{Sink, Source, write_all};
-use swap_job::Job;
+use swap_job::{Job, Purpose};
 use swap_offer::Prepared;
 use time_bounds::{horizon, last_expiry, open_by};
 
@@ -64,13 +66,13 @@ fn examine<S: Source>(
     ensures accepted { IfOk result (λ j. IsAccepted j.0.deal) }
     ensures sized { IfOk result (λ j. IsWellSized j.0.deal) }
     ensures need { IfOk result (λ j. j.1 ≡ need_of j.0.deal) }
-    ensures stops { IfErr result (λ e. Stops (IsAgainst (has_strategy kit.now.names kit.now.strategies.items) (Command.OfJob JobCommand.Check))
+    ensures stops { IfErr result (λ e. Stops (IsAgainst (has_strategy kit.now.names kit.now.strategies.items) (OfJob Check))
         (S.left source.old) (S.left source.new) (S.faults source.old)
         (S.faults source.new) fresh input.new e) }
     ensures later { S.faults source.old ≤ S.faults source.new }
     ensures calm { ¬ IsErrOf result InputFault.ReadFault → S.faults source.new ≡ S.faults source.old }
 {
-    let Prepared { job, need, .. } = first_line(alloc, kit, JobCommand::Check, input, source)?;
+    let Prepared { job, need, .. } = first_line(alloc, kit, Purpose::Check, input, source)?;
     match pass_over(alloc, &job, input, source) {
         Ok(()) => Ok((job, need)),
         Err(fault) => Err(fault.with_names(job.names)),
@@ -92,8 +94,8 @@ fn tell<K: Sink>(alloc: Global, sink: &mut K, job: &Job, need: u32) -> Status
     }
 }
 
-/// Checks an offer.
-pub(crate) fn check<S: Source, K: Sink>(
+/// Checks the offer of an input that wasn't read yet.
+fn check_input<S: Source, K: Sink>(
     alloc: Global,
     kit: &Kit,
     input: &mut Input,
@@ -101,13 +103,31 @@ pub(crate) fn check<S: Source, K: Sink>(
     sink: &mut K,
 ) -> Status
     requires { input.old ≡ fresh }
-    ensures says { Says (has_strategy kit.now.names kit.now.strategies.items) (⟦<Kit as Strategies>⟧.gives kit.now) (Command.OfJob JobCommand.Check)
-        (S.left source.old) (S.left source.new) (S.faults source.old) (S.faults source.new)
-        (K.taken sink.old) (K.taken sink.new) (K.faults sink.old) (K.faults sink.new) result }
+    ensures says { Says (strategies (has_strategy kit.now.names kit.now.strategies.items) (⟦<Kit as Strategies>⟧.gives kit.now)) (OfJob Check)
+        (streams (S.left source.old) (S.faults source.old) (K.taken sink.old) (K.faults sink.old))
+        (streams (S.left source.new) (S.faults source.new) (K.taken sink.new) (K.faults sink.new)) result }
     ensures calm { ¬ (result ≡ Status.ReadFault) → S.faults source.new ≡ S.faults source.old }
 {
     match examine(alloc, kit, input, source) {
         Ok((job, need)) => tell(alloc, sink, &job, need),
         Err(fault) => stop(input, source, fault),
+    }
+}
+
+/// Checks an offer.
+pub(crate) fn check<S: Source, K: Sink>(
+    alloc: Global,
+    kit: &Kit,
+    source: &mut S,
+    sink: &mut K,
+) -> Status
+    ensures says { Says (strategies (has_strategy kit.now.names kit.now.strategies.items) (⟦<Kit as Strategies>⟧.gives kit.now)) (OfJob Check)
+        (streams (S.left source.old) (S.faults source.old) (K.taken sink.old) (K.faults sink.old))
+        (streams (S.left source.new) (S.faults source.new) (K.taken sink.new) (K.faults sink.new)) result }
+    ensures calm { ¬ (result ≡ Status.ReadFault) → S.faults source.new ≡ S.faults source.old }
+{
+    match Input::new(alloc) {
+        Ok(mut input) => check_input(alloc, kit, &mut input, source, sink),
+        Err(_) => Status::NoMemory,
     }
 }

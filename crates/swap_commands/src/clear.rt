@@ -5,11 +5,13 @@ ghost use Rattle.clear_line.specs.ClearedText.{IsClearedLine};
 ghost use Rattle.offer_header.specs.Names.{has_strategy};
 ghost use Rattle.swap_commands.specs.Cleared.{IsCleared, IsFurther};
 ghost use Rattle.command_input.specs.Input.{Ends, EndsAt, IsLast, IsLine, Stops, fresh, limit};
+ghost use Rattle.command_input.specs.Streams.{streams};
 ghost use Rattle.swap_commands.specs.Says.{IsAgainst, Says};
+ghost use Rattle.swap_commands.specs.Words.{Clear};
+ghost use Rattle.swap_commands.specs.Strategies.{strategies};
 
 use crate::make::tell;
 use crate::stop::stop;
-use crate::words::Command;
 use clear_line::cleared_line;
 use command_input::{Input, InputFault, Status, no_line};
 use deviators::{Kit, Strategies};
@@ -29,7 +31,7 @@ fn first_wishes<S: Source>(
     ensures within { OnOk result (input.new.reading.taken ≤ limit) }
     ensures ended { OnOk result (EndsAt (S.left source.new) input.new) }
     ensures cleared { IfOk result (λ t. IsClearedLine input.new.number input.new.text t.items) }
-    ensures stops { (has : List ℕ → Bool) → IfErr result (λ e. Stops (IsAgainst has Command.Clear) (S.left source.old) (S.left source.new)
+    ensures stops { (has : List ℕ → Bool) → IfErr result (λ e. Stops (IsAgainst has Clear) (S.left source.old) (S.left source.new)
         (S.faults source.old) (S.faults source.new) fresh input.new e) }
     ensures later { S.faults source.old ≤ S.faults source.new }
     ensures calm { ¬ IsErrOf result InputFault.ReadFault → S.faults source.new ≡ S.faults source.old }
@@ -75,7 +77,7 @@ fn read_wishes<S: Source>(
 ) -> Result<Vec<u8>, InputFault<Refusal>>
     requires { input.old ≡ fresh }
     ensures cleared { IfOk result (λ t. Ends (λ bytes. IsCleared bytes t.items) (S.left source.old) (S.left source.new) fresh input.new) }
-    ensures stops { (has : List ℕ → Bool) → IfErr result (λ e. Stops (IsAgainst has Command.Clear) (S.left source.old) (S.left source.new)
+    ensures stops { (has : List ℕ → Bool) → IfErr result (λ e. Stops (IsAgainst has Clear) (S.left source.old) (S.left source.new)
         (S.faults source.old) (S.faults source.new) fresh input.new e) }
     ensures later { S.faults source.old ≤ S.faults source.new }
     ensures calm { ¬ IsErrOf result InputFault.ReadFault → S.faults source.new ≡ S.faults source.old }
@@ -96,9 +98,9 @@ fn clear_input<S: Source, K: Sink>(
     sink: &mut K,
 ) -> Status
     requires { input.old ≡ fresh }
-    ensures says { Says (has_strategy _kit.now.names _kit.now.strategies.items) (⟦<Kit as Strategies>⟧.gives _kit.now) Command.Clear (S.left source.old)
-        (S.left source.new) (S.faults source.old) (S.faults source.new) (K.taken sink.old) (K.taken sink.new)
-        (K.faults sink.old) (K.faults sink.new) result }
+    ensures says { Says (strategies (has_strategy _kit.now.names _kit.now.strategies.items) (⟦<Kit as Strategies>⟧.gives _kit.now)) Clear
+        (streams (S.left source.old) (S.faults source.old) (K.taken sink.old) (K.faults sink.old))
+        (streams (S.left source.new) (S.faults source.new) (K.taken sink.new) (K.faults sink.new)) result }
     ensures calm { ¬ (result ≡ Status.ReadFault) → S.faults source.new ≡ S.faults source.old }
 {
     match read_wishes(alloc, input, source) {
@@ -114,9 +116,9 @@ pub(crate) fn clear<S: Source, K: Sink>(
     source: &mut S,
     sink: &mut K,
 ) -> Status
-    ensures says { Says (has_strategy _kit.now.names _kit.now.strategies.items) (⟦<Kit as Strategies>⟧.gives _kit.now) Command.Clear (S.left source.old)
-        (S.left source.new) (S.faults source.old) (S.faults source.new) (K.taken sink.old) (K.taken sink.new)
-        (K.faults sink.old) (K.faults sink.new) result }
+    ensures says { Says (strategies (has_strategy _kit.now.names _kit.now.strategies.items) (⟦<Kit as Strategies>⟧.gives _kit.now)) Clear
+        (streams (S.left source.old) (S.faults source.old) (K.taken sink.old) (K.faults sink.old))
+        (streams (S.left source.new) (S.faults source.new) (K.taken sink.new) (K.faults sink.new)) result }
     ensures calm { ¬ (result ≡ Status.ReadFault) → S.faults source.new ≡ S.faults source.old }
 {
     match Input::new(alloc) {

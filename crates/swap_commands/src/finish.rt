@@ -9,8 +9,8 @@ ghost use Rattle.swap_world.specs.Gone.{HasGone};
 ghost use Rattle.swap_world.specs.Actors.{AreHeld};
 ghost use Rattle.outcome_rules.specs.Report.{conforms_in};
 ghost use Rattle.outcome_rules.specs.Promises.{AllAreConforming};
+ghost use Rattle.made_jobs.specs.Generating.{IsOf};
 ghost use Rattle.swap_commands.specs.Output.{finished};
-ghost use Rattle.swap_commands.specs.Replay.{IsOf};
 
 use deviators::Strategies;
 use swap_base::NoMemory;

@@ -7,9 +7,9 @@ ghost use Rattle.swap_commands.specs.Generated.{IsMadeFor, IsSummary, summary_ou
 ghost use Rattle.swap_gen.specs.Drawn.{generated};
 ghost use Rattle.made_jobs.specs.Generating.{generated_book};
 
-use crate::words::Request;
 use command_input::Status;
 use made_jobs::{Summary, summarize, write_generated};
+use program_words::Request;
 use std::alloc::Global;
 use swap_io::{Sink, TextFault, write_all};
 

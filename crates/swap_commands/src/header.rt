@@ -4,25 +4,26 @@ ghost use Rattle.std.specs.Prelude.{◌≡◌, ◌≤◌, Ok, IfOk, IfErr, OnOk,
 ghost use Rattle.offer_header.specs.Limits.{HoldsEach};
 ghost use Rattle.offer_header.specs.Names.{AreNames, has_strategy};
 ghost use Rattle.swap_offer.specs.Checks.{need_of, IsAcceptedFor};
-ghost use Rattle.swap_offer.specs.Job.{IsWhole, job_header_of, names_at};
+ghost use Rattle.swap_offer.specs.Job.{IsWholeJob, job_header_of, names_at};
 ghost use Rattle.swap_offer.specs.Wallets.{HaveScriptsFor, HaveSeedsFor, HaveWalletsFor, wallets_for};
 ghost use Rattle.command_input.specs.Input.{EndsAt, IsLine, Stops, fresh, limit};
 ghost use Rattle.swap_commands.specs.Output.{purpose_of};
 ghost use Rattle.swap_commands.specs.Says.{IsAgainst};
+ghost use Rattle.swap_commands.specs.Words.{JobCommand, OfJob};
 
-use crate::words::{Command, JobCommand, purpose_of};
 use command_input::{Input, InputFault, no_line};
 use deviators::Kit;
 use refusals::Refusal;
 use std::alloc::Global;
 use swap_io::Source;
+use swap_job::Purpose;
 use swap_offer::{Prepared, read_header};
 
-/// The job of an input's header with the wallets that the command needs, or what is said against it.
+/// The job of an input's header, read for the purpose, with the wallets that this needs, or what is said against it.
 pub(crate) fn first_line<S: Source>(
     alloc: Global,
     kit: &Kit,
-    command: JobCommand,
+    purpose: Purpose,
     input: &mut Input,
     source: &mut S,
 ) -> Result<Prepared, InputFault<Refusal>>
@@ -30,23 +31,24 @@ pub(crate) fn first_line<S: Source>(
     ensures line { OnOk result (IsLine (S.left source.old) (S.left source.new) fresh input.new) }
     ensures within { OnOk result (input.new.reading.taken ≤ limit) }
     ensures ended { OnOk result (EndsAt (S.left source.new) input.new) }
-    ensures header { IfOk result (λ p. job_header_of (has_strategy kit.now.names kit.now.strategies.items) (purpose_of command) input.new.number
+    ensures header { IfOk result (λ p. job_header_of (has_strategy kit.now.names kit.now.strategies.items) purpose input.new.number
         input.new.text ≡ Ok p.job) }
-    ensures names { IfOk result (λ p. p.job.names ≡ names_at (has_strategy kit.now.names kit.now.strategies.items) (purpose_of command) input.new.number
+    ensures names { IfOk result (λ p. p.job.names ≡ names_at (has_strategy kit.now.names kit.now.strategies.items) purpose input.new.number
         input.new.text) }
-    ensures whole { IfOk result (λ p. IsWhole p.job) }
+    ensures whole { IfOk result (λ p. IsWholeJob p.job) }
     ensures known { IfOk result (λ p. AreNames p.job.names) }
-    ensures purpose { IfOk result (λ p. p.job.purpose ≡ purpose_of command) }
-    ensures accepted { IfOk result (λ p. IsAcceptedFor (purpose_of command) p.job.deal) }
-    ensures seeds { IfOk result (λ p. HaveSeedsFor (purpose_of command) p.job) }
-    ensures wallets { IfOk result (λ p. HaveWalletsFor (purpose_of command) p.job) }
+    ensures purpose { IfOk result (λ p. p.job.purpose ≡ purpose) }
+    ensures accepted { IfOk result (λ p. IsAcceptedFor purpose p.job.deal) }
+    ensures seeds { IfOk result (λ p. HaveSeedsFor purpose p.job) }
+    ensures wallets { IfOk result (λ p. HaveWalletsFor purpose p.job) }
     ensures strategies { IfOk result (λ p. HoldsEach (has_strategy kit.now.names kit.now.strategies.items) p.job.roles) }
-    ensures scripts { IfOk result (λ p. HaveScriptsFor (purpose_of command) p.job) }
-    ensures made { IfOk result (λ p. p.wallets.items ≡ wallets_for (purpose_of command) p.job) }
+    ensures scripts { IfOk result (λ p. HaveScriptsFor purpose p.job) }
+    ensures made { IfOk result (λ p. p.wallets.items ≡ wallets_for purpose p.job) }
     ensures need { IfOk result (λ p. p.need ≡ need_of p.job.deal) }
-    ensures stops { IfErr result (λ e. Stops (IsAgainst (has_strategy kit.now.names kit.now.strategies.items) (Command.OfJob command))
-        (S.left source.old) (S.left source.new) (S.faults source.old)
-        (S.faults source.new) fresh input.new e) }
+    // Whatever command of that purpose.
+    ensures stops { (command : JobCommand) → purpose ≡ purpose_of command
+        → IfErr result (λ e. Stops (IsAgainst (has_strategy kit.now.names kit.now.strategies.items) (OfJob command)) (S.left source.old)
+        (S.left source.new) (S.faults source.old) (S.faults source.new) fresh input.new e) }
     ensures later { S.faults source.old ≤ S.faults source.new }
     ensures calm { ¬ IsErrOf result InputFault.ReadFault → S.faults source.new ≡ S.faults source.old }
 {
@@ -54,6 +56,6 @@ pub(crate) fn first_line<S: Source>(
         return Err(no_line(alloc));
     }
     let number = input.number();
-    let prepared = read_header(alloc, number, input.text(), purpose_of(command), kit)?;
+    let prepared = read_header(alloc, number, input.text(), purpose, kit)?;
     Ok(prepared)
 }

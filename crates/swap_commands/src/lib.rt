@@ -18,9 +18,7 @@ mod replay;
 mod run;
 mod staff;
 mod stop;
-mod words;
 
 pub use generating::generate;
 pub use racing::race;
-pub use staff::{Obeyed, Staff};
-pub use words::{Command, JobCommand, Request, Task, race_in, task_of};
+pub use staff::Staff;

@@ -5,20 +5,22 @@ ghost use Rattle.made_jobs.specs.Making.{copied, IsMade};
 ghost use Rattle.offer_header.specs.Names.{has_strategy};
 ghost use Rattle.command_input.specs.Input.{Ends, EndsAt, Stops, ahead, fresh};
 ghost use Rattle.command_input.specs.Written.{Writes};
+ghost use Rattle.command_input.specs.Streams.{streams};
 ghost use Rattle.swap_commands.specs.Output.{plain_text};
 ghost use Rattle.swap_commands.specs.Replay.{IsCopied};
 ghost use Rattle.swap_commands.specs.Says.{IsAgainst, Says};
+ghost use Rattle.swap_commands.specs.Words.{Make, OfJob};
+ghost use Rattle.swap_commands.specs.Strategies.{strategies};
 
 use crate::header::first_line;
 use crate::stop::stop;
-use crate::words::{Command, JobCommand};
 use command_input::{Input, InputFault, Status};
 use deviators::{Kit, Strategies};
 use made_jobs::{copy_line, made_line};
 use refusals::{Reason, Refusal};
 use std::alloc::Global;
 use swap_io::{Sink, Source, write_all};
-use swap_job::Job;
+use swap_job::{Job, Purpose};
 use swap_offer::Prepared;
 
 /// Puts the lines ahead behind a text, each with a line feed.
@@ -54,13 +56,13 @@ fn copy<S: Source>(
     ensures copied { IfOk result (λ c. Ends (λ bytes. IsCopied (has_strategy kit.now.names kit.now.strategies.items) bytes c.0 c.1.items)
         (S.left source.old) (S.left source.new) fresh input.new) }
     ensures made { IfOk result (λ c. IsMade c.0) }
-    ensures stops { IfErr result (λ e. Stops (IsAgainst (has_strategy kit.now.names kit.now.strategies.items) (Command.OfJob JobCommand.Make))
+    ensures stops { IfErr result (λ e. Stops (IsAgainst (has_strategy kit.now.names kit.now.strategies.items) (OfJob Make))
         (S.left source.old) (S.left source.new) (S.faults source.old)
         (S.faults source.new) fresh input.new e) }
     ensures later { S.faults source.old ≤ S.faults source.new }
     ensures calm { ¬ IsErrOf result InputFault.ReadFault → S.faults source.new ≡ S.faults source.old }
 {
-    let Prepared { job, .. } = first_line(alloc, kit, JobCommand::Make, input, source)?;
+    let Prepared { job, .. } = first_line(alloc, kit, Purpose::Make, input, source)?;
     let mut text = made_line(alloc, &job)?;
     match copy_lines(alloc, &mut text, input, source) {
         Ok(()) => Ok((job, text)),
@@ -78,8 +80,8 @@ pub(crate) fn tell<K: Sink>(sink: &mut K, text: &[u8]) -> Status
     }
 }
 
-/// Makes a job.
-pub(crate) fn make<S: Source, K: Sink>(
+/// Makes the job of an input that wasn't read yet.
+fn make_input<S: Source, K: Sink>(
     alloc: Global,
     kit: &Kit,
     input: &mut Input,
@@ -87,13 +89,31 @@ pub(crate) fn make<S: Source, K: Sink>(
     sink: &mut K,
 ) -> Status
     requires { input.old ≡ fresh }
-    ensures says { Says (has_strategy kit.now.names kit.now.strategies.items) (⟦<Kit as Strategies>⟧.gives kit.now) (Command.OfJob JobCommand.Make)
-        (S.left source.old) (S.left source.new) (S.faults source.old) (S.faults source.new)
-        (K.taken sink.old) (K.taken sink.new) (K.faults sink.old) (K.faults sink.new) result }
+    ensures says { Says (strategies (has_strategy kit.now.names kit.now.strategies.items) (⟦<Kit as Strategies>⟧.gives kit.now)) (OfJob Make)
+        (streams (S.left source.old) (S.faults source.old) (K.taken sink.old) (K.faults sink.old))
+        (streams (S.left source.new) (S.faults source.new) (K.taken sink.new) (K.faults sink.new)) result }
     ensures calm { ¬ (result ≡ Status.ReadFault) → S.faults source.new ≡ S.faults source.old }
 {
     match copy(alloc, kit, input, source) {
         Ok((_, text)) => tell(sink, &text),
         Err(fault) => stop(input, source, fault),
+    }
+}
+
+/// Makes a job.
+pub(crate) fn make<S: Source, K: Sink>(
+    alloc: Global,
+    kit: &Kit,
+    source: &mut S,
+    sink: &mut K,
+) -> Status
+    ensures says { Says (strategies (has_strategy kit.now.names kit.now.strategies.items) (⟦<Kit as Strategies>⟧.gives kit.now)) (OfJob Make)
+        (streams (S.left source.old) (S.faults source.old) (K.taken sink.old) (K.faults sink.old))
+        (streams (S.left source.new) (S.faults source.new) (K.taken sink.new) (K.faults sink.new)) result }
+    ensures calm { ¬ (result ≡ Status.ReadFault) → S.faults source.new ≡ S.faults source.old }
+{
+    match Input::new(alloc) {
+        Ok(mut input) => make_input(alloc, kit, &mut input, source, sink),
+        Err(_) => Status::NoMemory,
     }
 }

@@ -12,14 +12,16 @@ ghost use Rattle.many_lines.specs.Whole.{AreChains, AreSwaps, HoldsEverySwap};
 ghost use Rattle.many_text.specs.Shown.{AreChainsShown, AreShown};
 ghost use Rattle.command_input.specs.Input.{Ends, EndsAt, Stops, Tells, ahead, fresh, limit};
 ghost use Rattle.command_input.specs.Written.{Writes};
-ghost use Rattle.swap_commands.specs.Many.{ended_by, events_told, headed, many_written, opened};
+ghost use Rattle.command_input.specs.Streams.{streams};
+ghost use Rattle.swap_commands.specs.Many.{ended_by, events_told, headed, many_written, opened_places};
 ghost use Rattle.swap_commands.specs.ManyRead.{AreRun, AreWorldsOf, HasStepped, IsHeading, IsLack, IsManyPlayed, IsOpened, IsReplayed};
 ghost use Rattle.swap_commands.specs.ManyRead.{TellEvents, opened_after};
 ghost use Rattle.swap_commands.specs.Says.{IsAgainst, Says};
+ghost use Rattle.swap_commands.specs.Words.{Many};
+ghost use Rattle.swap_commands.specs.Strategies.{strategies};
 
 use crate::replay::new_world;
 use crate::stop::stop;
-use crate::words::Command;
 use command_input::{Input, InputFault, Status};
 use deviators::{Kit, Strategies};
 use many_lines::{Heading, ManyJob, next_many, places_of};
@@ -133,7 +135,7 @@ fn open(
     requires swaps { AreSwaps many.now }
     requires made { map (λ v. v.items) wallets.items ≡ map (wallets_for Purpose.Run) many.now.jobs }
     ensures opened { IfOk result (IsOpened many.now) }
-    ensures refused { IfErr result (λ e. Fails e (opened many.now)) }
+    ensures refused { IfErr result (λ e. Fails e (opened_places many.now)) }
 {
     let places = places_of(alloc, many)?;
     let worlds = new_worlds(alloc, many, wallets)?;
@@ -228,7 +230,7 @@ fn refuse<S: Source>(
 ) -> InputFault<Refusal>
     requires chains { AreChains many.now }
     requires swaps { AreSwaps many.now }
-    requires refused { opened many.now ≡ Err refusal }
+    requires refused { opened_places many.now ≡ Err refusal }
     requires ended { EndsAt (S.left source.old) input.old }
     ensures stops { Stops (λ bytes r. opened_after many.now (ahead input.old bytes) ≡ Err r) (S.left source.old) (S.left source.new)
         (S.faults source.old) (S.faults source.new) input.old input.new result }
@@ -286,7 +288,7 @@ fn play<S: Source>(
     ensures chains { IfOk result (λ p. AreChains p.many) }
     ensures swaps { IfOk result (λ p. AreSwaps p.many) }
     ensures held { IfOk result (λ p. AreAllHeld (⟦<Kit as Strategies>⟧.holds kit.now) p.world) }
-    ensures stops { IfErr result (λ e. Stops (IsAgainst (has_strategy kit.now.names kit.now.strategies.items) Command.Many) (S.left source.old)
+    ensures stops { IfErr result (λ e. Stops (IsAgainst (has_strategy kit.now.names kit.now.strategies.items) Many) (S.left source.old)
         (S.left source.new) (S.faults source.old) (S.faults source.new) fresh input.new e) }
     ensures later { S.faults source.old ≤ S.faults source.new }
     ensures calm { ¬ IsErrOf result InputFault.ReadFault → S.faults source.new ≡ S.faults source.old }
@@ -351,9 +353,9 @@ fn many_input<S: Source, K: Sink>(
     sink: &mut K,
 ) -> Status
     requires { input.old ≡ fresh }
-    ensures says { Says (has_strategy kit.now.names kit.now.strategies.items) (⟦<Kit as Strategies>⟧.gives kit.now) Command.Many (S.left source.old)
-        (S.left source.new) (S.faults source.old) (S.faults source.new) (K.taken sink.old) (K.taken sink.new)
-        (K.faults sink.old) (K.faults sink.new) result }
+    ensures says { Says (strategies (has_strategy kit.now.names kit.now.strategies.items) (⟦<Kit as Strategies>⟧.gives kit.now)) Many
+        (streams (S.left source.old) (S.faults source.old) (K.taken sink.old) (K.faults sink.old))
+        (streams (S.left source.new) (S.faults source.new) (K.taken sink.new) (K.faults sink.new)) result }
     ensures calm { ¬ (result ≡ Status.ReadFault) → S.faults source.new ≡ S.faults source.old }
 {
     let Played {
@@ -377,9 +379,9 @@ pub(crate) fn many<S: Source, K: Sink>(
     source: &mut S,
     sink: &mut K,
 ) -> Status
-    ensures says { Says (has_strategy kit.now.names kit.now.strategies.items) (⟦<Kit as Strategies>⟧.gives kit.now) Command.Many (S.left source.old)
-        (S.left source.new) (S.faults source.old) (S.faults source.new) (K.taken sink.old) (K.taken sink.new)
-        (K.faults sink.old) (K.faults sink.new) result }
+    ensures says { Says (strategies (has_strategy kit.now.names kit.now.strategies.items) (⟦<Kit as Strategies>⟧.gives kit.now)) Many
+        (streams (S.left source.old) (S.faults source.old) (K.taken sink.old) (K.faults sink.old))
+        (streams (S.left source.new) (S.faults source.new) (K.taken sink.new) (K.faults sink.new)) result }
     ensures calm { ¬ (result ≡ Status.ReadFault) → S.faults source.new ≡ S.faults source.old }
 {
     match Input::new(alloc) {

@@ -1,40 +1,41 @@
 //! The command `race`: the parties of a job race, and the report of the book that they come to is written, or the transcript.
 
-ghost use Rattle.std.specs.Prelude.{◌≡◌, ◌≤◌, ℕ, List, Option, IfOk, IfErr, IsErrOf};
+ghost use Rattle.std.specs.Prelude.{◌≡◌, ◌≤◌, ℕ, Bool, List, Option, IfOk, IfErr, IsErrOf};
 ghost use Rattle.swap_rules.specs.Accepted.{IsAccepted};
 ghost use Rattle.party_wallet.specs.Wallets.{wallets_of};
 ghost use Rattle.offer_header.specs.Names.{AreNames, has_strategy};
-ghost use Rattle.swap_offer.specs.Job.{IsWhole};
+ghost use Rattle.swap_offer.specs.Job.{IsWholeJob};
 ghost use Rattle.swap_offer.specs.Wallets.{HaveScripts, HaveWallets};
 ghost use Rattle.swap_world.specs.Actors.{AreHeld};
-ghost use Rattle.swap_commands.specs.Entered.{CanRace, HasEntered};
+ghost use Rattle.swap_commands.specs.Entered.{CanRace, HasEntered, HasNotEntered};
 ghost use Rattle.command_input.specs.Input.{Ends, Stops, fresh};
+ghost use Rattle.command_input.specs.Streams.{streams};
 ghost use Rattle.swap_commands.specs.Replay.{IsEntered};
 ghost use Rattle.swap_commands.specs.Says.{IsAgainst, Says};
+ghost use Rattle.swap_commands.specs.Words.{OfJob, Race};
+ghost use Rattle.swap_commands.specs.Strategies.{strategies};
 
 use crate::header::first_line;
 use crate::replay::pass_over;
 use crate::run::tell;
-use crate::words::{Command, JobCommand};
+use crate::stop::stop;
 use command_input::{Input, InputFault, Status};
 use deviators::{Kit, Strategies};
-use party_threads::Gate;
+use party_threads::{Gate, race_fitting};
 use party_wallet::Wallet;
 use refusals::Refusal;
 use std::alloc::Global;
 use std::sync::Wait;
 use std::thread::Threads;
-use swap_base::Fault;
+use swap_base::NoMemory;
 use swap_io::{Sink, Source};
 use swap_job::{Job, Purpose};
 use swap_offer::Prepared;
 
 /// The job of an input without events, and the wallets of its conforming parties.
-pub(crate) fn enter<S: Source>(
+fn read_job<S: Source>(
     alloc: Global,
     kit: &Kit,
-    ticks: u32,
-    transcript: bool,
     input: &mut Input,
     source: &mut S,
 ) -> Result<(Job, Vec<Option<Wallet>>), InputFault<Refusal>>
@@ -42,29 +43,62 @@ pub(crate) fn enter<S: Source>(
     ensures entered { IfOk result (λ e. Ends (λ bytes. IsEntered (has_strategy kit.now.names kit.now.strategies.items) bytes e.0) (S.left source.old)
         (S.left source.new) fresh input.new) }
     ensures held { IfOk result (λ e. AreHeld (⟦<Kit as Strategies>⟧.holds kit.now) e.0.roles) }
-    ensures whole { IfOk result (λ e. IsWhole e.0) }
+    ensures whole { IfOk result (λ e. IsWholeJob e.0) }
     ensures names { IfOk result (λ e. AreNames e.0.names) }
     ensures purpose { IfOk result (λ e. e.0.purpose ≡ Purpose.Race) }
     ensures accepted { IfOk result (λ e. IsAccepted e.0.deal) }
     ensures scripts { IfOk result (λ e. HaveScripts e.0) }
     ensures fit { IfOk result (λ e. HaveWallets e.0) }
     ensures made { IfOk result (λ e. e.1.items ≡ wallets_of e.0.deal e.0.conforming e.0.seeds) }
-    ensures stops { IfErr result (λ e.
-        Stops (IsAgainst (has_strategy kit.now.names kit.now.strategies.items) (Command.OfJob (JobCommand.Race ticks transcript))) (S.left source.old)
+    // Whatever its ticks, and whatever is to be written of it.
+    ensures stops { (ticks : ℕ) (transcript : Bool) → IfErr result (λ e.
+        Stops (IsAgainst (has_strategy kit.now.names kit.now.strategies.items) (OfJob (Race ticks transcript))) (S.left source.old)
         (S.left source.new) (S.faults source.old) (S.faults source.new) fresh input.new e) }
     ensures later { S.faults source.old ≤ S.faults source.new }
     ensures calm { ¬ IsErrOf result InputFault.ReadFault → S.faults source.new ≡ S.faults source.old }
 {
-    let Prepared { job, wallets, .. } = first_line(
-        alloc,
-        kit,
-        JobCommand::Race { ticks, transcript },
-        input,
-        source,
-    )?;
+    let Prepared { job, wallets, .. } = first_line(alloc, kit, Purpose::Race, input, source)?;
     match pass_over(alloc, &job, input, source) {
         Ok(()) => Ok((job, wallets)),
         Err(fault) => Err(fault.with_names(job.names)),
+    }
+}
+
+/// The same, where the status of the race is told if its job can't be read.
+fn enter_input<S: Source>(
+    alloc: Global,
+    kit: &Kit,
+    input: &mut Input,
+    source: &mut S,
+) -> Result<(Job, Vec<Option<Wallet>>), Status>
+    requires { input.old ≡ fresh }
+    ensures entered { IfOk result (λ e. HasEntered (has_strategy kit.now.names kit.now.strategies.items) (S.left source.old) (S.left source.new) e.0) }
+    ensures can { IfOk result (λ e. CanRace (has_strategy kit.now.names kit.now.strategies.items) e.0 e.1.items) }
+    ensures stopped { IfErr result (HasNotEntered (has_strategy kit.now.names kit.now.strategies.items) (S.left source.old) (S.left source.new)
+        (S.faults source.old) (S.faults source.new)) }
+    ensures calm { ¬ IsErrOf result Status.ReadFault → S.faults source.new ≡ S.faults source.old }
+{
+    match read_job(alloc, kit, input, source) {
+        Ok(entered) => Ok(entered),
+        Err(fault) => Err(stop(input, source, fault)),
+    }
+}
+
+/// Reads the job of a race, and the wallets of its conforming parties.
+pub(crate) fn enter<S: Source>(
+    alloc: Global,
+    kit: &Kit,
+    source: &mut S,
+) -> Result<(Job, Vec<Option<Wallet>>), Status>
+    ensures entered { IfOk result (λ e. HasEntered (has_strategy kit.now.names kit.now.strategies.items) (S.left source.old) (S.left source.new) e.0) }
+    ensures can { IfOk result (λ e. CanRace (has_strategy kit.now.names kit.now.strategies.items) e.0 e.1.items) }
+    ensures stopped { IfErr result (HasNotEntered (has_strategy kit.now.names kit.now.strategies.items) (S.left source.old) (S.left source.new)
+        (S.faults source.old) (S.faults source.new)) }
+    ensures calm { ¬ IsErrOf result Status.ReadFault → S.faults source.new ≡ S.faults source.old }
+{
+    match Input::new(alloc) {
+        Ok(mut input) => enter_input(alloc, kit, &mut input, source),
+        Err(_) => Err(Status::NoMemory),
     }
 }
 
@@ -84,12 +118,11 @@ pub fn race<R: Threads + Wait + Sync, K: Sink, G: Gate, A: Strategies + Sync>(
     requires some { 1 ≤ ticks }
     requires below { ticks ≤ 1000 }
     ensures { (left left' : Option (List ℕ)) (n m : ℕ) → HasEntered (A.holds staff.now) left left' job.now
-        → Says (A.holds staff.now) (A.gives staff.now) (Command.OfJob (JobCommand.Race ticks transcript)) left left' n m
-        (K.taken sink.old) (K.taken sink.new) (K.faults sink.old) (K.faults sink.new) result }
+        → Says (strategies (A.holds staff.now) (A.gives staff.now)) (OfJob (Race ticks transcript)) (streams left n (K.taken sink.old) (K.faults sink.old))
+        (streams left' m (K.taken sink.new) (K.faults sink.new)) result }
 {
-    match party_threads::race(rt, alloc, job, staff, wallets, ticks, gate) {
+    match race_fitting(rt, alloc, job, staff, wallets, ticks, gate) {
         Ok(book) => tell(alloc, transcript, sink, job, &book),
-        Err(Fault::NoMemory) => Status::NoMemory,
-        Err(Fault::Refused(_)) => unreachable!(),
+        Err(NoMemory) => Status::NoMemory,
     }
 }

@@ -6,7 +6,7 @@ ghost use Rattle.swap_rules.specs.Accepted.{IsAccepted};
 ghost use Rattle.swap_run.specs.Run.{start, step};
 ghost use Rattle.party_wallet.specs.Wallets.{wallets_of};
 ghost use Rattle.offer_events.specs.Event.{needs_seeds};
-ghost use Rattle.swap_offer.specs.Job.{IsWhole};
+ghost use Rattle.swap_offer.specs.Job.{IsWholeJob};
 ghost use Rattle.swap_offer.specs.Wallets.{HaveScripts, HaveWallets};
 ghost use Rattle.swap_run.specs.Asked.{Answers};
 ghost use Rattle.swap_world.specs.Cast.{cast_of};
@@ -14,15 +14,16 @@ ghost use Rattle.swap_world.specs.Gone.{HasAsked};
 ghost use Rattle.swap_world.specs.Actors.{AreHeld};
 ghost use Rattle.swap_world.specs.Value.{Continues, new_world};
 ghost use Rattle.command_input.specs.Input.{Ends, EndsAt, Stops, ahead, limit};
+ghost use Rattle.made_jobs.specs.Generating.{IsOf};
 ghost use Rattle.swap_commands.specs.Output.{cast_by};
-ghost use Rattle.swap_commands.specs.Replay.{replayed, next_by, passed_over, IsOf};
+ghost use Rattle.swap_commands.specs.Replay.{replayed, next_by, passed_over};
 
 use command_input::{Input, InputFault};
 use deviators::Strategies;
 use party_wallet::Wallet;
 use refusals::{OfferFault, Reason};
 use std::alloc::Global;
-use swap_base::{Fault, NoMemory};
+use swap_base::NoMemory;
 use swap_io::Source;
 use swap_job::Job;
 use swap_offer::next_event;
@@ -39,7 +40,7 @@ fn step_line<T: Strategies>(
     line: u32,
     text: &[u8],
 ) -> Result<(), OfferFault>
-    requires whole { IsWhole job.now }
+    requires whole { IsWholeJob job.now }
     requires seeds { needs_seeds job.now.purpose ≡ true }
     requires of { IsOf job.now world.old }
     requires goes_on { world.old.stopped ≡ false }
@@ -63,18 +64,14 @@ pub(crate) fn new_world(
     job: &Job,
     wallets: Vec<Option<Wallet>>,
 ) -> Result<World, NoMemory>
-    requires whole { IsWhole job.now }
+    requires whole { IsWholeJob job.now }
     requires accepted { IsAccepted job.now.deal }
     requires wallets { HaveWallets job.now }
     requires scripts { HaveScripts job.now }
     requires made { wallets.items ≡ wallets_of job.now.deal job.now.conforming job.now.seeds }
     ensures new { IfOk result (λ w. w ≡ new_world job.now) }
 {
-    match World::new(alloc, job, wallets) {
-        Ok(world) => Ok(world),
-        Err(Fault::NoMemory) => Err(NoMemory),
-        Err(Fault::Refused(_)) => unreachable!(),
-    }
+    World::fitting(alloc, job, wallets)
 }
 
 /// The world after the events of the lines ahead.
@@ -86,7 +83,7 @@ pub(crate) fn replay<S: Source, T: Strategies>(
     input: &mut Input,
     source: &mut S,
 ) -> Result<World, InputFault<Reason>>
-    requires whole { IsWhole job.now }
+    requires whole { IsWholeJob job.now }
     requires seeds { needs_seeds job.now.purpose ≡ true }
     requires accepted { IsAccepted job.now.deal }
     requires wallets { HaveWallets job.now }
@@ -127,7 +124,7 @@ pub(crate) fn replay<S: Source, T: Strategies>(
 /// Reads the event of a line, where so many events came before.
 #[tactic(auto, unfolding(crate::specs::Replay::next_by))]
 fn pass_line(alloc: Global, job: &Job, count: u32, line: u32, text: &[u8]) -> Result<(), OfferFault>
-    requires { IsWhole job.now }
+    requires { IsWholeJob job.now }
     ensures { Gives (λ u. u) result (next_by passed_over job.now count tt line text.now) }
 {
     next_event(alloc, job, count, line, text)?;
@@ -141,7 +138,7 @@ pub(crate) fn pass_over<S: Source>(
     input: &mut Input,
     source: &mut S,
 ) -> Result<(), InputFault<Reason>>
-    requires whole { IsWhole job.now }
+    requires whole { IsWholeJob job.now }
     requires ended { EndsAt (S.left source.old) input.old }
     ensures exact { OnOk result (Ends (λ bytes. replayed passed_over job.now 0 tt (ahead input.old bytes) ≡ Ok tt) (S.left source.old)
         (S.left source.new) input.old input.new) }

@@ -19,18 +19,21 @@ ghost use Rattle.swap_world.specs.Cast.{cast_of};
 ghost use Rattle.swap_world.specs.Gone.{HasAsked};
 ghost use Rattle.swap_world.specs.Actors.{AreHeld};
 ghost use Rattle.swap_world.specs.Value.{Continues, new_world};
-ghost use Rattle.swap_offer.specs.Job.{IsWhole};
+ghost use Rattle.swap_offer.specs.Job.{IsWholeJob};
 ghost use Rattle.command_input.specs.Input.{Ends, Stops, fresh};
 ghost use Rattle.command_input.specs.Written.{Writes};
+ghost use Rattle.command_input.specs.Streams.{streams};
+ghost use Rattle.made_jobs.specs.Generating.{IsOf};
 ghost use Rattle.swap_commands.specs.Output.{report_for, reported, run_text};
-ghost use Rattle.swap_commands.specs.Replay.{IsConcluded, IsOf, IsPlayed};
+ghost use Rattle.swap_commands.specs.Replay.{IsConcluded, IsPlayed};
 ghost use Rattle.swap_commands.specs.Says.{IsAgainst, Says};
+ghost use Rattle.swap_commands.specs.Words.{OfJob, Run};
+ghost use Rattle.swap_commands.specs.Strategies.{strategies};
 
 use crate::finish::finish;
 use crate::header::first_line;
 use crate::replay::replay;
 use crate::stop::stop;
-use crate::words::{Command, JobCommand};
 use command_input::{Input, InputFault, Status};
 use deviators::{Kit, Strategies};
 use ledger_core::Book;
@@ -60,26 +63,20 @@ fn play<S: Source>(
         fresh input.new) }
     ensures asked { IfOk result (λ p. HasAsked (⟦<Kit as Strategies>⟧.gives kit.now) (new_world p.0) p.1) }
     ensures held { IfOk result (λ p. AreHeld (⟦<Kit as Strategies>⟧.holds kit.now) p.0.roles) }
-    ensures whole { IfOk result (λ p. IsWhole p.0) }
+    ensures whole { IfOk result (λ p. IsWholeJob p.0) }
     ensures names { IfOk result (λ p. AreNames p.0.names) }
     ensures purpose { IfOk result (λ p. p.0.purpose ≡ Purpose.Run) }
     ensures accepted { IfOk result (λ p. IsAccepted p.0.deal) }
     ensures of { IfOk result (λ p. IsOf p.0 p.1) }
     ensures goes_on { IfOk result (λ p. p.1.stopped ≡ false) }
     ensures stops { IfErr result (λ e.
-        Stops (IsAgainst (has_strategy kit.now.names kit.now.strategies.items) (Command.OfJob (JobCommand.Run transcript))) (S.left source.old)
+        Stops (IsAgainst (has_strategy kit.now.names kit.now.strategies.items) (OfJob (Run transcript))) (S.left source.old)
         (S.left source.new)
         (S.faults source.old) (S.faults source.new) fresh input.new e) }
     ensures later { S.faults source.old ≤ S.faults source.new }
     ensures calm { ¬ IsErrOf result InputFault.ReadFault → S.faults source.new ≡ S.faults source.old }
 {
-    let Prepared { job, wallets, .. } = first_line(
-        alloc,
-        kit,
-        JobCommand::Run { transcript },
-        input,
-        source,
-    )?;
+    let Prepared { job, wallets, .. } = first_line(alloc, kit, Purpose::Run, input, source)?;
     match replay(alloc, &job, wallets, kit, input, source) {
         Ok(world) => Ok((job, world)),
         Err(fault) => Err(fault.with_names(job.names)),
@@ -116,7 +113,7 @@ fn write_text<K: Sink>(
     book: &Book,
     report: &Report,
 ) -> Result<(), TextFault>
-    requires whole { IsWhole job.now }
+    requires whole { IsWholeJob job.now }
     requires names { AreNames job.now.names }
     requires shown { is_make job.now.purpose ≡ false }
     requires legal { IsLegalBook job.now.deal book.now.histories }
@@ -143,7 +140,7 @@ pub(crate) fn tell<K: Sink>(
     job: &Job,
     book: &Book,
 ) -> Status
-    requires whole { IsWhole job.now }
+    requires whole { IsWholeJob job.now }
     requires names { AreNames job.now.names }
     requires shown { is_make job.now.purpose ≡ false }
     requires legal { IsLegalBook job.now.deal book.now.histories }
@@ -165,8 +162,8 @@ pub(crate) fn tell<K: Sink>(
     }
 }
 
-/// Runs a job.
-pub(crate) fn run<S: Source, K: Sink>(
+/// Runs the job of an input that wasn't read yet.
+fn run_input<S: Source, K: Sink>(
     alloc: Global,
     kit: &Kit,
     transcript: bool,
@@ -175,9 +172,9 @@ pub(crate) fn run<S: Source, K: Sink>(
     sink: &mut K,
 ) -> Status
     requires { input.old ≡ fresh }
-    ensures says { Says (has_strategy kit.now.names kit.now.strategies.items) (⟦<Kit as Strategies>⟧.gives kit.now)
-        (Command.OfJob (JobCommand.Run transcript)) (S.left source.old) (S.left source.new) (S.faults source.old) (S.faults source.new)
-        (K.taken sink.old) (K.taken sink.new) (K.faults sink.old) (K.faults sink.new) result }
+    ensures says { Says (strategies (has_strategy kit.now.names kit.now.strategies.items) (⟦<Kit as Strategies>⟧.gives kit.now)) (OfJob (Run transcript))
+        (streams (S.left source.old) (S.faults source.old) (K.taken sink.old) (K.faults sink.old))
+        (streams (S.left source.new) (S.faults source.new) (K.taken sink.new) (K.faults sink.new)) result }
     ensures calm { ¬ (result ≡ Status.ReadFault) → S.faults source.new ≡ S.faults source.old }
 {
     let (job, world) = match play(alloc, kit, transcript, input, source) {
@@ -188,4 +185,23 @@ pub(crate) fn run<S: Source, K: Sink>(
         return Status::NoMemory;
     };
     tell(alloc, transcript, sink, &job, &book)
+}
+
+/// Runs a job.
+pub(crate) fn run<S: Source, K: Sink>(
+    alloc: Global,
+    kit: &Kit,
+    transcript: bool,
+    source: &mut S,
+    sink: &mut K,
+) -> Status
+    ensures says { Says (strategies (has_strategy kit.now.names kit.now.strategies.items) (⟦<Kit as Strategies>⟧.gives kit.now)) (OfJob (Run transcript))
+        (streams (S.left source.old) (S.faults source.old) (K.taken sink.old) (K.faults sink.old))
+        (streams (S.left source.new) (S.faults source.new) (K.taken sink.new) (K.faults sink.new)) result }
+    ensures calm { ¬ (result ≡ Status.ReadFault) → S.faults source.new ≡ S.faults source.old }
+{
+    match Input::new(alloc) {
+        Ok(mut input) => run_input(alloc, kit, transcript, &mut input, source, sink),
+        Err(_) => Status::NoMemory,
+    }
 }

@@ -1,10 +1,11 @@
-//! Who does what a command asks for, and answers where strategies are asked.
+//! Who does what an order asks for, and who reads the job of a race, where strategies are asked.
 
-ghost use Rattle.std.specs.Prelude.{◌≡◌};
-ghost use Rattle.offer_header.specs.Names.{has_strategy};
-ghost use Rattle.swap_commands.specs.declared.words.Command.{Command};
-ghost use Rattle.command_input.specs.Input.{fresh};
-ghost use Rattle.swap_commands.specs.Entered.{Obeys};
+ghost use Rattle.std.specs.Prelude.{◌≡◌, IfErr, IfOk, IsErrOf};
+ghost use Rattle.command_input.specs.Streams.{streams};
+ghost use Rattle.swap_commands.specs.Words.{ordered};
+ghost use Rattle.swap_commands.specs.Says.{Says};
+ghost use Rattle.swap_commands.specs.Entered.{CanRace, HasEntered, HasNotEntered};
+ghost use Rattle.swap_commands.specs.Strategies.{strategies};
 
 use crate::audit::audit;
 use crate::check::check;
@@ -13,102 +14,66 @@ use crate::make::make;
 use crate::many::many;
 use crate::racing::enter;
 use crate::run::run;
-use crate::stop::stop;
-use crate::words::{Command, JobCommand};
-use command_input::{Input, Status};
+use command_input::Status;
 use deviators::{Kit, Strategies};
 use party_wallet::Wallet;
+use program_words::Order;
 use std::alloc::Global;
 use swap_io::{Sink, Source};
 use swap_job::Job;
 
-/// What was done of a command.
-#[derive(Drop)]
-pub enum Obeyed {
-    /// All of it.
-    Ended(Status),
-    /// The job of a race was read, with the wallets of its conforming parties, and nothing else was done.
-    Entered(Job, Vec<Option<Wallet>>),
-}
-
-/// Obeys commands that read an input, with the strategies that it answers for.
+/// Does what is asked for with an input, with the strategies that it answers for.
 pub trait Staff: Strategies {
-    /// Does what the command asks for. Of a race it reads the job alone: no thread is started here.
+    /// Does what the order asks for.
     fn obey<S: Source, K: Sink>(
         &self,
         alloc: Global,
-        command: Command,
+        order: Order,
         source: &mut S,
         sink: &mut K,
-    ) -> Obeyed
-        ensures says { Obeys (Self.holds self.now) (Self.gives self.now) command (S.left source.old) (S.left source.new) (S.faults source.old)
-            (S.faults source.new) (K.taken sink.old) (K.taken sink.new) (K.faults sink.old) (K.faults sink.new) result }
+    ) -> Status
+        ensures says { Says (strategies (Self.holds self.now) (Self.gives self.now)) (ordered order)
+            (streams (S.left source.old) (S.faults source.old) (K.taken sink.old) (K.faults sink.old))
+            (streams (S.left source.new) (S.faults source.new) (K.taken sink.new) (K.faults sink.new)) result }
         // No read failed, unless the status tells of it.
-        ensures calm { ¬ (result ≡ Obeyed.Ended Status.ReadFault) → S.faults source.new ≡ S.faults source.old };
-}
+        ensures calm { ¬ (result ≡ Status.ReadFault) → S.faults source.new ≡ S.faults source.old };
 
-/// What a command does with the job of an input.
-fn obey_job<S: Source, K: Sink>(
-    alloc: Global,
-    kit: &Kit,
-    command: JobCommand,
-    input: &mut Input,
-    source: &mut S,
-    sink: &mut K,
-) -> Obeyed
-    requires { input.old ≡ fresh }
-    ensures says { Obeys (has_strategy kit.now.names kit.now.strategies.items) (⟦<Kit as Strategies>⟧.gives kit.now) (Command.OfJob command)
-        (S.left source.old) (S.left source.new) (S.faults source.old) (S.faults source.new) (K.taken sink.old)
-        (K.taken sink.new) (K.faults sink.old) (K.faults sink.new) result }
-    ensures calm { ¬ (result ≡ Obeyed.Ended Status.ReadFault) → S.faults source.new ≡ S.faults source.old }
-{
-    match command {
-        JobCommand::Check => Obeyed::Ended(check(alloc, kit, input, source, sink)),
-        JobCommand::Run { transcript } => {
-            Obeyed::Ended(run(alloc, kit, transcript, input, source, sink))
-        }
-        JobCommand::Race { ticks, transcript } => {
-            match enter(alloc, kit, ticks, transcript, input, source) {
-                Ok((job, wallets)) => Obeyed::Entered(job, wallets),
-                Err(fault) => Obeyed::Ended(stop(input, source, fault)),
-            }
-        }
-        JobCommand::Make => Obeyed::Ended(make(alloc, kit, input, source, sink)),
-    }
-}
-
-/// What a command does that reads a job.
-fn read_job<S: Source, K: Sink>(
-    alloc: Global,
-    kit: &Kit,
-    command: JobCommand,
-    source: &mut S,
-    sink: &mut K,
-) -> Obeyed
-    ensures says { Obeys (has_strategy kit.now.names kit.now.strategies.items) (⟦<Kit as Strategies>⟧.gives kit.now) (Command.OfJob command)
-        (S.left source.old) (S.left source.new) (S.faults source.old) (S.faults source.new) (K.taken sink.old)
-        (K.taken sink.new) (K.faults sink.old) (K.faults sink.new) result }
-    ensures calm { ¬ (result ≡ Obeyed.Ended Status.ReadFault) → S.faults source.new ≡ S.faults source.old }
-{
-    match Input::new(alloc) {
-        Ok(mut input) => obey_job(alloc, kit, command, &mut input, source, sink),
-        Err(_) => Obeyed::Ended(Status::NoMemory),
-    }
+    /// Reads the job of a race, and the wallets of its conforming parties. No thread is started here.
+    fn enter<S: Source>(
+        &self,
+        alloc: Global,
+        source: &mut S,
+    ) -> Result<(Job, Vec<Option<Wallet>>), Status>
+        ensures entered { IfOk result (λ e. HasEntered (Self.holds self.now) (S.left source.old) (S.left source.new) e.0) }
+        ensures can { IfOk result (λ e. CanRace (Self.holds self.now) e.0 e.1.items) }
+        ensures stopped { IfErr result (HasNotEntered (Self.holds self.now) (S.left source.old) (S.left source.new) (S.faults source.old)
+            (S.faults source.new)) }
+        ensures calm { ¬ IsErrOf result Status.ReadFault → S.faults source.new ≡ S.faults source.old };
 }
 
 impl Staff for Kit {
     fn obey<S: Source, K: Sink>(
         &self,
         alloc: Global,
-        command: Command,
+        order: Order,
         source: &mut S,
         sink: &mut K,
-    ) -> Obeyed {
-        match command {
-            Command::OfJob(command) => read_job(alloc, self, command, source, sink),
-            Command::Audit => Obeyed::Ended(audit(alloc, self, source, sink)),
-            Command::Clear => Obeyed::Ended(clear(alloc, self, source, sink)),
-            Command::Many => Obeyed::Ended(many(alloc, self, source, sink)),
+    ) -> Status {
+        match order {
+            Order::Check => check(alloc, self, source, sink),
+            Order::Run { transcript } => run(alloc, self, transcript, source, sink),
+            Order::Make => make(alloc, self, source, sink),
+            Order::Audit => audit(alloc, self, source, sink),
+            Order::Clear => clear(alloc, self, source, sink),
+            Order::Many => many(alloc, self, source, sink),
         }
+    }
+
+    fn enter<S: Source>(
+        &self,
+        alloc: Global,
+        source: &mut S,
+    ) -> Result<(Job, Vec<Option<Wallet>>), Status> {
+        enter(alloc, self, source)
     }
 }

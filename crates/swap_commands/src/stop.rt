@@ -3,7 +3,7 @@
 ghost use Rattle.std.specs.Prelude.{◌≤◌, ℕ, Bool, List, Option, ◌≡◌};
 ghost use Rattle.command_input.specs.Input.{Stops, fresh};
 ghost use Rattle.swap_commands.specs.Says.{IsAgainst, Unread};
-ghost use Rattle.swap_commands.specs.declared.words.Command.{Command};
+ghost use Rattle.swap_commands.specs.Words.{Command};
 
 use command_input::{Input, InputFault, Status};
 use refusals::Refusal;

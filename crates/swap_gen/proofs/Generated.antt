@@ -9,7 +9,7 @@ use Rattle.swap_rules.specs.Accepted.{IsAccepted}
 use Rattle.proposed_deal.specs.Proposed.{HaveSeeds, IsProposed}
 use Rattle.swap_gen.specs.Made.{made_deal}
 use Rattle.swap_gen.specs.Owned.{OwnsKeys}
-use Rattle.swap_gen.specs.Drawn.{drawn_graph, plain_deal, plain_job, seed_of, generated}
+use Rattle.swap_gen.specs.Drawn.{drawn_graph, plain_deal, plain_job, drawn_seed, generated}
 use Rattle.swap_gen.specs.Events.{event_from}
 use Rattle.swap_gen.proofs.Proposing.{plain_is_proposed}
 use Rattle.swap_gen.proofs.Accepting.{made_is_accepted}
@@ -30,7 +30,8 @@ plain_graph seed n = refl
 
 some_seed : (seed n p : ℕ) → p < n → IsSome (slice_index_or {A = Option (List ℕ)} (plain_job seed n).seeds p None)
 unfolding plain_job
-some_seed seed n p lt = subst (λ (o : Option (List ℕ)). IsSome o) (sym (get_or-map-range_with_len (λ i. Some (seed_of seed i)) 0 n p p None lt (omega arith)))
+some_seed seed n p lt = subst (λ (o : Option (List ℕ)). IsSome o)
+    (sym (get_or-map-range_with_len (λ i. Some (drawn_seed seed i)) 0 n p p None lt (omega arith)))
     refl
 
 pub plain_has_seeds : (seed n : ℕ) → HaveSeeds (plain_job seed n)

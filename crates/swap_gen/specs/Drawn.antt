@@ -78,8 +78,8 @@ abbrev pub name_of : ℕ → List ℕ
 name_of i = codes "p" ++ decimal i
 
 -- the seed of party i
-abbrev pub seed_of : (seed i : ℕ) → List ℕ
-seed_of seed i = sha256 (8 ∷ to_be_bytes w64 seed ++ i ∷ [])
+abbrev pub drawn_seed : (seed i : ℕ) → List ℕ
+drawn_seed seed i = sha256 (8 ∷ to_be_bytes w64 seed ++ i ∷ [])
 
 -- the job before it is made: all parties conform, and the finish is fair
 unfoldable pub plain_job : (seed n : ℕ) → Job
@@ -89,7 +89,7 @@ plain_job seed n = record {
   names = map name_of (range_with_len 0 n);
   roles = replicate n Conforming;
   conforming = replicate n true;
-  seeds = map (λ i. Some (seed_of seed i)) (range_with_len 0 n);
+  seeds = map (λ i. Some (drawn_seed seed i)) (range_with_len 0 n);
   finish = Fair;
 }
 

@@ -4,7 +4,7 @@ ghost use Rattle.std.specs.Prelude.{◌≡◌, ◌≤◌, ◌<◌, IfOk, OnOk, S
 ghost use Rattle.std.specs.List.{range_with_len};
 ghost use Rattle.swap_digraph.specs.Arcs.{first_fault};
 ghost use Rattle.swap_job.specs.declared.job.Role.TheVariants.{Conforming};
-ghost use Rattle.swap_gen.specs.Drawn.{drawn_arcs, name_of, plain_deal, plain_job, seed_of};
+ghost use Rattle.swap_gen.specs.Drawn.{drawn_arcs, name_of, plain_deal, plain_job, drawn_seed};
 ghost use Rattle.swap_gen.specs.Events.{first_place};
 
 use crate::arcs::{drawn_amounts, drawn_arcs, leader_count};
@@ -34,7 +34,7 @@ fn names(alloc: Global, parties: u8) -> Result<Listed<ByteText>, NoMemory>
 }
 
 fn seed_of(seed: u32, p: PartyId) -> Digest
-    ensures { result ≡ seed_of seed p }
+    ensures { result ≡ drawn_seed seed p }
 {
     let mut hasher = Sha256::new();
     hasher.update([8u8]);
@@ -44,7 +44,7 @@ fn seed_of(seed: u32, p: PartyId) -> Digest
 }
 
 fn seeds(alloc: Global, seed: u32, parties: u8) -> Result<Listed<Option<Digest>>, NoMemory>
-    ensures { IfOk result (λ l. l ≡ map (λ i. Some (seed_of seed i)) (range_with_len 0 parties)) }
+    ensures { IfOk result (λ l. l ≡ map (λ i. Some (drawn_seed seed i)) (range_with_len 0 parties)) }
 {
     let mut seeds = Vec::new(alloc);
     for p in 0..parties {

@@ -26,7 +26,7 @@ use Rattle.party_wallet.specs.Keys.{own_key, onto_key}
 use Rattle.swap_job.specs.Crafted.{Seeds, seed_of, put_before, crafted, crafted_onto}
 use Rattle.swap_job.specs.Fitting.{is_plain, fits_if, CanCraft, NamesFitting, IsFitting}
 use Rattle.swap_job.specs.Parts.{HasRoom, IsUsable}
-use Rattle.swap_job.specs.Resolved.{arc_of, opening_named, key_opened, plain_call, call_with, call_of_move, resolved}
+use Rattle.swap_job.specs.Resolved.{move_arc, opening_named, key_opened, plain_call, call_with, call_of_move, resolved}
 use Rattle.swap_job.specs.declared.moves.Move.{Move}
 use Rattle.swap_job.specs.declared.moves.Move.TheVariants.{Publish, Craft, Replay, Raw, Claim, Refund, Transfer, Wait}
 use Rattle.swap_job.proofs.Crafting.{put_room}
@@ -153,7 +153,7 @@ any_arc d a (Some key) h = λ c q. subst (λ x. IsTrue (fit d a x)) (same_Some (
 
 -- the call of a fitting move fits
 pub call_fits : (d : Deal) (seeds : Seeds) (o : Option Hashkey) (mv : Move) → IsFitting d seeds mv → ForSome o (IsUsable d)
-    → ForSome (call_with d seeds o mv) (λ c. IsTrue (fit d (arc_of mv) c))
+    → ForSome (call_with d seeds o mv) (λ c. IsTrue (fit d (move_arc mv) c))
 call_fits d seeds o (Craft a lock via None) f u =
     any_arc d a (crafted d seeds lock None via) (crafted_fits d seeds lock None via f.names.0 f.names.1 (λ x q. absurd (cc q)) f.names.1.few)
 call_fits d seeds o (Craft a lock via (Some b)) f u = any_arc d a (crafted_onto d seeds lock o via) (onto_fits d seeds lock o via f.names.0 f.names.1 u)
@@ -178,10 +178,10 @@ named_usable d seeds k (Refund a) legal f = λ x q. absurd (cc q)
 named_usable d seeds k (Transfer a to units) legal f = λ x q. absurd (cc q)
 named_usable d seeds k (Wait a height) legal f = λ x q. absurd (cc q)
 
-pub with_arc : (d : Deal) (mv : Move) (o : Option Call) → ForSome o (λ c. IsTrue (fit d (arc_of mv) c))
-    → ForSome {T = ℕ × Call} (option_map (λ c. (arc_of mv, c)) o) (λ x. IsTrue (fit d x.0 x.1))
+pub with_arc : (d : Deal) (mv : Move) (o : Option Call) → ForSome o (λ c. IsTrue (fit d (move_arc mv) c))
+    → ForSome {T = ℕ × Call} (option_map (λ c. (move_arc mv, c)) o) (λ x. IsTrue (fit d x.0 x.1))
 with_arc d mv None h = λ x q. absurd (cc q)
-with_arc d mv (Some c) h = λ x q. subst (λ y. IsTrue (fit d y.0 y.1)) (same_Some (arc_of mv, c) x q) (h c refl)
+with_arc d mv (Some c) h = λ x q. subst (λ y. IsTrue (fit d y.0 y.1)) (same_Some (move_arc mv, c) x q) (h c refl)
 
 -- the call that a move resolves to fits
 pub resolved_fits : (d : Deal) (seeds : Seeds) (k : Histories) (mv : Move) → IsLegalBook d k → IsFitting d seeds mv
@@ -190,7 +190,7 @@ resolved_fits d seeds k mv legal f =
     with_arc d mv (call_of_move d seeds k mv) (call_fits d seeds (key_opened k (opening_named mv)) mv f (named_usable d seeds k mv legal f))
 
 -- a move that stands for a call by itself names what its call does
-pub plain_names : (d : Deal) (seeds : Seeds) (mv : Move) → IsTrue (is_plain mv) → IsTrue (fits_if d (arc_of mv) (plain_call d mv)) → NamesFitting d seeds mv
+pub plain_names : (d : Deal) (seeds : Seeds) (mv : Move) → IsTrue (is_plain mv) → IsTrue (fits_if d (move_arc mv) (plain_call d mv)) → NamesFitting d seeds mv
 plain_names d seeds (Craft a lock via onto) p f = absurd (cc p)
 plain_names d seeds (Replay a lock b) p f = absurd (cc p)
 plain_names d seeds (Publish a start delta bound timelock amount locks) p f = f

@@ -6,7 +6,7 @@ use Rattle.swap_digraph.specs.Deal.{path_limit, party, counterparty}
 use Rattle.ledger_core.specs.declared.entry.Call.{Call}
 use Rattle.ledger_core.specs.History.{fit}
 use Rattle.swap_job.specs.Crafted.{Seeds}
-use Rattle.swap_job.specs.Resolved.{arc_of, plain_call}
+use Rattle.swap_job.specs.Resolved.{move_arc, plain_call}
 use Rattle.swap_job.specs.declared.moves.Move.{Move}
 use Rattle.swap_job.specs.declared.moves.Move.TheVariants.{Craft, Replay, Wait}
 
@@ -37,11 +37,11 @@ IsArc d (Some a) = a < length d.graph.arcs
 abbrev pub NamesFitting : Deal → Seeds → Move → Type 0
 NamesFitting d seeds (Craft a lock via onto) = (lock < length d.leaders) × CanCraft d seeds via × IsArc d onto
 NamesFitting d seeds (Replay a lock onto) = (lock < length d.leaders) × (onto < length d.graph.arcs)
-NamesFitting d seeds mv = IsTrue (fits_if d (arc_of mv) (plain_call d mv))
+NamesFitting d seeds mv = IsTrue (fits_if d (move_arc mv) (plain_call d mv))
 
 -- The move stands on an arc of the deal, and names and states what fits it.
 pub record IsFitting (d : Deal) (seeds : Seeds) (mv : Move) : Type 0 where
-  pub arc : arc_of mv < length d.graph.arcs
+  pub arc : move_arc mv < length d.graph.arcs
   pub names : NamesFitting d seeds mv
 
 -- v is one of the two parties of arc a
@@ -51,4 +51,4 @@ is_near d v a = (v == party d a) || (v == counterparty d a)
 -- The move fits, and stands on an arc that touches party p.
 pub record IsMoveOf (d : Deal) (seeds : Seeds) (p : ℕ) (mv : Move) : Type 0 where
   pub fits : IsFitting d seeds mv
-  pub adjacent : IsTrue (is_near d p (arc_of mv))
+  pub adjacent : IsTrue (is_near d p (move_arc mv))

@@ -4,3 +4,4 @@ pub mod Fitting
 pub mod Step
 pub mod Names
 pub mod Parts
+pub mod Roles

@@ -14,15 +14,15 @@ use Rattle.swap_job.specs.declared.moves.Move.{Move}
 use Rattle.swap_job.specs.declared.moves.Move.TheVariants.{Publish, Craft, Replay, Raw, Claim, Refund, Transfer, Wait}
 
 -- the arc on which a move stands
-abbrev pub arc_of : Move → ℕ
-arc_of (Publish a start delta bound timelock amount locks) = a
-arc_of (Craft a lock via onto) = a
-arc_of (Replay a lock onto) = a
-arc_of (Raw a key) = a
-arc_of (Claim a) = a
-arc_of (Refund a) = a
-arc_of (Transfer a to units) = a
-arc_of (Wait a height) = a
+abbrev pub move_arc : Move → ℕ
+move_arc (Publish a start delta bound timelock amount locks) = a
+move_arc (Craft a lock via onto) = a
+move_arc (Replay a lock onto) = a
+move_arc (Raw a key) = a
+move_arc (Claim a) = a
+move_arc (Refund a) = a
+move_arc (Transfer a to units) = a
+move_arc (Wait a height) = a
 
 -- the correct terms of arc a, with the given ones in their place
 abbrev pub terms_with : Terms → (start delta bound timelock amount : Option ℕ) → Option (List (List ℕ)) → Terms
@@ -68,7 +68,7 @@ call_of_move d seeds k mv = call_with d seeds (key_opened k (opening_named mv)) 
 
 -- the same with its arc
 abbrev pub resolved : Deal → Seeds → Histories → Move → Option (ℕ × Call)
-resolved d seeds k mv = option_map (λ c. (arc_of mv, c)) (call_of_move d seeds k mv)
+resolved d seeds k mv = option_map (λ c. (move_arc mv, c)) (call_of_move d seeds k mv)
 
 -- the parties can't extend the hashkey: there is none, or the path would be too long
 abbrev pub is_out_of_reach : Deal → List ℕ → Option Hashkey → Bool

@@ -7,7 +7,7 @@ use Rattle.swap_job.specs.declared.job.Job.{Job}
 use Rattle.swap_job.specs.declared.moves.Move.{Move}
 use Rattle.swap_job.specs.Crafted.{Seeds}
 use Rattle.swap_job.specs.Fitting.{IsFitting, is_near}
-use Rattle.swap_job.specs.Resolved.{arc_of}
+use Rattle.swap_job.specs.Resolved.{move_arc}
 
 -- The arc's ledger may tick by k heights.
 pub record CanTick (d : Deal) (a k : ℕ) : Type 0 where
@@ -26,7 +26,7 @@ pub record CanCall (d : Deal) (conforming : List Bool) (seeds : Seeds) (p : ℕ)
   pub known : p < d.graph.n
   pub deviates : slice_index_or conforming p false ≡ false
   pub fits : IsFitting d seeds mv
-  pub adjacent : IsTrue (is_near d p (arc_of mv))
+  pub adjacent : IsTrue (is_near d p (move_arc mv))
 
 -- The party, which conforms, may crash within the disk call after k of those of its act, of which there are four at most.
 pub record CanCrash (d : Deal) (conforming : List Bool) (p k : ℕ) : Type 0 where

@@ -1,7 +1,7 @@
 //! Moves of a party that doesn't conform.
 
 ghost use Rattle.std.specs.Prelude.{◌≡◌};
-ghost use Rattle.swap_job.specs.Resolved.{arc_of};
+ghost use Rattle.swap_job.specs.Resolved.{move_arc};
 
 use escrow_core::LockList;
 use hashkey_path::Hashkey;
@@ -63,7 +63,7 @@ pub type MoveList = Listed<Move>;
 
 /// The arc on which a move stands.
 pub fn arc_of_move(mv: &Move) -> ArcId
-    ensures { result ≡ arc_of mv.now }
+    ensures { result ≡ move_arc mv.now }
 {
     match mv {
         Move::Publish { arc, .. } => *arc,

@@ -7,7 +7,7 @@ ghost use Rattle.ledger_core.specs.History.{fit};
 ghost use Rattle.ledger_core.specs.Book.{IsLegalBook};
 ghost use Rattle.swap_job.specs.Fitting.{IsFitting};
 ghost use Rattle.swap_job.specs.Parts.{IsUsable, publish_of};
-ghost use Rattle.swap_job.specs.Resolved.{arc_of, opening_named, key_opened, call_with, plain_call, resolved, is_idle};
+ghost use Rattle.swap_job.specs.Resolved.{move_arc, opening_named, key_opened, call_with, plain_call, resolved, is_idle};
 
 use crate::crafted::{craft, craft_onto};
 use crate::moves::{Move, arc_of_move};
@@ -21,7 +21,7 @@ use swap_digraph::Deal;
 
 fn publish_of(deal: &Deal, mv: &Move) -> Option<Terms>
     requires sized { IsWellSized deal.now }
-    requires arc { arc_of mv.now < length deal.now.graph.arcs }
+    requires arc { move_arc mv.now < length deal.now.graph.arcs }
     ensures { result ≡ publish_of deal.now mv.now }
 {
     match mv {
@@ -51,7 +51,7 @@ fn publish_of(deal: &Deal, mv: &Move) -> Option<Terms>
 /// The call of a move that stands for one by itself.
 fn plain_call(alloc: Global, deal: &Deal, mv: &Move) -> Result<Option<Call>, NoMemory>
     requires sized { IsWellSized deal.now }
-    requires arc { arc_of mv.now < length deal.now.graph.arcs }
+    requires arc { move_arc mv.now < length deal.now.graph.arcs }
     ensures { IfOk result (λ c. c ≡ plain_call deal.now mv.now) }
 {
     match mv {
@@ -157,7 +157,7 @@ pub fn resolve_with(
     requires sized { IsWellSized deal.now }
     requires fits { IsFitting deal.now seeds.now mv.now }
     requires key { ForSome (option_copied key) (IsUsable deal.now) }
-    ensures exact { IfOk result (λ o. o ≡ option_map (λ c. (arc_of mv.now, c)) (call_with deal.now seeds.now (option_copied key.entry) mv.now)) }
+    ensures exact { IfOk result (λ o. o ≡ option_map (λ c. (move_arc mv.now, c)) (call_with deal.now seeds.now (option_copied key.entry) mv.now)) }
     ensures fits { IfOk result (λ o. ForSome o (λ x. IsTrue (fit deal.now x.0 x.1))) }
 {
     match call_with(alloc, deal, seeds, mv, key)? {

@@ -33,8 +33,7 @@ use Rattle.swap_main.specs.Laws.{SameWithoutStrategies, RulesDecide}
 use Rattle.swap_main.specs.Known.{by_rule}
 use Rattle.swap_main.proofs.ManyTexts.{one_text}
 use Rattle.swap_commands.specs.Output.{AreGiven, Chance, cast_by, finished, output_by, output_for, reported, state_of}
-use Rattle.swap_commands.specs.declared.words.Command.TheVariants.{OfJob, Audit, Clear, Many}
-use Rattle.swap_commands.specs.declared.words.JobCommand.TheVariants.{Check, Run, Race, Make}
+use Rattle.swap_commands.specs.Words.{OfJob, Audit, Clear, Many, Check, Run, Race, Make}
 
 -- What is written depends on the state alone.
 

@@ -2,19 +2,20 @@
 use Rattle.std.proofs.Common.{◌≡◌, ◌<◌, ◌≤◌, ◌+◌, ◌⊎◌, inl, inr, ℕ, Bool, true, false, List, length, Option, Some, None, Result, Ok, Err, refl}
 use Rattle.std.proofs.Common.{sym, ap, ◌∙◌, subst, arith, length-append}
 use Rattle.std.specs.Io.KnownBytes.{Keeps}
-use Rattle.swap_io.specs.Causes.{Rose, ConsumesAtMost, ConsumesSome}
+use Rattle.swap_io.specs.Causes.{ConsumesAtMost, ConsumesSome}
 use Rattle.refusals.specs.declared.reason.Reason.{Reason}
 use Rattle.command_input.specs.Input.{limit}
-use Rattle.swap_commands.specs.Words.{command_of}
+use Rattle.swap_commands.specs.Words.{command_of, Command}
 use Rattle.command_input.specs.Written.{Written}
 use Rattle.swap_commands.specs.Output.{Chance, no_chance, output_by, output_of, names_of}
 use Rattle.swap_commands.specs.Says.{HasRead, Says}
 use Rattle.swap_main.specs.Top.{AsksFairRace, AsksFairRun, Read, IsDone, IsCut, IsRefused, IsShort, IsStatusOf}
-use Rattle.swap_commands.specs.declared.words.Command.{Command}
 use Rattle.command_input.specs.declared.status.Status.{Status}
 use Rattle.command_input.specs.declared.status.Status.TheVariants.{Done, Named, WrongWords, Refused, ReadFault, WriteFault, NoMemory, TooLong}
-use Rattle.swap_world.specs.Gone.{Gives}
+use Rattle.command_input.specs.Streams.{HasReadFault, HasWriteFault, Streams}
+use Rattle.swap_world.specs.Gone.{MayGive}
 use Rattle.swap_commands.specs.Promised.{AsPromised}
+use Rattle.swap_commands.specs.Strategies.{strategies}
 use Rattle.swap_main.proofs.Fairly.{all_read, fails_by, is_not_named, is_not_refused, race_is_not_named, race_is_not_refused}
 
 module _ (has : List ℕ → Bool) where
@@ -26,15 +27,16 @@ module _ (has : List ℕ → Bool) where
       let e : ◌≡◌ {A = List ℕ} xs input = cc told in
       absurd (omega (arith, short, some.1, ap length e, ap length some.2, length-append some.0 ys))
 
-  module _ (gives : Gives) (words : List (List ℕ)) (left left' : Option (List ℕ)) (n m : ℕ) (taken taken' : Option (List ℕ)) (p q : ℕ)
+  module _ (gives : MayGive) (words : List (List ℕ)) (before after : Streams)
       (command : Command) (asked : command_of words ≡ Some command) where
     abbrev Said : Status → Type 0
-    Said s = Says has gives command left left' n m taken taken' p q s
+    Said s = Says (strategies has gives) command before after s
 
-    abbrev read_by : (a : Chance) (output : Result Written Reason) → HasRead has a command left left' output → Read has a words left left' output
+    abbrev read_by : (a : Chance) (output : Result Written Reason) → HasRead has a command before.left after.left output
+        → Read has a words before.left after.left output
     read_by a output r = record { command = command; asked = asked; input = r.input; taken = r.taken; ended = r.ended; within = r.within; gives = r.gives }
 
-    pub done : (s : Status) → Said s → s ≡ Done → IsDone has gives words left left' taken taken' false
+    pub done : (s : Status) → Said s → s ≡ Done → IsDone (strategies has gives) words before after false
     done s h e =
         let o = subst Said e h in
         record {
@@ -46,7 +48,7 @@ module _ (has : List ℕ → Bool) where
           promised = o.promised;
         }
 
-    pub named : (s : Status) → Said s → s ≡ Named → IsDone has gives words left left' taken taken' true
+    pub named : (s : Status) → Said s → s ≡ Named → IsDone (strategies has gives) words before after true
     named s h e =
         let o = subst Said e h in
         record {
@@ -58,26 +60,27 @@ module _ (has : List ℕ → Bool) where
           promised = o.promised;
         }
 
-    pub refused : (s : Status) → Said s → (reason : Reason) (names : List (List ℕ)) → s ≡ Refused reason names → IsRefused has words left left' reason names
+    pub refused : (s : Status) → Said s → (reason : Reason) (names : List (List ℕ)) → s ≡ Refused reason names
+        → IsRefused has words before.left after.left reason names
     refused s h reason names e =
         let o = subst Said e h in
         record { read = read_by no_chance (Err reason) o.0.read; named = o.0.named }
 
-    pub read_fault : (s : Status) → Said s → s ≡ ReadFault → Rose n m
+    pub read_fault : (s : Status) → Said s → s ≡ ReadFault → HasReadFault before after
     read_fault s h e = let o = subst Said e h in o.0
 
-    pub part : (s : Status) → Said s → (s ≡ ReadFault) ⊎ (s ≡ NoMemory) → ConsumesAtMost left left' limit
+    pub part : (s : Status) → Said s → (s ≡ ReadFault) ⊎ (s ≡ NoMemory) → ConsumesAtMost before.left after.left limit
     part s h (inl e) = let o = subst Said e h in o.2
     part s h (inr e) = by (subst Said e h)
       where
-        by : Said NoMemory → ConsumesAtMost left left' limit
+        by : Said NoMemory → ConsumesAtMost before.left after.left limit
         by (inl k) = k.1
         by (inr o) = (o.read.input, o.read.within, o.read.taken)
 
-    pub write_fault : (s : Status) → Said s → s ≡ WriteFault → Rose p q
+    pub write_fault : (s : Status) → Said s → s ≡ WriteFault → HasWriteFault before after
     write_fault s h e = let o = subst Said e h in o.0
 
-    pub cut : (s : Status) → Said s → s ≡ WriteFault → IsCut has gives words left left' taken taken'
+    pub cut : (s : Status) → Said s → s ≡ WriteFault → IsCut (strategies has gives) words before after
     cut s h e =
         let o = subst Said e h in
         record {
@@ -88,13 +91,13 @@ module _ (has : List ℕ → Bool) where
           prefix = o.1.written;
         }
 
-    pub too_long : (s : Status) → Said s → s ≡ TooLong → ConsumesSome left left' (limit + 1)
+    pub too_long : (s : Status) → Said s → s ≡ TooLong → ConsumesSome before.left after.left (limit + 1)
     too_long s h e = let o = subst Said e h in o.0
 
-    pub short : (s : Status) → Said s → s ≡ NoMemory → Keeps taken taken' ⊎ IsShort has gives words left left' taken taken'
+    pub short : (s : Status) → Said s → s ≡ NoMemory → Keeps before.taken after.taken ⊎ IsShort (strategies has gives) words before after
     short s h e = by (subst Said e h)
       where
-        by : Said NoMemory → Keeps taken taken' ⊎ IsShort has gives words left left' taken taken'
+        by : Said NoMemory → Keeps before.taken after.taken ⊎ IsShort (strategies has gives) words before after
         by (inl k) = inl k.0
         by (inr o) = inr (record {
           chance = o.chance;
@@ -104,7 +107,7 @@ module _ (has : List ℕ → Bool) where
           prefix = o.written;
         })
 
-    pub silent : (s : Status) → Said s → ¬ (s ≡ Done) → ¬ (s ≡ Named) → ¬ (s ≡ WriteFault) → ¬ (s ≡ NoMemory) → Keeps taken taken'
+    pub silent : (s : Status) → Said s → ¬ (s ≡ Done) → ¬ (s ≡ Named) → ¬ (s ≡ WriteFault) → ¬ (s ≡ NoMemory) → Keeps before.taken after.taken
     silent Done h d c w f = absurd (d refl)
     silent Named h d c w f = absurd (c refl)
     silent WrongWords h d c w f = absurd h
@@ -119,20 +122,22 @@ module _ (has : List ℕ → Bool) where
 
     -- where the source tells its bytes
 
-    same_input : (a : Chance) (output : Result Written Reason) (r : HasRead has a command left left' output) (input : List ℕ) → left ≡ Some input
+    same_input : (a : Chance) (output : Result Written Reason) (r : HasRead has a command before.left after.left output) (input : List ℕ)
+        → before.left ≡ Some input
         → r.input ≡ input
-    same_input a output r input told = all_read has left left' input r.input told r.taken r.ended
+    same_input a output r input told = all_read has before.left after.left input r.input told r.taken r.ended
 
     same_command : (other : Command) → command_of words ≡ Some other → command ≡ other
     same_command other e = cc (sym asked ∙ e)
 
     -- what was read was no more than may be
-    not_long : (a : Chance) (output : Result Written Reason) (r : HasRead has a command left left' output) (input : List ℕ) → left ≡ Some input
+    not_long : (a : Chance) (output : Result Written Reason) (r : HasRead has a command before.left after.left output) (input : List ℕ)
+        → before.left ≡ Some input
         → limit < length input → ⊥
     not_long a output r input told over = absurd (omega (arith, over, r.within, ap length (same_input a output r input told)))
 
-    pub long : (s : Status) → Said s → (other : Command) (input : List ℕ) → command_of words ≡ Some other → left ≡ Some input → limit < length input
-        → ¬ Rose n m → (s ≡ TooLong) ⊎ (s ≡ NoMemory)
+    pub long : (s : Status) → Said s → (other : Command) (input : List ℕ) → command_of words ≡ Some other → before.left ≡ Some input → limit < length input
+        → ¬ HasReadFault before after → (s ≡ TooLong) ⊎ (s ≡ NoMemory)
     long Done h other input is told over calm = absurd (not_long h.chance (Ok h.output) h.read input told over)
     long Named h other input is told over calm = absurd (not_long h.chance (Ok h.output) h.read input told over)
     long WrongWords h other input is told over calm = absurd h
@@ -143,22 +148,22 @@ module _ (has : List ℕ → Bool) where
     long TooLong h other input is told over calm = inl refl
 
     -- what the command gives for the input that the source tells
-    given : (a : Chance) (output : Result Written Reason) (r : HasRead has a command left left' output) (other : Command) (input : List ℕ)
-        → command_of words ≡ Some other → left ≡ Some input → output_by has a other input ≡ output
+    given : (a : Chance) (output : Result Written Reason) (r : HasRead has a command before.left after.left output) (other : Command) (input : List ℕ)
+        → command_of words ≡ Some other → before.left ≡ Some input → output_by has a other input ≡ output
     given a output r other input is told =
         ap (λ (c : Command). output_by has a c input) (sym (same_command other is))
         ∙ ap (output_by has a command) (sym (same_input a output r input told)) ∙ r.gives
 
     -- a promise of what was read is one of what the source tells
-    kept : (a : Chance) (output : Written) (r : HasRead has a command left left' (Ok output)) (other : Command) (input : List ℕ)
+    kept : (a : Chance) (output : Written) (r : HasRead has a command before.left after.left (Ok output)) (other : Command) (input : List ℕ)
         → command_of words ≡ Some other
-        → left ≡ Some input → AsPromised has gives a command r.input output → AsPromised has gives a other input output
+        → before.left ≡ Some input → AsPromised has gives a command r.input output → AsPromised has gives a other input output
     kept a output r other input is told k =
         subst (λ (c : Command). AsPromised has gives a c input output) (same_command other is)
         (subst (λ (xs : List ℕ). AsPromised has gives a command xs output) (same_input a (Ok output) r input told) k)
 
-    pub bad : (s : Status) → Said s → (other : Command) (input : List ℕ) (reason : Reason) → command_of words ≡ Some other → left ≡ Some input
-        → length input ≤ limit → output_of has other input ≡ Err reason → ¬ Rose n m
+    pub bad : (s : Status) → Said s → (other : Command) (input : List ℕ) (reason : Reason) → command_of words ≡ Some other → before.left ≡ Some input
+        → length input ≤ limit → output_of has other input ≡ Err reason → ¬ HasReadFault before after
         → (s ≡ Refused reason (names_of has other input)) ⊎ (s ≡ NoMemory)
     bad Done h other input reason is told within against calm =
         absurd (cc (sym (given h.chance (Ok h.output) h.read other input is told) ∙ fails_by has h.chance other input reason against))
@@ -174,10 +179,10 @@ module _ (has : List ℕ → Bool) where
     bad WriteFault h other input reason is told within against calm =
         absurd (cc (sym (given h.1.chance (Ok h.1.output) h.1.read other input is told) ∙ fails_by has h.1.chance other input reason against))
     bad NoMemory h other input reason is told within against calm = inr refl
-    bad TooLong h other input reason is told within against calm = absurd (past_all left left' input (limit + 1) told (omega (arith, within)) h.0)
+    bad TooLong h other input reason is told within against calm = absurd (past_all before.left after.left input (limit + 1) told (omega (arith, within)) h.0)
 
-    pub good : (s : Status) → Said s → (other : Command) (input : List ℕ) (output : Written) → command_of words ≡ Some other → left ≡ Some input
-        → length input ≤ limit → output_of has other input ≡ Ok output → ¬ Rose n m → ¬ Rose p q
+    pub good : (s : Status) → Said s → (other : Command) (input : List ℕ) (output : Written) → command_of words ≡ Some other → before.left ≡ Some input
+        → length input ≤ limit → output_of has other input ≡ Ok output → ¬ HasReadFault before after → ¬ HasWriteFault before after
         → IsStatusOf has gives other input s ⊎ (s ≡ NoMemory)
     good Done h other input output is told within made calm still = inl (record {
       chance = h.chance;
@@ -199,30 +204,34 @@ module _ (has : List ℕ → Bool) where
     good ReadFault h other input output is told within made calm still = absurd (calm h.0)
     good WriteFault h other input output is told within made calm still = absurd (still h.0)
     good NoMemory h other input output is told within made calm still = inr refl
-    good TooLong h other input output is told within made calm still = absurd (past_all left left' input (limit + 1) told (omega (arith, within)) h.0)
+    good TooLong h other input output is told within made calm still =
+        absurd (past_all before.left after.left input (limit + 1) told (omega (arith, within)) h.0)
 
-    pub fair : (s : Status) → Said s → AsksFairRun has words left → ¬ Rose n m → ¬ Rose p q → (s ≡ Done) ⊎ (s ≡ NoMemory)
+    pub fair : (s : Status) → Said s → AsksFairRun has words before.left → ¬ HasReadFault before after → ¬ HasWriteFault before after
+        → (s ≡ Done) ⊎ (s ≡ NoMemory)
     fair Done h a calm still = inl refl
     fair Named h a calm still =
-        absurd (cc (sym h.written.1 ∙ is_not_named has gives h.chance words left left' command h.read.input asked h.read.taken h.read.ended a h.output
-        h.promised))
+        absurd (cc (sym h.written.1 ∙ is_not_named has gives h.chance words before.left after.left command h.read.input asked h.read.taken h.read.ended a
+        h.output h.promised))
     fair WrongWords h a calm still = absurd h
-    fair (Refused reason names) h a calm still = absurd (is_not_refused has words left left' command h.0.read.input asked h.0.read.taken h.0.read.ended a reason
+    fair (Refused reason names) h a calm still =
+        absurd (is_not_refused has words before.left after.left command h.0.read.input asked h.0.read.taken h.0.read.ended a reason
         h.0.read.gives)
     fair ReadFault h a calm still = absurd (calm h.0)
     fair WriteFault h a calm still = absurd (still h.0)
     fair NoMemory h a calm still = inr refl
-    fair TooLong h a calm still = absurd (past_all left left' a.input (limit + 1) a.told (omega (arith, a.within)) h.0)
+    fair TooLong h a calm still = absurd (past_all before.left after.left a.input (limit + 1) a.told (omega (arith, a.within)) h.0)
 
-    pub fair_race : (s : Status) → Said s → AsksFairRace has words left → ¬ Rose n m → ¬ Rose p q → (s ≡ Done) ⊎ (s ≡ NoMemory)
+    pub fair_race : (s : Status) → Said s → AsksFairRace has words before.left → ¬ HasReadFault before after → ¬ HasWriteFault before after
+        → (s ≡ Done) ⊎ (s ≡ NoMemory)
     fair_race Done h a calm still = inl refl
     fair_race Named h a calm still =
-        absurd (cc (sym h.written.1 ∙ race_is_not_named has gives h.chance words left left' command h.read.input asked h.read.taken h.read.ended a h.output
-        h.promised))
+        absurd (cc (sym h.written.1 ∙ race_is_not_named has gives h.chance words before.left after.left command h.read.input asked h.read.taken h.read.ended
+        a h.output h.promised))
     fair_race WrongWords h a calm still = absurd h
     fair_race (Refused reason names) h a calm still =
-        absurd (race_is_not_refused has words left left' command h.0.read.input asked h.0.read.taken h.0.read.ended a reason h.0.read.gives)
+        absurd (race_is_not_refused has words before.left after.left command h.0.read.input asked h.0.read.taken h.0.read.ended a reason h.0.read.gives)
     fair_race ReadFault h a calm still = absurd (calm h.0)
     fair_race WriteFault h a calm still = absurd (still h.0)
     fair_race NoMemory h a calm still = inr refl
-    fair_race TooLong h a calm still = absurd (past_all left left' a.input (limit + 1) a.told (omega (arith, a.within)) h.0)
+    fair_race TooLong h a calm still = absurd (past_all before.left after.left a.input (limit + 1) a.told (omega (arith, a.within)) h.0)

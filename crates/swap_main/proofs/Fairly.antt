@@ -11,13 +11,10 @@ use Rattle.outcome_rules.specs.Promises.{AllAreConforming}
 use Rattle.refusals.specs.declared.reason.Reason.{Reason}
 use Rattle.swap_offer.specs.Job.{job_of}
 use Rattle.command_input.specs.Written.{Written}
-use Rattle.swap_commands.specs.declared.words.Command.{Command}
+use Rattle.swap_commands.specs.Words.{Command, OfJob, Audit, Clear, Many, Check, Run, Race, Make, command_of}
 use Rattle.swap_run.specs.Asked.{Answers}
 use Rattle.ledger_core.specs.Book.{Histories}
-use Rattle.swap_world.specs.Gone.{Gives}
-use Rattle.swap_commands.specs.declared.words.Command.TheVariants.{OfJob, Audit, Clear, Many}
-use Rattle.swap_commands.specs.declared.words.JobCommand.TheVariants.{Check, Run, Race, Make}
-use Rattle.swap_commands.specs.Words.{command_of}
+use Rattle.swap_world.specs.Gone.{MayGive}
 use Rattle.command_input.specs.Lines.{lines_of, filled_lines}
 use Rattle.swap_commands.specs.Output.{Chance, book_of, no_chance, output_by, output_for, output_of, report_for, reported}
 use Rattle.swap_commands.specs.Promised.{AsPromised, IsRace, IsRun}
@@ -46,7 +43,7 @@ module _ (has : List ℕ → Bool) where
       let p : ◌≡◌ {A = Job × List Event} (job, events) (other, more) = cc h in
       (ap (λ (x : Job × List Event). x.0) p, ap (λ (x : Job × List Event). x.1) p)
 
-  nothing_found : (gives : Gives) (a : Answers) (transcript : Bool) (job : Job) (read : Result (Job × List Event) Reason) (output : Written)
+  nothing_found : (gives : MayGive) (a : Answers) (transcript : Bool) (job : Job) (read : Result (Job × List Event) Reason) (output : Written)
       → read ≡ Ok (job, []) → job.finish ≡ Fair
       → AllAreConforming job.deal job.conforming → IsRun gives a transcript read output → output.found ≡ false
   nothing_found gives a transcript job read output r fair all p =
@@ -72,7 +69,7 @@ module _ (has : List ℕ → Bool) where
         ap (λ (q : Result (Job × List Event) Reason). output_for no_chance (Run a.transcript) (filled_lines 1 (lines_of items)) q) (sym is_read) ∙ r in
         cc w
 
-  module _ (gives : Gives) (chance : Chance) (words : List (List ℕ)) (left left' : Option (List ℕ)) (command : Command) (items : List ℕ)
+  module _ (gives : MayGive) (chance : Chance) (words : List (List ℕ)) (left left' : Option (List ℕ)) (command : Command) (items : List ℕ)
       (asked : command_of words ≡ Some command) (taken : Consumes left left' items) (end : IsAtEnd left') (a : AsksFairRun has words left) where
     pub is_not_named : (output : Written) → AsPromised has gives chance command items output → output.found ≡ false
     is_not_named output p =
@@ -82,7 +79,7 @@ module _ (has : List ℕ → Bool) where
 
   -- A race of parties that all conform.
 
-  nothing_found_raced : (gives : Gives) (b : Histories) (ticks : ℕ) (transcript : Bool) (job : Job) (read : Result (Job × List Event) Reason)
+  nothing_found_raced : (gives : MayGive) (b : Histories) (ticks : ℕ) (transcript : Bool) (job : Job) (read : Result (Job × List Event) Reason)
       (output : Written) → read ≡ Ok (job, []) → 2 * ticks ≤ job.deal.delta → AllAreConforming job.deal job.conforming
       → IsRace gives b ticks transcript read output → output.found ≡ false
   nothing_found_raced gives b ticks transcript job read output r fits all p =
@@ -110,7 +107,7 @@ module _ (has : List ℕ → Bool) where
         (sym is_read_raced) ∙ r in
         cc w
 
-  module _ (gives : Gives) (chance : Chance) (words : List (List ℕ)) (left left' : Option (List ℕ)) (command : Command) (items : List ℕ)
+  module _ (gives : MayGive) (chance : Chance) (words : List (List ℕ)) (left left' : Option (List ℕ)) (command : Command) (items : List ℕ)
       (asked : command_of words ≡ Some command) (taken : Consumes left left' items) (end : IsAtEnd left') (a : AsksFairRace has words left) where
     pub race_is_not_named : (output : Written) → AsPromised has gives chance command items output → output.found ≡ false
     race_is_not_named output p =

@@ -20,7 +20,7 @@ use Rattle.swap_rules.proofs.Prefixes.{begins_more, begins_refl}
 use Rattle.swap_run.specs.Asked.{Answers, Rule, with_answers}
 use Rattle.swap_run.specs.Run.{Cast, Question, State, act, act_as, after_question, after_turn, answer_for, conforms, look, make, next_of, plan_of}
 use Rattle.swap_run.specs.Run.{question, role_of, step, take_call, watch}
-use Rattle.swap_run.specs.Fair.{repeat, adjacent, most_acts}
+use Rattle.swap_run.specs.Fair.{repeat, adjacent_arcs, most_acts}
 use Rattle.swap_run.specs.Called.{Called, by, by_due, called_as, is_barred, noted_to, planned_to, step_on, turned_as}
 use Rattle.swap_many.specs.declared.many_event.ManyEvent.{ManyEvent}
 use Rattle.swap_many.specs.declared.many_event.ManyEvent.TheVariants.{Tick, In, Pay, Sweep}
@@ -311,7 +311,7 @@ module _ (rule : Rule) (m : Setup) (g h : ℕ → Answers) where
 
   looks_orderly : (s v : ℕ) (z : Kept) → Orderly z (kept_looks s v a z) (kept_looks s v b z)
   looks_orderly s v =
-      along (λ z x. kept_done false a z (In s (events.Look v x))) (λ z x. kept_done false b z (In s (events.Look v x))) (adjacent (m.cast s).deal v)
+      along (λ z x. kept_done false a z (In s (events.Look v x))) (λ z x. kept_done false b z (In s (events.Look v x))) (adjacent_arcs (m.cast s).deal v)
       (λ z x. done_orderly false (In s (events.Look v x)) z)
 
   turn_orderly : (s : ℕ) (z : Kept) (v : ℕ) → Orderly z (kept_turn s a z v) (kept_turn s b z v)

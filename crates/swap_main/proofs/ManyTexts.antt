@@ -11,7 +11,7 @@ use Rattle.swap_many.specs.declared.many_event.ManyEvent.{ManyEvent}
 use Rattle.swap_many.specs.declared.place.Place.{Place}
 use Rattle.many_lines.specs.Places.{job_at}
 use Rattle.many_lines.specs.Setup.{setup_by}
-use Rattle.swap_commands.specs.Many.{Headed, events_told, many_state, many_written, opened}
+use Rattle.swap_commands.specs.Many.{Headed, events_told, many_state, many_written, opened_places}
 use Rattle.swap_commands.specs.Output.{AreGiven}
 use Rattle.swap_commands.specs.Promised.{IsManyRun}
 use Rattle.swap_main.specs.Known.{by_rule}
@@ -51,7 +51,7 @@ module _ (rule : NameRule) (g other : ℕ → Answers) where
     same_places : q.places ≡ p.places
     same_places =
         let e : ◌≡◌ {A = Result (List (List Place)) Refusal} (Ok q.places) (Ok p.places)
-        = sym q.are_placed ∙ (ap (λ (h : Headed). opened h.many) one_head ∙ p.are_placed) in
+        = sym q.are_placed ∙ (ap (λ (h : Headed). opened_places h.many) one_head ∙ p.are_placed) in
         cc e
 
     both_by_rule : AreByRule rule other p.head p.events p.places

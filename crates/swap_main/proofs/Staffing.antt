@@ -10,23 +10,20 @@ use Rattle.offer_header.specs.Names.{has_strategy}
 use Rattle.deviators.specs.Program.{program_names}
 use Rattle.swap_run.specs.Run.{Cast}
 use Rattle.swap_world.specs.Cast.{cast_of}
-use Rattle.swap_world.specs.Gone.{Gives}
+use Rattle.swap_world.specs.Gone.{MayGive}
 use Rattle.command_input.specs.Written.{Written}
 use Rattle.many_lines.specs.Places.{job_at}
 use Rattle.party_threads.specs.Race.{IsRaceBook}
 use Rattle.party_threads.proofs.Others.{races_say_less}
 use Rattle.swap_commands.specs.Output.{Chance}
 use Rattle.swap_commands.specs.Promised.{AsPromised}
-use Rattle.swap_commands.specs.Entered.{Obeys}
 use Rattle.swap_commands.specs.Says.{HasOutput, Says}
 use Rattle.swap_main.specs.Known.{is_known}
-use Rattle.swap_commands.specs.declared.staff.Obeyed.{Obeyed}
-use Rattle.swap_commands.specs.declared.staff.Obeyed.TheVariants.{Ended, Entered}
-use Rattle.swap_commands.specs.declared.words.Command.{Command}
-use Rattle.swap_commands.specs.declared.words.Command.TheVariants.{OfJob, Audit, Clear, Many}
-use Rattle.swap_commands.specs.declared.words.JobCommand.TheVariants.{Check, Run, Race, Make}
+use Rattle.swap_commands.specs.Words.{Command, OfJob, Audit, Clear, Many, Check, Run, Race, Make}
+use Rattle.swap_commands.specs.Strategies.{strategies}
 use Rattle.command_input.specs.declared.status.Status.{Status}
 use Rattle.command_input.specs.declared.status.Status.TheVariants.{Done, Named, WrongWords, Refused, ReadFault, WriteFault, NoMemory, TooLong}
+use Rattle.command_input.specs.Streams.{Streams}
 
 -- a kit with a strategy for each name has those of these names
 is_had : {A : Type 0} (names : List (List ℕ)) (xs : List A) (name : List ℕ) → length names ≡ length xs
@@ -45,7 +42,7 @@ has_known {A = A} names xs is paired =
     subst (λ (ns : List (List ℕ)). ◌≡◌ {A = List ℕ → Bool} (has_strategy names xs) (λ name. list_any (λ n. bytes_eq n name) ns)) is
     (λ j name. is_had names xs name paired j)
 
-module _ (gives other : Gives)
+module _ (gives other : MayGive)
     (more : (name : List ℕ) (d : Deal) (p t : ℕ) (k : Histories) (o : Option (ℕ × Call)) → gives name d p t k o → other name d p t k o) where
   raced_more : (c : Cast) (ticks : ℕ) (b : Histories) → IsRaceBook gives c ticks b → IsRaceBook other c ticks b
   raced_more c ticks b r = races_say_less gives other c ticks b more r
@@ -99,18 +96,14 @@ module _ (gives other : Gives)
       written = h.written;
     }
 
-    module _ (command : Command) (left left' : Option (List ℕ)) (n m : ℕ) (taken taken' : Option (List ℕ)) (p q : ℕ) where
-      pub says_more : (s : Status) → Says has gives command left left' n m taken taken' p q s → Says has other command left left' n m taken taken' p q s
-      says_more Done h = output_more _ command left left' h
-      says_more Named h = output_more _ command left left' h
+    module _ (command : Command) (before after : Streams) where
+      pub says_more : (s : Status) → Says (strategies has gives) command before after s → Says (strategies has other) command before after s
+      says_more Done h = output_more _ command before.left after.left h
+      says_more Named h = output_more _ command before.left after.left h
       says_more WrongWords h = h
       says_more (Refused reason names) h = h
       says_more ReadFault h = h
-      says_more WriteFault h = (h.0, output_more _ command left left' h.1)
+      says_more WriteFault h = (h.0, output_more _ command before.left after.left h.1)
       says_more NoMemory (inl kept) = inl kept
-      says_more NoMemory (inr h) = inr (output_more _ command left left' h)
+      says_more NoMemory (inr h) = inr (output_more _ command before.left after.left h)
       says_more TooLong h = h
-
-      pub obeys_more : (o : Obeyed) → Obeys has gives command left left' n m taken taken' p q o → Obeys has other command left left' n m taken taken' p q o
-      obeys_more (Ended s) h = says_more s h
-      obeys_more (Entered job wallets) h = h

@@ -1,51 +1,52 @@
 -- What the program promises of its answer: what each status says, and which status comes.
-use Rattle.std.specs.Prelude.{◌≡◌, ◌<◌, ◌≤◌, ◌+◌, ◌⊎◌, ℕ, Bool, true, false, List, length, Option, Some, Ok, Err}
+use Rattle.std.specs.Prelude.{◌≡◌, ◌<◌, ◌≤◌, ◌+◌, ◌⊎◌, ℕ, true, false, List, length, Some, Ok, Err}
 use Rattle.std.specs.Io.KnownBytes.{Keeps}
-use Rattle.swap_io.specs.Causes.{AppendsProperPrefix, Rose, ConsumesAtMost, ConsumesSome}
+use Rattle.swap_io.specs.Causes.{AppendsProperPrefix, ConsumesAtMost, ConsumesSome}
 use Rattle.swap_io.specs.Handed.{AppendsPrefix}
 use Rattle.refusals.specs.declared.reason.Reason.{Reason}
-use Rattle.command_input.specs.Written.{IsWhole, Written}
-use Rattle.swap_world.specs.Gone.{Gives}
-use Rattle.swap_commands.specs.declared.words.Command.{Command}
-use Rattle.swap_commands.specs.declared.words.Request.{Request}
+use Rattle.command_input.specs.Written.{IsWrittenWhole, Written}
+use Rattle.swap_commands.specs.Words.{Command, command_of, request_of}
+use Rattle.program_words.specs.declared.task.Request.{Request}
 use Rattle.command_input.specs.declared.status.Status.{Status}
 use Rattle.command_input.specs.declared.status.Status.TheVariants.{Done, Named, Refused, ReadFault, WriteFault, NoMemory, TooLong}
-use Rattle.swap_commands.specs.Words.{command_of, request_of}
 use Rattle.swap_commands.specs.Output.{output_of, names_of}
 use Rattle.swap_commands.specs.Generated.{generated_output, Generates}
+use Rattle.swap_commands.specs.Strategies.{Strategies}
 use Rattle.command_input.specs.Input.{limit}
+use Rattle.command_input.specs.Streams.{HasReadFault, HasWriteFault, Streams}
 use Rattle.swap_main.specs.Top.{AsksFairRace, AsksFairRun, IsDone, IsCut, IsRefused, IsShort, IsStatusOf, status_of}
 
--- What the program's answer promises, by its words, what is left of its input and what its output has taken, before and after, and how many of their calls
--- failed.
-pub record IsAnswer (has : List ℕ → Bool) (gives : Gives) (words : List (List ℕ)) (left left' : Option (List ℕ)) (n m : ℕ)
-    (taken taken' : Option (List ℕ)) (p q : ℕ) (s : Status) : Type 0 where
+-- What the program's answer promises, by its words, and by its input and its output before and after.
+pub record IsAnswer (who : Strategies) (words : List (List ℕ)) (before after : Streams) (s : Status) : Type 0 where
   -- What each status says: by an input, or without one by a number.
-  pub done : s ≡ Done → IsDone has gives words left left' taken taken' false ⊎ Generates (IsWhole taken taken' false) words left left'
-  pub named : s ≡ Named → IsDone has gives words left left' taken taken' true ⊎ Generates (IsWhole taken taken' true) words left left'
-  pub refused : (reason : Reason) (names : List (List ℕ)) → s ≡ Refused reason names → IsRefused has words left left' reason names
-  pub read_fault : s ≡ ReadFault → Rose n m
+  pub done : s ≡ Done → IsDone who words before after false ⊎ Generates (IsWrittenWhole before.taken after.taken false) words before.left after.left
+  pub named : s ≡ Named → IsDone who words before after true ⊎ Generates (IsWrittenWhole before.taken after.taken true) words before.left after.left
+  pub refused : (reason : Reason) (names : List (List ℕ)) → s ≡ Refused reason names → IsRefused who.holds words before.left after.left reason names
+  pub read_fault : s ≡ ReadFault → HasReadFault before after
   -- a part of the input was read, or all of it
-  pub part : (s ≡ ReadFault) ⊎ (s ≡ NoMemory) → ConsumesAtMost left left' limit
-  pub write_fault : s ≡ WriteFault → Rose p q
+  pub part : (s ≡ ReadFault) ⊎ (s ≡ NoMemory) → ConsumesAtMost before.left after.left limit
+  pub write_fault : s ≡ WriteFault → HasWriteFault before after
   pub cut : s ≡ WriteFault
-      → IsCut has gives words left left' taken taken' ⊎ Generates (λ output. AppendsProperPrefix taken taken' output.text) words left left'
-  pub too_long : s ≡ TooLong → ConsumesSome left left' (limit + 1)
+      → IsCut who words before after ⊎ Generates (λ output. AppendsProperPrefix before.taken after.taken output.text) words before.left after.left
+  pub too_long : s ≡ TooLong → ConsumesSome before.left after.left (limit + 1)
   pub short : s ≡ NoMemory
-      → Keeps taken taken' ⊎ IsShort has gives words left left' taken taken' ⊎ Generates (λ output. AppendsPrefix taken taken' output.text) words left left'
+      → Keeps before.taken after.taken ⊎ IsShort who words before after
+      ⊎ Generates (λ output. AppendsPrefix before.taken after.taken output.text) words before.left after.left
   -- With any other status nothing is written.
-  pub silent : ¬ (s ≡ Done) → ¬ (s ≡ Named) → ¬ (s ≡ WriteFault) → ¬ (s ≡ NoMemory) → Keeps taken taken'
+  pub silent : ¬ (s ≡ Done) → ¬ (s ≡ Named) → ¬ (s ≡ WriteFault) → ¬ (s ≡ NoMemory) → Keeps before.taken after.taken
   -- What is answered where the source tells its bytes and no call fails.
-  pub long : (command : Command) (input : List ℕ) → command_of words ≡ Some command → left ≡ Some input → limit < length input → ¬ Rose n m
+  pub long : (command : Command) (input : List ℕ) → command_of words ≡ Some command → before.left ≡ Some input → limit < length input
+      → ¬ HasReadFault before after
       → (s ≡ TooLong) ⊎ (s ≡ NoMemory)
-  pub bad : (command : Command) (input : List ℕ) (reason : Reason) → command_of words ≡ Some command → left ≡ Some input → length input ≤ limit
-      → output_of has command input ≡ Err reason → ¬ Rose n m → (s ≡ Refused reason (names_of has command input)) ⊎ (s ≡ NoMemory)
-  pub good : (command : Command) (input : List ℕ) (output : Written) → command_of words ≡ Some command → left ≡ Some input → length input ≤ limit
-      → output_of has command input ≡ Ok output → ¬ Rose n m → ¬ Rose p q → IsStatusOf has gives command input s ⊎ (s ≡ NoMemory)
-  pub fair_run : AsksFairRun has words left → ¬ Rose n m → ¬ Rose p q → (s ≡ Done) ⊎ (s ≡ NoMemory)
-  pub fair_race : AsksFairRace has words left → ¬ Rose n m → ¬ Rose p q → (s ≡ Done) ⊎ (s ≡ NoMemory)
+  pub bad : (command : Command) (input : List ℕ) (reason : Reason) → command_of words ≡ Some command → before.left ≡ Some input → length input ≤ limit
+      → output_of who.holds command input ≡ Err reason → ¬ HasReadFault before after → (s ≡ Refused reason (names_of who.holds command input)) ⊎ (s ≡ NoMemory)
+  pub good : (command : Command) (input : List ℕ) (output : Written) → command_of words ≡ Some command → before.left ≡ Some input → length input ≤ limit
+      → output_of who.holds command input ≡ Ok output → ¬ HasReadFault before after → ¬ HasWriteFault before after
+      → IsStatusOf who.holds who.gives command input s ⊎ (s ≡ NoMemory)
+  pub fair_run : AsksFairRun who.holds words before.left → ¬ HasReadFault before after → ¬ HasWriteFault before after → (s ≡ Done) ⊎ (s ≡ NoMemory)
+  pub fair_race : AsksFairRace who.holds words before.left → ¬ HasReadFault before after → ¬ HasWriteFault before after → (s ≡ Done) ⊎ (s ≡ NoMemory)
   -- The job of a number is made without reading, and no status speaks of an input then.
   pub no_read_fault : (request : Request) → request_of words ≡ Some request → ¬ (s ≡ ReadFault)
   pub not_too_long : (request : Request) → request_of words ≡ Some request → ¬ (s ≡ TooLong)
-  pub generated : (request : Request) → request_of words ≡ Some request → ¬ Rose p q
+  pub generated : (request : Request) → request_of words ≡ Some request → ¬ HasWriteFault before after
       → (s ≡ status_of (generated_output request).found) ⊎ (s ≡ NoMemory)

@@ -7,15 +7,15 @@ use Rattle.command_input.specs.declared.status.Status.TheVariants.{Done, Named, 
 use Rattle.command_input.specs.Told.{refusal_text, told_text}
 
 -- the number of a status
-abbrev pub number_of : Status → ℕ
-number_of Done = 0
-number_of Named = 1
-number_of WrongWords = 2
-number_of (Refused reason names) = 3
-number_of ReadFault = 4
-number_of WriteFault = 5
-number_of NoMemory = 6
-number_of TooLong = 7
+abbrev pub exit_number : Status → ℕ
+exit_number Done = 0
+exit_number Named = 1
+exit_number WrongWords = 2
+exit_number (Refused reason names) = 3
+exit_number ReadFault = 4
+exit_number WriteFault = 5
+exit_number NoMemory = 6
+exit_number TooLong = 7
 
 -- the words that the program takes
 unfoldable pub usage : List ℕ
@@ -24,17 +24,17 @@ usage =
     codes " | make | gen --seed S --parties N --events E [--summary] | clear | many\n" ∷ [])
 
 -- the lines of standard error; none where the text was written whole
-unfoldable pub lines_of : Status → List ℕ
-lines_of Done = []
-lines_of Named = []
-lines_of WrongWords = joined (codes "swap: wrong words\n" ∷ usage ∷ [])
-lines_of (Refused reason names) = refusal_text names reason
-lines_of ReadFault = codes "swap: read fault\n"
-lines_of WriteFault = codes "swap: write fault\n"
-lines_of NoMemory = codes "swap: no memory\n"
-lines_of TooLong = codes "swap: too long\n"
+unfoldable pub error_lines : Status → List ℕ
+error_lines Done = []
+error_lines Named = []
+error_lines WrongWords = joined (codes "swap: wrong words\n" ∷ usage ∷ [])
+error_lines (Refused reason names) = refusal_text names reason
+error_lines ReadFault = codes "swap: read fault\n"
+error_lines WriteFault = codes "swap: write fault\n"
+error_lines NoMemory = codes "swap: no memory\n"
+error_lines TooLong = codes "swap: too long\n"
 
 -- the number of the status, and its lines
 pub record IsExit (exit : Exit) (status : Status) : Type 0 where
-  pub number : exit.number ≡ number_of status
-  pub lines : told_text exit.told ≡ lines_of status
+  pub number : exit.number ≡ exit_number status
+  pub lines : told_text exit.told ≡ error_lines status

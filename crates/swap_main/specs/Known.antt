@@ -6,12 +6,12 @@ use Rattle.swap_digraph.specs.declared.deal.Deal.{Deal}
 use Rattle.ledger_core.specs.declared.entry.Call.{Call}
 use Rattle.ledger_core.specs.Book.{Histories}
 use Rattle.deviators.specs.Program.{program_names}
-use Rattle.swap_world.specs.Gone.{Gives}
+use Rattle.swap_world.specs.Gone.{MayGive}
 
 -- the program knows a strategy of that name
 abbrev pub is_known : List ℕ → Bool
 is_known name = list_any (λ n. bytes_eq n name) program_names
 
 -- what may be answered is what the rule says
-abbrev pub by_rule : (List ℕ → Deal → ℕ → ℕ → Histories → Option (ℕ × Call)) → Gives
+abbrev pub by_rule : (List ℕ → Deal → ℕ → ℕ → Histories → Option (ℕ × Call)) → MayGive
 by_rule rule name d p t k o = o ≡ rule name d p t k

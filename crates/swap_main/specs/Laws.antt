@@ -11,12 +11,9 @@ use Rattle.swap_run.specs.Asked.{is_strategy}
 use Rattle.swap_offer.specs.Job.{job_of}
 use Rattle.command_input.specs.Written.{Written}
 use Rattle.swap_commands.specs.Output.{Chance, output_by}
-use Rattle.swap_commands.specs.Words.{is_race}
+use Rattle.swap_commands.specs.Words.{is_race, Command, OfJob, Run}
 use Rattle.swap_commands.specs.Promised.{AsPromised}
 use Rattle.swap_main.specs.Known.{by_rule}
-use Rattle.swap_commands.specs.declared.words.Command.{Command}
-use Rattle.swap_commands.specs.declared.words.Command.TheVariants.{OfJob}
-use Rattle.swap_commands.specs.declared.words.JobCommand.TheVariants.{Run}
 
 -- where nobody follows a strategy, what is written of a run is the same whatever chance decides
 abbrev pub SameWithoutStrategies : Type 0

@@ -10,16 +10,15 @@ use Rattle.swap_job.specs.declared.job.Finish.TheVariants.{Fair}
 use Rattle.outcome_rules.specs.Promises.{AllAreConforming}
 use Rattle.swap_offer.specs.Job.{job_of}
 use Rattle.command_input.specs.Written.{Written}
-use Rattle.swap_commands.specs.Words.{command_of}
+use Rattle.swap_commands.specs.Words.{command_of, Command, OfJob, Run, Race}
 use Rattle.command_input.specs.Input.{limit}
-use Rattle.swap_world.specs.Gone.{Gives}
+use Rattle.swap_world.specs.Gone.{MayGive}
 use Rattle.swap_commands.specs.Output.{Chance, output_by, no_chance, names_of}
 use Rattle.swap_commands.specs.Promised.{AsPromised}
-use Rattle.swap_commands.specs.declared.words.Command.{Command}
-use Rattle.swap_commands.specs.declared.words.Command.TheVariants.{OfJob}
-use Rattle.swap_commands.specs.declared.words.JobCommand.TheVariants.{Run, Race}
+use Rattle.swap_commands.specs.Strategies.{Strategies}
 use Rattle.command_input.specs.declared.status.Status.{Status}
 use Rattle.command_input.specs.declared.status.Status.TheVariants.{Done, Named}
+use Rattle.command_input.specs.Streams.{Streams}
 
 -- The words are a command, the whole input was read, and this is the command's output for it, where chance decides so.
 pub record Read (has : List ℕ → Bool) (chance : Chance) (words : List (List ℕ)) (left left' : Option (List ℕ)) (output : Result Written Reason) : Type 0 where
@@ -33,29 +32,29 @@ pub record Read (has : List ℕ → Bool) (chance : Chance) (words : List (List 
 
 -- The input was read to its end, its text by what chance decided was written whole, and what the text shows is promised: also that each answer is one that
 -- its strategy may give, and that a race came to the book.
-pub record IsDone (has : List ℕ → Bool) (gives : Gives) (words : List (List ℕ)) (left left' taken taken' : Option (List ℕ)) (found : Bool) : Type 0 where
+pub record IsDone (who : Strategies) (words : List (List ℕ)) (before after : Streams) (found : Bool) : Type 0 where
   pub chance : Chance
   pub output : Written
-  pub read : Read has chance words left left' (Ok output)
-  pub written : Appends taken taken' output.text
+  pub read : Read who.holds chance words before.left after.left (Ok output)
+  pub written : Appends before.taken after.taken output.text
   pub findings : output.found ≡ found
-  pub promised : AsPromised has gives chance read.command read.input output
+  pub promised : AsPromised who.holds who.gives chance read.command read.input output
 
 -- The input was read to its end, and a proper prefix of its text was written.
-pub record IsCut (has : List ℕ → Bool) (gives : Gives) (words : List (List ℕ)) (left left' taken taken' : Option (List ℕ)) : Type 0 where
+pub record IsCut (who : Strategies) (words : List (List ℕ)) (before after : Streams) : Type 0 where
   pub chance : Chance
   pub output : Written
-  pub read : Read has chance words left left' (Ok output)
-  pub promised : AsPromised has gives chance read.command read.input output
-  pub prefix : AppendsProperPrefix taken taken' output.text
+  pub read : Read who.holds chance words before.left after.left (Ok output)
+  pub promised : AsPromised who.holds who.gives chance read.command read.input output
+  pub prefix : AppendsProperPrefix before.taken after.taken output.text
 
 -- The input was read to its end, and a prefix of its text was written.
-pub record IsShort (has : List ℕ → Bool) (gives : Gives) (words : List (List ℕ)) (left left' taken taken' : Option (List ℕ)) : Type 0 where
+pub record IsShort (who : Strategies) (words : List (List ℕ)) (before after : Streams) : Type 0 where
   pub chance : Chance
   pub output : Written
-  pub read : Read has chance words left left' (Ok output)
-  pub promised : AsPromised has gives chance read.command read.input output
-  pub prefix : AppendsPrefix taken taken' output.text
+  pub read : Read who.holds chance words before.left after.left (Ok output)
+  pub promised : AsPromised who.holds who.gives chance read.command read.input output
+  pub prefix : AppendsPrefix before.taken after.taken output.text
 
 -- The input was read to its end and is refused for the reason, and these are the names in its header.
 pub record IsRefused (has : List ℕ → Bool) (words : List (List ℕ)) (left left' : Option (List ℕ)) (reason : Reason) (names : List (List ℕ)) : Type 0 where
@@ -92,7 +91,7 @@ abbrev pub status_of : Bool → Status
 status_of found = if found then Named else Done
 
 -- The status is that of the input's output by what chance decided, which is promised.
-pub record IsStatusOf (has : List ℕ → Bool) (gives : Gives) (command : Command) (input : List ℕ) (s : Status) : Type 0 where
+pub record IsStatusOf (has : List ℕ → Bool) (gives : MayGive) (command : Command) (input : List ℕ) (s : Status) : Type 0 where
   pub chance : Chance
   pub output : Written
   pub made : output_by has chance command input ≡ Ok output

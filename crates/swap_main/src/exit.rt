@@ -7,14 +7,14 @@ ghost use Rattle.swap_main.specs.Exit.{IsExit};
 use command_input::{Exit, Status, Told, refusal_text};
 use std::alloc::Global;
 
-#[tactic(auto, unfolding(crate::specs::Exit::lines_of))]
+#[tactic(auto, unfolding(crate::specs::Exit::error_lines))]
 fn without_memory() -> Exit
     ensures { IsExit result Status.NoMemory }
 {
     Exit::of_words(6, "swap: no memory\n")
 }
 
-#[tactic(auto, unfolding(crate::specs::Exit::lines_of, crate::specs::Exit::usage))]
+#[tactic(auto, unfolding(crate::specs::Exit::error_lines, crate::specs::Exit::usage))]
 fn with_wrong_words() -> Exit
     ensures { IsExit result Status.WrongWords }
 {
@@ -26,7 +26,7 @@ fn with_wrong_words() -> Exit
 }
 
 /// What the process ends with by its status. A refusal whose line finds no memory ends as want of memory does.
-#[tactic(auto, unfolding(crate::specs::Exit::lines_of))]
+#[tactic(auto, unfolding(crate::specs::Exit::error_lines))]
 pub fn ending(alloc: Global, status: Status) -> Exit
     ensures exact { IsExit result status ⊎ IsExit result Status.NoMemory }
     ensures plain { ((reason : Reason) (names : List (List ℕ)) → ¬ (status ≡ Status.Refused reason names)) → IsExit result status }

@@ -13,6 +13,7 @@ pub use command_input::{Exit, Status, Told};
 pub use exit::ending;
 pub use laws::the_text_is_determined;
 pub use program::Program;
+pub use program_words::Order;
 pub use refusals::refusal_line;
-pub use swap_commands::{Command, JobCommand, Obeyed, Request, Staff, Task};
+pub use swap_commands::Staff;
 pub use top::{swap_plain, swap_top};

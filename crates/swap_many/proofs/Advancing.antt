@@ -2,7 +2,7 @@
 use Rattle.std.proofs.Common.{◌≡◌, ℕ, suc, ◌+◌, ◌-◌, ◌≤◌, sym, ap, ◌∙◌, arith}
 use Rattle.swap_run.specs.Asked.{Answers}
 use Rattle.swap_run.specs.Fair.{repeat}
-use Rattle.swap_world.specs.Gone.{Gives}
+use Rattle.swap_world.specs.Gone.{MayGive}
 use Rattle.swap_many.specs.Kept.{Kept}
 use Rattle.swap_many.specs.Fair.{kept_ticks, kept_round, kept_round_or_rest, SkipsTo}
 use Rattle.swap_many.specs.Value.{ManyState, AreReady, setup_for, kept_of, HasManyGone, IsManyStopped}
@@ -10,7 +10,7 @@ use Rattle.swap_many.proofs.Way.{round_steps}
 use Rattle.swap_many.proofs.Gone.{LeadOn, gone_as, gone_then, leads_repeat, repeat_split, stopped_as, stopped_then, stopped_after}
 use Rattle.swap_many.proofs.Turning.{ticks_lead, unless_leads}
 
-module _ (gives : Gives) (old mid new : ManyState) (n : ℕ) (ready : AreReady old)
+module _ (gives : MayGive) (old mid new : ManyState) (n : ℕ) (ready : AreReady old)
     (skips : (g : ℕ → Answers) → SkipsTo (setup_for old g) n (kept_of old)) where
   are_rounds : (g : ℕ → Answers) → kept_round (setup_for old g) (repeat n (kept_ticks (setup_for old g)) (kept_of old))
       ≡ repeat (n + 1) (kept_round_or_rest (setup_for old g)) (kept_of old)
@@ -41,7 +41,7 @@ module _ (gives : Gives) (old mid new : ManyState) (n : ℕ) (ready : AreReady o
       (stopped_after gives (λ m z. repeat n (kept_ticks m) z) kept_round old mid new ready passes_lead a k)
 
 -- So many rounds are left of all, of which n more are taken.
-module _ (gives : Gives) (old mid new : ManyState) (all left n : ℕ) (few : left ≤ all) (less : n ≤ left)
+module _ (gives : MayGive) (old mid new : ManyState) (all left n : ℕ) (few : left ≤ all) (less : n ≤ left)
     (so_far : HasManyGone gives (λ m z. repeat (all - left) (kept_round_or_rest m) z) old mid) where
   in_a_row : (f : Kept → Kept) (z : Kept) → repeat n f (repeat (all - left) f z) ≡ repeat (all - (left - n)) f z
   in_a_row f z =

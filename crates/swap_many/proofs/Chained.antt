@@ -1,7 +1,7 @@
 -- What a payment does to many worlds.
 use Rattle.std.proofs.Common.{◌≡◌, ℕ, ◌<◌, Bool, true, false, cond, length, refl, ap, ◌∙◌, IsTrue}
 use Rattle.std.proofs.lemmas.List.{length-set}
-use Rattle.swap_world.specs.Gone.{Gives}
+use Rattle.swap_world.specs.Gone.{MayGive}
 use Rattle.swap_many.specs.declared.many_event.ManyEvent.TheVariants.{Pay}
 use Rattle.swap_many.specs.Accounts.{ChainState, units_in}
 use Rattle.swap_many.specs.Chains.{put, paid, is_done, reply_to_payment, Units}
@@ -19,7 +19,7 @@ pub record IsPaid (old new : ChainState) (from to units : ℕ) : Type 0 where
   pub clock : new.clock ≡ old.clock
   pub count : length new.free ≡ length old.free
 
-module _ (gives : Gives) (w : ManyState) (i : ℕ) (x : ChainState) (low : i < length w.chains) where
+module _ (gives : MayGive) (w : ManyState) (i : ℕ) (x : ChainState) (low : i < length w.chains) where
   pub chain_same : AreSame gives w (with_chain w i x low)
   chain_same = let k = all_same gives w in record { swaps = k.swaps; casts = k.casts; asked = k.asked; places = k.places; openings = k.openings }
 

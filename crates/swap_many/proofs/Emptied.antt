@@ -12,7 +12,7 @@ use Rattle.escrow_core.specs.declared.reply.Reply.TheVariants.{Accepted}
 use Rattle.swap_run.specs.Run.{State}
 use Rattle.swap_run.specs.Fair.{the_horizon}
 use Rattle.swap_world.specs.Value.{answers_of}
-use Rattle.swap_world.specs.Gone.{Gives}
+use Rattle.swap_world.specs.Gone.{MayGive}
 use Rattle.swap_many.specs.declared.many_event.ManyEvent.TheVariants.{Sweep}
 use Rattle.swap_many.specs.declared.many_reply.ManyReply.{ManyReply}
 use Rattle.swap_many.specs.declared.many_reply.ManyReply.TheVariants.{Plain}
@@ -87,7 +87,7 @@ module _ (w : ManyState) (s a : ℕ) (fair : Bool) (whole : AreWhole w) (on : w.
               last : (f x p q o t c y : ℕ) → f ≡ x → p ≡ q → o ≡ t → f + p + o ≤ c → c ≡ y → y ≤ 10 ^ 18 → x + q + t ≤ 10 ^ 18
               last f x p q o t c y e1 e2 e3 l e4 u = omega arith
 
-  module _ (gives : Gives) (x : ChainState) (f : List Bool) (clock : x.clock ≡ (chain_at w (chain_of (setup_of w) s a)).clock)
+  module _ (gives : MayGive) (x : ChainState) (f : List Bool) (clock : x.clock ≡ (chain_at w (chain_of (setup_of w) s a)).clock)
       (units : units_in x.free
       ≡ returned (units_in (chain_at w (chain_of (setup_of w) s a)).free) (place (setup_of w) s a)
       (accounts (world_at w s).deal a (history (world_at w s).state.book a)))
@@ -171,7 +171,7 @@ module _ (w : ManyState) (s a : ℕ) (fair : Bool) (whole : AreWhole w) (on : w.
         subst (λ (y : ChainState). sum_by (λ u. u) y.free + b.party + b.counterparty ≤ 10 ^ 18) (sym chain_is)
         (subst (λ (b : Accounts). sum_by (λ u. u) (chain_at w (chain_of (setup_of w) s a)).free + b.party + b.counterparty ≤ 10 ^ 18) (sym is) they_fit)
 
-    module _ (gives : Gives) (mid x : ChainState) (f old : List Bool) (one : units_in mid.free ≡ plus (units_in y.free) p.from b.party)
+    module _ (gives : MayGive) (mid x : ChainState) (f old : List Bool) (one : units_in mid.free ≡ plus (units_in y.free) p.from b.party)
         (two : units_in x.free ≡ plus (units_in mid.free) p.to b.counterparty) (clock_one : mid.clock ≡ y.clock) (clock_two : x.clock ≡ mid.clock)
         (count_one : length mid.free ≡ length y.free) (count_two : length x.free ≡ length mid.free) (was : old ≡ swept_at w s)
         (flag : f ≡ slice_set old a true) where

@@ -14,7 +14,7 @@ use Rattle.swap_job.specs.declared.event.Event.TheVariants.{Look, Act}
 use Rattle.swap_rules.specs.Outcome.{IsEnded}
 use Rattle.swap_rules.proofs.Prefixes.{same_or_not, from_flat_map}
 use Rattle.swap_run.specs.Run.{conforms}
-use Rattle.swap_run.specs.Fair.{repeat, adjacent, most_acts, the_horizon}
+use Rattle.swap_run.specs.Fair.{repeat, adjacent_arcs, most_acts, the_horizon}
 use Rattle.swap_run.specs.Laws.{IsGood, IsKept}
 use Rattle.swap_run.proofs.Good.{good_is_kept}
 use Rattle.swap_run.proofs.Ticks.{horizon_low}
@@ -56,7 +56,7 @@ module _ (m : Setup) (ready : IsReady m) where
   both_look : (s v : ℕ) (r : Run) (z : Kept) → s < m.swaps → v < (m.cast s).deal.graph.n → Keeps m r z
       → Keeps m (looks_in m (done false m) (done true m) run_height s v r) (looks_in m (kept_done false m) (kept_done true m) kept_height s v z)
   both_look s v r z ls lv k =
-      both_fold (λ r a. done false m r (In s (Look v a))) (λ z a. kept_done false m z (In s (Look v a))) (adjacent (m.cast s).deal v) r z (λ r z a i k.
+      both_fold (λ r a. done false m r (In s (Look v a))) (λ z a. kept_done false m z (In s (Look v a))) (adjacent_arcs (m.cast s).deal v) r z (λ r z a i k.
       let j = from_filter (λ a. (v == party (m.cast s).deal a) || (v == counterparty (m.cast s).deal a)) a (arcs (m.cast s).deal.graph) i in
       keeps_step false m r z (In s (Look v a)) ready (record {
         swap = ls;
@@ -239,7 +239,7 @@ module _ (m : Setup) (ready : IsReady m) where
   repeat_clocks (suc n) f z h = h (repeat n f z) ∙ repeat_clocks n f z h
 
   looks_clocks : (s v : ℕ) (z : Kept) → (looks_in m (kept_done false m) (kept_done true m) kept_height s v z).clocks ≡ z.clocks
-  looks_clocks s v z = fold_clocks (λ z a. kept_done false m z (In s (Look v a))) (adjacent (m.cast s).deal v) z (λ z a. refl)
+  looks_clocks s v z = fold_clocks (λ z a. kept_done false m z (In s (Look v a))) (adjacent_arcs (m.cast s).deal v) z (λ z a. refl)
 
   turn_clocks : (s v : ℕ) (z : Kept) → (turn_in m (kept_done false m) (kept_done true m) kept_height s z v).clocks ≡ z.clocks
   turn_clocks s v z = go (conforms (m.cast s) v)

@@ -10,7 +10,7 @@ use Rattle.swap_digraph.specs.declared.deal.Deal.{Deal}
 use Rattle.swap_run.specs.Asked.{Answers}
 use Rattle.swap_run.specs.Fair.{repeat}
 use Rattle.swap_run.proofs.Repeats.{repeat_one, rest_more}
-use Rattle.swap_world.specs.Gone.{Gives}
+use Rattle.swap_world.specs.Gone.{MayGive}
 use Rattle.swap_world.proofs.Gone.{nothing_asked}
 use Rattle.swap_many.specs.Chains.{Setup}
 use Rattle.swap_many.specs.Kept.{Kept}
@@ -43,7 +43,7 @@ pub if_err : {A E : Type 0} {P : Type 0} (r : Result A E) → P → OnErr r P
 if_err (Ok x) p = tt
 if_err (Err e) p = p
 
-module _ (gives : Gives) where
+module _ (gives : MayGive) where
   pub begun : (w : ManyState) → HasManyGone gives (λ m z. z) w w
   begun w = record { same = all_same gives w; goes_on = refl; kept = λ g c. refl }
 
@@ -190,7 +190,7 @@ pub range_leads : (w : ManyState) (f : Setup → Kept → ℕ → Kept) (n : ℕ
     → AllLead w f (range_with_len 0 n)
 range_leads w f n h = range_all (λ x. LeadOn w (λ m z. f m z x)) n h
 
-module _ (gives : Gives) {B : Type 0} (f : Setup → Kept → B → Kept) (old mid new : ManyState) (xs : List B) (k : ℕ) (x : B)
+module _ (gives : MayGive) {B : Type 0} (f : Setup → Kept → B → Kept) (old mid new : ManyState) (xs : List B) (k : ℕ) (x : B)
     (so_far : HasManyGone gives (λ m z. fold (f m) z (take k xs)) old mid) where
   pub list_on : k < length xs → x ≡ get_or xs k x → HasManyGone gives (λ m z. f m z x) mid new
       → HasManyGone gives (λ m z. fold (f m) z (take (k + 1) xs)) old new
@@ -211,14 +211,14 @@ module _ (gives : Gives) {B : Type 0} (f : Setup → Kept → B → Kept) (old m
       (stopped_after gives (λ m z. fold (f m) z (take k xs)) (λ m z. f m z x) old mid new ready
       (leads_fold old ready f (take k xs) (All-take P k xs leads)) so_far h))
 
-pub list_done : (gives : Gives) {B : Type 0} (f : Setup → Kept → B → Kept) (old mid : ManyState) (xs : List B) (k : ℕ) → length xs ≤ k
+pub list_done : (gives : MayGive) {B : Type 0} (f : Setup → Kept → B → Kept) (old mid : ManyState) (xs : List B) (k : ℕ) → length xs ≤ k
     → HasManyGone gives (λ m z. fold (f m) z (take k xs)) old mid → HasManyGone gives (λ m z. fold (f m) z xs) old mid
 list_done gives {B = B} f old mid xs k l so_far =
     gone_as gives (λ m z. fold (f m) z (take k xs)) (λ m z. fold (f m) z xs) old mid
     (λ g. ap (λ (ys : List B). fold (f (setup_for old g)) (kept_of old) ys) (take_all k xs l)) so_far
 
 -- Over the first n numbers.
-module _ (gives : Gives) (f : Setup → Kept → ℕ → Kept) (old mid new : ManyState) (n k : ℕ)
+module _ (gives : MayGive) (f : Setup → Kept → ℕ → Kept) (old mid new : ManyState) (n k : ℕ)
     (so_far : HasManyGone gives (λ m z. fold (f m) z (take k (range_with_len 0 n))) old mid) where
   low : k < n → k < length (range_with_len 0 n)
   low l = let e = length-range_with_len 0 n in omega (arith, e, l)
@@ -234,7 +234,7 @@ module _ (gives : Gives) (f : Setup → Kept → ℕ → Kept) (old mid new : Ma
   range_stops l ready leads h =
       list_stops gives f old mid new (range_with_len 0 n) k k so_far (low l) (here l) ready (range_leads old f n leads) h
 
-pub range_done : (gives : Gives) (f : Setup → Kept → ℕ → Kept) (old mid : ManyState) (n k : ℕ) → n ≤ k
+pub range_done : (gives : MayGive) (f : Setup → Kept → ℕ → Kept) (old mid : ManyState) (n k : ℕ) → n ≤ k
     → HasManyGone gives (λ m z. fold (f m) z (take k (range_with_len 0 n))) old mid → HasManyGone gives (λ m z. fold (f m) z (range_with_len 0 n)) old mid
 range_done gives f old mid n k l so_far =
     let e = length-range_with_len 0 n in list_done gives f old mid (range_with_len 0 n) k (omega (arith, e, l)) so_far
@@ -252,7 +252,7 @@ pub repeat_split : {A : Type 0} (j k : ℕ) (f : A → A) (x : A) → repeat (j 
 repeat_split zero k f x = let z : 0 + k ≡ k = omega arith in ap (λ i. repeat i f x) z
 repeat_split (suc j) k f x = let z : suc j + k ≡ suc (j + k) = omega arith in ap (λ i. repeat i f x) z ∙ ap f (repeat_split j k f x)
 
-module _ (gives : Gives) (f : Setup → Kept → Kept) (old mid new : ManyState) (n k : ℕ)
+module _ (gives : MayGive) (f : Setup → Kept → Kept) (old mid new : ManyState) (n k : ℕ)
     (so_far : HasManyGone gives (λ m z. repeat k (f m) z) old mid) where
   pub repeat_on : HasManyGone gives f mid new → HasManyGone gives (λ m z. repeat (k + 1) (f m) z) old new
   repeat_on h =

@@ -15,7 +15,7 @@ use Rattle.swap_run.specs.Laws.{IsKept}
 use Rattle.swap_world.specs.declared.told.Told.{Told}
 use Rattle.swap_world.specs.declared.told.Told.TheVariants.{Passed, Replied}
 use Rattle.swap_world.specs.Value.{WorldState, cast_at, cast_for, Continues}
-use Rattle.swap_world.specs.Gone.{Gives, HasGone}
+use Rattle.swap_world.specs.Gone.{MayGive, HasGone}
 use Rattle.swap_world.specs.On.{swept_in, told_of_call, told_in, IsCutOn}
 use Rattle.swap_many.specs.declared.many_event.ManyEvent.TheVariants.{In}
 use Rattle.swap_many.specs.declared.many_reply.ManyReply.{ManyReply}
@@ -49,14 +49,14 @@ told_is w s e g = go (called (cast_for (world_at w s) (g s)) (world_at w s).stat
         by (is_barred (swept_in (swept_at w s) x.arc) (history (world_at w s).state.book x.arc) x.call) (Plain r) (Replied r) refl
 
 -- What an event does to its world, and what is told.
-pub record IsTaken {E : Type 0} (gives : Gives) (swept : List Bool) (e : Event) (old new : WorldState) (r : Result Told E) : Type 0 where
+pub record IsTaken {E : Type 0} (gives : MayGive) (swept : List Bool) (e : Event) (old new : WorldState) (r : Result Told E) : Type 0 where
   pub ok : OnOk r (HasGone gives (λ c s. step_on (swept_in swept) c s e) old new)
   pub told : IfOk r (λ t. (g : Answers) → Continues new g → t ≡ told_in (swept_in swept) (cast_for old g) old.state e)
   pub err : OnErr r (new.stopped ≡ true)
   pub cut : OnErr r (IsCutOn gives (swept_in swept) e old new)
   pub kept : IsKept (cast_at new) new.state.book
 
-module _ (gives : Gives) (w : ManyState) (s : ℕ) (e : Event) (x : WorldState) (low : s < length w.worlds) where
+module _ (gives : MayGive) (w : ManyState) (s : ℕ) (e : Event) (x : WorldState) (low : s < length w.worlds) where
   own : (b : Bool) (g : ℕ → Answers) → ContinueAll (with_world w s x b low) g → Continues x (g s)
   own b g c =
       let k = c s (subst (λ n. s < n) (sym (length-set w.worlds s x)) low) in

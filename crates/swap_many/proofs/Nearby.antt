@@ -2,7 +2,7 @@
 use Rattle.std.proofs.Common.{◌≡◌, ◌<◌, ℕ, List, [], length, map, slice_index_or, sym, ap, ◌∙◌, subst}
 use Rattle.std.proofs.lemmas.List.{length-map}
 use Rattle.swap_world.specs.Near.{all_adjacent}
-use Rattle.swap_world.specs.Gone.{Gives}
+use Rattle.swap_world.specs.Gone.{MayGive}
 use Rattle.swap_world.specs.Value.{WorldState}
 use Rattle.swap_many.specs.Chains.{Setup}
 use Rattle.swap_many.specs.Kept.{Kept}
@@ -18,7 +18,7 @@ are_near ws near e = record {
 }
 
 -- while many worlds go on
-pub near_gone : (gives : Gives) (f : Setup → Kept → Kept) (old new : ManyState) (near : List (List (List ℕ))) → HasManyGone gives f old new
+pub near_gone : (gives : MayGive) (f : Setup → Kept → Kept) (old new : ManyState) (near : List (List (List ℕ))) → HasManyGone gives f old new
     → AreNear near old.worlds → AreNear near new.worlds
 near_gone gives f old new near k n = record {
   one_each = n.one_each ∙ sym k.same.swaps;

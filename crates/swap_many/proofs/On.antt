@@ -5,7 +5,7 @@ use Rattle.swap_job.specs.declared.event.Event.{Event}
 use Rattle.swap_job.specs.declared.event.Event.TheVariants.{Look, Act}
 use Rattle.swap_rules.proofs.Prefixes.{same_or_not}
 use Rattle.swap_run.specs.Run.{State, conforms, step}
-use Rattle.swap_run.specs.Fair.{repeat, adjacent, looks, most_acts}
+use Rattle.swap_run.specs.Fair.{repeat, adjacent_arcs, looks, most_acts}
 use Rattle.swap_run.specs.Called.{step_on, turn_on}
 use Rattle.swap_many.specs.declared.many_event.ManyEvent.TheVariants.{In}
 use Rattle.swap_many.specs.Chains.{Setup, put}
@@ -49,14 +49,14 @@ module _ (m : Setup) (s : ℕ) (z : Kept) where
   unfolding looks
   turn_is_on v x = go (conforms (m.cast s) v)
     where
-      seen : fold (λ z a. kept_done false m z (In s (Look v a))) (set_swap s z x) (adjacent (m.cast s).deal v)
-          ≡ set_swap s z (fold (λ x a. step (m.cast s) x (Look v a)) x (adjacent (m.cast s).deal v))
-      seen = looks_on v (adjacent (m.cast s).deal v) x
+      seen : fold (λ z a. kept_done false m z (In s (Look v a))) (set_swap s z x) (adjacent_arcs (m.cast s).deal v)
+          ≡ set_swap s z (fold (λ x a. step (m.cast s) x (Look v a)) x (adjacent_arcs (m.cast s).deal v))
+      seen = looks_on v (adjacent_arcs (m.cast s).deal v) x
 
       go : (b : Bool)
           → cond b (repeat (most_acts (m.cast s).deal) (λ z. kept_done false m z (In s (Act v)))
-          (fold (λ z a. kept_done false m z (In s (Look v a))) (set_swap s z x) (adjacent (m.cast s).deal v)))
-          (kept_done false m (fold (λ z a. kept_done false m z (In s (Look v a))) (set_swap s z x) (adjacent (m.cast s).deal v)) (In s (Act v)))
+          (fold (λ z a. kept_done false m z (In s (Look v a))) (set_swap s z x) (adjacent_arcs (m.cast s).deal v)))
+          (kept_done false m (fold (λ z a. kept_done false m z (In s (Look v a))) (set_swap s z x) (adjacent_arcs (m.cast s).deal v)) (In s (Act v)))
           ≡ set_swap s z (cond b (repeat (most_acts (m.cast s).deal) (λ x. step_on (z.swept s) (m.cast s) x (Act v)) (looks (m.cast s) v x))
           (step_on (z.swept s) (m.cast s) (looks (m.cast s) v x) (Act v)))
       go true =

@@ -13,7 +13,7 @@ use Rattle.swap_digraph.specs.declared.deal.Deal.{Deal}
 use Rattle.swap_run.specs.Asked.{Answers}
 use Rattle.swap_run.specs.Run.{State}
 use Rattle.swap_world.specs.Value.{answers_of}
-use Rattle.swap_world.specs.Gone.{Gives}
+use Rattle.swap_world.specs.Gone.{MayGive}
 use Rattle.swap_many.specs.declared.many_event.ManyEvent.{ManyEvent}
 use Rattle.swap_many.specs.declared.many_reply.ManyReply.{ManyReply}
 use Rattle.swap_many.specs.Chains.{Setup}
@@ -52,7 +52,7 @@ whole_staged w y k = record {
   kept = k.kept;
 }
 
-module _ (gives : Gives) (f : Setup → Kept → Kept) (old new : ManyState) (x y : List Stage) where
+module _ (gives : MayGive) (f : Setup → Kept → Kept) (old new : ManyState) (x y : List Stage) where
   same_staged : AreSame gives old new → AreSame gives (record old { stages = x }) (record new { stages = y })
   same_staged k = record { swaps = k.swaps; casts = k.casts; asked = k.asked; places = k.places; openings = k.openings }
 
@@ -105,7 +105,7 @@ step_leads w e ready can g z = one_step (setup_for w g) (ready g) z (record { fa
 pub finish_leads : (w : ManyState) → AreReady w → LeadOn w kept_finish
 finish_leads w ready g z = finish_steps (setup_for w g) (ready g) z
 
-module _ (gives : Gives) (f : Setup → Kept → Kept) (x : Stage) (old new : ManyState) (stage : IsStage f x old) (runs : IsOfRun old)
+module _ (gives : MayGive) (f : Setup → Kept → Kept) (x : Stage) (old new : ManyState) (stage : IsStage f x old) (runs : IsOfRun old)
     (more : new.stages ≡ old.stages ++ x ∷ []) (on : old.stopped ≡ false) where
   still_of_run : HasManyGone gives f old new → IsOfRun new
   still_of_run k goes g c =
@@ -131,7 +131,7 @@ module _ (gives : Gives) (f : Setup → Kept → Kept) (x : Stage) (old new : Ma
   then_placed (Ok a) ok = λ g c i l. counted_is_placed (setup_for new g) (run_of new g) (kept_of new) i l (still_of_run ok (ok.goes_on ∙ on) g c)
 
 -- The reply is that of the run.
-pub then_reply : {E : Type 0} (gives : Gives) (f : Setup → Kept → Kept) (old new : ManyState) (e : ManyEvent) (r : Result (Option ManyReply) E)
+pub then_reply : {E : Type 0} (gives : MayGive) (f : Setup → Kept → Kept) (old new : ManyState) (e : ManyEvent) (r : Result (Option ManyReply) E)
     → AreReady old → CanCome (setup_of old) e → IsOfRun old → old.stopped ≡ false → OnOk r (HasManyGone gives f old new)
     → IfOk r (λ o. (g : ℕ → Answers) → ContinueAll new g → o ≡ kept_reply false (setup_for old g) (kept_of old) e)
     → IfOk r (λ o. (g : ℕ → Answers) → ContinueAll new g → o ≡ many_reply (setup_for old g) (run_of old g) e)
@@ -141,7 +141,7 @@ then_reply gives f old new e (Ok o) ready can runs on ok reply = λ g c.
     reply g c ∙ replies_follow (setup_for old g) (run_of old g) (kept_of old) e (ready g) (can_for old g e can) k.follows k.good
 
 -- After a fair finish every swap's book has ended.
-pub then_ended : {A E : Type 0} (gives : Gives) (old new : ManyState) (r : Result A E) → AreReady old → IsOfRun old → old.stopped ≡ false
+pub then_ended : {A E : Type 0} (gives : MayGive) (old new : ManyState) (r : Result A E) → AreReady old → IsOfRun old → old.stopped ≡ false
     → OnOk r (HasManyGone gives kept_finish old new)
     → OnOk r ((s : ℕ) → s < length new.worlds → IsEnded (world_at new s).deal (world_at new s).state.book)
 then_ended gives old new (Err x) ready runs on ok = tt

@@ -18,7 +18,7 @@ use Rattle.swap_many.specs.Kept.{kept_start}
 use Rattle.swap_many.specs.Laws.{IsReady}
 use Rattle.swap_many.specs.Sound.{Keeps}
 use Rattle.swap_many.specs.Opened.{overdrawn}
-use Rattle.swap_many.specs.Opening.{AreOpenable, setup_by, new_chain, none_swept, new_many}
+use Rattle.swap_many.specs.Opening.{AreOpenable, setup_of_worlds, new_chain, none_swept, new_many}
 use Rattle.swap_many.specs.Ticking.{nth}
 use Rattle.swap_many.specs.Value.{ManyState, no_world, no_chain, chain_at, swept_at, setup_for, kept_of}
 use Rattle.swap_many.specs.Inside.{AreWhole}
@@ -35,19 +35,19 @@ kept_new c t ready e = subst (λ (t : State). IsKept c t.book) (sym e) (good_is_
 
 module _ (chains : List (List ℕ)) (ws : List WorldState) (places : List (List Place)) (open_by : AreOpenable chains ws places) where
   abbrev m : Setup
-  m = setup_by ws places chains
+  m = setup_of_worlds ws places chains
 
   abbrev new : ManyState
   new = new_many chains ws places
 
   chain_in : (i : ℕ) → i < length chains → chain_at new i ≡ new_chain m i
   chain_in i l =
-      let z : 0 + i ≡ i = omega arith in get_or-map-range_with_len (new_chain (setup_by ws places chains)) 0 (length chains) i i no_chain l z
+      let z : 0 + i ≡ i = omega arith in get_or-map-range_with_len (new_chain (setup_of_worlds ws places chains)) 0 (length chains) i i no_chain l z
 
   chain_out : (i : ℕ) → length chains ≤ i → chain_at new i ≡ no_chain
   chain_out i l =
-      let e = length-map-range_with_len (new_chain (setup_by ws places chains)) 0 (length chains) in
-      past_end (map (new_chain (setup_by ws places chains)) (range_with_len 0 (length chains))) i no_chain (omega (arith, e, l))
+      let e = length-map-range_with_len (new_chain (setup_of_worlds ws places chains)) 0 (length chains) in
+      past_end (map (new_chain (setup_of_worlds ws places chains)) (range_with_len 0 (length chains))) i no_chain (omega (arith, e, l))
 
   accounts_new : (i : ℕ) → length (chain_at new i).free ≡ length (slice_index_or chains i [])
   accounts_new i = go (below_or i (length chains))
@@ -55,7 +55,7 @@ module _ (chains : List (List ℕ)) (ws : List WorldState) (places : List (List 
       go : (i < length chains) ⊎ (length chains ≤ i) → length (chain_at new i).free ≡ length (slice_index_or chains i [])
       go (inl l) =
           ap (λ (y : ChainState). length y.free) (chain_in i l)
-          ∙ length-map-range_with_len (first_free (setup_by ws places chains) i) 0 (length (slice_index_or chains i []))
+          ∙ length-map-range_with_len (first_free (setup_of_worlds ws places chains) i) 0 (length (slice_index_or chains i []))
       go (inr l) = ap (λ (y : ChainState). length y.free) (chain_out i l) ∙ sym (ap (λ xs. length xs) (past_end chains i [] l))
 
   free_new : (i x : ℕ) → units_in (chain_at new i).free x ≡ first_free m i x
@@ -69,7 +69,7 @@ module _ (chains : List (List ℕ)) (ws : List WorldState) (places : List (List 
       go (inl l) (inl k) =
           let z : 0 + x ≡ x = omega arith in
           ap (λ (y : ChainState). units_in y.free x) (chain_in i l)
-          ∙ get_or-map-range_with_len (first_free (setup_by ws places chains) i) 0 (length (slice_index_or chains i [])) x x 0 k z
+          ∙ get_or-map-range_with_len (first_free (setup_of_worlds ws places chains) i) 0 (length (slice_index_or chains i [])) x x 0 k z
       go (inl l) (inr k) =
           let e = accounts_new i in
           past_end (chain_at new i).free x 0 (omega (arith, e, k))
@@ -122,7 +122,7 @@ module _ (chains : List (List ℕ)) (ws : List WorldState) (places : List (List 
   pub start_keeps : (g : ℕ → Answers) → IsReady (setup_for new g) → Keeps (setup_for new g) (many_start (setup_for new g)) (kept_of new)
   start_keeps g ready = subst (Keeps (setup_for new g) (many_start (setup_for new g))) (sym (kept_is g)) (keeps_start (setup_for new g) ready)
 
-  module _ (none : overdrawn (setup_by ws places chains) ≡ None) (casts : (s : ℕ) → s < length ws → IsReadyCast (cast_at (nth ws s))) where
+  module _ (none : overdrawn (setup_of_worlds ws places chains) ≡ None) (casts : (s : ℕ) → s < length ws → IsReadyCast (cast_at (nth ws s))) where
     ready_new : (g : ℕ → Answers) → IsReady (setup_for new g)
     ready_new g = record {
       casts = λ s l. ready_for (cast_at (nth ws s)) (g s) (casts s l);
@@ -138,13 +138,13 @@ module _ (chains : List (List ℕ)) (ws : List WorldState) (places : List (List 
     pub new_whole : AreWhole new
     new_whole = record {
       few = open_by.placed.few;
-      few_chains = subst (λ n. n ≤ 32) (sym (length-map-range_with_len (new_chain (setup_by ws places chains)) 0 (length chains))) open_by.few_chains;
+      few_chains = subst (λ n. n ≤ 32) (sym (length-map-range_with_len (new_chain (setup_of_worlds ws places chains)) 0 (length chains))) open_by.few_chains;
       places = open_by.placed.one_each;
       arcs = open_by.placed.arcs;
       swept = length-map ws none_swept;
       slots =
           λ s l. ap (λ (xs : List Bool). length xs) (flags_in s l) ∙ length-replicate (length (nth ws s).deal.graph.arcs) false;
-      chains = length-map-range_with_len (new_chain (setup_by ws places chains)) 0 (length chains);
+      chains = length-map-range_with_len (new_chain (setup_of_worlds ws places chains)) 0 (length chains);
       accounts = accounts_new;
       units = open_by.units;
       ready = ready_new;

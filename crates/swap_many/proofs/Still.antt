@@ -15,7 +15,7 @@ use Rattle.swap_rules.specs.Due.{Action, due, first}
 use Rattle.swap_rules.proofs.Prefixes.{same_or_not}
 use Rattle.swap_run.specs.Run.{Cast, Notes, State, conforms, role_of, is_planned, plan_of, plan_up_to, notes_of, known_up_to, signed_after}
 use Rattle.swap_run.specs.Run.{look, watch, next_of, step}
-use Rattle.swap_run.specs.Fair.{repeat, adjacent, looks, most_acts}
+use Rattle.swap_run.specs.Fair.{repeat, adjacent_arcs, looks, most_acts}
 use Rattle.swap_run.specs.Called.{step_on, turn_on, turns_on}
 use Rattle.swap_run.specs.Quiet.{over, looked, IsIdle}
 use Rattle.swap_run.proofs.Repeats.{fold_fixed, repeat_fixed}
@@ -80,7 +80,7 @@ module _ (sw : ℕ → Bool) (c : Cast) where
 
   no_look : (s : State) (v : ℕ) → conforms c v ≡ false → is_planned (role_of c v) ≡ false → looks c v s ≡ s
   unfolding looks
-  no_look s v out none = fold_fixed (λ s a. step c s (Look v a)) s (adjacent c.deal v) (λ a.
+  no_look s v out none = fold_fixed (λ s a. step c s (Look v a)) s (adjacent_arcs c.deal v) (λ a.
       ap (λ b. cond b (look s v a) (watch c s v a)) out
       ∙ ap (λ b. let t : State = record s { plans = cond b (set s.plans v (plan_up_to (plan_of s v) a (history s.book a))) s.plans } in t) none)
 
@@ -112,7 +112,7 @@ module _ (sw : ℕ → Bool) (c : Cast) where
 
     looks_are : (s : State) → v < length s.notes → looks c v s ≡ noting s v (seen s)
     unfolding looks
-    looks_are s l = seen_at (adjacent c.deal v) s l
+    looks_are s l = seen_at (adjacent_arcs c.deal v) s l
 
     acts_are : (s : State) → acted s ≡ make_on sw c.deal s v (next_of c s v)
     acts_are s = act_is sw c s v ∙ ap (λ b. cond b (make_on sw c.deal s v (next_of c s v)) (act_on sw c s v (role_of c v))) cv
@@ -175,7 +175,7 @@ module _ (sw : ℕ → Bool) (c : Cast) where
   -- n is what party u notes in s, but for what stands at the arcs at which it looks
   record IsStale (s : State) (u : ℕ) (n : Notes) : Type 0 where
     pub signed : n.signed ≡ (notes_of s u).signed
-    pub known : (b : Histories) → over b (adjacent c.deal u) n.known ≡ over b (adjacent c.deal u) (notes_of s u).known
+    pub known : (b : Histories) → over b (adjacent_arcs c.deal u) n.known ≡ over b (adjacent_arcs c.deal u) (notes_of s u).known
 
   -- its turn forgets that
   turn_forgets : (s : State) (u : ℕ) (n : Notes) → conforms c u ≡ true → u < length s.notes → IsStale s u n → turn_on sw c (noting s u n) u ≡ turn_on sw c s u
@@ -223,7 +223,7 @@ module _ (sw : ℕ → Bool) (c : Cast) where
         ap (λ (t : State). fold (turn_on sw c) t xs) (beside_by (conforms c x) s u x n refl lx other l)
         ∙ rest i (record {
           signed = stale.signed ∙ ap (λ (m : Notes). m.signed) (sym same);
-          known = λ b. stale.known b ∙ ap (λ (m : Notes). over b (adjacent c.deal u) m.known) (sym same);
+          known = λ b. stale.known b ∙ ap (λ (m : Notes). over b (adjacent_arcs c.deal u) m.known) (sym same);
         })
 
     -- once u has had its turn
@@ -255,7 +255,7 @@ module _ (sw : ℕ → Bool) (c : Cast) where
     still_idle s u v (inr apart) l idle = subst (IsIdle c s.book v) (sym (others_notes s u v (looked c.deal s.book u (notes_of s u)) apart)) idle
     still_idle s u v (inl e) l idle =
         let n = looked c.deal s.book v (notes_of s v) in
-        let near = adjacent c.deal v in
+        let near = adjacent_arcs c.deal v in
         let k = (notes_of s v).known in
         let now : IsIdle c s.book v n
         = ap (λ (h : Histories). first (due c.deal v (c.wallet v) (signed_in (notes_of s v).signed) h)) (overwritten s.book s.book near near k (λ a i. i))
@@ -283,7 +283,7 @@ module _ (sw : ℕ → Bool) (c : Cast) where
           ∙ forgets x (range_with_len 0 c.deal.graph.n) (booked s) n (in_range x c.deal.graph.n lx) cx lx many
           (λ y i. from_range y c.deal.graph.n i) (record {
             signed = refl;
-            known = λ b. overwritten b s.book (adjacent c.deal x) (adjacent c.deal x) (notes_of s x).known (λ a i. i);
+            known = λ b. overwritten b s.book (adjacent_arcs c.deal x) (adjacent_arcs c.deal x) (notes_of s x).known (λ a i. i);
           }))
 
       again : (xs : List ℕ) (s : State) → ((x : ℕ) → IsIn x xs → x < c.deal.graph.n) → length s.notes ≡ c.deal.graph.n → AllIdle s

@@ -17,7 +17,7 @@ use Rattle.swap_run.specs.Asked.{Answers}
 use Rattle.swap_run.specs.Run.{Cast, State, step}
 use Rattle.swap_run.specs.Laws.{IsKept}
 use Rattle.swap_world.specs.Value.{WorldState, cast_at, cast_for}
-use Rattle.swap_world.specs.Gone.{Gives, HasAsked}
+use Rattle.swap_world.specs.Gone.{MayGive, HasAsked}
 use Rattle.swap_world.specs.On.{tick_at, ticked_on}
 use Rattle.swap_world.proofs.Gone.{nothing_asked}
 use Rattle.swap_world.proofs.Ways.{range_all}
@@ -116,7 +116,7 @@ err_unless (Ok y) b x P ok err = tt
 err_unless (Err e) true x P ok err = err refl
 err_unless (Err e) false x P ok err = absurd (cc (ok refl))
 
-module _ (gives : Gives) (w : ManyState) (i k : ℕ) (x : ChainState) (ws : List WorldState) (b : Bool) (low : i < length w.chains) (whole : AreWhole w)
+module _ (gives : MayGive) (w : ManyState) (i k : ℕ) (x : ChainState) (ws : List WorldState) (b : Bool) (low : i < length w.chains) (whole : AreWhole w)
     (room : has_no_tick (chain_at w i).clock.ticks (chain_at w i).clock.height k ≡ false)
     (clock : x ≡ record (chain_at w i) { clock = later (chain_at w i).clock k })
     (all : AreTicked (map (stands i) w.places) k (length w.worlds) w.worlds ws) where

@@ -16,12 +16,12 @@ use Rattle.swap_base.proofs.Lists.{from_range}
 use Rattle.swap_job.specs.Step.{CanLook}
 use Rattle.swap_job.specs.declared.event.Event.TheVariants.{Look, Act}
 use Rattle.swap_run.specs.Asked.{Answers}
-use Rattle.swap_run.specs.Fair.{repeat, adjacent, most_acts}
+use Rattle.swap_run.specs.Fair.{repeat, adjacent_arcs, most_acts}
 use Rattle.swap_run.specs.Run.{Cast, State, conforms, role_of, next_of}
 use Rattle.swap_run.specs.Called.{called, by_due, called_as, turned_as, landed_on, step_on}
 use Rattle.swap_run.proofs.Calls.{calls_split}
 use Rattle.swap_world.specs.Value.{cast_at, cast_for, answers_of}
-use Rattle.swap_world.specs.Gone.{Gives}
+use Rattle.swap_world.specs.Gone.{MayGive}
 use Rattle.swap_world.proofs.Finishes.{can_look}
 use Rattle.swap_world.specs.On.{swept_in}
 use Rattle.swap_many.specs.declared.many_event.ManyEvent.TheVariants.{Tick, In, Sweep}
@@ -69,11 +69,11 @@ same_fold f h x (y ∷ ys) e = ap (λ z. fold f z ys) (e x y) ∙ same_fold f h 
 
 -- What may come.
 
-near_look : (d : Deal) (p : ℕ) (near : List ℕ) → p < d.graph.n → near ≡ adjacent d p → All (CanLook d p) near
-near_look d p near l e = All-same (CanLook d p) near (adjacent d p) e (can_look d p l)
+near_look : (d : Deal) (p : ℕ) (near : List ℕ) → p < d.graph.n → near ≡ adjacent_arcs d p → All (CanLook d p) near
+near_look d p near l e = All-same (CanLook d p) near (adjacent_arcs d p) e (can_look d p l)
 
 -- a look at an arc of the list of those that touch the party
-pub may_look : (w : ManyState) (s p k a : ℕ) (near : List ℕ) → IsPartyOf w s p → near ≡ adjacent (world_at w s).deal p → k < length near
+pub may_look : (w : ManyState) (s p k a : ℕ) (near : List ℕ) → IsPartyOf w s p → near ≡ adjacent_arcs (world_at w s).deal p → k < length near
     → a ≡ get_or near k a → CanHappen (setup_of w) s (Look p a)
 may_look w s p k a near party e l is = record {
   swap = party.swap;
@@ -86,7 +86,7 @@ may_look w s p k a near party e l is = record {
 -- Steps lead on.
 
 module _ (w : ManyState) (ready : AreReady w) where
-  pub look_leads : (s p : ℕ) (near : List ℕ) → IsPartyOf w s p → near ≡ adjacent (world_at w s).deal p → AllLead w (look_of s p) near
+  pub look_leads : (s p : ℕ) (near : List ℕ) → IsPartyOf w s p → near ≡ adjacent_arcs (world_at w s).deal p → AllLead w (look_of s p) near
   look_leads s p near k e =
       All-weaker (CanLook (world_at w s).deal p) (λ a. LeadOn w (λ m z. look_of s p m z a)) (λ a can g z.
       one_step (setup_for w g) (ready g) z (record { fair = false; event = In s (Look p a) }) (record { swap = k.swap; no_tick = refl; can = can })) near
@@ -156,7 +156,7 @@ none_if None e = refl
 none_if (Some x) e = absurd (cc e)
 
 -- once an act made no call, more acts change nothing
-pub acts_done : (gives : Gives) (old mid new : ManyState) (s p n k : ℕ) (o : Option ManyReply) → k < n → conforms (cast_at (world_at mid s)) p ≡ true
+pub acts_done : (gives : MayGive) (old mid new : ManyState) (s p n k : ℕ) (o : Option ManyReply) → k < n → conforms (cast_at (world_at mid s)) p ≡ true
     → is_some o ≡ false
     → ((g : ℕ → Answers) → ContinueAll new g → o ≡ kept_reply false (setup_for mid g) (kept_of mid) (In s (Act p)))
     → HasManyGone gives (λ m z. repeat k (kept_act s p m) z) old mid → HasManyGone gives (λ m z. kept_done false m z (In s (Act p))) mid new
@@ -180,7 +180,7 @@ acts_done gives old mid new s p n k o l c none reply so_far act =
 abbrev pub rest_of : ℕ → ℕ → Setup → Kept → Kept
 rest_of s p m z = cond (conforms (m.cast s) p) (kept_acts s p m z) (kept_act s p m z)
 
-module _ (gives : Gives) (w mid new : ManyState) (s p : ℕ) (ready : AreReady w) (k : IsPartyOf w s p) where
+module _ (gives : MayGive) (w mid new : ManyState) (s p : ℕ) (ready : AreReady w) (k : IsPartyOf w s p) where
   rest_leads : LeadOn w (rest_of s p)
   rest_leads g z = go (conforms (cast_at (world_at w s)) p)
     where

@@ -8,7 +8,7 @@ use Rattle.swap_run.specs.Asked.{Answers, with_answers}
 use Rattle.swap_run.specs.Run.{Cast, State}
 use Rattle.swap_run.specs.Laws.{IsKept}
 use Rattle.swap_world.specs.Value.{WorldState, cast_at}
-use Rattle.swap_world.specs.Gone.{Gives, HasAsked}
+use Rattle.swap_world.specs.Gone.{MayGive, HasAsked}
 use Rattle.swap_world.specs.Actors.{AreHeld}
 use Rattle.swap_world.proofs.Gone.{continues_less, nothing_asked, more_asked}
 use Rattle.swap_many.specs.declared.many_event.ManyEvent.{ManyEvent}
@@ -43,7 +43,7 @@ item_is xs i d x l e = e ∙ any_default xs i x d l
 
 -- What is the same.
 
-module _ (gives : Gives) where
+module _ (gives : MayGive) where
   pub all_same : (w : ManyState) → AreSame gives w w
   all_same w = record {
     swaps = refl;
@@ -148,7 +148,7 @@ module _ (w : ManyState) (s : ℕ) (x : WorldState) (b : Bool) (low : s < length
       go (inl q) = subst (λ z. P z (put (world_at w) s x z)) (sym q) (subst (P s) (sym (put_same (world_at w) s x)) new)
       go (inr n) = subst (P t) (sym (put_other (world_at w) s x t n)) (old t n)
 
-  pub world_same : (gives : Gives) → cast_at x ≡ cast_at (world_at w s) → HasAsked gives (world_at w s) x → AreSame gives w with_world
+  pub world_same : (gives : MayGive) → cast_at x ≡ cast_at (world_at w s) → HasAsked gives (world_at w s) x → AreSame gives w with_world
   world_same gives c a = record {
     swaps = length-set w.worlds s x;
     casts = each_world (λ t y. cast_at y ≡ cast_at (world_at w t)) c (λ t n. refl);

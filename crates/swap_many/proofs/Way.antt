@@ -10,7 +10,7 @@ use Rattle.swap_digraph.specs.Deal.{party, counterparty}
 use Rattle.swap_digraph.specs.Graph.{arcs}
 use Rattle.swap_job.specs.declared.event.Event.TheVariants.{Look, Act}
 use Rattle.swap_run.specs.Run.{conforms}
-use Rattle.swap_run.specs.Fair.{repeat, adjacent, most_acts}
+use Rattle.swap_run.specs.Fair.{repeat, adjacent_arcs, most_acts}
 use Rattle.swap_many.specs.declared.many_event.ManyEvent.TheVariants.{Tick, In, Sweep}
 use Rattle.swap_many.specs.Chains.{Setup, slots}
 use Rattle.swap_many.specs.Many.{last_horizon, looks_in, turn_in, turns_in, many_round, all_ended, round_or_rest}
@@ -51,7 +51,7 @@ module _ (m : Setup) (ready : IsReady m) where
   act_steps s v z ls lv = one_step z (record { fair = false; event = In s (Act v) }) (record { swap = ls; no_tick = refl; can = lv })
 
   pub looks_steps : (s v : ℕ) (z : Kept) → s < m.swaps → v < (m.cast s).deal.graph.n → Leads m z (looks_in m (kept_done false m) (kept_done true m) high s v z)
-  looks_steps s v z ls lv = fold_steps (λ z a. kept_done false m z (In s (Look v a))) (adjacent (m.cast s).deal v) z (λ z a i.
+  looks_steps s v z ls lv = fold_steps (λ z a. kept_done false m z (In s (Look v a))) (adjacent_arcs (m.cast s).deal v) z (λ z a i.
       let j = from_filter (λ a. (v == party (m.cast s).deal a) || (v == counterparty (m.cast s).deal a)) a (arcs (m.cast s).deal.graph) i in
       one_step z (record { fair = false; event = In s (Look v a) }) (record {
         swap = ls;

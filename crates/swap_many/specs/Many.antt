@@ -5,7 +5,7 @@ use Rattle.swap_base.specs.Lists.{greatest}
 use Rattle.swap_job.specs.declared.event.Event.{Event}
 use Rattle.swap_job.specs.declared.event.Event.TheVariants.{Look, Act}
 use Rattle.swap_run.specs.Run.{State, conforms, start}
-use Rattle.swap_run.specs.Fair.{repeat, adjacent, most_acts, the_horizon}
+use Rattle.swap_run.specs.Fair.{repeat, adjacent_arcs, most_acts, the_horizon}
 use Rattle.swap_many.specs.declared.many_event.ManyEvent.{ManyEvent}
 use Rattle.swap_many.specs.declared.many_event.ManyEvent.TheVariants.{Tick, In, Pay, Sweep}
 use Rattle.swap_many.specs.declared.many_reply.ManyReply.{ManyReply}
@@ -115,7 +115,7 @@ last_horizon m = greatest (λ s. the_horizon (m.cast s).deal) (range_with_len 0 
 module _ {S : Type 0} (m : Setup) (step : S → ManyEvent → S) (sweep : S → ManyEvent → S) (height : S → ℕ → ℕ) where
   -- party v of swap s looks at each arc that touches it
   abbrev pub looks_in : ℕ → ℕ → S → S
-  looks_in s v z = fold (λ z a. step z (In s (Look v a))) z (adjacent (m.cast s).deal v)
+  looks_in s v z = fold (λ z a. step z (In s (Look v a))) z (adjacent_arcs (m.cast s).deal v)
 
   -- and then acts: until nothing is due where it conforms, else once
   abbrev pub turn_in : ℕ → S → ℕ → S

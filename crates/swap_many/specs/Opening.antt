@@ -48,8 +48,8 @@ abbrev pub pays_in : Deal → List Place → (i x a : ℕ) → ℕ
 pays_in d ps i x a = pays_by d (slice_index_or ps a nowhere) i x a
 
 -- what runs, but for what strategies answer
-abbrev pub setup_by : List WorldState → List (List Place) → List (List ℕ) → Setup
-setup_by ws places chains = record { swaps = length ws; cast = λ s. cast_at (nth ws s); places = places; chains = chains }
+abbrev pub setup_of_worlds : List WorldState → List (List Place) → List (List ℕ) → Setup
+setup_of_worlds ws places chains = record { swaps = length ws; cast = λ s. cast_at (nth ws s); places = places; chains = chains }
 
 -- chain i, from whose accounts is set aside what its slots need
 abbrev pub new_chain : Setup → ℕ → ChainState
@@ -66,7 +66,7 @@ new_many chains ws places = record {
   worlds = ws;
   places = places;
   openings = chains;
-  chains = map (new_chain (setup_by ws places chains)) (range_with_len 0 (length chains));
+  chains = map (new_chain (setup_of_worlds ws places chains)) (range_with_len 0 (length chains));
   swept = map none_swept ws;
   stages = [];
   stopped = false;
@@ -79,4 +79,4 @@ opened_or (Some lack) x = Err lack
 
 -- the swaps before any event, or the first account that lacks units
 abbrev pub opened : List (List ℕ) → List WorldState → List (List Place) → Result ManyState Overdrawn
-opened chains ws places = opened_or (overdrawn (setup_by ws places chains)) (new_many chains ws places)
+opened chains ws places = opened_or (overdrawn (setup_of_worlds ws places chains)) (new_many chains ws places)

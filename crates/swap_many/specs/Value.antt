@@ -5,7 +5,7 @@ use Rattle.swap_digraph.specs.declared.deal.Mode.TheVariants.{Timelocks}
 use Rattle.swap_digraph.specs.declared.deal.Version.TheVariants.{One}
 use Rattle.swap_run.specs.Asked.{Answers}
 use Rattle.swap_world.specs.Value.{WorldState, cast_at, cast_for, Continues}
-use Rattle.swap_world.specs.Gone.{Gives, HasAsked}
+use Rattle.swap_world.specs.Gone.{MayGive, HasAsked}
 use Rattle.swap_world.specs.Actors.{AreHeld}
 use Rattle.swap_many.specs.declared.place.Place.{Place}
 use Rattle.swap_many.specs.Accounts.{ChainState, units_in}
@@ -122,7 +122,7 @@ pub record IsPartyOf (w : ManyState) (s p : ℕ) : Type 0 where
   pub party : p < (world_at w s).deal.graph.n
 
 -- The same swaps, places and openings; each swap's strategies were asked some more.
-pub record AreSame (gives : Gives) (old new : ManyState) : Type 0 where
+pub record AreSame (gives : MayGive) (old new : ManyState) : Type 0 where
   pub swaps : length new.worlds ≡ length old.worlds
   pub casts : (s : ℕ) → cast_at (world_at new s) ≡ cast_at (world_at old s)
   pub asked : (s : ℕ) → HasAsked gives (world_at old s) (world_at new s)
@@ -130,7 +130,7 @@ pub record AreSame (gives : Gives) (old new : ManyState) : Type 0 where
   pub openings : new.openings ≡ old.openings
 
 -- f has led from old to new, whatever strategies may answer after that.
-pub record HasManyGone (gives : Gives) (f : Setup → Kept → Kept) (old new : ManyState) : Type 0 where
+pub record HasManyGone (gives : MayGive) (f : Setup → Kept → Kept) (old new : ManyState) : Type 0 where
   pub same : AreSame gives old new
   pub goes_on : new.stopped ≡ old.stopped
   pub kept : (g : ℕ → Answers) → ContinueAll new g → kept_of new ≡ f (setup_for old g) (kept_of old)
@@ -145,7 +145,7 @@ pub record IsBetween (m : Setup) (z t : Kept) (w : ManyState) : Type 0 where
   pub free : (i : ℕ) → units_in (chain_at w i).free ≡ there.free i
 
 -- Memory ran out on the way to where f leads.
-pub record IsManyStopped (gives : Gives) (f : Setup → Kept → Kept) (old new : ManyState) : Type 0 where
+pub record IsManyStopped (gives : MayGive) (f : Setup → Kept → Kept) (old new : ManyState) : Type 0 where
   pub stopped : new.stopped ≡ true
   pub same : AreSame gives old new
   pub way : (g : ℕ → Answers) → ContinueAll new g → IsBetween (setup_for old g) (kept_of old) (f (setup_for old g) (kept_of old)) new

@@ -3,7 +3,7 @@
 ghost use Rattle.std.specs.Prelude.{◌≡◌, ◌<◌, ◌≤◌, ◌+◌, ℕ, IfOk, OnOk, OnErr, fold, length, true, false};
 ghost use Rattle.std.specs.List.{range_with_len};
 ghost use Rattle.swap_digraph.specs.Deal.{IsWellSized};
-ghost use Rattle.swap_run.specs.Fair.{adjacent, most_acts, repeat};
+ghost use Rattle.swap_run.specs.Fair.{adjacent_arcs, most_acts, repeat};
 ghost use Rattle.swap_run.specs.Run.{conforms};
 ghost use Rattle.swap_world.specs.Value.{cast_at};
 ghost use Rattle.swap_many.specs.Fair.{kept_acts, kept_looks, kept_round, kept_round_or_rest, kept_rounds, kept_sweeps, kept_ticks, kept_turn, kept_turns};
@@ -28,7 +28,7 @@ fn look_around<K: Strategies>(
     near: &[ArcId],
 ) -> Result<(), NoMemory>
     requires party { IsPartyOf worlds.old swap p }
-    requires near { near.now ≡ adjacent (world_at worlds.old swap).deal p }
+    requires near { near.now ≡ adjacent_arcs (world_at worlds.old swap).deal p }
     requires on { IsOn (K.holds kit.now) worlds.old }
     ensures ok { OnOk result (HasManyGone (K.gives kit.now) (kept_looks swap p) worlds.old worlds.new) }
     ensures err { OnErr result (IsManyStopped (K.gives kit.now) (kept_looks swap p) worlds.old worlds.new) }
@@ -77,7 +77,7 @@ fn turn<K: Strategies>(
     near: &[ArcId],
 ) -> Result<(), NoMemory>
     requires party { IsPartyOf worlds.old swap p }
-    requires near { near.now ≡ adjacent (world_at worlds.old swap).deal p }
+    requires near { near.now ≡ adjacent_arcs (world_at worlds.old swap).deal p }
     requires on { IsOn (K.holds kit.now) worlds.old }
     ensures ok { OnOk result (HasManyGone (K.gives kit.now) (λ m z. kept_turn swap m z p) worlds.old worlds.new) }
     ensures err { OnErr result (IsManyStopped (K.gives kit.now) (λ m z. kept_turn swap m z p) worlds.old worlds.new) }

@@ -10,7 +10,7 @@ ghost use Rattle.swap_world.specs.Value.{cast_at};
 ghost use Rattle.swap_many.specs.Chains.{set_aside};
 ghost use Rattle.swap_many.specs.Inside.{standing, stands};
 ghost use Rattle.swap_many.specs.Opened.{lack_on, overdrawn};
-ghost use Rattle.swap_many.specs.Opening.{AreOpenable, ArePlacesOf, new_chain, none_swept, opened_or, pays_by, pays_in, setup_by};
+ghost use Rattle.swap_many.specs.Opening.{AreOpenable, ArePlacesOf, new_chain, none_swept, opened_or, pays_by, pays_in, setup_of_worlds};
 ghost use Rattle.swap_many.specs.Ticking.{nth};
 
 use crate::chain::Chain;
@@ -52,7 +52,7 @@ fn aside_in(world: &World, places: &[Place], chain: u8, account: u8) -> u64
 /// What is set aside from an account of a chain.
 fn aside(worlds: &[World], places: &[Listed<Place>], chain: u8, account: u8) -> u64
     requires { ArePlacesOf worlds.now places.now }
-    ensures { result ≡ set_aside (setup_by worlds.now places.now []) chain account }
+    ensures { result ≡ set_aside (setup_of_worlds worlds.now places.now []) chain account }
 {
     let mut sum = 0;
     'swaps: for s in 0..worlds.len() {
@@ -71,8 +71,8 @@ fn open_chain(
 ) -> Result<Chain, ManyFault>
     requires all { AreOpenable chains.now worlds.now places.now }
     requires chain { chain < length chains.now }
-    ensures { Gives (λ c. c) result (opened_or (lack_on (setup_by worlds.now places.now chains.now) chain)
-        (new_chain (setup_by worlds.now places.now chains.now) chain)) }
+    ensures { Gives (λ c. c) result (opened_or (lack_on (setup_of_worlds worlds.now places.now chains.now) chain)
+        (new_chain (setup_of_worlds worlds.now places.now chains.now) chain)) }
 {
     let opening = chains[chain as usize].as_slice();
     let mut free = Vec::new(alloc);
@@ -101,8 +101,8 @@ pub(crate) fn open_chains(
     chains: &[Listed<u64>],
 ) -> Result<Vec<Chain>, ManyFault>
     requires { AreOpenable chains.now worlds.now places.now }
-    ensures { Gives (λ v. v.items) result (opened_or (overdrawn (setup_by worlds.now places.now chains.now))
-        (map (new_chain (setup_by worlds.now places.now chains.now)) (range_with_len 0 (length chains.now)))) }
+    ensures { Gives (λ v. v.items) result (opened_or (overdrawn (setup_of_worlds worlds.now places.now chains.now))
+        (map (new_chain (setup_of_worlds worlds.now places.now chains.now)) (range_with_len 0 (length chains.now)))) }
 {
     let mut opened = Vec::new(alloc);
     'chains: for chain in 0..chains.len() {

@@ -31,7 +31,7 @@ use Rattle.refusals.specs.declared.reason.Reason.TheVariants.{BoundTooSmall, Sta
 use Rattle.offer_fields.proofs.Chains.{went}
 use Rattle.offer_header.specs.Raw.{is_plain, IsModeOf}
 use Rattle.offer_header.specs.declared.header.Header.{Header}
-use Rattle.offer_header.specs.Header.{IsWithin}
+use Rattle.offer_header.specs.Header.{IsHeaderWithin}
 use Rattle.swap_offer.specs.Checks.{graph_of, by_arcs, least_bound, connected, unless_closed, one_leader, led, unless_cycle, bounded, started, timed}
 use Rattle.swap_offer.specs.Checks.{unless_wrong, wrong_timelock, timed_unless, checked, unnamed, deal_with, IsAcceptedFor, IsAcceptedUnless}
 use Rattle.swap_offer.proofs.Size.{is_sized}
@@ -119,7 +119,8 @@ one_of [] some few = absurd (omega arith)
 one_of (x ∷ []) some few = refl
 one_of (x ∷ y ∷ xs) some few = absurd (omega arith)
 
-is_timed : (m : Mode) (h : Header) (g : Graph) (id : List ℕ) (u v : Unit {0}) → m ≡ h.mode → IsWithin h → g.n ≡ length h.names → g.arcs ≡ h.arcs → HasEnds g
+is_timed : (m : Mode) (h : Header) (g : Graph) (id : List ℕ) (u v : Unit {0}) → m ≡ h.mode → IsHeaderWithin h → g.n ≡ length h.names → g.arcs ≡ h.arcs
+    → HasEnds g
     → IsStronglyConnected g → IsFeedback g h.leaders
     → one_leader m h.leaders ≡ Ok u → timed h g m h.leaders ≡ Ok v → IsTimed m (unnamed h g id)
 is_timed Timelocks h g id u v m k n a has strong feedback one t =
@@ -152,7 +153,7 @@ of_version : (v : Version) (h : Header) (g : Graph) → IsModeOf v h.mode → g.
 of_version One h g mode arcs f = all_apart g (length h.names) h.arcs arcs f
 of_version Two h g mode arcs f = mode
 
-led_by : (m : Mode) (h : Header) (g : Graph) (id : List ℕ) (u : Unit {0}) → IsWithin h → one_leader m h.leaders ≡ Ok u → IsLedFor m (unnamed h g id)
+led_by : (m : Mode) (h : Header) (g : Graph) (id : List ℕ) (u : Unit {0}) → IsHeaderWithin h → one_leader m h.leaders ≡ Ok u → IsLedFor m (unnamed h g id)
 led_by Timelocks h g id u k one = let few = has_one h.leaders u one in let some = k.leaders.0 in omega (arith, few, some)
 led_by Hashkeys h g id u k one = tt
 
@@ -182,7 +183,7 @@ passed h g u e =
       timed = (u, s.2);
     }
 
-proposed : (h : Header) (g : Graph) → IsWithin h → HasEnds g → g.n ≡ length h.names → g.arcs ≡ h.arcs → graph_of h ≡ Ok g → Passed h g
+proposed : (h : Header) (g : Graph) → IsHeaderWithin h → HasEnds g → g.n ≡ length h.names → g.arcs ≡ h.arcs → graph_of h ≡ Ok g → Passed h g
     → IsProposed (deal_with h g)
 proposed h g k has n arcs made p =
     let sized = is_sized h g (deal_with h g).id k has n arcs in
@@ -207,7 +208,7 @@ proposed h g k has n arcs made p =
       amounts = λ a lt. k.amount a (subst (λ (xs : List ArcEnds). a < length xs) arcs lt);
     }
 
-accepted : (h : Header) (g : Graph) → IsWithin h → HasEnds g → g.n ≡ length h.names → g.arcs ≡ h.arcs → graph_of h ≡ Ok g → Passed h g
+accepted : (h : Header) (g : Graph) → IsHeaderWithin h → HasEnds g → g.n ≡ length h.names → g.arcs ≡ h.arcs → graph_of h ≡ Ok g → Passed h g
     → is_plain h.purpose ≡ false → IsAccepted (deal_with h g)
 accepted h g k has n arcs made p stated =
     let sized = is_sized h g (deal_with h g).id k has n arcs in
@@ -216,7 +217,7 @@ accepted h g k has n arcs made p stated =
     (is_timed h.mode h g (deal_with h g).id p.one.0 p.timed.0 refl k n arcs has p.strong p.feedback p.one.1 t)
     (sym (any_id (unnamed h g (replicate 32 0)) (deal_with h g).id))
 
-pub accepted_for : (h : Header) (g : Graph) (u : Unit {0}) → IsWithin h → HasEnds g → g.n ≡ length h.names → g.arcs ≡ h.arcs → graph_of h ≡ Ok g
+pub accepted_for : (h : Header) (g : Graph) (u : Unit {0}) → IsHeaderWithin h → HasEnds g → g.n ≡ length h.names → g.arcs ≡ h.arcs → graph_of h ≡ Ok g
     → checked h g ≡ Ok u → IsAcceptedFor h.purpose (deal_with h g)
 accepted_for h g u k has n arcs made e = by (is_plain h.purpose) refl
   where

@@ -32,7 +32,7 @@ use Rattle.proposed_deal.proofs.Proposals.{is_proposed}
 use Rattle.refusals.specs.declared.reason.Reason.TheVariants.{WrongTimelock}
 use Rattle.offer_fields.proofs.Chains.{went}
 use Rattle.offer_header.specs.declared.header.Header.{Header}
-use Rattle.offer_header.specs.Header.{IsWithin}
+use Rattle.offer_header.specs.Header.{IsHeaderWithin}
 use Rattle.offer_header.specs.Raw.{is_plain}
 use Rattle.swap_offer.specs.Checks.{graph_of, by_arcs, digraph_in, connected, unless_closed, one_leader, led, unless_cycle, least_bound, bounded, started}
 use Rattle.swap_offer.specs.Checks.{timed, unless_wrong, wrong_timelock, timed_unless, checked, admitted, deal_with, IsAcceptedFor, IsAcceptedUnless}
@@ -219,7 +219,7 @@ admits h false e a =
     let p = is_proposed (deal_with h (digraph_in h)) a in
     is_admitted h p (subst (λ (b : Bool). timed_unless b h (digraph_in h) ≡ Ok tt) (sym e) (is_in_time h p h.mode a.timed))
 
-passes : (h : Header) → IsWithin h → admitted h ≡ Ok (digraph_in h) → IsAcceptedFor h.purpose (deal_with h (digraph_in h))
+passes : (h : Header) → IsHeaderWithin h → admitted h ≡ Ok (digraph_in h) → IsAcceptedFor h.purpose (deal_with h (digraph_in h))
 unfolding admitted
 passes h k e =
     let g = went (graph_of h) _ (digraph_in h) e in

@@ -31,11 +31,11 @@ use Rattle.refusals.specs.declared.refusal.Refusal.{Refusal}
 use Rattle.refusals.specs.Refusal.{fault_with, named}
 use Rattle.refusals.proofs.Named.{named_err}
 use Rattle.offer_header.specs.declared.header.Header.{Header}
-use Rattle.offer_header.specs.Header.{IsWithin}
+use Rattle.offer_header.specs.Header.{IsHeaderWithin}
 use Rattle.offer_header.specs.Raw.{is_plain}
 use Rattle.swap_offer.specs.Checks.{graph_of, by_arcs, digraph_in, connected, unless_closed, one_leader, led, unless_cycle, least_bound, bounded}
 use Rattle.swap_offer.specs.Checks.{started, timed, unless_wrong, wrong_timelock, timed_unless, checked, admitted, job_with}
-use Rattle.swap_offer.specs.Wallets.{conforms, seed_of, needs_seed, no_seed, seeded, wrong_seed, wrong_wallet, fitting, walleted_for, walleted}
+use Rattle.swap_offer.specs.Wallets.{party_conforms, party_seed, needs_seed, no_seed, seeded, wrong_seed, wrong_wallet, fitting, walleted_for, walleted}
 use Rattle.swap_offer.specs.Job.{provided, accepted_of}
 use Rattle.swap_offer.specs.Certificates.{IsCertified, Certifies}
 
@@ -77,7 +77,7 @@ if_not : (P : Reason → Type 0) (t : Bool) (reason : Reason) → P reason → I
 if_not P true reason bad = tt
 if_not P false reason bad = bad
 
-module _ (h : Header) (k : IsWithin h) where
+module _ (h : Header) (k : IsHeaderWithin h) where
   abbrev Shows : Reason → Type 0
   Shows reason = IsCertified h reason
 
@@ -168,7 +168,7 @@ module _ (h : Header) (k : IsWithin h) where
       (onward (IsCertified h) (checked h (digraph_in h)) _ (of_checked m.1) (λ u c. tt)))
 
   of_seed : (job : Job) (p : ℕ) → IfThere Shows (no_seed job p)
-  of_seed job p = if_so (IsCertified h) (needs_seed job.purpose job p && is_none (seed_of job p)) (NoSeed p) tt
+  of_seed job p = if_so (IsCertified h) (needs_seed job.purpose job p && is_none (party_seed job p)) (NoSeed p) tt
 
   of_seeded : (job : Job) → IfBad Shows (seeded job)
   unfolding seeded
@@ -177,7 +177,7 @@ module _ (h : Header) (k : IsWithin h) where
       (the_first (IsCertified h) (no_seed job) (range_with_len 0 job.deal.graph.n) (of_seed job))
 
   of_wallet : (job : Job) (p : ℕ) → IfThere Shows (wrong_wallet job p)
-  of_wallet job p = go (conforms job p) (seed_of job p)
+  of_wallet job p = go (party_conforms job p) (party_seed job p)
     where
       by_lock : (o : Option ℕ) → IfThere (IsCertified h) (option_map (WrongWallet p) o)
       by_lock None = tt

@@ -9,7 +9,7 @@ use Rattle.swap_job.specs.declared.job.Job.{Job}
 use Rattle.swap_job.specs.declared.event.Event.{Event}
 use Rattle.refusals.specs.declared.reason.Reason.{Reason}
 use Rattle.offer_fields.proofs.Lists.{with_front}
-use Rattle.swap_offer.specs.Job.{counted, events_of, next_of}
+use Rattle.swap_offer.specs.Job.{counted, events_of, limited_event}
 
 -- a line as it stands in the text
 abbrev pub line_of : {B : Type 0} → (B → List ℕ) → ℕ × B → ℕ × List ℕ
@@ -22,9 +22,9 @@ regroup front (Ok e) (Err r) = refl
 regroup front (Err r) rest = refl
 
 step_of : (job : Job) (n : ℕ) (front : List Event) (line : ℕ) (text : List ℕ) (rest : List (ℕ × List ℕ)) →
-    with_front front (events_of job n ((line, text) ∷ rest)) ≡ next_of job n line text >>= λ e. with_front (front ++ e ∷ []) (events_of job (n + 1) rest)
+    with_front front (events_of job n ((line, text) ∷ rest)) ≡ limited_event job n line text >>= λ e. with_front (front ++ e ∷ []) (events_of job (n + 1) rest)
 unfolding events_of
-step_of job n front line text rest = regroup front (next_of job n line text) (events_of job (n + 1) rest)
+step_of job n front line text rest = regroup front (limited_event job n line text) (events_of job (n + 1) rest)
 
 none_left : (job : Job) (n : ℕ) → events_of job n [] ≡ Ok []
 unfolding events_of
@@ -39,20 +39,20 @@ module _ {B : Type 0} (text : B → List ℕ) (job : Job) (ls : List (ℕ × B))
   abbrev pub left : ℕ → List Event → Result (List Event) Reason
   left i front = with_front front (events_of job i (map (line_of text) (drop i ls)))
 
-  next : (i : ℕ) (front : List Event) (d : ℕ × B) → i < length ls → left i front ≡ next_of job i (get_or ls i d).0 (text (get_or ls i d).1) >>= λ e.
+  next : (i : ℕ) (front : List Event) (d : ℕ × B) → i < length ls → left i front ≡ limited_event job i (get_or ls i d).0 (text (get_or ls i d).1) >>= λ e.
       left (i + 1) (front ++ e ∷ [])
   next i front d lt =
       let e : drop i ls ≡ get_or ls i d ∷ drop (i + 1) ls = rw (add-one, drop-cons ls i d) refl in
       ap (λ (xs : List (ℕ × B)). with_front front (events_of job i (map (line_of text) xs))) e
       ∙ step_of job i front (get_or ls i d).0 (text (get_or ls i d).1) (map (line_of text) (drop (i + 1) ls))
 
-  pub goes_on : (i : ℕ) (front : List Event) (e : Event) (d : ℕ × B) → i < length ls → next_of job i (get_or ls i d).0 (text (get_or ls i d).1) ≡ Ok e
+  pub goes_on : (i : ℕ) (front : List Event) (e : Event) (d : ℕ × B) → i < length ls → limited_event job i (get_or ls i d).0 (text (get_or ls i d).1) ≡ Ok e
       → left i front ≡ total
       → left (i + 1) (front ++ e ∷ []) ≡ total
   goes_on i front e d lt h so_far = sym (next i front d lt ∙ ap (λ (r : Result Event Reason). r >>= λ x. left (i + 1) (front ++ x ∷ [])) h) ∙ so_far
 
   pub ends : (f : Fault Reason) (i : ℕ) (front : List Event) (d : ℕ × B) → i < length ls
-      → Fails f (next_of job i (get_or ls i d).0 (text (get_or ls i d).1)) → left i front ≡ total → Fails f total
+      → Fails f (limited_event job i (get_or ls i d).0 (text (get_or ls i d).1)) → left i front ≡ total → Fails f total
   ends NoMemory i front d lt h so_far = tt
   ends (Refused r) i front d lt h so_far = sym so_far ∙ next i front d lt ∙ ap (λ (q : Result Event Reason). q >>= λ x. left (i + 1) (front ++ x ∷ [])) h
 

@@ -12,6 +12,7 @@ use Rattle.swap_digraph.specs.Deal.{IsWellSized, path_limit_of}
 use Rattle.swap_digraph.specs.declared.deal.Version.{Version}
 use Rattle.swap_digraph.specs.declared.arc_ends.ArcEnds.{ArcEnds}
 use Rattle.swap_job.specs.Fitting.{IsMoveOf}
+use Rattle.swap_job.specs.Roles.{role_in, script_of}
 use Rattle.swap_job.specs.declared.job.Job.{Job}
 use Rattle.swap_job.specs.declared.job.Purpose.{Purpose}
 use Rattle.swap_job.specs.declared.job.Purpose.TheVariants.{Check, Run, Race, Make, Audit}
@@ -24,11 +25,11 @@ use Rattle.offer_moves.specs.Kept.{AreCraftersBelow, AreSeeded, IsMade}
 use Rattle.offer_moves.specs.Placed.{placed}
 use Rattle.offer_moves.proofs.Made.{placed_fits}
 use Rattle.offer_fields.proofs.Chains.{went}
-use Rattle.offer_header.specs.Header.{IsWithin}
-use Rattle.offer_header.specs.Scripts.{script_of, role_placed, roles_placed, scripts_placed, AreMade}
+use Rattle.offer_header.specs.Header.{IsHeaderWithin}
+use Rattle.offer_header.specs.Scripts.{role_placed, roles_placed, scripts_placed, AreMade}
 use Rattle.offer_header.specs.declared.header.Header.{Header}
 use Rattle.swap_offer.specs.Checks.{deal_with, job_with}
-use Rattle.swap_offer.specs.Wallets.{crafts, crafts_in, seeded, role_in, HaveScripts, HaveScriptsFor}
+use Rattle.swap_offer.specs.Wallets.{crafts, crafts_in, seeded, HaveScripts, HaveScriptsFor}
 use Rattle.swap_offer.proofs.Seeds.{crafters_seeded, asks_in_run, asks_in_race, asks_to_make, AsksCrafters}
 use Rattle.swap_offer.proofs.Size.{is_sized}
 
@@ -83,7 +84,7 @@ module _ (job : Job) (u : Unit {0}) (asks : AsksCrafters job) (have : seeded job
 sized : ℕ → ℕ → Version → Sizes
 sized a l v = record { arcs = a; locks = l; path = path_limit_of v }
 
-fit : (h : Header) (g : Graph) (line : ℕ) (u : Unit {0}) → IsWithin h → HasEnds g → g.n ≡ length h.names → g.arcs ≡ h.arcs → AreMade line h
+fit : (h : Header) (g : Graph) (line : ℕ) (u : Unit {0}) → IsHeaderWithin h → HasEnds g → g.n ≡ length h.names → g.arcs ≡ h.arcs → AreMade line h
     → scripts_placed line h ≡ Ok tt → AsksCrafters (job_with h g) → seeded (job_with h g) ≡ Ok u → HaveScripts (job_with h g)
 unfolding scripts_placed sized
 fit h g line u k has n arcs made are asks have p lt =
@@ -104,7 +105,7 @@ fit h g line u k has n arcs made are asks have p lt =
     (subst (λ (xs : List ArcEnds). placed xs h.conforming line p mv ≡ Ok tt) (sym arcs) (in_role h.arcs h.conforming line p role here i (Claim 0) l)) in
     record { fits = f.0; adjacent = f.1 })
 
-pub scripts_for : (h : Header) (g : Graph) (line : ℕ) (u : Unit {0}) → IsWithin h → HasEnds g → g.n ≡ length h.names → g.arcs ≡ h.arcs → AreMade line h
+pub scripts_for : (h : Header) (g : Graph) (line : ℕ) (u : Unit {0}) → IsHeaderWithin h → HasEnds g → g.n ≡ length h.names → g.arcs ≡ h.arcs → AreMade line h
     → scripts_placed line h ≡ Ok tt → seeded (job_with h g) ≡ Ok u → HaveScriptsFor h.purpose (job_with h g)
 scripts_for h g line u k has n arcs made are have = by h.purpose refl
   where

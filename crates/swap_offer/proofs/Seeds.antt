@@ -13,7 +13,8 @@ use Rattle.refusals.specs.declared.reason.Reason.{Reason}
 use Rattle.refusals.specs.declared.reason.Reason.TheVariants.{NoSeed, WrongWallet}
 use Rattle.party_wallet.specs.Fits.{wrong_lock}
 use Rattle.swap_offer.specs.Checks.{unless_wrong}
-use Rattle.swap_offer.specs.Wallets.{conforms, seed_of, is_crafter, needs_seed, no_seed, seeded, wrong_seed, wrong_wallet, fitting, walleted_for, walleted}
+use Rattle.swap_offer.specs.Wallets.{party_conforms, party_seed, is_crafter, needs_seed, no_seed, seeded, wrong_seed, wrong_wallet, fitting, walleted_for}
+use Rattle.swap_offer.specs.Wallets.{walleted}
 use Rattle.swap_offer.specs.Wallets.{HaveWallets, HaveWalletsFor, HaveSeedsFor}
 
 passed : (o : Option Reason) (u : Unit {0}) → unless_wrong o ≡ Ok u → o ≡ None
@@ -37,17 +38,17 @@ fits_is job p seed true (Some given) t s e =
     let same : given ≡ seed = cc s in
     subst (λ x. wrong_lock job.deal p x ≡ None) same (no_lock p (wrong_lock job.deal p given) e)
 
-have : (job : Job) → ((p : ℕ) → conforms job p ≡ true → needs_seed job.purpose job p ≡ true)
+have : (job : Job) → ((p : ℕ) → party_conforms job p ≡ true → needs_seed job.purpose job p ≡ true)
     → first_of (no_seed job) (range_with_len 0 job.deal.graph.n) ≡ None
     → first_of (wrong_wallet job) (range_with_len 0 job.deal.graph.n) ≡ None → HaveWallets job
 have job needs none wrong p lt c =
     let k = in_range p job.deal.graph.n lt in
     let absent = none_in (no_seed job) (range_with_len 0 job.deal.graph.n) p none k in
-    let s = seed_is (needs_seed job.purpose job p) (seed_of job p) (NoSeed p) (needs p c) absent in
+    let s = seed_is (needs_seed job.purpose job p) (party_seed job p) (NoSeed p) (needs p c) absent in
     record {
       seed = s.0;
       there = s.1;
-      fits = fits_is job p s.0 (conforms job p) (seed_of job p) c s.1 (none_in (wrong_wallet job) (range_with_len 0 job.deal.graph.n) p wrong k);
+      fits = fits_is job p s.0 (party_conforms job p) (party_seed job p) c s.1 (none_in (wrong_wallet job) (range_with_len 0 job.deal.graph.n) p wrong k);
     }
 
 needs_as : (job : Job) (purpose : Purpose) (p : ℕ) → job.purpose ≡ purpose → needs_seed purpose job p ≡ true → needs_seed job.purpose job p ≡ true
@@ -62,8 +63,8 @@ have_for job u w s f = by job.purpose refl f
   where
     by : (purpose : Purpose) → job.purpose ≡ purpose → walleted_for purpose job ≡ Ok w → HaveWalletsFor purpose job
     by Check e k = tt
-    by Run e k = have job (λ p c. needs_as job Run p e (either (conforms job p) (is_crafter job p) c)) (passed _ u s) (passed _ w k)
-    by Race e k = have job (λ p c. needs_as job Race p e (either (conforms job p) (is_crafter job p) c)) (passed _ u s) (passed _ w k)
+    by Run e k = have job (λ p c. needs_as job Run p e (either (party_conforms job p) (is_crafter job p) c)) (passed _ u s) (passed _ w k)
+    by Race e k = have job (λ p c. needs_as job Race p e (either (party_conforms job p) (is_crafter job p) c)) (passed _ u s) (passed _ w k)
     by Make e k = tt
     by Audit e k = tt
 
@@ -88,8 +89,8 @@ seeds_for job u s = by job.purpose refl
     by Race e = tt
     by Make e = λ p lt.
         let absent = none_in (no_seed job) (range_with_len 0 job.deal.graph.n) p (passed _ u s) (in_range p job.deal.graph.n lt) in
-        let there = seed_is (needs_seed job.purpose job p) (seed_of job p) (NoSeed p) (needs_as job Make p e refl) absent in
-        some_is (seed_of job p) there.0 there.1
+        let there = seed_is (needs_seed job.purpose job p) (party_seed job p) (NoSeed p) (needs_as job Make p e refl) absent in
+        some_is (party_seed job p) there.0 there.1
     by Audit e = tt
 
 pub seeds_on : {X : Type 0} (job : Job) (u : Unit {0}) (result : Result X (Fault Reason)) → seeded job ≡ Ok u → OnOk result (HaveSeedsFor job.purpose job)
@@ -107,22 +108,22 @@ abbrev pub AsksCrafters : Job → Type 0
 AsksCrafters job = (p : ℕ) → is_crafter job p ≡ true → needs_seed job.purpose job p ≡ true
 
 pub asks_in_run : (job : Job) → job.purpose ≡ Run → AsksCrafters job
-asks_in_run job e p c = needs_as job Run p e (or-right (conforms job p) (is_crafter job p) c)
+asks_in_run job e p c = needs_as job Run p e (or-right (party_conforms job p) (is_crafter job p) c)
 
 pub asks_in_race : (job : Job) → job.purpose ≡ Race → AsksCrafters job
-asks_in_race job e p c = needs_as job Race p e (or-right (conforms job p) (is_crafter job p) c)
+asks_in_race job e p c = needs_as job Race p e (or-right (party_conforms job p) (is_crafter job p) c)
 
 pub asks_to_make : (job : Job) → job.purpose ≡ Make → AsksCrafters job
 asks_to_make job e p c = needs_as job Make p e refl
 
 crafter_seed : (job : Job) (p : ℕ) → AsksCrafters job → first_of (no_seed job) (range_with_len 0 job.deal.graph.n) ≡ None
-    → p < job.deal.graph.n → is_crafter job p ≡ true → is_some (seed_of job p) ≡ true
+    → p < job.deal.graph.n → is_crafter job p ≡ true → is_some (party_seed job p) ≡ true
 crafter_seed job p asks none lt c =
     let absent = none_in (no_seed job) (range_with_len 0 job.deal.graph.n) p none (in_range p job.deal.graph.n lt) in
-    let there = seed_is (needs_seed job.purpose job p) (seed_of job p) (NoSeed p) (asks p c) absent in
+    let there = seed_is (needs_seed job.purpose job p) (party_seed job p) (NoSeed p) (asks p c) absent in
     ap is_some there.1
 
 pub crafters_seeded : (job : Job) (u : Unit {0}) → AsksCrafters job → seeded job ≡ Ok u → (p : ℕ) → p < job.deal.graph.n
-    → is_crafter job p ≡ true → is_some (seed_of job p) ≡ true
+    → is_crafter job p ≡ true → is_some (party_seed job p) ≡ true
 unfolding seeded
 crafters_seeded job u asks s p lt c = crafter_seed job p asks (passed _ u s) lt c

@@ -7,12 +7,12 @@ use Rattle.swap_digraph.specs.Deal.{IsWellSized, HasKeys}
 use Rattle.swap_digraph.specs.declared.deal.Mode.{Mode}
 use Rattle.swap_digraph.specs.declared.deal.Mode.TheVariants.{Timelocks, Hashkeys}
 use Rattle.offer_header.specs.declared.header.Header.{Header}
+use Rattle.swap_job.specs.Roles.{is_conforming}
 use Rattle.swap_job.specs.declared.job.Purpose.{Purpose}
 use Rattle.swap_job.specs.declared.job.Purpose.TheVariants.{Check, Run, Race, Make, Audit}
-use Rattle.offer_header.specs.Header.{AreSimpleFor, IsWithin, IsUntoldFor, HasKeysFor}
-use Rattle.offer_header.specs.Limits.{conforms}
+use Rattle.offer_header.specs.Header.{AreSimpleFor, IsHeaderWithin, IsUntoldFor, HasKeysFor}
 use Rattle.swap_offer.specs.Checks.{unnamed, deal_with, job_with}
-use Rattle.swap_offer.specs.Job.{IsWhole}
+use Rattle.swap_offer.specs.Job.{IsWholeJob}
 use Rattle.swap_offer.specs.Wallets.{AreSimpleRoles, IsUntoldJob}
 
 keys_of : (m : Mode) (h : Header) (g : Graph) (id : List ℕ) → g.n ≡ length h.names → HasKeysFor m (length h.names) (length h.leaders) h.keys
@@ -20,7 +20,7 @@ keys_of : (m : Mode) (h : Header) (g : Graph) (id : List ℕ) → g.n ≡ length
 keys_of Timelocks h g id n k = k
 keys_of Hashkeys h g id n k = (k.0 ∙ sym n, λ p lt. k.1 p (rw n at lt))
 
-pub is_sized : (h : Header) (g : Graph) (id : List ℕ) → IsWithin h → HasEnds g → g.n ≡ length h.names → g.arcs ≡ h.arcs → IsWellSized (unnamed h g id)
+pub is_sized : (h : Header) (g : Graph) (id : List ℕ) → IsHeaderWithin h → HasEnds g → g.n ≡ length h.names → g.arcs ≡ h.arcs → IsWellSized (unnamed h g id)
 is_sized h g id k e n a =
     let arcs : length g.arcs ≡ length h.arcs = ap length a in
     record {
@@ -40,11 +40,11 @@ is_sized h g id k e n a =
       timelock = λ i lt. k.timelock i (rw arcs at lt);
     }
 
-pub is_whole : (h : Header) (g : Graph) → IsWithin h → HasEnds g → g.n ≡ length h.names → g.arcs ≡ h.arcs → IsWhole (job_with h g)
+pub is_whole : (h : Header) (g : Graph) → IsHeaderWithin h → HasEnds g → g.n ≡ length h.names → g.arcs ≡ h.arcs → IsWholeJob (job_with h g)
 is_whole h g k e n a = record {
   sized = is_sized h g (deal_with h g).id k e n a;
   names = sym n;
-  conforming = ap length k.conforming ∙ (length-map h.roles conforms ∙ (k.roles ∙ sym n));
+  conforming = ap length k.conforming ∙ (length-map h.roles is_conforming ∙ (k.roles ∙ sym n));
   roles = k.roles ∙ sym n;
   acting = k.conforming;
   seeds = k.seeds ∙ sym n;

@@ -2,6 +2,7 @@
 use Rattle.std.specs.Prelude.{◌≡◌, ◌==◌, ℕ, ◌+◌, List, [], ◌∷◌, Bool, true, false, codes, length, map, Result, Ok, Err, if◌then◌else◌}
 use Rattle.swap_base.specs.Fault.{◌>>=◌, steps}
 use Rattle.swap_digraph.specs.Deal.{IsWellSized}
+use Rattle.swap_job.specs.Roles.{is_conforming}
 use Rattle.swap_job.specs.declared.job.Purpose.{Purpose}
 use Rattle.swap_job.specs.declared.job.Job.{Job}
 use Rattle.swap_job.specs.declared.event.Event.{Event}
@@ -9,7 +10,6 @@ use Rattle.refusals.specs.declared.reason.Reason.{Reason}
 use Rattle.refusals.specs.declared.reason.Reason.TheVariants.{NotJson, OverLimit}
 use Rattle.offer_header.specs.Raw.{is_plain}
 use Rattle.offer_header.specs.Header.{header_of}
-use Rattle.offer_header.specs.Limits.{conforms}
 use Rattle.offer_events.specs.Event.{event_of}
 use Rattle.command_input.specs.Lines.{lines_of, filled_lines}
 use Rattle.offer_header.specs.declared.header.Header.{Header}
@@ -49,13 +49,13 @@ names_in has purpose [] = []
 names_in has purpose (l ∷ ls) = names_at has purpose l.0 l.1
 
 -- the event of a line, where so many events came before
-unfoldable pub next_of : Job → ℕ → ℕ → List ℕ → Result Event Reason
-next_of job count line text = if count == 200000 then Err (OverLimit line (codes "events") 200001) else event_of job line text
+unfoldable pub limited_event : Job → ℕ → ℕ → List ℕ → Result Event Reason
+limited_event job count line text = if count == 200000 then Err (OverLimit line (codes "events") 200001) else event_of job line text
 
 -- the events of lines, where so many came before
 unfoldable pub events_of : Job → ℕ → List (ℕ × List ℕ) → Result (List Event) Reason
 events_of job count [] = Ok []
-events_of job count (l ∷ ls) = next_of job count l.0 l.1 >>= λ e. events_of job (count + 1) ls >>= λ es. Ok (e ∷ es)
+events_of job count (l ∷ ls) = limited_event job count l.0 l.1 >>= λ e. events_of job (count + 1) ls >>= λ es. Ok (e ∷ es)
 
 -- how many lines there are with one more, where so many came before: its text isn't examined
 unfoldable pub counted : ℕ → ℕ × List ℕ → Result ℕ Reason
@@ -69,9 +69,9 @@ events_unless false job ls = events_of job 0 ls
 abbrev pub events_for : Purpose → Job → List (ℕ × List ℕ) → Result (List Event) Reason
 events_for purpose job ls = events_unless (is_plain purpose) job ls
 
-abbrev pub of_lines : (List ℕ → Bool) → Purpose → List (ℕ × List ℕ) → Result (Job × List Event) Reason
-of_lines has purpose [] = Err (NotJson 1)
-of_lines has purpose (l ∷ ls) = job_header_of has purpose l.0 l.1 >>= λ job. events_for purpose job ls >>= λ events. Ok (job, events)
+abbrev pub job_of_lines : (List ℕ → Bool) → Purpose → List (ℕ × List ℕ) → Result (Job × List Event) Reason
+job_of_lines has purpose [] = Err (NotJson 1)
+job_of_lines has purpose (l ∷ ls) = job_header_of has purpose l.0 l.1 >>= λ job. events_for purpose job ls >>= λ events. Ok (job, events)
 
 -- the names of the parties that an offer's bytes speak of
 abbrev pub names_of_offer : (List ℕ → Bool) → Purpose → List ℕ → List (List ℕ)
@@ -79,13 +79,13 @@ names_of_offer has purpose bytes = names_in has purpose (filled_lines 1 (lines_o
 
 -- the job and the events of an offer's bytes
 unfoldable pub job_of : (List ℕ → Bool) → Purpose → List ℕ → Result (Job × List Event) Reason
-job_of has purpose bytes = of_lines has purpose (filled_lines 1 (lines_of bytes))
+job_of has purpose bytes = job_of_lines has purpose (filled_lines 1 (lines_of bytes))
 
 -- A job whose deal is well sized, with a name, a role and perhaps a seed per party.
-pub record IsWhole (job : Job) : Type 0 where
+pub record IsWholeJob (job : Job) : Type 0 where
   pub sized : IsWellSized job.deal
   pub names : length job.names ≡ job.deal.graph.n
   pub conforming : length job.conforming ≡ job.deal.graph.n
   pub roles : length job.roles ≡ job.deal.graph.n
-  pub acting : job.conforming ≡ map conforms job.roles
+  pub acting : job.conforming ≡ map is_conforming job.roles
   pub seeds : length job.seeds ≡ job.deal.graph.n

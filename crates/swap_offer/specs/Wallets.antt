@@ -5,16 +5,15 @@ use Rattle.std.specs.List.{list_any, range_with_len}
 use Rattle.swap_base.specs.Lists.{first_of}
 use Rattle.swap_job.specs.declared.job.Job.{Job}
 use Rattle.swap_job.specs.Fitting.{IsMoveOf}
+use Rattle.swap_job.specs.Roles.{role_in, script_of}
 use Rattle.swap_job.specs.declared.moves.Move.{Move}
 use Rattle.swap_job.specs.declared.moves.Move.TheVariants.{Craft}
 use Rattle.swap_job.specs.declared.job.Role.{Role}
-use Rattle.swap_job.specs.declared.job.Role.TheVariants.{Manual}
 use Rattle.swap_job.specs.declared.job.Purpose.{Purpose}
 use Rattle.swap_job.specs.declared.job.Purpose.TheVariants.{Run, Race, Make, Audit}
 use Rattle.swap_job.specs.declared.job.Finish.TheVariants.{Stop}
 use Rattle.proposed_deal.specs.Proposed.{HaveSeeds}
 use Rattle.offer_header.specs.Header.{simple_role}
-use Rattle.offer_header.specs.Scripts.{script_of}
 use Rattle.refusals.specs.declared.reason.Reason.{Reason}
 use Rattle.refusals.specs.declared.reason.Reason.TheVariants.{NoSeed, WrongWallet}
 use Rattle.party_wallet.specs.Fits.{wrong_lock}
@@ -23,12 +22,12 @@ use Rattle.party_wallet.specs.Wallets.{wallets_of}
 use Rattle.swap_offer.specs.Checks.{unless_wrong}
 
 -- party p conforms
-abbrev pub conforms : Job → ℕ → Bool
-conforms job p = slice_index_or job.conforming p false
+abbrev pub party_conforms : Job → ℕ → Bool
+party_conforms job p = slice_index_or job.conforming p false
 
 -- the seed of party p, where it is there
-abbrev pub seed_of : Job → ℕ → Option (List ℕ)
-seed_of job p = slice_index_or job.seeds p None
+abbrev pub party_seed : Job → ℕ → Option (List ℕ)
+party_seed job p = slice_index_or job.seeds p None
 
 -- party p crafts a hashkey in a move
 abbrev pub crafts : ℕ → Move → Bool
@@ -44,14 +43,14 @@ is_crafter job p = list_any (crafts_in p) job.roles
 
 -- the parties whose seeds a purpose needs: for a run and a race those that conform or craft in a script, for making all
 abbrev pub needs_seed : Purpose → Job → ℕ → Bool
-needs_seed Run job p = conforms job p || is_crafter job p
-needs_seed Race job p = conforms job p || is_crafter job p
+needs_seed Run job p = party_conforms job p || is_crafter job p
+needs_seed Race job p = party_conforms job p || is_crafter job p
 needs_seed Make job p = true
 needs_seed _ job p = false
 
 -- the reason against a party p whose seed is needed and isn't there
 abbrev pub no_seed : Job → ℕ → Option Reason
-no_seed job p = if needs_seed job.purpose job p && is_none (seed_of job p) then Some (NoSeed p) else None
+no_seed job p = if needs_seed job.purpose job p && is_none (party_seed job p) then Some (NoSeed p) else None
 
 -- the seeds that the job's purpose needs are there
 unfoldable pub seeded : Job → Result (Unit {0}) Reason
@@ -64,7 +63,7 @@ wrong_seed job p (Some seed) = option_map (WrongWallet p) (wrong_lock job.deal p
 
 -- the reason against the seed of a conforming party p, where it is there
 abbrev pub wrong_wallet : Job → ℕ → Option Reason
-wrong_wallet job p = if conforms job p then wrong_seed job p (seed_of job p) else None
+wrong_wallet job p = if party_conforms job p then wrong_seed job p (party_seed job p) else None
 
 -- the seeds of conforming parties that are there are those of the deal
 unfoldable pub fitting : Job → Result (Unit {0}) Reason
@@ -89,12 +88,12 @@ wallets_for _ job = []
 -- A party's seed is there, and gives it what the deal states for each lock.
 pub record HasWallet (job : Job) (p : ℕ) : Type 0 where
   pub seed : List ℕ
-  pub there : seed_of job p ≡ Some seed
+  pub there : party_seed job p ≡ Some seed
   pub fits : wrong_lock job.deal p seed ≡ None
 
 -- each conforming party has its wallet
 abbrev pub HaveWallets : Job → Type 0
-HaveWallets job = (p : ℕ) → p < job.deal.graph.n → conforms job p ≡ true → HasWallet job p
+HaveWallets job = (p : ℕ) → p < job.deal.graph.n → party_conforms job p ≡ true → HasWallet job p
 
 -- for a run and a race each conforming party has its wallet
 abbrev pub HaveWalletsFor : Purpose → Job → Type 0
@@ -109,12 +108,8 @@ HaveSeedsFor _ job = Unit {0}
 
 -- a transcript tells no seed, and nothing is done after its last entry
 abbrev pub IsUntoldJob : Purpose → Job → Type 0
-IsUntoldJob Audit job = ((p : ℕ) → seed_of job p ≡ None) × (job.finish ≡ Stop)
+IsUntoldJob Audit job = ((p : ℕ) → party_seed job p ≡ None) × (job.finish ≡ Stop)
 IsUntoldJob _ job = Unit {0}
-
--- the role of party p
-abbrev pub role_in : Job → ℕ → Role
-role_in job p = slice_index_or job.roles p Manual
 
 -- each move of a script fits, and stands on an arc that touches its party
 abbrev pub HaveScripts : Job → Type 0

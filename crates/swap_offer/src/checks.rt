@@ -6,7 +6,7 @@ ghost use Rattle.swap_base.specs.Fault.{Gives};
 ghost use Rattle.swap_digraph.specs.Graph.{HasEnds, IsStronglyConnected, IsFeedback, IsHeight, arcs};
 ghost use Rattle.leader_check.specs.Levels.{height_of};
 ghost use Rattle.leader_check.specs.Distance.{dist_of};
-ghost use Rattle.offer_header.specs.Header.{IsWithin};
+ghost use Rattle.offer_header.specs.Header.{IsHeaderWithin};
 ghost use Rattle.offer_header.specs.Raw.{is_plain};
 ghost use Rattle.swap_offer.specs.Checks.{arc_reason, graph_of, connected, one_leader, led, least_bound, bounded, started, wrong_timelock, timed};
 ghost use Rattle.swap_offer.specs.Checks.{timed_unless, checked};
@@ -33,7 +33,7 @@ fn arc_reason(fault: ArcFault) -> Reason
 /// The digraph of the header's arcs, or the first fault of the least arc that has one.
 #[tactic(auto, using(crate::proofs::Few::few_names, crate::proofs::Few::few_arcs), unfolding(crate::specs::Checks::graph_of))]
 pub(crate) fn graph_in(alloc: Global, header: &Header) -> Result<Digraph, OfferFault>
-    requires { IsWithin header.now }
+    requires { IsHeaderWithin header.now }
     ensures exact { Gives (λ g. g) result (graph_of header.now) }
     ensures parts { IfOk result (λ g. (g.n ≡ length header.now.names) × (g.arcs ≡ header.now.arcs)) }
     ensures ends { IfOk result (λ g. HasEnds g) }
@@ -122,7 +122,7 @@ fn wrong_timelock(
     dists: &[u32],
     arc: ArcId,
 ) -> Option<Reason>
-    requires within { IsWithin header.now }
+    requires within { IsHeaderWithin header.now }
     requires parts { graph.now.arcs ≡ header.now.arcs }
     requires ends { HasEnds graph.now }
     requires arc { arc < length graph.now.arcs }
@@ -149,7 +149,7 @@ fn first_wrong_timelock(
     leader: PartyId,
     dists: &[u32],
 ) -> Option<Reason>
-    requires within { IsWithin header.now }
+    requires within { IsHeaderWithin header.now }
     requires parts { graph.now.arcs ≡ header.now.arcs }
     requires ends { HasEnds graph.now }
     requires parties { length dists.now ≡ graph.now.n }
@@ -173,7 +173,7 @@ fn check_timelocks(
     graph: &Digraph,
     levels: &Levels,
 ) -> Result<(), OfferFault>
-    requires within { IsWithin header.now }
+    requires within { IsHeaderWithin header.now }
     requires parts { graph.now.arcs ≡ header.now.arcs }
     requires parties { graph.now.n ≡ length header.now.names }
     requires ends { HasEnds graph.now }
@@ -201,7 +201,7 @@ fn check_times(
     graph: &Digraph,
     levels: &Levels,
 ) -> Result<(), OfferFault>
-    requires within { IsWithin header.now }
+    requires within { IsHeaderWithin header.now }
     requires parts { graph.now.arcs ≡ header.now.arcs }
     requires parties { graph.now.n ≡ length header.now.names }
     requires ends { HasEnds graph.now }
@@ -224,7 +224,7 @@ pub(crate) fn check_header(
     header: &Header,
     graph: &Digraph,
 ) -> Result<u32, OfferFault>
-    requires within { IsWithin header.now }
+    requires within { IsHeaderWithin header.now }
     requires parts { graph.now.arcs ≡ header.now.arcs }
     requires parties { graph.now.n ≡ length header.now.names }
     requires ends { HasEnds graph.now }

@@ -6,14 +6,14 @@ ghost use Rattle.swap_digraph.specs.Deal.{IsWellSized};
 ghost use Rattle.swap_digraph.specs.Graph.{HasEnds};
 ghost use Rattle.refusals.specs.Refusal.{named};
 ghost use Rattle.offer_header.specs.declared.header.Header.{Header};
-ghost use Rattle.offer_header.specs.Header.{header_of, AreSimpleFor, IsUntoldFor, IsWithin};
+ghost use Rattle.offer_header.specs.Header.{header_of, AreSimpleFor, IsUntoldFor, IsHeaderWithin};
 ghost use Rattle.offer_header.specs.Limits.{HoldsEach};
 ghost use Rattle.offer_header.specs.Names.{has_strategy, AreNames};
 ghost use Rattle.offer_header.specs.Scripts.{scripts_placed, AreMade};
 ghost use Rattle.swap_offer.specs.Checks.{admitted, deal_with, job_with, least_bound, need_of, unnamed, IsAcceptedFor};
 ghost use Rattle.swap_offer.specs.Certificates.{Certifies};
 ghost use Rattle.swap_offer.specs.Wallets.{seeded, AreSimpleRoles, HaveScriptsFor, HaveSeedsFor, HaveWalletsFor, IsUntoldJob, wallets_for};
-ghost use Rattle.swap_offer.specs.Job.{accepted_of, job_header_of, names_at, provided, IsWhole};
+ghost use Rattle.swap_offer.specs.Job.{accepted_of, job_header_of, names_at, provided, IsWholeJob};
 
 use crate::checks::{check_header, graph_in};
 use crate::prepared::Prepared;
@@ -61,7 +61,7 @@ fn job_with(header: Header, graph: Digraph) -> Job
 /// The digraph of a header whose digraph, leaders and times pass their checks, and the least bound.
 #[tactic(auto, unfolding(crate::specs::Checks::admitted))]
 fn admit(alloc: Global, header: &Header) -> Result<(Digraph, u32), OfferFault>
-    requires { IsWithin header.now }
+    requires { IsHeaderWithin header.now }
     ensures exact { Gives (λ a. a.0) result (admitted header.now) }
     ensures parts { IfOk result (λ a. (a.0.n ≡ length header.now.names) × (a.0.arcs ≡ header.now.arcs)) }
     ensures ends { IfOk result (λ a. HasEnds a.0) }
@@ -76,7 +76,7 @@ fn admit(alloc: Global, header: &Header) -> Result<(Digraph, u32), OfferFault>
 /// The wallets that a job's purpose needs, where it has the seeds that it needs.
 #[tactic(auto, unfolding(crate::specs::Job::provided))]
 fn provide(alloc: Global, job: &Job) -> Result<Vec<Option<Wallet>>, OfferFault>
-    requires whole { IsWhole job.now }
+    requires whole { IsWholeJob job.now }
     ensures exact { Gives (λ _. tt) result (provided job.now) }
     ensures seeded { OnOk result (seeded job.now ≡ Ok tt) }
     ensures wallets { OnOk result (HaveWalletsFor job.now.purpose job.now) }
@@ -90,7 +90,7 @@ fn provide(alloc: Global, job: &Job) -> Result<Vec<Option<Wallet>>, OfferFault>
 /// The job of a header within its limits, with its wallets. A reason against it takes the header's names.
 #[tactic(auto, using(crate::proofs::Size::is_whole, crate::proofs::Size::is_sized, refusals::proofs::Named::fails), unfolding(crate::specs::Job::accepted_of))]
 fn accept(alloc: Global, line: u32, header: Header) -> Result<Prepared, HeaderFault>
-    requires within { IsWithin header }
+    requires within { IsHeaderWithin header }
     requires untold { IsUntoldFor header.purpose header }
     requires simple { AreSimpleFor header.purpose header }
     requires placed { scripts_placed line header ≡ Ok tt }
@@ -99,7 +99,7 @@ fn accept(alloc: Global, line: u32, header: Header) -> Result<Prepared, HeaderFa
     ensures names { IfOk result (λ p. p.job.names ≡ header.names) }
     ensures known { IfOk result (λ p. AreNames p.job.names) }
     ensures purpose { IfOk result (λ p. p.job.purpose ≡ header.purpose) }
-    ensures whole { IfOk result (λ p. IsWhole p.job) }
+    ensures whole { IfOk result (λ p. IsWholeJob p.job) }
     ensures accepted { IfOk result (λ p. IsAcceptedFor header.purpose p.job.deal) }
     ensures wallets { IfOk result (λ p. HaveWalletsFor header.purpose p.job) }
     ensures seeds { IfOk result (λ p. HaveSeedsFor header.purpose p.job) }
@@ -140,7 +140,7 @@ pub fn read_header(
     ensures names { IfOk result (λ p. p.job.names ≡ names_at (has_strategy kit.now.names kit.now.strategies.items) purpose line text.now) }
     ensures known { IfOk result (λ p. AreNames p.job.names) }
     ensures purpose { IfOk result (λ p. p.job.purpose ≡ purpose) }
-    ensures whole { IfOk result (λ p. IsWhole p.job) }
+    ensures whole { IfOk result (λ p. IsWholeJob p.job) }
     ensures accepted { IfOk result (λ p. IsAcceptedFor purpose p.job.deal) }
     ensures wallets { IfOk result (λ p. HaveWalletsFor purpose p.job) }
     ensures seeds { IfOk result (λ p. HaveSeedsFor purpose p.job) }

@@ -9,7 +9,7 @@ ghost use Rattle.offer_header.specs.Limits.{HoldsEach};
 ghost use Rattle.offer_header.specs.Names.{AreNames, has_strategy};
 ghost use Rattle.offer_header.specs.Raw.{is_plain};
 ghost use Rattle.swap_offer.specs.Checks.{IsAcceptedFor};
-ghost use Rattle.swap_offer.specs.Job.{next_of, counted, events_of, events_for, of_lines, job_of, names_at, names_in, names_of_offer, IsWhole};
+ghost use Rattle.swap_offer.specs.Job.{limited_event, counted, events_of, events_for, job_of_lines, job_of, names_at, names_in, names_of_offer, IsWholeJob};
 ghost use Rattle.swap_offer.specs.Wallets.{AreSimpleRoles, HaveScriptsFor, HaveSeedsFor, HaveWalletsFor, IsUntoldJob};
 
 use crate::header::read_header;
@@ -27,7 +27,7 @@ use swap_job::{Event, Job, Purpose};
 const MOST_EVENTS: u32 = 200_000;
 
 /// The event of a line, where so many events came before it.
-#[tactic(auto, unfolding(crate::specs::Job::next_of))]
+#[tactic(auto, unfolding(crate::specs::Job::limited_event))]
 pub fn next_event(
     alloc: Global,
     job: &Job,
@@ -35,8 +35,8 @@ pub fn next_event(
     line: u32,
     text: &[u8],
 ) -> Result<Event, OfferFault>
-    requires { IsWhole job.now }
-    ensures exact { Gives (λ e. e) result (next_of job.now count line text.now) }
+    requires { IsWholeJob job.now }
+    ensures exact { Gives (λ e. e) result (limited_event job.now count line text.now) }
     ensures fits { IfOk result (λ e. needs_seeds job.now.purpose ≡ true → IsEventOf job.now e) }
 {
     if count == MOST_EVENTS {
@@ -47,7 +47,7 @@ pub fn next_event(
 
 /// The events of the lines.
 fn read_events(alloc: Global, job: &Job, lines: &[(u32, &[u8])]) -> Result<Vec<Event>, OfferFault>
-    requires whole { IsWhole job.now }
+    requires whole { IsWholeJob job.now }
     requires few { length lines.now < 2 ^ 31 }
     ensures exact { Gives (λ v. v.items) result (events_of job.now 0 (map (λ l. (l.0, l.1.now)) lines.now)) }
     ensures fit { IfOk result (λ v. needs_seeds job.now.purpose ≡ true → All (IsEventOf job.now) v.items) }
@@ -91,7 +91,7 @@ fn read_further(
     job: &Job,
     lines: &[(u32, &[u8])],
 ) -> Result<Vec<Event>, OfferFault>
-    requires whole { IsWhole job.now }
+    requires whole { IsWholeJob job.now }
     requires few { length lines.now < 2 ^ 31 }
     ensures exact { Gives (λ v. v.items) result (events_for purpose job.now (map (λ l. (l.0, l.1.now)) lines.now)) }
     ensures fit { IfOk result (λ v. needs_seeds job.now.purpose ≡ true → All (IsEventOf job.now) v.items) }
@@ -116,8 +116,8 @@ fn read_from(
 ) -> Result<(Job, Vec<Event>), HeaderFault>
     requires few { length further.now < 2 ^ 31 }
     ensures exact { Gives (λ j. (j.0, j.1.items)) result (named (names_at (has_strategy kit.now.names kit.now.strategies.items) purpose line text.now)
-        (of_lines (has_strategy kit.now.names kit.now.strategies.items) purpose ((line, text.now) ∷ map (λ l. (l.0, l.1.now)) further.now))) }
-    ensures whole { IfOk result (λ j. IsWhole j.0) }
+        (job_of_lines (has_strategy kit.now.names kit.now.strategies.items) purpose ((line, text.now) ∷ map (λ l. (l.0, l.1.now)) further.now))) }
+    ensures whole { IfOk result (λ j. IsWholeJob j.0) }
     ensures accepted { IfOk result (λ j. IsAcceptedFor purpose j.0.deal) }
     ensures known { IfOk result (λ j. AreNames j.0.names) }
     ensures purpose { IfOk result (λ j. j.0.purpose ≡ purpose) }
@@ -145,8 +145,8 @@ fn read_lines(
     requires few { length lines.now < 2 ^ 31 }
     ensures exact { Gives (λ j. (j.0, j.1.items)) result (named
         (names_in (has_strategy kit.now.names kit.now.strategies.items) purpose (map (λ l. (l.0, l.1.now)) lines.now))
-        (of_lines (has_strategy kit.now.names kit.now.strategies.items) purpose (map (λ l. (l.0, l.1.now)) lines.now))) }
-    ensures whole { IfOk result (λ j. IsWhole j.0) }
+        (job_of_lines (has_strategy kit.now.names kit.now.strategies.items) purpose (map (λ l. (l.0, l.1.now)) lines.now))) }
+    ensures whole { IfOk result (λ j. IsWholeJob j.0) }
     ensures accepted { IfOk result (λ j. IsAcceptedFor purpose j.0.deal) }
     ensures known { IfOk result (λ j. AreNames j.0.names) }
     ensures purpose { IfOk result (λ j. j.0.purpose ≡ purpose) }
@@ -178,7 +178,7 @@ pub fn read_job(
     requires few { length bytes.now < 2 ^ 31 }
     ensures exact { Gives (λ j. (j.0, j.1.items)) result (named (names_of_offer (has_strategy kit.now.names kit.now.strategies.items) purpose bytes.now)
         (job_of (has_strategy kit.now.names kit.now.strategies.items) purpose bytes.now)) }
-    ensures whole { IfOk result (λ j. IsWhole j.0) }
+    ensures whole { IfOk result (λ j. IsWholeJob j.0) }
     ensures accepted { IfOk result (λ j. IsAcceptedFor purpose j.0.deal) }
     ensures known { IfOk result (λ j. AreNames j.0.names) }
     ensures purpose { IfOk result (λ j. j.0.purpose ≡ purpose) }

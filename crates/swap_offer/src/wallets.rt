@@ -10,7 +10,7 @@ ghost use Rattle.party_wallet.specs.Fits.{wrong_lock};
 ghost use Rattle.party_wallet.specs.Keys.{new_wallet};
 ghost use Rattle.party_wallet.specs.Wallets.{wallet_for, wallets_of};
 ghost use Rattle.swap_offer.specs.Checks.{unless_wrong};
-ghost use Rattle.swap_offer.specs.Job.{IsWhole};
+ghost use Rattle.swap_offer.specs.Job.{IsWholeJob};
 ghost use Rattle.swap_offer.specs.Wallets.{crafts, crafts_in, is_crafter, needs_seed, no_seed, seeded, wrong_wallet, fitting, walleted, wallets_for};
 
 use party_wallet::Wallet;
@@ -74,7 +74,7 @@ fn is_crafter(job: &Job, p: PartyId) -> bool
 }
 
 fn needs_seed(job: &Job, p: PartyId) -> bool
-    requires whole { IsWhole job.now }
+    requires whole { IsWholeJob job.now }
     requires known { p < job.now.deal.graph.n }
     ensures { result ≡ needs_seed job.now.purpose job.now p }
 {
@@ -86,7 +86,7 @@ fn needs_seed(job: &Job, p: PartyId) -> bool
 }
 
 fn no_seed(job: &Job, p: PartyId) -> Option<Reason>
-    requires whole { IsWhole job.now }
+    requires whole { IsWholeJob job.now }
     requires known { p < job.now.deal.graph.n }
     ensures { result ≡ no_seed job.now p }
 {
@@ -99,7 +99,7 @@ fn no_seed(job: &Job, p: PartyId) -> Option<Reason>
 
 /// The reason against the first party whose seed is needed and isn't there.
 fn first_without_seed(job: &Job) -> Option<Reason>
-    requires whole { IsWhole job.now }
+    requires whole { IsWholeJob job.now }
     ensures { result ≡ first_of (no_seed job.now) (range_with_len 0 job.now.deal.graph.n) }
 {
     for p in 0..job.deal.graph.n() {
@@ -114,7 +114,7 @@ fn first_without_seed(job: &Job) -> Option<Reason>
 /// The seeds that the job's purpose needs are there.
 #[tactic(auto, unfolding(crate::specs::Wallets::seeded))]
 pub(crate) fn check_seeds(job: &Job) -> Result<(), OfferFault>
-    requires whole { IsWhole job.now }
+    requires whole { IsWholeJob job.now }
     ensures { Gives (λ u. u) result (seeded job.now) }
 {
     match first_without_seed(job) {
@@ -139,7 +139,7 @@ fn with_seed(alloc: Global, deal: &Deal, p: PartyId, seed: &Digest) -> Result<Wa
 
 /// The wallet of a party that conforms and has a seed, or the reason against it.
 fn wallet_for(alloc: Global, job: &Job, p: PartyId) -> Result<Option<Wallet>, OfferFault>
-    requires whole { IsWhole job.now }
+    requires whole { IsWholeJob job.now }
     requires known { p < job.now.deal.graph.n }
     ensures fits { Gives (λ _. tt) result (unless_wrong (wrong_wallet job.now p)) }
     ensures made { IfOk result (λ o. o ≡ wallet_for job.now.deal job.now.conforming job.now.seeds p) }
@@ -156,7 +156,7 @@ fn wallet_for(alloc: Global, job: &Job, p: PartyId) -> Result<Option<Wallet>, Of
 /// The wallet of each party that conforms and has a seed, or the reason against the first that isn't that of the deal.
 #[tactic(auto, unfolding(crate::specs::Wallets::fitting))]
 fn wallets_of(alloc: Global, job: &Job) -> Result<Vec<Option<Wallet>>, OfferFault>
-    requires whole { IsWhole job.now }
+    requires whole { IsWholeJob job.now }
     ensures fit { Gives (λ _. tt) result (fitting job.now) }
     ensures made { IfOk result (λ v. v.items ≡ wallets_of job.now.deal job.now.conforming job.now.seeds) }
 {
@@ -171,7 +171,7 @@ fn wallets_of(alloc: Global, job: &Job) -> Result<Vec<Option<Wallet>>, OfferFaul
 /// Makes the wallet of each party that conforms and has a seed, one at a time, and lets it go.
 #[tactic(auto, unfolding(crate::specs::Wallets::fitting))]
 fn check_wallets(alloc: Global, job: &Job) -> Result<(), OfferFault>
-    requires whole { IsWhole job.now }
+    requires whole { IsWholeJob job.now }
     ensures { Gives (λ u. u) result (fitting job.now) }
 {
     'parties: for p in 0..job.deal.graph.n() {
@@ -183,7 +183,7 @@ fn check_wallets(alloc: Global, job: &Job) -> Result<(), OfferFault>
 /// The wallets that the job's purpose needs, where the seeds give what the deal states of them.
 #[tactic(auto, unfolding(crate::specs::Wallets::walleted))]
 pub(crate) fn wallets_for(alloc: Global, job: &Job) -> Result<Vec<Option<Wallet>>, OfferFault>
-    requires whole { IsWhole job.now }
+    requires whole { IsWholeJob job.now }
     ensures fit { Gives (λ _. tt) result (walleted job.now) }
     ensures made { IfOk result (λ v. v.items ≡ wallets_for job.now.purpose job.now) }
 {

@@ -21,7 +21,7 @@ use Rattle.ledger_core.proofs.History.{opened_done, of_unlock, published-past, l
 use Rattle.swap_rules.specs.Party.{first_seen_key, key_without}
 use Rattle.swap_rules.specs.Conduct.{has_origin, carries, extends_without, is_alone}
 use Rattle.swap_rules.specs.Due.{Wallet, seen_key, extended, due_key}
-use Rattle.swap_rules.specs.Machine.{KeepsKey, IsGoodKey, IsWallet, IsOwn, IsOnto}
+use Rattle.swap_rules.specs.Machine.{KeepsKey, IsGoodKey, IsWallet, IsOwnKey, IsOnto}
 use Rattle.swap_rules.proofs.Entering.{valid_of_unlock}
 use Rattle.swap_rules.proofs.Words.{key_without_parts, leaves, or-left}
 use Rattle.swap_rules.proofs.Growth.{Grows, opened-more}
@@ -48,7 +48,7 @@ module _ (d : Deal) (v : ℕ) (w : Wallet) (b : Histories) (legal : IsLegalBook 
       ∙ list_any-in (λ a. list_any (λ e. extends_without v key (accepted e)) (history b a)) (leaving d.graph v) c
       (list_any-in (λ e. extends_without v key (accepted e)) (history b c) e (ap (extends_without v key) took ∙ o) j) i
 
-  own_origin : (m : Mode) → (key : Hashkey) → leads d v key.lock ≡ true → IsOwn m v key → has_origin m d b v key ≡ true
+  own_origin : (m : Mode) → (key : Hashkey) → leads d v key.lock ≡ true → IsOwnKey m v key → has_origin m d b v key ≡ true
   own_origin Timelocks key l o = or-left (leads d v key.lock) _ l
   own_origin Hashkeys key l o =
       ap (λ x. cond x (is_alone v key.path) (list_any (λ a. list_any (λ e. extends_without v key (accepted e)) (history b a)) (leaving d.graph v))) l
@@ -92,7 +92,7 @@ module _ (d : Deal) (v : ℕ) (w : Wallet) (b : Histories) (legal : IsLegalBook 
           let f = wallet.first i below l in
           let key_is : w.first i ≡ key = same_Some (w.first i) key e in
           let g1 : IsGoodKey d v i key = subst (λ z. IsGoodKey d v i z) key_is f.0 in
-          record { below = below; good = g1; origin = own_origin d.mode key (ap (leads d v) g1.lock ∙ l) (subst (λ z. IsOwn d.mode v z) key_is f.1) }
+          record { below = below; good = g1; origin = own_origin d.mode key (ap (leads d v) g1.lock ∙ l) (subst (λ z. IsOwnKey d.mode v z) key_is f.1) }
       fresh false l e = onto (first_seen_key d known v i) refl l e
 
       go : (s : Option Hashkey) → signed i ≡ s → or_else s (cond (leads d v i) (Some (w.first i)) (extended w (first_seen_key d known v i))) ≡ Some key

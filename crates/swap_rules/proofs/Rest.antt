@@ -17,7 +17,7 @@ use Rattle.ledger_core.specs.declared.entry.Call.TheVariants.{Publish, Claim, Re
 use Rattle.ledger_core.specs.declared.entry.What.{What}
 use Rattle.ledger_core.specs.declared.entry.What.TheVariants.{Call as Made, Tick}
 use Rattle.ledger_core.specs.declared.entry.Entry.{Entry}
-use Rattle.ledger_core.specs.History.{height, accepted, accepted_in, publication, published, opening, opened, settling, settled, triggered, sent_by}
+use Rattle.ledger_core.specs.History.{height, accepted, accepted_call, publication, published, opening, opened, settling, settled, triggered, sent_by}
 use Rattle.ledger_core.specs.Book.{Histories, history}
 use Rattle.ledger_core.specs.History.{call_in}
 use Rattle.swap_rules.specs.Party.{is_correct_in, height_in, is_ready, is_triggered, least_expiry, has_expired, leads_one, call_by}
@@ -36,7 +36,7 @@ use Rattle.time_bounds.specs.Times as times
 
 -- A list with ticks at its end.
 
-no_call : (w : What) (x : _) → is_ticking w ≡ true → accepted_in w x ≡ None
+no_call : (w : What) (x : _) → is_ticking w ≡ true → accepted_call w x ≡ None
 no_call (Made c) x t = absurd (false≢true t)
 no_call (Tick k) x t = refl
 

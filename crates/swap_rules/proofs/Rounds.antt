@@ -54,7 +54,7 @@ use Rattle.swap_rules.proofs.Refunds.{count_one}
 use Rattle.swap_rules.proofs.Prefixes.{begins_refl, begins_more, moment_more, begins_height, in_front, in_any}
 use Rattle.swap_rules.specs.Laws.{RoundsAreInTime, RoundsAreOnTime, RacesAreInTime}
 use Rattle.swap_rules.specs.Machine.{Begins}
-use Rattle.swap_rules.specs.Rounds.{IsNear, IsRounds, IsDoneBy, IsRaceTurn, IsRaced, book_at}
+use Rattle.swap_rules.specs.Rounds.{IsNear, IsRounds, IsDoneBy, IsRaceTurn, AreRaceBooks, book_at}
 use Rattle.time_bounds.specs.Times as times
 use Rattle.swap_rules.proofs.Forging.{revealed}
 
@@ -724,7 +724,7 @@ rounds_on_time d v w ticks slack rounds books k some fast x rule a i j = go (ref
 
 -- Races.
 
-rounds_of_race : (d : Deal) (v : ℕ) (w : Wallet) (ticks rounds : ℕ) (books : List Histories) → IsRaced d v w ticks rounds books
+rounds_of_race : (d : Deal) (v : ℕ) (w : Wallet) (ticks rounds : ℕ) (books : List Histories) → AreRaceBooks d v w ticks rounds books
     → IsRounds d v w ticks ticks rounds (book_at books)
 rounds_of_race d v w ticks rounds books x = record {
   legal = x.legal;

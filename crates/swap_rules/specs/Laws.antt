@@ -25,7 +25,7 @@ use Rattle.swap_rules.specs.Findings.{findings, rules_of}
 use Rattle.swap_rules.specs.Outcome.{outcome, IsEnded}
 use Rattle.ledger_core.specs.Ledger.{after_call}
 use Rattle.swap_rules.specs.Machine.{Knows, IsWallet, KeepsRules, IsSound, noted}
-use Rattle.swap_rules.specs.Rounds.{IsRounds, IsDoneBy, IsRaced, book_at}
+use Rattle.swap_rules.specs.Rounds.{IsRounds, IsDoneBy, AreRaceBooks, book_at}
 
 -- the balances and the held amount add up to the amount of arc a
 abbrev pub AddsUp : Deal → ℕ → List Entry → Type 0
@@ -176,7 +176,7 @@ RoundsAreOnTime =
 
 -- in a race an enabled action is done within two rounds' ticks, so that with two ticks within delta nobody conforming is late
 abbrev pub RacesAreInTime : Type 0
-RacesAreInTime = (d : Deal) (v : ℕ) (w : Wallet) (ticks rounds : ℕ) (books : List Histories) → IsAccepted d → 1 ≤ ticks → IsRaced d v w ticks rounds books
+RacesAreInTime = (d : Deal) (v : ℕ) (w : Wallet) (ticks rounds : ℕ) (books : List Histories) → IsAccepted d → 1 ≤ ticks → AreRaceBooks d v w ticks rounds books
     → ((rule : Rule) (a ref : ℕ) → IsIn rule (rules_of d) → IsIn a (arcs d.graph) → ref_of d (book_at books rounds) v rule a ≡ Some ref
     → IsDoneBy d (book_at books rounds) v rule a (ref + 2 * ticks))
     × (2 * ticks ≤ d.delta → IsOnTime d (book_at books rounds) v)
@@ -197,4 +197,4 @@ abbrev pub RacesAreDealt : Type 0
 RacesAreDealt =
     (d : Deal) (conforming : ℕ → Bool) (ticks rounds : ℕ) (books : List Histories) → IsAccepted d → 1 ≤ ticks → 2 * ticks ≤ d.delta
     → times.horizon d.start d.delta d.bound < rounds * ticks
-    → ((v : ℕ) → v < d.graph.n → (w : Wallet) × IsRaced d v w ticks rounds books) → IsDealt d conforming (book_at books rounds)
+    → ((v : ℕ) → v < d.graph.n → (w : Wallet) × AreRaceBooks d v w ticks rounds books) → IsDealt d conforming (book_at books rounds)

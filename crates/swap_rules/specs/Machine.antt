@@ -41,9 +41,9 @@ entry_of d a h p c = call_entry p (height h) c (reply_to d a h p c)
 -- What a wallet of v signs: hashkeys that are valid on every arc that enters v, with the origin that conduct asks for.
 
 -- v's own hashkey: with hashkeys, its path is v alone
-abbrev pub IsOwn : Mode → ℕ → Hashkey → Type 0
-IsOwn Timelocks v key = Unit {0}
-IsOwn Hashkeys v key = IsTrue (is_alone v key.path)
+abbrev pub IsOwnKey : Mode → ℕ → Hashkey → Type 0
+IsOwnKey Timelocks v key = Unit {0}
+IsOwnKey Hashkeys v key = IsTrue (is_alone v key.path)
 
 -- a hashkey put on another: with hashkeys it extends that one by v, whose path lacks v, with timelocks it has that one's secret
 abbrev pub IsOnto : Mode → ℕ → Hashkey → Hashkey → Type 0
@@ -57,7 +57,7 @@ pub record IsGoodKey (d : Deal) (v i : ℕ) (key : Hashkey) : Type 0 where
 
 -- A wallet of v: its own hashkeys for the locks that v leads, and hashkeys put on valid ones whose path lacks v.
 pub record IsWallet (d : Deal) (v : ℕ) (w : Wallet) : Type 0 where
-  pub first : (i : ℕ) → i < length d.leaders → leads d v i ≡ true → IsGoodKey d v i (w.first i) × IsOwn d.mode v (w.first i)
+  pub first : (i : ℕ) → i < length d.leaders → leads d v i ≡ true → IsGoodKey d v i (w.first i) × IsOwnKey d.mode v (w.first i)
   pub onto : (c : ℕ) (inner : Hashkey) → IsIn c (leaving d.graph v) → inner.lock < length d.leaders
       → is_valid d c (hashlock_of d inner.lock) inner ≡ true → is_among v inner.path ≡ false
       → IsGoodKey d v inner.lock (w.onto inner) × IsOnto d.mode v inner (w.onto inner)

@@ -51,7 +51,7 @@ abbrev pub book_at : List Histories → ℕ → Histories
 book_at books r = get_or books r []
 
 -- The books at the ends of a race's rounds, oldest first; the first one is empty.
-pub record IsRaced (d : Deal) (v : ℕ) (w : Wallet) (ticks rounds : ℕ) (books : List Histories) : Type 0 where
+pub record AreRaceBooks (d : Deal) (v : ℕ) (w : Wallet) (ticks rounds : ℕ) (books : List Histories) : Type 0 where
   pub number : length books ≡ rounds + 1
   pub legal : (r : ℕ) → r ≤ rounds → IsLegalBook d (book_at books r)
   pub conducted : IsConducted d (book_at books rounds) v

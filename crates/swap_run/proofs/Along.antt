@@ -17,7 +17,7 @@ use Rattle.swap_job.specs.declared.event.Event.{Event}
 use Rattle.swap_job.specs.declared.event.Event.TheVariants.{Tick, Look, Act}
 use Rattle.swap_job.specs.Step.{CanStep}
 use Rattle.swap_run.specs.Run.{Cast, State, conforms, after_tick, run_from, step}
-use Rattle.swap_run.specs.Fair.{repeat, adjacent, looks, acts, most_acts, turn, turns, the_horizon, tick_low, ticks, round, has_ended}
+use Rattle.swap_run.specs.Fair.{repeat, adjacent_arcs, looks, acts, most_acts, turn, turns, the_horizon, tick_low, ticks, round, has_ended}
 use Rattle.swap_run.specs.Fair.{round_unless_ended, finish}
 use Rattle.swap_run.specs.FairLaws.{IsReached}
 use Rattle.swap_run.specs.Steps.{after_low, act_steps, finish_steps, look_steps, low_step, low_steps, pass_steps, round_steps, rounds_steps, tick_steps}
@@ -93,7 +93,7 @@ module _ (c : Cast) where
 
   pub looks_run : (v : ℕ) (s : State) → run_from c s (look_steps c.deal v) ≡ looks c v s
   unfolding looks
-  looks_run v s = fold-map (step c) (λ a. Look v a) s (adjacent c.deal v)
+  looks_run v s = fold-map (step c) (λ a. Look v a) s (adjacent_arcs c.deal v)
 
   pub acts_run : (n v : ℕ) (s : State) → run_from c s (replicate n (Act v)) ≡ acts c v n s
   acts_run zero v s = refl
@@ -244,7 +244,7 @@ module _ (c : Cast) where
   unfolding turn_steps
   turn_can v l =
       All-append Can (look_steps c.deal v) (act_steps c v)
-      (looks_can v (adjacent c.deal v) (λ a i.
+      (looks_can v (adjacent_arcs c.deal v) (λ a i.
       let k = from_filter (λ z. (v == party c.deal z) || (v == counterparty c.deal z)) a (arcs c.deal.graph) i in
       record { known = l; arc = from_range a (length c.deal.graph.arcs) k.0; adjacent = k.1 })) (go (conforms c v))
     where

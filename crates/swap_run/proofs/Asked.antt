@@ -19,7 +19,7 @@ use Rattle.swap_rules.specs.Machine.{Begins}
 use Rattle.swap_rules.proofs.Prefixes.{begins_more}
 use Rattle.swap_run.specs.Run.{Cast, Question, State, conforms, role_of, plan_of, look, make, next_of, act, watch, take_call, after_turn, question}
 use Rattle.swap_run.specs.Run.{after_question, answer_for, act_as, step}
-use Rattle.swap_run.specs.Fair.{repeat, adjacent, looks, acts, most_acts, turn, turns, the_horizon, tick_low, ticks, round, has_ended}
+use Rattle.swap_run.specs.Fair.{repeat, adjacent_arcs, looks, acts, most_acts, turn, turns, the_horizon, tick_low, ticks, round, has_ended}
 use Rattle.swap_run.specs.Fair.{round_unless_ended, finish}
 use Rattle.swap_run.specs.Asked.{Answers, with_answers, Agree, is_strategy, RunsAskInOrder, FinishesAskInOrder, RunsWithoutStrategies}
 use Rattle.swap_run.specs.Asked.{FinishesWithoutStrategies, RulesDecideRuns, RulesDecideFinishes}
@@ -150,7 +150,7 @@ module _
 
   looks_orderly : (v : ℕ) (s : State) → Orderly s (looks c v s) (looks w v s)
   unfolding looks
-  looks_orderly v = many (λ s a. step c s (Look v a)) (λ s a. step w s (Look v a)) (adjacent c.deal v) (λ s a. step_orderly (Look v a) s)
+  looks_orderly v = many (λ s a. step c s (Look v a)) (λ s a. step w s (Look v a)) (adjacent_arcs c.deal v) (λ s a. step_orderly (Look v a) s)
 
   turn_orderly : (s : State) (v : ℕ) → Orderly s (turn c s v) (turn w s v)
   unfolding turn
@@ -242,7 +242,7 @@ module _ (c : Cast) (none : list_any is_strategy c.roles ≡ false) where
 
   quiet_looks : (v : ℕ) (s : State) → (looks c v s).asked ≡ s.asked
   unfolding looks
-  quiet_looks v s = quiet_many (λ s a. step c s (Look v a)) (adjacent c.deal v) (λ s a. quiet_step (Look v a) s) s
+  quiet_looks v s = quiet_many (λ s a. step c s (Look v a)) (adjacent_arcs c.deal v) (λ s a. quiet_step (Look v a) s) s
 
   quiet_turn : (s : State) (v : ℕ) → (turn c s v).asked ≡ s.asked
   unfolding turn

@@ -25,16 +25,6 @@ use Rattle.swap_run.specs.Laws.{IsGoodPlan, IsGood}
 
 -- Plans among plans.
 
-pub plan_same : (s : State) (t : State) (v : ℕ) (n : Plan) → t.plans ≡ set s.plans v n → v < length s.plans → plan_of t v ≡ n
-plan_same s t v n e below =
-    ap (λ ps. get_or ps v (record { known = []; moves = []; turns = 0 })) e
-    ∙ get_or-set_same s.plans v n (record { known = []; moves = []; turns = 0 }) below
-
-pub plan_other : (s : State) (t : State) (v u : ℕ) (n : Plan) → t.plans ≡ set s.plans v n → u ≢ v → plan_of t u ≡ plan_of s u
-plan_other s t v u n e apart =
-    ap (λ ps. get_or ps u (record { known = []; moves = []; turns = 0 })) e
-    ∙ get_or-set_other s.plans v u n (record { known = []; moves = []; turns = 0 }) apart
-
 -- A plan over a book that grows.
 pub plan_grown : (d : Deal) (seeds : Seeds) (v : ℕ) (b c : Histories) (n : Plan) → Grows b c → IsGoodPlan d seeds v b n → IsGoodPlan d seeds v c n
 plan_grown d seeds v b c n grows g = record {

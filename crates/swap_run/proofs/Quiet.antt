@@ -24,7 +24,7 @@ use Rattle.swap_rules.proofs.Prefixes.{same_or_not}
 use Rattle.swap_rules.proofs.Conducting.{history_same, history_other}
 use Rattle.swap_run.specs.Run.{Cast, Notes, State, conforms, role_of, is_planned, notes_of, known_up_to, signed_after, after_tick, look}
 use Rattle.swap_run.specs.Run.{watch, make, act, act_as, next_of, step}
-use Rattle.swap_run.specs.Fair.{repeat, adjacent, looks, acts, most_acts, turn, turns, the_horizon, tick_low, ticks, round, has_ended, round_unless_ended}
+use Rattle.swap_run.specs.Fair.{repeat, adjacent_arcs, looks, acts, most_acts, turn, turns, the_horizon, tick_low, ticks, round, has_ended, round_unless_ended}
 use Rattle.swap_run.specs.Quiet.{over, looked, IsIdle}
 use Rattle.swap_run.proofs.Entries.{tick_full, tick_room}
 use Rattle.swap_run.proofs.Repeats.{repeat_fixed}
@@ -122,7 +122,7 @@ module _ (c : Cast) where
 
   looks_note : (v : ℕ) (s : State) → conforms c v ≡ true → v < length s.notes → looks c v s ≡ with_note s v (looked c.deal s.book v (notes_of s v))
   unfolding looks
-  looks_note v s cv l = looks_at v (adjacent c.deal v) s cv l
+  looks_note v s cv l = looks_at v (adjacent_arcs c.deal v) s cv l
 
   -- Another party's turn leaves a party's notes.
 
@@ -197,7 +197,7 @@ module _ (c : Cast) where
   -- n is what party u notes in s, but for what stands at those arcs
   pub record IsStale (s : State) (u : ℕ) (n : Notes) : Type 0 where
     pub signed : n.signed ≡ (notes_of s u).signed
-    pub known : (b : Histories) → over b (adjacent c.deal u) n.known ≡ over b (adjacent c.deal u) (notes_of s u).known
+    pub known : (b : Histories) → over b (adjacent_arcs c.deal u) n.known ≡ over b (adjacent_arcs c.deal u) (notes_of s u).known
 
   pub looks_forget : (s : State) (u : ℕ) (n : Notes) → conforms c u ≡ true → u < length s.notes → IsStale s u n
       → looks c u (with_note s u n) ≡ looks c u s
@@ -374,7 +374,7 @@ module _ (c : Cast) where
         ap (λ (t : State). fold (turn c) t xs) (turn_other s u x n lx (λ e. apart (sym e)) l)
         ∙ rest i (record {
           signed = stale.signed ∙ ap (λ (m : Notes). m.signed) (sym same);
-          known = λ b. stale.known b ∙ ap (λ (m : Notes). over b (adjacent c.deal u) m.known) (sym same);
+          known = λ b. stale.known b ∙ ap (λ (m : Notes). over b (adjacent_arcs c.deal u) m.known) (sym same);
         })
 
     -- once u has its turn
@@ -414,7 +414,7 @@ module _ (c : Cast) where
         subst (IsIdle c s.book v) (sym (other_note s u v (looked c.deal s.book u (notes_of s u)) apart)) idle
     idle_still_by s u v (inl e) l idle =
         let n = looked c.deal s.book v (notes_of s v) in
-        let near = adjacent c.deal v in
+        let near = adjacent_arcs c.deal v in
         let k = (notes_of s v).known in
         let twice : over s.book near (over s.book near k) ≡ over s.book near k = again s.book s.book near near k (λ a i. i) in
         let now : IsIdle c s.book v n
@@ -444,8 +444,8 @@ module _ (c : Cast) where
           (rest t far (λ v lv cv. idle_still_by s x v (same_or_not v x) (rw many lv) (idle v lv cv))
           (subst P (sym (ticks_other s x n)) (forgets_here x (ticks c s) n cx lx (ap length (ticks_notes s) ∙ many) (record {
             signed = ap (λ (m : Notes). m.signed) (sym same);
-            known = λ b. again b s.book (adjacent c.deal x) (adjacent c.deal x) (notes_of s x).known (λ a i. i)
-                ∙ ap (λ (m : Notes). over b (adjacent c.deal x) m.known) (sym same);
+            known = λ b. again b s.book (adjacent_arcs c.deal x) (adjacent_arcs c.deal x) (notes_of s x).known (λ a i. i)
+                ∙ ap (λ (m : Notes). over b (adjacent_arcs c.deal x) m.known) (sym same);
           }) h)))
 
       pub skips_for : (xs : List ℕ) (s : State) → ((x : ℕ) → IsIn x xs → x < c.deal.graph.n) → length s.notes ≡ c.deal.graph.n → AllIdle s

@@ -14,7 +14,7 @@ use Rattle.swap_job.specs.declared.event.Event.{Event}
 use Rattle.swap_job.specs.declared.event.Event.TheVariants.{Tick, Look, Act}
 use Rattle.swap_job.specs.Step.{CanStep}
 use Rattle.swap_run.specs.Run.{Cast, State, conforms, step}
-use Rattle.swap_run.specs.Fair.{repeat, adjacent, looks, acts, most_acts, turn, turns, the_horizon, tick_low, ticks, round, has_ended}
+use Rattle.swap_run.specs.Fair.{repeat, adjacent_arcs, looks, acts, most_acts, turn, turns, the_horizon, tick_low, ticks, round, has_ended}
 use Rattle.swap_run.specs.Fair.{round_unless_ended, finish}
 use Rattle.swap_run.specs.FairLaws.{IsReached, FinishesAreRuns}
 
@@ -48,7 +48,7 @@ module _ (c : Cast) where
 
   pub look_events : (s : State) (v : ℕ) → v < c.deal.graph.n → IsReached c s (looks c v s)
   unfolding looks
-  look_events s v l = fold_events (λ s a. step c s (Look v a)) (adjacent c.deal v) s (λ s a i.
+  look_events s v l = fold_events (λ s a. step c s (Look v a)) (adjacent_arcs c.deal v) s (λ s a i.
       let k = from_filter (λ a. (v == party c.deal a) || (v == counterparty c.deal a)) a (arcs c.deal.graph) i in
       one_event s (Look v a) (record { known = l; arc = from_range a (length c.deal.graph.arcs) k.0; adjacent = k.1 }))
 

@@ -12,7 +12,7 @@ use Rattle.swap_job.specs.declared.job.Role.{Role}
 use Rattle.swap_job.specs.declared.job.Role.TheVariants.{Conforming, Manual, Script, Strategy}
 use Rattle.swap_rules.proofs.Prefixes.{same_or_not}
 use Rattle.swap_run.specs.Run.{Cast, Notes, State, conforms, role_of, is_planned, notes_of, act, act_as, look, watch, run_from, step}
-use Rattle.swap_run.specs.Fair.{repeat, adjacent, looks, acts, most_acts, turn, turns, ticks, round, has_ended, round_unless_ended}
+use Rattle.swap_run.specs.Fair.{repeat, adjacent_arcs, looks, acts, most_acts, turn, turns, ticks, round, has_ended, round_unless_ended}
 use Rattle.swap_run.specs.Quiet.{over}
 use Rattle.swap_run.specs.Steps.{act_steps, look_steps, pass_steps, round_steps, rounds_steps, tick_steps, turn_steps, turns_steps, unless_steps}
 use Rattle.swap_run.specs.Steps.{IsAlong, IsSkipped}
@@ -86,7 +86,7 @@ module _ (c : Cast) where
         along_start c (with_note s u n) (look_steps c.deal x ++ Act x ∷ []) b (by (along_one c (looks c x s) (Act x) b k))
       where
         whole : (looks c x s).book ≡ s.book
-        whole = ap (λ (t : State). t.book) (sym (looks_run c x s)) ∙ looks_book x (adjacent c.deal x) s
+        whole = ap (λ (t : State). t.book) (sym (looks_run c x s)) ∙ looks_book x (adjacent_arcs c.deal x) s
 
         by : (b ≡ (looks c x s).book) ⊎ (b ≡ (step c (looks c x s) (Act x)).book) → b ≡ s.book
         by (inl q) = q ∙ whole
@@ -99,7 +99,7 @@ module _ (c : Cast) where
       where
         go : IsAlong c s (look_steps c.deal x) b ⊎ IsAlong c (run_from c s (look_steps c.deal x)) (act_steps c x) b
             → IsAlong c (with_note s u n) (look_steps c.deal x ++ act_steps c x) b
-        go (inl i) = along_start c (with_note s u n) (look_steps c.deal x ++ act_steps c x) b (along_looks x (adjacent c.deal x) s b i)
+        go (inl i) = along_start c (with_note s u n) (look_steps c.deal x ++ act_steps c x) b (along_looks x (adjacent_arcs c.deal x) s b i)
         go (inr i) =
             acts_part (conforms c x) x u s n b refl lx l lu cu stale (same_or_not x u)
             (subst (λ (t : State). IsAlong c t (act_steps c x) b) (looks_run c x s) i)
@@ -133,7 +133,7 @@ module _ (c : Cast) where
             subst (λ (t : State). IsAlong c t (flat_map (turn_steps c) xs) b) (sym (turn_other c plain s u x n lx (λ e. apart (sym e)) l))
             (rest (turn c s x) (turn_many c plain s x lx l ∙ many) (record {
               signed = stale.signed ∙ ap (λ (m : Notes). m.signed) (sym kept);
-              known = λ h. stale.known h ∙ ap (λ (m : Notes). over h (adjacent c.deal u) m.known) (sym kept);
+              known = λ h. stale.known h ∙ ap (λ (m : Notes). over h (adjacent_arcs c.deal u) m.known) (sym kept);
             }) i)
 
         go : ((t : State) → length t.notes ≡ c.deal.graph.n → IsStale c t u n → IsAlong c t (flat_map (turn_steps c) xs) b

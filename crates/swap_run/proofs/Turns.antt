@@ -33,7 +33,7 @@ use Rattle.swap_run.specs.Run.{next_of, act, watch, take_call, after_turn, quest
 use Rattle.ledger_core.specs.Ledger.{after_call}
 use Rattle.swap_job.specs.Fitting.{is_near, IsMoveOf}
 use Rattle.swap_run.specs.Laws.{IsReadyCast, IsGood}
-use Rattle.swap_run.specs.Fair.{adjacent, looks, acts, most_acts, turn}
+use Rattle.swap_run.specs.Fair.{adjacent_arcs, looks, acts, most_acts, turn}
 use Rattle.swap_run.specs.FairLaws.{OthersRest, TurnsAreGood}
 use Rattle.swap_run.proofs.Noted.{due_now}
 use Rattle.swap_run.proofs.Plans.{good_turn, good_asked, answer_may}
@@ -80,7 +80,7 @@ calm_next d b a k v c below n = record { grows = next_grows d b a k (Party v) (M
 
 -- Arcs that touch v.
 
-near_in : (d : Deal) (v a : ℕ) → IsNear d v a → IsIn a (adjacent d v)
+near_in : (d : Deal) (v a : ℕ) → IsNear d v a → IsIn a (adjacent_arcs d v)
 near_in d v a (inl i) =
     let k = from_filter (λ a. party d a == v) a (arcs d.graph) i in
     in_filter (λ a. (v == party d a) || (v == counterparty d a)) a (arcs d.graph) k.0
@@ -90,7 +90,7 @@ near_in d v a (inr i) =
     in_filter (λ a. (v == party d a) || (v == counterparty d a)) a (arcs d.graph) k.0
     (or-right (v == party d a) _ (eq-eqb v (counterparty d a) (sym (enters d v a i).1)))
 
-near_below : (d : Deal) (v a : ℕ) → IsIn a (adjacent d v) → (a < length d.graph.arcs) × (is_near d v a ≡ true)
+near_below : (d : Deal) (v a : ℕ) → IsIn a (adjacent_arcs d v) → (a < length d.graph.arcs) × (is_near d v a ≡ true)
 near_below d v a i =
     let k = from_filter (λ a. (v == party d a) || (v == counterparty d a)) a (arcs d.graph) i in
     (from_range a (length d.graph.arcs) k.0, k.1)
@@ -252,18 +252,19 @@ module _ (c : Cast) (ready : IsReadyCast c) (v : ℕ) (lv : v < c.deal.graph.n) 
   unfolding looks
   rested s g =
       subst (Rests c v s) (sym (turn_is s)) (
-      let xs = adjacent c.deal v in
-      let low : (a : ℕ) → IsIn a (adjacent c.deal v) → Touches a = near_below c.deal v in
-      let g1 = looks_good (adjacent c.deal v) s low g in
+      let xs = adjacent_arcs c.deal v in
+      let low : (a : ℕ) → IsIn a (adjacent_arcs c.deal v) → Touches a = near_below c.deal v in
+      let g1 = looks_good (adjacent_arcs c.deal v) s low g in
       let x = acts_acted (most_acts c.deal) (looks c v s) g1 in
       record {
         turned = record {
           good = acts_good c ready v lv cv (most_acts c.deal) (looks c v s) g1;
-          calm = subst (λ b. Calm b (acts c v (most_acts c.deal) (looks c v s)).book) (looks_book (adjacent c.deal v) s) x.calm;
-          others = λ u n. x.others u n ∙ looks_others (adjacent c.deal v) s u n;
+          calm = subst (λ b. Calm b (acts c v (most_acts c.deal) (looks c v s)).book) (looks_book (adjacent_arcs c.deal v) s) x.calm;
+          others = λ u n. x.others u n ∙ looks_others (adjacent_arcs c.deal v) s u n;
         };
         seen = λ a i. subst (λ h. Begins h (history (notes_of (acts c v (most_acts c.deal) (looks c v s)) v).known a))
-            (looks_see (adjacent c.deal v) s a low g (inr (near_in c.deal v a i)) ∙ ap (λ b. history b a) (looks_book (adjacent c.deal v) s)) (x.own a);
+            (looks_see (adjacent_arcs c.deal v) s a low g (inr (near_in c.deal v a i)) ∙ ap (λ b. history b a) (looks_book (adjacent_arcs c.deal v) s))
+            (x.own a);
         rest = at_rest c ready v lv cv (looks c v s) g1;
       })
 
@@ -292,7 +293,7 @@ module _ (c : Cast) (ready : IsReadyCast c) (v : ℕ) (lv : v < c.deal.graph.n) 
 
   looked : (s : State) → IsGood c s → Deviated s (looks c v s)
   unfolding looks
-  looked s g = watched (adjacent c.deal v) s (λ a i.
+  looked s g = watched (adjacent_arcs c.deal v) s (λ a i.
       let k = from_filter (λ a. (v == party c.deal a) || (v == counterparty c.deal a)) a (arcs c.deal.graph) i in
       record { known = lv; arc = from_range a (length c.deal.graph.arcs) k.0; adjacent = k.1 }) g
 
@@ -350,7 +351,7 @@ pub others_rest : OthersRest
 unfolding turn looks
 others_rest c s v out none =
     ap (λ b. cond b (acts c v (most_acts c.deal) (looks c v s)) (step c (looks c v s) (Act v))) out
-    ∙ (ap (λ t. step c t (Act v)) (fold_fixed (λ s a. step c s (Look v a)) s (adjacent c.deal v) look_rests)
+    ∙ (ap (λ t. step c t (Act v)) (fold_fixed (λ s a. step c s (Look v a)) s (adjacent_arcs c.deal v) look_rests)
     ∙ (ap (λ b. cond b (act c s v) (act_as c s v (role_of c v))) out ∙ act_rests (role_of c v) none))
   where
     look_rests : (a : ℕ) → step c s (Look v a) ≡ s

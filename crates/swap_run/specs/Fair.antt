@@ -19,12 +19,12 @@ repeat (suc n) f x = f (repeat n f x)
 -- A turn.
 
 -- the arcs that touch v, ascending
-abbrev pub adjacent : Deal → ℕ → List ℕ
-adjacent d v = filter (λ a. (v == party d a) || (v == counterparty d a)) (arcs d.graph)
+abbrev pub adjacent_arcs : Deal → ℕ → List ℕ
+adjacent_arcs d v = filter (λ a. (v == party d a) || (v == counterparty d a)) (arcs d.graph)
 
 -- v looks at each arc that touches it
 unfoldable pub looks : Cast → ℕ → State → State
-looks c v s = fold (λ s a. step c s (Look v a)) s (adjacent c.deal v)
+looks c v s = fold (λ s a. step c s (Look v a)) s (adjacent_arcs c.deal v)
 
 -- v acts n times
 abbrev pub acts : Cast → ℕ → ℕ → State → State

@@ -14,12 +14,13 @@ use Rattle.swap_job.specs.declared.event.Event.{Event}
 use Rattle.swap_job.specs.Step.{CanStep}
 use Rattle.swap_job.specs.Crafted.{Seeds}
 use Rattle.swap_job.specs.Fitting.{IsMoveOf, is_near}
+use Rattle.swap_job.specs.Roles.{script_of}
 use Rattle.swap_digraph.specs.declared.deal.Deal.{Deal}
 use Rattle.swap_rules.specs.Accepted.{IsAccepted}
 use Rattle.swap_rules.specs.Conduct.{IsConducted}
 use Rattle.swap_rules.specs.Machine.{Begins, IsWallet, IsSound, Knows}
 use Rattle.party_wallet.specs.Value.{signed_in}
-use Rattle.swap_run.specs.Run.{Cast, Plan, State, conforms, role_of, notes_of, plan_of, script_of, next_of, step, start, run}
+use Rattle.swap_run.specs.Run.{Cast, Plan, State, conforms, role_of, notes_of, plan_of, next_of, step, start, run}
 
 -- What a run asks of its cast: the deal is accepted, each conforming party has a wallet of its own, and each script's moves are its party's.
 pub record IsReadyCast (c : Cast) : Type 0 where

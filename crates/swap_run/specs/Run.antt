@@ -1,7 +1,7 @@
 -- The run of a schedule: the histories that its events lead to, what each conforming party has noted on the way, and what each script's or strategy's
 -- party plans.
-use Rattle.std.specs.Prelude.{ℕ, ◌+◌, ◌==◌, ◌&&◌, Bool, true, false, nat_lt, nat_le, List, [], ◌∷◌, ◌++◌, length, map, replicate, slice_set, slice_index_or, fold}
-use Rattle.std.specs.Prelude.{Option, Some, None, if◌then◌else◌}
+use Rattle.std.specs.Prelude.{ℕ, ◌+◌, ◌==◌, ◌&&◌, Bool, true, false, nat_lt, nat_le, List, [], ◌∷◌, ◌++◌, length, map, replicate, slice_set}
+use Rattle.std.specs.Prelude.{slice_index_or, fold, Option, Some, None, if◌then◌else◌}
 use Rattle.std.specs.List.{range_with_len}
 use Rattle.swap_digraph.specs.declared.deal.Deal.{Deal}
 use Rattle.swap_digraph.specs.Graph.{arcs}
@@ -23,6 +23,7 @@ use Rattle.swap_job.specs.Crafted.{Seeds}
 use Rattle.swap_job.specs.Resolved.{resolved}
 use Rattle.deviators.specs.Script.{next_call, moves_left}
 use Rattle.swap_job.specs.Fitting.{is_near}
+use Rattle.swap_job.specs.Roles.{script_of}
 use Rattle.swap_rules.specs.Due.{Wallet, Action, due, first}
 use Rattle.swap_rules.specs.Machine.{noted}
 
@@ -230,11 +231,6 @@ no_histories d = replicate (length d.graph.arcs) []
 -- the notes of a party that has seen nothing
 abbrev pub no_notes : Deal → Notes
 no_notes d = record { known = no_histories d; signed = replicate (length d.leaders) None }
-
--- the moves of a role's script
-abbrev pub script_of : Role → List Move
-script_of (Script moves) = moves
-script_of _ = []
 
 -- the plan of a party that has seen nothing, with its script at its first move
 abbrev pub first_plan : Deal → Role → Plan

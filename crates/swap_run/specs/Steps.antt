@@ -8,7 +8,7 @@ use Rattle.ledger_core.specs.Book.{Histories, history}
 use Rattle.swap_job.specs.declared.event.Event.{Event}
 use Rattle.swap_job.specs.declared.event.Event.TheVariants.{Tick, Look, Act}
 use Rattle.swap_run.specs.Run.{Cast, State, conforms, after_tick, run_from}
-use Rattle.swap_run.specs.Fair.{repeat, adjacent, most_acts, turns, the_horizon, ticks, has_ended, round_unless_ended, finish}
+use Rattle.swap_run.specs.Fair.{repeat, adjacent_arcs, most_acts, turns, the_horizon, ticks, has_ended, round_unless_ended, finish}
 use Rattle.swap_run.specs.Quiet.{SkipsTo}
 
 -- The histories b are those after the first so many of these events.
@@ -19,7 +19,7 @@ pub record IsAlong (c : Cast) (s : State) (events : List Event) (b : Histories) 
 
 -- v looks at each arc that touches it
 abbrev pub look_steps : Deal → ℕ → List Event
-look_steps d v = map (λ a. Look v a) (adjacent d v)
+look_steps d v = map (λ a. Look v a) (adjacent_arcs d v)
 
 -- v acts as often as it may where it conforms (an act with nothing due changes nothing), and else once
 abbrev pub act_steps : Cast → ℕ → List Event

@@ -8,11 +8,11 @@ ghost use Rattle.swap_run.specs.Run.{no_histories, plan_up_to};
 ghost use Rattle.swap_run.specs.Shown.{IsShown};
 
 use deviators::{Script, Strategies};
-use ledger_core::{Book, Call, Entry, EntryList};
+use ledger_core::{Book, Call, EntryList};
 use std::alloc::Global;
 use std::marker::Model;
 use std::mem;
-use swap_base::{ArcId, ByteText, Digest, Listed, NoMemory, PartyId, TryCopy};
+use swap_base::{ArcId, ByteText, Digest, Listed, NoMemory, PartyId};
 use swap_digraph::Deal;
 use swap_job::MoveList;
 
@@ -45,25 +45,6 @@ fn nothing_known(alloc: Global, deal: &Deal) -> Result<Book, NoMemory>
     })
 }
 
-/// Adds entries to a list, one by one.
-fn put_all(list: &mut EntryList, entries: Vec<Entry>) -> Result<(), NoMemory>
-    ensures { OnOk result (list.new ≡ list.old ++ entries.items) }
-{
-    'entries: for entry in entries {
-        list.push(entry)?;
-    }
-    Ok(())
-}
-
-/// A copy of a list, with further entries at its end.
-fn with_more(alloc: Global, list: &EntryList, more: &EntryList) -> Result<EntryList, NoMemory>
-    ensures { IfOk result (λ l. l ≡ list.now ++ more.now) }
-{
-    let mut longer = list.copy()?;
-    put_all(&mut longer, more.to_vec(alloc)?)?;
-    Ok(longer)
-}
-
 impl Planner {
     /// A party that has seen nothing, with its script at its first move.
     pub fn new(alloc: Global, deal: &Deal, moves: MoveList) -> Result<Planner, NoMemory>
@@ -76,34 +57,20 @@ impl Planner {
         })
     }
 
-    /// Lets the party know a ledger up to its end, which takes no memory.
-    pub fn see(&mut self, arc: ArcId, history: EntryList)
-        requires { arc < length self.old.known }
-        ensures { self.new ≡ plan_up_to self.old arc history }
-    {
-        let alloc = self.known.histories.allocator();
-        let mut histories = mem::replace(
-            &mut self.known.histories,
-            Listed::empty(alloc),
-        ).into_vec();
-        histories[arc as usize] = history;
-        self.known.histories = Listed::new(histories);
-    }
-
-    /// Adds entries to what the party knows of a ledger. Want of memory leaves everything as it was.
+    /// Adds entries to what the party knows of a ledger, by taking them over. Want of memory leaves everything as it was.
     pub fn learn(&mut self, arc: ArcId, fresh: EntryList) -> Result<(), NoMemory>
         requires { arc < length self.old.known }
         ensures ok { OnOk result (self.new ≡ plan_up_to self.old arc (history self.old.known arc ++ fresh)) }
         ensures err { OnErr result (self.new ≡ self.old) }
     {
         let alloc = self.known.histories.allocator();
-        let known = with_more(
-            alloc,
-            &self.known.histories.as_slice()[arc as usize],
-            &fresh,
-        )?;
-        self.see(arc, known);
-        Ok(())
+        let mut histories = mem::replace(
+            &mut self.known.histories,
+            Listed::empty(alloc),
+        ).into_vec();
+        let added = histories[arc as usize].append(fresh);
+        self.known.histories = Listed::new(histories);
+        added
     }
 
     /// How many entries the party knows of a ledger.

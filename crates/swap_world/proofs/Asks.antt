@@ -20,7 +20,7 @@ use Rattle.swap_run.specs.Laws.{IsReadyCast, IsGood, IsKept}
 use Rattle.swap_world.specs.Cast.{cast_with}
 use Rattle.swap_world.specs.Value.{WorldState}
 use Rattle.swap_world.specs.Acting.{histories, taken, seen, told_to, asked_once, question_of}
-use Rattle.swap_world.specs.Gone.{Gives, Answered, MayCome, HasAsked, HasGone}
+use Rattle.swap_world.specs.Gone.{MayGive, Answered, MayBeGiven, HasAsked, HasGone}
 use Rattle.swap_world.specs.On.{IsCutOn, told_in}
 use Rattle.swap_world.specs.declared.told.Told.{Told}
 use Rattle.swap_world.specs.Inside.{name_in, questions_in, AreActorsOf}
@@ -46,7 +46,7 @@ questions_more roles (q ∷ ps) (m ∷ ns) p n e =
     ap (λ (qs : List Question). question_of (name_in (get_or roles q kinds.Manual)) q m ∷ qs) (questions_more roles ps ns p n (omega (arith, e)))
 
 -- Party p, which plans n, has asked the strategy of that name, and o was answered.
-pub record IsAsking (gives : Gives) (d : Deal) (conforming : List Bool) (seeds : Seeds) (roles : List Role) (ps : List ℕ) (ns : List Plan)
+pub record IsAsking (gives : MayGive) (d : Deal) (conforming : List Bool) (seeds : Seeds) (roles : List Role) (ps : List ℕ) (ns : List Plan)
     (os : List (Option (ℕ × Call))) (ls : List LedgerState) (xs : List Actor) (p : ℕ) (n : Plan) (name : List ℕ) (o : Option (ℕ × Call))
     (ps' : List ℕ) (ns' : List Plan) (os' : List (Option (ℕ × Call))) : Type 0 where
   pub askers : length ps ≡ length os
@@ -59,7 +59,7 @@ pub record IsAsking (gives : Gives) (d : Deal) (conforming : List Bool) (seeds :
   pub plan : ns' ≡ ns ++ n ∷ []
   pub answer : os' ≡ os ++ o ∷ []
 
-module _ {gives : Gives} {d : Deal} {conforming : List Bool} {seeds : Seeds} {roles : List Role} {ps : List ℕ} {ns : List Plan}
+module _ {gives : MayGive} {d : Deal} {conforming : List Bool} {seeds : Seeds} {roles : List Role} {ps : List ℕ} {ns : List Plan}
     {os : List (Option (ℕ × Call))} {ls : List LedgerState} {xs : List Actor} {p : ℕ} {n : Plan} {name : List ℕ} {o : Option (ℕ × Call)}
     {ps' : List ℕ} {ns' : List Plan} {os' : List (Option (ℕ × Call))} (sw : ℕ → Bool)
     (k : IsAsking gives d conforming seeds roles ps ns os ls xs p n name o ps' ns' os') where
@@ -119,7 +119,7 @@ module _ {gives : Gives} {d : Deal} {conforming : List Bool} {seeds : Seeds} {ro
         more = one ∷ [];
         questions = asks_more;
         answers = k.answer;
-        may = All-cons (MayCome gives d) one [] k.given (All-nil (MayCome gives d));
+        may = All-cons (MayBeGiven gives d) one [] k.given (All-nil (MayBeGiven gives d));
       }
 
   pub has_gone : {A E : Type 0} (r : Result A E) (x y : Bool) (new : Plan) (b : Histories) → y ≡ is_err r → x ≡ false

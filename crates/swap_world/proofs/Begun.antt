@@ -1,10 +1,7 @@
 -- A world before any event.
-use Rattle.std.proofs.Common.{◌≡◌, ◌<◌, ℕ, Bool, true, false, List, [], length, map, get_or, replicate, slice_index_or, Option, None, Result, Ok, sym, ap, ap₂}
+use Rattle.std.proofs.Common.{◌≡◌, ◌<◌, ℕ, Bool, true, false, List, [], length, map, get_or, replicate, slice_index_or, Option, None, sym, ap, ap₂}
 use Rattle.std.proofs.Common.{◌∙◌, subst}
 use Rattle.std.proofs.lemmas.List.{get_or-map, get_or-replicate}
-use Rattle.swap_base.specs.Fault.{◌>>=◌, Fails}
-use Rattle.swap_base.specs.declared.fault.Fault.{Fault}
-use Rattle.swap_base.specs.declared.fault.Fault.TheVariants.{Refused, NoMemory}
 use Rattle.swap_digraph.specs.declared.deal.Deal.{Deal}
 use Rattle.hashkey_path.specs.declared.hashkey.Hashkey.{Hashkey}
 use Rattle.party_machine.specs.Machine.{MachineState}
@@ -19,46 +16,37 @@ use Rattle.swap_run.specs.Run.{Cast, Notes, Plan, State, no_notes, start}
 use Rattle.swap_run.specs.Laws.{IsReadyCast, IsGood}
 use Rattle.swap_run.proofs.Good.{start_is_good}
 use Rattle.swap_world.specs.Cast.{cast_with, cast_of}
-use Rattle.swap_world.specs.Value.{WorldState, new_world}
-use Rattle.swap_world.specs.Actors.{actors_of, world_of, HaveRoles, HaveSeeds}
+use Rattle.swap_world.specs.Value.{new_world}
+use Rattle.swap_world.specs.Actors.{team, AllFit, HaveRoles, ConformingHaveSeeds}
 use Rattle.swap_world.specs.Acting.{histories}
 use Rattle.swap_world.specs.Journals.{IsFirstJournal, IsSomeJournal, AreFirstJournals, AreJournalsOf}
 use Rattle.swap_world.specs.Inside.{notes_in, plan_in, AreNewLedgers, HaveRoom, AreLedgersOf, AreActorsOf}
 use Rattle.swap_world.specs.declared.actor.Actor.{Actor}
 use Rattle.swap_world.specs.declared.actor.Actor.TheVariants.{Conforming}
-use Rattle.swap_world.specs.declared.actors.WrongWallet.{WrongWallet}
 use Rattle.swap_world.proofs.Rooms.{new_histories, new_ledgers_of, new_room}
 use Rattle.swap_world.proofs.States.{state}
 use Rattle.swap_world.proofs.Team.{are_actors, no_notes_yet, first_plans, is_ready}
 use Rattle.swap_world.proofs.Worlds.{Seeds, world}
 
-pub refused : (job : Job) (e : Fault WrongWallet) → Fails e (actors_of job) → Fails e (world_of job)
-unfolding world_of
-refused job NoMemory h = tt
-refused job (Refused r) h = ap (λ (x : Result (List Actor) WrongWallet). x >>= λ xs. Ok (new_world job)) h
-
 module _ (job : Job) (d : Deal) (conforming : List Bool) (seeds : Seeds) (roles : List Role) (ls : List LedgerState) (ys : List Actor) (ed : d ≡ job.deal)
     (ec : conforming ≡ job.conforming) (es : seeds ≡ job.seeds) (er : roles ≡ job.roles)
-    (el : AreNewLedgers job.deal (length job.deal.graph.arcs) ls) (ea : actors_of job ≡ Ok ys)
-    (have : HaveSeeds job) (act : HaveRoles job)
+    (el : AreNewLedgers job.deal (length job.deal.graph.arcs) ls) (ea : ys ≡ team job) (have : ConformingHaveSeeds job) (act : HaveRoles job) (fit : AllFit job)
   where
     abbrev parts : Histories → List Notes → List Plan → State
     parts b ns ps = record { book = b; notes = ns; plans = ps; asked = [] }
 
     state_is : state d [] ys (histories ls) ≡ start (cast_of job)
     state_is =
-        ap (λ (e : Deal). state e [] ys (histories ls)) ed
-        ∙ (ap₂ (λ (b : Histories) (ns : List Notes). parts b ns (map (plan_in job.deal) ys)) (new_histories job.deal ls el)
-        (no_notes_yet job ys have act ea)
-        ∙ ap (λ (ps : List Plan). record (start (cast_of job)) { plans = ps }) (first_plans job ys have act ea))
+        ap₂ (λ (e : Deal) (xs : List Actor). state e [] xs (histories ls)) ed ea
+        ∙ (ap₂ (λ (b : Histories) (ns : List Notes). parts b ns (map (plan_in job.deal) (team job))) (new_histories job.deal ls el)
+        (no_notes_yet job have act fit)
+        ∙ ap (λ (ps : List Plan). record (start (cast_of job)) { plans = ps }) (first_plans job have act fit))
 
-    pub world_is : world_of job ≡ Ok (world d conforming seeds roles [] false (state d [] ys (histories ls)))
-    unfolding world_of
+    pub world_is : world d conforming seeds roles [] false (state d [] ys (histories ls)) ≡ new_world job
     world_is =
-        ap (λ (x : Result (List Actor) WrongWallet). x >>= λ xs. Ok (new_world job)) ea
-        ∙ ap (λ (w : WorldState). Ok w) (sym (ap (λ (e : Deal). world e conforming seeds roles [] false (state d [] ys (histories ls))) ed
+        ap (λ (e : Deal). world e conforming seeds roles [] false (state d [] ys (histories ls))) ed
         ∙ (ap₂ (λ (c : List Bool) (s : Seeds). world job.deal c s roles [] false (state d [] ys (histories ls))) ec es
-        ∙ ap₂ (λ (rs : List Role) (st : State). world job.deal job.conforming job.seeds rs [] false st) er state_is)))
+        ∙ ap₂ (λ (rs : List Role) (st : State). world job.deal job.conforming job.seeds rs [] false st) er state_is)
 
     cast_is : cast_with d conforming seeds roles ≡ cast_of job
     cast_is =
@@ -66,10 +54,10 @@ module _ (job : Job) (d : Deal) (conforming : List Bool) (seeds : Seeds) (roles 
         ∙ ap₂ (λ (c : List Bool) (s : Seeds). cast_with job.deal c s job.roles) ec es
 
     pub ready : IsAccepted job.deal → IsReadyCast (cast_with d conforming seeds roles)
-    ready accepted = subst IsReadyCast (sym cast_is) (is_ready job ys accepted have act ea)
+    ready accepted = subst IsReadyCast (sym cast_is) (is_ready job accepted have act fit)
 
     pub actors : AreActorsOf d conforming seeds roles ys
-    actors = rw (ed, ec, es, er) (are_actors job ys have act ea)
+    actors = rw (ed, ec, es, er, ea) (are_actors job have act fit)
 
     pub ledgers : AreLedgersOf d ls
     ledgers = new_ledgers_of job.deal d ls ed el
@@ -80,22 +68,24 @@ module _ (job : Job) (d : Deal) (conforming : List Bool) (seeds : Seeds) (roles 
     pub good : IsAccepted job.deal → IsGood (cast_with d conforming seeds roles) (state d [] ys (histories ls))
     good accepted =
         subst (λ (c : Cast). IsGood c (state d [] ys (histories ls))) (sym cast_is)
-        (subst (IsGood (cast_of job)) (sym state_is) (start_is_good (cast_of job) (is_ready job ys accepted have act ea)))
+        (subst (IsGood (cast_of job)) (sym state_is) (start_is_good (cast_of job) (is_ready job accepted have act fit)))
+
+    its : AreActorsOf job.deal job.conforming job.seeds job.roles ys
+    its = subst (AreActorsOf job.deal job.conforming job.seeds job.roles) (sym ea) (are_actors job have act fit)
 
     signed_none : (v : ℕ) (m : MachineState) → v < length ys → Conforming m ≡ get_or ys v (Conforming m) → m.signed ≡ replicate (length job.deal.leaders) None
     signed_none v m lt here =
         let none : Notes = record { known = []; signed = [] } in
-        let many = (are_actors job ys have act ea).one_each in
         ap (λ (x : Notes). x.signed) (ap (notes_in job.deal) here ∙ sym (get_or-map (notes_in job.deal) ys v (Conforming m) none lt)
-        ∙ ap (λ (ns : List Notes). get_or ns v none) (no_notes_yet job ys have act ea)
-        ∙ get_or-replicate job.deal.graph.n v (no_notes job.deal) none (subst (λ n. v < n) many lt))
+        ∙ ap (λ (ns : List Notes). get_or ns v none) (ap (map (notes_in job.deal)) ea ∙ no_notes_yet job have act fit)
+        ∙ get_or-replicate job.deal.graph.n v (no_notes job.deal) none (subst (λ n. v < n) its.one_each lt))
 
     pub journals : (js : List (Option (JournalState DiskState))) → AreFirstJournals job.deal job.conforming job.deal.graph.n js → AreJournalsOf d ys js
     journals js k = subst (λ (x : Deal). AreJournalsOf x ys js) (sym ed) (record {
-      one_each = k.one_each ∙ sym (are_actors job ys have act ea).one_each;
+      one_each = k.one_each ∙ sym its.one_each;
       each = λ v m o lt here q.
-          let is : slice_index_or job.conforming v false ≡ true = ((are_actors job ys have act ea).each v (Conforming m) lt here).0 in
-          let low : v < length js = subst (λ n. v < n) ((are_actors job ys have act ea).one_each ∙ sym k.one_each) lt in
+          let is : slice_index_or job.conforming v false ≡ true = (its.each v (Conforming m) lt here).0 in
+          let low : v < length js = subst (λ n. v < n) (its.one_each ∙ sym k.one_each) lt in
           let first : IsFirstJournal job.deal v true o = subst (λ b. IsFirstJournal job.deal v b o) is (k.each v o low q) in
           subst (λ (l : List (Option Hashkey)). IsSomeJournal job.deal v l o) (sym (signed_none v m lt here)) first;
     })

@@ -19,7 +19,7 @@ use Rattle.swap_base.specs.Lists.{IsMoment}
 use Rattle.swap_rules.specs.Party.{call_by}
 use Rattle.swap_rules.proofs.Prefixes.{same_or_not}
 use Rattle.party_wallet.specs.Value.{signed_in}
-use Rattle.party_machine.specs.Machine.{MachineState, next_of}
+use Rattle.party_machine.specs.Machine.{MachineState, next_due}
 use Rattle.swap_rules.specs.Due.{Action}
 use Rattle.party_machine.specs.Recording.{MayHave}
 use Rattle.party_machine.proofs.Recorded.{below}
@@ -292,10 +292,10 @@ module _ (d : Deal) (conforming : List Bool) (seeds : Seeds) (roles : List Role)
     (ready : IsReadyCast (c d conforming seeds roles qs ls xs)) (known : p < d.graph.n)
     (good : IsGood (c d conforming seeds roles qs ls xs) (s d conforming seeds roles qs ls xs)) (k : AreJournalsOf d xs js) where
   abbrev after : MachineState
-  after = machine_after sw m (next_of m) (histories ls)
+  after = machine_after sw m (next_due m) (histories ls)
 
   abbrev called : Histories
-  called = book_after sw m (next_of m) (histories ls)
+  called = book_after sw m (next_due m) (histories ls)
 
   after_signed : HaveSigned d called (set xs p (Conforming after))
   after_signed =
@@ -311,7 +311,7 @@ module _ (d : Deal) (conforming : List Bool) (seeds : Seeds) (roles : List Role)
       owner_after : IsActorOf d (get_or conforming p false) (get_or seeds p None) (get_or roles p kinds.Manual) p (Conforming m)
           → IsActorOf d (get_or conforming p false) (get_or seeds p None) (get_or roles p kinds.Manual) p (Conforming after)
       owner_after is =
-          owned d (get_or conforming p false) (get_or seeds p None) (get_or roles p kinds.Manual) p m after (same (next_of m)) is
+          owned d (get_or conforming p false) (get_or seeds p None) (get_or roles p kinds.Manual) p m after (same (next_due m)) is
 
   here_signed : IsSigned d p called after.signed
   here_signed =

@@ -14,7 +14,7 @@ use Rattle.swap_job.specs.declared.event.Event.{Event}
 use Rattle.swap_job.specs.declared.event.Event.TheVariants.{Look, Act, Tick}
 use Rattle.swap_job.specs.Step.{CanLook}
 use Rattle.swap_run.specs.Run.{Cast, State, conforms, step}
-use Rattle.swap_run.specs.Fair.{repeat, adjacent, looks, acts, most_acts, turn, turns, the_horizon, tick_low}
+use Rattle.swap_run.specs.Fair.{repeat, adjacent_arcs, looks, acts, most_acts, turn, turns, the_horizon, tick_low}
 use Rattle.swap_run.specs.Fair.{ticks, round, has_ended, round_unless_ended, finish}
 use Rattle.swap_run.specs.Steps.{finish_steps, look_steps, low_step, pass_steps, round_steps, rounds_steps, tick_steps, turn_steps, turns_steps, IsSkipped}
 use Rattle.swap_run.proofs.Along.{along_start, looks_run, turns_run, rounds_run, rounds_plus}
@@ -26,7 +26,7 @@ use Rattle.swap_run.proofs.Fair.{fair_is_dealt}
 use Rattle.swap_rules.specs.Outcome.{IsEnded}
 use Rattle.swap_rules.specs.Laws.{IsDealt}
 use Rattle.swap_world.specs.Value.{WorldState, answers_of, cast_at, cast_for}
-use Rattle.swap_world.specs.Gone.{Gives, HasGone}
+use Rattle.swap_world.specs.Gone.{MayGive, HasGone}
 use Rattle.swap_world.specs.Near.{all_adjacent}
 use Rattle.swap_world.specs.Stopped.{AllConform, IsStopped}
 use Rattle.swap_world.proofs.Ways.{over, over_ticks, over_turns, repeat_split, range_all}
@@ -39,32 +39,32 @@ abbrev near : Deal → ℕ → ℕ → Bool
 near d v a = (v == party d a) || (v == counterparty d a)
 
 -- each arc that touches a party is one of the deal's
-pub near_low : (d : Deal) (v : ℕ) → All (λ a. a < length d.graph.arcs) (adjacent d v)
+pub near_low : (d : Deal) (v : ℕ) → All (λ a. a < length d.graph.arcs) (adjacent_arcs d v)
 near_low d v =
     let m = length d.graph.arcs in
     All-filter (near d v) (λ a. a < m) (arcs d.graph) (range_all (λ a. a < m) m (λ i lt. lt))
 
 -- the list of a party in the lists of all
-pub near_at : (d : Deal) (lists : List (List ℕ)) (p : ℕ) (x : List ℕ) → lists ≡ all_adjacent d → p < d.graph.n → x ≡ get_or lists p x → x ≡ adjacent d p
+pub near_at : (d : Deal) (lists : List (List ℕ)) (p : ℕ) (x : List ℕ) → lists ≡ all_adjacent d → p < d.graph.n → x ≡ get_or lists p x → x ≡ adjacent_arcs d p
 near_at d lists p x e l is =
-    is ∙ ap (λ (xs : List (List ℕ)). get_or xs p x) e ∙ get_or-map-range_with_len (adjacent d) 0 d.graph.n p p x l (zero-add p)
+    is ∙ ap (λ (xs : List (List ℕ)). get_or xs p x) e ∙ get_or-map-range_with_len (adjacent_arcs d) 0 d.graph.n p p x l (zero-add p)
 
 pub near_many : (d : Deal) (lists : List (List ℕ)) → lists ≡ all_adjacent d → length lists ≡ d.graph.n
-near_many d lists e = ap (λ (xs : List (List ℕ)). length xs) e ∙ length-map-range_with_len (adjacent d) 0 d.graph.n
+near_many d lists e = ap (λ (xs : List (List ℕ)). length xs) e ∙ length-map-range_with_len (adjacent_arcs d) 0 d.graph.n
 
 -- each arc that touches a party can be looked at
-pub can_look : (d : Deal) (v : ℕ) → v < d.graph.n → All (CanLook d v) (adjacent d v)
+pub can_look : (d : Deal) (v : ℕ) → v < d.graph.n → All (CanLook d v) (adjacent_arcs d v)
 can_look d v l =
     let m = length d.graph.arcs in
-    let low : All (λ a. a < m) (adjacent d v) = near_low d v in
-    let touches : All (λ a. near d v a ≡ true) (adjacent d v) = filter_passes (near d v) (arcs d.graph) in
-    All-from_get_or (CanLook d v) (adjacent d v) 0 (λ i lt. record {
+    let low : All (λ a. a < m) (adjacent_arcs d v) = near_low d v in
+    let touches : All (λ a. near d v a ≡ true) (adjacent_arcs d v) = filter_passes (near d v) (arcs d.graph) in
+    All-from_get_or (CanLook d v) (adjacent_arcs d v) 0 (λ i lt. record {
       known = l;
-      arc = All-get_or (λ a. a < m) (adjacent d v) i 0 lt low;
-      adjacent = All-get_or (λ a. near d v a ≡ true) (adjacent d v) i 0 lt touches;
+      arc = All-get_or (λ a. a < m) (adjacent_arcs d v) i 0 lt low;
+      adjacent = All-get_or (λ a. near d v a ≡ true) (adjacent_arcs d v) i 0 lt touches;
     })
 
-pub looks_over : (c : Cast) (v : ℕ) (s : State) (xs : List ℕ) → xs ≡ adjacent c.deal v → fold (λ t a. step c t (Look v a)) s xs ≡ looks c v s
+pub looks_over : (c : Cast) (v : ℕ) (s : State) (xs : List ℕ) → xs ≡ adjacent_arcs c.deal v → fold (λ t a. step c t (Look v a)) s xs ≡ looks c v s
 unfolding looks
 looks_over c v s xs e = ap (λ (ys : List ℕ). fold (λ t a. step c t (Look v a)) s ys) e
 
@@ -92,14 +92,14 @@ turn_steps_as c v true e =
 turn_steps_as c v false e =
     ap (λ (b : Bool). look_steps c.deal v ++ cond b (replicate (most_acts c.deal) (Act v)) (Act v ∷ [])) (sym e)
 
-pub turn_cut : (gives : Gives) (old new : WorldState) (v : ℕ) → IsStopped gives (λ c s. look_steps c.deal v) old new
+pub turn_cut : (gives : MayGive) (old new : WorldState) (v : ℕ) → IsStopped gives (λ c s. look_steps c.deal v) old new
     → IsStopped gives (λ c s. turn_steps c v) old new
 turn_cut gives old new v k =
     stopped_as gives (λ c s. look_steps c.deal v ++ acts_steps (conforms c v) c.deal v) (λ c s. turn_steps c v) old new
     (λ g. turn_steps_as (cast_for old g) v (conforms (cast_for old g) v) refl)
     (stopped_then gives (λ c s. look_steps c.deal v) (λ c s. acts_steps (conforms c v) c.deal v) old new k)
 
-module _ (gives : Gives) (old mid new : WorldState) (v : ℕ) (b : Bool) (is : conforms (cast_at mid) v ≡ b)
+module _ (gives : MayGive) (old mid new : WorldState) (v : ℕ) (b : Bool) (is : conforms (cast_at mid) v ≡ b)
     (looked : HasGone gives (λ c s. looks c v s) old mid) where
   was : (g : Answers) → conforms (cast_for old g) v ≡ b
   was g = subst (λ c. conforms c v ≡ b) (cast_gone gives (λ c s. looks c v s) old mid looked) is
@@ -141,7 +141,7 @@ is_high c s a l = go (nat_le (height (history s.book a)) (the_horizon c.deal)) r
     go true e = absurd (omega (arith, l, leb-true _ _ e))
     go false e = refl
 
-module _ (gives : Gives) (w new : WorldState) where
+module _ (gives : MayGive) (w new : WorldState) where
   pub ticks_stop : IsStopped gives (λ c s. over (tick_low c) (λ t a. low_step c.deal t.book a) s (range_with_len 0 (length w.deal.graph.arcs))) w new
       → IsStopped gives (λ c s. tick_steps c.deal s.book) w new
   unfolding tick_steps
@@ -155,7 +155,7 @@ module _ (gives : Gives) (w new : WorldState) where
 
 -- Rounds.
 
-module _ (gives : Gives) (w new : WorldState) where
+module _ (gives : MayGive) (w new : WorldState) where
   pub turns_stop : IsStopped gives (λ c s. over (turn c) (λ t v. turn_steps c v) s (range_with_len 0 w.deal.graph.n)) w new
       → IsStopped gives (λ c s. turns_steps c) w new
   unfolding turns_steps
@@ -167,7 +167,7 @@ module _ (gives : Gives) (w new : WorldState) where
   unfolding turns
   turns_are k = gone_as gives (λ c s. fold (turn c) s (range_with_len 0 w.deal.graph.n)) turns w new (λ g. refl) k
 
-module _ (gives : Gives) (old mid new : WorldState) (turned : HasGone gives turns old mid) where
+module _ (gives : MayGive) (old mid new : WorldState) (turned : HasGone gives turns old mid) where
   pub round_ends : HasGone gives ticks mid new → HasGone gives round old new
   unfolding round
   round_ends k =
@@ -177,7 +177,7 @@ module _ (gives : Gives) (old mid new : WorldState) (turned : HasGone gives turn
   round_stops k =
       stopped_after gives turns (λ c s. turns_steps c) (λ c s. tick_steps c.deal s.book) old mid new turned (λ g. turns_run (cast_for old g) old.state) k
 
-pub round_cut : (gives : Gives) (old new : WorldState) → IsStopped gives (λ c s. turns_steps c) old new → IsStopped gives round_steps old new
+pub round_cut : (gives : MayGive) (old new : WorldState) → IsStopped gives (λ c s. turns_steps c) old new → IsStopped gives round_steps old new
 round_cut gives old new k = stopped_then gives (λ c s. turns_steps c) (λ c s. tick_steps c.deal (turns c s).book) old new k
 
 pub is_round : (c : Cast) (s : State) → has_ended c.deal s.book ≡ false → round_unless_ended c s ≡ round c s
@@ -187,7 +187,7 @@ pub is_rest : (c : Cast) (s : State) → has_ended c.deal s.book ≡ true → ro
 is_rest c s e = ap (λ (b : Bool). cond b s (round c s)) e
 
 -- Rounds of which only the ticks are taken, and one more.
-module _ (gives : Gives) (old mid new : WorldState) (n : ℕ) (skips : (g : Answers) → IsSkipped (cast_for old g) n old.state) where
+module _ (gives : MayGive) (old mid new : WorldState) (n : ℕ) (skips : (g : Answers) → IsSkipped (cast_for old g) n old.state) where
   are_rounds : (g : Answers) → round (cast_for old g) (repeat n (ticks (cast_for old g)) old.state)
       ≡ repeat (n + 1) (round_unless_ended (cast_for old g)) old.state
   are_rounds g = let e : suc n ≡ n + 1 = omega arith in sym (skips g).skips ∙ ap (λ k. repeat k (round_unless_ended (cast_for old g)) old.state) e
@@ -221,7 +221,7 @@ module _ (gives : Gives) (old mid new : WorldState) (n : ℕ) (skips : (g : Answ
       })
 
 -- Rounds of which m are left of so many.
-module _ (gives : Gives) (old mid new : WorldState) (all left n : ℕ) (few : left ≤ all) (some : n ≤ left)
+module _ (gives : MayGive) (old mid new : WorldState) (all left n : ℕ) (few : left ≤ all) (some : n ≤ left)
     (so_far : HasGone gives (λ c s. repeat (all - left) (round_unless_ended c) s) old mid) where
   in_a_row : (f : State → State) (s : State) → repeat n f (repeat (all - left) f s) ≡ repeat (all - (left - n)) f s
   in_a_row f s =
@@ -253,7 +253,7 @@ module _ (gives : Gives) (old mid new : WorldState) (all left n : ℕ) (few : le
       (stopped_after gives (λ c s. repeat (all - left) (round_unless_ended c) s) (rounds_steps (all - left)) (rounds_steps n) old mid new so_far
       (λ g. rounds_run (cast_for old g) (all - left) old.state) k))
 
-module _ (gives : Gives) (w new : WorldState) where
+module _ (gives : MayGive) (w new : WorldState) where
   pub finish_stops_at : IsStopped gives (rounds_steps (the_horizon w.deal + 1)) w new → IsStopped gives finish_steps w new
   unfolding finish_steps
   finish_stops_at k = stopped_as gives (rounds_steps (the_horizon w.deal + 1)) finish_steps w new (λ g. refl) k
@@ -274,7 +274,7 @@ module _ (gives : Gives) (w new : WorldState) where
 
 -- What a finish leaves.
 
-module _ {A E : Type 0} (gives : Gives) (w new : WorldState) (ready : IsReadyCast (cast_at w)) where
+module _ {A E : Type 0} (gives : MayGive) (w new : WorldState) (ready : IsReadyCast (cast_at w)) where
   pub has_ended_by : (r : Result A E) → OnOk r (HasGone gives finish w new) → IsGood (cast_at w) w.state → OnOk r (IsEnded w.deal new.state.book)
   has_ended_by (Ok x) k good =
       let g = answers_of new in

@@ -23,7 +23,7 @@ use Rattle.swap_run.proofs.Along.{along_start, along_more, along_after, along_st
 use Rattle.swap_world.specs.Cast.{asks}
 use Rattle.swap_world.specs.Value.{WorldState, cast_at, cast_for, Continues}
 use Rattle.swap_world.specs.Actors.{AreHeld}
-use Rattle.swap_world.specs.Gone.{Gives, Answered, MayCome, HasAsked, HasGone, IsCutBy, IsCut}
+use Rattle.swap_world.specs.Gone.{MayGive, Answered, MayBeGiven, HasAsked, HasGone, IsCutBy, IsCut}
 use Rattle.swap_world.specs.On.{told_in, told_of_call}
 use Rattle.swap_world.specs.declared.told.Told.{Told}
 use Rattle.swap_world.specs.Stopped.{IsStopped}
@@ -41,22 +41,22 @@ abbrev question : Answered → Question
 question x = x.question
 
 -- what continues the answers of a later world continues those of an earlier one
-pub continues_less : (gives : Gives) (old new : WorldState) (g : Answers) → HasAsked gives old new → Continues new g → Continues old g
+pub continues_less : (gives : MayGive) (old new : WorldState) (g : Answers) → HasAsked gives old new → Continues new g → Continues old g
 continues_less gives old new g k e i l =
     let longer : length new.answers ≡ length old.answers + length (map answer k.more)
     = ap length k.answers ∙ length-append old.answers (map answer k.more) in
     e i (omega arith) ∙ (ap (λ (xs : List (Option (ℕ × Call))). get_or xs i None) k.answers
     ∙ get_or_append_left old.answers (map answer k.more) None i l)
 
-pub nothing_asked : (gives : Gives) (old new : WorldState) → new.state.asked ≡ old.state.asked → new.answers ≡ old.answers → HasAsked gives old new
+pub nothing_asked : (gives : MayGive) (old new : WorldState) → new.state.asked ≡ old.state.asked → new.answers ≡ old.answers → HasAsked gives old new
 nothing_asked gives old new q a = record {
   more = [];
   questions = q ∙ sym (append-nil old.state.asked);
   answers = a ∙ sym (append-nil old.answers);
-  may = All-nil (MayCome gives old.deal);
+  may = All-nil (MayBeGiven gives old.deal);
 }
 
-pub more_asked : (gives : Gives) (old mid new : WorldState) → HasAsked gives old mid → mid.deal ≡ old.deal → HasAsked gives mid new → HasAsked gives old new
+pub more_asked : (gives : MayGive) (old mid new : WorldState) → HasAsked gives old mid → mid.deal ≡ old.deal → HasAsked gives mid new → HasAsked gives old new
 more_asked gives old mid new a d b = record {
   more = a.more ++ b.more;
   questions =
@@ -67,12 +67,12 @@ more_asked gives old mid new a d b = record {
       b.answers ∙ (ap (λ (xs : List (Option (ℕ × Call))). xs ++ map answer b.more) a.answers
       ∙ (append_assoc old.answers (map answer a.more) (map answer b.more)
       ∙ ap (λ (xs : List (Option (ℕ × Call))). old.answers ++ xs) (sym (map-append answer a.more b.more))));
-  may = All-append (MayCome gives old.deal) a.more b.more a.may (subst (λ (x : Deal). All (MayCome gives x) b.more) d b.may);
+  may = All-append (MayBeGiven gives old.deal) a.more b.more a.may (subst (λ (x : Deal). All (MayBeGiven gives x) b.more) d b.may);
 }
 
 -- Worlds that go on.
 
-module _ (gives : Gives) where
+module _ (gives : MayGive) where
   -- where f changes nothing
   pub stays : (f : Cast → State → State) (w : WorldState) → ((g : Answers) → f (cast_for w g) w.state ≡ w.state) → HasGone gives f w w
   stays f w e = record { asked = nothing_asked gives w w refl refl; same = refl; state = λ g k. sym (e g) }
@@ -320,7 +320,7 @@ pub still_at : (w new : WorldState) (t : State) → new ≡ at w t → t ≡ w.s
 still_at w new t e same = e ∙ ap (λ (s : State). at w s) same
 
 -- a quiet event that a world took
-pub went_to : (gives : Gives) (f : Cast → State → State) (old new : WorldState) → IsQuiet f (cast_at old) old.state
+pub went_to : (gives : MayGive) (f : Cast → State → State) (old new : WorldState) → IsQuiet f (cast_at old) old.state
     → new ≡ at old (f (cast_at old) old.state) → HasGone gives f old new
 went_to gives f old new quiet is = record {
   asked = nothing_asked gives old new (ap (λ (w : WorldState). w.state.asked) is ∙ quiet.asked) (ap (λ (w : WorldState). w.answers) is);
@@ -328,13 +328,13 @@ went_to gives f old new quiet is = record {
   state = λ g k. ap (λ (w : WorldState). w.state) is ∙ sym (quiet.same g);
 }
 
-pub went : {A E : Type 0} (r : Result A E) (gives : Gives) (f : Cast → State → State) (old new : WorldState) → IsQuiet f (cast_at old) old.state
+pub went : {A E : Type 0} (r : Result A E) (gives : MayGive) (f : Cast → State → State) (old new : WorldState) → IsQuiet f (cast_at old) old.state
     → OnOk r (new ≡ at old (f (cast_at old) old.state)) → OnOk r (HasGone gives f old new)
 went (Ok x) gives f old new quiet is = went_to gives f old new quiet is
 went (Err x) gives f old new quiet is = tt
 
 -- and one in which memory ran out, with nothing changed
-pub unmoved : {A E : Type 0} (r : Result A E) (gives : Gives) (f : Cast → State → State) (old new : WorldState) → OnErr r (new ≡ old)
+pub unmoved : {A E : Type 0} (r : Result A E) (gives : MayGive) (f : Cast → State → State) (old new : WorldState) → OnErr r (new ≡ old)
     → OnErr r (IsCutBy gives f old new)
 unmoved (Ok x) gives f old new is = tt
 unmoved (Err x) gives f old new is = record {
@@ -344,7 +344,7 @@ unmoved (Err x) gives f old new is = record {
 }
 
 -- or after the call
-pub cut_to : (gives : Gives) (f : Cast → State → State) (old new : WorldState) → IsQuiet f (cast_at old) old.state → cast_at new ≡ cast_at old
+pub cut_to : (gives : MayGive) (f : Cast → State → State) (old new : WorldState) → IsQuiet f (cast_at old) old.state → cast_at new ≡ cast_at old
     → new.state.asked ≡ old.state.asked → new.answers ≡ old.answers
     → (new.state.book ≡ old.state.book) ⊎ (new.state.book ≡ (f (cast_at old) old.state).book) → IsCutBy gives f old new
 cut_to gives f old new quiet cast asked answers book = record { cast = cast; asked = nothing_asked gives old new asked answers; book = by book }
@@ -354,14 +354,14 @@ cut_to gives f old new quiet cast asked answers book = record { cast = cast; ask
     by (inl h) = inl h
     by (inr h) = inr (λ g k. h ∙ ap (λ (s : State). s.book) (sym (quiet.same g)))
 
-pub cut : {A E : Type 0} (r : Result A E) (gives : Gives) (f : Cast → State → State) (old new : WorldState) → IsQuiet f (cast_at old) old.state
+pub cut : {A E : Type 0} (r : Result A E) (gives : MayGive) (f : Cast → State → State) (old new : WorldState) → IsQuiet f (cast_at old) old.state
     → OnErr r (cast_at new ≡ cast_at old) → OnErr r (new.state.asked ≡ old.state.asked) → OnErr r (new.answers ≡ old.answers)
     → OnErr r ((new.state.book ≡ old.state.book) ⊎ (new.state.book ≡ (f (cast_at old) old.state).book)) → OnErr r (IsCutBy gives f old new)
 cut (Ok x) gives f old new quiet cast asked answers book = tt
 cut (Err x) gives f old new quiet cast asked answers book = cut_to gives f old new quiet cast asked answers book
 
 -- a cut world that stops
-pub cut_still : (gives : Gives) (f : Cast → State → State) (old mid new : WorldState) → cast_at new ≡ cast_at mid → new.answers ≡ mid.answers
+pub cut_still : (gives : MayGive) (f : Cast → State → State) (old mid new : WorldState) → cast_at new ≡ cast_at mid → new.answers ≡ mid.answers
     → new.state ≡ mid.state → IsCutBy gives f old mid → IsCutBy gives f old new
 cut_still gives f old mid new cast answers state k = record {
   cast = cast ∙ k.cast;
@@ -381,7 +381,7 @@ cut_still gives f old mid new cast answers state k = record {
         ap (λ (s : State). s.book) state ∙ h g (subst (λ (xs : List (Option (ℕ × Call))). (i : ℕ) → i < length xs → g i ≡ get_or xs i None) answers c))
 
 -- a cut by a function that is the same
-pub cut_as : (gives : Gives) (f h : Cast → State → State) (old new : WorldState)
+pub cut_as : (gives : MayGive) (f h : Cast → State → State) (old new : WorldState)
     → ((g : Answers) → f (cast_for old g) old.state ≡ h (cast_for old g) old.state) → IsCutBy gives f old new → IsCutBy gives h old new
 cut_as gives f h old new e k = record { cast = k.cast; asked = k.asked; book = by k.book }
   where

@@ -26,7 +26,7 @@ use Rattle.party_machine.specs.Rest.{IsAtRest}
 use Rattle.party_machine.proofs.Resting.{still}
 use Rattle.swap_run.specs.Asked.{Answers, with_answers}
 use Rattle.swap_run.specs.Run.{Cast, Notes, Question, State, conforms, role_of, is_planned, notes_of}
-use Rattle.swap_run.specs.Fair.{repeat, adjacent, the_horizon, ticks, has_ended}
+use Rattle.swap_run.specs.Fair.{repeat, adjacent_arcs, the_horizon, ticks, has_ended}
 use Rattle.swap_run.specs.Quiet.{over, IsIdle}
 use Rattle.swap_run.specs.Steps.{IsSkipped}
 use Rattle.swap_run.specs.Laws.{IsReadyCast, IsGood}
@@ -134,9 +134,9 @@ module _ (d : Deal) (conforming : List Bool) (seeds : List (Option (List ℕ))) 
   book = histories ls
 
   machine_idles : (n i : ℕ) (p : ℕ) (m : MachineState) (after : Histories) → i < n → p < d.graph.n → IsAt d conforming seeds roles qs ls xs p m
-      → IsCalm n book (adjacent d p) m → AreRaised i book after → IsIdle cast after p (notes_of now p)
+      → IsCalm n book (adjacent_arcs d p) m → AreRaised i book after → IsIdle cast after p (notes_of now p)
   machine_idles n i p m after l lp at calm raised =
-      let near = adjacent d p in
+      let near = adjacent_arcs d p in
       let k = m.known in
       let noted : notes_of now p ≡ record { known = k; signed = m.signed } = notes_at d conforming seeds roles qs ls xs p m at in
       let long : length k ≡ length d.graph.arcs = ap (λ (z : Notes). length z.known) (sym noted) ∙ (good.notes p lp at.is.0).one_each in
@@ -173,7 +173,7 @@ module _ (d : Deal) (conforming : List Bool) (seeds : List (Option (List ℕ))) 
 
   idles_by : (n i : ℕ) (p : ℕ) (x : Actor) (after : Histories) → i < n → p < d.graph.n → p < length xs → x ≡ get_or xs p x
       → IsActorOf d (slice_index_or conforming p false) (slice_index_or seeds p None) (slice_index_or roles p kinds.Manual) p x
-      → conforms cast p ≡ true → IsCalmActor n book (adjacent d p) x → AreRaised i book after → IsIdle cast after p (notes_of now p)
+      → conforms cast p ≡ true → IsCalmActor n book (adjacent_arcs d p) x → AreRaised i book after → IsIdle cast after p (notes_of now p)
   idles_by n i p (Conforming m) after l lp lx here is cp calm raised =
       machine_idles n i p m after l lp (record { below = lx; here = here; is = is }) calm raised
   idles_by n i p (Planned x) after l lp lx here is cp calm raised = absurd calm
@@ -181,14 +181,14 @@ module _ (d : Deal) (conforming : List Bool) (seeds : List (Option (List ℕ))) 
 
   plain_by : (n p : ℕ) (x : Actor)
       → IsActorOf d (slice_index_or conforming p false) (slice_index_or seeds p None) (slice_index_or roles p kinds.Manual) p x
-      → conforms cast p ≡ false → IsCalmActor n book (adjacent d p) x → is_planned (role_of cast p) ≡ false
+      → conforms cast p ≡ false → IsCalmActor n book (adjacent_arcs d p) x → is_planned (role_of cast p) ≡ false
   plain_by n p (Conforming m) is cp calm = absurd (false≢true (sym cp ∙ is.0))
   plain_by n p (Planned x) is cp calm = absurd calm
   plain_by n p Manual is cp calm = is.1
 
   -- rounds in which nobody makes a call
   pub rests : (n : ℕ) → AreActorsOf d conforming seeds roles xs
-      → ((v : ℕ) (x : Actor) → v < length xs → IsCalmActor n book (adjacent d v) (slice_index_or xs v x)) → IsStill cast n now
+      → ((v : ℕ) (x : Actor) → v < length xs → IsCalmActor n book (adjacent_arcs d v) (slice_index_or xs v x)) → IsStill cast n now
   rests n actors calm =
       let at = λ (v : ℕ) (lv : v < d.graph.n). subst (λ z. v < z) (sym actors.one_each) lv in
       let x = λ (v : ℕ). get_or xs v Manual in
@@ -202,12 +202,12 @@ module _ (d : Deal) (conforming : List Bool) (seeds : List (Option (List ℕ))) 
 
   ready_by : (p : ℕ) (x : Actor) → AreLedgersOf d ls → p < d.graph.n → p < length xs → x ≡ get_or xs p x
       → IsActorOf d (slice_index_or conforming p false) (slice_index_or seeds p None) (slice_index_or roles p kinds.Manual) p x
-      → IsReadyActor (length ls) book (adjacent d p) x
+      → IsReadyActor (length ls) book (adjacent_arcs d p) x
   ready_by p (Conforming m) ledgers lp lx here is =
       let at : IsAt d conforming seeds roles qs ls xs p m = record { below = lx; here = here; is = is } in
-      let places : HaveArcs (length ls) m.deal (adjacent d p) = record {
+      let places : HaveArcs (length ls) m.deal (adjacent_arcs d p) = record {
         one_each = ledgers.one_each ∙ ap (λ (e : Deal). length e.graph.arcs) (sym is.1);
-        each = subst (λ (e : Deal). All (λ a. a < length e.graph.arcs) (adjacent d p)) (sym is.1) (near_low d p);
+        each = subst (λ (e : Deal). All (λ a. a < length e.graph.arcs) (adjacent_arcs d p)) (sym is.1) (near_low d p);
       } in
       (places, λ a. begins d conforming seeds roles qs ls xs ready good p lp m at a)
   ready_by p (Planned x) ledgers lp lx here is = tt
@@ -215,7 +215,7 @@ module _ (d : Deal) (conforming : List Bool) (seeds : List (Option (List ℕ))) 
 
   -- what is asked before
   pub are_ready : AreLedgersOf d ls → AreActorsOf d conforming seeds roles xs → (v : ℕ) (x : Actor) → v < length xs
-      → IsReadyActor (length ls) book (adjacent d v) (slice_index_or xs v x)
+      → IsReadyActor (length ls) book (adjacent_arcs d v) (slice_index_or xs v x)
   are_ready ledgers actors v x l =
       let y = get_or xs v x in
       let here = any_default xs v x y l in

@@ -12,13 +12,13 @@ use Rattle.ledger_core.specs.Book.{Histories}
 use Rattle.swap_run.specs.Steps.{IsAlong}
 use Rattle.swap_run.proofs.Repeats.{repeat_one, rest_more}
 use Rattle.swap_world.specs.Value.{WorldState, cast_for, Continues}
-use Rattle.swap_world.specs.Gone.{Gives, HasGone, IsCut}
+use Rattle.swap_world.specs.Gone.{MayGive, HasGone, IsCut}
 use Rattle.swap_world.specs.Stopped.{IsAfterSome, IsStopped}
 use Rattle.swap_world.proofs.Gone.{gone_as, gone_then, cast_gone, continues_less, deal_gone, more_asked, way_from, for_gone}
 use Rattle.swap_world.proofs.Ways.{along_over, over}
 
 -- Over a list.
-module _ (gives : Gives) {B : Type 0} (f : Cast → State → B → State) (old mid new : WorldState) (xs : List B) (k : ℕ) (x : B)
+module _ (gives : MayGive) {B : Type 0} (f : Cast → State → B → State) (old mid new : WorldState) (xs : List B) (k : ℕ) (x : B)
     (so_far : HasGone gives (λ c s. fold (f c) s (take k xs)) old mid) where
   pub list_on : k < length xs → x ≡ get_or xs k x → HasGone gives (λ c s. f c s x) mid new → HasGone gives (λ c s. fold (f c) s (take (k + 1) xs)) old new
   list_on l is h =
@@ -39,14 +39,14 @@ module _ (gives : Gives) {B : Type 0} (f : Cast → State → B → State) (old 
         (way_from gives (λ c s. fold (f c) s (take k xs)) (λ c s. e c s x) old mid new g so_far h.asked q (h.book g q));
   }
 
-pub list_done : (gives : Gives) {B : Type 0} (f : Cast → State → B → State) (old mid : WorldState) (xs : List B) (k : ℕ) → length xs ≤ k
+pub list_done : (gives : MayGive) {B : Type 0} (f : Cast → State → B → State) (old mid : WorldState) (xs : List B) (k : ℕ) → length xs ≤ k
     → HasGone gives (λ c s. fold (f c) s (take k xs)) old mid → HasGone gives (λ c s. fold (f c) s xs) old mid
 list_done gives {B = B} f old mid xs k l so_far =
     gone_as gives (λ c s. fold (f c) s (take k xs)) (λ c s. fold (f c) s xs) old mid
     (λ g. ap (λ (ys : List B). fold (f (cast_for old g)) old.state ys) (take_all k xs l)) so_far
 
 -- Over the first m numbers.
-module _ (gives : Gives) (f : Cast → State → ℕ → State) (old mid new : WorldState) (m k : ℕ)
+module _ (gives : MayGive) (f : Cast → State → ℕ → State) (old mid new : WorldState) (m k : ℕ)
     (so_far : HasGone gives (λ c s. fold (f c) s (take k (range_with_len 0 m))) old mid) where
   low : k < m → k < length (range_with_len 0 m)
   low l = let n = length-range_with_len 0 m in omega (arith, n, l)
@@ -62,13 +62,13 @@ module _ (gives : Gives) (f : Cast → State → ℕ → State) (old mid new : W
       → IsStopped gives (λ c s. e c s k) mid new → IsStopped gives (λ c s. over (f c) (e c) s (range_with_len 0 m)) old new
   range_stops e l runs h = list_stops gives f old mid new (range_with_len 0 m) k k so_far e (low l) (here l) runs h
 
-pub range_done : (gives : Gives) (f : Cast → State → ℕ → State) (old mid : WorldState) (m k : ℕ) → m ≤ k
+pub range_done : (gives : MayGive) (f : Cast → State → ℕ → State) (old mid : WorldState) (m k : ℕ) → m ≤ k
     → HasGone gives (λ c s. fold (f c) s (take k (range_with_len 0 m))) old mid → HasGone gives (λ c s. fold (f c) s (range_with_len 0 m)) old mid
 range_done gives f old mid m k l so_far =
     let n = length-range_with_len 0 m in list_done gives f old mid (range_with_len 0 m) k (omega (arith, n, l)) so_far
 
 -- Some times.
-module _ (gives : Gives) (f : Cast → State → State) (old mid new : WorldState) (m k : ℕ) (so_far : HasGone gives (λ c s. repeat k (f c) s) old mid) where
+module _ (gives : MayGive) (f : Cast → State → State) (old mid new : WorldState) (m k : ℕ) (so_far : HasGone gives (λ c s. repeat k (f c) s) old mid) where
   pub repeat_on : HasGone gives f mid new → HasGone gives (λ c s. repeat (k + 1) (f c) s) old new
   repeat_on h =
       gone_as gives (λ c s. f c (repeat k (f c) s)) (λ c s. repeat (k + 1) (f c) s) old new
@@ -98,7 +98,7 @@ module _ (gives : Gives) (f : Cast → State → State) (old mid new : WorldStat
   }
 
 -- memory ran out in an event of a list
-pub after_some : (gives : Gives) (old mid new : WorldState) (xs : List Event) (k : ℕ) (x : Event) → k < length xs → x ≡ get_or xs k x
+pub after_some : (gives : MayGive) (old mid new : WorldState) (xs : List Event) (k : ℕ) (x : Event) → k < length xs → x ≡ get_or xs k x
     → HasGone gives (λ c s. run_from c s (take k xs)) old mid → IsCut gives x mid new → IsAfterSome xs old new
 after_some gives old mid new xs k x l is so_far cut = go cut.book
   where

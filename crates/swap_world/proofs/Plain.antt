@@ -6,10 +6,10 @@ use Rattle.swap_run.specs.Asked.{is_strategy}
 use Rattle.swap_run.specs.Run.{run_from, step}
 use Rattle.swap_run.specs.Fair.{finish}
 use Rattle.swap_run.proofs.Asked.{finishes_without_strategies, runs_without_strategies}
-use Rattle.swap_world.specs.Gone.{Gives, HasGone}
+use Rattle.swap_world.specs.Gone.{MayGive, HasGone}
 use Rattle.swap_world.specs.Value.{WorldState, answers_of, cast_at}
 
-module _ (gives : Gives) (old new : WorldState) (none : list_any is_strategy old.roles ≡ false) where
+module _ (gives : MayGive) (old new : WorldState) (none : list_any is_strategy old.roles ≡ false) where
   pub plain_run : (events : List Event) → HasGone gives (λ c s. run_from c s events) old new → new.state ≡ run_from (cast_at old) old.state events
   plain_run events k = k.state (answers_of new) (λ i l. refl) ∙ runs_without_strategies (cast_at old) (answers_of new) old.state events none
 

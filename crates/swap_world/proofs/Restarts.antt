@@ -11,7 +11,7 @@ use Rattle.swap_rules.proofs.Prefixes.{same_or_not}
 use Rattle.swap_rules.specs.Due.{Action}
 use Rattle.party_wallet.specs.Value.{signed_in}
 use Rattle.std.proofs.lemmas.Option.{same_Some}
-use Rattle.party_machine.specs.Machine.{MachineState, action_of, next_of, noted_for}
+use Rattle.party_machine.specs.Machine.{MachineState, action_of, next_due, noted_for}
 use Rattle.party_machine.specs.Recording.{unsigned_key, new_key, signs_next, MayHave, IsCallPlaced}
 use Rattle.party_machine.proofs.Whole.{fresh}
 use Rattle.party_machine.proofs.Recorded.{answer_placed}
@@ -117,10 +117,10 @@ pub seen_left : (h : Held) → h.loose ≡ [] → Leaves h (read_bytes h)
 seen_left h settled = subst (λ (ws : List Write). MayBeLeft (synced_bytes h) ws (after_writes (synced_bytes h) ws)) (sym settled) refl
 
 -- an answer that signs nothing
-pub answer_calm : (m new : MachineState) (o : Option (ℕ × Call)) → option_map action_of o ≡ next_of m
+pub answer_calm : (m new : MachineState) (o : Option (ℕ × Call)) → option_map action_of o ≡ next_due m
     → signed_in new.signed ≡ noted_for (signed_in m.signed) o
     → ((i : ℕ) (k : Hashkey) → signed_in m.signed i ≡ Some k → signed_in new.signed i ≡ Some k) → length new.signed ≡ length m.signed
-    → signs_next m ≡ None → (x : Action) → next_of m ≡ Some x → signed_after m.signed x.call ≡ m.signed
+    → signs_next m ≡ None → (x : Action) → next_due m ≡ Some x → signed_after m.signed x.call ≡ m.signed
 answer_calm m new None due signed once places none x is = absurd (cc (due ∙ is))
 answer_calm m new (Some y) due signed once places none x is =
     let same : action_of y ≡ x = same_Some (action_of y) x (due ∙ is) in
@@ -139,16 +139,16 @@ module _ (m : MachineState) (after : List (Option Hashkey)) (d : DiskState) (k i
     (shown : (i : ℕ) → i < length after → signed_in after i ≡ recorded bytes i)
     (whole : Leaves d.held bytes ⊎ MayHave (read_bytes d.held) (signs_next m) bytes)
     (left : (key : Hashkey) → signs_next m ≡ Some key → recorded bytes key.lock ≡ kept_key key k image)
-    (calm : signs_next m ≡ None → (x : Action) → next_of m ≡ Some x → signed_after m.signed x.call ≡ m.signed) where
-  none_new : signs_next m ≡ None → after ≡ recorded_after m.signed (next_of m) k image
+    (calm : signs_next m ≡ None → (x : Action) → next_due m ≡ Some x → signed_after m.signed x.call ≡ m.signed) where
+  none_new : signs_next m ≡ None → after ≡ recorded_after m.signed (next_due m) k image
   none_new none =
-      nothing_recorded m.signed after k image as_long bytes shown (next_of m) (calm none) (λ i lt. go i lt whole)
+      nothing_recorded m.signed after k image as_long bytes shown (next_due m) (calm none) (λ i lt. go i lt whole)
     where
       go : (i : ℕ) → i < length m.signed → Leaves d.held bytes ⊎ MayHave (read_bytes d.held) (signs_next m) bytes → recorded bytes i ≡ signed_in m.signed i
       go i lt (inl was) = up.shown i lt bytes was
       go i lt (inr may) = absurd (subst (λ (o : Option Hashkey). MayHave (read_bytes d.held) o bytes) none may)
 
-  some_new : (x : Action) (key : Hashkey) → next_of m ≡ Some x → signs_next m ≡ Some key → unsigned_key m.signed x.call ≡ Some key
+  some_new : (x : Action) (key : Hashkey) → next_due m ≡ Some x → signs_next m ≡ Some key → unsigned_key m.signed x.call ≡ Some key
       → after ≡ recorded_after m.signed (Some x) k image
   some_new x key is signs new =
       let c = key_call m.signed x.call key new in
@@ -165,12 +165,12 @@ module _ (m : MachineState) (after : List (Option Hashkey)) (d : DiskState) (k i
       go i lt n (inr may) =
           at i lt n (subst (λ (o : Option Hashkey). MayHave (read_bytes d.held) o bytes) signs may i (omega (arith, lt, few)))
 
-  by_call : (x : Action) → next_of m ≡ Some x → (o : Option Hashkey) → unsigned_key m.signed x.call ≡ o
-      → after ≡ recorded_after m.signed (next_of m) k image
+  by_call : (x : Action) → next_due m ≡ Some x → (o : Option Hashkey) → unsigned_key m.signed x.call ≡ o
+      → after ≡ recorded_after m.signed (next_due m) k image
   by_call x is None new = none_new (ap (new_key m.signed) is ∙ new)
   by_call x is (Some key) new =
       some_new x key is (ap (new_key m.signed) is ∙ new) new ∙ ap (λ (o : Option Action). recorded_after m.signed o k image) (sym is)
 
-  pub recorded_as : (o : Option Action) → next_of m ≡ o → after ≡ recorded_after m.signed (next_of m) k image
+  pub recorded_as : (o : Option Action) → next_due m ≡ o → after ≡ recorded_after m.signed (next_due m) k image
   recorded_as None is = none_new (ap (new_key m.signed) is)
   recorded_as (Some x) is = by_call x is (unsigned_key m.signed x.call) refl

@@ -23,8 +23,7 @@ use Rattle.swap_run.specs.Run.{Question, watch, step, answer_for, relearnt, reco
 use Rattle.swap_run.specs.Called.{step_on}
 use Rattle.swap_run.specs.Asked.{Answers, with_answers}
 use Rattle.party_machine.specs.Wallet.{wallet_of}
-use Rattle.party_machine.specs.Machine as machines
-use Rattle.party_machine.specs.Machine.{MachineState}
+use Rattle.party_machine.specs.Machine.{MachineState, next_due}
 use Rattle.swap_world.proofs.Plans.{IsScript, absent, due_call, answer_is, planned_look, planned_call, planned_act, planned_ask}
 use Rattle.swap_world.specs.Cast.{cast_with, wallet_with}
 use Rattle.swap_world.specs.Acting.{histories, landed, book_after, machine_after, told_of, taken, seen, told_to, turned, asked_once, question_of}
@@ -59,7 +58,7 @@ crashed_machine d m k image b = record {
   me = m.me;
   seed = m.seed;
   known = relearnt d m.me b;
-  signed = recorded_after m.signed (machines.next_of m) k image;
+  signed = recorded_after m.signed (next_due m) k image;
 }
 
 -- the state of those questions, actors and histories
@@ -128,7 +127,7 @@ module _ (d : Deal) (conforming : List Bool) (seeds : List (Option (List ℕ))) 
       = ap (λ (x : MachineState). notes_in d (Conforming x)) e ∙ ap (λ (x : Notes). known_up_to x a (history (histories ls) a)) (sym (notes_at p m i)) in
       same_parts _ _ _ _ _ _ refl (noted p new _ n) (plans_still p m new i) ∙ where_it_conforms p (look s p a) (watch c s p a) i.is.0
 
-  pub next_is : (p : ℕ) (m : MachineState) → IsAt p m → next_of c s p ≡ machines.next_of m
+  pub next_is : (p : ℕ) (m : MachineState) → IsAt p m → next_of c s p ≡ next_due m
   next_is p m i =
       let w : c.wallet p ≡ wallet_of m.seed m.me m.deal
       = ap (λ (o : Option (List ℕ)). wallet_with o p d) i.is.3 ∙ ap₂ (λ (v : ℕ) (e : Deal). wallet_of m.seed v e) (sym i.is.2) (sym i.is.1) in
@@ -160,11 +159,11 @@ module _ (d : Deal) (conforming : List Bool) (seeds : List (Option (List ℕ))) 
       note : Histories → List (Option Hashkey) → Notes
       note k ss = record { known = k; signed = ss }
 
-  pub acted : (sw : ℕ → Bool) (p : ℕ) (m new : MachineState) (b : Histories) → IsAt p m → b ≡ book_after sw m (machines.next_of m) (histories ls)
-      → new ≡ machine_after sw m (machines.next_of m) (histories ls)
+  pub acted : (sw : ℕ → Bool) (p : ℕ) (m new : MachineState) (b : Histories) → IsAt p m → b ≡ book_after sw m (next_due m) (histories ls)
+      → new ≡ machine_after sw m (next_due m) (histories ls)
       → replaced p (Conforming new) b ≡ step_on sw c s (Act p)
   acted sw p m new b i eb en =
-      made sw p m new b (machines.next_of m) i eb en ∙ (ap (λ (o : Option Action). make_on sw d s p o) (sym (next_is p m i))
+      made sw p m new b (next_due m) i eb en ∙ (ap (λ (o : Option Action). make_on sw d s p o) (sym (next_is p m i))
       ∙ (where_it_conforms p (make_on sw d s p (next_of c s p)) (act_on sw c s p (role_of c p)) i.is.0 ∙ sym (act_is sw c s p)))
 
   -- a party crashes and restarts
@@ -182,14 +181,14 @@ module _ (d : Deal) (conforming : List Bool) (seeds : List (Option (List ℕ))) 
 
   -- the histories after it, whatever became of the machine
   pub acted_book : (sw : ℕ → Bool) (p : ℕ) (m : MachineState) → IsAt p m
-      → book_after sw m (machines.next_of m) (histories ls) ≡ (step_on sw c s (Act p)).book
+      → book_after sw m (next_due m) (histories ls) ≡ (step_on sw c s (Act p)).book
   acted_book sw p m i =
       ap (λ (t : State). t.book)
-      (acted sw p m (machine_after sw m (machines.next_of m) (histories ls)) (book_after sw m (machines.next_of m) (histories ls)) i refl refl)
+      (acted sw p m (machine_after sw m (next_due m) (histories ls)) (book_after sw m (next_due m) (histories ls)) i refl refl)
 
   -- what the party is told
   pub acted_told : (sw : ℕ → Bool) (p : ℕ) (m : MachineState) → IsAt p m
-      → told_of sw m (machines.next_of m) (histories ls) ≡ told_in sw c s (Act p)
+      → told_of sw m (next_due m) (histories ls) ≡ told_in sw c s (Act p)
   acted_told sw p m i =
       ap (λ (o : Option Action). told_of sw m o (histories ls)) (sym (next_is p m i)) ∙ told_due sw c s m p i.is.0 i.is.1 i.is.2
 

@@ -1,113 +1,38 @@
 -- What acts for the parties of a job, one by one.
-use Rattle.std.proofs.Common.{◌≡◌, ◌≢◌, ◌⊎◌, inl, inr, ℕ, zero, suc, ◌+◌, ◌-◌, ◌<◌, ◌≤◌, ◌||◌, Bool, true, false, cond, List, [], ◌∷◌, ◌++◌, length, get_or}
-use Rattle.std.proofs.Common.{map, replicate, slice_index_or, Option, Some, None, is_some, Result, Ok, Err, refl, sym, ap, ap₂, ◌∙◌, subst, arith}
-use Rattle.std.proofs.Common.{length-append}
-use Rattle.std.specs.List.{All, list_any, range_with_len}
+use Rattle.std.proofs.Common.{zero-add, ◌≡◌, ℕ, zero, suc, ◌<◌, ◌||◌, Bool, true, false, cond, List, [], ◌∷◌, length, get_or}
+use Rattle.std.proofs.Common.{map, replicate, slice_index_or, Option, Some, None, is_some, refl, sym, ap, ap₂, ◌∙◌, subst}
+use Rattle.std.specs.List.{All, list_any}
 use Rattle.std.proofs.lemmas.List.Elements.{All-nil}
 use Rattle.std.proofs.lemmas.Bool.{false≢true}
 use Rattle.std.proofs.lemmas.List.{same_lists, get_or_default, get_or-map, length-map, length-replicate, get_or-replicate}
+use Rattle.std.proofs.lemmas.List.FromFn.{get_or-map-range_with_len, length-map-range_with_len}
 use Rattle.swap_base.proofs.Lists.{or_neither}
-use Rattle.swap_base.specs.Fault.{◌>>=◌, steps, Fails}
-use Rattle.swap_base.specs.declared.fault.Fault.{Fault}
-use Rattle.swap_base.specs.declared.fault.Fault.TheVariants.{Refused, NoMemory}
-use Rattle.swap_rules.proofs.Prefixes.{same_or_not}
 use Rattle.swap_job.specs.declared.job.Job.{Job}
 use Rattle.swap_rules.specs.Accepted.{IsAccepted}
 use Rattle.swap_rules.specs.Machine.{IsWallet}
 use Rattle.swap_run.specs.Asked.{is_strategy}
-use Rattle.swap_run.specs.Run.{Notes, Plan, no_notes, first_plan, is_planned, script_of}
+use Rattle.swap_run.specs.Run.{Notes, Plan, no_notes, first_plan, is_planned}
 use Rattle.swap_digraph.specs.declared.deal.Deal.{Deal}
 use Rattle.swap_job.specs.Fitting.{IsMoveOf}
+use Rattle.swap_job.specs.Roles.{IsHeld, role_in, is_conforming, script_of}
 use Rattle.swap_job.specs.declared.job.Role.{Role}
 use Rattle.swap_job.specs.declared.job.Role.TheVariants as kinds
 use Rattle.swap_run.specs.Laws.{IsReadyCast}
 use Rattle.party_wallet.specs.Fits.{wrong_lock}
-use Rattle.party_machine.specs.Machine.{new_machine}
 use Rattle.party_machine.proofs.Good.{fitting_is_good}
-use Rattle.swap_world.specs.Cast.{cast_of, is_conforming, wallet_with}
-use Rattle.swap_world.specs.Value.{WorldState, new_world}
-use Rattle.swap_world.specs.Actors.{role_in, by_role, by_lock, with_seed, actor_of, actor_step, actors_of, world_of, IsHeld, AreHeld, HaveRoles, HaveSeeds}
+use Rattle.swap_world.specs.Cast.{cast_of, wallet_with}
+use Rattle.swap_world.specs.Actors.{by_role, acts_with, acts_for, team, wrong_with, AllFit, AreHeld, HaveRoles, ConformingHaveSeeds}
 use Rattle.swap_world.specs.Inside.{notes_in, plan_in, IsActorOf, AreActorsOf}
 use Rattle.swap_world.specs.declared.actor.Actor.{Actor}
-use Rattle.swap_world.specs.declared.actor.Actor.TheVariants.{Conforming, Manual}
-use Rattle.swap_world.specs.declared.actors.WrongWallet.{WrongWallet}
+use Rattle.swap_world.specs.declared.actor.Actor.TheVariants.{Manual}
 
--- The loop over the parties.
+-- Each place has its party's actor.
 
-range_next : (a n : ℕ) → a < n → range_with_len a (n - a) ≡ a ∷ range_with_len (a + 1) (n - (a + 1))
-range_next a n lt = let e : n - a ≡ suc (n - (a + 1)) = omega arith in ap (range_with_len a) e
+pub team_length : (job : Job) → length (team job) ≡ job.deal.graph.n
+team_length job = length-map-range_with_len (acts_for job) 0 job.deal.graph.n
 
-range_none : (a n : ℕ) → n ≤ a → range_with_len a (n - a) ≡ []
-range_none a n le = let e : n - a ≡ 0 = omega arith in ap (range_with_len a) e
-
-module _ (job : Job) (total : Result (List Actor) WrongWallet) where
-  -- what is left of the parties
-  abbrev pub left : ℕ → List Actor → Result (List Actor) WrongWallet
-  left p xs = steps (actor_step job) xs (range_with_len p (job.deal.graph.n - p))
-
-  next : (p : ℕ) (xs : List Actor) → p < job.deal.graph.n → left p xs ≡ actor_step job xs p >>= λ ys. left (p + 1) ys
-  unfolding steps
-  next p xs lt = ap (steps (actor_step job) xs) (range_next p job.deal.graph.n lt)
-
-  pub goes_on : (p : ℕ) (xs ys : List Actor) → p < job.deal.graph.n → actor_step job xs p ≡ Ok ys → left p xs ≡ total → left (p + 1) ys ≡ total
-  goes_on p xs ys lt e so_far = sym (next p xs lt ∙ ap (λ (r : Result (List Actor) WrongWallet). r >>= λ zs. left (p + 1) zs) e) ∙ so_far
-
-  pub ends : (e : Fault WrongWallet) (p : ℕ) (xs : List Actor) → p < job.deal.graph.n → Fails e (actor_step job xs p) → left p xs ≡ total → Fails e total
-  ends NoMemory p xs lt h so_far = tt
-  ends (Refused r) p xs lt h so_far = sym so_far ∙ next p xs lt ∙ ap (λ (x : Result (List Actor) WrongWallet). x >>= λ zs. left (p + 1) zs) h
-
-  pub is_done : (p : ℕ) (xs : List Actor) → job.deal.graph.n ≤ p → left p xs ≡ total → total ≡ Ok xs
-  unfolding steps
-  is_done p xs le so_far = sym so_far ∙ ap (steps (actor_step job) xs) (range_none p job.deal.graph.n le)
-
--- Who acts.
-
--- each place has its party's actor
-abbrev Each : Job → List Actor → Type 0
-Each job xs = (p : ℕ) → p < length xs → actor_of job p ≡ Ok (get_or xs p Manual)
-
-went : {A B R : Type 0} (r : Result A R) (f : A → Result B R) (y : B) → (r >>= f) ≡ Ok y → (x : A) × (r ≡ Ok x) × (f x ≡ Ok y)
-went (Ok x) f y e = (x, refl, e)
-went (Err r) f y e = absurd (cc e)
-
-get_front : (xs : List Actor) (y : Actor) (p : ℕ) → p < length xs → get_or (xs ++ y ∷ []) p Manual ≡ get_or xs p Manual
-get_front [] y p l = absurd (omega arith)
-get_front (x ∷ xs) y zero l = refl
-get_front (x ∷ xs) y (suc p) l = get_front xs y p (omega arith)
-
-get_last : (xs : List Actor) (y : Actor) → get_or (xs ++ y ∷ []) (length xs) Manual ≡ y
-get_last [] y = refl
-get_last (x ∷ xs) y = get_last xs y
-
-one_more : (job : Job) (xs : List Actor) (y : Actor) → Each job xs → actor_of job (length xs) ≡ Ok y → Each job (xs ++ y ∷ [])
-one_more job xs y each e p l = at (same_or_not p (length xs))
-  where
-    at : (p ≡ length xs) ⊎ (p ≢ length xs) → actor_of job p ≡ Ok (get_or (xs ++ y ∷ []) p Manual)
-    at (inl s) = subst (λ q. actor_of job q ≡ Ok (get_or (xs ++ y ∷ []) q Manual)) (sym s) (e ∙ ap (λ (z : Actor). Ok z) (sym (get_last xs y)))
-    at (inr n) =
-        let k : length (xs ++ y ∷ []) ≡ length xs + 1 = length-append xs (y ∷ []) in
-        let below : p < length xs = omega (arith, k, l, n) in
-        each p below ∙ ap (λ (z : Actor). Ok z) (sym (get_front xs y p below))
-
-made_from : (job : Job) (k m : ℕ) (xs ys : List Actor) → length xs ≡ k → Each job xs → steps (actor_step job) xs (range_with_len k m) ≡ Ok ys
-    → (length ys ≡ k + m) × Each job ys
-unfolding actor_step steps
-made_from job k zero xs ys l each e =
-    let s : xs ≡ ys = cc e in
-    (subst (λ zs. length zs ≡ k + 0) s (omega (arith, l)), subst (Each job) s each)
-made_from job k (suc m) xs ys l each e =
-    let w = went (actor_of job k >>= λ x. Ok (xs ++ x ∷ [])) (λ zs. steps (actor_step job) zs (range_with_len (k + 1) m)) ys e in
-    let v = went (actor_of job k) (λ x. Ok (xs ++ x ∷ [])) w.0 w.1 in
-    let s : xs ++ v.0 ∷ [] ≡ w.0 = cc v.2 in
-    let n : length (xs ++ v.0 ∷ []) ≡ k + 1 = length-append xs (v.0 ∷ []) ∙ ap (λ z. z + 1) l in
-    let r =
-    made_from job (k + 1) m (xs ++ v.0 ∷ []) ys n (one_more job xs v.0 each (subst (λ q. actor_of job q ≡ Ok v.0) (sym l) v.1))
-    (subst (λ zs. steps (actor_step job) zs (range_with_len (k + 1) m) ≡ Ok ys) (sym s) w.2) in
-    (r.0 ∙ omega arith, r.1)
-
--- the actors of a job: one per party, each its own
-pub made : (job : Job) (ys : List Actor) → actors_of job ≡ Ok ys → (length ys ≡ job.deal.graph.n) × Each job ys
-made job ys e = let r = made_from job 0 job.deal.graph.n [] ys refl (λ p l. absurd (omega arith)) e in (r.0 ∙ omega arith, r.1)
+pub team_at : (job : Job) (p : ℕ) → p < job.deal.graph.n → get_or (team job) p Manual ≡ acts_for job p
+team_at job p lt = get_or-map-range_with_len (acts_for job) 0 job.deal.graph.n p p Manual lt (zero-add p)
 
 -- What each is.
 
@@ -119,32 +44,27 @@ pub record IsOwn (job : Job) (p : ℕ) (x : Actor) : Type 0 where
   pub fits : slice_index_or job.conforming p false ≡ true → (seed : List ℕ) × (slice_index_or job.seeds p None ≡ Some seed)
       × (wrong_lock job.deal p seed ≡ None)
 
-by_itself : (job : Job) (p : ℕ) (x : Actor) (role : Role) → slice_index_or job.conforming p false ≡ false → role_in job p ≡ role
-    → by_role job.deal role ≡ x → IsOwn job p x
-by_itself job p x kinds.Conforming ec er e = subst (IsOwn job p) e (record {
-  is = (ec, ap is_planned er);
-  notes = refl;
-  plan = sym (ap (first_plan job.deal) er);
-  fits = λ t. absurd (false≢true (sym ec ∙ t));
-})
-by_itself job p x kinds.Manual ec er e = subst (IsOwn job p) e (record {
-  is = (ec, ap is_planned er);
-  notes = refl;
-  plan = sym (ap (first_plan job.deal) er);
-  fits = λ t. absurd (false≢true (sym ec ∙ t));
-})
-by_itself job p x (kinds.Script moves) ec er e = subst (IsOwn job p) e (record {
-  is = (ec, ap is_planned er);
-  notes = refl;
-  plan = sym (ap (first_plan job.deal) er);
-  fits = λ t. absurd (false≢true (sym ec ∙ t));
-})
-by_itself job p x (kinds.Strategy name) ec er e = subst (IsOwn job p) e (record {
-  is = (ec, ap is_planned er);
-  notes = refl;
-  plan = sym (ap (first_plan job.deal) er);
-  fits = λ t. absurd (false≢true (sym ec ∙ t));
-})
+by_itself : (job : Job) (p : ℕ) (role : Role) → slice_index_or job.conforming p false ≡ false → role_in job p ≡ role → IsOwn job p (by_role job.deal role)
+by_itself job p role ec er = record { is = kind role er; notes = no_note role; plan = first role er; fits = λ t. absurd (false≢true (sym ec ∙ t)) }
+  where
+    kind : (r : Role) → role_in job p ≡ r
+        → IsActorOf job.deal (slice_index_or job.conforming p false) (slice_index_or job.seeds p None) (role_in job p) p (by_role job.deal r)
+    kind kinds.Conforming e = (ec, ap is_planned e)
+    kind kinds.Manual e = (ec, ap is_planned e)
+    kind (kinds.Script moves) e = (ec, ap is_planned e)
+    kind (kinds.Strategy name) e = (ec, ap is_planned e)
+
+    no_note : (r : Role) → notes_in job.deal (by_role job.deal r) ≡ no_notes job.deal
+    no_note kinds.Conforming = refl
+    no_note kinds.Manual = refl
+    no_note (kinds.Script moves) = refl
+    no_note (kinds.Strategy name) = refl
+
+    first : (r : Role) → role_in job p ≡ r → plan_in job.deal (by_role job.deal r) ≡ first_plan job.deal (role_in job p)
+    first kinds.Conforming e = sym (ap (first_plan job.deal) e)
+    first kinds.Manual e = sym (ap (first_plan job.deal) e)
+    first (kinds.Script moves) e = sym (ap (first_plan job.deal) e)
+    first (kinds.Strategy name) e = sym (ap (first_plan job.deal) e)
 
 -- the plan of a party that conforms is one of no moves
 no_moves : (d : Deal) (role : Role) → is_conforming role ≡ true → first_plan d kinds.Manual ≡ first_plan d role
@@ -153,133 +73,88 @@ no_moves d kinds.Manual e = absurd (cc e)
 no_moves d (kinds.Script moves) e = absurd (cc e)
 no_moves d (kinds.Strategy name) e = absurd (cc e)
 
-own : (job : Job) (p : ℕ) (x : Actor) (b : Bool) (o : Option (List ℕ)) → slice_index_or job.conforming p false ≡ b → slice_index_or job.seeds p None ≡ o
-    → b ≡ is_conforming (role_in job p) → (b ≡ true → is_some o ≡ true)
-    → cond b (with_seed job.deal (role_in job p) p o) (Ok (by_role job.deal (role_in job p))) ≡ Ok x → IsOwn job p x
-own job p x false o eb eo role some e = by_itself job p x (role_in job p) eb refl (cc e)
-own job p x true None eb eo role some e = absurd (false≢true (some refl))
-own job p x true (Some seed) eb eo role some e = by (wrong_lock job.deal p seed) refl e
-  where
-    by : (w : Option ℕ) → wrong_lock job.deal p seed ≡ w → by_lock job.deal p seed w ≡ Ok x → IsOwn job p x
-    by None q f =
-        let s : Conforming (new_machine job.deal p seed) ≡ x = cc f in
-        subst (IsOwn job p) s (record {
-          is = (eb, refl, refl, eo);
-          notes = refl;
-          plan = no_moves job.deal (role_in job p) (sym role);
-          fits = λ t. (seed, eo, q);
-        })
-    by (Some lock) q f = absurd (cc f)
+own : (job : Job) (p : ℕ) (b : Bool) (o : Option (List ℕ)) → slice_index_or job.conforming p false ≡ b → slice_index_or job.seeds p None ≡ o
+    → b ≡ is_conforming (role_in job p) → (b ≡ true → is_some o ≡ true) → cond b (wrong_with job.deal p o) None ≡ None
+    → IsOwn job p (cond b (acts_with job.deal (role_in job p) p o) (by_role job.deal (role_in job p)))
+own job p false o eb eo role some right = by_itself job p (role_in job p) eb refl
+own job p true None eb eo role some right = absurd (false≢true (some refl))
+own job p true (Some seed) eb eo role some right = record {
+  is = (eb, refl, refl, eo);
+  notes = refl;
+  plan = no_moves job.deal (role_in job p) (sym role);
+  fits = λ t. (seed, eo, right);
+}
 
 -- there is a role per party
-pub role_each : (job : Job) → HaveSeeds job → HaveRoles job → length job.roles ≡ job.deal.graph.n
+pub role_each : (job : Job) → ConformingHaveSeeds job → HaveRoles job → length job.roles ≡ job.deal.graph.n
 role_each job seeds roles = sym (length-map job.roles is_conforming) ∙ (sym (ap (λ (bs : List Bool). length bs) roles.conforming) ∙ seeds.conforming)
 
-role_of_its : (job : Job) (p : ℕ) → HaveSeeds job → HaveRoles job → p < job.deal.graph.n
+role_of_its : (job : Job) (p : ℕ) → ConformingHaveSeeds job → HaveRoles job → p < job.deal.graph.n
     → slice_index_or job.conforming p false ≡ is_conforming (role_in job p)
 role_of_its job p seeds roles lt =
     ap (λ (bs : List Bool). get_or bs p false) roles.conforming
     ∙ get_or-map is_conforming job.roles p kinds.Manual false (subst (λ n. p < n) (sym (role_each job seeds roles)) lt)
 
-pub is_own : (job : Job) (ys : List Actor) (p : ℕ) → HaveSeeds job → HaveRoles job → actors_of job ≡ Ok ys → p < job.deal.graph.n
-    → IsOwn job p (get_or ys p Manual)
-is_own job ys p seeds roles e lt =
-    let m = made job ys e in
-    own job p (get_or ys p Manual) (slice_index_or job.conforming p false) (slice_index_or job.seeds p None) refl refl
-    (role_of_its job p seeds roles lt) (seeds.there p lt)
-    (m.1 p (subst (λ n. p < n) (sym m.0) lt))
+pub is_own : (job : Job) (p : ℕ) → ConformingHaveSeeds job → HaveRoles job → AllFit job → p < job.deal.graph.n → IsOwn job p (acts_for job p)
+is_own job p seeds roles fit lt =
+    own job p (slice_index_or job.conforming p false) (slice_index_or job.seeds p None) refl refl (role_of_its job p seeds roles lt) (seeds.there p lt)
+    (fit p lt)
 
-pub are_actors : (job : Job) (ys : List Actor) → HaveSeeds job → HaveRoles job → actors_of job ≡ Ok ys
-    → AreActorsOf job.deal job.conforming job.seeds job.roles ys
-are_actors job ys seeds roles e =
-    let m = made job ys e in
-    record {
-      one_each = m.0;
-      each =
-          λ v x l is. subst (IsActorOf job.deal (slice_index_or job.conforming v false) (slice_index_or job.seeds v None) (role_in job v) v)
-          (get_or_default ys v Manual x l ∙ sym is) (is_own job ys v seeds roles e (subst (λ n. v < n) m.0 l)).is;
-    }
+pub are_actors : (job : Job) → ConformingHaveSeeds job → HaveRoles job → AllFit job → AreActorsOf job.deal job.conforming job.seeds job.roles (team job)
+are_actors job seeds roles fit = record {
+  one_each = team_length job;
+  each = λ v x l is.
+      let lt : v < job.deal.graph.n = subst (λ n. v < n) (team_length job) l in
+      subst (IsActorOf job.deal (slice_index_or job.conforming v false) (slice_index_or job.seeds v None) (role_in job v) v)
+      (sym (team_at job v lt) ∙ (get_or_default (team job) v Manual x l ∙ sym is)) (is_own job v seeds roles fit lt).is;
+}
 
-pub no_notes_yet : (job : Job) (ys : List Actor) → HaveSeeds job → HaveRoles job → actors_of job ≡ Ok ys
-    → map (notes_in job.deal) ys ≡ replicate job.deal.graph.n (no_notes job.deal)
-no_notes_yet job ys seeds roles e =
-    let m = made job ys e in
-    same_lists (map (notes_in job.deal) ys) (replicate job.deal.graph.n (no_notes job.deal))
-    (length-map ys (notes_in job.deal) ∙ (m.0 ∙ sym (length-replicate job.deal.graph.n (no_notes job.deal))))
-    (λ k d lt. at k d (subst (λ n. k < n) (length-map ys (notes_in job.deal)) lt) m.0)
+pub no_notes_yet : (job : Job) → ConformingHaveSeeds job → HaveRoles job → AllFit job
+    → map (notes_in job.deal) (team job) ≡ replicate job.deal.graph.n (no_notes job.deal)
+no_notes_yet job seeds roles fit =
+    same_lists (map (notes_in job.deal) (team job)) (replicate job.deal.graph.n (no_notes job.deal))
+    (length-map (team job) (notes_in job.deal) ∙ (team_length job ∙ sym (length-replicate job.deal.graph.n (no_notes job.deal))))
+    (λ k d lt. at k d (subst (λ n. k < n) (length-map (team job) (notes_in job.deal)) lt))
   where
-    at : (k : ℕ) (d : Notes) → k < length ys → length ys ≡ job.deal.graph.n
-        → get_or (map (notes_in job.deal) ys) k d ≡ get_or (replicate job.deal.graph.n (no_notes job.deal)) k d
-    at k d lt n =
-        let below = subst (λ z. k < z) n lt in
-        get_or-map (notes_in job.deal) ys k Manual d lt ∙ ((is_own job ys k seeds roles e below).notes
-        ∙ sym (get_or-replicate job.deal.graph.n k (no_notes job.deal) d below))
+    at : (k : ℕ) (d : Notes) → k < length (team job)
+        → get_or (map (notes_in job.deal) (team job)) k d ≡ get_or (replicate job.deal.graph.n (no_notes job.deal)) k d
+    at k d lt =
+        let below = subst (λ z. k < z) (team_length job) lt in
+        get_or-map (notes_in job.deal) (team job) k Manual d lt ∙ (ap (notes_in job.deal) (team_at job k below)
+        ∙ ((is_own job k seeds roles fit below).notes ∙ sym (get_or-replicate job.deal.graph.n k (no_notes job.deal) d below)))
 
-pub first_plans : (job : Job) (ys : List Actor) → HaveSeeds job → HaveRoles job → actors_of job ≡ Ok ys
-    → map (plan_in job.deal) ys ≡ map (first_plan job.deal) job.roles
-first_plans job ys seeds roles e =
-    let m = made job ys e in
-    same_lists (map (plan_in job.deal) ys) (map (first_plan job.deal) job.roles)
-    (length-map ys (plan_in job.deal) ∙ (m.0 ∙ sym (length-map job.roles (first_plan job.deal) ∙ role_each job seeds roles)))
-    (λ k d lt. at k d (subst (λ n. k < n) (length-map ys (plan_in job.deal)) lt) m.0)
+pub first_plans : (job : Job) → ConformingHaveSeeds job → HaveRoles job → AllFit job → map (plan_in job.deal) (team job) ≡ map (first_plan job.deal) job.roles
+first_plans job seeds roles fit =
+    same_lists (map (plan_in job.deal) (team job)) (map (first_plan job.deal) job.roles)
+    (length-map (team job) (plan_in job.deal) ∙ (team_length job ∙ sym (length-map job.roles (first_plan job.deal) ∙ role_each job seeds roles)))
+    (λ k d lt. at k d (subst (λ n. k < n) (length-map (team job) (plan_in job.deal)) lt))
   where
-    at : (k : ℕ) (d : Plan) → k < length ys → length ys ≡ job.deal.graph.n
-        → get_or (map (plan_in job.deal) ys) k d ≡ get_or (map (first_plan job.deal) job.roles) k d
-    at k d lt n =
-        let below = subst (λ z. k < z) n lt in
-        get_or-map (plan_in job.deal) ys k Manual d lt ∙ ((is_own job ys k seeds roles e below).plan
-        ∙ sym (get_or-map (first_plan job.deal) job.roles k kinds.Manual d (subst (λ z. k < z) (sym (role_each job seeds roles)) below)))
+    at : (k : ℕ) (d : Plan) → k < length (team job)
+        → get_or (map (plan_in job.deal) (team job)) k d ≡ get_or (map (first_plan job.deal) job.roles) k d
+    at k d lt =
+        let below = subst (λ z. k < z) (team_length job) lt in
+        get_or-map (plan_in job.deal) (team job) k Manual d lt ∙ (ap (plan_in job.deal) (team_at job k below) ∙ ((is_own job k seeds roles fit below).plan
+        ∙ sym (get_or-map (first_plan job.deal) job.roles k kinds.Manual d (subst (λ z. k < z) (sym (role_each job seeds roles)) below))))
 
-pub is_ready : (job : Job) (ys : List Actor) → IsAccepted job.deal → HaveSeeds job → HaveRoles job → actors_of job ≡ Ok ys → IsReadyCast (cast_of job)
-is_ready job ys accepted seeds roles e = record {
+pub is_ready : (job : Job) → IsAccepted job.deal → ConformingHaveSeeds job → HaveRoles job → AllFit job → IsReadyCast (cast_of job)
+is_ready job accepted seeds roles fit = record {
   accepted = accepted;
   one_each = seeds.conforming;
   roles = role_each job seeds roles;
   wallets = λ v lt t. let f =
-      (is_own job ys v seeds roles e lt).fits t in
+      (is_own job v seeds roles fit lt).fits t in
       subst (λ o. IsWallet job.deal v (wallet_with o v job.deal)) (sym f.1) (fitting_is_good job.deal v f.0 accepted lt f.2);
   scripts = roles.scripts;
 }
 
--- Where each conforming party has its wallet, there is an actor for each.
-
--- each conforming party has a seed that gives it what the deal states
-abbrev pub AreStaffed : Job → Type 0
-AreStaffed job =
-    (p : ℕ) → p < job.deal.graph.n → slice_index_or job.conforming p false ≡ true
-    → (seed : List ℕ) × (slice_index_or job.seeds p None ≡ Some seed) × (wrong_lock job.deal p seed ≡ None)
-
-any_with : (job : Job) (p : ℕ) (b : Bool) (o : Option (List ℕ)) → slice_index_or job.conforming p false ≡ b → slice_index_or job.seeds p None ≡ o
-    → AreStaffed job → p < job.deal.graph.n
-    → (x : Actor) × (cond b (with_seed job.deal (role_in job p) p o) (Ok (by_role job.deal (role_in job p))) ≡ Ok x)
-any_with job p false o eb eo staffed lt = (by_role job.deal (role_in job p), refl)
-any_with job p true o eb eo staffed lt =
-    let s = staffed p lt eb in
-    (Conforming (new_machine job.deal p s.0), ap (with_seed job.deal (role_in job p) p) (sym eo ∙ s.1) ∙ ap (by_lock job.deal p s.0) s.2)
-
-any_from : (job : Job) (k m : ℕ) (xs : List Actor) → AreStaffed job → k + m ≤ job.deal.graph.n
-    → (ys : List Actor) × (steps (actor_step job) xs (range_with_len k m) ≡ Ok ys)
-unfolding actor_step steps
-any_from job k zero xs staffed le = (xs, refl)
-any_from job k (suc m) xs staffed le =
-    let x = any_with job k (slice_index_or job.conforming k false) (slice_index_or job.seeds k None) refl refl staffed (omega arith) in
-    let r = any_from job (k + 1) m (xs ++ x.0 ∷ []) staffed (omega arith) in
-    (r.0, ap (λ (o : Result Actor WrongWallet). (o >>= λ y. Ok (xs ++ y ∷ [])) >>= λ zs. steps (actor_step job) zs (range_with_len (k + 1) m)) x.1 ∙ r.1)
-
-pub world_is_new : (job : Job) → AreStaffed job → world_of job ≡ Ok (new_world job)
-unfolding world_of
-world_is_new job staffed =
-    let r = any_from job 0 job.deal.graph.n [] staffed (omega arith) in
-    ap (λ (o : Result (List Actor) WrongWallet). o >>= λ xs. Ok (new_world job)) r.1
-
--- a job's world is new
-pub world_of_new : (job : Job) (w : WorldState) → world_of job ≡ Ok w → w ≡ new_world job
-unfolding world_of
-world_of_new job w e = go (actors_of job) e
+-- where each conforming party has a seed that gives it what the deal states, every wallet is right
+pub all_fit : (job : Job) → ((p : ℕ) → p < job.deal.graph.n → slice_index_or job.conforming p false ≡ true
+    → (seed : List ℕ) × (slice_index_or job.seeds p None ≡ Some seed) × (wrong_lock job.deal p seed ≡ None)) → AllFit job
+all_fit job have p lt = by (slice_index_or job.conforming p false) refl
   where
-    go : (o : Result (List Actor) WrongWallet) → (o >>= λ xs. Ok (new_world job)) ≡ Ok w → w ≡ new_world job
-    go (Ok xs) h = cc h
-    go (Err r) h = absurd (cc h)
+    by : (b : Bool) → slice_index_or job.conforming p false ≡ b → cond b (wrong_with job.deal p (slice_index_or job.seeds p None)) None ≡ None
+    by false c = refl
+    by true c = let h = have p lt c in ap (wrong_with job.deal p) h.1 ∙ h.2
 
 -- A job in which nobody follows a script or a strategy.
 

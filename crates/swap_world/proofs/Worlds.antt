@@ -29,10 +29,9 @@ use Rattle.swap_run.specs.Called.{step_on}
 use Rattle.swap_run.proofs.Good.{holds, first_in, steps_are_good, good_is_kept}
 use Rattle.swap_run.proofs.Swept.{steps_on_are_good}
 use Rattle.swap_run.proofs.Plans.{plan_view}
-use Rattle.party_machine.specs.Machine as machines
-use Rattle.party_machine.specs.Machine.{MachineState}
+use Rattle.party_machine.specs.Machine.{MachineState, next_due}
 use Rattle.swap_world.specs.Value.{WorldState, answers_of, cast_at, cast_for, Continues}
-use Rattle.swap_world.specs.Gone.{Gives, HasGone}
+use Rattle.swap_world.specs.Gone.{MayGive, HasGone}
 use Rattle.swap_world.specs.On.{IsCutOn}
 use Rattle.swap_world.specs.Stopped.{IsStopped}
 use Rattle.swap_world.specs.Inside.{IsActorOf, AreActorsOf}
@@ -167,7 +166,7 @@ module _ (c : Cast) (g : Answers) where
   kept_step sw s e ready can k = good_is_kept c (step_on sw (with_answers c g) s e) ready (good_step sw s e ready can k)
 
 -- the same of a world after a step
-pub kept_by : {A E : Type 0} (r : Result A E) (gives : Gives) (sw : ℕ → Bool) (old new : WorldState) (e : Event)
+pub kept_by : {A E : Type 0} (r : Result A E) (gives : MayGive) (sw : ℕ → Bool) (old new : WorldState) (e : Event)
     → OnOk r (HasGone gives (λ c s. step_on sw c s e) old new)
     → OnErr r (IsCutOn gives sw e old new) → IsReadyCast (cast_at old) → CanStep old.deal old.conforming old.seeds e → IsGood (cast_at old) old.state
     → IsKept (cast_at new) new.state.book
@@ -198,7 +197,7 @@ reached_kept_for : (c : Cast) (g : Answers) (s t : State) → IsReadyCast c → 
 reached_kept_for c g s t ready k r = kept_of_any c g t.book (reached_kept (with_answers c g) s t (ready_for c g ready) (good_for c g s k) r)
 
 -- the same of a world that went where f leads, or stopped on the way along steps that can be taken
-pub kept_to : {A E : Type 0} (r : Result A E) (gives : Gives) (f : Cast → State → State) (e : Cast → State → List Event) (old new : WorldState)
+pub kept_to : {A E : Type 0} (r : Result A E) (gives : MayGive) (f : Cast → State → State) (e : Cast → State → List Event) (old new : WorldState)
     → OnOk r (HasGone gives f old new) → OnErr r (IsStopped gives e old new)
     → ((g : Answers) → IsReached (cast_for old g) old.state (f (cast_for old g) old.state))
     → ((g : Answers) → All (CanStep old.deal old.conforming old.seeds) (e (cast_for old g) old.state))
@@ -249,6 +248,10 @@ module _ (d : Deal) (conforming : List Bool) (seeds : List (Option (List ℕ))) 
   pub knows_each : length n.known ≡ length d.graph.arcs
   knows_each = plan_is.one_each
 
+  -- what it knows is the beginning of each history
+  pub plan_begins : (a : ℕ) → Begins (history n.known a) (history (histories ls) a)
+  plan_begins a = plan_is.begins a
+
   pub shown : IsShown d seeds p n
   shown = record {
     view = plan_view d seeds p (histories ls) n (accepted_is_well_sized d ready.accepted) below good.legal plan_is;
@@ -266,7 +269,7 @@ module _ (d : Deal) (conforming : List Bool) (seeds : List (Option (List ℕ))) 
       subst (λ n. Begins (history n.known a) (history (histories ls) a)) (notes_at d conforming seeds roles qs ls xs p m i) (k.rest, k.whole)
 
   -- its next call fits
-  pub makable : (x : Action) → machines.next_of m ≡ Some x → IsMakable m.deal m.me x
+  pub makable : (x : Action) → next_due m ≡ Some x → IsMakable m.deal m.me x
   makable x e =
       let cast = c d conforming seeds roles qs ls xs in
       let before = s d conforming seeds roles qs ls xs in

@@ -1,10 +1,9 @@
 -- Who takes part in a job's run.
-use Rattle.std.specs.Prelude.{ℕ, Bool, true, false, List, [], slice_index_or, Option, Some, None, if◌then◌else◌}
+use Rattle.std.specs.Prelude.{ℕ, Bool, false, List, [], slice_index_or, Option, Some, None, if◌then◌else◌}
 use Rattle.swap_digraph.specs.declared.deal.Deal.{Deal}
 use Rattle.swap_job.specs.Crafted.{Seeds}
 use Rattle.swap_job.specs.declared.job.Job.{Job}
 use Rattle.swap_job.specs.declared.job.Role.{Role}
-use Rattle.swap_job.specs.declared.job.Role.TheVariants.{Conforming}
 use Rattle.swap_rules.specs.Due.{Wallet}
 use Rattle.party_machine.specs.Wallet.{wallet_of}
 use Rattle.swap_run.specs.Run.{Cast, conforms, role_of}
@@ -14,11 +13,6 @@ use Rattle.swap_run.specs.Asked.{is_strategy}
 abbrev pub wallet_with : Option (List ℕ) → ℕ → Deal → Wallet
 wallet_with (Some seed) v d = wallet_of seed v d
 wallet_with None v d = wallet_of [] v d
-
--- the role of a party that conforms
-abbrev pub is_conforming : Role → Bool
-is_conforming Conforming = true
-is_conforming _ = false
 
 -- the parties that conform sign with their seeds
 abbrev pub cast_with : Deal → List Bool → Seeds → List Role → Cast

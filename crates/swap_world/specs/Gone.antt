@@ -10,8 +10,8 @@ use Rattle.swap_run.specs.Asked.{Answers}
 use Rattle.swap_world.specs.Value.{WorldState, cast_at, cast_for, Continues}
 
 -- what the strategy of a name may answer, by deal, party, turn number and what the party knows
-abbrev pub Gives : Type 1
-Gives = List ℕ → Deal → ℕ → ℕ → Histories → Option (ℕ × Call) → Type 0
+abbrev pub MayGive : Type 1
+MayGive = List ℕ → Deal → ℕ → ℕ → Histories → Option (ℕ × Call) → Type 0
 
 -- A question, and what was answered to it.
 pub record Answered : Type 0 where
@@ -19,28 +19,28 @@ pub record Answered : Type 0 where
   pub answer : Option (ℕ × Call)
 
 -- the answer is one that its strategy may give
-abbrev pub MayCome : Gives → Deal → Answered → Type 0
-MayCome gives d x = gives x.question.strategy d x.question.party x.question.turn x.question.known x.answer
+abbrev pub MayBeGiven : MayGive → Deal → Answered → Type 0
+MayBeGiven gives d x = gives x.question.strategy d x.question.party x.question.turn x.question.known x.answer
 
 -- From old to new, strategies were asked some more, and each answer is one that may come.
-pub record HasAsked (gives : Gives) (old new : WorldState) : Type 0 where
+pub record HasAsked (gives : MayGive) (old new : WorldState) : Type 0 where
   pub more : List Answered
   pub questions : new.state.asked ≡ old.state.asked ++ map (λ x. x.question) more
   pub answers : new.answers ≡ old.answers ++ map (λ x. x.answer) more
-  pub may : All (MayCome gives old.deal) more
+  pub may : All (MayBeGiven gives old.deal) more
 
 -- f has led from old to new: strategies were asked some more, and whatever may be answered after that, the new state is that to which f leads.
-pub record HasGone (gives : Gives) (f : Cast → State → State) (old new : WorldState) : Type 0 where
+pub record HasGone (gives : MayGive) (f : Cast → State → State) (old new : WorldState) : Type 0 where
   pub asked : HasAsked gives old new
   pub same : new ≡ record old { answers = new.answers; state = new.state }
   pub state : (g : Answers) → Continues new g → new.state ≡ f (cast_for old g) old.state
 
 -- Memory ran out on the way to where f leads: the histories are those before it or after it.
-pub record IsCutBy (gives : Gives) (f : Cast → State → State) (old new : WorldState) : Type 0 where
+pub record IsCutBy (gives : MayGive) (f : Cast → State → State) (old new : WorldState) : Type 0 where
   pub cast : cast_at new ≡ cast_at old
   pub asked : HasAsked gives old new
   pub book : (new.state.book ≡ old.state.book) ⊎ ((g : Answers) → Continues new g → new.state.book ≡ (f (cast_for old g) old.state).book)
 
 -- memory ran out in an event: the histories are those before it or after it
-abbrev pub IsCut : Gives → Event → (old new : WorldState) → Type 0
+abbrev pub IsCut : MayGive → Event → (old new : WorldState) → Type 0
 IsCut gives event old new = IsCutBy gives (λ c s. step c s event) old new

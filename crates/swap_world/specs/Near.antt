@@ -2,8 +2,8 @@
 use Rattle.std.specs.Prelude.{ℕ, List, map}
 use Rattle.std.specs.List.{range_with_len}
 use Rattle.swap_digraph.specs.declared.deal.Deal.{Deal}
-use Rattle.swap_run.specs.Fair.{adjacent}
+use Rattle.swap_run.specs.Fair.{adjacent_arcs}
 
 -- those that touch each party, by party
 abbrev pub all_adjacent : Deal → List (List ℕ)
-all_adjacent d = map (adjacent d) (range_with_len 0 d.graph.n)
+all_adjacent d = map (adjacent_arcs d) (range_with_len 0 d.graph.n)

@@ -10,7 +10,7 @@ use Rattle.swap_job.specs.declared.event.Event.TheVariants.{Tick}
 use Rattle.swap_run.specs.Run.{Cast, State, step}
 use Rattle.swap_run.specs.Called.{Called, called, is_barred, step_on}
 use Rattle.swap_world.specs.Value.{WorldState}
-use Rattle.swap_world.specs.Gone.{Gives, IsCutBy}
+use Rattle.swap_world.specs.Gone.{MayGive, IsCutBy}
 use Rattle.swap_world.specs.declared.told.Told.{Told}
 use Rattle.swap_world.specs.declared.told.Told.TheVariants.{Nothing, Passed, Replied}
 
@@ -32,7 +32,7 @@ abbrev pub told_in : (ℕ → Bool) → Cast → State → Event → Told
 told_in swept c s e = told_of_call swept c s (called c s e)
 
 -- Memory ran out in an event: the histories are those before it or after it.
-abbrev pub IsCutOn : Gives → (swept : ℕ → Bool) → Event → (old new : WorldState) → Type 0
+abbrev pub IsCutOn : MayGive → (swept : ℕ → Bool) → Event → (old new : WorldState) → Type 0
 IsCutOn gives swept event old new = IsCutBy gives (λ c s. step_on swept c s event) old new
 
 -- the ledger of arc a ticks by k

@@ -5,10 +5,10 @@ use Rattle.swap_run.specs.Run.{Cast, State, conforms, run_from}
 use Rattle.swap_run.specs.Steps.{IsAlong}
 use Rattle.swap_run.specs.Asked.{Answers}
 use Rattle.swap_world.specs.Value.{WorldState, cast_at, cast_for, Continues}
-use Rattle.swap_world.specs.Gone.{Gives, HasAsked}
+use Rattle.swap_world.specs.Gone.{MayGive, HasAsked}
 
 -- The world has stopped on the way along these steps, whatever would have been answered: its histories are those after the first so many of them.
-pub record IsStopped (gives : Gives) (steps : Cast → State → List Event) (old new : WorldState) : Type 0 where
+pub record IsStopped (gives : MayGive) (steps : Cast → State → List Event) (old new : WorldState) : Type 0 where
   pub stopped : new.stopped ≡ true
   pub cast : cast_at new ≡ cast_at old
   pub asked : HasAsked gives old new

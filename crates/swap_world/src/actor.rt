@@ -3,9 +3,9 @@
 use party_machine::Machine;
 use swap_run::Planner;
 
-/// What acts for a party.
+/// What acts for a party, in a run or a race.
 #[derive(Drop)]
-pub(crate) enum Actor {
+pub enum Actor {
     /// A conforming party, by its machine.
     Conforming(Machine),
     /// A party that follows a script or a strategy.

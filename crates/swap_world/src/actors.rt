@@ -1,14 +1,12 @@
-//! The actors of a job.
+//! The actors of a job, and the first of its wallets that is wrong.
 
-ghost use Rattle.std.specs.Prelude.{◌≡◌, ◌<◌, IfOk, length};
-ghost use Rattle.swap_base.specs.Fault.{Gives};
+ghost use Rattle.std.specs.Prelude.{◌≡◌, ◌<◌, ◌++◌, ◌∷◌, [], None, IfOk, IfSome, OnOk, length};
 ghost use Rattle.swap_digraph.specs.Deal.{IsWellSized};
-ghost use Rattle.party_wallet.specs.Keys.{new_wallet};
 ghost use Rattle.party_wallet.specs.Wallets.{wallet_for, wallets_of};
-ghost use Rattle.swap_world.specs.Actors.{by_role, conforming_of, actor_of, actor_step, actors_of};
+ghost use Rattle.swap_world.specs.Actors.{acts_for, by_role, team, wrong_for, AllFit, IsFirstWrong};
 
 use crate::actor::Actor;
-use party_machine::{Machine, Misfit};
+use party_machine::Machine;
 use party_wallet::Wallet;
 use std::alloc::Global;
 use swap_base::{Fault, LockId, NoMemory, PartyId, TryCopy};
@@ -23,23 +21,35 @@ pub struct WrongWallet {
     pub lock: LockId,
 }
 
-/// Why a job gives no world: a wallet, or want of memory.
+/// Why a job gives no world and no race: a wallet, or want of memory.
 pub type WorldFault = Fault<WrongWallet>;
 
-/// A conforming party with that wallet, by its machine.
-fn conforming(alloc: Global, deal: &Deal, p: PartyId, wallet: Wallet) -> Result<Actor, WorldFault>
-    requires sized { IsWellSized deal.now }
-    requires party { p < deal.now.graph.n }
-    requires wallet { wallet ≡ new_wallet wallet.seed p deal.now }
-    ensures { Gives (λ x. x) result (conforming_of deal.now p wallet.seed) }
+/// The least lock for which a party's wallet lacks what the deal states, where it has one.
+fn wrong_in(job: &Job, p: PartyId, wallet: &Option<Wallet>) -> Option<LockId>
+    requires sized { IsWellSized job.now.deal }
+    requires party { p < job.now.deal.graph.n }
+    requires wallet { wallet.now ≡ wallet_for job.now.deal job.now.conforming job.now.seeds p }
+    ensures { result ≡ wrong_for job.now p }
 {
-    match Machine::new(alloc, deal, p, wallet) {
-        Ok(machine) => Ok(Actor::Conforming(machine)),
-        Err(Fault::Refused(Misfit::WrongWallet(lock))) => {
-            Err(Fault::Refused(WrongWallet { party: p, lock }))
-        }
-        Err(Fault::NoMemory) => Err(Fault::NoMemory),
+    match wallet {
+        Some(wallet) => wallet.wrong_lock(&job.deal),
+        None => None,
     }
+}
+
+/// The first conforming party whose seed isn't that of the deal, with the least lock for which it isn't.
+pub fn wrong_wallet(job: &Job, wallets: &[Option<Wallet>]) -> Option<WrongWallet>
+    requires sized { IsWellSized job.now.deal }
+    requires wallets { wallets.now ≡ wallets_of job.now.deal job.now.conforming job.now.seeds }
+    ensures first { IfSome result (IsFirstWrong job.now) }
+    ensures fit { result ≡ None → AllFit job.now }
+{
+    'parties: for p in 0..job.deal.graph.n() {
+        if let Some(lock) = wrong_in(job, p, &wallets[p as usize]) {
+            return Some(WrongWallet { party: p, lock });
+        }
+    }
+    None
 }
 
 /// What acts for a party without a wallet: its script, its strategy, or its own calls alone.
@@ -54,52 +64,52 @@ fn by_role(alloc: Global, deal: &Deal, role: &Role) -> Result<Actor, NoMemory>
 }
 
 /// What acts for a party of the job, by its wallet or else by its role.
-fn actor_of(
-    alloc: Global,
-    job: &Job,
-    p: PartyId,
-    wallet: Option<Wallet>,
-) -> Result<Actor, WorldFault>
+fn actor_of(alloc: Global, job: &Job, p: PartyId, wallet: Option<Wallet>) -> Result<Actor, NoMemory>
     requires sized { IsWellSized job.now.deal }
     requires party { p < job.now.deal.graph.n }
     requires roles { length job.now.roles ≡ job.now.deal.graph.n }
     requires wallet { wallet ≡ wallet_for job.now.deal job.now.conforming job.now.seeds p }
-    ensures { Gives (λ x. x) result (actor_of job.now p) }
+    requires fits { wrong_for job.now p ≡ None }
+    ensures { IfOk result (λ x. x ≡ acts_for job.now p) }
 {
     match wallet {
-        Some(wallet) => conforming(alloc, &job.deal, p, wallet),
-        None => Ok(by_role(alloc, &job.deal, &job.roles.as_slice()[p as usize])?),
+        Some(wallet) => {
+            let machine = Machine::fitting(alloc, &job.deal, p, wallet)?;
+            Ok(Actor::Conforming(machine))
+        }
+        None => by_role(alloc, &job.deal, &job.roles.as_slice()[p as usize]),
     }
 }
 
-#[tactic(auto, unfolding(crate::specs::Actors::actor_step))]
 fn add_actor(
     alloc: Global,
     job: &Job,
     actors: &mut Vec<Actor>,
     p: PartyId,
     wallet: Option<Wallet>,
-) -> Result<(), WorldFault>
+) -> Result<(), NoMemory>
     requires sized { IsWellSized job.now.deal }
     requires party { p < job.now.deal.graph.n }
     requires roles { length job.now.roles ≡ job.now.deal.graph.n }
     requires wallet { wallet ≡ wallet_for job.now.deal job.now.conforming job.now.seeds p }
-    ensures { Gives (λ _. actors.new.items) result (actor_step job.now actors.old.items p) }
+    requires fits { wrong_for job.now p ≡ None }
+    ensures { OnOk result (actors.new.items ≡ actors.old.items ++ acts_for job.now p ∷ []) }
 {
     actors.push(actor_of(alloc, job, p, wallet)?)?;
     Ok(())
 }
 
-/// What acts for each party by its wallet or its role, or the first conforming party whose seed isn't that of the deal.
-pub(crate) fn actors_of(
+/// What acts for each party, by its wallet or else by its role, where every wallet is right.
+pub fn actors_of(
     alloc: Global,
     job: &Job,
     mut wallets: Vec<Option<Wallet>>,
-) -> Result<Vec<Actor>, WorldFault>
+) -> Result<Vec<Actor>, NoMemory>
     requires sized { IsWellSized job.now.deal }
     requires roles { length job.now.roles ≡ job.now.deal.graph.n }
     requires wallets { wallets.items ≡ wallets_of job.now.deal job.now.conforming job.now.seeds }
-    ensures { Gives (λ v. v.items) result (actors_of job.now) }
+    requires fit { AllFit job.now }
+    ensures { IfOk result (λ v. v.items ≡ team job.now) }
 {
     let mut actors = Vec::new(alloc);
     'parties: for p in 0..job.deal.graph.n() {

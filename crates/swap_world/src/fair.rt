@@ -3,7 +3,7 @@
 ghost use Rattle.std.specs.Prelude.{◌≡◌, ◌<◌, ◌≤◌, ◌+◌, ℕ, IfOk, OnOk, OnErr, length, replicate, true, false};
 ghost use Rattle.swap_digraph.specs.Deal.{IsWellSized};
 ghost use Rattle.swap_run.specs.Run.{conforms};
-ghost use Rattle.swap_run.specs.Fair.{acts, adjacent, finish, has_ended, looks, most_acts, repeat, round, round_unless_ended};
+ghost use Rattle.swap_run.specs.Fair.{acts, adjacent_arcs, finish, has_ended, looks, most_acts, repeat, round, round_unless_ended};
 ghost use Rattle.swap_run.specs.Fair.{the_horizon, tick_low, ticks, turn, turns};
 ghost use Rattle.swap_run.specs.Steps.{finish_steps, look_steps, low_step, pass_steps, round_steps, rounds_steps, tick_steps, turn_steps, turns_steps};
 ghost use Rattle.swap_world.specs.Value.{cast_at};
@@ -28,7 +28,7 @@ fn look_around<K: Strategies>(
     near: &[ArcId],
 ) -> Result<(), NoMemory>
     requires party { p < world.old.deal.graph.n }
-    requires near { near.now ≡ adjacent world.old.deal p }
+    requires near { near.now ≡ adjacent_arcs world.old.deal p }
     requires kit { AreHeld (K.holds kit.now) world.old.roles }
     ensures ok { OnOk result (HasGone (K.gives kit.now) (λ c s. looks c p s) world.old world.new) }
     ensures err { OnErr result (IsStopped (K.gives kit.now) (λ c s. look_steps c.deal p) world.old world.new) }
@@ -71,7 +71,7 @@ fn turn<K: Strategies>(
     near: &[ArcId],
 ) -> Result<(), NoMemory>
     requires party { p < world.old.deal.graph.n }
-    requires near { near.now ≡ adjacent world.old.deal p }
+    requires near { near.now ≡ adjacent_arcs world.old.deal p }
     requires goes_on { world.old.stopped ≡ false }
     requires kit { AreHeld (K.holds kit.now) world.old.roles }
     ensures ok { OnOk result (HasGone (K.gives kit.now) (λ c s. turn c s p) world.old world.new) }

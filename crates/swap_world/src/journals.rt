@@ -9,7 +9,7 @@ ghost use Rattle.wallet_journal.specs.Held.{Leaves, read_bytes};
 ghost use Rattle.wallet_journal.specs.Layout.{recorded};
 ghost use Rattle.wallet_journal.specs.Own.{IsOwn};
 ghost use Rattle.wallet_journal.specs.Stopped.{bytes_left, kept_key, IsWrittenUp};
-ghost use Rattle.party_machine.specs.Machine.{next_of, resumed_machine, IsOfSame};
+ghost use Rattle.party_machine.specs.Machine.{next_due, resumed_machine, IsOfSame};
 ghost use Rattle.party_machine.specs.Recording.{signs_next, MayHave};
 ghost use Rattle.swap_run.specs.Run.{recorded_after, relearnt, signed_after};
 ghost use Rattle.swap_world.specs.Acting.{histories, IsSameOwner};
@@ -68,7 +68,7 @@ fn begin(machine: &mut Machine, journal: &mut Journal<MemoryDisk>, _k: u8) -> Re
     requires written { IsWrittenUp journal.old.disk journal.old.signed }
     ensures left { OnOk result ((image : ℕ) (key : Hashkey) → signs_next machine.old ≡ Some key
         → recorded (bytes_left image journal.new.disk.held.synced journal.new.disk.held.loose) key.lock ≡ kept_key key _k image) }
-    ensures calm { OnOk result (signs_next machine.old ≡ None → (x : Action) → next_of machine.old ≡ Some x
+    ensures calm { OnOk result (signs_next machine.old ≡ None → (x : Action) → next_due machine.old ≡ Some x
         → signed_after machine.old.signed x.call ≡ machine.old.signed) }
     ensures whole { (c : List ℕ) → Leaves journal.new.disk.held c
         → Leaves journal.old.disk.held c ⊎ MayHave (read_bytes journal.old.disk.held) (signs_next machine.old) c }
@@ -100,7 +100,7 @@ fn restart(
     requires places { length machine.old.signed ≡ length deal.now.leaders }
     requires journal { IsJournalOf deal.now machine.old.me machine.old.signed journal.old }
     ensures ok { OnOk result (machine.new
-        ≡ resumed_machine machine.old.deal machine.old.me machine.old.seed (recorded_after machine.old.signed (next_of machine.old) k image)) }
+        ≡ resumed_machine machine.old.deal machine.old.me machine.old.seed (recorded_after machine.old.signed (next_due machine.old) k image)) }
     ensures owner { IsSameOwner machine.old machine.new }
     ensures journal { OnOk result (IsJournalOf deal.now machine.old.me machine.new.signed journal.new) }
     ensures between { IsBetween machine.old.signed machine.new.signed journal.new.disk.held }
@@ -169,7 +169,7 @@ pub(crate) fn crash(
     requires journal { IsJournalOf deal.now machine.old.me machine.old.signed journal.old }
     ensures ok { OnOk result (machine.new ≡ record machine.old {
       known = relearnt deal.now machine.old.me (histories ledgers.now);
-      signed = recorded_after machine.old.signed (next_of machine.old) k image;
+      signed = recorded_after machine.old.signed (next_due machine.old) k image;
     }) }
     ensures owner { IsSameOwner machine.old machine.new }
     ensures journal { OnOk result (IsJournalOf deal.now machine.old.me machine.new.signed journal.new) }

@@ -15,7 +15,8 @@ mod told;
 mod turn;
 mod world;
 
-pub use actors::{WorldFault, WrongWallet};
+pub use actor::Actor;
+pub use actors::{WorldFault, WrongWallet, actors_of, wrong_wallet};
 pub use near::arcs_by_party;
 pub use told::Told;
 pub use world::World;

@@ -2,7 +2,7 @@
 
 ghost use Rattle.std.specs.Prelude.{◌≡◌, IfOk};
 ghost use Rattle.swap_digraph.specs.Deal.{IsWellSized};
-ghost use Rattle.swap_run.specs.Fair.{adjacent};
+ghost use Rattle.swap_run.specs.Fair.{adjacent_arcs};
 ghost use Rattle.swap_world.specs.Near.{all_adjacent};
 
 use ledger_core::is_adjacent;
@@ -13,7 +13,7 @@ use swap_digraph::Deal;
 /// The arcs that touch a party, ascending.
 fn arcs_near(alloc: Global, deal: &Deal, p: PartyId) -> Result<Listed<ArcId>, NoMemory>
     requires { IsWellSized deal.now }
-    ensures { IfOk result (λ l. l ≡ adjacent deal.now p) }
+    ensures { IfOk result (λ l. l ≡ adjacent_arcs deal.now p) }
 {
     let mut near = Vec::new(alloc);
     'arcs: for arc in 0..deal.graph.arcs().len() as ArcId {

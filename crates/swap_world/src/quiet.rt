@@ -3,7 +3,7 @@
 ghost use Rattle.std.specs.Prelude.{◌≡◌, ◌<◌, ◌≤◌, ◌+◌, ℕ, length, slice_index_or};
 ghost use Rattle.ledger_core.specs.History.{height};
 ghost use Rattle.ledger_core.specs.Book.{history};
-ghost use Rattle.swap_run.specs.Fair.{adjacent};
+ghost use Rattle.swap_run.specs.Fair.{adjacent_arcs};
 ghost use Rattle.swap_world.specs.Acting.{histories};
 ghost use Rattle.swap_world.specs.Near.{all_adjacent};
 ghost use Rattle.swap_world.specs.Quiet.{IsLow, AreLow, IsCalm, IsCalmActor, IsReadyActor, HasSeen, HaveArcs};
@@ -93,10 +93,10 @@ pub(crate) fn rounds(
     requires near { near.now ≡ all_adjacent deal.now }
     requires parties { length actors.now ≡ deal.now.graph.n }
     requires ready { (v : ℕ) (x : Actor) → v < length actors.now
-        → IsReadyActor (length ledgers.now) (histories ledgers.now) (adjacent deal.now v) (slice_index_or actors.now v x) }
+        → IsReadyActor (length ledgers.now) (histories ledgers.now) (adjacent_arcs deal.now v) (slice_index_or actors.now v x) }
     ensures few { result ≤ most }
     ensures calm { 0 < result → (v : ℕ) (x : Actor) → v < length actors.now
-        → IsCalmActor result (histories ledgers.now) (adjacent deal.now v) (slice_index_or actors.now v x) }
+        → IsCalmActor result (histories ledgers.now) (adjacent_arcs deal.now v) (slice_index_or actors.now v x) }
 {
     let mut rounds = most;
     'parties: for p in 0..actors.len() {

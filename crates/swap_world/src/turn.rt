@@ -9,7 +9,7 @@ ghost use Rattle.ledger_core.specs.Book.{history};
 ghost use Rattle.ledger_core.specs.Runs.{ticks_of, IsRightRun};
 ghost use Rattle.std.specs.Option.{ForSome};
 ghost use Rattle.swap_job.specs.Fitting.{IsFitting, is_near};
-ghost use Rattle.swap_job.specs.Resolved.{arc_of, opening_named, key_opened, resolved};
+ghost use Rattle.swap_job.specs.Resolved.{move_arc, opening_named, key_opened, resolved};
 ghost use Rattle.deviators.specs.Script.{next_call};
 ghost use Rattle.deviators.specs.View.{MayAnswer};
 ghost use Rattle.swap_run.specs.Shown.{IsShown};
@@ -18,7 +18,7 @@ ghost use Rattle.swap_rules.specs.Due.{Action};
 ghost use Rattle.swap_run.specs.Run.{after_tick, plan_up_to};
 ghost use Rattle.swap_run.specs.Called.{is_barred};
 ghost use Rattle.party_wallet.specs.Value.{signed_in};
-ghost use Rattle.party_machine.specs.Machine.{action_of, next_of, noted_for, IsOfSame};
+ghost use Rattle.party_machine.specs.Machine.{action_of, next_due, noted_for, IsOfSame};
 ghost use Rattle.wallet_journal.specs.Stopped.{ShowsAll};
 ghost use Rattle.swap_world.specs.Journals.{IsBetween, IsJournalOf};
 ghost use Rattle.swap_world.specs.Acting.{IsMakable, IsSameOwner, histories, landed, book_after, machine_after, told_of, seen, taken, told_to, turned};
@@ -147,7 +147,7 @@ pub(crate) fn make(
     requires sized { IsWellSized deal.now }
     requires ledgers { AreLedgersOf deal.now ledgers.old.items }
     requires fits { IsFitting deal.now seeds.now mv.now }
-    requires near { IsTrue (is_near deal.now sender (arc_of mv.now)) }
+    requires near { IsTrue (is_near deal.now sender (move_arc mv.now)) }
     requires room { HaveRoom ledgers.old.items }
     ensures ok { OnOk result (histories ledgers.new.items
         ≡ taken (swept_in swept.now) deal.now sender (resolved deal.now seeds.now (histories ledgers.old.items) mv.now) (histories ledgers.old.items)) }
@@ -170,7 +170,7 @@ pub(crate) fn make(
 }
 
 /// The last n ticks of a run.
-#[tactic(auto, using(ledger_core::proofs::Ticks::last_ticks, ledger_core::proofs::Ticks::below_last))]
+#[tactic(auto, using(ledger_core::proofs::Ticks::last_right))]
 fn last_of(run: Run, n: u32) -> Run
     requires within { n ≤ run.count }
     requires right { IsRightRun run }
@@ -179,10 +179,9 @@ fn last_of(run: Run, n: u32) -> Run
     ensures count { result.count ≡ n }
 {
     Run {
-        above: run.last - run.by * n,
+        above: run.above + run.by * (run.count - n),
         by: run.by,
         count: n,
-        last: run.last,
     }
 }
 
@@ -311,7 +310,7 @@ fn next(
     journal: &mut Journal<MemoryDisk>,
 ) -> Result<Option<(ArcId, Call)>, NoMemory>
     requires journal { IsJournalOf machine.old.deal machine.old.me machine.old.signed journal.old }
-    ensures due { IfOk result (λ o. option_map action_of o ≡ next_of machine.old) }
+    ensures due { IfOk result (λ o. option_map action_of o ≡ next_due machine.old) }
     ensures signed { IfOk result (λ o. signed_in machine.new.signed ≡ noted_for (signed_in machine.old.signed) o) }
     ensures same { IsOfSame machine.old machine.new }
     ensures journal { OnOk result (IsJournalOf machine.old.deal machine.old.me machine.new.signed journal.new) }
@@ -336,23 +335,23 @@ pub(crate) fn act(
 ) -> Result<Told, NoMemory>
     requires journal { IsJournalOf machine.old.deal machine.old.me machine.old.signed journal.old }
     requires ledgers { AreLedgersOf machine.old.deal ledgers.old.items }
-    requires makable { (x : Action) → next_of machine.old ≡ Some x → IsMakable machine.old.deal machine.old.me x }
+    requires makable { (x : Action) → next_due machine.old ≡ Some x → IsMakable machine.old.deal machine.old.me x }
     requires begins { (a : ℕ) → Begins (history machine.old.known a) (history (histories ledgers.old.items) a) }
     requires room { HaveRoom ledgers.old.items }
     ensures ok { OnOk result (histories ledgers.new.items
-        ≡ book_after (swept_in swept.now) machine.old (next_of machine.old) (histories ledgers.old.items)) }
-    ensures knows { OnOk result (machine.new ≡ machine_after (swept_in swept.now) machine.old (next_of machine.old) (histories ledgers.old.items)) }
-    ensures told { IfOk result (λ r. r ≡ told_of (swept_in swept.now) machine.old (next_of machine.old) (histories ledgers.old.items)) }
+        ≡ book_after (swept_in swept.now) machine.old (next_due machine.old) (histories ledgers.old.items)) }
+    ensures knows { OnOk result (machine.new ≡ machine_after (swept_in swept.now) machine.old (next_due machine.old) (histories ledgers.old.items)) }
+    ensures told { IfOk result (λ r. r ≡ told_of (swept_in swept.now) machine.old (next_due machine.old) (histories ledgers.old.items)) }
     ensures err { OnErr result ((histories ledgers.new.items ≡ histories ledgers.old.items)
-        ⊎ (histories ledgers.new.items ≡ book_after (swept_in swept.now) machine.old (next_of machine.old) (histories ledgers.old.items))) }
+        ⊎ (histories ledgers.new.items ≡ book_after (swept_in swept.now) machine.old (next_due machine.old) (histories ledgers.old.items))) }
     ensures ledgers { AreLedgersOf machine.old.deal ledgers.new.items }
     ensures room { OnOk result (HaveRoom ledgers.new.items) }
     ensures owner { IsSameOwner machine.old machine.new }
     ensures journal { OnOk result (IsJournalOf machine.old.deal machine.old.me machine.new.signed journal.new) }
     ensures between { OnErr result (IsBetween machine.old.signed machine.new.signed journal.new.disk.held) }
     ensures made { OnErr result ((histories ledgers.new.items ≡ histories ledgers.old.items)
-        ⊎ ((histories ledgers.new.items ≡ book_after (swept_in swept.now) machine.old (next_of machine.old) (histories ledgers.old.items))
-        × (machine.new.signed ≡ (machine_after (swept_in swept.now) machine.old (next_of machine.old) (histories ledgers.old.items)).signed)
+        ⊎ ((histories ledgers.new.items ≡ book_after (swept_in swept.now) machine.old (next_due machine.old) (histories ledgers.old.items))
+        × (machine.new.signed ≡ (machine_after (swept_in swept.now) machine.old (next_due machine.old) (histories ledgers.old.items)).signed)
         × ShowsAll machine.new.signed journal.new.disk.held)) }
 {
     match next(machine, journal)? {
@@ -365,15 +364,15 @@ pub(crate) fn act(
     }
 }
 
-/// Lets a party that follows a script or a strategy know a ledger up to its end.
+/// Lets a party that follows a script or a strategy know a ledger up to its end, by a copy of what is fresh.
 pub(crate) fn watch(planner: &mut Planner, ledger: &Ledger, arc: ArcId) -> Result<(), NoMemory>
     requires arc { arc < length planner.old.known }
+    requires begins { Begins (history planner.old.known arc) ledger.now.history }
     ensures ok { OnOk result (planner.new ≡ plan_up_to planner.old arc ledger.now.history) }
     ensures err { OnErr result (planner.new ≡ planner.old) }
 {
-    let history = ledger.copy_from(0)?;
-    planner.see(arc, history);
-    Ok(())
+    let fresh = ledger.copy_from(planner.count(arc))?;
+    planner.learn(arc, fresh)
 }
 
 /// Makes a call of a party that follows a script or a strategy, which then knows the ledger up to its end.
@@ -386,6 +385,7 @@ fn make_planned(
     swept: bool,
 ) -> Result<Told, NoMemory>
     requires arc { arc < length planner.old.known }
+    requires begins { Begins (history planner.old.known arc) ledger.old.history }
     requires of_the_two { IsTrue ((sender == party ledger.old.deal ledger.old.arc) || (sender == counterparty ledger.old.deal ledger.old.arc)) }
     requires fits { IsTrue (fit ledger.old.deal ledger.old.arc made) }
     requires legal { IsLegal ledger.old.deal ledger.old.arc ledger.old.history }
@@ -415,6 +415,7 @@ pub(crate) fn take(
 ) -> Result<Told, NoMemory>
     requires ledgers { AreLedgersOf deal.now ledgers.old.items }
     requires known { length planner.old.known ≡ length deal.now.graph.arcs }
+    requires begins { (a : ℕ) → Begins (history planner.old.known a) (history (histories ledgers.old.items) a) }
     requires may { MayAnswer deal.now sender made }
     requires room { HaveRoom ledgers.old.items }
     ensures leaves { histories ledgers.new.items ≡ taken (swept_in swept.now) deal.now sender made (histories ledgers.old.items) }
@@ -445,8 +446,9 @@ pub(crate) fn make_by_hand(
     requires sized { IsWellSized deal.now }
     requires ledgers { AreLedgersOf deal.now ledgers.old.items }
     requires known { length planner.old.known ≡ length deal.now.graph.arcs }
+    requires begins { (a : ℕ) → Begins (history planner.old.known a) (history (histories ledgers.old.items) a) }
     requires fits { IsFitting deal.now seeds.now mv.now }
-    requires near { IsTrue (is_near deal.now sender (arc_of mv.now)) }
+    requires near { IsTrue (is_near deal.now sender (move_arc mv.now)) }
     requires room { HaveRoom ledgers.old.items }
     ensures ok { OnOk result (histories ledgers.new.items
         ≡ taken (swept_in swept.now) deal.now sender (resolved deal.now seeds.now (histories ledgers.old.items) mv.now) (histories ledgers.old.items)) }
@@ -476,6 +478,7 @@ pub(crate) fn follow(
 ) -> Result<Told, NoMemory>
     requires ledgers { AreLedgersOf deal.now ledgers.old.items }
     requires known { length planner.old.known ≡ length deal.now.graph.arcs }
+    requires begins { (a : ℕ) → Begins (history planner.old.known a) (history (histories ledgers.old.items) a) }
     requires shown { IsShown deal.now seeds.now me planner.old }
     requires room { HaveRoom ledgers.old.items }
     ensures ok { OnOk result (histories ledgers.new.items

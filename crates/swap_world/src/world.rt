@@ -1,12 +1,11 @@
 //! A world.
 
-ghost use Rattle.std.specs.Prelude.{◌≡◌, ◌<◌, ◌≤◌, ◌⊎◌, ◌&&◌, IsTrue, OnOk, OnErr, IfOk, IsErr, false, true, is_some, is_none};
+ghost use Rattle.std.specs.Prelude.{◌≡◌, ◌<◌, ◌≤◌, ◌⊎◌, ◌&&◌, IsTrue, OnOk, OnErr, IfOk, IfErr, IsErr, false, true, is_some, is_none};
 ghost use Rattle.std.specs.Prelude.{ℕ, List, Some, length, map, All};
 ghost use Rattle.std.specs.List.Sorted.{IsStrictlyIncreasing};
 ghost use Rattle.wallet_journal.specs.Held.{Leaves, read_bytes};
 ghost use Rattle.wallet_journal.specs.Layout.{recorded};
 ghost use Rattle.party_wallet.specs.Value.{signed_in};
-ghost use Rattle.swap_base.specs.Fault.{Gives};
 ghost use Rattle.swap_digraph.specs.Deal.{IsWellSized};
 ghost use Rattle.swap_base.specs.Lists.{IsMoment};
 ghost use Rattle.hashkey_path.specs.declared.hashkey.Hashkey.{Hashkey};
@@ -34,20 +33,20 @@ ghost use Rattle.swap_world.specs.Near.{all_adjacent};
 ghost use Rattle.swap_world.specs.Quiet.{IsStill};
 ghost use Rattle.swap_world.specs.Gone.{HasGone, IsCut};
 ghost use Rattle.swap_world.specs.On.{swept_in, told_in, ticked_on, IsCutOn};
-ghost use Rattle.swap_world.specs.Actors.{world_of, AreHeld, HaveRoles, HaveSeeds};
+ghost use Rattle.swap_world.specs.Actors.{AllFit, AreHeld, HaveRoles, ConformingHaveSeeds, IsFirstOf};
 ghost use Rattle.swap_world.specs.Inside.{AreNewLedgers};
 
 use crate::actor::Actor;
-use crate::actors::{WorldFault, actors_of};
+use crate::actors::{WorldFault, actors_of, wrong_wallet};
 use crate::journals::journals_of;
 use crate::told::Told;
 use crate::{chain, fair, journals, many, quiet, turn};
 use deviators::Strategies;
-use ledger_core::{Accounts, Book, Call, EntryList, Ledger};
+use ledger_core::{Accounts, Book, Call, EntryList, Ledger, share_deal};
 use party_wallet::Wallet;
 use std::alloc::Global;
 use std::marker::Model;
-use swap_base::{ArcId, Digest, Listed, NoMemory, PartyId, Past, TryCopy};
+use swap_base::{ArcId, Digest, Fault, Listed, NoMemory, PartyId, Past, TryCopy};
 use swap_digraph::{Deal, copy_deal};
 use swap_job::{Event, Job, Move, Role};
 use swap_run::Planner;
@@ -90,9 +89,10 @@ fn ledgers_of(alloc: Global, deal: &Deal) -> Result<Vec<Ledger>, NoMemory>
     requires { IsWellSized deal.now }
     ensures { IfOk result (λ v. AreNewLedgers deal.now (length deal.now.graph.arcs) v.items) }
 {
+    let held = share_deal(alloc, deal)?;
     let mut ledgers = Vec::new(alloc);
     for arc in 0..deal.graph.arcs().len() as ArcId {
-        let mut ledger = Ledger::new(alloc, deal, arc)?;
+        let mut ledger = Ledger::new(alloc, &held, arc)?;
         ledger.reserve()?;
         ledgers.push(ledger)?;
     }
@@ -120,15 +120,18 @@ fn copies_of(alloc: Global, ledgers: &[Ledger]) -> Result<Listed<EntryList>, NoM
 }
 
 impl World {
-    /// A world before any event, or the first conforming party whose seed isn't that of the deal. Each conforming party signs with its wallet, and
-    /// each script stands at its first move.
-    pub fn new(alloc: Global, job: &Job, wallets: Vec<Option<Wallet>>) -> Result<World, WorldFault>
+    /// A world before any event, where every wallet is right. Each conforming party signs with its wallet, and each script stands at its first move.
+    pub fn fitting(
+        alloc: Global,
+        job: &Job,
+        wallets: Vec<Option<Wallet>>,
+    ) -> Result<World, NoMemory>
         requires accepted { IsAccepted job.now.deal }
-        requires seeds { HaveSeeds job.now }
+        requires seeds { ConformingHaveSeeds job.now }
         requires roles { HaveRoles job.now }
         requires wallets { wallets.items ≡ wallets_of job.now.deal job.now.conforming job.now.seeds }
-        ensures exact { Gives (λ w. w) result (world_of job.now) }
-        ensures new { IfOk result (λ w. w ≡ new_world job.now) }
+        requires fit { AllFit job.now }
+        ensures { IfOk result (λ w. w ≡ new_world job.now) }
     {
         let actors = actors_of(alloc, job, wallets)?;
         Ok(World {
@@ -144,6 +147,22 @@ impl World {
             answers: Past::new(),
             stopped: false,
         })
+    }
+
+    /// The same, or the first conforming party whose seed isn't that of the deal.
+    pub fn new(alloc: Global, job: &Job, wallets: Vec<Option<Wallet>>) -> Result<World, WorldFault>
+        requires accepted { IsAccepted job.now.deal }
+        requires seeds { ConformingHaveSeeds job.now }
+        requires roles { HaveRoles job.now }
+        requires wallets { wallets.items ≡ wallets_of job.now.deal job.now.conforming job.now.seeds }
+        ensures new { IfOk result (λ w. w ≡ new_world job.now) }
+        ensures fit { OnOk result (AllFit job.now) }
+        ensures wrong { IfErr result (IsFirstOf job.now) }
+    {
+        match wrong_wallet(job, &wallets) {
+            Some(wrong) => Err(Fault::Refused(wrong)),
+            None => Ok(World::fitting(alloc, job, wallets)?),
+        }
     }
 
     fn tick(&mut self, arc: ArcId, k: u32) -> Result<(), NoMemory>

@@ -8,7 +8,7 @@ ghost use Rattle.offer_header.specs.Limits.{HoldsEach};
 ghost use Rattle.offer_header.specs.Names.{has_strategy};
 ghost use Rattle.party_wallet.specs.Wallets.{wallets_of};
 ghost use Rattle.swap_digraph.specs.Deal.{IsWellSized};
-ghost use Rattle.swap_offer.specs.Job.{IsWhole};
+ghost use Rattle.swap_offer.specs.Job.{IsWholeJob};
 ghost use Rattle.swap_offer.specs.Wallets.{HaveScripts, HaveWallets};
 ghost use Rattle.swap_rules.specs.Accepted.{IsAccepted};
 
@@ -96,7 +96,7 @@ fn played(
     wallets: Vec<Option<Wallet>>,
     events: &[Event],
 ) -> Result<Book, Fail>
-    requires whole { IsWhole job.now }
+    requires whole { IsWholeJob job.now }
     requires seeds { needs_seeds job.now.purpose ≡ true }
     requires accepted { IsAccepted job.now.deal }
     requires wallets { HaveWallets job.now }
@@ -119,7 +119,7 @@ fn tells(
     kit: &Kit,
     wallets: Vec<Option<Wallet>>,
 ) -> Result<(), Fail>
-    requires whole { IsWhole job.now }
+    requires whole { IsWholeJob job.now }
     requires seeds { needs_seeds job.now.purpose ≡ true }
     requires accepted { IsAccepted job.now.deal }
     requires wallets { HaveWallets job.now }

@@ -4,7 +4,7 @@ use crate::lines::lines_told;
 use crate::whole::{
     broken_read, full_writer, grown, reader_read, vec_read, vec_written, writer_written,
 };
-use crate::words::command_of;
+use crate::words::task_of;
 use std::alloc::Global;
 use std::test::Fail;
 
@@ -33,7 +33,7 @@ fn told(alloc: Global, asked: &str) -> Result<String, Fail> {
 
 fn told_about(alloc: Global, about: &str, asked: &str) -> Result<String, Fail> {
     if about == "words" {
-        command_of(alloc, asked)
+        task_of(alloc, asked)
     } else {
         told(alloc, asked)
     }

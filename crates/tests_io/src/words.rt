@@ -1,7 +1,7 @@
-//! The commands that the words after the program's name ask for.
+//! The tasks that the words after the program's name ask for.
 
 use crate::rows::answers;
-use program_words::read_command;
+use program_words::read_task;
 use std::alloc::Global;
 use std::test::Fail;
 
@@ -19,24 +19,24 @@ fn words_in(alloc: Global, text: &str) -> Result<Vec<String>, Fail> {
     Ok(words)
 }
 
-/// The command that the words ask for, or that they are wrong.
+/// The task that the words ask for, or that they are wrong.
 fn told(alloc: Global, words: &[String]) -> Result<String, Fail> {
-    match read_command(alloc, words)? {
-        Some(command) => Ok(format!(in alloc; "{command:?}")?),
+    match read_task(alloc, words)? {
+        Some(task) => Ok(format!(in alloc; "{task:?}")?),
         None => Ok(String::from_str(alloc, "wrong")?),
     }
 }
 
-/// The command that the words of a text ask for.
-pub(crate) fn command_of(alloc: Global, text: &str) -> Result<String, Fail> {
+/// The task that the words of a text ask for.
+pub(crate) fn task_of(alloc: Global, text: &str) -> Result<String, Fail> {
     let words = words_in(alloc, text)?;
     told(alloc, &words)
 }
 
-const COMMANDS: &str = "\
-check => Check
-run => Run { transcript: false }
-run --transcript => Run { transcript: true }
+const TASKS: &str = "\
+check => Input(Check)
+run => Input(Run { transcript: false })
+run --transcript => Input(Run { transcript: true })
 race => Race { ticks: 1, transcript: false }
 race --transcript => Race { ticks: 1, transcript: true }
 race --ticks 7 => Race { ticks: 7, transcript: false }
@@ -45,15 +45,15 @@ race --ticks 7 --transcript => Race { ticks: 7, transcript: true }
 race --transcript --ticks 7 => Race { ticks: 7, transcript: true }
 race --ticks=7 --transcript => Race { ticks: 7, transcript: true }
 race --transcript --ticks=7 => Race { ticks: 7, transcript: true }
-audit => Audit
-make => Make
-clear => Clear
-many => Many
-gen --seed 1 --parties 2 --events 3 => Gen { seed: 1, parties: 2, events: 3, summary: false }
-gen --seed=1 --parties=2 --events=3 => Gen { seed: 1, parties: 2, events: 3, summary: false }
-gen --summary --events 3 --parties=2 --seed 1 => Gen { seed: 1, parties: 2, events: 3, summary: true }
-gen --events=3 --summary --seed=1 --parties 2 => Gen { seed: 1, parties: 2, events: 3, summary: true }
-gen --parties 2 --seed 1 --summary --events 3 => Gen { seed: 1, parties: 2, events: 3, summary: true }";
+audit => Input(Audit)
+make => Input(Make)
+clear => Input(Clear)
+many => Input(Many)
+gen --seed 1 --parties 2 --events 3 => Number(Request { seed: 1, parties: 2, events: 3, summary: false })
+gen --seed=1 --parties=2 --events=3 => Number(Request { seed: 1, parties: 2, events: 3, summary: false })
+gen --summary --events 3 --parties=2 --seed 1 => Number(Request { seed: 1, parties: 2, events: 3, summary: true })
+gen --events=3 --summary --seed=1 --parties 2 => Number(Request { seed: 1, parties: 2, events: 3, summary: true })
+gen --parties 2 --seed 1 --summary --events 3 => Number(Request { seed: 1, parties: 2, events: 3, summary: true })";
 
 const NUMBERS: &str = "\
 race --ticks 0 => wrong
@@ -78,15 +78,15 @@ race --ticks  => wrong
 race --ticks =7 => wrong
 race --ticks==7 => wrong
 race --ticks=7=7 => wrong
-gen --seed 0 --parties 24 --events 200000 => Gen { seed: 0, parties: 24, events: 200000, summary: false }
-gen --seed 4294967295 --parties 2 --events 0 => Gen { seed: 4294967295, parties: 2, events: 0, summary: false }
+gen --seed 0 --parties 24 --events 200000 => Number(Request { seed: 0, parties: 24, events: 200000, summary: false })
+gen --seed 4294967295 --parties 2 --events 0 => Number(Request { seed: 4294967295, parties: 2, events: 0, summary: false })
 gen --seed 4294967296 --parties 2 --events 0 => wrong
 gen --seed 9999999999 --parties 2 --events 0 => wrong
 gen --seed 04294967295 --parties 2 --events 0 => wrong
 gen --seed 0 --parties 1 --events 0 => wrong
 gen --seed 0 --parties 25 --events 0 => wrong
 gen --seed 0 --parties 258 --events 0 => wrong
-gen --seed 0 --parties 0000000002 --events 0 => Gen { seed: 0, parties: 2, events: 0, summary: false }
+gen --seed 0 --parties 0000000002 --events 0 => Number(Request { seed: 0, parties: 2, events: 0, summary: false })
 gen --seed 0 --parties 2 --events 200001 => wrong";
 
 const WRONG: &str = "\
@@ -155,12 +155,12 @@ gen --seed 1 --parties 2 --events 3 --transcript => wrong
 gen --seed 1 --parties 2 --events 3 --ticks 1 => wrong";
 
 #[test]
-fn words_ask_for_commands(rt: HostRuntime) -> Result<(), Fail> {
+fn words_ask_for_tasks(rt: HostRuntime) -> Result<(), Fail> {
     let alloc = rt.alloc();
-    if read_command(alloc, &[])?.is_some() {
-        return Err("no words are a command".into());
+    if read_task(alloc, &[])?.is_some() {
+        return Err("no words are a task".into());
     }
-    answers(alloc, "words", COMMANDS)?;
+    answers(alloc, "words", TASKS)?;
     answers(alloc, "words", NUMBERS)?;
     answers(alloc, "words", WRONG)
 }

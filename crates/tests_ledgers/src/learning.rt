@@ -7,7 +7,7 @@ ghost use Rattle.tests_ledgers.specs.UpTo.{IsLonger, IsUpTo};
 
 use escrow_core::Reply;
 use history_index::{Index, Steps};
-use ledger_core::{Facts, Ledger};
+use ledger_core::{Facts, Ledger, share_deal};
 use party_machine::Machine;
 use party_wallet::Wallet;
 use std::alloc::Global;
@@ -129,7 +129,8 @@ fn learn_of<L: Counted>(
     requires none { steps.old ≡ 0 }
     ensures { OnOk result (steps.new ≡ 10000) }
 {
-    let mut ledger = Ledger::new(alloc, deal, 0)?;
+    let held = share_deal(alloc, deal)?;
+    let mut ledger = Ledger::new(alloc, &held, 0)?;
     learn_anew(rt, alloc, deal, piece, &mut ledger, steps)
 }
 

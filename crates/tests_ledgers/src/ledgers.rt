@@ -5,7 +5,7 @@ ghost use Rattle.swap_digraph.specs.Deal.{IsWellSized};
 
 use escrow_core::{Reply, terms_of};
 use hashkey_path::Hashkey;
-use ledger_core::{Accounts, Call, Ledger, accounts_of, fits, is_adjacent};
+use ledger_core::{Accounts, Call, Ledger, accounts_of, fits, is_adjacent, share_deal};
 use std::alloc::Global;
 use std::process::Abort;
 use std::test::Fail;
@@ -177,7 +177,7 @@ fn ledger_of(alloc: Global, deal: &Deal) -> Result<Ledger, Fail>
     requires sized { IsWellSized deal.now }
     requires arc { 0 < length deal.now.graph.arcs }
 {
-    Ok(Ledger::new(alloc, deal, 0)?)
+    Ok(Ledger::new(alloc, &share_deal(alloc, deal)?, 0)?)
 }
 
 /// The ledger of the small deal's first arc, before any entry.

@@ -11,7 +11,7 @@ use Rattle.swap_run.specs.Run.{Cast}
 use Rattle.swap_run.specs.CalledLaws.{is_no_tick}
 use Rattle.swap_world.specs.Actors.{AreHeld}
 use Rattle.swap_world.specs.Value.{WorldState, cast_at, new_world}
-use Rattle.swap_world.specs.Gone.{Gives}
+use Rattle.swap_world.specs.Gone.{MayGive}
 use Rattle.swap_many.specs.declared.many_event.ManyEvent.TheVariants.{In, Sweep}
 use Rattle.swap_many.specs.declared.place.Place.{Place}
 use Rattle.swap_many.specs.declared.overdrawn.Overdrawn.{Overdrawn}
@@ -118,7 +118,7 @@ begun_as holds chains jobs more ws then places there a b c begun =
     (subst (λ l. AreBegun holds chains jobs l there) (sym b) (subst (λ l. AreBegun holds chains jobs ws l) (sym c) begun))
 
 -- What has gone on is still of the same jobs.
-pub still : (gives : Gives) (f : Setup → Kept → Kept) (holds : List ℕ → Bool) (chains : List (List ℕ)) (jobs : List Job) (old new : ManyState)
+pub still : (gives : MayGive) (f : Setup → Kept → Kept) (holds : List ℕ → Bool) (chains : List (List ℕ)) (jobs : List Job) (old new : ManyState)
     → HasManyGone gives f old new → IsOf holds chains jobs old → IsOf holds chains jobs new
 still gives f holds chains jobs old new gone o = record {
   run = o.run;

@@ -2,7 +2,7 @@
 use Rattle.std.specs.Prelude.{◌≡◌, ℕ, ◌<◌, ◌≤◌, ◌^◌, Bool, true, List, length, map, slice_index_or, sum_by, All}
 use Rattle.swap_job.specs.declared.job.Job.{Job}
 use Rattle.offer_events.specs.Event.{needs_seeds}
-use Rattle.swap_offer.specs.Job.{IsWhole}
+use Rattle.swap_offer.specs.Job.{IsWholeJob}
 use Rattle.swap_world.specs.Cast.{cast_of}
 use Rattle.swap_world.specs.Actors.{AreHeld}
 use Rattle.swap_world.specs.Value.{WorldState, new_world}
@@ -20,7 +20,7 @@ pub record IsChain (units : List ℕ) : Type 0 where
 
 -- The job is one that events are read for.
 pub record IsRun (job : Job) : Type 0 where
-  pub whole : IsWhole job
+  pub whole : IsWholeJob job
   pub seeds : needs_seeds job.purpose ≡ true
 
 -- each strategy that a party of the job follows is held

@@ -3,7 +3,7 @@
 ghost use Rattle.std.specs.Prelude.{◌≡◌, ◌≤◌, ◌<◌, ◌+◌, ◌++◌, ◌∷◌, ◌^◌, [], true, IfOk, OnOk, All, length};
 ghost use Rattle.offer_header.specs.Names.{has_strategy};
 ghost use Rattle.party_wallet.specs.Wallets.{wallets_of};
-ghost use Rattle.swap_offer.specs.Job.{IsWhole};
+ghost use Rattle.swap_offer.specs.Job.{IsWholeJob};
 ghost use Rattle.swap_offer.specs.Wallets.{HaveScripts, HaveWallets};
 ghost use Rattle.swap_rules.specs.Accepted.{IsAccepted};
 ghost use Rattle.swap_world.specs.Value.{new_world};
@@ -123,7 +123,7 @@ fn places_of(
 
 /// The world of a job before any event.
 fn world_of(alloc: Global, job: &Job, wallets: Vec<Option<Wallet>>) -> Result<World, Fail>
-    requires whole { IsWhole job.now }
+    requires whole { IsWholeJob job.now }
     requires accepted { IsAccepted job.now.deal }
     requires wallets { HaveWallets job.now }
     requires scripts { HaveScripts job.now }

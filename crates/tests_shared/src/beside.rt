@@ -5,7 +5,7 @@ ghost use Rattle.turn_lock.specs.Turns.{IsIdle};
 ghost use Rattle.swap_digraph.specs.Deal.{IsWellSized};
 
 use crate::passes::shared_ledger;
-use ledger_core::{Call, Entry, Ledger};
+use ledger_core::{Call, Entry, Ledger, share_deal};
 use ledger_shared::{Pass, SharedLedger};
 use std::alloc::Global;
 use std::process::Abort;
@@ -48,7 +48,7 @@ fn locked<R: Wait>(
     ensures lock { IfOk result (λ l. l.1.table_id ≡ l.0.lock) }
     ensures idle { IfOk result (λ l. IsIdle l.1.me) }
 {
-    let ledger = Ledger::new(alloc, deal, 0)?;
+    let ledger = Ledger::new(alloc, &share_deal(alloc, deal)?, 0)?;
     match TurnLock::new(rt, alloc, Held { ledger }, 1) {
         Ok((lock, seats)) => Ok((lock, only(seats))),
         Err(_) => Err("no memory".into()),

@@ -6,7 +6,7 @@ ghost use Rattle.ledger_shared.specs.Value.{IsFirstAt, IsSecondAt};
 ghost use Rattle.tests_shared.specs.Stays.{Stays};
 
 use escrow_core::{Reply, terms_of};
-use ledger_core::{Call, Entry, Ledger, Sender, What, fits};
+use ledger_core::{Call, Entry, Ledger, Sender, What, fits, share_deal};
 use ledger_shared::{ClockPass, Pass, SharedLedger, share};
 use std::alloc::Global;
 use std::process::Abort;
@@ -27,7 +27,8 @@ pub(crate) fn shared_ledger<R: Wait>(
     ensures second { IfOk result (λ s. IsSecondAt s.0.lock s.2 × (s.2.deal ≡ deal.now) × (s.2.arc ≡ 0)) }
     ensures clock { IfOk result (λ s. s.3.lock ≡ s.0.lock) }
 {
-    let ledger = Box::new(alloc, Ledger::new(alloc, deal, 0)?)?;
+    let held = share_deal(alloc, deal)?;
+    let ledger = Box::new(alloc, Ledger::new(alloc, &held, 0)?)?;
     match share(rt, alloc, ledger, 0, 0) {
         Ok(shared) => Ok(shared),
         Err(_) => Err("no memory".into()),

@@ -7,7 +7,7 @@ ghost use Rattle.tests_shared.specs.Stays.{Stays};
 
 use crate::passes::{make_all, shared_ledger, tick_all};
 use crate::replayed::replays;
-use ledger_core::{EntryList, Ledger};
+use ledger_core::{EntryList, Ledger, share_deal};
 use ledger_shared::{ClockPass, Pass, SharedLedger};
 use std::alloc::Global;
 use std::process::Abort;
@@ -79,7 +79,7 @@ fn is_replayed(rt: &impl Abort, alloc: Global, deal: &Deal, history: &EntryList)
     requires { IsWellSized deal.now }
 {
     let entries = history.to_vec(alloc)?;
-    let mut plain = Ledger::new(alloc, deal, 0)?;
+    let mut plain = Ledger::new(alloc, &share_deal(alloc, deal)?, 0)?;
     replays(rt, &mut plain, &entries)
 }
 

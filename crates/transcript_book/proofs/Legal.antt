@@ -31,7 +31,7 @@ is_other ClockFull = false
 is_other _ = true
 
 abbrev are_others : List (Bool × Reply) → Bool
-are_others = list_all (λ row. is_other row.1)
+are_others rs = list_all (λ r. is_other r.1) rs
 
 other_is : (r : Reply) → is_other r ≡ true → r ≢ ClockFull
 other_is r o e = false≢true (ap is_other (sym e) ∙ o)

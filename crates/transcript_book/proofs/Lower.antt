@@ -1,8 +1,7 @@
 -- Hexadecimal digits of lower case, and their values.
 use Rattle.std.proofs.Common.{◌≡◌, ◌≢◌, ◌==◌, ◌&&◌, ◌||◌, ℕ, zero, suc, ◌-◌, ◌/◌, ◌%◌, ◌≤◌, ◌<◌, nat_le, nat_lt, Bool, true, false, not}
-use Rattle.std.proofs.Common.{List, [], ◌∷◌, length, slice_index, Option, Some, None, Err, refl, ap, ◌∙◌, arith, eqb-true, ltb-true, subst}
+use Rattle.std.proofs.Common.{List, length, Option, Some, None, Err, refl, ap, ◌∙◌, arith, eqb-true, ltb-true, subst}
 use Rattle.std.specs.Prelude.{if◌then◌else◌}
-use Rattle.std.specs.List.{list_all}
 use Rattle.std.proofs.lemmas.Bool.{leb-true, eqb-false}
 use Rattle.hex.specs.Hex.{decode_pairs, decode_sized, hex_digit_value}
 use Rattle.hex.specs.declared.error.FromHexError.TheVariants.{InvalidStringLength, OddLength}
@@ -73,12 +72,6 @@ value_is c lower = by (is_lower_digit c) (hex_digit_value c) lower (valued_at 10
         (ap (λ (v : ℕ). Some v) same, subst (λ n. n < 16) same (ltb-true w 16 both.1))
     by true None l k = absurd (cc k)
     by false o l k = absurd (cc l)
-
--- each of lower digits is one
-pub lower_at : (w : List ℕ) (i : ℕ) → list_all is_lower_digit w ≡ true → i < length w → is_lower_digit (slice_index w i) ≡ true
-lower_at [] i h fits = absurd (omega arith)
-lower_at (x ∷ xs) zero h fits = (and_parts (is_lower_digit x) (list_all is_lower_digit xs) h).0
-lower_at (x ∷ xs) (suc i) h fits = lower_at xs i (and_parts (is_lower_digit x) (list_all is_lower_digit xs) h).1 (omega arith)
 
 -- a text of another length says no signature
 pub wrong_length : (w : List ℕ) → length w ≢ 4288 → decoded (decode_sized w 2144) ≡ misspelt

@@ -2,10 +2,10 @@
 use Rattle.std.specs.Prelude.{◌≡◌, ℕ, List, Option}
 use Rattle.ledger_core.specs.Book.{Histories}
 use Rattle.swap_job.specs.declared.job.Job.{Job}
-use Rattle.transcript_lines.specs.Lines.{IsWhole}
+use Rattle.transcript_lines.specs.Lines.{IsWholeTranscript}
 
 -- A whole transcript has one job and one book, whatever header lines give.
 abbrev pub OneStory : Type 0
 OneStory =
-    (header_of : List ℕ → Option Job) (ls : List (List ℕ)) (job other : Job) (b c : Histories) → IsWhole header_of ls job b
-    → IsWhole header_of ls other c → (job ≡ other) × (b ≡ c)
+    (header_of : List ℕ → Option Job) (ls : List (List ℕ)) (job other : Job) (b c : Histories) → IsWholeTranscript header_of ls job b
+    → IsWholeTranscript header_of ls other c → (job ≡ other) × (b ≡ c)

@@ -59,7 +59,7 @@ pub record IsStated (d : Deal) (b : Histories) : Type 0 where
 
 -- The lines are a whole transcript of the job and the book, where header_of says which job a header line gives, if any. A header line counts by what it
 -- reads as; every other line has one spelling.
-pub record IsWhole (header_of : List ℕ → Option Job) (ls : List (List ℕ)) (job : Job) (b : Histories) : Type 0 where
+pub record IsWholeTranscript (header_of : List ℕ → Option Job) (ls : List (List ℕ)) (job : Job) (b : Histories) : Type 0 where
   pub header : List ℕ
   pub gives : header_of header ≡ Some job
   pub lines : ls ≡ transcript_lines header b

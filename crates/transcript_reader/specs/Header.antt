@@ -8,8 +8,8 @@ use Rattle.offer_header.specs.Header.{simple_role}
 use Rattle.offer_header.specs.Names.{no_strategy, AreNames}
 use Rattle.refusals.specs.declared.refusal.Refusal.{Refusal}
 use Rattle.refusals.specs.Refusal.{named}
-use Rattle.swap_offer.specs.Wallets.{seed_of}
-use Rattle.swap_offer.specs.Job.{job_header_of, names_at, IsWhole}
+use Rattle.swap_offer.specs.Wallets.{party_seed}
+use Rattle.swap_offer.specs.Job.{job_header_of, names_at, IsWholeJob}
 use Rattle.transcript_reader.specs.declared.stage.Stage.{Stage}
 use Rattle.transcript_reader.specs.declared.stage.Stage.TheVariants.{Ledgers}
 
@@ -21,10 +21,10 @@ header_read line = named (names_at no_strategy Audit 2 line) (job_header_of no_s
 pub record IsTold (job : Job) : Type 0 where
   pub purpose : job.purpose ≡ Audit
   pub accepted : IsAccepted job.deal
-  pub whole : IsWhole job
+  pub whole : IsWholeJob job
   pub names : AreNames job.names
   pub roles : job.roles ≡ map simple_role job.conforming
-  pub seeds : (p : ℕ) → seed_of job p ≡ None
+  pub seeds : (p : ℕ) → party_seed job p ≡ None
   pub finish : job.finish ≡ Stop
 
 -- the job whose ledgers are read is one that a transcript tells

@@ -6,7 +6,7 @@ use Rattle.swap_digraph.specs.Deal.{IsWellSized}
 use Rattle.swap_job.specs.declared.job.Job.{Job}
 use Rattle.refusals.specs.declared.refusal.Refusal.{Refusal}
 use Rattle.transcript_lines.specs.Between.{ended}
-use Rattle.transcript_lines.specs.Lines.{IsWhole}
+use Rattle.transcript_lines.specs.Lines.{IsWholeTranscript}
 use Rattle.command_input.specs.Input.{limit}
 use Rattle.transcript_reader.specs.Reading.{Story, transcript_read}
 
@@ -15,14 +15,14 @@ ok_of (Ok job) = Some job
 ok_of (Err refusal) = None
 
 -- the job that a header line gives, if any
-abbrev pub job_of : (List ℕ → Result Job Refusal) → List ℕ → Option Job
-job_of header line = ok_of (header line)
+abbrev pub header_job : (List ℕ → Result Job Refusal) → List ℕ → Option Job
+header_job header line = ok_of (header line)
 
 -- The lines of the bytes are a whole transcript.
 pub record IsWholeText (header : List ℕ → Result Job Refusal) (bytes : List ℕ) (t : Story) : Type 0 where
   pub lines : List (List ℕ)
   pub text : bytes ≡ ended lines
-  pub whole : IsWhole (job_of header) lines t.job t.book
+  pub whole : IsWholeTranscript (header_job header) lines t.job t.book
 
 -- Bytes that give a job and a book are a whole transcript of them.
 abbrev pub ReadIsWhole : Type 0
@@ -31,6 +31,7 @@ ReadIsWhole = (header : List ℕ → Result Job Refusal) (bytes : List ℕ) (t :
 -- A whole transcript of no more bytes than an input may have, whose header line holds no line feed, gives its job and its book.
 abbrev pub WholeIsRead : Type 0
 WholeIsRead =
-    (header : List ℕ → Result Job Refusal) (ls : List (List ℕ)) (job : Job) (b : Histories) (whole : IsWhole (job_of header) ls job b) → IsWellSized job.deal
+    (header : List ℕ → Result Job Refusal) (ls : List (List ℕ)) (job : Job) (b : Histories) (whole : IsWholeTranscript (header_job header) ls job b)
+    → IsWellSized job.deal
     → list_all (λ x. not (x == 10)) whole.header ≡ true → length (ended ls) ≤ limit
     → transcript_read header (ended ls) ≡ Ok (record { job = job; book = b })

@@ -19,8 +19,9 @@ use Rattle.offer_header.specs.declared.raw.RawLeader.{RawLeader}
 use Rattle.offer_header.specs.declared.raw.RawRow.{RawRow}
 use Rattle.offer_header.specs.declared.raw.RawHeader.{RawHeader}
 use Rattle.offer_header.specs.declared.names.Numbered.{Numbered}
-use Rattle.offer_header.specs.Limits.{seed_or_none, seed_of, script_role, role_of, acting_of, parties_of, sizes_in, terms_of, all_terms_of, hashlock_of}
-use Rattle.offer_header.specs.Limits.{hashlocks_by, hashlocks_of, key_of, party_keys_of, stated_keys_of, keys_by, keys_of, parts_of, limited_of}
+use Rattle.offer_header.specs.Limits.{seed_or_none, checked_seed, script_role, checked_role, acting_of, parties_of, sizes_in, terms_of, all_terms_of}
+use Rattle.offer_header.specs.Limits.{hashlock_of}
+use Rattle.offer_header.specs.Limits.{hashlocks_by, hashlocks_of, key_digest, party_keys_of, stated_keys_of, keys_by, keys_of, parts_of, limited_of}
 use Rattle.true_refusals.proofs.Bare.{Bare, onward, landed, each_of_bare}
 use Rattle.true_refusals.proofs.Fields.{within_bare, number_within_bare, digest_of_bare}
 use Rattle.true_refusals.proofs.Moves.{move_of_bare}
@@ -29,8 +30,8 @@ pub seed_or_none_bare : (line : ℕ) (x1 : Option (List ℕ)) → Bare (seed_or_
 seed_or_none_bare line None = landed _
 seed_or_none_bare line (Some text) = onward (digest_of line (codes "seed") text) _ (digest_of_bare line (codes "seed") text) (λ seed. landed _)
 
-pub seed_of_bare : (line : ℕ) (p : RawParty) → Bare (seed_of line p)
-unfolding seed_of
+pub seed_of_bare : (line : ℕ) (p : RawParty) → Bare (checked_seed line p)
+unfolding checked_seed
 seed_of_bare line p = seed_or_none_bare line p.seed
 
 pub script_role_bare : (sizes : Sizes) (names : List (List ℕ)) (line : ℕ) (raws : List RawMove) → Bare (script_role sizes names line raws)
@@ -40,7 +41,7 @@ script_role_bare sizes names line raws =
     (λ u. onward (each_of (move_of sizes names line) raws)
     _ (each_of_bare (move_of sizes names line) (move_of_bare sizes names line) raws) (λ moves. landed _))
 
-pub role_of_bare : (sizes : Sizes) (names : List (List ℕ)) (line : ℕ) (x3 : RawActor) → Bare (role_of sizes names line x3)
+pub role_of_bare : (sizes : Sizes) (names : List (List ℕ)) (line : ℕ) (x3 : RawActor) → Bare (checked_role sizes names line x3)
 role_of_bare sizes names line Conforming = landed _
 role_of_bare sizes names line Manual = landed _
 role_of_bare sizes names line (Script raws) = script_role_bare sizes names line raws
@@ -49,8 +50,8 @@ role_of_bare sizes names line (Strategy name) = landed _
 pub acting_of_bare : (sizes : Sizes) (names : List (List ℕ)) (line : ℕ) (p : RawParty) → Bare (acting_of sizes names line p)
 unfolding acting_of
 acting_of_bare sizes names line p =
-    onward (role_of sizes names line p.actor) _ (role_of_bare sizes names line p.actor)
-    (λ role. onward (seed_of line p) _ (seed_of_bare line p) (λ seed. landed _))
+    onward (checked_role sizes names line p.actor) _ (role_of_bare sizes names line p.actor)
+    (λ role. onward (checked_seed line p) _ (seed_of_bare line p) (λ seed. landed _))
 
 pub parties_of_bare : (version : Version) (sizes : Sizes) (names : List (List ℕ)) (line : ℕ) (parties : List RawParty)
     → Bare (parties_of version sizes names line parties)
@@ -86,15 +87,15 @@ hashlocks_of_bare plain line leaders =
     onward (within line (codes "leaders") 1 8 (length leaders))
     _ (within_bare line (codes "leaders") 1 8 (length leaders)) (λ u. hashlocks_by_bare plain line leaders)
 
-pub key_of_bare : (line : ℕ) (text : List ℕ) → Bare (key_of line text)
-unfolding key_of
+pub key_of_bare : (line : ℕ) (text : List ℕ) → Bare (key_digest line text)
+unfolding key_digest
 key_of_bare line text = digest_of_bare line (codes "keys") text
 
 pub party_keys_of_bare : (locks : ℕ) (line : ℕ) (row : RawRow) → Bare (party_keys_of locks line row)
 unfolding party_keys_of
 party_keys_of_bare locks line row =
     onward (within line (codes "keys") locks locks (length row.texts))
-    _ (within_bare line (codes "keys") locks locks (length row.texts)) (λ u. each_of_bare (key_of line) (key_of_bare line) row.texts)
+    _ (within_bare line (codes "keys") locks locks (length row.texts)) (λ u. each_of_bare (key_digest line) (key_of_bare line) row.texts)
 
 pub stated_keys_of_bare : (line : ℕ) (h : RawHeader) → Bare (stated_keys_of line h)
 unfolding stated_keys_of

@@ -14,7 +14,7 @@ use Rattle.offer_header.specs.declared.raw.RawParty.{RawParty}
 use Rattle.offer_header.specs.declared.raw.RawArc.{RawArc}
 use Rattle.offer_header.specs.declared.raw.RawLeader.{RawLeader}
 use Rattle.offer_header.specs.declared.raw.RawHeader.{RawHeader}
-use Rattle.offer_header.specs.Names.{is_name, known, all_known, move_known, strategy_known, actor_known, name_added, name_step, names_stated, ends_of}
+use Rattle.offer_header.specs.Names.{is_name, known, all_known, move_known, strategy_known, actor_known, name_added, name_step, names_stated, named_ends}
 use Rattle.offer_header.specs.Names.{leader_step, numbered_by, numbered_among, numbered_of}
 use Rattle.offer_moves.specs.declared.raw.RawMove.TheVariants as raw_kinds
 use Rattle.offer_header.specs.declared.raw.RawActor.TheVariants as actor_kinds
@@ -60,8 +60,8 @@ name_step_bare has line all seen p =
     onward (name_added line seen p) _ (name_added_bare line seen p)
     (λ names. onward (actor_known has line all p.actor) _ (actor_known_bare has line all p.actor) (λ u. landed _))
 
-pub ends_of_bare : (line : ℕ) (names : List (List ℕ)) (a : RawArc) → Bare (ends_of line names a)
-unfolding ends_of
+pub ends_of_bare : (line : ℕ) (names : List (List ℕ)) (a : RawArc) → Bare (named_ends line names a)
+unfolding named_ends
 ends_of_bare line names a =
     onward (party_of_name line names a.from) _ (party_of_name_bare line names a.from)
     (λ from. onward (party_of_name line names a.to) _ (party_of_name_bare line names a.to) (λ to. landed _))
@@ -74,7 +74,7 @@ leader_step_bare line names seen l =
 
 pub numbered_by_bare : (line : ℕ) (names : List (List ℕ)) (h : RawHeader) → Bare (numbered_by line names h)
 numbered_by_bare line names h =
-    onward (each_of (ends_of line names) h.arcs) _ (each_of_bare (ends_of line names) (ends_of_bare line names) h.arcs)
+    onward (each_of (named_ends line names) h.arcs) _ (each_of_bare (named_ends line names) (ends_of_bare line names) h.arcs)
     (λ arcs. onward (steps (leader_step line names) [] h.leaders)
     _ (steps_bare (leader_step line names) (leader_step_bare line names) [] h.leaders) (λ leaders. landed _))
 

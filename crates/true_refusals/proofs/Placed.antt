@@ -5,7 +5,7 @@ use Rattle.swap_digraph.specs.declared.arc_ends.ArcEnds.{ArcEnds}
 use Rattle.swap_digraph.specs.Graph.{ends_in}
 use Rattle.swap_job.specs.declared.moves.Move.{Move}
 use Rattle.swap_job.specs.declared.moves.Move.TheVariants.{Craft, Transfer}
-use Rattle.swap_job.specs.Resolved.{arc_of}
+use Rattle.swap_job.specs.Resolved.{move_arc}
 use Rattle.refusals.specs.declared.reason.Reason.TheVariants.{NotAdjacent, ConformingCall}
 use Rattle.offer_moves.specs.Placed.{deviating, adjacent, received, crafted_by_others, placed}
 use Rattle.swap_job.specs.declared.moves.Move.TheVariants as move_kinds
@@ -42,5 +42,5 @@ crafted_by_others_bare conforming line (move_kinds.Wait a1 a2) = landed _
 pub placed_bare : (arcs : List ArcEnds) (conforming : List Bool) (line : ℕ) (p : ℕ) (mv : Move) → Bare (placed arcs conforming line p mv)
 unfolding placed
 placed_bare arcs conforming line p mv =
-    onward (adjacent arcs line p (arc_of mv)) _ (adjacent_bare arcs line p (arc_of mv))
+    onward (adjacent arcs line p (move_arc mv)) _ (adjacent_bare arcs line p (move_arc mv))
     (λ u. onward (crafted_by_others conforming line mv) _ (crafted_by_others_bare conforming line mv) (λ w. received_bare arcs line mv))

@@ -15,8 +15,9 @@ use Rattle.offer_moves.specs.Reading.{scripted_at}
 use Rattle.offer_header.specs.declared.raw.Front.{Front}
 use Rattle.offer_header.specs.declared.raw.Reading.{Reading}
 use Rattle.offer_header.specs.Raw.{is_plain, states_timelocks, states_keys, script_at, strategy_at, planned_actor, object_actor, actor_of_word, actor_of}
-use Rattle.offer_header.specs.Raw.{actor_or_conforming, actor_at, seed_at, party_fields, party_of, timelock_at, arc_fields, arc_between, arc_of, hashlock_at}
-use Rattle.offer_header.specs.Raw.{leader_fields, leader_of, row_of, keys_at, version_of, version_at, mode_of, mode_for, stated_mode_at, mode_at}
+use Rattle.offer_header.specs.Raw.{actor_or_conforming, actor_at, seed_at, party_fields, party_of, timelock_at, arc_fields, arc_between, raw_arc_of}
+use Rattle.offer_header.specs.Raw.{hashlock_at}
+use Rattle.offer_header.specs.Raw.{leader_fields, raw_leader_of, row_of, keys_at, version_of, version_at, mode_of, mode_for, stated_mode_at, mode_at}
 use Rattle.offer_header.specs.Raw.{finish_of_word, finish_or_stop, stated_finish_at, finish_at, header_fields, lists_of, raw_of}
 use Rattle.swap_job.specs.declared.job.Purpose.TheVariants as purpose_kinds
 use Rattle.true_refusals.proofs.Bare.{Bare, onward, landed, refused, choose}
@@ -89,8 +90,8 @@ arc_between_bare stated line d from to =
     (λ amount. onward (timelock_at line stated d) _ (timelock_at_bare line stated d)
     (λ timelock. onward (only line (arc_fields stated) d) _ (only_bare line (arc_fields stated) d) (λ u. landed _)))
 
-pub arc_of_bare : (reading : Reading) (line : ℕ) (d : Data) → Bare (arc_of reading line d)
-unfolding arc_of
+pub arc_of_bare : (reading : Reading) (line : ℕ) (d : Data) → Bare (raw_arc_of reading line d)
+unfolding raw_arc_of
 arc_of_bare reading line d =
     onward (object_at line (codes "arcs") d) _ (object_at_bare line (codes "arcs") d)
     (λ o. onward (text_at line (codes "from") d) _ (text_at_bare line (codes "from") d)
@@ -100,8 +101,8 @@ arc_of_bare reading line d =
 pub hashlock_at_bare : (line : ℕ) (plain : Bool) (d : Data) → Bare (hashlock_at line plain d)
 hashlock_at_bare line plain d = choose plain _ _ (landed _) (text_at_bare line (codes "hashlock") d)
 
-pub leader_of_bare : (reading : Reading) (line : ℕ) (d : Data) → Bare (leader_of reading line d)
-unfolding leader_of
+pub leader_of_bare : (reading : Reading) (line : ℕ) (d : Data) → Bare (raw_leader_of reading line d)
+unfolding raw_leader_of
 leader_of_bare reading line d =
     onward (object_at line (codes "leaders") d) _ (object_at_bare line (codes "leaders") d)
     (λ o. onward (text_at line (codes "party") d) _ (text_at_bare line (codes "party") d)
@@ -164,10 +165,10 @@ pub lists_of_bare : (purpose : Purpose) (front : Front) (line : ℕ) (d : Data) 
 lists_of_bare purpose front line d =
     onward (list_at line (codes "parties") (party_of (record { purpose = purpose; mode = front.mode }) line) d) _ (list_at_bare line (codes "parties")
     (party_of (record { purpose = purpose; mode = front.mode }) line) (party_of_bare (record { purpose = purpose; mode = front.mode }) line) d)
-    (λ parties. onward (list_at line (codes "arcs") (arc_of (record { purpose = purpose; mode = front.mode }) line) d) _ (list_at_bare line
-    (codes "arcs") (arc_of (record { purpose = purpose; mode = front.mode }) line) (arc_of_bare (record { purpose = purpose; mode = front.mode }) line) d)
-    (λ arcs. onward (list_at line (codes "leaders") (leader_of (record { purpose = purpose; mode = front.mode }) line) d) _ (list_at_bare line
-    (codes "leaders") (leader_of (record { purpose = purpose; mode = front.mode }) line) (leader_of_bare
+    (λ parties. onward (list_at line (codes "arcs") (raw_arc_of (record { purpose = purpose; mode = front.mode }) line) d) _ (list_at_bare line
+    (codes "arcs") (raw_arc_of (record { purpose = purpose; mode = front.mode }) line) (arc_of_bare (record { purpose = purpose; mode = front.mode }) line) d)
+    (λ arcs. onward (list_at line (codes "leaders") (raw_leader_of (record { purpose = purpose; mode = front.mode }) line) d) _ (list_at_bare line
+    (codes "leaders") (raw_leader_of (record { purpose = purpose; mode = front.mode }) line) (leader_of_bare
     (record { purpose = purpose; mode = front.mode }) line) d)
     (λ leaders. onward (keys_at line (states_keys purpose front.mode) d) _ (keys_at_bare line (states_keys purpose front.mode) d)
     (λ keys. onward (finish_at line purpose d) _ (finish_at_bare line purpose d)

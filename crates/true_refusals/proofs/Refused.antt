@@ -10,20 +10,18 @@ use Rattle.refusals.specs.declared.reason.Reason.{Reason}
 use Rattle.refusals.specs.declared.reason.Reason.TheVariants.{NotFeedback, NotJson, NotStrong, OverLimit}
 use Rattle.offer_fields.specs.Fields.{object_of}
 use Rattle.offer_fields.proofs.Chains.{went}
-use Rattle.offer_header.specs.Header.{header_by, header_of, IsWithin}
+use Rattle.offer_header.specs.Header.{header_by, header_of, IsHeaderWithin}
 use Rattle.offer_header.specs.Raw.{is_plain, raw_of}
 use Rattle.offer_header.specs.declared.header.Header.{Header}
 use Rattle.offer_header.proofs.Fitting.{read_so}
 use Rattle.swap_offer.specs.Certificates.{IsCertified}
-use Rattle.swap_offer.specs.Job.{accepted_of, counted, events_for, events_of, events_unless, job_header_of, job_of, next_of, of_lines}
+use Rattle.swap_offer.specs.Job.{accepted_of, counted, events_for, events_of, events_unless, job_header_of, job_of, limited_event, job_of_lines}
 use Rattle.command_input.specs.Lines.{filled_lines, lines_of}
 use Rattle.swap_offer.proofs.Certified.{certifies}
 use Rattle.command_input.specs.Written.{Written}
 use Rattle.made_jobs.specs.Making.{made_text}
 use Rattle.swap_commands.specs.Output.{book_of, output_by, output_for, plain_text, purpose_of, reported, told, Chance}
-use Rattle.swap_commands.specs.declared.words.Command.TheVariants.{OfJob}
-use Rattle.swap_commands.specs.declared.words.JobCommand.{JobCommand}
-use Rattle.swap_commands.specs.declared.words.JobCommand.TheVariants.{Check, Make, Race, Run}
+use Rattle.swap_commands.specs.Words.{OfJob, JobCommand, Check, Make, Race, Run}
 use Rattle.true_refusals.specs.Laws.{NamedCyclesAreOfFollowers, NamedSetsAreClosed, Proposes}
 use Rattle.true_refusals.proofs.Bare.{choose, landed, onward, refused, steps_bare, Bare, IsBare}
 use Rattle.true_refusals.proofs.Headers.{header_of_bare}
@@ -31,15 +29,15 @@ use Rattle.true_refusals.proofs.Events.{event_of_bare}
 
 -- No reason against a further line shows a set or a cycle.
 
-next_of_bare : (job : Job) (count line : ℕ) (text : List ℕ) → Bare (next_of job count line text)
-unfolding next_of
+next_of_bare : (job : Job) (count line : ℕ) (text : List ℕ) → Bare (limited_event job count line text)
+unfolding limited_event
 next_of_bare job count line text = choose (count == 200000) _ _ (refused (OverLimit line (codes "events") 200001) tt) (event_of_bare job line text)
 
 events_of_bare : (job : Job) (count : ℕ) (ls : List (ℕ × List ℕ)) → Bare (events_of job count ls)
 unfolding events_of
 events_of_bare job count [] = landed _
 events_of_bare job count (l ∷ ls) =
-    onward (next_of job count l.0 l.1) _ (next_of_bare job count l.0 l.1)
+    onward (limited_event job count l.0 l.1) _ (next_of_bare job count l.0 l.1)
     (λ e. onward (events_of job (count + 1) ls) _ (events_of_bare job (count + 1) ls) (λ es. landed _))
 
 counted_bare : (count : ℕ) (l : ℕ × List ℕ) → Bare (counted count l)
@@ -52,14 +50,14 @@ events_unless_bare false job ls = events_of_bare job 0 ls
 
 -- What is said against a header that was read.
 
-is_within : (has : List ℕ → Bool) (purpose : Purpose) (line : ℕ) (text : List ℕ) (h : Header) → header_of has purpose line text ≡ Ok h → IsWithin h
+is_within : (has : List ℕ → Bool) (purpose : Purpose) (line : ℕ) (text : List ℕ) (h : Header) → header_of has purpose line text ≡ Ok h → IsHeaderWithin h
 unfolding header_of
 is_within has purpose line text h e =
     let d = went (object_of line text) (λ d. raw_of purpose line d >>= λ raw. header_by has purpose line raw) h e in
     let raw = went (raw_of purpose line d.0) (λ raw. header_by has purpose line raw) h d.2 in
-    read_so has purpose line d.0 raw.0 (Ok h) IsWithin raw.1 raw.2 (λ x k. k.within)
+    read_so has purpose line d.0 raw.0 (Ok h) IsHeaderWithin raw.1 raw.2 (λ x k. k.within)
 
-certified : (h : Header) → IsWithin h → (reason : Reason) → accepted_of h ≡ Err reason → IsCertified h reason
+certified : (h : Header) → IsHeaderWithin h → (reason : Reason) → accepted_of h ≡ Err reason → IsCertified h reason
 certified h k reason e =
     certifies h k (λ (j : Job). j) [] (Err (fault.Refused (refusal [] reason))) (ap (λ (r : Result Job Reason). named [] r) e)
 
@@ -101,7 +99,7 @@ module _ (has : List ℕ → Bool) (purpose : Purpose) (input : List ℕ) (reaso
   of_read line text others first (Err k) is e =
       of_first line text others first (is ∙ err_is {A = Job × List Event} {B = Job} k reason e)
 
-  of_all : (ls : List (ℕ × List ℕ)) → filled_lines 1 (lines_of input) ≡ ls → of_lines has purpose ls ≡ Err reason → Shown
+  of_all : (ls : List (ℕ × List ℕ)) → filled_lines 1 (lines_of input) ≡ ls → job_of_lines has purpose ls ≡ Err reason → Shown
   of_all [] first e = absurd (shows (refused {A = Job × List Event} (NotJson 1) tt reason e))
   of_all (l ∷ ls) first e = of_read l.0 l.1 ls first (job_header_of has purpose l.0 l.1) refl e
 

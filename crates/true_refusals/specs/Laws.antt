@@ -9,8 +9,7 @@ use Rattle.offer_header.specs.declared.header.Header.{Header}
 use Rattle.swap_offer.specs.Checks.{digraph_in}
 use Rattle.command_input.specs.Lines.{filled_lines, lines_of}
 use Rattle.swap_commands.specs.Output.{output_by, purpose_of, Chance}
-use Rattle.swap_commands.specs.declared.words.Command.TheVariants.{OfJob}
-use Rattle.swap_commands.specs.declared.words.JobCommand.{JobCommand}
+use Rattle.swap_commands.specs.Words.{OfJob, JobCommand}
 
 -- The input's first line that isn't blank reads as a header, and P tells of it.
 pub record Proposes (has : List ℕ → Bool) (purpose : Purpose) (input : List ℕ) (P : Header → Type 0) : Type 0 where

@@ -1,34 +1,13 @@
 -- Calls of a disk that never fails, or that stops.
-use Rattle.std.proofs.Common.{◌≡◌, ℕ, zero, suc, ◌-◌, ◌<◌, ◌==◌, ◌||◌, Bool, true, false, List, [], ◌∷◌, ◌++◌, nat_eq, option_map, Option, Some, None}
-use Rattle.std.proofs.Common.{Result, Ok, Err, IsOk, IsErr, OnOk, ◌∙◌, ap, subst, arith, append_assoc}
-use Rattle.std.specs.List.{list_any}
-use Rattle.std.proofs.lemmas.Bool.Decides.{nat_tests}
+use Rattle.std.proofs.Common.{◌≡◌, ℕ, zero, suc, ◌<◌, List, [], ◌∷◌, ◌++◌}
+use Rattle.std.proofs.Common.{Result, Ok, Err, IsOk, IsErr, OnOk, ◌∙◌, ap, arith, append_assoc}
 use Rattle.hashkey_path.specs.declared.hashkey.Hashkey.{Hashkey}
-use Rattle.wallet_journal.specs.Device.{Write, IsStopped, AreStopped, IsFated, IsSettled}
-use Rattle.wallet_journal.specs.Memory.{is_stopped}
+use Rattle.wallet_journal.specs.Device.{Write, AreStopped, IsSettled}
 use Rattle.wallet_journal.specs.Recording.{body_write, gate_write, IsStoppedAt, IsWritten}
 
 pub not_both : {T E : Type 0} {X : Type 0} (r : Result T E) → IsOk r → IsErr r → X
 not_both (Ok x) ok err = absurd (cc err)
 not_both (Err e) ok err = absurd (cc ok)
-
--- where the first of two calls failed
-pub first_stopped : {T E A B : Type 0} (n : ℕ) (stops stops' : ℕ → Type 0) (r : Result A B) (s : Result T E) → IsErr r → IsErr s → IsStopped n r stops
-    → AreStopped n s stops'
-first_stopped zero stops stops' r s err fails h = fails
-first_stopped (suc zero) stops stops' r s err fails h = fails
-first_stopped (suc (suc n)) stops stops' r s err fails h = not_both r h.0 err
-
--- where it passed
-pub second_stopped : {T E A B : Type 0} (n : ℕ) (mid stops : ℕ → Type 0) (r : Result A B) (s : Result T E) → IsOk r → IsStopped n r mid
-    → ((m : ℕ) → mid m → IsStopped m s stops) → AreStopped n s stops
-second_stopped zero mid stops r s ok h next = not_both r ok h.0
-second_stopped (suc zero) mid stops r s ok h next = (next 0 h.1).0
-second_stopped (suc (suc n)) mid stops r s ok h next = next (suc n) h.1
-
-pub settled_from : {T E : Type 0} (r : Result T E) (s s' l l' new new' : List Write) → s' ≡ s → l' ≡ l → IsSettled r s' l' new new' → IsSettled r s l new new'
-settled_from r s s' l l' new new' is is' h =
-    subst (λ (x : List Write). IsSettled r s x new new') is' (subst (λ (x : List Write). IsSettled r x l' new new') is h)
 
 -- what two failed calls leave, of a write and a sync
 failed : {T E : Type 0} (r : Result T E) (s l new new' : List Write) → IsErr r → IsSettled r s l new new' → (new ≡ s) × (new' ≡ l)
@@ -80,43 +59,3 @@ module _ (k : Hashkey) (synced loose : List Write) (body : Write) (none : loose 
   stopped_second (suc (suc zero)) lt r s mid stops at at' new new' ok h first next writes = at_gate r s at at' new new' ok (next 0 h.1) first writes
   stopped_second (suc (suc (suc zero))) lt r s mid stops at at' new new' ok h first next writes = at_gate r s at at' new new' ok (next 1 h.1) first writes
   stopped_second (suc (suc (suc (suc n)))) lt r s mid stops at at' new new' ok h first next writes = absurd (omega (arith, lt))
-
--- a disk in memory
-abbrev fails : ℕ → List ℕ → Option ℕ → Bool
-fails calls failing left = is_stopped left || list_any (nat_eq calls) failing
-
-never_stopped : (calls : ℕ) (failing : List ℕ) (left : Option ℕ) → failing ≡ [] → left ≡ None → fails calls failing left ≡ false
-never_stopped calls failing left none no_end = λ i. is_stopped (no_end i) || list_any (nat_eq calls) (none i)
-
-stopped_later : (calls n : ℕ) (failing : List ℕ) (left : Option ℕ) → failing ≡ [] → left ≡ Some (suc n) → fails calls failing left ≡ false
-stopped_later calls n failing left none after =
-    let more : (suc n == 0) ≡ false = grind (arith, nat_tests) in
-    (λ i. is_stopped (after i) || list_any (nat_eq calls) (none i)) ∙ ap (λ (b : Bool). b || false) more
-
-stopped_here : (calls : ℕ) (failing : List ℕ) (left : Option ℕ) → left ≡ Some 0 → fails calls failing left ≡ true
-stopped_here calls failing left after = ap (λ (o : Option ℕ). is_stopped o || list_any (nat_eq calls) failing) after
-
-apart : {X : Type 0} {b : Bool} → b ≡ false → b ≡ true → X
-apart f t = absurd (cc (f, t))
-
-module _ {T E : Type 0} (calls : ℕ) (failing failing' : List ℕ) (left left' : Option ℕ) (r : Result T E) (same : failing' ≡ failing)
-    (fewer : left' ≡ option_map (λ n. n - 1) left) where
-  abbrev Fated : Type 0
-  Fated = IsFated ((failing ≡ []) × (left ≡ None)) ((failing' ≡ []) × (left' ≡ None)) (λ n. (failing ≡ []) × (left ≡ Some n))
-      (λ n. (failing' ≡ []) × (left' ≡ Some n)) r
-
-  pub fated_ok : IsOk r → fails calls failing left ≡ false → Fated
-  fated_ok ok passes = record { passes = λ never. (ok, (same ∙ never.0, fewer ∙ ap (option_map (λ n. n - 1)) never.1)); stopped = stopped_ok }
-    where
-      stopped_ok : (n : ℕ) → (failing ≡ []) × (left ≡ Some n) → IsStopped n r (λ m. (failing' ≡ []) × (left' ≡ Some m))
-      stopped_ok zero h = apart passes (stopped_here calls failing left h.1)
-      stopped_ok (suc n) h =
-          let one_less : suc n - 1 ≡ n = omega arith in
-          (ok, (same ∙ h.0, fewer ∙ ap (option_map (λ m. m - 1)) h.1 ∙ ap (λ (m : ℕ). Some m) one_less))
-
-  pub fated_err : IsErr r → fails calls failing left ≡ true → Fated
-  fated_err err fail = record { passes = λ never. apart (never_stopped calls failing left never.0 never.1) fail; stopped = stopped_err }
-    where
-      stopped_err : (n : ℕ) → (failing ≡ []) × (left ≡ Some n) → IsStopped n r (λ m. (failing' ≡ []) × (left' ≡ Some m))
-      stopped_err zero h = (err, (same ∙ h.0, fewer ∙ ap (option_map (λ m. m - 1)) h.1))
-      stopped_err (suc n) h = apart (stopped_later calls n failing left h.0 h.1) fail

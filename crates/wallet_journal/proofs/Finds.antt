@@ -1,16 +1,15 @@
 -- What opening a journal finds.
-use Rattle.std.proofs.Common.{◌≡◌, ◌==◌, ℕ, ◌<◌, ◌≤◌, Bool, true, false, ◌↔◌, List, length, map, replicate, Some, None, sym, ◌∙◌, ap, arith, Option}
+use Rattle.std.proofs.Common.{◌≡◌, ◌==◌, ℕ, ◌<◌, ◌≤◌, Bool, true, false, ◌↔◌, List, length, map, Some, None, sym, ◌∙◌, ap, arith, Option}
 use Rattle.std.proofs.Common.{Result, Ok, Err, IfOk, IfErr, OnOk, subst}
 use Rattle.std.specs.List.{range_with_len}
-use Rattle.std.proofs.lemmas.List.{get_or-replicate, length-replicate}
 use Rattle.swap_digraph.specs.declared.deal.Deal.{Deal}
 use Rattle.swap_digraph.specs.Deal.{path_limit}
 use Rattle.hashkey_path.specs.declared.hashkey.Hashkey.{Hashkey}
 use Rattle.wallet_journal.specs.Device.{Write, IsStill, slice}
 use Rattle.wallet_journal.specs.Layout.{is_made, id_in, party_in, recorded}
 use Rattle.wallet_journal.specs.Journal.{KeepsRecorded, IsKeptOn, IsUnused, signed_at}
-use Rattle.wallet_journal.specs.Opening.{is_damaged_for, IsLeastDamaged, IsOf, IsFit, IsUnfit, IsReadFault, IsOpenFault, IsOpened}
-use Rattle.wallet_journal.specs.Own.{IsOwn, IsInOpening, IsOwnFault}
+use Rattle.wallet_journal.specs.Opening.{is_damaged_for, IsLeastDamaged, IsOf, IsFit, IsUnfit, IsOpenFault, IsOpened}
+use Rattle.wallet_journal.specs.Own.{IsOwn, IsInOpening}
 use Rattle.wallet_journal.specs.declared.fault.Unopened.{Unopened}
 use Rattle.wallet_journal.specs.declared.fault.Unopened.TheVariants.{DiskFault, Foreign, Damaged, NoMemory}
 use Rattle.wallet_journal.proofs.Bytes.{front}
@@ -28,14 +27,6 @@ unfit d me bytes (Damaged j) own h = (own, h.0, h.1, h.2)
 pub fit_of : (d : Deal) (me : ℕ) (b bytes : List ℕ) → b ≡ bytes → IsOf d me bytes → ((i : ℕ) → i < length d.leaders → is_damaged_for d b i ≡ false)
     → IsFit d me bytes
 fit_of d me b bytes is own sound = record { own = own; sound = λ i lt. ap (λ (c : List ℕ). is_damaged_for d c i) (sym is) ∙ sound i lt }
-
--- what a fault says of the disk as it read at first
-pub read_fault : (d : Deal) (me : ℕ) (bytes : List ℕ) (before mid now : ℕ) (e : Unopened) → before ≤ mid → IsReadFault mid now e
-    → IsOpenFault d me bytes before now e
-read_fault d me bytes before mid now DiskFault le h = omega (arith, le, h)
-read_fault d me bytes before mid now NoMemory le h = tt
-read_fault d me bytes before mid now Foreign le h = absurd h
-read_fault d me bytes before mid now (Damaged j) le h = absurd h
 
 pub unfit_fault : (d : Deal) (me : ℕ) (bytes : List ℕ) (before now : ℕ) (e : Unopened) → is_made bytes ≡ true → IsUnfit d me bytes e
     → IsOpenFault d me bytes before now e
@@ -80,22 +71,6 @@ found_opened d me bytes s fit is =
       shown = λ i lt. ap (λ (l : List (Option Hashkey)). signed_at l i) is ∙ shown_of bytes n i (omega (arith, lt, long));
     }
 
--- one that was made
-pub begun_opened : (d : Deal) (me : ℕ) (bytes : List ℕ) (s : List (Option Hashkey)) → is_made bytes ≡ false → s ≡ replicate (length d.leaders) None
-    → IsOpened d me bytes s
-begun_opened d me bytes s none is =
-    let n = length d.leaders in
-    let long : length s ≡ n = ap length is ∙ length-replicate n None in
-    record {
-      fit = λ made. absurd (apart (is_made bytes) none made);
-      locks = long;
-      shown = λ i lt. ap (λ (l : List (Option Hashkey)). signed_at l i) is ∙ get_or-replicate n i None None (omega (arith, lt, long))
-          ∙ sym (unmade bytes i none);
-    }
-  where
-    apart : (b : Bool) → b ≡ false → b ≡ true → ⊥
-    apart b f t = cc (f, t)
-
 -- what a head says is what the disk says
 module _ (bytes head : List ℕ) (is : head ≡ slice 0 42 bytes) where
   pub head_made : is_made head ≡ is_made bytes
@@ -139,17 +114,6 @@ unused_own d me c unused = record { partys = unused.partys; sound = λ i lt. und
 pub unused_there : (d : Deal) (me : ℕ) (outcomes : List ℕ → Type 0) (old c : List ℕ) → outcomes old → is_made old ≡ false → IsUnused d.id me c
     → IsInOpening d me outcomes c
 unused_there d me outcomes old c among none unused = record { keeps = keeps_none outcomes old c among none; own = λ all. unused_own d me c unused }
-
--- a disk of its own is neither foreign nor damaged
-pub own_fault : (d : Deal) (me : ℕ) (bytes : List ℕ) (before now : ℕ) (e : Unopened) → length d.leaders ≤ 8 → IsOwn d me bytes
-    → IsOpenFault d me bytes before now e → IsOwnFault e
-own_fault d me bytes before now DiskFault few own h = tt
-own_fault d me bytes before now NoMemory few own h = tt
-own_fault d me bytes before now Foreign few own h = h.1 (own.partys h.0)
-own_fault d me bytes before now (Damaged j) few own h = apart (own.sound j (omega (arith, h.1.1, few))) h.1.2
-  where
-    apart : {b : Bool} → b ≡ false → b ≡ true → ⊥
-    apart f t = cc (f, t)
 
 pub both_ok : {T E : Type 0} (r : Result T E) (P R : T → Type 0) (Q : Type 0) → IfOk r P → OnOk r Q → ((x : T) → P x → Q → R x) → IfOk r R
 both_ok (Ok x) P R Q p q f = f x p q

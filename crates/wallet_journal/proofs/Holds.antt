@@ -1,9 +1,8 @@
 -- What the calls of a disk in memory make of what it holds.
-use Rattle.std.proofs.Common.{◌≡◌, ℕ, zero, suc, map, ◌+◌, ◌-◌, ◌^◌, ◌≤◌, List, [], ◌∷◌, ◌++◌, Bool, true, if◌then◌else◌, Err, length, replicate}
+use Rattle.std.proofs.Common.{◌≡◌, ℕ, zero, suc, map, ◌+◌, ◌-◌, ◌≤◌, List, [], ◌∷◌, ◌++◌, length, replicate}
 use Rattle.std.proofs.Common.{refl, sym, ◌∙◌, ap, subst, arith}
 use Rattle.std.specs.List.{AllByRecursion}
 use Rattle.std.proofs.lemmas.List.{length-replicate}
-use Rattle.swap_io.specs.Causes.{next_count, HasCause}
 use Rattle.wallet_journal.specs.Device.{Write, written, Torn, Elapses}
 use Rattle.wallet_journal.specs.Held.{Held, disk_size, no_bytes, after_writes, synced_bytes, read_bytes, MayBeLeft, Leaves, IsOnDisk, AreOnDisk}
 use Rattle.wallet_journal.specs.Memory.{with_write, settled, filled, crashed}
@@ -45,18 +44,6 @@ module _ (h h' : Held) where
     pub same_on : AreOnDisk h → AreOnDisk h'
     same_on on = (subst (AllByRecursion IsOnDisk) (sym is) on.0, subst (AllByRecursion IsOnDisk) (sym is') on.1)
 
-    pub same_leaves : (c : List ℕ) → Leaves h' c → Leaves h c
-    same_leaves c left =
-        subst (λ (ws : List Write). MayBeLeft (synced_bytes h) ws c) is' (subst (λ (ws : List Write). MayBeLeft (after_writes no_bytes ws) h'.loose c) is left)
-
-    pub same_leaves_back : (c : List ℕ) → Leaves h c → Leaves h' c
-    same_leaves_back c left =
-        subst (λ (ws : List Write). MayBeLeft (after_writes no_bytes ws) h'.loose c) (sym is)
-        (subst (λ (ws : List Write). MayBeLeft (synced_bytes h) ws c) (sym is') left)
-
-    pub same_bytes : read_bytes h' ≡ read_bytes h
-    same_bytes = λ i. after_writes (after_writes no_bytes (is i)) (is' i)
-
   -- after a write
   module _ (at : ℕ) (bytes : List ℕ) (spare : ℕ) (is : h' ≡ with_write h at bytes spare) where
     pub put_on : AreOnDisk h → at + length bytes ≤ 549426 → AreOnDisk h'
@@ -70,9 +57,6 @@ module _ (h h' : Held) where
 
   -- after a sync
   module _ (is : h' ≡ settled h) where
-    pub settled_on : AreOnDisk h → AreOnDisk h'
-    settled_on on = subst AreOnDisk (sym is) (both_on h.synced h.loose on.0 on.1, tt)
-
     pub settled_bytes : read_bytes h' ≡ read_bytes h
     settled_bytes = ap read_bytes is ∙ after_both no_bytes h.synced h.loose
 
@@ -87,13 +71,6 @@ pub elapses_to : (past past' : List Held) (old new : Held) → past' ≡ past ++
     → Elapses (length past) (length past') (Since past old) (Since past' new) (Leaves new)
 elapses_to past past' old new is =
     subst (λ (l : List Held). Elapses (length past) (length l) (Since past old) (Since l new) (Leaves new)) (sym is) (elapses_push past old new)
-
--- a fault that was counted
-pub counted : {T E : Type 0} (e : E) (fails : Bool) (before now : ℕ) → fails ≡ true → now ≡ (if fails then next_count before else before)
-    → before ≤ 2 ^ 64 - 1 → HasCause {T = T} before now (Err e)
-counted e fails before now is count fits =
-    let rose : now ≡ next_count before = count ∙ ap (λ (b : Bool). if b then next_count before else before) is in
-    record { later = omega (arith, rose, fits); failed = omega (arith, rose) }
 
 -- a crash
 

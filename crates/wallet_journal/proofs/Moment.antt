@@ -27,15 +27,6 @@ drop_push (suc t) (p ∷ past) h le = drop_push t past h (omega (arith, le))
 abbrev pub Since : List Held → Held → ℕ → List ℕ → Type 0
 Since past h t c = Leaves h c ⊎ HadLeft (drop t past) c
 
--- where nothing changes that a crash may leave
-pub elapses_same : (past : List Held) (old new : Held) → ((c : List ℕ) → Leaves new c → Leaves old c) → ((c : List ℕ) → Leaves old c → Leaves new c)
-    → Elapses (length past) (length past) (Since past old) (Since past new) (Leaves new)
-elapses_same past old new back forth = record {
-  later = omega arith;
-  nothing_else = λ t c le left. ⊎_elim (λ now. inr now) (λ had. inl (inr had)) left;
-  keeps = λ t c le left. ⊎_elim (λ now. inl (forth c now)) (λ had. inr had) left;
-}
-
 -- where what is held changes, and the past has what was held
 pub elapses_push : (past : List Held) (old new : Held) → Elapses (length past) (length (past ++ old ∷ [])) (Since past old) (Since (past ++ old ∷ []) new)
     (Leaves new)

@@ -144,9 +144,6 @@ on_at (suc i) (v ∷ ws) w lt is all = on_at i ws w (omega (arith, lt)) is all.1
 
 module _ (bytes : List ℕ) (spans : List Span) (i start : ℕ) (s : Span) (lt : i < length spans) (is : s ≡ get_or spans i s)
     (at : start ≡ total (take i spans)) (all : AllByRecursion IsOnDisk (writes_in bytes spans)) where
-  write : Write
-  write = record { at = s.at; bytes = take s.len (drop start bytes) }
-
   abbrev part : List ℕ
   part = take s.len (drop start bytes)
 

@@ -1,19 +1,9 @@
 -- A disk of which no call was made but one that takes memory.
-use Rattle.std.proofs.Common.{◌≡◌, ℕ, List, length, inl, refl, sym, ◌∙◌, ap, subst}
+use Rattle.std.proofs.Common.{◌≡◌, ℕ, List, inl, refl, sym, ◌∙◌, subst}
 use Rattle.hashkey_path.specs.declared.hashkey.Hashkey.{Hashkey}
 use Rattle.wallet_journal.specs.Device.{Write, IsStill, IsUntouched, Elapses, LeavesOnly, AddsNone}
 use Rattle.wallet_journal.specs.Own.{IsInRecord}
 use Rattle.wallet_journal.proofs.Moments.{started, goes_on}
-
-pub still_after : (old new : List ℕ) (was now : List ℕ → Type 0) (loose loose' : List Write) → IsStill old was loose → new ≡ old → AddsNone was now
-    → now new → loose' ≡ loose
-    → IsStill new now loose'
-still_after old new was now loose loose' still is adds among same = record {
-  sized = ap length is ∙ still.sized;
-  only = λ c left. still.only c (adds c left) ∙ sym is;
-  among = among;
-  settled = same ∙ still.settled;
-}
 
 -- a still disk that is still again and reads as before
 pub untouched_still : (old new : List ℕ) (was now : List ℕ → Type 0) (loose loose' : List Write) → IsStill old was loose → IsStill new now loose' → new ≡ old

@@ -9,7 +9,7 @@ use Rattle.hash_signature.specs.declared.sig.Sig.{Sig}
 use Rattle.hash_signature.specs.Signature.{values_of}
 use Rattle.hashkey_path.specs.declared.hashkey.Hashkey.{Hashkey}
 use Rattle.wallet_journal.specs.Device.{slice}
-use Rattle.wallet_journal.specs.Layout.{sigs_in, key_in, body_of, IsWhole, IsTold}
+use Rattle.wallet_journal.specs.Layout.{sigs_in, key_in, body_of, IsWholeSig, IsTold}
 
 -- one more signature at the end
 pub sigs_more : (j : ℕ) (bytes : List ℕ) → sigs_in (j + 1) bytes ≡ sigs_in j bytes ++ values_of (take 2144 (drop (2144 * j) bytes)) ∷ []
@@ -23,7 +23,7 @@ sigs_more (suc j) bytes =
     (drop-drop (2144 * j) 2144 bytes ∙ ap (λ (m : ℕ). drop m bytes) at)
 
 -- bytes of signatures tell them, whatever follows
-told_sigs : (sigs : List Sig) (rest : List ℕ) → AllByRecursion IsWhole sigs → sigs_in (length sigs) (flat_map joined sigs ++ rest) ≡ sigs
+told_sigs : (sigs : List Sig) (rest : List ℕ) → AllByRecursion IsWholeSig sigs → sigs_in (length sigs) (flat_map joined sigs ++ rest) ≡ sigs
 told_sigs [] rest all = refl
 told_sigs (s ∷ sigs) rest all =
     let parts : flat_map joined (s ∷ sigs) ++ rest ≡ joined s ++ (flat_map joined sigs ++ rest) = append_assoc (joined s) (flat_map joined sigs) rest in
@@ -32,13 +32,13 @@ told_sigs (s ∷ sigs) rest all =
     (drop_at (joined s) (flat_map joined sigs ++ rest) 2144 all.0.bytes i))
     ∙ (λ i. all.0.values i ∷ told_sigs sigs rest all.1 i)
 
-sigs_size : (sigs : List Sig) → AllByRecursion IsWhole sigs → length (flat_map joined sigs) ≡ 2144 * length sigs
+sigs_size : (sigs : List Sig) → AllByRecursion IsWholeSig sigs → length (flat_map joined sigs) ≡ 2144 * length sigs
 sigs_size [] all = refl
 sigs_size (s ∷ sigs) all = omega (arith, length-append (joined s) (flat_map joined sigs), all.0.bytes, sigs_size sigs all.1)
 
 module _ (k : Hashkey) (paired : length k.sigs ≡ length k.path) (told : IsTold k) where
-  whole : AllByRecursion IsWhole k.sigs
-  whole = recursion_from_All IsWhole k.sigs told.sigs
+  whole : AllByRecursion IsWholeSig k.sigs
+  whole = recursion_from_All IsWholeSig k.sigs told.sigs
 
   pub body_size : length (body_of k) ≡ 33 + 2145 * length k.path
   body_size =
@@ -92,6 +92,6 @@ put_more old mid new bytes sigs i s lt is so_far put same =
     put ∙ (λ j. so_far j ++ same j) ∙ flat_map_more joined old (take i sigs) s
     ∙ ap (λ (l : List Sig). old ++ flat_map joined l) (ap (λ (x : Sig). take i sigs ++ x ∷ []) is ∙ sym (take_more sigs i s lt))
 
-pub whole_more : (sigs : List Sig) (i : ℕ) (s : Sig) → i < length sigs → s ≡ get_or sigs i s → All IsWhole (take i sigs) → IsWhole s
-    → All IsWhole (take (i + 1) sigs)
-whole_more sigs i s lt is all here = All-more IsWhole sigs i s lt all (subst IsWhole is here)
+pub whole_more : (sigs : List Sig) (i : ℕ) (s : Sig) → i < length sigs → s ≡ get_or sigs i s → All IsWholeSig (take i sigs) → IsWholeSig s
+    → All IsWholeSig (take (i + 1) sigs)
+whole_more sigs i s lt is all here = All-more IsWholeSig sigs i s lt all (subst IsWholeSig is here)

@@ -70,14 +70,14 @@ abbrev pub body_of : Hashkey → List ℕ
 body_of k = length k.path ∷ (k.secret ++ (k.path ++ flat_map joined k.sigs))
 
 -- A signature has its bytes, which tell it.
-pub record IsWhole (s : Sig) : Type 0 where
+pub record IsWholeSig (s : Sig) : Type 0 where
   pub bytes : length (joined s) ≡ 2144
   pub values : values_of (joined s) ≡ s
 
 -- The hashkey's parts have their sizes, so that its body tells it.
 pub record IsTold (k : Hashkey) : Type 0 where
   pub secret : length k.secret ≡ 32
-  pub sigs : All IsWhole k.sigs
+  pub sigs : All IsWholeSig k.sigs
 
 -- each is below n
 abbrev pub are_below : ℕ → List ℕ → Bool

@@ -1,4 +1,5 @@
-use Rattle.std.proofs.Common.{◌∙◌}
+use Rattle.std.proofs.Common.{ap, ◌∙◌}
+use Rattle.ledger_core.specs.History.{accepted, moved}
 use Rattle.ledger_core.proofs.Funds.{funds_at, bounded_at, accounts_one, accounts_run}
 use Rattle.ledger_core.proofs.balances.accounts_in.Goals as goal
 use Rattle.ledger_core.proofs.balances.accounts_in.Goals.{in-One, in-Ticks}
@@ -6,8 +7,9 @@ use Rattle.ledger_core.proofs.balances.accounts_in.Goals.{in-One, in-Ticks}
 pub accounts_with-accounts-requires-clause-funds : goal.accounts_with-accounts-requires-clause-funds
 accounts_with-accounts-requires-clause-funds c =
     let l = c.loop-item in
-    funds_at c.args.deal.now c.args.arc c.args.items.now l.item-index c.item-item.result c.in-One.entry l.accounts c.loop-item-test.true c.item-item.is
-    c.in-One.is c.requires.legal l.invariant
+    rw c.deref.ensures
+    (funds_at c.args.deal.now c.args.arc c.args.items.now l.item-index c.item-item.result c.in-One.entry l.accounts c.loop-item-test.true
+    c.item-item.is c.in-One.is c.requires.legal l.invariant)
 
 pub accounts_with-accounts-requires-clause-bound : goal.accounts_with-accounts-requires-clause-bound
 accounts_with-accounts-requires-clause-bound c =
@@ -21,6 +23,7 @@ loop-item-preserved c =
     let l = c.loop-item in
     elim c.match-item.branch [
       | in-One w ↦ w.accounts-is ∙ (w.accounts_with-accounts.ensures
+          ∙ ap (λ e. moved d c.args.arc l.accounts e.sender (accepted e)) w.deref.ensures
           ∙ accounts_one d c.args.arc c.args.items.now l.item-index c.item-item.result w.in-One.entry l.accounts c.loop-item-test.true c.item-item.is
           w.in-One.is l.invariant)
       | in-Ticks w ↦ w.accounts-is

@@ -2,12 +2,12 @@ use Rattle.std.proofs.Common.{◌≡◌, ◌∙◌, List, Some, ap, sym, subst}
 use Rattle.std.specs.Prelude.{IfOk}
 use Rattle.history_index.specs.Indexes.{entries_in}
 use Rattle.swap_rules.specs.Due.{extended}
+use Rattle.ledger_core.specs.Facts.{opened_key}
 use Rattle.ledger_core.specs.declared.entry.Entry.{Entry}
 use Rattle.party_wallet.specs.Value.{signed_in}
 use Rattle.due_calls.specs.declared.unlock_due.Base.{Base}
 use Rattle.due_calls.specs.Unlocks.{key_from}
 use Rattle.party_machine.specs.Wallet.{wallet_of}
-use Rattle.party_machine.specs.Unlocking.{opened_key}
 use Rattle.party_due.proofs.Based.{is_signed, seen_below, seen_entries, seen_lock, seen_onto}
 use Rattle.party_due.proofs.due_key.key_from.Goals as goal
 

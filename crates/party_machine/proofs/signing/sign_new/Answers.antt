@@ -1,9 +1,10 @@
 use Rattle.std.proofs.Common.{◌<◌, List, length, subst}
+use Rattle.ledger_core.specs.Facts.{opened_key}
 use Rattle.ledger_core.specs.declared.entry.Entry.{Entry}
 use Rattle.due_calls.specs.Unlocks.{IsSeenOn}
 use Rattle.due_calls.proofs.Openings.{has_lock}
 use Rattle.party_machine.specs.Within.{entries_in}
-use Rattle.party_machine.specs.Unlocking.{opened_key, CanPutOnto}
+use Rattle.party_machine.specs.Unlocking.{CanPutOnto}
 use Rattle.party_machine.proofs.Known.{one_each, legal_at, history_of}
 use Rattle.party_machine.proofs.Onto.{can_put_onto}
 use Rattle.party_machine.proofs.signing.sign_new.Goals as goal

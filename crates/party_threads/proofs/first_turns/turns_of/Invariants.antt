@@ -1,5 +1,10 @@
+use Rattle.std.specs.Vec.Iter.{into_iter_items}
 use Rattle.party_threads.proofs.Staffing.{IsStaffed}
 use Rattle.party_threads.proofs.first_turns.turns_of.Given as goal
 
 abbrev pub invariant-parties : goal.invariant-parties
-invariant-parties l = IsStaffed l.job l.p l.wallets.items l.turns.items
+invariant-parties l = record {
+  staffed : IsStaffed l.job (into_iter_items l.party-iterator) l.turns.items;
+  next : goal.iterator-parties.can_next l.party-iterator;
+  ends : goal.iterator-parties.is_finite l.party-iterator;
+}

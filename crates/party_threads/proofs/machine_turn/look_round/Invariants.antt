@@ -1,4 +1,5 @@
-use Rattle.party_threads.specs.Able.{watcher, IsAble, IsSameOwner}
+use Rattle.swap_world.specs.Acting.{IsSameOwner}
+use Rattle.party_threads.specs.Able.{watcher, IsAble}
 use Rattle.party_threads.proofs.Looking.{IsLooking}
 use Rattle.party_threads.proofs.machine_turn.look_round.Given as goal
 

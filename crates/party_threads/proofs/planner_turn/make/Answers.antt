@@ -1,5 +1,5 @@
 use Rattle.std.proofs.Common.{sym, subst}
-use Rattle.party_threads.specs.Played.{HasCalled}
+use Rattle.party_threads.specs.Played.{HasMadeCall}
 use Rattle.party_threads.proofs.Looks.{on_ok}
 use Rattle.party_threads.proofs.Planning.{calls_nothing, ledger_below, place_below, known_below, it_fits, there, place_is, has_done_so}
 use Rattle.party_threads.proofs.planner_turn.make.Goals as goal
@@ -38,7 +38,7 @@ call_at-requires-clause-there g c =
 pub returns-in-None-clause-called : goal.returns-in-None-clause-called
 returns-in-None-clause-called g c =
     let k = c.args.planner.now.known in
-    subst (λ o. HasCalled c.args.deal.now c.args.me o k k) (sym c.in-None.is) (calls_nothing c.args.deal.now c.args.me k c.requires.view)
+    subst (λ o. HasMadeCall c.args.deal.now c.args.me o k k) (sym c.in-None.is) (calls_nothing c.args.deal.now c.args.me k c.requires.view)
 
 pub returns-in-Some-clause-tracks : goal.returns-in-Some-clause-tracks
 returns-in-Some-clause-tracks g c =

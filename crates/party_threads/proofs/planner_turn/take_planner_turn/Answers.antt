@@ -1,5 +1,5 @@
 use Rattle.std.proofs.Common.{sym, ◌∙◌}
-use Rattle.party_threads.specs.Played.{role_in}
+use Rattle.swap_job.specs.Roles.{role_in}
 use Rattle.party_threads.proofs.Looks.{on_both}
 use Rattle.party_threads.proofs.Planning.{has_played}
 use Rattle.party_threads.proofs.planner_turn.take_planner_turn.Goals as goal

@@ -32,8 +32,8 @@ take_turns-requires-clause-seated g c = λ κs lives.
     subst (λ xs. (i : ℕ) (t : Turn) → i < length c.hand_out.new.turns → IsSeated holds job xs c.args.ticks i (get_or c.hand_out.new.turns i t))
     (sym c.as_slice.ensures.value)
     (seated job c.args.ledgers.now c.args.turns.now c.hand_out.new.turns c.in_ok-shared.shared.items s
-    (places_kept job.deal c.args.turns.now c.hand_out.new.turns c.hand_out.ensures.shape s.places) d.dealt d.one_each c.hand_out.ensures.shape.actors holds c.requires.held
-    c.args.ticks c.requires.room)
+    (places_kept job.deal c.args.turns.now c.hand_out.new.turns c.hand_out.ensures.shape s.places) d.dealt d.one_each c.hand_out.ensures.shape.actors holds
+    c.requires.held c.args.ticks c.requires.room)
 
 pub close-requires-clause-sized : goal.close-requires-clause-sized
 close-requires-clause-sized g c = accepted_is_well_sized c.args.job.now.deal c.requires.stands.cast.accepted

@@ -2,12 +2,16 @@ use Rattle.std.proofs.Common.{◌∙◌, ◌^◌, ap₂, Bool, ℕ, [], ◌∷�
 use Rattle.program_words.specs.Tables.{choices}
 use Rattle.program_words.specs.Words.{is_given, number_of}
 use Rattle.program_words.specs.declared.choice.Choice.TheVariants.{Seed, Parties, Events, Summary}
-use Rattle.program_words.specs.declared.command.Command.TheVariants as command
+use Rattle.program_words.specs.declared.task.Task.{Task}
+use Rattle.program_words.specs.declared.task.Task.TheVariants.{Number}
 use Rattle.program_words.specs.declared.verb.Verb.TheVariants.{Gen}
 use Rattle.program_words.proofs.Asked.{flag_is, number_is}
 use Rattle.program_words.proofs.Builds.{first_read, rest_read}
 use Rattle.program_words.proofs.Names.{both}
 use Rattle.program_words.proofs.read.gen_in.Goals as goal
+
+abbrev asking : ℕ → ℕ → ℕ → Bool → Task
+asking s p e b = Number (record { seed = s; parties = p; events = e; summary = b })
 
 pub returns : goal.returns
 returns c = λ words whole read.
@@ -26,5 +30,5 @@ returns c = λ words whole read.
     let events = c.unwrap_or-3.ensures ∙ number_is Events (0, 200000) (2 ^ 32) (choices Gen) words _ c.number_in-2.result 0 refl ok (omega arith)
     (first_read Events (Summary ∷ []) words m three) events_on.0 c.number_in-2.ensures.number in
     let summary = flag_is Summary words _ c.get_flag.result (first_read Summary [] words m four) c.get_flag.ensures.value c.get_flag.ensures.other in
-    ap₂ (λ (s p : ℕ). command.Gen s p c.unwrap_or-3.result c.get_flag.result) seed parties
-    ∙ ap₂ (λ (e : ℕ) (b : Bool). command.Gen (number_of Seed words) (number_of Parties words) e b) events summary
+    ap₂ (λ (s p : ℕ). asking s p c.unwrap_or-3.result c.get_flag.result) seed parties
+    ∙ ap₂ (λ (e : ℕ) (b : Bool). asking (number_of Seed words) (number_of Parties words) e b) events summary

@@ -1,13 +1,13 @@
 use Rattle.std.proofs.Common.{◌≡◌, ℕ, List, map, drop, string_bytes, sym, subst}
-use Rattle.program_words.specs.Words.{asked, IsWithin}
+use Rattle.program_words.specs.Words.{asked, AreNumbersWithin}
 use Rattle.program_words.proofs.Ranges.{asked_within}
 use Rattle.program_words.proofs.read.read_whole.Goals as goal
 
 pub returns-in-Ok-clause-exact : goal.returns-in-Ok-clause-exact
-returns-in-Ok-clause-exact c = c.command_in.ensures (map string_bytes (drop 1 c.args.words.now)) c.requires.whole c.in-Ok.ensures.read
+returns-in-Ok-clause-exact c = c.task_in.ensures (map string_bytes (drop 1 c.args.words.now)) c.requires.whole c.in-Ok.ensures.read
 
 pub returns-in-Ok-clause-within : goal.returns-in-Ok-clause-within
 returns-in-Ok-clause-within c =
     let words : List (List ℕ) = map string_bytes (drop 1 c.args.words.now) in
-    let is : c.command_in.result ≡ asked c.args.verb words = c.command_in.ensures words c.requires.whole c.in-Ok.ensures.read in
-    subst IsWithin (sym is) (asked_within c.args.verb words c.requires.whole)
+    let is : c.task_in.result ≡ asked c.args.verb words = c.task_in.ensures words c.requires.whole c.in-Ok.ensures.read in
+    subst AreNumbersWithin (sym is) (asked_within c.args.verb words c.requires.whole)

@@ -1,10 +1,17 @@
+use Rattle.std.proofs.Common.{refl}
+use Rattle.std.proofs.lemmas.Result.{err_from_is_err_and}
 use Rattle.swap_job.specs.declared.job.Purpose.TheVariants as purposes
-use Rattle.swap_commands.specs.declared.words.JobCommand.TheVariants.{Check}
+use Rattle.swap_commands.specs.Words.{Check}
 use Rattle.swap_commands.specs.Replay.{passed_over, replayed}
 use Rattle.swap_commands.proofs.Reading.{against_event, check_says, is_read}
 use Rattle.command_input.proofs.Streams.{calm_named}
 use Rattle.swap_io.proofs.Feeds.{calm_after}
 use Rattle.swap_commands.proofs.check.examine.Goals as goal
+
+pub returns-in_err-job-clause-stops : goal.returns-in_err-job-clause-stops
+returns-in_err-job-clause-stops g c =
+    let p = err_from_is_err_and c.from_residual.result c.from_residual.ensures.1 in
+    rw (p.1, p.2) (c.in_err-job.ensures.stops Check refl)
 
 pub returns-in-Ok-clause-checked : goal.returns-in-Ok-clause-checked
 returns-in-Ok-clause-checked g c =

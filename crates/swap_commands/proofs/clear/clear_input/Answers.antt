@@ -1,5 +1,5 @@
 use Rattle.std.proofs.KnownBytes.{Keeps-refl}
-use Rattle.swap_commands.specs.declared.words.Command.TheVariants.{Clear}
+use Rattle.swap_commands.specs.Words.{Clear}
 use Rattle.swap_commands.proofs.Clearings.{says_clear}
 use Rattle.swap_commands.proofs.Saying.{says_unread}
 use Rattle.swap_io.proofs.Feeds.{calm_after}

@@ -3,7 +3,7 @@ use Rattle.std.proofs.lemmas.Result.{err_from_is_err_and}
 use Rattle.swap_io.proofs.Feeds.{took_none}
 use Rattle.command_input.specs.Input.{fresh}
 use Rattle.swap_commands.specs.Says.{IsAgainst}
-use Rattle.swap_commands.specs.declared.words.Command.TheVariants.{Clear}
+use Rattle.swap_commands.specs.Words.{Clear}
 use Rattle.swap_commands.proofs.Clearings.{empty_stops, line_stops}
 use Rattle.command_input.proofs.Streams as streams
 use Rattle.command_input.proofs.Streams.{calm_line}

@@ -6,8 +6,8 @@ use Rattle.outcome_rules.specs.Report.{conforms_in}
 use Rattle.swap_world.specs.Gone.{HasGone}
 use Rattle.swap_world.specs.Actors.{AreHeld}
 use Rattle.swap_world.proofs.Ledgers.{on_ok}
+use Rattle.made_jobs.specs.Generating.{IsOf}
 use Rattle.swap_commands.specs.Output.{finished}
-use Rattle.swap_commands.specs.Replay.{IsOf}
 use Rattle.swap_commands.proofs.Replays.{same_cast, stays_finished}
 use Rattle.swap_commands.proofs.finish.finish.Goals as goal
 

@@ -1,12 +1,18 @@
+use Rattle.std.proofs.Common.{refl}
 use Rattle.std.proofs.lemmas.Result.{err_from_is_err_and}
 use Rattle.swap_job.specs.declared.job.Purpose.TheVariants as purposes
 use Rattle.swap_gen.specs.Made.{made}
 use Rattle.made_jobs.specs.Making.{copied, written_line}
-use Rattle.swap_commands.specs.declared.words.JobCommand.TheVariants.{Make}
+use Rattle.swap_commands.specs.Words.{Make}
 use Rattle.swap_commands.proofs.Reading.{against_event, is_read, make_says}
 use Rattle.command_input.proofs.Streams.{calm_named, line_part}
 use Rattle.swap_io.proofs.Feeds.{calm_after}
 use Rattle.swap_commands.proofs.make.copy.Goals as goal
+
+pub returns-in_err-job-clause-stops : goal.returns-in_err-job-clause-stops
+returns-in_err-job-clause-stops g c =
+    let p = err_from_is_err_and c.from_residual.result c.from_residual.ensures.1 in
+    rw (p.1, p.2) (c.in_err-job.ensures.stops Make refl)
 
 pub returns-in_err-text-clause-stops : goal.returns-in_err-text-clause-stops
 returns-in_err-text-clause-stops g c =

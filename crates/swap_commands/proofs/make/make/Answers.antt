@@ -1,28 +1,10 @@
+use Rattle.std.proofs.Common.{inl}
 use Rattle.std.proofs.KnownBytes.{Keeps-refl}
-use Rattle.swap_commands.specs.declared.words.Command.TheVariants.{OfJob}
-use Rattle.swap_commands.specs.declared.words.JobCommand.TheVariants.{Make}
-use Rattle.swap_commands.proofs.Saying.{says_make, says_unread}
-use Rattle.swap_io.proofs.Feeds.{calm_after}
-use Rattle.command_input.proofs.Streams.{calm_fault}
+use Rattle.swap_commands.proofs.Saying.{none_consumed}
 use Rattle.swap_commands.proofs.make.make.Goals as goal
 
 pub returns-in-Ok-clause-says : goal.returns-in-Ok-clause-says
-returns-in-Ok-clause-says g c =
-    says_make _ _ _ _ _ _ _ _ _ _ c.copy.new.input _ _ c.tell.result c.in-Ok.ensures.copied c.in-Ok.ensures.made
-    (rw c.deref.ensures.value at c.tell.ensures)
+returns-in-Ok-clause-says g c = c.make_input.ensures.says
 
-pub returns-clause-says : goal.returns-clause-says
-returns-clause-says g c =
-    let left = g.S.Source.left c.args.source.now in
-    let faults = g.S.Source.faults c.args.source.now in
-    says_unread _ _ (OfJob Make) left _ faults _ _ _ _ _ (Keeps-refl (g.K.Sink.taken c.args.sink.now)) c.stop.result
-    (c.stop.ensures.says _ (OfJob Make) left faults c.copy.ensures.later c.in-Err.ensures.stops)
-
--- No read failed, unless the status tells of it.
-
-pub returns-clause-calm : goal.returns-clause-calm
-returns-clause-calm g c =
-    c.stop.ensures.calm (g.S.Source.faults c.args.source.now) (calm_fault c.in-Err.fault _ _ c.in-Err.ensures.calm)
-
-pub returns-in-Ok-clause-calm : goal.returns-in-Ok-clause-calm
-returns-in-Ok-clause-calm g c = λ unless. calm_after _ _ _ _ c.in-Ok.ensures.calm
+pub returns-in-Err-clause-says : goal.returns-in-Err-clause-says
+returns-in-Err-clause-says g c = inl (Keeps-refl (g.K.Sink.taken c.args.sink.now), none_consumed (g.S.Source.left c.args.source.now))

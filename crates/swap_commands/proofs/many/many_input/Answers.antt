@@ -1,7 +1,7 @@
 use Rattle.std.proofs.Common.{inl}
 use Rattle.std.proofs.KnownBytes.{Keeps-refl}
 use Rattle.offer_header.specs.Names.{has_strategy}
-use Rattle.swap_commands.specs.declared.words.Command.TheVariants.{Many}
+use Rattle.swap_commands.specs.Words.{Many}
 use Rattle.swap_commands.proofs.ManySaying.{last_same, says_many}
 use Rattle.swap_commands.proofs.ManyWorlds.{chains_shown, worlds_shown}
 use Rattle.swap_commands.proofs.Saying.{all_consumed, says_unread}

@@ -1,29 +1,5 @@
-use Rattle.swap_job.specs.declared.job.Purpose.TheVariants as purposes
-use Rattle.swap_commands.specs.declared.words.JobCommand.TheVariants.{Race}
-use Rattle.swap_commands.specs.Replay.{passed_over, replayed}
-use Rattle.swap_commands.proofs.Reading.{against_event, is_read, race_says}
-use Rattle.swap_commands.proofs.Replays.{held}
-use Rattle.command_input.proofs.Streams.{calm_named}
-use Rattle.swap_io.proofs.Feeds.{calm_after}
+use Rattle.swap_commands.proofs.Saying.{none_consumed}
 use Rattle.swap_commands.proofs.racing.enter.Goals as goal
 
-pub returns-in-Ok-clause-entered : goal.returns-in-Ok-clause-entered
-returns-in-Ok-clause-entered g c =
-    is_read _ purposes.Race (λ job. replayed passed_over job 0 tt) _ _ _ _ _ c.in_ok-job.field-0.job tt c.in_ok-job.ensures.line c.in_ok-job.ensures.header
-    c.in-Ok.ensures.exact
-
-pub returns-in-Ok-clause-held : goal.returns-in-Ok-clause-held
-returns-in-Ok-clause-held g c = held _ c.in_ok-job.field-0.job.roles c.in_ok-job.ensures.strategies
-
-pub returns-in-Err-clause-stops : goal.returns-in-Err-clause-stops
-returns-in-Err-clause-stops g c =
-    let job = c.in_ok-job.field-0.job in
-    rw c.with_names.ensures
-    (against_event _ (replayed passed_over job 0 tt) (Race c.args.ticks c.args.transcript) _ _ _ _ _
-    (race_says _ c.args.ticks c.args.transcript _ _ job c.in_ok-job.ensures.header) job.names c.in_ok-job.ensures.names c.in-Err.fault _ _ _
-    c.in_ok-job.ensures.line c.first_line.ensures.later c.in-Err.ensures.stops)
-
-pub returns-in-Err-clause-calm : goal.returns-in-Err-clause-calm
-returns-in-Err-clause-calm g c =
-    rw c.with_names.ensures
-    (calm_named c.in_ok-job.field-0.job.names c.in-Err.fault _ _ _ (calm_after _ _ _ _ c.in_ok-job.ensures.calm) c.in-Err.ensures.calm)
+pub returns-in-Err-clause-stopped : goal.returns-in-Err-clause-stopped
+returns-in-Err-clause-stopped g c = record { unread = λ ticks transcript. none_consumed (g.S.Source.left c.args.source.now) }

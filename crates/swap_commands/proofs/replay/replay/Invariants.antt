@@ -6,8 +6,9 @@ use Rattle.swap_world.specs.Gone.{HasAsked}
 use Rattle.swap_world.specs.Value.{Continues, new_world}
 use Rattle.command_input.specs.Input.{EndsAt, limit}
 use Rattle.swap_commands.specs.Output.{cast_by}
-use Rattle.swap_commands.specs.Replay.{IsOf, passed_over, replayed}
+use Rattle.swap_commands.specs.Replay.{passed_over, replayed}
 use Rattle.command_input.proofs.Streams.{Led}
+use Rattle.made_jobs.specs.Generating.{IsOf}
 use Rattle.swap_commands.proofs.replay.replay.Given as goal
 
 abbrev pub invariant-lines : goal.invariant-lines

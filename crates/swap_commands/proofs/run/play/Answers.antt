@@ -1,7 +1,9 @@
+use Rattle.std.proofs.Common.{refl}
+use Rattle.std.proofs.lemmas.Result.{err_from_is_err_and}
 use Rattle.swap_run.specs.Run.{start, step}
 use Rattle.swap_world.specs.Cast.{cast_of}
 use Rattle.swap_job.specs.declared.job.Purpose.TheVariants as purposes
-use Rattle.swap_commands.specs.declared.words.JobCommand.TheVariants.{Run}
+use Rattle.swap_commands.specs.Words.{Run}
 use Rattle.swap_commands.specs.Output.{cast_by}
 use Rattle.swap_commands.specs.Replay.{passed_over, replayed}
 use Rattle.swap_commands.proofs.Reading.{against_event, is_read, run_says}
@@ -12,6 +14,11 @@ use Rattle.swap_commands.proofs.run.play.Goals as goal
 
 pub replay-requires-clause-kit : goal.replay-requires-clause-kit
 replay-requires-clause-kit g c = held _ c.in_ok-job.field-0.job.roles c.in_ok-job.ensures.strategies
+
+pub returns-in_err-job-clause-stops : goal.returns-in_err-job-clause-stops
+returns-in_err-job-clause-stops g c =
+    let p = err_from_is_err_and c.from_residual.result c.from_residual.ensures.1 in
+    rw (p.1, p.2) (c.in_err-job.ensures.stops (Run c.args.transcript) refl)
 
 pub returns-in-Ok-clause-played : goal.returns-in-Ok-clause-played
 returns-in-Ok-clause-played g c = λ a x.

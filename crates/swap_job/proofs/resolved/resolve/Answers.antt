@@ -4,7 +4,7 @@ use Rattle.std.specs.Option.{ForSome}
 use Rattle.hashkey_path.specs.declared.hashkey.Hashkey.{Hashkey}
 use Rattle.ledger_core.specs.declared.entry.Call.{Call}
 use Rattle.swap_job.specs.Parts.{IsUsable}
-use Rattle.swap_job.specs.Resolved.{arc_of, call_with, resolved, is_idle}
+use Rattle.swap_job.specs.Resolved.{move_arc, call_with, resolved, is_idle}
 use Rattle.swap_job.proofs.Idle.{resolves_unless_idle, none_if_idle}
 use Rattle.swap_job.proofs.Usable.{named_arc, named_usable}
 use Rattle.swap_job.proofs.resolved.resolve.Goals as goal
@@ -23,5 +23,5 @@ returns-clause-none c =
     none_if_idle (resolved c.args.deal.now c.args.seeds.now c.args.known.now.histories c.args.mv.now)
     (not (is_idle c.args.deal.now c.args.known.now.histories c.args.mv.now))
     (resolves_unless_idle c.args.deal.now c.args.seeds.now c.args.known.now.histories c.args.mv.now c.requires.fits) c.resolve_with.result
-    (subst (λ (o : Option Hashkey). IfOk c.resolve_with.result (λ x. x ≡ option_map (λ (y : Call). (arc_of c.args.mv.now, y))
+    (subst (λ (o : Option Hashkey). IfOk c.resolve_with.result (λ x. x ≡ option_map (λ (y : Call). (move_arc c.args.mv.now, y))
     (call_with c.args.deal.now c.args.seeds.now o c.args.mv.now))) c.key_named.ensures c.resolve_with.ensures.exact)

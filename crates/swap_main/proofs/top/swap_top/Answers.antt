@@ -1,7 +1,8 @@
 use Rattle.std.proofs.Common.{◌≡◌, ◌∙◌, ℕ, List, map, string_bytes, Some, None, refl, sym, ap}
-use Rattle.swap_commands.specs.Words.{task_of}
-use Rattle.swap_commands.specs.declared.words.Task.{Task}
-use Rattle.swap_main.proofs.Asking.{is_within, no_task, no_words}
+use Rattle.program_words.specs.Words.{task_of}
+use Rattle.program_words.specs.declared.task.Task.{Task}
+use Rattle.program_words.specs.declared.task.Task.TheVariants.{Input, Race, Number}
+use Rattle.program_words.proofs.Ranges.{task_within}
 use Rattle.swap_main.proofs.Performing as tasks
 use Rattle.swap_main.proofs.top.swap_top.Goals as goal
 
@@ -9,94 +10,113 @@ pub perform_race-requires-clause-some : goal.perform_race-requires-clause-some
 perform_race-requires-clause-some g c =
     λ κs lives.
     let words : List (List ℕ) = map string_bytes c.args.words.now.items in
-    let asked : task_of words ≡ Some c.in-Some.task = rw (sym c.deref.ensures.value) (sym c.in-Ok.ensures.exact ∙ c.in-Some.is) in
-    (rw c.in-Some-race_in.ensures.some at (is_within words c.in-Some.task asked)).0
+    let asked : task_of words ≡ Some c.in-Some.asked = rw (sym c.deref.ensures.value) (sym c.in-Ok.ensures.exact ∙ c.in-Some.is) in
+    let is = asked ∙ ap (λ (t : Task). Some t) c.in-Race.is in
+    (task_within words (Race c.in-Race.ticks c.in-Race.transcript) is).0
 
 pub perform_race-requires-clause-below : goal.perform_race-requires-clause-below
 perform_race-requires-clause-below g c =
     λ κs lives.
     let words : List (List ℕ) = map string_bytes c.args.words.now.items in
-    let asked : task_of words ≡ Some c.in-Some.task = rw (sym c.deref.ensures.value) (sym c.in-Ok.ensures.exact ∙ c.in-Some.is) in
-    (rw c.in-Some-race_in.ensures.some at (is_within words c.in-Some.task asked)).1
+    let asked : task_of words ≡ Some c.in-Some.asked = rw (sym c.deref.ensures.value) (sym c.in-Ok.ensures.exact ∙ c.in-Some.is) in
+    let is = asked ∙ ap (λ (t : Task). Some t) c.in-Race.is in
+    (task_within words (Race c.in-Race.ticks c.in-Race.transcript) is).1
 
-pub perform-requires-clause-within : goal.perform-requires-clause-within
-perform-requires-clause-within g c =
+pub generate-requires-clause-low : goal.generate-requires-clause-low
+generate-requires-clause-low g c =
     let words : List (List ℕ) = map string_bytes c.args.words.now.items in
-    let asked : task_of words ≡ Some c.in-Some.task = rw (sym c.deref.ensures.value) (sym c.in-Ok.ensures.exact ∙ c.in-Some.is) in
-    is_within words c.in-Some.task asked
+    let asked : task_of words ≡ Some c.in-Some.asked = rw (sym c.deref.ensures.value) (sym c.in-Ok.ensures.exact ∙ c.in-Some.is) in
+    let is = asked ∙ ap (λ (t : Task). Some t) c.in-Number.is in
+    (task_within words (Number c.in-Number.request) is).0
 
-pub perform-requires-clause-plain : goal.perform-requires-clause-plain
-perform-requires-clause-plain g c =
-    c.race_in.ensures.none c.in-None.is
-
-pub returns-in-None-clause-words : goal.returns-in-None-clause-words
-returns-in-None-clause-words g c =
+pub generate-requires-clause-high : goal.generate-requires-clause-high
+generate-requires-clause-high g c =
     let words : List (List ℕ) = map string_bytes c.args.words.now.items in
-    let asked : task_of words ≡ Some c.in-Some.task = rw (sym c.deref.ensures.value) (sym c.in-Ok.ensures.exact ∙ c.in-Some.is) in (
-      λ e. absurd (tasks.not_wrong_words _ _ words _ _ _ _ _ _ _ _ c.in-Some.task asked c.perform.result c.perform.ensures.says e),
-      λ none. absurd (cc (sym asked ∙ no_task words none)),
-    )
+    let asked : task_of words ≡ Some c.in-Some.asked = rw (sym c.deref.ensures.value) (sym c.in-Ok.ensures.exact ∙ c.in-Some.is) in
+    let is = asked ∙ ap (λ (t : Task). Some t) c.in-Number.is in
+    (task_within words (Number c.in-Number.request) is).1
 
-pub returns-in-Some-race_in-clause-words : goal.returns-in-Some-race_in-clause-words
-returns-in-Some-race_in-clause-words g c =
+pub returns-in-Input-clause-words : goal.returns-in-Input-clause-words
+returns-in-Input-clause-words g c =
     let words : List (List ℕ) = map string_bytes c.args.words.now.items in
-    let asked : task_of words ≡ Some c.in-Some.task = rw (sym c.deref.ensures.value) (sym c.in-Ok.ensures.exact ∙ c.in-Some.is) in
-    let is = asked ∙ ap (λ (t : Task). Some t) c.in-Some-race_in.ensures.some in (
-      λ e. absurd (tasks.not_wrong_words _ _ words _ _ _ _ _ _ _ _ _ is c.perform_race.result c.perform_race.ensures.says e),
-      λ none. absurd (cc (sym asked ∙ no_task words none)),
-    )
+    let asked : task_of words ≡ Some c.in-Some.asked = rw (sym c.deref.ensures.value) (sym c.in-Ok.ensures.exact ∙ c.in-Some.is) in
+    let is = asked ∙ ap (λ (t : Task). Some t) c.in-Input.is in
+    tasks.never_wrong words (Input c.in-Input.order) is c.obey.result (tasks.said_is_right _ _ _ _ _ _ _ _ _ _ _ c.obey.result c.obey.ensures.says)
 
-pub returns-in_default-asked-clause-words : goal.returns-in_default-asked-clause-words
-returns-in_default-asked-clause-words g c =
+pub returns-in-Race-clause-words : goal.returns-in-Race-clause-words
+returns-in-Race-clause-words g c =
     let words : List (List ℕ) = map string_bytes c.args.words.now.items in
-    let none : task_of words ≡ None = rw (sym c.deref.ensures.value) (sym c.in-Ok.ensures.exact ∙ c.in_default-asked.is) in
-    (λ e. no_words words none, λ e. refl)
+    let asked : task_of words ≡ Some c.in-Some.asked = rw (sym c.deref.ensures.value) (sym c.in-Ok.ensures.exact ∙ c.in-Some.is) in
+    let is = asked ∙ ap (λ (t : Task). Some t) c.in-Race.is in
+    tasks.never_wrong words (Race c.in-Race.ticks c.in-Race.transcript) is c.perform_race.result
+    (tasks.said_is_right _ _ _ _ _ _ _ _ _ _ _ c.perform_race.result c.perform_race.ensures.says)
 
-pub returns-in-None-clause-unread : goal.returns-in-None-clause-unread
-returns-in-None-clause-unread g c e =
+pub returns-in-Number-clause-words : goal.returns-in-Number-clause-words
+returns-in-Number-clause-words g c =
     let words : List (List ℕ) = map string_bytes c.args.words.now.items in
-    let asked : task_of words ≡ Some c.in-Some.task = rw (sym c.deref.ensures.value) (sym c.in-Ok.ensures.exact ∙ c.in-Some.is) in
-    absurd (tasks.not_wrong_words _ _ words _ _ _ _ _ _ _ _ c.in-Some.task asked c.perform.result c.perform.ensures.says e)
+    let asked : task_of words ≡ Some c.in-Some.asked = rw (sym c.deref.ensures.value) (sym c.in-Ok.ensures.exact ∙ c.in-Some.is) in
+    let is = asked ∙ ap (λ (t : Task). Some t) c.in-Number.is in
+    tasks.never_wrong words (Number c.in-Number.request) is c.generate.result (tasks.made_is_right _ _ _ _ _ c.generate.result c.generate.ensures)
 
-pub returns-in-Some-race_in-clause-unread : goal.returns-in-Some-race_in-clause-unread
-returns-in-Some-race_in-clause-unread g c e =
+pub returns-in_default-read-clause-words : goal.returns-in_default-read-clause-words
+returns-in_default-read-clause-words g c =
     let words : List (List ℕ) = map string_bytes c.args.words.now.items in
-    let asked : task_of words ≡ Some c.in-Some.task = rw (sym c.deref.ensures.value) (sym c.in-Ok.ensures.exact ∙ c.in-Some.is) in
-    let is = asked ∙ ap (λ (t : Task). Some t) c.in-Some-race_in.ensures.some in
-    absurd (tasks.not_wrong_words _ _ words _ _ _ _ _ _ _ _ _ is c.perform_race.result c.perform_race.ensures.says e)
+    let none : task_of words ≡ None = rw (sym c.deref.ensures.value) (sym c.in-Ok.ensures.exact ∙ c.in_default-read.is) in
+    (λ e. none, λ e. refl)
 
-pub returns-in-None-clause-unread_by_number : goal.returns-in-None-clause-unread_by_number
-returns-in-None-clause-unread_by_number g c request number =
-    let words : List (List ℕ) = map string_bytes c.args.words.now.items in
-    let asked : task_of words ≡ Some c.in-Some.task = rw (sym c.deref.ensures.value) (sym c.in-Ok.ensures.exact ∙ c.in-Some.is) in
-    c.perform.ensures.unread request (tasks.number_is words c.in-Some.task request asked number)
+pub returns-in-Input-clause-unread : goal.returns-in-Input-clause-unread
+returns-in-Input-clause-unread g c e =
+    absurd (tasks.said_is_right _ _ _ _ _ _ _ _ _ _ _ c.obey.result c.obey.ensures.says e)
 
-pub returns-in-Some-race_in-clause-unread_by_number : goal.returns-in-Some-race_in-clause-unread_by_number
-returns-in-Some-race_in-clause-unread_by_number g c request number =
-    let words : List (List ℕ) = map string_bytes c.args.words.now.items in
-    let asked : task_of words ≡ Some c.in-Some.task = rw (sym c.deref.ensures.value) (sym c.in-Ok.ensures.exact ∙ c.in-Some.is) in
-    let is = asked ∙ ap (λ (t : Task). Some t) c.in-Some-race_in.ensures.some in
-    absurd (cc (sym (tasks.number_is words _ request is number)))
+pub returns-in-Race-clause-unread : goal.returns-in-Race-clause-unread
+returns-in-Race-clause-unread g c e =
+    absurd (tasks.said_is_right _ _ _ _ _ _ _ _ _ _ _ c.perform_race.result c.perform_race.ensures.says e)
 
-pub returns-in-None-clause-answer : goal.returns-in-None-clause-answer
-returns-in-None-clause-answer g c =
-    let words : List (List ℕ) = map string_bytes c.args.words.now.items in
-    let asked : task_of words ≡ Some c.in-Some.task = rw (sym c.deref.ensures.value) (sym c.in-Ok.ensures.exact ∙ c.in-Some.is) in
-    tasks.answer _ _ words _ _ _ _ _ _ _ _ c.in-Some.task asked c.perform.result c.perform.ensures.says
+pub returns-in-Number-clause-unread : goal.returns-in-Number-clause-unread
+returns-in-Number-clause-unread g c e =
+    absurd (tasks.made_is_right _ _ _ _ _ c.generate.result c.generate.ensures e)
 
-pub returns-in-Some-race_in-clause-answer : goal.returns-in-Some-race_in-clause-answer
-returns-in-Some-race_in-clause-answer g c =
+pub returns-in-Input-clause-unread_by_number : goal.returns-in-Input-clause-unread_by_number
+returns-in-Input-clause-unread_by_number g c request number =
     let words : List (List ℕ) = map string_bytes c.args.words.now.items in
-    let asked : task_of words ≡ Some c.in-Some.task = rw (sym c.deref.ensures.value) (sym c.in-Ok.ensures.exact ∙ c.in-Some.is) in
-    let is = asked ∙ ap (λ (t : Task). Some t) c.in-Some-race_in.ensures.some in
-    tasks.answer _ _ words _ _ _ _ _ _ _ _ _ is c.perform_race.result c.perform_race.ensures.says
+    let asked : task_of words ≡ Some c.in-Some.asked = rw (sym c.deref.ensures.value) (sym c.in-Ok.ensures.exact ∙ c.in-Some.is) in
+    let is = asked ∙ ap (λ (t : Task). Some t) c.in-Input.is in
+    absurd (cc (tasks.number_is words (Input c.in-Input.order) request is number))
 
-pub returns-in_default-asked-clause-answer : goal.returns-in_default-asked-clause-answer
-returns-in_default-asked-clause-answer g c =
+pub returns-in-Race-clause-unread_by_number : goal.returns-in-Race-clause-unread_by_number
+returns-in-Race-clause-unread_by_number g c request number =
     let words : List (List ℕ) = map string_bytes c.args.words.now.items in
-    let none : task_of words ≡ None = rw (sym c.deref.ensures.value) (sym c.in-Ok.ensures.exact ∙ c.in_default-asked.is) in
-    tasks.with_wrong_words _ _ words _ _ _ _ none
+    let asked : task_of words ≡ Some c.in-Some.asked = rw (sym c.deref.ensures.value) (sym c.in-Ok.ensures.exact ∙ c.in-Some.is) in
+    let is = asked ∙ ap (λ (t : Task). Some t) c.in-Race.is in
+    absurd (cc (tasks.number_is words (Race c.in-Race.ticks c.in-Race.transcript) request is number))
+
+pub returns-in-Input-clause-answer : goal.returns-in-Input-clause-answer
+returns-in-Input-clause-answer g c =
+    let words : List (List ℕ) = map string_bytes c.args.words.now.items in
+    let asked : task_of words ≡ Some c.in-Some.asked = rw (sym c.deref.ensures.value) (sym c.in-Ok.ensures.exact ∙ c.in-Some.is) in
+    let is = asked ∙ ap (λ (t : Task). Some t) c.in-Input.is in
+    tasks.answer _ words _ _ (Input c.in-Input.order) is c.obey.result c.obey.ensures.says
+
+pub returns-in-Race-clause-answer : goal.returns-in-Race-clause-answer
+returns-in-Race-clause-answer g c =
+    let words : List (List ℕ) = map string_bytes c.args.words.now.items in
+    let asked : task_of words ≡ Some c.in-Some.asked = rw (sym c.deref.ensures.value) (sym c.in-Ok.ensures.exact ∙ c.in-Some.is) in
+    let is = asked ∙ ap (λ (t : Task). Some t) c.in-Race.is in
+    tasks.answer _ words _ _ (Race c.in-Race.ticks c.in-Race.transcript) is c.perform_race.result c.perform_race.ensures.says
+
+pub returns-in-Number-clause-answer : goal.returns-in-Number-clause-answer
+returns-in-Number-clause-answer g c =
+    let words : List (List ℕ) = map string_bytes c.args.words.now.items in
+    let asked : task_of words ≡ Some c.in-Some.asked = rw (sym c.deref.ensures.value) (sym c.in-Ok.ensures.exact ∙ c.in-Some.is) in
+    let is = asked ∙ ap (λ (t : Task). Some t) c.in-Number.is in
+    tasks.answer _ words _ _ (Number c.in-Number.request) is c.generate.result (refl, c.generate.ensures)
+
+pub returns-in_default-read-clause-answer : goal.returns-in_default-read-clause-answer
+returns-in_default-read-clause-answer g c =
+    let words : List (List ℕ) = map string_bytes c.args.words.now.items in
+    let none : task_of words ≡ None = rw (sym c.deref.ensures.value) (sym c.in-Ok.ensures.exact ∙ c.in_default-read.is) in
+    tasks.with_wrong_words _ words _ none
 
 pub returns-in_default-clause-answer : goal.returns-in_default-clause-answer
 returns-in_default-clause-answer g c =
-    tasks.without_memory _ _ (map string_bytes c.args.words.now.items) _ _ _ _
+    tasks.without_memory _ (map string_bytes c.args.words.now.items) _

@@ -1,5 +1,5 @@
 use Rattle.std.proofs.Common.{ℕ, List, slice_index, fold, take, sym, ap, ◌∙◌}
-use Rattle.swap_run.specs.Fair.{adjacent}
+use Rattle.swap_run.specs.Fair.{adjacent_arcs}
 use Rattle.swap_world.proofs.Idle.{any_default}
 use Rattle.swap_many.specs.Chains.{Setup}
 use Rattle.swap_many.specs.Kept.{Kept}
@@ -18,7 +18,7 @@ happen-requires-clause-event g c =
     let k = c.arcs.arc-index in
     let f = λ (m : Setup) (z : Kept). fold (look_of c.args.swap c.args.p m) z (take k near) in
     may_look mid c.args.swap c.args.p k (slice_index near k) near (party_gone gives f w mid c.args.swap c.args.p c.arcs.invariant c.requires.party)
-    (c.requires.near ∙ ap (λ d. adjacent d c.args.p) (sym (deal_gone gives f w mid c.args.swap c.arcs.invariant))) c.arcs-test.true
+    (c.requires.near ∙ ap (λ d. adjacent_arcs d c.args.p) (sym (deal_gone gives f w mid c.args.swap c.arcs.invariant))) c.arcs-test.true
     (any_default near k 0 (slice_index near k) c.arcs-test.true)
 
 pub happen-requires-clause-kit : goal.happen-requires-clause-kit

@@ -2,7 +2,7 @@ use Rattle.std.proofs.Common.{◌<◌, ◌≤◌, fold, take, arith, refl, sym, 
 use Rattle.std.specs.List.{range_with_len}
 use Rattle.swap_many.specs.Fair.{kept_turn, kept_turns}
 use Rattle.swap_many.specs.Value.{world_at}
-use Rattle.swap_run.specs.Fair.{adjacent}
+use Rattle.swap_run.specs.Fair.{adjacent_arcs}
 use Rattle.swap_world.proofs.Finishes.{near_at, near_many}
 use Rattle.swap_many.proofs.Gone.{deal_gone, gone_as, on_gone, stopped_as}
 use Rattle.swap_many.proofs.Gone.{if_err, range_on, range_done, range_stops}
@@ -22,7 +22,7 @@ turn-requires-clause-near g c =
     let l : c.parties.p < (world_at w c.args.swap).deal.graph.n = rw (← c.deal.ensures.value) (omega (arith, c.parties-test.true, c.n-p-end.ensures)) in
     c.as_slice.ensures
     ∙ (near_at (world_at w c.args.swap).deal c.args.near.now c.parties.p c.index-near-place.result c.requires.near l c.index-near-place.is
-    ∙ ap (λ d. adjacent d c.parties.p) (sym (deal_gone gives (λ m z. fold (kept_turn c.args.swap m) z (take c.parties.p
+    ∙ ap (λ d. adjacent_arcs d c.parties.p) (sym (deal_gone gives (λ m z. fold (kept_turn c.args.swap m) z (take c.parties.p
     (range_with_len 0 ((world_at w c.args.swap).deal.graph.n)))) w c.parties.worlds c.args.swap c.parties.invariant)))
 
 pub turn-requires-clause-on : goal.turn-requires-clause-on

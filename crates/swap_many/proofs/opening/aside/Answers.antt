@@ -3,7 +3,7 @@ use Rattle.swap_digraph.specs.Graph.{arcs}
 use Rattle.swap_world.specs.Value.{WorldState}
 use Rattle.swap_many.specs.declared.place.Place.{Place}
 use Rattle.swap_many.specs.Chains.{pays_for}
-use Rattle.swap_many.specs.Opening.{pays_in, setup_by}
+use Rattle.swap_many.specs.Opening.{pays_in, setup_of_worlds}
 use Rattle.swap_many.specs.Ticking.{nth}
 use Rattle.swap_many.specs.Value.{no_world}
 use Rattle.swap_many.proofs.Values.{item_is}
@@ -19,7 +19,7 @@ swaps-preserved c =
     let here = item_is ws k no_world c.index-worlds-s.result l c.index-worlds-s.is in
     let there = c.as_slice.ensures
     ∙ item_is c.args.places.now k [] c.index-places-s.result (subst (λ n. k < n) (sym c.requires.one_each) l) c.index-places-s.is in
-    let m = setup_by ws c.args.places.now [] in
+    let m = setup_of_worlds ws c.args.places.now [] in
     let e : c.aside_in-sum.result ≡ sum_by (pays_for m c.args.chain c.args.account k) (arcs (nth ws k).deal.graph) =
     c.aside_in-sum.ensures.value
     ∙ ap₂ (λ (y : WorldState) (ps : List Place). sum_by (pays_in y.deal ps c.args.chain c.args.account) (arcs y.deal.graph)) here there in

@@ -3,14 +3,14 @@ use Rattle.swap_digraph.proofs.Ranges.{map_more}
 use Rattle.swap_many.specs.declared.overdrawn.Overdrawn.{Overdrawn}
 use Rattle.swap_many.specs.Chains.{opening, set_aside, first_free}
 use Rattle.swap_many.specs.Opened.{lack_of}
-use Rattle.swap_many.specs.Opening.{setup_by, new_chain, opened_or}
+use Rattle.swap_many.specs.Opening.{setup_of_worlds, new_chain, opened_or}
 use Rattle.swap_many.proofs.Values.{item_is}
 use Rattle.swap_many.proofs.Begun.{first_here, first_next, lacks, lacks_none, free_fits}
 use Rattle.swap_many.proofs.opening.open_chain.Goals as goal
 
 pub returns-then-have-wanted : goal.returns-then-have-wanted
 returns-then-have-wanted c =
-    let m = setup_by c.args.worlds.now c.args.places.now c.args.chains.now in
+    let m = setup_of_worlds c.args.worlds.now c.args.places.now c.args.chains.now in
     let i = c.args.chain in
     let x = c.accounts.account in
     let inv = c.accounts.invariant in
@@ -24,7 +24,7 @@ returns-then-have-wanted c =
 
 pub accounts-preserved : goal.accounts-preserved
 accounts-preserved c =
-    let m = setup_by c.args.worlds.now c.args.places.now c.args.chains.now in
+    let m = setup_of_worlds c.args.worlds.now c.args.places.now c.args.chains.now in
     let i = c.args.chain in
     let x = c.accounts.account in
     let inv = c.accounts.invariant in
@@ -39,7 +39,7 @@ accounts-preserved c =
 
 pub new-requires : goal.new-requires
 new-requires c =
-    let m = setup_by c.args.worlds.now c.args.places.now c.args.chains.now in
+    let m = setup_of_worlds c.args.worlds.now c.args.places.now c.args.chains.now in
     let i = c.args.chain in
     let x = c.accounts.account in
     let inv = c.accounts.invariant in

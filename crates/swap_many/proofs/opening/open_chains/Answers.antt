@@ -4,13 +4,13 @@ use Rattle.swap_base.specs.Fault.{Gives}
 use Rattle.swap_digraph.proofs.Ranges.{map_more}
 use Rattle.swap_many.specs.Accounts.{ChainState}
 use Rattle.swap_many.specs.Opened.{lack_on}
-use Rattle.swap_many.specs.Opening.{setup_by, new_chain, opened_or}
+use Rattle.swap_many.specs.Opening.{setup_of_worlds, new_chain, opened_or}
 use Rattle.swap_many.proofs.Begun.{first_next, fails_on, was_opened}
 use Rattle.swap_many.proofs.opening.open_chains.Goals as goal
 
 pub returns-in-Err : goal.returns-in-Err
 returns-in-Err c =
-    let m = setup_by c.args.worlds.now c.args.places.now c.args.chains.now in
+    let m = setup_of_worlds c.args.worlds.now c.args.places.now c.args.chains.now in
     let i = c.chains.chain in
     let inv = c.chains.invariant in
     fails_on m i (new_chain m i) (map (new_chain m) (range_with_len 0 (length c.args.chains.now))) c.in-Err.fault c.chains-test.true inv.0
@@ -18,7 +18,7 @@ returns-in-Err c =
 
 pub chains-preserved : goal.chains-preserved
 chains-preserved c =
-    let m = setup_by c.args.worlds.now c.args.places.now c.args.chains.now in
+    let m = setup_of_worlds c.args.worlds.now c.args.places.now c.args.chains.now in
     let i = c.chains.chain in
     let inv = c.chains.invariant in
     let k = was_opened (lack_on m i) (new_chain m i) c.in-Ok.chain

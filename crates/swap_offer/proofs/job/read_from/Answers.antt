@@ -5,7 +5,7 @@ use Rattle.swap_base.specs.declared.fault.Fault.TheVariants.{Refused, NoMemory}
 use Rattle.refusals.specs.declared.reason.Reason.{Reason}
 use Rattle.refusals.proofs.Named.{fails, named_ok}
 use Rattle.offer_header.specs.Names.{has_strategy}
-use Rattle.swap_offer.specs.Job.{events_for, job_header_of, names_at, of_lines}
+use Rattle.swap_offer.specs.Job.{events_for, job_header_of, names_at, job_of_lines}
 use Rattle.swap_offer.proofs.job.read_from.Goals as goal
 
 -- what fails makes all that goes on from it fail
@@ -27,6 +27,6 @@ returns-in-Err-clause-exact g c =
     let was : read ≡ Ok job = named_ok (names_at has c.args.purpose c.args.line c.args.text.now) read job c.in_ok-job.ensures.exact in
     rw c.with_names.ensures
     (rw c.in_ok-job.ensures.names
-    (fails (names_at has c.args.purpose c.args.line c.args.text.now) c.in-Err.fault (of_lines has c.args.purpose ((c.args.line, c.args.text.now) ∷ lines))
+    (fails (names_at has c.args.purpose c.args.line c.args.text.now) c.in-Err.fault (job_of_lines has c.args.purpose ((c.args.line, c.args.text.now) ∷ lines))
     (fails_after c.in-Err.fault read job (λ j. events_for c.args.purpose j lines >>= λ events. Ok (j, events)) was
     (fails_on c.in-Err.fault (events_for c.args.purpose job lines) (λ events. Ok (job, events)) c.in-Err.ensures.exact))))

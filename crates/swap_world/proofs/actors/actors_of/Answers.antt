@@ -1,11 +1,10 @@
 use Rattle.std.proofs.Common.{◌≢◌, zero-add, None, arith, get_or-set_other}
 use Rattle.std.proofs.Math.ListN.{length-set}
 use Rattle.std.proofs.lemmas.Grind.{common_steps}
-use Rattle.std.proofs.lemmas.Result.{err_from_is_err_and}
 use Rattle.std.proofs.lemmas.List.FromFn.{get_or-map-range_with_len, length-map-range_with_len}
+use Rattle.swap_digraph.proofs.Ranges.{map_more}
 use Rattle.party_wallet.specs.Wallets.{wallet_for}
-use Rattle.swap_world.specs.Actors.{actors_of}
-use Rattle.swap_world.proofs.Team.{goes_on, ends, is_done}
+use Rattle.swap_world.specs.Actors.{acts_for}
 use Rattle.swap_world.proofs.actors.actors_of.Goals as goal
 
 pub parties-init : goal.parties-init
@@ -18,22 +17,13 @@ parties-init c =
       wallets = λ k le lt. rw c.requires.wallets (get_or-map-range_with_len f 0 job.deal.graph.n k k None lt (zero-add k));
     }
 
+pub add_actor-requires-clause-fits : goal.add_actor-requires-clause-fits
+add_actor-requires-clause-fits c = c.requires.fit c.parties.p (rw c.n-p-end.ensures at c.parties-test.true)
+
 pub parties-preserved : goal.parties-preserved
 parties-preserved c = record {
-  so_far =
-      goes_on c.args.job.now (actors_of c.args.job.now) c.parties.p c.parties.actors.items c.add_actor.new.actors.items
-      (rw c.n-p-end.ensures at c.parties-test.true) c.in_ok-add_actor.ensures c.parties.invariant.so_far;
+  so_far = map_more (acts_for c.args.job.now) c.parties.p c.parties.actors.items c.add_actor.new.actors.items c.in_ok-add_actor.ensures
+      c.parties.invariant.so_far;
   one_each = simp length-set c.parties.invariant.one_each;
   wallets = λ k le lt. let other : k ≢ c.parties.p = omega arith in rw get_or-set_other (c.parties.invariant.wallets k (omega arith) lt);
 }
-
-pub returns-in_err-add_actor : goal.returns-in_err-add_actor
-returns-in_err-add_actor c =
-    let p = err_from_is_err_and c.from_residual.result c.from_residual.ensures.1 in
-    rw (p.1, p.2) (ends c.args.job.now (actors_of c.args.job.now) c.in_err-add_actor.field-0.0 c.parties.p c.parties.actors.items
-    (rw c.n-p-end.ensures at c.parties-test.true) c.in_err-add_actor.ensures c.parties.invariant.so_far)
-
-pub returns : goal.returns
-returns c =
-    is_done c.args.job.now (actors_of c.args.job.now) c.parties.p c.parties.actors.items (rw c.n-p-end.ensures at c.parties-test.false)
-    c.parties.invariant.so_far

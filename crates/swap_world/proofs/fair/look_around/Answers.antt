@@ -4,7 +4,7 @@ use Rattle.swap_digraph.specs.declared.deal.Deal.{Deal}
 use Rattle.swap_job.specs.declared.event.Event.TheVariants.{Look}
 use Rattle.swap_job.specs.Step.{CanLook}
 use Rattle.swap_run.specs.Run.{Cast, State, step}
-use Rattle.swap_run.specs.Fair.{adjacent, looks}
+use Rattle.swap_run.specs.Fair.{adjacent_arcs, looks}
 use Rattle.swap_run.specs.Steps.{look_steps}
 use Rattle.swap_world.specs.Value.{cast_for}
 use Rattle.swap_world.proofs.Ways.{if_err, over, over_looks}
@@ -23,8 +23,9 @@ item : (xs : List ℕ) (k : ℕ) → k < length xs → slice_index xs k ≡ get_
 item xs k l = any_default xs k 0 (slice_index xs k) l
 
 -- an arc of the list can be looked at
-can_at : (d : Deal) (p k x : ℕ) (xs : List ℕ) → p < d.graph.n → xs ≡ adjacent d p → k < length xs → x ≡ get_or xs k x → CanLook d p x
-can_at d p k x xs l e lt is = subst (CanLook d p) (sym is) (All-get_or (CanLook d p) xs k x lt (All-same (CanLook d p) xs (adjacent d p) e (can_look d p l)))
+can_at : (d : Deal) (p k x : ℕ) (xs : List ℕ) → p < d.graph.n → xs ≡ adjacent_arcs d p → k < length xs → x ≡ get_or xs k x → CanLook d p x
+can_at d p k x xs l e lt is = subst (CanLook d p) (sym is) (All-get_or (CanLook d p) xs k x lt
+    (All-same (CanLook d p) xs (adjacent_arcs d p) e (can_look d p l)))
 
 pub arcs-init : goal.arcs-init
 arcs-init g c = begun (g.K.Strategies.gives c.args.kit.now) c.args.world.now

@@ -1,6 +1,6 @@
 use Rattle.std.proofs.Common.{◌<◌, ◌≤◌, arith, fold, take, sym, ap, ◌∙◌, subst}
 use Rattle.std.specs.List.{range_with_len}
-use Rattle.swap_run.specs.Fair.{adjacent, turn}
+use Rattle.swap_run.specs.Fair.{adjacent_arcs, turn}
 use Rattle.swap_run.specs.Steps.{turn_steps}
 use Rattle.swap_run.proofs.Along.{turn_run}
 use Rattle.swap_world.specs.Value.{cast_for}
@@ -34,7 +34,7 @@ turn-requires-clause-near g c =
     let same = deal_gone (g.K.Strategies.gives c.args.kit.now) (λ x s. fold (turn x) s (take c.parties.p (range_with_len 0 w.deal.graph.n))) w
     c.parties.world c.parties.invariant in
     c.as_slice.ensures ∙ near_at w.deal c.args.near.now c.parties.p c.index-near-place.result c.requires.near l c.index-near-place.is
-    ∙ ap (λ d. adjacent d c.parties.p) (sym same)
+    ∙ ap (λ d. adjacent_arcs d c.parties.p) (sym same)
 
 pub turn-requires-clause-goes_on : goal.turn-requires-clause-goes_on
 turn-requires-clause-goes_on g c =

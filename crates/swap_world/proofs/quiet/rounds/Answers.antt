@@ -2,7 +2,7 @@ use Rattle.std.proofs.Common.{◌≡◌, ◌≢◌, ◌⊎◌, inl, inr, ℕ, �
 use Rattle.swap_digraph.specs.declared.deal.Deal.{Deal}
 use Rattle.ledger_core.specs.Book.{Histories}
 use Rattle.swap_rules.proofs.Prefixes.{same_or_not}
-use Rattle.swap_run.specs.Fair.{adjacent}
+use Rattle.swap_run.specs.Fair.{adjacent_arcs}
 use Rattle.swap_world.specs.Acting.{histories}
 use Rattle.swap_world.specs.Quiet.{IsCalmActor, IsReadyActor}
 use Rattle.swap_world.specs.declared.actor.Actor.{Actor}
@@ -11,14 +11,14 @@ use Rattle.swap_world.proofs.Idle.{actor_less, any_default}
 use Rattle.swap_world.proofs.quiet.rounds.Goals as goal
 
 one_more : (d : Deal) (b : Histories) (xs : List Actor) (old new p : ℕ) (x : Actor) (v : ℕ) (y : Actor) → new ≤ old → v < length xs
-    → x ≡ slice_index_or xs p x → IsCalmActor new b (adjacent d p) x
-    → (v < p → IsCalmActor old b (adjacent d v) (slice_index_or xs v y)) → v < p + 1 → (v ≡ p) ⊎ (v ≢ p)
-    → IsCalmActor new b (adjacent d v) (slice_index_or xs v y)
+    → x ≡ slice_index_or xs p x → IsCalmActor new b (adjacent_arcs d p) x
+    → (v < p → IsCalmActor old b (adjacent_arcs d v) (slice_index_or xs v y)) → v < p + 1 → (v ≡ p) ⊎ (v ≢ p)
+    → IsCalmActor new b (adjacent_arcs d v) (slice_index_or xs v y)
 one_more d b xs old new p x v y less l is here before low (inl e) =
     let there : slice_index_or xs v y ≡ x = any_default xs v y x l ∙ (ap (λ k. slice_index_or xs k x) e ∙ sym is) in
-    subst (λ (z : Actor). IsCalmActor new b (adjacent d v) z) (sym there) (subst (λ k. IsCalmActor new b (adjacent d k) x) (sym e) here)
+    subst (λ (z : Actor). IsCalmActor new b (adjacent_arcs d v) z) (sym there) (subst (λ k. IsCalmActor new b (adjacent_arcs d k) x) (sym e) here)
 one_more d b xs old new p x v y less l is here before low (inr apart) =
-    actor_less old new b (adjacent d v) (slice_index_or xs v y) less (before (let q : ◌≢◌ {A = ℕ} v p = apart in omega (arith, low, q)))
+    actor_less old new b (adjacent_arcs d v) (slice_index_or xs v y) less (before (let q : ◌≢◌ {A = ℕ} v p = apart in omega (arith, low, q)))
 
 pub parties-init : goal.parties-init
 parties-init c = record { few = omega arith; calm = λ more v x low l. absurd (omega (arith, low)) }
@@ -38,7 +38,7 @@ rounds_for-rounds-requires c =
     c.parties-test.true)
     c.index-near-p.is in
     subst (λ (ns : List ℕ). IsReadyActor (length c.args.ledgers.now) b ns x) (sym near)
-    (subst (IsReadyActor (length c.args.ledgers.now) b (adjacent d p)) (sym c.index-actors-p.is) (c.requires.ready p x c.parties-test.true))
+    (subst (IsReadyActor (length c.args.ledgers.now) b (adjacent_arcs d p)) (sym c.index-actors-p.is) (c.requires.ready p x c.parties-test.true))
 
 pub parties-preserved : goal.parties-preserved
 parties-preserved c =

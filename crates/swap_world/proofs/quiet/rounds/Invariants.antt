@@ -1,5 +1,5 @@
 use Rattle.std.proofs.Common.{ℕ, ◌<◌, ◌≤◌, length, slice_index_or}
-use Rattle.swap_run.specs.Fair.{adjacent}
+use Rattle.swap_run.specs.Fair.{adjacent_arcs}
 use Rattle.swap_world.specs.Acting.{histories}
 use Rattle.swap_world.specs.Quiet.{IsCalmActor}
 use Rattle.swap_world.specs.declared.actor.Actor.{Actor}
@@ -10,5 +10,5 @@ invariant-parties l = record {
   few : l.rounds ≤ l.most;
   calm :
       0 < l.rounds → (v : ℕ) (x : Actor) → v < l.p → v < length l.actors
-      → IsCalmActor l.rounds (histories l.ledgers) (adjacent l.deal v) (slice_index_or l.actors v x);
+      → IsCalmActor l.rounds (histories l.ledgers) (adjacent_arcs l.deal v) (slice_index_or l.actors v x);
 }

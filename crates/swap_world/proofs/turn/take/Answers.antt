@@ -2,7 +2,9 @@ use Rattle.std.proofs.Common.{◌<◌, ◌==◌, ◌||◌, ℕ, Option, arith, s
 use Rattle.std.specs.Prelude.{IsTrue}
 use Rattle.ledger_core.specs.declared.entry.Call.{Call}
 use Rattle.swap_digraph.specs.Deal.{party, counterparty}
+use Rattle.ledger_core.specs.Book.{history}
 use Rattle.ledger_core.specs.History.{IsLegal, fit}
+use Rattle.swap_rules.specs.Machine.{Begins}
 use Rattle.swap_run.specs.Run.{plan_up_to}
 use Rattle.swap_world.specs.Acting.{histories, landed, taken, seen, told_to}
 use Rattle.swap_world.specs.On.{swept_in, told_by}
@@ -20,6 +22,13 @@ pub make_planned-requires-clause-arc : goal.make_planned-requires-clause-arc
 make_planned-requires-clause-arc c =
     let is = c.requires.may (c.in-Some.arc, c.in-Some.due) c.in-Some.is in
     subst (λ n. c.in-Some.arc < n) (sym c.requires.known) is.arc
+
+pub make_planned-requires-clause-begins : goal.make_planned-requires-clause-begins
+make_planned-requires-clause-begins c =
+    let is = c.requires.may (c.in-Some.arc, c.in-Some.due) c.in-Some.is in
+    let below = subst (λ n. c.in-Some.arc < n) (sym c.requires.ledgers.one_each) is.arc in
+    subst (λ h. Begins (history c.args.planner.now.known c.in-Some.arc) h)
+    (history_at c.args.ledgers.now.items c.in-Some.arc c.index_mut.result.now below c.index_mut.ensures.value) (c.requires.begins c.in-Some.arc)
 
 pub make_planned-requires-clause-of_the_two : goal.make_planned-requires-clause-of_the_two
 make_planned-requires-clause-of_the_two c =

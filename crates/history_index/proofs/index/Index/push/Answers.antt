@@ -1,4 +1,5 @@
-use Rattle.std.proofs.Common.{◌≡◌, ℕ, ◌+◌, ◌-◌, ◌++◌, ◌∷◌, [], cond, length, ap, sym, ◌∙◌, length-append}
+use Rattle.std.proofs.Common.{◌≡◌, ℕ, ◌+◌, ◌-◌, ◌<◌, ◌++◌, ◌∷◌, [], cond, length, ap, sym, subst, ◌∙◌, length-append}
+use Rattle.std.specs.Prelude.{IsTrue}
 use Rattle.ledger_core.specs.declared.entry.Entry.{Entry}
 use Rattle.ledger_core.specs.declared.runs.Item.TheVariants.{One}
 use Rattle.ledger_core.specs.History.{sent_by}
@@ -6,6 +7,7 @@ use Rattle.ledger_core.specs.Runs.{expand}
 use Rattle.history_index.specs.declared.made.Made.{Made}
 use Rattle.ledger_core.specs.Facts.{is_call}
 use Rattle.history_index.specs.Made.{made_after}
+use Rattle.history_index.specs.Numbers.{IsIndexable}
 use Rattle.history_index.proofs.Push.{last_lock, last_sent, expand_push, answers_kept, calls_kept, made_kept, indexable_kept, room_kept}
 use Rattle.history_index.proofs.index.Index.push.Goals as goal
 
@@ -17,17 +19,19 @@ unfolding made_of
 invariant_of-self g c =
     let i = c.self.inside in
     let k = c.self.invariant in
-    let e = c.args.entry in
+    let e = c.with_entry-past.result.1 in
+    let same : e ≡ c.args.entry = c.with_entry-past.ensures.entry in
     let h = expand i.past.items in
     let xs = expand c.with_entry-past.result.0.items in
-    let fits = rw (← c.self.view_is) at c.requires.indexable in
-    let some = rw (← c.self.view_is) at c.requires.room in
+    let fits =
+    subst (λ x. IsIndexable i.from.party i.to.party (h ++ x ∷ [])) (sym same) (rw (← c.self.view_is) at c.requires.indexable) in
+    let some = subst (λ x. IsTrue (is_call x.what) → 0 < i.room) (sym same) (rw (← c.self.view_is) at c.requires.room) in
     let from = c.add-2.new.self in
     let to = c.add-3.new.self in
-    let items : xs ≡ h ++ e ∷ [] = ap expand c.with_entry-past.ensures.past ∙ expand_push i.past.items (One e) in
+    let items : xs ≡ h ++ e ∷ [] =
+    ap expand c.with_entry-past.ensures.past ∙ expand_push i.past.items (One c.args.entry) ∙ ap (λ x. h ++ x ∷ []) (sym same) in
     let lock = last_lock i.from.party i.to.party h e fits in
-    let made : c.keep.new.made.items ≡ made_after i.count e i.made.items =
-    c.keep.ensures.made ∙ ap (λ z. made_after i.count z i.made.items) c.with_entry-past.ensures.entry in
+    let made : c.keep.new.made.items ≡ made_after i.count e i.made.items = c.keep.ensures.made in
     let room : i.room - c.calls_in.result ≡ i.room - cond (is_call e.what) 1 0 = ap (λ n. i.room - n) c.calls_in.ensures in
     record {
       locks = k.locks;

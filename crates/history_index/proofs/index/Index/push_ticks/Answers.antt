@@ -9,7 +9,7 @@ pub overflow_add-self : goal.overflow_add-self
 overflow_add-self g c =
     let i = c.self.inside in
     let fits = rw (← c.self.view_is) at c.requires.indexable in
-    let below = has_height (expand i.past.items) c.args.run i.from.party i.to.party c.requires.right fits in
+    let below = has_height (expand i.past.items) c.args.run i.from.party i.to.party fits in
     let at = c.self.invariant.answers.height in
     omega arith
 
@@ -34,7 +34,7 @@ invariant_of-self g c =
       locks = k.locks;
       indexable = indexable_kept i.from.party i.to.party i.from.party i.to.party (h ++ ticks_of r) xs refl refl items fits;
       count = count_run h xs r i.count _ items k.count refl;
-      answers = answers_run i.terms h xs r i.answers items c.requires.right k.answers;
+      answers = answers_run i.terms h xs r i.answers items k.answers;
       made = made_run h xs r i.made.items items k.made;
       from = calls_run i.from.party h xs r i.from.numbers.items i.from.kinds items k.from;
       to = calls_run i.to.party h xs r i.to.numbers.items i.to.kinds items k.to;

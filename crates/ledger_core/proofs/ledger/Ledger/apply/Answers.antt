@@ -1,6 +1,6 @@
 use Rattle.std.proofs.Common.{◌+◌, ◌==◌, cond, sym, ap, ◌∙◌, arith}
 use Rattle.ledger_core.specs.declared.entry.What.TheVariants.{Call as Made}
-use Rattle.ledger_core.specs.History.{accepted_in, moved_by}
+use Rattle.ledger_core.specs.History.{accepted_call, moved_by}
 use Rattle.ledger_core.proofs.History.{full_reply}
 use Rattle.ledger_core.proofs.Bounds.{countable}
 use Rattle.ledger_core.proofs.Contracts.{contract_in}
@@ -61,7 +61,7 @@ invariant_of-self c =
                 has_room l.deal l.arc l.history.list c.args.sender c.args.call c.reply_of-reply.result unfull reply;
           })
           (c.accounts_after-self-inside.ensures
-          ∙ ap (λ p. moved_by p l.accounts (c.args.sender == p) (accepted_in (Made c.args.call) c.reply_of-reply.result)) i.party)
+          ∙ ap (λ p. moved_by p l.accounts (c.args.sender == p) (accepted_call (Made c.args.call) c.reply_of-reply.result)) i.party)
           c.reply_of-reply.ensures.contract
           (c.one_more_where-self-inside.ensures ∙ ap (λ p. l.party_calls + cond (c.args.sender == p) 1 0) i.party)
           (c.one_more_where-self-inside-2.ensures ∙ ap (λ p. l.counterparty_calls + cond (c.args.sender == p) 1 0) i.counterparty));

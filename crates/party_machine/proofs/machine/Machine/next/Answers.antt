@@ -5,10 +5,10 @@ use Rattle.swap_rules.specs.Rest.{rest_until}
 use Rattle.swap_rules.specs.Machine.{noted}
 use Rattle.party_wallet.specs.Value.{signed_in}
 use Rattle.history_index.specs.Value.{IndexState}
-use Rattle.party_machine.specs.Machine.{MachineState, next_of}
+use Rattle.party_machine.specs.Machine.{MachineState, next_due}
 use Rattle.party_machine.specs.Within.{entries_in}
 use Rattle.party_machine.specs.Unlocking.{due_hashkey}
-use Rattle.party_machine.specs.Recording.{unsigned_key, IsWhole}
+use Rattle.party_machine.specs.Recording.{unsigned_key, IsWholeKey}
 use Rattle.party_machine.proofs.Next.{at_once}
 use Rattle.party_machine.proofs.Step.{answered_ready, publishes, first_unlock, from_some, seen_by, unlocks, unlocks_next, settles_next, noted_as}
 use Rattle.party_machine.proofs.Resting.{awake, begins, shown}
@@ -30,7 +30,7 @@ returns-then-is_some-clause-due c =
       signed =
           i.wallet.signed;
     }) c.in_ok-first.first e (sym c.is_some.ensures ∙ c.if-is_some.true)
-    ∙ ap next_of c.self.view_is
+    ∙ ap next_due c.self.view_is
 
 pub returns-then-is_some-clause-signed : goal.returns-then-is_some-clause-signed
 returns-then-is_some-clause-signed c = sym (c.in_ok-first.ensures.no_key (signed_in c.args.self.now.signed))
@@ -74,7 +74,7 @@ returns-in-Some-clause-due c =
     unlocks_next i.deal i.wallet i.known.items c.self.invariant.ready c.in_ok-first.first c.in-Some.due c.in_ok-key-in-Some.key e (sym c.is_some.ensures
     ∙ c.if-is_some.false)
     (unlocks i.deal i.wallet i.known.items c.self.invariant.ready c.in-Some.due c.in_ok-key-in-Some.key seen f value)
-    ∙ ap next_of c.self.view_is
+    ∙ ap next_due c.self.view_is
 
 pub returns-in-Some-clause-signed : goal.returns-in-Some-clause-signed
 returns-in-Some-clause-signed c =
@@ -114,7 +114,7 @@ returns-clause-due c =
     settles_next i.deal i.wallet i.known.items c.self.invariant.ready c.party-me.result c.deref-2.result.now c.deref-in-None.result.now
     c.signed.result.now.keys c.in_ok-first.first c.due_last-last.result c.party-me.ensures c.deref-2.ensures.value c.deref-in-None.ensures.value
     c.signed.ensures e (sym c.is_some.ensures ∙ c.if-is_some.false) (c.in-None.ensures.none refl) c.due_last-last.ensures.first
-    ∙ ap next_of c.self.view_is
+    ∙ ap next_due c.self.view_is
 
 pub returns-clause-signed : goal.returns-clause-signed
 returns-clause-signed c =
@@ -134,7 +134,7 @@ returns-in-Some-clause-whole c =
     let value : due_hashkey i.deal i.wallet (entries_in i.known.items) c.in-Some.due ≡ Some c.in_ok-key-in-Some.key =
     subst (λ (ys : List IndexState). due_hashkey i.deal i.wallet (entries_in ys) c.in-Some.due ≡ Some c.in_ok-key-in-Some.key)
     c.deref-in-Some.ensures.value c.in_ok-key-in-Some.ensures.value in
-    subst (λ (s : MachineState). (k : Hashkey) → unsigned_key s.signed (Unlock c.in_ok-key-in-Some.key) ≡ Some k → IsWhole s.deal k)
+    subst (λ (s : MachineState). (k : Hashkey) → unsigned_key s.signed (Unlock c.in_ok-key-in-Some.key) ≡ Some k → IsWholeKey s.deal k)
     c.self.view_is
     (due_whole i.deal i.wallet i.known.items c.self.invariant.ready c.in-Some.due c.in_ok-key-in-Some.key seen value)
 

@@ -3,7 +3,7 @@ use Rattle.swap_many.specs.Many.{many_start}
 use Rattle.swap_many.specs.Laws.{IsReady}
 use Rattle.swap_many.specs.Sound.{Keeps}
 use Rattle.swap_many.specs.Opened.{overdrawn}
-use Rattle.swap_many.specs.Opening.{setup_by, new_many, opened}
+use Rattle.swap_many.specs.Opening.{setup_of_worlds, new_many, opened}
 use Rattle.swap_many.specs.Stages.{Stage, stages_in, run_by}
 use Rattle.swap_many.specs.Value.{ManyState, setup_for, kept_of}
 use Rattle.swap_many.proofs.Begun.{was_opened}
@@ -18,7 +18,7 @@ invariant_of-result c =
     let cs = c.args.chains.now in
     let made = c.in-Ok.worlds in
     let e : opened cs ws ps ≡ Ok made = c.in-Ok.ensures in
-    let k = was_opened (overdrawn (setup_by ws ps cs)) (new_many cs ws ps) made e in
+    let k = was_opened (overdrawn (setup_of_worlds ws ps cs)) (new_many cs ws ps) made e in
     let ys : List Stage = stages_in (map (λ p. p.items) c.new-in-Ok.result.items) c.new-in-Ok-2.result.items in
     let none : ys ≡ [] = ap₂ (λ xs es. stages_in (map (λ p. p.items) xs) es) c.new-in-Ok.ensures c.new-in-Ok-2.ensures in
     record {

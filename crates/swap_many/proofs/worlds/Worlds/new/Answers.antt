@@ -3,7 +3,7 @@ use Rattle.std.specs.List.{range_with_len}
 use Rattle.swap_run.specs.Laws.{IsReadyCast}
 use Rattle.swap_world.specs.Value.{cast_at}
 use Rattle.swap_many.specs.Opened.{overdrawn}
-use Rattle.swap_many.specs.Opening.{setup_by, new_chain, new_many, none_swept, opened_or}
+use Rattle.swap_many.specs.Opening.{setup_of_worlds, new_chain, new_many, none_swept, opened_or}
 use Rattle.swap_many.specs.Ticking.{nth}
 use Rattle.swap_many.specs.Value.{ManyState}
 use Rattle.swap_many.specs.Inside.{AreWhole, standing}
@@ -19,7 +19,7 @@ invariant_of-result c =
     let ws = c.args.worlds.items in
     let ps = c.args.places in
     let cs = c.args.chains.now in
-    let m = setup_by ws ps cs in
+    let m = setup_of_worlds ws ps cs in
     let all = map (new_chain m) (range_with_len 0 (length cs)) in
     let e : opened_or (overdrawn m) all ≡ Ok c.in-Ok.opened.items = rw (c.deref.ensures.value, c.as_slice.ensures) at c.in-Ok.ensures in
     let k = was_opened (overdrawn m) all c.in-Ok.opened.items e in

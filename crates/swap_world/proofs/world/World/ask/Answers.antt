@@ -1,5 +1,7 @@
 use Rattle.std.proofs.Common.{◌≡◌, ◌<◌, ◌+◌, ◌∷◌, [], length, get_or, false, sym, ap, set, ◌∙◌, subst, length-append}
 use Rattle.std.proofs.lemmas.List.{get_or_default}
+use Rattle.ledger_core.specs.Book.{history}
+use Rattle.swap_rules.specs.Machine.{Begins}
 use Rattle.swap_job.specs.declared.job.Role.TheVariants as kinds
 use Rattle.swap_run.specs.Run.{Plan}
 use Rattle.swap_world.specs.Acting.{histories, seen}
@@ -11,7 +13,7 @@ use Rattle.swap_world.proofs.Asks.{IsAsking, good_asked, has_gone, is_cut, kept_
 use Rattle.swap_world.proofs.Disks.{disks_stay, planned_signed}
 use Rattle.swap_world.proofs.Ledgers.{on_ok}
 use Rattle.swap_world.proofs.States.{actor_set}
-use Rattle.swap_world.proofs.Worlds.{plan_placed, knows_each, shown}
+use Rattle.swap_world.proofs.Worlds.{plan_placed, knows_each, plan_begins, shown}
 use Rattle.swap_world.proofs.Rooms.{room_unless}
 use Rattle.swap_world.proofs.world.World.ask.Goals as goal
 
@@ -41,6 +43,20 @@ take-done-requires-clause-known g c =
     c.index_mut.ensures.value in
     ap (λ (m : Plan). length m.known) c.in_ok-answer.ensures.turned
     ∙ knows_each i.deal i.conforming i.seeds i.roles (asked_in i) ls xs c.self.invariant.ready (c.self.invariant.good goes_on) c.args.p known n place
+
+pub take-done-requires-clause-begins : goal.take-done-requires-clause-begins
+take-done-requires-clause-begins g c = λ a.
+    let i = c.self.inside in
+    let ls = i.ledgers.items in
+    let xs = i.actors.items in
+    let n = c.in-Planned.planner in
+    let known : c.args.p < i.deal.graph.n = rw (← c.self.view_is) at c.requires.party in
+    let goes_on : i.stopped ≡ false = rw (← c.self.view_is) at c.requires.goes_on in
+    let place =
+    plan_placed i.deal i.conforming i.seeds i.roles (asked_in i) ls xs c.args.p c.index_mut.result.now n c.self.invariant.actors known c.in-Planned.is
+    c.index_mut.ensures.value in
+    subst (λ (m : Plan). Begins (history m.known a) (history (histories ls) a)) (sym c.in_ok-answer.ensures.turned)
+    (plan_begins i.deal i.conforming i.seeds i.roles (asked_in i) ls xs c.self.invariant.ready (c.self.invariant.good goes_on) c.args.p known n place a)
 
 pub invariant_of-self-2 : goal.invariant_of-self-2
 invariant_of-self-2 g c =

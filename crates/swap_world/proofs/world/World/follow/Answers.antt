@@ -14,7 +14,7 @@ use Rattle.swap_world.proofs.On.{if_told}
 use Rattle.swap_world.proofs.Plans.{scripted}
 use Rattle.swap_world.proofs.Disks.{disks_stay, err_unless, have_either, planned_signed}
 use Rattle.swap_world.proofs.States.{actor_set, state, followed, followed_book, followed_notes, followed_told}
-use Rattle.swap_world.proofs.Worlds.{good_unless, kept_on, acted_on, both, plan_placed, knows_each, shown}
+use Rattle.swap_world.proofs.Worlds.{good_unless, kept_on, acted_on, both, plan_placed, knows_each, plan_begins, shown}
 use Rattle.swap_world.proofs.Rooms.{room_unless}
 use Rattle.swap_world.proofs.world.World.follow.Goals as goal
 
@@ -31,6 +31,19 @@ follow-done-requires-clause-known c =
     plan_placed i.deal i.conforming i.seeds i.roles (asked_in i) ls xs c.args.p c.index_mut.result.now n c.self.invariant.actors known c.in-Planned.is
     c.index_mut.ensures.value in
     knows_each i.deal i.conforming i.seeds i.roles (asked_in i) ls xs c.self.invariant.ready (c.self.invariant.good goes_on) c.args.p known n place
+
+pub follow-done-requires-clause-begins : goal.follow-done-requires-clause-begins
+follow-done-requires-clause-begins c = λ a.
+    let i = c.self.inside in
+    let ls = i.ledgers.items in
+    let xs = i.actors.items in
+    let n = c.in-Planned.planner in
+    let known : c.args.p < i.deal.graph.n = rw (← c.self.view_is) at c.requires.party in
+    let goes_on : i.stopped ≡ false = rw (← c.self.view_is) at c.requires.goes_on in
+    let place =
+    plan_placed i.deal i.conforming i.seeds i.roles (asked_in i) ls xs c.args.p c.index_mut.result.now n c.self.invariant.actors known c.in-Planned.is
+    c.index_mut.ensures.value in
+    plan_begins i.deal i.conforming i.seeds i.roles (asked_in i) ls xs c.self.invariant.ready (c.self.invariant.good goes_on) c.args.p known n place a
 
 pub follow-done-requires-clause-shown : goal.follow-done-requires-clause-shown
 follow-done-requires-clause-shown c =

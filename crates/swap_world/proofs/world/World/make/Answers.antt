@@ -11,7 +11,7 @@ use Rattle.swap_world.proofs.Ledgers.{on_err, either}
 use Rattle.swap_world.proofs.On.{if_told}
 use Rattle.swap_world.proofs.Disks.{disks_stay, err_unless, have_either, planned_signed}
 use Rattle.swap_world.proofs.States.{actor_set, state, made_by_hand, made_book, made_notes, made_told}
-use Rattle.swap_world.proofs.Worlds.{good_unless, kept_on, acted_on, both, plan_placed, knows_each}
+use Rattle.swap_world.proofs.Worlds.{good_unless, kept_on, acted_on, both, plan_placed, knows_each, plan_begins}
 use Rattle.swap_world.proofs.Rooms.{room_unless}
 use Rattle.swap_world.proofs.world.World.make.Goals as goal
 
@@ -31,6 +31,19 @@ make_by_hand-done-requires-clause-known c =
     plan_placed i.deal i.conforming i.seeds i.roles (asked_in i) ls xs c.args.sender c.index_mut.result.now n c.self.invariant.actors can.known c.in-Planned.is
     c.index_mut.ensures.value in
     knows_each i.deal i.conforming i.seeds i.roles (asked_in i) ls xs c.self.invariant.ready (c.self.invariant.good goes_on) c.args.sender can.known n place
+
+pub make_by_hand-done-requires-clause-begins : goal.make_by_hand-done-requires-clause-begins
+make_by_hand-done-requires-clause-begins c = λ a.
+    let i = c.self.inside in
+    let ls = i.ledgers.items in
+    let xs = i.actors.items in
+    let n = c.in-Planned.planner in
+    let can = rw (← c.self.view_is) at c.requires.event in
+    let goes_on : i.stopped ≡ false = rw (← c.self.view_is) at c.requires.goes_on in
+    let place =
+    plan_placed i.deal i.conforming i.seeds i.roles (asked_in i) ls xs c.args.sender c.index_mut.result.now n c.self.invariant.actors can.known c.in-Planned.is
+    c.index_mut.ensures.value in
+    plan_begins i.deal i.conforming i.seeds i.roles (asked_in i) ls xs c.self.invariant.ready (c.self.invariant.good goes_on) c.args.sender can.known n place a
 
 pub invariant_of-self-2 : goal.invariant_of-self-2
 invariant_of-self-2 c =

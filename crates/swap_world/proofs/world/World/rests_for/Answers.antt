@@ -1,6 +1,6 @@
 use Rattle.std.proofs.Common.{◌≡◌, ℕ, ◌<◌, false, List, length, slice_index_or, sym, ap, ◌∙◌, subst}
 use Rattle.ledger_core.specs.Value.{LedgerState}
-use Rattle.swap_run.specs.Fair.{adjacent}
+use Rattle.swap_run.specs.Fair.{adjacent_arcs}
 use Rattle.swap_world.specs.Value.{WorldState, cast_at}
 use Rattle.swap_world.specs.Acting.{histories}
 use Rattle.swap_world.specs.Inside.{asked_in}
@@ -22,9 +22,9 @@ rounds-requires-clause-ready c =
     let all = are_ready i.deal i.conforming i.seeds i.roles (asked_in i) i.ledgers.items i.actors.items c.self.invariant.ready
     (c.self.invariant.good goes_on) c.self.invariant.ledgers c.self.invariant.actors in
     subst (λ (ls : List LedgerState). (v : ℕ) (x : Actor) → v < length c.deref-2.result.now
-    → IsReadyActor (length ls) (histories ls) (adjacent i.deal v) (slice_index_or c.deref-2.result.now v x)) (sym c.deref.ensures.value)
+    → IsReadyActor (length ls) (histories ls) (adjacent_arcs i.deal v) (slice_index_or c.deref-2.result.now v x)) (sym c.deref.ensures.value)
     (subst (λ (xs : List Actor). (v : ℕ) (x : Actor) → v < length xs
-    → IsReadyActor (length i.ledgers.items) (histories i.ledgers.items) (adjacent i.deal v) (slice_index_or xs v x)) (sym c.deref-2.ensures.value) all)
+    → IsReadyActor (length i.ledgers.items) (histories i.ledgers.items) (adjacent_arcs i.deal v) (slice_index_or xs v x)) (sym c.deref-2.ensures.value) all)
 
 pub returns-clause-still : goal.returns-clause-still
 returns-clause-still c =
@@ -35,9 +35,9 @@ returns-clause-still c =
     let n = c.rounds.result in
     let goes_on : i.stopped ≡ false = rw (← c.self.view_is) at c.requires.goes_on in
     let calm = subst (λ (ks : List LedgerState). 0 < n → (v : ℕ) (x : Actor) → v < length xs
-    → IsCalmActor n (histories ks) (adjacent d v) (slice_index_or xs v x)) c.deref.ensures.value
+    → IsCalmActor n (histories ks) (adjacent_arcs d v) (slice_index_or xs v x)) c.deref.ensures.value
     (subst (λ (ys : List Actor). 0 < n → (v : ℕ) (x : Actor) → v < length ys
-    → IsCalmActor n (histories c.deref.result.now) (adjacent d v) (slice_index_or ys v x)) c.deref-2.ensures.value c.rounds.ensures.calm) in
+    → IsCalmActor n (histories c.deref.result.now) (adjacent_arcs d v) (slice_index_or ys v x)) c.deref-2.ensures.value c.rounds.ensures.calm) in
     subst (λ (w : WorldState). 0 < n → IsStill (cast_at w) n w.state) c.self.view_is (λ more.
     rests d i.conforming i.seeds i.roles (asked_in i) ls xs c.self.invariant.ready (c.self.invariant.good goes_on) n c.self.invariant.actors
     (calm more))

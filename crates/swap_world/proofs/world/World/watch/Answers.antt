@@ -1,5 +1,7 @@
 use Rattle.std.proofs.Common.{false, ◌≡◌, ◌<◌, set, sym, ap, ◌∙◌, subst}
 use Rattle.std.proofs.lemmas.Bool.{false≢true}
+use Rattle.ledger_core.specs.Book.{history}
+use Rattle.swap_rules.specs.Machine.{Begins}
 use Rattle.swap_job.specs.declared.event.Event.TheVariants.{Look}
 use Rattle.swap_run.specs.Run.{plan_up_to}
 use Rattle.swap_world.specs.Acting.{histories}
@@ -8,7 +10,7 @@ use Rattle.swap_world.specs.declared.actor.Actor.TheVariants.{Planned}
 use Rattle.swap_world.proofs.Kept.{journals_planned}
 use Rattle.swap_world.proofs.Ledgers.{on_ok, on_err, history_at}
 use Rattle.swap_world.proofs.States.{actor_set, same_actor, state, watched}
-use Rattle.swap_world.proofs.Worlds.{world, good_on, plan_placed, knows_each}
+use Rattle.swap_world.proofs.Worlds.{world, good_on, plan_placed, knows_each, plan_begins}
 use Rattle.swap_world.proofs.world.World.watch.Goals as goal
 
 pub watch-requires : goal.watch-requires
@@ -22,11 +24,15 @@ watch-requires c =
     let place =
     plan_placed i.deal i.conforming i.seeds i.roles (asked_in i) ls xs c.args.p c.index_mut.result.now n c.self.invariant.actors can.known c.in-Planned.is
     c.index_mut.ensures.value in
+    let below = subst (λ k. c.args.arc < k) (sym c.self.invariant.ledgers.one_each) can.arc in
     record {
       arc = subst (λ k. c.args.arc < k)
           (sym (knows_each i.deal i.conforming i.seeds i.roles (asked_in i) ls xs c.self.invariant.ready (c.self.invariant.good goes_on) c.args.p can.known n
           place))
           can.arc;
+      begins = subst (λ h. Begins (history n.known c.args.arc) h) (history_at ls c.args.arc c.index.result.now below c.index.ensures)
+          (plan_begins i.deal i.conforming i.seeds i.roles (asked_in i) ls xs c.self.invariant.ready (c.self.invariant.good goes_on) c.args.p can.known n place
+          c.args.arc);
     }
 
 pub invariant_of-self-2 : goal.invariant_of-self-2

@@ -1,7 +1,7 @@
 use Rattle.std.proofs.Common.{◌≡◌}
 use Rattle.swap_auditor.specs.Audit.{replay_from}
 use Rattle.swap_auditor.proofs.Replays.{left, AreLegalBefore}
-use Rattle.swap_auditor.proofs.auditing.replay_book.Given as goal
+use Rattle.swap_auditor.proofs.auditing.replay_all.Given as goal
 
 abbrev pub invariant-loop-arc : goal.invariant-loop-arc
 invariant-loop-arc l = record {
