@@ -11,14 +11,6 @@ secret_chain false true true = refl
 secret_chain false true false = refl
 secret_chain false false fresh = refl
 
--- the last test needs only be right where those before it hold
-pub unlock_chain : (published ready first kept valid origin : Bool) → (first ≡ true → kept ≡ (valid && origin))
-    → (published && ready && first && kept) ≡ (published && ready && first && valid && origin)
-unlock_chain true true true kept valid origin h = h refl
-unlock_chain true true false kept valid origin h = refl
-unlock_chain true false first kept valid origin h = refl
-unlock_chain false ready first kept valid origin h = refl
-
 pub in_turn : (origin valid : Bool) (o v : Bool) → o ≡ origin → v ≡ valid → (o && v) ≡ (valid && origin)
 in_turn origin valid o v e k = ap (λ z. z && v) e ∙ (ap (λ z. origin && z) k ∙ and_swap origin valid)
 

@@ -5,3 +5,4 @@ pub mod Legal
 pub mod Valid
 pub mod Forgery
 pub mod Loops
+pub mod Made

@@ -134,36 +134,6 @@ fn keeps_unlock(
         && keeps_first(deal, known, party, standing, arc, key)
 }
 
-/// Whether a call of the party on the arc, made at a height as the entry with that number, keeps the rules of conduct.
-#[tactic(auto, unfolding(swap_rules::specs::Conduct::keeps))]
-fn keeps(
-    deal: &Deal,
-    known: &[Index],
-    party: PartyId,
-    keys: &[&Hashkey],
-    standing: &Standing,
-    arc: ArcId,
-    number: u32,
-    at: u32,
-    call: &Call,
-) -> bool
-    requires sized { IsWellSized deal.now }
-    requires known { AreIndexes deal.now known.now }
-    requires keys { shown keys.now ≡ unlocks_of (entries_in known.now) party }
-    requires standing { IsStanding deal.now (entries_in known.now) party standing.now }
-    requires arc { arc < length deal.now.graph.arcs }
-    requires within { IsWithin deal.now (Some call.now) }
-    ensures { result ≡ keeps_call deal.now (entries_in known.now) party arc number at call.now }
-{
-    match call {
-        Call::Publish(terms) => keeps_publish(deal, known, party, standing, arc, terms),
-        Call::Unlock(key) => keeps_unlock(deal, known, party, keys, standing, arc, number, key),
-        Call::Claim => was_triggered(deal, known, arc, number),
-        Call::Refund => had_expired(deal, known, arc, number, at),
-        Call::Transfer(_, _) => false,
-    }
-}
-
 /// Whether the call on the arc, where it is the party's, keeps the rules of conduct.
 #[tactic(auto, unfolding(swap_rules::specs::Conduct::keeps))]
 pub(crate) fn keeps_at(
@@ -183,18 +153,16 @@ pub(crate) fn keeps_at(
     requires within { IsWithin deal.now (call_by party made.now.entry) }
     ensures { result ≡ keeps_made deal.now (entries_in known.now) party arc made.now }
 {
-    match call_by(party, &made.entry) {
-        Some(call) => keeps(
-            deal,
-            known,
-            party,
-            keys,
-            standing,
-            arc,
-            made.number,
-            made.entry.height,
-            call,
-        ),
-        None => true,
+    let Some(call) = call_by(party, &made.entry) else {
+        return true;
+    };
+    match call {
+        Call::Publish(terms) => keeps_publish(deal, known, party, standing, arc, terms),
+        Call::Unlock(key) => {
+            keeps_unlock(deal, known, party, keys, standing, arc, made.number, key)
+        }
+        Call::Claim => was_triggered(deal, known, arc, made.number),
+        Call::Refund => had_expired(deal, known, arc, made.number, made.entry.height),
+        Call::Transfer(_, _) => false,
     }
 }

@@ -30,32 +30,6 @@ fn put_if(out: &mut Vec<Finding>, test: bool, finding: Finding) -> Result<(), No
     Ok(())
 }
 
-/// Adds the calls on the arc by which the party broke a rule of conduct.
-fn put_broken_calls(
-    out: &mut Vec<Finding>,
-    deal: &Deal,
-    known: &[Index],
-    party: PartyId,
-    keys: &[&Hashkey],
-    standing: &Standing,
-    arc: ArcId,
-) -> Result<(), NoMemory>
-    requires sized { IsWellSized deal.now }
-    requires known { AreIndexes deal.now known.now }
-    requires legal { IsLegalBook deal.now (entries_in known.now) }
-    requires keys { shown keys.now ≡ unlocks_of (entries_in known.now) party }
-    requires standing { IsStanding deal.now (entries_in known.now) party standing.now }
-    requires arc { arc < length deal.now.graph.arcs }
-    ensures { OnOk result (out.new.items ≡ out.old.items ++ broken_on deal.now (entries_in known.now) party arc) }
-{
-    let calls = made_on(known, arc);
-    for made in calls {
-        let kept = keeps_at(deal, known, party, keys, standing, arc, made);
-        put_if(out, !kept, Finding::Broke(party, arc, made.number))?;
-    }
-    Ok(())
-}
-
 /// Adds the entries of the arc by which the party broke a rule of conduct. There is none where the arc isn't the party's.
 fn put_broken_on(
     out: &mut Vec<Finding>,
@@ -74,8 +48,13 @@ fn put_broken_on(
     requires arc { arc < length deal.now.graph.arcs }
     ensures { OnOk result (out.new.items ≡ out.old.items ++ broken_on deal.now (entries_in known.now) party arc) }
 {
-    if is_adjacent(deal, arc, party) {
-        put_broken_calls(out, deal, known, party, keys, standing, arc)?;
+    if !is_adjacent(deal, arc, party) {
+        return Ok(());
+    }
+    let calls = made_on(known, arc);
+    for made in calls {
+        let kept = keeps_at(deal, known, party, keys, standing, arc, made);
+        put_if(out, !kept, Finding::Broke(party, arc, made.number))?;
     }
     Ok(())
 }

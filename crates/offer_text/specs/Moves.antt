@@ -1,6 +1,6 @@
 -- The JSON of a move, its fields in the order of their bytes.
-use Rattle.std.specs.Prelude.{◌<◌, ℕ, List, codes, All}
-use Rattle.serde_json.specs.Data.{Data, string, object, no_members, member}
+use Rattle.std.specs.Prelude.{◌<◌, ℕ, List, Option, codes, All}
+use Rattle.serde_json.specs.Data.{Data, Members, string, object, no_members, member}
 use Rattle.hash_signature.specs.declared.sig.Sig.{Sig}
 use Rattle.swap_job.specs.declared.moves.Move.{Move}
 use Rattle.swap_job.specs.declared.moves.Move.TheVariants.{Publish, Craft, Replay, Raw, Claim, Refund, Transfer, Wait}
@@ -15,17 +15,23 @@ signature_data sig = digest_data (joined sig)
 abbrev pub plain_move : List ℕ → ℕ → Data
 plain_move word arc = object (member (codes "arc") (number_data arc) (member (codes "do") (string word) no_members))
 
--- a publish states just the terms that were given
-unfoldable pub move_data : List (List ℕ) → Move → Data
-move_data names (Publish arc start delta bound timelock amount locks) =
-    object (with_optional (codes "amount") number_data amount
+-- the fields of a publish, which states just the terms that were given: those before what is done, with what comes after it, and those after it
+abbrev pub first_terms : Option ℕ → ℕ → Option ℕ → Option ℕ → Members → Members
+first_terms amount arc bound delta rest =
+    with_optional (codes "amount") number_data amount
     (member (codes "arc") (number_data arc)
     (with_optional (codes "bound") number_data bound
     (with_optional (codes "delta") number_data delta
-    (member (codes "do") (string (codes "publish"))
-    (with_optional (codes "locks") (list_data digest_data) locks
+    (member (codes "do") (string (codes "publish")) rest))))
+
+abbrev pub last_terms : Option (List (List ℕ)) → Option ℕ → Option ℕ → Members
+last_terms locks start timelock =
+    with_optional (codes "locks") (list_data digest_data) locks
     (with_optional (codes "start") number_data start
-    (with_optional (codes "timelock") number_data timelock no_members))))))))
+    (with_optional (codes "timelock") number_data timelock no_members))
+
+unfoldable pub move_data : List (List ℕ) → Move → Data
+move_data names (Publish arc start delta bound timelock amount locks) = object (first_terms amount arc bound delta (last_terms locks start timelock))
 move_data names (Craft arc lock via onto) =
     object (member (codes "arc") (number_data arc)
     (member (codes "do") (string (codes "craft"))

@@ -10,7 +10,7 @@ ghost use Rattle.offer_text.specs.Moves.{move_data, signature_data, AreBelow, Na
 
 use crate::fields::{put_first, put_number, put_text};
 use crate::shown::list_value;
-use crate::terms::put_publish;
+use crate::terms::{put_first_terms, put_last_terms};
 use crate::words::{digest_value, name_of, names_value};
 use hashkey_path::Hashkey;
 use serde_json::{Map, Value};
@@ -184,9 +184,10 @@ fn put_move(
             timelock,
             amount,
             locks,
-        } => put_publish(
-            alloc, fields, *arc, *start, *delta, *bound, *timelock, *amount, locks,
-        ),
+        } => {
+            put_last_terms(alloc, fields, locks, *start, *timelock)?;
+            put_first_terms(alloc, fields, *amount, *arc, *bound, *delta)
+        }
         Move::Craft {
             arc,
             lock,

@@ -1,11 +1,10 @@
 //! The JSON of a publish: just the terms that were given.
 
-ghost use Rattle.std.specs.Prelude.{◌≡◌, ℕ, List, IfOk, OnOk, codes};
-ghost use Rattle.serde_json.specs.Data.{member, no_members, object};
+ghost use Rattle.std.specs.Prelude.{◌≡◌, IfOk, OnOk, codes};
+ghost use Rattle.serde_json.specs.Data.{no_members};
 ghost use Rattle.serde_json.specs.View.{view, members_view};
-ghost use Rattle.swap_job.specs.declared.moves.Move.TheVariants.{Publish as publishes};
 ghost use Rattle.offer_text.specs.Words.{digest_data, list_data, number_data, with_optional, IsBelow};
-ghost use Rattle.offer_text.specs.Moves.{move_data};
+ghost use Rattle.offer_text.specs.Moves.{first_terms, last_terms};
 
 use crate::fields::{put_first, put_number, put_text};
 use crate::words::digest_value;
@@ -75,8 +74,8 @@ fn put_locks(
     }
 }
 
-/// The fields that come last.
-fn put_last_terms(
+/// The fields of a publish that come last.
+pub(crate) fn put_last_terms(
     alloc: Global,
     fields: &mut Map<String, Value>,
     locks: &Option<LockList>,
@@ -84,16 +83,15 @@ fn put_last_terms(
     timelock: Option<u32>,
 ) -> Result<(), NoMemory>
     requires { members_view fields.old.entries ≡ no_members }
-    ensures { OnOk result (members_view fields.new.entries ≡ with_optional (codes "locks") (list_data digest_data) locks.now
-        (with_optional (codes "start") number_data start (with_optional (codes "timelock") number_data timelock no_members))) }
+    ensures { OnOk result (members_view fields.new.entries ≡ last_terms locks.now start timelock) }
 {
     put_optional_number(alloc, fields, "timelock", timelock)?;
     put_optional_number(alloc, fields, "start", start)?;
     put_locks(alloc, fields, locks)
 }
 
-/// The fields that come first.
-fn put_first_terms(
+/// The fields of a publish that come first.
+pub(crate) fn put_first_terms(
     alloc: Global,
     fields: &mut Map<String, Value>,
     amount: Option<u64>,
@@ -101,37 +99,12 @@ fn put_first_terms(
     bound: Option<u32>,
     delta: Option<u32>,
 ) -> Result<(), NoMemory>
-    requires delta { IsBelow (codes "delta") (members_view fields.old.entries) }
-    requires bound { IsBelow (codes "bound") (members_view fields.old.entries) }
-    requires arc { IsBelow (codes "arc") (members_view fields.old.entries) }
-    ensures { OnOk result (members_view fields.new.entries ≡ with_optional (codes "amount") number_data amount
-        (member (codes "arc") (number_data arc) (with_optional (codes "bound") number_data bound
-        (with_optional (codes "delta") number_data delta (members_view fields.old.entries))))) }
+    requires { IsBelow (codes "do") (members_view fields.old.entries) }
+    ensures { OnOk result (members_view fields.new.entries ≡ first_terms amount arc bound delta (members_view fields.old.entries)) }
 {
+    put_text(alloc, fields, "do", "publish")?;
     put_optional_number(alloc, fields, "delta", delta)?;
     put_optional_number(alloc, fields, "bound", bound)?;
     put_number(alloc, fields, "arc", arc as u64)?;
     put_amount(alloc, fields, amount)
-}
-
-/// Puts the fields of a publish.
-#[tactic(auto, unfolding(crate::specs::Moves::move_data))]
-pub(crate) fn put_publish(
-    alloc: Global,
-    fields: &mut Map<String, Value>,
-    arc: ArcId,
-    start: Option<u32>,
-    delta: Option<u32>,
-    bound: Option<u32>,
-    timelock: Option<u32>,
-    amount: Option<u64>,
-    locks: &Option<LockList>,
-) -> Result<(), NoMemory>
-    requires { members_view fields.old.entries ≡ no_members }
-    ensures { OnOk result ((names : List (List ℕ)) → object (members_view fields.new.entries)
-        ≡ move_data names (publishes arc start delta bound timelock amount locks.now)) }
-{
-    put_last_terms(alloc, fields, locks, start, timelock)?;
-    put_text(alloc, fields, "do", "publish")?;
-    put_first_terms(alloc, fields, amount, arc, bound, delta)
 }

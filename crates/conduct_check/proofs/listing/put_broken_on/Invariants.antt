@@ -5,7 +5,7 @@ use Rattle.history_index.specs.Indexes.{entries_in}
 use Rattle.swap_rules.specs.declared.finding.Finding.TheVariants.{Broke}
 use Rattle.swap_rules.specs.Conduct.{keeps_at}
 use Rattle.conduct_check.proofs.Failing.{said}
-use Rattle.conduct_check.proofs.listing.put_broken_calls.Given as goal
+use Rattle.conduct_check.proofs.listing.put_broken_on.Given as goal
 
 abbrev pub invariant-loop-made : goal.invariant-loop-made
 invariant-loop-made l =
