@@ -41,6 +41,15 @@ list_sum xs =
     let z : 0 + i ≡ i = omega arith in
     get_or-map-range_with_len (units_in xs) 0 (length xs) i i 0 low z)))
 
+-- A slot whose units may go back: its place, its chain, and what it holds.
+pub record MayGoBack (w : ManyState) (s a : ℕ) (fair : Bool) (p : Place) (y : ChainState) (b : Accounts) : Type 0 where
+  pub on : w.stopped ≡ false
+  pub can : CanSweep (setup_of w) s a
+  pub accepted : answer_sweep fair (setup_of w) (kept_of w) s a ≡ Plain Accepted
+  pub at : p ≡ place (setup_of w) s a
+  pub here : y ≡ chain_at w p.chain
+  pub is : b ≡ accounts (world_at w s).deal a (history (world_at w s).state.book a)
+
 module _ (w : ManyState) (s a : ℕ) (fair : Bool) (whole : AreWhole w) (on : w.stopped ≡ false) (can : CanSweep (setup_of w) s a)
     (accepted : answer_sweep fair (setup_of w) (kept_of w) s a ≡ Plain Accepted) where
   open_slot : (kept_of w).swept s a ≡ false

@@ -128,11 +128,17 @@ module _ (gives : MayGive) (w : ManyState) (s : ℕ) (e : Event) (x : WorldState
       (λ t l. each_world w s x b low (λ t y. t < length w.worlds → IsKept (cast_at y) y.state.book) (λ l. kept) (λ t n l. whole.kept t l) t
       (subst (λ n. t < n) same.swaps l))
 
-  -- By what is answered.
+  -- What the worlds are then, by what is answered.
+  pub record HasHappened {E : Type 0} (r : Result Told E) (b : Bool) : Type 0 where
+    pub all_whole : AreWhole (with_world w s x b low)
+    pub ok : OnOk (told_result r) (HasManyGone gives (λ m z. kept_done false m z (In s e)) w (with_world w s x b low))
+    pub err : OnErr (told_result r) (IsManyStopped gives (λ m z. kept_done false m z (In s e)) w (with_world w s x b low))
+    pub reply : IfOk (told_result r) (λ o. (g : ℕ → Answers) → ContinueAll (with_world w s x b low) g
+        → o ≡ kept_reply false (setup_for w g) (kept_of w) (In s e))
 
   module _ {E : Type 0} (r : Result Told E) (b : Bool) (is : b ≡ is_err r) (on : w.stopped ≡ false) (whole : AreWhole w)
       (can : CanHappen (setup_of w) s e) (k : IsTaken gives (swept_at w s) e (world_at w s) x r) where
-    pub then_whole : AreWhole (with_world w s x b low)
+    then_whole : AreWhole (with_world w s x b low)
     then_whole = go r is k
       where
         go : (r : Result Told E) → b ≡ is_err r → IsTaken gives (swept_at w s) e (world_at w s) x r → AreWhole (with_world w s x b low)
@@ -143,7 +149,7 @@ module _ (gives : MayGive) (w : ManyState) (s : ℕ) (e : Event) (x : WorldState
             still_whole b on (λ q. absurd (false≢true (sym q ∙ is))) (world_same w s x b low gives k.cut.cast k.cut.asked)
             (λ q. absurd (false≢true (sym q ∙ is))) whole can k.kept
 
-    pub then_ok : OnOk (told_result r) (HasManyGone gives (λ m z. kept_done false m z (In s e)) w (with_world w s x b low))
+    then_ok : OnOk (told_result r) (HasManyGone gives (λ m z. kept_done false m z (In s e)) w (with_world w s x b low))
     then_ok = go r is k
       where
         go : (r : Result Told E) → b ≡ is_err r → IsTaken gives (swept_at w s) e (world_at w s) x r
@@ -151,7 +157,7 @@ module _ (gives : MayGive) (w : ManyState) (s : ℕ) (e : Event) (x : WorldState
         go (Ok t) is k = happened b (is ∙ sym on) k.ok
         go (Err t) is k = tt
 
-    pub then_err : OnErr (told_result r) (IsManyStopped gives (λ m z. kept_done false m z (In s e)) w (with_world w s x b low))
+    then_err : OnErr (told_result r) (IsManyStopped gives (λ m z. kept_done false m z (In s e)) w (with_world w s x b low))
     then_err = go r is k
       where
         go : (r : Result Told E) → b ≡ is_err r → IsTaken gives (swept_at w s) e (world_at w s) x r
@@ -159,7 +165,7 @@ module _ (gives : MayGive) (w : ManyState) (s : ℕ) (e : Event) (x : WorldState
         go (Ok t) is k = tt
         go (Err t) is k = was_cut b is whole can k.cut
 
-    pub then_reply : IfOk (told_result r) (λ o. (g : ℕ → Answers) → ContinueAll (with_world w s x b low) g
+    then_reply : IfOk (told_result r) (λ o. (g : ℕ → Answers) → ContinueAll (with_world w s x b low) g
         → o ≡ kept_reply false (setup_for w g) (kept_of w) (In s e))
     then_reply = go r k
       where
@@ -168,3 +174,6 @@ module _ (gives : MayGive) (w : ManyState) (s : ℕ) (e : Event) (x : WorldState
             → o ≡ kept_reply false (setup_for w g) (kept_of w) (In s e))
         go (Ok t) k = λ g c. ap reply_told (k.told (g s) (own b g c)) ∙ told_is w s e g
         go (Err t) k = tt
+
+    pub has_happened : HasHappened r b
+    has_happened = record { all_whole = then_whole; ok = then_ok; err = then_err; reply = then_reply }

@@ -31,7 +31,7 @@ use Rattle.swap_many.proofs.Units.{keeps_step, counted_is_placed}
 use Rattle.swap_many.proofs.Finish.{both_finish, finish_above, swap_ended}
 use Rattle.swap_many.proofs.Values.{can_for, same_deal, same_setup, continue_less}
 use Rattle.swap_many.proofs.Way.{one_step, finish_steps}
-use Rattle.swap_many.proofs.Gone.{LeadOn}
+use Rattle.swap_many.proofs.Gone.{LeadOn, on_ok, on_err}
 
 -- With other stages all else is the same.
 
@@ -129,6 +129,35 @@ module _ (gives : MayGive) (f : Setup → Kept → Kept) (x : Stage) (old new : 
       → OnOk r ((g : ℕ → Answers) → ContinueAll new g → UnitsArePlacedIn (setup_for new g) (run_of new g))
   then_placed (Err e) ok = tt
   then_placed (Ok a) ok = λ g c i l. counted_is_placed (setup_for new g) (run_of new g) (kept_of new) i l (still_of_run ok (ok.goes_on ∙ on) g c)
+
+-- What a stage made of the worlds, whose stages it was added to.
+pub record HasTaken {A E : Type 0} (gives : MayGive) (f : Setup → Kept → Kept) (x : Stage) (old new : ManyState) (r : Result A E) : Type 0 where
+  pub on : old.stopped ≡ false
+  pub ok : OnOk r (HasManyGone gives f old new)
+  pub err : OnErr r (IsManyStopped gives f old new)
+  pub more : new.stages ≡ old.stages ++ x ∷ []
+  pub runs : IsOfRun new
+  pub follows : OnOk r ((g : ℕ → Answers) → ContinueAll new g → Follows (setup_for new g) (run_of new g) (kept_of new))
+  pub placed : OnOk r ((g : ℕ → Answers) → ContinueAll new g → UnitsArePlacedIn (setup_for new g) (run_of new g))
+
+pub has_taken : {A E : Type 0} (gives : MayGive) (f : Setup → Kept → Kept) (x : Stage) (a b : ManyState) (xs ys : List Stage) (r : Result A E)
+    → IsStage f x (record a { stages = xs }) → IsOfRun (record a { stages = xs }) → ys ≡ xs ++ x ∷ [] → a.stopped ≡ false
+    → OnOk r (HasManyGone gives f a b) → OnErr r (IsManyStopped gives f a b)
+    → HasTaken gives f x (record a { stages = xs }) (record b { stages = ys }) r
+has_taken gives f x a b xs ys r stage runs more on ok err =
+    let old : ManyState = record a { stages = xs } in
+    let new : ManyState = record b { stages = ys } in
+    let gone : OnOk r (HasManyGone gives f old new) = on_ok r (gone_staged gives f a b xs ys) ok in
+    let stops : OnErr r (IsManyStopped gives f old new) = on_err r (stopped_staged gives f a b xs ys) err in
+    record {
+      on = on;
+      ok = gone;
+      err = stops;
+      more = more;
+      runs = of_run gives f x old new stage runs more on r gone stops;
+      follows = then_follows gives f x old new stage runs more on r gone;
+      placed = then_placed gives f x old new stage runs more on r gone;
+    }
 
 -- The reply is that of the run.
 pub then_reply : {E : Type 0} (gives : MayGive) (f : Setup → Kept → Kept) (old new : ManyState) (e : ManyEvent) (r : Result (Option ManyReply) E)

@@ -116,11 +116,18 @@ err_unless (Ok y) b x P ok err = tt
 err_unless (Err e) true x P ok err = err refl
 err_unless (Err e) false x P ok err = absurd (cc (ok refl))
 
+-- What the worlds are after a chain's ticks.
+pub record HasTicked (gives : MayGive) (w : ManyState) (i k : ℕ) (x : ChainState) (ws : List WorldState) (b : Bool) : Type 0 where
+  pub gone : b ≡ false → HasManyGone gives (λ m z. kept_done false m z (Tick i k)) w (record w { worlds = ws; chains = slice_set w.chains i x; stopped = b })
+  pub stops : b ≡ true
+      → IsManyStopped gives (λ m z. kept_done false m z (Tick i k)) w (record w { worlds = ws; chains = slice_set w.chains i x; stopped = b })
+  pub all_whole : AreWhole (record w { worlds = ws; chains = slice_set w.chains i x; stopped = b })
+
 module _ (gives : MayGive) (w : ManyState) (i k : ℕ) (x : ChainState) (ws : List WorldState) (b : Bool) (low : i < length w.chains) (whole : AreWhole w)
     (room : has_no_tick (chain_at w i).clock.ticks (chain_at w i).clock.height k ≡ false)
     (clock : x ≡ record (chain_at w i) { clock = later (chain_at w i).clock k })
     (all : AreTicked (map (stands i) w.places) k (length w.worlds) w.worlds ws) where
-  abbrev pub with_ticks : ManyState
+  abbrev with_ticks : ManyState
   with_ticks = record w { worlds = ws; chains = slice_set w.chains i x; stopped = b }
 
   on_at : (s : ℕ) → s < length w.worlds → slice_index_or (map (stands i) w.places) s [] ≡ stands i (slice_index_or w.places s [])
@@ -183,10 +190,10 @@ module _ (gives : MayGive) (w : ManyState) (i k : ℕ) (x : ChainState) (ws : Li
           ∙ (put_map (λ (y : ChainState). units_in y.free) (chain_at w) i x
           ∙ put_still (kept_of w).free i (units_in x.free) (ap (λ (y : ChainState). units_in y.free) clock))
 
-  pub ticks_gone : b ≡ w.stopped → HasManyGone gives (λ m z. kept_done false m z (Tick i k)) w with_ticks
+  ticks_gone : b ≡ w.stopped → HasManyGone gives (λ m z. kept_done false m z (Tick i k)) w with_ticks
   ticks_gone on = record { same = ticks_same; goes_on = on; kept = λ g c. ticks_kept g }
 
-  pub ticks_stop : b ≡ true → CanTickChain (setup_of w) i k → IsManyStopped gives (λ m z. kept_done false m z (Tick i k)) w with_ticks
+  ticks_stop : b ≡ true → CanTickChain (setup_of w) i k → IsManyStopped gives (λ m z. kept_done false m z (Tick i k)) w with_ticks
   ticks_stop on can = record {
     stopped = on;
     same = ticks_same;
@@ -201,7 +208,7 @@ module _ (gives : MayGive) (w : ManyState) (i k : ℕ) (x : ChainState) (ws : Li
         };
   }
 
-  pub ticks_whole : w.stopped ≡ false → b ≡ some_stopped ws → CanTickChain (setup_of w) i k → AreWhole with_ticks
+  ticks_whole : w.stopped ≡ false → b ≡ some_stopped ws → CanTickChain (setup_of w) i k → AreWhole with_ticks
   ticks_whole on is can =
       whole_next gives w with_ticks whole ticks_same (length-set w.chains i x)
       (each_chain w i x low (λ j y. length y.free ≡ length (chain_at w j).free) (ap (λ (y : ChainState). length y.free) clock) (λ j. refl))
@@ -211,3 +218,6 @@ module _ (gives : MayGive) (w : ManyState) (i k : ℕ) (x : ChainState) (ws : Li
     where
       past : (s : ℕ) → length w.worlds ≤ s → s < length ws → ⊥
       past s l k = let e = all.one_each in absurd (omega (arith, l, k, e))
+
+  pub has_ticked : w.stopped ≡ false → b ≡ some_stopped ws → CanTickChain (setup_of w) i k → HasTicked gives w i k x ws b
+  has_ticked on is can = record { gone = λ q. ticks_gone (q ∙ sym on); stops = λ q. ticks_stop q can; all_whole = ticks_whole on is can }

@@ -11,6 +11,7 @@ pub mod Disks
 pub mod Relearns
 pub mod Acts
 pub mod Worlds
+pub mod Places
 pub mod Asks
 pub mod Team
 pub mod Begun

@@ -1,125 +1,58 @@
-use Rattle.std.proofs.Common.{◌≡◌, ◌∷◌, ◌++◌, [], List, true, false, map, OnOk, OnErr, sym, ◌∙◌}
+use Rattle.std.proofs.Common.{◌≡◌, true, map, sym, ◌∙◌}
 use Rattle.swap_many.specs.Kept.{kept_finish}
-use Rattle.swap_many.specs.Stages.{Stage, Finished, stages_in}
-use Rattle.swap_many.specs.Value.{ManyState, HasManyGone, IsManyStopped}
+use Rattle.swap_many.specs.Stages.{Finished, stages_in}
 use Rattle.swap_many.specs.Whole.{many_in}
-use Rattle.swap_many.proofs.Gone.{on_ok, on_err, stopped_before}
+use Rattle.swap_many.proofs.Gone.{on_ok, stopped_before}
 use Rattle.swap_many.proofs.Runs as lemmas
+use Rattle.swap_many.proofs.many_world.ManyWorld.finish_fair.Given as given
 use Rattle.swap_many.proofs.many_world.ManyWorld.finish_fair.Goals as goal
+use Rattle.swap_many.proofs.many_world.ManyWorld.finish_fair.Goals.{After-finish-done}
+
+-- the worlds after the fair finish, and what came before it
+taken : (g : given.Over) (c : goal.After-finish-done g)
+    → lemmas.HasTaken (g.K.Strategies.gives c.args.kit.now) kept_finish Finished (many_in c.self.inside)
+    (record c.finish-done.new.worlds { stages = stages_in (map (λ p. p.items) c.and-stretches.result.items) c.new-self-inside.result.items })
+    c.finish-done.result
+taken g c =
+    let i = c.self.inside in
+    let w = many_in i in
+    lemmas.has_taken (g.K.Strategies.gives c.args.kit.now) kept_finish Finished i.worlds c.finish-done.new.worlds w.stages
+    (stages_in (map (λ p. p.items) c.and-stretches.result.items) c.new-self-inside.result.items) c.finish-done.result
+    (lemmas.finish_is_stage w c.self.invariant.whole.ready) c.self.invariant.runs
+    (lemmas.stretch_more _ i.stretches.items c.and-stretches.result.items i.events c.new-self-inside.result.items c.and-stretches.ensures
+    c.new-self-inside.ensures) (sym c.is_stopped.ensures ∙ c.if-is_stopped.false) c.finish-done.ensures.ok c.finish-done.ensures.err
 
 pub returns-then-is_stopped-clause-err : goal.returns-then-is_stopped-clause-err
 returns-then-is_stopped-clause-err g c =
-    let i = c.self.inside in
-    let w = many_in i in
-    let gives = g.K.Strategies.gives c.args.kit.now in
+    let w = many_in c.self.inside in
     let stopped : w.stopped ≡ true = sym c.is_stopped.ensures ∙ c.if-is_stopped.true in
     rw (← c.self.view_is)
-    (stopped_before gives kept_finish w stopped c.self.invariant.whole.ready (lemmas.finish_leads w c.self.invariant.whole.ready))
+    (stopped_before (g.K.Strategies.gives c.args.kit.now) kept_finish w stopped c.self.invariant.whole.ready
+    (lemmas.finish_leads w c.self.invariant.whole.ready))
 
 pub invariant_of-self : goal.invariant_of-self
 invariant_of-self g c =
-    let i = c.self.inside in
-    let w = many_in i in
-    let gives = g.K.Strategies.gives c.args.kit.now in
-    let ys : List Stage = stages_in (map (λ p. p.items) c.and-stretches.result.items) c.new-self-inside.result.items in
-    let new : ManyState = record c.finish-done.new.worlds { stages = ys } in
-    let on : w.stopped ≡ false = sym c.is_stopped.ensures ∙ c.if-is_stopped.false in
-    let ok : OnOk c.finish-done.result (HasManyGone gives kept_finish w new) =
-    on_ok c.finish-done.result (lemmas.gone_staged gives kept_finish i.worlds c.finish-done.new.worlds w.stages ys) c.finish-done.ensures.ok in
-    let err : OnErr c.finish-done.result (IsManyStopped gives kept_finish w new) =
-    on_err c.finish-done.result (lemmas.stopped_staged gives kept_finish i.worlds c.finish-done.new.worlds w.stages ys) c.finish-done.ensures.err in
-    let more : ys ≡ w.stages ++ Finished ∷ [] =
-    lemmas.stretch_more _ i.stretches.items c.and-stretches.result.items i.events c.new-self-inside.result.items c.and-stretches.ensures
-    c.new-self-inside.ensures in
-    let stage = lemmas.finish_is_stage w c.self.invariant.whole.ready in
-    record {
-      whole = lemmas.whole_staged c.finish-done.new.worlds ys c.keep-2.ensures;
-      runs = lemmas.of_run gives kept_finish Finished w new stage
-          c.self.invariant.runs more on c.finish-done.result ok err;
-    }
+    let t = taken g (goal.at.invariant_of-self g c).After-finish-done in
+    record { whole = lemmas.whole_staged c.finish-done.new.worlds _ c.keep-2.ensures; runs = t.runs }
 
 pub returns-clause-ok : goal.returns-clause-ok
-returns-clause-ok g c =
-    let i = c.self.inside in
-    let w = many_in i in
-    let gives = g.K.Strategies.gives c.args.kit.now in
-    let ys : List Stage = stages_in (map (λ p. p.items) c.and-stretches.result.items) c.new-self-inside.result.items in
-    let new : ManyState = record c.finish-done.new.worlds { stages = ys } in
-    let on : w.stopped ≡ false = sym c.is_stopped.ensures ∙ c.if-is_stopped.false in
-    let ok : OnOk c.finish-done.result (HasManyGone gives kept_finish w new) =
-    on_ok c.finish-done.result (lemmas.gone_staged gives kept_finish i.worlds c.finish-done.new.worlds w.stages ys) c.finish-done.ensures.ok in
-    rw (← c.self.view_is) ok
+returns-clause-ok g c = rw (← c.self.view_is) (taken g (goal.at.returns-clause-ok g c).After-finish-done).ok
 
 pub returns-clause-stages : goal.returns-clause-stages
 returns-clause-stages g c =
-    let i = c.self.inside in
-    let w = many_in i in
-    let gives = g.K.Strategies.gives c.args.kit.now in
-    let ys : List Stage = stages_in (map (λ p. p.items) c.and-stretches.result.items) c.new-self-inside.result.items in
-    let new : ManyState = record c.finish-done.new.worlds { stages = ys } in
-    let on : w.stopped ≡ false = sym c.is_stopped.ensures ∙ c.if-is_stopped.false in
-    let ok : OnOk c.finish-done.result (HasManyGone gives kept_finish w new) =
-    on_ok c.finish-done.result (lemmas.gone_staged gives kept_finish i.worlds c.finish-done.new.worlds w.stages ys) c.finish-done.ensures.ok in
-    let more : ys ≡ w.stages ++ Finished ∷ [] =
-    lemmas.stretch_more _ i.stretches.items c.and-stretches.result.items i.events c.new-self-inside.result.items c.and-stretches.ensures
-    c.new-self-inside.ensures in
-    let stage = lemmas.finish_is_stage w c.self.invariant.whole.ready in
-    rw (← c.self.view_is) (on_ok c.finish-done.result (λ k. more) ok)
+    let t = taken g (goal.at.returns-clause-stages g c).After-finish-done in
+    rw (← c.self.view_is) (on_ok c.finish-done.result (λ k. t.more) t.ok)
 
 pub returns-clause-history : goal.returns-clause-history
-returns-clause-history g c =
-    let i = c.self.inside in
-    let w = many_in i in
-    let gives = g.K.Strategies.gives c.args.kit.now in
-    let ys : List Stage = stages_in (map (λ p. p.items) c.and-stretches.result.items) c.new-self-inside.result.items in
-    let new : ManyState = record c.finish-done.new.worlds { stages = ys } in
-    let on : w.stopped ≡ false = sym c.is_stopped.ensures ∙ c.if-is_stopped.false in
-    let ok : OnOk c.finish-done.result (HasManyGone gives kept_finish w new) =
-    on_ok c.finish-done.result (lemmas.gone_staged gives kept_finish i.worlds c.finish-done.new.worlds w.stages ys) c.finish-done.ensures.ok in
-    let more : ys ≡ w.stages ++ Finished ∷ [] =
-    lemmas.stretch_more _ i.stretches.items c.and-stretches.result.items i.events c.new-self-inside.result.items c.and-stretches.ensures
-    c.new-self-inside.ensures in
-    let stage = lemmas.finish_is_stage w c.self.invariant.whole.ready in
-    lemmas.then_follows gives kept_finish Finished w new stage c.self.invariant.runs more on c.finish-done.result ok
+returns-clause-history g c = (taken g (goal.at.returns-clause-history g c).After-finish-done).follows
 
 pub returns-clause-units : goal.returns-clause-units
-returns-clause-units g c =
-    let i = c.self.inside in
-    let w = many_in i in
-    let gives = g.K.Strategies.gives c.args.kit.now in
-    let ys : List Stage = stages_in (map (λ p. p.items) c.and-stretches.result.items) c.new-self-inside.result.items in
-    let new : ManyState = record c.finish-done.new.worlds { stages = ys } in
-    let on : w.stopped ≡ false = sym c.is_stopped.ensures ∙ c.if-is_stopped.false in
-    let ok : OnOk c.finish-done.result (HasManyGone gives kept_finish w new) =
-    on_ok c.finish-done.result (lemmas.gone_staged gives kept_finish i.worlds c.finish-done.new.worlds w.stages ys) c.finish-done.ensures.ok in
-    let more : ys ≡ w.stages ++ Finished ∷ [] =
-    lemmas.stretch_more _ i.stretches.items c.and-stretches.result.items i.events c.new-self-inside.result.items c.and-stretches.ensures
-    c.new-self-inside.ensures in
-    let stage = lemmas.finish_is_stage w c.self.invariant.whole.ready in
-    lemmas.then_placed gives kept_finish Finished w new stage c.self.invariant.runs more on c.finish-done.result ok
+returns-clause-units g c = (taken g (goal.at.returns-clause-units g c).After-finish-done).placed
 
 pub returns-clause-ended : goal.returns-clause-ended
 returns-clause-ended g c =
-    let i = c.self.inside in
-    let w = many_in i in
-    let gives = g.K.Strategies.gives c.args.kit.now in
-    let ys : List Stage = stages_in (map (λ p. p.items) c.and-stretches.result.items) c.new-self-inside.result.items in
-    let new : ManyState = record c.finish-done.new.worlds { stages = ys } in
-    let on : w.stopped ≡ false = sym c.is_stopped.ensures ∙ c.if-is_stopped.false in
-    let ok : OnOk c.finish-done.result (HasManyGone gives kept_finish w new) =
-    on_ok c.finish-done.result (lemmas.gone_staged gives kept_finish i.worlds c.finish-done.new.worlds w.stages ys) c.finish-done.ensures.ok in
-    lemmas.then_ended gives w new c.finish-done.result c.self.invariant.whole.ready c.self.invariant.runs on ok
+    let t = taken g (goal.at.returns-clause-ended g c).After-finish-done in
+    lemmas.then_ended _ _ _ c.finish-done.result c.self.invariant.whole.ready c.self.invariant.runs t.on t.ok
 
 pub returns-clause-err : goal.returns-clause-err
-returns-clause-err g c =
-    let i = c.self.inside in
-    let w = many_in i in
-    let gives = g.K.Strategies.gives c.args.kit.now in
-    let ys : List Stage = stages_in (map (λ p. p.items) c.and-stretches.result.items) c.new-self-inside.result.items in
-    let new : ManyState = record c.finish-done.new.worlds { stages = ys } in
-    let on : w.stopped ≡ false = sym c.is_stopped.ensures ∙ c.if-is_stopped.false in
-    let ok : OnOk c.finish-done.result (HasManyGone gives kept_finish w new) =
-    on_ok c.finish-done.result (lemmas.gone_staged gives kept_finish i.worlds c.finish-done.new.worlds w.stages ys) c.finish-done.ensures.ok in
-    let err : OnErr c.finish-done.result (IsManyStopped gives kept_finish w new) =
-    on_err c.finish-done.result (lemmas.stopped_staged gives kept_finish i.worlds c.finish-done.new.worlds w.stages ys) c.finish-done.ensures.err in
-    rw (← c.self.view_is) err
+returns-clause-err g c = rw (← c.self.view_is) (taken g (goal.at.returns-clause-err g c).After-finish-done).err

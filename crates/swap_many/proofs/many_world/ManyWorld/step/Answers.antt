@@ -1,134 +1,61 @@
-use Rattle.std.proofs.Common.{◌≡◌, ◌∷◌, ◌++◌, [], List, true, false, map, OnOk, OnErr, sym, ap, ◌∙◌}
+use Rattle.std.proofs.Common.{◌≡◌, List, true, false, map, sym, ap, ◌∙◌}
 use Rattle.swap_many.specs.declared.many_event.ManyEvent.{ManyEvent}
-use Rattle.swap_many.specs.Chains.{Setup}
-use Rattle.swap_many.specs.Kept.{Kept, kept_done}
+use Rattle.swap_many.specs.Kept.{kept_done}
 use Rattle.swap_many.specs.Laws.{CanCome}
-use Rattle.swap_many.specs.Stages.{Stage, Came, stages_in}
-use Rattle.swap_many.specs.Value.{ManyState, HasManyGone, IsManyStopped, setup_of}
+use Rattle.swap_many.specs.Stages.{Came, stages_in}
+use Rattle.swap_many.specs.Value.{setup_of}
 use Rattle.swap_many.specs.Whole.{many_in}
-use Rattle.swap_many.proofs.Gone.{on_ok, on_err, stopped_before}
+use Rattle.swap_many.proofs.Gone.{stopped_before}
 use Rattle.swap_many.proofs.Runs as lemmas
+use Rattle.swap_many.proofs.many_world.ManyWorld.step.Given as given
 use Rattle.swap_many.proofs.many_world.ManyWorld.step.Goals as goal
+use Rattle.swap_many.proofs.many_world.ManyWorld.step.Goals.{After-step-done}
+
+-- the worlds after the event, and what came before it
+taken : (g : given.Over) (c : goal.After-step-done g)
+    → lemmas.HasTaken (g.K.Strategies.gives c.args.kit.now) (λ m z. kept_done false m z c.args.event.now) (Came c.args.event.now) (many_in c.self.inside)
+    (record c.step-done.new.self { stages = stages_in (map (λ p. p.items) c.self.inside.stretches.items) c.and-events.result.items }) c.step-done.result
+taken g c =
+    let i = c.self.inside in
+    let w = many_in i in
+    let e = c.args.event.now in
+    let can : CanCome (setup_of w) e = rw (← c.self.view_is) at c.requires.event in
+    let xs : List (List ManyEvent) = map (λ p. p.items) i.stretches.items in
+    lemmas.has_taken (g.K.Strategies.gives c.args.kit.now) (λ m z. kept_done false m z e) (Came e) i.worlds c.step-done.new.self w.stages
+    (stages_in xs c.and-events.result.items) c.step-done.result (lemmas.step_is_stage w e c.self.invariant.whole.ready can) c.self.invariant.runs
+    (ap (stages_in xs) c.and-events.ensures ∙ lemmas.came_more xs i.events.items e) (sym c.is_stopped.ensures ∙ c.if-is_stopped.false)
+    c.step-done.ensures.ok c.step-done.ensures.err
 
 pub returns-then-is_stopped-clause-err : goal.returns-then-is_stopped-clause-err
 returns-then-is_stopped-clause-err g c =
-    let i = c.self.inside in
-    let w = many_in i in
-    let gives = g.K.Strategies.gives c.args.kit.now in
+    let w = many_in c.self.inside in
     let e = c.args.event.now in
-    let f = λ (m : Setup) (z : Kept). kept_done false m z e in
     let can : CanCome (setup_of w) e = rw (← c.self.view_is) at c.requires.event in
     let stopped : w.stopped ≡ true = sym c.is_stopped.ensures ∙ c.if-is_stopped.true in
     rw (← c.self.view_is)
-    (stopped_before gives f w stopped c.self.invariant.whole.ready (lemmas.step_leads w e c.self.invariant.whole.ready can))
+    (stopped_before (g.K.Strategies.gives c.args.kit.now) (λ m z. kept_done false m z e) w stopped c.self.invariant.whole.ready
+    (lemmas.step_leads w e c.self.invariant.whole.ready can))
 
 pub invariant_of-self : goal.invariant_of-self
 invariant_of-self g c =
-    let i = c.self.inside in
-    let w = many_in i in
-    let gives = g.K.Strategies.gives c.args.kit.now in
-    let e = c.args.event.now in
-    let f = λ (m : Setup) (z : Kept). kept_done false m z e in
-    let can : CanCome (setup_of w) e = rw (← c.self.view_is) at c.requires.event in
-    let xs : List (List ManyEvent) = map (λ p. p.items) i.stretches.items in
-    let ys : List Stage = stages_in xs c.and-events.result.items in
-    let new : ManyState = record c.step-done.new.self { stages = ys } in
-    let on : w.stopped ≡ false = sym c.is_stopped.ensures ∙ c.if-is_stopped.false in
-    let ok : OnOk c.step-done.result (HasManyGone gives f w new) =
-    on_ok c.step-done.result (lemmas.gone_staged gives f i.worlds c.step-done.new.self w.stages ys) c.step-done.ensures.ok in
-    let err : OnErr c.step-done.result (IsManyStopped gives f w new) =
-    on_err c.step-done.result (lemmas.stopped_staged gives f i.worlds c.step-done.new.self w.stages ys) c.step-done.ensures.err in
-    let more : ys ≡ w.stages ++ Came e ∷ [] = ap (stages_in xs) c.and-events.ensures ∙ lemmas.came_more xs i.events.items e in
-    let stage = lemmas.step_is_stage w e c.self.invariant.whole.ready can in
-    record {
-      whole = lemmas.whole_staged c.step-done.new.self ys c.keep.ensures;
-      runs = lemmas.of_run gives f (Came e) w new stage c.self.invariant.runs
-          more on c.step-done.result ok err;
-    }
+    let t = taken g (goal.at.invariant_of-self g c).After-step-done in
+    record { whole = lemmas.whole_staged c.step-done.new.self _ c.keep.ensures; runs = t.runs }
 
 pub returns-clause-ok : goal.returns-clause-ok
-returns-clause-ok g c =
-    let i = c.self.inside in
-    let w = many_in i in
-    let gives = g.K.Strategies.gives c.args.kit.now in
-    let e = c.args.event.now in
-    let f = λ (m : Setup) (z : Kept). kept_done false m z e in
-    let can : CanCome (setup_of w) e = rw (← c.self.view_is) at c.requires.event in
-    let xs : List (List ManyEvent) = map (λ p. p.items) i.stretches.items in
-    let ys : List Stage = stages_in xs c.and-events.result.items in
-    let new : ManyState = record c.step-done.new.self { stages = ys } in
-    let on : w.stopped ≡ false = sym c.is_stopped.ensures ∙ c.if-is_stopped.false in
-    let ok : OnOk c.step-done.result (HasManyGone gives f w new) =
-    on_ok c.step-done.result (lemmas.gone_staged gives f i.worlds c.step-done.new.self w.stages ys) c.step-done.ensures.ok in
-    rw (← c.self.view_is) ok
+returns-clause-ok g c = rw (← c.self.view_is) (taken g (goal.at.returns-clause-ok g c).After-step-done).ok
 
 pub returns-clause-reply : goal.returns-clause-reply
 returns-clause-reply g c =
-    let i = c.self.inside in
-    let w = many_in i in
-    let gives = g.K.Strategies.gives c.args.kit.now in
-    let e = c.args.event.now in
-    let f = λ (m : Setup) (z : Kept). kept_done false m z e in
-    let can : CanCome (setup_of w) e = rw (← c.self.view_is) at c.requires.event in
-    let xs : List (List ManyEvent) = map (λ p. p.items) i.stretches.items in
-    let ys : List Stage = stages_in xs c.and-events.result.items in
-    let new : ManyState = record c.step-done.new.self { stages = ys } in
-    let on : w.stopped ≡ false = sym c.is_stopped.ensures ∙ c.if-is_stopped.false in
-    let ok : OnOk c.step-done.result (HasManyGone gives f w new) =
-    on_ok c.step-done.result (lemmas.gone_staged gives f i.worlds c.step-done.new.self w.stages ys) c.step-done.ensures.ok in
+    let t = taken g (goal.at.returns-clause-reply g c).After-step-done in
+    let can : CanCome (setup_of (many_in c.self.inside)) c.args.event.now = rw (← c.self.view_is) at c.requires.event in
     rw (← c.self.view_is)
-    (lemmas.then_reply gives f w new e c.step-done.result c.self.invariant.whole.ready can c.self.invariant.runs on ok c.step-done.ensures.reply)
+    (lemmas.then_reply _ _ _ _ c.args.event.now c.step-done.result c.self.invariant.whole.ready can c.self.invariant.runs t.on t.ok c.step-done.ensures.reply)
 
 pub returns-clause-history : goal.returns-clause-history
-returns-clause-history g c =
-    let i = c.self.inside in
-    let w = many_in i in
-    let gives = g.K.Strategies.gives c.args.kit.now in
-    let e = c.args.event.now in
-    let f = λ (m : Setup) (z : Kept). kept_done false m z e in
-    let can : CanCome (setup_of w) e = rw (← c.self.view_is) at c.requires.event in
-    let xs : List (List ManyEvent) = map (λ p. p.items) i.stretches.items in
-    let ys : List Stage = stages_in xs c.and-events.result.items in
-    let new : ManyState = record c.step-done.new.self { stages = ys } in
-    let on : w.stopped ≡ false = sym c.is_stopped.ensures ∙ c.if-is_stopped.false in
-    let ok : OnOk c.step-done.result (HasManyGone gives f w new) =
-    on_ok c.step-done.result (lemmas.gone_staged gives f i.worlds c.step-done.new.self w.stages ys) c.step-done.ensures.ok in
-    let more : ys ≡ w.stages ++ Came e ∷ [] = ap (stages_in xs) c.and-events.ensures ∙ lemmas.came_more xs i.events.items e in
-    let stage = lemmas.step_is_stage w e c.self.invariant.whole.ready can in
-    lemmas.then_follows gives f (Came e) w new stage c.self.invariant.runs more on c.step-done.result ok
+returns-clause-history g c = (taken g (goal.at.returns-clause-history g c).After-step-done).follows
 
 pub returns-clause-units : goal.returns-clause-units
-returns-clause-units g c =
-    let i = c.self.inside in
-    let w = many_in i in
-    let gives = g.K.Strategies.gives c.args.kit.now in
-    let e = c.args.event.now in
-    let f = λ (m : Setup) (z : Kept). kept_done false m z e in
-    let can : CanCome (setup_of w) e = rw (← c.self.view_is) at c.requires.event in
-    let xs : List (List ManyEvent) = map (λ p. p.items) i.stretches.items in
-    let ys : List Stage = stages_in xs c.and-events.result.items in
-    let new : ManyState = record c.step-done.new.self { stages = ys } in
-    let on : w.stopped ≡ false = sym c.is_stopped.ensures ∙ c.if-is_stopped.false in
-    let ok : OnOk c.step-done.result (HasManyGone gives f w new) =
-    on_ok c.step-done.result (lemmas.gone_staged gives f i.worlds c.step-done.new.self w.stages ys) c.step-done.ensures.ok in
-    let more : ys ≡ w.stages ++ Came e ∷ [] = ap (stages_in xs) c.and-events.ensures ∙ lemmas.came_more xs i.events.items e in
-    let stage = lemmas.step_is_stage w e c.self.invariant.whole.ready can in
-    lemmas.then_placed gives f (Came e) w new stage c.self.invariant.runs more on c.step-done.result ok
+returns-clause-units g c = (taken g (goal.at.returns-clause-units g c).After-step-done).placed
 
 pub returns-clause-err : goal.returns-clause-err
-returns-clause-err g c =
-    let i = c.self.inside in
-    let w = many_in i in
-    let gives = g.K.Strategies.gives c.args.kit.now in
-    let e = c.args.event.now in
-    let f = λ (m : Setup) (z : Kept). kept_done false m z e in
-    let can : CanCome (setup_of w) e = rw (← c.self.view_is) at c.requires.event in
-    let xs : List (List ManyEvent) = map (λ p. p.items) i.stretches.items in
-    let ys : List Stage = stages_in xs c.and-events.result.items in
-    let new : ManyState = record c.step-done.new.self { stages = ys } in
-    let on : w.stopped ≡ false = sym c.is_stopped.ensures ∙ c.if-is_stopped.false in
-    let ok : OnOk c.step-done.result (HasManyGone gives f w new) =
-    on_ok c.step-done.result (lemmas.gone_staged gives f i.worlds c.step-done.new.self w.stages ys) c.step-done.ensures.ok in
-    let err : OnErr c.step-done.result (IsManyStopped gives f w new) =
-    on_err c.step-done.result (lemmas.stopped_staged gives f i.worlds c.step-done.new.self w.stages ys) c.step-done.ensures.err in
-    rw (← c.self.view_is) err
+returns-clause-err g c = rw (← c.self.view_is) (taken g (goal.at.returns-clause-err g c).After-step-done).err

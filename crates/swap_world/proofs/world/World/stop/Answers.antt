@@ -1,18 +1,5 @@
-use Rattle.swap_world.proofs.Disks.{all_disks}
+use Rattle.swap_world.proofs.Places.{stopped_holds}
 use Rattle.swap_world.proofs.world.World.stop.Goals as goal
 
 pub invariant_of-self : goal.invariant_of-self
-invariant_of-self c =
-    let k = c.self.invariant in
-    record {
-      ready = k.ready;
-      ledgers = k.ledgers;
-      actors = k.actors;
-      askers = k.askers;
-      told = k.told;
-      good = λ on. absurd (cc on);
-      room = λ on. absurd (cc on);
-      journals = λ on. absurd (cc on);
-      disks = λ on. all_disks c.self.inside k;
-      kept = k.kept;
-    }
+invariant_of-self c = stopped_holds c.self.inside c.self.invariant
