@@ -257,7 +257,9 @@ fn put_on(items: &mut Vec<Item>, run: Run, mut more: Vec<Item>) -> Result<(), No
     requires right_more { AllByRecursion IsRight more.items }
     ensures list { OnOk result (expand items.new.items ≡ expand items.old.items ++ ticks_of run ++ expand more.items) }
     ensures right { OnOk result (AllByRecursion IsRight items.new.items) }
-    ensures err { OnErr result (items.new ≡ items.old) }
+    ensures err { OnErr result (items.new.items ≡ items.old.items) }
+    ensures err_len { OnErr result (vec_len items.new ≡ vec_len items.old) }
+    ensures err_capacity { OnErr result (vec_capacity items.new ≡ vec_capacity items.old) }
 {
     if more.len() == usize::MAX {
         return Err(NoMemory);

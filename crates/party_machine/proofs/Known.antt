@@ -149,19 +149,36 @@ pub fitting_shows : (d : Deal) (v : ℕ) (seed : List ℕ) (m : MachineState) �
     → machine_for d v seed ≡ Ok m
 fitting_shows d v seed m e fits = ap (machine_or d v seed) fits ∙ ap (λ (x : MachineState). Ok x) (sym e)
 
+-- a party's wallet with recorded hashkeys
+partys_recorded : (d : Deal) (w w' : WalletState) (recorded : List (Option Hashkey)) → IsPartys d w → w' ≡ with_recorded w recorded
+    → length recorded ≡ length d.leaders → ((i : ℕ) (k : Hashkey) → signed_in recorded i ≡ Some k → k.lock ≡ i) → IsPartys d w'
+partys_recorded d w w' recorded r ew places locks = subst (IsPartys d) (sym ew) (record {
+  party = r.party;
+  mode = r.mode;
+  places = places;
+  fits = r.fits;
+  locks = locks;
+})
+
+-- the same machine with recorded hashkeys in its wallet
+pub restored_ready : (d : Deal) (w w' : WalletState) (known : List IndexState) (recorded : List (Option Hashkey)) → IsReady d w known
+    → w' ≡ with_recorded w recorded → length recorded ≡ length d.leaders
+    → ((i : ℕ) (k : Hashkey) → signed_in recorded i ≡ Some k → k.lock ≡ i) → IsReady d w' known
+restored_ready d w w' known recorded r ew places locks = record {
+  sized = r.sized;
+  partys = partys_recorded d w w' recorded r.partys ew places locks;
+  indexes = r.indexes;
+  arcs = r.arcs;
+  legal = r.legal;
+}
+
 -- a machine that knows nothing, with recorded hashkeys in its wallet
 pub restarted_ready : (d : Deal) (w w' : WalletState) (old known : List IndexState) (recorded : List (Option Hashkey)) → IsReady d w old
     → known ≡ map (new_index d) (arcs d.graph) → w' ≡ with_recorded w recorded → length recorded ≡ length d.leaders
     → ((i : ℕ) (k : Hashkey) → signed_in recorded i ≡ Some k → k.lock ≡ i) → IsReady d w' known
 restarted_ready d w w' old known recorded r ek ew places locks = record {
   sized = r.sized;
-  partys = subst (IsPartys d) (sym ew) (record {
-    party = r.partys.party;
-    mode = r.partys.mode;
-    places = places;
-    fits = r.partys.fits;
-    locks = locks;
-  });
+  partys = partys_recorded d w w' recorded r.partys ew places locks;
   indexes = subst (AreIndexes d) (sym ek) (indexes_new d);
   arcs = ap (map (λ x. x.arc)) ek ∙ arcs_from d 0 (length d.graph.arcs);
   legal = subst (IsLegalBook d) (sym (entries_new d known ek)) (legal_new d);

@@ -10,7 +10,9 @@ use Rattle.atomic_table.proofs.shared.Seat.TheSendSync as Seat
 use Rattle.party_wallet.specs.contracts.wallet.Wallet as Wallet
 use Rattle.history_index.specs.contracts.made.Made as Made
 use Rattle.history_index.specs.contracts.index.Index as Index
+use Rattle.ledger_core.specs.contracts.boxed_entry.BoxedEntry as BoxedEntry
 use Rattle.ledger_core.specs.contracts.ledger_history.LedgerHistory as History
+use Rattle.ledger_core.specs.contracts.entry_list.EntryList as EntryList
 use Rattle.ledger_core.specs.contracts.ledger.Ledger as Ledger
 use Rattle.ledger_shared.specs.contracts.shelf.Shelf as Shelf
 use Rattle.ledger_shared.specs.contracts.seat.LedgerSeat as LedgerSeat
@@ -43,11 +45,17 @@ option T s = search sendable depth 20
 machine : IsSend Machine.the_row
 machine = search (wallet, index, sendable, crosses) depth 60 fits 100000
 
-planner : IsSend Planner.the_row
-planner = search (sendable, crosses) depth 60 fits 100000
+boxed_entry : IsSend BoxedEntry.the_row
+boxed_entry = search (sendable, crosses) depth 60 fits 100000
 
 history : IsSend History.the_row
-history = search (sendable, crosses) depth 60 fits 100000
+history = search (boxed_entry, sendable, crosses) depth 60 fits 100000
+
+entry_list : IsSend EntryList.the_row
+entry_list = search (history, sendable, crosses) depth 60 fits 100000
+
+planner : IsSend Planner.the_row
+planner = search (entry_list, sendable, crosses) depth 60 fits 100000
 
 ledger : IsSend Ledger.the_row
 ledger = search (history, sendable, crosses) depth 60 fits 100000

@@ -62,7 +62,7 @@ fn pushed(alloc: Global, entries: &[Entry]) -> Result<EntryList, Fail> {
 
 /// Whether these are the last ticks, of which there are three by 2 above height 9.
 fn are_last(run: Run) -> bool {
-    run.above == 9 && run.by == 2 && run.count == 3 && run.last == 15
+    run.above == 9 && run.by == 2 && run.count == 3
 }
 
 /// Whether three calls stand among seven items, and then the last ticks.

@@ -10,7 +10,7 @@ use crate::ledgers::{act, first_ledger, follow};
 use crate::random::Random;
 use history_index::{Index, Made, Steps};
 use ledger_core::{
-    CallKind, Entry, Facts, Ledger, Published, Scan, Sender, Settlement, is_adjacent,
+    BoxedEntry, CallKind, Entry, Facts, Ledger, Published, Scan, Sender, Settlement, is_adjacent,
 };
 use std::alloc::Global;
 use std::marker::Brand;
@@ -116,6 +116,7 @@ fn same_answers(index: &Index, scan: &Scan) -> bool {
 
 /// Puts an entry into both, of which the index has room.
 fn push_both<L: Counted>(
+    alloc: Global,
     entry: &Entry,
     index: &mut Index,
     scan: &mut Scan,
@@ -130,7 +131,7 @@ fn push_both<L: Counted>(
     ensures to { OnOk result (index.new.to ≡ index.old.to) }
     ensures spare { OnOk result (index.old.spare ≤ index.new.spare + 1) }
 {
-    index.push(entry.copy()?, steps);
+    index.push(BoxedEntry::new(alloc, entry.copy()?)?, steps);
     scan.push(entry.copy()?)?;
     Ok(())
 }
@@ -138,6 +139,7 @@ fn push_both<L: Counted>(
 /// Puts the entries one by one into both, the index having room for all, and compares them after each.
 fn compare<L: Counted>(
     rt: &impl Abort,
+    alloc: Global,
     deal: &Deal,
     arc: ArcId,
     history: &[Entry],
@@ -156,7 +158,7 @@ fn compare<L: Counted>(
     ensures to { OnOk result (index.new.to ≡ counterparty deal.now arc) }
 {
     for entry in history {
-        push_both(entry, index, scan, steps)?;
+        push_both(alloc, entry, index, scan, steps)?;
         assert!(rt; same_answers(index, scan));
     }
     Ok(())
@@ -183,7 +185,7 @@ fn fill<L: Counted>(
 {
     index.reserve(history.len())?;
     let mut scan = Scan::new(alloc, deal, arc);
-    compare(rt, deal, arc, history, index, &mut scan, steps)
+    compare(rt, alloc, deal, arc, history, index, &mut scan, steps)
 }
 
 /// The entries of a ledger, one by one.

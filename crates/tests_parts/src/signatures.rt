@@ -77,7 +77,7 @@ fn two_in_hex(alloc: Global, first: &Digest, second: &Digest) -> Result<String, 
 /// The public key and the digest of the signature that words ask for.
 fn signed_told(alloc: Global, words: &str) -> Result<String, AllocError> {
     match signed_of(alloc, words) {
-        Ok((public, signature)) => two_in_hex(alloc, &public, &signature),
+        Ok(told) => two_in_hex(alloc, &told.0, &told.1),
         Err(NoMemory) => Err(AllocError),
     }
 }

@@ -3,8 +3,4 @@ use Rattle.party_threads.proofs.Staffing.{IsStaffed}
 use Rattle.party_threads.proofs.first_turns.turns_of.Given as goal
 
 abbrev pub invariant-parties : goal.invariant-parties
-invariant-parties l = record {
-  staffed : IsStaffed l.job (into_iter_items l.party-iterator) l.turns.items;
-  next : goal.iterator-parties.can_next l.party-iterator;
-  ends : goal.iterator-parties.is_finite l.party-iterator;
-}
+invariant-parties l = IsStaffed l.job (into_iter_items l.party-iterator) l.turns.items
