@@ -1,7 +1,10 @@
 -- A name among names.
-use Rattle.std.proofs.Common.{◌≡◌, ℕ, zero, suc, ◌+◌, ◌<◌, true, false, cond, List, [], ◌∷◌, length, get_or, drop, Option, Some, refl}
+use Rattle.std.proofs.Common.{◌≡◌, ℕ, zero, suc, ◌+◌, ◌<◌, Bool, true, false, ◌||◌, if◌then◌else◌, is_some, cond, List, [], ◌∷◌, length, get_or, drop, Option, Some, refl}
 use Rattle.std.proofs.Common.{sym, ap, ◌∙◌, arith, drop-cons, add-one}
 use Rattle.std.specs.Str.{bytes_eq}
+use Rattle.std.specs.List.{list_any}
+use Rattle.std.specs.Prelude.{IfOk, Result, Ok, Err}
+use Rattle.std.proofs.lemmas.Slice.Eq.{bytes_eq-Decides}
 use Rattle.swap_job.specs.Names.{under}
 
 from_here : {A : Type 0} (xs : List A) (n : ℕ) (x : A) → n < length xs → x ≡ get_or xs n x → drop n xs ≡ x ∷ drop (n + 1) xs
@@ -32,3 +35,31 @@ pub in_place : {A : Type 0} (xs : List A) (i : ℕ) → i < length xs → (x : A
 in_place [] i l = absurd (omega arith)
 in_place (x ∷ xs) zero l = (x, refl)
 in_place (x ∷ xs) (suc i) l = in_place xs i (omega arith)
+
+-- A kit has a strategy of each of its names.
+
+same_either_way : (n name : List ℕ) → bytes_eq n name ≡ bytes_eq name n
+same_either_way n name = by (bytes_eq n name) (bytes_eq name n) refl refl
+  where
+    by : (b c : Bool) → bytes_eq n name ≡ b → bytes_eq name n ≡ c → b ≡ c
+    by true true e f = refl
+    by false false e f = refl
+    by true false e f = absurd (cc (sym f ∙ (bytes_eq-Decides name n).1 (sym ((bytes_eq-Decides n name).0 e))))
+    by false true e f = absurd (cc (sym e ∙ (bytes_eq-Decides n name).1 (sym ((bytes_eq-Decides name n).0 f))))
+
+is_had : {A : Type 0} (names : List (List ℕ)) (xs : List A) → length names ≡ length xs → (name : List ℕ)
+    → list_any (bytes_eq name) names ≡ is_some (under name names xs)
+is_had [] xs paired name = refl
+is_had (n ∷ names) [] paired name = absurd (omega (arith, paired))
+is_had {A = A} (n ∷ names) (x ∷ xs) paired name = rw (← same_either_way n name) (by (bytes_eq n name) (is_had names xs (omega (arith, paired)) name))
+  where
+    by : (b : Bool) → list_any (bytes_eq name) names ≡ is_some (under name names xs)
+        → (b || list_any (bytes_eq name) names) ≡ is_some (if b then Some x else under name names xs)
+    by true rest = refl
+    by false rest = rest
+
+-- the names that are told are those of its strategies
+pub all_had : {A E : Type 0} (names : List (List ℕ)) (xs : List A) → length names ≡ length xs → (told : Result (List (List ℕ)) E)
+    → IfOk told (λ ns. ns ≡ names) → IfOk told (λ ns. (name : List ℕ) → list_any (bytes_eq name) ns ≡ is_some (under name names xs))
+all_had names xs paired (Ok ns) e = λ name. ap (list_any (bytes_eq name)) e ∙ is_had names xs paired name
+all_had names xs paired (Err e) h = tt

@@ -1,5 +1,5 @@
 -- What the program's strategies are called, and what each answers.
-use Rattle.std.specs.Prelude.{◌≡◌, ℕ, List, [], ◌∷◌, codes, Option, None, if◌then◌else◌}
+use Rattle.std.specs.Prelude.{ℕ, List, [], ◌∷◌, codes, Option, None, if◌then◌else◌}
 use Rattle.std.specs.Str.{bytes_eq}
 use Rattle.swap_digraph.specs.declared.deal.Deal.{Deal}
 use Rattle.ledger_core.specs.declared.entry.Call.{Call}
@@ -17,7 +17,3 @@ program_rule name d p t k =
     else (if bytes_eq (codes "replayer") name then replayer d p t k
     else (if bytes_eq (codes "spoiler") name then spoiler d p t k
     else None)))
-
--- what may be answered is what the rule says
-abbrev pub Decides : (List ℕ → Deal → ℕ → ℕ → Histories → Option (ℕ × Call) → Type 0) → (List ℕ → Deal → ℕ → ℕ → Histories → Option (ℕ × Call)) → Type 0
-Decides gives rule = (name : List ℕ) (d : Deal) (p t : ℕ) (k : Histories) (o : Option (ℕ × Call)) → gives name d p t k o → o ≡ rule name d p t k

@@ -2,7 +2,7 @@
 use Rattle.std.specs.Prelude.{◌≡◌, ◌<◌, ℕ, false, IsTrue, [], length, Option}
 use Rattle.std.specs.Option.{ForSome}
 use Rattle.swap_digraph.specs.declared.deal.Deal.{Deal}
-use Rattle.swap_digraph.specs.Deal.{party, IsWellSized}
+use Rattle.swap_digraph.specs.Deal.{IsWellSized}
 use Rattle.ledger_core.specs.declared.entry.Call.{Call}
 use Rattle.ledger_core.specs.History.{fit}
 use Rattle.ledger_core.specs.Book.{Histories, history, IsLegalBook}

@@ -2,6 +2,8 @@
 
 ghost use Rattle.std.specs.Prelude.{◌≡◌, ◌++◌, ◌∷◌, [], ℕ, Bool, true, false, List, Option, Some, Ok, length, is_some, option_copied, OnOk, OnErr};
 ghost use Rattle.std.specs.Prelude.{IfOk};
+ghost use Rattle.std.specs.List.{list_any};
+ghost use Rattle.std.specs.Str.{bytes_eq};
 ghost use Rattle.swap_digraph.specs.declared.deal.Deal.{Deal};
 ghost use Rattle.ledger_core.specs.declared.entry.Call.{Call};
 ghost use Rattle.ledger_core.specs.Book.{Histories};
@@ -11,7 +13,7 @@ ghost use Rattle.deviators.specs.View.{IsView, MayAnswer};
 use crate::strategy::{Rule, Strategy};
 use ledger_core::{Book, Call};
 use std::alloc::Global;
-use swap_base::{ArcId, ByteText, Listed, NoMemory, PartyId};
+use swap_base::{ArcId, ByteText, Listed, NoMemory, PartyId, TryCopy};
 use swap_digraph::Deal;
 
 /// Who answers for strategies by their names.
@@ -21,6 +23,10 @@ pub trait Strategies {
 
     /// What the strategy of that name may answer, by deal, party, turn number and what the party knows.
     ghost gives: { Self → List ℕ → Deal → ℕ → ℕ → Histories → Option (ℕ × Call) → Type 0 };
+
+    /// The names under which there is a strategy.
+    fn names(&self) -> Result<Listed<ByteText>, NoMemory>
+        ensures { IfOk result (λ names. (name : List ℕ) → list_any (bytes_eq name) names ≡ holds self.now name) };
 
     fn answer(
         &self,
@@ -88,6 +94,10 @@ impl Strategies for Kit {
 
     ghost gives = { λ kit name d p t k o. (s : _) × (dr : _) × (kr : _) × (under name kit.names kit.strategies.items ≡ Some s) × (dr.now ≡ d)
         × (kr.now.histories ≡ k) × Rule.post s.rule dr p t kr (Ok o) };
+
+    fn names(&self) -> Result<Listed<ByteText>, NoMemory> {
+        self.names.copy()
+    }
 
     fn answer(
         &self,

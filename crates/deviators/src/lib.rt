@@ -5,14 +5,12 @@
 #![tactic(auto)]
 
 mod kit;
-mod program;
 mod replayed;
 mod rules;
 mod script;
 mod strategy;
 
 pub use kit::{Kit, Strategies};
-pub use program::program_kit;
 pub use rules::{greedy_rule, replayer_rule, silent_rule, spoiler_rule};
 pub use script::Script;
 pub use strategy::{Rule, Strategy};

@@ -54,7 +54,7 @@ fn first_world(
     Ok(world)
 }
 
-/// Draws events and lets the world take each. Nobody follows a strategy, so that the kit is never asked.
+/// Draws events and lets the world take each. Nobody follows a strategy, so that nobody is ever asked.
 fn take_events(
     generator: &mut Generator,
     world: &mut World,

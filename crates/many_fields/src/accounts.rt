@@ -1,14 +1,12 @@
 //! The accounts of a chain.
 
 ghost use Rattle.std.specs.Prelude.{◌≡◌, IfOk, OnOk};
-ghost use Rattle.std.specs.List.{list_any};
-ghost use Rattle.std.specs.Str.{bytes_eq};
 ghost use Rattle.swap_base.specs.Fault.{Gives};
 ghost use Rattle.many_fields.specs.Fields.{account_added, accounts_of, accounts_on, may_add};
 ghost use Rattle.many_fields.specs.Whole.{AreFew, IsChain};
 
 use crate::number::units_in;
-use offer_header::is_name;
+use offer_header::{is_known, is_name};
 use std::alloc::Global;
 use swap_base::{ByteText, Listed};
 use transcript_book::{Parts, WordFault, misspelt};
@@ -21,17 +19,6 @@ const MOST_ACCOUNTS: usize = 64;
 pub struct ChainAccounts {
     pub names: Listed<ByteText>,
     pub units: Listed<u64>,
-}
-
-fn is_known(names: &[ByteText], name: &[u8]) -> bool
-    ensures { result ≡ list_any (bytes_eq name.now) names.now }
-{
-    for known in names {
-        if name == known.as_slice() {
-            return true;
-        }
-    }
-    false
 }
 
 fn may_add(names: &[ByteText], name: &[u8]) -> bool

@@ -15,7 +15,6 @@ use crate::many_job::ManyJob;
 use crate::said::{accounts_in, chains_in, finish_in};
 use crate::stage::Stage;
 use crate::swap::read_swap;
-use deviators::Kit;
 use party_wallet::Wallet;
 use refusals::HeaderFault;
 use std::alloc::Global;
@@ -201,7 +200,7 @@ impl Heading {
     fn take_header(
         &mut self,
         alloc: Global,
-        kit: &Kit,
+        strategies: &[ByteText],
         before: u32,
         chains: Listed<u8>,
         line: u32,
@@ -211,11 +210,11 @@ impl Heading {
         requires below { AreBelow (length self.old.many.names) chains }
         requires words { self.old.stage ≡ Words }
         ensures exact { Gives (λ _. self.new) result
-            (header_taken (has_strategy kit.now.names kit.now.strategies.items) self.old.many before chains line text.now) }
-        ensures held { OnOk result (HoldsEverySwap (has_strategy kit.now.names kit.now.strategies.items) self.old.many
-            → HoldsEverySwap (has_strategy kit.now.names kit.now.strategies.items) self.new.many) }
+            (header_taken (has_strategy strategies.now) self.old.many before chains line text.now) }
+        ensures held { OnOk result (HoldsEverySwap (has_strategy strategies.now) self.old.many
+            → HoldsEverySwap (has_strategy strategies.now) self.new.many) }
     {
-        let swap = read_swap(alloc, kit, line, text)?;
+        let swap = read_swap(alloc, strategies, line, text)?;
         if chains.len() != swap.job.deal.graph.arcs().len() {
             return Err(bad(alloc, before));
         }
@@ -227,20 +226,20 @@ impl Heading {
     pub fn push(
         &mut self,
         alloc: Global,
-        kit: &Kit,
+        strategies: &[ByteText],
         line: u32,
         text: &[u8],
     ) -> Result<(), HeaderFault>
-        ensures takes { Gives (λ _. self.new) result (line_taken (has_strategy kit.now.names kit.now.strategies.items) self.old line text.now) }
-        // The strategies of every swap are those of the kit, where those of the swaps before are.
-        ensures held { OnOk result (HoldsEverySwap (has_strategy kit.now.names kit.now.strategies.items) self.old.many
-            → HoldsEverySwap (has_strategy kit.now.names kit.now.strategies.items) self.new.many) }
+        ensures takes { Gives (λ _. self.new) result (line_taken (has_strategy strategies.now) self.old line text.now) }
+        // The strategies of every swap are those of the strategies, where those of the swaps before are.
+        ensures held { OnOk result (HoldsEverySwap (has_strategy strategies.now) self.old.many
+            → HoldsEverySwap (has_strategy strategies.now) self.new.many) }
     {
         match mem::replace(&mut self.stage, Stage::Words) {
             Stage::First => self.take_first(alloc, line, text),
             Stage::Words => self.take_fields(alloc, line, &mut Parts::new(b' ', text)),
             Stage::Header(before, chains) => {
-                self.take_header(alloc, kit, before, chains, line, text)
+                self.take_header(alloc, strategies, before, chains, line, text)
             }
             Stage::Over(_) => Err(bad(alloc, line)),
         }

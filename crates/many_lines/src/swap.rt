@@ -10,10 +10,10 @@ ghost use Rattle.swap_offer.specs.Wallets.{HaveScriptsFor, HaveSeedsFor, HaveWal
 ghost use Rattle.many_lines.specs.Heading.{swap_job, tells_finish, without_finish};
 
 use crate::fault::{bad, nameless};
-use deviators::Kit;
 use offer_fields::object_in;
 use refusals::{HeaderFault, OfferFault};
 use std::alloc::Global;
+use swap_base::ByteText;
 use swap_job::Purpose;
 use swap_offer::{Prepared, read_header};
 
@@ -42,22 +42,22 @@ fn without_finish(alloc: Global, line: u32, text: &[u8]) -> Result<(), HeaderFau
 #[tactic(auto, unfolding(crate::specs::Heading::swap_job))]
 pub(crate) fn read_swap(
     alloc: Global,
-    kit: &Kit,
+    strategies: &[ByteText],
     line: u32,
     text: &[u8],
 ) -> Result<Prepared, HeaderFault>
-    ensures exact { Gives (λ p. p.job) result (swap_job (has_strategy kit.now.names kit.now.strategies.items) line text.now) }
+    ensures exact { Gives (λ p. p.job) result (swap_job (has_strategy strategies.now) line text.now) }
     ensures names { IfOk result (λ p. AreNames p.job.names) }
     ensures purpose { IfOk result (λ p. p.job.purpose ≡ Purpose.Run) }
     ensures whole { IfOk result (λ p. IsWholeJob p.job) }
     ensures accepted { IfOk result (λ p. IsAcceptedFor Purpose.Run p.job.deal) }
     ensures seeds { IfOk result (λ p. HaveSeedsFor Purpose.Run p.job) }
     ensures wallets { IfOk result (λ p. HaveWalletsFor Purpose.Run p.job) }
-    ensures strategies { IfOk result (λ p. HoldsEach (has_strategy kit.now.names kit.now.strategies.items) p.job.roles) }
+    ensures strategies { IfOk result (λ p. HoldsEach (has_strategy strategies.now) p.job.roles) }
     ensures scripts { IfOk result (λ p. HaveScriptsFor Purpose.Run p.job) }
     ensures made { IfOk result (λ p. p.wallets.items ≡ wallets_for Purpose.Run p.job) }
 {
-    let prepared = read_header(alloc, line, text, Purpose::Run, kit)?;
+    let prepared = read_header(alloc, line, text, Purpose::Run, strategies)?;
     without_finish(alloc, line, text)?;
     Ok(prepared)
 }

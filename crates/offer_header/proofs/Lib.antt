@@ -10,3 +10,4 @@ pub mod Simple
 pub mod Held
 pub mod Answered
 pub mod Fitting
+pub mod Strategies

@@ -1,11 +1,10 @@
 -- The names of a header, and the numbers that stand for them.
 use Rattle.std.specs.Prelude.{◌≡◌, ◌==◌, ◌&&◌, ◌||◌, ◌++◌, ℕ, ◌<◌, ◌≤◌, List, [], ◌∷◌, Bool, nat_le, nat_eq, length, fold, slice_index}
 use Rattle.std.specs.Prelude.{slice_index_or}
-use Rattle.std.specs.Prelude.{if◌then◌else◌, is_some, false, Result, Ok, Err}
+use Rattle.std.specs.Prelude.{if◌then◌else◌, false, Result, Ok, Err}
 use Rattle.std.specs.Str.{bytes_eq}
 use Rattle.std.specs.List.{list_any, list_all}
 use Rattle.swap_base.specs.Fault.{◌>>=◌, steps}
-use Rattle.swap_job.specs.Names.{under}
 use Rattle.refusals.specs.declared.reason.Reason.{Reason}
 use Rattle.refusals.specs.declared.reason.Reason.TheVariants.{BadName, Duplicate, Unknown}
 use Rattle.offer_fields.specs.Lists.{each_of}
@@ -43,9 +42,9 @@ move_known line all (Raw n key) = all_known line all key.path
 move_known line all (Transfer n to units) = known line all to
 move_known line all _ = Ok tt
 
--- a kit with these names and their strategies has one of that name
-abbrev pub has_strategy : {A : Type 0} → List (List ℕ) → List A → List ℕ → Bool
-has_strategy names strategies name = is_some (under name names strategies)
+-- where these are the names of the strategies there is one of that name
+abbrev pub has_strategy : List (List ℕ) → List ℕ → Bool
+has_strategy names name = list_any (bytes_eq name) names
 
 -- no name is a strategy's
 abbrev pub no_strategy : List ℕ → Bool

@@ -12,7 +12,6 @@ use crate::limits::limited_in;
 use crate::names::numbered_in;
 use crate::raw::RawHeader;
 use crate::scripts::check_scripts;
-use deviators::Kit;
 use offer_fields::object_in;
 use refusals::OfferFault;
 use std::alloc::Global;
@@ -67,37 +66,37 @@ fn placed(line: u32, header: Header) -> Result<Header, OfferFault>
 /// The header that fields give, or the first reason why one is refused.
 fn header_by(
     alloc: Global,
-    kit: &Kit,
+    strategies: &[ByteText],
     purpose: Purpose,
     line: u32,
     raw: &RawHeader<'_>,
 ) -> Result<Header, OfferFault>
-    ensures { Gives (λ h. h) result (header_by (has_strategy kit.now.names kit.now.strategies.items) purpose line raw.now) }
+    ensures { Gives (λ h. h) result (header_by (has_strategy strategies.now) purpose line raw.now) }
 {
-    let numbered = numbered_in(alloc, kit, line, raw)?;
+    let numbered = numbered_in(alloc, strategies, line, raw)?;
     let header = limited_in(alloc, purpose, line, raw, numbered)?;
     placed(line, header)
 }
 
-/// The header that the line's text gives, or the first reason why it is refused; its strategies are those of the kit.
+/// The header that the line's text gives, or the first reason why it is refused; its strategies are among these.
 #[tactic(auto, unfolding(crate::specs::Header::header_of))]
 pub fn header_in(
     alloc: Global,
-    kit: &Kit,
+    strategies: &[ByteText],
     purpose: Purpose,
     line: u32,
     text: &[u8],
 ) -> Result<Header, OfferFault>
-    ensures exact { Gives (λ h. h) result (header_of (has_strategy kit.now.names kit.now.strategies.items) purpose line text.now) }
+    ensures exact { Gives (λ h. h) result (header_of (has_strategy strategies.now) purpose line text.now) }
     ensures purpose { IfOk result (λ h. h.purpose ≡ purpose) }
     ensures within { IfOk result (λ h. IsHeaderWithin h) }
     ensures untold { IfOk result (λ h. IsUntoldFor purpose h) }
     ensures simple { IfOk result (λ h. AreSimpleFor purpose h) }
-    ensures strategies { IfOk result (λ h. HoldsEach (has_strategy kit.now.names kit.now.strategies.items) h.roles) }
+    ensures strategies { IfOk result (λ h. HoldsEach (has_strategy strategies.now) h.roles) }
     ensures placed { IfOk result (λ h. scripts_placed line h ≡ Ok tt) }
     ensures made { IfOk result (AreMade line) }
 {
     let object = object_in(alloc, line, text)?;
     let raw = raw_in(alloc, purpose, line, &object)?;
-    header_by(alloc, kit, purpose, line, &raw)
+    header_by(alloc, strategies, purpose, line, &raw)
 }

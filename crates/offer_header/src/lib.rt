@@ -13,5 +13,5 @@ mod scripts;
 mod versions;
 
 pub use header::{Header, header_in};
-pub use names::{Ends, add_name, ends_of, is_name, kept_names};
+pub use names::{Ends, add_name, ends_of, is_known, is_name, kept_names};
 pub use raw::{RawActor, RawArc, RawParty, Reading, is_plain};

@@ -1,7 +1,8 @@
 //! The names of a header, and the numbers that stand for them.
 
 ghost use Rattle.std.specs.Prelude.{◌≡◌, ◌<◌, [], List, map, IfOk, OnOk};
-ghost use Rattle.std.specs.List.{list_all};
+ghost use Rattle.std.specs.List.{list_all, list_any};
+ghost use Rattle.std.specs.Str.{bytes_eq};
 ghost use Rattle.swap_base.specs.Fault.{Gives, steps};
 ghost use Rattle.offer_fields.specs.Lists.{each_of};
 ghost use Rattle.offer_fields.specs.Names.{party_of_name};
@@ -10,7 +11,6 @@ ghost use Rattle.offer_header.specs.Names.{is_name, is_name_byte, known, all_kno
 ghost use Rattle.offer_header.specs.Names.{with_name, names_stated, named_ends, leader_step, numbered_among, numbered_by, numbered_of};
 
 use crate::raw::{RawActor, RawArc, RawHeader, RawLeader, RawParty};
-use deviators::Kit;
 use indexmap::IndexSet;
 use offer_fields::TextRef;
 use offer_moves::RawMove;
@@ -146,29 +146,46 @@ fn check_moves(
     Ok(())
 }
 
-/// The kit has a strategy of that name.
-fn check_strategy(alloc: Global, kit: &Kit, line: u32, name: &ByteText) -> Result<(), OfferFault>
-    ensures { Gives (λ u. u) result (strategy_known (has_strategy kit.now.names kit.now.strategies.items) line name.now) }
+/// Whether the name is one of these.
+pub fn is_known(names: &[ByteText], name: &[u8]) -> bool
+    ensures { result ≡ list_any (bytes_eq name.now) names.now }
 {
-    match kit.get(name) {
-        Some(_) => Ok(()),
-        None => Err(unknown(alloc, line, name.as_slice())),
+    for known in names {
+        if name == known.as_slice() {
+            return true;
+        }
     }
+    false
+}
+
+/// The name is that of a strategy.
+fn check_strategy(
+    alloc: Global,
+    strategies: &[ByteText],
+    line: u32,
+    name: &ByteText,
+) -> Result<(), OfferFault>
+    ensures { Gives (λ u. u) result (strategy_known (has_strategy strategies.now) line name.now) }
+{
+    if !is_known(strategies, name.as_slice()) {
+        return Err(unknown(alloc, line, name.as_slice()));
+    }
+    Ok(())
 }
 
 /// An actor's strategy is known, and the names in its script are those of parties.
 fn check_actor(
     alloc: Global,
-    kit: &Kit,
+    strategies: &[ByteText],
     line: u32,
     all: &IndexSet<&[u8]>,
     actor: &RawActor<'_>,
 ) -> Result<(), OfferFault>
-    ensures { Gives (λ u. u) result (actor_known (has_strategy kit.now.names kit.now.strategies.items) line (map (λ k. k.now) all.now.keys) actor.now) }
+    ensures { Gives (λ u. u) result (actor_known (has_strategy strategies.now) line (map (λ k. k.now) all.now.keys) actor.now) }
 {
     match actor {
         RawActor::Script(moves) => check_moves(alloc, line, all, moves.as_slice()),
-        RawActor::Strategy(name) => check_strategy(alloc, kit, line, name),
+        RawActor::Strategy(name) => check_strategy(alloc, strategies, line, name),
         _ => Ok(()),
     }
 }
@@ -198,23 +215,23 @@ pub fn add_name<'h>(
 #[tactic(auto, unfolding(crate::specs::Names::name_step))]
 fn add_party<'h>(
     alloc: Global,
-    kit: &Kit,
+    strategies: &[ByteText],
     line: u32,
     all: &IndexSet<&[u8]>,
     names: &mut IndexSet<&'h [u8]>,
     party: &RawParty<'h>,
 ) -> Result<(), OfferFault>
     ensures { Gives (λ _. map (λ k. k.now) names.new.keys) result
-        (name_step (has_strategy kit.now.names kit.now.strategies.items) line (map (λ k. k.now) all.now.keys) (map (λ k. k.now) names.old.keys) party.now) }
+        (name_step (has_strategy strategies.now) line (map (λ k. k.now) all.now.keys) (map (λ k. k.now) names.old.keys) party.now) }
 {
     add_name(alloc, line, names, party)?;
-    check_actor(alloc, kit, line, all, &party.actor)
+    check_actor(alloc, strategies, line, all, &party.actor)
 }
 
 #[tactic(auto, using(swap_base::proofs::Steps::steps_on, swap_base::proofs::Steps::steps_fail, swap_base::proofs::Steps::steps_done))]
 fn add_parties<'h>(
     alloc: Global,
-    kit: &Kit,
+    strategies: &[ByteText],
     line: u32,
     all: &IndexSet<&[u8]>,
     names: &mut IndexSet<&'h [u8]>,
@@ -222,10 +239,10 @@ fn add_parties<'h>(
 ) -> Result<(), OfferFault>
     requires { names.old.keys ≡ [] }
     ensures { Gives (λ _. map (λ k. k.now) names.new.keys) result
-        (steps (name_step (has_strategy kit.now.names kit.now.strategies.items) line (map (λ k. k.now) all.now.keys)) [] parties.now) }
+        (steps (name_step (has_strategy strategies.now) line (map (λ k. k.now) all.now.keys)) [] parties.now) }
 {
     for party in parties {
-        add_party(alloc, kit, line, all, names, party)?;
+        add_party(alloc, strategies, line, all, names, party)?;
     }
     Ok(())
 }
@@ -341,16 +358,23 @@ fn numbered_by(
 /// The same, where all names that the header states are known.
 fn numbered_among(
     alloc: Global,
-    kit: &Kit,
+    strategies: &[ByteText],
     line: u32,
     all: &IndexSet<&[u8]>,
     header: &RawHeader<'_>,
 ) -> Result<Numbered, OfferFault>
     ensures { Gives (λ n. n) result
-        (numbered_among (has_strategy kit.now.names kit.now.strategies.items) line (map (λ k. k.now) all.now.keys) header.now) }
+        (numbered_among (has_strategy strategies.now) line (map (λ k. k.now) all.now.keys) header.now) }
 {
     let mut names = IndexSet::new(alloc);
-    add_parties(alloc, kit, line, all, &mut names, header.parties.as_slice())?;
+    add_parties(
+        alloc,
+        strategies,
+        line,
+        all,
+        &mut names,
+        header.parties.as_slice(),
+    )?;
     numbered_by(alloc, line, &names, header)
 }
 
@@ -358,13 +382,13 @@ fn numbered_among(
 #[tactic(auto, unfolding(crate::specs::Names::numbered_of))]
 pub(crate) fn numbered_in(
     alloc: Global,
-    kit: &Kit,
+    strategies: &[ByteText],
     line: u32,
     header: &RawHeader<'_>,
 ) -> Result<Numbered, OfferFault>
-    ensures { Gives (λ n. n) result (numbered_of (has_strategy kit.now.names kit.now.strategies.items) line header.now) }
+    ensures { Gives (λ n. n) result (numbered_of (has_strategy strategies.now) line header.now) }
 {
     let mut all = IndexSet::new(alloc);
     state_names(&mut all, header.parties.as_slice())?;
-    numbered_among(alloc, kit, line, &all, header)
+    numbered_among(alloc, strategies, line, &all, header)
 }

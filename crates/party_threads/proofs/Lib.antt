@@ -7,7 +7,6 @@ pub mod Rounded
 pub mod Viewing
 pub mod Resting
 pub mod Racing
-pub mod Others
 pub mod Running
 pub mod Starting
 pub mod Staffing

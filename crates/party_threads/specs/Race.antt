@@ -6,7 +6,6 @@ use Rattle.swap_digraph.specs.Graph.{arcs}
 use Rattle.swap_digraph.specs.declared.deal.Deal.{Deal}
 use Rattle.hashkey_path.specs.declared.hashkey.Hashkey.{Hashkey}
 use Rattle.escrow_core.specs.declared.reply.Reply.TheVariants.{Accepted}
-use Rattle.ledger_core.specs.declared.entry.Call.{Call}
 use Rattle.ledger_core.specs.declared.entry.Entry.{Entry}
 use Rattle.ledger_core.specs.History.{height}
 use Rattle.ledger_core.specs.Ledger.{tick_entry}
@@ -100,14 +99,6 @@ abbrev pub RacesAreKept : Type 1
 RacesAreKept =
     (gives : MayGive) (c : Cast) (ticks : ℕ) (t : State) → IsReadyCast c → 1 ≤ ticks → IsRaced gives c ticks (rounds_for c.deal ticks) t
     → IsTypedBook t.book → IsRaceBook gives c ticks t.book
-
--- what strategies may answer, the other says too
-abbrev pub SaysMore : MayGive → MayGive → Type 0
-SaysMore gives other = (name : List ℕ) (d : Deal) (v t : ℕ) (k : Histories) (o : Option (ℕ × Call)) → gives name d v t k o → other name d v t k o
-
--- a race's book is one for all who say of the strategies' answers no more than that
-abbrev pub RacesSayLess : Type 1
-RacesSayLess = (gives other : MayGive) (c : Cast) (ticks : ℕ) (b : Histories) → SaysMore gives other → IsRaceBook gives c ticks b → IsRaceBook other c ticks b
 
 -- Where the calls of v in what it knows keep its rules, nothing is due by the hashkeys that it signed exactly where nothing is by those of its unlock calls.
 abbrev pub RestShowsInCalls : Type 0

@@ -97,17 +97,17 @@ fn look_round<R: Wait>(
 }
 
 /// The call that answers what the party knows, if any. The party has acted once more.
-fn answer<K: Strategies>(
-    kit: &K,
+fn answer<A: Strategies>(
+    staff: &A,
     job: &Job,
     me: PartyId,
     planner: &mut Planner,
 ) -> Result<Option<(ArcId, Call)>, NoMemory>
     requires role { me < length job.now.roles }
     requires planned { is_planned (role_in job.now me) ≡ true }
-    requires held { IsHeld (K.holds kit.now) (role_in job.now me) }
+    requires held { IsHeld (A.holds staff.now) (role_in job.now me) }
     requires shown { IsShown job.now.deal job.now.seeds me planner.old }
-    ensures answered { IfOk result (λ o. IsAnswered (K.gives kit.now) job.now.deal job.now.seeds me planner.old.known o planner.old planner.new
+    ensures answered { IfOk result (λ o. IsAnswered (A.gives staff.now) job.now.deal job.now.seeds me planner.old.known o planner.old planner.new
         (role_in job.now me)) }
     ensures fits { IfOk result (MayAnswer job.now.deal me) }
     ensures moves { OnOk result (All (IsMoveOf job.now.deal job.now.seeds me) planner.new.moves) }
@@ -116,7 +116,7 @@ fn answer<K: Strategies>(
 {
     match &job.roles.as_slice()[me as usize] {
         Role::Script(_) => planner.follow(&job.deal, me, job.seeds.as_slice()),
-        Role::Strategy(name) => planner.ask(kit, name, &job.deal, me),
+        Role::Strategy(name) => planner.ask(staff, name, &job.deal, me),
         _ => unreachable!(),
     }
 }
@@ -211,10 +211,10 @@ fn make<R: Wait>(
 }
 
 /// The turn of a party that follows a script or a strategy.
-pub fn take_planner_turn<R: Wait, K: Strategies>(
+pub fn take_planner_turn<R: Wait, A: Strategies>(
     rt: &R,
     ledgers: &[SharedLedger],
-    kit: &K,
+    staff: &A,
     job: &Job,
     me: PartyId,
     planner: &mut Planner,
@@ -222,16 +222,16 @@ pub fn take_planner_turn<R: Wait, K: Strategies>(
 ) -> Result<(), NoMemory>
     requires role { me < length job.now.roles }
     requires planned { is_planned (role_in job.now me) ≡ true }
-    requires held { IsHeld (K.holds kit.now) (role_in job.now me) }
+    requires held { IsHeld (A.holds staff.now) (role_in job.now me) }
     requires shown { IsShown job.now.deal job.now.seeds me planner.old }
     requires tracks { Tracks ledgers.now (planner_of job.now.deal me planner.old) passes.old }
     requires passes { HasItsPasses job.now.deal me passes.old }
     ensures gone_on { HaveGoneOn passes.old passes.new }
     ensures tracks { OnOk result (Tracks ledgers.now (planner_of job.now.deal me planner.new) passes.new) }
     ensures shown { OnOk result (IsShown job.now.deal job.now.seeds me planner.new) }
-    ensures played { OnOk result (HasPlayed (K.gives kit.now) job.now.deal job.now.seeds (role_in job.now me) me passes.old planner.old planner.new) }
+    ensures played { OnOk result (HasPlayed (A.gives staff.now) job.now.deal job.now.seeds (role_in job.now me) me passes.old planner.old planner.new) }
 {
     look_round(rt, ledgers, &job.deal, me, planner, passes)?;
-    let call = answer(kit, job, me, planner)?;
+    let call = answer(staff, job, me, planner)?;
     make(rt, ledgers, &job.deal, me, planner, passes, call)
 }

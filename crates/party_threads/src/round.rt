@@ -26,10 +26,10 @@ use swap_base::{NoMemory, PartyId};
 use swap_job::Job;
 
 /// What the actor with the number v does in its turn.
-fn play<R: Wait, K: Strategies>(
+fn play<R: Wait, A: Strategies>(
     rt: &R,
     job: &Job,
-    kit: &K,
+    staff: &A,
     ledgers: &[SharedLedger],
     ticks: u32,
     v: PartyId,
@@ -37,13 +37,13 @@ fn play<R: Wait, K: Strategies>(
 ) -> Result<(), NoMemory>
     requires some { 1 ≤ ticks }
     requires below { ticks ≤ 1000 }
-    requires seated { IsSeated (K.holds kit.now) job.now ledgers.now ticks v turn.old }
+    requires seated { IsSeated (A.holds staff.now) job.now ledgers.now ticks v turn.old }
     ensures actor { IsSameActor turn.old.actor turn.new.actor }
     ensures passes { HaveGoneOn turn.old.passes.items turn.new.passes.items }
     ensures clocks { HaveClocksGoneOn turn.old.clocks.items turn.new.clocks.items }
     ensures places { length turn.new.passes.items ≡ length turn.old.passes.items }
     ensures clock_places { length turn.new.clocks.items ≡ length turn.old.clocks.items }
-    ensures did { OnOk result (DidIn (K.gives kit.now) job.now ticks v turn.old turn.new) }
+    ensures did { OnOk result (DidIn (A.gives staff.now) job.now ticks v turn.old turn.new) }
 {
     match &mut turn.actor {
         Actor::Conforming(machine) => {
@@ -51,17 +51,17 @@ fn play<R: Wait, K: Strategies>(
         }
         Actor::Planned(planner) => {
             let passes = turn.passes.as_mut_slice();
-            take_planner_turn(rt, ledgers, kit, job, v, planner, passes)
+            take_planner_turn(rt, ledgers, staff, job, v, planner, passes)
         }
         Actor::Manual => Ok(()),
         Actor::Clock => take_clock_turn(rt, ledgers, turn.clocks.as_mut_slice(), ticks),
     }
 }
 
-fn take_turn<R: Wait, K: Strategies>(
+fn take_turn<R: Wait, A: Strategies>(
     rt: &R,
     job: &Job,
-    kit: &K,
+    staff: &A,
     ledgers: &[SharedLedger],
     ticks: u32,
     v: PartyId,
@@ -69,17 +69,17 @@ fn take_turn<R: Wait, K: Strategies>(
 )
     requires some { 1 ≤ ticks }
     requires below { ticks ≤ 1000 }
-    requires seated { IsSeated (K.holds kit.now) job.now ledgers.now ticks v turn.old }
-    ensures { Took (K.gives kit.now) job.now ticks v turn.old turn.new }
+    requires seated { IsSeated (A.holds staff.now) job.now ledgers.now ticks v turn.old }
+    ensures { Took (A.gives staff.now) job.now ticks v turn.old turn.new }
 {
-    turn.failed = play(rt, job, kit, ledgers, ticks, v, turn).is_err();
+    turn.failed = play(rt, job, staff, ledgers, ticks, v, turn).is_err();
 }
 
 /// Every actor's turn, on at most so many threads: each takes some that follow one another. One is this thread.
-fn take_turns<R: Threads + Wait + Sync, K: Strategies + Sync, G: Gate>(
+fn take_turns<R: Threads + Wait + Sync, A: Strategies + Sync, G: Gate>(
     rt: &R,
     job: &Job,
-    kit: &K,
+    staff: &A,
     gate: &G,
     round: u32,
     ledgers: &[SharedLedger],
@@ -91,9 +91,9 @@ fn take_turns<R: Threads + Wait + Sync, K: Strategies + Sync, G: Gate>(
     requires few { length turns.old ≤ 256 }
     requires some { 1 ≤ ticks }
     requires below { ticks ≤ 1000 }
-    requires seated { (i : ℕ) (t : Turn) → i < length turns.old → IsSeated (K.holds kit.now) job.now ledgers.now ticks i (slice_index_or turns.old i t) }
+    requires seated { (i : ℕ) (t : Turn) → i < length turns.old → IsSeated (A.holds staff.now) job.now ledgers.now ticks i (slice_index_or turns.old i t) }
     ensures took { (i : ℕ) (t : Turn) → i < length turns.old
-        → Took (K.gives kit.now) job.now ticks i (slice_index_or turns.old i t) (slice_index_or turns.new i t) }
+        → Took (A.gives staff.now) job.now ticks i (slice_index_or turns.old i t) (slice_index_or turns.new i t) }
     ensures number { length turns.new ≡ length turns.old }
 {
     thread::for_each_mut(
@@ -101,11 +101,11 @@ fn take_turns<R: Threads + Wait + Sync, K: Strategies + Sync, G: Gate>(
         turns,
         threads,
         &|i, turn: &mut Turn|
-            requires { IsSeated (K.holds kit.now) job.now ledgers.now ticks i turn.now × (i < 256) × (1 ≤ ticks) × (ticks ≤ 1000) }
-            ensures { Took (K.gives kit.entry.now) job.entry.now ticks i turn.entry.now turn.exit.now }
+            requires { IsSeated (A.holds staff.now) job.now ledgers.now ticks i turn.now × (i < 256) × (1 ≤ ticks) × (ticks ≤ 1000) }
+            ensures { Took (A.gives staff.entry.now) job.entry.now ticks i turn.entry.now turn.exit.now }
         {
             gate.pass(rt, i as PartyId, round);
-            take_turn(rt, job, kit, ledgers, ticks, i as PartyId, turn)
+            take_turn(rt, job, staff, ledgers, ticks, i as PartyId, turn)
         },
     );
 }
@@ -118,11 +118,11 @@ fn all_done(turns: &[Turn]) -> bool
 }
 
 /// One round. Where a turn wanted memory the others have their turns all the same, and every ledger is closed.
-pub(crate) fn round<R: Threads + Wait + Sync, K: Strategies + Sync, G: Gate>(
+pub(crate) fn round<R: Threads + Wait + Sync, A: Strategies + Sync, G: Gate>(
     rt: &R,
     alloc: Global,
     job: &Job,
-    kit: &K,
+    staff: &A,
     gate: &G,
     number: u32,
     ticks: u32,
@@ -134,17 +134,17 @@ pub(crate) fn round<R: Threads + Wait + Sync, K: Strategies + Sync, G: Gate>(
     requires some { 1 ≤ ticks }
     requires below { ticks ≤ 1000 }
     requires stands { Stands job.now ledgers.old turns.old }
-    requires held { AreHeld (K.holds kit.now) job.now.roles }
+    requires held { AreHeld (A.holds staff.now) job.now.roles }
     requires room { AllHaveRoom ticks job.now.deal (book_in ledgers.old) }
     ensures stands { OnOk result (Stands job.now ledgers.new turns.new) }
-    ensures round { OnOk result (IsRound (K.gives kit.now) (cast_of job.now) ticks (state_of job.now ledgers.old turns.old)
+    ensures round { OnOk result (IsRound (A.gives staff.now) (cast_of job.now) ticks (state_of job.now ledgers.old turns.old)
         (state_of job.now ledgers.new turns.new)) }
 {
     let shared = hand_out(rt, alloc, &job.deal, ledgers, turns)?;
     take_turns(
         rt,
         job,
-        kit,
+        staff,
         gate,
         number,
         shared.as_slice(),

@@ -94,11 +94,11 @@ fn threads_after(calls: usize) -> usize
 }
 
 /// Rounds until each ledger is above the horizon.
-fn run_rounds<R: Threads + Wait + Sync, K: Strategies + Sync, G: Gate>(
+fn run_rounds<R: Threads + Wait + Sync, A: Strategies + Sync, G: Gate>(
     rt: &R,
     alloc: Global,
     job: &Job,
-    kit: &K,
+    staff: &A,
     gate: &G,
     ticks: u32,
     ledgers: &mut [Option<Home>],
@@ -107,9 +107,9 @@ fn run_rounds<R: Threads + Wait + Sync, K: Strategies + Sync, G: Gate>(
     requires some { 1 ≤ ticks }
     requires below { ticks ≤ 1000 }
     requires stands { Stands job.now ledgers.old turns.old }
-    requires held { AreHeld (K.holds kit.now) job.now.roles }
+    requires held { AreHeld (A.holds staff.now) job.now.roles }
     requires first { state_of job.now ledgers.old turns.old ≡ start (cast_of job.now) }
-    ensures raced { OnOk result (IsRaced (K.gives kit.now) (cast_of job.now) ticks (rounds_for job.now.deal ticks) (state_of job.now ledgers.new turns.new)) }
+    ensures raced { OnOk result (IsRaced (A.gives staff.now) (cast_of job.now) ticks (rounds_for job.now.deal ticks) (state_of job.now ledgers.new turns.new)) }
 {
     // In the first round everybody may have something to do.
     let mut calls = usize::MAX;
@@ -117,7 +117,7 @@ fn run_rounds<R: Threads + Wait + Sync, K: Strategies + Sync, G: Gate>(
         let threads = threads_after(calls);
         let before = entries_in(ledgers).saturating_add(ledgers.len());
         round(
-            rt, alloc, job, kit, gate, number, ticks, threads, ledgers, turns,
+            rt, alloc, job, staff, gate, number, ticks, threads, ledgers, turns,
         )?;
         calls = entries_in(ledgers).saturating_sub(before);
     }
@@ -125,12 +125,12 @@ fn run_rounds<R: Threads + Wait + Sync, K: Strategies + Sync, G: Gate>(
 }
 
 /// Races a job whose wallets are right: every party and the clock have a turn in each round, on up to 16 threads, the fewer the less was done in the round
-/// before, and on one where nothing was; strategies answer from the kit. It waits for locks and at the gate.
-pub fn race_fitting<R: Threads + Wait + Sync, K: Strategies + Sync, G: Gate>(
+/// before, and on one where nothing was; strategies answer from the staff. It waits for locks and at the gate.
+pub fn race_fitting<R: Threads + Wait + Sync, A: Strategies + Sync, G: Gate>(
     rt: &R,
     alloc: Global,
     job: &Job,
-    kit: &K,
+    staff: &A,
     wallets: Vec<Option<Wallet>>,
     ticks: u32,
     gate: &G,
@@ -138,12 +138,12 @@ pub fn race_fitting<R: Threads + Wait + Sync, K: Strategies + Sync, G: Gate>(
     requires accepted { IsAccepted job.now.deal }
     requires seeds { ConformingHaveSeeds job.now }
     requires roles { HaveRoles job.now }
-    requires held { AreHeld (K.holds kit.now) job.now.roles }
+    requires held { AreHeld (A.holds staff.now) job.now.roles }
     requires wallets { wallets.items ≡ wallets_of job.now.deal job.now.conforming job.now.seeds }
     requires fit { AllFit job.now }
     requires some { 1 ≤ ticks }
     requires below { ticks ≤ 1000 }
-    ensures { IfOk result (λ b. IsRaceBook (K.gives kit.now) (cast_of job.now) ticks b.histories) }
+    ensures { IfOk result (λ b. IsRaceBook (A.gives staff.now) (cast_of job.now) ticks b.histories) }
 {
     let mut turns = turns_of(alloc, job, wallets)?;
     let mut ledgers = ledgers_of(alloc, &job.deal)?;
@@ -151,7 +151,7 @@ pub fn race_fitting<R: Threads + Wait + Sync, K: Strategies + Sync, G: Gate>(
         rt,
         alloc,
         job,
-        kit,
+        staff,
         gate,
         ticks,
         ledgers.as_mut_slice(),
@@ -163,11 +163,11 @@ pub fn race_fitting<R: Threads + Wait + Sync, K: Strategies + Sync, G: Gate>(
 }
 
 /// The same, or the first conforming party whose seed isn't that of the deal.
-pub fn race<R: Threads + Wait + Sync, K: Strategies + Sync, G: Gate>(
+pub fn race<R: Threads + Wait + Sync, A: Strategies + Sync, G: Gate>(
     rt: &R,
     alloc: Global,
     job: &Job,
-    kit: &K,
+    staff: &A,
     wallets: Vec<Option<Wallet>>,
     ticks: u32,
     gate: &G,
@@ -175,16 +175,16 @@ pub fn race<R: Threads + Wait + Sync, K: Strategies + Sync, G: Gate>(
     requires accepted { IsAccepted job.now.deal }
     requires seeds { ConformingHaveSeeds job.now }
     requires roles { HaveRoles job.now }
-    requires held { AreHeld (K.holds kit.now) job.now.roles }
+    requires held { AreHeld (A.holds staff.now) job.now.roles }
     requires wallets { wallets.items ≡ wallets_of job.now.deal job.now.conforming job.now.seeds }
     requires some { 1 ≤ ticks }
     requires below { ticks ≤ 1000 }
-    ensures book { IfOk result (λ b. IsRaceBook (K.gives kit.now) (cast_of job.now) ticks b.histories) }
+    ensures book { IfOk result (λ b. IsRaceBook (A.gives staff.now) (cast_of job.now) ticks b.histories) }
     ensures fit { OnOk result (AllFit job.now) }
     ensures wrong { IfErr result (IsFirstOf job.now) }
 {
     match wrong_wallet(job, &wallets) {
         Some(wrong) => Err(Fault::Refused(wrong)),
-        None => Ok(race_fitting(rt, alloc, job, kit, wallets, ticks, gate)?),
+        None => Ok(race_fitting(rt, alloc, job, staff, wallets, ticks, gate)?),
     }
 }

@@ -1,7 +1,7 @@
 -- What is written of a job that is made is read back as that job, with the lines that come after its header.
 use Rattle.std.specs.Prelude.{◌≡◌, ◌≤◌, ◌==◌, ◌+◌, not, ℕ, Bool, true, false, List, [], ◌∷◌, drop, map, All, Option, Some, Result, Ok}
-use Rattle.std.specs.Str.{bytes_eq, is_utf8, IsUtf8}
-use Rattle.std.specs.List.{list_all, list_any}
+use Rattle.std.specs.Str.{is_utf8, IsUtf8}
+use Rattle.std.specs.List.{list_all}
 use Rattle.serde_json.specs.Read.{read}
 use Rattle.swap_base.specs.Fault.{◌>>=◌}
 use Rattle.swap_job.specs.declared.event.Event.{Event}
@@ -9,6 +9,7 @@ use Rattle.swap_job.specs.declared.job.Job.{Job}
 use Rattle.swap_job.specs.declared.job.Purpose.{Purpose}
 use Rattle.swap_job.specs.declared.job.Purpose.TheVariants.{Check, Run, Race, Make}
 use Rattle.deviators.specs.Program.{program_names}
+use Rattle.offer_header.specs.Names.{has_strategy}
 use Rattle.refusals.specs.declared.reason.Reason.{Reason}
 use Rattle.offer_text.specs.HeaderLine.{header_line, made_header}
 use Rattle.swap_run.specs.Asked.{with_answers, Answers}
@@ -46,7 +47,7 @@ HasTexts has = (name : List ℕ) → has name ≡ true → IsUtf8 name
 
 -- Those of the program have.
 abbrev pub ProgramHasTexts : Type 0
-ProgramHasTexts = HasTexts (λ name. list_any (λ n. bytes_eq n name) program_names)
+ProgramHasTexts = HasTexts (has_strategy program_names)
 
 -- ---- lines
 

@@ -119,7 +119,7 @@ pub same_cast : (job : Job) (w : WorldState) → IsOf job w → cast_at w ≡ ca
 same_cast job w k = ap₂ (λ (d : Deal) (rs : List Role). cast_with d w.conforming w.seeds rs) k.deal k.roles
     ∙ ap₂ (λ (c : List Bool) (s : List (Option (List ℕ))). cast_with job.deal c s job.roles) k.conforming k.seeds
 
--- a kit that holds each strategy that the job names
+-- a staff that holds each strategy that the job names
 pub held : (has : List ℕ → Bool) (roles : List Role) → HoldsEach has roles → AreHeld has roles
 held has roles all = λ p lt. all p kinds.Manual lt
 

@@ -4,7 +4,6 @@ ghost use Rattle.std.specs.Prelude.{◌≡◌, ◌≤◌, IfOk, IfErr, IsErrOf};
 ghost use Rattle.swap_digraph.specs.Deal.{IsWellSized};
 ghost use Rattle.swap_rules.specs.Accepted.{IsAccepted};
 ghost use Rattle.swap_offer.specs.Checks.{need_of};
-ghost use Rattle.offer_header.specs.Names.{has_strategy};
 ghost use Rattle.command_input.specs.Input.{Ends, Stops, fresh};
 ghost use Rattle.command_input.specs.Written.{Writes};
 ghost use Rattle.command_input.specs.Streams.{streams};
@@ -18,7 +17,7 @@ use crate::header::first_line;
 use crate::replay::pass_over;
 use crate::stop::stop;
 use command_input::{Input, InputFault, Status};
-use deviators::{Kit, Strategies};
+use deviators::Strategies;
 use refusals::Refusal;
 use std::alloc::Global;
 use swap_base::{ByteText, NoMemory, Piece, put};
@@ -54,25 +53,25 @@ fn check_text(alloc: Global, deal: &Deal, need: u32) -> Result<ByteText, NoMemor
 }
 
 /// The job of an input whose lines are all examined, and the least bound that it may have.
-fn examine<S: Source>(
+fn examine<S: Source, A: Strategies>(
     alloc: Global,
-    kit: &Kit,
+    staff: &A,
     input: &mut Input,
     source: &mut S,
 ) -> Result<(Job, u32), InputFault<Refusal>>
     requires { input.old ≡ fresh }
-    ensures checked { IfOk result (λ j. Ends (λ bytes. IsChecked (has_strategy kit.now.names kit.now.strategies.items) bytes j.0) (S.left source.old)
+    ensures checked { IfOk result (λ j. Ends (λ bytes. IsChecked (A.holds staff.now) bytes j.0) (S.left source.old)
         (S.left source.new) fresh input.new) }
     ensures accepted { IfOk result (λ j. IsAccepted j.0.deal) }
     ensures sized { IfOk result (λ j. IsWellSized j.0.deal) }
     ensures need { IfOk result (λ j. j.1 ≡ need_of j.0.deal) }
-    ensures stops { IfErr result (λ e. Stops (IsAgainst (has_strategy kit.now.names kit.now.strategies.items) (OfJob Check))
+    ensures stops { IfErr result (λ e. Stops (IsAgainst (A.holds staff.now) (OfJob Check))
         (S.left source.old) (S.left source.new) (S.faults source.old)
         (S.faults source.new) fresh input.new e) }
     ensures later { S.faults source.old ≤ S.faults source.new }
     ensures calm { ¬ IsErrOf result InputFault.ReadFault → S.faults source.new ≡ S.faults source.old }
 {
-    let Prepared { job, need, .. } = first_line(alloc, kit, Purpose::Check, input, source)?;
+    let Prepared { job, need, .. } = first_line(alloc, staff, Purpose::Check, input, source)?;
     match pass_over(alloc, &job, input, source) {
         Ok(()) => Ok((job, need)),
         Err(fault) => Err(fault.with_names(job.names)),
@@ -95,39 +94,39 @@ fn tell<K: Sink>(alloc: Global, sink: &mut K, job: &Job, need: u32) -> Status
 }
 
 /// Checks the offer of an input that wasn't read yet.
-fn check_input<S: Source, K: Sink>(
+fn check_input<S: Source, K: Sink, A: Strategies>(
     alloc: Global,
-    kit: &Kit,
+    staff: &A,
     input: &mut Input,
     source: &mut S,
     sink: &mut K,
 ) -> Status
     requires { input.old ≡ fresh }
-    ensures says { Says (strategies (has_strategy kit.now.names kit.now.strategies.items) (⟦<Kit as Strategies>⟧.gives kit.now)) (OfJob Check)
+    ensures says { Says (strategies (A.holds staff.now) (A.gives staff.now)) (OfJob Check)
         (streams (S.left source.old) (S.faults source.old) (K.taken sink.old) (K.faults sink.old))
         (streams (S.left source.new) (S.faults source.new) (K.taken sink.new) (K.faults sink.new)) result }
     ensures calm { ¬ (result ≡ Status.ReadFault) → S.faults source.new ≡ S.faults source.old }
 {
-    match examine(alloc, kit, input, source) {
+    match examine(alloc, staff, input, source) {
         Ok((job, need)) => tell(alloc, sink, &job, need),
         Err(fault) => stop(input, source, fault),
     }
 }
 
 /// Checks an offer.
-pub(crate) fn check<S: Source, K: Sink>(
+pub(crate) fn check<S: Source, K: Sink, A: Strategies>(
     alloc: Global,
-    kit: &Kit,
+    staff: &A,
     source: &mut S,
     sink: &mut K,
 ) -> Status
-    ensures says { Says (strategies (has_strategy kit.now.names kit.now.strategies.items) (⟦<Kit as Strategies>⟧.gives kit.now)) (OfJob Check)
+    ensures says { Says (strategies (A.holds staff.now) (A.gives staff.now)) (OfJob Check)
         (streams (S.left source.old) (S.faults source.old) (K.taken sink.old) (K.faults sink.old))
         (streams (S.left source.new) (S.faults source.new) (K.taken sink.new) (K.faults sink.new)) result }
     ensures calm { ¬ (result ≡ Status.ReadFault) → S.faults source.new ≡ S.faults source.old }
 {
     match Input::new(alloc) {
-        Ok(mut input) => check_input(alloc, kit, &mut input, source, sink),
+        Ok(mut input) => check_input(alloc, staff, &mut input, source, sink),
         Err(_) => Status::NoMemory,
     }
 }

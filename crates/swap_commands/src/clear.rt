@@ -2,7 +2,6 @@
 
 ghost use Rattle.std.specs.Prelude.{◌≡◌, ◌≤◌, ℕ, Bool, List, IfOk, IfErr, OnOk, IsErrOf};
 ghost use Rattle.clear_line.specs.ClearedText.{IsClearedLine};
-ghost use Rattle.offer_header.specs.Names.{has_strategy};
 ghost use Rattle.swap_commands.specs.Cleared.{IsCleared, IsFurther};
 ghost use Rattle.command_input.specs.Input.{Ends, EndsAt, IsLast, IsLine, Stops, fresh, limit};
 ghost use Rattle.command_input.specs.Streams.{streams};
@@ -14,7 +13,7 @@ use crate::make::tell;
 use crate::stop::stop;
 use clear_line::cleared_line;
 use command_input::{Input, InputFault, Status, no_line};
-use deviators::{Kit, Strategies};
+use deviators::Strategies;
 use refusals::{Reason, Refusal};
 use std::alloc::Global;
 use swap_base::Listed;
@@ -90,15 +89,15 @@ fn read_wishes<S: Source>(
 }
 
 /// Clears the wishes of an input that wasn't read yet.
-fn clear_input<S: Source, K: Sink>(
+fn clear_input<S: Source, K: Sink, A: Strategies>(
     alloc: Global,
-    _kit: &Kit,
+    _staff: &A,
     input: &mut Input,
     source: &mut S,
     sink: &mut K,
 ) -> Status
     requires { input.old ≡ fresh }
-    ensures says { Says (strategies (has_strategy _kit.now.names _kit.now.strategies.items) (⟦<Kit as Strategies>⟧.gives _kit.now)) Clear
+    ensures says { Says (strategies (A.holds _staff.now) (A.gives _staff.now)) Clear
         (streams (S.left source.old) (S.faults source.old) (K.taken sink.old) (K.faults sink.old))
         (streams (S.left source.new) (S.faults source.new) (K.taken sink.new) (K.faults sink.new)) result }
     ensures calm { ¬ (result ≡ Status.ReadFault) → S.faults source.new ≡ S.faults source.old }
@@ -110,19 +109,19 @@ fn clear_input<S: Source, K: Sink>(
 }
 
 /// Clears wishes, for which no strategy is asked.
-pub(crate) fn clear<S: Source, K: Sink>(
+pub(crate) fn clear<S: Source, K: Sink, A: Strategies>(
     alloc: Global,
-    _kit: &Kit,
+    _staff: &A,
     source: &mut S,
     sink: &mut K,
 ) -> Status
-    ensures says { Says (strategies (has_strategy _kit.now.names _kit.now.strategies.items) (⟦<Kit as Strategies>⟧.gives _kit.now)) Clear
+    ensures says { Says (strategies (A.holds _staff.now) (A.gives _staff.now)) Clear
         (streams (S.left source.old) (S.faults source.old) (K.taken sink.old) (K.faults sink.old))
         (streams (S.left source.new) (S.faults source.new) (K.taken sink.new) (K.faults sink.new)) result }
     ensures calm { ¬ (result ≡ Status.ReadFault) → S.faults source.new ≡ S.faults source.old }
 {
     match Input::new(alloc) {
-        Ok(mut input) => clear_input(alloc, _kit, &mut input, source, sink),
+        Ok(mut input) => clear_input(alloc, _staff, &mut input, source, sink),
         Err(_) => Status::NoMemory,
     }
 }

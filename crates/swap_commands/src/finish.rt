@@ -18,17 +18,17 @@ use swap_job::{Finish, Job};
 use swap_world::World;
 
 /// Finishes the world as its job asks.
-pub(crate) fn finish<T: Strategies>(world: &mut World, kit: &T, job: &Job) -> Result<(), NoMemory>
-    requires kit { AreHeld (T.holds kit.now) job.now.roles }
+pub(crate) fn finish<A: Strategies>(world: &mut World, staff: &A, job: &Job) -> Result<(), NoMemory>
+    requires held { AreHeld (A.holds staff.now) job.now.roles }
     requires of { IsOf job.now world.old }
     requires goes_on { world.old.stopped ≡ false }
-    ensures gone { OnOk result (HasGone (T.gives kit.now) (finished job.now.finish) world.old world.new) }
+    ensures gone { OnOk result (HasGone (A.gives staff.now) (finished job.now.finish) world.old world.new) }
     ensures ended { OnOk result (job.now.finish ≡ Finish.Fair → IsEnded job.now.deal world.new.state.book) }
     ensures dealt { OnOk result (job.now.finish ≡ Finish.Fair → world.old.state ≡ start (cast_of job.now) → AllAreConforming job.now.deal job.now.conforming
         → IsDealt job.now.deal (conforms_in job.now.conforming) world.new.state.book) }
 {
     match job.finish {
         Finish::Stop => Ok(()),
-        Finish::Fair => world.finish_fair(kit),
+        Finish::Fair => world.finish_fair(staff),
     }
 }

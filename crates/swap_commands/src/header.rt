@@ -12,17 +12,18 @@ ghost use Rattle.swap_commands.specs.Says.{IsAgainst};
 ghost use Rattle.swap_commands.specs.Words.{JobCommand, OfJob};
 
 use command_input::{Input, InputFault, no_line};
-use deviators::Kit;
+use deviators::Strategies;
 use refusals::Refusal;
 use std::alloc::Global;
+use swap_base::ByteText;
 use swap_io::Source;
 use swap_job::Purpose;
 use swap_offer::{Prepared, read_header};
 
-/// The job of an input's header, read for the purpose, with the wallets that this needs, or what is said against it.
-pub(crate) fn first_line<S: Source>(
+/// The job of an input's header, where these are the names of the strategies.
+fn first_among<S: Source>(
     alloc: Global,
-    kit: &Kit,
+    strategies: &[ByteText],
     purpose: Purpose,
     input: &mut Input,
     source: &mut S,
@@ -31,9 +32,9 @@ pub(crate) fn first_line<S: Source>(
     ensures line { OnOk result (IsLine (S.left source.old) (S.left source.new) fresh input.new) }
     ensures within { OnOk result (input.new.reading.taken ≤ limit) }
     ensures ended { OnOk result (EndsAt (S.left source.new) input.new) }
-    ensures header { IfOk result (λ p. job_header_of (has_strategy kit.now.names kit.now.strategies.items) purpose input.new.number
+    ensures header { IfOk result (λ p. job_header_of (has_strategy strategies.now) purpose input.new.number
         input.new.text ≡ Ok p.job) }
-    ensures names { IfOk result (λ p. p.job.names ≡ names_at (has_strategy kit.now.names kit.now.strategies.items) purpose input.new.number
+    ensures names { IfOk result (λ p. p.job.names ≡ names_at (has_strategy strategies.now) purpose input.new.number
         input.new.text) }
     ensures whole { IfOk result (λ p. IsWholeJob p.job) }
     ensures known { IfOk result (λ p. AreNames p.job.names) }
@@ -41,13 +42,13 @@ pub(crate) fn first_line<S: Source>(
     ensures accepted { IfOk result (λ p. IsAcceptedFor purpose p.job.deal) }
     ensures seeds { IfOk result (λ p. HaveSeedsFor purpose p.job) }
     ensures wallets { IfOk result (λ p. HaveWalletsFor purpose p.job) }
-    ensures strategies { IfOk result (λ p. HoldsEach (has_strategy kit.now.names kit.now.strategies.items) p.job.roles) }
+    ensures strategies { IfOk result (λ p. HoldsEach (has_strategy strategies.now) p.job.roles) }
     ensures scripts { IfOk result (λ p. HaveScriptsFor purpose p.job) }
     ensures made { IfOk result (λ p. p.wallets.items ≡ wallets_for purpose p.job) }
     ensures need { IfOk result (λ p. p.need ≡ need_of p.job.deal) }
     // Whatever command of that purpose.
     ensures stops { (command : JobCommand) → purpose ≡ purpose_of command
-        → IfErr result (λ e. Stops (IsAgainst (has_strategy kit.now.names kit.now.strategies.items) (OfJob command)) (S.left source.old)
+        → IfErr result (λ e. Stops (IsAgainst (has_strategy strategies.now) (OfJob command)) (S.left source.old)
         (S.left source.new) (S.faults source.old) (S.faults source.new) fresh input.new e) }
     ensures later { S.faults source.old ≤ S.faults source.new }
     ensures calm { ¬ IsErrOf result InputFault.ReadFault → S.faults source.new ≡ S.faults source.old }
@@ -56,6 +57,43 @@ pub(crate) fn first_line<S: Source>(
         return Err(no_line(alloc));
     }
     let number = input.number();
-    let prepared = read_header(alloc, number, input.text(), purpose, kit)?;
+    let prepared = read_header(alloc, number, input.text(), purpose, strategies)?;
     Ok(prepared)
+}
+
+/// The job of an input's header, read for the purpose, with the wallets that this needs, or what is said against it.
+pub(crate) fn first_line<S: Source, A: Strategies>(
+    alloc: Global,
+    staff: &A,
+    purpose: Purpose,
+    input: &mut Input,
+    source: &mut S,
+) -> Result<Prepared, InputFault<Refusal>>
+    requires { input.old ≡ fresh }
+    ensures line { OnOk result (IsLine (S.left source.old) (S.left source.new) fresh input.new) }
+    ensures within { OnOk result (input.new.reading.taken ≤ limit) }
+    ensures ended { OnOk result (EndsAt (S.left source.new) input.new) }
+    ensures header { IfOk result (λ p. job_header_of (A.holds staff.now) purpose input.new.number
+        input.new.text ≡ Ok p.job) }
+    ensures names { IfOk result (λ p. p.job.names ≡ names_at (A.holds staff.now) purpose input.new.number
+        input.new.text) }
+    ensures whole { IfOk result (λ p. IsWholeJob p.job) }
+    ensures known { IfOk result (λ p. AreNames p.job.names) }
+    ensures purpose { IfOk result (λ p. p.job.purpose ≡ purpose) }
+    ensures accepted { IfOk result (λ p. IsAcceptedFor purpose p.job.deal) }
+    ensures seeds { IfOk result (λ p. HaveSeedsFor purpose p.job) }
+    ensures wallets { IfOk result (λ p. HaveWalletsFor purpose p.job) }
+    ensures strategies { IfOk result (λ p. HoldsEach (A.holds staff.now) p.job.roles) }
+    ensures scripts { IfOk result (λ p. HaveScriptsFor purpose p.job) }
+    ensures made { IfOk result (λ p. p.wallets.items ≡ wallets_for purpose p.job) }
+    ensures need { IfOk result (λ p. p.need ≡ need_of p.job.deal) }
+    // Whatever command of that purpose.
+    ensures stops { (command : JobCommand) → purpose ≡ purpose_of command
+        → IfErr result (λ e. Stops (IsAgainst (A.holds staff.now) (OfJob command)) (S.left source.old)
+        (S.left source.new) (S.faults source.old) (S.faults source.new) fresh input.new e) }
+    ensures later { S.faults source.old ≤ S.faults source.new }
+    ensures calm { ¬ IsErrOf result InputFault.ReadFault → S.faults source.new ≡ S.faults source.old }
+{
+    let strategies = staff.names()?;
+    first_among(alloc, strategies.as_slice(), purpose, input, source)
 }

@@ -13,12 +13,12 @@ mod generating;
 mod header;
 mod make;
 mod many;
+mod orders;
 mod racing;
 mod replay;
 mod run;
-mod staff;
 mod stop;
 
 pub use generating::generate;
-pub use racing::race;
-pub use staff::Staff;
+pub use orders::obey;
+pub use racing::{enter, race};

@@ -2,7 +2,6 @@
 
 ghost use Rattle.std.specs.Prelude.{◌≡◌, ◌≤◌, IfOk, IfErr, OnOk, Ok, Err, IsErrOf};
 ghost use Rattle.made_jobs.specs.Making.{copied, IsMade};
-ghost use Rattle.offer_header.specs.Names.{has_strategy};
 ghost use Rattle.command_input.specs.Input.{Ends, EndsAt, Stops, ahead, fresh};
 ghost use Rattle.command_input.specs.Written.{Writes};
 ghost use Rattle.command_input.specs.Streams.{streams};
@@ -15,7 +14,7 @@ ghost use Rattle.swap_commands.specs.Strategies.{strategies};
 use crate::header::first_line;
 use crate::stop::stop;
 use command_input::{Input, InputFault, Status};
-use deviators::{Kit, Strategies};
+use deviators::Strategies;
 use made_jobs::{copy_line, made_line};
 use refusals::{Reason, Refusal};
 use std::alloc::Global;
@@ -46,23 +45,23 @@ fn copy_lines<S: Source>(
 }
 
 /// The text that is made of an input, and the plain job that it was read as.
-fn copy<S: Source>(
+fn copy<S: Source, A: Strategies>(
     alloc: Global,
-    kit: &Kit,
+    staff: &A,
     input: &mut Input,
     source: &mut S,
 ) -> Result<(Job, Vec<u8>), InputFault<Refusal>>
     requires { input.old ≡ fresh }
-    ensures copied { IfOk result (λ c. Ends (λ bytes. IsCopied (has_strategy kit.now.names kit.now.strategies.items) bytes c.0 c.1.items)
+    ensures copied { IfOk result (λ c. Ends (λ bytes. IsCopied (A.holds staff.now) bytes c.0 c.1.items)
         (S.left source.old) (S.left source.new) fresh input.new) }
     ensures made { IfOk result (λ c. IsMade c.0) }
-    ensures stops { IfErr result (λ e. Stops (IsAgainst (has_strategy kit.now.names kit.now.strategies.items) (OfJob Make))
+    ensures stops { IfErr result (λ e. Stops (IsAgainst (A.holds staff.now) (OfJob Make))
         (S.left source.old) (S.left source.new) (S.faults source.old)
         (S.faults source.new) fresh input.new e) }
     ensures later { S.faults source.old ≤ S.faults source.new }
     ensures calm { ¬ IsErrOf result InputFault.ReadFault → S.faults source.new ≡ S.faults source.old }
 {
-    let Prepared { job, .. } = first_line(alloc, kit, Purpose::Make, input, source)?;
+    let Prepared { job, .. } = first_line(alloc, staff, Purpose::Make, input, source)?;
     let mut text = made_line(alloc, &job)?;
     match copy_lines(alloc, &mut text, input, source) {
         Ok(()) => Ok((job, text)),
@@ -81,39 +80,39 @@ pub(crate) fn tell<K: Sink>(sink: &mut K, text: &[u8]) -> Status
 }
 
 /// Makes the job of an input that wasn't read yet.
-fn make_input<S: Source, K: Sink>(
+fn make_input<S: Source, K: Sink, A: Strategies>(
     alloc: Global,
-    kit: &Kit,
+    staff: &A,
     input: &mut Input,
     source: &mut S,
     sink: &mut K,
 ) -> Status
     requires { input.old ≡ fresh }
-    ensures says { Says (strategies (has_strategy kit.now.names kit.now.strategies.items) (⟦<Kit as Strategies>⟧.gives kit.now)) (OfJob Make)
+    ensures says { Says (strategies (A.holds staff.now) (A.gives staff.now)) (OfJob Make)
         (streams (S.left source.old) (S.faults source.old) (K.taken sink.old) (K.faults sink.old))
         (streams (S.left source.new) (S.faults source.new) (K.taken sink.new) (K.faults sink.new)) result }
     ensures calm { ¬ (result ≡ Status.ReadFault) → S.faults source.new ≡ S.faults source.old }
 {
-    match copy(alloc, kit, input, source) {
+    match copy(alloc, staff, input, source) {
         Ok((_, text)) => tell(sink, &text),
         Err(fault) => stop(input, source, fault),
     }
 }
 
 /// Makes a job.
-pub(crate) fn make<S: Source, K: Sink>(
+pub(crate) fn make<S: Source, K: Sink, A: Strategies>(
     alloc: Global,
-    kit: &Kit,
+    staff: &A,
     source: &mut S,
     sink: &mut K,
 ) -> Status
-    ensures says { Says (strategies (has_strategy kit.now.names kit.now.strategies.items) (⟦<Kit as Strategies>⟧.gives kit.now)) (OfJob Make)
+    ensures says { Says (strategies (A.holds staff.now) (A.gives staff.now)) (OfJob Make)
         (streams (S.left source.old) (S.faults source.old) (K.taken sink.old) (K.faults sink.old))
         (streams (S.left source.new) (S.faults source.new) (K.taken sink.new) (K.faults sink.new)) result }
     ensures calm { ¬ (result ≡ Status.ReadFault) → S.faults source.new ≡ S.faults source.old }
 {
     match Input::new(alloc) {
-        Ok(mut input) => make_input(alloc, kit, &mut input, source, sink),
+        Ok(mut input) => make_input(alloc, staff, &mut input, source, sink),
         Err(_) => Status::NoMemory,
     }
 }

@@ -23,7 +23,7 @@ ghost use Rattle.swap_commands.specs.Strategies.{strategies};
 use crate::replay::new_world;
 use crate::stop::stop;
 use command_input::{Input, InputFault, Status};
-use deviators::{Kit, Strategies};
+use deviators::Strategies;
 use many_lines::{Heading, ManyJob, next_many, places_of};
 use many_text::write_many;
 use party_wallet::Wallet;
@@ -53,21 +53,21 @@ fn cut_short(alloc: Global) -> InputFault<Refusal>
     })
 }
 
-/// The lines before the events.
-fn read_heading<S: Source>(
+/// The lines before the events, where these are the names of the strategies.
+fn heading_among<S: Source>(
     alloc: Global,
-    kit: &Kit,
+    strategies: &[ByteText],
     input: &mut Input,
     source: &mut S,
 ) -> Result<Heading, InputFault<Refusal>>
     requires { input.old ≡ fresh }
-    ensures heading { IfOk result (λ h. IsHeading (has_strategy kit.now.names kit.now.strategies.items) h (S.left source.old) (S.left source.new)
+    ensures heading { IfOk result (λ h. IsHeading (has_strategy strategies.now) h (S.left source.old) (S.left source.new)
         input.new) }
     ensures over { IfOk result (λ h. is_some (finish_told h.stage) ≡ true) }
-    ensures held { IfOk result (λ h. HoldsEverySwap (has_strategy kit.now.names kit.now.strategies.items) h.many) }
+    ensures held { IfOk result (λ h. HoldsEverySwap (has_strategy strategies.now) h.many) }
     ensures ended { OnOk result (EndsAt (S.left source.new) input.new) }
     ensures within { OnOk result (input.new.reading.taken ≤ limit) }
-    ensures stops { IfErr result (λ e. Stops (λ bytes r. headed (has_strategy kit.now.names kit.now.strategies.items) (ahead fresh bytes) ≡ Err r)
+    ensures stops { IfErr result (λ e. Stops (λ bytes r. headed (has_strategy strategies.now) (ahead fresh bytes) ≡ Err r)
         (S.left source.old) (S.left source.new) (S.faults source.old) (S.faults source.new) fresh input.new e) }
     ensures later { S.faults source.old ≤ S.faults source.new }
     ensures calm { ¬ IsErrOf result InputFault.ReadFault → S.faults source.new ≡ S.faults source.old }
@@ -77,9 +77,32 @@ fn read_heading<S: Source>(
         if !input.next(source)? {
             return Err(cut_short(alloc));
         }
-        heading.push(alloc, kit, input.number(), input.text())?;
+        heading.push(alloc, strategies, input.number(), input.text())?;
     }
     Ok(heading)
+}
+
+/// The lines before the events.
+fn read_heading<S: Source, A: Strategies>(
+    alloc: Global,
+    staff: &A,
+    input: &mut Input,
+    source: &mut S,
+) -> Result<Heading, InputFault<Refusal>>
+    requires { input.old ≡ fresh }
+    ensures heading { IfOk result (λ h. IsHeading (A.holds staff.now) h (S.left source.old) (S.left source.new)
+        input.new) }
+    ensures over { IfOk result (λ h. is_some (finish_told h.stage) ≡ true) }
+    ensures held { IfOk result (λ h. HoldsEverySwap (A.holds staff.now) h.many) }
+    ensures ended { OnOk result (EndsAt (S.left source.new) input.new) }
+    ensures within { OnOk result (input.new.reading.taken ≤ limit) }
+    ensures stops { IfErr result (λ e. Stops (λ bytes r. headed (A.holds staff.now) (ahead fresh bytes) ≡ Err r)
+        (S.left source.old) (S.left source.new) (S.faults source.old) (S.faults source.new) fresh input.new e) }
+    ensures later { S.faults source.old ≤ S.faults source.new }
+    ensures calm { ¬ IsErrOf result InputFault.ReadFault → S.faults source.new ≡ S.faults source.old }
+{
+    let strategies = staff.names()?;
+    heading_among(alloc, strategies.as_slice(), input, source)
 }
 
 /// A copy of the name of an account.
@@ -147,11 +170,11 @@ fn open(
 }
 
 /// Steps the worlds by the event of a line, where so many events came before.
-fn step_line<T: Strategies>(
+fn step_line<A: Strategies>(
     alloc: Global,
     many: &ManyJob,
     world: &mut ManyWorld,
-    kit: &T,
+    staff: &A,
     count: u32,
     line: u32,
     text: &[u8],
@@ -159,30 +182,30 @@ fn step_line<T: Strategies>(
     requires chains { AreChains many.now }
     requires swaps { AreSwaps many.now }
     requires of { AreWorldsOf many.now world.old }
-    requires kit { AreAllHeld (T.holds kit.now) world.old }
-    ensures stepped { OnOk result (HasStepped (T.gives kit.now) many.now count line text.now world.old world.new) }
+    requires held { AreAllHeld (A.holds staff.now) world.old }
+    ensures stepped { OnOk result (HasStepped (A.gives staff.now) many.now count line text.now world.old world.new) }
     ensures refused { IfErr result (λ e. Fails e (next_told many.now count line text.now)) }
 {
     let event = next_many(alloc, many, count, line, text)?;
-    world.step(kit, &event)?;
+    world.step(staff, &event)?;
     Ok(())
 }
 
 /// Takes the events of the lines ahead.
-fn replay<S: Source, T: Strategies>(
+fn replay<S: Source, A: Strategies>(
     alloc: Global,
     many: &ManyJob,
     world: &mut ManyWorld,
-    kit: &T,
+    staff: &A,
     input: &mut Input,
     source: &mut S,
 ) -> Result<(), InputFault<Refusal>>
     requires chains { AreChains many.now }
     requires swaps { AreSwaps many.now }
     requires of { AreWorldsOf many.now world.old }
-    requires kit { AreAllHeld (T.holds kit.now) world.old }
+    requires held { AreAllHeld (A.holds staff.now) world.old }
     requires ended { EndsAt (S.left source.old) input.old }
-    ensures replayed { OnOk result (IsReplayed (T.gives kit.now) many.now world.old world.new (S.left source.old) (S.left source.new) input.old input.new) }
+    ensures replayed { OnOk result (IsReplayed (A.gives staff.now) many.now world.old world.new (S.left source.old) (S.left source.new) input.old input.new) }
     ensures stops { IfErr result (λ e. Stops (λ bytes r. events_told many.now 0 (ahead input.old bytes) ≡ Err r) (S.left source.old) (S.left source.new)
         (S.faults source.old) (S.faults source.new) input.old input.new e) }
     ensures later { S.faults source.old ≤ S.faults source.new }
@@ -190,7 +213,15 @@ fn replay<S: Source, T: Strategies>(
 {
     let mut count: u32 = 0;
     'lines: while input.next(source)? {
-        step_line(alloc, many, world, kit, count, input.number(), input.text())?;
+        step_line(
+            alloc,
+            many,
+            world,
+            staff,
+            count,
+            input.number(),
+            input.text(),
+        )?;
         count += 1;
     }
     Ok(())
@@ -244,22 +275,22 @@ fn refuse<S: Source>(
 }
 
 /// The worlds of the swaps after all events.
-fn run_events<S: Source, T: Strategies>(
+fn run_events<S: Source, A: Strategies>(
     alloc: Global,
     many: &ManyJob,
     wallets: Vec<Vec<Option<Wallet>>>,
-    kit: &T,
+    staff: &A,
     input: &mut Input,
     source: &mut S,
 ) -> Result<ManyWorld, InputFault<Refusal>>
     requires chains { AreChains many.now }
     requires swaps { AreSwaps many.now }
     requires made { map (λ v. v.items) wallets.items ≡ map (wallets_for Purpose.Run) many.now.jobs }
-    requires kit { HoldsEverySwap (T.holds kit.now) many.now }
+    requires held { HoldsEverySwap (A.holds staff.now) many.now }
     requires ended { EndsAt (S.left source.old) input.old }
     requires within { input.old.reading.taken ≤ limit }
-    ensures run { IfOk result (λ w. AreRun (T.gives kit.now) many.now w (S.left source.old) (S.left source.new) input.old input.new) }
-    ensures held { IfOk result (AreAllHeld (T.holds kit.now)) }
+    ensures run { IfOk result (λ w. AreRun (A.gives staff.now) many.now w (S.left source.old) (S.left source.new) input.old input.new) }
+    ensures held { IfOk result (AreAllHeld (A.holds staff.now)) }
     ensures stops { IfErr result (λ e. Stops (λ bytes r. opened_after many.now (ahead input.old bytes) ≡ Err r) (S.left source.old) (S.left source.new)
         (S.faults source.old) (S.faults source.new) input.old input.new e) }
     ensures later { S.faults source.old ≤ S.faults source.new }
@@ -267,7 +298,7 @@ fn run_events<S: Source, T: Strategies>(
 {
     match open(alloc, many, wallets) {
         Ok(mut world) => {
-            replay(alloc, many, &mut world, kit, input, source)?;
+            replay(alloc, many, &mut world, staff, input, source)?;
             Ok(world)
         }
         Err(Fault::Refused(refusal)) => Err(refuse(alloc, many, refusal, input, source)),
@@ -276,27 +307,27 @@ fn run_events<S: Source, T: Strategies>(
 }
 
 /// The swaps of an input, and their worlds after all events.
-fn play<S: Source>(
+fn play<S: Source, A: Strategies>(
     alloc: Global,
-    kit: &Kit,
+    staff: &A,
     input: &mut Input,
     source: &mut S,
 ) -> Result<Played, InputFault<Refusal>>
     requires { input.old ≡ fresh }
-    ensures played { IfOk result (λ p. Ends (λ bytes. IsManyPlayed (has_strategy kit.now.names kit.now.strategies.items)
-        (⟦<Kit as Strategies>⟧.gives kit.now) bytes p.many p.finish p.world) (S.left source.old) (S.left source.new) fresh input.new) }
+    ensures played { IfOk result (λ p. Ends (λ bytes. IsManyPlayed (A.holds staff.now)
+        (A.gives staff.now) bytes p.many p.finish p.world) (S.left source.old) (S.left source.new) fresh input.new) }
     ensures chains { IfOk result (λ p. AreChains p.many) }
     ensures swaps { IfOk result (λ p. AreSwaps p.many) }
-    ensures held { IfOk result (λ p. AreAllHeld (⟦<Kit as Strategies>⟧.holds kit.now) p.world) }
-    ensures stops { IfErr result (λ e. Stops (IsAgainst (has_strategy kit.now.names kit.now.strategies.items) Many) (S.left source.old)
+    ensures held { IfOk result (λ p. AreAllHeld (A.holds staff.now) p.world) }
+    ensures stops { IfErr result (λ e. Stops (IsAgainst (A.holds staff.now) Many) (S.left source.old)
         (S.left source.new) (S.faults source.old) (S.faults source.new) fresh input.new e) }
     ensures later { S.faults source.old ≤ S.faults source.new }
     ensures calm { ¬ IsErrOf result InputFault.ReadFault → S.faults source.new ≡ S.faults source.old }
 {
-    let heading = read_heading(alloc, kit, input, source)?;
+    let heading = read_heading(alloc, staff, input, source)?;
     let finish = heading.finish().unwrap();
     let (many, wallets) = heading.into_parts();
-    match run_events(alloc, &many, wallets, kit, input, source) {
+    match run_events(alloc, &many, wallets, staff, input, source) {
         Ok(world) => Ok(Played {
             many,
             finish,
@@ -307,18 +338,18 @@ fn play<S: Source>(
 }
 
 /// The worlds after the finish of the swaps.
-fn conclude<T: Strategies>(
-    kit: &T,
+fn conclude<A: Strategies>(
+    staff: &A,
     finish: Finish,
     mut world: ManyWorld,
 ) -> Result<ManyWorld, NoMemory>
-    requires kit { AreAllHeld (T.holds kit.now) world }
-    ensures { IfOk result (λ w. HasManyGone (T.gives kit.now) (ended_by finish) world w) }
+    requires held { AreAllHeld (A.holds staff.now) world }
+    ensures { IfOk result (λ w. HasManyGone (A.gives staff.now) (ended_by finish) world w) }
 {
     match finish {
         Finish::Stop => Ok(world),
         Finish::Fair => {
-            world.finish_fair(kit)?;
+            world.finish_fair(staff)?;
             Ok(world)
         }
     }
@@ -345,15 +376,15 @@ fn tell<K: Sink>(alloc: Global, sink: &mut K, many: &ManyJob, world: &ManyWorld)
 }
 
 /// Runs the swaps of an input that wasn't read yet.
-fn many_input<S: Source, K: Sink>(
+fn many_input<S: Source, K: Sink, A: Strategies>(
     alloc: Global,
-    kit: &Kit,
+    staff: &A,
     input: &mut Input,
     source: &mut S,
     sink: &mut K,
 ) -> Status
     requires { input.old ≡ fresh }
-    ensures says { Says (strategies (has_strategy kit.now.names kit.now.strategies.items) (⟦<Kit as Strategies>⟧.gives kit.now)) Many
+    ensures says { Says (strategies (A.holds staff.now) (A.gives staff.now)) Many
         (streams (S.left source.old) (S.faults source.old) (K.taken sink.old) (K.faults sink.old))
         (streams (S.left source.new) (S.faults source.new) (K.taken sink.new) (K.faults sink.new)) result }
     ensures calm { ¬ (result ≡ Status.ReadFault) → S.faults source.new ≡ S.faults source.old }
@@ -362,30 +393,30 @@ fn many_input<S: Source, K: Sink>(
         many,
         finish,
         world,
-    } = match play(alloc, kit, input, source) {
+    } = match play(alloc, staff, input, source) {
         Ok(played) => played,
         Err(fault) => return stop(input, source, fault),
     };
-    let Ok(world) = conclude(kit, finish, world) else {
+    let Ok(world) = conclude(staff, finish, world) else {
         return Status::NoMemory;
     };
     tell(alloc, sink, &many, &world)
 }
 
 /// Runs several swaps on shared chains.
-pub(crate) fn many<S: Source, K: Sink>(
+pub(crate) fn many<S: Source, K: Sink, A: Strategies>(
     alloc: Global,
-    kit: &Kit,
+    staff: &A,
     source: &mut S,
     sink: &mut K,
 ) -> Status
-    ensures says { Says (strategies (has_strategy kit.now.names kit.now.strategies.items) (⟦<Kit as Strategies>⟧.gives kit.now)) Many
+    ensures says { Says (strategies (A.holds staff.now) (A.gives staff.now)) Many
         (streams (S.left source.old) (S.faults source.old) (K.taken sink.old) (K.faults sink.old))
         (streams (S.left source.new) (S.faults source.new) (K.taken sink.new) (K.faults sink.new)) result }
     ensures calm { ¬ (result ≡ Status.ReadFault) → S.faults source.new ≡ S.faults source.old }
 {
     match Input::new(alloc) {
-        Ok(mut input) => many_input(alloc, kit, &mut input, source, sink),
+        Ok(mut input) => many_input(alloc, staff, &mut input, source, sink),
         Err(_) => Status::NoMemory,
     }
 }

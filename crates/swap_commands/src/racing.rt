@@ -3,7 +3,7 @@
 ghost use Rattle.std.specs.Prelude.{◌≡◌, ◌≤◌, ℕ, Bool, List, Option, IfOk, IfErr, IsErrOf};
 ghost use Rattle.swap_rules.specs.Accepted.{IsAccepted};
 ghost use Rattle.party_wallet.specs.Wallets.{wallets_of};
-ghost use Rattle.offer_header.specs.Names.{AreNames, has_strategy};
+ghost use Rattle.offer_header.specs.Names.{AreNames};
 ghost use Rattle.swap_offer.specs.Job.{IsWholeJob};
 ghost use Rattle.swap_offer.specs.Wallets.{HaveScripts, HaveWallets};
 ghost use Rattle.swap_world.specs.Actors.{AreHeld};
@@ -20,7 +20,7 @@ use crate::replay::pass_over;
 use crate::run::tell;
 use crate::stop::stop;
 use command_input::{Input, InputFault, Status};
-use deviators::{Kit, Strategies};
+use deviators::Strategies;
 use party_threads::{Gate, race_fitting};
 use party_wallet::Wallet;
 use refusals::Refusal;
@@ -33,16 +33,16 @@ use swap_job::{Job, Purpose};
 use swap_offer::Prepared;
 
 /// The job of an input without events, and the wallets of its conforming parties.
-fn read_job<S: Source>(
+fn read_job<S: Source, A: Strategies>(
     alloc: Global,
-    kit: &Kit,
+    staff: &A,
     input: &mut Input,
     source: &mut S,
 ) -> Result<(Job, Vec<Option<Wallet>>), InputFault<Refusal>>
     requires { input.old ≡ fresh }
-    ensures entered { IfOk result (λ e. Ends (λ bytes. IsEntered (has_strategy kit.now.names kit.now.strategies.items) bytes e.0) (S.left source.old)
+    ensures entered { IfOk result (λ e. Ends (λ bytes. IsEntered (A.holds staff.now) bytes e.0) (S.left source.old)
         (S.left source.new) fresh input.new) }
-    ensures held { IfOk result (λ e. AreHeld (⟦<Kit as Strategies>⟧.holds kit.now) e.0.roles) }
+    ensures held { IfOk result (λ e. AreHeld (A.holds staff.now) e.0.roles) }
     ensures whole { IfOk result (λ e. IsWholeJob e.0) }
     ensures names { IfOk result (λ e. AreNames e.0.names) }
     ensures purpose { IfOk result (λ e. e.0.purpose ≡ Purpose.Race) }
@@ -52,12 +52,12 @@ fn read_job<S: Source>(
     ensures made { IfOk result (λ e. e.1.items ≡ wallets_of e.0.deal e.0.conforming e.0.seeds) }
     // Whatever its ticks, and whatever is to be written of it.
     ensures stops { (ticks : ℕ) (transcript : Bool) → IfErr result (λ e.
-        Stops (IsAgainst (has_strategy kit.now.names kit.now.strategies.items) (OfJob (Race ticks transcript))) (S.left source.old)
+        Stops (IsAgainst (A.holds staff.now) (OfJob (Race ticks transcript))) (S.left source.old)
         (S.left source.new) (S.faults source.old) (S.faults source.new) fresh input.new e) }
     ensures later { S.faults source.old ≤ S.faults source.new }
     ensures calm { ¬ IsErrOf result InputFault.ReadFault → S.faults source.new ≡ S.faults source.old }
 {
-    let Prepared { job, wallets, .. } = first_line(alloc, kit, Purpose::Race, input, source)?;
+    let Prepared { job, wallets, .. } = first_line(alloc, staff, Purpose::Race, input, source)?;
     match pass_over(alloc, &job, input, source) {
         Ok(()) => Ok((job, wallets)),
         Err(fault) => Err(fault.with_names(job.names)),
@@ -65,39 +65,39 @@ fn read_job<S: Source>(
 }
 
 /// The same, where the status of the race is told if its job can't be read.
-fn enter_input<S: Source>(
+fn enter_input<S: Source, A: Strategies>(
     alloc: Global,
-    kit: &Kit,
+    staff: &A,
     input: &mut Input,
     source: &mut S,
 ) -> Result<(Job, Vec<Option<Wallet>>), Status>
     requires { input.old ≡ fresh }
-    ensures entered { IfOk result (λ e. HasEntered (has_strategy kit.now.names kit.now.strategies.items) (S.left source.old) (S.left source.new) e.0) }
-    ensures can { IfOk result (λ e. CanRace (has_strategy kit.now.names kit.now.strategies.items) e.0 e.1.items) }
-    ensures stopped { IfErr result (HasNotEntered (has_strategy kit.now.names kit.now.strategies.items) (S.left source.old) (S.left source.new)
+    ensures entered { IfOk result (λ e. HasEntered (A.holds staff.now) (S.left source.old) (S.left source.new) e.0) }
+    ensures can { IfOk result (λ e. CanRace (A.holds staff.now) e.0 e.1.items) }
+    ensures stopped { IfErr result (HasNotEntered (A.holds staff.now) (S.left source.old) (S.left source.new)
         (S.faults source.old) (S.faults source.new)) }
     ensures calm { ¬ IsErrOf result Status.ReadFault → S.faults source.new ≡ S.faults source.old }
 {
-    match read_job(alloc, kit, input, source) {
+    match read_job(alloc, staff, input, source) {
         Ok(entered) => Ok(entered),
         Err(fault) => Err(stop(input, source, fault)),
     }
 }
 
-/// Reads the job of a race, and the wallets of its conforming parties.
-pub(crate) fn enter<S: Source>(
+/// Reads the job of a race, and the wallets of its conforming parties. No thread is started here.
+pub fn enter<S: Source, A: Strategies>(
     alloc: Global,
-    kit: &Kit,
     source: &mut S,
+    staff: &A,
 ) -> Result<(Job, Vec<Option<Wallet>>), Status>
-    ensures entered { IfOk result (λ e. HasEntered (has_strategy kit.now.names kit.now.strategies.items) (S.left source.old) (S.left source.new) e.0) }
-    ensures can { IfOk result (λ e. CanRace (has_strategy kit.now.names kit.now.strategies.items) e.0 e.1.items) }
-    ensures stopped { IfErr result (HasNotEntered (has_strategy kit.now.names kit.now.strategies.items) (S.left source.old) (S.left source.new)
+    ensures entered { IfOk result (λ e. HasEntered (A.holds staff.now) (S.left source.old) (S.left source.new) e.0) }
+    ensures can { IfOk result (λ e. CanRace (A.holds staff.now) e.0 e.1.items) }
+    ensures stopped { IfErr result (HasNotEntered (A.holds staff.now) (S.left source.old) (S.left source.new)
         (S.faults source.old) (S.faults source.new)) }
     ensures calm { ¬ IsErrOf result Status.ReadFault → S.faults source.new ≡ S.faults source.old }
 {
     match Input::new(alloc) {
-        Ok(mut input) => enter_input(alloc, kit, &mut input, source),
+        Ok(mut input) => enter_input(alloc, staff, &mut input, source),
         Err(_) => Err(Status::NoMemory),
     }
 }

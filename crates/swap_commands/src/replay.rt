@@ -31,11 +31,11 @@ use swap_world::World;
 
 /// Steps the world by the event of a line, where so many events came before.
 #[tactic(auto, unfolding(crate::specs::Replay::next_by))]
-fn step_line<T: Strategies>(
+fn step_line<A: Strategies>(
     alloc: Global,
     job: &Job,
     world: &mut World,
-    kit: &T,
+    staff: &A,
     count: u32,
     line: u32,
     text: &[u8],
@@ -44,17 +44,17 @@ fn step_line<T: Strategies>(
     requires seeds { needs_seeds job.now.purpose ≡ true }
     requires of { IsOf job.now world.old }
     requires goes_on { world.old.stopped ≡ false }
-    requires kit { AreHeld (T.holds kit.now) job.now.roles }
+    requires held { AreHeld (A.holds staff.now) job.now.roles }
     ensures passed { Gives (λ u. u) result (next_by passed_over job.now count tt line text.now) }
     ensures stepped { OnOk result ((a : Answers) → Continues world.new a
         → next_by (step (cast_by a job.now)) job.now count world.old.state line text.now ≡ Ok world.new.state) }
     ensures continued { OnOk result ((a : Answers) → Continues world.new a → Continues world.old a) }
-    ensures asked { OnOk result (HasAsked (T.gives kit.now) world.old world.new) }
+    ensures asked { OnOk result (HasAsked (A.gives staff.now) world.old world.new) }
     ensures of { OnOk result (IsOf job.now world.new) }
     ensures goes_on { OnOk result (world.new.stopped ≡ false) }
 {
     let event = next_event(alloc, job, count, line, text)?;
-    world.step(kit, &event)?;
+    world.step(staff, &event)?;
     Ok(())
 }
 
@@ -75,11 +75,11 @@ pub(crate) fn new_world(
 }
 
 /// The world after the events of the lines ahead.
-pub(crate) fn replay<S: Source, T: Strategies>(
+pub(crate) fn replay<S: Source, A: Strategies>(
     alloc: Global,
     job: &Job,
     wallets: Vec<Option<Wallet>>,
-    kit: &T,
+    staff: &A,
     input: &mut Input,
     source: &mut S,
 ) -> Result<World, InputFault<Reason>>
@@ -89,14 +89,14 @@ pub(crate) fn replay<S: Source, T: Strategies>(
     requires wallets { HaveWallets job.now }
     requires scripts { HaveScripts job.now }
     requires made { wallets.items ≡ wallets_of job.now.deal job.now.conforming job.now.seeds }
-    requires kit { AreHeld (T.holds kit.now) job.now.roles }
+    requires held { AreHeld (A.holds staff.now) job.now.roles }
     requires ended { EndsAt (S.left source.old) input.old }
     requires within { input.old.reading.taken ≤ limit }
     // Whatever strategies may answer after the last event.
     ensures exact { IfOk result (λ w. (a : Answers) → Continues w a
         → Ends (λ bytes. replayed (step (cast_by a job.now)) job.now 0 (start (cast_of job.now)) (ahead input.old bytes) ≡ Ok w.state)
         (S.left source.old) (S.left source.new) input.old input.new) }
-    ensures asked { IfOk result (λ w. HasAsked (T.gives kit.now) (new_world job.now) w) }
+    ensures asked { IfOk result (λ w. HasAsked (A.gives staff.now) (new_world job.now) w) }
     ensures of { IfOk result (λ w. IsOf job.now w) }
     ensures goes_on { IfOk result (λ w. w.stopped ≡ false) }
     ensures stops { IfErr result (λ e. Stops (λ bytes reason. replayed passed_over job.now 0 tt (ahead input.old bytes) ≡ Err reason)
@@ -111,7 +111,7 @@ pub(crate) fn replay<S: Source, T: Strategies>(
             alloc,
             job,
             &mut world,
-            kit,
+            staff,
             count,
             input.number(),
             input.text(),

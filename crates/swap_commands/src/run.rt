@@ -8,7 +8,7 @@ ghost use Rattle.swap_rules.specs.Accepted.{IsAccepted};
 ghost use Rattle.swap_rules.specs.Outcome.{IsEnded};
 ghost use Rattle.swap_rules.specs.Laws.{IsDealt};
 ghost use Rattle.ledger_core.specs.Book.{IsLegalBook};
-ghost use Rattle.offer_header.specs.Names.{AreNames, has_strategy};
+ghost use Rattle.offer_header.specs.Names.{AreNames};
 ghost use Rattle.offer_text.specs.HeaderLine.{is_make};
 ghost use Rattle.outcome_rules.specs.Report.{conforms_in};
 ghost use Rattle.outcome_rules.specs.Promises.{AllAreConforming};
@@ -35,7 +35,7 @@ use crate::header::first_line;
 use crate::replay::replay;
 use crate::stop::stop;
 use command_input::{Input, InputFault, Status};
-use deviators::{Kit, Strategies};
+use deviators::Strategies;
 use ledger_core::Book;
 use outcome_rules::{Report, report_of};
 use refusals::Refusal;
@@ -49,9 +49,9 @@ use swap_world::World;
 use transcript_writer::write_transcript;
 
 /// The job of an input, and its world after all events.
-fn play<S: Source>(
+fn play<S: Source, A: Strategies>(
     alloc: Global,
-    kit: &Kit,
+    staff: &A,
     transcript: bool,
     input: &mut Input,
     source: &mut S,
@@ -59,10 +59,10 @@ fn play<S: Source>(
     requires { input.old ≡ fresh }
     // Whatever strategies may answer after the last event.
     ensures played { IfOk result (λ p. (a : Answers) → Continues p.1 a
-        → Ends (λ bytes. IsPlayed (has_strategy kit.now.names kit.now.strategies.items) a bytes p.0 p.1.state) (S.left source.old) (S.left source.new)
+        → Ends (λ bytes. IsPlayed (A.holds staff.now) a bytes p.0 p.1.state) (S.left source.old) (S.left source.new)
         fresh input.new) }
-    ensures asked { IfOk result (λ p. HasAsked (⟦<Kit as Strategies>⟧.gives kit.now) (new_world p.0) p.1) }
-    ensures held { IfOk result (λ p. AreHeld (⟦<Kit as Strategies>⟧.holds kit.now) p.0.roles) }
+    ensures asked { IfOk result (λ p. HasAsked (A.gives staff.now) (new_world p.0) p.1) }
+    ensures held { IfOk result (λ p. AreHeld (A.holds staff.now) p.0.roles) }
     ensures whole { IfOk result (λ p. IsWholeJob p.0) }
     ensures names { IfOk result (λ p. AreNames p.0.names) }
     ensures purpose { IfOk result (λ p. p.0.purpose ≡ Purpose.Run) }
@@ -70,37 +70,37 @@ fn play<S: Source>(
     ensures of { IfOk result (λ p. IsOf p.0 p.1) }
     ensures goes_on { IfOk result (λ p. p.1.stopped ≡ false) }
     ensures stops { IfErr result (λ e.
-        Stops (IsAgainst (has_strategy kit.now.names kit.now.strategies.items) (OfJob (Run transcript))) (S.left source.old)
+        Stops (IsAgainst (A.holds staff.now) (OfJob (Run transcript))) (S.left source.old)
         (S.left source.new)
         (S.faults source.old) (S.faults source.new) fresh input.new e) }
     ensures later { S.faults source.old ≤ S.faults source.new }
     ensures calm { ¬ IsErrOf result InputFault.ReadFault → S.faults source.new ≡ S.faults source.old }
 {
-    let Prepared { job, wallets, .. } = first_line(alloc, kit, Purpose::Run, input, source)?;
-    match replay(alloc, &job, wallets, kit, input, source) {
+    let Prepared { job, wallets, .. } = first_line(alloc, staff, Purpose::Run, input, source)?;
+    match replay(alloc, &job, wallets, staff, input, source) {
         Ok(world) => Ok((job, world)),
         Err(fault) => Err(fault.with_names(job.names)),
     }
 }
 
 /// The book of a world after the job's finish.
-fn conclude<T: Strategies>(
+fn conclude<A: Strategies>(
     alloc: Global,
-    kit: &T,
+    staff: &A,
     job: &Job,
     mut world: World,
 ) -> Result<Book, NoMemory>
-    requires kit { AreHeld (T.holds kit.now) job.now.roles }
-    requires asked { HasAsked (T.gives kit.now) (new_world job.now) world }
+    requires held { AreHeld (A.holds staff.now) job.now.roles }
+    requires asked { HasAsked (A.gives staff.now) (new_world job.now) world }
     requires of { IsOf job.now world }
     requires goes_on { world.stopped ≡ false }
-    ensures book { IfOk result (λ b. IsConcluded (T.gives kit.now) job.now world b.histories) }
+    ensures book { IfOk result (λ b. IsConcluded (A.gives staff.now) job.now world b.histories) }
     ensures kept { IfOk result (λ b. IsKept (cast_of job.now) b.histories) }
     ensures ended { IfOk result (λ b. job.now.finish ≡ Finish.Fair → IsEnded job.now.deal b.histories) }
     ensures dealt { IfOk result (λ b. job.now.finish ≡ Finish.Fair → world.state ≡ start (cast_of job.now) → AllAreConforming job.now.deal job.now.conforming
         → IsDealt job.now.deal (conforms_in job.now.conforming) b.histories) }
 {
-    finish(&mut world, kit, job)?;
+    finish(&mut world, staff, job)?;
     world.into_book(alloc)
 }
 
@@ -163,45 +163,45 @@ pub(crate) fn tell<K: Sink>(
 }
 
 /// Runs the job of an input that wasn't read yet.
-fn run_input<S: Source, K: Sink>(
+fn run_input<S: Source, K: Sink, A: Strategies>(
     alloc: Global,
-    kit: &Kit,
+    staff: &A,
     transcript: bool,
     input: &mut Input,
     source: &mut S,
     sink: &mut K,
 ) -> Status
     requires { input.old ≡ fresh }
-    ensures says { Says (strategies (has_strategy kit.now.names kit.now.strategies.items) (⟦<Kit as Strategies>⟧.gives kit.now)) (OfJob (Run transcript))
+    ensures says { Says (strategies (A.holds staff.now) (A.gives staff.now)) (OfJob (Run transcript))
         (streams (S.left source.old) (S.faults source.old) (K.taken sink.old) (K.faults sink.old))
         (streams (S.left source.new) (S.faults source.new) (K.taken sink.new) (K.faults sink.new)) result }
     ensures calm { ¬ (result ≡ Status.ReadFault) → S.faults source.new ≡ S.faults source.old }
 {
-    let (job, world) = match play(alloc, kit, transcript, input, source) {
+    let (job, world) = match play(alloc, staff, transcript, input, source) {
         Ok(played) => played,
         Err(fault) => return stop(input, source, fault),
     };
-    let Ok(book) = conclude(alloc, kit, &job, world) else {
+    let Ok(book) = conclude(alloc, staff, &job, world) else {
         return Status::NoMemory;
     };
     tell(alloc, transcript, sink, &job, &book)
 }
 
 /// Runs a job.
-pub(crate) fn run<S: Source, K: Sink>(
+pub(crate) fn run<S: Source, K: Sink, A: Strategies>(
     alloc: Global,
-    kit: &Kit,
+    staff: &A,
     transcript: bool,
     source: &mut S,
     sink: &mut K,
 ) -> Status
-    ensures says { Says (strategies (has_strategy kit.now.names kit.now.strategies.items) (⟦<Kit as Strategies>⟧.gives kit.now)) (OfJob (Run transcript))
+    ensures says { Says (strategies (A.holds staff.now) (A.gives staff.now)) (OfJob (Run transcript))
         (streams (S.left source.old) (S.faults source.old) (K.taken sink.old) (K.faults sink.old))
         (streams (S.left source.new) (S.faults source.new) (K.taken sink.new) (K.faults sink.new)) result }
     ensures calm { ¬ (result ≡ Status.ReadFault) → S.faults source.new ≡ S.faults source.old }
 {
     match Input::new(alloc) {
-        Ok(mut input) => run_input(alloc, kit, transcript, &mut input, source, sink),
+        Ok(mut input) => run_input(alloc, staff, transcript, &mut input, source, sink),
         Err(_) => Status::NoMemory,
     }
 }

@@ -5,4 +5,4 @@ pub mod Fairly
 pub mod Ends
 pub mod Asking
 pub mod Performing
-pub mod Staffing
+pub mod Naming

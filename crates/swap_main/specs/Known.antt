@@ -1,16 +1,15 @@
 -- Which strategies the program knows, and answers that a rule decides.
 use Rattle.std.specs.Prelude.{◌≡◌, ℕ, Bool, List, Option}
-use Rattle.std.specs.List.{list_any}
-use Rattle.std.specs.Str.{bytes_eq}
 use Rattle.swap_digraph.specs.declared.deal.Deal.{Deal}
 use Rattle.ledger_core.specs.declared.entry.Call.{Call}
 use Rattle.ledger_core.specs.Book.{Histories}
 use Rattle.deviators.specs.Program.{program_names}
+use Rattle.offer_header.specs.Names.{has_strategy}
 use Rattle.swap_world.specs.Gone.{MayGive}
 
 -- the program knows a strategy of that name
 abbrev pub is_known : List ℕ → Bool
-is_known name = list_any (λ n. bytes_eq n name) program_names
+is_known = has_strategy program_names
 
 -- what may be answered is what the rule says
 abbrev pub by_rule : (List ℕ → Deal → ℕ → ℕ → Histories → Option (ℕ × Call)) → MayGive

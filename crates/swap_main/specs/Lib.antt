@@ -3,4 +3,3 @@ pub mod Answer
 pub mod Exit
 pub mod Laws
 pub mod Known
-pub mod Kits

@@ -15,5 +15,4 @@ pub use laws::the_text_is_determined;
 pub use program::Program;
 pub use program_words::Order;
 pub use refusals::refusal_line;
-pub use swap_commands::Staff;
 pub use top::{swap_plain, swap_top};

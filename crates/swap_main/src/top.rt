@@ -10,16 +10,17 @@ ghost use Rattle.swap_commands.specs.Words.{AsksRace, OfJob, Race, request_of};
 ghost use Rattle.swap_commands.specs.Strategies.{strategies};
 
 use command_input::Status;
+use deviators::Strategies;
 use party_threads::Gate;
 use program_words::{Task, read_task};
 use std::alloc::Global;
 use std::sync::Wait;
 use std::thread::Threads;
-use swap_commands::{Staff, generate, race};
+use swap_commands::{enter, generate, obey, race};
 use swap_io::{Sink, Source};
 
 /// Reads the job of a race, and races it.
-fn perform_race<R: Threads + Wait + Sync, S: Source, K: Sink, G: Gate, A: Staff + Sync>(
+fn perform_race<R: Threads + Wait + Sync, S: Source, K: Sink, G: Gate, A: Strategies + Sync>(
     rt: &R,
     alloc: Global,
     ticks: u32,
@@ -36,7 +37,7 @@ fn perform_race<R: Threads + Wait + Sync, S: Source, K: Sink, G: Gate, A: Staff 
         (streams (S.left source.new) (S.faults source.new) (K.taken sink.new) (K.faults sink.new)) result }
     ensures calm { ¬ (result ≡ Status.ReadFault) → S.faults source.new ≡ S.faults source.old }
 {
-    match staff.enter(alloc, source) {
+    match enter(alloc, source, staff) {
         Ok((job, wallets)) => race(
             rt, alloc, ticks, transcript, &job, wallets, sink, gate, staff,
         ),
@@ -46,7 +47,7 @@ fn perform_race<R: Threads + Wait + Sync, S: Source, K: Sink, G: Gate, A: Staff 
 
 /// Runs the program but for races: the words after its name, its standard input and its standard output. The staff answers for strategies. It waits for
 /// nobody, and to words that ask for a race it answers as to wrong ones.
-pub fn swap_plain<S: Source, K: Sink, A: Staff>(
+pub fn swap_plain<S: Source, K: Sink, A: Strategies>(
     alloc: Global,
     words: &Vec<String>,
     source: &mut S,
@@ -76,14 +77,14 @@ pub fn swap_plain<S: Source, K: Sink, A: Staff>(
     };
     match task {
         Task::Race { .. } => Status::WrongWords,
-        Task::Input(order) => staff.obey(alloc, order, source, sink),
+        Task::Input(order) => obey(alloc, order, source, sink, staff),
         Task::Number(request) => generate(alloc, request, sink),
     }
 }
 
 /// Runs the program: the words after its name, its standard input and its standard output. The staff answers for strategies, and each turn of a race passes
 /// the gate. Where a race is asked for it waits for the race's threads.
-pub fn swap_top<R: Threads + Wait + Sync, S: Source, K: Sink, G: Gate, A: Staff + Sync>(
+pub fn swap_top<R: Threads + Wait + Sync, S: Source, K: Sink, G: Gate, A: Strategies + Sync>(
     rt: &R,
     alloc: Global,
     words: &Vec<String>,
@@ -109,7 +110,7 @@ pub fn swap_top<R: Threads + Wait + Sync, S: Source, K: Sink, G: Gate, A: Staff 
         return Status::WrongWords;
     };
     match asked {
-        Task::Input(order) => staff.obey(alloc, order, source, sink),
+        Task::Input(given) => obey(alloc, given, source, sink, staff),
         Task::Race { ticks, transcript } => {
             perform_race(rt, alloc, ticks, transcript, source, sink, gate, staff)
         }

@@ -20,21 +20,21 @@ use swap_digraph::Deal;
 use swap_job::Event;
 
 /// Lets a party of a swap look at each of these arcs, which are those that touch it.
-fn look_around<K: Strategies>(
+fn look_around<A: Strategies>(
     worlds: &mut Worlds,
-    kit: &K,
+    staff: &A,
     swap: u8,
     p: PartyId,
     near: &[ArcId],
 ) -> Result<(), NoMemory>
     requires party { IsPartyOf worlds.old swap p }
     requires near { near.now ≡ adjacent_arcs (world_at worlds.old swap).deal p }
-    requires on { IsOn (K.holds kit.now) worlds.old }
-    ensures ok { OnOk result (HasManyGone (K.gives kit.now) (kept_looks swap p) worlds.old worlds.new) }
-    ensures err { OnErr result (IsManyStopped (K.gives kit.now) (kept_looks swap p) worlds.old worlds.new) }
+    requires on { IsOn (A.holds staff.now) worlds.old }
+    ensures ok { OnOk result (HasManyGone (A.gives staff.now) (kept_looks swap p) worlds.old worlds.new) }
+    ensures err { OnErr result (IsManyStopped (A.gives staff.now) (kept_looks swap p) worlds.old worlds.new) }
 {
     'arcs: for arc in near {
-        worlds.happen(kit, swap, &Event::Look(p, *arc))?;
+        worlds.happen(staff, swap, &Event::Look(p, *arc))?;
     }
     Ok(())
 }
@@ -48,20 +48,20 @@ fn most_acts(deal: &Deal) -> u32
 }
 
 /// Lets a conforming party act until nothing is due.
-fn act_to_rest<K: Strategies>(
+fn act_to_rest<A: Strategies>(
     worlds: &mut Worlds,
-    kit: &K,
+    staff: &A,
     swap: u8,
     p: PartyId,
 ) -> Result<(), NoMemory>
     requires party { IsPartyOf worlds.old swap p }
     requires conforms { conforms (cast_at (world_at worlds.old swap)) p ≡ true }
-    requires on { IsOn (K.holds kit.now) worlds.old }
-    ensures ok { OnOk result (HasManyGone (K.gives kit.now) (kept_acts swap p) worlds.old worlds.new) }
-    ensures err { OnErr result (IsManyStopped (K.gives kit.now) (kept_acts swap p) worlds.old worlds.new) }
+    requires on { IsOn (A.holds staff.now) worlds.old }
+    ensures ok { OnOk result (HasManyGone (A.gives staff.now) (kept_acts swap p) worlds.old worlds.new) }
+    ensures err { OnErr result (IsManyStopped (A.gives staff.now) (kept_acts swap p) worlds.old worlds.new) }
 {
     'acts: for _ in 0..most_acts(worlds.deal(swap)) {
-        if worlds.happen(kit, swap, &Event::Act(p))?.is_none() {
+        if worlds.happen(staff, swap, &Event::Act(p))?.is_none() {
             return Ok(());
         }
     }
@@ -69,90 +69,90 @@ fn act_to_rest<K: Strategies>(
 }
 
 /// A party's turn: it looks around, and then acts: until nothing is due where it conforms, else once.
-fn turn<K: Strategies>(
+fn turn<A: Strategies>(
     worlds: &mut Worlds,
-    kit: &K,
+    staff: &A,
     swap: u8,
     p: PartyId,
     near: &[ArcId],
 ) -> Result<(), NoMemory>
     requires party { IsPartyOf worlds.old swap p }
     requires near { near.now ≡ adjacent_arcs (world_at worlds.old swap).deal p }
-    requires on { IsOn (K.holds kit.now) worlds.old }
-    ensures ok { OnOk result (HasManyGone (K.gives kit.now) (λ m z. kept_turn swap m z p) worlds.old worlds.new) }
-    ensures err { OnErr result (IsManyStopped (K.gives kit.now) (λ m z. kept_turn swap m z p) worlds.old worlds.new) }
+    requires on { IsOn (A.holds staff.now) worlds.old }
+    ensures ok { OnOk result (HasManyGone (A.gives staff.now) (λ m z. kept_turn swap m z p) worlds.old worlds.new) }
+    ensures err { OnErr result (IsManyStopped (A.gives staff.now) (λ m z. kept_turn swap m z p) worlds.old worlds.new) }
 {
-    look_around(worlds, kit, swap, p, near)?;
+    look_around(worlds, staff, swap, p, near)?;
     if worlds.conforms(swap, p) {
-        return act_to_rest(worlds, kit, swap, p);
+        return act_to_rest(worlds, staff, swap, p);
     }
-    worlds.happen(kit, swap, &Event::Act(p))?;
+    worlds.happen(staff, swap, &Event::Act(p))?;
     Ok(())
 }
 
 /// The turns of a swap's parties, in their order.
-fn turns<K: Strategies>(
+fn turns<A: Strategies>(
     worlds: &mut Worlds,
-    kit: &K,
+    staff: &A,
     swap: u8,
     near: &[Listed<ArcId>],
 ) -> Result<(), NoMemory>
     requires swap { swap < length worlds.old.worlds }
     requires near { near.now ≡ near_in (world_at worlds.old swap) }
-    requires on { IsOn (K.holds kit.now) worlds.old }
-    ensures ok { OnOk result (HasManyGone (K.gives kit.now) (λ m z. kept_turns m z swap) worlds.old worlds.new) }
-    ensures err { OnErr result (IsManyStopped (K.gives kit.now) (λ m z. kept_turns m z swap) worlds.old worlds.new) }
+    requires on { IsOn (A.holds staff.now) worlds.old }
+    ensures ok { OnOk result (HasManyGone (A.gives staff.now) (λ m z. kept_turns m z swap) worlds.old worlds.new) }
+    ensures err { OnErr result (IsManyStopped (A.gives staff.now) (λ m z. kept_turns m z swap) worlds.old worlds.new) }
 {
     'parties: for p in 0..worlds.deal(swap).graph.n() {
         let place = p as usize;
-        turn(worlds, kit, swap, p, near[place].as_slice())?;
+        turn(worlds, staff, swap, p, near[place].as_slice())?;
     }
     Ok(())
 }
 
 /// Every swap's turns.
-fn all_turns<K: Strategies>(
+fn all_turns<A: Strategies>(
     worlds: &mut Worlds,
-    kit: &K,
+    staff: &A,
     near: &[Listed<Listed<ArcId>>],
 ) -> Result<(), NoMemory>
     requires near { AreNear near.now worlds.old.worlds }
-    requires on { IsOn (K.holds kit.now) worlds.old }
-    ensures ok { OnOk result (HasManyGone (K.gives kit.now) (λ m z. fold (kept_turns m) z (range_with_len 0 m.swaps)) worlds.old worlds.new) }
-    ensures err { OnErr result (IsManyStopped (K.gives kit.now) (λ m z. fold (kept_turns m) z (range_with_len 0 m.swaps)) worlds.old worlds.new) }
+    requires on { IsOn (A.holds staff.now) worlds.old }
+    ensures ok { OnOk result (HasManyGone (A.gives staff.now) (λ m z. fold (kept_turns m) z (range_with_len 0 m.swaps)) worlds.old worlds.new) }
+    ensures err { OnErr result (IsManyStopped (A.gives staff.now) (λ m z. fold (kept_turns m) z (range_with_len 0 m.swaps)) worlds.old worlds.new) }
 {
     'each: for swap in 0..worlds.swaps() {
         let place = swap as usize;
-        turns(worlds, kit, swap, near[place].as_slice())?;
+        turns(worlds, staff, swap, near[place].as_slice())?;
     }
     Ok(())
 }
 
 /// Each chain ticks by one height.
-fn ticks<K: Strategies>(worlds: &mut Worlds, kit: &K) -> Result<(), NoMemory>
-    requires on { IsOn (K.holds kit.now) worlds.old }
-    ensures ok { OnOk result (HasManyGone (K.gives kit.now) kept_ticks worlds.old worlds.new) }
-    ensures err { OnErr result (IsManyStopped (K.gives kit.now) kept_ticks worlds.old worlds.new) }
+fn ticks<A: Strategies>(worlds: &mut Worlds, staff: &A) -> Result<(), NoMemory>
+    requires on { IsOn (A.holds staff.now) worlds.old }
+    ensures ok { OnOk result (HasManyGone (A.gives staff.now) kept_ticks worlds.old worlds.new) }
+    ensures err { OnErr result (IsManyStopped (A.gives staff.now) kept_ticks worlds.old worlds.new) }
 {
     'each: for chain in 0..worlds.chains() {
-        worlds.tick(kit, chain, 1)?;
+        worlds.tick(staff, chain, 1)?;
     }
     Ok(())
 }
 
 /// Every swap's turns, and then the chains tick.
-fn round<K: Strategies>(
+fn round<A: Strategies>(
     worlds: &mut Worlds,
-    kit: &K,
+    staff: &A,
     near: &[Listed<Listed<ArcId>>],
 ) -> Result<(), NoMemory>
     requires near { AreNear near.now worlds.old.worlds }
-    requires on { IsOn (K.holds kit.now) worlds.old }
-    ensures ok { OnOk result (HasManyGone (K.gives kit.now) kept_round worlds.old worlds.new) }
-    ensures err { OnErr result (IsManyStopped (K.gives kit.now) kept_round worlds.old worlds.new) }
+    requires on { IsOn (A.holds staff.now) worlds.old }
+    ensures ok { OnOk result (HasManyGone (A.gives staff.now) kept_round worlds.old worlds.new) }
+    ensures err { OnErr result (IsManyStopped (A.gives staff.now) kept_round worlds.old worlds.new) }
 {
-    all_turns(worlds, kit, near)?;
-    ticks(worlds, kit)
+    all_turns(worlds, staff, near)?;
+    ticks(worlds, staff)
 }
 
 /// Whether each chain is above that height.
@@ -169,21 +169,21 @@ fn have_ended(worlds: &Worlds, horizon: u64) -> bool
 }
 
 /// So many ticks of each chain.
-fn pass<K: Strategies>(worlds: &mut Worlds, kit: &K, count: u64) -> Result<(), NoMemory>
-    requires on { IsOn (K.holds kit.now) worlds.old }
-    ensures ok { OnOk result (HasManyGone (K.gives kit.now) (λ m z. repeat count (kept_ticks m) z) worlds.old worlds.new) }
-    ensures err { OnErr result (IsManyStopped (K.gives kit.now) (λ m z. repeat count (kept_ticks m) z) worlds.old worlds.new) }
+fn pass<A: Strategies>(worlds: &mut Worlds, staff: &A, count: u64) -> Result<(), NoMemory>
+    requires on { IsOn (A.holds staff.now) worlds.old }
+    ensures ok { OnOk result (HasManyGone (A.gives staff.now) (λ m z. repeat count (kept_ticks m) z) worlds.old worlds.new) }
+    ensures err { OnErr result (IsManyStopped (A.gives staff.now) (λ m z. repeat count (kept_ticks m) z) worlds.old worlds.new) }
 {
     'rounds: for _ in 0..count {
-        ticks(worlds, kit)?;
+        ticks(worlds, staff)?;
     }
     Ok(())
 }
 
 /// Some rounds, at most so many: those in which nobody makes a call, of which only the ticks are taken, and one more. It answers how many.
-fn advance<K: Strategies>(
+fn advance<A: Strategies>(
     worlds: &mut Worlds,
-    kit: &K,
+    staff: &A,
     near: &[Listed<Listed<ArcId>>],
     horizon: u64,
     most: u64,
@@ -192,29 +192,29 @@ fn advance<K: Strategies>(
     requires horizon { horizon ≡ last_horizon (setup_of worlds.old) }
     requires low { have_ended (setup_of worlds.old) (kept_of worlds.old) ≡ false }
     requires some { 1 ≤ most }
-    requires on { IsOn (K.holds kit.now) worlds.old }
-    ensures ok { IfOk result (λ n. HasManyGone (K.gives kit.now) (λ m z. repeat n (kept_round_or_rest m) z) worlds.old worlds.new) }
+    requires on { IsOn (A.holds staff.now) worlds.old }
+    ensures ok { IfOk result (λ n. HasManyGone (A.gives staff.now) (λ m z. repeat n (kept_round_or_rest m) z) worlds.old worlds.new) }
     ensures some { IfOk result (λ n. 1 ≤ n) }
     ensures few { IfOk result (λ n. n ≤ most) }
     ensures err { OnErr result ((n : ℕ) × (n ≤ most)
-        × IsManyStopped (K.gives kit.now) (λ m z. repeat n (kept_round_or_rest m) z) worlds.old worlds.new) }
+        × IsManyStopped (A.gives staff.now) (λ m z. repeat n (kept_round_or_rest m) z) worlds.old worlds.new) }
 {
     let quiet = worlds.quiet_rounds(near, horizon, most - 1);
-    pass(worlds, kit, quiet)?;
-    round(worlds, kit, near)?;
+    pass(worlds, staff, quiet)?;
+    round(worlds, staff, near)?;
     Ok(quiet + 1)
 }
 
 /// Rounds until each chain is above every horizon, for which one more than the greatest are enough.
-fn rounds<K: Strategies>(
+fn rounds<A: Strategies>(
     worlds: &mut Worlds,
-    kit: &K,
+    staff: &A,
     near: &[Listed<Listed<ArcId>>],
 ) -> Result<(), NoMemory>
     requires near { AreNear near.now worlds.old.worlds }
-    requires on { IsOn (K.holds kit.now) worlds.old }
-    ensures ok { OnOk result (HasManyGone (K.gives kit.now) kept_rounds worlds.old worlds.new) }
-    ensures err { OnErr result (IsManyStopped (K.gives kit.now) kept_rounds worlds.old worlds.new) }
+    requires on { IsOn (A.holds staff.now) worlds.old }
+    ensures ok { OnOk result (HasManyGone (A.gives staff.now) kept_rounds worlds.old worlds.new) }
+    ensures err { OnErr result (IsManyStopped (A.gives staff.now) kept_rounds worlds.old worlds.new) }
 {
     let horizon = worlds.last_horizon();
     let mut left = horizon + 1;
@@ -222,41 +222,41 @@ fn rounds<K: Strategies>(
         if have_ended(worlds, horizon) {
             return Ok(());
         }
-        let taken = advance(worlds, kit, near, horizon, left)?;
+        let taken = advance(worlds, staff, near, horizon, left)?;
         left -= taken;
     }
     Ok(())
 }
 
 /// Sweeps every slot of a swap.
-fn sweep_all<K: Strategies>(worlds: &mut Worlds, kit: &K, swap: u8)
+fn sweep_all<A: Strategies>(worlds: &mut Worlds, staff: &A, swap: u8)
     requires swap { swap < length worlds.old.worlds }
-    requires on { IsOn (K.holds kit.now) worlds.old }
-    ensures { HasManyGone (K.gives kit.now) (λ m z. sweeps_of m z swap) worlds.old worlds.new }
+    requires on { IsOn (A.holds staff.now) worlds.old }
+    ensures { HasManyGone (A.gives staff.now) (λ m z. sweeps_of m z swap) worlds.old worlds.new }
 {
     'arcs: for arc in 0..worlds.deal(swap).graph.arcs().len() as ArcId {
-        worlds.sweep(kit, swap, arc, true);
+        worlds.sweep(staff, swap, arc, true);
     }
 }
 
 /// Sweeps every slot.
-fn sweeps<K: Strategies>(worlds: &mut Worlds, kit: &K)
-    requires on { IsOn (K.holds kit.now) worlds.old }
-    ensures { HasManyGone (K.gives kit.now) kept_sweeps worlds.old worlds.new }
+fn sweeps<A: Strategies>(worlds: &mut Worlds, staff: &A)
+    requires on { IsOn (A.holds staff.now) worlds.old }
+    ensures { HasManyGone (A.gives staff.now) kept_sweeps worlds.old worlds.new }
 {
     'each: for swap in 0..worlds.swaps() {
-        sweep_all(worlds, kit, swap);
+        sweep_all(worlds, staff, swap);
     }
 }
 
 /// The rounds, for which the arcs that touch each party are listed once.
-fn listed_rounds<K: Strategies>(worlds: &mut Worlds, kit: &K) -> Result<(), NoMemory>
-    requires on { IsOn (K.holds kit.now) worlds.old }
-    ensures ok { OnOk result (HasManyGone (K.gives kit.now) kept_rounds worlds.old worlds.new) }
-    ensures err { OnErr result (IsManyStopped (K.gives kit.now) kept_rounds worlds.old worlds.new) }
+fn listed_rounds<A: Strategies>(worlds: &mut Worlds, staff: &A) -> Result<(), NoMemory>
+    requires on { IsOn (A.holds staff.now) worlds.old }
+    ensures ok { OnOk result (HasManyGone (A.gives staff.now) kept_rounds worlds.old worlds.new) }
+    ensures err { OnErr result (IsManyStopped (A.gives staff.now) kept_rounds worlds.old worlds.new) }
 {
     match worlds.near() {
-        Ok(near) => rounds(worlds, kit, &near),
+        Ok(near) => rounds(worlds, staff, &near),
         Err(NoMemory) => {
             worlds.stop();
             Err(NoMemory)
@@ -265,12 +265,12 @@ fn listed_rounds<K: Strategies>(worlds: &mut Worlds, kit: &K) -> Result<(), NoMe
 }
 
 /// The fair finish: rounds, and then a sweep of every slot.
-pub(crate) fn finish<K: Strategies>(worlds: &mut Worlds, kit: &K) -> Result<(), NoMemory>
-    requires on { IsOn (K.holds kit.now) worlds.old }
-    ensures ok { OnOk result (HasManyGone (K.gives kit.now) kept_finish worlds.old worlds.new) }
-    ensures err { OnErr result (IsManyStopped (K.gives kit.now) kept_finish worlds.old worlds.new) }
+pub(crate) fn finish<A: Strategies>(worlds: &mut Worlds, staff: &A) -> Result<(), NoMemory>
+    requires on { IsOn (A.holds staff.now) worlds.old }
+    ensures ok { OnOk result (HasManyGone (A.gives staff.now) kept_finish worlds.old worlds.new) }
+    ensures err { OnErr result (IsManyStopped (A.gives staff.now) kept_finish worlds.old worlds.new) }
 {
-    listed_rounds(worlds, kit)?;
-    sweeps(worlds, kit);
+    listed_rounds(worlds, staff)?;
+    sweeps(worlds, staff);
     Ok(())
 }

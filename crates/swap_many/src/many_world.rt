@@ -76,16 +76,16 @@ impl ManyWorld {
         }
     }
 
-    /// Takes one event, where the kit answers for strategies, and answers the reply of its tick, its call, its payment or its sweep, if it makes one.
+    /// Takes one event, where the staff answers for strategies, and answers the reply of its tick, its call, its payment or its sweep, if it makes one.
     /// After want of memory the books are those before the event or after it, and every later step wants memory too.
-    pub fn step<K: Strategies>(
+    pub fn step<A: Strategies>(
         &mut self,
-        kit: &K,
+        staff: &A,
         event: &ManyEvent,
     ) -> Result<Option<ManyReply>, NoMemory>
         requires event { CanCome (setup_of self.old) event.now }
-        requires kit { AreAllHeld (K.holds kit.now) self.old }
-        ensures ok { OnOk result (HasManyGone (K.gives kit.now) (λ m z. kept_done false m z event.now) self.old self.new) }
+        requires held { AreAllHeld (A.holds staff.now) self.old }
+        ensures ok { OnOk result (HasManyGone (A.gives staff.now) (λ m z. kept_done false m z event.now) self.old self.new) }
         ensures stages { OnOk result (self.new.stages ≡ self.old.stages ++ Came event.now ∷ []) }
         // The reply, and all that is kept, are those of the run by the chains' histories.
         ensures reply { IfOk result (λ r. (g : ℕ → Answers) → ContinueAll self.new g
@@ -94,7 +94,7 @@ impl ManyWorld {
             → Follows (setup_for self.new g) (run_of self.new g) (kept_of self.new)) }
         // On every chain all units are in one place.
         ensures units { OnOk result ((g : ℕ → Answers) → ContinueAll self.new g → UnitsArePlacedIn (setup_for self.new g) (run_of self.new g)) }
-        ensures err { OnErr result (IsManyStopped (K.gives kit.now) (λ m z. kept_done false m z event.now) self.old self.new) }
+        ensures err { OnErr result (IsManyStopped (A.gives staff.now) (λ m z. kept_done false m z event.now) self.old self.new) }
         ensures stopped { IsTrue self.old.stopped → IsErr result × (self.new ≡ self.old) }
         // Whatever the others do, and whether memory ran out or not, every swap's book is legal and its conforming parties have kept their conduct.
         ensures kept { (s : ℕ) → s < length self.new.worlds → IsKept (cast_at (world_at self.new s)) (world_at self.new s).state.book }
@@ -104,22 +104,22 @@ impl ManyWorld {
         }
         let events = self.events.and(event);
         self.events = events;
-        let done = self.worlds.step(kit, event);
+        let done = self.worlds.step(staff, event);
         self.worlds.keep();
         done
     }
     /// The fair finish: rounds until every chain is above every horizon, and then a sweep of every slot. In a round the swaps have their turns, in
     /// order: each party in its order looks at each arc that touches it and acts, until nothing is due where it conforms, else once. Then each chain ticks
     /// by one height. After want of memory the books are those after some of its steps, and every later step wants memory too.
-    pub fn finish_fair<K: Strategies>(&mut self, kit: &K) -> Result<(), NoMemory>
-        requires kit { AreAllHeld (K.holds kit.now) self.old }
-        ensures ok { OnOk result (HasManyGone (K.gives kit.now) kept_finish self.old self.new) }
+    pub fn finish_fair<A: Strategies>(&mut self, staff: &A) -> Result<(), NoMemory>
+        requires held { AreAllHeld (A.holds staff.now) self.old }
+        ensures ok { OnOk result (HasManyGone (A.gives staff.now) kept_finish self.old self.new) }
         ensures stages { OnOk result (self.new.stages ≡ self.old.stages ++ Finished ∷ []) }
         ensures history { OnOk result ((g : ℕ → Answers) → ContinueAll self.new g
             → Follows (setup_for self.new g) (run_of self.new g) (kept_of self.new)) }
         ensures units { OnOk result ((g : ℕ → Answers) → ContinueAll self.new g → UnitsArePlacedIn (setup_for self.new g) (run_of self.new g)) }
         ensures ended { OnOk result ((s : ℕ) → s < length self.new.worlds → IsEnded (world_at self.new s).deal (world_at self.new s).state.book) }
-        ensures err { OnErr result (IsManyStopped (K.gives kit.now) kept_finish self.old self.new) }
+        ensures err { OnErr result (IsManyStopped (A.gives staff.now) kept_finish self.old self.new) }
         ensures stopped { IsTrue self.old.stopped → IsErr result × (self.new ≡ self.old) }
         ensures kept { (s : ℕ) → s < length self.new.worlds → IsKept (cast_at (world_at self.new s)) (world_at self.new s).state.book }
     {
@@ -130,7 +130,7 @@ impl ManyWorld {
         let stretches = self.stretches.and(&self.events);
         self.stretches = stretches;
         self.events = Past::new();
-        let done = fair::finish(&mut self.worlds, kit);
+        let done = fair::finish(&mut self.worlds, staff);
         self.worlds.keep();
         done
     }

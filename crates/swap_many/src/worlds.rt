@@ -129,30 +129,30 @@ impl Worlds {
     }
 
     /// Takes an event of a swap, which is no tick.
-    pub(crate) fn happen<K: Strategies>(
+    pub(crate) fn happen<A: Strategies>(
         &mut self,
-        kit: &K,
+        staff: &A,
         swap: u8,
         event: &Event,
     ) -> Result<Option<ManyReply>, NoMemory>
         requires event { CanHappen (setup_of self.old) swap event.now }
-        requires kit { AreAllHeld (K.holds kit.now) self.old }
+        requires held { AreAllHeld (A.holds staff.now) self.old }
         requires goes_on { self.old.stopped ≡ false }
-        ensures ok { OnOk result (HasManyGone (K.gives kit.now) (λ m z. kept_done false m z (ManyEvent.In swap event.now)) self.old self.new) }
+        ensures ok { OnOk result (HasManyGone (A.gives staff.now) (λ m z. kept_done false m z (ManyEvent.In swap event.now)) self.old self.new) }
         ensures reply { IfOk result (λ r. (g : ℕ → Answers) → ContinueAll self.new g
             → r ≡ kept_reply false (setup_for self.old g) (kept_of self.old) (ManyEvent.In swap event.now)) }
-        ensures err { OnErr result (IsManyStopped (K.gives kit.now) (λ m z. kept_done false m z (ManyEvent.In swap event.now)) self.old self.new) }
+        ensures err { OnErr result (IsManyStopped (A.gives staff.now) (λ m z. kept_done false m z (ManyEvent.In swap event.now)) self.old self.new) }
     {
         let place = swap as usize;
-        let told = self.worlds[place].step_on(kit, event, self.swept[place].as_slice());
+        let told = self.worlds[place].step_on(staff, event, self.swept[place].as_slice());
         self.stopped = told.is_err();
         reply_of(told)
     }
 
     /// Pays units from one free account of a chain to another.
-    pub(crate) fn pay<K: Strategies>(
+    pub(crate) fn pay<A: Strategies>(
         &mut self,
-        _kit: &K,
+        _staff: &A,
         chain: u8,
         from: u8,
         to: u8,
@@ -160,23 +160,23 @@ impl Worlds {
     ) -> ManyReply
         requires event { CanPay (setup_of self.old) chain from to }
         requires goes_on { self.old.stopped ≡ false }
-        ensures gone { HasManyGone (K.gives _kit.now) (λ m z. kept_done false m z (ManyEvent.Pay chain from to units)) self.old self.new }
+        ensures gone { HasManyGone (A.gives _staff.now) (λ m z. kept_done false m z (ManyEvent.Pay chain from to units)) self.old self.new }
         ensures reply { result ≡ answer_payment (kept_of self.old) chain from units }
     {
         self.chains[chain as usize].pay(from, to, units)
     }
     /// Ticks a chain by k heights, and with it each ledger that stands on it, unless its clock is full.
-    pub(crate) fn tick<K: Strategies>(
+    pub(crate) fn tick<A: Strategies>(
         &mut self,
-        _kit: &K,
+        _staff: &A,
         chain: u8,
         k: u32,
     ) -> Result<ManyReply, NoMemory>
         requires event { CanTickChain (setup_of self.old) chain k }
         requires goes_on { self.old.stopped ≡ false }
-        ensures ok { OnOk result (HasManyGone (K.gives _kit.now) (λ m z. kept_done false m z (ManyEvent.Tick chain k)) self.old self.new) }
+        ensures ok { OnOk result (HasManyGone (A.gives _staff.now) (λ m z. kept_done false m z (ManyEvent.Tick chain k)) self.old self.new) }
         ensures reply { IfOk result (λ r. r ≡ answer_tick (kept_of self.old) chain k) }
-        ensures err { OnErr result (IsManyStopped (K.gives _kit.now) (λ m z. kept_done false m z (ManyEvent.Tick chain k)) self.old self.new) }
+        ensures err { OnErr result (IsManyStopped (A.gives _staff.now) (λ m z. kept_done false m z (ManyEvent.Tick chain k)) self.old self.new) }
     {
         let reply = self.chains[chain as usize].tick(k);
         if !reply.is_accepted() {
@@ -274,11 +274,11 @@ impl Worlds {
     }
 
     /// Gives a slot's two balances back to the free accounts of its parties.
-    fn put_back<K: Strategies>(&mut self, _kit: &K, swap: u8, arc: ArcId, fair: bool)
+    fn put_back<A: Strategies>(&mut self, _staff: &A, swap: u8, arc: ArcId, fair: bool)
         requires event { CanSweep (setup_of self.old) swap arc }
         requires goes_on { self.old.stopped ≡ false }
         requires accepted { answer_sweep fair (setup_of self.old) (kept_of self.old) swap arc ≡ ManyReply.Plain Reply.Accepted }
-        ensures { HasManyGone (K.gives _kit.now) (λ m z. kept_done fair m z (ManyEvent.Sweep swap arc)) self.old self.new }
+        ensures { HasManyGone (A.gives _staff.now) (λ m z. kept_done fair m z (ManyEvent.Sweep swap arc)) self.old self.new }
     {
         let place = self.place(swap, arc);
         let left = self.accounts(swap, arc);
@@ -289,45 +289,45 @@ impl Worlds {
     }
 
     /// Sweeps a slot, where no row of its table refuses that.
-    pub(crate) fn sweep<K: Strategies>(
+    pub(crate) fn sweep<A: Strategies>(
         &mut self,
-        kit: &K,
+        staff: &A,
         swap: u8,
         arc: ArcId,
         fair: bool,
     ) -> ManyReply
         requires event { CanSweep (setup_of self.old) swap arc }
         requires goes_on { self.old.stopped ≡ false }
-        ensures gone { HasManyGone (K.gives kit.now) (λ m z. kept_done fair m z (ManyEvent.Sweep swap arc)) self.old self.new }
+        ensures gone { HasManyGone (A.gives staff.now) (λ m z. kept_done fair m z (ManyEvent.Sweep swap arc)) self.old self.new }
         ensures reply { result ≡ answer_sweep fair (setup_of self.old) (kept_of self.old) swap arc }
     {
         let reply = self.reply_to_sweep(swap, arc, fair);
         if reply.is_accepted() {
-            self.put_back(kit, swap, arc, fair);
+            self.put_back(staff, swap, arc, fair);
         }
         reply
     }
     /// Takes an event, where memory never ran out.
-    pub(crate) fn step<K: Strategies>(
+    pub(crate) fn step<A: Strategies>(
         &mut self,
-        kit: &K,
+        staff: &A,
         event: &ManyEvent,
     ) -> Result<Option<ManyReply>, NoMemory>
         requires event { CanCome (setup_of self.old) event.now }
-        requires kit { AreAllHeld (K.holds kit.now) self.old }
+        requires held { AreAllHeld (A.holds staff.now) self.old }
         requires goes_on { self.old.stopped ≡ false }
-        ensures ok { OnOk result (HasManyGone (K.gives kit.now) (λ m z. kept_done false m z event.now) self.old self.new) }
+        ensures ok { OnOk result (HasManyGone (A.gives staff.now) (λ m z. kept_done false m z event.now) self.old self.new) }
         ensures reply { IfOk result (λ r. (g : ℕ → Answers) → ContinueAll self.new g
             → r ≡ kept_reply false (setup_for self.old g) (kept_of self.old) event.now) }
-        ensures err { OnErr result (IsManyStopped (K.gives kit.now) (λ m z. kept_done false m z event.now) self.old self.new) }
+        ensures err { OnErr result (IsManyStopped (A.gives staff.now) (λ m z. kept_done false m z event.now) self.old self.new) }
     {
         match event {
-            ManyEvent::Tick(chain, k) => Ok(Some(self.tick(kit, *chain, *k)?)),
-            ManyEvent::In(swap, event) => self.happen(kit, *swap, event),
+            ManyEvent::Tick(chain, k) => Ok(Some(self.tick(staff, *chain, *k)?)),
+            ManyEvent::In(swap, event) => self.happen(staff, *swap, event),
             ManyEvent::Pay(chain, from, to, units) => {
-                Ok(Some(self.pay(kit, *chain, *from, *to, *units)))
+                Ok(Some(self.pay(staff, *chain, *from, *to, *units)))
             }
-            ManyEvent::Sweep(swap, arc) => Ok(Some(self.sweep(kit, *swap, *arc, false))),
+            ManyEvent::Sweep(swap, arc) => Ok(Some(self.sweep(staff, *swap, *arc, false))),
         }
     }
 

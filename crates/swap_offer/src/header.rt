@@ -18,13 +18,12 @@ ghost use Rattle.swap_offer.specs.Job.{accepted_of, job_header_of, names_at, pro
 use crate::checks::{check_header, graph_in};
 use crate::prepared::Prepared;
 use crate::wallets::{check_seeds, wallets_for};
-use deviators::Kit;
 use hashkey_path::deal_digest;
 use offer_header::{Header, header_in};
 use party_wallet::Wallet;
 use refusals::{HeaderFault, OfferFault, with_names};
 use std::alloc::Global;
-use swap_base::Listed;
+use swap_base::{ByteText, Listed};
 use swap_digraph::{Deal, Digraph};
 use swap_job::{Job, Purpose};
 
@@ -125,7 +124,7 @@ fn accept(alloc: Global, line: u32, header: Header) -> Result<Prepared, HeaderFa
 ///
 /// For a run and a race there is one place per party: the wallet of a party that conforms and has a seed. For
 /// any other purpose there is none: for a check each wallet is let go once it was examined, and a plain job and
-/// a transcript have nothing to examine. Strategies are those of the kit. A reason against a later line takes
+/// a transcript have nothing to examine. A role names one of the strategies. A reason against a later line takes
 /// the names of the job.
 #[tactic(auto, using(refusals::proofs::Named::fails), unfolding(crate::specs::Job::job_header_of, crate::specs::Job::names_at))]
 pub fn read_header(
@@ -133,11 +132,11 @@ pub fn read_header(
     line: u32,
     text: &[u8],
     purpose: Purpose,
-    kit: &Kit,
+    strategies: &[ByteText],
 ) -> Result<Prepared, HeaderFault>
-    ensures exact { Gives (λ p. p.job) result (named (names_at (has_strategy kit.now.names kit.now.strategies.items) purpose line text.now)
-        (job_header_of (has_strategy kit.now.names kit.now.strategies.items) purpose line text.now)) }
-    ensures names { IfOk result (λ p. p.job.names ≡ names_at (has_strategy kit.now.names kit.now.strategies.items) purpose line text.now) }
+    ensures exact { Gives (λ p. p.job) result (named (names_at (has_strategy strategies.now) purpose line text.now)
+        (job_header_of (has_strategy strategies.now) purpose line text.now)) }
+    ensures names { IfOk result (λ p. p.job.names ≡ names_at (has_strategy strategies.now) purpose line text.now) }
     ensures known { IfOk result (λ p. AreNames p.job.names) }
     ensures purpose { IfOk result (λ p. p.job.purpose ≡ purpose) }
     ensures whole { IfOk result (λ p. IsWholeJob p.job) }
@@ -145,15 +144,15 @@ pub fn read_header(
     ensures wallets { IfOk result (λ p. HaveWalletsFor purpose p.job) }
     ensures seeds { IfOk result (λ p. HaveSeedsFor purpose p.job) }
     ensures roles { IfOk result (λ p. AreSimpleRoles purpose p.job) }
-    ensures strategies { IfOk result (λ p. HoldsEach (has_strategy kit.now.names kit.now.strategies.items) p.job.roles) }
+    ensures strategies { IfOk result (λ p. HoldsEach (has_strategy strategies.now) p.job.roles) }
     ensures scripts { IfOk result (λ p. HaveScriptsFor purpose p.job) }
     ensures untold { IfOk result (λ p. IsUntoldJob purpose p.job) }
     ensures made { IfOk result (λ p. p.wallets.items ≡ wallets_for purpose p.job) }
     ensures need { IfOk result (λ p. p.need ≡ need_of p.job.deal) }
     // A closed set or a cycle of followers that is named is one of the header's digraph.
-    ensures certified { (h : Header) → header_of (has_strategy kit.now.names kit.now.strategies.items) purpose line text.now ≡ Ok h → Certifies h result }
+    ensures certified { (h : Header) → header_of (has_strategy strategies.now) purpose line text.now ≡ Ok h → Certifies h result }
 {
-    let header = match header_in(alloc, kit, purpose, line, text) {
+    let header = match header_in(alloc, strategies, purpose, line, text) {
         Ok(header) => header,
         Err(fault) => return Err(with_names(fault, Listed::empty(alloc))),
     };

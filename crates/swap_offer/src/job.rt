@@ -15,12 +15,11 @@ ghost use Rattle.swap_offer.specs.Wallets.{AreSimpleRoles, HaveScriptsFor, HaveS
 use crate::header::read_header;
 use crate::prepared::Prepared;
 use command_input::filled_lines;
-use deviators::Kit;
 use offer_events::read_event;
 use offer_header::is_plain;
 use refusals::{HeaderFault, OfferFault, Reason, Refusal, over_limit, with_names};
 use std::alloc::Global;
-use swap_base::{Fault, Listed};
+use swap_base::{ByteText, Fault, Listed};
 use swap_job::{Event, Job, Purpose};
 
 /// The most events of an offer.
@@ -109,14 +108,14 @@ fn read_further(
 fn read_from(
     alloc: Global,
     purpose: Purpose,
-    kit: &Kit,
+    strategies: &[ByteText],
     line: u32,
     text: &[u8],
     further: &[(u32, &[u8])],
 ) -> Result<(Job, Vec<Event>), HeaderFault>
     requires few { length further.now < 2 ^ 31 }
-    ensures exact { Gives (λ j. (j.0, j.1.items)) result (named (names_at (has_strategy kit.now.names kit.now.strategies.items) purpose line text.now)
-        (job_of_lines (has_strategy kit.now.names kit.now.strategies.items) purpose ((line, text.now) ∷ map (λ l. (l.0, l.1.now)) further.now))) }
+    ensures exact { Gives (λ j. (j.0, j.1.items)) result (named (names_at (has_strategy strategies.now) purpose line text.now)
+        (job_of_lines (has_strategy strategies.now) purpose ((line, text.now) ∷ map (λ l. (l.0, l.1.now)) further.now))) }
     ensures whole { IfOk result (λ j. IsWholeJob j.0) }
     ensures accepted { IfOk result (λ j. IsAcceptedFor purpose j.0.deal) }
     ensures known { IfOk result (λ j. AreNames j.0.names) }
@@ -124,12 +123,12 @@ fn read_from(
     ensures wallets { IfOk result (λ j. HaveWalletsFor purpose j.0) }
     ensures seeds { IfOk result (λ j. HaveSeedsFor purpose j.0) }
     ensures roles { IfOk result (λ j. AreSimpleRoles purpose j.0) }
-    ensures strategies { IfOk result (λ j. HoldsEach (has_strategy kit.now.names kit.now.strategies.items) j.0.roles) }
+    ensures strategies { IfOk result (λ j. HoldsEach (has_strategy strategies.now) j.0.roles) }
     ensures scripts { IfOk result (λ j. HaveScriptsFor purpose j.0) }
     ensures untold { IfOk result (λ j. IsUntoldJob purpose j.0) }
     ensures fit { IfOk result (λ j. needs_seeds purpose ≡ true → All (IsEventOf j.0) j.1.items) }
 {
-    let Prepared { job, .. } = read_header(alloc, line, text, purpose, kit)?;
+    let Prepared { job, .. } = read_header(alloc, line, text, purpose, strategies)?;
     match read_further(alloc, purpose, &job, further) {
         Ok(events) => Ok((job, events)),
         Err(fault) => Err(with_names(fault, job.names)),
@@ -139,13 +138,13 @@ fn read_from(
 fn read_lines(
     alloc: Global,
     purpose: Purpose,
-    kit: &Kit,
+    strategies: &[ByteText],
     lines: &[(u32, &[u8])],
 ) -> Result<(Job, Vec<Event>), HeaderFault>
     requires few { length lines.now < 2 ^ 31 }
     ensures exact { Gives (λ j. (j.0, j.1.items)) result (named
-        (names_in (has_strategy kit.now.names kit.now.strategies.items) purpose (map (λ l. (l.0, l.1.now)) lines.now))
-        (job_of_lines (has_strategy kit.now.names kit.now.strategies.items) purpose (map (λ l. (l.0, l.1.now)) lines.now))) }
+        (names_in (has_strategy strategies.now) purpose (map (λ l. (l.0, l.1.now)) lines.now))
+        (job_of_lines (has_strategy strategies.now) purpose (map (λ l. (l.0, l.1.now)) lines.now))) }
     ensures whole { IfOk result (λ j. IsWholeJob j.0) }
     ensures accepted { IfOk result (λ j. IsAcceptedFor purpose j.0.deal) }
     ensures known { IfOk result (λ j. AreNames j.0.names) }
@@ -153,7 +152,7 @@ fn read_lines(
     ensures wallets { IfOk result (λ j. HaveWalletsFor purpose j.0) }
     ensures seeds { IfOk result (λ j. HaveSeedsFor purpose j.0) }
     ensures roles { IfOk result (λ j. AreSimpleRoles purpose j.0) }
-    ensures strategies { IfOk result (λ j. HoldsEach (has_strategy kit.now.names kit.now.strategies.items) j.0.roles) }
+    ensures strategies { IfOk result (λ j. HoldsEach (has_strategy strategies.now) j.0.roles) }
     ensures scripts { IfOk result (λ j. HaveScriptsFor purpose j.0) }
     ensures untold { IfOk result (λ j. IsUntoldJob purpose j.0) }
     ensures fit { IfOk result (λ j. needs_seeds purpose ≡ true → All (IsEventOf j.0) j.1.items) }
@@ -164,7 +163,7 @@ fn read_lines(
         return Err(Fault::Refused(Refusal { reason, names }));
     }
     let (line, text) = lines[0];
-    read_from(alloc, purpose, kit, line, text, &lines[1..])
+    read_from(alloc, purpose, strategies, line, text, &lines[1..])
 }
 
 /// The job and the events of an offer, or the first reason against it with the names in its header.
@@ -173,11 +172,11 @@ pub fn read_job(
     alloc: Global,
     bytes: &[u8],
     purpose: Purpose,
-    kit: &Kit,
+    strategies: &[ByteText],
 ) -> Result<(Job, Vec<Event>), HeaderFault>
     requires few { length bytes.now < 2 ^ 31 }
-    ensures exact { Gives (λ j. (j.0, j.1.items)) result (named (names_of_offer (has_strategy kit.now.names kit.now.strategies.items) purpose bytes.now)
-        (job_of (has_strategy kit.now.names kit.now.strategies.items) purpose bytes.now)) }
+    ensures exact { Gives (λ j. (j.0, j.1.items)) result (named (names_of_offer (has_strategy strategies.now) purpose bytes.now)
+        (job_of (has_strategy strategies.now) purpose bytes.now)) }
     ensures whole { IfOk result (λ j. IsWholeJob j.0) }
     ensures accepted { IfOk result (λ j. IsAcceptedFor purpose j.0.deal) }
     ensures known { IfOk result (λ j. AreNames j.0.names) }
@@ -185,11 +184,11 @@ pub fn read_job(
     ensures wallets { IfOk result (λ j. HaveWalletsFor purpose j.0) }
     ensures seeds { IfOk result (λ j. HaveSeedsFor purpose j.0) }
     ensures roles { IfOk result (λ j. AreSimpleRoles purpose j.0) }
-    ensures strategies { IfOk result (λ j. HoldsEach (has_strategy kit.now.names kit.now.strategies.items) j.0.roles) }
+    ensures strategies { IfOk result (λ j. HoldsEach (has_strategy strategies.now) j.0.roles) }
     ensures scripts { IfOk result (λ j. HaveScriptsFor purpose j.0) }
     ensures untold { IfOk result (λ j. IsUntoldJob purpose j.0) }
     ensures fit { IfOk result (λ j. needs_seeds purpose ≡ true → All (IsEventOf j.0) j.1.items) }
 {
     let lines = filled_lines(alloc, bytes)?;
-    read_lines(alloc, purpose, kit, &lines)
+    read_lines(alloc, purpose, strategies, &lines)
 }

@@ -2,17 +2,12 @@
 
 ghost use Rattle.std.specs.Prelude.{◌⊎◌, ◌≤◌, ◌<◌, IfOk, length};
 ghost use Rattle.swap_base.specs.Fault.{Gives};
-ghost use Rattle.swap_job.specs.declared.job.Purpose.TheVariants.{Audit as audits};
-ghost use Rattle.refusals.specs.Refusal.{named};
 ghost use Rattle.swap_rules.specs.Accepted.{IsAccepted};
-ghost use Rattle.offer_header.specs.Names.{has_strategy};
-ghost use Rattle.swap_offer.specs.Job.{job_header_of, names_at};
 ghost use Rattle.command_input.specs.Input.{limit};
 ghost use Rattle.swap_party.specs.Said.{header_said, IsCheckSaid, IsNothing};
 
 use crate::said::{DONE, NO_MEMORY, Said, TOO_LONG, say, say_nothing, say_reason};
 use command_input::INPUT_LIMIT;
-use deviators::Kit;
 use party_answer::AnswerReason;
 use refusals::HeaderFault;
 use std::alloc::Global;
@@ -20,24 +15,14 @@ use swap_base::Fault;
 use swap_job::{Job, Purpose};
 use swap_offer::read_header;
 
-/// The job of a header line whose strategies are those of a kit.
-fn read_with(alloc: Global, kit: &Kit, line: &[u8]) -> Result<Job, HeaderFault>
-    ensures exact { Gives (λ j. j) result (named (names_at (has_strategy kit.now.names kit.now.strategies.items) audits 1 line.now)
-        (job_header_of (has_strategy kit.now.names kit.now.strategies.items) audits 1 line.now)) }
-    ensures accepted { IfOk result (λ j. IsAccepted j.deal) }
-{
-    let prepared = read_header(alloc, 1, line, Purpose::Audit, kit)?;
-    Ok(prepared.job)
-}
-
 /// The job of a header line as a transcript has it.
 #[tactic(auto, unfolding(crate::specs::Said::header_said))]
 fn read_job(alloc: Global, line: &[u8]) -> Result<Job, HeaderFault>
     ensures exact { Gives (λ j. j) result (header_said line.now) }
     ensures accepted { IfOk result (λ j. IsAccepted j.deal) }
 {
-    let kit = Kit::new(alloc);
-    read_with(alloc, &kit, line)
+    let prepared = read_header(alloc, 1, line, Purpose::Audit, &[])?;
+    Ok(prepared.job)
 }
 
 /// Reads an offer's header, as a transcript has it, and answers its deal's id, which is 32 bytes, or the first reason against it.

@@ -103,16 +103,16 @@ impl Planner {
     }
 
     /// The call that the party's strategy answers, if any. The party has acted once more; after want of memory everything is as it was.
-    pub fn ask<K: Strategies>(
+    pub fn ask<A: Strategies>(
         &mut self,
-        kit: &K,
+        staff: &A,
         name: &ByteText,
         deal: &Deal,
         me: PartyId,
     ) -> Result<Option<(ArcId, Call)>, NoMemory>
-        requires holds { K.holds kit.now name.now ≡ true }
+        requires holds { A.holds staff.now name.now ≡ true }
         requires view { IsView deal.now me self.old.known }
-        ensures gives { IfOk result (K.gives kit.now name.now deal.now me self.old.turns self.old.known) }
+        ensures gives { IfOk result (A.gives staff.now name.now deal.now me self.old.turns self.old.known) }
         ensures turned { OnOk result (self.new ≡ record self.old { turns = self.old.turns + 1 }) }
         ensures fits { IfOk result (MayAnswer deal.now me) }
         ensures err { OnErr result (self.new ≡ self.old) }
@@ -120,7 +120,7 @@ impl Planner {
         if self.turns == u32::MAX {
             return Err(NoMemory);
         }
-        let call = kit.answer(name, deal, me, self.turns, &self.known)?;
+        let call = staff.answer(name, deal, me, self.turns, &self.known)?;
         self.turns += 1;
         Ok(call)
     }

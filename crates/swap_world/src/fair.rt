@@ -21,20 +21,20 @@ use swap_job::Event;
 use time_bounds::horizon;
 
 /// Lets a party look at each of these arcs, which are those that touch it.
-fn look_around<K: Strategies>(
+fn look_around<A: Strategies>(
     world: &mut World,
-    kit: &K,
+    staff: &A,
     p: PartyId,
     near: &[ArcId],
 ) -> Result<(), NoMemory>
     requires party { p < world.old.deal.graph.n }
     requires near { near.now ≡ adjacent_arcs world.old.deal p }
-    requires kit { AreHeld (K.holds kit.now) world.old.roles }
-    ensures ok { OnOk result (HasGone (K.gives kit.now) (λ c s. looks c p s) world.old world.new) }
-    ensures err { OnErr result (IsStopped (K.gives kit.now) (λ c s. look_steps c.deal p) world.old world.new) }
+    requires held { AreHeld (A.holds staff.now) world.old.roles }
+    ensures ok { OnOk result (HasGone (A.gives staff.now) (λ c s. looks c p s) world.old world.new) }
+    ensures err { OnErr result (IsStopped (A.gives staff.now) (λ c s. look_steps c.deal p) world.old world.new) }
 {
     'arcs: for arc in near {
-        world.step(kit, &Event::Look(p, *arc))?;
+        world.step(staff, &Event::Look(p, *arc))?;
     }
     Ok(())
 }
@@ -48,12 +48,12 @@ fn most_acts(deal: &Deal) -> u32
 }
 
 /// Lets a conforming party act until nothing is due.
-fn act_to_rest<K: Strategies>(world: &mut World, _kit: &K, p: PartyId) -> Result<(), NoMemory>
+fn act_to_rest<A: Strategies>(world: &mut World, _staff: &A, p: PartyId) -> Result<(), NoMemory>
     requires party { p < world.old.deal.graph.n }
     requires conforms { conforms (cast_at world.old) p ≡ true }
     requires goes_on { world.old.stopped ≡ false }
-    ensures ok { OnOk result (HasGone (K.gives _kit.now) (λ c s. acts c p (most_acts world.old.deal) s) world.old world.new) }
-    ensures err { OnErr result (IsStopped (K.gives _kit.now) (λ c s. replicate (most_acts world.old.deal) (Event.Act p)) world.old world.new) }
+    ensures ok { OnOk result (HasGone (A.gives _staff.now) (λ c s. acts c p (most_acts world.old.deal) s) world.old world.new) }
+    ensures err { OnErr result (IsStopped (A.gives _staff.now) (λ c s. replicate (most_acts world.old.deal) (Event.Act p)) world.old world.new) }
 {
     'acts: for _ in 0..most_acts(world.deal()) {
         if !world.act_if_due(p)? {
@@ -64,37 +64,41 @@ fn act_to_rest<K: Strategies>(world: &mut World, _kit: &K, p: PartyId) -> Result
 }
 
 /// A party's turn: it looks around, and then acts: until nothing is due where it conforms, else once.
-fn turn<K: Strategies>(
+fn turn<A: Strategies>(
     world: &mut World,
-    kit: &K,
+    staff: &A,
     p: PartyId,
     near: &[ArcId],
 ) -> Result<(), NoMemory>
     requires party { p < world.old.deal.graph.n }
     requires near { near.now ≡ adjacent_arcs world.old.deal p }
     requires goes_on { world.old.stopped ≡ false }
-    requires kit { AreHeld (K.holds kit.now) world.old.roles }
-    ensures ok { OnOk result (HasGone (K.gives kit.now) (λ c s. turn c s p) world.old world.new) }
-    ensures err { OnErr result (IsStopped (K.gives kit.now) (λ c s. turn_steps c p) world.old world.new) }
+    requires held { AreHeld (A.holds staff.now) world.old.roles }
+    ensures ok { OnOk result (HasGone (A.gives staff.now) (λ c s. turn c s p) world.old world.new) }
+    ensures err { OnErr result (IsStopped (A.gives staff.now) (λ c s. turn_steps c p) world.old world.new) }
 {
-    look_around(world, kit, p, near)?;
+    look_around(world, staff, p, near)?;
     if world.conforms(p) {
-        return act_to_rest(world, kit, p);
+        return act_to_rest(world, staff, p);
     }
-    world.step(kit, &Event::Act(p))
+    world.step(staff, &Event::Act(p))
 }
 
 /// Every party's turn, in their order.
-fn turns<K: Strategies>(world: &mut World, kit: &K, near: &[Listed<ArcId>]) -> Result<(), NoMemory>
+fn turns<A: Strategies>(
+    world: &mut World,
+    staff: &A,
+    near: &[Listed<ArcId>],
+) -> Result<(), NoMemory>
     requires near { near.now ≡ all_adjacent world.old.deal }
     requires goes_on { world.old.stopped ≡ false }
-    requires kit { AreHeld (K.holds kit.now) world.old.roles }
-    ensures ok { OnOk result (HasGone (K.gives kit.now) turns world.old world.new) }
-    ensures err { OnErr result (IsStopped (K.gives kit.now) (λ c s. turns_steps c) world.old world.new) }
+    requires held { AreHeld (A.holds staff.now) world.old.roles }
+    ensures ok { OnOk result (HasGone (A.gives staff.now) turns world.old world.new) }
+    ensures err { OnErr result (IsStopped (A.gives staff.now) (λ c s. turns_steps c) world.old world.new) }
 {
     'parties: for p in 0..world.deal().graph.n() {
         let place = p as usize;
-        turn(world, kit, p, near[place].as_slice())?;
+        turn(world, staff, p, near[place].as_slice())?;
     }
     Ok(())
 }
@@ -108,26 +112,26 @@ pub(crate) fn horizon_of(deal: &Deal) -> u64
 }
 
 /// Ticks a ledger by one height, where it isn't above the horizon.
-fn tick_low<K: Strategies>(world: &mut World, kit: &K, arc: ArcId) -> Result<(), NoMemory>
+fn tick_low<A: Strategies>(world: &mut World, staff: &A, arc: ArcId) -> Result<(), NoMemory>
     requires arc { arc < length world.old.deal.graph.arcs }
-    requires kit { AreHeld (K.holds kit.now) world.old.roles }
-    ensures ok { OnOk result (HasGone (K.gives kit.now) (λ c s. tick_low c s arc) world.old world.new) }
-    ensures err { OnErr result (IsStopped (K.gives kit.now) (λ c s. low_step c.deal s.book arc) world.old world.new) }
+    requires held { AreHeld (A.holds staff.now) world.old.roles }
+    ensures ok { OnOk result (HasGone (A.gives staff.now) (λ c s. tick_low c s arc) world.old world.new) }
+    ensures err { OnErr result (IsStopped (A.gives staff.now) (λ c s. low_step c.deal s.book arc) world.old world.new) }
 {
     if world.height(arc) as u64 > horizon_of(world.deal()) {
         return Ok(());
     }
-    world.step(kit, &Event::Tick(arc, 1))
+    world.step(staff, &Event::Tick(arc, 1))
 }
 
 /// Ticks each ledger that isn't above the horizon by one height.
-fn ticks<K: Strategies>(world: &mut World, kit: &K) -> Result<(), NoMemory>
-    requires kit { AreHeld (K.holds kit.now) world.old.roles }
-    ensures ok { OnOk result (HasGone (K.gives kit.now) ticks world.old world.new) }
-    ensures err { OnErr result (IsStopped (K.gives kit.now) (λ c s. tick_steps c.deal s.book) world.old world.new) }
+fn ticks<A: Strategies>(world: &mut World, staff: &A) -> Result<(), NoMemory>
+    requires held { AreHeld (A.holds staff.now) world.old.roles }
+    ensures ok { OnOk result (HasGone (A.gives staff.now) ticks world.old world.new) }
+    ensures err { OnErr result (IsStopped (A.gives staff.now) (λ c s. tick_steps c.deal s.book) world.old world.new) }
 {
     'arcs: for arc in 0..world.deal().graph.arcs().len() as ArcId {
-        tick_low(world, kit, arc)?;
+        tick_low(world, staff, arc)?;
     }
     Ok(())
 }
@@ -147,33 +151,37 @@ fn has_ended(world: &World) -> bool
 
 /// Every party's turn, and then the ledgers tick.
 #[tactic(auto, unfolding(swap_run::specs::Fair::round))]
-fn round<K: Strategies>(world: &mut World, kit: &K, near: &[Listed<ArcId>]) -> Result<(), NoMemory>
+fn round<A: Strategies>(
+    world: &mut World,
+    staff: &A,
+    near: &[Listed<ArcId>],
+) -> Result<(), NoMemory>
     requires near { near.now ≡ all_adjacent world.old.deal }
     requires goes_on { world.old.stopped ≡ false }
-    requires kit { AreHeld (K.holds kit.now) world.old.roles }
-    ensures ok { OnOk result (HasGone (K.gives kit.now) round world.old world.new) }
-    ensures err { OnErr result (IsStopped (K.gives kit.now) round_steps world.old world.new) }
+    requires held { AreHeld (A.holds staff.now) world.old.roles }
+    ensures ok { OnOk result (HasGone (A.gives staff.now) round world.old world.new) }
+    ensures err { OnErr result (IsStopped (A.gives staff.now) round_steps world.old world.new) }
 {
-    turns(world, kit, near)?;
-    ticks(world, kit)
+    turns(world, staff, near)?;
+    ticks(world, staff)
 }
 
 /// So many ticks of each ledger that isn't above the horizon.
-fn pass<K: Strategies>(world: &mut World, kit: &K, count: u64) -> Result<(), NoMemory>
-    requires kit { AreHeld (K.holds kit.now) world.old.roles }
-    ensures ok { OnOk result (HasGone (K.gives kit.now) (λ c s. repeat count (ticks c) s) world.old world.new) }
-    ensures err { OnErr result (IsStopped (K.gives kit.now) (pass_steps count) world.old world.new) }
+fn pass<A: Strategies>(world: &mut World, staff: &A, count: u64) -> Result<(), NoMemory>
+    requires held { AreHeld (A.holds staff.now) world.old.roles }
+    ensures ok { OnOk result (HasGone (A.gives staff.now) (λ c s. repeat count (ticks c) s) world.old world.new) }
+    ensures err { OnErr result (IsStopped (A.gives staff.now) (pass_steps count) world.old world.new) }
 {
     'rounds: for _ in 0..count {
-        ticks(world, kit)?;
+        ticks(world, staff)?;
     }
     Ok(())
 }
 
 /// Some rounds, at most so many: those in which nobody makes a call, of which only the ticks are taken, and one more. It answers how many.
-fn advance<K: Strategies>(
+fn advance<A: Strategies>(
     world: &mut World,
-    kit: &K,
+    staff: &A,
     near: &[Listed<ArcId>],
     most: u64,
 ) -> Result<u64, NoMemory>
@@ -181,46 +189,50 @@ fn advance<K: Strategies>(
     requires goes_on { world.old.stopped ≡ false }
     requires low { has_ended world.old.deal world.old.state.book ≡ false }
     requires some { 1 ≤ most }
-    requires kit { AreHeld (K.holds kit.now) world.old.roles }
-    ensures ok { IfOk result (λ n. HasGone (K.gives kit.now) (λ c s. repeat n (round_unless_ended c) s) world.old world.new) }
+    requires held { AreHeld (A.holds staff.now) world.old.roles }
+    ensures ok { IfOk result (λ n. HasGone (A.gives staff.now) (λ c s. repeat n (round_unless_ended c) s) world.old world.new) }
     ensures some { IfOk result (λ n. 1 ≤ n) }
     ensures few { IfOk result (λ n. n ≤ most) }
-    ensures err { OnErr result ((n : ℕ) × (n ≤ most) × IsStopped (K.gives kit.now) (rounds_steps n) world.old world.new) }
+    ensures err { OnErr result ((n : ℕ) × (n ≤ most) × IsStopped (A.gives staff.now) (rounds_steps n) world.old world.new) }
 {
     let quiet = world.quiet_rounds(near, most - 1);
-    pass(world, kit, quiet)?;
-    round(world, kit, near)?;
+    pass(world, staff, quiet)?;
+    round(world, staff, near)?;
     Ok(quiet + 1)
 }
 
 /// Rounds until each ledger is above the horizon, for which one more than the horizon are enough.
-fn rounds<K: Strategies>(world: &mut World, kit: &K, near: &[Listed<ArcId>]) -> Result<(), NoMemory>
+fn rounds<A: Strategies>(
+    world: &mut World,
+    staff: &A,
+    near: &[Listed<ArcId>],
+) -> Result<(), NoMemory>
     requires near { near.now ≡ all_adjacent world.old.deal }
     requires goes_on { world.old.stopped ≡ false }
-    requires kit { AreHeld (K.holds kit.now) world.old.roles }
-    ensures ok { OnOk result (HasGone (K.gives kit.now) finish world.old world.new) }
-    ensures err { OnErr result (IsStopped (K.gives kit.now) finish_steps world.old world.new) }
+    requires held { AreHeld (A.holds staff.now) world.old.roles }
+    ensures ok { OnOk result (HasGone (A.gives staff.now) finish world.old world.new) }
+    ensures err { OnErr result (IsStopped (A.gives staff.now) finish_steps world.old world.new) }
 {
     let mut left = horizon_of(world.deal()) + 1;
     'rounds: while left > 0 {
         if has_ended(world) {
             return Ok(());
         }
-        let taken = advance(world, kit, near, left)?;
+        let taken = advance(world, staff, near, left)?;
         left -= taken;
     }
     Ok(())
 }
 
 /// The fair finish. The arcs that touch each party are listed once.
-pub(crate) fn finish<K: Strategies>(world: &mut World, kit: &K) -> Result<(), NoMemory>
+pub(crate) fn finish<A: Strategies>(world: &mut World, staff: &A) -> Result<(), NoMemory>
     requires goes_on { world.old.stopped ≡ false }
-    requires kit { AreHeld (K.holds kit.now) world.old.roles }
-    ensures ok { OnOk result (HasGone (K.gives kit.now) finish world.old world.new) }
-    ensures err { OnErr result (IsStopped (K.gives kit.now) finish_steps world.old world.new) }
+    requires held { AreHeld (A.holds staff.now) world.old.roles }
+    ensures ok { OnOk result (HasGone (A.gives staff.now) finish world.old world.new) }
+    ensures err { OnErr result (IsStopped (A.gives staff.now) finish_steps world.old world.new) }
 {
     match arcs_by_party(world.allocator(), world.deal()) {
-        Ok(near) => rounds(world, kit, &near),
+        Ok(near) => rounds(world, staff, &near),
         Err(NoMemory) => {
             world.stop();
             Err(NoMemory)

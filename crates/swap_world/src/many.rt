@@ -13,19 +13,19 @@ use swap_base::NoMemory;
 use swap_job::Event;
 
 /// Takes events in their order.
-pub(crate) fn run<K: Strategies>(
+pub(crate) fn run<A: Strategies>(
     world: &mut World,
-    kit: &K,
+    staff: &A,
     events: &[Event],
 ) -> Result<(), NoMemory>
     requires events { All (CanStep world.old.deal world.old.conforming world.old.seeds) events.now }
-    requires kit { AreHeld (K.holds kit.now) world.old.roles }
-    ensures ok { OnOk result (HasGone (K.gives kit.now) (λ c s. run_from c s events.now) world.old world.new) }
-    ensures err { OnErr result (IsStopped (K.gives kit.now) (λ c s. events.now) world.old world.new) }
+    requires held { AreHeld (A.holds staff.now) world.old.roles }
+    ensures ok { OnOk result (HasGone (A.gives staff.now) (λ c s. run_from c s events.now) world.old world.new) }
+    ensures err { OnErr result (IsStopped (A.gives staff.now) (λ c s. events.now) world.old world.new) }
     ensures prefix { OnErr result (IsAfterSome events.now world.old world.new) }
 {
     'events: for event in events {
-        world.step(kit, event)?;
+        world.step(staff, event)?;
     }
     Ok(())
 }

@@ -336,15 +336,20 @@ impl World {
     }
 
     /// Lets a party act that follows a strategy: it asks, and makes the call that is answered.
-    fn ask<K: Strategies>(&mut self, kit: &K, p: PartyId, swept: &[bool]) -> Result<Told, NoMemory>
+    fn ask<A: Strategies>(
+        &mut self,
+        staff: &A,
+        p: PartyId,
+        swept: &[bool],
+    ) -> Result<Told, NoMemory>
         requires party { p < self.old.deal.graph.n }
         requires asks { asks (cast_at self.old) p ≡ true }
         requires goes_on { self.old.stopped ≡ false }
-        requires kit { AreHeld (K.holds kit.now) self.old.roles }
-        ensures ok { OnOk result (HasGone (K.gives kit.now) (λ c s. step_on (swept_in swept.now) c s (Event.Act p)) self.old self.new) }
+        requires held { AreHeld (A.holds staff.now) self.old.roles }
+        ensures ok { OnOk result (HasGone (A.gives staff.now) (λ c s. step_on (swept_in swept.now) c s (Event.Act p)) self.old self.new) }
         ensures told { IfOk result (λ r. (g : Answers) → Continues self.new g
             → r ≡ told_in (swept_in swept.now) (cast_for self.old g) self.old.state (Event.Act p)) }
-        ensures cut { OnErr result (IsCutOn (K.gives kit.now) (swept_in swept.now) (Event.Act p) self.old self.new) }
+        ensures cut { OnErr result (IsCutOn (A.gives staff.now) (swept_in swept.now) (Event.Act p) self.old self.new) }
     {
         let Role::Strategy(name) = &self.roles.as_slice()[p as usize] else {
             unreachable!();
@@ -354,7 +359,7 @@ impl World {
         };
         let askers = self.askers.and(&p);
         let told = self.told.and(planner);
-        let answer = planner.ask(kit, name, &self.deal, p)?;
+        let answer = planner.ask(staff, name, &self.deal, p)?;
         self.askers = askers;
         self.told = told;
         self.answers = self.answers.and(&answer);
@@ -364,17 +369,22 @@ impl World {
     }
 
     /// Lets a party act.
-    fn act<K: Strategies>(&mut self, kit: &K, p: PartyId, swept: &[bool]) -> Result<Told, NoMemory>
+    fn act<A: Strategies>(
+        &mut self,
+        staff: &A,
+        p: PartyId,
+        swept: &[bool],
+    ) -> Result<Told, NoMemory>
         requires party { p < self.old.deal.graph.n }
         requires goes_on { self.old.stopped ≡ false }
-        requires kit { AreHeld (K.holds kit.now) self.old.roles }
-        ensures ok { OnOk result (HasGone (K.gives kit.now) (λ c s. step_on (swept_in swept.now) c s (Event.Act p)) self.old self.new) }
+        requires held { AreHeld (A.holds staff.now) self.old.roles }
+        ensures ok { OnOk result (HasGone (A.gives staff.now) (λ c s. step_on (swept_in swept.now) c s (Event.Act p)) self.old self.new) }
         ensures told { IfOk result (λ r. (g : Answers) → Continues self.new g
             → r ≡ told_in (swept_in swept.now) (cast_for self.old g) self.old.state (Event.Act p)) }
-        ensures cut { OnErr result (IsCutOn (K.gives kit.now) (swept_in swept.now) (Event.Act p) self.old self.new) }
+        ensures cut { OnErr result (IsCutOn (A.gives staff.now) (swept_in swept.now) (Event.Act p) self.old self.new) }
     {
         if self.asks(p) {
-            return self.ask(kit, p, swept);
+            return self.ask(staff, p, swept);
         }
         self.act_alone(p, swept)
     }
@@ -456,19 +466,19 @@ impl World {
     }
 
     /// Lets an event happen.
-    fn happen<K: Strategies>(
+    fn happen<A: Strategies>(
         &mut self,
-        kit: &K,
+        staff: &A,
         event: &Event,
         swept: &[bool],
     ) -> Result<Told, NoMemory>
         requires event { CanStep self.old.deal self.old.conforming self.old.seeds event.now }
         requires goes_on { self.old.stopped ≡ false }
-        requires kit { AreHeld (K.holds kit.now) self.old.roles }
-        ensures ok { OnOk result (HasGone (K.gives kit.now) (λ c s. step_on (swept_in swept.now) c s event.now) self.old self.new) }
+        requires held { AreHeld (A.holds staff.now) self.old.roles }
+        ensures ok { OnOk result (HasGone (A.gives staff.now) (λ c s. step_on (swept_in swept.now) c s event.now) self.old self.new) }
         ensures told { IfOk result (λ r. (g : Answers) → Continues self.new g
             → r ≡ told_in (swept_in swept.now) (cast_for self.old g) self.old.state event.now) }
-        ensures cut { OnErr result (IsCutOn (K.gives kit.now) (swept_in swept.now) event.now self.old self.new) }
+        ensures cut { OnErr result (IsCutOn (A.gives staff.now) (swept_in swept.now) event.now self.old self.new) }
     {
         match event {
             Event::Tick(arc, k) => {
@@ -479,7 +489,7 @@ impl World {
                 self.look(*p, *arc)?;
                 Ok(Told::Nothing)
             }
-            Event::Act(p) => self.act(kit, *p, swept),
+            Event::Act(p) => self.act(staff, *p, swept),
             Event::Call(sender, mv) => self.make(*sender, mv, swept),
             Event::Crash(p, k, image) => {
                 self.crash(*p, *k, *image)?;
@@ -489,22 +499,22 @@ impl World {
     }
 
     /// Takes an event, where memory never ran out.
-    fn take<K: Strategies>(
+    fn take<A: Strategies>(
         &mut self,
-        kit: &K,
+        staff: &A,
         event: &Event,
         swept: &[bool],
     ) -> Result<Told, NoMemory>
         requires event { CanStep self.old.deal self.old.conforming self.old.seeds event.now }
         requires goes_on { self.old.stopped ≡ false }
-        requires kit { AreHeld (K.holds kit.now) self.old.roles }
-        ensures ok { OnOk result (HasGone (K.gives kit.now) (λ c s. step_on (swept_in swept.now) c s event.now) self.old self.new) }
+        requires held { AreHeld (A.holds staff.now) self.old.roles }
+        ensures ok { OnOk result (HasGone (A.gives staff.now) (λ c s. step_on (swept_in swept.now) c s event.now) self.old self.new) }
         ensures told { IfOk result (λ r. (g : Answers) → Continues self.new g
             → r ≡ told_in (swept_in swept.now) (cast_for self.old g) self.old.state event.now) }
         ensures err { OnErr result (self.new.stopped ≡ true) }
-        ensures cut { OnErr result (IsCutOn (K.gives kit.now) (swept_in swept.now) event.now self.old self.new) }
+        ensures cut { OnErr result (IsCutOn (A.gives staff.now) (swept_in swept.now) event.now self.old self.new) }
     {
-        match self.happen(kit, event, swept) {
+        match self.happen(staff, event, swept) {
             Ok(told) => Ok(told),
             Err(NoMemory) => {
                 self.stopped = true;
@@ -549,19 +559,19 @@ impl World {
 
     /// Takes one event, where some slots may be swept (an empty list: none is), and answers what its party is told of its call. After want of memory
     /// the histories are those before the event or after it, and every later step wants memory too.
-    pub fn step_on<K: Strategies>(
+    pub fn step_on<A: Strategies>(
         &mut self,
-        kit: &K,
+        staff: &A,
         event: &Event,
         swept: &[bool],
     ) -> Result<Told, NoMemory>
         requires event { CanStep self.old.deal self.old.conforming self.old.seeds event.now }
-        requires kit { AreHeld (K.holds kit.now) self.old.roles }
-        ensures ok { OnOk result (HasGone (K.gives kit.now) (λ c s. step_on (swept_in swept.now) c s event.now) self.old self.new) }
+        requires held { AreHeld (A.holds staff.now) self.old.roles }
+        ensures ok { OnOk result (HasGone (A.gives staff.now) (λ c s. step_on (swept_in swept.now) c s event.now) self.old self.new) }
         ensures told { IfOk result (λ r. (g : Answers) → Continues self.new g
             → r ≡ told_in (swept_in swept.now) (cast_for self.old g) self.old.state event.now) }
         ensures err { OnErr result (self.new.stopped ≡ true) }
-        ensures cut { OnErr result (IsCutOn (K.gives kit.now) (swept_in swept.now) event.now self.old self.new) }
+        ensures cut { OnErr result (IsCutOn (A.gives staff.now) (swept_in swept.now) event.now self.old self.new) }
         ensures stopped { IsTrue self.old.stopped → IsErr result × (self.new.state.book ≡ self.old.state.book) }
         // Whatever the others do, and whether memory ran out or not, every conforming party has kept its conduct.
         ensures kept { IsKept (cast_at self.new) self.new.state.book }
@@ -569,33 +579,33 @@ impl World {
         if self.stopped {
             return Err(NoMemory);
         }
-        self.take(kit, event, swept)
+        self.take(staff, event, swept)
     }
 
-    /// Takes one event, where the kit answers for strategies. After want of memory the histories are those before the event or after it, and
+    /// Takes one event, where the staff answers for strategies. After want of memory the histories are those before the event or after it, and
     /// every later step wants memory too.
-    pub fn step<K: Strategies>(&mut self, kit: &K, event: &Event) -> Result<(), NoMemory>
+    pub fn step<A: Strategies>(&mut self, staff: &A, event: &Event) -> Result<(), NoMemory>
         requires event { CanStep self.old.deal self.old.conforming self.old.seeds event.now }
-        requires kit { AreHeld (K.holds kit.now) self.old.roles }
-        ensures ok { OnOk result (HasGone (K.gives kit.now) (λ c s. step c s event.now) self.old self.new) }
+        requires held { AreHeld (A.holds staff.now) self.old.roles }
+        ensures ok { OnOk result (HasGone (A.gives staff.now) (λ c s. step c s event.now) self.old self.new) }
         ensures err { OnErr result (self.new.stopped ≡ true) }
-        ensures cut { OnErr result (IsCut (K.gives kit.now) event.now self.old self.new) }
+        ensures cut { OnErr result (IsCut (A.gives staff.now) event.now self.old self.new) }
         ensures stopped { IsTrue self.old.stopped → IsErr result × (self.new.state.book ≡ self.old.state.book) }
         // Whatever the others do, and whether memory ran out or not, every conforming party has kept its conduct.
         ensures kept { IsKept (cast_at self.new) self.new.state.book }
     {
-        match self.step_on(kit, event, &[]) {
+        match self.step_on(staff, event, &[]) {
             Ok(_) => Ok(()),
             Err(NoMemory) => Err(NoMemory),
         }
     }
 
     /// Takes events in their order. After want of memory every later step wants memory too.
-    pub fn run<K: Strategies>(&mut self, kit: &K, events: &[Event]) -> Result<(), NoMemory>
+    pub fn run<A: Strategies>(&mut self, staff: &A, events: &[Event]) -> Result<(), NoMemory>
         requires events { All (CanStep self.old.deal self.old.conforming self.old.seeds) events.now }
-        requires kit { AreHeld (K.holds kit.now) self.old.roles }
-        ensures ok { OnOk result (HasGone (K.gives kit.now) (λ c s. run_from c s events.now) self.old self.new) }
-        ensures err { OnErr result (IsStopped (K.gives kit.now) (λ c s. events.now) self.old self.new) }
+        requires held { AreHeld (A.holds staff.now) self.old.roles }
+        ensures ok { OnOk result (HasGone (A.gives staff.now) (λ c s. run_from c s events.now) self.old self.new) }
+        ensures err { OnErr result (IsStopped (A.gives staff.now) (λ c s. events.now) self.old self.new) }
         ensures prefix { OnErr result (IsAfterSome events.now self.old self.new) }
         ensures stopped { IsTrue self.old.stopped → IsErr result × (self.new.state.book ≡ self.old.state.book) }
         ensures kept { IsKept (cast_at self.new) self.new.state.book }
@@ -603,27 +613,27 @@ impl World {
         if self.stopped {
             return Err(NoMemory);
         }
-        many::run(self, kit, events)
+        many::run(self, staff, events)
     }
 
     /// The fair finish: rounds until each ledger is above the horizon. In a round each party in its order looks at each arc that touches it and acts:
     /// until nothing is due where it conforms, else once. Then each ledger that isn't above the horizon ticks by one height. After want of memory every
     /// later step wants memory too.
-    pub fn finish_fair<K: Strategies>(&mut self, kit: &K) -> Result<(), NoMemory>
-        requires kit { AreHeld (K.holds kit.now) self.old.roles }
-        ensures ok { OnOk result (HasGone (K.gives kit.now) finish self.old self.new) }
+    pub fn finish_fair<A: Strategies>(&mut self, staff: &A) -> Result<(), NoMemory>
+        requires held { AreHeld (A.holds staff.now) self.old.roles }
+        ensures ok { OnOk result (HasGone (A.gives staff.now) finish self.old self.new) }
         ensures ended { OnOk result (IsEnded self.old.deal self.new.state.book) }
         // Where every party conforms and nothing came before, everything moves.
         ensures dealt { OnOk result (AllConform self.old → self.old.state ≡ start (cast_at self.old)
             → IsDealt self.old.deal (conforms (cast_at self.old)) self.new.state.book) }
-        ensures err { OnErr result (IsStopped (K.gives kit.now) finish_steps self.old self.new) }
+        ensures err { OnErr result (IsStopped (A.gives staff.now) finish_steps self.old self.new) }
         ensures stopped { IsTrue self.old.stopped → IsErr result × (self.new.state.book ≡ self.old.state.book) }
         ensures kept { IsKept (cast_at self.new) self.new.state.book }
     {
         if self.stopped {
             return Err(NoMemory);
         }
-        fair::finish(self, kit)
+        fair::finish(self, staff)
     }
 
     /// The deal.

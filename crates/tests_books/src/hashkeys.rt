@@ -4,7 +4,6 @@ ghost use Rattle.std.specs.Prelude.{IfOk};
 ghost use Rattle.swap_digraph.specs.Deal.{IsWellSized};
 
 use crate::{jobs, rings};
-use deviators::Kit;
 use hash_signature::{Sig, keygen};
 use hashkey_path::{Hashkey, HashkeyAnswer, check, deal_digest, extend, first};
 use hex::FromHex;
@@ -22,7 +21,7 @@ const SECRET: Digest = [9; 32];
 fn prepared(alloc: Global, header: &str) -> Result<Prepared, HeaderFault>
     ensures { IfOk result (λ p. IsWellSized p.job.deal) }
 {
-    read_header(alloc, 1, header.as_bytes(), Purpose::Run, &Kit::new(alloc))
+    read_header(alloc, 1, header.as_bytes(), Purpose::Run, &[])
 }
 
 /// The deal of an offer.

@@ -5,7 +5,6 @@ ghost use Rattle.swap_job.specs.Step.{IsEventOf};
 ghost use Rattle.ledger_core.specs.Book.{IsLegalBook};
 ghost use Rattle.offer_events.specs.Event.{needs_seeds};
 ghost use Rattle.offer_header.specs.Limits.{HoldsEach};
-ghost use Rattle.offer_header.specs.Names.{has_strategy};
 ghost use Rattle.party_wallet.specs.Wallets.{wallets_of};
 ghost use Rattle.swap_digraph.specs.Deal.{IsWellSized};
 ghost use Rattle.swap_offer.specs.Job.{IsWholeJob};
@@ -13,8 +12,8 @@ ghost use Rattle.swap_offer.specs.Wallets.{HaveScripts, HaveWallets};
 ghost use Rattle.swap_rules.specs.Accepted.{IsAccepted};
 
 use crate::jobs;
-use deviators::Kit;
-use ledger_core::{Book, Scan};
+use deviators::{Kit, Strategies};
+use ledger_core::Book;
 use outcome_rules::{findings, report_of, unfinished};
 use party_wallet::Wallet;
 use report_text::report_text;
@@ -44,15 +43,6 @@ fn count_findings(alloc: Global, job: &Job, book: &Book) -> Result<usize, Fail>
     Ok(list.len())
 }
 
-fn reserve(rt: &impl Abort, alloc: Global, deal: &Deal) -> Result<(), Fail>
-    requires { IsWellSized deal.now }
-{
-    assert!(rt; !deal.graph.arcs().is_empty());
-    let mut scan = Scan::new(alloc, deal, 0);
-    scan.reserve(3)?;
-    Ok(())
-}
-
 /// Whether the report's text ends so.
 fn has_end(rt: &impl Abort, alloc: Global, job: &Job, book: &Book, end: &[u8]) -> Result<bool, Fail>
     requires sized { IsWellSized job.now.deal }
@@ -68,7 +58,7 @@ fn has_end(rt: &impl Abort, alloc: Global, job: &Job, book: &Book, end: &[u8]) -
     )
 }
 
-/// The first ledger has ticked: no ledger has ended, and nothing else is found. A scan takes room.
+/// The first ledger has ticked: no ledger has ended, and nothing else is found.
 fn tells_of_little(rt: &impl Abort, alloc: Global, job: &Job, book: &Book) -> Result<(), Fail>
     requires sized { IsWellSized job.now.deal }
     requires legal { IsLegalBook job.now.deal book.now.histories }
@@ -85,14 +75,14 @@ fn tells_of_little(rt: &impl Abort, alloc: Global, job: &Job, book: &Book) -> Re
             b"\nunfinished 0 height 2\nunfinished 1 height 0\nunfinished 2 height 0\nfindings 3\n"
         )?
     );
-    reserve(rt, alloc, &job.deal)
+    Ok(())
 }
 
 /// The book of these events.
-fn played(
+fn played<A: Strategies>(
     alloc: Global,
     job: &Job,
-    kit: &Kit,
+    staff: &A,
     wallets: Vec<Option<Wallet>>,
     events: &[Event],
 ) -> Result<Book, Fail>
@@ -101,22 +91,22 @@ fn played(
     requires accepted { IsAccepted job.now.deal }
     requires wallets { HaveWallets job.now }
     requires scripts { HaveScripts job.now }
-    requires strategies { HoldsEach (has_strategy kit.now.names kit.now.strategies.items) job.now.roles }
+    requires strategies { HoldsEach (A.holds staff.now) job.now.roles }
     requires made { wallets.items ≡ wallets_of job.now.deal job.now.conforming job.now.seeds }
     requires events { All (IsEventOf job.now) events.now }
     ensures { IfOk result (λ b. IsLegalBook job.now.deal b.histories) }
 {
     let mut world = World::new(alloc, job, wallets)?;
-    world.run(kit, events)?;
+    world.run(staff, events)?;
     Ok(world.into_book(alloc)?)
 }
 
 /// Tells of the book after a tick.
-fn tells(
+fn tells<A: Strategies>(
     rt: &impl Abort,
     alloc: Global,
     job: &Job,
-    kit: &Kit,
+    staff: &A,
     wallets: Vec<Option<Wallet>>,
 ) -> Result<(), Fail>
     requires whole { IsWholeJob job.now }
@@ -124,25 +114,30 @@ fn tells(
     requires accepted { IsAccepted job.now.deal }
     requires wallets { HaveWallets job.now }
     requires scripts { HaveScripts job.now }
-    requires strategies { HoldsEach (has_strategy kit.now.names kit.now.strategies.items) job.now.roles }
+    requires strategies { HoldsEach (A.holds staff.now) job.now.roles }
     requires made { wallets.items ≡ wallets_of job.now.deal job.now.conforming job.now.seeds }
 {
     let events = [next_event(alloc, job, 0, 2, b"{\"tick\":0,\"by\":2}")?];
-    let book = played(alloc, job, kit, wallets, &events)?;
+    let book = played(alloc, job, staff, wallets, &events)?;
     tells_of_little(rt, alloc, job, &book)
+}
+
+/// Tells of the book of three parties, with whoever answers for strategies.
+fn tells_with<A: Strategies>(rt: &impl Abort, alloc: Global, staff: &A) -> Result<(), Fail> {
+    let strategies = staff.names()?;
+    let Prepared { job, wallets, .. } = read_header(
+        alloc,
+        1,
+        jobs::THREE.as_bytes(),
+        Purpose::Run,
+        strategies.as_slice(),
+    )?;
+    tells(rt, alloc, &job, staff, wallets)
 }
 
 #[test]
 fn a_book_is_told_without_the_program(rt: HostRuntime) -> Result<(), Fail> {
-    let kit = Kit::new(rt.alloc());
-    let Prepared { job, wallets, .. } = read_header(
-        rt.alloc(),
-        1,
-        jobs::THREE.as_bytes(),
-        Purpose::Run,
-        &kit,
-    )?;
-    tells(&rt, rt.alloc(), &job, &kit, wallets)
+    tells_with(&rt, rt.alloc(), &Kit::new(rt.alloc()))
 }
 
 /// How many parties the job of number 7 has, and how many events.

@@ -1,12 +1,11 @@
 //! What is asked of many swaps: what an event is replied, heights and free units, how long histories are.
 
 ghost use Rattle.std.specs.Prelude.{◌≡◌, ◌<◌, OnOk, length};
-ghost use Rattle.offer_header.specs.Names.{has_strategy};
 ghost use Rattle.tests_many.specs.Played.{CanComeIn, IsOf};
 
 use crate::cases::parted;
 use crate::events::event_of;
-use deviators::Kit;
+use deviators::Strategies;
 use ledger_core::Book;
 use std::alloc::{AllocError, Global};
 use std::test::Fail;
@@ -24,40 +23,40 @@ fn reply_told(alloc: Global, reply: Option<ManyReply>) -> Result<String, AllocEr
 }
 
 /// Takes an event so often, and answers the last reply.
-fn repeat(
-    kit: &Kit,
+fn repeat<A: Strategies>(
+    staff: &A,
     chains: &[Listed<u64>],
     jobs: &[Job],
     many: &mut ManyWorld,
     times: u32,
     event: &ManyEvent,
 ) -> Result<Option<ManyReply>, Fail>
-    requires of { IsOf (has_strategy kit.now.names kit.now.strategies.items) chains.now jobs.now many.old }
+    requires of { IsOf (A.holds staff.now) chains.now jobs.now many.old }
     requires event { CanComeIn chains.now jobs.now event.now }
-    ensures { OnOk result (IsOf (has_strategy kit.now.names kit.now.strategies.items) chains.now jobs.now many.new) }
+    ensures { OnOk result (IsOf (A.holds staff.now) chains.now jobs.now many.new) }
 {
     let mut last = None;
     'times: for _time in 0..times {
-        last = many.step(kit, event)?;
+        last = many.step(staff, event)?;
     }
     Ok(last)
 }
 
 /// Takes the event that words stand for so often, and tells the last reply.
-fn take(
+fn take<A: Strategies>(
     alloc: Global,
-    kit: &Kit,
+    staff: &A,
     chains: &[Listed<u64>],
     jobs: &[Job],
     many: &mut ManyWorld,
     times: u32,
     words: &str,
 ) -> Result<String, Fail>
-    requires { IsOf (has_strategy kit.now.names kit.now.strategies.items) chains.now jobs.now many.old }
-    ensures { OnOk result (IsOf (has_strategy kit.now.names kit.now.strategies.items) chains.now jobs.now many.new) }
+    requires { IsOf (A.holds staff.now) chains.now jobs.now many.old }
+    ensures { OnOk result (IsOf (A.holds staff.now) chains.now jobs.now many.new) }
 {
     let event = event_of(alloc, chains, jobs, words)?;
-    let last = repeat(kit, chains, jobs, many, times, &event)?;
+    let last = repeat(staff, chains, jobs, many, times, &event)?;
     Ok(reply_told(alloc, last)?)
 }
 
@@ -128,40 +127,40 @@ fn book_told(alloc: Global, many: &ManyWorld, word: &str) -> Result<String, Fail
 }
 
 /// The fair finish.
-fn finish(
+fn finish<A: Strategies>(
     alloc: Global,
-    kit: &Kit,
+    staff: &A,
     chains: &[Listed<u64>],
     jobs: &[Job],
     many: &mut ManyWorld,
 ) -> Result<String, Fail>
-    requires { IsOf (has_strategy kit.now.names kit.now.strategies.items) chains.now jobs.now many.old }
-    ensures { OnOk result (IsOf (has_strategy kit.now.names kit.now.strategies.items) chains.now jobs.now many.new) }
+    requires { IsOf (A.holds staff.now) chains.now jobs.now many.old }
+    ensures { OnOk result (IsOf (A.holds staff.now) chains.now jobs.now many.new) }
 {
-    many.finish_fair(kit)?;
+    many.finish_fair(staff)?;
     Ok(String::from_str(alloc, "done")?)
 }
 
 /// The answer to what is asked.
-pub(crate) fn answer_to(
+pub(crate) fn answer_to<A: Strategies>(
     alloc: Global,
-    kit: &Kit,
+    staff: &A,
     chains: &[Listed<u64>],
     jobs: &[Job],
     many: &mut ManyWorld,
     asked: &str,
 ) -> Result<String, Fail>
-    requires of { IsOf (has_strategy kit.now.names kit.now.strategies.items) chains.now jobs.now many.old }
-    ensures { OnOk result (IsOf (has_strategy kit.now.names kit.now.strategies.items) chains.now jobs.now many.new) }
+    requires of { IsOf (A.holds staff.now) chains.now jobs.now many.old }
+    ensures { OnOk result (IsOf (A.holds staff.now) chains.now jobs.now many.new) }
 {
     let (first, rest) = parted(asked, " ");
     match first {
-        "fair" => finish(alloc, kit, chains, jobs, many),
+        "fair" => finish(alloc, staff, chains, jobs, many),
         "units" => Ok(units_told(alloc, chains, many)?),
         "book" => book_told(alloc, many, rest),
         _ => {
             let (times, words) = times_of(asked);
-            take(alloc, kit, chains, jobs, many, times, words)
+            take(alloc, staff, chains, jobs, many, times, words)
         }
     }
 }

@@ -1,13 +1,12 @@
 //! Cases of a table: how many swaps begin, and what is then answered to each line.
 
 ghost use Rattle.std.specs.Prelude.{◌≡◌, ◌≤◌, OnOk, All, length};
-ghost use Rattle.offer_header.specs.Names.{has_strategy};
 ghost use Rattle.tests_many.specs.Played.{AreBegun, IsChain, IsOf};
 
 use crate::asking::answer_to;
 use crate::deals;
 use crate::opening::{Swaps, add_chains, add_swap};
-use deviators::Kit;
+use deviators::{Kit, Strategies};
 use std::alloc::{AllocError, Global};
 use std::test::Fail;
 use swap_base::{Fault, Listed};
@@ -28,35 +27,35 @@ fn is_told(row: &str, answer: &str, wanted: &str) -> Result<(), Fail> {
 }
 
 /// Asks what a row asks, and compares the answer.
-fn ask(
+fn ask<A: Strategies>(
     alloc: Global,
-    kit: &Kit,
+    staff: &A,
     chains: &[Listed<u64>],
     jobs: &[Job],
     many: &mut ManyWorld,
     row: &str,
 ) -> Result<(), Fail>
-    requires { IsOf (has_strategy kit.now.names kit.now.strategies.items) chains.now jobs.now many.old }
-    ensures { OnOk result (IsOf (has_strategy kit.now.names kit.now.strategies.items) chains.now jobs.now many.new) }
+    requires { IsOf (A.holds staff.now) chains.now jobs.now many.old }
+    ensures { OnOk result (IsOf (A.holds staff.now) chains.now jobs.now many.new) }
 {
     let (asked, wanted) = parted(row, " => ");
-    let answer = answer_to(alloc, kit, chains, jobs, many, asked)?;
+    let answer = answer_to(alloc, staff, chains, jobs, many, asked)?;
     is_told(row, answer.as_str(), wanted)
 }
 
 /// Asks each row.
-fn follow(
+fn follow<A: Strategies>(
     alloc: Global,
-    kit: &Kit,
+    staff: &A,
     chains: &[Listed<u64>],
     jobs: &[Job],
     many: &mut ManyWorld,
     rows: &str,
 ) -> Result<(), Fail>
-    requires { IsOf (has_strategy kit.now.names kit.now.strategies.items) chains.now jobs.now many.old }
+    requires { IsOf (A.holds staff.now) chains.now jobs.now many.old }
 {
     'rows: for row in rows.lines() {
-        ask(alloc, kit, chains, jobs, many, row)?;
+        ask(alloc, staff, chains, jobs, many, row)?;
     }
     Ok(())
 }
@@ -81,16 +80,16 @@ fn fault_told(alloc: Global, fault: ManyFault, wanted: &str) -> Result<(), Fail>
 }
 
 /// Begins, and asks the rows; where the swaps don't begin, the rows are to say why.
-fn begin(
+fn begin<A: Strategies>(
     alloc: Global,
-    kit: &Kit,
+    staff: &A,
     chains: &[Listed<u64>],
     swaps: Swaps,
     rows: &str,
 ) -> Result<(), Fail>
     requires chains { All IsChain chains.now }
     requires few { length chains.now ≤ 32 }
-    requires begun { AreBegun (has_strategy kit.now.names kit.now.strategies.items) chains.now
+    requires begun { AreBegun (A.holds staff.now) chains.now
         swaps.jobs.items swaps.worlds.items swaps.places.items }
 {
     let Swaps {
@@ -99,7 +98,7 @@ fn begin(
         places,
     } = swaps;
     match ManyWorld::new(alloc, chains, worlds, Listed::new(places)) {
-        Ok(mut many) => follow(alloc, kit, chains, &jobs, &mut many, rows),
+        Ok(mut many) => follow(alloc, staff, chains, &jobs, &mut many, rows),
         Err(fault) => fault_told(alloc, fault, rows),
     }
 }
@@ -113,30 +112,30 @@ fn first_header(alloc: Global, parties: &str) -> Result<String, AllocError> {
 }
 
 /// Adds both swaps, whose places are parted by ` / ` unless they are the same.
-fn add_both(
+fn add_both<A: Strategies>(
     alloc: Global,
-    kit: &Kit,
+    staff: &A,
     chains: &[Listed<u64>],
     parties: &str,
     places: &str,
     swaps: &mut Swaps,
 ) -> Result<(), Fail>
     requires none { length swaps.old.jobs.items ≡ 0 }
-    requires begun { AreBegun (has_strategy kit.now.names kit.now.strategies.items) chains.now
+    requires begun { AreBegun (A.holds staff.now) chains.now
         swaps.old.jobs.items swaps.old.worlds.items swaps.old.places.items }
-    ensures { OnOk result (AreBegun (has_strategy kit.now.names kit.now.strategies.items) chains.now
+    ensures { OnOk result (AreBegun (A.holds staff.now) chains.now
         swaps.new.jobs.items swaps.new.worlds.items swaps.new.places.items) }
 {
     let (first, second) = places.split_once(" / ").unwrap_or((places, places));
     let header = first_header(alloc, parties)?;
-    add_swap(alloc, kit, chains, header.as_str(), first, swaps)?;
-    add_swap(alloc, kit, chains, deals::SECOND, second, swaps)
+    add_swap(alloc, staff, chains, header.as_str(), first, swaps)?;
+    add_swap(alloc, staff, chains, deals::SECOND, second, swaps)
 }
 
 /// Reads both swaps, begins, and asks the rows.
-fn with_swaps(
+fn with_swaps<A: Strategies>(
     alloc: Global,
-    kit: &Kit,
+    staff: &A,
     chains: &[Listed<u64>],
     parties: &str,
     places: &str,
@@ -150,8 +149,8 @@ fn with_swaps(
         worlds: Vec::new(alloc),
         places: Vec::new(alloc),
     };
-    add_both(alloc, kit, chains, parties, places, &mut swaps)?;
-    begin(alloc, kit, chains, swaps, rows)
+    add_both(alloc, staff, chains, parties, places, &mut swaps)?;
+    begin(alloc, staff, chains, swaps, rows)
 }
 
 /// One case: `PARTIES; CHAINS; PLACES`, and then rows `ASKED => ANSWER`.

@@ -1,7 +1,6 @@
 //! Chains, places and swaps from words.
 
 ghost use Rattle.std.specs.Prelude.{◌≡◌, ◌≤◌, ◌<◌, ◌+◌, ◌++◌, ◌∷◌, ◌^◌, [], true, IfOk, OnOk, All, length};
-ghost use Rattle.offer_header.specs.Names.{has_strategy};
 ghost use Rattle.party_wallet.specs.Wallets.{wallets_of};
 ghost use Rattle.swap_offer.specs.Job.{IsWholeJob};
 ghost use Rattle.swap_offer.specs.Wallets.{HaveScripts, HaveWallets};
@@ -11,7 +10,7 @@ ghost use Rattle.swap_many.specs.Opening.{IsPlaceOn};
 ghost use Rattle.tests_many.specs.Played.{AreBegun, IsChain};
 
 use crate::cases::parted;
-use deviators::Kit;
+use deviators::Strategies;
 use party_wallet::Wallet;
 use std::alloc::Global;
 use std::test::Fail;
@@ -146,27 +145,28 @@ fn add(swaps: &mut Swaps, job: Job, world: World, places: Listed<Place>) -> Resu
 }
 
 /// Adds the swap of a header, whose arcs stand at these places.
-pub(crate) fn add_swap(
+pub(crate) fn add_swap<A: Strategies>(
     alloc: Global,
-    kit: &Kit,
+    staff: &A,
     chains: &[Listed<u64>],
     header: &str,
     places: &str,
     swaps: &mut Swaps,
 ) -> Result<(), Fail>
     requires few { length swaps.old.jobs.items < 8 }
-    requires begun { AreBegun (has_strategy kit.now.names kit.now.strategies.items) chains.now
+    requires begun { AreBegun (A.holds staff.now) chains.now
         swaps.old.jobs.items swaps.old.worlds.items swaps.old.places.items }
-    ensures begun { OnOk result (AreBegun (has_strategy kit.now.names kit.now.strategies.items) chains.now
+    ensures begun { OnOk result (AreBegun (A.holds staff.now) chains.now
         swaps.new.jobs.items swaps.new.worlds.items swaps.new.places.items) }
     ensures count { OnOk result (length swaps.new.jobs.items ≡ length swaps.old.jobs.items + 1) }
 {
+    let strategies = staff.names()?;
     let Prepared { job, wallets, .. } = read_header(
         alloc,
         1,
         header.as_bytes(),
         Purpose::Run,
-        kit,
+        strategies.as_slice(),
     )?;
     let places = places_of(alloc, chains, places, job.deal.graph.arcs().len())?;
     let world = world_of(alloc, &job, wallets)?;

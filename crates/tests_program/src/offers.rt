@@ -1,7 +1,6 @@
 //! Whole offers, read at once.
 
 use crate::deals::TIMELOCKS;
-use deviators::Kit;
 use refusals::Refusal;
 use std::alloc::Global;
 use std::test::Fail;
@@ -19,18 +18,18 @@ fn counts_of(read: &Result<(Job, Vec<Event>), Fault<Refusal>>) -> (usize, Option
 }
 
 /// The same of a text, which isn't too long.
-fn counts(alloc: Global, text: &str, kit: &Kit) -> (usize, Option<usize>) {
+fn counts(alloc: Global, text: &str) -> (usize, Option<usize>) {
     if text.len() >= 1_000_000 {
         return (0, None);
     }
-    let read = read_job(alloc, text.as_bytes(), Purpose::Run, kit);
+    let read = read_job(alloc, text.as_bytes(), Purpose::Run, &[]);
     counts_of(&read)
 }
 
 /// Of the deal with such lines behind it.
 fn counts_with(alloc: Global, lines: &str) -> Result<(usize, Option<usize>), Fail> {
     let text = format!(in alloc; "{TIMELOCKS}{lines}")?;
-    Ok(counts(alloc, text.as_str(), &Kit::new(alloc)))
+    Ok(counts(alloc, text.as_str()))
 }
 
 #[test]

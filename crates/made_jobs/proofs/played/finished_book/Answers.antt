@@ -4,7 +4,7 @@ use Rattle.made_jobs.proofs.Playing.{finished_book, finished_ended, finished_kep
 use Rattle.made_jobs.proofs.played.finished_book.Goals as goal
 
 pub finish_fair-requires : goal.finish_fair-requires
-finish_fair-requires g c = record { kit = unasked_are_held _ c.args.world.roles c.requires }
+finish_fair-requires g c = record { held = unasked_are_held _ c.args.world.roles c.requires }
 
 pub returns-clause-book : goal.returns-clause-book
 returns-clause-book g c =

@@ -14,7 +14,7 @@ step-requires g c =
     record {
       event = can_step seed n c.events.generator c.events.world c.next_event-event.result i.at.seed_is i.at.parties_are i.is_of
           c.next_event-event.ensures.fits;
-      kit = unasked_are_held _ c.events.world.roles (unasked_in seed n c.events.world i.is_of);
+      held = unasked_are_held _ c.events.world.roles (unasked_in seed n c.events.world i.is_of);
     }
 
 pub events-preserved : goal.events-preserved

@@ -3,36 +3,36 @@ use Rattle.offer_header.proofs.Fitting.{read_so}
 use Rattle.offer_header.proofs.header.header_in.Goals as goal
 
 pub returns-clause-purpose : goal.returns-clause-purpose
-returns-clause-purpose g c =
+returns-clause-purpose c =
     read_so _ c.args.purpose c.args.line (view c.in_ok-object.object) c.in_ok-raw.raw c.header_by.result _ c.in_ok-raw.ensures c.header_by.ensures
     (λ h k. k.purpose_is)
 
 pub returns-clause-within : goal.returns-clause-within
-returns-clause-within g c =
+returns-clause-within c =
     read_so _ c.args.purpose c.args.line (view c.in_ok-object.object) c.in_ok-raw.raw c.header_by.result _ c.in_ok-raw.ensures c.header_by.ensures
     (λ h k. k.within)
 
 pub returns-clause-untold : goal.returns-clause-untold
-returns-clause-untold g c =
+returns-clause-untold c =
     read_so _ c.args.purpose c.args.line (view c.in_ok-object.object) c.in_ok-raw.raw c.header_by.result _ c.in_ok-raw.ensures c.header_by.ensures
     (λ h k. k.untold)
 
 pub returns-clause-simple : goal.returns-clause-simple
-returns-clause-simple g c =
+returns-clause-simple c =
     read_so _ c.args.purpose c.args.line (view c.in_ok-object.object) c.in_ok-raw.raw c.header_by.result _ c.in_ok-raw.ensures c.header_by.ensures
     (λ h k. k.simple)
 
 pub returns-clause-strategies : goal.returns-clause-strategies
-returns-clause-strategies g c =
+returns-clause-strategies c =
     read_so _ c.args.purpose c.args.line (view c.in_ok-object.object) c.in_ok-raw.raw c.header_by.result _ c.in_ok-raw.ensures c.header_by.ensures
     (λ h k. k.strategies)
 
 pub returns-clause-placed : goal.returns-clause-placed
-returns-clause-placed g c =
+returns-clause-placed c =
     read_so _ c.args.purpose c.args.line (view c.in_ok-object.object) c.in_ok-raw.raw c.header_by.result _ c.in_ok-raw.ensures c.header_by.ensures
     (λ h k. k.placed)
 
 pub returns-clause-made : goal.returns-clause-made
-returns-clause-made g c =
+returns-clause-made c =
     read_so _ c.args.purpose c.args.line (view c.in_ok-object.object) c.in_ok-raw.raw c.header_by.result _ c.in_ok-raw.ensures c.header_by.ensures
     (λ h k. k.made)

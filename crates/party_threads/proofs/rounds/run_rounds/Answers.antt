@@ -10,7 +10,7 @@ pub rounds-init : goal.rounds-init
 rounds-init g c = record {
   stands = c.requires.stands;
   raced =
-      no_rounds (g.K.Strategies.gives c.args.kit.now) (cast_of c.args.job.now) c.args.ticks 0 (state_of c.args.job.now c.args.ledgers.now c.args.turns.now)
+      no_rounds (g.A.Strategies.gives c.args.staff.now) (cast_of c.args.job.now) c.args.ticks 0 (state_of c.args.job.now c.args.ledgers.now c.args.turns.now)
       refl c.requires.first;
 }
 
@@ -20,7 +20,7 @@ rounds_for-number-end-requires-clause-sized g c = accepted_is_well_sized c.args.
 pub round-requires-clause-room : goal.round-requires-clause-room
 round-requires-clause-room g c = λ κs lives.
     let l : c.rounds.number < rounds_for c.args.job.now.deal c.args.ticks = rw (← c.rounds_for-number-end.ensures) c.rounds-test.true in
-    room_left (g.K.Strategies.gives c.args.kit.now) (cast_of c.args.job.now) c.args.ticks c.rounds.number
+    room_left (g.A.Strategies.gives c.args.staff.now) (cast_of c.args.job.now) c.args.ticks c.rounds.number
     (state_of c.args.job.now c.rounds.ledgers c.rounds.turns)
     c.rounds.invariant.stands.cast c.requires.some c.requires.below l c.rounds.invariant.raced
 
@@ -28,7 +28,7 @@ pub rounds-preserved : goal.rounds-preserved
 rounds-preserved g c = record {
   stands = c.in_ok-round.ensures.stands;
   raced =
-      one_round_more (g.K.Strategies.gives c.args.kit.now) (cast_of c.args.job.now) c.args.ticks c.rounds.number
+      one_round_more (g.A.Strategies.gives c.args.staff.now) (cast_of c.args.job.now) c.args.ticks c.rounds.number
       (state_of c.args.job.now c.rounds.ledgers c.rounds.turns)
       (state_of c.args.job.now c.round.new.ledgers c.round.new.turns) c.rounds.invariant.raced c.in_ok-round.ensures.round;
 }

@@ -6,5 +6,5 @@ use Rattle.party_threads.proofs.rounds.run_rounds.Given as goal
 abbrev pub invariant-rounds : goal.invariant-rounds
 invariant-rounds g l = record {
   stands : Stands l.job l.ledgers l.turns;
-  raced : IsRaced (g.K.Strategies.gives l.kit) (cast_of l.job) l.ticks l.number (state_of l.job l.ledgers l.turns);
+  raced : IsRaced (g.A.Strategies.gives l.staff) (cast_of l.job) l.ticks l.number (state_of l.job l.ledgers l.turns);
 }

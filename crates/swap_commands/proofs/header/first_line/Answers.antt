@@ -1,47 +1,40 @@
-use Rattle.std.proofs.Common.{[], arith, refl}
+use Rattle.std.proofs.Common.{◌≡◌, ◌∙◌, ℕ, Bool, List, Ok, IfErr, IfOk, ap, arith, subst}
 use Rattle.std.proofs.lemmas.Result.{err_from_is_err_and}
-use Rattle.swap_io.proofs.Feeds.{took_none}
-use Rattle.command_input.specs.Input.{fresh}
+use Rattle.offer_header.specs.Limits.{HoldsEach}
+use Rattle.offer_header.specs.Names.{has_strategy}
+use Rattle.offer_header.proofs.Strategies.{same_strategies}
+use Rattle.swap_offer.specs.Job.{job_header_of, names_at}
+use Rattle.command_input.specs.Input.{Stops, fresh}
+use Rattle.command_input.proofs.Ahead.{no_part}
 use Rattle.swap_commands.specs.Says.{IsAgainst}
 use Rattle.swap_commands.specs.Words.{OfJob}
-use Rattle.swap_commands.proofs.Reading.{empty_stops, header_stops}
-use Rattle.command_input.proofs.Streams.{calm_line, line_stops}
 use Rattle.swap_commands.proofs.header.first_line.Goals as goal
 
-pub next-requires : goal.next-requires
-next-requires g c = rw c.requires (record { ended = λ over. absurd (cc over) })
-
-pub returns-in_err-next-clause-stops : goal.returns-in_err-next-clause-stops
-returns-in_err-next-clause-stops g c = λ command asked.
-    let left = g.S.Source.left in
-    let faults = g.S.Source.faults in
-    let a = left c.args.source.now in
-    let n = faults c.args.source.now in
+pub returns-in_err-strategies-clause-stops : goal.returns-in_err-strategies-clause-stops
+returns-in_err-strategies-clause-stops g c = λ command asked.
     let p = err_from_is_err_and c.from_residual.result c.from_residual.ensures.1 in
-    rw (p.1, p.2)
-    (line_stops (IsAgainst _ (OfJob command)) a a (left c.next.new.source) n n (faults c.next.new.source) fresh fresh c.next.new.self
-    c.in_err-next.field-0.0 ([], took_none a fresh.reading fresh.reading refl refl) (omega arith) (rw c.requires at c.in_err-next.ensures.fails))
+    rw (p.1, p.2, c.requires) (no_part (g.S.Source.left c.args.source.now) fresh (omega arith))
 
-pub returns-then-not-branch-clause-stops : goal.returns-then-not-branch-clause-stops
-returns-then-not-branch-clause-stops g c = λ command asked.
-    let left = g.S.Source.left in
-    let faults = g.S.Source.faults in
-    empty_stops _ command c.in_ok-next.field-0 (left c.args.source.now) (left c.next.new.source) (faults c.args.source.now) (faults c.next.new.source)
-    c.args.input.now c.next.new.self c.no_line.result c.requires c.if-not-branch.true c.in_ok-next.ensures.gives c.in_ok-next.ensures.within
-    c.in_ok-next.ensures.ended c.no_line.ensures
+pub returns-clause-header : goal.returns-clause-header
+returns-clause-header g c =
+    subst (λ (has : List ℕ → Bool). IfOk c.first_among.result (λ p. job_header_of has c.args.purpose c.first_among.new.input.number
+    c.first_among.new.input.text ≡ Ok p.job))
+    (ap has_strategy c.as_slice.ensures ∙ same_strategies _ (g.A.Strategies.holds c.args.staff.now) c.in_ok-strategies.ensures) c.first_among.ensures.header
 
-pub returns-in_err-prepared-clause-stops : goal.returns-in_err-prepared-clause-stops
-returns-in_err-prepared-clause-stops g c = λ command asked.
-    let left = g.S.Source.left in
-    let faults = g.S.Source.faults in
-    let p = err_from_is_err_and c.from_residual-in_err-prepared.result c.from_residual-in_err-prepared.ensures.1 in
-    rw (p.1, p.2)
-    (header_stops _ command c.in_ok-next.field-0 (left c.args.source.now) (left c.next.new.source) (faults c.args.source.now)
-    (faults c.next.new.source) c.args.input.now c.next.new.self c.in_err-prepared.field-0.0 c.args.purpose c.number-number.result c.text.result.now
-    c.requires c.if-not-branch.false c.in_ok-next.ensures.gives c.in_ok-next.ensures.within c.in_ok-next.ensures.ended asked
-    c.number-number.ensures c.text.ensures c.in_err-prepared.ensures.exact)
+pub returns-clause-names : goal.returns-clause-names
+returns-clause-names g c =
+    subst (λ (has : List ℕ → Bool). IfOk c.first_among.result (λ p. p.job.names ≡ names_at has c.args.purpose c.first_among.new.input.number
+    c.first_among.new.input.text))
+    (ap has_strategy c.as_slice.ensures ∙ same_strategies _ (g.A.Strategies.holds c.args.staff.now) c.in_ok-strategies.ensures) c.first_among.ensures.names
 
-pub returns-in_err-next-clause-calm : goal.returns-in_err-next-clause-calm
-returns-in_err-next-clause-calm g c =
-    let p = err_from_is_err_and c.from_residual.result c.from_residual.ensures.1 in
-    rw (p.1, p.2) (calm_line c.in_err-next.field-0.0 _ _ c.in_err-next.ensures.calm)
+pub returns-clause-strategies : goal.returns-clause-strategies
+returns-clause-strategies g c =
+    subst (λ (has : List ℕ → Bool). IfOk c.first_among.result (λ p. HoldsEach has p.job.roles))
+    (ap has_strategy c.as_slice.ensures ∙ same_strategies _ (g.A.Strategies.holds c.args.staff.now) c.in_ok-strategies.ensures) c.first_among.ensures.strategies
+
+pub returns-clause-stops : goal.returns-clause-stops
+returns-clause-stops g c = λ command asked.
+    subst (λ (has : List ℕ → Bool). IfErr c.first_among.result (λ e. Stops (IsAgainst has (OfJob command)) (g.S.Source.left c.args.source.now)
+    (g.S.Source.left c.first_among.new.source) (g.S.Source.faults c.args.source.now) (g.S.Source.faults c.first_among.new.source) fresh
+    c.first_among.new.input e))
+    (ap has_strategy c.as_slice.ensures ∙ same_strategies _ (g.A.Strategies.holds c.args.staff.now) c.in_ok-strategies.ensures) (c.first_among.ensures.stops command asked)

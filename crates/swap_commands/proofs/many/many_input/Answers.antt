@@ -1,6 +1,5 @@
 use Rattle.std.proofs.Common.{inl}
 use Rattle.std.proofs.KnownBytes.{Keeps-refl}
-use Rattle.offer_header.specs.Names.{has_strategy}
 use Rattle.swap_commands.specs.Words.{Many}
 use Rattle.swap_commands.proofs.ManySaying.{last_same, says_many}
 use Rattle.swap_commands.proofs.ManyWorlds.{chains_shown, worlds_shown}
@@ -32,7 +31,7 @@ tell-requires-clause-chains g c =
 
 pub returns-in_default-clause-says : goal.returns-in_default-clause-says
 returns-in_default-clause-says g c =
-    let has = has_strategy c.args.kit.now.names c.args.kit.now.strategies.items in
+    let has = g.A.Strategies.holds c.args.staff.now in
     let e = c.in-Ok.ensures.played in
     inl (Keeps-refl (g.K.Sink.taken c.args.sink.now), all_consumed has _ _ _ c.play.new.input e)
 

@@ -11,9 +11,9 @@ use Rattle.swap_commands.proofs.many.replay.Goals as goal
 
 pub lines-init : goal.lines-init
 lines-init g c = record {
-  on = none_yet (g.T.Strategies.gives c.args.kit.now) c.args.many.now c.args.world.now (g.S.Source.left c.args.source.now) c.args.input.now;
+  on = none_yet (g.A.Strategies.gives c.args.staff.now) c.args.many.now c.args.world.now (g.S.Source.left c.args.source.now) c.args.input.now;
   is_of = c.requires.of;
-  held = c.requires.kit;
+  held = c.requires.held;
   ended = c.requires.ended;
   counted = omega arith;
   later = omega arith;
@@ -38,7 +38,7 @@ returns-in_err-step_line-clause-stops g c =
 pub lines-preserved : goal.lines-preserved
 lines-preserved g c =
     let i = c.lines.invariant in
-    let gives = g.T.Strategies.gives c.args.kit.now in
+    let gives = g.A.Strategies.gives c.args.staff.now in
     let step = c.in_ok-step_line.ensures.stepped in
     let line = line_of _ _ _ _ _ c.if-branch.true c.in_ok-next.ensures.gives in
     record {
@@ -63,7 +63,7 @@ lines-smaller g c =
 
 pub returns-clause-replayed : goal.returns-clause-replayed
 returns-clause-replayed g c =
-    are_replayed (g.T.Strategies.gives c.args.kit.now) c.args.many.now _ _ _ _ _ _ _ _ _ c.lines.invariant.on
+    are_replayed (g.A.Strategies.gives c.args.staff.now) c.args.many.now _ _ _ _ _ _ _ _ _ c.lines.invariant.on
     (last_of _ _ _ _ _ c.if-branch.false c.in_ok-next.ensures.gives) c.in_ok-next.ensures.within c.in_ok-next.ensures.ended
 
 pub returns-in_err-next-clause-calm : goal.returns-in_err-next-clause-calm

@@ -7,9 +7,9 @@ use Rattle.swap_commands.proofs.many.replay.Given as goal
 
 abbrev pub invariant-lines : goal.invariant-lines
 invariant-lines g l = record {
-  on : AreOn (g.T.Strategies.gives l.kit) l.many l.fn.world l.world (g.S.Source.left l.fn.source) (g.S.Source.left l.source) l.fn.input l.input l.count;
+  on : AreOn (g.A.Strategies.gives l.staff) l.many l.fn.world l.world (g.S.Source.left l.fn.source) (g.S.Source.left l.source) l.fn.input l.input l.count;
   is_of : AreWorldsOf l.many l.world;
-  held : AreAllHeld (g.T.Strategies.holds l.kit) l.world;
+  held : AreAllHeld (g.A.Strategies.holds l.staff) l.world;
   ended : EndsAt (g.S.Source.left l.source) l.input;
   counted : l.count ≤ l.input.number;
   later : g.S.Source.faults l.fn.source ≤ g.S.Source.faults l.source;

@@ -18,7 +18,7 @@ pub lines-init : goal.lines-init
 lines-init g c =
     let job = c.args.job.now in
     let left = g.S.Source.left c.args.source.now in
-    let gives = g.T.Strategies.gives c.args.kit.now in
+    let gives = g.A.Strategies.gives c.args.staff.now in
     let new = c.in_ok-world.ensures.new in
     record {
       led = λ a x. subst (λ (w : WorldState). Led (replayed (step (cast_by a job)) job) left c.args.input.now (start (cast_of job)) left c.args.input.now 0
@@ -68,7 +68,7 @@ lines-preserved g c =
           (rw (c.number.ensures, c.text.ensures) at e.stepped a x);
       passed = led_on _ _ _ _ (next_by passed_over job) (step_of passed_over job) _ _ _ _ _ _ _ i.passed line
           (rw (c.number.ensures, c.text.ensures) at e.passed);
-      asked = more_asked (g.T.Strategies.gives c.args.kit.now) _ c.lines.world c.step_line.new.world i.asked i.is_of.deal e.asked;
+      asked = more_asked (g.A.Strategies.gives c.args.staff.now) _ c.lines.world c.step_line.new.world i.asked i.is_of.deal e.asked;
       is_of = e.of;
       goes_on = e.goes_on;
       ended = c.in_ok-next.ensures.ended;

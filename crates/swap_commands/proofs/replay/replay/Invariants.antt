@@ -16,7 +16,7 @@ invariant-lines g l = record {
   led : (a : Answers) → Continues l.world a → Led (replayed (step (cast_by a l.job)) l.job) (g.S.Source.left l.fn.source) l.fn.input
       (start (cast_of l.job)) (g.S.Source.left l.source) l.input l.count l.world.state;
   passed : Led (replayed passed_over l.job) (g.S.Source.left l.fn.source) l.fn.input tt (g.S.Source.left l.source) l.input l.count tt;
-  asked : HasAsked (g.T.Strategies.gives l.kit) (new_world l.job) l.world;
+  asked : HasAsked (g.A.Strategies.gives l.staff) (new_world l.job) l.world;
   is_of : IsOf l.job l.world;
   goes_on : l.world.stopped ≡ false;
   ended : EndsAt (g.S.Source.left l.source) l.input;

@@ -12,8 +12,8 @@ use Rattle.command_input.proofs.Streams.{calm_named}
 use Rattle.swap_io.proofs.Feeds.{calm_after}
 use Rattle.swap_commands.proofs.run.play.Goals as goal
 
-pub replay-requires-clause-kit : goal.replay-requires-clause-kit
-replay-requires-clause-kit g c = held _ c.in_ok-job.field-0.job.roles c.in_ok-job.ensures.strategies
+pub replay-requires-clause-held : goal.replay-requires-clause-held
+replay-requires-clause-held g c = held _ c.in_ok-job.field-0.job.roles c.in_ok-job.ensures.strategies
 
 pub returns-in_err-job-clause-stops : goal.returns-in_err-job-clause-stops
 returns-in_err-job-clause-stops g c =

@@ -1,6 +1,5 @@
 use Rattle.std.proofs.Common.{inl, refl}
 use Rattle.std.proofs.KnownBytes.{Keeps-refl}
-use Rattle.offer_header.specs.Names.{has_strategy}
 use Rattle.swap_world.specs.Value.{answers_of}
 use Rattle.swap_commands.specs.Replay.{IsPlayed}
 use Rattle.swap_commands.specs.Words.{OfJob, Run}
@@ -18,7 +17,7 @@ returns-in-Err-clause-says g c =
 
 pub returns-in_default-clause-says : goal.returns-in_default-clause-says
 returns-in_default-clause-says g c =
-    let has = has_strategy c.args.kit.now.names c.args.kit.now.strategies.items in
+    let has = g.A.Strategies.holds c.args.staff.now in
     let a = answers_of c.in-Ok.played.1 in
     inl (
       Keeps-refl (g.K.Sink.taken c.args.sink.now),

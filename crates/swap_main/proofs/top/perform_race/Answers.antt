@@ -1,5 +1,4 @@
 use Rattle.std.proofs.KnownBytes.{Keeps-refl}
-use Rattle.std.proofs.Common.{refl}
 use Rattle.swap_commands.specs.Words.{OfJob, Race}
 use Rattle.swap_commands.proofs.Saying.{says_unread}
 use Rattle.swap_main.proofs.top.perform_race.Goals as goal

@@ -1,7 +1,7 @@
 use Rattle.std.proofs.Common.{◌≡◌, ◌∙◌, ℕ, List, map, string_bytes, Some, None, refl, sym, ap}
 use Rattle.program_words.specs.Words.{task_of}
 use Rattle.program_words.specs.declared.task.Task.{Task}
-use Rattle.program_words.specs.declared.task.Task.TheVariants.{Input, Race, Number}
+use Rattle.program_words.specs.declared.task.Task.TheVariants.{Input, Number}
 use Rattle.program_words.proofs.Ranges.{task_within}
 use Rattle.swap_main.proofs.Asking.{is_a_race, number_is_no_race, order_is_no_race}
 use Rattle.swap_main.proofs.Performing as tasks

@@ -41,7 +41,7 @@ returns-in-Input-clause-words g c =
     let words : List (List ℕ) = map string_bytes c.args.words.now.items in
     let asked : task_of words ≡ Some c.in-Some.asked = rw (sym c.deref.ensures.value) (sym c.in-Ok.ensures.exact ∙ c.in-Some.is) in
     let is = asked ∙ ap (λ (t : Task). Some t) c.in-Input.is in
-    tasks.never_wrong words (Input c.in-Input.order) is c.obey.result (tasks.said_is_right _ _ _ _ _ _ _ _ _ _ _ c.obey.result c.obey.ensures.says)
+    tasks.never_wrong words (Input c.in-Input.given) is c.obey.result (tasks.said_is_right _ _ _ _ _ _ _ _ _ _ _ c.obey.result c.obey.ensures.says)
 
 pub returns-in-Race-clause-words : goal.returns-in-Race-clause-words
 returns-in-Race-clause-words g c =
@@ -81,7 +81,7 @@ returns-in-Input-clause-unread_by_number g c request number =
     let words : List (List ℕ) = map string_bytes c.args.words.now.items in
     let asked : task_of words ≡ Some c.in-Some.asked = rw (sym c.deref.ensures.value) (sym c.in-Ok.ensures.exact ∙ c.in-Some.is) in
     let is = asked ∙ ap (λ (t : Task). Some t) c.in-Input.is in
-    absurd (cc (tasks.number_is words (Input c.in-Input.order) request is number))
+    absurd (cc (tasks.number_is words (Input c.in-Input.given) request is number))
 
 pub returns-in-Race-clause-unread_by_number : goal.returns-in-Race-clause-unread_by_number
 returns-in-Race-clause-unread_by_number g c request number =
@@ -95,7 +95,7 @@ returns-in-Input-clause-answer g c =
     let words : List (List ℕ) = map string_bytes c.args.words.now.items in
     let asked : task_of words ≡ Some c.in-Some.asked = rw (sym c.deref.ensures.value) (sym c.in-Ok.ensures.exact ∙ c.in-Some.is) in
     let is = asked ∙ ap (λ (t : Task). Some t) c.in-Input.is in
-    tasks.answer _ words _ _ (Input c.in-Input.order) is c.obey.result c.obey.ensures.says
+    tasks.answer _ words _ _ (Input c.in-Input.given) is c.obey.result c.obey.ensures.says
 
 pub returns-in-Race-clause-answer : goal.returns-in-Race-clause-answer
 returns-in-Race-clause-answer g c =

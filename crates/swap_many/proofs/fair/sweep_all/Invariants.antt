@@ -5,5 +5,5 @@ use Rattle.swap_many.specs.Value.{HasManyGone, world_at}
 use Rattle.swap_many.proofs.fair.sweep_all.Given as goal
 
 abbrev pub invariant-arcs : goal.invariant-arcs
-invariant-arcs g l = HasManyGone (g.K.Strategies.gives l.kit) (λ m z. fold (sweep_of l.swap m) z
+invariant-arcs g l = HasManyGone (g.A.Strategies.gives l.staff) (λ m z. fold (sweep_of l.swap m) z
     (take l.arc (range_with_len 0 (length (world_at l.fn.worlds l.swap).deal.graph.arcs)))) l.fn.worlds l.worlds

@@ -11,12 +11,12 @@ use Rattle.swap_offer.proofs.Certified.{along, certifies, no_header}
 use Rattle.swap_offer.proofs.header.read_header.Goals as goal
 
 pub returns-in-Err-clause-certified : goal.returns-in-Err-clause-certified
-returns-in-Err-clause-certified g c = λ h e.
-    let read = header_of (has_strategy c.args.kit.now.names c.args.kit.now.strategies.items) c.args.purpose c.args.line c.args.text.now in
+returns-in-Err-clause-certified c = λ h e.
+    let read = header_of (has_strategy c.args.strategies.now) c.args.purpose c.args.line c.args.text.now in
     rw c.with_names.ensures (no_header Prepared c.empty.result c.in-Err.fault read h c.in-Err.ensures.exact e)
 
 pub returns-clause-certified : goal.returns-clause-certified
-returns-clause-certified g c = λ h e.
+returns-clause-certified c = λ h e.
     along _ c.in-Ok.header h c.accept.result c.in-Ok.ensures.exact e
     (certifies c.in-Ok.header c.in-Ok.ensures.within (λ p. p.job) c.in-Ok.header.names c.accept.result c.accept.ensures.exact)
 
@@ -26,5 +26,5 @@ carried has roles (Ok p) e h = subst (HoldsEach has) (sym e) h
 carried has roles (Err fault) e h = tt
 
 pub returns-clause-strategies : goal.returns-clause-strategies
-returns-clause-strategies g c =
+returns-clause-strategies c =
     carried _ c.in-Ok.header.roles c.accept.result c.accept.ensures.acting c.in-Ok.ensures.strategies

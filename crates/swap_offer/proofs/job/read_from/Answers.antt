@@ -19,9 +19,9 @@ fails_after : {A B : Type 0} (fault : Fault Reason) (read : Result A Reason) (x 
 fails_after fault read x f e bad = rw e bad
 
 pub returns-in-Err-clause-exact : goal.returns-in-Err-clause-exact
-returns-in-Err-clause-exact g c =
+returns-in-Err-clause-exact c =
     let lines = map (λ l. (l.0, l.1.now)) c.args.further.now in
-    let has = has_strategy c.args.kit.now.names c.args.kit.now.strategies.items in
+    let has = has_strategy c.args.strategies.now in
     let read = job_header_of has c.args.purpose c.args.line c.args.text.now in
     let job = c.in_ok-job.field-0.job in
     let was : read ≡ Ok job = named_ok (names_at has c.args.purpose c.args.line c.args.text.now) read job c.in_ok-job.ensures.exact in

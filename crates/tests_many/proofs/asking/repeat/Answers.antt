@@ -6,8 +6,8 @@ step-requires-clause-event g c =
     let i = c.times.invariant in
     c.requires.event _ i.openings i.swaps
 
-pub step-requires-clause-kit : goal.step-requires-clause-kit
-step-requires-clause-kit g c = c.times.invariant.held
+pub step-requires-clause-held : goal.step-requires-clause-held
+step-requires-clause-held g c = c.times.invariant.held
 
 pub times-preserved : goal.times-preserved
 times-preserved g c = still _ _ _ _ _ c.times.many c.step.new.self c.in_ok-last.ensures.ok c.times.invariant

@@ -1,6 +1,5 @@
 use Rattle.std.proofs.Common.{◌≡◌, List, Ok, sym, subst}
 use Rattle.swap_job.specs.declared.job.Job.{Job}
-use Rattle.offer_header.specs.Names.{has_strategy}
 use Rattle.swap_many.specs.declared.place.Place.{Place}
 use Rattle.swap_many.specs.Opening.{AreOpenable, opened}
 use Rattle.tests_many.specs.Played.{IsOf}
@@ -14,7 +13,7 @@ new-requires-2 g c =
 
 pub follow-requires : goal.follow-requires
 follow-requires g c =
-    let holds = has_strategy c.args.kit.now.names c.args.kit.now.strategies.items in
+    let holds = g.A.Strategies.holds c.args.staff.now in
     let is : opened c.args.chains.now c.args.swaps.worlds.items c.args.swaps.places.items ≡ Ok c.in-Ok.many =
     subst (λ (p : List (List Place)). opened c.args.chains.now c.args.swaps.worlds.items p ≡ Ok c.in-Ok.many) c.new.ensures c.in-Ok.ensures in
     subst (λ (l : List Job). IsOf holds c.args.chains.now l c.in-Ok.many) (sym c.deref.ensures.value)

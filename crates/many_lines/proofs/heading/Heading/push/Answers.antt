@@ -5,16 +5,16 @@ use Rattle.many_lines.proofs.Swaps.{held_after, held_as}
 use Rattle.many_lines.proofs.heading.Heading.push.Goals as goal
 
 pub returns-in-First-clause-held : goal.returns-in-First-clause-held
-returns-in-First-clause-held g c =
-    held_as c.take_first.result (has_strategy c.args.kit.now.names c.args.kit.now.strategies.items) _ _ _
+returns-in-First-clause-held c =
+    held_as c.take_first.result (has_strategy c.args.strategies.now) _ _ _
     (ap (λ (s : HeadingState). s.many.jobs) c.self.view_is) c.take_first.ensures.jobs
 
 pub returns-in-Words-clause-held : goal.returns-in-Words-clause-held
-returns-in-Words-clause-held g c =
-    held_as c.take_fields.result (has_strategy c.args.kit.now.names c.args.kit.now.strategies.items) _ _ _
+returns-in-Words-clause-held c =
+    held_as c.take_fields.result (has_strategy c.args.strategies.now) _ _ _
     (ap (λ (s : HeadingState). s.many.jobs) c.self.view_is) c.take_fields.ensures.jobs
 
 pub returns-in-Header-clause-held : goal.returns-in-Header-clause-held
-returns-in-Header-clause-held g c =
-    held_after c.take_header.result (has_strategy c.args.kit.now.names c.args.kit.now.strategies.items) _ _ _
+returns-in-Header-clause-held c =
+    held_after c.take_header.result (has_strategy c.args.strategies.now) _ _ _
     (ap (λ (s : HeadingState). s.many.jobs) c.self.view_is) c.take_header.ensures.held

@@ -10,13 +10,13 @@ use Rattle.swap_many.proofs.many_world.ManyWorld.finish_fair.Goals.{After-finish
 
 -- the worlds after the fair finish, and what came before it
 taken : (g : given.Over) (c : goal.After-finish-done g)
-    → lemmas.HasTaken (g.K.Strategies.gives c.args.kit.now) kept_finish Finished (many_in c.self.inside)
+    → lemmas.HasTaken (g.A.Strategies.gives c.args.staff.now) kept_finish Finished (many_in c.self.inside)
     (record c.finish-done.new.worlds { stages = stages_in (map (λ p. p.items) c.and-stretches.result.items) c.new-self-inside.result.items })
     c.finish-done.result
 taken g c =
     let i = c.self.inside in
     let w = many_in i in
-    lemmas.has_taken (g.K.Strategies.gives c.args.kit.now) kept_finish Finished i.worlds c.finish-done.new.worlds w.stages
+    lemmas.has_taken (g.A.Strategies.gives c.args.staff.now) kept_finish Finished i.worlds c.finish-done.new.worlds w.stages
     (stages_in (map (λ p. p.items) c.and-stretches.result.items) c.new-self-inside.result.items) c.finish-done.result
     (lemmas.finish_is_stage w c.self.invariant.whole.ready) c.self.invariant.runs
     (lemmas.stretch_more _ i.stretches.items c.and-stretches.result.items i.events c.new-self-inside.result.items c.and-stretches.ensures
@@ -27,7 +27,7 @@ returns-then-is_stopped-clause-err g c =
     let w = many_in c.self.inside in
     let stopped : w.stopped ≡ true = sym c.is_stopped.ensures ∙ c.if-is_stopped.true in
     rw (← c.self.view_is)
-    (stopped_before (g.K.Strategies.gives c.args.kit.now) kept_finish w stopped c.self.invariant.whole.ready
+    (stopped_before (g.A.Strategies.gives c.args.staff.now) kept_finish w stopped c.self.invariant.whole.ready
     (lemmas.finish_leads w c.self.invariant.whole.ready))
 
 pub invariant_of-self : goal.invariant_of-self

@@ -7,13 +7,13 @@ use Rattle.swap_world.proofs.world.World.step_on.Goals as goal
 pub returns-then-self-clause-cut : goal.returns-then-self-clause-cut
 returns-then-self-clause-cut g c =
     let w = c.args.self.now in
-    record { cast = refl; asked = nothing_asked (g.K.Strategies.gives c.args.kit.now) w w refl refl; book = inl refl }
+    record { cast = refl; asked = nothing_asked (g.A.Strategies.gives c.args.staff.now) w w refl refl; book = inl refl }
 
 pub returns-then-self-clause-kept : goal.returns-then-self-clause-kept
 returns-then-self-clause-kept g c = rw (← c.self.view_is) c.self.invariant.kept
 
 pub returns-clause-kept : goal.returns-clause-kept
 returns-clause-kept g c =
-    kept_by c.take.result (g.K.Strategies.gives c.args.kit.now) (swept_in c.args.swept.now) c.args.self.now c.take.new.self c.args.event.now
+    kept_by c.take.result (g.A.Strategies.gives c.args.staff.now) (swept_in c.args.swept.now) c.args.self.now c.take.new.self c.args.event.now
     c.take.ensures.ok c.take.ensures.cut
     (rw (← c.self.view_is) c.self.invariant.ready) c.requires.event (rw (← c.self.view_is) (c.self.invariant.good c.if-self.false))

@@ -5,13 +5,13 @@ use Rattle.many_lines.specs.Whole.{HoldsEverySwap}
 use Rattle.command_input.specs.Input.{EndsAt, fresh, limit}
 use Rattle.swap_commands.proofs.ManyTold.{heading_walk}
 use Rattle.command_input.proofs.Streams.{Led}
-use Rattle.swap_commands.proofs.many.read_heading.Given as goal
+use Rattle.swap_commands.proofs.many.heading_among.Given as goal
 
 abbrev pub invariant-lines : goal.invariant-lines
 invariant-lines g l = record {
-  led : (count : ℕ) × Led (heading_walk (has_strategy l.kit.names l.kit.strategies.items)) (g.S.Source.left l.fn.source) fresh unread
+  led : (count : ℕ) × Led (heading_walk (has_strategy l.strategies)) (g.S.Source.left l.fn.source) fresh unread
       (g.S.Source.left l.source) l.input count l.heading;
-  held : HoldsEverySwap (has_strategy l.kit.names l.kit.strategies.items) l.heading.many;
+  held : HoldsEverySwap (has_strategy l.strategies) l.heading.many;
   ended : EndsAt (g.S.Source.left l.source) l.input;
   within : l.input.reading.taken ≤ limit;
   later : g.S.Source.faults l.fn.source ≤ g.S.Source.faults l.source;

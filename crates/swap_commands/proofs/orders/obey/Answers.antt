@@ -1,4 +1,4 @@
-use Rattle.swap_commands.proofs.staff.KitStaff.obey.Goals as goal
+use Rattle.swap_commands.proofs.orders.obey.Goals as goal
 
 pub returns-in-Check-clause-says : goal.returns-in-Check-clause-says
 returns-in-Check-clause-says g c = rw c.in-Check.is c.check.ensures.says

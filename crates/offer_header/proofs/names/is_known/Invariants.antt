@@ -1,7 +1,7 @@
 use Rattle.std.proofs.Common.{◌≡◌, drop}
 use Rattle.std.specs.List.{list_any}
 use Rattle.std.specs.Str.{bytes_eq}
-use Rattle.many_fields.proofs.accounts.is_known.Given as goal
+use Rattle.offer_header.proofs.names.is_known.Given as goal
 
 abbrev pub invariant-loop-known : goal.invariant-loop-known
 invariant-loop-known l = list_any (bytes_eq l.name) (drop l.known-index l.names) ≡ list_any (bytes_eq l.name) l.names
