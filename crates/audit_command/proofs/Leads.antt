@@ -19,6 +19,7 @@ use Rattle.transcript_reader.specs.Reading.{ReadsLine, parts_read, transcript_re
 use Rattle.transcript_reader.proofs.Steps.{bad_reads, line_on}
 use Rattle.command_input.specs.Faults.{of_line, of_offer}
 use Rattle.command_input.specs.Input.{limit}
+use Rattle.command_input.proofs.Ahead.{other_fault}
 use Rattle.audit_command.specs.Reading.{IsLastPart, IsMore, IsPart, IsRead, LineFails, StopsAt, fresh}
 
 -- ---- lines
@@ -60,13 +61,6 @@ end_is_last a b old new text p = record {
   one = p.one;
   ended = p.ends.1.none_left;
 }
-
--- no more was taken than may be, where the fault is another one
-pub other_fault : {T E : Type 0} (e past : E) (result : Result T E) (most taken : ℕ) → ¬ (e ≡ past) → result ≡ Err e
-    → ((result ≡ Err past) ↔ (most < taken)) → taken ≤ most
-other_fault e past result most taken differs is long =
-    let no : most < taken → ⊥ = λ lt. differs (cc (sym is ∙ long.1 lt)) in
-    omega arith
 
 is_part : (a b : Option (List ℕ)) (s t : Reading) → TookSome a b s t → t.taken ≤ t.limit → s.limit ≡ limit → IsPart a b s t
 is_part a b s t took low lim = (took, omega (arith, low, took.1.limit, lim))

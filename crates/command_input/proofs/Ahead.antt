@@ -75,7 +75,7 @@ line_ahead n line ls rest e blank = ap (filled_lines (n + 1)) e ∙ one_more (n 
 -- The causes and the counts of one line.
 
 -- no more was taken than may be, where the fault is another one
-other_fault : {T E : Type 0} (e past : E) (result : Result T E) (most taken : ℕ) → ¬ (e ≡ past) → result ≡ Err e
+pub other_fault : {T E : Type 0} (e past : E) (result : Result T E) (most taken : ℕ) → ¬ (e ≡ past) → result ≡ Err e
     → ((result ≡ Err past) ↔ (most < taken)) → taken ≤ most
 other_fault e past result most taken differs is long =
     let no : most < taken → ⊥ = λ lt. differs (cc (sym is ∙ long.1 lt)) in

@@ -1,5 +1,5 @@
 -- What a call with its number keeps is what its entry keeps.
-use Rattle.std.proofs.Common.{◌≡◌, ℕ, Bool, Option, Some, take, sym, ap, ◌∙◌}
+use Rattle.std.proofs.Common.{◌≡◌, ℕ, Bool, Some, take, sym, ap, ◌∙◌}
 use Rattle.swap_digraph.specs.declared.deal.Deal.{Deal}
 use Rattle.ledger_core.specs.declared.entry.Call.{Call}
 use Rattle.ledger_core.specs.Book.{Histories, history}

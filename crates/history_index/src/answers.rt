@@ -6,10 +6,9 @@ ghost use Rattle.ledger_core.specs.History.{ticks_in, accepted, publication};
 ghost use Rattle.history_index.specs.Numbers.{names_lock};
 ghost use Rattle.history_index.specs.Kept.{answers_after, no_answers, with_opening};
 
+use crate::entry_facts::{publication_of, settlement_of, ticks_in};
 use escrow_core::{Reply, Terms};
-use ledger_core::{
-    Call, Entry, Published, Settlement, What, publication_of, settlement_of, ticks_in,
-};
+use ledger_core::{Call, Entry, Published, Settlement, What};
 
 /// What stands in a list of entries.
 #[derive(Clone, Copy, Debug)]

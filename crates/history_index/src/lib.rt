@@ -6,6 +6,7 @@
 
 mod answers;
 mod caller;
+mod entry_facts;
 mod extend;
 mod index;
 mod kinds;

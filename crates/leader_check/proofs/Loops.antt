@@ -3,7 +3,7 @@ use Rattle.std.proofs.Common.{◌≡◌, ℕ, ◌+◌, ◌-◌, ◌<◌, ◌≤�
 use Rattle.std.proofs.Common.{sym, ap, ◌∙◌, arith, add-one, drop-cons}
 use Rattle.std.specs.List.{range_with_len}
 use Rattle.std.proofs.lemmas.List.{nil_from_length, length-drop}
-use Rattle.swap_base.specs.Lists.{or_else, first_of, greatest}
+use Rattle.swap_base.specs.Lists.{first_of, greatest}
 use Rattle.swap_base.proofs.Lists.{range-next, range-none, or_else-skips, or_else-stays}
 
 pub drop-next : {A : Type 0} (xs : List A) (i : ℕ) (d : A) → i < length xs → drop i xs ≡ get_or xs i d ∷ drop (i + 1) xs

@@ -1,5 +1,5 @@
 //! Whether the leaders of a digraph are a feedback vertex set: with the levels of the parties, or with a cycle of followers (Herlihy 2018, section 2).
-//! And how far the parties stand from the one leader of a deal in timelocks mode, with the timelocks that follow (section 4).
+//! And how far the parties stand from the one leader of a deal in timelocks mode (section 4).
 //!
 //! Read `specs/Levels.antt` and `specs/Cycles.antt` first: the level of a party, and which cycle is shown; then `specs/Distance.antt`.
 #![tactic(auto)]
@@ -11,7 +11,6 @@ mod distances;
 mod laws;
 mod leader_answer;
 mod rounds;
-mod timelocks;
 
 pub use check::{height, is_feedback, levels};
 pub use cycle::{cycle_through, leads_each};
@@ -19,4 +18,3 @@ pub use distance_laws::distances_follow_arcs;
 pub use distances::dist;
 pub use laws::{greatest_level_is_height, no_cycle_is_feedback, paths_to_leaders_are_bounded};
 pub use leader_answer::{LeaderAnswer, Levels};
-pub use timelocks::timelock_of;

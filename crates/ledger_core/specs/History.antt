@@ -4,7 +4,7 @@ use Rattle.std.specs.Prelude.{count_by, sum_by, fold, Option, Some, None, is_som
 use Rattle.std.specs.List.{list_all, AllByRecursion}
 use Rattle.swap_base.specs.Lists.{first_of, Moment, moments}
 use Rattle.swap_digraph.specs.declared.deal.Deal.{Deal}
-use Rattle.swap_digraph.specs.Deal.{party, counterparty, amount, path_limit, touches}
+use Rattle.swap_digraph.specs.Deal.{party, amount, path_limit, touches}
 use Rattle.hashkey_path.specs.declared.hashkey.Hashkey.{Hashkey}
 use Rattle.escrow_core.specs.declared.terms.Terms.{Terms}
 use Rattle.escrow_core.specs.declared.reply.Reply.{Reply}

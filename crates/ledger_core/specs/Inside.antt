@@ -1,15 +1,14 @@
--- What the fields of a ledger and of a scan mean, and what holds of them.
-use Rattle.std.specs.Prelude.{◌≡◌, ◌<◌, ◌-◌, ℕ, List, count_by, length, Option, vec_len, vec_capacity}
+-- What the fields of a ledger mean, and what holds of them.
+use Rattle.std.specs.Prelude.{◌≡◌, ◌<◌, ℕ, List, count_by, length, Option}
 use Rattle.swap_digraph.specs.declared.deal.Deal.{Deal}
 use Rattle.swap_digraph.specs.Deal.{party, counterparty, IsWellSized}
 use Rattle.escrow_core.specs.Value.{ContractState}
 use Rattle.ledger_core.specs.declared.entry.Entry.{Entry}
 use Rattle.ledger_core.specs.declared.accounts.Accounts.{Accounts}
 use Rattle.ledger_core.specs.History.{height, accounts, sent_by, is_tick, IsLegal}
-use Rattle.ledger_core.specs.Value.{LedgerState, ScanState, IsCountable}
+use Rattle.ledger_core.specs.Value.{LedgerState}
 use Rattle.ledger_core.specs.Ledger.{contract_of}
 use Rattle.ledger_core.specs.declared.ledger.Ledger.TheInside as ledger
-use Rattle.ledger_core.specs.declared.scan.Scan.TheInside as scan
 
 abbrev pub ledger_of : ledger.Inside → LedgerState
 ledger_of l = record { deal = l.deal; arc = l.arc; history = l.history.list; spare = l.history.spare }
@@ -31,9 +30,3 @@ pub record IsKept (l : ledger.Inside) : Type 0 where
   pub party : l.party ≡ party l.deal l.arc
   pub counterparty : l.counterparty ≡ counterparty l.deal l.arc
   pub scans : AreScans l.deal l.arc l.history.list l.height l.accounts l.contract l.party_calls l.counterparty_calls l.ticks
-
-abbrev pub scan_of : scan.Inside → ScanState
-scan_of s = record { terms = s.terms; entries = s.entries.items; spare = vec_capacity s.entries - vec_len s.entries }
-
-abbrev pub CanCount : scan.Inside → Type 0
-CanCount s = IsCountable s.entries.items

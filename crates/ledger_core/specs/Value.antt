@@ -1,7 +1,6 @@
--- What callers see of a history, of a ledger and of a scan.
+-- What callers see of a history and of a ledger.
 use Rattle.std.specs.Prelude.{◌<◌, ◌^◌, ℕ, List, length}
 use Rattle.swap_digraph.specs.declared.deal.Deal.{Deal}
-use Rattle.escrow_core.specs.declared.terms.Terms.{Terms}
 use Rattle.ledger_core.specs.declared.entry.Entry.{Entry}
 use Rattle.ledger_core.specs.History.{height}
 
@@ -14,13 +13,6 @@ pub record LedgerState : Type 0 where
   pub deal : Deal
   pub arc : ℕ
   pub history : List Entry
-  -- how many further entries have room already
-  pub spare : ℕ
-
-pub record ScanState : Type 0 where
-  -- the arc's correct terms
-  pub terms : Terms
-  pub entries : List Entry
   -- how many further entries have room already
   pub spare : ℕ
 

@@ -1,7 +1,7 @@
 //! One ledger per arc: its history of calls and ticks, each with the reply of the table, and what stands in it.
 //!
 //! Whatever is asked of a `Ledger`, its history is legal, its answers are what the scans of that history give, and at every prefix the balances and the
-//! held amount add up to the arc's amount. A refusal moves no units and leaves the contract as it was. `Scan` answers questions over a list of entries.
+//! held amount add up to the arc's amount. A refusal moves no units and leaves the contract as it was. `Facts` are answers over a list of entries.
 //! A `LedgerHistory` and an `EntryList` keep ticks that follow each other by the same number as one item, and contracts see the list of the entries.
 //!
 //! Read `specs/History.antt` first: legal histories, balances and the table of replies; then `specs/Ledger.antt` for the words of the ledger's clauses.
@@ -11,7 +11,6 @@ mod accounts;
 mod balances;
 mod boxed_entry;
 mod entry;
-mod entry_facts;
 mod entry_list;
 mod facts;
 mod fitting;
@@ -20,14 +19,12 @@ mod ledger;
 mod ledger_history;
 mod reply_of;
 mod runs;
-mod scan;
 mod spread;
 
 pub use accounts::Accounts;
 pub use balances::accounts_of;
 pub use boxed_entry::BoxedEntry;
 pub use entry::{Book, Call, Entry, Sender, What};
-pub use entry_facts::{publication_of, settlement_of, ticks_in};
 pub use entry_list::EntryList;
 pub use facts::{CallKind, Facts, Published, Settlement};
 pub use fitting::{fits, is_adjacent};
@@ -35,4 +32,3 @@ pub use held_deal::share_deal;
 pub use ledger::Ledger;
 pub use ledger_history::LedgerHistory;
 pub use runs::{Item, Run};
-pub use scan::Scan;

@@ -4,9 +4,6 @@ use Rattle.swap_base.specs.Lists.{or_else}
 use Rattle.swap_digraph.specs.declared.deal.Deal.{Deal}
 use Rattle.swap_digraph.specs.Deal.{path_limit}
 use Rattle.hashkey_path.specs.declared.hashkey.Hashkey.{Hashkey}
-use Rattle.ledger_core.specs.declared.entry.Call.TheVariants.{Unlock}
-use Rattle.ledger_core.specs.declared.entry.What.{What}
-use Rattle.ledger_core.specs.declared.entry.What.TheVariants.{Call as Made}
 use Rattle.ledger_core.specs.Book.{Histories}
 use Rattle.party_wallet.specs.Value.{signed_in}
 use Rattle.due_calls.specs.Unlocks.{key_from}
@@ -14,11 +11,6 @@ use Rattle.due_calls.specs.declared.unlock_due.UnlockDue.{UnlockDue}
 use Rattle.party_wallet.specs.Value.{WalletState}
 use Rattle.wallet_journal.specs.Layout.{are_below}
 use Rattle.party_machine.specs.Wallet.{wallet_of}
-
--- the hashkey of an unlock, if it is one
-abbrev pub key_carried : What → Option Hashkey
-key_carried (Made (Unlock key)) = Some key
-key_carried _ = None
 
 -- A hashkey for lock i that the party can put its signature onto.
 abbrev pub CanPutOnto : Deal → ℕ → Option Hashkey → Type 0

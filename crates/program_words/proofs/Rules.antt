@@ -8,7 +8,7 @@ use Rattle.clap.specs.declared.builder.action.ArgAction.TheVariants.{Set, SetTru
 use Rattle.clap.specs.declared.builder.value_parser.ValueParser.TheVariants as vp
 use Rattle.clap.proofs.WalkLemmas.{find-map}
 use Rattle.program_words.specs.Tables.{name_of, range_of, word_of}
-use Rattle.program_words.specs.Words.{front, names}
+use Rattle.program_words.specs.Words.{names}
 use Rattle.program_words.specs.declared.choice.Choice.{Choice}
 use Rattle.program_words.proofs.Names.{IsLong}
 

@@ -1,6 +1,5 @@
 -- The number that a well-formed option is given.
 use Rattle.std.proofs.Common.{◌≡◌, ◌∙◌, ℕ, Bool, true, false, List, [], ◌∷◌, Option, Some, None, refl, sym, subst, find, cond, unwrap_or}
-use Rattle.std.specs.Str.{bytes_eq}
 use Rattle.std.proofs.lemmas.Slice.Eq.{bytes_eq-Decides}
 use Rattle.program_words.specs.Tables.{name_of, range_of, word_of}
 use Rattle.program_words.specs.Words.{after, are_options, behind, first_of, fits, front, is_given, is_number, names, option_step, step, text_of}

@@ -134,21 +134,6 @@ fn put_unlocks_on<'a>(
     put_unlocks(keys, index.made(), party)
 }
 
-/// The hashkeys of the party's unlock calls, in order of arc and entry.
-pub fn unlocks_of<'a>(
-    alloc: Global,
-    known: &'a [Index],
-    party: PartyId,
-) -> Result<Vec<&'a Hashkey>, NoMemory>
-    ensures { IfOk result (λ v. shown v.items ≡ unlocks_of (entries_in known.now) party) }
-{
-    let mut keys = Vec::new(alloc);
-    for index in known {
-        put_unlocks_on(&mut keys, index, party)?;
-    }
-    Ok(keys)
-}
-
 /// Adds the hashkeys of the party's unlock calls on the arc. There is none where the arc isn't the party's.
 fn put_own_unlocks<'a>(
     keys: &mut Vec<&'a Hashkey>,
@@ -168,7 +153,7 @@ fn put_own_unlocks<'a>(
     Ok(())
 }
 
-/// The same hashkeys as `unlocks_of` answers, from the arcs that are the party's: in a legal book it has calls on no other.
+/// The hashkeys of the party's unlock calls, in order of arc and entry. They are read from the arcs that are the party's: in a legal book it has calls on no other.
 pub fn unlocks_on_own_arcs<'a>(
     alloc: Global,
     deal: &Deal,

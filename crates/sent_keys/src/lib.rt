@@ -9,4 +9,4 @@ mod keys;
 
 pub use calls::{accepted, call_by};
 pub use extending::{extends, extends_without, is_among};
-pub use keys::{first_key, has_parts, is_first_key, same_key, unlocks_of, unlocks_on_own_arcs};
+pub use keys::{first_key, has_parts, is_first_key, same_key, unlocks_on_own_arcs};

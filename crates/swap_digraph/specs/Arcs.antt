@@ -1,5 +1,5 @@
 -- The digraph that arcs make, or the least arc's first fault.
-use Rattle.std.specs.Prelude.{◌==◌, ◌&&◌, ℕ, ◌+◌, Bool, not, nat_lt, List, [], ◌∷◌, ◌++◌, length, position, Option, Some, None, Result, Ok, Err}
+use Rattle.std.specs.Prelude.{◌==◌, ◌&&◌, ℕ, Bool, not, nat_lt, List, [], ◌∷◌, ◌++◌, length, position, Option, Some, None, Result, Ok, Err}
 use Rattle.std.specs.Prelude.{if◌then◌else◌}
 use Rattle.swap_base.specs.Lists.{or_else}
 use Rattle.swap_digraph.specs.declared.arc_ends.ArcEnds.{ArcEnds}

@@ -1,16 +1,15 @@
-//! What an index answers over a ledger's entries, against a scan of them.
+//! What an index answers over a ledger's entries.
 
 ghost use Rattle.std.specs.Prelude.{◌≡◌, ◌<◌, ◌≤◌, ◌+◌, ◌++◌, ◌∷◌, [], length, IfOk, OnOk};
 ghost use Rattle.swap_digraph.specs.Deal.{IsWellSized, party, counterparty};
 ghost use Rattle.ledger_core.specs.History.{IsLegal};
-ghost use Rattle.ledger_core.specs.Value.{IsCountable};
 ghost use Rattle.history_index.specs.Numbers.{IsIndexable};
 
 use crate::ledgers::{act, first_ledger, follow};
 use crate::random::Random;
 use history_index::{Index, Made, Steps};
 use ledger_core::{
-    BoxedEntry, CallKind, Entry, Facts, Ledger, Published, Scan, Sender, Settlement, is_adjacent,
+    BoxedEntry, CallKind, Entry, Facts, Ledger, Published, Sender, Settlement, is_adjacent,
 };
 use std::alloc::Global;
 use std::marker::Brand;
@@ -58,99 +57,36 @@ fn act_often(
     Ok(())
 }
 
-/// One of thirteen kinds, of which ten are unlocks.
-fn kind_of(k: u8) -> CallKind {
-    if k == 0 {
-        CallKind::Publish
-    } else if k == 1 {
-        CallKind::Claim
-    } else if k == 2 {
-        CallKind::Refund
-    } else {
-        CallKind::Unlock(k.saturating_sub(3))
-    }
-}
-
-fn same_kinds(index: &Index, scan: &Scan, by: PartyId) -> bool {
-    for k in 0..13 {
-        let kind = kind_of(k);
-        if index.called(by, kind) != scan.called(by, kind) {
-            return false;
-        }
-    }
-    true
-}
-
-fn same_calls(index: &Index, scan: &Scan) -> bool {
-    for by in 0..4 {
-        if !same_kinds(index, scan, by) {
-            return false;
-        }
-    }
-    true
-}
-
-fn same_locks(index: &Index, scan: &Scan) -> bool {
-    let locks = index.terms().locks.len();
-    if scan.terms().locks.len() != locks {
-        return false;
-    }
-    for lock in 0..locks {
-        let place = scan.unlocked(lock);
-        if index.unlocked(lock) != place || index.opened(lock).is_some() != place.is_some() {
-            return false;
-        }
-    }
-    true
-}
-
-/// Whether both answer the same, whatever is asked.
-fn same_answers(index: &Index, scan: &Scan) -> bool {
-    index.height() == scan.height()
-        && index.published() == scan.published()
-        && index.published_number().is_some() == scan.published().is_some()
-        && index.settled() == scan.settled()
-        && same_locks(index, scan)
-        && same_calls(index, scan)
-}
-
-/// Puts an entry into both, of which the index has room.
-fn push_both<L: Counted>(
+/// Puts an entry into an index that has room for it.
+fn push_copy<L: Counted>(
     alloc: Global,
     entry: &Entry,
     index: &mut Index,
-    scan: &mut Scan,
     steps: &mut Steps<L>,
 ) -> Result<(), Fail>
     requires indexable { IsIndexable index.old.from index.old.to (index.old.entries ++ entry.now ∷ []) }
-    requires countable { IsCountable (scan.old.entries ++ entry.now ∷ []) }
     requires room { 0 < index.old.spare }
     ensures index { OnOk result (index.new.entries ≡ index.old.entries ++ entry.now ∷ []) }
-    ensures scan { OnOk result (scan.new.entries ≡ scan.old.entries ++ entry.now ∷ []) }
     ensures from { OnOk result (index.new.from ≡ index.old.from) }
     ensures to { OnOk result (index.new.to ≡ index.old.to) }
     ensures spare { OnOk result (index.old.spare ≤ index.new.spare + 1) }
 {
     index.push(BoxedEntry::new(alloc, entry.copy()?)?, steps);
-    scan.push(entry.copy()?)?;
     Ok(())
 }
 
-/// Puts the entries one by one into both, the index having room for all, and compares them after each.
-fn compare<L: Counted>(
-    rt: &impl Abort,
+/// Puts entries one by one into an index that has room for all.
+fn fill<L: Counted>(
     alloc: Global,
     deal: &Deal,
     arc: ArcId,
     history: &[Entry],
     index: &mut Index,
-    scan: &mut Scan,
     steps: &mut Steps<L>,
 ) -> Result<(), Fail>
     requires sized { IsWellSized deal.now }
     requires legal { IsLegal deal.now arc history.now }
     requires index { index.old.entries ≡ [] }
-    requires scan { scan.old.entries ≡ [] }
     requires from { index.old.from ≡ party deal.now arc }
     requires to { index.old.to ≡ counterparty deal.now arc }
     requires room { length history.now ≤ index.old.spare }
@@ -158,34 +94,9 @@ fn compare<L: Counted>(
     ensures to { OnOk result (index.new.to ≡ counterparty deal.now arc) }
 {
     for entry in history {
-        push_both(alloc, entry, index, scan, steps)?;
-        assert!(rt; same_answers(index, scan));
+        push_copy(alloc, entry, index, steps)?;
     }
     Ok(())
-}
-
-/// Puts entries into an index, each of whose answers is compared with a scan's.
-fn fill<L: Counted>(
-    rt: &impl Abort,
-    alloc: Global,
-    deal: &Deal,
-    arc: ArcId,
-    history: &[Entry],
-    index: &mut Index,
-    steps: &mut Steps<L>,
-) -> Result<(), Fail>
-    requires sized { IsWellSized deal.now }
-    requires arc { arc < length deal.now.graph.arcs }
-    requires legal { IsLegal deal.now arc history.now }
-    requires index { index.old.entries ≡ [] }
-    requires from { index.old.from ≡ party deal.now arc }
-    requires to { index.old.to ≡ counterparty deal.now arc }
-    ensures from { OnOk result (index.new.from ≡ party deal.now arc) }
-    ensures to { OnOk result (index.new.to ≡ counterparty deal.now arc) }
-{
-    index.reserve(history.len())?;
-    let mut scan = Scan::new(alloc, deal, arc);
-    compare(rt, alloc, deal, arc, history, index, &mut scan, steps)
 }
 
 /// The entries of a ledger, one by one.
@@ -241,18 +152,19 @@ fn are_made(made: &[Made], entries: &[Entry]) -> bool {
     true
 }
 
-/// The calls of an index are those of a ledger's entries, of each party and of both.
+/// The height of an index is a ledger's, and its calls are those of the ledger's entries, of each party and of both.
 fn compare_all(rt: &impl Abort, index: &Index, ledger: &Ledger, entries: &[Entry])
     requires from { index.now.from ≡ party ledger.now.deal ledger.now.arc }
     requires to { index.now.to ≡ counterparty ledger.now.deal ledger.now.arc }
 {
+    assert!(rt; index.height() == ledger.height());
     compare_calls(rt, index, ledger, entries, 0);
     compare_calls(rt, index, ledger, entries, 1);
     assert!(rt; are_made(index.made(), entries));
 }
 
-/// How an index of a ledger's entries tells that the contract is settled, and whether it tells of the claimed one below; each of its answers
-/// is compared.
+/// How an index of a ledger's entries tells that the contract is settled, and whether it tells of the claimed one below; its height and its
+/// calls are compared.
 fn compared_in<L: Counted>(
     rt: &impl Abort,
     alloc: Global,
@@ -264,7 +176,8 @@ fn compared_in<L: Counted>(
 {
     let (deal, arc) = (ledger.deal(), ledger.arc());
     let mut index = Index::new(alloc, deal, arc)?;
-    fill(rt, alloc, deal, arc, entries, &mut index, steps)?;
+    index.reserve(entries.len())?;
+    fill(alloc, deal, arc, entries, &mut index, steps)?;
     compare_all(rt, &index, ledger, entries);
     Ok((index.settled(), tells(&index)))
 }
@@ -293,7 +206,7 @@ fn counted<L: Counted>(
     compared(rt, alloc, ledger, &mut steps)
 }
 
-/// What the index of a ledger tells, each of whose answers was compared.
+/// What the index of a ledger tells, whose height and calls were compared.
 fn indexed(
     rt: &impl Abort,
     alloc: Global,
@@ -324,7 +237,7 @@ fn settled_at_random(
 }
 
 #[test]
-fn answers_as_a_scan(rt: HostRuntime) -> Result<(), Fail> {
+fn answers_after_acts_at_random(rt: HostRuntime) -> Result<(), Fail> {
     let mut random = Random { state: 1 };
     let (mut claimed, mut refunded) = (false, false);
     for _ in 0..40 {

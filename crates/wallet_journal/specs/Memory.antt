@@ -1,27 +1,13 @@
 -- A disk in memory, as its callers see it.
-use Rattle.std.specs.Prelude.{◌==◌, ◌||◌, ℕ, ◌+◌, Bool, false, List, [], ◌∷◌, ◌++◌, length, take, drop, replicate, map, zero, suc, Option, Some, None, nat_eq}
-use Rattle.std.specs.List.{list_any}
+use Rattle.std.specs.Prelude.{◌==◌, ℕ, ◌+◌, Bool, false, List, [], ◌∷◌, ◌++◌, length, take, drop, replicate, map, zero, suc, Option, Some, None}
 use Rattle.wallet_journal.specs.Device.{Write}
 use Rattle.wallet_journal.specs.Held.{Held}
 use Rattle.wallet_journal.specs.declared.contents.Span.{Span}
 
--- Which calls fail.
-pub record Failures : Type 0 where
-  -- the numbers, from 0, of the calls that fail
-  pub failing : List ℕ
-  -- the number of the next call
-  pub calls : ℕ
-  -- how many calls pass before every later one fails, where that is said
-  pub left : Option ℕ
-  pub count : ℕ
-
+-- no call passes any more
 abbrev pub is_stopped : Option ℕ → Bool
 is_stopped None = false
 is_stopped (Some n) = n == 0
-
--- the next call fails
-abbrev pub is_failing : Failures → Bool
-is_failing f = is_stopped f.left || list_any (nat_eq f.calls) f.failing
 
 pub record DiskState : Type 0 where
   pub held : Held

@@ -3,7 +3,7 @@ use Rattle.swap_io.proofs.Feeds.{calm_after, not_past}
 use Rattle.swap_io.proofs.Handing.{rose_before}
 use Rattle.swap_io.specs.declared.fault.DrainFault.TheVariants as drained
 use Rattle.audit_command.proofs.Ends.{all_taken, no_memory_of, read_fault_of, rest_too_long, rest_unread, said_of, too_long_of}
-use Rattle.audit_command.proofs.Leads.{other_fault}
+use Rattle.command_input.proofs.Ahead.{other_fault}
 use Rattle.audit_command.proofs.story.stop.Goals as goal
 
 pub returns-in-Ok-clause-stops : goal.returns-in-Ok-clause-stops

@@ -1,4 +1,4 @@
-use Rattle.std.proofs.Common.{Some, sym, ap, take, option_copied, ◌∙◌}
+use Rattle.std.proofs.Common.{sym, ap, take, option_copied, ◌∙◌}
 use Rattle.ledger_core.specs.declared.entry.Call.TheVariants.{Publish, Unlock}
 use Rattle.ledger_core.specs.Book.{history}
 use Rattle.history_index.specs.Indexes.{entries_in}

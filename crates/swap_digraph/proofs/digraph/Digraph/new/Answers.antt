@@ -1,4 +1,4 @@
-use Rattle.std.proofs.Common.{◌∙◌, List, None, ap}
+use Rattle.std.proofs.Common.{◌∙◌, List, ap}
 use Rattle.swap_digraph.specs.declared.arc_ends.ArcEnds.{ArcEnds}
 use Rattle.swap_digraph.specs.Arcs.{first_fault}
 use Rattle.swap_digraph.proofs.Faults.{has_ends}

@@ -5,7 +5,7 @@ use Rattle.ledger_core.specs.declared.entry.Entry.{Entry}
 use Rattle.ledger_core.specs.History.{IsLegal}
 use Rattle.history_index.specs.Numbers.{IsIndexable}
 use Rattle.history_index.proofs.Legal.{next_indexable}
-use Rattle.tests_ledgers.proofs.index.compare.Goals as goal
+use Rattle.tests_ledgers.proofs.index.fill.Goals as goal
 
 next : (d : Deal) (a from to : ℕ) (h es : List Entry) (i : ℕ) (x : Entry) → IsWellSized d → IsLegal d a h → i < length h → x ≡ get_or h i x
     → es ≡ take i h → from ≡ party d a → to ≡ counterparty d a → IsIndexable from to (es ++ x ∷ [])
@@ -15,14 +15,8 @@ next d a from to h es i x s l lt e ees ef et =
     (subst (λ p. IsIndexable (party d a) p (es ++ x ∷ [])) (sym et)
     (subst (IsIndexable (party d a) (counterparty d a)) (sym same) (next_indexable d a h i x s l lt e)))
 
-pub push_both-requires-clause-indexable : goal.push_both-requires-clause-indexable
-push_both-requires-clause-indexable g c =
+pub push_copy-requires-clause-indexable : goal.push_copy-requires-clause-indexable
+push_copy-requires-clause-indexable g c =
     let i = c.loop-entry.invariant in
     next c.args.deal.now c.args.arc c.loop-entry.index.from c.loop-entry.index.to c.args.history.now c.loop-entry.index.entries c.loop-entry.entry-index
-    c.entry-item.result c.requires.sized c.requires.legal c.loop-entry-test.true c.entry-item.is i.0 i.2 i.3
-
-pub push_both-requires-clause-countable : goal.push_both-requires-clause-countable
-push_both-requires-clause-countable g c =
-    let i = c.loop-entry.invariant in
-    (next c.args.deal.now c.args.arc c.loop-entry.index.from c.loop-entry.index.to c.args.history.now c.loop-entry.scan.entries c.loop-entry.entry-index
-    c.entry-item.result c.requires.sized c.requires.legal c.loop-entry-test.true c.entry-item.is i.1 i.2 i.3).countable
+    c.entry-item.result c.requires.sized c.requires.legal c.loop-entry-test.true c.entry-item.is i.0 i.1 i.2
