@@ -18,6 +18,10 @@ HasRow f n rows = (i : ℕ) → i < 4 → slice_index_or (slice_index_or rows n 
 abbrev pub AreFourChains : List ℕ → ℕ → ℕ → ℕ → Four → Type 0
 AreFourChains seed party lock j four = (n : ℕ) → n < 16 → HasRow (λ k i. chain_after k (chain_start seed party lock (j + i))) n four.rows
 
+-- the starts of four chains, of which j is the first
+abbrev pub AreStarts : List ℕ → ℕ → ℕ → ℕ → List (List ℕ) → Type 0
+AreStarts seed party lock j four = (i : ℕ) → i < 4 → slice_index_or four i [] ≡ chain_start seed party lock (j + i)
+
 -- the values of all chains
 pub record AreChains (seed : List ℕ) (party lock : ℕ) (fours : List Four) : Type 0 where
   pub long : length fours ≡ 17

@@ -1,8 +1,8 @@
 -- Chains: steps in a row, and lists with a value for each chain.
-use Rattle.std.proofs.Common.{◌≡◌, ℕ, zero, suc, ◌+◌, ◌<◌, List, [], ◌∷◌, ◌++◌, map, take, length, get_or, refl, sym, ap, ◌∙◌, subst, arith, append_assoc}
+use Rattle.std.proofs.Common.{◌≡◌, ℕ, zero, suc, ◌+◌, ◌<◌, ◌≤◌, List, [], ◌∷◌, ◌++◌, map, take, length, get_or, refl, sym, ap, ap₂, ◌∙◌, subst, arith, append_assoc}
 use Rattle.std.specs.List.{range_with_len}
 use Rattle.std.proofs.Math.ListN.{set}
-use Rattle.std.proofs.lemmas.List.{append-nil, take_all, take_more_set}
+use Rattle.std.proofs.lemmas.List.{append-nil, take_all, take_more, take_more_set}
 use Rattle.std.proofs.lemmas.List.FromFn.{get_or-map-range_with_len, map-range_with_len_more}
 use Rattle.sha2.specs.Hashers.{Holds256}
 use Rattle.sha2.specs.declared.Sha256.{Sha256}
@@ -74,3 +74,15 @@ filled_more f xs n x len lt e so_far =
 
 pub filled_all : {X : Type 0} (f : ℕ → X) (xs : List X) (n : ℕ) → length xs ≡ 67 → n ≡ 67 → take n xs ≡ first_chains f n → xs ≡ for_chains f
 filled_all f xs n len e so_far = sym (take_all n xs (omega arith)) ∙ (so_far ∙ all_chains f n e)
+
+taken : {X : Type 0} (f : ℕ → X) (xs : List X) (d : X) (n : ℕ) → n ≤ length xs → ((j : ℕ) → j < n → get_or xs j d ≡ f j) → take n xs ≡ first_chains f n
+taken f xs d zero le each = refl
+taken f xs d (suc n) le each =
+    let so_far : take n xs ≡ first_chains f n = taken f xs d n (omega arith) (λ j lt. each j (omega arith)) in
+    let e : suc n ≡ n + 1 = omega arith in
+    ap (λ (k : ℕ). take k xs) e ∙ (take_more xs n d (omega arith) ∙ (ap₂ (λ l x. l ++ x ∷ []) so_far (each n (omega arith))
+    ∙ (sym (first_chains_more f n) ∙ sym (ap (first_chains f) e))))
+
+-- a list with a value for each chain, each of which is that of f
+pub all_filled : {X : Type 0} (f : ℕ → X) (xs : List X) (d : X) → length xs ≡ 67 → ((j : ℕ) → j < 67 → get_or xs j d ≡ f j) → xs ≡ for_chains f
+all_filled f xs d len each = filled_all f xs 67 len refl (taken f xs d 67 (omega arith) each)

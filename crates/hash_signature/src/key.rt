@@ -2,25 +2,38 @@
 
 ghost use Rattle.std.specs.Prelude.{◌≡◌, IfOk, IsTrue};
 ghost use Rattle.hash_signature.specs.Key.{KeyParts};
+ghost use Rattle.hash_signature.specs.Inside.{parts_of};
 ghost use Rattle.hash_signature.specs.Signature.{public_key_of, signature_of, is_valid_signature};
 
 use crate::digits::digits;
 use crate::sig::Sig;
 use crate::{CHAINS, Digest, LockId, PartyId};
-use hash_chains::{Chains, STEPS};
+use hash_chains::{Chains, STEPS, carried, chain_starts};
 use sha2::{Digest as Hasher, Sha256};
 use std::alloc::Global;
 use std::fmt;
 use std::marker::Model;
 use swap_base::NoMemory;
 
+/// Where a key's signature comes from.
+#[derive(Drop)]
+enum Source {
+    /// Each value of the chains, of which signing only picks one of each chain.
+    Walked(Chains),
+    /// What the chains begin with, from where signing walks each as far as the digit of the message at it says.
+    Unwalked {
+        seed: Digest,
+        party: PartyId,
+        lock: LockId,
+    },
+}
+
 /// A party's key for one lock. Signing spends it, and it can't be copied. It may be let go unused.
 ///
-/// It keeps each value of its chains, 34 KB in a place of their own, so that signing only picks one of each chain. Who spends the key or lets it go
-/// gives that memory back.
+/// One that was made with its public key keeps each value of its chains, 34 KB in a place of their own. Who spends it or lets it go gives that memory back.
 #[derive(Drop)]
 pub struct OneTimeKey {
-    chains: Chains,
+    source: Source,
 }
 
 impl Model for OneTimeKey {
@@ -28,7 +41,9 @@ impl Model for OneTimeKey {
 
     ghost Value = { KeyParts };
 
-    ghost view = { λ k. k.chains };
+    ghost use Rattle.hash_signature.specs.Inside.{parts_of};
+
+    ghost view = { λ k. parts_of k.source };
 }
 
 /// The key that a party's seed gives for a lock, with its public key.
@@ -43,7 +58,21 @@ pub fn keygen(
 {
     let chains = Chains::new(alloc, seed, party, lock)?;
     let public = public_key(&chains);
-    Ok((OneTimeKey { chains }, public))
+    let source = Source::Walked(chains);
+    Ok((OneTimeKey { source }, public))
+}
+
+/// The same key without its public key. It takes no memory and hashes nothing yet; its signature takes half of the hashes that `keygen` does.
+pub fn key_of(seed: &Digest, party: PartyId, lock: LockId) -> OneTimeKey
+    ensures { result ≡ record { seed = seed.now; party = party; lock = lock } }
+{
+    OneTimeKey {
+        source: Source::Unwalked {
+            seed: *seed,
+            party,
+            lock,
+        },
+    }
 }
 
 fn public_key(chains: &Chains) -> Digest
@@ -57,7 +86,7 @@ fn public_key(chains: &Chains) -> Digest
     hasher.finalize()
 }
 
-fn opened_values(chains: &Chains, message: &Digest) -> [Digest; CHAINS]
+fn picked(chains: &Chains, message: &Digest) -> [Digest; CHAINS]
     ensures { result ≡ signature_of chains.now.seed chains.now.party chains.now.lock message.now }
 {
     let wanted = digits(message);
@@ -68,13 +97,28 @@ fn opened_values(chains: &Chains, message: &Digest) -> [Digest; CHAINS]
     values
 }
 
+fn walked(seed: &Digest, party: PartyId, lock: LockId, message: &Digest) -> [Digest; CHAINS]
+    ensures { result ≡ signature_of seed.now party lock message.now }
+{
+    carried(&chain_starts(seed, party, lock), &digits(message))
+}
+
+fn opened_values(source: &Source, message: &Digest) -> [Digest; CHAINS]
+    ensures { result ≡ (let key = parts_of source.now in signature_of key.seed key.party key.lock message.now) }
+{
+    match source {
+        Source::Walked(chains) => picked(chains, message),
+        Source::Unwalked { seed, party, lock } => walked(seed, *party, *lock, message),
+    }
+}
+
 impl OneTimeKey {
     /// The key's signature over the message, which spends the key.
     pub fn sign(self, message: &Digest) -> Sig
         ensures value { result ≡ signature_of self.seed self.party self.lock message.now }
         ensures valid { IsTrue (is_valid_signature (public_key_of self.seed self.party self.lock) message.now result) }
     {
-        Sig::new(opened_values(&self.chains, message))
+        Sig::new(opened_values(&self.source, message))
     }
 }
 

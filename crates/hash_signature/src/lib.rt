@@ -13,7 +13,7 @@ mod secret;
 mod sig;
 
 pub use hash_chains::CHAINS;
-pub use key::{OneTimeKey, keygen};
+pub use key::{OneTimeKey, key_of, keygen};
 pub use law::checksum_law;
 pub use secret::{hash_of, secret_of};
 pub use sig::{SIGNATURE_BYTES, Sig, verify};

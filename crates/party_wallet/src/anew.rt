@@ -5,7 +5,7 @@ ghost use Rattle.swap_digraph.specs.Deal.{path_limit};
 ghost use Rattle.party_wallet.specs.Keys.{own_key, onto_key};
 
 use crate::hashkeys::{onto_hashkey, own_hashkey};
-use crate::wallet_key::unspent;
+use crate::wallet_key::unspent_anew;
 use hashkey_path::Hashkey;
 use std::alloc::Global;
 use swap_base::{Digest, LockId, NoMemory, PartyId};
@@ -22,7 +22,7 @@ pub fn sign_own_anew(
     requires party { party < deal.now.graph.n }
     ensures { IfOk result (λ k. k ≡ own_key deal.now.mode deal.now party seed.now lock) }
 {
-    let (mut slot, _public) = unspent(alloc, deal.mode, seed, party, lock)?;
+    let mut slot = unspent_anew(deal.mode, seed, party, lock);
     own_hashkey(alloc, deal, party, seed, lock, &mut slot)
 }
 
@@ -39,6 +39,6 @@ pub fn sign_onto_anew(
     requires paired { length inner.now.sigs ≡ length inner.now.path }
     ensures { IfOk result (λ k. k ≡ onto_key deal.now.mode deal.now party seed.now inner.now) }
 {
-    let (mut slot, _public) = unspent(alloc, deal.mode, seed, party, inner.lock)?;
+    let mut slot = unspent_anew(deal.mode, seed, party, inner.lock);
     onto_hashkey(alloc, deal, party, inner, &mut slot)
 }

@@ -250,7 +250,7 @@ impl Wallet {
         ensures err { OnErr result (self.new ≡ self.old) }
     {
         let slot = &mut self.keys[lock as usize];
-        make_ready(alloc, self.mode, &self.seed, self.party, lock, slot)?;
+        make_ready(self.mode, &self.seed, self.party, lock, slot);
         let made = own_hashkey(alloc, deal, self.party, &self.seed, lock, slot)?;
         // Without memory for its holders what the key signed was shown to nobody, and is gone with the key.
         let (kept, answer) = held_twice(alloc, made)?;
@@ -276,7 +276,7 @@ impl Wallet {
         ensures err { OnErr result (self.new ≡ self.old) }
     {
         let slot = &mut self.keys[inner.lock as usize];
-        make_ready(alloc, self.mode, &self.seed, self.party, inner.lock, slot)?;
+        make_ready(self.mode, &self.seed, self.party, inner.lock, slot);
         let made = onto_hashkey(alloc, deal, self.party, inner, slot)?;
         // Without memory for its holders what the key signed was shown to nobody, and is gone with the key.
         let (kept, answer) = held_twice(alloc, made)?;

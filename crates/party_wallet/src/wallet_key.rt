@@ -1,9 +1,9 @@
 //! The key for one lock.
 
-ghost use Rattle.std.specs.Prelude.{◌≡◌, IfOk, OnOk, OnErr};
+ghost use Rattle.std.specs.Prelude.{◌≡◌, IfOk};
 ghost use Rattle.party_wallet.specs.Keys.{public_for, unspent, IsKeyFor};
 
-use hash_signature::{OneTimeKey, keygen};
+use hash_signature::{OneTimeKey, key_of, keygen};
 use std::alloc::Global;
 use swap_base::{Digest, LockId, NoMemory, PartyId};
 use swap_digraph::Mode;
@@ -28,23 +28,33 @@ pub(crate) fn unspent(
     }
 }
 
+/// The same key without its public key, which walks its chains no further than what it signs opens them.
+pub(crate) fn unspent_anew(
+    mode: Mode,
+    seed: &Digest,
+    party: PartyId,
+    lock: LockId,
+) -> Option<OneTimeKey>
+    ensures { result ≡ unspent mode seed.now party lock }
+{
+    match mode {
+        Mode::Timelocks => None,
+        Mode::Hashkeys => Some(key_of(seed, party, lock)),
+    }
+}
+
 /// Makes the key of a lock for which nothing is signed anew, where it is gone.
 pub(crate) fn make_ready(
-    alloc: Global,
     mode: Mode,
     seed: &Digest,
     party: PartyId,
     lock: LockId,
     slot: &mut Option<OneTimeKey>,
-) -> Result<(), NoMemory>
+)
     requires { IsKeyFor mode seed.now party lock slot.old }
-    ensures ready { OnOk result (slot.new ≡ unspent mode seed.now party lock) }
-    ensures err { OnErr result (slot.new ≡ slot.old) }
+    ensures { slot.new ≡ unspent mode seed.now party lock }
 {
-    if slot.is_some() {
-        return Ok(());
+    if slot.is_none() {
+        *slot = unspent_anew(mode, seed, party, lock);
     }
-    let (key, _public) = unspent(alloc, mode, seed, party, lock)?;
-    *slot = key;
-    Ok(())
 }

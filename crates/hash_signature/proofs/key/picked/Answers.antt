@@ -2,7 +2,7 @@ use Rattle.std.proofs.Common.{arith, rules, ◌∙◌}
 use Rattle.std.proofs.Math.ListN.{length-set}
 use Rattle.hash_signature.specs.Signature.{signed_value, signature_of}
 use Rattle.hash_signature.proofs.Chains.{filled_more, filled_all}
-use Rattle.hash_signature.proofs.key.opened_values.Goals as goal
+use Rattle.hash_signature.proofs.key.picked.Goals as goal
 
 pub chains-preserved : goal.chains-preserved
 chains-preserved c = record {

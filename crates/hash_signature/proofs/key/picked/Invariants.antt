@@ -1,7 +1,7 @@
 use Rattle.std.proofs.Common.{◌≡◌, length, take}
 use Rattle.hash_signature.specs.Signature.{signed_value}
 use Rattle.hash_signature.proofs.Chains.{first_chains}
-use Rattle.hash_signature.proofs.key.opened_values.Given as goal
+use Rattle.hash_signature.proofs.key.picked.Given as goal
 
 abbrev pub invariant-chains : goal.invariant-chains
 invariant-chains l = record {
