@@ -11,6 +11,7 @@ mod count;
 mod digits;
 mod entry;
 mod field;
+mod known;
 mod laws;
 mod lists;
 mod number;

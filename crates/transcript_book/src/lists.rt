@@ -6,6 +6,7 @@ ghost use Rattle.transcript_lines.specs.Reading.{each_of, list_of, number_below,
 use crate::digits::signature_of;
 use crate::number::{WordFault, byte_of};
 use crate::parts::Parts;
+use hash_signature::SIGNATURE_BYTES;
 use hashkey_path::SigList;
 use std::alloc::Global;
 use swap_base::Listed;
@@ -31,10 +32,11 @@ pub(crate) fn path_of(alloc: Global, word: &[u8]) -> Result<PathList, WordFault>
     each_party(alloc, &mut Parts::new(b',', word))
 }
 
-fn each_signature(alloc: Global, parts: &mut Parts<'_>) -> Result<SigList, WordFault>
+/// It takes memory for so many at once, as each is 2 KB.
+fn each_signature(alloc: Global, count: usize, parts: &mut Parts<'_>) -> Result<SigList, WordFault>
     ensures { Gives (λ l. l) result (each_of signature_of parts.old) }
 {
-    let mut list = Vec::new(alloc);
+    let mut list = Vec::with_capacity(alloc, count)?;
     while let Some(word) = parts.next() {
         list.push(signature_of(word)?)?;
     }
@@ -48,5 +50,6 @@ pub(crate) fn signatures_of(alloc: Global, word: &[u8]) -> Result<SigList, WordF
     if word == b"-".as_slice() {
         return Ok(Listed::empty(alloc));
     }
-    each_signature(alloc, &mut Parts::new(b',', word))
+    let count = word.len() / (2 * SIGNATURE_BYTES);
+    each_signature(alloc, count, &mut Parts::new(b',', word))
 }

@@ -6,6 +6,7 @@ ghost use Rattle.transcript_book.specs.declared.place.Place.TheVariants.{Ledger,
 ghost use Rattle.transcript_book.specs.Stages.{Reads, entry_read, is_over, ledger_read, line_read, no_ledgers, settled};
 
 use crate::count::read_count;
+use crate::known::{Known, none_known, with_known};
 use crate::number::{WordFault, misspelt};
 use crate::place::Place;
 use crate::stated::entry_at;
@@ -26,6 +27,7 @@ pub struct BookReader {
     height: u32,
     more: u32,
     place: Place,
+    known: Known,
 }
 
 impl Model for BookReader {
@@ -47,6 +49,7 @@ impl BookReader {
         ensures { IfOk result (λ r. r ≡ no_ledgers job) }
     {
         let histories = Vec::with_capacity(alloc, job.deal.graph.arcs().len())?;
+        let known = none_known(alloc, job.deal.graph.n() as usize)?;
         Ok(BookReader {
             job,
             histories,
@@ -54,6 +57,7 @@ impl BookReader {
             height: 0,
             more: 0,
             place: Place::Ledger,
+            known,
         })
     }
 
@@ -123,7 +127,7 @@ impl BookReader {
         let arc = self.histories.len() as ArcId;
         let entry = entry_at(alloc, &self.job.deal, arc, self.height, line)?;
         let height = entry.height;
-        self.entries.push(entry)?;
+        self.entries.push(with_known(&mut self.known, entry)?)?;
         self.height = height;
         self.more = self.more.saturating_sub(1);
         self.settle();
