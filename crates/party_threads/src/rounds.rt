@@ -29,6 +29,12 @@ use swap_world::{WorldFault, wrong_wallet};
 use time_bounds::horizon;
 use typed_books::read_book;
 
+/// From so many calls in a round on each actor has a thread of its own in the next.
+const MANY_CALLS: usize = 8;
+
+/// No fewer than there ever are actors, with the clock.
+const MOST_ACTORS: usize = 256;
+
 /// A ledger for each arc, each at its place.
 fn ledgers_of(alloc: Global, deal: &Deal) -> Result<Vec<Option<Home>>, NoMemory>
     requires { IsWellSized deal.now }
@@ -85,12 +91,17 @@ fn entries_in(ledgers: &[Option<Home>]) -> usize {
     all
 }
 
-/// On how many threads a round is played, by how many calls the one before it brought: on one more than these, and at most 16. After a round without a call
-/// hardly any actor does more than look, which takes far less time than to start a thread, and after few calls few do.
+/// On how many threads a round is played, by how many calls the one before it brought. After a round without a call hardly any actor does more than look, which
+/// takes far less time than to start a thread, and after few calls few do: then it is one more than these. After more calls each actor has a thread of its own,
+/// so that those whose turns take long share the cores whatever their places are.
 fn threads_after(calls: usize) -> usize
     ensures { 0 < result }
 {
-    calls.min(15) + 1
+    if calls < MANY_CALLS {
+        calls + 1
+    } else {
+        MOST_ACTORS
+    }
 }
 
 /// Rounds until each ledger is above the horizon.
@@ -124,8 +135,8 @@ fn run_rounds<R: Threads + Wait + Sync, A: Strategies + Sync, G: Gate>(
     Ok(())
 }
 
-/// Races a job whose wallets are right: every party and the clock have a turn in each round, on up to 16 threads, the fewer the less was done in the round
-/// before, and on one where nothing was; strategies answer from the staff. It waits for locks and at the gate.
+/// Races a job whose wallets are right: every party and the clock have a turn in each round, each on a thread of its own, on fewer threads where little was done
+/// in the round before, and on one where nothing was; strategies answer from the staff. It waits for locks and at the gate.
 pub fn race_fitting<R: Threads + Wait + Sync, A: Strategies + Sync, G: Gate>(
     rt: &R,
     alloc: Global,
