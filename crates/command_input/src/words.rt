@@ -1,6 +1,7 @@
 //! The words that a program is called with.
 
-ghost use Rattle.std.specs.Prelude.{◌≡◌, IfErr, IfOk, MatchOption, None, drop};
+ghost use Rattle.std.specs.Prelude.{◌≡◌, IfErr, IfOk, IsErr, MatchOption, None, drop};
+ghost use Rattle.std.specs.IoError.{error_kind};
 ghost use Rattle.std.specs.Vec.Iter.{into_iter_items};
 
 use std::alloc::Global;
@@ -26,6 +27,7 @@ fn behind_first(alloc: Global, args: Args) -> Result<Vec<String>, NoMemory>
 pub fn words_of(alloc: Global, args: io::Result<Args>) -> Result<Option<Vec<String>>, NoMemory>
     ensures words { IfOk args (λ all. IfOk result (λ o. MatchOption o ⊥ (λ words. words.items ≡ drop 1 (into_iter_items all)))) }
     ensures none { IfErr args (λ e. IfOk result (λ o. o ≡ None)) }
+    ensures memory { IfErr args (λ e. error_kind e ≡ ErrorKind.OutOfMemory → IsErr result) }
 {
     match args {
         Ok(args) => Ok(Some(behind_first(alloc, args)?)),
