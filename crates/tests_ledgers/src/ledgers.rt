@@ -102,12 +102,7 @@ fn tick(rt: &impl Abort, ledger: &mut Ledger, k: u32) -> Result<Reply, Fail> {
 }
 
 /// The reply to an act: `tick` and by how many heights, or a party and its call.
-pub(crate) fn act(
-    rt: &impl Abort,
-    alloc: Global,
-    ledger: &mut Ledger,
-    words: &str,
-) -> Result<Reply, Fail> {
+fn act(rt: &impl Abort, alloc: Global, ledger: &mut Ledger, words: &str) -> Result<Reply, Fail> {
     let (first, rest) = two(words)?;
     if first == "tick" {
         return tick(rt, ledger, rest.parse()?);

@@ -10,8 +10,6 @@ mod learning;
 #[cfg(test)]
 mod ledgers;
 #[cfg(test)]
-mod random;
-#[cfg(test)]
 mod replies;
 #[cfg(test)]
 mod resumed;
