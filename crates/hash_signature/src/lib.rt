@@ -9,12 +9,14 @@
 mod digits;
 mod key;
 mod law;
+mod same;
 mod secret;
 mod sig;
 
 pub use hash_chains::CHAINS;
 pub use key::{OneTimeKey, key_of, keygen};
 pub use law::checksum_law;
+pub use same::same_sigs;
 pub use secret::{hash_of, secret_of};
 pub use sig::{SIGNATURE_BYTES, Sig, verify};
 pub use swap_base::{Digest, LockId, PartyId};

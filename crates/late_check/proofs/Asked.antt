@@ -18,7 +18,7 @@ use Rattle.swap_rules.specs.Party.{first_key, is_correct, is_ready, is_triggered
 use Rattle.swap_rules.specs.Conduct.{is_first_key}
 use Rattle.swap_rules.specs.Late.{base_of, counts, ref_of, trigger_height, when}
 use Rattle.swap_digraph.proofs.Paths.{is_among-true, in-is_among}
-use Rattle.sent_keys.proofs.Same.{same_truth}
+use Rattle.hash_signature.proofs.Bytes.{same_truth}
 use Rattle.late_check.specs.declared.counting.Counted.TheVariants as counted
 use Rattle.late_check.specs.Parts.{claim_from, counts_as, publish_from, refund_from, unlock_from, IsAsked}
 

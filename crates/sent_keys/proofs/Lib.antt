@@ -1,4 +1,3 @@
 pub mod Unlocks
 pub mod Own
 pub mod Loops
-pub mod Same

@@ -1,10 +1,6 @@
 //! Hashkeys: whether two are the same, and those that a party sent.
 
 ghost use Rattle.std.specs.Prelude.{◌≡◌, ◌<◌, ◌++◌, IfOk, OnOk, length, option_copied};
-ghost use Rattle.std.specs.Str.{bytes_eq};
-ghost use Rattle.swap_base.specs.Lists.{same_list};
-ghost use Rattle.swap_base.specs.Text.{joined};
-ghost use Rattle.hash_signature.specs.Signature.{values_of};
 ghost use Rattle.hashkey_path.specs.Hashkey.{same_key};
 ghost use Rattle.ledger_core.specs.Book.{history, IsLegalBook};
 ghost use Rattle.swap_digraph.specs.Deal.{IsWellSized};
@@ -14,47 +10,13 @@ ghost use Rattle.history_index.specs.Indexes.{entries_in, AreIndexes};
 ghost use Rattle.sent_keys.specs.Sent.{shown, unlock_in, unlocks_made, unlocks_in, unlocks_of};
 
 use crate::calls::call_by;
-use hash_signature::{CHAINS, Sig};
+use hash_signature::{Sig, same_sigs};
 use hashkey_path::Hashkey;
 use history_index::{Index, Made};
 use ledger_core::{Call, is_adjacent};
 use std::alloc::Global;
 use swap_base::{ArcId, Digest, LockId, NoMemory, PartyId};
 use swap_digraph::Deal;
-
-/// A value has 32 bytes. Its type says so, which only clauses need.
-fn read_size(_value: &Digest)
-    ensures { length _value.now ≡ 32 }
-{}
-
-/// The bytes of a signature's values where they lie, one value after another.
-fn bytes_in(values: &[Digest; CHAINS]) -> &[u8]
-    ensures bytes { result.now ≡ joined values.now }
-    ensures values { values_of result.now ≡ values.now }
-{
-    'values: for value in values {
-        read_size(value);
-    }
-    values.as_flattened()
-}
-
-/// Whether both signatures are the same. Their bytes are compared many at a time, and values one after another.
-fn same_sig(one: &Sig, other: &Sig) -> bool
-    ensures { result ≡ same_list bytes_eq one.now other.now }
-{
-    bytes_in(one.values()) == bytes_in(other.values())
-}
-
-/// Whether both lists have the same signatures.
-fn same_sigs(one: &[Sig], other: &[Sig]) -> bool
-    ensures { result ≡ same_list (λ s t. same_list bytes_eq s t) one.now other.now }
-{
-    match (one, other) {
-        ([], []) => true,
-        ([sig, sigs @ ..], [first, rest @ ..]) => same_sig(sig, first) && same_sigs(sigs, rest),
-        _ => false,
-    }
-}
 
 /// Whether the hashkey has these parts.
 pub fn has_parts(

@@ -2,16 +2,11 @@
 use Rattle.std.proofs.Common.{◌≡◌, ◌==◌, ◌&&◌, ℕ, zero, suc, nat_lt, Bool, true, false, not, cond, List, length, is_none, is_some, get_or, subst, refl}
 use Rattle.std.proofs.Common.{sym, ap, ◌∙◌, ◌<◌}
 use Rattle.std.specs.Prelude.{All}
-use Rattle.std.specs.Str.{bytes_eq}
-use Rattle.swap_base.specs.Lists.{same_list}
-use Rattle.swap_base.proofs.Lists.{same_list-true}
 use Rattle.swap_digraph.specs.declared.deal.Deal.{Deal}
 use Rattle.swap_digraph.specs.Deal.{counterparty}
-use Rattle.hash_signature.specs.declared.sig.Sig.{Sig}
 use Rattle.hashkey_path.specs.declared.hashkey.Hashkey.{Hashkey}
 use Rattle.hashkey_path.specs.Hashkey.{is_wrong_secret, is_wrong_path, is_wrong_signature}
 use Rattle.hashkey_path.specs.Known.{is_last_signed}
-use Rattle.hashkey_path.proofs.Validity.{bytes_eq-true}
 use Rattle.hashkey_path.proofs.Known.{valid_is_known}
 use Rattle.escrow_core.specs.declared.reply.Reply.{Reply}
 use Rattle.escrow_core.specs.declared.reply.Reply.TheVariants.{Accepted, Settled, NotCounterparty, AlreadyUnlocked, WrongSecret, WrongPath}
@@ -24,9 +19,6 @@ use Rattle.ledger_core.specs.History.{height, published, settled, the_terms, is_
 use Rattle.ledger_core.specs.Known.{is_known_in}
 use Rattle.swap_auditor.specs.Replies.{is_after_check}
 use Rattle.swap_auditor.specs.Found.{IsSigned, IsTold, SharesLast}
-
-pub sigs_are_same : (xs ys : List Sig) → same_list (λ s t. same_list bytes_eq s t) xs ys ≡ true → xs ≡ ys
-sigs_are_same xs ys e = same_list-true (λ s t. same_list bytes_eq s t) (λ s t h. same_list-true bytes_eq bytes_eq-true s t h) xs ys e
 
 -- what is known of the one is known of the other
 pub shared_is_known : (n : ℕ) (d : Deal) (one other : Hashkey) → SharesLast n one other → IsSigned d other → is_last_signed n d one ≡ true

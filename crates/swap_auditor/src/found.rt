@@ -8,7 +8,7 @@ ghost use Rattle.swap_auditor.specs.Found.{IsSigned, IsTold, SharesLast};
 
 use crate::same_reply::is_after_check;
 use escrow_core::Reply;
-use hash_signature::Sig;
+use hash_signature::same_sigs;
 use hashkey_path::Hashkey;
 use ledger_core::Call;
 use std::alloc::Global;
@@ -48,12 +48,6 @@ fn shared_vertices(one: &[PartyId], other: &[PartyId]) -> usize
 }
 
 fn same_path(one: &[PartyId], other: &[PartyId]) -> bool
-    ensures { result ≡ true → one.now ≡ other.now }
-{
-    one == other
-}
-
-fn same_sigs(one: &[Sig], other: &[Sig]) -> bool
     ensures { result ≡ true → one.now ≡ other.now }
 {
     one == other

@@ -3,7 +3,7 @@
 
 ghost use Rattle.std.specs.Prelude.{◌≡◌, IfOk, IfSome, true};
 
-use hash_signature::Sig;
+use hash_signature::same_sigs;
 use hashkey_path::Hashkey;
 use ledger_core::{Call, Entry, Sender, What};
 use std::alloc::Global;
@@ -26,12 +26,6 @@ pub(crate) fn none_known(alloc: Global, parties: usize) -> Result<Known, NoMemor
 
 fn place_of(party: PartyId, lock: LockId) -> usize {
     party as usize * MOST_LOCKS + lock as usize
-}
-
-fn same_sigs(one: &[Sig], other: &[Sig]) -> bool
-    ensures { result ≡ true → one.now ≡ other.now }
-{
-    one == other
 }
 
 fn is_same(one: &Hashkey, other: &Hashkey) -> bool

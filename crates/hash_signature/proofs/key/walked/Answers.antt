@@ -1,5 +1,5 @@
-use Rattle.std.proofs.Common.{◌≡◌, ℕ, ◌<◌, List, [], get_or, slice_index, ap, ◌∙◌}
-use Rattle.hash_chains.specs.Chains.{chain_after, chain_start}
+use Rattle.std.proofs.Common.{ℕ, List, [], get_or, slice_index, ap, ◌∙◌}
+use Rattle.hash_chains.specs.Chains.{chain_after}
 use Rattle.hash_signature.specs.Signature.{digit, signed_value, signature_of}
 use Rattle.hash_signature.proofs.Chains.{all_filled}
 use Rattle.hash_signature.proofs.key.walked.Goals as goal

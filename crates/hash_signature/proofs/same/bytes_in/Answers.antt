@@ -2,8 +2,8 @@ use Rattle.std.proofs.Common.{◌≡◌, ◌∙◌, ap, arith}
 use Rattle.swap_base.specs.Text.{joined}
 use Rattle.hash_signature.specs.Signature.{values_of}
 use Rattle.hash_signature.proofs.Values.{values_of-joined}
-use Rattle.sent_keys.proofs.Same.{flat_joined}
-use Rattle.sent_keys.proofs.keys.bytes_in.Goals as goal
+use Rattle.hash_signature.proofs.Bytes.{flat_joined}
+use Rattle.hash_signature.proofs.same.bytes_in.Goals as goal
 
 pub returns-clause-values : goal.returns-clause-values
 returns-clause-values c =

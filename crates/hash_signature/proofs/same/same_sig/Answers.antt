@@ -1,8 +1,8 @@
 use Rattle.std.proofs.Common.{◌∙◌, ap₂}
 use Rattle.std.specs.Str.{bytes_eq}
 use Rattle.swap_base.specs.Lists.{same_list}
-use Rattle.sent_keys.proofs.Same.{same_bytes}
-use Rattle.sent_keys.proofs.keys.same_sig.Goals as goal
+use Rattle.hash_signature.proofs.Bytes.{same_bytes}
+use Rattle.hash_signature.proofs.same.same_sig.Goals as goal
 
 pub returns : goal.returns
 returns c =
