@@ -22,7 +22,7 @@ pub struct KeyBack {
 
 /// The path of a hashkey and the signatures but the first, with memory for that one.
 #[derive(Drop)]
-struct Unsigned {
+pub(crate) struct Unsigned {
     path: Vec<PartyId>,
     sigs: Vec<Sig>,
     ghost few: { length path.items < 256 },
@@ -52,7 +52,7 @@ fn with_room(alloc: Global, inner: &[Sig]) -> Result<Vec<Sig>, NoMemory>
 }
 
 impl Unsigned {
-    fn new(
+    pub(crate) fn new(
         alloc: Global,
         party: PartyId,
         rest: &[PartyId],
@@ -89,6 +89,49 @@ impl Unsigned {
             path: Listed::new(path),
             sigs: Listed::new(sigs),
         }
+    }
+
+    /// The hashkey with that signature before the others. It takes no memory.
+    fn with_first(self, lock: LockId, secret: &Digest, sig: Sig) -> Hashkey
+        ensures { result ≡ record { lock = lock; secret = secret.now; path = self.path.items; sigs = sig ∷ self.sigs.items } }
+    {
+        let Unsigned { path, mut sigs } = self;
+        sigs.insert(0, sig).unwrap();
+        Hashkey {
+            lock,
+            secret: *secret,
+            path: Listed::new(path),
+            sigs: Listed::new(sigs),
+        }
+    }
+
+    /// Signs once with the key, which spends it, and puts the signature into these lists and into equal ones. It takes no memory.
+    pub(crate) fn sign_twice(
+        self,
+        twin: Unsigned,
+        deal: &Deal,
+        lock: LockId,
+        secret: &Digest,
+        key: OneTimeKey,
+    ) -> (Hashkey, Hashkey)
+        requires path { twin.path.items ≡ self.path.items }
+        requires sigs { twin.sigs.items ≡ self.sigs.items }
+        ensures exact { let message = message_of deal.now.id lock self.path.items secret.now self.sigs.items in
+            result.0 ≡ record {
+              lock = lock;
+              secret = secret.now;
+              path = self.path.items;
+              sigs = signature_of key.seed key.party key.lock message ∷ self.sigs.items;
+            } }
+        ensures equal { result.1 ≡ result.0 }
+    {
+        let message = message_of(&deal.id, lock, &self.path, secret, &self.sigs);
+        let sig = key.sign(&message);
+        let same = Sig::new(*sig.values());
+        (
+            self.with_first(lock, secret, sig),
+            twin.with_first(lock, secret, same),
+        )
     }
 }
 

@@ -6,12 +6,8 @@ use Rattle.std.proofs.lemmas.List.FromFn.{get_or-map-range_with_len, length-map-
 use Rattle.swap_digraph.specs.declared.deal.Mode.{Mode}
 use Rattle.hash_signature.specs.Key.{KeyParts}
 use Rattle.hashkey_path.specs.declared.hashkey.Hashkey.{Hashkey}
-use Rattle.party_wallet.specs.Keys.{public_for, unspent, IsKeyFor}
+use Rattle.party_wallet.specs.Keys.{public_for, unspent}
 use Rattle.party_wallet.specs.Inside.{AreSpentOnce, ArePublic}
-
-its_key : (m : Mode) (seed : List ℕ) (v i : ℕ) (slot : Option KeyParts) → slot ≡ unspent m seed v i → IsKeyFor m seed v i slot
-its_key m seed v i None e = search rules
-its_key m seed v i (Some k) e = sym e
 
 pub new_unspent : (m : Mode) (seed : List ℕ) (v n : ℕ) (keys : List (Option KeyParts)) (publics : List (Option (List ℕ))) (signed : List (Option Hashkey))
     → n ≤ 8 → keys ≡ map (unspent m seed v) (range_with_len 0 n) → publics ≡ map (public_for m seed v) (range_with_len 0 n) → signed ≡ replicate n None
@@ -23,8 +19,7 @@ new_unspent m seed v n keys publics signed few ek ep es =
       record {
         one_each = lk ∙ sym ls;
         few = omega arith;
-        own_at = λ i lt. its_key m seed v i _
-            (ap (λ ks. get_or ks i None) ek ∙ get_or-map-range_with_len (unspent m seed v) 0 n i i None (omega arith) (zero-add i));
+        ready_at = λ i lt none. ap (λ ks. get_or ks i None) ek ∙ get_or-map-range_with_len (unspent m seed v) 0 n i i None (omega arith) (zero-add i);
         spent_at = λ i lt some. absurd (some (ap (λ ks. get_or ks i None) es ∙ get_or-replicate n i None None (omega arith)));
       },
       record {

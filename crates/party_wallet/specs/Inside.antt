@@ -4,18 +4,18 @@ use Rattle.swap_digraph.specs.declared.deal.Mode.{Mode}
 use Rattle.hash_signature.specs.Key.{KeyParts}
 use Rattle.hashkey_path.specs.declared.hashkey.Hashkey.{Hashkey}
 use Rattle.party_wallet.specs.Value.{WalletState}
-use Rattle.party_wallet.specs.Keys.{public_for, IsKeyFor}
+use Rattle.party_wallet.specs.Keys.{public_for, unspent}
 use Rattle.party_wallet.specs.declared.wallet.Wallet.TheInside.{Inside}
 
 -- what its fields show
 abbrev pub wallet_in : Inside → WalletState
 wallet_in w = record { mode = w.mode; seed = w.seed; party = w.party; signed = w.signed.keys }
 
--- A lock for which nothing is signed has no key but its own, and of one for which a hashkey is signed the key is gone.
+-- A lock for which nothing is signed has its key ready, and of one for which a hashkey is signed the key is gone.
 pub record AreSpentOnce (m : Mode) (seed : List ℕ) (v : ℕ) (keys : List (Option KeyParts)) (signed : List (Option Hashkey)) : Type 0 where
   pub one_each : length keys ≡ length signed
   pub few : length signed ≤ 8
-  pub own_at : (i : ℕ) → i < length signed → IsKeyFor m seed v i (slice_index_or keys i None)
+  pub ready_at : (i : ℕ) → i < length signed → slice_index_or signed i None ≡ None → slice_index_or keys i None ≡ unspent m seed v i
   pub spent_at : (i : ℕ) → i < length signed → slice_index_or signed i None ≢ None → slice_index_or keys i None ≡ None
 
 -- The public key of each lock.

@@ -1,5 +1,5 @@
 -- What a seed gives a party to sign with.
-use Rattle.std.specs.Prelude.{◌≡◌, ℕ, List, [], length, replicate, Option, Some, None, slice_set, IfSome}
+use Rattle.std.specs.Prelude.{◌≡◌, ℕ, List, [], length, replicate, Option, Some, None, slice_set}
 use Rattle.swap_digraph.specs.declared.deal.Deal.{Deal}
 use Rattle.swap_digraph.specs.declared.deal.Mode.{Mode}
 use Rattle.swap_digraph.specs.declared.deal.Mode.TheVariants.{Timelocks, Hashkeys}
@@ -27,10 +27,6 @@ onto_key Hashkeys d v seed inner = extended_key d inner v seed
 abbrev pub unspent : Mode → List ℕ → ℕ → ℕ → Option KeyParts
 unspent Timelocks seed v i = None
 unspent Hashkeys seed v i = Some (record { seed = seed; party = v; lock = i })
-
--- no key but that for lock i
-abbrev pub IsKeyFor : Mode → List ℕ → ℕ → ℕ → Option KeyParts → Type 0
-IsKeyFor m seed v i slot = IfSome slot (λ k. unspent m seed v i ≡ Some k)
 
 -- the public key for lock i
 abbrev pub public_for : Mode → List ℕ → ℕ → ℕ → Option (List ℕ)

@@ -1,4 +1,4 @@
-//! The hashkeys that a party makes, each of which spends the key for its lock.
+//! Hashkeys that a party makes with a key, each of which spends it.
 
 ghost use Rattle.std.specs.Prelude.{◌≡◌, ◌<◌, ℕ, List, None, length, IfOk, OnOk, OnErr};
 ghost use Rattle.swap_digraph.specs.Deal.{path_limit};
@@ -10,7 +10,7 @@ use std::alloc::Global;
 use swap_base::{Digest, Listed, LockId, NoMemory, PartyId};
 use swap_digraph::{Deal, Mode};
 
-fn bare(alloc: Global, lock: LockId, secret: &Digest) -> Hashkey
+pub(crate) fn bare(alloc: Global, lock: LockId, secret: &Digest) -> Hashkey
     ensures { result ≡ bare_key lock secret.now }
 {
     Hashkey {

@@ -6,6 +6,7 @@
 mod anew;
 mod fitting;
 mod hashkeys;
+mod held;
 mod signed;
 mod wallet;
 mod wallet_key;

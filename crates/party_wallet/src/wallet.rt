@@ -9,9 +9,9 @@ ghost use Rattle.party_wallet.specs.Fits.{wrong_lock};
 ghost use Rattle.party_wallet.specs.Keys.{empty_wallet, new_wallet, public_for, unspent, own_key, onto_key, with_recorded, with_signed};
 
 use crate::fitting::fits_lock;
-use crate::hashkeys::{onto_hashkey, own_hashkey};
+use crate::held::{onto_held, own_held};
 use crate::signed::Signed;
-use crate::wallet_key::{make_ready, unspent};
+use crate::wallet_key::unspent;
 use hash_signature::OneTimeKey;
 use hashkey_path::Hashkey;
 use std::alloc::Global;
@@ -27,7 +27,7 @@ pub struct Wallet {
     mode: Mode,
     seed: Digest,
     party: PartyId,
-    /// The keys that stand ready. One that signed what no memory was left for is gone, and is made anew when it is wanted.
+    /// The keys that stand ready: those of the locks for which nothing is signed.
     keys: Vec<Option<OneTimeKey>>,
     publics: Vec<Option<Digest>>,
     signed: Signed,
@@ -92,16 +92,6 @@ fn keep(signed: &mut Signed, alloc: Global, lock: LockId, hashkey: Shared<Hashke
     let mut keys = mem::replace(&mut signed.keys, Listed::empty(alloc)).into_vec();
     keys[lock as usize] = Some(hashkey);
     signed.keys = Listed::new(keys);
-}
-
-/// A hashkey with two holders.
-fn held_twice(alloc: Global, made: Hashkey) -> Result<(Shared<Hashkey>, Shared<Hashkey>), NoMemory>
-    ensures one { IfOk result (λ p. p.0 ≡ made) }
-    ensures other { IfOk result (λ p. p.1 ≡ made) }
-{
-    let one = Shared::new(alloc, made)?;
-    let other = one.copy()?;
-    Ok((one, other))
 }
 
 impl Wallet {
@@ -234,7 +224,8 @@ impl Wallet {
         }
     }
 
-    /// Makes the party's own hashkey for a lock that it leads, keeps it, and answers a copy. Want of memory leaves everything as it was.
+    /// Makes the party's own hashkey for a lock that it leads, keeps it, and answers a copy. Want of memory leaves everything as it was: the key has
+    /// signed nothing.
     pub fn sign_own(
         &mut self,
         alloc: Global,
@@ -250,15 +241,13 @@ impl Wallet {
         ensures err { OnErr result (self.new ≡ self.old) }
     {
         let slot = &mut self.keys[lock as usize];
-        make_ready(self.mode, &self.seed, self.party, lock, slot);
-        let made = own_hashkey(alloc, deal, self.party, &self.seed, lock, slot)?;
-        // Without memory for its holders what the key signed was shown to nobody, and is gone with the key.
-        let (kept, answer) = held_twice(alloc, made)?;
+        let (kept, answer) = own_held(alloc, deal, self.party, &self.seed, lock, slot)?;
         keep(&mut self.signed, alloc, lock, kept);
         Ok(answer)
     }
 
-    /// Makes the party's hashkey that goes on from another, keeps it, and answers a copy. Want of memory leaves everything as it was.
+    /// Makes the party's hashkey that goes on from another, keeps it, and answers a copy. Want of memory leaves everything as it was: the key has
+    /// signed nothing.
     pub fn sign_onto(
         &mut self,
         alloc: Global,
@@ -276,10 +265,7 @@ impl Wallet {
         ensures err { OnErr result (self.new ≡ self.old) }
     {
         let slot = &mut self.keys[inner.lock as usize];
-        make_ready(self.mode, &self.seed, self.party, inner.lock, slot);
-        let made = onto_hashkey(alloc, deal, self.party, inner, slot)?;
-        // Without memory for its holders what the key signed was shown to nobody, and is gone with the key.
-        let (kept, answer) = held_twice(alloc, made)?;
+        let (kept, answer) = onto_held(alloc, deal, self.party, inner, slot)?;
         keep(&mut self.signed, alloc, inner.lock, kept);
         Ok(answer)
     }

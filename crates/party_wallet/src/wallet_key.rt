@@ -1,7 +1,7 @@
 //! The key for one lock.
 
 ghost use Rattle.std.specs.Prelude.{◌≡◌, IfOk};
-ghost use Rattle.party_wallet.specs.Keys.{public_for, unspent, IsKeyFor};
+ghost use Rattle.party_wallet.specs.Keys.{public_for, unspent};
 
 use hash_signature::{OneTimeKey, key_of, keygen};
 use std::alloc::Global;
@@ -40,21 +40,5 @@ pub(crate) fn unspent_anew(
     match mode {
         Mode::Timelocks => None,
         Mode::Hashkeys => Some(key_of(seed, party, lock)),
-    }
-}
-
-/// Makes the key of a lock for which nothing is signed anew, where it is gone.
-pub(crate) fn make_ready(
-    mode: Mode,
-    seed: &Digest,
-    party: PartyId,
-    lock: LockId,
-    slot: &mut Option<OneTimeKey>,
-)
-    requires { IsKeyFor mode seed.now party lock slot.old }
-    ensures { slot.new ≡ unspent mode seed.now party lock }
-{
-    if slot.is_none() {
-        *slot = unspent_anew(mode, seed, party, lock);
     }
 }

@@ -1,6 +1,7 @@
 //! A value with several holders.
 
-ghost use Rattle.std.specs.Prelude.{◌≡◌, IfOk};
+ghost use Rattle.std.specs.Prelude.{◌≡◌, IfOk, IfSome};
+ghost use Rattle.std.specs.Borrow.{LendsIf, sem};
 
 use crate::copy::TryCopy;
 use crate::fault::NoMemory;
@@ -31,6 +32,18 @@ impl<T: Drop> Shared<T> {
         Ok(Shared {
             held: Arc::new(alloc, value)?,
         })
+    }
+}
+
+impl<T> Shared<T> {
+    ghost use Rattle.swap_base.specs.contracts.shared.Shared.{the_row};
+
+    /// The value, to write to, where it has no other holder.
+    pub fn get_mut(&mut self) -> Option<&mut T>
+        ensures* writes_back { sem 𝓛 (LendsIf (the_row T.row) T.row self.entry result (λ w. w) self.old) }
+        ensures value { IfSome result (λ x. x.now ≡ self.old) }
+    {
+        Arc::get_mut(&mut self.held)
     }
 }
 

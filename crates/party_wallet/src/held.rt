@@ -1,0 +1,124 @@
+//! The hashkeys that a wallet makes, with two holders. All their memory is taken before the key for the lock is spent.
+
+ghost use Rattle.std.specs.Prelude.{◌≡◌, ◌<◌, ℕ, List, None, length, IfOk, OnOk, OnErr};
+ghost use Rattle.swap_digraph.specs.Deal.{path_limit};
+ghost use Rattle.party_wallet.specs.Keys.{bare_key, own_key, onto_key, unspent};
+
+use crate::hashkeys::bare;
+use hash_signature::{OneTimeKey, secret_of};
+use hashkey_path::{Hashkey, extend_held, first_held};
+use std::alloc::Global;
+use swap_base::{Digest, LockId, NoMemory, PartyId, Shared, TryCopy};
+use swap_digraph::{Deal, Mode};
+
+/// A secret alone, with two holders.
+fn bare_held(
+    alloc: Global,
+    lock: LockId,
+    secret: &Digest,
+) -> Result<(Shared<Hashkey>, Shared<Hashkey>), NoMemory>
+    ensures value { IfOk result (λ held. held.0 ≡ bare_key lock secret.now) }
+    ensures equal { IfOk result (λ held. held.1 ≡ held.0) }
+{
+    let one = Shared::new(alloc, bare(alloc, lock, secret))?;
+    let other = one.copy()?;
+    Ok((one, other))
+}
+
+fn own_signed(
+    alloc: Global,
+    deal: &Deal,
+    party: PartyId,
+    seed: &Digest,
+    lock: LockId,
+    slot: &mut Option<OneTimeKey>,
+) -> Result<(Shared<Hashkey>, Shared<Hashkey>), NoMemory>
+    requires party { party < deal.now.graph.n }
+    requires unspent { slot.old ≡ unspent Mode.Hashkeys seed.now party lock }
+    ensures value { IfOk result (λ held. held.0 ≡ own_key Mode.Hashkeys deal.now party seed.now lock) }
+    ensures equal { IfOk result (λ held. held.1 ≡ held.0) }
+    ensures spent { OnOk result (slot.new ≡ None) }
+    ensures back { OnErr result (slot.new ≡ slot.old) }
+{
+    let key = slot.take().unwrap();
+    match first_held(alloc, deal, lock, &secret_of(seed), party, key) {
+        Ok(held) => Ok(held),
+        Err(back) => {
+            *slot = Some(back.key);
+            Err(NoMemory)
+        }
+    }
+}
+
+fn onto_signed(
+    alloc: Global,
+    deal: &Deal,
+    party: PartyId,
+    inner: &Hashkey,
+    slot: &mut Option<OneTimeKey>,
+) -> Result<(Shared<Hashkey>, Shared<Hashkey>), NoMemory>
+    requires party { party < deal.now.graph.n }
+    requires few { length inner.now.path < path_limit deal.now }
+    requires paired { length inner.now.sigs ≡ length inner.now.path }
+    requires unspent { (seed : List ℕ) × (slot.old ≡ unspent Mode.Hashkeys seed party inner.now.lock) }
+    ensures value { IfOk result (λ held. (seed : List ℕ) → slot.old ≡ unspent Mode.Hashkeys seed party inner.now.lock
+        → held.0 ≡ onto_key Mode.Hashkeys deal.now party seed inner.now) }
+    ensures equal { IfOk result (λ held. held.1 ≡ held.0) }
+    ensures spent { OnOk result (slot.new ≡ None) }
+    ensures back { OnErr result (slot.new ≡ slot.old) }
+{
+    let key = slot.take().unwrap();
+    match extend_held(alloc, deal, inner, party, key) {
+        Ok(held) => Ok(held),
+        Err(back) => {
+            *slot = Some(back.key);
+            Err(NoMemory)
+        }
+    }
+}
+
+/// The party's own hashkey for a lock that it leads. Want of memory leaves the key where it is, unspent.
+pub(crate) fn own_held(
+    alloc: Global,
+    deal: &Deal,
+    party: PartyId,
+    seed: &Digest,
+    lock: LockId,
+    slot: &mut Option<OneTimeKey>,
+) -> Result<(Shared<Hashkey>, Shared<Hashkey>), NoMemory>
+    requires party { party < deal.now.graph.n }
+    requires unspent { slot.old ≡ unspent deal.now.mode seed.now party lock }
+    ensures value { IfOk result (λ held. held.0 ≡ own_key deal.now.mode deal.now party seed.now lock) }
+    ensures equal { IfOk result (λ held. held.1 ≡ held.0) }
+    ensures spent { OnOk result (slot.new ≡ None) }
+    ensures back { OnErr result (slot.new ≡ slot.old) }
+{
+    match deal.mode {
+        Mode::Timelocks => bare_held(alloc, lock, &secret_of(seed)),
+        Mode::Hashkeys => own_signed(alloc, deal, party, seed, lock, slot),
+    }
+}
+
+/// The party's hashkey that goes on from another. Want of memory leaves the key where it is, unspent.
+pub(crate) fn onto_held(
+    alloc: Global,
+    deal: &Deal,
+    party: PartyId,
+    inner: &Hashkey,
+    slot: &mut Option<OneTimeKey>,
+) -> Result<(Shared<Hashkey>, Shared<Hashkey>), NoMemory>
+    requires party { party < deal.now.graph.n }
+    requires few { length inner.now.path < path_limit deal.now }
+    requires paired { length inner.now.sigs ≡ length inner.now.path }
+    requires unspent { (seed : List ℕ) × (slot.old ≡ unspent deal.now.mode seed party inner.now.lock) }
+    ensures value { IfOk result (λ held. (seed : List ℕ) → slot.old ≡ unspent deal.now.mode seed party inner.now.lock
+        → held.0 ≡ onto_key deal.now.mode deal.now party seed inner.now) }
+    ensures equal { IfOk result (λ held. held.1 ≡ held.0) }
+    ensures spent { OnOk result (slot.new ≡ None) }
+    ensures back { OnErr result (slot.new ≡ slot.old) }
+{
+    match deal.mode {
+        Mode::Timelocks => bare_held(alloc, inner.lock, &inner.secret),
+        Mode::Hashkeys => onto_signed(alloc, deal, party, inner, slot),
+    }
+}
