@@ -1,6 +1,8 @@
-"""The rules of the swap over a book: what is due, conduct, lateness, forgery, outcomes and findings.
+"""The rules of the swap over a book: what is due, conduct, lateness, forgery, outcomes and
+findings.
 
-docs/DEFINITIONS.md, 'A book'. A view is a book, or what a party knows of it: of each ledger the first entries.
+docs/DEFINITIONS.md, 'A book'. A view is a book, or what a party knows of it: of each ledger the
+first entries.
 """
 from .hashes import Hashkey, extended, hashlock_of, secret_of
 from .ledger import CLAIM, PUBLISH, REFUND, TRANSFER, UNLOCK, Call, expiry, what_is_wrong
@@ -26,7 +28,8 @@ class View:
         return self.ledgers[arc].opened(lock, self.ends[arc])
 
     def expiries(self, arc, end):
-        """The expiry of each lock that isn't opened after the first entries of an arc: that of the correct terms, whatever was published."""
+        """The expiry of each lock that isn't opened after the first entries of an arc: that of the
+        correct terms, whatever was published."""
         ledger = self.ledgers[arc]
         return [expiry(self.deal, arc, ledger.correct_terms, lock) for lock in ledger.closed_locks(end)]
 
@@ -58,11 +61,13 @@ class View:
         return all(self.is_good(arc) for arc in self.deal.entering[party])
 
     def ready_height(self, party):
-        """The height at which a party became ready: the greatest at which an arc that enters it was published."""
+        """The height at which a party became ready: the greatest at which an arc that enters it was
+        published."""
         return max(self.published(arc).height for arc in self.deal.entering[party])
 
     def seen_opening(self, party, lock):
-        """The opening of a lock on the least-numbered leaving arc whose opening path lacks the party, or None."""
+        """The opening of a lock on the least-numbered leaving arc whose opening path lacks the
+        party, or None."""
         for arc in self.deal.leaving[party]:
             opening = self.opened(arc, lock)
             if opening and party not in opening.hashkey.path:
@@ -85,7 +90,8 @@ def first_due(view, party, seed, signed):
 
 
 def all_due(view, party, seed, signed):
-    """The calls that are due for a party over what it knows: by rule and then by arc, each on an arc on which the party has no such call yet.
+    """The calls that are due for a party over what it knows: by rule and then by arc, each on an
+    arc on which the party has no such call yet.
 
     `signed` are the hashkeys that it noted.
     """
@@ -97,8 +103,27 @@ def all_due(view, party, seed, signed):
     yield from due_refunds(view, party)
 
 
+def all_useful(view, party, seed, signed):
+    """What is due less the calls that can only hurt the party: a publish on a ledger above the height by which contracts open, and
+    a hashkey that is withheld.
+    """
+    for arc, call in all_due(view, party, seed, signed):
+        is_late = call.kind == PUBLISH and view.height(arc) > view.deal.open_by
+        if not is_late and not (call.kind == UNLOCK and is_withheld(view, party, call.stated.lock)):
+            yield arc, call
+
+
+def is_withheld(view, party, lock):
+    """Whether a leader has presented no hashkey for its lock, and would present its own too late on an arc that enters it."""
+    deal = view.deal
+    if deal.leaders[lock] != party or view.first_unlock(party, lock):
+        return False
+    return any(view.height(arc) > deal.open_by + deal.delta for arc in deal.entering[party])
+
+
 def due_publishes(view, party, is_ready):
-    """A publish of the correct terms on each leaving arc: for a leader at once, for a follower where it is ready."""
+    """A publish of the correct terms on each leaving arc: for a leader at once, for a follower
+    where it is ready."""
     if party in view.deal.leaders or is_ready:
         for arc in view.deal.leaving[party]:
             if not view.calls(party, arc, PUBLISH):
@@ -106,7 +131,8 @@ def due_publishes(view, party, is_ready):
 
 
 def due_unlocks(view, party, seed, signed):
-    """Where the party is ready, an unlock for each lock on each entering arc, by lock and then by arc, with its hashkey for the lock."""
+    """Where the party is ready, an unlock for each lock on each entering arc, by lock and then by
+    arc, with its hashkey for the lock."""
     for lock in view.deal.locks:
         for arc in view.deal.entering[party]:
             if not view.calls(party, arc, UNLOCK, lock):
@@ -116,7 +142,8 @@ def due_unlocks(view, party, seed, signed):
 
 
 def due_key(view, party, lock, seed, signed):
-    """The hashkey that a party signed before for a lock; else, where it leads the lock, its own; else its extension of one that it has seen."""
+    """The hashkey that a party signed before for a lock; else, where it leads the lock, its own;
+    else its extension of one that it has seen."""
     deal = view.deal
     if lock in signed:
         return signed[lock]
@@ -138,7 +165,8 @@ def due_claims(view, party):
 
 
 def due_refunds(view, party):
-    """A refund on each leaving arc that was published, is neither settled nor triggered, and is known above the expiry of a closed lock."""
+    """A refund on each leaving arc that was published, is neither settled nor triggered, and is
+    known above the expiry of a closed lock."""
     for arc in view.deal.leaving[party]:
         if is_refundable(view, party, arc) and view.height(arc) > view.least_expiry(arc):
             yield arc, Call(REFUND)
@@ -151,7 +179,8 @@ def is_refundable(view, party, arc):
 
 
 def rest_until(view, party):
-    """Up to which height ticks make nothing due for a party for which nothing is: the least expiry that it waits for, or None where it waits for none."""
+    """Up to which height ticks make nothing due for a party for which nothing is: the least expiry
+    that it waits for, or None where it waits for none."""
     return min((view.least_expiry(arc) for arc in view.deal.leaving[party] if is_refundable(view, party, arc)), default=None)
 
 
@@ -182,14 +211,16 @@ def keeps_rules(book, party, arc, at, entry):
 
 
 def is_conducted_publish(book, party, arc, entry):
-    """A publish has the correct terms, is the party's only one on its arc, and a follower makes it only where it is ready."""
+    """A publish has the correct terms, is the party's only one on its arc, and a follower makes it
+    only where it is ready."""
     is_allowed = party in book.deal.leaders or book.is_ready(party)
     is_only = len(book.calls(party, arc, PUBLISH)) == 1
     return is_allowed and is_only and entry.call.stated == book.ledgers[arc].correct_terms
 
 
 def is_conducted_unlock(book, party, arc, at, hashkey):
-    """An unlock comes after its arc's publish, where the party is ready; all unlocks for one lock carry one hashkey, valid on the arc."""
+    """An unlock comes after its arc's publish, where the party is ready; all unlocks for one lock
+    carry one hashkey, valid on the arc."""
     if not book.ledgers[arc].published(at) or not book.is_ready(party):
         return False
     if hashkey != book.first_unlock(party, hashkey.lock):
@@ -200,7 +231,8 @@ def is_conducted_unlock(book, party, arc, at, hashkey):
 
 
 def extends_accepted(book, party, hashkey):
-    """Whether a hashkey extends one that was accepted on a leaving arc and whose path lacks the party."""
+    """Whether a hashkey extends one that was accepted on a leaving arc and whose path lacks the
+    party."""
     inner = hashkey.tail() if book.deal.is_keyed else hashkey
     return party not in inner.path and bool(accepted_heights(book, party, inner))
 
@@ -219,7 +251,8 @@ def is_conducted_refund(book, arc, at, entry):
 # ---- lateness
 
 def lateness(book, party):
-    """Where a party was late, as a rule, an arc and the due height: publish, then unlock by lock, then claim, then refund, each by arc."""
+    """Where a party was late, as a rule, an arc and the due height: publish, then unlock by lock,
+    then claim, then refund, each by arc."""
     deal = book.deal
     for arc in deal.leaving[party]:
         yield from late(book, arc, PUBLISH, publish_reference(book, party), counted(book, party, arc, PUBLISH))
@@ -243,7 +276,8 @@ def counted(book, party, arc, kind):
 
 
 def late(book, arc, rule, reference, heights):
-    """Late: an action is enabled (has a reference), its ledger stands above its due height, and no call that counts stands by then."""
+    """Late: an action is enabled (has a reference), its ledger stands above its due height, and no
+    call that counts stands by then."""
     if reference is not None:
         due = reference + book.deal.delta
         if book.height(arc) > due and not any(height <= due for height in heights):
@@ -258,7 +292,8 @@ def publish_reference(book, party):
 
 
 def unlock_reference(book, party, lock, first):
-    """Enabled where the party is ready, and leads the lock, or made an unlock call for it, or has seen it opened."""
+    """Enabled where the party is ready, and leads the lock, or made an unlock call for it, or has
+    seen it opened."""
     if not book.is_ready(party):
         return None
     ready = book.ready_height(party)
@@ -270,7 +305,8 @@ def unlock_reference(book, party, lock, first):
 
 
 def base_height(book, party, lock, first):
-    """The greatest height at which the used hashkey was accepted on a leaving arc, 0 where on none."""
+    """The greatest height at which the used hashkey was accepted on a leaving arc, 0 where on
+    none."""
     if not book.deal.is_keyed:
         openings = [book.opened(arc, lock) for arc in book.deal.leaving[party]]
         return max([opening.height for opening in openings if opening], default=0)
@@ -284,14 +320,16 @@ def base_height(book, party, lock, first):
 
 
 def claim_reference(book, arc):
-    """Enabled where the arc is correct and triggered: the height at which its last lock was opened."""
+    """Enabled where the arc is correct and triggered: the height at which its last lock was
+    opened."""
     if book.is_correct(arc) and book.is_triggered(arc):
         return max(book.opened(arc, lock).height for lock in book.deal.locks)
     return None
 
 
 def refund_reference(book, arc):
-    """Enabled where the arc carries an accepted publish and isn't triggered: the least expiry of a lock that isn't opened."""
+    """Enabled where the arc carries an accepted publish and isn't triggered: the least expiry of a
+    lock that isn't opened."""
     if book.published(arc) and not book.is_triggered(arc):
         return book.least_expiry(arc)
     return None
@@ -300,7 +338,8 @@ def refund_reference(book, arc):
 # ---- forgery
 
 def forgeries(book, party):
-    """Where an accepted unlock carries a suffix that begins with the party (with timelocks, the leader's secret) that it never presented."""
+    """Where an accepted unlock carries a suffix that begins with the party (with timelocks, the
+    leader's secret) that it never presented."""
     presented = {entry.call.stated for arc in book.deal.touching[party] for _, entry in book.calls(party, arc, UNLOCK)}
     for arc in book.deal.arcs:
         for opening in sorted(book.ledgers[arc].openings.values()):
@@ -310,7 +349,8 @@ def forgeries(book, party):
 
 
 def own_suffix(deal, party, hashkey):
-    """What of a hashkey is a party's own: the suffix that begins with it; with timelocks the leader's secret; or None."""
+    """What of a hashkey is a party's own: the suffix that begins with it; with timelocks the
+    leader's secret; or None."""
     if deal.is_keyed:
         return hashkey.suffix(party) if party in hashkey.path else None
     is_own = party == deal.leaders[0] and hashlock_of(hashkey.secret) == deal.hashlocks[0]
@@ -325,7 +365,8 @@ def has_ended(book):
 
 
 def outcome(book, party):
-    """The outcome of a party, by the leaving arcs that were triggered (lost) and the entering arcs that are correct and were claimed (got)."""
+    """The outcome of a party, by the leaving arcs that were triggered (lost) and the entering arcs
+    that are correct and were claimed (got)."""
     lost = [book.is_triggered(arc) for arc in book.deal.leaving[party]]
     got = [book.is_correct(arc) and is_claimed(book, arc) for arc in book.deal.entering[party]]
     if not any(lost):

@@ -1,8 +1,9 @@
-"""A party's own wallet: what is due for it, by what it wrote down and what each ledger did so far. docs/FORMATS.md, 'A wallet's lines'."""
+"""A party's own wallet: what is useful to it, by what it wrote down and what each ledger did so far.
+docs/FORMATS.md, 'A wallet's lines'."""
 from .hashes import Hashkey
 from .ledger import PUBLISH, UNLOCK, what_is_wrong
 from .offer import is_given, refuse
-from .rules import all_due, rest_until
+from .rules import all_useful, rest_until
 from .texts import call_words, joined
 from .transcripts import Reader, demand, digest, members, numeral, replayed, transcript_of
 
@@ -29,7 +30,8 @@ def note_of(line):
 
 
 def notes_in(reader):
-    """The notes with the numbers of their lines, up to the first line that begins with neither word."""
+    """The notes with the numbers of their lines, up to the first line that begins with neither
+    word."""
     notes = []
     while reader.has_word(b"keep") or reader.has_word(b"sent"):
         notes.append((reader.number + 1, reader.read(note_of)))
@@ -52,7 +54,8 @@ def examine_seed(deal, party, seed):
 
 
 def is_keepable(deal, party, kept, hashkey):
-    """A hashkey may stand among the notes that is for a lock of the deal, the first for it, and opens it on the first arc that enters the party."""
+    """A hashkey may stand among the notes that is for a lock of the deal, the first for it, and
+    opens it on the first arc that enters the party."""
     if hashkey.lock not in deal.locks or hashkey.lock in kept:
         return False
     return what_is_wrong(deal, deal.entering[party][0], deal.hashlocks[hashkey.lock], hashkey) is None
@@ -83,10 +86,11 @@ def examine_unlocks(book, party, kept):
 
 # ---- the answer
 
-def lines_for(party, due, kept, sent):
-    """A line for each due call that may go out, and one for each hashkey that must be kept first."""
+def lines_for(party, useful, kept, sent):
+    """A line for each useful call that may go out, and one for each hashkey that must be kept
+    first."""
     asked = set()
-    for arc, call in due:
+    for arc, call in useful:
         if call.kind == PUBLISH and arc in sent:
             continue
         if call.kind != UNLOCK or call.stated.lock in kept:
@@ -111,5 +115,5 @@ def wallet_lines(text, name):
     kept, sent = noted(offer.deal, party, notes)
     book = replayed(offer, stated)
     examine_unlocks(book, party, kept)
-    due = list(all_due(book, party, seed, kept))
-    return joined(lines_for(party, due, kept, sent) if due else [rest_line(rest_until(book, party))]), 0
+    useful = list(all_useful(book, party, seed, kept))
+    return joined(lines_for(party, useful, kept, sent) if useful else [rest_line(rest_until(book, party))]), 0

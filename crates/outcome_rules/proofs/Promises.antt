@@ -10,7 +10,8 @@ use Rattle.swap_rules.specs.declared.outcome.Outcome.TheVariants.{Underwater, De
 use Rattle.swap_rules.specs.Accepted.{IsAccepted}
 use Rattle.swap_rules.specs.Findings.{findings}
 use Rattle.swap_rules.specs.Outcome.{outcome}
-use Rattle.swap_rules.specs.Laws.{is_against, is_in_name_of, FindsNothing, IsTransferred}
+use Rattle.swap_rules.specs.Laws.{is_in_name_of, FindsNothing, IsTransferred}
+use Rattle.swap_rules.specs.Walking.{endangers, strands}
 use Rattle.swap_rules.proofs.Found as found
 use Rattle.outcome_rules.specs.Report.{conforms_in, outcomes_of}
 use Rattle.outcome_rules.specs.Promises.{AllAreConforming, AllHaveRefunds, NoneIsUnderwater}
@@ -19,12 +20,12 @@ module _ (d : Deal) (conforming : List Bool) (b : Histories) (l : List Finding) 
     (exact : l ≡ findings d (conforms_in conforming) b) where
   pub none_is_underwater : IsAccepted d → NoneIsUnderwater d conforming (outcome d b) l
   none_is_underwater k v c none =
-      (found.unnamed_is_safe d (conforms_in conforming) b v k legal c.party c.conforms (subst (λ l. list_any (is_against v) l ≡ false) exact c.clear)).0
+      found.late_publish_is_safe d (conforms_in conforming) b v k legal c.party c.conforms (subst (λ l. list_any (endangers v) l ≡ false) exact c.clear)
       (subst (λ l. list_any (is_in_name_of d v) l ≡ false) exact none)
 
   pub all_have_refunds : IsAccepted d → AllHaveRefunds d conforming b l
   all_have_refunds k v c =
-      (found.unnamed_is_safe d (conforms_in conforming) b v k legal c.party c.conforms (subst (λ l. list_any (is_against v) l ≡ false) exact c.clear)).1
+      found.late_unlock_has_refunds d (conforms_in conforming) b v k legal c.party c.conforms (subst (λ l. list_any (strands v) l ≡ false) exact c.clear)
 
   pub is_transferred : (k : IsAccepted d) → AllAreConforming d conforming → l ≡ [] → IsTransferred d b k
   is_transferred k all none = found.without_findings_all_is_transferred d (conforms_in conforming) b k legal all (sym exact ∙ none)

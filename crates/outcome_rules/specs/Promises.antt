@@ -6,23 +6,26 @@ use Rattle.ledger_core.specs.Book.{Histories}
 use Rattle.swap_rules.specs.declared.finding.Finding.{Finding}
 use Rattle.swap_rules.specs.declared.outcome.Outcome.{Outcome}
 use Rattle.swap_rules.specs.declared.outcome.Outcome.TheVariants.{Underwater, Deal as WholeDeal}
-use Rattle.swap_rules.specs.Laws.{is_against, is_in_name_of, HasRefunds}
+use Rattle.swap_rules.specs.Laws.{is_in_name_of, HasRefunds}
+use Rattle.swap_rules.specs.Walking.{endangers, strands}
 use Rattle.outcome_rules.specs.declared.report.Report.{Report}
 use Rattle.outcome_rules.specs.Report.{conforms_in}
 
--- A party of the deal that conforms, and against which no finding stands.
-pub record IsClear (d : Deal) (conforming : List Bool) (found : List Finding) (v : ℕ) : Type 0 where
+-- A party of the deal that conforms, and of which no finding passes the test.
+pub record IsClear (says : Finding → Bool) (d : Deal) (conforming : List Bool) (found : List Finding) (v : ℕ) : Type 0 where
   pub party : v < d.graph.n
   pub conforms : conforms_in conforming v ≡ true
-  pub clear : list_any (is_against v) found ≡ false
+  pub clear : list_any says found ≡ false
 
--- no clear party ends underwater, where no finding stands in its name on an arc that leaves it
+-- no conforming party that no finding endangers ends underwater, where none stands in its name on an arc that leaves it, however late it published or
+-- asked back
 abbrev pub NoneIsUnderwater : Deal → List Bool → (ℕ → Outcome) → List Finding → Type 0
-NoneIsUnderwater d conforming outcome_of found = (v : ℕ) → IsClear d conforming found v → list_any (is_in_name_of d v) found ≡ false → outcome_of v ≢ Underwater
+NoneIsUnderwater d conforming outcome_of found = (v : ℕ) → IsClear (endangers v) d conforming found v → list_any (is_in_name_of d v) found ≡ false → outcome_of v ≢ Underwater
 
--- every clear party, forged or not, has the whole amount of each leaving arc that isn't triggered
+-- every conforming party that no finding strands, forged or not, has the whole amount of each leaving arc that isn't triggered, however late it unlocked
+-- or claimed
 abbrev pub AllHaveRefunds : Deal → List Bool → Histories → List Finding → Type 0
-AllHaveRefunds d conforming b found = (v : ℕ) → IsClear d conforming found v → HasRefunds d b v
+AllHaveRefunds d conforming b found = (v : ℕ) → IsClear (strands v) d conforming found v → HasRefunds d b v
 
 -- every party of the deal conforms
 abbrev pub AllAreConforming : Deal → List Bool → Type 0

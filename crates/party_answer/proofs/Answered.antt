@@ -18,17 +18,19 @@ use Rattle.history_index.specs.Indexes.{entries_in}
 use Rattle.swap_rules.specs.Accepted.{IsAccepted}
 use Rattle.swap_rules.specs.Due.{Action}
 use Rattle.swap_rules.specs.Rest.{rest_until, StaysLow}
-use Rattle.swap_rules.proofs.Rest.{rests_below, ticks_make_nothing_due}
+use Rattle.swap_rules.proofs.Rest.{rests_below}
+use Rattle.swap_rules.proofs.Useful.{ticks_make_nothing_useful}
 use Rattle.party_wallet.specs.Value.{signed_in}
 use Rattle.party_wallet.specs.Fits.{wrong_lock}
 use Rattle.party_machine.proofs.Good.{fitting_is_good}
 use Rattle.wallet_promise.specs.Answers.{answers_for}
-use Rattle.wallet_promise.proofs.AllAnswers.{all_may_be_kept, all_may_go, each_key_is_asked, none_is_sent_twice, nothing_is_left_out}
+use Rattle.wallet_promise.proofs.AllAnswers.{all_is_useful, all_may_be_kept, all_may_go, each_key_is_asked, none_is_sent_twice, nothing_is_left_out}
+use Rattle.told_books.proofs.Enough.{same_useful}
 use Rattle.transcript_reader.specs.Header.{IsTold}
 use Rattle.party_notes.specs.Kept.{KeptState, kept_of}
 use Rattle.party_answer.specs.declared.reason.AnswerReason.{AnswerReason}
 use Rattle.party_answer.specs.Asked.{Question, SaidState, asked, by_reason, first_unkept, own_seed, party_named, question_of, replayed, said_in, unless_unkept}
-use Rattle.party_answer.specs.Text.{all_due, asking_of, line_of, rest_lines, sent_on, text_of, wallet_in}
+use Rattle.party_answer.specs.Text.{all_useful, asking_of, line_of, rest_lines, sent_on, text_of, wallet_in}
 use Rattle.party_answer.specs.Promised.{IsAnswerTo, IsAtRest}
 
 -- Few parties and few arcs.
@@ -52,8 +54,8 @@ few_known d known sized legal =
     let most = arcs_of d.version in
     omega (arith, length-map known (λ x. x.entries), legal.one_each, few, most)
 
--- The lines of what is due.
-pub text_given : {E : Type 0} (q : Question) (xs : List Action) (r : Result (List ℕ) E) → xs ≡ all_due q
+-- The lines of what is useful.
+pub text_given : {E : Type 0} (q : Question) (xs : List Action) (r : Result (List ℕ) E) → xs ≡ all_useful q
     → IfOk r (λ t. t ≡ flat_map (line_of q.me) (answers_for (signed_in q.kept.keys) (sent_on q) xs) ++ rest_lines xs (rest_until q.deal q.me q.known))
     → IfOk r (λ t. t ≡ text_of q)
 unfolding text_of
@@ -122,9 +124,11 @@ module _ (first : ℕ) (name seed : List ℕ) (s : SaidState) (me : ℕ) (kept :
           go = all_may_go s.story.job.deal me w q sent;
           once = none_is_sent_twice s.story.job.deal me w q sent;
           keep = all_may_be_kept s.story.job.deal me w q sent;
+          helps = all_is_useful s.story.job.deal me w q sent;
           all = nothing_is_left_out s.story.job.deal me w q sent;
           each = each_key_is_asked s.story.job.deal me w q sent;
-          rest = λ a more none ticks low. ticks_make_nothing_due s.story.job.deal me w q.kept s.story.book a more ticks none
+          heard = λ h says. sym (same_useful s.story.job.deal me s.story.book h says w q.kept);
+          rest = λ a more none ticks low. ticks_make_nothing_useful s.story.job.deal me w q.kept s.story.book a more ticks none
               (stays_low s.story.job.deal me s.story.book a more low);
         }
 

@@ -1,4 +1,4 @@
--- The lines of calls that are due, as they grow.
+-- The lines of calls that are useful, as they grow.
 use Rattle.std.proofs.Common.{◌≡◌, ◌==◌, ℕ, ◌+◌, ◌<◌, ◌≤◌, not, Bool, true, false, cond, List, [], ◌∷◌, ◌++◌, length, drop, get_or, map, Option, Some, None}
 use Rattle.std.proofs.Common.{Result, refl, sym, ap, ap₂, ◌∙◌, subst, arith, add-one, drop-cons, append_assoc, append-nil, codes, eqb-true}
 use Rattle.std.specs.Prelude.{OnOk}

@@ -1,4 +1,4 @@
--- The lines of calls that are due, one after another.
+-- The lines of calls that are useful, one after another.
 use Rattle.std.specs.Prelude.{◌≡◌, ℕ, List, [], ◌∷◌, ◌++◌, map, Option, Some, if◌then◌else◌}
 use Rattle.std.specs.List.{flat_map}
 use Rattle.swap_digraph.specs.Graph.{is_among}

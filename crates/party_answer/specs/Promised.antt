@@ -1,20 +1,22 @@
 -- What holds of an answer that was given.
-use Rattle.std.specs.Prelude.{◌≡◌, ◌<◌, ◌≤◌, ◌++◌, ℕ, true, false, List, [], set, Option, Some, None, Result, Ok}
+use Rattle.std.specs.Prelude.{◌≡◌, ◌⊎◌, ◌<◌, ◌≤◌, ◌++◌, ℕ, true, false, List, [], set, Option, Some, None, Result, Ok}
 use Rattle.swap_base.specs.Lists.{IsIn}
 use Rattle.hashkey_path.specs.declared.hashkey.Hashkey.{Hashkey}
 use Rattle.ledger_core.specs.declared.entry.Entry.{Entry}
 use Rattle.ledger_core.specs.History.{height}
 use Rattle.ledger_core.specs.Book.{Histories, history, IsLegalBook}
 use Rattle.swap_rules.specs.Accepted.{IsAccepted}
-use Rattle.swap_rules.specs.Due.{Action, due}
+use Rattle.swap_rules.specs.Due.{Action}
+use Rattle.swap_rules.specs.Useful.{useful, IsHarmful}
 use Rattle.swap_rules.specs.Machine.{IsWallet}
 use Rattle.swap_rules.specs.Rest.{are_ticks, rest_until}
 use Rattle.party_wallet.specs.Value.{signed_in}
 use Rattle.wallet_promise.specs.Life.{Answer, Make, Keep, MayGo, MayKeep}
 use Rattle.wallet_promise.specs.Answers.{answers, was_sent}
+use Rattle.told_books.specs.Told.{SayEnough}
 use Rattle.party_answer.specs.declared.reason.AnswerReason.{AnswerReason}
 use Rattle.party_answer.specs.Asked.{Question, asked}
-use Rattle.party_answer.specs.Text.{all_due, asking_of, sent_on, text_of, wallet_in}
+use Rattle.party_answer.specs.Text.{all_useful, asking_of, sent_on, text_of, wallet_in}
 
 -- all that is answered to a question
 abbrev pub answers_in : Question → List Answer
@@ -28,18 +30,23 @@ MayGoIn q x = MayGo q.deal q.me (wallet_in q) (asking_of q) x
 abbrev pub MayKeepIn : Question → Hashkey → Type 0
 MayKeepIn q key = MayKeep q.deal q.me (wallet_in q) (asking_of q) key
 
--- all that is due to it over other ledgers
-abbrev pub due_over : Question → Histories → List Action
-due_over q known = due q.deal q.me (wallet_in q) (signed_in q.kept.keys) known
+-- all that is useful to it over other ledgers
+abbrev pub useful_over : Question → Histories → List Action
+useful_over q known = useful q.deal q.me (wallet_in q) (signed_in q.kept.keys) known
 
 -- the height isn't above that at which rest ends, if it ends at one
 abbrev pub IsAtRest : Option ℕ → ℕ → Type 0
 IsAtRest None at = Unit {0}
 IsAtRest (Some end) at = at ≤ end
 
+-- the call that can only hurt the party
+abbrev pub IsHarmfulIn : Question → Action → Type 0
+IsHarmfulIn q x = IsHarmful q.deal q.me (wallet_in q) (signed_in q.kept.keys) q.known x
+
 -- A text is the answer to what is asked: of an accepted deal, over ledgers that did what is told of them, for a party whose seed it is. Each call in it
--- may go out, no publish in it was sent, each hashkey in it may be kept, and nothing that may is left out but publishes that were sent: of a lock for which
--- a hashkey may be kept it has one. Where nothing is due, ticks on any ledger make nothing due up to the height at which rest ends.
+-- may go out and is useful, no publish in it was sent, and each hashkey in it may be kept. Nothing that may is left out but publishes that were sent, and
+-- calls that can only hurt the party: of a lock for which a hashkey may be kept it has one. The same is useful over any histories of which what is
+-- told says enough, so noise may be left out. Where nothing is useful, ticks on any ledger make nothing useful up to the height at which rest ends.
 pub record IsAnswerTo (asks : Result Question AnswerReason) (answer : List ℕ) : Type 0 where
   pub question : Question
   pub asked : asks ≡ Ok question
@@ -51,11 +58,15 @@ pub record IsAnswerTo (asks : Result Question AnswerReason) (answer : List ℕ) 
   pub go : (x : Action) → IsIn (Make x) (answers_in question) → MayGoIn question x
   pub once : (x : Action) → IsIn (Make x) (answers_in question) → was_sent (sent_on question) x ≡ false
   pub keep : (key : Hashkey) → IsIn (Keep key) (answers_in question) → MayKeepIn question key
-  pub all : (x : Action) → MayGoIn question x → was_sent (sent_on question) x ≡ false → IsIn (Make x) (answers_in question)
-  pub each : (key : Hashkey) → MayKeepIn question key → (other : Hashkey) × IsIn (Keep other) (answers_in question) × (other.lock ≡ key.lock)
-  pub rest : (a : ℕ) (more : List Entry) → all_due question ≡ [] → are_ticks more ≡ true
+  pub helps : (x : Action) → IsIn (Make x) (answers_in question) → IsIn x (all_useful question)
+  pub all : (x : Action) → MayGoIn question x → was_sent (sent_on question) x ≡ false
+      → IsIn (Make x) (answers_in question) ⊎ IsHarmfulIn question x
+  pub each : (key : Hashkey) (may : MayKeepIn question key)
+      → ((other : Hashkey) × IsIn (Keep other) (answers_in question) × (other.lock ≡ key.lock)) ⊎ IsHarmfulIn question (MayKeep.unlock may)
+  pub heard : (h : Histories) → SayEnough question.deal question.me question.known h → useful_over question h ≡ all_useful question
+  pub rest : (a : ℕ) (more : List Entry) → all_useful question ≡ [] → are_ticks more ≡ true
       → IsAtRest (rest_until question.deal question.me question.known) (height (history question.known a ++ more))
-      → due_over question (set question.known a (history question.known a ++ more)) ≡ []
+      → useful_over question (set question.known a (history question.known a ++ more)) ≡ []
 
 -- A text is the answer to a text whose first line has that number, for the party of that name with that seed.
 abbrev pub IsAnswer : ℕ → List ℕ → List ℕ → List ℕ → List ℕ → Type 0

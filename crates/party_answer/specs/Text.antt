@@ -1,9 +1,10 @@
--- The lines that answer a question: all that is due, or how long nothing is.
+-- The lines that answer a question: all that is useful of what is due, or how long nothing is.
 use Rattle.std.specs.Prelude.{ℕ, Bool, List, [], ◌∷◌, ◌++◌, codes, decimal, Option, Some, None, Result, Ok}
 use Rattle.std.specs.List.{flat_map}
 use Rattle.swap_base.specs.Fault.{◌>>=◌}
 use Rattle.swap_digraph.specs.Graph.{is_among}
-use Rattle.swap_rules.specs.Due.{Action, Wallet, due}
+use Rattle.swap_rules.specs.Due.{Action, Wallet}
+use Rattle.swap_rules.specs.Useful.{useful}
 use Rattle.swap_rules.specs.Rest.{rest_until}
 use Rattle.party_wallet.specs.Value.{signed_in}
 use Rattle.party_machine.specs.Wallet.{wallet_of}
@@ -20,7 +21,7 @@ line_of v Rest = []
 line_of v (Make x) = spaced (codes "call" ∷ decimal x.arc ∷ decimal v ∷ call_words x.call) ++ 10 ∷ []
 line_of v (Keep key) = spaced (codes "keep" ∷ key_words key) ++ 10 ∷ []
 
--- nothing is due before a ledger has something new or stands above that height, if any
+-- nothing is useful before a ledger has something new or stands above that height, if any
 abbrev pub rest_line : Option ℕ → List ℕ
 rest_line None = codes "rest\n"
 rest_line (Some height) = spaced (codes "rest" ∷ decimal height ∷ []) ++ 10 ∷ []
@@ -40,14 +41,14 @@ sent_on q a = is_among a q.kept.sent
 abbrev pub wallet_in : Question → Wallet
 wallet_in q = wallet_of q.seed q.me q.deal
 
--- all that is due
-abbrev pub all_due : Question → List Action
-all_due q = due q.deal q.me (wallet_in q) (signed_in q.kept.keys) q.known
+-- all that is useful
+abbrev pub all_useful : Question → List Action
+all_useful q = useful q.deal q.me (wallet_in q) (signed_in q.kept.keys) q.known
 
 -- the lines that answer a question
 unfoldable pub text_of : Question → List ℕ
 text_of q =
-    flat_map (line_of q.me) (answers q.deal q.me (wallet_in q) (asking_of q) (sent_on q)) ++ rest_lines (all_due q) (rest_until q.deal q.me q.known)
+    flat_map (line_of q.me) (answers q.deal q.me (wallet_in q) (asking_of q) (sent_on q)) ++ rest_lines (all_useful q) (rest_until q.deal q.me q.known)
 
 -- what is answered to a question over ledgers whose replies are right, unless a hashkey was presented that wasn't kept
 abbrev pub answer_over : Question → Result (List ℕ) AnswerReason

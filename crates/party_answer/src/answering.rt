@@ -22,14 +22,14 @@ use crate::reason::{AnswerFault, AnswerReason};
 use crate::unkept::first_unkept;
 use history_index::Index;
 use outcome_rules::indexes_of;
-use party_due::{DueCall, all_due};
+use party_due::{DueCall, all_useful};
 use party_notes::Kept;
 use party_wallet::Signed;
 use std::alloc::Global;
 use swap_base::{ByteText, Digest, Fault, NoMemory, PartyId};
 use swap_digraph::Deal;
 
-/// The lines of what is due, or of rest where nothing is.
+/// The lines of what is useful, or of rest where nothing is.
 fn lines_of(
     alloc: Global,
     deal: &Deal,
@@ -67,7 +67,7 @@ fn text_of(
     requires kept { length kept.now.signed.keys ≡ length deal.now.leaders }
     ensures { IfOk result (λ t. t ≡ text_of (question_in deal.now me seed.now (entries_in known.now) kept.now)) }
 {
-    let calls = all_due(alloc, deal, me, seed, &kept.signed, known)?;
+    let calls = all_useful(alloc, deal, me, seed, &kept.signed, known)?;
     lines_of(alloc, deal, me, kept, known, &calls)
 }
 
@@ -140,7 +140,7 @@ fn answer_said(
     answer_over(alloc, said, me, seed, &kept)
 }
 
-/// All that is due for the party of that name with that seed, a line each, by a text whose first line has that number in the input: what its wallet wrote
+/// All that is useful to the party of that name with that seed, a line each, by a text whose first line has that number in the input: what its wallet wrote
 /// down, and a transcript of each ledger as far as it was told.
 #[tactic(auto, unfolding(crate::specs::Text::answer_to, crate::specs::Asked::asked))]
 pub fn answer(

@@ -6,9 +6,9 @@ use Rattle.std.specs.List.{flat_map, list_all}
 use Rattle.std.proofs.lemmas.List.{length-map}
 use Rattle.swap_base.specs.Lists.{IsIn}
 use Rattle.swap_base.proofs.Lists.{list_all-in}
-use Rattle.swap_digraph.specs.Graph.{leaving}
+use Rattle.swap_digraph.specs.Graph.{leaving, entering}
 use Rattle.swap_digraph.specs.declared.deal.Deal.{Deal}
-use Rattle.swap_digraph.specs.Deal.{leads, IsWellSized}
+use Rattle.swap_digraph.specs.Deal.{leads, locks, IsWellSized}
 use Rattle.hashkey_path.specs.declared.hashkey.Hashkey.{Hashkey}
 use Rattle.ledger_core.specs.declared.entry.Call.TheVariants.{Unlock}
 use Rattle.ledger_core.specs.declared.entry.Entry.{Entry}
@@ -19,7 +19,11 @@ use Rattle.history_index.specs.Value.{IndexState}
 use Rattle.history_index.specs.Indexes.{entries_in, AreIndexes}
 use Rattle.swap_rules.specs.Party.{is_ready, opens_without}
 use Rattle.swap_rules.specs.Due.{Wallet, Action, due_key, due_unlock_on, extended, has_called, is_unlock_for, may_unlock, presented, when_due}
-use Rattle.swap_rules.proofs.Words.{leaves}
+use Rattle.swap_rules.specs.Walking.{pressing_unlocks}
+use Rattle.swap_rules.specs.Useful.{useful_unlocks}
+use Rattle.swap_rules.proofs.Words.{leaves, flat_map_none}
+use Rattle.swap_rules.proofs.Useful.{none_pressing}
+use Rattle.due_calls.proofs.Unlocking.{not_ready}
 use Rattle.due_calls.proofs.Openings.{has_lock}
 use Rattle.due_calls.specs.declared.unlock_due.Base.{Base}
 use Rattle.due_calls.specs.declared.unlock_due.Base.TheVariants.{Signed, Own, Onto}
@@ -138,3 +142,11 @@ with_key d v w signed k i xs key e ready =
 
 pub nothing_more : {A : Type 0} (old new xs : List A) → new ≡ old → xs ≡ [] → new ≡ old ++ xs
 nothing_more old new xs e none = e ∙ (sym (append-nil old) ∙ ap (λ ys. old ++ ys) (sym none))
+
+-- nothing is useful for any lock where the party isn't ready
+pub none_useful : (d : Deal) (v : ℕ) (w : Wallet) (signed : ℕ → Option Hashkey) (k : Histories) → is_ready d k v ≡ false
+    → useful_unlocks d v w signed k ≡ []
+none_useful d v w signed k e =
+    empty_flat (pressing_unlocks d v w signed k) (locks d) (λ i j.
+    none_pressing d v w signed k i
+    (flat_map_none (λ i. flat_map (due_unlock_on d v w (signed i) k i) (entering d.graph v)) (locks d) i (not_ready d v w signed k e) j))

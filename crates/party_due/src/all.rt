@@ -1,10 +1,10 @@
-//! All that is due.
+//! All that is useful.
 
 ghost use Rattle.std.specs.Prelude.{◌≡◌, ◌<◌, IfOk, length};
 ghost use Rattle.swap_digraph.specs.Deal.{IsWellSized};
 ghost use Rattle.ledger_core.specs.Book.{IsLegalBook};
 ghost use Rattle.history_index.specs.Indexes.{entries_in, AreIndexes};
-ghost use Rattle.swap_rules.specs.Due.{due};
+ghost use Rattle.swap_rules.specs.Useful.{useful};
 ghost use Rattle.party_wallet.specs.Value.{signed_in};
 ghost use Rattle.party_machine.specs.Wallet.{wallet_of};
 ghost use Rattle.party_due.specs.Actions.{actions};
@@ -19,10 +19,10 @@ use std::alloc::Global;
 use swap_base::{Digest, NoMemory, PartyId};
 use swap_digraph::Deal;
 
-/// All calls that are due for the party with that seed, in their order, with the hashkeys that it kept. A hashkey is signed where an unlock with it is due
-/// and none was kept for its lock.
-#[tactic(auto, unfolding(swap_rules::specs::Due::due))]
-pub fn all_due(
+/// All calls that are useful to the party with that seed, in their order, with the hashkeys that it
+/// kept. A hashkey is signed where an unlock with it is useful and none was kept for its lock.
+#[tactic(auto, unfolding(swap_rules::specs::Useful::useful))]
+pub fn all_useful(
     alloc: Global,
     deal: &Deal,
     me: PartyId,
@@ -35,8 +35,8 @@ pub fn all_due(
     requires known { AreIndexes deal.now known.now }
     requires legal { IsLegalBook deal.now (entries_in known.now) }
     requires kept { length kept.now.keys ≡ length deal.now.leaders }
-    ensures due { IfOk result (λ v. actions v.items
-        ≡ due deal.now me (wallet_of seed.now me deal.now) (signed_in kept.now.keys) (entries_in known.now)) }
+    ensures useful { IfOk result (λ v. actions v.items
+        ≡ useful deal.now me (wallet_of seed.now me deal.now) (signed_in kept.now.keys) (entries_in known.now)) }
 {
     let mut calls = Vec::new(alloc);
     put_publishes(alloc, deal, me, known, &mut calls)?;

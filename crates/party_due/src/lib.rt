@@ -1,6 +1,7 @@
-//! All that is due for a party, over what it knows and with the hashkeys that it kept: not the first call alone, which a machine answers.
+//! All that is useful to a party, over what it knows and with the hashkeys that it kept: what is due by the rule book, less the
+//! calls that can only hurt the party.
 //!
-//! Read in `swap_rules` the definition `due`.
+//! Read in `swap_rules` the definitions `due` and `useful`.
 #![tactic(auto)]
 
 mod all;
@@ -9,6 +10,7 @@ mod due_key;
 mod publishes;
 mod settling;
 mod unlocks;
+mod withheld;
 
-pub use all::all_due;
+pub use all::all_useful;
 pub use due_call::DueCall;

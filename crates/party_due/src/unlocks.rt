@@ -1,4 +1,4 @@
-//! The unlocks that are due.
+//! The unlocks that are useful.
 
 ghost use Rattle.std.specs.Prelude.{◌≡◌, ◌<◌, ◌++◌, true, not, Some, OnOk, length};
 ghost use Rattle.std.specs.List.{flat_map, list_all};
@@ -8,13 +8,16 @@ ghost use Rattle.ledger_core.specs.declared.entry.Call.TheVariants.{Unlock};
 ghost use Rattle.ledger_core.specs.Book.{history, IsLegalBook};
 ghost use Rattle.history_index.specs.Indexes.{entries_in, AreIndexes};
 ghost use Rattle.swap_rules.specs.Party.{is_ready};
-ghost use Rattle.swap_rules.specs.Due.{due_key, due_unlock_on, due_unlocks, has_called, is_unlock_for, when_due};
+ghost use Rattle.swap_rules.specs.Due.{due_key, due_unlock_on, has_called, is_unlock_for, when_due};
+ghost use Rattle.swap_rules.specs.Walking.{pressing_unlocks};
+ghost use Rattle.swap_rules.specs.Useful.{useful_unlocks};
 ghost use Rattle.party_wallet.specs.Value.{signed_in};
 ghost use Rattle.party_machine.specs.Wallet.{wallet_of};
 ghost use Rattle.party_due.specs.Actions.{actions};
 
 use crate::due_call::{DueCall, put_when};
 use crate::due_key::due_key;
+use crate::withheld::is_withheld;
 use due_calls::is_ready;
 use hashkey_path::Hashkey;
 use history_index::Index;
@@ -112,7 +115,35 @@ fn put_unlocks_for(
     }
 }
 
-/// Adds the unlocks that are due, by lock and entering arc.
+/// Adds the unlocks for the lock that are useful where the party is ready: none where the lock is
+/// withheld.
+fn put_useful_for(
+    alloc: Global,
+    deal: &Deal,
+    me: PartyId,
+    seed: &Digest,
+    kept: &Signed,
+    known: &[Index],
+    lock: LockId,
+    calls: &mut Vec<DueCall>,
+) -> Result<(), NoMemory>
+    requires sized { IsWellSized deal.now }
+    requires me { me < deal.now.graph.n }
+    requires known { AreIndexes deal.now known.now }
+    requires legal { IsLegalBook deal.now (entries_in known.now) }
+    requires lock { lock < length deal.now.leaders }
+    requires kept { length kept.now.keys ≡ length deal.now.leaders }
+    requires ready { is_ready deal.now (entries_in known.now) me ≡ true }
+    ensures { OnOk result (actions calls.new.items ≡ actions calls.old.items
+        ++ pressing_unlocks deal.now me (wallet_of seed.now me deal.now) (signed_in kept.now.keys) (entries_in known.now) lock) }
+{
+    if is_withheld(deal, me, known, lock) {
+        return Ok(());
+    }
+    put_unlocks_for(alloc, deal, me, seed, kept, known, lock, calls)
+}
+
+/// Adds the unlocks that are useful, by lock and entering arc.
 pub(crate) fn put_unlocks(
     alloc: Global,
     deal: &Deal,
@@ -128,13 +159,13 @@ pub(crate) fn put_unlocks(
     requires legal { IsLegalBook deal.now (entries_in known.now) }
     requires kept { length kept.now.keys ≡ length deal.now.leaders }
     ensures { OnOk result (actions calls.new.items ≡ actions calls.old.items
-        ++ due_unlocks deal.now me (wallet_of seed.now me deal.now) (signed_in kept.now.keys) (entries_in known.now)) }
+        ++ useful_unlocks deal.now me (wallet_of seed.now me deal.now) (signed_in kept.now.keys) (entries_in known.now)) }
 {
     if !is_ready(deal, me, known) {
         return Ok(());
     }
     for lock in 0..deal.leaders.len() as u8 {
-        put_unlocks_for(alloc, deal, me, seed, kept, known, lock, calls)?;
+        put_useful_for(alloc, deal, me, seed, kept, known, lock, calls)?;
     }
     Ok(())
 }

@@ -6,7 +6,7 @@ use Rattle.std.proofs.lemmas.Option.{same_Some}
 use Rattle.swap_base.specs.Lists.{IsIn, moments, IsMoment}
 use Rattle.swap_base.proofs.Lists.{at_moment, all_from_list_all, any_at, and_parts, moment_from_in, from_whole}
 use Rattle.swap_digraph.specs.declared.deal.Deal.{Deal}
-use Rattle.swap_digraph.specs.Graph.{arcs, leaving}
+use Rattle.swap_digraph.specs.Graph.{leaving}
 use Rattle.hashkey_path.specs.declared.hashkey.Hashkey.{Hashkey}
 use Rattle.escrow_core.specs.declared.terms.Terms.{Terms}
 use Rattle.escrow_core.specs.Terms.{terms_of, same_terms}
@@ -19,11 +19,10 @@ use Rattle.swap_rules.specs.declared.finding.Rule.{Rule}
 use Rattle.swap_rules.specs.declared.finding.Rule.TheVariants.{Publish as ToPublish, Unlock as ToUnlock, Claim as ToClaim, Refund as ToRefund}
 use Rattle.swap_rules.specs.Party.{is_correct_in, is_correct, is_ready, leads_one, call_by, first_key}
 use Rattle.swap_rules.specs.Conduct.{is_first_key, keeps, keeps_at, IsConducted}
-use Rattle.swap_rules.specs.Late.{ref_of, counts, is_done, late_at}
-use Rattle.swap_rules.specs.Findings.{rules_of}
+use Rattle.swap_rules.specs.Due.{is_claiming}
+use Rattle.swap_rules.specs.Late.{ref_of, counts, is_done, late_at, is_late}
 use Rattle.swap_rules.proofs.Words.{and_three, and_five, same_terms-true, leaves, call_by-act}
 use Rattle.ledger_core.proofs.History.{published_done, of_publish, published-past}
-use Rattle.swap_rules.specs.Laws.{IsOnTime}
 
 module _ (d : Deal) (b : Histories) (v : ℕ) (conducted : IsConducted d b v) where
   -- each call of v keeps the rules
@@ -65,48 +64,47 @@ module _ (d : Deal) (b : Histories) (v : ℕ) (conducted : IsConducted d b v) wh
         let r = kept w.0 m.0 e (Unlock key) m.1 k in
         (and_five (is_some (published m.0)) (is_ready d b v) _ _ _ r).1
 
-    module _ (on_time : IsOnTime d b v) where
-      pub record DoneInTime (a : ℕ) (rule : Rule) (due : ℕ) : Type 0 where
-        pub past : List Entry
-        pub now : Entry
-        pub call : Call
-        pub stands : IsMoment (history b a) past now
-        pub called : call_by v now ≡ Some call
-        pub counted : counts d b v rule a now.height (Some call) ≡ true
-        pub in_time : now.height ≤ due
+    pub record DoneInTime (a : ℕ) (rule : Rule) (due : ℕ) : Type 0 where
+      pub past : List Entry
+      pub now : Entry
+      pub call : Call
+      pub stands : IsMoment (history b a) past now
+      pub called : call_by v now ≡ Some call
+      pub counted : counts d b v rule a now.height (Some call) ≡ true
+      pub in_time : now.height ≤ due
 
-      pub some_call : (rule : Rule) (a at : ℕ) (o : Option Call) → counts d b v rule a at o ≡ true → (c : Call) × (o ≡ Some c)
-      unfolding counts
-      some_call ToPublish a at None k = absurd (cc k)
-      some_call (ToUnlock i) a at None k = absurd (cc k)
-      some_call ToClaim a at None k = absurd (cc k)
-      some_call ToRefund a at None k = absurd (cc k)
-      some_call rule a at (Some c) k = (c, refl)
+    pub some_call : (rule : Rule) (a at : ℕ) (o : Option Call) → counts d b v rule a at o ≡ true → (c : Call) × (o ≡ Some c)
+    unfolding counts
+    some_call ToPublish a at None k = absurd (cc k)
+    some_call (ToUnlock i) a at None k = absurd (cc k)
+    some_call ToClaim a at None k = absurd (cc k)
+    some_call ToRefund a at None k = absurd (cc k)
+    some_call rule a at (Some c) k = (c, refl)
 
-      pub late_parts : (x y : Bool) → (x && not y) ≡ false → x ≡ true → y ≡ true
-      late_parts x true e h = refl
-      late_parts true false e h = absurd (cc e)
-      late_parts false false e h = absurd (cc h)
+    pub late_parts : (x y : Bool) → (x && not y) ≡ false → x ≡ true → y ≡ true
+    late_parts x true e h = refl
+    late_parts true false e h = absurd (cc e)
+    late_parts false false e h = absurd (cc h)
 
-      -- an enabled action whose due height the ledger has passed was done in time
-      pub done_in_time : (rule : Rule) (a : ℕ) → IsIn rule (rules_of d) → IsIn a (arcs d.graph) → (r : ℕ) → ref_of d b v rule a ≡ Some r
-          → r + d.delta < height (history b a) → DoneInTime a rule (r + d.delta)
-      done_in_time rule a r_in a_in r enabled passed =
-          let e : (nat_lt (r + d.delta) (height (history b a)) && not (is_done d b v rule a (r + d.delta))) ≡ false =
-          ap (late_at d b v rule a) (sym enabled) ∙ on_time rule a r_in a_in in
-          let k : is_done d b v rule a (r + d.delta) ≡ true = late_parts (nat_lt (r + d.delta) (height (history b a))) _ e (lt-ltb _ _ passed) in
-          let f = any_at (λ e. counts d b v rule a e.height (call_by v e) && nat_le e.height (r + d.delta)) (history b a) k in
-          let parts = and_parts (counts d b v rule a f.now.height (call_by v f.now)) (nat_le f.now.height (r + d.delta)) f.passes in
-          let c = some_call rule a f.now.height (call_by v f.now) parts.0 in
-          record {
-            past = f.past;
-            now = f.now;
-            call = c.0;
-            stands = f.stands;
-            called = c.1;
-            counted = ap (counts d b v rule a f.now.height) (sym c.1) ∙ parts.0;
-            in_time = leb-true f.now.height (r + d.delta) parts.1;
-          }
+    -- an enabled action whose due height the ledger has passed, and which isn't late, was done in time
+    pub done_in_time : (rule : Rule) (a : ℕ) → is_late d b v rule a ≡ false → (r : ℕ) → ref_of d b v rule a ≡ Some r
+        → r + d.delta < height (history b a) → DoneInTime a rule (r + d.delta)
+    done_in_time rule a on_time r enabled passed =
+        let e : (nat_lt (r + d.delta) (height (history b a)) && not (is_done d b v rule a (r + d.delta))) ≡ false =
+        ap (late_at d b v rule a) (sym enabled) ∙ on_time in
+        let k : is_done d b v rule a (r + d.delta) ≡ true = late_parts (nat_lt (r + d.delta) (height (history b a))) _ e (lt-ltb _ _ passed) in
+        let f = any_at (λ e. counts d b v rule a e.height (call_by v e) && nat_le e.height (r + d.delta)) (history b a) k in
+        let parts = and_parts (counts d b v rule a f.now.height (call_by v f.now)) (nat_le f.now.height (r + d.delta)) f.passes in
+        let c = some_call rule a f.now.height (call_by v f.now) parts.0 in
+        record {
+          past = f.past;
+          now = f.now;
+          call = c.0;
+          stands = f.stands;
+          called = c.1;
+          counted = ap (counts d b v rule a f.now.height) (sym c.1) ∙ parts.0;
+          in_time = leb-true f.now.height (r + d.delta) parts.1;
+        }
 
 -- What an enabled action is done by.
 
@@ -133,6 +131,14 @@ counted_claim d b v a at (Publish t) k = absurd (cc k)
 counted_claim d b v a at (Unlock key) k = absurd (cc k)
 counted_claim d b v a at Refund k = absurd (cc k)
 counted_claim d b v a at (Transfer to units) k = absurd (cc k)
+
+pub claiming_is : (o : Option Call) → is_claiming o ≡ true → o ≡ Some Claim
+claiming_is (Some Claim) k = refl
+claiming_is None k = absurd (cc k)
+claiming_is (Some (Publish t)) k = absurd (cc k)
+claiming_is (Some (Unlock key)) k = absurd (cc k)
+claiming_is (Some Refund) k = absurd (cc k)
+claiming_is (Some (Transfer to units)) k = absurd (cc k)
 
 -- What a correct arc published.
 

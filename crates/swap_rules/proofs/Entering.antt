@@ -1,12 +1,12 @@
--- A party that is ready, conducted and on time opens and claims every arc that enters it.
-use Rattle.std.proofs.Common.{◌≡◌, ℕ, ◌+◌, ◌<◌, ◌≤◌, true, cond, not, ◌-◌, if◌then◌else◌, max, ◌&&◌, List, length, Option, Some, None, is_some, refl}
+-- A party that is ready and conducted opens every arc that enters it, where its unlock calls come while their hashkeys are accepted.
+use Rattle.std.proofs.Common.{◌≡◌, ℕ, ◌+◌, ◌<◌, ◌≤◌, true, false, not, ◌-◌, if◌then◌else◌, max, ◌&&◌, List, length, Option, Some, None, is_some, refl}
 use Rattle.std.proofs.Common.{sym, ap, ◌∙◌, subst, inl, inr, arith, leb-true}
 use Rattle.std.proofs.lemmas.Bool.{false≢true}
 use Rattle.swap_base.specs.Lists.{IsIn, IsMoment}
-use Rattle.swap_base.proofs.Lists.{Order, moments_in_order, list_all-in, list_all-from, in_range, from_range, and_parts, and_both, greatest-below}
+use Rattle.swap_base.proofs.Lists.{any_at, Order, moments_in_order, list_all-in, list_all-from, in_range, from_range, and_parts, and_both, greatest-below}
 use Rattle.swap_base.proofs.Lists.{Earlier, Same, Later}
 use Rattle.swap_digraph.specs.declared.deal.Deal.{Deal}
-use Rattle.swap_digraph.specs.Graph.{entering, is_among}
+use Rattle.swap_digraph.specs.Graph.{arcs, entering, is_among}
 use Rattle.swap_digraph.specs.Deal.{counterparty, locks, leads, hashlock_of}
 use Rattle.hashkey_path.specs.declared.hashkey.Hashkey.{Hashkey}
 use Rattle.hashkey_path.specs.Hashkey.{is_wrong_secret, is_wrong_path, is_wrong_signature, is_valid}
@@ -19,17 +19,19 @@ use Rattle.ledger_core.specs.Book.{Histories, history, IsLegalBook}
 use Rattle.swap_rules.specs.declared.finding.Rule.TheVariants.{Unlock as ToUnlock, Claim as ToClaim}
 use Rattle.swap_rules.specs.Party.{is_correct, height_in, is_good, is_ready, ready_height, is_triggered, expiry, call_by, first_key, least_expiry}
 use Rattle.swap_rules.specs.Conduct.{is_first_key, keeps, IsConducted}
-use Rattle.swap_rules.specs.Late.{height_of_opening, base_of, trigger_height, when, ref_of}
+use Rattle.swap_rules.specs.Late.{height_of_opening, base_of, trigger_height, when, ref_of, is_late}
 use Rattle.swap_rules.specs.Outcome.{is_claim, is_got, IsEnded}
 use Rattle.swap_digraph.proofs.Paths.{in-is_among}
-use Rattle.swap_rules.proofs.Words.{and_five, unlock_rule, claim_rule, enters, act_of}
+use Rattle.swap_rules.proofs.Words.{and_five, unlock_rule, enters, act_of}
 use Rattle.swap_rules.proofs.Times.{TimesLaw}
 use Rattle.ledger_core.proofs.History.{refunded_done, of_refund, opened-now, Done, opened_done, OfUnlock, of_unlock, height-past, published-past}
 use Rattle.swap_rules.proofs.Effects.{claim_claims}
 use Rattle.ledger_core.proofs.History.{legal-past, is_some-of, lock-below}
 use Rattle.swap_rules.proofs.Openings.{IsOpenBy, open_by_more, is_open_by, unlock_opens_by, Expired, expired_lock, least-expired, moment_within}
+use Rattle.swap_rules.specs.Due.{is_claiming}
 use Rattle.swap_rules.specs.Laws.{IsOnTime}
-use Rattle.swap_rules.proofs.Calls.{kept, legal_at, correct, done_in_time, counted_unlock, counted_claim, correct_past}
+use Rattle.swap_rules.specs.Walking.{UnlocksOn, ClaimsAll}
+use Rattle.swap_rules.proofs.Calls.{kept, legal_at, correct, done_in_time, counted_unlock, claiming_is, correct_past}
 use Rattle.time_bounds.specs.Times as times
 
 -- v's unlock for lock i on a is enabled, and its due height is in time.
@@ -49,7 +51,77 @@ valid_of_unlock d a past by key u =
     (and_both (not (is_wrong_secret (hashlock_in u.contract.terms key.lock) key)) (not (is_wrong_path d a d.mode key)) (ap not u.secret) (ap not u.path))
     (ap not u.signature)
 
--- what a due unlock leaves
+-- An unlock call of v for lock i on arc a, at a height of at most t at which its hashkey is accepted.
+pub record UnlockCall (d : Deal) (b : Histories) (v a i t : ℕ) : Type 0 where
+  pub past : List Entry
+  pub now : Entry
+  pub key : Hashkey
+  pub stands : IsMoment (history b a) past now
+  pub called : call_by v now ≡ Some (Unlock key)
+  pub lock : key.lock ≡ i
+  pub in_time : now.height ≤ t
+  pub last : now.height ≤ last_in d.mode (terms_of d a) key
+
+pub call_of : (d : Deal) (b : Histories) (v i a : ℕ) → UnlocksOn d b v i a → (t : ℕ) × UnlockCall d b v a i t
+call_of d b v i a u = (
+  u.now.height,
+  record {
+    past = u.past;
+    now = u.now;
+    key = u.key;
+    stands = u.stands;
+    called = u.called;
+    lock = u.lock;
+    in_time = omega arith;
+    last = u.in_time;
+  },
+)
+
+-- v is nowhere late with an unlock
+abbrev pub UnlocksInTime : Deal → Histories → ℕ → Type 0
+UnlocksInTime d b v = (i a : ℕ) → i < length d.leaders → IsIn a (arcs d.graph) → is_late d b v (ToUnlock i) a ≡ false
+
+pub unlocks_in_time : (d : Deal) (b : Histories) (v : ℕ) → IsOnTime d b v → UnlocksInTime d b v
+unlocks_in_time d b v on_time i a below j = on_time (ToUnlock i) a (unlock_rule d i below) j
+
+-- an unlock that is due, and isn't late, is called by its due height
+pub call_due : (d : Deal) (b : Histories) (v : ℕ) → IsLegalBook d b → IsEnded d b → IsConducted d b v → UnlocksInTime d b v → (a i : ℕ)
+    → IsIn a (entering d.graph v) → (due : DueUnlock d b v a i) → UnlockCall d b v a i (due.ref + d.delta)
+unfolding keeps
+call_due d b v legal ended conducted unlocks a i w due =
+    let in_arc = enters d v a w in
+    let now_ended : times.horizon d.start d.delta d.bound < height (history b a) = ended a in_arc.0 in
+    let ends : due.ref + d.delta ≤ times.horizon d.start d.delta d.bound = due.ends in
+    let passed : due.ref + d.delta < height (history b a) = omega arith in
+    let done =
+    done_in_time d b v conducted legal (ToUnlock i) a (unlocks i a due.within (in_range a (length d.graph.arcs) in_arc.0)) due.ref due.enabled
+    passed in
+    let u = counted_unlock d b v i a done.now.height done.call done.counted in
+    let called : call_by v done.now ≡ Some (Unlock u.key) = done.called ∙ ap Some u.call in
+    let k =
+    and_five (is_some (published done.past)) (is_ready d b v) (is_first_key (first_key b v u.key.lock) u.key)
+    (is_valid d a (hashlock_of d u.key.lock) u.key) _ (kept d b v conducted a done.past done.now (Unlock u.key) done.stands called) in
+    let early : due.ref + d.delta ≤ last_in d.mode (terms_of d a) u.key = due.early u.key k.3 u.first in
+    let in_time : done.now.height ≤ due.ref + d.delta = done.in_time in
+    record {
+      past = done.past;
+      now = done.now;
+      key = u.key;
+      stands = done.stands;
+      called = called;
+      lock = u.lock;
+      in_time = in_time;
+      last = omega arith;
+    }
+
+-- An unlock that is accepted on arc a at this height, and before lock i expires.
+pub record IsTaken (d : Deal) (a i : ℕ) (key : Hashkey) (at : ℕ) : Type 0 where
+  pub below : key.lock < length d.leaders
+  pub valid : is_valid d a (hashlock_of d key.lock) key ≡ true
+  pub last : at ≤ last_in d.mode (terms_of d a) key
+  pub expiry : at ≤ expiry d a i
+
+-- what an unlock call leaves
 pub record Unlocked (d : Deal) (b : Histories) (v a i t : ℕ) : Type 0 where
   pub open_by : IsOpenBy (history b a) i t
   pub key : Hashkey
@@ -57,8 +129,49 @@ pub record Unlocked (d : Deal) (b : Histories) (v a i t : ℕ) : Type 0 where
   pub lock : key.lock ≡ i
   pub valid : is_valid d a (hashlock_of d key.lock) key ≡ true
 
-module _ (d : Deal) (b : Histories) (v : ℕ) (legal : IsLegalBook d b) (ended : IsEnded d b) (conducted : IsConducted d b v) (on_time : IsOnTime d b v)
-    (law : TimesLaw d) (ready : is_ready d b v ≡ true) where
+-- A correct entering arc.
+
+module _ (d : Deal) (b : Histories) (v : ℕ) (legal : IsLegalBook d b) (conducted : IsConducted d b v) (law : TimesLaw d) where
+  -- a lock of an entering arc was opened at most at its expiry
+  pub opened_by_expiry : (a i : ℕ) → IsIn a (entering d.graph v) → is_correct d b a ≡ true → height_of_opening (opened (history b a) i) ≤ expiry d a i
+  opened_by_expiry a i w right = go (opened (history b a) i) refl
+    where
+      go : (o : Option Opening) → opened (history b a) i ≡ o → height_of_opening o ≤ expiry d a i
+      go None e = omega arith
+      go (Some o) e =
+          let in_arc = enters d v a w in
+          let u = opened_done d a (history b a) i o (legal_at d b v conducted legal a in_arc.0) e in
+          let of_u = of_unlock d a u.0.past u.0.act.by o.key u.0.clear in
+          let terms : of_u.contract.terms ≡ terms_of d a =
+          correct_past d b a u.0.past u.0.now of_u.contract (correct d b a right) u.0.stands of_u.published in
+          let valid : is_valid d a (hashlock_of d o.key.lock) o.key ≡ true =
+          subst (λ t. is_valid d a (hashlock_in t o.key.lock) o.key ≡ true) terms (valid_of_unlock d a u.0.past u.0.act.by o.key of_u) in
+          let last : last_in d.mode (terms_of d a) o.key ≤ expiry d a i =
+          subst (λ j. last_in d.mode (terms_of d a) o.key ≤ expiry d a j) u.1 (law.last a o.key in_arc.0 (lock-below d a o.key u.0.act.fits) valid)
+          in
+          let in_time : height u.0.past ≤ last_in d.mode (terms_of d a) o.key = subst (λ t. height u.0.past ≤ last_in d.mode t o.key) terms of_u.in_time in
+          let at : o.height ≡ height u.0.past = u.0.at in
+          omega arith
+
+  pub claim_enabled : (a : ℕ) → IsIn a (entering d.graph v) → is_correct d b a ≡ true → is_triggered d b a ≡ true → ref_of d b v ToClaim a ≡ Some (trigger_height d (history b a))
+  unfolding ref_of
+  claim_enabled a w right t = ap (λ x. when x (trigger_height d (history b a)))
+      (and_both (is_among a (entering d.graph v) && is_correct d b a) (is_triggered d b a)
+      (and_both (is_among a (entering d.graph v)) (is_correct d b a) (in-is_among a (entering d.graph v) w) right) t)
+
+  pub trigger_ends : (a : ℕ) → IsIn a (entering d.graph v) → is_correct d b a ≡ true → trigger_height d (history b a) + d.delta ≤ times.horizon d.start d.delta d.bound
+  trigger_ends a w right =
+      let in_arc = enters d v a w in
+      let some = law.ends a 0 in_arc.0 in
+      let low : trigger_height d (history b a) ≤ times.horizon d.start d.delta d.bound - d.delta =
+      greatest-below (λ i. height_of_opening (opened (history b a) i)) (locks d) (times.horizon d.start d.delta d.bound - d.delta)
+      (λ i z. let x = opened_by_expiry a i w right in let y = law.ends a i in_arc.0 in omega arith) in
+      omega arith
+
+-- A party that is ready.
+
+module _ (d : Deal) (b : Histories) (v : ℕ) (legal : IsLegalBook d b) (conducted : IsConducted d b v) (law : TimesLaw d)
+    (ready : is_ready d b v ≡ true) where
   pub good_entering : (a : ℕ) → IsIn a (entering d.graph v) → is_good d b a ≡ true
   unfolding is_ready
   good_entering a i = list_all-in (is_good d b) (entering d.graph v) a ready i
@@ -97,96 +210,90 @@ module _ (d : Deal) (b : Histories) (v : ℕ) (legal : IsLegalBook d b) (ended :
         expired = expired_lock d a r.past (height r.past) (least-expired d a r.past (height r.past) of_r.untriggered above);
       }
 
-  -- a lock of an entering arc was opened at most at its expiry
-  pub opened_by_expiry : (a i : ℕ) → IsIn a (entering d.graph v) → height_of_opening (opened (history b a) i) ≤ expiry d a i
-  opened_by_expiry a i w = go (opened (history b a) i) refl
-    where
-      go : (o : Option Opening) → opened (history b a) i ≡ o → height_of_opening o ≤ expiry d a i
-      go None e = omega arith
-      go (Some o) e =
-          let in_arc = enters d v a w in
-          let u = opened_done d a (history b a) i o (legal_at d b v conducted legal a in_arc.0) e in
-          let of_u = of_unlock d a u.0.past u.0.act.by o.key u.0.clear in
-          let terms : of_u.contract.terms ≡ terms_of d a =
-          correct_past d b a u.0.past u.0.now of_u.contract (correct d b a (correct_entering a w)) u.0.stands of_u.published in
-          let valid : is_valid d a (hashlock_of d o.key.lock) o.key ≡ true =
-          subst (λ t. is_valid d a (hashlock_in t o.key.lock) o.key ≡ true) terms (valid_of_unlock d a u.0.past u.0.act.by o.key of_u) in
-          let last : last_in d.mode (terms_of d a) o.key ≤ expiry d a i =
-          subst (λ j. last_in d.mode (terms_of d a) o.key ≤ expiry d a j) u.1 (law.last a o.key in_arc.0 (lock-below d a o.key u.0.act.fits) valid)
-          in
-          let in_time : height u.0.past ≤ last_in d.mode (terms_of d a) o.key = subst (λ t. height u.0.past ≤ last_in d.mode t o.key) terms of_u.in_time in
-          let at : o.height ≡ height u.0.past = u.0.at in
-          omega arith
-
-  -- a due unlock opens its lock by its due height, where no refund came before it
-  pub opens_unless : (a i : ℕ) → IsIn a (entering d.graph v) → (due : DueUnlock d b v a i)
-      → ((past : List Entry) (e : Entry) → IsMoment (history b a) past e → height past ≤ due.ref + d.delta → height past ≤ expiry d a i
-      → RefundIn a past → ⊥) → Unlocked d b v a i (due.ref + d.delta)
+  -- an entering arc that is triggered was claimed
+  pub claims : ClaimsAll d b v → (a : ℕ) → IsIn a (entering d.graph v) → is_triggered d b a ≡ true → is_got d b a ≡ true
   unfolding keeps
-  opens_unless a i w due unrefunded =
+  claims claimed a w t =
       let in_arc = enters d v a w in
-      let now_ended : times.horizon d.start d.delta d.bound < height (history b a) = ended a in_arc.0 in
-      let ends : due.ref + d.delta ≤ times.horizon d.start d.delta d.bound = due.ends in
-      let passed : due.ref + d.delta < height (history b a) = omega arith in
-      let done =
-      done_in_time d b v conducted legal on_time (ToUnlock i) a (unlock_rule d i due.within) (in_range a (length d.graph.arcs) in_arc.0) due.ref
-      due.enabled passed in
-      let u = counted_unlock d b v i a done.now.height done.call done.counted in
-      let called : call_by v done.now ≡ Some (Unlock u.key) = done.called ∙ ap Some u.call in
       let l = legal_at d b v conducted legal a in_arc.0 in
-      let act = act_of d a (history b a) done.past done.now (Unlock u.key) v l done.stands called in
-      let k =
-      and_five (is_some (published done.past)) (is_ready d b v) (is_first_key (first_key b v u.key.lock) u.key)
-      (is_valid d a (hashlock_of d u.key.lock) u.key) _ (kept d b v conducted a done.past done.now (Unlock u.key) done.stands called) in
-      let p = is_some-of (published done.past) k.0 in
-      let terms : p.0.terms ≡ terms_of d a = correct_past d b a done.past done.now p.0 (correct d b a (correct_entering a w)) done.stands p.1 in
+      let done = any_at (λ e. is_claiming (call_by v e)) (history b a) (claimed a w (correct_entering a w) t) in
+      let called : call_by v done.now ≡ Some Claim = claiming_is (call_by v done.now) done.passes in
+      let act = act_of d a (history b a) done.past done.now Claim v l done.stands called in
+      let all_open : triggered d done.past ≡ true = kept d b v conducted a done.past done.now Claim done.stands called in
+      let o = is_some-of (opened done.past 0) (list_all-in (is_open done.past) (locks d) 0 all_open (in_range 0 (length d.leaders) law.lock)) in
+      let u = opened_done d a done.past 0 o.0 (legal-past d a (history b a) done.past done.now l done.stands) o.1 in
+      let of_u = of_unlock d a u.0.past u.0.act.by o.0.key u.0.clear in
+      let pub_past = published-past done.past u.0.past u.0.now of_u.contract u.0.stands of_u.published in
       let by : act.0.by ≡ counterparty d a = act.1 ∙ sym in_arc.1 in
-      let at : done.now.height ≡ height done.past = act.0.at in
-      let early : due.ref + d.delta ≤ last_in d.mode (terms_of d a) u.key = due.early u.key k.3 u.first in
-      let last : last_in d.mode (terms_of d a) u.key ≤ expiry d a i =
-      subst (λ j. last_in d.mode (terms_of d a) u.key ≤ expiry d a j) u.lock (law.last a u.key in_arc.0 (lock-below d a u.key act.0.fits) k.3) in
-      let in_time : done.now.height ≤ due.ref + d.delta = done.in_time in
-      let t0 : height done.past ≤ due.ref + d.delta = omega arith in
-      let t1 : height done.past ≤ last_in d.mode (terms_of d a) u.key = omega arith in
-      let t2 : height done.past ≤ expiry d a i = omega arith in
-      let o = unlock_opens_by d a (history b a) done.past done.now u.key p.0 l done.stands act.0 by p.1
-      (subst (λ t. is_valid d a (hashlock_in t u.key.lock) u.key ≡ true) (sym terms) k.3)
-      (subst (λ t. height done.past ≤ last_in d.mode t u.key) (sym terms) t1)
-      (λ s. unrefunded done.past done.now done.stands t0 t2 (refund_in a done.past done.now w done.stands s)) in
+      and_both (is_correct d b a) (is_claim (settled (history b a))) (correct_entering a w)
+      (ap is_claim (claim_claims d a (history b a) done.past done.now of_u.contract l done.stands act.0 by pub_past all_open))
+
+  -- an unlock call opens its lock, where no refund came before it
+  pub opens_unless : (a i t : ℕ) → IsIn a (entering d.graph v) → (call : UnlockCall d b v a i t)
+      → ((past : List Entry) (e : Entry) → IsMoment (history b a) past e → IsTaken d a i call.key (height past) → RefundIn a past → ⊥)
+      → Unlocked d b v a i t
+  unfolding keeps
+  opens_unless a i t w call unrefunded =
+      let in_arc = enters d v a w in
+      let l = legal_at d b v conducted legal a in_arc.0 in
+      let act = act_of d a (history b a) call.past call.now (Unlock call.key) v l call.stands call.called in
+      let k =
+      and_five (is_some (published call.past)) (is_ready d b v) (is_first_key (first_key b v call.key.lock) call.key)
+      (is_valid d a (hashlock_of d call.key.lock) call.key) _ (kept d b v conducted a call.past call.now (Unlock call.key) call.stands call.called) in
+      let p = is_some-of (published call.past) k.0 in
+      let terms : p.0.terms ≡ terms_of d a = correct_past d b a call.past call.now p.0 (correct d b a (correct_entering a w)) call.stands p.1 in
+      let by : act.0.by ≡ counterparty d a = act.1 ∙ sym in_arc.1 in
+      let at : call.now.height ≡ height call.past = act.0.at in
+      let below = lock-below d a call.key act.0.fits in
+      let last : last_in d.mode (terms_of d a) call.key ≤ expiry d a i =
+      subst (λ j. last_in d.mode (terms_of d a) call.key ≤ expiry d a j) call.lock (law.last a call.key in_arc.0 below k.3) in
+      let t3 = call.in_time in
+      let t4 = call.last in
+      let t0 : height call.past ≤ t = omega arith in
+      let t1 : height call.past ≤ last_in d.mode (terms_of d a) call.key = omega arith in
+      let t2 : height call.past ≤ expiry d a i = omega arith in
+      let o = unlock_opens_by d a (history b a) call.past call.now call.key p.0 l call.stands act.0 by p.1
+      (subst (λ t. is_valid d a (hashlock_in t call.key.lock) call.key ≡ true) (sym terms) k.3)
+      (subst (λ t. height call.past ≤ last_in d.mode t call.key) (sym terms) t1)
+      (λ s. unrefunded call.past call.now call.stands (record { below = below; valid = k.3; last = t1; expiry = t2 })
+      (refund_in a call.past call.now w call.stands s)) in
       record {
-        open_by = open_by_more (history b a) i (height done.past) (due.ref + d.delta) t0 (subst (λ j. IsOpenBy (history b a) j (height done.past)) u.lock o);
-        key = u.key;
-        first = u.first;
-        lock = u.lock;
+        open_by = open_by_more (history b a) i (height call.past) t t0 (subst (λ j. IsOpenBy (history b a) j (height call.past)) call.lock o);
+        key = call.key;
+        first = subst (λ j. is_first_key (first_key b v j) call.key ≡ true) call.lock k.2;
+        lock = call.lock;
         valid = k.3;
       }
 
   -- v's own lock is opened before any lock expires
-  pub opens_own : (a i : ℕ) → IsIn a (entering d.graph v) → leads d v i ≡ true → (due : DueUnlock d b v a i) → Unlocked d b v a i (due.ref + d.delta)
-  opens_own a i w lead due = opens_unless a i w due (λ past e m low low2 r.
+  pub opens_own : (a i t : ℕ) → IsIn a (entering d.graph v) → leads d v i ≡ true → UnlockCall d b v a i t → Unlocked d b v a i t
+  opens_own a i t w lead call = opens_unless a i t w call (λ past e m taken r.
       let in_arc = enters d v a w in
-      let value : due.ref ≡ ready_height d b v =
-      due.value ∙ ap (λ x. cond x (ready_height d b v) (max (ready_height d b v) (base_of d.mode d b v i (first_key b v i)))) lead in
-      let g = ready_below in
-      let x = law.opens a r.expired.lock in_arc.0 in
+      let own : leads d (counterparty d a) call.key.lock ≡ true =
+      subst (λ u. leads d u call.key.lock ≡ true) (sym in_arc.1) (subst (λ j. leads d v j ≡ true) (sym call.lock) lead) in
+      let x = law.own a r.expired.lock call.key in_arc.0 taken.below taken.valid own in
       let y = r.expired.above in
       let z = height-past past r.before r.now r.stands in
+      let q = taken.last in
       absurd (omega arith))
 
-  -- a due unlock opens its lock: no refund comes before it, since v opened its own locks before these expired
-  pub opens : (a i : ℕ) → IsIn a (entering d.graph v) → ((j : ℕ) → j < length d.leaders → leads d v j ≡ true → DueUnlock d b v a j)
-      → (due : DueUnlock d b v a i) → Unlocked d b v a i (due.ref + d.delta)
-  opens a i w owns due = opens_unless a i w due (λ past e m low low2 r.
+  -- an unlock call opens its lock: no refund comes before it, since v opened its own locks before these expired
+  pub opens : (a i t : ℕ) → IsIn a (entering d.graph v) → ((j : ℕ) → j < length d.leaders → leads d v j ≡ true → (s : ℕ) × UnlockCall d b v a j s)
+      → UnlockCall d b v a i t → Unlocked d b v a i t
+  opens a i t w owns call = opens_unless a i t w call (λ past e m taken r.
       let in_arc = enters d v a w in
       let y = r.expired.above in
       let z = height-past past r.before r.now r.stands in
+      let low = taken.expiry in
       elim (law.early a i r.expired.lock in_arc.0) [
         | inl l ↦ absurd (omega arith)
         | inr x ↦
             let lead : leads d v r.expired.lock ≡ true = subst (λ u. leads d u r.expired.lock ≡ true) in_arc.1 x.own in
-            let own = opens_own a r.expired.lock w lead (owns r.expired.lock (from_range r.expired.lock (length d.leaders) r.expired.within) lead) in
+            let mine = owns r.expired.lock (from_range r.expired.lock (length d.leaders) r.expired.within) lead in
+            let own = opens_own a r.expired.lock mine.0 w lead mine.1 in
             let u = opened_done d a (history b a) r.expired.lock own.open_by.opening (legal_at d b v conducted legal a in_arc.0) own.open_by.opened in
-            let before : height_of_opening (opened (history b a) r.expired.lock) ≤ expiry d a r.expired.lock = opened_by_expiry a r.expired.lock w in
+            let before : height_of_opening (opened (history b a) r.expired.lock) ≤ expiry d a r.expired.lock =
+            opened_by_expiry d b v legal conducted law a r.expired.lock w (correct_entering a w) in
             let same : height_of_opening (opened (history b a) r.expired.lock) ≡ own.open_by.opening.height = ap height_of_opening own.open_by.opened in
             let at = u.0.at in
             in_order a past r own.open_by.opening.key u.1 u.0 (omega arith)
@@ -201,47 +308,10 @@ module _ (d : Deal) (b : Histories) (v : ℕ) (legal : IsLegalBook d b) (ended :
       in_order a past r key e u l (Same p q) = let k : Some (Unlock key) ≡ Some Refund = sym u.took ∙ (ap accepted q ∙ r.took) in cc k
       in_order a past r key e u l (Later n) = let z = height-past u.past r.before r.now n in absurd (omega arith)
 
-  pub claim_enabled : (a : ℕ) → IsIn a (entering d.graph v) → is_triggered d b a ≡ true → ref_of d b v ToClaim a ≡ Some (trigger_height d (history b a))
-  unfolding ref_of
-  claim_enabled a w t = ap (λ x. when x (trigger_height d (history b a)))
-      (and_both (is_among a (entering d.graph v) && is_correct d b a) (is_triggered d b a)
-      (and_both (is_among a (entering d.graph v)) (is_correct d b a) (in-is_among a (entering d.graph v) w) (correct_entering a w)) t)
-
-  pub trigger_ends : (a : ℕ) → IsIn a (entering d.graph v) → trigger_height d (history b a) + d.delta ≤ times.horizon d.start d.delta d.bound
-  trigger_ends a w =
-      let in_arc = enters d v a w in
-      let some = law.ends a 0 in_arc.0 in
-      let low : trigger_height d (history b a) ≤ times.horizon d.start d.delta d.bound - d.delta =
-      greatest-below (λ i. height_of_opening (opened (history b a) i)) (locks d) (times.horizon d.start d.delta d.bound - d.delta)
-      (λ i z. let x = opened_by_expiry a i w in let y = law.ends a i in_arc.0 in omega arith) in
-      omega arith
-
-  -- an entering arc that is triggered was claimed
-  pub claims : (a : ℕ) → IsIn a (entering d.graph v) → is_triggered d b a ≡ true → is_got d b a ≡ true
-  unfolding keeps
-  claims a w t =
-      let in_arc = enters d v a w in
-      let l = legal_at d b v conducted legal a in_arc.0 in
-      let now_ended : times.horizon d.start d.delta d.bound < height (history b a) = ended a in_arc.0 in
-      let ends = trigger_ends a w in
-      let passed : trigger_height d (history b a) + d.delta < height (history b a) = omega arith in
-      let done =
-      done_in_time d b v conducted legal on_time ToClaim a (claim_rule d) (in_range a (length d.graph.arcs) in_arc.0)
-      (trigger_height d (history b a)) (claim_enabled a w t) passed in
-      let called : call_by v done.now ≡ Some Claim = done.called ∙ ap Some (counted_claim d b v a done.now.height done.call done.counted) in
-      let act = act_of d a (history b a) done.past done.now Claim v l done.stands called in
-      let all_open : triggered d done.past ≡ true = kept d b v conducted a done.past done.now Claim done.stands called in
-      let o = is_some-of (opened done.past 0) (list_all-in (is_open done.past) (locks d) 0 all_open (in_range 0 (length d.leaders) law.lock)) in
-      let u = opened_done d a done.past 0 o.0 (legal-past d a (history b a) done.past done.now l done.stands) o.1 in
-      let of_u = of_unlock d a u.0.past u.0.act.by o.0.key u.0.clear in
-      let pub_past = published-past done.past u.0.past u.0.now of_u.contract u.0.stands of_u.published in
-      let by : act.0.by ≡ counterparty d a = act.1 ∙ sym in_arc.1 in
-      and_both (is_correct d b a) (is_claim (settled (history b a))) (correct_entering a w)
-      (ap is_claim (claim_claims d a (history b a) done.past done.now of_u.contract l done.stands act.0 by pub_past all_open))
-
-  -- where v's unlocks are due on every entering arc, it gets them all
-  pub gets_all : (dues : (a i : ℕ) → IsIn a (entering d.graph v) → IsIn i (locks d) → DueUnlock d b v a i) → (a : ℕ) → IsIn a (entering d.graph v)
-      → is_got d b a ≡ true
-  gets_all dues a w =
-      claims a w (list_all-from (is_open (history b a)) (locks d) (λ i z.
-      is_open_by (history b a) i _ (opens a i w (λ j l e. dues a j w (in_range j (length d.leaders) l)) (dues a i w z)).open_by))
+  -- where v makes its unlock calls on every entering arc, it gets them all
+  pub gets_all : ClaimsAll d b v → ((a i : ℕ) → IsIn a (entering d.graph v) → IsIn i (locks d) → (t : ℕ) × UnlockCall d b v a i t) → (a : ℕ)
+      → IsIn a (entering d.graph v) → is_got d b a ≡ true
+  gets_all claimed calls a w =
+      claims claimed a w (list_all-from (is_open (history b a)) (locks d) (λ i z.
+      let c = calls a i w z in
+      is_open_by (history b a) i c.0 (opens a i c.0 w (λ j l e. calls a j w (in_range j (length d.leaders) l)) c.1).open_by))

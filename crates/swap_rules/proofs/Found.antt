@@ -16,12 +16,17 @@ use Rattle.swap_rules.specs.Conduct.{IsConducted, keeps_at}
 use Rattle.swap_rules.specs.Late.{ref_of, is_late}
 use Rattle.swap_rules.specs.Forged.{is_forged}
 use Rattle.swap_rules.specs.Outcome.{IsEnded}
+use Rattle.swap_rules.specs.declared.finding.Rule.{Rule}
+use Rattle.swap_rules.specs.declared.finding.Rule.TheVariants.{Publish as ToPublish, Unlock as ToUnlock, Claim as ToClaim, Refund as ToRefund}
 use Rattle.swap_rules.specs.declared.finding.Finding.{Finding}
 use Rattle.swap_rules.specs.declared.finding.Finding.TheVariants.{Broke, Late, Forged, Unfinished}
-use Rattle.swap_rules.specs.Laws.{UnnamedIsSafe, is_against, is_in_name_of, IsOnTime, IsUnforged, WithoutFindingsAllIsTransferred, Conforms, NothingFound}
-use Rattle.swap_rules.proofs.Refunds.{every_book_is_safe}
+use Rattle.swap_rules.specs.Laws.{UnnamedIsSafe, is_against, is_in_name_of, IsUnforged, WithoutFindingsAllIsTransferred, Conforms, NothingFound}
+use Rattle.swap_rules.proofs.Refunds.{every_book_is_safe, safe_by, unlocks_all, claims_all, has_refunds, on_time_asks}
+use Rattle.swap_rules.proofs.Entering.{UnlocksInTime}
+use Rattle.swap_rules.proofs.Accepted.{times_law}
+use Rattle.swap_rules.specs.Walking.{endangers, strands, LatePublishIsSafe, LateUnlockHasRefunds}
 use Rattle.swap_rules.proofs.Transfer.{all_is_transferred}
-use Rattle.swap_rules.proofs.Words.{append_empty, flat_map_none, past_end, leaves}
+use Rattle.swap_rules.proofs.Words.{append_empty, flat_map_none, past_end, publish_rule, unlock_rule, claim_rule, refund_rule, leaves}
 use Rattle.time_bounds.specs.Times as times
 
 failing_head : {A : Type 0} (say : A → Finding) (test : A → Bool) (x : A) (xs : List A) (t : Bool)
@@ -127,38 +132,40 @@ module _ (d : Deal) (conforming : ℕ → Bool) (b : Histories) (v : ℕ) (legal
   clean : (t : Finding → Bool) (x : Finding) → list_any t (findings d conforming b) ≡ false → IsIn x (findings_of d b v) → t x ≡ true → ⊥
   clean t x none i p = false≢true (sym none ∙ list_any-in t (findings d conforming b) x p (of_party x i))
 
-  module _ (none : list_any (is_against v) (findings d conforming b) ≡ false) where
-    is_conducted : IsConducted d b v
-    is_conducted a = elim (within a (length d.graph.arcs)) [
+  -- What no finding of a kind says.
+  module _ (t : Finding → Bool) (none : list_any t (findings d conforming b) ≡ false) where
+    conducted_by : ((a e : ℕ) → t (Broke v a e) ≡ true) → IsConducted d b v
+    conducted_by broke a = elim (within a (length d.graph.arcs)) [
       | inl l ↦ list_all-from (keeps_at d b v a) (moments (history b a)) (λ m i.
-          split_test (keeps_at d b v a m) (λ e. clean (is_against v) (Broke v a (length m.past)) none
+          split_test (keeps_at d b v a m) (λ e. clean t (Broke v a (length m.past)) none
           (in_append (broken d b v ++ lates d b v) (forgeries d b v) (Broke v a (length m.past))
           (inl (in_append (broken d b v) (lates d b v) (Broke v a (length m.past)) (inl
           (in_flat_map (λ a. failing (Broke v a) (keeps_at d b v a) (history b a)) (arcs d.graph) a (Broke v a (length m.past))
           (in_range a (length d.graph.arcs) l)
           (failing_in (λ m. Broke v a (length m.past)) (keeps_at d b v a) (moments (history b a)) m i e))))))
-          (eq-eqb v v refl)))
+          (broke a (length m.past))))
       | inr n ↦ ap (λ h. list_all (keeps_at d b v a) (moments h)) (past_end b a (λ l. n (subst (λ z. a < z) legal.one_each l)))
     ]
 
-    is_on_time : IsOnTime d b v
-    is_on_time rule a r i = go (is_late d b v rule a) refl
+    not_late_by : (rule : Rule) (a : ℕ) → ((due : ℕ) → t (Late v rule a due) ≡ true) → IsIn rule (rules_of d) → IsIn a (arcs d.graph)
+        → is_late d b v rule a ≡ false
+    not_late_by rule a said r i = go (is_late d b v rule a) refl
       where
         go : (x : Bool) → is_late d b v rule a ≡ x → is_late d b v rule a ≡ false
         go false e = e
-        go true e = absurd (clean (is_against v) (Late v rule a (or_zero (ref_of d b v rule a) + d.delta)) none
+        go true e = absurd (clean t (Late v rule a (or_zero (ref_of d b v rule a) + d.delta)) none
             (in_append (broken d b v ++ lates d b v) (forgeries d b v) (Late v rule a (or_zero (ref_of d b v rule a) + d.delta))
             (inl (in_append (broken d b v) (lates d b v) (Late v rule a (or_zero (ref_of d b v rule a) + d.delta)) (inr
             (in_flat_map (λ rule. flat_map (late_on d b v rule) (arcs d.graph)) (rules_of d) rule (Late v rule a (or_zero (ref_of d b v rule a) + d.delta)) r
             (in_flat_map (late_on d b v rule) (arcs d.graph) a (Late v rule a (or_zero (ref_of d b v rule a) + d.delta)) i
             (subst (λ t. IsIn (Late v rule a (or_zero (ref_of d b v rule a) + d.delta))
             (cond t (Late v rule a (or_zero (ref_of d b v rule a) + d.delta) ∷ []) [])) (sym e) (inl refl))))))))
-            (eq-eqb v v refl))
+            (said (or_zero (ref_of d b v rule a) + d.delta)))
 
-    has_ended : IsEnded d b
-    has_ended a l =
+    ended_by : ((a n : ℕ) → t (Unfinished a n) ≡ true) → IsEnded d b
+    ended_by said a l =
         ltb-true (times.horizon d.start d.delta d.bound) (height (history b a))
-        (split_test _ (λ e. false≢true (sym none ∙ list_any-in (is_against v) (findings d conforming b) (Unfinished a (height (history b a))) refl
+        (split_test _ (λ e. false≢true (sym none ∙ list_any-in t (findings d conforming b) (Unfinished a (height (history b a))) (said a (height (history b a)))
         (in_append (flat_map (λ v. if conforming v then findings_of d b v else []) (range_with_len 0 d.graph.n)) (unfinished d b)
         (Unfinished a (height (history b a))) (inr
         (in_flat_map (λ a. if nat_lt (times.horizon d.start d.delta d.bound) (height (history b a)) then [] else Unfinished a (height (history b a))
@@ -182,9 +189,45 @@ module _ (d : Deal) (conforming : ℕ → Bool) (b : Histories) (v : ℕ) (legal
 pub unnamed_is_safe : UnnamedIsSafe
 unnamed_is_safe d conforming b v k legal below c none =
     let s =
-    every_book_is_safe d b v k legal (has_ended d conforming b v legal below c none) (is_conducted d conforming b v legal below c none)
-    (is_on_time d conforming b v legal below c none) in
+    every_book_is_safe d b v k legal (ended_by d conforming b v legal below c (is_against v) none (λ a n. refl))
+    (conducted_by d conforming b v legal below c (is_against v) none (λ a e. eq-eqb v v refl))
+    (λ rule a r i. not_late_by d conforming b v legal below c (is_against v) none rule a (λ due. eq-eqb v v refl) r i) in
     (λ unforged. s.safe (is_unforged d conforming b v legal below c unforged), s.refunds)
+
+-- A party whose publishes and refunds alone were late isn't underwater.
+pub late_publish_is_safe : LatePublishIsSafe
+late_publish_is_safe d conforming b v k legal below c none unnamed =
+    safe_by d b v k legal conducted (λ stake. unlocks_all d b v k legal ended conducted unlocks)
+    (λ stake. claims_all d b v legal ended conducted (times_law d k) claimed) (is_unforged d conforming b v legal below c unnamed)
+  where
+    ended : IsEnded d b
+    ended = ended_by d conforming b v legal below c (endangers v) none (λ a n. refl)
+
+    conducted : IsConducted d b v
+    conducted = conducted_by d conforming b v legal below c (endangers v) none (λ a e. eq-eqb v v refl)
+
+    unlocks : UnlocksInTime d b v
+    unlocks i a l j = not_late_by d conforming b v legal below c (endangers v) none (ToUnlock i) a (λ due. eq-eqb v v refl) (unlock_rule d i l) j
+
+    claimed : (a : ℕ) → IsIn a (arcs d.graph) → is_late d b v ToClaim a ≡ false
+    claimed a j = not_late_by d conforming b v legal below c (endangers v) none ToClaim a (λ due. eq-eqb v v refl) (claim_rule d) j
+
+-- A party whose unlocks and claims alone were late has its refunds.
+pub late_unlock_has_refunds : LateUnlockHasRefunds
+late_unlock_has_refunds d conforming b v k legal below c none =
+    has_refunds d b v legal conducted (times_law d k) (on_time_asks d b v legal ended conducted published asked (times_law d k))
+  where
+    ended : IsEnded d b
+    ended = ended_by d conforming b v legal below c (strands v) none (λ a n. refl)
+
+    conducted : IsConducted d b v
+    conducted = conducted_by d conforming b v legal below c (strands v) none (λ a e. eq-eqb v v refl)
+
+    published : (a : ℕ) → IsIn a (arcs d.graph) → is_late d b v ToPublish a ≡ false
+    published a j = not_late_by d conforming b v legal below c (strands v) none ToPublish a (λ due. eq-eqb v v refl) (publish_rule d) j
+
+    asked : (a : ℕ) → IsIn a (arcs d.graph) → is_late d b v ToRefund a ≡ false
+    asked a j = not_late_by d conforming b v legal below c (strands v) none ToRefund a (λ due. eq-eqb v v refl) (refund_rule d) j
 
 pub without_findings_all_is_transferred : WithoutFindingsAllIsTransferred
 without_findings_all_is_transferred d conforming b k legal all none =

@@ -1,14 +1,14 @@
 -- What a triggered arc that leaves a party says of it: it is ready, and it knows every lock.
 use Rattle.std.proofs.Common.{◌≡◌, ℕ, suc, ◌<◌, ◌≤◌, ◌==◌, nat_lt, Bool, true, false, cond, not, ◌&&◌, ◌||◌, List, [], ◌∷◌, length, Option, Some, None}
-use Rattle.std.proofs.Common.{is_some, refl, sym, subst, inl, inr, arith, eq-eqb, ltb-true, get_or, slice_index_or}
+use Rattle.std.proofs.Common.{max, if◌then◌else◌, is_some, refl, sym, ap, ◌∙◌, subst, inl, inr, arith, eq-eqb, ltb-true, get_or, slice_index_or}
 use Rattle.std.specs.List.{list_any, flat_map}
 use Rattle.std.proofs.lemmas.Bool.Decides.{nat_tests}
 use Rattle.std.specs.Str.{bytes_eq}
 use Rattle.swap_base.specs.Lists.{IsIn, IsMoment}
-use Rattle.swap_base.proofs.Lists.{any_at, list_all-in, in_range, some_passes, some_fails, in_from_moment}
+use Rattle.swap_base.proofs.Lists.{first_of-in, any_at, list_all-in, in_range, some_passes, some_fails, in_from_moment}
 use Rattle.swap_digraph.specs.declared.deal.Deal.{Deal}
 use Rattle.swap_digraph.specs.declared.deal.Mode.TheVariants.{Timelocks}
-use Rattle.swap_digraph.specs.Graph.{leaving, entering}
+use Rattle.swap_digraph.specs.Graph.{leaving, entering, is_among}
 use Rattle.swap_digraph.specs.Deal.{locks, leads, hashlock_of}
 use Rattle.hash_signature.specs.Signature.{hash_of}
 use Rattle.hashkey_path.specs.declared.hashkey.Hashkey.{Hashkey}
@@ -20,15 +20,16 @@ use Rattle.ledger_core.specs.declared.entry.Entry.{Entry}
 use Rattle.ledger_core.specs.History.{height, accepted, Publication, published, Opening, opened, is_open}
 use Rattle.ledger_core.specs.Book.{Histories, history, IsLegalBook}
 use Rattle.swap_rules.specs.declared.outcome.Outcome.TheVariants.{NoDeal, FreeRide, Underwater, Deal as WholeDeal, Discount}
-use Rattle.swap_rules.specs.Party.{is_ready, is_triggered, leads_one, call_by, first_key, opens_without}
+use Rattle.swap_rules.specs.Party.{is_ready, ready_height, is_triggered, leads_one, call_by, key_in, first_key, opens_without}
 use Rattle.swap_rules.specs.Conduct.{IsConducted, carries}
 use Rattle.swap_rules.specs.Forged.{forges}
 use Rattle.swap_rules.specs.Outcome.{is_got, got, lost, outcome}
 use Rattle.swap_rules.proofs.Entering.{DueUnlock, valid_of_unlock}
 use Rattle.swap_digraph.proofs.Paths.{is_among-true}
-use Rattle.swap_rules.proofs.Words.{leaves}
+use Rattle.swap_rules.proofs.Words.{and_three, leaves}
+use Rattle.swap_rules.specs.Late.{base_of, when, ref_of}
+use Rattle.swap_rules.specs.declared.finding.Rule.TheVariants.{Unlock as ToUnlock}
 use Rattle.ledger_core.proofs.History.{opened_done, of_unlock, published-past, is_some-of, not-false}
-use Rattle.swap_rules.specs.Laws.{IsUnforged}
 use Rattle.swap_rules.proofs.Calls.{legal_at, OwnPublish, own_publish, or-left_false, unlock_ready}
 
 -- The outcome.
@@ -93,7 +94,7 @@ shown_timelocks d b v key f s l =
     let c = carried key.secret (call_by v e.now) e.passes in
     record { entry = e.now; key = c.0; stands = subst (IsIn e.now) (sym e.stands.1) (in_from_moment e.past e.now e.stands.0); called = c.1 }
 
-module _ (d : Deal) (b : Histories) (v : ℕ) (legal : IsLegalBook d b) (conducted : IsConducted d b v) (unforged : IsUnforged d b v)
+module _ (d : Deal) (b : Histories) (v : ℕ) (legal : IsLegalBook d b) (conducted : IsConducted d b v)
     (some_lock : 0 < length d.leaders) where
   -- the accepted unlock of an open lock of an arc that leaves v, under the correct terms
   pub record Opener (a i : ℕ) (opening : Opening) : Type 0 where
@@ -167,3 +168,30 @@ pub record Passing (d : Deal) (b : Histories) (v : ℕ) : Type 0 where
   pub ready : (a : ℕ) → IsIn a (leaving d.graph v) → is_triggered d b a ≡ true → is_ready d b v ≡ true
   pub known : (c i : ℕ) → IsIn c (leaving d.graph v) → is_open (history b c) i ≡ true → is_known d b v i ≡ true
   pub due : is_ready d b v ≡ true → (a i : ℕ) → IsIn a (entering d.graph v) → i < length d.leaders → is_known d b v i ≡ true → DueUnlock d b v a i
+
+-- What an enabled unlock shows.
+pub record Enabled (d : Deal) (b : Histories) (v i a : ℕ) : Type 0 where
+  pub enters : IsIn a (entering d.graph v)
+  pub ready : is_ready d b v ≡ true
+  pub known : is_known d b v i ≡ true
+
+when_true : (t : Bool) (n r : ℕ) → when t n ≡ Some r → t ≡ true
+when_true true n r e = refl
+when_true false n r e = absurd (cc e)
+
+pub enabled_parts : (d : Deal) (b : Histories) (v i a r : ℕ) → ref_of d b v (ToUnlock i) a ≡ Some r → Enabled d b v i a
+unfolding ref_of
+enabled_parts d b v i a r e =
+    let t =
+    when_true (is_among a (entering d.graph v) && is_ready d b v && is_known d b v i)
+    (if leads d v i then ready_height d b v else max (ready_height d b v) (base_of d.mode d b v i (first_key b v i))) r e in
+    let k = and_three (is_among a (entering d.graph v)) (is_ready d b v) (is_known d b v i) t in
+    record { enters = is_among-true a (entering d.graph v) k.0; ready = k.1; known = k.2 }
+
+-- a hashkey that v presents for a lock shows as its first one
+pub presents : (b : Histories) (v i : ℕ) (e : Entry) (key : Hashkey) → IsIn e (flat_map (λ h. h) b) → call_by v e ≡ Some (Unlock key) → key.lock ≡ i
+    → is_some (first_key b v i) ≡ true
+unfolding first_key
+presents b v i e key stands called lock =
+    first_of-in (λ e. key_in i (call_by v e)) (flat_map (λ h. h) b) e key stands
+    (ap (key_in i) called ∙ ap (λ x. cond x (Some key) None) (eq-eqb key.lock i lock))

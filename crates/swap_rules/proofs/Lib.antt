@@ -28,3 +28,5 @@ pub mod Room
 pub mod Rounds
 pub mod Dealing
 pub mod Rest
+pub mod Walking
+pub mod Useful

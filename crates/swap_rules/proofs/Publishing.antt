@@ -102,7 +102,7 @@ module _ (d : Deal) (b : Histories) (k : IsAccepted d) (legal : IsLegalBook d b)
       let t1 = law.opens a 0 out.0 in
       let t2 = law.ends a 0 out.0 in
       let passed : r + d.delta < height (history b a) = omega arith in
-      let x = done_in_time d b u c.conducted legal c.on_time ToPublish a (publish_rule d) (in_range a (length d.graph.arcs) out.0) r enabled passed in
+      let x = done_in_time d b u c.conducted legal ToPublish a (c.on_time ToPublish a (publish_rule d) (in_range a (length d.graph.arcs) out.0)) r enabled passed in
       let pb = counted_publish d b u a x.now.height x.call x.counted in
       let called : call_by u x.now ≡ Some (Publish pb.0) = x.called ∙ ap Some pb.1 in
       let act = act_of d a (history b a) x.past x.now (Publish pb.0) u l x.stands called in
@@ -110,7 +110,7 @@ module _ (d : Deal) (b : Histories) (k : IsAccepted d) (legal : IsLegalBook d b)
       and_three (same_terms pb.0 (terms_of d a)) (count_by (λ e. is_publish (call_by u e)) (history b a) == 1) (leads_one d u || is_ready d b u)
       (kept d b u c.conducted a x.past x.now (Publish pb.0) x.stands called) in
       let terms : pb.0 ≡ terms_of d a = same_terms-true pb.0 (terms_of d a) q.0 in
-      let own = no_own_transfer d b u legal ended c.conducted c.on_time law a w in
+      let own = no_own_transfer d b u legal c.conducted a w in
       let got = publish_takes d a (history b a) x.past x.now pb.0 l x.stands act.0 (act.1 ∙ sym out.1) (ap (λ z. z.amount) terms) own in
       let at : x.now.height ≡ height x.past = act.0.at in
       let in_time = x.in_time in

@@ -1,4 +1,4 @@
--- Each party that is conducted and never late has its refunds.
+-- Each party that is conducted and asks back what it published has its refunds; one that is never late does.
 use Rattle.std.proofs.Common.{count_by, ◌≡◌, ◌≢◌, ℕ, ◌+◌, ◌<◌, ◌≤◌, ◌==◌, nat_lt, Bool, true, false, cond, not, if◌then◌else◌, ◌&&◌, ◌||◌, List, []}
 use Rattle.std.proofs.Common.{◌∷◌, ◌++◌, length, Option, Some, None, is_some, is_none, refl, sym, ap, ◌∙◌, subst, inl, inr, arith, eqb-true, eq-eqb}
 use Rattle.std.proofs.Common.{ltb-true, le-ltb}
@@ -7,9 +7,9 @@ use Rattle.std.proofs.lemmas.Option.{same_Some}
 use Rattle.std.proofs.lemmas.List.Sums.{sum_by-append, sum_by-cons}
 use Rattle.swap_base.specs.Lists.{or_else, IsIn, IsMoment}
 use Rattle.swap_base.proofs.Lists.{first_of-now, Order, moments_in_order, in_range, and_both, moment_from_in, grow, all_moments_front, first_of-append}
-use Rattle.swap_base.proofs.Lists.{first_of-front, in_append, Earlier, Same, Later}
+use Rattle.swap_base.proofs.Lists.{first_of-front, in_append, in_from_moment, list_any-in, Earlier, Same, Later}
 use Rattle.swap_digraph.specs.declared.deal.Deal.{Deal}
-use Rattle.swap_digraph.specs.Graph.{leaving, is_among}
+use Rattle.swap_digraph.specs.Graph.{arcs, leaving, is_among}
 use Rattle.swap_digraph.specs.Deal.{party}
 use Rattle.escrow_core.specs.declared.terms.Terms.{Terms}
 use Rattle.escrow_core.specs.Terms.{terms_of, same_terms, refund_expiry}
@@ -24,26 +24,30 @@ use Rattle.ledger_core.specs.declared.facts.Settlement.{Settlement}
 use Rattle.ledger_core.specs.declared.facts.Settlement.TheVariants.{Claimed, Refunded}
 use Rattle.ledger_core.specs.Book.{Histories, history, IsLegalBook}
 use Rattle.ledger_core.specs.declared.accounts.Accounts.{Accounts}
-use Rattle.swap_rules.specs.declared.finding.Rule.TheVariants.{Publish as ToPublish, Refund as ToRefund}
+use Rattle.swap_rules.specs.declared.finding.Rule.TheVariants.{Publish as ToPublish, Claim as ToClaim, Refund as ToRefund}
 use Rattle.swap_rules.specs.declared.outcome.Outcome.TheVariants.{Underwater}
-use Rattle.swap_rules.specs.Party.{is_ready, ready_height, is_triggered, leads_one, call_by, least_expiry}
+use Rattle.swap_rules.specs.Party.{is_ready, ready_height, is_triggered, leads_one, call_by, least_expiry, has_expired}
 use Rattle.swap_rules.specs.Conduct.{is_publish, keeps, IsConducted}
-use Rattle.swap_rules.specs.Late.{when, ref_of, counts}
+use Rattle.swap_rules.specs.Late.{trigger_height, when, ref_of, counts, is_late}
 use Rattle.swap_rules.specs.Outcome.{is_claim, outcome, IsEnded}
+use Rattle.swap_rules.specs.Accepted.{IsAccepted}
 use Rattle.swap_rules.specs.Laws.{IsOnTime, IsUnforged, HasRefunds, EveryBookIsSafe}
+use Rattle.swap_rules.specs.Walking.{HasLost, UnlocksAll, ClaimsAll, AsksBack, AsksAllBack, WatchfulIsSafe, OnTimeIsWatchful}
+use Rattle.swap_rules.specs.Due.{is_claiming}
 use Rattle.swap_rules.proofs.Times.{TimeLaw, OfTimelocks, OfHashkeys, TimesLaw}
-use Rattle.swap_rules.proofs.Openings.{first_expiry, refund_expiry-low}
+use Rattle.swap_rules.proofs.Openings.{first_expiry, refund_expiry-low, expired-least}
+use Rattle.swap_rules.proofs.Expiry.{still_expired}
 use Rattle.ledger_core.proofs.History.{opened-past, Act, Done, published_done, claimed_done, of_publish, of_claim, of_transfer, clear_at, height-past}
 use Rattle.ledger_core.proofs.History.{published-past, settled-past, triggered-past, settled-now, is_some-of, not-true, not-full, from_clear}
 use Rattle.ledger_core.proofs.History.{accepted-now}
-use Rattle.swap_rules.proofs.Entering.{ready_below}
-use Rattle.swap_rules.proofs.Calls.{kept, legal_at, own_publish, done_in_time}
-use Rattle.swap_rules.proofs.SafeTimelocks.{timelocks_are_safe}
-use Rattle.swap_rules.proofs.SafeHashkeys.{hashkeys_are_safe}
+use Rattle.swap_rules.proofs.Entering.{UnlocksInTime, unlocks_in_time, ready_below, claim_enabled, trigger_ends}
+use Rattle.swap_rules.proofs.Calls.{kept, legal_at, own_publish, OwnPublish, done_in_time, counted_claim}
+use Rattle.swap_rules.proofs.SafeTimelocks.{timelocks_are_safe, timelocks_unlock}
+use Rattle.swap_rules.proofs.SafeHashkeys.{hashkeys_are_safe, hashkeys_unlock}
 use Rattle.swap_rules.proofs.Accepted.{times_law, time_law}
 use Rattle.ledger_core.proofs.Units.{units, after}
 use Rattle.swap_digraph.proofs.Paths.{in-is_among}
-use Rattle.swap_rules.proofs.Words.{publish_rule, refund_rule, act_of, call_by-act, and_three, leaves}
+use Rattle.swap_rules.proofs.Words.{publish_rule, claim_rule, refund_rule, act_of, call_by-act, and_three, enters, leaves}
 use Rattle.time_bounds.specs.Times as times
 
 -- The counterparty has nothing until it claims.
@@ -170,10 +174,95 @@ count_one p xs q r x y c m n px py = go (moments_in_order xs q r x y m n)
     go (Earlier k) = let a1 = count_past p r q x k px in let a2 = count_past p xs r y n py in absurd (omega arith)
     go (Later k) = let a1 = count_past p q r y k py in let a2 = count_past p xs q x m px in absurd (omega arith)
 
-module _ (d : Deal) (b : Histories) (v : ℕ) (legal : IsLegalBook d b) (ended : IsEnded d b) (conducted : IsConducted d b v) (on_time : IsOnTime d b v)
-    (law : TimesLaw d) where
+module _ (d : Deal) (b : Histories) (v : ℕ) (legal : IsLegalBook d b) (conducted : IsConducted d b v) where
+  pub no_own_transfer : (a : ℕ) → IsIn a (leaving d.graph v) → NoOwnTransfer d a (history b a)
+  unfolding keeps
+  no_own_transfer a w e to units i k =
+      let out = leaves d v a w in
+      let m = moment_from_in (history b a) e i in
+      false≢true (kept d b v conducted a m.0 e (Transfer to units) m.1 (ap (λ x. call_by x e) (sym out.1) ∙ k))
+
+module _ (d : Deal) (b : Histories) (v : ℕ) (legal : IsLegalBook d b) (conducted : IsConducted d b v) (law : TimesLaw d) (asks : AsksAllBack d b v) where
+  -- what was published and wasn't triggered was settled, since it was asked back above the expiry of a lock that stays closed
+  unsettled-never : (a : ℕ) (p : Publication) → IsIn a (leaving d.graph v) → is_triggered d b a ≡ false → published (history b a) ≡ Some p
+      → settled (history b a) ≡ None → ⊥
+  unfolding keeps
+  unsettled-never a p w shut e s =
+      let out = leaves d v a w in
+      let l = legal_at d b v conducted legal a out.0 in
+      let own = own_publish d b v conducted legal a p w e in
+      let y = asks a w (ap is_some e) shut in
+      let act = act_of d a (history b a) y.past y.now Refund v l y.stands y.called in
+      let q = is_some-of (published y.past) y.after in
+      let one : q.0 ≡ p = same_Some q.0 p (sym (published-past (history b a) y.past y.now q.0 y.stands q.1) ∙ e) in
+      let at : y.now.height ≡ height y.past = act.0.at in
+      let expired : has_expired d a y.past y.now.height ≡ true = kept d b v conducted a y.past y.now Refund y.stands y.called in
+      let still =
+      still_expired d law a out.0 y.past (history b a) l (y.now ∷ y.stands.0, y.stands.1) (λ r f.
+      OwnPublish.correct (own_publish d b v conducted legal a r w f)) y.now.height (height y.past) expired (omega arith) (omega arith) in
+      let above : least_expiry d a (history b a) < height y.past = expired-least d a (history b a) (height y.past) still in
+      let k =
+      refund_settles d a (history b a) y.past y.now q.0 l y.stands act.0 (act.1 ∙ sym out.1) q.1 shut
+      (subst (λ t. refund_expiry d a t (is_open (history b a)) < height y.past) (sym (ap (λ z. z.terms) one ∙ own.correct)) above) in
+      false≢true (sym (ap is_some s) ∙ k)
+
+  pub has_refunds : HasRefunds d b v
+  has_refunds a w shut =
+      let out = leaves d v a w in
+      let l = legal_at d b v conducted legal a out.0 in
+      let unclaimed : is_claim (settled (history b a)) ≡ false = not_claimed (settled (history b a)) refl l in
+      let z = counterparty_empty d a (history b a) l (no_own_transfer d b v legal conducted a w) unclaimed in
+      let u = units d a (history b a) l in
+      let total = u.total in
+      let none = held_none (settled (history b a)) (published (history b a)) refl refl in
+      ap (λ x. cond x (accounts d a (history b a)).party (accounts d a (history b a)).counterparty) (eq-eqb v (party d a) (sym out.1)) ∙ omega arith
+    where
+      not_claimed : (s : Option Settlement) → settled (history b a) ≡ s → IsLegal d a (history b a) → is_claim (settled (history b a)) ≡ false
+      not_claimed None e l = ap is_claim e
+      not_claimed (Some Refunded) e l = ap is_claim e
+      not_claimed (Some Claimed) e l =
+          let c = (claimed_done d a (history b a) l e).1 in
+          absurd (false≢true (sym shut ∙ triggered-past d (history b a) c.past c.now c.stands (of_claim d a c.past c.act.by c.clear).triggered))
+
+      held_none : (s : Option Settlement) (p : Option Publication) → settled (history b a) ≡ s → published (history b a) ≡ p → held (history b a) ≡ 0
+      held_none (Some s) p e f = ap (λ x. cond (is_some x) 0 (the_terms (history b a)).amount) e
+      held_none None None e f = ap (λ x. cond (is_some x) 0 (the_terms (history b a)).amount) e ∙ ap (λ q. (terms_in q).amount) f
+      held_none None (Some p) e f = absurd (unsettled-never a p w shut f e)
+
+-- A party that is nowhere late is watchful.
+
+-- an enabled unlock that isn't late is called while its hashkey is accepted, in either mode
+pub unlocks_all : (d : Deal) (b : Histories) (v : ℕ) → IsAccepted d → IsLegalBook d b → IsEnded d b → IsConducted d b v → UnlocksInTime d b v → UnlocksAll d b v
+unlocks_all d b v k legal ended conducted unlocks = go (time_law d k)
+  where
+    go : TimeLaw d → UnlocksAll d b v
+    go (OfTimelocks law) = timelocks_unlock d b v law legal ended conducted unlocks
+    go (OfHashkeys law) = hashkeys_unlock d b v law legal ended conducted unlocks
+
+-- where no claim is late each triggered arc that enters v was claimed
+pub claims_all : (d : Deal) (b : Histories) (v : ℕ) → IsLegalBook d b → IsEnded d b → IsConducted d b v → TimesLaw d
+    → ((a : ℕ) → IsIn a (arcs d.graph) → is_late d b v ToClaim a ≡ false) → ClaimsAll d b v
+claims_all d b v legal ended conducted law in_time a w right t =
+    let in_arc = enters d v a w in
+    let now_ended : times.horizon d.start d.delta d.bound < height (history b a) = ended a in_arc.0 in
+    let ends = trigger_ends d b v legal conducted law a w right in
+    let passed : trigger_height d (history b a) + d.delta < height (history b a) = omega arith in
+    let done =
+    done_in_time d b v conducted legal ToClaim a (in_time a (in_range a (length d.graph.arcs) in_arc.0)) (trigger_height d (history b a))
+    (claim_enabled d b v legal conducted law a w right t) passed in
+    list_any-in (λ e. is_claiming (call_by v e)) (history b a) done.now
+    (ap is_claiming (done.called ∙ ap Some (counted_claim d b v a done.now.height done.call done.counted)))
+    (subst (IsIn done.now) (sym done.stands.1) (in_from_moment done.past done.now done.stands.0))
+
+pub on_time_claims : (d : Deal) (b : Histories) (v : ℕ) → IsLegalBook d b → IsEnded d b → IsConducted d b v → TimesLaw d → IsOnTime d b v → ClaimsAll d b v
+on_time_claims d b v legal ended conducted law on_time =
+    claims_all d b v legal ended conducted law (λ a i. on_time ToClaim a (claim_rule d) i)
+
+module _ (d : Deal) (b : Histories) (v : ℕ) (legal : IsLegalBook d b) (ended : IsEnded d b) (conducted : IsConducted d b v)
+    (publishes : (a : ℕ) → IsIn a (arcs d.graph) → is_late d b v ToPublish a ≡ false)
+    (refunds : (a : ℕ) → IsIn a (arcs d.graph) → is_late d b v ToRefund a ≡ false) (law : TimesLaw d) where
   pub ready_low : is_ready d b v ≡ true → ready_height d b v ≤ times.open_by d.start d.delta d.bound
-  ready_low ready = ready_below d b v legal ended conducted on_time law ready
+  ready_low ready = ready_below d b v legal conducted law ready
 
   pub publish_ref : (a : ℕ) → IsIn a (leaving d.graph v) → (leads_one d v || is_ready d b v) ≡ true
       → (r : ℕ) × (ref_of d b v ToPublish a ≡ Some r) × (r ≤ times.open_by d.start d.delta d.bound)
@@ -215,7 +304,7 @@ module _ (d : Deal) (b : Histories) (v : ℕ) (legal : IsLegalBook d b) (ended :
       let t2 = law.ends a 0 out.0 in
       let t3 : r.0 ≤ times.open_by d.start d.delta d.bound = r.2 in
       let passed : r.0 + d.delta < height (history b a) = omega arith in
-      let x = done_in_time d b v conducted legal on_time ToPublish a (publish_rule d) (in_range a (length d.graph.arcs) out.0) r.0 r.1 passed in
+      let x = done_in_time d b v conducted legal ToPublish a (publishes a (in_range a (length d.graph.arcs) out.0)) r.0 r.1 passed in
       let c = counted_publish d b v a x.now.height x.call x.counted in
       let one =
       count_one (λ e. is_publish (call_by v e)) (history b a) done.past x.past done.now x.now (eqb-true _ _ k.1) done.stands x.stands
@@ -226,20 +315,13 @@ module _ (d : Deal) (b : Histories) (v : ℕ) (legal : IsLegalBook d b) (ended :
       let t7 : x.now.height ≤ r.0 + d.delta = x.in_time in
       omega arith
 
-  pub no_own_transfer : (a : ℕ) → IsIn a (leaving d.graph v) → NoOwnTransfer d a (history b a)
-  unfolding keeps
-  no_own_transfer a w e to units i k =
-      let out = leaves d v a w in
-      let m = moment_from_in (history b a) e i in
-      false≢true (kept d b v conducted a m.0 e (Transfer to units) m.1 (ap (λ x. call_by x e) (sym out.1) ∙ k))
-
-  unsettled-late : (a : ℕ) (p : Publication) → IsIn a (leaving d.graph v) → is_triggered d b a ≡ false → published (history b a) ≡ Some p
-      → settled (history b a) ≡ None → ⊥
+  -- each arc that leaves v and wasn't triggered was asked back after its publish, which came before any lock expires
+  pub on_time_asks : AsksAllBack d b v
   unfolding ref_of
-  unsettled-late a p w shut e s =
+  on_time_asks a w shown shut =
+      let p = is_some-of (published (history b a)) shown in
       let out = leaves d v a w in
       let l = legal_at d b v conducted legal a out.0 in
-      let own = own_publish d b v conducted legal a p w e in
       let now_ended : times.horizon d.start d.delta d.bound < height (history b a) = ended a out.0 in
       let first = first_expiry d a (terms_of d a) (is_open (history b a)) shut in
       let t1 = law.opens a first.lock out.0 in
@@ -248,70 +330,56 @@ module _ (d : Deal) (b : Histories) (v : ℕ) (legal : IsLegalBook d b) (ended :
       let passed : least_expiry d a (history b a) + d.delta < height (history b a) = omega arith in
       let on : (is_among a (leaving d.graph v) && is_some (published (history b a)) && not (is_triggered d b a)) ≡ true =
       and_both (is_among a (leaving d.graph v) && is_some (published (history b a))) _
-      (and_both (is_among a (leaving d.graph v)) _ (in-is_among a (leaving d.graph v) w) (ap is_some e)) (ap not shut) in
+      (and_both (is_among a (leaving d.graph v)) _ (in-is_among a (leaving d.graph v) w) shown) (ap not shut) in
       let y =
-      done_in_time d b v conducted legal on_time ToRefund a (refund_rule d) (in_range a (length d.graph.arcs) out.0)
+      done_in_time d b v conducted legal ToRefund a (refunds a (in_range a (length d.graph.arcs) out.0))
       (least_expiry d a (history b a)) (ap (λ x. when x (least_expiry d a (history b a))) on) passed in
       let c = counted_refund d b v a y.now.height y.call y.counted in
       let called : call_by v y.now ≡ Some Refund = y.called ∙ ap Some c.0 in
       let act = act_of d a (history b a) y.past y.now Refund v l y.stands called in
-      let done = published_done d a (history b a) p l e in
-      let early = published_early a p w e in
-      let t4 : p.height ≡ height done.past = done.at in
+      let done = published_done d a (history b a) p.0 l p.1 in
+      let early = published_early a p.0 w p.1 in
+      let t4 : p.0.height ≡ height done.past = done.at in
       let t5 : y.now.height ≡ height y.past = act.0.at in
       let t6 : least_expiry d a (history b a) < y.now.height = c.1 in
       let apart : height done.past < height y.past = omega arith in
-      go done y.past y.now y.stands act called own.correct apart (moments_in_order (history b a) done.past y.past done.now y.now done.stands y.stands)
-      (let z : least_expiry d a (history b a) < height y.past = omega arith in z)
+      go p.0 done y.past y.now y.stands called apart (moments_in_order (history b a) done.past y.past done.now y.now done.stands y.stands)
     where
-      go : {t : ℕ} (done : Done d a (history b a) (Publish p.terms) t) (past : List Entry) (now : Entry) → IsMoment (history b a) past now
-          → (act : (act : Act d a past now Refund) × (act.by ≡ v)) → call_by v now ≡ Some Refund
-          → p.terms ≡ terms_of d a → height done.past < height past → Order done.past done.now past now → least_expiry d a (history b a) < height past → ⊥
-      go done past now stands act called terms apart (Same q n) expired = let z : height done.past ≡ height past = ap height q in omega arith
-      go done past now stands act called terms apart (Later m) expired = let z = height-past done.past past now m in omega arith
-      go done past now stands act called terms apart (Earlier m) expired =
+      go : {t : ℕ} (p : Publication) (done : Done d a (history b a) (Publish p.terms) t) (past : List Entry) (now : Entry) → IsMoment (history b a) past now
+          → call_by v now ≡ Some Refund → height done.past < height past → Order done.past done.now past now → AsksBack b v a
+      go p done past now stands called apart (Same q n) = let z : height done.past ≡ height past = ap height q in absurd (omega arith)
+      go p done past now stands called apart (Later m) = let z = height-past done.past past now m in absurd (omega arith)
+      go p done past now stands called apart (Earlier m) =
           let shown =
           first_of-now (λ e. publication e.height (accepted e)) past done.past done.now (record {
             height = done.now.height;
             terms =
                 p.terms;
           }) m (ap (publication done.now.height) done.took) in
-          let q = is_some-of (published past) shown in
-          let one : q.0 ≡ p = same_Some q.0 p (sym (published-past (history b a) past now q.0 stands q.1) ∙ e) in
-          let out = leaves d v a w in
-          let k = refund_settles d a (history b a) past now q.0 (legal_at d b v conducted legal a out.0) stands act.0 (act.1 ∙ sym out.1) q.1 shut
-          (subst (λ t. refund_expiry d a t (is_open (history b a)) < height past) (sym (ap (λ z. z.terms) one ∙ terms)) expired) in
-          false≢true (sym (ap is_some s) ∙ k)
+          record { past = past; now = now; stands = stands; called = called; after = shown }
 
-  has_refunds : HasRefunds d b v
-  has_refunds a w shut =
-      let out = leaves d v a w in
-      let l = legal_at d b v conducted legal a out.0 in
-      let unclaimed : is_claim (settled (history b a)) ≡ false = not_claimed (settled (history b a)) refl l in
-      let z = counterparty_empty d a (history b a) l (no_own_transfer a w) unclaimed in
-      let u = units d a (history b a) l in
-      let total = u.total in
-      let none = held_none (settled (history b a)) (published (history b a)) refl refl in
-      ap (λ x. cond x (accounts d a (history b a)).party (accounts d a (history b a)).counterparty) (eq-eqb v (party d a) (sym out.1)) ∙ omega arith
-    where
-      not_claimed : (s : Option Settlement) → settled (history b a) ≡ s → IsLegal d a (history b a) → is_claim (settled (history b a)) ≡ false
-      not_claimed None e l = ap is_claim e
-      not_claimed (Some Refunded) e l = ap is_claim e
-      not_claimed (Some Claimed) e l =
-          let c = (claimed_done d a (history b a) l e).1 in
-          absurd (false≢true (sym shut ∙ triggered-past d (history b a) c.past c.now c.stands (of_claim d a c.past c.act.by c.clear).triggered))
-
-      held_none : (s : Option Settlement) (p : Option Publication) → settled (history b a) ≡ s → published (history b a) ≡ p → held (history b a) ≡ 0
-      held_none (Some s) p e f = ap (λ x. cond (is_some x) 0 (the_terms (history b a)).amount) e
-      held_none None None e f = ap (λ x. cond (is_some x) 0 (the_terms (history b a)).amount) e ∙ ap (λ q. (terms_in q).amount) f
-      held_none None (Some p) e f = absurd (unsettled-late a p w shut f e)
-
-pub every_book_is_safe : EveryBookIsSafe
-every_book_is_safe d b v k legal ended conducted on_time = record {
-  safe = go (time_law d k);
-  refunds = has_refunds d b v legal ended conducted on_time (times_law d k);
+pub on_time_is_watchful : OnTimeIsWatchful
+on_time_is_watchful d b v k legal ended conducted on_time = record {
+  unlocks = λ stake. unlocks_all d b v k legal ended conducted (unlocks_in_time d b v on_time);
+  claims = λ stake. on_time_claims d b v legal ended conducted (times_law d k) on_time;
+  refunds =
+      on_time_asks d b v legal ended conducted (λ a i. on_time ToPublish a (publish_rule d) i) (λ a i. on_time ToRefund a (refund_rule d) i) (times_law d k);
 }
+
+pub safe_by : (d : Deal) (b : Histories) (v : ℕ) → IsAccepted d → IsLegalBook d b → IsConducted d b v → (HasLost d b v → UnlocksAll d b v)
+    → (HasLost d b v → ClaimsAll d b v) → IsUnforged d b v → outcome d b v ≢ Underwater
+safe_by d b v k legal conducted unlocks claims = go (time_law d k)
   where
     go : TimeLaw d → IsUnforged d b v → outcome d b v ≢ Underwater
-    go (OfTimelocks law) = timelocks_are_safe d b v law legal ended conducted on_time
-    go (OfHashkeys law) = hashkeys_are_safe d b v law legal ended conducted on_time
+    go (OfTimelocks law) = timelocks_are_safe d b v law legal conducted unlocks claims
+    go (OfHashkeys law) = hashkeys_are_safe d b v law legal conducted unlocks claims
+
+pub watchful_is_safe : WatchfulIsSafe
+watchful_is_safe d b v k legal conducted watchful = record {
+  safe = safe_by d b v k legal conducted watchful.unlocks watchful.claims;
+  refunds = has_refunds d b v legal conducted (times_law d k) watchful.refunds;
+}
+
+pub every_book_is_safe : EveryBookIsSafe
+every_book_is_safe d b v k legal ended conducted on_time =
+    watchful_is_safe d b v k legal conducted (on_time_is_watchful d b v k legal ended conducted on_time)

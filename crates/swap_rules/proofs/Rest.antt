@@ -28,10 +28,11 @@ use Rattle.swap_rules.specs.Due.{due_unlock_on, is_due_claim, is_due_refund, whe
 use Rattle.swap_rules.specs.Rest.{is_ticking, are_ticks, is_waiting, least_of, rest_until, StaysLow, TicksMakeNothingDue}
 use Rattle.ledger_core.proofs.History.{not-true}
 use Rattle.swap_rules.proofs.Words.{append_empty}
-use Rattle.swap_rules.proofs.Prefixes.{same_or_not}
+use Rattle.swap_rules.specs.Machine.{Begins}
+use Rattle.swap_rules.proofs.Prefixes.{same_or_not, begins_refl}
 use Rattle.swap_rules.proofs.Openings.{expired-least, least-below}
 use Rattle.swap_rules.proofs.Conducting.{history_same, history_other}
-use Rattle.swap_rules.proofs.Rounds.{nothing_due}
+use Rattle.swap_rules.proofs.Rounds.{refund_none}
 use Rattle.time_bounds.specs.Times as times
 
 -- A list with ticks at its end.
@@ -40,7 +41,7 @@ no_call : (w : What) (x : _) → is_ticking w ≡ true → accepted_call w x ≡
 no_call (Made c) x t = absurd (false≢true t)
 no_call (Tick k) x t = refl
 
-not_called : (v : ℕ) (e : Entry) → is_ticking e.what ≡ true → call_by v e ≡ None
+pub not_called : (v : ℕ) (e : Entry) → is_ticking e.what ≡ true → call_by v e ≡ None
 not_called v e t = go (sent_by v e.sender) e.what t
   where
     go : (b : Bool) (w : What) → is_ticking w ≡ true → cond b (call_in w) None ≡ None
@@ -110,16 +111,21 @@ module _ (d : Deal) (v : ℕ) (b c : Histories) (same : (a : ℕ) → ReadsSame 
   seen_on : (i : ℕ) → first_seen_key d c v i ≡ first_seen_key d b v i
   seen_on i = λ j. first_of (λ a. key_without v (opened_on a i j)) (leaving d.graph v)
 
-  pub same_publishes : due_publishes d v c ≡ due_publishes d v b
+  pub same_publish : (a : ℕ) → is_due_publish d v c a ≡ is_due_publish d v b a
   unfolding is_due_publish
-  same_publishes =
-      λ j. flat_map (λ a. when_due ((leads_one d v || ready_on j) && not (called_on is_publish a refl j)) a (Publish (terms_of d a)))
-      (leaving d.graph v)
+  same_publish a = λ j. (leads_one d v || ready_on j) && not (called_on is_publish a refl j)
+
+  pub same_publishes : due_publishes d v c ≡ due_publishes d v b
+  same_publishes = λ j. flat_map (λ a. when_due (same_publish a j) a (Publish (terms_of d a))) (leaving d.graph v)
+
+  pub same_unlock : (w : Wallet) (s : Option Hashkey) (i a : ℕ) → due_unlock_on d v w s c i a ≡ due_unlock_on d v w s b i a
+  unfolding due_unlock_on due_key seen_key
+  same_unlock w s i a =
+      λ j. cond (ready_on j && not (called_on (is_unlock_for i) a refl j))
+      (presented a (or_else s (cond (leads d v i) (Some (w.first i)) (extended w (seen_on i j))))) []
 
   pub same_unlocks : (w : Wallet) (signed : ℕ → Option Hashkey) → due_unlocks d v w signed c ≡ due_unlocks d v w signed b
-  unfolding due_unlock_on due_key seen_key
-  same_unlocks w signed = λ j. flat_map (λ i. flat_map (λ a. cond (ready_on j && not (called_on (is_unlock_for i) a refl j))
-      (presented a (or_else (signed i) (cond (leads d v i) (Some (w.first i)) (extended w (seen_on i j))))) []) (entering d.graph v)) (locks d)
+  same_unlocks w signed = λ j. flat_map (λ i. flat_map (λ a. same_unlock w (signed i) i a j) (entering d.graph v)) (locks d)
 
   pub same_claims : due_claims d v c ≡ due_claims d v b
   unfolding is_due_claim
@@ -230,11 +236,18 @@ module _ (d : Deal) (v : ℕ) (w : Wallet) (signed : ℕ → Option Hashkey) (k 
       go (inl e) = subst (ReadsSame v (history k c)) (sym e) (reads_same v (history k c))
       go (inr e) = subst (ReadsSame v (history k c)) (sym (e.1 ∙ ap (λ z. history k z ++ more) (sym e.0))) (reads_on v (history k c) more ticks)
 
-  none_refunded : due d v w signed k ≡ [] → StaysLow d v k a more → due_refunds d v after ≡ []
+  pub grows_on : (c : ℕ) → Begins (history k c) (history after c)
+  grows_on c = go (which c)
+    where
+      go : Which c → Begins (history k c) (history after c)
+      go (inl e) = subst (Begins (history k c)) (sym e) (begins_refl (history k c))
+      go (inr e) = subst (Begins (history k c)) (sym (e.1 ∙ ap (λ z. history k z ++ more) (sym e.0))) (more, refl)
+
+  pub none_refunded : due_refunds d v k ≡ [] → StaysLow d v k a more → due_refunds d v after ≡ []
   none_refunded none low = no_refunds (is_due_refund d v after) (leaving d.graph v) (λ c i. go c i (which c))
     where
       go : (c : ℕ) → IsIn c (leaving d.graph v) → Which c → is_due_refund d v after c ≡ false
-      go c i (inl e) = let n = nothing_due d v w signed k none in same_refund d v k after c e ∙ n.refund c i
+      go c i (inl e) = same_refund d v k after c e ∙ refund_none d v k none c i
       go c i (inr e) = no_refund d v after c (λ waits.
           let here : IsIn a (leaving d.graph v) = subst (λ z. IsIn z (leaving d.graph v)) e.0 i in
           let waited : is_waiting d v k a ≡ true = ap (is_waiting d v k) (sym e.0) ∙ (sym (same_waiting d v k after reads c) ∙ waits) in
@@ -248,7 +261,7 @@ module _ (d : Deal) (v : ℕ) (w : Wallet) (signed : ℕ → Option Hashkey) (k 
   unfolding due
   rests_on none low =
       let before = append_empty (due_publishes d v k ++ due_unlocks d v w signed k ++ due_claims d v k) (due_refunds d v k) none in
-      rw (same_publishes d v k after reads, same_unlocks d v k after reads w signed, same_claims d v k after reads, none_refunded none low, before.0) refl
+      rw (same_publishes d v k after reads, same_unlocks d v k after reads w signed, same_claims d v k after reads, none_refunded before.1 low, before.0) refl
 
 pub ticks_make_nothing_due : TicksMakeNothingDue
 ticks_make_nothing_due d v w signed k a more ticks none low = rests_on d v w signed k a more ticks none low

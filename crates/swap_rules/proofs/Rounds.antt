@@ -2,7 +2,7 @@
 use Rattle.std.proofs.Common.{le-leb, count_by, ◌≡◌, ◌⊎◌, ℕ, suc, zero, ◌+◌, ◌<◌, ◌≤◌, ◌==◌, nat_lt, nat_le, Bool, true, false, cond, not, ◌-◌}
 use Rattle.std.proofs.Common.{if◌then◌else◌, max, ◌&&◌, ◌||◌, List, [], ◌∷◌, ◌++◌, length, Option, Some, None, is_some, is_none, refl, sym, ap, ◌∙◌}
 use Rattle.std.proofs.Common.{subst, inl, inr, arith, eqb-true, ltb-true, ltb-false, lt-ltb, le-ltb, leb-true, mul-le-mul_right, ◌*◌, map}
-use Rattle.std.specs.List.{list_any, flat_map}
+use Rattle.std.specs.List.{list_any, list_all, flat_map}
 use Rattle.std.proofs.lemmas.Bool.{false≢true}
 use Rattle.std.proofs.lemmas.Option.{same_Some}
 use Rattle.swap_base.specs.Lists.{or_else, IsIn, IsMoment, greatest}
@@ -29,7 +29,7 @@ use Rattle.ledger_core.specs.Book.{Histories, history, IsLegalBook}
 use Rattle.swap_rules.specs.Party.{has_expired, least_expiry, is_correct_in, is_correct, height_in, is_good, is_ready, ready_height, is_triggered}
 use Rattle.swap_rules.specs.Party.{leads_one, call_by, key_in, first_key, first_seen_key, key_without, opens_without}
 use Rattle.swap_rules.specs.Conduct.{is_publish, is_first_key, has_origin, carries, keeps, IsConducted, extends, extends_without, is_alone}
-use Rattle.swap_rules.specs.Late.{is_carried, is_used, greatest_used, height_of_opening, base_of, trigger_height, when, ref_of, counts, is_done, late_at}
+use Rattle.swap_rules.specs.Late.{is_carried, is_used, greatest_used, height_of_opening, base_of, trigger_height, when, ref_of, counts, is_done, is_late, late_at}
 use Rattle.swap_rules.specs.declared.finding.Rule.{Rule}
 use Rattle.swap_rules.specs.declared.finding.Rule.TheVariants.{Publish as ToPublish, Unlock as ToUnlock, Claim as ToClaim, Refund as ToRefund}
 use Rattle.swap_rules.specs.Findings.{rules_of}
@@ -37,6 +37,7 @@ use Rattle.swap_rules.specs.Accepted.{IsAccepted, IsTimed}
 use Rattle.swap_rules.specs.Due.{Wallet, is_unlock_for, is_claiming, is_refunding, has_called, is_due_publish, seen_key, extended, due_key, presented}
 use Rattle.swap_rules.specs.Due.{may_unlock, due_unlock_on, is_due_claim, is_due_refund, when_due, due_publishes, due_unlocks, due_claims, due_refunds}
 use Rattle.swap_rules.specs.Due.{due}
+use Rattle.swap_rules.specs.Walking.{is_withheld, pressing_unlocks, pressing}
 use Rattle.swap_digraph.proofs.Paths.{is_among-true}
 use Rattle.swap_rules.proofs.Words.{past_end, key_without_parts, and_three, and_five, enters, leaves, call_by-act, act_of, key_parts}
 use Rattle.swap_rules.proofs.Words.{append_empty, flat_map_none, or-left, same_key-refl}
@@ -69,14 +70,52 @@ present_none true a None e t = refl
 present_none true a (Some key) e t = absurd (cc e)
 present_none false a o e t = absurd (false≢true t)
 
+-- Nothing is due but perhaps publishes, and unlocks for locks that are held back.
+pub record NothingElseDue (d : Deal) (v : ℕ) (signed : ℕ → Option Hashkey) (w : Wallet) (k : Histories) (held : ℕ → Bool) : Type 0 where
+  pub unlock : (i a : ℕ) → i < length d.leaders → IsIn a (entering d.graph v) → may_unlock d v k i a ≡ true → held i ≡ false
+      → due_key d v w (signed i) k i ≡ None
+  pub claim : (a : ℕ) → IsIn a (entering d.graph v) → is_due_claim d v k a ≡ false
+  pub refund : (a : ℕ) → IsIn a (leaving d.graph v) → is_due_refund d v k a ≡ false
+
 pub record NothingDue (d : Deal) (v : ℕ) (signed : ℕ → Option Hashkey) (w : Wallet) (k : Histories) : Type 0 where
   pub publish : (a : ℕ) → IsIn a (leaving d.graph v) → is_due_publish d v k a ≡ false
   pub unlock : (i a : ℕ) → i < length d.leaders → IsIn a (entering d.graph v) → may_unlock d v k i a ≡ true → due_key d v w (signed i) k i ≡ None
   pub claim : (a : ℕ) → IsIn a (entering d.graph v) → is_due_claim d v k a ≡ false
   pub refund : (a : ℕ) → IsIn a (leaving d.graph v) → is_due_refund d v k a ≡ false
 
+unlock_none : (d : Deal) (v : ℕ) (w : Wallet) (signed : ℕ → Option Hashkey) (k : Histories) (i a : ℕ)
+    → flat_map (due_unlock_on d v w (signed i) k i) (entering d.graph v) ≡ [] → IsIn a (entering d.graph v) → may_unlock d v k i a ≡ true
+    → due_key d v w (signed i) k i ≡ None
+unfolding due_unlock_on
+unlock_none d v w signed k i a e j t =
+    present_none (may_unlock d v k i a) a (due_key d v w (signed i) k i)
+    (flat_map_none (due_unlock_on d v w (signed i) k i) (entering d.graph v) a e j) t
+
+claim_none : (d : Deal) (v : ℕ) (k : Histories) → due_claims d v k ≡ [] → (a : ℕ) → IsIn a (entering d.graph v) → is_due_claim d v k a ≡ false
+claim_none d v k c a i =
+    when_due_none (is_due_claim d v k a) a Claim (flat_map_none (λ a. when_due (is_due_claim d v k a) a Claim) (entering d.graph v) a c i)
+
+pub refund_none : (d : Deal) (v : ℕ) (k : Histories) → due_refunds d v k ≡ [] → (a : ℕ) → IsIn a (leaving d.graph v) → is_due_refund d v k a ≡ false
+refund_none d v k r a i =
+    when_due_none (is_due_refund d v k a) a Refund (flat_map_none (λ a. when_due (is_due_refund d v k a) a Refund) (leaving d.graph v) a r i)
+
+-- where nothing presses, nothing else is due
+pub nothing_presses : (d : Deal) (v : ℕ) (w : Wallet) (signed : ℕ → Option Hashkey) (k : Histories) → pressing d v w signed k ≡ []
+    → NothingElseDue d v signed w k (is_withheld d v k)
+unfolding pressing
+nothing_presses d v w signed k e =
+    let e1 = append_empty (flat_map (pressing_unlocks d v w signed k) (locks d) ++ due_claims d v k) (due_refunds d v k) e in
+    let e2 = append_empty (flat_map (pressing_unlocks d v w signed k) (locks d)) (due_claims d v k) e1.0 in
+    record {
+      unlock = λ i a l j t free. unlock_none d v w signed k i a
+          (ap (λ x. cond x [] (flat_map (due_unlock_on d v w (signed i) k i) (entering d.graph v))) (sym free)
+          ∙ flat_map_none (pressing_unlocks d v w signed k) (locks d) i e2.0 (in_range i (length d.leaders) l)) j t;
+      claim = claim_none d v k e2.1;
+      refund = refund_none d v k e1.1;
+    }
+
 pub nothing_due : (d : Deal) (v : ℕ) (w : Wallet) (signed : ℕ → Option Hashkey) (k : Histories) → due d v w signed k ≡ [] → NothingDue d v signed w k
-unfolding due due_unlock_on
+unfolding due
 nothing_due d v w signed k e =
     let e1 = append_empty (due_publishes d v k ++ due_unlocks d v w signed k ++ due_claims d v k) (due_refunds d v k) e in
     let e2 = append_empty (due_publishes d v k ++ due_unlocks d v w signed k) (due_claims d v k) e1.0 in
@@ -85,19 +124,35 @@ nothing_due d v w signed k e =
       publish =
           λ a i. when_due_none (is_due_publish d v k a) a (Publish (terms_of d a))
           (flat_map_none (λ a. when_due (is_due_publish d v k a) a (Publish (terms_of d a))) (leaving d.graph v) a e3.0 i);
-      unlock = λ i a l j t. present_none (may_unlock d v k i a) a (due_key d v w (signed i) k i)
-          (flat_map_none (due_unlock_on d v w (signed i) k i) (entering d.graph v) a
-          (flat_map_none (λ i. flat_map (due_unlock_on d v w (signed i) k i) (entering d.graph v)) (locks d) i e3.1
-          (in_range i (length d.leaders) l)) j) t;
-      claim = λ a i. when_due_none (is_due_claim d v k a) a Claim (flat_map_none (λ a. when_due (is_due_claim d v k a) a Claim) (entering d.graph v) a e2.1 i);
-      refund =
-          λ a i. when_due_none (is_due_refund d v k a) a Refund (flat_map_none (λ a.
-          when_due (is_due_refund d v k a) a Refund) (leaving d.graph v) a e1.1 i);
+      unlock = λ i a l j t. unlock_none d v w signed k i a
+          (flat_map_none (λ i. flat_map (due_unlock_on d v w (signed i) k i) (entering d.graph v)) (locks d) i e3.1 (in_range i (length d.leaders) l)) j t;
+      claim = claim_none d v k e2.1;
+      refund = refund_none d v k e1.1;
     }
+
+and_false : (z : Bool) → (z && false) ≡ false
+and_false true = refl
+and_false false = refl
+
+-- no lock is withheld over knowledge of which nothing is more than delta above a height by which contracts open
+pub not_withheld : (d : Deal) (v : ℕ) (k : Histories) (i t : ℕ) → ((a : ℕ) → height (history k a) ≤ t + d.delta)
+    → (leads d v i ≡ true → t ≤ times.open_by d.start d.delta d.bound) → is_withheld d v k i ≡ false
+not_withheld d v k i t low early = go (leads d v i) refl
+  where
+    go : (x : Bool) → leads d v i ≡ x → is_withheld d v k i ≡ false
+    go false e =
+        ap (λ x. x && is_none (first_key k v i)
+        && not (list_all (λ a. nat_le (height (history k a)) (times.open_by d.start d.delta d.bound + d.delta)) (entering d.graph v))) e
+    go true e =
+        let h = early e in
+        ap (λ x. leads d v i && is_none (first_key k v i) && not x)
+        (list_all-from (λ a. nat_le (height (history k a)) (times.open_by d.start d.delta d.bound + d.delta)) (entering d.graph v) (λ a j.
+        let l = low a in le-leb (height (history k a)) (times.open_by d.start d.delta d.bound + d.delta) (omega arith)))
+        ∙ and_false (leads d v i && is_none (first_key k v i))
 
 -- Numbers.
 
-next_round : (ticks : ℕ) → 1 ≤ ticks → (ref : ℕ) → (q : ℕ) × (ref < q * ticks) × (q * ticks ≤ ref + ticks)
+pub next_round : (ticks : ℕ) → 1 ≤ ticks → (ref : ℕ) → (q : ℕ) × (ref < q * ticks) × (q * ticks ≤ ref + ticks)
 next_round ticks some zero = (1, omega arith, omega arith)
 next_round ticks some (suc ref) =
     let r = next_round ticks some ref in
@@ -110,7 +165,7 @@ next_round ticks some (suc ref) =
         let h : q * ticks ≤ suc ref = ltb-false (suc ref) (q * ticks) e in
         (suc q, omega arith, omega arith)
 
-and_not : (x y : Bool) → (x && not y) ≡ false → x ≡ true → y ≡ true
+pub and_not : (x y : Bool) → (x && not y) ≡ false → x ≡ true → y ≡ true
 and_not true true e h = refl
 and_not true false e h = absurd (cc e)
 and_not false y e h = absurd (false≢true h)
@@ -149,7 +204,7 @@ pub record Called (v : ℕ) (h : List Entry) (test : Option Call → Bool) : Typ
   pub called : call_by v now ≡ Some call
   pub passes : test (Some call) ≡ true
 
-called_at : (v : ℕ) (h : List Entry) (test : Option Call → Bool) → test None ≡ false → has_called v test h ≡ true → Called v h test
+pub called_at : (v : ℕ) (h : List Entry) (test : Option Call → Bool) → test None ≡ false → has_called v test h ≡ true → Called v h test
 called_at v h test n e = let f = any_at (λ x. test (call_by v x)) h e in go f (call_by v f.now) refl
   where
     go : (f : AnyAt (λ x. test (call_by v x)) h) → (o : Option Call) → call_by v f.now ≡ o → Called v h test
@@ -175,7 +230,18 @@ opened_key d a h i t key o l done e q =
     go x y cx cy s (Earlier m) = absurd (false≢true (sym cy ∙ (ap (is_open y.past) s ∙ opened-now y.past x.past x.now key m x.took)))
     go x y cx cy s (Later m) = absurd (false≢true (sym cx ∙ (ap (is_open x.past) (sym s) ∙ opened-now x.past y.past y.now o.key m y.took)))
 
--- A party's knowledge k of the book b, in which everything of b at a height of at most ref stands, and over which nothing is due.
+-- A party's knowledge k of the book b, in which everything of b at a height of at most ref stands, and over which nothing is due but perhaps publishes, and
+-- unlocks for locks that are held back.
+pub record Told (d : Deal) (b : Histories) (v : ℕ) (w : Wallet) (ref due : ℕ) : Type 0 where
+  pub known : Histories
+  pub signed : ℕ → Option Hashkey
+  pub held : ℕ → Bool
+  pub grows : Grows known b
+  pub idle : NothingElseDue d v signed w known held
+  pub low : (a : ℕ) → IsNear d v a → ref < height (history known a)
+  pub high : (a : ℕ) → height (history known a) ≤ due
+
+-- One over which nothing is due at all.
 pub record Informed (d : Deal) (b : Histories) (v : ℕ) (w : Wallet) (ref due : ℕ) : Type 0 where
   pub known : Histories
   pub signed : ℕ → Option Hashkey
@@ -185,7 +251,7 @@ pub record Informed (d : Deal) (b : Histories) (v : ℕ) (w : Wallet) (ref due :
   pub high : (a : ℕ) → height (history known a) ≤ due
 
 module _ (d : Deal) (b : Histories) (v : ℕ) (w : Wallet) (ref due : ℕ) (k : IsAccepted d) (legal : IsLegalBook d b) (conducted : IsConducted d b v)
-    (x : Informed d b v w ref due) where
+    (x : Told d b v w ref due) where
   near_below : (a : ℕ) → IsNear d v a → a < length d.graph.arcs
   near_below a (inl i) = (leaves d v a i).0
   near_below a (inr i) = (enters d v a i).0
@@ -248,11 +314,15 @@ module _ (d : Deal) (b : Histories) (v : ℕ) (w : Wallet) (ref due : ℕ) (k : 
 
   -- Publish.
 
-  publish_known : (a : ℕ) → IsIn a (leaving d.graph v) → (leads_one d v || is_ready d b v) ≡ true → (leads_one d v ≡ false → ready_height d b v ≤ ref)
+  -- no publish is due either
+  abbrev NoPublish : Type 0
+  NoPublish = (a : ℕ) → IsIn a (leaving d.graph v) → is_due_publish d v x.known a ≡ false
+
+  publish_known : NoPublish → (a : ℕ) → IsIn a (leaving d.graph v) → (leads_one d v || is_ready d b v) ≡ true → (leads_one d v ≡ false → ready_height d b v ≤ ref)
       → has_called v is_publish (history x.known a) ≡ true
   unfolding is_due_publish
-  publish_known a i may low =
-      and_not (leads_one d v || is_ready d x.known v) (has_called v is_publish (history x.known a)) (x.idle.publish a i) (go (leads_one d v) refl may)
+  publish_known none a i may low =
+      and_not (leads_one d v || is_ready d x.known v) (has_called v is_publish (history x.known a)) (none a i) (go (leads_one d v) refl may)
     where
       go : (y : Bool) → leads_one d v ≡ y → (y || is_ready d b v) ≡ true → (leads_one d v || is_ready d x.known v) ≡ true
       go true e m = or-left (leads_one d v) _ e
@@ -265,14 +335,14 @@ module _ (d : Deal) (b : Histories) (v : ℕ) (w : Wallet) (ref due : ℕ) (k : 
   publish_is Refund e = absurd (cc e)
   publish_is (Transfer to units) e = absurd (cc e)
 
-  publish_done : (a : ℕ) → ref_of d b v ToPublish a ≡ Some ref → is_done d b v ToPublish a due ≡ true
+  publish_done : NoPublish → (a : ℕ) → ref_of d b v ToPublish a ≡ Some ref → is_done d b v ToPublish a due ≡ true
   unfolding ref_of counts
-  publish_done a e =
+  publish_done none a e =
       let s = when_some (is_among a (leaving d.graph v) && (leads_one d v || is_ready d b v)) (if leads_one d v then 0 else ready_height d b v) ref e in
       let p = and_parts (is_among a (leaving d.graph v)) (leads_one d v || is_ready d b v) s.0 in
       let i = is_among-true a (leaving d.graph v) p.0 in
       let c =
-      called_at v (history x.known a) is_publish refl (publish_known a i p.1 (λ f.
+      called_at v (history x.known a) is_publish refl (publish_known none a i p.1 (λ f.
       let z : ready_height d b v ≡ ref = ap (λ y. cond y 0 (ready_height d b v)) (sym f) ∙ s.1 in omega arith)) in
       let t = publish_is c.call c.passes in
       done_by ToPublish a c.past c.now (Publish t.0) (leaves d v a i).0 c.stands (c.called ∙ ap Some t.1) refl
@@ -303,7 +373,7 @@ module _ (d : Deal) (b : Histories) (v : ℕ) (w : Wallet) (ref due : ℕ) (k : 
   claim_is Refund e = absurd (cc e)
   claim_is (Transfer to units) e = absurd (cc e)
 
-  claim_done : (a : ℕ) → ref_of d b v ToClaim a ≡ Some ref → is_done d b v ToClaim a due ≡ true
+  pub claim_done : (a : ℕ) → ref_of d b v ToClaim a ≡ Some ref → is_done d b v ToClaim a due ≡ true
   unfolding ref_of counts is_due_claim
   claim_done a e =
       let s = when_some (is_among a (entering d.graph v) && is_correct d b a && is_triggered d b a) (trigger_height d (history b a)) ref e in
@@ -343,10 +413,10 @@ module _ (d : Deal) (b : Histories) (v : ℕ) (w : Wallet) (ref due : ℕ) (k : 
       done_by ToRefund a past e Refund l m called (lt-ltb (least_expiry d a (history b a)) e.height (expired-least d a (history b a) e.height still))
 
   -- v's accepted publish on a leaving arc is known, where ref is late enough
-  own_known : (a : ℕ) (p : Publication) → IsIn a (leaving d.graph v) → times.open_by d.start d.delta d.bound ≤ ref → published (history b a) ≡ Some p
+  own_known : NoPublish → (a : ℕ) (p : Publication) → IsIn a (leaving d.graph v) → times.open_by d.start d.delta d.bound ≤ ref → published (history b a) ≡ Some p
       → is_some (published (history x.known a)) ≡ true
   unfolding keeps ready_height
-  own_known a p i same e =
+  own_known none a p i same e =
       let out = leaves d v a i in
       let done = published_done d a (history b a) p (legal_on a out.0) e in
       let by : done.act.by ≡ v = (of_publish d a done.past done.act.by p.terms done.clear).party ∙ out.1 in
@@ -354,7 +424,7 @@ module _ (d : Deal) (b : Histories) (v : ℕ) (w : Wallet) (ref due : ℕ) (k : 
       let r =
       and_three (same_terms p.terms (terms_of d a)) (count_by (λ e. is_publish (call_by v e)) (history b a) == 1) (leads_one d v || is_ready d b v)
       (kept d b v conducted a done.past done.now (Publish p.terms) done.stands called) in
-      let c = called_at v (history x.known a) is_publish refl (publish_known a i r.2 (λ f.
+      let c = called_at v (history x.known a) is_publish refl (publish_known none a i r.2 (λ f.
       let ready : is_ready d b v ≡ true = ap (λ y. y || is_ready d b v) (sym f) ∙ r.2 in
       let h : ready_height d b v ≤ times.open_by d.start d.delta d.bound =
       greatest-below (λ a. height_in (published (history b a))) (entering d.graph v) (times.open_by d.start d.delta d.bound)
@@ -370,9 +440,9 @@ module _ (d : Deal) (b : Histories) (v : ℕ) (w : Wallet) (ref due : ℕ) (k : 
             p.terms;
       }) c.stands (ap (publication c.now.height) (ap accepted (sym one.1) ∙ done.took))
 
-  refund_done : (a : ℕ) → ref_of d b v ToRefund a ≡ Some ref → is_done d b v ToRefund a due ≡ true
+  refund_done : NoPublish → (a : ℕ) → ref_of d b v ToRefund a ≡ Some ref → is_done d b v ToRefund a due ≡ true
   unfolding ref_of is_due_refund
-  refund_done a e =
+  refund_done none a e =
       let s =
       when_some (is_among a (leaving d.graph v) && is_some (published (history b a)) && not (is_triggered d b a)) (least_expiry d a (history b a))
       ref e in
@@ -384,7 +454,7 @@ module _ (d : Deal) (b : Histories) (v : ℕ) (w : Wallet) (ref due : ℕ) (k : 
       let same : least_expiry d a (history b a) ≡ ref = s.1 in
       let t1 = (times_law d k).opens a first.lock l in
       let t2 = first.height in
-      let shown = own_known a q.0 i (omega arith) q.1 in
+      let shown = own_known none a q.0 i (omega arith) q.1 in
       let shut : triggered d (history x.known a) ≡ false =
       not-true _ (λ t. false≢true (sym (not-true-of _ p.2) ∙ triggered-more d (history x.known a) (history b a) (x.grows a) t)) in
       let low = x.low a (inl i) in
@@ -610,9 +680,16 @@ module _ (d : Deal) (b : Histories) (v : ℕ) (w : Wallet) (ref due : ℕ) (k : 
       done_by (ToUnlock i) a c.past c.now (Unlock u.0) l c.stands called
       (and_both (u.0.lock == i) _ u.2 (subst (λ j. is_first_key (first_key b v j) u.0 ≡ true) (eqb-true u.0.lock i u.2) q.2))
 
-  unlock_done : (i a : ℕ) → i < length d.leaders → ref_of d b v (ToUnlock i) a ≡ Some ref → is_done d b v (ToUnlock i) a due ≡ true
+  -- a party is ready by the height by which contracts open
+  low_height : is_ready d b v ≡ true → ready_height d b v ≤ times.open_by d.start d.delta d.bound
+  unfolding ready_height
+  low_height ready = greatest-below (λ a. height_in (published (history b a))) (entering d.graph v) (times.open_by d.start d.delta d.bound)
+      (λ c w. leb-true _ _ (and_parts (is_correct d b c) _ (ready_good d b v c ready w)).1)
+
+  -- an enabled unlock is done, where its lock isn't held back
+  pub unlock_done : (i a : ℕ) → i < length d.leaders → ((leads d v i ≡ true → ref ≤ times.open_by d.start d.delta d.bound) → x.held i ≡ false) → ref_of d b v (ToUnlock i) a ≡ Some ref → is_done d b v (ToUnlock i) a due ≡ true
   unfolding ref_of
-  unlock_done i a below e =
+  unlock_done i a below free e =
       let s =
       when_some (is_among a (entering d.graph v) && is_ready d b v
       && (leads d v i || is_some (first_key b v i) || list_any (λ c. opens_without v (opened (history b c) i)) (leaving d.graph v)))
@@ -631,7 +708,8 @@ module _ (d : Deal) (b : Histories) (v : ℕ) (w : Wallet) (ref due : ℕ) (k : 
           let r : ready_height d b v ≡ ref =
           ap (λ y. cond y (ready_height d b v) (max (ready_height d b v) (base_of d.mode d b v i (first_key b v i)))) (sym f) ∙ same in
           let may = and_both (is_ready d x.known v) _ (ready_known ready (omega arith)) (ap not h) in
-          absurd (due_key_some i (or-left (leads d v i) _ f) (x.idle.unlock i a below z may))
+          let top = low_height ready in
+          absurd (due_key_some i (or-left (leads d v i) _ f) (x.idle.unlock i a below z may (free (λ q. omega arith))))
       go z ready enabled same (inr h) false f =
           let r : max (ready_height d b v) (base_of d.mode d b v i (first_key b v i)) ≡ ref =
           ap (λ y. cond y (ready_height d b v) (max (ready_height d b v) (base_of d.mode d b v i (first_key b v i)))) (sym f) ∙ same in
@@ -639,14 +717,28 @@ module _ (d : Deal) (b : Histories) (v : ℕ) (w : Wallet) (ref due : ℕ) (k : 
           let known =
           seen i below f (ap (λ y. y || is_some (first_key b v i) || list_any (λ c. opens_without v (opened (history b c) i)) (leaving d.graph v))
           (sym f) ∙ enabled) (omega arith) in
-          absurd (due_key_some i (or-right (leads d v i) _ (seen_key_some i known)) (x.idle.unlock i a below z may))
+          absurd (due_key_some i (or-right (leads d v i) _ (seen_key_some i known)) (x.idle.unlock i a below z may (free (λ q. absurd (false≢true (sym f ∙ q))))))
+
+module _ (d : Deal) (b : Histories) (v : ℕ) (w : Wallet) (ref due : ℕ) (k : IsAccepted d) (legal : IsLegalBook d b) (conducted : IsConducted d b v)
+    (x : Informed d b v w ref due) where
+  told : Told d b v w ref due
+  told = record {
+    known = x.known;
+    signed = x.signed;
+    grows = x.grows;
+    held = λ i. false;
+    idle = record { unlock = λ i a l j t free. x.idle.unlock i a l j t; claim = x.idle.claim; refund = x.idle.refund };
+    low = x.low;
+    high = x.high;
+  }
 
   -- an enabled action is done
   pub informed_done : (rule : Rule) (a : ℕ) → IsIn rule (rules_of d) → ref_of d b v rule a ≡ Some ref → is_done d b v rule a due ≡ true
-  informed_done ToPublish a i e = publish_done a e
-  informed_done (ToUnlock l) a i e = unlock_done l a (lock_of_rule d l i) e
-  informed_done ToClaim a i e = claim_done a e
-  informed_done ToRefund a i e = refund_done a e
+  unfolding told
+  informed_done ToPublish a i e = publish_done d b v w ref due k legal conducted told x.idle.publish a e
+  informed_done (ToUnlock l) a i e = unlock_done d b v w ref due k legal conducted told l a (lock_of_rule d l i) (λ q. refl) e
+  informed_done ToClaim a i e = claim_done d b v w ref due k legal conducted told a e
+  informed_done ToRefund a i e = refund_done d b v w ref due k legal conducted told x.idle.publish a e
 
 -- Rounds.
 
@@ -705,22 +797,22 @@ done_more d b v rule a s t l h =
     list_any-in (λ e. counts d b v rule a e.height (call_by v e) && nat_le e.height t) (history b a) y.0
     (and_both (counts d b v rule a y.0.height (call_by v y.0)) _ p.0 (le-leb y.0.height t (omega arith))) y.1
 
-pub rounds_on_time : RoundsAreOnTime
-rounds_on_time d v w ticks slack rounds books k some fast x rule a i j = go (ref_of d (books rounds) v rule a) refl
+-- an action that is done within delta isn't late
+pub done_not_late : (d : Deal) (b : Histories) (v n : ℕ) → n ≤ d.delta → (rule : Rule) (a : ℕ)
+    → ((ref : ℕ) → ref_of d b v rule a ≡ Some ref → IsDoneBy d b v rule a (ref + n)) → is_late d b v rule a ≡ false
+done_not_late d b v n fast rule a by = go (ref_of d b v rule a) refl
   where
-    go : (o : Option ℕ) → ref_of d (books rounds) v rule a ≡ o → late_at d (books rounds) v rule a o ≡ false
+    go : (o : Option ℕ) → ref_of d b v rule a ≡ o → late_at d b v rule a o ≡ false
     go None e = refl
-    go (Some ref) e = elim (in_time d v w ticks slack rounds books k some x rule a ref i j e) [
-      | inl h ↦ ap (λ z. nat_lt (ref + d.delta) (height (history (books rounds) a)) && not z)
-          (done_more d (books rounds) v rule a (ref + ticks + slack) (ref + d.delta) (omega arith) h)
-          ∙ and_false (nat_lt (ref + d.delta) (height (history (books rounds) a)))
-      | inr l ↦ ap (λ z. z && not (is_done d (books rounds) v rule a (ref + d.delta)))
-          (le-ltb (ref + d.delta) (height (history (books rounds) a)) (omega arith))
+    go (Some ref) e = elim (by ref e) [
+      | inl h ↦ ap (λ z. nat_lt (ref + d.delta) (height (history b a)) && not z) (done_more d b v rule a (ref + n) (ref + d.delta) (omega arith) h)
+          ∙ and_false (nat_lt (ref + d.delta) (height (history b a)))
+      | inr l ↦ ap (λ z. z && not (is_done d b v rule a (ref + d.delta))) (le-ltb (ref + d.delta) (height (history b a)) (omega arith))
     ]
-      where
-        and_false : (z : Bool) → (z && not true) ≡ false
-        and_false true = refl
-        and_false false = refl
+
+pub rounds_on_time : RoundsAreOnTime
+rounds_on_time d v w ticks slack rounds books k some fast x rule a i j = done_not_late d (books rounds) v (ticks + slack) fast rule a (λ ref e.
+    subst (λ n. IsDoneBy d (books rounds) v rule a n) (omega arith) (in_time d v w ticks slack rounds books k some x rule a ref i j e))
 
 -- Races.
 

@@ -1,4 +1,4 @@
--- With hashkeys, no conducted party that is never late, and in whose name nothing is forged, ends underwater.
+-- With hashkeys, no conducted party that unlocks and claims, and in whose name nothing is forged, ends underwater.
 use Rattle.std.proofs.Common.{◌≡◌, ◌≢◌, ℕ, suc, ◌+◌, ◌<◌, ◌≤◌, ◌==◌, Bool, true, false, cond, not, ◌-◌, if◌then◌else◌, max, ◌&&◌, ◌||◌, List, [], ◌∷◌}
 use Rattle.std.proofs.Common.{length, Option, Some, None, is_some, refl, sym, ap, ◌∙◌, subst, arith, eq-eqb}
 use Rattle.std.specs.List.{flat_map}
@@ -24,14 +24,15 @@ use Rattle.swap_rules.specs.Conduct.{is_first_key, IsConducted, extends, extends
 use Rattle.swap_rules.specs.Late.{is_carried, is_used, height_if, greatest_used, base_of, when, ref_of}
 use Rattle.swap_rules.specs.Forged.{forges, has_made, has_forged_suffix}
 use Rattle.swap_rules.specs.Outcome.{outcome, IsEnded}
-use Rattle.swap_rules.proofs.Entering.{DueUnlock, ready_below, gets_all}
+use Rattle.swap_rules.proofs.Entering.{DueUnlock, UnlocksInTime, call_of, call_due, ready_below, gets_all}
 use Rattle.swap_digraph.proofs.Paths.{in-is_among, last_in as end_in, some_length}
 use Rattle.swap_rules.proofs.Words.{leaves, or-left, or-first, key_parts, same_key-path, leader_reads}
 use Rattle.swap_rules.proofs.Times.{HashkeyLaw, below_horizon, deadline_mono, deadline_next, deadline_first, deadline_last, path_of, times_of_hashkeys}
 use Rattle.ledger_core.proofs.History.{done_at, of_unlock, published-past, is_some-of, not-true-of, lock-below}
-use Rattle.swap_rules.specs.Laws.{IsOnTime, IsUnforged}
+use Rattle.swap_rules.specs.Laws.{IsUnforged}
+use Rattle.swap_rules.specs.Walking.{UnlocksAll, ClaimsAll, HasLost, IsUnrevealed}
 use Rattle.swap_rules.proofs.Calls.{legal_at, OwnPublish, own_publish}
-use Rattle.swap_rules.proofs.Leaving.{underwater_lost, underwater_missing, Shown, Opener, opener_at, triggered_ready, is_known, Passing}
+use Rattle.swap_rules.proofs.Leaving.{underwater_lost, underwater_missing, Shown, Opener, opener_at, triggered_ready, is_known, Passing, enabled_parts, opener, presents}
 use Rattle.time_bounds.specs.Times as times
 
 -- a call of v with a hashkey for lock i
@@ -150,34 +151,14 @@ longer g v inner (u ∷ p) (s ∷ sigs) key e =
     let q = same_key-path inner (record { lock = key.lock; secret = key.secret; path = p; sigs = sigs }) k.1 in
     (ap (λ x. suc (length x)) (sym q.1), q.0)
 
-module _ (d : Deal) (b : Histories) (v : ℕ) (legal : IsLegalBook d b) (ended : IsEnded d b) (conducted : IsConducted d b v) (on_time : IsOnTime d b v)
-    (unforged : IsUnforged d b v) (law : HashkeyLaw d) where
+module _ (d : Deal) (b : Histories) (v : ℕ) (legal : IsLegalBook d b) (conducted : IsConducted d b v)
+    (law : HashkeyLaw d) where
   last_is_deadline : (a : ℕ) (key : Hashkey) → last_in d.mode (terms_of d a) key ≡ times.deadline d.start d.delta d.bound (arcs_of key.path)
   last_is_deadline a key = ap (λ m. last_in m (terms_of d a) key) law.mode
 
-  -- v's calls that an open lock of a leaving arc shows
-  made_of : (a i : ℕ) → IsIn a (leaving d.graph v) → (o : Opening) → Opener d b v legal conducted unforged law.lock a i o → is_among v o.key.path ≡ true
-      → MadeFor b v i
-  made_of a i w o u among =
-      let f : forges Hashkeys d b v (Some (Unlock o.key)) ≡ false =
-      ap (λ m. forges m d b v (Some (Unlock o.key))) (sym law.mode) ∙ (ap (forges d.mode d b v) (sym u.took) ∙ unforged a u.past u.now w u.stands) in
-      let p = path_of d a o.key law.mode u.path in
-      subst (λ j. MadeFor b v j) u.lock (suffix_made b v o.key o.key.path o.key.sigs (forges_hashkeys b d v o.key f) p.lengths among)
-
-  shown_hashkeys : (a i : ℕ) → i < length d.leaders → IsIn a (leaving d.graph v) → leads d v i ≡ true → (o : Opening)
-      → Opener d b v legal conducted unforged law.lock a i o → Shown b v
-  shown_hashkeys a i below w l o u =
-      let p = path_of d a o.key law.mode u.path in
-      let last : last_is v o.key.path ≡ true = subst (λ x. last_is x o.key.path ≡ true) (ap (leader_of d) u.lock ∙ leader_reads d v i below l) p.last in
-      let m = made_of a i w o u (in-is_among v o.key.path (end_in v o.key.path last)) in
-      record { entry = m.entry; key = m.key; stands = m.stands; called = m.called }
-
-  ready_hashkeys : (a : ℕ) → IsIn a (leaving d.graph v) → is_triggered d b a ≡ true → is_ready d b v ≡ true
-  ready_hashkeys = triggered_ready d b v legal conducted unforged law.lock shown_hashkeys
-
   module _ (ready : is_ready d b v ≡ true) where
     g_low_hashkeys : ready_height d b v ≤ times.open_by d.start d.delta d.bound
-    g_low_hashkeys = ready_below d b v legal ended conducted on_time (times_of_hashkeys d law) ready
+    g_low_hashkeys = ready_below d b v legal conducted (times_of_hashkeys d law) ready
 
     -- the base height is in time for every hashkey that v may use, and for the horizon
     record InTime (o : Option Hashkey) (t : ℕ) : Type 0 where
@@ -291,40 +272,88 @@ module _ (d : Deal) (b : Histories) (v : ℕ) (legal : IsLegalBook d b) (ended :
             (first_in_time (ready_height d b v) g_low_hashkeys (first_key b v i))
             (subst (λ m. InTime (first_key b v i) (base_of m d b v i (first_key b v i))) (sym law.mode) (base_in_time i below (first_key b v i))))
 
-  known_open_hashkeys : (c i : ℕ) → IsIn c (leaving d.graph v) → is_open (history b c) i ≡ true → is_known d b v i ≡ true
-  unfolding first_key
-  known_open_hashkeys c i z t = go (is_among v o.0.key.path) refl
-    where
-      o : (o : Opening) × (opened (history b c) i ≡ Some o)
-      o = is_some-of (opened (history b c) i) t
+  module _ (unforged : IsUnforged d b v) where
+    -- v's calls that an open lock of a leaving arc shows
+    made_of : (a i : ℕ) → IsIn a (leaving d.graph v) → (o : Opening) → Opener d b v legal conducted law.lock a i o → is_among v o.key.path ≡ true
+        → MadeFor b v i
+    made_of a i w o u among =
+        let f : forges Hashkeys d b v (Some (Unlock o.key)) ≡ false =
+        ap (λ m. forges m d b v (Some (Unlock o.key))) (sym law.mode) ∙ (ap (forges d.mode d b v) (sym u.took) ∙ unforged a u.past u.now w u.stands) in
+        let p = path_of d a o.key law.mode u.path in
+        subst (λ j. MadeFor b v j) u.lock (suffix_made b v o.key o.key.path o.key.sigs (forges_hashkeys b d v o.key f) p.lengths among)
 
-      u : Opener d b v legal conducted unforged law.lock c i o.0
-      u = opener_at d b v legal conducted unforged law.lock c i z o.0 o.1
+    -- v's call for a lock of its own, which an open lock of a leaving arc shows
+    own_made : (a i : ℕ) → i < length d.leaders → IsIn a (leaving d.graph v) → leads d v i ≡ true → (o : Opening)
+        → Opener d b v legal conducted law.lock a i o → MadeFor b v i
+    own_made a i below w l o u =
+        let p = path_of d a o.key law.mode u.path in
+        let last : last_is v o.key.path ≡ true = subst (λ x. last_is x o.key.path ≡ true) (ap (leader_of d) u.lock ∙ leader_reads d v i below l) p.last in
+        made_of a i w o u (in-is_among v o.key.path (end_in v o.key.path last))
 
-      go : (x : Bool) → is_among v o.0.key.path ≡ x → is_known d b v i ≡ true
-      go true e =
-          let m = made_of c i z o.0 u e in
-          let key_is : key_in i (call_by v m.entry) ≡ Some m.key = ap (key_in i) m.called ∙ ap (λ x. cond x (Some m.key) None) (eq-eqb m.key.lock i m.lock) in
-          or-first (leads d v i) (is_some (first_key b v i)) _
-          (or-left (is_some (first_key b v i)) _ (first_of-in (λ e. key_in i (call_by v e)) (flat_map (λ h. h) b) m.entry m.key m.stands key_is))
-      go false e =
-          or-right (leads d v i || is_some (first_key b v i)) _ (list_any-in (λ c.
-          opens_without v (opened (history b c) i)) (leaving d.graph v) c (ap (opens_without v) o.1 ∙ ap not e) z)
+    shown_hashkeys : (a i : ℕ) → i < length d.leaders → IsIn a (leaving d.graph v) → leads d v i ≡ true → (o : Opening)
+        → Opener d b v legal conducted law.lock a i o → Shown b v
+    shown_hashkeys a i below w l o u =
+        let m = own_made a i below w l o u in
+        record { entry = m.entry; key = m.key; stands = m.stands; called = m.called }
 
-  pub passing_hashkeys : Passing d b v
-  passing_hashkeys = record { ready = ready_hashkeys; known = known_open_hashkeys; due = due_known_hashkeys }
+    -- a leader that presented no hashkey for its lock has lost nothing
+    unrevealed_hashkeys : IsUnrevealed d b v → (a : ℕ) → IsIn a (leaving d.graph v) → is_triggered d b a ≡ true → ⊥
+    unrevealed_hashkeys n a w t =
+        let o = opener d b v legal conducted law.lock a n.lock w t n.below in
+        let m = own_made a n.lock n.below w n.own o.0 o.1 in
+        false≢true (sym (ap is_some n.none) ∙ presents b v n.lock m.entry m.key m.stands m.called m.lock)
 
-  safety_hashkeys : outcome d b v ≢ Underwater
-  safety_hashkeys e =
-      let lost = underwater_lost d b v e in
-      let missing = underwater_missing d b v e in
-      let ready = ready_hashkeys lost.0 lost.1 lost.2 in
-      let has = gets_all d b v legal ended conducted on_time (times_of_hashkeys d law) ready
-      (λ a i w k. let below = from_range i (length d.leaders) k in
-      due_known_hashkeys ready a i w below (known_open_hashkeys lost.0 i lost.1 (list_all-in (is_open (history b lost.0)) (locks d) i lost.2 k)))
-      missing.0 missing.1 in
-      false≢true (sym missing.2 ∙ has)
+    ready_hashkeys : (a : ℕ) → IsIn a (leaving d.graph v) → is_triggered d b a ≡ true → is_ready d b v ≡ true
+    ready_hashkeys = triggered_ready d b v legal conducted law.lock shown_hashkeys
 
-pub hashkeys_are_safe : (d : Deal) (b : Histories) (v : ℕ) → HashkeyLaw d → IsLegalBook d b → IsEnded d b → IsConducted d b v → IsOnTime d b v
-    → IsUnforged d b v → outcome d b v ≢ Underwater
-hashkeys_are_safe d b v law legal ended conducted on_time unforged = safety_hashkeys d b v legal ended conducted on_time unforged law
+    known_open_hashkeys : (c i : ℕ) → IsIn c (leaving d.graph v) → is_open (history b c) i ≡ true → is_known d b v i ≡ true
+    unfolding first_key
+    known_open_hashkeys c i z t = go (is_among v o.0.key.path) refl
+      where
+        o : (o : Opening) × (opened (history b c) i ≡ Some o)
+        o = is_some-of (opened (history b c) i) t
+
+        u : Opener d b v legal conducted law.lock c i o.0
+        u = opener_at d b v legal conducted law.lock c i z o.0 o.1
+
+        go : (x : Bool) → is_among v o.0.key.path ≡ x → is_known d b v i ≡ true
+        go true e =
+            let m = made_of c i z o.0 u e in
+            let key_is : key_in i (call_by v m.entry) ≡ Some m.key = ap (key_in i) m.called ∙ ap (λ x. cond x (Some m.key) None) (eq-eqb m.key.lock i m.lock) in
+            or-first (leads d v i) (is_some (first_key b v i)) _
+            (or-left (is_some (first_key b v i)) _ (first_of-in (λ e. key_in i (call_by v e)) (flat_map (λ h. h) b) m.entry m.key m.stands key_is))
+        go false e =
+            or-right (leads d v i || is_some (first_key b v i)) _ (list_any-in (λ c.
+            opens_without v (opened (history b c) i)) (leaving d.graph v) c (ap (opens_without v) o.1 ∙ ap not e) z)
+
+    pub passing_hashkeys : Passing d b v
+    passing_hashkeys = record { ready = ready_hashkeys; known = known_open_hashkeys; due = due_known_hashkeys }
+
+    safety_hashkeys : (HasLost d b v → UnlocksAll d b v) → (HasLost d b v → ClaimsAll d b v) → outcome d b v ≢ Underwater
+    safety_hashkeys unlocks claims e =
+        let lost = underwater_lost d b v e in
+        let missing = underwater_missing d b v e in
+        let ready = ready_hashkeys lost.0 lost.1 lost.2 in
+        let stake = list_any-in (is_triggered d b) (leaving d.graph v) lost.0 lost.2 lost.1 in
+        let has = gets_all d b v legal conducted (times_of_hashkeys d law) ready (claims stake)
+        (λ a i w k.
+        let below = from_range i (length d.leaders) k in
+        let due = due_known_hashkeys ready a i w below (known_open_hashkeys lost.0 i lost.1 (list_all-in (is_open (history b lost.0)) (locks d) i lost.2 k)) in
+        call_of d b v i a (unlocks stake i a due.ref below due.enabled)) missing.0 missing.1 in
+        false≢true (sym missing.2 ∙ has)
+
+-- an enabled unlock that isn't late is called while its hashkey is accepted
+pub hashkeys_unlock : (d : Deal) (b : Histories) (v : ℕ) → HashkeyLaw d → IsLegalBook d b → IsEnded d b → IsConducted d b v → UnlocksInTime d b v → UnlocksAll d b v
+hashkeys_unlock d b v law legal ended conducted unlocks i a r below enabled =
+    let e = enabled_parts d b v i a r enabled in
+    let due = due_known_hashkeys d b v legal conducted law e.ready a i e.enters below e.known in
+    let c = call_due d b v legal ended conducted unlocks a i e.enters due in
+    record { past = c.past; now = c.now; key = c.key; stands = c.stands; called = c.called; lock = c.lock; in_time = c.last }
+
+pub hashkeys_are_safe : (d : Deal) (b : Histories) (v : ℕ) → HashkeyLaw d → IsLegalBook d b → IsConducted d b v
+    → (HasLost d b v → UnlocksAll d b v) → (HasLost d b v → ClaimsAll d b v) → IsUnforged d b v → outcome d b v ≢ Underwater
+hashkeys_are_safe d b v law legal conducted unlocks claims unforged = safety_hashkeys d b v legal conducted law unforged unlocks claims
+
+pub hashkeys_unrevealed : (d : Deal) (b : Histories) (v : ℕ) → HashkeyLaw d → IsLegalBook d b → IsConducted d b v → IsUnforged d b v → IsUnrevealed d b v
+    → (a : ℕ) → IsIn a (leaving d.graph v) → is_triggered d b a ≡ true → ⊥
+hashkeys_unrevealed d b v law legal conducted unforged n = unrevealed_hashkeys d b v legal conducted law unforged n

@@ -1,9 +1,9 @@
--- With timelocks, no conducted party that is never late, and in whose name nothing is forged, ends underwater.
+-- With timelocks, no conducted party that unlocks and claims, and in whose name nothing is forged, ends underwater.
 use Rattle.std.proofs.Common.{◌≡◌, ◌≢◌, ℕ, ◌+◌, ◌<◌, ◌≤◌, Bool, true, false, cond, not, slice_index, ◌-◌, if◌then◌else◌, max, ◌&&◌, ◌||◌, length}
 use Rattle.std.proofs.Common.{Option, Some, None, is_some, refl, sym, ap, ◌∙◌, subst, arith}
 use Rattle.std.proofs.lemmas.Bool.{false≢true}
 use Rattle.swap_base.specs.Lists.{IsIn, greatest}
-use Rattle.swap_base.proofs.Lists.{list_all-in, list_any-in, or-right, from_range, and_both, greatest-below}
+use Rattle.swap_base.proofs.Lists.{from_whole, moment_from_in, list_all-in, list_any-in, or-right, from_range, and_both, greatest-below}
 use Rattle.swap_digraph.specs.declared.deal.Deal.{Deal}
 use Rattle.swap_digraph.specs.declared.deal.Mode.TheVariants.{Timelocks}
 use Rattle.swap_digraph.specs.Graph.{leaving, entering, is_among}
@@ -19,33 +19,24 @@ use Rattle.swap_rules.specs.Conduct.{IsConducted}
 use Rattle.swap_rules.specs.Late.{height_of_opening, base_of, when, ref_of}
 use Rattle.swap_rules.specs.Forged.{forges}
 use Rattle.swap_rules.specs.Outcome.{outcome, IsEnded}
-use Rattle.swap_rules.proofs.Entering.{DueUnlock, ready_below, gets_all}
+use Rattle.swap_rules.proofs.Entering.{DueUnlock, UnlocksInTime, call_of, call_due, ready_below, gets_all}
 use Rattle.swap_digraph.proofs.Paths.{in-is_among}
-use Rattle.swap_rules.proofs.Words.{enters}
+use Rattle.swap_rules.proofs.Words.{enters, act_of}
 use Rattle.swap_rules.proofs.Times.{TimelockLaw, last-timelock, below_horizon, times_of_timelocks, no_path}
-use Rattle.ledger_core.proofs.History.{is_some-of}
-use Rattle.swap_rules.specs.Laws.{IsOnTime, IsUnforged}
-use Rattle.swap_rules.proofs.Leaving.{underwater_lost, underwater_missing, Shown, shown_timelocks, Opener, opener_at, triggered_ready, is_known, Passing}
+use Rattle.ledger_core.proofs.History.{is_some-of, lock-below}
+use Rattle.swap_rules.specs.Laws.{IsUnforged}
+use Rattle.swap_rules.specs.Walking.{UnlocksAll, ClaimsAll, HasLost, IsUnrevealed}
+use Rattle.swap_rules.proofs.Leaving.{underwater_lost, underwater_missing, Shown, shown_timelocks, Opener, opener_at, triggered_ready, is_known, Passing, enabled_parts, opener, presents}
 use Rattle.time_bounds.specs.Times as times
 
-module _ (d : Deal) (b : Histories) (v : ℕ) (legal : IsLegalBook d b) (ended : IsEnded d b) (conducted : IsConducted d b v) (on_time : IsOnTime d b v)
-    (unforged : IsUnforged d b v) (law : TimelockLaw d) where
+module _ (d : Deal) (b : Histories) (v : ℕ) (legal : IsLegalBook d b) (conducted : IsConducted d b v)
+    (law : TimelockLaw d) where
   some_lock : 0 < length d.leaders
   some_lock = (times_of_timelocks d law).lock
 
-  shown : (a i : ℕ) → i < length d.leaders → IsIn a (leaving d.graph v) → leads d v i ≡ true → (o : Opening)
-      → Opener d b v legal conducted unforged some_lock a i o → Shown b v
-  shown a i below w l o u =
-      let f : forges Timelocks d b v (Some (Unlock o.key)) ≡ false =
-      ap (λ m. forges m d b v (Some (Unlock o.key))) (sym law.mode) ∙ (ap (forges d.mode d b v) (sym u.took) ∙ unforged a u.past u.now w u.stands) in
-      shown_timelocks d b v o.key f u.secret (ap (leads d v) u.lock ∙ l)
-
-  ready_once : (a : ℕ) → IsIn a (leaving d.graph v) → is_triggered d b a ≡ true → is_ready d b v ≡ true
-  ready_once = triggered_ready d b v legal conducted unforged some_lock shown
-
   module _ (ready : is_ready d b v ≡ true) where
     g_low : ready_height d b v ≤ times.open_by d.start d.delta d.bound
-    g_low = ready_below d b v legal ended conducted on_time (times_of_timelocks d law) ready
+    g_low = ready_below d b v legal conducted (times_of_timelocks d law) ready
 
     -- what was opened on a leaving arc can be passed on in time
     base_low : (a : ℕ) → IsIn a (entering d.graph v) → leads d v 0 ≡ false → (o : Option Hashkey)
@@ -63,7 +54,7 @@ module _ (d : Deal) (b : Histories) (v : ℕ) (legal : IsLegalBook d b) (ended :
             → height_of_opening o ≤ slice_index d.timelocks a - d.delta
         go c z None e = omega arith
         go c z (Some x) e =
-            let u = opener_at d b v legal conducted unforged some_lock c 0 z x e in
+            let u = opener_at d b v legal conducted some_lock c 0 z x e in
             let in_time : x.height ≤ last_in d.mode (terms_of d c) x.key = u.in_time in
             let same : last_in d.mode (terms_of d c) x.key ≡ slice_index d.timelocks c = last-timelock d (terms_of d c) x.key law.mode in
             let step : slice_index d.timelocks c + d.delta ≤ slice_index d.timelocks a = law.steps v a c w z l in
@@ -119,25 +110,64 @@ module _ (d : Deal) (b : Histories) (v : ℕ) (legal : IsLegalBook d b) (ended :
   known_open : (c i : ℕ) → IsIn c (leaving d.graph v) → is_open (history b c) i ≡ true → is_known d b v i ≡ true
   known_open c i z t =
       let o = is_some-of (opened (history b c) i) t in
-      let u = opener_at d b v legal conducted unforged some_lock c i z o.0 o.1 in
+      let u = opener_at d b v legal conducted some_lock c i z o.0 o.1 in
       or-right (leads d v i || is_some (first_key b v i)) _ (list_any-in (λ c. opens_without v (opened (history b c) i)) (leaving d.graph v) c
       (ap (opens_without v) o.1 ∙ ap (λ p. not (is_among v p)) (no_path d c o.0.key law.mode u.path)) z)
 
-  pub passing_timelocks : Passing d b v
-  passing_timelocks = record { ready = ready_once; known = known_open; due = due_known }
+  module _ (unforged : IsUnforged d b v) where
+    shown : (a i : ℕ) → i < length d.leaders → IsIn a (leaving d.graph v) → leads d v i ≡ true → (o : Opening)
+        → Opener d b v legal conducted some_lock a i o → Shown b v
+    shown a i below w l o u =
+        let f : forges Timelocks d b v (Some (Unlock o.key)) ≡ false =
+        ap (λ m. forges m d b v (Some (Unlock o.key))) (sym law.mode) ∙ (ap (forges d.mode d b v) (sym u.took) ∙ unforged a u.past u.now w u.stands) in
+        shown_timelocks d b v o.key f u.secret (ap (leads d v) u.lock ∙ l)
 
-  -- A conducted party that is neither late nor forged on a leaving arc never ends underwater.
-  safety_timelocks : outcome d b v ≢ Underwater
-  safety_timelocks e =
-      let lost = underwater_lost d b v e in
-      let missing = underwater_missing d b v e in
-      let ready = ready_once lost.0 lost.1 lost.2 in
-      let has = gets_all d b v legal ended conducted on_time (times_of_timelocks d law) ready
-      (λ a i w k. let below = from_range i (length d.leaders) k in
-      due_known ready a i w below (known_open lost.0 i lost.1 (list_all-in (is_open (history b lost.0)) (locks d) i lost.2 k))) missing.0 missing.1
-      in
-      false≢true (sym missing.2 ∙ has)
+    ready_once : (a : ℕ) → IsIn a (leaving d.graph v) → is_triggered d b a ≡ true → is_ready d b v ≡ true
+    ready_once = triggered_ready d b v legal conducted some_lock shown
 
-pub timelocks_are_safe : (d : Deal) (b : Histories) (v : ℕ) → TimelockLaw d → IsLegalBook d b → IsEnded d b → IsConducted d b v → IsOnTime d b v
-    → IsUnforged d b v → outcome d b v ≢ Underwater
-timelocks_are_safe d b v law legal ended conducted on_time unforged = safety_timelocks d b v legal ended conducted on_time unforged law
+    -- a leader that presented no hashkey for its lock has lost nothing
+    unrevealed_timelocks : IsUnrevealed d b v → (a : ℕ) → IsIn a (leaving d.graph v) → is_triggered d b a ≡ true → ⊥
+    unrevealed_timelocks n a w t =
+        let o = opener d b v legal conducted some_lock a n.lock w t n.below in
+        let s = shown a n.lock n.below w n.own o.0 o.1 in
+        let y = from_whole b s.entry s.stands in
+        let m = moment_from_in (history b y.0) s.entry y.2 in
+        let act = (act_of d y.0 (history b y.0) m.0 s.entry (Unlock s.key) v (legal.legal y.0 y.1) m.1 s.called).0 in
+        let low : s.key.lock < length d.leaders = lock-below d y.0 s.key act.fits in
+        let below : n.lock < length d.leaders = n.below in
+        let one : length d.leaders ≡ 1 = law.one in
+        let same : s.key.lock ≡ n.lock = omega arith in
+        false≢true (sym (ap is_some n.none) ∙ presents b v n.lock s.entry s.key s.stands s.called same)
+
+    pub passing_timelocks : Passing d b v
+    passing_timelocks = record { ready = ready_once; known = known_open; due = due_known }
+
+    -- A conducted party that unlocks and claims, and is not forged on a leaving arc, never ends underwater.
+    safety_timelocks : (HasLost d b v → UnlocksAll d b v) → (HasLost d b v → ClaimsAll d b v) → outcome d b v ≢ Underwater
+    safety_timelocks unlocks claims e =
+        let lost = underwater_lost d b v e in
+        let missing = underwater_missing d b v e in
+        let ready = ready_once lost.0 lost.1 lost.2 in
+        let stake = list_any-in (is_triggered d b) (leaving d.graph v) lost.0 lost.2 lost.1 in
+        let has = gets_all d b v legal conducted (times_of_timelocks d law) ready (claims stake)
+        (λ a i w k.
+        let below = from_range i (length d.leaders) k in
+        let due = due_known ready a i w below (known_open lost.0 i lost.1 (list_all-in (is_open (history b lost.0)) (locks d) i lost.2 k)) in
+        call_of d b v i a (unlocks stake i a due.ref below due.enabled)) missing.0 missing.1 in
+        false≢true (sym missing.2 ∙ has)
+
+-- an enabled unlock that isn't late is called while its hashkey is accepted
+pub timelocks_unlock : (d : Deal) (b : Histories) (v : ℕ) → TimelockLaw d → IsLegalBook d b → IsEnded d b → IsConducted d b v → UnlocksInTime d b v → UnlocksAll d b v
+timelocks_unlock d b v law legal ended conducted unlocks i a r below enabled =
+    let e = enabled_parts d b v i a r enabled in
+    let due = due_known d b v legal conducted law e.ready a i e.enters below e.known in
+    let c = call_due d b v legal ended conducted unlocks a i e.enters due in
+    record { past = c.past; now = c.now; key = c.key; stands = c.stands; called = c.called; lock = c.lock; in_time = c.last }
+
+pub timelocks_are_safe : (d : Deal) (b : Histories) (v : ℕ) → TimelockLaw d → IsLegalBook d b → IsConducted d b v
+    → (HasLost d b v → UnlocksAll d b v) → (HasLost d b v → ClaimsAll d b v) → IsUnforged d b v → outcome d b v ≢ Underwater
+timelocks_are_safe d b v law legal conducted unlocks claims unforged = safety_timelocks d b v legal conducted law unforged unlocks claims
+
+pub timelocks_unrevealed : (d : Deal) (b : Histories) (v : ℕ) → TimelockLaw d → IsLegalBook d b → IsConducted d b v → IsUnforged d b v → IsUnrevealed d b v
+    → (a : ℕ) → IsIn a (leaving d.graph v) → is_triggered d b a ≡ true → ⊥
+timelocks_unrevealed d b v law legal conducted unforged n = unrevealed_timelocks d b v legal conducted law unforged n

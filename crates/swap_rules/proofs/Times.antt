@@ -53,6 +53,9 @@ pub record TimesLaw (d : Deal) : Type 0 where
   pub opens : (a i : ℕ) → a < length d.graph.arcs → times.open_by d.start d.delta d.bound + d.delta ≤ expiry d a i
   pub ends : (a i : ℕ) → a < length d.graph.arcs → expiry d a i + d.delta ≤ times.horizon d.start d.delta d.bound
   pub early : (a i j : ℕ) → a < length d.graph.arcs → (expiry d a i ≤ expiry d a j) ⊎ ExpiresEarly d a j
+  -- a leader's own hashkey is accepted on the arcs that enter it only as long as no lock expires
+  pub own : (a j : ℕ) (key : Hashkey) → a < length d.graph.arcs → key.lock < length d.leaders → is_valid d a (hashlock_of d key.lock) key ≡ true
+      → leads d (counterparty d a) key.lock ≡ true → last_in d.mode (terms_of d a) key ≤ expiry d a j
 
 -- Timelocks.
 
@@ -82,6 +85,9 @@ times_of_timelocks d law = record {
       let e = expiry-timelock d a i law.mode in
       let f = expiry-timelock d a j law.mode in
       inl (omega arith);
+  own = λ a j key l below h lead.
+      let e : last_in d.mode (terms_of d a) key ≡ slice_index d.timelocks a = last-timelock d (terms_of d a) key law.mode in
+      let f = expiry-timelock d a j law.mode in omega arith;
 }
 
 -- on timelocks every path is empty
@@ -164,6 +170,14 @@ times_of_hashkeys d law = record {
       let g = own_below d (is_own d.version d a i) in
       let k = below_horizon d.start d.bound d.delta in omega arith;
   early = λ a i j l. early a i j (is_own d.version d a j) refl;
+  own = λ a j key l below h lead.
+      let z = own_alone d a key below (path_of d a key law.mode (path_of_valid d a (hashlock_of d key.lock) key h)) lead in
+      let y = deadline_mono d.start d.delta d.bound (arcs_of key.path) 0 (omega arith) in
+      let e : last_in d.mode (terms_of d a) key ≡ times.deadline d.start d.delta d.bound (arcs_of key.path) =
+      ap (λ m. last_in m (terms_of d a) key) law.mode in
+      let f = expiry-hashkeys d a j law.mode (is_own d.version d a j) refl in
+      let g = own_above d (is_own d.version d a j) in
+      let k = deadline_first d.start d.delta d.bound in omega arith;
 }
   where
     last : (a : ℕ) (key : Hashkey) → key.lock < length d.leaders → PathOf d a key → (own : Bool) → is_own d.version d a key.lock ≡ own

@@ -37,7 +37,7 @@ use Rattle.swap_rules.specs.Accepted.{IsAccepted, HasTimelock, IsTimed}
 use Rattle.swap_rules.specs.Laws.{IsOnTime, AllConform, IsClaimedBy, AllIsTransferred}
 use Rattle.swap_rules.proofs.Times.{TimeLaw, OfTimelocks, OfHashkeys, path_of, path_of_valid, PathOf, TimesLaw}
 use Rattle.swap_rules.proofs.Accepted.{times_law, time_law, arc_has, get_in, one_leader}
-use Rattle.swap_rules.proofs.Entering.{opens, Unlocked, trigger_ends, claims, DueUnlock, claim_enabled}
+use Rattle.swap_rules.proofs.Entering.{opens, Unlocked, trigger_ends, claims, DueUnlock, claim_enabled, correct_entering, call_due, unlocks_in_time}
 use Rattle.swap_rules.proofs.Leaving.{Passing, is_known}
 use Rattle.swap_rules.proofs.SafeTimelocks.{passing_timelocks}
 use Rattle.swap_rules.proofs.SafeHashkeys.{passing_hashkeys, longer, used_below, extended_of, Extended}
@@ -47,7 +47,7 @@ use Rattle.swap_rules.proofs.Publishing.{every_good, enters_own, leaves_own, fro
 use Rattle.swap_rules.proofs.Words.{claim_rule, same_key-path, key_parts, and_five, enters, act_of, call_by-act, leaves}
 use Rattle.ledger_core.proofs.Units.{units, after, settled-published}
 use Rattle.ledger_core.proofs.History.{done_at, opened_done, of_unlock, of_publish, of_claim, of_refund, clear_at, published-past, legal-past, is_some-of}
-use Rattle.swap_rules.proofs.Refunds.{counterparty_empty, NoOwnTransfer, no_own_transfer}
+use Rattle.swap_rules.proofs.Refunds.{counterparty_empty, NoOwnTransfer, no_own_transfer, on_time_claims}
 use Rattle.swap_digraph.proofs.Paths.{path_step, some_length}
 use Rattle.leader_check.proofs.Bounds.{path_law}
 use Rattle.swap_rules.proofs.Graph.{dist_falls}
@@ -89,11 +89,12 @@ module _ (d : Deal) (b : Histories) (v : ℕ) (legal : IsLegalBook d b) (ended :
       let in_arc = enters d v a w in
       let l = legal_at d b v conducted legal a in_arc.0 in
       let now_ended : times.horizon d.start d.delta d.bound < height (history b a) = ended a in_arc.0 in
-      let ends = trigger_ends d b v legal ended conducted on_time law ready a w in
+      let right = correct_entering d b v legal conducted law ready a w in
+      let ends = trigger_ends d b v legal conducted law a w right in
       let passed : trigger_height d (history b a) + d.delta < height (history b a) = omega arith in
       let done =
-      done_in_time d b v conducted legal on_time ToClaim a (claim_rule d) (in_range a (length d.graph.arcs) in_arc.0)
-      (trigger_height d (history b a)) (claim_enabled d b v legal ended conducted on_time law ready a w open_all) passed in
+      done_in_time d b v conducted legal ToClaim a (on_time ToClaim a (claim_rule d) (in_range a (length d.graph.arcs) in_arc.0))
+      (trigger_height d (history b a)) (claim_enabled d b v legal conducted law a w right open_all) passed in
       let called : call_by v done.now ≡ Some Claim = done.called ∙ ap Some (counted_claim d b v a done.now.height done.call done.counted) in
       let act = act_of d a (history b a) done.past done.now Claim v l done.stands called in
       let shown : triggered d done.past ≡ true = kept d b v conducted a done.past done.now Claim done.stands called in
@@ -196,8 +197,8 @@ module _ (d : Deal) (b : Histories) (k : IsAccepted d) (legal : IsLegalBook d b)
   passing v below = go (time_law d k)
     where
       go : TimeLaw d → Passing d b v
-      go (OfTimelocks law) = let c = all v below in passing_timelocks d b v legal ended c.conducted c.on_time c.unforged law
-      go (OfHashkeys law) = let c = all v below in passing_hashkeys d b v legal ended c.conducted c.on_time c.unforged law
+      go (OfTimelocks law) = let c = all v below in passing_timelocks d b v legal c.conducted law c.unforged
+      go (OfHashkeys law) = let c = all v below in passing_hashkeys d b v legal c.conducted law c.unforged
 
   unlocked : (v : ℕ) → v < d.graph.n → (a i : ℕ) → IsIn a (entering d.graph v) → i < length d.leaders → is_known d b v i ≡ true
       → (due : DueUnlock d b v a i) × Unlocked d b v a i (due.ref + d.delta)
@@ -205,9 +206,12 @@ module _ (d : Deal) (b : Histories) (k : IsAccepted d) (legal : IsLegalBook d b)
       let c = all v below in
       let due = (passing v below).due (all_ready v) a i w l known in (
         due,
-        opens d b v legal ended c.conducted c.on_time (times_law d k) (all_ready v) a i w
-            (λ j m e. (passing v below).due (all_ready v) a j w m
-            (ap (λ x. x || is_some (first_key b v j) || list_any (λ c. opens_without v (opened (history b c) j)) (leaving d.graph v)) e)) due,
+        opens d b v legal c.conducted (times_law d k) (all_ready v) a i (due.ref + d.delta) w
+            (λ j m e.
+            let own = (passing v below).due (all_ready v) a j w m
+            (ap (λ x. x || is_some (first_key b v j) || list_any (λ c. opens_without v (opened (history b c) j)) (leaving d.graph v)) e) in
+            (own.ref + d.delta, call_due d b v legal ended c.conducted (unlocks_in_time d b v c.on_time) a j w own))
+            (call_due d b v legal ended c.conducted (unlocks_in_time d b v c.on_time) a i w due),
       )
 
   -- Along a path to the leader every entering arc is opened.
@@ -464,13 +468,14 @@ module _ (d : Deal) (b : Histories) (k : IsAccepted d) (legal : IsLegalBook d b)
 
   gets : (v : ℕ) → v < d.graph.n → (a : ℕ) → IsIn a (entering d.graph v) → is_got d b a ≡ true
   gets v below a w = let c =
-      all v below in claims d b v legal ended c.conducted c.on_time (times_law d k) (all_ready v) a w (all_triggered a (enters d v a w).0)
+      all v below in claims d b v legal c.conducted (times_law d k) (all_ready v)
+      (on_time_claims d b v legal ended c.conducted (times_law d k) c.on_time) a w (all_triggered a (enters d v a w).0)
 
   paid : (a : ℕ) → a < length d.graph.arcs → balance d a (history b a) (counterparty d a) ≡ amount d a
   paid a la =
       let c = all (party d a) (from_below d b k legal ended all a la) in
       let own : NoOwnTransfer d a (history b a) =
-      no_own_transfer d b (party d a) legal ended c.conducted c.on_time (times_law d k) a (leaves_own d b k legal ended all a la) in
+      no_own_transfer d b (party d a) legal c.conducted a (leaves_own d b k legal ended all a la) in
       let g = every_good d b k legal ended all a la in
       let claim =
       (and_parts (is_correct d b a) (is_claim (settled (history b a)))

@@ -9,4 +9,6 @@ pub mod Accepted
 pub mod Machine
 pub mod Rounds
 pub mod Laws
+pub mod Walking
 pub mod Rest
+pub mod Useful

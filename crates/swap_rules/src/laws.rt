@@ -5,6 +5,9 @@ ghost use Rattle.swap_rules.specs.Laws.{NothingFound, UnnamedIsSafe};
 ghost use Rattle.swap_rules.specs.Laws.{NothingIsForged, KnowledgeConducts, LearningIsSound, DueIsSound, RulesLeaveRoom, RoundsAreInTime};
 ghost use Rattle.swap_rules.specs.Laws.{RoundsAreOnTime, RacesAreInTime, AllIsDealt, RacesAreDealt};
 ghost use Rattle.swap_rules.specs.Rest.{TicksMakeNothingDue};
+ghost use Rattle.swap_rules.specs.Walking.{WatchfulIsSafe, OnTimeIsWatchful, UnpublishedLosesNothing, SilentLosesNothing, LatePublishIsIdle};
+ghost use Rattle.swap_rules.specs.Useful.{UsefulIsDue, OnlyHarmIsLeftOut, EarlyIsUseful, NothingUsefulPresses, TicksMakeNothingUseful};
+ghost use Rattle.swap_rules.specs.Walking.{LatePublishIsSafe, LateUnlockHasRefunds, MayStopPublishing, UnrevealedLosesNothing};
 
 /// At every prefix of a legal history each unit stands in one place: in the party's balance, the counterparty's or the contract.
 pub fn units_are_kept()
@@ -20,6 +23,29 @@ pub fn accepted_is_well_sized()
 /// there, doesn't end underwater, whatever the others do.
 pub fn every_book_is_safe()
     ensures { EveryBookIsSafe }
+{}
+
+/// Walking away is safe: a conducted party may publish late, or not at all, and it may stop at any time. What it has to do is to unlock in time once an
+/// arc that leaves it is triggered, and at some time to claim, and to ask back what it published. Who is nowhere late does so.
+pub fn walking_away_is_safe()
+    ensures safe { WatchfulIsSafe }
+    ensures on_time { OnTimeIsWatchful }
+    ensures stops { MayStopPublishing }
+    ensures named { LatePublishIsSafe }
+    ensures stranded { LateUnlockHasRefunds }
+{}
+
+/// A party that has published nothing has lost nothing, whatever it does or leaves out, and one that makes no call ends without a deal. Nor has a leader lost
+/// anything that has presented no hashkey for its lock.
+pub fn unpublished_loses_nothing()
+    ensures nothing { UnpublishedLosesNothing }
+    ensures silent { SilentLosesNothing }
+    ensures unrevealed { UnrevealedLosesNothing }
+{}
+
+/// A publish above the height by which contracts open makes nobody ready, and no conducted party unlocks it.
+pub fn late_publish_is_idle()
+    ensures { LatePublishIsIdle }
 {}
 
 /// Where all parties conform, nobody is late and nothing is forged, every arc is claimed in time, every counterparty has the arc's amount, and every
@@ -69,4 +95,13 @@ pub fn all_is_dealt()
 /// A party for which nothing is due may rest: ticks make nothing due for it up to the least expiry of a refund that it waits for.
 pub fn ticks_make_nothing_due()
     ensures { TicksMakeNothingDue }
+{}
+
+/// Of what is due a wallet leaves out only what can hurt its party, and nothing at all as long as contracts may open.
+pub fn only_harm_is_left_out()
+    ensures due { UsefulIsDue }
+    ensures harm { OnlyHarmIsLeftOut }
+    ensures early { EarlyIsUseful }
+    ensures presses { NothingUsefulPresses }
+    ensures ticks { TicksMakeNothingUseful }
 {}

@@ -14,7 +14,8 @@ mod outcome;
 pub use finding::{Finding, Rule};
 pub use laws::{
     accepted_is_well_sized, all_is_dealt, all_is_transferred, every_book_is_safe,
-    knowledge_conducts, nothing_found, nothing_is_forged, rounds_are_in_time,
-    ticks_make_nothing_due, units_are_kept, unnamed_is_safe,
+    knowledge_conducts, late_publish_is_idle, nothing_found, nothing_is_forged,
+    only_harm_is_left_out, rounds_are_in_time, ticks_make_nothing_due, units_are_kept,
+    unnamed_is_safe, unpublished_loses_nothing, walking_away_is_safe,
 };
 pub use outcome::Outcome;

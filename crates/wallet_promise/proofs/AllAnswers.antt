@@ -9,10 +9,12 @@ use Rattle.hashkey_path.specs.declared.hashkey.Hashkey.{Hashkey}
 use Rattle.ledger_core.specs.declared.entry.Call.{Call}
 use Rattle.ledger_core.specs.declared.entry.Call.TheVariants.{Publish, Unlock, Claim, Refund, Transfer}
 use Rattle.swap_rules.specs.Conduct.{is_publish}
-use Rattle.swap_rules.specs.Due.{Wallet, Action, due, first}
-use Rattle.wallet_promise.specs.Life.{Asking, Answer, Rest, Make, Keep, keep_of, make_if, is_kept, answer_for}
+use Rattle.swap_rules.specs.Due.{Wallet, Action, first}
+use Rattle.swap_rules.specs.Useful.{useful, IsHarmful}
+use Rattle.swap_rules.proofs.Useful.{useful_is_due, only_harm_is_left_out}
+use Rattle.wallet_promise.specs.Life.{Asking, Answer, Rest, Make, Keep, keep_of, make_if, is_kept, answer_for, MayGo, MayKeep}
 use Rattle.wallet_promise.specs.Answers.{was_sent, is_asked, once, unsent, answers, AllMayGo, AllMayBeKept, NoneIsSentTwice, NothingIsLeftOut}
-use Rattle.wallet_promise.specs.Answers.{EachKeyIsAsked, RestIsNothing}
+use Rattle.wallet_promise.specs.Answers.{EachKeyIsAsked, AllIsUseful, RestIsNothing}
 use Rattle.wallet_promise.proofs.Keys.{made_of, kept_of}
 
 -- Lists.
@@ -99,9 +101,9 @@ abbrev each : (ℕ → Option Hashkey) → (ℕ → Bool) → List Action → Li
 each kept sent xs = map (λ x. answer_for kept (Some x)) (unsent sent xs)
 
 from_answers : (d : Deal) (v : ℕ) (w : Wallet) (q : Asking) (sent : ℕ → Bool) (y : Answer) → IsIn y (answers d v w q sent)
-    → (x : Action) × IsIn x (due d v w q.kept q.known) × (was_sent sent x ≡ false) × (answer_for q.kept (Some x) ≡ y)
+    → (x : Action) × IsIn x (useful d v w q.kept q.known) × (was_sent sent x ≡ false) × (answer_for q.kept (Some x) ≡ y)
 from_answers d v w q sent y i =
-    let xs = due d v w q.kept q.known in
+    let xs = useful d v w q.kept q.known in
     let m = from_map (λ x. answer_for q.kept (Some x)) (unsent sent xs) y (from_once None (each q.kept sent xs) y i) in
     let f = from_filter (λ x. not (was_sent sent x)) m.0 xs m.1 in
     (m.0, f.0, not-true (was_sent sent m.0) f.1, m.2)
@@ -113,12 +115,17 @@ pub all_may_go : AllMayGo
 all_may_go d v w q sent x i =
     let f = from_answers d v w q sent (Make x) i in
     let m = made_of q.kept (Some f.0) x f.3 in
-    record { is_due = subst (λ y. IsIn y (due d v w q.kept q.known)) (some_same f.0 x m.0) f.1; was_kept = m.1 }
+    record { is_due = useful_is_due d v w q.kept q.known x (subst (λ y. IsIn y (useful d v w q.kept q.known)) (some_same f.0 x m.0) f.1); was_kept = m.1 }
+
+pub all_is_useful : AllIsUseful
+all_is_useful d v w q sent x i =
+    let f = from_answers d v w q sent (Make x) i in
+    subst (λ y. IsIn y (useful d v w q.kept q.known)) (some_same f.0 x (made_of q.kept (Some f.0) x f.3).0) f.1
 
 pub all_may_be_kept : AllMayBeKept
 all_may_be_kept d v w q sent key i =
     let f = from_answers d v w q sent (Keep key) i in
-    record { unlock = f.0; is_due = f.1; asks = f.3 }
+    record { unlock = f.0; is_due = useful_is_due d v w q.kept q.known f.0 f.1; asks = f.3 }
 
 pub none_is_sent_twice : NoneIsSentTwice
 none_is_sent_twice d v w q sent x i =
@@ -132,16 +139,27 @@ to_each kept sent xs x y i s e =
     subst (λ z. IsIn z (each kept sent xs)) e (in_map (λ z. answer_for kept (Some z)) (unsent sent xs) x f)
 
 pub nothing_is_left_out : NothingIsLeftOut
-nothing_is_left_out d v w q sent x may s =
-    let xs = due d v w q.kept q.known in
-    make_once None (each q.kept sent xs) x (to_each q.kept sent xs x (Make x) may.is_due s (ap (λ b. make_if b x) may.was_kept))
+nothing_is_left_out d v w q sent x may s = go (only_harm_is_left_out d v w q.kept q.known x may.is_due)
+  where
+    go : IsIn x (useful d v w q.kept q.known) ⊎ IsHarmful d v w q.kept q.known x
+        → IsIn (Make x) (answers d v w q sent) ⊎ IsHarmful d v w q.kept q.known x
+    go (inl i) =
+        let xs = useful d v w q.kept q.known in
+        inl (make_once None (each q.kept sent xs) x (to_each q.kept sent xs x (Make x) i s (ap (λ b. make_if b x) (MayGo.was_kept may))))
+    go (inr harm) = inr harm
 
 pub each_key_is_asked : EachKeyIsAsked
-each_key_is_asked d v w q sent key may =
-    let xs = due d v w q.kept q.known in
-    let unlock = (kept_of q.kept may.unlock key may.asks).0 in
-    let s : was_sent sent may.unlock ≡ false = ap (λ (c : Call). is_publish (Some c) && sent may.unlock.arc) unlock in
-    asks_once None (each q.kept sent xs) key refl (to_each q.kept sent xs may.unlock (Keep key) may.is_due s may.asks)
+each_key_is_asked d v w q sent key may = go (only_harm_is_left_out d v w q.kept q.known may.unlock may.is_due)
+  where
+    go : IsIn (MayKeep.unlock may) (useful d v w q.kept q.known) ⊎ IsHarmful d v w q.kept q.known (MayKeep.unlock may)
+        → AsksFor key.lock (answers d v w q sent) ⊎ IsHarmful d v w q.kept q.known (MayKeep.unlock may)
+    go (inl i) =
+        let xs = useful d v w q.kept q.known in
+        let unlock = (kept_of q.kept (MayKeep.unlock may) key (MayKeep.asks may)).0 in
+        let s : was_sent sent (MayKeep.unlock may) ≡ false =
+        ap (λ (c : Call). is_publish (Some c) && sent (Action.arc (MayKeep.unlock may))) unlock in
+        inl (asks_once None (each q.kept sent xs) key refl (to_each q.kept sent xs (MayKeep.unlock may) (Keep key) i s (MayKeep.asks may)))
+    go (inr harm) = inr harm
 
 never_rest : (kept : ℕ → Option Hashkey) (c : Call) (x : Action) (b : Bool) → x.call ≡ c → is_kept kept c ≡ b → make_if b x ≡ Rest → ⊥
 never_rest kept c x true call e r = cc r
@@ -156,4 +174,4 @@ only_nothing kept [] e = refl
 only_nothing kept (x ∷ xs) e = absurd (never_rest kept x.call x (is_kept kept x.call) refl refl e)
 
 pub rest_is_nothing : RestIsNothing
-rest_is_nothing d v w q sent = (only_nothing q.kept (due d v w q.kept q.known), λ e. ap (λ xs. answer_for q.kept (first xs)) e)
+rest_is_nothing d v w q sent = (only_nothing q.kept (useful d v w q.kept q.known), λ e. ap (λ xs. answer_for q.kept (first xs)) e)

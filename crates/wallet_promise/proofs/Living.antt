@@ -23,7 +23,7 @@ use Rattle.ledger_core.proofs.History.{published_done, of_publish, not-true-of}
 use Rattle.swap_rules.specs.Accepted.{IsAccepted}
 use Rattle.swap_rules.specs.Party.{has_expired, is_correct, is_ready, is_triggered, leads_one, call_by, key_in, first_key}
 use Rattle.swap_rules.specs.Conduct.{is_publish, is_first_key, keeps, keeps_at, IsConducted}
-use Rattle.swap_rules.specs.Due.{Wallet, Action, has_called, is_unlock_for, is_claiming, is_due_publish, may_unlock, is_due_claim, is_due_refund, due, first}
+use Rattle.swap_rules.specs.Due.{Wallet, has_called, is_unlock_for, is_claiming, is_due_publish, may_unlock, is_due_claim, is_due_refund, due, first}
 use Rattle.swap_rules.specs.Due.{is_refunding, due_unlock_on, due_key, presented, due_unlocks, due_publishes, due_claims, due_refunds}
 use Rattle.swap_rules.specs.declared.finding.Rule.{Rule}
 use Rattle.swap_rules.specs.declared.finding.Rule.TheVariants.{Publish as OfPublish, Unlock as OfUnlock, Claim as OfClaim, Refund as OfRefund}
@@ -42,7 +42,9 @@ use Rattle.swap_rules.proofs.Growth.{Grows, triggered-more, is_published-more, c
 use Rattle.swap_rules.proofs.Prefixes.{begins_height, in_any, moment_more}
 use Rattle.swap_rules.proofs.Refunds.{every_book_is_safe}
 use Rattle.swap_rules.proofs.Words.{act_of, call_by-act, key_parts, same_key-refl, same_key-true, same_terms-refl, and_three, and_five, leaves}
-use Rattle.wallet_promise.specs.Life.{Asking, nothing_kept, is_kept, Rest, keep_of, make_if, answer_for, IsTold, IsAnswered, IsLife, MayKeep, MayGo}
+use Rattle.swap_rules.specs.Useful.{useful}
+use Rattle.swap_rules.proofs.Useful.{useful_is_due}
+use Rattle.wallet_promise.specs.Life.{Asking, nothing_kept, is_kept, IsTold, IsAnswered, IsLife, MayKeep, MayGo}
 use Rattle.wallet_promise.specs.Life.{HasRested}
 use Rattle.wallet_promise.specs.Laws.{LifeConducts, LifeIsSafe, OneHashkey, AskedIsNotKept, NothingIsLost, AnswersMayGo, AnswersMayBeKept, ToldIsOnce}
 use Rattle.wallet_promise.specs.Laws.{TwiceIsBroken, TwoKeysAreBroken, KeptMayGo}
@@ -312,26 +314,6 @@ patience_leaves_room d v w b askings kept acc legal wallet life patient a =
     life_leaves_room d v w b askings kept acc legal wallet life (λ a past e c m k r h.
     let i = patient a past e c m k in patient_first d v w b askings kept acc legal wallet life a past c i.0 i.1 r h) a
 
--- who is answered by nothing to do has nothing due
-rest_of : (kept : ℕ → Option Hashkey) (o : Option Action) → answer_for kept o ≡ Rest → o ≡ None
-rest_of kept None e = refl
-rest_of kept (Some x) e = absurd (go x.call (is_kept kept x.call) refl e)
-  where
-    keeping : (c : Call) → is_kept kept c ≡ false → keep_of c ≡ Rest → ⊥
-    keeping (Publish t) f q = cc f
-    keeping (Unlock key) f q = cc q
-    keeping Claim f q = cc f
-    keeping Refund f q = cc f
-    keeping (Transfer u z) f q = cc f
-
-    go : (c : Call) (t : Bool) → is_kept kept x.call ≡ t → make_if t x ≡ Rest → ⊥
-    go c true f q = cc q
-    go c false f q = keeping x.call f q
-
-nothing_first : (xs : List Action) → first xs ≡ None → xs ≡ []
-nothing_first [] e = refl
-nothing_first (x ∷ xs) e = absurd (cc e)
-
 pub attentive_is_safe : AttentiveIsSafe
 attentive_is_safe d v w b askings kept acc legal wallet life attends = (on_time, λ ended. every_book_is_safe d b v acc legal ended conducted on_time)
   where
@@ -343,10 +325,7 @@ attentive_is_safe d v w b askings kept acc legal wallet life attends = (on_time,
       known = t.asking.known;
       signed = t.asking.kept;
       grows = life.told t.asking t.asked;
-      idle =
-          nothing_due d v w t.asking.kept t.asking.known
-          (nothing_first (due d v w t.asking.kept t.asking.known)
-          (rest_of t.asking.kept (first (due d v w t.asking.kept t.asking.known)) t.rests));
+      idle = nothing_due d v w t.asking.kept t.asking.known t.rests;
       low = t.past;
       high = t.soon;
     }
@@ -389,13 +368,13 @@ nothing_is_lost d v w b askings kept acc legal wallet life q i key j e = last_on
 
 pub answers_may_go : AnswersMayGo
 answers_may_go d v w q x e =
-    let m = made_of q.kept (first (due d v w q.kept q.known)) x e in
-    record { is_due = first_in (due d v w q.kept q.known) x m.0; was_kept = m.1 }
+    let m = made_of q.kept (first (useful d v w q.kept q.known)) x e in
+    record { is_due = useful_is_due d v w q.kept q.known x (first_in (useful d v w q.kept q.known) x m.0); was_kept = m.1 }
 
 pub answers_may_be_kept : AnswersMayBeKept
 answers_may_be_kept d v w q key e =
-    let m = keep_first q.kept (first (due d v w q.kept q.known)) key e in
-    record { unlock = m.0; is_due = first_in (due d v w q.kept q.known) m.0 m.1; asks = m.2 }
+    let m = keep_first q.kept (first (useful d v w q.kept q.known)) key e in
+    record { unlock = m.0; is_due = useful_is_due d v w q.kept q.known m.0 (first_in (useful d v w q.kept q.known) m.0 m.1); asks = m.2 }
 
 pub told_is_once : ToldIsOnce
 unfolding is_due_publish

@@ -1,10 +1,11 @@
--- All that is answered at once: every call that is due, in its order, and not the first alone.
-use Rattle.std.specs.Prelude.{◌≡◌, ◌==◌, ◌&&◌, not, ℕ, Bool, false, List, [], ◌∷◌, map, filter, Option, Some, None, if◌then◌else◌}
+-- All that is answered at once: every call that is useful, in its order, and not the first alone.
+use Rattle.std.specs.Prelude.{◌≡◌, ◌⊎◌, ◌==◌, ◌&&◌, not, ℕ, Bool, false, List, [], ◌∷◌, map, filter, Option, Some, None, if◌then◌else◌}
 use Rattle.swap_base.specs.Lists.{IsIn}
 use Rattle.swap_digraph.specs.declared.deal.Deal.{Deal}
 use Rattle.hashkey_path.specs.declared.hashkey.Hashkey.{Hashkey}
 use Rattle.swap_rules.specs.Conduct.{is_publish}
-use Rattle.swap_rules.specs.Due.{Wallet, Action, due}
+use Rattle.swap_rules.specs.Due.{Wallet, Action}
+use Rattle.swap_rules.specs.Useful.{useful, IsHarmful}
 use Rattle.wallet_promise.specs.Life.{Asking, Answer, Rest, Make, Keep, answer, answer_for, MayGo, MayKeep}
 
 -- whether the call is a publish, and one was written down as sent on its arc: it may have gone out, so it never goes again
@@ -33,7 +34,7 @@ answers_for kept sent xs = once None (map (λ x. answer_for kept (Some x)) (unse
 
 -- all that is answered to an asking
 abbrev pub answers : Deal → ℕ → Wallet → Asking → (ℕ → Bool) → List Answer
-answers d v w q sent = answers_for q.kept sent (due d v w q.kept q.known)
+answers d v w q sent = answers_for q.kept sent (useful d v w q.kept q.known)
 
 -- A law of all answers to an asking.
 abbrev pub OfAllAnswers : (Deal → ℕ → Wallet → Asking → (ℕ → Bool) → Type 0) → Type 0
@@ -50,17 +51,24 @@ AllMayBeKept = OfAllAnswers (λ d v w q sent. (key : Hashkey) → IsIn (Keep key
 abbrev pub NoneIsSentTwice : Type 0
 NoneIsSentTwice = OfAllAnswers (λ d v w q sent. (x : Action) → IsIn (Make x) (answers d v w q sent) → was_sent sent x ≡ false)
 
--- nothing that may go out is left out but what was sent
+-- whatever may go out is answered, unless it was sent or can only hurt
 abbrev pub NothingIsLeftOut : Type 0
-NothingIsLeftOut = OfAllAnswers (λ d v w q sent. (x : Action) → MayGo d v w q x → was_sent sent x ≡ false → IsIn (Make x) (answers d v w q sent))
+NothingIsLeftOut =
+    OfAllAnswers (λ d v w q sent. (x : Action) → MayGo d v w q x → was_sent sent x ≡ false
+    → IsIn (Make x) (answers d v w q sent) ⊎ IsHarmful d v w q.kept q.known x)
 
--- for each lock for which a hashkey may be kept one is asked for
+-- for each lock for which a hashkey may be kept one is asked for, unless presenting it can only hurt
 abbrev pub EachKeyIsAsked : Type 0
 EachKeyIsAsked =
-    OfAllAnswers (λ d v w q sent. (key : Hashkey) → MayKeep d v w q key
-    → (asked : Hashkey) × IsIn (Keep asked) (answers d v w q sent) × (asked.lock ≡ key.lock))
+    OfAllAnswers (λ d v w q sent. (key : Hashkey) (may : MayKeep d v w q key)
+    → ((asked : Hashkey) × IsIn (Keep asked) (answers d v w q sent) × (asked.lock ≡ key.lock)) ⊎ IsHarmful d v w q.kept q.known may.unlock)
 
--- a wallet rests exactly where nothing is due; then nothing is answered
+-- every call that is answered is useful
+abbrev pub AllIsUseful : Type 0
+AllIsUseful = OfAllAnswers (λ d v w q sent. (x : Action) → IsIn (Make x) (answers d v w q sent) → IsIn x (useful d v w q.kept q.known))
+
+-- a wallet rests exactly where nothing is useful; then nothing is answered
 abbrev pub RestIsNothing : Type 0
 RestIsNothing =
-    OfAllAnswers (λ d v w q sent. (answer d v w q ≡ Rest → due d v w q.kept q.known ≡ []) × (due d v w q.kept q.known ≡ [] → answer d v w q ≡ Rest))
+    OfAllAnswers (λ d v w q sent. (answer d v w q ≡ Rest → useful d v w q.kept q.known ≡ [])
+    × (useful d v w q.kept q.known ≡ [] → answer d v w q ≡ Rest))

@@ -6,8 +6,9 @@
 ghost use Rattle.wallet_promise.specs.Laws.{LifeConducts, LifeIsSafe, OneHashkey, AskedIsNotKept, KeptMayGo};
 ghost use Rattle.wallet_promise.specs.Laws.{NothingIsLost, AnswersMayGo, AnswersMayBeKept, ToldIsOnce, TwiceIsBroken};
 ghost use Rattle.wallet_promise.specs.Laws.{TwoKeysAreBroken, LifeLeavesRoom, PatienceLeavesRoom, AttentiveIsSafe, LedgersHoldKeys};
+ghost use Rattle.wallet_promise.specs.Laws.{WatchfulLifeIsSafe, MindfulIsSafe};
 ghost use Rattle.wallet_promise.specs.Laws.{LifeBegins, OthersGoOn, AskingGoesOn, CallsLand};
-ghost use Rattle.wallet_promise.specs.Answers.{AllMayGo, AllMayBeKept, EachKeyIsAsked, NoneIsSentTwice, NothingIsLeftOut, RestIsNothing};
+ghost use Rattle.wallet_promise.specs.Answers.{AllIsUseful, AllMayGo, AllMayBeKept, EachKeyIsAsked, NoneIsSentTwice, NothingIsLeftOut, RestIsNothing};
 
 /// In every legal book of an accepted deal a wallet's life conducts its party, which is then safe where it was on time and the book has ended; on
 /// time is one that comes to rest within delta of whatever it has to do.
@@ -17,6 +18,13 @@ pub fn life_conducts()
     ensures room { LifeLeavesRoom }
     ensures patient { PatienceLeavesRoom }
     ensures attentive { AttentiveIsSafe }
+{}
+
+/// Walking away is safe: a wallet may publish late, or nothing, and stop at any time. Safe is one that sees within delta to its unlocks once an arc that
+/// leaves its party is triggered, and once at the end, past every expiry, to its claims and refunds.
+pub fn walking_away_is_safe()
+    ensures safe { WatchfulLifeIsSafe }
+    ensures mindful { MindfulIsSafe }
 {}
 
 /// All unlock calls for a lock carry one hashkey, which was kept before it went out; none is kept for a lock that has one, and none is lost.
@@ -46,12 +54,14 @@ pub fn life_goes_on()
     ensures lands { CallsLand }
 {}
 
-/// Of all that is answered at once each call may go out and each hashkey may be kept, and nothing that may is left out but a publish that was sent.
+/// Of all that is answered at once each call may go out and each hashkey may be kept; nothing that may is left out
+/// but a publish that was sent, and what can only hurt.
 pub fn answers_are_whole()
     ensures go { AllMayGo }
     ensures keep { AllMayBeKept }
     ensures once { NoneIsSentTwice }
     ensures all { NothingIsLeftOut }
     ensures asked { EachKeyIsAsked }
+    ensures useful { AllIsUseful }
     ensures rest { RestIsNothing }
 {}

@@ -16,5 +16,8 @@ returns-clause-all c = all.nothing_is_left_out
 pub returns-clause-asked : goal.returns-clause-asked
 returns-clause-asked c = all.each_key_is_asked
 
+pub returns-clause-useful : goal.returns-clause-useful
+returns-clause-useful c = all.all_is_useful
+
 pub returns-clause-rest : goal.returns-clause-rest
 returns-clause-rest c = all.rest_is_nothing

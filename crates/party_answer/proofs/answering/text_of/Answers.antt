@@ -8,4 +8,4 @@ use Rattle.party_answer.proofs.answering.text_of.Goals as goal
 pub returns : goal.returns
 returns c =
     text_given (question_in c.args.deal.now c.args.me c.args.seed.now (entries_in c.args.known.now) c.args.kept.now) (actions c.deref.result.now)
-    c.lines_of.result (ap actions c.deref.ensures.value ∙ c.in_ok-calls.ensures.due) c.lines_of.ensures
+    c.lines_of.result (ap actions c.deref.ensures.value ∙ c.in_ok-calls.ensures.useful) c.lines_of.ensures

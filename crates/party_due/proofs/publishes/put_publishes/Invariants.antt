@@ -1,14 +1,16 @@
-use Rattle.std.proofs.Common.{◌≡◌, ◌++◌, take}
+use Rattle.std.proofs.Common.{◌≡◌, ◌&&◌, ◌++◌, take}
 use Rattle.std.specs.List.{flat_map}
 use Rattle.escrow_core.specs.Terms.{terms_of}
 use Rattle.ledger_core.specs.declared.entry.Call.TheVariants.{Publish}
 use Rattle.history_index.specs.Indexes.{entries_in}
 use Rattle.swap_rules.specs.Due.{is_due_publish, when_due}
+use Rattle.swap_rules.specs.Useful.{opens_in_time}
 use Rattle.party_due.specs.Actions.{actions}
 use Rattle.party_due.proofs.publishes.put_publishes.Given as goal
 
 abbrev pub invariant-arcs : goal.invariant-arcs
 invariant-arcs l =
     actions l.calls.items
-    ≡ actions l.initial.calls.items ++ flat_map (λ a. when_due (is_due_publish l.deal l.me (entries_in l.known) a) a (Publish (terms_of l.deal a)))
+    ≡ actions l.initial.calls.items ++ flat_map (λ a.
+    when_due (is_due_publish l.deal l.me (entries_in l.known) a && opens_in_time l.deal (entries_in l.known) a) a (Publish (terms_of l.deal a)))
     (take l.arc-index l.arc-items)

@@ -1,14 +1,12 @@
-use Rattle.std.proofs.Common.{◌∙◌, ℕ, refl, sym}
-use Rattle.std.specs.List.{flat_map}
-use Rattle.swap_digraph.specs.Graph.{entering}
+use Rattle.std.proofs.Common.{◌∙◌, refl, sym}
 use Rattle.history_index.specs.Indexes.{entries_in}
-use Rattle.swap_rules.specs.Due.{due_unlock_on, due_unlocks}
+use Rattle.swap_rules.specs.Walking.{pressing_unlocks}
+use Rattle.swap_rules.specs.Useful.{useful_unlocks}
 use Rattle.sent_keys.proofs.Loops.{flat_more}
 use Rattle.party_wallet.specs.Value.{signed_in}
-use Rattle.due_calls.proofs.Unlocking.{not_ready}
 use Rattle.party_machine.specs.Wallet.{wallet_of}
 use Rattle.party_due.specs.Actions.{actions}
-use Rattle.party_due.proofs.Based.{nothing_more}
+use Rattle.party_due.proofs.Based.{nothing_more, none_useful}
 use Rattle.party_due.proofs.unlocks.put_unlocks.Goals as goal
 
 pub returns-then-not-is_ready : goal.returns-then-not-is_ready
@@ -18,13 +16,12 @@ returns-then-not-is_ready c =
     let signed = signed_in c.args.kept.now.keys in
     let known = entries_in c.args.known.now in
     let old = actions c.args.calls.now.items in
-    nothing_more old old (due_unlocks d c.args.me w signed known) refl
-    (not_ready d c.args.me w signed known (sym c.is_ready.ensures ∙ c.if-not-is_ready.true))
+    nothing_more old old (useful_unlocks d c.args.me w signed known) refl
+    (none_useful d c.args.me w signed known (sym c.is_ready.ensures ∙ c.if-not-is_ready.true))
 
 pub loop-lock-preserved : goal.loop-lock-preserved
 loop-lock-preserved c =
     let d = c.args.deal.now in
-    flat_more (λ (i : ℕ).
-    flat_map (due_unlock_on d c.args.me (wallet_of c.args.seed.now c.args.me d) (signed_in c.args.kept.now.keys i) (entries_in c.args.known.now) i)
-    (entering d.graph c.args.me)) (actions c.args.calls.now.items) (actions c.loop-lock.calls.items) (actions c.put_unlocks_for.new.calls.items)
-    c.loop-lock.lock c.loop-lock.invariant c.in_ok-put_unlocks_for.ensures
+    flat_more (pressing_unlocks d c.args.me (wallet_of c.args.seed.now c.args.me d) (signed_in c.args.kept.now.keys) (entries_in c.args.known.now))
+    (actions c.args.calls.now.items) (actions c.loop-lock.calls.items) (actions c.put_useful_for.new.calls.items)
+    c.loop-lock.lock c.loop-lock.invariant c.in_ok-put_useful_for.ensures

@@ -1,0 +1,227 @@
+-- Walking away: what keeps a party safe, whatever it publishes or leaves out, and what it keeps that published nothing.
+use Rattle.std.specs.Prelude.{◌≡◌, ◌≢◌, ◌==◌, ℕ, Bool, ◌+◌, ◌*◌, ◌<◌, ◌≤◌, nat_le, true, false, not, ◌&&◌, List, [], ◌++◌, length, Option, Some, None, is_some}
+use Rattle.std.specs.Prelude.{is_none, if◌then◌else◌}
+use Rattle.std.specs.List.{list_any, list_all, flat_map}
+use Rattle.swap_base.specs.Lists.{IsIn, IsMoment}
+use Rattle.time_bounds.specs.Times as times
+use Rattle.swap_digraph.specs.Graph.{arcs, leaving, entering}
+use Rattle.swap_digraph.specs.Deal.{amount, counterparty, locks, leads}
+use Rattle.swap_digraph.specs.declared.deal.Deal.{Deal}
+use Rattle.hashkey_path.specs.declared.hashkey.Hashkey.{Hashkey}
+use Rattle.escrow_core.specs.Terms.{terms_of, last_in}
+use Rattle.ledger_core.specs.declared.entry.Entry.{Entry}
+use Rattle.ledger_core.specs.declared.entry.Call.TheVariants.{Unlock, Refund, Transfer}
+use Rattle.ledger_core.specs.History.{height, balance, published, Publication, opened}
+use Rattle.ledger_core.specs.Book.{Histories, history, IsLegalBook}
+use Rattle.swap_rules.specs.declared.finding.Rule.TheVariants.{Publish as ToPublish, Unlock as ToUnlock, Claim as ToClaim, Refund as ToRefund}
+use Rattle.swap_rules.specs.declared.finding.Finding.{Finding}
+use Rattle.swap_rules.specs.declared.finding.Finding.TheVariants.{Broke, Late, Forged, Unfinished}
+use Rattle.swap_rules.specs.Findings.{findings}
+use Rattle.swap_rules.specs.declared.outcome.Outcome.TheVariants.{NoDeal, Underwater}
+use Rattle.swap_rules.specs.Accepted.{IsAccepted}
+use Rattle.swap_rules.specs.Party.{is_correct, is_ready, is_triggered, call_by, first_key}
+use Rattle.swap_rules.specs.Conduct.{IsConducted}
+use Rattle.swap_rules.specs.Late.{ref_of}
+use Rattle.swap_rules.specs.Due.{Wallet, Action, is_claiming, has_called, due_unlock_on, due_claims, due_refunds}
+use Rattle.swap_rules.specs.Outcome.{lost, outcome, IsEnded}
+use Rattle.swap_rules.specs.Machine.{Begins, Knows}
+use Rattle.swap_rules.specs.Rounds.{IsNear}
+use Rattle.swap_rules.specs.Laws.{IsOnTime, IsUnforged, IsSafe, HasRefunds, is_in_name_of}
+
+-- What a party has to see to.
+
+-- An unlock call of v for lock i on arc a, at a height at which its hashkey is still accepted.
+pub record UnlocksOn (d : Deal) (b : Histories) (v i a : ℕ) : Type 0 where
+  pub past : List Entry
+  pub now : Entry
+  pub key : Hashkey
+  pub stands : IsMoment (history b a) past now
+  pub called : call_by v now ≡ Some (Unlock key)
+  pub lock : key.lock ≡ i
+  pub in_time : now.height ≤ last_in d.mode (terms_of d a) key
+
+-- v makes each unlock that is enabled, while its hashkey is accepted
+abbrev pub UnlocksAll : Deal → Histories → ℕ → Type 0
+UnlocksAll d b v = (i a ref : ℕ) → i < length d.leaders → ref_of d b v (ToUnlock i) a ≡ Some ref → UnlocksOn d b v i a
+
+-- on each correct and triggered arc that enters v stands a claim call of v, at whatever height
+abbrev pub ClaimsAll : Deal → Histories → ℕ → Type 0
+ClaimsAll d b v =
+    (a : ℕ) → IsIn a (entering d.graph v) → is_correct d b a ≡ true → is_triggered d b a ≡ true → has_called v is_claiming (history b a) ≡ true
+
+-- A refund call of v on arc a that comes after the arc's accepted publish, at whatever height.
+pub record AsksBack (b : Histories) (v a : ℕ) : Type 0 where
+  pub past : List Entry
+  pub now : Entry
+  pub stands : IsMoment (history b a) past now
+  pub called : call_by v now ≡ Some Refund
+  pub after : is_some (published past) ≡ true
+
+-- v asks back what it published on each arc that wasn't triggered
+abbrev pub AsksAllBack : Deal → Histories → ℕ → Type 0
+AsksAllBack d b v =
+    (a : ℕ) → IsIn a (leaving d.graph v) → is_some (published (history b a)) ≡ true → is_triggered d b a ≡ false → AsksBack b v a
+
+-- an arc that leaves v is triggered
+abbrev pub HasLost : Deal → Histories → ℕ → Type 0
+HasLost d b v = list_any (is_triggered d b) (leaving d.graph v) ≡ true
+
+-- A watchful party: where an arc that leaves it is triggered it makes each enabled unlock while its hashkey is accepted, and claims; and it asks back what
+-- it published and wasn't triggered. Nothing is asked of when or whether it publishes, of when it claims or asks back, nor of any unlock as long as no arc
+-- that leaves it is triggered.
+pub record IsWatchful (d : Deal) (b : Histories) (v : ℕ) : Type 0 where
+  pub unlocks : HasLost d b v → UnlocksAll d b v
+  pub claims : HasLost d b v → ClaimsAll d b v
+  pub refunds : AsksAllBack d b v
+
+-- in every legal book of an accepted deal a party that is conducted and watchful is safe, whatever it publishes or leaves out
+abbrev pub WatchfulIsSafe : Type 0
+WatchfulIsSafe = (d : Deal) (b : Histories) (v : ℕ) → IsAccepted d → IsLegalBook d b → IsConducted d b v → IsWatchful d b v → IsSafe d b v
+
+-- in such a book that has ended a conducted party that is nowhere late is watchful
+abbrev pub OnTimeIsWatchful : Type 0
+OnTimeIsWatchful =
+    (d : Deal) (b : Histories) (v : ℕ) → IsAccepted d → IsLegalBook d b → IsEnded d b → IsConducted d b v → IsOnTime d b v → IsWatchful d b v
+
+-- the finding says that v broke a rule of conduct or was late with an unlock or a claim, or that a ledger is unfinished
+abbrev pub endangers : ℕ → Finding → Bool
+endangers v (Broke u a e) = u == v
+endangers v (Late u ToPublish a due) = false
+endangers v (Late u (ToUnlock i) a due) = u == v
+endangers v (Late u ToClaim a due) = u == v
+endangers v (Late u ToRefund a due) = false
+endangers v (Forged u a e) = false
+endangers v (Unfinished a h) = true
+
+-- of a legal book of an accepted deal: a conforming party that no finding endangers, and in whose name none stands, isn't underwater, however late it
+-- published, if it did
+abbrev pub LatePublishIsSafe : Type 0
+LatePublishIsSafe =
+    (d : Deal) (conforming : ℕ → Bool) (b : Histories) (v : ℕ) → IsAccepted d → IsLegalBook d b → v < d.graph.n → conforming v ≡ true
+    → list_any (endangers v) (findings d conforming b) ≡ false → list_any (is_in_name_of d v) (findings d conforming b) ≡ false
+    → outcome d b v ≢ Underwater
+
+-- the finding says that v broke a rule of conduct or was late with a publish or a refund, or that a ledger is unfinished
+abbrev pub strands : ℕ → Finding → Bool
+strands v (Broke u a e) = u == v
+strands v (Late u ToPublish a due) = u == v
+strands v (Late u (ToUnlock i) a due) = false
+strands v (Late u ToClaim a due) = false
+strands v (Late u ToRefund a due) = u == v
+strands v (Forged u a e) = false
+strands v (Unfinished a h) = true
+
+-- of a legal book of an accepted deal: a conforming party that no finding strands has its refunds, however late it unlocked or claimed
+abbrev pub LateUnlockHasRefunds : Type 0
+LateUnlockHasRefunds =
+    (d : Deal) (conforming : ℕ → Bool) (b : Histories) (v : ℕ) → IsAccepted d → IsLegalBook d b → v < d.graph.n → conforming v ≡ true
+    → list_any (strands v) (findings d conforming b) ≡ false → HasRefunds d b v
+
+-- Before a party has published.
+
+-- no accepted publish stands on an arc that leaves v
+abbrev pub HasPublishedNothing : Deal → Histories → ℕ → Type 0
+HasPublishedNothing d b v = (a : ℕ) → IsIn a (leaving d.graph v) → published (history b a) ≡ None
+
+-- v transfers nothing on an arc that leaves it
+abbrev pub GivesNothing : Deal → Histories → ℕ → Type 0
+GivesNothing d b v =
+    (a : ℕ) (past : List Entry) (e : Entry) (to units : ℕ) → IsIn a (leaving d.graph v) → IsMoment (history b a) past e
+    → call_by v e ≡ Some (Transfer to units) → ⊥
+
+-- v makes no call at all
+abbrev pub IsSilent : Histories → ℕ → Type 0
+IsSilent b v = (a : ℕ) (past : List Entry) (e : Entry) → IsMoment (history b a) past e → call_by v e ≡ None
+
+-- Nothing is lost: no arc that leaves v is triggered, v isn't underwater, and it has the whole amount of each arc that leaves it.
+pub record LosesNothing (d : Deal) (b : Histories) (v : ℕ) : Type 0 where
+  pub none : lost d b v ≡ 0
+  pub safe : outcome d b v ≢ Underwater
+  pub keeps : (a : ℕ) → IsIn a (leaving d.graph v) → balance d a (history b a) v ≡ amount d a
+
+-- in every legal book of an accepted deal, ended or not, a party that has published and transferred nothing has lost nothing, whatever else it or anybody
+-- does, forged or not
+abbrev pub UnpublishedLosesNothing : Type 0
+UnpublishedLosesNothing =
+    (d : Deal) (b : Histories) (v : ℕ) → IsAccepted d → IsLegalBook d b → HasPublishedNothing d b v → GivesNothing d b v → LosesNothing d b v
+
+-- and one that makes no call at all is left with no deal
+abbrev pub SilentLosesNothing : Type 0
+SilentLosesNothing =
+    (d : Deal) (b : Histories) (v : ℕ) → IsAccepted d → IsLegalBook d b → IsSilent b v → LosesNothing d b v × (outcome d b v ≡ NoDeal)
+
+-- Before a leader has revealed its secret.
+
+-- v leads a lock for which it has presented no hashkey.
+pub record IsUnrevealed (d : Deal) (b : Histories) (v : ℕ) : Type 0 where
+  pub lock : ℕ
+  pub below : lock < length d.leaders
+  pub own : leads d v lock ≡ true
+  pub none : first_key b v lock ≡ None
+
+-- in every legal book of an accepted deal, ended or not, a conducted leader that has presented no hashkey for a lock of its own has lost nothing, unless
+-- it was forged, and it has its refunds where it asked back what it published
+abbrev pub UnrevealedLosesNothing : Type 0
+UnrevealedLosesNothing =
+    (d : Deal) (b : Histories) (v : ℕ) → IsAccepted d → IsLegalBook d b → IsConducted d b v → IsUnforged d b v → IsUnrevealed d b v
+    → (lost d b v ≡ 0) × (outcome d b v ≢ Underwater) × (AsksAllBack d b v → HasRefunds d b v)
+
+-- A publish that comes too late.
+
+-- an arc that was published above the height by which contracts open leaves its counterparty unready for good, and a conducted counterparty opens no lock
+-- of it
+abbrev pub LatePublishIsIdle : Type 0
+LatePublishIsIdle =
+    (d : Deal) (b : Histories) (a : ℕ) (p : Publication) → IsLegalBook d b → a < length d.graph.arcs → published (history b a) ≡ Some p
+    → times.open_by d.start d.delta d.bound < p.height
+    → (is_ready d b (counterparty d a) ≡ false) × (IsConducted d b (counterparty d a) → (i : ℕ) → opened (history b a) i ≡ None)
+
+-- What v has to see to that publishes as it likes, and stops whenever it likes.
+
+-- v had better not present its own hashkey for lock i: it has presented none for that lock yet, and a ledger that enters v is above the last height at
+-- which its own hashkey is accepted there
+abbrev pub is_withheld : Deal → ℕ → Histories → ℕ → Bool
+is_withheld d v k i =
+    leads d v i && is_none (first_key k v i)
+    && not (list_all (λ a. nat_le (height (history k a)) (times.open_by d.start d.delta d.bound + d.delta)) (entering d.graph v))
+
+-- the unlocks for lock i that are due and not withheld, by entering arc
+abbrev pub pressing_unlocks : Deal → ℕ → Wallet → (ℕ → Option Hashkey) → Histories → ℕ → List Action
+pressing_unlocks d v w signed k i = if is_withheld d v k i then [] else flat_map (due_unlock_on d v w (signed i) k i) (entering d.graph v)
+
+-- what presses: all that is due for v but its publishes, and but unlocks that are withheld
+unfoldable pub pressing : Deal → ℕ → Wallet → (ℕ → Option Hashkey) → Histories → List Action
+pressing d v w signed k = flat_map (pressing_unlocks d v w signed k) (locks d) ++ due_claims d v k ++ due_refunds d v k
+
+-- over this knowledge each ledger next to v is past every expiry
+abbrev pub IsPastExpiries : Deal → ℕ → Histories → Type 0
+IsPastExpiries d v known = (a : ℕ) → IsNear d v a → times.last_expiry d.start d.delta d.bound < height (history known a)
+
+-- A turn of v in a round that begins with the book old and ends with the book new: it ends with a knowledge over which nothing presses, and of which nothing is
+-- above the height most.
+pub record IsFreeTurn (d : Deal) (v : ℕ) (w : Wallet) (old new : Histories) (most : ℕ) : Type 0 where
+  pub known : Histories
+  pub signed : ℕ → Option Hashkey
+  pub seen : (a : ℕ) → IsNear d v a → Begins (history old a) (history known a)
+  pub knows : (a : ℕ) → Knows v (history known a) (history new a)
+  pub done : pressing d v w signed known ≡ []
+  pub top : (a : ℕ) → height (history known a) ≤ most
+
+-- Rounds of so many ticks each, in which v sees to what presses at most slack above the height at which a round began, and publishes as it likes.
+pub record AreFreeRounds (d : Deal) (v : ℕ) (w : Wallet) (ticks slack rounds : ℕ) (books : ℕ → Histories) : Type 0 where
+  pub legal : (r : ℕ) → r ≤ rounds → IsLegalBook d (books r)
+  pub conducted : IsConducted d (books rounds) v
+  pub grows : (r a : ℕ) → r < rounds → Begins (history (books r) a) (history (books (r + 1)) a)
+  pub at : (r a : ℕ) → r ≤ rounds → IsIn a (arcs d.graph) → height (history (books r) a) ≡ r * ticks
+  pub turn : (r : ℕ) → r < rounds → IsFreeTurn d v w (books r) (books (r + 1)) (r * ticks + slack)
+  -- a refund is asked for only where a publish was accepted, as one that is due
+  pub asks : (a : ℕ) (past : List Entry) (e : Entry) → IsIn a (leaving d.graph v) → IsMoment (history (books rounds) a) past e
+      → call_by v e ≡ Some Refund → is_some (published past) ≡ true
+
+-- a party may stop publishing at any time: with a round's ticks and the slack within delta, it is watchful and safe at the end of rounds that pass
+-- the horizon, though it withholds its own hashkeys that come too late
+abbrev pub MayStopPublishing : Type 0
+MayStopPublishing =
+    (d : Deal) (v : ℕ) (w : Wallet) (ticks slack rounds : ℕ) (books : ℕ → Histories) → IsAccepted d → 1 ≤ ticks → ticks + slack ≤ d.delta
+    → times.horizon d.start d.delta d.bound < rounds * ticks → AreFreeRounds d v w ticks slack rounds books
+    → IsWatchful d (books rounds) v × IsSafe d (books rounds) v

@@ -1,0 +1,16 @@
+pub mod Filters
+pub mod Saying
+pub mod Enough
+pub mod Telling
+pub mod Merging
+pub mod Needed
+pub mod Books
+pub mod Watching
+pub mod Holding
+pub mod Deeds
+pub mod Funds
+pub mod Legal
+pub mod Merged
+pub mod Short
+pub mod ToldBooks
+pub mod Ticks

@@ -1,0 +1,2 @@
+pub mod ToldLife
+pub mod Laws

@@ -1,0 +1,102 @@
+-- A wallet's life in a book of which it tells no noise, and of useless arcs no more than the ticks.
+use Rattle.std.specs.Prelude.{◌≡◌, ℕ, ◌<◌, ◌+◌, ◌≤◌, true, false, List, [], length, map, Option, Some}
+use Rattle.swap_base.specs.Lists.{IsIn, IsMoment}
+use Rattle.swap_digraph.specs.Graph.{arcs}
+use Rattle.swap_digraph.specs.declared.deal.Deal.{Deal}
+use Rattle.hashkey_path.specs.declared.hashkey.Hashkey.{Hashkey}
+use Rattle.ledger_core.specs.declared.entry.Call.{Call}
+use Rattle.ledger_core.specs.declared.entry.Entry.{Entry}
+use Rattle.ledger_core.specs.History.{height}
+use Rattle.ledger_core.specs.Book.{Histories, history}
+use Rattle.swap_rules.specs.declared.finding.Rule.{Rule}
+use Rattle.swap_rules.specs.declared.finding.Rule.TheVariants.{Unlock as ToUnlock}
+use Rattle.swap_rules.specs.Party.{call_by}
+use Rattle.swap_rules.specs.Conduct.{is_publish}
+use Rattle.swap_rules.specs.Late.{ref_of}
+use Rattle.swap_rules.specs.Findings.{rules_of}
+use Rattle.swap_rules.specs.Due.{Wallet, has_called, due}
+use Rattle.swap_rules.specs.Machine.{Begins, Knows}
+use Rattle.swap_rules.specs.Rounds.{IsNear}
+use Rattle.swap_rules.specs.Walking.{HasLost, IsPastExpiries, pressing}
+use Rattle.told_books.specs.Told.{tellings, parts, needs, SayEnough}
+use Rattle.wallet_promise.specs.Life.{Asking, nothing_kept, MayGo, IsJournal}
+
+-- An asking, with what the ledgers had done behind what is told of them.
+pub record Hearing : Type 0 where
+  pub asking : Asking
+  pub behind : Histories
+
+-- the asking that tells all that the ledgers had done
+abbrev pub whole : Hearing → Asking
+whole h = record { known = h.behind; kept = h.asking.kept }
+
+-- the asking that tells all of it but noise
+abbrev pub without_noise : ℕ → Hearing → Asking
+without_noise v h = record { known = tellings v h.behind; kept = h.asking.kept }
+
+-- the asking that tells of it what v needs, in a book that ends like this
+abbrev pub as_needed : Deal → ℕ → Histories → Hearing → Asking
+as_needed d v b h = record { known = parts (needs d v b) h.behind; kept = h.asking.kept }
+
+-- What is told says enough to v of how each history in the book begins: of a ledger that is told up to some entry that is what stands up to it, and of one
+-- that isn't told it is nothing.
+pub record IsHeard (d : Deal) (v : ℕ) (b : Histories) (h : Hearing) : Type 0 where
+  pub says : SayEnough d v h.asking.known h.behind
+  pub begins : (a : ℕ) → Begins (history h.behind a) (history b a)
+
+-- A call on arc a after these entries is one that may go out after one of the askings, and the ledger had done by then what stood behind what was told.
+pub record IsHeardFor (d : Deal) (v : ℕ) (w : Wallet) (hearings : List Hearing) (a : ℕ) (past : List Entry) (c : Call) : Type 0 where
+  pub hearing : Hearing
+  pub heard : IsIn hearing hearings
+  pub may : MayGo d v w hearing.asking (record { arc = a; call = c })
+  pub later : Begins (history hearing.behind a) past
+
+-- A wallet's life in a book, where what it is told may leave out noise and all but the ticks of useless arcs, and tell ticks as one or as more.
+pub record IsToldLife (d : Deal) (v : ℕ) (w : Wallet) (b : Histories) (hearings : List Hearing) (kept : ℕ → Option Hashkey) : Type 0 where
+  pub journal : IsJournal d v w nothing_kept (map (λ h. h.asking) hearings) kept
+  pub told : (h : Hearing) → IsIn h hearings → IsHeard d v b h
+  pub calls : (a : ℕ) (past : List Entry) (e : Entry) (c : Call) → IsMoment (history b a) past e → call_by v e ≡ Some c
+      → IsHeardFor d v w hearings a past c
+  pub once : (a : ℕ) (past : List Entry) (e : Entry) → IsMoment (history b a) past e → is_publish (call_by v e) ≡ true → has_called v is_publish past ≡ false
+
+-- What a wallet does in time. Heights are those of the ledgers behind what is told.
+
+-- The wallet came to rest on time for the height at: over what one of its askings was told nothing was due, when each ledger next to the party was past
+-- that height, and no ledger past the height by.
+pub record CameToRest (d : Deal) (v : ℕ) (w : Wallet) (hearings : List Hearing) (at by : ℕ) : Type 0 where
+  pub hearing : Hearing
+  pub heard : IsIn hearing hearings
+  pub rests : due d v w hearing.asking.kept hearing.asking.known ≡ []
+  pub past : (a : ℕ) → IsNear d v a → at < height (history hearing.behind a)
+  pub soon : (a : ℕ) → height (history hearing.behind a) ≤ by
+
+-- the wallet comes to rest within delta of whatever its party has to do
+abbrev pub IsToldAttentive : Deal → ℕ → Wallet → Histories → List Hearing → Type 0
+IsToldAttentive d v w b hearings =
+    (rule : Rule) (a ref : ℕ) → IsIn rule (rules_of d) → IsIn a (arcs d.graph) → ref_of d b v rule a ≡ Some ref → ref + d.delta < height (history b a)
+    → CameToRest d v w hearings ref (ref + d.delta)
+
+-- The wallet had seen to what presses on time for the height at: over what one of its askings was told nothing pressed, when each ledger next to the party
+-- was past that height, and no ledger past the height by.
+pub record HadSeenTo (d : Deal) (v : ℕ) (w : Wallet) (hearings : List Hearing) (at by : ℕ) : Type 0 where
+  pub hearing : Hearing
+  pub heard : IsIn hearing hearings
+  pub done : pressing d v w hearing.asking.kept hearing.asking.known ≡ []
+  pub past : (a : ℕ) → IsNear d v a → at < height (history hearing.behind a)
+  pub soon : (a : ℕ) → height (history hearing.behind a) ≤ by
+
+-- The wallet had seen to what presses at the end: over what one of its askings was told nothing pressed, when each ledger next to the party was past every
+-- expiry, and held all that the party called.
+pub record HadFinished (d : Deal) (v : ℕ) (w : Wallet) (b : Histories) (hearings : List Hearing) : Type 0 where
+  pub hearing : Hearing
+  pub heard : IsIn hearing hearings
+  pub done : pressing d v w hearing.asking.kept hearing.asking.known ≡ []
+  pub past : IsPastExpiries d v hearing.behind
+  pub all : (a : ℕ) → Knows v (history hearing.behind a) (history b a)
+
+-- A mindful wallet: where an arc that leaves the party is triggered, it saw within delta to each unlock that was enabled; and it saw to what presses at the
+-- end. When or whether it publishes isn't asked.
+pub record IsToldMindful (d : Deal) (v : ℕ) (w : Wallet) (b : Histories) (hearings : List Hearing) : Type 0 where
+  pub unlocks : HasLost d b v → (i a ref : ℕ) → i < length d.leaders → IsIn a (arcs d.graph) → ref_of d b v (ToUnlock i) a ≡ Some ref
+      → ref + d.delta < height (history b a) → HadSeenTo d v w hearings ref (ref + d.delta)
+  pub finished : HadFinished d v w b hearings
