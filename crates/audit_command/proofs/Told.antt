@@ -7,27 +7,30 @@ use Rattle.outcome_rules.specs.declared.report.Report.{Report}
 use Rattle.ledger_core.specs.WellFormed.{IsWellFormed}
 use Rattle.transcript_reader.specs.declared.reason.TranscriptReason.{TranscriptReason}
 use Rattle.transcript_reader.specs.Header.{header_read, IsTold}
-use Rattle.transcript_reader.specs.Reading.{Story, transcript_read}
+use Rattle.transcript_reader.specs.Reading.{Story}
 use Rattle.transcript_reader.proofs.Whole.{text_is_whole}
 use Rattle.command_input.specs.declared.fault.InputFault.{InputFault}
 use Rattle.command_input.specs.declared.fault.InputFault.TheVariants as stopped
 use Rattle.command_input.specs.declared.status.Status.{Status}
 use Rattle.command_input.specs.declared.status.Status.TheVariants.{Done, Named, WrongWords, Refused, ReadFault, WriteFault, NoMemory, TooLong}
+use Rattle.command_input.specs.Faults.{unread}
+use Rattle.command_input.specs.Input.{At, Ends, desk, fresh}
 use Rattle.command_input.specs.Streams.{streams}
+use Rattle.audit_command.proofs.Ends.{is_consumed, too_long}
 use Rattle.command_input.specs.Written.{Writes, Written}
 use Rattle.audit_command.specs.Output.{audit_of, by_text, judged, written_of, story_in, told}
 use Rattle.audit_command.specs.Promised.{IsSound}
-use Rattle.audit_command.specs.Reading.{HasRead, Stops}
-use Rattle.audit_command.specs.Says.{HasAnswer, HasAuditOutput, AuditSays, unread}
+use Rattle.audit_command.specs.Reading.{HasRead, IsAgainst, IsStory, Stopped}
+use Rattle.audit_command.specs.Says.{HasAnswer, HasAuditOutput, AuditSays}
 
 -- an answer to an input that was read
-answered : (P : List ℕ → Type 0) (a b : Option (List ℕ)) (output : Result Written Refusal) (k : HasRead P a b) → audit_of k.input ≡ output
-    → HasAnswer a b output
-answered P a b output k e = record {
-  input = k.input;
-  taken = k.took.consumed;
+answered : (P : List ℕ → Type 0) (a b : Option (List ℕ)) (n m : ℕ) (now : At) (output : Result Written Refusal)
+    (k : Ends P (desk a n fresh) (desk b m now)) → audit_of k.bytes ≡ output → HasAnswer a b output
+answered P a b n m now output k e = record {
+  input = k.bytes;
+  taken = k.stands.took.consumed;
   ended = k.ended;
-  within = omega (arith, k.took.counted, k.within);
+  within = omega (arith, k.stands.took.counted, k.stands.fits.within);
   gives = e;
 }
 
@@ -36,37 +39,29 @@ refused_input : (input : List ℕ) (refusal : Refusal) → story_in input ≡ Er
 unfolding audit_of
 refused_input input refusal e = ap (λ (r : Result Story Refusal). r >>= told) e
 
-pub says_unread : (a b : Option (List ℕ)) (n m : ℕ) (taken : Option (List ℕ)) (p : ℕ) (f : InputFault Refusal) → Stops a b n m f
+pub says_unread : (a b : Option (List ℕ)) (n m : ℕ) (taken : Option (List ℕ)) (p : ℕ) (f : InputFault Refusal) → Stopped a b n m f
     → AuditSays (streams a n taken p) (streams b m taken p) (unread f)
 says_unread a b n m taken p (stopped.Refused refusal) s =
-    (answered (λ input. story_in input ≡ Err refusal) a b (Err refusal) s (refused_input s.input refusal s.told), Keeps-refl taken)
-says_unread a b n m taken p stopped.ReadFault s = (s.0, Keeps-refl taken, s.1)
-says_unread a b n m taken p stopped.TooLong s = (s, Keeps-refl taken)
-says_unread a b n m taken p stopped.NoMemory s = inl (Keeps-refl taken, s)
-
--- no read failed, unless the status tells of it
-pub calm_unread : {T : Type 0} (f : InputFault Refusal) (n m : ℕ) → (¬ ◌≡◌ {A = Result T (InputFault Refusal)} (Err f) (Err stopped.ReadFault) → m ≡ n)
-    → ¬ (unread f ≡ ReadFault) → m ≡ n
-calm_unread (stopped.Refused refusal) n m h unless = h (λ e. absurd (cc e))
-calm_unread stopped.ReadFault n m h unless = absurd (unless refl)
-calm_unread stopped.TooLong n m h unless = h (λ e. absurd (cc e))
-calm_unread stopped.NoMemory n m h unless = h (λ e. absurd (cc e))
+    (answered (λ input. IsAgainst input refusal) a b n m s.now (Err refusal) s.why (refused_input s.why.bytes refusal s.why.told), Keeps-refl taken)
+says_unread a b n m taken p stopped.ReadFault s = (s.why.0, Keeps-refl taken, is_consumed a b n m s.now s.why.1)
+says_unread a b n m taken p stopped.TooLong s = (too_long a b n m s.now s.why.1, Keeps-refl taken)
+says_unread a b n m taken p stopped.NoMemory s = inl (Keeps-refl taken, is_consumed a b n m s.now s.why.1)
 
 -- a story
-module _ (a b : Option (List ℕ)) (n m : ℕ) (t : Story) (k : HasRead (λ input. transcript_read header_read input ≡ Ok t) a b) where
+module _ (a b : Option (List ℕ)) (n m : ℕ) (t : Story) (k : HasRead (IsStory t) a b n m) where
   -- what is read is well formed
   pub is_formed : IsWellFormed t.job.deal t.book
-  is_formed = (text_is_whole header_read k.input t k.told).whole.stated.formed
+  is_formed = (text_is_whole header_read k.ends.bytes t k.ends.told).whole.stated.formed
 
-  of_story : audit_of k.input ≡ told t
+  of_story : audit_of k.ends.bytes ≡ told t
   unfolding audit_of story_in
-  of_story = ap (λ (r : Result Story TranscriptReason). by_text r >>= told) k.told
+  of_story = ap (λ (r : Result Story TranscriptReason). by_text r >>= told) k.ends.told
 
   pub says_refused : (taken : Option (List ℕ)) (p : ℕ) (refusal : Refusal) → judged t ≡ Err refusal
       → AuditSays (streams a n taken p) (streams b m taken p) (Refused refusal.reason refusal.names)
   unfolding told
   says_refused taken p refusal e = (
-    answered (λ input. transcript_read header_read input ≡ Ok t) a b (Err refusal) k
+    answered (IsStory t) a b n m k.now (Err refusal) k.ends
         (of_story ∙ ap (λ (r : Result Report Refusal). r >>= λ x. Ok (written_of t x)) e),
     Keeps-refl taken,
   )
@@ -75,12 +70,12 @@ module _ (a b : Option (List ℕ)) (n m : ℕ) (t : Story) (k : HasRead (λ inpu
   unfolding told answered
   output_is P r job e sound w = record {
     output = written_of t r;
-    read = answered (λ input. transcript_read header_read input ≡ Ok t) a b (Ok (written_of t r)) k
+    read = answered (IsStory t) a b n m k.now (Ok (written_of t r)) k.ends
         (of_story ∙ ap (λ (x : Result Report Refusal). x >>= λ y. Ok (written_of t y)) e);
     promised = record {
       story = t;
-      read = k.told;
-      whole = text_is_whole header_read k.input t k.told;
+      read = k.ends.told;
+      whole = text_is_whole header_read k.ends.bytes t k.ends.told;
       job = job;
       report = r;
       shown = refl;

@@ -24,7 +24,7 @@ pub record IsSound (t : Story) (r : Report) : Type 0 where
   -- every reply is the table's, and at every moment each unit is in one place
   pub legal : IsLegalBook t.job.deal t.book
   pub units : UnitsAddUp t.job.deal t.book
-  -- a conforming party against which nothing is found doesn't end underwater, and has its refunds
+  -- a conforming party that no finding endangers doesn't end underwater, and one that none strands has its refunds
   pub safe : NoneIsUnderwater t.job.deal t.job.conforming (shown_outcome r) r.findings
   pub refunds : AllHaveRefunds t.job.deal t.job.conforming t.book r.findings
   -- where all conform and nothing is found, all is transferred, and the report shows each party with the whole deal

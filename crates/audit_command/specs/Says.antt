@@ -5,8 +5,6 @@ use Rattle.swap_io.specs.Causes.{ConsumesAtMost, ConsumesSome, AppendsProperPref
 use Rattle.swap_io.specs.Handed.{AppendsPrefix}
 use Rattle.refusals.specs.declared.refusal.Refusal.{Refusal}
 use Rattle.refusals.specs.Refusal.{refusal}
-use Rattle.command_input.specs.declared.fault.InputFault.{InputFault}
-use Rattle.command_input.specs.declared.fault.InputFault.TheVariants as stopped
 use Rattle.command_input.specs.declared.status.Status.{Status}
 use Rattle.command_input.specs.declared.status.Status.TheVariants.{Done, Named, WrongWords, Refused, ReadFault, WriteFault, NoMemory, TooLong}
 use Rattle.command_input.specs.Input.{limit}
@@ -29,13 +27,6 @@ pub record HasAuditOutput (P : Written → Type 0) (left left' : Option (List �
   pub read : HasAnswer left left' (Ok output)
   pub promised : IsAudit read.input output
   pub written : P output
-
--- the status where the input gave no story
-abbrev pub unread : InputFault Refusal → Status
-unread (stopped.Refused r) = Refused r.reason r.names
-unread stopped.ReadFault = ReadFault
-unread stopped.TooLong = TooLong
-unread stopped.NoMemory = NoMemory
 
 -- what a status says, by the source and the sink before and after
 abbrev pub AuditSays : Streams → Streams → Status → Type 0

@@ -5,32 +5,19 @@ ghost use Rattle.command_input.specs.Streams.{streams};
 ghost use Rattle.command_input.specs.Written.{Writes};
 ghost use Rattle.audit_command.specs.Output.{written_of, story};
 ghost use Rattle.audit_command.specs.Promised.{IsSound};
-ghost use Rattle.audit_command.specs.Says.{AuditSays, unread};
+ghost use Rattle.audit_command.specs.Says.{AuditSays};
 ghost use Rattle.transcript_reader.specs.Header.{IsTold};
 
 use crate::judged::judge;
 use crate::story::read_story;
-use command_input::{InputFault, Status};
+use command_input::{Status, unread};
 use ledger_core::Book;
 use outcome_rules::Report;
-use refusals::Refusal;
 use report_text::write_report;
 use std::alloc::Global;
 use swap_base::Fault;
 use swap_io::{Sink, Source, TextFault};
 use swap_job::Job;
-
-/// The status where the input gave no story.
-fn unread(fault: InputFault<Refusal>) -> Status
-    ensures { result ≡ unread fault }
-{
-    match fault {
-        InputFault::Refused(refusal) => Status::Refused(refusal.reason, refusal.names),
-        InputFault::ReadFault => Status::ReadFault,
-        InputFault::TooLong => Status::TooLong,
-        InputFault::NoMemory => Status::NoMemory,
-    }
-}
 
 /// Writes the report of a job's book.
 fn tell<K: Sink>(alloc: Global, sink: &mut K, job: &Job, book: &Book, report: &Report) -> Status

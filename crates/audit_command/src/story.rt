@@ -1,18 +1,19 @@
 //! The job and the book that an input states.
 
-ghost use Rattle.std.specs.Prelude.{◌≡◌, ◌≤◌, ℕ, List, Option, Ok, IfOk, IfErr, IsErrOf};
-ghost use Rattle.transcript_reader.specs.Header.{header_read, IsTold};
-ghost use Rattle.transcript_reader.specs.Reading.{finished, story_of, transcript_read};
+ghost use Rattle.std.specs.Prelude.{◌≡◌, IfOk, IfErr};
+ghost use Rattle.transcript_reader.specs.Header.{IsTold};
+ghost use Rattle.transcript_reader.specs.Reading.{finished, story_of};
 ghost use Rattle.audit_command.specs.Output.{nameless, refused_by};
-ghost use Rattle.audit_command.specs.Reading.{Concludes, HasRead, Stops, StopsAt};
+ghost use Rattle.audit_command.specs.Reading.{Concludes, HasRead, IsStory, Stopped};
+ghost use Rattle.command_input.specs.Faults.{told_by};
 
 use crate::input::read_lines;
-use command_input::{INPUT_LIMIT, InputFault};
+use command_input::{Input, InputFault};
 use ledger_core::Book;
 use refusals::{Reason, Refusal};
 use std::alloc::Global;
 use swap_base::{Fault, Listed};
-use swap_io::{DrainFault, Lines, Source};
+use swap_io::Source;
 use swap_job::Job;
 use transcript_reader::{TranscriptReader, TranscriptReason};
 
@@ -53,25 +54,12 @@ fn conclude(
     }
 }
 
-/// Why the input gives no story. Where something is said against it the rest is taken, since a fault of reading comes first.
-fn stop<S: Source>(
-    alloc: Global,
-    lines: &mut Lines,
-    source: &mut S,
-    fault: InputFault<TranscriptReason>,
-) -> InputFault<Refusal>
-    ensures stops { (left : Option (List ℕ)) (faults : ℕ) → faults ≤ S.faults source.old
-        → StopsAt left (S.left source.old) faults (S.faults source.old) lines.old fault → Stops left (S.left source.new) faults (S.faults source.new) result }
-    ensures later { S.faults source.old ≤ S.faults source.new }
-    ensures calm { (faults : ℕ) → (¬ (fault ≡ InputFault.ReadFault) → S.faults source.old ≡ faults)
-        → ¬ (result ≡ InputFault.ReadFault) → S.faults source.new ≡ faults }
+/// The fault with the refusal of a text.
+fn refused(alloc: Global, fault: InputFault<TranscriptReason>) -> InputFault<Refusal>
+    ensures { result ≡ told_by refused_by fault }
 {
     match fault {
-        InputFault::Refused(reason) => match lines.drain(source) {
-            Ok(()) => InputFault::Refused(refused_by(alloc, reason)),
-            Err(DrainFault::ReadFault) => InputFault::ReadFault,
-            Err(DrainFault::TooLong) => InputFault::TooLong,
-        },
+        InputFault::Refused(reason) => InputFault::Refused(refused_by(alloc, reason)),
         InputFault::ReadFault => InputFault::ReadFault,
         InputFault::TooLong => InputFault::TooLong,
         InputFault::NoMemory => InputFault::NoMemory,
@@ -83,17 +71,14 @@ pub(crate) fn read_story<S: Source>(
     alloc: Global,
     source: &mut S,
 ) -> Result<(Job, Book), InputFault<Refusal>>
-    ensures read { IfOk result (λ p. HasRead (λ input. transcript_read header_read input ≡ Ok (story_of p)) (S.left source.old) (S.left source.new)) }
+    ensures read { IfOk result (λ p. HasRead (IsStory (story_of p)) (S.left source.old) (S.left source.new) (S.faults source.old) (S.faults source.new)) }
     ensures told { IfOk result (λ p. IsTold p.0) }
-    ensures stops { IfErr result (λ e. Stops (S.left source.old) (S.left source.new) (S.faults source.old) (S.faults source.new) e) }
-    ensures later { S.faults source.old ≤ S.faults source.new }
-    ensures calm { ¬ IsErrOf result InputFault.ReadFault → S.faults source.new ≡ S.faults source.old }
+    ensures stops { IfErr result (Stopped (S.left source.old) (S.left source.new) (S.faults source.old) (S.faults source.new)) }
 {
-    let mut lines = Lines::new(alloc, INPUT_LIMIT)?;
+    let mut input = Input::new(alloc)?;
     let mut reader = TranscriptReader::new(alloc);
-    let mut text = Vec::new(alloc);
-    match read_lines(&mut lines, source, &mut reader, &mut text) {
-        Ok(()) => conclude(alloc, reader, &text),
-        Err(fault) => Err(stop(alloc, &mut lines, source, fault)),
+    match read_lines(&mut input, source, &mut reader) {
+        Ok(()) => conclude(alloc, reader, input.text()),
+        Err(fault) => Err(refused(alloc, input.stop(source, fault))),
     }
 }

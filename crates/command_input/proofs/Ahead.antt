@@ -1,23 +1,25 @@
 -- The lines of an input that comes piece by piece.
 use Rattle.std.proofs.Common.{◌≡◌, ◌==◌, ◌<◌, ◌≤◌, ◌+◌, ◌-◌, ℕ, suc, Bool, true, false, not, cond, eqb, IsTrue, ◌⊎◌, inl, inr, List, [], ◌∷◌, ◌++◌}
 use Rattle.std.proofs.Common.{length, Option}
-use Rattle.std.proofs.Common.{Result, Err, drop, ◌↔◌, refl, sym, ap, ap₂, ◌∙◌, arith, append_assoc, append-nil, length-append}
+use Rattle.std.proofs.Common.{Result, Err, drop, ◌↔◌, refl, sym, ap, ap₂, ◌∙◌, subst, arith, append_assoc, append-nil, length-append}
 use Rattle.std.proofs.lemmas.Bool.{and_parts}
 use Rattle.std.proofs.lemmas.List.{length-drop}
 use Rattle.swap_io.specs.Causes.{Rose}
-use Rattle.swap_io.specs.Lines.{IsNext, Reading, Took, TookSome, feed_of, feeds, lacks_feed}
+use Rattle.swap_io.specs.Lines.{IsNext, IsOver, Reading, TookSome, feed_of, feeds, lacks_feed}
 use Rattle.swap_io.specs.declared.fault.LineFault.{LineFault}
 use Rattle.swap_io.specs.declared.fault.LineFault.TheVariants as line
 use Rattle.swap_io.specs.declared.line_end.LineEnd.{LineEnd}
 use Rattle.swap_io.specs.declared.line_end.LineEnd.TheVariants.{Ended, Rest, End}
 use Rattle.swap_io.proofs.Feeds.{took_none, took_on}
-use Rattle.swap_io.proofs.Handing.{rose_before}
+use Rattle.command_input.specs.declared.fault.InputFault.{InputFault}
+use Rattle.command_input.specs.declared.fault.InputFault.TheVariants.{Refused, ReadFault, TooLong, NoMemory}
+use Rattle.command_input.specs.Faults.{of_line, told_by}
 use Rattle.command_input.specs.Lines.{lines_of, with_first, filled_lines, is_blank}
 use Rattle.command_input.proofs.Filled.{one_more}
 use Rattle.swap_io.specs.declared.fault.DrainFault.{DrainFault}
 use Rattle.swap_io.specs.declared.fault.DrainFault.TheVariants as drained
-use Rattle.command_input.specs.Input.{At, Breaks, CanBeLeft, GivesNoLine, IsLast, IsLine, IsPart, IsTooLong, ReadsLine, ReadsNone, ahead, limit, past_empty}
-use Rattle.command_input.specs.Input.{to_go}
+use Rattle.command_input.specs.Input.{At, Breaks, CanBeLeft, Desk, Faulted, Fits, GivesNoLine, HasFailed, IsCalm, IsFed, IsLast, IsLine, IsPart, IsRest, IsTooLong}
+use Rattle.command_input.specs.Input.{ReadsLine, ReadsNone, Stands, TookBytes, ahead, desk, limit, past_empty, to_go}
 
 not_feed : (t : Bool) → not t ≡ true → t ≡ false
 not_feed true e = absurd (cc e)
@@ -81,34 +83,40 @@ other_fault e past result most taken differs is long =
     let no : most < taken → ⊥ = λ lt. differs (cc (sym is ∙ long.1 lt)) in
     omega arith
 
-is_part : (a b : Option (List ℕ)) (s t : At) → TookSome a b s.reading t.reading → t.reading.taken ≤ t.reading.limit → s.reading.limit ≡ limit
-    → IsPart a b s t
-is_part a b s t took low lim = (took, omega (arith, low, took.1.limit, lim))
+is_part : (s t : Desk) (took : TookSome s.left t.left s.at.reading t.at.reading) → t.at.reading.taken ≤ t.at.reading.limit → s.at.reading.limit ≡ limit
+    → IsPart s t
+is_part s t took low lim = (took, omega (arith, low, took.1.limit, lim))
 
-pub next_fails : {T : Type 0} (a b : Option (List ℕ)) (n m : ℕ) (s t : At) (e : LineFault) (result : Result T LineFault) → result ≡ Err e
-    → TookSome a b s.reading t.reading → ((result ≡ Err line.TooLong) ↔ (t.reading.limit < t.reading.taken))
-    → t.reading.taken ≤ t.reading.limit + 1 → s.reading.limit ≡ limit → (result ≡ Err line.ReadFault → Rose n m) → GivesNoLine a b n m s t e
-next_fails a b n m s t line.ReadFault result is took long most lim rose = (
+too_long : (s t : Desk) (took : TookSome s.left t.left s.at.reading t.at.reading) → t.at.reading.limit < t.at.reading.taken
+    → t.at.reading.taken ≤ t.at.reading.limit + 1 → s.at.reading.limit ≡ limit → IsTooLong s t
+too_long s t took past most lim = (took, omega (arith, past, most, took.1.limit, lim))
+
+pub next_fails : {T : Type 0} (s t : Desk) (e : LineFault) (result : Result T LineFault) → result ≡ Err e
+    → TookSome s.left t.left s.at.reading t.at.reading → ((result ≡ Err line.TooLong) ↔ (t.at.reading.limit < t.at.reading.taken))
+    → t.at.reading.taken ≤ t.at.reading.limit + 1 → s.at.reading.limit ≡ limit → (result ≡ Err line.ReadFault → HasFailed s t)
+    → (¬ (result ≡ Err line.ReadFault) → IsCalm s t) → GivesNoLine s t e
+next_fails s t line.ReadFault result is took long most lim rose calm = (
   rose is,
-  is_part a b s t took (other_fault line.ReadFault line.TooLong result t.reading.limit t.reading.taken (λ e. absurd (cc e)) is long) lim,
+  is_part s t took (other_fault line.ReadFault line.TooLong result t.at.reading.limit t.at.reading.taken (λ e. absurd (cc e)) is long) lim,
 )
-next_fails a b n m s t line.TooLong result is took long most lim rose =
-    let past : t.reading.limit < t.reading.taken = long.0 is in
-    (took, omega (arith, past, most, took.1.limit, lim))
-next_fails a b n m s t line.NoMemory result is took long most lim rose =
-    is_part a b s t took (other_fault line.NoMemory line.TooLong result t.reading.limit t.reading.taken (λ e. absurd (cc e)) is long) lim
+next_fails s t line.TooLong result is took long most lim rose calm =
+    (calm (λ e. absurd (cc (sym is ∙ e))), too_long s t took (long.0 is) most lim)
+next_fails s t line.NoMemory result is took long most lim rose calm = (
+  calm (λ e. absurd (cc (sym is ∙ e))),
+  is_part s t took (other_fault line.NoMemory line.TooLong result t.at.reading.limit t.at.reading.taken (λ e. absurd (cc e)) is long) lim,
+)
 
 -- the same of what is dropped
-pub drain_breaks : {T : Type 0} (a b : Option (List ℕ)) (n m : ℕ) (s t : At) (e : DrainFault) (result : Result T DrainFault) → result ≡ Err e
-    → TookSome a b s.reading t.reading → ((result ≡ Err drained.TooLong) ↔ (t.reading.limit < t.reading.taken))
-    → t.reading.taken ≤ t.reading.limit + 1 → s.reading.limit ≡ limit → (result ≡ Err drained.ReadFault → Rose n m) → Breaks a b n m s t e
-drain_breaks a b n m s t drained.ReadFault result is took long most lim rose = (
+pub drain_breaks : {T : Type 0} (s t : Desk) (e : DrainFault) (result : Result T DrainFault) → result ≡ Err e
+    → TookSome s.left t.left s.at.reading t.at.reading → ((result ≡ Err drained.TooLong) ↔ (t.at.reading.limit < t.at.reading.taken))
+    → t.at.reading.taken ≤ t.at.reading.limit + 1 → s.at.reading.limit ≡ limit → (result ≡ Err drained.ReadFault → HasFailed s t)
+    → (¬ (result ≡ Err drained.ReadFault) → IsCalm s t) → Breaks s t e
+drain_breaks s t drained.ReadFault result is took long most lim rose calm = (
   rose is,
-  is_part a b s t took (other_fault drained.ReadFault drained.TooLong result t.reading.limit t.reading.taken (λ e. absurd (cc e)) is long) lim,
+  is_part s t took (other_fault drained.ReadFault drained.TooLong result t.at.reading.limit t.at.reading.taken (λ e. absurd (cc e)) is long) lim,
 )
-drain_breaks a b n m s t drained.TooLong result is took long most lim rose =
-    let past : t.reading.limit < t.reading.taken = long.0 is in
-    (took, omega (arith, past, most, took.1.limit, lim))
+drain_breaks s t drained.TooLong result is took long most lim rose calm =
+    (calm (λ e. absurd (cc (sym is ∙ e))), too_long s t took (long.0 is) most lim)
 
 pub counts_ended : (a b : Option (List ℕ)) (s t : Reading) (line : List ℕ) (n : ℕ) → IsNext a b s t line Ended → n + length s.kept ≤ s.taken
     → (n + 1) + length t.kept ≤ t.taken
@@ -121,37 +129,38 @@ counts_rest a b s t line n p le = omega (arith, le, p.ends.0, p.took.counted, le
 -- The steps of an input.
 
 -- a line that a line feed ends
-pub reads_ended : (a b : Option (List ℕ)) (s t : At) (line : List ℕ) → IsNext a b s.reading t.reading line Ended → t.text ≡ line → t.number ≡ s.number + 1
-    → ReadsLine a b s t
-reads_ended a b s t line p text number = record {
+pub reads_ended : (s t : Desk) (line : List ℕ) → IsNext s.left t.left s.at.reading t.at.reading line Ended → IsCalm s t → Fits t.left t.at → t.at.text ≡ line
+    → t.at.number ≡ s.at.number + 1 → ReadsLine s t
+reads_ended s t line p calm fits text number = record {
   bytes = p.bytes;
-  took = p.took;
-  first = λ rest can. ended_ahead s.reading.kept p.bytes line t.reading.kept rest p.parts p.one
-      ∙ ap (λ (l : List ℕ). l ∷ lines_of (t.reading.kept ++ rest)) (sym text);
+  stands = record { took = p.took; calm = calm; fits = fits };
+  first = λ rest can. ended_ahead s.at.reading.kept p.bytes line t.at.reading.kept rest p.parts p.one
+      ∙ ap (λ (l : List ℕ). l ∷ lines_of (t.at.reading.kept ++ rest)) (sym text);
   counted = number;
 }
 
 -- bytes at the end that none ends
-pub reads_rest : (a b : Option (List ℕ)) (s t : At) (line : List ℕ) → IsNext a b s.reading t.reading line Rest → t.text ≡ line → t.number ≡ s.number + 1
-    → t.over ≡ true → ReadsLine a b s t
-reads_rest a b s t line p text number over = record {
+pub reads_rest : (s t : Desk) (line : List ℕ) → IsNext s.left t.left s.at.reading t.at.reading line Rest → IsCalm s t → t.at.reading.taken ≤ limit
+    → t.at.text ≡ line → t.at.number ≡ s.at.number + 1 → t.at.over ≡ true → ReadsLine s t
+reads_rest s t line p calm within text number over = record {
   bytes = p.bytes;
-  took = p.took;
+  stands = record { took = p.took; calm = calm; fits = record { within = within; ended = λ o. p.ends.1.none_left } };
   first = λ rest can.
-      let kept : t.reading.kept ≡ [] = p.ends.1.kept in
+      let kept : t.at.reading.kept ≡ [] = p.ends.1.kept in
       let none : rest ≡ [] = can over in
-      let parts : s.reading.kept ++ p.bytes ≡ line ++ ([] ++ []) = p.parts ∙ ap (λ (xs : List ℕ). line ++ ([] ++ xs)) kept in
-      ap (λ (xs : List ℕ). lines_of (s.reading.kept ++ (p.bytes ++ xs))) none ∙ rest_ahead s.reading.kept p.bytes line parts p.ends.0 p.one
-      ∙ ap₂ (λ (xs ys : List ℕ). line ∷ lines_of (xs ++ ys)) (sym kept) (sym none) ∙ ap (λ (l : List ℕ). l ∷ lines_of (t.reading.kept ++ rest)) (sym text);
+      let parts : s.at.reading.kept ++ p.bytes ≡ line ++ ([] ++ []) = p.parts ∙ ap (λ (xs : List ℕ). line ++ ([] ++ xs)) kept in
+      ap (λ (xs : List ℕ). lines_of (s.at.reading.kept ++ (p.bytes ++ xs))) none ∙ rest_ahead s.at.reading.kept p.bytes line parts p.ends.0 p.one
+      ∙ ap₂ (λ (xs ys : List ℕ). line ∷ lines_of (xs ++ ys)) (sym kept) (sym none)
+      ∙ ap (λ (l : List ℕ). l ∷ lines_of (t.at.reading.kept ++ rest)) (sym text);
   counted = number;
 }
 
-pub reads_none : (a b : Option (List ℕ)) (s t : At) (line : List ℕ) → IsNext a b s.reading t.reading line End → t.number ≡ s.number → t.over ≡ true
-    → ReadsNone a b s t
+pub reads_none : (s t : Desk) (line : List ℕ) → IsNext s.left t.left s.at.reading t.at.reading line End → IsCalm s t → t.at.reading.taken ≤ limit
+    → t.at.number ≡ s.at.number → t.at.over ≡ true → ReadsNone s t
 unfolding lines_of
-reads_none a b s t line p number over = record {
+reads_none s t line p calm within number over = record {
   bytes = p.bytes;
-  took = p.took;
+  stands = record { took = p.took; calm = calm; fits = record { within = within; ended = λ o. p.ends.1.none_left } };
   none = ap lines_of (p.parts ∙ ap₂ (λ (xs ys : List ℕ). xs ++ ([] ++ ys)) p.ends.0 p.ends.1.kept);
   number = number;
   kept = p.ends.1.kept;
@@ -167,31 +176,85 @@ fewer a b s t line end going lim within p (inr (still, is)) =
     ∙ ap (λ (e : LineEnd). line ++ (feed_of e ++ t.reading.kept)) is in
     rw (still, going) (omega (arith, within, p.took.counted, length-append s.reading.kept p.bytes, length-append line (10 ∷ t.reading.kept), ap length parts))
 
-pub too_long_on : (a b c : Option (List ℕ)) (r s t : At) → TookSome a b r.reading s.reading → IsTooLong b c s t → IsTooLong a c r t
-too_long_on a b c r s t p q = ((p.0 ++ q.0.0, took_on a b c r.reading s.reading t.reading p.0 q.0.0 p.1 q.0.1), q.1)
+-- The parts of an input between line feeds.
 
-pub part_on : (a b c : Option (List ℕ)) (r s t : At) → TookSome a b r.reading s.reading → IsPart b c s t → IsPart a c r t
-part_on a b c r s t p q = ((p.0 ++ q.0.0, took_on a b c r.reading s.reading t.reading p.0 q.0.0 p.1 q.0.1), q.1)
+pub is_fed : (s t : Desk) (line : List ℕ) → IsNext s.left t.left s.at.reading t.at.reading line Ended → IsCalm s t → s.at.reading.limit ≡ limit
+    → t.at.reading.taken ≤ limit → s.at.over ≡ false → t.at.over ≡ false → t.at.text ≡ line → IsFed s t
+is_fed s t line p calm lim within going still text = record {
+  bytes = p.bytes;
+  stands = record { took = p.took; calm = calm; fits = record { within = within; ended = λ over. absurd (cc (sym still ∙ over)) } };
+  parts = p.parts ∙ ap (λ (l : List ℕ). l ++ (10 ∷ t.at.reading.kept)) (sym text);
+  one = subst (λ (l : List ℕ). IsTrue (lacks_feed l)) (sym text) p.one;
+  open_yet = still;
+  fewer = fewer s.left t.left s.at t.at line Ended going lim within p (inr (still, refl));
+}
 
--- nothing was taken
-pub no_part : (left : Option (List ℕ)) (s : At) → s.reading.taken ≤ limit → IsPart left left s s
-no_part left s within = (([], took_none left s.reading s.reading refl refl), within)
+rest_at : (s t : Desk) (line bytes : List ℕ) → TookBytes s t bytes → s.at.reading.kept ++ bytes ≡ line ++ t.at.reading.kept → IsOver t.left t.at.reading
+    → IsTrue (lacks_feed line) → IsCalm s t → t.at.reading.taken ≤ limit → t.at.over ≡ true → t.at.text ≡ line → IsRest s t
+rest_at s t line bytes took parts over one calm within met text = record {
+  bytes = bytes;
+  stands = record { took = took; calm = calm; fits = record { within = within; ended = λ o. over.none_left } };
+  parts = parts ∙ ap (λ (xs : List ℕ). line ++ xs) over.kept ∙ append-nil line ∙ sym text;
+  one = subst (λ (l : List ℕ). IsTrue (lacks_feed l)) (sym text) one;
+  met = met;
+}
+
+pub rest_is : (s t : Desk) (line : List ℕ) → IsNext s.left t.left s.at.reading t.at.reading line Rest → IsCalm s t → t.at.reading.taken ≤ limit
+    → t.at.over ≡ true → t.at.text ≡ line → IsRest s t
+rest_is s t line p calm within met text = rest_at s t line p.bytes p.took p.parts p.ends.1 p.one calm within met text
+
+pub end_is : (s t : Desk) (line : List ℕ) → IsNext s.left t.left s.at.reading t.at.reading line End → IsCalm s t → t.at.reading.taken ≤ limit
+    → t.at.over ≡ true → t.at.text ≡ line → IsRest s t
+end_is s t line p calm within met text = rest_at s t line p.bytes p.took p.parts p.ends.1 p.one calm within met text
+
+-- What stands after two calls.
+
+pub stands_none : (s : Desk) → Fits s.left s.at → Stands s s []
+stands_none s fits = record { took = took_none s.left s.at.reading s.at.reading refl refl; calm = refl; fits = fits }
+
+pub stands_on : (r s t : Desk) (xs ys : List ℕ) → Stands r s xs → Stands s t ys → Stands r t (xs ++ ys)
+stands_on r s t xs ys p q = record {
+  took = took_on r.left s.left t.left r.at.reading s.at.reading t.at.reading xs ys p.took q.took;
+  calm = q.calm ∙ p.calm;
+  fits = q.fits;
+}
+
+-- a part behind what was taken
+part_on : (r s t : Desk) (xs : List ℕ) → Stands r s xs → IsPart s t → IsPart r t
+part_on r s t xs p q = ((xs ++ q.0.0, took_on r.left s.left t.left r.at.reading s.at.reading t.at.reading xs q.0.0 p.took q.0.1), q.1)
+
+too_long_on : (r s t : Desk) (xs : List ℕ) → Stands r s xs → IsTooLong s t → IsTooLong r t
+too_long_on r s t xs p q = ((xs ++ q.0.0, took_on r.left s.left t.left r.at.reading s.at.reading t.at.reading xs q.0.0 p.took q.0.1), q.1)
+
+-- a fault behind what was taken, of a reading that tells its refusals by other values
+pub faulted_on : {R E : Type 0} (Q : R → Type 0) (P : E → Type 0) (r s t : Desk) (xs : List ℕ) → Stands r s xs → (said : R → E)
+    → ((x : R) → Q x → P (said x)) → (f : InputFault R) → Faulted Q s t f → Faulted P r t (told_by said f)
+faulted_on Q P r s t xs p said says (Refused x) h = says x h
+faulted_on Q P r s t xs p said says ReadFault h = (subst (λ (n : ℕ). Rose n t.faults) p.calm h.0, part_on r s t xs p h.1)
+faulted_on Q P r s t xs p said says TooLong h = (h.0 ∙ p.calm, too_long_on r s t xs p h.1)
+faulted_on Q P r s t xs p said says NoMemory h = (h.0 ∙ p.calm, part_on r s t xs p h.1)
+
+-- a fault of a line
+pub line_faults : {R : Type 0} (P : R → Type 0) (r s t : Desk) (xs : List ℕ) → Stands r s xs → (e : LineFault) → GivesNoLine s t e → Faulted P r t (of_line e)
+line_faults P r s t xs p line.ReadFault h = (subst (λ (n : ℕ). Rose n t.faults) p.calm h.0, part_on r s t xs p h.1)
+line_faults P r s t xs p line.TooLong h = (h.0 ∙ p.calm, too_long_on r s t xs p h.1)
+line_faults P r s t xs p line.NoMemory h = (h.0 ∙ p.calm, part_on r s t xs p h.1)
 
 -- Blank lines are passed over.
 
 -- What was read so far are blank lines, whatever comes after them.
-pub record Passed (left left' : Option (List ℕ)) (first now : At) : Type 0 where
+pub record Passed (first now : Desk) : Type 0 where
   pub bytes : List ℕ
-  pub took : Took left left' first.reading now.reading bytes
-  pub can : CanBeLeft first bytes
-  pub stays : first.over ≡ true → now.over ≡ true
-  pub blank : (rest : List ℕ) → CanBeLeft now rest → ahead first (bytes ++ rest) ≡ ahead now rest
-  pub later : first.number ≤ now.number
+  pub stands : Stands first now bytes
+  pub can : CanBeLeft first.at bytes
+  pub stays : first.at.over ≡ true → now.at.over ≡ true
+  pub blank : (rest : List ℕ) → CanBeLeft now.at rest → ahead first.at (bytes ++ rest) ≡ ahead now.at rest
+  pub later : first.at.number ≤ now.at.number
 
-pub passed_none : (left : Option (List ℕ)) (first : At) → Passed left left first first
-passed_none left first = record {
+pub passed_none : (first : Desk) → Fits first.left first.at → Passed first first
+passed_none first fits = record {
   bytes = [];
-  took = took_none left first.reading first.reading refl refl;
+  stands = stands_none first fits;
   can = λ over. refl;
   stays = λ over. over;
   blank =
@@ -199,34 +262,33 @@ passed_none left first = record {
   later = omega arith;
 }
 
-not_over : (s : At) → s.over ≡ false → ¬ (s.over ≡ true)
+not_over : (s : Desk) → s.at.over ≡ false → ¬ (s.at.over ≡ true)
 not_over s f e = absurd (cc (sym f ∙ e))
 
-pub passed_on : (left a b : Option (List ℕ)) (first s t : At) → Passed left a first s → s.over ≡ false → ReadsLine a b s t → is_blank t.text ≡ true
-    → Passed left b first t
-passed_on left a b first s t p going q blank = record {
+pub passed_on : (first s t : Desk) → Passed first s → s.at.over ≡ false → ReadsLine s t → is_blank t.at.text ≡ true → Passed first t
+passed_on first s t p going q blank = record {
   bytes = p.bytes ++ q.bytes;
-  took = took_on left a b first.reading s.reading t.reading p.bytes q.bytes p.took q.took;
+  stands = stands_on first s t p.bytes q.bytes p.stands q.stands;
   can = λ over. absurd (not_over s going (p.stays over));
   stays = λ over. absurd (not_over s going (p.stays over));
   blank = λ rest can.
-      ap (ahead first) (append_assoc p.bytes q.bytes rest) ∙ p.blank (q.bytes ++ rest) (λ over. absurd (not_over s going over))
-      ∙ blank_ahead s.number t.text (lines_of (s.reading.kept ++ (q.bytes ++ rest))) (lines_of (t.reading.kept ++ rest)) (q.first rest can) blank
-      ∙ ap (λ n. filled_lines (n + 1) (lines_of (t.reading.kept ++ rest))) (sym q.counted);
+      ap (ahead first.at) (append_assoc p.bytes q.bytes rest) ∙ p.blank (q.bytes ++ rest) (λ over. absurd (not_over s going over))
+      ∙ blank_ahead s.at.number t.at.text (lines_of (s.at.reading.kept ++ (q.bytes ++ rest))) (lines_of (t.at.reading.kept ++ rest)) (q.first rest can) blank
+      ∙ ap (λ n. filled_lines (n + 1) (lines_of (t.at.reading.kept ++ rest))) (sym q.counted);
   later = omega (arith, p.later, q.counted);
 }
 
-pub is_line : (left a b : Option (List ℕ)) (first s t : At) → Passed left a first s → s.over ≡ false → ReadsLine a b s t → is_blank t.text ≡ false
-    → IsLine left b first t
-is_line left a b first s t p going q some = record {
+pub is_line : (first s t : Desk) → Passed first s → s.at.over ≡ false → ReadsLine s t → is_blank t.at.text ≡ false → t.at.number ≤ limit → IsLine first t
+is_line first s t p going q some few = record {
   bytes = p.bytes ++ q.bytes;
-  took = took_on left a b first.reading s.reading t.reading p.bytes q.bytes p.took q.took;
-  open_yet = still first.over (λ over. not_over s going (p.stays over));
+  stands = stands_on first s t p.bytes q.bytes p.stands q.stands;
+  open_yet = still first.at.over (λ over. not_over s going (p.stays over));
   first = λ rest can.
-      ap (ahead first) (append_assoc p.bytes q.bytes rest) ∙ p.blank (q.bytes ++ rest) (λ over. absurd (not_over s going over))
-      ∙ line_ahead s.number t.text (lines_of (s.reading.kept ++ (q.bytes ++ rest))) (lines_of (t.reading.kept ++ rest)) (q.first rest can) some
-      ∙ ap (λ n. (n, t.text) ∷ filled_lines (n + 1) (lines_of (t.reading.kept ++ rest))) (sym q.counted);
+      ap (ahead first.at) (append_assoc p.bytes q.bytes rest) ∙ p.blank (q.bytes ++ rest) (λ over. absurd (not_over s going over))
+      ∙ line_ahead s.at.number t.at.text (lines_of (s.at.reading.kept ++ (q.bytes ++ rest))) (lines_of (t.at.reading.kept ++ rest)) (q.first rest can) some
+      ∙ ap (λ n. (n, t.at.text) ∷ filled_lines (n + 1) (lines_of (t.at.reading.kept ++ rest))) (sym q.counted);
   counted = omega (arith, p.later, q.counted);
+  few = few;
 }
   where
     still : (b : Bool) → ¬ (b ≡ true) → b ≡ false
@@ -234,20 +296,20 @@ is_line left a b first s t p going q some = record {
     still false h = refl
 
 -- the end was met behind blank lines
-pub passed_end : (left a b : Option (List ℕ)) (first s t : At) → Passed left a first s → s.over ≡ false → ReadsNone a b s t → Passed left b first t
+pub passed_end : (first s t : Desk) → Passed first s → s.at.over ≡ false → ReadsNone s t → Passed first t
 unfolding lines_of filled_lines
-passed_end left a b first s t p going q = record {
+passed_end first s t p going q = record {
   bytes = p.bytes ++ q.bytes;
-  took = took_on left a b first.reading s.reading t.reading p.bytes q.bytes p.took q.took;
+  stands = stands_on first s t p.bytes q.bytes p.stands q.stands;
   can = λ over. absurd (not_over s going (p.stays over));
   stays = λ over. absurd (not_over s going (p.stays over));
   blank = λ rest can.
       let none : rest ≡ [] = can q.met in
-      ap (ahead first) (append_assoc p.bytes q.bytes rest) ∙ p.blank (q.bytes ++ rest) (λ over. absurd (not_over s going over))
-      ∙ ap (λ (xs : List ℕ). filled_lines (s.number + 1) (lines_of (s.reading.kept ++ (q.bytes ++ xs)))) none
-      ∙ ap (λ (xs : List ℕ). filled_lines (s.number + 1) (lines_of (s.reading.kept ++ xs))) (append-nil q.bytes)
-      ∙ ap (filled_lines (s.number + 1)) q.none
-      ∙ sym (ap₂ (λ (xs ys : List ℕ). filled_lines (t.number + 1) (lines_of (xs ++ ys))) q.kept none);
+      ap (ahead first.at) (append_assoc p.bytes q.bytes rest) ∙ p.blank (q.bytes ++ rest) (λ over. absurd (not_over s going over))
+      ∙ ap (λ (xs : List ℕ). filled_lines (s.at.number + 1) (lines_of (s.at.reading.kept ++ (q.bytes ++ xs)))) none
+      ∙ ap (λ (xs : List ℕ). filled_lines (s.at.number + 1) (lines_of (s.at.reading.kept ++ xs))) (append-nil q.bytes)
+      ∙ ap (filled_lines (s.at.number + 1)) q.none
+      ∙ sym (ap₂ (λ (xs ys : List ℕ). filled_lines (t.at.number + 1) (lines_of (xs ++ ys))) q.kept none);
   later = omega (arith, p.later, q.number);
 }
 
@@ -274,10 +336,15 @@ past_ahead n [] rest =
 past_ahead n (b ∷ bs) rest = past_one (eqb b 10) n b bs rest refl (past_ahead (n + 1) bs rest)
 
 -- empty lines are passed over
-pub passed_past : (left a : Option (List ℕ)) (first s : At) → Passed left a first s → Passed left a first (past_empty s)
-passed_past left a first s p = record {
+pub passed_past : (first : Desk) (left : Option (List ℕ)) (faults : ℕ) (s : At) → Passed first (desk left faults s)
+    → Passed first (desk left faults (past_empty s))
+passed_past first left faults s p = record {
   bytes = p.bytes;
-  took = record { consumed = p.took.consumed; counted = p.took.counted; limit = p.took.limit };
+  stands = record {
+    took = record { consumed = p.stands.took.consumed; counted = p.stands.took.counted; limit = p.stands.took.limit };
+    calm = p.stands.calm;
+    fits = record { within = p.stands.fits.within; ended = p.stands.fits.ended };
+  };
   can = p.can;
   stays = p.stays;
   blank = λ rest can. p.blank rest can ∙ past_ahead s.number s.reading.kept rest;
@@ -293,20 +360,13 @@ past_less s = still_less s.over (limit + 2 - s.reading.taken) (length (drop (fee
     (omega (arith, length-drop (feeds s.reading.kept) s.reading.kept))
 
 -- no line is ahead
-pub is_last : (left a : Option (List ℕ)) (first s : At) → Passed left a first s → s.over ≡ true → s.reading.kept ≡ [] → IsLast left a first s
+pub is_last : (first s : Desk) → Passed first s → s.at.over ≡ true → s.at.reading.kept ≡ [] → IsLast first s
 unfolding lines_of filled_lines
-is_last left a first s p over kept = record {
+is_last first s p over kept = record {
   bytes = p.bytes;
-  took = p.took;
+  stands = p.stands;
   can = p.can;
-  none = ap (ahead first) (sym (append-nil p.bytes)) ∙ p.blank [] (λ over. refl)
-      ∙ ap (λ (xs : List ℕ). filled_lines (s.number + 1) (lines_of (xs ++ []))) kept;
+  none = ap (ahead first.at) (sym (append-nil p.bytes)) ∙ p.blank [] (λ over. refl)
+      ∙ ap (λ (xs : List ℕ). filled_lines (s.at.number + 1) (lines_of (xs ++ []))) kept;
   met = over;
 }
-
--- a fault behind blank lines
-pub fails_on : (left a b : Option (List ℕ)) (n m k : ℕ) (first s t : At) (e : LineFault) → Passed left a first s → n ≤ m → GivesNoLine a b m k s t e
-    → GivesNoLine left b n k first t e
-fails_on left a b n m k first s t line.ReadFault p le f = (rose_before n m k le f.0, part_on left a b first s t (p.bytes, p.took) f.1)
-fails_on left a b n m k first s t line.TooLong p le f = too_long_on left a b first s t (p.bytes, p.took) f
-fails_on left a b n m k first s t line.NoMemory p le f = part_on left a b first s t (p.bytes, p.took) f

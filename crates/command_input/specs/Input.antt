@@ -1,12 +1,11 @@
 -- An input that is read line by line.
-use Rattle.std.specs.Prelude.{◌≡◌, ◌<◌, ◌≤◌, ◌+◌, ◌-◌, ℕ, cond, Bool, true, false, List, [], ◌∷◌, ◌++◌, length, Option}
+use Rattle.std.specs.Prelude.{◌≡◌, ◌<◌, ◌≤◌, ◌+◌, ◌-◌, ℕ, cond, Bool, true, false, List, [], ◌∷◌, ◌++◌, length, IsTrue, Option}
 use Rattle.std.specs.Io.KnownBytes.{IsAtEnd}
 use Rattle.swap_io.specs.Causes.{Rose}
-use Rattle.swap_io.specs.Lines.{Reading, Took, TookSome, feeds, past_feeds}
+use Rattle.swap_io.specs.Lines.{Reading, Took, feeds, lacks_feed, past_feeds}
 use Rattle.swap_io.specs.declared.fault.LineFault.{LineFault}
-use Rattle.swap_io.specs.declared.fault.LineFault.TheVariants as line
 use Rattle.swap_io.specs.declared.fault.DrainFault.{DrainFault}
-use Rattle.swap_io.specs.declared.fault.DrainFault.TheVariants as drained
+use Rattle.command_input.specs.Faults.{of_drain, of_line}
 use Rattle.command_input.specs.Lines.{lines_of, filled_lines}
 use Rattle.command_input.specs.declared.fault.InputFault.{InputFault}
 use Rattle.command_input.specs.declared.fault.InputFault.TheVariants.{Refused, ReadFault, TooLong, NoMemory}
@@ -41,102 +40,177 @@ past_empty s = record s { reading = past_feeds s.reading; number = s.number + fe
 abbrev pub CanBeLeft : At → List ℕ → Type 0
 CanBeLeft s rest = s.over ≡ true → rest ≡ []
 
--- what was read so far ends the input, where the end was met
-abbrev pub EndsAt : Option (List ℕ) → At → Type 0
-EndsAt left s = s.over ≡ true → IsAtEnd left
+-- What the source has left fits what was read: no more was taken than an input may have, and nothing is left where the end was met.
+pub record Fits (left : Option (List ℕ)) (s : At) : Type 0 where
+  pub within : s.reading.taken ≤ limit
+  pub ended : s.over ≡ true → IsAtEnd left
+
+-- An input and its source at one moment.
+pub record Desk : Type 0 where
+  -- what the source has left
+  pub left : Option (List ℕ)
+  -- how many of its calls failed
+  pub faults : ℕ
+  -- how far the input was read
+  pub at : At
+
+abbrev pub desk : Option (List ℕ) → ℕ → At → Desk
+desk left faults at = record { left = left; faults = faults; at = at }
+
+-- no call of the source failed in between
+abbrev pub IsCalm : Desk → Desk → Type 0
+IsCalm old new = new.faults ≡ old.faults
+
+-- a call of the source failed in between
+abbrev pub HasFailed : Desk → Desk → Type 0
+HasFailed old new = Rose old.faults new.faults
+
+-- the bytes were taken from the source
+abbrev pub TookBytes : Desk → Desk → List ℕ → Type 0
+TookBytes old new bytes = Took old.left new.left old.at.reading new.at.reading bytes
+
+-- What stands after a call: the bytes were taken, no read failed, and what is left fits.
+pub record Stands (old new : Desk) (bytes : List ℕ) : Type 0 where
+  pub took : TookBytes old new bytes
+  pub calm : IsCalm old new
+  pub fits : Fits new.left new.at
 
 -- a measure of the lines that may still come: none after the end
 abbrev pub to_go : At → ℕ
 to_go s = cond s.over 0 ((limit + 2 - s.reading.taken) + length s.reading.kept)
 
 -- A line, blank or not: whatever comes after it, the lines ahead were it and those ahead of it.
-pub record ReadsLine (left left' : Option (List ℕ)) (old new : At) : Type 0 where
+pub record ReadsLine (old new : Desk) : Type 0 where
   pub bytes : List ℕ
-  pub took : Took left left' old.reading new.reading bytes
-  pub first : (rest : List ℕ) → CanBeLeft new rest → lines_of (old.reading.kept ++ (bytes ++ rest)) ≡ new.text ∷ lines_of (new.reading.kept ++ rest)
-  pub counted : new.number ≡ old.number + 1
+  pub stands : Stands old new bytes
+  pub first : (rest : List ℕ) → CanBeLeft new.at rest
+      → lines_of (old.at.reading.kept ++ (bytes ++ rest)) ≡ new.at.text ∷ lines_of (new.at.reading.kept ++ rest)
+  pub counted : new.at.number ≡ old.at.number + 1
 
 -- No line came, and the end was met.
-pub record ReadsNone (left left' : Option (List ℕ)) (old new : At) : Type 0 where
+pub record ReadsNone (old new : Desk) : Type 0 where
   pub bytes : List ℕ
-  pub took : Took left left' old.reading new.reading bytes
-  pub none : lines_of (old.reading.kept ++ bytes) ≡ []
-  pub number : new.number ≡ old.number
-  pub kept : new.reading.kept ≡ []
-  pub met : new.over ≡ true
+  pub stands : Stands old new bytes
+  pub none : lines_of (old.at.reading.kept ++ bytes) ≡ []
+  pub number : new.at.number ≡ old.at.number
+  pub kept : new.at.reading.kept ≡ []
+  pub met : new.at.over ≡ true
 
-abbrev pub Reads : Bool → Option (List ℕ) → Option (List ℕ) → At → At → Type 0
-Reads true left left' old new = ReadsLine left left' old new
-Reads false left left' old new = ReadsNone left left' old new
+abbrev pub Reads : Bool → Desk → Desk → Type 0
+Reads true old new = ReadsLine old new
+Reads false old new = ReadsNone old new
 
 -- The next line that isn't blank: whatever comes after it, the lines ahead were it and those ahead of it.
-pub record IsLine (left left' : Option (List ℕ)) (old new : At) : Type 0 where
+pub record IsLine (old new : Desk) : Type 0 where
   pub bytes : List ℕ
-  pub took : Took left left' old.reading new.reading bytes
-  pub open_yet : old.over ≡ false
-  pub first : (rest : List ℕ) → CanBeLeft new rest → ahead old (bytes ++ rest) ≡ (new.number, new.text) ∷ ahead new rest
-  pub counted : old.number < new.number
+  pub stands : Stands old new bytes
+  pub open_yet : old.at.over ≡ false
+  pub first : (rest : List ℕ) → CanBeLeft new.at rest → ahead old.at (bytes ++ rest) ≡ (new.at.number, new.at.text) ∷ ahead new.at rest
+  pub counted : old.at.number < new.at.number
+  pub few : new.at.number ≤ limit
 
 -- No line is ahead, and the end was met.
-pub record IsLast (left left' : Option (List ℕ)) (old new : At) : Type 0 where
+pub record IsLast (old new : Desk) : Type 0 where
   pub bytes : List ℕ
-  pub took : Took left left' old.reading new.reading bytes
-  pub can : CanBeLeft old bytes
-  pub none : ahead old bytes ≡ []
-  pub met : new.over ≡ true
+  pub stands : Stands old new bytes
+  pub can : CanBeLeft old.at bytes
+  pub none : ahead old.at bytes ≡ []
+  pub met : new.at.over ≡ true
 
-abbrev pub GivesLine : Bool → Option (List ℕ) → Option (List ℕ) → At → At → Type 0
-GivesLine true left left' old new = IsLine left left' old new
-GivesLine false left left' old new = IsLast left left' old new
+abbrev pub GivesLine : Bool → Desk → Desk → Type 0
+GivesLine true old new = IsLine old new
+GivesLine false old new = IsLast old new
+
+-- A line that a line feed ended: what was kept, with the bytes that were taken, is the line with its line feed, and what is kept now.
+pub record IsFed (old new : Desk) : Type 0 where
+  pub bytes : List ℕ
+  pub stands : Stands old new bytes
+  pub parts : old.at.reading.kept ++ bytes ≡ new.at.text ++ (10 ∷ new.at.reading.kept)
+  pub one : IsTrue (lacks_feed new.at.text)
+  pub open_yet : new.at.over ≡ false
+  pub fewer : to_go new.at < to_go old.at
+
+-- What stands after the last line feed.
+pub record IsRest (old new : Desk) : Type 0 where
+  pub bytes : List ℕ
+  pub stands : Stands old new bytes
+  pub parts : old.at.reading.kept ++ bytes ≡ new.at.text
+  pub one : IsTrue (lacks_feed new.at.text)
+  pub met : new.at.over ≡ true
+
+abbrev pub GivesPart : Bool → Desk → Desk → Type 0
+GivesPart true old new = IsFed old new
+GivesPart false old new = IsRest old new
 
 -- Some bytes were taken, of which P tells whatever may still come.
-pub record Tells (P : List ℕ → Type 0) (left left' : Option (List ℕ)) (old new : At) : Type 0 where
+pub record Tells (P : List ℕ → Type 0) (old new : Desk) : Type 0 where
   pub bytes : List ℕ
-  pub took : Took left left' old.reading new.reading bytes
-  pub can : (rest : List ℕ) → CanBeLeft new rest → CanBeLeft old (bytes ++ rest)
-  pub told : (rest : List ℕ) → CanBeLeft new rest → P (bytes ++ rest)
-  pub within : new.reading.taken ≤ limit
-  pub ended : EndsAt left' new
-
--- one byte more than the limit was taken
-abbrev pub IsTooLong : Option (List ℕ) → Option (List ℕ) → At → At → Type 0
-IsTooLong left left' old new = TookSome left left' old.reading new.reading × (new.reading.taken ≡ limit + 1)
-
--- some bytes were taken, no more than an input may have
-abbrev pub IsPart : Option (List ℕ) → Option (List ℕ) → At → At → Type 0
-IsPart left left' old new = TookSome left left' old.reading new.reading × (new.reading.taken ≤ limit)
-
--- why no line was given
-abbrev pub GivesNoLine : Option (List ℕ) → Option (List ℕ) → ℕ → ℕ → At → At → LineFault → Type 0
-GivesNoLine left left' faults faults' old new line.ReadFault = Rose faults faults' × IsPart left left' old new
-GivesNoLine left left' faults faults' old new line.TooLong = IsTooLong left left' old new
-GivesNoLine left left' faults faults' old new line.NoMemory = IsPart left left' old new
-
--- why the reading of an input stopped, where P tells of the bytes and what is said against them
-abbrev pub Stops : {R : Type 0} → (List ℕ → R → Type 0) → Option (List ℕ) → Option (List ℕ) → ℕ → ℕ → At → At → InputFault R → Type 0
-Stops P left left' faults faults' old new (Refused r) = Tells (λ bytes. P bytes r) left left' old new
-Stops P left left' faults faults' old new ReadFault = Rose faults faults' × IsPart left left' old new
-Stops P left left' faults faults' old new TooLong = IsTooLong left left' old new
-Stops P left left' faults faults' old new NoMemory = IsPart left left' old new
-
--- the rest of the input was taken: bytes that could still come
-pub record IsDrained (left left' : Option (List ℕ)) (old new : At) : Type 0 where
-  pub bytes : List ℕ
-  pub took : Took left left' old.reading new.reading bytes
-  pub can : CanBeLeft old bytes
-  pub within : new.reading.taken ≤ limit
-  pub ended : EndsAt left old → IsAtEnd left'
-
--- why the rest was not taken
-abbrev pub Breaks : Option (List ℕ) → Option (List ℕ) → ℕ → ℕ → At → At → DrainFault → Type 0
-Breaks left left' faults faults' old new drained.ReadFault = Rose faults faults' × IsPart left left' old new
-Breaks left left' faults faults' old new drained.TooLong = IsTooLong left left' old new
+  pub stands : Stands old new bytes
+  pub can : (rest : List ℕ) → CanBeLeft new.at rest → CanBeLeft old.at (bytes ++ rest)
+  pub told : (rest : List ℕ) → CanBeLeft new.at rest → P (bytes ++ rest)
 
 -- The whole input was read, and P tells of its bytes.
-pub record Ends (P : List ℕ → Type 0) (left left' : Option (List ℕ)) (old new : At) : Type 0 where
+pub record Ends (P : List ℕ → Type 0) (old new : Desk) : Type 0 where
   pub bytes : List ℕ
-  pub took : Took left left' old.reading new.reading bytes
-  pub can : CanBeLeft old bytes
+  pub stands : Stands old new bytes
+  pub can : CanBeLeft old.at bytes
   pub told : P bytes
-  pub within : new.reading.taken ≤ limit
-  pub ended : IsAtEnd left'
+  pub ended : IsAtEnd new.left
+
+-- one byte more than the limit was taken
+abbrev pub IsTooLong : Desk → Desk → Type 0
+IsTooLong old new = ((bytes : List ℕ) × TookBytes old new bytes) × (new.at.reading.taken ≡ limit + 1)
+
+-- some bytes were taken, no more than an input may have
+abbrev pub IsPart : Desk → Desk → Type 0
+IsPart old new = ((bytes : List ℕ) × TookBytes old new bytes) × (new.at.reading.taken ≤ limit)
+
+-- Why a reading stopped: what Q tells of what is said against the input, or a fault.
+abbrev pub Faulted : {R : Type 0} → (R → Type 0) → Desk → Desk → InputFault R → Type 0
+Faulted Q old new (Refused r) = Q r
+Faulted Q old new ReadFault = HasFailed old new × IsPart old new
+Faulted Q old new TooLong = IsCalm old new × IsTooLong old new
+Faulted Q old new NoMemory = IsCalm old new × IsPart old new
+
+-- why the reading of an input stopped, where P tells of the bytes and what is said against them, whatever may still come
+abbrev pub Stops : {R : Type 0} → (List ℕ → R → Type 0) → Desk → Desk → InputFault R → Type 0
+Stops P old new fault = Faulted (λ r. Tells (λ bytes. P bytes r) old new) old new fault
+
+-- the same where the whole input was read before it is refused
+abbrev pub HasStopped : {R : Type 0} → (List ℕ → R → Type 0) → Desk → Desk → InputFault R → Type 0
+HasStopped P old new fault = Faulted (λ r. Ends (λ bytes. P bytes r) old new) old new fault
+
+-- nothing is said against an input
+abbrev pub NothingSaid : Unit {0} → Type 0
+NothingSaid u = ⊥
+
+-- why no line was given
+abbrev pub GivesNoLine : Desk → Desk → LineFault → Type 0
+GivesNoLine old new fault = Faulted NothingSaid old new (of_line fault)
+
+-- Nothing is kept; the number and the text of the last line stay, and whether the end was met.
+pub record IsDropped (old new : At) : Type 0 where
+  pub kept : new.reading.kept ≡ []
+  pub number : new.number ≡ old.number
+  pub text : new.text ≡ old.text
+  pub over : new.over ≡ old.over
+
+-- the rest of the input was taken: bytes that could still come
+pub record IsDrained (old new : Desk) : Type 0 where
+  pub bytes : List ℕ
+  pub took : TookBytes old new bytes
+  pub within : new.at.reading.taken ≤ limit
+  pub calm : IsCalm old new
+  pub can : CanBeLeft old.at bytes
+  pub ended : (old.at.over ≡ true → IsAtEnd old.left) → IsAtEnd new.left
+
+-- why the rest was not taken
+abbrev pub Breaks : Desk → Desk → DrainFault → Type 0
+Breaks old new fault = Faulted NothingSaid old new (of_drain fault)
+
+-- What is answered where the reading stopped: of an input that is refused the rest is taken first, and a fault of that comes before what is said.
+abbrev pub Drains : {R : Type 0} → Desk → Desk → InputFault R → InputFault R → Type 0
+Drains old new (Refused r) answer = Faulted (λ said. (said ≡ r) × IsDrained old new) old new answer
+Drains old new ReadFault answer = (answer ≡ ReadFault) × (new ≡ old)
+Drains old new TooLong answer = (answer ≡ TooLong) × (new ≡ old)
+Drains old new NoMemory answer = (answer ≡ NoMemory) × (new ≡ old)

@@ -6,7 +6,7 @@ ghost use Rattle.command_input.specs.Faults.{named_fault};
 use refusals::{Reason, Refusal};
 use std::alloc::Global;
 use swap_base::{ByteText, Fault, Listed, NoMemory};
-use swap_io::LineFault;
+use swap_io::{DrainFault, LineFault};
 
 /// Why the reading of an input stopped: something is said against it, or one of the faults of reading.
 #[derive(Debug, Drop)]
@@ -54,6 +54,20 @@ impl<R> From<LineFault> for InputFault<R> {
             LineFault::ReadFault => InputFault::ReadFault,
             LineFault::TooLong => InputFault::TooLong,
             LineFault::NoMemory => InputFault::NoMemory,
+        }
+    }
+}
+
+impl<R> From<DrainFault> for InputFault<R> {
+    ghost use Rattle.std.specs.Prelude.{◌≡◌};
+    ghost use Rattle.command_input.specs.Faults.{of_drain};
+
+    ghost from_gives = { λ d e. e ≡ of_drain d };
+
+    fn from(e: DrainFault) -> InputFault<R> {
+        match e {
+            DrainFault::ReadFault => InputFault::ReadFault,
+            DrainFault::TooLong => InputFault::TooLong,
         }
     }
 }

@@ -1,8 +1,10 @@
 //! An input that is read line by line.
 
-ghost use Rattle.std.specs.Prelude.{◌≡◌, ◌<◌, ◌≤◌, ◌+◌, [], length, true, false, IfOk, IfErr, OnOk, IsErrOf};
-ghost use Rattle.command_input.specs.Input.{At, Breaks, EndsAt, GivesNoLine, GivesLine, IsDrained, Reads, fresh, limit, past_empty, to_go};
+ghost use Rattle.std.specs.Prelude.{◌≡◌, ◌<◌, ◌≤◌, ◌+◌, [], length, true, false, IfOk, IfErr, OnOk};
+ghost use Rattle.command_input.specs.Input.{At, Breaks, Drains, Fits, GivesNoLine, GivesLine, GivesPart, IsDrained, IsDropped, Reads, desk, fresh, limit, past_empty};
+ghost use Rattle.command_input.specs.Input.{to_go};
 
+use crate::fault::InputFault;
 use crate::lines::is_blank;
 use std::alloc::Global;
 use std::marker::Model;
@@ -60,15 +62,12 @@ impl Input {
     /// Reads one line, blank or not, and answers whether there was one.
     fn read_line<S: Source>(&mut self, source: &mut S) -> Result<bool, LineFault>
         requires open_yet { self.old.over ≡ false }
-        ensures reads { IfOk result (λ more. Reads more (S.left source.old) (S.left source.new) self.old self.new) }
-        ensures within { IfOk result (λ _. self.new.reading.taken ≤ limit) }
+        ensures reads { IfOk result (λ more. Reads more (desk (S.left source.old) (S.faults source.old) self.old)
+            (desk (S.left source.new) (S.faults source.new) self.new)) }
         ensures few { IfOk result (λ _. self.new.number ≤ limit) }
         ensures shorter { IfOk result (λ _. to_go self.new < to_go self.old) }
-        ensures ended { IfOk result (λ _. EndsAt (S.left source.new) self.new) }
-        ensures fails { IfErr result (λ e. GivesNoLine (S.left source.old) (S.left source.new) (S.faults source.old)
-            (S.faults source.new) self.old self.new e) }
-        ensures later { S.faults source.old ≤ S.faults source.new }
-        ensures calm { ¬ IsErrOf result LineFault.ReadFault → S.faults source.new ≡ S.faults source.old }
+        ensures fails { IfErr result (GivesNoLine (desk (S.left source.old) (S.faults source.old) self.old)
+            (desk (S.left source.new) (S.faults source.new) self.new)) }
     {
         match self.lines.next(source, &mut self.line)? {
             LineEnd::Ended => {
@@ -87,6 +86,31 @@ impl Input {
         }
     }
 
+    /// Goes to the next line that a line feed ended, or to what stands after the last line feed, and answers which.
+    pub fn part<S: Source>(&mut self, source: &mut S) -> Result<bool, LineFault>
+        requires { self.old.over ≡ false }
+        ensures gives { IfOk result (λ more. GivesPart more (desk (S.left source.old) (S.faults source.old) self.old)
+            (desk (S.left source.new) (S.faults source.new) self.new)) }
+        ensures fails { IfErr result (GivesNoLine (desk (S.left source.old) (S.faults source.old) self.old)
+            (desk (S.left source.new) (S.faults source.new) self.new)) }
+    {
+        match self.lines.next(source, &mut self.line)? {
+            LineEnd::Ended => {
+                self.number += 1;
+                Ok(true)
+            }
+            LineEnd::Rest => {
+                self.number += 1;
+                self.over = true;
+                Ok(false)
+            }
+            LineEnd::End => {
+                self.over = true;
+                Ok(false)
+            }
+        }
+    }
+
     /// Passes over the empty lines that were taken already, without copying them.
     fn pass_empty(&mut self)
         ensures { self.new ≡ past_empty self.old }
@@ -96,15 +120,11 @@ impl Input {
 
     /// Goes to the next line that isn't blank, and answers whether there is one.
     pub fn next<S: Source>(&mut self, source: &mut S) -> Result<bool, LineFault>
-        requires ended { EndsAt (S.left source.old) self.old }
-        ensures gives { IfOk result (λ more. GivesLine more (S.left source.old) (S.left source.new) self.old self.new) }
-        ensures within { IfOk result (λ _. self.new.reading.taken ≤ limit) }
-        ensures few { IfOk result (λ _. self.new.number ≤ limit) }
-        ensures ended { IfOk result (λ _. EndsAt (S.left source.new) self.new) }
-        ensures fails { IfErr result (λ e. GivesNoLine (S.left source.old) (S.left source.new) (S.faults source.old)
-            (S.faults source.new) self.old self.new e) }
-        ensures later { S.faults source.old ≤ S.faults source.new }
-        ensures calm { ¬ IsErrOf result LineFault.ReadFault → S.faults source.new ≡ S.faults source.old }
+        requires { Fits (S.left source.old) self.old }
+        ensures gives { IfOk result (λ more. GivesLine more (desk (S.left source.old) (S.faults source.old) self.old)
+            (desk (S.left source.new) (S.faults source.new) self.new)) }
+        ensures fails { IfErr result (GivesNoLine (desk (S.left source.old) (S.faults source.old) self.old)
+            (desk (S.left source.new) (S.faults source.new) self.new)) }
     {
         'lines: while !self.is_over() {
             if !self.read_line(source)? {
@@ -121,22 +141,41 @@ impl Input {
     /// Whether the end was met.
     fn is_over(&self) -> bool
         ensures over { result ≡ self.now.over }
-        ensures kept { self.now.over ≡ true → (self.now.reading.kept ≡ []) × (self.now.reading.taken ≤ limit) }
-        ensures few { self.now.over ≡ true → self.now.number ≤ limit }
+        ensures kept { self.now.over ≡ true → self.now.reading.kept ≡ [] }
     {
         self.over
     }
 
-    /// Takes the rest of the input.
-    pub fn drain<S: Source>(&mut self, source: &mut S) -> Result<(), DrainFault>
-        ensures drained { OnOk result (IsDrained (S.left source.old) (S.left source.new) self.old self.new) }
-        ensures fails { IfErr result (λ e. Breaks (S.left source.old) (S.left source.new) (S.faults source.old) (S.faults source.new) self.old self.new e) }
-        ensures later { S.faults source.old ≤ S.faults source.new }
-        ensures calm { ¬ IsErrOf result DrainFault.ReadFault → S.faults source.new ≡ S.faults source.old }
+    /// Takes and drops the rest of the input.
+    fn drain<S: Source>(&mut self, source: &mut S) -> Result<(), DrainFault>
+        ensures drained { OnOk result (IsDrained (desk (S.left source.old) (S.faults source.old) self.old)
+            (desk (S.left source.new) (S.faults source.new) self.new)) }
+        ensures fails { IfErr result (Breaks (desk (S.left source.old) (S.faults source.old) self.old)
+            (desk (S.left source.new) (S.faults source.new) self.new)) }
+        ensures dropped { IsDropped self.old self.new }
     {
         if self.over {
             return Ok(());
         }
         self.lines.drain(source)
+    }
+
+    /// What stopped the reading. Where something is said against the input the rest is taken first, since a fault of reading comes before it.
+    pub fn stop<S: Source, R: Drop>(
+        &mut self,
+        source: &mut S,
+        fault: InputFault<R>,
+    ) -> InputFault<R>
+        ensures { Drains (desk (S.left source.old) (S.faults source.old) self.old) (desk (S.left source.new) (S.faults source.new) self.new) fault result }
+    {
+        match fault {
+            InputFault::Refused(said) => match self.drain(source) {
+                Ok(()) => InputFault::Refused(said),
+                Err(fault) => InputFault::from(fault),
+            },
+            InputFault::ReadFault => InputFault::ReadFault,
+            InputFault::TooLong => InputFault::TooLong,
+            InputFault::NoMemory => InputFault::NoMemory,
+        }
     }
 }

@@ -1,6 +1,10 @@
 //! What the program ends with.
 
-use refusals::Reason;
+ghost use Rattle.std.specs.Prelude.{◌≡◌};
+ghost use Rattle.command_input.specs.Faults.{unread};
+
+use crate::fault::InputFault;
+use refusals::{Reason, Refusal};
 use swap_base::{ByteText, Listed};
 
 /// How a run of the program ended.
@@ -17,4 +21,16 @@ pub enum Status {
     WriteFault,
     NoMemory,
     TooLong,
+}
+
+/// The status where the reading of an input stopped.
+pub fn unread(fault: InputFault<Refusal>) -> Status
+    ensures { result ≡ unread fault }
+{
+    match fault {
+        InputFault::Refused(refusal) => Status::Refused(refusal.reason, refusal.names),
+        InputFault::ReadFault => Status::ReadFault,
+        InputFault::TooLong => Status::TooLong,
+        InputFault::NoMemory => Status::NoMemory,
+    }
 }

@@ -1,7 +1,8 @@
 -- What the command `many` says, by how its parts ended.
-use Rattle.std.proofs.Common.{◌≡◌, ◌≤◌, ℕ, Bool, List, ◌++◌, fold, Option, Some, None, Result, Ok, Err, refl, sym, ap, ap₂, ◌∙◌, subst, append_assoc}
+use Rattle.std.proofs.Common.{◌≡◌, ℕ, Bool, List, ◌++◌, fold, Option, Some, None, Result, Ok, Err, refl, sym, ap, ap₂, ◌∙◌, subst}
 use Rattle.swap_base.specs.Fault.{◌>>=◌}
-use Rattle.swap_io.proofs.Feeds.{took_on}
+use Rattle.command_input.proofs.Ahead.{stands_on}
+use Rattle.command_input.proofs.Streams.{can_come, stops_as, stops_same}
 use Rattle.swap_job.specs.declared.job.Finish.{Finish}
 use Rattle.refusals.specs.declared.reason.Reason.{Reason}
 use Rattle.refusals.specs.declared.refusal.Refusal.{Refusal}
@@ -20,7 +21,7 @@ use Rattle.many_lines.specs.Heading.{HeadingState, finish_told}
 use Rattle.many_lines.specs.Places.{job_at}
 use Rattle.many_lines.specs.Whole.{AreSwaps}
 use Rattle.many_lines.specs.declared.many_job.ManyJob.{ManyJob}
-use Rattle.command_input.specs.Input.{At, CanBeLeft, Ends, Stops, Tells, ahead, fresh}
+use Rattle.command_input.specs.Input.{At, CanBeLeft, Desk, Ends, Stops, ahead, desk, fresh}
 use Rattle.swap_commands.specs.Many.{Headed, ended_by, events_told, headed, many_of_lines, many_output, many_state, many_written, opened_places}
 use Rattle.swap_commands.specs.ManyRead.{AreRun, IsHeading, IsManyPlayed, new_worlds, opened_after}
 use Rattle.swap_commands.specs.Output.{AreGiven, by_many, by_reason, names_of, names_told, output_by}
@@ -31,9 +32,9 @@ use Rattle.command_input.specs.declared.status.Status.{Status}
 use Rattle.command_input.specs.Streams.{streams}
 use Rattle.swap_commands.specs.Words.{Many}
 use Rattle.swap_commands.proofs.ManyPromises.{are_ended, are_promised}
-use Rattle.swap_commands.proofs.ManyTold.{fails_with, stops_as, stops_later}
+use Rattle.swap_commands.proofs.ManyTold.{fails_with}
 use Rattle.swap_commands.proofs.ManyWorlds.{all_can, kept_before, new_are_of, new_at}
-use Rattle.swap_commands.proofs.Reading.{is_within, not_over_yet}
+use Rattle.swap_commands.proofs.Reading.{is_within}
 use Rattle.swap_commands.proofs.Replays.{are_given}
 use Rattle.swap_commands.proofs.Saying.{says_written}
 use Rattle.swap_commands.specs.Strategies.{strategies}
@@ -111,73 +112,56 @@ module _ (has : List ℕ → Bool) where
   against_heading : (bytes : List ℕ) (r : Refusal) → headed has (ahead fresh bytes) ≡ Err r → IsAgainst has Many bytes r
   against_heading bytes r e = against_many bytes r (by_heading none bytes (Err r) e)
 
-  pub heading_stops : (a b : Option (List ℕ)) (n m : ℕ) (t : At) (fault : InputFault Refusal)
-      → Stops (λ bytes r. headed has (ahead fresh bytes) ≡ Err r) a b n m fresh t fault → Stops (IsAgainst has Many) a b n m fresh t fault
-  heading_stops a b n m t fault k =
-      stops_as (λ bytes r. headed has (ahead fresh bytes) ≡ Err r) (IsAgainst has Many) against_heading a b n m fresh t fault k
+  pub heading_stops : (left : Option (List ℕ)) (n : ℕ) (t : Desk) (fault : InputFault Refusal)
+      → Stops (λ bytes r. headed has (ahead fresh bytes) ≡ Err r) (desk left n fresh) t fault → Stops (IsAgainst has Many) (desk left n fresh) t fault
+  heading_stops left n t fault k =
+      stops_as (λ bytes r. headed has (ahead fresh bytes) ≡ Err r) (IsAgainst has Many) against_heading (desk left n fresh) t fault k
 
   -- after the lines before the events
-  module _ (left left' left'' : Option (List ℕ)) (mid now : At) (h : HeadingState) (p : IsHeading has h left left' mid) where
-    -- what the bytes of both say
-    heading_first : (bytes rest : List ℕ) → CanBeLeft mid (bytes ++ rest)
-        → headed has (ahead fresh ((p.bytes ++ bytes) ++ rest)) ≡ Ok (record { many = h.many; finish = p.finish; lines = ahead mid (bytes ++ rest) })
-    heading_first bytes rest can =
-        ap (λ (xs : List ℕ). headed has (ahead fresh xs)) (append_assoc p.bytes bytes rest) ∙ p.first (bytes ++ rest) can
+  module _ (left : Option (List ℕ)) (n : ℕ) (mid now : Desk) (h : HeadingState) (p : IsHeading has h (desk left n fresh) mid) where
+    -- what is said after them is said against the input
+    events_against : (bytes : List ℕ) (r : Refusal) → CanBeLeft mid.at bytes → opened_after h.many (ahead mid.at bytes) ≡ Err r
+        → IsAgainst has Many (p.bytes ++ bytes) r
+    events_against bytes r can fails =
+        let head : Headed = record { many = h.many; finish = p.finish; lines = ahead mid.at bytes } in
+        against_many (p.bytes ++ bytes) r (by_heading none (p.bytes ++ bytes) (Ok head) (p.first bytes can) ∙ rest_fails none head r fails)
 
-    events_against : (r : Refusal) → Tells (λ bytes. opened_after h.many (ahead mid bytes) ≡ Err r) left' left'' mid now
-        → Tells (λ bytes. IsAgainst has Many bytes r) left left'' fresh now
-    events_against r s = record {
-      bytes = p.bytes ++ s.bytes;
-      took = took_on left left' left'' fresh.reading mid.reading now.reading p.bytes s.bytes p.took s.took;
-      can = λ rest can. not_over_yet has ((p.bytes ++ s.bytes) ++ rest);
-      told = λ rest can.
-          let head : Headed = record { many = h.many; finish = p.finish; lines = ahead mid (s.bytes ++ rest) } in
-          against_many ((p.bytes ++ s.bytes) ++ rest) r
-          (by_heading none ((p.bytes ++ s.bytes) ++ rest) (Ok head) (heading_first s.bytes rest (s.can rest can))
-          ∙ rest_fails none head r (s.told rest can));
-      within = s.within;
-      ended = s.ended;
-    }
-
-    pub events_stop : (many : ManyJob) (n m k : ℕ) (fault : InputFault Refusal) → many ≡ h.many → n ≤ m
-        → Stops (λ bytes r. opened_after many (ahead mid bytes) ≡ Err r) left' left'' m k mid now fault
-        → Stops (IsAgainst has Many) left left'' n k fresh now fault
-    events_stop many n m k fault same le s =
-        stops_later left left' left'' n m k fresh mid now (λ bytes r. opened_after h.many (ahead mid bytes) ≡ Err r) fault (p.bytes, p.took) le
-        (IsAgainst has Many) events_against
-        (subst (λ (j : ManyJob). Stops (λ bytes r. opened_after j (ahead mid bytes) ≡ Err r) left' left'' m k mid now fault) same s)
+    pub events_stop : (many : ManyJob) (fault : InputFault Refusal) → many ≡ h.many
+        → Stops (λ bytes r. opened_after many (ahead mid.at bytes) ≡ Err r) mid now fault → Stops (IsAgainst has Many) (desk left n fresh) now fault
+    events_stop many fault same s =
+        stops_same (λ bytes r. opened_after h.many (ahead mid.at bytes) ≡ Err r) (IsAgainst has Many) (desk left n fresh) mid now p.bytes p.stands refl
+        events_against fault (subst (λ (j : ManyJob). Stops (λ bytes r. opened_after j (ahead mid.at bytes) ≡ Err r) mid now fault) same s)
 
     finish_is : (finish : Finish) → finish_told h.stage ≡ Some finish → finish ≡ p.finish
     finish_is finish e = let same : ◌≡◌ {A = Option Finish} (Some finish) (Some p.finish) = sym e ∙ ap finish_told p.stage in cc same
 
-    played : (gives : MayGive) (w : ManyState) (finish : Finish) → finish ≡ p.finish → AreRun gives h.many w left' left'' mid now
-        → Ends (λ bytes. IsManyPlayed has gives bytes h.many finish w) left left'' fresh now
+    played : (gives : MayGive) (w : ManyState) (finish : Finish) → finish ≡ p.finish → AreRun gives h.many w mid now
+        → Ends (λ bytes. IsManyPlayed has gives bytes h.many finish w) (desk left n fresh) now
     played gives w finish is k =
         let e = k.replayed.told in
         record {
           bytes = p.bytes ++ e.bytes;
-          took = took_on left left' left'' fresh.reading mid.reading now.reading p.bytes e.bytes p.took e.took;
-          can = not_over_yet has (p.bytes ++ e.bytes);
+          stands = stands_on (desk left n fresh) mid now p.bytes e.bytes p.stands e.stands;
+          can = can_come fresh (p.bytes ++ e.bytes) refl;
           told = record {
-            lines = ahead mid e.bytes;
+            lines = ahead mid.at e.bytes;
             events = k.replayed.events;
             new = k.new;
             is_headed = subst (λ (f : Finish). headed has (filled_lines 1 (lines_of (p.bytes ++ e.bytes)))
-                ≡ Ok (record { many = h.many; finish = f; lines = ahead mid e.bytes })) (sym is) (p.first e.bytes e.can);
+                ≡ Ok (record { many = h.many; finish = f; lines = ahead mid.at e.bytes })) (sym is) (p.first e.bytes e.can);
             are_told = e.told;
             begun = k.begun;
             gone = k.replayed.gone;
             can = k.replayed.can;
           };
-          within = e.within;
           ended = e.ended;
         }
 
     pub is_played : (gives : MayGive) (many : ManyJob) (w : ManyState) (finish : Finish) → many ≡ h.many → finish_told h.stage ≡ Some finish
-        → AreRun gives many w left' left'' mid now → Ends (λ bytes. IsManyPlayed has gives bytes many finish w) left left'' fresh now
+        → AreRun gives many w mid now → Ends (λ bytes. IsManyPlayed has gives bytes many finish w) (desk left n fresh) now
     is_played gives many w finish same told k =
-        subst (λ (j : ManyJob). Ends (λ bytes. IsManyPlayed has gives bytes j finish w) left left'' fresh now) (sym same)
-        (played gives w finish (finish_is finish told) (subst (λ (j : ManyJob). AreRun gives j w left' left'' mid now) same k))
+        subst (λ (j : ManyJob). Ends (λ bytes. IsManyPlayed has gives bytes j finish w) (desk left n fresh) now) (sym same)
+        (played gives w finish (finish_is finish told) (subst (λ (j : ManyJob). AreRun gives j w mid now) same k))
 
   -- What the command says whose input was read whole.
 
@@ -234,16 +218,17 @@ module _ (has : List ℕ → Bool) where
         ∙ ap (λ (z : Kept). let r : Result Written Refusal = Ok (many_written many z) in r) (sym state_is))
 
   pub says_many : (gives : MayGive) (left left' : Option (List ℕ)) (n m : ℕ) (taken taken' : Option (List ℕ)) (p q : ℕ) (now : At) (many : ManyJob)
-      (finish : Finish) (w last : ManyState) (status : Status) (e : Ends (λ bytes. IsManyPlayed has gives bytes many finish w) left left' fresh now)
+      (finish : Finish) (w last : ManyState) (status : Status)
+      (e : Ends (λ bytes. IsManyPlayed has gives bytes many finish w) (desk left n fresh) (desk left' m now))
       → AreSwaps many → HasManyGone gives (ended_by finish) w last → Writes taken taken' p q (many_written many (kept_of last)) status
       → Says (strategies has gives) Many (streams left n taken p) (streams left' m taken' q) status
   says_many gives left left' n m taken taken' p q now many finish w last status e swaps gone wrote =
       says_written has gives (by_many (λ s. answers_of (world_at last s))) Many left left' n m taken taken' p q (many_written many (kept_of last))
       (record {
         input = e.bytes;
-        taken = e.took.consumed;
+        taken = e.stands.took.consumed;
         ended = e.ended;
-        within = is_within has (λ bytes. IsManyPlayed has gives bytes many finish w) left left' now e;
+        within = is_within has (λ bytes. IsManyPlayed has gives bytes many finish w) left left' n m now e;
         gives = many_made gives e.bytes many finish w last e.told gone;
       })
       (is_many_run gives e.bytes many finish w last e.told gone swaps) status wrote

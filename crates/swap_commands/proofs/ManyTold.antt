@@ -1,5 +1,5 @@
 -- The lines of several swaps tell their chains, their swaps and their events, one line after another.
-use Rattle.std.proofs.Common.{◌≡◌, ◌≤◌, ℕ, ◌+◌, Bool, true, false, List, [], ◌∷◌, ◌++◌, is_some, Option, Result, Ok, Err, refl, sym}
+use Rattle.std.proofs.Common.{◌≡◌, ℕ, ◌+◌, Bool, true, false, List, [], ◌∷◌, ◌++◌, is_some, Result, Ok, Err, refl, sym}
 use Rattle.std.proofs.Common.{ap, ◌∙◌, subst, append_assoc, append-nil, fold, if◌then◌else◌}
 use Rattle.std.specs.List.{All}
 use Rattle.std.proofs.lemmas.List.Elements.{All-nil, All-push}
@@ -7,8 +7,6 @@ use Rattle.std.proofs.lemmas.List.Sums.{fold-append}
 use Rattle.swap_base.specs.Fault.{◌>>=◌, Fails}
 use Rattle.swap_base.specs.declared.fault.Fault.{Fault}
 use Rattle.swap_base.specs.declared.fault.Fault.TheVariants as offer
-use Rattle.swap_io.proofs.Handing.{rose_before}
-use Rattle.swap_io.specs.Lines.{TookSome}
 use Rattle.swap_job.specs.declared.job.Finish.{Finish}
 use Rattle.refusals.specs.declared.reason.Reason.TheVariants.{CutShort}
 use Rattle.refusals.specs.declared.refusal.Refusal.{Refusal}
@@ -25,13 +23,12 @@ use Rattle.many_lines.specs.declared.many_job.ManyJob.{ManyJob}
 use Rattle.many_lines.specs.declared.stage.Stage.{Stage}
 use Rattle.many_lines.specs.declared.stage.Stage.TheVariants.{First, Words, Header, Over}
 use Rattle.command_input.specs.declared.fault.InputFault.{InputFault}
-use Rattle.command_input.specs.declared.fault.InputFault.TheVariants.{Refused, ReadFault, TooLong, NoMemory}
-use Rattle.command_input.specs.Input.{At, Ends, EndsAt, IsLast, IsLine, Stops, Tells, ahead, fresh, limit}
+use Rattle.command_input.specs.declared.fault.InputFault.TheVariants.{Refused}
+use Rattle.command_input.specs.Input.{At, Desk, Ends, Fits, IsLast, IsLine, Stops, Tells, ahead}
 use Rattle.swap_commands.specs.Many.{Headed, events_told, headed, headed_on, left_with, opened_places}
 use Rattle.swap_commands.specs.ManyRead.{HasReplayed, HasStepped, IsHeading, IsReplayed, TellEvents, opened_after}
 use Rattle.command_input.specs.Faults.{of_offer}
-use Rattle.command_input.proofs.Ahead.{part_on, too_long_on}
-use Rattle.command_input.proofs.Streams.{IsStepAt, Led, led_none, led_on_at, led_to_end, led_to_fault_at, led_to_last}
+use Rattle.command_input.proofs.Streams.{IsStepAt, Led, led_none, led_on_at, led_to_end, led_to_fault_at, led_to_last, stops_as}
 
 -- What a walk gives that goes on, and one that stops.
 
@@ -68,18 +65,18 @@ module _ (has : List ℕ → Bool) where
   finish_of (Header before chains) e = absurd (cc e)
   finish_of (Over finish) e = (finish, refl)
 
-  pub heading_read : (left left' : Option (List ℕ)) (now : At) (count : ℕ) (h : HeadingState) → Led heading_walk left fresh unread left' now count h
-      → is_some (finish_told h.stage) ≡ true → IsHeading has h left left' now
-  heading_read left left' now count h p over =
+  pub heading_read : (first now : Desk) (count : ℕ) (h : HeadingState) → Led heading_walk first unread now count h
+      → is_some (finish_told h.stage) ≡ true → IsHeading has h first now
+  heading_read first now count h p over =
       let f = finish_of h.stage over in
       record {
         bytes = p.bytes;
-        took = p.took;
+        stands = p.stands;
         finish = f.0;
         stage = f.1;
         first = λ rest can.
-            p.leads rest can ∙ (ap (λ (s : Stage). headed_on has (record { many = h.many; stage = s }) (ahead now rest)) f.1
-            ∙ over_at h.many f.0 (ahead now rest));
+            p.leads rest can ∙ (ap (λ (s : Stage). headed_on has (record { many = h.many; stage = s }) (ahead now.at rest)) f.1
+            ∙ over_at h.many f.0 (ahead now.at rest));
       }
 
   -- the input ends before the line of the finish
@@ -89,15 +86,15 @@ module _ (has : List ℕ → Bool) where
   cut_at (Header before chains) e = refl
   cut_at (Over finish) e = absurd (cc e)
 
-  pub heading_cut : (left a b : Option (List ℕ)) (s t : At) (count n m : ℕ) (h : HeadingState) (fault : InputFault Refusal)
-      → fault ≡ Refused (refusal [] CutShort) → is_some (finish_told h.stage) ≡ false → Led heading_walk left fresh unread a s count h → IsLast a b s t
-      → t.reading.taken ≤ limit → EndsAt b t → Stops (λ bytes r. headed has (ahead fresh bytes) ≡ Err r) left b n m fresh t fault
-  heading_cut left a b s t count n m h fault is not_over p q within ended =
+  pub heading_cut : (first s t : Desk) (count : ℕ) (h : HeadingState) (fault : InputFault Refusal)
+      → fault ≡ Refused (refusal [] CutShort) → is_some (finish_told h.stage) ≡ false → Led heading_walk first unread s count h → IsLast s t
+      → Stops (λ bytes r. headed has (ahead first.at bytes) ≡ Err r) first t fault
+  heading_cut first s t count h fault is not_over p q =
       let P : Result Headed Refusal → Type 0 = λ r. r ≡ Err (refusal [] CutShort) in
       let says : P (left_with h []) = fails_with (finish_at h.stage) (λ f. Ok (record { many = h.many; finish = f; lines = [] })) (refusal [] CutShort)
       (cut_at h.stage not_over) in
-      subst (λ (f : InputFault Refusal). Stops (λ bytes r. headed has (ahead fresh bytes) ≡ Err r) left b n m fresh t f) (sym is)
-      (led_to_last heading_walk left fresh unread P a b s t count h says p q within ended)
+      subst (λ (f : InputFault Refusal). Stops (λ bytes r. headed has (ahead first.at bytes) ≡ Err r) first t f) (sym is)
+      (led_to_last heading_walk first unread P s t count h says p q)
 
 -- The lines of the events.
 
@@ -134,27 +131,11 @@ told_err : (many : ManyJob) (first : At) (bytes : List ℕ) (r : Refusal) → ga
     → events_told many 0 (ahead first bytes) ≡ Err r
 told_err many first bytes r e = sym (gathered_from many (ahead first bytes)) ∙ e
 
--- What stops a reading stops it whatever is said of it.
-pub stops_as : {R : Type 0} (P Q : List ℕ → R → Type 0) → ((bytes : List ℕ) (r : R) → P bytes r → Q bytes r) → (a b : Option (List ℕ)) (n m : ℕ) (s t : At)
-    (fault : InputFault R) → Stops P a b n m s t fault → Stops Q a b n m s t fault
-stops_as P Q f a b n m s t (Refused r) k = record {
-  bytes = k.bytes;
-  took = k.took;
-  can = k.can;
-  told = λ rest can. f (k.bytes ++ rest) r (k.told rest can);
-  within = k.within;
-  ended = k.ended;
-}
-stops_as P Q f a b n m s t ReadFault k = k
-stops_as P Q f a b n m s t TooLong k = k
-stops_as P Q f a b n m s t NoMemory k = k
-
-pub stops_told : (many : ManyJob) (a b : Option (List ℕ)) (n m : ℕ) (s t : At) (fault : InputFault Refusal)
-    → Stops (λ bytes r. gathered many 0 [] (ahead s bytes) ≡ Err r) a b n m s t fault
-    → Stops (λ bytes r. events_told many 0 (ahead s bytes) ≡ Err r) a b n m s t fault
-stops_told many a b n m s t fault k =
-    stops_as (λ bytes r. gathered many 0 [] (ahead s bytes) ≡ Err r) (λ bytes r. events_told many 0 (ahead s bytes) ≡ Err r) (told_err many s)
-    a b n m s t fault k
+pub stops_told : (many : ManyJob) (s t : Desk) (fault : InputFault Refusal)
+    → Stops (λ bytes r. gathered many 0 [] (ahead s.at bytes) ≡ Err r) s t fault → Stops (λ bytes r. events_told many 0 (ahead s.at bytes) ≡ Err r) s t fault
+stops_told many s t fault k =
+    stops_as (λ bytes r. gathered many 0 [] (ahead s.at bytes) ≡ Err r) (λ bytes r. events_told many 0 (ahead s.at bytes) ≡ Err r) (told_err many s.at)
+    s t fault k
 
 -- a line that tells no event
 pub gather_fails : (many : ManyJob) (n : ℕ) (done : List ManyEvent) (line : ℕ) (text : List ℕ) (fault : Fault Refusal)
@@ -171,27 +152,27 @@ unfolding gather
 gather_tells many n done line text event e = ap (λ (r : Result ManyEvent Refusal). r >>= λ e. Ok (done ++ e ∷ [])) e
 
 -- The worlds have come to where the events so far lead.
-pub record AreOn (gives : MayGive) (many : ManyJob) (old now : ManyState) (left left' : Option (List ℕ)) (first here : At) (count : ℕ) : Type 0 where
+pub record AreOn (gives : MayGive) (many : ManyJob) (old now : ManyState) (first here : Desk) (count : ℕ) : Type 0 where
   pub events : List ManyEvent
-  pub led : Led (gathered many) left first [] left' here count events
+  pub led : Led (gathered many) first [] here count events
   pub gone : HasReplayed gives events old now
   pub can : All (MayCome many) events
 
 -- The lines so far told events.
-pub record AreTelling (many : ManyJob) (left left' : Option (List ℕ)) (first here : At) (count : ℕ) : Type 0 where
+pub record AreTelling (many : ManyJob) (first here : Desk) (count : ℕ) : Type 0 where
   pub events : List ManyEvent
-  pub led : Led (gathered many) left first [] left' here count events
+  pub led : Led (gathered many) first [] here count events
 
-pub none_yet : (gives : MayGive) (many : ManyJob) (w : ManyState) (left : Option (List ℕ)) (first : At) → AreOn gives many w w left left first first 0
-none_yet gives many w left first = record {
+pub none_yet : (gives : MayGive) (many : ManyJob) (w : ManyState) (first : Desk) → Fits first.left first.at → AreOn gives many w w first first 0
+none_yet gives many w first fits = record {
   events = [];
-  led = led_none (gathered many) left first [];
+  led = led_none (gathered many) first [] fits;
   gone = begun gives w;
   can = All-nil (MayCome many);
 }
 
-pub telling_none : (many : ManyJob) (left : Option (List ℕ)) (first : At) → AreTelling many left left first first 0
-telling_none many left first = record { events = []; led = led_none (gathered many) left first [] }
+pub telling_none : (many : ManyJob) (first : Desk) → Fits first.left first.at → AreTelling many first first 0
+telling_none many first fits = record { events = []; led = led_none (gathered many) first [] fits }
 
 -- one more
 replayed_more : (gives : MayGive) (events : List ManyEvent) (event : ManyEvent) (old mid new : ManyState) → HasReplayed gives events old mid
@@ -201,82 +182,65 @@ replayed_more gives events event old mid new a b =
     (λ g. sym (fold-append (kept_step (setup_for old g)) (kept_of old) events (event ∷ [])))
     (gone_then gives (λ m z. fold (kept_step m) z events) (λ m z. fold (kept_step m) z (event ∷ [])) old mid new a b)
 
-pub one_more : (gives : MayGive) (many : ManyJob) (old mid new : ManyState) (left a b : Option (List ℕ)) (first s t : At) (count line : ℕ) (text : List ℕ)
-    → AreOn gives many old mid left a first s count → IsLine a b s t → line ≡ t.number → text ≡ t.text
-    → HasStepped gives many count line text mid new → AreOn gives many old new left b first t (count + 1)
-one_more gives many old mid new left a b first s t count line text on p number same k =
-    let told : next_told many count t.number t.text ≡ Ok k.event =
-    subst (λ (xs : List ℕ). next_told many count t.number xs ≡ Ok k.event) same (subst (λ n. next_told many count n text ≡ Ok k.event) number k.told) in
+pub one_more : (gives : MayGive) (many : ManyJob) (old mid new : ManyState) (first s t : Desk) (count line : ℕ) (text : List ℕ)
+    → AreOn gives many old mid first s count → IsLine s t → line ≡ t.at.number → text ≡ t.at.text
+    → HasStepped gives many count line text mid new → AreOn gives many old new first t (count + 1)
+one_more gives many old mid new first s t count line text on p number same k =
+    let told : next_told many count t.at.number t.at.text ≡ Ok k.event =
+    subst (λ (xs : List ℕ). next_told many count t.at.number xs ≡ Ok k.event) same (subst (λ n. next_told many count n text ≡ Ok k.event) number k.told) in
     record {
       events = on.events ++ k.event ∷ [];
-      led = led_on_at (gathered many) left first [] (gather many) a b s t count on.events (on.events ++ k.event ∷ []) (gather_step many count on.events)
-          on.led p (gather_tells many count on.events t.number t.text k.event told);
+      led = led_on_at (gathered many) first [] (gather many) s t count on.events (on.events ++ k.event ∷ []) (gather_step many count on.events)
+          on.led p (gather_tells many count on.events t.at.number t.at.text k.event told);
       gone = replayed_more gives on.events k.event old mid new on.gone k.gone;
       can = All-push (MayCome many) on.events k.event on.can k.can;
     }
 
-pub one_told : (many : ManyJob) (left a b : Option (List ℕ)) (first s t : At) (count line : ℕ) (text : List ℕ) (event : ManyEvent)
-    → AreTelling many left a first s count → IsLine a b s t → line ≡ t.number → text ≡ t.text → next_told many count line text ≡ Ok event
-    → AreTelling many left b first t (count + 1)
-one_told many left a b first s t count line text event on p number same e =
-    let told : next_told many count t.number t.text ≡ Ok event =
-    subst (λ (xs : List ℕ). next_told many count t.number xs ≡ Ok event) same (subst (λ n. next_told many count n text ≡ Ok event) number e) in
+pub one_told : (many : ManyJob) (first s t : Desk) (count line : ℕ) (text : List ℕ) (event : ManyEvent)
+    → AreTelling many first s count → IsLine s t → line ≡ t.at.number → text ≡ t.at.text → next_told many count line text ≡ Ok event
+    → AreTelling many first t (count + 1)
+one_told many first s t count line text event on p number same e =
+    let told : next_told many count t.at.number t.at.text ≡ Ok event =
+    subst (λ (xs : List ℕ). next_told many count t.at.number xs ≡ Ok event) same (subst (λ n. next_told many count n text ≡ Ok event) number e) in
     record {
       events = on.events ++ event ∷ [];
-      led = led_on_at (gathered many) left first [] (gather many) a b s t count on.events (on.events ++ event ∷ []) (gather_step many count on.events)
-          on.led p (gather_tells many count on.events t.number t.text event told);
+      led = led_on_at (gathered many) first [] (gather many) s t count on.events (on.events ++ event ∷ []) (gather_step many count on.events)
+          on.led p (gather_tells many count on.events t.at.number t.at.text event told);
     }
 
 -- a line that tells no event stops the reading
-pub line_refused : (many : ManyJob) (left a b : Option (List ℕ)) (first s t : At) (count n m line : ℕ) (text : List ℕ) (events : List ManyEvent)
-    (fault : Fault Refusal) → Led (gathered many) left first [] a s count events → IsLine a b s t → line ≡ t.number → text ≡ t.text
-    → Fails fault (next_told many count line text) → t.reading.taken ≤ limit → EndsAt b t
-    → Stops (λ bytes r. events_told many 0 (ahead first bytes) ≡ Err r) left b n m first t (of_offer fault)
-line_refused many left a b first s t count n m line text events fault led p number same fails within ended =
-    let e : Fails fault (next_told many count t.number t.text) =
-    subst (λ (xs : List ℕ). Fails fault (next_told many count t.number xs)) same (subst (λ k. Fails fault (next_told many count k text)) number fails) in
-    stops_told many left b n m first t (of_offer fault)
-    (led_to_fault_at (gathered many) left first [] (gather many) a b s t count events n m fault (gather_step many count events) led p
-    (gather_fails many count events t.number t.text fault e) within ended)
+pub line_refused : (many : ManyJob) (first s t : Desk) (count line : ℕ) (text : List ℕ) (events : List ManyEvent)
+    (fault : Fault Refusal) → Led (gathered many) first [] s count events → IsLine s t → line ≡ t.at.number → text ≡ t.at.text
+    → Fails fault (next_told many count line text) → Stops (λ bytes r. events_told many 0 (ahead first.at bytes) ≡ Err r) first t (of_offer fault)
+line_refused many first s t count line text events fault led p number same fails =
+    let e : Fails fault (next_told many count t.at.number t.at.text) =
+    subst (λ (xs : List ℕ). Fails fault (next_told many count t.at.number xs)) same (subst (λ k. Fails fault (next_told many count k text)) number fails) in
+    stops_told many first t (of_offer fault)
+    (led_to_fault_at (gathered many) first [] (gather many) s t count events fault (gather_step many count events) led p
+    (gather_fails many count events t.at.number t.at.text fault e))
 
 -- the end of the input
-ends_told : (many : ManyJob) (left a b : Option (List ℕ)) (first s t : At) (count : ℕ) (events : List ManyEvent)
-    → Led (gathered many) left first [] a s count events → IsLast a b s t → t.reading.taken ≤ limit → EndsAt b t
-    → Ends (λ bytes. events_told many 0 (ahead first bytes) ≡ Ok events) left b first t
-ends_told many left a b first s t count events led q within ended =
-    let e = led_to_end (gathered many) left first [] (λ y. y) (gathered_none many) a b s t count events led q within ended in
-    record {
-      bytes = e.bytes;
-      took = e.took;
-      can = e.can;
-      told = sym (gathered_from many (ahead first e.bytes)) ∙ e.told;
-      within = e.within;
-      ended = e.ended;
-    }
+ends_told : (many : ManyJob) (first s t : Desk) (count : ℕ) (events : List ManyEvent) → Led (gathered many) first [] s count events → IsLast s t
+    → Ends (λ bytes. events_told many 0 (ahead first.at bytes) ≡ Ok events) first t
+ends_told many first s t count events led q =
+    let e = led_to_end (gathered many) first [] (λ y. y) (gathered_none many) s t count events led q in
+    record { bytes = e.bytes; stands = e.stands; can = e.can; told = sym (gathered_from many (ahead first.at e.bytes)) ∙ e.told; ended = e.ended }
 
-pub are_replayed : (gives : MayGive) (many : ManyJob) (old new : ManyState) (left a b : Option (List ℕ)) (first s t : At) (count : ℕ)
-    → AreOn gives many old new left a first s count → IsLast a b s t → t.reading.taken ≤ limit → EndsAt b t
-    → IsReplayed gives many old new left b first t
-are_replayed gives many old new left a b first s t count on q within ended = record {
-  events = on.events;
-  told = ends_told many left a b first s t count on.events on.led q within ended;
-  gone = on.gone;
-  can = on.can;
-}
+pub are_replayed : (gives : MayGive) (many : ManyJob) (old new : ManyState) (first s t : Desk) (count : ℕ)
+    → AreOn gives many old new first s count → IsLast s t → IsReplayed gives many old new first t
+are_replayed gives many old new first s t count on q =
+    record { events = on.events; told = ends_told many first s t count on.events on.led q; gone = on.gone; can = on.can }
 
-pub all_told : (many : ManyJob) (left a b : Option (List ℕ)) (first s t : At) (count : ℕ) → AreTelling many left a first s count → IsLast a b s t
-    → t.reading.taken ≤ limit → EndsAt b t → Tells (TellEvents many first) left b first t
-all_told many left a b first s t count on q within ended =
+pub all_told : (many : ManyJob) (first s t : Desk) (count : ℕ) → AreTelling many first s count → IsLast s t → Tells (TellEvents many first.at) first t
+all_told many first s t count on q =
     let P : Result (List ManyEvent) Refusal → Type 0 = λ r. (events : List ManyEvent) × (r ≡ Ok events) in
-    let k = led_to_last (gathered many) left first [] P a b s t count on.events (on.events, gathered_none many count on.events) on.led q within ended in
+    let k = led_to_last (gathered many) first [] P s t count on.events (on.events, gathered_none many count on.events) on.led q in
     record {
       bytes = k.bytes;
-      took = k.took;
+      stands = k.stands;
       can = k.can;
       told = λ rest can.
-          let e = k.told rest can in (e.0, sym (gathered_from many (ahead first (k.bytes ++ rest))) ∙ e.1);
-      within = k.within;
-      ended = k.ended;
+          let e = k.told rest can in (e.0, sym (gathered_from many (ahead first.at (k.bytes ++ rest))) ∙ e.1);
     }
 
 -- What is said of accounts, after what is said of every line.
@@ -288,31 +252,18 @@ after_told : (many : ManyJob) (ls : List (ℕ × List ℕ)) (events : List ManyE
     → opened_after many ls ≡ Err r
 after_told many ls events r e f = ap (λ (x : Result (List ManyEvent) Refusal). x >>= λ es. opened_places many) e ∙ f
 
-pub refused_after : (many : ManyJob) (a b : Option (List ℕ)) (s t : At) (r : Refusal) → opened_places many ≡ Err r → Tells (TellEvents many s) a b s t
-    → Tells (λ bytes. opened_after many (ahead s bytes) ≡ Err r) a b s t
-refused_after many a b s t r refused k = record {
+pub refused_after : (many : ManyJob) (s t : Desk) (r : Refusal) → opened_places many ≡ Err r → Tells (TellEvents many s.at) s t
+    → Tells (λ bytes. opened_after many (ahead s.at bytes) ≡ Err r) s t
+refused_after many s t r refused k = record {
   bytes = k.bytes;
-  took = k.took;
+  stands = k.stands;
   can = k.can;
   told = λ rest can.
-      let e = k.told rest can in after_told many (ahead s (k.bytes ++ rest)) e.0 r e.1 refused;
-  within = k.within;
-  ended = k.ended;
+      let e = k.told rest can in after_told many (ahead s.at (k.bytes ++ rest)) e.0 r e.1 refused;
 }
 
-pub stops_after : (many : ManyJob) (a b : Option (List ℕ)) (n m : ℕ) (s t : At) (fault : InputFault Refusal)
-    → Stops (λ bytes r. events_told many 0 (ahead s bytes) ≡ Err r) a b n m s t fault
-    → Stops (λ bytes r. opened_after many (ahead s bytes) ≡ Err r) a b n m s t fault
-stops_after many a b n m s t fault k =
-    stops_as (λ bytes r. events_told many 0 (ahead s bytes) ≡ Err r) (λ bytes r. opened_after many (ahead s bytes) ≡ Err r)
-    (λ bytes r e. after_events many (ahead s bytes) r e) a b n m s t fault k
-
--- a fault of the reading after the lines before the events
-pub stops_later : (left a b : Option (List ℕ)) (n m k : ℕ) (r s t : At) (P : List ℕ → Refusal → Type 0) (fault : InputFault Refusal)
-    → TookSome left a r.reading s.reading → n ≤ m → (Q : List ℕ → Refusal → Type 0)
-    → ((refusal : Refusal) → Tells (λ bytes. P bytes refusal) a b s t → Tells (λ bytes. Q bytes refusal) left b r t)
-    → Stops P a b m k s t fault → Stops Q left b n k r t fault
-stops_later left a b n m k r s t P (Refused refusal) took le Q f h = f refusal h
-stops_later left a b n m k r s t P ReadFault took le Q f h = (rose_before n m k le h.0, part_on left a b r s t took h.1)
-stops_later left a b n m k r s t P TooLong took le Q f h = too_long_on left a b r s t took h
-stops_later left a b n m k r s t P NoMemory took le Q f h = part_on left a b r s t took h
+pub stops_after : (many : ManyJob) (s t : Desk) (fault : InputFault Refusal)
+    → Stops (λ bytes r. events_told many 0 (ahead s.at bytes) ≡ Err r) s t fault → Stops (λ bytes r. opened_after many (ahead s.at bytes) ≡ Err r) s t fault
+stops_after many s t fault k =
+    stops_as (λ bytes r. events_told many 0 (ahead s.at bytes) ≡ Err r) (λ bytes r. opened_after many (ahead s.at bytes) ≡ Err r)
+    (λ bytes r e. after_events many (ahead s.at bytes) r e) s t fault k

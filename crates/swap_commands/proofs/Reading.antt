@@ -1,11 +1,9 @@
 -- What is said against an input that is read line by line.
 use Rattle.std.proofs.Common.{◌≡◌, ◌≤◌, ℕ, Bool, true, false, List, [], ◌∷◌, ◌++◌, length, Option, Result, Ok, Err, refl, sym, ap, ◌∙◌, subst}
-use Rattle.std.proofs.Common.{arith, append_assoc, append-nil}
+use Rattle.std.proofs.Common.{arith, append-nil}
 use Rattle.swap_base.specs.Fault.{◌>>=◌, Fails}
 use Rattle.swap_base.specs.declared.fault.Fault.{Fault}
 use Rattle.swap_base.specs.declared.fault.Fault.TheVariants as offer
-use Rattle.swap_io.proofs.Feeds.{took_on}
-use Rattle.swap_io.proofs.Handing.{rose_before}
 use Rattle.ledger_core.specs.Book.{Histories}
 use Rattle.swap_job.specs.declared.job.Job.{Job}
 use Rattle.swap_job.specs.declared.job.Purpose.{Purpose}
@@ -22,10 +20,10 @@ use Rattle.swap_run.specs.Asked.{Answers}
 use Rattle.swap_world.specs.Cast.{cast_of}
 use Rattle.swap_world.specs.Gone.{MayGive}
 use Rattle.command_input.specs.declared.fault.InputFault.{InputFault}
-use Rattle.command_input.specs.declared.fault.InputFault.TheVariants.{Refused, ReadFault, TooLong, NoMemory}
+use Rattle.command_input.specs.declared.fault.InputFault.TheVariants.{Refused}
 use Rattle.swap_commands.specs.Words.{OfJob, JobCommand, Check, Run, Race, Make}
 use Rattle.command_input.specs.Faults.{named_fault, of_offer}
-use Rattle.command_input.specs.Input.{At, CanBeLeft, Ends, EndsAt, GivesLine, IsLast, IsLine, Stops, Tells, ahead, fresh, limit}
+use Rattle.command_input.specs.Input.{At, Desk, Ends, GivesLine, IsLast, IsLine, Stops, Tells, ahead, desk, fresh, limit}
 use Rattle.swap_gen.specs.Made.{made}
 use Rattle.made_jobs.specs.Making.{copied, written_line}
 use Rattle.swap_commands.specs.Output.{Chance, by_answers, by_book, cast_by, finished, names_of, no_chance, output_by, purpose_of, reported, told, plain_text}
@@ -35,8 +33,8 @@ use Rattle.swap_commands.specs.Replay.{of_race, of_run, passed_over, replayed, I
 use Rattle.swap_commands.specs.Says.{IsAgainst}
 use Rattle.command_input.specs.Written.{Written}
 use Rattle.swap_commands.proofs.Replays.{of_input, replay_fails}
-use Rattle.command_input.proofs.Ahead.{part_on, too_long_on}
-use Rattle.command_input.proofs.Streams.{last_of, line_of}
+use Rattle.command_input.proofs.Ahead.{stands_on}
+use Rattle.command_input.proofs.Streams.{can_come, last_of, line_of, no_memory_after, stops_on}
 
 module _ (has : List ℕ → Bool) where
   -- The lines of an input, and what is written for them.
@@ -147,106 +145,83 @@ module _ (has : List ℕ → Bool) where
   making_of_bytes bytes ls output e p = subst (λ (xs : List (ℕ × List ℕ)). IsMaking (job_of_lines has purposes.Make xs) output) (sym e) p
 
   -- the whole input was read, and it is no longer than it may be
-  pub is_within : (P : List ℕ → Type 0) (left left' : Option (List ℕ)) (now : At) (e : Ends P left left' fresh now) → length e.bytes ≤ limit
-  is_within P left left' now e = omega (arith, e.took.counted, e.within)
+  pub is_within : (P : List ℕ → Type 0) (left left' : Option (List ℕ)) (n m : ℕ) (now : At) (e : Ends P (desk left n fresh) (desk left' m now))
+      → length e.bytes ≤ limit
+  is_within P left left' n m now e = omega (arith, e.stands.took.counted, e.stands.fits.within)
 
   -- What is said against an input.
 
-  -- the end wasn't met before the first line
-  pub not_over_yet : (rest : List ℕ) → CanBeLeft fresh rest
-  not_over_yet rest over = absurd (cc over)
-
   -- it has no line
-  pub against_empty : (command : JobCommand) (left left' : Option (List ℕ)) (now : At) (p : IsLast left left' fresh now) → now.reading.taken ≤ limit
-      → EndsAt left' now
-      → Tells (λ bytes. IsAgainst has (OfJob command) bytes (record { reason = NotJson 1; names = [] })) left left' fresh now
-  against_empty command left left' now p within ended = record {
-    bytes = p.bytes;
-    took = p.took;
-    can = λ rest can. not_over_yet (p.bytes ++ rest);
-    told = λ rest can.
-        let e : filled_lines 1 (lines_of (p.bytes ++ rest)) ≡ [] = ap (λ (xs : List ℕ). filled_lines 1 (lines_of (p.bytes ++ xs))) (can p.met)
-        ∙ ap (λ (xs : List ℕ). filled_lines 1 (lines_of xs)) (append-nil p.bytes) ∙ p.none in
-        (by_lines no_chance command (p.bytes ++ rest) [] e, sym (names_by command (p.bytes ++ rest) [] e));
-    within = within;
-    ended = ended;
-  }
+  pub empty_stops : (command : JobCommand) (more : Bool) (left : Option (List ℕ)) (n : ℕ) (s : At) (now : Desk) (fault : InputFault Refusal) → s ≡ fresh
+      → more ≡ false → GivesLine more (desk left n s) now → fault ≡ Refused (record { reason = NotJson 1; names = [] })
+      → Stops (IsAgainst has (OfJob command)) (desk left n fresh) now fault
+  empty_stops command more left n s now fault first none gives is =
+      let old : Desk = desk left n fresh in
+      let p : IsLast old now = last_of more old now none (subst (λ (x : At). GivesLine more (desk left n x) now) first gives) in
+      let t : Tells (λ bytes. IsAgainst has (OfJob command) bytes (record { reason = NotJson 1; names = [] })) old now = record {
+        bytes = p.bytes;
+        stands = p.stands;
+        can = λ rest can. can_come fresh (p.bytes ++ rest) refl;
+        told = λ rest can.
+            let e : filled_lines 1 (lines_of (p.bytes ++ rest)) ≡ [] = ap (λ (xs : List ℕ). filled_lines 1 (lines_of (p.bytes ++ xs))) (can p.met)
+            ∙ ap (λ (xs : List ℕ). filled_lines 1 (lines_of xs)) (append-nil p.bytes) ∙ p.none in
+            (by_lines no_chance command (p.bytes ++ rest) [] e, sym (names_by command (p.bytes ++ rest) [] e));
+      } in
+      subst (λ (f : InputFault Refusal). Stops (IsAgainst has (OfJob command)) old now f) (sym is) t
 
   -- its header is refused
-  pub against_header : (command : JobCommand) (left left' : Option (List ℕ)) (now : At) (fault : Fault Refusal) (n m : ℕ) (p : IsLine left left' fresh now)
-      → now.reading.taken ≤ limit → EndsAt left' now
-      → Fails fault (named (names_at has (purpose_of command) now.number now.text) (job_header_of has (purpose_of command) now.number now.text))
-      → Stops (IsAgainst has (OfJob command)) left left' n m fresh now (of_offer fault)
-  against_header command left left' now offer.NoMemory n m p within ended fails = ((p.bytes, p.took), within)
-  against_header command left left' now (offer.Refused r) n m p within ended fails =
-      let h = named_err (names_at has (purpose_of command) now.number now.text) (job_header_of has (purpose_of command) now.number now.text) r fails in
+  against_header : (command : JobCommand) (left : Option (List ℕ)) (n : ℕ) (now : Desk) (fault : Fault Refusal) → IsLine (desk left n fresh) now
+      → Fails fault (named (names_at has (purpose_of command) now.at.number now.at.text) (job_header_of has (purpose_of command) now.at.number now.at.text))
+      → Stops (IsAgainst has (OfJob command)) (desk left n fresh) now (of_offer fault)
+  against_header command left n now offer.NoMemory p fails = no_memory_after (desk left n fresh) now p.bytes p.stands
+  against_header command left n now (offer.Refused r) p fails =
+      let line = now.at.number in
+      let text = now.at.text in
+      let h = named_err (names_at has (purpose_of command) line text) (job_header_of has (purpose_of command) line text) r fails in
       record {
         bytes = p.bytes;
-        took = p.took;
-        can = λ rest can. not_over_yet (p.bytes ++ rest);
+        stands = p.stands;
+        can = λ rest can. can_come fresh (p.bytes ++ rest) refl;
         told = λ rest can.
             let e = p.first rest can in (
-              by_lines no_chance command (p.bytes ++ rest) ((now.number, now.text) ∷ ahead now rest) e
-                  ∙ header_fails command now.number now.text (ahead now rest) r.reason h.0,
-              h.1 ∙ sym (names_by command (p.bytes ++ rest) ((now.number, now.text) ∷ ahead now rest) e),
+              by_lines no_chance command (p.bytes ++ rest) ((line, text) ∷ ahead now.at rest) e
+                  ∙ header_fails command line text (ahead now.at rest) r.reason h.0,
+              h.1 ∙ sym (names_by command (p.bytes ++ rest) ((line, text) ∷ ahead now.at rest) e),
             );
-        within = within;
-        ended = ended;
       }
 
-  -- The same by what calls answered.
-
-  pub empty_stops : (command : JobCommand) (more : Bool) (left left' : Option (List ℕ)) (n m : ℕ) (old now : At) (fault : InputFault Refusal) → old ≡ fresh
-      → more ≡ false → GivesLine more left left' old now → now.reading.taken ≤ limit → EndsAt left' now
-      → fault ≡ Refused (record { reason = NotJson 1; names = [] }) → Stops (IsAgainst has (OfJob command)) left left' n m fresh now fault
-  empty_stops command more left left' n m old now fault first none gives within ended is =
-      let p : IsLast left left' fresh now = last_of more left left' fresh now none (subst (λ (s : At). GivesLine more left left' s now) first gives) in
-      let t = against_empty command left left' now p within ended in
-      subst (λ (f : InputFault Refusal). Stops (IsAgainst has (OfJob command)) left left' n m fresh now f) (sym is) t
-
-  pub header_stops : (command : JobCommand) (more : Bool) (left left' : Option (List ℕ)) (n m : ℕ) (old now : At) (fault : Fault Refusal) (purpose : Purpose)
-      (line : ℕ) (text : List ℕ) → old ≡ fresh → more ≡ true → GivesLine more left left' old now → now.reading.taken ≤ limit → EndsAt left' now
-      → purpose ≡ purpose_of command → line ≡ now.number → text ≡ now.text
-      → Fails fault (named (names_at has purpose line text) (job_header_of has purpose line text))
-      → Stops (IsAgainst has (OfJob command)) left left' n m fresh now (of_offer fault)
-  header_stops command more left left' n m old now fault purpose line text first some gives within ended asked number same fails =
-      let p : IsLine left left' fresh now = line_of more left left' fresh now some (subst (λ (s : At). GivesLine more left left' s now) first gives) in
+  pub header_stops : (command : JobCommand) (more : Bool) (left : Option (List ℕ)) (n : ℕ) (s : At) (now : Desk) (fault : Fault Refusal) (purpose : Purpose)
+      (line : ℕ) (text : List ℕ) → s ≡ fresh → more ≡ true → GivesLine more (desk left n s) now → purpose ≡ purpose_of command
+      → line ≡ now.at.number → text ≡ now.at.text → Fails fault (named (names_at has purpose line text) (job_header_of has purpose line text))
+      → Stops (IsAgainst has (OfJob command)) (desk left n fresh) now (of_offer fault)
+  header_stops command more left n s now fault purpose line text first some gives asked number same fails =
+      let p : IsLine (desk left n fresh) now =
+      line_of more (desk left n fresh) now some (subst (λ (x : At). GivesLine more (desk left n x) now) first gives) in
       let f : Fails fault (named (names_at has (purpose_of command) line text) (job_header_of has (purpose_of command) line text)) =
       subst (λ (q : Purpose). Fails fault (named (names_at has q line text) (job_header_of has q line text))) asked fails in
-      let g : Fails fault (named (names_at has (purpose_of command) now.number text) (job_header_of has (purpose_of command) now.number text)) =
+      let g : Fails fault (named (names_at has (purpose_of command) now.at.number text) (job_header_of has (purpose_of command) now.at.number text)) =
       subst (λ (k : ℕ). Fails fault (named (names_at has (purpose_of command) k text) (job_header_of has (purpose_of command) k text))) number f in
-      against_header command left left' now fault n m p within ended
-      (subst (λ (t : List ℕ). Fails fault (named (names_at has (purpose_of command) now.number t)
-      (job_header_of has (purpose_of command) now.number t))) same g)
+      against_header command left n now fault p
+      (subst (λ (t : List ℕ). Fails fault (named (names_at has (purpose_of command) now.at.number t)
+      (job_header_of has (purpose_of command) now.at.number t))) same g)
 
   -- A further line of it is refused, after its header was read.
-  module _ {A : Type 0} (walk : List (ℕ × List ℕ) → Result A Reason) (command : JobCommand) (left left' left'' : Option (List ℕ)) (mid now : At) where
-    abbrev pub IsLineAgainst : List ℕ → Reason → Type 0
-    IsLineAgainst bytes reason = walk (ahead mid bytes) ≡ Err reason
-
-    pub against_event : ((ls : List (ℕ × List ℕ)) (reason : Reason) → walk ls ≡ Err reason
-        → of_header has no_chance command mid.number mid.text ls ≡ Err reason) → (names : List (List ℕ))
-        → names ≡ names_at has (purpose_of command) mid.number mid.text
-        → (fault : InputFault Reason) (n m k : ℕ) (p : IsLine left left' fresh mid) → n ≤ m → Stops IsLineAgainst left' left'' m k mid now fault
-        → Stops (IsAgainst has (OfJob command)) left left'' n k fresh now (named_fault names fault)
-    against_event says names called (Refused reason) n m k p le s = record {
-      bytes = p.bytes ++ s.bytes;
-      took = took_on left left' left'' fresh.reading mid.reading now.reading p.bytes s.bytes p.took s.took;
-      can = λ rest can. not_over_yet ((p.bytes ++ s.bytes) ++ rest);
-      told = λ rest can.
-          let bytes : List ℕ = (p.bytes ++ s.bytes) ++ rest in
-          let e : filled_lines 1 (lines_of bytes) ≡ (mid.number, mid.text) ∷ ahead mid (s.bytes ++ rest) =
-          ap (λ (xs : List ℕ). filled_lines 1 (lines_of xs)) (append_assoc p.bytes s.bytes rest) ∙ p.first (s.bytes ++ rest) (s.can rest can) in (
-            by_lines no_chance command bytes ((mid.number, mid.text) ∷ ahead mid (s.bytes ++ rest)) e
-                ∙ says (ahead mid (s.bytes ++ rest)) reason (s.told rest can),
-            called ∙ sym (names_by command bytes ((mid.number, mid.text) ∷ ahead mid (s.bytes ++ rest)) e),
-          );
-      within = s.within;
-      ended = s.ended;
-    }
-    against_event says names called ReadFault n m k p le s = (rose_before n m k le s.0, part_on left left' left'' fresh mid now (p.bytes, p.took) s.1)
-    against_event says names called TooLong n m k p le s = too_long_on left left' left'' fresh mid now (p.bytes, p.took) s
-    against_event says names called NoMemory n m k p le s = part_on left left' left'' fresh mid now (p.bytes, p.took) s
+  pub against_event : {A : Type 0} (walk : List (ℕ × List ℕ) → Result A Reason) (command : JobCommand) (left : Option (List ℕ)) (n : ℕ) (mid now : Desk)
+      (names : List (List ℕ))
+      → ((ls : List (ℕ × List ℕ)) (reason : Reason) → walk ls ≡ Err reason → of_header has no_chance command mid.at.number mid.at.text ls ≡ Err reason)
+      → names ≡ names_at has (purpose_of command) mid.at.number mid.at.text → IsLine (desk left n fresh) mid → (fault : InputFault Reason)
+      → Stops (λ bytes reason. walk (ahead mid.at bytes) ≡ Err reason) mid now fault
+      → Stops (IsAgainst has (OfJob command)) (desk left n fresh) now (named_fault names fault)
+  against_event walk command left n mid now names says called p fault s =
+      stops_on (λ bytes reason. walk (ahead mid.at bytes) ≡ Err reason) (IsAgainst has (OfJob command)) (desk left n fresh) mid now p.bytes p.stands refl
+      (λ reason. record { reason = reason; names = names })
+      (λ bytes reason can fails.
+      let e = p.first bytes can in
+      let ls : List (ℕ × List ℕ) = (mid.at.number, mid.at.text) ∷ ahead mid.at bytes in (
+        by_lines no_chance command (p.bytes ++ bytes) ls e ∙ says (ahead mid.at bytes) reason fails,
+        called ∙ sym (names_by command (p.bytes ++ bytes) ls e),
+      ))
+      fault s
 
   -- what the events of a run, a race and a check say against it
   pub run_says : (transcript : Bool) (n : ℕ) (t : List ℕ) (job : Job) → job_header_of has purposes.Run n t ≡ Ok job → (ls : List (ℕ × List ℕ)) (reason : Reason)
@@ -268,15 +243,21 @@ module _ (has : List ℕ → Bool) where
   make_says n t job h ls reason e = make_by n t ls job (Err reason) h e
 
   -- the header and then the further lines were read
-  pub is_read : {A : Type 0} (purpose : Purpose) (walk : Job → List (ℕ × List ℕ) → Result A Reason) (left left' left'' : Option (List ℕ)) (mid now : At)
-      (job : Job) (y : A) (p : IsLine left left' fresh mid)
-      → job_header_of has purpose mid.number mid.text ≡ Ok job → (e : Ends (λ bytes. walk job (ahead mid bytes) ≡ Ok y) left' left'' mid now)
-      → Ends (λ bytes. IsRead has purpose walk bytes job y) left left'' fresh now
-  is_read purpose walk left left' left'' mid now job y p h e = record {
+  pub is_read : {A : Type 0} (purpose : Purpose) (walk : Job → List (ℕ × List ℕ) → Result A Reason) (left : Option (List ℕ)) (n : ℕ) (mid now : Desk)
+      (job : Job) (y : A) (p : IsLine (desk left n fresh) mid)
+      → job_header_of has purpose mid.at.number mid.at.text ≡ Ok job → (e : Ends (λ bytes. walk job (ahead mid.at bytes) ≡ Ok y) mid now)
+      → Ends (λ bytes. IsRead has purpose walk bytes job y) (desk left n fresh) now
+  is_read purpose walk left n mid now job y p h e = record {
     bytes = p.bytes ++ e.bytes;
-    took = took_on left left' left'' fresh.reading mid.reading now.reading p.bytes e.bytes p.took e.took;
-    can = not_over_yet (p.bytes ++ e.bytes);
-    told = record { line = mid.number; text = mid.text; others = ahead mid e.bytes; lines = p.first e.bytes e.can; header = h; leads = e.told };
-    within = e.within;
+    stands = stands_on (desk left n fresh) mid now p.bytes e.bytes p.stands e.stands;
+    can = can_come fresh (p.bytes ++ e.bytes) refl;
+    told = record {
+      line = mid.at.number;
+      text = mid.at.text;
+      others = ahead mid.at e.bytes;
+      lines = p.first e.bytes e.can;
+      header = h;
+      leads = e.told;
+    };
     ended = e.ended;
   }

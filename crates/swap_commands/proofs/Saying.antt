@@ -1,9 +1,8 @@
 -- What a command's status says, by how its parts ended.
-use Rattle.std.proofs.Common.{◌≡◌, ◌+◌, ◌++◌, inl, inr, ℕ, Bool, List, [], ◌∷◌, Option, Ok, refl, sym, ap, ◌∙◌, arith}
-use Rattle.std.proofs.KnownBytes.{Consumes-nil}
+use Rattle.std.proofs.Common.{◌≡◌, ◌+◌, inl, inr, ℕ, Bool, List, [], ◌∷◌, Option, Ok, refl, sym, ap, ◌∙◌, arith}
+use Rattle.std.proofs.KnownBytes.{Consumes-nil, Keeps-refl}
 use Rattle.std.specs.Io.KnownBytes.{Keeps}
 use Rattle.swap_io.specs.Causes.{ConsumesAtMost, ConsumesSome}
-use Rattle.swap_io.proofs.Feeds.{took_on}
 use Rattle.refusals.specs.declared.refusal.Refusal.{Refusal}
 use Rattle.ledger_core.specs.Book.{Histories}
 use Rattle.swap_job.specs.declared.job.Job.{Job}
@@ -24,10 +23,14 @@ use Rattle.outcome_rules.specs.Promises.{AllAreConforming}
 use Rattle.made_jobs.specs.Making.{IsMade}
 use Rattle.swap_commands.specs.Entered.{HasEntered}
 use Rattle.swap_commands.specs.Replay.{IsChecked, IsConcluded, IsEntered, IsPlayed, IsCopied}
-use Rattle.command_input.specs.Input.{Ends, At, IsDrained, IsPart, IsTooLong, Tells, fresh, limit}
+use Rattle.command_input.specs.Faults.{unread}
+use Rattle.command_input.specs.Input.{At, Drains, Ends, HasStopped, IsPart, IsTooLong, Stops, desk, fresh, limit}
+use Rattle.command_input.specs.declared.fault.InputFault.{InputFault}
+use Rattle.command_input.specs.declared.fault.InputFault.TheVariants as fault
+use Rattle.command_input.proofs.Streams.{calm_unread, has_stopped}
 use Rattle.swap_commands.specs.Output.{AreGiven, Chance, by_answers, by_book, cast_by, finished, no_chance, output_by, reported, told, plain_text}
 use Rattle.swap_commands.specs.Promised.{AsPromised}
-use Rattle.swap_commands.specs.Says.{HasRead, HasReason, IsAgainst, Says, Unread}
+use Rattle.swap_commands.specs.Says.{HasRead, IsAgainst, Says}
 use Rattle.command_input.specs.Written.{Writes, Written}
 use Rattle.swap_commands.specs.Words.{Command, OfJob, Check, Run, Race, Make}
 use Rattle.command_input.specs.declared.status.Status.{Status}
@@ -39,12 +42,16 @@ use Rattle.swap_commands.proofs.Reading.{gives_make, making_of_bytes}
 use Rattle.swap_commands.specs.Strategies.{strategies}
 
 -- no more was taken than an input may have
-pub is_consumed : (left left' : Option (List ℕ)) (now : At) → IsPart left left' fresh now → ConsumesAtMost left left' limit
-is_consumed left left' now t = (t.0.0, omega (arith, t.0.1.counted, t.1), t.0.1.consumed)
+pub is_consumed : (left left' : Option (List ℕ)) (n m : ℕ) (now : At) → IsPart (desk left n fresh) (desk left' m now) → ConsumesAtMost left left' limit
+is_consumed left left' n m now t = (t.0.0, omega (arith, t.0.1.counted, t.1), t.0.1.consumed)
 
 -- nothing was taken
 pub none_consumed : (left : Option (List ℕ)) → ConsumesAtMost left left limit
 none_consumed left = ([], omega arith, Consumes-nil left)
+
+-- more was taken than an input may have
+too_long : (left left' : Option (List ℕ)) (n m : ℕ) (now : At) → IsTooLong (desk left n fresh) (desk left' m now) → ConsumesSome left left' (limit + 1)
+too_long left left' n m now t = (t.0.0, omega (arith, t.0.1.counted, t.1), t.0.1.consumed)
 
 module _ (has : List ℕ → Bool) where
   pub says_written : (gives : MayGive) (a : Chance) (command : Command) (left left' : Option (List ℕ)) (n m : ℕ) (taken taken' : Option (List ℕ)) (p q : ℕ)
@@ -63,61 +70,55 @@ module _ (has : List ℕ → Bool) where
       inr (record { chance = a; output = output; read = r; promised = promised; written = w })
   says_written gives a command left left' n m taken taken' p q output r promised TooLong w = absurd w
 
-  pub says_unread : (gives : MayGive) (command : Command) (left left' : Option (List ℕ)) (n m : ℕ) (taken taken' : Option (List ℕ)) (p q : ℕ)
-      → Keeps taken taken'
-      → (s : Status) → Unread has command left left' n m s → Says (strategies has gives) command (streams left n taken p) (streams left' m taken' q) s
-  says_unread gives command left left' n m taken taken' p q k Done u = absurd u
-  says_unread gives command left left' n m taken taken' p q k Named u = absurd u
-  says_unread gives command left left' n m taken taken' p q k WrongWords u = absurd u
-  says_unread gives command left left' n m taken taken' p q k (Refused reason names) u = (u, k)
-  says_unread gives command left left' n m taken taken' p q k ReadFault u = (u.0, k, u.1)
-  says_unread gives command left left' n m taken taken' p q k WriteFault u = absurd u
-  says_unread gives command left left' n m taken taken' p q k NoMemory u = inl (k, u)
-  says_unread gives command left left' n m taken taken' p q k TooLong u = (u, k)
-
   -- Where the reading stopped.
 
-  pub too_long : (left left' : Option (List ℕ)) (now : At) → IsTooLong left left' fresh now → ConsumesSome left left' (limit + 1)
-  too_long left left' now t = (t.0.0, omega (arith, t.0.1.counted, t.1), t.0.1.consumed)
+  pub says_unread : (gives : MayGive) (command : Command) (left left' : Option (List ℕ)) (n m : ℕ) (now : At) (taken taken' : Option (List ℕ)) (p q : ℕ)
+      → Keeps taken taken'
+      → (f : InputFault Refusal) → HasStopped (IsAgainst has command) (desk left n fresh) (desk left' m now) f
+      → Says (strategies has gives) command (streams left n taken p) (streams left' m taken' q) (unread f)
+  says_unread gives command left left' n m now taken taken' p q k (fault.Refused r) u = (
+    record {
+      read = record {
+        input = u.bytes;
+        taken = u.stands.took.consumed;
+        ended = u.ended;
+        within = is_within has (λ bytes. IsAgainst has command bytes r) left left' n m now u;
+        gives = u.told.0;
+      };
+      named = u.told.1;
+    },
+    k,
+  )
+  says_unread gives command left left' n m now taken taken' p q k fault.ReadFault u = (u.0, k, is_consumed left left' n m now u.1)
+  says_unread gives command left left' n m now taken taken' p q k fault.NoMemory u = inl (k, is_consumed left left' n m now u.1)
+  says_unread gives command left left' n m now taken taken' p q k fault.TooLong u = (too_long left left' n m now u.1, k)
 
-  pub all_consumed : (P : List ℕ → Type 0) (left left' : Option (List ℕ)) (now : At) → Ends P left left' fresh now → ConsumesAtMost left left' limit
-  all_consumed P left left' now e = (e.bytes, is_within has P left left' now e, e.took.consumed)
+  -- the same of a stop that was drained, by the clauses of both calls
+  pub says_stopped : (gives : MayGive) (command : Command) (left left' left'' : Option (List ℕ)) (n m k : ℕ) (mid now : At) (taken : Option (List ℕ)) (p : ℕ)
+      (f answer : InputFault Refusal) → Stops (IsAgainst has command) (desk left n fresh) (desk left' m mid) f
+      → Drains (desk left' m mid) (desk left'' k now) f answer
+      → Says (strategies has gives) command (streams left n taken p) (streams left'' k taken p) (unread answer)
+  says_stopped gives command left left' left'' n m k mid now taken p f answer s d =
+      says_unread gives command left left'' n k now taken taken p p (Keeps-refl taken) answer
+      (has_stopped (IsAgainst has command) (desk left n fresh) (desk left' m mid) (desk left'' k now) f answer s d)
 
-  module _ (command : Command) (left left' left'' : Option (List ℕ)) (mid now : At) (r : Refusal)
-      (t : Tells (λ bytes. IsAgainst has command bytes r) left left' fresh mid) where
-    -- the rest was taken
-    pub all_taken : IsDrained left' left'' mid now → HasReason has command left left'' r.reason r.names
-    all_taken d =
-        let said = t.told d.bytes d.can in
-        let took = took_on left left' left'' fresh.reading mid.reading now.reading t.bytes d.bytes t.took d.took in
-        record {
-          read = record {
-            input = t.bytes ++ d.bytes;
-            taken = took.consumed;
-            ended = d.ended t.ended;
-            within = omega (arith, took.counted, d.within);
-            gives = said.0;
-          };
-          named = said.1;
-        }
+  pub calm_stopped : (command : Command) (left left' left'' : Option (List ℕ)) (n m k : ℕ) (mid now : At)
+      (f answer : InputFault Refusal) → Stops (IsAgainst has command) (desk left n fresh) (desk left' m mid) f
+      → Drains (desk left' m mid) (desk left'' k now) f answer → ¬ (unread answer ≡ ReadFault) → k ≡ n
+  calm_stopped command left left' left'' n m k mid now f answer s d unless =
+      calm_unread (IsAgainst has command) (desk left n fresh) (desk left'' k now) answer
+      (has_stopped (IsAgainst has command) (desk left n fresh) (desk left' m mid) (desk left'' k now) f answer s d) unless
 
-    -- the rest wasn't read
-    pub rest_unread : IsPart left' left'' mid now → ConsumesAtMost left left'' limit
-    rest_unread d =
-        let took = took_on left left' left'' fresh.reading mid.reading now.reading t.bytes d.0.0 t.took d.0.1 in
-        (t.bytes ++ d.0.0, omega (arith, took.counted, d.1), took.consumed)
-
-    -- more was taken than may be
-    pub rest_too_long : IsTooLong left' left'' mid now → ConsumesSome left left'' (limit + 1)
-    rest_too_long d =
-        let took = took_on left left' left'' fresh.reading mid.reading now.reading t.bytes d.0.0 t.took d.0.1 in
-        (t.bytes ++ d.0.0, omega (arith, took.counted, d.1), took.consumed)
+  pub all_consumed : (P : List ℕ → Type 0) (left left' : Option (List ℕ)) (n m : ℕ) (now : At) → Ends P (desk left n fresh) (desk left' m now)
+      → ConsumesAtMost left left' limit
+  all_consumed P left left' n m now e = (e.bytes, is_within has P left left' n m now e, e.stands.took.consumed)
 
   -- What a command says whose input was read whole.
 
   module _ (gives : MayGive) (transcript : Bool) (left left' : Option (List ℕ)) (n m : ℕ) (taken taken' : Option (List ℕ)) (p q : ℕ) where
     says_played : (a : Answers) (now : At) (job : Job) (s : State) (b : Histories) (status : Status)
-        (e : Ends (λ bytes. IsPlayed has a bytes job s) left left' fresh now) → AreGiven gives job.deal a (finished job.finish (cast_by a job) s).asked
+        (e : Ends (λ bytes. IsPlayed has a bytes job s) (desk left n fresh) (desk left' m now))
+        → AreGiven gives job.deal a (finished job.finish (cast_by a job) s).asked
         → b ≡ (finished job.finish (cast_by a job) s).book → IsAccepted job.deal → IsKept (cast_of job) b → (job.finish ≡ Fair → IsEnded job.deal b)
         → (job.finish ≡ Fair → s ≡ start (cast_of job) → AllAreConforming job.deal job.conforming → IsDealt job.deal (conforms_in job.conforming) b)
         → Writes taken taken' p q (reported transcript job b) status
@@ -129,9 +130,9 @@ module _ (has : List ℕ → Bool) where
         says_written gives (by_answers a) (OfJob (Run transcript)) left left' n m taken taken' p q out
         (record {
           input = e.bytes;
-          taken = e.took.consumed;
+          taken = e.stands.took.consumed;
           ended = e.ended;
-          within = is_within has (λ bytes. IsPlayed has a bytes job s) left left' now e;
+          within = is_within has (λ bytes. IsPlayed has a bytes job s) left left' n m now e;
           gives = made;
         })
         (run_of_bytes has gives a transcript e.bytes ((e.told.line, e.told.text) ∷ e.told.others) out e.told.lines
@@ -140,7 +141,8 @@ module _ (has : List ℕ → Bool) where
 
     -- the answers are those with which the world was finished
     pub says_run : (now : At) (job : Job) (world : WorldState) (b : Histories) (status : Status)
-        → ((a : Answers) → Continues world a → Ends (λ bytes. IsPlayed has a bytes job world.state) left left' fresh now) → IsConcluded gives job world b
+        → ((a : Answers) → Continues world a → Ends (λ bytes. IsPlayed has a bytes job world.state) (desk left n fresh) (desk left' m now))
+        → IsConcluded gives job world b
         → IsAccepted job.deal → IsKept (cast_of job) b → (job.finish ≡ Fair → IsEnded job.deal b)
         → (job.finish ≡ Fair → world.state ≡ start (cast_of job) → AllAreConforming job.deal job.conforming
         → IsDealt job.deal (conforms_in job.conforming) b)
@@ -169,28 +171,29 @@ module _ (has : List ℕ → Bool) where
       status w
 
   -- the job of a race was read
-  pub has_entered : (left left' : Option (List ℕ)) (now : At) (job : Job) → Ends (λ bytes. IsEntered has bytes job) left left' fresh now
+  pub has_entered : (left left' : Option (List ℕ)) (n m : ℕ) (now : At) (job : Job)
+      → Ends (λ bytes. IsEntered has bytes job) (desk left n fresh) (desk left' m now)
       → HasEntered has left left' job
-  has_entered left left' now job e = record {
+  has_entered left left' n m now job e = record {
     input = e.bytes;
-    taken = e.took.consumed;
+    taken = e.stands.took.consumed;
     ended = e.ended;
-    within = is_within has (λ bytes. IsEntered has bytes job) left left' now e;
+    within = is_within has (λ bytes. IsEntered has bytes job) left left' n m now e;
     entered = e.told;
   }
 
   pub says_check : (gives : MayGive) (left left' : Option (List ℕ)) (n m : ℕ) (taken taken' : Option (List ℕ)) (p q : ℕ) (now : At) (job : Job)
       (status : Status)
-      (e : Ends (λ bytes. IsChecked has bytes job) left left' fresh now)
+      (e : Ends (λ bytes. IsChecked has bytes job) (desk left n fresh) (desk left' m now))
       → IsAccepted job.deal → Writes taken taken' p q (told job) status
       → Says (strategies has gives) (OfJob Check) (streams left n taken p) (streams left' m taken' q) status
   says_check gives left left' n m taken taken' p q now job status e k w =
       says_written gives no_chance (OfJob Check) left left' n m taken taken' p q (told job)
       (record {
         input = e.bytes;
-        taken = e.took.consumed;
+        taken = e.stands.took.consumed;
         ended = e.ended;
-        within = is_within has (λ bytes. IsChecked has bytes job) left left' now e;
+        within = is_within has (λ bytes. IsChecked has bytes job) left left' n m now e;
         gives =
             gives_check has e.bytes job e.told;
       })
@@ -200,16 +203,16 @@ module _ (has : List ℕ → Bool) where
 
   pub says_make : (gives : MayGive) (left left' : Option (List ℕ)) (n m : ℕ) (taken taken' : Option (List ℕ)) (p q : ℕ) (now : At) (job : Job)
       (text : List ℕ) (status : Status)
-      (e : Ends (λ bytes. IsCopied has bytes job text) left left' fresh now)
+      (e : Ends (λ bytes. IsCopied has bytes job text) (desk left n fresh) (desk left' m now))
       → IsMade job → Writes taken taken' p q (plain_text text) status
       → Says (strategies has gives) (OfJob Make) (streams left n taken p) (streams left' m taken' q) status
   says_make gives left left' n m taken taken' p q now job text status e k w =
       says_written gives no_chance (OfJob Make) left left' n m taken taken' p q (plain_text text)
       (record {
         input = e.bytes;
-        taken = e.took.consumed;
+        taken = e.stands.took.consumed;
         ended = e.ended;
-        within = is_within has (λ bytes. IsCopied has bytes job text) left left' now e;
+        within = is_within has (λ bytes. IsCopied has bytes job text) left left' n m now e;
         gives = gives_make has e.bytes job text e.told;
       })
       (making_of_bytes has e.bytes ((e.told.line, e.told.text) ∷ e.told.others) (plain_text text) e.told.lines

@@ -10,10 +10,11 @@ use Rattle.offer_header.specs.Names.{AreNames}
 use Rattle.swap_offer.specs.Job.{IsWholeJob}
 use Rattle.swap_offer.specs.Wallets.{HaveScripts, HaveWallets}
 use Rattle.swap_world.specs.Actors.{AreHeld}
-use Rattle.command_input.specs.Input.{limit}
-use Rattle.command_input.specs.declared.status.Status.{Status}
+use Rattle.refusals.specs.declared.refusal.Refusal.{Refusal}
+use Rattle.command_input.specs.Input.{At, HasStopped, desk, fresh, limit}
+use Rattle.command_input.specs.declared.fault.InputFault.{InputFault}
 use Rattle.swap_commands.specs.Replay.{IsEntered}
-use Rattle.swap_commands.specs.Says.{Unread}
+use Rattle.swap_commands.specs.Says.{IsAgainst}
 use Rattle.swap_commands.specs.Words.{OfJob, Race}
 
 -- The parties of the job can race: those that conform with these wallets, and those that follow strategies of the names that are had.
@@ -35,6 +36,8 @@ pub record HasEntered (has : List ℕ → Bool) (left left' : Option (List ℕ))
   pub within : length input ≤ limit
   pub entered : IsEntered has input job
 
--- The race wasn't entered: what its status says of an input whose reading stopped, whatever its ticks, and whatever was to be written of it.
-pub record HasNotEntered (has : List ℕ → Bool) (left left' : Option (List ℕ)) (n m : ℕ) (s : Status) : Type 0 where
-  pub unread : (ticks : ℕ) (transcript : Bool) → Unread has (OfJob (Race ticks transcript)) left left' n m s
+-- The race wasn't entered: why the reading stopped, whatever its ticks, and whatever was to be written of it.
+pub record HasNotEntered (has : List ℕ → Bool) (left left' : Option (List ℕ)) (n m : ℕ) (fault : InputFault Refusal) : Type 0 where
+  pub now : At
+  pub stopped : (ticks : ℕ) (transcript : Bool)
+      → HasStopped (IsAgainst has (OfJob (Race ticks transcript))) (desk left n fresh) (desk left' m now) fault

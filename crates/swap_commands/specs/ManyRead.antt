@@ -1,12 +1,11 @@
 -- How an input of several swaps is read, line by line, and what their worlds come to.
-use Rattle.std.specs.Prelude.{◌≡◌, ℕ, Bool, List, ◌++◌, map, fold, Option, Result, Ok}
+use Rattle.std.specs.Prelude.{◌≡◌, ℕ, Bool, List, ◌++◌, map, fold, Result, Ok}
 use Rattle.std.specs.List.{All}
 use Rattle.swap_base.specs.Fault.{◌>>=◌}
 use Rattle.swap_base.specs.declared.fault.Fault.{Fault}
 use Rattle.swap_base.specs.declared.fault.Fault.TheVariants.{Refused, NoMemory}
 use Rattle.swap_job.specs.declared.job.Finish.{Finish}
 use Rattle.refusals.specs.declared.refusal.Refusal.{Refusal}
-use Rattle.swap_io.specs.Lines.{Took}
 use Rattle.command_input.specs.Lines.{lines_of, filled_lines}
 use Rattle.swap_run.specs.Asked.{Answers}
 use Rattle.swap_world.specs.Gone.{MayGive}
@@ -23,17 +22,17 @@ use Rattle.many_lines.specs.Heading.{HeadingState}
 use Rattle.many_lines.specs.Setup.{MayCome, setup_by}
 use Rattle.many_lines.specs.declared.many_job.ManyJob.{ManyJob}
 use Rattle.many_lines.specs.declared.stage.Stage.TheVariants.{Over}
-use Rattle.command_input.specs.Input.{At, CanBeLeft, Ends, ahead, fresh}
+use Rattle.command_input.specs.Input.{At, CanBeLeft, Desk, Ends, Stands, ahead}
 use Rattle.swap_commands.specs.Many.{events_told, headed, opened_places, overdrawn_by}
 
 -- The lines up to that of the finish were read: whatever comes after them are the lines of the events.
-pub record IsHeading (has : List ℕ → Bool) (h : HeadingState) (left left' : Option (List ℕ)) (now : At) : Type 0 where
+pub record IsHeading (has : List ℕ → Bool) (h : HeadingState) (old new : Desk) : Type 0 where
   pub bytes : List ℕ
-  pub took : Took left left' fresh.reading now.reading bytes
+  pub stands : Stands old new bytes
   pub finish : Finish
   pub stage : h.stage ≡ Over finish
-  pub first : (rest : List ℕ) → CanBeLeft now rest
-      → headed has (ahead fresh (bytes ++ rest)) ≡ Ok (record { many = h.many; finish = finish; lines = ahead now rest })
+  pub first : (rest : List ℕ) → CanBeLeft new.at rest
+      → headed has (ahead old.at (bytes ++ rest)) ≡ Ok (record { many = h.many; finish = finish; lines = ahead new.at rest })
 
 -- what is said of the account that lacks units, unless memory runs out
 abbrev pub IsLack : ManyJob → Fault Overdrawn → Fault Refusal → Type 0
@@ -69,9 +68,9 @@ abbrev pub HasReplayed : MayGive → List ManyEvent → (old new : ManyState) �
 HasReplayed gives events old new = HasManyGone gives (λ m z. fold (kept_step m) z events) old new
 
 -- The lines ahead told events, to which the worlds have come.
-pub record IsReplayed (gives : MayGive) (many : ManyJob) (old new : ManyState) (left left' : Option (List ℕ)) (first now : At) : Type 0 where
+pub record IsReplayed (gives : MayGive) (many : ManyJob) (old new : ManyState) (first now : Desk) : Type 0 where
   pub events : List ManyEvent
-  pub told : Ends (λ bytes. events_told many 0 (ahead first bytes) ≡ Ok events) left left' first now
+  pub told : Ends (λ bytes. events_told many 0 (ahead first.at bytes) ≡ Ok events) first now
   pub gone : HasReplayed gives events old new
   pub can : All (MayCome many) events
 
@@ -84,10 +83,10 @@ abbrev pub opened_after : ManyJob → List (ℕ × List ℕ) → Result (List (L
 opened_after many ls = events_told many 0 ls >>= λ events. opened_places many
 
 -- The worlds were opened, and have come to where the lines ahead lead.
-pub record AreRun (gives : MayGive) (many : ManyJob) (w : ManyState) (left left' : Option (List ℕ)) (first now : At) : Type 0 where
+pub record AreRun (gives : MayGive) (many : ManyJob) (w : ManyState) (first now : Desk) : Type 0 where
   pub new : ManyState
   pub begun : IsOpened many new
-  pub replayed : IsReplayed gives many new w left left' first now
+  pub replayed : IsReplayed gives many new w first now
 
 -- The bytes are several swaps, and the worlds have come to where their events lead.
 pub record IsManyPlayed (has : List ℕ → Bool) (gives : MayGive) (bytes : List ℕ) (many : ManyJob) (finish : Finish) (w : ManyState) : Type 0 where

@@ -47,7 +47,7 @@ pub record IsPromised (job : Job) (b : Histories) (r : Report) : Type 0 where
   -- whatever the others do, the book is legal and every conforming party is conducted
   pub kept : IsKept (cast_of job) b
   pub units : UnitsAddUp job.deal b
-  -- a conforming party against which nothing is found doesn't end underwater, and has its refunds
+  -- a conforming party that no finding endangers doesn't end underwater, and one that none strands has its refunds
   pub safe : NoneIsUnderwater job.deal job.conforming (shown_outcome r) r.findings
   pub refunds : AllHaveRefunds job.deal job.conforming b r.findings
   -- where all conform and nothing is found, all is transferred, and the report shows each party with the whole deal

@@ -1,7 +1,7 @@
 -- What a command's status says, where output_of and names_of tell what the command writes for an input.
 use Rattle.std.specs.Prelude.{◌≡◌, ◌≤◌, ◌+◌, ◌⊎◌, ℕ, Bool, true, false, List, length, Option, Result, Ok, Err}
 use Rattle.std.specs.Io.KnownBytes.{Consumes, IsAtEnd, Keeps}
-use Rattle.swap_io.specs.Causes.{Rose, ConsumesAtMost, ConsumesSome, AppendsProperPrefix}
+use Rattle.swap_io.specs.Causes.{ConsumesAtMost, ConsumesSome, AppendsProperPrefix}
 use Rattle.swap_io.specs.Handed.{AppendsPrefix}
 use Rattle.refusals.specs.declared.reason.Reason.{Reason}
 use Rattle.refusals.specs.declared.refusal.Refusal.{Refusal}
@@ -40,17 +40,6 @@ pub record HasReason (has : List ℕ → Bool) (command : Command) (left left' :
 -- a reason against an input, with the names in its header
 abbrev pub IsAgainst : (List ℕ → Bool) → Command → List ℕ → Refusal → Type 0
 IsAgainst has command input refusal = (output_of has command input ≡ Err refusal.reason) × (refusal.names ≡ names_of has command input)
-
--- what a status says of an input whose reading stopped
-abbrev pub Unread : (List ℕ → Bool) → Command → Option (List ℕ) → Option (List ℕ) → ℕ → ℕ → Status → Type 0
-Unread has command left left' n m (Refused reason names) = HasReason has command left left' reason names
-Unread has command left left' n m ReadFault = Rose n m × ConsumesAtMost left left' limit
-Unread has command left left' n m TooLong = ConsumesSome left left' (limit + 1)
-Unread has command left left' n m NoMemory = ConsumesAtMost left left' limit
-Unread has command left left' n m Done = ⊥
-Unread has command left left' n m Named = ⊥
-Unread has command left left' n m WrongWords = ⊥
-Unread has command left left' n m WriteFault = ⊥
 
 -- what a status says, by the source and the sink before and after
 abbrev pub Says : Strategies → Command → Streams → Streams → Status → Type 0

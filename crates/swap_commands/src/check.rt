@@ -1,10 +1,10 @@
 //! The command `check`: an offer is examined, and its times are written.
 
-ghost use Rattle.std.specs.Prelude.{◌≡◌, ◌≤◌, IfOk, IfErr, IsErrOf};
+ghost use Rattle.std.specs.Prelude.{◌≡◌, IfOk, IfErr};
 ghost use Rattle.swap_digraph.specs.Deal.{IsWellSized};
 ghost use Rattle.swap_rules.specs.Accepted.{IsAccepted};
 ghost use Rattle.swap_offer.specs.Checks.{need_of};
-ghost use Rattle.command_input.specs.Input.{Ends, Stops, fresh};
+ghost use Rattle.command_input.specs.Input.{Ends, Stops, desk, fresh};
 ghost use Rattle.command_input.specs.Written.{Writes};
 ghost use Rattle.command_input.specs.Streams.{streams};
 ghost use Rattle.swap_commands.specs.Output.{check_text, told};
@@ -15,8 +15,7 @@ ghost use Rattle.swap_commands.specs.Strategies.{strategies};
 
 use crate::header::first_line;
 use crate::replay::pass_over;
-use crate::stop::stop;
-use command_input::{Input, InputFault, Status};
+use command_input::{Input, InputFault, Status, unread};
 use deviators::Strategies;
 use refusals::Refusal;
 use std::alloc::Global;
@@ -60,16 +59,14 @@ fn examine<S: Source, A: Strategies>(
     source: &mut S,
 ) -> Result<(Job, u32), InputFault<Refusal>>
     requires { input.old ≡ fresh }
-    ensures checked { IfOk result (λ j. Ends (λ bytes. IsChecked (A.holds staff.now) bytes j.0) (S.left source.old)
-        (S.left source.new) fresh input.new) }
+    ensures checked { IfOk result (λ j. Ends (λ bytes. IsChecked (A.holds staff.now) bytes j.0) (desk (S.left source.old) (S.faults source.old) fresh)
+        (desk (S.left source.new) (S.faults source.new) input.new)) }
     ensures accepted { IfOk result (λ j. IsAccepted j.0.deal) }
     ensures sized { IfOk result (λ j. IsWellSized j.0.deal) }
     ensures need { IfOk result (λ j. j.1 ≡ need_of j.0.deal) }
     ensures stops { IfErr result (λ e. Stops (IsAgainst (A.holds staff.now) (OfJob Check))
-        (S.left source.old) (S.left source.new) (S.faults source.old)
-        (S.faults source.new) fresh input.new e) }
-    ensures later { S.faults source.old ≤ S.faults source.new }
-    ensures calm { ¬ IsErrOf result InputFault.ReadFault → S.faults source.new ≡ S.faults source.old }
+        (desk (S.left source.old) (S.faults source.old) fresh)
+        (desk (S.left source.new) (S.faults source.new) input.new) e) }
 {
     let Prepared { job, need, .. } = first_line(alloc, staff, Purpose::Check, input, source)?;
     match pass_over(alloc, &job, input, source) {
@@ -109,7 +106,7 @@ fn check_input<S: Source, K: Sink, A: Strategies>(
 {
     match examine(alloc, staff, input, source) {
         Ok((job, need)) => tell(alloc, sink, &job, need),
-        Err(fault) => stop(input, source, fault),
+        Err(fault) => unread(input.stop(source, fault)),
     }
 }
 

@@ -1,18 +1,17 @@
 //! The command `clear`: wishes are read, and what of them can be swapped is written.
 
-ghost use Rattle.std.specs.Prelude.{◌≡◌, ◌≤◌, ℕ, Bool, List, IfOk, IfErr, OnOk, IsErrOf};
+ghost use Rattle.std.specs.Prelude.{◌≡◌, ℕ, Bool, List, IfOk, IfErr, OnOk};
 ghost use Rattle.clear_line.specs.ClearedText.{IsClearedLine};
 ghost use Rattle.swap_commands.specs.Cleared.{IsCleared, IsFurther};
-ghost use Rattle.command_input.specs.Input.{Ends, EndsAt, IsLast, IsLine, Stops, fresh, limit};
+ghost use Rattle.command_input.specs.Input.{Ends, Fits, IsLast, IsLine, Stops, desk, fresh};
 ghost use Rattle.command_input.specs.Streams.{streams};
 ghost use Rattle.swap_commands.specs.Says.{IsAgainst, Says};
 ghost use Rattle.swap_commands.specs.Words.{Clear};
 ghost use Rattle.swap_commands.specs.Strategies.{strategies};
 
 use crate::make::tell;
-use crate::stop::stop;
 use clear_line::cleared_line;
-use command_input::{Input, InputFault, Status, no_line};
+use command_input::{Input, InputFault, Status, no_line, unread};
 use deviators::Strategies;
 use refusals::{Reason, Refusal};
 use std::alloc::Global;
@@ -26,14 +25,11 @@ fn first_wishes<S: Source>(
     source: &mut S,
 ) -> Result<Vec<u8>, InputFault<Refusal>>
     requires { input.old ≡ fresh }
-    ensures line { OnOk result (IsLine (S.left source.old) (S.left source.new) fresh input.new) }
-    ensures within { OnOk result (input.new.reading.taken ≤ limit) }
-    ensures ended { OnOk result (EndsAt (S.left source.new) input.new) }
+    ensures line { OnOk result (IsLine (desk (S.left source.old) (S.faults source.old) fresh)
+        (desk (S.left source.new) (S.faults source.new) input.new)) }
     ensures cleared { IfOk result (λ t. IsClearedLine input.new.number input.new.text t.items) }
-    ensures stops { (has : List ℕ → Bool) → IfErr result (λ e. Stops (IsAgainst has Clear) (S.left source.old) (S.left source.new)
-        (S.faults source.old) (S.faults source.new) fresh input.new e) }
-    ensures later { S.faults source.old ≤ S.faults source.new }
-    ensures calm { ¬ IsErrOf result InputFault.ReadFault → S.faults source.new ≡ S.faults source.old }
+    ensures stops { (has : List ℕ → Bool) → IfErr result (λ e. Stops (IsAgainst has Clear) (desk (S.left source.old) (S.faults source.old) fresh)
+        (desk (S.left source.new) (S.faults source.new) input.new) e) }
 {
     if !input.next(source)? {
         return Err(no_line(alloc));
@@ -50,14 +46,11 @@ fn alone<S: Source>(
     input: &mut Input,
     source: &mut S,
 ) -> Result<(), InputFault<Refusal>>
-    requires ended { EndsAt (S.left source.old) input.old }
-    ensures none { OnOk result (IsLast (S.left source.old) (S.left source.new) input.old input.new) }
-    ensures within { OnOk result (input.new.reading.taken ≤ limit) }
-    ensures ended { OnOk result (EndsAt (S.left source.new) input.new) }
-    ensures stops { IfErr result (λ e. Stops (IsFurther input.old) (S.left source.old) (S.left source.new)
-        (S.faults source.old) (S.faults source.new) input.old input.new e) }
-    ensures later { S.faults source.old ≤ S.faults source.new }
-    ensures calm { ¬ IsErrOf result InputFault.ReadFault → S.faults source.new ≡ S.faults source.old }
+    requires fits { Fits (S.left source.old) input.old }
+    ensures none { OnOk result (IsLast (desk (S.left source.old) (S.faults source.old) input.old)
+        (desk (S.left source.new) (S.faults source.new) input.new)) }
+    ensures stops { IfErr result (λ e. Stops (IsFurther input.old) (desk (S.left source.old) (S.faults source.old) input.old)
+        (desk (S.left source.new) (S.faults source.new) input.new) e) }
 {
     if !input.next(source)? {
         return Ok(());
@@ -75,11 +68,10 @@ fn read_wishes<S: Source>(
     source: &mut S,
 ) -> Result<Vec<u8>, InputFault<Refusal>>
     requires { input.old ≡ fresh }
-    ensures cleared { IfOk result (λ t. Ends (λ bytes. IsCleared bytes t.items) (S.left source.old) (S.left source.new) fresh input.new) }
-    ensures stops { (has : List ℕ → Bool) → IfErr result (λ e. Stops (IsAgainst has Clear) (S.left source.old) (S.left source.new)
-        (S.faults source.old) (S.faults source.new) fresh input.new e) }
-    ensures later { S.faults source.old ≤ S.faults source.new }
-    ensures calm { ¬ IsErrOf result InputFault.ReadFault → S.faults source.new ≡ S.faults source.old }
+    ensures cleared { IfOk result (λ t. Ends (λ bytes. IsCleared bytes t.items) (desk (S.left source.old) (S.faults source.old) fresh)
+        (desk (S.left source.new) (S.faults source.new) input.new)) }
+    ensures stops { (has : List ℕ → Bool) → IfErr result (λ e. Stops (IsAgainst has Clear) (desk (S.left source.old) (S.faults source.old) fresh)
+        (desk (S.left source.new) (S.faults source.new) input.new) e) }
 {
     let text = first_wishes(alloc, input, source)?;
     match alone(alloc, input, source) {
@@ -104,7 +96,7 @@ fn clear_input<S: Source, K: Sink, A: Strategies>(
 {
     match read_wishes(alloc, input, source) {
         Ok(text) => tell(sink, &text),
-        Err(fault) => stop(input, source, fault),
+        Err(fault) => unread(input.stop(source, fault)),
     }
 }
 

@@ -1,12 +1,12 @@
 //! The header of an input: its first line that isn't blank.
 
-ghost use Rattle.std.specs.Prelude.{◌≡◌, ◌≤◌, Ok, IfOk, IfErr, OnOk, IsErrOf};
+ghost use Rattle.std.specs.Prelude.{◌≡◌, Ok, IfOk, IfErr, OnOk};
 ghost use Rattle.offer_header.specs.Limits.{HoldsEach};
 ghost use Rattle.offer_header.specs.Names.{AreNames, has_strategy};
 ghost use Rattle.swap_offer.specs.Checks.{need_of, IsAcceptedFor};
 ghost use Rattle.swap_offer.specs.Job.{IsWholeJob, job_header_of, names_at};
 ghost use Rattle.swap_offer.specs.Wallets.{HaveScriptsFor, HaveSeedsFor, HaveWalletsFor, wallets_for};
-ghost use Rattle.command_input.specs.Input.{EndsAt, IsLine, Stops, fresh, limit};
+ghost use Rattle.command_input.specs.Input.{IsLine, Stops, desk, fresh};
 ghost use Rattle.swap_commands.specs.Output.{purpose_of};
 ghost use Rattle.swap_commands.specs.Says.{IsAgainst};
 ghost use Rattle.swap_commands.specs.Words.{JobCommand, OfJob};
@@ -29,9 +29,8 @@ fn first_among<S: Source>(
     source: &mut S,
 ) -> Result<Prepared, InputFault<Refusal>>
     requires { input.old ≡ fresh }
-    ensures line { OnOk result (IsLine (S.left source.old) (S.left source.new) fresh input.new) }
-    ensures within { OnOk result (input.new.reading.taken ≤ limit) }
-    ensures ended { OnOk result (EndsAt (S.left source.new) input.new) }
+    ensures line { OnOk result (IsLine (desk (S.left source.old) (S.faults source.old) fresh)
+        (desk (S.left source.new) (S.faults source.new) input.new)) }
     ensures header { IfOk result (λ p. job_header_of (has_strategy strategies.now) purpose input.new.number
         input.new.text ≡ Ok p.job) }
     ensures names { IfOk result (λ p. p.job.names ≡ names_at (has_strategy strategies.now) purpose input.new.number
@@ -48,10 +47,8 @@ fn first_among<S: Source>(
     ensures need { IfOk result (λ p. p.need ≡ need_of p.job.deal) }
     // Whatever command of that purpose.
     ensures stops { (command : JobCommand) → purpose ≡ purpose_of command
-        → IfErr result (λ e. Stops (IsAgainst (has_strategy strategies.now) (OfJob command)) (S.left source.old)
-        (S.left source.new) (S.faults source.old) (S.faults source.new) fresh input.new e) }
-    ensures later { S.faults source.old ≤ S.faults source.new }
-    ensures calm { ¬ IsErrOf result InputFault.ReadFault → S.faults source.new ≡ S.faults source.old }
+        → IfErr result (λ e. Stops (IsAgainst (has_strategy strategies.now) (OfJob command)) (desk (S.left source.old) (S.faults source.old) fresh)
+        (desk (S.left source.new) (S.faults source.new) input.new) e) }
 {
     if !input.next(source)? {
         return Err(no_line(alloc));
@@ -70,9 +67,8 @@ pub(crate) fn first_line<S: Source, A: Strategies>(
     source: &mut S,
 ) -> Result<Prepared, InputFault<Refusal>>
     requires { input.old ≡ fresh }
-    ensures line { OnOk result (IsLine (S.left source.old) (S.left source.new) fresh input.new) }
-    ensures within { OnOk result (input.new.reading.taken ≤ limit) }
-    ensures ended { OnOk result (EndsAt (S.left source.new) input.new) }
+    ensures line { OnOk result (IsLine (desk (S.left source.old) (S.faults source.old) fresh)
+        (desk (S.left source.new) (S.faults source.new) input.new)) }
     ensures header { IfOk result (λ p. job_header_of (A.holds staff.now) purpose input.new.number
         input.new.text ≡ Ok p.job) }
     ensures names { IfOk result (λ p. p.job.names ≡ names_at (A.holds staff.now) purpose input.new.number
@@ -89,10 +85,8 @@ pub(crate) fn first_line<S: Source, A: Strategies>(
     ensures need { IfOk result (λ p. p.need ≡ need_of p.job.deal) }
     // Whatever command of that purpose.
     ensures stops { (command : JobCommand) → purpose ≡ purpose_of command
-        → IfErr result (λ e. Stops (IsAgainst (A.holds staff.now) (OfJob command)) (S.left source.old)
-        (S.left source.new) (S.faults source.old) (S.faults source.new) fresh input.new e) }
-    ensures later { S.faults source.old ≤ S.faults source.new }
-    ensures calm { ¬ IsErrOf result InputFault.ReadFault → S.faults source.new ≡ S.faults source.old }
+        → IfErr result (λ e. Stops (IsAgainst (A.holds staff.now) (OfJob command)) (desk (S.left source.old) (S.faults source.old) fresh)
+        (desk (S.left source.new) (S.faults source.new) input.new) e) }
 {
     let strategies = staff.names()?;
     first_among(alloc, strategies.as_slice(), purpose, input, source)

@@ -17,7 +17,6 @@ mod orders;
 mod racing;
 mod replay;
 mod run;
-mod stop;
 
 pub use generating::generate;
 pub use orders::obey;

@@ -1,8 +1,8 @@
 //! The command `make`: a plain job is made, and its further lines are copied.
 
-ghost use Rattle.std.specs.Prelude.{◌≡◌, ◌≤◌, IfOk, IfErr, OnOk, Ok, Err, IsErrOf};
+ghost use Rattle.std.specs.Prelude.{◌≡◌, IfOk, IfErr, OnOk, Ok, Err};
 ghost use Rattle.made_jobs.specs.Making.{copied, IsMade};
-ghost use Rattle.command_input.specs.Input.{Ends, EndsAt, Stops, ahead, fresh};
+ghost use Rattle.command_input.specs.Input.{Ends, Fits, Stops, ahead, desk, fresh};
 ghost use Rattle.command_input.specs.Written.{Writes};
 ghost use Rattle.command_input.specs.Streams.{streams};
 ghost use Rattle.swap_commands.specs.Output.{plain_text};
@@ -12,8 +12,7 @@ ghost use Rattle.swap_commands.specs.Words.{Make, OfJob};
 ghost use Rattle.swap_commands.specs.Strategies.{strategies};
 
 use crate::header::first_line;
-use crate::stop::stop;
-use command_input::{Input, InputFault, Status};
+use command_input::{Input, InputFault, Status, unread};
 use deviators::Strategies;
 use made_jobs::{copy_line, made_line};
 use refusals::{Reason, Refusal};
@@ -29,13 +28,13 @@ fn copy_lines<S: Source>(
     input: &mut Input,
     source: &mut S,
 ) -> Result<(), InputFault<Reason>>
-    requires ended { EndsAt (S.left source.old) input.old }
-    ensures exact { OnOk result (Ends (λ bytes. copied 0 text.old.items (ahead input.old bytes) ≡ Ok text.new.items) (S.left source.old)
-        (S.left source.new) input.old input.new) }
+    requires fits { Fits (S.left source.old) input.old }
+    ensures exact { OnOk result (Ends (λ bytes. copied 0 text.old.items (ahead input.old bytes) ≡ Ok text.new.items)
+        (desk (S.left source.old) (S.faults source.old) input.old)
+        (desk (S.left source.new) (S.faults source.new) input.new)) }
     ensures stops { IfErr result (λ e. Stops (λ bytes reason. copied 0 text.old.items (ahead input.old bytes) ≡ Err reason)
-        (S.left source.old) (S.left source.new) (S.faults source.old) (S.faults source.new) input.old input.new e) }
-    ensures later { S.faults source.old ≤ S.faults source.new }
-    ensures calm { ¬ IsErrOf result InputFault.ReadFault → S.faults source.new ≡ S.faults source.old }
+        (desk (S.left source.old) (S.faults source.old) input.old)
+        (desk (S.left source.new) (S.faults source.new) input.new) e) }
 {
     let mut count: u32 = 0;
     'lines: while input.next(source)? {
@@ -53,13 +52,12 @@ fn copy<S: Source, A: Strategies>(
 ) -> Result<(Job, Vec<u8>), InputFault<Refusal>>
     requires { input.old ≡ fresh }
     ensures copied { IfOk result (λ c. Ends (λ bytes. IsCopied (A.holds staff.now) bytes c.0 c.1.items)
-        (S.left source.old) (S.left source.new) fresh input.new) }
+        (desk (S.left source.old) (S.faults source.old) fresh)
+        (desk (S.left source.new) (S.faults source.new) input.new)) }
     ensures made { IfOk result (λ c. IsMade c.0) }
     ensures stops { IfErr result (λ e. Stops (IsAgainst (A.holds staff.now) (OfJob Make))
-        (S.left source.old) (S.left source.new) (S.faults source.old)
-        (S.faults source.new) fresh input.new e) }
-    ensures later { S.faults source.old ≤ S.faults source.new }
-    ensures calm { ¬ IsErrOf result InputFault.ReadFault → S.faults source.new ≡ S.faults source.old }
+        (desk (S.left source.old) (S.faults source.old) fresh)
+        (desk (S.left source.new) (S.faults source.new) input.new) e) }
 {
     let Prepared { job, .. } = first_line(alloc, staff, Purpose::Make, input, source)?;
     let mut text = made_line(alloc, &job)?;
@@ -95,7 +93,7 @@ fn make_input<S: Source, K: Sink, A: Strategies>(
 {
     match copy(alloc, staff, input, source) {
         Ok((_, text)) => tell(sink, &text),
-        Err(fault) => stop(input, source, fault),
+        Err(fault) => unread(input.stop(source, fault)),
     }
 }
 

@@ -1,6 +1,6 @@
 //! The command `many`: several swaps on shared chains are run, and their reports are written.
 
-ghost use Rattle.std.specs.Prelude.{◌≡◌, ◌<◌, ◌≤◌, IfOk, IfErr, OnOk, Err, length, map, slice_index_or, is_some, [], true, IsErrOf};
+ghost use Rattle.std.specs.Prelude.{◌≡◌, ◌<◌, IfOk, IfErr, OnOk, Err, length, map, slice_index_or, is_some, [], true};
 ghost use Rattle.swap_base.specs.Fault.{Fails};
 ghost use Rattle.offer_header.specs.Names.{has_strategy};
 ghost use Rattle.swap_offer.specs.Wallets.{wallets_for};
@@ -10,7 +10,7 @@ ghost use Rattle.many_lines.specs.Heading.{finish_told};
 ghost use Rattle.many_lines.specs.Event.{next_told};
 ghost use Rattle.many_lines.specs.Whole.{AreChains, AreSwaps, HoldsEverySwap};
 ghost use Rattle.many_text.specs.Shown.{AreChainsShown, AreShown};
-ghost use Rattle.command_input.specs.Input.{Ends, EndsAt, Stops, Tells, ahead, fresh, limit};
+ghost use Rattle.command_input.specs.Input.{Ends, Fits, Stops, Tells, ahead, desk, fresh};
 ghost use Rattle.command_input.specs.Written.{Writes};
 ghost use Rattle.command_input.specs.Streams.{streams};
 ghost use Rattle.swap_commands.specs.Many.{ended_by, events_told, headed, many_written, opened_places};
@@ -21,8 +21,7 @@ ghost use Rattle.swap_commands.specs.Words.{Many};
 ghost use Rattle.swap_commands.specs.Strategies.{strategies};
 
 use crate::replay::new_world;
-use crate::stop::stop;
-use command_input::{Input, InputFault, Status};
+use command_input::{Input, InputFault, Status, unread};
 use deviators::Strategies;
 use many_lines::{Heading, ManyJob, next_many, places_of};
 use many_text::write_many;
@@ -61,16 +60,13 @@ fn heading_among<S: Source>(
     source: &mut S,
 ) -> Result<Heading, InputFault<Refusal>>
     requires { input.old ≡ fresh }
-    ensures heading { IfOk result (λ h. IsHeading (has_strategy strategies.now) h (S.left source.old) (S.left source.new)
-        input.new) }
+    ensures heading { IfOk result (λ h. IsHeading (has_strategy strategies.now) h (desk (S.left source.old) (S.faults source.old) fresh)
+        (desk (S.left source.new) (S.faults source.new) input.new)) }
     ensures over { IfOk result (λ h. is_some (finish_told h.stage) ≡ true) }
     ensures held { IfOk result (λ h. HoldsEverySwap (has_strategy strategies.now) h.many) }
-    ensures ended { OnOk result (EndsAt (S.left source.new) input.new) }
-    ensures within { OnOk result (input.new.reading.taken ≤ limit) }
     ensures stops { IfErr result (λ e. Stops (λ bytes r. headed (has_strategy strategies.now) (ahead fresh bytes) ≡ Err r)
-        (S.left source.old) (S.left source.new) (S.faults source.old) (S.faults source.new) fresh input.new e) }
-    ensures later { S.faults source.old ≤ S.faults source.new }
-    ensures calm { ¬ IsErrOf result InputFault.ReadFault → S.faults source.new ≡ S.faults source.old }
+        (desk (S.left source.old) (S.faults source.old) fresh)
+        (desk (S.left source.new) (S.faults source.new) input.new) e) }
 {
     let mut heading = Heading::new(alloc)?;
     'lines: while heading.finish().is_none() {
@@ -90,16 +86,13 @@ fn read_heading<S: Source, A: Strategies>(
     source: &mut S,
 ) -> Result<Heading, InputFault<Refusal>>
     requires { input.old ≡ fresh }
-    ensures heading { IfOk result (λ h. IsHeading (A.holds staff.now) h (S.left source.old) (S.left source.new)
-        input.new) }
+    ensures heading { IfOk result (λ h. IsHeading (A.holds staff.now) h (desk (S.left source.old) (S.faults source.old) fresh)
+        (desk (S.left source.new) (S.faults source.new) input.new)) }
     ensures over { IfOk result (λ h. is_some (finish_told h.stage) ≡ true) }
     ensures held { IfOk result (λ h. HoldsEverySwap (A.holds staff.now) h.many) }
-    ensures ended { OnOk result (EndsAt (S.left source.new) input.new) }
-    ensures within { OnOk result (input.new.reading.taken ≤ limit) }
     ensures stops { IfErr result (λ e. Stops (λ bytes r. headed (A.holds staff.now) (ahead fresh bytes) ≡ Err r)
-        (S.left source.old) (S.left source.new) (S.faults source.old) (S.faults source.new) fresh input.new e) }
-    ensures later { S.faults source.old ≤ S.faults source.new }
-    ensures calm { ¬ IsErrOf result InputFault.ReadFault → S.faults source.new ≡ S.faults source.old }
+        (desk (S.left source.old) (S.faults source.old) fresh)
+        (desk (S.left source.new) (S.faults source.new) input.new) e) }
 {
     let strategies = staff.names()?;
     heading_among(alloc, strategies.as_slice(), input, source)
@@ -204,12 +197,12 @@ fn replay<S: Source, A: Strategies>(
     requires swaps { AreSwaps many.now }
     requires of { AreWorldsOf many.now world.old }
     requires held { AreAllHeld (A.holds staff.now) world.old }
-    requires ended { EndsAt (S.left source.old) input.old }
-    ensures replayed { OnOk result (IsReplayed (A.gives staff.now) many.now world.old world.new (S.left source.old) (S.left source.new) input.old input.new) }
-    ensures stops { IfErr result (λ e. Stops (λ bytes r. events_told many.now 0 (ahead input.old bytes) ≡ Err r) (S.left source.old) (S.left source.new)
-        (S.faults source.old) (S.faults source.new) input.old input.new e) }
-    ensures later { S.faults source.old ≤ S.faults source.new }
-    ensures calm { ¬ IsErrOf result InputFault.ReadFault → S.faults source.new ≡ S.faults source.old }
+    requires fits { Fits (S.left source.old) input.old }
+    ensures replayed { OnOk result (IsReplayed (A.gives staff.now) many.now world.old world.new (desk (S.left source.old) (S.faults source.old) input.old)
+        (desk (S.left source.new) (S.faults source.new) input.new)) }
+    ensures stops { IfErr result (λ e. Stops (λ bytes r. events_told many.now 0 (ahead input.old bytes) ≡ Err r)
+        (desk (S.left source.old) (S.faults source.old) input.old)
+        (desk (S.left source.new) (S.faults source.new) input.new) e) }
 {
     let mut count: u32 = 0;
     'lines: while input.next(source)? {
@@ -236,12 +229,12 @@ fn pass_over<S: Source>(
 ) -> Result<(), InputFault<Refusal>>
     requires chains { AreChains many.now }
     requires swaps { AreSwaps many.now }
-    requires ended { EndsAt (S.left source.old) input.old }
-    ensures told { OnOk result (Tells (TellEvents many.now input.old) (S.left source.old) (S.left source.new) input.old input.new) }
-    ensures stops { IfErr result (λ e. Stops (λ bytes r. events_told many.now 0 (ahead input.old bytes) ≡ Err r) (S.left source.old) (S.left source.new)
-        (S.faults source.old) (S.faults source.new) input.old input.new e) }
-    ensures later { S.faults source.old ≤ S.faults source.new }
-    ensures calm { ¬ IsErrOf result InputFault.ReadFault → S.faults source.new ≡ S.faults source.old }
+    requires fits { Fits (S.left source.old) input.old }
+    ensures told { OnOk result (Tells (TellEvents many.now input.old) (desk (S.left source.old) (S.faults source.old) input.old)
+        (desk (S.left source.new) (S.faults source.new) input.new)) }
+    ensures stops { IfErr result (λ e. Stops (λ bytes r. events_told many.now 0 (ahead input.old bytes) ≡ Err r)
+        (desk (S.left source.old) (S.faults source.old) input.old)
+        (desk (S.left source.new) (S.faults source.new) input.new) e) }
 {
     let mut count: u32 = 0;
     'lines: while input.next(source)? {
@@ -262,11 +255,9 @@ fn refuse<S: Source>(
     requires chains { AreChains many.now }
     requires swaps { AreSwaps many.now }
     requires refused { opened_places many.now ≡ Err refusal }
-    requires ended { EndsAt (S.left source.old) input.old }
-    ensures stops { Stops (λ bytes r. opened_after many.now (ahead input.old bytes) ≡ Err r) (S.left source.old) (S.left source.new)
-        (S.faults source.old) (S.faults source.new) input.old input.new result }
-    ensures later { S.faults source.old ≤ S.faults source.new }
-    ensures calm { ¬ (result ≡ InputFault.ReadFault) → S.faults source.new ≡ S.faults source.old }
+    requires fits { Fits (S.left source.old) input.old }
+    ensures stops { Stops (λ bytes r. opened_after many.now (ahead input.old bytes) ≡ Err r) (desk (S.left source.old) (S.faults source.old) input.old)
+        (desk (S.left source.new) (S.faults source.new) input.new) result }
 {
     match pass_over(alloc, many, input, source) {
         Ok(()) => InputFault::Refused(refusal),
@@ -287,14 +278,13 @@ fn run_events<S: Source, A: Strategies>(
     requires swaps { AreSwaps many.now }
     requires made { map (λ v. v.items) wallets.items ≡ map (wallets_for Purpose.Run) many.now.jobs }
     requires held { HoldsEverySwap (A.holds staff.now) many.now }
-    requires ended { EndsAt (S.left source.old) input.old }
-    requires within { input.old.reading.taken ≤ limit }
-    ensures run { IfOk result (λ w. AreRun (A.gives staff.now) many.now w (S.left source.old) (S.left source.new) input.old input.new) }
+    requires fits { Fits (S.left source.old) input.old }
+    ensures run { IfOk result (λ w. AreRun (A.gives staff.now) many.now w (desk (S.left source.old) (S.faults source.old) input.old)
+        (desk (S.left source.new) (S.faults source.new) input.new)) }
     ensures held { IfOk result (AreAllHeld (A.holds staff.now)) }
-    ensures stops { IfErr result (λ e. Stops (λ bytes r. opened_after many.now (ahead input.old bytes) ≡ Err r) (S.left source.old) (S.left source.new)
-        (S.faults source.old) (S.faults source.new) input.old input.new e) }
-    ensures later { S.faults source.old ≤ S.faults source.new }
-    ensures calm { ¬ IsErrOf result InputFault.ReadFault → S.faults source.new ≡ S.faults source.old }
+    ensures stops { IfErr result (λ e. Stops (λ bytes r. opened_after many.now (ahead input.old bytes) ≡ Err r)
+        (desk (S.left source.old) (S.faults source.old) input.old)
+        (desk (S.left source.new) (S.faults source.new) input.new) e) }
 {
     match open(alloc, many, wallets) {
         Ok(mut world) => {
@@ -315,14 +305,13 @@ fn play<S: Source, A: Strategies>(
 ) -> Result<Played, InputFault<Refusal>>
     requires { input.old ≡ fresh }
     ensures played { IfOk result (λ p. Ends (λ bytes. IsManyPlayed (A.holds staff.now)
-        (A.gives staff.now) bytes p.many p.finish p.world) (S.left source.old) (S.left source.new) fresh input.new) }
+        (A.gives staff.now) bytes p.many p.finish p.world) (desk (S.left source.old) (S.faults source.old) fresh)
+        (desk (S.left source.new) (S.faults source.new) input.new)) }
     ensures chains { IfOk result (λ p. AreChains p.many) }
     ensures swaps { IfOk result (λ p. AreSwaps p.many) }
     ensures held { IfOk result (λ p. AreAllHeld (A.holds staff.now) p.world) }
-    ensures stops { IfErr result (λ e. Stops (IsAgainst (A.holds staff.now) Many) (S.left source.old)
-        (S.left source.new) (S.faults source.old) (S.faults source.new) fresh input.new e) }
-    ensures later { S.faults source.old ≤ S.faults source.new }
-    ensures calm { ¬ IsErrOf result InputFault.ReadFault → S.faults source.new ≡ S.faults source.old }
+    ensures stops { IfErr result (λ e. Stops (IsAgainst (A.holds staff.now) Many) (desk (S.left source.old) (S.faults source.old) fresh)
+        (desk (S.left source.new) (S.faults source.new) input.new) e) }
 {
     let heading = read_heading(alloc, staff, input, source)?;
     let finish = heading.finish().unwrap();
@@ -395,7 +384,7 @@ fn many_input<S: Source, K: Sink, A: Strategies>(
         world,
     } = match play(alloc, staff, input, source) {
         Ok(played) => played,
-        Err(fault) => return stop(input, source, fault),
+        Err(fault) => return unread(input.stop(source, fault)),
     };
     let Ok(world) = conclude(staff, finish, world) else {
         return Status::NoMemory;

@@ -8,7 +8,7 @@ ghost use Rattle.swap_offer.specs.Job.{IsWholeJob};
 ghost use Rattle.swap_offer.specs.Wallets.{HaveScripts, HaveWallets};
 ghost use Rattle.swap_world.specs.Actors.{AreHeld};
 ghost use Rattle.swap_commands.specs.Entered.{CanRace, HasEntered, HasNotEntered};
-ghost use Rattle.command_input.specs.Input.{Ends, Stops, fresh};
+ghost use Rattle.command_input.specs.Input.{Ends, Stops, desk, fresh};
 ghost use Rattle.command_input.specs.Streams.{streams};
 ghost use Rattle.swap_commands.specs.Replay.{IsEntered};
 ghost use Rattle.swap_commands.specs.Says.{IsAgainst, Says};
@@ -18,7 +18,6 @@ ghost use Rattle.swap_commands.specs.Strategies.{strategies};
 use crate::header::first_line;
 use crate::replay::pass_over;
 use crate::run::tell;
-use crate::stop::stop;
 use command_input::{Input, InputFault, Status};
 use deviators::Strategies;
 use party_threads::{Gate, race_fitting};
@@ -40,8 +39,8 @@ fn read_job<S: Source, A: Strategies>(
     source: &mut S,
 ) -> Result<(Job, Vec<Option<Wallet>>), InputFault<Refusal>>
     requires { input.old ≡ fresh }
-    ensures entered { IfOk result (λ e. Ends (λ bytes. IsEntered (A.holds staff.now) bytes e.0) (S.left source.old)
-        (S.left source.new) fresh input.new) }
+    ensures entered { IfOk result (λ e. Ends (λ bytes. IsEntered (A.holds staff.now) bytes e.0) (desk (S.left source.old) (S.faults source.old) fresh)
+        (desk (S.left source.new) (S.faults source.new) input.new)) }
     ensures held { IfOk result (λ e. AreHeld (A.holds staff.now) e.0.roles) }
     ensures whole { IfOk result (λ e. IsWholeJob e.0) }
     ensures names { IfOk result (λ e. AreNames e.0.names) }
@@ -52,10 +51,8 @@ fn read_job<S: Source, A: Strategies>(
     ensures made { IfOk result (λ e. e.1.items ≡ wallets_of e.0.deal e.0.conforming e.0.seeds) }
     // Whatever its ticks, and whatever is to be written of it.
     ensures stops { (ticks : ℕ) (transcript : Bool) → IfErr result (λ e.
-        Stops (IsAgainst (A.holds staff.now) (OfJob (Race ticks transcript))) (S.left source.old)
-        (S.left source.new) (S.faults source.old) (S.faults source.new) fresh input.new e) }
-    ensures later { S.faults source.old ≤ S.faults source.new }
-    ensures calm { ¬ IsErrOf result InputFault.ReadFault → S.faults source.new ≡ S.faults source.old }
+        Stops (IsAgainst (A.holds staff.now) (OfJob (Race ticks transcript))) (desk (S.left source.old) (S.faults source.old) fresh)
+        (desk (S.left source.new) (S.faults source.new) input.new) e) }
 {
     let Prepared { job, wallets, .. } = first_line(alloc, staff, Purpose::Race, input, source)?;
     match pass_over(alloc, &job, input, source) {
@@ -64,23 +61,23 @@ fn read_job<S: Source, A: Strategies>(
     }
 }
 
-/// The same, where the status of the race is told if its job can't be read.
+/// The same, where the whole input is read before it is refused.
 fn enter_input<S: Source, A: Strategies>(
     alloc: Global,
     staff: &A,
     input: &mut Input,
     source: &mut S,
-) -> Result<(Job, Vec<Option<Wallet>>), Status>
+) -> Result<(Job, Vec<Option<Wallet>>), InputFault<Refusal>>
     requires { input.old ≡ fresh }
     ensures entered { IfOk result (λ e. HasEntered (A.holds staff.now) (S.left source.old) (S.left source.new) e.0) }
     ensures can { IfOk result (λ e. CanRace (A.holds staff.now) e.0 e.1.items) }
     ensures stopped { IfErr result (HasNotEntered (A.holds staff.now) (S.left source.old) (S.left source.new)
         (S.faults source.old) (S.faults source.new)) }
-    ensures calm { ¬ IsErrOf result Status.ReadFault → S.faults source.new ≡ S.faults source.old }
+    ensures calm { ¬ IsErrOf result InputFault.ReadFault → S.faults source.new ≡ S.faults source.old }
 {
     match read_job(alloc, staff, input, source) {
         Ok(entered) => Ok(entered),
-        Err(fault) => Err(stop(input, source, fault)),
+        Err(fault) => Err(input.stop(source, fault)),
     }
 }
 
@@ -89,16 +86,16 @@ pub fn enter<S: Source, A: Strategies>(
     alloc: Global,
     source: &mut S,
     staff: &A,
-) -> Result<(Job, Vec<Option<Wallet>>), Status>
+) -> Result<(Job, Vec<Option<Wallet>>), InputFault<Refusal>>
     ensures entered { IfOk result (λ e. HasEntered (A.holds staff.now) (S.left source.old) (S.left source.new) e.0) }
     ensures can { IfOk result (λ e. CanRace (A.holds staff.now) e.0 e.1.items) }
     ensures stopped { IfErr result (HasNotEntered (A.holds staff.now) (S.left source.old) (S.left source.new)
         (S.faults source.old) (S.faults source.new)) }
-    ensures calm { ¬ IsErrOf result Status.ReadFault → S.faults source.new ≡ S.faults source.old }
+    ensures calm { ¬ IsErrOf result InputFault.ReadFault → S.faults source.new ≡ S.faults source.old }
 {
     match Input::new(alloc) {
         Ok(mut input) => enter_input(alloc, staff, &mut input, source),
-        Err(_) => Err(Status::NoMemory),
+        Err(_) => Err(InputFault::NoMemory),
     }
 }
 

@@ -1,6 +1,6 @@
 //! The events of an input's lines, one after another.
 
-ghost use Rattle.std.specs.Prelude.{◌≡◌, ◌≤◌, true, false, Ok, Err, IfOk, IfErr, OnOk, IsErrOf};
+ghost use Rattle.std.specs.Prelude.{◌≡◌, true, false, Ok, Err, IfOk, IfErr, OnOk};
 ghost use Rattle.swap_base.specs.Fault.{Gives};
 ghost use Rattle.swap_rules.specs.Accepted.{IsAccepted};
 ghost use Rattle.swap_run.specs.Run.{start, step};
@@ -13,7 +13,7 @@ ghost use Rattle.swap_world.specs.Cast.{cast_of};
 ghost use Rattle.swap_world.specs.Gone.{HasAsked};
 ghost use Rattle.swap_world.specs.Actors.{AreHeld};
 ghost use Rattle.swap_world.specs.Value.{Continues, new_world};
-ghost use Rattle.command_input.specs.Input.{Ends, EndsAt, Stops, ahead, limit};
+ghost use Rattle.command_input.specs.Input.{Ends, Fits, Stops, ahead, desk};
 ghost use Rattle.made_jobs.specs.Generating.{IsOf};
 ghost use Rattle.swap_commands.specs.Output.{cast_by};
 ghost use Rattle.swap_commands.specs.Replay.{replayed, next_by, passed_over};
@@ -90,19 +90,18 @@ pub(crate) fn replay<S: Source, A: Strategies>(
     requires scripts { HaveScripts job.now }
     requires made { wallets.items ≡ wallets_of job.now.deal job.now.conforming job.now.seeds }
     requires held { AreHeld (A.holds staff.now) job.now.roles }
-    requires ended { EndsAt (S.left source.old) input.old }
-    requires within { input.old.reading.taken ≤ limit }
+    requires fits { Fits (S.left source.old) input.old }
     // Whatever strategies may answer after the last event.
     ensures exact { IfOk result (λ w. (a : Answers) → Continues w a
         → Ends (λ bytes. replayed (step (cast_by a job.now)) job.now 0 (start (cast_of job.now)) (ahead input.old bytes) ≡ Ok w.state)
-        (S.left source.old) (S.left source.new) input.old input.new) }
+        (desk (S.left source.old) (S.faults source.old) input.old)
+        (desk (S.left source.new) (S.faults source.new) input.new)) }
     ensures asked { IfOk result (λ w. HasAsked (A.gives staff.now) (new_world job.now) w) }
     ensures of { IfOk result (λ w. IsOf job.now w) }
     ensures goes_on { IfOk result (λ w. w.stopped ≡ false) }
     ensures stops { IfErr result (λ e. Stops (λ bytes reason. replayed passed_over job.now 0 tt (ahead input.old bytes) ≡ Err reason)
-        (S.left source.old) (S.left source.new) (S.faults source.old) (S.faults source.new) input.old input.new e) }
-    ensures later { S.faults source.old ≤ S.faults source.new }
-    ensures calm { ¬ IsErrOf result InputFault.ReadFault → S.faults source.new ≡ S.faults source.old }
+        (desk (S.left source.old) (S.faults source.old) input.old)
+        (desk (S.left source.new) (S.faults source.new) input.new) e) }
 {
     let mut world = new_world(alloc, job, wallets)?;
     let mut count: u32 = 0;
@@ -139,13 +138,13 @@ pub(crate) fn pass_over<S: Source>(
     source: &mut S,
 ) -> Result<(), InputFault<Reason>>
     requires whole { IsWholeJob job.now }
-    requires ended { EndsAt (S.left source.old) input.old }
-    ensures exact { OnOk result (Ends (λ bytes. replayed passed_over job.now 0 tt (ahead input.old bytes) ≡ Ok tt) (S.left source.old)
-        (S.left source.new) input.old input.new) }
+    requires fits { Fits (S.left source.old) input.old }
+    ensures exact { OnOk result (Ends (λ bytes. replayed passed_over job.now 0 tt (ahead input.old bytes) ≡ Ok tt)
+        (desk (S.left source.old) (S.faults source.old) input.old)
+        (desk (S.left source.new) (S.faults source.new) input.new)) }
     ensures stops { IfErr result (λ e. Stops (λ bytes reason. replayed passed_over job.now 0 tt (ahead input.old bytes) ≡ Err reason)
-        (S.left source.old) (S.left source.new) (S.faults source.old) (S.faults source.new) input.old input.new e) }
-    ensures later { S.faults source.old ≤ S.faults source.new }
-    ensures calm { ¬ IsErrOf result InputFault.ReadFault → S.faults source.new ≡ S.faults source.old }
+        (desk (S.left source.old) (S.faults source.old) input.old)
+        (desk (S.left source.new) (S.faults source.new) input.new) e) }
 {
     let mut count: u32 = 0;
     'lines: while input.next(source)? {

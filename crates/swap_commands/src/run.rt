@@ -1,6 +1,6 @@
 //! The command `run`: the events of a job are replayed, its finish is made, and the report is written, or the transcript.
 
-ghost use Rattle.std.specs.Prelude.{◌≡◌, ◌≤◌, false, IfOk, IfErr, IsErrOf, OnOk};
+ghost use Rattle.std.specs.Prelude.{◌≡◌, false, IfOk, IfErr, IsErrOf, OnOk};
 ghost use Rattle.std.specs.Io.KnownBytes.{Appends};
 ghost use Rattle.swap_io.specs.Causes.{AppendsProperPrefix, Rose};
 ghost use Rattle.swap_io.specs.Handed.{AppendsPrefix};
@@ -20,7 +20,7 @@ ghost use Rattle.swap_world.specs.Gone.{HasAsked};
 ghost use Rattle.swap_world.specs.Actors.{AreHeld};
 ghost use Rattle.swap_world.specs.Value.{Continues, new_world};
 ghost use Rattle.swap_offer.specs.Job.{IsWholeJob};
-ghost use Rattle.command_input.specs.Input.{Ends, Stops, fresh};
+ghost use Rattle.command_input.specs.Input.{Ends, Stops, desk, fresh};
 ghost use Rattle.command_input.specs.Written.{Writes};
 ghost use Rattle.command_input.specs.Streams.{streams};
 ghost use Rattle.made_jobs.specs.Generating.{IsOf};
@@ -33,8 +33,7 @@ ghost use Rattle.swap_commands.specs.Strategies.{strategies};
 use crate::finish::finish;
 use crate::header::first_line;
 use crate::replay::replay;
-use crate::stop::stop;
-use command_input::{Input, InputFault, Status};
+use command_input::{Input, InputFault, Status, unread};
 use deviators::Strategies;
 use ledger_core::Book;
 use outcome_rules::{Report, report_of};
@@ -59,8 +58,8 @@ fn play<S: Source, A: Strategies>(
     requires { input.old ≡ fresh }
     // Whatever strategies may answer after the last event.
     ensures played { IfOk result (λ p. (a : Answers) → Continues p.1 a
-        → Ends (λ bytes. IsPlayed (A.holds staff.now) a bytes p.0 p.1.state) (S.left source.old) (S.left source.new)
-        fresh input.new) }
+        → Ends (λ bytes. IsPlayed (A.holds staff.now) a bytes p.0 p.1.state) (desk (S.left source.old) (S.faults source.old) fresh)
+        (desk (S.left source.new) (S.faults source.new) input.new)) }
     ensures asked { IfOk result (λ p. HasAsked (A.gives staff.now) (new_world p.0) p.1) }
     ensures held { IfOk result (λ p. AreHeld (A.holds staff.now) p.0.roles) }
     ensures whole { IfOk result (λ p. IsWholeJob p.0) }
@@ -70,11 +69,8 @@ fn play<S: Source, A: Strategies>(
     ensures of { IfOk result (λ p. IsOf p.0 p.1) }
     ensures goes_on { IfOk result (λ p. p.1.stopped ≡ false) }
     ensures stops { IfErr result (λ e.
-        Stops (IsAgainst (A.holds staff.now) (OfJob (Run transcript))) (S.left source.old)
-        (S.left source.new)
-        (S.faults source.old) (S.faults source.new) fresh input.new e) }
-    ensures later { S.faults source.old ≤ S.faults source.new }
-    ensures calm { ¬ IsErrOf result InputFault.ReadFault → S.faults source.new ≡ S.faults source.old }
+        Stops (IsAgainst (A.holds staff.now) (OfJob (Run transcript))) (desk (S.left source.old) (S.faults source.old) fresh)
+        (desk (S.left source.new) (S.faults source.new) input.new) e) }
 {
     let Prepared { job, wallets, .. } = first_line(alloc, staff, Purpose::Run, input, source)?;
     match replay(alloc, &job, wallets, staff, input, source) {
@@ -179,7 +175,7 @@ fn run_input<S: Source, K: Sink, A: Strategies>(
 {
     let (job, world) = match play(alloc, staff, transcript, input, source) {
         Ok(played) => played,
-        Err(fault) => return stop(input, source, fault),
+        Err(fault) => return unread(input.stop(source, fault)),
     };
     let Ok(book) = conclude(alloc, staff, &job, world) else {
         return Status::NoMemory;

@@ -9,7 +9,7 @@ ghost use Rattle.swap_commands.specs.Says.{Says};
 ghost use Rattle.swap_commands.specs.Words.{AsksRace, OfJob, Race, request_of};
 ghost use Rattle.swap_commands.specs.Strategies.{strategies};
 
-use command_input::Status;
+use command_input::{Status, unread};
 use deviators::Strategies;
 use party_threads::Gate;
 use program_words::{Task, read_task};
@@ -41,7 +41,7 @@ fn perform_race<R: Threads + Wait + Sync, S: Source, K: Sink, G: Gate, A: Strate
         Ok((job, wallets)) => race(
             rt, alloc, ticks, transcript, &job, wallets, sink, gate, staff,
         ),
-        Err(status) => status,
+        Err(fault) => unread(fault),
     }
 }
 

@@ -1,8 +1,6 @@
-use Rattle.std.proofs.KnownBytes.{Keeps-refl}
+use Rattle.std.proofs.Common.{◌∙◌}
 use Rattle.swap_commands.specs.Words.{OfJob, Check}
-use Rattle.swap_commands.proofs.Saying.{says_check, says_unread}
-use Rattle.swap_io.proofs.Feeds.{calm_after}
-use Rattle.command_input.proofs.Streams.{calm_fault}
+use Rattle.swap_commands.proofs.Saying.{calm_stopped, says_check, says_stopped}
 use Rattle.swap_commands.proofs.check.check_input.Goals as goal
 
 pub returns-in-Ok-clause-says : goal.returns-in-Ok-clause-says
@@ -11,16 +9,20 @@ returns-in-Ok-clause-says g c =
 
 pub returns-in-Err-clause-says : goal.returns-in-Err-clause-says
 returns-in-Err-clause-says g c =
-    let left = g.S.Source.left c.args.source.now in
-    let faults = g.S.Source.faults c.args.source.now in
-    says_unread _ _ (OfJob Check) left _ faults _ _ _ _ _ (Keeps-refl (g.K.Sink.taken c.args.sink.now)) c.stop.result
-    (c.stop.ensures.says _ (OfJob Check) left faults c.examine.ensures.later c.in-Err.ensures.stops)
+    rw c.unread.ensures
+    (says_stopped (g.A.Strategies.holds c.args.staff.now) (g.A.Strategies.gives c.args.staff.now) (OfJob Check) (g.S.Source.left c.args.source.now)
+    (g.S.Source.left c.examine.new.source) (g.S.Source.left c.stop.new.source)
+    (g.S.Source.faults c.args.source.now) (g.S.Source.faults c.examine.new.source) (g.S.Source.faults c.stop.new.source) c.examine.new.input
+    c.stop.new.self (g.K.Sink.taken c.args.sink.now) (g.K.Sink.faults c.args.sink.now) c.in-Err.fault c.stop.result c.in-Err.ensures.stops c.stop.ensures)
 
 -- No read failed, unless the status tells of it.
 
 pub returns-in-Err-clause-calm : goal.returns-in-Err-clause-calm
-returns-in-Err-clause-calm g c =
-    c.stop.ensures.calm (g.S.Source.faults c.args.source.now) (calm_fault c.in-Err.fault _ _ c.in-Err.ensures.calm)
+returns-in-Err-clause-calm g c = λ unless.
+    calm_stopped (g.A.Strategies.holds c.args.staff.now) (OfJob Check) (g.S.Source.left c.args.source.now) (g.S.Source.left c.examine.new.source)
+    (g.S.Source.left c.stop.new.source) (g.S.Source.faults c.args.source.now) (g.S.Source.faults c.examine.new.source)
+    (g.S.Source.faults c.stop.new.source) c.examine.new.input c.stop.new.self c.in-Err.fault c.stop.result c.in-Err.ensures.stops c.stop.ensures
+    (λ e. unless (c.unread.ensures ∙ e))
 
 pub returns-in-Ok-clause-calm : goal.returns-in-Ok-clause-calm
-returns-in-Ok-clause-calm g c = λ unless. calm_after _ _ _ _ c.in-Ok.ensures.calm
+returns-in-Ok-clause-calm g c = λ unless. c.in-Ok.ensures.checked.stands.calm

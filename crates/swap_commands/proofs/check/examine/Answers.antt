@@ -1,12 +1,14 @@
 use Rattle.std.proofs.Common.{refl}
 use Rattle.std.proofs.lemmas.Result.{err_from_is_err_and}
+use Rattle.command_input.specs.Input.{desk}
 use Rattle.swap_job.specs.declared.job.Purpose.TheVariants as purposes
 use Rattle.swap_commands.specs.Words.{Check}
 use Rattle.swap_commands.specs.Replay.{passed_over, replayed}
 use Rattle.swap_commands.proofs.Reading.{against_event, check_says, is_read}
-use Rattle.command_input.proofs.Streams.{calm_named}
-use Rattle.swap_io.proofs.Feeds.{calm_after}
 use Rattle.swap_commands.proofs.check.examine.Goals as goal
+
+pub pass_over-requires-clause-fits : goal.pass_over-requires-clause-fits
+pass_over-requires-clause-fits g c = c.in_ok-job.ensures.line.stands.fits
 
 pub returns-in_err-job-clause-stops : goal.returns-in_err-job-clause-stops
 returns-in_err-job-clause-stops g c =
@@ -15,17 +17,14 @@ returns-in_err-job-clause-stops g c =
 
 pub returns-in-Ok-clause-checked : goal.returns-in-Ok-clause-checked
 returns-in-Ok-clause-checked g c =
-    is_read _ purposes.Check (λ job. replayed passed_over job 0 tt) _ _ _ _ _ c.in_ok-job.field-0.job tt c.in_ok-job.ensures.line c.in_ok-job.ensures.header
+    is_read _ purposes.Check (λ job. replayed passed_over job 0 tt) _ _ _ _ c.in_ok-job.field-0.job tt c.in_ok-job.ensures.line c.in_ok-job.ensures.header
     c.in-Ok.ensures.exact
 
 pub returns-in-Err-clause-stops : goal.returns-in-Err-clause-stops
 returns-in-Err-clause-stops g c =
     let job = c.in_ok-job.field-0.job in
+    let mid = desk (g.S.Source.left c.first_line.new.source) (g.S.Source.faults c.first_line.new.source) c.first_line.new.input in
+    let now = desk (g.S.Source.left c.pass_over.new.source) (g.S.Source.faults c.pass_over.new.source) c.pass_over.new.input in
     rw c.with_names.ensures
-    (against_event _ (replayed passed_over job 0 tt) Check _ _ _ _ _ (check_says _ _ _ job c.in_ok-job.ensures.header) job.names
-    c.in_ok-job.ensures.names c.in-Err.fault _ _ _ c.in_ok-job.ensures.line c.first_line.ensures.later c.in-Err.ensures.stops)
-
-pub returns-in-Err-clause-calm : goal.returns-in-Err-clause-calm
-returns-in-Err-clause-calm g c =
-    rw c.with_names.ensures
-    (calm_named c.in_ok-job.field-0.job.names c.in-Err.fault _ _ _ (calm_after _ _ _ _ c.in_ok-job.ensures.calm) c.in-Err.ensures.calm)
+    (against_event _ (replayed passed_over job 0 tt) Check (g.S.Source.left c.args.source.now) (g.S.Source.faults c.args.source.now) mid now job.names
+    (check_says _ _ _ job c.in_ok-job.ensures.header) c.in_ok-job.ensures.names c.in_ok-job.ensures.line c.in-Err.fault c.in-Err.ensures.stops)

@@ -1,9 +1,7 @@
-use Rattle.std.proofs.KnownBytes.{Keeps-refl}
+use Rattle.std.proofs.Common.{◌∙◌}
 use Rattle.swap_commands.specs.Words.{Clear}
+use Rattle.swap_commands.proofs.Saying.{calm_stopped, says_stopped}
 use Rattle.swap_commands.proofs.Clearings.{says_clear}
-use Rattle.swap_commands.proofs.Saying.{says_unread}
-use Rattle.swap_io.proofs.Feeds.{calm_after}
-use Rattle.command_input.proofs.Streams.{calm_fault}
 use Rattle.swap_commands.proofs.clear.clear_input.Goals as goal
 
 pub returns-in-Ok-clause-says : goal.returns-in-Ok-clause-says
@@ -12,16 +10,20 @@ returns-in-Ok-clause-says g c =
 
 pub returns-in-Err-clause-says : goal.returns-in-Err-clause-says
 returns-in-Err-clause-says g c =
-    let left = g.S.Source.left c.args.source.now in
-    let faults = g.S.Source.faults c.args.source.now in
-    says_unread _ _ Clear left _ faults _ _ _ _ _ (Keeps-refl (g.K.Sink.taken c.args.sink.now)) c.stop.result
-    (c.stop.ensures.says _ Clear left faults c.read_wishes.ensures.later (c.in-Err.ensures.stops _))
+    rw c.unread.ensures
+    (says_stopped (g.A.Strategies.holds c.args._staff.now) (g.A.Strategies.gives c.args._staff.now) Clear (g.S.Source.left c.args.source.now)
+    (g.S.Source.left c.read_wishes.new.source) (g.S.Source.left c.stop.new.source)
+    (g.S.Source.faults c.args.source.now) (g.S.Source.faults c.read_wishes.new.source) (g.S.Source.faults c.stop.new.source) c.read_wishes.new.input
+    c.stop.new.self (g.K.Sink.taken c.args.sink.now) (g.K.Sink.faults c.args.sink.now) c.in-Err.fault c.stop.result (c.in-Err.ensures.stops _) c.stop.ensures)
 
 -- No read failed, unless the status tells of it.
 
 pub returns-in-Err-clause-calm : goal.returns-in-Err-clause-calm
-returns-in-Err-clause-calm g c =
-    c.stop.ensures.calm (g.S.Source.faults c.args.source.now) (calm_fault c.in-Err.fault _ _ c.in-Err.ensures.calm)
+returns-in-Err-clause-calm g c = λ unless.
+    calm_stopped (g.A.Strategies.holds c.args._staff.now) Clear (g.S.Source.left c.args.source.now) (g.S.Source.left c.read_wishes.new.source)
+    (g.S.Source.left c.stop.new.source) (g.S.Source.faults c.args.source.now) (g.S.Source.faults c.read_wishes.new.source)
+    (g.S.Source.faults c.stop.new.source) c.read_wishes.new.input c.stop.new.self c.in-Err.fault c.stop.result (c.in-Err.ensures.stops _) c.stop.ensures
+    (λ e. unless (c.unread.ensures ∙ e))
 
 pub returns-in-Ok-clause-calm : goal.returns-in-Ok-clause-calm
-returns-in-Ok-clause-calm g c = λ unless. calm_after _ _ _ _ c.in-Ok.ensures.calm
+returns-in-Ok-clause-calm g c = λ unless. c.in-Ok.ensures.cleared.stands.calm

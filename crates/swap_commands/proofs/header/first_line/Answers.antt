@@ -1,11 +1,11 @@
-use Rattle.std.proofs.Common.{◌≡◌, ◌∙◌, ℕ, Bool, List, Ok, IfErr, IfOk, ap, arith, subst}
+use Rattle.std.proofs.Common.{◌≡◌, ◌∙◌, ℕ, Bool, List, Ok, IfErr, IfOk, ap, subst}
 use Rattle.std.proofs.lemmas.Result.{err_from_is_err_and}
 use Rattle.offer_header.specs.Limits.{HoldsEach}
 use Rattle.offer_header.specs.Names.{has_strategy}
 use Rattle.offer_header.proofs.Strategies.{same_strategies}
 use Rattle.swap_offer.specs.Job.{job_header_of, names_at}
-use Rattle.command_input.specs.Input.{Stops, fresh}
-use Rattle.command_input.proofs.Ahead.{no_part}
+use Rattle.command_input.specs.Input.{Stops, desk, fresh}
+use Rattle.command_input.proofs.Streams.{nothing_read}
 use Rattle.swap_commands.specs.Says.{IsAgainst}
 use Rattle.swap_commands.specs.Words.{OfJob}
 use Rattle.swap_commands.proofs.header.first_line.Goals as goal
@@ -13,7 +13,7 @@ use Rattle.swap_commands.proofs.header.first_line.Goals as goal
 pub returns-in_err-strategies-clause-stops : goal.returns-in_err-strategies-clause-stops
 returns-in_err-strategies-clause-stops g c = λ command asked.
     let p = err_from_is_err_and c.from_residual.result c.from_residual.ensures.1 in
-    rw (p.1, p.2, c.requires) (no_part (g.S.Source.left c.args.source.now) fresh (omega arith))
+    rw (p.1, p.2, c.requires) (nothing_read (g.S.Source.left c.args.source.now) (g.S.Source.faults c.args.source.now))
 
 pub returns-clause-header : goal.returns-clause-header
 returns-clause-header g c =
@@ -34,7 +34,8 @@ returns-clause-strategies g c =
 
 pub returns-clause-stops : goal.returns-clause-stops
 returns-clause-stops g c = λ command asked.
-    subst (λ (has : List ℕ → Bool). IfErr c.first_among.result (λ e. Stops (IsAgainst has (OfJob command)) (g.S.Source.left c.args.source.now)
-    (g.S.Source.left c.first_among.new.source) (g.S.Source.faults c.args.source.now) (g.S.Source.faults c.first_among.new.source) fresh
-    c.first_among.new.input e))
-    (ap has_strategy c.as_slice.ensures ∙ same_strategies _ (g.A.Strategies.holds c.args.staff.now) c.in_ok-strategies.ensures) (c.first_among.ensures.stops command asked)
+    subst (λ (has : List ℕ → Bool). IfErr c.first_among.result (λ e. Stops (IsAgainst has (OfJob command))
+    (desk (g.S.Source.left c.args.source.now) (g.S.Source.faults c.args.source.now) fresh)
+    (desk (g.S.Source.left c.first_among.new.source) (g.S.Source.faults c.first_among.new.source) c.first_among.new.input) e))
+    (ap has_strategy c.as_slice.ensures ∙ same_strategies _ (g.A.Strategies.holds c.args.staff.now) c.in_ok-strategies.ensures)
+    (c.first_among.ensures.stops command asked)

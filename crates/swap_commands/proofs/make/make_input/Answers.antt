@@ -1,8 +1,6 @@
-use Rattle.std.proofs.KnownBytes.{Keeps-refl}
+use Rattle.std.proofs.Common.{◌∙◌}
 use Rattle.swap_commands.specs.Words.{OfJob, Make}
-use Rattle.swap_commands.proofs.Saying.{says_make, says_unread}
-use Rattle.swap_io.proofs.Feeds.{calm_after}
-use Rattle.command_input.proofs.Streams.{calm_fault}
+use Rattle.swap_commands.proofs.Saying.{calm_stopped, says_make, says_stopped}
 use Rattle.swap_commands.proofs.make.make_input.Goals as goal
 
 pub returns-in-Ok-clause-says : goal.returns-in-Ok-clause-says
@@ -12,16 +10,20 @@ returns-in-Ok-clause-says g c =
 
 pub returns-clause-says : goal.returns-clause-says
 returns-clause-says g c =
-    let left = g.S.Source.left c.args.source.now in
-    let faults = g.S.Source.faults c.args.source.now in
-    says_unread _ _ (OfJob Make) left _ faults _ _ _ _ _ (Keeps-refl (g.K.Sink.taken c.args.sink.now)) c.stop.result
-    (c.stop.ensures.says _ (OfJob Make) left faults c.copy.ensures.later c.in-Err.ensures.stops)
+    rw c.unread.ensures
+    (says_stopped (g.A.Strategies.holds c.args.staff.now) (g.A.Strategies.gives c.args.staff.now) (OfJob Make) (g.S.Source.left c.args.source.now)
+    (g.S.Source.left c.copy.new.source) (g.S.Source.left c.stop.new.source)
+    (g.S.Source.faults c.args.source.now) (g.S.Source.faults c.copy.new.source) (g.S.Source.faults c.stop.new.source) c.copy.new.input
+    c.stop.new.self (g.K.Sink.taken c.args.sink.now) (g.K.Sink.faults c.args.sink.now) c.in-Err.fault c.stop.result c.in-Err.ensures.stops c.stop.ensures)
 
 -- No read failed, unless the status tells of it.
 
 pub returns-clause-calm : goal.returns-clause-calm
-returns-clause-calm g c =
-    c.stop.ensures.calm (g.S.Source.faults c.args.source.now) (calm_fault c.in-Err.fault _ _ c.in-Err.ensures.calm)
+returns-clause-calm g c = λ unless.
+    calm_stopped (g.A.Strategies.holds c.args.staff.now) (OfJob Make) (g.S.Source.left c.args.source.now) (g.S.Source.left c.copy.new.source)
+    (g.S.Source.left c.stop.new.source) (g.S.Source.faults c.args.source.now) (g.S.Source.faults c.copy.new.source)
+    (g.S.Source.faults c.stop.new.source) c.copy.new.input c.stop.new.self c.in-Err.fault c.stop.result c.in-Err.ensures.stops c.stop.ensures
+    (λ e. unless (c.unread.ensures ∙ e))
 
 pub returns-in-Ok-clause-calm : goal.returns-in-Ok-clause-calm
-returns-in-Ok-clause-calm g c = λ unless. calm_after _ _ _ _ c.in-Ok.ensures.calm
+returns-in-Ok-clause-calm g c = λ unless. c.in-Ok.ensures.copied.stands.calm

@@ -3,53 +3,54 @@ use Rattle.std.proofs.lemmas.Result.{err_from_is_err_and}
 use Rattle.offer_header.specs.Names.{has_strategy}
 use Rattle.many_lines.specs.Heading.{HeadingState, finish_told, unread}
 use Rattle.many_lines.specs.Whole.{HoldsEverySwap}
-use Rattle.swap_io.proofs.Feeds.{calm_after}
-use Rattle.command_input.specs.Input.{At, ahead, fresh}
+use Rattle.command_input.specs.Input.{At, ahead, desk, fresh}
 use Rattle.swap_commands.specs.Many.{headed}
-use Rattle.command_input.proofs.Ahead.{no_part}
 use Rattle.swap_commands.proofs.ManyTold.{heading_cut, heading_next, heading_read, heading_step, heading_walk}
 use Rattle.swap_commands.proofs.ManyWorlds.{unread_holds}
-use Rattle.command_input.proofs.Streams.{calm_line, Led, last_of, led_none, led_on_at, led_to_fault_at, line_of, line_stops, some_led}
+use Rattle.command_input.proofs.Streams.{Led, fits_fresh, last_of, led_none, led_on_at, led_stops, led_to_fault_at, line_of, nothing_read}
 use Rattle.swap_commands.proofs.many.heading_among.Goals as goal
 
 pub lines-init : goal.lines-init
 lines-init g c =
     let has = has_strategy c.args.strategies.now in
     let left = g.S.Source.left c.args.source.now in
+    let n = g.S.Source.faults c.args.source.now in
     let first : c.args.input.now ≡ fresh = c.requires in
     let new : c.in_ok-heading.heading ≡ unread = c.in_ok-heading.ensures in
     record {
       led = (
         0,
-        subst (λ (i : At). Led (heading_walk has) left fresh unread left i 0 c.in_ok-heading.heading) (sym first)
-            (subst (λ (h : HeadingState). Led (heading_walk has) left fresh unread left fresh 0 h) (sym new) (led_none (heading_walk has) left fresh unread)),
+        subst (λ (i : At). Led (heading_walk has) (desk left n fresh) unread (desk left n i) 0 c.in_ok-heading.heading) (sym first)
+            (subst (λ (h : HeadingState). Led (heading_walk has) (desk left n fresh) unread (desk left n fresh) 0 h) (sym new)
+            (led_none (heading_walk has) (desk left n fresh) unread (fits_fresh left fresh refl))),
       );
       held = subst (λ (h : HeadingState). HoldsEverySwap has h.many) (sym new) (unread_holds has);
-      ended = λ over. absurd (cc (sym (ap (λ (i : At). i.over) first) ∙ over));
-      within = let e = ap (λ (i : At). i.reading.taken) first in omega arith;
-      later = omega arith;
-      calm = refl;
     }
+
+pub next-requires : goal.next-requires
+next-requires g c = c.lines.invariant.led.1.stands.fits
 
 pub returns-in_err-heading-clause-stops : goal.returns-in_err-heading-clause-stops
 returns-in_err-heading-clause-stops g c =
     let p = err_from_is_err_and c.from_residual.result c.from_residual.ensures.1 in
-    rw (p.1, p.2, c.requires) (no_part (g.S.Source.left c.args.source.now) fresh (omega arith))
+    rw (p.1, p.2, c.requires) (nothing_read (g.S.Source.left c.args.source.now) (g.S.Source.faults c.args.source.now))
 
 pub returns-in_err-next-clause-stops : goal.returns-in_err-next-clause-stops
 returns-in_err-next-clause-stops g c =
     let has = has_strategy c.args.strategies.now in
+    let now = desk (g.S.Source.left c.next.new.source) (g.S.Source.faults c.next.new.source) c.next.new.self in
     let p = err_from_is_err_and c.from_residual-in_err-next.result c.from_residual-in_err-next.ensures.1 in
     rw (p.1, p.2)
-    (line_stops (λ bytes r. headed has (ahead fresh bytes) ≡ Err r) _ _ _ _ _ _ _ c.lines.input _ c.in_err-next.field-0.0
-    (some_led _ _ _ _ _ _ _ _ c.lines.invariant.led.1) c.lines.invariant.later c.in_err-next.ensures.fails)
+    (led_stops _ _ _ (λ bytes r. headed has (ahead fresh bytes) ≡ Err r) _ now _ _ c.lines.invariant.led.1 c.in_err-next.field-0.0
+    c.in_err-next.ensures.fails)
 
 pub returns-then-not-branch-clause-stops : goal.returns-then-not-branch-clause-stops
 returns-then-not-branch-clause-stops g c =
+    let now = desk (g.S.Source.left c.next.new.source) (g.S.Source.faults c.next.new.source) c.next.new.self in
     let not_over : is_some (finish_told c.lines.heading.stage) ≡ false =
     ap is_some (sym c.finish.ensures) ∙ (c.is_none.ensures ∙ ap not c.lines-test.true) in
-    heading_cut _ _ _ _ _ _ _ _ _ c.lines.heading c.cut_short.result c.cut_short.ensures not_over c.lines.invariant.led.1
-    (last_of _ _ _ _ _ c.if-not-branch.true c.in_ok-next.ensures.gives) c.in_ok-next.ensures.within c.in_ok-next.ensures.ended
+    heading_cut _ _ _ now _ c.lines.heading c.cut_short.result c.cut_short.ensures not_over c.lines.invariant.led.1
+    (last_of _ _ _ c.if-not-branch.true c.in_ok-next.ensures.gives)
 
 pub lines-preserved : goal.lines-preserved
 lines-preserved g c =
@@ -57,39 +58,35 @@ lines-preserved g c =
     let i = c.lines.invariant in
     let not_over : is_some (finish_told c.lines.heading.stage) ≡ false =
     ap is_some (sym c.finish.ensures) ∙ (c.is_none.ensures ∙ ap not c.lines-test.true) in
-    let line = line_of _ _ _ _ _ c.if-not-branch.false c.in_ok-next.ensures.gives in
+    let line = line_of _ _ _ c.if-not-branch.false c.in_ok-next.ensures.gives in
     record {
       led = (
         i.led.0 + 1,
-        led_on_at (heading_walk has) _ _ _ (heading_next has) _ _ _ _ i.led.0 c.lines.heading c.push.new.self
+        led_on_at (heading_walk has) _ _ (heading_next has) _ _ i.led.0 c.lines.heading c.push.new.self
             (heading_step has i.led.0 c.lines.heading not_over) i.led.1 line (rw (c.number.ensures, c.text.ensures) at c.in_ok-push.ensures.takes),
       );
       held = c.in_ok-push.ensures.held i.held;
-      ended = c.in_ok-next.ensures.ended;
-      within = c.in_ok-next.ensures.within;
-      later = omega (arith, i.later, c.next.ensures.later);
-      calm = calm_after _ _ _ _ c.in_ok-next.ensures.calm ∙ c.lines.invariant.calm;
     }
+
+pub lines-smaller : goal.lines-smaller
+lines-smaller g c =
+    let line = line_of _ _ _ c.if-not-branch.false c.in_ok-next.ensures.gives in
+    omega (arith, line.counted, line.few)
 
 pub returns-in_err-push-clause-stops : goal.returns-in_err-push-clause-stops
 returns-in_err-push-clause-stops g c =
     let has = has_strategy c.args.strategies.now in
     let i = c.lines.invariant in
+    let now = desk (g.S.Source.left c.next.new.source) (g.S.Source.faults c.next.new.source) c.next.new.self in
     let not_over : is_some (finish_told c.lines.heading.stage) ≡ false =
     ap is_some (sym c.finish.ensures) ∙ (c.is_none.ensures ∙ ap not c.lines-test.true) in
-    let line = line_of _ _ _ _ _ c.if-not-branch.false c.in_ok-next.ensures.gives in
+    let line = line_of _ _ _ c.if-not-branch.false c.in_ok-next.ensures.gives in
     let p = err_from_is_err_and c.from_residual-in_err-push.result c.from_residual-in_err-push.ensures.1 in
     rw (p.1, p.2)
-    (led_to_fault_at (heading_walk has) _ _ _ (heading_next has) _ _ _ _ i.led.0 c.lines.heading _ _ c.in_err-push.field-0.0
-    (heading_step has i.led.0 c.lines.heading not_over) i.led.1 line (rw (c.number.ensures, c.text.ensures) at c.in_err-push.ensures.takes)
-    c.in_ok-next.ensures.within c.in_ok-next.ensures.ended)
+    (led_to_fault_at (heading_walk has) _ _ (heading_next has) _ now i.led.0 c.lines.heading c.in_err-push.field-0.0
+    (heading_step has i.led.0 c.lines.heading not_over) i.led.1 line (rw (c.number.ensures, c.text.ensures) at c.in_err-push.ensures.takes))
 
 pub returns-clause-heading : goal.returns-clause-heading
 returns-clause-heading g c =
-    heading_read _ _ _ c.lines.input c.lines.invariant.led.0 c.lines.heading c.lines.invariant.led.1
+    heading_read _ _ _ c.lines.invariant.led.0 c.lines.heading c.lines.invariant.led.1
     (ap is_some (sym c.finish.ensures) ∙ (c.is_none.ensures ∙ ap not c.lines-test.false))
-
-pub returns-in_err-next-clause-calm : goal.returns-in_err-next-clause-calm
-returns-in_err-next-clause-calm g c =
-    let p = err_from_is_err_and c.from_residual-in_err-next.result c.from_residual-in_err-next.ensures.1 in
-    rw (p.1, p.2) (λ unless. calm_line c.in_err-next.field-0.0 _ _ c.in_err-next.ensures.calm unless ∙ c.lines.invariant.calm)

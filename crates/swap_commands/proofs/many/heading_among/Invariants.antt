@@ -1,21 +1,17 @@
-use Rattle.std.proofs.Common.{◌≡◌, ◌≤◌, ◌-◌, ℕ}
+use Rattle.std.proofs.Common.{◌-◌, ℕ}
 use Rattle.offer_header.specs.Names.{has_strategy}
 use Rattle.many_lines.specs.Heading.{unread}
 use Rattle.many_lines.specs.Whole.{HoldsEverySwap}
-use Rattle.command_input.specs.Input.{EndsAt, fresh, limit}
+use Rattle.command_input.specs.Input.{desk, fresh, limit}
 use Rattle.swap_commands.proofs.ManyTold.{heading_walk}
 use Rattle.command_input.proofs.Streams.{Led}
 use Rattle.swap_commands.proofs.many.heading_among.Given as goal
 
 abbrev pub invariant-lines : goal.invariant-lines
 invariant-lines g l = record {
-  led : (count : ℕ) × Led (heading_walk (has_strategy l.strategies)) (g.S.Source.left l.fn.source) fresh unread
-      (g.S.Source.left l.source) l.input count l.heading;
+  led : (count : ℕ) × Led (heading_walk (has_strategy l.strategies)) (desk (g.S.Source.left l.fn.source) (g.S.Source.faults l.fn.source) fresh) unread
+      (desk (g.S.Source.left l.source) (g.S.Source.faults l.source) l.input) count l.heading;
   held : HoldsEverySwap (has_strategy l.strategies) l.heading.many;
-  ended : EndsAt (g.S.Source.left l.source) l.input;
-  within : l.input.reading.taken ≤ limit;
-  later : g.S.Source.faults l.fn.source ≤ g.S.Source.faults l.source;
-  calm : g.S.Source.faults l.source ≡ g.S.Source.faults l.fn.source;
 }
 
 abbrev pub decreases-lines : goal.decreases-lines

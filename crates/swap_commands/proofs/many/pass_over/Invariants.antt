@@ -1,15 +1,13 @@
-use Rattle.std.proofs.Common.{◌≡◌, ◌≤◌, ◌-◌}
-use Rattle.command_input.specs.Input.{EndsAt, limit}
+use Rattle.std.proofs.Common.{◌≤◌, ◌-◌}
+use Rattle.command_input.specs.Input.{desk, limit}
 use Rattle.swap_commands.proofs.ManyTold.{AreTelling}
 use Rattle.swap_commands.proofs.many.pass_over.Given as goal
 
 abbrev pub invariant-lines : goal.invariant-lines
 invariant-lines g l = record {
-  telling : AreTelling l.many (g.S.Source.left l.fn.source) (g.S.Source.left l.source) l.fn.input l.input l.count;
-  ended : EndsAt (g.S.Source.left l.source) l.input;
+  telling : AreTelling l.many (desk (g.S.Source.left l.fn.source) (g.S.Source.faults l.fn.source) l.fn.input)
+      (desk (g.S.Source.left l.source) (g.S.Source.faults l.source) l.input) l.count;
   counted : l.count ≤ l.input.number;
-  later : g.S.Source.faults l.fn.source ≤ g.S.Source.faults l.source;
-  calm : g.S.Source.faults l.source ≡ g.S.Source.faults l.fn.source;
 }
 
 abbrev pub decreases-lines : goal.decreases-lines

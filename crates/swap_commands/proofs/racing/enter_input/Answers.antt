@@ -1,11 +1,13 @@
-use Rattle.swap_io.proofs.Feeds.{calm_after}
-use Rattle.command_input.proofs.Streams.{calm_fault}
+use Rattle.std.proofs.Common.{false}
+use Rattle.command_input.specs.Input.{desk, fresh}
+use Rattle.command_input.proofs.Streams.{calm_of, has_stopped}
+use Rattle.swap_commands.specs.Says.{IsAgainst}
 use Rattle.swap_commands.specs.Words.{OfJob, Race}
 use Rattle.swap_commands.proofs.Saying.{has_entered}
 use Rattle.swap_commands.proofs.racing.enter_input.Goals as goal
 
 pub returns-in-Ok-clause-entered : goal.returns-in-Ok-clause-entered
-returns-in-Ok-clause-entered g c = has_entered _ _ _ c.read_job.new.input c.in-Ok.entered.0 c.in-Ok.ensures.entered
+returns-in-Ok-clause-entered g c = has_entered _ _ _ _ _ c.read_job.new.input c.in-Ok.entered.0 c.in-Ok.ensures.entered
 
 pub returns-in-Ok-clause-can : goal.returns-in-Ok-clause-can
 returns-in-Ok-clause-can g c = record {
@@ -20,17 +22,30 @@ returns-in-Ok-clause-can g c = record {
 }
 
 pub returns-in-Err-clause-stopped : goal.returns-in-Err-clause-stopped
-returns-in-Err-clause-stopped g c = record {
-  unread = λ ticks transcript.
-      c.stop.ensures.says _ (OfJob (Race ticks transcript)) (g.S.Source.left c.args.source.now) (g.S.Source.faults c.args.source.now)
-      c.read_job.ensures.later (c.in-Err.ensures.stops ticks transcript);
-}
+returns-in-Err-clause-stopped g c =
+    let first = desk (g.S.Source.left c.args.source.now) (g.S.Source.faults c.args.source.now) fresh in
+    let mid = desk (g.S.Source.left c.read_job.new.source) (g.S.Source.faults c.read_job.new.source) c.read_job.new.input in
+    let now = desk (g.S.Source.left c.stop.new.source) (g.S.Source.faults c.stop.new.source) c.stop.new.self in
+    record {
+      now = c.stop.new.self;
+      stopped = λ ticks transcript.
+          has_stopped (IsAgainst _ (OfJob (Race ticks transcript))) first mid now c.in-Err.fault c.stop.result (c.in-Err.ensures.stops ticks transcript)
+          c.stop.ensures;
+    }
 
--- No read failed, unless the status tells of it.
+-- No read failed, unless the fault tells of it.
 
 pub returns-in-Ok-clause-calm : goal.returns-in-Ok-clause-calm
-returns-in-Ok-clause-calm g c = λ unless. calm_after _ _ _ _ c.in-Ok.ensures.calm
+returns-in-Ok-clause-calm g c = λ unless. c.in-Ok.ensures.entered.stands.calm
 
 pub returns-in-Err-clause-calm : goal.returns-in-Err-clause-calm
 returns-in-Err-clause-calm g c = λ unless.
-    c.stop.ensures.calm (g.S.Source.faults c.args.source.now) (calm_fault c.in-Err.fault _ _ c.in-Err.ensures.calm) (λ e. unless (cc e))
+    calm_of (IsAgainst (g.A.Strategies.holds c.args.staff.now) (OfJob (Race 1 false)))
+    (desk (g.S.Source.left c.args.source.now) (g.S.Source.faults c.args.source.now) fresh)
+    (desk (g.S.Source.left c.stop.new.source) (g.S.Source.faults c.stop.new.source) c.stop.new.self) c.stop.result
+    (has_stopped (IsAgainst (g.A.Strategies.holds c.args.staff.now) (OfJob (Race 1 false)))
+    (desk (g.S.Source.left c.args.source.now) (g.S.Source.faults c.args.source.now) fresh)
+    (desk (g.S.Source.left c.read_job.new.source) (g.S.Source.faults c.read_job.new.source) c.read_job.new.input)
+    (desk (g.S.Source.left c.stop.new.source) (g.S.Source.faults c.stop.new.source) c.stop.new.self) c.in-Err.fault c.stop.result
+    (c.in-Err.ensures.stops 1 false) c.stop.ensures)
+    (λ e. unless (cc e))

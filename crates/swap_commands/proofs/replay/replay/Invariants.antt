@@ -4,7 +4,7 @@ use Rattle.swap_run.specs.Run.{start, step}
 use Rattle.swap_world.specs.Cast.{cast_of}
 use Rattle.swap_world.specs.Gone.{HasAsked}
 use Rattle.swap_world.specs.Value.{Continues, new_world}
-use Rattle.command_input.specs.Input.{EndsAt, limit}
+use Rattle.command_input.specs.Input.{desk, limit}
 use Rattle.swap_commands.specs.Output.{cast_by}
 use Rattle.swap_commands.specs.Replay.{passed_over, replayed}
 use Rattle.command_input.proofs.Streams.{Led}
@@ -13,16 +13,15 @@ use Rattle.swap_commands.proofs.replay.replay.Given as goal
 
 abbrev pub invariant-lines : goal.invariant-lines
 invariant-lines g l = record {
-  led : (a : Answers) → Continues l.world a → Led (replayed (step (cast_by a l.job)) l.job) (g.S.Source.left l.fn.source) l.fn.input
-      (start (cast_of l.job)) (g.S.Source.left l.source) l.input l.count l.world.state;
-  passed : Led (replayed passed_over l.job) (g.S.Source.left l.fn.source) l.fn.input tt (g.S.Source.left l.source) l.input l.count tt;
+  led : (a : Answers) → Continues l.world a → Led (replayed (step (cast_by a l.job)) l.job) (desk (g.S.Source.left l.fn.source)
+      (g.S.Source.faults l.fn.source) l.fn.input) (start (cast_of l.job))
+      (desk (g.S.Source.left l.source) (g.S.Source.faults l.source) l.input) l.count l.world.state;
+  passed : Led (replayed passed_over l.job) (desk (g.S.Source.left l.fn.source) (g.S.Source.faults l.fn.source) l.fn.input) tt
+      (desk (g.S.Source.left l.source) (g.S.Source.faults l.source) l.input) l.count tt;
   asked : HasAsked (g.A.Strategies.gives l.staff) (new_world l.job) l.world;
   is_of : IsOf l.job l.world;
   goes_on : l.world.stopped ≡ false;
-  ended : EndsAt (g.S.Source.left l.source) l.input;
   counted : l.count ≤ l.input.number;
-  later : g.S.Source.faults l.fn.source ≤ g.S.Source.faults l.source;
-  calm : g.S.Source.faults l.source ≡ g.S.Source.faults l.fn.source;
 }
 
 abbrev pub decreases-lines : goal.decreases-lines
