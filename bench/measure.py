@@ -1,5 +1,5 @@
-"""What the scripts measure with: D, the time of one SHA-256 digest of one block by the kit's sha2; the least processor time of
-some runs; and the peak memory of one.
+"""What the scripts measure with: D, the time of one SHA-256 digest of one block by the kit's sha2;
+the least processor time of some runs; and the peak memory of one.
 """
 import resource
 import subprocess
@@ -67,6 +67,7 @@ def seconds(program, words, text, rounds=9):
 
 
 def peak(program, words, text):
-    """Megabytes, by time(1), which has few of its own: a child of this process begins with as many as this one has."""
+    """Megabytes, by time(1), which has few of its own: a child of this process begins with as many
+    as this one has."""
     run = subprocess.run(["/usr/bin/time", "-f", "%M", program, *words], input=text, capture_output=True)
     return int(run.stderr.split()[-1]) / 1024

@@ -1,4 +1,5 @@
-"""Random jobs with their events, from a generator of numbers, and random edits of the texts that the program reads."""
+"""Random jobs with their events, from a generator of numbers, and random edits of the texts that
+the program reads."""
 import json
 import os
 import re
@@ -22,7 +23,8 @@ def line_of(value, **more):
 
 
 def digraph(rng, parties, parallel):
-    """A ring over the parties in random order, and some arcs more; where parallel, several may have the same ends."""
+    """A ring over the parties in random order, and some arcs more; where parallel, several may have
+    the same ends."""
     order = rng.sample(range(parties), parties)
     arcs = [(order[at], order[(at + 1) % parties]) for at in range(parties)]
     for _ in range(rng.choice((0, 0, 1, 2, parties))):
@@ -207,7 +209,8 @@ class Job:
 
 
 class Many:
-    """A few swaps on a few chains. Most accounts have the units that are set aside of them; some have more, and a few have less or are missing."""
+    """A few swaps on a few chains. Most accounts have the units that are set aside of them; some
+    have more, and a few have less or are missing."""
 
     def __init__(self, rng, alone=None):
         """Of swaps and their events, or of one job alone without any."""
@@ -224,7 +227,8 @@ class Many:
             self.events += [*self.ending(), *(self.event() for _ in range(rng.choice((5, 20, 60))))]
 
     def ending(self):
-        """Events after which most slots are swept: every chain is above each horizon, and who conforms has looked around and acted."""
+        """Events after which most slots are swept: every chain is above each horizon, and who
+        conforms has looked around and acted."""
         yield from (b"tick %d 200" % chain for chain in range(len(self.chains)))
         for swap, job in enumerate(self.jobs):
             for number, name in enumerate(job.names):
@@ -282,7 +286,8 @@ class Many:
 
 
 def respelled(rng, text):
-    """Many swaps with a fault, mostly: lines that are left out, repeated, moved or joined, and edits of those that are words."""
+    """Many swaps with a fault, mostly: lines that are left out, repeated, moved or joined, and
+    edits of those that are words."""
     lines = text.split(b"\n")[:-1]
     for _ in range(rng.choice((1, 1, 1, 2))):
         at, kind = rng.randrange(len(lines)), rng.randrange(7)
@@ -322,7 +327,8 @@ def wished(rng, names, most):
 
 
 def crowded(rng, names, most):
-    """Nearly each of some parties wishes for a transfer to each other, which may take more leaders than are allowed; the others for some."""
+    """Nearly each of some parties wishes for a transfer to each other, which may take more leaders
+    than are allowed; the others for some."""
     crowd, others = names[:most], names[most:]
     return [list(ends) for ends in permutations(crowd, 2) if rng.random() > 0.01] + wished(rng, rng.choice((names, others)), 10)
 
@@ -344,7 +350,8 @@ def wishes(rng):
 
 
 def misstated(rng, line):
-    """The wishes with some fields, of the line or of an arc, that are left out, added, or have a value that may be wrong."""
+    """The wishes with some fields, of the line or of an arc, that are left out, added, or have a
+    value that may be wrong."""
     pieces, names = [line, line, *line["arcs"]], line["parties"]
     for _ in range(rng.choice((1, 1, 2, 3))):
         piece = rng.choice(pieces)
@@ -401,7 +408,8 @@ def renumbered(rng, line):
 
 
 def restated(rng, text):
-    """The transcript with some lines that state something else, and the numbers of entries as they then are."""
+    """The transcript with some lines that state something else, and the numbers of entries as they
+    then are."""
     lines = text.split(b"\n")[:-1]
     for _ in range(rng.choice((1, 1, 2, 4))):
         at = rng.randrange(2, len(lines))

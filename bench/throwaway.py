@@ -1,7 +1,8 @@
 """Builds a small program in a throw-away copy of the repository, and gives what it prints.
 
-Only a proved program is built as users run it, so the copy proves the program and what it stands on; `rt` takes over
-what it has kept of the libraries on this machine, and nothing of the copy stays.
+Only a proved program is built as users run it, so the copy proves the program and what it stands
+on; `rt` takes over what it has kept of the libraries on this machine, and nothing of the copy
+stays.
 """
 import os
 import shutil

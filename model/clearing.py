@@ -1,7 +1,8 @@
-"""Clearing: which swaps can be made of transfers that are wished for, and which transfers can't be in one.
+"""Clearing: which swaps can be made of transfers that are wished for, and which transfers can't be
+in one.
 
-docs/FORMATS.md, 'Wishes', and docs/DEFINITIONS.md, 'Clearing'. Here `parties` is how many there are, and `ends` the two ends of each
-arc, as in deal.py.
+docs/FORMATS.md, 'Wishes', and docs/DEFINITIONS.md, 'Clearing'. Here `parties` is how many there
+are, and `ends` the two ends of each arc, as in deal.py.
 """
 from .deal import KEYED, cycle_through, follower_cycle, need, reached
 from .offer import MOST_UNITS, NAME, examine_fields, examine_known, examine_range, lines_of, parsed, refuse
@@ -21,7 +22,8 @@ def is_cyclic(ends, arc):
 
 
 def left_out(ends):
-    """Arcs that aren't cyclic, ascending, each with the parties that its counterparty reaches: no arc leaves them, and its party isn't there."""
+    """Arcs that aren't cyclic, ascending, each with the parties that its counterparty reaches: no
+    arc leaves them, and its party isn't there."""
     return [(arc, sorted(reached(ends, ends[arc][1]))) for arc in range(len(ends)) if not is_cyclic(ends, arc)]
 
 
@@ -29,13 +31,15 @@ def left_out(ends):
 
 
 def together(parties, ends):
-    """Of each party those that are together with it: each of the two reaches the other, as each reaches itself."""
+    """Of each party those that are together with it: each of the two reaches the other, as each
+    reaches itself."""
     reach = [reached(ends, party) for party in range(parties)]
     return [[other for other in range(parties) if other in reach[party] and party in reach[other]] for party in range(parties)]
 
 
 class Group:
-    """All parties that are together with one of them, with all arcs between them, and what a swap of them needs."""
+    """All parties that are together with one of them, with all arcs between them, and what a swap
+    of them needs."""
 
     def __init__(self, parties, ends):
         self.parties = parties
@@ -58,7 +62,8 @@ def groups_of(parties, ends):
 
 
 def leaders_of(parties, ends):
-    """What remains of all parties when they are dropped, one after the other, wherever the rest is still a feedback vertex set.
+    """What remains of all parties when they are dropped, one after the other, wherever the rest is
+    still a feedback vertex set.
 
     Those that the fewest arcs touch are tried first, ties by number, so that a hub stays.
     """
@@ -73,7 +78,8 @@ def leaders_of(parties, ends):
 def leader_cycle(parties, ends, leaders, leader):
     """A shortest cycle that begins with the leader and holds no other.
 
-    Where several are as short, each step goes to the least party from which the rest can still be closed.
+    Where several are as short, each step goes to the least party from which the rest can still be
+    closed.
     """
     return cycle_through(ends, leader, {leader} | set(range(parties)) - set(leaders))
 
@@ -123,7 +129,8 @@ def wishes_of(line, count):
 
 
 def plain(wishes, group):
-    """The group as a plain job without seeds: version 2, with hashkeys, the least bound, its parties and arcs in the order of the line."""
+    """The group as a plain job without seeds: version 2, with hashkeys, the least bound, its
+    parties and arcs in the order of the line."""
     names = wishes["parties"]
     arcs, leaders = [wishes["arcs"][arc] for arc in group.arcs], [{"party": names[leader]} for leader in group.leaders]
     job = {"swap": 2, "mode": KEYED, "start": wishes["start"], "delta": wishes["delta"], "bound": group.bound}
@@ -131,7 +138,8 @@ def plain(wishes, group):
 
 
 def cleared(source):
-    """The answer to a text of wishes. The last reasons against it: a group with too many leaders, the least such; a second line."""
+    """The answer to a text of wishes. The last reasons against it: a group with too many leaders,
+    the least such; a second line."""
     lines = lines_of(source)
     if not lines:
         refuse("NotJson", 1)

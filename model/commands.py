@@ -1,4 +1,5 @@
-"""The commands: what is written for words and an input, by which status. docs/FORMATS.md, 'Status and standard error'."""
+"""The commands: what is written for words and an input, by which status. docs/FORMATS.md, 'Status
+and standard error'."""
 import re
 from functools import lru_cache
 from typing import NamedTuple
@@ -7,7 +8,7 @@ from .clearing import cleared
 from .hashes import hashlock_of, public_key, secret_of
 from .drawn import plain_job
 from .many import many
-from .offer import MOST_EVENTS, PLAIN, Offer, Refused, examine_seeds, header_of, job_of, lines_of, refuse
+from .offer import MOST_EVENTS, PLAIN, Offer, Refused, header_of, job_of, lines_of, refuse
 from .play import race, run
 from .texts import check_text, compact, joined, made_header, report, summary, transcript
 from .transcripts import MOST_BYTES, Reader, replayed, transcript_of
@@ -16,7 +17,7 @@ from .wallet import wallet_lines
 USAGE = ("usage: swap check | run [--transcript] | race [--ticks K] [--transcript] | audit | make"
          " | gen --seed S --parties N --events E [--summary] | clear | many")
 PARTY_USAGE = "usage: party NAME"
-FOUND_NOTHING, FOUND, WRONG_WORDS, REFUSED, TOO_LONG = 0, 1, 2, 3, 7
+FOUND_NOTHING, FOUND, WRONG_WORDS, REFUSED, READ_FAULT, WRITE_FAULT, NO_MEMORY, TOO_LONG = range(8)
 
 
 class Answer(NamedTuple):
@@ -28,7 +29,8 @@ class Answer(NamedTuple):
 # ---- words
 
 def command_of(words):
-    """The command that words ask for and its options, in any order, or None where they aren't well formed.
+    """The command that words ask for and its options, in any order, or None where they aren't well
+    formed.
 
     A number has 1 to 10 digits and stands behind its option, in a word of its own or after `=`.
     """
@@ -72,7 +74,8 @@ def check(text, _options):
 
 @lru_cache(maxsize=2)
 def ran(text):
-    """The offer, the book and the report of a job (kept, since a run is asked for its report and for its transcript)."""
+    """The offer, the book and the report of a job (kept, since a run is asked for its report and
+    for its transcript)."""
     offer, events = job_of(text, "run")
     book = run(offer, events)
     return offer, book, report(book, offer.conforming)
@@ -157,9 +160,20 @@ def answer(words, text):
     return answer_to(COMMANDS[command], b"" if command == "gen" else text, options)
 
 
+def takes_input(words):
+    """Whether the program reads its input for these words."""
+    asked = command_of(words)
+    return asked is not None and asked[0] != "gen"
+
+
+def party_takes_input(words):
+    """The same of the program `party`."""
+    return len(words) == 1
+
+
 def party_answer(words, text):
     """The same of the program `party`."""
-    return answer_to(wallet_lines, text, words[0]) if len(words) == 1 else wrong_words(PARTY_USAGE)
+    return answer_to(wallet_lines, text, words[0]) if party_takes_input(words) else wrong_words(PARTY_USAGE)
 
 
 def wrong_words(usage):

@@ -1,4 +1,5 @@
-"""The digraph, the times and the deal. docs/DEFINITIONS.md, 'The digraph', 'Times' and 'An accepted deal'."""
+"""The digraph, the times and the deal. docs/DEFINITIONS.md, 'The digraph', 'Times' and 'An accepted
+deal'."""
 from functools import cached_property
 
 from .hashes import tagged
@@ -61,7 +62,8 @@ def follower_cycle(parties, ends, leaders):
 
 
 def longest(ends, party, allowed, last=None):
-    """The most arcs on a path from a party over allowed ones (to the last, where one is named), None where there is none.
+    """The most arcs on a path from a party over allowed ones (to the last, where one is named),
+    None where there is none.
 
     The allowed parties have no cycle.
     """
@@ -86,7 +88,8 @@ def height(parties, ends, leaders):
 
 
 def distance(parties, ends, party, leader):
-    """`dist`, the greatest number of arcs on a path from a party to the leader, whose followers have no cycle."""
+    """`dist`, the greatest number of arcs on a path from a party to the leader, whose followers
+    have no cycle."""
     return longest(ends, party, set(range(parties)) - {leader}, leader)
 
 
@@ -123,7 +126,8 @@ class Deal:
         return need(len(self.names), self.ends, self.leaders)
 
     def timelock_of(self, arc):
-        """The timelock of an arc, which goes by the distance of its counterparty from the one leader."""
+        """The timelock of an arc, which goes by the distance of its counterparty from the one
+        leader."""
         steps = distance(len(self.names), self.ends, self.ends[arc][1], self.leaders[0])
         return self.start + (self.bound + 1 + steps) * self.delta
 

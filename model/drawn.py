@@ -1,4 +1,5 @@
-"""The job of a number, and the key stream that it is drawn from. docs/FORMATS.md, 'A job from a number'."""
+"""The job of a number, and the key stream that it is drawn from. docs/FORMATS.md, 'A job from a
+number'."""
 import struct
 
 from .hashes import tagged
@@ -17,7 +18,8 @@ def quarter(state, a, b, c, d):
 
 
 def words_of(key):
-    """The key stream of ChaCha20 (RFC 8439, in Bernstein's layout: a counter of 64 bits, and stream 0), word by word."""
+    """The key stream of ChaCha20 (RFC 8439, in Bernstein's layout: a counter of 64 bits, and stream
+    0), word by word."""
     counter = 0
     while True:
         first = [*struct.unpack("<4I", b"expand 32-byte k"), *struct.unpack("<8I", key), counter & 0xFFFFFFFF, counter >> 32, 0, 0]
@@ -45,7 +47,8 @@ def plain_job(number, parties, events):
 
 
 def drawn_arcs(draws, parties, leaders):
-    """The ring, and some arcs more, no two with the same ends, of which none leads among followers to a lesser number."""
+    """The ring, and some arcs more, no two with the same ends, of which none leads among followers
+    to a lesser number."""
     arcs = [(it, (it + 1) % parties) for it in range(parties)]
     for _ in range(parties):
         at, to = next(draws) % parties, next(draws) % parties

@@ -12,7 +12,8 @@ VALUE = 32
 
 
 class Hashkey(NamedTuple):
-    """A lock, a secret, a path and a signature per party of the path; with timelocks its lists are empty."""
+    """A lock, a secret, a path and a signature per party of the path; with timelocks its lists are
+    empty."""
 
     lock: int
     secret: bytes
@@ -90,7 +91,8 @@ def is_valid_signature(key, message, signed):
 
 
 def signed_message(deal_id, lock, suffix, secret, following):
-    """What the first party of a path's suffix signs; `following` is the next party's signature, or no bytes."""
+    """What the first party of a path's suffix signs; `following` is the next party's signature, or
+    no bytes."""
     return tagged(4, deal_id, bytes([lock, len(suffix)]), bytes(suffix), secret, following)
 
 
@@ -104,7 +106,8 @@ def extended(deal_id, hashkey, party, seed):
 
 
 def are_signed(deal_id, keys, hashkey):
-    """Whether each party on a path signed the rest of it, from itself on; `keys` are the public keys, by party and lock."""
+    """Whether each party on a path signed the rest of it, from itself on; `keys` are the public
+    keys, by party and lock."""
     for at, party in enumerate(hashkey.path):
         following = hashkey.signatures[at + 1] if at + 1 < len(hashkey.path) else b""
         message = signed_message(deal_id, hashkey.lock, hashkey.path[at:], hashkey.secret, following)

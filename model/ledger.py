@@ -11,7 +11,8 @@ PUBLISH, UNLOCK, CLAIM, REFUND, TRANSFER, TICK = "publish", "unlock", "claim", "
 
 
 class Terms(NamedTuple):
-    """What a contract says. Its times come from its own terms, so wrong terms make a contract of their own."""
+    """What a contract says. Its times come from its own terms, so wrong terms make a contract of
+    their own."""
 
     start: int
     delta: int
@@ -22,7 +23,8 @@ class Terms(NamedTuple):
 
 
 class Call(NamedTuple):
-    """A call, or a tick: its kind, and what it states: terms, a hashkey, a payment `(to, units)` or a number of heights."""
+    """A call, or a tick: its kind, and what it states: terms, a hashkey, a payment `(to, units)` or
+    a number of heights."""
 
     kind: str
     stated: object = None
@@ -44,7 +46,8 @@ class Opening(NamedTuple):
 
 
 def last_accepted(deal, terms, hashkey):
-    """The last height at which a contract accepts a hashkey: `deadline k` for a path of `k` arcs, or the timelock."""
+    """The last height at which a contract accepts a hashkey: `deadline k` for a path of `k` arcs,
+    or the timelock."""
     if not deal.is_keyed:
         return terms.timelock
     return terms.start + (terms.bound + len(hashkey.path)) * terms.delta
@@ -64,13 +67,16 @@ def is_path(deal, path):
 
 
 def what_is_wrong(deal, arc, hashlock, hashkey):
-    """The first thing that is wrong with a hashkey on an arc under a hashlock, or None where it is valid."""
+    """The first thing that is wrong with a hashkey on an arc under a hashlock, or None where it is
+    valid."""
     if hashlock_of(hashkey.secret) != hashlock:
         return ("WrongSecret",)
     if not deal.is_keyed:
         return ("WrongPath",) if hashkey.path or hashkey.signatures else None
     path = hashkey.path
-    if len(path) != len(hashkey.signatures) or not is_path(deal, path) or path[0] != deal.ends[arc][1] or path[-1] != deal.leaders[hashkey.lock]:
+    if len(path) != len(hashkey.signatures) or not is_path(deal, path):
+        return ("WrongPath",)
+    if path[0] != deal.ends[arc][1] or path[-1] != deal.leaders[hashkey.lock]:
         return ("WrongPath",)
     if not are_signed(deal.id, deal.keys, hashkey):
         return ("WrongSignature",)
@@ -78,7 +84,8 @@ def what_is_wrong(deal, arc, hashlock, hashkey):
 
 
 class Ledger:
-    """A history: the list of a ledger's entries, oldest first. What is asked of it is asked of its first `end` entries.
+    """A history: the list of a ledger's entries, oldest first. What is asked of it is asked of its
+    first `end` entries.
 
     The correct terms of its arc are those of the deal.
     """
@@ -130,7 +137,8 @@ class Ledger:
 
     # ---- the table of replies: the first row that applies
     def reply(self, sender, call):
-        """The reply of the ledger to a call of a party or a tick of the clock, over all of its entries."""
+        """The reply of the ledger to a call of a party or a tick of the clock, over all of its
+        entries."""
         if call.kind == TICK:
             is_full = self.ticks == MOST_TICKS or self.height + call.stated > MOST_HEIGHT
             return CLOCK_FULL if is_full else ACCEPTED
@@ -188,7 +196,8 @@ class Ledger:
 
     # ---- growing
     def make(self, sender, call):
-        """Makes a call or a tick, and answers the reply. A sender or a clock that is full leaves no entry."""
+        """Makes a call or a tick, and answers the reply. A sender or a clock that is full leaves no
+        entry."""
         reply = self.reply(sender, call)
         if reply not in (SENDER_FULL, CLOCK_FULL):
             self.push(sender, call, reply)
@@ -206,7 +215,8 @@ class Ledger:
             self.accept(at, sender, call)
 
     def accept(self, at, sender, call):
-        """What an accepted call does: units move from accounts to the contract and back, and locks open."""
+        """What an accepted call does: units move from accounts to the contract and back, and locks
+        open."""
         if call.kind == PUBLISH:
             self.publish_entry, self.held = at, call.stated.amount
             self.balances[self.party] -= self.held

@@ -1,8 +1,8 @@
 """Many swaps on shared chains: reading their lines, running them, and what is written.
 
-A chain has one height and accounts with free units. Opening sets the amount of each arc aside from its payer's account, for the arc's slot.
-A slot is a ledger as every other, but that it ticks with its chain, and that it can be swept once its swap has ended: its balances
-then go to the accounts.
+A chain has one height and accounts with free units. Opening sets the amount of each arc aside from
+its payer's account, for the arc's slot. A slot is a ledger as every other, but that it ticks with
+its chain, and that it can be swept once its swap has ended: its balances then go to the accounts.
 """
 import re
 
@@ -19,12 +19,14 @@ NUMBER = re.compile("0|[1-9][0-9]{0,19}")
 # ---- chains
 
 class Slot(Ledger):
-    """An arc's place on a chain. Its entries are the chain's ticks and the calls on it, but for those answered `Swept`."""
+    """An arc's place on a chain. Its entries are the chain's ticks and the calls on it, but for
+    those answered `Swept`."""
 
     is_swept = False
 
     def make(self, sender, call):
-        """On a swept slot a transfer is `Swept`, and where nothing was published every call is; no such call leaves an entry."""
+        """On a swept slot a transfer is `Swept`, and where nothing was published every call is; no
+        such call leaves an entry."""
         if self.is_swept and call.kind != TICK and (call.kind == TRANSFER or self.publish_entry is None):
             return SWEPT
         return super().make(sender, call)
@@ -77,8 +79,8 @@ class Many:
             self.worlds[stated[0]].step(stated[1])
 
     def sweep(self, swap, arc, is_final=False):
-        """The first reply that applies; where none does, the slot's balances go to its parties' accounts. The sweeps of a fair finish
-        pass over `Unpublished`."""
+        """The first reply that applies; where none does, the slot's balances go to its parties'
+        accounts. The sweeps of a fair finish pass over `Unpublished`."""
         world = self.worlds[swap]
         slot, chain = world.ledgers[arc], self.chains[self.places[swap][arc]]
         if chain.height <= world.deal.horizon:
@@ -95,8 +97,8 @@ class Many:
         return ACCEPTED
 
     def finish(self):
-        """Rounds until every chain is above every horizon: the swaps in order, each with its parties' turns, then a tick of every chain;
-        then every slot is swept, in order."""
+        """Rounds until every chain is above every horizon: the swaps in order, each with its
+        parties' turns, then a tick of every chain; then every slot is swept, in order."""
         horizon = max(offer.deal.horizon for offer in self.offers)
         while any(chain.height <= horizon for chain in self.chains):
             for world in self.worlds:
@@ -109,7 +111,8 @@ class Many:
                 self.sweep(swap, arc, True)
 
     def text(self):
-        """The swaps' reports, the chains with their accounts, and how many findings all reports have."""
+        """The swaps' reports, the chains with their accounts, and how many findings all reports
+        have."""
         out, count = b"", 0
         for swap, world in enumerate(self.worlds):
             told, found = report(world.book(), world.offer.conforming)
@@ -159,7 +162,8 @@ def chain_of(words, line):
 
 
 def swap_of(words, line, chains, reader):
-    """A swap: a chain per arc, and then its header line, without `finish`; what is against the header comes first."""
+    """A swap: a chain per arc, and then its header line, without `finish`; what is against the
+    header comes first."""
     places = [number_in(it, line, len(chains) - 1) for it in words[1:]]
     number, text = reader.next()
     offer = header_of(text, number, JOB)
@@ -172,7 +176,8 @@ def swap_of(words, line, chains, reader):
 
 
 def head_of(reader):
-    """The lines up to `finish`: the chains, the swaps with their places, and whether the finish is fair."""
+    """The lines up to `finish`: the chains, the swaps with their places, and whether the finish is
+    fair."""
     line, text = reader.next()
     if text != b"swap many 1":
         bad(line)
@@ -191,7 +196,8 @@ def head_of(reader):
 
 
 def event_in(text, line, chains, swaps):
-    """An event's line: `tick C K`, `pay C NAME NAME UNITS`, `sweep S A`, or a swap's number and an event that is neither a tick nor a crash."""
+    """An event's line: `tick C K`, `pay C NAME NAME UNITS`, `sweep S A`, or a swap's number and an
+    event that is neither a tick nor a crash."""
     words = words_of(text)
     if words[0] == "tick" and len(words) == 3:
         return "tick", number_in(words[1], line, len(chains) - 1), number_in(words[2], line, MOST_NUMBER, 1)
@@ -214,7 +220,8 @@ def event_in(text, line, chains, swaps):
 
 
 def examine_accounts(chains, swaps):
-    """Where no line has a fault: each arc's parties have accounts on its chain, and each account has the units of the arcs that it pays for."""
+    """Where no line has a fault: each arc's parties have accounts on its chain, and each account
+    has the units of the arcs that it pays for."""
     for swap, (offer, places) in enumerate(swaps):
         for arc, chain in enumerate(places):
             if any(offer.deal.names[party] not in chains[chain].free for party in offer.deal.ends[arc]):

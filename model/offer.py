@@ -1,7 +1,9 @@
-"""Reading an offer: a job, a plain job, or the header of a transcript, or the first reason against it.
+"""Reading an offer: a job, a plain job, or the header of a transcript, or the first reason against
+it.
 
-docs/FORMATS.md, 'A job', 'Why a job is refused' and 'A plain job'. The header is examined step by step, then each event line by the first
-five steps; within a step the fields go in the order of the tables, and lists by place.
+docs/FORMATS.md, 'A job', 'Why a job is refused' and 'A plain job'. The header is examined step by
+step, then each event line by the first five steps; within a step the fields go in the order of the
+tables, and lists by place.
 """
 import json
 import re
@@ -39,7 +41,8 @@ def lines_of(text):
 
 
 def integer(text):
-    """A number without sign, fraction and exponent; of others it matters alone that they are JSON."""
+    """A number without sign, fraction and exponent; of others it matters alone that they are
+    JSON."""
     if len(text) > 20:
         return real(text)
     return -1.0 if text.startswith("-") else int(text)
@@ -119,7 +122,8 @@ def object_of(table):
 
 
 def examine_fields(value, line, table):
-    """The fields in the order of their table, where `?` marks one that may be absent; then the least, by its bytes, that isn't allowed there."""
+    """The fields in the order of their table, where `?` marks one that may be absent; then the
+    least, by its bytes, that isn't allowed there."""
     for name, kind in table.items():
         if name.rstrip("?") in value:
             kind(value[name.rstrip("?")], line, name.rstrip("?"))
@@ -167,7 +171,8 @@ def actor_kind(value, line, field):
 
 
 def header_table(header, form):
-    """The fields of a header: what they are goes by its version, its mode, and whether it is a job's, a plain one or a transcript's."""
+    """The fields of a header: what they are goes by its version, its mode, and whether it is a
+    job's, a plain one or a transcript's."""
     is_timed = header.get("mode") == TIMED
     modes = one_of(KEYED) if header.get("swap") == 2 else one_of(KEYED, TIMED)
     actor = one_of("manual", "conforming") if form == STATED else actor_kind
@@ -310,7 +315,8 @@ def is_conforming(party):
 
 
 class Places:
-    """What the step on adjacency needs of a header: by names, who conforms, who has a seed, which arcs touch whom."""
+    """What the step on adjacency needs of a header: by names, who conforms, who has a seed, which
+    arcs touch whom."""
 
     def __init__(self, header):
         self.ends = [(arc["from"], arc["to"]) for arc in header["arcs"]]
@@ -319,7 +325,8 @@ class Places:
         self.touching = {name: {arc for arc, ends in enumerate(self.ends) if name in ends} for name in self.conforming}
 
     def examine(self, name, move, line):
-        """A move stands on an arc that touches its party; who crafts doesn't conform; a transfer goes to a party of the arc."""
+        """A move stands on an arc that touches its party; who crafts doesn't conform; a transfer
+        goes to a party of the arc."""
         if move["arc"] not in self.touching[name]:
             refuse("NotAdjacent", line)
         if any(self.conforming[each] for each in move.get("via", [])):
@@ -405,7 +412,8 @@ def examine_times(deal, form):
 
 
 def examine_seeds(offer, needs_seeds):
-    """The step on seeds: who conforms, or crafts in a script, has one (for a run or a race), and it gives what the deal states."""
+    """The step on seeds: who conforms, or crafts in a script, has one (for a run or a race), and it
+    gives what the deal states."""
     crafters = {name for party in offer.header["parties"] for move in script_of(party) for name in move.get("via", [])}
     for name, conforms, seed in zip(offer.deal.names, offer.conforming, offer.seeds):
         if needs_seeds and seed is None and (conforms or name in crafters):
@@ -418,7 +426,8 @@ def examine_seeds(offer, needs_seeds):
 
 
 def is_given(deal, party, lock, seed):
-    """Whether a seed gives the public key that the deal states for a lock, and the hashlock where the party leads it."""
+    """Whether a seed gives the public key that the deal states for a lock, and the hashlock where
+    the party leads it."""
     if deal.is_keyed and public_key(seed, party, lock) != deal.keys[party][lock]:
         return False
     return deal.leaders[lock] != party or hashlock_of(secret_of(seed)) == deal.hashlocks[lock]

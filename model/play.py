@@ -1,4 +1,5 @@
-"""Runs: events, scripts, strategies, fair finishes, and one order of a race. docs/DEFINITIONS.md, 'A run' and 'A race'."""
+"""Runs: events, scripts, strategies, fair finishes, and one order of a race. docs/DEFINITIONS.md,
+'A run' and 'A race'."""
 from .deal import PATH_LIMIT
 from .hashes import Hashkey, extended, secret_of
 from .ledger import CLAIM, PUBLISH, REFUND, TICK, TRANSFER, UNLOCK, Call, Ledger
@@ -7,7 +8,8 @@ from .strategies import STRATEGIES
 
 
 class World:
-    """The ledgers of a run, and of each party what it knows, the hashkeys that it noted, its place in its script and its turn number."""
+    """The ledgers of a run, and of each party what it knows, the hashkeys that it noted, its place
+    in its script and its turn number."""
 
     def __init__(self, offer, kind=Ledger):
         self.offer, self.deal = offer, offer.deal
@@ -31,14 +33,16 @@ class World:
         self.knowledge[party].ends[arc] = len(self.ledgers[arc].entries)
 
     def call(self, party, move):
-        """A call of a party that doesn't conform, as its move stands over all histories so far; it then knows that ledger up to its end."""
+        """A call of a party that doesn't conform, as its move stands over all histories so far; it
+        then knows that ledger up to its end."""
         resolved = self.resolved(self.book(), move)
         if resolved:
             self.ledgers[move["arc"]].make(party, resolved)
             self.look(party, move["arc"])
 
     def act(self, party):
-        """An act makes the call that a party makes over what it knows, if any, and it then knows that ledger up to its end."""
+        """An act makes the call that a party makes over what it knows, if any, and it then knows
+        that ledger up to its end."""
         made = self.next_call(party)
         if made:
             arc, call = made
@@ -47,7 +51,8 @@ class World:
         return made is not None
 
     def next_call(self, party):
-        """The call of a party's act: by what is due, by its script, or by its strategy; a manual one makes none."""
+        """The call of a party's act: by what is due, by its script, or by its strategy; a manual
+        one makes none."""
         actor = self.offer.actors[party]
         if self.offer.conforming[party]:
             return self.conforming_call(party)
@@ -59,17 +64,20 @@ class World:
         return STRATEGIES[actor["strategy"]](self.knowledge[party], party, self.turns[party] - 1)
 
     def conforming_call(self, party):
-        """The first call that is due over what the party knows; it notes the hashkey that it signed."""
+        """The first call that is due over what the party knows; it notes the hashkey that it
+        signed."""
         due = first_due(self.knowledge[party], party, self.offer.seeds[party], self.signed[party])
         if due and due[1].kind == UNLOCK:
             self.signed[party][due[1].stated.lock] = due[1].stated
         return due
 
     def crash(self, party, after, image):
-        """A conforming party is stopped in its act and restarts: it makes no call, has the hashkeys that its disk has, and knows each ledger it is next to.
+        """A conforming party is stopped in its act and restarts: it makes no call, has the hashkeys
+        that its disk has, and knows each ledger it is next to.
 
-        Of the four disk calls that record a hashkey the third writes its gate. Stopped within that one or the next, the gate isn't synced: it is open
-        where what isn't synced holds its new bytes. Any other act makes no disk call.
+        Of the four disk calls that record a hashkey the third writes its gate. Stopped within that
+        one or the next, the gate isn't synced: it is open where what isn't synced holds its new
+        bytes. Any other act makes no disk call.
         """
         due = first_due(self.knowledge[party], party, self.offer.seeds[party], self.signed[party])
         if due and due[1].kind == UNLOCK and after >= 2 and image == 1:
@@ -78,7 +86,8 @@ class World:
             self.look(party, arc)
 
     def scripted_call(self, party, script):
-        """A script passes over its waits whose height is reached, stops at one whose height isn't, and uses up one other move."""
+        """A script passes over its waits whose height is reached, stops at one whose height isn't,
+        and uses up one other move."""
         view = self.knowledge[party]
         while self.places[party] < len(script):
             move = script[self.places[party]]
@@ -114,7 +123,8 @@ class World:
         return opening and opening.hashkey
 
     def craft_hashkey(self, view, move):
-        """A hashkey made from the last named party to the first, each with a key made anew from its seed; with timelocks the secret alone."""
+        """A hashkey made from the last named party to the first, each with a key made anew from its
+        seed; with timelocks the secret alone."""
         via = [self.offer.number_of(name) for name in move["via"]]
         if "onto" in move:
             hashkey = self.replay_hashkey(view, move)
@@ -141,7 +151,8 @@ class World:
             self.call(self.offer.number_of(event["call"]), event["move"])
 
     def turn(self, party):
-        """A party's turn in a round: it looks at each arc that touches it, and then acts; a conforming one until nothing is due."""
+        """A party's turn in a round: it looks at each arc that touches it, and then acts; a
+        conforming one until nothing is due."""
         if self.offer.actors[party] == "manual":
             return
         for arc in self.deal.touching[party]:
@@ -153,10 +164,12 @@ class World:
                 pass
             self.rests[party] = self.calls_beside(party), self.waits_of(party)
 
-    # Where nothing is due for a party, ticks up to the least expiry that it waits for make nothing due: it needn't be asked again.
+    # Where nothing is due for a party, ticks up to the least expiry that it waits for make nothing
+    # due: it needn't be asked again.
 
     def is_at_rest(self, party):
-        """Whether nothing was due for a party, and since then nothing but ticks came beside it, up to the expiries that it waits for."""
+        """Whether nothing was due for a party, and since then nothing but ticks came beside it, up
+        to the expiries that it waits for."""
         if self.rests[party] is None:
             return False
         calls, waits = self.rests[party]
@@ -167,13 +180,15 @@ class World:
         return sum(len(ledger.entries) - ledger.ticks for ledger in (self.ledgers[arc] for arc in self.deal.touching[party]))
 
     def waits_of(self, party):
-        """The arcs on which a party waits for a refund, each with the least expiry of a closed lock."""
+        """The arcs on which a party waits for a refund, each with the least expiry of a closed
+        lock."""
         view = self.knowledge[party]
         waiting = [arc for arc in self.deal.leaving[party] if view.published(arc) and not view.settled(arc) and not view.is_triggered(arc)]
         return [(arc, view.least_expiry(arc)) for arc in waiting if not view.calls(party, arc, REFUND)]
 
     def finish(self):
-        """A fair finish repeats rounds until every ledger is above the horizon: each party's turn, then a tick of each that isn't."""
+        """A fair finish repeats rounds until every ledger is above the horizon: each party's turn,
+        then a tick of each that isn't."""
         while any(ledger.height <= self.deal.horizon for ledger in self.ledgers):
             for party in self.deal.parties:
                 self.turn(party)
@@ -182,7 +197,8 @@ class World:
                     self.tick(ledger.arc, 1)
 
     def race(self, heights):
-        """One order of a race: in each of the fewest rounds that pass the horizon each party has its turn, and then every ledger ticks."""
+        """One order of a race: in each of the fewest rounds that pass the horizon each party has
+        its turn, and then every ledger ticks."""
         for _ in range(self.deal.horizon // heights + 1):
             for party in self.deal.parties:
                 self.turn(party)
@@ -199,7 +215,8 @@ def stated_terms(correct, move):
 
 
 def run(offer, events):
-    """The histories of a job: those of the run of its events and, where the job asks for it, of the fair finish after it."""
+    """The histories of a job: those of the run of its events and, where the job asks for it, of the
+    fair finish after it."""
     world = World(offer)
     for event in events:
         world.step(event)

@@ -1,4 +1,5 @@
-"""The strategies of the program: what each answers, by the deal, the party, its turn number and what it knows.
+"""The strategies of the program: what each answers, by the deal, the party, its turn number and
+what it knows.
 
 Each answers an arc and a call, or None. 'Number t of a list' is counted round and round.
 """
@@ -20,7 +21,8 @@ def greedy(view, party, turn):
 
 
 def replayer(view, party, turn):
-    """An unlock on entering arc number t with hashkey number t of those of the accepted unlocks that it knows, by arc and entry."""
+    """An unlock on entering arc number t with hashkey number t of those of the accepted unlocks
+    that it knows, by arc and entry."""
     hashkey = around(list(known_hashkeys(view)), turn)
     return (around(view.deal.entering[party], turn), Call(UNLOCK, hashkey)) if hashkey else None
 
@@ -33,7 +35,8 @@ def known_hashkeys(view):
 
 
 def spoiler(view, party, turn):
-    """A publish of the correct terms on leaving arc number t, but for a bound of 0, which is never correct."""
+    """A publish of the correct terms on leaving arc number t, but for a bound of 0, which is never
+    correct."""
     arc = around(view.deal.leaving[party], turn)
     return arc, Call(PUBLISH, view.ledgers[arc].correct_terms._replace(bound=0))
 

@@ -1,4 +1,5 @@
-"""What is written: reports, transcripts, made jobs and summaries. docs/FORMATS.md, 'A report', 'A transcript', 'A plain job', 'A summary'."""
+"""What is written: reports, transcripts, made jobs and summaries. docs/FORMATS.md, 'A report', 'A
+transcript', 'A plain job', 'A summary'."""
 import json
 
 from .ledger import ACCEPTED, PUBLISH, TICK, TRANSFER, UNLOCK
@@ -22,7 +23,8 @@ def words(reply):
 # ---- a check
 
 def check_text(deal):
-    return joined(["swap accepted", "need %d" % deal.need, "open by %d" % deal.open_by, "expiry %d" % deal.last_expiry, "horizon %d" % deal.horizon])
+    times = ["need %d" % deal.need, "open by %d" % deal.open_by, "expiry %d" % deal.last_expiry, "horizon %d" % deal.horizon]
+    return joined(["swap accepted", *times])
 
 
 # ---- a report
@@ -76,7 +78,8 @@ def transcript(book, offer):
 def transcript_header(offer):
     """The job's header with each actor as `conforming` or `manual`, no seeds and no `finish`."""
     header = stated_header(offer)
-    header["parties"] = [{"name": name, "actor": "conforming" if conforms else "manual"} for name, conforms in zip(offer.deal.names, offer.conforming)]
+    actors = ["conforming" if conforms else "manual" for conforms in offer.conforming]
+    header["parties"] = [{"name": name, "actor": actor} for name, actor in zip(offer.deal.names, actors)]
     return header
 
 
@@ -120,7 +123,8 @@ def made_header(offer):
     header = stated_header(offer)
     header["finish"] = "fair" if offer.is_fair else "stop"
     header["parties"] = [
-        {"name": name, "actor": made_actor(actor), "seed": seed.hex()} for name, actor, seed in zip(offer.deal.names, offer.actors, offer.seeds)
+        {"name": name, "actor": made_actor(actor), "seed": seed.hex()}
+        for name, actor, seed in zip(offer.deal.names, offer.actors, offer.seeds)
     ]
     return compact(header)
 

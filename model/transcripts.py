@@ -1,4 +1,5 @@
-"""Reading a transcript, and replaying it. docs/FORMATS.md, 'A transcript'. Every line but the header has one spelling."""
+"""Reading a transcript, and replaying it. docs/FORMATS.md, 'A transcript'. Every line but the
+header has one spelling."""
 import re
 
 from .deal import PATH_LIMIT
@@ -149,7 +150,8 @@ def transcript_of(reader):
 # ---- a replay
 
 def replayed(offer, stated):
-    """The book of a transcript: every ledger replayed from its first entry, or the first reply that isn't the ledger's."""
+    """The book of a transcript: every ledger replayed from its first entry, or the first reply that
+    isn't the ledger's."""
     ledgers = [Ledger(offer.deal, arc) for arc in offer.deal.arcs]
     for ledger, entries in zip(ledgers, stated):
         for at, (sender, call, reply) in enumerate(entries):

@@ -1,7 +1,9 @@
-"""The program beside the model (`model/`): each answer of the one has to be that of the other, byte for byte.
+"""The program beside the model (`model/`): each answer of the one has to be that of the other, byte
+for byte.
 
-The tests here are the stored offers: those of `examples/` by each command, its wishes by `clear`, its swaps on shared chains by `many`, an
-exchange's day by all that it takes, and the runs of `.ci/runs`. The rows of `tables/` are asked so too.
+The tests here are the stored offers: those of `examples/` by each command, its wishes by `clear`,
+its swaps on shared chains by `many`, an exchange's day by all that it takes, and the runs of
+`.ci/runs`. The rows of `tables/` are asked so too.
 """
 import importlib.machinery
 import importlib.util
@@ -23,7 +25,8 @@ def shortened(text):
 
 
 def must_agree(answer, words, text, found):
-    """Tests an answer of the program against the model's, which `answer` gives. A race has no one text: of it a refusal is determined, and who takes part."""
+    """Tests an answer of the program against the model's, which `answer` gives. A race has no one
+    text: of it a refusal is determined, and who takes part."""
     wanted = answer(words, text)
     told = "the model answers %d %r %r" % (wanted.status, shortened(wanted.out), shortened(wanted.err))
     if words[:1] == ["race"] and wanted.status in (0, 1):
@@ -33,7 +36,8 @@ def must_agree(answer, words, text, found):
 
 
 def determined(race):
-    """What is determined of a race's text: the swap, its arcs and parties, and a transcript's header line."""
+    """What is determined of a race's text: the swap, its arcs and parties, and a transcript's
+    header line."""
     return re.findall(rb"(?m)^(?:swap .*|ledger .* -> .*|party \S+ \w+|\{.*)", race)
 
 

@@ -1,4 +1,5 @@
-"""Tests of what is cleared of wishes, against the definitions, over all cycles of small digraphs; each group that comes out is made and swapped."""
+"""Tests of what is cleared of wishes, against the definitions, over all cycles of small digraphs;
+each group that comes out is made and swapped."""
 import itertools
 import json
 import random
@@ -13,7 +14,8 @@ from texts import asked, is_wanted
 
 
 class Wishes:
-    """Proposed transfers between parties by their numbers, with the names and amounts of the line."""
+    """Proposed transfers between parties by their numbers, with the names and amounts of the
+    line."""
 
     def __init__(self, count, arcs, start=10, delta=10):
         self.names = [f"p{place}" for place in range(count)]
@@ -57,7 +59,8 @@ def breaks_all(arcs, leaders):
 
 
 def leaders_of(parties, arcs):
-    """What remains of all parties when they are dropped, those first that the fewest arcs touch, wherever the rest breaks all cycles."""
+    """What remains of all parties when they are dropped, those first that the fewest arcs touch,
+    wherever the rest breaks all cycles."""
     leaders = set(parties)
     for party in sorted(parties, key=lambda p: (sum(p in arc for arc in arcs), p)):
         if breaks_all(arcs, leaders - {party}):
@@ -83,7 +86,8 @@ def seeded(line):
 
 
 def is_swapped(program, line):
-    """The group is made, accepted, run and raced, and each party has its deal; no smaller bound would do."""
+    """The group is made, accepted, run and raced, and each party has its deal; no smaller bound
+    would do."""
     plain = seeded(line)
     job = done(program, ["make"], json.dumps(plain))
     must(done(program, ["check"], job).startswith(f"swap accepted\nneed {plain['bound']}\n"), "another bound is needed")
@@ -93,7 +97,8 @@ def is_swapped(program, line):
 
 
 def is_cycle(wishes, arcs, cycle, leader, leaders):
-    """The cycle is a shortest one of distinct parties that begins with the leader and holds no other."""
+    """The cycle is a shortest one of distinct parties that begins with the leader and holds no
+    other."""
     places = [wishes.names.index(name) for name in cycle.split(",")]
     must(places[0] == leader and len(set(places)) == len(places), f"the cycle {cycle}")
     must(all(step in arcs for step in zip(places, places[1:] + places[:1])), f"no arc along the cycle {cycle}")
@@ -149,7 +154,8 @@ def hub(count, at=0):
 
 
 def drawn(number):
-    """Wishes drawn from a number: up to 12 parties, and as many arcs as make groups of several sizes. Two rounds of a race fit in delta."""
+    """Wishes drawn from a number: up to 12 parties, and as many arcs as make groups of several
+    sizes. Two rounds of a race fit in delta."""
     draw = random.Random(number)
     count = draw.randint(2, 12)
     arcs = [tuple(draw.sample(range(count), 2)) for _ in range(draw.randint(1, 2 * count))]

@@ -1,8 +1,10 @@
 """Runs with crashes beside the same runs without: a crash costs nothing but the act that it stops.
 
-Passes go over the parties, in each of which a party looks at each arc that touches it, or crashes, and then acts; a fair finish follows.
-Where everybody crashes before each act, the report is that of the run in which nobody does. Where a party crashes in place of looking,
-what it knows then is the same. The rows of `tables/crashes.txt` have what differs: an act that is stopped, and a hashkey that is kept.
+Passes go over the parties, in each of which a party looks at each arc that touches it, or crashes,
+and then acts; a fair finish follows. Where everybody crashes before each act, the report is that of
+the run in which nobody does. Where a party crashes in place of looking, what it knows then is the
+same. The rows of `tables/crashes.txt` have what differs: an act that is stopped, and a hashkey that
+is kept.
 """
 import json
 import sys
@@ -27,7 +29,8 @@ def looks(header, name):
 
 
 def job(header, before_act):
-    """The deal with a fair finish after passes, in which these events come before an act of the party of a name."""
+    """The deal with a fair finish after passes, in which these events come before an act of the
+    party of a name."""
     names = [party["name"] for party in header["parties"]]
     events = [event for _ in range(PASSES) for name in names for event in [*before_act(name), {"act": name}]]
     return "".join(json.dumps(each) + "\n" for each in [header | {"finish": "fair"}, *events])

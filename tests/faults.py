@@ -1,11 +1,13 @@
-"""Fails each read and each write of the program at each byte, cuts its inputs at each byte, and tests what it answers.
+"""Fails each read and each write of the program at each byte, cuts its inputs at each byte, and
+tests what it answers.
 
-- A job that is cut within a line is no JSON text at that line; cut behind a line, with or without its line feed, it is the job of
-  the lines so far. A cut transcript is cut short. Many swaps are cut short up to the line of their finish, and within a line that is a
-  bad line or no JSON text.
+- A job that is cut within a line is no JSON text at that line; cut behind a line, with or without
+  its line feed, it is the job of the lines so far. A cut transcript is cut short. Many swaps are
+  cut short up to the line of their finish, and within a line that is a bad line or no JSON text.
 - A read that fails behind any bytes has status 4, and nothing is written.
-- A write that fails behind any bytes has status 5, and those bytes are a proper beginning of the usual text. The transcript of a
-  race in which all act has no one text: what was written of it is cut short, as an audit says.
+- A write that fails behind any bytes has status 5, and those bytes are a proper beginning of the
+  usual text. The transcript of a race in which all act has no one text: what was written of it is
+  cut short, as an audit says.
 
 The inputs are short ones, for each command. bench/faults tests the same of longer ones.
 """
@@ -21,7 +23,8 @@ CUT_SHORT = (3, b"", b"swap: refused: CutShort\n")
 
 
 class Row(NamedTuple):
-    """A command and its input: the text, or what other words write of it. The answer varies where parties act in a race."""
+    """A command and its input: the text, or what other words write of it. The answer varies where
+    parties act in a race."""
 
     name: str
     words: list
@@ -39,7 +42,8 @@ def is_whole(text, cut):
 
 
 def tested_many(program, some, whole, found):
-    """The answer to many swaps that are cut, of which no line behind the finish begins with another line."""
+    """The answer to many swaps that are cut, of which no line behind the finish begins with another
+    line."""
     last, is_headed = some.count(b"\n") + 1, b"\nfinish " in some
     if whole and is_headed:
         must(found.status in (0, 1) and not found.err, "whole lines of swaps")
@@ -112,7 +116,8 @@ def places(test, row, usual):
     if test is tested_short_read:
         return range(len(row.text) // 7 + 1)
     if test is tested_write:
-        # (a race's lines may be shorter in the next race: the least that it can write is far above its half)
+        # (a race's lines may be shorter in the next race: the least that it can write is far above
+        # its half)
         return range(len(usual.out) // 2 if row.varies else len(usual.out) + 1)
     return range(len(row.text) if row.words == ["audit"] else len(row.text) + 1)
 
@@ -175,7 +180,8 @@ def header_of(name):
 
 
 def idle_job():
-    """The job by hand without its events: in a race of it nobody does anything, so each race of it has the same text."""
+    """The job by hand without its events: in a race of it nobody does anything, so each race of it
+    has the same text."""
     return header_of("by_hand")
 
 
@@ -235,7 +241,8 @@ def test_share(test, row, share, of, program):
 
 
 def test_pages(row, share, of, program):
-    """Writes of a report of some pages fail at each 7th byte, and behind each line, where a page may end."""
+    """Writes of a report of some pages fail at each 7th byte, and behind each line, where a page
+    may end."""
     row, usual = begun(program, row)
     must(len(usual.out) > 4_500, "more than a page")
     some = [room for room in places(tested_write, row, usual) if room % 7 == 0 or usual.out[:room].endswith(b"\n")]
@@ -266,7 +273,8 @@ def test_header(header, program):
 
 
 def test_lines(program):
-    """What is made of a plain job and further lines is what is made of the job, and those lines behind it."""
+    """What is made of a plain job and further lines is what is made of the job, and those lines
+    behind it."""
     header = program.run(["make"], plain_job().encode()).out
     must(header.startswith(b'{"arcs":') and header.endswith(b"}\n") and header.count(b"\n") == 1, "a header")
     for lines in ("", "x", "x\n", "x\ny", "x\ny\n", "x\nyz", "x\nyz\n"):

@@ -1,8 +1,11 @@
-"""Leaves out each field of a job, gives it a value of another kind, and tests that the program refuses both.
+"""Leaves out each field of a job, gives it a value of another kind, and tests that the program
+refuses both.
 
-A table of tables/fields (but `job`, a job with a place for an actor and one for an event) has pieces: each stands behind `== `, and its fields stand below it, a line each. The program reads the piece
-at the mark <here> of a place. A field that is left out is Missing; one with a `? ` before it may be absent. A list of a list for its
-value is of the WrongKind. The mark <zeros> stands for 64 zeros.
+A table of tables/fields (but `job`, a job with a place for an actor and one for an event) has
+pieces: each stands behind `== `, and its fields stand below it, a line each. The program reads the
+piece at the mark <here> of a place. A field that is left out is Missing; one with a `? ` before it
+may be absent. A list of a list for its value is of the WrongKind. The mark <zeros> stands for 64
+zeros.
 """
 import sys
 from functools import partial

@@ -1,4 +1,5 @@
-"""Schedules in words, and what an audit finds of the books that they make where some parties are taken as conforming.
+"""Schedules in words, and what an audit finds of the books that they make where some parties are
+taken as conforming.
 
 The parties are alice, bob and carol, with seeds of 32 bytes 1, 2 and 3, and make their calls by hand, so that a job may have any of
 them break a rule. Its transcript's header is changed before the audit: those who are taken as conforming are said to conform.
@@ -43,7 +44,8 @@ def unlock_move(header, words):
     if along:
         return keyed_move(header, int(along[1] or 0), along[2].split(","))
     if words == "as if alice":
-        return keyed_move(header, 0, ["carol", "alice"]) | {"path": ["alice"], "sigs": keyed_move(header, 0, ["carol", "alice"])["sigs"][:1]}
+        move = keyed_move(header, 0, ["carol", "alice"])
+        return move | {"path": ["alice"], "sigs": move["sigs"][:1]}
     must(words in ("", "with another secret"), f"no unlock: {words}")
     return raw_move(0, bytes([1 if words else 0]) * 32, [], [])
 

@@ -1,4 +1,5 @@
-"""Tests of inputs as bytes: the words beside them, their limits, how they come, and faults of reading behind a reason."""
+"""Tests of inputs as bytes: the words beside them, their limits, how they come, and faults of
+reading behind a reason."""
 import os
 import socket
 import sys

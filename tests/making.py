@@ -1,4 +1,5 @@
-"""Tests of jobs that are made from plain ones and from numbers, against independent programs, and of rings of version 2."""
+"""Tests of jobs that are made from plain ones and from numbers, against independent programs, and
+of rings of version 2."""
 import json
 import sys
 from functools import partial
@@ -14,8 +15,8 @@ from texts import asked, deal, is_wanted, stored
 # further lines, whatever they are, and as they are copied
 LINES = ('{"any" :thing\n \t\r\n\nx', '{"any" :thing\nx\n')
 
-# the job of number 7 with six parties and 500 events, as an independent program gives it: the digest that names its deal, that of
-# the events' lines, and the seed of party 5
+# the job of number 7 with six parties and 500 events, as an independent program gives it: the
+# digest that names its deal, that of the events' lines, and the seed of party 5
 SEVEN = generated("7", "6", "500")
 ID = "4ba283522be31861ca392e46f8f445b441879c4a370313465399c7a6914ebf49"
 EVENTS = "d5b69433741d0f9d2b9cd5a78acf318416b4f3e4b8539d5332a6970ced7a79b2"
@@ -85,7 +86,8 @@ def ring(version, count, times):
 
 
 def runs_the_largest_ring(program):
-    """32 parties in a ring, each of whose arcs is there four times: the last hashkeys have paths of 32 vertices."""
+    """32 parties in a ring, each of whose arcs is there four times: the last hashkeys have paths of
+    32 vertices."""
     job = done(program, ["make"], ring(2, 32, 4))
     is_wanted(asked(program, ["check"], job), CHECKED)
     report = done(program, ["run"], job)

@@ -1,4 +1,5 @@
-"""Tests of many swaps whose inputs are long: the most chains, accounts, swaps, events and calls, and one more."""
+"""Tests of many swaps whose inputs are long: the most chains, accounts, swaps, events and calls,
+and one more."""
 import sys
 from functools import partial
 
@@ -43,7 +44,8 @@ def with_events(count):
 
 def with_calls(count):
     """So many calls of a party by hand on one slot, and one on another of the same chain."""
-    manual = '"alice","seed":"4921 => "alice","actor":"manual","seed":"4921 && "alice","seed":"4315 => "alice","actor":"manual","seed":"4315'
+    manual = '"alice","seed":"4921 => "alice","actor":"manual","seed":"4921'
+    manual += ' && "alice","seed":"4315 => "alice","actor":"manual","seed":"4315'
     call = '%d {"call":"alice","move":{"do":"transfer","arc":%d,"to":"bob","units":0}}\n'
     return edited(deal("opposite.many"), manual) + count * (call % (0, 0)) + call % (1, 0)
 

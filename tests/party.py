@@ -1,5 +1,6 @@
-"""What the program `party` answers to a wallet's lines: each reason against them, and what is due, as rows of tables/party, whose commands are the names of
-parties; words, faults and the most bytes; and any moments of runs, for which the model says what is due.
+"""What the program `party` answers to a wallet's lines: each reason against them, and what is due,
+as rows of tables/party, whose commands are the names of parties; words, faults and the most bytes;
+and any moments of runs, for which the model says what is due.
 """
 import json
 import random
@@ -76,7 +77,8 @@ def cut(chance, entries):
 
 
 def moment(chance, header, ledgers, me):
-    """What a party's wallet hands over: each of its ledgers up to somewhere, the hashkeys that it shows there and perhaps later ones, and some publishes."""
+    """What a party's wallet hands over: each of its ledgers up to somewhere, the hashkeys that it
+    shows there and perhaps later ones, and some publishes."""
     names = [party["name"] for party in header["parties"]]
     touching = [names[me] in (arc["from"], arc["to"]) for arc in header["arcs"]]
     told = [cut(chance, entries) if is_near else [] for entries, is_near in zip(ledgers, touching)]

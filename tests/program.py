@@ -1,16 +1,18 @@
-"""The built program as the scripts run it: its answers, and reads and writes that fail at a place that is chosen."""
+"""The built program as the scripts run it: its answers, and reads and writes that fail at a place
+that is chosen."""
 import os
 import resource
 import signal
 import socket
 import sys
-from typing import NamedTuple
+from typing import Callable, NamedTuple
 
 sys.dont_write_bytecode = True
 
 HERE = os.path.dirname(os.path.abspath(__file__))
-BUILT = os.path.join(HERE, "..", "out", "proved", "swap")
-UNPROVED = os.path.join(HERE, "..", "out", "unproved", "swap")
+TOP = os.path.dirname(HERE)
+BUILT = os.path.join(TOP, "out", "proved", "swap")
+UNPROVED = os.path.join(TOP, "out", "unproved", "swap")
 MOST = 1 << 24
 # (more a socket may not take before anybody reads it)
 MOST_UNREAD = 50_000
@@ -50,7 +52,8 @@ def status_of(pid):
 
 
 class Program:
-    """The program with files in memory for its input and its answer, which are cheaper than pipes."""
+    """The program with files in memory for its input and its answer, which are cheaper than
+    pipes."""
 
     def __init__(self, path):
         signal.signal(signal.SIGALRM, late)
@@ -80,8 +83,9 @@ class Program:
         return self.end(self.start(words))
 
     def run_unread(self, words, text, length=None):
-        """The answer where a read fails behind that text: a socket gives it, and then its other end is gone with something unread.
-        With a length each read gives so many bytes: pieces that carry a file each aren't joined."""
+        """The answer where a read fails behind that text: a socket gives it, and then its other end
+        is gone with something unread. With a length each read gives so many bytes: pieces that
+        carry a file each aren't joined."""
         ours, theirs = socket.socketpair()
         theirs.send(b"unread")
         if length is None:
@@ -96,7 +100,8 @@ class Program:
         return answer
 
     def run_unwritten(self, words, text, room):
-        """The answer where its file takes so many bytes and no more; the line goes through a pipe, which has no limit."""
+        """The answer where its file takes so many bytes and no more; the line goes through a pipe,
+        which has no limit."""
         theirs, ours = os.pipe()
         self.give(text)
         usual = resource.getrlimit(resource.RLIMIT_FSIZE)
@@ -110,3 +115,7 @@ class Program:
         line = os.read(theirs, 4096)
         os.close(theirs)
         return Answer(status, out, line)
+
+
+# A test asks the program, and fails by `must`.
+Test = Callable[[Program], None]

@@ -7,7 +7,8 @@ sys.dont_write_bytecode = True
 from program import must
 from texts import asked, deal, edited
 
-# carol opens bob's contract at height 48. The next round is at 64, when bob is too late to open alice's, unless he took his turn after carol's
+# carol opens bob's contract at height 48. The next round is at 64, when bob is too late to open
+# alice's, unless he took his turn after carol's
 LATE = (
     '"carol", => "carol","actor":{"script":[{"do":"publish","arc":2},{"do":"wait","arc":1,"height":48},'
     '{"do":"craft","arc":1,"lock":0,"via":["carol"],"onto":2},{"do":"claim","arc":1}]},'

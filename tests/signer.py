@@ -1,4 +1,5 @@
-"""An independent signer, written from docs/FORMATS.md alone: what seeds give a job, and hashkeys."""
+"""An independent signer, written from docs/FORMATS.md alone: what seeds give a job, and
+hashkeys."""
 from functools import cache
 from hashlib import sha256
 
@@ -42,7 +43,10 @@ def signature(seed, party, lock, message):
 def deal_bytes(header, keyed):
     """What the id of a header's deal is a digest of; keyed says whether the mode is hashkeys."""
     number = {party["name"]: at for at, party in enumerate(header["parties"])}
-    wide = lambda value, count: value.to_bytes(count, "big")
+
+    def wide(value, count):
+        return value.to_bytes(count, "big")
+
     told = [bytes([header["swap"], keyed, len(number), len(header["arcs"])])]
     for arc in header["arcs"]:
         told.append(bytes([number[arc["from"]], number[arc["to"]]]) + wide(arc["amount"], 8) + wide(arc.get("timelock", 0), 4))
@@ -59,12 +63,14 @@ def deal_id(header, keyed):
 
 
 def message_of(identity, lock, suffix, secret, inner):
-    """What the first party of a path's suffix signs; inner is the next party's signature, or no bytes."""
+    """What the first party of a path's suffix signs; inner is the next party's signature, or no
+    bytes."""
     return digest(b"\4", identity, bytes([lock, len(suffix), *suffix]), secret, inner)
 
 
 def hashkey(identity, seeds, lock, path, secret=None):
-    """The secret of the path's last party if none is given, and the signatures of all on it, first to last, over the path from each."""
+    """The secret of the path's last party if none is given, and the signatures of all on it, first
+    to last, over the path from each."""
     secret, sigs = secret or secret_of(seeds[path[-1]]), []
     for at in reversed(range(len(path))):
         message = message_of(identity, lock, path[at:], secret, sigs[0] if sigs else b"")

@@ -97,7 +97,8 @@ def transcript_header(made, conforming):
 
 
 def entry_of(name, made, arc, words):
-    """The line of an entry: a tick, or a call with who makes it (the one that may, if none is named) and its reply (`accepted`, if none is)."""
+    """The line of an entry: a tick, or a call with who makes it (the one that may, if none is
+    named) and its reply (`accepted`, if none is)."""
     if words.startswith("t "):
         return words
     call, _, reply = words.partition(" = ")

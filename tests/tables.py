@@ -1,7 +1,9 @@
-"""Tests that are rows of tables: each file of tables/ has some, but those of tables/fields and tables/party (`party.py`).
+"""Tests that are rows of tables: each file of tables/ has some, but those of tables/fields and
+tables/party (`party.py`).
 
-A table begins with a line `%% COMMAND: KIND of DEAL, DEAL`, behind which lines with `%` say what it shows. Each row is tested of each
-deal. In rows `<u+20>` stands for the character of that number, and other names in angle brackets for signatures.
+A table begins with a line `%% COMMAND: KIND of DEAL, DEAL`, behind which lines with `%` say what it
+shows. Each row is tested of each deal. In rows `<u+20>` stands for the character of that number,
+and other names in angle brackets for signatures.
 
 Tables of texts have cases, each of which begins with `== ` and its name:
   cases    a line with edits of the deal, if any, a line `--`, events, a line `--`, and the answer. What a run answers is what an audit
@@ -49,7 +51,8 @@ def tested_case(program, command, text, case):
 
 
 def is_audited(program, job, wanted):
-    """The transcript of a run has its status, and an audit of it its status and report. A run that is refused has none."""
+    """The transcript of a run has its status, and an audit of it its status and report. A run that
+    is refused has none."""
     status, _, transcript = asked(program, ["run", "--transcript"], job).partition("\n")
     must(status == wanted.partition("\n")[0], f"with a transcript: {status}")
     if wanted.partition("\n")[2]:
@@ -176,7 +179,8 @@ def tested_endings(program, _, text, row):
 CASES = {"cases": tested_case, "scripts": tested_script, "attacks": tested_attack}
 ROWS = {
     "refused": tested_refusal, "accepted": tested_accepted, "ends": tested_end, "lines": tested_line,
-    "answers": tested_answer, "actors": tested_actor, "sums": tested_sum, "wrong": tested_words, "found": tested_findings, "ended": tested_endings,
+    "answers": tested_answer, "actors": tested_actor, "sums": tested_sum, "wrong": tested_words,
+    "found": tested_findings, "ended": tested_endings,
 }  # fmt: skip
 
 

@@ -1,4 +1,5 @@
-"""The deals that tests edit, the signatures that names in them stand for, and what the program answers as one text."""
+"""The deals that tests edit, the signatures that names in them stand for, and what the program
+answers as one text."""
 import os
 import re
 import sys
@@ -10,7 +11,8 @@ from program import HERE, must
 # the statuses by which the program tells that it is done, or that it names findings
 WORDS = {0: "done\n", 1: "named\n"}
 # the other ones, by what its line on standard error begins with
-LINES = {2: "swap: wrong words", 3: "swap: refused: ", 4: "swap: read fault", 5: "swap: write fault", 6: "swap: no memory", 7: "swap: too long"}
+LINES = {2: "swap: wrong words", 3: "swap: refused: ", 4: "swap: read fault", 5: "swap: write fault"}
+LINES |= {6: "swap: no memory", 7: "swap: too long"}
 
 
 @cache
@@ -45,7 +47,8 @@ def signed(text):
 
 
 def edited(text, edits):
-    """The text with each edit made in it, if any: `FROM => TO`, parted by ` && `. FROM stands in the text, and its first place is changed."""
+    """The text with each edit made in it, if any: `FROM => TO`, parted by ` && `. FROM stands in
+    the text, and its first place is changed."""
     for edit in filter(None, edits.split(" && ")):
         old, arrow, new = edit.partition(" => ")
         must(arrow and old in text, f"an edit of what stands nowhere: {edit}")
@@ -54,7 +57,8 @@ def edited(text, edits):
 
 
 def told(answer):
-    """An answer as one text: a line for the status, or what was told on standard error, and then what was written."""
+    """An answer as one text: a line for the status, or what was told on standard error, and then
+    what was written."""
     out, line = answer.out.decode(), answer.err.decode()
     if answer.status in WORDS:
         must(not line, f"a line on standard error beside status {answer.status}: {line}")

@@ -1,4 +1,5 @@
-"""Tests of transcripts: what is written of a run, and what an audit tells of texts that are changed, cut or full."""
+"""Tests of transcripts: what is written of a run, and what an audit tells of texts that are
+changed, cut or full."""
 import sys
 from functools import partial
 
@@ -20,7 +21,8 @@ def is_written(job, name, program):
 
 
 def has_calls(calls, line, program):
-    """An audit of so many calls of one party, each of which a ledger without a contract refuses, tells that line."""
+    """An audit of so many calls of one party, each of which a ledger without a contract refuses,
+    tells that line."""
     lines = f"ledger 1 {calls + 2}\n" + calls * "c 2 claim = NoContract\n"
     answered = asked(program, ["audit"], edited(stored("by_hand.transcript"), f"ledger 1 2\n => {lines}"))
     must(line in answered.splitlines(), f"it answered:\n{answered}")
@@ -30,7 +32,8 @@ def has_calls(calls, line, program):
 
 
 def notices(name, bit, first, step, program):
-    """With one bit of the byte at a place changed, the transcript has another answer: a refusal, or the report of another book."""
+    """With one bit of the byte at a place changed, the transcript has another answer: a refusal, or
+    the report of another book."""
     text = transcript(name).encode()
     before = asked(program, ["audit"], text)
     for place in range(first, len(text), step):

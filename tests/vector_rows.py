@@ -1,4 +1,5 @@
-"""What the test vectors of examples/vectors are made of, by the independent signer: deals, hashkeys and signatures."""
+"""What the test vectors of examples/vectors are made of, by the independent signer: deals, hashkeys
+and signatures."""
 import json
 import re
 import sys
@@ -161,7 +162,8 @@ def hashkey_rows():
         lock, _, names = along.partition(":")
         secret, path, sigs = key_of(name, int(lock), names, change.strip())
         told = {"deal": name, "arc": int(arc), "height": int(height), "lock": int(lock), "secret": secret.hex(), "path": path}
-        yield told | {"sigs": [sig.hex() for sig in sigs], "what": f"via {names}" + (f", {change.strip()}" if change else ""), "answer": answer}
+        what = f"via {names}" + (f", {change.strip()}" if change else "")
+        yield told | {"sigs": [sig.hex() for sig in sigs], "what": what, "answer": answer}
 
 
 # ---- signatures: those of some hashkeys, each with what it signs
@@ -174,6 +176,7 @@ def signature_rows():
         for at, sig in enumerate(sigs):
             inner = sigs[at + 1] if at + 1 < len(sigs) else b""
             message = message_of(deal_id(made, True), lock, path[at:], secret, inner)
-            told = {"deal": name, "seed": seeds()[path[at]].hex(), "party": path[at], "lock": lock, "suffix": path[at:], "secret": secret.hex()}
+            told = {"deal": name, "seed": seeds()[path[at]].hex(), "party": path[at], "lock": lock}
+            told |= {"suffix": path[at:], "secret": secret.hex()}
             told |= {"public key": public_key(seeds()[path[at]], path[at], lock).hex(), "inner": inner.hex(), "message": message.hex()}
             yield told | {"digits": digits_of(message), "signature": sig.hex()}

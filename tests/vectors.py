@@ -1,7 +1,9 @@
 #!/usr/bin/env python3
-"""The test vectors of examples/vectors: that they are what the independent signer makes, and that the program answers each as is stored.
+"""The test vectors of examples/vectors: that they are what the independent signer makes, and that
+the program answers each as is stored.
 
-usage: tests/vectors.py --write    writes the files anew; the answers to transcripts are the model's (model/)
+usage: tests/vectors.py --write    writes the files anew; the answers to transcripts are the model's
+(model/)
 """
 import json
 import re
@@ -30,7 +32,8 @@ def table(rows):
 def files():
     """What the signer makes: the text of each file but the answers of transcripts."""
     tables = {"deals.json": deal_rows, "signatures.json": signature_rows, "hashkeys.json": hashkey_rows}
-    return {name: table(rows()) for name, rows in tables.items()} | {f"transcripts/{name}.transcript": text for name, text in stories().items()}
+    told = {f"transcripts/{name}.transcript": text for name, text in stories().items()}
+    return {name: table(rows()) for name, rows in tables.items()} | told
 
 
 def write():
@@ -61,11 +64,13 @@ def has_times(row, program):
 
 
 def presented(row, program):
-    """The reply of a contract of a deal to a hashkey at a height, where everybody's calls are made by hand."""
+    """The reply of a contract of a deal to a hashkey at a height, where everybody's calls are made
+    by hand."""
     made = next(it["made"] for it in rows_in("deals") if it["deal"] == row["deal"])
     names, arc = [party["name"] for party in made["parties"]], made["arcs"][row["arc"]]
     by_hand = made | {"finish": "stop", "parties": [{"name": name, "actor": "manual"} for name in names]}
-    move = {"do": "raw", "arc": row["arc"], "lock": row["lock"], "secret": row["secret"], "path": [names[it] for it in row["path"]], "sigs": row["sigs"]}
+    path = [names[it] for it in row["path"]]
+    move = {"do": "raw", "arc": row["arc"], "lock": row["lock"], "secret": row["secret"], "path": path, "sigs": row["sigs"]}
     events = [{"call": arc["from"], "move": {"do": "publish", "arc": row["arc"]}}]
     events += [{"tick": row["arc"], "by": row["height"]}] if row["height"] else []
     report = asked(program, ["run"], "\n".join(map(line_of, [by_hand, *events, {"call": arc["to"], "move": move}])))
@@ -83,11 +88,13 @@ def signatures_of(rows, row):
 
 
 def is_signed(rows, row, program):
-    """A signature, with those that it signs, opens a contract that pays the first party of its suffix."""
+    """A signature, with those that it signs, opens a contract that pays the first party of its
+    suffix."""
     made = next(it["made"] for it in rows_in("deals") if it["deal"] == row["deal"])
     must(made["keys"][row["party"]][row["lock"]] == row["public key"], "the public key isn't the deal's")
     arc = [it["to"] for it in made["arcs"]].index(made["parties"][row["party"]]["name"])
-    key = {it: row[it] for it in ("deal", "lock", "secret")} | {"arc": arc, "height": 0, "path": row["suffix"], "sigs": signatures_of(rows, row)}
+    key = {it: row[it] for it in ("deal", "lock", "secret")}
+    key |= {"arc": arc, "height": 0, "path": row["suffix"], "sigs": signatures_of(rows, row)}
     must(presented(key, program) == ["accepted"], f"the reply: {presented(key, program)}")
 
 
