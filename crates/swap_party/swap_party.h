@@ -1,11 +1,28 @@
-/* The party's own wallet: what is due for one party of a swap, as a pure function over bytes, and whether a header's deal is accepted.
+/* The wallet of one party of a swap, as pure functions over bytes: what is due for the party, and
+   whether a header's deal is accepted. docs/FORMATS.md tells the texts line by line, and
+   docs/using/wallet.md what a wallet does with them.
 
-   Nothing is kept between calls, there is no handle, and nothing is to be freed. Each call reads what it is given, puts a text into `out`, and answers its
-   status with the text's length. What the texts are is told line by line in docs/FORMATS.md, and what a wallet does with them in docs/USING.md.
+   Nothing is kept between calls, there is no handle, and nothing is to be freed. Each call reads
+   what it is given, puts a text into `out`, and answers its status with the text's length.
 
-   Any number of threads may call at once, each with a buffer of its own. A call waits for nobody, starts no thread, opens no file, and takes its memory from
-   malloc and gives it back. It needs half a megabyte of stack. It may not be made in a signal handler, nor in the child of a process with threads after fork.
-   No pointer may be null, even where its length is 0; `out` may not overlap the others. */
+   Pointers. A pointer may be null where its length is 0. `seed` is never null. `out` may overlap no
+   other argument: what a call answers with an overlap is undefined. The other arguments may overlap
+   each other. The library keeps no pointer.
+
+   Threads. Any number of threads may call at once, each with a buffer of its own. A call waits for
+   nobody, starts no thread, opens no file and changes no errno but through malloc. It may not be
+   made in a signal handler, nor in the child of a process with threads after fork.
+
+   Memory. A call takes its memory from malloc and gives all of it back. It needs
+   SWAP_PARTY_STACK_SIZE bytes of the caller's stack.
+
+   Secrets. Before a call returns it overwrites each block that it took from malloc, the first
+   SWAP_PARTY_STACK_WIPED bytes of stack below the caller, and the registers that a caller may not
+   rely on. What it doesn't overwrite: the caller's own `text`, `seed` and `out`, which hold secrets
+   too; the registers that a call restores for its caller; and copies that the kernel makes, as in
+   swap space, in a core dump or when it saves registers at a switch. A caller overwrites its own
+   buffers, locks them into memory and turns core dumps off. A call that ends the process, because
+   a build without proofs met a mistake, overwrites nothing. */
 #ifndef SWAP_PARTY_H
 #define SWAP_PARTY_H
 
@@ -16,12 +33,34 @@
 extern "C" {
 #endif
 
+/* The version of this header. The first number changes where a program has to be compiled again. */
+#define SWAP_PARTY_VERSION_MAJOR 1
+#define SWAP_PARTY_VERSION_MINOR 0
+#define SWAP_PARTY_VERSION "1.0"
+
+#define SWAP_PARTY_TEXT_LIMIT 16777216 /* the most bytes of a text or a header */
+#define SWAP_PARTY_NAME_LIMIT 16       /* the most bytes of a party's name in a header */
+#define SWAP_PARTY_SEED_SIZE 32        /* the bytes of a seed */
+#define SWAP_PARTY_ID_SIZE 32          /* the bytes of a deal's id */
+#define SWAP_PARTY_STACK_SIZE 524288   /* the bytes of stack that suffice for a thread that calls */
+#define SWAP_PARTY_STACK_WIPED 393216  /* of them, those that a call overwrites before it returns */
+
 enum {
     SWAP_PARTY_DONE = 0,      /* `out` begins with the answer */
-    SWAP_PARTY_SHORT = 1,     /* `out` is too short and stays as it was: call again with room for `length` bytes */
-    SWAP_PARTY_REFUSED = 3,   /* `out` begins with the line that tells the first reason: swap: refused: .. */
+    SWAP_PARTY_SHORT = 1,     /* `out` is too short and stays as it was: it needs `length` bytes */
+    SWAP_PARTY_REFUSED = 3,   /* `out` begins with the line of the reason: swap: refused: .. */
     SWAP_PARTY_NO_MEMORY = 6, /* malloc answered null; `out` stays as it was */
-    SWAP_PARTY_TOO_LONG = 7   /* the text has more than 16,777,216 bytes; `out` stays as it was */
+    SWAP_PARTY_TOO_LONG = 7   /* the text is longer than its limit; `out` stays as it was */
+};
+
+/* What swap_party_limit is asked for. */
+enum {
+    SWAP_PARTY_LIMIT_TEXT = 0,
+    SWAP_PARTY_LIMIT_NAME = 1,
+    SWAP_PARTY_LIMIT_SEED = 2,
+    SWAP_PARTY_LIMIT_ID = 3,
+    SWAP_PARTY_LIMIT_STACK = 4,
+    SWAP_PARTY_LIMIT_WIPED = 5
 };
 
 typedef struct {
@@ -29,14 +68,30 @@ typedef struct {
     size_t length; /* of the text, in bytes: no zero byte follows it */
 } swap_party_said;
 
-/* All that is due for the party of that name, a line each, or how long nothing is: what the program `party` writes. `text` is the program's input
-   without its first line, as `seed` stands apart: the `keep` and `sent` lines that the wallet wrote down, then the transcript of each ledger as far as it is
-   known. Lines in a reason are counted from the text's first. */
-swap_party_said swap_party_next(const uint8_t *text, size_t text_length, const uint8_t *name, size_t name_length, const uint8_t seed[32],
+/* All that is due for the party of that name, a line each, or how long nothing is: what the program
+   `party` writes. `text` is the program's input without its first line, as `seed` stands apart: the
+   `keep` and `sent` lines that the wallet wrote down, then the transcript of each ledger as far as
+   it is known. Lines in a reason are counted from the text's first. */
+swap_party_said swap_party_next(const uint8_t *text, size_t text_length,
+                                const uint8_t *name, size_t name_length,
+                                const uint8_t seed[SWAP_PARTY_SEED_SIZE],
                                 uint8_t *out, size_t capacity);
 
-/* The id of the deal that a header line states, 32 bytes, where it is an accepted deal; the header is as a transcript has it, without anybody's seed. */
-swap_party_said swap_party_check(const uint8_t *header, size_t header_length, uint8_t *out, size_t capacity);
+/* The id of the deal that a header line states, where it is an accepted deal. The header is as a
+   transcript has it, without anybody's seed. */
+swap_party_said swap_party_check(const uint8_t *header, size_t header_length,
+                                 uint8_t *out, size_t capacity);
+
+/* The version of the library that was linked, a space, and `proved` or `unproved`: "1.0 proved".
+   An unproved build is compiled from the same sources, without their proofs. */
+const char *swap_party_version(void);
+
+/* The number of the macro for that limit in the library that was linked; of any other word 0. */
+size_t swap_party_limit(uint32_t which);
+
+/* What a status says, as one line of English without a line feed; of any other number
+   "unknown status". The text is never to be freed. */
+const char *swap_party_status_text(uint32_t status);
 
 #ifdef __cplusplus
 }

@@ -1,9 +1,13 @@
-/* Settles a swap whose parties all keep to the protocol, by the library alone: one process plays them in turn, and its ledgers are texts in its memory.
+/* Settles a swap whose parties all keep to the protocol, by the library alone: one process plays
+   them in turn, and its ledgers are texts in its memory.
 
-   usage: settle < LINES > TRANSCRIPT     LINES: the header as a transcript has it, and then each party's name and seed, a line each
+   usage: settle < LINES > TRANSCRIPT     LINES: the header as a transcript has it, and then each
+   party's name and seed, a line each
 
-   What is due to a party that keeps to the protocol is accepted, so each call is written down as accepted; if one weren't, the next answer would be a refusal,
-   as the library replays every ledger. A wallet of one's own differs in this: it knows one seed, reads real chains, and syncs what it keeps (docs/USING.md). */
+   What is due to a party that keeps to the protocol is accepted, so each call is written down as
+   accepted; if one weren't, the next answer would be a refusal, as the library replays every
+   ledger. A wallet of one's own differs in this: it knows one seed, reads real chains, and syncs
+   what it keeps (docs/using/wallet.md). */
 #include <stdio.h>
 #include <stdlib.h>
 #include <string.h>
@@ -78,7 +82,8 @@ static void enter(int arc, const char *entry) {
     ledgers[arc].count++;
 }
 
-/* Keeps what is to be kept and writes down a publish, before anything goes out, and presents a call: whether that was anything. */
+/* Keeps what is to be kept and writes down a publish, before anything goes out, and presents a
+   call: whether that was anything. */
 static int obey(party *me, const char *line) {
     int arc, number, at = 0;
     if (!strncmp(line, "keep ", 5)) {
@@ -101,7 +106,8 @@ static int obey(party *me, const char *line) {
     return 1;
 }
 
-/* Asks the library what is due, and obeys it line by line: whether that was anything but to rest. */
+/* Asks the library what is due, and obeys it line by line: whether that was anything but to rest.
+   */
 static int turn(party *me) {
     static text asked, answer;
     int acted = 0;

@@ -3,67 +3,65 @@
 
 usage: settle.py LIBRARY < LINES > TRANSCRIPT
 
-LIBRARY is a shared object, and LINES are the header as a transcript has it, and then each party's name and seed, a line each.
+LIBRARY is the shared object. LINES are the header as a transcript has it, and then each party's
+name and seed, a line each. The package swap_party (../../python) has to be found, as by PYTHONPATH.
 """
-import json
+from __future__ import annotations
+
 import sys
 
-from party_library import DONE, Library
+from swap_party import Answer, Called, Due, Header, Keep, Library, Party, Publish, Rest, Sent, Tick, Transcript
+from swap_party.answer import Asked, Note, Told
+from swap_party.calls import Entry
 
 
 class Swap:
-    def __init__(self, library, header, parties):
-        self.library, self.header, self.parties = library, header, parties
-        deal = json.loads(header)
-        self.ends = [(arc["from"], arc["to"]) for arc in deal["arcs"]]
-        self.entries = [[] for _ in self.ends]
-        self.notes = {name: [] for name, _ in parties}
-        self.horizon = deal["start"] + (2 * deal["bound"] + 2) * deal["delta"]
+    """Every ledger of a swap, and what each party wrote down."""
 
-    def transcript(self, one=None):
-        """A transcript of every ledger, or of those that touch one party and of the others nothing."""
-        told = ["swap transcript 1", self.header]
-        for arc, ends in enumerate(self.ends):
-            entries = self.entries[arc] if one is None or one in ends else []
-            told += [f"ledger {arc} {len(entries)}", *entries]
-        return told + ["end", ""]
+    def __init__(self, wallet: Party, header: Header, seeds: dict[str, bytes]) -> None:
+        self.wallet, self.header, self.seeds = wallet, header, seeds
+        self.entries: list[list[Entry]] = [[] for _ in header.arcs]
+        self.notes: dict[str, list[Note]] = {name: [] for name in seeds}
 
-    def obey(self, name, line):
-        """Keeps what is to be kept and writes down a publish, before anything goes out, and presents a call: whether that was anything."""
-        word, *rest = line.split(" ", 3)
-        if word == "keep":
-            self.notes[name].append(line)
-        elif word == "call":
-            arc, number, call = rest
-            if call.startswith("publish "):
-                self.notes[name].append(f"sent {arc}")
-            self.entries[int(arc)].append(f"c {number} {call} = accepted")
-        return word != "rest"
+    def transcript(self, name: str | None = None) -> Transcript:
+        """A transcript of every ledger, or of those that touch one party and of the others
+        nothing."""
+        seen = [entries if name in (None, arc.party, arc.counterparty) else [] for arc, entries in zip(self.header.arcs, self.entries)]
+        return Transcript(self.header, tuple(map(tuple, seen)))
 
-    def turn(self, name, seed):
-        """Asks the library what is due, and obeys it line by line: whether that was anything but to rest."""
-        text = "\n".join(self.notes[name] + self.transcript(name))
-        status, answer = self.library.next(text.encode(), name.encode(), seed)
-        if status != DONE:
-            raise SystemExit(f"{name}: {status} {answer.decode()}")
-        return any([self.obey(name, line) for line in answer.decode().splitlines()])
+    def obey(self, name: str, told: Told) -> bool:
+        """Keeps what is to be kept and writes down a publish, before anything goes out, and
+        presents a call: whether that was anything."""
+        if isinstance(told, Keep):
+            self.notes[name].append(told)
+        elif isinstance(told, Due):
+            if isinstance(told.call, Publish):
+                self.notes[name].append(Sent(told.arc))
+            self.entries[told.arc].append(Called(told.party, told.call))
+        return not isinstance(told, Rest)
 
-    def settle(self):
-        for _ in range(self.horizon + 1):
-            while any([self.turn(name, seed) for name, seed in self.parties]):
+    def turn(self, name: str) -> bool:
+        """Asks what is due, and obeys it line by line: whether that was anything but to rest."""
+        asked = Asked(tuple(self.notes[name]), self.transcript(name))
+        answer = Answer.parse(self.wallet.next(name, self.seeds[name], str(asked)))
+        return any([self.obey(name, told) for told in answer.told])
+
+    def settle(self) -> Transcript:
+        """Lets the parties act at each height in turn, up to the last one."""
+        for _ in range(self.header.horizon + 1):
+            while any([self.turn(name) for name in self.seeds]):
                 pass
             for entries in self.entries:
-                entries.append("t 1")
+                entries.append(Tick(1))
+        return self.transcript()
 
 
-def main():
+def main() -> None:
     header, *lines = sys.stdin.read().splitlines()
     library = Library(sys.argv[1])
-    if library.check(header.encode())[0] != DONE:
-        raise SystemExit("the header's deal isn't accepted")
-    swap = Swap(library, header, [(name, bytes.fromhex(seed)) for name, seed in (line.split(" ") for line in lines)])
-    swap.settle()
-    sys.stdout.write("\n".join(swap.transcript()))
+    library.check(header)
+    seeds = {name: bytes.fromhex(seed) for name, seed in (line.split(" ") for line in lines)}
+    sys.stdout.write(str(Swap(library, Header.of(header), seeds).settle()))
 
 
 if __name__ == "__main__":

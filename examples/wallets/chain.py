@@ -1,42 +1,51 @@
-"""A chain that lies in a file: a line for each entry, in the words of a transcript. Any process may read it, tick it, and present calls to it."""
+"""A chain that lies in a file: a line for each entry, in the words of a transcript. Any process may
+read it, tick it, and present calls to it."""
+from __future__ import annotations
+
 import fcntl
 import os
+from collections.abc import Iterator
 from contextlib import contextmanager
+from typing import BinaryIO
 
-from contract import Contract
+from contract import FULL, Contract
+from swap_party import Called, Header, Tick
+from swap_party.calls import Call, Entry, entry_of
 
 
 class Chain:
-    """The chain of one arc. Whoever opens it knows the contract's state by the entries read so far."""
+    """The chain of one arc. Whoever opens it knows the contract's state by the entries read so
+    far."""
 
-    def __init__(self, folder, deal, arc):
+    def __init__(self, folder: str, deal: Header, arc: int) -> None:
         self.path, self.contract = os.path.join(folder, f"chain{arc}"), Contract(deal, arc)
-        self.entries, self.height, self.at = [], 0, 0
+        self.entries: list[Entry] = []
+        self.height, self.at = 0, 0
 
-    def look(self):
-        """Reads what is new. A line that isn't ended yet is being written, and is read the next time."""
+    def look(self) -> Chain:
+        """Reads what is new. A line that isn't ended yet is being written, and is read the next
+        time."""
         with open(self.path, "rb") as file:
             file.seek(self.at)
             text = file.read()
         whole = text[: text.rfind(b"\n") + 1]
         self.at += len(whole)
         for line in whole.decode().splitlines():
-            self.take(line)
+            self.take(entry_of(line))
         return self
 
-    def take(self, line):
+    def take(self, entry: Entry) -> None:
         """Follows an entry, and sees that the chain's reply is the contract's."""
-        words, self.entries = line.split(), self.entries + [line]
-        if words[0] == "t":
-            self.height += int(words[1])
+        self.entries.append(entry)
+        if isinstance(entry, Tick):
+            self.height += entry.by
             return
-        call, stated = " ".join(words[2:]).split(" = ")
-        reply = self.contract.reply(self.height, int(words[1]), call.split(" "))
-        if reply != stated:
-            raise ValueError(f"{self.path}: {stated} is stated, and the contract's reply is {reply}")
+        reply = self.contract.reply(self.height, entry.party, entry.call)
+        if reply != entry.reply:
+            raise ValueError(f"{self.path}: {entry.reply} is stated, and the contract's reply is {reply}")
 
     @contextmanager
-    def held(self):
+    def held(self) -> Iterator[BinaryIO]:
         """One call at a time. What a killed process left of a line is no entry, and is cut off."""
         with open(self.path, "r+b") as file:
             fcntl.flock(file, fcntl.LOCK_EX)
@@ -45,25 +54,17 @@ class Chain:
             file.seek(self.at)
             yield file
 
-    def write(self, file, line):
-        """Adds an entry."""
-        file.write(f"{line}\n".encode())
+    def write(self, file: BinaryIO, entry: Entry) -> None:
+        file.write(f"{entry}\n".encode())
         file.flush()
 
-    def tick(self, by):
+    def tick(self, by: int) -> None:
         with self.held() as file:
-            self.write(file, f"t {by}")
+            self.write(file, Tick(by))
 
-    def call(self, party, call):
+    def call(self, party: int, call: Call) -> None:
         """Presents a call. The reply is read off the chain, as everybody reads it."""
         with self.held() as file:
-            reply = Contract.reply(self.copy(), self.height, party, call.split(" "))
-            if reply != "SenderFull":
-                self.write(file, f"c {party} {call} = {reply}")
-
-    def copy(self):
-        """The contract as it stands, to try a call on."""
-        it = Contract(self.contract.deal, self.contract.arc)
-        it.__dict__.update(self.contract.__dict__)
-        it.opened, it.balances, it.sent = set(it.opened), dict(it.balances), dict(it.sent)
-        return it
+            reply = self.contract.copy().reply(self.height, party, call)
+            if reply != FULL:
+                self.write(file, Called(party, call, reply))

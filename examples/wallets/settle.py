@@ -1,15 +1,19 @@
 #!/usr/bin/env python3
-"""Settles a swap: a chain for each arc, a wallet in a process of its own for each party, and a clock that lets the heights rise.
+"""Settles a swap: a chain for each arc, a wallet in a process of its own for each party, and a
+clock that lets the heights rise.
 
 usage: settle.py [--kills] [--seed S] [--late NAME | --twice NAME] < JOB
 
-JOB is a made one, with everybody's seeds: each goes to its own wallet's folder and nowhere else. At the end the chains' histories go to `swap audit`, whose
-report is written. --kills kills wallets by SIGKILL at any moment and starts them again.
+JOB is a made one, with everybody's seeds: each goes to its own wallet's folder and nowhere else. At
+the end the chains' histories go to `swap audit`, whose report is written. --kills kills wallets by
+SIGKILL at any moment and starts them again.
 
-The clock keeps what a wallet is promised: no chain rises by more than delta above the least height at which a wallet next to it came to rest.
---late NAME breaks that for one party, whose wallet sleeps until its first publish is late.
+The clock keeps what a wallet is promised: no chain rises by more than delta above the least height
+at which a wallet next to it came to rest. --late NAME breaks that for one party, whose wallet
+sleeps until its first publish is late.
 """
-import json
+from __future__ import annotations
+
 import os
 import random
 import select
@@ -24,17 +28,21 @@ HERE = os.path.dirname(os.path.abspath(__file__))
 SWAP = os.environ.get("SWAP", os.path.join(HERE, "..", "..", "swap"))
 import wallet  # noqa: E402
 from chain import Chain  # noqa: E402
-from contract import Deal  # noqa: E402
+
+from swap_party import Header, Transcript  # noqa: E402
 
 
 class Living:
     """A wallet's process, and the least height at which it last came to rest."""
 
-    def __init__(self, folder, name, twice, asleep):
-        self.words, self.rested, self.pid = (folder, name, twice), 0, None
-        asleep or self.start()
+    def __init__(self, folder: str, name: str, twice: bool, asleep: bool) -> None:
+        self.words, self.rested = (folder, name, twice), 0
+        self.pid: int | None = None
+        self.heights: dict[int, int] = {}
+        if not asleep:
+            self.start()
 
-    def start(self):
+    def start(self) -> None:
         """A process of its own, which tells its rests by a pipe."""
         self.heard, telling = os.pipe()
         self.text = b""
@@ -48,13 +56,14 @@ class Living:
             os._exit(1)
         os.close(telling)
 
-    def kill(self):
+    def kill(self) -> None:
+        assert self.pid
         os.kill(self.pid, signal.SIGKILL)
         os.waitpid(self.pid, 0)
         os.close(self.heard)
         self.pid = None
 
-    def hear(self):
+    def hear(self) -> None:
         """Takes what it told. Only a whole line counts."""
         told = os.read(self.heard, 1 << 16)
         if not told:
@@ -67,47 +76,43 @@ class Living:
 
 
 class Swap:
-    def __init__(self, job, room, chance, late=None, twice=None):
+    def __init__(self, job: str, room: str, chance: random.Random, late: str | None = None, twice: str | None = None) -> None:
         self.chance, self.room, self.killed = chance, room, 0
-        seeds = {party["name"]: party.pop("seed") for party in job["parties"]}
-        for party in job["parties"]:
-            party["actor"] = "conforming"
-        job.pop("finish", None)
-        self.header = json.dumps(job, separators=(",", ":"), sort_keys=True)
-        self.deal = Deal(job)
-        self.put("header", self.header + "\n")
+        self.deal, seeds = Header.of_job(job)
+        self.put("header", f"{self.deal}\n")
         for arc in range(len(self.deal.ends)):
             self.put(f"chain{arc}", "")
         for name, seed in seeds.items():
-            self.put(f"{name}/seed", seed + "\n")
+            self.put(f"{name}/seed", f"{seed.hex()}\n")
         self.chains = [Chain(room, self.deal, arc) for arc in range(len(self.deal.ends))]
         self.wallets = [Living(room, name, name == twice, name == late) for name in seeds]
 
-    def put(self, name, text):
+    def put(self, name: str, text: str) -> None:
         path = os.path.join(self.room, name)
         os.makedirs(os.path.dirname(path), exist_ok=True)
         with open(path, "w") as file:
             file.write(text)
 
-    def hear(self, wait):
+    def hear(self, wait: float) -> None:
         heard = {it.heard: it for it in self.wallets if it.pid}
         for it in select.select(list(heard), [], [], wait)[0]:
             heard[it].hear()
 
-    def room_for(self, arc, late):
+    def room_for(self, arc: int, late: str | None) -> int:
         """By how much the arc's chain may rise."""
         ends = [self.wallets[party] for party in self.deal.ends[arc] if self.deal.names[party] != late]
         return min([it.rested + self.deal.delta for it in ends], default=self.chains[arc].height + 1) - self.chains[arc].look().height
 
-    def tick(self, late=None):
+    def tick(self, late: str | None = None) -> None:
         """Lets a chain rise, if one may."""
         may = [arc for arc in range(len(self.chains)) if self.chains[arc].height <= self.deal.horizon and self.room_for(arc, late) > 0]
         if may:
             arc = self.chance.choice(may)
             self.chains[arc].tick(self.chance.randint(1, self.room_for(arc, late)))
 
-    def kill(self, kills):
-        """Kills one, so many times at most, or starts one again; none that presents twice, which may not do it if it is killed in between."""
+    def kill(self, kills: int) -> None:
+        """Kills one, so many times at most, or starts one again; none that presents twice, which
+        may not do it if it is killed in between."""
         it = self.chance.choice([it for it in self.wallets if not it.words[-1]])
         if it.pid is None:
             it.start()
@@ -115,10 +120,10 @@ class Swap:
             self.killed += 1
             it.kill()
 
-    def is_over(self):
+    def is_over(self) -> bool:
         return all(chain.look().height > self.deal.horizon for chain in self.chains)
 
-    def settle(self, kills=0, late=None, most=300):
+    def settle(self, kills: int = 0, late: str | None = None, most: float = 300) -> None:
         """Lets the swap run to its end, for which it has so many seconds."""
         begun = time.monotonic()
         if late:
@@ -130,21 +135,24 @@ class Swap:
             if time.monotonic() - begun > most:
                 raise TimeoutError(f"no end after {most} s: {[chain.height for chain in self.chains]}")
         for it in self.wallets:
-            it.pid or it.start()
+            if not it.pid:
+                it.start()
         while any(it.rested <= self.deal.horizon for it in self.wallets):
             self.hear(0.01)
             if time.monotonic() - begun > most:
                 raise TimeoutError("a wallet didn't come to rest")
 
-    def ready(self, me):
-        """The height from which its publishes are asked for, or one above it: 0 where it leads, else where all contracts that enter stand, if they do."""
-        if me in self.deal.leaders:
+    def ready(self, me: int) -> int | None:
+        """The height from which its publishes are asked for, or one above it: 0 where it leads,
+        else where all contracts that enter stand, if they do."""
+        if self.deal.names[me] in [it.party for it in self.deal.leaders]:
             return 0
         entering = [self.chains[arc].look() for arc, ends in enumerate(self.deal.ends) if ends[1] == me]
         return max(chain.height for chain in entering) if all(chain.contract.published for chain in entering) else None
 
-    def sleep(self, it, late):
-        """The wallet sleeps until its leaving chain stands more than delta above what asked for its publish."""
+    def sleep(self, it: Living, late: str) -> None:
+        """The wallet sleeps until its leaving chain stands more than delta above what asked for its
+        publish."""
         me = self.deal.names.index(late)
         arc = next(arc for arc, ends in enumerate(self.deal.ends) if ends[0] == me)
         ready = self.ready(me)
@@ -155,24 +163,21 @@ class Swap:
         it.rested = min(self.chains[arc].height for arc, ends in enumerate(self.deal.ends) if me in ends)
         it.start()
 
-    def stop(self):
+    def stop(self) -> None:
         for it in self.wallets:
             if it.pid:
                 it.kill()
 
-    def transcript(self):
-        told = ["swap transcript 1", self.header]
-        for arc, chain in enumerate(self.chains):
-            told += [f"ledger {arc} {len(chain.look().entries)}", *chain.entries]
-        return "\n".join(told + ["end", ""])
+    def transcript(self) -> Transcript:
+        return Transcript(self.deal, tuple(tuple(chain.look().entries) for chain in self.chains))
 
-    def audit(self):
-        """The status and the report."""
-        ended = subprocess.run([SWAP, "audit"], input=self.transcript(), capture_output=True, text=True)
+    def audit(self) -> tuple[int, str, str]:
+        """The status, the report, and what was told."""
+        ended = subprocess.run([SWAP, "audit"], input=str(self.transcript()), capture_output=True, text=True)
         return ended.returncode, ended.stdout, ended.stderr
 
 
-def settled(job, chance, kills=0, late=None, twice=None):
+def settled(job: str, chance: random.Random, kills: int = 0, late: str | None = None, twice: str | None = None) -> tuple[int, str, str]:
     """The audit of a swap that was settled."""
     with tempfile.TemporaryDirectory(prefix="wallets-", dir="/dev/shm" if os.path.isdir("/dev/shm") else None) as room:
         swap = Swap(job, room, chance, late, twice)
@@ -183,7 +188,7 @@ def settled(job, chance, kills=0, late=None, twice=None):
         return swap.audit()
 
 
-def build(program):
+def build(program: str) -> None:
     """Has a script that builds its program do so, before any clock runs."""
     print(f"settle: {os.path.basename(program)} is built now, if it isn't yet: a minute or two", file=sys.stderr, flush=True)
     ended = subprocess.run([program], stdin=subprocess.DEVNULL, capture_output=True, text=True)
@@ -191,16 +196,17 @@ def build(program):
         raise SystemExit(ended.stderr.strip())
 
 
-def main():
-    words, options = sys.argv[1:], {"--seed": "0", "--late": None, "--twice": None}
-    for name in options:
-        if name in words:
-            options[name] = words[words.index(name) + 1]
-    job = json.loads(sys.stdin.readline())
+def main() -> int:
+    words = sys.argv[1:]
+
+    def option(name: str) -> str | None:
+        return words[words.index(name) + 1] if name in words else None
+
+    job = sys.stdin.readline()
     build(wallet.PARTY)
     build(SWAP)
-    chance = random.Random(options["--seed"])
-    status, report, told = settled(job, chance, 6 if "--kills" in words else 0, options["--late"], options["--twice"])
+    chance = random.Random(option("--seed") or "0")
+    status, report, told = settled(job, chance, 6 if "--kills" in words else 0, option("--late"), option("--twice"))
     sys.stdout.write(report)
     sys.stderr.write(told)
     return status

@@ -1,0 +1,120 @@
+//! Settles a swap whose parties all keep to the protocol, by the library alone, as settle.c does.
+//!
+//! usage: settle < LINES > TRANSCRIPT
+
+mod library;
+
+use std::fmt::Write as _;
+use std::io::{Read, Write};
+
+struct Party {
+    name: String,
+    seed: [u8; 32],
+    notes: String,
+}
+
+struct Ledger {
+    ends: [String; 2],
+    entries: Vec<String>,
+}
+
+struct Swap {
+    header: String,
+    ledgers: Vec<Ledger>,
+    parties: Vec<Party>,
+}
+
+/// What stands behind a field's name in compact JSON, up to a sign.
+fn field<'a>(json: &'a str, name: &str, end: char) -> Result<&'a str, String> {
+    let behind = json.split_once(&format!("\"{name}\":")).ok_or(format!("the header has no {name}"))?.1;
+    behind.trim_start_matches('"').split(end).next().ok_or_else(String::new)
+}
+
+fn party(line: &str) -> Result<Party, String> {
+    let (name, digits) = line.split_once(' ').ok_or("a line isn't a name and a seed")?;
+    let mut seed = [0; 32];
+    for (at, byte) in seed.iter_mut().enumerate() {
+        let pair = digits.get(2 * at..2 * at + 2).ok_or("a seed is too short")?;
+        *byte = u8::from_str_radix(pair, 16).map_err(|why| why.to_string())?;
+    }
+    Ok(Party { name: name.into(), seed, notes: String::new() })
+}
+
+impl Swap {
+    fn read(text: &str) -> Result<Swap, String> {
+        let (header, lines) = text.split_once('\n').ok_or("no header")?;
+        let ledger = |arc| -> Result<Ledger, String> {
+            Ok(Ledger { ends: [field(arc, "from", '"')?.into(), field(arc, "to", '"')?.into()], entries: Vec::new() })
+        };
+        let ledgers = header.match_indices("\"from\":").map(|(at, _)| ledger(&header[at..]));
+        Ok(Swap { header: header.into(), ledgers: ledgers.collect::<Result<_, _>>()?, parties: lines.lines().map(party).collect::<Result<_, _>>()? })
+    }
+
+    fn number(&self, name: &str) -> Result<u64, String> {
+        field(&self.header, name, ',')?.parse().map_err(|_| format!("{name} is no number"))
+    }
+
+    /// A transcript of every ledger, or of those that touch one party and of the others nothing.
+    fn transcript(&self, name: Option<&String>) -> String {
+        let mut told = format!("swap transcript 1\n{}\n", self.header);
+        for (arc, ledger) in self.ledgers.iter().enumerate() {
+            let entries = if name.map_or(true, |it| ledger.ends.contains(it)) { &ledger.entries[..] } else { &[] };
+            let _ = writeln!(told, "ledger {arc} {}", entries.len());
+            entries.iter().for_each(|it| told += it);
+        }
+        told + "end\n"
+    }
+
+    /// Keeps what is to be kept, writes down a publish before it goes out, and presents a call.
+    fn obey(&mut self, who: usize, line: &str) -> Result<bool, String> {
+        let notes = &mut self.parties[who].notes;
+        let words: Vec<&str> = line.splitn(4, ' ').collect();
+        match words[..] {
+            ["keep", ..] => *notes += &format!("{line}\n"),
+            ["call", arc, number, call] => {
+                if call.starts_with("publish ") {
+                    *notes += &format!("sent {arc}\n");
+                }
+                let arc: usize = arc.parse().map_err(|_| "no arc")?;
+                self.ledgers[arc].entries.push(format!("c {number} {call} = accepted\n"));
+            }
+            _ => return Ok(false),
+        }
+        Ok(true)
+    }
+
+    fn turn(&mut self, who: usize) -> Result<bool, String> {
+        let party = &self.parties[who];
+        let text = party.notes.clone() + &self.transcript(Some(&party.name));
+        let lines = library::next(text.as_bytes(), &party.name, &party.seed)?;
+        lines.lines().try_fold(false, |acted, line| Ok(self.obey(who, line)? | acted))
+    }
+
+    fn settle(&mut self) -> Result<(), String> {
+        let horizon = self.number("start")? + (2 * self.number("bound")? + 2) * self.number("delta")?;
+        for _ in 0..=horizon {
+            while (0..self.parties.len()).try_fold(false, |acted, who| Ok::<_, String>(self.turn(who)? | acted))? {}
+            self.ledgers.iter_mut().for_each(|it| it.entries.push("t 1\n".into()));
+        }
+        Ok(())
+    }
+}
+
+fn settled() -> Result<String, String> {
+    let mut text = String::new();
+    std::io::stdin().read_to_string(&mut text).map_err(|why| why.to_string())?;
+    let mut swap = Swap::read(&text)?;
+    library::check(&swap.header)?;
+    swap.settle()?;
+    Ok(swap.transcript(None))
+}
+
+fn main() -> std::process::ExitCode {
+    match settled().and_then(|told| std::io::stdout().write_all(told.as_bytes()).map_err(|why| why.to_string())) {
+        Ok(()) => std::process::ExitCode::SUCCESS,
+        Err(why) => {
+            eprintln!("settle: {why}");
+            std::process::ExitCode::FAILURE
+        }
+    }
+}

@@ -1,0 +1,184 @@
+"""What a wallet asks: what is due for its party, and whether a header's deal is accepted. By the
+library or by the programs, behind one interface."""
+from __future__ import annotations
+
+import ctypes
+import os
+import re
+import subprocess
+from collections.abc import Callable
+from pathlib import Path
+from typing import Any, Protocol
+
+from .header import Header
+from .lines import WordError
+
+DONE, SHORT, REFUSED, NO_MEMORY, TOO_LONG = 0, 1, 3, 6, 7
+TEXT_LIMIT, NAME_LIMIT, SEED_SIZE, ID_SIZE = 16_777_216, 16, 32, 32
+BEFORE = b"swap: refused: "
+# The reasons whose first word is a line's number
+OF_A_LINE = re.compile(rb"(NotJson|Missing|WrongKind|UnknownField|BadName|Duplicate|Unknown|OverLimit|WrongHex|BadLine) ([0-9]+)(?= |$)")
+
+
+class RefusedError(ValueError):
+    """What was handed over is refused. `reason` is the first reason, as docs/FORMATS.md tells it,
+    where lines are counted from the text's first."""
+
+    def __init__(self, reason: str) -> None:
+        super().__init__(reason)
+        self.reason = reason
+
+
+class TooLongError(ValueError):
+    """The text has more bytes than its limit."""
+
+
+class NoAnswerError(RuntimeError):
+    """The library or the program has no answer: its status, and what it told."""
+
+    def __init__(self, status: int, told: str) -> None:
+        super().__init__(f"status {status}: {told}")
+        self.status = status
+
+
+class Party(Protocol):
+    """What answers a wallet. Each call is a function of its arguments."""
+
+    def next(self, name: str, seed: bytes, text: str) -> str:
+        """The lines that answer `text`, which is the wallet's notes and a transcript of each ledger
+        as far as it is known."""
+
+    def check(self, header: str) -> bytes:
+        """The id of the deal of a header line, where it is accepted."""
+
+
+def answered(status: int, text: bytes) -> bytes:
+    """The text of a call that ended well."""
+    if status == DONE:
+        return text
+    if status == REFUSED:
+        raise RefusedError(text.removeprefix(BEFORE).rstrip(b"\n").decode("utf-8", "backslashreplace"))
+    if status == TOO_LONG:
+        raise TooLongError(f"the text has more than {TEXT_LIMIT} bytes")
+    if status == NO_MEMORY:
+        raise MemoryError
+    raise NoAnswerError(status, text.decode("utf-8", "backslashreplace"))
+
+
+def whole_seed(seed: bytes) -> bytes:
+    if len(seed) != SEED_SIZE:
+        raise ValueError(f"a seed has {SEED_SIZE} bytes")
+    return seed
+
+
+# ---- the library
+
+
+class Said(ctypes.Structure):
+    """What a call of the library answers."""
+
+    _fields_ = [("status", ctypes.c_uint32), ("length", ctypes.c_size_t)]
+
+
+class Library:
+    """The shared object libswap_party.so.1, by the path given, by the environment's
+    SWAP_PARTY_LIBRARY, or where the system finds it."""
+
+    def __init__(self, path: str | os.PathLike[str] | None = None) -> None:
+        it = ctypes.CDLL(os.fspath(path or os.environ.get("SWAP_PARTY_LIBRARY") or "libswap_party.so.1"))
+        text, out = [ctypes.c_char_p, ctypes.c_size_t], [ctypes.c_void_p, ctypes.c_size_t]
+        self._next = self._call(it.swap_party_next, Said, [*text, *text, ctypes.c_char_p, *out])
+        self._check = self._call(it.swap_party_check, Said, [*text, *out])
+        self.version = self._call(it.swap_party_version, ctypes.c_char_p, [])().decode()
+        self._limit = self._call(it.swap_party_limit, ctypes.c_size_t, [ctypes.c_uint32])
+        self._status_text = self._call(it.swap_party_status_text, ctypes.c_char_p, [ctypes.c_uint32])
+
+    @staticmethod
+    def _call(function: Any, answer: Any, words: list[Any]) -> Callable[..., Any]:
+        function.restype, function.argtypes = answer, words
+        return function  # type: ignore[no-any-return]
+
+    @property
+    def is_proved(self) -> bool:
+        """Whether it is the build that the gate proves."""
+        return bool(self.version.endswith(" proved"))
+
+    def limit(self, which: int) -> int:
+        return int(self._limit(which))
+
+    def status_text(self, status: int) -> str:
+        return bytes(self._status_text(status)).decode()
+
+    def said(self, call: Callable[..., Any], *words: object) -> tuple[int, bytes]:
+        """The status and the text of a call, which is made again where the buffer was too short."""
+        out = ctypes.create_string_buffer(1 << 14)
+        said = call(*words, out, len(out))
+        if said.status == SHORT:
+            out = ctypes.create_string_buffer(said.length)
+            said = call(*words, out, len(out))
+        return said.status, out.raw[: said.length]
+
+    def next_said(self, name: bytes, seed: bytes, text: bytes) -> tuple[int, bytes]:
+        """What the library answers, as it stands."""
+        return self.said(self._next, text, len(text), name, len(name), whole_seed(seed))
+
+    def check_said(self, header: bytes) -> tuple[int, bytes]:
+        return self.said(self._check, header, len(header))
+
+    def next(self, name: str, seed: bytes, text: str) -> str:
+        return answered(*self.next_said(name.encode(), seed, text.encode())).decode()
+
+    def check(self, header: str) -> bytes:
+        return answered(*self.check_said(header.encode()))
+
+
+# ---- the programs
+
+
+class Program:
+    """The programs `party` and `swap`, by their paths, by the environment's PARTY and SWAP, or
+    where the system finds them."""
+
+    def __init__(self, party: str | os.PathLike[str] | None = None, swap: str | os.PathLike[str] | None = None) -> None:
+        self.party = os.fspath(party or os.environ.get("PARTY") or "party")
+        self.swap = os.fspath(swap or os.environ.get("SWAP") or "swap")
+
+    @staticmethod
+    def _run(words: list[str], text: bytes) -> tuple[int, bytes]:
+        """The status, and what was written, or else told in the last line."""
+        ended = subprocess.run(words, input=text, capture_output=True, check=False)
+        return ended.returncode, ended.stdout if ended.returncode in (0, 1) else ended.stderr.splitlines(True)[-1] if ended.stderr else b""
+
+    def next(self, name: str, seed: bytes, text: str) -> str:
+        status, said = self._run([self.party, name], b"seed %s\n%s" % (whole_seed(seed).hex().encode(), text.encode()))
+        return answered(status, less_one_line(said) if status == REFUSED else said).decode()
+
+    def check(self, header: str) -> bytes:
+        """Has a transcript without entries audited, which says whether the deal is accepted. The id
+        is worked out here."""
+        told = ["swap transcript 1", header, *(f"ledger {arc} 0" for arc in range(arcs_in(header))), "end", ""]
+        status, said = self._run([self.swap, "audit"], "\n".join(told).encode())
+        answered(DONE if status == 1 else status, less_one_line(said) if status == REFUSED else said)
+        return Header.of(header).deal_id()
+
+
+def arcs_in(header: str) -> int:
+    """How many arcs a header has. One that isn't of the form is refused before its ledgers are
+    read."""
+    try:
+        return len(Header.of(header).arcs)
+    except WordError:
+        return 0
+
+
+def less_one_line(said: bytes) -> bytes:
+    """A refusal whose line is counted from the second line."""
+    return BEFORE + OF_A_LINE.sub(lambda found: b"%s %d" % (found[1], int(found[2]) - 1), said.removeprefix(BEFORE), count=1)
+
+
+def found(prefix: str | os.PathLike[str]) -> Party:
+    """What stands in a prefix that tools/install made: the library, or else the programs."""
+    shared = Path(prefix) / "lib" / "libswap_party.so.1"
+    if shared.is_file():
+        return Library(shared)
+    return Program(Path(prefix) / "bin" / "party", Path(prefix) / "bin" / "swap")
