@@ -1,6 +1,6 @@
 //! What is found, in its order.
 
-ghost use Rattle.std.specs.Prelude.{◌≡◌, ◌<◌, ◌++◌, ◌∷◌, [], OnOk, length, if◌then◌else◌};
+ghost use Rattle.std.specs.Prelude.{◌≡◌, ◌<◌, ◌++◌, ◌∷◌, [], OnOk, OnErr, length, if◌then◌else◌};
 ghost use Rattle.swap_digraph.specs.Deal.{IsWellSized};
 ghost use Rattle.ledger_core.specs.Book.{IsLegalBook};
 ghost use Rattle.swap_rules.specs.Findings.{broken, forgeries};
@@ -59,9 +59,9 @@ fn put_broken_on(
     Ok(())
 }
 
-/// Adds where the party broke a rule of conduct, by arc and entry. `keys` are the hashkeys of its unlock calls.
+/// Adds where the party broke a rule of conduct, by arc and entry. After want of memory a part stands there.
 #[tactic(auto, using(sent_keys::proofs::Loops::flat_more))]
-pub fn put_broken(
+fn put_broken_arcs(
     out: &mut Vec<Finding>,
     deal: &Deal,
     known: &[Index],
@@ -79,6 +79,29 @@ pub fn put_broken(
     for arc in 0..deal.graph.arcs().len() as u8 {
         put_broken_on(out, deal, known, party, keys, &standing, arc)?;
     }
+    Ok(())
+}
+
+/// Adds where the party broke a rule of conduct, by arc and entry. `keys` are the hashkeys of its
+/// unlock calls. Want of memory leaves the list as it was.
+pub fn put_broken(
+    out: &mut Vec<Finding>,
+    deal: &Deal,
+    known: &[Index],
+    party: PartyId,
+    keys: &[&Hashkey],
+) -> Result<(), NoMemory>
+    requires sized { IsWellSized deal.now }
+    requires known { AreIndexes deal.now known.now }
+    requires legal { IsLegalBook deal.now (entries_in known.now) }
+    requires party { party < deal.now.graph.n }
+    requires keys { shown keys.now ≡ unlocks_of (entries_in known.now) party }
+    ensures ok { OnOk result (out.new.items ≡ out.old.items ++ broken deal.now (entries_in known.now) party) }
+    ensures err { OnErr result (out.new.items ≡ out.old.items) }
+{
+    let mut found = Vec::new(*out.allocator());
+    put_broken_arcs(&mut found, deal, known, party, keys)?;
+    out.append(&mut found)?;
     Ok(())
 }
 
@@ -106,9 +129,10 @@ fn put_forged_on(
     Ok(())
 }
 
-/// Adds where an entry is forged in the party's name, by arc and entry. `keys` are the hashkeys of its unlock calls.
+/// Adds where an entry is forged in the party's name, by arc and entry. After want of memory a part
+/// stands there.
 #[tactic(auto, using(sent_keys::proofs::Loops::flat_more))]
-pub fn put_forgeries(
+fn put_forged_arcs(
     out: &mut Vec<Finding>,
     deal: &Deal,
     known: &[Index],
@@ -125,5 +149,28 @@ pub fn put_forgeries(
     for arc in 0..deal.graph.arcs().len() as u8 {
         put_forged_on(out, deal, known, party, keys, arc)?;
     }
+    Ok(())
+}
+
+/// Adds where an entry is forged in the party's name, by arc and entry. `keys` are the hashkeys of
+/// its unlock calls. Want of memory leaves the list as it was.
+pub fn put_forgeries(
+    out: &mut Vec<Finding>,
+    deal: &Deal,
+    known: &[Index],
+    party: PartyId,
+    keys: &[&Hashkey],
+) -> Result<(), NoMemory>
+    requires sized { IsWellSized deal.now }
+    requires known { AreIndexes deal.now known.now }
+    requires legal { IsLegalBook deal.now (entries_in known.now) }
+    requires party { party < deal.now.graph.n }
+    requires keys { shown keys.now ≡ unlocks_of (entries_in known.now) party }
+    ensures ok { OnOk result (out.new.items ≡ out.old.items ++ forgeries deal.now (entries_in known.now) party) }
+    ensures err { OnErr result (out.new.items ≡ out.old.items) }
+{
+    let mut found = Vec::new(*out.allocator());
+    put_forged_arcs(&mut found, deal, known, party, keys)?;
+    out.append(&mut found)?;
     Ok(())
 }

@@ -19,7 +19,7 @@ use swap_base::{ArcId, LockId, PartyId};
 use swap_digraph::Deal;
 
 /// The height from which the party is to publish on the arcs that leave it.
-pub(crate) fn publish_from(deal: &Deal, known: &[Index], party: PartyId) -> Option<u64>
+pub fn publish_from(deal: &Deal, known: &[Index], party: PartyId) -> Option<u64>
     requires sized { IsWellSized deal.now }
     requires known { AreIndexes deal.now known.now }
     requires party { party < deal.now.graph.n }
@@ -56,7 +56,7 @@ fn has_key(
 }
 
 /// The height from which the party is to unlock the lock on the arcs that enter it, where this is its first hashkey for it.
-pub(crate) fn unlock_from(
+pub fn unlock_from(
     deal: &Deal,
     known: &[Index],
     party: PartyId,
@@ -83,7 +83,7 @@ pub(crate) fn unlock_from(
 }
 
 /// The height from which the arc's counterparty is to claim.
-pub(crate) fn claim_from(deal: &Deal, known: &[Index], arc: ArcId) -> Option<u64>
+pub fn claim_from(deal: &Deal, known: &[Index], arc: ArcId) -> Option<u64>
     requires sized { IsWellSized deal.now }
     requires known { AreIndexes deal.now known.now }
     ensures exact { result ≡ claim_from deal.now (entries_in known.now) arc }
@@ -98,7 +98,7 @@ pub(crate) fn claim_from(deal: &Deal, known: &[Index], arc: ArcId) -> Option<u64
 
 /// The height from which the arc's party is to refund, where this is the least expiry there.
 #[tactic(auto, using(crate::proofs::FirstAnswer::some_published))]
-pub(crate) fn refund_from(deal: &Deal, known: &[Index], arc: ArcId, least: u64) -> Option<u64>
+pub fn refund_from(deal: &Deal, known: &[Index], arc: ArcId, least: u64) -> Option<u64>
     requires sized { IsWellSized deal.now }
     requires known { AreIndexes deal.now known.now }
     requires least { least ≡ least_expiry deal.now arc (history (entries_in known.now) arc) }

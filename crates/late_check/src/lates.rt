@@ -1,6 +1,6 @@
 //! Where a party was late, in order.
 
-ghost use Rattle.std.specs.Prelude.{◌≡◌, ◌<◌, ◌^◌, ◌++◌, IfSome, OnOk, length, option_copied};
+ghost use Rattle.std.specs.Prelude.{◌≡◌, ◌<◌, ◌^◌, ◌++◌, IfSome, OnOk, OnErr, length, option_copied};
 ghost use Rattle.std.specs.List.{flat_map};
 ghost use Rattle.swap_digraph.specs.Graph.{entering, is_among, leaving};
 ghost use Rattle.swap_digraph.specs.Deal.{locks, IsWellSized};
@@ -305,8 +305,8 @@ fn put_late_refunds(
     Ok(())
 }
 
-/// Adds where the party is late, by rule, lock and arc, where these are the hashkeys that it sent.
-pub fn put_lates(
+/// Adds where the party is late, by rule, lock and arc. After want of memory a part stands there.
+fn put_lates_by_rule(
     out: &mut Vec<Finding>,
     deal: &Deal,
     known: &[Index],
@@ -323,5 +323,27 @@ pub fn put_lates(
     put_late_unlocks(out, deal, known, party, keys)?;
     put_late_claims(out, deal, known, party)?;
     put_late_refunds(out, deal, known, party)?;
+    Ok(())
+}
+
+/// Adds where the party is late, by rule, lock and arc, where these are the hashkeys that it sent.
+/// Want of memory leaves the list as it was.
+pub fn put_lates(
+    out: &mut Vec<Finding>,
+    deal: &Deal,
+    known: &[Index],
+    party: PartyId,
+    keys: &[&Hashkey],
+) -> Result<(), NoMemory>
+    requires sized { IsWellSized deal.now }
+    requires known { AreIndexes deal.now known.now }
+    requires party { party < deal.now.graph.n }
+    requires keys { shown keys.now ≡ unlocks_of (entries_in known.now) party }
+    ensures ok { OnOk result (out.new.items ≡ out.old.items ++ lates deal.now (entries_in known.now) party) }
+    ensures err { OnErr result (out.new.items ≡ out.old.items) }
+{
+    let mut found = Vec::new(*out.allocator());
+    put_lates_by_rule(&mut found, deal, known, party, keys)?;
+    out.append(&mut found)?;
     Ok(())
 }

@@ -12,4 +12,5 @@ mod froms;
 mod lates;
 mod openings;
 
+pub use froms::{claim_from, publish_from, refund_from, unlock_from};
 pub use lates::put_lates;

@@ -1,7 +1,7 @@
 //! What is written of a plain job.
 
-ghost use Rattle.std.specs.Prelude.{◌≡◌, ◌≤◌, IfOk, IfErr, OnOk};
-ghost use Rattle.swap_base.specs.Fault.{Gives, IsNoMemory};
+ghost use Rattle.std.specs.Prelude.{◌≡◌, ◌≤◌, IfOk, OnOk, OnErr};
+ghost use Rattle.swap_base.specs.Fault.{Gives};
 ghost use Rattle.proposed_deal.specs.Proposed.{HaveSeeds, IsProposed};
 ghost use Rattle.offer_header.specs.Names.{AreNames};
 ghost use Rattle.swap_offer.specs.Job.{IsWholeJob};
@@ -34,7 +34,7 @@ pub fn made_line(alloc: Global, job: &Job) -> Result<Vec<u8>, NoMemory>
 }
 
 /// Puts a line and a line feed behind a text, where so many lines were put before, and answers how many there are with it. The line isn't
-/// examined.
+/// examined. A fault leaves the text as it was.
 #[tactic(auto, unfolding(crate::specs::Making::line_step))]
 pub fn copy_line(
     alloc: Global,
@@ -46,9 +46,11 @@ pub fn copy_line(
     requires { count ≤ 200000 }
     ensures exact { Gives (λ n. (n, text.new.items)) result (line_step (count, text.old.items) (number, line.now)) }
     ensures few { IfOk result (λ n. n ≤ 200000) }
-    ensures refused { IfErr result (λ e. (IsNoMemory e → ⊥) → text.new.items ≡ text.old.items) }
+    ensures err { OnErr result (text.new.items ≡ text.old.items) }
 {
     let count = count_event(alloc, count, number, line)?;
-    put(text, &[Piece::Bytes(line), Piece::Text("\n")])?;
+    let mut whole = Vec::new(alloc);
+    put(&mut whole, &[Piece::Bytes(line), Piece::Text("\n")])?;
+    text.extend_from_slice(&whole)?;
     Ok(count)
 }

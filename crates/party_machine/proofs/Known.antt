@@ -25,7 +25,7 @@ use Rattle.swap_rules.proofs.Conducting.{history_same, history_other}
 use Rattle.party_wallet.specs.Value.{WalletState, signed_in}
 use Rattle.party_wallet.specs.Keys.{new_wallet, with_recorded}
 use Rattle.party_machine.specs.Wallet.{wallet_of}
-use Rattle.party_wallet.specs.Fits.{wrong_lock}
+use Rattle.party_wallet.specs.Fits.{wrong_in, wrong_lock}
 use Rattle.party_machine.specs.Machine.{MachineState, new_machine, machine_or, machine_for, resumed_machine, learnt}
 use Rattle.party_machine.specs.Within.{entries_in, machine_in, AreIndexes, IsPartys, IsReady, IsKept}
 use Rattle.party_machine.specs.declared.machine.Machine.TheInside.{Inside}
@@ -139,15 +139,21 @@ new_is c d v w known ec ew ek =
     let k : entries_in known ≡ replicate (length d.graph.arcs) [] = entries_new d known ek in
     rw (ec, p, s, k) refl
 
--- a new wallet in which no lock is wrong
-pub fits_party : (d : Deal) (v : ℕ) (w : WalletState) (o : Option ℕ) → w ≡ new_wallet w.seed v d → o ≡ wrong_lock d w.party w.seed → o ≡ None
-    → wrong_lock d v w.seed ≡ None
-fits_party d v w o new is none =
-    ap (λ (p : ℕ). wrong_lock d p w.seed) (sym (ap (λ (x : WalletState). x.party) new)) ∙ (sym is ∙ none)
+-- a wallet that was made anew for the party and the deal
 
-pub fitting_shows : (d : Deal) (v : ℕ) (seed : List ℕ) (m : MachineState) → m ≡ new_machine d v seed → wrong_lock d v seed ≡ None
-    → machine_for d v seed ≡ Ok m
-fitting_shows d v seed m e fits = ap (machine_or d v seed) fits ∙ ap (λ (x : MachineState). Ok x) (sym e)
+pub seed_of : (d : Deal) (v : ℕ) (seed : List ℕ) (f : WalletState) → f ≡ new_wallet seed v d → f.seed ≡ seed
+seed_of d v seed f is = ap (λ (w : WalletState). w.seed) is
+
+pub made_fresh : (d : Deal) (v : ℕ) (seed : List ℕ) (f : WalletState) → f ≡ new_wallet seed v d → f ≡ new_wallet f.seed v d
+made_fresh d v seed f is = is ∙ ap (λ (s : List ℕ). new_wallet s v d) (sym (seed_of d v seed f is))
+
+pub fits_fresh : (d : Deal) (v : ℕ) (w f : WalletState) → f ≡ new_wallet w.seed v d → wrong_lock d v w.seed ≡ None → wrong_lock d v f.seed ≡ None
+fits_fresh d v w f is fits = ap (wrong_lock d v) (seed_of d v w.seed f is) ∙ fits
+
+pub fitting_shows : (d : Deal) (v : ℕ) (w f : WalletState) (m : MachineState) → f ≡ new_wallet w.seed v d → m ≡ new_machine d v f.seed
+    → wrong_in d v w ≡ None → machine_for d v w ≡ Ok m
+fitting_shows d v w f m is e fits =
+    ap (machine_or d v w.seed) fits ∙ ap (λ (x : MachineState). Ok x) (sym (e ∙ ap (new_machine d v) (seed_of d v w.seed f is)))
 
 -- a party's wallet with recorded hashkeys
 partys_recorded : (d : Deal) (w w' : WalletState) (recorded : List (Option Hashkey)) → IsPartys d w → w' ≡ with_recorded w recorded

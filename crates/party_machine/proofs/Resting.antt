@@ -3,6 +3,7 @@ use Rattle.std.proofs.Common.{◌≡◌, ℕ, zero, suc, ◌+◌, ◌*◌, ◌==
 use Rattle.std.proofs.Common.{false, cond, List, [], ◌∷◌, ◌++◌, get_or, set}
 use Rattle.std.proofs.Common.{Option, Some, None, is_some, option_map, refl, sym, ap, ◌∙◌, subst, leb-true, arith, ◌<◌, length}
 use Rattle.std.specs.Prelude.{Result, Ok, Err, OnOk, OnErr}
+use Rattle.std.specs.Prelude.{map, filter}
 use Rattle.std.proofs.Math.Seq.{map-set_same}
 use Rattle.std.proofs.lemmas.Bool.{ne_eqb}
 use Rattle.std.proofs.lemmas.List.Folds.{list_all-append}
@@ -20,15 +21,16 @@ use Rattle.ledger_core.specs.Runs.{ticks_above, ticks_of}
 use Rattle.ledger_core.specs.History.{height}
 use Rattle.ledger_core.specs.Book.{Histories, history}
 use Rattle.history_index.specs.Value.{IndexState}
+use Rattle.swap_digraph.specs.Graph.{leaving}
 use Rattle.swap_rules.specs.Party.{least_expiry}
 use Rattle.swap_rules.specs.Due.{Action, due, first}
-use Rattle.swap_rules.specs.Rest.{are_ticks, is_ticking, rest_until}
+use Rattle.swap_rules.specs.Rest.{are_ticks, is_ticking, least_of, rest_until}
 use Rattle.swap_rules.proofs.Rest.{reads, same_waiting, same_expiry, rests_below, ticks_make_nothing_due}
 use Rattle.party_wallet.specs.Value.{signed_in}
 use Rattle.party_wallet.specs.Value.{WalletState}
 use Rattle.party_machine.specs.Wallet.{wallet_of}
 use Rattle.party_machine.specs.Machine.{MachineState, action_of, learnt, next_due}
-use Rattle.party_machine.specs.Rest.{rest_after, EndsBy, IsAtRest, MayRest}
+use Rattle.party_machine.specs.Rest.{height_of, rest_after, EndsBy, IsAtRest, MayRest}
 use Rattle.party_machine.specs.Within.{entries_in, IsReady}
 use Rattle.party_machine.specs.declared.rest.Rest.{Rest}
 use Rattle.party_machine.specs.declared.rest.Rest.TheVariants.{Awake, Until}
@@ -46,23 +48,29 @@ none_of (Some x) r e n = absurd (cc n)
 
 pub begins : (s : MachineState) (o : Option (ℕ × Call)) (until : Option ℕ) → option_map action_of o ≡ next_due s → is_some o ≡ false
     → until ≡ rest_until s.deal s.me s.known
-    → IsAtRest until s
-begins s o until e n u = record {
+    → MayRest (Until until) s
+begins s o until e n u = (u, record {
   nothing = none_of o (next_due s) e n;
   ends = λ a i waits.
       let b = rests_below s.deal s.me s.known a i waits in
       subst (λ t. EndsBy t (least_expiry s.deal a (history s.known a))) (sym (u ∙ b.1)) b.2;
-}
+})
 
 -- Rest, by the machine's own word for it.
 
 pub rests_by : (r : Rest) (s : MachineState) (t : ℕ) → r ≡ Until (Some t) → MayRest r s → IsAtRest (Some t) s
-rests_by r s t e m = subst (λ x. MayRest x s) e m
+rests_by r s t e m = (subst (λ x. MayRest x s) e m).1
 
 pub rests_always : (r : Rest) (s : MachineState) (t : ℕ) → r ≡ Until None → MayRest r s → IsAtRest (Some t) s
 rests_always r s t e m =
-    let n : IsAtRest None s = subst (λ x. MayRest x s) e m in
+    let n : IsAtRest None s = (subst (λ x. MayRest x s) e m).1 in
     record { nothing = n.nothing; ends = λ a i waits. absurd (n.ends a i waits) }
+
+pub least_by : (r : Rest) (s : MachineState) (t : ℕ) → r ≡ Until (Some t) → MayRest r s → t ≡ height_of (rest_until s.deal s.me s.known)
+least_by r s t e m = ap height_of (subst (λ x. MayRest x s) e m).0
+
+pub least_always : (r : Rest) (s : MachineState) → r ≡ Until None → MayRest r s → 4294967295 ≡ height_of (rest_until s.deal s.me s.known)
+least_always r s e m = ap height_of (subst (λ x. MayRest x s) e m).0
 
 -- Rest goes on.
 
@@ -89,18 +97,33 @@ still until s a more ticks low r =
           (r.ends c i (sym (same_waiting s.deal s.me before after same c) ∙ waits));
     }
 
+-- ticks leave the height up to which it rests as it was
+same_height : (s : MachineState) (a : ℕ) (more : List Entry) → are_ticks more ≡ true
+    → rest_until s.deal s.me (set s.known a (history s.known a ++ more)) ≡ rest_until s.deal s.me s.known
+same_height s a more ticks =
+    let before = s.known in
+    let after = set s.known a (history s.known a ++ more) in
+    let same = reads s.deal s.me (wallet_of s.seed s.me s.deal) (signed_in s.signed) before a more ticks in
+    λ j. least_of (map (λ c. same_expiry s.deal s.me before after same c j)
+    (filter (λ c. same_waiting s.deal s.me before after same c j) (leaving s.deal.graph s.me)))
+
+goes_still : (until : Option ℕ) (s : MachineState) (a : ℕ) (more : List Entry) → are_ticks more ≡ true
+    → ((e : ℕ) → EndsBy until e → height (history s.known a ++ more) ≤ e)
+    → MayRest (Until until) s → MayRest (Until until) (learnt s a more)
+goes_still until s a more ticks low m = (m.0 ∙ sym (same_height s a more ticks), still until s a more ticks low m.1)
+
 pub goes_on : (r : Rest) (s : MachineState) (a : ℕ) (more : List Entry) (ticks : Bool) (at : ℕ) → ticks ≡ are_ticks more
     → at ≡ height (history s.known a ++ more) → MayRest r s → MayRest (rest_after r ticks at) (learnt s a more)
 goes_on Awake s a more true at t h m = tt
 goes_on Awake s a more false at t h m = tt
 goes_on (Until None) s a more false at t h m = tt
 goes_on (Until (Some until)) s a more false at t h m = tt
-goes_on (Until None) s a more true at t h m = still None s a more (sym t) (λ e b. absurd b) m
+goes_on (Until None) s a more true at t h m = goes_still None s a more (sym t) (λ e b. absurd b) m
 goes_on (Until (Some until)) s a more true at t h m = go (nat_le at until) refl
   where
     go : (b : Bool) → nat_le at until ≡ b → MayRest (cond b (Until (Some until)) Awake) (learnt s a more)
     go false q = tt
-    go true q = still (Some until) s a more (sym t) (λ e b. let below : at ≤ until = leb-true at until q in omega arith) m
+    go true q = goes_still (Some until) s a more (sym t) (λ e b. let below : at ≤ until = leb-true at until q in omega arith) m
 
 -- where nothing was learnt
 pub stays : (r : Rest) (s : MachineState) (ticks : Bool) (at : ℕ) → MayRest r s → MayRest (rest_after r ticks at) s

@@ -7,9 +7,9 @@ use Rattle.ledger_core.specs.declared.entry.Entry.{Entry}
 use Rattle.ledger_core.specs.Book.{Histories, history}
 use Rattle.swap_rules.specs.Due.{Action, due, first}
 use Rattle.swap_rules.specs.Machine.{noted}
-use Rattle.party_wallet.specs.Value.{signed_in}
+use Rattle.party_wallet.specs.Value.{WalletState, signed_in}
 use Rattle.party_machine.specs.Wallet.{wallet_of}
-use Rattle.party_wallet.specs.Fits.{wrong_lock}
+use Rattle.party_wallet.specs.Fits.{wrong_in}
 use Rattle.party_machine.specs.declared.misfit.Misfit.{Misfit}
 use Rattle.party_machine.specs.declared.misfit.Misfit.TheVariants.{WrongWallet}
 
@@ -30,9 +30,9 @@ abbrev pub machine_or : Deal → ℕ → List ℕ → Option ℕ → Result Mach
 machine_or d v seed None = Ok (new_machine d v seed)
 machine_or d v seed (Some i) = Err (WrongWallet i)
 
--- the machine of v with the seed, or the least lock for which the seed is wrong
-abbrev pub machine_for : Deal → ℕ → List ℕ → Result MachineState Misfit
-machine_for d v seed = machine_or d v seed (wrong_lock d v seed)
+-- the machine of v with the wallet's seed, or the least lock for which the wallet lacks what the deal states of v
+abbrev pub machine_for : Deal → ℕ → WalletState → Result MachineState Misfit
+machine_for d v w = machine_or d v w.seed (wrong_in d v w)
 
 -- the machine of v, which knows nothing, with the hashkeys that it signed before
 abbrev pub resumed_machine : Deal → ℕ → List ℕ → List (Option Hashkey) → MachineState
@@ -42,9 +42,9 @@ abbrev pub resumed_or : Deal → ℕ → List ℕ → List (Option Hashkey) → 
 resumed_or d v seed signed None = Ok (resumed_machine d v seed signed)
 resumed_or d v seed signed (Some i) = Err (WrongWallet i)
 
--- the same, or the least lock for which the seed is wrong
-abbrev pub resumed_for : Deal → ℕ → List ℕ → List (Option Hashkey) → Result MachineState Misfit
-resumed_for d v seed signed = resumed_or d v seed signed (wrong_lock d v seed)
+-- the same, or the least lock for which the wallet lacks what the deal states of v
+abbrev pub resumed_for : Deal → ℕ → WalletState → List (Option Hashkey) → Result MachineState Misfit
+resumed_for d v w signed = resumed_or d v w.seed signed (wrong_in d v w)
 
 -- after more entries of arc a
 abbrev pub learnt : MachineState → ℕ → List Entry → MachineState

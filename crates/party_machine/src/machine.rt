@@ -11,11 +11,12 @@ ghost use Rattle.ledger_core.specs.Runs.{ticks_of, IsRightRun};
 ghost use Rattle.history_index.specs.Value.{new_index, IsSameArc};
 ghost use Rattle.swap_rules.specs.Accepted.{IsAccepted};
 ghost use Rattle.swap_rules.specs.Machine.{IsWallet};
+ghost use Rattle.swap_rules.specs.Rest.{rest_until};
 ghost use Rattle.party_wallet.specs.Value.{signed_in};
 ghost use Rattle.party_wallet.specs.Keys.{new_wallet};
 ghost use Rattle.party_wallet.specs.Fits.{wrong_lock};
 ghost use Rattle.party_machine.specs.Wallet.{wallet_of};
-ghost use Rattle.party_machine.specs.Rest.{IsAtRest};
+ghost use Rattle.party_machine.specs.Rest.{height_of, IsAtRest};
 ghost use Rattle.wallet_journal.specs.Device.{LeavesOnly, IsUntouched};
 ghost use Rattle.wallet_journal.specs.Journal.{KeepsRecorded};
 ghost use Rattle.wallet_journal.specs.Own.{IsOwn};
@@ -89,7 +90,9 @@ impl Machine {
         })
     }
 
-    /// The same, or the least lock for which its new wallet lacks what the deal states.
+    /// A party that knows nothing and signed nothing, with the wallet's seed; or the least lock for
+    /// which the wallet lacks what the deal states of the party: where it was made for another party
+    /// or deal, or has signed for a lock, its keys aren't those.
     pub fn new(
         alloc: Global,
         deal: &Deal,
@@ -98,14 +101,16 @@ impl Machine {
     ) -> Result<Machine, MachineFault>
         requires sized { IsWellSized deal.now }
         requires party { me < deal.now.graph.n }
-        requires wallet { wallet ≡ new_wallet wallet.seed me deal.now }
-        ensures exact { Gives (λ m. m) result (machine_for deal.now me wallet.seed) }
+        ensures exact { Gives (λ m. m) result (machine_for deal.now me wallet) }
         ensures new { IfOk result (λ m. m ≡ new_machine deal.now me wallet.seed) }
         ensures good { IfOk result (λ m. IsAccepted deal.now → IsWallet deal.now me (wallet_of wallet.seed me deal.now)) }
     {
-        match wallet.wrong_lock(deal) {
+        match wallet.wrong_for(deal, me) {
             Some(lock) => Err(Fault::Refused(Misfit::WrongWallet(lock))),
-            None => Ok(Machine::fitting(alloc, deal, me, wallet)?),
+            None => {
+                let fresh = wallet.made_for(alloc, deal, me)?;
+                Ok(Machine::fitting(alloc, deal, me, fresh)?)
+            }
         }
     }
 
@@ -132,8 +137,9 @@ impl Machine {
         })
     }
 
-    /// A party that is restarted: it knows nothing, and signed what its journal has recorded; or the least lock for which its new wallet lacks what the
-    /// deal states.
+    /// A party that is restarted: it knows nothing, and signed what its journal has recorded, which was
+    /// opened for this deal and party; or the least lock for which the wallet lacks what the deal states
+    /// of the party.
     pub fn resume<D: Disk>(
         alloc: Global,
         deal: &Deal,
@@ -143,18 +149,20 @@ impl Machine {
     ) -> Result<Machine, MachineFault>
         requires sized { IsWellSized deal.now }
         requires party { me < deal.now.graph.n }
-        requires wallet { wallet ≡ new_wallet wallet.seed me deal.now }
+        requires opened { (journal.now.id ≡ deal.now.id) × (journal.now.me ≡ me) }
         requires sound { journal.now.sound ≡ true }
         requires places { length journal.now.signed ≡ length deal.now.leaders }
-        ensures exact { Gives (λ m. m) result (resumed_for deal.now me wallet.seed journal.now.signed) }
+        ensures exact { Gives (λ m. m) result (resumed_for deal.now me wallet journal.now.signed) }
         ensures resumed { IfOk result (λ m. m ≡ resumed_machine deal.now me wallet.seed journal.now.signed) }
     {
         let machine = Machine::new(alloc, deal, me, wallet)?;
         machine.restored(journal.keys().as_slice())
     }
 
-    /// The party restarts: it knows nothing, and signed what its journal has recorded. Want of memory leaves it as it was.
+    /// The party restarts: it knows nothing, and signed what its journal has recorded, which was opened
+    /// for its deal and itself. Want of memory leaves it as it was.
     pub fn restart<D: Disk>(&mut self, journal: &Journal<D>) -> Result<(), NoMemory>
+        requires opened { (journal.now.id ≡ self.old.deal.id) × (journal.now.me ≡ self.old.me) }
         requires sound { journal.now.sound ≡ true }
         requires places { length journal.now.signed ≡ length self.old.deal.leaders }
         ensures ok { OnOk result (self.new ≡ resumed_machine self.old.deal self.old.me self.old.seed journal.now.signed) }
@@ -240,12 +248,14 @@ impl Machine {
         }
     }
 
-    /// The first call that is due, where a hashkey that it signs is recorded in the party's journal before it is answered. After a fault the journal is
-    /// to be opened again, and the machine to be made again by `resume`.
+    /// The first call that is due, where a hashkey that it signs is recorded in the party's journal before
+    /// it is answered. The journal was opened for the machine's deal and party. After a fault it is to be
+    /// opened again, and the machine to be made again by `resume`.
     pub fn next_recorded<D: Disk>(
         &mut self,
         journal: &mut Journal<D>,
     ) -> Result<Option<(ArcId, Call)>, RecordFault>
+        requires opened { (journal.old.id ≡ self.old.deal.id) × (journal.old.me ≡ self.old.me) }
         requires sound { journal.old.sound ≡ true }
         requires recorded { journal.old.signed ≡ self.old.signed }
         ensures due { IfOk result (λ o. option_map action_of o ≡ next_due self.old) }
@@ -299,9 +309,11 @@ impl Machine {
         Ok(answer)
     }
 
-    /// A height up to which no tick makes anything due, where nothing is due and the party rests.
+    /// The height up to which no tick makes anything due, where nothing is due and the party rests: the
+    /// least expiry that it waits for, or the greatest height, where it waits for none.
     pub fn rests_until(&self) -> Option<u64>
-        ensures { IfSome result (λ t. IsAtRest (Some t) self.now) }
+        ensures at_rest { IfSome result (λ t. IsAtRest (Some t) self.now) }
+        ensures height { IfSome result (λ t. t ≡ height_of (rest_until self.now.deal self.now.me self.now.known)) }
     {
         match self.rest {
             Rest::Awake => None,

@@ -16,7 +16,7 @@ pub is_found : (p : ℕ → Bool) (a n : ℕ) (whole : Option ℕ) → a < n →
 is_found p a n whole lt passes so_far =
     sym (ap (find p) (range-next a n lt) ∙ ap (λ b. cond b (Some a) (find p (range_with_len (a + 1) (n - (a + 1))))) passes) ∙ so_far
 
-by_test : (b : Bool) (x : ℕ) (o : Option ℕ) → cond b (Some x) o ≡ None → (b ≡ false) × (o ≡ None)
+pub by_test : (b : Bool) (x : ℕ) (o : Option ℕ) → cond b (Some x) o ≡ None → (b ≡ false) × (o ≡ None)
 by_test true x o e = absurd (cc e)
 by_test false x o e = (refl, e)
 

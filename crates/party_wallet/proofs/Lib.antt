@@ -1,3 +1,4 @@
 pub mod Unspent
 pub mod Least
+pub mod Stated
 pub mod Restored

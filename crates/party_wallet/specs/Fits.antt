@@ -1,5 +1,5 @@
--- Whether a seed's keys are those that a deal states.
-use Rattle.std.specs.Prelude.{ℕ, Bool, true, not, ◌&&◌, ◌||◌, List, Option}
+-- Whether a seed's keys, or a wallet's, are those that a deal states.
+use Rattle.std.specs.Prelude.{ℕ, Bool, true, false, not, ◌&&◌, ◌||◌, List, length, nat_eq, nat_lt, Option, Some, None, is_some, if◌then◌else◌}
 use Rattle.std.specs.Str.{bytes_eq}
 use Rattle.std.specs.List.{find}
 use Rattle.swap_digraph.specs.declared.deal.Deal.{Deal}
@@ -8,6 +8,8 @@ use Rattle.swap_digraph.specs.declared.deal.Mode.TheVariants.{Timelocks, Hashkey
 use Rattle.swap_digraph.specs.Deal.{locks, leads, hashlock_of}
 use Rattle.hash_signature.specs.Signature.{hash_of, secret_of, public_key_of}
 use Rattle.hashkey_path.specs.Hashkey.{key_of}
+use Rattle.party_wallet.specs.Value.{WalletState, signed_in}
+use Rattle.party_wallet.specs.Keys.{public_for}
 
 -- with hashkeys, the seed's public key of v for lock i is the deal's
 abbrev pub has_key : Mode → Deal → ℕ → List ℕ → ℕ → Bool
@@ -25,3 +27,25 @@ fits_lock d v seed i = has_key d.mode d v seed i && opens_own d v seed i
 -- the least lock for which the seed lacks what the deal states of v
 abbrev pub wrong_lock : Deal → ℕ → List ℕ → Option ℕ
 wrong_lock d v seed = find (λ i. not (fits_lock d v seed i)) (locks d)
+
+-- the wallet has an unspent key of party v for lock i
+abbrev pub has_ready : WalletState → ℕ → ℕ → Bool
+has_ready w v i = nat_eq w.party v && nat_lt i (length w.signed) && not (is_some (signed_in w.signed i))
+
+-- the public key of party v for lock i, where the wallet can sign with its key
+abbrev pub public_in : WalletState → ℕ → ℕ → Option (List ℕ)
+public_in w v i = if has_ready w v i then public_for w.mode w.seed w.party i else None
+
+-- with hashkeys, that public key is the one that the deal states of v for lock i
+abbrev pub is_stated : Mode → Deal → ℕ → ℕ → Option (List ℕ) → Bool
+is_stated Timelocks d v i public = true
+is_stated Hashkeys d v i None = false
+is_stated Hashkeys d v i (Some public) = bytes_eq public (key_of d v i)
+
+-- the wallet has what the deal states of v for lock i
+abbrev pub fits_in : Deal → ℕ → WalletState → ℕ → Bool
+fits_in d v w i = is_stated d.mode d v i (public_in w v i) && opens_own d v w.seed i
+
+-- the least lock for which the wallet lacks what the deal states of v
+abbrev pub wrong_in : Deal → ℕ → WalletState → Option ℕ
+wrong_in d v w = find (λ i. not (fits_in d v w i)) (locks d)

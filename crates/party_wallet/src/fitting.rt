@@ -1,9 +1,9 @@
 //! Whether a wallet's keys are those that a deal states.
 
-ghost use Rattle.std.specs.Prelude.{◌≡◌, ◌<◌, length};
+ghost use Rattle.std.specs.Prelude.{◌≡◌, ◌<◌, ◌&&◌, length};
 ghost use Rattle.swap_digraph.specs.Deal.{IsWellSized};
 ghost use Rattle.party_wallet.specs.Keys.{public_for};
-ghost use Rattle.party_wallet.specs.Fits.{has_key, opens_own, fits_lock};
+ghost use Rattle.party_wallet.specs.Fits.{has_key, is_stated, opens_own, fits_lock};
 
 use hash_signature::{hash_of, secret_of};
 use swap_base::{Digest, LockId, PartyId};
@@ -73,4 +73,47 @@ pub(crate) fn fits_lock(
     ensures { result ≡ fits_lock deal.now party seed.now lock }
 {
     has_key(deal, party, seed, lock, public) && opens_own(deal, party, seed, lock)
+}
+
+/// Whether a public key, if there is one, is the one that the deal with hashkeys states.
+fn is_key(deal: &Deal, party: PartyId, lock: LockId, public: &Option<Digest>) -> bool
+    requires sized { IsWellSized deal.now }
+    requires mode { deal.now.mode ≡ Mode.Hashkeys }
+    requires party { party < deal.now.graph.n }
+    requires lock { lock < length deal.now.leaders }
+    ensures { result ≡ is_stated Mode.Hashkeys deal.now party lock public.now }
+{
+    match public {
+        Some(key) => *key == deal.keys.as_slice()[party as usize].as_slice()[lock as usize],
+        None => false,
+    }
+}
+
+fn is_known(deal: &Deal, party: PartyId, lock: LockId, public: &Option<Digest>) -> bool
+    requires sized { IsWellSized deal.now }
+    requires party { party < deal.now.graph.n }
+    requires lock { lock < length deal.now.leaders }
+    ensures { result ≡ is_stated deal.now.mode deal.now party lock public.now }
+{
+    match deal.mode {
+        Mode::Timelocks => true,
+        Mode::Hashkeys => is_key(deal, party, lock, public),
+    }
+}
+
+/// Whether a public key, if there is one, and the seed's secret are those that the deal states of the
+/// party for the lock.
+pub(crate) fn fits_stated(
+    deal: &Deal,
+    party: PartyId,
+    seed: &Digest,
+    lock: LockId,
+    public: &Option<Digest>,
+) -> bool
+    requires sized { IsWellSized deal.now }
+    requires party { party < deal.now.graph.n }
+    requires lock { lock < length deal.now.leaders }
+    ensures { result ≡ (is_stated deal.now.mode deal.now party lock public.now && opens_own deal.now party seed.now lock) }
+{
+    is_known(deal, party, lock, public) && opens_own(deal, party, seed, lock)
 }

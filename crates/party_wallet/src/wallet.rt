@@ -5,10 +5,10 @@ ghost use Rattle.std.specs.List.{range_with_len};
 ghost use Rattle.swap_digraph.specs.Deal.{IsWellSized};
 ghost use Rattle.swap_digraph.specs.Deal.{path_limit};
 ghost use Rattle.party_wallet.specs.Value.{signed_in};
-ghost use Rattle.party_wallet.specs.Fits.{wrong_lock};
+ghost use Rattle.party_wallet.specs.Fits.{fits_in, has_ready, public_in, wrong_in, wrong_lock};
 ghost use Rattle.party_wallet.specs.Keys.{empty_wallet, new_wallet, public_for, unspent, own_key, onto_key, with_recorded, with_signed};
 
-use crate::fitting::fits_lock;
+use crate::fitting::{fits_lock, fits_stated};
 use crate::held::{onto_held, own_held};
 use crate::signed::Signed;
 use crate::wallet_key::unspent;
@@ -181,6 +181,59 @@ impl Wallet {
             }
         }
         None
+    }
+
+    /// Whether it has an unspent key of the party for the lock.
+    fn has_ready(&self, party: PartyId, lock: LockId) -> bool
+        ensures { result ≡ has_ready self.now party lock }
+    {
+        self.party == party && (lock as usize) < self.signed.keys.len() && !self.is_signed(lock)
+    }
+
+    /// The public key of the party for the lock, where it has the key unspent.
+    fn public_in(&self, party: PartyId, lock: LockId) -> Option<Digest>
+        ensures { result ≡ public_in self.now party lock }
+    {
+        if self.has_ready(party, lock) {
+            self.public_key(lock)
+        } else {
+            None
+        }
+    }
+
+    fn fits_in(&self, deal: &Deal, party: PartyId, lock: LockId) -> bool
+        requires sized { IsWellSized deal.now }
+        requires party { party < deal.now.graph.n }
+        requires lock { lock < length deal.now.leaders }
+        ensures { result ≡ fits_in deal.now party self.now lock }
+    {
+        let public = self.public_in(party, lock);
+        fits_stated(deal, party, &self.seed, lock, &public)
+    }
+
+    /// The least lock for which the wallet lacks what the deal states of the party, whichever party and deal it
+    /// was made for and whatever it signed.
+    pub fn wrong_for(&self, deal: &Deal, party: PartyId) -> Option<LockId>
+        requires sized { IsWellSized deal.now }
+        requires party { party < deal.now.graph.n }
+        ensures wrong { result ≡ wrong_in deal.now party self.now }
+        ensures fits { result ≡ None → wrong_lock deal.now party self.now.seed ≡ None }
+    {
+        let count = deal.leaders.len() as u8;
+        'locks: for lock in 0..count {
+            if !self.fits_in(deal, party, lock) {
+                return Some(lock);
+            }
+        }
+        None
+    }
+
+    /// A new wallet of the party for the deal, with the same seed.
+    pub fn made_for(&self, alloc: Global, deal: &Deal, party: PartyId) -> Result<Wallet, NoMemory>
+        requires { IsWellSized deal.now }
+        ensures { IfOk result (λ w. w ≡ new_wallet self.now.seed party deal.now) }
+    {
+        Wallet::of(alloc, &self.seed, party, deal)
     }
 
     /// The public key for a lock; timelocks ask for none.

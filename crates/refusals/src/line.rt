@@ -1,13 +1,13 @@
 //! The line that tells why an input was refused.
 
-ghost use Rattle.std.specs.Prelude.{◌≡◌, ◌++◌, IfOk, OnOk};
+ghost use Rattle.std.specs.Prelude.{◌≡◌, ◌++◌, IfOk, OnOk, OnErr};
 ghost use Rattle.swap_base.specs.Text.{lines};
 ghost use Rattle.refusals.specs.declared.reason.Reason.TheVariants.{OverLimit, WrongWallet, WrongTimelock, BadReply, Overdrawn};
 ghost use Rattle.refusals.specs.Line.{numbered, numbered_twice, lined, comma_named, all_named, of_party, of_parties, reason_text, line_of};
 
 use crate::escaped::put_escaped;
 use crate::reason::Reason;
-use crate::words::{name_at, put_reply};
+use crate::words::{name_at, put_words};
 use escrow_core::Reply;
 use std::alloc::Global;
 use swap_base::{ArcId, ByteText, LockId, NoMemory, PartyId, Piece, put};
@@ -29,9 +29,9 @@ fn put_further(out: &mut Vec<u8>, names: &[ByteText], parties: &[PartyId]) -> Re
     Ok(())
 }
 
-/// Appends the names of parties, joined by commas.
+/// Appends the names of parties, joined by commas. After want of memory a part of them stands there.
 #[tactic(auto, unfolding(crate::specs::Line::all_named))]
-pub fn put_names(out: &mut Vec<u8>, names: &[ByteText], parties: &[PartyId]) -> Result<(), NoMemory>
+fn put_joined(out: &mut Vec<u8>, names: &[ByteText], parties: &[PartyId]) -> Result<(), NoMemory>
     ensures { OnOk result (out.new.items ≡ out.old.items ++ all_named names.now parties.now) }
 {
     match parties {
@@ -41,6 +41,17 @@ pub fn put_names(out: &mut Vec<u8>, names: &[ByteText], parties: &[PartyId]) -> 
             put_further(out, names, further)
         }
     }
+}
+
+/// Appends the names of parties, joined by commas. Want of memory leaves the text as it was.
+pub fn put_names(out: &mut Vec<u8>, names: &[ByteText], parties: &[PartyId]) -> Result<(), NoMemory>
+    ensures ok { OnOk result (out.new.items ≡ out.old.items ++ all_named names.now parties.now) }
+    ensures err { OnErr result (out.new.items ≡ out.old.items) }
+{
+    let mut text = Vec::new(*out.allocator());
+    put_joined(&mut text, names, parties)?;
+    out.extend_from_slice(&text)?;
+    Ok(())
 }
 
 #[tactic(auto, unfolding(crate::specs::Line::numbered))]
@@ -101,7 +112,7 @@ fn put_parties(
     ensures { OnOk result (out.new.items ≡ out.old.items ++ of_parties word.now names.now parties.now) }
 {
     put(out, &[Piece::Text(word), Piece::Text(" ")])?;
-    put_names(out, names, parties)
+    put_joined(out, names, parties)
 }
 
 #[tactic(auto, unfolding(crate::specs::Line::reason_text))]
@@ -157,9 +168,9 @@ fn put_replies(
 {
     put_two(out, "BadReply", at.0 as u64, at.1 as u64)?;
     put(out, &[Piece::Text(" ")])?;
-    put_reply(out, stated)?;
+    put_words(out, stated)?;
     put(out, &[Piece::Text(" ")])?;
-    put_reply(out, replayed)
+    put_words(out, replayed)
 }
 
 #[tactic(auto, unfolding(crate::specs::Line::reason_text))]

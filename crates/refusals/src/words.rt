@@ -1,6 +1,6 @@
 //! The words that reports and refusals share.
 
-ghost use Rattle.std.specs.Prelude.{◌≡◌, ◌++◌, OnOk};
+ghost use Rattle.std.specs.Prelude.{◌≡◌, ◌++◌, OnOk, OnErr};
 ghost use Rattle.refusals.specs.Words.{name_at, reply_text};
 
 use escrow_core::Reply;
@@ -16,9 +16,9 @@ pub fn name_at(names: &[ByteText], p: PartyId) -> &[u8]
     }
 }
 
-/// Appends a ledger's answer to a call.
+/// Appends a ledger's answer to a call. After want of memory a part of it stands there.
 #[tactic(auto, unfolding(crate::specs::Words::reply_text))]
-pub fn put_reply(out: &mut Vec<u8>, reply: Reply) -> Result<(), NoMemory>
+pub(crate) fn put_words(out: &mut Vec<u8>, reply: Reply) -> Result<(), NoMemory>
     ensures { OnOk result (out.new.items ≡ out.old.items ++ reply_text reply) }
 {
     match reply {
@@ -40,4 +40,15 @@ pub fn put_reply(out: &mut Vec<u8>, reply: Reply) -> Result<(), NoMemory>
         Reply::SenderFull => put(out, &[Piece::Text("SenderFull")]),
         Reply::ClockFull => put(out, &[Piece::Text("ClockFull")]),
     }
+}
+
+/// Appends a ledger's answer to a call. Want of memory leaves the text as it was.
+pub fn put_reply(out: &mut Vec<u8>, reply: Reply) -> Result<(), NoMemory>
+    ensures ok { OnOk result (out.new.items ≡ out.old.items ++ reply_text reply) }
+    ensures err { OnErr result (out.new.items ≡ out.old.items) }
+{
+    let mut text = Vec::new(*out.allocator());
+    put_words(&mut text, reply)?;
+    out.extend_from_slice(&text)?;
+    Ok(())
 }

@@ -18,7 +18,7 @@ use swap_digraph::Deal;
 
 /// Hashkeys whose every signature was found valid under a deal. Contracts see the deal alone.
 #[derive(Debug, Drop)]
-pub(crate) struct Found {
+pub struct Found {
     deal: Shared<Deal>,
     keys: Vec<Shared<Hashkey>>,
 }
@@ -83,7 +83,7 @@ fn shares_last(one: &Hashkey, other: &Hashkey, n: usize) -> bool
 
 impl Found {
     /// No hashkeys yet, for that deal.
-    pub(crate) fn new(alloc: Global, deal: &Shared<Deal>) -> Result<Found, NoMemory>
+    pub fn new(alloc: Global, deal: &Shared<Deal>) -> Result<Found, NoMemory>
         requires { IsWellSized deal.now }
         ensures { IfOk result (λ f. f ≡ deal.now) }
     {

@@ -14,5 +14,6 @@ mod same_reply;
 
 pub use accepted::accepted_only;
 pub use auditing::{audit_book, replay_book};
+pub use found::Found;
 pub use outcome_rules::Report;
-pub use replay::{AuditFault, BadReply};
+pub use replay::{AuditFault, BadReply, replay_entry};

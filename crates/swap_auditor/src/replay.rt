@@ -88,8 +88,9 @@ fn reply_again(ledger: &mut Ledger, found: &mut Found, entry: &Entry) -> Result<
     }
 }
 
-/// Replays an entry. The stated reply has to be the ledger's.
-fn replay_entry(ledger: &mut Ledger, found: &mut Found, entry: &Entry) -> Result<(), AuditFault>
+/// Replays an entry. The stated reply has to be the ledger's: where it isn't, the ledger stands behind
+/// the entry all the same, with the reply that it gives.
+pub fn replay_entry(ledger: &mut Ledger, found: &mut Found, entry: &Entry) -> Result<(), AuditFault>
     requires found { found.old ≡ ledger.old.deal }
     requires formed { IsFormedEntry ledger.old.deal ledger.old.arc ledger.old.history entry.now }
     requires legal { IsLegal ledger.old.deal ledger.old.arc ledger.old.history }

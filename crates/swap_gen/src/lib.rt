@@ -16,4 +16,4 @@ mod wallets;
 
 pub use generator::{Generator, generate};
 pub use line::put_event;
-pub use making::make;
+pub use making::{all_timelocks, make};

@@ -1,6 +1,6 @@
 //! The line of an event.
 
-ghost use Rattle.std.specs.Prelude.{◌≡◌, ◌++◌, OnOk};
+ghost use Rattle.std.specs.Prelude.{◌≡◌, ◌++◌, OnOk, OnErr};
 ghost use Rattle.swap_gen.specs.Line.{event_line, name_at};
 
 use swap_base::{ByteText, NoMemory, PartyId, Piece, put};
@@ -16,9 +16,9 @@ fn name_at(names: &[ByteText], p: PartyId) -> &[u8]
     }
 }
 
-/// Appends the line of an event that can be drawn; a call and a crash can't, and nothing is appended. After want of memory a part of it stands there.
+/// Appends the line of an event. After want of memory a part of it stands there.
 #[tactic(auto, unfolding(crate::specs::Line::event_line))]
-pub fn put_event(out: &mut Vec<u8>, names: &[ByteText], event: &Event) -> Result<(), NoMemory>
+fn put_line(out: &mut Vec<u8>, names: &[ByteText], event: &Event) -> Result<(), NoMemory>
     ensures { OnOk result (out.new.items ≡ out.old.items ++ event_line names.now event.now) }
 {
     match event {
@@ -53,4 +53,16 @@ pub fn put_event(out: &mut Vec<u8>, names: &[ByteText], event: &Event) -> Result
         Event::Call(_, _) => Ok(()),
         Event::Crash(_, _, _) => Ok(()),
     }
+}
+
+/// Appends the line of an event that can be drawn; a call and a crash can't, and nothing is appended.
+/// Want of memory leaves the text as it was.
+pub fn put_event(out: &mut Vec<u8>, names: &[ByteText], event: &Event) -> Result<(), NoMemory>
+    ensures ok { OnOk result (out.new.items ≡ out.old.items ++ event_line names.now event.now) }
+    ensures err { OnErr result (out.new.items ≡ out.old.items) }
+{
+    let mut line = Vec::new(*out.allocator());
+    put_line(&mut line, names, event)?;
+    out.extend_from_slice(&line)?;
+    Ok(())
 }

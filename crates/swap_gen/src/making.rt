@@ -52,7 +52,7 @@ fn timelocks_by(alloc: Global, deal: &Deal, dists: &[u32]) -> Result<Listed<u32>
 }
 
 /// The timelock of each arc; 0 with hashkeys.
-fn all_timelocks(alloc: Global, deal: &Deal) -> Result<Listed<u32>, NoMemory>
+pub fn all_timelocks(alloc: Global, deal: &Deal) -> Result<Listed<u32>, NoMemory>
     requires { IsProposed deal.now }
     ensures { IfOk result (λ l. l ≡ all_timelocks deal.now.mode deal.now) }
 {

@@ -27,7 +27,8 @@ use swap_base::{ByteText, Listed};
 use swap_digraph::{Deal, Digraph};
 use swap_job::{Job, Purpose};
 
-fn job_with(header: Header, graph: Digraph) -> Job
+/// The job that a header gives with its digraph.
+pub fn job_with(header: Header, graph: Digraph) -> Job
     requires sized { (id : List ℕ) → IsWellSized (unnamed header graph id) }
     ensures { result ≡ job_with header graph }
 {
@@ -59,7 +60,7 @@ fn job_with(header: Header, graph: Digraph) -> Job
 
 /// The digraph of a header whose digraph, leaders and times pass their checks, and the least bound.
 #[tactic(auto, unfolding(crate::specs::Checks::admitted))]
-fn admit(alloc: Global, header: &Header) -> Result<(Digraph, u32), OfferFault>
+pub fn admit(alloc: Global, header: &Header) -> Result<(Digraph, u32), OfferFault>
     requires { IsHeaderWithin header.now }
     ensures exact { Gives (λ a. a.0) result (admitted header.now) }
     ensures parts { IfOk result (λ a. (a.0.n ≡ length header.now.names) × (a.0.arcs ≡ header.now.arcs)) }

@@ -10,7 +10,7 @@ mod laws;
 mod prepared;
 mod wallets;
 
-pub use header::read_header;
+pub use header::{admit, job_with, read_header};
 pub use job::{count_event, next_event, read_job};
 pub use laws::admitted_is_accepted;
 pub use offer_events::read_event;

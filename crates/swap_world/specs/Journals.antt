@@ -18,8 +18,9 @@ use Rattle.wallet_journal.specs.Stopped.{IsOwnDisk, ShowsAll}
 use Rattle.swap_world.specs.declared.actor.Actor.{Actor}
 use Rattle.swap_world.specs.declared.actor.Actor.TheVariants.{Conforming}
 
--- The journal of party v has just the hashkeys that were signed, on a disk on which no call fails, and so has each device that a crash leaves.
+-- The journal of party v and its deal has just the hashkeys that were signed, on a disk on which no call fails, and so has each device that a crash leaves.
 pub record IsJournalOf (d : Deal) (v : ℕ) (signed : List (Option Hashkey)) (j : JournalState DiskState) : Type 0 where
+  pub id : j.id ≡ d.id
   pub me : j.me ≡ v
   pub sound : j.sound ≡ true
   pub has : j.signed ≡ signed

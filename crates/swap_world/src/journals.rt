@@ -62,6 +62,7 @@ pub(crate) fn journals_of(
 fn begin(machine: &mut Machine, journal: &mut Journal<MemoryDisk>, _k: u8) -> Result<(), NoMemory>
     requires few { _k ≤ 3 }
     requires locks { length machine.old.signed ≤ 8 }
+    requires opened { (journal.old.id ≡ machine.old.deal.id) × (journal.old.me ≡ machine.old.me) }
     requires sound { journal.old.sound ≡ true }
     requires recorded { journal.old.signed ≡ machine.old.signed }
     requires stops { (journal.old.disk.failing ≡ []) × (journal.old.disk.left ≡ Some _k) }

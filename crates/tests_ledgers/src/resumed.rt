@@ -29,6 +29,7 @@ fn record(journal: &mut Journal<MemoryDisk>, key: &Shared<Hashkey>)
     requires sound { journal.old.sound ≡ true }
     requires never { (journal.old.disk.failing ≡ []) × (journal.old.disk.left ≡ None) }
     ensures sound { journal.new.sound ≡ true }
+    ensures same { (journal.new.id ≡ journal.old.id) × (journal.new.me ≡ journal.old.me) }
     ensures places { length journal.new.signed ≡ length journal.old.signed }
 {
     if key.path.len() > 32 || key.sigs.len() != key.path.len() {

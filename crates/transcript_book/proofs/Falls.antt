@@ -51,3 +51,18 @@ next_none b at text rest false going is nowhere = ap (parts_at b) (sym is) ∙ p
 -- what is left of a text
 pub the_rest : (text : List ℕ) (at : ℕ) → take (length text - at) (drop at text) ≡ drop at text
 the_rest text at = take_all (length text - at) (drop at text) (omega (arith, length-drop at text))
+
+-- a list that begins with w
+begins : (xs : List (List ℕ)) (w : List ℕ) (ys : List (List ℕ)) → xs ≡ w ∷ ys → xs ≡ w ∷ drop 1 xs
+begins xs w ys is = is ∙ ap (λ (l : List (List ℕ)). w ∷ drop 1 l) (sym is)
+
+-- the same of the next part, which stays to come
+pub peeked_found : (b at end : ℕ) (text rest : List ℕ) (over : Bool) → over ≡ false → rest ≡ drop at text
+    → NoneBefore (Passes (is_byte b) rest) 0 (length rest) end → Passes (is_byte b) rest end
+    → cond over [] (parts_at b (drop at text)) ≡ take end rest ∷ drop 1 (cond over [] (parts_at b (drop at text)))
+peeked_found b at end text rest over going is before here = begins _ _ _ (next_found b at end text rest over going is before here)
+
+pub peeked_none : (b at : ℕ) (text rest : List ℕ) (over : Bool) → over ≡ false → rest ≡ drop at text
+    → Nowhere (Passes (is_byte b) rest) 0 (length rest)
+    → cond over [] (parts_at b (drop at text)) ≡ rest ∷ drop 1 (cond over [] (parts_at b (drop at text)))
+peeked_none b at text rest over going is nowhere = begins _ _ _ (next_none b at text rest over going is nowhere)

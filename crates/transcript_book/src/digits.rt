@@ -29,7 +29,7 @@ fn are_lower_digits(word: &[u8]) -> bool
 }
 
 /// The digest that a field says.
-pub(crate) fn digest_of(word: &[u8]) -> Result<Digest, WordFault>
+pub fn digest_of(word: &[u8]) -> Result<Digest, WordFault>
     ensures { Gives (λ d. d) result (digest_of word.now) }
 {
     if !are_lower_digits(word) {

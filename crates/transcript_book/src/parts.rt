@@ -1,6 +1,6 @@
 //! The parts of a text, one after another.
 
-ghost use Rattle.std.specs.Prelude.{◌≡◌, ◌∷◌, [], MatchOption};
+ghost use Rattle.std.specs.Prelude.{◌≡◌, ◌∷◌, [], MatchOption, drop};
 ghost use Rattle.transcript_lines.specs.Between.{parts_at};
 
 use memchr::memchr;
@@ -37,6 +37,20 @@ impl<'a> Parts<'a> {
             by,
             at: 0,
             is_over: false,
+        }
+    }
+
+    /// The next part, which stays to come.
+    pub fn peek(&self) -> Option<&'a [u8]>
+        ensures { MatchOption result (self.now ≡ []) (λ w. self.now ≡ w.now ∷ drop 1 self.now) }
+    {
+        if self.is_over {
+            return None;
+        }
+        let rest = &self.text[self.at..];
+        match memchr(self.by, rest) {
+            Some(end) => Some(&rest[..end]),
+            None => Some(rest),
         }
     }
 

@@ -72,9 +72,9 @@ fn place(deal: &Deal, arc: ArcId, height: u32, said: Said) -> Result<Entry, Word
     }
 }
 
-/// The entry that a line states at a height.
+/// The entry that a line states at a height of its arc's ledger.
 #[tactic(auto, unfolding(crate::specs::Entries::entry_at))]
-pub(crate) fn entry_at(
+pub fn entry_at(
     alloc: Global,
     deal: &Deal,
     arc: ArcId,

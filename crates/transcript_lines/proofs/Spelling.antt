@@ -73,7 +73,7 @@ module _ {A : Type 0} (P : A → Type 0) (word : A → List ℕ) (f : List ℕ �
   not_dash w [] h k = ap (λ (l : List ℕ). bytes_eq l (codes "-")) (sym (append-nil w)) ∙ no_dash w [] h k
   not_dash w (v ∷ ws) h k = no_dash w (44 ∷ between 44 (v ∷ ws)) h k
 
-  list_back : (xs : List A) → All P xs → list_of f (list_word (map word xs)) ≡ Ok xs
+  pub list_back : (xs : List A) → All P xs → list_of f (list_word (map word xs)) ≡ Ok xs
   list_back [] h = refl
   list_back (x ∷ xs) h =
       let px = first_of_all P x xs h in
@@ -81,7 +81,7 @@ module _ {A : Type 0} (P : A → Type 0) (word : A → List ℕ) (f : List ℕ �
       ∙ ap (each_of f) (parts_between 44 48 (word x) (map word xs) (omega arith) (high x px) (all_high xs (rest_of P x xs h)))
       ∙ each_back (x ∷ xs) h
 
-  high_list : (xs : List A) → All P xs → IsHigh 44 (list_word (map word xs))
+  pub high_list : (xs : List A) → All P xs → IsHigh 44 (list_word (map word xs))
   high_list [] h = refl
   high_list (x ∷ xs) h =
       high_between 44 44 (word x) (map word xs) (omega arith) (high_too 44 48 (word x) (omega arith) (high x (first_of_all P x xs h)))

@@ -41,8 +41,8 @@ fn put_terms(out: &mut Vec<u8>, terms: &Terms) -> Result<(), NoMemory>
     put_locks(out, &terms.locks)
 }
 
-/// Appends the fields of a hashkey.
-pub fn put_hashkey(out: &mut Vec<u8>, key: &Hashkey) -> Result<(), NoMemory>
+/// Appends the fields of a hashkey. After want of memory a part of them stands there.
+pub(crate) fn put_hashkey(out: &mut Vec<u8>, key: &Hashkey) -> Result<(), NoMemory>
     ensures { OnOk result (out.new.items ≡ out.old.items ++ spaced (key_words key.now)) }
 {
     put(out, &[Piece::Number(key.lock as u64), Piece::Text(" ")])?;
@@ -61,8 +61,8 @@ fn put_key(out: &mut Vec<u8>, key: &Hashkey) -> Result<(), NoMemory>
     put_hashkey(out, key)
 }
 
-/// Appends the fields of a call.
-pub fn put_call(out: &mut Vec<u8>, call: &Call) -> Result<(), NoMemory>
+/// Appends the fields of a call. After want of memory a part of them stands there.
+pub(crate) fn put_call(out: &mut Vec<u8>, call: &Call) -> Result<(), NoMemory>
     ensures { OnOk result (out.new.items ≡ out.old.items ++ spaced (call_words call.now)) }
 {
     match call {

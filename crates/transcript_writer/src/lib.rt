@@ -6,7 +6,9 @@
 mod entry;
 mod ledgers;
 mod transcript;
+mod whole;
 mod words;
 
-pub use entry::{put_call, put_hashkey};
 pub use transcript::write_transcript;
+pub use whole::{put_call, put_hashkey};
+pub use words::put_digits;

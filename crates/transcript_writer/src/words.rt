@@ -11,7 +11,7 @@ use hash_signature::Sig;
 use swap_base::{Digest, NoMemory, PartyId, Piece, put};
 
 /// Appends the digits of bytes.
-pub(crate) fn put_digits(out: &mut Vec<u8>, bytes: &[u8]) -> Result<(), NoMemory>
+pub fn put_digits(out: &mut Vec<u8>, bytes: &[u8]) -> Result<(), NoMemory>
     ensures { OnOk result (out.new.items ≡ out.old.items ++ encode_lower bytes.now) }
 {
     let digits = hex::encode(*out.allocator(), bytes)?;

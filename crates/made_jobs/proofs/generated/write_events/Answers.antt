@@ -31,7 +31,7 @@ returns-in_err-pass_on g c =
     hands_err e _ _ _ _ _ _ _ _ (p.1 ∙ ap Err p.2)
     (line_lost (λ _. event_line c.args.names.now) xs _ _ _ e _ _ _ _ c.events._e event event lt
     (drawn_is seed n c.args.events c.events._e event event d.first)
-    c.in_ok-put_event.ensures (lost_was e _ _ _ _ _ _ _ _ c.in_err-pass_on.was c.pass_on.ensures) c.events.invariant.so_far)
+    c.in_ok-put_event.ensures.ok (lost_was e _ _ _ _ _ _ _ _ c.in_err-pass_on.was c.pass_on.ensures) c.events.invariant.so_far)
     (omega (arith, c.events.invariant.later, c.pass_on.ensures.later))
     (λ is. rose_before _ _ _ c.events.invariant.later (rose_was e _ _ _ _ _ _ _ _ c.in_err-pass_on.was c.pass_on.ensures is))
 
@@ -50,7 +50,7 @@ events-preserved g c =
       at = d.on;
       so_far = line_on (λ _. event_line c.args.names.now) xs _ _ _ _ _ _ _ _ c.events._e event event lt
           (drawn_is seed n c.args.events c.events._e event event d.first)
-          c.in_ok-put_event.ensures (handed_was _ _ _ _ _ _ _ _ _ c.in_ok-pass_on.was c.pass_on.ensures) c.events.invariant.so_far;
+          c.in_ok-put_event.ensures.ok (handed_was _ _ _ _ _ _ _ _ _ c.in_ok-pass_on.was c.pass_on.ensures) c.events.invariant.so_far;
       later = omega (arith, c.events.invariant.later, c.pass_on.ensures.later);
     }
 

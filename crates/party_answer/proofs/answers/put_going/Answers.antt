@@ -11,4 +11,4 @@ returns c =
     let v = decimal c.args.me in
     let call = spaced (call_words c.args.due.now.call) in
     put_both c.put-2.result _ _ _ (codes "call " ++ (a ++ (codes " " ++ (v ++ (codes " " ++ call))))) (codes "\n") _
-    (going_text a v call _ _ _ c.in_ok-put.ensures c.in_ok-put_call.ensures) (going_line a v c.args.due.now.call) c.put-2.ensures
+    (going_text a v call _ _ _ c.in_ok-put.ensures c.in_ok-put_call.ensures.ok) (going_line a v c.args.due.now.call) c.put-2.ensures

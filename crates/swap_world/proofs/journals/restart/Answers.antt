@@ -1,4 +1,5 @@
 use Rattle.std.proofs.Common.{◌≡◌, ◌⊎◌, ◌≤◌, ◌∙◌, length, refl, sym, ap, subst, arith}
+use Rattle.swap_digraph.specs.declared.deal.Deal.{Deal}
 use Rattle.party_machine.specs.Machine.{next_due, resumed_machine, MachineState}
 use Rattle.wallet_journal.specs.Journal.{JournalState}
 use Rattle.wallet_journal.specs.Held.{Leaves, read_bytes}
@@ -11,6 +12,19 @@ use Rattle.swap_world.proofs.Disks.{any_result, crashed_between, resumed_between
 use Rattle.swap_world.specs.Journals.{IsBetween}
 use Rattle.swap_world.proofs.Restarts.{recorded_as}
 use Rattle.swap_world.proofs.journals.restart.Goals as goal
+
+pub begin-requires-clause-opened : goal.begin-requires-clause-opened
+begin-requires-clause-opened c = (
+  ap (λ (x : JournalState DiskState). x.id) c.stop_after.ensures.left ∙ c.requires.journal.id ∙ sym (ap (λ (d : Deal). d.id) c.requires.same),
+  ap (λ (x : JournalState DiskState). x.me) c.stop_after.ensures.left ∙ c.requires.journal.me,
+)
+
+pub restart-requires-clause-opened : goal.restart-requires-clause-opened
+restart-requires-clause-opened c = (
+  c.in_ok-crash.ensures.opened.0 ∙ sym (ap (λ (d : Deal). d.id) (c.begin.ensures.same.deal ∙ c.requires.same)),
+  c.crash.ensures.party ∙ c.begin.ensures.party ∙ ap (λ (x : JournalState DiskState). x.me) c.stop_after.ensures.left ∙ c.requires.journal.me
+  ∙ sym c.begin.ensures.same.me,
+)
 
 pub returns-clause-ok : goal.returns-clause-ok
 returns-clause-ok c =

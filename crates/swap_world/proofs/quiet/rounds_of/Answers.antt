@@ -5,4 +5,4 @@ pub returns-in-None-clause-calm : goal.returns-in-None-clause-calm
 returns-in-None-clause-calm c = λ l. absurd (omega (arith, l))
 
 pub returns-in-Some-clause-calm : goal.returns-in-Some-clause-calm
-returns-in-Some-clause-calm c = λ l. record { until = c.in-Some.until; rests = c.in-Some.ensures; low = c.rounds_until.ensures.low l }
+returns-in-Some-clause-calm c = λ l. record { until = c.in-Some.until; rests = c.in-Some.ensures.at_rest; low = c.rounds_until.ensures.low l }

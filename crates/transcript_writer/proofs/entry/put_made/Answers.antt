@@ -11,5 +11,5 @@ returns c =
     let call = spaced (call_words c.args.call.now) in
     let reply = reply_text c.args.reply in
     put_both c.put-3.result _ _ _ (codes "c " ++ (p ++ (codes " " ++ (call ++ (codes " = " ++ reply))))) (codes "\n") _
-    (made_text p call reply _ _ _ _ _ c.in_ok-put.ensures c.in_ok-put_call.ensures c.in_ok-put-2.ensures c.in_ok-put_reply.ensures)
+    (made_text p call reply _ _ _ _ _ c.in_ok-put.ensures c.in_ok-put_call.ensures c.in_ok-put-2.ensures c.in_ok-put_reply.ensures.ok)
     (ap (λ (l : List ℕ). l ++ 10 ∷ []) (made_line p c.args.call.now c.args.reply)) c.put-3.ensures

@@ -5,7 +5,7 @@ use Rattle.history_index.specs.Indexes.{entries_in}
 use Rattle.swap_rules.specs.declared.finding.Finding.TheVariants.{Forged}
 use Rattle.swap_rules.specs.Forged.{is_forged}
 use Rattle.swap_rules.specs.Findings.{failing}
-use Rattle.conduct_check.proofs.listing.put_forgeries.Given as goal
+use Rattle.conduct_check.proofs.listing.put_forged_arcs.Given as goal
 
 abbrev pub invariant-loop-arc : goal.invariant-loop-arc
 invariant-loop-arc l =

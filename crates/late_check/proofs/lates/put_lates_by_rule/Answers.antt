@@ -1,6 +1,6 @@
 use Rattle.history_index.specs.Indexes.{entries_in}
 use Rattle.late_check.proofs.Lateness.{lates_added}
-use Rattle.late_check.proofs.lates.put_lates.Goals as goal
+use Rattle.late_check.proofs.lates.put_lates_by_rule.Goals as goal
 
 pub returns : goal.returns
 returns c =

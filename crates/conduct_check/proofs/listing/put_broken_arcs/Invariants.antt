@@ -5,7 +5,7 @@ use Rattle.history_index.specs.Indexes.{entries_in}
 use Rattle.swap_rules.specs.declared.finding.Finding.TheVariants.{Broke}
 use Rattle.swap_rules.specs.Conduct.{keeps_at}
 use Rattle.swap_rules.specs.Findings.{failing}
-use Rattle.conduct_check.proofs.listing.put_broken.Given as goal
+use Rattle.conduct_check.proofs.listing.put_broken_arcs.Given as goal
 
 abbrev pub invariant-loop-arc : goal.invariant-loop-arc
 invariant-loop-arc l =

@@ -1,0 +1,48 @@
+-- A wallet that has what a deal states of a party has the seed that the deal states.
+use Rattle.std.proofs.Common.{◌≡◌, ℕ, Bool, true, false, not, ◌&&◌, cond, List, [], ◌∷◌, length, nat_eq, nat_lt, Option, Some, None, is_some, refl, subst, ap, ◌∙◌, eqb-true}
+use Rattle.std.specs.Prelude.{bytes_eq, if◌then◌else◌}
+use Rattle.std.specs.List.{find}
+use Rattle.std.proofs.lemmas.Bool.{and_parts}
+use Rattle.swap_digraph.specs.declared.deal.Deal.{Deal}
+use Rattle.swap_digraph.specs.declared.deal.Mode.{Mode}
+use Rattle.swap_digraph.specs.declared.deal.Mode.TheVariants.{Timelocks, Hashkeys}
+use Rattle.swap_digraph.specs.Deal.{locks}
+use Rattle.hash_signature.specs.Signature.{public_key_of}
+use Rattle.hashkey_path.specs.Hashkey.{key_of}
+use Rattle.party_wallet.specs.Value.{WalletState, signed_in}
+use Rattle.party_wallet.specs.Keys.{public_for}
+use Rattle.party_wallet.specs.Fits.{has_key, opens_own, fits_lock, wrong_lock, has_ready, public_in, is_stated, fits_in, wrong_in}
+use Rattle.party_wallet.proofs.Least.{by_test}
+
+-- where what passes the second test passes the first, and none passes that, none passes the second
+none_of : (p q : ℕ → Bool) (xs : List ℕ) → ((i : ℕ) → p i ≡ false → q i ≡ false) → find p xs ≡ None → find q xs ≡ None
+none_of p q [] only e = refl
+none_of p q (x ∷ xs) only e =
+    let t = by_test (p x) x (find p xs) e in
+    ap (λ b. cond b (Some x) (find q xs)) (only x t.0) ∙ none_of p q xs only t.1
+
+of_party : (w : WalletState) (v i : ℕ) → has_ready w v i ≡ true → w.party ≡ v
+of_party w v i is =
+    let two = and_parts (nat_eq w.party v && nat_lt i (length w.signed)) (not (is_some (signed_in w.signed i))) is in
+    eqb-true w.party v (and_parts (nat_eq w.party v) (nat_lt i (length w.signed)) two.0).0
+
+its_key : (m : Mode) (d : Deal) (seed : List ℕ) (p v i : ℕ) (opens : Bool) → p ≡ v
+    → not (is_stated Hashkeys d v i (public_for m seed p i) && opens) ≡ false → not (has_key Hashkeys d v seed i && opens) ≡ false
+its_key Timelocks d seed p v i opens same e = absurd (cc e)
+its_key Hashkeys d seed p v i opens same e = subst (λ (x : ℕ). not (bytes_eq (public_key_of seed x i) (key_of d v i) && opens) ≡ false) same e
+
+by_ready : (d : Deal) (v i : ℕ) (w : WalletState) (opens b : Bool) → has_ready w v i ≡ b
+    → not (is_stated Hashkeys d v i (if b then public_for w.mode w.seed w.party i else None) && opens) ≡ false
+    → not (has_key Hashkeys d v w.seed i && opens) ≡ false
+by_ready d v i w opens false ready e = absurd (cc e)
+by_ready d v i w opens true ready e = its_key w.mode d w.seed w.party v i opens (of_party w v i ready) e
+
+by_mode : (m : Mode) (d : Deal) (v i : ℕ) (w : WalletState) (opens : Bool) → not (is_stated m d v i (public_in w v i) && opens) ≡ false
+    → not (has_key m d v w.seed i && opens) ≡ false
+by_mode Timelocks d v i w opens e = e
+by_mode Hashkeys d v i w opens e = by_ready d v i w opens (has_ready w v i) refl e
+
+pub none_wrong : (d : Deal) (v : ℕ) (w : WalletState) → wrong_in d v w ≡ None → wrong_lock d v w.seed ≡ None
+none_wrong d v w none =
+    none_of (λ i. not (fits_in d v w i)) (λ i. not (fits_lock d v w.seed i)) (locks d)
+    (λ i e. by_mode d.mode d v i w (opens_own d v w.seed i) e) none
