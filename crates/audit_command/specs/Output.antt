@@ -46,7 +46,8 @@ abbrev pub by_replies : Result Report BadReply → Result Report Refusal
 by_replies (Ok r) = Ok r
 by_replies (Err b) = Err (refused_reply b)
 
--- the report of a book whose every stated reply is the replayed one, or the first that isn't
+-- the report of a book if the replay gives all its stated replies, or the first stated reply that
+-- it doesn't give
 unfoldable pub judged : Story → Result Report Refusal
 judged t = by_replies (audited t.job.deal t.job.conforming t.book)
 

@@ -24,7 +24,8 @@ fn refused_reply(alloc: Global, bad: BadReply) -> Refusal
     }
 }
 
-/// The report of a book whose every stated reply is the replayed one, or the first that isn't.
+/// The report of a book if the replay gives all its stated replies, or the first stated reply that
+/// it doesn't give.
 #[tactic(auto, unfolding(crate::specs::Output::judged))]
 pub(crate) fn judge(alloc: Global, job: &Job, book: &Book) -> Result<Report, Fault<Refusal>>
     requires told { IsTold job.now }

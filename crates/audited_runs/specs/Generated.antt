@@ -14,8 +14,9 @@ use Rattle.program_words.specs.declared.task.Request.{Request}
 abbrev pub summed : Bool → Request → Written
 summed transcript r = reported transcript (told_job purposes.Run (plain_job r.seed r.parties)) (generated_book r.seed r.parties r.events)
 
--- A run of what `gen` writes of a number, with at most 200,000 events, writes the report, or the transcript, of that book, whatever strategies are had and
--- chance decides; and it tells of a finding where the summary does.
+-- A run of what `gen` writes of a number, with at most 200,000 events, writes the report, or the
+-- transcript, of that book. It does so whatever strategies exist and whatever chance decides. It
+-- tells of a finding where the summary does.
 abbrev pub GeneratedRunsAreSummed : Type 0
 GeneratedRunsAreSummed =
     (has : List ℕ → Bool) (chance : Chance) (transcript : Bool) (r : Request) → 2 ≤ r.parties → r.parties ≤ 24 → r.events ≤ 200000

@@ -12,23 +12,24 @@ use Rattle.swap_commands.specs.Words.{Command, OfJob, Audit, Run, Race}
 use Rattle.swap_commands.specs.Strategies.{strategies}
 use Rattle.audited_runs.specs.RunDigests.{KeepsDigests, Rule}
 
--- What was written of an input is a transcript of which an audit writes what the command writes for that input, and either tells of a finding where the
--- transcript's status did.
+-- What was written of an input is a transcript. Its audit writes what the command writes for that
+-- input, and tells of a finding where the transcript's status did.
 pub record IsAudited (has : List ℕ → Bool) (chance : Chance) (command : Command) (input : List ℕ) (output : Written) : Type 0 where
   pub report : Written
   pub audited : output_by has chance Audit output.text ≡ Ok report
   pub same : output_by has chance command input ≡ Ok report
   pub found : report.found ≡ output.found
 
--- Of the transcript that a run wrote, of at most 16,777,216 bytes, an audit writes the report that the run writes, where strategies answer by a rule
--- whose calls hold digests.
+-- An audit of a run's transcript of at most 16,777,216 bytes writes the report that the run writes.
+-- Strategies answer by a rule, and the calls of the rule hold digests.
 abbrev pub RunsAreAudited : Type 0
 RunsAreAudited =
     (rule : Rule) (has : List ℕ → Bool) (chance : Chance) (input : List ℕ) (output : Written) → KeepsDigests rule
     → AsPromised has (by_rule rule) chance (OfJob (Run true)) input output → length output.text ≤ limit
     → IsAudited has chance (OfJob (Run false)) input output
 
--- And of the transcript that a race wrote, whatever strategies answer, the report that the race writes where it comes to the same book.
+-- An audit of a race's transcript writes the report that the race writes if it leads to the same
+-- book, whatever strategies answer.
 abbrev pub RacesAreAudited : Type 0
 RacesAreAudited =
     (rule : Rule) (has : List ℕ → Bool) (chance : Chance) (ticks : ℕ) (input : List ℕ) (output : Written)
@@ -42,7 +43,8 @@ ProgramRunsAreAudited =
     (done : IsDone (strategies is_known (by_rule program_rule)) words before after found) → done.read.command ≡ OfJob (Run true)
     → length done.output.text ≤ limit → IsAudited is_known done.chance (OfJob (Run false)) done.read.input done.output
 
--- And wherever it is done with an audit of such a transcript, what it wrote is the text that the run writes, and it tells of a finding where the run did.
+-- When an audit of such a transcript ends, it wrote the text that the run writes, and it tells of a
+-- finding where the run did.
 abbrev pub AuditsTellTheRun : Type 0
 AuditsTellTheRun =
     (words others : List (List ℕ)) (before after first last : Streams) (found named : Bool)
@@ -58,7 +60,7 @@ ProgramRacesAreAudited =
     (done : IsDone (strategies is_known (by_rule program_rule)) words before after found) → done.read.command ≡ OfJob (Race ticks true)
     → length done.output.text ≤ limit → IsAudited is_known done.chance (OfJob (Race ticks false)) done.read.input done.output
 
--- And what an audit of its transcript wrote is the text that the race writes where it comes to that book.
+-- An audit of the race's transcript wrote the text that the race writes if it leads to that book.
 abbrev pub AuditsTellTheRace : Type 0
 AuditsTellTheRace =
     (words others : List (List ℕ)) (before after first last : Streams) (found named : Bool) (ticks : ℕ)

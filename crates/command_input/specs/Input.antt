@@ -142,7 +142,7 @@ abbrev pub GivesPart : Bool → Desk → Desk → Type 0
 GivesPart true old new = IsFed old new
 GivesPart false old new = IsRest old new
 
--- Some bytes were taken, of which P tells whatever may still come.
+-- Some bytes were taken. P holds of them, whatever comes after them.
 pub record Tells (P : List ℕ → Type 0) (old new : Desk) : Type 0 where
   pub bytes : List ℕ
   pub stands : Stands old new bytes
@@ -172,7 +172,8 @@ Faulted Q old new ReadFault = HasFailed old new × IsPart old new
 Faulted Q old new TooLong = IsCalm old new × IsTooLong old new
 Faulted Q old new NoMemory = IsCalm old new × IsPart old new
 
--- why the reading of an input stopped, where P tells of the bytes and what is said against them, whatever may still come
+-- why the reading of an input stopped; P relates the bytes to the refusal, whatever comes after
+-- them
 abbrev pub Stops : {R : Type 0} → (List ℕ → R → Type 0) → Desk → Desk → InputFault R → Type 0
 Stops P old new fault = Faulted (λ r. Tells (λ bytes. P bytes r) old new) old new fault
 

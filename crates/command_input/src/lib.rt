@@ -1,7 +1,9 @@
-//! Input that is read line by line: its lines, what stops the reading, and how a command and its program end.
+//! Input that is read line by line: its lines, what stops the reading, and how a command and its
+//! program end.
 //!
-//! Read `specs/Lines.antt` first: the lines of a text, and those that aren't blank with their numbers; then `specs/Input.antt`: what each step of reading
-//! says of the lines that are ahead, whatever may still come, and the most bytes of an input.
+//! Read `specs/Lines.antt` first: the lines of a text, and those that aren't blank with their
+//! numbers; then `specs/Input.antt`: what each step of reading promises of the lines ahead, and the
+//! most bytes of an input.
 #![tactic(auto)]
 
 mod exit;

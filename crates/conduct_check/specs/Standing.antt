@@ -30,7 +30,8 @@ abbrev pub valid_on : Deal → List ℕ → Option Hashkey → Bool
 valid_on d (a ∷ rest) (Some key) = is_valid d a (hashlock_of d key.lock) key
 valid_on d _ _ = false
 
--- whether v's first hashkey for lock i is valid on the arcs that enter v, which is the same of all of them
+-- whether v's first hashkey for lock i is valid on the arcs that enter v; the answer is the same
+-- for each
 abbrev pub first_valid : Deal → Histories → ℕ → ℕ → Bool
 first_valid d b v i = valid_on d (entering d.graph v) (first_key b v i)
 

@@ -89,9 +89,10 @@ fn is_valid_on(
     }
 }
 
-/// Whether the hashkey is valid on the arc and well come by, where it is the party's first one for its lock.
+/// Whether the party's first hashkey for a lock is valid on the arc and well come by.
 ///
-/// Whence it comes is asked first: one that is well come by begins at the party, so that no signature is verified for an arc that doesn't enter it.
+/// It asks first whether the hashkey is well come by. Such a hashkey begins at the party, so no
+/// signature is verified for an arc that doesn't enter the party.
 fn keeps_first(
     deal: &Deal,
     known: &[Index],

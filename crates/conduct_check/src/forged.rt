@@ -42,8 +42,8 @@ fn has_sent(known: &[Index], party: PartyId, keys: &[&Hashkey], secret: &Digest)
     keys.iter().any(|sent| sent.secret == *secret)
 }
 
-/// Whether a suffix of the hashkey, whose path and signatures from some place on are these, begins with the party,
-/// and no unlock call of it carries that suffix.
+/// Whether a suffix of the hashkey begins with the party although no unlock call of the party
+/// carries that suffix. The path and the signatures are the hashkey's from some place on.
 fn has_forged_suffix(
     known: &[Index],
     party: PartyId,

@@ -44,7 +44,8 @@ fn has_secret(calls: &[Made], secret: &Digest) -> bool
         .any(|made| carries(secret, accepted(&made.entry)))
 }
 
-/// Whether an unlock was accepted among the calls with a hashkey that this one extends by the party, and whose path lacks it.
+/// Whether one of the calls is an accepted unlock with an inner hashkey: this one extends it by the
+/// party, and its path lacks the party.
 fn has_inner(calls: &[Made], party: PartyId, key: &Hashkey) -> bool
     ensures { result ≡ list_any (λ m. extends_without party key.now (accepted m.entry)) calls.now }
 {
@@ -60,7 +61,8 @@ fn has_secret_on(known: &[Index], arc: ArcId, secret: &Digest) -> bool
     has_secret(made_on(known, arc), secret)
 }
 
-/// Whether an unlock was accepted on the arc with a hashkey that this one extends by the party, and whose path lacks it.
+/// Whether an unlock with an inner hashkey was accepted on the arc: this hashkey extends the inner
+/// one by the party, and the inner path lacks the party.
 fn has_inner_on(known: &[Index], arc: ArcId, party: PartyId, key: &Hashkey) -> bool
     ensures { result ≡ list_any (λ e. extends_without party key.now (accepted e)) (history (entries_in known.now) arc) }
 {
@@ -75,7 +77,8 @@ fn has_seen_secret(deal: &Deal, known: &[Index], party: PartyId, secret: &Digest
     leaving.iter().any(|arc| has_secret_on(known, *arc, secret))
 }
 
-/// Whether a hashkey was accepted on an arc that leaves the party, which this one extends by the party, and whose path lacks it.
+/// Whether an inner hashkey was accepted on an arc that leaves the party: this hashkey extends the
+/// inner one by the party, and the inner path lacks the party.
 pub(crate) fn has_seen_inner(deal: &Deal, known: &[Index], party: PartyId, key: &Hashkey) -> bool
     requires { party < deal.now.graph.n }
     ensures { result ≡ has_seen deal.now (entries_in known.now) party (extends_without party key.now) }

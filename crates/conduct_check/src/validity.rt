@@ -48,8 +48,9 @@ fn was_accepted(deal: &Deal, known: &[Index], party: PartyId, key: &Hashkey) -> 
         .any(|arc| is_opened_by(deal, known, *arc, key))
 }
 
-/// How many of its last signatures are known to be valid: all where the hashkey opened its lock on an arc that enters the party,
-/// and all but the first where it extends one that was accepted on an arc that leaves the party.
+/// How many of the hashkey's last signatures are known to be valid. All are, if the hashkey opened
+/// its lock on an arc that enters the party. All but the first are, if the hashkey extends one that
+/// was accepted on an arc that leaves the party.
 fn known_signatures(deal: &Deal, known: &[Index], party: PartyId, key: &Hashkey) -> usize
     requires sized { IsWellSized deal.now }
     requires known { AreIndexes deal.now known.now }
@@ -67,7 +68,8 @@ fn known_signatures(deal: &Deal, known: &[Index], party: PartyId, key: &Hashkey)
     }
 }
 
-/// Whether the hashkey is valid on the arc under the deal's hashlock, where so many of its last signatures are known to be valid.
+/// Whether the hashkey is valid on the arc under the deal's hashlock. Its last `signatures`
+/// signatures are known to be valid, so only those before them are verified.
 #[tactic(auto, using(hashkey_path::proofs::Answered::valid_answer))]
 pub(crate) fn is_valid(deal: &Deal, arc: ArcId, key: &Hashkey, signatures: usize) -> bool
     requires sized { IsWellSized deal.now }
@@ -80,8 +82,9 @@ pub(crate) fn is_valid(deal: &Deal, arc: ArcId, key: &Hashkey, signatures: usize
     check(deal, arc, hashlock, key, signatures) == HashkeyAnswer::Valid
 }
 
-/// Whether the hashkey is valid on the arcs that enter the party, which is the same of all of them.
-/// It verifies signatures only where the hashkey opened its lock on none of them, and then the party's own alone where the rest were accepted.
+/// Whether the hashkey is valid on the arcs that enter the party; the answer is the same for each.
+/// If the hashkey opened its lock on one of them, it verifies no signature. If the rest of its
+/// signatures were accepted, it verifies the party's own alone.
 pub(crate) fn is_valid_into(deal: &Deal, known: &[Index], party: PartyId, key: &Hashkey) -> bool
     requires sized { IsWellSized deal.now }
     requires known { AreIndexes deal.now known.now }

@@ -52,7 +52,7 @@ spoiled_terms d a = record (terms_of d a) { bound = 0 }
 abbrev pub spoiler : Deal → ℕ → ℕ → Histories → Option (ℕ × Call)
 spoiler d v t k = option_map (λ a. (a, Publish (spoiled_terms d a))) (around (leaving d.graph v) t)
 
--- the hashkeys of the accepted unlocks that an item is
+-- the hashkeys of the item's accepted unlocks: one for an accepted unlock, none for ticks
 abbrev pub keys_in : Item → List Hashkey
 keys_in (One e) = key_in (accepted e)
 keys_in (Ticks r) = []

@@ -82,8 +82,9 @@ impl Script {
         Script { moves, made: 0 }
     }
 
-    /// The next call, if any: it passes over waits whose height is reached, stops at one whose height isn't, and resolves one other
-    /// move, which is then used up. Want of memory leaves everything as it was.
+    /// The next call, if any. It passes over each wait with a reached height and stops at a wait
+    /// with a later height. It resolves one other move, and uses it up. Want of memory leaves
+    /// everything as it was.
     pub fn next(
         &mut self,
         deal: &Deal,

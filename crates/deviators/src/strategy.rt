@@ -13,7 +13,8 @@ pub type Rule = Box<
     dyn Fn(&Deal, PartyId, u32, &Book) -> Result<Option<(ArcId, Call)>, NoMemory> + Send + Sync,
 >;
 
-/// A rule that may be asked at every view, and whose calls stand on an arc next to the party and fit the deal.
+/// A rule that may be asked at every view. Its calls stand on an arc next to the party and fit the
+/// deal.
 #[derive(Drop)]
 pub struct Strategy {
     rule: Rule,

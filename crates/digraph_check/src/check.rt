@@ -34,8 +34,9 @@ fn tree_against(alloc: Global, graph: &Digraph) -> Result<Listed<Option<ArcId>>,
     tree_from_zero(alloc, graph.n(), &turned)
 }
 
-/// Whether the digraph is strongly connected, with what shows it: two trees where it is, and where it isn't what party 0 reaches, or, if that is
-/// everything, the parties that don't reach party 0.
+/// Whether the digraph is strongly connected, with a certificate. If it is, the certificate is two
+/// trees. If it isn't, it is a closed set: what party 0 reaches, or if party 0 reaches all, the
+/// parties that don't reach party 0.
 pub fn strong(alloc: Global, graph: &Digraph) -> Result<Strength, NoMemory>
     requires parties { (2 ≤ graph.now.n) × (graph.now.n ≤ 32) }
     requires few { length graph.now.arcs ≤ 128 }

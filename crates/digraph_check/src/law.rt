@@ -7,8 +7,9 @@ ghost use Rattle.digraph_check.specs.Closed.{IsClosedSet};
 
 use swap_digraph::Digraph;
 
-/// Does nothing. Its contract is the law of closed sets: one party reaches another exactly where a path of distinct parties leads there, the set that
-/// is named is closed, there is none exactly where the digraph is strongly connected, and a closed set rules that out.
+/// Does nothing. Its contract is the law of closed sets. One party reaches another exactly where a
+/// path of distinct parties leads there. The named set is closed. There is no closed set exactly
+/// where the digraph is strongly connected.
 pub fn paths_tell(graph: &Digraph)
     ensures paths { (u v : ℕ) → u < graph.now.n → v < graph.now.n
         → (IsTrue (reaches graph.now u v) ↔ ((p : List ℕ) × IsPathBetween graph.now u v p)) }

@@ -33,7 +33,8 @@ pub record IsFirstUnlock (d : Deal) (v : ℕ) (signed : ℕ → Option Hashkey) 
 abbrev pub seen_on : Deal → ℕ → Histories → ℕ → Option ℕ
 seen_on d v k i = find (λ a. opens_without v (opened (history k a) i)) (leaving d.graph v)
 
--- The arc whose hashkey is put onto, if any, is the least-numbered one that leaves v on which a path without v opened lock i.
+-- The arc whose hashkey the party extends, if any: the least-numbered arc that leaves v and on
+-- which a path without v opened lock i.
 abbrev pub IsSeenOn : Deal → ℕ → Histories → ℕ → Base → Type 0
 IsSeenOn d v k i Signed = Unit {0}
 IsSeenOn d v k i Own = Unit {0}

@@ -1,11 +1,15 @@
-//! What is due for a conforming party, and what is read for it in a book or in what the party knows of one (Herlihy 2018, section 4.2).
+//! What is due for a conforming party (Herlihy 2018, section 4.2), and what is read for it in a
+//! book or in the party's knowledge of one.
 //!
-//! In the first phase it publishes the correct terms on the arcs that leave it, at once where it leads, and else when every arc that enters it is
-//! good. In the second it reveals hashkeys on those arcs, claims where every lock is opened, and takes back what has expired.
+//! In the first phase a leader publishes the correct terms on its leaving arcs at once, and a
+//! follower when every arc that enters it is good. In the second phase a party reveals hashkeys on
+//! those arcs, claims where every lock is opened, and takes back what has expired.
 //!
-//! What is read is one `ledger_core::Facts` per arc. Nothing here takes memory, and each answer asks a few questions per arc and lock.
+//! What is read is one `ledger_core::Facts` per arc. Nothing here takes memory, and each answer
+//! asks a few questions per arc and lock.
 //!
-//! Read `Party.antt` and `Due.antt` of `swap_rules` first: the contracts cite their definitions; then `specs/Unlocks.antt`.
+//! Read `Party.antt` and `Due.antt` of `swap_rules` first: the contracts cite their definitions;
+//! then `specs/Unlocks.antt`.
 #![tactic(auto)]
 
 mod claim;

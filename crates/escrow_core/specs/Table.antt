@@ -1,4 +1,5 @@
--- The rows of the table of replies on which a contract decides. A reply is that of the first row whose test holds, from top to bottom.
+-- The rows of the table of replies that a contract decides (Herlihy 2018, section 4). The first row
+-- that holds, from top to bottom, gives the reply.
 use Rattle.std.specs.Prelude.{◌==◌, ℕ, ◌+◌, Bool, not, nat_lt, List, [], ◌∷◌, if◌then◌else◌}
 use Rattle.std.specs.List.{list_all}
 use Rattle.swap_digraph.specs.declared.deal.Deal.{Deal}
@@ -24,7 +25,8 @@ abbrev pub closed_lock : (ℕ → Bool) → List ℕ → ℕ
 closed_lock is_open [] = 0
 closed_lock is_open (i ∷ is) = if is_open i then closed_lock is_open is else i
 
--- Each table is that of a contract of arc a with terms t, where is_open tells the opened locks, and settled whether a claim or refund was accepted.
+-- Each table is that of a contract of arc a with terms t. `is_open` tells which locks are opened,
+-- and `settled` whether a claim or refund was accepted.
 
 abbrev pub unlock_rows : Deal → ℕ → Terms → (ℕ → Bool) → Bool → (height sender : ℕ) → Hashkey → List (Bool × Reply)
 unlock_rows d a t is_open settled height p key =

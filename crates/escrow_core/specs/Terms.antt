@@ -1,4 +1,4 @@
--- The terms of a contract, and the times that they give it.
+-- The terms of a contract (Herlihy 2018, section 4), and the times that they give it.
 use Rattle.std.specs.Prelude.{◌==◌, ◌&&◌, ℕ, min, Bool, false, not, List, [], ◌∷◌, filter, map, slice_index, slice_index_or, if◌then◌else◌}
 use Rattle.std.specs.Str.{bytes_eq}
 use Rattle.swap_base.specs.Lists.{same_list}

@@ -29,7 +29,8 @@ step_message h = padded_message (2 ∷ digest_bytes h 8)
 abbrev pub word_step : List ℕ → List ℕ
 word_step h = compress initial_hash_256 (step_message h)
 
--- the padded message of a chain's start, from the seed whose words are h, and the party, the lock and the chain in the first bytes of tail
+-- the padded message of a chain's start: the seed has the words h, and the first bytes of tail are
+-- the party, the lock and the chain
 abbrev pub start_message : List ℕ → ℕ → List ℕ
 start_message h tail = padded_message (1 ∷ digest_bytes h 8 ++ take 3 (to_be_bytes w32 tail))
 

@@ -35,7 +35,7 @@ fn all_moved_on(reached: [V; 8], next: [V; 8], at: u32, counts: V) -> [V; 8]
     ]
 }
 
-/// The values that as many steps lead to as `counts` says, of which none is above `most`.
+/// The value of each chain after the number of steps in `counts`; no count is above `most`.
 pub(crate) fn chain_after_each(y: [V; 8], counts: V, most: u32) -> [V; 8]
     requires { (j : ℕ) → j < 4 → slice_index counts j ≤ most }
     ensures { (j : ℕ) → j < 4 → digest_bytes (lane result j) 8 ≡ chain_after (slice_index counts j) (digest_bytes (lane y j) 8) }

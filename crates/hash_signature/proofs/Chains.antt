@@ -83,6 +83,6 @@ taken f xs d (suc n) le each =
     ap (λ (k : ℕ). take k xs) e ∙ (take_more xs n d (omega arith) ∙ (ap₂ (λ l x. l ++ x ∷ []) so_far (each n (omega arith))
     ∙ (sym (first_chains_more f n) ∙ sym (ap (first_chains f) e))))
 
--- a list with a value for each chain, each of which is that of f
+-- a list with the value of f for each chain
 pub all_filled : {X : Type 0} (f : ℕ → X) (xs : List X) (d : X) → length xs ≡ 67 → ((j : ℕ) → j < 67 → get_or xs j d ≡ f j) → xs ≡ for_chains f
 all_filled f xs d len each = filled_all f xs 67 len refl (taken f xs d 67 (omega arith) each)

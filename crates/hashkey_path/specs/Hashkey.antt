@@ -1,4 +1,4 @@
--- What a hashkey is, and when it is valid on an arc.
+-- What a hashkey is, and when it is valid on an arc (Herlihy 2018, section 4.1).
 use Rattle.std.specs.Prelude.{◌≡◌, ◌==◌, ◌&&◌, ℕ, ◌+◌, Bool, true, false, not, IsTrue, List, [], ◌∷◌, ◌++◌, length, slice_index_or, Option, Some, None}
 use Rattle.std.specs.Prelude.{if◌then◌else◌}
 use Rattle.std.specs.Str.{bytes_eq}
@@ -44,7 +44,7 @@ abbrev pub are_signed : Deal → ℕ → List ℕ → List ℕ → List Sig → 
 are_signed d lock secret (v ∷ rest) (s ∷ inner) = is_signed d lock secret v rest s inner && are_signed d lock secret rest inner
 are_signed d lock secret _ _ = true
 
--- the least place, counted from j, whose signature isn't that of its vertex over its suffix
+-- the first place, counted from j, with a signature that its vertex didn't make over its suffix
 abbrev pub wrong_signature : ℕ → Deal → ℕ → List ℕ → List ℕ → List Sig → Option ℕ
 wrong_signature j d lock secret (v ∷ rest) (s ∷ inner) =
     if is_signed d lock secret v rest s inner then wrong_signature (j + 1) d lock secret rest inner else Some j

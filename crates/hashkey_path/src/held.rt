@@ -128,7 +128,8 @@ pub fn first_held(
     }
 }
 
-/// The hashkey whose path is the party followed by that of `inner`, with the new signature first, with two holders.
+/// The hashkey that extends `inner` by the party, with two holders: the party comes first in its
+/// path, and the new signature first among its signatures.
 pub fn extend_held(
     alloc: Global,
     deal: &Deal,

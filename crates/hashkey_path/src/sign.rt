@@ -157,7 +157,8 @@ pub fn first(
     }
 }
 
-/// The hashkey whose path is the party followed by that of `inner`, with the new signature first.
+/// The hashkey that extends `inner` by the party: the party comes first in its path, and the new
+/// signature first among its signatures.
 pub fn extend(
     alloc: Global,
     deal: &Deal,

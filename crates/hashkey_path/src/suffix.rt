@@ -48,8 +48,8 @@ pub(crate) fn message_of(
     }
 }
 
-/// The least place, counted from `place`, whose signature isn't that of its vertex over its suffix. It ends where either list does, and verifies none
-/// of the last `known` signatures.
+/// The first place, counted from `place`, with a signature that its vertex didn't make over its
+/// suffix. It ends where either list does, and verifies none of the last `known` signatures.
 #[tactic(auto, unfolding(crate::specs::Hashkey::is_signed))]
 pub(crate) fn wrong_signature(
     place: u8,

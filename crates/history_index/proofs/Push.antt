@@ -287,7 +287,8 @@ last_lock from to h e i = last_passes (λ x. names_lock x.what) h e i.locks
 pub last_sent : (from to p : ℕ) (h : List Entry) (e : Entry) → IsIndexable from to (h ++ e ∷ []) → sent_by p e.sender ≡ true → is_call e.what ≡ true
 last_sent from to p h e i = sent_call from to p e.sender e.what (last_passes (λ x. comes_from from to x.sender x.what) h e i.senders)
 
--- so many further elements have room after one more, where s, which takes one of the places only where b
+-- room for further elements after one more; the element takes a place if s holds, and room was set
+-- aside for it if b holds
 pub room_kept : {A : Type 0} (b s : Bool) (x : A) (xs xs' : List A) (room room' cap cap' : ℕ) → xs' ≡ cond s (xs ++ x ∷ []) xs → (s ≡ true → b ≡ true)
     → (IsTrue b → 0 < room) → room' ≡ room - cond b 1 0 → length xs + room ≤ cap → cap ≤ cap' → length xs' + room' ≤ cap'
 room_kept true true x xs xs' room room' cap cap' e h r k l m =

@@ -64,7 +64,7 @@ is_used_with v None seen e = is_carried seen (accepted e)
 unfoldable pub greatest_used_in : ℕ → Option Hashkey → Option Hashkey → List Entry → ℕ
 greatest_used_in v first seen h = greatest (λ e. height_if (is_used_with v first seen e) e.height) h
 
--- the height by which an action was to be done, where the test says that it is late
+-- the height by which an action was due, if the test says that it is late
 abbrev pub due_if : Bool → ℕ → Option ℕ → Option ℕ
 due_if late delta None = None
 due_if late delta (Some from) = if late then Some (from + delta) else None
@@ -74,7 +74,7 @@ abbrev pub is_overdue : ℕ → Counted → ℕ → Option ℕ → List Entry �
 is_overdue delta c v None h = false
 is_overdue delta c v (Some from) h = nat_lt (from + delta) (height h) && not (is_done_in c v (from + delta) h)
 
--- the height by which the action of v was to be done, where it wasn't
+-- the height by which the action of v was due, if it wasn't done by then
 abbrev pub overdue : ℕ → Counted → ℕ → Option ℕ → List Entry → Option ℕ
 overdue delta c v from h = due_if (is_overdue delta c v from h) delta from
 

@@ -37,7 +37,7 @@ fn is_used(party: PartyId, first: Option<&Hashkey>, seen: Option<&Hashkey>, entr
     }
 }
 
-/// The greatest height at which the used hashkey was accepted, 0 where it wasn't.
+/// The greatest height at which the used hashkey was accepted, or 0 if it never was.
 #[tactic(auto, using(due_calls::proofs::Greatest::greatest_fold, crate::proofs::Made::used_made))]
 fn greatest_used_in(
     index: &Index,

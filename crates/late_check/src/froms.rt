@@ -55,7 +55,8 @@ fn has_key(
         || first_seen_key(deal, known, party, lock).is_some()
 }
 
-/// The height from which the party is to unlock the lock on the arcs that enter it, where this is its first hashkey for it.
+/// The height from which the party is to unlock the lock on its entering arcs. The hashkey is the
+/// party's first for the lock.
 pub fn unlock_from(
     deal: &Deal,
     known: &[Index],

@@ -35,7 +35,7 @@ fn enters(deal: &Deal, party: PartyId, arc: ArcId) -> bool
     deal.graph.arcs()[arc as usize].to == party
 }
 
-/// The height by which the action was to be done on the arc, where it wasn't.
+/// The height by which the action was due on the arc, if it wasn't done by then.
 fn overdue(
     deal: &Deal,
     known: &[Index],

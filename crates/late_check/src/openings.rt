@@ -28,7 +28,7 @@ fn opened<'a>(deal: &Deal, known: &'a [Index], arc: ArcId, lock: LockId) -> Opti
     }
 }
 
-/// The height at which the lock was opened on the arc, 0 where it wasn't.
+/// The height at which the lock was opened on the arc, or 0 if it wasn't.
 pub(crate) fn opening_height(deal: &Deal, known: &[Index], arc: ArcId, lock: LockId) -> u32
     requires sized { IsWellSized deal.now }
     requires known { AreIndexes deal.now known.now }
@@ -66,7 +66,8 @@ fn key_without<'a>(
     }
 }
 
-/// The hashkey by which a path without the party opened the lock, on the least-numbered of the arcs that leave it.
+/// The hashkey that opened the lock by a path without the party, on the least-numbered such arc
+/// that leaves the party.
 pub(crate) fn first_seen_key<'a>(
     deal: &Deal,
     known: &'a [Index],

@@ -17,7 +17,7 @@ only_if false x = None
 unfoldable pub leads_into : Graph → (ℕ → Bool) → ℕ → Bool
 leads_into g f u = list_any (λ a. (a.from == u) && f a.to) g.arcs
 
--- the least vertex at which f holds and to which u has an arc
+-- the least vertex to which u has an arc and at which f holds
 unfoldable pub first_step : Graph → (ℕ → Bool) → ℕ → ℕ
 first_step g f u = unwrap_or (first_of (λ w. only_if (has_arc g u w && f w) w) (parties g)) 0
 
@@ -26,7 +26,8 @@ unfoldable pub walks : Graph → List ℕ → ℕ → ℕ → ℕ → Bool
 walks g leaders v zero u = is_follower g leaders u && (u == v)
 walks g leaders v (suc k) u = is_follower g leaders u && leads_into g (walks g leaders v k) u
 
--- k vertices of a walk that begins with u, where f tells by the number of arcs that are left which vertices may come next, and the least one comes
+-- k vertices of a walk that begins with u: the least vertex comes next of those that f allows, and
+-- f tells which it allows by the number of arcs that are left
 unfoldable pub walk_of : Graph → (ℕ → ℕ → Bool) → ℕ → ℕ → List ℕ
 walk_of g f zero u = []
 walk_of g f (suc k) u = u ∷ walk_of g f k (first_step g (f k) u)
@@ -61,7 +62,8 @@ pub record TellAllWalks (g : Graph) (leaders : List ℕ) (rows : List (List ℕ)
   pub size : length rows ≡ g.n + 1
   pub row : (k : ℕ) → k ≤ g.n → TellsWalks g leaders k (slice_index_or rows k [])
 
--- the cycle of k vertices that begins with v, where f tells by the number of arcs from which vertices a walk leads to v
+-- the cycle of k vertices that begins with v; f tells, by the number of arcs, from which vertices a
+-- walk leads to v
 abbrev pub cycle_by : Graph → (ℕ → ℕ → Bool) → ℕ → ℕ → Option (List ℕ)
 cycle_by g f v k = only_if (f k v) (walk_of g f k v)
 

@@ -1,4 +1,5 @@
--- The level of a party: how many followers in a row lead up to it.
+-- The level of a party: how many followers in a row lead up to it. Levels show that the leaders are
+-- a feedback vertex set (Herlihy 2018, section 2).
 use Rattle.std.specs.Prelude.{◌≡◌, ◌⊎◌, ℕ, zero, suc, ◌+◌, ◌≤◌, ◌==◌, if◌then◌else◌, IsTrue, List, length, map}
 use Rattle.swap_base.specs.Lists.{greatest}
 use Rattle.swap_digraph.specs.Value.{Graph}

@@ -52,7 +52,7 @@ fn heads(graph: &Digraph, u: PartyId) -> u32
     bits
 }
 
-/// The least vertex whose bits in the row hold v and to which u has an arc.
+/// The least vertex to which u has an arc and whose bits in the row hold v.
 fn first_step(graph: &Digraph, row: &[u32], v: PartyId, u: PartyId) -> PartyId
     requires parties { graph.now.n ≤ 32 }
     requires ends { HasEnds graph.now }
@@ -207,7 +207,7 @@ pub fn follower_cycle(
     Ok(None)
 }
 
-/// A shortest cycle that begins with v and whose parties all follow.
+/// A shortest cycle of followers that begins with v.
 pub fn cycle_through(
     alloc: Global,
     graph: &Digraph,

@@ -111,7 +111,8 @@ pub fn with_greatest(row: Vec<u8>) -> Levels
     }
 }
 
-/// Whether the levels still rise after as many rounds as there are parties, which they do exactly where followers form a cycle.
+/// Whether the levels still rise after one round for each party. They do exactly where followers
+/// form a cycle.
 pub fn rise_on(
     alloc: Global,
     graph: &Digraph,

@@ -16,7 +16,7 @@ pub record LedgerState : Type 0 where
   -- how many further entries have room already
   pub spare : ℕ
 
--- Entries whose height and whose numbers are numbers of 32 bits, as those of every legal history.
+-- Entries with heights and numbers of 32 bits; those of every legal history are such.
 pub record IsCountable (h : List Entry) : Type 0 where
   pub height : height h < 2 ^ 32
   pub count : length h < 2 ^ 32

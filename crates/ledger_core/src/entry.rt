@@ -51,7 +51,8 @@ impl TryCopy for What {
     }
 }
 
-/// An entry of a history. A tick carries the height after it, a call that at which it ran.
+/// An entry of a history. A tick carries the height after it, and a call the height at which it
+/// ran.
 #[derive(Debug, Drop)]
 pub struct Entry {
     pub sender: Sender,

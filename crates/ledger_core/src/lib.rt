@@ -1,10 +1,14 @@
-//! One ledger per arc: its history of calls and ticks, each with the reply of the table, and what stands in it.
+//! One ledger per arc: its history of calls and ticks, each with the reply of the table, and what
+//! stands in it.
 //!
-//! Whatever is asked of a `Ledger`, its history is legal, its answers are what the scans of that history give, and at every prefix the balances and the
-//! held amount add up to the arc's amount. A refusal moves no units and leaves the contract as it was. `Facts` are answers over a list of entries.
-//! A `LedgerHistory` and an `EntryList` keep ticks that follow each other by the same number as one item, and contracts see the list of the entries.
+//! The history of a `Ledger` is legal after any calls. Its answers are what the scans of that
+//! history give. At every prefix the balances and the held amount add up to the arc's amount. A
+//! refusal moves no units and leaves the contract as it was. `Facts` are answers over a list of
+//! entries. A `LedgerHistory` and an `EntryList` keep ticks that follow each other by the same
+//! number as one item, and contracts see the list of the entries.
 //!
-//! Read `specs/History.antt` first: legal histories, balances and the table of replies; then `specs/Ledger.antt` for the words of the ledger's clauses.
+//! Read `specs/History.antt` first: legal histories, balances and the table of replies; then
+//! `specs/Ledger.antt` for the words of the ledger's clauses.
 #![tactic(auto)]
 
 mod accounts;

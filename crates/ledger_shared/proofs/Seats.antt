@@ -116,7 +116,7 @@ continued s m l is held deal arc on = subst (λ (x : Me). IsContinuedBy author_o
       all_made s.deal s.arc s.number on.0 on.2,
     )
 
--- the seat with its turn: what it knows are lines, which are those of the ledger, and that goes on from what it knew
+-- the seat with its turn: it knows the lines of the ledger, and they go on from what it knew
 pub take_step : (s : SeatState) (lock : TableId) (m m' : Me) (l : LedgerState) → IsAt s m → s.holds ≡ false → lock ≡ s.lock
     → Covers author_of (lines l.deal l.arc l.history) (number_of m, known_of m) → m' ≡ busy (opening_of m) (number_of m) (lines l.deal l.arc l.history)
     → IsAt (state_of lock m') m' × (state_of lock m' ≡ knowing s true l.history) × GoesOn s l

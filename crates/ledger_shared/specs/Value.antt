@@ -16,7 +16,8 @@ use Rattle.ledger_core.specs.Value.{LedgerState}
 pub record SharedState : Type 0 where
   pub lock : TableId
 
--- The pass of a party: whose ledger it is of, the history that was shared, and what it has seen of the one history.
+-- The pass of a party: its ledger's arc, the history that was shared, and what the pass has seen of
+-- the one history.
 pub record PassState : Type 0 where
   pub lock : TableId
   pub deal : Deal
@@ -95,7 +96,8 @@ pub record HasTicked (old : ClockState) (k : ℕ) (answer : Reply) (new : ClockS
   pub reply : answer ≡ reply_to_tick (old.seen ++ others) k
   pub entries : new ≡ clock_with_seen old (others ++ added_by_tick answer (tick_entry k (height (old.seen ++ others) + k) answer))
 
--- The closed ledger is that of the pass, its history begins with what the pass has seen, and it has of the party just what the pass has seen.
+-- The closed ledger is the pass's ledger. Its history begins with what the pass has seen, and has
+-- no other entry of the party.
 pub record Closes (l : LedgerState) (p : PassState) : Type 0 where
   pub deal : l.deal ≡ p.deal
   pub arc : l.arc ≡ p.arc

@@ -49,8 +49,9 @@ pub struct CallBack {
     pub call: Call,
 }
 
-/// Shares a ledger, which stays in its box, so that it goes from hand to hand as a pointer. The passes are those of the arc's party, which has seen the first
-/// `first` entries, of its counterparty, which has seen the first `second`, and of the clock, which has seen all.
+/// Shares a ledger. It stays in its box, so that it goes from hand to hand as a pointer. The first
+/// pass is for the arc's party and has seen the first `first` entries. The second is for its
+/// counterparty and has seen the first `second`. The third is for the clock and has seen all.
 pub fn share<R: Wait>(
     rt: &R,
     alloc: Global,
@@ -192,7 +193,8 @@ impl SharedLedger {
         }
     }
 
-    /// The ledger, whose history has all that the passes have seen, and of each just its own entries. It takes no memory and waits for nobody.
+    /// The ledger. Its history has all that the passes have seen, and each party's entries in it
+    /// are those of its pass. It takes no memory and waits for nobody.
     pub fn close(self, first: Pass, second: Pass, clock: ClockPass) -> Box<Ledger>
         requires first { IsFirstAt self.lock first }
         requires second { IsSecondAt self.lock second }

@@ -79,8 +79,8 @@ fn write_lines<K: Sink>(
     write_events(sink, out, &mut generator, names.as_slice(), events)
 }
 
-/// Writes the job of a number and so many parties, with so many of its events: its header line, and a line for each event. After want of
-/// memory a prefix of it was written.
+/// Writes the job of a number and a count of parties, with the first `events` events: its header
+/// line, and a line for each event. After want of memory a prefix of it was written.
 pub fn write_generated<K: Sink>(
     alloc: Global,
     sink: &mut K,

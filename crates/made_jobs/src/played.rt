@@ -89,7 +89,8 @@ fn finished_book(alloc: Global, mut world: World, kit: &Kit) -> Result<Book, NoM
     Ok(book)
 }
 
-/// The book of a generator's job, whose parties sign with those wallets, after so many events and the fair finish.
+/// The book of a generator's job after a number of events and the fair finish. Its parties sign
+/// with these wallets.
 pub(crate) fn played(
     alloc: Global,
     generator: &mut Generator,

@@ -86,7 +86,8 @@ fn put_found(out: &mut Vec<u8>, found: usize) -> Result<(), NoMemory>
     )
 }
 
-/// The summary of a deal's run: of so many events and the book that they made, in which the parties ended so and so much is found.
+/// The summary of a deal's run: its number of events, its book, how the parties ended, and the
+/// number of findings.
 #[tactic(auto, using(crate::proofs::Short::are_few, crate::proofs::Short::are_short), unfolding(crate::specs::Summary::summary_with))]
 pub fn summary_text(
     alloc: Global,

@@ -13,7 +13,7 @@ use swap_base::Listed;
 use swap_job::Finish;
 use transcript_book::{Parts, WordFault, misspelt, nothing_more, word};
 
-/// The chains of a swap's arcs, of which there are so many, by the fields after the first.
+/// The chains of a swap's arcs, one for each arc, by the fields after the first.
 #[tactic(auto, using(crate::proofs::Pairs::below_more), unfolding(crate::specs::Fields::chains_of))]
 pub fn read_chains(
     alloc: Global,

@@ -55,6 +55,6 @@ swap_places many s [] = Ok []
 swap_places many s (chains ∷ more) =
     arc_places many.names s (job_at many.jobs s) 0 chains >>= λ places. swap_places many (s + 1) more >>= λ others. Ok (places ∷ others)
 
--- where the arcs of all swaps stand, or the least arc one of whose parties has no account there
+-- where the arcs of all swaps stand, or the first arc with a party that has no account there
 abbrev pub places_of : ManyJob → Result (List (List Place)) Refusal
 places_of many = swap_places many 0 many.chains

@@ -14,7 +14,7 @@ use Rattle.many_fields.specs.Whole.{AreBelow, IsChain}
 use Rattle.many_lines.specs.Places.{job_at}
 use Rattle.many_lines.specs.declared.many_job.ManyJob.{ManyJob}
 
--- An accepted job of a run, each of whose arcs stands on one of so many chains.
+-- An accepted job of a run. Each of its arcs stands on one of the chains.
 pub record IsSwap (count : ℕ) (job : Job) (chains : List ℕ) : Type 0 where
   pub purpose : job.purpose ≡ Run
   pub whole : IsWholeJob job

@@ -34,7 +34,7 @@ pub(crate) fn accounts_in(
     }
 }
 
-/// The chains of a swap's arcs, of which there are so many.
+/// The chains of a swap's arcs, one for each arc.
 #[tactic(auto, using(crate::proofs::Failing::fails))]
 pub(crate) fn chains_in(
     alloc: Global,

@@ -19,7 +19,7 @@ fn is_closed(text: &[u8]) -> bool
     matches!(text, [b'}'])
 }
 
-/// The number whose first digit was read, and what follows it.
+/// The number after its first digit was read, and the text behind it.
 fn number_on(first: u8, text: &[u8]) -> (u64, &[u8])
     requires digit { (49 ≤ first) × (first ≤ 57) }
     ensures digits { first ∷ text.now ≡ decimal result.0 ++ result.1.now }

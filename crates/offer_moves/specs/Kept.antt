@@ -14,7 +14,7 @@ abbrev pub AreCraftersBelow : ℕ → Move → Type 0
 AreCraftersBelow n (Craft a lock via onto) = IsTrue (list_all (λ v. nat_lt v n) via)
 AreCraftersBelow n _ = Unit {0}
 
--- A move stands on one of so many arcs, and the parties that craft are among so many.
+-- A move stands on one of the arcs, and each party that crafts is one of the parties.
 pub record CanStand (arcs parties : ℕ) (mv : Move) : Type 0 where
   pub arc : move_arc mv < arcs
   pub crafters : AreCraftersBelow parties mv

@@ -139,7 +139,7 @@ header_line job = compact_text (header_data job)
 
 -- ---- jobs that can be written
 
--- a role whose moves name none but so many parties
+-- a role with moves that name only parties below n
 abbrev pub IsSayable : ℕ → Role → Type 0
 IsSayable n (Script moves) = All (NamesBelow n) moves
 IsSayable n _ = Unit {0}

@@ -11,14 +11,14 @@ use Rattle.swap_rules.specs.Walking.{endangers, strands}
 use Rattle.outcome_rules.specs.declared.report.Report.{Report}
 use Rattle.outcome_rules.specs.Report.{conforms_in}
 
--- A party of the deal that conforms, and of which no finding passes the test.
+-- A conforming party of the deal, without a finding that passes the test.
 pub record IsClear (says : Finding → Bool) (d : Deal) (conforming : List Bool) (found : List Finding) (v : ℕ) : Type 0 where
   pub party : v < d.graph.n
   pub conforms : conforms_in conforming v ≡ true
   pub clear : list_any says found ≡ false
 
--- no conforming party that no finding endangers ends underwater, where none stands in its name on an arc that leaves it, however late it published or
--- asked back
+-- A conforming party doesn't end underwater if no finding endangers it and none stands in its name
+-- on an arc that leaves it. It may have published or asked back late.
 abbrev pub NoneIsUnderwater : Deal → List Bool → (ℕ → Outcome) → List Finding → Type 0
 NoneIsUnderwater d conforming outcome_of found = (v : ℕ) → IsClear (endangers v) d conforming found v → list_any (is_in_name_of d v) found ≡ false → outcome_of v ≢ Underwater
 

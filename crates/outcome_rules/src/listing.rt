@@ -136,8 +136,9 @@ pub fn findings_indexed(
     Ok(Listed::new(list))
 }
 
-/// What is found of each conforming party, ascending, and then of the ledgers: by which entries it broke a rule of conduct, where it was late, and
-/// which entries are forged in its name.
+/// The findings of each conforming party, ascending, and then those of the ledgers. A party's
+/// findings are its entries that broke a rule of conduct, its late actions, and the entries that
+/// are forged in its name.
 pub fn findings(
     alloc: Global,
     deal: &Deal,

@@ -36,7 +36,8 @@ abbrev pub by_reason : {A : Type 0} → Result A Reason → Result A AnswerReaso
 by_reason (Ok x) = Ok x
 by_reason (Err reason) = Err (nameless reason)
 
--- What an input says: what the wallet wrote down, and what its transcript states, which stands behind so many lines.
+-- What an input says: what the wallet wrote down, and what its transcript states. The transcript
+-- stands behind `before` lines.
 pub record SaidState : Type 0 where
   pub notes : List Note
   pub story : Story
@@ -46,7 +47,7 @@ abbrev pub by_story : ℕ → Result Story TranscriptReason → Result Story Ans
 by_story lines (Ok t) = Ok t
 by_story lines (Err reason) = Err (Refused (refusal_behind lines reason))
 
--- what a text says whose first line has that number
+-- what a text says if its first line has number n
 unfoldable pub said_in : ℕ → List ℕ → Result SaidState AnswerReason
 said_in first text = do
   noted ← by_reason (notes_in first (parts_at 10 text))
@@ -100,7 +101,8 @@ abbrev pub unless_unkept : Option (ℕ × ℕ) → Result (Unit {0}) AnswerReaso
 unless_unkept None = Ok tt
 unless_unkept (Some x) = Err (NotKept x.0 x.1)
 
--- What is asked: the party of a deal, its seed, what each ledger did so far, what the party kept, and on which arcs it sent a publish.
+-- What is asked: the party of a deal, its seed, what each ledger did so far, what the party kept,
+-- and the arcs on which it sent a publish.
 pub record Question : Type 0 where
   pub deal : Deal
   pub me : ℕ
@@ -108,7 +110,7 @@ pub record Question : Type 0 where
   pub known : Histories
   pub kept : KeptState
 
--- what is asked by what a text says, whose first line has that number
+-- what is asked by what a text says if its first line has number n
 unfoldable pub question_of : ℕ → List ℕ → List ℕ → SaidState → Result Question AnswerReason
 question_of first name seed s = do
   me ← party_named s name
@@ -118,6 +120,6 @@ question_of first name seed s = do
   all ← unless_unkept (first_unkept (signed_in kept.keys) me 0 s.story.book)
   Ok (record { deal = s.story.job.deal; me = me; seed = seed; known = s.story.book; kept = kept })
 
--- what a text asks whose first line has that number
+-- what a text asks if its first line has number n
 unfoldable pub asked : ℕ → List ℕ → List ℕ → List ℕ → Result Question AnswerReason
 asked first name seed text = said_in first text >>= question_of first name seed

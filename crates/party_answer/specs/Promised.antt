@@ -34,7 +34,7 @@ MayKeepIn q key = MayKeep q.deal q.me (wallet_in q) (asking_of q) key
 abbrev pub useful_over : Question → Histories → List Action
 useful_over q known = useful q.deal q.me (wallet_in q) (signed_in q.kept.keys) known
 
--- the height isn't above that at which rest ends, if it ends at one
+-- the height isn't above the height at which rest ends, if rest ends
 abbrev pub IsAtRest : Option ℕ → ℕ → Type 0
 IsAtRest None at = Unit {0}
 IsAtRest (Some end) at = at ≤ end
@@ -43,10 +43,13 @@ IsAtRest (Some end) at = at ≤ end
 abbrev pub IsHarmfulIn : Question → Action → Type 0
 IsHarmfulIn q x = IsHarmful q.deal q.me (wallet_in q) (signed_in q.kept.keys) q.known x
 
--- A text is the answer to what is asked: of an accepted deal, over ledgers that did what is told of them, for a party whose seed it is. Each call in it
--- may go out and is useful, no publish in it was sent, and each hashkey in it may be kept. Nothing that may is left out but publishes that were sent, and
--- calls that can only hurt the party: of a lock for which a hashkey may be kept it has one. The same is useful over any histories of which what is
--- told says enough, so noise may be left out. Where nothing is useful, ticks on any ledger make nothing useful up to the height at which rest ends.
+-- A text is the answer to what is asked. The deal is accepted, the ledgers did what is told of
+-- them, and the seed is the party's. Each call in the text may go out and is useful, no publish in
+-- it was sent, and each hashkey in it may be kept. Only publishes that were sent and calls that can
+-- only hurt the party are left out. For each lock with a hashkey that may be kept, the text has
+-- one. The same calls are useful over any histories of which the told ones say enough, so noise may
+-- be left out. If nothing is useful, ticks on any ledger make nothing useful up to the height at
+-- which rest ends.
 pub record IsAnswerTo (asks : Result Question AnswerReason) (answer : List ℕ) : Type 0 where
   pub question : Question
   pub asked : asks ≡ Ok question
@@ -68,6 +71,7 @@ pub record IsAnswerTo (asks : Result Question AnswerReason) (answer : List ℕ) 
       → IsAtRest (rest_until question.deal question.me question.known) (height (history question.known a ++ more))
       → useful_over question (set question.known a (history question.known a ++ more)) ≡ []
 
--- A text is the answer to a text whose first line has that number, for the party of that name with that seed.
+-- A text is the answer to an input text whose first line has number n, for the party with this name
+-- and seed.
 abbrev pub IsAnswer : ℕ → List ℕ → List ℕ → List ℕ → List ℕ → Type 0
 IsAnswer first name seed text answer = IsAnswerTo (asked first name seed text) answer

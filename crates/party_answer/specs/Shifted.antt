@@ -11,7 +11,7 @@ use Rattle.transcript_reader.specs.declared.reason.TranscriptReason.TheVariants.
 abbrev pub behind : ℕ → ℕ → ℕ
 behind lines n = min (lines + n) (2 ^ 32 - 1)
 
--- the same reason, where so many lines stand before those that it counts
+-- the same reason, with its line numbers raised by the lines that stand before
 abbrev pub shifted : ℕ → Reason → Reason
 shifted lines (reasons.NotJson n) = reasons.NotJson (behind lines n)
 shifted lines (reasons.Missing n field) = reasons.Missing (behind lines n) field

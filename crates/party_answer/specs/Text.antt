@@ -50,7 +50,8 @@ unfoldable pub text_of : Question → List ℕ
 text_of q =
     flat_map (line_of q.me) (answers q.deal q.me (wallet_in q) (asking_of q) (sent_on q)) ++ rest_lines (all_useful q) (rest_until q.deal q.me q.known)
 
--- what is answered to a question over ledgers whose replies are right, unless a hashkey was presented that wasn't kept
+-- the answer to a question over ledgers with right replies, unless a hashkey was presented that
+-- wasn't kept
 abbrev pub answer_over : Question → Result (List ℕ) AnswerReason
 answer_over q = unless_unkept (first_unkept (signed_in q.kept.keys) q.me 0 q.known) >>= λ u. Ok (text_of q)
 
@@ -58,6 +59,6 @@ answer_over q = unless_unkept (first_unkept (signed_in q.kept.keys) q.me 0 q.kno
 abbrev pub answer_said : ℕ → List ℕ → List ℕ → SaidState → Result (List ℕ) AnswerReason
 answer_said first name seed s = question_of first name seed s >>= λ q. Ok (text_of q)
 
--- what is answered to a text whose first line has that number, or the first reason against it
+-- the answer to a text whose first line has number n, or the first reason against it
 unfoldable pub answer_to : ℕ → List ℕ → List ℕ → List ℕ → Result (List ℕ) AnswerReason
 answer_to first name seed text = asked first name seed text >>= λ q. Ok (text_of q)

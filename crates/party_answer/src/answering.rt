@@ -140,8 +140,9 @@ fn answer_said(
     answer_over(alloc, said, me, seed, &kept)
 }
 
-/// All that is useful to the party of that name with that seed, a line each, by a text whose first line has that number in the input: what its wallet wrote
-/// down, and a transcript of each ledger as far as it was told.
+/// All that is useful to the party with this name and seed, a line each. The text holds what its
+/// wallet wrote down, and a transcript of each ledger as far as it was told. Its first line has
+/// this number in the input.
 #[tactic(auto, unfolding(crate::specs::Text::answer_to, crate::specs::Asked::asked))]
 pub fn answer(
     alloc: Global,

@@ -1,4 +1,4 @@
-//! What an input asks: who, of which deal, over which ledgers, with which notes.
+//! What an input asks: the party, its deal, its ledgers and its notes.
 
 ghost use Rattle.std.specs.Prelude.{◌≡◌, ◌<◌, ◌≤◌, None, IfOk, IfSome, OnOk, drop, length, position};
 ghost use Rattle.std.specs.Str.{bytes_eq};
@@ -29,7 +29,7 @@ use swap_digraph::Deal;
 use swap_job::Job;
 use transcript_reader::read_transcript;
 
-/// What an input says: the notes, and what its transcript states, which stands behind so many lines.
+/// What an input says: the notes, and what its transcript states behind them.
 #[derive(Debug, Drop)]
 pub struct Said {
     pub notes: Listed<Note>,
@@ -54,7 +54,7 @@ fn read_story(alloc: Global, lines: u32, text: &[u8]) -> Result<(Job, Book), Ans
     }
 }
 
-/// The notes at the front of a text whose first line has that number.
+/// The notes at the front of a text. Its first line has this number.
 fn noted(alloc: Global, first: u32, text: &[u8]) -> Result<Notes, AnswerFault>
     ensures exact { Gives (λ n. record { notes = n.list; rest = parts_at 10 (drop n.end text.now); next = n.next }) result
         (by_reason (notes_in first (parts_at 10 text.now))) }
@@ -66,7 +66,7 @@ fn noted(alloc: Global, first: u32, text: &[u8]) -> Result<Notes, AnswerFault>
     }
 }
 
-/// What a text says whose first line has that number.
+/// What a text says. Its first line has this number.
 #[tactic(auto, unfolding(crate::specs::Asked::said_in))]
 pub(crate) fn read_said(alloc: Global, first: u32, text: &[u8]) -> Result<Said, AnswerFault>
     ensures exact { Gives said_of result (said_in first text.now) }
@@ -153,7 +153,7 @@ pub(crate) fn own_seed(
     }
 }
 
-/// What the party kept and sent, by notes the first of which is the line of that number.
+/// What the party kept and sent, by its notes. The first note is the line with this number.
 pub(crate) fn kept_by(
     alloc: Global,
     said: &Said,

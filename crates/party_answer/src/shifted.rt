@@ -16,7 +16,7 @@ fn behind(lines: u32, line: u32) -> u32
     lines.saturating_add(line)
 }
 
-/// The same reason, where so many lines stand before those that it counts.
+/// The same reason, with its line numbers raised by the lines that stand before.
 fn shifted(lines: u32, reason: Reason) -> Reason
     ensures { result ≡ shifted lines reason }
 {

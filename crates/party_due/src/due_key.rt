@@ -98,8 +98,9 @@ fn key_from(
     }
 }
 
-/// The hashkey of the unlocks for the lock, if there is one: the kept one, else the party's own where it leads the lock, else the one that it makes of a
-/// hashkey that it saw.
+/// The hashkey of the unlocks for the lock, if there is one. It is the kept one. Without a kept one
+/// it is the party's own if the party leads the lock, and else the one that it makes from a hashkey
+/// that it saw.
 pub(crate) fn due_key(
     alloc: Global,
     deal: &Deal,

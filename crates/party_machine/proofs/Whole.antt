@@ -1,4 +1,5 @@
--- A hashkey that a party signs has as many vertices as a path of the deal may have, all of them parties, and a signature for each.
+-- A hashkey that a party signs has no more vertices than a path of the deal may have. All of them
+-- are parties, and each has a signature.
 use Rattle.std.proofs.Common.{◌≡◌, ℕ, suc, ◌<◌, ◌==◌, nat_lt, Bool, true, cond, List, length, Option, Some, None, is_some, option_map}
 use Rattle.std.proofs.Common.{refl, sym, ap, ◌∙◌, subst, arith, eq-eqb, lt-ltb}
 use Rattle.std.proofs.lemmas.Option.{same_Some}

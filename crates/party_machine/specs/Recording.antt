@@ -55,7 +55,8 @@ IsStoppedNext n k synced synced' loose' (Ok x) = ⊥
 IsStoppedNext n k synced synced' loose' (Err DiskFault) = IsStoppedAt n k synced synced' loose'
 IsStoppedNext n k synced synced' loose' (Err NoMemory) = Unit {0}
 
--- the hashkey of an unlock is for one of so many locks, and it is the one that was signed for its lock, where one was
+-- the hashkey of an unlock is for one of the locks, and it is the one that was signed for its lock,
+-- if one was
 abbrev pub IsCallPlaced : List (Option Hashkey) → Call → Type 0
 IsCallPlaced signed (Unlock key) = (key.lock < length signed) × ((k : Hashkey) → signed_in signed key.lock ≡ Some k → k ≡ key)
 IsCallPlaced signed _ = Unit {0}

@@ -9,7 +9,8 @@ use Rattle.party_machine.specs.Machine.{MachineState, next_due}
 use Rattle.party_machine.specs.declared.rest.Rest.{Rest}
 use Rattle.party_machine.specs.declared.rest.Rest.TheVariants.{Awake, Until}
 
--- what is left of rest after more entries, which are all ticks or not, that bring a ledger to that height
+-- what is left of rest after more entries, which bring a ledger to that height; `ticks` tells
+-- whether they are all ticks
 abbrev pub rest_after : Rest → (ticks : Bool) → ℕ → Rest
 rest_after (Until None) true height = Until None
 rest_after (Until (Some t)) true height = if nat_le height t then Until (Some t) else Awake

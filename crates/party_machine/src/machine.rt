@@ -67,7 +67,8 @@ impl Model for Machine {
 }
 
 impl Machine {
-    /// A party that knows nothing and signed nothing, whose new wallet has what the deal states. It keeps a copy of the deal.
+    /// A party with a new wallet that has what the deal states. It knows nothing and signed
+    /// nothing. It keeps a copy of the deal.
     pub fn fitting(
         alloc: Global,
         deal: &Deal,
@@ -263,7 +264,8 @@ impl Machine {
         ensures once { (i : ℕ) (k : Hashkey) → signed_in self.old.signed i ≡ Some k → signed_in self.new.signed i ≡ Some k }
         ensures same { IsOfSame self.old self.new }
 
-        // The journal has the hashkeys that were signed, and the one that is answered is recorded on each device that a crash leaves.
+        // The journal has the hashkeys that were signed. The answered hashkey is recorded on each
+        // device that a crash leaves.
         ensures noted { OnOk result (journal.new.signed ≡ self.new.signed) }
         ensures sound { OnOk result (journal.new.sound ≡ true) }
         ensures recorded { IfOk result (IsRecorded (D.may_leave journal.new.disk)) }

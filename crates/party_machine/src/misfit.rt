@@ -5,7 +5,8 @@ use swap_base::{Fault, LockId};
 /// What is wrong with a wallet.
 #[derive(Clone, Copy, Debug, PartialEq, Eq)]
 pub enum Misfit {
-    /// The least lock whose key, or whose secret where the party leads it, isn't the one that the deal states.
+    /// The least lock with a key other than the deal's, or with a secret other than the deal's if
+    /// the party leads it.
     WrongWallet(LockId),
 }
 

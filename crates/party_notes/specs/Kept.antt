@@ -54,6 +54,6 @@ abbrev pub with_notes : Deal → ℕ → ℕ → KeptState → List Note → Res
 with_notes d v n k [] = Ok k
 with_notes d v n k (x ∷ xs) = with_note d v n k x >>= λ next. with_notes d v (next_number n) next xs
 
--- what the notes come to, the first of which is line n
+-- what the notes come to; the first note is line n
 unfoldable pub kept_of : Deal → ℕ → ℕ → List Note → Result KeptState Reason
 kept_of d v n notes = with_notes d v n (nothing_kept d) notes

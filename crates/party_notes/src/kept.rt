@@ -118,7 +118,7 @@ fn none_kept(alloc: Global, locks: u8) -> Result<Vec<Option<Shared<Hashkey>>>, N
     Ok(keys)
 }
 
-/// Adds notes, the first of which is the line of that number.
+/// Adds notes. The first of them is the line with this number.
 fn add_notes(
     deal: &Deal,
     me: PartyId,
@@ -144,8 +144,10 @@ fn add_notes(
     Ok(())
 }
 
-/// What a party's notes come to, the first of which is the line of that number: or the first line that notes a hashkey which it can't have kept (of no
-/// lock of the deal, a second for a lock, or one that opens nothing, as a torn line's), or a publish on an arc that doesn't leave it.
+/// What a party's notes come to, or the first faulty line. The first note is the line with this
+/// number. A line is faulty if it notes a publish on an arc that doesn't leave the party, or a
+/// hashkey that the party can't have kept. Such a hashkey is for no lock of the deal, is a second
+/// one for a lock, or opens nothing, as that of a torn line.
 #[tactic(auto, unfolding(crate::specs::Kept::kept_of))]
 pub fn kept_of(
     alloc: Global,

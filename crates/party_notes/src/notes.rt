@@ -32,7 +32,8 @@ fn numbered_note(alloc: Global, number: u32, line: &[u8]) -> Result<Option<Note>
     }
 }
 
-/// The notes at the front of a text whose first line has that number: its lines before the first that is no note.
+/// The notes at the front of a text: its lines before the first that is no note. Its first line has
+/// this number.
 pub fn read_notes(alloc: Global, first: u32, text: &[u8]) -> Result<Notes, OfferFault>
     ensures exact { Gives (λ n. record { notes = n.list; rest = parts_at 10 (drop n.end text.now); next = n.next }) result
         (notes_in first (parts_at 10 text.now)) }

@@ -1,4 +1,5 @@
--- What is due for a party whose calls keep its rules is nothing by the hashkeys that it signed exactly where it is nothing by those of its unlock calls.
+-- If a party's calls keep its rules, nothing is due by the hashkeys that it signed exactly where
+-- nothing is due by those of its unlock calls.
 use Rattle.std.proofs.Common.{◌≡◌, ℕ, ◌<◌, Bool, true, false, cond, ◌||◌, List, [], ◌∷◌, ◌++◌, length, Option, Some, None, is_some, refl, sym, ap}
 use Rattle.std.proofs.Common.{◌∙◌, subst, inl, inr, arith}
 use Rattle.std.specs.List.{list_any, flat_map}

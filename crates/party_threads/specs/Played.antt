@@ -62,8 +62,10 @@ IsAnswered gives d seeds v view answer n m Manual = Unit {0}
 abbrev pub HasMadeCall : Deal → ℕ → Option (ℕ × Call) → Histories → Histories → Type 0
 HasMadeCall d v answer old new = (a : ℕ) → a < length d.graph.arcs → calls_by v (history new a) ≡ take 32 (calls_by v (history old a) ++ answer_on a answer)
 
--- The party with the plan n was shown a view, with all that was shared and none of its own calls that it didn't know, and made the call that is the answer,
--- if any, unless the ledger had 32 of it; the call stands on an arc that touches it, and fits. Then it has the plan m.
+-- The party with the plan n was shown a view. The view has all that was shared, and no call of the
+-- party that it didn't know. The party made the call of the answer, if any, unless the ledger had
+-- 32 entries of it. The call fits and stands on an arc that touches the party. Then the party has
+-- the plan m.
 pub record HasPlayed (gives : MayGive) (d : Deal) (seeds : Seeds) (role : Role) (v : ℕ) (ps : List (Option PassState)) (n m : Plan) : Type 0 where
   pub view : Histories
   pub answer : Option (ℕ × Call)

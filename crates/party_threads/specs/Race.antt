@@ -74,8 +74,8 @@ ticks_of_rounds ticks (suc r) = ticks_of_rounds ticks r ++ tick_entry ticks (suc
 
 -- What a race promises of its book, whatever the order of the threads.
 pub record IsRaceBook (gives : MayGive) (c : Cast) (ticks : ℕ) (b : Histories) : Type 0 where
-  -- it came by rounds, in each of which every conforming party ends its turn with nothing due, past all that stood as the round began, and every view shows
-  -- all of that
+  -- it came by rounds: in each, every conforming party ends its turn with nothing due, past all
+  -- that stood as the round began, and every view shows all that stood then
   pub came : IsOfRounds gives c ticks b
   pub legal : IsLegalBook c.deal b
   -- each call holds digests of 32 bytes and signatures of 67 digests, whoever made it
@@ -100,7 +100,8 @@ RacesAreKept =
     (gives : MayGive) (c : Cast) (ticks : ℕ) (t : State) → IsReadyCast c → 1 ≤ ticks → IsRaced gives c ticks (rounds_for c.deal ticks) t
     → IsTypedBook t.book → IsRaceBook gives c ticks t.book
 
--- Where the calls of v in what it knows keep its rules, nothing is due by the hashkeys that it signed exactly where nothing is by those of its unlock calls.
+-- If the calls of v in what it knows keep its rules, nothing is due by the hashkeys that it signed
+-- exactly where nothing is due by those of its unlock calls.
 abbrev pub RestShowsInCalls : Type 0
 RestShowsInCalls =
     (d : Deal) (v : ℕ) (w : Wallet) (known : Histories) (signed : ℕ → Option Hashkey) → IsAccepted d → IsSound d known signed v

@@ -65,7 +65,8 @@ pub record HasActed (m : MachineState) (old : List (Option PassState)) (n : Mach
   pub rests : next_due n ≡ None
   pub elsewhere : IsSameElsewhere old m.known n.known
 
--- A party that follows a script or a strategy was shown its view and made the call that answers it, and knows what its passes have seen.
+-- A party that follows a script or a strategy was shown its view, made the call that answers it,
+-- and knows what its passes have seen.
 pub record HasPlanned (gives : MayGive) (job : Job) (v : ℕ) (n : Plan) (old : List (Option PassState)) (m : Plan) (new : List (Option PassState)) : Type 0 where
   pub shown : IsShown job.deal job.seeds v m
   pub seen : (a : ℕ) (p : PassState) → a < length new → pass_in new a ≡ Some p → p.seen ≡ history m.known a

@@ -29,9 +29,11 @@ abbrev pub moves_at : (ℕ → Histories) → List Move → ℕ → List Move
 moves_at views moves zero = moves
 moves_at views moves (suc r) = moves_left (views r) (moves_at views moves r)
 
--- One view a round, each of which begins with that of the round before, has the height at which its round began, and shows of the party's own calls just
--- those made for earlier views; and the party's calls in the book are the answers to these views. An answer is no call, or one that stands on an arc that
--- touches the party and fits. That a view shows all that stood as its round began is said of the rounds (`Race.IsRound`).
+-- One view a round. Each view begins with the view of the round before and has the height at which
+-- its round began. Of the party's own calls it shows just those made for earlier views. The party's
+-- calls in the book are the answers to these views. An answer is no call, or a call that fits and
+-- stands on an arc that touches the party. That a view shows all that stood as its round began is
+-- said of the rounds (`Race.IsRound`).
 pub record AreRoundViews (d : Deal) (ticks rounds : ℕ) (b : Histories) (v : ℕ) (views : ℕ → Histories) (answers : ℕ → Option (ℕ × Call)) : Type 0 where
   pub shown : (r : ℕ) → r < rounds → IsView d v (views r)
   pub begins : (r a : ℕ) → r < rounds → Begins (history (views r) a) (history b a)

@@ -2,8 +2,9 @@
 
 ghost use Rattle.party_threads.specs.Race.{RestShowsInCalls};
 
-/// Whether something is due for a party shows in its calls: over what it knows it is the same by the hashkeys that it signed as by those of its first unlock
-/// calls, where its calls keep its rules.
+/// Whether something is due for a party shows in its calls. If its calls keep its rules, the answer
+/// over what it knows is the same by the hashkeys that it signed and by those of its first unlock
+/// calls.
 pub fn rest_shows_in_calls()
     ensures { RestShowsInCalls }
 {}

@@ -88,7 +88,8 @@ fn look_if<R: Wait>(
     }
 }
 
-/// Makes a due call on the ledger of an arc, none of whose signatures is verified, and lets the machine know what is fresh.
+/// Makes a due call on the ledger of an arc and lets the machine know what is fresh. The call's
+/// signatures are known to be valid, so the ledger verifies none of them.
 #[tactic(auto, using(ledger_core::proofs::Known::valid_is_known_in))]
 fn call<R: Wait>(
     rt: &R,
@@ -196,7 +197,7 @@ fn most_acts(deal: &Deal) -> u32
     (deal.leaders.len() as u32 + 3) * deal.graph.arcs().len() as u32
 }
 
-/// Acts until nothing is due, for which as many acts are enough as there are calls that the party may make.
+/// Acts until nothing is due; one act for each call that the party may make is enough.
 fn act_to_rest<R: Wait>(
     rt: &R,
     ledgers: &[SharedLedger],

@@ -91,9 +91,10 @@ fn entries_in(ledgers: &[Option<Home>]) -> usize {
     all
 }
 
-/// On how many threads a round is played, by how many calls the one before it brought. After a round without a call hardly any actor does more than look, which
-/// takes far less time than to start a thread, and after few calls few do: then it is one more than these. After more calls each actor has a thread of its own,
-/// so that those whose turns take long share the cores whatever their places are.
+/// The number of threads for a round, by the number of calls in the round before. After no call,
+/// one thread plays the round: most actors only look, and to start a thread takes far longer than
+/// to look. After a few calls there is one thread more than calls. After many calls each actor has
+/// a thread of its own, so that long turns share the cores.
 fn threads_after(calls: usize) -> usize
     ensures { 0 < result }
 {
@@ -135,8 +136,9 @@ fn run_rounds<R: Threads + Wait + Sync, A: Strategies + Sync, G: Gate>(
     Ok(())
 }
 
-/// Races a job whose wallets are right: every party and the clock have a turn in each round, each on a thread of its own, on fewer threads where little was done
-/// in the round before, and on one where nothing was; strategies answer from the staff. It waits for locks and at the gate.
+/// Races a job whose wallets are right. In each round every party and the clock have a turn. Each
+/// turn has a thread of its own, or shares one after a round with few calls. Strategies answer from
+/// the staff. The race waits for locks and at the gate.
 pub fn race_fitting<R: Threads + Wait + Sync, A: Strategies + Sync, G: Gate>(
     rt: &R,
     alloc: Global,
@@ -173,7 +175,8 @@ pub fn race_fitting<R: Threads + Wait + Sync, A: Strategies + Sync, G: Gate>(
     Ok(book)
 }
 
-/// The same, or the first conforming party whose seed isn't that of the deal.
+/// Races a job with these wallets, or answers the first conforming party whose seed isn't the
+/// deal's.
 pub fn race<R: Threads + Wait + Sync, A: Strategies + Sync, G: Gate>(
     rt: &R,
     alloc: Global,

@@ -1,4 +1,4 @@
-//! Hashkeys that a party makes with a key, each of which spends it.
+//! Hashkeys that a party makes with a key. Each of them spends its key.
 
 ghost use Rattle.std.specs.Prelude.{◌≡◌, ◌<◌, ℕ, List, None, length, IfOk, OnOk, OnErr};
 ghost use Rattle.swap_digraph.specs.Deal.{path_limit};

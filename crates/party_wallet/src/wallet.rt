@@ -125,7 +125,8 @@ impl Wallet {
         Wallet::new(alloc, deal.mode, seed, me, deal.leaders.len() as u8)
     }
 
-    /// Keeps a hashkey that was signed before for a lock, whose key is spent. It takes no memory.
+    /// Keeps a hashkey that was signed before for a lock, and spends the lock's key. It takes no
+    /// memory.
     fn restore(&mut self, lock: LockId, hashkey: Shared<Hashkey>)
         requires { lock < length self.old.signed }
         ensures { self.new ≡ with_signed self.old lock hashkey }
@@ -135,7 +136,7 @@ impl Wallet {
         keep(&mut self.signed, alloc, lock, hashkey);
     }
 
-    /// A wallet with the hashkeys that were signed before, for each of whose locks the key is spent.
+    /// A wallet with the hashkeys that were signed before. The key of each of their locks is spent.
     pub fn restored(self, recorded: &[Option<Shared<Hashkey>>]) -> Result<Wallet, NoMemory>
         requires few { length recorded.now ≤ 8 }
         requires places { length self.signed ≡ length recorded.now }
@@ -152,7 +153,8 @@ impl Wallet {
         Ok(wallet)
     }
 
-    /// The wallet of the same party with just the hashkeys that were recorded, for each of whose locks the key is spent.
+    /// The wallet of the same party with just the recorded hashkeys. The key of each of their locks
+    /// is spent.
     pub fn resumed(
         &self,
         alloc: Global,
@@ -211,8 +213,8 @@ impl Wallet {
         fits_stated(deal, party, &self.seed, lock, &public)
     }
 
-    /// The least lock for which the wallet lacks what the deal states of the party, whichever party and deal it
-    /// was made for and whatever it signed.
+    /// The least lock for which the wallet lacks what the deal states of the party. The wallet may
+    /// be of any party and deal, and may have signed anything.
     pub fn wrong_for(&self, deal: &Deal, party: PartyId) -> Option<LockId>
         requires sized { IsWellSized deal.now }
         requires party { party < deal.now.graph.n }

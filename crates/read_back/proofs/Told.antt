@@ -21,7 +21,7 @@ use Rattle.read_back.proofs.MoveLimits.{IsLimited, IsSmall}
 abbrev pub sizes_at : Job → Sizes
 sizes_at job = record { arcs = length job.deal.graph.arcs; locks = length job.deal.leaders; path = path_limit_of job.deal.version }
 
--- a role whose moves are within their limits, or whose strategy is had and has a text for its name
+-- a role with moves within their limits, or with an existing strategy that has a text for its name
 abbrev pub IsToldRole : (List ℕ → Bool) → Sizes → ℕ → Role → Type 0
 IsToldRole has s n Conforming = Unit {0}
 IsToldRole has s n Manual = Unit {0}

@@ -131,7 +131,8 @@ SeededLineIsOneLine =
     (c : Cleared) (group : Group) (texts seeds : List (List ℕ)) → IsSeeded c group texts seeds
     → list_all (λ x. not (x == 10)) (seeded_line c.wishes group texts) ≡ true
 
--- A text that reads as the job with seeds is a plain job, that of the group, whatever strategies are had.
+-- A text that reads as the job with seeds is a plain job, the job of the group, whatever strategies
+-- exist.
 abbrev pub SeededTextIsPlainJob : Type 0
 SeededTextIsPlainJob =
     (c : Cleared) (group : Group) (texts seeds : List (List ℕ)) → IsSeeded c group texts seeds

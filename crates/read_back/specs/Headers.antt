@@ -16,7 +16,8 @@ use Rattle.offer_text.specs.HeaderLine.{header_line, is_make, shown_header}
 use Rattle.swap_offer.specs.Job.{job_header_of}
 use Rattle.typed_books.specs.Typed.{IsDigest}
 
--- A job that a transcript can show: one of an accepted deal whose digests have 32 bytes each, that isn't plain, with a name and an actor per party.
+-- A job that a transcript can show. Its deal is accepted, the digests of the deal have 32 bytes
+-- each, it isn't plain, and it has a name and an actor per party.
 pub record IsShowable (job : Job) : Type 0 where
   pub stated : is_make job.purpose ≡ false
   pub sized : IsWellSized job.deal
@@ -40,7 +41,7 @@ audited_job job = record {
   finish = Stop;
 }
 
--- A text that reads as the header that is shown of a job gives that job, whatever strategies are had.
+-- A text that reads as the header of a job gives that job, whatever strategies exist.
 abbrev pub HeaderIsReadBack : Type 0
 HeaderIsReadBack =
     (has : List ℕ → Bool) (job : Job) (line : ℕ) (text : List ℕ) → IsShowable job → is_utf8 text ≡ true → read text ≡ Some (shown_header job)

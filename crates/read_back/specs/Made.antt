@@ -1,4 +1,4 @@
--- What is written of a job that is made is read back as that job, with the lines that come after its header.
+-- The text of a made job is read back as that job, with the lines behind its header.
 use Rattle.std.specs.Prelude.{◌≡◌, ◌≤◌, ◌==◌, ◌+◌, not, ℕ, Bool, true, false, List, [], ◌∷◌, drop, map, All, Option, Some, Result, Ok}
 use Rattle.std.specs.Str.{is_utf8, IsUtf8}
 use Rattle.std.specs.List.{list_all}
@@ -74,7 +74,8 @@ TextHasOneStory = (ls ms : List (List ℕ)) → All IsOneLine ls → All IsOneLi
 abbrev pub TextIsItsLines : Type 0
 TextIsItsLines = (ls : List (List ℕ)) → All IsOneLine ls → lines_of (ended ls) ≡ ls
 
--- Two whole transcripts that are the same text, byte for byte, tell of one job and one book, where no header line of theirs holds a line feed.
+-- Two whole transcripts with the same text, byte for byte, tell of one job and one book. Neither
+-- header line holds a line feed.
 abbrev pub WholeTextHasOneStory : Type 0
 WholeTextHasOneStory =
     (header_of : List ℕ → Option Job) (ls ms : List (List ℕ)) (job other : Job) (b c : Histories) (w : IsWholeTranscript header_of ls job b)
@@ -110,8 +111,8 @@ MadeHeaderIsReadBack =
 abbrev pub with_job : Job → Result (List Event) Reason → Result (Job × List Event) Reason
 with_job job read = read >>= λ events. Ok (job, events)
 
--- An input is a plain job, and what is written of it is read as the job that is made, with the events of the further lines as they stood, or the first
--- reason against one of these.
+-- An input is a plain job. The text that is written of it is read as the made job, with the events
+-- of the further lines as they stood, or with the first reason against one of these.
 pub record IsReadBack (has : List ℕ → Bool) (purpose : Purpose) (input output : List ℕ) : Type 0 where
   pub plain : Job
   pub is_plain : job_of has Make input ≡ Ok (plain, [])
@@ -135,7 +136,8 @@ GeneratedTextIsReadBack =
     → HasEventsFor purpose events
     → job_of has purpose (generated_text seed parties events) ≡ Ok (told_job purpose (plain_job seed parties), generated_events seed parties events)
 
--- And its run, with the fair finish that the job asks for, is the one that the number's summary tells of, whatever strategies would answer: none is asked.
+-- Its run, with the fair finish that the job asks for, is the one of which the number's summary
+-- tells. No strategy is asked.
 abbrev pub GeneratedRunIsSummed : Type 0
 GeneratedRunIsSummed =
     (answers : Answers) (seed parties events : ℕ)

@@ -30,7 +30,8 @@ pub fn extends(party: PartyId, key: &Hashkey, call: Option<&Call>) -> bool
     }
 }
 
-/// Whether the call is an unlock with a hashkey that this one extends by the party, and whose path lacks the party.
+/// Whether the call is an unlock with an inner hashkey: this one extends it by the party, and its
+/// path lacks the party.
 pub fn extends_without(party: PartyId, key: &Hashkey, call: Option<&Call>) -> bool
     ensures { result ≡ extends_without party key.now (option_copied call.entry) }
 {

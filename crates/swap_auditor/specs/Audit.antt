@@ -1,4 +1,5 @@
--- What an audit answers: the report of a book whose every reply is the table's, or the first that isn't.
+-- What an audit answers: the report of a book if all its replies are the table's, or the first
+-- reply that isn't.
 use Rattle.std.specs.Prelude.{◌≡◌, ◌<◌, ◌+◌, ◌++◌, ◌∷◌, [], ℕ, Bool, List, length, Result, Ok, Err, if◌then◌else◌}
 use Rattle.swap_base.specs.Fault.{◌>>=◌, steps}
 use Rattle.swap_digraph.specs.declared.deal.Deal.{Deal}
@@ -38,7 +39,8 @@ abbrev pub replay_from : Deal → ℕ → Histories → Result (Unit {0}) BadRep
 replay_from d a [] = Ok tt
 replay_from d a (h ∷ b) = replay d a h >>= λ _. replay_from d (a + 1) b
 
--- the report of a book whose every stated reply is the replayed one, or the first, in order of arc and entry, that isn't
+-- the report of a book if the replay gives all its stated replies, or else the first stated reply,
+-- in order of arc and entry, that the replay doesn't give
 abbrev pub audited : Deal → List Bool → Histories → Result Report BadReply
 audited d conforming b = replay_from d 0 b >>= λ _. Ok (report_of d conforming b)
 

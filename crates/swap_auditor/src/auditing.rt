@@ -44,8 +44,8 @@ pub fn replay_book(alloc: Global, deal: &Deal, book: &Book) -> Result<(), AuditF
     replay_all(alloc, &held, book)
 }
 
-/// The report of a book whose every stated reply is that of the replayed ledgers, or the first, in order of arc and entry, that isn't. Each signature
-/// is verified once.
+/// The report of a book if the replayed ledgers give all its stated replies, or else the first
+/// stated reply, in order of arc and entry, that they don't give. Each signature is verified once.
 pub fn audit_book(
     alloc: Global,
     deal: &Deal,

@@ -126,7 +126,8 @@ impl Found {
         Ok(())
     }
 
-    /// Keeps the hashkey of a call where the reply tells that its signatures are valid, of which so many were known.
+    /// Keeps the hashkey of a call if the reply tells that its signatures are valid. The last
+    /// `known` of them were known to be.
     pub(crate) fn note(&mut self, call: &Call, reply: Reply, known: usize) -> Result<(), NoMemory>
         requires { IsTold self.old call.now reply }
         ensures { self.new ≡ self.old }

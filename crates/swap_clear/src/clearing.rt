@@ -35,9 +35,10 @@ fn cleared(alloc: Global, n: u8, arcs: &[Proposed]) -> Result<Clearing, ClearFau
     Ok(Clearing { left_out, groups })
 }
 
-/// What of the proposals can be swapped: the arcs that lie on no cycle are left out, each with the set that shows it, and the parties that reach each
-/// other make groups, each with leaders, a cycle for each leader, and a bound. A fault of the least arc that has one is the reason against them, or
-/// else the least group with more than 8 leaders.
+/// What of the proposals can be swapped. Arcs that lie on no cycle are left out, each with a set
+/// that shows it. Parties that reach each other make groups, and each group has leaders, a cycle
+/// for each leader, and a bound. The proposals are refused for the fault of the least faulty arc,
+/// or else for the least group with more than 8 leaders.
 pub fn clear(alloc: Global, n: u8, arcs: &[Proposed]) -> Result<Clearing, ClearFault>
     requires parties { (2 ≤ n) × (n ≤ 32) }
     requires arcs { (1 ≤ length arcs.now) × (length arcs.now ≤ 128) }

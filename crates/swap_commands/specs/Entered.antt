@@ -36,7 +36,8 @@ pub record HasEntered (has : List ℕ → Bool) (left left' : Option (List ℕ))
   pub within : length input ≤ limit
   pub entered : IsEntered has input job
 
--- The race wasn't entered: why the reading stopped, whatever its ticks, and whatever was to be written of it.
+-- The race wasn't entered, and this is why the reading stopped. The reason depends neither on the
+-- race's ticks nor on the text that was asked for.
 pub record HasNotEntered (has : List ℕ → Bool) (left left' : Option (List ℕ)) (n m : ℕ) (fault : InputFault Refusal) : Type 0 where
   pub now : At
   pub stopped : (ticks : ℕ) (transcript : Bool)

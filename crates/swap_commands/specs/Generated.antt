@@ -30,7 +30,8 @@ summary_output r = record {
 abbrev pub generated_output : Request → Written
 generated_output r = if r.summary then summary_output r else text_output r
 
--- What a summary promises: it is that of the book to which the number's job was run, which keeps what every run promises, and in which every ledger has ended.
+-- What a summary promises. It is the summary of the book to which the number's job was run. The
+-- book keeps what every run promises, and every ledger in it has ended.
 pub record IsSummary (job : Job) (b : Histories) (r : Request) (output : Written) : Type 0 where
   pub shown : output ≡ summary_output r
   pub promised : IsPromised job b (report_for job b)

@@ -59,7 +59,8 @@ abbrev pub unless_lacking : ManyJob → Option Overdrawn → List (List Place) �
 unless_lacking many None places = Ok places
 unless_lacking many (Some l) places = Err (overdrawn_by many l)
 
--- the places of the arcs where each account has the units that are set aside from it, or what is said of accounts
+-- the places of the arcs if each account has the units that are set aside from it, or else the
+-- refusal that names accounts
 unfoldable pub opened_places : ManyJob → Result (List (List Place)) Refusal
 opened_places many = places_of many >>= λ places. unless_lacking many (overdrawn (setup_by (λ s k. None) many places)) places
 

@@ -92,7 +92,8 @@ purpose_of (Race ticks transcript) = purposes.Race
 purpose_of Check = purposes.Check
 purpose_of Make = purposes.Make
 
--- What an input doesn't decide: what strategies answer in a run, the book that a race comes to, and what the strategies of each of several swaps answer.
+-- What an input doesn't decide: the answers of strategies in a run, the book of a race, and the
+-- answers of the strategies of several swaps.
 pub record Chance : Type 0 where
   pub answers : Answers
   pub book : Histories
@@ -140,7 +141,8 @@ abbrev pub names_told : Result Written Refusal → List (List ℕ)
 names_told (Ok output) = []
 names_told (Err refusal) = refusal.names
 
--- what a command writes for an input, where there are strategies of these names and chance decides so, or the first reason why the input is refused
+-- what a command writes for an input, or the first reason why the input is refused; `has` tells
+-- which strategies exist, and `chance` has what the input doesn't decide
 unfoldable pub output_by : (List ℕ → Bool) → Chance → Command → List ℕ → Result Written Reason
 output_by has chance (OfJob command) input = output_for chance command (filled_lines 1 (lines_of input)) (job_of has (purpose_of command) input)
 output_by has chance Audit input = by_reason (audit_of input)
@@ -151,12 +153,15 @@ output_by has chance Many input = by_reason (many_output has chance.many input)
 abbrev pub no_chance : Chance
 no_chance = by_answers (λ k. None)
 
--- the same with this chance: a reason doesn't depend on chance, nor does a text where nobody is asked and nothing is raced
+-- what a command writes if strategies never call and a race has no ledger. A reason to refuse is
+-- the same whatever chance decides. So is a text for which no strategy is asked and nothing is
+-- raced.
 abbrev pub output_of : (List ℕ → Bool) → Command → List ℕ → Result Written Reason
 output_of has command input = output_by has no_chance command input
 
--- the names that the reason may speak of: those in the input's header, none where it has no header within its limits; of an audit and of several swaps those
--- of the refusal; none of wishes, since no reason against them speaks of a party by its number
+-- the names of parties that the reason may mention. For a job they are those of the header, and
+-- none if the header isn't within its limits. For an audit and for several swaps they come with the
+-- refusal. For wishes there are none, since no reason there mentions a party by its number.
 unfoldable pub names_of : (List ℕ → Bool) → Command → List ℕ → List (List ℕ)
 names_of has (OfJob command) input = names_of_offer has (purpose_of command) input
 names_of has Audit input = names_told (audit_of input)

@@ -74,7 +74,7 @@ pub record IsRun (gives : MayGive) (a : Answers) (transcript : Bool) (read : Res
 pub record IsRace (gives : MayGive) (b : Histories) (ticks : ℕ) (transcript : Bool) (read : Result (Job × List Event) Reason) (output : Written) : Type 0 where
   pub job : Job
   pub is_read : read ≡ Ok (job, [])
-  -- the book is what a race of so many ticks a round makes, whatever the order of its threads
+  -- the book is what a race with `ticks` ticks a round makes, whatever the order of its threads
   pub raced : IsRaceBook gives (cast_of job) ticks b
   pub shown : output ≡ reported transcript job b
   pub promised : IsPromised job b (report_for job b)

@@ -21,7 +21,7 @@ use Rattle.swap_commands.specs.Output.{AreGiven, Chance, cast_by, finished, plai
 use Rattle.command_input.specs.Written.{Written}
 use Rattle.swap_commands.specs.Words.{JobCommand, Check, Run, Race, Make}
 
--- what f makes of x along the events of lines, where so many came before
+-- what f makes of x along the events of lines; `n` events came before
 unfoldable pub replayed : {A : Type 0} → (A → Event → A) → Job → ℕ → A → List (ℕ × List ℕ) → Result A Reason
 replayed f job count x lines = events_of job count lines >>= λ events. Ok (fold f x events)
 

@@ -24,7 +24,8 @@ pub record HasRead (has : List ℕ → Bool) (chance : Chance) (command : Comman
   pub within : length input ≤ limit
   pub gives : output_by has chance command input ≡ output
 
--- The input was read and has an output by what chance decided, which is promised, and P tells what was written of its text.
+-- The input was read. It has an output by what chance decided, and the output is promised. P tells
+-- what was written of its text.
 pub record HasOutput (has : List ℕ → Bool) (gives : MayGive) (P : Written → Type 0) (command : Command) (left left' : Option (List ℕ)) : Type 0 where
   pub chance : Chance
   pub output : Written

@@ -51,7 +51,7 @@ fn check_text(alloc: Global, deal: &Deal, need: u32) -> Result<ByteText, NoMemor
     Ok(ByteText::new(out))
 }
 
-/// The job of an input whose lines are all examined, and the least bound that it may have.
+/// The job of an input, and the least bound that it may have. All lines of the input are examined.
 fn examine<S: Source, A: Strategies>(
     alloc: Global,
     staff: &A,

@@ -42,7 +42,7 @@ struct Played {
     world: ManyWorld,
 }
 
-/// What is said against an input that ends before its events.
+/// The refusal of an input that ends before its events.
 fn cut_short(alloc: Global) -> InputFault<Refusal>
     ensures { result ≡ InputFault.Refused (record { reason = Reason.CutShort; names = [] }) }
 {
@@ -107,7 +107,7 @@ fn account_name(names: &[Listed<ByteText>], chain: u8, account: u8) -> Result<By
     names[chain as usize].as_slice()[account as usize].copy()
 }
 
-/// What is said against chains one of whose accounts lacks units.
+/// The refusal of chains on which an account lacks units.
 fn overdrawn(alloc: Global, many: &ManyJob, lack: Overdrawn) -> HeaderFault
     requires chain { lack.chain < length many.now.names }
     requires account { lack.account < length (slice_index_or many.now.names lack.chain []) }
@@ -244,7 +244,8 @@ fn pass_over<S: Source>(
     Ok(())
 }
 
-/// What is said against an input that this refusal is said of, once no line of an event is refused.
+/// Reads on to the end of the input and answers why it is refused: by the first faulty line of an
+/// event, or else by `refusal`, which speaks of the swaps before any event.
 fn refuse<S: Source>(
     alloc: Global,
     many: &ManyJob,

@@ -49,7 +49,7 @@ fn read_job<S: Source, A: Strategies>(
     ensures scripts { IfOk result (λ e. HaveScripts e.0) }
     ensures fit { IfOk result (λ e. HaveWallets e.0) }
     ensures made { IfOk result (λ e. e.1.items ≡ wallets_of e.0.deal e.0.conforming e.0.seeds) }
-    // Whatever its ticks, and whatever is to be written of it.
+    // The reason depends neither on the race's ticks nor on the text that is asked for.
     ensures stops { (ticks : ℕ) (transcript : Bool) → IfErr result (λ e.
         Stops (IsAgainst (A.holds staff.now) (OfJob (Race ticks transcript))) (desk (S.left source.old) (S.faults source.old) fresh)
         (desk (S.left source.new) (S.faults source.new) input.new) e) }
@@ -61,7 +61,7 @@ fn read_job<S: Source, A: Strategies>(
     }
 }
 
-/// The same, where the whole input is read before it is refused.
+/// Reads the job of a race, and reads the whole input before it answers why the input is refused.
 fn enter_input<S: Source, A: Strategies>(
     alloc: Global,
     staff: &A,

@@ -15,8 +15,8 @@ touching g p = filter (λ a. (p == (ends g a).from) || (p == (ends g a).to)) (ar
 abbrev pub picked : List ℕ → ℕ → ℕ
 picked xs w = slice_index xs (w % length xs)
 
--- The event of the words from place k on, and the place after them. The first word says what happens, the second where or to whom, and a third which arc a
--- party looks at.
+-- The event of the words from place k on, and the place after them. The first word chooses the kind
+-- of event, the second its arc or party, and a third the arc at which a party looks.
 unfoldable pub event_from : (seed : ℕ) → Graph → (k : ℕ) → Event × ℕ
 event_from seed g k =
     let kind = word seed k % 8 in

@@ -154,7 +154,7 @@ impl Generator {
     }
 }
 
-/// The job of a number and so many parties, with so many of its events.
+/// The job of a number and a count of parties, with its first events.
 pub fn generate(
     alloc: Global,
     seed: u32,

@@ -1,8 +1,9 @@
-//! Jobs that nobody writes by hand: `make` fills in what the parties' seeds give a deal, and a `Generator` gives a whole job
-//! and its events from a number, with the wallets of its parties for who runs it.
+//! Jobs that nobody writes by hand: `make` fills in what the parties' seeds give a deal. A
+//! `Generator` gives a whole job and its events from a number, and the wallets of its parties to a
+//! caller that runs it.
 //!
-//! Read `specs/Made.antt` first, which says what seeds give, then `specs/Drawn.antt` and `specs/Events.antt`, which say what a
-//! number gives, and `specs/Word.antt`, which says what is drawn.
+//! Read `specs/Made.antt` first: what seeds give. Then read `specs/Drawn.antt` and
+//! `specs/Events.antt`: what a number gives. `specs/Word.antt` says what is drawn.
 #![tactic(auto)]
 
 mod arcs;

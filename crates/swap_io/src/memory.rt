@@ -1,4 +1,4 @@
-//! A source and a sink in memory, whose calls fail where they are told to.
+//! A source and a sink in memory. Their calls fail where they are told to.
 
 ghost use Rattle.std.specs.Prelude.{◌≡◌, ◌<◌, ◌≤◌, ◌↔◌, ◌⊎◌, [], length, drop, Contains, Some, IfOk, IsOk, IsErr, OnOk, vec_capacity};
 ghost use Rattle.std.specs.Io.{ReadsAtMost, WritesAtMost};

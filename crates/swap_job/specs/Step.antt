@@ -28,7 +28,8 @@ pub record CanCall (d : Deal) (conforming : List Bool) (seeds : Seeds) (p : ℕ)
   pub fits : IsFitting d seeds mv
   pub adjacent : IsTrue (is_near d p (move_arc mv))
 
--- The party, which conforms, may crash within the disk call after k of those of its act, of which there are four at most.
+-- The conforming party may crash within disk call k of its act, counted from 0; an act has four
+-- disk calls at most.
 pub record CanCrash (d : Deal) (conforming : List Bool) (p k : ℕ) : Type 0 where
   pub known : p < d.graph.n
   pub conforms : slice_index_or conforming p false ≡ true

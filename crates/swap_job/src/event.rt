@@ -14,7 +14,9 @@ pub enum Event {
     Act(PartyId),
     /// A party that doesn't conform makes a move.
     Call(PartyId, Shared<Move>),
-    /// A conforming party begins its act, is stopped within the disk call after so many of them, and restarts with what a crash leaves of its disk. Bytes that
-    /// aren't synced then hold their old values for 0, their new ones for 1, and else that value.
+    /// A conforming party begins its act. Its machine stops within the disk call with this number,
+    /// counted from 0. The party then restarts with what a crash leaves of its disk. The last
+    /// number says what bytes hold that weren't synced: 0 keeps the old values, 1 the new ones, and
+    /// any other number is the value itself.
     Crash(PartyId, u8, u8),
 }

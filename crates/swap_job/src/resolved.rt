@@ -166,8 +166,8 @@ pub fn resolve_with(
     }
 }
 
-/// The call of a move with its arc, over what is known. Nothing comes for a wait, where the opening that the move names isn't
-/// known, or where a crafted path would be too long.
+/// The call of a move with its arc, over what is known. There is none for a wait, for a move that
+/// names an unknown opening, and for a crafted path that would be too long.
 pub fn resolve(
     alloc: Global,
     deal: &Deal,

@@ -15,7 +15,7 @@ use Rattle.swap_commands.specs.Words.{is_race, Command, OfJob, Run}
 use Rattle.swap_commands.specs.Promised.{AsPromised}
 use Rattle.swap_main.specs.Known.{by_rule}
 
--- where nobody follows a strategy, what is written of a run is the same whatever chance decides
+-- if nobody follows a strategy, the text of a run is the same whatever chance decides
 abbrev pub SameWithoutStrategies : Type 0
 SameWithoutStrategies =
     (has : List ℕ → Bool) (a b : Chance) (transcript : Bool) (input : List ℕ) (job : Job) (events : List Event)

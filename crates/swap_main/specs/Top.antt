@@ -73,7 +73,8 @@ pub record AsksFairRun (has : List ℕ → Bool) (words : List (List ℕ)) (left
   pub finish : job.finish ≡ Fair
   pub conforming : AllAreConforming job.deal job.conforming
 
--- The words ask for a race of which two rounds' ticks fit in delta, and the input is an offer of parties that all conform.
+-- The words ask for a race, two rounds' ticks of it fit in delta, and the input is an offer of
+-- conforming parties alone.
 pub record AsksFairRace (has : List ℕ → Bool) (words : List (List ℕ)) (left : Option (List ℕ)) : Type 0 where
   pub ticks : ℕ
   pub transcript : Bool

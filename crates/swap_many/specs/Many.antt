@@ -77,7 +77,8 @@ abbrev pub posted : Chains → Option Post → Chains
 posted h None = h
 posted h (Some x) = put h x.chain (entered (h x.chain) x.entry)
 
--- what swap s comes to by an event of its own, whose call, if any, is made; the chains are then h
+-- the state of swap s after an event of its own; the event's call, if any, is made, and the chains
+-- are then h
 abbrev pub heard : Setup → Run → Chains → ℕ → Event → Option Call → State
 heard m r h s e None = before_call (m.cast s) (swap_in m r s) e
 heard m r h s e (Some x) = told (m.cast s) (swap_in m r s) e x (projection s x.arc (h (chain_of m s x.arc)))

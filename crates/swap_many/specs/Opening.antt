@@ -51,7 +51,7 @@ pays_in d ps i x a = pays_by d (slice_index_or ps a nowhere) i x a
 abbrev pub setup_of_worlds : List WorldState → List (List Place) → List (List ℕ) → Setup
 setup_of_worlds ws places chains = record { swaps = length ws; cast = λ s. cast_at (nth ws s); places = places; chains = chains }
 
--- chain i, from whose accounts is set aside what its slots need
+-- chain i after the units that its slots need were set aside from its accounts
 abbrev pub new_chain : Setup → ℕ → ChainState
 new_chain m i = record {
   clock = record { height = 0; ticks = 0 };

@@ -33,7 +33,7 @@ pub record IsSound (m : Setup) (h : Chains) : Type 0 where
 abbrev pub IsTimed : Kept → Type 0
 IsTimed z = (i : ℕ) → (z.clocks i).ticks ≤ (z.clocks i).height
 
--- What is kept is that of a run, all of whose chains and swaps are sound.
+-- What is kept is what a run keeps, and all its chains and swaps are sound.
 pub record Keeps (m : Setup) (r : Run) (z : Kept) : Type 0 where
   pub follows : Follows m r z
   pub good : AreGood m z

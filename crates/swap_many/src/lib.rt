@@ -67,7 +67,8 @@ pub fn no_lack_is_covered()
     ensures { NoLackIsCovered }
 {}
 
-/// Each swap's conforming parties are as safe as in a run of its own, and where nothing is found of a swap whose parties all conform, all is transferred.
+/// Each swap's conforming parties are as safe as in a run of its own. If all parties of a swap
+/// conform and nothing is found of it, all is transferred.
 pub fn every_swap_is_safe()
     ensures safe { EverySwapIsSafe }
     ensures transferred { EverySwapIsTransferred }

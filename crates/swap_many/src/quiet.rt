@@ -11,7 +11,7 @@ use crate::chain::Chain;
 use swap_base::{ArcId, Listed};
 use swap_world::World;
 
-/// For how many rounds, of so many, a height stays at most the horizon.
+/// Up to `most` rounds, each with one tick, for which the height stays at or below the horizon.
 fn rounds_up_to(height: u32, horizon: u64, most: u64) -> u64
     ensures few { result ≤ most }
     ensures low { 0 < result → height + result ≤ horizon }
@@ -32,7 +32,7 @@ fn more(a: u64, b: u64) -> u64
     if a < b { b } else { a }
 }
 
-/// For how many rounds, of so many, a chain stays at the horizon or below it.
+/// Up to `most` rounds for which some chain stays at or below the horizon.
 pub(crate) fn rounds_below(chains: &[Chain], horizon: u64, most: u64) -> u64
     ensures few { result ≤ most }
     ensures low { 0 < result → (q : ℕ) × (q < length chains.now) × ((slice_index_or chains.now q no_chain).clock.height + result ≤ horizon) }
@@ -44,7 +44,7 @@ pub(crate) fn rounds_below(chains: &[Chain], horizon: u64, most: u64) -> u64
     rounds
 }
 
-/// For how many rounds, of so many, nobody makes a call.
+/// Up to `most` rounds in which nobody makes a call.
 pub(crate) fn rounds_still(worlds: &[World], near: &[Listed<Listed<ArcId>>], most: u64) -> u64
     requires near { AreNear near.now worlds.now }
     requires go_on { (s : ℕ) → s < length worlds.now → (nth worlds.now s).stopped ≡ false }

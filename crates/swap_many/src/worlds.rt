@@ -410,8 +410,8 @@ impl Worlds {
         arcs_by_swap(*self.worlds.allocator(), &self.worlds)
     }
 
-    /// For how many rounds, of at most so many, nobody of any swap makes a call, so that ticks alone lead to where they lead once a further round
-    /// follows.
+    /// At most `most` rounds in which nobody of any swap makes a call, so that ticks alone lead to
+    /// the same state once one more round follows.
     pub(crate) fn quiet_rounds(
         &self,
         near: &[Listed<Listed<ArcId>>],

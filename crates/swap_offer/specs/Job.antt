@@ -29,7 +29,7 @@ accepted_of h = do
   u ← provided (job_with h g)
   Ok (job_with h g)
 
--- the job of a header line, whose strategies are those that are had
+-- the job of a header line; `has` tells which strategies exist
 unfoldable pub job_header_of : (List ℕ → Bool) → Purpose → ℕ → List ℕ → Result Job Reason
 job_header_of has purpose line text = do
   h ← header_of has purpose line text

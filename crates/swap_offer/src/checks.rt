@@ -217,7 +217,7 @@ fn check_times(
     }
 }
 
-/// The least bound of a header whose digraph, leaders and times pass their checks, which come in order.
+/// The least bound of a header. Its digraph, leaders and times pass their checks, in this order.
 #[tactic(auto, using(crate::proofs::Few::few_names, crate::proofs::Few::few_arcs), unfolding(crate::specs::Checks::checked))]
 pub(crate) fn check_header(
     alloc: Global,

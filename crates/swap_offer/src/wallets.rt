@@ -153,7 +153,8 @@ fn wallet_for(alloc: Global, job: &Job, p: PartyId) -> Result<Option<Wallet>, Of
     }
 }
 
-/// The wallet of each party that conforms and has a seed, or the reason against the first that isn't that of the deal.
+/// The wallet of each conforming party with a seed, or the refusal of the first seed that isn't the
+/// deal's.
 #[tactic(auto, unfolding(crate::specs::Wallets::fitting))]
 fn wallets_of(alloc: Global, job: &Job) -> Result<Vec<Option<Wallet>>, OfferFault>
     requires whole { IsWholeJob job.now }

@@ -28,7 +28,7 @@ pub record IsNothing (status : ℕ) (old new : List ℕ) (said : Said) : Type 0 
 
 -- ---- what is due
 
--- What is asked: for the party of that name with that seed, by a text whose lines are counted from 1.
+-- What is asked for the party with this name and seed, by a text with lines counted from 1.
 pub record Asked : Type 0 where
   pub name : List ℕ
   pub seed : List ℕ

@@ -1,4 +1,4 @@
--- The rules of conduct, as tests of one finished book.
+-- The rules of conduct, as tests of one finished book (Herlihy 2018, section 4.2).
 use Rattle.std.specs.Prelude.{ℕ, Bool, true, false, not, ◌&&◌, ◌||◌, ◌==◌, IsTrue, List, [], ◌∷◌, count_by, Option, Some, None, is_some, if◌then◌else◌}
 use Rattle.std.specs.List.{list_any, list_all}
 use Rattle.std.specs.Str.{bytes_eq}
@@ -44,7 +44,7 @@ abbrev pub extends : ℕ → Hashkey → Option Call → Bool
 extends v key (Some (Unlock inner)) = extends_with v inner key.path key.sigs key
 extends v key _ = false
 
--- the call is an unlock with a hashkey that this one extends by v, and whose path lacks v
+-- the call is an unlock with an inner hashkey: this one extends it by v, and its path lacks v
 abbrev pub extends_without : ℕ → Hashkey → Option Call → Bool
 extends_without v key (Some (Unlock inner)) = not (is_among v inner.path) && extends_with v inner key.path key.sigs key
 extends_without v key _ = false

@@ -1,4 +1,5 @@
--- What is due for a party, over what it knows: one list of entries per arc.
+-- What is due for a party (Herlihy 2018, section 4.2), over what it knows: one list of entries per
+-- arc.
 use Rattle.std.specs.Prelude.{ℕ, Bool, true, false, not, ◌&&◌, ◌||◌, ◌==◌, List, [], ◌∷◌, ◌++◌, Option, Some, None, is_some, is_none, if◌then◌else◌}
 use Rattle.std.specs.List.{list_any, flat_map}
 use Rattle.swap_base.specs.Lists.{or_else}
@@ -48,7 +49,7 @@ has_called v test h = list_any (λ e. test (call_by v e)) h
 unfoldable pub is_due_publish : Deal → ℕ → Histories → ℕ → Bool
 is_due_publish d v k a = (leads_one d v || is_ready d k v) && not (has_called v is_publish (history k a))
 
--- the hashkey that opened lock i on the least-numbered arc that leaves v whose opening path lacks v
+-- the hashkey that opened lock i by a path without v, on the least-numbered such arc that leaves v
 unfoldable pub seen_key : Deal → ℕ → Histories → ℕ → Option Hashkey
 seen_key d v k i = first_seen_key d k v i
 

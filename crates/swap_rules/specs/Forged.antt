@@ -21,7 +21,8 @@ use Rattle.swap_rules.specs.Conduct.{is_first_key, carries}
 abbrev pub has_made : Histories → ℕ → Hashkey → Bool
 has_made b v key = list_any (λ e. is_first_key (key_in key.lock (call_by v e)) key) (flat_map (λ h. h) b)
 
--- whether a suffix of the hashkey, whose path and signatures from some place on are these, begins with v, and no unlock call of v carries it
+-- whether a suffix of the hashkey begins with v although no unlock call of v carries that suffix;
+-- the path and the signatures are the hashkey's from some place on
 abbrev pub has_forged_suffix : Histories → ℕ → Hashkey → List ℕ → List Sig → Bool
 has_forged_suffix b v key (u ∷ p) (s ∷ sigs) =
     ((u == v) && not (has_made b v (record { lock = key.lock; secret = key.secret; path = u ∷ p; sigs = s ∷ sigs })))

@@ -1,4 +1,5 @@
--- Lateness, as a test of one finished book: from which height an action was to be done within delta, and which calls do it.
+-- Lateness, as a test of one finished book (Herlihy 2018, section 4.2): the height from which an
+-- action was to be done within delta, and the calls that do it.
 use Rattle.std.specs.Prelude.{ℕ, ◌+◌, max, Bool, true, false, not, ◌&&◌, ◌||◌, ◌==◌, nat_lt, nat_le, List, Option, Some, None, is_some, if◌then◌else◌}
 use Rattle.std.specs.List.{list_any}
 use Rattle.swap_base.specs.Lists.{greatest}
@@ -19,7 +20,7 @@ use Rattle.swap_rules.specs.declared.finding.Rule.TheVariants.{Publish as ToPubl
 use Rattle.swap_rules.specs.Party.{is_correct, is_ready, ready_height, is_triggered, least_expiry, leads_one, call_by, first_key, first_seen_key, opens_without}
 use Rattle.swap_rules.specs.Conduct.{is_first_key, extends}
 
--- the height at which a lock was opened, 0 where it wasn't
+-- the height at which a lock was opened, or 0 if it wasn't
 abbrev pub height_of_opening : Option Opening → ℕ
 height_of_opening None = 0
 height_of_opening (Some o) = o.height
@@ -43,7 +44,8 @@ height_if test n = if test then n else 0
 abbrev pub greatest_used : Deal → Histories → ℕ → (Entry → Bool) → ℕ
 greatest_used d b v test = greatest (λ a. greatest (λ e. height_if (test e) e.height) (history b a)) (leaving d.graph v)
 
--- the base height: the greatest height at which the used hashkey was accepted on an arc that leaves v; with timelocks, at which lock i was opened there
+-- the base height: the greatest height at which the used hashkey was accepted on an arc that leaves
+-- v; with timelocks, the greatest height at which lock i was opened there
 abbrev pub base_of : Mode → Deal → Histories → ℕ → ℕ → Option Hashkey → ℕ
 base_of Timelocks d b v i key = greatest (λ a. height_of_opening (opened (history b a) i)) (leaving d.graph v)
 base_of Hashkeys d b v i key = greatest_used d b v (is_used d b v i key)

@@ -60,7 +60,7 @@ pub record IsSafe (d : Deal) (b : Histories) (v : ℕ) : Type 0 where
 abbrev pub EveryBookIsSafe : Type 0
 EveryBookIsSafe = (d : Deal) (b : Histories) (v : ℕ) → IsAccepted d → IsLegalBook d b → IsEnded d b → IsConducted d b v → IsOnTime d b v → IsSafe d b v
 
--- What a party that conforms, and of which nothing is found, keeps.
+-- What a conforming party keeps if nothing is found of it.
 pub record Conforms (d : Deal) (b : Histories) (v : ℕ) : Type 0 where
   pub conducted : IsConducted d b v
   pub on_time : IsOnTime d b v
@@ -159,7 +159,8 @@ RulesLeaveRoom =
     (d : Deal) (b : Histories) (signed : ℕ → Option Hashkey) (v a : ℕ) → IsAccepted d → IsLegalBook d b → KeepsRules d b signed v
     → is_full (history b a) v ≡ false
 
--- in rounds each action of v that is enabled in the last book is done within a round's ticks and the slack, or its ledger isn't past that
+-- in rounds, each action of v that is enabled in the last book is done within a round's ticks and
+-- the slack, or its ledger hasn't passed that height
 abbrev pub RoundsAreInTime : Type 0
 RoundsAreInTime =
     (d : Deal) (v : ℕ) (w : Wallet) (ticks slack rounds : ℕ) (books : ℕ → Histories) → IsAccepted d → 1 ≤ ticks

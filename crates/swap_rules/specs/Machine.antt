@@ -45,7 +45,8 @@ abbrev pub IsOwnKey : Mode → ℕ → Hashkey → Type 0
 IsOwnKey Timelocks v key = Unit {0}
 IsOwnKey Hashkeys v key = IsTrue (is_alone v key.path)
 
--- a hashkey put on another: with hashkeys it extends that one by v, whose path lacks v, with timelocks it has that one's secret
+-- a hashkey made from another. With hashkeys it extends the other by v, and the other's path lacks
+-- v. With timelocks it has the other's secret.
 abbrev pub IsOnto : Mode → ℕ → Hashkey → Hashkey → Type 0
 IsOnto Timelocks v inner key = IsTrue (bytes_eq inner.secret key.secret)
 IsOnto Hashkeys v inner key = IsTrue (extends_without v key (Some (Unlock inner)))
@@ -55,7 +56,8 @@ pub record IsGoodKey (d : Deal) (v i : ℕ) (key : Hashkey) : Type 0 where
   pub lock : key.lock ≡ i
   pub valid : (a : ℕ) → IsIn a (entering d.graph v) → is_valid d a (hashlock_of d key.lock) key ≡ true
 
--- A wallet of v: its own hashkeys for the locks that v leads, and hashkeys put on valid ones whose path lacks v.
+-- A wallet of v: its own hashkeys for the locks that v leads, and hashkeys made from valid ones
+-- with a path without v.
 pub record IsWallet (d : Deal) (v : ℕ) (w : Wallet) : Type 0 where
   pub first : (i : ℕ) → i < length d.leaders → leads d v i ≡ true → IsGoodKey d v i (w.first i) × IsOwnKey d.mode v (w.first i)
   pub onto : (c : ℕ) (inner : Hashkey) → IsIn c (leaving d.graph v) → inner.lock < length d.leaders

@@ -1,4 +1,4 @@
--- How a book ended for a party.
+-- How a book ended for a party (Herlihy 2018, section 3).
 use Rattle.std.specs.Prelude.{ℕ, ◌<◌, Bool, true, false, ◌&&◌, ◌==◌, nat_lt, length, count_by, Option, Some, None, if◌then◌else◌}
 use Rattle.time_bounds.specs.Times as times
 use Rattle.swap_digraph.specs.Graph.{leaving, entering}

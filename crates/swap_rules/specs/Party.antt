@@ -83,6 +83,6 @@ abbrev pub key_without : ℕ → Option Opening → Option Hashkey
 key_without v None = None
 key_without v (Some o) = if is_among v o.key.path then None else Some o.key
 
--- the hashkey that opened lock i on the least-numbered arc that leaves v whose opening path lacks v
+-- the hashkey that opened lock i by a path without v, on the least-numbered such arc that leaves v
 abbrev pub first_seen_key : Deal → Histories → ℕ → ℕ → Option Hashkey
 first_seen_key d b v i = first_of (λ a. key_without v (opened (history b a) i)) (leaving d.graph v)

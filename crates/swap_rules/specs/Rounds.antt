@@ -17,8 +17,8 @@ use Rattle.swap_rules.specs.Machine.{Begins, Knows}
 abbrev pub IsNear : Deal → ℕ → ℕ → Type 0
 IsNear d v a = IsIn a (leaving d.graph v) ⊎ IsIn a (entering d.graph v)
 
--- A turn of v in a round that begins with the book old and ends with the book new: it ends with a knowledge over which nothing is due, and of which
--- nothing is above the height most.
+-- A turn of v in a round from the book `old` to the book `new`. At its end v has a knowledge over
+-- which nothing is due, with no entry above the height `most`.
 pub record IsTurn (d : Deal) (v : ℕ) (w : Wallet) (old new : Histories) (most : ℕ) : Type 0 where
   pub known : Histories
   pub signed : ℕ → Option Hashkey
@@ -27,7 +27,8 @@ pub record IsTurn (d : Deal) (v : ℕ) (w : Wallet) (old new : Histories) (most 
   pub done : due d v w signed known ≡ []
   pub top : (a : ℕ) → height (history known a) ≤ most
 
--- Rounds of so many ticks each, in which v acts at most slack above the height at which a round began.
+-- Rounds of `ticks` ticks each. In each of them v acts at most `slack` above the height at which
+-- the round began.
 pub record IsRounds (d : Deal) (v : ℕ) (w : Wallet) (ticks slack rounds : ℕ) (books : ℕ → Histories) : Type 0 where
   pub legal : (r : ℕ) → r ≤ rounds → IsLegalBook d (books r)
   pub conducted : IsConducted d (books rounds) v

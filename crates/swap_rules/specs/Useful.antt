@@ -34,8 +34,8 @@ useful_unlocks d v w signed k = flat_map (pressing_unlocks d v w signed k) (lock
 unfoldable pub useful : Deal → ℕ → Wallet → (ℕ → Option Hashkey) → Histories → List Action
 useful d v w signed k = useful_publishes d v k ++ useful_unlocks d v w signed k ++ due_claims d v k ++ due_refunds d v k
 
--- Why a call that is due can only hurt: it publishes on an arc whose ledger is above the height by which contracts open, or it presents a hashkey for a
--- lock that is withheld.
+-- Why a due call can only hurt its party: it publishes on an arc whose ledger is above the height
+-- by which contracts open, or it presents a hashkey for a withheld lock.
 pub data IsHarmful (d : Deal) (v : ℕ) (w : Wallet) (signed : ℕ → Option Hashkey) (k : Histories) (x : Action) : Type 0 where
   PublishesLate : x.call ≡ Publish (terms_of d x.arc) → opens_in_time d k x.arc ≡ false → IsHarmful d v w signed k x
   RevealsLate : (i : ℕ) → IsIn x (flat_map (due_unlock_on d v w (signed i) k i) (entering d.graph v)) → is_withheld d v k i ≡ true

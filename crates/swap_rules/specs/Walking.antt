@@ -1,4 +1,5 @@
--- Walking away: what keeps a party safe, whatever it publishes or leaves out, and what it keeps that published nothing.
+-- Walking away: what keeps a party safe whatever it publishes or leaves out, and what a party keeps
+-- if it published nothing.
 use Rattle.std.specs.Prelude.{◌≡◌, ◌≢◌, ◌==◌, ℕ, Bool, ◌+◌, ◌*◌, ◌<◌, ◌≤◌, nat_le, true, false, not, ◌&&◌, List, [], ◌++◌, length, Option, Some, None, is_some}
 use Rattle.std.specs.Prelude.{is_none, if◌then◌else◌}
 use Rattle.std.specs.List.{list_any, list_all, flat_map}
@@ -139,8 +140,9 @@ pub record LosesNothing (d : Deal) (b : Histories) (v : ℕ) : Type 0 where
   pub safe : outcome d b v ≢ Underwater
   pub keeps : (a : ℕ) → IsIn a (leaving d.graph v) → balance d a (history b a) v ≡ amount d a
 
--- in every legal book of an accepted deal, ended or not, a party that has published and transferred nothing has lost nothing, whatever else it or anybody
--- does, forged or not
+-- In every legal book of an accepted deal, ended or not, a party that has published and transferred
+-- nothing has lost nothing. It may have done anything else, and so may the others, forgery
+-- included.
 abbrev pub UnpublishedLosesNothing : Type 0
 UnpublishedLosesNothing =
     (d : Deal) (b : Histories) (v : ℕ) → IsAccepted d → IsLegalBook d b → HasPublishedNothing d b v → GivesNothing d b v → LosesNothing d b v
@@ -159,8 +161,9 @@ pub record IsUnrevealed (d : Deal) (b : Histories) (v : ℕ) : Type 0 where
   pub own : leads d v lock ≡ true
   pub none : first_key b v lock ≡ None
 
--- in every legal book of an accepted deal, ended or not, a conducted leader that has presented no hashkey for a lock of its own has lost nothing, unless
--- it was forged, and it has its refunds where it asked back what it published
+-- In every legal book of an accepted deal, ended or not, a conducted leader that has presented no
+-- hashkey for a lock of its own has lost nothing, unless it was forged. It has its refunds where it
+-- asked back what it published.
 abbrev pub UnrevealedLosesNothing : Type 0
 UnrevealedLosesNothing =
     (d : Deal) (b : Histories) (v : ℕ) → IsAccepted d → IsLegalBook d b → IsConducted d b v → IsUnforged d b v → IsUnrevealed d b v
@@ -178,8 +181,8 @@ LatePublishIsIdle =
 
 -- What v has to see to that publishes as it likes, and stops whenever it likes.
 
--- v had better not present its own hashkey for lock i: it has presented none for that lock yet, and a ledger that enters v is above the last height at
--- which its own hashkey is accepted there
+-- v had better not present its own hashkey for lock i. It has presented none for that lock, and a
+-- ledger that enters v is above the last height at which its own hashkey is accepted there.
 abbrev pub is_withheld : Deal → ℕ → Histories → ℕ → Bool
 is_withheld d v k i =
     leads d v i && is_none (first_key k v i)
@@ -197,8 +200,8 @@ pressing d v w signed k = flat_map (pressing_unlocks d v w signed k) (locks d) +
 abbrev pub IsPastExpiries : Deal → ℕ → Histories → Type 0
 IsPastExpiries d v known = (a : ℕ) → IsNear d v a → times.last_expiry d.start d.delta d.bound < height (history known a)
 
--- A turn of v in a round that begins with the book old and ends with the book new: it ends with a knowledge over which nothing presses, and of which nothing is
--- above the height most.
+-- A turn of v in a round from the book `old` to the book `new`. At its end v has a knowledge over
+-- which nothing presses, with no entry above the height `most`.
 pub record IsFreeTurn (d : Deal) (v : ℕ) (w : Wallet) (old new : Histories) (most : ℕ) : Type 0 where
   pub known : Histories
   pub signed : ℕ → Option Hashkey
@@ -207,7 +210,8 @@ pub record IsFreeTurn (d : Deal) (v : ℕ) (w : Wallet) (old new : Histories) (m
   pub done : pressing d v w signed known ≡ []
   pub top : (a : ℕ) → height (history known a) ≤ most
 
--- Rounds of so many ticks each, in which v sees to what presses at most slack above the height at which a round began, and publishes as it likes.
+-- Rounds of `ticks` ticks each. In each of them v does what presses, at most `slack` above the
+-- height at which the round began, and publishes as it likes.
 pub record AreFreeRounds (d : Deal) (v : ℕ) (w : Wallet) (ticks slack rounds : ℕ) (books : ℕ → Histories) : Type 0 where
   pub legal : (r : ℕ) → r ≤ rounds → IsLegalBook d (books r)
   pub conducted : IsConducted d (books rounds) v
@@ -218,8 +222,9 @@ pub record AreFreeRounds (d : Deal) (v : ℕ) (w : Wallet) (ticks slack rounds :
   pub asks : (a : ℕ) (past : List Entry) (e : Entry) → IsIn a (leaving d.graph v) → IsMoment (history (books rounds) a) past e
       → call_by v e ≡ Some Refund → is_some (published past) ≡ true
 
--- a party may stop publishing at any time: with a round's ticks and the slack within delta, it is watchful and safe at the end of rounds that pass
--- the horizon, though it withholds its own hashkeys that come too late
+-- A party may stop publishing at any time. If a round's ticks and the slack are within delta, it is
+-- watchful, and it is safe at the end of rounds that pass the horizon. It may withhold its own
+-- hashkeys that come too late.
 abbrev pub MayStopPublishing : Type 0
 MayStopPublishing =
     (d : Deal) (v : ℕ) (w : Wallet) (ticks slack rounds : ℕ) (books : ℕ → Histories) → IsAccepted d → 1 ≤ ticks → ticks + slack ≤ d.delta

@@ -19,14 +19,16 @@ pub fn accepted_is_well_sized()
     ensures { AcceptedIsWellSized }
 {}
 
-/// A party that is conducted and nowhere late has the whole amount of each leaving arc that isn't triggered, and, where nothing is forged in its name
-/// there, doesn't end underwater, whatever the others do.
+/// The law of safety, whatever the other parties do. A party that is conducted and nowhere late has
+/// the whole amount of each leaving arc that isn't triggered. If besides nothing is forged in its
+/// name there, it doesn't end underwater.
 pub fn every_book_is_safe()
     ensures { EveryBookIsSafe }
 {}
 
-/// Walking away is safe: a conducted party may publish late, or not at all, and it may stop at any time. What it has to do is to unlock in time once an
-/// arc that leaves it is triggered, and at some time to claim, and to ask back what it published. Who is nowhere late does so.
+/// Walking away is safe: a conducted party may publish late, or not at all, and it may stop at any
+/// time. Once an arc that leaves it is triggered, it must unlock in time. At some time it must
+/// claim, and ask back what it published. A party that is nowhere late does both.
 pub fn walking_away_is_safe()
     ensures safe { WatchfulIsSafe }
     ensures on_time { OnTimeIsWatchful }
@@ -35,8 +37,9 @@ pub fn walking_away_is_safe()
     ensures stranded { LateUnlockHasRefunds }
 {}
 
-/// A party that has published nothing has lost nothing, whatever it does or leaves out, and one that makes no call ends without a deal. Nor has a leader lost
-/// anything that has presented no hashkey for its lock.
+/// A party that has published nothing has lost nothing, whatever it does or leaves out. A party
+/// that makes no call ends without a deal. A leader that has presented no hashkey for its lock has
+/// lost nothing either.
 pub fn unpublished_loses_nothing()
     ensures nothing { UnpublishedLosesNothing }
     ensures silent { SilentLosesNothing }
@@ -60,7 +63,8 @@ pub fn nothing_found()
     ensures { NothingFound }
 {}
 
-/// A conforming party against which no finding stands has its refunds, and where none stands in its name it doesn't end underwater, whatever the others do.
+/// What findings mean, whatever the other parties do. A conforming party without a finding against
+/// it has its refunds. If besides no finding stands in its name, it doesn't end underwater.
 pub fn unnamed_is_safe()
     ensures { UnnamedIsSafe }
 {}
@@ -79,7 +83,8 @@ pub fn knowledge_conducts()
     ensures room { RulesLeaveRoom }
 {}
 
-/// In rounds an enabled action is done within a round and its slack, so that nobody conforming is late where that is within delta.
+/// In rounds, an enabled action is done within a round and its slack. If these are within delta, no
+/// conforming party is late.
 pub fn rounds_are_in_time()
     ensures in_time { RoundsAreInTime }
     ensures on_time { RoundsAreOnTime }

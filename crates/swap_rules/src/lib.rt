@@ -1,10 +1,13 @@
-//! The rules of a swap over finished histories: what is due, who kept its conduct, who was late or forged, how each party ended, and what is found of a
-//! book (Herlihy 2018, sections 3 and 4).
+//! The rules of a swap over finished histories (Herlihy 2018, sections 3 and 4): what is due, which
+//! parties kept their conduct, which were late or forged, how each party ended, and what is found
+//! of a book.
 //!
-//! Read `specs/Conduct.antt` first, then `specs/Late.antt`, `specs/Forged.antt`, `specs/Outcome.antt` and `specs/Findings.antt`: they are the rule book
-//! that every program above answers by.
+//! Read `specs/Conduct.antt` first, then `specs/Late.antt`, `specs/Forged.antt`,
+//! `specs/Outcome.antt` and `specs/Findings.antt`: they are the rule book that every program above
+//! answers by.
 //!
-//! `specs/Laws.antt` has the laws: what holds of every book that keeps the rules, whatever the others do (Herlihy 2018, section 3).
+//! `specs/Laws.antt` has the laws: what holds of every book that keeps the rules, whatever the
+//! others do (Herlihy 2018, section 3).
 #![tactic(auto)]
 
 mod finding;

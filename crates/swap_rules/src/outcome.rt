@@ -1,7 +1,7 @@
 //! How a book ended for a party.
 
-/// By what a party lost, which is the leaving arcs that were triggered, and what it got, which is the entering arcs that were correct and claimed
-/// (Herlihy 2018, section 3).
+/// How a party ended, by what it lost and what it got (Herlihy 2018, section 3). It lost the
+/// leaving arcs that were triggered. It got the entering arcs that were correct and claimed.
 #[derive(Clone, Copy, Debug, PartialEq, Eq)]
 pub enum Outcome {
     /// It lost nothing and got nothing.

@@ -1,4 +1,5 @@
--- What a conforming party makes can be made, and it acts until nothing is due, for which as many acts are enough as there are calls that it may make.
+-- What a conforming party makes can be made. It acts until nothing is due; one act for each call
+-- that it may make is enough.
 use Rattle.std.proofs.Common.{◌≡◌, ◌⊎◌, ℕ, suc, zero, ◌+◌, ◌<◌, ◌≤◌, true, false, cond, List, [], ◌∷◌, ◌++◌, length, Option, Some, None, refl, sym, ap}
 use Rattle.std.proofs.Common.{◌∙◌, subst, inl, inr, arith, eq-eqb, set}
 use Rattle.swap_base.specs.Lists.{IsIn}

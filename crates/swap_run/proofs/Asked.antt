@@ -57,7 +57,8 @@ early P s t u b a = λ i q lo hi is.
 late : (P : ℕ → Question → Type 0) (s t u : State) → Begins s.asked t.asked → Between P s u → Between P t u
 late P s t u b a = λ i q lo hi is. let l = begins_length s.asked t.asked b in a i q (omega arith) hi is
 
--- A cast and the same one with other answers, of which two things are said that they can meet only where they give the same.
+-- A cast and the same cast with other answers. Two things hold of the answers that can both hold
+-- only where the answers are the same.
 module _
     (c : Cast) (answers : Answers) (P Q : ℕ → Question → Type 0) (meet : (i : ℕ) (q : Question) → P i q → Q i q → answers i ≡ c.answers i) where
   abbrev w : Cast

@@ -1,4 +1,5 @@
--- A party that restarts, knowing each ledger that touches it to its end, stays sound, whether what it signed last was recorded or not.
+-- A party that restarts stays sound, whether its last signature was recorded or not. It knows each
+-- ledger that touches it to its end.
 use Rattle.std.proofs.Common.{◌≡◌, ◌⊎◌, ℕ, ◌<◌, ◌≤◌, Bool, true, false, cond, if◌then◌else◌, [], length, Option, Some, refl, sym, ap}
 use Rattle.std.proofs.Common.{◌∙◌, subst, inl, inr, arith, eq-eqb}
 use Rattle.std.proofs.lemmas.Bool.{cases_lt}

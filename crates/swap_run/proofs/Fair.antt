@@ -1,5 +1,5 @@
--- A fair finish from the start, where every party conforms, is rounds of one tick each, in which every party acts at the height at which the round
--- began; so it deals.
+-- A fair finish from the start of conforming parties is rounds of one tick each. Every party acts
+-- at the height at which the round began. So each party deals.
 use Rattle.std.proofs.Common.{◌≡◌, ◌≢◌, ◌⊎◌, ℕ, suc, zero, ◌+◌, ◌*◌, ◌<◌, ◌≤◌, nat_lt, nat_le, Bool, true, false, cond, [], length, None, fold}
 use Rattle.std.proofs.Common.{slice_index_or, refl, sym, ap, ◌∙◌, subst, inl, inr, arith, le-leb, lt-ltb, ltb-true}
 use Rattle.std.specs.List.{range_with_len}

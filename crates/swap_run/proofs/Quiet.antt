@@ -493,7 +493,7 @@ module _ (c : Cast) where
     calm_round s many idle =
         ticks_book (turns c s) ∙ ap (λ (b : Histories). fold ticked b (arcs c.deal.graph)) (calm_turns s many idle) ∙ sym (ticks_book s)
 
-    -- so many quiet rounds and one more lead to where as many ticks and a round lead
+    -- some quiet rounds and one more lead to the same state as their ticks and one round
     pub finish_skips : (n : ℕ) (s : State) → length s.notes ≡ c.deal.graph.n
         → ((i : ℕ) → i ≤ n → has_ended c.deal (repeat i (ticks c) s).book ≡ false)
         → ((i : ℕ) → i < n → (v : ℕ) → v < c.deal.graph.n → conforms c v ≡ true

@@ -30,8 +30,8 @@ pub record IsReadyCast (c : Cast) : Type 0 where
   pub wallets : (v : ℕ) → v < c.deal.graph.n → conforms c v ≡ true → IsWallet c.deal v (c.wallet v)
   pub scripts : (v : ℕ) → v < c.deal.graph.n → All (IsMoveOf c.deal c.seeds v) (script_of (role_of c v))
 
--- What a conforming party's notes keep: they are of this book, up to some entry of each ledger and past all calls of its own, with nothing of ledgers that
--- don't touch it, and its calls keep its rules.
+-- What a conforming party's notes keep. Of each ledger that touches it they have a beginning with
+-- all its own calls, and nothing of other ledgers. Its calls keep its rules.
 pub record AreGoodNotes (c : Cast) (s : State) (v : ℕ) : Type 0 where
   pub one_each : length (notes_of s v).known ≡ length c.deal.graph.arcs
   pub places : length (notes_of s v).signed ≡ length c.deal.leaders

@@ -1,5 +1,5 @@
--- The run of a schedule: the histories that its events lead to, what each conforming party has noted on the way, and what each script's or strategy's
--- party plans.
+-- The run of a schedule: the histories after its events, the notes of each conforming party, and
+-- the plan of each party that follows a script or a strategy.
 use Rattle.std.specs.Prelude.{ℕ, ◌+◌, ◌==◌, ◌&&◌, Bool, true, false, nat_lt, nat_le, List, [], ◌∷◌, ◌++◌, length, map, replicate, slice_set}
 use Rattle.std.specs.Prelude.{slice_index_or, fold, Option, Some, None, if◌then◌else◌}
 use Rattle.std.specs.List.{range_with_len}
@@ -27,8 +27,8 @@ use Rattle.swap_job.specs.Roles.{script_of}
 use Rattle.swap_rules.specs.Due.{Wallet, Action, due, first}
 use Rattle.swap_rules.specs.Machine.{noted}
 
--- Who takes part in a run: its deal, which parties conform, and what each signs with; the seeds and the roles of the parties;
--- and what strategies answer, in the order in which they are asked.
+-- The parties of a run: its deal, which of them conform, and what each signs with; their seeds and
+-- roles; and the answers of strategies, in the order of the questions.
 pub record Cast : Type 0 where
   pub deal : Deal
   pub conforming : List Bool

@@ -76,7 +76,8 @@ abbrev pub pass_steps : ℕ → Cast → State → List Event
 pass_steps zero c s = []
 pass_steps (suc n) c s = pass_steps n c s ++ tick_steps c.deal (repeat n (ticks c) s).book
 
--- After the ticks of n rounds alone a round leads to where n + 1 rounds lead, and on the way there are no histories but those on the way of the rounds.
+-- The ticks of n rounds and then one round lead to the same state as n + 1 rounds, through no other
+-- histories than those of the rounds.
 pub record IsSkipped (c : Cast) (n : ℕ) (s : State) : Type 0 where
   pub skips : SkipsTo c n s
   pub pass : (b : Histories) → IsAlong c s (pass_steps n c s) b → IsAlong c s (rounds_steps (suc n) c s) b

@@ -36,8 +36,8 @@ pub fn every_run_is_kept()
     ensures signed { UnlocksAreSigned }
 {}
 
-/// A turn ends: a conforming party acts until nothing is due, for which as many acts are enough as there are calls that it may make.
-/// A script or a strategy acts once, and any other party does nothing.
+/// A turn ends. A conforming party acts until nothing is due; one act for each call that it may
+/// make is enough. A script or a strategy acts once, and any other party does nothing.
 pub fn every_turn_ends()
     ensures rest { ActsComeToRest }
     ensures enough { ActsAreEnough }

@@ -1,4 +1,5 @@
--- A party that asks its strategy: what is asked and answered, and what comes of it where slots may be swept.
+-- A party that asks its strategy: the question, the answer, and the state after it where slots may
+-- be swept.
 use Rattle.std.proofs.Common.{◌≡◌, inr, Result, Ok, Err, OnOk, OnErr, IfOk, ℕ, ◌+◌, ◌<◌, Bool, false, List, [], ◌∷◌, ◌++◌, length, set, Option}
 use Rattle.std.proofs.Common.{get_or, None, refl, sym, ap, ap₂, ◌∙◌, subst, arith, length-append}
 use Rattle.std.specs.Result.{is_err}

@@ -29,7 +29,8 @@ pub record HasAsked (gives : MayGive) (old new : WorldState) : Type 0 where
   pub answers : new.answers ≡ old.answers ++ map (λ x. x.answer) more
   pub may : All (MayBeGiven gives old.deal) more
 
--- f has led from old to new: strategies were asked some more, and whatever may be answered after that, the new state is that to which f leads.
+-- f has led from old to new. Strategies were asked some more questions. The new state is the one to
+-- which f leads, whatever later questions are answered.
 pub record HasGone (gives : MayGive) (f : Cast → State → State) (old new : WorldState) : Type 0 where
   pub asked : HasAsked gives old new
   pub same : new ≡ record old { answers = new.answers; state = new.state }

@@ -96,7 +96,8 @@ pub record AreLedgersOf (d : Deal) (ls : List LedgerState) : Type 0 where
   pub one_each : length ls ≡ length d.graph.arcs
   pub each : (a : ℕ) (l : LedgerState) → a < length ls → l ≡ slice_index_or ls a l → IsLedgerOf d a l
 
--- The actor is that of party v of the deal, which conforms or not, and has that seed and that role.
+-- The actor is the one of party v of the deal. The party conforms or not, as `conforms` tells, and
+-- has this seed and this role.
 abbrev pub IsActorOf : Deal → Bool → Option (List ℕ) → Role → ℕ → Actor → Type 0
 IsActorOf d conforms seed role v (Conforming m) = (conforms ≡ true) × (m.deal ≡ d) × (m.me ≡ v) × (seed ≡ Some m.seed)
 IsActorOf d conforms seed role v (Planned n) = (conforms ≡ false) × (is_planned role ≡ true)

@@ -18,7 +18,8 @@ use Rattle.wallet_journal.specs.Stopped.{IsOwnDisk, ShowsAll}
 use Rattle.swap_world.specs.declared.actor.Actor.{Actor}
 use Rattle.swap_world.specs.declared.actor.Actor.TheVariants.{Conforming}
 
--- The journal of party v and its deal has just the hashkeys that were signed, on a disk on which no call fails, and so has each device that a crash leaves.
+-- The journal of party v and its deal has just the signed hashkeys, and so has each device that a
+-- crash leaves. No call fails on its disk.
 pub record IsJournalOf (d : Deal) (v : ℕ) (signed : List (Option Hashkey)) (j : JournalState DiskState) : Type 0 where
   pub id : j.id ≡ d.id
   pub me : j.me ≡ v
@@ -37,13 +38,15 @@ pub record AreJournalsOf (d : Deal) (xs : List Actor) (js : List (Option (Journa
   pub each : (v : ℕ) (m : MachineState) (o : Option (JournalState DiskState)) → v < length xs → Conforming m ≡ slice_index_or xs v (Conforming m)
       → o ≡ slice_index_or js v o → IsSomeJournal d v m.signed o
 
--- Each device that a crash leaves has for each lock what was signed before or what is signed now, and what was signed before stays signed.
+-- Each device that a crash leaves has for each lock the hashkey that was signed before, or the one
+-- signed by the act. What was signed before stays signed.
 pub record IsBetween (before after : List (Option Hashkey)) (h : Held) : Type 0 where
   pub places : length after ≡ length before
   pub each : (i : ℕ) → i < length after → (c : List ℕ) → Leaves h c → (recorded c i ≡ signed_in before i) ⊎ (recorded c i ≡ signed_in after i)
   pub stays : (i : ℕ) (key : Hashkey) → signed_in before i ≡ Some key → signed_in after i ≡ Some key
 
--- Each device that a crash leaves of the disk of party v has no hashkey recorded that isn't signed, and that of each unlock call which the party made.
+-- Each device that a crash leaves of the disk of party v records only signed hashkeys, and among
+-- them the hashkey of each unlock call that the party made.
 pub record IsDiskOf (d : Deal) (v : ℕ) (b : Histories) (signed : List (Option Hashkey)) (h : Held) : Type 0 where
   pub places : length signed ≡ length d.leaders
   pub only : (i : ℕ) (key : Hashkey) → i < length signed → (c : List ℕ) → Leaves h c → recorded c i ≡ Some key → signed_in signed i ≡ Some key

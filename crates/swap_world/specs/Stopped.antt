@@ -14,7 +14,8 @@ pub record IsStopped (gives : MayGive) (steps : Cast → State → List Event) (
   pub asked : HasAsked gives old new
   pub book : (g : Answers) → Continues new g → IsAlong (cast_for old g) old.state (steps (cast_for old g) old.state) new.state.book
 
--- The histories are those after the first so many of these events, whatever would have been answered.
+-- The histories are those after the first `count` of these events, whatever strategies would have
+-- answered later.
 pub record IsAfterSome (events : List Event) (old new : WorldState) : Type 0 where
   pub count : ℕ
   pub few : count ≤ length events

@@ -37,7 +37,8 @@ fn wrong_in(job: &Job, p: PartyId, wallet: &Option<Wallet>) -> Option<LockId>
     }
 }
 
-/// The first conforming party whose seed isn't that of the deal, with the least lock for which it isn't.
+/// The first conforming party with a seed other than the deal's, and the least lock for which the
+/// seed is another.
 pub fn wrong_wallet(job: &Job, wallets: &[Option<Wallet>]) -> Option<WrongWallet>
     requires sized { IsWellSized job.now.deal }
     requires wallets { wallets.now ≡ wallets_of job.now.deal job.now.conforming job.now.seeds }

@@ -178,7 +178,8 @@ fn pass<A: Strategies>(world: &mut World, staff: &A, count: u64) -> Result<(), N
     Ok(())
 }
 
-/// Some rounds, at most so many: those in which nobody makes a call, of which only the ticks are taken, and one more. It answers how many.
+/// Some rounds, at most `most`. First come the rounds in which nobody makes a call, and only their
+/// ticks are taken. Then comes one more. It answers the number of rounds.
 fn advance<A: Strategies>(
     world: &mut World,
     staff: &A,

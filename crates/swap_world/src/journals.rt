@@ -86,7 +86,8 @@ fn begin(machine: &mut Machine, journal: &mut Journal<MemoryDisk>, _k: u8) -> Re
     }
 }
 
-/// A party begins its act, is stopped within the disk call after k of them, and restarts with what a crash with that image leaves of its disk.
+/// A party begins its act and stops within disk call k, counted from 0. It restarts with what a
+/// crash with that image leaves of its disk.
 fn restart(
     alloc: Global,
     machine: &mut Machine,

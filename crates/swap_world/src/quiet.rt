@@ -15,7 +15,7 @@ use party_machine::Machine;
 use swap_base::{ArcId, Listed};
 use swap_digraph::Deal;
 
-/// For how many rounds, of so many, a height stays at most that one.
+/// Up to `most` rounds, each with one tick, for which the height stays at or below `until`.
 fn rounds_up_to(height: u32, until: u64, most: u64) -> u64
     ensures few { result ≤ most }
     ensures low { 0 < result → height + result ≤ until }
@@ -28,7 +28,8 @@ fn rounds_up_to(height: u32, until: u64, most: u64) -> u64
     if most < room { most } else { room }
 }
 
-/// For how many rounds, of so many, a ledger's ticks end the rest of nobody who rests until that height and has seen so many of its entries.
+/// Up to `most` rounds of ticks on this ledger that leave a resting party at rest. The party has
+/// seen the first `seen` entries of the ledger and rests until its height passes `until`.
 fn rounds_at(ledger: &Ledger, seen: u32, until: u64, most: u64) -> u64
     requires { seen ≤ length ledger.now.history }
     ensures few { result ≤ most }
@@ -40,7 +41,8 @@ fn rounds_at(ledger: &Ledger, seen: u32, until: u64, most: u64) -> u64
     }
 }
 
-/// For how many rounds, of so many, ticks end the rest of no machine that looks at these arcs and rests until that height.
+/// Up to `most` rounds of ticks on these arcs' ledgers that leave the machine at rest. The machine
+/// rests until a height passes `until`.
 fn rounds_until(ledgers: &[Ledger], machine: &Machine, near: &[ArcId], until: u64, most: u64) -> u64
     requires arcs { HaveArcs (length ledgers.now) machine.now.deal near.now }
     requires seen { HasSeen machine.now (histories ledgers.now) }
@@ -56,7 +58,7 @@ fn rounds_until(ledgers: &[Ledger], machine: &Machine, near: &[ArcId], until: u6
     rounds
 }
 
-/// For how many rounds, of so many, a machine that looks at these arcs makes no call.
+/// Up to `most` rounds in which a machine that looks at these arcs makes no call.
 fn rounds_of(ledgers: &[Ledger], machine: &Machine, near: &[ArcId], most: u64) -> u64
     requires arcs { HaveArcs (length ledgers.now) machine.now.deal near.now }
     requires seen { HasSeen machine.now (histories ledgers.now) }
@@ -69,7 +71,7 @@ fn rounds_of(ledgers: &[Ledger], machine: &Machine, near: &[ArcId], most: u64) -
     }
 }
 
-/// For how many rounds, of so many, what acts for a party makes no call.
+/// Up to `most` rounds in which the actor makes no call.
 fn rounds_for(ledgers: &[Ledger], actor: &Actor, near: &[ArcId], most: u64) -> u64
     requires { IsReadyActor (length ledgers.now) (histories ledgers.now) near.now actor.now }
     ensures few { result ≤ most }
@@ -82,7 +84,7 @@ fn rounds_for(ledgers: &[Ledger], actor: &Actor, near: &[ArcId], most: u64) -> u
     }
 }
 
-/// For how many rounds, of so many, nobody makes a call.
+/// Up to `most` rounds in which nobody makes a call.
 pub(crate) fn rounds(
     deal: &Deal,
     ledgers: &[Ledger],
@@ -105,7 +107,7 @@ pub(crate) fn rounds(
     rounds
 }
 
-/// For how many rounds, of so many, the first ledger stays at the horizon or below it.
+/// Up to `most` rounds for which the first ledger stays at or below the horizon.
 pub(crate) fn rounds_below(ledgers: &[Ledger], horizon: u64, most: u64) -> u64
     ensures few { result ≤ most }
     ensures some { 0 < result → 0 < length ledgers.now }

@@ -69,7 +69,8 @@ fn is_barred(ledger: &Ledger, call: &Call, swept: bool) -> bool
     }
 }
 
-/// Makes a call on a ledger that has room, whose slot may be swept, and answers what its party is told. It makes room for a further entry.
+/// Makes a call on a ledger with room, and answers what its party is told. The slot may be swept.
+/// It makes room for a further entry.
 fn call(
     ledger: &mut Ledger,
     sender: PartyId,
@@ -304,7 +305,8 @@ fn make_due(
     Ok(told)
 }
 
-/// The first call that is due for a machine, whose hashkey is recorded in its journal.
+/// The first call that is due for a machine. Its hashkey, if any, is recorded in the machine's
+/// journal.
 fn next(
     machine: &mut Machine,
     journal: &mut Journal<MemoryDisk>,

@@ -149,7 +149,8 @@ impl World {
         })
     }
 
-    /// The same, or the first conforming party whose seed isn't that of the deal.
+    /// The world of a job with these wallets, or the first conforming party whose seed isn't the
+    /// deal's.
     pub fn new(alloc: Global, job: &Job, wallets: Vec<Option<Wallet>>) -> Result<World, WorldFault>
         requires accepted { IsAccepted job.now.deal }
         requires seeds { ConformingHaveSeeds job.now }
@@ -241,7 +242,8 @@ impl World {
         done
     }
 
-    /// Lets a conforming party act where no slot is swept, and answers whether it may have more to do: after `false` the act changed nothing.
+    /// Lets a conforming party act on ledgers without swept slots. It answers whether the party may
+    /// have more to do; after `false` the act changed nothing.
     pub(crate) fn act_if_due(&mut self, p: PartyId) -> Result<bool, NoMemory>
         requires party { p < self.old.deal.graph.n }
         requires conforms { conforms (cast_at self.old) p ≡ true }
@@ -528,7 +530,8 @@ impl World {
         *self.ledgers.allocator()
     }
 
-    /// For how many rounds, of at most so many, nobody makes a call, so that ticks alone lead to where they lead once a further round follows.
+    /// At most `most` rounds in which nobody makes a call, so that ticks alone lead to the same
+    /// state once one more round follows.
     pub(crate) fn quiet_rounds(&self, near: &[Listed<ArcId>], most: u64) -> u64
         requires near { near.now ≡ all_adjacent self.now.deal }
         requires goes_on { self.now.stopped ≡ false }
@@ -540,7 +543,7 @@ impl World {
         self.rests_for(near, low)
     }
 
-    /// For how many rounds, of at most so many, nobody makes a call, where ticks alone come between them.
+    /// At most `most` rounds in which nobody makes a call, so that only ticks come between them.
     pub fn rests_for(&self, near: &[Listed<ArcId>], most: u64) -> u64
         requires near { near.now ≡ all_adjacent self.now.deal }
         requires goes_on { self.now.stopped ≡ false }

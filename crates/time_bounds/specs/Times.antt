@@ -1,4 +1,5 @@
--- The times of a deal, and the bound on the paths that end in a leader.
+-- The times of a deal, and the bound on the paths that end in a leader. The times are this
+-- project's own; the deadlines of Herlihy 2018 needn't be the same.
 use Rattle.std.specs.Prelude.{ℕ, ◌+◌, ◌-◌, ◌*◌, min}
 
 -- by so many arcs a path to a leader is bounded: n parties, so many leaders, at most h followers in a row

@@ -27,7 +27,7 @@ pub fn open_by(start: u32, delta: u32, bound: u32) -> u64
     start as u64 + bound as u64 * delta as u64
 }
 
-/// The height at and up to which a hashkey whose path has k arcs is accepted.
+/// The last height at which a hashkey with a path of k arcs is accepted.
 pub fn deadline(start: u32, delta: u32, bound: u32, k: u32) -> u64
     requires start { start ≤ 1000000 }
     requires delta { delta ≤ 1000000 }

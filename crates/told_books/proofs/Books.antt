@@ -96,7 +96,9 @@ where_last x false true m n e = ap (when (x && true)) (e refl)
 where_last true false false m n e = refl
 where_last false false false m n e = refl
 
--- A book and what is told of it, where of each arc the entries are told that v needs of a useless arc, or of another; useless arcs alone are told as such.
+-- A book and what is told of it. Of each arc, the entries are told that v needs: those of a useless
+-- arc if the arc is told as useless, and those of another arc otherwise. Only useless arcs are told
+-- as such.
 module _ (d : Deal) (v : ℕ) (u : ℕ → Bool) (b c : Histories) (is_part : (a : ℕ) → history c a ≡ filter (is_needed (u a) v) (history b a))
     (idle : (a : ℕ) → u a ≡ true → is_useless d v a (history b a) ≡ true) where
   pub enough_said : SayEnough d v c b

@@ -70,7 +70,7 @@ NeededSaysEnough =
 abbrev pub UselessIsTicks : Type 0
 UselessIsTicks = (d : Deal) (v a : ℕ) (h : List Entry) → is_useless d v a h ≡ true → needed d v a h ≡ filter (λ e. is_ticking e.what) h
 
--- What v did in book b, and what came of it for v, is what it did in book c that is told of it.
+-- What v did in book b, and its effect for v, is the same as in book c, which is what is told of b.
 pub record HoldsAsTold (d : Deal) (v : ℕ) (c b : Histories) : Type 0 where
   pub conduct : IsConducted d c v ↔ IsConducted d b v
   pub refs : (rule : Rule) (a : ℕ) → ref_of d c v rule a ≡ ref_of d b v rule a
@@ -141,7 +141,8 @@ BookCanBeTold =
 abbrev pub ChainIsNeeded : Type 0
 ChainIsNeeded = (d : Deal) (v : ℕ) (b : Histories) → IsChainBook d v b → IsNeededBook d v b
 
--- what v needs of a chain without limits is legal, with the replies as they stood, whatever stands in a contract that is useless to it
+-- what v needs of a chain without limits is legal, with the replies as they stood; a contract that
+-- is useless to v may hold anything
 abbrev pub NeededIsLegal : Type 0
 NeededIsLegal =
     (d : Deal) (v a : ℕ) (h : List Entry) → length d.leaders ≤ 8 → IsNeededChain d v a h → IsWithin v h → IsLegal d a (needed d v a h)

@@ -55,7 +55,8 @@ pub record SaysTheSame (v : ℕ) (k h : List Entry) : Type 0 where
 abbrev pub SayTheSame : ℕ → Histories → Histories → Type 0
 SayTheSame v k h = (a : ℕ) → SaysTheSame v (history k a) (history h a)
 
--- Two lists of entries of an arc that doesn't leave v, in neither of which a publish of the correct terms was accepted, with the same calls of v.
+-- Two lists of entries of an arc that doesn't leave v, with the same calls of v. Neither has an
+-- accepted publish of the correct terms.
 pub record AreUseless (d : Deal) (v a : ℕ) (k h : List Entry) : Type 0 where
   pub enters : IsIn a (leaving d.graph v) → ⊥
   pub one : is_correct_in d a (published k) ≡ false
@@ -97,7 +98,7 @@ all_needed d v b = parts (needs d v b) b
 
 -- Histories of a chain that has no limits, neither of a sender's entries nor of the clock's.
 
--- the reply by the table without its first row, which is that of a sender whose entries are full
+-- the reply by the table without its first row, the row of a full sender
 abbrev pub reply_without_limit : Deal → ℕ → List Entry → ℕ → Call → Reply
 reply_without_limit d a past p c = first_row (drop 1 (rows d a past p c))
 
@@ -131,8 +132,8 @@ IsPaid d a past s (Some Claim) = Unit {0}
 IsPaid d a past s (Some Refund) = Unit {0}
 IsPaid d a past s None = Unit {0}
 
--- What holds at each moment: what is told keeps the table, but for its first row. Of noise nothing is asked but that a transfer can be paid: who sends
--- it, what it asks, at which height and what is answered are free.
+-- What holds at each moment: what is told keeps the table, but for its first row. Noise only has to
+-- be payable where it is a transfer. Its sender, its call, its height and its reply are free.
 pub record IsTrueMoment (d : Deal) (v a : ℕ) (m : Moment Entry) : Type 0 where
   pub told : is_told v m.now ≡ true → IsTrueEntry d a m.past m.now.sender m.now.what m.now.height m.now.reply
   pub paid : IsPaid d a m.past m.now.sender (accepted m.now)
@@ -153,8 +154,9 @@ IsTrueClock d a m = is_ticking m.now.what ≡ true → IsTrueEntry d a m.past m.
 abbrev pub HasTrueClock : Deal → ℕ → List Entry → Type 0
 HasTrueClock d a h = AllByRecursion (IsTrueClock d a) (moments h)
 
--- A history of arc a of which v needs nothing but what a chain without limits does: its ticks are true, and where it isn't useless to v so is all that is
--- told. Of the contract on a useless arc nothing is asked: its terms need not fit, nor its amount, nor any reply.
+-- A history of arc a on a chain without limits, as far as v needs it. Its ticks are true. If the
+-- arc isn't useless to v, all that is told is true. On a useless arc the contract is free: neither
+-- its terms nor its amount nor any reply needs to fit.
 pub record IsNeededChain (d : Deal) (v a : ℕ) (h : List Entry) : Type 0 where
   pub clock : HasTrueClock d a h
   pub contract : is_useless d v a h ≡ false → IsChain d v a h

@@ -34,7 +34,8 @@ pub fn book_is_told()
     ensures needed { NeededHoldsAsTold }
 {}
 
-/// What is told of a legal history is legal, with the replies as they stood, and so it is where the chain has no limits, whatever the noise.
+/// What is told of a legal history is legal, with the replies as they stood. The same holds of a
+/// chain without limits and with any noise.
 pub fn telling_is_legal()
     ensures chain { LegalIsChain }
     ensures legal { TellingIsLegal }

@@ -89,7 +89,7 @@ ToldLifeConducts = OfEveryToldLife (λ d v w b hearings. IsConducted d b v)
 abbrev pub ToldLifeIsSafe : Type 0
 ToldLifeIsSafe = OfEveryToldLife (λ d v w b hearings. IsEnded d b → IsOnTime d b v → IsSafe d b v)
 
--- which it is, where nothing is left due for it within delta of whatever it has to do
+-- it is, if within delta of each action that it has to do nothing is left due for it
 abbrev pub ToldAttentiveIsSafe : Type 0
 ToldAttentiveIsSafe =
     OfEveryToldLife (λ d v w b hearings. IsToldAttentive d v w b hearings → IsOnTime d b v × (IsEnded d b → IsSafe d b v))

@@ -38,20 +38,22 @@ without_noise v h = record { known = tellings v h.behind; kept = h.asking.kept }
 abbrev pub as_needed : Deal → ℕ → Histories → Hearing → Asking
 as_needed d v b h = record { known = parts (needs d v b) h.behind; kept = h.asking.kept }
 
--- What is told says enough to v of how each history in the book begins: of a ledger that is told up to some entry that is what stands up to it, and of one
--- that isn't told it is nothing.
+-- What is told says enough to v of the beginning of each history in the book. The beginning ends
+-- with the last entry that is told of the ledger, and is empty if nothing is told of it.
 pub record IsHeard (d : Deal) (v : ℕ) (b : Histories) (h : Hearing) : Type 0 where
   pub says : SayEnough d v h.asking.known h.behind
   pub begins : (a : ℕ) → Begins (history h.behind a) (history b a)
 
--- A call on arc a after these entries is one that may go out after one of the askings, and the ledger had done by then what stood behind what was told.
+-- A call on arc a after these entries that one of the askings allows. When the call came, the
+-- ledger had made every entry behind what the asking was told.
 pub record IsHeardFor (d : Deal) (v : ℕ) (w : Wallet) (hearings : List Hearing) (a : ℕ) (past : List Entry) (c : Call) : Type 0 where
   pub hearing : Hearing
   pub heard : IsIn hearing hearings
   pub may : MayGo d v w hearing.asking (record { arc = a; call = c })
   pub later : Begins (history hearing.behind a) past
 
--- A wallet's life in a book, where what it is told may leave out noise and all but the ticks of useless arcs, and tell ticks as one or as more.
+-- A wallet's life in a book. What it is told may leave out noise, may tell only the ticks of
+-- useless arcs, and may join or split ticks.
 pub record IsToldLife (d : Deal) (v : ℕ) (w : Wallet) (b : Histories) (hearings : List Hearing) (kept : ℕ → Option Hashkey) : Type 0 where
   pub journal : IsJournal d v w nothing_kept (map (λ h. h.asking) hearings) kept
   pub told : (h : Hearing) → IsIn h hearings → IsHeard d v b h
@@ -61,8 +63,8 @@ pub record IsToldLife (d : Deal) (v : ℕ) (w : Wallet) (b : Histories) (hearing
 
 -- What a wallet does in time. Heights are those of the ledgers behind what is told.
 
--- The wallet came to rest on time for the height at: over what one of its askings was told nothing was due, when each ledger next to the party was past
--- that height, and no ledger past the height by.
+-- The wallet came to rest on time for the height `at`. Nothing was due over what one of its askings
+-- was told. Every ledger next to the party was past `at` then, and none was past `by`.
 pub record CameToRest (d : Deal) (v : ℕ) (w : Wallet) (hearings : List Hearing) (at by : ℕ) : Type 0 where
   pub hearing : Hearing
   pub heard : IsIn hearing hearings
@@ -76,8 +78,8 @@ IsToldAttentive d v w b hearings =
     (rule : Rule) (a ref : ℕ) → IsIn rule (rules_of d) → IsIn a (arcs d.graph) → ref_of d b v rule a ≡ Some ref → ref + d.delta < height (history b a)
     → CameToRest d v w hearings ref (ref + d.delta)
 
--- The wallet had seen to what presses on time for the height at: over what one of its askings was told nothing pressed, when each ledger next to the party
--- was past that height, and no ledger past the height by.
+-- The wallet did what presses on time for the height `at`. Nothing pressed over what one of its
+-- askings was told. Every ledger next to the party was past `at` then, and none was past `by`.
 pub record HadSeenTo (d : Deal) (v : ℕ) (w : Wallet) (hearings : List Hearing) (at by : ℕ) : Type 0 where
   pub hearing : Hearing
   pub heard : IsIn hearing hearings
@@ -85,8 +87,8 @@ pub record HadSeenTo (d : Deal) (v : ℕ) (w : Wallet) (hearings : List Hearing)
   pub past : (a : ℕ) → IsNear d v a → at < height (history hearing.behind a)
   pub soon : (a : ℕ) → height (history hearing.behind a) ≤ by
 
--- The wallet had seen to what presses at the end: over what one of its askings was told nothing pressed, when each ledger next to the party was past every
--- expiry, and held all that the party called.
+-- The wallet did what presses by the end. Nothing pressed over what one of its askings was told.
+-- Every ledger next to the party was past every expiry then, and had all calls of the party.
 pub record HadFinished (d : Deal) (v : ℕ) (w : Wallet) (b : Histories) (hearings : List Hearing) : Type 0 where
   pub hearing : Hearing
   pub heard : IsIn hearing hearings

@@ -25,7 +25,7 @@ IsPaired locks (Party p) (Made c) = HasLocks locks c
 IsPaired locks Clock (Tick k) = Unit {0}
 IsPaired locks _ _ = ⊥
 
--- The line is the one that is written of what it says, of a deal with so many locks.
+-- The line is exactly what is written for what it says, in a deal with this number of locks.
 pub record IsSpelling (locks : ℕ) (line : List ℕ) (s : Said) : Type 0 where
   pub line_is : line ≡ spaced (entry_words s.sender s.what s.reply)
   pub paired : IsPaired locks s.sender s.what

@@ -27,7 +27,7 @@ pub record IsTold (job : Job) : Type 0 where
   pub seeds : (p : ℕ) → party_seed job p ≡ None
   pub finish : job.finish ≡ Stop
 
--- the job whose ledgers are read is one that a transcript tells
+-- the job with the ledgers that are read is one of which a transcript tells
 abbrev pub IsToldAt : Stage → Type 0
 IsToldAt (Ledgers s) = IsTold s.job
 IsToldAt _ = Unit {0}

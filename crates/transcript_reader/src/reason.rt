@@ -7,7 +7,7 @@ use swap_base::{Fault, NoMemory, TryCopy};
 /// Why a text is no transcript. Lines are counted from 1.
 #[derive(Drop)]
 pub enum TranscriptReason {
-    /// The first line that isn't of the form that stands next, or that states what doesn't fit the deal.
+    /// The first line that doesn't have the form of the next line, or that doesn't fit the deal.
     BadLine(u32),
     /// More bytes than an input may have, where no line is bad.
     TooLong,

@@ -21,8 +21,8 @@ pub record Proposes (has : List ℕ → Bool) (purpose : Purpose) (input : List 
   pub read : header_of has purpose line text ≡ Ok header
   pub told : P header
 
--- A check, a run, a race or a making that is refused since the digraph isn't strongly connected names some of the header's parties, but not all, that no
--- arc leaves.
+-- A check, a run, a race or a making is refused if the digraph isn't strongly connected. The
+-- refusal names some of the header's parties, but not all, and no arc leaves the set of them.
 abbrev pub NamedSetsAreClosed : Type 0
 NamedSetsAreClosed =
     (has : List ℕ → Bool) (chance : Chance) (command : JobCommand) (input set : List ℕ)

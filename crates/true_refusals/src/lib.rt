@@ -1,5 +1,5 @@
-//! What a refusal shows is so: the set that `NotStrong` names is one that no arc leaves, and the cycle that `NotFeedback` names is one of
-//! followers, in the header that the input proposes.
+//! What a refusal shows is true of the header that the input proposes. No arc leaves the set that
+//! `NotStrong` names. The cycle that `NotFeedback` names is a cycle of followers.
 //!
 //! Read `specs/Laws.antt` first.
 #![tactic(auto)]

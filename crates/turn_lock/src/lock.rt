@@ -123,8 +123,8 @@ impl<T: Journal> TurnLock<T> {
         self.table.shared.join_seat::<Glue>(seat, other);
     }
 
-    /// The value, whose history goes on from all that each number's seat knew, and has of each number exactly the entries that its seat knew. It takes no
-    /// memory.
+    /// The value. Its history goes on from all that each seat knew, and each number's entries in it
+    /// are exactly those that its seat knew. It takes no memory.
     pub fn close(self, seat: TurnSeat<T>) -> T
         requires lock { seat.table_id ≡ self.lock }
         requires idle { IsResting seat.me }

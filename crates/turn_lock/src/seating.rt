@@ -72,7 +72,8 @@ pub(crate) fn taken(word: u64, waited: bool) -> u64
     if waited { word + 3 } else { word + 1 }
 }
 
-/// Says that a seat waits for the turn, which was out at that word, so that whoever gives it back wakes one that sleeps.
+/// Says that a seat waits for the turn, which was out at that word. The seat that gives the turn
+/// back then wakes one that sleeps.
 pub(crate) fn ask<T: Journal>(table: &TurnTable<T>, seat: &mut TurnSeat<T>, word: u64)
     requires table { seat.old.table_id ≡ table.now.shared.table_id }
     requires shape { (table.now.shared.table_id.words ≡ 2) × (table.now.shared.table_id.slots ≡ 1) }

@@ -10,8 +10,8 @@ pub record Held : Type 0 where
   pub loose : List Write
   pub spare : ℕ
 
--- the bytes of a disk on which nothing was written
--- (its size stands under a name of its own, since a list of so many computes for minutes)
+-- the bytes of an unwritten disk; its size stands under a name of its own, since a list of that
+-- length takes minutes to compute
 unfoldable pub disk_size : ℕ
 disk_size = 549426
 

@@ -29,7 +29,8 @@ gate_write k = record { at = gate_at k.lock; bytes = 1 ∷ [] }
 abbrev pub IsWritten : Hashkey → List Write → List Write → List Write → Type 0
 IsWritten k synced synced' loose' = (synced' ≡ synced ++ body_write k ∷ gate_write k ∷ []) × (loose' ≡ [])
 
--- the writes that are synced and those that aren't, of a record that is stopped after n of its four calls and within the next
+-- the synced writes and the others of a record that stops within call n, counted from 0, of its
+-- four calls
 abbrev pub IsStoppedAt : ℕ → Hashkey → List Write → List Write → List Write → Type 0
 IsStoppedAt zero k synced synced' loose' = (synced' ≡ synced) × (loose' ≡ body_write k ∷ [])
 IsStoppedAt (suc zero) k synced synced' loose' = (synced' ≡ synced) × (loose' ≡ body_write k ∷ [])

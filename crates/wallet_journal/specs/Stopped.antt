@@ -38,7 +38,7 @@ pub record IsWrittenUp (d : DiskState) (signed : List (Option Hashkey)) : Type 0
 abbrev pub ShowsAll : List (Option Hashkey) → Held → Type 0
 ShowsAll signed h = (i : ℕ) → i < length signed → (c : List ℕ) → Leaves h c → recorded c i ≡ signed_at signed i
 
--- A disk that no call fails on, and whose crashes leave journals of this deal and party.
+-- A disk without failing calls. Every crash of it leaves a journal of this deal and party.
 pub record IsOwnDisk (d : Deal) (me : ℕ) (s : DiskState) : Type 0 where
   pub never : (s.failing ≡ []) × (s.left ≡ None)
   pub own : (c : List ℕ) → Leaves s.held c → IsOwn d me c

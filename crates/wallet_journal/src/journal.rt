@@ -196,7 +196,8 @@ impl<D: Disk> Journal<D> {
         requires lock { lock < length self.now.signed }
         ensures value { MatchOption result (signed_at self.now.signed lock ≡ None) (λ k. signed_at self.now.signed lock ≡ Some k.now) }
 
-        // Where no call answered that the disk failed, that is what the disk has recorded for the lock, now and after each crash.
+        // As long as no call answers that the disk failed, the disk has recorded the same for the
+        // lock, at once and after each crash.
         ensures shown { self.now.sound ≡ true → recorded (D.seen self.now.disk) lock ≡ signed_at self.now.signed lock }
         ensures durable { self.now.sound ≡ true → (c : List ℕ) → D.may_leave self.now.disk c → recorded c lock ≡ signed_at self.now.signed lock }
     {

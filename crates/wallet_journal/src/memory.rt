@@ -1,4 +1,4 @@
-//! A disk in memory, whose calls fail where they are told to, and which can be made to crash.
+//! A disk in memory. Its calls fail where they are told to, and it can be made to crash.
 
 ghost use Rattle.std.specs.Prelude.{◌≡◌, ◌⊎◌, ◌<◌, [], length, drop, Some, None};
 ghost use Rattle.wallet_journal.specs.Device.{written};

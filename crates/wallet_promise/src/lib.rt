@@ -10,8 +10,9 @@ ghost use Rattle.wallet_promise.specs.Laws.{WatchfulLifeIsSafe, MindfulIsSafe};
 ghost use Rattle.wallet_promise.specs.Laws.{LifeBegins, OthersGoOn, AskingGoesOn, CallsLand};
 ghost use Rattle.wallet_promise.specs.Answers.{AllIsUseful, AllMayGo, AllMayBeKept, EachKeyIsAsked, NoneIsSentTwice, NothingIsLeftOut, RestIsNothing};
 
-/// In every legal book of an accepted deal a wallet's life conducts its party, which is then safe where it was on time and the book has ended; on
-/// time is one that comes to rest within delta of whatever it has to do.
+/// In every legal book of an accepted deal, a wallet's life keeps its party's conduct. If the
+/// wallet was on time and the book has ended, the party is safe. A wallet is on time if it comes to
+/// rest within delta of each action that it has to do.
 pub fn life_conducts()
     ensures conducts { LifeConducts }
     ensures safe { LifeIsSafe }
@@ -20,8 +21,9 @@ pub fn life_conducts()
     ensures attentive { AttentiveIsSafe }
 {}
 
-/// Walking away is safe: a wallet may publish late, or nothing, and stop at any time. Safe is one that sees within delta to its unlocks once an arc that
-/// leaves its party is triggered, and once at the end, past every expiry, to its claims and refunds.
+/// Walking away is safe: a wallet may publish late, or nothing, and stop at any time. It is safe if
+/// it does two things. Within delta after an arc that leaves its party is triggered, it makes its
+/// unlocks. Once at the end, past every expiry, it makes its claims and refunds.
 pub fn walking_away_is_safe()
     ensures safe { WatchfulLifeIsSafe }
     ensures mindful { MindfulIsSafe }

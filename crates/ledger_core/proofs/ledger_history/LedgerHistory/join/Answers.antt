@@ -4,7 +4,7 @@ use Rattle.ledger_core.specs.Runs.{expand, ticks_of}
 use Rattle.ledger_core.proofs.Ticks.{length_ticks}
 use Rattle.ledger_core.proofs.ledger_history.LedgerHistory.join.Goals as goal
 
--- a run of which ticks are what another has and then so many more
+-- a run with the ticks of another and then some more
 more_counted : (xs ts us all : List Entry) (count more : ℕ) → all ≡ ts ++ us → count ≡ length (xs ++ ts) → length us ≡ more → count + more ≡ length (xs ++ all)
 more_counted xs ts us all count more e n l =
     let one : length (xs ++ ts) ≡ length xs + length ts = length-append xs ts in
