@@ -9,19 +9,19 @@ ghost use Rattle.audit_command.specs.Promised.{IsSound};
 
 use ledger_core::Book;
 use outcome_rules::Report;
-use refusals::{Reason, Refusal};
+use refusals::{Reason, Refusal, nameless};
 use std::alloc::Global;
 use swap_auditor::{BadReply, audit_book};
-use swap_base::{Fault, Listed};
+use swap_base::Fault;
 use swap_job::Job;
 
 fn refused_reply(alloc: Global, bad: BadReply) -> Refusal
     ensures { result ≡ refused_reply bad }
 {
-    Refusal {
-        reason: Reason::BadReply(bad.arc, bad.entry, bad.stated, bad.replayed),
-        names: Listed::empty(alloc),
-    }
+    nameless(
+        alloc,
+        Reason::BadReply(bad.arc, bad.entry, bad.stated, bad.replayed),
+    )
 }
 
 /// The report of a book if the replay gives all its stated replies, or the first stated reply that

@@ -3,28 +3,19 @@
 ghost use Rattle.std.specs.Prelude.{◌≡◌, IfOk, IfErr};
 ghost use Rattle.transcript_reader.specs.Header.{IsTold};
 ghost use Rattle.transcript_reader.specs.Reading.{finished, story_of};
-ghost use Rattle.audit_command.specs.Output.{nameless, refused_by};
+ghost use Rattle.audit_command.specs.Output.{refused_by};
 ghost use Rattle.audit_command.specs.Reading.{Concludes, HasRead, IsStory, Stopped};
 ghost use Rattle.command_input.specs.Faults.{told_by};
 
 use crate::input::read_lines;
 use command_input::{Input, InputFault};
 use ledger_core::Book;
-use refusals::{Reason, Refusal};
+use refusals::{Reason, Refusal, nameless};
 use std::alloc::Global;
-use swap_base::{Fault, Listed};
+use swap_base::Fault;
 use swap_io::Source;
 use swap_job::Job;
 use transcript_reader::{TranscriptReader, TranscriptReason};
-
-fn nameless(alloc: Global, reason: Reason) -> Refusal
-    ensures { result ≡ nameless reason }
-{
-    Refusal {
-        reason,
-        names: Listed::empty(alloc),
-    }
-}
 
 /// The refusal of a text.
 fn refused_by(alloc: Global, reason: TranscriptReason) -> Refusal

@@ -3,7 +3,7 @@
 ghost use Rattle.std.specs.Prelude.{◌≡◌, []};
 ghost use Rattle.command_input.specs.Faults.{named_fault};
 
-use refusals::{Reason, Refusal};
+use refusals::{Reason, Refusal, nameless};
 use std::alloc::Global;
 use swap_base::{ByteText, Fault, Listed, NoMemory};
 use swap_io::{DrainFault, LineFault};
@@ -37,10 +37,7 @@ impl InputFault<Reason> {
 pub fn no_line(alloc: Global) -> InputFault<Refusal>
     ensures { result ≡ InputFault.Refused (record { reason = Reason.NotJson 1; names = [] }) }
 {
-    InputFault::Refused(Refusal {
-        reason: Reason::NotJson(1),
-        names: Listed::empty(alloc),
-    })
+    InputFault::Refused(nameless(alloc, Reason::NotJson(1)))
 }
 
 impl<R> From<LineFault> for InputFault<R> {

@@ -2,7 +2,6 @@
 
 ghost use Rattle.std.specs.Prelude.{◌≡◌, ◌<◌, [], None, IfSome, is_some, map, length};
 ghost use Rattle.swap_base.specs.Lists.{first_of};
-ghost use Rattle.swap_digraph.specs.Graph.{is_among};
 ghost use Rattle.swap_digraph.specs.Deal.{locks, IsWellSized};
 ghost use Rattle.swap_rules.specs.Party.{opens_without};
 ghost use Rattle.swap_rules.specs.Due.{due_unlocks, has_called, is_unlock_for, Wallet};
@@ -19,14 +18,7 @@ use crate::unlock_due::{Base, UnlockDue};
 use ledger_core::{CallKind, Facts};
 use party_wallet::Signed;
 use swap_base::{ArcId, LockId, PartyId};
-use swap_digraph::Deal;
-
-/// Whether the party is one of these.
-fn is_among(party: PartyId, path: &[PartyId]) -> bool
-    ensures { result ≡ is_among party path.now }
-{
-    path.iter().any(|other| *other == party)
-}
+use swap_digraph::{Deal, is_among};
 
 /// Whether a path without the party opened the lock on the arc.
 fn is_seen<F: Facts>(deal: &Deal, me: PartyId, known: &[F], lock: LockId, arc: ArcId) -> bool

@@ -1,16 +1,10 @@
 //! Whether a list of vertices is a path.
 
 ghost use Rattle.std.specs.Prelude.{◌≡◌, ◌<◌};
-ghost use Rattle.swap_digraph.specs.Graph.{is_path, is_among, has_arc, first_is, last_is};
+ghost use Rattle.swap_digraph.specs.Graph.{is_path, has_arc, first_is, last_is};
 
 use swap_base::PartyId;
-use swap_digraph::Digraph;
-
-fn is_among(v: PartyId, vertices: &[PartyId]) -> bool
-    ensures { result ≡ is_among v vertices.now }
-{
-    vertices.iter().any(|w| *w == v)
-}
+use swap_digraph::{Digraph, is_among};
 
 fn has_arc(graph: &Digraph, from: PartyId, to: PartyId) -> bool
     ensures { result ≡ has_arc graph.now from to }

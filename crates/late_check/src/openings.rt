@@ -11,9 +11,8 @@ ghost use Rattle.swap_rules.specs.Late.{height_of_opening, trigger_height};
 
 use hashkey_path::Hashkey;
 use history_index::{Index, Opened};
-use sent_keys::is_among;
 use swap_base::{ArcId, LockId, PartyId};
-use swap_digraph::Deal;
+use swap_digraph::{Deal, is_among};
 
 /// The accepted unlock of the lock on the arc.
 fn opened<'a>(deal: &Deal, known: &'a [Index], arc: ArcId, lock: LockId) -> Option<Opened<'a>>

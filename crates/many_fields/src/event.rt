@@ -1,14 +1,13 @@
 //! Events of chains: ticks, payments and sweeps.
 
-ghost use Rattle.std.specs.Prelude.{◌≡◌, ◌<◌, ◌≤◌, [], ℕ, length, position, slice_index_or, IfOk};
-ghost use Rattle.std.specs.Str.{bytes_eq};
+ghost use Rattle.std.specs.Prelude.{◌≡◌, ◌<◌, ◌≤◌, [], ℕ, length, slice_index_or, IfOk};
 ghost use Rattle.swap_base.specs.Fault.{Gives};
 ghost use Rattle.transcript_book.specs.Taking.{Takes};
 ghost use Rattle.transcript_lines.specs.Reading.{field_of, number_below};
 ghost use Rattle.many_fields.specs.Fields.{account_in, heights_in, payment_of, payment_on, sweep_of, tick_of, units_in};
 
 use crate::number::{read_below, units_in};
-use swap_base::{ByteText, Listed};
+use swap_base::{ByteText, Listed, place_of};
 use transcript_book::{Parts, WordFault, misspelt, nothing_more, word};
 
 /// A payment on a chain, from one account to another, by their places.
@@ -65,12 +64,6 @@ pub fn read_tick(chains: usize, fields: &mut Parts<'_>) -> Result<(u8, u32), Wor
     let by = heights_field(fields)?;
     nothing_more(fields)?;
     Ok((chain, by))
-}
-
-fn place_of(names: &[ByteText], name: &[u8]) -> Option<usize>
-    ensures { result ≡ position (bytes_eq name.now) names.now }
-{
-    names.iter().position(|known| name == known.as_slice())
 }
 
 fn account_in(names: &[ByteText], name: &[u8]) -> Result<u8, WordFault>

@@ -1,19 +1,12 @@
 //! Names by their numbers.
 
-ghost use Rattle.std.specs.Prelude.{◌≡◌, ◌<◌, ◌≤◌, length, position, IfOk};
-ghost use Rattle.std.specs.Str.{bytes_eq};
+ghost use Rattle.std.specs.Prelude.{◌≡◌, ◌<◌, ◌≤◌, length, IfOk};
 ghost use Rattle.swap_base.specs.Fault.{Gives};
 ghost use Rattle.offer_fields.specs.Names.{party_of_name};
 
 use refusals::{OfferFault, unknown};
 use std::alloc::Global;
-use swap_base::{ByteText, PartyId};
-
-fn place_of(names: &[ByteText], name: &[u8]) -> Option<usize>
-    ensures { result ≡ position (bytes_eq name.now) names.now }
-{
-    names.iter().position(|known| name == known.as_slice())
-}
+use swap_base::{ByteText, PartyId, place_of};
 
 /// The number of the party of that name: its place among the names.
 #[tactic(auto, unfolding(crate::specs::Names::party_of_name))]

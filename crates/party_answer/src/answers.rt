@@ -24,7 +24,7 @@ use ledger_core::Call;
 use party_due::DueCall;
 use party_notes::Kept;
 use swap_base::{ArcId, LockId, NoMemory, PartyId, Piece, put};
-use swap_digraph::Deal;
+use swap_digraph::{Deal, is_among};
 use transcript_writer::{put_call, put_hashkey};
 
 /// Appends the line of a call that may go out.
@@ -54,19 +54,12 @@ fn put_asking(out: &mut Vec<u8>, key: &Hashkey) -> Result<(), NoMemory>
     put(out, &[Piece::Text("\n")])
 }
 
-/// Whether the arc is one of these.
-fn is_among(sent: &[ArcId], arc: ArcId) -> bool
-    ensures { result ≡ is_among arc sent.now }
-{
-    sent.iter().any(|other| *other == arc)
-}
-
 /// Whether the call is a publish, and one was sent on its arc.
 fn was_sent(kept: &Kept, due: &DueCall) -> bool
     ensures { result ≡ was_sent (λ a. is_among a kept.now.sent) (action_of due.now) }
 {
     match due.call {
-        Call::Publish(_) => is_among(kept.sent.as_slice(), due.arc),
+        Call::Publish(_) => is_among(due.arc, kept.sent.as_slice()),
         _ => false,
     }
 }

@@ -24,7 +24,7 @@ use party_wallet::Wallet;
 use refusals::{Reason, Refusal};
 use std::alloc::Global;
 use swap_auditor::replay_book;
-use swap_base::{ByteText, Digest, Fault, Listed, LockId, NoMemory, PartyId, TryCopy};
+use swap_base::{ByteText, Digest, Fault, Listed, LockId, NoMemory, PartyId, TryCopy, place_of};
 use swap_digraph::Deal;
 use swap_job::Job;
 use transcript_reader::read_transcript;
@@ -81,12 +81,6 @@ pub(crate) fn read_said(alloc: Global, first: u32, text: &[u8]) -> Result<Said, 
         book,
         lines,
     })
-}
-
-fn place_of(names: &[ByteText], name: &[u8]) -> Option<usize>
-    ensures { result ≡ position (bytes_eq name.now) names.now }
-{
-    names.iter().position(|other| name == other.as_slice())
 }
 
 fn party_at(names: &[ByteText], name: &[u8]) -> Option<PartyId>

@@ -1,12 +1,10 @@
 //! The reasons against a transcript that stands behind other lines.
 
-ghost use Rattle.std.specs.Prelude.{◌≡◌, []};
-ghost use Rattle.refusals.specs.Refusal.{refusal};
+ghost use Rattle.std.specs.Prelude.{◌≡◌};
 ghost use Rattle.party_answer.specs.Shifted.{behind, refusal_behind, shifted};
 
-use refusals::{Reason, Refusal};
+use refusals::{Reason, Refusal, nameless};
 use std::alloc::Global;
-use swap_base::Listed;
 use transcript_reader::TranscriptReason;
 
 /// The number of a line that stands behind so many others.
@@ -38,15 +36,6 @@ fn shifted(lines: u32, reason: Reason) -> Reason
         Reason::BadLine(line) => Reason::BadLine(behind(lines, line)),
         Reason::NotConforming(line) => Reason::NotConforming(behind(lines, line)),
         other => other,
-    }
-}
-
-fn nameless(alloc: Global, reason: Reason) -> Refusal
-    ensures { result ≡ refusal [] reason }
-{
-    Refusal {
-        reason,
-        names: Listed::empty(alloc),
     }
 }
 

@@ -1,5 +1,5 @@
 -- The least number that passes, found by going along a range of numbers.
-use Rattle.std.proofs.Common.{◌≡◌, ℕ, suc, ◌+◌, ◌-◌, ◌<◌, Bool, true, false, cond, List, [], ◌∷◌, Option, Some, None, refl, sym, ap, ◌∙◌, inl, inr, arith}
+use Rattle.std.proofs.Common.{◌≡◌, ℕ, suc, ◌+◌, ◌-◌, ◌<◌, ◌≤◌, Bool, true, false, cond, List, [], ◌∷◌, Option, Some, None, refl, sym, ap, ◌∙◌, inl, inr, arith}
 use Rattle.std.specs.List.{find, range_with_len}
 use Rattle.swap_base.specs.Lists.{IsIn}
 
@@ -15,6 +15,10 @@ goes_on p a n whole lt fails so_far =
 pub is_found : (p : ℕ → Bool) (a n : ℕ) (whole : Option ℕ) → a < n → p a ≡ true → find p (range_with_len a (n - a)) ≡ whole → Some a ≡ whole
 is_found p a n whole lt passes so_far =
     sym (ap (find p) (range-next a n lt) ∙ ap (λ b. cond b (Some a) (find p (range_with_len (a + 1) (n - (a + 1))))) passes) ∙ so_far
+
+-- at the end of the range nothing was found
+pub none_left : (p : ℕ → Bool) (a n : ℕ) (whole : Option ℕ) → n ≤ a → find p (range_with_len a (n - a)) ≡ whole → whole ≡ None
+none_left p a n whole past so_far = let none : n - a ≡ 0 = omega arith in sym so_far ∙ ap (λ k. find p (range_with_len a k)) none
 
 pub by_test : (b : Bool) (x : ℕ) (o : Option ℕ) → cond b (Some x) o ≡ None → (b ≡ false) × (o ≡ None)
 by_test true x o e = absurd (cc e)

@@ -15,5 +15,5 @@ pub use makers::{
     bad_name, duplicate, missing, over_limit, unknown, unknown_field, wrong_hex, wrong_kind,
 };
 pub use reason::{OfferFault, Reason};
-pub use refusal::{HeaderFault, Refusal, with_names};
+pub use refusal::{HeaderFault, Refusal, nameless, with_names};
 pub use words::{name_at, put_reply};

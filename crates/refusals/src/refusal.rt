@@ -1,9 +1,10 @@
 //! A reason with the names of the parties that it may speak of.
 
-ghost use Rattle.std.specs.Prelude.{◌≡◌};
-ghost use Rattle.refusals.specs.Refusal.{fault_with};
+ghost use Rattle.std.specs.Prelude.{◌≡◌, []};
+ghost use Rattle.refusals.specs.Refusal.{fault_with, refusal};
 
 use crate::reason::{OfferFault, Reason};
+use std::alloc::Global;
 use swap_base::{ByteText, Fault, Listed};
 
 /// Why an input is refused. A reason speaks of parties by their numbers, so that it goes with their names.
@@ -16,6 +17,16 @@ pub struct Refusal {
 
 /// Why an input gives nothing: a refusal, or want of memory.
 pub type HeaderFault = Fault<Refusal>;
+
+/// The refusal for a reason that mentions no party by its number.
+pub fn nameless(alloc: Global, reason: Reason) -> Refusal
+    ensures { result ≡ refusal [] reason }
+{
+    Refusal {
+        reason,
+        names: Listed::empty(alloc),
+    }
+}
 
 /// The fault with the names of the parties.
 pub fn with_names(fault: OfferFault, names: Listed<ByteText>) -> HeaderFault

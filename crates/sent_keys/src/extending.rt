@@ -1,20 +1,13 @@
 //! Hashkeys that a party extends.
 
 ghost use Rattle.std.specs.Prelude.{◌≡◌, option_copied};
-ghost use Rattle.swap_digraph.specs.Graph.{is_among};
 ghost use Rattle.swap_rules.specs.Conduct.{extends, extends_without};
 
 use crate::keys::has_parts;
 use hashkey_path::Hashkey;
 use ledger_core::Call;
 use swap_base::PartyId;
-
-/// Whether the vertex is on the path.
-pub fn is_among(v: PartyId, path: &[PartyId]) -> bool
-    ensures { result ≡ is_among v path.now }
-{
-    path.iter().any(|w| *w == v)
-}
+use swap_digraph::is_among;
 
 /// Whether the call is an unlock with a hashkey that this one extends by the party.
 pub fn extends(party: PartyId, key: &Hashkey, call: Option<&Call>) -> bool

@@ -8,5 +8,5 @@ mod extending;
 mod keys;
 
 pub use calls::{accepted, call_by};
-pub use extending::{extends, extends_without, is_among};
+pub use extending::{extends, extends_without};
 pub use keys::{first_key, has_parts, is_first_key, same_key, unlocks_on_own_arcs};

@@ -1,6 +1,6 @@
 //! A text of bytes.
 
-ghost use Rattle.std.specs.Prelude.{◌≡◌, ℕ, List, IfOk};
+ghost use Rattle.std.specs.Prelude.{◌≡◌, ℕ, List, position, IfOk};
 ghost use Rattle.std.specs.Str.{bytes_eq};
 ghost use Rattle.std.proofs.Common.{rules};
 ghost use Rattle.std.specs.Cmp.Rules.{comparing};
@@ -71,4 +71,11 @@ impl PartialEq for ByteText {
 
 impl Eq for ByteText {
     ghost laws = { Prim.search (comparing, rules) };
+}
+
+/// The place of a name among names.
+pub fn place_of(names: &[ByteText], name: &[u8]) -> Option<usize>
+    ensures { result ≡ position (bytes_eq name.now) names.now }
+{
+    names.iter().position(|known| name == known.as_slice())
 }

@@ -26,7 +26,7 @@ use deviators::Strategies;
 use many_lines::{Heading, ManyJob, next_many, places_of};
 use many_text::write_many;
 use party_wallet::Wallet;
-use refusals::{HeaderFault, Reason, Refusal};
+use refusals::{HeaderFault, Reason, Refusal, nameless};
 use std::alloc::Global;
 use swap_base::{ByteText, Fault, Listed, NoMemory, TryCopy};
 use swap_io::{Sink, Source, TextFault};
@@ -46,10 +46,7 @@ struct Played {
 fn cut_short(alloc: Global) -> InputFault<Refusal>
     ensures { result ≡ InputFault.Refused (record { reason = Reason.CutShort; names = [] }) }
 {
-    InputFault::Refused(Refusal {
-        reason: Reason::CutShort,
-        names: Listed::empty(alloc),
-    })
+    InputFault::Refused(nameless(alloc, Reason::CutShort))
 }
 
 /// The lines before the events, where these are the names of the strategies.
@@ -114,10 +111,10 @@ fn overdrawn(alloc: Global, many: &ManyJob, lack: Overdrawn) -> HeaderFault
     ensures { IsLack many.now (Fault.Refused lack) result }
 {
     match account_name(many.names.as_slice(), lack.chain, lack.account) {
-        Ok(name) => Fault::Refused(Refusal {
-            reason: Reason::Overdrawn(lack.chain, name, lack.have, lack.wanted),
-            names: Listed::empty(alloc),
-        }),
+        Ok(name) => Fault::Refused(nameless(
+            alloc,
+            Reason::Overdrawn(lack.chain, name, lack.have, lack.wanted),
+        )),
         Err(NoMemory) => Fault::NoMemory,
     }
 }
